@@ -1,0 +1,2 @@
+pub mod FileState
+pub mod Effects

@@ -1,0 +1,6 @@
+//! One interrupt file: two sets of identities, a threshold and a delivery switch.
+#![tactic(auto)]
+
+mod file;
+
+pub use file::File;

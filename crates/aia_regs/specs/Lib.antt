@@ -1,0 +1,5 @@
+pub mod Word
+pub mod Operations
+pub mod FileRegisters
+pub mod Request
+pub mod AddressMap

@@ -1,0 +1,31 @@
+-- What a CSR instruction writes, given what the register read before it.
+use Rattle.std.specs.Prelude.{ℕ, Bool, true, false, nat_eq, bit_and, bit_or, if◌then◌else◌}
+use Rattle.std.specs.Int.{bit_at, bit_not, w64}
+use Rattle.aia_regs.specs.declared.access.Op.{Op}
+use Rattle.aia_regs.specs.declared.access.Op.TheVariants as ops
+use Rattle.aia_regs.specs.Word.{Word}
+use Rattle.aia_regs.specs.Word.Word.{Ask, Clear, Nothing}
+
+-- Whether the instruction writes: `csrr` never does, the others always do, also where they change no bit.
+-- Profile: `csrrs` and `csrrc` write whatever their operand is.
+abbrev pub is_writing : Op → Bool
+is_writing ops.Read = false
+is_writing (ops.Write v) = true
+is_writing (ops.Set v) = true
+is_writing (ops.Clear v) = true
+
+-- The number that it writes: the operand, the old value with the operand's ones set, or with them cleared.
+-- RISC-V Unprivileged Architecture, "Zicsr".
+abbrev pub written : Op → ℕ → ℕ
+written ops.Read old = old
+written (ops.Write v) old = v
+written (ops.Set v) old = bit_or old v
+written (ops.Clear v) old = bit_and old (bit_not w64 v)
+
+-- What it says of bit b of the register.
+-- RISC-V Unprivileged Architecture, "Zicsr", bit by bit.
+abbrev pub bit_word : Op → ℕ → Word
+bit_word ops.Read b = Nothing
+bit_word (ops.Write v) b = if nat_eq (bit_at v b) 1 then Ask else Clear
+bit_word (ops.Set v) b = if nat_eq (bit_at v b) 1 then Ask else Nothing
+bit_word (ops.Clear v) b = if nat_eq (bit_at v b) 1 then Clear else Nothing
