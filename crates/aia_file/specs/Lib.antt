@@ -1,2 +1,2 @@
+pub mod InterruptFile
 pub mod FileState
-pub mod Effects

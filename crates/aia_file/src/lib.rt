@@ -1,6 +1,2 @@
-//! One interrupt file: two sets of identities, a threshold and a delivery switch.
+//! One interrupt file.
 #![tactic(auto)]
-
-mod file;
-
-pub use file::File;

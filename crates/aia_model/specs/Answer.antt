@@ -1,0 +1,41 @@
+-- What a line answers after a history, and the history after it.
+use Rattle.std.specs.Prelude.{ℕ, List, ◌∷◌, Option, Some, None, unwrap_or}
+use Rattle.aia_word.specs.Top.{top_value}
+use Rattle.aia_regs.specs.declared.access.Csr.{Csr}
+use Rattle.aia_regs.specs.declared.access.Csr.TheVariants.{Select, Reg, Topei}
+use Rattle.aia_regs.specs.FileRegisters.{register_of}
+use Rattle.aia_file.specs.InterruptFile.{register_value, top_of}
+use Rattle.aia_model.specs.declared.line.Line.{Line}
+use Rattle.aia_model.specs.declared.line.Line.TheVariants.{Machine, Store, HostCsr}
+use Rattle.aia_model.specs.declared.answer.Answer.{Answer}
+use Rattle.aia_model.specs.declared.answer.Answer.TheVariants.{Okay, Wide}
+use Rattle.aia_model.specs.Event.{History}
+use Rattle.aia_model.specs.Event.Event.{Accepted}
+use Rattle.aia_model.specs.FileOf.{FileName, SupervisorFile, select_of, file_of}
+use Rattle.aia_model.specs.Refusal.{refusal}
+
+-- What a CSR of a file reads: the select number, the selected register, or the identity on top.
+-- AIA 1.0, IMSIC, "Indirectly accessed interrupt-file registers" and "Top external interrupt CSRs".
+abbrev pub csr_value : History → FileName → Csr → ℕ
+csr_value h f Select = select_of h f
+csr_value h f Reg = register_value (file_of h f) (register_of (select_of h f))
+csr_value h f Topei = top_value (top_of (file_of h f))
+csr_value h f csr = 0
+
+-- What an accepted line answers: a CSR instruction the value that the CSR read before it.
+abbrev pub accepted_answer : History → Line → Answer
+accepted_answer h (Machine harts guests n sources) = Okay
+accepted_answer h (Store addr value) = Okay
+accepted_answer h (HostCsr hart csr op) = Wide (csr_value h (SupervisorFile hart) csr)
+
+-- What a line answers: the word of its refusal, else what it answers where it is accepted.
+unfoldable pub answer : History → Line → Answer
+answer h line = unwrap_or (refusal h line) (accepted_answer h line)
+
+-- The history after a line: an accepted line is an event, and a refused one changes nothing.
+abbrev pub history_after : Option Answer → History → Line → History
+history_after None h line = Accepted line ∷ h
+history_after (Some word) h line = h
+
+unfoldable pub after : History → Line → History
+after h line = history_after (refusal h line) h line

@@ -1,0 +1,33 @@
+-- What happens to a machine, and the history of a script.
+use Rattle.std.specs.Prelude.{ℕ, Bool, is_some, List, [], ◌∷◌, Option, Some, None}
+use Rattle.std.specs.Option.{option_map_or}
+use Rattle.aia_model.specs.declared.line.Line.{Line}
+use Rattle.aia_model.specs.declared.line.Line.TheVariants.{Machine}
+
+-- What happens: a line is accepted.
+pub data Event : Type 0 where
+  Accepted : (line : Line) → Event
+
+-- What has happened, the newest first.
+abbrev pub History : Type 0
+History = List Event
+
+-- The numbers that a machine is made with: its harts, the guest files of each hart, the greatest identity, the wired sources.
+pub record Shape : Type 0 where
+  pub harts : ℕ
+  pub guests : ℕ
+  pub n : ℕ
+  pub sources : ℕ
+
+-- The machine that stands after a history, None where none was made.
+abbrev pub machine_of : History → Option Shape
+machine_of [] = None
+machine_of (Accepted (Machine harts guests n sources) ∷ past) = Some (record { harts = harts; guests = guests; n = n; sources = sources })
+machine_of (event ∷ past) = machine_of past
+
+abbrev pub has_machine : History → Bool
+has_machine h = is_some (machine_of h)
+
+-- How many harts there are, 0 where no machine stands.
+abbrev pub harts_of : History → ℕ
+harts_of h = option_map_or (λ (m : Shape). m.harts) (machine_of h) 0

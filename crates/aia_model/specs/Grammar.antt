@@ -1,0 +1,66 @@
+-- The spelling of lines, as a table of fields. Profile: the whole grammar is this project's own.
+use Rattle.std.specs.Prelude.{◌≡◌, ℕ, ◌^◌, ◌<◌, ◌≤◌, List, [], ◌∷◌, length, Some, codes}
+use Rattle.aia_model.specs.declared.line.Line.{Line}
+use Rattle.aia_model.specs.declared.line.Line.TheVariants.{Machine, Store, HostCsr}
+use Rattle.aia_regs.specs.declared.access.Csr.{Csr}
+use Rattle.aia_regs.specs.declared.access.Csr.TheVariants.{Select, Reg, Topei}
+use Rattle.aia_regs.specs.declared.access.Op.{Op}
+use Rattle.aia_regs.specs.declared.access.Op.TheVariants.{Read, Write}
+use Rattle.aia_model.specs.Text.{words_of, number_of}
+
+-- One word of a line: a keyword, or a number, which our own printing writes in decimal or in hexadecimal.
+pub data Field : Type 0 where
+  Keyword : (word : List ℕ) → Field
+  Decimal : (n : ℕ) → Field
+  Hex : (n : ℕ) → Field
+  Hex32 : (n : ℕ) → Field      -- below 2^32
+  Unspelled : Field            -- no word spells it
+
+-- Whether a word spells a field.
+abbrev pub Fits : List ℕ → Field → Type 0
+Fits word (Keyword k) = word ≡ k
+Fits word (Decimal n) = number_of word ≡ Some n
+Fits word (Hex n) = number_of word ≡ Some n
+Fits word (Hex32 n) = (number_of word ≡ Some n) × (n < 2 ^ 32)
+Fits word Unspelled = ⊥
+
+-- Whether words spell fields, one word a field.
+abbrev pub AllFit : List (List ℕ) → List Field → Type 0
+AllFit [] [] = Unit {0}
+AllFit (word ∷ words) (field ∷ fields) = Fits word field × AllFit words fields
+AllFit words fields = ⊥
+
+-- ---- the table of lines
+
+-- The names of the CSRs at supervisor level.
+abbrev pub supervisor_csr : Csr → Field
+supervisor_csr Select = Keyword (codes "siselect")
+supervisor_csr Reg = Keyword (codes "sireg")
+supervisor_csr Topei = Keyword (codes "stopei")
+supervisor_csr csr = Unspelled
+
+-- Whether a field has a spelling.
+abbrev pub IsNamed : Field → Type 0
+IsNamed Unspelled = ⊥
+IsNamed field = Unit {0}
+
+-- A CSR instruction, given how its CSR is spelled.
+abbrev pub instruction : Field → Op → List Field
+instruction csr Read = Keyword (codes "csrr") ∷ csr ∷ []
+instruction csr (Write v) = Keyword (codes "csrrw") ∷ csr ∷ Hex v ∷ []
+instruction csr op = Unspelled ∷ []
+
+-- The fields of a line.
+abbrev pub fields_of : Line → List Field
+fields_of (Machine harts guests n sources) = Keyword (codes "machine") ∷ Decimal harts ∷ Decimal guests ∷ Decimal n ∷ Decimal sources ∷ []
+fields_of (Store addr value) = Keyword (codes "st") ∷ Hex addr ∷ Hex32 value ∷ []
+fields_of (HostCsr hart csr op) = Keyword (codes "h") ∷ Decimal hart ∷ instruction (supervisor_csr csr) op
+
+-- Whether a text spells a line: it has at most 128 bytes, and its words spell the line's fields.
+abbrev pub Spells : List ℕ → Line → Type 0
+Spells text line = (length text ≤ 128) × AllFit (words_of text) (fields_of line)
+
+-- Whether the CSR of a line is one that its row of the table names.
+abbrev pub IsListed : Line → Type 0
+IsListed (HostCsr hart csr op) = IsNamed (supervisor_csr csr)
+IsListed line = Unit {0}

@@ -1,0 +1,9 @@
+pub mod Text
+pub mod Grammar
+pub mod Reading
+pub mod Event
+pub mod FileOf
+pub mod Refusal
+pub mod Answer
+pub mod AnswerText
+pub mod Script

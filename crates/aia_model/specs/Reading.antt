@@ -1,0 +1,118 @@
+-- The line that a text spells, found word by word. That this finds just what the table of fields spells is proved.
+use Rattle.std.specs.Prelude.{ℕ, ◌^◌, nat_le, if◌then◌else◌, List, [], ◌∷◌, length, Option, Some, None, codes, Bool}
+use Rattle.std.specs.Str.{bytes_eq}
+use Rattle.aia_model.specs.declared.line.Line.{Line}
+use Rattle.aia_model.specs.declared.line.Line.TheVariants.{Machine, Store, HostCsr}
+use Rattle.aia_model.specs.declared.parsed.Parsed.{Parsed}
+use Rattle.aia_model.specs.declared.parsed.Parsed.TheVariants as parsed
+use Rattle.aia_regs.specs.declared.access.Csr.{Csr}
+use Rattle.aia_regs.specs.declared.access.Csr.TheVariants.{Select, Reg, Topei}
+use Rattle.aia_regs.specs.declared.access.Op.TheVariants.{Read, Write}
+use Rattle.aia_model.specs.Text.{words_of, number_of, below, is_skipped, ◌>>=◌}
+
+-- The words that are still to be read.
+abbrev pub Words : Type 0
+Words = List (List ℕ)
+
+abbrev pub is_word : List ℕ → List ℕ → Bool
+is_word = bytes_eq
+
+-- The next word, a number or a number below 2^32, each with the words after it.
+abbrev pub word_at : Words → Option (List ℕ × Words)
+word_at [] = None
+word_at (word ∷ words) = Some (word, words)
+
+unfoldable pub number_at : Words → Option (ℕ × Words)
+number_at words = do
+  word ← word_at words
+  n ← number_of word.0
+  Some (n, word.1)
+
+unfoldable pub n32_at : Words → Option (ℕ × Words)
+n32_at words = do
+  number ← number_at words
+  n ← below (2 ^ 32) number.0
+  Some (n, number.1)
+
+-- The line, where no word is left.
+abbrev pub at_end : Words → Line → Option Line
+at_end [] line = Some line
+at_end words line = None
+
+-- ---- what follows each keyword
+
+unfoldable pub machine_at : Words → Option Line
+machine_at words = do
+  harts ← number_at words
+  guests ← number_at harts.1
+  n ← number_at guests.1
+  sources ← number_at n.1
+  at_end sources.1 (Machine harts.0 guests.0 n.0 sources.0)
+
+unfoldable pub store_at : Words → Option Line
+store_at words = do
+  addr ← number_at words
+  value ← n32_at addr.1
+  at_end value.1 (Store addr.0 value.0)
+
+-- The CSR of supervisor level that a word names.
+abbrev pub supervisor_csr_of : List ℕ → Option Csr
+supervisor_csr_of word =
+    if is_word word (codes "siselect") then Some Select
+    else (if is_word word (codes "sireg") then Some Reg
+    else (if is_word word (codes "stopei") then Some Topei
+    else None))
+
+unfoldable pub supervisor_csr_at : Words → Option (Csr × Words)
+supervisor_csr_at words = do
+  word ← word_at words
+  csr ← supervisor_csr_of word.0
+  Some (csr, word.1)
+
+unfoldable pub read_at : ℕ → Words → Option Line
+read_at hart words = do
+  csr ← supervisor_csr_at words
+  at_end csr.1 (HostCsr hart csr.0 Read)
+
+unfoldable pub write_at : ℕ → Words → Option Line
+write_at hart words = do
+  csr ← supervisor_csr_at words
+  value ← number_at csr.1
+  at_end value.1 (HostCsr hart csr.0 (Write value.0))
+
+-- What follows `h H`, by the mnemonic.
+abbrev pub host_after : ℕ → List ℕ → Words → Option Line
+host_after hart mnemonic words =
+    if is_word mnemonic (codes "csrr") then read_at hart words
+    else (if is_word mnemonic (codes "csrrw") then write_at hart words
+    else None)
+
+unfoldable pub host_at : Words → Option Line
+host_at words = do
+  hart ← number_at words
+  mnemonic ← word_at hart.1
+  host_after hart.0 mnemonic.0 mnemonic.1
+
+-- What follows a line's keyword.
+abbrev pub line_after : List ℕ → Words → Option Line
+line_after keyword words =
+    if is_word keyword (codes "machine") then machine_at words
+    else (if is_word keyword (codes "st") then store_at words
+    else (if is_word keyword (codes "h") then host_at words
+    else None))
+
+unfoldable pub line_at : Words → Option Line
+line_at words = do
+  keyword ← word_at words
+  line_after keyword.0 keyword.1
+
+-- ---- a whole text
+
+abbrev pub parsed_of : Option Line → Parsed
+parsed_of None = parsed.Bad
+parsed_of (Some line) = parsed.Line line
+
+unfoldable pub reading : List ℕ → Parsed
+reading text =
+    if is_skipped text then parsed.Skip
+    else (if nat_le (length text) 128 then parsed_of (line_at (words_of text)) else parsed.Bad)

@@ -1,0 +1,55 @@
+-- When a line is refused, and with which word.
+use Rattle.std.specs.Prelude.{ℕ, ◌%◌, Bool, false, ◌&&◌, not, nat_eq, nat_lt, is_some, List, [], ◌∷◌, find, Option}
+use Rattle.std.specs.Int.{is_in_range}
+use Rattle.std.specs.Option.{option_map}
+use Rattle.aia_regs.specs.declared.access.Csr.TheVariants.{Reg}
+use Rattle.aia_regs.specs.FileRegisters.{register_of, is_accessible}
+use Rattle.aia_file.specs.InterruptFile.{is_width}
+use Rattle.aia_model.specs.declared.line.Line.{Line}
+use Rattle.aia_model.specs.declared.line.Line.TheVariants.{Machine, Store, HostCsr}
+use Rattle.aia_model.specs.declared.answer.Answer.{Answer}
+use Rattle.aia_model.specs.declared.answer.Answer.TheVariants.{NoMachine, Again, Range, Illegal, Fault}
+use Rattle.aia_model.specs.Event.{History, has_machine, harts_of}
+use Rattle.aia_model.specs.FileOf.{SupervisorFile, supervisor_at, select_of}
+
+-- ---- the cells: whether a word's condition holds of a line after a history. Profile, where no chapter is named.
+
+-- `nomachine`: no machine stands, and the line makes none.
+abbrev pub lacks_machine : History → Line → Bool
+lacks_machine h (Machine harts guests n sources) = false
+lacks_machine h line = not (has_machine h)
+
+-- `again`: the line makes a machine, and one stands.
+abbrev pub has_one_already : History → Line → Bool
+has_one_already h (Machine harts guests n sources) = has_machine h
+has_one_already h line = false
+
+-- `range`: a machine's number is out of its limits, or the named hart isn't there.
+abbrev pub is_machine_size : ℕ → ℕ → ℕ → ℕ → Bool
+is_machine_size harts guests n sources = is_in_range 1 4 harts && is_in_range 0 7 guests && is_width n && is_in_range 1 1023 sources
+
+abbrev pub is_out_of_range : History → Line → Bool
+is_out_of_range h (Machine harts guests n sources) = not (is_machine_size harts guests n sources)
+is_out_of_range h (HostCsr hart csr op) = not (nat_lt hart (harts_of h))
+is_out_of_range h line = false
+
+-- `illegal`: the access reaches a register that doesn't exist.
+-- AIA 1.0, IMSIC, "Indirectly accessed interrupt-file registers".
+abbrev pub is_illegal : History → Line → Bool
+is_illegal h (HostCsr hart Reg op) = not (is_accessible (register_of (select_of h (SupervisorFile hart))))
+is_illegal h line = false
+
+-- `fault`: the address isn't a multiple of 4, or lies in no page of a file that is there.
+abbrev pub is_fault : History → Line → Bool
+is_fault h (Store addr value) = not (nat_eq (addr % 4) 0 && is_some (supervisor_at h addr))
+is_fault h line = false
+
+-- ---- the order
+
+-- The words with their cells, in the order in which they come.
+abbrev pub refusals : List (Answer × (History → Line → Bool))
+refusals = (NoMachine, lacks_machine) ∷ (Again, has_one_already) ∷ (Range, is_out_of_range) ∷ (Illegal, is_illegal) ∷ (Fault, is_fault) ∷ []
+
+-- The refusal of a line: the first word whose cell holds, None where the line is accepted.
+abbrev pub refusal : History → Line → Option Answer
+refusal h line = option_map (λ (r : Answer × (History → Line → Bool)). r.0) (find (λ r. r.1 h line) refusals)

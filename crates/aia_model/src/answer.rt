@@ -1,0 +1,20 @@
+/// What a line answers: one form for each form of answer, and one for each word of refusal.
+#[derive(Clone, Copy, Debug, PartialEq, Eq)]
+pub enum Answer {
+    /// `ok`.
+    Okay,
+    /// `0x` and sixteen digits: what a CSR read.
+    Wide(u64),
+    /// `bad`: the text spells no line.
+    Bad,
+    /// `nomachine`: no machine stands.
+    NoMachine,
+    /// `again`: a machine stands already.
+    Again,
+    /// `range`: a number names nothing, or is past its limit.
+    Range,
+    /// `illegal`: the access raises an illegal-instruction fault.
+    Illegal,
+    /// `fault`: the store reaches no place, or isn't aligned.
+    Fault,
+}
