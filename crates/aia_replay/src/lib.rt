@@ -1,0 +1,4 @@
+//! The engine that answers lines, and the run from a source's bytes to a sink's.
+#![tactic(auto)]
+
+mod buffered;
