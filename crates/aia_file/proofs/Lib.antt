@@ -1,0 +1,3 @@
+pub mod AccessLemmas
+pub mod TopLemmas
+pub mod KeptLemmas

@@ -1,9 +1,9 @@
 -- An interrupt file: two sets of identities and two numbers, and what they show.
-use Rattle.std.specs.Prelude.{◌≡◌, ℕ, ◌*◌, Bool, false, ◌&&◌, nat_eq, is_some, if◌then◌else◌, List, Option, ◌⊎◌}
+use Rattle.std.specs.Prelude.{◌≡◌, ℕ, ◌*◌, Bool, ◌&&◌, nat_eq, is_some, if◌then◌else◌, List, Option, ◌⊎◌}
 use Rattle.aia_word.specs.Sets.{is_in, word_of}
 use Rattle.aia_word.specs.Top.{top_identity}
 use Rattle.aia_regs.specs.declared.file_registers.FileReg.{FileReg}
-use Rattle.aia_regs.specs.declared.file_registers.FileReg.TheVariants.{Delivery, Threshold, Pending, Enable, Reserved}
+use Rattle.aia_regs.specs.declared.file_registers.FileReg.TheVariants.{Delivery, Threshold, Pending, Enable}
 use Rattle.aia_regs.specs.Word.{Word, names}
 use Rattle.aia_regs.specs.Word.Word.{Clear, Nothing}
 

@@ -1,2 +1,3 @@
 pub mod FileState
 pub mod Effects
+pub mod Kept
