@@ -1,5 +1,5 @@
 -- When a line is refused, and with which word.
-use Rattle.std.specs.Prelude.{ℕ, ◌%◌, Bool, false, ◌&&◌, not, nat_eq, nat_lt, is_some, List, [], ◌∷◌, find, Option}
+use Rattle.std.specs.Prelude.{ℕ, ◌%◌, Bool, false, ◌&&◌, not, nat_eq, nat_lt, is_none, is_some, List, [], ◌∷◌, find, Option}
 use Rattle.std.specs.Int.{is_in_range}
 use Rattle.std.specs.Option.{option_map}
 use Rattle.aia_regs.specs.declared.access.Csr.{Csr}
@@ -58,3 +58,8 @@ refusals = (NoMachine, lacks_machine) ∷ (Again, has_one_already) ∷ (Range, i
 -- The refusal of a line: the first word whose cell holds, None where the line is accepted.
 abbrev pub refusal : History → Line → Option Answer
 refusal h line = option_map (λ (r : Answer × (History → Line → Bool)). r.0) (find (λ r. r.1 h line) refusals)
+
+-- Whether a line is a `machine` line that is accepted.
+abbrev pub makes_machine : History → Line → Bool
+makes_machine h (Machine harts guests n sources) = is_none (refusal h (Machine harts guests n sources))
+makes_machine h line = false

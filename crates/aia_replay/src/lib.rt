@@ -2,3 +2,7 @@
 #![tactic(auto)]
 
 mod buffered;
+mod engine;
+mod machine;
+
+pub use engine::Engine;
