@@ -1,0 +1,38 @@
+//! Laws of the grammar: what holds of every text.
+
+ghost use Rattle.std.specs.Prelude.{◌≡◌, ℕ, ◌↔◌, List, IsTrue};
+ghost use Rattle.aia_model.specs.Text.{is_skipped};
+ghost use Rattle.aia_model.specs.Grammar.{Spells, IsListed};
+ghost use Rattle.aia_model.specs.Reading.{reading};
+
+use crate::{Line, Parsed};
+
+/// A text spells at most one line.
+pub fn spells_one_line()
+    ensures { (text : List ℕ) (x y : Line) → Spells text x → Spells text y → x ≡ y }
+{}
+
+/// The reading of a text is a line exactly where the text spells that line.
+pub fn reads_what_is_spelled()
+    ensures { (text : List ℕ) (line : Line) → (reading text ≡ Parsed.Line line) ↔ Spells text line }
+{}
+
+/// The reading of a text is `Skip` exactly where the text is skipped.
+pub fn skips_what_is_skipped()
+    ensures { (text : List ℕ) → (reading text ≡ Parsed.Skip) ↔ IsTrue (is_skipped text) }
+{}
+
+/// The reading of a text is `Bad` exactly where the text is not skipped and spells no line.
+pub fn bad_is_the_rest()
+    ensures { (text : List ℕ) → (reading text ≡ Parsed.Bad) ↔ ((¬ IsTrue (is_skipped text)) × ((line : Line) → ¬ Spells text line)) }
+{}
+
+/// A text that is skipped spells no line.
+pub fn skipped_spells_no_line()
+    ensures { (text : List ℕ) (line : Line) → IsTrue (is_skipped text) → ¬ Spells text line }
+{}
+
+/// The CSR of a line that a text spells is one that the line's row of the table names.
+pub fn spelled_is_listed()
+    ensures { (text : List ℕ) (line : Line) → Spells text line → IsListed line }
+{}

@@ -1,0 +1,16 @@
+//! A script's text: what line a text spells, and how an answer is printed.
+//!
+//! The grammar is our profile's choice; `aia_model` states it as a table of fields.
+#![tactic(auto)]
+
+mod instructions;
+mod lines;
+mod number;
+mod parse;
+mod print;
+mod words;
+
+pub use aia_model::{Answer, Line, Parsed};
+pub use aia_regs::{Csr, Op};
+pub use parse::parse_line;
+pub use print::print_answer;

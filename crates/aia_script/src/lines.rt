@@ -1,0 +1,74 @@
+//! Lines: what follows each keyword.
+
+ghost use Rattle.std.specs.Prelude.{◌≡◌};
+ghost use Rattle.aia_model.specs.Reading.{machine_at, store_at, host_at, line_after, line_at};
+ghost use Rattle.aia_script.specs.Cursor.{left};
+
+use crate::instructions::host_after;
+use crate::number::{n32_at, number_at};
+use crate::words::{Words, at_end, word_at};
+use aia_model::Line;
+
+/// The line that the words after `machine` spell.
+#[tactic(auto, unfolding(aia_model::specs::Reading::machine_at))]
+fn machine_at(words: Words<'_>) -> Option<Line>
+    ensures { result ≡ machine_at (left words.entry) }
+{
+    let (harts, words) = number_at(words)?;
+    let (guests, words) = number_at(words)?;
+    let (n, words) = number_at(words)?;
+    let (sources, words) = number_at(words)?;
+    at_end(
+        words,
+        Line::Machine {
+            harts,
+            guests,
+            n,
+            sources,
+        },
+    )
+}
+
+/// The line that the words after `st` spell.
+#[tactic(auto, unfolding(aia_model::specs::Reading::store_at))]
+fn store_at(words: Words<'_>) -> Option<Line>
+    ensures { result ≡ store_at (left words.entry) }
+{
+    let (addr, words) = number_at(words)?;
+    let (value, words) = n32_at(words)?;
+    at_end(words, Line::Store { addr, value })
+}
+
+/// The line that the words after `h` spell.
+#[tactic(auto, unfolding(aia_model::specs::Reading::host_at))]
+fn host_at(words: Words<'_>) -> Option<Line>
+    ensures { result ≡ host_at (left words.entry) }
+{
+    let (hart, words) = number_at(words)?;
+    let (mnemonic, words) = word_at(words)?;
+    host_after(hart, mnemonic, words)
+}
+
+/// The line that the words after a keyword spell.
+fn line_after(keyword: &[u8], words: Words<'_>) -> Option<Line>
+    ensures { result ≡ line_after keyword.now (left words.entry) }
+{
+    if keyword == b"machine".as_slice() {
+        machine_at(words)
+    } else if keyword == b"st".as_slice() {
+        store_at(words)
+    } else if keyword == b"h".as_slice() {
+        host_at(words)
+    } else {
+        None
+    }
+}
+
+/// The line that words spell; `None` where they spell none.
+#[tactic(auto, unfolding(aia_model::specs::Reading::line_at))]
+pub fn line_at(words: Words<'_>) -> Option<Line>
+    ensures { result ≡ line_at (left words.entry) }
+{
+    let (keyword, words) = word_at(words)?;
+    line_after(keyword, words)
+}

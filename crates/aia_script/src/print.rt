@@ -1,0 +1,65 @@
+//! An answer is printed.
+
+ghost use Rattle.std.specs.Prelude.{◌≡◌, ◌+◌, ◌<◌, ◌≤◌, [], ◌++◌, length};
+ghost use Rattle.arrayvec.specs.ArrayVec.{array_vec_len};
+ghost use Rattle.aia_model.specs.AnswerText.{digit_character, hex_digits, answer_text};
+
+use aia_model::Answer;
+use arrayvec::ArrayVec;
+
+/// Appends a text, for which there is room.
+fn push_text(out: &mut ArrayVec<u8, 64>, text: &[u8])
+    requires { array_vec_len out.old + length text.now ≤ 64 }
+    ensures text { out.new.items ≡ out.old.items ++ text.now }
+    ensures length { array_vec_len out.new ≡ array_vec_len out.old + length text.now }
+{
+    let _ = out.try_extend_from_slice(text);
+}
+
+/// The character of a digit.
+fn digit_character(digit: u64) -> u8
+    requires { digit < 16 }
+    ensures { result ≡ digit_character digit }
+{
+    if digit < 10 {
+        b'0' + digit as u8
+    } else {
+        b'a' + (digit - 10) as u8
+    }
+}
+
+/// Appends the sixteen hexadecimal digits of a value.
+fn push_digits(out: &mut ArrayVec<u8, 64>, value: u64)
+    requires { array_vec_len out.old + 16 ≤ 64 }
+    ensures text { out.new.items ≡ out.old.items ++ hex_digits 16 value }
+    ensures length { array_vec_len out.new ≡ array_vec_len out.old + 16 }
+{
+    for place in (0..16u32).rev() {
+        out.push(digit_character((value >> (4 * place)) % 16));
+    }
+}
+
+/// Prints an answer into `out`, which is empty: its word and an LF.
+///
+/// The words are our profile's choice.
+#[tactic(auto, unfolding(aia_model::specs::AnswerText::answer_text))]
+pub fn print_answer(answer: &Answer, out: &mut ArrayVec<u8, 64>)
+    requires { out.old.items ≡ [] }
+    ensures text { out.new.items ≡ answer_text answer.now }
+    ensures short { array_vec_len out.new ≤ 64 }
+{
+    match answer {
+        Answer::Okay => push_text(out, b"ok"),
+        Answer::Wide(value) => {
+            push_text(out, b"0x");
+            push_digits(out, *value);
+        }
+        Answer::Bad => push_text(out, b"bad"),
+        Answer::NoMachine => push_text(out, b"nomachine"),
+        Answer::Again => push_text(out, b"again"),
+        Answer::Range => push_text(out, b"range"),
+        Answer::Illegal => push_text(out, b"illegal"),
+        Answer::Fault => push_text(out, b"fault"),
+    }
+    push_text(out, b"\n");
+}
