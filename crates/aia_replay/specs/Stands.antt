@@ -3,10 +3,12 @@ use Rattle.std.specs.Prelude.{◌≡◌, ℕ, true, List, [], ◌∷◌, length,
 use Rattle.aia_model.specs.declared.answer.Answer.{Answer}
 use Rattle.aia_model.specs.declared.line.Line.{Line}
 use Rattle.aia_model.specs.declared.parsed.Parsed.{Parsed}
+use Rattle.aia_model.specs.declared.parsed.Parsed.TheVariants as parsed
 use Rattle.aia_file.specs.InterruptFile.{SameFile, empty_file}
 use Rattle.aia_file.specs.FileState.{shown}
 use Rattle.aia_model.specs.Event.{History, has_machine, harts_of}
 use Rattle.aia_model.specs.FileOf.{Deed, SupervisorFile, select_of, file_of, select_told, file_after}
+use Rattle.aia_model.specs.Refusal.{makes_machine}
 use Rattle.aia_model.specs.Answer.{answer, after}
 use Rattle.aia_model.specs.Script.{text_answer, after_text}
 use Rattle.aia_replay.specs.declared.machine.Hart.{Hart}
@@ -59,6 +61,15 @@ pub record Serves (old new : Engine) (line : Line) (given : Answer) : Type 0 whe
   pub stands : (h : History) → StandsFor old h → StandsFor new (after h line)
 
 -- The same of a text, by what it reads as.
-pub record ServesText (old new : Engine) (parsed : Parsed) (given : Option Answer) : Type 0 where
-  pub answers : (h : History) → StandsFor old h → given ≡ text_answer h parsed
-  pub stands : (h : History) → StandsFor old h → StandsFor new (after_text h parsed)
+pub record ServesText (old new : Engine) (text : Parsed) (given : Option Answer) : Type 0 where
+  pub answers : (h : History) → StandsFor old h → given ≡ text_answer h text
+  pub stands : (h : History) → StandsFor old h → StandsFor new (after_text h text)
+
+-- The line is a `machine` line that is accepted: the one kind of line that takes memory.
+abbrev pub WantsMachine : Engine → Line → Type 0
+WantsMachine engine line = (h : History) → StandsFor engine h → makes_machine h line ≡ true
+
+abbrev pub ReadsAsMachine : Engine → Parsed → Type 0
+ReadsAsMachine engine (parsed.Line line) = WantsMachine engine line
+ReadsAsMachine engine parsed.Skip = ⊥
+ReadsAsMachine engine parsed.Bad = ⊥

@@ -1,13 +1,11 @@
-ghost use Rattle.std.specs.Prelude.{◌≡◌, ℕ, true, [], IfOk, OnErr};
+ghost use Rattle.std.specs.Prelude.{◌≡◌, [], IfOk, OnErr};
 ghost use Rattle.aia_model.specs.Grammar.{IsListed};
-ghost use Rattle.aia_model.specs.Refusal.{makes_machine};
-ghost use Rattle.aia_model.specs.Event.{History};
 ghost use Rattle.aia_model.specs.Reading.{reading};
-ghost use Rattle.aia_replay.specs.Stands.{StandsFor, Serves, ServesText};
+ghost use Rattle.aia_replay.specs.Stands.{StandsFor, Serves, ServesText, WantsMachine, ReadsAsMachine};
 
 use std::alloc::{AllocError, Global};
 
-use aia_model::{Answer, Line, Parsed};
+use aia_script::{Answer, Line, Parsed, parse_line};
 
 use crate::machine::Machine;
 
@@ -31,7 +29,7 @@ impl Engine {
         requires { IsListed line.now }
         ensures serves { IfOk result (Serves self.old self.new line.now) }
         ensures err { OnErr result (self.new ≡ self.old) }
-        ensures memory { OnErr result ((h : History) → StandsFor self.old h → makes_machine h line.now ≡ true) }
+        ensures memory { OnErr result (WantsMachine self.old line.now) }
     {
         if let Some(machine) = &mut self.machine {
             return Ok(machine.line(line));
@@ -44,5 +42,22 @@ impl Engine {
         };
         self.machine = Some(machine);
         Ok(Answer::Okay)
+    }
+
+    /// Answers a text of a script, by what it reads as: `None` exactly for a skipped text, and `Bad` for one that is neither
+    /// skipped nor a line. Both change nothing.
+    pub fn text(&mut self, alloc: Global, text: &[u8]) -> Result<Option<Answer>, AllocError>
+        ensures serves { IfOk result (ServesText self.old self.new (reading text.now)) }
+        ensures err { OnErr result (self.new ≡ self.old) }
+        ensures memory { OnErr result (ReadsAsMachine self.old (reading text.now)) }
+    {
+        match parse_line(text) {
+            Parsed::Line(line) => {
+                let answer = self.line(alloc, &line)?;
+                Ok(Some(answer))
+            }
+            Parsed::Skip => Ok(None),
+            Parsed::Bad => Ok(Some(Answer::Bad)),
+        }
     }
 }
