@@ -1,9 +1,11 @@
 ghost use Rattle.std.specs.Prelude.{◌≡◌, ℕ, ◌+◌, ◌*◌, ◌^◌, ◌<◌, ◌≤◌, List, [], ◌++◌, length, Option, OnOk, OnErr};
 ghost use Rattle.std.specs.Io.KnownBytes.{Appends};
 ghost use Rattle.aia_io.specs.Ends.{Rose};
+ghost use Rattle.aia_model.specs.AnswerText.{answer_text};
 ghost use Rattle.aia_replay.specs.Buffered.{Passes};
 
 use aia_io::{Sink, Write};
+use aia_script::{Answer, print_answer};
 use arrayvec::ArrayVec;
 
 /// The sink failed, and its count of faults rose.
@@ -24,8 +26,8 @@ impl Buffered {
         Buffered { bytes: ArrayVec::new() }
     }
 
-    /// Adds the bytes of an answer; where they don't fit, those that wait are written first.
-    pub fn add<K: Sink>(&mut self, sink: &mut K, bytes: &[u8]) -> Result<(), SinkFault>
+    /// Adds bytes; where they don't fit, those that wait are written first.
+    fn add<K: Sink>(&mut self, sink: &mut K, bytes: &[u8]) -> Result<(), SinkFault>
         requires { length bytes.now ≤ 4096 }
         ensures ok { OnOk result (Passes self.old.bytes.items self.new.bytes.items (K.taken sink.old) (K.taken sink.new) bytes.now) }
         ensures err { OnErr result (Rose (K.faults sink.old) (K.faults sink.new)) }
@@ -36,6 +38,17 @@ impl Buffered {
             let _ = self.bytes.try_extend_from_slice(bytes);
         }
         Ok(())
+    }
+
+    /// Adds an answer, with its LF.
+    pub fn add_answer<K: Sink>(&mut self, sink: &mut K, answer: &Answer) -> Result<(), SinkFault>
+        ensures ok { OnOk result (Passes self.old.bytes.items self.new.bytes.items (K.taken sink.old) (K.taken sink.new) (answer_text answer.now)) }
+        ensures err { OnErr result (Rose (K.faults sink.old) (K.faults sink.new)) }
+        ensures later { K.faults sink.old ≤ K.faults sink.new }
+    {
+        let mut text = ArrayVec::new();
+        print_answer(answer, &mut text);
+        self.add(sink, text.as_slice())
     }
 
     /// Writes all bytes that wait.

@@ -4,5 +4,9 @@
 mod buffered;
 mod engine;
 mod machine;
+mod program;
+mod replayer;
+mod stop;
 
 pub use engine::Engine;
+pub use program::{Status, run};
