@@ -4,7 +4,7 @@ use Rattle.aia_io.specs.declared.sink.Write.{Write}
 use Rattle.aia_io.specs.declared.sink.Write.TheVariants.{Took, Failed}
 use Rattle.aia_io.specs.Calls.{one_more}
 
--- the bytes taken, the most that it ever takes, the numbers of the calls that fail, and how many calls were made and failed
+-- the bytes taken, how many it takes in all, which calls fail, and how many calls were made and how many failed
 pub record SinkState : Type 0 where
   pub taken : List ℕ
   pub room : ℕ
@@ -21,7 +21,7 @@ abbrev pub TakesMost : SinkState → List ℕ → Write → Type 0
 TakesMost s bytes (Took n) = n ≡ min (length bytes) (room_left s)
 TakesMost s bytes Failed = ⊤
 
--- the sink after a write that answered so: each call counts, and nothing else changes but what the answer says
+-- the sink after a write that answered so: each call counts, and but for the answer nothing changes
 abbrev pub after_write : SinkState → List ℕ → Write → SinkState
 after_write s bytes (Took n) = record s { taken = s.taken ++ take n bytes; calls = one_more s.calls }
 after_write s bytes Failed = record s { calls = one_more s.calls; faults = one_more s.faults }

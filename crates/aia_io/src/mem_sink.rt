@@ -80,6 +80,7 @@ impl Sink for MemSink {
 
     ghost faults = { λ s. s.faults };
 
+    /// `Failed` at the calls listed and where no room is left, and else takes all that it has room for.
     fn write(&mut self, bytes: &[u8]) -> Write
         requires { 0 < length bytes.now }
         ensures bytes { Writes (Some self.old.taken) (Some self.new.taken) bytes.now result }

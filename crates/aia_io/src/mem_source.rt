@@ -72,6 +72,8 @@ impl Source for MemSource {
 
     ghost faults = { λ s. s.faults };
 
+    /// `Failed` at the calls listed. At the others `End` where nothing is left, and else as many bytes
+    /// as the piece, the buffer and what is left allow.
     fn read(&mut self, buf: &mut [u8]) -> Read
         requires { 0 < length buf.old }
         ensures bytes { Reads (Some self.old.left) (Some self.new.left) buf.new result }

@@ -41,6 +41,7 @@ impl Sink for QuietSink {
 
     ghost faults = { λ _. 0 };
 
+    /// Takes all of `bytes`.
     fn write(&mut self, bytes: &[u8]) -> Write
         requires { 0 < length bytes.now }
         ensures bytes { Writes None None bytes.now result }

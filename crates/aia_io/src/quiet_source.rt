@@ -38,6 +38,7 @@ impl Source for QuietSource {
 
     ghost faults = { λ _. 0 };
 
+    /// `End` where nothing is left, and else as many bytes as the buffer and what is left allow.
     fn read(&mut self, buf: &mut [u8]) -> Read
         requires { 0 < length buf.old }
         ensures bytes { Reads (Some self.old) (Some self.new) buf.new result }

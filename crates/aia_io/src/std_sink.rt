@@ -24,13 +24,12 @@ impl<W: io::Write> StdSink<W> {
 }
 
 impl<W: io::Write> Sink for StdSink<W> {
-    ghost use Rattle.std.specs.Prelude.{ℕ, ◌≡◌, ◌<◌, None, length};
     ghost use Rattle.aia_io.specs.Ends.{Writes, WriteHasCause};
     ghost use Rattle.aia_io.specs.StdSink.{writer_of, sink_faults, WriteCounts, PutsFront};
 
     ghost taken = { λ _. None };
 
-    ghost faults = { λ s. sink_faults s };
+    ghost faults = { sink_faults };
 
     /// One write to the writer, which is then flushed, so that what a writer keeps in a buffer goes
     /// out. An error of either is a fault, and so is a write that takes nothing. After `Failed` some

@@ -24,13 +24,12 @@ impl<R: io::Read> StdSource<R> {
 }
 
 impl<R: io::Read> Source for StdSource<R> {
-    ghost use Rattle.std.specs.Prelude.{ℕ, ◌≡◌, ◌<◌, None, length};
     ghost use Rattle.aia_io.specs.Ends.{Reads, ReadHasCause};
     ghost use Rattle.aia_io.specs.StdSource.{reader_of, source_faults, ReadCounts};
 
     ghost left = { λ _. None };
 
-    ghost faults = { λ s. source_faults s };
+    ghost faults = { source_faults };
 
     /// One read of the reader. A read of nothing is the end, and every error, an interrupted read
     /// too, is a fault.

@@ -1,5 +1,5 @@
 //! Each end, called through its bound as the code above does.
-ghost use Rattle.std.specs.Prelude.{◌≡◌, ◌≤◌, ◌<◌, length, take, IfOk};
+ghost use Rattle.std.specs.Prelude.{◌≡◌, ◌<◌, length, take, IfOk};
 ghost use Rattle.std.specs.Io.KnownBytes.{Appends, Consumes};
 ghost use Rattle.aia_io.specs.Ends.{Rose};
 
@@ -108,6 +108,28 @@ fn a_reader_is_passed_on(rt: HostRuntime) -> Result<(), Fail> {
     Ok(())
 }
 
+// A writer that holds what it was last given until it is flushed, which fails beyond four bytes.
+#[derive(Drop)]
+struct Holding<'a> {
+    held: usize,
+    out: &'a mut usize,
+}
+
+impl io::Write for Holding<'_> {
+    fn write(&mut self, buf: &[u8]) -> io::Result<usize> {
+        self.held = buf.len();
+        Ok(buf.len())
+    }
+
+    fn flush(&mut self) -> io::Result<()> {
+        if self.held > 4 {
+            return Err(io::Error::from(io::ErrorKind::Interrupted));
+        }
+        *self.out = self.held;
+        Ok(())
+    }
+}
+
 #[test]
 fn a_writer_is_given_what_is_taken(rt: HostRuntime) -> Result<(), Fail> {
     let mut out = [0; 5];
@@ -117,4 +139,16 @@ fn a_writer_is_given_what_is_taken(rt: HostRuntime) -> Result<(), Fail> {
     assert_eq!(rt; sink.write(b"f"), Write::Failed);
     assert_eq!(rt; out.as_slice(), b"abcde".as_slice());
     Ok(())
+}
+
+#[test]
+fn a_writer_is_flushed(rt: HostRuntime) {
+    let mut flushed = 0;
+    let mut sink = StdSink::new(Holding {
+        held: 0,
+        out: &mut flushed,
+    });
+    assert_eq!(rt; put(&mut sink, b"abc"), 3);
+    assert_eq!(rt; sink.write(b"defgh"), Write::Failed);
+    assert_eq!(rt; flushed, 3);
 }
