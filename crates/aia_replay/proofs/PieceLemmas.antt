@@ -1,11 +1,13 @@
 -- Bytes that are read and written in pieces.
-use Rattle.std.proofs.Common.{◌≡◌, ℕ, ◌+◌, ◌-◌, List, length, take, drop, Option, sym, ap, subst, arith}
+use Rattle.std.proofs.Common.{◌≡◌, ℕ, ◌+◌, ◌-◌, ◌<◌, ◌≤◌, true, false, nat_eq, List, ◌++◌, length, take, drop, Option, inl, inr, sym, subst, ◌∙◌, arith}
+use Rattle.std.proofs.lemmas.Bool.{cases_eq, eq-eqb, ne_eqb, false≢true}
+use Rattle.std.proofs.lemmas.List.{take-append-le}
 use Rattle.std.proofs.Math.Seq.{take-add}
 use Rattle.std.proofs.lemmas.Grind.{common_steps}
 use Rattle.std.specs.Io.KnownBytes.{Appends}
 use Rattle.std.proofs.KnownBytes.{Appends-trans}
 
-all_of_rest : (bytes : List ℕ) (at : ℕ) → take (length bytes - at) (drop at bytes) ≡ drop at bytes
+pub all_of_rest : (bytes : List ℕ) (at : ℕ) → take (length bytes - at) (drop at bytes) ≡ drop at bytes
 all_of_rest bytes at = grind (arith, common_steps)
 
 -- what was taken of `bytes[at..]`
@@ -14,3 +16,14 @@ took_of_rest mid now bytes at n took = subst (λ (rest : List ℕ). Appends mid 
 
 pub wrote_more : (before mid now : Option (List ℕ)) (bytes : List ℕ) (at n : ℕ) → Appends before mid (take at bytes) → Appends mid now (take n (drop at bytes)) → Appends before now (take (at + n) bytes)
 wrote_more before mid now bytes at n a b = subst (Appends before now) (sym (take-add at n bytes)) (Appends-trans before mid now _ _ a b)
+
+-- what a test of a length says
+pub not_empty : (n : ℕ) → false ≡ nat_eq n 0 → 0 < n
+not_empty n e = elim (cases_eq n 0) [ inl z ↦ absurd (false≢true (e ∙ eq-eqb n 0 z)) | inr some ↦ omega arith ]
+
+pub is_empty : (n : ℕ) → true ≡ nat_eq n 0 → n ≡ 0
+is_empty n e = elim (cases_eq n 0) [ inl z ↦ z | inr some ↦ absurd (false≢true (sym (e ∙ ne_eqb n 0 some))) ]
+
+-- the front of a buffer whose first part was read into
+pub front_read : (buf rest : List ℕ) (n : ℕ) → n ≤ length buf → take n (buf ++ rest) ≡ take n buf
+front_read buf rest n within = take-append-le n buf rest within

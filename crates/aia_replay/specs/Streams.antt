@@ -1,6 +1,8 @@
 -- What a replayer has read, answered and written.
-use Rattle.std.specs.Prelude.{◌≡◌, ℕ, ◌<◌, false, nat_eq, List, [], ◌++◌, length, take, All, Option, IfSome}
-use Rattle.std.specs.Io.KnownBytes.{Appends, Consumes}
+use Rattle.std.specs.Prelude.{◌≡◌, ℕ, ◌<◌, ◌≤◌, false, nat_eq, List, [], ◌++◌, length, take, All, Option, IfSome}
+use Rattle.std.specs.Io.KnownBytes.{Appends, Consumes, IsAtEnd, Keeps}
+use Rattle.aia_io.specs.declared.source.Read.{Read}
+use Rattle.aia_io.specs.declared.source.Read.TheVariants as reads
 use Rattle.aia_model.specs.Event.{History}
 use Rattle.aia_model.specs.Text.{texts_of}
 use Rattle.aia_model.specs.Reading.{reading}
@@ -30,6 +32,12 @@ pub record Holds (r : Replayer) (before now : Option (List ℕ)) (bytes : List �
   pub no_end : NoEnd tail
   pub line : r.line.items ≡ take 129 tail
 
+-- One read asked for `most` bytes at the front of a buffer.
+abbrev pub ReadsFront : ℕ → Option (List ℕ) → Option (List ℕ) → List ℕ → Read → Type 0
+ReadsFront most old new piece (reads.Got n) = (0 < n) × (n ≤ most) × Consumes old new (take n piece)
+ReadsFront most old new piece reads.End = IsAtEnd old × Keeps old new
+ReadsFront most old new piece reads.Failed = Keeps old new
+
 -- Nothing was read yet.
 pub record Begins (r : Replayer) : Type 0 where
   pub engine : StandsFor r.engine []
@@ -52,11 +60,12 @@ pub record AnswersLine (old new : Replayer) (mid now : Option (List ℕ)) : Type
 
 -- ---- a whole run
 
--- What was written where reading ended so: at the end the answers of the script, else the answers of the whole lines read.
+-- What was written where reading ended so: at the end the answers of the script, else the answers of the whole lines read; a script
+-- that is too long was read to its limit and one byte further.
 abbrev pub WrittenFor : Status → Option (List ℕ) → Option (List ℕ) → List ℕ → Type 0
 WrittenFor Done before now bytes = Appends before now (answers bytes)
 WrittenFor ReadFault before now bytes = (whole : List ℕ) × (tail : List ℕ) × (bytes ≡ whole ++ tail) × NoEnd tail × Appends before now (answers whole)
-WrittenFor TooLong before now bytes = (whole : List ℕ) × (tail : List ℕ) × (more : List ℕ) × (bytes ≡ whole ++ (tail ++ more)) × (length (whole ++ tail) ≡ 16777216) × (0 < length more) × NoEnd tail × Appends before now (answers whole)
+WrittenFor TooLong before now bytes = (whole : List ℕ) × (tail : List ℕ) × (more : List ℕ) × (bytes ≡ (whole ++ tail) ++ more) × (length (whole ++ tail) ≡ 16777216) × (length more ≡ 1) × NoEnd tail × Appends before now (answers whole)
 WrittenFor status before now bytes = ⊥
 
 -- A run took some bytes of the source, and wrote what its status says.

@@ -1,6 +1,8 @@
-ghost use Rattle.std.specs.Prelude.{◌≡◌, ℕ, ◌+◌, ◌*◌, ◌<◌, ◌≤◌, List, [], ◌∷◌, ◌++◌, length, take, Option, IfOk, OnOk, OnErr, Ok, Err};
-ghost use Rattle.aia_io.specs.Ends.{Rose};
+ghost use Rattle.std.specs.Prelude.{◌≡◌, ℕ, ◌+◌, ◌*◌, ◌<◌, ◌≤◌, List, [], ◌∷◌, ◌++◌, length, take, position, nat_eq, Option, IfOk, OnOk, OnErr, Ok, Err};
+ghost use Rattle.arrayvec.specs.ArrayVec.{array_vec_len};
+ghost use Rattle.aia_io.specs.Ends.{Rose, ReadHasCause};
 ghost use Rattle.aia_replay.specs.Runs.{TakesAtMost};
+ghost use Rattle.aia_replay.specs.Streams.{ReadsFront};
 
 use std::alloc::Global;
 
@@ -28,7 +30,7 @@ const LINE: usize = 129;
 #[derive(Drop)]
 pub struct Replayer {
     engine: Engine,
-    line: ArrayVec<u8, 129>,
+    line: ArrayVec<u8, LINE>,
     out: Buffered,
 }
 
@@ -48,11 +50,11 @@ impl Replayer {
 
     /// Keeps a part of a line, as far as there is room.
     fn keep(&mut self, part: &[u8])
-        ensures line { self.new.line.items ≡ take 129 (self.old.line.items ++ part.now) }
+        ensures line { self.new.line.items ≡ take LINE (self.old.line.items ++ part.now) }
         ensures others { self.new ≡ record self.old { line = self.new.line } }
     {
         let room = self.line.remaining_capacity();
-        let _ = self.line.try_extend_from_slice(&part[..part.len().min(room)]);
+        extend(&mut self.line, &part[..part.len().min(room)]);
     }
 
     /// Answers the line that was read, and begins the next one.
@@ -75,7 +77,7 @@ impl Replayer {
         ensures later { K.faults sink.old ≤ K.faults sink.new }
     {
         let mut rest = piece;
-        while let Some(end) = rest.iter().position(|byte| *byte == LF) {
+        while let Some(end) = line_end(rest) {
             self.keep(&rest[..end]);
             self.end_line(alloc, sink)?;
             rest = &rest[end + 1..];
@@ -111,7 +113,7 @@ impl Replayer {
         loop {
             self.out.write_out(sink)?;
             let asked = (LIMIT - taken).clamp(1, PIECE);
-            match source.read(&mut piece[..asked]) {
+            match read_front(source, &mut piece, asked) {
                 Read::Got(_) if taken == LIMIT => return Ok(Status::TooLong),
                 Read::Got(n) => {
                     self.feed(alloc, sink, &piece[..n])?;
@@ -133,4 +135,29 @@ impl Replayer {
     {
         self.out.write_out(sink)
     }
+}
+
+/// Appends bytes for which there is room.
+fn extend(line: &mut ArrayVec<u8, LINE>, bytes: &[u8])
+    requires { array_vec_len line.old + length bytes.now ≤ LINE }
+    ensures { line.new.items ≡ line.old.items ++ bytes.now }
+{
+    let _ = line.try_extend_from_slice(bytes);
+}
+
+/// Where the first line of `bytes` ends.
+fn line_end(bytes: &[u8]) -> Option<usize>
+    ensures { result ≡ position (λ b. nat_eq b LF) bytes.now }
+{
+    bytes.iter().position(|byte| *byte == LF)
+}
+
+/// Reads at most `most` bytes into the front of `piece`.
+fn read_front<S: Source>(source: &mut S, piece: &mut [u8], most: usize) -> Read
+    requires some { 0 < most }
+    requires room { most ≤ length piece.old }
+    ensures bytes { ReadsFront most (S.left source.old) (S.left source.new) piece.new result }
+    ensures cause { ReadHasCause (S.faults source.old) (S.faults source.new) result }
+{
+    source.read(&mut piece[..most])
 }

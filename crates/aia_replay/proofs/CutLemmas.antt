@@ -1,0 +1,83 @@
+-- Bytes that are cut at LF.
+use Rattle.std.proofs.Common.{◌≡◌, ℕ, zero, suc, ◌+◌, ◌-◌, ◌<◌, ◌≤◌, Bool, true, false, cond, nat_eq, List, [], ◌∷◌, ◌++◌, length, take, drop, get_or, min, All, Option, Some, None, inl, inr, refl, sym, ap, subst, ◌∙◌, arith}
+use Rattle.std.specs.Prelude.{position}
+use Rattle.std.specs.List.{position_or_len, before_first, after_first, onto_first}
+use Rattle.std.proofs.lemmas.Grind.{common_steps}
+use Rattle.std.proofs.lemmas.List.{get_or-take, length-take, length-append, take-append-le}
+use Rattle.std.proofs.Math.Seq.{take-length, take-append-add}
+use Rattle.std.proofs.lemmas.List.Elements.{All-from_get_or}
+use Rattle.std.proofs.lemmas.List.Sums.{fails_before_first, passes_at_first, split_at_first}
+use Rattle.std.proofs.lemmas.Bool.{cases_lt, cond-true, cond-false, lt-ltb, le-ltb}
+use Rattle.aia_model.specs.Text.{texts_of}
+use Rattle.aia_replay.specs.Streams.{NoEnd}
+
+-- ---- where the first LF is
+
+position_some : (p : ℕ → Bool) (xs : List ℕ) (i : ℕ) → position p xs ≡ Some i → (position_or_len p xs < length xs) × (position_or_len p xs ≡ i)
+position_some p xs i e =
+    elim (cases_lt (position_or_len p xs) (length xs)) [
+      | inl h ↦ let e2 : Some (position_or_len p xs) ≡ Some i = sym (cond-true _ _ _ (lt-ltb _ _ h)) ∙ e in (h, cc)
+      | inr h ↦ let e2 : ◌≡◌ {A = Option ℕ} None (Some i) = sym (cond-false _ _ _ (le-ltb _ _ h)) ∙ e in absurd (cc)
+    ]
+
+position_none : (p : ℕ → Bool) (xs : List ℕ) → position p xs ≡ None → length xs ≤ position_or_len p xs
+position_none p xs e =
+    elim (cases_lt (position_or_len p xs) (length xs)) [
+      | inl h ↦ let e2 : ◌≡◌ {A = Option ℕ} (Some (position_or_len p xs)) None = sym (cond-true _ _ _ (lt-ltb _ _ h)) ∙ e in absurd (cc)
+      | inr h ↦ h
+    ]
+
+abbrev pub is_end : ℕ → Bool
+is_end b = nat_eq b 10
+
+-- with no LF
+pub no_end_at_all : (bytes : List ℕ) → position is_end bytes ≡ None → NoEnd bytes
+no_end_at_all bytes none = All-from_get_or (λ b. is_end b ≡ false) bytes 0 (λ k low. fails_before_first is_end bytes k 0 (omega (arith, position_none is_end bytes none)))
+
+-- before the first LF
+pub no_end_before : (bytes : List ℕ) (i : ℕ) → position is_end bytes ≡ Some i → NoEnd (take i bytes)
+no_end_before bytes i e =
+    let p = position_some is_end bytes i e in
+    All-from_get_or (λ b. is_end b ≡ false) (take i bytes) 0 (λ k low.
+        let within : k < i = omega (arith, length-take i bytes) in
+        ap is_end (get_or-take i bytes k 0 within) ∙ fails_before_first is_end bytes k 0 (omega arith))
+
+is_ten : (b : ℕ) → is_end b ≡ true → b ≡ 10
+is_ten b e = grind arith
+
+pub cut_at_end : (bytes : List ℕ) (i : ℕ) → position is_end bytes ≡ Some i → bytes ≡ take i bytes ++ (10 ∷ drop (i + 1) bytes)
+cut_at_end bytes i e =
+    let p = position_some is_end bytes i e in
+    let lf = is_ten _ (passes_at_first is_end bytes 0 p.0) in
+    split_at_first is_end bytes 0 p.0 ∙ ap (λ b. before_first is_end bytes ++ (b ∷ after_first is_end bytes)) lf ∙ ap (λ k. take k bytes ++ (10 ∷ drop (k + 1) bytes)) p.1
+
+-- ---- texts
+
+pub texts_front : (front rest : List ℕ) → NoEnd front → texts_of (front ++ 10 ∷ rest) ≡ front ∷ texts_of rest
+texts_front [] rest none = refl
+texts_front (x ∷ xs) rest none = cond-false _ _ _ (none 0 0 (omega arith)) ∙ ap (onto_first x) (texts_front xs rest (λ k d h. none (suc k) d (omega arith)))
+
+pub texts_last : (x : ℕ) (xs : List ℕ) → NoEnd (x ∷ xs) → texts_of (x ∷ xs) ≡ (x ∷ xs) ∷ []
+texts_last x [] none = cond-false _ _ _ (none 0 0 (omega arith))
+texts_last x (y ∷ ys) none = cond-false _ _ _ (none 0 0 (omega arith)) ∙ ap (onto_first x) (texts_last y ys (λ k d h. none (suc k) d (omega arith)))
+
+-- ---- a line that is kept as far as there is room
+
+pub take_short : (xs : List ℕ) (n : ℕ) → length xs ≤ n → take n xs ≡ xs
+take_short xs n h = grind (arith, common_steps)
+
+-- a part is kept
+pub part_fits : (line part : List ℕ) (room n : ℕ) → length line + room ≡ 129 → n ≡ min (length part) room → line ++ take n part ≡ take 129 (line ++ part)
+part_fits line part room n whole e =
+    elim (cases_lt room (length part)) [
+      | inl longer ↦ let n_is : n ≡ room = omega arith in ap (λ k. line ++ take k part) n_is ∙ sym (ap (λ k. take k (line ++ part)) (sym whole) ∙ take-append-add line part room)
+      | inr fits ↦ let n_is : n ≡ length part = omega arith in ap (λ k. line ++ take k part) n_is ∙ ap (λ xs. line ++ xs) (take-length part) ∙ sym (take_short (line ++ part) 129 (omega (arith, length-append line part)))
+    ]
+
+-- of a line that is kept a part more makes what is kept of the longer line
+pub take_again : (tail part : List ℕ) (n : ℕ) → take n (take n tail ++ part) ≡ take n (tail ++ part)
+take_again tail part n =
+    elim (cases_lt (length tail) n) [
+      | inl short ↦ ap (λ xs. take n (xs ++ part)) (take_short tail n (omega arith))
+      | inr long ↦ take-append-le n (take n tail) part (omega (arith, length-take n tail)) ∙ take_short (take n tail) n (omega (arith, length-take n tail)) ∙ sym (take-append-le n tail part long)
+    ]

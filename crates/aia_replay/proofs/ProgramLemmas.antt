@@ -1,0 +1,37 @@
+-- What the endings of a run mean for its source, and the one word that is taken.
+use Rattle.std.proofs.Common.{◌≡◌, ℕ, ◌+◌, ◌<◌, ◌≤◌, true, Bool, List, [], ◌∷◌, ◌++◌, length, get_or, map, Option, Some, None, IfSome, refl, sym, ap, subst, ◌∙◌, arith}
+use Rattle.std.specs.Borrow.{Bor}
+use Rattle.std.specs.Str.{bytes_eq}
+use Rattle.std.proofs.lemmas.Slice.Eq.{bytes_eq-Decides}
+use Rattle.std.proofs.lemmas.List.{length-append}
+use Rattle.std.specs.Io.KnownBytes.{Consumes}
+use Rattle.aia_replay.specs.declared.program.Status.{Status}
+use Rattle.aia_replay.specs.declared.program.Status.TheVariants.{Done, TooLong}
+use Rattle.aia_replay.specs.Runs.{Takes, TakesAll}
+use Rattle.aia_replay.specs.Streams.{Streams, WrittenFor}
+
+pub one_word : (ws : List (Bor (List ℕ))) (d : Bor (List ℕ)) (p : List ℕ) (r : Bool) → 1 ≤ length ws → length ws < 2 → r ≡ bytes_eq (get_or ws 0 d).now p → (r ≡ true → map (λ (w : Bor (List ℕ)). w.now) ws ≡ p ∷ []) × (map (λ (w : Bor (List ℕ)). w.now) ws ≡ p ∷ [] → r ≡ true)
+one_word [] d p r low high e = absurd (omega arith)
+one_word (w ∷ []) d p r low high e = (λ yes_it. ap (λ x. x ∷ []) ((bytes_eq-Decides w.now p).0 (sym e ∙ yes_it)), λ same. e ∙ (bytes_eq-Decides w.now p).1 (cc))
+one_word (w ∷ x ∷ ws) d p r low high e = absurd (omega arith)
+
+nothing_left : (bytes rest : List ℕ) → bytes ≡ bytes ++ rest → rest ≡ []
+nothing_left bytes [] e = refl
+nothing_left bytes (x ∷ rest) e = absurd (omega (arith, ap length e, length-append bytes (x ∷ rest)))
+
+all_of : (left rest : Option (List ℕ)) (bytes : List ℕ) → Consumes left rest bytes → IfSome left (λ script. script ≡ bytes) → TakesAll left rest
+all_of None rest bytes took whole = tt
+all_of (Some script) None bytes took whole = absurd took
+all_of (Some script) (Some more) bytes took whole = ap Some (nothing_left bytes more (sym whole ∙ took))
+
+pub all_taken : (status : Status) (left rest before now : Option (List ℕ)) → Streams status left rest before now → status ≡ Done → TakesAll left rest
+all_taken status left rest before now streams done = all_of left rest streams.bytes streams.consumed (streams.whole done)
+
+too_long_count : (status : Status) (before now : Option (List ℕ)) (bytes : List ℕ) → status ≡ TooLong → WrittenFor status before now bytes → length bytes ≡ 16777217
+too_long_count status before now bytes is written = at_limit (subst (λ s. WrittenFor s before now bytes) is written)
+  where
+    at_limit : WrittenFor TooLong before now bytes → length bytes ≡ 16777217
+    at_limit w = ap length w.3 ∙ length-append (w.0 ++ w.1) w.2 ∙ omega (arith, w.4, w.5)
+
+pub one_past_limit : (status : Status) (left rest before now : Option (List ℕ)) → Streams status left rest before now → status ≡ TooLong → Takes 16777217 left rest
+one_past_limit status left rest before now streams is = (streams.bytes, streams.consumed, too_long_count status before now streams.bytes is streams.written)

@@ -1,0 +1,25 @@
+use Rattle.std.proofs.Common.{◌≡◌, ◌+◌, ◌∷◌, ◌++◌, ◌≤◌, length, take, Some, sym, ap, ◌∙◌, arith}
+use Rattle.std.specs.Prelude.{position}
+use Rattle.aia_replay.proofs.CutLemmas.{is_end, cut_at_end, no_end_before, no_end_at_all}
+use Rattle.aia_replay.proofs.PieceLemmas.{all_of_rest}
+use Rattle.aia_replay.proofs.StreamLemmas.{fed_nothing, fed_line, fed_rest}
+use Rattle.aia_replay.proofs.replayer.Replayer.feed.Goals as goal
+
+pub loop-end-init : goal.loop-end-init
+loop-end-init g c = record { fed = fed_nothing c.args.self.now (g.K.Sink.taken c.args.sink.now) c.args.piece.now; later = omega arith }
+
+pub loop-end-preserved : goal.loop-end-preserved
+loop-end-preserved g c =
+    let rest = c.loop-end.rest.now in
+    let end = c.in-Some.end in
+    let at : position is_end rest ≡ Some end = sym c.in-Some.ensures in
+    record {
+      fed = fed_line c.args.self.now c.loop-end.self c.keep.new.self c.end_line.new.self _ (g.K.Sink.taken c.loop-end.sink) _ c.args.piece.now rest (take end rest) _ c.loop-end.invariant.fed
+          (cut_at_end rest end at ∙ ap (λ xs. take end rest ++ (10 ∷ xs)) (sym (all_of_rest rest (end + 1)))) (no_end_before rest end at) (c.keep.ensures.line) c.keep.ensures.others c.in_ok-end_line.ensures.ok;
+      later = omega (arith, c.in_ok-end_line.ensures.later);
+    }
+
+pub returns-clause-ok : goal.returns-clause-ok
+returns-clause-ok g c =
+    fed_rest c.args.self.now c.loop-end.self c.keep-2.new.self (g.K.Sink.taken c.args.sink.now) (g.K.Sink.taken c.loop-end.sink) c.args.piece.now c.loop-end.rest.now c.loop-end.invariant.fed
+    (no_end_at_all c.loop-end.rest.now (sym c.in_default.ensures)) c.keep-2.ensures.line c.keep-2.ensures.others
