@@ -1,0 +1,4 @@
+pub mod AccessLemmas
+pub mod TopLemmas
+pub mod KeptLemmas
+pub mod FileLemmas

@@ -1,5 +1,5 @@
 -- An interrupt file as two sets of identities and two numbers: what it shows, and what each event makes of it.
-use Rattle.std.specs.Prelude.{ℕ, ◌*◌, Bool, false, ◌&&◌, ◌||◌, nat_eq, is_some, if◌then◌else◌, Option}
+use Rattle.std.specs.Prelude.{◌≡◌, ℕ, ◌*◌, Bool, false, ◌&&◌, ◌||◌, nat_eq, is_some, if◌then◌else◌, Option}
 use Rattle.aia_word.specs.Sets.{word_of}
 use Rattle.aia_word.specs.Top.{top_identity}
 use Rattle.aia_regs.specs.declared.access.Op.{Op}
@@ -26,6 +26,14 @@ is_width n = nat_eq n 63 || nat_eq n 127 || nat_eq n 255 || nat_eq n 511 || nat_
 -- A file of the identities 1 to n as a machine begins: nothing is pending or enabled. Profile: both numbers are 0.
 abbrev pub empty_file : ℕ → InterruptFile
 empty_file n = record { n = n; pending = λ i. false; enabled = λ i. false; threshold = 0; delivery = 0 }
+
+-- Two files are the same: they have the same members and numbers.
+pub record SameFile (a b : InterruptFile) : Type 0 where
+  pub n : a.n ≡ b.n
+  pub pending : (i : ℕ) → a.pending i ≡ b.pending i
+  pub enabled : (i : ℕ) → a.enabled i ≡ b.enabled i
+  pub threshold : a.threshold ≡ b.threshold
+  pub delivery : a.delivery ≡ b.delivery
 
 -- ---- what it shows
 

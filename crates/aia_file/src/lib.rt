@@ -1,2 +1,6 @@
-//! One interrupt file.
+//! One interrupt file: two sets of identities, a threshold and a delivery switch.
 #![tactic(auto)]
+
+mod file;
+
+pub use file::File;

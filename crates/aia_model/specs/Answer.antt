@@ -4,7 +4,7 @@ use Rattle.aia_word.specs.Top.{top_value}
 use Rattle.aia_regs.specs.declared.access.Csr.{Csr}
 use Rattle.aia_regs.specs.declared.access.Csr.TheVariants.{Select, Reg, Topei}
 use Rattle.aia_regs.specs.FileRegisters.{register_of}
-use Rattle.aia_file.specs.InterruptFile.{register_value, top_of}
+use Rattle.aia_file.specs.InterruptFile.{InterruptFile, register_value, top_of}
 use Rattle.aia_model.specs.declared.line.Line.{Line}
 use Rattle.aia_model.specs.declared.line.Line.TheVariants.{Machine, Store, HostCsr}
 use Rattle.aia_model.specs.declared.answer.Answer.{Answer}
@@ -16,11 +16,14 @@ use Rattle.aia_model.specs.Refusal.{refusal}
 
 -- What a CSR of a file reads: the select number, the selected register, or the identity on top.
 -- AIA 1.0, IMSIC, "Indirectly accessed interrupt-file registers" and "Top external interrupt CSRs".
+abbrev pub csr_shown : ℕ → InterruptFile → Csr → ℕ
+csr_shown select file Select = select
+csr_shown select file Reg = register_value file (register_of select)
+csr_shown select file Topei = top_value (top_of file)
+csr_shown select file csr = 0
+
 abbrev pub csr_value : History → FileName → Csr → ℕ
-csr_value h f Select = select_of h f
-csr_value h f Reg = register_value (file_of h f) (register_of (select_of h f))
-csr_value h f Topei = top_value (top_of (file_of h f))
-csr_value h f csr = 0
+csr_value h f csr = csr_shown (select_of h f) (file_of h f) csr
 
 -- What an accepted line answers: a CSR instruction the value that the CSR read before it.
 abbrev pub accepted_answer : History → Line → Answer

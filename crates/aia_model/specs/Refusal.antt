@@ -1,7 +1,8 @@
 -- When a line is refused, and with which word.
-use Rattle.std.specs.Prelude.{ℕ, ◌%◌, Bool, false, ◌&&◌, not, nat_eq, nat_lt, is_some, List, [], ◌∷◌, find, Option}
+use Rattle.std.specs.Prelude.{ℕ, ◌%◌, Bool, false, ◌&&◌, not, nat_eq, nat_lt, is_none, is_some, List, [], ◌∷◌, find, Option}
 use Rattle.std.specs.Int.{is_in_range}
 use Rattle.std.specs.Option.{option_map}
+use Rattle.aia_regs.specs.declared.access.Csr.{Csr}
 use Rattle.aia_regs.specs.declared.access.Csr.TheVariants.{Reg}
 use Rattle.aia_regs.specs.FileRegisters.{register_of, is_accessible}
 use Rattle.aia_file.specs.InterruptFile.{is_width}
@@ -35,8 +36,12 @@ is_out_of_range h line = false
 
 -- `illegal`: the access reaches a register that doesn't exist.
 -- AIA 1.0, IMSIC, "Indirectly accessed interrupt-file registers".
+abbrev pub has_no_register : ℕ → Csr → Bool
+has_no_register select Reg = not (is_accessible (register_of select))
+has_no_register select csr = false
+
 abbrev pub is_illegal : History → Line → Bool
-is_illegal h (HostCsr hart Reg op) = not (is_accessible (register_of (select_of h (SupervisorFile hart))))
+is_illegal h (HostCsr hart csr op) = has_no_register (select_of h (SupervisorFile hart)) csr
 is_illegal h line = false
 
 -- `fault`: the address isn't a multiple of 4, or lies in no page of a file that is there.
@@ -53,3 +58,8 @@ refusals = (NoMachine, lacks_machine) ∷ (Again, has_one_already) ∷ (Range, i
 -- The refusal of a line: the first word whose cell holds, None where the line is accepted.
 abbrev pub refusal : History → Line → Option Answer
 refusal h line = option_map (λ (r : Answer × (History → Line → Bool)). r.0) (find (λ r. r.1 h line) refusals)
+
+-- Whether a line is a `machine` line that is accepted.
+abbrev pub makes_machine : History → Line → Bool
+makes_machine h (Machine harts guests n sources) = is_none (refusal h (Machine harts guests n sources))
+makes_machine h line = false

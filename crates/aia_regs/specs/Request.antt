@@ -1,5 +1,5 @@
 -- The identity that a store to a file's page asks for.
-use Rattle.std.specs.Prelude.{ℕ, Bool, nat_eq, if◌then◌else◌, Option, Some, None}
+use Rattle.std.specs.Prelude.{ℕ, nat_eq, if◌then◌else◌, Option, Some, None}
 use Rattle.std.specs.Int.{swap_bytes, is_in_range, w32}
 use Rattle.aia_regs.specs.Word.{Word, names}
 use Rattle.aia_regs.specs.Word.Word.{Ask, Nothing}

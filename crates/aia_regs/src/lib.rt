@@ -2,10 +2,9 @@
 #![tactic(auto)]
 
 mod access;
+pub mod address_map;
 mod file_registers;
 mod request;
-
-pub mod address_map;
 
 pub use access::{Csr, Op};
 pub use file_registers::{FileReg, file_reg};

@@ -13,5 +13,9 @@ pub fn requested(n: u32, offset: u32, value: u32) -> Option<u32>
         4 => value.swap_bytes(),
         _ => return None,
     };
-    if 1 <= number && number <= n { Some(number) } else { None }
+    if 1 <= number && number <= n {
+        Some(number)
+    } else {
+        None
+    }
 }

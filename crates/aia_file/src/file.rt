@@ -1,0 +1,207 @@
+ghost use Rattle.std.specs.Prelude.{◌≡◌, ℕ, ◌+◌, ◌-◌, ◌*◌, ◌%◌, ◌<◌, ◌≤◌, ◌↔◌, false, ◌&&◌, not, nat_eq, length, IsTrue, IfOk, IfSome};
+ghost use Rattle.aia_word.specs.Sets.{has_bit, is_in};
+ghost use Rattle.aia_word.specs.Top.{top_value, passes};
+ghost use Rattle.aia_regs.specs.Word.{settle};
+ghost use Rattle.aia_regs.specs.FileRegisters.{IsUsable, set_word, number_after};
+ghost use Rattle.aia_file.specs.InterruptFile.{is_width, SameFile, empty_file, register_value, top_of, signals, accessed, landed, claimed};
+ghost use Rattle.aia_file.specs.FileState.{shown};
+
+use aia_regs::{FileReg, Op, requested};
+use aia_word::sets;
+use std::alloc::{AllocError, Global};
+use std::marker::Model;
+
+/// An interrupt file with the identities 1 to `n`: which are pending, which are enabled, `eithreshold` and `eidelivery`.
+///
+/// AIA 1.0, Incoming MSI Controller, "Interrupt files and interrupt identities".
+#[derive(Drop)]
+pub struct File {
+    n: u32,
+    pending: Vec<u64>,
+    enabled: Vec<u64>,
+    threshold: u64,
+    delivery: u64,
+}
+
+impl Model for File {
+    ghost use Rattle.aia_file.specs.FileState.{FileState};
+
+    ghost Value = { FileState };
+
+    ghost use Rattle.aia_file.specs.Kept.{kept_state, IsFile};
+
+    ghost view = { kept_state };
+
+    ghost invariant = { IsFile };
+}
+
+impl File {
+    /// An empty file with the identities 1 to `n`, which is 63, 127, 255, 511, 1023 or 2047.
+    pub fn new(alloc: Global, n: u32) -> Result<File, AllocError>
+        requires { IsTrue (is_width n) }
+        ensures { IfOk result (λ f. SameFile (shown f) (empty_file n)) }
+    {
+        let words = (n as usize + 1) / 64;
+        let pending = vec![in alloc; 0; words]?;
+        let enabled = vec![in alloc; 0; words]?;
+        Ok(File {
+            n,
+            pending,
+            enabled,
+            threshold: 0,
+            delivery: 0,
+        })
+    }
+
+    /// What the register reads.
+    pub fn read(&self, reg: FileReg) -> u64
+        requires { IsUsable reg }
+        ensures { result ≡ register_value (shown self.now) reg }
+    {
+        match reg {
+            FileReg::Delivery => self.delivery,
+            FileReg::Threshold => self.threshold,
+            FileReg::Pending(k) => sets::word(&self.pending, (k / 2) as usize),
+            FileReg::Enable(k) => sets::word(&self.enabled, (k / 2) as usize),
+            FileReg::Reserved | FileReg::Odd | FileReg::Outside => 0,
+        }
+    }
+
+    /// Does a CSR instruction on the register, and answers what the register read before it.
+    pub fn access(&mut self, reg: FileReg, op: Op) -> u64
+        requires { IsUsable reg }
+        ensures before { result ≡ register_value (shown self.old) reg }
+        ensures after { SameFile (shown self.new) (accessed reg op (shown self.old)) }
+    {
+        let before = self.read(reg);
+        match reg {
+            FileReg::Delivery => self.delivery = access_number(self.delivery, 2, op),
+            FileReg::Threshold => {
+                self.threshold = access_number(self.threshold, u64::from(self.n) + 1, op);
+            }
+            FileReg::Pending(k) => access_set(&mut self.pending, k, op),
+            FileReg::Enable(k) => access_set(&mut self.enabled, k, op),
+            FileReg::Reserved | FileReg::Odd | FileReg::Outside => {}
+        }
+        before
+    }
+
+    /// Writes the register, and answers what it read before.
+    pub fn write(&mut self, reg: FileReg, value: u64) -> u64
+        requires { IsUsable reg }
+        ensures before { result ≡ register_value (shown self.old) reg }
+        ensures after { SameFile (shown self.new) (accessed reg (Op.Write value) (shown self.old)) }
+    {
+        self.access(reg, Op::Write(value))
+    }
+
+    /// What a topei register shows: the identity on top twice, in bits 26:16 and 10:0; 0 where there is none.
+    pub fn top(&self) -> u64
+        ensures { result ≡ top_value (top_of (shown self.now)) }
+    {
+        topei(self.on_top())
+    }
+
+    /// Claims: clears the pending bit of the identity on top, and answers what a topei register showed before.
+    pub fn claim(&mut self) -> u64
+        ensures top { result ≡ top_value (top_of (shown self.old)) }
+        ensures after { SameFile (shown self.new) (claimed (shown self.old)) }
+    {
+        let top = self.on_top();
+        if let Some(identity) = top {
+            sets::remove(&mut self.pending, identity);
+        }
+        topei(top)
+    }
+
+    /// Whether the file signals its hart.
+    pub fn signal(&self) -> bool
+        ensures { result ≡ signals (shown self.now) }
+    {
+        self.delivery == 1 && self.on_top().is_some()
+    }
+
+    /// A 32-bit store of `value` at `offset` of the file's page.
+    pub fn land(&mut self, offset: u32, value: u32)
+        ensures { SameFile (shown self.new) (landed offset value (shown self.old)) }
+    {
+        if let Some(identity) = requested(self.n, offset, value) {
+            sets::insert(&mut self.pending, identity);
+        }
+    }
+
+    /// Whether no identity is pending or enabled, and both numbers are 0.
+    pub fn is_empty(&self) -> bool
+        ensures { IsTrue result ↔ SameFile (shown self.now) (empty_file self.now.n) }
+    {
+        sets::is_empty(&self.pending)
+            && sets::is_empty(&self.enabled)
+            && self.threshold == 0
+            && self.delivery == 0
+    }
+
+    /// The identity on top.
+    fn on_top(&self) -> Option<u32>
+        ensures top { result ≡ top_of (shown self.now) }
+        ensures small { IfSome result (λ identity. identity ≤ self.now.n) }
+        ensures fits { self.now.n ≤ 2047 }
+    {
+        let least = sets::least_common(&self.pending, &self.enabled)?;
+        if passes(self.threshold, least) {
+            Some(least)
+        } else {
+            None
+        }
+    }
+}
+
+/// Whether the threshold lets the identity through.
+fn passes(threshold: u64, identity: u32) -> bool
+    ensures { result ≡ passes threshold identity }
+{
+    threshold == 0 || u64::from(identity) < threshold
+}
+
+/// How a topei register shows the identity on top.
+fn topei(top: Option<u32>) -> u64
+    requires { IfSome top (λ identity. identity ≤ 2047) }
+    ensures { result ≡ top_value top }
+{
+    match top {
+        Some(identity) => u64::from(identity) * 0x1_0000 + u64::from(identity),
+        None => 0,
+    }
+}
+
+/// What an access makes of a register that keeps a number modulo `modulus`.
+fn access_number(was: u64, modulus: u64, op: Op) -> u64
+    requires { 0 < modulus }
+    ensures { result ≡ number_after (λ v. v % modulus) op was }
+{
+    if op.is_writing() {
+        op.written(was) % modulus
+    } else {
+        was
+    }
+}
+
+/// Does the instruction on register `k` of a set; registers past the last word read 0, and a write to them is ignored.
+fn access_set(words: &mut [u64], k: u32, op: Op)
+    requires even { k % 2 ≡ 0 }
+    requires some { 0 < length words.old }
+    requires no_zero { is_in words.old 0 ≡ false }
+    ensures { (i : ℕ) → is_in words.new i ≡ settle (set_word (64 * length words.old - 1) k op i) (is_in words.old i) }
+{
+    let at = (k / 2) as usize;
+    if at < words.len() {
+        let value = op.written(words[at]);
+        sets::put_word(words, at, without_zero(at, value));
+    }
+}
+
+/// `value` as word `at` of a set, but for identity 0, which no file has.
+fn without_zero(at: usize, value: u64) -> u64
+    ensures { (bit : ℕ) → bit < 64 → has_bit result bit ≡ (not (nat_eq (64 * at + bit) 0) && has_bit value bit) }
+{
+    if at == 0 { value & !1 } else { value }
+}

@@ -1,0 +1,28 @@
+//! The two ends of a run: where its bytes come from, and where they go.
+//!
+//! A [`Source`] and a [`Sink`] say which bytes moved, where they can tell, and count their own faults:
+//! a call that failed has a cause, which code that merely calls them cannot make up. [`MemSource`] and
+//! [`MemSink`] are fakes that fail at chosen calls, [`QuietSource`] and [`QuietSink`] never fail, and
+//! [`StdSource`] and [`StdSink`] are the outside world.
+#![tactic(auto)]
+
+mod mem_sink;
+mod mem_source;
+mod quiet_sink;
+mod quiet_source;
+mod sink;
+mod source;
+mod std_sink;
+mod std_source;
+mod tape;
+#[cfg(test)]
+mod tests;
+
+pub use mem_sink::MemSink;
+pub use mem_source::MemSource;
+pub use quiet_sink::QuietSink;
+pub use quiet_source::QuietSource;
+pub use sink::{Sink, Write};
+pub use source::{Read, Source};
+pub use std_sink::StdSink;
+pub use std_source::StdSource;

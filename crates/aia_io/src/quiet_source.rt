@@ -1,0 +1,54 @@
+//! A source in memory that never fails.
+ghost use Rattle.std.specs.Prelude.{◌≡◌, ◌<◌, Some, length};
+ghost use Rattle.aia_io.specs.Ends.{Fills, Reads, ReadHasCause};
+ghost use Rattle.aia_io.specs.QuietSource.{GivesFront};
+
+use crate::source::{Read, Source};
+use crate::tape::Tape;
+use std::marker::Model;
+
+/// Gives the bytes that it was made of, as many a call as the buffer has room for, and never fails.
+#[derive(Drop)]
+pub struct QuietSource {
+    tape: Tape,
+}
+
+// Seen as the bytes that are left.
+impl Model for QuietSource {
+    ghost use Rattle.std.specs.Prelude.{ℕ, List};
+
+    ghost Value = { List ℕ };
+
+    ghost view = { λ s. s.tape };
+}
+
+impl QuietSource {
+    /// Will give `bytes`.
+    pub fn new(bytes: Vec<u8>) -> QuietSource
+        ensures { result ≡ bytes.items }
+    {
+        QuietSource {
+            tape: Tape::new(bytes),
+        }
+    }
+}
+
+impl Source for QuietSource {
+    ghost left = { λ s. Some s };
+
+    ghost faults = { λ _. 0 };
+
+    /// `End` where nothing is left, and else as many bytes as the buffer and what is left allow.
+    fn read(&mut self, buf: &mut [u8]) -> Read
+        requires { 0 < length buf.old }
+        ensures bytes { Reads (Some self.old) (Some self.new) buf.new result }
+        ensures cause { ReadHasCause 0 0 result }
+        ensures buffer { Fills self.old buf.old buf.new result }
+        ensures most { GivesFront self.old self.new (length buf.old) result }
+    {
+        match self.tape.give(buf, buf.len()) {
+            0 => Read::End,
+            count => Read::Got(count),
+        }
+    }
+}

@@ -1,0 +1,33 @@
+//! Where the bytes of a run go.
+ghost use Rattle.std.specs.Prelude.{ℕ, ◌<◌, List, Option, length};
+
+/// What one [`Sink::write`] answers.
+#[derive(Clone, Copy, Debug, PartialEq, Eq)]
+pub enum Write {
+    /// So many of the bytes offered, at least one, were taken, from the front.
+    Took(usize),
+
+    /// The sink failed, and took none of the bytes.
+    Failed,
+}
+
+/// Takes bytes in order, a piece at a time.
+pub trait Sink {
+    ghost use Rattle.aia_io.specs.Ends.{Writes, WriteHasCause};
+
+    // The bytes taken so far, where the sink tells them.
+    ghost taken: { Self → Option (List ℕ) };
+
+    // How often the sink itself failed. It never falls, and stays at the greatest u64.
+    ghost faults: { Self → ℕ };
+
+    /// Takes bytes from the front of `bytes`, which isn't empty.
+    ///
+    /// `Took(n)`: the first n, with n between 1 and `bytes.len()`, now stand behind those taken
+    /// before. `Failed`: the count of faults rose (or stood at its last value), and where the sink
+    /// tells its bytes, they are as before.
+    fn write(&mut self, bytes: &[u8]) -> Write
+        requires { 0 < length bytes.now }
+        ensures bytes { Writes (taken self.old) (taken self.new) bytes.now result }
+        ensures cause { WriteHasCause (faults self.old) (faults self.new) result };
+}

@@ -1,0 +1,36 @@
+//! Where the bytes of a run come from.
+ghost use Rattle.std.specs.Prelude.{ℕ, ◌<◌, List, Option, length};
+
+/// What one [`Source::read`] answers.
+#[derive(Clone, Copy, Debug, PartialEq, Eq)]
+pub enum Read {
+    /// So many bytes, at least one, are now at the front of the buffer.
+    Got(usize),
+
+    /// No byte is left.
+    End,
+
+    /// The source failed, and no byte was taken from it.
+    Failed,
+}
+
+/// Bytes in order, given a piece at a time.
+pub trait Source {
+    ghost use Rattle.aia_io.specs.Ends.{Reads, ReadHasCause};
+
+    // The bytes still to come, where the source tells them.
+    ghost left: { Self → Option (List ℕ) };
+
+    // How often the source itself failed. It never falls, and stays at the greatest u64.
+    ghost faults: { Self → ℕ };
+
+    /// Puts the next bytes at the front of `buf`, which isn't empty.
+    ///
+    /// `Got(n)`: the first n of the bytes that were left, with n between 1 and `buf.len()`. `End`:
+    /// none was left. `Failed`: the count of faults rose (or stood at its last value), and nothing
+    /// was taken, so a later call may go on.
+    fn read(&mut self, buf: &mut [u8]) -> Read
+        requires { 0 < length buf.old }
+        ensures bytes { Reads (left self.old) (left self.new) buf.new result }
+        ensures cause { ReadHasCause (faults self.old) (faults self.new) result };
+}

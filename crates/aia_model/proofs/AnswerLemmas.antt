@@ -1,0 +1,56 @@
+-- Answers and histories by the refusal of a line.
+use Rattle.std.proofs.Common.{◌≡◌, ℕ, ◌%◌, Bool, true, false, ◌&&◌, not, cond, nat_eq, nat_lt, is_some, Option, Some, None, unwrap_or, refl, ap, ◌∙◌}
+use Rattle.std.specs.Option.{option_map}
+use Rattle.aia_regs.specs.declared.access.Csr.{Csr}
+use Rattle.aia_regs.specs.declared.access.Op.{Op}
+use Rattle.aia_model.specs.declared.line.Line.{Line}
+use Rattle.aia_model.specs.declared.line.Line.TheVariants.{Machine, Store, HostCsr}
+use Rattle.aia_model.specs.declared.answer.Answer.{Answer}
+use Rattle.aia_model.specs.declared.answer.Answer.TheVariants.{NoMachine, Again, Range, Illegal, Fault}
+use Rattle.aia_model.specs.Event.{History, has_machine, harts_of}
+use Rattle.aia_model.specs.FileOf.{FileName, SupervisorFile, supervisor_at, select_of}
+use Rattle.aia_model.specs.Refusal.{refusal, refusals, has_no_register, is_machine_size, lacks_machine, has_one_already, is_out_of_range, is_illegal, is_fault}
+use Rattle.aia_model.specs.Answer.{answer, after, accepted_answer, history_after}
+
+pub answered : (h : History) (line : Line) (r : Option Answer) → refusal h line ≡ r → answer h line ≡ unwrap_or r (accepted_answer h line)
+unfolding answer
+answered h line r e = ap (λ o. unwrap_or o (accepted_answer h line)) e
+
+pub after_by : (h : History) (line : Line) (r : Option Answer) → refusal h line ≡ r → after h line ≡ history_after r h line
+unfolding after
+after_by h line r e = ap (λ o. history_after o h line) e
+
+-- ---- the refusal of each form of line, where a machine stands
+
+pushed : {A B : Type 0} (f : A → B) (b : Bool) (x y : Option A) → option_map f (cond b x y) ≡ cond b (option_map f x) (option_map f y)
+pushed f true x y = refl
+pushed f false x y = refl
+
+-- the first word whose test holds, of five
+abbrev pub first_word : Bool → Bool → Bool → Bool → Bool → Option Answer
+first_word a b c d e = cond a (Some NoMachine) (cond b (Some Again) (cond c (Some Range) (cond d (Some Illegal) (cond e (Some Fault) None))))
+
+refusal_tests : (h : History) (line : Line) → refusal h line ≡ first_word (lacks_machine h line) (has_one_already h line) (is_out_of_range h line) (is_illegal h line) (is_fault h line)
+refusal_tests h line =
+    let word = λ (r : Answer × (History → Line → Bool)). r.0 in
+    pushed word (lacks_machine h line) _ _ ∙ ap (cond (lacks_machine h line) (Some NoMachine)) (
+      pushed word (has_one_already h line) _ _ ∙ ap (cond (has_one_already h line) (Some Again)) (
+        pushed word (is_out_of_range h line) _ _ ∙ ap (cond (is_out_of_range h line) (Some Range)) (
+          pushed word (is_illegal h line) _ _ ∙ ap (cond (is_illegal h line) (Some Illegal)) (pushed word (is_fault h line) _ _)
+        )
+      )
+    )
+
+pub machine_refusal : (h : History) (harts guests n sources : ℕ) → refusal h (Machine harts guests n sources) ≡ cond (has_machine h) (Some Again) (cond (not (is_machine_size harts guests n sources)) (Some Range) None)
+machine_refusal h harts guests n sources = refusal_tests h (Machine harts guests n sources)
+
+pub store_refusal : (h : History) (addr value : ℕ) → has_machine h ≡ true → refusal h (Store addr value) ≡ cond (not (nat_eq (addr % 4) 0 && is_some (supervisor_at h addr))) (Some Fault) None
+store_refusal h addr value there = refusal_tests h (Store addr value) ∙ ap (λ b. first_word (not b) false false false (not (nat_eq (addr % 4) 0 && is_some (supervisor_at h addr)))) there
+
+pub host_refusal : (h : History) (hart : ℕ) (csr : Csr) (op : Op) → has_machine h ≡ true
+    → refusal h (HostCsr hart csr op) ≡ cond (not (nat_lt hart (harts_of h))) (Some Range) (cond (has_no_register (select_of h (SupervisorFile hart)) csr) (Some Illegal) None)
+host_refusal h hart csr op there = refusal_tests h (HostCsr hart csr op) ∙ ap (λ b. first_word (not b) false (not (nat_lt hart (harts_of h))) (has_no_register (select_of h (SupervisorFile hart)) csr) false) there
+
+-- a line that makes no machine is refused where none stands
+pub no_machine_refusal : (h : History) (line : Line) → lacks_machine h line ≡ true → refusal h line ≡ Some NoMachine
+no_machine_refusal h line lacks = refusal_tests h line ∙ ap (λ b. first_word b (has_one_already h line) (is_out_of_range h line) (is_illegal h line) (is_fault h line)) lacks

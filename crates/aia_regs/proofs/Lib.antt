@@ -1,0 +1,2 @@
+pub mod ShowsLemmas
+pub mod RequestLemmas

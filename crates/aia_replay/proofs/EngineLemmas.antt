@@ -1,0 +1,74 @@
+-- What the first lines make of an engine.
+use Rattle.std.proofs.Common.{◌≡◌, ℕ, true, false, not, cond, List, [], ◌∷◌, length, All, Option, Some, None, MatchOption, unwrap_or, refl, sym, ap, subst, ◌∙◌, arith}
+use Rattle.std.specs.Prelude.{slice_get}
+use Rattle.std.proofs.lemmas.Bool.{cond-true, cond-false}
+use Rattle.std.proofs.lemmas.Option.{slice_get_within, get_or_from_slice_get}
+use Rattle.aia_file.specs.InterruptFile.{empty_file}
+use Rattle.aia_file.specs.FileState.{shown}
+use Rattle.aia_file.proofs.FileLemmas.{same_file}
+use Rattle.aia_model.specs.declared.line.Line.{Line}
+use Rattle.aia_model.specs.declared.line.Line.TheVariants.{Machine as MachineLine, Store, HostCsr}
+use Rattle.aia_model.specs.declared.answer.Answer.{Answer}
+use Rattle.aia_model.specs.declared.answer.Answer.TheVariants.{Okay, NoMachine, Range}
+use Rattle.aia_model.specs.Event.{History, has_machine, harts_of}
+use Rattle.aia_model.specs.Event.Event.{Accepted}
+use Rattle.aia_model.specs.FileOf.{SupervisorFile, select_of, file_of}
+use Rattle.aia_model.specs.Refusal.{refusal, lacks_machine, is_machine_size}
+use Rattle.aia_model.specs.Answer.{answer, after, history_after, accepted_answer}
+use Rattle.aia_model.proofs.AnswerLemmas.{answered, after_by, machine_refusal, no_machine_refusal}
+use Rattle.aia_model.proofs.FileLemmas.{file_step, select_step}
+use Rattle.aia_replay.specs.declared.machine.Hart.{Hart}
+use Rattle.aia_replay.specs.declared.machine.Machine.{Machine}
+use Rattle.aia_replay.specs.declared.engine.Engine.{Engine}
+use Rattle.aia_replay.specs.Stands.{HartStands, IsNewHart, IsNewMachine, MachineStands, StandsFor, Serves}
+
+-- ---- with no machine
+
+empty_history : (engine : Engine) (h : History) → engine.machine ≡ None → StandsFor engine h → h ≡ []
+empty_history engine h none stands = subst (λ (o : Option Machine). MatchOption o (h ≡ []) (λ m. MachineStands m h)) none stands
+
+still_none : (engine : Engine) (h : History) → engine.machine ≡ None → h ≡ [] → StandsFor engine h
+still_none engine h none empty = subst (λ (o : Option Machine). MatchOption o (h ≡ []) (λ m. MachineStands m h)) (sym none) empty
+
+-- a line that is refused where no machine stands
+pub refused_first : (old new : Engine) (line : Line) (word : Answer) → old.machine ≡ None → new.machine ≡ None → refusal [] line ≡ Some word → Serves old new line word
+refused_first old new line word was now is = record {
+  answers = λ h stands. sym (ap (λ x. answer x line) (empty_history old h was stands) ∙ answered [] line (Some word) is);
+  stands = λ h stands. still_none new (after h line) now (ap (λ x. after x line) (empty_history old h was stands) ∙ after_by [] line (Some word) is);
+}
+
+-- only a `machine` line is not refused so
+pub needs_machine : (line : Line) → ((harts guests n sources : ℕ) → line ≡ MachineLine harts guests n sources → ⊥) → refusal [] line ≡ Some NoMachine
+needs_machine (MachineLine harts guests n sources) other = absurd (other harts guests n sources refl)
+needs_machine (Store addr value) other = no_machine_refusal [] (Store addr value) refl
+needs_machine (HostCsr hart csr op) other = no_machine_refusal [] (HostCsr hart csr op) refl
+
+pub size_refused : (harts guests n sources : ℕ) → is_machine_size harts guests n sources ≡ false → refusal [] (MachineLine harts guests n sources) ≡ Some Range
+size_refused harts guests n sources out = machine_refusal [] harts guests n sources ∙ cond-true _ _ _ (ap not out)
+
+-- ---- the machine is made
+
+no_select : (x : ℕ) → 0 ≡ select_of [] (SupervisorFile x)
+unfolding select_of
+no_select x = refl
+
+new_hart : (hart : Hart) (harts guests n sources x : ℕ) → IsNewHart n hart → HartStands hart (Accepted (MachineLine harts guests n sources) ∷ []) x
+new_hart hart harts guests n sources x new = record {
+  file = same_file _ _ new.file ∙ sym (file_step (Accepted (MachineLine harts guests n sources)) [] (SupervisorFile x));
+  select = new.select ∙ no_select x ∙ sym (select_step (Accepted (MachineLine harts guests n sources)) [] (SupervisorFile x));
+}
+
+pub machine_made : (old new : Engine) (m : Machine) (harts guests n sources : ℕ) → old.machine ≡ None → new.machine ≡ Some m → is_machine_size harts guests n sources ≡ true → IsNewMachine harts n m → Serves old new (MachineLine harts guests n sources) Okay
+machine_made old new m harts guests n sources was now size fresh =
+    let line = MachineLine harts guests n sources in
+    let accepted : refusal [] line ≡ None = machine_refusal [] harts guests n sources ∙ cond-false _ _ _ (ap not size) in
+    let stands : MachineStands m (Accepted line ∷ []) = record {
+      there = refl;
+      harts = fresh.count;
+      each = λ x hart found. new_hart hart harts guests n sources x (subst (IsNewHart n) (get_or_from_slice_get m.harts.items x hart hart found) (fresh.fresh x hart (slice_get_within m.harts.items x hart found)));
+    } in
+    record {
+      answers = λ h given. sym (ap (λ x. answer x line) (empty_history old h was given) ∙ answered [] line None accepted);
+      stands = λ h given. subst (StandsFor new) (sym (ap (λ x. after x line) (empty_history old h was given) ∙ after_by [] line None accepted))
+          (subst (λ (o : Option Machine). MatchOption o ((Accepted line ∷ []) ≡ []) (λ m. MachineStands m (Accepted line ∷ []))) (sym now) stands);
+    }

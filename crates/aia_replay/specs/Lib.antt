@@ -1,0 +1,4 @@
+pub mod Buffered
+pub mod Stands
+pub mod Streams
+pub mod Runs

@@ -1,0 +1,80 @@
+ghost use Rattle.std.specs.Prelude.{◌≡◌, ℕ, ◌+◌, ◌*◌, ◌^◌, ◌<◌, ◌≤◌, List, [], ◌++◌, length, Option, OnOk, OnErr};
+ghost use Rattle.std.specs.Io.KnownBytes.{Appends};
+ghost use Rattle.aia_io.specs.Ends.{Rose};
+ghost use Rattle.aia_model.specs.AnswerText.{answer_text};
+ghost use Rattle.aia_replay.specs.Buffered.{Passes};
+
+use aia_io::{Sink, Write};
+use aia_script::{Answer, print_answer};
+use arrayvec::ArrayVec;
+
+/// The sink failed, and its count of faults rose.
+#[derive(Clone, Copy, Debug, PartialEq, Eq)]
+pub struct SinkFault;
+
+/// Answers on their way to a sink, at most 4,096 bytes at a time.
+#[derive(Drop)]
+pub struct Buffered {
+    bytes: ArrayVec<u8, 4096>,
+}
+
+impl Buffered {
+    /// With no bytes waiting.
+    pub fn new() -> Buffered
+        ensures { result.bytes.items ≡ [] }
+    {
+        Buffered { bytes: ArrayVec::new() }
+    }
+
+    /// Adds bytes; where they don't fit, those that wait are written first.
+    fn add<K: Sink>(&mut self, sink: &mut K, bytes: &[u8]) -> Result<(), SinkFault>
+        requires { length bytes.now ≤ 4096 }
+        ensures ok { OnOk result (Passes self.old.bytes.items self.new.bytes.items (K.taken sink.old) (K.taken sink.new) bytes.now) }
+        ensures err { OnErr result (Rose (K.faults sink.old) (K.faults sink.new)) }
+        ensures later { K.faults sink.old ≤ K.faults sink.new }
+    {
+        if self.bytes.try_extend_from_slice(bytes).is_err() {
+            self.write_out(sink)?;
+            let _ = self.bytes.try_extend_from_slice(bytes);
+        }
+        Ok(())
+    }
+
+    /// Adds an answer, with its LF.
+    pub fn add_answer<K: Sink>(&mut self, sink: &mut K, answer: &Answer) -> Result<(), SinkFault>
+        ensures ok { OnOk result (Passes self.old.bytes.items self.new.bytes.items (K.taken sink.old) (K.taken sink.new) (answer_text answer.now)) }
+        ensures err { OnErr result (Rose (K.faults sink.old) (K.faults sink.new)) }
+        ensures later { K.faults sink.old ≤ K.faults sink.new }
+    {
+        let mut text = ArrayVec::new();
+        print_answer(answer, &mut text);
+        self.add(sink, text.as_slice())
+    }
+
+    /// Writes all bytes that wait.
+    pub fn write_out<K: Sink>(&mut self, sink: &mut K) -> Result<(), SinkFault>
+        ensures ok { OnOk result (Appends (K.taken sink.old) (K.taken sink.new) self.old.bytes.items) }
+        ensures empty { OnOk result (self.new.bytes.items ≡ []) }
+        ensures err { OnErr result (Rose (K.faults sink.old) (K.faults sink.new)) }
+        ensures later { K.faults sink.old ≤ K.faults sink.new }
+    {
+        write_all(sink, self.bytes.as_slice())?;
+        self.bytes.clear();
+        Ok(())
+    }
+}
+
+fn write_all<K: Sink>(sink: &mut K, bytes: &[u8]) -> Result<(), SinkFault>
+    ensures ok { OnOk result (Appends (K.taken sink.old) (K.taken sink.new) bytes.now) }
+    ensures err { OnErr result (Rose (K.faults sink.old) (K.faults sink.new)) }
+    ensures later { K.faults sink.old ≤ K.faults sink.new }
+{
+    let mut at = 0;
+    while at < bytes.len() {
+        match sink.write(&bytes[at..]) {
+            Write::Took(n) => at += n,
+            Write::Failed => return Err(SinkFault),
+        }
+    }
+    Ok(())
+}

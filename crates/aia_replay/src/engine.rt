@@ -1,0 +1,63 @@
+ghost use Rattle.std.specs.Prelude.{◌≡◌, [], IfOk, OnErr};
+ghost use Rattle.aia_model.specs.Grammar.{IsListed};
+ghost use Rattle.aia_model.specs.Reading.{reading};
+ghost use Rattle.aia_replay.specs.Stands.{StandsFor, Serves, ServesText, WantsMachine, ReadsAsMachine};
+
+use std::alloc::{AllocError, Global};
+
+use aia_script::{Answer, Line, Parsed, parse_line};
+
+use crate::machine::Machine;
+
+/// Answers lines, one after another, by the state that the lines before left.
+#[derive(Drop)]
+pub struct Engine {
+    machine: Option<Machine>,
+}
+
+impl Engine {
+    /// An engine with no machine.
+    pub fn new() -> Engine
+        ensures { StandsFor result [] }
+    {
+        Engine { machine: None }
+    }
+
+    /// Answers a line. Only an accepted `machine` line takes memory; where there is none, no machine stands and all is as
+    /// before. A refused line changes nothing. The line's CSR is one that lines of its form name.
+    pub fn line(&mut self, alloc: Global, line: &Line) -> Result<Answer, AllocError>
+        requires { IsListed line.now }
+        ensures serves { IfOk result (Serves self.old self.new line.now) }
+        ensures err { OnErr result (self.new ≡ self.old) }
+        ensures memory { OnErr result (WantsMachine self.old line.now) }
+    {
+        if let Some(machine) = &mut self.machine {
+            return Ok(machine.line(line));
+        }
+        let Line::Machine { harts, guests, n, sources } = *line else {
+            return Ok(Answer::NoMachine);
+        };
+        let Some(machine) = Machine::of_size(alloc, harts, guests, n, sources)? else {
+            return Ok(Answer::Range);
+        };
+        self.machine = Some(machine);
+        Ok(Answer::Okay)
+    }
+
+    /// Answers a text of a script, by what it reads as: `None` exactly for a skipped text, and `Bad` for one that is neither
+    /// skipped nor a line. Both change nothing.
+    pub fn text(&mut self, alloc: Global, text: &[u8]) -> Result<Option<Answer>, AllocError>
+        ensures serves { IfOk result (ServesText self.old self.new (reading text.now)) }
+        ensures err { OnErr result (self.new ≡ self.old) }
+        ensures memory { OnErr result (ReadsAsMachine self.old (reading text.now)) }
+    {
+        match parse_line(text) {
+            Parsed::Line(line) => {
+                let answer = self.line(alloc, &line)?;
+                Ok(Some(answer))
+            }
+            Parsed::Skip => Ok(None),
+            Parsed::Bad => Ok(Some(Answer::Bad)),
+        }
+    }
+}

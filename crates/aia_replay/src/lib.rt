@@ -1,0 +1,12 @@
+//! The engine that answers lines, and the run from a source's bytes to a sink's.
+#![tactic(auto)]
+
+mod buffered;
+mod engine;
+mod machine;
+mod program;
+mod replayer;
+mod stop;
+
+pub use engine::Engine;
+pub use program::{Status, run};

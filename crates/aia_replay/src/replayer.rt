@@ -1,0 +1,136 @@
+ghost use Rattle.std.specs.Prelude.{◌≡◌, ℕ, ◌+◌, ◌*◌, ◌<◌, ◌≤◌, List, [], ◌∷◌, ◌++◌, length, take, Option, IfOk, OnOk, OnErr, Ok, Err};
+ghost use Rattle.aia_io.specs.Ends.{Rose};
+ghost use Rattle.aia_replay.specs.Runs.{TakesAtMost};
+
+use std::alloc::Global;
+
+use aia_io::{Read, Sink, Source};
+use arrayvec::ArrayVec;
+
+use crate::buffered::{Buffered, SinkFault};
+use crate::engine::Engine;
+use crate::program::Status;
+use crate::stop::Stop;
+
+/// The byte that ends a line.
+const LF: u8 = b'\n';
+
+/// The most bytes that one read asks for.
+const PIECE: usize = 4096;
+
+/// The most bytes that a script has.
+const LIMIT: usize = 16_777_216;
+
+/// One byte more than the longest line has, so that a longer one shows.
+const LINE: usize = 129;
+
+/// Answers a script that comes in pieces: the engine, the line that is being read, and the answers that wait.
+#[derive(Drop)]
+pub struct Replayer {
+    engine: Engine,
+    line: ArrayVec<u8, 129>,
+    out: Buffered,
+}
+
+impl Replayer {
+    ghost use Rattle.aia_replay.specs.Streams.{Begins, Feeds, Finishes, Streams, AnswersLine};
+
+    /// A replayer that has read nothing.
+    pub fn new() -> Replayer
+        ensures { Begins result }
+    {
+        Replayer {
+            engine: Engine::new(),
+            line: ArrayVec::new(),
+            out: Buffered::new(),
+        }
+    }
+
+    /// Keeps a part of a line, as far as there is room.
+    fn keep(&mut self, part: &[u8])
+        ensures line { self.new.line.items ≡ take 129 (self.old.line.items ++ part.now) }
+        ensures others { self.new ≡ record self.old { line = self.new.line } }
+    {
+        let room = self.line.remaining_capacity();
+        let _ = self.line.try_extend_from_slice(&part[..part.len().min(room)]);
+    }
+
+    /// Answers the line that was read, and begins the next one.
+    fn end_line<K: Sink>(&mut self, alloc: Global, sink: &mut K) -> Result<(), Stop>
+        ensures ok { OnOk result (AnswersLine self.old self.new (K.taken sink.old) (K.taken sink.new)) }
+        ensures sink { result ≡ Err Stop.Sink → Rose (K.faults sink.old) (K.faults sink.new) }
+        ensures later { K.faults sink.old ≤ K.faults sink.new }
+    {
+        if let Some(answer) = self.engine.text(alloc, self.line.as_slice())? {
+            self.out.add_answer(sink, &answer)?;
+        }
+        self.line.clear();
+        Ok(())
+    }
+
+    /// Reads a piece of the script: answers each line that ends in it, and keeps what is left of the last one.
+    fn feed<K: Sink>(&mut self, alloc: Global, sink: &mut K, piece: &[u8]) -> Result<(), Stop>
+        ensures ok { OnOk result (Feeds self.old self.new (K.taken sink.old) (K.taken sink.new) piece.now) }
+        ensures sink { result ≡ Err Stop.Sink → Rose (K.faults sink.old) (K.faults sink.new) }
+        ensures later { K.faults sink.old ≤ K.faults sink.new }
+    {
+        let mut rest = piece;
+        while let Some(end) = rest.iter().position(|byte| *byte == LF) {
+            self.keep(&rest[..end]);
+            self.end_line(alloc, sink)?;
+            rest = &rest[end + 1..];
+        }
+        self.keep(rest);
+        Ok(())
+    }
+
+    /// Answers a last line with no LF, where there is one, and writes all that waits.
+    fn finish<K: Sink>(&mut self, alloc: Global, sink: &mut K) -> Result<(), Stop>
+        ensures ok { OnOk result (Finishes self.old (K.taken sink.old) (K.taken sink.new)) }
+        ensures sink { result ≡ Err Stop.Sink → Rose (K.faults sink.old) (K.faults sink.new) }
+        ensures later { K.faults sink.old ≤ K.faults sink.new }
+    {
+        if !self.line.is_empty() {
+            self.end_line(alloc, sink)?;
+        }
+        self.out.write_out(sink)?;
+        Ok(())
+    }
+
+    /// Reads the source to its end, or to its limit, and answers what it gives: `Done`, `ReadFault` or `TooLong`.
+    pub fn read_all<S: Source, K: Sink>(&mut self, alloc: Global, source: &mut S, sink: &mut K) -> Result<Status, Stop>
+        requires { Begins self.old }
+        ensures ok { IfOk result (λ status. Streams status (S.left source.old) (S.left source.new) (K.taken sink.old) (K.taken sink.new)) }
+        ensures source { result ≡ Ok Status.ReadFault → Rose (S.faults source.old) (S.faults source.new) }
+        ensures sink { result ≡ Err Stop.Sink → Rose (K.faults sink.old) (K.faults sink.new) }
+        ensures bound { TakesAtMost 16777217 (S.left source.old) (S.left source.new) }
+        ensures later { (S.faults source.old ≤ S.faults source.new) × (K.faults sink.old ≤ K.faults sink.new) }
+    {
+        let mut piece = [0; PIECE];
+        let mut taken: usize = 0;
+        loop {
+            self.out.write_out(sink)?;
+            let asked = (LIMIT - taken).clamp(1, PIECE);
+            match source.read(&mut piece[..asked]) {
+                Read::Got(_) if taken == LIMIT => return Ok(Status::TooLong),
+                Read::Got(n) => {
+                    self.feed(alloc, sink, &piece[..n])?;
+                    taken += n;
+                }
+                Read::End => {
+                    self.finish(alloc, sink)?;
+                    return Ok(Status::Done);
+                }
+                Read::Failed => return Ok(Status::ReadFault),
+            }
+        }
+    }
+
+    /// Writes all answers that wait.
+    pub fn write_out<K: Sink>(&mut self, sink: &mut K) -> Result<(), SinkFault>
+        ensures err { OnErr result (Rose (K.faults sink.old) (K.faults sink.new)) }
+        ensures later { K.faults sink.old ≤ K.faults sink.new }
+    {
+        self.out.write_out(sink)
+    }
+}
