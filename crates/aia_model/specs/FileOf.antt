@@ -1,5 +1,5 @@
 -- The interrupt file that a history gives: each of its bits is what the newest word of it says.
-use Rattle.std.specs.Prelude.{ℕ, ◌%◌, Bool, nat_eq, if◌then◌else◌, List, [], ◌∷◌, Option}
+use Rattle.std.specs.Prelude.{ℕ, ◌%◌, Bool, nat_eq, if◌then◌else◌, [], ◌∷◌, Option}
 use Rattle.aia_word.specs.Sets.{least_of}
 use Rattle.aia_regs.specs.declared.access.Csr.{Csr}
 use Rattle.aia_regs.specs.declared.access.Csr.TheVariants.{Select, Reg, Topei}
@@ -32,10 +32,10 @@ supervisor_at h addr = least_of (λ hart. is_at (SupervisorFile hart) addr) 0 (h
 -- ---- what an event does at one file
 
 pub data Deed : Type 0 where
-  Makes : (n : ℕ) → Deed                      -- the file comes to be, with the identities 1 to n
-  Accesses : (csr : Csr) (op : Op) → Deed     -- the file's own hart does a CSR instruction
-  Stores : (offset value : ℕ) → Deed          -- 32 bits are stored at an offset of its page
-  Rests : Deed                                -- nothing
+  Makes : (n : ℕ) → Deed  -- the file comes to be, with the identities 1 to n
+  Accesses : (csr : Csr) (op : Op) → Deed  -- the file's own hart does a CSR instruction
+  Stores : (offset value : ℕ) → Deed  -- 32 bits are stored at an offset of its page
+  Rests : Deed  -- nothing
 
 abbrev pub deed_at : History → FileName → Event → Deed
 deed_at past f (Accepted (Machine harts guests n sources)) = Makes n

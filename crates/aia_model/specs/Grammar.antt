@@ -13,8 +13,8 @@ pub data Field : Type 0 where
   Keyword : (word : List ℕ) → Field
   Decimal : (n : ℕ) → Field
   Hex : (n : ℕ) → Field
-  Hex32 : (n : ℕ) → Field      -- below 2^32
-  Unspelled : Field            -- no word spells it
+  Hex32 : (n : ℕ) → Field  -- below 2^32
+  Unspelled : Field  -- no word spells it
 
 -- Whether a word spells a field.
 abbrev pub Fits : List ℕ → Field → Type 0

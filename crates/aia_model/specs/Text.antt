@@ -1,5 +1,5 @@
 -- A script as texts, a text as words, and the numbers that words spell.
-use Rattle.std.specs.Prelude.{ℕ, ◌+◌, ◌-◌, ◌*◌, ◌^◌, Bool, true, false, ◌&&◌, nat_eq, nat_lt, nat_le, if◌then◌else◌, List, [], ◌∷◌, length, Option, Some, None}
+use Rattle.std.specs.Prelude.{ℕ, ◌+◌, ◌-◌, ◌*◌, ◌^◌, Bool, true, ◌&&◌, nat_eq, nat_lt, nat_le, if◌then◌else◌, List, [], ◌∷◌, length, Option, Some, None}
 use Rattle.std.specs.Int.{is_in_range}
 use Rattle.std.specs.List.{onto_first, slice_split}
 
@@ -20,7 +20,6 @@ is_skipped (b ∷ bytes) = nat_le (length (b ∷ bytes)) 128 && nat_eq b 35
 -- ---- numbers
 
 infixl 10 ◌>>=◌
-
 -- What comes of a value, where there is one.
 abbrev pub ◌>>=◌ : {A B : Type 0} → Option A → (A → Option B) → Option B
 None >>= f = None

@@ -5,9 +5,21 @@ use aia_regs::{Csr, Op};
 pub enum Line {
     /// `machine H G N S`: makes the machine of `harts` harts, `guests` guest files a hart, the identities 1 to `n` and
     /// `sources` wired sources.
-    Machine { harts: u64, guests: u64, n: u64, sources: u64 },
+    Machine {
+        harts: u64,
+        guests: u64,
+        n: u64,
+        sources: u64,
+    },
     /// `st A V`: a device stores 32 bits.
-    Store { addr: u64, value: u32 },
+    Store {
+        addr: u64,
+        value: u32,
+    },
     /// `h H csrr CSR` and its kin: a hart reaches a CSR of supervisor level.
-    HostCsr { hart: u64, csr: Csr, op: Op },
+    HostCsr {
+        hart: u64,
+        csr: Csr,
+        op: Op,
+    },
 }

@@ -14,3 +14,6 @@ pub use aia_model::{Answer, Line, Parsed};
 pub use aia_regs::{Csr, Op};
 pub use parse::parse_line;
 pub use print::print_answer;
+
+#[cfg(test)]
+mod tests;

@@ -13,6 +13,7 @@ fn push_text(out: &mut ArrayVec<u8, 64>, text: &[u8])
     ensures text { out.new.items ≡ out.old.items ++ text.now }
     ensures length { array_vec_len out.new ≡ array_vec_len out.old + length text.now }
 {
+    // There is room, so this never fails.
     let _ = out.try_extend_from_slice(text);
 }
 
@@ -39,7 +40,7 @@ fn push_digits(out: &mut ArrayVec<u8, 64>, value: u64)
     }
 }
 
-/// Prints an answer into `out`, which is empty: its word and an LF.
+/// Prints an answer into `out`, which is empty: its word and an LF, at most 64 bytes in all.
 ///
 /// The words are our profile's choice.
 #[tactic(auto, unfolding(aia_model::specs::AnswerText::answer_text))]

@@ -1,4 +1,4 @@
-use Rattle.std.proofs.Common.{sym, ◌∙◌}
+use Rattle.std.proofs.Common.{sym}
 use Rattle.aia_script.proofs.WordLemmas.{cut_word, last_word}
 use Rattle.aia_script.proofs.words.word_at.Goals as goal
 

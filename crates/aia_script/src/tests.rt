@@ -1,0 +1,74 @@
+use super::*;
+use arrayvec::ArrayVec;
+
+fn machine(harts: u64, guests: u64, n: u64, sources: u64) -> Parsed {
+    Parsed::Line(Line::Machine {
+        harts,
+        guests,
+        n,
+        sources,
+    })
+}
+
+fn store(addr: u64, value: u32) -> Parsed {
+    Parsed::Line(Line::Store { addr, value })
+}
+
+fn host(hart: u64, csr: Csr, op: Op) -> Parsed {
+    Parsed::Line(Line::HostCsr { hart, csr, op })
+}
+
+#[test]
+fn texts_are_read_by_the_grammar(rt: HostRuntime) {
+    let texts = [
+        ("machine 4 1 63 8", machine(4, 1, 63, 8)),
+        ("machine 0x0 0 0x3f 0x0008", machine(0, 0, 63, 8)),
+        ("machine 04 1 63 8", Parsed::Bad),
+        ("st 0x28000000 5", store(671088640, 5)),
+        ("st 0 4294967295", store(0, 4294967295)),
+        ("st 0 4294967296", Parsed::Bad),
+        ("st 0x00000000000000ab 0", store(171, 0)),
+        ("st 0x000000000000000ab 0", Parsed::Bad),
+        ("st 0xAB 0", Parsed::Bad),
+        ("st 0x 0", Parsed::Bad),
+        ("st 18446744073709551615 0", store(u64::MAX, 0)),
+        ("st 18446744073709551616 0", Parsed::Bad),
+        ("st  0 0", Parsed::Bad),
+        ("st 0 0 ", Parsed::Bad),
+        ("st 0", Parsed::Bad),
+        ("h 3 csrr stopei", host(3, Csr::Topei, Op::Read)),
+        ("h 0 csrr siselect", host(0, Csr::Select, Op::Read)),
+        ("h 3 csrrw sireg 0xc0", host(3, Csr::Reg, Op::Write(192))),
+        ("h 3 csrr sireg 0", Parsed::Bad),
+        ("h 3 csrr mireg", Parsed::Bad),
+        ("h 3 csrrs sireg 1", Parsed::Bad),
+        ("m 3 csrr mtopei", Parsed::Bad),
+        ("# st 0 0", Parsed::Skip),
+        ("", Parsed::Skip),
+    ];
+    for (text, want) in texts {
+        assert_eq!(rt; parse_line(text.as_bytes()), want, "at {text}");
+    }
+    assert_eq!(rt; parse_line(&[b'#'; 128]), Parsed::Skip);
+    assert_eq!(rt; parse_line(&[b'#'; 129]), Parsed::Bad);
+}
+
+#[test]
+fn answers_are_printed(rt: HostRuntime) {
+    let answers = [
+        (Answer::Okay, "ok\n"),
+        (Answer::Wide(0), "0x0000000000000000\n"),
+        (Answer::Wide(0x0123_4567_89ab_cdef), "0x0123456789abcdef\n"),
+        (Answer::Bad, "bad\n"),
+        (Answer::NoMachine, "nomachine\n"),
+        (Answer::Again, "again\n"),
+        (Answer::Range, "range\n"),
+        (Answer::Illegal, "illegal\n"),
+        (Answer::Fault, "fault\n"),
+    ];
+    for (answer, want) in answers {
+        let mut out = ArrayVec::new();
+        print_answer(&answer, &mut out);
+        assert_eq!(rt; out.as_slice(), want.as_bytes());
+    }
+}
