@@ -1,2 +1,3 @@
 pub mod ShowsLemmas
 pub mod RequestLemmas
+pub mod RegisterLemmas

@@ -4,7 +4,10 @@
 mod access;
 pub mod address_map;
 mod file_registers;
+pub mod laws;
 mod request;
+#[cfg(test)]
+mod tests;
 
 pub use access::{Csr, Op};
 pub use file_registers::{FileReg, file_reg};

@@ -4,6 +4,9 @@
 #![tactic(auto)]
 
 mod bits;
+pub mod laws;
 pub mod sets;
+#[cfg(test)]
+mod tests;
 
 pub use bits::least_one;
