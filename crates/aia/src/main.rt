@@ -1,13 +1,11 @@
 //! `aia replay`: reads a script from standard input and prints the answers of its lines.
 #![tactic(auto)]
 
-use std::alloc::AllocError;
-use std::env;
-use std::io;
-use std::process::ExitCode;
-
 use aia_io::{StdSink, StdSource};
 use aia_replay::{Status, run};
+use std::alloc::AllocError;
+use std::process::ExitCode;
+use std::{env, io};
 
 fn main(rt: HostRuntime) -> ExitCode {
     let status = match arguments(&rt) {

@@ -39,8 +39,8 @@ pub no_end_before : (bytes : List ℕ) (i : ℕ) → position is_end bytes ≡ S
 no_end_before bytes i e =
     let p = position_some is_end bytes i e in
     All-from_get_or (λ b. is_end b ≡ false) (take i bytes) 0 (λ k low.
-        let within : k < i = omega (arith, length-take i bytes) in
-        ap is_end (get_or-take i bytes k 0 within) ∙ fails_before_first is_end bytes k 0 (omega arith))
+    let within : k < i = omega (arith, length-take i bytes) in
+    ap is_end (get_or-take i bytes k 0 within) ∙ fails_before_first is_end bytes k 0 (omega arith))
 
 is_ten : (b : ℕ) → is_end b ≡ true → b ≡ 10
 is_ten b e = grind arith

@@ -123,8 +123,8 @@ accessed_at m n k old new csr op value was given done e =
       access_refusal m k old csr op h was stands ∙ cond-false _ _ _ found.0,
       ap Wide (sym found.1 ∙ csr_stands old h k csr (stands.each k old was)),
       one_hart m n k new h (Accepted (HostCsr k csr op) ∷ h) e stands refl refl
-      (hart_step old new h k (Accepted (HostCsr k csr op)) (Accesses csr op) (own_access h k csr op) done (stands.each k old was))
-      (λ x hart ne s. hart_rests hart h x (Accepted (HostCsr k csr op)) (other_access h k x csr op ne) s),
+          (hart_step old new h k (Accepted (HostCsr k csr op)) (Accesses csr op) (own_access h k csr op) done (stands.each k old was))
+          (λ x hart ne s. hart_rests hart h x (Accepted (HostCsr k csr op)) (other_access h k x csr op ne) s),
     ))
 
 pub no_register_at : (m n : Machine) (k : ℕ) (old new : Hart) (csr : Csr) (op : Op) → slice_get m.harts.items k ≡ Some old
@@ -177,8 +177,8 @@ store_lands m n k offset addr value old new was aligned placed low done e =
       store_refusal h addr value stands.there ∙ ap (λ o. cond (not (nat_eq (addr % 4) 0 && is_some o)) (Some Fault) None) (page_found h addr k offset placed low (omega (arith, stands.harts))) ∙ ap (λ b. cond (not (b && true)) (Some Fault) None) (eq-eqb (addr % 4) 0 aligned),
       refl,
       one_hart m n k new h (Accepted (Store addr value) ∷ h) e stands refl refl
-      (hart_step old new h k (Accepted (Store addr value)) (Stores offset value) (store_here h (SupervisorFile k) addr value (in_page addr k offset placed low) ∙ ap (λ o. Stores o value) at) done (stands.each k old was))
-      (λ x hart ne s. hart_rests hart h x (Accepted (Store addr value)) (store_elsewhere h (SupervisorFile x) addr value (not_in_page addr k x offset placed low ne)) s),
+          (hart_step old new h k (Accepted (Store addr value)) (Stores offset value) (store_here h (SupervisorFile k) addr value (in_page addr k offset placed low) ∙ ap (λ o. Stores o value) at) done (stands.each k old was))
+          (λ x hart ne s. hart_rests hart h x (Accepted (Store addr value)) (store_elsewhere h (SupervisorFile x) addr value (not_in_page addr k x offset placed low ne)) s),
     ))
 
 -- ---- a new machine

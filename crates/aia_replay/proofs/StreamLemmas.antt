@@ -83,8 +83,8 @@ line_ended old new before mid now bytes line holds =
     let read : reading old.line.items ≡ reading holds.tail = ap reading holds.line ∙ reading_take holds.tail in
     let reply = printed (text_answer h (reading holds.tail)) in
     let goes = λ (more : List ℕ). let e : (holds.written ++ reply) ++ answers_from (after_text h (reading holds.tail)) (texts_of more) ≡ answers ((bytes ++ 10 ∷ []) ++ more) =
-          append_assoc holds.written reply (answers_from (after_text h (reading holds.tail)) (texts_of more)) ∙ sym (ap (λ ts. holds.written ++ answers_from h ts) (texts_front holds.tail more holds.no_end))
-          ∙ holds.completes (10 ∷ more) ∙ ap answers (sym (append_assoc bytes (10 ∷ []) more)) in e in
+    append_assoc holds.written reply (answers_from (after_text h (reading holds.tail)) (texts_of more)) ∙ sym (ap (λ ts. holds.written ++ answers_from h ts) (texts_front holds.tail more holds.no_end))
+    ∙ holds.completes (10 ∷ more) ∙ ap answers (sym (append_assoc bytes (10 ∷ []) more)) in e in
     record {
       history = after_text h (reading holds.tail);
       written = holds.written ++ reply;
@@ -151,7 +151,7 @@ finished_line old new before mid late now bytes some line wrote holds =
     let reply = printed (text_answer h (reading holds.tail)) in
     let one : texts_of holds.tail ≡ holds.tail ∷ [] = one_text holds.tail (omega (arith, ap length holds.line, length-take 129 holds.tail)) holds.no_end in
     let all : holds.written ++ reply ≡ answers bytes =
-        ap (λ r. holds.written ++ r) (sym (append-nil reply)) ∙ sym (ap (λ ts. holds.written ++ answers_from h ts) (ap texts_of (append-nil holds.tail) ∙ one)) ∙ holds.completes [] ∙ ap answers (append-nil bytes) in
+    ap (λ r. holds.written ++ r) (sym (append-nil reply)) ∙ sym (ap (λ ts. holds.written ++ answers_from h ts) (ap texts_of (append-nil holds.tail) ∙ one)) ∙ holds.completes [] ∙ ap answers (append-nil bytes) in
     let passed = passes_more old.out.bytes.items new.out.bytes.items before mid late holds.written reply holds.gathered (subst (λ (p : Parsed). Passes old.out.bytes.items new.out.bytes.items mid late (printed (text_answer h p))) read (line.answers h holds.stands)) in
     subst (Appends before now) all (all_written new.out.bytes.items before late now (holds.written ++ reply) passed wrote)
   where

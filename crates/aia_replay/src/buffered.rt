@@ -23,7 +23,9 @@ impl Buffered {
     pub fn new() -> Buffered
         ensures { result.bytes.items ≡ [] }
     {
-        Buffered { bytes: ArrayVec::new() }
+        Buffered {
+            bytes: ArrayVec::new(),
+        }
     }
 
     /// Adds bytes; where they don't fit, those that wait are written first.

@@ -3,11 +3,9 @@ ghost use Rattle.aia_model.specs.Grammar.{IsListed};
 ghost use Rattle.aia_model.specs.Reading.{reading};
 ghost use Rattle.aia_replay.specs.Stands.{StandsFor, Serves, ServesText, WantsMachine, ReadsAsMachine};
 
-use std::alloc::{AllocError, Global};
-
-use aia_script::{Answer, Line, Parsed, parse_line};
-
 use crate::machine::Machine;
+use aia_script::{Answer, Line, Parsed, parse_line};
+use std::alloc::{AllocError, Global};
 
 /// Answers lines, one after another, by the state that the lines before left.
 #[derive(Drop)]
@@ -34,7 +32,13 @@ impl Engine {
         if let Some(machine) = &mut self.machine {
             return Ok(machine.line(line));
         }
-        let Line::Machine { harts, guests, n, sources } = *line else {
+        let Line::Machine {
+            harts,
+            guests,
+            n,
+            sources,
+        } = *line
+        else {
             return Ok(Answer::NoMachine);
         };
         let Some(machine) = Machine::of_size(alloc, harts, guests, n, sources)? else {

@@ -10,12 +10,11 @@ ghost use Rattle.aia_model.specs.Refusal.{has_no_register, is_machine_size};
 ghost use Rattle.aia_model.specs.Answer.{csr_shown};
 ghost use Rattle.aia_replay.specs.Stands.{HasDone, MachineServes, IsNewHart, IsNewMachine};
 
-use std::alloc::{AllocError, Global};
-
 use aia_file::File;
 use aia_model::{Answer, Line};
 use aia_regs::address_map::{HART_STRIDE, PAGE, SUPERVISOR_FILES};
 use aia_regs::{Csr, FileReg, Op, file_reg};
+use std::alloc::{AllocError, Global};
 
 /// The select numbers that `siselect` keeps are below this.
 const SELECT_NUMBERS: u64 = 0x1000;
@@ -95,7 +94,13 @@ pub struct Machine {
 impl Machine {
     /// The machine of these numbers: 1 to 4 harts, up to 7 guest files a hart, identities 1 to `n` (63, 127, 255, 511,
     /// 1023 or 2047) and 1 to 1023 wired sources. `None` exactly where a number is none of these.
-    pub fn of_size(alloc: Global, harts: u64, guests: u64, n: u64, sources: u64) -> Result<Option<Machine>, AllocError>
+    pub fn of_size(
+        alloc: Global,
+        harts: u64,
+        guests: u64,
+        n: u64,
+        sources: u64,
+    ) -> Result<Option<Machine>, AllocError>
         ensures size { IfOk result (λ made. is_some made ≡ is_machine_size harts guests n sources) }
         ensures new { IfOk result (λ made. IfSome made (IsNewMachine harts n)) }
         ensures err { OnErr result (is_machine_size harts guests n sources ≡ true) }

@@ -3,12 +3,10 @@ ghost use Rattle.aia_io.specs.Ends.{Rose};
 ghost use Rattle.aia_replay.specs.Runs.{IsReplay, WritesAnswers, TakesAll, Takes, TakesAtMost};
 ghost use Rattle.std.specs.Io.KnownBytes.{Appends, Consumes};
 
-use std::alloc::Global;
-
-use aia_io::{Sink, Source};
-
 use crate::replayer::Replayer;
 use crate::stop::Stop;
+use aia_io::{Sink, Source};
+use std::alloc::Global;
 
 /// How a run ended.
 #[derive(Clone, Copy, Debug, PartialEq, Eq)]
@@ -32,7 +30,12 @@ pub enum Status {
 ///
 /// It returns always. Answers are written at the latest before the next read and before it returns. Memory is taken for the
 /// machine alone.
-pub fn run<S: Source, K: Sink>(alloc: Global, words: &[&str], source: &mut S, sink: &mut K) -> Status
+pub fn run<S: Source, K: Sink>(
+    alloc: Global,
+    words: &[&str],
+    source: &mut S,
+    sink: &mut K,
+) -> Status
     ensures usage { (result ≡ Status.Usage) ↔ (¬ IsReplay words.now) }
     ensures nothing { result ≡ Status.Usage → Consumes (S.left source.old) (S.left source.new) [] × Appends (K.taken sink.old) (K.taken sink.new) [] }
 

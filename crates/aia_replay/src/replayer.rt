@@ -4,15 +4,13 @@ ghost use Rattle.aia_io.specs.Ends.{Rose, ReadHasCause};
 ghost use Rattle.aia_replay.specs.Runs.{TakesAtMost};
 ghost use Rattle.aia_replay.specs.Streams.{ReadsFront};
 
-use std::alloc::Global;
-
-use aia_io::{Read, Sink, Source};
-use arrayvec::ArrayVec;
-
 use crate::buffered::{Buffered, SinkFault};
 use crate::engine::Engine;
 use crate::program::Status;
 use crate::stop::Stop;
+use aia_io::{Read, Sink, Source};
+use arrayvec::ArrayVec;
+use std::alloc::Global;
 
 /// The byte that ends a line.
 const LF: u8 = b'\n';
@@ -100,7 +98,12 @@ impl Replayer {
     }
 
     /// Reads the source to its end, or to its limit, and answers what it gives: `Done`, `ReadFault` or `TooLong`.
-    pub fn read_all<S: Source, K: Sink>(&mut self, alloc: Global, source: &mut S, sink: &mut K) -> Result<Status, Stop>
+    pub fn read_all<S: Source, K: Sink>(
+        &mut self,
+        alloc: Global,
+        source: &mut S,
+        sink: &mut K,
+    ) -> Result<Status, Stop>
         requires { Begins self.old }
         ensures ok { IfOk result (λ status. Streams status (S.left source.old) (S.left source.new) (K.taken sink.old) (K.taken sink.new)) }
         ensures source { result ≡ Ok Status.ReadFault → Rose (S.faults source.old) (S.faults source.new) }

@@ -1,6 +1,5 @@
-use std::alloc::AllocError;
-
 use crate::buffered::SinkFault;
+use std::alloc::AllocError;
 
 /// What ends a run before the source is read to its end, other than the source.
 #[derive(Clone, Copy, Debug, PartialEq, Eq)]
