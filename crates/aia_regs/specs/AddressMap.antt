@@ -1,11 +1,23 @@
--- Where the interrupt files of harts lie. Profile: all addresses of the map.
+-- Where the interrupt files of harts and the memory lie. Profile: all addresses of the map.
 use Rattle.std.specs.Prelude.{ℕ, ◌+◌, ◌*◌, Bool, ◌&&◌, nat_le, nat_lt}
+
+-- The first address of the page of a hart's machine-level file.
+abbrev pub machine_page : ℕ → ℕ
+machine_page hart = 0x24000000 + hart * 0x1000
 
 -- The first address of the page of a hart's supervisor file.
 abbrev pub supervisor_page : ℕ → ℕ
 supervisor_page hart = 0x28000000 + hart * 0x8000
 
+-- The first address of the page of a hart's guest file: the guest files 1, 2 .. follow the supervisor file.
+abbrev pub guest_page : ℕ → ℕ → ℕ
+guest_page hart file = supervisor_page hart + file * 0x1000
+
 -- Whether an address lies in the 4-KiB page that begins at `page`.
 -- AIA 1.0, IMSIC, "Memory region for an interrupt file": each file is a page.
 abbrev pub is_in_page : ℕ → ℕ → Bool
 is_in_page page addr = nat_le page addr && nat_lt addr (page + 0x1000)
+
+-- Whether an address lies in memory.
+abbrev pub is_in_memory : ℕ → Bool
+is_in_memory addr = nat_le 0x80000000 addr && nat_lt addr 0x80006000

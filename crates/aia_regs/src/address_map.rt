@@ -1,4 +1,7 @@
-//! Where the interrupt files of harts lie (our profile's choice).
+//! Where the interrupt files of harts and the memory lie (our profile's choice).
+
+/// The page of hart 0's machine-level file; each further hart's is the next page.
+pub const MACHINE_FILES: u64 = 0x2400_0000;
 
 /// The page of hart 0's supervisor file; each further hart's is [`HART_STRIDE`] bytes on.
 pub const SUPERVISOR_FILES: u64 = 0x2800_0000;
@@ -8,3 +11,9 @@ pub const HART_STRIDE: u64 = 0x8000;
 
 /// The bytes of one interrupt file's page.
 pub const PAGE: u64 = 0x1000;
+
+/// The first byte of memory.
+pub const MEMORY: u64 = 0x8000_0000;
+
+/// The first byte after memory.
+pub const MEMORY_END: u64 = 0x8000_6000;

@@ -1,0 +1,42 @@
+-- The access table: what an access to a CSR reaches, or how it is refused.
+use Rattle.std.specs.Prelude.{ℕ, Bool, if◌then◌else◌}
+use Rattle.aia_regs.specs.declared.access.Csr.{Csr}
+use Rattle.aia_regs.specs.declared.access.Csr.TheVariants as csrs
+use Rattle.aia_regs.specs.declared.access.Op.{Op}
+use Rattle.aia_regs.specs.declared.file_registers.FileReg.{FileReg}
+use Rattle.aia_regs.specs.declared.file_registers.FileReg.TheVariants.{Odd, Outside}
+use Rattle.aia_regs.specs.Operations.{is_writing}
+use Rattle.aia_regs.specs.FileRegisters.{register_of}
+use Rattle.aia_csr.specs.declared.access.Level.{Level}
+use Rattle.aia_csr.specs.declared.access.Level.TheVariants as levels
+use Rattle.aia_csr.specs.declared.access.Access.{Access}
+use Rattle.aia_csr.specs.declared.access.Access.TheVariants as reaches
+
+-- What an access to mireg or sireg reaches, by the register that the select number names. One that doesn't exist is illegal, but at a
+-- guest it raises a virtual-instruction fault.
+-- AIA 1.0, IMSIC, "Indirectly accessed interrupt-file registers". Profile: also where nothing is.
+abbrev pub register_at : Level → FileReg → Access
+register_at levels.Guest Odd = reaches.Virtual
+register_at levels.Guest Outside = reaches.Virtual
+register_at level Odd = reaches.Illegal
+register_at level Outside = reaches.Illegal
+register_at level reg = reaches.File reg
+
+-- The table, by level, CSR and instruction, the select number, and hvictl's VTI.
+-- AIA 1.0, IMSIC, and Interrupts for Virtual Machines (VS Level). A host's access to stopi, sip or sie is not modelled.
+abbrev pub access_of : Level → Csr → Op → ℕ → Bool → Access
+access_of level csrs.Select op select vti = reaches.Select
+access_of level csrs.Topei op select vti = reaches.Top
+access_of level csrs.Reg op select vti = register_at level (register_of select)
+access_of levels.Guest csrs.Topi op select vti = if is_writing op then reaches.Illegal else reaches.Topi
+access_of levels.Guest csrs.Sip op select vti = if vti then reaches.Virtual else reaches.Sip
+access_of levels.Guest csrs.Sie op select vti = if vti then reaches.Virtual else reaches.Sie
+access_of level csr op select vti = reaches.Illegal
+
+-- Whether a host's CSR is one of the table.
+abbrev pub IsInTable : Level → Csr → Type 0
+IsInTable levels.Guest csr = Unit {0}
+IsInTable level csrs.Select = Unit {0}
+IsInTable level csrs.Reg = Unit {0}
+IsInTable level csrs.Topei = Unit {0}
+IsInTable level csr = ⊥

@@ -1,0 +1,67 @@
+ghost use Rattle.std.specs.Prelude.{◌≡◌};
+ghost use Rattle.aia_csr.specs.Access.{access_of, IsInTable, register_at};
+
+use aia_regs::{Csr, FileReg, Op, file_reg};
+
+/// The privilege level of an access.
+#[derive(Clone, Copy, Debug, PartialEq, Eq)]
+pub enum Level {
+    /// Machine level: `miselect`, `mireg`, `mtopei`.
+    Machine,
+    /// Supervisor level of the host: `siselect`, `sireg`, `stopei`.
+    Host,
+    /// Supervisor level of a guest (VS): the same, `stopi`, `sip` and `sie`.
+    Guest,
+}
+
+/// What an access reaches, or the fault that it raises.
+#[derive(Clone, Copy, Debug, PartialEq, Eq)]
+pub enum Access {
+    /// The select number.
+    Select,
+    /// This register of the interrupt file.
+    File(FileReg),
+    /// The identity on top of the file.
+    Top,
+    /// The major interrupt on top, which can only be read.
+    Topi,
+    /// The pending majors.
+    Sip,
+    /// The enabled majors.
+    Sie,
+    /// An illegal-instruction fault.
+    Illegal,
+    /// A virtual-instruction fault.
+    Virtual,
+}
+
+/// What the access reaches, given the select number and whether hvictl's VTI is 1 (which only a guest's `sip` and `sie`
+/// ask for). A host's CSR is `Select`, `Reg` or `Topei`.
+///
+/// AIA 1.0, Incoming MSI Controller, and Interrupts for Virtual Machines (VS Level).
+pub fn decide(level: Level, csr: Csr, op: Op, select: u64, vti: bool) -> Access
+    requires { IsInTable level csr }
+    ensures { result ≡ access_of level csr op select vti }
+{
+    match csr {
+        Csr::Select => Access::Select,
+        Csr::Topei => Access::Top,
+        Csr::Reg => register(level, file_reg(select)),
+        Csr::Topi if op.is_writing() => Access::Illegal,
+        Csr::Topi => Access::Topi,
+        Csr::Sip | Csr::Sie if vti => Access::Virtual,
+        Csr::Sip => Access::Sip,
+        Csr::Sie => Access::Sie,
+    }
+}
+
+/// What an access by the select number reaches.
+fn register(level: Level, reg: FileReg) -> Access
+    ensures { result ≡ register_at level reg }
+{
+    match (reg, level) {
+        (FileReg::Odd | FileReg::Outside, Level::Guest) => Access::Virtual,
+        (FileReg::Odd | FileReg::Outside, Level::Machine | Level::Host) => Access::Illegal,
+        _ => Access::File(reg),
+    }
+}

@@ -1,0 +1,6 @@
+//! Which register an access to a CSR reaches, or which fault it raises.
+#![tactic(auto)]
+
+mod access;
+
+pub use access::{Access, Level, decide};

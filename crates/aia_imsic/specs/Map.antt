@@ -1,0 +1,45 @@
+-- The file in whose page an address lies.
+use Rattle.std.specs.Prelude.{ℕ, is_some, Option, Some, None}
+use Rattle.std.specs.Option.{option_map_or}
+use Rattle.aia_word.specs.Sets.{least_of}
+use Rattle.aia_regs.specs.AddressMap.{machine_page, supervisor_page, guest_page, is_in_page}
+use Rattle.aia_imsic.specs.declared.spot.Spot.{Spot}
+use Rattle.aia_imsic.specs.declared.spot.Spot.TheVariants.{MachineFile, HostFile, GuestFile, Nowhere}
+
+-- The hart in the page of whose machine-level file an address lies, of so many harts. Profile, like the whole map.
+abbrev pub machine_at : ℕ → ℕ → Option ℕ
+machine_at harts addr = least_of (λ hart. is_in_page (machine_page hart) addr) 0 harts
+
+-- The hart in the page of whose supervisor file it lies.
+abbrev pub supervisor_at : ℕ → ℕ → Option ℕ
+supervisor_at harts addr = least_of (λ hart. is_in_page (supervisor_page hart) addr) 0 harts
+
+-- The guest file of a hart in whose page it lies, of the guest files 1 to `guests`.
+abbrev pub guest_file_at : ℕ → ℕ → ℕ → Option ℕ
+guest_file_at guests hart addr = least_of (λ file. is_in_page (guest_page hart file) addr) 1 guests
+
+-- The hart that has such a guest file.
+abbrev pub guest_hart_at : ℕ → ℕ → ℕ → Option ℕ
+guest_hart_at harts guests addr = least_of (λ hart. is_some (guest_file_at guests hart addr)) 0 harts
+
+-- ---- the map: pages of machine-level, supervisor and guest files; all pages are apart
+
+abbrev pub guest_spot : ℕ → Option ℕ → Spot
+guest_spot hart None = Nowhere
+guest_spot hart (Some file) = GuestFile hart file
+
+abbrev pub guest_spot_of : ℕ → ℕ → Option ℕ → Spot
+guest_spot_of guests addr None = Nowhere
+guest_spot_of guests addr (Some hart) = guest_spot hart (guest_file_at guests hart addr)
+
+abbrev pub host_spot : Spot → Option ℕ → Spot
+host_spot other None = other
+host_spot other (Some hart) = HostFile hart
+
+abbrev pub machine_spot : Spot → Option ℕ → Spot
+machine_spot other None = other
+machine_spot other (Some hart) = MachineFile hart
+
+-- The file in whose page an address lies, of a machine of so many harts and guest files a hart; Nowhere where it lies in none.
+abbrev pub spot_at : ℕ → ℕ → ℕ → Spot
+spot_at harts guests addr = machine_spot (host_spot (guest_spot_of guests addr (guest_hart_at harts guests addr)) (supervisor_at harts addr)) (machine_at harts addr)
