@@ -1,11 +1,12 @@
 -- The spelling of lines, as a table of fields. Profile: the whole grammar is this project's own.
 use Rattle.std.specs.Prelude.{◌≡◌, ℕ, ◌^◌, ◌<◌, ◌≤◌, List, [], ◌∷◌, length, Some, codes}
 use Rattle.aia_model.specs.declared.line.Line.{Line}
-use Rattle.aia_model.specs.declared.line.Line.TheVariants.{Machine, Store, HostCsr}
+use Rattle.aia_model.specs.declared.line.Line.TheVariants.{Machine, Load, Store, MachineCsr, HostCsr}
 use Rattle.aia_regs.specs.declared.access.Csr.{Csr}
 use Rattle.aia_regs.specs.declared.access.Csr.TheVariants.{Select, Reg, Topei}
 use Rattle.aia_regs.specs.declared.access.Op.{Op}
-use Rattle.aia_regs.specs.declared.access.Op.TheVariants.{Read, Write}
+use Rattle.aia_regs.specs.declared.access.Op.TheVariants.{Read, Write, Set}
+use Rattle.aia_regs.specs.declared.access.Op.TheVariants as ops
 use Rattle.aia_model.specs.Text.{words_of, number_of}
 
 -- One word of a line: a keyword, or a number, which our own printing writes in decimal or in hexadecimal.
@@ -32,6 +33,13 @@ AllFit words fields = ⊥
 
 -- ---- the table of lines
 
+-- The names of the CSRs at machine level.
+abbrev pub machine_csr : Csr → Field
+machine_csr Select = Keyword (codes "miselect")
+machine_csr Reg = Keyword (codes "mireg")
+machine_csr Topei = Keyword (codes "mtopei")
+machine_csr csr = Unspelled
+
 -- The names of the CSRs at supervisor level.
 abbrev pub supervisor_csr : Csr → Field
 supervisor_csr Select = Keyword (codes "siselect")
@@ -48,12 +56,15 @@ IsNamed field = Unit {0}
 abbrev pub instruction : Field → Op → List Field
 instruction csr Read = Keyword (codes "csrr") ∷ csr ∷ []
 instruction csr (Write v) = Keyword (codes "csrrw") ∷ csr ∷ Hex v ∷ []
-instruction csr op = Unspelled ∷ []
+instruction csr (Set v) = Keyword (codes "csrrs") ∷ csr ∷ Hex v ∷ []
+instruction csr (ops.Clear v) = Keyword (codes "csrrc") ∷ csr ∷ Hex v ∷ []
 
 -- The fields of a line.
 abbrev pub fields_of : Line → List Field
 fields_of (Machine harts guests n sources) = Keyword (codes "machine") ∷ Decimal harts ∷ Decimal guests ∷ Decimal n ∷ Decimal sources ∷ []
+fields_of (Load addr) = Keyword (codes "ld") ∷ Hex addr ∷ []
 fields_of (Store addr value) = Keyword (codes "st") ∷ Hex addr ∷ Hex32 value ∷ []
+fields_of (MachineCsr hart csr op) = Keyword (codes "m") ∷ Decimal hart ∷ instruction (machine_csr csr) op
 fields_of (HostCsr hart csr op) = Keyword (codes "h") ∷ Decimal hart ∷ instruction (supervisor_csr csr) op
 
 -- Whether a text spells a line: it has at most 128 bytes, and its words spell the line's fields.
@@ -62,5 +73,6 @@ Spells text line = (length text ≤ 128) × AllFit (words_of text) (fields_of li
 
 -- Whether the CSR of a line is one that its row of the table names.
 abbrev pub IsListed : Line → Type 0
+IsListed (MachineCsr hart csr op) = IsNamed (machine_csr csr)
 IsListed (HostCsr hart csr op) = IsNamed (supervisor_csr csr)
 IsListed line = Unit {0}

@@ -2,12 +2,13 @@
 use Rattle.std.specs.Prelude.{ℕ, ◌^◌, nat_le, if◌then◌else◌, List, [], ◌∷◌, length, Option, Some, None, codes, Bool}
 use Rattle.std.specs.Str.{bytes_eq}
 use Rattle.aia_model.specs.declared.line.Line.{Line}
-use Rattle.aia_model.specs.declared.line.Line.TheVariants.{Machine, Store, HostCsr}
+use Rattle.aia_model.specs.declared.line.Line.TheVariants.{Machine, Load, Store, MachineCsr, HostCsr}
 use Rattle.aia_model.specs.declared.parsed.Parsed.{Parsed}
 use Rattle.aia_model.specs.declared.parsed.Parsed.TheVariants as parsed
 use Rattle.aia_regs.specs.declared.access.Csr.{Csr}
 use Rattle.aia_regs.specs.declared.access.Csr.TheVariants.{Select, Reg, Topei}
-use Rattle.aia_regs.specs.declared.access.Op.TheVariants.{Read, Write}
+use Rattle.aia_regs.specs.declared.access.Op.{Op}
+use Rattle.aia_regs.specs.declared.access.Op.TheVariants as ops
 use Rattle.aia_model.specs.Text.{words_of, number_of, below, is_skipped, ◌>>=◌}
 
 -- The words that are still to be read.
@@ -34,10 +35,13 @@ n32_at words = do
   n ← below (2 ^ 32) number.0
   Some (n, number.1)
 
--- The line, where no word is left.
+-- What was read, where no word is left.
+abbrev pub whole : {A : Type 0} → Words → A → Option A
+whole [] found = Some found
+whole words found = None
+
 abbrev pub at_end : Words → Line → Option Line
-at_end [] line = Some line
-at_end words line = None
+at_end = whole
 
 -- ---- what follows each keyword
 
@@ -55,7 +59,19 @@ store_at words = do
   value ← n32_at addr.1
   at_end value.1 (Store addr.0 value.0)
 
--- The CSR of supervisor level that a word names.
+unfoldable pub load_at : Words → Option Line
+load_at words = do
+  addr ← number_at words
+  at_end addr.1 (Load addr.0)
+
+-- The CSR of machine level, or of supervisor level, that a word names.
+abbrev pub machine_csr_of : List ℕ → Option Csr
+machine_csr_of word =
+    if is_word word (codes "miselect") then Some Select
+    else (if is_word word (codes "mireg") then Some Reg
+    else (if is_word word (codes "mtopei") then Some Topei
+    else None))
+
 abbrev pub supervisor_csr_of : List ℕ → Option Csr
 supervisor_csr_of word =
     if is_word word (codes "siselect") then Some Select
@@ -63,43 +79,62 @@ supervisor_csr_of word =
     else (if is_word word (codes "stopei") then Some Topei
     else None))
 
-unfoldable pub supervisor_csr_at : Words → Option (Csr × Words)
-supervisor_csr_at words = do
+-- A CSR by its level's names, with the words after it.
+unfoldable pub csr_at : (List ℕ → Option Csr) → Words → Option (Csr × Words)
+csr_at named words = do
   word ← word_at words
-  csr ← supervisor_csr_of word.0
+  csr ← named word.0
   Some (csr, word.1)
 
-unfoldable pub read_at : ℕ → Words → Option Line
-read_at hart words = do
-  csr ← supervisor_csr_at words
-  at_end csr.1 (HostCsr hart csr.0 Read)
+-- A CSR and no more words: `csrr CSR`.
+unfoldable pub read_at : (List ℕ → Option Csr) → Words → Option (Csr × Op)
+read_at named words = do
+  csr ← csr_at named words
+  whole csr.1 (csr.0, ops.Read)
 
-unfoldable pub write_at : ℕ → Words → Option Line
-write_at hart words = do
-  csr ← supervisor_csr_at words
+-- A CSR, a number and no more words: `csrrw CSR V` and its kin.
+unfoldable pub write_at : (List ℕ → Option Csr) → (ℕ → Op) → Words → Option (Csr × Op)
+write_at named op words = do
+  csr ← csr_at named words
   value ← number_at csr.1
-  at_end value.1 (HostCsr hart csr.0 (Write value.0))
+  whole value.1 (csr.0, op value.0)
 
--- What follows `h H`, by the mnemonic.
-abbrev pub host_after : ℕ → List ℕ → Words → Option Line
-host_after hart mnemonic words =
-    if is_word mnemonic (codes "csrr") then read_at hart words
-    else (if is_word mnemonic (codes "csrrw") then write_at hart words
-    else None)
+-- What follows a mnemonic.
+abbrev pub instruction_after : (List ℕ → Option Csr) → List ℕ → Words → Option (Csr × Op)
+instruction_after named mnemonic words =
+    if is_word mnemonic (codes "csrr") then read_at named words
+    else (if is_word mnemonic (codes "csrrw") then write_at named ops.Write words
+    else (if is_word mnemonic (codes "csrrs") then write_at named ops.Set words
+    else (if is_word mnemonic (codes "csrrc") then write_at named ops.Clear words
+    else None)))
 
-unfoldable pub host_at : Words → Option Line
-host_at words = do
+-- A CSR instruction, by the names of its level's CSRs.
+unfoldable pub instruction_at : (List ℕ → Option Csr) → Words → Option (Csr × Op)
+instruction_at named words = do
+  mnemonic ← word_at words
+  instruction_after named mnemonic.0 mnemonic.1
+
+unfoldable pub machine_csr_at : Words → Option Line
+machine_csr_at words = do
   hart ← number_at words
-  mnemonic ← word_at hart.1
-  host_after hart.0 mnemonic.0 mnemonic.1
+  access ← instruction_at machine_csr_of hart.1
+  Some (MachineCsr hart.0 access.0 access.1)
+
+unfoldable pub host_csr_at : Words → Option Line
+host_csr_at words = do
+  hart ← number_at words
+  access ← instruction_at supervisor_csr_of hart.1
+  Some (HostCsr hart.0 access.0 access.1)
 
 -- What follows a line's keyword.
 abbrev pub line_after : List ℕ → Words → Option Line
 line_after keyword words =
     if is_word keyword (codes "machine") then machine_at words
+    else (if is_word keyword (codes "ld") then load_at words
     else (if is_word keyword (codes "st") then store_at words
-    else (if is_word keyword (codes "h") then host_at words
-    else None))
+    else (if is_word keyword (codes "m") then machine_csr_at words
+    else (if is_word keyword (codes "h") then host_csr_at words
+    else None))))
 
 unfoldable pub line_at : Words → Option Line
 line_at words = do

@@ -3,6 +3,8 @@
 pub enum Answer {
     /// `ok`.
     Okay,
+    /// `0x` and eight digits: what a load gave.
+    Narrow(u32),
     /// `0x` and sixteen digits: what a CSR read.
     Wide(u64),
     /// `bad`: the text spells no line.
@@ -15,6 +17,8 @@ pub enum Answer {
     Range,
     /// `illegal`: the access raises an illegal-instruction fault.
     Illegal,
-    /// `fault`: the store reaches no place, or isn't aligned.
+    /// `fault`: the address is in no place that is there, or isn't aligned.
     Fault,
+    /// `guarded`: the address is a guest's, or in memory.
+    Guarded,
 }
