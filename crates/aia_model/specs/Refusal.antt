@@ -1,5 +1,5 @@
 -- When a line is refused, and with which word.
-use Rattle.std.specs.Prelude.{ℕ, ◌%◌, Bool, false, ◌&&◌, not, nat_eq, nat_lt, is_none, is_some, List, [], ◌∷◌, find, Option}
+use Rattle.std.specs.Prelude.{ℕ, ◌%◌, Bool, false, ◌&&◌, not, nat_eq, nat_lt, is_none, List, [], ◌∷◌, find, Option}
 use Rattle.std.specs.Int.{is_in_range}
 use Rattle.std.specs.Option.{option_map}
 use Rattle.aia_regs.specs.declared.access.Csr.{Csr}
@@ -11,7 +11,7 @@ use Rattle.aia_model.specs.declared.line.Line.TheVariants.{Machine, Store, HostC
 use Rattle.aia_model.specs.declared.answer.Answer.{Answer}
 use Rattle.aia_model.specs.declared.answer.Answer.TheVariants.{NoMachine, Again, Range, Illegal, Fault}
 use Rattle.aia_model.specs.Event.{History, has_machine, harts_of}
-use Rattle.aia_model.specs.FileOf.{SupervisorFile, supervisor_at, select_of}
+use Rattle.aia_model.specs.FileOf.{SupervisorFile, is_place, select_of}
 
 -- ---- the cells: whether a word's condition holds of a line after a history. Profile, where no chapter is named.
 
@@ -35,7 +35,7 @@ is_out_of_range h (HostCsr hart csr op) = not (nat_lt hart (harts_of h))
 is_out_of_range h line = false
 
 -- `illegal`: the access reaches a register that doesn't exist.
--- AIA 1.0, IMSIC, "Indirectly accessed interrupt-file registers".
+-- AIA 1.0, IMSIC, "Indirectly accessed interrupt-file registers". Profile: also outside 0x70 to 0xff.
 abbrev pub has_no_register : ℕ → Csr → Bool
 has_no_register select Reg = not (is_accessible (register_of select))
 has_no_register select csr = false
@@ -44,9 +44,9 @@ abbrev pub is_illegal : History → Line → Bool
 is_illegal h (HostCsr hart csr op) = has_no_register (select_of h (SupervisorFile hart)) csr
 is_illegal h line = false
 
--- `fault`: the address isn't a multiple of 4, or lies in no page of a file that is there.
+-- `fault`: the address isn't a multiple of 4, or nothing lies there.
 abbrev pub is_fault : History → Line → Bool
-is_fault h (Store addr value) = not (nat_eq (addr % 4) 0 && is_some (supervisor_at h addr))
+is_fault h (Store addr value) = not (nat_eq (addr % 4) 0 && is_place h addr)
 is_fault h line = false
 
 -- ---- the order

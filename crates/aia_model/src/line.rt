@@ -11,7 +11,7 @@ pub enum Line {
         n: u64,
         sources: u64,
     },
-    /// `st A V`: a device stores 32 bits.
+    /// `st A V`: the host, or a device of it, stores 32 bits at an address.
     Store {
         addr: u64,
         value: u32,
