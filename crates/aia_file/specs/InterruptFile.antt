@@ -5,7 +5,7 @@ use Rattle.aia_word.specs.Top.{top_identity}
 use Rattle.aia_regs.specs.declared.access.Op.{Op}
 use Rattle.aia_regs.specs.declared.file_registers.FileReg.{FileReg}
 use Rattle.aia_regs.specs.declared.file_registers.FileReg.TheVariants.{Delivery, Threshold, Pending, Enable, Reserved}
-use Rattle.aia_regs.specs.Word.{Word, settle, names}
+use Rattle.aia_regs.specs.Word.{Word, set_after, names}
 use Rattle.aia_regs.specs.Word.Word.{Clear, Nothing}
 use Rattle.aia_regs.specs.FileRegisters.{pending_word, enabled_word, threshold_after, delivery_after}
 use Rattle.aia_regs.specs.Request.{request_word}
@@ -23,11 +23,12 @@ pub record InterruptFile : Type 0 where
 abbrev pub is_width : ℕ → Bool
 is_width n = nat_eq n 63 || nat_eq n 127 || nat_eq n 255 || nat_eq n 511 || nat_eq n 1023 || nat_eq n 2047
 
--- A file of the identities 1 to n as a machine begins: nothing is pending or enabled. Profile: both numbers are 0.
+-- A file of the identities 1 to n as a machine begins.
+-- Profile: the standard leaves open what stands at first; here nothing is pending or enabled, and both numbers are 0.
 abbrev pub empty_file : ℕ → InterruptFile
 empty_file n = record { n = n; pending = λ i. false; enabled = λ i. false; threshold = 0; delivery = 0 }
 
--- Two files are the same: they have the same members and numbers.
+-- Two files are the same: they have the same members and numbers, and so are equal. Profile.
 pub record SameFile (a b : InterruptFile) : Type 0 where
   pub n : a.n ≡ b.n
   pub pending : (i : ℕ) → a.pending i ≡ b.pending i
@@ -58,17 +59,13 @@ signals file = nat_eq file.delivery 1 && is_some (top_of file)
 
 -- ---- what becomes of it
 
--- A set after an event, given what the event says of each identity.
-abbrev pub heard : (ℕ → Word) → (ℕ → Bool) → ℕ → Bool
-heard word was i = settle (word i) (was i)
-
 -- A register is accessed.
 -- AIA 1.0, IMSIC, "Indirectly accessed interrupt-file registers".
 abbrev pub accessed : FileReg → Op → InterruptFile → InterruptFile
 accessed reg op file = record {
   n = file.n;
-  pending = heard (pending_word file.n reg op) file.pending;
-  enabled = heard (enabled_word file.n reg op) file.enabled;
+  pending = set_after (pending_word file.n reg op) file.pending;
+  enabled = set_after (enabled_word file.n reg op) file.enabled;
   threshold = threshold_after file.n reg op file.threshold;
   delivery = delivery_after reg op file.delivery;
 }
@@ -76,7 +73,7 @@ accessed reg op file = record {
 -- A 32-bit store of a value at an offset of the file's page lands.
 -- AIA 1.0, IMSIC, "Memory region for an interrupt file".
 abbrev pub landed : ℕ → ℕ → InterruptFile → InterruptFile
-landed offset value file = record file { pending = heard (request_word file.n offset value) file.pending }
+landed offset value file = record file { pending = set_after (request_word file.n offset value) file.pending }
 
 -- What a claim says of identity i, given the identity on top: that one is cleared.
 -- AIA 1.0, IMSIC, "Top external interrupt CSRs".
@@ -86,4 +83,4 @@ claim_word top i = if names top i then Clear else Nothing
 -- The identity on top is claimed; with none on top nothing changes.
 -- AIA 1.0, IMSIC, "Top external interrupt CSRs".
 abbrev pub claimed : InterruptFile → InterruptFile
-claimed file = record file { pending = heard (claim_word (top_of file)) file.pending }
+claimed file = record file { pending = set_after (claim_word (top_of file)) file.pending }

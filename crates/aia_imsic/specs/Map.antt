@@ -1,5 +1,5 @@
 -- The file in whose page an address lies.
-use Rattle.std.specs.Prelude.{ℕ, is_some, Option, Some, None}
+use Rattle.std.specs.Prelude.{ℕ, Bool, true, false, is_some, Option, Some, None}
 use Rattle.std.specs.Option.{option_map_or}
 use Rattle.aia_word.specs.Sets.{least_of}
 use Rattle.aia_regs.specs.AddressMap.{machine_page, supervisor_page, guest_page, is_in_page}
@@ -39,6 +39,15 @@ host_spot other (Some hart) = HostFile hart
 abbrev pub machine_spot : Spot → Option ℕ → Spot
 machine_spot other None = other
 machine_spot other (Some hart) = MachineFile hart
+
+-- Whether an address lies in a file's page, and whether in a guest file's.
+abbrev pub is_page : Spot → Bool
+is_page Nowhere = false
+is_page spot = true
+
+abbrev pub is_guest_page : Spot → Bool
+is_guest_page (GuestFile hart file) = true
+is_guest_page spot = false
 
 -- The file in whose page an address lies, of a machine of so many harts and guest files a hart; Nowhere where it lies in none.
 abbrev pub spot_at : ℕ → ℕ → ℕ → Spot

@@ -1,4 +1,4 @@
--- What a line answers after a history, and the history after it.
+-- What a line answers after a history, and the history after it. Profile, where no chapter is named.
 use Rattle.std.specs.Prelude.{ℕ, List, ◌∷◌, Option, Some, None, unwrap_or}
 use Rattle.aia_word.specs.Top.{top_value}
 use Rattle.aia_regs.specs.declared.access.Csr.{Csr}
@@ -6,39 +6,48 @@ use Rattle.aia_regs.specs.declared.access.Csr.TheVariants.{Select, Reg, Topei}
 use Rattle.aia_regs.specs.FileRegisters.{register_of}
 use Rattle.aia_file.specs.InterruptFile.{InterruptFile, register_value, top_of}
 use Rattle.aia_model.specs.declared.line.Line.{Line}
-use Rattle.aia_model.specs.declared.line.Line.TheVariants.{Machine, Store, HostCsr}
+use Rattle.aia_model.specs.declared.line.Line.TheVariants.{Machine, Load, Store, MachineCsr, HostCsr}
 use Rattle.aia_model.specs.declared.answer.Answer.{Answer}
-use Rattle.aia_model.specs.declared.answer.Answer.TheVariants.{Okay, Wide}
+use Rattle.aia_model.specs.declared.answer.Answer.TheVariants.{Okay, Narrow, Wide}
 use Rattle.aia_model.specs.Event.{History}
 use Rattle.aia_model.specs.Event.Event.{Accepted}
-use Rattle.aia_model.specs.FileOf.{FileName, SupervisorFile, select_of, file_of}
+use Rattle.aia_model.specs.FileOf.{FileName, MachineFile, SupervisorFile, select_of, file_of}
 use Rattle.aia_model.specs.Refusal.{refusal}
 
 -- What a CSR of a file reads: the select number, the selected register, or the identity on top.
--- AIA 1.0, IMSIC, "Indirectly accessed interrupt-file registers" and "Top external interrupt CSRs".
+-- AIA 1.0, IMSIC, "Top external interrupt CSRs" for the last. A file has no other CSR, and no line names one.
 abbrev pub csr_shown : ℕ → InterruptFile → Csr → ℕ
 csr_shown select file Select = select
 csr_shown select file Reg = register_value file (register_of select)
 csr_shown select file Topei = top_value (top_of file)
 csr_shown select file csr = 0
 
+-- What a CSR of a file reads after a history.
 abbrev pub csr_value : History → FileName → Csr → ℕ
 csr_value h f csr = csr_shown (select_of h f) (file_of h f) csr
 
--- What an accepted line answers: a CSR instruction the value that the CSR read before it.
+-- What an accepted line answers: a CSR instruction the value that the CSR read before it, a load of a file's page 0.
+-- AIA 1.0, IMSIC, "Memory region for an interrupt file": all loads give 0.
 abbrev pub accepted_answer : History → Line → Answer
 accepted_answer h (Machine harts guests n sources) = Okay
+accepted_answer h (Load addr) = Narrow 0
 accepted_answer h (Store addr value) = Okay
+accepted_answer h (MachineCsr hart csr op) = Wide (csr_value h (MachineFile hart) csr)
 accepted_answer h (HostCsr hart csr op) = Wide (csr_value h (SupervisorFile hart) csr)
 
 -- What a line answers: the word of its refusal, else what it answers where it is accepted.
 unfoldable pub answer : History → Line → Answer
 answer h line = unwrap_or (refusal h line) (accepted_answer h line)
 
--- The history after a line: an accepted line is an event, and a refused one changes nothing.
+-- What has happened after an accepted line: it is one event.
+abbrev pub happens : History → Line → History
+happens h line = Accepted line ∷ h
+
+-- The history after a line, by its refusal: a refused line changes nothing.
 abbrev pub history_after : Option Answer → History → Line → History
-history_after None h line = Accepted line ∷ h
+history_after None h line = happens h line
 history_after (Some word) h line = h
 
+-- The history after a line.
 unfoldable pub after : History → Line → History
 after h line = history_after (refusal h line) h line

@@ -1,4 +1,4 @@
--- What happens to a machine, and the history of a script.
+-- What happens to a machine, and the history of a script. Profile: this project's way to speak of time.
 use Rattle.std.specs.Prelude.{ℕ, Bool, is_some, List, [], ◌∷◌, Option, Some, None}
 use Rattle.std.specs.Option.{option_map_or}
 use Rattle.aia_model.specs.declared.line.Line.{Line}
@@ -25,8 +25,13 @@ machine_of [] = None
 machine_of (Accepted (Machine harts guests n sources) ∷ past) = Some (record { harts = harts; guests = guests; n = n; sources = sources })
 machine_of (event ∷ past) = machine_of past
 
+-- Whether one stands.
 abbrev pub has_machine : History → Bool
 has_machine h = is_some (machine_of h)
+
+-- How many guest files each hart has, 0 where no machine stands.
+abbrev pub guests_of : History → ℕ
+guests_of h = option_map_or (λ (m : Shape). m.guests) (machine_of h) 0
 
 -- How many harts there are, 0 where no machine stands.
 abbrev pub harts_of : History → ℕ

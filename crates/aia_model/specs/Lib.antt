@@ -1,5 +1,6 @@
 pub mod Text
 pub mod Grammar
+pub mod Printing
 pub mod Reading
 pub mod Event
 pub mod FileOf

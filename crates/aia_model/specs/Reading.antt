@@ -1,4 +1,5 @@
--- The line that a text spells, found word by word. That this finds just what the table of fields spells is proved.
+-- A way to compute the line that a text spells, word by word. Believe the table of fields in Grammar: that this finds just what
+-- it spells is proved. Profile.
 use Rattle.std.specs.Prelude.{ℕ, ◌^◌, nat_le, if◌then◌else◌, List, [], ◌∷◌, length, Option, Some, None, codes, Bool}
 use Rattle.std.specs.Str.{bytes_eq}
 use Rattle.aia_model.specs.declared.line.Line.{Line}
@@ -15,6 +16,7 @@ use Rattle.aia_model.specs.Text.{words_of, number_of, below, is_skipped, ◌>>=�
 abbrev pub Words : Type 0
 Words = List (List ℕ)
 
+-- Whether a word is the other.
 abbrev pub is_word : List ℕ → List ℕ → Bool
 is_word = bytes_eq
 
@@ -43,7 +45,7 @@ whole words found = None
 abbrev pub at_end : Words → Line → Option Line
 at_end = whole
 
--- ---- what follows each keyword
+-- ---- what follows each keyword: `machine`, `st`, and `h H` with a CSR instruction
 
 unfoldable pub machine_at : Words → Option Line
 machine_at words = do
@@ -136,6 +138,7 @@ line_after keyword words =
     else (if is_word keyword (codes "h") then host_csr_at words
     else None))))
 
+-- The line that words spell.
 unfoldable pub line_at : Words → Option Line
 line_at words = do
   keyword ← word_at words
@@ -143,10 +146,12 @@ line_at words = do
 
 -- ---- a whole text
 
+-- What a text is where its words spell this line, or none.
 abbrev pub parsed_of : Option Line → Parsed
 parsed_of None = parsed.Bad
 parsed_of (Some line) = parsed.Line line
 
+-- What a text is.
 unfoldable pub reading : List ℕ → Parsed
 reading text =
     if is_skipped text then parsed.Skip

@@ -1,17 +1,18 @@
 -- When a line is refused, and with which word.
-use Rattle.std.specs.Prelude.{ℕ, ◌%◌, Bool, false, ◌&&◌, not, nat_eq, nat_lt, is_none, is_some, List, [], ◌∷◌, find, Option}
+use Rattle.std.specs.Prelude.{ℕ, ◌%◌, Bool, true, false, ◌&&◌, not, nat_eq, nat_lt, is_none, List, [], ◌∷◌, find, Option}
 use Rattle.std.specs.Int.{is_in_range}
 use Rattle.std.specs.Option.{option_map}
-use Rattle.aia_regs.specs.declared.access.Csr.{Csr}
-use Rattle.aia_regs.specs.declared.access.Csr.TheVariants.{Reg}
-use Rattle.aia_regs.specs.FileRegisters.{register_of, is_accessible}
+use Rattle.aia_csr.specs.declared.access.Level.TheVariants as levels
+use Rattle.aia_csr.specs.declared.access.Access.{Access}
+use Rattle.aia_csr.specs.declared.access.Access.TheVariants as accesses
+use Rattle.aia_csr.specs.Access.{access_of}
 use Rattle.aia_file.specs.InterruptFile.{is_width}
 use Rattle.aia_model.specs.declared.line.Line.{Line}
-use Rattle.aia_model.specs.declared.line.Line.TheVariants.{Machine, Store, HostCsr}
+use Rattle.aia_model.specs.declared.line.Line.TheVariants.{Machine, Load, Store, MachineCsr, HostCsr}
 use Rattle.aia_model.specs.declared.answer.Answer.{Answer}
-use Rattle.aia_model.specs.declared.answer.Answer.TheVariants.{NoMachine, Again, Range, Illegal, Fault}
+use Rattle.aia_model.specs.declared.answer.Answer.TheVariants.{NoMachine, Again, Range, Illegal, Fault, Guarded}
 use Rattle.aia_model.specs.Event.{History, has_machine, harts_of}
-use Rattle.aia_model.specs.FileOf.{SupervisorFile, supervisor_at, select_of}
+use Rattle.aia_model.specs.FileOf.{MachineFile, SupervisorFile, is_place, is_guarded, select_of}
 
 -- ---- the cells: whether a word's condition holds of a line after a history. Profile, where no chapter is named.
 
@@ -31,29 +32,40 @@ is_machine_size harts guests n sources = is_in_range 1 4 harts && is_in_range 0 
 
 abbrev pub is_out_of_range : History → Line → Bool
 is_out_of_range h (Machine harts guests n sources) = not (is_machine_size harts guests n sources)
+is_out_of_range h (MachineCsr hart csr op) = not (nat_lt hart (harts_of h))
 is_out_of_range h (HostCsr hart csr op) = not (nat_lt hart (harts_of h))
 is_out_of_range h line = false
 
--- `illegal`: the access reaches a register that doesn't exist.
--- AIA 1.0, IMSIC, "Indirectly accessed interrupt-file registers".
-abbrev pub has_no_register : ℕ → Csr → Bool
-has_no_register select Reg = not (is_accessible (register_of select))
-has_no_register select csr = false
+-- `illegal`: by the access table.
+abbrev pub raises_illegal : Access → Bool
+raises_illegal accesses.Illegal = true
+raises_illegal access = false
 
 abbrev pub is_illegal : History → Line → Bool
-is_illegal h (HostCsr hart csr op) = has_no_register (select_of h (SupervisorFile hart)) csr
+is_illegal h (MachineCsr hart csr op) = raises_illegal (access_of levels.Machine csr op (select_of h (MachineFile hart)) false)
+is_illegal h (HostCsr hart csr op) = raises_illegal (access_of levels.Host csr op (select_of h (SupervisorFile hart)) false)
 is_illegal h line = false
 
--- `fault`: the address isn't a multiple of 4, or lies in no page of a file that is there.
+-- `fault`: the address isn't a multiple of 4, or nothing lies there.
+abbrev pub faults : History → ℕ → Bool
+faults h addr = not (nat_eq (addr % 4) 0 && is_place h addr)
+
 abbrev pub is_fault : History → Line → Bool
-is_fault h (Store addr value) = not (nat_eq (addr % 4) 0 && is_some (supervisor_at h addr))
+is_fault h (Load addr) = faults h addr
+is_fault h (Store addr value) = faults h addr
 is_fault h line = false
+
+-- `guarded`: a guest's file or memory lies there.
+abbrev pub is_guarded_line : History → Line → Bool
+is_guarded_line h (Load addr) = is_guarded h addr
+is_guarded_line h (Store addr value) = is_guarded h addr
+is_guarded_line h line = false
 
 -- ---- the order
 
 -- The words with their cells, in the order in which they come.
 abbrev pub refusals : List (Answer × (History → Line → Bool))
-refusals = (NoMachine, lacks_machine) ∷ (Again, has_one_already) ∷ (Range, is_out_of_range) ∷ (Illegal, is_illegal) ∷ (Fault, is_fault) ∷ []
+refusals = (NoMachine, lacks_machine) ∷ (Again, has_one_already) ∷ (Range, is_out_of_range) ∷ (Illegal, is_illegal) ∷ (Fault, is_fault) ∷ (Guarded, is_guarded_line) ∷ []
 
 -- The refusal of a line: the first word whose cell holds, None where the line is accepted.
 abbrev pub refusal : History → Line → Option Answer

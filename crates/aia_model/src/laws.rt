@@ -1,9 +1,13 @@
-//! Laws of the grammar: what holds of every text.
+//! Laws of the definitions: what holds of every text, and of every file.
 
 ghost use Rattle.std.specs.Prelude.{◌≡◌, ℕ, ◌↔◌, List, IsTrue};
 ghost use Rattle.aia_model.specs.Text.{is_skipped};
 ghost use Rattle.aia_model.specs.Grammar.{Spells, IsListed};
 ghost use Rattle.aia_model.specs.Reading.{reading};
+
+ghost use Rattle.aia_regs.specs.Word.{settle};
+ghost use Rattle.aia_file.specs.InterruptFile.{InterruptFile};
+ghost use Rattle.aia_model.specs.FileOf.{Deed, IsMaking, file_after, pending_said, enabled_said};
 
 use crate::{Line, Parsed};
 
@@ -35,4 +39,11 @@ pub fn skipped_spells_no_line()
 /// The CSR of a line that a text spells is one that the line's row of the table names.
 pub fn spelled_is_listed()
     ensures { (text : List ℕ) (line : Line) → Spells text line → IsListed line }
+{}
+
+/// The newest word decides: after a deed other than its making, an identity is pending, or enabled, exactly where the deed
+/// asks for it, or says nothing of it and it was so before.
+pub fn newest_word_decides()
+    ensures pending { (select : ℕ) (deed : Deed) (file : InterruptFile) (i : ℕ) → (¬ IsMaking deed) → (file_after select deed file).pending i ≡ settle (pending_said select file deed i) (file.pending i) }
+    ensures enabled { (select : ℕ) (deed : Deed) (file : InterruptFile) (i : ℕ) → (¬ IsMaking deed) → (file_after select deed file).enabled i ≡ settle (enabled_said select file deed i) (file.enabled i) }
 {}

@@ -4,6 +4,7 @@
 #![tactic(auto)]
 
 mod answer;
+
 pub mod laws;
 mod line;
 mod parsed;

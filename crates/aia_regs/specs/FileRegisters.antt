@@ -22,14 +22,15 @@ register_of select =
     else (if is_in_range 0xc0 0xff select then Enable (select - 0xc0)
     else Outside)))))
 
--- Whether an access to the register is no fault.
--- AIA 1.0, IMSIC, "Indirectly accessed interrupt-file registers". Profile: also where nothing is.
+-- Whether an access to the register goes through.
+-- AIA 1.0, IMSIC, "Indirectly accessed interrupt-file registers": an odd one is a fault. Profile: a number outside 0x70 to 0xff too.
 abbrev pub is_accessible : FileReg → Bool
 is_accessible Odd = false
 is_accessible Outside = false
 is_accessible r = true
 
 -- A register that a file serves: it is accessible, and of eip and eie the index is even and below 64.
+-- AIA 1.0, IMSIC, "Indirectly accessed interrupt-file registers".
 abbrev pub IsUsable : FileReg → Type 0
 IsUsable (Pending k) = (k % 2 ≡ 0) × (k < 64)
 IsUsable (Enable k) = (k % 2 ≡ 0) × (k < 64)
@@ -44,21 +45,25 @@ IsUsable r = Unit {0}
 abbrev pub shows : ℕ → ℕ → ℕ → Bool
 shows n k i = is_in_range 1 n i && is_in_range (32 * k) (32 * k + 63) i
 
--- What an access to register k of a set says of identity i.
+-- What an access to register k of a set says of identity i, where it shows it.
+-- AIA 1.0, IMSIC, "Indirectly accessed interrupt-file registers".
 abbrev pub set_word : ℕ → ℕ → Op → ℕ → Word
 set_word n k op i = if shows n k i then bit_word op (i - 32 * k) else Nothing
 
 -- What an access to a register says of identity i's being pending.
+-- AIA 1.0, IMSIC, "Indirectly accessed interrupt-file registers": eip.
 abbrev pub pending_word : ℕ → FileReg → Op → ℕ → Word
 pending_word n (Pending k) op i = set_word n k op i
 pending_word n r op i = Nothing
 
 -- What it says of identity i's being enabled.
+-- AIA 1.0, IMSIC, "Indirectly accessed interrupt-file registers": eie.
 abbrev pub enabled_word : ℕ → FileReg → Op → ℕ → Word
 enabled_word n (Enable k) op i = set_word n k op i
 enabled_word n r op i = Nothing
 
 -- The number that a register keeps, given what it kept before: a read leaves it, a write leaves what `kept` makes of the number written.
+-- Profile: this project's way to speak of registers.
 abbrev pub number_after : (ℕ → ℕ) → Op → ℕ → ℕ
 number_after kept op was = if is_writing op then kept (written op was) else was
 

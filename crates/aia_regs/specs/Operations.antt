@@ -1,5 +1,5 @@
 -- What a CSR instruction writes, given what the register read before it.
-use Rattle.std.specs.Prelude.{ℕ, Bool, true, false, nat_eq, bit_and, bit_or, if◌then◌else◌}
+use Rattle.std.specs.Prelude.{ℕ, ◌^◌, ◌<◌, Bool, true, false, nat_eq, bit_and, bit_or, if◌then◌else◌}
 use Rattle.std.specs.Int.{bit_at, bit_not, w64}
 use Rattle.aia_regs.specs.declared.access.Op.{Op}
 use Rattle.aia_regs.specs.declared.access.Op.TheVariants as ops
@@ -22,10 +22,22 @@ written (ops.Write v) old = v
 written (ops.Set v) old = bit_or old v
 written (ops.Clear v) old = bit_and old (bit_not w64 v)
 
--- What it says of bit b of the register.
--- RISC-V Unprivileged Architecture, "Zicsr", bit by bit.
+-- Whether bit b of a number is a one, b counted from 0 at the lowest. Profile.
+abbrev pub is_one : ℕ → ℕ → Bool
+is_one v b = nat_eq (bit_at v b) 1
+
+-- What it says of bit b of the register; that this is the number written, bit by bit, is a law of the file's crate.
+-- RISC-V Unprivileged Architecture, "Zicsr".
 abbrev pub bit_word : Op → ℕ → Word
 bit_word ops.Read b = Nothing
-bit_word (ops.Write v) b = if nat_eq (bit_at v b) 1 then Ask else Clear
-bit_word (ops.Set v) b = if nat_eq (bit_at v b) 1 then Ask else Nothing
-bit_word (ops.Clear v) b = if nat_eq (bit_at v b) 1 then Clear else Nothing
+bit_word (ops.Write v) b = if is_one v b then Ask else Clear
+bit_word (ops.Set v) b = if is_one v b then Ask else Nothing
+bit_word (ops.Clear v) b = if is_one v b then Clear else Nothing
+
+-- Whether the operand has 64 bits.
+-- RISC-V Unprivileged Architecture, "Zicsr", at XLEN 64.
+abbrev pub FitsOp : Op → Type 0
+FitsOp ops.Read = Unit {0}
+FitsOp (ops.Write v) = v < 2 ^ 64
+FitsOp (ops.Set v) = v < 2 ^ 64
+FitsOp (ops.Clear v) = v < 2 ^ 64

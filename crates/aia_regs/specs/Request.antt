@@ -21,5 +21,6 @@ abbrev pub requested : ℕ → ℕ → ℕ → Option ℕ
 requested n offset value = implemented n (number_written offset value)
 
 -- What the store says of identity i.
+-- AIA 1.0, IMSIC, "Memory region for an interrupt file".
 abbrev pub request_word : ℕ → ℕ → ℕ → ℕ → Word
 request_word n offset value i = if names (requested n offset value) i then Ask else Nothing

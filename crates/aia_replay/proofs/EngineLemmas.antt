@@ -48,14 +48,10 @@ size_refused harts guests n sources out = machine_refusal [] harts guests n sour
 
 -- ---- the machine is made
 
-no_select : (x : ℕ) → 0 ≡ select_of [] (SupervisorFile x)
-unfolding select_of
-no_select x = refl
-
 new_hart : (hart : Hart) (harts guests n sources x : ℕ) → IsNewHart n hart → HartStands hart (Accepted (MachineLine harts guests n sources) ∷ []) x
 new_hart hart harts guests n sources x new = record {
   file = same_file _ _ new.file ∙ sym (file_step (Accepted (MachineLine harts guests n sources)) [] (SupervisorFile x));
-  select = new.select ∙ no_select x ∙ sym (select_step (Accepted (MachineLine harts guests n sources)) [] (SupervisorFile x));
+  select = new.select ∙ sym (select_step (Accepted (MachineLine harts guests n sources)) [] (SupervisorFile x));
 }
 
 pub machine_made : (old new : Engine) (m : Machine) (harts guests n sources : ℕ) → old.machine ≡ None → new.machine ≡ Some m → is_machine_size harts guests n sources ≡ true → IsNewMachine harts n m → Serves old new (MachineLine harts guests n sources) Okay

@@ -1,4 +1,4 @@
--- What a run promises, by its status.
+-- What a run promises, by its status. Profile.
 use Rattle.std.specs.Prelude.{◌≡◌, ℕ, ◌≤◌, List, [], ◌∷◌, length, map, codes, Option, Some, IfSome}
 use Rattle.std.specs.Borrow.{Bor}
 use Rattle.std.specs.Io.KnownBytes.{Appends, Consumes}
@@ -16,9 +16,10 @@ WritesAnswers left before now = IfSome left (λ script. Appends before now (answ
 abbrev pub TakesAll : Option (List ℕ) → Option (List ℕ) → Type 0
 TakesAll left rest = IfSome left (λ script. rest ≡ Some [])
 
--- Just so many bytes were taken, or at most so many.
+-- Just so many bytes were taken.
 abbrev pub Takes : ℕ → Option (List ℕ) → Option (List ℕ) → Type 0
 Takes count left rest = (bytes : List ℕ) × Consumes left rest bytes × (length bytes ≡ count)
 
+-- At most so many bytes were taken.
 abbrev pub TakesAtMost : ℕ → Option (List ℕ) → Option (List ℕ) → Type 0
 TakesAtMost count left rest = (bytes : List ℕ) × Consumes left rest bytes × (length bytes ≤ count)

@@ -1,4 +1,4 @@
--- When a machine stands for a history, and what each call of a layer promises.
+-- When a machine stands for a history, and what each call of a layer promises. Profile: this project's way to speak of its engine.
 use Rattle.std.specs.Prelude.{◌≡◌, ℕ, true, List, [], ◌∷◌, length, All, slice_get, Option, Some, MatchOption}
 use Rattle.aia_model.specs.declared.answer.Answer.{Answer}
 use Rattle.aia_model.specs.declared.line.Line.{Line}
@@ -39,6 +39,7 @@ pub record IsNewMachine (harts n : ℕ) (m : Machine) : Type 0 where
   pub count : length m.harts.items ≡ harts
   pub fresh : All (IsNewHart n) m.harts.items
 
+-- The machine's harts are those of the history, and each stands for it.
 pub record MachineStands (m : Machine) (h : History) : Type 0 where
   pub there : has_machine h ≡ true
   pub harts : length m.harts.items ≡ harts_of h
@@ -69,6 +70,7 @@ pub record ServesText (old new : Engine) (text : Parsed) (given : Option Answer)
 abbrev pub WantsMachine : Engine → Line → Type 0
 WantsMachine engine line = (h : History) → StandsFor engine h → makes_machine h line ≡ true
 
+-- The text reads as such a line.
 abbrev pub ReadsAsMachine : Engine → Parsed → Type 0
 ReadsAsMachine engine (parsed.Line line) = WantsMachine engine line
 ReadsAsMachine engine parsed.Skip = ⊥

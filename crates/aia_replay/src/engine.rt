@@ -1,5 +1,6 @@
-ghost use Rattle.std.specs.Prelude.{◌≡◌, [], IfOk, OnErr};
+ghost use Rattle.std.specs.Prelude.{◌≡◌, ◌↔◌, [], IsTrue, IsNone, IfOk, OnErr};
 ghost use Rattle.aia_model.specs.Grammar.{IsListed};
+ghost use Rattle.aia_model.specs.Text.{is_skipped};
 ghost use Rattle.aia_model.specs.Reading.{reading};
 ghost use Rattle.aia_replay.specs.Stands.{StandsFor, Serves, ServesText, WantsMachine, ReadsAsMachine};
 
@@ -52,6 +53,7 @@ impl Engine {
     /// skipped nor a line. Both change nothing.
     pub fn text(&mut self, alloc: Global, text: &[u8]) -> Result<Option<Answer>, AllocError>
         ensures serves { IfOk result (ServesText self.old self.new (reading text.now)) }
+        ensures skipped { IfOk result (λ given. IsNone given ↔ IsTrue (is_skipped text.now)) }
         ensures err { OnErr result (self.new ≡ self.old) }
         ensures memory { OnErr result (ReadsAsMachine self.old (reading text.now)) }
     {

@@ -1,0 +1,28 @@
+-- How a line is printed: its fields, with one space between two. Profile.
+use Rattle.std.specs.Prelude.{ℕ, ◌+◌, nat_eq, if◌then◌else◌, List, [], ◌∷◌, ◌++◌, map, codes}
+use Rattle.std.specs.Int.Digits.{digits_of}
+use Rattle.std.specs.List.{join_with_byte}
+use Rattle.aia_model.specs.declared.line.Line.{Line}
+use Rattle.aia_model.specs.AnswerText.{digit_character}
+use Rattle.aia_model.specs.Grammar.{Field, fields_of}
+use Rattle.aia_model.specs.Grammar.Field.{Keyword, Decimal, Hex, Hex32, Unspelled}
+
+-- A number in decimal, without leading zeros.
+abbrev pub decimal_text : ℕ → List ℕ
+decimal_text n = if nat_eq n 0 then codes "0" else map digit_character (digits_of 10 n)
+
+-- A number as `0x` and lower-case digits, without leading zeros.
+abbrev pub hex_text : ℕ → List ℕ
+hex_text n = codes "0x" ++ (if nat_eq n 0 then codes "0" else map digit_character (digits_of 16 n))
+
+-- A field: addresses, values and operands in hexadecimal, all other numbers in decimal.
+abbrev pub field_text : Field → List ℕ
+field_text (Keyword word) = word
+field_text (Decimal n) = decimal_text n
+field_text (Hex n) = hex_text n
+field_text (Hex32 n) = hex_text n
+field_text Unspelled = []
+
+-- The printing spelling of a line.
+unfoldable pub line_text : Line → List ℕ
+line_text line = join_with_byte 32 (map field_text (fields_of line))
