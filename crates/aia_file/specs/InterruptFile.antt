@@ -4,7 +4,7 @@ use Rattle.aia_word.specs.Sets.{word_of}
 use Rattle.aia_word.specs.Top.{top_identity}
 use Rattle.aia_regs.specs.declared.access.Op.{Op}
 use Rattle.aia_regs.specs.declared.file_registers.FileReg.{FileReg}
-use Rattle.aia_regs.specs.declared.file_registers.FileReg.TheVariants.{Delivery, Threshold, Pending, Enable, Reserved}
+use Rattle.aia_regs.specs.declared.file_registers.FileReg.TheVariants.{Delivery, Threshold, Pending, Enable}
 use Rattle.aia_regs.specs.Word.{Word, settle, names}
 use Rattle.aia_regs.specs.Word.Word.{Clear, Nothing}
 use Rattle.aia_regs.specs.FileRegisters.{pending_word, enabled_word, threshold_after, delivery_after}
