@@ -95,6 +95,24 @@ impl File {
         self.access(reg, Op::Write(value))
     }
 
+    /// Sets the ones of `value` in the register, as csrrs does, and answers what it read before.
+    pub fn set(&mut self, reg: FileReg, value: u64) -> u64
+        requires { IsUsable reg }
+        ensures before { result ≡ register_value (shown self.old) reg }
+        ensures after { SameFile (shown self.new) (accessed reg (Op.Set value) (shown self.old)) }
+    {
+        self.access(reg, Op::Set(value))
+    }
+
+    /// Clears the ones of `value` in the register, as csrrc does, and answers what it read before.
+    pub fn clear(&mut self, reg: FileReg, value: u64) -> u64
+        requires { IsUsable reg }
+        ensures before { result ≡ register_value (shown self.old) reg }
+        ensures after { SameFile (shown self.new) (accessed reg (Op.Clear value) (shown self.old)) }
+    {
+        self.access(reg, Op::Clear(value))
+    }
+
     /// What a topei register shows: the identity on top twice, in bits 26:16 and 10:0; 0 where there is none.
     pub fn top(&self) -> u64
         ensures { result ≡ top_value (top_of (shown self.now)) }

@@ -1,7 +1,6 @@
 -- All interrupt files of a machine.
-use Rattle.std.specs.Prelude.{◌≡◌, ◌≢◌, ℕ, ◌+◌, ◌*◌, ◌<◌, ◌≤◌, Bool, ◌&&◌, List, slice_get, Option, Some}
-use Rattle.std.specs.Int.{is_in_range}
-use Rattle.aia_file.specs.InterruptFile.{InterruptFile, SameFile, empty_file, signals}
+use Rattle.std.specs.Prelude.{ℕ, ◌+◌, ◌*◌, ◌<◌, ◌≤◌, List, [], slice_index_or, slice_set}
+use Rattle.aia_file.specs.InterruptFile.{SameFile, empty_file}
 use Rattle.aia_file.specs.FileState.{FileState, shown}
 use Rattle.aia_imsic.specs.declared.spot.Spot.{Spot}
 use Rattle.aia_imsic.specs.declared.spot.Spot.TheVariants.{MachineFile, HostFile, GuestFile, Nowhere}
@@ -25,3 +24,19 @@ place_of h (MachineFile hart) = hart * (h.guests + 2)
 place_of h (HostFile hart) = hart * (h.guests + 2) + 1
 place_of h (GuestFile hart file) = hart * (h.guests + 2) + 1 + file
 place_of h Nowhere = 0
+
+-- No file is kept past the last one; this stands there.
+abbrev pub no_file : FileState
+no_file = record { n = 0; pending = []; enabled = []; threshold = 0; delivery = 0 }
+
+-- The file at a place that is there.
+abbrev pub file_at : Harts → Spot → FileState
+file_at h spot = slice_index_or h.files (place_of h spot) no_file
+
+-- The same files, but for the one at that place.
+abbrev pub with_file : Harts → Spot → FileState → Harts
+with_file h spot file = record h { files = slice_set h.files (place_of h spot) file }
+
+-- Every file that is there is empty, and has the identities 1 to n.
+pub record AreEmpty (h : Harts) (n : ℕ) : Type 0 where
+  pub each : (spot : Spot) → IsThere h spot → SameFile (shown (file_at h spot)) (empty_file n)

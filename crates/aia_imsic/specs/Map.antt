@@ -1,6 +1,5 @@
 -- The file in whose page an address lies.
 use Rattle.std.specs.Prelude.{ℕ, Bool, true, false, is_some, Option, Some, None}
-use Rattle.std.specs.Option.{option_map_or}
 use Rattle.aia_word.specs.Sets.{least_of}
 use Rattle.aia_regs.specs.AddressMap.{machine_page, supervisor_page, guest_page, is_in_page}
 use Rattle.aia_imsic.specs.declared.spot.Spot.{Spot}

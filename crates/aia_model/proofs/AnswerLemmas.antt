@@ -5,13 +5,14 @@ use Rattle.aia_regs.specs.declared.access.Csr.{Csr}
 use Rattle.aia_regs.specs.declared.access.Op.{Op}
 use Rattle.aia_csr.specs.declared.access.Level.TheVariants as levels
 use Rattle.aia_csr.specs.Access.{access_of}
+use Rattle.aia_imsic.specs.declared.spot.Spot.{Spot}
 use Rattle.aia_model.specs.declared.line.Line.{Line}
 use Rattle.aia_model.specs.declared.line.Line.TheVariants.{Machine, Load, Store, MachineCsr, HostCsr}
 use Rattle.aia_model.specs.declared.answer.Answer.{Answer}
 use Rattle.aia_model.specs.declared.answer.Answer.TheVariants.{NoMachine, Again, Range, Illegal, Fault, Guarded}
 use Rattle.aia_model.specs.Event.{History, has_machine, harts_of}
-use Rattle.aia_model.specs.FileOf.{MachineFile, SupervisorFile, is_guarded, select_of}
-use Rattle.aia_model.specs.Refusal.{refusal, raises_illegal, faults, is_machine_size, lacks_machine, has_one_already, is_out_of_range, is_illegal, is_fault, is_guarded_line}
+use Rattle.aia_model.specs.FileOf.{MachineFile, SupervisorFile, page_at, select_of}
+use Rattle.aia_model.specs.Refusal.{refusal, raises_illegal, faults, guards, is_machine_size, lacks_machine, has_one_already, is_out_of_range, is_illegal, is_fault, is_guarded}
 use Rattle.aia_model.specs.Answer.{answer, after, accepted_answer, history_after}
 
 pub answered : (h : History) (line : Line) (r : Option Answer) → refusal h line ≡ r → answer h line ≡ unwrap_or r (accepted_answer h line)
@@ -32,14 +33,14 @@ pushed f false x y = refl
 abbrev pub first_word : Bool → Bool → Bool → Bool → Bool → Bool → Option Answer
 first_word a b c d e f = cond a (Some NoMachine) (cond b (Some Again) (cond c (Some Range) (cond d (Some Illegal) (cond e (Some Fault) (cond f (Some Guarded) None)))))
 
-refusal_tests : (h : History) (line : Line) → refusal h line ≡ first_word (lacks_machine h line) (has_one_already h line) (is_out_of_range h line) (is_illegal h line) (is_fault h line) (is_guarded_line h line)
+refusal_tests : (h : History) (line : Line) → refusal h line ≡ first_word (lacks_machine h line) (has_one_already h line) (is_out_of_range h line) (is_illegal h line) (is_fault h line) (is_guarded h line)
 refusal_tests h line =
     let word = λ (r : Answer × (History → Line → Bool)). r.0 in
     pushed word (lacks_machine h line) _ _ ∙ ap (cond (lacks_machine h line) (Some NoMachine)) (
       pushed word (has_one_already h line) _ _ ∙ ap (cond (has_one_already h line) (Some Again)) (
         pushed word (is_out_of_range h line) _ _ ∙ ap (cond (is_out_of_range h line) (Some Range)) (
           pushed word (is_illegal h line) _ _ ∙ ap (cond (is_illegal h line) (Some Illegal)) (
-            pushed word (is_fault h line) _ _ ∙ ap (cond (is_fault h line) (Some Fault)) (pushed word (is_guarded_line h line) _ _)
+            pushed word (is_fault h line) _ _ ∙ ap (cond (is_fault h line) (Some Fault)) (pushed word (is_guarded h line) _ _)
           )
         )
       )
@@ -48,15 +49,15 @@ refusal_tests h line =
 pub machine_refusal : (h : History) (harts guests n sources : ℕ) → refusal h (Machine harts guests n sources) ≡ cond (has_machine h) (Some Again) (cond (not (is_machine_size harts guests n sources)) (Some Range) None)
 machine_refusal h harts guests n sources = refusal_tests h (Machine harts guests n sources)
 
--- the refusal of a load or a store, by its address
-abbrev pub place_refusal : History → ℕ → Option Answer
-place_refusal h addr = cond (faults h addr) (Some Fault) (cond (is_guarded h addr) (Some Guarded) None)
+-- the refusal of a load or a store, by the file in whose page its address lies
+abbrev pub place_refusal : Spot → ℕ → Option Answer
+place_refusal spot addr = cond (faults spot addr) (Some Fault) (cond (guards spot addr) (Some Guarded) None)
 
-pub load_refusal : (h : History) (addr : ℕ) → has_machine h ≡ true → refusal h (Load addr) ≡ place_refusal h addr
-load_refusal h addr there = refusal_tests h (Load addr) ∙ ap (λ b. first_word (not b) false false false (faults h addr) (is_guarded h addr)) there
+pub load_refusal : (h : History) (addr : ℕ) → has_machine h ≡ true → refusal h (Load addr) ≡ place_refusal (page_at h addr) addr
+load_refusal h addr there = refusal_tests h (Load addr) ∙ ap (λ b. first_word (not b) false false false (faults (page_at h addr) addr) (guards (page_at h addr) addr)) there
 
-pub store_refusal : (h : History) (addr value : ℕ) → has_machine h ≡ true → refusal h (Store addr value) ≡ place_refusal h addr
-store_refusal h addr value there = refusal_tests h (Store addr value) ∙ ap (λ b. first_word (not b) false false false (faults h addr) (is_guarded h addr)) there
+pub store_refusal : (h : History) (addr value : ℕ) → has_machine h ≡ true → refusal h (Store addr value) ≡ place_refusal (page_at h addr) addr
+store_refusal h addr value there = refusal_tests h (Store addr value) ∙ ap (λ b. first_word (not b) false false false (faults (page_at h addr) addr) (guards (page_at h addr) addr)) there
 
 -- the refusal of an access of a hart, given whether it raises an illegal-instruction fault
 abbrev pub access_refusal : History → ℕ → Bool → Option Answer
@@ -74,4 +75,4 @@ host_csr_refusal h hart csr op there =
 
 -- a line that makes no machine is refused where none stands
 pub no_machine_refusal : (h : History) (line : Line) → lacks_machine h line ≡ true → refusal h line ≡ Some NoMachine
-no_machine_refusal h line lacks = refusal_tests h line ∙ ap (λ b. first_word b (has_one_already h line) (is_out_of_range h line) (is_illegal h line) (is_fault h line) (is_guarded_line h line)) lacks
+no_machine_refusal h line lacks = refusal_tests h line ∙ ap (λ b. first_word b (has_one_already h line) (is_out_of_range h line) (is_illegal h line) (is_fault h line) (is_guarded h line)) lacks

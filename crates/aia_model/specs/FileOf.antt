@@ -1,6 +1,6 @@
 -- The interrupt file that a history gives: each of its bits is what the newest word of it says. Profile, where no chapter is named: this
 -- project's way to speak of time.
-use Rattle.std.specs.Prelude.{ℕ, ◌%◌, Bool, false, ◌||◌, nat_eq, if◌then◌else◌, [], ◌∷◌}
+use Rattle.std.specs.Prelude.{ℕ, ◌%◌, Bool, false, nat_eq, if◌then◌else◌, [], ◌∷◌}
 use Rattle.aia_regs.specs.declared.access.Csr.{Csr}
 use Rattle.aia_regs.specs.declared.access.Csr.TheVariants.{Select, Reg, Topei}
 use Rattle.aia_regs.specs.declared.access.Op.{Op}
@@ -9,10 +9,10 @@ use Rattle.aia_regs.specs.Word.{Word}
 use Rattle.aia_regs.specs.Word.Word.{Nothing}
 use Rattle.aia_regs.specs.FileRegisters.{register_of, select_after, pending_word, enabled_word}
 use Rattle.aia_regs.specs.Request.{request_word}
-use Rattle.aia_regs.specs.AddressMap.{machine_page, supervisor_page, is_in_page, is_in_memory}
+use Rattle.aia_regs.specs.AddressMap.{machine_page, supervisor_page, is_in_page}
 use Rattle.aia_file.specs.InterruptFile.{InterruptFile, empty_file, accessed, landed, claimed, claim_word, top_of}
 use Rattle.aia_imsic.specs.declared.spot.Spot.{Spot}
-use Rattle.aia_imsic.specs.Map.{spot_at, is_page, is_guest_page}
+use Rattle.aia_imsic.specs.Map.{spot_at}
 use Rattle.aia_model.specs.declared.line.Line.TheVariants.{Machine, Load, Store, MachineCsr, HostCsr}
 use Rattle.aia_model.specs.Event.{Event, History, harts_of, guests_of}
 use Rattle.aia_model.specs.Event.Event.{Accepted}
@@ -35,17 +35,9 @@ abbrev pub is_at : FileName → ℕ → Bool
 is_at (MachineFile hart) addr = is_in_page (machine_page hart) addr
 is_at (SupervisorFile hart) addr = is_in_page (supervisor_page hart) addr
 
--- What lies at an address: the page of a file of the machine that stands, memory, or nothing.
+-- The file in whose page an address lies, of the machine that stands.
 abbrev pub page_at : History → ℕ → Spot
 page_at h addr = spot_at (harts_of h) (guests_of h) addr
-
--- Whether something that loads and stores reach lies at an address.
-abbrev pub is_place : History → ℕ → Bool
-is_place h addr = is_page (page_at h addr) || is_in_memory addr
-
--- Whether what lies there is a guest's file, or memory, which a host's load or store doesn't reach. Profile.
-abbrev pub is_guarded : History → ℕ → Bool
-is_guarded h addr = is_guest_page (page_at h addr) || is_in_memory addr
 
 -- ---- what an event does at one file
 

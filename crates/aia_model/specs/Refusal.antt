@@ -1,18 +1,21 @@
 -- When a line is refused, and with which word.
-use Rattle.std.specs.Prelude.{ℕ, ◌%◌, Bool, true, false, ◌&&◌, not, nat_eq, nat_lt, is_none, List, [], ◌∷◌, find, Option}
+use Rattle.std.specs.Prelude.{ℕ, ◌%◌, Bool, true, false, ◌&&◌, ◌||◌, not, nat_eq, nat_lt, is_none, List, [], ◌∷◌, find, Option}
 use Rattle.std.specs.Int.{is_in_range}
 use Rattle.std.specs.Option.{option_map}
 use Rattle.aia_csr.specs.declared.access.Level.TheVariants as levels
 use Rattle.aia_csr.specs.declared.access.Access.{Access}
 use Rattle.aia_csr.specs.declared.access.Access.TheVariants as accesses
 use Rattle.aia_csr.specs.Access.{access_of}
+use Rattle.aia_regs.specs.AddressMap.{is_in_memory}
 use Rattle.aia_file.specs.InterruptFile.{is_width}
+use Rattle.aia_imsic.specs.declared.spot.Spot.{Spot}
+use Rattle.aia_imsic.specs.Map.{is_page, is_guest_page}
 use Rattle.aia_model.specs.declared.line.Line.{Line}
 use Rattle.aia_model.specs.declared.line.Line.TheVariants.{Machine, Load, Store, MachineCsr, HostCsr}
 use Rattle.aia_model.specs.declared.answer.Answer.{Answer}
 use Rattle.aia_model.specs.declared.answer.Answer.TheVariants.{NoMachine, Again, Range, Illegal, Fault, Guarded}
 use Rattle.aia_model.specs.Event.{History, has_machine, harts_of}
-use Rattle.aia_model.specs.FileOf.{MachineFile, SupervisorFile, is_place, is_guarded, select_of}
+use Rattle.aia_model.specs.FileOf.{MachineFile, SupervisorFile, page_at, select_of}
 
 -- ---- the cells: whether a word's condition holds of a line after a history. Profile, where no chapter is named.
 
@@ -46,26 +49,29 @@ is_illegal h (MachineCsr hart csr op) = raises_illegal (access_of levels.Machine
 is_illegal h (HostCsr hart csr op) = raises_illegal (access_of levels.Host csr op (select_of h (SupervisorFile hart)) false)
 is_illegal h line = false
 
--- `fault`: the address isn't a multiple of 4, or nothing lies there.
-abbrev pub faults : History → ℕ → Bool
-faults h addr = not (nat_eq (addr % 4) 0 && is_place h addr)
+-- `fault`: the address isn't a multiple of 4, or lies neither in a file's page nor in memory.
+abbrev pub faults : Spot → ℕ → Bool
+faults spot addr = not (nat_eq (addr % 4) 0 && (is_page spot || is_in_memory addr))
 
 abbrev pub is_fault : History → Line → Bool
-is_fault h (Load addr) = faults h addr
-is_fault h (Store addr value) = faults h addr
+is_fault h (Load addr) = faults (page_at h addr) addr
+is_fault h (Store addr value) = faults (page_at h addr) addr
 is_fault h line = false
 
 -- `guarded`: a guest's file or memory lies there.
-abbrev pub is_guarded_line : History → Line → Bool
-is_guarded_line h (Load addr) = is_guarded h addr
-is_guarded_line h (Store addr value) = is_guarded h addr
-is_guarded_line h line = false
+abbrev pub guards : Spot → ℕ → Bool
+guards spot addr = is_guest_page spot || is_in_memory addr
+
+abbrev pub is_guarded : History → Line → Bool
+is_guarded h (Load addr) = guards (page_at h addr) addr
+is_guarded h (Store addr value) = guards (page_at h addr) addr
+is_guarded h line = false
 
 -- ---- the order
 
 -- The words with their cells, in the order in which they come.
 abbrev pub refusals : List (Answer × (History → Line → Bool))
-refusals = (NoMachine, lacks_machine) ∷ (Again, has_one_already) ∷ (Range, is_out_of_range) ∷ (Illegal, is_illegal) ∷ (Fault, is_fault) ∷ (Guarded, is_guarded_line) ∷ []
+refusals = (NoMachine, lacks_machine) ∷ (Again, has_one_already) ∷ (Range, is_out_of_range) ∷ (Illegal, is_illegal) ∷ (Fault, is_fault) ∷ (Guarded, is_guarded) ∷ []
 
 -- The refusal of a line: the first word whose cell holds, None where the line is accepted.
 abbrev pub refusal : History → Line → Option Answer
