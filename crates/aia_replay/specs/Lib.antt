@@ -1,4 +1,5 @@
 pub mod Buffered
+pub mod Places
 pub mod Stands
 pub mod Streams
 pub mod Runs

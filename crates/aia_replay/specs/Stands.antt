@@ -1,49 +1,44 @@
 -- When a machine stands for a history, and what each call of a layer promises. Profile: this project's way to speak of its engine.
-use Rattle.std.specs.Prelude.{◌≡◌, ℕ, true, List, [], ◌∷◌, length, All, slice_get, Option, Some, MatchOption}
+use Rattle.std.specs.Prelude.{◌≡◌, ℕ, ◌≤◌, true, [], slice_index, replicate, Option, MatchOption}
 use Rattle.aia_model.specs.declared.answer.Answer.{Answer}
 use Rattle.aia_model.specs.declared.line.Line.{Line}
 use Rattle.aia_model.specs.declared.parsed.Parsed.{Parsed}
 use Rattle.aia_model.specs.declared.parsed.Parsed.TheVariants as parsed
-use Rattle.aia_file.specs.InterruptFile.{SameFile, empty_file}
 use Rattle.aia_file.specs.FileState.{shown}
-use Rattle.aia_model.specs.Event.{History, has_machine, harts_of}
-use Rattle.aia_model.specs.FileOf.{Deed, SupervisorFile, select_of, file_of, select_told, file_after}
+use Rattle.aia_imsic.specs.Files.{IsThere, file_at, AreEmpty}
+use Rattle.aia_model.specs.Event.{History, has_machine, harts_of, guests_of}
+use Rattle.aia_model.specs.FileOf.{FileName, select_of, file_of}
 use Rattle.aia_model.specs.Refusal.{makes_machine}
 use Rattle.aia_model.specs.Answer.{answer, after}
 use Rattle.aia_model.specs.Script.{text_answer, after_text}
-use Rattle.aia_replay.specs.declared.machine.Hart.{Hart}
 use Rattle.aia_replay.specs.declared.machine.Machine.{Machine}
+use Rattle.aia_replay.specs.Places.{spot_of, select_place}
 use Rattle.aia_replay.specs.declared.engine.Engine.{Engine}
-
--- ---- one hart
-
--- The hart keeps the supervisor file of hart x, and its select number, as a history gives them.
-pub record HartStands (hart : Hart) (h : History) (x : ℕ) : Type 0 where
-  pub file : shown hart.file ≡ file_of h (SupervisorFile x)
-  pub select : hart.select ≡ select_of h (SupervisorFile x)
-
--- A hart as a machine begins, with an empty file of the identities 1 to n.
-pub record IsNewHart (n : ℕ) (hart : Hart) : Type 0 where
-  pub file : SameFile (shown hart.file) (empty_file n)
-  pub select : hart.select ≡ 0
-
--- A deed was done at the hart's file.
-pub record HasDone (old new : Hart) (deed : Deed) : Type 0 where
-  pub file : SameFile (shown new.file) (file_after old.select deed (shown old.file))
-  pub select : new.select ≡ select_told deed old.select
 
 -- ---- a machine
 
--- A machine as it begins: so many harts, each new.
-pub record IsNewMachine (harts n : ℕ) (m : Machine) : Type 0 where
-  pub count : length m.harts.items ≡ harts
-  pub fresh : All (IsNewHart n) m.harts.items
+-- A file of the host and its select number are as the history gives them.
+pub record FileStands (m : Machine) (h : History) (f : FileName) : Type 0 where
+  pub file : shown (file_at m.imsic (spot_of f)) ≡ file_of h f
+  pub select : slice_index m.selects (select_place f) ≡ select_of h f
 
--- The machine's harts are those of the history, and each stands for it.
+-- The machine is that of the history, and each file of the host that is there stands for it.
 pub record MachineStands (m : Machine) (h : History) : Type 0 where
   pub there : has_machine h ≡ true
-  pub harts : length m.harts.items ≡ harts_of h
-  pub each : (x : ℕ) (hart : Hart) → slice_get m.harts.items x ≡ Some hart → HartStands hart h x
+  pub harts : m.imsic.harts ≡ harts_of h
+  pub guests : m.imsic.guests ≡ guests_of h
+  pub few_harts : m.imsic.harts ≤ 4
+  pub few_guests : m.imsic.guests ≤ 7
+  pub each : (f : FileName) → IsThere m.imsic (spot_of f) → FileStands m h f
+
+-- A machine as it begins: so many harts and guest files, all files empty, all select numbers 0.
+pub record IsNewMachine (harts guests n : ℕ) (m : Machine) : Type 0 where
+  pub harts : m.imsic.harts ≡ harts
+  pub guests : m.imsic.guests ≡ guests
+  pub few_harts : m.imsic.harts ≤ 4
+  pub few_guests : m.imsic.guests ≤ 7
+  pub files : AreEmpty m.imsic n
+  pub selects : m.selects ≡ replicate 8 0
 
 -- A machine answers a line as the model does, and stands for the history after it.
 pub record MachineServes (old new : Machine) (line : Line) (given : Answer) : Type 0 where

@@ -1,126 +1,52 @@
-ghost use Rattle.std.specs.Prelude.{◌≡◌, ℕ, ◌+◌, ◌*◌, ◌%◌, ◌<◌, ◌≤◌, Bool, true, false, nat_eq, length, All, slice_get, IsTrue, IfOk, OnErr, is_some, IfNone, OnSome, IfSome, MatchOption, if◌then◌else◌};
-ghost use Rattle.aia_regs.specs.Operations.{is_writing};
+ghost use Rattle.std.specs.Prelude.{◌≡◌, ℕ, ◌+◌, ◌*◌, ◌<◌, ◌≤◌, Bool, true, length, slice_index, slice_set, IsTrue, is_some, IfOk, OnErr, IfSome, IfNone, OnSome, MatchResult, if◌then◌else◌};
 ghost use Rattle.aia_regs.specs.FileRegisters.{select_after};
-ghost use Rattle.aia_regs.specs.AddressMap.{supervisor_page, is_in_page};
-ghost use Rattle.aia_file.specs.InterruptFile.{is_width, SameFile, empty_file, top_of};
+ghost use Rattle.aia_regs.specs.AddressMap.{is_in_memory};
+ghost use Rattle.aia_file.specs.InterruptFile.{is_width};
 ghost use Rattle.aia_file.specs.FileState.{shown};
-ghost use Rattle.aia_model.specs.Grammar.{IsListed, IsNamed, supervisor_csr};
-ghost use Rattle.aia_model.specs.FileOf.{Accesses, Stores};
-ghost use Rattle.aia_model.specs.Refusal.{has_no_register, is_machine_size};
+ghost use Rattle.aia_csr.specs.Access.{access_of, IsInTable};
+ghost use Rattle.aia_imsic.specs.Files.{IsThere, file_at, with_file};
+ghost use Rattle.aia_imsic.specs.Map.{spot_at};
+ghost use Rattle.aia_model.specs.Grammar.{IsListed};
+ghost use Rattle.aia_model.specs.FileOf.{Accesses};
+ghost use Rattle.aia_model.specs.Refusal.{raises_illegal, is_machine_size, place_refusal};
 ghost use Rattle.aia_model.specs.Answer.{csr_shown};
-ghost use Rattle.aia_replay.specs.Stands.{HasDone, MachineServes, IsNewHart, IsNewMachine};
+ghost use Rattle.aia_replay.specs.Places.{IsHost, FileDone, csr_line, name_of, spot_of, select_place};
+ghost use Rattle.aia_replay.specs.Stands.{MachineServes, IsNewMachine};
 
+use aia_csr::{Access, Level, decide};
 use aia_file::File;
-use aia_model::{Answer, Line};
-use aia_regs::address_map::{HART_STRIDE, PAGE, SUPERVISOR_FILES};
-use aia_regs::{Csr, FileReg, Op, file_reg};
+use aia_imsic::{Imsic, Spot};
+use aia_regs::address_map::{MEMORY, MEMORY_END, PAGE};
+use aia_regs::{Csr, Op};
+use aia_script::{Answer, Line};
 use std::alloc::{AllocError, Global};
 
-/// The select numbers that `siselect` keeps are below this.
+/// The select numbers that a select CSR keeps are below this.
 const SELECT_NUMBERS: u64 = 0x1000;
 
-/// A hart's supervisor file, and its `siselect`.
-#[derive(Drop)]
-pub struct Hart {
-    file: File,
-    select: u64,
-}
+/// Two select numbers for each of four harts.
+const SELECTS: usize = 8;
 
-impl Hart {
-    fn new(alloc: Global, n: u32) -> Result<Hart, AllocError>
-        requires { IsTrue (is_width n) }
-        ensures { IfOk result (IsNewHart n) }
-    {
-        let file = File::new(alloc, n)?;
-        Ok(Hart { file, select: 0 })
-    }
-
-    /// Does a CSR instruction, and answers what the CSR read before it; `None`, and nothing is done, where the select
-    /// number names no register.
-    fn access(&mut self, csr: Csr, op: Op) -> Option<u64>
-        requires { IsNamed (supervisor_csr csr) }
-        ensures value { result ≡ (if has_no_register self.old.select csr then None else Some (csr_shown self.old.select (shown self.old.file) csr)) }
-        ensures done { OnSome result (HasDone self.old self.new (Accesses csr op)) }
-        ensures refused { IfNone result (self.new ≡ self.old) }
-    {
-        match csr {
-            Csr::Select => Some(self.access_select(op)),
-            Csr::Reg => self.access_register(op),
-            Csr::Topei => Some(self.access_top(op)),
-            Csr::Topi | Csr::Sip | Csr::Sie => unreachable!(),
-        }
-    }
-
-    fn access_select(&mut self, op: Op) -> u64
-        ensures value { result ≡ self.old.select }
-        ensures after { self.new ≡ record self.old { select = select_after op self.old.select } }
-    {
-        let before = self.select;
-        if op.is_writing() {
-            self.select = op.written(before) % SELECT_NUMBERS;
-        }
-        before
-    }
-
-    fn access_register(&mut self, op: Op) -> Option<u64>
-        ensures value { result ≡ (if has_no_register self.old.select Csr.Reg then None else Some (csr_shown self.old.select (shown self.old.file) Csr.Reg)) }
-        ensures done { OnSome result (HasDone self.old self.new (Accesses Csr.Reg op)) }
-        ensures refused { IfNone result (self.new ≡ self.old) }
-    {
-        match file_reg(self.select) {
-            FileReg::Odd | FileReg::Outside => None,
-            reg => Some(self.file.access(reg, op)),
-        }
-    }
-
-    fn access_top(&mut self, op: Op) -> u64
-        ensures value { result ≡ csr_shown self.old.select (shown self.old.file) Csr.Topei }
-        ensures done { HasDone self.old self.new (Accesses Csr.Topei op) }
-    {
-        if op.is_writing() {
-            self.file.claim()
-        } else {
-            self.file.top()
-        }
-    }
-}
-
-/// The harts of a machine, by number.
+/// All interrupt files, and the select numbers of the host: of each hart `miselect`, then `siselect`.
 #[derive(Drop)]
 pub struct Machine {
-    harts: Vec<Hart>,
+    imsic: Imsic,
+    selects: [u64; SELECTS],
 }
 
 impl Machine {
     /// The machine of these numbers: 1 to 4 harts, up to 7 guest files a hart, identities 1 to `n` (63, 127, 255, 511,
     /// 1023 or 2047) and 1 to 1023 wired sources. `None` exactly where a number is none of these.
-    pub fn of_size(
-        alloc: Global,
-        harts: u64,
-        guests: u64,
-        n: u64,
-        sources: u64,
-    ) -> Result<Option<Machine>, AllocError>
+    pub fn of_size(alloc: Global, harts: u64, guests: u64, n: u64, sources: u64) -> Result<Option<Machine>, AllocError>
         ensures size { IfOk result (λ made. is_some made ≡ is_machine_size harts guests n sources) }
-        ensures new { IfOk result (λ made. IfSome made (IsNewMachine harts n)) }
+        ensures new { IfOk result (λ made. IfSome made (IsNewMachine harts guests n)) }
         ensures err { OnErr result (is_machine_size harts guests n sources ≡ true) }
     {
         if !is_machine_size(harts, guests, n, sources) {
             return Ok(None);
         }
-        let machine = Machine::new(alloc, harts, n as u32)?;
-        Ok(Some(machine))
-    }
-
-    fn new(alloc: Global, harts: u64, n: u32) -> Result<Machine, AllocError>
-        requires { IsTrue (is_width n) }
-        ensures { IfOk result (IsNewMachine harts n) }
-    {
-        let mut list = Vec::with_capacity(alloc, harts as usize)?;
-        for _ in 0..harts {
-            list.push(Hart::new(alloc, n)?)?;
-        }
-        Ok(Machine { harts: list })
+        let imsic = Imsic::new(alloc, harts as u32, guests as u32, n as u32)?;
+        Ok(Some(Machine { imsic, selects: [0; SELECTS] }))
     }
 
     /// Answers a line after the one that made this machine.
@@ -130,50 +56,120 @@ impl Machine {
     {
         match *line {
             Line::Machine { .. } => Answer::Again,
+            Line::Load { addr } => self.load(addr),
             Line::Store { addr, value } => self.store(addr, value),
-            Line::HostCsr { hart, csr, op } => self.access(hart, csr, op),
+            Line::MachineCsr { hart, csr, op } => self.access(Level::Machine, hart, csr, op),
+            Line::HostCsr { hart, csr, op } => self.access(Level::Host, hart, csr, op),
         }
     }
 
-    fn access(&mut self, hart: u64, csr: Csr, op: Op) -> Answer
-        requires { IsNamed (supervisor_csr csr) }
-        ensures { MachineServes self.old self.new (Line.HostCsr hart csr op) result }
+    fn load(&self, addr: u64) -> Answer
+        ensures { MachineServes self.now self.now (Line.Load addr) result }
     {
-        if hart >= self.harts.len() as u64 {
-            return Answer::Range;
-        }
-        match self.harts[hart as usize].access(csr, op) {
-            Some(value) => Answer::Wide(value),
-            None => Answer::Illegal,
+        match self.reach(addr) {
+            Ok(_) => Answer::Narrow(0),
+            Err(word) => word,
         }
     }
 
     fn store(&mut self, addr: u64, value: u32) -> Answer
         ensures { MachineServes self.old self.new (Line.Store addr value) result }
     {
-        if addr % 4 != 0 {
-            return Answer::Fault;
+        match self.reach(addr) {
+            Ok(spot) => {
+                self.imsic.store(spot, (addr % PAGE) as u32, value);
+                Answer::Okay
+            }
+            Err(word) => word,
         }
-        let Some((hart, offset)) = self.locate(addr) else {
-            return Answer::Fault;
-        };
-        self.harts[hart].file.land(offset, value);
-        Answer::Okay
     }
 
-    /// The hart whose supervisor file's page has the address, and the offset in that page.
-    fn locate(&self, addr: u64) -> Option<(usize, u32)>
-        ensures { MatchOption result ((x : ℕ) → x < length self.now.harts.items → is_in_page (supervisor_page x) addr ≡ false) (λ at. (at.0 < length self.now.harts.items) × (addr ≡ supervisor_page at.0 + at.1) × (at.1 < 0x1000)) }
+    /// The host's file in whose page the address lies, or the word that refuses a load or store there.
+    fn reach(&self, addr: u64) -> Result<Spot, Answer>
+        ensures found { IfOk result (λ spot. (spot ≡ spot_at self.now.imsic.harts self.now.imsic.guests addr) × IsThere self.now.imsic spot) }
+        ensures refused { result_err result ≡ place_refusal (spot_at self.now.imsic.harts self.now.imsic.guests addr) addr }
     {
-        let from_first = addr.checked_sub(SUPERVISOR_FILES)?;
-        let hart = from_first / HART_STRIDE;
-        let offset = from_first % HART_STRIDE;
-        if hart < self.harts.len() as u64 && offset < PAGE {
-            Some((hart as usize, offset as u32))
-        } else {
-            None
+        if addr % 4 != 0 {
+            return Err(Answer::Fault);
+        }
+        match self.imsic.locate(addr) {
+            Spot::Nowhere if !is_in_memory(addr) => Err(Answer::Fault),
+            Spot::Nowhere | Spot::GuestFile(..) => Err(Answer::Guarded),
+            spot => Ok(spot),
         }
     }
+
+    fn access(&mut self, level: Level, hart: u64, csr: Csr, op: Op) -> Answer
+        requires listed { IsInTable level csr }
+        requires host { IsHost level }
+        ensures { MachineServes self.old self.new (csr_line level hart csr op) result }
+    {
+        if hart >= u64::from(self.imsic.harts()) {
+            return Answer::Range;
+        }
+        match self.access_there(level, hart as u32, csr, op) {
+            Some(value) => Answer::Wide(value),
+            None => Answer::Illegal,
+        }
+    }
+
+    /// The access of a hart that is there; `None`, and nothing is done, where it raises an illegal-instruction fault.
+    fn access_there(&mut self, level: Level, hart: u32, csr: Csr, op: Op) -> Option<u64>
+        requires listed { IsInTable level csr }
+        requires host { IsHost level }
+        requires there { hart < self.old.imsic.harts }
+    {
+        let (spot, place) = match level {
+            Level::Machine => (Spot::MachineFile(hart), 2 * hart),
+            Level::Host | Level::Guest => (Spot::HostFile(hart), 2 * hart + 1),
+        };
+        let mut select = self.selects[place as usize];
+        let value = access_file(self.imsic.file_mut(spot), &mut select, level, csr, op);
+        self.selects[place as usize] = select;
+        value
+    }
+}
+
+/// Does a CSR instruction at a file, and answers what the CSR read before it; `None`, and nothing is done, where it raises an
+/// illegal-instruction fault.
+fn access_file(file: &mut File, select: &mut u64, level: Level, csr: Csr, op: Op) -> Option<u64>
+    requires listed { IsInTable level csr }
+    requires host { IsHost level }
+    ensures value { result ≡ (if raises_illegal (access_of level csr op select.old false) then None else Some (csr_shown select.old (shown file.old) csr)) }
+    ensures done { OnSome result (FileDone file.old file.new select.old select.new (Accesses csr op)) }
+    ensures refused { IfNone result ((file.new ≡ file.old) × (select.new ≡ select.old)) }
+{
+    match decide(level, csr, op, *select, false) {
+        Access::Select => Some(access_select(select, op)),
+        Access::File(reg) => Some(file.access(reg, op)),
+        Access::Top => Some(access_top(file, op)),
+        Access::Illegal => None,
+        Access::Topi | Access::Sip | Access::Sie | Access::Virtual => unreachable!(),
+    }
+}
+
+fn access_select(select: &mut u64, op: Op) -> u64
+    ensures value { result ≡ select.old }
+    ensures after { select.new ≡ select_after op select.old }
+{
+    let before = *select;
+    if op.is_writing() {
+        *select = op.written(before) % SELECT_NUMBERS;
+    }
+    before
+}
+
+fn access_top(file: &mut File, op: Op) -> u64
+    ensures value { result ≡ csr_shown 0 (shown file.old) Csr.Topei }
+    ensures done { SameFile (shown file.new) (file_after 0 (Accesses Csr.Topei op) (shown file.old)) }
+{
+    if op.is_writing() { file.claim() } else { file.top() }
+}
+
+fn is_in_memory(addr: u64) -> bool
+    ensures { result ≡ is_in_memory addr }
+{
+    MEMORY <= addr && addr < MEMORY_END
 }
 
 fn is_machine_size(harts: u64, guests: u64, n: u64, sources: u64) -> bool
