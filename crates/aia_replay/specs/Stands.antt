@@ -1,5 +1,5 @@
 -- When a machine stands for a history, and what each call of a layer promises. Profile: this project's way to speak of its engine.
-use Rattle.std.specs.Prelude.{◌≡◌, ℕ, true, List, [], ◌∷◌, length, All, slice_get, Option, Some, MatchOption}
+use Rattle.std.specs.Prelude.{◌≡◌, ℕ, true, [], length, All, slice_get, Option, Some, MatchOption}
 use Rattle.aia_model.specs.declared.answer.Answer.{Answer}
 use Rattle.aia_model.specs.declared.line.Line.{Line}
 use Rattle.aia_model.specs.declared.parsed.Parsed.{Parsed}
