@@ -8,8 +8,8 @@ use Rattle.aia_model.specs.declared.line.Line.TheVariants.{Machine, Store, HostC
 use Rattle.aia_model.specs.declared.answer.Answer.{Answer}
 use Rattle.aia_model.specs.declared.answer.Answer.TheVariants.{NoMachine, Again, Range, Illegal, Fault}
 use Rattle.aia_model.specs.Event.{History, has_machine, harts_of}
-use Rattle.aia_model.specs.FileOf.{FileName, SupervisorFile, supervisor_at, select_of}
-use Rattle.aia_model.specs.Refusal.{refusal, refusals, has_no_register, is_machine_size, lacks_machine, has_one_already, is_out_of_range, is_illegal, is_fault}
+use Rattle.aia_model.specs.FileOf.{SupervisorFile, supervisor_at, select_of}
+use Rattle.aia_model.specs.Refusal.{refusal, has_no_register, is_machine_size, lacks_machine, has_one_already, is_out_of_range, is_illegal, is_fault}
 use Rattle.aia_model.specs.Answer.{answer, after, accepted_answer, history_after}
 
 pub answered : (h : History) (line : Line) (r : Option Answer) → refusal h line ≡ r → answer h line ≡ unwrap_or r (accepted_answer h line)

@@ -9,7 +9,7 @@ use Rattle.aia_model.specs.declared.answer.Answer.{Answer}
 use Rattle.aia_model.specs.declared.answer.Answer.TheVariants.{Okay, NoMachine, Range}
 use Rattle.aia_model.specs.Event.{History}
 use Rattle.aia_model.specs.Event.Event.{Accepted}
-use Rattle.aia_model.specs.FileOf.{SupervisorFile, select_of}
+use Rattle.aia_model.specs.FileOf.{SupervisorFile}
 use Rattle.aia_model.specs.Refusal.{refusal, is_machine_size}
 use Rattle.aia_model.specs.Answer.{answer, after}
 use Rattle.aia_model.proofs.AnswerLemmas.{answered, after_by, machine_refusal, no_machine_refusal}
