@@ -1,20 +1,17 @@
 -- What the first lines make of an engine.
-use Rattle.std.proofs.Common.{◌≡◌, ℕ, true, false, not, cond, List, [], ◌∷◌, length, All, Option, Some, None, MatchOption, unwrap_or, refl, sym, ap, subst, ◌∙◌, arith}
-use Rattle.std.specs.Prelude.{slice_get}
+use Rattle.std.proofs.Common.{◌≡◌, ℕ, true, false, not, [], ◌∷◌, Option, Some, None, MatchOption, refl, sym, ap, subst, ◌∙◌}
 use Rattle.std.proofs.lemmas.Bool.{cond-true, cond-false}
 use Rattle.std.proofs.lemmas.Option.{slice_get_within, get_or_from_slice_get}
-use Rattle.aia_file.specs.InterruptFile.{empty_file}
-use Rattle.aia_file.specs.FileState.{shown}
 use Rattle.aia_file.proofs.FileLemmas.{same_file}
 use Rattle.aia_model.specs.declared.line.Line.{Line}
 use Rattle.aia_model.specs.declared.line.Line.TheVariants.{Machine as MachineLine, Store, HostCsr}
 use Rattle.aia_model.specs.declared.answer.Answer.{Answer}
 use Rattle.aia_model.specs.declared.answer.Answer.TheVariants.{Okay, NoMachine, Range}
-use Rattle.aia_model.specs.Event.{History, has_machine, harts_of}
+use Rattle.aia_model.specs.Event.{History}
 use Rattle.aia_model.specs.Event.Event.{Accepted}
-use Rattle.aia_model.specs.FileOf.{SupervisorFile, select_of, file_of}
-use Rattle.aia_model.specs.Refusal.{refusal, lacks_machine, is_machine_size}
-use Rattle.aia_model.specs.Answer.{answer, after, history_after, accepted_answer}
+use Rattle.aia_model.specs.FileOf.{SupervisorFile}
+use Rattle.aia_model.specs.Refusal.{refusal, is_machine_size}
+use Rattle.aia_model.specs.Answer.{answer, after}
 use Rattle.aia_model.proofs.AnswerLemmas.{answered, after_by, machine_refusal, no_machine_refusal}
 use Rattle.aia_model.proofs.FileLemmas.{file_step, select_step}
 use Rattle.aia_replay.specs.declared.machine.Hart.{Hart}

@@ -1,5 +1,5 @@
 -- What accesses and stores leave of harts and machines that stood for a history.
-use Rattle.std.proofs.Common.{◌≡◌, ◌≢◌, ℕ, ◌+◌, ◌-◌, ◌*◌, ◌%◌, ◌<◌, ◌≤◌, Bool, true, false, ◌&&◌, not, cond, nat_eq, nat_lt, is_some, unwrap_or, List, [], ◌∷◌, ◌++◌, All, zero, suc, length, get_or, Option, Some, None, ◌⊎◌, inl, inr, refl, sym, ap, subst, ◌∙◌, arith}
+use Rattle.std.proofs.Common.{◌≡◌, ◌≢◌, ℕ, ◌+◌, ◌%◌, ◌<◌, ◌≤◌, Bool, true, false, ◌&&◌, not, cond, nat_eq, is_some, unwrap_or, List, [], ◌∷◌, ◌++◌, All, zero, suc, length, Option, Some, None, ◌⊎◌, inl, inr, refl, sym, ap, subst, ◌∙◌, arith}
 use Rattle.std.proofs.Math.ListN.{set}
 use Rattle.std.proofs.lemmas.List.{length-set, get_or-set_other}
 use Rattle.std.proofs.lemmas.Grind.{get_or-set_at}
@@ -8,12 +8,10 @@ use Rattle.std.proofs.lemmas.Option.{slice_get_within, get_or_from_slice_get, sl
 use Rattle.std.specs.Prelude.{slice_get}
 use Rattle.std.proofs.lemmas.Bool.{cases_eq, eq-eqb, ne_eqb, cond-true, cond-false, lt-ltb, le-ltb}
 use Rattle.std.proofs.lemmas.Bool.Decides.{nat_tests}
-use Rattle.aia_word.specs.Sets.{least_of}
 use Rattle.aia_word.proofs.LeastLemmas.{least_of-found, least_of-none}
 use Rattle.aia_regs.specs.declared.access.Csr.{Csr}
 use Rattle.aia_regs.specs.declared.access.Op.{Op}
 use Rattle.aia_regs.specs.AddressMap.{supervisor_page, is_in_page}
-use Rattle.aia_file.specs.InterruptFile.{InterruptFile}
 use Rattle.aia_file.specs.FileState.{shown}
 use Rattle.aia_file.proofs.FileLemmas.{same_file}
 use Rattle.aia_model.specs.declared.line.Line.{Line}
@@ -22,10 +20,10 @@ use Rattle.aia_model.specs.declared.answer.Answer.{Answer}
 use Rattle.aia_model.specs.declared.answer.Answer.TheVariants.{Okay, Wide, Range, Illegal, Fault}
 use Rattle.aia_model.specs.Event.{Event, History, has_machine, harts_of}
 use Rattle.aia_model.specs.Event.Event.{Accepted}
-use Rattle.aia_model.specs.FileOf.{SupervisorFile, Deed, is_at, supervisor_at, deed_at, select_of, select_told, file_of, file_after}
+use Rattle.aia_model.specs.FileOf.{SupervisorFile, Deed, supervisor_at, deed_at, select_of, select_told, file_of, file_after}
 use Rattle.aia_model.specs.FileOf.Deed.{Accesses, Stores, Rests}
 use Rattle.aia_model.specs.Refusal.{refusal, has_no_register}
-use Rattle.aia_model.specs.Answer.{answer, after, accepted_answer, history_after, csr_shown, csr_value}
+use Rattle.aia_model.specs.Answer.{accepted_answer, history_after, csr_shown, csr_value}
 use Rattle.aia_model.proofs.AnswerLemmas.{answered, after_by, host_refusal, store_refusal}
 use Rattle.aia_model.proofs.FileLemmas.{file_step, select_step, own_access, other_access, store_here, store_elsewhere}
 use Rattle.aia_replay.specs.declared.machine.Hart.{Hart}

@@ -4,8 +4,9 @@ use Rattle.std.proofs.lemmas.Bool.{cases_eq, eq-eqb, ne_eqb, false≢true}
 use Rattle.std.proofs.lemmas.List.{take-append-le}
 use Rattle.std.proofs.Math.Seq.{take-add}
 use Rattle.std.proofs.lemmas.Grind.{common_steps}
-use Rattle.std.specs.Io.KnownBytes.{Appends}
-use Rattle.std.proofs.KnownBytes.{Appends-trans}
+use Rattle.std.specs.Io.KnownBytes.{Appends, Keeps}
+use Rattle.std.proofs.KnownBytes.{Appends-trans, Appends-kept}
+use Rattle.aia_replay.specs.Buffered.{CutOff}
 
 pub all_of_rest : (bytes : List ℕ) (at : ℕ) → take (length bytes - at) (drop at bytes) ≡ drop at bytes
 all_of_rest bytes at = grind (arith, common_steps)
@@ -16,6 +17,18 @@ took_of_rest mid now bytes at n took = subst (λ (rest : List ℕ). Appends mid 
 
 pub wrote_more : (before mid now : Option (List ℕ)) (bytes : List ℕ) (at n : ℕ) → Appends before mid (take at bytes) → Appends mid now (take n (drop at bytes)) → Appends before now (take (at + n) bytes)
 wrote_more before mid now bytes at n a b = subst (Appends before now) (sym (take-add at n bytes)) (Appends-trans before mid now _ _ a b)
+
+-- the sink fails after a part
+front_and_rest : (bytes : List ℕ) (at : ℕ) → take at bytes ++ drop at bytes ≡ bytes
+front_and_rest bytes at = grind (arith, common_steps)
+
+pub cut_here : (before mid now : Option (List ℕ)) (bytes : List ℕ) (at : ℕ) → Appends before mid (take at bytes) → Keeps mid now → CutOff before now bytes
+cut_here before mid now bytes at wrote kept = record {
+  part = take at bytes;
+  lost = drop at bytes;
+  appended = Appends-kept before mid now (take at bytes) wrote kept;
+  together = front_and_rest bytes at;
+}
 
 -- what a test of a length says
 pub not_empty : (n : ℕ) → false ≡ nat_eq n 0 → 0 < n

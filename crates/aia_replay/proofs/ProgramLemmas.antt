@@ -1,14 +1,17 @@
 -- What the endings of a run mean for its source, and the one word that is taken.
-use Rattle.std.proofs.Common.{◌≡◌, ℕ, ◌+◌, ◌<◌, ◌≤◌, true, Bool, List, [], ◌∷◌, ◌++◌, length, get_or, map, Option, Some, None, IfSome, refl, sym, ap, subst, ◌∙◌, arith}
+use Rattle.std.proofs.Common.{◌≡◌, ℕ, ◌<◌, ◌≤◌, true, Bool, List, [], ◌∷◌, ◌++◌, length, get_or, map, Option, Some, None, IfSome, inl, inr, refl, sym, ap, subst, ◌∙◌, arith}
 use Rattle.std.specs.Borrow.{Bor}
 use Rattle.std.specs.Str.{bytes_eq}
 use Rattle.std.proofs.lemmas.Slice.Eq.{bytes_eq-Decides}
-use Rattle.std.proofs.lemmas.List.{length-append}
-use Rattle.std.specs.Io.KnownBytes.{Consumes}
+use Rattle.std.proofs.lemmas.List.{append-nil, length-append}
+use Rattle.std.specs.Io.KnownBytes.{Appends, Consumes}
 use Rattle.aia_replay.specs.declared.program.Status.{Status}
-use Rattle.aia_replay.specs.declared.program.Status.TheVariants.{Done, TooLong}
-use Rattle.aia_replay.specs.Runs.{Takes, TakesAll}
-use Rattle.aia_replay.specs.Streams.{Streams, WrittenFor}
+use Rattle.aia_replay.specs.declared.program.Status.TheVariants.{Done, ReadFault, TooLong}
+use Rattle.aia_replay.specs.Runs.{IsScript, Takes, TakesAll, WritesFront, WritesLines, StopsAtMachine}
+use Rattle.aia_replay.specs.Buffered.{CutOff}
+use Rattle.aia_replay.specs.declared.replayer.Replayer.{Replayer}
+use Rattle.aia_replay.specs.Streams.{Streams, StreamsStop, WrittenFor}
+use Rattle.aia_replay.proofs.StreamLemmas.{all_written, cut_after}
 
 pub one_word : (ws : List (Bor (List ℕ))) (d : Bor (List ℕ)) (p : List ℕ) (r : Bool) → 1 ≤ length ws → length ws < 2 → r ≡ bytes_eq (get_or ws 0 d).now p → (r ≡ true → map (λ (w : Bor (List ℕ)). w.now) ws ≡ p ∷ []) × (map (λ (w : Bor (List ℕ)). w.now) ws ≡ p ∷ [] → r ≡ true)
 one_word [] d p r low high e = absurd (omega arith)
@@ -35,3 +38,46 @@ too_long_count status before now bytes is written = at_limit (subst (λ s. Writt
 
 pub one_past_limit : (status : Status) (left rest before now : Option (List ℕ)) → Streams status left rest before now → status ≡ TooLong → Takes 16777217 left rest
 one_past_limit status left rest before now streams is = (streams.bytes, streams.consumed, too_long_count status before now streams.bytes is streams.written)
+
+-- ---- what was written
+
+lines_at_fault : (left rest before now : Option (List ℕ)) (bytes : List ℕ) → Consumes left rest bytes → WrittenFor ReadFault before now bytes → WritesLines 0 left rest before now
+lines_at_fault left rest before now bytes took w = record {
+  whole = w.0;
+  tail = w.1;
+  beyond = [];
+  consumed = subst (Consumes left rest) (w.2 ∙ sym (append-nil (w.0 ++ w.1))) took;
+  lines = w.3;
+  no_end = w.4;
+  past = refl;
+  written = w.5;
+}
+
+pub written_at_fault : (status : Status) (left rest before now : Option (List ℕ)) → Streams status left rest before now → status ≡ ReadFault → WritesLines 0 left rest before now
+written_at_fault status left rest before now streams is = lines_at_fault left rest before now streams.bytes streams.consumed (subst (λ s. WrittenFor s before now streams.bytes) is streams.written)
+
+-- what waits is written, and is all that was answered
+pub stopped : (r : Replayer) (left rest before mid now : Option (List ℕ)) → StreamsStop r left rest before mid → Appends mid now r.out.bytes.items → StopsAtMachine left rest before now
+stopped r left rest before mid now stop wrote =
+    let holds = stop.holds in
+    record {
+      whole = holds.whole;
+      text = holds.text;
+      more = stop.more;
+      consumed = subst (Consumes left rest) holds.split stop.consumed;
+      lines = holds.lines;
+      no_end = holds.no_end;
+      end = elim stop.end [
+        | inl goes_on ↦ inl goes_on
+        | inr last ↦ inr (last.0, subst (IsScript left) (holds.split ∙ ap (λ xs. holds.whole ++ xs) (ap (λ xs. holds.text ++ xs) last.0 ∙ append-nil holds.text)) last.1)
+      ];
+      asks = holds.asks;
+      written = all_written r.out.bytes.items before mid now _ holds.gathered wrote;
+    }
+
+pub stopped_front : (r : Replayer) (left rest before mid now : Option (List ℕ)) → StreamsStop r left rest before mid → CutOff mid now r.out.bytes.items → WritesFront left rest before now
+stopped_front r left rest before mid now stop cut = record {
+  bytes = stop.bytes;
+  consumed = stop.consumed;
+  cut = cut_after r.out.bytes.items stop.holds.later _ before mid now _ stop.holds.gathered cut stop.holds.goes_on;
+}

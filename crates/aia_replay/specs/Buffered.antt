@@ -1,5 +1,5 @@
 -- Answers that wait in a buffer for the sink.
-use Rattle.std.specs.Prelude.{◌≡◌, ℕ, List, [], ◌++◌, Option}
+use Rattle.std.specs.Prelude.{◌≡◌, ℕ, List, ◌++◌, Option}
 use Rattle.std.specs.Io.KnownBytes.{Appends}
 
 -- The sink took some bytes, and those still waiting stand behind them: together they are all that was waiting and what was added.
@@ -7,3 +7,10 @@ pub record Passes (waiting still : List ℕ) (before now : Option (List ℕ)) (a
   pub taken : List ℕ
   pub appended : Appends before now taken
   pub together : taken ++ still ≡ waiting ++ added
+
+-- The sink failed, and took a front of some bytes.
+pub record CutOff (before now : Option (List ℕ)) (bytes : List ℕ) : Type 0 where
+  pub part : List ℕ
+  pub lost : List ℕ
+  pub appended : Appends before now part
+  pub together : part ++ lost ≡ bytes

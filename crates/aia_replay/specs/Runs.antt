@@ -1,8 +1,15 @@
 -- What a run promises, by its status. Profile.
-use Rattle.std.specs.Prelude.{◌≡◌, ℕ, ◌≤◌, List, [], ◌∷◌, length, map, codes, Option, Some, IfSome}
+use Rattle.std.specs.Prelude.{◌≡◌, ℕ, ◌≤◌, ◌⊎◌, true, false, nat_eq, List, [], ◌∷◌, ◌++◌, length, map, codes, All, Option, Some, IfSome}
 use Rattle.std.specs.Borrow.{Bor}
 use Rattle.std.specs.Io.KnownBytes.{Appends, Consumes}
-use Rattle.aia_model.specs.Script.{answers}
+use Rattle.aia_model.specs.declared.parsed.Parsed.{Parsed}
+use Rattle.aia_model.specs.declared.parsed.Parsed.TheVariants as parsed
+use Rattle.aia_model.specs.Event.{History}
+use Rattle.aia_model.specs.Refusal.{makes_machine}
+use Rattle.aia_model.specs.Text.{texts_of}
+use Rattle.aia_model.specs.Reading.{reading}
+use Rattle.aia_model.specs.Script.{answers, after_text}
+use Rattle.aia_replay.specs.Buffered.{CutOff}
 
 -- The command line that replays: the one word `replay`. Profile.
 abbrev pub IsReplay : List (Bor (List ℕ)) → Type 0
@@ -23,3 +30,59 @@ Takes count left rest = (bytes : List ℕ) × Consumes left rest bytes × (lengt
 -- At most so many bytes were taken.
 abbrev pub TakesAtMost : ℕ → Option (List ℕ) → Option (List ℕ) → Type 0
 TakesAtMost count left rest = (bytes : List ℕ) × Consumes left rest bytes × (length bytes ≤ count)
+
+-- ---- a run that ends before the script does
+
+-- No byte of a text is an LF.
+abbrev pub NoEnd : List ℕ → Type 0
+NoEnd text = All (λ b. nat_eq b 10 ≡ false) text
+
+-- The bytes are whole lines: there is none, or the last of them is an LF.
+abbrev pub IsWhole : List ℕ → Type 0
+IsWhole bytes = (bytes ≡ []) ⊎ ((front : List ℕ) × (bytes ≡ front ++ 10 ∷ []))
+
+-- The whole lines that were taken are answered, and their answers alone are written. Of the bytes taken, so many at the end are
+-- left out of account.
+pub record WritesLines (count : ℕ) (left rest before now : Option (List ℕ)) : Type 0 where
+  pub whole : List ℕ
+  pub tail : List ℕ
+  pub beyond : List ℕ
+  pub consumed : Consumes left rest ((whole ++ tail) ++ beyond)
+  pub lines : IsWhole whole
+  pub no_end : NoEnd tail
+  pub past : length beyond ≡ count
+  pub written : Appends before now (answers whole)
+
+-- The sink took a front of the answers of the bytes that were taken.
+pub record WritesFront (left rest before now : Option (List ℕ)) : Type 0 where
+  pub bytes : List ℕ
+  pub consumed : Consumes left rest bytes
+  pub cut : CutOff before now (answers bytes)
+
+-- The history that texts leave.
+abbrev pub after_texts : History → List (List ℕ) → History
+after_texts h [] = h
+after_texts h (text ∷ texts) = after_texts (after_text h (reading text)) texts
+
+-- What a text reads as is a `machine` line that is accepted.
+abbrev pub AsksMachine : History → Parsed → Type 0
+AsksMachine h (parsed.Line line) = makes_machine h line ≡ true
+AsksMachine h parsed.Skip = ⊥
+AsksMachine h parsed.Bad = ⊥
+
+-- The bytes are all of the script.
+abbrev pub IsScript : Option (List ℕ) → List ℕ → Type 0
+IsScript left bytes = IfSome left (λ script. script ≡ bytes)
+
+-- A line that was taken, ended by an LF or by the script's end, is a `machine` line and accepted; the answers of the lines before
+-- it, and no others, are written.
+pub record StopsAtMachine (left rest before now : Option (List ℕ)) : Type 0 where
+  pub whole : List ℕ
+  pub text : List ℕ
+  pub more : List ℕ
+  pub consumed : Consumes left rest (whole ++ (text ++ more))
+  pub lines : IsWhole whole
+  pub no_end : NoEnd text
+  pub end : ((next : List ℕ) × (more ≡ 10 ∷ next)) ⊎ ((more ≡ []) × IsScript left (whole ++ text))
+  pub asks : AsksMachine (after_texts [] (texts_of whole)) (reading text)
+  pub written : Appends before now (answers whole)

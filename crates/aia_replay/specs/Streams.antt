@@ -1,5 +1,5 @@
 -- What a replayer has read, answered and written.
-use Rattle.std.specs.Prelude.{◌≡◌, ℕ, ◌<◌, ◌≤◌, false, nat_eq, List, [], ◌++◌, length, take, All, Option, IfSome}
+use Rattle.std.specs.Prelude.{◌≡◌, ℕ, ◌<◌, ◌≤◌, ◌⊎◌, List, [], ◌∷◌, ◌++◌, length, take, Option, IfSome}
 use Rattle.std.specs.Io.KnownBytes.{Appends, Consumes, IsAtEnd, Keeps}
 use Rattle.aia_io.specs.declared.source.Read.{Read}
 use Rattle.aia_io.specs.declared.source.Read.TheVariants as reads
@@ -9,13 +9,10 @@ use Rattle.aia_model.specs.Reading.{reading}
 use Rattle.aia_model.specs.Script.{answers, answers_from, printed, text_answer, after_text}
 use Rattle.aia_replay.specs.declared.replayer.Replayer.{Replayer}
 use Rattle.aia_replay.specs.declared.program.Status.{Status}
-use Rattle.aia_replay.specs.declared.program.Status.TheVariants.{Done, Usage, ReadFault, WriteFault, Memory, TooLong}
-use Rattle.aia_replay.specs.Buffered.{Passes}
-use Rattle.aia_replay.specs.Stands.{StandsFor}
-
--- No byte of a text is an LF.
-abbrev pub NoEnd : List ℕ → Type 0
-NoEnd text = All (λ b. nat_eq b 10 ≡ false) text
+use Rattle.aia_replay.specs.declared.program.Status.TheVariants.{Done, ReadFault, TooLong}
+use Rattle.aia_replay.specs.Buffered.{Passes, CutOff}
+use Rattle.aia_replay.specs.Stands.{StandsFor, ReadsAsMachine}
+use Rattle.aia_replay.specs.Runs.{NoEnd, IsWhole, IsScript, AsksMachine, after_texts}
 
 -- The bytes read so far are whole lines, which are answered, and the tail of a line whose LF wasn't read; what was answered is
 -- written or waits in the buffer, and whatever follows is answered as the script's rest.
@@ -29,8 +26,24 @@ pub record Holds (r : Replayer) (before now : Option (List ℕ)) (bytes : List �
   pub split : bytes ≡ whole ++ tail
   pub answered : written ≡ answers whole
   pub completes : (more : List ℕ) → written ++ answers_from history (texts_of (tail ++ more)) ≡ answers (bytes ++ more)
+  pub lines : IsWhole whole
+  pub told : history ≡ after_texts [] (texts_of whole)
+  pub tells : (more : List ℕ) → after_texts history (texts_of (tail ++ more)) ≡ after_texts [] (texts_of (bytes ++ more))
   pub no_end : NoEnd tail
   pub line : r.line.items ≡ take 129 tail
+
+-- A line of the bytes asks for a machine, for which there is no memory. The answers of the lines before it are written or wait,
+-- and `more` follows it.
+pub record HoldsStop (r : Replayer) (before now : Option (List ℕ)) (bytes more : List ℕ) : Type 0 where
+  pub whole : List ℕ
+  pub text : List ℕ
+  pub later : List ℕ
+  pub gathered : Passes [] r.out.bytes.items before now (answers whole)
+  pub split : bytes ≡ whole ++ (text ++ more)
+  pub goes_on : answers whole ++ later ≡ answers bytes
+  pub lines : IsWhole whole
+  pub no_end : NoEnd text
+  pub asks : AsksMachine (after_texts [] (texts_of whole)) (reading text)
 
 -- One read asked for `most` bytes at the front of a buffer.
 abbrev pub ReadsFront : ℕ → Option (List ℕ) → Option (List ℕ) → List ℕ → Read → Type 0
@@ -52,6 +65,25 @@ Feeds old new mid now piece = (before : Option (List ℕ)) (bytes : List ℕ) �
 abbrev pub Finishes : Replayer → Option (List ℕ) → Option (List ℕ) → Type 0
 Finishes old mid now = (before : Option (List ℕ)) (bytes : List ℕ) → Holds old before mid bytes → Appends before now (answers bytes)
 
+-- Where a piece was read and not all of it answered: the sink failed, or there was no memory for a machine.
+abbrev pub FeedsFront : Replayer → Option (List ℕ) → Option (List ℕ) → List ℕ → Type 0
+FeedsFront old mid now piece = (before : Option (List ℕ)) (bytes : List ℕ) → Holds old before mid bytes → CutOff before now (answers (bytes ++ piece))
+
+abbrev pub FeedsStop : Replayer → Replayer → Option (List ℕ) → Option (List ℕ) → List ℕ → Type 0
+FeedsStop old new mid now piece = (before : Option (List ℕ)) (bytes : List ℕ) → Holds old before mid bytes → (next : List ℕ) × HoldsStop new before now (bytes ++ piece) (10 ∷ next)
+
+abbrev pub FinishesFront : Replayer → Option (List ℕ) → Option (List ℕ) → Type 0
+FinishesFront old mid now = (before : Option (List ℕ)) (bytes : List ℕ) → Holds old before mid bytes → CutOff before now (answers bytes)
+
+abbrev pub FinishesStop : Replayer → Replayer → Option (List ℕ) → Option (List ℕ) → Type 0
+FinishesStop old new mid now = (before : Option (List ℕ)) (bytes : List ℕ) → Holds old before mid bytes → HoldsStop new before now bytes []
+
+-- The line that was kept asks for a machine, for which there is no memory, and nothing was done.
+pub record LacksMemory (old new : Replayer) (mid now : Option (List ℕ)) : Type 0 where
+  pub asks : ReadsAsMachine old.engine (reading old.line.items)
+  pub same : new ≡ old
+  pub kept : now ≡ mid
+
 -- The line that was kept is answered, whatever history the engine stood for, and the next one begins.
 pub record AnswersLine (old new : Replayer) (mid now : Option (List ℕ)) : Type 0 where
   pub answers : (h : History) → StandsFor old.engine h → Passes old.out.bytes.items new.out.bytes.items mid now (printed (text_answer h (reading old.line.items)))
@@ -64,8 +96,8 @@ pub record AnswersLine (old new : Replayer) (mid now : Option (List ℕ)) : Type
 -- that is too long was read to its limit and one byte further.
 abbrev pub WrittenFor : Status → Option (List ℕ) → Option (List ℕ) → List ℕ → Type 0
 WrittenFor Done before now bytes = Appends before now (answers bytes)
-WrittenFor ReadFault before now bytes = (whole : List ℕ) × (tail : List ℕ) × (bytes ≡ whole ++ tail) × NoEnd tail × Appends before now (answers whole)
-WrittenFor TooLong before now bytes = (whole : List ℕ) × (tail : List ℕ) × (more : List ℕ) × (bytes ≡ (whole ++ tail) ++ more) × (length (whole ++ tail) ≡ 16777216) × (length more ≡ 1) × NoEnd tail × Appends before now (answers whole)
+WrittenFor ReadFault before now bytes = (whole : List ℕ) × (tail : List ℕ) × (bytes ≡ whole ++ tail) × IsWhole whole × NoEnd tail × Appends before now (answers whole)
+WrittenFor TooLong before now bytes = (whole : List ℕ) × (tail : List ℕ) × (more : List ℕ) × (bytes ≡ (whole ++ tail) ++ more) × (length (whole ++ tail) ≡ 16777216) × (length more ≡ 1) × IsWhole whole × NoEnd tail × Appends before now (answers whole)
 WrittenFor status before now bytes = ⊥
 
 -- A run took some bytes of the source, and wrote what its status says.
@@ -74,3 +106,11 @@ pub record Streams (status : Status) (left rest before now : Option (List ℕ)) 
   pub consumed : Consumes left rest bytes
   pub written : WrittenFor status before now bytes
   pub whole : status ≡ Done → IfSome left (λ script. script ≡ bytes)
+
+-- A run took some bytes of the source, and stopped at a line that asks for a machine, for which there is no memory.
+pub record StreamsStop (r : Replayer) (left rest before now : Option (List ℕ)) : Type 0 where
+  pub bytes : List ℕ
+  pub more : List ℕ
+  pub consumed : Consumes left rest bytes
+  pub holds : HoldsStop r before now bytes more
+  pub end : ((next : List ℕ) × (more ≡ 10 ∷ next)) ⊎ ((more ≡ []) × IsScript left bytes)

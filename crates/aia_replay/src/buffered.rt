@@ -2,7 +2,7 @@ ghost use Rattle.std.specs.Prelude.{◌≡◌, ℕ, ◌+◌, ◌*◌, ◌^◌, �
 ghost use Rattle.std.specs.Io.KnownBytes.{Appends};
 ghost use Rattle.aia_io.specs.Ends.{Rose};
 ghost use Rattle.aia_model.specs.AnswerText.{answer_text};
-ghost use Rattle.aia_replay.specs.Buffered.{Passes};
+ghost use Rattle.aia_replay.specs.Buffered.{Passes, CutOff};
 
 use aia_io::{Sink, Write};
 use aia_script::{Answer, print_answer};
@@ -33,6 +33,7 @@ impl Buffered {
         requires { length bytes.now ≤ 4096 }
         ensures ok { OnOk result (Passes self.old.bytes.items self.new.bytes.items (K.taken sink.old) (K.taken sink.new) bytes.now) }
         ensures err { OnErr result (Rose (K.faults sink.old) (K.faults sink.new)) }
+        ensures cut { OnErr result (CutOff (K.taken sink.old) (K.taken sink.new) self.old.bytes.items) }
         ensures later { K.faults sink.old ≤ K.faults sink.new }
     {
         if self.bytes.try_extend_from_slice(bytes).is_err() {
@@ -46,6 +47,7 @@ impl Buffered {
     pub fn add_answer<K: Sink>(&mut self, sink: &mut K, answer: &Answer) -> Result<(), SinkFault>
         ensures ok { OnOk result (Passes self.old.bytes.items self.new.bytes.items (K.taken sink.old) (K.taken sink.new) (answer_text answer.now)) }
         ensures err { OnErr result (Rose (K.faults sink.old) (K.faults sink.new)) }
+        ensures cut { OnErr result (CutOff (K.taken sink.old) (K.taken sink.new) self.old.bytes.items) }
         ensures later { K.faults sink.old ≤ K.faults sink.new }
     {
         let mut text = ArrayVec::new();
@@ -58,6 +60,7 @@ impl Buffered {
         ensures ok { OnOk result (Appends (K.taken sink.old) (K.taken sink.new) self.old.bytes.items) }
         ensures empty { OnOk result (self.new.bytes.items ≡ []) }
         ensures err { OnErr result (Rose (K.faults sink.old) (K.faults sink.new)) }
+        ensures cut { OnErr result (CutOff (K.taken sink.old) (K.taken sink.new) self.old.bytes.items) }
         ensures later { K.faults sink.old ≤ K.faults sink.new }
     {
         write_all(sink, self.bytes.as_slice())?;
@@ -69,6 +72,7 @@ impl Buffered {
 fn write_all<K: Sink>(sink: &mut K, bytes: &[u8]) -> Result<(), SinkFault>
     ensures ok { OnOk result (Appends (K.taken sink.old) (K.taken sink.new) bytes.now) }
     ensures err { OnErr result (Rose (K.faults sink.old) (K.faults sink.new)) }
+    ensures cut { OnErr result (CutOff (K.taken sink.old) (K.taken sink.new) bytes.now) }
     ensures later { K.faults sink.old ≤ K.faults sink.new }
 {
     let mut at = 0;

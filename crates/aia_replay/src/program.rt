@@ -1,6 +1,6 @@
 ghost use Rattle.std.specs.Prelude.{◌≡◌, ◌≢◌, ◌≤◌, ◌↔◌, List, [], IsTrue};
 ghost use Rattle.aia_io.specs.Ends.{Rose};
-ghost use Rattle.aia_replay.specs.Runs.{IsReplay, WritesAnswers, TakesAll, Takes, TakesAtMost};
+ghost use Rattle.aia_replay.specs.Runs.{IsReplay, WritesAnswers, WritesFront, WritesLines, StopsAtMachine, TakesAll, Takes, TakesAtMost};
 ghost use Rattle.std.specs.Io.KnownBytes.{Appends, Consumes};
 
 use crate::replayer::Replayer;
@@ -47,8 +47,15 @@ pub fn run<S: Source, K: Sink>(
     ensures read_fault { result ≡ Status.ReadFault → Rose (S.faults source.old) (S.faults source.new) }
     ensures write_fault { result ≡ Status.WriteFault → Rose (K.faults sink.old) (K.faults sink.new) }
     ensures too_long { result ≡ Status.TooLong → Takes 16777217 (S.left source.old) (S.left source.new) }
+    ensures memory { result ≡ Status.Memory → StopsAtMachine (S.left source.old) (S.left source.new) (K.taken sink.old) (K.taken sink.new) }
+
+    // They too write nothing but answers: of the whole lines read, or a front of what the bytes read answer.
+    ensures read_fault_written { result ≡ Status.ReadFault → WritesLines 0 (S.left source.old) (S.left source.new) (K.taken sink.old) (K.taken sink.new) }
+    ensures too_long_written { result ≡ Status.TooLong → WritesLines 1 (S.left source.old) (S.left source.new) (K.taken sink.old) (K.taken sink.new) }
+    ensures write_fault_written { result ≡ Status.WriteFault → WritesFront (S.left source.old) (S.left source.new) (K.taken sink.old) (K.taken sink.new) }
 
     ensures bound { TakesAtMost 16777217 (S.left source.old) (S.left source.new) }
+    ensures limit { result ≢ Status.TooLong → TakesAtMost 16777216 (S.left source.old) (S.left source.new) }
     ensures source_faults { S.faults source.old ≤ S.faults source.new }
     ensures sink_faults { K.faults sink.old ≤ K.faults sink.new }
 {
@@ -75,7 +82,12 @@ fn replay<S: Source, K: Sink>(alloc: Global, source: &mut S, sink: &mut K) -> St
     ensures read_fault { result ≡ Status.ReadFault → Rose (S.faults source.old) (S.faults source.new) }
     ensures write_fault { result ≡ Status.WriteFault → Rose (K.faults sink.old) (K.faults sink.new) }
     ensures too_long { result ≡ Status.TooLong → Takes 16777217 (S.left source.old) (S.left source.new) }
+    ensures memory { result ≡ Status.Memory → StopsAtMachine (S.left source.old) (S.left source.new) (K.taken sink.old) (K.taken sink.new) }
+    ensures read_fault_written { result ≡ Status.ReadFault → WritesLines 0 (S.left source.old) (S.left source.new) (K.taken sink.old) (K.taken sink.new) }
+    ensures too_long_written { result ≡ Status.TooLong → WritesLines 1 (S.left source.old) (S.left source.new) (K.taken sink.old) (K.taken sink.new) }
+    ensures write_fault_written { result ≡ Status.WriteFault → WritesFront (S.left source.old) (S.left source.new) (K.taken sink.old) (K.taken sink.new) }
     ensures bound { TakesAtMost 16777217 (S.left source.old) (S.left source.new) }
+    ensures limit { result ≢ Status.TooLong → TakesAtMost 16777216 (S.left source.old) (S.left source.new) }
     ensures source_faults { S.faults source.old ≤ S.faults source.new }
     ensures sink_faults { K.faults sink.old ≤ K.faults sink.new }
 {

@@ -1,4 +1,4 @@
-ghost use Rattle.std.specs.Prelude.{◌≡◌, ℕ, ◌+◌, ◌*◌, ◌<◌, ◌≤◌, List, [], ◌∷◌, ◌++◌, length, take, position, nat_eq, Option, IfOk, OnOk, OnErr, Ok, Err};
+ghost use Rattle.std.specs.Prelude.{◌≡◌, ◌≢◌, ℕ, ◌+◌, ◌*◌, ◌<◌, ◌≤◌, List, [], ◌∷◌, ◌++◌, length, take, position, nat_eq, Option, IfOk, OnOk, OnErr, Ok, Err};
 ghost use Rattle.arrayvec.specs.ArrayVec.{array_vec_len};
 ghost use Rattle.aia_io.specs.Ends.{Rose, ReadHasCause};
 ghost use Rattle.aia_replay.specs.Runs.{TakesAtMost};
@@ -33,7 +33,10 @@ pub struct Replayer {
 }
 
 impl Replayer {
-    ghost use Rattle.aia_replay.specs.Streams.{Begins, Feeds, Finishes, Streams, AnswersLine};
+    ghost use Rattle.aia_replay.specs.Buffered.{CutOff};
+    ghost use Rattle.aia_replay.specs.Runs.{WritesFront};
+    ghost use Rattle.std.specs.Io.KnownBytes.{Appends};
+    ghost use Rattle.aia_replay.specs.Streams.{Begins, Feeds, FeedsFront, FeedsStop, Finishes, FinishesFront, FinishesStop, Streams, StreamsStop, AnswersLine, LacksMemory};
 
     /// A replayer that has read nothing.
     pub fn new() -> Replayer
@@ -59,6 +62,8 @@ impl Replayer {
     fn end_line<K: Sink>(&mut self, alloc: Global, sink: &mut K) -> Result<(), Stop>
         ensures ok { OnOk result (AnswersLine self.old self.new (K.taken sink.old) (K.taken sink.new)) }
         ensures sink { result ≡ Err Stop.Sink → Rose (K.faults sink.old) (K.faults sink.new) }
+        ensures cut { result ≡ Err Stop.Sink → CutOff (K.taken sink.old) (K.taken sink.new) self.old.out.bytes.items }
+        ensures memory { result ≡ Err Stop.Memory → LacksMemory self.old self.new (K.taken sink.old) (K.taken sink.new) }
         ensures later { K.faults sink.old ≤ K.faults sink.new }
     {
         if let Some(answer) = self.engine.text(alloc, self.line.as_slice())? {
@@ -72,6 +77,8 @@ impl Replayer {
     fn feed<K: Sink>(&mut self, alloc: Global, sink: &mut K, piece: &[u8]) -> Result<(), Stop>
         ensures ok { OnOk result (Feeds self.old self.new (K.taken sink.old) (K.taken sink.new) piece.now) }
         ensures sink { result ≡ Err Stop.Sink → Rose (K.faults sink.old) (K.faults sink.new) }
+        ensures cut { result ≡ Err Stop.Sink → FeedsFront self.old (K.taken sink.old) (K.taken sink.new) piece.now }
+        ensures memory { result ≡ Err Stop.Memory → FeedsStop self.old self.new (K.taken sink.old) (K.taken sink.new) piece.now }
         ensures later { K.faults sink.old ≤ K.faults sink.new }
     {
         let mut rest = piece;
@@ -88,6 +95,8 @@ impl Replayer {
     fn finish<K: Sink>(&mut self, alloc: Global, sink: &mut K) -> Result<(), Stop>
         ensures ok { OnOk result (Finishes self.old (K.taken sink.old) (K.taken sink.new)) }
         ensures sink { result ≡ Err Stop.Sink → Rose (K.faults sink.old) (K.faults sink.new) }
+        ensures cut { result ≡ Err Stop.Sink → FinishesFront self.old (K.taken sink.old) (K.taken sink.new) }
+        ensures memory { result ≡ Err Stop.Memory → FinishesStop self.old self.new (K.taken sink.old) (K.taken sink.new) }
         ensures later { K.faults sink.old ≤ K.faults sink.new }
     {
         if !self.line.is_empty() {
@@ -108,7 +117,10 @@ impl Replayer {
         ensures ok { IfOk result (λ status. Streams status (S.left source.old) (S.left source.new) (K.taken sink.old) (K.taken sink.new)) }
         ensures source { result ≡ Ok Status.ReadFault → Rose (S.faults source.old) (S.faults source.new) }
         ensures sink { result ≡ Err Stop.Sink → Rose (K.faults sink.old) (K.faults sink.new) }
+        ensures cut { result ≡ Err Stop.Sink → WritesFront (S.left source.old) (S.left source.new) (K.taken sink.old) (K.taken sink.new) }
+        ensures memory { result ≡ Err Stop.Memory → StreamsStop self.new (S.left source.old) (S.left source.new) (K.taken sink.old) (K.taken sink.new) }
         ensures bound { TakesAtMost 16777217 (S.left source.old) (S.left source.new) }
+        ensures limit { result ≢ Ok Status.TooLong → TakesAtMost 16777216 (S.left source.old) (S.left source.new) }
         ensures later { (S.faults source.old ≤ S.faults source.new) × (K.faults sink.old ≤ K.faults sink.new) }
     {
         let mut piece = [0; PIECE];
@@ -133,7 +145,9 @@ impl Replayer {
 
     /// Writes all answers that wait.
     pub fn write_out<K: Sink>(&mut self, sink: &mut K) -> Result<(), SinkFault>
+        ensures ok { OnOk result (Appends (K.taken sink.old) (K.taken sink.new) self.old.out.bytes.items) }
         ensures err { OnErr result (Rose (K.faults sink.old) (K.faults sink.new)) }
+        ensures cut { OnErr result (CutOff (K.taken sink.old) (K.taken sink.new) self.old.out.bytes.items) }
         ensures later { K.faults sink.old ≤ K.faults sink.new }
     {
         self.out.write_out(sink)

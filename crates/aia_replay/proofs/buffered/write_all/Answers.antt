@@ -1,5 +1,5 @@
-use Rattle.std.proofs.Common.{◌≤◌, ◌-◌, length, arith}
-use Rattle.aia_replay.proofs.PieceLemmas.{wrote_more, took_of_rest}
+use Rattle.std.proofs.Common.{arith}
+use Rattle.aia_replay.proofs.PieceLemmas.{wrote_more, took_of_rest, cut_here}
 use Rattle.aia_replay.proofs.buffered.write_all.Goals as goal
 
 pub loop-at-preserved : goal.loop-at-preserved
@@ -13,3 +13,6 @@ loop-at-preserved g c =
       written = wrote_more before mid now bytes c.loop-at.at c.in-Took.n c.loop-at.invariant.written (took_of_rest mid now bytes c.loop-at.at c.in-Took.n c.in-Took.ensures.bytes.2);
       later = omega (arith, c.in-Took.ensures.cause);
     }
+
+pub returns-in-Failed-clause-cut : goal.returns-in-Failed-clause-cut
+returns-in-Failed-clause-cut g c = cut_here (g.K.Sink.taken c.args.sink.now) (g.K.Sink.taken c.loop-at.sink) (g.K.Sink.taken c.write.new.self) c.args.bytes.now c.loop-at.at c.loop-at.invariant.written c.in-Failed.ensures.bytes

@@ -1,6 +1,5 @@
-use Rattle.std.proofs.Common.{refl, sym, ap, is_some, IfSome, Option, ◌∙◌}
+use Rattle.std.proofs.Common.{refl, sym, ap, is_some, Option, ◌∙◌}
 use Rattle.aia_replay.specs.declared.machine.Machine.{Machine}
-use Rattle.aia_replay.specs.Stands.{IsNewMachine}
 use Rattle.aia_replay.proofs.EngineLemmas.{refused_first, needs_machine, size_refused, machine_made}
 use Rattle.aia_replay.proofs.engine.Engine.line.Goals as goal
 

@@ -1,10 +1,8 @@
-use Rattle.std.proofs.Common.{sym, ap, refl, ◌∙◌, subst}
+use Rattle.std.proofs.Common.{◌∙◌}
 use Rattle.std.proofs.lemmas.Bool.{cond-true}
-use Rattle.aia_model.specs.declared.line.Line.{Line}
 use Rattle.aia_model.specs.declared.line.Line.TheVariants.{Machine}
 use Rattle.aia_model.specs.declared.answer.Answer.TheVariants.{Again}
 use Rattle.aia_model.proofs.AnswerLemmas.{machine_refusal}
-use Rattle.aia_replay.specs.Stands.{MachineServes}
 use Rattle.aia_replay.proofs.MachineLemmas.{refused}
 use Rattle.aia_replay.proofs.machine.Machine.line.Goals as goal
 

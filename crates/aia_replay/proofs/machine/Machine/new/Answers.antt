@@ -1,4 +1,4 @@
-use Rattle.std.proofs.Common.{ap, length, ◌∙◌, arith, length-append}
+use Rattle.std.proofs.Common.{arith}
 use Rattle.aia_replay.specs.Stands.{IsNewHart}
 use Rattle.aia_replay.proofs.MachineLemmas.{all_more}
 use Rattle.aia_replay.proofs.machine.Machine.new.Goals as goal

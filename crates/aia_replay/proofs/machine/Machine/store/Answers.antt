@@ -1,5 +1,5 @@
 use Rattle.aia_regs.specs.AddressMap.{supervisor_page}
-use Rattle.std.proofs.Common.{◌≡◌, ◌<◌, ◌+◌, length, Some, refl, arith}
+use Rattle.std.proofs.Common.{◌≡◌, ◌<◌, ◌+◌, length, Some, refl}
 use Rattle.std.specs.Prelude.{slice_get}
 use Rattle.std.proofs.lemmas.Option.{slice_get_read}
 use Rattle.aia_replay.proofs.MachineLemmas.{unaligned, reaches_nothing, store_lands}

@@ -1,9 +1,9 @@
-use Rattle.std.proofs.Common.{◌≡◌, ◌<◌, length, List, ℕ, Option, ap, sym, subst, arith, refl}
+use Rattle.std.proofs.Common.{rules}
 use Rattle.std.specs.Io.KnownBytes.{Appends}
-use Rattle.aia_replay.specs.declared.replayer.Replayer.{Replayer}
+use Rattle.aia_replay.specs.Buffered.{CutOff}
 use Rattle.aia_replay.specs.Streams.{AnswersLine}
 use Rattle.aia_replay.proofs.PieceLemmas.{not_empty, is_empty}
-use Rattle.aia_replay.proofs.StreamLemmas.{finished_empty, finished_line}
+use Rattle.aia_replay.proofs.StreamLemmas.{finished_empty, finished_line, finished_cut, holds_cut_all, last_stopped}
 use Rattle.aia_replay.proofs.replayer.Replayer.finish.Goals as goal
 use Rattle.aia_replay.proofs.replayer.Replayer.finish.Goals.{then-not-is_empty+in_ok-end_line, else-not-is_empty}
 
@@ -19,4 +19,26 @@ returns-clause-ok g c = λ before bytes holds.
       | else-not-is_empty w ↦
           let wrote : Appends (g.K.Sink.taken c.args.sink.now) now c.args.self.now.out.bytes.items = rw (w.self-is, w.sink-is) at out in
           finished_empty c.args.self.now before (g.K.Sink.taken c.args.sink.now) now bytes (is_empty _ w.if-not-is_empty.ensures) wrote holds
+    ]
+
+pub returns-in_err-end_line-clause-cut : goal.returns-in_err-end_line-clause-cut
+returns-in_err-end_line-clause-cut g c = λ is before bytes holds.
+    holds_cut_all c.args.self.now before (g.K.Sink.taken c.args.sink.now) (g.K.Sink.taken c.end_line.new.sink) bytes holds (c.in_err-end_line.ensures.cut (search rules))
+
+pub returns-in_err-end_line-clause-memory : goal.returns-in_err-end_line-clause-memory
+returns-in_err-end_line-clause-memory g c = λ is before bytes holds.
+    last_stopped c.args.self.now c.end_line.new.self before (g.K.Sink.taken c.args.sink.now) (g.K.Sink.taken c.end_line.new.sink) bytes (c.in_err-end_line.ensures.memory (search rules)) holds
+
+pub returns-in_err-write_out-clause-cut : goal.returns-in_err-write_out-clause-cut
+returns-in_err-write_out-clause-cut g c = λ is before bytes holds.
+    let r = c.if-not-is_empty.self in
+    let now = g.K.Sink.taken c.write_out.new.sink in
+    let cut = c.in_err-write_out.ensures.cut in
+    elim c.if-not-is_empty.branch [
+      | then-not-is_empty+in_ok-end_line w ↦
+          let answered : AnswersLine c.args.self.now r (g.K.Sink.taken c.args.sink.now) (g.K.Sink.taken c.if-not-is_empty.sink) = rw (w.self-is, w.sink-is) w.in_ok-end_line.ensures.ok in
+          finished_cut c.args.self.now r before (g.K.Sink.taken c.args.sink.now) (g.K.Sink.taken c.if-not-is_empty.sink) now bytes (not_empty _ w.if-not-is_empty.ensures) answered cut holds
+      | else-not-is_empty w ↦
+          let off : CutOff (g.K.Sink.taken c.args.sink.now) now c.args.self.now.out.bytes.items = rw (w.self-is, w.sink-is) at cut in
+          holds_cut_all c.args.self.now before (g.K.Sink.taken c.args.sink.now) now bytes holds off
     ]

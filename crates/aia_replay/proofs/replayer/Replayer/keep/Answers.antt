@@ -1,4 +1,4 @@
-use Rattle.std.proofs.Common.{length, ◌∙◌, arith}
+use Rattle.std.proofs.Common.{◌∙◌, arith}
 use Rattle.aia_replay.proofs.CutLemmas.{part_fits}
 use Rattle.aia_replay.proofs.replayer.Replayer.keep.Goals as goal
 

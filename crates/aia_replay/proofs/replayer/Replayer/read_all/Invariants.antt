@@ -1,4 +1,4 @@
-use Rattle.std.proofs.Common.{◌≤◌, ◌+◌, ◌-◌}
+use Rattle.std.proofs.Common.{◌≤◌, ◌-◌}
 use Rattle.aia_replay.proofs.StreamLemmas.{SoFar}
 use Rattle.aia_replay.proofs.replayer.Replayer.read_all.Given as goal
 

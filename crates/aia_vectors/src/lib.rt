@@ -1,0 +1,7 @@
+//! Worked scripts, each with what it must print: as theorems of the model, and as tests of the run.
+#![tactic(auto)]
+
+pub mod rows;
+#[cfg(test)]
+mod tests;
+pub mod worked;

@@ -1,0 +1,279 @@
+//! Scripts, each with what it must print, letter for letter.
+
+/// A script, and what it must print.
+pub struct Row {
+    pub script: &'static str,
+    pub answers: &'static str,
+}
+
+/// All rows.
+pub const ROWS: [Row; 7] = [
+    Row {
+        script: NO_LINES_SCRIPT,
+        answers: NO_LINES_ANSWERS,
+    },
+    Row {
+        script: MACHINE_IS_REFUSED_SCRIPT,
+        answers: MACHINE_IS_REFUSED_ANSWERS,
+    },
+    Row {
+        script: STORE_IS_CLAIMED_SCRIPT,
+        answers: STORE_IS_CLAIMED_ANSWERS,
+    },
+    Row {
+        script: THRESHOLD_AND_LEAST_IDENTITY_SCRIPT,
+        answers: THRESHOLD_AND_LEAST_IDENTITY_ANSWERS,
+    },
+    Row {
+        script: NUMBERS_RANGES_AND_SPELLING_SCRIPT,
+        answers: NUMBERS_RANGES_AND_SPELLING_ANSWERS,
+    },
+    Row {
+        script: CLAIM_EXAMPLE_SCRIPT,
+        answers: CLAIM_EXAMPLE_ANSWERS,
+    },
+    Row {
+        script: REFUSALS_EXAMPLE_SCRIPT,
+        answers: REFUSALS_EXAMPLE_ANSWERS,
+    },
+];
+
+/// A script with no line.
+pub const NO_LINES_SCRIPT: &str = "";
+
+/// What [`NO_LINES_SCRIPT`] prints.
+pub const NO_LINES_ANSWERS: &str = "";
+
+/// No machine stands at first; a `machine` line is refused for its numbers and, once one stands, at all.
+pub const MACHINE_IS_REFUSED_SCRIPT: &str = "\
+    st 0x28000000 5\n\
+    machine 5 1 63 8\n\
+    machine 1 1 64 8\n\
+    machine 1 1 63 8\n\
+    machine 9 9 9 9\n\
+    st 0x28000000\n";
+
+/// What [`MACHINE_IS_REFUSED_SCRIPT`] prints.
+pub const MACHINE_IS_REFUSED_ANSWERS: &str = "\
+    nomachine\n\
+    range\n\
+    range\n\
+    ok\n\
+    again\n\
+    bad\n";
+
+/// A store makes an identity pending; reading `stopei` leaves it there, and writing `stopei` claims it.
+pub const STORE_IS_CLAIMED_SCRIPT: &str = "\
+    machine 1 1 63 8\n\
+    h 0 csrrw siselect 0xc0\n\
+    h 0 csrrw sireg 0x20\n\
+    st 0x28000000 5\n\
+    h 0 csrr stopei\n\
+    h 0 csrr stopei\n\
+    h 0 csrrw stopei 0\n\
+    h 0 csrr stopei\n";
+
+/// What [`STORE_IS_CLAIMED_SCRIPT`] prints.
+pub const STORE_IS_CLAIMED_ANSWERS: &str = "\
+    ok\n\
+    0x0000000000000000\n\
+    0x0000000000000000\n\
+    ok\n\
+    0x0000000000050005\n\
+    0x0000000000050005\n\
+    0x0000000000050005\n\
+    0x0000000000000000\n";
+
+/// The least identity is on top, if it is below the threshold; a threshold is kept modulo one more than the greatest
+/// identity.
+pub const THRESHOLD_AND_LEAST_IDENTITY_SCRIPT: &str = "\
+    machine 1 1 63 8\n\
+    h 0 csrrw siselect 0xc0\n\
+    h 0 csrrw sireg 0xffffffffffffffff\n\
+    st 0x28000000 5\n\
+    st 0x28000000 4\n\
+    h 0 csrrw siselect 0x72\n\
+    h 0 csrrw sireg 5\n\
+    h 0 csrr stopei\n\
+    h 0 csrrw sireg 4\n\
+    h 0 csrrw stopei 0\n\
+    h 0 csrrw sireg 64\n\
+    h 0 csrr sireg\n\
+    h 0 csrr stopei\n";
+
+/// What [`THRESHOLD_AND_LEAST_IDENTITY_SCRIPT`] prints.
+pub const THRESHOLD_AND_LEAST_IDENTITY_ANSWERS: &str = "\
+    ok\n\
+    0x0000000000000000\n\
+    0x0000000000000000\n\
+    ok\n\
+    ok\n\
+    0x00000000000000c0\n\
+    0x0000000000000000\n\
+    0x0000000000040004\n\
+    0x0000000000000005\n\
+    0x0000000000000000\n\
+    0x0000000000000004\n\
+    0x0000000000000000\n\
+    0x0000000000040004\n";
+
+/// A comment, a large threshold, a hart that isn't there, and texts that spell no line.
+pub const NUMBERS_RANGES_AND_SPELLING_SCRIPT: &str = "\
+    # note\n\
+    machine 1 0 63 1\n\
+    h 0 csrrw siselect 0x72\n\
+    h 0 csrrw sireg 200\n\
+    h 0 csrr sireg\n\
+    h 1 csrr stopei\n\
+    H 0 csrr stopei\n\
+    h 0  csrr stopei\n";
+
+/// What [`NUMBERS_RANGES_AND_SPELLING_SCRIPT`] prints.
+pub const NUMBERS_RANGES_AND_SPELLING_ANSWERS: &str = "\
+    ok\n\
+    0x0000000000000000\n\
+    0x0000000000000000\n\
+    0x0000000000000008\n\
+    range\n\
+    bad\n\
+    bad\n";
+
+/// One interrupt, from a device's store to the hart's claim: the repository's example `claim`.
+pub const CLAIM_EXAMPLE_SCRIPT: &str = "\
+    # One interrupt, from a device's store to the hart's claim.\n\
+    #\n\
+    # A machine of one hart, with no guest files, the identities 1 to 63 and one wired source.\n\
+    machine 1 0 63 1\n\
+    \n\
+    # The hart selects eie0, the enable bits of the identities up to 63, and enables 3 and 5.\n\
+    h 0 csrrw siselect 0xc0\n\
+    h 0 csrrw sireg 0x28\n\
+    \n\
+    # A device stores 5 to the page of the hart's file: that asks for identity 5.\n\
+    st 0x28000000 5\n\
+    # Four bytes on, the identity is taken big-endian: this asks for identity 3.\n\
+    st 0x28000004 0x03000000\n\
+    \n\
+    # The identity on top is the least one: 3, in bits 26:16 and again in bits 10:0. A read claims nothing.\n\
+    h 0 csrr stopei\n\
+    # Any write claims: it answers what was on top, and clears that pending bit.\n\
+    h 0 csrrw stopei 0\n\
+    h 0 csrr stopei\n\
+    \n\
+    # A threshold of 5 lets only the identities below 5 through, so now nothing is on top.\n\
+    h 0 csrrw siselect 0x72\n\
+    h 0 csrrw sireg 5\n\
+    h 0 csrr stopei\n\
+    # Threshold 0 holds nothing back. The answer of a write is the old value.\n\
+    h 0 csrrw sireg 0\n\
+    h 0 csrrw stopei 0\n\
+    \n\
+    # Nothing is left: a claim with nothing on top answers 0 and changes nothing.\n\
+    h 0 csrrw stopei 0\n\
+    # The pending bits, eip0, are all clear.\n\
+    h 0 csrrw siselect 0x80\n\
+    h 0 csrr sireg\n";
+
+/// What [`CLAIM_EXAMPLE_SCRIPT`] prints.
+pub const CLAIM_EXAMPLE_ANSWERS: &str = "\
+    ok\n\
+    0x0000000000000000\n\
+    0x0000000000000000\n\
+    ok\n\
+    ok\n\
+    0x0000000000030003\n\
+    0x0000000000030003\n\
+    0x0000000000050005\n\
+    0x00000000000000c0\n\
+    0x0000000000000000\n\
+    0x0000000000000000\n\
+    0x0000000000000005\n\
+    0x0000000000050005\n\
+    0x0000000000000000\n\
+    0x0000000000000072\n\
+    0x0000000000000000\n";
+
+/// What each refusal looks like: the repository's example `refusals`.
+pub const REFUSALS_EXAMPLE_SCRIPT: &str = "\
+    # What each refusal looks like. A refused line changes nothing, and the script goes on.\n\
+    \n\
+    # nomachine: no machine stands yet.\n\
+    st 0x28000000 5\n\
+    h 0 csrr stopei\n\
+    \n\
+    # bad: the text spells no line. Fields are all there, keywords are lower case, a number has no leading\n\
+    # zero, and one space stands between two words.\n\
+    machine\n\
+    MACHINE 1 0 63 1\n\
+    machine 01 0 63 1\n\
+    machine  1 0 63 1\n\
+    \n\
+    # range: 5 harts are too many, 64 is no file size, 1024 wired sources are too many.\n\
+    machine 5 0 63 1\n\
+    machine 1 0 64 1\n\
+    machine 1 0 63 1024\n\
+    \n\
+    # This one is accepted: two harts, seven guest files each, the identities 1 to 127, eight wired sources.\n\
+    machine 2 7 127 8\n\
+    \n\
+    # again: a machine stands. Of two refusals that both apply the first is printed: again comes before range.\n\
+    machine 1 0 63 1\n\
+    machine 9 9 9 9\n\
+    \n\
+    # range: harts are numbered from 0, so there is no hart 2.\n\
+    h 2 csrr stopei\n\
+    \n\
+    # illegal: 0x81 would be eip1, which doesn't exist at XLEN 64, and 0x30 names nothing in a file.\n\
+    h 1 csrrw siselect 0x81\n\
+    h 1 csrr sireg\n\
+    h 1 csrrw siselect 0x30\n\
+    h 1 csrrw sireg 1\n\
+    # A reserved number is no fault: it reads 0, and a write to it is ignored.\n\
+    h 1 csrrw siselect 0x71\n\
+    h 1 csrrw sireg 1\n\
+    h 1 csrr sireg\n\
+    \n\
+    # fault: the address is no multiple of 4, or lies in no page that is there (hart 2 again, and address 0).\n\
+    st 0x28008002 1\n\
+    st 0x28010000 1\n\
+    st 0 1\n\
+    \n\
+    # These are accepted and do nothing: another offset of the page, and a number that is no identity here.\n\
+    st 0x28008008 1\n\
+    st 0x28008000 128\n\
+    h 1 csrrw siselect 0x80\n\
+    h 1 csrr sireg\n\
+    \n\
+    # bad: a line has at most 128 bytes, a comment too, and the next one has more.\n\
+    # ................................................................................................................................\n";
+
+/// What [`REFUSALS_EXAMPLE_SCRIPT`] prints.
+pub const REFUSALS_EXAMPLE_ANSWERS: &str = "\
+    nomachine\n\
+    nomachine\n\
+    bad\n\
+    bad\n\
+    bad\n\
+    bad\n\
+    range\n\
+    range\n\
+    range\n\
+    ok\n\
+    again\n\
+    again\n\
+    range\n\
+    0x0000000000000000\n\
+    illegal\n\
+    0x0000000000000081\n\
+    illegal\n\
+    0x0000000000000030\n\
+    0x0000000000000000\n\
+    0x0000000000000000\n\
+    fault\n\
+    fault\n\
+    fault\n\
+    ok\n\
+    ok\n\
+    0x0000000000000071\n\
+    0x0000000000000000\n\
+    bad\n";

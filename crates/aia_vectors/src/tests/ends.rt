@@ -1,0 +1,145 @@
+//! What a run makes of its words, and of ends that fail, that take little at a time or that only count.
+
+use crate::rows::{STORE_IS_CLAIMED_ANSWERS, STORE_IS_CLAIMED_SCRIPT};
+use aia_io::{MemSink, MemSource, QuietSink, QuietSource, StdSink, StdSource};
+use aia_replay::{Status, run};
+use std::io;
+use std::test::Fail;
+
+#[test]
+fn other_words_are_refused_with_nothing_read_or_written(rt: HostRuntime) -> Result<(), Fail> {
+    let alloc = rt.alloc();
+    let refused: [&[&str]; 5] = [
+        &[],
+        &["gen", "x", "1"],
+        &["gen", "100001", "1"],
+        &["--help"],
+        &["replay", "replay"],
+    ];
+    for words in refused {
+        let script = Vec::from_slice(alloc, STORE_IS_CLAIMED_SCRIPT.as_bytes())?;
+        let mut source = MemSource::new(script, 1, vec![in alloc; 1]?);
+        let mut sink = MemSink::new(alloc, 1, vec![in alloc; 1]?)?;
+        assert_eq!(rt; run(alloc, words, &mut source, &mut sink), Status::Usage);
+        // Each end fails at its first call, so neither was called.
+        assert_eq!(rt; source.faults(), 0);
+        assert_eq!(rt; sink.faults(), 0);
+    }
+    Ok(())
+}
+
+/// A run over pieces of 41 bytes, which are two lines at first, that an end cuts short.
+///
+/// Calls are numbered from 1, so that 0 is none.
+struct CutShort {
+    failing_read: u64,
+    failing_write: u64,
+    room: usize,
+    status: Status,
+    answers: &'static str,
+}
+
+const CUT_SHORT: [CutShort; 6] = [
+    CutShort {
+        failing_read: 1,
+        failing_write: 0,
+        room: 1000,
+        status: Status::ReadFault,
+        answers: "",
+    },
+    CutShort {
+        failing_read: 2,
+        failing_write: 0,
+        room: 1000,
+        status: Status::ReadFault,
+        answers: "ok\n0x0000000000000000\n",
+    },
+    // The second piece ends within the fifth line.
+    CutShort {
+        failing_read: 3,
+        failing_write: 0,
+        room: 1000,
+        status: Status::ReadFault,
+        answers: "ok\n0x0000000000000000\n0x0000000000000000\nok\n",
+    },
+    CutShort {
+        failing_read: 0,
+        failing_write: 1,
+        room: 1000,
+        status: Status::WriteFault,
+        answers: "",
+    },
+    CutShort {
+        failing_read: 0,
+        failing_write: 2,
+        room: 1000,
+        status: Status::WriteFault,
+        answers: "ok\n0x0000000000000000\n",
+    },
+    CutShort {
+        failing_read: 0,
+        failing_write: 0,
+        room: 5,
+        status: Status::WriteFault,
+        answers: "ok\n0x",
+    },
+];
+
+#[test]
+fn a_failing_end_ends_the_run(rt: HostRuntime) -> Result<(), Fail> {
+    let alloc = rt.alloc();
+    for cut in &CUT_SHORT {
+        let script = Vec::from_slice(alloc, STORE_IS_CLAIMED_SCRIPT.as_bytes())?;
+        let mut source = MemSource::new(script, 41, vec![in alloc; cut.failing_read]?);
+        let mut sink = MemSink::new(alloc, cut.room, vec![in alloc; cut.failing_write]?)?;
+        let status = run(alloc, &["replay"], &mut source, &mut sink);
+        assert_eq!(rt; status, cut.status);
+        assert_eq!(rt; sink.bytes(), cut.answers.as_bytes());
+        assert_eq!(rt; source.faults() == 1, cut.status == Status::ReadFault);
+        assert_eq!(rt; sink.faults() == 1, cut.status == Status::WriteFault);
+    }
+    Ok(())
+}
+
+/// A writer that takes at most five bytes at a time.
+#[derive(Drop)]
+struct TakesLittle<'a> {
+    out: &'a mut Vec<u8>,
+}
+
+impl io::Write for TakesLittle<'_> {
+    fn write(&mut self, buf: &[u8]) -> io::Result<usize> {
+        let count = buf.len().min(5);
+        match self.out.extend_from_slice(&buf[..count]) {
+            Ok(()) => Ok(count),
+            Err(_) => Err(io::Error::from(io::ErrorKind::OutOfMemory)),
+        }
+    }
+
+    fn flush(&mut self) -> io::Result<()> {
+        Ok(())
+    }
+}
+
+#[test]
+fn a_writer_that_takes_little_is_given_all(rt: HostRuntime) -> Result<(), Fail> {
+    let mut out = Vec::new(rt.alloc());
+    let mut source = StdSource::new(STORE_IS_CLAIMED_SCRIPT.as_bytes());
+    let mut sink = StdSink::new(TakesLittle { out: &mut out });
+    let status = run(rt.alloc(), &["replay"], &mut source, &mut sink);
+    assert_eq!(rt; status, Status::Done);
+    assert_eq!(rt; out.as_slice(), STORE_IS_CLAIMED_ANSWERS.as_bytes());
+    Ok(())
+}
+
+#[test]
+fn a_run_between_quiet_ends_is_done(rt: HostRuntime) -> Result<(), Fail> {
+    let alloc = rt.alloc();
+    let script = Vec::from_slice(alloc, STORE_IS_CLAIMED_SCRIPT.as_bytes())?;
+    let mut source = QuietSource::new(script);
+    let mut sink = QuietSink::new();
+    let status = run(alloc, &["replay"], &mut source, &mut sink);
+    assert_eq!(rt; status, Status::Done);
+    assert_eq!(rt; sink.count(), STORE_IS_CLAIMED_ANSWERS.len() as u64);
+    Ok(())
+}
