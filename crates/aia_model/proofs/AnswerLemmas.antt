@@ -36,13 +36,13 @@ refusal_tests : (h : History) (line : Line) → refusal h line ≡ first_word (l
 refusal_tests h line =
     let word = λ (r : Answer × (History → Line → Bool)). r.0 in
     pushed word (lacks_machine h line) _ _ ∙ ap (cond (lacks_machine h line) (Some NoMachine)) (
-      pushed word (has_one_already h line) _ _ ∙ ap (cond (has_one_already h line) (Some Again)) (
-        pushed word (is_out_of_range h line) _ _ ∙ ap (cond (is_out_of_range h line) (Some Range)) (
-          pushed word (is_illegal h line) _ _ ∙ ap (cond (is_illegal h line) (Some Illegal)) (
-            pushed word (is_fault h line) _ _ ∙ ap (cond (is_fault h line) (Some Fault)) (pushed word (is_guarded_line h line) _ _)
-          )
-        )
-      )
+    pushed word (has_one_already h line) _ _ ∙ ap (cond (has_one_already h line) (Some Again)) (
+    pushed word (is_out_of_range h line) _ _ ∙ ap (cond (is_out_of_range h line) (Some Range)) (
+    pushed word (is_illegal h line) _ _ ∙ ap (cond (is_illegal h line) (Some Illegal)) (
+    pushed word (is_fault h line) _ _ ∙ ap (cond (is_fault h line) (Some Fault)) (pushed word (is_guarded_line h line) _ _)
+    )
+    )
+    )
     )
 
 pub machine_refusal : (h : History) (harts guests n sources : ℕ) → refusal h (Machine harts guests n sources) ≡ cond (has_machine h) (Some Again) (cond (not (is_machine_size harts guests n sources)) (Some Range) None)

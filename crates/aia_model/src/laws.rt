@@ -4,7 +4,6 @@ ghost use Rattle.std.specs.Prelude.{◌≡◌, ℕ, ◌↔◌, List, IsTrue};
 ghost use Rattle.aia_model.specs.Text.{is_skipped};
 ghost use Rattle.aia_model.specs.Grammar.{Spells, IsListed};
 ghost use Rattle.aia_model.specs.Reading.{reading};
-
 ghost use Rattle.aia_regs.specs.Word.{settle};
 ghost use Rattle.aia_file.specs.InterruptFile.{InterruptFile};
 ghost use Rattle.aia_model.specs.FileOf.{Deed, IsMaking, file_after, pending_said, enabled_said};
