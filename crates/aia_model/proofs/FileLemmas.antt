@@ -1,5 +1,5 @@
 -- What one event more makes of the file that a history gives.
-use Rattle.std.proofs.Common.{◌≡◌, ℕ, ◌%◌, ◌≢◌, ◌<◌, ◌∷◌, true, false, cond, nat_eq, refl, ap, ◌∙◌}
+use Rattle.std.proofs.Common.{◌≡◌, ℕ, ◌%◌, ◌≢◌, ◌∷◌, true, false, refl}
 use Rattle.std.proofs.lemmas.Bool.{eq-eqb, ne_eqb, cond-true, cond-false}
 use Rattle.aia_regs.specs.declared.access.Csr.{Csr}
 use Rattle.aia_regs.specs.declared.access.Csr.TheVariants.{Topei}

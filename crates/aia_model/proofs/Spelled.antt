@@ -17,7 +17,7 @@ use Rattle.aia_model.specs.declared.parsed.Parsed.TheVariants as parsed
 use Rattle.aia_model.specs.Text.{number_of, words_of, below, is_skipped, ◌>>=◌}
 use Rattle.aia_model.specs.Grammar.{Spells, Field, Fits, AllFit, IsListed, IsNamed, fields_of, instruction, machine_csr, supervisor_csr}
 use Rattle.aia_model.specs.Grammar.Field.{Keyword, Decimal, Hex, Hex32, Unspelled}
-use Rattle.aia_model.specs.Reading.{reading, parsed_of, Words, is_word, word_at, number_at, n32_at, whole, machine_at, load_at, store_at, machine_csr_of, supervisor_csr_of, csr_at, read_at, write_at, instruction_after, instruction_at, machine_csr_at, host_csr_at, line_at}
+use Rattle.aia_model.specs.Reading.{reading, parsed_of, Words, is_word, word_at, number_at, n32_at, whole, machine_at, load_at, store_at, machine_csr_of, supervisor_csr_of, csr_at, read_at, write_at, instruction_at, machine_csr_at, host_csr_at, line_at}
 
 -- ---- the names of a level
 

@@ -1,5 +1,5 @@
 -- What a line answers after a history, and the history after it. Profile, where no chapter is named.
-use Rattle.std.specs.Prelude.{ℕ, List, ◌∷◌, Option, Some, None, unwrap_or}
+use Rattle.std.specs.Prelude.{ℕ, ◌∷◌, Option, Some, None, unwrap_or}
 use Rattle.aia_word.specs.Top.{top_value}
 use Rattle.aia_regs.specs.declared.access.Csr.{Csr}
 use Rattle.aia_regs.specs.declared.access.Csr.TheVariants.{Select, Reg, Topei}
