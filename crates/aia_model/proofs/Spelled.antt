@@ -7,17 +7,64 @@ use Rattle.std.proofs.lemmas.Slice.Eq.{bytes_eq-Decides}
 use Rattle.std.proofs.lemmas.List.Splits.{slice_split-cons_yes, slice_split-cons_no}
 use Rattle.std.specs.List.{onto_first}
 use Rattle.aia_regs.specs.declared.access.Csr.{Csr}
-use Rattle.aia_regs.specs.declared.access.Csr.TheVariants.{Select, Reg, Topei, Topi, Sip, Sie}
+use Rattle.aia_regs.specs.declared.access.Csr.TheVariants.{Select, Reg, Topei}
 use Rattle.aia_regs.specs.declared.access.Op.{Op}
-use Rattle.aia_regs.specs.declared.access.Op.TheVariants.{Read, Write, Set, Clear}
+use Rattle.aia_regs.specs.declared.access.Op.TheVariants as ops
 use Rattle.aia_model.specs.declared.line.Line.{Line}
-use Rattle.aia_model.specs.declared.line.Line.TheVariants.{Machine, Store, HostCsr}
+use Rattle.aia_model.specs.declared.line.Line.TheVariants.{Machine, Load, Store, MachineCsr, HostCsr}
 use Rattle.aia_model.specs.declared.parsed.Parsed.{Parsed}
 use Rattle.aia_model.specs.declared.parsed.Parsed.TheVariants as parsed
 use Rattle.aia_model.specs.Text.{number_of, words_of, below, is_skipped, ◌>>=◌}
-use Rattle.aia_model.specs.Grammar.{Spells, Field, Fits, AllFit, IsListed, IsNamed, fields_of, instruction, supervisor_csr}
+use Rattle.aia_model.specs.Grammar.{Spells, Field, Fits, AllFit, IsListed, IsNamed, fields_of, instruction, machine_csr, supervisor_csr}
 use Rattle.aia_model.specs.Grammar.Field.{Keyword, Decimal, Hex, Hex32, Unspelled}
-use Rattle.aia_model.specs.Reading.{reading, parsed_of, Words, is_word, word_at, number_at, n32_at, at_end, machine_at, store_at, supervisor_csr_of, supervisor_csr_at, read_at, write_at, host_at, line_at}
+use Rattle.aia_model.specs.Reading.{reading, parsed_of, Words, is_word, word_at, number_at, n32_at, whole, machine_at, load_at, store_at, machine_csr_of, supervisor_csr_of, csr_at, read_at, write_at, instruction_at, machine_csr_at, host_csr_at, line_at}
+
+-- ---- the names of a level
+
+-- `named` finds the CSR of a level that a word names, as the level's row of the table spells it
+pub record Naming (row : Csr → Field) (named : List ℕ → Option Csr) : Type 0 where
+  pub finds : (csr : Csr) (w : List ℕ) → Fits w (row csr) → named w ≡ Some csr
+  pub found : (w : List ℕ) (csr : Csr) → named w ≡ Some csr → Fits w (row csr)
+
+-- which way an `if` went
+chosen : {A : Type 0} (b : Bool) (x y : Option A) (z : A) → cond b x y ≡ Some z → ((b ≡ true) × (x ≡ Some z)) ⊎ ((b ≡ false) × (y ≡ Some z))
+chosen true x y z e = inl (refl, e)
+chosen false x y z e = inr (refl, e)
+
+-- the same, where a word is compared
+chosen_word : {A : Type 0} (w k : List ℕ) (x y : Option A) (z : A) → cond (is_word w k) x y ≡ Some z → ((w ≡ k) × (x ≡ Some z)) ⊎ (y ≡ Some z)
+chosen_word w k x y z e = elim (chosen (is_word w k) x y z e) [ inl h ↦ inl ((bytes_eq-Decides w k).0 h.0, h.1) | inr h ↦ inr h.1 ]
+
+-- three names
+three_found : (row : Csr → Field) (w a b c : List ℕ) (csr : Csr) → row Select ≡ Keyword a → row Reg ≡ Keyword b → row Topei ≡ Keyword c → cond (is_word w a) (Some Select) (cond (is_word w b) (Some Reg) (cond (is_word w c) (Some Topei) None)) ≡ Some csr → Fits w (row csr)
+three_found row w a b c csr at_select at_reg at_topei e = elim (chosen_word w a _ _ csr e) [
+  | inl h ↦ let q : Select ≡ csr = cc in subst (λ (c : Csr). Fits w (row c)) q (subst (Fits w) (sym at_select) h.0)
+  | inr h ↦ elim (chosen_word w b _ _ csr h) [
+    | inl i ↦ let q : Reg ≡ csr = cc in subst (λ (c : Csr). Fits w (row c)) q (subst (Fits w) (sym at_reg) i.0)
+    | inr i ↦ elim (chosen_word w c _ _ csr i) [
+      | inl j ↦ let q : Topei ≡ csr = cc in subst (λ (c : Csr). Fits w (row c)) q (subst (Fits w) (sym at_topei) j.0)
+      | inr j ↦ let bad : ◌≡◌ {A = Option Csr} None (Some csr) = j in absurd (cc)
+    ]
+  ]
+]
+
+machine_finds : (csr : Csr) (w : List ℕ) → Fits w (machine_csr csr) → machine_csr_of w ≡ Some csr
+machine_finds Select w fits = ap machine_csr_of fits
+machine_finds Reg w fits = ap machine_csr_of fits
+machine_finds Topei w fits = ap machine_csr_of fits
+machine_finds csr w fits = absurd fits
+
+supervisor_finds : (csr : Csr) (w : List ℕ) → Fits w (supervisor_csr csr) → supervisor_csr_of w ≡ Some csr
+supervisor_finds Select w fits = ap supervisor_csr_of fits
+supervisor_finds Reg w fits = ap supervisor_csr_of fits
+supervisor_finds Topei w fits = ap supervisor_csr_of fits
+supervisor_finds csr w fits = absurd fits
+
+pub machine_naming : Naming machine_csr machine_csr_of
+machine_naming = record { finds = machine_finds; found = λ w csr e. three_found machine_csr w (codes "miselect") (codes "mireg") (codes "mtopei") csr refl refl refl e }
+
+pub supervisor_naming : Naming supervisor_csr supervisor_csr_of
+supervisor_naming = record { finds = supervisor_finds; found = λ w csr e. three_found supervisor_csr w (codes "siselect") (codes "sireg") (codes "stopei") csr refl refl refl e }
 
 -- ---- what is spelled is read
 
@@ -29,17 +76,9 @@ small_read : (w : List ℕ) (ws : Words) (n : ℕ) → number_of w ≡ Some n �
 unfolding n32_at
 small_read w ws n e low = ap (λ o. o >>= λ x. below (2 ^ 32) x.0 >>= λ s. Some (s, x.1)) (number_read w ws n e) ∙ ap (λ o. o >>= λ s. Some (s, ws)) (cond-true _ _ _ (lt-ltb n (2 ^ 32) low))
 
-csr_named : (csr : Csr) (w : List ℕ) → Fits w (supervisor_csr csr) → supervisor_csr_of w ≡ Some csr
-csr_named Select w fits = ap supervisor_csr_of fits
-csr_named Reg w fits = ap supervisor_csr_of fits
-csr_named Topei w fits = ap supervisor_csr_of fits
-csr_named Topi w fits = absurd fits
-csr_named Sip w fits = absurd fits
-csr_named Sie w fits = absurd fits
-
-csr_read : (csr : Csr) (w : List ℕ) (ws : Words) → Fits w (supervisor_csr csr) → supervisor_csr_at (w ∷ ws) ≡ Some (csr, ws)
-unfolding supervisor_csr_at
-csr_read csr w ws fits = ap (λ o. o >>= λ c. Some (c, ws)) (csr_named csr w fits)
+csr_read : (row : Csr → Field) (named : List ℕ → Option Csr) → Naming row named → (csr : Csr) (w : List ℕ) (ws : Words) → Fits w (row csr) → csr_at named (w ∷ ws) ≡ Some (csr, ws)
+unfolding csr_at
+csr_read row named naming csr w ws fits = ap (λ o. o >>= λ c. Some (c, ws)) (naming.finds csr w fits)
 
 machine_read : (ws : Words) (harts guests n sources : ℕ) → AllFit ws (Decimal harts ∷ Decimal guests ∷ Decimal n ∷ Decimal sources ∷ []) → machine_at ws ≡ Some (Machine harts guests n sources)
 unfolding machine_at
@@ -58,50 +97,66 @@ store_read [] addr value fits = absurd fits
 store_read (a ∷ []) addr value fits = absurd fits.1
 store_read (a ∷ b ∷ c ∷ ws) addr value fits = absurd fits.1.1
 
-access_read : (hart : ℕ) (csr : Csr) (ws : Words) → AllFit ws (supervisor_csr csr ∷ []) → read_at hart ws ≡ Some (HostCsr hart csr Read)
+load_read : (ws : Words) (addr : ℕ) → AllFit ws (Hex addr ∷ []) → load_at ws ≡ Some (Load addr)
+unfolding load_at
+load_read (a ∷ []) addr fits = rw (number_read a [] addr fits.0) refl
+load_read [] addr fits = absurd fits
+load_read (a ∷ b ∷ ws) addr fits = absurd fits.1
+
+access_read : (row : Csr → Field) (named : List ℕ → Option Csr) → Naming row named → (csr : Csr) (ws : Words) → AllFit ws (row csr ∷ []) → read_at named ws ≡ Some (csr, ops.Read)
 unfolding read_at
-access_read hart csr (c ∷ []) fits = rw (csr_read csr c [] fits.0) refl
-access_read hart csr [] fits = absurd fits
-access_read hart csr (c ∷ d ∷ ws) fits = absurd fits.1
+access_read row named naming csr (c ∷ []) fits = rw (csr_read row named naming csr c [] fits.0) refl
+access_read row named naming csr [] fits = absurd fits
+access_read row named naming csr (c ∷ d ∷ ws) fits = absurd fits.1
 
-access_write : (hart : ℕ) (csr : Csr) (v : ℕ) (ws : Words) → AllFit ws (supervisor_csr csr ∷ Hex v ∷ []) → write_at hart ws ≡ Some (HostCsr hart csr (Write v))
+-- an instruction with an operand, whichever it is
+access_write : (row : Csr → Field) (named : List ℕ → Option Csr) → Naming row named → (op : ℕ → Op) (csr : Csr) (v : ℕ) (ws : Words) → AllFit ws (row csr ∷ Hex v ∷ []) → write_at named op ws ≡ Some (csr, op v)
 unfolding write_at
-access_write hart csr v (c ∷ x ∷ []) fits = rw (csr_read csr c (x ∷ []) fits.0, number_read x [] v fits.1.0) refl
-access_write hart csr v [] fits = absurd fits
-access_write hart csr v (c ∷ []) fits = absurd fits.1
-access_write hart csr v (c ∷ x ∷ d ∷ ws) fits = absurd fits.1.1
+access_write row named naming op csr v (c ∷ d ∷ []) fits = rw (csr_read row named naming csr c (d ∷ []) fits.0, number_read d [] v fits.1.0) refl
+access_write row named naming op csr v [] fits = absurd fits
+access_write row named naming op csr v (c ∷ []) fits = absurd fits.1
+access_write row named naming op csr v (c ∷ d ∷ e ∷ ws) fits = absurd fits.1.1
 
-host_read : (hart : ℕ) (csr : Csr) (op : Op) (ws : Words) → AllFit ws (Decimal hart ∷ instruction (supervisor_csr csr) op) → host_at ws ≡ Some (HostCsr hart csr op)
-unfolding host_at
-host_read hart csr op [] fits = absurd fits
-host_read hart csr Read (x ∷ []) fits = absurd fits.1
-host_read hart csr (Write v) (x ∷ []) fits = absurd fits.1
-host_read hart csr (Set v) (x ∷ []) fits = absurd fits.1
-host_read hart csr (Clear v) (x ∷ []) fits = absurd fits.1
-host_read hart csr Read (x ∷ i ∷ ws) fits = rw (number_read x (i ∷ ws) hart fits.0) (rw fits.1.0 (access_read hart csr ws fits.1.1))
-host_read hart csr (Write v) (x ∷ i ∷ ws) fits = rw (number_read x (i ∷ ws) hart fits.0) (rw fits.1.0 (access_write hart csr v ws fits.1.1))
-host_read hart csr (Set v) (x ∷ i ∷ ws) fits = absurd fits.1.0
-host_read hart csr (Clear v) (x ∷ i ∷ ws) fits = absurd fits.1.0
+pub instruction_read : (row : Csr → Field) (named : List ℕ → Option Csr) → Naming row named → (csr : Csr) (op : Op) (ws : Words) → AllFit ws (instruction (row csr) op) → instruction_at named ws ≡ Some (csr, op)
+unfolding instruction_at
+instruction_read row named naming csr ops.Read [] fits = absurd fits
+instruction_read row named naming csr (ops.Write v) [] fits = absurd fits
+instruction_read row named naming csr (ops.Set v) [] fits = absurd fits
+instruction_read row named naming csr (ops.Clear v) [] fits = absurd fits
+instruction_read row named naming csr ops.Read (i ∷ ws) fits = rw fits.0 (access_read row named naming csr ws fits.1)
+instruction_read row named naming csr (ops.Write v) (i ∷ ws) fits = rw fits.0 (access_write row named naming ops.Write csr v ws fits.1)
+instruction_read row named naming csr (ops.Set v) (i ∷ ws) fits = rw fits.0 (access_write row named naming ops.Set csr v ws fits.1)
+instruction_read row named naming csr (ops.Clear v) (i ∷ ws) fits = rw fits.0 (access_write row named naming ops.Clear csr v ws fits.1)
+
+machine_access_read : (hart : ℕ) (csr : Csr) (op : Op) (ws : Words) → AllFit ws (Decimal hart ∷ instruction (machine_csr csr) op) → machine_csr_at ws ≡ Some (MachineCsr hart csr op)
+unfolding machine_csr_at
+machine_access_read hart csr op [] fits = absurd fits
+machine_access_read hart csr op (x ∷ ws) fits = rw (number_read x ws hart fits.0, instruction_read machine_csr machine_csr_of machine_naming csr op ws fits.1) refl
+
+host_access_read : (hart : ℕ) (csr : Csr) (op : Op) (ws : Words) → AllFit ws (Decimal hart ∷ instruction (supervisor_csr csr) op) → host_csr_at ws ≡ Some (HostCsr hart csr op)
+unfolding host_csr_at
+host_access_read hart csr op [] fits = absurd fits
+host_access_read hart csr op (x ∷ ws) fits = rw (number_read x ws hart fits.0, instruction_read supervisor_csr supervisor_csr_of supervisor_naming csr op ws fits.1) refl
 
 -- words that spell a line are read as it
 pub spelled_read : (ws : Words) (line : Line) → AllFit ws (fields_of line) → line_at ws ≡ Some line
 unfolding line_at
 spelled_read [] (Machine harts guests n sources) fits = absurd fits
+spelled_read [] (Load addr) fits = absurd fits
 spelled_read [] (Store addr value) fits = absurd fits
+spelled_read [] (MachineCsr hart csr op) fits = absurd fits
 spelled_read [] (HostCsr hart csr op) fits = absurd fits
 spelled_read (k ∷ ws) (Machine harts guests n sources) fits = rw fits.0 (machine_read ws harts guests n sources fits.1)
+spelled_read (k ∷ ws) (Load addr) fits = rw fits.0 (load_read ws addr fits.1)
 spelled_read (k ∷ ws) (Store addr value) fits = rw fits.0 (store_read ws addr value fits.1)
-spelled_read (k ∷ ws) (HostCsr hart csr op) fits = rw fits.0 (host_read hart csr op ws fits.1)
+spelled_read (k ∷ ws) (MachineCsr hart csr op) fits = rw fits.0 (machine_access_read hart csr op ws fits.1)
+spelled_read (k ∷ ws) (HostCsr hart csr op) fits = rw fits.0 (host_access_read hart csr op ws fits.1)
 
 -- ---- what is read is spelled so
 
 bind_some : {A B : Type 0} (o : Option A) (f : A → Option B) (y : B) → (o >>= f) ≡ Some y → (x : A) × (o ≡ Some x) × (f x ≡ Some y)
 bind_some None f y e = absurd (cc)
 bind_some (Some x) f y e = (x, refl, e)
-
-chosen : {A : Type 0} (b : Bool) (x y : Option A) (z : A) → cond b x y ≡ Some z → ((b ≡ true) × (x ≡ Some z)) ⊎ ((b ≡ false) × (y ≡ Some z))
-chosen true x y z e = inl (refl, e)
-chosen false x y z e = inr (refl, e)
 
 chosen_parsed : (t : Bool) (x y z : Parsed) → cond t x y ≡ z → ((t ≡ true) × (x ≡ z)) ⊎ ((t ≡ false) × (y ≡ z))
 chosen_parsed true x y z e = inl (refl, e)
@@ -137,30 +192,17 @@ small_found ws x e =
       | inr h ↦ let bad : ◌≡◌ {A = Option ℕ} None (Some s) = h.1 in absurd (cc)
     ]
 
--- the word spells the CSR that it names
-csr_named_by : (w : List ℕ) (csr : Csr) → supervisor_csr_of w ≡ Some csr → Fits w (supervisor_csr csr)
-csr_named_by w csr e = elim (chosen (is_word w (codes "siselect")) _ _ csr e) [
-  | inl h ↦ let q : Select ≡ csr = cc in subst (λ (c : Csr). Fits w (supervisor_csr c)) q ((bytes_eq-Decides w _).0 h.0)
-  | inr h ↦ elim (chosen (is_word w (codes "sireg")) _ _ csr h.1) [
-    | inl i ↦ let q : Reg ≡ csr = cc in subst (λ (c : Csr). Fits w (supervisor_csr c)) q ((bytes_eq-Decides w _).0 i.0)
-    | inr i ↦ elim (chosen (is_word w (codes "stopei")) _ _ csr i.1) [
-      | inl j ↦ let q : Topei ≡ csr = cc in subst (λ (c : Csr). Fits w (supervisor_csr c)) q ((bytes_eq-Decides w _).0 j.0)
-      | inr j ↦ let bad : ◌≡◌ {A = Option Csr} None (Some csr) = j.1 in absurd (cc)
-    ]
-  ]
-]
-
-csr_found : (ws : Words) (x : Csr × Words) → supervisor_csr_at ws ≡ Some x → (w : List ℕ) × (ws ≡ w ∷ x.1) × Fits w (supervisor_csr x.0)
-unfolding supervisor_csr_at
-csr_found ws x e =
+csr_found : (row : Csr → Field) (named : List ℕ → Option Csr) → Naming row named → (ws : Words) (x : Csr × Words) → csr_at named ws ≡ Some x → (w : List ℕ) × (ws ≡ w ∷ x.1) × Fits w (row x.0)
+unfolding csr_at
+csr_found row named naming ws x e =
     let a = bind_some (word_at ws) _ x e in
-    let b = bind_some (supervisor_csr_of a.0.0) _ x a.2 in
+    let b = bind_some (named a.0.0) _ x a.2 in
     let p : (b.0, a.0.1) ≡ x = cc in
-    (a.0.0, word_found ws a.0 a.1 ∙ ap (λ r. a.0.0 ∷ r) (ap (λ (q : Csr × Words). q.1) p), subst (λ (q : Csr × Words). Fits a.0.0 (supervisor_csr q.0)) p (csr_named_by a.0.0 b.0 b.1))
+    (a.0.0, word_found ws a.0 a.1 ∙ ap (λ r. a.0.0 ∷ r) (ap (λ (q : Csr × Words). q.1) p), subst (λ (q : Csr × Words). Fits a.0.0 (row q.0)) p (naming.found a.0.0 b.0 b.1))
 
-end_found : (ws : Words) (line x : Line) → at_end ws line ≡ Some x → (ws ≡ []) × (line ≡ x)
-end_found [] line x e = (refl, cc)
-end_found (w ∷ ws) line x e = let bad : ◌≡◌ {A = Option Line} None (Some x) = e in absurd (cc)
+whole_found : {A : Type 0} (ws : Words) (y x : A) → whole ws y ≡ Some x → (ws ≡ []) × (y ≡ x)
+whole_found [] y x e = (refl, cc)
+whole_found {A = A} (w ∷ ws) y x e = let bad : ◌≡◌ {A = Option A} None (Some x) = e in absurd (cc)
 
 fit : (ws : Words) (w : List ℕ) (rest : Words) (f : Field) (fs : List Field) → ws ≡ w ∷ rest → Fits w f → AllFit rest fs → AllFit ws (f ∷ fs)
 fit ws w rest f fs e h t = subst (λ (x : Words). AllFit x (f ∷ fs)) (sym e) (h, t)
@@ -175,7 +217,7 @@ store_found ws x e =
     let f = number_found ws a.0 a.1 in
     let b = bind_some (n32_at a.0.1) _ x a.2 in
     let g = small_found a.0.1 b.0 b.1 in
-    let z = end_found b.0.1 (Store a.0.0 b.0.0) x b.2 in
+    let z = whole_found b.0.1 (Store a.0.0 b.0.0) x b.2 in
     (a.0.0, b.0.0, z.1, fit ws f.0 a.0.1 (Hex a.0.0) (Hex32 b.0.0 ∷ []) f.1 f.2 (fit a.0.1 g.0 b.0.1 (Hex32 b.0.0) [] g.1 (g.2, g.3) (fit_end b.0.1 z.0)))
 
 machine_found : (ws : Words) (x : Line) → machine_at ws ≡ Some x → (harts : ℕ) × (guests : ℕ) × (n : ℕ) × (sources : ℕ) × (Machine harts guests n sources ≡ x) × AllFit ws (Decimal harts ∷ Decimal guests ∷ Decimal n ∷ Decimal sources ∷ [])
@@ -189,7 +231,7 @@ machine_found ws x e =
     let h = number_found b.0.1 c.0 c.1 in
     let d = bind_some (number_at c.0.1) _ x c.2 in
     let i = number_found c.0.1 d.0 d.1 in
-    let z = end_found d.0.1 (Machine a.0.0 b.0.0 c.0.0 d.0.0) x d.2 in (
+    let z = whole_found d.0.1 (Machine a.0.0 b.0.0 c.0.0 d.0.0) x d.2 in (
       a.0.0,
       b.0.0,
       c.0.0,
@@ -198,40 +240,73 @@ machine_found ws x e =
       fit ws f.0 a.0.1 (Decimal a.0.0) _ f.1 f.2 (fit a.0.1 g.0 b.0.1 (Decimal b.0.0) _ g.1 g.2 (fit b.0.1 h.0 c.0.1 (Decimal c.0.0) _ h.1 h.2 (fit c.0.1 i.0 d.0.1 (Decimal d.0.0) [] i.1 i.2 (fit_end d.0.1 z.0)))),
     )
 
-access_read_found : (hart : ℕ) (ws : Words) (x : Line) → read_at hart ws ≡ Some x → (csr : Csr) × (HostCsr hart csr Read ≡ x) × AllFit ws (supervisor_csr csr ∷ [])
-unfolding read_at
-access_read_found hart ws x e =
-    let a = bind_some (supervisor_csr_at ws) _ x e in
-    let f = csr_found ws a.0 a.1 in
-    let z = end_found a.0.1 (HostCsr hart a.0.0 Read) x a.2 in
-    (a.0.0, z.1, fit ws f.0 a.0.1 (supervisor_csr a.0.0) [] f.1 f.2 (fit_end a.0.1 z.0))
-
-access_write_found : (hart : ℕ) (ws : Words) (x : Line) → write_at hart ws ≡ Some x → (csr : Csr) × (v : ℕ) × (HostCsr hart csr (Write v) ≡ x) × AllFit ws (supervisor_csr csr ∷ Hex v ∷ [])
-unfolding write_at
-access_write_found hart ws x e =
-    let a = bind_some (supervisor_csr_at ws) _ x e in
-    let f = csr_found ws a.0 a.1 in
-    let b = bind_some (number_at a.0.1) _ x a.2 in
-    let g = number_found a.0.1 b.0 b.1 in
-    let z = end_found b.0.1 (HostCsr hart a.0.0 (Write b.0.0)) x b.2 in
-    (a.0.0, b.0.0, z.1, fit ws f.0 a.0.1 (supervisor_csr a.0.0) _ f.1 f.2 (fit a.0.1 g.0 b.0.1 (Hex b.0.0) [] g.1 g.2 (fit_end b.0.1 z.0)))
-
-host_found : (ws : Words) (x : Line) → host_at ws ≡ Some x → (hart : ℕ) × (csr : Csr) × (op : Op) × (HostCsr hart csr op ≡ x) × AllFit ws (Decimal hart ∷ instruction (supervisor_csr csr) op)
-unfolding host_at
-host_found ws x e =
+load_found : (ws : Words) (x : Line) → load_at ws ≡ Some x → (addr : ℕ) × (Load addr ≡ x) × AllFit ws (Hex addr ∷ [])
+unfolding load_at
+load_found ws x e =
     let a = bind_some (number_at ws) _ x e in
     let f = number_found ws a.0 a.1 in
-    let b = bind_some (word_at a.0.1) _ x a.2 in
-    let k = word_found a.0.1 b.0 b.1 in
-    elim (chosen (is_word b.0.0 (codes "csrr")) _ _ x b.2) [
-      | inl h ↦ let r = access_read_found a.0.0 b.0.1 x h.1 in
-          (a.0.0, r.0, Read, r.1, fit ws f.0 a.0.1 (Decimal a.0.0) _ f.1 f.2 (fit a.0.1 b.0.0 b.0.1 (Keyword (codes "csrr")) _ k ((bytes_eq-Decides b.0.0 _).0 h.0) r.2))
-      | inr h ↦ elim (chosen (is_word b.0.0 (codes "csrrw")) _ _ x h.1) [
-        | inl i ↦ let r = access_write_found a.0.0 b.0.1 x i.1 in
-            (a.0.0, r.0, Write r.1, r.2, fit ws f.0 a.0.1 (Decimal a.0.0) _ f.1 f.2 (fit a.0.1 b.0.0 b.0.1 (Keyword (codes "csrrw")) _ k ((bytes_eq-Decides b.0.0 _).0 i.0) r.3))
-        | inr i ↦ let bad : ◌≡◌ {A = Option Line} None (Some x) = i.1 in absurd (cc)
+    let z = whole_found a.0.1 (Load a.0.0) x a.2 in
+    (a.0.0, z.1, fit ws f.0 a.0.1 (Hex a.0.0) [] f.1 f.2 (fit_end a.0.1 z.0))
+
+access_read_found : (row : Csr → Field) (named : List ℕ → Option Csr) → Naming row named → (ws : Words) (x : Csr × Op) → read_at named ws ≡ Some x → (csr : Csr) × ((csr, ops.Read) ≡ x) × AllFit ws (row csr ∷ [])
+unfolding read_at
+access_read_found row named naming ws x e =
+    let a = bind_some (csr_at named ws) _ x e in
+    let f = csr_found row named naming ws a.0 a.1 in
+    let z = whole_found a.0.1 (a.0.0, ops.Read) x a.2 in
+    (a.0.0, z.1, fit ws f.0 a.0.1 (row a.0.0) [] f.1 f.2 (fit_end a.0.1 z.0))
+
+access_write_found : (row : Csr → Field) (named : List ℕ → Option Csr) → Naming row named → (op : ℕ → Op) (ws : Words) (x : Csr × Op) → write_at named op ws ≡ Some x → (csr : Csr) × (v : ℕ) × ((csr, op v) ≡ x) × AllFit ws (row csr ∷ Hex v ∷ [])
+unfolding write_at
+access_write_found row named naming op ws x e =
+    let a = bind_some (csr_at named ws) _ x e in
+    let f = csr_found row named naming ws a.0 a.1 in
+    let b = bind_some (number_at a.0.1) _ x a.2 in
+    let g = number_found a.0.1 b.0 b.1 in
+    let z = whole_found b.0.1 (a.0.0, op b.0.0) x b.2 in
+    (a.0.0, b.0.0, z.1, fit ws f.0 a.0.1 (row a.0.0) _ f.1 f.2 (fit a.0.1 g.0 b.0.1 (Hex b.0.0) [] g.1 g.2 (fit_end b.0.1 z.0)))
+
+-- what an instruction with an operand is read as, where the table spells the operation by this mnemonic
+operand_found : (row : Csr → Field) (named : List ℕ → Option Csr) → Naming row named → (k : List ℕ) (op : ℕ → Op) → ((csr : Field) (v : ℕ) → instruction csr (op v) ≡ Keyword k ∷ csr ∷ Hex v ∷ []) → (ws : Words) (w : List ℕ) (rest : Words) (x : Csr × Op) → ws ≡ w ∷ rest → w ≡ k → write_at named op rest ≡ Some x → AllFit ws (instruction (row x.0) x.1)
+operand_found row named naming k op spelled ws w rest x e is there =
+    let r = access_write_found row named naming op rest x there in
+    subst (λ (q : Csr × Op). AllFit ws (instruction (row q.0) q.1)) r.2 (subst (AllFit ws) (sym (spelled (row r.0) r.1)) (fit ws w rest (Keyword k) _ e is r.3))
+
+pub instruction_found : (row : Csr → Field) (named : List ℕ → Option Csr) → Naming row named → (ws : Words) (x : Csr × Op) → instruction_at named ws ≡ Some x → AllFit ws (instruction (row x.0) x.1)
+unfolding instruction_at
+instruction_found row named naming ws x e =
+    let b = bind_some (word_at ws) _ x e in
+    let k = word_found ws b.0 b.1 in
+    elim (chosen_word b.0.0 (codes "csrr") _ _ x b.2) [
+      | inl h ↦ let r = access_read_found row named naming b.0.1 x h.1 in
+          subst (λ (q : Csr × Op). AllFit ws (instruction (row q.0) q.1)) r.1 (fit ws b.0.0 b.0.1 (Keyword (codes "csrr")) _ k h.0 r.2)
+      | inr h ↦ elim (chosen_word b.0.0 (codes "csrrw") _ _ x h) [
+        | inl i ↦ operand_found row named naming (codes "csrrw") ops.Write (λ csr v. refl) ws b.0.0 b.0.1 x k i.0 i.1
+        | inr i ↦ elim (chosen_word b.0.0 (codes "csrrs") _ _ x i) [
+          | inl j ↦ operand_found row named naming (codes "csrrs") ops.Set (λ csr v. refl) ws b.0.0 b.0.1 x k j.0 j.1
+          | inr j ↦ elim (chosen_word b.0.0 (codes "csrrc") _ _ x j) [
+            | inl l ↦ operand_found row named naming (codes "csrrc") ops.Clear (λ csr v. refl) ws b.0.0 b.0.1 x k l.0 l.1
+            | inr l ↦ let bad : ◌≡◌ {A = Option (Csr × Op)} None (Some x) = l in absurd (cc)
+          ]
+        ]
       ]
     ]
+
+machine_access_found : (ws : Words) (x : Line) → machine_csr_at ws ≡ Some x → (hart : ℕ) × (csr : Csr) × (op : Op) × (MachineCsr hart csr op ≡ x) × AllFit ws (Decimal hart ∷ instruction (machine_csr csr) op)
+unfolding machine_csr_at
+machine_access_found ws x e =
+    let a = bind_some (number_at ws) _ x e in
+    let f = number_found ws a.0 a.1 in
+    let b = bind_some (instruction_at machine_csr_of a.0.1) _ x a.2 in
+    (a.0.0, b.0.0, b.0.1, cc, fit ws f.0 a.0.1 (Decimal a.0.0) _ f.1 f.2 (instruction_found machine_csr machine_csr_of machine_naming a.0.1 b.0 b.1))
+
+host_access_found : (ws : Words) (x : Line) → host_csr_at ws ≡ Some x → (hart : ℕ) × (csr : Csr) × (op : Op) × (HostCsr hart csr op ≡ x) × AllFit ws (Decimal hart ∷ instruction (supervisor_csr csr) op)
+unfolding host_csr_at
+host_access_found ws x e =
+    let a = bind_some (number_at ws) _ x e in
+    let f = number_found ws a.0 a.1 in
+    let b = bind_some (instruction_at supervisor_csr_of a.0.1) _ x a.2 in
+    (a.0.0, b.0.0, b.0.1, cc, fit ws f.0 a.0.1 (Decimal a.0.0) _ f.1 f.2 (instruction_found supervisor_csr supervisor_csr_of supervisor_naming a.0.1 b.0 b.1))
 
 -- what is read is spelled so
 pub read_spelled : (ws : Words) (x : Line) → line_at ws ≡ Some x → AllFit ws (fields_of x)
@@ -239,13 +314,19 @@ unfolding line_at
 read_spelled ws x e =
     let b = bind_some (word_at ws) _ x e in
     let k = word_found ws b.0 b.1 in
-    elim (chosen (is_word b.0.0 (codes "machine")) _ _ x b.2) [
-      | inl h ↦ let r = machine_found b.0.1 x h.1 in subst (λ (y : Line). AllFit ws (fields_of y)) r.4 (fit ws b.0.0 b.0.1 (Keyword (codes "machine")) _ k ((bytes_eq-Decides b.0.0 _).0 h.0) r.5)
-      | inr h ↦ elim (chosen (is_word b.0.0 (codes "st")) _ _ x h.1) [
-        | inl i ↦ let r = store_found b.0.1 x i.1 in subst (λ (y : Line). AllFit ws (fields_of y)) r.2 (fit ws b.0.0 b.0.1 (Keyword (codes "st")) _ k ((bytes_eq-Decides b.0.0 _).0 i.0) r.3)
-        | inr i ↦ elim (chosen (is_word b.0.0 (codes "h")) _ _ x i.1) [
-          | inl j ↦ let r = host_found b.0.1 x j.1 in subst (λ (y : Line). AllFit ws (fields_of y)) r.3 (fit ws b.0.0 b.0.1 (Keyword (codes "h")) _ k ((bytes_eq-Decides b.0.0 _).0 j.0) r.4)
-          | inr j ↦ let bad : ◌≡◌ {A = Option Line} None (Some x) = j.1 in absurd (cc)
+    elim (chosen_word b.0.0 (codes "machine") _ _ x b.2) [
+      | inl h ↦ let r = machine_found b.0.1 x h.1 in subst (λ (y : Line). AllFit ws (fields_of y)) r.4 (fit ws b.0.0 b.0.1 (Keyword (codes "machine")) _ k h.0 r.5)
+      | inr h ↦ elim (chosen_word b.0.0 (codes "ld") _ _ x h) [
+        | inl i ↦ let r = load_found b.0.1 x i.1 in subst (λ (y : Line). AllFit ws (fields_of y)) r.1 (fit ws b.0.0 b.0.1 (Keyword (codes "ld")) _ k i.0 r.2)
+        | inr i ↦ elim (chosen_word b.0.0 (codes "st") _ _ x i) [
+          | inl j ↦ let r = store_found b.0.1 x j.1 in subst (λ (y : Line). AllFit ws (fields_of y)) r.2 (fit ws b.0.0 b.0.1 (Keyword (codes "st")) _ k j.0 r.3)
+          | inr j ↦ elim (chosen_word b.0.0 (codes "m") _ _ x j) [
+            | inl l ↦ let r = machine_access_found b.0.1 x l.1 in subst (λ (y : Line). AllFit ws (fields_of y)) r.3 (fit ws b.0.0 b.0.1 (Keyword (codes "m")) _ k l.0 r.4)
+            | inr l ↦ elim (chosen_word b.0.0 (codes "h") _ _ x l) [
+              | inl o ↦ let r = host_access_found b.0.1 x o.1 in subst (λ (y : Line). AllFit ws (fields_of y)) r.3 (fit ws b.0.0 b.0.1 (Keyword (codes "h")) _ k o.0 r.4)
+              | inr o ↦ let bad : ◌≡◌ {A = Option Line} None (Some x) = o in absurd (cc)
+            ]
+          ]
         ]
       ]
     ]
@@ -266,13 +347,17 @@ begins b bytes x k fs fits = elim (cases_Bool (nat_eq b 32)) [
 -- and so not with `#`
 keyword_first : (b : ℕ) (bytes : List ℕ) (line : Line) → AllFit (words_of (b ∷ bytes)) (fields_of line) → b ≢ 35
 keyword_first b bytes (Machine harts guests n sources) fits = λ e. let p : b ≡ 109 = begins b bytes 109 _ _ fits in absurd (omega arith)
+keyword_first b bytes (Load addr) fits = λ e. let p : b ≡ 108 = begins b bytes 108 _ _ fits in absurd (omega arith)
 keyword_first b bytes (Store addr value) fits = λ e. let p : b ≡ 115 = begins b bytes 115 _ _ fits in absurd (omega arith)
+keyword_first b bytes (MachineCsr hart csr op) fits = λ e. let p : b ≡ 109 = begins b bytes 109 _ _ fits in absurd (omega arith)
 keyword_first b bytes (HostCsr hart csr op) fits = λ e. let p : b ≡ 104 = begins b bytes 104 _ _ fits in absurd (omega arith)
 
 -- a text that spells a line is not skipped
 pub spelled_not_skipped : (text : List ℕ) (line : Line) → Spells text line → is_skipped text ≡ false
 spelled_not_skipped [] (Machine harts guests n sources) s = let bad : [] ≡ codes "machine" = s.1.0 in absurd (cc)
+spelled_not_skipped [] (Load addr) s = let bad : [] ≡ codes "ld" = s.1.0 in absurd (cc)
 spelled_not_skipped [] (Store addr value) s = let bad : [] ≡ codes "st" = s.1.0 in absurd (cc)
+spelled_not_skipped [] (MachineCsr hart csr op) s = let bad : [] ≡ codes "m" = s.1.0 in absurd (cc)
 spelled_not_skipped [] (HostCsr hart csr op) s = let bad : [] ≡ codes "h" = s.1.0 in absurd (cc)
 spelled_not_skipped (b ∷ bytes) line s = ap (λ t. nat_le (length (b ∷ bytes)) 128 && t) (ne_eqb b 35 (keyword_first b bytes line s.1)) ∙ and-false (nat_le (length (b ∷ bytes)) 128)
 
@@ -349,24 +434,29 @@ named w (Hex n) fits = tt
 named w (Hex32 n) fits = tt
 named w Unspelled fits = absurd fits
 
+operand_named : (ws : Words) (k : Field) (csr : Field) (fs : List Field) → AllFit ws (k ∷ csr ∷ fs) → IsNamed csr
+operand_named [] k csr fs fits = absurd fits
+operand_named (i ∷ []) k csr fs fits = absurd fits.1
+operand_named (i ∷ w ∷ ws) k csr fs fits = named w csr fits.1.0
+
 instruction_named : (ws : Words) (csr : Field) (op : Op) → AllFit ws (instruction csr op) → IsNamed csr
-instruction_named (i ∷ w ∷ ws) csr Read fits = named w csr fits.1.0
-instruction_named [] csr Read fits = absurd fits
-instruction_named (i ∷ []) csr Read fits = absurd fits.1
-instruction_named (i ∷ w ∷ ws) csr (Write v) fits = named w csr fits.1.0
-instruction_named [] csr (Write v) fits = absurd fits
-instruction_named (i ∷ []) csr (Write v) fits = absurd fits.1
-instruction_named [] csr (Set v) fits = absurd fits
-instruction_named (i ∷ ws) csr (Set v) fits = absurd fits.0
-instruction_named [] csr (Clear v) fits = absurd fits
-instruction_named (i ∷ ws) csr (Clear v) fits = absurd fits.0
+instruction_named ws csr ops.Read fits = operand_named ws _ csr _ fits
+instruction_named ws csr (ops.Write v) fits = operand_named ws _ csr _ fits
+instruction_named ws csr (ops.Set v) fits = operand_named ws _ csr _ fits
+instruction_named ws csr (ops.Clear v) fits = operand_named ws _ csr _ fits
+
+-- a CSR instruction that is spelled has a CSR that its level names, whatever the level
+access_named : (ws : Words) (k : Field) (hart : ℕ) (csr : Field) (op : Op) → AllFit ws (k ∷ Decimal hart ∷ instruction csr op) → IsNamed csr
+access_named [] k hart csr op fits = absurd fits
+access_named (h ∷ []) k hart csr op fits = absurd fits.1
+access_named (h ∷ x ∷ ws) k hart csr op fits = instruction_named ws csr op fits.1.1
 
 listed : (ws : Words) (line : Line) → AllFit ws (fields_of line) → IsListed line
 listed ws (Machine harts guests n sources) fits = tt
+listed ws (Load addr) fits = tt
 listed ws (Store addr value) fits = tt
-listed [] (HostCsr hart csr op) fits = absurd fits
-listed (h ∷ []) (HostCsr hart csr op) fits = absurd fits.1
-listed (h ∷ x ∷ ws) (HostCsr hart csr op) fits = instruction_named ws (supervisor_csr csr) op fits.1.1
+listed ws (MachineCsr hart csr op) fits = access_named ws _ hart (machine_csr csr) op fits
+listed ws (HostCsr hart csr op) fits = access_named ws _ hart (supervisor_csr csr) op fits
 
 -- a line that a text spells has a CSR that its row names
 pub spelled_listed : (text : List ℕ) (line : Line) → Spells text line → IsListed line

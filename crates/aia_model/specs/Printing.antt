@@ -1,7 +1,7 @@
 -- How a line is printed: its fields, with one space between two. Profile.
-use Rattle.std.specs.Prelude.{ℕ, ◌+◌, nat_eq, if◌then◌else◌, List, [], ◌∷◌, ◌++◌, map, codes}
+use Rattle.std.specs.Prelude.{ℕ, ◌^◌, ◌<◌, nat_eq, if◌then◌else◌, List, [], ◌++◌, map, codes}
 use Rattle.std.specs.Int.Digits.{digits_of}
-use Rattle.std.specs.List.{join_with_byte}
+use Rattle.std.specs.List.{join_with_byte, AllByRecursion}
 use Rattle.aia_model.specs.declared.line.Line.{Line}
 use Rattle.aia_model.specs.AnswerText.{digit_character}
 use Rattle.aia_model.specs.Grammar.{Field, fields_of}
@@ -26,3 +26,15 @@ field_text Unspelled = []
 -- The printing spelling of a line.
 unfoldable pub line_text : Line → List ℕ
 line_text line = join_with_byte 32 (map field_text (fields_of line))
+
+-- Whether a field's number is in the range of its kind of field.
+abbrev pub IsInRange : Field → Type 0
+IsInRange (Keyword word) = Unit {0}
+IsInRange (Decimal n) = n < 2 ^ 64
+IsInRange (Hex n) = n < 2 ^ 64
+IsInRange (Hex32 n) = n < 2 ^ 32
+IsInRange Unspelled = Unit {0}
+
+-- Whether each number of a line is in range.
+abbrev pub IsPrintable : Line → Type 0
+IsPrintable line = AllByRecursion IsInRange (fields_of line)

@@ -1,8 +1,9 @@
 //! Laws of the definitions: what holds of every text, and of every file.
 
-ghost use Rattle.std.specs.Prelude.{◌≡◌, ℕ, ◌↔◌, List, IsTrue};
+ghost use Rattle.std.specs.Prelude.{◌≡◌, ℕ, ◌≤◌, ◌↔◌, List, length, IsTrue};
 ghost use Rattle.aia_model.specs.Text.{is_skipped};
 ghost use Rattle.aia_model.specs.Grammar.{Spells, IsListed};
+ghost use Rattle.aia_model.specs.Printing.{line_text, IsPrintable};
 ghost use Rattle.aia_model.specs.Reading.{reading};
 ghost use Rattle.aia_regs.specs.Word.{settle};
 ghost use Rattle.aia_file.specs.InterruptFile.{InterruptFile};
@@ -38,6 +39,18 @@ pub fn skipped_spells_no_line()
 /// The CSR of a line that a text spells is one that the line's row of the table names.
 pub fn spelled_is_listed()
     ensures { (text : List ℕ) (line : Line) → Spells text line → IsListed line }
+{}
+
+/// The printing spelling of a line spells it, and so is read as it: where a line of its form names its CSR, and each number is
+/// in the range of its field.
+pub fn printed_spells()
+    ensures spells { (line : Line) → IsListed line → IsPrintable line → Spells (line_text line) line }
+    ensures reading { (line : Line) → IsListed line → IsPrintable line → reading (line_text line) ≡ Parsed.Line line }
+{}
+
+/// The printing spelling of a line whose numbers are in the ranges of their fields has at most 128 bytes.
+pub fn printed_is_short()
+    ensures { (line : Line) → IsPrintable line → length (line_text line) ≤ 128 }
 {}
 
 /// The newest word decides: after a deed other than its making, an identity is pending, or enabled, exactly where the deed

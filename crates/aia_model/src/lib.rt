@@ -4,7 +4,6 @@
 #![tactic(auto)]
 
 mod answer;
-
 pub mod laws;
 mod line;
 mod parsed;

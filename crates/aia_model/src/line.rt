@@ -12,11 +12,24 @@ pub enum Line {
         sources: u64,
     },
     /// `ld A`: the host loads 32 bits from an address.
-    Load { addr: u64 },
+    Load {
+        addr: u64,
+    },
     /// `st A V`: the host, or a device of it, stores 32 bits at an address.
-    Store { addr: u64, value: u32 },
+    Store {
+        addr: u64,
+        value: u32,
+    },
     /// `m H csrr CSR` and its kin: a hart reaches a CSR of machine level.
-    MachineCsr { hart: u64, csr: Csr, op: Op },
+    MachineCsr {
+        hart: u64,
+        csr: Csr,
+        op: Op,
+    },
     /// `h H csrr CSR` and its kin: a hart reaches a CSR of supervisor level.
-    HostCsr { hart: u64, csr: Csr, op: Op },
+    HostCsr {
+        hart: u64,
+        csr: Csr,
+        op: Op,
+    },
 }

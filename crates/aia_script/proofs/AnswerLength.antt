@@ -1,7 +1,7 @@
 -- How long a printed answer is.
 use Rattle.std.proofs.Common.{◌≡◌, ℕ, zero, suc, ◌≤◌, [], ◌∷◌, length, refl, ap, length-append, arith}
 use Rattle.aia_model.specs.declared.answer.Answer.{Answer}
-use Rattle.aia_model.specs.declared.answer.Answer.TheVariants.{Okay, Wide, Bad, NoMachine, Again, Range, Illegal, Fault}
+use Rattle.aia_model.specs.declared.answer.Answer.TheVariants.{Okay, Narrow, Wide, Bad, NoMachine, Again, Range, Illegal, Fault, Guarded}
 use Rattle.aia_model.specs.AnswerText.{hex_digits, answer_word, answer_text}
 
 length-hex_digits : (count v : ℕ) → length (hex_digits count v) ≡ count
@@ -12,6 +12,7 @@ length-hex_digits (suc count) v = ap suc (length-hex_digits count v)
 -- its word
 answer_word_length : (answer : Answer) → length (answer_word answer) ≤ 18
 answer_word_length Okay = omega arith
+answer_word_length (Narrow v) = let e : length (hex_digits 8 v) ≡ 8 = length-hex_digits 8 v in omega arith
 answer_word_length (Wide v) = let e : length (hex_digits 16 v) ≡ 16 = length-hex_digits 16 v in omega arith
 answer_word_length Bad = omega arith
 answer_word_length NoMachine = omega arith
@@ -19,6 +20,7 @@ answer_word_length Again = omega arith
 answer_word_length Range = omega arith
 answer_word_length Illegal = omega arith
 answer_word_length Fault = omega arith
+answer_word_length Guarded = omega arith
 
 -- its word and an LF
 pub answer_text_length : (answer : Answer) → length (answer_text answer) ≤ 64

@@ -2,3 +2,4 @@ pub mod WordLemmas
 pub mod NumberLemmas
 pub mod DigitLemmas
 pub mod AnswerLength
+pub mod NameLemmas

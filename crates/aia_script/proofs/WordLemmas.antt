@@ -8,9 +8,8 @@ use Rattle.std.proofs.lemmas.List.Splits.{slice_split_none, slice_split_first, l
 use Rattle.std.proofs.lemmas.List.Elements.{All-from_get_or}
 use Rattle.std.proofs.lemmas.List.Sums.{fails_before_first}
 use Rattle.std.proofs.lemmas.Bool.{cases_lt, cond-true, cond-false, lt-ltb, le-ltb}
-use Rattle.aia_model.specs.declared.line.Line.{Line}
 use Rattle.aia_model.specs.Text.{words_of}
-use Rattle.aia_model.specs.Reading.{word_at, at_end}
+use Rattle.aia_model.specs.Reading.{word_at, whole}
 use Rattle.aia_script.specs.Cursor.{words_of_rest}
 
 position_some : (p : ℕ → Bool) (xs : List ℕ) (i : ℕ) → position p xs ≡ Some i → (position_or_len p xs < length xs) × (position_or_len p xs ≡ i)
@@ -47,9 +46,9 @@ pub last_word : (rest : Option (Bor (List ℕ))) (text : Bor (List ℕ)) → res
 last_word rest text e none = sym (ap (λ r. word_at (words_of_rest r)) e ∙ ap word_at (words_whole text.now none))
 
 -- a text has a word
-pub words_left : (text : List ℕ) (line : Line) → at_end (words_of text) line ≡ None
-words_left text line = more (words_of text) line (let e : length (words_of text) ≡ count_by (λ b. nat_eq b 32) text + 1 = length-slice_split (λ b. nat_eq b 32) text in omega arith)
+pub words_left : {A : Type 0} (text : List ℕ) (found : A) → whole (words_of text) found ≡ None
+words_left text found = more (words_of text) found (let e : length (words_of text) ≡ count_by (λ b. nat_eq b 32) text + 1 = length-slice_split (λ b. nat_eq b 32) text in omega arith)
   where
-    more : (ws : List (List ℕ)) (line : Line) → 0 < length ws → at_end ws line ≡ None
-    more [] line h = absurd (omega arith)
-    more (w ∷ ws) line h = refl
+    more : {A : Type 0} (ws : List (List ℕ)) (found : A) → 0 < length ws → whole ws found ≡ None
+    more [] found h = absurd (omega arith)
+    more (w ∷ ws) found h = refl

@@ -1,10 +1,10 @@
 //! Lines: what follows each keyword.
 
 ghost use Rattle.std.specs.Prelude.{◌≡◌};
-ghost use Rattle.aia_model.specs.Reading.{machine_at, store_at, host_at, line_after, line_at};
+ghost use Rattle.aia_model.specs.Reading.{machine_at, load_at, store_at, machine_csr_at, host_csr_at, line_after, line_at};
 ghost use Rattle.aia_script.specs.Cursor.{left};
 
-use crate::instructions::host_after;
+use crate::instructions::{Level, instruction_at};
 use crate::number::{n32_at, number_at};
 use crate::words::{Words, at_end, word_at};
 use aia_model::Line;
@@ -39,14 +39,33 @@ fn store_at(words: Words<'_>) -> Option<Line>
     at_end(words, Line::Store { addr, value })
 }
 
-/// The line that the words after `h` spell.
-#[tactic(auto, unfolding(aia_model::specs::Reading::host_at))]
-fn host_at(words: Words<'_>) -> Option<Line>
-    ensures { result ≡ host_at (left words.entry) }
+/// The line that the words after `ld` spell.
+#[tactic(auto, unfolding(aia_model::specs::Reading::load_at))]
+fn load_at(words: Words<'_>) -> Option<Line>
+    ensures { result ≡ load_at (left words.entry) }
+{
+    let (addr, words) = number_at(words)?;
+    at_end(words, Line::Load { addr })
+}
+
+/// The line that the words after `m` spell.
+#[tactic(auto, unfolding(aia_model::specs::Reading::machine_csr_at))]
+fn machine_csr_at(words: Words<'_>) -> Option<Line>
+    ensures { result ≡ machine_csr_at (left words.entry) }
 {
     let (hart, words) = number_at(words)?;
-    let (mnemonic, words) = word_at(words)?;
-    host_after(hart, mnemonic, words)
+    let (csr, op) = instruction_at(Level::Machine, words)?;
+    Some(Line::MachineCsr { hart, csr, op })
+}
+
+/// The line that the words after `h` spell.
+#[tactic(auto, unfolding(aia_model::specs::Reading::host_csr_at))]
+fn host_csr_at(words: Words<'_>) -> Option<Line>
+    ensures { result ≡ host_csr_at (left words.entry) }
+{
+    let (hart, words) = number_at(words)?;
+    let (csr, op) = instruction_at(Level::Supervisor, words)?;
+    Some(Line::HostCsr { hart, csr, op })
 }
 
 /// The line that the words after a keyword spell.
@@ -55,10 +74,14 @@ fn line_after(keyword: &[u8], words: Words<'_>) -> Option<Line>
 {
     if keyword == b"machine".as_slice() {
         machine_at(words)
+    } else if keyword == b"ld".as_slice() {
+        load_at(words)
     } else if keyword == b"st".as_slice() {
         store_at(words)
+    } else if keyword == b"m".as_slice() {
+        machine_csr_at(words)
     } else if keyword == b"h".as_slice() {
-        host_at(words)
+        host_csr_at(words)
     } else {
         None
     }

@@ -8,8 +8,8 @@ use aia_model::Answer;
 use arrayvec::ArrayVec;
 
 /// Appends a text, for which there is room.
-fn push_text(out: &mut ArrayVec<u8, 64>, text: &[u8])
-    requires { array_vec_len out.old + length text.now ≤ 64 }
+fn push_text<const N: usize>(out: &mut ArrayVec<u8, N>, text: &[u8])
+    requires { array_vec_len out.old + length text.now ≤ N }
     ensures text { out.new.items ≡ out.old.items ++ text.now }
     ensures length { array_vec_len out.new ≡ array_vec_len out.old + length text.now }
 {
@@ -29,13 +29,14 @@ fn digit_character(digit: u64) -> u8
     }
 }
 
-/// Appends the sixteen hexadecimal digits of a value.
-fn push_digits(out: &mut ArrayVec<u8, 64>, value: u64)
-    requires { array_vec_len out.old + 16 ≤ 64 }
-    ensures text { out.new.items ≡ out.old.items ++ hex_digits 16 value }
-    ensures length { array_vec_len out.new ≡ array_vec_len out.old + 16 }
+/// Appends the lowest `count` hexadecimal digits of a value.
+fn push_digits(out: &mut ArrayVec<u8, 64>, count: u32, value: u64)
+    requires few { count ≤ 16 }
+    requires room { array_vec_len out.old + count ≤ 64 }
+    ensures text { out.new.items ≡ out.old.items ++ hex_digits count value }
+    ensures length { array_vec_len out.new ≡ array_vec_len out.old + count }
 {
-    for place in (0..16u32).rev() {
+    for place in (0..count).rev() {
         out.push(digit_character((value >> (4 * place)) % 16));
     }
 }
@@ -51,9 +52,13 @@ pub fn print_answer(answer: &Answer, out: &mut ArrayVec<u8, 64>)
 {
     match answer {
         Answer::Okay => push_text(out, b"ok"),
+        Answer::Narrow(value) => {
+            push_text(out, b"0x");
+            push_digits(out, 8, *value as u64);
+        }
         Answer::Wide(value) => {
             push_text(out, b"0x");
-            push_digits(out, *value);
+            push_digits(out, 16, *value);
         }
         Answer::Bad => push_text(out, b"bad"),
         Answer::NoMachine => push_text(out, b"nomachine"),
@@ -61,6 +66,7 @@ pub fn print_answer(answer: &Answer, out: &mut ArrayVec<u8, 64>)
         Answer::Range => push_text(out, b"range"),
         Answer::Illegal => push_text(out, b"illegal"),
         Answer::Fault => push_text(out, b"fault"),
+        Answer::Guarded => push_text(out, b"guarded"),
     }
     push_text(out, b"\n");
 }

@@ -14,6 +14,14 @@ fn store(addr: u64, value: u32) -> Parsed {
     Parsed::Line(Line::Store { addr, value })
 }
 
+fn load(addr: u64) -> Parsed {
+    Parsed::Line(Line::Load { addr })
+}
+
+fn machine_csr(hart: u64, csr: Csr, op: Op) -> Parsed {
+    Parsed::Line(Line::MachineCsr { hart, csr, op })
+}
+
 fn host(hart: u64, csr: Csr, op: Op) -> Parsed {
     Parsed::Line(Line::HostCsr { hart, csr, op })
 }
@@ -39,10 +47,31 @@ fn texts_are_read_by_the_grammar(rt: HostRuntime) {
         ("h 3 csrr stopei", host(3, Csr::Topei, Op::Read)),
         ("h 0 csrr siselect", host(0, Csr::Select, Op::Read)),
         ("h 3 csrrw sireg 0xc0", host(3, Csr::Reg, Op::Write(192))),
+        ("h 1 csrrs sireg 7", host(1, Csr::Reg, Op::Set(7))),
+        ("h 2 csrrc stopei 0x0", host(2, Csr::Topei, Op::Clear(0))),
         ("h 3 csrr sireg 0", Parsed::Bad),
         ("h 3 csrr mireg", Parsed::Bad),
-        ("h 3 csrrs sireg 1", Parsed::Bad),
-        ("m 3 csrr mtopei", Parsed::Bad),
+        ("h 3 csrrs sireg", Parsed::Bad),
+        ("h 3 csrrx sireg 1", Parsed::Bad),
+        ("m 3 csrr mtopei", machine_csr(3, Csr::Topei, Op::Read)),
+        (
+            "m 0 csrrw miselect 112",
+            machine_csr(0, Csr::Select, Op::Write(112)),
+        ),
+        (
+            "m 0 csrrs mireg 0x10",
+            machine_csr(0, Csr::Reg, Op::Set(16)),
+        ),
+        (
+            "m 0 csrrc mireg 0xff",
+            machine_csr(0, Csr::Reg, Op::Clear(255)),
+        ),
+        ("m 0 csrr siselect", Parsed::Bad),
+        ("m csrr mireg", Parsed::Bad),
+        ("ld 0x24000000", load(603979776)),
+        ("ld 4", load(4)),
+        ("ld 0 0", Parsed::Bad),
+        ("ld", Parsed::Bad),
         ("# st 0 0", Parsed::Skip),
         ("", Parsed::Skip),
     ];
@@ -57,6 +86,8 @@ fn texts_are_read_by_the_grammar(rt: HostRuntime) {
 fn answers_are_printed(rt: HostRuntime) {
     let answers = [
         (Answer::Okay, "ok\n"),
+        (Answer::Narrow(0), "0x00000000\n"),
+        (Answer::Narrow(0x89ab_cdef), "0x89abcdef\n"),
         (Answer::Wide(0), "0x0000000000000000\n"),
         (Answer::Wide(0x0123_4567_89ab_cdef), "0x0123456789abcdef\n"),
         (Answer::Bad, "bad\n"),
@@ -65,6 +96,7 @@ fn answers_are_printed(rt: HostRuntime) {
         (Answer::Range, "range\n"),
         (Answer::Illegal, "illegal\n"),
         (Answer::Fault, "fault\n"),
+        (Answer::Guarded, "guarded\n"),
     ];
     for (answer, want) in answers {
         let mut out = ArrayVec::new();

@@ -3,10 +3,8 @@
 ghost use Rattle.std.specs.Prelude.{◌≡◌, nat_eq, position};
 ghost use Rattle.std.specs.Option.{option_map};
 ghost use Rattle.aia_model.specs.Text.{words_of};
-ghost use Rattle.aia_model.specs.Reading.{word_at, at_end};
+ghost use Rattle.aia_model.specs.Reading.{word_at, whole};
 ghost use Rattle.aia_script.specs.Cursor.{left};
-
-use aia_model::Line;
 
 /// The words of a text that are still to be read: a single space stands between one word and the next.
 #[derive(Clone, Copy)]
@@ -45,13 +43,13 @@ pub fn word_at(words: Words<'_>) -> Option<(&[u8], Words<'_>)>
     }
 }
 
-/// `line`, where no word is left.
+/// `found`, where no word is left.
 #[tactic(auto, using(crate::proofs::WordLemmas::words_left))]
-pub fn at_end(words: Words<'_>, line: Line) -> Option<Line>
-    ensures { result ≡ at_end (left words.entry) line }
+pub fn at_end<T: Copy>(words: Words<'_>, found: T) -> Option<T>
+    ensures { result ≡ whole (left words.entry) found }
 {
     match words.rest {
-        None => Some(line),
+        None => Some(found),
         Some(_) => None,
     }
 }

@@ -5,6 +5,7 @@ use Rattle.aia_script.proofs.print.push_digits.Goals as goal
 pub loop-place-preserved : goal.loop-place-preserved
 loop-place-preserved c = record {
   text = digit_pushed c.push.new.self.items c.loop-place.out.items _ c.digit_character.result c.loop-place.place c.args.value (omega arith) c.push.ensures.items c.digit_character.ensures c.loop-place.invariant.text;
+  few = omega arith;
   room = omega arith;
 }
 
