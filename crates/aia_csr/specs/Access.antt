@@ -6,7 +6,7 @@ use Rattle.aia_regs.specs.declared.access.Op.{Op}
 use Rattle.aia_regs.specs.declared.file_registers.FileReg.{FileReg}
 use Rattle.aia_regs.specs.declared.file_registers.FileReg.TheVariants.{Odd, Outside}
 use Rattle.aia_regs.specs.Operations.{is_writing}
-use Rattle.aia_regs.specs.FileRegisters.{register_of}
+use Rattle.aia_regs.specs.FileRegisters.{register_of, IsUsable}
 use Rattle.aia_csr.specs.declared.access.Level.{Level}
 use Rattle.aia_csr.specs.declared.access.Level.TheVariants as levels
 use Rattle.aia_csr.specs.declared.access.Access.{Access}
@@ -40,3 +40,8 @@ IsInTable level csrs.Select = Unit {0}
 IsInTable level csrs.Reg = Unit {0}
 IsInTable level csrs.Topei = Unit {0}
 IsInTable level csr = ⊥
+
+-- A register of the file that is reached is one that a file serves.
+abbrev pub ReachesUsable : Access → Type 0
+ReachesUsable (reaches.File reg) = IsUsable reg
+ReachesUsable access = Unit {0}

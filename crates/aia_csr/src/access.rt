@@ -1,5 +1,5 @@
 ghost use Rattle.std.specs.Prelude.{◌≡◌};
-ghost use Rattle.aia_csr.specs.Access.{access_of, IsInTable, register_at};
+ghost use Rattle.aia_csr.specs.Access.{access_of, IsInTable, ReachesUsable, register_at};
 
 use aia_regs::{Csr, FileReg, Op, file_reg};
 
@@ -41,7 +41,8 @@ pub enum Access {
 /// AIA 1.0, Incoming MSI Controller, and Interrupts for Virtual Machines (VS Level).
 pub fn decide(level: Level, csr: Csr, op: Op, select: u64, vti: bool) -> Access
     requires { IsInTable level csr }
-    ensures { result ≡ access_of level csr op select vti }
+    ensures table { result ≡ access_of level csr op select vti }
+    ensures usable { ReachesUsable result }
 {
     match csr {
         Csr::Select => Access::Select,

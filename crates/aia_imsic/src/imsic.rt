@@ -76,19 +76,21 @@ impl Imsic {
     pub fn locate(&self, addr: u64) -> Spot
         ensures spot { result ≡ spot_at self.now.harts self.now.guests addr }
         ensures there { result ≢ Spot.Nowhere → IsThere self.now result }
+        ensures few { (self.now.harts ≤ 4) × (self.now.guests ≤ 7) }
     {
+        let harts = u64::from(self.harts);
         if addr < MACHINE_FILES {
             return Spot::Nowhere;
         }
         if addr < SUPERVISOR_FILES {
             let hart = (addr - MACHINE_FILES) / PAGE;
-            if hart >= u64::from(self.harts) {
+            if hart >= harts {
                 return Spot::Nowhere;
             }
             return Spot::MachineFile(hart as u32);
         }
         let hart = (addr - SUPERVISOR_FILES) / HART_STRIDE;
-        if hart >= u64::from(self.harts) {
+        if hart >= harts {
             return Spot::Nowhere;
         }
         let file = (addr - SUPERVISOR_FILES) % HART_STRIDE / PAGE;

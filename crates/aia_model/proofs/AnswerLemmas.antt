@@ -12,7 +12,7 @@ use Rattle.aia_model.specs.declared.answer.Answer.{Answer}
 use Rattle.aia_model.specs.declared.answer.Answer.TheVariants.{NoMachine, Again, Range, Illegal, Fault, Guarded}
 use Rattle.aia_model.specs.Event.{History, has_machine, harts_of}
 use Rattle.aia_model.specs.FileOf.{MachineFile, SupervisorFile, page_at, select_of}
-use Rattle.aia_model.specs.Refusal.{refusal, raises_illegal, faults, guards, is_machine_size, lacks_machine, has_one_already, is_out_of_range, is_illegal, is_fault, is_guarded}
+use Rattle.aia_model.specs.Refusal.{refusal, raises_illegal, faults, guards, place_refusal, is_machine_size, lacks_machine, has_one_already, is_out_of_range, is_illegal, is_fault, is_guarded}
 use Rattle.aia_model.specs.Answer.{answer, after, accepted_answer, history_after}
 
 pub answered : (h : History) (line : Line) (r : Option Answer) → refusal h line ≡ r → answer h line ≡ unwrap_or r (accepted_answer h line)
@@ -48,10 +48,6 @@ refusal_tests h line =
 
 pub machine_refusal : (h : History) (harts guests n sources : ℕ) → refusal h (Machine harts guests n sources) ≡ cond (has_machine h) (Some Again) (cond (not (is_machine_size harts guests n sources)) (Some Range) None)
 machine_refusal h harts guests n sources = refusal_tests h (Machine harts guests n sources)
-
--- the refusal of a load or a store, by the file in whose page its address lies
-abbrev pub place_refusal : Spot → ℕ → Option Answer
-place_refusal spot addr = cond (faults spot addr) (Some Fault) (cond (guards spot addr) (Some Guarded) None)
 
 pub load_refusal : (h : History) (addr : ℕ) → has_machine h ≡ true → refusal h (Load addr) ≡ place_refusal (page_at h addr) addr
 load_refusal h addr there = refusal_tests h (Load addr) ∙ ap (λ b. first_word (not b) false false false (faults (page_at h addr) addr) (guards (page_at h addr) addr)) there

@@ -1,5 +1,5 @@
 -- When a line is refused, and with which word.
-use Rattle.std.specs.Prelude.{ℕ, ◌%◌, Bool, true, false, ◌&&◌, ◌||◌, not, nat_eq, nat_lt, is_none, List, [], ◌∷◌, find, Option}
+use Rattle.std.specs.Prelude.{ℕ, ◌%◌, Bool, true, false, ◌&&◌, ◌||◌, not, nat_eq, nat_lt, is_none, List, [], ◌∷◌, find, if◌then◌else◌, Option, Some, None}
 use Rattle.std.specs.Int.{is_in_range}
 use Rattle.std.specs.Option.{option_map}
 use Rattle.aia_csr.specs.declared.access.Level.TheVariants as levels
@@ -61,6 +61,10 @@ is_fault h line = false
 -- `guarded`: a guest's file or memory lies there.
 abbrev pub guards : Spot → ℕ → Bool
 guards spot addr = is_guest_page spot || is_in_memory addr
+
+-- The word that refuses a load or a store, by what lies at its address, where it does.
+abbrev pub place_refusal : Spot → ℕ → Option Answer
+place_refusal spot addr = if faults spot addr then Some Fault else (if guards spot addr then Some Guarded else None)
 
 abbrev pub is_guarded : History → Line → Bool
 is_guarded h (Load addr) = guards (page_at h addr) addr

@@ -1,23 +1,23 @@
 -- What the first lines make of an engine.
-use Rattle.std.proofs.Common.{◌≡◌, ℕ, true, false, not, [], ◌∷◌, Option, Some, None, MatchOption, refl, sym, ap, subst, ◌∙◌}
+use Rattle.std.proofs.Common.{◌≡◌, ℕ, zero, suc, true, false, not, List, [], ◌∷◌, get_or, Option, Some, None, MatchOption, refl, sym, ap, subst, ◌∙◌}
 use Rattle.std.proofs.lemmas.Bool.{cond-true, cond-false}
-use Rattle.std.proofs.lemmas.Option.{slice_get_within, get_or_from_slice_get}
 use Rattle.aia_file.proofs.FileLemmas.{same_file}
 use Rattle.aia_model.specs.declared.line.Line.{Line}
-use Rattle.aia_model.specs.declared.line.Line.TheVariants.{Machine as MachineLine, Store, HostCsr}
+use Rattle.aia_model.specs.declared.line.Line.TheVariants.{Machine as MachineLine, Load, Store, MachineCsr, HostCsr}
 use Rattle.aia_model.specs.declared.answer.Answer.{Answer}
 use Rattle.aia_model.specs.declared.answer.Answer.TheVariants.{Okay, NoMachine, Range}
 use Rattle.aia_model.specs.Event.{History}
 use Rattle.aia_model.specs.Event.Event.{Accepted}
-use Rattle.aia_model.specs.FileOf.{SupervisorFile}
+use Rattle.aia_model.specs.FileOf.{FileName}
 use Rattle.aia_model.specs.Refusal.{refusal, is_machine_size}
 use Rattle.aia_model.specs.Answer.{answer, after}
 use Rattle.aia_model.proofs.AnswerLemmas.{answered, after_by, machine_refusal, no_machine_refusal}
 use Rattle.aia_model.proofs.FileLemmas.{file_step, select_step}
-use Rattle.aia_replay.specs.declared.machine.Hart.{Hart}
 use Rattle.aia_replay.specs.declared.machine.Machine.{Machine}
 use Rattle.aia_replay.specs.declared.engine.Engine.{Engine}
-use Rattle.aia_replay.specs.Stands.{HartStands, IsNewHart, IsNewMachine, MachineStands, StandsFor, Serves}
+use Rattle.aia_imsic.specs.Files.{IsThere}
+use Rattle.aia_replay.specs.Places.{spot_of, select_place}
+use Rattle.aia_replay.specs.Stands.{FileStands, IsNewMachine, MachineStands, StandsFor, Serves}
 
 -- ---- with no machine
 
@@ -37,7 +37,9 @@ refused_first old new line word was now is = record {
 -- only a `machine` line is not refused so
 pub needs_machine : (line : Line) → ((harts guests n sources : ℕ) → line ≡ MachineLine harts guests n sources → ⊥) → refusal [] line ≡ Some NoMachine
 needs_machine (MachineLine harts guests n sources) other = absurd (other harts guests n sources refl)
+needs_machine (Load addr) other = no_machine_refusal [] (Load addr) refl
 needs_machine (Store addr value) other = no_machine_refusal [] (Store addr value) refl
+needs_machine (MachineCsr hart csr op) other = no_machine_refusal [] (MachineCsr hart csr op) refl
 needs_machine (HostCsr hart csr op) other = no_machine_refusal [] (HostCsr hart csr op) refl
 
 pub size_refused : (harts guests n sources : ℕ) → is_machine_size harts guests n sources ≡ false → refusal [] (MachineLine harts guests n sources) ≡ Some Range
@@ -45,20 +47,31 @@ size_refused harts guests n sources out = machine_refusal [] harts guests n sour
 
 -- ---- the machine is made
 
-new_hart : (hart : Hart) (harts guests n sources x : ℕ) → IsNewHart n hart → HartStands hart (Accepted (MachineLine harts guests n sources) ∷ []) x
-new_hart hart harts guests n sources x new = record {
-  file = same_file _ _ new.file ∙ sym (file_step (Accepted (MachineLine harts guests n sources)) [] (SupervisorFile x));
-  select = new.select ∙ sym (select_step (Accepted (MachineLine harts guests n sources)) [] (SupervisorFile x));
+no_selects : (m : Machine) (place : ℕ) → m.selects ≡ replicate 8 0 → slice_index m.selects place ≡ 0
+no_selects m place zeros = ap (λ xs. get_or xs place 0) zeros ∙ zero_at 8 place
+  where
+    zero_at : (n p : ℕ) → get_or (replicate n 0) p 0 ≡ 0
+    zero_at zero p = refl
+    zero_at (suc n) zero = refl
+    zero_at (suc n) (suc p) = zero_at n p
+
+new_file : (m : Machine) (harts guests n sources : ℕ) (f : FileName) → IsNewMachine harts guests n m → IsThere m.imsic (spot_of f) → FileStands m (Accepted (MachineLine harts guests n sources) ∷ []) f
+new_file m harts guests n sources f new inside = record {
+  file = same_file _ _ (new.files.each (spot_of f) inside) ∙ sym (file_step (Accepted (MachineLine harts guests n sources)) [] f);
+  select = no_selects m (select_place f) new.selects ∙ sym (select_step (Accepted (MachineLine harts guests n sources)) [] f);
 }
 
-pub machine_made : (old new : Engine) (m : Machine) (harts guests n sources : ℕ) → old.machine ≡ None → new.machine ≡ Some m → is_machine_size harts guests n sources ≡ true → IsNewMachine harts n m → Serves old new (MachineLine harts guests n sources) Okay
+pub machine_made : (old new : Engine) (m : Machine) (harts guests n sources : ℕ) → old.machine ≡ None → new.machine ≡ Some m → is_machine_size harts guests n sources ≡ true → IsNewMachine harts guests n m → Serves old new (MachineLine harts guests n sources) Okay
 machine_made old new m harts guests n sources was now size fresh =
     let line = MachineLine harts guests n sources in
     let accepted : refusal [] line ≡ None = machine_refusal [] harts guests n sources ∙ cond-false _ _ _ (ap not size) in
     let stands : MachineStands m (Accepted line ∷ []) = record {
       there = refl;
-      harts = fresh.count;
-      each = λ x hart found. new_hart hart harts guests n sources x (subst (IsNewHart n) (get_or_from_slice_get m.harts.items x hart hart found) (fresh.fresh x hart (slice_get_within m.harts.items x hart found)));
+      harts = fresh.harts;
+      guests = fresh.guests;
+      few_harts = fresh.few_harts;
+      few_guests = fresh.few_guests;
+      each = λ f inside. new_file m harts guests n sources f fresh inside;
     } in
     record {
       answers = λ h given. sym (ap (λ x. answer x line) (empty_history old h was given) ∙ answered [] line None accepted);

@@ -1,6 +1,7 @@
 pub mod PieceLemmas
 pub mod MachineLemmas
-pub mod EngineLemmas
 pub mod CutLemmas
 pub mod StreamLemmas
 pub mod ProgramLemmas
+pub mod AccessLemmas
+pub mod EngineLemmas

@@ -1,87 +1,150 @@
--- What accesses and stores leave of harts and machines that stood for a history.
-use Rattle.std.proofs.Common.{◌≡◌, ◌≢◌, ℕ, ◌+◌, ◌%◌, ◌<◌, ◌≤◌, Bool, true, false, ◌&&◌, not, cond, nat_eq, is_some, unwrap_or, List, [], ◌∷◌, ◌++◌, All, zero, suc, length, Option, Some, None, ◌⊎◌, inl, inr, refl, sym, ap, subst, ◌∙◌, arith}
+-- What accesses, loads and stores leave of machines that stood for a history.
+use Rattle.std.proofs.Common.{◌≡◌, ◌≢◌, ℕ, ◌+◌, ◌*◌, ◌%◌, ◌<◌, ◌≤◌, Bool, true, false, ◌&&◌, ◌||◌, not, cond, nat_eq, nat_lt, is_some, unwrap_or, List, ◌∷◌, length, get_or, Option, Some, None, ◌⊎◌, inl, inr, refl, sym, ap, subst, ◌∙◌, arith}
+use Rattle.std.specs.Prelude.{slice_index}
 use Rattle.std.proofs.Math.ListN.{set}
-use Rattle.std.proofs.lemmas.List.{length-set, get_or-set_other}
-use Rattle.std.proofs.lemmas.Grind.{get_or-set_at}
-use Rattle.std.proofs.lemmas.List.Elements.{All-append}
-use Rattle.std.proofs.lemmas.Option.{slice_get_within, get_or_from_slice_get, slice_get_read}
-use Rattle.std.specs.Prelude.{slice_get}
-use Rattle.std.proofs.lemmas.Bool.{cases_eq, eq-eqb, ne_eqb, cond-true, cond-false, lt-ltb, le-ltb}
+use Rattle.std.proofs.lemmas.List.{get_or-set_other}
+use Rattle.std.proofs.lemmas.Bool.{cases_Bool, cases_eq, cond-true, cond-false, lt-ltb, le-ltb, eq-eqb, false≢true}
 use Rattle.std.proofs.lemmas.Bool.Decides.{nat_tests}
-use Rattle.aia_word.proofs.LeastLemmas.{least_of-found, least_of-none}
+use Rattle.aia_regs.specs.AddressMap.{machine_page, supervisor_page, is_in_page, is_in_memory}
 use Rattle.aia_regs.specs.declared.access.Csr.{Csr}
 use Rattle.aia_regs.specs.declared.access.Op.{Op}
-use Rattle.aia_regs.specs.AddressMap.{supervisor_page, is_in_page}
-use Rattle.aia_file.specs.FileState.{shown}
+use Rattle.aia_csr.specs.declared.access.Level.{Level}
+use Rattle.aia_csr.specs.declared.access.Level.TheVariants as levels
+use Rattle.aia_csr.specs.Access.{access_of}
+use Rattle.aia_file.specs.InterruptFile.{SameFile, landed}
+use Rattle.aia_file.specs.FileState.{FileState, shown}
 use Rattle.aia_file.proofs.FileLemmas.{same_file}
+use Rattle.aia_imsic.specs.declared.spot.Spot.{Spot}
+use Rattle.aia_imsic.specs.declared.spot.Spot.TheVariants as spots
+use Rattle.aia_imsic.specs.Files.{Harts, IsThere, file_at, with_file}
+use Rattle.aia_imsic.specs.Map.{spot_at, is_page, is_guest_page}
+use Rattle.aia_imsic.proofs.MapLemmas.{spot_of_machine, spot_of_host, machine_of_spot, host_of_spot, to_page}
+use Rattle.aia_imsic.proofs.PlaceLemmas.{kept_elsewhere}
 use Rattle.aia_model.specs.declared.line.Line.{Line}
-use Rattle.aia_model.specs.declared.line.Line.TheVariants.{Store, HostCsr}
+use Rattle.aia_model.specs.declared.line.Line.TheVariants.{Load, Store, MachineCsr, HostCsr}
 use Rattle.aia_model.specs.declared.answer.Answer.{Answer}
-use Rattle.aia_model.specs.declared.answer.Answer.TheVariants.{Okay, Wide, Range, Illegal, Fault}
-use Rattle.aia_model.specs.Event.{Event, History, has_machine, harts_of}
+use Rattle.aia_model.specs.declared.answer.Answer.TheVariants.{Okay, Narrow, Wide, Range, Illegal, Fault, Guarded}
+use Rattle.aia_model.specs.Event.{Event, History, has_machine, harts_of, guests_of}
 use Rattle.aia_model.specs.Event.Event.{Accepted}
-use Rattle.aia_model.specs.FileOf.{SupervisorFile, Deed, supervisor_at, deed_at, select_of, select_told, file_of, file_after}
+use Rattle.aia_model.specs.FileOf.{FileName, MachineFile, SupervisorFile, Deed, is_at, page_at, deed_at, select_of, select_told, file_of, file_after}
 use Rattle.aia_model.specs.FileOf.Deed.{Accesses, Stores, Rests}
-use Rattle.aia_model.specs.Refusal.{refusal, has_no_register}
-use Rattle.aia_model.specs.Answer.{accepted_answer, history_after, csr_shown, csr_value}
-use Rattle.aia_model.proofs.AnswerLemmas.{answered, after_by, host_refusal, store_refusal}
-use Rattle.aia_model.proofs.FileLemmas.{file_step, select_step, own_access, other_access, store_here, store_elsewhere}
-use Rattle.aia_replay.specs.declared.machine.Hart.{Hart}
+use Rattle.aia_model.specs.Refusal.{refusal, raises_illegal, guards, place_refusal}
+use Rattle.aia_model.specs.Answer.{answer, after, accepted_answer, history_after, csr_shown, csr_value}
+use Rattle.aia_model.proofs.AnswerLemmas.{answered, after_by, access_refusal, machine_csr_refusal, host_csr_refusal, load_refusal, store_refusal}
+use Rattle.aia_model.proofs.FileLemmas.{file_step, select_step, own_machine_access, other_machine_access, own_host_access, other_host_access, store_here, store_elsewhere}
 use Rattle.aia_replay.specs.declared.machine.Machine.{Machine}
-use Rattle.aia_replay.specs.Stands.{HartStands, HasDone, MachineStands, MachineServes}
+use Rattle.aia_replay.specs.Places.{IsHost, FileDone, name_of, csr_line, spot_of, select_place}
+use Rattle.aia_replay.specs.Stands.{FileStands, MachineStands, MachineServes, HasDone, deed_of}
 
--- ---- one hart
+-- ---- names of files
 
--- an event is a deed at the hart's file, and the deed was done
-pub hart_step : (old new : Hart) (h : History) (x : ℕ) (event : Event) (deed : Deed) → deed_at h (SupervisorFile x) event ≡ deed → HasDone old new deed → HartStands old h x → HartStands new (event ∷ h) x
-hart_step old new h x event deed is done stands = record {
-  file = same_file _ _ done.file ∙ ap (λ s. file_after s deed (shown old.file)) stands.select ∙ ap (file_after (select_of h (SupervisorFile x)) deed) stands.file
-      ∙ sym (file_step event h (SupervisorFile x) ∙ ap (λ d. file_after (select_of h (SupervisorFile x)) d (file_of h (SupervisorFile x))) is);
-  select = done.select ∙ ap (select_told deed) stands.select ∙ sym (select_step event h (SupervisorFile x) ∙ ap (λ d. select_told d (select_of h (SupervisorFile x))) is);
+same_or_other : (f g : FileName) → (g ≡ f) ⊎ (g ≢ f)
+same_or_other (MachineFile x) (MachineFile y) = elim (cases_eq y x) [ inl e ↦ inl (ap MachineFile e) | inr ne ↦ inr (λ p. ne (cc)) ]
+same_or_other (SupervisorFile x) (SupervisorFile y) = elim (cases_eq y x) [ inl e ↦ inl (ap SupervisorFile e) | inr ne ↦ inr (λ p. ne (cc)) ]
+same_or_other (MachineFile x) (SupervisorFile y) = inr (λ p. absurd (cc))
+same_or_other (SupervisorFile x) (MachineFile y) = inr (λ p. absurd (cc))
+
+other_spot : (f g : FileName) → g ≢ f → spot_of g ≢ spot_of f
+other_spot (MachineFile x) (MachineFile y) ne p = ne (cc)
+other_spot (SupervisorFile x) (SupervisorFile y) ne p = ne (cc)
+other_spot (MachineFile x) (SupervisorFile y) ne p = absurd (cc)
+other_spot (SupervisorFile x) (MachineFile y) ne p = absurd (cc)
+
+other_place : (f g : FileName) → g ≢ f → select_place g ≢ select_place f
+other_place (MachineFile x) (MachineFile y) ne p = ne (ap MachineFile (omega arith))
+other_place (SupervisorFile x) (SupervisorFile y) ne p = ne (ap SupervisorFile (omega arith))
+other_place (MachineFile x) (SupervisorFile y) ne p = absurd (omega arith)
+other_place (SupervisorFile x) (MachineFile y) ne p = absurd (omega arith)
+
+-- ---- one file more
+
+-- an event that is nothing to a file
+rests : (m : Machine) (h : History) (f : FileName) (event : Event) → deed_at h f event ≡ Rests → FileStands m h f → FileStands m (event ∷ h) f
+rests m h f event is stands = record {
+  file = stands.file ∙ sym (file_step event h f ∙ ap (λ d. file_after (select_of h f) d (file_of h f)) is);
+  select = stands.select ∙ sym (select_step event h f ∙ ap (λ d. select_told d (select_of h f)) is);
 }
 
--- an event that is nothing to the hart's file
-pub hart_rests : (hart : Hart) (h : History) (x : ℕ) (event : Event) → deed_at h (SupervisorFile x) event ≡ Rests → HartStands hart h x → HartStands hart (event ∷ h) x
-hart_rests hart h x event rests stands = record {
-  file = stands.file ∙ sym (file_step event h (SupervisorFile x) ∙ ap (λ d. file_after (select_of h (SupervisorFile x)) d (file_of h (SupervisorFile x))) rests);
-  select = stands.select ∙ sym (select_step event h (SupervisorFile x) ∙ ap (λ d. select_told d (select_of h (SupervisorFile x))) rests);
-}
-
--- what a CSR of the hart shows is what the history gives
-csr_stands : (hart : Hart) (h : History) (x : ℕ) (csr : Csr) → HartStands hart h x → csr_shown hart.select (shown hart.file) csr ≡ csr_value h (SupervisorFile x) csr
-csr_stands hart h x csr stands = ap (λ s. csr_shown s (shown hart.file) csr) stands.select ∙ ap (λ f. csr_shown (select_of h (SupervisorFile x)) f csr) stands.file
-
--- ---- one hart of a machine
-
-slice_get-set : {A : Type 0} (xs : List A) (k x : ℕ) (v y : A) → slice_get (set xs k v) x ≡ Some y → ((x ≡ k) × (y ≡ v)) ⊎ ((x ≢ k) × (slice_get xs x ≡ Some y))
-slice_get-set xs k x v y h =
-    let inside : x < length xs = omega (arith, slice_get_within (set xs k v) x y h, length-set xs k v) in
-    let now = get_or_from_slice_get (set xs k v) x y y h in
-    elim (cases_eq x k) [
-      | inl e ↦ inl (e, sym now ∙ get_or-set_at xs k x v y e (omega arith))
-      | inr ne ↦ inr (ne, slice_get_read xs (length xs) x y refl inside (sym now ∙ get_or-set_other xs k x v y ne))
-    ]
-
--- hart k is replaced, and the others stand as they are
-pub one_hart : (m n : Machine) (k : ℕ) (new : Hart) (h now : History) → n.harts.items ≡ set m.harts.items k new → MachineStands m h → has_machine now ≡ has_machine h → harts_of now ≡ harts_of h
-    → HartStands new now k → ((x : ℕ) (hart : Hart) → x ≢ k → HartStands hart h x → HartStands hart now x) → MachineStands n now
-one_hart m n k new h now e stands there harts this others = record {
+-- an event that is nothing to any file
+pub all_rest : (m : Machine) (h : History) (event : Event) → has_machine (event ∷ h) ≡ has_machine h → harts_of (event ∷ h) ≡ harts_of h → guests_of (event ∷ h) ≡ guests_of h
+    → ((f : FileName) → deed_at h f event ≡ Rests) → MachineStands m h → MachineStands m (event ∷ h)
+all_rest m h event there harts guests is stands = record {
   there = there ∙ stands.there;
-  harts = ap length e ∙ length-set m.harts.items k new ∙ stands.harts ∙ sym harts;
-  each = λ x hart found. elim (slice_get-set m.harts.items k x new hart (sym (ap (λ xs. slice_get xs x) e) ∙ found)) [
-    | inl p ↦ subst (λ (y : Hart). HartStands y now x) (sym p.1) (subst (λ (y : ℕ). HartStands new now y) (sym p.0) this)
-    | inr p ↦ others x hart p.0 (stands.each x hart p.1)
-  ];
+  harts = stands.harts ∙ sym harts;
+  guests = stands.guests ∙ sym guests;
+  few_harts = stands.few_harts;
+  few_guests = stands.few_guests;
+  each = λ f inside. rests m h f event (is f) (stands.each f inside);
 }
 
--- hart k is put back as it was
-put_back : (m n : Machine) (k : ℕ) (old : Hart) (h : History) → slice_get m.harts.items k ≡ Some old → n.harts.items ≡ set m.harts.items k old → MachineStands m h → MachineStands n h
-put_back m n k old h was e stands = one_hart m n k old h h e stands refl refl (stands.each k old was) (λ x hart ne s. s)
+-- what a file is after a deed that was done
+file_done : (m n : Machine) (f : FileName) (deed : Deed) (h : History) → HasDone m n f deed → FileStands m h f
+    → (shown (file_at n.imsic (spot_of f)) ≡ file_after (select_of h f) deed (file_of h f)) × (slice_index n.selects (select_place f) ≡ select_told deed (select_of h f))
+file_done m n f deed h done stands = (
+  same_file _ _ done.done.file ∙ ap (λ s. file_after s deed (shown (file_at m.imsic (spot_of f)))) stands.select ∙ ap (file_after (select_of h f) deed) stands.file,
+  done.done.select ∙ ap (select_told deed) stands.select,
+)
 
--- ---- refused lines
+-- every other file is as it was
+others_kept : (m n : Machine) (f g : FileName) (deed : Deed) (h : History) → HasDone m n f deed → IsThere m.imsic (spot_of f) → IsThere m.imsic (spot_of g) → g ≢ f → FileStands m h g → FileStands n h g
+others_kept m n f g deed h done there inside ne stands = record {
+  file = ap (λ (i : Harts). shown (file_at i (spot_of g))) done.imsic ∙ ap shown (kept_elsewhere m.imsic (spot_of f) (spot_of g) (file_at n.imsic (spot_of f)) there inside (other_spot f g ne)) ∙ stands.file;
+  select = ap (λ xs. get_or xs (select_place g) 0) done.selects ∙ get_or-set_other m.selects (select_place f) (select_place g) (slice_index n.selects (select_place f)) 0 (other_place f g ne) ∙ stands.select;
+}
 
--- what a line answers and leaves, by its refusal
-pub by_refusal : (m n : Machine) (line : Line) (given : Answer)
+same_shape : (m n : Machine) (f : FileName) (deed : Deed) → HasDone m n f deed → (n.imsic.harts ≡ m.imsic.harts) × (n.imsic.guests ≡ m.imsic.guests)
+same_shape m n f deed done = (ap (λ (i : Harts). i.harts) done.imsic, ap (λ (i : Harts). i.guests) done.imsic)
+
+there_too : (a b : Harts) (f : FileName) → a.harts ≡ b.harts → IsThere a (spot_of f) → IsThere b (spot_of f)
+there_too a b (MachineFile hart) e inside = omega arith
+there_too a b (SupervisorFile hart) e inside = omega arith
+
+-- a deed was done at one file, which the event is to it, and to the others nothing
+pub one_file : (m n : Machine) (f : FileName) (deed : Deed) (h : History) (event : Event) → IsThere m.imsic (spot_of f) → HasDone m n f deed → MachineStands m h
+    → has_machine (event ∷ h) ≡ has_machine h → harts_of (event ∷ h) ≡ harts_of h → guests_of (event ∷ h) ≡ guests_of h
+    → deed_at h f event ≡ deed → ((g : FileName) → g ≢ f → deed_at h g event ≡ Rests) → MachineStands n (event ∷ h)
+one_file m n f deed h event there done stands machine harts guests is others =
+    let shape = same_shape m n f deed done in
+    record {
+      there = machine ∙ stands.there;
+      harts = shape.0 ∙ stands.harts ∙ sym harts;
+      guests = shape.1 ∙ stands.guests ∙ sym guests;
+      few_harts = subst (λ k. k ≤ 4) (sym shape.0) stands.few_harts;
+      few_guests = subst (λ k. k ≤ 7) (sym shape.1) stands.few_guests;
+      each = λ g inside. let inside_old = there_too n.imsic m.imsic g shape.0 inside in elim (same_or_other f g) [
+        | inl e ↦ subst (λ (x : FileName). FileStands n (event ∷ h) x) (sym e) (this (stands.each f there))
+        | inr ne ↦ rests n h g event (others g ne) (others_kept m n f g deed h done there inside_old ne (stands.each g inside_old))
+      ];
+    }
+  where
+    this : FileStands m h f → FileStands n (event ∷ h) f
+    this old = let now = file_done m n f deed h done old in record {
+      file = now.0 ∙ sym (file_step event h f ∙ ap (λ d. file_after (select_of h f) d (file_of h f)) is);
+      select = now.1 ∙ sym (select_step event h f ∙ ap (λ d. select_told d (select_of h f)) is);
+    }
+
+-- nothing was done at one file
+pub put_back : (m n : Machine) (f : FileName) (h : History) → IsThere m.imsic (spot_of f) → HasDone m n f Rests → MachineStands m h → MachineStands n h
+put_back m n f h there done stands =
+    let shape = same_shape m n f Rests done in
+    record {
+      there = stands.there;
+      harts = shape.0 ∙ stands.harts;
+      guests = shape.1 ∙ stands.guests;
+      few_harts = subst (λ k. k ≤ 4) (sym shape.0) stands.few_harts;
+      few_guests = subst (λ k. k ≤ 7) (sym shape.1) stands.few_guests;
+      each = λ g inside. let inside_old = there_too n.imsic m.imsic g shape.0 inside in elim (same_or_other f g) [
+        | inl e ↦ subst (λ (x : FileName). FileStands n h x) (sym e) (this (stands.each f there))
+        | inr ne ↦ others_kept m n f g Rests h done there inside_old ne (stands.each g inside_old)
+      ];
+    }
+  where
+    this : FileStands m h f → FileStands n h f
+    this old = let now = file_done m n f Rests h done old in record { file = now.0; select = now.1 }
+
+-- ---- what a line answers and leaves, by its refusal
+
+by_refusal : (m n : Machine) (line : Line) (given : Answer)
     → ((h : History) → MachineStands m h → (r : Option Answer) × (refusal h line ≡ r) × (given ≡ unwrap_or r (accepted_answer h line)) × MachineStands n (history_after r h line)) → MachineServes m n line given
 by_refusal m n line given by = record {
   answers = λ h stands. let r = by h stands in r.2 ∙ sym (answered h line r.0 r.1);
@@ -91,17 +154,52 @@ by_refusal m n line given by = record {
 pub refused : (m : Machine) (line : Line) (word : Answer) → ((h : History) → MachineStands m h → refusal h line ≡ Some word) → MachineServes m m line word
 refused m line word is = by_refusal m m line word (λ h stands. (Some word, is h stands, refl, stands))
 
--- ---- accesses
+-- ---- accesses of a hart's CSRs
 
-pub out_of_range : (m : Machine) (k : ℕ) (csr : Csr) (op : Op) → length m.harts.items ≤ k → MachineServes m m (HostCsr k csr op) Range
-out_of_range m k csr op past = refused m (HostCsr k csr op) Range (λ h stands. host_refusal h k csr op stands.there ∙ cond-true _ _ _ (ap not (le-ltb k (harts_of h) (omega (arith, stands.harts)))))
+csr_refusal : (level : Level) → IsHost level → (h : History) (hart : ℕ) (csr : Csr) (op : Op) → has_machine h ≡ true
+    → refusal h (csr_line level hart csr op) ≡ access_refusal h hart (raises_illegal (access_of level csr op (select_of h (name_of level hart)) false))
+csr_refusal levels.Machine host h hart csr op there = machine_csr_refusal h hart csr op there
+csr_refusal levels.Host host h hart csr op there = host_csr_refusal h hart csr op there
+csr_refusal levels.Guest host h hart csr op there = absurd host
 
--- the refusal of an access of hart k, by its select number
-access_refusal : (m : Machine) (k : ℕ) (old : Hart) (csr : Csr) (op : Op) (h : History) → slice_get m.harts.items k ≡ Some old → MachineStands m h → refusal h (HostCsr k csr op) ≡ cond (has_no_register old.select csr) (Some Illegal) None
-access_refusal m k old csr op h was stands =
-    let inside : k < length m.harts.items = slice_get_within m.harts.items k old was in
-    host_refusal h k csr op stands.there ∙ cond-false _ _ _ (ap not (lt-ltb k (harts_of h) (omega (arith, stands.harts))))
-    ∙ ap (λ s. cond (has_no_register s csr) (Some Illegal) None) (sym (stands.each k old was).select)
+csr_accepted : (level : Level) → IsHost level → (h : History) (hart : ℕ) (csr : Csr) (op : Op) → accepted_answer h (csr_line level hart csr op) ≡ Wide (csr_value h (name_of level hart) csr)
+csr_accepted levels.Machine host h hart csr op = refl
+csr_accepted levels.Host host h hart csr op = refl
+csr_accepted levels.Guest host h hart csr op = absurd host
+
+pub out_of_range : (m : Machine) (level : Level) → IsHost level → (k : ℕ) (csr : Csr) (op : Op) → m.imsic.harts ≤ k → MachineServes m m (csr_line level k csr op) Range
+out_of_range m level host k csr op past = refused m (csr_line level k csr op) Range (λ h stands.
+    csr_refusal level host h k csr op stands.there ∙ cond-true _ _ _ (ap not (le-ltb k (harts_of h) (omega (arith, stands.harts)))))
+
+named_there : (level : Level) → IsHost level → (i : Harts) (hart : ℕ) → hart < i.harts → IsThere i (spot_of (name_of level hart))
+named_there levels.Machine host i hart inside = inside
+named_there levels.Host host i hart inside = inside
+named_there levels.Guest host i hart inside = absurd host
+
+own_access : (level : Level) → IsHost level → (h : History) (hart : ℕ) (csr : Csr) (op : Op) → deed_at h (name_of level hart) (Accepted (csr_line level hart csr op)) ≡ Accesses csr op
+own_access levels.Machine host h hart csr op = own_machine_access h hart csr op
+own_access levels.Host host h hart csr op = own_host_access h hart csr op
+own_access levels.Guest host h hart csr op = absurd host
+
+other_access : (level : Level) → IsHost level → (h : History) (hart : ℕ) (g : FileName) (csr : Csr) (op : Op) → g ≢ name_of level hart → deed_at h g (Accepted (csr_line level hart csr op)) ≡ Rests
+other_access levels.Machine host h hart (MachineFile x) csr op ne = other_machine_access h hart x csr op (λ e. ne (ap MachineFile e))
+other_access levels.Machine host h hart (SupervisorFile x) csr op ne = refl
+other_access levels.Host host h hart (SupervisorFile x) csr op ne = other_host_access h hart x csr op (λ e. ne (ap SupervisorFile e))
+other_access levels.Host host h hart (MachineFile x) csr op ne = refl
+other_access levels.Guest host h hart g csr op ne = absurd host
+
+machine_stays : (level : Level) → IsHost level → (h : History) (hart : ℕ) (csr : Csr) (op : Op)
+    → (has_machine (Accepted (csr_line level hart csr op) ∷ h) ≡ has_machine h) × (harts_of (Accepted (csr_line level hart csr op) ∷ h) ≡ harts_of h) × (guests_of (Accepted (csr_line level hart csr op) ∷ h) ≡ guests_of h)
+machine_stays levels.Machine host h hart csr op = (refl, refl, refl)
+machine_stays levels.Host host h hart csr op = (refl, refl, refl)
+machine_stays levels.Guest host h hart csr op = absurd host
+
+-- the refusal of an access of a hart that is there, by the select number that the machine keeps
+refusal_there : (m : Machine) (level : Level) (host : IsHost level) (k : ℕ) (csr : Csr) (op : Op) (h : History) → k < m.imsic.harts → MachineStands m h
+    → refusal h (csr_line level k csr op) ≡ cond (raises_illegal (access_of level csr op (slice_index m.selects (select_place (name_of level k))) false)) (Some Illegal) None
+refusal_there m level host k csr op h inside stands =
+    csr_refusal level host h k csr op stands.there ∙ cond-false _ _ _ (ap not (lt-ltb k (harts_of h) (omega (arith, stands.harts))))
+    ∙ ap (λ s. cond (raises_illegal (access_of level csr op s false)) (Some Illegal) None) (sym (stands.each (name_of level k) (named_there level host m.imsic k inside)).select)
 
 chosen_some : {A : Type 0} (b : Bool) (x y : A) → cond b None (Some x) ≡ Some y → (b ≡ false) × (x ≡ y)
 chosen_some true x y e = absurd (cc)
@@ -111,79 +209,131 @@ chosen_none : {A : Type 0} (b : Bool) (x : A) → cond b None (Some x) ≡ None 
 chosen_none true x e = refl
 chosen_none false x e = absurd (cc)
 
-pub accessed_at : (m n : Machine) (k : ℕ) (old new : Hart) (csr : Csr) (op : Op) (value : ℕ) → slice_get m.harts.items k ≡ Some old
-    → Some value ≡ cond (has_no_register old.select csr) None (Some (csr_shown old.select (shown old.file) csr)) → HasDone old new (Accesses csr op)
-    → n.harts.items ≡ set m.harts.items k new → MachineServes m n (HostCsr k csr op) (Wide value)
-accessed_at m n k old new csr op value was given done e =
-    let found = chosen_some (has_no_register old.select csr) (csr_shown old.select (shown old.file) csr) value (sym given) in
-    by_refusal m n (HostCsr k csr op) (Wide value) (λ h stands. (
-      None,
-      access_refusal m k old csr op h was stands ∙ cond-false _ _ _ found.0,
-      ap Wide (sym found.1 ∙ csr_stands old h k csr (stands.each k old was)),
-      one_hart m n k new h (Accepted (HostCsr k csr op) ∷ h) e stands refl refl
-          (hart_step old new h k (Accepted (HostCsr k csr op)) (Accesses csr op) (own_access h k csr op) done (stands.each k old was))
-          (λ x hart ne s. hart_rests hart h x (Accepted (HostCsr k csr op)) (other_access h k x csr op ne) s),
-    ))
+pub accessed_there : (m n : Machine) (level : Level) → IsHost level → (k : ℕ) (csr : Csr) (op : Op) (value : ℕ) → k < m.imsic.harts
+    → Some value ≡ cond (raises_illegal (access_of level csr op (slice_index m.selects (select_place (name_of level k))) false)) None (Some (csr_shown (slice_index m.selects (select_place (name_of level k))) (shown (file_at m.imsic (spot_of (name_of level k)))) csr))
+    → HasDone m n (name_of level k) (Accesses csr op) → MachineServes m n (csr_line level k csr op) (Wide value)
+accessed_there m n level host k csr op value inside given done =
+    let f = name_of level k in
+    let event = Accepted (csr_line level k csr op) in
+    let found = chosen_some _ _ value (sym given) in
+    by_refusal m n (csr_line level k csr op) (Wide value) (λ h stands.
+      let there = named_there level host m.imsic k inside in
+      let file = stands.each f there in
+      let stays = machine_stays level host h k csr op in (
+        None,
+        refusal_there m level host k csr op h inside stands ∙ cond-false _ _ _ found.0,
+        ap Wide (sym found.1 ∙ ap (λ s. csr_shown s (shown (file_at m.imsic (spot_of f))) csr) file.select ∙ ap (λ x. csr_shown (select_of h f) x csr) file.file) ∙ sym (csr_accepted level host h k csr op),
+        one_file m n f (Accesses csr op) h event there done stands stays.0 stays.1 stays.2 (own_access level host h k csr op) (λ g ne. other_access level host h k g csr op ne),
+      ))
 
-pub no_register_at : (m n : Machine) (k : ℕ) (old new : Hart) (csr : Csr) (op : Op) → slice_get m.harts.items k ≡ Some old
-    → ◌≡◌ {A = Option ℕ} None (cond (has_no_register old.select csr) None (Some (csr_shown old.select (shown old.file) csr))) → new ≡ old
-    → n.harts.items ≡ set m.harts.items k new → MachineServes m n (HostCsr k csr op) Illegal
-no_register_at m n k old new csr op was given same e =
-    let none = chosen_none (has_no_register old.select csr) (csr_shown old.select (shown old.file) csr) (sym given) in
-    by_refusal m n (HostCsr k csr op) Illegal (λ h stands. (
+pub illegal_there : (m n : Machine) (level : Level) → IsHost level → (k : ℕ) (csr : Csr) (op : Op) → k < m.imsic.harts
+    → ◌≡◌ {A = Option ℕ} None (cond (raises_illegal (access_of level csr op (slice_index m.selects (select_place (name_of level k))) false)) None (Some (csr_shown (slice_index m.selects (select_place (name_of level k))) (shown (file_at m.imsic (spot_of (name_of level k)))) csr)))
+    → HasDone m n (name_of level k) Rests → MachineServes m n (csr_line level k csr op) Illegal
+illegal_there m n level host k csr op inside given done =
+    let none = chosen_none _ _ (sym given) in
+    by_refusal m n (csr_line level k csr op) Illegal (λ h stands. (
       Some Illegal,
-      access_refusal m k old csr op h was stands ∙ cond-true _ _ _ none,
+      refusal_there m level host k csr op h inside stands ∙ cond-true _ _ _ none,
       refl,
-      put_back m n k old h was (e ∙ ap (set m.harts.items k) same) stands,
+      put_back m n (name_of level k) h (named_there level host m.imsic k inside) done stands,
     ))
 
--- ---- stores
+-- ---- loads and stores
 
-pub unaligned : (m : Machine) (addr value : ℕ) → addr % 4 ≢ 0 → MachineServes m m (Store addr value) Fault
-unaligned m addr value odd = refused m (Store addr value) Fault (λ h stands. store_refusal h addr value stands.there ∙ cond-true _ _ _ (ap (λ b. not (b && is_some (supervisor_at h addr))) (ne_eqb (addr % 4) 0 odd)))
+page_stands : (m : Machine) (h : History) (addr : ℕ) → MachineStands m h → spot_at m.imsic.harts m.imsic.guests addr ≡ page_at h addr
+page_stands m h addr stands = ap (λ k. spot_at k m.imsic.guests addr) stands.harts ∙ ap (λ k. spot_at (harts_of h) k addr) stands.guests
 
-no_page : (h : History) (addr : ℕ) → ((x : ℕ) → x < harts_of h → is_in_page (supervisor_page x) addr ≡ false) → supervisor_at h addr ≡ None
-no_page h addr none = least_of-none (λ x. is_in_page (supervisor_page x) addr) 0 (harts_of h) (λ j a b. none j (omega arith))
+pub load_refused : (m : Machine) (addr : ℕ) (word : Answer) → Some word ≡ place_refusal (spot_at m.imsic.harts m.imsic.guests addr) addr → MachineServes m m (Load addr) word
+load_refused m addr word is = refused m (Load addr) word (λ h stands. load_refusal h addr stands.there ∙ ap (λ s. place_refusal s addr) (sym (page_stands m h addr stands)) ∙ sym is)
 
-both_false : (b : Bool) → (b && false) ≡ false
-both_false true = refl
-both_false false = refl
+pub store_refused : (m : Machine) (addr value : ℕ) (word : Answer) → Some word ≡ place_refusal (spot_at m.imsic.harts m.imsic.guests addr) addr → MachineServes m m (Store addr value) word
+store_refused m addr value word is = refused m (Store addr value) word (λ h stands. store_refusal h addr value stands.there ∙ ap (λ s. place_refusal s addr) (sym (page_stands m h addr stands)) ∙ sym is)
 
-pub reaches_nothing : (m : Machine) (addr value : ℕ) → ((x : ℕ) → x < length m.harts.items → is_in_page (supervisor_page x) addr ≡ false) → MachineServes m m (Store addr value) Fault
-reaches_nothing m addr value none = refused m (Store addr value) Fault (λ h stands.
-    let nowhere = no_page h addr (λ x low. none x (omega (arith, stands.harts))) in
-    store_refusal h addr value stands.there ∙ cond-true _ _ _ (ap (λ o. not (nat_eq (addr % 4) 0 && is_some o)) nowhere ∙ ap not (both_false (nat_eq (addr % 4) 0))))
+pub loaded : (m : Machine) (addr : ℕ) → None ≡ place_refusal (spot_at m.imsic.harts m.imsic.guests addr) addr → MachineServes m m (Load addr) (Narrow 0)
+loaded m addr is = by_refusal m m (Load addr) (Narrow 0) (λ h stands. (
+  None,
+  load_refusal h addr stands.there ∙ ap (λ s. place_refusal s addr) (sym (page_stands m h addr stands)) ∙ sym is,
+  refl,
+  all_rest m h (Accepted (Load addr)) refl refl refl (λ f. refl) stands,
+))
 
-in_page : (addr k offset : ℕ) → addr ≡ supervisor_page k + offset → offset < 0x1000 → is_in_page (supervisor_page k) addr ≡ true
-in_page addr k offset placed low = grind (arith, nat_tests)
+-- the file in whose page the address lies
+page_of_name : (i : Harts) (addr : ℕ) (f : FileName) → i.harts ≤ 4 → IsThere i (spot_of f) → is_at f addr ≡ true → spot_at i.harts i.guests addr ≡ spot_of f
+page_of_name i addr (MachineFile hart) few inside here = spot_of_machine i.harts i.guests addr hart inside here
+page_of_name i addr (SupervisorFile hart) few inside here = spot_of_host i.harts i.guests addr hart few inside here
 
-not_in_page : (addr k x offset : ℕ) → addr ≡ supervisor_page k + offset → offset < 0x1000 → x ≢ k → is_in_page (supervisor_page x) addr ≡ false
-not_in_page addr k x offset placed low ne = grind (arith, nat_tests)
+name_at_page : (i : Harts) (addr : ℕ) (f : FileName) → spot_at i.harts i.guests addr ≡ spot_of f → is_at f addr ≡ true
+name_at_page i addr (MachineFile hart) e = (machine_of_spot i.harts i.guests addr hart e).1
+name_at_page i addr (SupervisorFile hart) e = (host_of_spot i.harts i.guests addr hart e).1
 
-page_found : (h : History) (addr k offset : ℕ) → addr ≡ supervisor_page k + offset → offset < 0x1000 → k < harts_of h → supervisor_at h addr ≡ Some k
-page_found h addr k offset placed low inside =
-    least_of-found (λ x. is_in_page (supervisor_page x) addr) 0 (harts_of h) k (omega arith) (omega arith) (in_page addr k offset placed low)
-    (λ j a b. not_in_page addr k j offset placed low (λ e. omega arith))
+-- what a store leaves of one file
+stored_at : (m n : Machine) (addr value : ℕ) (spot : Spot) (h : History) (f : FileName) → m.imsic.harts ≤ 4 → spot ≡ spot_at m.imsic.harts m.imsic.guests addr → IsThere m.imsic spot → IsThere m.imsic (spot_of f)
+    → SameFile (shown (file_at n.imsic spot)) (landed (addr % 0x1000) value (shown (file_at m.imsic spot))) → n.imsic ≡ with_file m.imsic spot (file_at n.imsic spot) → n.selects ≡ m.selects
+    → FileStands m h f → FileStands n (Accepted (Store addr value) ∷ h) f
+stored_at m n addr value spot h f few at there inside lands others selects stands = elim (cases_Bool (is_at f addr)) [
+  | inl here ↦
+      let e : spot ≡ spot_of f = at ∙ page_of_name m.imsic addr f few inside here in
+      let now : shown (file_at n.imsic (spot_of f)) ≡ landed (addr % 0x1000) value (shown (file_at m.imsic (spot_of f))) =
+          subst (λ (s : Spot). shown (file_at n.imsic s) ≡ landed (addr % 0x1000) value (shown (file_at m.imsic s))) e (same_file _ _ lands) in
+      record {
+        file = now ∙ ap (landed (addr % 0x1000) value) stands.file ∙ sym (file_step (Accepted (Store addr value)) h f ∙ ap (λ d. file_after (select_of h f) d (file_of h f)) (store_here h f addr value here));
+        select = ap (λ xs. get_or xs (select_place f) 0) selects ∙ stands.select ∙ sym (select_step (Accepted (Store addr value)) h f ∙ ap (λ d. select_told d (select_of h f)) (store_here h f addr value here));
+      }
+  | inr elsewhere ↦
+      let other : spot_of f ≢ spot = λ e. absurd (false≢true (sym elsewhere ∙ name_at_page m.imsic addr f (sym at ∙ sym e))) in
+      let kept : FileStands n h f = record {
+        file = ap (λ (i : Harts). shown (file_at i (spot_of f))) others ∙ ap shown (kept_elsewhere m.imsic spot (spot_of f) (file_at n.imsic spot) there inside other) ∙ stands.file;
+        select = ap (λ xs. get_or xs (select_place f) 0) selects ∙ stands.select;
+      } in
+      rests n h f (Accepted (Store addr value)) (store_elsewhere h f addr value elsewhere) kept
+]
 
-pub store_lands : (m n : Machine) (k offset addr value : ℕ) (old new : Hart) → slice_get m.harts.items k ≡ Some old → addr % 4 ≡ 0 → addr ≡ supervisor_page k + offset → offset < 0x1000
-    → HasDone old new (Stores offset value) → n.harts.items ≡ set m.harts.items k new → MachineServes m n (Store addr value) Okay
-store_lands m n k offset addr value old new was aligned placed low done e =
-    let inside : k < length m.harts.items = slice_get_within m.harts.items k old was in
-    let at : addr % 0x1000 ≡ offset = omega arith in
-    by_refusal m n (Store addr value) Okay (λ h stands. (
-      None,
-      store_refusal h addr value stands.there ∙ ap (λ o. cond (not (nat_eq (addr % 4) 0 && is_some o)) (Some Fault) None) (page_found h addr k offset placed low (omega (arith, stands.harts))) ∙ ap (λ b. cond (not (b && true)) (Some Fault) None) (eq-eqb (addr % 4) 0 aligned),
-      refl,
-      one_hart m n k new h (Accepted (Store addr value) ∷ h) e stands refl refl
-          (hart_step old new h k (Accepted (Store addr value)) (Stores offset value) (store_here h (SupervisorFile k) addr value (in_page addr k offset placed low) ∙ ap (λ o. Stores o value) at) done (stands.each k old was))
-          (λ x hart ne s. hart_rests hart h x (Accepted (Store addr value)) (store_elsewhere h (SupervisorFile x) addr value (not_in_page addr k x offset placed low ne)) s),
-    ))
-
--- ---- a new machine
-
-pub all_more : {A : Type 0} (P : A → Type 0) (xs ys : List A) (x : A) → All P xs → P x → ys ≡ xs ++ x ∷ [] → All P ys
-all_more {A} P xs ys x all one e = subst (All P) (sym e) (All-append P xs (x ∷ []) all single)
+pub stored : (m n : Machine) (addr value : ℕ) (spot : Spot) → None ≡ place_refusal (spot_at m.imsic.harts m.imsic.guests addr) addr → spot ≡ spot_at m.imsic.harts m.imsic.guests addr → IsThere m.imsic spot
+    → SameFile (shown (file_at n.imsic spot)) (landed (addr % 0x1000) value (shown (file_at m.imsic spot))) → n.imsic ≡ with_file m.imsic spot (file_at n.imsic spot) → n.selects ≡ m.selects
+    → MachineServes m n (Store addr value) Okay
+stored m n addr value spot is at there lands others selects = by_refusal m n (Store addr value) Okay (λ h stands. (
+  None,
+  store_refusal h addr value stands.there ∙ ap (λ s. place_refusal s addr) (sym (page_stands m h addr stands)) ∙ sym is,
+  refl,
+  after_store h stands,
+))
   where
-    single : All P (x ∷ [])
-    single zero d low = one
-    single (suc k) d low = absurd (omega arith)
+    after_store : (h : History) → MachineStands m h → MachineStands n (Accepted (Store addr value) ∷ h)
+    after_store h stands =
+        let harts : n.imsic.harts ≡ m.imsic.harts = ap (λ (i : Harts). i.harts) others in
+        let guests : n.imsic.guests ≡ m.imsic.guests = ap (λ (i : Harts). i.guests) others in
+        record {
+          there = stands.there;
+          harts = harts ∙ stands.harts;
+          guests = guests ∙ stands.guests;
+          few_harts = subst (λ k. k ≤ 4) (sym harts) stands.few_harts;
+          few_guests = subst (λ k. k ≤ 7) (sym guests) stands.few_guests;
+          each = λ f inside. let inside_old = there_too n.imsic m.imsic f harts inside in stored_at m n addr value spot h f stands.few_harts at there inside_old lands others selects (stands.each f inside_old);
+        }
+
+-- ---- no host's file lies in memory
+
+not_in_memory : (addr : ℕ) → addr < 0x80000000 → is_in_memory addr ≡ false
+not_in_memory addr low = grind (arith, nat_tests)
+
+machine_below : (addr hart : ℕ) → hart < 4 → is_in_page (machine_page hart) addr ≡ true → addr < 0x80000000
+machine_below addr hart few here = let below = to_page (machine_page hart) addr here in omega arith
+
+host_below : (addr hart : ℕ) → hart < 4 → is_in_page (supervisor_page hart) addr ≡ true → addr < 0x80000000
+host_below addr hart few here = let below = to_page (supervisor_page hart) addr here in omega arith
+
+free_place : (spot : Spot) (addr : ℕ) → is_page spot ≡ true → is_guest_page spot ≡ false → addr % 4 ≡ 0 → is_in_memory addr ≡ false → place_refusal spot addr ≡ None
+free_place spot addr page guest aligned outside =
+    ap (λ b. cond (not (nat_eq (addr % 4) 0 && (b || is_in_memory addr))) (Some Fault) (cond (guards spot addr) (Some Guarded) None)) page
+    ∙ ap (λ b. cond (not (b && true)) (Some Fault) (cond (guards spot addr) (Some Guarded) None)) (eq-eqb (addr % 4) 0 aligned)
+    ∙ ap (λ b. cond (b || is_in_memory addr) (Some Guarded) None) guest ∙ ap (λ b. cond b (Some Guarded) None) outside
+
+pub machine_file_is_free : (i : Harts) (addr hart : ℕ) (spot : Spot) → i.harts ≤ 4 → spot ≡ spot_at i.harts i.guests addr → spot ≡ spots.MachineFile hart → addr % 4 ≡ 0 → ◌≡◌ {A = Option Answer} None (place_refusal (spot_at i.harts i.guests addr) addr)
+machine_file_is_free i addr hart spot few at is aligned =
+    let there = machine_of_spot i.harts i.guests addr hart (sym at ∙ is) in
+    sym (ap (λ s. place_refusal s addr) (sym at ∙ is) ∙ free_place (spots.MachineFile hart) addr refl refl aligned (not_in_memory addr (machine_below addr hart (omega (arith, there.0)) there.1)))
+
+pub host_file_is_free : (i : Harts) (addr hart : ℕ) (spot : Spot) → i.harts ≤ 4 → spot ≡ spot_at i.harts i.guests addr → spot ≡ spots.HostFile hart → addr % 4 ≡ 0 → ◌≡◌ {A = Option Answer} None (place_refusal (spot_at i.harts i.guests addr) addr)
+host_file_is_free i addr hart spot few at is aligned =
+    let there = host_of_spot i.harts i.guests addr hart (sym at ∙ is) in
+    sym (ap (λ s. place_refusal s addr) (sym at ∙ is) ∙ free_place (spots.HostFile hart) addr refl refl aligned (not_in_memory addr (host_below addr hart (omega (arith, there.0)) there.1)))

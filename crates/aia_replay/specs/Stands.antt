@@ -1,18 +1,21 @@
 -- When a machine stands for a history, and what each call of a layer promises. Profile: this project's way to speak of its engine.
-use Rattle.std.specs.Prelude.{◌≡◌, ℕ, ◌≤◌, true, [], slice_index, replicate, Option, MatchOption}
+use Rattle.std.specs.Prelude.{◌≡◌, ℕ, ◌≤◌, true, [], slice_index, slice_set, replicate, Option, Some, None, MatchOption}
 use Rattle.aia_model.specs.declared.answer.Answer.{Answer}
 use Rattle.aia_model.specs.declared.line.Line.{Line}
 use Rattle.aia_model.specs.declared.parsed.Parsed.{Parsed}
 use Rattle.aia_model.specs.declared.parsed.Parsed.TheVariants as parsed
+use Rattle.aia_regs.specs.declared.access.Csr.{Csr}
+use Rattle.aia_regs.specs.declared.access.Op.{Op}
 use Rattle.aia_file.specs.FileState.{shown}
-use Rattle.aia_imsic.specs.Files.{IsThere, file_at, AreEmpty}
+use Rattle.aia_imsic.specs.Files.{IsThere, file_at, with_file, AreEmpty}
 use Rattle.aia_model.specs.Event.{History, has_machine, harts_of, guests_of}
-use Rattle.aia_model.specs.FileOf.{FileName, select_of, file_of}
+use Rattle.aia_model.specs.FileOf.{FileName, Deed, select_of, file_of}
+use Rattle.aia_model.specs.FileOf.Deed.{Accesses, Rests}
 use Rattle.aia_model.specs.Refusal.{makes_machine}
 use Rattle.aia_model.specs.Answer.{answer, after}
 use Rattle.aia_model.specs.Script.{text_answer, after_text}
 use Rattle.aia_replay.specs.declared.machine.Machine.{Machine}
-use Rattle.aia_replay.specs.Places.{spot_of, select_place}
+use Rattle.aia_replay.specs.Places.{FileDone, spot_of, select_place}
 use Rattle.aia_replay.specs.declared.engine.Engine.{Engine}
 
 -- ---- a machine
@@ -32,13 +35,24 @@ pub record MachineStands (m : Machine) (h : History) : Type 0 where
   pub each : (f : FileName) → IsThere m.imsic (spot_of f) → FileStands m h f
 
 -- A machine as it begins: so many harts and guest files, all files empty, all select numbers 0.
-pub record IsNewMachine (harts guests n : ℕ) (m : Machine) : Type 0 where
-  pub harts : m.imsic.harts ≡ harts
-  pub guests : m.imsic.guests ≡ guests
+pub record IsNewMachine (hart_count guest_count n : ℕ) (m : Machine) : Type 0 where
+  pub harts : m.imsic.harts ≡ hart_count
+  pub guests : m.imsic.guests ≡ guest_count
   pub few_harts : m.imsic.harts ≤ 4
   pub few_guests : m.imsic.guests ≤ 7
   pub files : AreEmpty m.imsic n
   pub selects : m.selects ≡ replicate 8 0
+
+-- A deed was done at one file of the host, or nothing (a deed that rests); every other file and select number is as it was.
+pub record HasDone (old new : Machine) (f : FileName) (deed : Deed) : Type 0 where
+  pub imsic : new.imsic ≡ with_file old.imsic (spot_of f) (file_at new.imsic (spot_of f))
+  pub selects : new.selects ≡ slice_set old.selects (select_place f) (slice_index new.selects (select_place f))
+  pub done : FileDone (file_at old.imsic (spot_of f)) (file_at new.imsic (spot_of f)) (slice_index old.selects (select_place f)) (slice_index new.selects (select_place f)) deed
+
+-- What an access that was answered, or refused, is to its file.
+abbrev pub deed_of : Option ℕ → Csr → Op → Deed
+deed_of None csr op = Rests
+deed_of (Some value) csr op = Accesses csr op
 
 -- A machine answers a line as the model does, and stands for the history after it.
 pub record MachineServes (old new : Machine) (line : Line) (given : Answer) : Type 0 where

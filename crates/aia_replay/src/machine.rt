@@ -1,17 +1,18 @@
-ghost use Rattle.std.specs.Prelude.{◌≡◌, ℕ, ◌+◌, ◌*◌, ◌<◌, ◌≤◌, Bool, true, length, slice_index, slice_set, IsTrue, is_some, IfOk, OnErr, IfSome, IfNone, OnSome, MatchResult, if◌then◌else◌};
+ghost use Rattle.std.specs.Prelude.{◌≡◌, ℕ, ◌+◌, ◌*◌, ◌<◌, ◌≤◌, Bool, true, false, length, slice_index, slice_set, IsTrue, is_some, IfOk, OnErr, IfSome, IfNone, OnSome, MatchResult, if◌then◌else◌};
 ghost use Rattle.aia_regs.specs.FileRegisters.{select_after};
 ghost use Rattle.aia_regs.specs.AddressMap.{is_in_memory};
-ghost use Rattle.aia_file.specs.InterruptFile.{is_width};
+ghost use Rattle.std.specs.Result.{result_err};
+ghost use Rattle.aia_file.specs.InterruptFile.{is_width, SameFile};
 ghost use Rattle.aia_file.specs.FileState.{shown};
 ghost use Rattle.aia_csr.specs.Access.{access_of, IsInTable};
 ghost use Rattle.aia_imsic.specs.Files.{IsThere, file_at, with_file};
 ghost use Rattle.aia_imsic.specs.Map.{spot_at};
 ghost use Rattle.aia_model.specs.Grammar.{IsListed};
-ghost use Rattle.aia_model.specs.FileOf.{Accesses};
+ghost use Rattle.aia_model.specs.FileOf.{Accesses, file_after};
 ghost use Rattle.aia_model.specs.Refusal.{raises_illegal, is_machine_size, place_refusal};
 ghost use Rattle.aia_model.specs.Answer.{csr_shown};
 ghost use Rattle.aia_replay.specs.Places.{IsHost, FileDone, csr_line, name_of, spot_of, select_place};
-ghost use Rattle.aia_replay.specs.Stands.{MachineServes, IsNewMachine};
+ghost use Rattle.aia_replay.specs.Stands.{HasDone, MachineServes, IsNewMachine, deed_of};
 
 use aia_csr::{Access, Level, decide};
 use aia_file::File;
@@ -92,10 +93,13 @@ impl Machine {
         if addr % 4 != 0 {
             return Err(Answer::Fault);
         }
-        match self.imsic.locate(addr) {
-            Spot::Nowhere if !is_in_memory(addr) => Err(Answer::Fault),
-            Spot::Nowhere | Spot::GuestFile(..) => Err(Answer::Guarded),
-            spot => Ok(spot),
+        let spot = self.imsic.locate(addr);
+        match spot {
+            Spot::MachineFile(_) => Ok(spot),
+            Spot::HostFile(_) => Ok(spot),
+            Spot::GuestFile(..) => Err(Answer::Guarded),
+            Spot::Nowhere if is_in_memory(addr) => Err(Answer::Guarded),
+            Spot::Nowhere => Err(Answer::Fault),
         }
     }
 
@@ -118,15 +122,42 @@ impl Machine {
         requires listed { IsInTable level csr }
         requires host { IsHost level }
         requires there { hart < self.old.imsic.harts }
+        requires few { hart < 4 }
+        ensures value { result ≡ (if raises_illegal (access_of level csr op (slice_index self.old.selects (select_place (name_of level hart))) false) then None
+            else Some (csr_shown (slice_index self.old.selects (select_place (name_of level hart))) (shown (file_at self.old.imsic (spot_of (name_of level hart)))) csr)) }
+        ensures done { HasDone self.old self.new (name_of level hart) (deed_of result csr op) }
     {
-        let (spot, place) = match level {
-            Level::Machine => (Spot::MachineFile(hart), 2 * hart),
-            Level::Host | Level::Guest => (Spot::HostFile(hart), 2 * hart + 1),
-        };
-        let mut select = self.selects[place as usize];
-        let value = access_file(self.imsic.file_mut(spot), &mut select, level, csr, op);
-        self.selects[place as usize] = select;
+        let place = select_place(level, hart);
+        let mut select = self.selects[place];
+        let value = access_file(self.imsic.file_mut(spot(level, hart)), &mut select, level, csr, op);
+        self.selects[place] = select;
         value
+    }
+}
+
+/// Where the file of a hart at a level of the host is.
+fn spot(level: Level, hart: u32) -> Spot
+    requires { IsHost level }
+    ensures { result ≡ spot_of (name_of level hart) }
+{
+    match level {
+        Level::Machine => Spot::MachineFile(hart),
+        Level::Host => Spot::HostFile(hart),
+        Level::Guest => unreachable!(),
+    }
+}
+
+/// Where its select number is.
+fn select_place(level: Level, hart: u32) -> usize
+    requires host { IsHost level }
+    requires few { hart < 4 }
+    ensures place { result ≡ select_place (name_of level hart) }
+    ensures within { result < SELECTS }
+{
+    match level {
+        Level::Machine => 2 * hart as usize,
+        Level::Host => 2 * hart as usize + 1,
+        Level::Guest => unreachable!(),
     }
 }
 
@@ -136,8 +167,7 @@ fn access_file(file: &mut File, select: &mut u64, level: Level, csr: Csr, op: Op
     requires listed { IsInTable level csr }
     requires host { IsHost level }
     ensures value { result ≡ (if raises_illegal (access_of level csr op select.old false) then None else Some (csr_shown select.old (shown file.old) csr)) }
-    ensures done { OnSome result (FileDone file.old file.new select.old select.new (Accesses csr op)) }
-    ensures refused { IfNone result ((file.new ≡ file.old) × (select.new ≡ select.old)) }
+    ensures done { FileDone file.old file.new select.old select.new (deed_of result csr op) }
 {
     match decide(level, csr, op, *select, false) {
         Access::Select => Some(access_select(select, op)),

@@ -8,5 +8,5 @@ use Rattle.aia_replay.proofs.machine.Machine.line.Goals as goal
 
 pub returns-in-Machine : goal.returns-in-Machine
 returns-in-Machine c =
-    let m = c.args.self.now in
-    rw c.in-Machine.is (refused m (Machine c.in-Machine.harts c.in-Machine.guests c.in-Machine.n c.in-Machine.sources) Again (λ h stands. machine_refusal h c.in-Machine.harts c.in-Machine.guests c.in-Machine.n c.in-Machine.sources ∙ cond-true _ _ _ stands.there))
+    let line = c.in-Machine in
+    rw c.in-Machine.is (refused c.args.self.now (Machine line.harts line.guests line.n line.sources) Again (λ h stands. machine_refusal h line.harts line.guests line.n line.sources ∙ cond-true _ _ _ stands.there))

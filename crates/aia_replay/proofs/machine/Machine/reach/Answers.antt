@@ -1,0 +1,8 @@
+use Rattle.aia_replay.proofs.MachineLemmas.{machine_file_is_free, host_file_is_free}
+use Rattle.aia_replay.proofs.machine.Machine.reach.Goals as goal
+
+pub returns-in-MachineFile-clause-refused : goal.returns-in-MachineFile-clause-refused
+returns-in-MachineFile-clause-refused c = machine_file_is_free c.args.self.now.imsic c.args.addr _ c.locate-spot.result c.locate-spot.ensures.few.0 c.locate-spot.ensures.spot c.in-MachineFile.is c.if-addr-ne0.false
+
+pub returns-in-HostFile-clause-refused : goal.returns-in-HostFile-clause-refused
+returns-in-HostFile-clause-refused c = host_file_is_free c.args.self.now.imsic c.args.addr _ c.locate-spot.result c.locate-spot.ensures.few.0 c.locate-spot.ensures.spot c.in-HostFile.is c.if-addr-ne0.false
