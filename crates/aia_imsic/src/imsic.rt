@@ -77,18 +77,19 @@ impl Imsic {
         ensures spot { result ≡ spot_at self.now.harts self.now.guests addr }
         ensures there { result ≢ Spot.Nowhere → IsThere self.now result }
     {
+        let harts = u64::from(self.harts);
         if addr < MACHINE_FILES {
             return Spot::Nowhere;
         }
         if addr < SUPERVISOR_FILES {
             let hart = (addr - MACHINE_FILES) / PAGE;
-            if hart >= u64::from(self.harts) {
+            if hart >= harts {
                 return Spot::Nowhere;
             }
             return Spot::MachineFile(hart as u32);
         }
         let hart = (addr - SUPERVISOR_FILES) / HART_STRIDE;
-        if hart >= u64::from(self.harts) {
+        if hart >= harts {
             return Spot::Nowhere;
         }
         let file = (addr - SUPERVISOR_FILES) % HART_STRIDE / PAGE;
