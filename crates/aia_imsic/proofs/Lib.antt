@@ -1,3 +1,4 @@
 pub mod MapLemmas
 pub mod PlaceLemmas
 pub mod SignalLemmas
+pub mod EachLemmas
