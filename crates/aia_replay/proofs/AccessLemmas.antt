@@ -8,17 +8,20 @@ use Rattle.aia_regs.specs.declared.access.Csr.TheVariants as csrs
 use Rattle.aia_regs.specs.declared.access.Op.{Op}
 use Rattle.aia_regs.specs.declared.file_registers.FileReg.{FileReg}
 use Rattle.aia_regs.specs.declared.file_registers.FileReg.TheVariants.{Delivery, Threshold, Pending, Enable, Reserved, Odd, Outside}
-use Rattle.aia_regs.specs.FileRegisters.{register_of}
+use Rattle.aia_regs.specs.FileRegisters.{register_of, select_after}
 use Rattle.aia_csr.specs.declared.access.Level.{Level}
 use Rattle.aia_csr.specs.declared.access.Level.TheVariants as levels
 use Rattle.aia_csr.specs.declared.access.Access.{Access}
 use Rattle.aia_csr.specs.declared.access.Access.TheVariants as reaches
 use Rattle.aia_csr.specs.Access.{access_of, register_at, IsInTable}
-use Rattle.aia_file.specs.InterruptFile.{InterruptFile, SameFile}
+use Rattle.aia_file.specs.InterruptFile.{InterruptFile, SameFile, accessed, register_value}
 use Rattle.aia_file.specs.FileState.{FileState, shown}
 use Rattle.aia_imsic.specs.Files.{Harts, file_at, with_file, place_of}
 use Rattle.aia_imsic.proofs.PlaceLemmas.{replaced_here}
 use Rattle.aia_model.specs.FileOf.{FileName, Deed}
+use Rattle.aia_model.specs.FileOf.Deed.{Accesses}
+use Rattle.aia_model.specs.Refusal.{raises_illegal}
+use Rattle.aia_model.specs.Answer.{csr_shown}
 use Rattle.aia_replay.specs.declared.machine.Machine.{Machine}
 use Rattle.aia_replay.specs.Places.{IsHost, FileDone, spot_of, select_place}
 use Rattle.aia_replay.specs.Stands.{HasDone}
@@ -82,7 +85,7 @@ select_reached levels.Host csr op select host listed e = absurd listed
 
 -- ---- what is left
 
-same_as_is : (file : InterruptFile) → SameFile file file
+pub same_as_is : (file : InterruptFile) → SameFile file file
 same_as_is file = record { n = refl; pending = λ i. refl; enabled = λ i. refl; threshold = refl; delivery = refl }
 
 -- one file and its select number were written
@@ -98,3 +101,21 @@ has_done m n f deed file select place within imsic selects done =
       done = subst (λ (s : ℕ). FileDone (file_at m.imsic (spot_of f)) (file_at n.imsic (spot_of f)) (slice_index m.selects (select_place f)) s deed) (sym told)
           (subst (λ (x : FileState). FileDone (file_at m.imsic (spot_of f)) x (slice_index m.selects (select_place f)) select deed) (sym put) done);
     }
+
+-- ---- what an access of a file does, by what it reaches
+
+pub selected : (level : Level) (csr : Csr) (op : Op) (was now : ℕ) (file : FileState) → IsHost level → IsInTable level csr → reaches.Select ≡ access_of level csr op was false → now ≡ select_after op was → FileDone file file was now (Accesses csr op)
+selected level csr op was now file host listed table after =
+    rw (select_reached level csr op was host listed (sym table)) (record { file = same_as_is (shown file); select = after })
+
+pub register_read : (level : Level) (csr : Csr) (op : Op) (select value : ℕ) (reg : FileReg) (file : FileState) → IsHost level → IsInTable level csr → reaches.File reg ≡ access_of level csr op select false
+    → value ≡ register_value (shown file) reg → Some value ≡ cond (raises_illegal (access_of level csr op select false)) None (Some (csr_shown select (shown file) csr))
+register_read level csr op select value reg file host listed table read =
+    let named = file_reached level csr op select reg host listed (sym table) in
+    sym (ap (λ a. cond (raises_illegal a) None (Some (csr_shown select (shown file) csr))) (sym table) ∙ ap (λ c. Some (csr_shown select (shown file) c)) named.0 ∙ ap (λ r. Some (register_value (shown file) r)) named.1 ∙ ap Some (sym read))
+
+pub register_done : (level : Level) (csr : Csr) (op : Op) (select : ℕ) (reg : FileReg) (old new : FileState) → IsHost level → IsInTable level csr → reaches.File reg ≡ access_of level csr op select false
+    → SameFile (shown new) (accessed reg op (shown old)) → FileDone old new select select (Accesses csr op)
+register_done level csr op select reg old new host listed table done =
+    let named = file_reached level csr op select reg host listed (sym table) in
+    rw (named.0) (record { file = subst (λ (r : FileReg). SameFile (shown new) (accessed r op (shown old))) (sym named.1) done; select = refl })

@@ -1,5 +1,6 @@
 -- What the first lines make of an engine.
-use Rattle.std.proofs.Common.{◌≡◌, ℕ, zero, suc, true, false, not, List, [], ◌∷◌, get_or, Option, Some, None, MatchOption, refl, sym, ap, subst, ◌∙◌}
+use Rattle.std.proofs.Common.{◌≡◌, ℕ, zero, suc, true, false, not, List, [], ◌∷◌, get_or, replicate, Option, Some, None, MatchOption, refl, sym, ap, subst, ◌∙◌}
+use Rattle.std.specs.Prelude.{slice_index}
 use Rattle.std.proofs.lemmas.Bool.{cond-true, cond-false}
 use Rattle.aia_file.proofs.FileLemmas.{same_file}
 use Rattle.aia_model.specs.declared.line.Line.{Line}
@@ -50,7 +51,7 @@ size_refused harts guests n sources out = machine_refusal [] harts guests n sour
 no_selects : (m : Machine) (place : ℕ) → m.selects ≡ replicate 8 0 → slice_index m.selects place ≡ 0
 no_selects m place zeros = ap (λ xs. get_or xs place 0) zeros ∙ zero_at 8 place
   where
-    zero_at : (n p : ℕ) → get_or (replicate n 0) p 0 ≡ 0
+    zero_at : (n p : ℕ) → get_or (replicate n zero) p zero ≡ zero
     zero_at zero p = refl
     zero_at (suc n) zero = refl
     zero_at (suc n) (suc p) = zero_at n p

@@ -56,6 +56,21 @@ lines_at_fault left rest before now bytes took w = record {
 pub written_at_fault : (status : Status) (left rest before now : Option (List ℕ)) → Streams status left rest before now → status ≡ ReadFault → WritesLines 0 left rest before now
 written_at_fault status left rest before now streams is = lines_at_fault left rest before now streams.bytes streams.consumed (subst (λ s. WrittenFor s before now streams.bytes) is streams.written)
 
+lines_at_limit : (left rest before now : Option (List ℕ)) (bytes : List ℕ) → Consumes left rest bytes → WrittenFor TooLong before now bytes → WritesLines 1 left rest before now
+lines_at_limit left rest before now bytes took w = record {
+  whole = w.0;
+  tail = w.1;
+  beyond = w.2;
+  consumed = subst (Consumes left rest) w.3 took;
+  lines = w.6;
+  no_end = w.7;
+  past = w.5;
+  written = w.8;
+}
+
+pub written_at_limit : (status : Status) (left rest before now : Option (List ℕ)) → Streams status left rest before now → status ≡ TooLong → WritesLines 1 left rest before now
+written_at_limit status left rest before now streams is = lines_at_limit left rest before now streams.bytes streams.consumed (subst (λ s. WrittenFor s before now streams.bytes) is streams.written)
+
 -- what waits is written, and is all that was answered
 pub stopped : (r : Replayer) (left rest before mid now : Option (List ℕ)) → StreamsStop r left rest before mid → Appends mid now r.out.bytes.items → StopsAtMachine left rest before now
 stopped r left rest before mid now stop wrote =
