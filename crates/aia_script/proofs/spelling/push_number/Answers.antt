@@ -1,4 +1,4 @@
-use Rattle.std.proofs.Common.{ℕ, ◌≤◌, length, arith}
+use Rattle.std.proofs.Common.{◌≤◌, length, arith}
 use Rattle.std.specs.Int.Digits.{digits_of}
 use Rattle.aia_script.specs.Digits.{base}
 use Rattle.aia_script.proofs.PrintLemmas.{few_digits}
