@@ -2,7 +2,6 @@
 
 ghost use Rattle.std.specs.Prelude.{◌≡◌, ℕ, ◌≤◌, length};
 ghost use Rattle.std.specs.Option.{option_map};
-ghost use Rattle.aia_regs.specs.declared.access.Op.{Op};
 ghost use Rattle.aia_model.specs.Reading.{csr_at, read_at, write_at, instruction_after, instruction_at};
 ghost use Rattle.aia_script.specs.Cursor.{left};
 ghost use Rattle.aia_script.specs.Names.{csr_name, named};

@@ -1,11 +1,10 @@
-//! A line is printed.
+//! A line is printed: its keyword, and its other fields, each after a space.
 
-ghost use Rattle.std.specs.Prelude.{◌≡◌, ◌+◌, ◌<◌, ◌≤◌, [], ◌∷◌, ◌++◌, length, map};
+ghost use Rattle.std.specs.Prelude.{◌≡◌, ◌+◌, ◌≤◌, [], ◌∷◌, ◌++◌, length, map};
 ghost use Rattle.std.specs.Int.Digits.{digits_of};
 ghost use Rattle.std.specs.List.{join_with_byte};
 ghost use Rattle.arrayvec.specs.ArrayVec.{array_vec_len};
 ghost use Rattle.aia_regs.specs.Operations.{FitsOp};
-ghost use Rattle.aia_model.specs.declared.parsed.Parsed.TheVariants as Parsed;
 ghost use Rattle.aia_model.specs.AnswerText.{digit_character};
 ghost use Rattle.aia_model.specs.Grammar.{Spells, IsListed, instruction};
 ghost use Rattle.aia_model.specs.Printing.{decimal_text, hex_text, field_text, line_text, IsPrintable};
@@ -16,7 +15,7 @@ ghost use Rattle.aia_script.specs.Names.{csr_field};
 use crate::instructions::Level;
 use crate::number::Radix;
 use crate::print::{digit_character, push_text};
-use aia_model::Line;
+use aia_model::{Line, Parsed};
 use aia_regs::{Csr, Op};
 use arrayvec::ArrayVec;
 
@@ -76,7 +75,7 @@ fn push_operand(out: &mut ArrayVec<u8, 128>, mnemonic: &[u8], name: &[u8], opera
     push_hex(out, operand);
 }
 
-/// Appends a space and a CSR instruction, by the level's names. The operand, as each `u64`, is below 2^64.
+/// Appends a space and a CSR instruction, by the level's names. Its operand is in range by its type.
 fn push_instruction(out: &mut ArrayVec<u8, 128>, level: Level, csr: Csr, op: Op)
     requires { array_vec_len out.old + 38 ≤ 128 }
     ensures text { out.new.items ≡ out.old.items ++ 32 ∷ join_with_byte 32 (map field_text (instruction (csr_field level csr) op)) }
@@ -94,7 +93,7 @@ fn push_instruction(out: &mut ArrayVec<u8, 128>, level: Level, csr: Csr, op: Op)
     }
 }
 
-/// Appends the fields of a line, to nothing. Its numbers, of the types `u64` and `u32`, are in range.
+/// Appends the printing spelling of a line to `out`, which is empty. Its numbers are in range by their types.
 #[tactic(auto, unfolding(aia_model::specs::Printing::line_text), using(crate::proofs::PrintLemmas::joined_instruction, crate::proofs::PrintLemmas::access_in_range))]
 fn push_line(line: &Line, out: &mut ArrayVec<u8, 128>)
     requires { out.old.items ≡ [] }
@@ -138,9 +137,11 @@ fn push_line(line: &Line, out: &mut ArrayVec<u8, 128>)
 
 /// Appends the printing spelling of a line to `out`, which is empty. The line's CSR is one that lines of its form name.
 ///
-/// `parse_line` reads it again: `again` says that the reading of what is printed is `Line(line)`, and `parse_line` returns
-/// the reading of its text. So `parse_line(print_line(x)) = Line(x)`. The spelling: a single space between two fields; addresses, values and
-/// operands as `0x` and lower-case digits, all other numbers in decimal, none with leading zeros. Nothing is allocated.
+/// A single space stands between two fields. Addresses, values and operands are `0x` and lower-case digits, all other
+/// numbers are decimal, and none has leading zeros.
+///
+/// `parse_line(print_line(x)) = Line(x)`: the clause `again` says that the reading of what is printed is `Line(line)`, and
+/// `parse_line` returns the reading of its text. Nothing is allocated.
 pub fn print_line(line: &Line, out: &mut ArrayVec<u8, 128>)
     requires listed { IsListed line.now }
     requires empty { out.old.items ≡ [] }
