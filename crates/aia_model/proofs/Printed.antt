@@ -27,12 +27,12 @@ use Rattle.aia_model.proofs.Spelled.{reading_only}
 
 -- ---- a number that is printed is read again
 
-digit_again : (d : ℕ) → d < 10 → decimal_digit (digit_character d) ≡ Some d
-digit_again d low =
+decimal_digit_again : (d : ℕ) → d < 10 → decimal_digit (digit_character d) ≡ Some d
+decimal_digit_again d low =
     ap decimal_digit (cond-true _ _ _ (lt-ltb d 10 low)) ∙ (let e : (48 + d) - 48 ≡ d = omega arith in let t : is_in_range 48 57 (48 + d) ≡ true = grind (arith, nat_tests) in cond-true _ _ _ t ∙ ap Some e)
 
-hex_again : (d : ℕ) → d < 16 → hex_digit (digit_character d) ≡ Some d
-hex_again d low =
+hex_digit_again : (d : ℕ) → d < 16 → hex_digit (digit_character d) ≡ Some d
+hex_digit_again d low =
     elim (cases_lt d 10) [
       | inl h ↦ ap hex_digit (cond-true _ _ _ (lt-ltb d 10 h)) ∙ (let e : (48 + d) - 48 ≡ d = omega arith in let t : is_in_range 48 57 (48 + d) ≡ true = grind (arith, nat_tests) in cond-true _ _ _ t ∙ ap Some e)
       | inr h ↦ ap hex_digit (cond-false _ _ _ (le-ltb d 10 h)) ∙ (let e : (87 + d) - 87 ≡ d = omega arith in let t : is_in_range 48 57 (87 + d) ≡ false = grind (arith, nat_tests) in let u : is_in_range 97 102 (87 + d) ≡ true = grind (arith, nat_tests) in cond-false _ _ _ t ∙ cond-true _ _ _ u ∙ ap Some e)
@@ -47,7 +47,7 @@ from_digits n [] small first e low = absurd (omega arith)
 from_digits n (d ∷ ds) small first e low =
     let is : digit_character d ≡ 48 + d = cond-true _ _ _ (lt-ltb d 10 small.0) in
     cond-false _ _ _ (ap (λ c. nat_eq c 48) is ∙ ne_eqb (48 + d) 48 (λ z. absurd (omega arith)))
-    ∙ ap (λ o. o >>= below (2 ^ 64)) (value_again decimal_digit 10 digit_again 0 (d ∷ ds) small ∙ ap Some e)
+    ∙ ap (λ o. o >>= below (2 ^ 64)) (value_again decimal_digit 10 decimal_digit_again 0 (d ∷ ds) small ∙ ap Some e)
     ∙ cond-true _ _ _ (lt-ltb n (2 ^ 64) low)
 
 pub decimal_again : (n : ℕ) → n < 2 ^ 64 → number_of (decimal_text n) ≡ Some n
@@ -60,14 +60,14 @@ decimal_again n low =
 hex_digits_again : (n : ℕ) (ds : List ℕ) → AllBelowBase 16 ds → 1 ≤ length ds → length ds ≤ 16 → number_from_digits 16 ds ≡ n → n < 2 ^ 64 → after_zero (120 ∷ map digit_character ds) ≡ Some n
 hex_digits_again n ds small some few e low =
     let fits : (nat_eq 120 120 && is_in_range 1 16 (length (map digit_character ds))) ≡ true = rw length-map (grind (arith, nat_tests)) in
-    cond-true _ _ _ fits ∙ ap (λ o. o >>= below (2 ^ 64)) (value_again hex_digit 16 hex_again 0 ds small ∙ ap Some e) ∙ cond-true _ _ _ (lt-ltb n (2 ^ 64) low)
+    cond-true _ _ _ fits ∙ ap (λ o. o >>= below (2 ^ 64)) (value_again hex_digit 16 hex_digit_again 0 ds small ∙ ap Some e) ∙ cond-true _ _ _ (lt-ltb n (2 ^ 64) low)
 
 some_digits : (ds : List ℕ) → 0 < get_or ds 0 0 → 1 ≤ length ds
 some_digits [] h = absurd (omega arith)
 some_digits (d ∷ ds) h = omega arith
 
-pub hex_again_whole : (n : ℕ) → n < 2 ^ 64 → number_of (hex_text n) ≡ Some n
-hex_again_whole n low =
+pub hex_number_again : (n : ℕ) → n < 2 ^ 64 → number_of (hex_text n) ≡ Some n
+hex_number_again n low =
     elim (cases_eq n 0) [
       | inl z ↦ ap (λ t. number_of (48 ∷ 120 ∷ t)) (cond-true _ _ _ (eq-eqb n 0 z)) ∙ ap Some (sym z)
       | inr ne ↦ ap (λ t. number_of (48 ∷ 120 ∷ t)) (cond-false _ _ _ (ne_eqb n 0 ne))
@@ -116,10 +116,10 @@ decimal_word : (n : ℕ) → n < 2 ^ 64 → IsWord (decimal_text n) (Decimal n)
 decimal_word n low = record { fits = decimal_again n low; no_space = shown_no_space 10 n }
 
 hex_word : (n : ℕ) → n < 2 ^ 64 → IsWord (hex_text n) (Hex n)
-hex_word n low = record { fits = hex_again_whole n low; no_space = (refl, (refl, shown_no_space 16 n)) }
+hex_word n low = record { fits = hex_number_again n low; no_space = (refl, (refl, shown_no_space 16 n)) }
 
 hex32_word : (n : ℕ) → n < 2 ^ 32 → IsWord (hex_text n) (Hex32 n)
-hex32_word n low = record { fits = (hex_again_whole n (omega arith), low); no_space = (refl, (refl, shown_no_space 16 n)) }
+hex32_word n low = record { fits = (hex_number_again n (omega arith), low); no_space = (refl, (refl, shown_no_space 16 n)) }
 
 -- ---- words in a row, cut again
 

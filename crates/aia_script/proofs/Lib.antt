@@ -3,3 +3,4 @@ pub mod NumberLemmas
 pub mod DigitLemmas
 pub mod AnswerLength
 pub mod NameLemmas
+pub mod PrintLemmas

@@ -1,6 +1,5 @@
 -- The CSR that a word names, found by comparing the word with each name.
-use Rattle.std.proofs.Common.{◌≡◌, ℕ, cond, List, Option, Some, None, refl}
-use Rattle.aia_regs.specs.declared.access.Csr.{Csr}
+use Rattle.std.proofs.Common.{◌≡◌, ℕ, cond, List, Some, None, refl}
 use Rattle.aia_regs.specs.declared.access.Csr.TheVariants.{Select, Reg, Topei}
 use Rattle.aia_model.specs.Reading.{is_word}
 use Rattle.aia_script.specs.declared.instructions.Level.{Level}

@@ -1,8 +1,7 @@
 //! CSR instructions: the CSR's name at a level, and what follows each mnemonic.
 
-ghost use Rattle.std.specs.Prelude.{◌≡◌, ℕ};
+ghost use Rattle.std.specs.Prelude.{◌≡◌, ℕ, ◌≤◌, length};
 ghost use Rattle.std.specs.Option.{option_map};
-ghost use Rattle.aia_regs.specs.declared.access.Op.{Op};
 ghost use Rattle.aia_model.specs.Reading.{csr_at, read_at, write_at, instruction_after, instruction_at};
 ghost use Rattle.aia_script.specs.Cursor.{left};
 ghost use Rattle.aia_script.specs.Names.{csr_name, named};
@@ -23,7 +22,8 @@ pub enum Level {
 impl Level {
     /// The name of a CSR at this level; empty where no line of this level names it.
     pub fn name(self, csr: Csr) -> &'static [u8]
-        ensures { result.now ≡ csr_name self csr }
+        ensures name { result.now ≡ csr_name self csr }
+        ensures short { length result.now ≤ 8 }
     {
         match (self, csr) {
             (Level::Machine, Csr::Select) => b"miselect",

@@ -8,12 +8,14 @@ mod lines;
 mod number;
 mod parse;
 mod print;
+mod spelling;
 mod words;
 
 pub use aia_model::{Answer, Line, Parsed};
 pub use aia_regs::{Csr, Op};
 pub use parse::parse_line;
 pub use print::print_answer;
+pub use spelling::print_line;
 
 #[cfg(test)]
 mod tests;

@@ -20,7 +20,7 @@ pub enum Radix {
 
 impl Radix {
     /// How many digits there are.
-    fn base(self) -> u64
+    pub fn base(self) -> u64
         ensures { result ≡ base self }
     {
         match self {

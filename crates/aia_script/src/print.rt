@@ -8,7 +8,7 @@ use aia_model::Answer;
 use arrayvec::ArrayVec;
 
 /// Appends a text, for which there is room.
-fn push_text<const N: usize>(out: &mut ArrayVec<u8, N>, text: &[u8])
+pub fn push_text<const N: usize>(out: &mut ArrayVec<u8, N>, text: &[u8])
     requires { array_vec_len out.old + length text.now ≤ N }
     ensures text { out.new.items ≡ out.old.items ++ text.now }
     ensures length { array_vec_len out.new ≡ array_vec_len out.old + length text.now }
@@ -18,7 +18,7 @@ fn push_text<const N: usize>(out: &mut ArrayVec<u8, N>, text: &[u8])
 }
 
 /// The character of a digit.
-fn digit_character(digit: u64) -> u8
+pub fn digit_character(digit: u64) -> u8
     requires { digit < 16 }
     ensures { result ≡ digit_character digit }
 {

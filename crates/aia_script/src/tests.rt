@@ -1,5 +1,8 @@
+ghost use Rattle.aia_model.specs.Grammar.{IsListed};
+
 use super::*;
 use arrayvec::ArrayVec;
+use std::process::Abort;
 
 fn machine(harts: u64, guests: u64, n: u64, sources: u64) -> Parsed {
     Parsed::Line(Line::Machine {
@@ -103,4 +106,106 @@ fn answers_are_printed(rt: HostRuntime) {
         print_answer(&answer, &mut out);
         assert_eq!(rt; out.as_slice(), want.as_bytes());
     }
+}
+
+/// Prints a line, and reads what is printed.
+fn prints(rt: &impl Abort, line: Line, want: &str)
+    requires { IsListed line }
+{
+    let mut out = ArrayVec::new();
+    print_line(&line, &mut out);
+    assert_eq!(rt; out.as_slice(), want.as_bytes());
+    assert_eq!(rt; parse_line(out.as_slice()), Parsed::Line(line), "at {want}");
+}
+
+#[test]
+fn lines_are_printed_and_read_again(rt: HostRuntime) {
+    prints(
+        &rt,
+        Line::Machine {
+            harts: 4,
+            guests: 0,
+            n: 2047,
+            sources: 1023,
+        },
+        "machine 4 0 2047 1023",
+    );
+    prints(
+        &rt,
+        Line::Machine {
+            harts: 10,
+            guests: 16,
+            n: 7,
+            sources: u64::MAX,
+        },
+        "machine 10 16 7 18446744073709551615",
+    );
+    prints(&rt, Line::Load { addr: 0x2400_0abc }, "ld 0x24000abc");
+    prints(&rt, Line::Store { addr: 0, value: 16 }, "st 0x0 0x10");
+    prints(
+        &rt,
+        Line::Store {
+            addr: u64::MAX,
+            value: u32::MAX,
+        },
+        "st 0xffffffffffffffff 0xffffffff",
+    );
+}
+
+#[test]
+fn csr_instructions_are_printed_and_read_again(rt: HostRuntime) {
+    prints(
+        &rt,
+        Line::MachineCsr {
+            hart: 10,
+            csr: Csr::Topei,
+            op: Op::Read,
+        },
+        "m 10 csrr mtopei",
+    );
+    prints(
+        &rt,
+        Line::MachineCsr {
+            hart: 3,
+            csr: Csr::Select,
+            op: Op::Write(112),
+        },
+        "m 3 csrrw miselect 0x70",
+    );
+    prints(
+        &rt,
+        Line::MachineCsr {
+            hart: 0,
+            csr: Csr::Reg,
+            op: Op::Set(10),
+        },
+        "m 0 csrrs mireg 0xa",
+    );
+    prints(
+        &rt,
+        Line::HostCsr {
+            hart: 2,
+            csr: Csr::Select,
+            op: Op::Read,
+        },
+        "h 2 csrr siselect",
+    );
+    prints(
+        &rt,
+        Line::HostCsr {
+            hart: 2,
+            csr: Csr::Topei,
+            op: Op::Write(0),
+        },
+        "h 2 csrrw stopei 0x0",
+    );
+    prints(
+        &rt,
+        Line::HostCsr {
+            hart: 1,
+            csr: Csr::Reg,
+            op: Op::Clear(3840),
+        },
+        "h 1 csrrc sireg 0xf00",
+    );
 }

@@ -1,0 +1,153 @@
+//! A line is printed: its keyword, and its other fields, each after a space.
+
+ghost use Rattle.std.specs.Prelude.{◌≡◌, ◌+◌, ◌≤◌, [], ◌∷◌, ◌++◌, length, map};
+ghost use Rattle.std.specs.Int.Digits.{digits_of};
+ghost use Rattle.std.specs.List.{join_with_byte};
+ghost use Rattle.arrayvec.specs.ArrayVec.{array_vec_len};
+ghost use Rattle.aia_regs.specs.Operations.{FitsOp};
+ghost use Rattle.aia_model.specs.AnswerText.{digit_character};
+ghost use Rattle.aia_model.specs.Grammar.{Spells, IsListed, instruction};
+ghost use Rattle.aia_model.specs.Printing.{decimal_text, hex_text, field_text, line_text, IsPrintable};
+ghost use Rattle.aia_model.specs.Reading.{reading};
+ghost use Rattle.aia_script.specs.Digits.{base, number_text};
+ghost use Rattle.aia_script.specs.Names.{csr_field};
+
+use crate::instructions::Level;
+use crate::number::Radix;
+use crate::print::{digit_character, push_text};
+use aia_model::{Line, Parsed};
+use aia_regs::{Csr, Op};
+use arrayvec::ArrayVec;
+
+/// Appends the digits of a value, the highest first, and none for 0.
+fn push_all_digits(out: &mut ArrayVec<u8, 128>, radix: Radix, value: u64)
+    requires { array_vec_len out.old + length (digits_of (base radix) value) ≤ 128 }
+    ensures text { out.new.items ≡ out.old.items ++ map digit_character (digits_of (base radix) value) }
+    ensures length { array_vec_len out.new ≡ array_vec_len out.old + length (digits_of (base radix) value) }
+{
+    if value > 0 {
+        let base = radix.base();
+        push_all_digits(out, radix, value / base);
+        out.push(digit_character(value % base));
+    }
+}
+
+/// Appends a number by its digits, without leading zeros.
+fn push_number(out: &mut ArrayVec<u8, 128>, radix: Radix, value: u64)
+    requires { array_vec_len out.old + 20 ≤ 128 }
+    ensures text { out.new.items ≡ out.old.items ++ number_text radix value }
+    ensures length { array_vec_len out.new ≤ array_vec_len out.old + 20 }
+{
+    if value == 0 {
+        push_text(out, b"0");
+    } else {
+        push_all_digits(out, radix, value);
+    }
+}
+
+/// Appends a space and a number in decimal.
+fn push_decimal(out: &mut ArrayVec<u8, 128>, value: u64)
+    requires { array_vec_len out.old + 21 ≤ 128 }
+    ensures text { out.new.items ≡ out.old.items ++ 32 ∷ decimal_text value }
+    ensures length { array_vec_len out.new ≤ array_vec_len out.old + 21 }
+{
+    push_text(out, b" ");
+    push_number(out, Radix::Decimal, value);
+}
+
+/// Appends a space and a number in hexadecimal.
+fn push_hex(out: &mut ArrayVec<u8, 128>, value: u64)
+    requires { array_vec_len out.old + 23 ≤ 128 }
+    ensures text { out.new.items ≡ out.old.items ++ 32 ∷ hex_text value }
+    ensures length { array_vec_len out.new ≤ array_vec_len out.old + 23 }
+{
+    push_text(out, b" 0x");
+    push_number(out, Radix::Hexadecimal, value);
+}
+
+/// Appends a mnemonic, a CSR's name and an operand.
+fn push_operand(out: &mut ArrayVec<u8, 128>, mnemonic: &[u8], name: &[u8], operand: u64)
+    requires room { array_vec_len out.old + length mnemonic.now + length name.now + 23 ≤ 128 }
+    ensures text { out.new.items ≡ out.old.items ++ mnemonic.now ++ name.now ++ 32 ∷ hex_text operand }
+{
+    push_text(out, mnemonic);
+    push_text(out, name);
+    push_hex(out, operand);
+}
+
+/// Appends a space and a CSR instruction, by the level's names. Its operand is in range by its type.
+fn push_instruction(out: &mut ArrayVec<u8, 128>, level: Level, csr: Csr, op: Op)
+    requires { array_vec_len out.old + 38 ≤ 128 }
+    ensures text { out.new.items ≡ out.old.items ++ 32 ∷ join_with_byte 32 (map field_text (instruction (csr_field level csr) op)) }
+    ensures range { FitsOp op }
+{
+    let name = level.name(csr);
+    match op {
+        Op::Read => {
+            push_text(out, b" csrr ");
+            push_text(out, name);
+        }
+        Op::Write(operand) => push_operand(out, b" csrrw ", name, operand),
+        Op::Set(operand) => push_operand(out, b" csrrs ", name, operand),
+        Op::Clear(operand) => push_operand(out, b" csrrc ", name, operand),
+    }
+}
+
+/// Appends the printing spelling of a line to `out`, which is empty. Its numbers are in range by their types.
+#[tactic(auto, unfolding(aia_model::specs::Printing::line_text), using(crate::proofs::PrintLemmas::joined_instruction, crate::proofs::PrintLemmas::access_in_range))]
+fn push_line(line: &Line, out: &mut ArrayVec<u8, 128>)
+    requires { out.old.items ≡ [] }
+    ensures text { out.new.items ≡ line_text line.now }
+    ensures range { IsPrintable line.now }
+{
+    match *line {
+        Line::Machine {
+            harts,
+            guests,
+            n,
+            sources,
+        } => {
+            push_text(out, b"machine");
+            push_decimal(out, harts);
+            push_decimal(out, guests);
+            push_decimal(out, n);
+            push_decimal(out, sources);
+        }
+        Line::Load { addr } => {
+            push_text(out, b"ld");
+            push_hex(out, addr);
+        }
+        Line::Store { addr, value } => {
+            push_text(out, b"st");
+            push_hex(out, addr);
+            push_hex(out, value as u64);
+        }
+        Line::MachineCsr { hart, csr, op } => {
+            push_text(out, b"m");
+            push_decimal(out, hart);
+            push_instruction(out, Level::Machine, csr, op);
+        }
+        Line::HostCsr { hart, csr, op } => {
+            push_text(out, b"h");
+            push_decimal(out, hart);
+            push_instruction(out, Level::Supervisor, csr, op);
+        }
+    }
+}
+
+/// Appends the printing spelling of a line to `out`, which is empty. The line's CSR is one that lines of its form name.
+///
+/// A single space stands between two fields. Addresses, values and operands are `0x` and lower-case digits, all other
+/// numbers are decimal, and none has leading zeros.
+///
+/// `parse_line(print_line(x)) = Line(x)`: the clause `again` says that the reading of what is printed is `Line(line)`, and
+/// `parse_line` returns the reading of its text. Nothing is allocated.
+pub fn print_line(line: &Line, out: &mut ArrayVec<u8, 128>)
+    requires listed { IsListed line.now }
+    requires empty { out.old.items ≡ [] }
+    ensures text { out.new.items ≡ line_text line.now }
+    ensures again { reading out.new.items ≡ Parsed.Line line.now }
+    ensures spells { Spells out.new.items line.now }
+{
+    push_line(line, out);
+}
