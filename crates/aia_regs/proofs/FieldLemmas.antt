@@ -1,5 +1,5 @@
 -- A field that is put into a number, and the bits about it.
-use Rattle.std.proofs.Common.{◌≡◌, ℕ, ◌+◌, ◌-◌, ◌*◌, ◌/◌, ◌%◌, ◌^◌, ◌<◌, ◌≤◌, ◌⊎◌, inl, inr, sym, ap, ◌∙◌, arith}
+use Rattle.std.proofs.Common.{◌≡◌, ℕ, suc, ◌+◌, ◌-◌, ◌*◌, ◌/◌, ◌%◌, ◌^◌, ◌<◌, ◌≤◌, ◌⊎◌, inl, inr, sym, ap, subst, ◌∙◌, arith}
 use Rattle.std.specs.Int.{bit_at}
 use Rattle.std.proofs.lemmas.Nat.{pow-add, pow_pos, div-mul-add, mod-mul-add, div-add-mod', shr-shr}
 use Rattle.std.proofs.lemmas.Nat.Bits.{bit_at_cat_low, bit_at_cat_high, bit_at_above, same_from_bits}
@@ -34,7 +34,7 @@ got x hi lo v small =
     ap (λ y. y % 2 ^ (hi - lo + 1)) (div-mul-add (above x hi lo * 2 ^ (hi - lo + 1) + v) (2 ^ lo) (x % 2 ^ lo) (mod-lt x (pow_pos lo)))
     ∙ mod-mul-add (above x hi lo) (2 ^ (hi - lo + 1)) v small
 
--- ---- numbers of 64 bits
+-- ---- numbers of w bits
 
 parts_fit : (a q p f v l r t : ℕ) → r * (q * p) ≡ t → (a * q + f) * p + l < t → v < q → l < p → (a * q + v) * p + l < t
 parts_fit a q p f v l r t whole fits small low =
@@ -48,15 +48,15 @@ parts_fit a q p f v l r t whole fits small low =
     let k : (a + 1) * (q * p) ≡ a * (q * p) + q * p = grind arith in
     omega arith
 
-powers : (hi lo : ℕ) → lo ≤ hi → hi < 64 → 2 ^ (63 - hi) * (2 ^ (hi - lo + 1) * 2 ^ lo) ≡ 2 ^ 64
-powers hi lo order within =
-    let e : (63 - hi) + (hi - lo + 1 + lo) ≡ 64 = omega arith in
-    ap (λ y. 2 ^ (63 - hi) * y) (sym (pow-add 2 (hi - lo + 1) lo)) ∙ sym (pow-add 2 (63 - hi) (hi - lo + 1 + lo)) ∙ ap (λ k. 2 ^ k) e
+powers : (hi lo w : ℕ) → lo ≤ hi → hi < w → 2 ^ (w - suc hi) * (2 ^ (hi - lo + 1) * 2 ^ lo) ≡ 2 ^ w
+powers hi lo w order within =
+    let e : (w - suc hi) + (hi - lo + 1 + lo) ≡ w = omega arith in
+    ap (λ y. 2 ^ (w - suc hi) * y) (sym (pow-add 2 (hi - lo + 1) lo)) ∙ sym (pow-add 2 (w - suc hi) (hi - lo + 1 + lo)) ∙ ap (λ k. 2 ^ k) e
 
--- a number of 64 bits with a field put in has 64 bits
-pub put_fits : (x hi lo v : ℕ) → lo ≤ hi → hi < 64 → v < 2 ^ (hi - lo + 1) → x < 2 ^ 64 → with_field x hi lo v < 2 ^ 64
-put_fits x hi lo v order within small fits =
-    parts_fit (above x hi lo) (2 ^ (hi - lo + 1)) (2 ^ lo) (field x hi lo) v (x % 2 ^ lo) (2 ^ (63 - hi)) (2 ^ 64) (powers hi lo order within) (omega (arith, put_back x hi lo)) small (mod-lt x (pow_pos lo))
+-- a number of w bits with a field put in has w bits
+pub put_fits : (x hi lo v w : ℕ) → lo ≤ hi → hi < w → v < 2 ^ (hi - lo + 1) → x < 2 ^ w → with_field x hi lo v < 2 ^ w
+put_fits x hi lo v w order within small fits =
+    parts_fit (above x hi lo) (2 ^ (hi - lo + 1)) (2 ^ lo) (field x hi lo) v (x % 2 ^ lo) (2 ^ (w - suc hi)) (2 ^ w) (powers hi lo w order within) (subst (λ (y : ℕ). y < 2 ^ w) (sym (put_back x hi lo)) fits) small (mod-lt x (pow_pos lo))
 
 -- the shifts lose nothing
 old_shifted : (x hi lo : ℕ) → x < 2 ^ 64 → field x hi lo * 2 ^ lo % 2 ^ 64 ≡ field x hi lo * 2 ^ lo
@@ -65,7 +65,7 @@ old_shifted x hi lo fits = let below : field x hi lo * 2 ^ lo < 2 ^ 64 = omega (
 new_shifted : (v hi lo : ℕ) → lo ≤ hi → hi < 64 → v < 2 ^ (hi - lo + 1) → v * 2 ^ lo % 2 ^ 64 ≡ v * 2 ^ lo
 new_shifted v hi lo order within small =
     let e : 0 - field 0 hi lo * 2 ^ lo + v * 2 ^ lo ≡ v * 2 ^ lo = omega arith in
-    let below : v * 2 ^ lo < 2 ^ 64 = omega (arith, exchange 0 hi lo v, put_fits 0 hi lo v order within small (omega arith)) in mod-eq_of_lt below
+    let below : v * 2 ^ lo < 2 ^ 64 = omega (arith, exchange 0 hi lo v, put_fits 0 hi lo v 64 order within small (omega arith)) in mod-eq_of_lt below
 
 -- what `put_bits` computes
 pub exchange_shifted : (x hi lo v old : ℕ) → lo ≤ hi → hi < 64 → v < 2 ^ (hi - lo + 1) → x < 2 ^ 64 → old ≡ field x hi lo → x - old * 2 ^ lo % 2 ^ 64 + v * 2 ^ lo % 2 ^ 64 ≡ with_field x hi lo v

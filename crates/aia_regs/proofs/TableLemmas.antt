@@ -146,7 +146,8 @@ nothing_by_rows test (row ∷ rows) offset h none =
 table_has_rows : are_rows table ≡ true
 table_has_rows = refl
 
-in_range : (base stride first last i offset : ℕ) → offset_of_index base stride first last i ≡ Some offset → (first ≤ i) × (i ≤ last) × (offset ≡ base + stride * i)
+-- a register with an index that has an offset: the index is in its row
+pub in_range : (base stride first last i offset : ℕ) → offset_of_index base stride first last i ≡ Some offset → (first ≤ i) × (i ≤ last) × (offset ≡ base + stride * i)
 in_range base stride first last i offset e = chosen (is_in_range first last i) refl e
   where
     chosen : (t : Bool) → is_in_range first last i ≡ t → cond t (Some (base + stride * i)) None ≡ Some offset → (first ≤ i) × (i ≤ last) × (offset ≡ base + stride * i)

@@ -20,7 +20,7 @@ pub fn bits(x: u64, hi: u32, lo: u32) -> u64
     }
 }
 
-/// The number `x` with `v` in its field `hi:lo`; all other bits stay.
+/// The number `x` with `v` in its field `hi:lo`; all other bits stay, so that a number of 32 bits is one after it too.
 pub fn put_bits(x: u64, hi: u32, lo: u32, v: u64) -> u64
     requires order { lo ≤ hi }
     requires within { hi < 64 }
@@ -28,6 +28,7 @@ pub fn put_bits(x: u64, hi: u32, lo: u32, v: u64) -> u64
     ensures value { result ≡ with_field x hi lo v }
     ensures put { field result hi lo ≡ v }
     ensures others { (i : ℕ) → IsOutside hi lo i → bit_at result i ≡ bit_at x i }
+    ensures word { hi < 32 → x < 2 ^ 32 → result < 2 ^ 32 }
 {
     x - (bits(x, hi, lo) << lo) + (v << lo)
 }

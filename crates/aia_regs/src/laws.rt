@@ -40,7 +40,7 @@ pub fn fields()
     ensures others { (x hi lo v i : ℕ) → lo ≤ hi → v < 2 ^ (hi - lo + 1) → IsOutside hi lo i → bit_at (with_field x hi lo v) i ≡ bit_at x i }
     ensures other_fields { (x hi lo v top bottom : ℕ) → lo ≤ hi → bottom ≤ top → v < 2 ^ (hi - lo + 1) → (top < lo) ⊎ (hi < bottom) → field (with_field x hi lo v) top bottom ≡ field x top bottom }
     ensures put_back { (x hi lo : ℕ) → with_field x hi lo (field x hi lo) ≡ x }
-    ensures fits { (x hi lo v : ℕ) → lo ≤ hi → hi < 64 → v < 2 ^ (hi - lo + 1) → x < 2 ^ 64 → with_field x hi lo v < 2 ^ 64 }
+    ensures fits { (x hi lo v w : ℕ) → lo ≤ hi → hi < w → v < 2 ^ (hi - lo + 1) → x < 2 ^ w → with_field x hi lo v < 2 ^ w }
 {}
 
 /// The bytes of a word reversed twice are the word.
