@@ -5,6 +5,7 @@ use Rattle.std.specs.Str.{bytes_eq}
 use Rattle.std.proofs.lemmas.Slice.Eq.{bytes_eq-Decides}
 use Rattle.std.proofs.lemmas.List.{append-nil, length-append}
 use Rattle.std.specs.Io.KnownBytes.{Appends, Consumes}
+use Rattle.aia_model.specs.Script.{answers}
 use Rattle.aia_replay.specs.declared.program.Status.{Status}
 use Rattle.aia_replay.specs.declared.program.Status.TheVariants.{Done, Usage, ReadFault, WriteFault, Memory, TooLong}
 use Rattle.aia_replay.specs.Runs.{IsScript, Takes, TakesAll, HasAtMost, IsDoneOrMemory, WritesFront, WritesLines, StopsAtMachine}
@@ -95,7 +96,13 @@ pub stopped_front : (r : Replayer) (left rest before mid now : Option (List ℕ)
 stopped_front r left rest before mid now stop cut = record {
   bytes = stop.bytes;
   consumed = stop.consumed;
-  cut = cut_after r.out.bytes.items stop.holds.later _ before mid now _ stop.holds.gathered cut stop.holds.goes_on;
+  cut = inl (record {
+    whole = stop.holds.whole;
+    more = stop.holds.text ++ stop.more;
+    split = stop.holds.split;
+    lines = stop.holds.lines;
+    cut = cut_after r.out.bytes.items [] (answers stop.holds.whole) before mid now (answers stop.holds.whole) stop.holds.gathered cut (append-nil (answers stop.holds.whole));
+  });
 }
 
 -- ---- completeness

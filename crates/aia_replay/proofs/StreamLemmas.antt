@@ -16,7 +16,7 @@ use Rattle.aia_replay.specs.declared.replayer.Replayer.{Replayer}
 use Rattle.aia_replay.specs.declared.program.Status.TheVariants.{Done, ReadFault, TooLong}
 use Rattle.aia_replay.specs.Buffered.{Passes, CutOff}
 use Rattle.aia_replay.specs.Stands.{StandsFor, ReadsAsMachine}
-use Rattle.aia_replay.specs.Runs.{NoEnd, AsksMachine, after_texts, TakesAtMost, WritesFront}
+use Rattle.aia_replay.specs.Runs.{NoEnd, AsksMachine, after_texts, TakesAtMost, CutsLines, WritesFront}
 use Rattle.aia_replay.specs.Streams.{Holds, HoldsStop, Begins, Feeds, FeedsFront, FeedsStop, Finishes, FinishesFront, FinishesStop, AnswersLine, LacksMemory, Streams, StreamsStop}
 use Rattle.aia_replay.proofs.CutLemmas.{texts_front, texts_last, take_short, take_again}
 
@@ -192,11 +192,17 @@ cut_after out later all before mid now written passed cut goes_on = record {
 }
 
 -- a front of what was held is written
-pub holds_cut : (r : Replayer) (before mid now : Option (List ℕ)) (bytes more : List ℕ) → Holds r before mid bytes → CutOff mid now r.out.bytes.items → CutOff before now (answers (bytes ++ more))
-holds_cut r before mid now bytes more holds cut = cut_after r.out.bytes.items _ _ before mid now holds.written holds.gathered cut (holds.completes more)
+pub holds_cut : (r : Replayer) (before mid now : Option (List ℕ)) (bytes more : List ℕ) → Holds r before mid bytes → CutOff mid now r.out.bytes.items → CutsLines before now (bytes ++ more)
+holds_cut r before mid now bytes more holds cut = record {
+  whole = holds.whole;
+  more = holds.tail ++ more;
+  split = ap (λ xs. xs ++ more) holds.split ∙ append_assoc holds.whole holds.tail more;
+  lines = holds.lines;
+  cut = cut_after r.out.bytes.items [] (answers holds.whole) before mid now holds.written holds.gathered cut (append-nil holds.written ∙ holds.answered);
+}
 
 pub holds_cut_all : (r : Replayer) (before mid now : Option (List ℕ)) (bytes : List ℕ) → Holds r before mid bytes → CutOff mid now r.out.bytes.items → CutOff before now (answers bytes)
-holds_cut_all r before mid now bytes holds cut = subst (λ xs. CutOff before now (answers xs)) (append-nil bytes) (holds_cut r before mid now bytes [] holds cut)
+holds_cut_all r before mid now bytes holds cut = subst (λ xs. CutOff before now (answers xs)) (append-nil bytes) (cut_after r.out.bytes.items _ _ before mid now holds.written holds.gathered cut (holds.completes []))
 
 asks_for : (old : Engine) (h : History) (text : Parsed) → StandsFor old h → ReadsAsMachine old text → AsksMachine h text
 asks_for old h (Line line) stands reads = reads h stands
@@ -210,11 +216,9 @@ line_stopped old new before mid now bytes more lacks holds =
     record {
       whole = holds.whole;
       text = holds.tail;
-      later = answers_from holds.history (texts_of (holds.tail ++ more));
       gathered = subst (λ (r : Replayer). Passes [] r.out.bytes.items before now (answers holds.whole)) (sym lacks.same)
           (subst (λ k. Passes [] old.out.bytes.items before k (answers holds.whole)) (sym lacks.kept) (subst (Passes [] old.out.bytes.items before mid) holds.answered holds.gathered));
       split = ap (λ xs. xs ++ more) holds.split ∙ append_assoc holds.whole holds.tail more;
-      goes_on = ap (λ xs. xs ++ answers_from holds.history (texts_of (holds.tail ++ more))) (sym holds.answered) ∙ holds.completes more;
       lines = holds.lines;
       no_end = holds.no_end;
       asks = subst (λ h. AsksMachine h (reading holds.tail)) holds.told
@@ -270,7 +274,7 @@ all_of_piece bytes done front more rest piece split cut =
 pub fed_front : (old mid kept : Replayer) (first late now : Option (List ℕ)) (piece rest front more : List ℕ) → Fed old mid first late piece rest → rest ≡ front ++ (10 ∷ more) → NoEnd front
     → kept.line.items ≡ take 129 (mid.line.items ++ front) → kept ≡ record mid { line = kept.line } → CutOff late now kept.out.bytes.items → FeedsFront old first now piece
 fed_front old mid kept first late now piece rest front more fed cut none line others off =
-    λ before bytes holds. subst (λ xs. CutOff before now (answers xs)) (all_of_piece bytes fed.done front more rest piece fed.split cut)
+    λ before bytes holds. subst (CutsLines before now) (all_of_piece bytes fed.done front more rest piece fed.split cut)
     (holds_cut kept before late now ((bytes ++ fed.done) ++ front) (10 ∷ more) (kept_at old mid kept before first late bytes piece rest front fed none line others holds) off)
 
 pub fed_stop : (old mid kept new : Replayer) (first late now : Option (List ℕ)) (piece rest front more : List ℕ) → Fed old mid first late piece rest → rest ≡ front ++ (10 ∷ more) → NoEnd front
@@ -372,21 +376,21 @@ pub front_at_once : (r : Replayer) (left rest before mid now : Option (List ℕ)
 front_at_once r left rest before mid now count cut so_far = record {
   bytes = so_far.bytes;
   consumed = so_far.consumed;
-  cut = holds_cut_all r before mid now so_far.bytes so_far.holds cut;
+  cut = inl (subst (CutsLines before now) (append-nil so_far.bytes) (holds_cut r before mid now so_far.bytes [] so_far.holds cut));
 }
 
 pub front_of_piece : (r : Replayer) (left mid rest before now later : Option (List ℕ)) (count : ℕ) (piece : List ℕ) → SoFar r left mid before now count → Consumes mid rest piece → FeedsFront r now later piece → WritesFront left rest before later
 front_of_piece r left mid rest before now later count piece so_far took front = record {
   bytes = so_far.bytes ++ piece;
   consumed = Consumes-trans left mid rest so_far.bytes piece so_far.consumed took;
-  cut = front before so_far.bytes so_far.holds;
+  cut = inl (front before so_far.bytes so_far.holds);
 }
 
-pub front_at_end : (r : Replayer) (left mid rest before now later : Option (List ℕ)) (count : ℕ) → Keeps mid rest → FinishesFront r now later → SoFar r left mid before now count → WritesFront left rest before later
-front_at_end r left mid rest before now later count kept front so_far = record {
+pub front_at_end : (r : Replayer) (left mid rest before now later : Option (List ℕ)) (count : ℕ) → IsAtEnd mid → Keeps mid rest → FinishesFront r now later → SoFar r left mid before now count → WritesFront left rest before later
+front_at_end r left mid rest before now later count at_end kept front so_far = record {
   bytes = so_far.bytes;
   consumed = Consumes-kept left mid rest so_far.bytes so_far.consumed kept;
-  cut = front before so_far.bytes so_far.holds;
+  cut = inr (Consumes-whole left mid so_far.bytes (λ script. script ≡ so_far.bytes) so_far.consumed at_end refl, front before so_far.bytes so_far.holds);
 }
 
 pub stop_in_piece : (r new : Replayer) (left mid rest before now later : Option (List ℕ)) (count : ℕ) (piece : List ℕ) → SoFar r left mid before now count → Consumes mid rest piece → FeedsStop r new now later piece → StreamsStop new left rest before later

@@ -52,6 +52,10 @@ NoEnd text = All (λ b. nat_eq b 10 ≡ false) text
 abbrev pub IsWhole : List ℕ → Type 0
 IsWhole bytes = (bytes ≡ []) ⊎ ((front : List ℕ) × (bytes ≡ front ++ 10 ∷ []))
 
+-- The bytes are all of the script.
+abbrev pub IsScript : Option (List ℕ) → List ℕ → Type 0
+IsScript left bytes = IfSome left (λ script. script ≡ bytes)
+
 -- The whole lines that were taken are answered, and their answers alone are written. Of the bytes taken, so many at the end are
 -- left out of account.
 pub record WritesLines (count : ℕ) (left rest before now : Option (List ℕ)) : Type 0 where
@@ -64,11 +68,19 @@ pub record WritesLines (count : ℕ) (left rest before now : Option (List ℕ)) 
   pub past : length beyond ≡ count
   pub written : Appends before now (answers whole)
 
--- The sink took a front of the answers of the bytes that were taken.
+-- The sink took a front of the answers of whole lines that the bytes begin with.
+pub record CutsLines (before now : Option (List ℕ)) (bytes : List ℕ) : Type 0 where
+  pub whole : List ℕ
+  pub more : List ℕ
+  pub split : bytes ≡ whole ++ more
+  pub lines : IsWhole whole
+  pub cut : CutOff before now (answers whole)
+
+-- The sink took a front of the answers of the lines that were taken: of whole lines, or of all the script's.
 pub record WritesFront (left rest before now : Option (List ℕ)) : Type 0 where
   pub bytes : List ℕ
   pub consumed : Consumes left rest bytes
-  pub cut : CutOff before now (answers bytes)
+  pub cut : CutsLines before now bytes ⊎ (IsScript left bytes × CutOff before now (answers bytes))
 
 -- The history that texts leave.
 abbrev pub after_texts : History → List (List ℕ) → History
@@ -80,10 +92,6 @@ abbrev pub AsksMachine : History → Parsed → Type 0
 AsksMachine h (parsed.Line line) = makes_machine h line ≡ true
 AsksMachine h parsed.Skip = ⊥
 AsksMachine h parsed.Bad = ⊥
-
--- The bytes are all of the script.
-abbrev pub IsScript : Option (List ℕ) → List ℕ → Type 0
-IsScript left bytes = IfSome left (λ script. script ≡ bytes)
 
 -- A line that was taken, ended by an LF or by the script's end, is a `machine` line and accepted; the answers of the lines before
 -- it, and no others, are written.

@@ -12,7 +12,7 @@ use Rattle.aia_replay.specs.declared.program.Status.{Status}
 use Rattle.aia_replay.specs.declared.program.Status.TheVariants.{Done, ReadFault, TooLong}
 use Rattle.aia_replay.specs.Buffered.{Passes, CutOff}
 use Rattle.aia_replay.specs.Stands.{StandsFor, ReadsAsMachine}
-use Rattle.aia_replay.specs.Runs.{NoEnd, IsWhole, IsScript, AsksMachine, after_texts}
+use Rattle.aia_replay.specs.Runs.{NoEnd, IsWhole, IsScript, CutsLines, AsksMachine, after_texts}
 
 -- The bytes read so far are whole lines, which are answered, and the tail of a line whose LF wasn't read; what was answered is
 -- written or waits in the buffer, and whatever follows is answered as the script's rest.
@@ -37,10 +37,8 @@ pub record Holds (r : Replayer) (before now : Option (List ℕ)) (bytes : List �
 pub record HoldsStop (r : Replayer) (before now : Option (List ℕ)) (bytes more : List ℕ) : Type 0 where
   pub whole : List ℕ
   pub text : List ℕ
-  pub later : List ℕ
   pub gathered : Passes [] r.out.bytes.items before now (answers whole)
   pub split : bytes ≡ whole ++ (text ++ more)
-  pub goes_on : answers whole ++ later ≡ answers bytes
   pub lines : IsWhole whole
   pub no_end : NoEnd text
   pub asks : AsksMachine (after_texts [] (texts_of whole)) (reading text)
@@ -67,7 +65,7 @@ Finishes old mid now = (before : Option (List ℕ)) (bytes : List ℕ) → Holds
 
 -- Where a piece was read and not all of it answered: the sink failed, or there was no memory for a machine.
 abbrev pub FeedsFront : Replayer → Option (List ℕ) → Option (List ℕ) → List ℕ → Type 0
-FeedsFront old mid now piece = (before : Option (List ℕ)) (bytes : List ℕ) → Holds old before mid bytes → CutOff before now (answers (bytes ++ piece))
+FeedsFront old mid now piece = (before : Option (List ℕ)) (bytes : List ℕ) → Holds old before mid bytes → CutsLines before now (bytes ++ piece)
 
 abbrev pub FeedsStop : Replayer → Replayer → Option (List ℕ) → Option (List ℕ) → List ℕ → Type 0
 FeedsStop old new mid now piece = (before : Option (List ℕ)) (bytes : List ℕ) → Holds old before mid bytes → (next : List ℕ) × HoldsStop new before now (bytes ++ piece) (10 ∷ next)

@@ -28,6 +28,7 @@ impl Engine {
         requires { IsListed line.now }
         ensures serves { IfOk result (Serves self.old self.new line.now) }
         ensures err { OnErr result (self.new ≡ self.old) }
+        ensures none { OnErr result (StandsFor self.new []) }
         ensures memory { OnErr result (WantsMachine self.old line.now) }
     {
         if let Some(machine) = &mut self.machine {
@@ -55,6 +56,7 @@ impl Engine {
         ensures serves { IfOk result (ServesText self.old self.new (reading text.now)) }
         ensures skipped { IfOk result (λ given. IsNone given ↔ IsTrue (is_skipped text.now)) }
         ensures err { OnErr result (self.new ≡ self.old) }
+        ensures none { OnErr result (StandsFor self.new []) }
         ensures memory { OnErr result (ReadsAsMachine self.old (reading text.now)) }
     {
         match parse_line(text) {

@@ -7,6 +7,7 @@ pub returns-in_default-line : goal.returns-in_default-line
 returns-in_default-line c = record {
   serves = refused_first c.args.self.now _ c.args.line.now _ c.in_default.is c.in_default.is (needs_machine c.args.line.now c.in_default-line.not-Machine);
   err = tt;
+  none = tt;
   memory = tt;
 }
 

@@ -142,7 +142,7 @@ returns-in_err-finish-in-End-clause-cut g c = λ is.
     let r = c.loop-asked.self in
     let written : Replayer = record { engine = r.engine; line = r.line; out = c.write_out.new.self } in
     let so_far = so_far_written r written left mid before (g.K.Sink.taken c.loop-asked.sink) now c.loop-asked.taken c.in_ok-write_out.ensures.ok c.in_ok-write_out.ensures.empty refl c.loop-asked.invariant.so_far in
-    front_at_end written left mid rest before now (g.K.Sink.taken c.finish.new.sink) c.loop-asked.taken c.in-End.ensures.bytes.1 (c.in_err-finish-in-End.ensures.cut (search rules)) so_far
+    front_at_end written left mid rest before now (g.K.Sink.taken c.finish.new.sink) c.loop-asked.taken c.in-End.ensures.bytes.0 c.in-End.ensures.bytes.1 (c.in_err-finish-in-End.ensures.cut (search rules)) so_far
 
 pub returns-in_err-finish-in-End-clause-memory : goal.returns-in_err-finish-in-End-clause-memory
 returns-in_err-finish-in-End-clause-memory g c = λ is.
