@@ -37,6 +37,12 @@ fn an_address_lies_in_one_page(rt: HostRuntime) -> Result<(), Fail> {
     Ok(())
 }
 
+/// Enables the identities 1 to 4, and delivers them.
+fn listens(file: &mut File) {
+    file.write(FileReg::Enable(0), 0b1_1110);
+    file.write(FileReg::Delivery, 1);
+}
+
 #[test]
 fn files_are_apart_and_those_of_guests_signal(rt: HostRuntime) -> Result<(), Fail> {
     let mut imsic = Imsic::new(rt.alloc(), 1, 2, 63)?;
@@ -49,11 +55,8 @@ fn files_are_apart_and_those_of_guests_signal(rt: HostRuntime) -> Result<(), Fai
     assert_eq!(rt; imsic.file(Spot::HostFile(0)).read(pending), 0b100);
     assert_eq!(rt; imsic.file(Spot::GuestFile(0, 1)).read(pending), 0b1000);
     assert_eq!(rt; imsic.file(Spot::GuestFile(0, 2)).read(pending), 0b1_0000);
-    for spot in [Spot::HostFile(0), Spot::GuestFile(0, 2)] {
-        let file = imsic.file_mut(spot);
-        assert_eq!(rt; file.write(FileReg::Enable(0), 0b1_1110), 0);
-        assert_eq!(rt; file.write(FileReg::Delivery, 1), 0);
-    }
+    listens(imsic.file_mut(Spot::HostFile(0)));
+    listens(imsic.file_mut(Spot::GuestFile(0, 2)));
     // The host's own file signals too, but is none of a guest's.
     assert!(rt; imsic.file(Spot::HostFile(0)).signal());
     assert_eq!(rt; imsic.hgeip(0), 0b100);
