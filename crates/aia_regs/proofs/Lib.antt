@@ -1,3 +1,6 @@
 pub mod ShowsLemmas
 pub mod RequestLemmas
 pub mod RegisterLemmas
+pub mod TableLemmas
+pub mod FieldLemmas
+pub mod ByteOrderLemmas

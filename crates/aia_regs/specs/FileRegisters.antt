@@ -1,5 +1,5 @@
 -- The registers of an interrupt file, reached by a select number: which there are, and what a write keeps.
-use Rattle.std.specs.Prelude.{◌≡◌, ℕ, ◌+◌, ◌-◌, ◌*◌, ◌%◌, ◌<◌, Bool, true, false, ◌&&◌, nat_eq, if◌then◌else◌}
+use Rattle.std.specs.Prelude.{◌≡◌, ℕ, ◌+◌, ◌-◌, ◌*◌, ◌%◌, ◌<◌, Bool, ◌&&◌, nat_eq, if◌then◌else◌}
 use Rattle.std.specs.Int.{is_in_range}
 use Rattle.aia_regs.specs.declared.access.Op.{Op}
 use Rattle.aia_regs.specs.declared.file_registers.FileReg.{FileReg}
@@ -22,14 +22,7 @@ register_of select =
     else (if is_in_range 0xc0 0xff select then Enable (select - 0xc0)
     else Outside)))))
 
--- Whether an access to the register goes through.
--- AIA 1.0, IMSIC, "Indirectly accessed interrupt-file registers": an odd one is a fault. Profile: a number outside 0x70 to 0xff too.
-abbrev pub is_accessible : FileReg → Bool
-is_accessible Odd = false
-is_accessible Outside = false
-is_accessible r = true
-
--- A register that a file serves: it is accessible, and of eip and eie the index is even and below 64.
+-- A register that a file serves: it exists, and of eip and eie the index is even and below 64.
 -- AIA 1.0, IMSIC, "Indirectly accessed interrupt-file registers".
 abbrev pub IsUsable : FileReg → Type 0
 IsUsable (Pending k) = (k % 2 ≡ 0) × (k < 64)

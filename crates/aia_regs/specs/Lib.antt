@@ -1,5 +1,7 @@
 pub mod Word
 pub mod Operations
 pub mod FileRegisters
+pub mod DomainRegisters
+pub mod Fields
 pub mod Request
 pub mod AddressMap

@@ -1,9 +1,12 @@
 //! What the definitions of this crate mean, as laws: each function does nothing, and its clauses are what was proved.
 
-ghost use Rattle.std.specs.Prelude.{◌≡◌, ℕ, ◌+◌, ◌%◌, ◌<◌, ◌≤◌, ◌↔◌, ◌⊎◌};
+ghost use Rattle.std.specs.Prelude.{◌≡◌, ◌≢◌, ℕ, ◌+◌, ◌-◌, ◌%◌, ◌^◌, ◌<◌, ◌≤◌, ◌↔◌, ◌⊎◌, Option, Some};
+ghost use Rattle.std.specs.Int.{bit_at, swap_bytes, w32};
 ghost use Rattle.aia_regs.specs.FileRegisters.{register_of};
+ghost use Rattle.aia_regs.specs.DomainRegisters.{domain_register_of, domain_offset_of};
+ghost use Rattle.aia_regs.specs.Fields.{field, with_field, IsOutside};
 
-use crate::FileReg;
+use crate::{DomainReg, FileReg};
 
 /// The register map, row by row: which select numbers each register has.
 ///
@@ -16,4 +19,31 @@ pub fn register_map()
     ensures reserved { (select : ℕ) → (register_of select ≡ FileReg.Reserved) ↔ ((select ≡ 0x71) ⊎ ((0x73 ≤ select) × (select ≤ 0x7f))) }
     ensures odd { (select : ℕ) → (register_of select ≡ FileReg.Odd) ↔ ((0x80 ≤ select) × (select ≤ 0xff) × (select % 2 ≡ 1)) }
     ensures outside { (select : ℕ) → (register_of select ≡ FileReg.Outside) ↔ ((select < 0x70) ⊎ (0xff < select)) }
+{}
+
+/// The registers of an APLIC domain: what an offset names is the register with that offset, and there is one at most.
+///
+/// AIA 1.0, Advanced Platform-Level Interrupt Controller (APLIC), "Memory-mapped control region for an interrupt domain".
+pub fn domain_register_map()
+    ensures both_ways { (r : DomainReg) (offset : ℕ) → r ≢ DomainReg.Nothing → (domain_register_of offset ≡ r) ↔ (domain_offset_of r ≡ Some offset) }
+    ensures nothing { (offset : ℕ) → (domain_register_of offset ≡ DomainReg.Nothing) ↔ ((r : DomainReg) → domain_offset_of r ≢ Some offset) }
+    ensures at_most_one { (r s : DomainReg) (offset : ℕ) → domain_offset_of r ≡ Some offset → domain_offset_of s ≡ Some offset → r ≡ s }
+{}
+
+/// The fields of a register, bit by bit, and what it is to put a number into one.
+///
+/// A field that is put in is got back, every other bit and field stays, and to put back what was there changes nothing.
+pub fn fields()
+    ensures bits { (x hi lo i : ℕ) → lo + i ≤ hi → bit_at (field x hi lo) i ≡ bit_at x (lo + i) }
+    ensures no_more { (x hi lo i : ℕ) → lo ≤ hi → hi < lo + i → bit_at (field x hi lo) i ≡ 0 }
+    ensures got { (x hi lo v : ℕ) → v < 2 ^ (hi - lo + 1) → field (with_field x hi lo v) hi lo ≡ v }
+    ensures others { (x hi lo v i : ℕ) → lo ≤ hi → v < 2 ^ (hi - lo + 1) → IsOutside hi lo i → bit_at (with_field x hi lo v) i ≡ bit_at x i }
+    ensures other_fields { (x hi lo v top bottom : ℕ) → lo ≤ hi → bottom ≤ top → v < 2 ^ (hi - lo + 1) → (top < lo) ⊎ (hi < bottom) → field (with_field x hi lo v) top bottom ≡ field x top bottom }
+    ensures put_back { (x hi lo : ℕ) → with_field x hi lo (field x hi lo) ≡ x }
+    ensures fits { (x hi lo v w : ℕ) → lo ≤ hi → hi < w → v < 2 ^ (hi - lo + 1) → x < 2 ^ w → with_field x hi lo v < 2 ^ w }
+{}
+
+/// The bytes of a word reversed twice are the word.
+pub fn byte_order()
+    ensures twice { (x : ℕ) → x < 2 ^ 32 → swap_bytes w32 (swap_bytes w32 x) ≡ x }
 {}

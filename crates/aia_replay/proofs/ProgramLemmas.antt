@@ -1,13 +1,14 @@
 -- What the endings of a run mean for its source, and the one word that is taken.
-use Rattle.std.proofs.Common.{◌≡◌, ℕ, ◌<◌, ◌≤◌, true, Bool, List, [], ◌∷◌, ◌++◌, length, get_or, map, Option, Some, None, IfSome, inl, inr, refl, sym, ap, subst, ◌∙◌, arith}
+use Rattle.std.proofs.Common.{◌≡◌, ◌≢◌, ℕ, ◌<◌, ◌≤◌, true, Bool, List, [], ◌∷◌, ◌++◌, length, get_or, map, Option, Some, None, IfSome, inl, inr, refl, sym, ap, subst, ◌∙◌, arith}
 use Rattle.std.specs.Borrow.{Bor}
 use Rattle.std.specs.Str.{bytes_eq}
 use Rattle.std.proofs.lemmas.Slice.Eq.{bytes_eq-Decides}
 use Rattle.std.proofs.lemmas.List.{append-nil, length-append}
 use Rattle.std.specs.Io.KnownBytes.{Appends, Consumes}
 use Rattle.aia_replay.specs.declared.program.Status.{Status}
-use Rattle.aia_replay.specs.declared.program.Status.TheVariants.{Done, ReadFault, TooLong}
-use Rattle.aia_replay.specs.Runs.{IsScript, Takes, TakesAll, WritesFront, WritesLines, StopsAtMachine}
+use Rattle.aia_replay.specs.declared.program.Status.TheVariants.{Done, Usage, ReadFault, WriteFault, Memory, TooLong}
+use Rattle.aia_replay.specs.Runs.{IsScript, Takes, TakesAll, HasAtMost, IsDoneOrMemory, WritesFront, WritesLines, StopsAtMachine}
+use Rattle.aia_io.specs.Ends.{Rose}
 use Rattle.aia_replay.specs.Buffered.{CutOff}
 use Rattle.aia_replay.specs.declared.replayer.Replayer.{Replayer}
 use Rattle.aia_replay.specs.Streams.{Streams, StreamsStop, WrittenFor}
@@ -96,3 +97,19 @@ stopped_front r left rest before mid now stop cut = record {
   consumed = stop.consumed;
   cut = cut_after r.out.bytes.items stop.holds.later _ before mid now _ stop.holds.gathered cut stop.holds.goes_on;
 }
+
+-- ---- completeness
+
+fits : (left rest : Option (List ℕ)) → Takes 16777217 left rest → HasAtMost 16777216 left → ⊥
+fits None rest took few = few
+fits (Some script) None took few = took.1
+fits (Some script) (Some more) took few = omega (arith, few, took.2, ap length took.1, length-append took.0 more)
+
+pub complete : (status : Status) (left rest : Option (List ℕ)) (a b c d : ℕ) → status ≢ Usage → (status ≡ ReadFault → Rose a b) → (status ≡ WriteFault → Rose c d)
+    → (status ≡ TooLong → Takes 16777217 left rest) → ¬ Rose a b → ¬ Rose c d → HasAtMost 16777216 left → IsDoneOrMemory status
+complete Done left rest a b c d usage read write long quiet still few = inl refl
+complete Usage left rest a b c d usage read write long quiet still few = absurd (usage refl)
+complete ReadFault left rest a b c d usage read write long quiet still few = absurd (quiet (read refl))
+complete WriteFault left rest a b c d usage read write long quiet still few = absurd (still (write refl))
+complete Memory left rest a b c d usage read write long quiet still few = inr refl
+complete TooLong left rest a b c d usage read write long quiet still few = absurd (fits left rest (long refl) few)

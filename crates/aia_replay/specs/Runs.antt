@@ -1,5 +1,5 @@
 -- What a run promises, by its status. Profile.
-use Rattle.std.specs.Prelude.{◌≡◌, ℕ, ◌≤◌, ◌⊎◌, true, false, nat_eq, List, [], ◌∷◌, ◌++◌, length, map, codes, All, Option, Some, IfSome}
+use Rattle.std.specs.Prelude.{◌≡◌, ℕ, ◌≤◌, ◌⊎◌, true, false, nat_eq, List, [], ◌∷◌, ◌++◌, length, map, codes, All, Option, Some, None, IfSome}
 use Rattle.std.specs.Borrow.{Bor}
 use Rattle.std.specs.Io.KnownBytes.{Appends, Consumes}
 use Rattle.aia_model.specs.declared.parsed.Parsed.{Parsed}
@@ -9,6 +9,8 @@ use Rattle.aia_model.specs.Refusal.{makes_machine}
 use Rattle.aia_model.specs.Text.{texts_of}
 use Rattle.aia_model.specs.Reading.{reading}
 use Rattle.aia_model.specs.Script.{answers, after_text}
+use Rattle.aia_replay.specs.declared.program.Status.{Status}
+use Rattle.aia_replay.specs.declared.program.Status.TheVariants.{Done, Memory}
 use Rattle.aia_replay.specs.Buffered.{CutOff}
 
 -- The command line that replays: the one word `replay`. Profile.
@@ -30,6 +32,15 @@ Takes count left rest = (bytes : List ℕ) × Consumes left rest bytes × (lengt
 -- At most so many bytes were taken.
 abbrev pub TakesAtMost : ℕ → Option (List ℕ) → Option (List ℕ) → Type 0
 TakesAtMost count left rest = (bytes : List ℕ) × Consumes left rest bytes × (length bytes ≤ count)
+
+-- The source tells what it has left, and that is at most so many bytes.
+abbrev pub HasAtMost : ℕ → Option (List ℕ) → Type 0
+HasAtMost count None = ⊥
+HasAtMost count (Some script) = length script ≤ count
+
+-- The run ended by Done or Memory.
+abbrev pub IsDoneOrMemory : Status → Type 0
+IsDoneOrMemory status = (status ≡ Done) ⊎ (status ≡ Memory)
 
 -- ---- a run that ends before the script does
 

@@ -1,6 +1,6 @@
 ghost use Rattle.std.specs.Prelude.{◌≡◌, ◌≢◌, ◌≤◌, ◌↔◌, List, [], IsTrue};
 ghost use Rattle.aia_io.specs.Ends.{Rose};
-ghost use Rattle.aia_replay.specs.Runs.{IsReplay, WritesAnswers, WritesFront, WritesLines, StopsAtMachine, TakesAll, Takes, TakesAtMost};
+ghost use Rattle.aia_replay.specs.Runs.{IsReplay, WritesAnswers, WritesFront, WritesLines, StopsAtMachine, TakesAll, Takes, TakesAtMost, HasAtMost, IsDoneOrMemory};
 ghost use Rattle.std.specs.Io.KnownBytes.{Appends, Consumes};
 
 use crate::replayer::Replayer;
@@ -53,6 +53,9 @@ pub fn run<S: Source, K: Sink>(
     ensures read_fault_written { result ≡ Status.ReadFault → WritesLines 0 (S.left source.old) (S.left source.new) (K.taken sink.old) (K.taken sink.new) }
     ensures too_long_written { result ≡ Status.TooLong → WritesLines 1 (S.left source.old) (S.left source.new) (K.taken sink.old) (K.taken sink.new) }
     ensures write_fault_written { result ≡ Status.WriteFault → WritesFront (S.left source.old) (S.left source.new) (K.taken sink.old) (K.taken sink.new) }
+
+    // Completeness: with good words, no fault and a script that fits, nothing but want of memory is in the way.
+    ensures complete { IsReplay words.now → (¬ Rose (S.faults source.old) (S.faults source.new)) → (¬ Rose (K.faults sink.old) (K.faults sink.new)) → HasAtMost 16777216 (S.left source.old) → IsDoneOrMemory result }
 
     ensures bound { TakesAtMost 16777217 (S.left source.old) (S.left source.new) }
     ensures limit { result ≢ Status.TooLong → TakesAtMost 16777216 (S.left source.old) (S.left source.new) }
