@@ -7,7 +7,7 @@ pub struct Row {
 }
 
 /// All rows.
-pub const ROWS: [Row; 7] = [
+pub const ROWS: [Row; 9] = [
     Row {
         script: NO_LINES_SCRIPT,
         answers: NO_LINES_ANSWERS,
@@ -27,6 +27,14 @@ pub const ROWS: [Row; 7] = [
     Row {
         script: NUMBERS_RANGES_AND_SPELLING_SCRIPT,
         answers: NUMBERS_RANGES_AND_SPELLING_ANSWERS,
+    },
+    Row {
+        script: STORES_LOADS_AND_GUARDED_PAGES_SCRIPT,
+        answers: STORES_LOADS_AND_GUARDED_PAGES_ANSWERS,
+    },
+    Row {
+        script: MACHINE_LEVEL_SETS_AND_CLEARS_SCRIPT,
+        answers: MACHINE_LEVEL_SETS_AND_CLEARS_ANSWERS,
     },
     Row {
         script: CLAIM_EXAMPLE_SCRIPT,
@@ -137,6 +145,72 @@ pub const NUMBERS_RANGES_AND_SPELLING_ANSWERS: &str = "\
     range\n\
     bad\n\
     bad\n";
+
+/// A store asks by either byte order, and for no number that is no identity; a load gives 0; a guest's page is guarded.
+pub const STORES_LOADS_AND_GUARDED_PAGES_SCRIPT: &str = "\
+    machine 1 1 63 8\n\
+    h 0 csrrw siselect 0xc0\n\
+    h 0 csrrw sireg 0xffffffffffffffff\n\
+    h 0 csrr sireg\n\
+    st 0x28000004 0x05000000\n\
+    st 0x28000000 0\n\
+    st 0x28000000 64\n\
+    st 0x28000000 0xffffffff\n\
+    st 0x28000008 7\n\
+    ld 0x28000000\n\
+    st 0x28000002 1\n\
+    st 0x28001000 1\n\
+    st 0x28002000 1\n\
+    h 0 csrrw siselect 0x80\n\
+    h 0 csrr sireg\n";
+
+/// What [`STORES_LOADS_AND_GUARDED_PAGES_SCRIPT`] prints.
+pub const STORES_LOADS_AND_GUARDED_PAGES_ANSWERS: &str = "\
+    ok\n\
+    0x0000000000000000\n\
+    0x0000000000000000\n\
+    0xfffffffffffffffe\n\
+    ok\n\
+    ok\n\
+    ok\n\
+    ok\n\
+    ok\n\
+    0x00000000\n\
+    fault\n\
+    guarded\n\
+    fault\n\
+    0x00000000000000c0\n\
+    0x0000000000000020\n";
+
+/// The machine-level file, by its own CSRs and page; setting no bit of `mtopei` claims all the same.
+pub const MACHINE_LEVEL_SETS_AND_CLEARS_SCRIPT: &str = "\
+    machine 1 0 63 1\n\
+    m 0 csrrw miselect 0xc0\n\
+    m 0 csrrw mireg 6\n\
+    st 0x24000000 1\n\
+    st 0x24000004 0x02000000\n\
+    m 0 csrrs mtopei 0\n\
+    m 0 csrr mtopei\n\
+    m 0 csrrc mireg 4\n\
+    m 0 csrr mtopei\n\
+    m 0 csrrw miselect 0xff\n\
+    m 0 csrr mireg\n\
+    st 0x24001000 1\n";
+
+/// What [`MACHINE_LEVEL_SETS_AND_CLEARS_SCRIPT`] prints.
+pub const MACHINE_LEVEL_SETS_AND_CLEARS_ANSWERS: &str = "\
+    ok\n\
+    0x0000000000000000\n\
+    0x0000000000000000\n\
+    ok\n\
+    ok\n\
+    0x0000000000010001\n\
+    0x0000000000020002\n\
+    0x0000000000000006\n\
+    0x0000000000000000\n\
+    0x00000000000000c0\n\
+    illegal\n\
+    fault\n";
 
 /// One interrupt, from a device's store to the hart's claim: the repository's example `claim`.
 pub const CLAIM_EXAMPLE_SCRIPT: &str = "\

@@ -1,3 +1,6 @@
+mod accesses;
 mod calls;
 mod ends;
+mod files;
 mod runs;
+mod spellings;

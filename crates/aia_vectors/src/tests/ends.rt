@@ -101,6 +101,39 @@ fn a_failing_end_ends_the_run(rt: HostRuntime) -> Result<(), Fail> {
     Ok(())
 }
 
+/// What a sink took before its second call failed, by the bytes that the source gives at a time.
+///
+/// The answers of the lines that a piece ends are written before the next piece is read.
+const SECOND_WRITE_FAILS: [(usize, &str); 3] = [
+    (1, "ok\n"),
+    (62, "ok\n0x0000000000000000\n0x0000000000000000\n"),
+    (
+        109,
+        "ok\n0x0000000000000000\n0x0000000000000000\nok\n0x0000000000050005\n",
+    ),
+];
+
+#[test]
+fn a_sink_that_fails_again_has_a_front_of_the_answers(rt: HostRuntime) -> Result<(), Fail> {
+    let alloc = rt.alloc();
+    for (piece, taken) in SECOND_WRITE_FAILS {
+        let script = Vec::from_slice(alloc, STORE_IS_CLAIMED_SCRIPT.as_bytes())?;
+        let mut source = MemSource::new(script, piece, Vec::new(alloc));
+        let mut sink = MemSink::new(alloc, 1000, vec![in alloc; 2]?)?;
+        let status = run(alloc, &["replay"], &mut source, &mut sink);
+        assert_eq!(rt; status, Status::WriteFault);
+        assert_eq!(rt; sink.bytes(), taken.as_bytes());
+        assert!(rt;
+            STORE_IS_CLAIMED_ANSWERS
+                .as_bytes()
+                .starts_with(sink.bytes())
+        );
+        assert_eq!(rt; source.faults(), 0);
+        assert_eq!(rt; sink.faults(), 1);
+    }
+    Ok(())
+}
+
 /// A writer that takes at most five bytes at a time.
 #[derive(Drop)]
 struct TakesLittle<'a> {

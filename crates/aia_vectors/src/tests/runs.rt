@@ -111,3 +111,15 @@ fn a_script_has_at_most_so_many_bytes(rt: HostRuntime) -> Result<(), Fail> {
     }
     Ok(())
 }
+
+#[test]
+fn empty_lines_print_nothing_and_count_as_bytes(rt: HostRuntime) -> Result<(), Fail> {
+    let alloc = rt.alloc();
+    for (bytes, status) in [(LIMIT, Status::Done), (LIMIT + 1, Status::TooLong)] {
+        let mut source = MemSource::new(vec![in alloc; b'\n'; bytes]?, LIMIT, Vec::new(alloc));
+        let mut sink = MemSink::new(alloc, ROOM, Vec::new(alloc))?;
+        assert_eq!(rt; run(alloc, &["replay"], &mut source, &mut sink), status);
+        assert_eq!(rt; sink.bytes(), b"".as_slice());
+    }
+    Ok(())
+}
