@@ -7,7 +7,7 @@ pub struct Row {
 }
 
 /// All rows.
-pub const ROWS: [Row; 9] = [
+pub const ROWS: [Row; 10] = [
     Row {
         script: NO_LINES_SCRIPT,
         answers: NO_LINES_ANSWERS,
@@ -43,6 +43,10 @@ pub const ROWS: [Row; 9] = [
     Row {
         script: REFUSALS_EXAMPLE_SCRIPT,
         answers: REFUSALS_EXAMPLE_ANSWERS,
+    },
+    Row {
+        script: FILES_AND_BYTE_ORDERS_EXAMPLE_SCRIPT,
+        answers: FILES_AND_BYTE_ORDERS_EXAMPLE_ANSWERS,
     },
 ];
 
@@ -351,3 +355,192 @@ pub const REFUSALS_EXAMPLE_ANSWERS: &str = "\
     0x0000000000000071\n\
     0x0000000000000000\n\
     bad\n";
+
+/// The example of both files of a hart and of byte orders: `examples/files-and-byte-orders.script`.
+pub const FILES_AND_BYTE_ORDERS_EXAMPLE_SCRIPT: &str = "\
+    # Two files of each hart, the machine-level one and the supervisor one, and the two byte orders of their pages.\n\
+    #\n\
+    # A machine of two harts, each with one guest file, with the identities 1 to 63 and one wired source.\n\
+    machine 2 1 63 1\n\
+    \n\
+    # The machine-level file of hart h lies at 0x24000000 + h * 0x1000, its supervisor file at 0x28000000 + h * 0x8000.\n\
+    # Offset 0 of a page takes an identity little-endian: this asks for 5 in the machine-level file of hart 1.\n\
+    st 0x24001000 5\n\
+    # Offset 4 takes it big-endian: this asks for 9 in the same file.\n\
+    st 0x24001004 0x09000000\n\
+    # In the wrong byte order each value is far above 63, so it names no identity and the store is ignored.\n\
+    st 0x24001004 9\n\
+    st 0x24001000 0x09000000\n\
+    # Other offsets of a page ignore stores.\n\
+    st 0x24001008 7\n\
+    # The supervisor file of hart 1 is another file: this asks for 5 there, big-endian, and for 12, little-endian.\n\
+    st 0x28008004 0x05000000\n\
+    st 0x28008000 12\n\
+    \n\
+    # Machine level reads its file through miselect and mireg. eip0, the pending bits up to 63, shows 5 and 9.\n\
+    m 1 csrrw miselect 0x80\n\
+    m 1 csrr mireg\n\
+    # Supervisor level reads its own through siselect and sireg: 5 and 12.\n\
+    h 1 csrr siselect\n\
+    h 1 csrrw siselect 0x80\n\
+    h 1 csrr sireg\n\
+    # Nothing has come to the files of hart 0.\n\
+    m 0 csrrw miselect 0x80\n\
+    m 0 csrr mireg\n\
+    \n\
+    # Nothing is enabled, so nothing is on top.\n\
+    m 1 csrr mtopei\n\
+    # At eie0, csrrs sets the bits of its operand and csrrc clears them. The answer is the old value.\n\
+    m 1 csrrw miselect 0xc0\n\
+    m 1 csrrs mireg 0x220\n\
+    m 1 csrrs mireg 0x2\n\
+    m 1 csrrc mireg 0x22\n\
+    m 1 csrr mireg\n\
+    # 9 alone is enabled. With 5 enabled again, 5 is on top, since it is less.\n\
+    m 1 csrr mtopei\n\
+    m 1 csrrs mireg 0x20\n\
+    m 1 csrr mtopei\n\
+    # Bit 0 stands for no identity and stays 0.\n\
+    m 1 csrrs mireg 0x1\n\
+    m 1 csrr mireg\n\
+    # The same at supervisor level, whose file knows nothing of what machine level enabled.\n\
+    h 1 csrr stopei\n\
+    h 1 csrrw siselect 0xc0\n\
+    h 1 csrrs sireg 0x1020\n\
+    h 1 csrr stopei\n\
+    \n\
+    # csrrs and csrrc write whatever their operand is, so at mtopei they claim, with the operand 0 too.\n\
+    m 1 csrrs mtopei 0\n\
+    m 1 csrrc mtopei 0\n\
+    m 1 csrr mtopei\n\
+    # 5 is still pending in the supervisor file. Its claims go the same way, and the value that is written does not matter.\n\
+    h 1 csrrc stopei 0xffffffffffffffff\n\
+    h 1 csrr stopei\n\
+    h 1 csrrs stopei 0\n\
+    h 1 csrrs stopei 0\n\
+    \n\
+    # A hart can ask for an identity by its pending bit, here for 9.\n\
+    m 1 csrrw miselect 0x80\n\
+    m 1 csrrs mireg 0x200\n\
+    m 1 csrr mtopei\n\
+    # A threshold of 9 holds 9 back. csrrs makes 0x72, eithreshold, of the select number 0x70, eidelivery.\n\
+    m 1 csrrw miselect 0x70\n\
+    m 1 csrrs miselect 0x2\n\
+    m 1 csrrw mireg 9\n\
+    m 1 csrr mtopei\n\
+    m 1 csrrc mireg 0xf\n\
+    m 1 csrr mtopei\n\
+    \n\
+    # All loads of a page give 0, and claim nothing.\n\
+    ld 0x24001000\n\
+    ld 0x24001004\n\
+    ld 0x28008ffc\n\
+    m 1 csrr mtopei\n\
+    # A guest file's page is out of the host's reach.\n\
+    st 0x28009000 5\n\
+    ld 0x28001000\n\
+    # Nothing lies where guest file 2 of hart 1 or a machine-level file of hart 2 would be.\n\
+    ld 0x2800a000\n\
+    st 0x24002000 5\n\
+    # An address that is no multiple of 4 is a fault everywhere, in a guest file's page too.\n\
+    ld 0x24001002\n\
+    st 0x28009001 5\n\
+    \n\
+    # The odd select numbers from 0x81 on have no register behind them, and so have all below 0x70 and above 0xff.\n\
+    m 1 csrrw miselect 0x81\n\
+    m 1 csrr mireg\n\
+    m 1 csrrs mireg 0\n\
+    m 1 csrrw miselect 0xfff\n\
+    m 1 csrrc mireg 1\n\
+    h 1 csrrw siselect 0x6f\n\
+    h 1 csrrw sireg 1\n\
+    # A select CSR keeps the low 12 bits of a write: this selects 0x71, which is reserved, reads 0 and keeps nothing.\n\
+    m 1 csrrw miselect 0x1071\n\
+    m 1 csrrw mireg 0xff\n\
+    m 1 csrr mireg\n\
+    m 1 csrr miselect\n\
+    # 0x82 has a register, eip2, of identities that this machine has not got: it reads 0 and keeps nothing.\n\
+    m 1 csrrw miselect 0x82\n\
+    m 1 csrrw mireg 0xff\n\
+    m 1 csrr mireg\n\
+    \n\
+    # Each level names its own CSRs alone, and there is no hart 2.\n\
+    m 1 csrr stopei\n\
+    h 1 csrr mtopei\n\
+    m 2 csrr mtopei\n";
+
+/// What [`FILES_AND_BYTE_ORDERS_EXAMPLE_SCRIPT`] prints.
+pub const FILES_AND_BYTE_ORDERS_EXAMPLE_ANSWERS: &str = "\
+    ok\n\
+    ok\n\
+    ok\n\
+    ok\n\
+    ok\n\
+    ok\n\
+    ok\n\
+    ok\n\
+    0x0000000000000000\n\
+    0x0000000000000220\n\
+    0x0000000000000000\n\
+    0x0000000000000000\n\
+    0x0000000000001020\n\
+    0x0000000000000000\n\
+    0x0000000000000000\n\
+    0x0000000000000000\n\
+    0x0000000000000080\n\
+    0x0000000000000000\n\
+    0x0000000000000220\n\
+    0x0000000000000222\n\
+    0x0000000000000200\n\
+    0x0000000000090009\n\
+    0x0000000000000200\n\
+    0x0000000000050005\n\
+    0x0000000000000220\n\
+    0x0000000000000220\n\
+    0x0000000000000000\n\
+    0x0000000000000080\n\
+    0x0000000000000000\n\
+    0x0000000000050005\n\
+    0x0000000000050005\n\
+    0x0000000000090009\n\
+    0x0000000000000000\n\
+    0x0000000000050005\n\
+    0x00000000000c000c\n\
+    0x00000000000c000c\n\
+    0x0000000000000000\n\
+    0x00000000000000c0\n\
+    0x0000000000000000\n\
+    0x0000000000090009\n\
+    0x0000000000000080\n\
+    0x0000000000000070\n\
+    0x0000000000000000\n\
+    0x0000000000000000\n\
+    0x0000000000000009\n\
+    0x0000000000090009\n\
+    0x00000000\n\
+    0x00000000\n\
+    0x00000000\n\
+    0x0000000000090009\n\
+    guarded\n\
+    guarded\n\
+    fault\n\
+    fault\n\
+    fault\n\
+    fault\n\
+    0x0000000000000072\n\
+    illegal\n\
+    illegal\n\
+    0x0000000000000081\n\
+    illegal\n\
+    0x00000000000000c0\n\
+    illegal\n\
+    0x0000000000000fff\n\
+    0x0000000000000000\n\
+    0x0000000000000000\n\
+    0x0000000000000071\n\
+    0x0000000000000071\n\
+    0x0000000000000000\n\
+    0x0000000000000000\n\
+    bad\n\
+    bad\n\
+    range\n";
