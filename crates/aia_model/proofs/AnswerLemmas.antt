@@ -1,11 +1,10 @@
 -- Answers and histories by the refusal of a line.
-use Rattle.std.proofs.Common.{◌≡◌, ℕ, ◌%◌, Bool, true, false, ◌&&◌, not, cond, nat_eq, nat_lt, is_some, Option, Some, None, unwrap_or, refl, ap, ◌∙◌}
+use Rattle.std.proofs.Common.{◌≡◌, ℕ, Bool, true, false, not, cond, nat_lt, Option, Some, None, unwrap_or, refl, ap, ◌∙◌}
 use Rattle.std.specs.Option.{option_map}
 use Rattle.aia_regs.specs.declared.access.Csr.{Csr}
 use Rattle.aia_regs.specs.declared.access.Op.{Op}
 use Rattle.aia_csr.specs.declared.access.Level.TheVariants as levels
 use Rattle.aia_csr.specs.Access.{access_of}
-use Rattle.aia_imsic.specs.declared.spot.Spot.{Spot}
 use Rattle.aia_model.specs.declared.line.Line.{Line}
 use Rattle.aia_model.specs.declared.line.Line.TheVariants.{Machine, Load, Store, MachineCsr, HostCsr}
 use Rattle.aia_model.specs.declared.answer.Answer.{Answer}
@@ -37,13 +36,13 @@ refusal_tests : (h : History) (line : Line) → refusal h line ≡ first_word (l
 refusal_tests h line =
     let word = λ (r : Answer × (History → Line → Bool)). r.0 in
     pushed word (lacks_machine h line) _ _ ∙ ap (cond (lacks_machine h line) (Some NoMachine)) (
-      pushed word (has_one_already h line) _ _ ∙ ap (cond (has_one_already h line) (Some Again)) (
-        pushed word (is_out_of_range h line) _ _ ∙ ap (cond (is_out_of_range h line) (Some Range)) (
-          pushed word (is_illegal h line) _ _ ∙ ap (cond (is_illegal h line) (Some Illegal)) (
-            pushed word (is_fault h line) _ _ ∙ ap (cond (is_fault h line) (Some Fault)) (pushed word (is_guarded h line) _ _)
-          )
-        )
-      )
+    pushed word (has_one_already h line) _ _ ∙ ap (cond (has_one_already h line) (Some Again)) (
+    pushed word (is_out_of_range h line) _ _ ∙ ap (cond (is_out_of_range h line) (Some Range)) (
+    pushed word (is_illegal h line) _ _ ∙ ap (cond (is_illegal h line) (Some Illegal)) (
+    pushed word (is_fault h line) _ _ ∙ ap (cond (is_fault h line) (Some Fault)) (pushed word (is_guarded h line) _ _)
+    )
+    )
+    )
     )
 
 pub machine_refusal : (h : History) (harts guests n sources : ℕ) → refusal h (Machine harts guests n sources) ≡ cond (has_machine h) (Some Again) (cond (not (is_machine_size harts guests n sources)) (Some Range) None)

@@ -1,7 +1,6 @@
 -- What accesses, loads and stores leave of machines that stood for a history.
-use Rattle.std.proofs.Common.{◌≡◌, ◌≢◌, ℕ, ◌+◌, ◌*◌, ◌%◌, ◌<◌, ◌≤◌, Bool, true, false, ◌&&◌, ◌||◌, not, cond, nat_eq, nat_lt, is_some, unwrap_or, List, ◌∷◌, length, get_or, Option, Some, None, ◌⊎◌, inl, inr, refl, sym, ap, subst, ◌∙◌, arith}
+use Rattle.std.proofs.Common.{◌≡◌, ◌≢◌, ℕ, ◌%◌, ◌<◌, ◌≤◌, Bool, true, false, ◌&&◌, ◌||◌, not, cond, nat_eq, unwrap_or, ◌∷◌, get_or, Option, Some, None, ◌⊎◌, inl, inr, refl, sym, ap, subst, ◌∙◌, arith}
 use Rattle.std.specs.Prelude.{slice_index}
-use Rattle.std.proofs.Math.ListN.{set}
 use Rattle.std.proofs.lemmas.List.{get_or-set_other}
 use Rattle.std.proofs.lemmas.Bool.{cases_Bool, cases_eq, cond-true, cond-false, lt-ltb, le-ltb, eq-eqb, false≢true}
 use Rattle.std.proofs.lemmas.Bool.Decides.{nat_tests}
@@ -12,7 +11,7 @@ use Rattle.aia_csr.specs.declared.access.Level.{Level}
 use Rattle.aia_csr.specs.declared.access.Level.TheVariants as levels
 use Rattle.aia_csr.specs.Access.{access_of}
 use Rattle.aia_file.specs.InterruptFile.{SameFile, landed}
-use Rattle.aia_file.specs.FileState.{FileState, shown}
+use Rattle.aia_file.specs.FileState.{shown}
 use Rattle.aia_file.proofs.FileLemmas.{same_file}
 use Rattle.aia_imsic.specs.declared.spot.Spot.{Spot}
 use Rattle.aia_imsic.specs.declared.spot.Spot.TheVariants as spots
@@ -21,20 +20,20 @@ use Rattle.aia_imsic.specs.Map.{spot_at, is_page, is_guest_page}
 use Rattle.aia_imsic.proofs.MapLemmas.{spot_of_machine, spot_of_host, machine_of_spot, host_of_spot, to_page}
 use Rattle.aia_imsic.proofs.PlaceLemmas.{kept_elsewhere}
 use Rattle.aia_model.specs.declared.line.Line.{Line}
-use Rattle.aia_model.specs.declared.line.Line.TheVariants.{Load, Store, MachineCsr, HostCsr}
+use Rattle.aia_model.specs.declared.line.Line.TheVariants.{Load, Store}
 use Rattle.aia_model.specs.declared.answer.Answer.{Answer}
 use Rattle.aia_model.specs.declared.answer.Answer.TheVariants.{Okay, Narrow, Wide, Range, Illegal, Fault, Guarded}
 use Rattle.aia_model.specs.Event.{Event, History, has_machine, harts_of, guests_of}
 use Rattle.aia_model.specs.Event.Event.{Accepted}
 use Rattle.aia_model.specs.FileOf.{FileName, MachineFile, SupervisorFile, Deed, is_at, page_at, deed_at, select_of, select_told, file_of, file_after}
-use Rattle.aia_model.specs.FileOf.Deed.{Accesses, Stores, Rests}
+use Rattle.aia_model.specs.FileOf.Deed.{Accesses, Rests}
 use Rattle.aia_model.specs.Refusal.{refusal, raises_illegal, guards, place_refusal}
-use Rattle.aia_model.specs.Answer.{answer, after, accepted_answer, history_after, csr_shown, csr_value}
+use Rattle.aia_model.specs.Answer.{accepted_answer, history_after, csr_shown, csr_value}
 use Rattle.aia_model.proofs.AnswerLemmas.{answered, after_by, access_refusal, machine_csr_refusal, host_csr_refusal, load_refusal, store_refusal}
 use Rattle.aia_model.proofs.FileLemmas.{file_step, select_step, own_machine_access, other_machine_access, own_host_access, other_host_access, store_here, store_elsewhere}
 use Rattle.aia_replay.specs.declared.machine.Machine.{Machine}
-use Rattle.aia_replay.specs.Places.{IsHost, FileDone, name_of, csr_line, spot_of, select_place}
-use Rattle.aia_replay.specs.Stands.{FileStands, MachineStands, MachineServes, HasDone, deed_of}
+use Rattle.aia_replay.specs.Places.{IsHost, name_of, csr_line, spot_of, select_place}
+use Rattle.aia_replay.specs.Stands.{FileStands, MachineStands, MachineServes, HasDone}
 
 -- ---- names of files
 
@@ -217,14 +216,14 @@ accessed_there m n level host k csr op value inside given done =
     let event = Accepted (csr_line level k csr op) in
     let found = chosen_some _ _ value (sym given) in
     by_refusal m n (csr_line level k csr op) (Wide value) (λ h stands.
-      let there = named_there level host m.imsic k inside in
-      let file = stands.each f there in
-      let stays = machine_stays level host h k csr op in (
-        None,
-        refusal_there m level host k csr op h inside stands ∙ cond-false _ _ _ found.0,
-        ap Wide (sym found.1 ∙ ap (λ s. csr_shown s (shown (file_at m.imsic (spot_of f))) csr) file.select ∙ ap (λ x. csr_shown (select_of h f) x csr) file.file) ∙ sym (csr_accepted level host h k csr op),
-        one_file m n f (Accesses csr op) h event there done stands stays.0 stays.1 stays.2 (own_access level host h k csr op) (λ g ne. other_access level host h k g csr op ne),
-      ))
+    let there = named_there level host m.imsic k inside in
+    let file = stands.each f there in
+    let stays = machine_stays level host h k csr op in (
+      None,
+      refusal_there m level host k csr op h inside stands ∙ cond-false _ _ _ found.0,
+      ap Wide (sym found.1 ∙ ap (λ s. csr_shown s (shown (file_at m.imsic (spot_of f))) csr) file.select ∙ ap (λ x. csr_shown (select_of h f) x csr) file.file) ∙ sym (csr_accepted level host h k csr op),
+      one_file m n f (Accesses csr op) h event there done stands stays.0 stays.1 stays.2 (own_access level host h k csr op) (λ g ne. other_access level host h k g csr op ne),
+    ))
 
 pub illegal_there : (m n : Machine) (level : Level) → IsHost level → (k : ℕ) (csr : Csr) (op : Op) → k < m.imsic.harts
     → ◌≡◌ {A = Option ℕ} None (cond (raises_illegal (access_of level csr op (slice_index m.selects (select_place (name_of level k))) false)) None (Some (csr_shown (slice_index m.selects (select_place (name_of level k))) (shown (file_at m.imsic (spot_of (name_of level k)))) csr)))
@@ -274,7 +273,7 @@ stored_at m n addr value spot h f few at there inside lands others selects stand
   | inl here ↦
       let e : spot ≡ spot_of f = at ∙ page_of_name m.imsic addr f few inside here in
       let now : shown (file_at n.imsic (spot_of f)) ≡ landed (addr % 0x1000) value (shown (file_at m.imsic (spot_of f))) =
-          subst (λ (s : Spot). shown (file_at n.imsic s) ≡ landed (addr % 0x1000) value (shown (file_at m.imsic s))) e (same_file _ _ lands) in
+      subst (λ (s : Spot). shown (file_at n.imsic s) ≡ landed (addr % 0x1000) value (shown (file_at m.imsic s))) e (same_file _ _ lands) in
       record {
         file = now ∙ ap (landed (addr % 0x1000) value) stands.file ∙ sym (file_step (Accepted (Store addr value)) h f ∙ ap (λ d. file_after (select_of h f) d (file_of h f)) (store_here h f addr value here));
         select = ap (λ xs. get_or xs (select_place f) 0) selects ∙ stands.select ∙ sym (select_step (Accepted (Store addr value)) h f ∙ ap (λ d. select_told d (select_of h f)) (store_here h f addr value here));

@@ -1,5 +1,5 @@
 -- The host's files of a machine: their names in the model, where they are kept, and whose select numbers they have.
-use Rattle.std.specs.Prelude.{◌≡◌, ℕ, ◌+◌, ◌*◌, List, slice_index, slice_set}
+use Rattle.std.specs.Prelude.{◌≡◌, ℕ, ◌+◌, ◌*◌}
 use Rattle.aia_regs.specs.declared.access.Csr.{Csr}
 use Rattle.aia_regs.specs.declared.access.Op.{Op}
 use Rattle.aia_csr.specs.declared.access.Level.{Level}

@@ -38,7 +38,13 @@ pub struct Machine {
 impl Machine {
     /// The machine of these numbers: 1 to 4 harts, up to 7 guest files a hart, identities 1 to `n` (63, 127, 255, 511,
     /// 1023 or 2047) and 1 to 1023 wired sources. `None` exactly where a number is none of these.
-    pub fn of_size(alloc: Global, harts: u64, guests: u64, n: u64, sources: u64) -> Result<Option<Machine>, AllocError>
+    pub fn of_size(
+        alloc: Global,
+        harts: u64,
+        guests: u64,
+        n: u64,
+        sources: u64,
+    ) -> Result<Option<Machine>, AllocError>
         ensures size { IfOk result (λ made. is_some made ≡ is_machine_size harts guests n sources) }
         ensures new { IfOk result (λ made. IfSome made (IsNewMachine harts guests n)) }
         ensures err { OnErr result (is_machine_size harts guests n sources ≡ true) }
@@ -47,7 +53,10 @@ impl Machine {
             return Ok(None);
         }
         let imsic = Imsic::new(alloc, harts as u32, guests as u32, n as u32)?;
-        Ok(Some(Machine { imsic, selects: [0; SELECTS] }))
+        Ok(Some(Machine {
+            imsic,
+            selects: [0; SELECTS],
+        }))
     }
 
     /// Answers a line after the one that made this machine.
@@ -129,7 +138,13 @@ impl Machine {
     {
         let place = select_place(level, hart);
         let mut select = self.selects[place];
-        let value = access_file(self.imsic.file_mut(spot(level, hart)), &mut select, level, csr, op);
+        let value = access_file(
+            self.imsic.file_mut(spot(level, hart)),
+            &mut select,
+            level,
+            csr,
+            op,
+        );
         self.selects[place] = select;
         value
     }
@@ -193,7 +208,11 @@ fn access_top(file: &mut File, op: Op) -> u64
     ensures value { result ≡ csr_shown 0 (shown file.old) Csr.Topei }
     ensures done { SameFile (shown file.new) (file_after 0 (Accesses Csr.Topei op) (shown file.old)) }
 {
-    if op.is_writing() { file.claim() } else { file.top() }
+    if op.is_writing() {
+        file.claim()
+    } else {
+        file.top()
+    }
 }
 
 fn is_in_memory(addr: u64) -> bool

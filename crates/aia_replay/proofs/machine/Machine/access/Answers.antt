@@ -1,4 +1,4 @@
-use Rattle.std.proofs.Common.{◌≡◌, ◌<◌, arith}
+use Rattle.std.proofs.Common.{arith}
 use Rattle.aia_replay.proofs.MachineLemmas.{out_of_range, accessed_there, illegal_there}
 use Rattle.aia_replay.proofs.machine.Machine.access.Goals as goal
 
