@@ -1,0 +1,102 @@
+-- One wired source in one domain of an APLIC: what becomes of its pending bit.
+use Rattle.std.specs.Prelude.{◌≡◌, Bool, true, false, not, ◌&&◌, if◌then◌else◌}
+use Rattle.aia_regs.specs.Word.{Word, settle}
+use Rattle.aia_regs.specs.Word.Word.{Ask, Clear, Nothing}
+use Rattle.aia_source.specs.declared.mode.Mode.{Mode}
+use Rattle.aia_source.specs.declared.mode.Mode.TheVariants.{Inactive, Detached, RisingEdge, FallingEdge, LevelHigh, LevelLow}
+
+-- What can be done about a source in a domain. Profile: this project's way to speak of it.
+pub data Deed : Type 0 where
+  Moved : Deed  -- its wire gets a level
+  Set : Deed  -- setip, or a register that takes its number, asks for it
+  Cleared : Deed  -- in_clrip, or a register that takes its number, clears it
+  Claimed : Deed  -- a load of claimi shows it
+  Forwarded : Deed  -- its MSI is sent
+  Configured : Deed  -- its sourcecfg is written while it is active
+  Activated : Deed  -- its sourcecfg is written while it is inactive
+  Switched : Deed  -- the domain's delivery mode changes
+  Untouched : Deed
+
+-- Whether a source is active in the domain.
+-- AIA 1.0, Advanced Platform-Level Interrupt Controller (APLIC).
+abbrev pub is_active : Mode → Bool
+is_active Inactive = false
+is_active mode = true
+
+abbrev pub is_level : Mode → Bool
+is_level LevelHigh = true
+is_level LevelLow = true
+is_level mode = false
+
+-- The rectified input, by the mode and the level of the wire.
+-- AIA 1.0, Advanced Platform-Level Interrupt Controller (APLIC). Profile: it is low for an inactive and a detached source.
+abbrev pub rectified : Mode → Bool → Bool
+rectified Inactive wire = false
+rectified Detached wire = false
+rectified RisingEdge wire = wire
+rectified FallingEdge wire = not wire
+rectified LevelHigh wire = wire
+rectified LevelLow wire = not wire
+
+-- ---- the table of pending bits: what a deed says of it, by the mode that the source has then
+-- AIA 1.0, Advanced Platform-Level Interrupt Controller (APLIC), "Precise effects on interrupt-pending bits". Profile: what a write of
+-- sourcecfg and a change of the delivery mode say.
+
+-- Detached: registers ask, and registers, a claim and an MSI clear. One that becomes active begins with nothing pending.
+abbrev pub detached_says : Deed → Word
+detached_says Set = Ask
+detached_says Cleared = Clear
+detached_says Claimed = Clear
+detached_says Forwarded = Clear
+detached_says Activated = Clear
+detached_says deed = Nothing
+
+-- Edge: as detached, and a rise of the rectified input asks, given the input before and after.
+abbrev pub edge_says : Bool → Bool → Deed → Word
+edge_says before after Moved = if not before && after then Ask else Nothing
+edge_says before after deed = detached_says deed
+
+-- Level: a rise asks and a fall clears; registers are heard only where the domain delivers by MSIs, and ask only while the input is
+-- high; a claim leaves it; all else goes by the input.
+abbrev pub level_says : Bool → Bool → Bool → Deed → Word
+level_says msi before after Moved = if before then (if after then Nothing else Clear) else (if after then Ask else Nothing)
+level_says msi before after Set = if msi && after then Ask else Nothing
+level_says msi before after Cleared = if msi then Clear else Nothing
+level_says msi before after Claimed = Nothing
+level_says msi before after Forwarded = Clear
+level_says msi before after Untouched = Nothing
+level_says msi before after deed = if after then Ask else Clear
+
+-- By mode, whether the domain delivers by MSIs, and the rectified input before and after.
+abbrev pub says : Mode → Bool → Bool → Bool → Deed → Word
+says Inactive msi before after deed = Clear
+says Detached msi before after deed = detached_says deed
+says RisingEdge msi before after deed = edge_says before after deed
+says FallingEdge msi before after deed = edge_says before after deed
+says LevelHigh msi before after deed = level_says msi before after deed
+says LevelLow msi before after deed = level_says msi before after deed
+
+-- ---- a source
+
+-- Its mode, the level of its wire, and whether it is pending.
+-- AIA 1.0, Advanced Platform-Level Interrupt Controller (APLIC).
+pub record Source : Type 0 where
+  pub mode : Mode
+  pub wire : Bool
+  pub pending : Bool
+
+-- A source as a domain begins. Profile: inactive, with a low wire.
+abbrev pub new_source : Source
+new_source = record { mode = Inactive; wire = false; pending = false }
+
+-- What a deed makes of a source that has this mode and wire from then on.
+abbrev pub done : Bool → Deed → Mode → Bool → Source → Source
+done msi deed mode wire s = record {
+  mode = mode;
+  wire = wire;
+  pending = settle (says mode msi (rectified s.mode s.wire) (rectified mode wire) deed) s.pending;
+}
+
+-- At a level mode it is pending exactly where its rectified input is high.
+abbrev pub IsLawful : Source → Type 0
+IsLawful s = is_level s.mode ≡ true → s.pending ≡ rectified s.mode s.wire

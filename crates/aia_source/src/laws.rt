@@ -1,0 +1,23 @@
+//! What the definitions of this crate mean, as laws: each function does nothing, and its clauses are what was proved.
+
+ghost use Rattle.std.specs.Prelude.{◌≡◌, ◌≢◌, Bool, false};
+ghost use Rattle.aia_source.specs.Source.{Source, Deed, IsLawful, new_source, done};
+ghost use Rattle.aia_source.specs.Source.Deed.{Moved, Forwarded, Configured, Activated};
+
+use crate::mode::Mode;
+
+/// A source at a level mode is pending exactly while its rectified input is high, in a domain that delivers directly.
+///
+/// AIA 1.0, Advanced Platform-Level Interrupt Controller (APLIC), "Precise effects on interrupt-pending bits".
+pub fn a_level_source_follows_its_input()
+    ensures begins { IsLawful new_source }
+    ensures moved { (s : Source) (wire : Bool) → IsLawful s → IsLawful (done false Moved s.mode wire s) }
+    ensures stays { (s : Source) (deed : Deed) → deed ≢ Forwarded → IsLawful s → IsLawful (done false deed s.mode s.wire s) }
+    ensures configured { (s : Source) (mode : Mode) → IsLawful (done false Configured mode s.wire s) }
+    ensures activated { (s : Source) (mode : Mode) → IsLawful (done false Activated mode s.wire s) }
+{}
+
+/// An inactive source is never pending.
+pub fn an_inactive_source_is_not_pending()
+    ensures { (s : Source) (msi : Bool) (deed : Deed) (wire : Bool) → (done msi deed Mode.Inactive wire s).pending ≡ false }
+{}

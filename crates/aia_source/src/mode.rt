@@ -1,0 +1,40 @@
+ghost use Rattle.std.specs.Prelude.{◌≡◌};
+ghost use Rattle.aia_source.specs.Source.{is_level, rectified};
+
+/// What a source's `sourcecfg` register makes of its wire.
+///
+/// AIA 1.0, Advanced Platform-Level Interrupt Controller (APLIC).
+#[derive(Clone, Copy, Debug, PartialEq, Eq)]
+pub enum Mode {
+    /// The source is not active in the domain: it is never pending, and its wire counts for nothing.
+    Inactive,
+    /// The wire counts for nothing; only registers make the source pending.
+    Detached,
+    /// A rise of the wire makes it pending.
+    RisingEdge,
+    /// A fall of the wire makes it pending.
+    FallingEdge,
+    /// A high wire makes it pending.
+    LevelHigh,
+    /// A low wire makes it pending.
+    LevelLow,
+}
+
+impl Mode {
+    /// The rectified input where the wire has this level.
+    pub(crate) fn rectified(self, wire: bool) -> bool
+        ensures { result ≡ rectified self wire }
+    {
+        match self {
+            Mode::Inactive | Mode::Detached => false,
+            Mode::RisingEdge | Mode::LevelHigh => wire,
+            Mode::FallingEdge | Mode::LevelLow => !wire,
+        }
+    }
+
+    pub(crate) fn is_level(self) -> bool
+        ensures { result ≡ is_level self }
+    {
+        matches!(self, Mode::LevelHigh | Mode::LevelLow)
+    }
+}
