@@ -1,6 +1,8 @@
 //! `aia replay`: reads a script from standard input and prints the answers of its lines.
 #![tactic(auto)]
 
+ghost use Rattle.std.specs.Prelude.{◌≡◌};
+
 use aia_io::{StdSink, StdSource};
 use aia_replay::{Status, run};
 use std::alloc::AllocError;
@@ -41,8 +43,15 @@ fn replay(rt: &HostRuntime, arguments: &[String]) -> Result<Status, AllocError> 
     Ok(run(rt.alloc(), &words, &mut source, &mut sink))
 }
 
-/// The exit status of the program.
-fn exit_status(status: Status) -> u8 {
+/// The exit status of the program. Profile.
+fn exit_status(status: Status) -> u8
+    ensures done { status ≡ Status.Done → result ≡ 0 }
+    ensures usage { status ≡ Status.Usage → result ≡ 2 }
+    ensures read_fault { status ≡ Status.ReadFault → result ≡ 3 }
+    ensures write_fault { status ≡ Status.WriteFault → result ≡ 4 }
+    ensures memory { status ≡ Status.Memory → result ≡ 5 }
+    ensures too_long { status ≡ Status.TooLong → result ≡ 6 }
+{
     match status {
         Status::Done => 0,
         Status::Usage => 2,

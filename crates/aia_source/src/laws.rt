@@ -2,17 +2,20 @@
 
 ghost use Rattle.std.specs.Prelude.{◌≡◌, ◌≢◌, Bool, false};
 ghost use Rattle.aia_source.specs.Source.{Source, Deed, IsLawful, new_source, done};
-ghost use Rattle.aia_source.specs.Source.Deed.{Moved, Forwarded, Configured, Activated};
+ghost use Rattle.aia_source.specs.Source.Deed.{Moved, Forwarded, Configured, Activated, Switched};
 
 use crate::mode::Mode;
 
-/// A source at a level mode is pending exactly while its rectified input is high, in a domain that delivers directly.
+/// A source at a level mode is pending exactly while its rectified input is high, in a domain that delivers directly: it is so where
+/// it begins, where its `sourcecfg` is written and where the domain begins to deliver directly, and each deed but the sending of an MSI,
+/// which such a domain does not do, leaves it so.
 ///
 /// AIA 1.0, Advanced Platform-Level Interrupt Controller (APLIC), "Precise effects on interrupt-pending bits".
 pub fn a_level_source_follows_its_input()
     ensures begins { IsLawful new_source }
     ensures moved { (s : Source) (wire : Bool) → IsLawful s → IsLawful (done false Moved s.mode wire s) }
     ensures stays { (s : Source) (deed : Deed) → deed ≢ Forwarded → IsLawful s → IsLawful (done false deed s.mode s.wire s) }
+    ensures switched { (s : Source) → IsLawful (done false Switched s.mode s.wire s) }
     ensures configured { (s : Source) (mode : Mode) → IsLawful (done false Configured mode s.wire s) }
     ensures activated { (s : Source) (mode : Mode) → IsLawful (done false Activated mode s.wire s) }
 {}
