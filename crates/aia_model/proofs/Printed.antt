@@ -15,12 +15,12 @@ use Rattle.aia_regs.specs.declared.access.Csr.TheVariants.{Select, Reg, Topei}
 use Rattle.aia_regs.specs.declared.access.Op.{Op}
 use Rattle.aia_regs.specs.declared.access.Op.TheVariants as ops
 use Rattle.aia_model.specs.declared.line.Line.{Line}
-use Rattle.aia_model.specs.declared.line.Line.TheVariants.{Machine, Load, Store, MachineCsr, HostCsr}
+use Rattle.aia_model.specs.declared.line.Line.TheVariants.{Machine, Wire, Load, Store, MachineCsr, HostCsr}
 use Rattle.aia_model.specs.declared.parsed.Parsed.TheVariants as parsed
 use Rattle.aia_model.specs.AnswerText.{digit_character}
 use Rattle.aia_model.specs.Text.{decimal_digit, hex_digit, value_after, below, number_of, after_zero, words_of, ◌>>=◌}
-use Rattle.aia_model.specs.Grammar.{Field, Fits, AllFit, Spells, IsListed, IsNamed, instruction, machine_csr, supervisor_csr, fields_of}
-use Rattle.aia_model.specs.Grammar.Field.{Keyword, Decimal, Hex, Hex32, Unspelled}
+use Rattle.aia_model.specs.Grammar.{Field, bit_number, Fits, AllFit, Spells, IsListed, IsNamed, instruction, machine_csr, supervisor_csr, fields_of}
+use Rattle.aia_model.specs.Grammar.Field.{Keyword, Decimal, Hex, Hex32, Bit, Unspelled}
 use Rattle.aia_model.specs.Printing.{decimal_text, hex_text, field_text, line_text, IsInRange, IsPrintable}
 use Rattle.aia_model.specs.Reading.{reading}
 use Rattle.aia_model.proofs.Spelled.{reading_only}
@@ -121,6 +121,13 @@ hex_word n low = record { fits = hex_number_again n low; no_space = (refl, (refl
 hex32_word : (n : ℕ) → n < 2 ^ 32 → IsWord (hex_text n) (Hex32 n)
 hex32_word n low = record { fits = (hex_number_again n (omega arith), low); no_space = (refl, (refl, shown_no_space 16 n)) }
 
+bit_low : (level : Bool) → bit_number level < 2
+bit_low false = omega arith
+bit_low true = omega arith
+
+bit_word : (level : Bool) → IsWord (decimal_text (bit_number level)) (Bit level)
+bit_word level = let low : bit_number level < 2 = bit_low level in record { fits = decimal_again (bit_number level) (omega arith); no_space = shown_no_space 10 (bit_number level) }
+
 -- ---- words in a row, cut again
 
 abbrev AllWords : List Field → Type 0
@@ -179,6 +186,7 @@ line_words : (line : Line) → IsListed line → IsPrintable line → AllWords (
 unfolding has_no_space
 line_words (Machine harts guests n sources) named range =
     (keyword_word _ refl, (decimal_word harts range.1.0, (decimal_word guests range.1.1.0, (decimal_word n range.1.1.1.0, (decimal_word sources range.1.1.1.1.0, tt)))))
+line_words (Wire source level) named range = (keyword_word _ refl, (decimal_word source range.1.0, (bit_word level, tt)))
 line_words (Load addr) named range = (keyword_word _ refl, (hex_word addr range.1.0, tt))
 line_words (Store addr value) named range = (keyword_word _ refl, (hex_word addr range.1.0, (hex32_word value range.1.1.0, tt)))
 line_words (MachineCsr hart csr op) named range =
@@ -194,6 +202,7 @@ longest (Keyword word) = length word
 longest (Decimal n) = 20
 longest (Hex n) = 18
 longest (Hex32 n) = 10
+longest (Bit level) = 1
 longest Unspelled = 0
 
 -- and of fields, each with a space
@@ -206,6 +215,7 @@ field_length (Keyword word) range = omega arith
 field_length (Decimal n) range = length-shown 10 20 n (omega arith) (omega arith) (omega arith)
 field_length (Hex n) range = let low : length (shown 16 n) ≤ 16 = length-shown 16 16 n (omega arith) (omega arith) (omega arith) in omega arith
 field_length (Hex32 n) range = let low : length (shown 16 n) ≤ 8 = length-shown 16 8 n (omega arith) (omega arith) (omega arith) in omega arith
+field_length (Bit level) range = let low : bit_number level < 2 = bit_low level in length-shown 10 1 (bit_number level) (omega arith) (omega arith) (omega arith)
 field_length Unspelled range = omega arith
 
 fields_length : (fields : List Field) → AllByRecursion IsInRange fields → length (join_with_byte 32 (map field_text fields)) ≤ longest_of fields
@@ -236,6 +246,7 @@ supervisor_csr_length csr = omega arith
 
 line_length : (line : Line) → longest_of (fields_of line) ≤ 128
 line_length (Machine harts guests n sources) = omega arith
+line_length (Wire source level) = omega arith
 line_length (Load addr) = omega arith
 line_length (Store addr value) = omega arith
 line_length (MachineCsr hart csr op) = let few : longest_of (instruction (machine_csr csr) op) ≤ 34 = instruction_length (machine_csr csr) op (machine_csr_length csr) in omega arith
@@ -257,6 +268,7 @@ words_printed line all = cut_fields (fields_of line) (has_fields line) all
 
     has_fields : (line : Line) → 0 < length (fields_of line)
     has_fields (Machine harts guests n sources) = omega arith
+    has_fields (Wire source level) = omega arith
     has_fields (Load addr) = omega arith
     has_fields (Store addr value) = omega arith
     has_fields (MachineCsr hart csr op) = omega arith

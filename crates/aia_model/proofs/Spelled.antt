@@ -1,7 +1,7 @@
 -- What is spelled is read, and what is read is spelled so.
 use Rattle.std.proofs.Common.{◌≡◌, ◌≢◌, ℕ, ◌^◌, ◌<◌, Bool, true, false, ◌&&◌, cond, nat_eq, nat_le, nat_lt, List, [], ◌∷◌, length, Option, Some, None, ◌⊎◌, inl, inr, refl, sym, ap, subst, ◌∙◌, arith}
 use Rattle.std.specs.Prelude.{codes}
-use Rattle.std.proofs.lemmas.Bool.{cases_Bool, cond-true, cond-false, lt-ltb, ltb-true, le-leb, leb-true, ne_eqb}
+use Rattle.std.proofs.lemmas.Bool.{cases_Bool, cond-true, cond-false, lt-ltb, ltb-true, le-leb, leb-true, eqb-true, ne_eqb}
 use Rattle.std.proofs.Math.Bool.{and-false}
 use Rattle.std.proofs.lemmas.Slice.Eq.{bytes_eq-Decides}
 use Rattle.std.proofs.lemmas.List.Splits.{slice_split-cons_yes, slice_split-cons_no}
@@ -11,13 +11,13 @@ use Rattle.aia_regs.specs.declared.access.Csr.TheVariants.{Select, Reg, Topei}
 use Rattle.aia_regs.specs.declared.access.Op.{Op}
 use Rattle.aia_regs.specs.declared.access.Op.TheVariants as ops
 use Rattle.aia_model.specs.declared.line.Line.{Line}
-use Rattle.aia_model.specs.declared.line.Line.TheVariants.{Machine, Load, Store, MachineCsr, HostCsr}
+use Rattle.aia_model.specs.declared.line.Line.TheVariants.{Machine, Wire, Load, Store, MachineCsr, HostCsr}
 use Rattle.aia_model.specs.declared.parsed.Parsed.{Parsed}
 use Rattle.aia_model.specs.declared.parsed.Parsed.TheVariants as parsed
 use Rattle.aia_model.specs.Text.{number_of, words_of, below, is_skipped, ◌>>=◌}
-use Rattle.aia_model.specs.Grammar.{Spells, Field, Fits, AllFit, IsListed, IsNamed, fields_of, instruction, machine_csr, supervisor_csr}
-use Rattle.aia_model.specs.Grammar.Field.{Keyword, Decimal, Hex, Hex32, Unspelled}
-use Rattle.aia_model.specs.Reading.{reading, parsed_of, Words, is_word, word_at, number_at, n32_at, whole, machine_at, load_at, store_at, machine_csr_of, supervisor_csr_of, csr_at, read_at, write_at, instruction_at, machine_csr_at, host_csr_at, line_at}
+use Rattle.aia_model.specs.Grammar.{Spells, Field, bit_number, Fits, AllFit, IsListed, IsNamed, fields_of, instruction, machine_csr, supervisor_csr}
+use Rattle.aia_model.specs.Grammar.Field.{Keyword, Decimal, Hex, Hex32, Bit, Unspelled}
+use Rattle.aia_model.specs.Reading.{reading, parsed_of, Words, is_word, word_at, number_at, n32_at, bit_of, bit_at, whole, machine_at, wire_at, load_at, store_at, machine_csr_of, supervisor_csr_of, csr_at, read_at, write_at, instruction_at, machine_csr_at, host_csr_at, line_at}
 
 -- ---- the names of a level
 
@@ -76,6 +76,11 @@ small_read : (w : List ℕ) (ws : Words) (n : ℕ) → number_of w ≡ Some n �
 unfolding n32_at
 small_read w ws n e low = ap (λ o. o >>= λ x. below (2 ^ 32) x.0 >>= λ s. Some (s, x.1)) (number_read w ws n e) ∙ ap (λ o. o >>= λ s. Some (s, ws)) (cond-true _ _ _ (lt-ltb n (2 ^ 32) low))
 
+bit_read : (w : List ℕ) (ws : Words) (level : Bool) → number_of w ≡ Some (bit_number level) → bit_at (w ∷ ws) ≡ Some (level, ws)
+unfolding bit_at
+bit_read w ws false e = ap (λ o. o >>= λ x. bit_of x.0 >>= λ b. Some (b, x.1)) (number_read w ws 0 e)
+bit_read w ws true e = ap (λ o. o >>= λ x. bit_of x.0 >>= λ b. Some (b, x.1)) (number_read w ws 1 e)
+
 csr_read : (row : Csr → Field) (named : List ℕ → Option Csr) → Naming row named → (csr : Csr) (w : List ℕ) (ws : Words) → Fits w (row csr) → csr_at named (w ∷ ws) ≡ Some (csr, ws)
 unfolding csr_at
 csr_read row named naming csr w ws fits = ap (λ o. o >>= λ c. Some (c, ws)) (naming.finds csr w fits)
@@ -89,6 +94,13 @@ machine_read (a ∷ []) harts guests n sources fits = absurd fits.1
 machine_read (a ∷ b ∷ []) harts guests n sources fits = absurd fits.1.1
 machine_read (a ∷ b ∷ c ∷ []) harts guests n sources fits = absurd fits.1.1.1
 machine_read (a ∷ b ∷ c ∷ d ∷ e ∷ ws) harts guests n sources fits = absurd fits.1.1.1.1
+
+wire_read : (ws : Words) (source : ℕ) (level : Bool) → AllFit ws (Decimal source ∷ Bit level ∷ []) → wire_at ws ≡ Some (Wire source level)
+unfolding wire_at
+wire_read (a ∷ b ∷ []) source level fits = rw (number_read a (b ∷ []) source fits.0, bit_read b [] level fits.1.0) refl
+wire_read [] source level fits = absurd fits
+wire_read (a ∷ []) source level fits = absurd fits.1
+wire_read (a ∷ b ∷ c ∷ ws) source level fits = absurd fits.1.1
 
 store_read : (ws : Words) (addr value : ℕ) → AllFit ws (Hex addr ∷ Hex32 value ∷ []) → store_at ws ≡ Some (Store addr value)
 unfolding store_at
@@ -142,11 +154,13 @@ host_access_read hart csr op (x ∷ ws) fits = rw (number_read x ws hart fits.0,
 pub spelled_read : (ws : Words) (line : Line) → AllFit ws (fields_of line) → line_at ws ≡ Some line
 unfolding line_at
 spelled_read [] (Machine harts guests n sources) fits = absurd fits
+spelled_read [] (Wire source level) fits = absurd fits
 spelled_read [] (Load addr) fits = absurd fits
 spelled_read [] (Store addr value) fits = absurd fits
 spelled_read [] (MachineCsr hart csr op) fits = absurd fits
 spelled_read [] (HostCsr hart csr op) fits = absurd fits
 spelled_read (k ∷ ws) (Machine harts guests n sources) fits = rw fits.0 (machine_read ws harts guests n sources fits.1)
+spelled_read (k ∷ ws) (Wire source level) fits = rw fits.0 (wire_read ws source level fits.1)
 spelled_read (k ∷ ws) (Load addr) fits = rw fits.0 (load_read ws addr fits.1)
 spelled_read (k ∷ ws) (Store addr value) fits = rw fits.0 (store_read ws addr value fits.1)
 spelled_read (k ∷ ws) (MachineCsr hart csr op) fits = rw fits.0 (machine_access_read hart csr op ws fits.1)
@@ -192,6 +206,24 @@ small_found ws x e =
       | inr h ↦ let bad : ◌≡◌ {A = Option ℕ} None (Some s) = h.1 in absurd (cc)
     ]
 
+bit_found : (ws : Words) (x : Bool × Words) → bit_at ws ≡ Some x → (w : List ℕ) × (ws ≡ w ∷ x.1) × (number_of w ≡ Some (bit_number x.0))
+unfolding bit_at
+bit_found ws x e =
+    let a = bind_some (number_at ws) _ x e in
+    let f = number_found ws a.0 a.1 in
+    let b = bind_some (bit_of a.0.0) _ x a.2 in
+    let p : (b.0, a.0.1) ≡ x = cc in
+    (f.0, f.1 ∙ ap (λ r. f.0 ∷ r) (ap (λ (q : Bool × Words). q.1) p), f.2 ∙ ap Some (is_bit a.0.0 b.0 b.1 ∙ ap (λ (q : Bool × Words). bit_number q.0) p))
+  where
+    is_bit : (n : ℕ) (level : Bool) → bit_of n ≡ Some level → n ≡ bit_number level
+    is_bit n level e = elim (chosen (nat_eq n 0) (Some false) _ level e) [
+      | inl h ↦ let q : false ≡ level = cc in eqb-true n 0 h.0 ∙ ap bit_number q
+      | inr h ↦ elim (chosen (nat_eq n 1) (Some true) None level h.1) [
+        | inl i ↦ let q : true ≡ level = cc in eqb-true n 1 i.0 ∙ ap bit_number q
+        | inr i ↦ let bad : ◌≡◌ {A = Option Bool} None (Some level) = i.1 in absurd (cc)
+      ]
+    ]
+
 csr_found : (row : Csr → Field) (named : List ℕ → Option Csr) → Naming row named → (ws : Words) (x : Csr × Words) → csr_at named ws ≡ Some x → (w : List ℕ) × (ws ≡ w ∷ x.1) × Fits w (row x.0)
 unfolding csr_at
 csr_found row named naming ws x e =
@@ -219,6 +251,16 @@ store_found ws x e =
     let g = small_found a.0.1 b.0 b.1 in
     let z = whole_found b.0.1 (Store a.0.0 b.0.0) x b.2 in
     (a.0.0, b.0.0, z.1, fit ws f.0 a.0.1 (Hex a.0.0) (Hex32 b.0.0 ∷ []) f.1 f.2 (fit a.0.1 g.0 b.0.1 (Hex32 b.0.0) [] g.1 (g.2, g.3) (fit_end b.0.1 z.0)))
+
+wire_found : (ws : Words) (x : Line) → wire_at ws ≡ Some x → (source : ℕ) × (level : Bool) × (Wire source level ≡ x) × AllFit ws (Decimal source ∷ Bit level ∷ [])
+unfolding wire_at
+wire_found ws x e =
+    let a = bind_some (number_at ws) _ x e in
+    let f = number_found ws a.0 a.1 in
+    let b = bind_some (bit_at a.0.1) _ x a.2 in
+    let g = bit_found a.0.1 b.0 b.1 in
+    let z = whole_found b.0.1 (Wire a.0.0 b.0.0) x b.2 in
+    (a.0.0, b.0.0, z.1, fit ws f.0 a.0.1 (Decimal a.0.0) (Bit b.0.0 ∷ []) f.1 f.2 (fit a.0.1 g.0 b.0.1 (Bit b.0.0) [] g.1 g.2 (fit_end b.0.1 z.0)))
 
 machine_found : (ws : Words) (x : Line) → machine_at ws ≡ Some x → (harts : ℕ) × (guests : ℕ) × (n : ℕ) × (sources : ℕ) × (Machine harts guests n sources ≡ x) × AllFit ws (Decimal harts ∷ Decimal guests ∷ Decimal n ∷ Decimal sources ∷ [])
 unfolding machine_at
@@ -316,15 +358,18 @@ read_spelled ws x e =
     let k = word_found ws b.0 b.1 in
     elim (chosen_word b.0.0 (codes "machine") _ _ x b.2) [
       | inl h ↦ let r = machine_found b.0.1 x h.1 in subst (λ (y : Line). AllFit ws (fields_of y)) r.4 (fit ws b.0.0 b.0.1 (Keyword (codes "machine")) _ k h.0 r.5)
-      | inr h ↦ elim (chosen_word b.0.0 (codes "ld") _ _ x h) [
-        | inl i ↦ let r = load_found b.0.1 x i.1 in subst (λ (y : Line). AllFit ws (fields_of y)) r.1 (fit ws b.0.0 b.0.1 (Keyword (codes "ld")) _ k i.0 r.2)
-        | inr i ↦ elim (chosen_word b.0.0 (codes "st") _ _ x i) [
-          | inl j ↦ let r = store_found b.0.1 x j.1 in subst (λ (y : Line). AllFit ws (fields_of y)) r.2 (fit ws b.0.0 b.0.1 (Keyword (codes "st")) _ k j.0 r.3)
-          | inr j ↦ elim (chosen_word b.0.0 (codes "m") _ _ x j) [
-            | inl l ↦ let r = machine_access_found b.0.1 x l.1 in subst (λ (y : Line). AllFit ws (fields_of y)) r.3 (fit ws b.0.0 b.0.1 (Keyword (codes "m")) _ k l.0 r.4)
-            | inr l ↦ elim (chosen_word b.0.0 (codes "h") _ _ x l) [
-              | inl o ↦ let r = host_access_found b.0.1 x o.1 in subst (λ (y : Line). AllFit ws (fields_of y)) r.3 (fit ws b.0.0 b.0.1 (Keyword (codes "h")) _ k o.0 r.4)
-              | inr o ↦ let bad : ◌≡◌ {A = Option Line} None (Some x) = o in absurd (cc)
+      | inr h ↦ elim (chosen_word b.0.0 (codes "wire") _ _ x h) [
+        | inl i ↦ let r = wire_found b.0.1 x i.1 in subst (λ (y : Line). AllFit ws (fields_of y)) r.2 (fit ws b.0.0 b.0.1 (Keyword (codes "wire")) _ k i.0 r.3)
+        | inr i ↦ elim (chosen_word b.0.0 (codes "ld") _ _ x i) [
+          | inl j ↦ let r = load_found b.0.1 x j.1 in subst (λ (y : Line). AllFit ws (fields_of y)) r.1 (fit ws b.0.0 b.0.1 (Keyword (codes "ld")) _ k j.0 r.2)
+          | inr j ↦ elim (chosen_word b.0.0 (codes "st") _ _ x j) [
+            | inl l ↦ let r = store_found b.0.1 x l.1 in subst (λ (y : Line). AllFit ws (fields_of y)) r.2 (fit ws b.0.0 b.0.1 (Keyword (codes "st")) _ k l.0 r.3)
+            | inr l ↦ elim (chosen_word b.0.0 (codes "m") _ _ x l) [
+              | inl o ↦ let r = machine_access_found b.0.1 x o.1 in subst (λ (y : Line). AllFit ws (fields_of y)) r.3 (fit ws b.0.0 b.0.1 (Keyword (codes "m")) _ k o.0 r.4)
+              | inr o ↦ elim (chosen_word b.0.0 (codes "h") _ _ x o) [
+                | inl q ↦ let r = host_access_found b.0.1 x q.1 in subst (λ (y : Line). AllFit ws (fields_of y)) r.3 (fit ws b.0.0 b.0.1 (Keyword (codes "h")) _ k q.0 r.4)
+                | inr q ↦ let bad : ◌≡◌ {A = Option Line} None (Some x) = q in absurd (cc)
+              ]
             ]
           ]
         ]
@@ -347,6 +392,7 @@ begins b bytes x k fs fits = elim (cases_Bool (nat_eq b 32)) [
 -- and so not with `#`
 keyword_first : (b : ℕ) (bytes : List ℕ) (line : Line) → AllFit (words_of (b ∷ bytes)) (fields_of line) → b ≢ 35
 keyword_first b bytes (Machine harts guests n sources) fits = λ e. let p : b ≡ 109 = begins b bytes 109 _ _ fits in absurd (omega arith)
+keyword_first b bytes (Wire source level) fits = λ e. let p : b ≡ 119 = begins b bytes 119 _ _ fits in absurd (omega arith)
 keyword_first b bytes (Load addr) fits = λ e. let p : b ≡ 108 = begins b bytes 108 _ _ fits in absurd (omega arith)
 keyword_first b bytes (Store addr value) fits = λ e. let p : b ≡ 115 = begins b bytes 115 _ _ fits in absurd (omega arith)
 keyword_first b bytes (MachineCsr hart csr op) fits = λ e. let p : b ≡ 109 = begins b bytes 109 _ _ fits in absurd (omega arith)
@@ -355,6 +401,7 @@ keyword_first b bytes (HostCsr hart csr op) fits = λ e. let p : b ≡ 104 = beg
 -- a text that spells a line is not skipped
 pub spelled_not_skipped : (text : List ℕ) (line : Line) → Spells text line → is_skipped text ≡ false
 spelled_not_skipped [] (Machine harts guests n sources) s = let bad : [] ≡ codes "machine" = s.1.0 in absurd (cc)
+spelled_not_skipped [] (Wire source level) s = let bad : [] ≡ codes "wire" = s.1.0 in absurd (cc)
 spelled_not_skipped [] (Load addr) s = let bad : [] ≡ codes "ld" = s.1.0 in absurd (cc)
 spelled_not_skipped [] (Store addr value) s = let bad : [] ≡ codes "st" = s.1.0 in absurd (cc)
 spelled_not_skipped [] (MachineCsr hart csr op) s = let bad : [] ≡ codes "m" = s.1.0 in absurd (cc)
@@ -432,6 +479,7 @@ named w (Keyword k) fits = tt
 named w (Decimal n) fits = tt
 named w (Hex n) fits = tt
 named w (Hex32 n) fits = tt
+named w (Bit level) fits = tt
 named w Unspelled fits = absurd fits
 
 operand_named : (ws : Words) (k : Field) (csr : Field) (fs : List Field) → AllFit ws (k ∷ csr ∷ fs) → IsNamed csr
@@ -453,6 +501,7 @@ access_named (h ∷ x ∷ ws) k hart csr op fits = instruction_named ws csr op f
 
 listed : (ws : Words) (line : Line) → AllFit ws (fields_of line) → IsListed line
 listed ws (Machine harts guests n sources) fits = tt
+listed ws (Wire source level) fits = tt
 listed ws (Load addr) fits = tt
 listed ws (Store addr value) fits = tt
 listed ws (MachineCsr hart csr op) fits = access_named ws _ hart (machine_csr csr) op fits

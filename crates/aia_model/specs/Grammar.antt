@@ -1,7 +1,7 @@
 -- The spelling of lines, as a table of fields. Profile: the whole grammar is this project's own.
-use Rattle.std.specs.Prelude.{◌≡◌, ℕ, ◌^◌, ◌<◌, ◌≤◌, List, [], ◌∷◌, length, Some, codes}
+use Rattle.std.specs.Prelude.{◌≡◌, ℕ, ◌^◌, ◌<◌, ◌≤◌, Bool, if◌then◌else◌, List, [], ◌∷◌, length, Some, codes}
 use Rattle.aia_model.specs.declared.line.Line.{Line}
-use Rattle.aia_model.specs.declared.line.Line.TheVariants.{Machine, Load, Store, MachineCsr, HostCsr}
+use Rattle.aia_model.specs.declared.line.Line.TheVariants.{Machine, Wire, Load, Store, MachineCsr, HostCsr}
 use Rattle.aia_regs.specs.declared.access.Csr.{Csr}
 use Rattle.aia_regs.specs.declared.access.Csr.TheVariants.{Select, Reg, Topei}
 use Rattle.aia_regs.specs.declared.access.Op.{Op}
@@ -15,7 +15,12 @@ pub data Field : Type 0 where
   Decimal : (n : ℕ) → Field
   Hex : (n : ℕ) → Field
   Hex32 : (n : ℕ) → Field  -- below 2^32
+  Bit : (level : Bool) → Field  -- 1 or 0
   Unspelled : Field  -- no word spells it
+
+-- The number that tells a level: 1 where it is high, 0 where it is low.
+abbrev pub bit_number : Bool → ℕ
+bit_number level = if level then 1 else 0
 
 -- Whether a word spells a field.
 abbrev pub Fits : List ℕ → Field → Type 0
@@ -23,6 +28,7 @@ Fits word (Keyword k) = word ≡ k
 Fits word (Decimal n) = number_of word ≡ Some n
 Fits word (Hex n) = number_of word ≡ Some n
 Fits word (Hex32 n) = (number_of word ≡ Some n) × (n < 2 ^ 32)
+Fits word (Bit level) = number_of word ≡ Some (bit_number level)
 Fits word Unspelled = ⊥
 
 -- Whether words spell fields, one word a field.
@@ -62,6 +68,7 @@ instruction csr (ops.Clear v) = Keyword (codes "csrrc") ∷ csr ∷ Hex v ∷ []
 -- The fields of a line.
 abbrev pub fields_of : Line → List Field
 fields_of (Machine harts guests n sources) = Keyword (codes "machine") ∷ Decimal harts ∷ Decimal guests ∷ Decimal n ∷ Decimal sources ∷ []
+fields_of (Wire source level) = Keyword (codes "wire") ∷ Decimal source ∷ Bit level ∷ []
 fields_of (Load addr) = Keyword (codes "ld") ∷ Hex addr ∷ []
 fields_of (Store addr value) = Keyword (codes "st") ∷ Hex addr ∷ Hex32 value ∷ []
 fields_of (MachineCsr hart csr op) = Keyword (codes "m") ∷ Decimal hart ∷ instruction (machine_csr csr) op

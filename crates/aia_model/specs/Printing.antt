@@ -4,8 +4,8 @@ use Rattle.std.specs.Int.Digits.{digits_of}
 use Rattle.std.specs.List.{join_with_byte, AllByRecursion}
 use Rattle.aia_model.specs.declared.line.Line.{Line}
 use Rattle.aia_model.specs.AnswerText.{digit_character}
-use Rattle.aia_model.specs.Grammar.{Field, fields_of}
-use Rattle.aia_model.specs.Grammar.Field.{Keyword, Decimal, Hex, Hex32, Unspelled}
+use Rattle.aia_model.specs.Grammar.{Field, bit_number, fields_of}
+use Rattle.aia_model.specs.Grammar.Field.{Keyword, Decimal, Hex, Hex32, Bit, Unspelled}
 
 -- A number in decimal, without leading zeros.
 abbrev pub decimal_text : ℕ → List ℕ
@@ -21,6 +21,7 @@ field_text (Keyword word) = word
 field_text (Decimal n) = decimal_text n
 field_text (Hex n) = hex_text n
 field_text (Hex32 n) = hex_text n
+field_text (Bit level) = decimal_text (bit_number level)
 field_text Unspelled = []
 
 -- The printing spelling of a line.
@@ -33,6 +34,7 @@ IsInRange (Keyword word) = Unit {0}
 IsInRange (Decimal n) = n < 2 ^ 64
 IsInRange (Hex n) = n < 2 ^ 64
 IsInRange (Hex32 n) = n < 2 ^ 32
+IsInRange (Bit level) = Unit {0}
 IsInRange Unspelled = Unit {0}
 
 -- Whether each number of a line is in range.

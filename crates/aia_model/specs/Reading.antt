@@ -1,9 +1,9 @@
 -- A way to compute the line that a text spells, word by word. Believe the table of fields in Grammar: that this finds just what
 -- it spells is proved. Profile.
-use Rattle.std.specs.Prelude.{ℕ, ◌^◌, nat_le, if◌then◌else◌, List, [], ◌∷◌, length, Option, Some, None, codes, Bool}
+use Rattle.std.specs.Prelude.{ℕ, ◌^◌, Bool, true, false, nat_eq, nat_le, if◌then◌else◌, List, [], ◌∷◌, length, Option, Some, None, codes}
 use Rattle.std.specs.Str.{bytes_eq}
 use Rattle.aia_model.specs.declared.line.Line.{Line}
-use Rattle.aia_model.specs.declared.line.Line.TheVariants.{Machine, Load, Store, MachineCsr, HostCsr}
+use Rattle.aia_model.specs.declared.line.Line.TheVariants.{Machine, Wire, Load, Store, MachineCsr, HostCsr}
 use Rattle.aia_model.specs.declared.parsed.Parsed.{Parsed}
 use Rattle.aia_model.specs.declared.parsed.Parsed.TheVariants as parsed
 use Rattle.aia_regs.specs.declared.access.Csr.{Csr}
@@ -20,7 +20,7 @@ Words = List (List ℕ)
 abbrev pub is_word : List ℕ → List ℕ → Bool
 is_word = bytes_eq
 
--- The next word, a number or a number below 2^32, each with the words after it.
+-- The next word, a number, a number below 2^32 or a bit, each with the words after it.
 abbrev pub word_at : Words → Option (List ℕ × Words)
 word_at [] = None
 word_at (word ∷ words) = Some (word, words)
@@ -37,6 +37,16 @@ n32_at words = do
   n ← below (2 ^ 32) number.0
   Some (n, number.1)
 
+-- The level that a number tells.
+abbrev pub bit_of : ℕ → Option Bool
+bit_of n = if nat_eq n 0 then Some false else (if nat_eq n 1 then Some true else None)
+
+unfoldable pub bit_at : Words → Option (Bool × Words)
+bit_at words = do
+  number ← number_at words
+  level ← bit_of number.0
+  Some (level, number.1)
+
 -- What was read, where no word is left.
 abbrev pub whole : {A : Type 0} → Words → A → Option A
 whole [] found = Some found
@@ -45,7 +55,7 @@ whole words found = None
 abbrev pub at_end : Words → Line → Option Line
 at_end = whole
 
--- ---- what follows each keyword: `machine`, `st`, and `h H` with a CSR instruction
+-- ---- what follows each keyword: `machine`, `wire`, `st`, `ld`, and `m H` and `h H` with a CSR instruction
 
 unfoldable pub machine_at : Words → Option Line
 machine_at words = do
@@ -54,6 +64,12 @@ machine_at words = do
   n ← number_at guests.1
   sources ← number_at n.1
   at_end sources.1 (Machine harts.0 guests.0 n.0 sources.0)
+
+unfoldable pub wire_at : Words → Option Line
+wire_at words = do
+  source ← number_at words
+  level ← bit_at source.1
+  at_end level.1 (Wire source.0 level.0)
 
 unfoldable pub store_at : Words → Option Line
 store_at words = do
@@ -132,11 +148,12 @@ host_csr_at words = do
 abbrev pub line_after : List ℕ → Words → Option Line
 line_after keyword words =
     if is_word keyword (codes "machine") then machine_at words
+    else (if is_word keyword (codes "wire") then wire_at words
     else (if is_word keyword (codes "ld") then load_at words
     else (if is_word keyword (codes "st") then store_at words
     else (if is_word keyword (codes "m") then machine_csr_at words
     else (if is_word keyword (codes "h") then host_csr_at words
-    else None))))
+    else None)))))
 
 -- The line that words spell.
 unfoldable pub line_at : Words → Option Line

@@ -11,6 +11,11 @@ pub enum Line {
         n: u64,
         sources: u64,
     },
+    /// `wire S L`: the wire of a source gets a level.
+    Wire {
+        source: u64,
+        level: bool,
+    },
     /// `ld A`: the host loads 32 bits from an address.
     Load {
         addr: u64,

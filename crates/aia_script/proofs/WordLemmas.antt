@@ -12,7 +12,7 @@ use Rattle.aia_model.specs.Text.{words_of}
 use Rattle.aia_model.specs.Reading.{word_at, whole}
 use Rattle.aia_script.specs.Cursor.{words_of_rest}
 
-position_some : (p : ℕ → Bool) (xs : List ℕ) (i : ℕ) → position p xs ≡ Some i → (position_or_len p xs < length xs) × (position_or_len p xs ≡ i)
+pub position_some : (p : ℕ → Bool) (xs : List ℕ) (i : ℕ) → position p xs ≡ Some i → (position_or_len p xs < length xs) × (position_or_len p xs ≡ i)
 position_some p xs i e =
     elim (cases_lt (position_or_len p xs) (length xs)) [
       | inl h ↦ let e2 : Some (position_or_len p xs) ≡ Some i = sym (cond-true _ _ _ (lt-ltb _ _ h)) ∙ e in (h, cc)

@@ -1,11 +1,11 @@
 //! Lines: what follows each keyword.
 
 ghost use Rattle.std.specs.Prelude.{◌≡◌};
-ghost use Rattle.aia_model.specs.Reading.{machine_at, load_at, store_at, machine_csr_at, host_csr_at, line_after, line_at};
+ghost use Rattle.aia_model.specs.Reading.{machine_at, wire_at, load_at, store_at, machine_csr_at, host_csr_at, line_after, line_at};
 ghost use Rattle.aia_script.specs.Cursor.{left};
 
 use crate::instructions::{Level, instruction_at};
-use crate::number::{n32_at, number_at};
+use crate::number::{bit_at, n32_at, number_at};
 use crate::words::{Words, at_end, word_at};
 use aia_model::Line;
 
@@ -27,6 +27,16 @@ fn machine_at(words: Words<'_>) -> Option<Line>
             sources,
         },
     )
+}
+
+/// The line that the words after `wire` spell.
+#[tactic(auto, unfolding(aia_model::specs::Reading::wire_at))]
+fn wire_at(words: Words<'_>) -> Option<Line>
+    ensures { result ≡ wire_at (left words.entry) }
+{
+    let (source, words) = number_at(words)?;
+    let (level, words) = bit_at(words)?;
+    at_end(words, Line::Wire { source, level })
 }
 
 /// The line that the words after `st` spell.
@@ -74,6 +84,8 @@ fn line_after(keyword: &[u8], words: Words<'_>) -> Option<Line>
 {
     if keyword == b"machine".as_slice() {
         machine_at(words)
+    } else if keyword == b"wire".as_slice() {
+        wire_at(words)
     } else if keyword == b"ld".as_slice() {
         load_at(words)
     } else if keyword == b"st".as_slice() {

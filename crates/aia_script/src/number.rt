@@ -3,7 +3,7 @@
 ghost use Rattle.std.specs.Prelude.{◌≡◌, ℕ, ◌+◌, ◌*◌, ◌^◌};
 ghost use Rattle.std.specs.Option.{option_map};
 ghost use Rattle.aia_model.specs.Text.{below, number_of};
-ghost use Rattle.aia_model.specs.Reading.{number_at, n32_at};
+ghost use Rattle.aia_model.specs.Reading.{number_at, n32_at, bit_of, bit_at};
 ghost use Rattle.aia_script.specs.Cursor.{left};
 ghost use Rattle.aia_script.specs.Digits.{base, digit_in, value_in};
 
@@ -92,4 +92,24 @@ pub fn n32_at(words: Words<'_>) -> Option<(u32, Words<'_>)>
 {
     let (number, words) = number_at(words)?;
     Some((u32::try_from(number).ok()?, words))
+}
+
+/// The level that a number tells; `None` where it is neither 0 nor 1.
+fn bit(number: u64) -> Option<bool>
+    ensures { result ≡ bit_of number }
+{
+    match number {
+        0 => Some(false),
+        1 => Some(true),
+        _ => None,
+    }
+}
+
+/// The level that the next word tells, and the words after it.
+#[tactic(auto, unfolding(aia_model::specs::Reading::bit_at))]
+pub fn bit_at(words: Words<'_>) -> Option<(bool, Words<'_>)>
+    ensures { option_map (λ p. (p.0, left p.1)) result ≡ bit_at (left words.entry) }
+{
+    let (number, words) = number_at(words)?;
+    Some((bit(number)?, words))
 }

@@ -93,6 +93,19 @@ fn push_instruction(out: &mut ArrayVec<u8, 128>, level: Level, csr: Csr, op: Op)
     }
 }
 
+/// Appends the printing spelling of a `machine` line to `out`, which is empty.
+#[tactic(auto, unfolding(aia_model::specs::Printing::line_text))]
+fn push_machine(out: &mut ArrayVec<u8, 128>, harts: u64, guests: u64, n: u64, sources: u64)
+    requires { out.old.items ≡ [] }
+    ensures { out.new.items ≡ line_text (Line.Machine harts guests n sources) }
+{
+    push_text(out, b"machine");
+    push_decimal(out, harts);
+    push_decimal(out, guests);
+    push_decimal(out, n);
+    push_decimal(out, sources);
+}
+
 /// Appends the printing spelling of a line to `out`, which is empty. Its numbers are in range by their types.
 #[tactic(auto, unfolding(aia_model::specs::Printing::line_text), using(crate::proofs::PrintLemmas::joined_instruction, crate::proofs::PrintLemmas::access_in_range))]
 fn push_line(line: &Line, out: &mut ArrayVec<u8, 128>)
@@ -106,12 +119,11 @@ fn push_line(line: &Line, out: &mut ArrayVec<u8, 128>)
             guests,
             n,
             sources,
-        } => {
-            push_text(out, b"machine");
-            push_decimal(out, harts);
-            push_decimal(out, guests);
-            push_decimal(out, n);
-            push_decimal(out, sources);
+        } => push_machine(out, harts, guests, n, sources),
+        Line::Wire { source, level } => {
+            push_text(out, b"wire");
+            push_decimal(out, source);
+            push_decimal(out, level as u64);
         }
         Line::Load { addr } => {
             push_text(out, b"ld");

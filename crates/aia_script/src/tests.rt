@@ -13,6 +13,10 @@ fn machine(harts: u64, guests: u64, n: u64, sources: u64) -> Parsed {
     })
 }
 
+fn wire(source: u64, level: bool) -> Parsed {
+    Parsed::Line(Line::Wire { source, level })
+}
+
 fn store(addr: u64, value: u32) -> Parsed {
     Parsed::Line(Line::Store { addr, value })
 }
@@ -150,6 +154,33 @@ fn lines_are_printed_and_read_again(rt: HostRuntime) {
         },
         "st 0xffffffffffffffff 0xffffffff",
     );
+}
+
+#[test]
+fn wires_are_read_and_printed(rt: HostRuntime) {
+    let texts = [
+        ("wire 1 1", wire(1, true)),
+        ("wire 0x10 0x0", wire(16, false)),
+        ("wire 1 0x0000000000000001", wire(1, true)),
+        ("wire 18446744073709551615 0", wire(u64::MAX, false)),
+        ("wire 1 2", Parsed::Bad),
+        ("wire 1", Parsed::Bad),
+        ("wire 1 1 1", Parsed::Bad),
+        ("wire 1 01", Parsed::Bad),
+    ];
+    for (text, want) in texts {
+        assert_eq!(rt; parse_line(text.as_bytes()), want, "at {text}");
+    }
+    let low = Line::Wire {
+        source: 16,
+        level: false,
+    };
+    prints(&rt, low, "wire 16 0");
+    let high = Line::Wire {
+        source: u64::MAX,
+        level: true,
+    };
+    prints(&rt, high, "wire 18446744073709551615 1");
 }
 
 #[test]
