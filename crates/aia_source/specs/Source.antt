@@ -57,7 +57,7 @@ edge_says before after Moved = if not before && after then Ask else Nothing
 edge_says before after deed = detached_says deed
 
 -- Level: a rise asks and a fall clears; registers are heard only where the domain delivers by MSIs, and ask only while the input is
--- high; a claim leaves it; all else goes by the input.
+-- high; a claim leaves it, an MSI clears it; a write of sourcecfg and a change of delivery go by the input.
 abbrev pub level_says : Bool → Bool → Bool → Deed → Word
 level_says msi before after Moved = if before then (if after then Nothing else Clear) else (if after then Ask else Nothing)
 level_says msi before after Set = if msi && after then Ask else Nothing

@@ -1,0 +1,111 @@
+-- A domain as it is kept: what a store makes of it, and what a load reads.
+use Rattle.std.specs.Prelude.{◌≡◌, ℕ, zero, suc, ◌+◌, ◌-◌, ◌*◌, Bool, true, false, ◌&&◌, nat_eq, if◌then◌else◌, List, [], ◌∷◌, length, All, slice_get}
+use Rattle.std.specs.Int.{swap_bytes, w32}
+use Rattle.aia_word.specs.Sets.{word_of}
+use Rattle.aia_regs.specs.declared.domain_registers.DomainReg.{DomainReg}
+use Rattle.aia_regs.specs.declared.domain_registers.DomainReg.TheVariants.{DomainCfg, SourceCfg, SetIp, SetIpNum, InClrIp, ClrIpNum, SetIe, SetIeNum, ClrIe, ClrIeNum, SetIpNumLe, SetIpNumBe, GenMsi, Target}
+use Rattle.aia_source.specs.Registers.{domaincfg_kept, enables, is_by_msi, in_word, genmsi_kept, same_bool, one_at}
+use Rattle.aia_domain.specs.declared.entry.Touch.TheVariants.{SetPending, ClearPending, SetEnable, ClearEnable}
+use Rattle.aia_domain.specs.declared.entry.Look.TheVariants as looks
+use Rattle.aia_domain.specs.Held.{Held, new_held, changed_at, written_at, touched_where, switched, aimed, waits_of, sourcecfg_of, target_of, bit_at_source}
+
+-- Whether it is a leaf of the tree of domains, which has no child; how many harts there are; IE and DM; genmsi, and whether an MSI that it
+-- asked for is still to be sent; the sources.
+-- AIA 1.0, Advanced Platform-Level Interrupt Controller (APLIC), "Interrupt domains".
+pub record DomainState : Type 0 where
+  pub leaf : Bool
+  pub harts : ℕ
+  pub on : Bool
+  pub msi : Bool
+  pub genmsi : ℕ
+  pub sends : Bool
+  pub sources : List Held
+
+-- A domain as a machine begins: all its sources are inactive. Profile.
+pub record IsNewDomain (source_count hart_count : ℕ) (is_leaf : Bool) (d : DomainState) : Type 0 where
+  pub leaf : d.leaf ≡ is_leaf
+  pub harts : d.harts ≡ hart_count
+  pub on : d.on ≡ false
+  pub msi : d.msi ≡ false
+  pub genmsi : d.genmsi ≡ 0
+  pub sends : d.sends ≡ false
+  pub count : length d.sources ≡ suc source_count
+  pub each : All (λ x. x ≡ new_held) d.sources
+
+-- The same but for its sources.
+abbrev pub with_sources : DomainState → List Held → DomainState
+with_sources d sources = record d { sources = sources }
+
+-- ---- a store
+
+-- A domaincfg is written: where the delivery mode changes, all sources begin with it.
+-- AIA 1.0, Advanced Platform-Level Interrupt Controller (APLIC).
+abbrev pub configured_by : ℕ → Bool → ℕ → Held → Held
+configured_by cfg msi s x = if same_bool msi (is_by_msi cfg) then x else switched (is_by_msi cfg) x
+
+-- What a store of v to a register makes of source s. Number 0 names no source.
+-- AIA 1.0, Advanced Platform-Level Interrupt Controller (APLIC), "Memory-mapped control region for an interrupt domain".
+abbrev pub source_changed : Bool → ℕ → Bool → DomainReg → ℕ → ℕ → Held → Held
+source_changed leaf harts msi DomainCfg v s x = configured_by (domaincfg_kept v) msi s x
+source_changed leaf harts msi (SourceCfg i) v s x = written_at i leaf msi v s x
+source_changed leaf harts msi (Target i) v s x = changed_at i (aimed harts msi v) s x
+source_changed leaf harts msi (SetIp k) v s x = touched_where (in_word k v) msi SetPending s x
+source_changed leaf harts msi SetIpNum v s x = touched_where (nat_eq v) msi SetPending s x
+source_changed leaf harts msi SetIpNumLe v s x = touched_where (nat_eq v) msi SetPending s x
+source_changed leaf harts msi SetIpNumBe v s x = touched_where (nat_eq (swap_bytes w32 v)) msi SetPending s x
+source_changed leaf harts msi (InClrIp k) v s x = touched_where (in_word k v) msi ClearPending s x
+source_changed leaf harts msi ClrIpNum v s x = touched_where (nat_eq v) msi ClearPending s x
+source_changed leaf harts msi (SetIe k) v s x = touched_where (in_word k v) msi SetEnable s x
+source_changed leaf harts msi SetIeNum v s x = touched_where (nat_eq v) msi SetEnable s x
+source_changed leaf harts msi (ClrIe k) v s x = touched_where (in_word k v) msi ClearEnable s x
+source_changed leaf harts msi ClrIeNum v s x = touched_where (nat_eq v) msi ClearEnable s x
+source_changed leaf harts msi reg v s x = x
+
+-- The same in a domain.
+abbrev pub source_after : DomainState → DomainReg → ℕ → ℕ → Held → Held
+source_after d reg v s x = source_changed d.leaf d.harts d.msi reg v s x
+
+-- What a store makes of the domain itself: domaincfg writes IE and DM; genmsi is written only where the domain delivers by MSIs, and a change of
+-- that makes it 0.
+-- AIA 1.0, Advanced Platform-Level Interrupt Controller (APLIC). Profile: what direct delivery and a change make of genmsi.
+abbrev pub domaincfg_written : Bool → Bool → Bool → DomainState → DomainState
+domaincfg_written same on msi d = if same then record d { on = on } else record d { on = on; msi = msi; genmsi = 0; sends = false }
+
+abbrev pub domain_after : DomainReg → ℕ → DomainState → DomainState
+domain_after DomainCfg v d = domaincfg_written (same_bool d.msi (is_by_msi (domaincfg_kept v))) (enables (domaincfg_kept v)) (is_by_msi (domaincfg_kept v)) d
+domain_after GenMsi v d = if d.msi then record d { genmsi = genmsi_kept d.harts v; sends = true } else d
+domain_after reg v d = d
+
+-- ---- a load
+
+-- What a load of a register reads: 0 where none is there. The registers of the harts' delivery are not kept here.
+-- AIA 1.0, Advanced Platform-Level Interrupt Controller (APLIC), "Memory-mapped control region for an interrupt domain".
+abbrev pub domain_read : DomainState → DomainReg → ℕ
+domain_read d DomainCfg = 0x80000000 + one_at d.on 8 + one_at d.msi 2
+domain_read d (SourceCfg i) = sourcecfg_of d.leaf (slice_get d.sources i)
+domain_read d (SetIp k) = word_of (bit_at_source d.sources looks.Pending) (32 * k) 32
+domain_read d (InClrIp k) = word_of (bit_at_source d.sources looks.Input) (32 * k) 32
+domain_read d (SetIe k) = word_of (bit_at_source d.sources looks.Enable) (32 * k) 32
+domain_read d GenMsi = d.genmsi
+domain_read d (Target i) = target_of (slice_get d.sources i)
+domain_read d reg = 0
+
+-- ---- what is to be sent
+
+-- Whether a source is to be forwarded: the domain delivers by MSIs and is enabled, and the source is pending and enabled.
+-- AIA 1.0, Advanced Platform-Level Interrupt Controller (APLIC), "Interrupt forwarding by MSIs".
+abbrev pub is_ready : DomainState → ℕ → Bool
+is_ready d s = d.msi && d.on && waits_of (slice_get d.sources s)
+
+-- The sources of `count` numbers from `from` on that are to be forwarded, rising.
+abbrev pub with_ready : Bool → ℕ → List ℕ → List ℕ
+with_ready true s later = s ∷ later
+with_ready false s later = later
+
+unfoldable pub ready_among : (ℕ → Bool) → ℕ → ℕ → List ℕ
+ready_among ready from zero = []
+ready_among ready from (suc count) = with_ready (ready from) from (ready_among ready (suc from) count)
+
+-- Those from a number on, up to the last source.
+unfoldable pub ready_from : DomainState → ℕ → List ℕ
+ready_from d from = ready_among (is_ready d) from (length d.sources - from)

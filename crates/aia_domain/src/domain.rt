@@ -1,0 +1,250 @@
+ghost use Rattle.std.specs.Prelude.{◌≡◌, suc, ◌≤◌, ◌<◌, Bool, length, slice_get, Some, None, IfOk, if◌then◌else◌};
+ghost use Rattle.aia_source.specs.Registers.{enables, is_by_msi, same_bool};
+ghost use Rattle.aia_source.specs.Source.Deed.{Claimed, Forwarded};
+ghost use Rattle.aia_domain.specs.Held.{EachSource, changed_at, granted_at, wired, with_deed, held_at, bit_at_source, target_of};
+ghost use Rattle.aia_domain.specs.Domain.{IsNewDomain, with_sources, configured_by, source_after, domain_after, domaincfg_written, domain_read, is_ready, ready_from};
+
+use crate::entries::{
+    aim_one, claim_one, configure_one, forward_one, grant_one, is_waiting, new_entries,
+    sourcecfg_of, switch_all, target_of, touch_one, touch_word, wire_one, word_shown,
+};
+use crate::entry::{Entry, Look, Touch};
+use crate::kept::{domaincfg_kept, enables, genmsi_kept, is_by_msi};
+use crate::ready::Ready;
+use aia_regs::{DomainReg, swap32};
+use aia_source::Wired;
+use std::alloc::{AllocError, Global};
+use std::marker::Model;
+
+/// One interrupt domain of an APLIC, as wired sources and registers see it. The registers of the harts' delivery are not kept here: they
+/// read 0 and ignore writes.
+///
+/// AIA 1.0, Advanced Platform-Level Interrupt Controller (APLIC), "Interrupt domains".
+#[derive(Drop)]
+pub struct Domain {
+    leaf: bool,
+    harts: u32,
+    on: bool,
+    msi: bool,
+    genmsi: u32,
+    sends: bool,
+    /// By number; the one of number 0 is no source, and inactive for good.
+    sources: Vec<Entry>,
+}
+
+impl Model for Domain {
+    ghost use Rattle.std.specs.Prelude.{◌<◌, ◌≤◌, length};
+    ghost use Rattle.aia_domain.specs.Domain.{DomainState};
+
+    ghost Value = { DomainState };
+
+    ghost view = { λ d. record { leaf = d.leaf; harts = d.harts; on = d.on; msi = d.msi; genmsi = d.genmsi; sends = d.sends; sources = d.sources.items } };
+
+    ghost invariant = { λ d. (d.harts ≤ 4) × (0 < length d.sources.items) × (length d.sources.items ≤ 1024) };
+}
+
+impl Domain {
+    /// A domain of `sources` wired sources, 1 to 1023, and `harts` harts, 1 to 4: the root domain, or, as a `leaf`, its child. Every
+    /// source is inactive, and every register 0 but `domaincfg`.
+    pub fn new(alloc: Global, sources: u32, harts: u32, leaf: bool) -> Result<Domain, AllocError>
+        requires some { 1 ≤ sources }
+        requires few { sources ≤ 1023 }
+        requires harts { harts ≤ 4 }
+        ensures { IfOk result (IsNewDomain sources harts leaf) }
+    {
+        let sources = new_entries(alloc, sources + 1)?;
+        Ok(Domain {
+            leaf,
+            harts,
+            on: false,
+            msi: false,
+            genmsi: 0,
+            sends: false,
+            sources,
+        })
+    }
+
+    /// How many wired sources there are, 1 to 1023.
+    pub fn sources(&self) -> u32
+        ensures count { length self.now.sources ≡ suc result }
+        ensures few { result ≤ 1023 }
+    {
+        self.sources.len() as u32 - 1
+    }
+
+    /// What a register reads: 0 where none is there.
+    ///
+    /// AIA 1.0, Advanced Platform-Level Interrupt Controller (APLIC), "Memory-mapped control region for an interrupt domain".
+    pub fn load(&self, reg: DomainReg) -> u32
+        ensures { result ≡ domain_read self.now reg }
+    {
+        match reg {
+            DomainReg::DomainCfg => self.domaincfg(),
+            DomainReg::SourceCfg(i) => sourcecfg_of(&self.sources, i, self.leaf),
+            DomainReg::SetIp(k) => word_shown(&self.sources, k, Look::Pending),
+            DomainReg::InClrIp(k) => word_shown(&self.sources, k, Look::Input),
+            DomainReg::SetIe(k) => word_shown(&self.sources, k, Look::Enable),
+            DomainReg::GenMsi => self.genmsi,
+            DomainReg::Target(i) => target_of(&self.sources, i),
+            _ => 0,
+        }
+    }
+
+    fn domaincfg(&self) -> u32
+        ensures { result ≡ domain_read self.now DomainReg.DomainCfg }
+    {
+        0x8000_0000 + if self.on { 0x100 } else { 0 } + if self.msi { 4 } else { 0 }
+    }
+
+    /// A register is written; where none is there, nothing is done.
+    ///
+    /// AIA 1.0, Advanced Platform-Level Interrupt Controller (APLIC), "Memory-mapped control region for an interrupt domain".
+    pub fn store(&mut self, reg: DomainReg, value: u32)
+        ensures sources { EachSource self.old.sources self.new.sources (source_after self.old reg value) }
+        ensures domain { self.new ≡ with_sources (domain_after reg value self.old) self.new.sources }
+    {
+        let msi = self.msi;
+        let sources = &mut self.sources;
+        match reg {
+            DomainReg::DomainCfg => self.write_domaincfg(domaincfg_kept(value)),
+            DomainReg::SourceCfg(i) => configure_one(sources, i, self.leaf, msi, value),
+            DomainReg::SetIp(k) => touch_word(sources, k, value, Touch::SetPending, msi),
+            DomainReg::SetIpNum | DomainReg::SetIpNumLe => {
+                touch_one(sources, u64::from(value), Touch::SetPending, msi);
+            }
+            DomainReg::SetIpNumBe => {
+                touch_one(sources, u64::from(swap32(value)), Touch::SetPending, msi);
+            }
+            DomainReg::InClrIp(k) => touch_word(sources, k, value, Touch::ClearPending, msi),
+            DomainReg::ClrIpNum => touch_one(sources, u64::from(value), Touch::ClearPending, msi),
+            DomainReg::SetIe(k) => touch_word(sources, k, value, Touch::SetEnable, msi),
+            DomainReg::SetIeNum => touch_one(sources, u64::from(value), Touch::SetEnable, msi),
+            DomainReg::ClrIe(k) => touch_word(sources, k, value, Touch::ClearEnable, msi),
+            DomainReg::ClrIeNum => touch_one(sources, u64::from(value), Touch::ClearEnable, msi),
+            DomainReg::GenMsi => self.write_genmsi(value),
+            DomainReg::Target(i) => aim_one(sources, i, self.harts, msi, value),
+            _ => {}
+        }
+    }
+
+    fn write_domaincfg(&mut self, cfg: u32)
+        ensures sources { EachSource self.old.sources self.new.sources (configured_by cfg self.old.msi) }
+        ensures domain { self.new ≡ with_sources (domaincfg_written (same_bool self.old.msi (is_by_msi cfg)) (enables cfg) (is_by_msi cfg) self.old) self.new.sources }
+    {
+        let msi = is_by_msi(cfg);
+        self.on = enables(cfg);
+        if msi != self.msi {
+            self.msi = msi;
+            self.genmsi = 0;
+            self.sends = false;
+            switch_all(&mut self.sources, msi);
+        }
+    }
+
+    fn write_genmsi(&mut self, value: u32)
+        ensures { self.new ≡ domain_after DomainReg.GenMsi value self.old }
+    {
+        if self.msi {
+            self.genmsi = genmsi_kept(self.harts, value);
+            self.sends = true;
+        }
+    }
+
+    /// The wire of a source gets a level; a number that is no source's changes none.
+    pub fn wire(&mut self, s: u32, level: bool)
+        ensures sources { EachSource self.old.sources self.new.sources (changed_at s (wired self.old.msi level)) }
+        ensures domain { self.new ≡ with_sources self.old self.new.sources }
+    {
+        wire_one(&mut self.sources, s, level, self.msi);
+    }
+
+    /// The root domain delegates a source to this one, its child: where that is new, the source begins inactive here.
+    pub fn grant(&mut self, s: u32)
+        ensures sources { EachSource self.old.sources self.new.sources (granted_at s Bool.true self.old.msi) }
+        ensures domain { self.new ≡ with_sources self.old self.new.sources }
+    {
+        grant_one(&mut self.sources, s, true, self.msi);
+    }
+
+    /// The root domain does not delegate a source to this one, its child: where it did, the source is inactive here from now on.
+    pub fn withdraw(&mut self, s: u32)
+        ensures sources { EachSource self.old.sources self.new.sources (granted_at s Bool.false self.old.msi) }
+        ensures domain { self.new ≡ with_sources self.old self.new.sources }
+    {
+        grant_one(&mut self.sources, s, false, self.msi);
+    }
+
+    /// A claim in direct delivery shows a source: its pending bit falls, but for one at a level mode.
+    pub fn claimed(&mut self, s: u32)
+        ensures sources { EachSource self.old.sources self.new.sources (changed_at s (with_deed Bool.false Claimed)) }
+        ensures domain { self.new ≡ with_sources self.old self.new.sources }
+    {
+        claim_one(&mut self.sources, s);
+    }
+
+    /// The MSI of a source is sent: its pending bit falls.
+    pub fn forwarded(&mut self, s: u32)
+        ensures sources { EachSource self.old.sources self.new.sources (changed_at s (with_deed Bool.true Forwarded)) }
+        ensures domain { self.new ≡ with_sources self.old self.new.sources }
+    {
+        forward_one(&mut self.sources, s);
+    }
+
+    /// What `genmsi` keeps, where an MSI that it asked for is still to be sent, which is then done.
+    pub fn take_genmsi(&mut self) -> Option<u32>
+        ensures taken { result ≡ (if self.old.sends then Some self.old.genmsi else None) }
+        ensures domain { self.new ≡ record self.old { sends = Bool.false } }
+    {
+        if !self.sends {
+            return None;
+        }
+        self.sends = false;
+        Some(self.genmsi)
+    }
+
+    /// The sources that are to be forwarded, in rising order: the pending enabled ones, where the domain delivers by MSIs and its interrupts
+    /// are enabled.
+    ///
+    /// AIA 1.0, Advanced Platform-Level Interrupt Controller (APLIC), "Interrupt forwarding by MSIs".
+    pub fn ready(&self) -> Ready<'_>
+        ensures { ready_from result.domain.now result.at ≡ ready_from self.now 0 }
+    {
+        Ready::new(self)
+    }
+
+    /// A source that is there.
+    pub fn source(&self, s: u32) -> &Wired
+        requires there { s < length self.now.sources }
+        ensures { slice_get self.now.sources s ≡ Some (record (held_at self.now.sources s) { source = result.now }) }
+    {
+        self.sources[s as usize].wired()
+    }
+
+    /// The enable bit of a source, false where the source isn't there.
+    pub fn enabled(&self, s: u32) -> bool
+        ensures { result ≡ bit_at_source self.now.sources Look.Enable s }
+    {
+        (s as usize) < self.sources.len() && self.sources[s as usize].enabled()
+    }
+
+    /// The `target` of a source, 0 where the source isn't there.
+    pub fn target(&self, s: u32) -> u32
+        ensures { result ≡ target_of (slice_get self.now.sources s) }
+    {
+        target_of(&self.sources, s)
+    }
+
+    /// The number after the greatest source's.
+    pub(crate) fn places(&self) -> u32
+        ensures { result ≡ length self.now.sources }
+    {
+        self.sources.len() as u32
+    }
+
+    /// Whether a source is to be forwarded.
+    pub(crate) fn is_ready(&self, s: u32) -> bool
+        ensures { result ≡ is_ready self.now s }
+    {
+        self.msi && self.on && is_waiting(&self.sources, s)
+    }
+}

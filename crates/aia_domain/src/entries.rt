@@ -1,0 +1,171 @@
+//! The sources of a domain, by their numbers: each function here changes some of them, and leaves the others as they are.
+
+ghost use Rattle.std.specs.Prelude.{◌≡◌, ◌*◌, ◌≤◌, Bool, slice_get, length, All, IfOk, if◌then◌else◌};
+ghost use Rattle.aia_word.specs.Sets.{word_of};
+ghost use Rattle.aia_source.specs.Source.Deed.{Claimed, Forwarded};
+ghost use Rattle.aia_source.specs.Registers.{in_word};
+ghost use Rattle.aia_domain.specs.Held.{EachSource, new_held, changed_at, touched, touched_where, written_at, all_switched, switched, aimed, sourcecfg_written, granted_at, wired, with_deed, sourcecfg_of, target_of, bit_at_source, waits_of};
+
+use crate::entry::{Entry, Look, Touch};
+use std::alloc::{AllocError, Global};
+
+/// The sources that a register has in one word.
+const WORD: u32 = 32;
+
+/// So many sources as a domain begins.
+pub(crate) fn new_entries(alloc: Global, count: u32) -> Result<Vec<Entry>, AllocError>
+    ensures length { IfOk result (λ entries. length entries.items ≡ count) }
+    ensures each { IfOk result (λ entries. All (λ x. x ≡ new_held) entries.items) }
+{
+    let mut entries = Vec::new(alloc);
+    for _number in 0..count {
+        entries.push(Entry::new())?;
+    }
+    Ok(entries)
+}
+
+/// One source is touched, where it is there.
+pub(crate) fn touch_one(entries: &mut [Entry], s: u64, touch: Touch, msi: bool)
+    ensures { EachSource entries.old entries.new (changed_at s (touched msi touch)) }
+{
+    if s < entries.len() as u64 {
+        entries[s as usize].touch(touch, msi);
+    }
+}
+
+/// The sources of word `k` whose bits are ones in `value` are touched.
+pub(crate) fn touch_word(entries: &mut [Entry], k: u32, value: u32, touch: Touch, msi: bool)
+    ensures { EachSource entries.old entries.new (touched_where (in_word k value) msi touch) }
+{
+    for bit in 0..WORD {
+        if (value >> bit) & 1 == 1 {
+            let s = u64::from(WORD) * u64::from(k) + u64::from(bit);
+            touch_one(entries, s, touch, msi);
+        }
+    }
+}
+
+/// The `sourcecfg` of a source is written, where it is there.
+pub(crate) fn configure_one(entries: &mut [Entry], s: u32, leaf: bool, msi: bool, value: u32)
+    ensures { EachSource entries.old entries.new (written_at s leaf msi value) }
+{
+    if s == 0 {
+        return;
+    }
+    if (s as usize) < entries.len() {
+        entries[s as usize].write_sourcecfg(leaf, msi, value);
+    }
+}
+
+/// The `target` of a source is written, where it is there.
+pub(crate) fn aim_one(entries: &mut [Entry], s: u32, harts: u32, msi: bool, value: u32)
+    requires few { harts ≤ 4 }
+    ensures { EachSource entries.old entries.new (changed_at s (aimed harts msi value)) }
+{
+    if (s as usize) < entries.len() {
+        entries[s as usize].aim(harts, msi, value);
+    }
+}
+
+/// The delivery mode of the domain is now this one.
+pub(crate) fn switch_all(entries: &mut [Entry], msi: bool)
+    ensures { EachSource entries.old entries.new (all_switched msi) }
+{
+    for s in 0..entries.len() {
+        switch_one(entries, s, msi);
+    }
+}
+
+fn switch_one(entries: &mut [Entry], s: usize, msi: bool)
+    ensures { EachSource entries.old entries.new (changed_at s (switched msi)) }
+{
+    if s < entries.len() {
+        entries[s].switch(msi);
+    }
+}
+
+/// The child domain gets a source, or loses it.
+pub(crate) fn grant_one(entries: &mut [Entry], s: u32, given: bool, msi: bool)
+    ensures { EachSource entries.old entries.new (granted_at s given msi) }
+{
+    if s == 0 {
+        return;
+    }
+    if (s as usize) < entries.len() {
+        entries[s as usize].grant(given, msi);
+    }
+}
+
+/// The wire of a source gets a level, where it is there.
+pub(crate) fn wire_one(entries: &mut [Entry], s: u32, level: bool, msi: bool)
+    ensures { EachSource entries.old entries.new (changed_at s (wired msi level)) }
+{
+    if (s as usize) < entries.len() {
+        entries[s as usize].wire(level, msi);
+    }
+}
+
+/// A claim shows a source.
+pub(crate) fn claim_one(entries: &mut [Entry], s: u32)
+    ensures { EachSource entries.old entries.new (changed_at s (with_deed Bool.false Claimed)) }
+{
+    if (s as usize) < entries.len() {
+        entries[s as usize].claim();
+    }
+}
+
+/// The MSI of a source is sent.
+pub(crate) fn forward_one(entries: &mut [Entry], s: u32)
+    ensures { EachSource entries.old entries.new (changed_at s (with_deed Bool.true Forwarded)) }
+{
+    if (s as usize) < entries.len() {
+        entries[s as usize].forward();
+    }
+}
+
+/// The `sourcecfg` of a source, 0 where it isn't there.
+pub(crate) fn sourcecfg_of(entries: &[Entry], s: u32, leaf: bool) -> u32
+    ensures { result ≡ sourcecfg_of leaf (slice_get entries.now s) }
+{
+    match entries.get(s as usize) {
+        Some(entry) => entry.sourcecfg(leaf),
+        None => 0,
+    }
+}
+
+/// The `target` of a source, 0 where it isn't there.
+pub(crate) fn target_of(entries: &[Entry], s: u32) -> u32
+    ensures { result ≡ target_of (slice_get entries.now s) }
+{
+    match entries.get(s as usize) {
+        Some(entry) => entry.target(),
+        None => 0,
+    }
+}
+
+/// The bit of a source in a register, a zero where it isn't there.
+fn bit_of(entries: &[Entry], s: u64, look: Look) -> u32
+    ensures value { result ≡ (if bit_at_source entries.now look s then 1 else 0) }
+    ensures small { result ≤ 1 }
+{
+    u32::from(s < entries.len() as u64 && entries[s as usize].bit(look))
+}
+
+/// Whether a source is pending and enabled; one that isn't there is not.
+pub(crate) fn is_waiting(entries: &[Entry], s: u32) -> bool
+    ensures { result ≡ waits_of (slice_get entries.now s) }
+{
+    (s as usize) < entries.len() && entries[s as usize].waits()
+}
+
+/// Word `k` of a register that shows the sources: their bits, the lowest source in the lowest bit.
+pub(crate) fn word_shown(entries: &[Entry], k: u32, look: Look) -> u32
+    ensures { result ≡ word_of (bit_at_source entries.now look) (32 * k) 32 }
+{
+    let first = u64::from(WORD) * u64::from(k);
+    let mut word = 0;
+    for bit in (0..WORD).rev() {
+        word = 2 * word + bit_of(entries, first + u64::from(bit), look);
+    }
+    word
+}

@@ -1,0 +1,206 @@
+ghost use Rattle.std.specs.Prelude.{◌≡◌, ◌≤◌, Bool};
+ghost use Rattle.aia_source.specs.Source.{is_active};
+ghost use Rattle.aia_source.specs.Source.Deed.{Claimed, Forwarded};
+ghost use Rattle.aia_domain.specs.Held.{Held, new_held, with_deed, touched, configured, switched, aimed, sourcecfg_written, granted, wired, sourcecfg_shown, bit_shown, waits};
+
+use crate::kept::{
+    DELEGATED, child_sourcecfg, delegates, first_target, mode_number, mode_of, root_sourcecfg,
+    target_kept,
+};
+use aia_source::{Mode, Wired};
+use std::marker::Model;
+
+/// What a register does to the bits of the sources that a write names.
+#[derive(Clone, Copy, Debug, PartialEq, Eq)]
+pub enum Touch {
+    /// `setip` and its kin.
+    SetPending,
+    /// `in_clrip` and `clripnum`.
+    ClearPending,
+    /// `setie` and `setienum`.
+    SetEnable,
+    /// `clrie` and `clrienum`.
+    ClearEnable,
+}
+
+/// Which bit of each source a register shows.
+#[derive(Clone, Copy, Debug, PartialEq, Eq)]
+pub enum Look {
+    /// `setip`: the pending bit.
+    Pending,
+    /// `in_clrip`: the rectified input.
+    Input,
+    /// `setie`: the enable bit.
+    Enable,
+}
+
+/// What a domain keeps of one source.
+#[derive(Debug, Drop)]
+pub struct Entry {
+    wired: Wired,
+    enabled: bool,
+    target: u32,
+    /// Whether the root domain delegates it to the child domain; each of the two keeps it.
+    delegated: bool,
+}
+
+impl Model for Entry {
+    ghost Value = { Held };
+
+    ghost view = { λ e. record { source = e.wired; enabled = e.enabled; target = e.target; delegated = e.delegated } };
+}
+
+impl Entry {
+    pub(crate) fn new() -> Entry
+        ensures { result ≡ new_held }
+    {
+        Entry {
+            wired: Wired::new(),
+            enabled: false,
+            target: 0,
+            delegated: false,
+        }
+    }
+
+    pub(crate) fn wired(&self) -> &Wired
+        ensures { result.now ≡ self.now.source }
+    {
+        &self.wired
+    }
+
+    pub(crate) fn enabled(&self) -> bool
+        ensures { result ≡ self.now.enabled }
+    {
+        self.enabled
+    }
+
+    pub(crate) fn target(&self) -> u32
+        ensures { result ≡ self.now.target }
+    {
+        self.target
+    }
+
+    fn is_active(&self) -> bool
+        ensures { result ≡ is_active self.now.source.mode }
+    {
+        self.wired.mode() != Mode::Inactive
+    }
+
+    /// Its bit in a register.
+    pub(crate) fn bit(&self, look: Look) -> bool
+        ensures { result ≡ bit_shown look self.now }
+    {
+        match look {
+            Look::Pending => self.wired.pending(),
+            Look::Input => self.wired.rectified(),
+            Look::Enable => self.enabled,
+        }
+    }
+
+    /// Its `sourcecfg`.
+    pub(crate) fn sourcecfg(&self, leaf: bool) -> u32
+        ensures { result ≡ sourcecfg_shown leaf self.now }
+    {
+        if !leaf && self.delegated {
+            DELEGATED
+        } else {
+            mode_number(self.wired.mode())
+        }
+    }
+
+    /// Whether it is pending and enabled.
+    pub(crate) fn waits(&self) -> bool
+        ensures { result ≡ waits self.now }
+    {
+        self.wired.pending() && self.enabled
+    }
+
+    pub(crate) fn touch(&mut self, touch: Touch, msi: bool)
+        ensures { self.new ≡ touched msi touch self.old }
+    {
+        match touch {
+            Touch::SetPending => self.wired.set(msi),
+            Touch::ClearPending => self.wired.clear(msi),
+            Touch::SetEnable => self.enabled = self.is_active(),
+            Touch::ClearEnable => self.enabled = false,
+        }
+    }
+
+    fn configure(&mut self, mode: Mode, msi: bool)
+        ensures { self.new ≡ configured msi mode self.old }
+    {
+        let was_active = self.is_active();
+        self.wired.recfg(mode);
+        if mode == Mode::Inactive {
+            self.enabled = false;
+            self.target = 0;
+        } else if !was_active {
+            self.enabled = false;
+            self.target = first_target(msi);
+        }
+    }
+
+    /// Its `sourcecfg` is written.
+    pub(crate) fn write_sourcecfg(&mut self, leaf: bool, msi: bool, value: u32)
+        ensures { self.new ≡ sourcecfg_written leaf msi value self.old }
+    {
+        if !leaf {
+            self.configure(mode_of(root_sourcecfg(value)), msi);
+            self.delegated = delegates(value);
+        } else if self.delegated {
+            self.configure(mode_of(child_sourcecfg(value)), msi);
+        }
+    }
+
+    /// The delivery mode of its domain is now this one.
+    pub(crate) fn switch(&mut self, msi: bool)
+        ensures { self.new ≡ switched msi self.old }
+    {
+        self.wired.delivery_changed();
+        self.target = if self.is_active() {
+            first_target(msi)
+        } else {
+            0
+        };
+    }
+
+    /// Its `target` is written.
+    pub(crate) fn aim(&mut self, harts: u32, msi: bool, value: u32)
+        requires few { harts ≤ 4 }
+        ensures { self.new ≡ aimed harts msi value self.old }
+    {
+        self.target = if self.is_active() {
+            target_kept(harts, msi, value)
+        } else {
+            0
+        };
+    }
+
+    /// The child domain gets it, or loses it.
+    pub(crate) fn grant(&mut self, given: bool, msi: bool)
+        ensures { self.new ≡ granted given msi self.old }
+    {
+        if self.delegated != given {
+            self.configure(Mode::Inactive, msi);
+            self.delegated = given;
+        }
+    }
+
+    pub(crate) fn wire(&mut self, level: bool, msi: bool)
+        ensures { self.new ≡ wired msi level self.old }
+    {
+        self.wired.wire(level, msi);
+    }
+
+    pub(crate) fn claim(&mut self)
+        ensures { self.new ≡ with_deed Bool.false Claimed self.old }
+    {
+        self.wired.clear(false);
+    }
+
+    pub(crate) fn forward(&mut self)
+        ensures { self.new ≡ with_deed Bool.true Forwarded self.old }
+    {
+        self.wired.forwarded();
+    }
+}

@@ -1,0 +1,14 @@
+//! One interrupt domain of an APLIC: its registers, its sources, and which of them are to be sent.
+#![tactic(auto)]
+
+mod domain;
+mod entries;
+mod entry;
+mod kept;
+mod ready;
+#[cfg(test)]
+mod tests;
+
+pub use domain::Domain;
+pub use kept::delegates;
+pub use ready::Ready;

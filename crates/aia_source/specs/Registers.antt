@@ -1,0 +1,141 @@
+-- The registers of a domain that concern its wired sources: what a write of each keeps, and which sources it names.
+use Rattle.std.specs.Prelude.{ℕ, ◌+◌, ◌*◌, ◌/◌, ◌%◌, ◌^◌, Bool, true, false, not, ◌&&◌, ◌||◌, nat_eq, nat_lt, bit_and, if◌then◌else◌}
+use Rattle.std.specs.Int.{swap_bytes, w32}
+use Rattle.aia_regs.specs.declared.domain_registers.DomainReg.{DomainReg}
+use Rattle.aia_regs.specs.declared.domain_registers.DomainReg.TheVariants.{SetIp, SetIpNum, InClrIp, ClrIpNum, SetIe, SetIeNum, ClrIe, ClrIeNum, SetIpNumLe, SetIpNumBe}
+use Rattle.aia_regs.specs.Fields.{field}
+use Rattle.aia_regs.specs.Operations.{is_one}
+use Rattle.aia_source.specs.declared.mode.Mode.{Mode}
+use Rattle.aia_source.specs.declared.mode.Mode.TheVariants.{Inactive, Detached, RisingEdge, FallingEdge, LevelHigh, LevelLow}
+
+-- ---- domaincfg
+
+-- What a write keeps: IE, bit 8.
+-- AIA 1.0, Advanced Platform-Level Interrupt Controller (APLIC). Profile: BE, bit 0, is read-only zero; DM, bit 2, is so until this model
+-- has the delivery of MSIs.
+abbrev pub domaincfg_kept : ℕ → ℕ
+domaincfg_kept v = bit_and v 0x100
+
+-- Whether a domaincfg enables the domain's interrupts (IE), and whether it delivers them by MSIs (DM).
+abbrev pub enables : ℕ → Bool
+enables cfg = is_one cfg 8
+
+abbrev pub is_by_msi : ℕ → Bool
+is_by_msi cfg = is_one cfg 2
+
+-- ---- sourcecfg
+
+-- The source mode that a write of this SM keeps.
+-- AIA 1.0, Advanced Platform-Level Interrupt Controller (APLIC). Profile: a reserved one, 2 or 3, becomes 0, inactive.
+abbrev pub legal_mode : ℕ → ℕ
+legal_mode sm = if nat_eq sm 2 || nat_eq sm 3 then 0 else sm
+
+-- What a write keeps in the root domain: with D, bit 10, the source is delegated to the child domain that bits 9:0 name; without, SM,
+-- bits 2:0, is its mode.
+-- AIA 1.0, Advanced Platform-Level Interrupt Controller (APLIC). Profile: there is one child, with the index 0; another index makes the register 0.
+abbrev pub root_sourcecfg : ℕ → ℕ
+root_sourcecfg v = if is_one v 10 then (if nat_eq (field v 9 0) 0 then 0x400 else 0) else legal_mode (field v 2 0)
+
+-- What it keeps in the child domain, which has no child: D makes the register 0.
+-- AIA 1.0, Advanced Platform-Level Interrupt Controller (APLIC).
+abbrev pub child_sourcecfg : ℕ → ℕ
+child_sourcecfg v = if is_one v 10 then 0 else legal_mode (field v 2 0)
+
+-- Whether a sourcecfg of the root domain delegates the source.
+abbrev pub delegates : ℕ → Bool
+delegates cfg = nat_eq cfg 0x400
+
+-- The mode that a sourcecfg gives.
+-- AIA 1.0, Advanced Platform-Level Interrupt Controller (APLIC).
+abbrev pub mode_of : ℕ → Mode
+mode_of cfg =
+    if nat_eq cfg 1 then Detached
+    else (if nat_eq cfg 4 then RisingEdge
+    else (if nat_eq cfg 5 then FallingEdge
+    else (if nat_eq cfg 6 then LevelHigh
+    else (if nat_eq cfg 7 then LevelLow
+    else Inactive))))
+
+-- The SM of a mode.
+-- AIA 1.0, Advanced Platform-Level Interrupt Controller (APLIC).
+abbrev pub mode_number : Mode → ℕ
+mode_number Inactive = 0
+mode_number Detached = 1
+mode_number RisingEdge = 4
+mode_number FallingEdge = 5
+mode_number LevelHigh = 6
+mode_number LevelLow = 7
+
+-- ---- which sources a store names: by the ones of a word of 32, or by number
+-- AIA 1.0, Advanced Platform-Level Interrupt Controller (APLIC), "Memory-mapped control region for an interrupt domain".
+
+-- Word k has the sources 32k to 32k + 31.
+abbrev pub in_word : ℕ → ℕ → ℕ → Bool
+in_word k v s = nat_eq (s / 32) k && is_one v (s % 32)
+
+abbrev pub sets_pending : DomainReg → ℕ → ℕ → Bool
+sets_pending (SetIp k) v s = in_word k v s
+sets_pending SetIpNum v s = nat_eq v s
+sets_pending SetIpNumLe v s = nat_eq v s
+sets_pending SetIpNumBe v s = nat_eq (swap_bytes w32 v) s
+sets_pending reg v s = false
+
+abbrev pub clears_pending : DomainReg → ℕ → ℕ → Bool
+clears_pending (InClrIp k) v s = in_word k v s
+clears_pending ClrIpNum v s = nat_eq v s
+clears_pending reg v s = false
+
+abbrev pub sets_enable : DomainReg → ℕ → ℕ → Bool
+sets_enable (SetIe k) v s = in_word k v s
+sets_enable SetIeNum v s = nat_eq v s
+sets_enable reg v s = false
+
+abbrev pub clears_enable : DomainReg → ℕ → ℕ → Bool
+clears_enable (ClrIe k) v s = in_word k v s
+clears_enable ClrIeNum v s = nat_eq v s
+clears_enable reg v s = false
+
+-- ---- target and genmsi
+
+-- The target of a source that becomes active, and of each active source when the delivery mode changes: hart 0, and where the domain
+-- delivers directly priority 1. Profile.
+abbrev pub first_target : Bool → ℕ
+first_target msi = if msi then 0 else 1
+
+-- The hart index that a write keeps, of so many harts. Profile: one that isn't there becomes 0.
+abbrev pub legal_hart : ℕ → ℕ → ℕ
+legal_hart harts x = if nat_lt x harts then x else 0
+
+-- The priority that a write keeps: 0 becomes 1.
+-- AIA 1.0, Advanced Platform-Level Interrupt Controller (APLIC).
+abbrev pub legal_priority : ℕ → ℕ
+legal_priority x = if nat_eq x 0 then 1 else x
+
+-- What a write keeps in bits 31:18, the hart index.
+abbrev pub hart_kept : ℕ → ℕ → ℕ
+hart_kept harts v = legal_hart harts (field v 31 18) * 2 ^ 18
+
+-- What a write of a source's target keeps: the hart index, and the priority in bits 7:0, or by MSIs the identity in bits 10:0.
+-- AIA 1.0, Advanced Platform-Level Interrupt Controller (APLIC). Profile: by MSIs the guest index, bits 17:12, is read-only zero.
+abbrev pub target_kept : ℕ → Bool → ℕ → ℕ
+target_kept harts msi v = hart_kept harts v + (if msi then field v 10 0 else legal_priority (field v 7 0))
+
+-- What a write of genmsi keeps where the domain delivers by MSIs: the hart index and the identity; Busy, bit 12, is 0.
+-- AIA 1.0, Advanced Platform-Level Interrupt Controller (APLIC). Profile: the MSI is sent at once.
+abbrev pub genmsi_kept : ℕ → ℕ → ℕ
+genmsi_kept harts v = hart_kept harts v + field v 10 0
+
+-- ---- bits and conditions
+
+-- Whether two are the same. Profile.
+abbrev pub same_bool : Bool → Bool → Bool
+same_bool true b = b
+same_bool false b = not b
+
+-- A number with a one at bit b, or with none. Profile.
+abbrev pub one_at : Bool → ℕ → ℕ
+one_at is b = if is then 2 ^ b else 0
+
+-- Whether a register's index is a source's number; 0 is none's. Profile: sources are numbered from 1.
+abbrev pub is_named : ℕ → ℕ → Bool
+is_named i s = nat_eq i s && nat_lt 0 s
