@@ -6,10 +6,12 @@ use Rattle.aia_regs.specs.declared.access.Op.{Op}
 use Rattle.aia_csr.specs.declared.access.Level.TheVariants as levels
 use Rattle.aia_csr.specs.Access.{access_of}
 use Rattle.aia_model.specs.declared.line.Line.{Line}
-use Rattle.aia_model.specs.declared.line.Line.TheVariants.{Machine, Load, Store, MachineCsr, HostCsr}
+use Rattle.aia_model.specs.declared.line.Line.TheVariants.{Machine, Wire, Load, Store, MachineCsr, HostCsr}
 use Rattle.aia_model.specs.declared.answer.Answer.{Answer}
 use Rattle.aia_model.specs.declared.answer.Answer.TheVariants.{NoMachine, Again, Range, Illegal, Fault, Guarded}
 use Rattle.aia_model.specs.Event.{History, has_machine, harts_of}
+use Rattle.aia_model.specs.Act.{acts_of}
+use Rattle.aia_model.specs.SourceOf.{is_source}
 use Rattle.aia_model.specs.FileOf.{MachineFile, SupervisorFile, page_at, select_of}
 use Rattle.aia_model.specs.Refusal.{refusal, raises_illegal, faults, guards, place_refusal, is_machine_size, lacks_machine, has_one_already, is_out_of_range, is_illegal, is_fault, is_guarded}
 use Rattle.aia_model.specs.Answer.{answer, after, accepted_answer, history_after}
@@ -47,6 +49,9 @@ refusal_tests h line =
 
 pub machine_refusal : (h : History) (harts guests n sources : ℕ) → refusal h (Machine harts guests n sources) ≡ cond (has_machine h) (Some Again) (cond (not (is_machine_size harts guests n sources)) (Some Range) None)
 machine_refusal h harts guests n sources = refusal_tests h (Machine harts guests n sources)
+
+pub wire_refusal : (h : History) (source : ℕ) (level : Bool) → has_machine h ≡ true → refusal h (Wire source level) ≡ cond (not (is_source (acts_of h) source)) (Some Range) None
+wire_refusal h source level there = refusal_tests h (Wire source level) ∙ ap (λ b. first_word (not b) false (not (is_source (acts_of h) source)) false false false) there
 
 pub load_refusal : (h : History) (addr : ℕ) → has_machine h ≡ true → refusal h (Load addr) ≡ place_refusal (page_at h addr) addr
 load_refusal h addr there = refusal_tests h (Load addr) ∙ ap (λ b. first_word (not b) false false false (faults (page_at h addr) addr) (guards (page_at h addr) addr)) there

@@ -6,11 +6,13 @@ use Rattle.aia_regs.specs.declared.access.Csr.TheVariants.{Select, Reg, Topei}
 use Rattle.aia_regs.specs.FileRegisters.{register_of}
 use Rattle.aia_file.specs.InterruptFile.{InterruptFile, register_value, top_of}
 use Rattle.aia_model.specs.declared.line.Line.{Line}
-use Rattle.aia_model.specs.declared.line.Line.TheVariants.{Machine, Load, Store, MachineCsr, HostCsr}
+use Rattle.aia_model.specs.declared.line.Line.TheVariants.{Machine, Wire, Load, Store, MachineCsr, HostCsr}
 use Rattle.aia_model.specs.declared.answer.Answer.{Answer}
 use Rattle.aia_model.specs.declared.answer.Answer.TheVariants.{Okay, Narrow, Wide}
 use Rattle.aia_model.specs.Event.{History}
 use Rattle.aia_model.specs.Event.Event.{Accepted}
+use Rattle.aia_model.specs.Act.{DomainName, domain_at, register_at, acts_of}
+use Rattle.aia_model.specs.SourceOf.{register_read}
 use Rattle.aia_model.specs.FileOf.{FileName, MachineFile, SupervisorFile, select_of, file_of}
 use Rattle.aia_model.specs.Refusal.{refusal}
 
@@ -26,11 +28,20 @@ csr_shown select file csr = 0
 abbrev pub csr_value : History → FileName → Csr → ℕ
 csr_value h f csr = csr_shown (select_of h f) (file_of h f) csr
 
--- What an accepted line answers: a CSR instruction the value that the CSR read before it, a load of a file's page 0.
--- AIA 1.0, IMSIC, "Memory region for an interrupt file": all loads give 0.
+-- What a load reads: a register of a domain, and 0 in a file's page.
+-- AIA 1.0, IMSIC, "Memory region for an interrupt file", for the last.
+abbrev pub place_read : History → ℕ → Option DomainName → ℕ
+place_read h addr None = 0
+place_read h addr (Some d) = register_read (acts_of h) d (register_at addr)
+
+abbrev pub load_value : History → ℕ → ℕ
+load_value h addr = place_read h addr (domain_at addr)
+
+-- What an accepted line answers: a CSR instruction the value that the CSR read before it, a load what it reads.
 abbrev pub accepted_answer : History → Line → Answer
 accepted_answer h (Machine harts guests n sources) = Okay
-accepted_answer h (Load addr) = Narrow 0
+accepted_answer h (Wire source level) = Okay
+accepted_answer h (Load addr) = Narrow (load_value h addr)
 accepted_answer h (Store addr value) = Okay
 accepted_answer h (MachineCsr hart csr op) = Wide (csr_value h (MachineFile hart) csr)
 accepted_answer h (HostCsr hart csr op) = Wide (csr_value h (SupervisorFile hart) csr)

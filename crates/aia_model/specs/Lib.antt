@@ -3,6 +3,8 @@ pub mod Grammar
 pub mod Printing
 pub mod Reading
 pub mod Event
+pub mod Act
+pub mod SourceOf
 pub mod FileOf
 pub mod Refusal
 pub mod Answer

@@ -1,5 +1,5 @@
 -- When a line is refused, and with which word.
-use Rattle.std.specs.Prelude.{ℕ, ◌%◌, Bool, true, false, ◌&&◌, ◌||◌, not, nat_eq, nat_lt, is_none, List, [], ◌∷◌, find, if◌then◌else◌, Option, Some, None}
+use Rattle.std.specs.Prelude.{ℕ, ◌%◌, Bool, true, false, ◌&&◌, ◌||◌, not, nat_eq, nat_lt, is_some, is_none, List, [], ◌∷◌, find, if◌then◌else◌, Option, Some, None}
 use Rattle.std.specs.Int.{is_in_range}
 use Rattle.std.specs.Option.{option_map}
 use Rattle.aia_csr.specs.declared.access.Level.TheVariants as levels
@@ -11,10 +11,12 @@ use Rattle.aia_file.specs.InterruptFile.{is_width}
 use Rattle.aia_imsic.specs.declared.spot.Spot.{Spot}
 use Rattle.aia_imsic.specs.Map.{is_page, is_guest_page}
 use Rattle.aia_model.specs.declared.line.Line.{Line}
-use Rattle.aia_model.specs.declared.line.Line.TheVariants.{Machine, Load, Store, MachineCsr, HostCsr}
+use Rattle.aia_model.specs.declared.line.Line.TheVariants.{Machine, Wire, Load, Store, MachineCsr, HostCsr}
 use Rattle.aia_model.specs.declared.answer.Answer.{Answer}
 use Rattle.aia_model.specs.declared.answer.Answer.TheVariants.{NoMachine, Again, Range, Illegal, Fault, Guarded}
 use Rattle.aia_model.specs.Event.{History, has_machine, harts_of}
+use Rattle.aia_model.specs.Act.{domain_at, acts_of}
+use Rattle.aia_model.specs.SourceOf.{is_source}
 use Rattle.aia_model.specs.FileOf.{MachineFile, SupervisorFile, page_at, select_of}
 
 -- ---- the cells: whether a word's condition holds of a line after a history. Profile, where no chapter is named.
@@ -29,12 +31,13 @@ abbrev pub has_one_already : History → Line → Bool
 has_one_already h (Machine harts guests n sources) = has_machine h
 has_one_already h line = false
 
--- `range`: a machine's number is out of its limits, or the named hart isn't there.
+-- `range`: a machine's number is out of its limits, or the named source or hart isn't there.
 abbrev pub is_machine_size : ℕ → ℕ → ℕ → ℕ → Bool
 is_machine_size harts guests n sources = is_in_range 1 4 harts && is_in_range 0 7 guests && is_width n && is_in_range 1 1023 sources
 
 abbrev pub is_out_of_range : History → Line → Bool
 is_out_of_range h (Machine harts guests n sources) = not (is_machine_size harts guests n sources)
+is_out_of_range h (Wire source level) = not (is_source (acts_of h) source)
 is_out_of_range h (MachineCsr hart csr op) = not (nat_lt hart (harts_of h))
 is_out_of_range h (HostCsr hart csr op) = not (nat_lt hart (harts_of h))
 is_out_of_range h line = false
@@ -49,9 +52,9 @@ is_illegal h (MachineCsr hart csr op) = raises_illegal (access_of levels.Machine
 is_illegal h (HostCsr hart csr op) = raises_illegal (access_of levels.Host csr op (select_of h (SupervisorFile hart)) false)
 is_illegal h line = false
 
--- `fault`: the address isn't a multiple of 4, or lies neither in a file's page nor in memory.
+-- `fault`: the address isn't a multiple of 4, or lies neither in a file's page nor in a domain's control region nor in memory.
 abbrev pub faults : Spot → ℕ → Bool
-faults spot addr = not (nat_eq (addr % 4) 0 && (is_page spot || is_in_memory addr))
+faults spot addr = not (nat_eq (addr % 4) 0 && (is_page spot || is_some (domain_at addr) || is_in_memory addr))
 
 abbrev pub is_fault : History → Line → Bool
 is_fault h (Load addr) = faults (page_at h addr) addr

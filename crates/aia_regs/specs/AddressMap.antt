@@ -1,4 +1,4 @@
--- Where the interrupt files of harts and the memory lie. Profile: all addresses of the map.
+-- Where the interrupt files of harts, the domains of the APLIC and the memory lie. Profile: all addresses of the map.
 use Rattle.std.specs.Prelude.{ℕ, ◌+◌, ◌*◌, Bool, ◌&&◌, nat_le, nat_lt}
 
 -- The first address of the page of a hart's machine-level file.
@@ -17,6 +17,17 @@ guest_page hart file = supervisor_page hart + file * 0x1000
 -- AIA 1.0, IMSIC, "Memory region for an interrupt file": each file is a page.
 abbrev pub is_in_page : ℕ → ℕ → Bool
 is_in_page page addr = nat_le page addr && nat_lt addr (page + 0x1000)
+
+-- Whether an address lies in the control region of 32 KiB that begins at `base`: the root domain's, or its child's, right after it.
+-- AIA 1.0, Advanced Platform-Level Interrupt Controller (APLIC), "Memory-mapped control region for an interrupt domain".
+abbrev pub is_in_region : ℕ → ℕ → Bool
+is_in_region base addr = nat_le base addr && nat_lt addr (base + 0x8000)
+
+abbrev pub root_region : ℕ
+root_region = 0x0c000000
+
+abbrev pub child_region : ℕ
+child_region = 0x0c008000
 
 -- Whether an address lies in memory.
 abbrev pub is_in_memory : ℕ → Bool

@@ -1,4 +1,10 @@
-//! Where the interrupt files of harts and the memory lie (our profile's choice).
+//! Where the interrupt files of harts, the domains of the APLIC and the memory lie (our profile's choice).
+
+/// The control region of the APLIC's root domain; its child's is the next [`REGION`] bytes.
+pub const ROOT_DOMAIN: u64 = 0x0c00_0000;
+
+/// The bytes of a domain's control region.
+pub const REGION: u64 = 0x8000;
 
 /// The page of hart 0's machine-level file; each further hart's is the next page.
 pub const MACHINE_FILES: u64 = 0x2400_0000;
