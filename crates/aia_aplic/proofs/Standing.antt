@@ -1,0 +1,266 @@
+-- A domain that stood for the past stands for the longer one.
+use Rattle.std.proofs.Common.{◌≡◌, ℕ, suc, ◌<◌, Bool, true, false, not, cond, List, [], ◌∷◌, length, slice_get, Option, Some, None, option_map, unwrap_or, refl, sym, ap, subst, ◌∙◌}
+use Rattle.std.proofs.lemmas.Option.{slice_get_within, get_or_from_slice_get}
+use Rattle.std.proofs.lemmas.List.Elements.{All-get_or}
+use Rattle.aia_regs.specs.declared.domain_registers.DomainReg.{DomainReg}
+use Rattle.aia_regs.specs.declared.domain_registers.DomainReg.TheVariants.{DomainCfg, SourceCfg, GenMsi}
+use Rattle.aia_source.specs.Registers.{domaincfg_kept, enables, is_by_msi, root_sourcecfg, delegates, genmsi_kept, same_bool}
+use Rattle.aia_domain.specs.Held.{Held, new_held, wired, changed_at, granted_at, EachSource}
+use Rattle.aia_domain.specs.Domain.{DomainState, IsNewDomain, with_sources, source_changed, source_after, domaincfg_written, domain_after}
+use Rattle.aia_model.specs.Act.{DomainName, Act, Past, is_domain, newest, when}
+use Rattle.aia_model.specs.Act.DomainName.{Root, Child}
+use Rattle.aia_model.specs.Act.Act.{Made, Driven, Written}
+use Rattle.aia_model.specs.SourceOf.{harts_in, sources_in, wire_of, enabled, target, pending, domaincfg_of, is_on, is_msi, genmsi_of}
+use Rattle.aia_aplic.specs.Stands.{held, DomainStands, AplicState, AplicStands, IsNewAplic}
+use Rattle.aia_aplic.proofs.WriteSteps.{root_written, child_written, root_at_child_written, child_at_root_config, child_at_root_written, is_config}
+use Rattle.aia_aplic.proofs.DrivenSteps.{driven}
+
+each-length : (old new : List Held) (change : ℕ → Held → Held) → EachSource old new change → length new ≡ length old
+each-length [] [] change each = refl
+each-length [] (y ∷ ys) change each = let e : ◌≡◌ {A = Option Held} (Some y) None = each 0 in cc
+each-length (x ∷ xs) [] change each = let e : ◌≡◌ {A = Option Held} None (Some (change 0 x)) = each 0 in cc
+each-length (x ∷ xs) (y ∷ ys) change each = ap suc (each-length xs ys (λ s. change (suc s)) (λ s. each (suc s)))
+
+-- what stands after each source was changed
+each-held : (old new : List Held) (change : ℕ → Held → Held) (was is : ℕ → Held) → EachSource old new change → ((s : ℕ) (x : Held) → slice_get old s ≡ Some x → x ≡ was s)
+    → ((s : ℕ) → s < length old → change s (was s) ≡ is s) → (s : ℕ) (y : Held) → slice_get new s ≡ Some y → y ≡ is s
+each-held old new change was is each stands goes s y found = at (slice_get old s) refl
+  where
+    at : (o : Option Held) → slice_get old s ≡ o → y ≡ is s
+    at None e = let bad : ◌≡◌ {A = Option Held} None (Some y) = sym (ap (option_map (change s)) e) ∙ sym (each s) ∙ found in cc
+    at (Some x) e =
+        let same : ◌≡◌ {A = Option Held} (Some (change s x)) (Some y) = sym (ap (option_map (change s)) e) ∙ sym (each s) ∙ found in
+        let f : change s x ≡ y = cc in
+        sym f ∙ ap (change s) (stands s x e) ∙ goes s (slice_get_within old s x e)
+
+-- what a domain keeps beside its sources, and its harts, is as the longer past has it
+pub record Keeps (d e : DomainState) (a : Act) (past : Past) (name : DomainName) : Type 0 where
+  pub leaf : e.leaf ≡ d.leaf
+  pub harts : e.harts ≡ d.harts
+  pub harts_in : harts_in (a ∷ past) ≡ harts_in past
+  pub sources_in : sources_in (a ∷ past) ≡ sources_in past
+  pub on : e.on ≡ is_on (a ∷ past) name
+  pub msi : e.msi ≡ is_msi (a ∷ past) name
+  pub genmsi : e.genmsi ≡ genmsi_of (a ∷ past) name
+
+pub stands-after : (a : Act) (d e : DomainState) (past : Past) (name : DomainName) (change : ℕ → Held → Held) → Keeps d e a past name → EachSource d.sources e.sources change
+    → ((s : ℕ) → s < suc (sources_in past) → change s (held past name s) ≡ held (a ∷ past) name s) → DomainStands d past name → DomainStands e (a ∷ past) name
+stands-after a d e past name change keeps each goes stands = record {
+  leaf = keeps.leaf ∙ stands.leaf;
+  harts = keeps.harts ∙ stands.harts ∙ sym keeps.harts_in;
+  on = keeps.on;
+  msi = keeps.msi;
+  genmsi = keeps.genmsi;
+  count = each-length d.sources e.sources change each ∙ stands.count ∙ sym (ap suc keeps.sources_in);
+  each = each-held d.sources e.sources change (held past name) (held (a ∷ past) name) each stands.each (λ s low. goes s (subst (λ n. s < n) stands.count low));
+}
+
+unchanged : (o : Option Held) → o ≡ option_map (λ x. x) o
+unchanged None = refl
+unchanged (Some x) = refl
+
+-- an act that a domain has no part in
+still-stands : (a : Act) (d : DomainState) (past : Past) (name : DomainName) → Keeps d d a past name → ((s : ℕ) → s < suc (sources_in past) → held (a ∷ past) name s ≡ held past name s) → DomainStands d past name → DomainStands d (a ∷ past) name
+still-stands a d past name keeps same stands = stands-after a d d past name (λ s x. x) keeps (λ s. unchanged (slice_get d.sources s)) (λ s low. sym (same s low)) stands
+
+-- a register that is no domaincfg and no genmsi
+abbrev is_plain : DomainReg → Bool
+is_plain DomainCfg = false
+is_plain GenMsi = false
+is_plain reg = true
+
+-- ---- what acts keep
+
+-- the same domain but for its sources, where the act says nothing of it
+abbrev pub IsQuiet : Act → Past → DomainName → Type 0
+IsQuiet a past name = (harts_in (a ∷ past) ≡ harts_in past) × (sources_in (a ∷ past) ≡ sources_in past) × (is_on (a ∷ past) name ≡ is_on past name) × (is_msi (a ∷ past) name ≡ is_msi past name) × (genmsi_of (a ∷ past) name ≡ genmsi_of past name)
+
+keeps_quiet : (a : Act) (d e : DomainState) (past : Past) (name : DomainName) → IsQuiet a past name → e ≡ with_sources d e.sources → DomainStands d past name → Keeps d e a past name
+keeps_quiet a d e past name quiet rest stands = record {
+  leaf = ap (λ (x : DomainState). x.leaf) rest;
+  harts = ap (λ (x : DomainState). x.harts) rest;
+  harts_in = quiet.0;
+  sources_in = quiet.1;
+  on = ap (λ (x : DomainState). x.on) rest ∙ stands.on ∙ sym quiet.2;
+  msi = ap (λ (x : DomainState). x.msi) rest ∙ stands.msi ∙ sym quiet.3;
+  genmsi = ap (λ (x : DomainState). x.genmsi) rest ∙ stands.genmsi ∙ sym quiet.4;
+}
+
+quiet_driven : (t : ℕ) (level : Bool) (past : Past) (name : DomainName) → IsQuiet (Driven t level) past name
+unfolding newest
+quiet_driven t level past name = (refl, refl, refl, refl, refl)
+
+quiet_root : (reg : DomainReg) (v : ℕ) (past : Past) → IsQuiet (Written Child reg v) past Root
+unfolding newest
+quiet_root DomainCfg v past = (refl, refl, refl, refl, refl)
+quiet_root GenMsi v past = (refl, refl, refl, refl, refl)
+quiet_root reg v past = (refl, refl, refl, refl, refl)
+
+quiet_child : (reg : DomainReg) (v : ℕ) (past : Past) → IsQuiet (Written Root reg v) past Child
+unfolding newest
+quiet_child DomainCfg v past = (refl, refl, refl, refl, refl)
+quiet_child GenMsi v past = (refl, refl, refl, refl, refl)
+quiet_child reg v past = (refl, refl, refl, refl, refl)
+
+-- ---- a wire
+
+pub driven-stands : (t : ℕ) (level : Bool) (d e : DomainState) (past : Past) (name : DomainName) → EachSource d.sources e.sources (changed_at t (wired d.msi level)) → e ≡ with_sources d e.sources → DomainStands d past name → DomainStands e (Driven t level ∷ past) name
+driven-stands t level d e past name each rest stands =
+    stands-after (Driven t level) d e past name (changed_at t (wired d.msi level)) (keeps_quiet (Driven t level) d e past name (quiet_driven t level past name) rest stands) each
+    (λ s low. ap (λ m. changed_at t (wired m level) s (held past name s)) stands.msi ∙ sym (driven t level past name s)) stands
+
+-- ---- a write in the other domain
+
+pub root-stands_other : (reg : DomainReg) (v : ℕ) (d : DomainState) (past : Past) → DomainStands d past Root → DomainStands d (Written Child reg v ∷ past) Root
+root-stands_other reg v d past stands = still-stands (Written Child reg v) d past Root (keeps_quiet (Written Child reg v) d d past Root (quiet_root reg v past) refl stands) (λ s low. root_at_child_written reg v past s) stands
+
+no_config : (reg : DomainReg) → ((i : ℕ) → reg ≡ SourceCfg i → ⊥) → is_config reg ≡ false
+no_config (SourceCfg i) other = absurd (other i refl)
+no_config reg other = refl
+
+pub child-stands_other : (reg : DomainReg) (v : ℕ) (d : DomainState) (past : Past) → ((i : ℕ) → reg ≡ SourceCfg i → ⊥) → DomainStands d past Child → DomainStands d (Written Root reg v ∷ past) Child
+child-stands_other reg v d past other stands =
+    still-stands (Written Root reg v) d past Child (keeps_quiet (Written Root reg v) d d past Child (quiet_child reg v past) refl stands) (λ s low. child_at_root_written reg v past s (no_config reg other)) stands
+
+granted-stands : (i v : ℕ) (d e : DomainState) (past : Past) → EachSource d.sources e.sources (granted_at i (delegates (root_sourcecfg v)) d.msi) → e ≡ with_sources d e.sources
+    → DomainStands d past Child → DomainStands e (Written Root (SourceCfg i) v ∷ past) Child
+granted-stands i v d e past each rest stands =
+    stands-after (Written Root (SourceCfg i) v) d e past Child (granted_at i (delegates (root_sourcecfg v)) d.msi) (keeps_quiet (Written Root (SourceCfg i) v) d e past Child (quiet_child (SourceCfg i) v past) rest stands) each
+    (λ s low. ap (λ m. granted_at i (delegates (root_sourcecfg v)) m s (held past Child s)) stands.msi ∙ sym (child_at_root_config i v past s low)) stands
+
+-- a sourcecfg of the root domain is written, and the child domain gets the source or loses it
+pub child-stands_written : (reg : DomainReg) (i v : ℕ) (given : Bool) (d e : DomainState) (past : Past) → reg ≡ SourceCfg i → given ≡ delegates (root_sourcecfg v) → EachSource d.sources e.sources (granted_at i given d.msi) → e ≡ with_sources d e.sources
+    → DomainStands d past Child → DomainStands e (Written Root reg v ∷ past) Child
+child-stands_written reg i v given d e past is gives each rest stands =
+    subst (λ (r : DomainReg). DomainStands e (Written Root r v ∷ past) Child) (sym is)
+    (granted-stands i v d e past (subst (λ g. EachSource d.sources e.sources (granted_at i g d.msi)) gives each) rest stands)
+
+-- ---- a write in its own domain
+
+cfg_written : (v : ℕ) (past : Past) (name : DomainName) → domaincfg_of (Written name DomainCfg v ∷ past) name ≡ domaincfg_kept v
+unfolding newest
+cfg_written v past Root = refl
+cfg_written v past Child = refl
+
+genmsi_at_cfg : (v : ℕ) (past : Past) (name : DomainName) → genmsi_of (Written name DomainCfg v ∷ past) name ≡ unwrap_or (when (not (same_bool (is_msi past name) (is_by_msi (domaincfg_kept v)))) 0) (genmsi_of past name)
+unfolding newest
+genmsi_at_cfg v past Root = refl
+genmsi_at_cfg v past Child = refl
+
+genmsi_written : (v : ℕ) (past : Past) (name : DomainName) → genmsi_of (Written name GenMsi v ∷ past) name ≡ unwrap_or (when (is_msi past name) (genmsi_kept (harts_in past) v)) (genmsi_of past name)
+unfolding newest
+genmsi_written v past Root = refl
+genmsi_written v past Child = refl
+
+same_size : (reg : DomainReg) (v : ℕ) (past : Past) (name : DomainName) → (harts_in (Written name reg v ∷ past) ≡ harts_in past) × (sources_in (Written name reg v ∷ past) ≡ sources_in past)
+unfolding newest
+same_size reg v past name = (refl, refl)
+
+-- the delivery mode after a write of domaincfg, and what stays
+same_bools : (a b : Bool) → same_bool a b ≡ true → a ≡ b
+same_bools true true e = refl
+same_bools true false e = cc
+same_bools false true e = cc
+same_bools false false e = refl
+
+msi_after : (same on msi : Bool) (d : DomainState) → same ≡ same_bool d.msi msi → (domaincfg_written same on msi d).msi ≡ msi
+msi_after true on msi d e = same_bools d.msi msi (sym e)
+msi_after false on msi d e = refl
+
+after_cfg : (same on msi : Bool) (d : DomainState) → let e = domaincfg_written same on msi d in (e.leaf ≡ d.leaf) × (e.harts ≡ d.harts) × (e.on ≡ on) × (e.genmsi ≡ unwrap_or (when (not same) 0) d.genmsi)
+after_cfg true on msi d = (refl, refl, refl, refl)
+after_cfg false on msi d = (refl, refl, refl, refl)
+
+after_genmsi : (b : Bool) (v : ℕ) (d : DomainState) → let e = cond b (record d { genmsi = v; sends = true }) d in (e.leaf ≡ d.leaf) × (e.harts ≡ d.harts) × (e.on ≡ d.on) × (e.msi ≡ d.msi) × (e.genmsi ≡ unwrap_or (when b v) d.genmsi)
+after_genmsi true v d = (refl, refl, refl, refl, refl)
+after_genmsi false v d = (refl, refl, refl, refl, refl)
+
+cfg_stays : (v : ℕ) (past : Past) (name : DomainName) → is_on (Written name GenMsi v ∷ past) name ≡ is_on past name
+unfolding newest
+cfg_stays v past name = refl
+
+msi_stays : (v : ℕ) (past : Past) (name : DomainName) → is_msi (Written name GenMsi v ∷ past) name ≡ is_msi past name
+unfolding newest
+msi_stays v past name = refl
+
+quiet_own : (reg : DomainReg) (v : ℕ) (past : Past) (name : DomainName) → is_plain reg ≡ true → IsQuiet (Written name reg v) past name
+unfolding newest
+quiet_own DomainCfg v past name plain = cc
+quiet_own GenMsi v past name plain = cc
+quiet_own reg v past name plain = (refl, refl, refl, refl, refl)
+
+keeps_own : (reg : DomainReg) (v : ℕ) (d e : DomainState) (past : Past) (name : DomainName) → e ≡ with_sources (domain_after reg v d) e.sources → DomainStands d past name → Keeps d e (Written name reg v) past name
+keeps_own DomainCfg v d e past name rest stands =
+    let cfg = domaincfg_kept v in
+    let after = after_cfg (same_bool d.msi (is_by_msi cfg)) (enables cfg) (is_by_msi cfg) d in
+    let size = same_size DomainCfg v past name in
+    record {
+      leaf = ap (λ (x : DomainState). x.leaf) rest ∙ after.0;
+      harts = ap (λ (x : DomainState). x.harts) rest ∙ after.1;
+      harts_in = size.0;
+      sources_in = size.1;
+      on = ap (λ (x : DomainState). x.on) rest ∙ after.2 ∙ ap enables (sym (cfg_written v past name));
+      msi = ap (λ (x : DomainState). x.msi) rest ∙ msi_after (same_bool d.msi (is_by_msi cfg)) (enables cfg) (is_by_msi cfg) d refl ∙ ap is_by_msi (sym (cfg_written v past name));
+      genmsi = ap (λ (x : DomainState). x.genmsi) rest ∙ after.3 ∙ ap (λ m. unwrap_or (when (not (same_bool m (is_by_msi cfg))) 0) d.genmsi) stands.msi
+          ∙ ap (λ g. unwrap_or (when (not (same_bool (is_msi past name) (is_by_msi cfg))) 0) g) stands.genmsi ∙ sym (genmsi_at_cfg v past name);
+    }
+keeps_own GenMsi v d e past name rest stands =
+    let after = after_genmsi d.msi (genmsi_kept d.harts v) d in
+    let size = same_size GenMsi v past name in
+    record {
+      leaf = ap (λ (x : DomainState). x.leaf) rest ∙ after.0;
+      harts = ap (λ (x : DomainState). x.harts) rest ∙ after.1;
+      harts_in = size.0;
+      sources_in = size.1;
+      on = ap (λ (x : DomainState). x.on) rest ∙ after.2 ∙ stands.on ∙ sym (cfg_stays v past name);
+      msi = ap (λ (x : DomainState). x.msi) rest ∙ after.3 ∙ stands.msi ∙ sym (msi_stays v past name);
+      genmsi = ap (λ (x : DomainState). x.genmsi) rest ∙ after.4 ∙ ap (λ m. unwrap_or (when m (genmsi_kept d.harts v)) d.genmsi) stands.msi
+          ∙ ap (λ n. unwrap_or (when (is_msi past name) (genmsi_kept n v)) d.genmsi) stands.harts ∙ ap (λ g. unwrap_or (when (is_msi past name) (genmsi_kept (harts_in past) v)) g) stands.genmsi
+          ∙ sym (genmsi_written v past name);
+    }
+keeps_own reg v d e past name rest stands = keeps_quiet (Written name reg v) d e past name (quiet_own reg v past name refl) rest stands
+
+-- what the write makes of a source
+written : (reg : DomainReg) (v : ℕ) (past : Past) (name : DomainName) (s : ℕ) → s < suc (sources_in past)
+    → held (Written name reg v ∷ past) name s ≡ source_changed (is_domain name Child) (harts_in past) (is_msi past name) reg v s (held past name s)
+written reg v past Root s low = root_written reg v past s low
+written reg v past Child s low = child_written reg v past s low
+
+pub own-stands : (reg : DomainReg) (v : ℕ) (d e : DomainState) (past : Past) (name : DomainName) → EachSource d.sources e.sources (source_after d reg v) → e ≡ with_sources (domain_after reg v d) e.sources
+    → DomainStands d past name → DomainStands e (Written name reg v ∷ past) name
+own-stands reg v d e past name each rest stands =
+    stands-after (Written name reg v) d e past name (source_after d reg v) (keeps_own reg v d e past name rest stands) each
+    (λ s low. ap (λ l. source_changed l d.harts d.msi reg v s (held past name s)) stands.leaf ∙ ap (λ n. source_changed (is_domain name Child) n d.msi reg v s (held past name s)) stands.harts
+    ∙ ap (λ m. source_changed (is_domain name Child) (harts_in past) m reg v s (held past name s)) stands.msi ∙ sym (written reg v past name s low)) stands
+
+-- ---- the beginning
+
+begun : (h n : ℕ) (name : DomainName) (s : ℕ) → new_held ≡ held (Made h n ∷ []) name s
+unfolding newest wire_of pending enabled target
+begun h n Root s = refl
+begun h n Child s = refl
+
+new_size : (h n : ℕ) → (harts_in (Made h n ∷ []) ≡ h) × (sources_in (Made h n ∷ []) ≡ n)
+unfolding newest
+new_size h n = (refl, refl)
+
+new_domaincfg : (h n : ℕ) (name : DomainName) → (is_on (Made h n ∷ []) name ≡ false) × (is_msi (Made h n ∷ []) name ≡ false) × (genmsi_of (Made h n ∷ []) name ≡ 0)
+unfolding newest
+new_domaincfg h n name = (refl, refl, refl)
+
+new_domain-stands : (n h : ℕ) (leaf : Bool) (d : DomainState) (name : DomainName) → leaf ≡ is_domain name Child → IsNewDomain n h leaf d → DomainStands d (Made h n ∷ []) name
+new_domain-stands n h leaf d name is new =
+    let cfg = new_domaincfg h n name in
+    record {
+      leaf = new.leaf ∙ is;
+      harts = new.harts ∙ sym (new_size h n).0;
+      on = new.on ∙ sym cfg.0;
+      msi = new.msi ∙ sym cfg.1;
+      genmsi = new.genmsi ∙ sym cfg.2;
+      count = new.count ∙ sym (ap suc (new_size h n).1);
+      each = λ s x found. sym (get_or_from_slice_get d.sources s x x found) ∙ All-get_or (λ y. y ≡ new_held) d.sources s x (slice_get_within d.sources s x found) new.each ∙ begun h n name s;
+    }
+
+-- an APLIC as a machine begins
+pub new-stands : (n h : ℕ) (a : AplicState) → IsNewAplic n h a → AplicStands a (Made h n ∷ [])
+new-stands n h a new = record { root = new_domain-stands n h false a.root Root refl new.root; child = new_domain-stands n h true a.child Child refl new.child }

@@ -1,0 +1,130 @@
+-- What each act makes of a source in a domain.
+use Rattle.std.proofs.Common.{◌≡◌, ℕ, Bool, true, false, cond, ◌&&◌, [], ◌∷◌, Option, Some, None, unwrap_or, refl, sym}
+use Rattle.std.proofs.lemmas.Bool.{cond-false}
+use Rattle.aia_regs.specs.Word.{Word, settle}
+use Rattle.aia_regs.specs.Word.Word.{Ask, Clear, Nothing}
+use Rattle.aia_source.specs.declared.mode.Mode.{Mode}
+use Rattle.aia_source.specs.declared.mode.Mode.TheVariants.{Inactive, Detached, RisingEdge, FallingEdge, LevelHigh, LevelLow}
+use Rattle.aia_source.specs.Source.{Deed, done, is_active, rectified, says}
+use Rattle.aia_source.specs.Source.Deed.{Untouched}
+use Rattle.aia_source.specs.Registers.{target_kept}
+use Rattle.aia_domain.specs.Held.{Held, with_deed, with_enable, aimed}
+use Rattle.aia_model.specs.Act.{DomainName, Act, Past}
+use Rattle.aia_model.specs.SourceOf.{wire_of, is_delegated, mode, owns, is_msi, enable_asked, enable_word, enabled, target_told, target_after, target, deed, pending}
+use Rattle.aia_aplic.specs.Stands.{held}
+
+-- what a step makes of what was held, by what the act says
+abbrev pub stepped : Mode → Bool → Bool → Bool → Bool → Option ℕ → Word → Deed → Held → Held
+stepped mode' wire' msi msi' delegated' aim asked does x = record {
+  source = done msi does mode' wire' x.source;
+  enabled = settle (enable_word (is_active x.source.mode) (is_active mode') asked) x.enabled;
+  target = target_after (is_active x.source.mode) (is_active mode') msi msi' (unwrap_or aim x.target);
+  delegated = delegated';
+}
+
+pub held-step : (a : Act) (past : Past) (d : DomainName) (s : ℕ) →
+    held (a ∷ past) d s ≡ stepped (mode (a ∷ past) d s) (wire_of (a ∷ past) s) (is_msi past d) (is_msi (a ∷ past) d) (is_delegated (a ∷ past) s) (target_told d s past a) (enable_asked d s a) (deed past a d s) (held past d s)
+unfolding pending enabled target
+held-step a past d s = refl
+
+-- a source that isn't active holds nothing
+pub record IsIdle (x : Held) : Type 0 where
+  pub pending : is_active x.source.mode ≡ false → x.source.pending ≡ false
+  pub enabled : is_active x.source.mode ≡ false → x.enabled ≡ false
+  pub target : is_active x.source.mode ≡ false → x.target ≡ 0
+
+pub said_nothing : (m : Mode) (msi before after : Bool) (does : Deed) (was : Bool) → is_active m ≡ false → settle (says m msi before after does) was ≡ false
+said_nothing Inactive msi before after does was e = refl
+said_nothing Detached msi before after does was e = cc
+said_nothing RisingEdge msi before after does was e = cc
+said_nothing FallingEdge msi before after does was e = cc
+said_nothing LevelHigh msi before after does was e = cc
+said_nothing LevelLow msi before after does was e = cc
+
+pub held-idle : (past : Past) (d : DomainName) (s : ℕ) → IsIdle (held past d s)
+unfolding pending enabled target
+held-idle [] d s = record { pending = λ e. refl; enabled = λ e. refl; target = λ e. refl }
+held-idle (a ∷ past) d s = record {
+  pending = λ e. said_nothing (mode (a ∷ past) d s) _ _ _ _ _ e;
+  enabled = λ e. no_enable (owns past d s) (owns (a ∷ past) d s) _ _ e;
+  target = λ e. cond-false _ _ _ e;
+}
+  where
+    no_enable : (before after : Bool) (w : Word) (was : Bool) → after ≡ false → settle (enable_word before after w) was ≡ false
+    no_enable before true w was e = cc
+    no_enable true false w was e = refl
+    no_enable false false w was e = refl
+
+-- ---- acts that leave mode, wire and delivery mode
+
+same_mode_says : (m : Mode) (msi r : Bool) (was : Bool) → (is_active m ≡ false → was ≡ false) → settle (says m msi r r Untouched) was ≡ was
+same_mode_says Inactive msi r was idle = sym (idle refl)
+same_mode_says Detached msi r was idle = refl
+same_mode_says RisingEdge msi r was idle = refl
+same_mode_says FallingEdge msi r was idle = refl
+same_mode_says LevelHigh msi r was idle = refl
+same_mode_says LevelLow msi r was idle = refl
+
+pub same_enable : (b : Bool) (was : Bool) → (b ≡ false → was ≡ false) → settle (enable_word b b Nothing) was ≡ was
+same_enable true was idle = refl
+same_enable false was idle = sym (idle refl)
+
+pub same_target : (b msi : Bool) (was : ℕ) → (b ≡ false → was ≡ 0) → target_after b b msi msi was ≡ was
+same_target true true was idle = refl
+same_target true false was idle = refl
+same_target false msi was idle = sym (idle refl)
+
+-- an act that says nothing
+pub step-nothing : (msi : Bool) (x : Held) → IsIdle x → stepped x.source.mode x.source.wire msi msi x.delegated None Nothing Untouched x ≡ x
+step-nothing msi x idle = λ i. record {
+  source = record { mode = x.source.mode; wire = x.source.wire; pending = same_mode_says x.source.mode msi (rectified x.source.mode x.source.wire) x.source.pending idle.pending i };
+  enabled = same_enable (is_active x.source.mode) x.enabled idle.enabled i;
+  target = same_target (is_active x.source.mode) msi x.target idle.target i;
+  delegated = x.delegated;
+}
+
+-- an act that is about pending alone
+pub step-deed : (msi : Bool) (x : Held) (does : Deed) → IsIdle x → stepped x.source.mode x.source.wire msi msi x.delegated None Nothing does x ≡ with_deed msi does x
+step-deed msi x does idle = λ i. record {
+  source = done msi does x.source.mode x.source.wire x.source;
+  enabled = same_enable (is_active x.source.mode) x.enabled idle.enabled i;
+  target = same_target (is_active x.source.mode) msi x.target idle.target i;
+  delegated = x.delegated;
+}
+
+asked_enable : (b : Bool) (was : Bool) → settle (enable_word b b Ask) was ≡ (b && true)
+asked_enable true was = refl
+asked_enable false was = refl
+
+cleared_enable : (b : Bool) (was : Bool) → settle (enable_word b b Clear) was ≡ (b && false)
+cleared_enable true was = refl
+cleared_enable false was = refl
+
+pub step-enable : (msi : Bool) (x : Held) → IsIdle x → stepped x.source.mode x.source.wire msi msi x.delegated None Ask Untouched x ≡ with_enable true x
+step-enable msi x idle = λ i. record {
+  source = record { mode = x.source.mode; wire = x.source.wire; pending = same_mode_says x.source.mode msi (rectified x.source.mode x.source.wire) x.source.pending idle.pending i };
+  enabled = asked_enable (is_active x.source.mode) x.enabled i;
+  target = same_target (is_active x.source.mode) msi x.target idle.target i;
+  delegated = x.delegated;
+}
+
+pub step-disable : (msi : Bool) (x : Held) → IsIdle x → stepped x.source.mode x.source.wire msi msi x.delegated None Clear Untouched x ≡ with_enable false x
+step-disable msi x idle = λ i. record {
+  source = record { mode = x.source.mode; wire = x.source.wire; pending = same_mode_says x.source.mode msi (rectified x.source.mode x.source.wire) x.source.pending idle.pending i };
+  enabled = cleared_enable (is_active x.source.mode) x.enabled i;
+  target = same_target (is_active x.source.mode) msi x.target idle.target i;
+  delegated = x.delegated;
+}
+
+aimed_target : (b msi : Bool) (new : ℕ) → target_after b b msi msi new ≡ cond b new 0
+aimed_target true true new = refl
+aimed_target true false new = refl
+aimed_target false msi new = refl
+
+pub step-aim : (harts : ℕ) (msi : Bool) (v : ℕ) (x : Held) → IsIdle x → stepped x.source.mode x.source.wire msi msi x.delegated (Some (target_kept harts msi v)) Nothing Untouched x ≡ aimed harts msi v x
+step-aim harts msi v x idle = λ i. record {
+  source = record { mode = x.source.mode; wire = x.source.wire; pending = same_mode_says x.source.mode msi (rectified x.source.mode x.source.wire) x.source.pending idle.pending i };
+  enabled = same_enable (is_active x.source.mode) x.enabled idle.enabled i;
+  target = aimed_target (is_active x.source.mode) msi (target_kept harts msi v) i;
+  delegated = x.delegated;
+}

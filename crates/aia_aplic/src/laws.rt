@@ -1,0 +1,53 @@
+//! What the definitions of the wired sources mean, as laws for every past: each function does nothing, and its clauses are what was proved.
+
+ghost use Rattle.std.specs.Prelude.{◌≡◌, ℕ, Bool, true, false, ◌&&◌, ◌∷◌};
+ghost use Rattle.aia_regs.specs.declared.domain_registers.DomainReg.{DomainReg};
+ghost use Rattle.aia_regs.specs.declared.domain_registers.DomainReg.TheVariants.{SourceCfg};
+ghost use Rattle.aia_source.specs.Source.{is_level};
+ghost use Rattle.aia_source.specs.Registers.{sets_pending};
+ghost use Rattle.aia_model.specs.Act.{DomainName, Past};
+ghost use Rattle.aia_model.specs.Act.DomainName.{Root, Child};
+ghost use Rattle.aia_model.specs.Act.Act.{Written};
+ghost use Rattle.aia_model.specs.SourceOf.{is_delegated, sourcecfg_of, mode, owns, input, is_msi, enabled, target, pending};
+
+/// Whatever has happened, a source at a level mode, in a domain that delivers directly, is pending exactly while its rectified input is high.
+///
+/// AIA 1.0, Advanced Platform-Level Interrupt Controller (APLIC), "Precise effects on interrupt-pending bits".
+pub fn a_level_source_follows_its_input()
+    ensures { (past : Past) (d : DomainName) (s : ℕ) → is_level (mode past d s) ≡ true → is_msi past d ≡ false → pending past d s ≡ input past d s }
+{}
+
+/// Whatever has happened, no source is active in both domains.
+///
+/// AIA 1.0, Advanced Platform-Level Interrupt Controller (APLIC), "Interrupt domains".
+pub fn a_source_has_one_owner_at_most()
+    ensures { (past : Past) (s : ℕ) → (owns past Root s && owns past Child s) ≡ false }
+{}
+
+/// Whatever has happened, in a domain in which a source is not active its input, its pending bit, its enable bit and its target are 0.
+///
+/// AIA 1.0, Advanced Platform-Level Interrupt Controller (APLIC), "Memory-mapped control region for an interrupt domain". Our profile: the
+/// input.
+pub fn what_is_not_owned_is_zero()
+    ensures input { (past : Past) (d : DomainName) (s : ℕ) → owns past d s ≡ false → input past d s ≡ false }
+    ensures pending { (past : Past) (d : DomainName) (s : ℕ) → owns past d s ≡ false → pending past d s ≡ false }
+    ensures enabled { (past : Past) (d : DomainName) (s : ℕ) → owns past d s ≡ false → enabled past d s ≡ false }
+    ensures target { (past : Past) (d : DomainName) (s : ℕ) → owns past d s ≡ false → target past d s ≡ 0 }
+{}
+
+/// Whatever has happened, the child domain's register of a source that the root domain does not delegate is 0.
+///
+/// AIA 1.0, Advanced Platform-Level Interrupt Controller (APLIC), "Memory-mapped control region for an interrupt domain".
+pub fn what_is_not_delegated_is_zero_in_the_child()
+    ensures { (past : Past) (s : ℕ) → is_delegated past s ≡ false → sourcecfg_of past Child s ≡ 0 }
+{}
+
+/// A write makes no rise, whatever inputs become by it. At an edge or detached mode, a `sourcecfg` leaves the pending bit of a source that was
+/// active (our profile), and one that was not is then not pending; nor is such a source made pending by any other write but one that asks for it.
+///
+/// AIA 1.0, Advanced Platform-Level Interrupt Controller (APLIC), "Precise effects on interrupt-pending bits".
+pub fn only_a_wire_makes_a_rise()
+    ensures stays { (past : Past) (d : DomainName) (i v s : ℕ) → owns past d s ≡ true → owns (Written d (SourceCfg i) v ∷ past) d s ≡ true → is_level (mode (Written d (SourceCfg i) v ∷ past) d s) ≡ false → pending (Written d (SourceCfg i) v ∷ past) d s ≡ pending past d s }
+    ensures begins { (past : Past) (d : DomainName) (i v s : ℕ) → owns past d s ≡ false → is_level (mode (Written d (SourceCfg i) v ∷ past) d s) ≡ false → pending (Written d (SourceCfg i) v ∷ past) d s ≡ false }
+    ensures unasked { (past : Past) (e d : DomainName) (reg : DomainReg) (v s : ℕ) → sets_pending reg v s ≡ false → is_level (mode (Written e reg v ∷ past) d s) ≡ false → pending past d s ≡ false → pending (Written e reg v ∷ past) d s ≡ false }
+{}

@@ -1,0 +1,9 @@
+//! The APLIC of a machine: its two interrupt domains, and the wired sources that they share.
+#![tactic(auto)]
+
+mod aplic;
+pub mod laws;
+#[cfg(test)]
+mod tests;
+
+pub use aplic::Aplic;

@@ -1,0 +1,47 @@
+use crate::Aplic;
+use std::test::Fail;
+
+#[test]
+fn a_wire_reaches_the_domain_that_has_the_source(rt: HostRuntime) -> Result<(), Fail> {
+    let mut aplic = Aplic::new(rt.alloc(), 2, 8)?;
+    // Delegated, then level low, enabled and aimed at hart 1 in the child domain.
+    aplic.store(0, 0x0004, 0x400);
+    for (offset, value) in [(0x0004, 7), (0x1edc, 1), (0x3004, 0x0004_0003)] {
+        aplic.store(1, offset, value);
+    }
+    // Rising edge in the root domain; the child domain can't have it.
+    aplic.store(0, 0x0008, 4);
+    aplic.store(1, 0x0008, 4);
+    for (s, level) in [(1, true), (1, false), (2, true), (9, true)] {
+        aplic.wire(s, level);
+    }
+    for (offset, shown) in [
+        (0x0000, 0x8000_0000),
+        (0x0004, 0x400),
+        (0x0008, 4),
+        (0x1c00, 0b100),
+        (0x1d00, 0b100),
+        (0x3004, 0),
+        (0x3008, 1),
+    ] {
+        assert_eq!(rt; aplic.load(0, offset), shown, "at {offset}");
+    }
+    for (offset, shown) in [
+        (0x0004, 7),
+        (0x0008, 0),
+        (0x1c00, 0b10),
+        (0x1d00, 0b10),
+        (0x1e00, 0b10),
+        (0x3004, 0x0004_0003),
+        (0x8000, 0),
+    ] {
+        assert_eq!(rt; aplic.load(1, offset), shown, "at {offset}");
+    }
+    // Taken back, as level low.
+    aplic.store(0, 0x0004, 7);
+    assert_eq!(rt; aplic.load(0, 0x1c00), 0b110);
+    for offset in [0x0004, 0x1c00, 0x1d00, 0x1e00, 0x3004] {
+        assert_eq!(rt; aplic.load(1, offset), 0, "at {offset}");
+    }
+    Ok(())
+}
