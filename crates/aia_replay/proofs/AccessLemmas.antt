@@ -90,14 +90,15 @@ same_as_is file = record { n = refl; pending = λ i. refl; enabled = λ i. refl;
 
 -- one file and its select number were written
 pub has_done : (m n : Machine) (f : FileName) (deed : Deed) (file : FileState) (select : ℕ) → place_of m.imsic (spot_of f) < length m.imsic.files → select_place f < length m.selects
-    → n.imsic ≡ with_file m.imsic (spot_of f) file → n.selects ≡ set m.selects (select_place f) select
+    → n.imsic ≡ with_file m.imsic (spot_of f) file → n.selects ≡ set m.selects (select_place f) select → n.aplic ≡ m.aplic
     → FileDone (file_at m.imsic (spot_of f)) file (slice_index m.selects (select_place f)) select deed → HasDone m n f deed
-has_done m n f deed file select place within imsic selects done =
+has_done m n f deed file select place within imsic selects aplic done =
     let put : file_at n.imsic (spot_of f) ≡ file = ap (λ (i : Harts). file_at i (spot_of f)) imsic ∙ replaced_here m.imsic (spot_of f) file place in
     let told : slice_index n.selects (select_place f) ≡ select = ap (λ xs. get_or xs (select_place f) 0) selects ∙ get_or-set_same m.selects (select_place f) select 0 within in
     record {
       imsic = imsic ∙ ap (with_file m.imsic (spot_of f)) (sym put);
       selects = selects ∙ ap (set m.selects (select_place f)) (sym told);
+      aplic = aplic;
       done = subst (λ (s : ℕ). FileDone (file_at m.imsic (spot_of f)) (file_at n.imsic (spot_of f)) (slice_index m.selects (select_place f)) s deed) (sym told)
           (subst (λ (x : FileState). FileDone (file_at m.imsic (spot_of f)) x (slice_index m.selects (select_place f)) select deed) (sym put) done);
     }

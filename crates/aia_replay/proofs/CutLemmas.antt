@@ -7,18 +7,12 @@ use Rattle.std.proofs.lemmas.List.{get_or-take, length-take, length-append, take
 use Rattle.std.proofs.Math.Seq.{take-length, take-append-add}
 use Rattle.std.proofs.lemmas.List.Elements.{All-from_get_or}
 use Rattle.std.proofs.lemmas.List.Sums.{fails_before_first, passes_at_first, split_at_first}
-use Rattle.std.proofs.lemmas.Bool.{cases_lt, cond-true, cond-false, lt-ltb, le-ltb}
+use Rattle.std.proofs.lemmas.Bool.{cases_lt, cond-true, cond-false, lt-ltb}
 use Rattle.aia_model.specs.Text.{texts_of}
+use Rattle.aia_script.proofs.WordLemmas.{position_some}
 use Rattle.aia_replay.specs.Runs.{NoEnd}
 
 -- ---- where the first LF is
-
-position_some : (p : ℕ → Bool) (xs : List ℕ) (i : ℕ) → position p xs ≡ Some i → (position_or_len p xs < length xs) × (position_or_len p xs ≡ i)
-position_some p xs i e =
-    elim (cases_lt (position_or_len p xs) (length xs)) [
-      | inl h ↦ let e2 : Some (position_or_len p xs) ≡ Some i = sym (cond-true _ _ _ (lt-ltb _ _ h)) ∙ e in (h, cc)
-      | inr h ↦ let e2 : ◌≡◌ {A = Option ℕ} None (Some i) = sym (cond-false _ _ _ (le-ltb _ _ h)) ∙ e in absurd (cc)
-    ]
 
 position_none : (p : ℕ → Bool) (xs : List ℕ) → position p xs ≡ None → length xs ≤ position_or_len p xs
 position_none p xs e =

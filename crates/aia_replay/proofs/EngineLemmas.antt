@@ -4,7 +4,7 @@ use Rattle.std.specs.Prelude.{slice_index}
 use Rattle.std.proofs.lemmas.Bool.{cond-true, cond-false}
 use Rattle.aia_file.proofs.FileLemmas.{same_file}
 use Rattle.aia_model.specs.declared.line.Line.{Line}
-use Rattle.aia_model.specs.declared.line.Line.TheVariants.{Machine as MachineLine, Load, Store, MachineCsr, HostCsr}
+use Rattle.aia_model.specs.declared.line.Line.TheVariants.{Machine as MachineLine, Wire, Load, Store, MachineCsr, HostCsr}
 use Rattle.aia_model.specs.declared.answer.Answer.{Answer}
 use Rattle.aia_model.specs.declared.answer.Answer.TheVariants.{Okay, NoMachine, Range}
 use Rattle.aia_model.specs.Event.{History}
@@ -14,6 +14,7 @@ use Rattle.aia_model.specs.Refusal.{refusal, is_machine_size}
 use Rattle.aia_model.specs.Answer.{answer, after}
 use Rattle.aia_model.proofs.AnswerLemmas.{answered, after_by, machine_refusal, no_machine_refusal}
 use Rattle.aia_model.proofs.FileLemmas.{file_step, select_step}
+use Rattle.aia_aplic.proofs.Standing.{new-stands}
 use Rattle.aia_replay.specs.declared.machine.Machine.{Machine}
 use Rattle.aia_replay.specs.declared.engine.Engine.{Engine}
 use Rattle.aia_imsic.specs.Files.{IsThere}
@@ -38,6 +39,7 @@ refused_first old new line word was now is = record {
 -- only a `machine` line is not refused so
 pub needs_machine : (line : Line) → ((harts guests n sources : ℕ) → line ≡ MachineLine harts guests n sources → ⊥) → refusal [] line ≡ Some NoMachine
 needs_machine (MachineLine harts guests n sources) other = absurd (other harts guests n sources refl)
+needs_machine (Wire source level) other = no_machine_refusal [] (Wire source level) refl
 needs_machine (Load addr) other = no_machine_refusal [] (Load addr) refl
 needs_machine (Store addr value) other = no_machine_refusal [] (Store addr value) refl
 needs_machine (MachineCsr hart csr op) other = no_machine_refusal [] (MachineCsr hart csr op) refl
@@ -56,13 +58,13 @@ no_selects m place zeros = ap (λ xs. get_or xs place 0) zeros ∙ zero_at 8 pla
     zero_at (suc n) zero = refl
     zero_at (suc n) (suc p) = zero_at n p
 
-new_file : (m : Machine) (harts guests n sources : ℕ) (f : FileName) → IsNewMachine harts guests n m → IsThere m.imsic (spot_of f) → FileStands m (Accepted (MachineLine harts guests n sources) ∷ []) f
+new_file : (m : Machine) (harts guests n sources : ℕ) (f : FileName) → IsNewMachine harts guests n sources m → IsThere m.imsic (spot_of f) → FileStands m (Accepted (MachineLine harts guests n sources) ∷ []) f
 new_file m harts guests n sources f new inside = record {
   file = same_file _ _ (new.files.each (spot_of f) inside) ∙ sym (file_step (Accepted (MachineLine harts guests n sources)) [] f);
   select = no_selects m (select_place f) new.selects ∙ sym (select_step (Accepted (MachineLine harts guests n sources)) [] f);
 }
 
-pub machine_made : (old new : Engine) (m : Machine) (harts guests n sources : ℕ) → old.machine ≡ None → new.machine ≡ Some m → is_machine_size harts guests n sources ≡ true → IsNewMachine harts guests n m → Serves old new (MachineLine harts guests n sources) Okay
+pub machine_made : (old new : Engine) (m : Machine) (harts guests n sources : ℕ) → old.machine ≡ None → new.machine ≡ Some m → is_machine_size harts guests n sources ≡ true → IsNewMachine harts guests n sources m → Serves old new (MachineLine harts guests n sources) Okay
 machine_made old new m harts guests n sources was now size fresh =
     let line = MachineLine harts guests n sources in
     let accepted : refusal [] line ≡ None = machine_refusal [] harts guests n sources ∙ cond-false _ _ _ (ap not size) in
@@ -73,6 +75,7 @@ machine_made old new m harts guests n sources was now size fresh =
       few_harts = fresh.few_harts;
       few_guests = fresh.few_guests;
       each = λ f inside. new_file m harts guests n sources f fresh inside;
+      aplic = new-stands sources harts m.aplic fresh.aplic;
     } in
     record {
       answers = λ h given. sym (ap (λ x. answer x line) (empty_history old h was given) ∙ answered [] line None accepted);

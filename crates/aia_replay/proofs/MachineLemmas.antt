@@ -1,10 +1,12 @@
 -- What accesses, loads and stores leave of machines that stood for a history.
-use Rattle.std.proofs.Common.{◌≡◌, ◌≢◌, ℕ, ◌%◌, ◌<◌, ◌≤◌, Bool, true, false, ◌&&◌, ◌||◌, not, cond, nat_eq, unwrap_or, ◌∷◌, get_or, Option, Some, None, ◌⊎◌, inl, inr, refl, sym, ap, subst, ◌∙◌, arith}
+use Rattle.std.proofs.Common.{◌≡◌, ◌≢◌, ℕ, ◌+◌, ◌%◌, ◌<◌, ◌≤◌, Bool, true, false, ◌&&◌, ◌||◌, not, cond, nat_eq, is_some, unwrap_or, ◌∷◌, get_or, Option, Some, None, ◌⊎◌, inl, inr, refl, sym, ap, subst, ◌∙◌, arith}
 use Rattle.std.specs.Prelude.{slice_index}
+use Rattle.std.specs.Option.{option_map}
+use Rattle.std.specs.Int.{is_in_range}
 use Rattle.std.proofs.lemmas.List.{get_or-set_other}
-use Rattle.std.proofs.lemmas.Bool.{cases_Bool, cases_eq, cond-true, cond-false, lt-ltb, le-ltb, eq-eqb, false≢true}
+use Rattle.std.proofs.lemmas.Bool.{cases_Bool, cases_eq, cases_lt, cond-true, cond-false, lt-ltb, le-ltb, eq-eqb, false≢true}
 use Rattle.std.proofs.lemmas.Bool.Decides.{nat_tests}
-use Rattle.aia_regs.specs.AddressMap.{machine_page, supervisor_page, is_in_page, is_in_memory}
+use Rattle.aia_regs.specs.AddressMap.{machine_page, supervisor_page, is_in_page, is_in_memory, is_in_region, root_region, child_region}
 use Rattle.aia_regs.specs.declared.access.Csr.{Csr}
 use Rattle.aia_regs.specs.declared.access.Op.{Op}
 use Rattle.aia_csr.specs.declared.access.Level.{Level}
@@ -17,20 +19,25 @@ use Rattle.aia_imsic.specs.declared.spot.Spot.{Spot}
 use Rattle.aia_imsic.specs.declared.spot.Spot.TheVariants as spots
 use Rattle.aia_imsic.specs.Files.{Harts, IsThere, file_at, with_file}
 use Rattle.aia_imsic.specs.Map.{spot_at, is_page, is_guest_page}
-use Rattle.aia_imsic.proofs.MapLemmas.{spot_of_machine, spot_of_host, machine_of_spot, host_of_spot, to_page}
+use Rattle.aia_imsic.proofs.MapLemmas.{spot_of_machine, spot_of_host, machine_of_spot, host_of_spot, from_page, to_page, below_all}
 use Rattle.aia_imsic.proofs.PlaceLemmas.{kept_elsewhere}
 use Rattle.aia_model.specs.declared.line.Line.{Line}
-use Rattle.aia_model.specs.declared.line.Line.TheVariants.{Load, Store}
+use Rattle.aia_model.specs.declared.line.Line.TheVariants.{Wire, Load, Store}
 use Rattle.aia_model.specs.declared.answer.Answer.{Answer}
 use Rattle.aia_model.specs.declared.answer.Answer.TheVariants.{Okay, Narrow, Wide, Range, Illegal, Fault, Guarded}
 use Rattle.aia_model.specs.Event.{Event, History, has_machine, harts_of, guests_of}
 use Rattle.aia_model.specs.Event.Event.{Accepted}
+use Rattle.aia_model.specs.Act.{DomainName, Past, domain_at, register_at, with_act, acts_of}
+use Rattle.aia_model.specs.Act.DomainName.{Root, Child}
+use Rattle.aia_model.specs.Act.Act.{Driven, Written}
+use Rattle.aia_model.specs.SourceOf.{sources_in, is_source, register_read}
 use Rattle.aia_model.specs.FileOf.{FileName, MachineFile, SupervisorFile, Deed, is_at, page_at, deed_at, select_of, select_told, file_of, file_after}
 use Rattle.aia_model.specs.FileOf.Deed.{Accesses, Rests}
 use Rattle.aia_model.specs.Refusal.{refusal, raises_illegal, guards, place_refusal}
-use Rattle.aia_model.specs.Answer.{accepted_answer, history_after, csr_shown, csr_value}
-use Rattle.aia_model.proofs.AnswerLemmas.{answered, after_by, access_refusal, machine_csr_refusal, host_csr_refusal, load_refusal, store_refusal}
+use Rattle.aia_model.specs.Answer.{accepted_answer, history_after, csr_shown, csr_value, place_read, load_value}
+use Rattle.aia_model.proofs.AnswerLemmas.{answered, after_by, access_refusal, machine_csr_refusal, host_csr_refusal, wire_refusal, load_refusal, store_refusal}
 use Rattle.aia_model.proofs.FileLemmas.{file_step, select_step, own_machine_access, other_machine_access, own_host_access, other_host_access, store_here, store_elsewhere}
+use Rattle.aia_aplic.specs.Stands.{AplicState, AplicStands, domain_name}
 use Rattle.aia_replay.specs.declared.machine.Machine.{Machine}
 use Rattle.aia_replay.specs.Places.{IsHost, name_of, csr_line, spot_of, select_place}
 use Rattle.aia_replay.specs.Stands.{FileStands, MachineStands, MachineServes, HasDone}
@@ -64,17 +71,26 @@ rests m h f event is stands = record {
   select = stands.select ∙ sym (select_step event h f ∙ ap (λ d. select_told d (select_of h f)) is);
 }
 
--- an event that is nothing to any file
-pub all_rest : (m : Machine) (h : History) (event : Event) → has_machine (event ∷ h) ≡ has_machine h → harts_of (event ∷ h) ≡ harts_of h → guests_of (event ∷ h) ≡ guests_of h
-    → ((f : FileName) → deed_at h f event ≡ Rests) → MachineStands m h → MachineStands m (event ∷ h)
-all_rest m h event there harts guests is stands = record {
-  there = there ∙ stands.there;
-  harts = stands.harts ∙ sym harts;
-  guests = stands.guests ∙ sym guests;
-  few_harts = stands.few_harts;
-  few_guests = stands.few_guests;
-  each = λ f inside. rests m h f event (is f) (stands.each f inside);
-}
+-- an event that is nothing to any file, and leaves them
+pub all_rest : (m n : Machine) (h : History) (event : Event) → n.imsic ≡ m.imsic → n.selects ≡ m.selects → has_machine (event ∷ h) ≡ has_machine h → harts_of (event ∷ h) ≡ harts_of h → guests_of (event ∷ h) ≡ guests_of h
+    → ((f : FileName) → deed_at h f event ≡ Rests) → AplicStands n.aplic (acts_of (event ∷ h)) → MachineStands m h → MachineStands n (event ∷ h)
+all_rest m n h event imsic selects there harts guests is aplic stands =
+    let same : n.imsic.harts ≡ m.imsic.harts = ap (λ (i : Harts). i.harts) imsic in
+    record {
+      there = there ∙ stands.there;
+      harts = same ∙ stands.harts ∙ sym harts;
+      guests = ap (λ (i : Harts). i.guests) imsic ∙ stands.guests ∙ sym guests;
+      few_harts = subst (λ k. k ≤ 4) (sym same) stands.few_harts;
+      few_guests = subst (λ k. k ≤ 7) (sym (ap (λ (i : Harts). i.guests) imsic)) stands.few_guests;
+      each = λ f inside. rests n h f event (is f) (kept f (stands.each f (subst (λ (i : Harts). IsThere i (spot_of f)) imsic inside)));
+      aplic = aplic;
+    }
+  where
+    kept : (f : FileName) → FileStands m h f → FileStands n h f
+    kept f old = record {
+      file = ap (λ (i : Harts). shown (file_at i (spot_of f))) imsic ∙ old.file;
+      select = ap (λ xs. get_or xs (select_place f) 0) selects ∙ old.select;
+    }
 
 -- what a file is after a deed that was done
 file_done : (m n : Machine) (f : FileName) (deed : Deed) (h : History) → HasDone m n f deed → FileStands m h f
@@ -101,8 +117,8 @@ there_too a b (SupervisorFile hart) e inside = omega arith
 -- a deed was done at one file, which the event is to it, and to the others nothing
 pub one_file : (m n : Machine) (f : FileName) (deed : Deed) (h : History) (event : Event) → IsThere m.imsic (spot_of f) → HasDone m n f deed → MachineStands m h
     → has_machine (event ∷ h) ≡ has_machine h → harts_of (event ∷ h) ≡ harts_of h → guests_of (event ∷ h) ≡ guests_of h
-    → deed_at h f event ≡ deed → ((g : FileName) → g ≢ f → deed_at h g event ≡ Rests) → MachineStands n (event ∷ h)
-one_file m n f deed h event there done stands machine harts guests is others =
+    → acts_of (event ∷ h) ≡ acts_of h → deed_at h f event ≡ deed → ((g : FileName) → g ≢ f → deed_at h g event ≡ Rests) → MachineStands n (event ∷ h)
+one_file m n f deed h event there done stands machine harts guests acts is others =
     let shape = same_shape m n f deed done in
     record {
       there = machine ∙ stands.there;
@@ -114,6 +130,7 @@ one_file m n f deed h event there done stands machine harts guests is others =
         | inl e ↦ subst (λ (x : FileName). FileStands n (event ∷ h) x) (sym e) (this (stands.each f there))
         | inr ne ↦ rests n h g event (others g ne) (others_kept m n f g deed h done there inside_old ne (stands.each g inside_old))
       ];
+      aplic = subst (λ (a : AplicState). AplicStands a (acts_of (event ∷ h))) (sym done.aplic) (subst (AplicStands m.aplic) (sym acts) stands.aplic);
     }
   where
     this : FileStands m h f → FileStands n (event ∷ h) f
@@ -136,6 +153,7 @@ put_back m n f h there done stands =
         | inl e ↦ subst (λ (x : FileName). FileStands n h x) (sym e) (this (stands.each f there))
         | inr ne ↦ others_kept m n f g Rests h done there inside_old ne (stands.each g inside_old)
       ];
+      aplic = subst (λ (a : AplicState). AplicStands a (acts_of h)) (sym done.aplic) stands.aplic;
     }
   where
     this : FileStands m h f → FileStands n h f
@@ -188,9 +206,9 @@ other_access levels.Host host h hart (MachineFile x) csr op ne = refl
 other_access levels.Guest host h hart g csr op ne = absurd host
 
 machine_stays : (level : Level) → IsHost level → (h : History) (hart : ℕ) (csr : Csr) (op : Op)
-    → (has_machine (Accepted (csr_line level hart csr op) ∷ h) ≡ has_machine h) × (harts_of (Accepted (csr_line level hart csr op) ∷ h) ≡ harts_of h) × (guests_of (Accepted (csr_line level hart csr op) ∷ h) ≡ guests_of h)
-machine_stays levels.Machine host h hart csr op = (refl, refl, refl)
-machine_stays levels.Host host h hart csr op = (refl, refl, refl)
+    → (has_machine (Accepted (csr_line level hart csr op) ∷ h) ≡ has_machine h) × (harts_of (Accepted (csr_line level hart csr op) ∷ h) ≡ harts_of h) × (guests_of (Accepted (csr_line level hart csr op) ∷ h) ≡ guests_of h) × (acts_of (Accepted (csr_line level hart csr op) ∷ h) ≡ acts_of h)
+machine_stays levels.Machine host h hart csr op = (refl, refl, refl, refl)
+machine_stays levels.Host host h hart csr op = (refl, refl, refl, refl)
 machine_stays levels.Guest host h hart csr op = absurd host
 
 -- the refusal of an access of a hart that is there, by the select number that the machine keeps
@@ -222,7 +240,7 @@ accessed_there m n level host k csr op value inside given done =
       None,
       refusal_there m level host k csr op h inside stands ∙ cond-false _ _ _ found.0,
       ap Wide (sym found.1 ∙ ap (λ s. csr_shown s (shown (file_at m.imsic (spot_of f))) csr) file.select ∙ ap (λ x. csr_shown (select_of h f) x csr) file.file) ∙ sym (csr_accepted level host h k csr op),
-      one_file m n f (Accesses csr op) h event there done stands stays.0 stays.1 stays.2 (own_access level host h k csr op) (λ g ne. other_access level host h k g csr op ne),
+      one_file m n f (Accesses csr op) h event there done stands stays.0 stays.1 stays.2 stays.3 (own_access level host h k csr op) (λ g ne. other_access level host h k g csr op ne),
     ))
 
 pub illegal_there : (m n : Machine) (level : Level) → IsHost level → (k : ℕ) (csr : Csr) (op : Op) → k < m.imsic.harts
@@ -248,13 +266,23 @@ load_refused m addr word is = refused m (Load addr) word (λ h stands. load_refu
 pub store_refused : (m : Machine) (addr value : ℕ) (word : Answer) → Some word ≡ place_refusal (spot_at m.imsic.harts m.imsic.guests addr) addr → MachineServes m m (Store addr value) word
 store_refused m addr value word is = refused m (Store addr value) word (λ h stands. store_refusal h addr value stands.there ∙ ap (λ s. place_refusal s addr) (sym (page_stands m h addr stands)) ∙ sym is)
 
-pub loaded : (m : Machine) (addr : ℕ) → None ≡ place_refusal (spot_at m.imsic.harts m.imsic.guests addr) addr → MachineServes m m (Load addr) (Narrow 0)
-loaded m addr is = by_refusal m m (Load addr) (Narrow 0) (λ h stands. (
+not_refused : (m : Machine) (addr : ℕ) (h : History) → None ≡ place_refusal (spot_at m.imsic.harts m.imsic.guests addr) addr → MachineStands m h → place_refusal (page_at h addr) addr ≡ None
+not_refused m addr h is stands = ap (λ s. place_refusal s addr) (sym (page_stands m h addr stands)) ∙ sym is
+
+load_read : (m : Machine) (addr value : ℕ) → None ≡ place_refusal (spot_at m.imsic.harts m.imsic.guests addr) addr → ((h : History) → MachineStands m h → value ≡ load_value h addr) → MachineServes m m (Load addr) (Narrow value)
+load_read m addr value is reads = by_refusal m m (Load addr) (Narrow value) (λ h stands. (
   None,
-  load_refusal h addr stands.there ∙ ap (λ s. place_refusal s addr) (sym (page_stands m h addr stands)) ∙ sym is,
-  refl,
-  all_rest m h (Accepted (Load addr)) refl refl refl (λ f. refl) stands,
+  load_refusal h addr stands.there ∙ not_refused m addr h is stands,
+  ap Narrow (reads h stands),
+  all_rest m m h (Accepted (Load addr)) refl refl refl refl refl (λ f. refl) stands.aplic stands,
 ))
+
+pub loaded : (m : Machine) (addr : ℕ) → None ≡ place_refusal (spot_at m.imsic.harts m.imsic.guests addr) addr → domain_at addr ≡ None → MachineServes m m (Load addr) (Narrow 0)
+loaded m addr is none = load_read m addr 0 is (λ h stands. sym (ap (place_read h addr) none))
+
+pub register_loaded : (m : Machine) (addr domain value : ℕ) → None ≡ place_refusal (spot_at m.imsic.harts m.imsic.guests addr) addr → domain_at addr ≡ Some (domain_name domain)
+    → ((past : Past) → AplicStands m.aplic past → value ≡ register_read past (domain_name domain) (register_at addr)) → MachineServes m m (Load addr) (Narrow value)
+register_loaded m addr domain value is there reads = load_read m addr value is (λ h stands. reads (acts_of h) stands.aplic ∙ sym (ap (place_read h addr) there))
 
 -- the file in whose page the address lies
 page_of_name : (i : Harts) (addr : ℕ) (f : FileName) → i.harts ≤ 4 → IsThere i (spot_of f) → is_at f addr ≡ true → spot_at i.harts i.guests addr ≡ spot_of f
@@ -289,10 +317,10 @@ stored_at m n addr value spot h f few at there inside lands others selects stand
 
 pub stored : (m n : Machine) (addr value : ℕ) (spot : Spot) → None ≡ place_refusal (spot_at m.imsic.harts m.imsic.guests addr) addr → spot ≡ spot_at m.imsic.harts m.imsic.guests addr → IsThere m.imsic spot
     → SameFile (shown (file_at n.imsic spot)) (landed (addr % 0x1000) value (shown (file_at m.imsic spot))) → n.imsic ≡ with_file m.imsic spot (file_at n.imsic spot) → n.selects ≡ m.selects
-    → MachineServes m n (Store addr value) Okay
-stored m n addr value spot is at there lands others selects = by_refusal m n (Store addr value) Okay (λ h stands. (
+    → domain_at addr ≡ None → n.aplic ≡ m.aplic → MachineServes m n (Store addr value) Okay
+stored m n addr value spot is at there lands others selects outside aplic = by_refusal m n (Store addr value) Okay (λ h stands. (
   None,
-  store_refusal h addr value stands.there ∙ ap (λ s. place_refusal s addr) (sym (page_stands m h addr stands)) ∙ sym is,
+  store_refusal h addr value stands.there ∙ not_refused m addr h is stands,
   refl,
   after_store h stands,
 ))
@@ -308,12 +336,91 @@ stored m n addr value spot is at there lands others selects = by_refusal m n (St
           few_harts = subst (λ k. k ≤ 4) (sym harts) stands.few_harts;
           few_guests = subst (λ k. k ≤ 7) (sym guests) stands.few_guests;
           each = λ f inside. let inside_old = there_too n.imsic m.imsic f harts inside in stored_at m n addr value spot h f stands.few_harts at there inside_old lands others selects (stands.each f inside_old);
+          aplic = subst (λ (a : AplicState). AplicStands a (acts_of (Accepted (Store addr value) ∷ h))) (sym aplic)
+              (subst (AplicStands m.aplic) (sym (ap (λ o. with_act (option_map (λ d. Written d (register_at addr) value) o) (acts_of h)) outside)) stands.aplic);
         }
 
--- ---- no host's file lies in memory
+-- no host's file lies in a domain's control region, and neither does memory
+past_region : (base addr : ℕ) → base + 0x8000 ≤ addr → is_in_region base addr ≡ false
+past_region base addr past = grind (arith, nat_tests)
+
+past_regions : (addr : ℕ) → 0x0c010000 ≤ addr → domain_at addr ≡ None
+past_regions addr past =
+    ap (λ c. cond c (Some Root) (cond (is_in_region child_region addr) (Some Child) None)) (past_region root_region addr (omega arith)) ∙ ap (λ c. cond c (Some Child) None) (past_region child_region addr (omega arith))
+
+region_below : (addr : ℕ) (d : DomainName) → domain_at addr ≡ Some d → addr < 0x0c010000
+region_below addr d there = elim (cases_lt addr 0x0c010000) [
+  | inl low ↦ low
+  | inr past ↦ let bad : ◌≡◌ {A = Option DomainName} None (Some d) = sym (past_regions addr past) ∙ there in absurd (cc)
+]
 
 not_in_memory : (addr : ℕ) → addr < 0x80000000 → is_in_memory addr ≡ false
 not_in_memory addr low = grind (arith, nat_tests)
+
+pub region_is_free : (harts guests addr : ℕ) (d : DomainName) → domain_at addr ≡ Some d → addr % 4 ≡ 0 → ◌≡◌ {A = Option Answer} None (place_refusal (spot_at harts guests addr) addr)
+region_is_free harts guests addr d there aligned =
+    let low = region_below addr d there in
+    sym (ap (λ s. place_refusal s addr) (below_all harts guests addr (omega (arith, low)))
+    ∙ ap (λ b. cond (not (nat_eq (addr % 4) 0 && (false || b || is_in_memory addr))) (Some Fault) (cond (guards spots.Nowhere addr) (Some Guarded) None)) (ap is_some there)
+    ∙ ap (λ b. cond (not (b && true)) (Some Fault) (cond (guards spots.Nowhere addr) (Some Guarded) None)) (eq-eqb (addr % 4) 0 aligned)
+    ∙ ap (λ b. cond (false || b) (Some Guarded) None) (not_in_memory addr (omega (arith, low))))
+
+not_in_region : (addr page : ℕ) → 0x24000000 ≤ page → is_in_page page addr ≡ true → domain_at addr ≡ None
+not_in_region addr page high here = let from = from_page page addr here in past_regions addr (omega arith)
+
+no_file_there : (addr : ℕ) (d : DomainName) (f : FileName) → domain_at addr ≡ Some d → is_at f addr ≡ false
+no_file_there addr d f there = elim (cases_Bool (is_at f addr)) [
+  | inl here ↦ let bad : ◌≡◌ {A = Option DomainName} None (Some d) = sym (outside f here) ∙ there in absurd (cc)
+  | inr elsewhere ↦ elsewhere
+]
+  where
+    outside : (g : FileName) → is_at g addr ≡ true → domain_at addr ≡ None
+    outside (MachineFile hart) here = not_in_region addr (machine_page hart) (omega arith) here
+    outside (SupervisorFile hart) here = not_in_region addr (supervisor_page hart) (omega arith) here
+
+pub register_stored : (m n : Machine) (addr value domain : ℕ) → None ≡ place_refusal (spot_at m.imsic.harts m.imsic.guests addr) addr → domain_at addr ≡ Some (domain_name domain)
+    → n.imsic ≡ m.imsic → n.selects ≡ m.selects → ((past : Past) → AplicStands m.aplic past → AplicStands n.aplic (Written (domain_name domain) (register_at addr) value ∷ past)) → MachineServes m n (Store addr value) Okay
+register_stored m n addr value domain is there imsic selects writes = by_refusal m n (Store addr value) Okay (λ h stands. (
+  None,
+  store_refusal h addr value stands.there ∙ not_refused m addr h is stands,
+  refl,
+  all_rest m n h (Accepted (Store addr value)) imsic selects refl refl refl (λ f. store_elsewhere h f addr value (no_file_there addr (domain_name domain) f there))
+      (subst (AplicStands n.aplic) (sym (ap (λ o. with_act (option_map (λ d. Written d (register_at addr) value) o) (acts_of h)) there)) (writes (acts_of h) stands.aplic)) stands,
+))
+
+-- ---- wires
+
+pub no_source : (past : Past) (s : ℕ) → s ≡ 0 → is_source past s ≡ false
+no_source past s none = at (sources_in past)
+  where
+    at : (n : ℕ) → is_in_range 1 n s ≡ false
+    at n = grind (arith, nat_tests)
+
+pub past_sources : (past : Past) (s n : ℕ) → n ≡ sources_in past → n < s → is_source past s ≡ false
+past_sources past s n is beyond = subst (λ k. is_in_range 1 k s ≡ false) is out
+  where
+    out : is_in_range 1 n s ≡ false
+    out = grind (arith, nat_tests)
+
+pub among_sources : (past : Past) (s n : ℕ) → n ≡ sources_in past → (s ≡ 0 → ⊥) → s ≤ n → is_source past s ≡ true
+among_sources past s n is some within = subst (λ k. is_in_range 1 k s ≡ true) is inside
+  where
+    inside : is_in_range 1 n s ≡ true
+    inside = grind (arith, nat_tests)
+
+pub wire_refused : (m : Machine) (source : ℕ) (level : Bool) → ((past : Past) → AplicStands m.aplic past → is_source past source ≡ false) → MachineServes m m (Wire source level) Range
+wire_refused m source level none = refused m (Wire source level) Range (λ h stands. wire_refusal h source level stands.there ∙ cond-true _ _ _ (ap not (none (acts_of h) stands.aplic)))
+
+pub wire_driven : (m n : Machine) (source : ℕ) (level : Bool) → n.imsic ≡ m.imsic → n.selects ≡ m.selects → ((past : Past) → AplicStands m.aplic past → is_source past source ≡ true)
+    → ((past : Past) → AplicStands m.aplic past → AplicStands n.aplic (Driven source level ∷ past)) → MachineServes m n (Wire source level) Okay
+wire_driven m n source level imsic selects there drives = by_refusal m n (Wire source level) Okay (λ h stands. (
+  None,
+  wire_refusal h source level stands.there ∙ cond-false _ _ _ (ap not (there (acts_of h) stands.aplic)),
+  refl,
+  all_rest m n h (Accepted (Wire source level)) imsic selects refl refl refl (λ f. refl) (drives (acts_of h) stands.aplic) stands,
+))
+
+-- ---- no host's file lies in memory
 
 machine_below : (addr hart : ℕ) → hart < 4 → is_in_page (machine_page hart) addr ≡ true → addr < 0x80000000
 machine_below addr hart few here = let below = to_page (machine_page hart) addr here in omega arith
@@ -323,7 +430,7 @@ host_below addr hart few here = let below = to_page (supervisor_page hart) addr 
 
 free_place : (spot : Spot) (addr : ℕ) → is_page spot ≡ true → is_guest_page spot ≡ false → addr % 4 ≡ 0 → is_in_memory addr ≡ false → place_refusal spot addr ≡ None
 free_place spot addr page guest aligned outside =
-    ap (λ b. cond (not (nat_eq (addr % 4) 0 && (b || is_in_memory addr))) (Some Fault) (cond (guards spot addr) (Some Guarded) None)) page
+    ap (λ b. cond (not (nat_eq (addr % 4) 0 && (b || is_some (domain_at addr) || is_in_memory addr))) (Some Fault) (cond (guards spot addr) (Some Guarded) None)) page
     ∙ ap (λ b. cond (not (b && true)) (Some Fault) (cond (guards spot addr) (Some Guarded) None)) (eq-eqb (addr % 4) 0 aligned)
     ∙ ap (λ b. cond (b || is_in_memory addr) (Some Guarded) None) guest ∙ ap (λ b. cond b (Some Guarded) None) outside
 

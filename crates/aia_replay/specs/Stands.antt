@@ -9,12 +9,17 @@ use Rattle.aia_regs.specs.declared.access.Op.{Op}
 use Rattle.aia_file.specs.FileState.{shown}
 use Rattle.aia_imsic.specs.Files.{IsThere, file_at, with_file, AreEmpty}
 use Rattle.aia_model.specs.Event.{History, has_machine, harts_of, guests_of}
+use Rattle.aia_imsic.specs.Map.{spot_at}
+use Rattle.aia_aplic.specs.Stands.{AplicStands, IsNewAplic, domain_name}
+use Rattle.aia_model.specs.Act.{domain_at, acts_of}
 use Rattle.aia_model.specs.FileOf.{FileName, Deed, select_of, file_of}
 use Rattle.aia_model.specs.FileOf.Deed.{Accesses, Rests}
 use Rattle.aia_model.specs.Refusal.{makes_machine}
 use Rattle.aia_model.specs.Answer.{answer, after}
 use Rattle.aia_model.specs.Script.{text_answer, after_text}
 use Rattle.aia_replay.specs.declared.machine.Machine.{Machine}
+use Rattle.aia_replay.specs.declared.machine.Place.{Place}
+use Rattle.aia_replay.specs.declared.machine.Place.TheVariants.{File, Domain}
 use Rattle.aia_replay.specs.Places.{FileDone, spot_of, select_place}
 use Rattle.aia_replay.specs.declared.engine.Engine.{Engine}
 
@@ -25,7 +30,7 @@ pub record FileStands (m : Machine) (h : History) (f : FileName) : Type 0 where
   pub file : shown (file_at m.imsic (spot_of f)) ≡ file_of h f
   pub select : slice_index m.selects (select_place f) ≡ select_of h f
 
--- The machine is that of the history, and each file of the host that is there stands for it.
+-- The machine is that of the history, and each file of the host that is there, and the APLIC, stand for it.
 pub record MachineStands (m : Machine) (h : History) : Type 0 where
   pub there : has_machine h ≡ true
   pub harts : m.imsic.harts ≡ harts_of h
@@ -33,20 +38,28 @@ pub record MachineStands (m : Machine) (h : History) : Type 0 where
   pub few_harts : m.imsic.harts ≤ 4
   pub few_guests : m.imsic.guests ≤ 7
   pub each : (f : FileName) → IsThere m.imsic (spot_of f) → FileStands m h f
+  pub aplic : AplicStands m.aplic (acts_of h)
 
--- A machine as it begins: so many harts and guest files, all files empty, all select numbers 0.
-pub record IsNewMachine (hart_count guest_count n : ℕ) (m : Machine) : Type 0 where
+-- A machine as it begins: so many harts, guest files and sources, all files empty, all select numbers 0, the APLIC new.
+pub record IsNewMachine (hart_count guest_count n source_count : ℕ) (m : Machine) : Type 0 where
   pub harts : m.imsic.harts ≡ hart_count
   pub guests : m.imsic.guests ≡ guest_count
   pub few_harts : m.imsic.harts ≤ 4
   pub few_guests : m.imsic.guests ≤ 7
   pub files : AreEmpty m.imsic n
   pub selects : m.selects ≡ replicate 8 0
+  pub aplic : IsNewAplic source_count hart_count m.aplic
 
--- A deed was done at one file of the host, or nothing (a deed that rests); every other file and select number is as it was.
+-- What lies at an address where the host may load and store: a file of the host, by its page, or a domain, by its control region.
+abbrev pub IsReached : Machine → ℕ → Place → Type 0
+IsReached m addr (File spot) = (spot ≡ spot_at m.imsic.harts m.imsic.guests addr) × IsThere m.imsic spot × (domain_at addr ≡ None)
+IsReached m addr (Domain domain) = (domain_at addr ≡ Some (domain_name domain)) × (domain ≤ 1)
+
+-- A deed was done at one file of the host, or nothing (a deed that rests); every other file and select number, and the APLIC, are as they were.
 pub record HasDone (old new : Machine) (f : FileName) (deed : Deed) : Type 0 where
   pub imsic : new.imsic ≡ with_file old.imsic (spot_of f) (file_at new.imsic (spot_of f))
   pub selects : new.selects ≡ slice_set old.selects (select_place f) (slice_index new.selects (select_place f))
+  pub aplic : new.aplic ≡ old.aplic
   pub done : FileDone (file_at old.imsic (spot_of f)) (file_at new.imsic (spot_of f)) (slice_index old.selects (select_place f)) (slice_index new.selects (select_place f)) deed
 
 -- What an access that was answered, or refused, is to its file.

@@ -12,12 +12,16 @@ ghost use Rattle.aia_model.specs.FileOf.{Accesses, file_after};
 ghost use Rattle.aia_model.specs.Refusal.{raises_illegal, is_machine_size, place_refusal};
 ghost use Rattle.aia_model.specs.Answer.{csr_shown};
 ghost use Rattle.aia_replay.specs.Places.{IsHost, FileDone, csr_line, name_of, spot_of, select_place};
-ghost use Rattle.aia_replay.specs.Stands.{HasDone, MachineServes, IsNewMachine, deed_of};
+ghost use Rattle.aia_replay.specs.Stands.{HasDone, MachineServes, IsNewMachine, IsReached, deed_of};
+ghost use Rattle.std.specs.Option.{option_map};
+ghost use Rattle.aia_model.specs.Act.{domain_at};
+ghost use Rattle.aia_aplic.specs.Stands.{domain_name};
 
+use aia_aplic::Aplic;
 use aia_csr::{Access, Level, decide};
 use aia_file::File;
 use aia_imsic::{Imsic, Spot};
-use aia_regs::address_map::{MEMORY, MEMORY_END, PAGE};
+use aia_regs::address_map::{MEMORY, MEMORY_END, PAGE, REGION, ROOT_DOMAIN};
 use aia_regs::{Csr, Op};
 use aia_script::{Answer, Line};
 use std::alloc::{AllocError, Global};
@@ -28,11 +32,21 @@ const SELECT_NUMBERS: u64 = 0x1000;
 /// Two select numbers for each of four harts.
 const SELECTS: usize = 8;
 
-/// All interrupt files, and the select numbers of the host: of each hart `miselect`, then `siselect`.
+/// What lies at an address where the host may load and store.
+#[derive(Clone, Copy)]
+pub enum Place {
+    /// The page of one of its interrupt files.
+    File(Spot),
+    /// The control region of an APLIC domain, 0 or 1.
+    Domain(u32),
+}
+
+/// All interrupt files, the select numbers of the host, of each hart `miselect`, then `siselect`, and the APLIC.
 #[derive(Drop)]
 pub struct Machine {
     imsic: Imsic,
     selects: [u64; SELECTS],
+    aplic: Aplic,
 }
 
 impl Machine {
@@ -46,16 +60,18 @@ impl Machine {
         sources: u64,
     ) -> Result<Option<Machine>, AllocError>
         ensures size { IfOk result (λ made. is_some made ≡ is_machine_size harts guests n sources) }
-        ensures new { IfOk result (λ made. IfSome made (IsNewMachine harts guests n)) }
+        ensures new { IfOk result (λ made. IfSome made (IsNewMachine harts guests n sources)) }
         ensures err { OnErr result (is_machine_size harts guests n sources ≡ true) }
     {
         if !is_machine_size(harts, guests, n, sources) {
             return Ok(None);
         }
         let imsic = Imsic::new(alloc, harts as u32, guests as u32, n as u32)?;
+        let aplic = Aplic::new(alloc, harts as u32, sources as u32)?;
         Ok(Some(Machine {
             imsic,
             selects: [0; SELECTS],
+            aplic,
         }))
     }
 
@@ -66,6 +82,7 @@ impl Machine {
     {
         match *line {
             Line::Machine { .. } => Answer::Again,
+            Line::Wire { source, level } => self.wire(source, level),
             Line::Load { addr } => self.load(addr),
             Line::Store { addr, value } => self.store(addr, value),
             Line::MachineCsr { hart, csr, op } => self.access(Level::Machine, hart, csr, op),
@@ -73,11 +90,27 @@ impl Machine {
         }
     }
 
+    fn wire(&mut self, source: u64, level: bool) -> Answer
+        ensures { MachineServes self.old self.new (Line.Wire source level) result }
+    {
+        if source == 0 {
+            return Answer::Range;
+        }
+        if source > u64::from(self.aplic.sources()) {
+            return Answer::Range;
+        }
+        self.aplic.wire(source as u32, level);
+        Answer::Okay
+    }
+
     fn load(&self, addr: u64) -> Answer
         ensures { MachineServes self.now self.now (Line.Load addr) result }
     {
         match self.reach(addr) {
-            Ok(_) => Answer::Narrow(0),
+            Ok(Place::File(_)) => Answer::Narrow(0),
+            Ok(Place::Domain(domain)) => {
+                Answer::Narrow(self.aplic.load(domain, (addr % REGION) as u32))
+            }
             Err(word) => word,
         }
     }
@@ -86,26 +119,33 @@ impl Machine {
         ensures { MachineServes self.old self.new (Line.Store addr value) result }
     {
         match self.reach(addr) {
-            Ok(spot) => {
+            Ok(Place::File(spot)) => {
                 self.imsic.store(spot, (addr % PAGE) as u32, value);
+                Answer::Okay
+            }
+            Ok(Place::Domain(domain)) => {
+                self.aplic.store(domain, (addr % REGION) as u32, value);
                 Answer::Okay
             }
             Err(word) => word,
         }
     }
 
-    /// The host's file in whose page the address lies, or the word that refuses a load or store there.
-    fn reach(&self, addr: u64) -> Result<Spot, Answer>
-        ensures found { IfOk result (λ spot. (spot ≡ spot_at self.now.imsic.harts self.now.imsic.guests addr) × IsThere self.now.imsic spot) }
+    /// What lies at the address, or the word that refuses a load or store there.
+    fn reach(&self, addr: u64) -> Result<Place, Answer>
+        ensures found { IfOk result (IsReached self.now addr) }
         ensures refused { result_err result ≡ place_refusal (spot_at self.now.imsic.harts self.now.imsic.guests addr) addr }
     {
         if addr % 4 != 0 {
             return Err(Answer::Fault);
         }
+        if let Some(domain) = domain_at(addr) {
+            return Ok(Place::Domain(domain));
+        }
         let spot = self.imsic.locate(addr);
         match spot {
-            Spot::MachineFile(_) => Ok(spot),
-            Spot::HostFile(_) => Ok(spot),
+            Spot::MachineFile(_) => Ok(Place::File(spot)),
+            Spot::HostFile(_) => Ok(Place::File(spot)),
             Spot::GuestFile(..) => Err(Answer::Guarded),
             Spot::Nowhere if is_in_memory(addr) => Err(Answer::Guarded),
             Spot::Nowhere => Err(Answer::Fault),
@@ -213,6 +253,17 @@ fn access_top(file: &mut File, op: Op) -> u64
     } else {
         file.top()
     }
+}
+
+/// The domain in whose control region the address lies.
+fn domain_at(addr: u64) -> Option<u32>
+    ensures named { option_map domain_name result ≡ domain_at addr }
+    ensures few { IfSome result (λ domain. domain ≤ 1) }
+{
+    if addr < ROOT_DOMAIN || addr >= ROOT_DOMAIN + 2 * REGION {
+        return None;
+    }
+    Some(((addr - ROOT_DOMAIN) / REGION) as u32)
 }
 
 fn is_in_memory(addr: u64) -> bool
