@@ -7,7 +7,7 @@ pub struct Row {
 }
 
 /// All rows.
-pub const ROWS: [Row; 10] = [
+pub const ROWS: [Row; 12] = [
     Row {
         script: NO_LINES_SCRIPT,
         answers: NO_LINES_ANSWERS,
@@ -37,6 +37,10 @@ pub const ROWS: [Row; 10] = [
         answers: MACHINE_LEVEL_SETS_AND_CLEARS_ANSWERS,
     },
     Row {
+        script: LONGEST_TEXTS_SCRIPT,
+        answers: LONGEST_TEXTS_ANSWERS,
+    },
+    Row {
         script: CLAIM_EXAMPLE_SCRIPT,
         answers: CLAIM_EXAMPLE_ANSWERS,
     },
@@ -47,6 +51,10 @@ pub const ROWS: [Row; 10] = [
     Row {
         script: FILES_AND_BYTE_ORDERS_EXAMPLE_SCRIPT,
         answers: FILES_AND_BYTE_ORDERS_EXAMPLE_ANSWERS,
+    },
+    Row {
+        script: WIRES_MODES_AND_DELEGATION_EXAMPLE_SCRIPT,
+        answers: WIRES_MODES_AND_DELEGATION_EXAMPLE_ANSWERS,
     },
 ];
 
@@ -215,6 +223,19 @@ pub const MACHINE_LEVEL_SETS_AND_CLEARS_ANSWERS: &str = "\
     0x00000000000000c0\n\
     illegal\n\
     fault\n";
+
+/// A comment of 128 bytes, the most that a text has; a text of 129; and a last line with no line feed.
+pub const LONGEST_TEXTS_SCRIPT: &str = "\
+    machine 1 1 63 8\n\
+    ################################################################################################################################\n\
+    #################################################################################################################################\n\
+    wire 1 1";
+
+/// What [`LONGEST_TEXTS_SCRIPT`] prints.
+pub const LONGEST_TEXTS_ANSWERS: &str = "\
+    ok\n\
+    bad\n\
+    ok\n";
 
 /// One interrupt, from a device's store to the hart's claim: the repository's example `claim`.
 pub const CLAIM_EXAMPLE_SCRIPT: &str = "\
@@ -544,3 +565,229 @@ pub const FILES_AND_BYTE_ORDERS_EXAMPLE_ANSWERS: &str = "\
     bad\n\
     bad\n\
     range\n";
+
+/// The example of wires, modes and delegation: `examples/wires-modes-and-delegation.script`.
+pub const WIRES_MODES_AND_DELEGATION_EXAMPLE_SCRIPT: &str = "\
+    # Wired sources at the APLIC: a level, an edge, and a source that is handed to the child domain and taken back.\n\
+    #\n\
+    # A machine of two harts with no guest files, the identities 1 to 63 and eight wired sources. All wires are low at first.\n\
+    machine 2 0 63 8\n\
+    \n\
+    # The APLIC has two domains, each with a control region of 32 KiB: the root domain, at machine level, at 0x0c000000,\n\
+    # and its child, at supervisor level, at 0x0c008000. The root domain has all sources until it delegates them.\n\
+    \n\
+    # ---- a level source\n\
+    # sourcecfg of source i lies at 4 * i in the region. Mode 6 is level high.\n\
+    st 0x0c000004 6\n\
+    ld 0x0c000004\n\
+    # A source that becomes active is not enabled, and its target is hart 0 with priority 1.\n\
+    ld 0x0c001e00\n\
+    ld 0x0c003004\n\
+    # target of source i lies at 0x3000 + 4 * i: hart 1 in bits 31:18, priority 5 in bits 7:0.\n\
+    st 0x0c003004 0x40005\n\
+    ld 0x0c003004\n\
+    # A hart that isn't there becomes hart 0, and priority 0 becomes 1. Then hart 1 and priority 5 again.\n\
+    st 0x0c003004 0x80000\n\
+    ld 0x0c003004\n\
+    st 0x0c003004 0x40005\n\
+    # setienum enables a source by its number. setie shows the enable bits, bit i for source i.\n\
+    st 0x0c001edc 1\n\
+    ld 0x0c001e00\n\
+    # setip shows the pending bits, in_clrip the rectified inputs: for level high the wires themselves.\n\
+    ld 0x0c001c00\n\
+    ld 0x0c001d00\n\
+    # The wire goes high. A level source is pending exactly while its rectified input is high,\n\
+    wire 1 1\n\
+    ld 0x0c001c00\n\
+    ld 0x0c001d00\n\
+    # so clearing it, by a one in in_clrip or by its number in clripnum, has no effect while the wire is high,\n\
+    st 0x0c001d00 0x2\n\
+    st 0x0c001ddc 1\n\
+    ld 0x0c001c00\n\
+    # and setting it, by a one in setip or by its number in setipnum, has none while the wire is low.\n\
+    wire 1 0\n\
+    ld 0x0c001c00\n\
+    st 0x0c001c00 0x2\n\
+    st 0x0c001cdc 1\n\
+    ld 0x0c001c00\n\
+    \n\
+    # ---- an edge source\n\
+    # Mode 4 is rising edge. A rise is remembered: the source is pending still when its wire is low again.\n\
+    st 0x0c000008 4\n\
+    wire 2 1\n\
+    wire 2 0\n\
+    ld 0x0c001c00\n\
+    ld 0x0c001d00\n\
+    # A one in in_clrip clears it.\n\
+    st 0x0c001d00 0x4\n\
+    ld 0x0c001c00\n\
+    # A wire that is high already makes no second rise.\n\
+    wire 2 1\n\
+    st 0x0c001d00 0x4\n\
+    wire 2 1\n\
+    ld 0x0c001c00\n\
+    # Mode 5 is falling edge, whose rectified input is the inverse of the wire. Back in mode 4 the input is high again,\n\
+    # but a change of mode makes no rise.\n\
+    st 0x0c000008 5\n\
+    ld 0x0c001d00\n\
+    st 0x0c000008 4\n\
+    ld 0x0c001d00\n\
+    ld 0x0c001c00\n\
+    # Software can ask for an edge source by a store: here the number is taken big-endian, by setipnum_be.\n\
+    st 0x0c002004 0x02000000\n\
+    ld 0x0c001c00\n\
+    \n\
+    # ---- delegation\n\
+    # In sourcecfg of the root domain bit 10, D, with the child index 0, delegates source 3 to the child domain.\n\
+    st 0x0c00000c 0x400\n\
+    ld 0x0c00000c\n\
+    # There its register begins at 0, inactive. The child gives it mode 7, level low; the wire is low, so it is pending.\n\
+    ld 0x0c00800c\n\
+    st 0x0c00800c 7\n\
+    ld 0x0c009c00\n\
+    st 0x0c009edc 3\n\
+    st 0x0c00b00c 0x40002\n\
+    ld 0x0c009e00\n\
+    ld 0x0c00b00c\n\
+    # In the root domain the source has no pending bit, no enable bit and no target, whatever is stored. What the root\n\
+    # domain shows is source 2, pending with a high wire, and source 1, enabled.\n\
+    st 0x0c001edc 3\n\
+    st 0x0c00300c 0x40009\n\
+    ld 0x0c001c00\n\
+    ld 0x0c001d00\n\
+    ld 0x0c001e00\n\
+    ld 0x0c00300c\n\
+    # Delegating it again changes nothing.\n\
+    st 0x0c00000c 0x400\n\
+    ld 0x0c00800c\n\
+    ld 0x0c00b00c\n\
+    # In the child domain, source 1 is read-only zero, since it isn't delegated; and D makes a register 0, since the child\n\
+    # domain has no child.\n\
+    st 0x0c008004 6\n\
+    ld 0x0c008004\n\
+    st 0x0c00800c 0x400\n\
+    ld 0x0c00800c\n\
+    ld 0x0c009c00\n\
+    # The child makes it active once more. It begins anew.\n\
+    st 0x0c00800c 7\n\
+    ld 0x0c009c00\n\
+    ld 0x0c009e00\n\
+    ld 0x0c00b00c\n\
+    \n\
+    # ---- taking it back\n\
+    # The root domain gives it a mode: then it has the source, newly active, and pending, since the input is high.\n\
+    st 0x0c00000c 7\n\
+    ld 0x0c00000c\n\
+    ld 0x0c001c00\n\
+    ld 0x0c001e00\n\
+    ld 0x0c00300c\n\
+    # The child has nothing of it.\n\
+    ld 0x0c00800c\n\
+    ld 0x0c009c00\n\
+    ld 0x0c009d00\n\
+    ld 0x0c00b00c\n\
+    \n\
+    # ---- what is refused, or kept as 0\n\
+    # range: sources are numbered from 1, here to 8. bad: the level of a wire is 0 or 1.\n\
+    wire 0 1\n\
+    wire 9 1\n\
+    wire 1 2\n\
+    # fault: the address is no multiple of 4, or lies behind both regions.\n\
+    st 0x0c000006 6\n\
+    ld 0x0c010000\n\
+    # Modes 2 and 3 are reserved, and there is no child but 0: each makes the register 0.\n\
+    st 0x0c000010 3\n\
+    ld 0x0c000010\n\
+    st 0x0c000010 0x401\n\
+    ld 0x0c000010\n";
+
+/// What [`WIRES_MODES_AND_DELEGATION_EXAMPLE_SCRIPT`] prints.
+pub const WIRES_MODES_AND_DELEGATION_EXAMPLE_ANSWERS: &str = "\
+    ok\n\
+    ok\n\
+    0x00000006\n\
+    0x00000000\n\
+    0x00000001\n\
+    ok\n\
+    0x00040005\n\
+    ok\n\
+    0x00000001\n\
+    ok\n\
+    ok\n\
+    0x00000002\n\
+    0x00000000\n\
+    0x00000000\n\
+    ok\n\
+    0x00000002\n\
+    0x00000002\n\
+    ok\n\
+    ok\n\
+    0x00000002\n\
+    ok\n\
+    0x00000000\n\
+    ok\n\
+    ok\n\
+    0x00000000\n\
+    ok\n\
+    ok\n\
+    ok\n\
+    0x00000004\n\
+    0x00000000\n\
+    ok\n\
+    0x00000000\n\
+    ok\n\
+    ok\n\
+    ok\n\
+    0x00000000\n\
+    ok\n\
+    0x00000000\n\
+    ok\n\
+    0x00000004\n\
+    0x00000000\n\
+    ok\n\
+    0x00000004\n\
+    ok\n\
+    0x00000400\n\
+    0x00000000\n\
+    ok\n\
+    0x00000008\n\
+    ok\n\
+    ok\n\
+    0x00000008\n\
+    0x00040002\n\
+    ok\n\
+    ok\n\
+    0x00000004\n\
+    0x00000004\n\
+    0x00000002\n\
+    0x00000000\n\
+    ok\n\
+    0x00000007\n\
+    0x00040002\n\
+    ok\n\
+    0x00000000\n\
+    ok\n\
+    0x00000000\n\
+    0x00000000\n\
+    ok\n\
+    0x00000008\n\
+    0x00000000\n\
+    0x00000001\n\
+    ok\n\
+    0x00000007\n\
+    0x0000000c\n\
+    0x00000002\n\
+    0x00000001\n\
+    0x00000000\n\
+    0x00000000\n\
+    0x00000000\n\
+    0x00000000\n\
+    range\n\
+    range\n\
+    bad\n\
+    fault\n\
+    fault\n\
+    ok\n\
+    0x00000000\n\
+    ok\n\
+    0x00000000\n";

@@ -1,19 +1,44 @@
 //! Worked scripts as theorems: what the model makes of each script is, byte for byte, what it must print. Each function does
 //! nothing, and its clause is what was proved, by computing.
-#![tactic(auto, unfolding(aia_word::specs::Sets::word_of, aia_word::specs::Sets::least_of, aia_model::specs::Reading::number_at, aia_model::specs::Reading::n32_at, aia_model::specs::Reading::machine_at, aia_model::specs::Reading::store_at, aia_model::specs::Reading::load_at, aia_model::specs::Reading::csr_at, aia_model::specs::Reading::read_at, aia_model::specs::Reading::write_at, aia_model::specs::Reading::instruction_at, aia_model::specs::Reading::machine_csr_at, aia_model::specs::Reading::host_csr_at, aia_model::specs::Reading::line_at, aia_model::specs::Reading::reading, aia_model::specs::FileOf::select_of, aia_model::specs::FileOf::file_of, aia_model::specs::Answer::answer, aia_model::specs::Answer::after, aia_model::specs::AnswerText::hex_digits, aia_model::specs::AnswerText::answer_text))]
+#![tactic(auto, unfolding(aia_word::specs::Sets::word_of, aia_word::specs::Sets::least_of, aia_model::specs::Reading::number_at, aia_model::specs::Reading::n32_at, aia_model::specs::Reading::bit_at, aia_model::specs::Reading::machine_at, aia_model::specs::Reading::wire_at, aia_model::specs::Reading::store_at, aia_model::specs::Reading::load_at, aia_model::specs::Reading::csr_at, aia_model::specs::Reading::read_at, aia_model::specs::Reading::write_at, aia_model::specs::Reading::instruction_at, aia_model::specs::Reading::machine_csr_at, aia_model::specs::Reading::host_csr_at, aia_model::specs::Reading::line_at, aia_model::specs::Reading::reading, aia_model::specs::FileOf::select_of, aia_model::specs::FileOf::file_of, aia_regs::specs::DomainRegisters::domain_register_of, aia_model::specs::Act::newest, aia_model::specs::SourceOf::wire_of, aia_model::specs::SourceOf::enabled, aia_model::specs::SourceOf::target, aia_model::specs::SourceOf::pending, aia_model::specs::Answer::answer, aia_model::specs::Answer::after, aia_model::specs::AnswerText::hex_digits, aia_model::specs::AnswerText::answer_text))]
 
 ghost use Rattle.std.specs.Prelude.{◌≡◌};
 ghost use Rattle.aia_model.specs.Script.{answers};
 
+use crate::register_rows::{
+    ADDRESSES_OF_DOMAINS_ANSWERS, ADDRESSES_OF_DOMAINS_SCRIPT, BITS_OF_NO_SOURCE_ANSWERS,
+    BITS_OF_NO_SOURCE_SCRIPT, DELIVERY_READS_ZERO_ANSWERS, DELIVERY_READS_ZERO_SCRIPT,
+    DOMAINCFG_KEEPS_THE_ENABLE_ANSWERS, DOMAINCFG_KEEPS_THE_ENABLE_SCRIPT,
+    LAST_OF_ALL_SOURCES_ANSWERS, LAST_OF_ALL_SOURCES_SCRIPT, NOTHING_AT_OTHER_OFFSETS_ANSWERS,
+    NOTHING_AT_OTHER_OFFSETS_SCRIPT, RESERVED_MODES_AND_CHILD_INDEXES_ANSWERS,
+    RESERVED_MODES_AND_CHILD_INDEXES_SCRIPT, SOURCES_BY_NUMBER_ANSWERS, SOURCES_BY_NUMBER_SCRIPT,
+    TARGETS_OF_HARTS_AND_PRIORITIES_ANSWERS, TARGETS_OF_HARTS_AND_PRIORITIES_SCRIPT,
+    WIRES_ARE_REFUSED_ANSWERS, WIRES_ARE_REFUSED_SCRIPT, WORDS_OF_SOURCES_ANSWERS,
+    WORDS_OF_SOURCES_SCRIPT,
+};
 use crate::rows::{
     CLAIM_EXAMPLE_ANSWERS, CLAIM_EXAMPLE_SCRIPT, FILES_AND_BYTE_ORDERS_EXAMPLE_ANSWERS,
-    FILES_AND_BYTE_ORDERS_EXAMPLE_SCRIPT, MACHINE_IS_REFUSED_ANSWERS, MACHINE_IS_REFUSED_SCRIPT,
-    MACHINE_LEVEL_SETS_AND_CLEARS_ANSWERS, MACHINE_LEVEL_SETS_AND_CLEARS_SCRIPT, NO_LINES_ANSWERS,
-    NO_LINES_SCRIPT, NUMBERS_RANGES_AND_SPELLING_ANSWERS, NUMBERS_RANGES_AND_SPELLING_SCRIPT,
+    FILES_AND_BYTE_ORDERS_EXAMPLE_SCRIPT, LONGEST_TEXTS_ANSWERS, LONGEST_TEXTS_SCRIPT,
+    MACHINE_IS_REFUSED_ANSWERS, MACHINE_IS_REFUSED_SCRIPT, MACHINE_LEVEL_SETS_AND_CLEARS_ANSWERS,
+    MACHINE_LEVEL_SETS_AND_CLEARS_SCRIPT, NO_LINES_ANSWERS, NO_LINES_SCRIPT,
+    NUMBERS_RANGES_AND_SPELLING_ANSWERS, NUMBERS_RANGES_AND_SPELLING_SCRIPT,
     REFUSALS_EXAMPLE_ANSWERS, REFUSALS_EXAMPLE_SCRIPT, STORE_IS_CLAIMED_ANSWERS,
     STORE_IS_CLAIMED_SCRIPT, STORES_LOADS_AND_GUARDED_PAGES_ANSWERS,
     STORES_LOADS_AND_GUARDED_PAGES_SCRIPT, THRESHOLD_AND_LEAST_IDENTITY_ANSWERS,
-    THRESHOLD_AND_LEAST_IDENTITY_SCRIPT,
+    THRESHOLD_AND_LEAST_IDENTITY_SCRIPT, WIRES_MODES_AND_DELEGATION_EXAMPLE_ANSWERS,
+    WIRES_MODES_AND_DELEGATION_EXAMPLE_SCRIPT,
+};
+use crate::source_rows::{
+    CHILD_LEAVES_SOURCES_OF_THE_ROOT_ANSWERS, CHILD_LEAVES_SOURCES_OF_THE_ROOT_SCRIPT,
+    DELEGATED_TWICE_AND_TAKEN_BACK_HIGH_ANSWERS, DELEGATED_TWICE_AND_TAKEN_BACK_HIGH_SCRIPT,
+    DELEGATION_GIVEN_AND_TAKEN_BACK_ANSWERS, DELEGATION_GIVEN_AND_TAKEN_BACK_SCRIPT,
+    EDGES_ARE_RISES_OF_A_WIRE_ANSWERS, EDGES_ARE_RISES_OF_A_WIRE_SCRIPT,
+    FILES_AND_DOMAINS_ARE_APART_ANSWERS, FILES_AND_DOMAINS_ARE_APART_SCRIPT,
+    LEVEL_LOW_AND_FALLING_EDGE_ANSWERS, LEVEL_LOW_AND_FALLING_EDGE_SCRIPT,
+    LEVELS_HEAR_NO_STORE_ANSWERS, LEVELS_HEAR_NO_STORE_SCRIPT, MODES_CHANGE_WITH_NO_RISE_ANSWERS,
+    MODES_CHANGE_WITH_NO_RISE_SCRIPT, ROOT_LEAVES_DELEGATED_SOURCES_ANSWERS,
+    ROOT_LEAVES_DELEGATED_SOURCES_SCRIPT, SOURCES_BEGIN_ANEW_ANSWERS, SOURCES_BEGIN_ANEW_SCRIPT,
+    TAKEN_BACK_WHILE_PENDING_ANSWERS, TAKEN_BACK_WHILE_PENDING_SCRIPT,
 };
 
 /// A script with no line prints nothing.
@@ -53,6 +78,11 @@ pub fn machine_level_sets_and_clears()
     ensures { answers MACHINE_LEVEL_SETS_AND_CLEARS_SCRIPT.now ≡ MACHINE_LEVEL_SETS_AND_CLEARS_ANSWERS.now }
 {}
 
+/// A comment has at most 128 bytes, and the last line needs no line feed.
+pub fn the_longest_texts()
+    ensures { answers LONGEST_TEXTS_SCRIPT.now ≡ LONGEST_TEXTS_ANSWERS.now }
+{}
+
 /// The example of a claim answers as it says.
 pub fn the_example_of_a_claim()
     ensures { answers CLAIM_EXAMPLE_SCRIPT.now ≡ CLAIM_EXAMPLE_ANSWERS.now }
@@ -66,4 +96,124 @@ pub fn the_example_of_refusals()
 /// The example of both files of a hart and of byte orders answers as it says.
 pub fn the_example_of_files_and_byte_orders()
     ensures { answers FILES_AND_BYTE_ORDERS_EXAMPLE_SCRIPT.now ≡ FILES_AND_BYTE_ORDERS_EXAMPLE_ANSWERS.now }
+{}
+
+/// The example of wires, modes and delegation answers as it says.
+pub fn the_example_of_wires_modes_and_delegation()
+    ensures { answers WIRES_MODES_AND_DELEGATION_EXAMPLE_SCRIPT.now ≡ WIRES_MODES_AND_DELEGATION_EXAMPLE_ANSWERS.now }
+{}
+
+/// A level source is pending exactly while its rectified input is high, and an edge source from a rise of it on.
+pub fn a_source_is_pending_by_its_level_or_edge()
+    ensures { answers LEVEL_LOW_AND_FALLING_EDGE_SCRIPT.now ≡ LEVEL_LOW_AND_FALLING_EDGE_ANSWERS.now }
+{}
+
+/// An edge source becomes pending by each rise that a `wire` line makes, and by a store, and stays so until it is
+/// cleared.
+pub fn an_edge_is_a_rise_of_a_wire()
+    ensures { answers EDGES_ARE_RISES_OF_A_WIRE_SCRIPT.now ≡ EDGES_ARE_RISES_OF_A_WIRE_ANSWERS.now }
+{}
+
+/// No store sets or clears the pending bit of a level source, whose input alone does.
+pub fn a_level_source_hears_no_store()
+    ensures { answers LEVELS_HEAR_NO_STORE_SCRIPT.now ≡ LEVELS_HEAR_NO_STORE_ANSWERS.now }
+{}
+
+/// A change of the mode makes no rise, and the enable bit and the target stay while the source is active.
+pub fn a_change_of_mode_makes_no_rise()
+    ensures { answers MODES_CHANGE_WITH_NO_RISE_SCRIPT.now ≡ MODES_CHANGE_WITH_NO_RISE_ANSWERS.now }
+{}
+
+/// A source that becomes active has nothing of what it had before.
+pub fn a_source_begins_anew()
+    ensures { answers SOURCES_BEGIN_ANEW_SCRIPT.now ≡ SOURCES_BEGIN_ANEW_ANSWERS.now }
+{}
+
+/// A delegated source has its registers in the child domain alone, until it is taken back.
+pub fn a_source_is_delegated_and_taken_back()
+    ensures { answers DELEGATION_GIVEN_AND_TAKEN_BACK_SCRIPT.now ≡ DELEGATION_GIVEN_AND_TAKEN_BACK_ANSWERS.now }
+{}
+
+/// Delegating a delegated source changes nothing, D makes the child domain's register 0, and a high source is pending
+/// where it gets a level mode.
+pub fn a_high_source_is_taken_back()
+    ensures { answers DELEGATED_TWICE_AND_TAKEN_BACK_HIGH_SCRIPT.now ≡ DELEGATED_TWICE_AND_TAKEN_BACK_HIGH_ANSWERS.now }
+{}
+
+/// A source that is taken back, or delegated anew, keeps nothing of what the other domain had.
+pub fn a_pending_source_is_taken_back()
+    ensures { answers TAKEN_BACK_WHILE_PENDING_SCRIPT.now ≡ TAKEN_BACK_WHILE_PENDING_ANSWERS.now }
+{}
+
+/// What the child domain writes about a source that isn't delegated reads 0 there, and changes nothing in the root
+/// domain.
+pub fn the_child_leaves_a_source_of_the_root()
+    ensures { answers CHILD_LEAVES_SOURCES_OF_THE_ROOT_SCRIPT.now ≡ CHILD_LEAVES_SOURCES_OF_THE_ROOT_ANSWERS.now }
+{}
+
+/// What the root domain writes about a source that it delegates, but for its sourcecfg, reads 0 there, and changes
+/// nothing in the child domain.
+pub fn the_root_leaves_a_delegated_source()
+    ensures { answers ROOT_LEAVES_DELEGATED_SOURCES_SCRIPT.now ≡ ROOT_LEAVES_DELEGATED_SOURCES_ANSWERS.now }
+{}
+
+/// What comes to a file leaves the domains as they were, and what comes to a domain the files.
+pub fn files_and_domains_are_apart()
+    ensures { answers FILES_AND_DOMAINS_ARE_APART_SCRIPT.now ≡ FILES_AND_DOMAINS_ARE_APART_ANSWERS.now }
+{}
+
+/// A sourcecfg keeps a mode, or in the root domain the delegation to child 0, and else is 0.
+pub fn reserved_modes_and_child_indexes()
+    ensures { answers RESERVED_MODES_AND_CHILD_INDEXES_SCRIPT.now ≡ RESERVED_MODES_AND_CHILD_INDEXES_ANSWERS.now }
+{}
+
+/// A register that takes a source's number hears all 32 bits of it, and ignores a number that is no source's.
+pub fn sources_are_named_by_number()
+    ensures { answers SOURCES_BY_NUMBER_SCRIPT.now ≡ SOURCES_BY_NUMBER_ANSWERS.now }
+{}
+
+/// A target keeps a hart that is there and a priority from 1 to 255.
+pub fn targets_of_harts_and_priorities()
+    ensures { answers TARGETS_OF_HARTS_AND_PRIORITIES_SCRIPT.now ≡ TARGETS_OF_HARTS_AND_PRIORITIES_ANSWERS.now }
+{}
+
+/// A word of pending bits, inputs or enable bits has the sources 32k to 32k + 31, those that are there.
+pub fn sources_are_named_by_the_bits_of_words()
+    ensures { answers WORDS_OF_SOURCES_SCRIPT.now ≡ WORDS_OF_SOURCES_ANSWERS.now }
+{}
+
+/// Source 1023 has its registers at the end of each row, and the last bit of the last word.
+pub fn the_last_of_all_sources()
+    ensures { answers LAST_OF_ALL_SOURCES_SCRIPT.now ≡ LAST_OF_ALL_SOURCES_ANSWERS.now }
+{}
+
+/// Bits that stand for no source are ignored, and read 0.
+pub fn bits_of_no_source_are_ignored()
+    ensures { answers BITS_OF_NO_SOURCE_SCRIPT.now ≡ BITS_OF_NO_SOURCE_ANSWERS.now }
+{}
+
+/// Each domain's domaincfg keeps whether its interrupts are enabled, and else reads the same always.
+pub fn domaincfg_keeps_the_enable()
+    ensures { answers DOMAINCFG_KEEPS_THE_ENABLE_SCRIPT.now ≡ DOMAINCFG_KEEPS_THE_ENABLE_ANSWERS.now }
+{}
+
+/// The registers of delivery read 0 and keep nothing.
+pub fn delivery_reads_zero()
+    ensures { answers DELIVERY_READS_ZERO_SCRIPT.now ≡ DELIVERY_READS_ZERO_ANSWERS.now }
+{}
+
+/// Where a domain has no register a load reads 0, and a store is ignored.
+pub fn nothing_is_at_other_offsets()
+    ensures { answers NOTHING_AT_OTHER_OFFSETS_SCRIPT.now ≡ NOTHING_AT_OTHER_OFFSETS_ANSWERS.now }
+{}
+
+/// An aligned address lies in a domain exactly in the 64 KiB from 0x0c000000 on, and a store that is refused changes
+/// nothing.
+pub fn addresses_of_domains()
+    ensures { answers ADDRESSES_OF_DOMAINS_SCRIPT.now ≡ ADDRESSES_OF_DOMAINS_ANSWERS.now }
+{}
+
+/// A wire has the level 0 or 1, and names a source that is there.
+pub fn wires_are_refused()
+    ensures { answers WIRES_ARE_REFUSED_SCRIPT.now ≡ WIRES_ARE_REFUSED_ANSWERS.now }
 {}

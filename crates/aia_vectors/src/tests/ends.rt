@@ -101,6 +101,25 @@ fn a_failing_end_ends_the_run(rt: HostRuntime) -> Result<(), Fail> {
     Ok(())
 }
 
+/// The bytes that a source gives at a time, and the call that fails, the first one after all of its 28 bytes.
+const FAILS_AT_ITS_END: [(usize, u64); 4] = [(1, 29), (26, 3), (27, 3), (28, 2)];
+
+#[test]
+fn a_line_that_a_failing_source_cuts_off_is_not_answered(rt: HostRuntime) -> Result<(), Fail> {
+    let alloc = rt.alloc();
+    for (piece, failing) in FAILS_AT_ITS_END {
+        let script = Vec::from_slice(alloc, b"machine 1 1 63 8\nwire 1 1\nwi")?;
+        let mut source = MemSource::new(script, piece, vec![in alloc; failing]?);
+        let mut sink = MemSink::new(alloc, 1000, Vec::new(alloc))?;
+        let status = run(alloc, &["replay"], &mut source, &mut sink);
+        assert_eq!(rt; status, Status::ReadFault);
+        assert_eq!(rt; sink.bytes(), b"ok\nok\n".as_slice(), "by {piece} bytes");
+        assert_eq!(rt; source.faults(), 1);
+        assert_eq!(rt; sink.faults(), 0);
+    }
+    Ok(())
+}
+
 /// What a sink took before its second call failed, by the bytes that the source gives at a time.
 ///
 /// The answers of the lines that a piece ends are written before the next piece is read.

@@ -2,7 +2,9 @@
 
 ghost use Rattle.std.specs.Prelude.{◌<◌};
 
-use crate::rows::ROWS;
+use crate::register_rows::REGISTER_ROWS;
+use crate::rows::{ROWS, Row};
+use crate::source_rows::SOURCE_ROWS;
 use aia_io::{MemSink, MemSource, Sink, Source};
 use aia_replay::{Status, run};
 use std::alloc::{AllocError, Global};
@@ -36,15 +38,18 @@ fn replays(
 
 #[test]
 fn rows_print_their_answers_whatever_the_pieces(rt: HostRuntime) -> Result<(), Fail> {
+    let all: [&[Row]; 3] = [&ROWS, &SOURCE_ROWS, &REGISTER_ROWS];
     for piece in [1, 7, 4096] {
-        for row in &ROWS {
-            replays(
-                &rt,
-                rt.alloc(),
-                row.script.as_bytes(),
-                piece,
-                row.answers.as_bytes(),
-            )?;
+        for rows in all {
+            for row in rows {
+                replays(
+                    &rt,
+                    rt.alloc(),
+                    row.script.as_bytes(),
+                    piece,
+                    row.answers.as_bytes(),
+                )?;
+            }
         }
     }
     Ok(())
