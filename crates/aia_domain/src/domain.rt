@@ -215,23 +215,40 @@ impl Domain {
     /// A source that is there.
     pub fn source(&self, s: u32) -> &Wired
         requires there { s < length self.now.sources }
-        ensures { slice_get self.now.sources s ≡ Some (record (held_at self.now.sources s) { source = result.now }) }
+        ensures { result.now ≡ (held_at self.now.sources s).source }
     {
         self.sources[s as usize].wired()
     }
 
     /// The enable bit of a source, false where the source isn't there.
     pub fn enabled(&self, s: u32) -> bool
-        ensures { result ≡ bit_at_source self.now.sources Look.Enable s }
+        ensures { result ≡ (held_at self.now.sources s).enabled }
     {
         (s as usize) < self.sources.len() && self.sources[s as usize].enabled()
     }
 
     /// The `target` of a source, 0 where the source isn't there.
     pub fn target(&self, s: u32) -> u32
-        ensures { result ≡ target_of (slice_get self.now.sources s) }
+        ensures { result ≡ (held_at self.now.sources s).target }
     {
-        target_of(&self.sources, s)
+        match self.sources.get(s as usize) {
+            Some(entry) => entry.target(),
+            None => 0,
+        }
+    }
+
+    /// Whether its interrupts are enabled: IE of `domaincfg`.
+    pub fn is_enabled(&self) -> bool
+        ensures { result ≡ self.now.on }
+    {
+        self.on
+    }
+
+    /// Whether it delivers by MSIs, and not directly: DM of `domaincfg`.
+    pub fn delivers_by_msi(&self) -> bool
+        ensures { result ≡ self.now.msi }
+    {
+        self.msi
     }
 
     /// The number after the greatest source's.

@@ -1,6 +1,7 @@
 //! What the definitions of this crate mean, as laws: each function does nothing, and its clauses are what was proved.
 
-ghost use Rattle.std.specs.Prelude.{◌≡◌, ◌≢◌, Bool, false};
+ghost use Rattle.std.specs.Prelude.{◌≡◌, ◌≢◌, ℕ, ◌+◌, ◌<◌, ◌≤◌, Bool, false, Option, Some, None};
+ghost use Rattle.aia_source.specs.Top.{Pair, NamesItself, IsLeast, least_pair};
 ghost use Rattle.aia_source.specs.Source.{Source, Deed, IsLawful, new_source, done};
 ghost use Rattle.aia_source.specs.Source.Deed.{Moved, Forwarded, Configured, Activated, Switched};
 
@@ -23,4 +24,13 @@ pub fn a_level_source_follows_its_input()
 /// An inactive source is never pending.
 pub fn an_inactive_source_is_not_pending()
     ensures { (s : Source) (msi : Bool) (deed : Deed) (wire : Bool) → (done msi deed Mode.Inactive wire s).pending ≡ false }
+{}
+
+/// The least pair of a range is the least: it is a candidate's, and no candidate's pair comes before it, by priority and then by number; there is
+/// none exactly where there is no candidate.
+///
+/// AIA 1.0, Advanced Platform-Level Interrupt Controller (APLIC), "Interrupt delivery directly by the APLIC".
+pub fn the_least_pair_is_the_least()
+    ensures found { (candidate : ℕ → Option Pair) (from count : ℕ) (p : Pair) → NamesItself candidate → least_pair candidate from count ≡ Some p → IsLeast candidate from count p }
+    ensures none { (candidate : ℕ → Option Pair) (from count : ℕ) → NamesItself candidate → ◌≡◌ {A = Option Pair} (least_pair candidate from count) None → (s : ℕ) → from ≤ s → s < from + count → ◌≡◌ {A = Option Pair} (candidate s) None }
 {}

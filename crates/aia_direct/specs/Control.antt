@@ -1,0 +1,75 @@
+-- A hart's interrupt delivery control in a domain: what is on top for it, a claim, and its signal.
+use Rattle.std.specs.Prelude.{ℕ, ◌-◌, ◌<◌, Bool, false, not, ◌&&◌, ◌||◌, nat_eq, is_some, is_none, if◌then◌else◌, List, length, Option, Some, None}
+use Rattle.aia_regs.specs.declared.domain_registers.DomainReg.{DomainReg}
+use Rattle.aia_regs.specs.declared.domain_registers.DomainReg.TheVariants.{IDelivery, IForce, IThreshold}
+use Rattle.aia_regs.specs.Fields.{field}
+use Rattle.aia_source.specs.Source.Deed.{Claimed}
+use Rattle.aia_source.specs.Top.{Pair, least_pair, passes, priority_of, hart_of, pair_if, is_top}
+use Rattle.aia_domain.specs.Held.{Held, with_deed, held_at}
+use Rattle.aia_domain.specs.Domain.{DomainState}
+
+-- idelivery, iforce and ithreshold.
+-- AIA 1.0, Advanced Platform-Level Interrupt Controller (APLIC), "Interrupt delivery directly by the APLIC".
+pub record Control : Type 0 where
+  pub delivery : Bool
+  pub force : Bool
+  pub threshold : ℕ
+
+-- A control as a machine begins. Profile.
+abbrev pub new_control : Control
+new_control = record { delivery = false; force = false; threshold = 0 }
+
+-- A number with a one in its lowest bit, or with none.
+abbrev pub one_if : Bool → ℕ
+one_if is = if is then 1 else 0
+
+-- What its registers read, and what a write of each keeps.
+-- AIA 1.0, Advanced Platform-Level Interrupt Controller (APLIC), "Interrupt delivery directly by the APLIC". Profile: a priority has 8 bits.
+abbrev pub control_read : Control → DomainReg → ℕ
+control_read c (IDelivery hart) = one_if c.delivery
+control_read c (IForce hart) = one_if c.force
+control_read c (IThreshold hart) = c.threshold
+control_read c reg = 0
+
+abbrev pub control_written : DomainReg → ℕ → Control → Control
+control_written (IDelivery hart) v c = record c { delivery = nat_eq (field v 0 0) 1 }
+control_written (IForce hart) v c = record c { force = nat_eq (field v 0 0) 1 }
+control_written (IThreshold hart) v c = record c { threshold = field v 7 0 }
+control_written reg v c = c
+
+-- ---- what is on top
+
+-- The pair of a source, where it is pending, enabled and aimed at the hart, and the threshold lets its priority through.
+-- AIA 1.0, Advanced Platform-Level Interrupt Controller (APLIC), "Interrupt delivery directly by the APLIC".
+abbrev pub candidate : ℕ → ℕ → ℕ → Held → Option Pair
+candidate hart threshold s x = pair_if (x.source.pending && x.enabled && nat_eq (hart_of x.target) hart && passes threshold (priority_of x.target)) x.target s
+
+abbrev pub candidate_at : List Held → ℕ → ℕ → ℕ → Option Pair
+candidate_at sources hart threshold s = candidate hart threshold s (held_at sources s)
+
+-- The least pair of the domain's sources; none where the domain delivers by MSIs.
+-- AIA 1.0, Advanced Platform-Level Interrupt Controller (APLIC), "Interrupt delivery directly by the APLIC". Profile: the last.
+abbrev pub top_shown : Control → DomainState → ℕ → Option Pair
+top_shown c d hart = if d.msi then None else least_pair (candidate_at d.sources hart c.threshold) 1 (length d.sources - 1)
+
+-- A pair that fits a register: 8 bits of priority, and a number below 1024.
+abbrev pub IsSmall : Option Pair → Type 0
+IsSmall None = Unit {0}
+IsSmall (Some p) = (p.0 < 256) × (p.1 < 1024)
+
+-- ---- a claim and the signal
+
+-- What a claim makes of a source, given what is on top: it claims the source that is shown.
+-- AIA 1.0, Advanced Platform-Level Interrupt Controller (APLIC), "Interrupt delivery directly by the APLIC".
+abbrev pub claimed_top : Option Pair → ℕ → Held → Held
+claimed_top top s x = if is_top top s then with_deed false Claimed x else x
+
+-- What it makes of the control: where it shows nothing in a domain that delivers directly, iforce becomes 0.
+-- AIA 1.0, Advanced Platform-Level Interrupt Controller (APLIC), "Interrupt delivery directly by the APLIC". Profile: by MSIs it does nothing.
+abbrev pub control_claimed : Bool → Option Pair → Control → Control
+control_claimed msi top c = if not msi && is_none top then record c { force = false } else c
+
+-- Whether the hart is signalled: the domain delivers directly and is enabled, the control delivers, and a source is on top or iforce is 1.
+-- AIA 1.0, Advanced Platform-Level Interrupt Controller (APLIC), "Interrupt delivery directly by the APLIC".
+abbrev pub signals : Control → DomainState → ℕ → Bool
+signals c d hart = not d.msi && d.on && c.delivery && (c.force || is_some (top_shown c d hart))

@@ -1,0 +1,176 @@
+ghost use Rattle.std.specs.Prelude.{◌≡◌, ◌<◌, ◌+◌, ◌*◌, Bool, length};
+ghost use Rattle.aia_regs.specs.Fields.{field};
+ghost use Rattle.aia_source.specs.Top.{lesser, passes, topi_value};
+ghost use Rattle.aia_domain.specs.Held.{EachSource};
+ghost use Rattle.aia_domain.specs.Domain.{with_sources};
+ghost use Rattle.aia_direct.specs.Control.{new_control, one_if, control_read, control_written, candidate_at, top_shown, IsSmall, claimed_top, control_claimed, signals};
+
+use aia_domain::Domain;
+use aia_regs::{DomainReg, bits};
+use std::marker::Model;
+
+/// The interrupt delivery control of one hart in one domain: `idelivery`, `iforce` and `ithreshold`.
+///
+/// AIA 1.0, Advanced Platform-Level Interrupt Controller (APLIC), "Interrupt delivery directly by the APLIC".
+#[derive(Debug, Drop)]
+pub struct Idc {
+    delivery: bool,
+    force: bool,
+    threshold: u32,
+}
+
+impl Model for Idc {
+    ghost use Rattle.aia_direct.specs.Control.{Control};
+
+    ghost Value = { Control };
+
+    ghost view = { λ i. record { delivery = i.delivery; force = i.force; threshold = i.threshold } };
+}
+
+impl Idc {
+    /// All three registers are 0.
+    pub fn new() -> Idc
+        ensures { result ≡ new_control }
+    {
+        Idc {
+            delivery: false,
+            force: false,
+            threshold: 0,
+        }
+    }
+
+    /// What `idelivery`, `iforce` or `ithreshold` reads, whatever hart the register names; every other register reads 0 here.
+    pub fn load(&self, reg: DomainReg) -> u32
+        ensures { result ≡ control_read self.now reg }
+    {
+        match reg {
+            DomainReg::IDelivery(_) => u32::from(self.delivery),
+            DomainReg::IForce(_) => u32::from(self.force),
+            DomainReg::IThreshold(_) => self.threshold,
+            _ => 0,
+        }
+    }
+
+    /// `idelivery`, `iforce` or `ithreshold` is written, whatever hart the register names; every other register is nothing here.
+    pub fn store(&mut self, reg: DomainReg, value: u32)
+        ensures { self.new ≡ control_written reg value self.old }
+    {
+        match reg {
+            DomainReg::IDelivery(_) => self.delivery = bits(u64::from(value), 0, 0) == 1,
+            DomainReg::IForce(_) => self.force = bits(u64::from(value), 0, 0) == 1,
+            DomainReg::IThreshold(_) => self.threshold = bits(u64::from(value), 7, 0) as u32,
+            _ => {}
+        }
+    }
+}
+
+/// What `topi` of a hart reads: the number and the priority of the pending enabled source aimed at the hart that has the least priority number, then the
+/// least number, among those that `ithreshold` lets through; 0 where there is none, and where the domain delivers by MSIs.
+///
+/// AIA 1.0, Advanced Platform-Level Interrupt Controller (APLIC), "Interrupt delivery directly by the APLIC".
+pub fn topi(idc: &Idc, domain: &Domain, hart: u32) -> u32
+    ensures { result ≡ topi_value (top_shown idc.now domain.now hart) }
+{
+    match top(idc, domain, hart) {
+        Some((priority, s)) => topi_value(priority, s),
+        None => 0,
+    }
+}
+
+/// A load of `claimi` of a hart: it reads what `topi` reads and claims the source that it shows, whose pending bit falls but at a level mode; where it
+/// reads 0, `iforce` becomes 0. Where the domain delivers by MSIs it reads 0 and does nothing (our profile).
+///
+/// AIA 1.0, Advanced Platform-Level Interrupt Controller (APLIC), "Interrupt delivery directly by the APLIC".
+pub fn claimi(idc: &mut Idc, domain: &mut Domain, hart: u32) -> u32
+    ensures value { result ≡ topi_value (top_shown idc.old domain.old hart) }
+    ensures idc { idc.new ≡ control_claimed domain.old.msi (top_shown idc.old domain.old hart) idc.old }
+    ensures sources { EachSource domain.old.sources domain.new.sources (claimed_top (top_shown idc.old domain.old hart)) }
+    ensures domain { domain.new ≡ with_sources domain.old domain.new.sources }
+{
+    if domain.delivers_by_msi() {
+        return 0;
+    }
+    match top(idc, domain, hart) {
+        Some((priority, s)) => {
+            domain.claimed(s);
+            topi_value(priority, s)
+        }
+        None => {
+            idc.force = false;
+            0
+        }
+    }
+}
+
+/// Whether the hart is signalled: the domain delivers directly and its interrupts are enabled, `idelivery` is 1, and a source is on top or `iforce` is 1.
+///
+/// AIA 1.0, Advanced Platform-Level Interrupt Controller (APLIC), "Interrupt delivery directly by the APLIC".
+pub fn signal(idc: &Idc, domain: &Domain, hart: u32) -> bool
+    ensures { result ≡ signals idc.now domain.now hart }
+{
+    !domain.delivers_by_msi()
+        && domain.is_enabled()
+        && idc.delivery
+        && (idc.force || top(idc, domain, hart).is_some())
+}
+
+/// The priority and the number of the source on top.
+fn top(idc: &Idc, domain: &Domain, hart: u32) -> Option<(u32, u32)>
+    ensures value { result ≡ top_shown idc.now domain.now hart }
+    ensures small { IsSmall result }
+{
+    if domain.delivers_by_msi() {
+        return None;
+    }
+    let threshold = idc.threshold;
+    let mut least = None;
+    for s in 1..domain.sources() + 1 {
+        least = lesser(least, candidate(domain, s, hart, threshold));
+    }
+    least
+}
+
+/// The pair of a source, where it is to be shown to the hart.
+fn candidate(domain: &Domain, s: u32, hart: u32, threshold: u32) -> Option<(u32, u32)>
+    requires there { s < length domain.now.sources }
+    requires low { s < 1024 }
+    ensures value { result ≡ candidate_at domain.now.sources hart threshold s }
+    ensures small { IsSmall result }
+{
+    let waits = domain.source(s).pending() && domain.enabled(s);
+    let target = u64::from(domain.target(s));
+    let priority = bits(target, 7, 0) as u32;
+    if waits && bits(target, 31, 18) == u64::from(hart) && passes(threshold, priority) {
+        Some((priority, s))
+    } else {
+        None
+    }
+}
+
+fn passes(threshold: u32, priority: u32) -> bool
+    ensures { result ≡ passes threshold priority }
+{
+    threshold == 0 || priority < threshold
+}
+
+/// The lesser of two pairs, by priority; of two with the same one the first.
+fn lesser(first: Option<(u32, u32)>, second: Option<(u32, u32)>) -> Option<(u32, u32)>
+    requires first { IsSmall first }
+    requires second { IsSmall second }
+    ensures value { result ≡ lesser first second }
+    ensures small { IsSmall result }
+{
+    match (first, second) {
+        (Some(p), Some(q)) => { if q.0 < p.0 { Some(q) } else { Some(p) } }
+        (Some(p), None) => Some(p),
+        (None, q) => q,
+    }
+}
+
+fn topi_value(priority: u32, s: u32) -> u32
+    requires priority { priority < 256 }
+    requires number { s < 1024 }
+    ensures { result ≡ s * 65536 + priority }
+{
+    s * 0x1_0000 + priority
+}
