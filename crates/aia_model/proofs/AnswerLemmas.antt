@@ -6,7 +6,7 @@ use Rattle.aia_regs.specs.declared.access.Op.{Op}
 use Rattle.aia_csr.specs.declared.access.Level.TheVariants as levels
 use Rattle.aia_csr.specs.Access.{access_of}
 use Rattle.aia_model.specs.declared.line.Line.{Line}
-use Rattle.aia_model.specs.declared.line.Line.TheVariants.{Machine, Wire, Load, Store, MachineCsr, HostCsr}
+use Rattle.aia_model.specs.declared.line.Line.TheVariants.{Machine, Wire, Load, Store, MachineCsr, HostCsr, Pins}
 use Rattle.aia_model.specs.declared.answer.Answer.{Answer}
 use Rattle.aia_model.specs.declared.answer.Answer.TheVariants.{NoMachine, Again, Range, Illegal, Fault, Guarded}
 use Rattle.aia_model.specs.Event.{History, has_machine, harts_of}
@@ -52,6 +52,9 @@ machine_refusal h harts guests n sources = refusal_tests h (Machine harts guests
 
 pub wire_refusal : (h : History) (source : ℕ) (level : Bool) → has_machine h ≡ true → refusal h (Wire source level) ≡ cond (not (is_source (acts_of h) source)) (Some Range) None
 wire_refusal h source level there = refusal_tests h (Wire source level) ∙ ap (λ b. first_word (not b) false (not (is_source (acts_of h) source)) false false false) there
+
+pub pins_refusal : (h : History) (hart : ℕ) → has_machine h ≡ true → refusal h (Pins hart) ≡ cond (not (nat_lt hart (harts_of h))) (Some Range) None
+pins_refusal h hart there = refusal_tests h (Pins hart) ∙ ap (λ b. first_word (not b) false (not (nat_lt hart (harts_of h))) false false false) there
 
 pub load_refusal : (h : History) (addr : ℕ) → has_machine h ≡ true → refusal h (Load addr) ≡ place_refusal (page_at h addr) addr
 load_refusal h addr there = refusal_tests h (Load addr) ∙ ap (λ b. first_word (not b) false false false (faults (page_at h addr) addr) (guards (page_at h addr) addr)) there

@@ -15,7 +15,7 @@ use Rattle.aia_regs.specs.declared.access.Csr.TheVariants.{Select, Reg, Topei}
 use Rattle.aia_regs.specs.declared.access.Op.{Op}
 use Rattle.aia_regs.specs.declared.access.Op.TheVariants as ops
 use Rattle.aia_model.specs.declared.line.Line.{Line}
-use Rattle.aia_model.specs.declared.line.Line.TheVariants.{Machine, Wire, Load, Store, MachineCsr, HostCsr}
+use Rattle.aia_model.specs.declared.line.Line.TheVariants.{Machine, Wire, Load, Store, MachineCsr, HostCsr, Pins}
 use Rattle.aia_model.specs.declared.parsed.Parsed.TheVariants as parsed
 use Rattle.aia_model.specs.AnswerText.{digit_character}
 use Rattle.aia_model.specs.Text.{decimal_digit, hex_digit, value_after, below, number_of, after_zero, words_of, ◌>>=◌}
@@ -193,6 +193,7 @@ line_words (MachineCsr hart csr op) named range =
     (keyword_word _ refl, (decimal_word hart range.1.0, instruction_words (machine_csr csr) (machine_csr_word csr named) op range.1.1))
 line_words (HostCsr hart csr op) named range =
     (keyword_word _ refl, (decimal_word hart range.1.0, instruction_words (supervisor_csr csr) (supervisor_csr_word csr named) op range.1.1))
+line_words (Pins hart) named range = (keyword_word _ refl, (decimal_word hart range.1.0, tt))
 
 -- ---- how long a printed line is
 
@@ -251,6 +252,7 @@ line_length (Load addr) = omega arith
 line_length (Store addr value) = omega arith
 line_length (MachineCsr hart csr op) = let few : longest_of (instruction (machine_csr csr) op) ≤ 34 = instruction_length (machine_csr csr) op (machine_csr_length csr) in omega arith
 line_length (HostCsr hart csr op) = let few : longest_of (instruction (supervisor_csr csr) op) ≤ 34 = instruction_length (supervisor_csr csr) op (supervisor_csr_length csr) in omega arith
+line_length (Pins hart) = omega arith
 
 pub length-line_text : (line : Line) → IsPrintable line → length (line_text line) ≤ 128
 unfolding line_text
@@ -273,6 +275,7 @@ words_printed line all = cut_fields (fields_of line) (has_fields line) all
     has_fields (Store addr value) = omega arith
     has_fields (MachineCsr hart csr op) = omega arith
     has_fields (HostCsr hart csr op) = omega arith
+    has_fields (Pins hart) = omega arith
 
 pub printed_spelled : (line : Line) → IsListed line → IsPrintable line → Spells (line_text line) line
 printed_spelled line named range =

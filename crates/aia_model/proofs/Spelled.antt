@@ -11,13 +11,13 @@ use Rattle.aia_regs.specs.declared.access.Csr.TheVariants.{Select, Reg, Topei}
 use Rattle.aia_regs.specs.declared.access.Op.{Op}
 use Rattle.aia_regs.specs.declared.access.Op.TheVariants as ops
 use Rattle.aia_model.specs.declared.line.Line.{Line}
-use Rattle.aia_model.specs.declared.line.Line.TheVariants.{Machine, Wire, Load, Store, MachineCsr, HostCsr}
+use Rattle.aia_model.specs.declared.line.Line.TheVariants.{Machine, Wire, Load, Store, MachineCsr, HostCsr, Pins}
 use Rattle.aia_model.specs.declared.parsed.Parsed.{Parsed}
 use Rattle.aia_model.specs.declared.parsed.Parsed.TheVariants as parsed
 use Rattle.aia_model.specs.Text.{number_of, words_of, below, is_skipped, ◌>>=◌}
 use Rattle.aia_model.specs.Grammar.{Spells, Field, bit_number, Fits, AllFit, IsListed, IsNamed, fields_of, instruction, machine_csr, supervisor_csr}
 use Rattle.aia_model.specs.Grammar.Field.{Keyword, Decimal, Hex, Hex32, Bit, Unspelled}
-use Rattle.aia_model.specs.Reading.{reading, parsed_of, Words, is_word, word_at, number_at, n32_at, bit_of, bit_at, whole, machine_at, wire_at, load_at, store_at, machine_csr_of, supervisor_csr_of, csr_at, read_at, write_at, instruction_at, machine_csr_at, host_csr_at, line_at}
+use Rattle.aia_model.specs.Reading.{reading, parsed_of, Words, is_word, word_at, number_at, n32_at, bit_of, bit_at, whole, machine_at, wire_at, load_at, store_at, machine_csr_of, supervisor_csr_of, csr_at, read_at, write_at, instruction_at, machine_csr_at, host_csr_at, pins_at, line_at}
 
 -- ---- the names of a level
 
@@ -150,6 +150,12 @@ unfolding host_csr_at
 host_access_read hart csr op [] fits = absurd fits
 host_access_read hart csr op (x ∷ ws) fits = rw (number_read x ws hart fits.0, instruction_read supervisor_csr supervisor_csr_of supervisor_naming csr op ws fits.1) refl
 
+pins_read : (ws : Words) (hart : ℕ) → AllFit ws (Decimal hart ∷ []) → pins_at ws ≡ Some (Pins hart)
+unfolding pins_at
+pins_read (a ∷ []) hart fits = rw (number_read a [] hart fits.0) refl
+pins_read [] hart fits = absurd fits
+pins_read (a ∷ b ∷ ws) hart fits = absurd fits.1
+
 -- words that spell a line are read as it
 pub spelled_read : (ws : Words) (line : Line) → AllFit ws (fields_of line) → line_at ws ≡ Some line
 unfolding line_at
@@ -159,12 +165,14 @@ spelled_read [] (Load addr) fits = absurd fits
 spelled_read [] (Store addr value) fits = absurd fits
 spelled_read [] (MachineCsr hart csr op) fits = absurd fits
 spelled_read [] (HostCsr hart csr op) fits = absurd fits
+spelled_read [] (Pins hart) fits = absurd fits
 spelled_read (k ∷ ws) (Machine harts guests n sources) fits = rw fits.0 (machine_read ws harts guests n sources fits.1)
 spelled_read (k ∷ ws) (Wire source level) fits = rw fits.0 (wire_read ws source level fits.1)
 spelled_read (k ∷ ws) (Load addr) fits = rw fits.0 (load_read ws addr fits.1)
 spelled_read (k ∷ ws) (Store addr value) fits = rw fits.0 (store_read ws addr value fits.1)
 spelled_read (k ∷ ws) (MachineCsr hart csr op) fits = rw fits.0 (machine_access_read hart csr op ws fits.1)
 spelled_read (k ∷ ws) (HostCsr hart csr op) fits = rw fits.0 (host_access_read hart csr op ws fits.1)
+spelled_read (k ∷ ws) (Pins hart) fits = rw fits.0 (pins_read ws hart fits.1)
 
 -- ---- what is read is spelled so
 
@@ -350,6 +358,14 @@ host_access_found ws x e =
     let b = bind_some (instruction_at supervisor_csr_of a.0.1) _ x a.2 in
     (a.0.0, b.0.0, b.0.1, cc, fit ws f.0 a.0.1 (Decimal a.0.0) _ f.1 f.2 (instruction_found supervisor_csr supervisor_csr_of supervisor_naming a.0.1 b.0 b.1))
 
+pins_found : (ws : Words) (x : Line) → pins_at ws ≡ Some x → (hart : ℕ) × (Pins hart ≡ x) × AllFit ws (Decimal hart ∷ [])
+unfolding pins_at
+pins_found ws x e =
+    let a = bind_some (number_at ws) _ x e in
+    let f = number_found ws a.0 a.1 in
+    let z = whole_found a.0.1 (Pins a.0.0) x a.2 in
+    (a.0.0, z.1, fit ws f.0 a.0.1 (Decimal a.0.0) [] f.1 f.2 (fit_end a.0.1 z.0))
+
 -- what is read is spelled so
 pub read_spelled : (ws : Words) (x : Line) → line_at ws ≡ Some x → AllFit ws (fields_of x)
 unfolding line_at
@@ -368,7 +384,10 @@ read_spelled ws x e =
               | inl o ↦ let r = machine_access_found b.0.1 x o.1 in subst (λ (y : Line). AllFit ws (fields_of y)) r.3 (fit ws b.0.0 b.0.1 (Keyword (codes "m")) _ k o.0 r.4)
               | inr o ↦ elim (chosen_word b.0.0 (codes "h") _ _ x o) [
                 | inl q ↦ let r = host_access_found b.0.1 x q.1 in subst (λ (y : Line). AllFit ws (fields_of y)) r.3 (fit ws b.0.0 b.0.1 (Keyword (codes "h")) _ k q.0 r.4)
-                | inr q ↦ let bad : ◌≡◌ {A = Option Line} None (Some x) = q in absurd (cc)
+                | inr q ↦ elim (chosen_word b.0.0 (codes "pins") _ _ x q) [
+                  | inl s ↦ let r = pins_found b.0.1 x s.1 in subst (λ (y : Line). AllFit ws (fields_of y)) r.1 (fit ws b.0.0 b.0.1 (Keyword (codes "pins")) _ k s.0 r.2)
+                  | inr s ↦ let bad : ◌≡◌ {A = Option Line} None (Some x) = s in absurd (cc)
+                ]
               ]
             ]
           ]
@@ -397,6 +416,7 @@ keyword_first b bytes (Load addr) fits = λ e. let p : b ≡ 108 = begins b byte
 keyword_first b bytes (Store addr value) fits = λ e. let p : b ≡ 115 = begins b bytes 115 _ _ fits in absurd (omega arith)
 keyword_first b bytes (MachineCsr hart csr op) fits = λ e. let p : b ≡ 109 = begins b bytes 109 _ _ fits in absurd (omega arith)
 keyword_first b bytes (HostCsr hart csr op) fits = λ e. let p : b ≡ 104 = begins b bytes 104 _ _ fits in absurd (omega arith)
+keyword_first b bytes (Pins hart) fits = λ e. let p : b ≡ 112 = begins b bytes 112 _ _ fits in absurd (omega arith)
 
 -- a text that spells a line is not skipped
 pub spelled_not_skipped : (text : List ℕ) (line : Line) → Spells text line → is_skipped text ≡ false
@@ -406,6 +426,7 @@ spelled_not_skipped [] (Load addr) s = let bad : [] ≡ codes "ld" = s.1.0 in ab
 spelled_not_skipped [] (Store addr value) s = let bad : [] ≡ codes "st" = s.1.0 in absurd (cc)
 spelled_not_skipped [] (MachineCsr hart csr op) s = let bad : [] ≡ codes "m" = s.1.0 in absurd (cc)
 spelled_not_skipped [] (HostCsr hart csr op) s = let bad : [] ≡ codes "h" = s.1.0 in absurd (cc)
+spelled_not_skipped [] (Pins hart) s = let bad : [] ≡ codes "pins" = s.1.0 in absurd (cc)
 spelled_not_skipped (b ∷ bytes) line s = ap (λ t. nat_le (length (b ∷ bytes)) 128 && t) (ne_eqb b 35 (keyword_first b bytes line s.1)) ∙ and-false (nat_le (length (b ∷ bytes)) 128)
 
 -- a text that spells a line is read as it
@@ -506,6 +527,7 @@ listed ws (Load addr) fits = tt
 listed ws (Store addr value) fits = tt
 listed ws (MachineCsr hart csr op) fits = access_named ws _ hart (machine_csr csr) op fits
 listed ws (HostCsr hart csr op) fits = access_named ws _ hart (supervisor_csr csr) op fits
+listed ws (Pins hart) fits = tt
 
 -- a line that a text spells has a CSR that its row names
 pub spelled_listed : (text : List ℕ) (line : Line) → Spells text line → IsListed line

@@ -6,7 +6,7 @@ use Rattle.aia_regs.specs.declared.domain_registers.DomainReg.{DomainReg}
 use Rattle.aia_regs.specs.DomainRegisters.{domain_register_of}
 use Rattle.aia_regs.specs.AddressMap.{is_in_region, root_region, child_region}
 use Rattle.aia_model.specs.declared.line.Line.{Line}
-use Rattle.aia_model.specs.declared.line.Line.TheVariants.{Machine, Wire, Store}
+use Rattle.aia_model.specs.declared.line.Line.TheVariants.{Machine, Wire, Load, Store}
 use Rattle.aia_model.specs.Event.{History}
 use Rattle.aia_model.specs.Event.Event.{Accepted}
 
@@ -27,6 +27,7 @@ pub data Act : Type 0 where
   Made : (harts sources : ℕ) → Act  -- the machine comes to be
   Driven : (source : ℕ) (level : Bool) → Act  -- the wire of a source gets a level
   Written : (domain : DomainName) (register : DomainReg) (value : ℕ) → Act  -- a register of a domain is written
+  Loaded : (domain : DomainName) (register : DomainReg) → Act  -- it is read
 
 -- What has happened, the newest first.
 abbrev pub Past : Type 0
@@ -56,6 +57,7 @@ register_at addr = domain_register_of (addr % 0x8000)
 abbrev pub act_of : Line → Option Act
 act_of (Machine harts guests n sources) = Some (Made harts sources)
 act_of (Wire source level) = Some (Driven source level)
+act_of (Load addr) = option_map (λ d. Loaded d (register_at addr)) (domain_at addr)
 act_of (Store addr value) = option_map (λ d. Written d (register_at addr) value) (domain_at addr)
 act_of line = None
 

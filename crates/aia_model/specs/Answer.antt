@@ -4,15 +4,17 @@ use Rattle.aia_word.specs.Top.{top_value}
 use Rattle.aia_regs.specs.declared.access.Csr.{Csr}
 use Rattle.aia_regs.specs.declared.access.Csr.TheVariants.{Select, Reg, Topei}
 use Rattle.aia_regs.specs.FileRegisters.{register_of}
-use Rattle.aia_file.specs.InterruptFile.{InterruptFile, register_value, top_of}
+use Rattle.aia_file.specs.InterruptFile.{InterruptFile, register_value, top_of, signals}
 use Rattle.aia_model.specs.declared.line.Line.{Line}
-use Rattle.aia_model.specs.declared.line.Line.TheVariants.{Machine, Wire, Load, Store, MachineCsr, HostCsr}
+use Rattle.aia_model.specs.declared.line.Line.TheVariants.{Machine, Wire, Load, Store, MachineCsr, HostCsr, Pins}
 use Rattle.aia_model.specs.declared.answer.Answer.{Answer}
 use Rattle.aia_model.specs.declared.answer.Answer.TheVariants.{Okay, Narrow, Wide}
+use Rattle.aia_model.specs.declared.answer.Answer.TheVariants as words
 use Rattle.aia_model.specs.Event.{History}
 use Rattle.aia_model.specs.Event.Event.{Accepted}
 use Rattle.aia_model.specs.Act.{DomainName, domain_at, register_at, acts_of}
-use Rattle.aia_model.specs.SourceOf.{register_read}
+use Rattle.aia_model.specs.Act.DomainName.{Root, Child}
+use Rattle.aia_model.specs.SourceOf.{register_read, is_signalled}
 use Rattle.aia_model.specs.FileOf.{FileName, MachineFile, SupervisorFile, select_of, file_of}
 use Rattle.aia_model.specs.Refusal.{refusal}
 
@@ -37,7 +39,8 @@ place_read h addr (Some d) = register_read (acts_of h) d (register_at addr)
 abbrev pub load_value : History → ℕ → ℕ
 load_value h addr = place_read h addr (domain_at addr)
 
--- What an accepted line answers: a CSR instruction the value that the CSR read before it, a load what it reads.
+-- What an accepted line answers: a CSR instruction the value that the CSR read before it, a load what it reads, `pins` the signals of a hart: of both
+-- domains, of its machine-level file and of its supervisor file.
 abbrev pub accepted_answer : History → Line → Answer
 accepted_answer h (Machine harts guests n sources) = Okay
 accepted_answer h (Wire source level) = Okay
@@ -45,6 +48,7 @@ accepted_answer h (Load addr) = Narrow (load_value h addr)
 accepted_answer h (Store addr value) = Okay
 accepted_answer h (MachineCsr hart csr op) = Wide (csr_value h (MachineFile hart) csr)
 accepted_answer h (HostCsr hart csr op) = Wide (csr_value h (SupervisorFile hart) csr)
+accepted_answer h (Pins hart) = words.Pins (is_signalled (acts_of h) Root hart) (is_signalled (acts_of h) Child hart) (signals (file_of h (MachineFile hart))) (signals (file_of h (SupervisorFile hart)))
 
 -- What a line answers: the word of its refusal, else what it answers where it is accepted.
 unfoldable pub answer : History → Line → Answer

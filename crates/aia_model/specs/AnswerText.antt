@@ -1,7 +1,8 @@
 -- How an answer is printed. Profile.
-use Rattle.std.specs.Prelude.{ℕ, zero, suc, ◌+◌, ◌*◌, ◌/◌, ◌%◌, ◌^◌, nat_lt, if◌then◌else◌, List, [], ◌∷◌, ◌++◌, codes}
+use Rattle.std.specs.Prelude.{ℕ, zero, suc, ◌+◌, ◌*◌, ◌/◌, ◌%◌, ◌^◌, Bool, nat_lt, if◌then◌else◌, List, [], ◌∷◌, ◌++◌, codes}
 use Rattle.aia_model.specs.declared.answer.Answer.{Answer}
-use Rattle.aia_model.specs.declared.answer.Answer.TheVariants.{Okay, Narrow, Wide, Bad, NoMachine, Again, Range, Illegal, Fault, Guarded}
+use Rattle.aia_model.specs.declared.answer.Answer.TheVariants.{Okay, Narrow, Wide, Pins, Bad, NoMachine, Again, Range, Illegal, Fault, Guarded}
+use Rattle.aia_model.specs.Grammar.{bit_number}
 
 -- The character of a digit of 0 to 15: 0 to 9, a to f.
 abbrev pub digit_character : ℕ → ℕ
@@ -12,11 +13,16 @@ unfoldable pub hex_digits : ℕ → ℕ → List ℕ
 hex_digits zero v = []
 hex_digits (suc count) v = digit_character (v / 2 ^ (4 * count) % 16) ∷ hex_digits count v
 
+-- A level as a space and a digit: 1 where it is high, 0 where it is low.
+abbrev pub level_text : Bool → List ℕ
+level_text level = 32 ∷ digit_character (bit_number level) ∷ []
+
 -- The word of an answer.
 abbrev pub answer_word : Answer → List ℕ
 answer_word Okay = codes "ok"
 answer_word (Narrow v) = codes "0x" ++ hex_digits 8 v
 answer_word (Wide v) = codes "0x" ++ hex_digits 16 v
+answer_word (Pins root child machine supervisor) = codes "pins" ++ level_text root ++ level_text child ++ level_text machine ++ level_text supervisor
 answer_word Bad = codes "bad"
 answer_word NoMachine = codes "nomachine"
 answer_word Again = codes "again"

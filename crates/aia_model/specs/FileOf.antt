@@ -13,7 +13,7 @@ use Rattle.aia_regs.specs.AddressMap.{machine_page, supervisor_page, is_in_page}
 use Rattle.aia_file.specs.InterruptFile.{InterruptFile, empty_file, accessed, landed, claimed, claim_word, top_of}
 use Rattle.aia_imsic.specs.declared.spot.Spot.{Spot}
 use Rattle.aia_imsic.specs.Map.{spot_at}
-use Rattle.aia_model.specs.declared.line.Line.TheVariants.{Machine, Wire, Load, Store, MachineCsr, HostCsr}
+use Rattle.aia_model.specs.declared.line.Line.TheVariants.{Machine, Wire, Load, Store, MachineCsr, HostCsr, Pins}
 use Rattle.aia_model.specs.Event.{Event, History, harts_of, guests_of}
 use Rattle.aia_model.specs.Event.Event.{Accepted}
 
@@ -56,6 +56,7 @@ deed_at past f (Accepted (Load addr)) = Rests
 deed_at past f (Accepted (Store addr value)) = if is_at f addr then Stores (addr % 0x1000) value else Rests
 deed_at past f (Accepted (MachineCsr hart csr op)) = if is_file f (MachineFile hart) then Accesses csr op else Rests
 deed_at past f (Accepted (HostCsr hart csr op)) = if is_file f (SupervisorFile hart) then Accesses csr op else Rests
+deed_at past f (Accepted (Pins hart)) = Rests
 
 -- ---- the file after a history
 

@@ -1,7 +1,7 @@
 -- The spelling of lines, as a table of fields. Profile: the whole grammar is this project's own.
 use Rattle.std.specs.Prelude.{◌≡◌, ℕ, ◌^◌, ◌<◌, ◌≤◌, Bool, if◌then◌else◌, List, [], ◌∷◌, length, Some, codes}
 use Rattle.aia_model.specs.declared.line.Line.{Line}
-use Rattle.aia_model.specs.declared.line.Line.TheVariants.{Machine, Wire, Load, Store, MachineCsr, HostCsr}
+use Rattle.aia_model.specs.declared.line.Line.TheVariants.{Machine, Wire, Load, Store, MachineCsr, HostCsr, Pins}
 use Rattle.aia_regs.specs.declared.access.Csr.{Csr}
 use Rattle.aia_regs.specs.declared.access.Csr.TheVariants.{Select, Reg, Topei}
 use Rattle.aia_regs.specs.declared.access.Op.{Op}
@@ -73,6 +73,7 @@ fields_of (Load addr) = Keyword (codes "ld") ∷ Hex addr ∷ []
 fields_of (Store addr value) = Keyword (codes "st") ∷ Hex addr ∷ Hex32 value ∷ []
 fields_of (MachineCsr hart csr op) = Keyword (codes "m") ∷ Decimal hart ∷ instruction (machine_csr csr) op
 fields_of (HostCsr hart csr op) = Keyword (codes "h") ∷ Decimal hart ∷ instruction (supervisor_csr csr) op
+fields_of (Pins hart) = Keyword (codes "pins") ∷ Decimal hart ∷ []
 
 -- Whether a text spells a line: it has at most 128 bytes, and its words spell the line's fields.
 abbrev pub Spells : List ℕ → Line → Type 0

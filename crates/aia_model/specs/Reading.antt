@@ -3,7 +3,7 @@
 use Rattle.std.specs.Prelude.{ℕ, ◌^◌, Bool, true, false, nat_eq, nat_le, if◌then◌else◌, List, [], ◌∷◌, length, Option, Some, None, codes}
 use Rattle.std.specs.Str.{bytes_eq}
 use Rattle.aia_model.specs.declared.line.Line.{Line}
-use Rattle.aia_model.specs.declared.line.Line.TheVariants.{Machine, Wire, Load, Store, MachineCsr, HostCsr}
+use Rattle.aia_model.specs.declared.line.Line.TheVariants.{Machine, Wire, Load, Store, MachineCsr, HostCsr, Pins}
 use Rattle.aia_model.specs.declared.parsed.Parsed.{Parsed}
 use Rattle.aia_model.specs.declared.parsed.Parsed.TheVariants as parsed
 use Rattle.aia_regs.specs.declared.access.Csr.{Csr}
@@ -55,7 +55,7 @@ whole words found = None
 abbrev pub at_end : Words → Line → Option Line
 at_end = whole
 
--- ---- what follows each keyword: `machine`, `wire`, `st`, `ld`, and `m H` and `h H` with a CSR instruction
+-- ---- what follows each keyword: `machine`, `wire`, `st`, `ld`, `pins`, and `m H` and `h H` with a CSR instruction
 
 unfoldable pub machine_at : Words → Option Line
 machine_at words = do
@@ -144,6 +144,11 @@ host_csr_at words = do
   access ← instruction_at supervisor_csr_of hart.1
   Some (HostCsr hart.0 access.0 access.1)
 
+unfoldable pub pins_at : Words → Option Line
+pins_at words = do
+  hart ← number_at words
+  at_end hart.1 (Pins hart.0)
+
 -- What follows a line's keyword.
 abbrev pub line_after : List ℕ → Words → Option Line
 line_after keyword words =
@@ -153,7 +158,8 @@ line_after keyword words =
     else (if is_word keyword (codes "st") then store_at words
     else (if is_word keyword (codes "m") then machine_csr_at words
     else (if is_word keyword (codes "h") then host_csr_at words
-    else None)))))
+    else (if is_word keyword (codes "pins") then pins_at words
+    else None))))))
 
 -- The line that words spell.
 unfoldable pub line_at : Words → Option Line

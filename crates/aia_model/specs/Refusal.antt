@@ -11,7 +11,7 @@ use Rattle.aia_file.specs.InterruptFile.{is_width}
 use Rattle.aia_imsic.specs.declared.spot.Spot.{Spot}
 use Rattle.aia_imsic.specs.Map.{is_page, is_guest_page}
 use Rattle.aia_model.specs.declared.line.Line.{Line}
-use Rattle.aia_model.specs.declared.line.Line.TheVariants.{Machine, Wire, Load, Store, MachineCsr, HostCsr}
+use Rattle.aia_model.specs.declared.line.Line.TheVariants.{Machine, Wire, Load, Store, MachineCsr, HostCsr, Pins}
 use Rattle.aia_model.specs.declared.answer.Answer.{Answer}
 use Rattle.aia_model.specs.declared.answer.Answer.TheVariants.{NoMachine, Again, Range, Illegal, Fault, Guarded}
 use Rattle.aia_model.specs.Event.{History, has_machine, harts_of}
@@ -40,6 +40,7 @@ is_out_of_range h (Machine harts guests n sources) = not (is_machine_size harts 
 is_out_of_range h (Wire source level) = not (is_source (acts_of h) source)
 is_out_of_range h (MachineCsr hart csr op) = not (nat_lt hart (harts_of h))
 is_out_of_range h (HostCsr hart csr op) = not (nat_lt hart (harts_of h))
+is_out_of_range h (Pins hart) = not (nat_lt hart (harts_of h))
 is_out_of_range h line = false
 
 -- `illegal`: by the access table.

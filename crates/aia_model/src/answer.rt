@@ -7,6 +7,9 @@ pub enum Answer {
     Narrow(u32),
     /// `0x` and sixteen digits: what a CSR read.
     Wide(u64),
+    /// `pins` and four digits: whether the hart is signalled by the APLIC's root domain, by its child, by the machine-level
+    /// file, by the supervisor file.
+    Pins(bool, bool, bool, bool),
     /// `bad`: the text spells no line.
     Bad,
     /// `nomachine`: no machine stands.

@@ -37,4 +37,8 @@ pub enum Line {
         csr: Csr,
         op: Op,
     },
+    /// `pins H`: which of a hart's interrupt signals are high.
+    Pins {
+        hart: u64,
+    },
 }

@@ -1,7 +1,7 @@
 -- How long a printed answer is.
 use Rattle.std.proofs.Common.{◌≡◌, ℕ, zero, suc, ◌≤◌, [], ◌∷◌, length, refl, ap, length-append, arith}
 use Rattle.aia_model.specs.declared.answer.Answer.{Answer}
-use Rattle.aia_model.specs.declared.answer.Answer.TheVariants.{Okay, Narrow, Wide, Bad, NoMachine, Again, Range, Illegal, Fault, Guarded}
+use Rattle.aia_model.specs.declared.answer.Answer.TheVariants.{Okay, Narrow, Wide, Pins, Bad, NoMachine, Again, Range, Illegal, Fault, Guarded}
 use Rattle.aia_model.specs.AnswerText.{hex_digits, answer_word, answer_text}
 
 length-hex_digits : (count v : ℕ) → length (hex_digits count v) ≡ count
@@ -14,6 +14,7 @@ answer_word_length : (answer : Answer) → length (answer_word answer) ≤ 18
 answer_word_length Okay = omega arith
 answer_word_length (Narrow v) = let e : length (hex_digits 8 v) ≡ 8 = length-hex_digits 8 v in omega arith
 answer_word_length (Wide v) = let e : length (hex_digits 16 v) ≡ 16 = length-hex_digits 16 v in omega arith
+answer_word_length (Pins root child machine supervisor) = omega arith
 answer_word_length Bad = omega arith
 answer_word_length NoMachine = omega arith
 answer_word_length Again = omega arith

@@ -1,7 +1,7 @@
 //! Lines: what follows each keyword.
 
 ghost use Rattle.std.specs.Prelude.{◌≡◌};
-ghost use Rattle.aia_model.specs.Reading.{machine_at, wire_at, load_at, store_at, machine_csr_at, host_csr_at, line_after, line_at};
+ghost use Rattle.aia_model.specs.Reading.{machine_at, wire_at, load_at, store_at, machine_csr_at, host_csr_at, pins_at, line_after, line_at};
 ghost use Rattle.aia_script.specs.Cursor.{left};
 
 use crate::instructions::{Level, instruction_at};
@@ -78,6 +78,15 @@ fn host_csr_at(words: Words<'_>) -> Option<Line>
     Some(Line::HostCsr { hart, csr, op })
 }
 
+/// The line that the words after `pins` spell.
+#[tactic(auto, unfolding(aia_model::specs::Reading::pins_at))]
+fn pins_at(words: Words<'_>) -> Option<Line>
+    ensures { result ≡ pins_at (left words.entry) }
+{
+    let (hart, words) = number_at(words)?;
+    at_end(words, Line::Pins { hart })
+}
+
 /// The line that the words after a keyword spell.
 fn line_after(keyword: &[u8], words: Words<'_>) -> Option<Line>
     ensures { result ≡ line_after keyword.now (left words.entry) }
@@ -94,6 +103,8 @@ fn line_after(keyword: &[u8], words: Words<'_>) -> Option<Line>
         machine_csr_at(words)
     } else if keyword == b"h".as_slice() {
         host_csr_at(words)
+    } else if keyword == b"pins".as_slice() {
+        pins_at(words)
     } else {
         None
     }

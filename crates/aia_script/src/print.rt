@@ -2,7 +2,7 @@
 
 ghost use Rattle.std.specs.Prelude.{◌≡◌, ◌+◌, ◌<◌, ◌≤◌, [], ◌++◌, length};
 ghost use Rattle.arrayvec.specs.ArrayVec.{array_vec_len};
-ghost use Rattle.aia_model.specs.AnswerText.{digit_character, hex_digits, answer_text};
+ghost use Rattle.aia_model.specs.AnswerText.{digit_character, hex_digits, level_text, answer_word, answer_text};
 
 use aia_model::Answer;
 use arrayvec::ArrayVec;
@@ -41,6 +41,29 @@ fn push_digits(out: &mut ArrayVec<u8, 64>, count: u32, value: u64)
     }
 }
 
+/// Appends a space and the digit of a level.
+fn push_level(out: &mut ArrayVec<u8, 64>, level: bool)
+    requires { array_vec_len out.old + 2 ≤ 64 }
+    ensures text { out.new.items ≡ out.old.items ++ level_text level }
+    ensures length { array_vec_len out.new ≡ array_vec_len out.old + 2 }
+{
+    out.push(b' ');
+    out.push(digit_character(level as u64));
+}
+
+/// Appends the word of an answer to `pins`.
+fn push_pins(out: &mut ArrayVec<u8, 64>, root: bool, child: bool, machine: bool, supervisor: bool)
+    requires { array_vec_len out.old + 12 ≤ 64 }
+    ensures text { out.new.items ≡ out.old.items ++ answer_word (Answer.Pins root child machine supervisor) }
+    ensures length { array_vec_len out.new ≡ array_vec_len out.old + 12 }
+{
+    push_text(out, b"pins");
+    push_level(out, root);
+    push_level(out, child);
+    push_level(out, machine);
+    push_level(out, supervisor);
+}
+
 /// Prints an answer into `out`, which is empty: its word and an LF, at most 64 bytes in all.
 ///
 /// The words are our profile's choice.
@@ -59,6 +82,9 @@ pub fn print_answer(answer: &Answer, out: &mut ArrayVec<u8, 64>)
         Answer::Wide(value) => {
             push_text(out, b"0x");
             push_digits(out, 16, *value);
+        }
+        Answer::Pins(root, child, machine, supervisor) => {
+            push_pins(out, *root, *child, *machine, *supervisor);
         }
         Answer::Bad => push_text(out, b"bad"),
         Answer::NoMachine => push_text(out, b"nomachine"),

@@ -106,6 +106,16 @@ fn push_machine(out: &mut ArrayVec<u8, 128>, harts: u64, guests: u64, n: u64, so
     push_decimal(out, sources);
 }
 
+/// Appends the printing spelling of a `pins` line to `out`, which is empty.
+#[tactic(auto, unfolding(aia_model::specs::Printing::line_text))]
+fn push_pins(out: &mut ArrayVec<u8, 128>, hart: u64)
+    requires { out.old.items ≡ [] }
+    ensures { out.new.items ≡ line_text (Line.Pins hart) }
+{
+    push_text(out, b"pins");
+    push_decimal(out, hart);
+}
+
 /// Appends the printing spelling of a line to `out`, which is empty. Its numbers are in range by their types.
 #[tactic(auto, unfolding(aia_model::specs::Printing::line_text), using(crate::proofs::PrintLemmas::joined_instruction, crate::proofs::PrintLemmas::access_in_range))]
 fn push_line(line: &Line, out: &mut ArrayVec<u8, 128>)
@@ -144,6 +154,7 @@ fn push_line(line: &Line, out: &mut ArrayVec<u8, 128>)
             push_decimal(out, hart);
             push_instruction(out, Level::Supervisor, csr, op);
         }
+        Line::Pins { hart } => push_pins(out, hart),
     }
 }
 

@@ -33,6 +33,10 @@ fn host(hart: u64, csr: Csr, op: Op) -> Parsed {
     Parsed::Line(Line::HostCsr { hart, csr, op })
 }
 
+fn pins(hart: u64) -> Parsed {
+    Parsed::Line(Line::Pins { hart })
+}
+
 #[test]
 fn texts_are_read_by_the_grammar(rt: HostRuntime) {
     let texts = [
@@ -97,6 +101,10 @@ fn answers_are_printed(rt: HostRuntime) {
         (Answer::Narrow(0x89ab_cdef), "0x89abcdef\n"),
         (Answer::Wide(0), "0x0000000000000000\n"),
         (Answer::Wide(0x0123_4567_89ab_cdef), "0x0123456789abcdef\n"),
+        (Answer::Pins(true, false, false, false), "pins 1 0 0 0\n"),
+        (Answer::Pins(false, true, false, false), "pins 0 1 0 0\n"),
+        (Answer::Pins(false, false, true, false), "pins 0 0 1 0\n"),
+        (Answer::Pins(false, false, false, true), "pins 0 0 0 1\n"),
         (Answer::Bad, "bad\n"),
         (Answer::NoMachine, "nomachine\n"),
         (Answer::Again, "again\n"),
@@ -181,6 +189,24 @@ fn wires_are_read_and_printed(rt: HostRuntime) {
         level: true,
     };
     prints(&rt, high, "wire 18446744073709551615 1");
+}
+
+#[test]
+fn pins_are_read_and_printed(rt: HostRuntime) {
+    let texts = [
+        ("pins 0", pins(0)),
+        ("pins 0x3", pins(3)),
+        ("pins 18446744073709551615", pins(u64::MAX)),
+        ("pins", Parsed::Bad),
+        ("pins 1 1", Parsed::Bad),
+        ("pins x", Parsed::Bad),
+        ("pin 0", Parsed::Bad),
+    ];
+    for (text, want) in texts {
+        assert_eq!(rt; parse_line(text.as_bytes()), want, "at {text}");
+    }
+    prints(&rt, Line::Pins { hart: 0 }, "pins 0");
+    prints(&rt, Line::Pins { hart: 16 }, "pins 16");
 }
 
 #[test]
