@@ -1,17 +1,19 @@
 -- A source at a level mode, in a domain that delivers directly, is pending exactly while its rectified input is high, whatever has happened.
-use Rattle.std.proofs.Common.{◌≡◌, ℕ, Bool, true, false, not, cond, ◌&&◌, nat_eq, [], ◌∷◌, unwrap_or, refl, ap, ◌∙◌}
+use Rattle.std.proofs.Common.{◌≡◌, ℕ, Bool, true, false, not, cond, ◌&&◌, nat_eq, nat_lt, [], ◌∷◌, unwrap_or, refl, ap, ◌∙◌}
 use Rattle.aia_regs.specs.declared.domain_registers.DomainReg.{DomainReg}
-use Rattle.aia_regs.specs.declared.domain_registers.DomainReg.TheVariants.{DomainCfg, SourceCfg}
+use Rattle.aia_regs.specs.declared.domain_registers.DomainReg.TheVariants.{DomainCfg, SourceCfg, ClaimI}
 use Rattle.aia_regs.specs.Word.{settle}
 use Rattle.aia_source.specs.declared.mode.Mode.{Mode}
 use Rattle.aia_source.specs.declared.mode.Mode.TheVariants.{Inactive, Detached, RisingEdge, FallingEdge, LevelHigh, LevelLow}
 use Rattle.aia_source.specs.Source.{is_level, rectified, says}
-use Rattle.aia_source.specs.Source.Deed.{Moved, Set, Cleared, Configured, Activated, Switched, Untouched}
+use Rattle.aia_source.specs.Source.Deed.{Moved, Set, Cleared, Claimed, Configured, Activated, Switched, Untouched}
 use Rattle.aia_source.specs.Registers.{domaincfg_kept, is_by_msi, root_sourcecfg, child_sourcecfg, delegates, mode_of, sets_pending, clears_pending, same_bool}
+use Rattle.aia_source.specs.Top.{is_top}
 use Rattle.aia_model.specs.Act.{DomainName, Past, newest, when}
 use Rattle.aia_model.specs.Act.DomainName.{Root, Child}
-use Rattle.aia_model.specs.Act.Act.{Made, Driven, Written}
-use Rattle.aia_model.specs.SourceOf.{is_register_of, wire_of, root_sourcecfg_of, is_delegated, child_told, mode, owns, input, is_msi, pending}
+use Rattle.aia_model.specs.Act.Act.{Made, Driven, Written, Loaded}
+use Rattle.aia_model.specs.SourceOf.{harts_in, is_register_of, wire_of, root_sourcecfg_of, is_delegated, child_told, mode, owns, input, is_msi, pending, top}
+use Rattle.aia_aplic.proofs.WriteSteps.{same_bools}
 
 -- ---- what each deed makes of the pending bit of a source at a level mode
 
@@ -82,6 +84,28 @@ unfolding newest wire_of pending
 made harts sources past Root s law = λ l e. unheard (mode past Root s) (is_msi past Root) (input past Root s) (pending past Root s) false false l e (law l e)
 made harts sources past Child s law = λ l e. unheard (mode past Child s) (is_msi past Child) (input past Child s) (pending past Child s) false false l e (law l e)
 
+-- a claim
+claimed : (m : Mode) (msi r was b : Bool) → is_level m ≡ true → msi ≡ false → was ≡ r → settle (says m msi r r (cond b Claimed Untouched)) was ≡ r
+claimed Inactive msi r was b l e same = cc
+claimed Detached msi r was b l e same = cc
+claimed RisingEdge msi r was b l e same = cc
+claimed FallingEdge msi r was b l e same = cc
+claimed LevelHigh msi r was true l e same = same
+claimed LevelHigh msi r was false l e same = same
+claimed LevelLow msi r was true l e same = same
+claimed LevelLow msi r was false l e same = same
+
+loaded : (e : DomainName) (reg : DomainReg) (past : Past) (d : DomainName) (s : ℕ) → IsLawful past d s → IsLawful (Loaded e reg ∷ past) d s
+unfolding newest wire_of pending
+loaded Root (ClaimI hart) past Root s law = λ l e. claimed (mode past Root s) (is_msi past Root) (input past Root s) (pending past Root s) (nat_lt hart (harts_in past) && is_top (top past Root hart) s) l e (law l e)
+loaded Child (ClaimI hart) past Child s law = λ l e. claimed (mode past Child s) (is_msi past Child) (input past Child s) (pending past Child s) (nat_lt hart (harts_in past) && is_top (top past Child hart) s) l e (law l e)
+loaded Root (ClaimI hart) past Child s law = λ l e. claimed (mode past Child s) (is_msi past Child) (input past Child s) (pending past Child s) false l e (law l e)
+loaded Child (ClaimI hart) past Root s law = λ l e. claimed (mode past Root s) (is_msi past Root) (input past Root s) (pending past Root s) false l e (law l e)
+loaded Root reg past Root s law = λ l e. claimed (mode past Root s) (is_msi past Root) (input past Root s) (pending past Root s) false l e (law l e)
+loaded Child reg past Root s law = λ l e. claimed (mode past Root s) (is_msi past Root) (input past Root s) (pending past Root s) false l e (law l e)
+loaded Root reg past Child s law = λ l e. claimed (mode past Child s) (is_msi past Child) (input past Child s) (pending past Child s) false l e (law l e)
+loaded Child reg past Child s law = λ l e. claimed (mode past Child s) (is_msi past Child) (input past Child s) (pending past Child s) false l e (law l e)
+
 driven : (t : ℕ) (level : Bool) (past : Past) (d : DomainName) (s : ℕ) → IsLawful past d s → IsLawful (Driven t level ∷ past) d s
 unfolding newest wire_of pending
 driven t level past Root s law = at (nat_eq t s)
@@ -101,12 +125,6 @@ configured : (b written active msi wire was : Bool) (new c : ℕ) → (b ≡ fal
 configured true written active msi wire was new c only law = λ l e. begun (mode_of (unwrap_or (when written new) c)) msi (rectified (mode_of c) wire) (rectified (mode_of (unwrap_or (when written new) c)) wire) was active l
 configured false true active msi wire was new c only law = let bad : true ≡ false = only refl in cc
 configured false false active msi wire was new c only law = λ l e. unheard (mode_of c) msi (rectified (mode_of c) wire) was false false l e (law l e)
-
-same_bools : (a b : Bool) → same_bool a b ≡ true → a ≡ b
-same_bools true true e = refl
-same_bools true false e = cc
-same_bools false true e = cc
-same_bools false false e = refl
 
 switched : (m : Mode) (msi msi' r was : Bool) → (is_level m ≡ true → msi ≡ false → was ≡ r) → is_level m ≡ true → msi' ≡ false → settle (says m msi r r (cond (same_bool msi msi') Untouched Switched)) was ≡ r
 switched m msi msi' r was law l e = at (same_bool msi msi') refl
@@ -157,6 +175,7 @@ pub level_follows : (past : Past) (d : DomainName) (s : ℕ) → IsLawful past d
 level_follows [] d s = begins d s
 level_follows (Made harts sources ∷ past) d s = made harts sources past d s (level_follows past d s)
 level_follows (Driven t level ∷ past) d s = driven t level past d s (level_follows past d s)
+level_follows (Loaded e reg ∷ past) d s = loaded e reg past d s (level_follows past d s)
 level_follows (Written Root reg v ∷ past) Root s = written_root reg v past s (level_follows past Root s)
 level_follows (Written Child reg v ∷ past) Root s = root_at_child reg v past s (level_follows past Root s)
 level_follows (Written Root reg v ∷ past) Child s = child_at_root reg v past s (level_follows past Child s)

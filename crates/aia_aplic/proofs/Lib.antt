@@ -1,8 +1,14 @@
+pub mod EachLemmas
 pub mod Steps
 pub mod WriteSteps
 pub mod DrivenSteps
+pub mod LoadedSteps
 pub mod Standing
 pub mod Reading
+pub mod TopStands
+pub mod ControlSteps
+pub mod SideLemmas
 pub mod LevelLaw
 pub mod OwnerLaw
 pub mod RiseLaw
+pub mod TopLaw

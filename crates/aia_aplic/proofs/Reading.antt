@@ -6,7 +6,7 @@ use Rattle.std.proofs.lemmas.Option.{slice_get_past, slice_get-get_or}
 use Rattle.aia_word.specs.Sets.{word_of}
 use Rattle.std.specs.Int.{is_in_range}
 use Rattle.aia_regs.specs.declared.domain_registers.DomainReg.{DomainReg}
-use Rattle.aia_regs.specs.declared.domain_registers.DomainReg.TheVariants.{DomainCfg, SourceCfg, SetIp, InClrIp, SetIe, GenMsi, Target}
+use Rattle.aia_regs.specs.declared.domain_registers.DomainReg.TheVariants.{DomainCfg, SourceCfg, SetIp, InClrIp, SetIe, GenMsi, Target, IDelivery, IForce, IThreshold, TopI, ClaimI}
 use Rattle.aia_regs.specs.Fields.{field}
 use Rattle.aia_regs.specs.Operations.{is_one}
 use Rattle.aia_source.specs.declared.mode.Mode.{Mode}
@@ -23,6 +23,7 @@ use Rattle.aia_model.specs.Act.DomainName.{Root, Child}
 use Rattle.aia_model.specs.Act.Act.{Written}
 use Rattle.aia_model.specs.SourceOf.{sources_in, is_source, is_register_of, root_sourcecfg_of, is_delegated, child_told, sourcecfg_of, mode, input, is_on, enabled, target, pending, only, sources_word, register_read}
 use Rattle.aia_aplic.specs.Stands.{held, DomainStands}
+use Rattle.aia_aplic.specs.Controls.{is_control}
 use Rattle.aia_aplic.proofs.Steps.{held-idle}
 use Rattle.aia_aplic.proofs.WriteSteps.{child-none}
 
@@ -188,18 +189,23 @@ config_zero : (past : Past) (name : DomainName) → sourcecfg_of past name 0 ≡
 config_zero past Root = root-zero past
 config_zero past Child = child-none past 0 (ap delegates (root-zero past))
 
-pub read-stands : (reg : DomainReg) (d : DomainState) (past : Past) (name : DomainName) → DomainStands d past name → domain_read d reg ≡ register_read past name reg
-read-stands DomainCfg d past name stands = ap (λ (b : Bool). 0x80000000 + one_at b 8 + one_at d.msi 2) stands.on ∙ ap (λ (b : Bool). 0x80000000 + one_at (is_on past name) 8 + one_at b 2) stands.msi
-read-stands (SetIp k) d past name stands = word-stands looks.Pending d past name k stands
-read-stands (InClrIp k) d past name stands = word-stands looks.Input d past name k stands
-read-stands (SetIe k) d past name stands = word-stands looks.Enable d past name k stands
-read-stands GenMsi d past name stands = stands.genmsi
-read-stands (SourceCfg i) d past name stands = elim (place d past name i stands) [
+pub read-stands : (reg : DomainReg) (d : DomainState) (past : Past) (name : DomainName) → is_control reg ≡ false → DomainStands d past name → domain_read d reg ≡ register_read past name reg
+read-stands DomainCfg d past name plain stands = ap (λ (b : Bool). 0x80000000 + one_at b 8 + one_at d.msi 2) stands.on ∙ ap (λ (b : Bool). 0x80000000 + one_at (is_on past name) 8 + one_at b 2) stands.msi
+read-stands (SetIp k) d past name plain stands = word-stands looks.Pending d past name k stands
+read-stands (InClrIp k) d past name plain stands = word-stands looks.Input d past name k stands
+read-stands (SetIe k) d past name plain stands = word-stands looks.Enable d past name k stands
+read-stands GenMsi d past name plain stands = stands.genmsi
+read-stands (SourceCfg i) d past name plain stands = elim (place d past name i stands) [
   | inl p ↦ numbered (sourcecfg_of past name) past i _ p.0 (config_zero past name) (ap (kept.sourcecfg_of d.leaf) p.1 ∙ ap (λ (b : Bool). sourcecfg_shown b (held past name i)) stands.leaf ∙ config_shown past name i)
   | inr p ↦ ap (kept.sourcecfg_of d.leaf) p.1 ∙ sym (cond-false _ _ _ (not_there (sources_in past) i p.0))
 ]
-read-stands (Target i) d past name stands = elim (place d past name i stands) [
+read-stands (Target i) d past name plain stands = elim (place d past name i stands) [
   | inl p ↦ numbered (target past name) past i _ p.0 ((held-idle past name 0).target (mode-zero past name)) (ap target_of p.1)
   | inr p ↦ ap target_of p.1 ∙ sym (cond-false _ _ _ (not_there (sources_in past) i p.0))
 ]
-read-stands reg d past name stands = refl
+read-stands (IDelivery hart) d past name plain stands = cc
+read-stands (IForce hart) d past name plain stands = cc
+read-stands (IThreshold hart) d past name plain stands = cc
+read-stands (TopI hart) d past name plain stands = cc
+read-stands (ClaimI hart) d past name plain stands = cc
+read-stands reg d past name plain stands = refl

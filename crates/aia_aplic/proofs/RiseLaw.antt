@@ -1,5 +1,5 @@
 -- A write makes no rise.
-use Rattle.std.proofs.Common.{◌≡◌, ℕ, Bool, true, false, cond, ◌&&◌, ◌∷◌, unwrap_or, refl, ap}
+use Rattle.std.proofs.Common.{◌≡◌, ℕ, Option, Bool, true, false, cond, ◌&&◌, ◌∷◌, unwrap_or, refl, ap}
 use Rattle.aia_regs.specs.declared.domain_registers.DomainReg.{DomainReg}
 use Rattle.aia_regs.specs.declared.domain_registers.DomainReg.TheVariants.{DomainCfg, SourceCfg}
 use Rattle.aia_regs.specs.Word.{settle}
@@ -8,10 +8,11 @@ use Rattle.aia_source.specs.declared.mode.Mode.TheVariants.{Inactive, Detached, 
 use Rattle.aia_source.specs.Source.{Deed, is_active, is_level, detached_says, edge_says, says}
 use Rattle.aia_source.specs.Source.Deed.{Moved, Set, Cleared, Claimed, Forwarded, Configured, Activated, Switched, Untouched}
 use Rattle.aia_source.specs.Registers.{domaincfg_kept, is_by_msi, root_sourcecfg, child_sourcecfg, mode_of, sets_pending, clears_pending, same_bool}
+use Rattle.aia_source.specs.Top.{Pair}
 use Rattle.aia_model.specs.Act.{DomainName, Past, newest, when}
 use Rattle.aia_model.specs.Act.DomainName.{Root, Child}
 use Rattle.aia_model.specs.Act.Act.{Written}
-use Rattle.aia_model.specs.SourceOf.{is_register_of, root_sourcecfg_of, is_delegated, child_told, mode, owns, input, is_msi, deed_of_write, deed, pending}
+use Rattle.aia_model.specs.SourceOf.{is_register_of, root_sourcecfg_of, is_delegated, child_told, mode, owns, input, is_msi, deed_of_write, deed, pending, top_in}
 
 -- ---- a sourcecfg at an active source
 
@@ -113,12 +114,12 @@ unasked_write past d reg v s e = at (sets_pending reg v s) (clears_pending reg v
     at false true e = refl
     at false false e = refl
 
-unasked_deed : (past : Past) (e d : DomainName) (reg : DomainReg) (v s : ℕ) → sets_pending reg v s ≡ false → asks (deed past (Written e reg v) d s) ≡ false
-unasked_deed past Root Root reg v s quiet = unasked_write past Root reg v s quiet
-unasked_deed past Root Child reg v s quiet = refl
-unasked_deed past Child Root reg v s quiet = refl
-unasked_deed past Child Child reg v s quiet = unasked_write past Child reg v s quiet
+unasked_deed : (shown : ℕ → Option Pair) (past : Past) (e d : DomainName) (reg : DomainReg) (v s : ℕ) → sets_pending reg v s ≡ false → asks (deed shown past (Written e reg v) d s) ≡ false
+unasked_deed shown past Root Root reg v s quiet = unasked_write past Root reg v s quiet
+unasked_deed shown past Root Child reg v s quiet = refl
+unasked_deed shown past Child Root reg v s quiet = refl
+unasked_deed shown past Child Child reg v s quiet = unasked_write past Child reg v s quiet
 
 pub unasked : (past : Past) (e d : DomainName) (reg : DomainReg) (v s : ℕ) → sets_pending reg v s ≡ false → is_level (mode (Written e reg v ∷ past) d s) ≡ false → pending past d s ≡ false → pending (Written e reg v ∷ past) d s ≡ false
 unfolding pending
-unasked past e d reg v s quiet l none = unasked_at (mode (Written e reg v ∷ past) d s) (is_msi past d) (input past d s) (input (Written e reg v ∷ past) d s) (deed past (Written e reg v) d s) (pending past d s) (unasked_deed past e d reg v s quiet) l none
+unasked past e d reg v s quiet l none = unasked_at (mode (Written e reg v ∷ past) d s) (is_msi past d) (input past d s) (input (Written e reg v ∷ past) d s) (deed (top_in (pending past d) past d) past (Written e reg v) d s) (pending past d s) (unasked_deed (top_in (pending past d) past d) past e d reg v s quiet) l none

@@ -1,37 +1,25 @@
 -- A domain that stood for the past stands for the longer one.
-use Rattle.std.proofs.Common.{◌≡◌, ℕ, suc, ◌<◌, Bool, true, false, not, cond, List, [], ◌∷◌, length, slice_get, Option, Some, None, option_map, unwrap_or, refl, sym, ap, subst, ◌∙◌}
+use Rattle.std.proofs.Common.{◌≡◌, ℕ, suc, ◌<◌, Bool, true, false, not, cond, ◌&&◌, nat_lt, [], ◌∷◌, slice_get, Option, None, unwrap_or, refl, sym, ap, subst, ◌∙◌}
+use Rattle.std.proofs.lemmas.Bool.{cond-true, cond-false}
 use Rattle.std.proofs.lemmas.Option.{slice_get_within, get_or_from_slice_get}
 use Rattle.std.proofs.lemmas.List.Elements.{All-get_or}
 use Rattle.aia_regs.specs.declared.domain_registers.DomainReg.{DomainReg}
-use Rattle.aia_regs.specs.declared.domain_registers.DomainReg.TheVariants.{DomainCfg, SourceCfg, GenMsi}
+use Rattle.aia_regs.specs.declared.domain_registers.DomainReg.TheVariants.{DomainCfg, SourceCfg, GenMsi, ClaimI}
 use Rattle.aia_source.specs.Registers.{domaincfg_kept, enables, is_by_msi, root_sourcecfg, delegates, genmsi_kept, same_bool}
-use Rattle.aia_domain.specs.Held.{Held, new_held, wired, changed_at, granted_at, EachSource}
+use Rattle.aia_domain.specs.Held.{Held, new_held, with_deed, wired, changed_at, granted_at, EachSource}
 use Rattle.aia_domain.specs.Domain.{DomainState, IsNewDomain, with_sources, source_changed, source_after, domaincfg_written, domain_after}
 use Rattle.aia_model.specs.Act.{DomainName, Act, Past, is_domain, newest, when}
 use Rattle.aia_model.specs.Act.DomainName.{Root, Child}
-use Rattle.aia_model.specs.Act.Act.{Made, Driven, Written}
-use Rattle.aia_model.specs.SourceOf.{harts_in, sources_in, wire_of, enabled, target, pending, domaincfg_of, is_on, is_msi, genmsi_of}
-use Rattle.aia_aplic.specs.Stands.{held, DomainStands, AplicState, AplicStands, IsNewAplic}
-use Rattle.aia_aplic.proofs.WriteSteps.{root_written, child_written, root_at_child_written, child_at_root_config, child_at_root_written, is_config}
+use Rattle.aia_model.specs.Act.Act.{Made, Driven, Written, Loaded}
+use Rattle.aia_model.specs.SourceOf.{harts_in, sources_in, wire_of, enabled, target, pending, domaincfg_of, is_on, is_msi, genmsi_of, top}
+use Rattle.aia_direct.specs.Control.{claimed_top}
+use Rattle.aia_aplic.specs.Stands.{held, DomainStands}
+use Rattle.aia_aplic.proofs.EachLemmas.{each-length, each-held, unchanged}
+use Rattle.aia_aplic.proofs.WriteSteps.{same_bools, root_written, child_written, root_at_child_written, child_at_root_config, child_at_root_written, is_config}
 use Rattle.aia_aplic.proofs.DrivenSteps.{driven}
-
-each-length : (old new : List Held) (change : ℕ → Held → Held) → EachSource old new change → length new ≡ length old
-each-length [] [] change each = refl
-each-length [] (y ∷ ys) change each = let e : ◌≡◌ {A = Option Held} (Some y) None = each 0 in cc
-each-length (x ∷ xs) [] change each = let e : ◌≡◌ {A = Option Held} None (Some (change 0 x)) = each 0 in cc
-each-length (x ∷ xs) (y ∷ ys) change each = ap suc (each-length xs ys (λ s. change (suc s)) (λ s. each (suc s)))
-
--- what stands after each source was changed
-each-held : (old new : List Held) (change : ℕ → Held → Held) (was is : ℕ → Held) → EachSource old new change → ((s : ℕ) (x : Held) → slice_get old s ≡ Some x → x ≡ was s)
-    → ((s : ℕ) → s < length old → change s (was s) ≡ is s) → (s : ℕ) (y : Held) → slice_get new s ≡ Some y → y ≡ is s
-each-held old new change was is each stands goes s y found = at (slice_get old s) refl
-  where
-    at : (o : Option Held) → slice_get old s ≡ o → y ≡ is s
-    at None e = let bad : ◌≡◌ {A = Option Held} None (Some y) = sym (ap (option_map (change s)) e) ∙ sym (each s) ∙ found in cc
-    at (Some x) e =
-        let same : ◌≡◌ {A = Option Held} (Some (change s x)) (Some y) = sym (ap (option_map (change s)) e) ∙ sym (each s) ∙ found in
-        let f : change s x ≡ y = cc in
-        sym f ∙ ap (change s) (stands s x e) ∙ goes s (slice_get_within old s x e)
+use Rattle.aia_aplic.proofs.LoadedSteps.{is_claim, claimed, loaded, root_at_child_loaded, child_at_root_loaded}
+use Rattle.aia_source.specs.Source.Deed.{Claimed}
+use Rattle.aia_source.specs.Top.{Pair, is_top}
 
 -- what a domain keeps beside its sources, and its harts, is as the longer past has it
 pub record Keeps (d e : DomainState) (a : Act) (past : Past) (name : DomainName) : Type 0 where
@@ -54,10 +42,6 @@ stands-after a d e past name change keeps each goes stands = record {
   count = each-length d.sources e.sources change each ∙ stands.count ∙ sym (ap suc keeps.sources_in);
   each = each-held d.sources e.sources change (held past name) (held (a ∷ past) name) each stands.each (λ s low. goes s (subst (λ n. s < n) stands.count low));
 }
-
-unchanged : (o : Option Held) → o ≡ option_map (λ x. x) o
-unchanged None = refl
-unchanged (Some x) = refl
 
 -- an act that a domain has no part in
 still-stands : (a : Act) (d : DomainState) (past : Past) (name : DomainName) → Keeps d d a past name → ((s : ℕ) → s < suc (sources_in past) → held (a ∷ past) name s ≡ held past name s) → DomainStands d past name → DomainStands d (a ∷ past) name
@@ -157,12 +141,6 @@ unfolding newest
 same_size reg v past name = (refl, refl)
 
 -- the delivery mode after a write of domaincfg, and what stays
-same_bools : (a b : Bool) → same_bool a b ≡ true → a ≡ b
-same_bools true true e = refl
-same_bools true false e = cc
-same_bools false true e = cc
-same_bools false false e = refl
-
 msi_after : (same on msi : Bool) (d : DomainState) → same ≡ same_bool d.msi msi → (domaincfg_written same on msi d).msi ≡ msi
 msi_after true on msi d e = same_bools d.msi msi (sym e)
 msi_after false on msi d e = refl
@@ -233,6 +211,47 @@ own-stands reg v d e past name each rest stands =
     (λ s low. ap (λ l. source_changed l d.harts d.msi reg v s (held past name s)) stands.leaf ∙ ap (λ n. source_changed (is_domain name Child) n d.msi reg v s (held past name s)) stands.harts
     ∙ ap (λ m. source_changed (is_domain name Child) (harts_in past) m reg v s (held past name s)) stands.msi ∙ sym (written reg v past name s low)) stands
 
+-- ---- loads
+
+quiet_loaded : (e : DomainName) (reg : DomainReg) (past : Past) (name : DomainName) → IsQuiet (Loaded e reg) past name
+unfolding newest
+quiet_loaded e reg past name = (refl, refl, refl, refl, refl)
+
+loaded-stands : (e : DomainName) (reg : DomainReg) (d : DomainState) (past : Past) (name : DomainName) → ((s : ℕ) → held (Loaded e reg ∷ past) name s ≡ held past name s) → DomainStands d past name → DomainStands d (Loaded e reg ∷ past) name
+loaded-stands e reg d past name same stands = still-stands (Loaded e reg) d past name (keeps_quiet (Loaded e reg) d d past name (quiet_loaded e reg past name) refl stands) (λ s low. same s) stands
+
+-- a load that claims nothing
+pub read-stands_same : (reg : DomainReg) (d : DomainState) (past : Past) (name : DomainName) → is_claim reg ≡ false → DomainStands d past name → DomainStands d (Loaded name reg ∷ past) name
+read-stands_same reg d past name other stands = loaded-stands name reg d past name (λ s. loaded reg past name s other) stands
+
+pub root-stands_loaded : (reg : DomainReg) (d : DomainState) (past : Past) → DomainStands d past Root → DomainStands d (Loaded Child reg ∷ past) Root
+root-stands_loaded reg d past stands = loaded-stands Child reg d past Root (root_at_child_loaded reg past) stands
+
+pub child-stands_loaded : (reg : DomainReg) (d : DomainState) (past : Past) → DomainStands d past Child → DomainStands d (Loaded Root reg ∷ past) Child
+child-stands_loaded reg d past stands = loaded-stands Root reg d past Child (child_at_root_loaded reg past) stands
+
+-- a claim by a hart that isn't there
+pub unclaimed-stands : (hart : ℕ) (d : DomainState) (past : Past) (name : DomainName) → nat_lt hart (harts_in past) ≡ false → DomainStands d past name → DomainStands d (Loaded name (ClaimI hart) ∷ past) name
+unclaimed-stands hart d past name away stands =
+    loaded-stands name (ClaimI hart) d past name (λ s. claimed hart past name s ∙ cond-false _ _ _ (ap (λ (b : Bool). b && is_top (top past name hart) s) away)) stands
+
+-- by whether the domain delivers by MSIs, where nothing is on top
+top_claimed : (msi : Bool) (o : Option Pair) (s : ℕ) (x : Held) → (msi ≡ true → o ≡ None) → claimed_top o s x ≡ cond (is_top o s) (with_deed msi Claimed x) x
+top_claimed false o s x none = refl
+top_claimed true o s x none = ap (λ (p : Option Pair). claimed_top p s x) (none refl) ∙ sym (ap (λ (p : Option Pair). cond (is_top p s) (with_deed true Claimed x) x) (none refl))
+
+msi_shows_none : (past : Past) (name : DomainName) (hart : ℕ) → is_msi past name ≡ true → top past name hart ≡ None
+msi_shows_none past name hart e = cond-true _ _ _ e
+
+-- a claim by a hart that is there
+pub claimed-stands : (hart : ℕ) (o : Option Pair) (d e : DomainState) (past : Past) (name : DomainName) → nat_lt hart (harts_in past) ≡ true → o ≡ top past name hart
+    → EachSource d.sources e.sources (claimed_top o) → e ≡ with_sources d e.sources → DomainStands d past name → DomainStands e (Loaded name (ClaimI hart) ∷ past) name
+claimed-stands hart o d e past name there shown each rest stands =
+    stands-after (Loaded name (ClaimI hart)) d e past name (claimed_top o) (keeps_quiet (Loaded name (ClaimI hart)) d e past name (quiet_loaded name (ClaimI hart) past name) rest stands) each
+    (λ s low. top_claimed (is_msi past name) o s (held past name s) (λ m. shown ∙ msi_shows_none past name hart m)
+    ∙ ap (λ (p : Option Pair). cond (is_top p s) (with_deed (is_msi past name) Claimed (held past name s)) (held past name s)) shown
+    ∙ sym (claimed hart past name s ∙ ap (λ (b : Bool). cond (b && is_top (top past name hart) s) (with_deed (is_msi past name) Claimed (held past name s)) (held past name s)) there)) stands
+
 -- ---- the beginning
 
 begun : (h n : ℕ) (name : DomainName) (s : ℕ) → new_held ≡ held (Made h n ∷ []) name s
@@ -248,7 +267,7 @@ new_domaincfg : (h n : ℕ) (name : DomainName) → (is_on (Made h n ∷ []) nam
 unfolding newest
 new_domaincfg h n name = (refl, refl, refl)
 
-new_domain-stands : (n h : ℕ) (leaf : Bool) (d : DomainState) (name : DomainName) → leaf ≡ is_domain name Child → IsNewDomain n h leaf d → DomainStands d (Made h n ∷ []) name
+pub new_domain-stands : (n h : ℕ) (leaf : Bool) (d : DomainState) (name : DomainName) → leaf ≡ is_domain name Child → IsNewDomain n h leaf d → DomainStands d (Made h n ∷ []) name
 new_domain-stands n h leaf d name is new =
     let cfg = new_domaincfg h n name in
     record {
@@ -260,7 +279,3 @@ new_domain-stands n h leaf d name is new =
       count = new.count ∙ sym (ap suc (new_size h n).1);
       each = λ s x found. sym (get_or_from_slice_get d.sources s x x found) ∙ All-get_or (λ y. y ≡ new_held) d.sources s x (slice_get_within d.sources s x found) new.each ∙ begun h n name s;
     }
-
--- an APLIC as a machine begins
-pub new-stands : (n h : ℕ) (a : AplicState) → IsNewAplic n h a → AplicStands a (Made h n ∷ [])
-new-stands n h a new = record { root = new_domain-stands n h false a.root Root refl new.root; child = new_domain-stands n h true a.child Child refl new.child }

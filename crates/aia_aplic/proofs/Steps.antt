@@ -10,7 +10,7 @@ use Rattle.aia_source.specs.Source.Deed.{Untouched}
 use Rattle.aia_source.specs.Registers.{target_kept}
 use Rattle.aia_domain.specs.Held.{Held, with_deed, with_enable, aimed}
 use Rattle.aia_model.specs.Act.{DomainName, Act, Past}
-use Rattle.aia_model.specs.SourceOf.{wire_of, is_delegated, mode, owns, is_msi, enable_asked, enable_word, enabled, target_told, target_after, target, deed, pending}
+use Rattle.aia_model.specs.SourceOf.{wire_of, is_delegated, mode, owns, is_msi, enable_asked, enable_word, enabled, target_told, target_after, target, deed, pending, top_in}
 use Rattle.aia_aplic.specs.Stands.{held}
 
 -- what a step makes of what was held, by what the act says
@@ -23,7 +23,7 @@ stepped mode' wire' msi msi' delegated' aim asked does x = record {
 }
 
 pub held-step : (a : Act) (past : Past) (d : DomainName) (s : ℕ) →
-    held (a ∷ past) d s ≡ stepped (mode (a ∷ past) d s) (wire_of (a ∷ past) s) (is_msi past d) (is_msi (a ∷ past) d) (is_delegated (a ∷ past) s) (target_told d s past a) (enable_asked d s a) (deed past a d s) (held past d s)
+    held (a ∷ past) d s ≡ stepped (mode (a ∷ past) d s) (wire_of (a ∷ past) s) (is_msi past d) (is_msi (a ∷ past) d) (is_delegated (a ∷ past) s) (target_told d s past a) (enable_asked d s a) (deed (top_in (pending past d) past d) past a d s) (held past d s)
 unfolding pending enabled target
 held-step a past d s = refl
 
@@ -128,3 +128,7 @@ step-aim harts msi v x idle = λ i. record {
   target = aimed_target (is_active x.source.mode) msi (target_kept harts msi v) i;
   delegated = x.delegated;
 }
+
+pub done_if : (b msi : Bool) (does : Deed) (x : Held) → IsIdle x → stepped x.source.mode x.source.wire msi msi x.delegated None Nothing (cond b does Untouched) x ≡ cond b (with_deed msi does x) x
+done_if true msi does x idle = step-deed msi x does idle
+done_if false msi does x idle = step-nothing msi x idle

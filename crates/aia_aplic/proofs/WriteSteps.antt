@@ -57,7 +57,7 @@ switched_target : (b msi msi' : Bool) (was : ℕ) → same_bool msi msi' ≡ fal
 switched_target true msi msi' was e = ap (λ s. cond s was (first_target msi')) e
 switched_target false msi msi' was e = refl
 
-same_bools : (a b : Bool) → same_bool a b ≡ true → a ≡ b
+pub same_bools : (a b : Bool) → same_bool a b ≡ true → a ≡ b
 same_bools true true e = refl
 same_bools true false e = cc
 same_bools false true e = cc

@@ -1,12 +1,13 @@
-ghost use Rattle.std.specs.Prelude.{◌≡◌, ◌≤◌, ◌∷◌, length, Bool, IfOk};
+ghost use Rattle.std.specs.Prelude.{◌≡◌, ◌<◌, ◌≤◌, [], ◌∷◌, length, Bool, IfOk};
 ghost use Rattle.aia_regs.specs.DomainRegisters.{domain_register_of};
 ghost use Rattle.aia_model.specs.Act.{Past};
 ghost use Rattle.aia_model.specs.Act.DomainName.{Root};
-ghost use Rattle.aia_model.specs.Act.Act.{Driven, Written};
-ghost use Rattle.aia_model.specs.SourceOf.{sources_in, register_read};
+ghost use Rattle.aia_model.specs.Act.Act.{Made, Driven, Written, Loaded};
+ghost use Rattle.aia_model.specs.SourceOf.{harts_in, sources_in, register_read, is_signalled};
 ghost use Rattle.aia_aplic.specs.Stands.{AplicStands, IsNewAplic, domain_name};
 
-use aia_domain::{Domain, delegates};
+use crate::side::Side;
+use aia_domain::delegates;
 use aia_regs::{DomainReg, domain_reg};
 use std::alloc::{AllocError, Global};
 use std::marker::Model;
@@ -16,8 +17,8 @@ use std::marker::Model;
 /// AIA 1.0, Advanced Platform-Level Interrupt Controller (APLIC), "Interrupt domains".
 #[derive(Drop)]
 pub struct Aplic {
-    root: Domain,
-    child: Domain,
+    root: Side,
+    child: Side,
 }
 
 impl Model for Aplic {
@@ -35,10 +36,11 @@ impl Aplic {
         requires some { 1 ≤ sources }
         requires few { sources ≤ 1023 }
         requires harts { harts ≤ 4 }
-        ensures { IfOk result (IsNewAplic sources harts) }
+        ensures new { IfOk result (IsNewAplic sources harts) }
+        ensures stands { IfOk result (λ aplic. AplicStands aplic (Made harts sources ∷ [])) }
     {
-        let root = Domain::new(alloc, sources, harts, false)?;
-        let child = Domain::new(alloc, sources, harts, true)?;
+        let root = Side::new(alloc, sources, harts, false)?;
+        let child = Side::new(alloc, sources, harts, true)?;
         Ok(Aplic { root, child })
     }
 
@@ -58,12 +60,14 @@ impl Aplic {
         self.child.wire(s, level);
     }
 
-    /// What the register at an offset of a domain's control region reads: domain 0 is the root domain, 1 its child.
+    /// The register at an offset of a domain's control region is read: domain 0 is the root domain, 1 its child. A load of a hart's `claimi` claims
+    /// the source that it shows.
     ///
     /// AIA 1.0, Advanced Platform-Level Interrupt Controller (APLIC), "Memory-mapped control region for an interrupt domain".
-    pub fn load(&self, domain: u32, offset: u32) -> u32
+    pub fn load(&mut self, domain: u32, offset: u32) -> u32
         requires { domain ≤ 1 }
-        ensures { (past : Past) → AplicStands self.now past → result ≡ register_read past (domain_name domain) (domain_register_of offset) }
+        ensures reads { (past : Past) → AplicStands self.old past → result ≡ register_read past (domain_name domain) (domain_register_of offset) }
+        ensures stands { (past : Past) → AplicStands self.old past → AplicStands self.new (Loaded (domain_name domain) (domain_register_of offset) ∷ past) }
     {
         let reg = domain_reg(offset);
         if domain == 0 {
@@ -93,11 +97,22 @@ impl Aplic {
     {
         self.root.store(reg, value);
         if let DomainReg::SourceCfg(s) = reg {
-            if delegates(value) {
-                self.child.grant(s);
-            } else {
-                self.child.withdraw(s);
-            }
+            self.child.delegate(s, delegates(value));
+        }
+    }
+
+    /// Whether a hart is signalled by a domain, 0 or 1: the domain delivers directly and its interrupts are enabled, the hart's `idelivery` is 1, and a source
+    /// is on top for it or its `iforce` is 1. A hart that isn't there is not.
+    ///
+    /// AIA 1.0, Advanced Platform-Level Interrupt Controller (APLIC), "Interrupt delivery directly by the APLIC".
+    pub fn pin(&self, domain: u32, hart: u32) -> bool
+        requires { domain ≤ 1 }
+        ensures { (past : Past) → AplicStands self.now past → hart < harts_in past → result ≡ is_signalled past (domain_name domain) hart }
+    {
+        if domain == 0 {
+            self.root.signal(hart)
+        } else {
+            self.child.signal(hart)
         }
     }
 }

@@ -1,6 +1,8 @@
 //! What the definitions of the wired sources mean, as laws for every past: each function does nothing, and its clauses are what was proved.
 
-ghost use Rattle.std.specs.Prelude.{◌≡◌, ℕ, Bool, true, false, ◌&&◌, ◌∷◌};
+ghost use Rattle.std.specs.Prelude.{◌≡◌, ℕ, ◌≤◌, Bool, true, false, ◌&&◌, ◌∷◌, Option, Some, None};
+ghost use Rattle.aia_source.specs.Top.{Pair};
+ghost use Rattle.aia_aplic.specs.Tops.{IsOnTop};
 ghost use Rattle.aia_regs.specs.declared.domain_registers.DomainReg.{DomainReg};
 ghost use Rattle.aia_regs.specs.declared.domain_registers.DomainReg.TheVariants.{SourceCfg};
 ghost use Rattle.aia_source.specs.Source.{is_level};
@@ -8,7 +10,7 @@ ghost use Rattle.aia_source.specs.Registers.{sets_pending};
 ghost use Rattle.aia_model.specs.Act.{DomainName, Past};
 ghost use Rattle.aia_model.specs.Act.DomainName.{Root, Child};
 ghost use Rattle.aia_model.specs.Act.Act.{Written};
-ghost use Rattle.aia_model.specs.SourceOf.{is_delegated, sourcecfg_of, mode, owns, input, is_msi, enabled, target, pending};
+ghost use Rattle.aia_model.specs.SourceOf.{is_delegated, sourcecfg_of, mode, owns, input, is_msi, enabled, target, pending, sources_in, is_for, top};
 
 /// Whatever has happened, a source at a level mode, in a domain that delivers directly, is pending exactly while its rectified input is high.
 ///
@@ -50,4 +52,13 @@ pub fn only_a_wire_makes_a_rise()
     ensures stays { (past : Past) (d : DomainName) (i v s : ℕ) → owns past d s ≡ true → owns (Written d (SourceCfg i) v ∷ past) d s ≡ true → is_level (mode (Written d (SourceCfg i) v ∷ past) d s) ≡ false → pending (Written d (SourceCfg i) v ∷ past) d s ≡ pending past d s }
     ensures begins { (past : Past) (d : DomainName) (i v s : ℕ) → owns past d s ≡ false → is_level (mode (Written d (SourceCfg i) v ∷ past) d s) ≡ false → pending (Written d (SourceCfg i) v ∷ past) d s ≡ false }
     ensures unasked { (past : Past) (e d : DomainName) (reg : DomainReg) (v s : ℕ) → sets_pending reg v s ≡ false → is_level (mode (Written e reg v ∷ past) d s) ≡ false → pending past d s ≡ false → pending (Written e reg v ∷ past) d s ≡ false }
+{}
+
+/// Whatever has happened, what `topi` of a hart shows is the least pair of priority and number of the pending sources that are the hart's, and nothing
+/// exactly where there is none, in a domain that delivers directly.
+///
+/// AIA 1.0, Advanced Platform-Level Interrupt Controller (APLIC), "Interrupt delivery directly by the APLIC".
+pub fn the_source_on_top_is_the_least_of_the_harts()
+    ensures found { (past : Past) (d : DomainName) (hart : ℕ) (p : Pair) → top past d hart ≡ Some p → IsOnTop past d hart p }
+    ensures none { (past : Past) (d : DomainName) (hart : ℕ) → is_msi past d ≡ false → ◌≡◌ {A = Option Pair} (top past d hart) None → (s : ℕ) → 1 ≤ s → s ≤ sources_in past → is_for past d hart s ≡ true → pending past d s ≡ false }
 {}

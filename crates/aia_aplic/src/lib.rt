@@ -2,7 +2,9 @@
 #![tactic(auto)]
 
 mod aplic;
+mod controls;
 pub mod laws;
+mod side;
 #[cfg(test)]
 mod tests;
 

@@ -3,7 +3,7 @@ use Rattle.aia_regs.specs.declared.domain_registers.DomainReg.{DomainReg}
 use Rattle.aia_model.specs.Act.DomainName.{Child}
 use Rattle.aia_model.specs.Act.Act.{Written}
 use Rattle.aia_aplic.specs.Stands.{AplicState, AplicStands, domain_name}
-use Rattle.aia_aplic.proofs.Standing.{own-stands, root-stands_other}
+use Rattle.aia_aplic.proofs.SideLemmas.{root-side_other}
 use Rattle.aia_aplic.proofs.aplic.Aplic.store.Goals as goal
 
 pub returns-else-domain-eq0 : goal.returns-else-domain-eq0
@@ -11,8 +11,8 @@ returns-else-domain-eq0 c = λ past stands.
     let now : AplicStands (record { root = c.self.inside.root; child = c.self.inside.child }) past = subst (λ (a : AplicState). AplicStands a past) (sym c.self.view_is) stands in
     let one : c.args.domain ≡ 1 = omega (arith, c.requires, c.if-domain-eq0.false) in
     let written : AplicStands (record { root = c.self.inside.root; child = c.store.new.self }) (Written Child c.domain_reg-reg.result c.args.value ∷ past) = record {
-      root = root-stands_other c.domain_reg-reg.result c.args.value _ past now.root;
-      child = own-stands c.domain_reg-reg.result c.args.value _ _ past Child c.store.ensures.sources c.store.ensures.domain now.child;
+      root = root-side_other c.domain_reg-reg.result c.args.value c.self.inside.root past now.root;
+      child = c.store.ensures past Child now.child;
     } in
     subst (λ (r : DomainReg). AplicStands (record { root = c.self.inside.root; child = c.store.new.self }) (Written (domain_name c.args.domain) r c.args.value ∷ past)) c.domain_reg-reg.ensures
     (subst (λ n. AplicStands (record { root = c.self.inside.root; child = c.store.new.self }) (Written (domain_name n) c.domain_reg-reg.result c.args.value ∷ past)) (sym one) written)

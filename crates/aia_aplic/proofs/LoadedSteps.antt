@@ -1,0 +1,38 @@
+-- What a load makes of a source: one of claimi claims the source on top, every other load says nothing.
+use Rattle.std.proofs.Common.{◌≡◌, ℕ, Bool, true, false, cond, ◌&&◌, nat_lt, ◌∷◌, ◌∙◌}
+use Rattle.aia_regs.specs.declared.domain_registers.DomainReg.{DomainReg}
+use Rattle.aia_regs.specs.declared.domain_registers.DomainReg.TheVariants.{ClaimI}
+use Rattle.aia_source.specs.Source.Deed.{Claimed}
+use Rattle.aia_source.specs.Top.{is_top}
+use Rattle.aia_domain.specs.Held.{with_deed}
+use Rattle.aia_model.specs.Act.{DomainName, Past, newest}
+use Rattle.aia_model.specs.Act.DomainName.{Root, Child}
+use Rattle.aia_model.specs.Act.Act.{Loaded}
+use Rattle.aia_model.specs.SourceOf.{harts_in, wire_of, is_msi, top}
+use Rattle.aia_aplic.specs.Stands.{held}
+use Rattle.aia_aplic.proofs.Steps.{held-step, held-idle, step-nothing, done_if}
+
+abbrev pub is_claim : DomainReg → Bool
+is_claim (ClaimI hart) = true
+is_claim reg = false
+
+pub claimed : (hart : ℕ) (past : Past) (d : DomainName) (s : ℕ) → held (Loaded d (ClaimI hart) ∷ past) d s ≡ cond (nat_lt hart (harts_in past) && is_top (top past d hart) s) (with_deed (is_msi past d) Claimed (held past d s)) (held past d s)
+unfolding newest wire_of
+claimed hart past Root s = held-step (Loaded Root (ClaimI hart)) past Root s ∙ done_if (nat_lt hart (harts_in past) && is_top (top past Root hart) s) (is_msi past Root) Claimed (held past Root s) (held-idle past Root s)
+claimed hart past Child s = held-step (Loaded Child (ClaimI hart)) past Child s ∙ done_if (nat_lt hart (harts_in past) && is_top (top past Child hart) s) (is_msi past Child) Claimed (held past Child s) (held-idle past Child s)
+
+pub loaded : (reg : DomainReg) (past : Past) (d : DomainName) (s : ℕ) → is_claim reg ≡ false → held (Loaded d reg ∷ past) d s ≡ held past d s
+unfolding newest wire_of
+loaded (ClaimI hart) past d s other = cc
+loaded reg past Root s other = held-step (Loaded Root reg) past Root s ∙ step-nothing (is_msi past Root) (held past Root s) (held-idle past Root s)
+loaded reg past Child s other = held-step (Loaded Child reg) past Child s ∙ step-nothing (is_msi past Child) (held past Child s) (held-idle past Child s)
+
+pub root_at_child_loaded : (reg : DomainReg) (past : Past) (s : ℕ) → held (Loaded Child reg ∷ past) Root s ≡ held past Root s
+unfolding newest wire_of
+root_at_child_loaded (ClaimI hart) past s = held-step (Loaded Child (ClaimI hart)) past Root s ∙ step-nothing (is_msi past Root) (held past Root s) (held-idle past Root s)
+root_at_child_loaded reg past s = held-step (Loaded Child reg) past Root s ∙ step-nothing (is_msi past Root) (held past Root s) (held-idle past Root s)
+
+pub child_at_root_loaded : (reg : DomainReg) (past : Past) (s : ℕ) → held (Loaded Root reg ∷ past) Child s ≡ held past Child s
+unfolding newest wire_of
+child_at_root_loaded (ClaimI hart) past s = held-step (Loaded Root (ClaimI hart)) past Child s ∙ step-nothing (is_msi past Child) (held past Child s) (held-idle past Child s)
+child_at_root_loaded reg past s = held-step (Loaded Root reg) past Child s ∙ step-nothing (is_msi past Child) (held past Child s) (held-idle past Child s)

@@ -1,0 +1,53 @@
+-- What a hart is shown by a domain that stands for the past.
+use Rattle.std.proofs.Common.{◌≡◌, ℕ, zero, suc, ◌+◌, ◌-◌, ◌<◌, ◌≤◌, Bool, true, false, cond, ◌&&◌, nat_eq, length, Option, None, refl, sym, ap, ◌∙◌, arith}
+use Rattle.std.proofs.lemmas.Option.{slice_get-get_or}
+use Rattle.aia_source.specs.Top.{Pair, lesser, least_pair, passes, priority_of, hart_of, pair_if}
+use Rattle.aia_domain.specs.Held.{new_held, held_at}
+use Rattle.aia_domain.specs.Domain.{DomainState}
+use Rattle.aia_direct.specs.Control.{Control, candidate, candidate_at, top_shown}
+use Rattle.aia_model.specs.Act.{DomainName, Past}
+use Rattle.aia_model.specs.SourceOf.{sources_in, owns, enabled, target, pending, is_msi, threshold_of, pair_in, top}
+use Rattle.aia_aplic.specs.Stands.{held, DomainStands}
+use Rattle.aia_aplic.proofs.Steps.{held-idle}
+
+least_none : (f g : ℕ → Option Pair) (from : ℕ) → least_pair f from 0 ≡ least_pair g from 0
+unfolding least_pair
+least_none f g from = refl
+
+least_more : (f : ℕ → Option Pair) (from count : ℕ) → least_pair f from (suc count) ≡ lesser (f from) (least_pair f (suc from) count)
+unfolding least_pair
+least_more f from count = refl
+
+least_same : (f g : ℕ → Option Pair) (from count : ℕ) → ((s : ℕ) → from ≤ s → s < from + count → f s ≡ g s) → least_pair f from count ≡ least_pair g from count
+least_same f g from zero same = least_none f g from
+least_same f g from (suc count) same =
+    least_more f from count ∙ ap (λ o. lesser o (least_pair f (suc from) count)) (same from (omega arith) (omega arith))
+    ∙ ap (lesser (g from)) (least_same f g (suc from) count (λ s a b. same s (omega arith) (omega arith))) ∙ sym (least_more g from count)
+
+-- by the tests of either side, in their orders; what is not owned has no enable bit
+same_pair : (p e h q a : Bool) (t s : ℕ) → (a ≡ false → e ≡ false) → pair_if (p && e && h && q) t s ≡ cond (a && e && h && q) (pair_if p t s) None
+same_pair true true true true true t s idle = refl
+same_pair true true true false true t s idle = refl
+same_pair true true false q true t s idle = refl
+same_pair true false h q true t s idle = refl
+same_pair false true true true true t s idle = refl
+same_pair false true true false true t s idle = refl
+same_pair false true false q true t s idle = refl
+same_pair false false h q true t s idle = refl
+same_pair true true h q false t s idle = absurd (cc (idle refl))
+same_pair true false h q false t s idle = refl
+same_pair false e h q false t s idle = refl
+
+pub top-stands : (c : Control) (d : DomainState) (past : Past) (name : DomainName) (hart : ℕ) → DomainStands d past name → c.threshold ≡ threshold_of past name hart → top_shown c d hart ≡ top past name hart
+top-stands c d past name hart stands limit = ap (λ (b : Bool). cond b None (least_pair (candidate_at d.sources hart c.threshold) 1 (length d.sources - 1))) stands.msi ∙ ap (cond (is_msi past name) None) least
+  where
+    each : (s : ℕ) → 1 ≤ s → s < 1 + sources_in past → candidate_at d.sources hart c.threshold s ≡ pair_in (pending past name) past name hart s
+    each s low high =
+        let within : s < length d.sources = omega (arith, stands.count) in
+        let is : held_at d.sources s ≡ held past name s = stands.each s (held_at d.sources s) (slice_get-get_or d.sources s new_held within) in
+        ap (candidate hart c.threshold s) is ∙ ap (λ n. candidate hart n s (held past name s)) limit
+        ∙ same_pair (pending past name s) (enabled past name s) (nat_eq (hart_of (target past name s)) hart) (passes (threshold_of past name hart) (priority_of (target past name s))) (owns past name s) (target past name s) s
+        ((held-idle past name s).enabled)
+
+    least : least_pair (candidate_at d.sources hart c.threshold) 1 (length d.sources - 1) ≡ least_pair (pair_in (pending past name) past name hart) 1 (sources_in past)
+    least = let n : length d.sources - 1 ≡ sources_in past = omega (arith, stands.count) in ap (least_pair (candidate_at d.sources hart c.threshold) 1) n ∙ least_same _ _ 1 (sources_in past) each

@@ -1,0 +1,44 @@
+-- What a write makes of the delivery controls of harts.
+use Rattle.std.specs.Prelude.{◌≡◌, ℕ, Bool, true, false, nat_eq, if◌then◌else◌, List, get_or, slice_get, Option, Some, None, option_map}
+use Rattle.aia_regs.specs.declared.domain_registers.DomainReg.{DomainReg}
+use Rattle.aia_regs.specs.declared.domain_registers.DomainReg.TheVariants.{IDelivery, IForce, IThreshold, TopI, ClaimI}
+use Rattle.aia_domain.specs.Domain.{DomainState}
+use Rattle.aia_direct.specs.Control.{Control, new_control, control_written, control_claimed, top_shown}
+
+-- Each control of a list is changed by its hart.
+abbrev pub EachControl : List Control → List Control → (ℕ → Control → Control) → Type 0
+EachControl old new change = (hart : ℕ) → slice_get new hart ≡ option_map (change hart) (slice_get old hart)
+
+-- Whether a register is one of a hart's control, and whether of this hart's.
+abbrev pub is_control : DomainReg → Bool
+is_control (IDelivery hart) = true
+is_control (IForce hart) = true
+is_control (IThreshold hart) = true
+is_control (TopI hart) = true
+is_control (ClaimI hart) = true
+is_control reg = false
+
+abbrev pub is_of_hart : DomainReg → ℕ → Bool
+is_of_hart (IDelivery x) hart = nat_eq x hart
+is_of_hart (IForce x) hart = nat_eq x hart
+is_of_hart (IThreshold x) hart = nat_eq x hart
+is_of_hart reg hart = false
+
+-- A register is written.
+abbrev pub control_after : DomainReg → ℕ → ℕ → Control → Control
+control_after reg v hart c = if is_of_hart reg hart then control_written reg v c else c
+
+-- The control of a hart that is there.
+abbrev pub control_at : List Control → ℕ → Control
+control_at controls hart = get_or controls hart new_control
+
+-- A hart claims.
+abbrev pub claimed_at : DomainState → ℕ → ℕ → Control → Control
+claimed_at d hart h c = if nat_eq hart h then control_claimed d.msi (top_shown c d hart) c else c
+
+-- The hart of idelivery, iforce or ithreshold.
+abbrev pub hart_of_register : DomainReg → Option ℕ
+hart_of_register (IDelivery hart) = Some hart
+hart_of_register (IForce hart) = Some hart
+hart_of_register (IThreshold hart) = Some hart
+hart_of_register reg = None

@@ -1,0 +1,156 @@
+ghost use Rattle.aia_aplic.specs.Controls.{EachControl, control_after, control_at, claimed_at, hart_of_register};
+ghost use Rattle.aia_source.specs.Top.{topi_value};
+ghost use Rattle.aia_domain.specs.Held.{EachSource};
+ghost use Rattle.aia_domain.specs.Domain.{with_sources, source_after, domain_after};
+ghost use Rattle.aia_direct.specs.Control.{top_shown, claimed_top};
+ghost use Rattle.std.specs.Prelude.{Some, length, ◌≡◌, ◌<◌, ◌≤◌, ◌∷◌, ℕ, Bool, IfOk};
+ghost use Rattle.aia_source.specs.Registers.{delegates, root_sourcecfg};
+ghost use Rattle.aia_model.specs.Act.{DomainName, Past};
+ghost use Rattle.aia_model.specs.Act.DomainName.{Root, Child};
+ghost use Rattle.aia_model.specs.Act.Act.{Driven, Written, Loaded};
+ghost use Rattle.aia_model.specs.SourceOf.{harts_in, sources_in, register_read, is_signalled};
+ghost use Rattle.aia_aplic.specs.Stands.{SideStands, IsNewSide};
+
+use crate::controls::{claim, load_control, new_controls, signal_of, store_control, topi_of};
+use aia_direct::Idc;
+use aia_domain::Domain;
+use aia_regs::DomainReg;
+use std::alloc::{AllocError, Global};
+use std::marker::Model;
+
+/// A domain with the delivery controls of its harts.
+#[derive(Drop)]
+pub struct Side {
+    domain: Domain,
+    controls: Vec<Idc>,
+}
+
+impl Model for Side {
+    ghost use Rattle.aia_aplic.specs.Stands.{SideState};
+
+    ghost Value = { SideState };
+
+    ghost view = { λ s. record { domain = s.domain; controls = s.controls.items } };
+}
+
+impl Side {
+    pub(crate) fn new(
+        alloc: Global,
+        sources: u32,
+        harts: u32,
+        leaf: bool,
+    ) -> Result<Side, AllocError>
+        requires some { 1 ≤ sources }
+        requires few { sources ≤ 1023 }
+        requires harts { harts ≤ 4 }
+        ensures { IfOk result (IsNewSide sources harts leaf) }
+    {
+        let domain = Domain::new(alloc, sources, harts, leaf)?;
+        let controls = new_controls(alloc, harts)?;
+        Ok(Side { domain, controls })
+    }
+
+    pub(crate) fn sources(&self) -> u32
+        ensures count { (past : Past) (name : DomainName) → SideStands self.now past name → result ≡ sources_in past }
+        ensures few { result ≤ 1023 }
+    {
+        self.domain.sources()
+    }
+
+    pub(crate) fn wire(&mut self, s: u32, level: bool)
+        ensures { (past : Past) (name : DomainName) → SideStands self.old past name → SideStands self.new (Driven s level ∷ past) name }
+    {
+        self.domain.wire(s, level);
+    }
+
+    /// A register is written.
+    pub(crate) fn store(&mut self, reg: DomainReg, value: u32)
+        ensures { (past : Past) (name : DomainName) → SideStands self.old past name → SideStands self.new (Written name reg value ∷ past) name }
+    {
+        self.write(reg, value);
+    }
+
+    fn write(&mut self, reg: DomainReg, value: u32)
+        ensures sources { EachSource self.old.domain.sources self.new.domain.sources (source_after self.old.domain reg value) }
+        ensures domain { self.new.domain ≡ with_sources (domain_after reg value self.old.domain) self.new.domain.sources }
+        ensures controls { EachControl self.old.controls self.new.controls (control_after reg value) }
+    {
+        self.domain.store(reg, value);
+        store_control(&mut self.controls, reg, value);
+    }
+
+    /// The root domain's `sourcecfg` of a source is written with this value; this is its child.
+    pub(crate) fn delegate(&mut self, s: u32, given: bool)
+        ensures { (past : Past) (v : ℕ) → given ≡ delegates (root_sourcecfg v) → SideStands self.old past Child → SideStands self.new (Written Root (DomainReg.SourceCfg s) v ∷ past) Child }
+    {
+        if given {
+            self.domain.grant(s);
+        } else {
+            self.domain.withdraw(s);
+        }
+    }
+
+    /// A register is read.
+    pub(crate) fn load(&mut self, reg: DomainReg) -> u32
+        ensures reads { (past : Past) (name : DomainName) → SideStands self.old past name → result ≡ register_read past name reg }
+        ensures stands { (past : Past) (name : DomainName) → SideStands self.old past name → SideStands self.new (Loaded name reg ∷ past) name }
+    {
+        match reg {
+            DomainReg::IDelivery(hart) => self.load_control(hart, reg),
+            DomainReg::IForce(hart) => self.load_control(hart, reg),
+            DomainReg::IThreshold(hart) => self.load_control(hart, reg),
+            DomainReg::TopI(hart) => self.topi(hart),
+            DomainReg::ClaimI(hart) => self.claimi(hart),
+            _ => self.domain.load(reg),
+        }
+    }
+
+    fn load_control(&self, hart: u32, reg: DomainReg) -> u32
+        requires { hart_of_register reg ≡ Some hart }
+        ensures { (past : Past) (name : DomainName) → SideStands self.now past name → result ≡ register_read past name reg }
+    {
+        if (hart as usize) < self.controls.len() {
+            load_control(&self.controls, hart, reg)
+        } else {
+            0
+        }
+    }
+
+    fn topi(&self, hart: u32) -> u32
+        ensures { (past : Past) (name : DomainName) → SideStands self.now past name → result ≡ register_read past name (DomainReg.TopI hart) }
+    {
+        if (hart as usize) < self.controls.len() {
+            topi_of(&self.controls, &self.domain, hart)
+        } else {
+            0
+        }
+    }
+
+    fn claimi(&mut self, hart: u32) -> u32
+        ensures reads { (past : Past) (name : DomainName) → SideStands self.old past name → result ≡ register_read past name (DomainReg.ClaimI hart) }
+        ensures stands { (past : Past) (name : DomainName) → SideStands self.old past name → SideStands self.new (Loaded name (DomainReg.ClaimI hart) ∷ past) name }
+    {
+        if (hart as usize) < self.controls.len() {
+            self.claim(hart)
+        } else {
+            0
+        }
+    }
+
+    fn claim(&mut self, hart: u32) -> u32
+        requires { hart < length self.old.controls }
+        ensures value { result ≡ topi_value (top_shown (control_at self.old.controls hart) self.old.domain hart) }
+        ensures controls { EachControl self.old.controls self.new.controls (claimed_at self.old.domain hart) }
+        ensures sources { EachSource self.old.domain.sources self.new.domain.sources (claimed_top (top_shown (control_at self.old.controls hart) self.old.domain hart)) }
+        ensures domain { self.new.domain ≡ with_sources self.old.domain self.new.domain.sources }
+    {
+        claim(&mut self.controls, &mut self.domain, hart)
+    }
+
+    /// Whether a hart is signalled; one that isn't there is not.
+    pub(crate) fn signal(&self, hart: u32) -> bool
+        ensures { (past : Past) (name : DomainName) → SideStands self.now past name → hart < harts_in past → result ≡ is_signalled past name hart }
+    {
+        (hart as usize) < self.controls.len() && signal_of(&self.controls, &self.domain, hart)
+    }
+}
