@@ -4,7 +4,7 @@ use Rattle.std.specs.Prelude.{slice_index}
 use Rattle.std.proofs.lemmas.Bool.{cond-true, cond-false}
 use Rattle.aia_file.proofs.FileLemmas.{same_file}
 use Rattle.aia_model.specs.declared.line.Line.{Line}
-use Rattle.aia_model.specs.declared.line.Line.TheVariants.{Machine as MachineLine, Wire, Load, Store, MachineCsr, HostCsr}
+use Rattle.aia_model.specs.declared.line.Line.TheVariants.{Machine as MachineLine, Wire, Load, Store, MachineCsr, HostCsr, Pins}
 use Rattle.aia_model.specs.declared.answer.Answer.{Answer}
 use Rattle.aia_model.specs.declared.answer.Answer.TheVariants.{Okay, NoMachine, Range}
 use Rattle.aia_model.specs.Event.{History}
@@ -14,7 +14,7 @@ use Rattle.aia_model.specs.Refusal.{refusal, is_machine_size}
 use Rattle.aia_model.specs.Answer.{answer, after}
 use Rattle.aia_model.proofs.AnswerLemmas.{answered, after_by, machine_refusal, no_machine_refusal}
 use Rattle.aia_model.proofs.FileLemmas.{file_step, select_step}
-use Rattle.aia_aplic.proofs.Standing.{new-stands}
+use Rattle.aia_aplic.proofs.SideLemmas.{new-stands}
 use Rattle.aia_replay.specs.declared.machine.Machine.{Machine}
 use Rattle.aia_replay.specs.declared.engine.Engine.{Engine}
 use Rattle.aia_imsic.specs.Files.{IsThere}
@@ -43,6 +43,7 @@ needs_machine (Wire source level) other = no_machine_refusal [] (Wire source lev
 needs_machine (Load addr) other = no_machine_refusal [] (Load addr) refl
 needs_machine (Store addr value) other = no_machine_refusal [] (Store addr value) refl
 needs_machine (MachineCsr hart csr op) other = no_machine_refusal [] (MachineCsr hart csr op) refl
+needs_machine (Pins hart) other = no_machine_refusal [] (Pins hart) refl
 needs_machine (HostCsr hart csr op) other = no_machine_refusal [] (HostCsr hart csr op) refl
 
 pub size_refused : (harts guests n sources : ℕ) → is_machine_size harts guests n sources ≡ false → refusal [] (MachineLine harts guests n sources) ≡ Some Range

@@ -1,5 +1,5 @@
 -- What accesses, loads and stores leave of machines that stood for a history.
-use Rattle.std.proofs.Common.{◌≡◌, ◌≢◌, ℕ, ◌+◌, ◌%◌, ◌<◌, ◌≤◌, Bool, true, false, ◌&&◌, ◌||◌, not, cond, nat_eq, is_some, unwrap_or, ◌∷◌, get_or, Option, Some, None, ◌⊎◌, inl, inr, refl, sym, ap, subst, ◌∙◌, arith}
+use Rattle.std.proofs.Common.{◌≡◌, ◌≢◌, ℕ, ◌+◌, ◌%◌, ◌<◌, ◌≤◌, Bool, true, false, ◌&&◌, ◌||◌, not, cond, nat_eq, is_some, unwrap_or, [], ◌∷◌, get_or, Option, Some, None, ◌⊎◌, inl, inr, refl, sym, ap, subst, ◌∙◌, arith}
 use Rattle.std.specs.Prelude.{slice_index}
 use Rattle.std.specs.Option.{option_map}
 use Rattle.std.specs.Int.{is_in_range}
@@ -12,7 +12,7 @@ use Rattle.aia_regs.specs.declared.access.Op.{Op}
 use Rattle.aia_csr.specs.declared.access.Level.{Level}
 use Rattle.aia_csr.specs.declared.access.Level.TheVariants as levels
 use Rattle.aia_csr.specs.Access.{access_of}
-use Rattle.aia_file.specs.InterruptFile.{SameFile, landed}
+use Rattle.aia_file.specs.InterruptFile.{SameFile, landed, signals}
 use Rattle.aia_file.specs.FileState.{shown}
 use Rattle.aia_file.proofs.FileLemmas.{same_file}
 use Rattle.aia_imsic.specs.declared.spot.Spot.{Spot}
@@ -22,20 +22,21 @@ use Rattle.aia_imsic.specs.Map.{spot_at, is_page, is_guest_page}
 use Rattle.aia_imsic.proofs.MapLemmas.{spot_of_machine, spot_of_host, machine_of_spot, host_of_spot, from_page, to_page, below_all}
 use Rattle.aia_imsic.proofs.PlaceLemmas.{kept_elsewhere}
 use Rattle.aia_model.specs.declared.line.Line.{Line}
-use Rattle.aia_model.specs.declared.line.Line.TheVariants.{Wire, Load, Store}
+use Rattle.aia_model.specs.declared.line.Line.TheVariants.{Machine as MachineLine, Wire, Load, Store, Pins}
 use Rattle.aia_model.specs.declared.answer.Answer.{Answer}
+use Rattle.aia_model.specs.declared.answer.Answer.TheVariants as words
 use Rattle.aia_model.specs.declared.answer.Answer.TheVariants.{Okay, Narrow, Wide, Range, Illegal, Fault, Guarded}
 use Rattle.aia_model.specs.Event.{Event, History, has_machine, harts_of, guests_of}
 use Rattle.aia_model.specs.Event.Event.{Accepted}
-use Rattle.aia_model.specs.Act.{DomainName, Past, domain_at, register_at, with_act, acts_of}
+use Rattle.aia_model.specs.Act.{DomainName, Past, newest, domain_at, register_at, with_act, acts_of}
 use Rattle.aia_model.specs.Act.DomainName.{Root, Child}
-use Rattle.aia_model.specs.Act.Act.{Driven, Written}
-use Rattle.aia_model.specs.SourceOf.{sources_in, is_source, register_read}
+use Rattle.aia_model.specs.Act.Act.{Driven, Written, Loaded}
+use Rattle.aia_model.specs.SourceOf.{harts_in, sources_in, is_source, register_read, is_signalled}
 use Rattle.aia_model.specs.FileOf.{FileName, MachineFile, SupervisorFile, Deed, is_at, page_at, deed_at, select_of, select_told, file_of, file_after}
 use Rattle.aia_model.specs.FileOf.Deed.{Accesses, Rests}
 use Rattle.aia_model.specs.Refusal.{refusal, raises_illegal, guards, place_refusal}
 use Rattle.aia_model.specs.Answer.{accepted_answer, history_after, csr_shown, csr_value, place_read, load_value}
-use Rattle.aia_model.proofs.AnswerLemmas.{answered, after_by, access_refusal, machine_csr_refusal, host_csr_refusal, wire_refusal, load_refusal, store_refusal}
+use Rattle.aia_model.proofs.AnswerLemmas.{answered, after_by, access_refusal, machine_csr_refusal, host_csr_refusal, wire_refusal, pins_refusal, load_refusal, store_refusal}
 use Rattle.aia_model.proofs.FileLemmas.{file_step, select_step, own_machine_access, other_machine_access, own_host_access, other_host_access, store_here, store_elsewhere}
 use Rattle.aia_aplic.specs.Stands.{AplicState, AplicStands, domain_name}
 use Rattle.aia_replay.specs.declared.machine.Machine.{Machine}
@@ -269,20 +270,23 @@ store_refused m addr value word is = refused m (Store addr value) word (λ h sta
 not_refused : (m : Machine) (addr : ℕ) (h : History) → None ≡ place_refusal (spot_at m.imsic.harts m.imsic.guests addr) addr → MachineStands m h → place_refusal (page_at h addr) addr ≡ None
 not_refused m addr h is stands = ap (λ s. place_refusal s addr) (sym (page_stands m h addr stands)) ∙ sym is
 
-load_read : (m : Machine) (addr value : ℕ) → None ≡ place_refusal (spot_at m.imsic.harts m.imsic.guests addr) addr → ((h : History) → MachineStands m h → value ≡ load_value h addr) → MachineServes m m (Load addr) (Narrow value)
-load_read m addr value is reads = by_refusal m m (Load addr) (Narrow value) (λ h stands. (
+pub loaded : (m : Machine) (addr : ℕ) → None ≡ place_refusal (spot_at m.imsic.harts m.imsic.guests addr) addr → domain_at addr ≡ None → MachineServes m m (Load addr) (Narrow 0)
+loaded m addr is none = by_refusal m m (Load addr) (Narrow 0) (λ h stands. (
   None,
   load_refusal h addr stands.there ∙ not_refused m addr h is stands,
-  ap Narrow (reads h stands),
-  all_rest m m h (Accepted (Load addr)) refl refl refl refl refl (λ f. refl) stands.aplic stands,
+  sym (ap (λ o. Narrow (place_read h addr o)) none),
+  all_rest m m h (Accepted (Load addr)) refl refl refl refl refl (λ f. refl) (subst (AplicStands m.aplic) (sym (ap (λ o. with_act (option_map (λ d. Loaded d (register_at addr)) o) (acts_of h)) none)) stands.aplic) stands,
 ))
 
-pub loaded : (m : Machine) (addr : ℕ) → None ≡ place_refusal (spot_at m.imsic.harts m.imsic.guests addr) addr → domain_at addr ≡ None → MachineServes m m (Load addr) (Narrow 0)
-loaded m addr is none = load_read m addr 0 is (λ h stands. sym (ap (place_read h addr) none))
-
-pub register_loaded : (m : Machine) (addr domain value : ℕ) → None ≡ place_refusal (spot_at m.imsic.harts m.imsic.guests addr) addr → domain_at addr ≡ Some (domain_name domain)
-    → ((past : Past) → AplicStands m.aplic past → value ≡ register_read past (domain_name domain) (register_at addr)) → MachineServes m m (Load addr) (Narrow value)
-register_loaded m addr domain value is there reads = load_read m addr value is (λ h stands. reads (acts_of h) stands.aplic ∙ sym (ap (place_read h addr) there))
+pub register_loaded : (m n : Machine) (addr domain value : ℕ) → None ≡ place_refusal (spot_at m.imsic.harts m.imsic.guests addr) addr → domain_at addr ≡ Some (domain_name domain) → n.imsic ≡ m.imsic → n.selects ≡ m.selects
+    → ((past : Past) → AplicStands m.aplic past → value ≡ register_read past (domain_name domain) (register_at addr)) → ((past : Past) → AplicStands m.aplic past → AplicStands n.aplic (Loaded (domain_name domain) (register_at addr) ∷ past))
+    → MachineServes m n (Load addr) (Narrow value)
+register_loaded m n addr domain value is there imsic selects reads stands_after = by_refusal m n (Load addr) (Narrow value) (λ h stands. (
+  None,
+  load_refusal h addr stands.there ∙ not_refused m addr h is stands,
+  ap Narrow (reads (acts_of h) stands.aplic ∙ sym (ap (place_read h addr) there)),
+  all_rest m n h (Accepted (Load addr)) imsic selects refl refl refl (λ f. refl) (subst (AplicStands n.aplic) (sym (ap (λ o. with_act (option_map (λ d. Loaded d (register_at addr)) o) (acts_of h)) there)) (stands_after (acts_of h) stands.aplic)) stands,
+))
 
 -- the file in whose page the address lies
 page_of_name : (i : Harts) (addr : ℕ) (f : FileName) → i.harts ≤ 4 → IsThere i (spot_of f) → is_at f addr ≡ true → spot_at i.harts i.guests addr ≡ spot_of f
@@ -387,6 +391,45 @@ register_stored m n addr value domain is there imsic selects writes = by_refusal
   all_rest m n h (Accepted (Store addr value)) imsic selects refl refl refl (λ f. store_elsewhere h f addr value (no_file_there addr (domain_name domain) f there))
       (subst (AplicStands n.aplic) (sym (ap (λ o. with_act (option_map (λ d. Written d (register_at addr) value) o) (acts_of h)) there)) (writes (acts_of h) stands.aplic)) stands,
 ))
+
+-- ---- pins
+
+pub pins_refused : (m : Machine) (hart : ℕ) → m.imsic.harts ≤ hart → MachineServes m m (Pins hart) Range
+pins_refused m hart past = refused m (Pins hart) Range (λ h stands. pins_refusal h hart stands.there ∙ cond-true _ _ _ (ap not (le-ltb hart (harts_of h) (omega (arith, stands.harts)))))
+
+-- the harts of the APLIC are those of the machine
+same_harts : (h : History) → harts_in (acts_of h) ≡ harts_of h
+unfolding newest
+same_harts [] = refl
+same_harts (Accepted (MachineLine harts guests n sources) ∷ h) = refl
+same_harts (Accepted (Store addr value) ∷ h) = at (domain_at addr) ∙ same_harts h
+  where
+    at : (o : Option DomainName) → harts_in (with_act (option_map (λ d. Written d (register_at addr) value) o) (acts_of h)) ≡ harts_in (acts_of h)
+    at None = refl
+    at (Some d) = refl
+same_harts (Accepted (Load addr) ∷ h) = at (domain_at addr) ∙ same_harts h
+  where
+    at : (o : Option DomainName) → harts_in (with_act (option_map (λ d. Loaded d (register_at addr)) o) (acts_of h)) ≡ harts_in (acts_of h)
+    at None = refl
+    at (Some d) = refl
+same_harts (Accepted line ∷ h) = same_harts h
+
+pub pins_shown : (m : Machine) (hart : ℕ) (root child machine supervisor : Bool) → hart < m.imsic.harts → ((past : Past) → AplicStands m.aplic past → hart < harts_in past → root ≡ is_signalled past (domain_name 0) hart)
+    → ((past : Past) → AplicStands m.aplic past → hart < harts_in past → child ≡ is_signalled past (domain_name 1) hart) → machine ≡ signals (shown (file_at m.imsic (spots.MachineFile hart))) → supervisor ≡ signals (shown (file_at m.imsic (spots.HostFile hart)))
+    → MachineServes m m (Pins hart) (words.Pins root child machine supervisor)
+pins_shown m hart root child machine supervisor low by_root by_child by_machine by_supervisor = by_refusal m m (Pins hart) (words.Pins root child machine supervisor) (λ h stands.
+    let there : hart < harts_of h = subst (λ k. hart < k) stands.harts low in
+    let acts : hart < harts_in (acts_of h) = subst (λ k. hart < k) (sym (same_harts h)) there in
+    let a = by_root (acts_of h) stands.aplic acts in
+    let b = by_child (acts_of h) stands.aplic acts in
+    let c = by_machine ∙ ap signals (stands.each (MachineFile hart) low).file in
+    let d = by_supervisor ∙ ap signals (stands.each (SupervisorFile hart) low).file in (
+      None,
+      pins_refusal h hart stands.there ∙ cond-false _ _ _ (ap not (lt-ltb hart (harts_of h) there)),
+      ap (λ x. words.Pins x child machine supervisor) a ∙ ap (λ x. words.Pins (is_signalled (acts_of h) Root hart) x machine supervisor) b
+          ∙ ap (λ x. words.Pins (is_signalled (acts_of h) Root hart) (is_signalled (acts_of h) Child hart) x supervisor) c ∙ ap (λ x. words.Pins (is_signalled (acts_of h) Root hart) (is_signalled (acts_of h) Child hart) (signals (file_of h (MachineFile hart))) x) d,
+      all_rest m m h (Accepted (Pins hart)) refl refl refl refl refl (λ f. refl) stands.aplic stands,
+    ))
 
 -- ---- wires
 

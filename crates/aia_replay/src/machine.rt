@@ -87,6 +87,7 @@ impl Machine {
             Line::Store { addr, value } => self.store(addr, value),
             Line::MachineCsr { hart, csr, op } => self.access(Level::Machine, hart, csr, op),
             Line::HostCsr { hart, csr, op } => self.access(Level::Host, hart, csr, op),
+            Line::Pins { hart } => self.pins(hart),
         }
     }
 
@@ -103,8 +104,8 @@ impl Machine {
         Answer::Okay
     }
 
-    fn load(&self, addr: u64) -> Answer
-        ensures { MachineServes self.now self.now (Line.Load addr) result }
+    fn load(&mut self, addr: u64) -> Answer
+        ensures { MachineServes self.old self.new (Line.Load addr) result }
     {
         match self.reach(addr) {
             Ok(Place::File(_)) => Answer::Narrow(0),
@@ -164,6 +165,28 @@ impl Machine {
             Some(value) => Answer::Wide(value),
             None => Answer::Illegal,
         }
+    }
+
+    fn pins(&self, hart: u64) -> Answer
+        ensures { MachineServes self.now self.now (Line.Pins hart) result }
+    {
+        if u64::from(self.imsic.harts()) <= hart {
+            return Answer::Range;
+        }
+        self.pins_there(hart as u32)
+    }
+
+    /// The signals of a hart that is there.
+    fn pins_there(&self, hart: u32) -> Answer
+        requires there { hart < self.now.imsic.harts }
+        ensures { MachineServes self.now self.now (Line.Pins hart) result }
+    {
+        Answer::Pins(
+            self.aplic.pin(0, hart),
+            self.aplic.pin(1, hart),
+            self.imsic.file(Spot::MachineFile(hart)).signal(),
+            self.imsic.file(Spot::HostFile(hart)).signal(),
+        )
     }
 
     /// The access of a hart that is there; `None`, and nothing is done, where it raises an illegal-instruction fault.
