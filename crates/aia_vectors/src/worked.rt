@@ -1,10 +1,21 @@
 //! Worked scripts as theorems: what the model makes of each script is, byte for byte, what it must print. Each function does
 //! nothing, and its clause is what was proved, by computing.
-#![tactic(auto, unfolding(aia_word::specs::Sets::word_of, aia_word::specs::Sets::least_of, aia_model::specs::Reading::number_at, aia_model::specs::Reading::n32_at, aia_model::specs::Reading::bit_at, aia_model::specs::Reading::machine_at, aia_model::specs::Reading::wire_at, aia_model::specs::Reading::store_at, aia_model::specs::Reading::load_at, aia_model::specs::Reading::csr_at, aia_model::specs::Reading::read_at, aia_model::specs::Reading::write_at, aia_model::specs::Reading::instruction_at, aia_model::specs::Reading::machine_csr_at, aia_model::specs::Reading::host_csr_at, aia_model::specs::Reading::line_at, aia_model::specs::Reading::reading, aia_model::specs::FileOf::select_of, aia_model::specs::FileOf::file_of, aia_regs::specs::DomainRegisters::domain_register_of, aia_model::specs::Act::newest, aia_model::specs::SourceOf::wire_of, aia_model::specs::SourceOf::enabled, aia_model::specs::SourceOf::target, aia_model::specs::SourceOf::pending, aia_model::specs::Answer::answer, aia_model::specs::Answer::after, aia_model::specs::AnswerText::hex_digits, aia_model::specs::AnswerText::answer_text))]
+#![tactic(auto, unfolding(aia_word::specs::Sets::word_of, aia_word::specs::Sets::least_of, aia_model::specs::Reading::number_at, aia_model::specs::Reading::n32_at, aia_model::specs::Reading::bit_at, aia_model::specs::Reading::machine_at, aia_model::specs::Reading::wire_at, aia_model::specs::Reading::store_at, aia_model::specs::Reading::load_at, aia_model::specs::Reading::csr_at, aia_model::specs::Reading::read_at, aia_model::specs::Reading::write_at, aia_model::specs::Reading::instruction_at, aia_model::specs::Reading::machine_csr_at, aia_model::specs::Reading::host_csr_at, aia_model::specs::Reading::pins_at, aia_model::specs::Reading::line_at, aia_model::specs::Reading::reading, aia_model::specs::FileOf::select_of, aia_model::specs::FileOf::file_of, aia_regs::specs::DomainRegisters::domain_register_of, aia_model::specs::Act::newest, aia_model::specs::SourceOf::wire_of, aia_model::specs::SourceOf::enabled, aia_model::specs::SourceOf::target, aia_model::specs::SourceOf::pending, aia_source::specs::Top::least_pair, aia_model::specs::Answer::answer, aia_model::specs::Answer::after, aia_model::specs::AnswerText::hex_digits, aia_model::specs::AnswerText::answer_text))]
 
 ghost use Rattle.std.specs.Prelude.{◌≡◌};
 ghost use Rattle.aia_model.specs.Script.{answers};
 
+use crate::delivery_rows::{
+    CHILD_SHOWS_A_DELEGATED_SOURCE_ANSWERS, CHILD_SHOWS_A_DELEGATED_SOURCE_SCRIPT,
+    CLAIMS_OF_LEVEL_AND_EDGE_ANSWERS, CLAIMS_OF_LEVEL_AND_EDGE_SCRIPT,
+    CONTROLS_KEEP_THEIR_FIELDS_ANSWERS, CONTROLS_KEEP_THEIR_FIELDS_SCRIPT,
+    DIRECT_DELIVERY_EXAMPLE_ANSWERS, DIRECT_DELIVERY_EXAMPLE_SCRIPT,
+    ENABLES_AND_TARGETS_OF_MODES_ANSWERS, ENABLES_AND_TARGETS_OF_MODES_SCRIPT,
+    FOUR_PINS_OF_A_HART_ANSWERS, FOUR_PINS_OF_A_HART_SCRIPT,
+    LOWER_PRIORITY_NUMBERS_COME_FIRST_ANSWERS, LOWER_PRIORITY_NUMBERS_COME_FIRST_SCRIPT,
+    MANY_SOURCES_AND_FORCE_ANSWERS, MANY_SOURCES_AND_FORCE_SCRIPT, TIES_AND_THRESHOLDS_ANSWERS,
+    TIES_AND_THRESHOLDS_SCRIPT,
+};
 use crate::register_rows::{
     ADDRESSES_OF_DOMAINS_ANSWERS, ADDRESSES_OF_DOMAINS_SCRIPT, BITS_OF_NO_SOURCE_ANSWERS,
     BITS_OF_NO_SOURCE_SCRIPT, DELIVERY_READS_ZERO_ANSWERS, DELIVERY_READS_ZERO_SCRIPT,
@@ -216,4 +227,52 @@ pub fn addresses_of_domains()
 /// A wire has the level 0 or 1, and names a source that is there.
 pub fn wires_are_refused()
     ensures { answers WIRES_ARE_REFUSED_SCRIPT.now ≡ WIRES_ARE_REFUSED_ANSWERS.now }
+{}
+
+/// Of two pending sources of one priority the lower number is on top, and a threshold lets only lower priority numbers
+/// through.
+pub fn ties_and_thresholds()
+    ensures { answers TIES_AND_THRESHOLDS_SCRIPT.now ≡ TIES_AND_THRESHOLDS_ANSWERS.now }
+{}
+
+/// A claim clears an edge and leaves a level source pending while its wire is high; a claim that shows nothing ends
+/// iforce.
+pub fn claims_of_level_and_edge()
+    ensures { answers CLAIMS_OF_LEVEL_AND_EDGE_SCRIPT.now ≡ CLAIMS_OF_LEVEL_AND_EDGE_ANSWERS.now }
+{}
+
+/// The enable bit and the target stay from one active mode to another, and begin anew where a source becomes active.
+pub fn enables_and_targets_of_modes()
+    ensures { answers ENABLES_AND_TARGETS_OF_MODES_SCRIPT.now ≡ ENABLES_AND_TARGETS_OF_MODES_ANSWERS.now }
+{}
+
+/// Among eighty sources the least number of one priority is on top through claims, and iforce signals until a claim
+/// shows nothing.
+pub fn many_sources_and_force()
+    ensures { answers MANY_SOURCES_AND_FORCE_SCRIPT.now ≡ MANY_SOURCES_AND_FORCE_ANSWERS.now }
+{}
+
+/// The registers of a hart that is there keep their fields, and those of another read 0.
+pub fn controls_keep_their_fields()
+    ensures { answers CONTROLS_KEEP_THEIR_FIELDS_SCRIPT.now ≡ CONTROLS_KEEP_THEIR_FIELDS_ANSWERS.now }
+{}
+
+/// `pins` shows the signals of both domains and of both files of a hart, each by its own conditions.
+pub fn four_pins_of_a_hart()
+    ensures { answers FOUR_PINS_OF_A_HART_SCRIPT.now ≡ FOUR_PINS_OF_A_HART_ANSWERS.now }
+{}
+
+/// A delegated source is on top in the child domain alone, for the hart that it is aimed at.
+pub fn child_shows_a_delegated_source()
+    ensures { answers CHILD_SHOWS_A_DELEGATED_SOURCE_SCRIPT.now ≡ CHILD_SHOWS_A_DELEGATED_SOURCE_ANSWERS.now }
+{}
+
+/// The least priority number is on top among the enabled pending sources that are aimed at the hart.
+pub fn lower_priority_numbers_come_first()
+    ensures { answers LOWER_PRIORITY_NUMBERS_COME_FIRST_SCRIPT.now ≡ LOWER_PRIORITY_NUMBERS_COME_FIRST_ANSWERS.now }
+{}
+
+/// The example of direct delivery answers as it says.
+pub fn the_example_of_direct_delivery()
+    ensures { answers DIRECT_DELIVERY_EXAMPLE_SCRIPT.now ≡ DIRECT_DELIVERY_EXAMPLE_ANSWERS.now }
 {}
