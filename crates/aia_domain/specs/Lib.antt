@@ -1,3 +1,4 @@
 pub mod Held
 pub mod Domain
 pub mod Loops
+pub mod Rising

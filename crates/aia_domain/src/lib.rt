@@ -5,6 +5,7 @@ mod domain;
 mod entries;
 mod entry;
 mod kept;
+pub mod laws;
 mod ready;
 #[cfg(test)]
 mod tests;
