@@ -45,3 +45,19 @@ fn a_wire_reaches_the_domain_that_has_the_source(rt: HostRuntime) -> Result<(), 
     }
     Ok(())
 }
+
+#[test]
+fn a_child_signals_the_hart_that_a_source_is_aimed_at(rt: HostRuntime) -> Result<(), Fail> {
+    let mut aplic = Aplic::new(rt.alloc(), 2, 8)?;
+    assert_eq!(rt; aplic.sources(), 8);
+    aplic.store(0, 0x0004, 0x400);
+    for (offset, value) in [(0x0004, 7), (0x1edc, 1), (0x3004, 0x0004_0003)] {
+        aplic.store(1, offset, value);
+    }
+    assert_eq!(rt; aplic.load(1, 0x4038), 0x0001_0003);
+    assert!(rt; !aplic.pin(1, 1));
+    aplic.store(1, 0x0000, 0x100);
+    aplic.store(1, 0x4020, 1);
+    assert!(rt; aplic.pin(1, 1) && !aplic.pin(1, 0) && !aplic.pin(0, 1));
+    Ok(())
+}

@@ -110,6 +110,8 @@ fn a_claim_and_an_msi_take_an_edge_and_direct_delivery_sends_none(
     assert!(rt; sent.is_empty());
     assert_eq!(rt; root.take_genmsi(), None);
     assert!(rt; root.places() == 4);
+    assert_eq!(rt; root.sources(), 3);
+    assert!(rt; root.is_enabled() && !root.delivers_by_msi());
     let edge = root.source(1);
     assert_eq!(rt; edge.mode(), Mode::FallingEdge);
     assert!(rt; edge.pending() && edge.rectified());
