@@ -85,12 +85,18 @@ fn the_quiet_ends_give_and_count_all(rt: HostRuntime) -> Result<(), Fail> {
     Ok(())
 }
 
-// A reader whose reads are always interrupted.
+// A reader of nothing, whose first read is interrupted.
 #[derive(Drop)]
-struct Interrupted;
+struct Interrupted {
+    done: bool,
+}
 
 impl io::Read for Interrupted {
     fn read(&mut self, _buf: &mut [u8]) -> io::Result<usize> {
+        if self.done {
+            return Ok(0);
+        }
+        self.done = true;
         Err(io::Error::from(io::ErrorKind::Interrupted))
     }
 }
@@ -103,8 +109,9 @@ fn a_reader_is_passed_on(rt: HostRuntime) -> Result<(), Fail> {
         b"abcdef".as_slice()
     );
     assert_eq!(rt; source.read(&mut [0]), Read::End);
-    let mut interrupted = StdSource::new(Interrupted);
+    let mut interrupted = StdSource::new(Interrupted { done: false });
     assert_eq!(rt; interrupted.read(&mut [0]), Read::Failed);
+    assert_eq!(rt; interrupted.read(&mut [0]), Read::End);
     Ok(())
 }
 
