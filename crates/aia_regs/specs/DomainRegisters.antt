@@ -26,7 +26,8 @@ abbrev pub single : ℕ → DomainReg → Row
 single base register = indexed base 4 0 0 (λ i. register)
 
 -- The control region's registers, by offset; at its end the interrupt delivery controls of 512 harts, 32 bytes each.
--- AIA 1.0, Advanced Platform-Level Interrupt Controller (APLIC), "Memory-mapped control region for an interrupt domain".
+-- AIA 1.0, Advanced Platform-Level Interrupt Controller (APLIC), "Memory-mapped control region for an interrupt domain". Profile: a region of 32 KiB, which
+-- has room for 512 harts.
 abbrev pub table : List Row
 table =
     single 0x0000 DomainCfg

@@ -1,11 +1,15 @@
 //! What the definitions of this crate mean, as laws: each function does nothing, and its clauses are what was proved.
 
-ghost use Rattle.std.specs.Prelude.{◌≡◌, ◌≢◌, ℕ, ◌+◌, ◌-◌, ◌%◌, ◌^◌, ◌<◌, ◌≤◌, ◌↔◌, ◌⊎◌, Option, Some};
+ghost use Rattle.std.specs.Prelude.{◌≡◌, ◌≢◌, ℕ, ◌+◌, ◌-◌, ◌*◌, ◌%◌, ◌^◌, ◌<◌, ◌≤◌, ◌↔◌, ◌⊎◌, true, Option, Some};
 ghost use Rattle.std.specs.Int.{bit_at, swap_bytes, w32};
 ghost use Rattle.aia_regs.specs.FileRegisters.{register_of};
 ghost use Rattle.aia_regs.specs.DomainRegisters.{domain_register_of, domain_offset_of};
 ghost use Rattle.aia_regs.specs.Fields.{field, with_field, IsOutside};
+ghost use Rattle.aia_regs.specs.AddressMap.{machine_page, supervisor_page, guest_page, is_in_page, is_in_region, root_region, child_region, is_in_memory};
 
+use crate::address_map::{
+    HART_STRIDE, MACHINE_FILES, MEMORY, MEMORY_END, PAGE, REGION, ROOT_DOMAIN, SUPERVISOR_FILES,
+};
 use crate::{DomainReg, FileReg};
 
 /// The register map, row by row: which select numbers each register has.
@@ -46,4 +50,16 @@ pub fn fields()
 /// The bytes of a word reversed twice are the word.
 pub fn byte_order()
     ensures twice { (x : ℕ) → x < 2 ^ 32 → swap_bytes w32 (swap_bytes w32 x) ≡ x }
+{}
+
+/// The constants of the map of addresses are the numbers of its definitions.
+pub fn address_map()
+    ensures machine { (hart : ℕ) → machine_page hart ≡ MACHINE_FILES + hart * PAGE }
+    ensures supervisor { (hart : ℕ) → supervisor_page hart ≡ SUPERVISOR_FILES + hart * HART_STRIDE }
+    ensures guest { (hart file : ℕ) → guest_page hart file ≡ SUPERVISOR_FILES + hart * HART_STRIDE + file * PAGE }
+    ensures page { (page addr : ℕ) → (is_in_page page addr ≡ true) ↔ ((page ≤ addr) × (addr < page + PAGE)) }
+    ensures root { root_region ≡ ROOT_DOMAIN }
+    ensures child { child_region ≡ ROOT_DOMAIN + REGION }
+    ensures region { (base addr : ℕ) → (is_in_region base addr ≡ true) ↔ ((base ≤ addr) × (addr < base + REGION)) }
+    ensures memory { (addr : ℕ) → (is_in_memory addr ≡ true) ↔ ((MEMORY ≤ addr) × (addr < MEMORY_END)) }
 {}
