@@ -1,43 +1,92 @@
 -- A source at a level mode, in a domain that delivers directly.
-use Rattle.std.proofs.Common.{◌≡◌, ◌≢◌, Bool, true, false, refl}
+use Rattle.std.proofs.Common.{◌≡◌, ◌≢◌, Bool, true, false, cond, refl}
 use Rattle.aia_regs.specs.Word.{settle}
 use Rattle.aia_source.specs.declared.mode.Mode.{Mode}
 use Rattle.aia_source.specs.declared.mode.Mode.TheVariants.{Inactive, Detached, RisingEdge, FallingEdge, LevelHigh, LevelLow}
-use Rattle.aia_source.specs.Source.{Deed, is_level, level_says, rectified, says}
+use Rattle.aia_source.specs.Source.{Deed, is_level, rectified, says}
 use Rattle.aia_source.specs.Source.Deed.{Moved, Set, Cleared, Claimed, Forwarded, Configured, Activated, Switched, Untouched}
 
-follows : (before after pending : Bool) → pending ≡ before → settle (level_says false before after Moved) pending ≡ after
-follows true true pending same = same
-follows true false pending same = refl
-follows false true pending same = refl
-follows false false pending same = same
+-- ---- what each deed makes of the pending bit of a source at a level mode
 
-keeps : (input pending : Bool) (deed : Deed) → deed ≢ Forwarded → pending ≡ input → settle (level_says false input input deed) pending ≡ input
-keeps input pending Moved other same = follows input input pending same
-keeps input pending Set other same = same
-keeps input pending Cleared other same = same
-keeps input pending Claimed other same = same
-keeps input pending Forwarded other same = absurd (other refl)
-keeps true pending Configured other same = refl
-keeps false pending Configured other same = refl
-keeps true pending Activated other same = refl
-keeps false pending Activated other same = refl
-keeps true pending Switched other same = refl
-keeps false pending Switched other same = refl
-keeps input pending Untouched other same = same
+-- a register: it is not heard, and nor is what says nothing
+pub unheard : (m : Mode) (msi r was a b : Bool) → is_level m ≡ true → msi ≡ false → was ≡ r → settle (says m msi r r (cond a Set (cond b Cleared Untouched))) was ≡ r
+unheard Inactive msi r was a b l e same = cc
+unheard Detached msi r was a b l e same = cc
+unheard RisingEdge msi r was a b l e same = cc
+unheard FallingEdge msi r was a b l e same = cc
+unheard LevelHigh true r was a b l e same = cc
+unheard LevelHigh false r was true b l e same = same
+unheard LevelHigh false r was false true l e same = same
+unheard LevelHigh false r was false false l e same = same
+unheard LevelLow true r was a b l e same = cc
+unheard LevelLow false r was true b l e same = same
+unheard LevelLow false r was false true l e same = same
+unheard LevelLow false r was false false l e same = same
+
+-- its wire
+pub followed : (m : Mode) (msi before r was : Bool) → is_level m ≡ true → was ≡ before → settle (says m msi before r Moved) was ≡ r
+followed Inactive msi before r was l same = cc
+followed Detached msi before r was l same = cc
+followed RisingEdge msi before r was l same = cc
+followed FallingEdge msi before r was l same = cc
+followed LevelHigh msi true true was l same = same
+followed LevelHigh msi true false was l same = refl
+followed LevelHigh msi false true was l same = refl
+followed LevelHigh msi false false was l same = same
+followed LevelLow msi true true was l same = same
+followed LevelLow msi true false was l same = refl
+followed LevelLow msi false true was l same = refl
+followed LevelLow msi false false was l same = same
+
+-- its sourcecfg
+pub begun : (m : Mode) (msi before r was active : Bool) → is_level m ≡ true → settle (says m msi before r (cond active Configured Activated)) was ≡ r
+begun Inactive msi before r was active l = cc
+begun Detached msi before r was active l = cc
+begun RisingEdge msi before r was active l = cc
+begun FallingEdge msi before r was active l = cc
+begun LevelHigh msi before true was true l = refl
+begun LevelHigh msi before true was false l = refl
+begun LevelHigh msi before false was true l = refl
+begun LevelHigh msi before false was false l = refl
+begun LevelLow msi before true was true l = refl
+begun LevelLow msi before true was false l = refl
+begun LevelLow msi before false was true l = refl
+begun LevelLow msi before false was false l = refl
+
+-- the delivery mode
+pub changed : (m : Mode) (msi before r was : Bool) → is_level m ≡ true → settle (says m msi before r Switched) was ≡ r
+changed Inactive msi before r was l = cc
+changed Detached msi before r was l = cc
+changed RisingEdge msi before r was l = cc
+changed FallingEdge msi before r was l = cc
+changed LevelHigh msi before true was l = refl
+changed LevelHigh msi before false was l = refl
+changed LevelLow msi before true was l = refl
+changed LevelLow msi before false was l = refl
+
+-- a claim
+pub claimed : (m : Mode) (msi r was b : Bool) → is_level m ≡ true → msi ≡ false → was ≡ r → settle (says m msi r r (cond b Claimed Untouched)) was ≡ r
+claimed Inactive msi r was b l e same = cc
+claimed Detached msi r was b l e same = cc
+claimed RisingEdge msi r was b l e same = cc
+claimed FallingEdge msi r was b l e same = cc
+claimed LevelHigh msi r was true l e same = same
+claimed LevelHigh msi r was false l e same = same
+claimed LevelLow msi r was true l e same = same
+claimed LevelLow msi r was false l e same = same
+
+-- ---- each deed but the sending of an MSI leaves the law
 
 pub level_follows : (mode : Mode) (was wire pending : Bool) → (is_level mode ≡ true → pending ≡ rectified mode was) → is_level mode ≡ true → settle (says mode false (rectified mode was) (rectified mode wire) Moved) pending ≡ rectified mode wire
-level_follows Inactive was wire pending lawful level = absurd (cc)
-level_follows Detached was wire pending lawful level = absurd (cc)
-level_follows RisingEdge was wire pending lawful level = absurd (cc)
-level_follows FallingEdge was wire pending lawful level = absurd (cc)
-level_follows LevelHigh was wire pending lawful level = follows (rectified LevelHigh was) (rectified LevelHigh wire) pending (lawful level)
-level_follows LevelLow was wire pending lawful level = follows (rectified LevelLow was) (rectified LevelLow wire) pending (lawful level)
+level_follows mode was wire pending lawful level = followed mode false (rectified mode was) (rectified mode wire) pending level (lawful level)
 
 pub level_stays : (mode : Mode) (wire pending : Bool) (deed : Deed) → deed ≢ Forwarded → (is_level mode ≡ true → pending ≡ rectified mode wire) → is_level mode ≡ true → settle (says mode false (rectified mode wire) (rectified mode wire) deed) pending ≡ rectified mode wire
-level_stays Inactive wire pending deed other lawful level = absurd (cc)
-level_stays Detached wire pending deed other lawful level = absurd (cc)
-level_stays RisingEdge wire pending deed other lawful level = absurd (cc)
-level_stays FallingEdge wire pending deed other lawful level = absurd (cc)
-level_stays LevelHigh wire pending deed other lawful level = keeps (rectified LevelHigh wire) pending deed other (lawful level)
-level_stays LevelLow wire pending deed other lawful level = keeps (rectified LevelLow wire) pending deed other (lawful level)
+level_stays mode wire pending Moved other lawful level = followed mode false (rectified mode wire) (rectified mode wire) pending level (lawful level)
+level_stays mode wire pending Set other lawful level = unheard mode false (rectified mode wire) pending true false level refl (lawful level)
+level_stays mode wire pending Cleared other lawful level = unheard mode false (rectified mode wire) pending false true level refl (lawful level)
+level_stays mode wire pending Claimed other lawful level = claimed mode false (rectified mode wire) pending true level refl (lawful level)
+level_stays mode wire pending Forwarded other lawful level = absurd (other refl)
+level_stays mode wire pending Configured other lawful level = begun mode false (rectified mode wire) (rectified mode wire) pending true level
+level_stays mode wire pending Activated other lawful level = begun mode false (rectified mode wire) (rectified mode wire) pending false level
+level_stays mode wire pending Switched other lawful level = changed mode false (rectified mode wire) (rectified mode wire) pending level
+level_stays mode wire pending Untouched other lawful level = unheard mode false (rectified mode wire) pending false false level refl (lawful level)

@@ -23,11 +23,11 @@ lesser-assoc (Some p) (Some q) (Some r) =
       ]
     ]
 
-least_pair-none : (candidate : ℕ → Option Pair) (from : ℕ) → least_pair candidate from 0 ≡ None
+pub least_pair-none : (candidate : ℕ → Option Pair) (from : ℕ) → least_pair candidate from 0 ≡ None
 unfolding least_pair
 least_pair-none candidate from = refl
 
-least_pair-suc : (candidate : ℕ → Option Pair) (from count : ℕ) → least_pair candidate from (suc count) ≡ lesser (candidate from) (least_pair candidate (suc from) count)
+pub least_pair-suc : (candidate : ℕ → Option Pair) (from count : ℕ) → least_pair candidate from (suc count) ≡ lesser (candidate from) (least_pair candidate (suc from) count)
 unfolding least_pair
 least_pair-suc candidate from count = refl
 

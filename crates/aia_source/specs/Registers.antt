@@ -10,11 +10,10 @@ use Rattle.aia_source.specs.declared.mode.Mode.TheVariants.{Inactive, Detached, 
 
 -- ---- domaincfg
 
--- What a write keeps: IE, bit 8.
--- AIA 1.0, Advanced Platform-Level Interrupt Controller (APLIC). Profile: BE, bit 0, is read-only zero; DM, bit 2, is so until this model
--- has the delivery of MSIs.
+-- What a write keeps: IE, bit 8, and DM, bit 2.
+-- AIA 1.0, Advanced Platform-Level Interrupt Controller (APLIC). Profile: BE, bit 0, is read-only zero.
 abbrev pub domaincfg_kept : ℕ → ℕ
-domaincfg_kept v = bit_and v 0x100
+domaincfg_kept v = bit_and v 0x104
 
 -- Whether a domaincfg enables the domain's interrupts (IE), and whether it delivers them by MSIs (DM).
 abbrev pub enables : ℕ → Bool

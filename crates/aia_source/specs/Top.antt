@@ -1,5 +1,5 @@
 -- Which of some sources is on top for a hart: the one with the least pair of priority and number.
-use Rattle.std.specs.Prelude.{◌≡◌, ℕ, zero, suc, ◌+◌, ◌*◌, ◌<◌, ◌≤◌, ◌⊎◌, Bool, false, ◌||◌, nat_eq, nat_lt, if◌then◌else◌, Option, Some, None}
+use Rattle.std.specs.Prelude.{◌≡◌, ℕ, zero, suc, ◌+◌, ◌*◌, ◌<◌, ◌≤◌, ◌⊎◌, Bool, false, nat_eq, nat_lt, if◌then◌else◌, Option, Some, None}
 use Rattle.aia_regs.specs.Fields.{field}
 
 -- A source's priority and its number.
@@ -34,11 +34,6 @@ pub record IsLeast (candidate : ℕ → Option Pair) (from count : ℕ) (p : Pai
   pub high : p.1 < from + count
   pub is : candidate p.1 ≡ Some p
   pub least : (s : ℕ) (q : Pair) → from ≤ s → s < from + count → candidate s ≡ Some q → ComesFirst p q
-
--- Whether a threshold lets a priority through: 0 lets all through, any other the priorities below it.
--- AIA 1.0, Advanced Platform-Level Interrupt Controller (APLIC), "Interrupt delivery directly by the APLIC": ithreshold.
-abbrev pub passes : ℕ → ℕ → Bool
-passes threshold priority = nat_eq threshold 0 || nat_lt priority threshold
 
 -- The priority and the hart index of a target.
 -- AIA 1.0, Advanced Platform-Level Interrupt Controller (APLIC).

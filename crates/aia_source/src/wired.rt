@@ -107,7 +107,7 @@ impl Wired {
     pub fn forwarded(&mut self)
         ensures { self.new ≡ done Bool.true Forwarded self.old.mode self.old.wire self.old }
     {
-        self.pending = false;
+        self.clear(true);
     }
 
     /// Its `sourcecfg` is written with this mode.
