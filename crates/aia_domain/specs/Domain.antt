@@ -18,7 +18,7 @@ pub record DomainState : Type 0 where
   pub on : Bool
   pub msi : Bool
   pub genmsi : ℕ
-  pub sends : Bool
+  pub genmsi_waits : Bool
   pub sources : List Held
 
 -- A domain as a machine begins: all its sources are inactive. Profile.
@@ -28,7 +28,7 @@ pub record IsNewDomain (source_count hart_count : ℕ) (is_leaf : Bool) (d : Dom
   pub on : d.on ≡ false
   pub msi : d.msi ≡ false
   pub genmsi : d.genmsi ≡ 0
-  pub sends : d.sends ≡ false
+  pub genmsi_waits : d.genmsi_waits ≡ false
   pub count : length d.sources ≡ suc source_count
   pub each : All (λ x. x ≡ new_held) d.sources
 
@@ -69,11 +69,11 @@ source_after d reg v s x = source_changed d.leaf d.harts d.msi reg v s x
 -- that makes it 0.
 -- AIA 1.0, Advanced Platform-Level Interrupt Controller (APLIC). Profile: what direct delivery and a change make of genmsi.
 abbrev pub domaincfg_written : Bool → Bool → Bool → DomainState → DomainState
-domaincfg_written same on msi d = if same then record d { on = on } else record d { on = on; msi = msi; genmsi = 0; sends = false }
+domaincfg_written same on msi d = if same then record d { on = on } else record d { on = on; msi = msi; genmsi = 0; genmsi_waits = false }
 
 abbrev pub domain_after : DomainReg → ℕ → DomainState → DomainState
 domain_after DomainCfg v d = domaincfg_written (same_bool d.msi (is_by_msi (domaincfg_kept v))) (enables (domaincfg_kept v)) (is_by_msi (domaincfg_kept v)) d
-domain_after GenMsi v d = if d.msi then record d { genmsi = genmsi_kept d.harts v; sends = true } else d
+domain_after GenMsi v d = if d.msi then record d { genmsi = genmsi_kept d.harts v; genmsi_waits = true } else d
 domain_after reg v d = d
 
 -- ---- a load

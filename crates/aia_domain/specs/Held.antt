@@ -96,9 +96,12 @@ waits x = x.source.pending && x.enabled
 
 -- ---- all sources, by their numbers; the place of number 0, which is no source, is inactive for good
 
--- Each source of a list is changed by its number.
+-- Each member of a list is changed by its place: a source by its number. Profile: this project's way to speak of it.
+abbrev pub EachAt : {A : Type 0} → List A → List A → (ℕ → A → A) → Type 0
+EachAt old new change = (i : ℕ) → slice_get new i ≡ option_map (change i) (slice_get old i)
+
 abbrev pub EachSource : List Held → List Held → (ℕ → Held → Held) → Type 0
-EachSource old new change = (s : ℕ) → slice_get new s ≡ option_map (change s) (slice_get old s)
+EachSource old new change = EachAt old new change
 
 -- One source is changed.
 abbrev pub changed_at : ℕ → (Held → Held) → ℕ → Held → Held

@@ -27,7 +27,7 @@ pub struct Domain {
     on: bool,
     msi: bool,
     genmsi: u32,
-    sends: bool,
+    genmsi_waits: bool,
     /// By number; the one of number 0 is no source, and inactive for good.
     sources: Vec<Entry>,
 }
@@ -38,7 +38,7 @@ impl Model for Domain {
 
     ghost Value = { DomainState };
 
-    ghost view = { λ d. record { leaf = d.leaf; harts = d.harts; on = d.on; msi = d.msi; genmsi = d.genmsi; sends = d.sends; sources = d.sources.items } };
+    ghost view = { λ d. record { leaf = d.leaf; harts = d.harts; on = d.on; msi = d.msi; genmsi = d.genmsi; genmsi_waits = d.genmsi_waits; sources = d.sources.items } };
 
     ghost invariant = { λ d. (d.harts ≤ 4) × (0 < length d.sources.items) × (length d.sources.items ≤ 1024) };
 }
@@ -59,7 +59,7 @@ impl Domain {
             on: false,
             msi: false,
             genmsi: 0,
-            sends: false,
+            genmsi_waits: false,
             sources,
         })
     }
@@ -136,7 +136,7 @@ impl Domain {
         if msi != self.msi {
             self.msi = msi;
             self.genmsi = 0;
-            self.sends = false;
+            self.genmsi_waits = false;
             switch_all(&mut self.sources, msi);
         }
     }
@@ -146,7 +146,7 @@ impl Domain {
     {
         if self.msi {
             self.genmsi = genmsi_kept(self.harts, value);
-            self.sends = true;
+            self.genmsi_waits = true;
         }
     }
 
@@ -192,14 +192,21 @@ impl Domain {
 
     /// What `genmsi` keeps, where an MSI that it asked for is still to be sent, which is then done.
     pub fn take_genmsi(&mut self) -> Option<u32>
-        ensures taken { result ≡ (if self.old.sends then Some self.old.genmsi else None) }
-        ensures domain { self.new ≡ record self.old { sends = Bool.false } }
+        ensures taken { result ≡ (if self.old.genmsi_waits then Some self.old.genmsi else None) }
+        ensures domain { self.new ≡ record self.old { genmsi_waits = Bool.false } }
     {
-        if !self.sends {
+        if !self.genmsi_waits {
             return None;
         }
-        self.sends = false;
+        self.genmsi_waits = false;
         Some(self.genmsi)
+    }
+
+    /// Whether an MSI that `genmsi` asked for is still to be sent.
+    pub fn genmsi_waits(&self) -> bool
+        ensures { result ≡ self.now.genmsi_waits }
+    {
+        self.genmsi_waits
     }
 
     /// The sources that are to be forwarded, in rising order: the pending enabled ones, where the domain delivers by MSIs and its interrupts

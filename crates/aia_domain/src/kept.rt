@@ -8,8 +8,8 @@ ghost use Rattle.aia_source.specs.Registers.{domaincfg_kept, enables, is_by_msi,
 use aia_regs::{bits, put_bits};
 use aia_source::Mode;
 
-/// IE, the one bit of `domaincfg` that a write keeps.
-const IE: u32 = 0x100;
+/// IE and DM, the bits of `domaincfg` that a write keeps.
+const IE_AND_DM: u32 = 0x104;
 
 /// A `sourcecfg` by which the source is delegated to the child domain.
 pub(crate) const DELEGATED: u32 = 0x400;
@@ -18,7 +18,7 @@ pub(crate) const DELEGATED: u32 = 0x400;
 pub(crate) fn domaincfg_kept(value: u32) -> u32
     ensures { result ≡ domaincfg_kept value }
 {
-    value & IE
+    value & IE_AND_DM
 }
 
 /// Whether a `domaincfg` enables the domain's interrupts.

@@ -7,7 +7,7 @@ use std::test::Fail;
 const WRITES: [(DomainReg, u32, DomainReg, u32); 27] = [
     (
         DomainReg::DomainCfg,
-        0xffff_ffff,
+        0xffff_fffb,
         DomainReg::DomainCfg,
         0x8000_0100,
     ),
@@ -123,6 +123,104 @@ fn a_claim_and_an_msi_take_an_edge_and_direct_delivery_sends_none(
     assert_eq!(rt; root.load(DomainReg::SetIp(0)), 0b110);
     root.forwarded(1);
     assert_eq!(rt; root.load(DomainReg::SetIp(0)), 0b100);
+    Ok(())
+}
+
+/// In a domain of three sources and two harts that was delivering directly: a register, a value that is written to it, and what a register
+/// reads then.
+const WRITES_BY_MSI: [(DomainReg, u32, DomainReg, u32); 10] = [
+    (
+        DomainReg::DomainCfg,
+        0xffff_ffff,
+        DomainReg::DomainCfg,
+        0x8000_0104,
+    ),
+    // The change made the targets anew.
+    (DomainReg::Nothing, 9, DomainReg::Target(1), 0),
+    (DomainReg::Nothing, 9, DomainReg::Target(3), 0),
+    // All bits of an identity and no guest index, a hart that isn't there, identity 0, an inactive source.
+    (
+        DomainReg::Target(3),
+        0x0007_ffff,
+        DomainReg::Target(3),
+        0x0004_07ff,
+    ),
+    (
+        DomainReg::Target(1),
+        0x0008_0105,
+        DomainReg::Target(1),
+        0x0105,
+    ),
+    (DomainReg::Target(1), 0, DomainReg::Target(1), 0),
+    (DomainReg::Target(2), 5, DomainReg::Target(2), 0),
+    (DomainReg::SetIe(0), 0b1110, DomainReg::SetIe(0), 0b1010),
+    // What was written once more is no change.
+    (
+        DomainReg::DomainCfg,
+        0x104,
+        DomainReg::Target(3),
+        0x0004_07ff,
+    ),
+    (
+        DomainReg::GenMsi,
+        0x0007_ffff,
+        DomainReg::GenMsi,
+        0x0004_07ff,
+    ),
+];
+
+#[test]
+fn a_domain_by_msis_sends_each_once_and_a_change_begins_anew(rt: HostRuntime) -> Result<(), Fail> {
+    let mut root = Domain::new(rt.alloc(), 3, 2, false)?;
+    root.store(DomainReg::SourceCfg(1), 4);
+    root.store(DomainReg::SourceCfg(3), 6);
+    root.store(DomainReg::Target(3), 0x0004_0009);
+    for (written, value, read, shown) in WRITES_BY_MSI {
+        root.store(written, value);
+        assert_eq!(rt; root.load(read), shown, "{written:?} := {value}");
+    }
+    assert!(rt; root.delivers_by_msi());
+    root.wire(3, true);
+    root.wire(1, true);
+    // With IE off no source is ready, and what genmsi asked for is sent all the same.
+    root.store(DomainReg::DomainCfg, 4);
+    assert_eq!(rt; root.load(DomainReg::DomainCfg), 0x8000_0004);
+    assert_eq!(rt; root.ready().next(), None);
+    assert!(rt; root.genmsi_waits());
+    assert_eq!(rt; root.take_genmsi(), Some(0x0004_07ff));
+    assert!(rt; !root.genmsi_waits());
+    assert_eq!(rt; root.take_genmsi(), None);
+    root.store(DomainReg::GenMsi, 5);
+    assert_eq!(rt; root.take_genmsi(), Some(5));
+    assert_eq!(rt; root.load(DomainReg::GenMsi), 5);
+    root.store(DomainReg::DomainCfg, 0x104);
+    let mut ready = root.ready();
+    for sent in [Some(1), Some(3), None] {
+        assert_eq!(rt; ready.next(), sent);
+    }
+    // An MSI takes a level source too, which hears registers while its input is high.
+    root.forwarded(1);
+    assert_eq!(rt; root.load(DomainReg::SetIp(0)), 0b1000);
+    root.forwarded(3);
+    assert_eq!(rt; root.load(DomainReg::SetIp(0)), 0);
+    root.store(DomainReg::SetIpNum, 3);
+    assert_eq!(rt; root.ready().next(), Some(3));
+    root.forwarded(3);
+    root.store(DomainReg::GenMsi, 6);
+    root.store(DomainReg::DomainCfg, 0x100);
+    assert!(rt; !root.genmsi_waits());
+    assert_eq!(rt; root.take_genmsi(), None);
+    for (read, shown) in [
+        (DomainReg::DomainCfg, 0x8000_0100),
+        (DomainReg::GenMsi, 0),
+        (DomainReg::Target(1), 1),
+        (DomainReg::Target(2), 0),
+        (DomainReg::Target(3), 1),
+        (DomainReg::SetIe(0), 0b1010),
+        (DomainReg::SetIp(0), 0b1000),
+    ] {
+        assert_eq!(rt; root.load(read), shown, "{read:?}");
+    }
     Ok(())
 }
 
