@@ -4,7 +4,8 @@ use Rattle.aia_regs.specs.declared.domain_registers.DomainReg.{DomainReg}
 use Rattle.aia_regs.specs.declared.domain_registers.DomainReg.TheVariants.{IDelivery, IForce, IThreshold}
 use Rattle.aia_regs.specs.Fields.{field}
 use Rattle.aia_source.specs.Source.Deed.{Claimed}
-use Rattle.aia_source.specs.Top.{Pair, least_pair, passes, priority_of, hart_of, pair_if, is_top}
+use Rattle.aia_source.specs.Top.{Pair, least_pair, priority_of, hart_of, pair_if, is_top}
+use Rattle.aia_word.specs.Top.{passes}
 use Rattle.aia_domain.specs.Held.{Held, with_deed, held_at}
 use Rattle.aia_domain.specs.Domain.{DomainState}
 

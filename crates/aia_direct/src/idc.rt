@@ -1,6 +1,7 @@
 ghost use Rattle.std.specs.Prelude.{◌≡◌, ◌<◌, ◌+◌, ◌*◌, Bool, length};
 ghost use Rattle.aia_regs.specs.Fields.{field};
-ghost use Rattle.aia_source.specs.Top.{lesser, passes, topi_value};
+ghost use Rattle.aia_source.specs.Top.{lesser, topi_value};
+ghost use Rattle.aia_word.specs.Top.{passes};
 ghost use Rattle.aia_domain.specs.Held.{EachSource};
 ghost use Rattle.aia_domain.specs.Domain.{with_sources};
 ghost use Rattle.aia_direct.specs.Control.{new_control, one_if, control_read, control_written, candidate_at, top_shown, IsSmall, claimed_top, control_claimed, signals};
