@@ -10,8 +10,8 @@ use Rattle.aia_model.specs.declared.line.Line.TheVariants.{Machine, Wire, Load, 
 use Rattle.aia_model.specs.declared.answer.Answer.{Answer}
 use Rattle.aia_model.specs.declared.answer.Answer.TheVariants.{NoMachine, Again, Range, Illegal, Fault, Guarded}
 use Rattle.aia_model.specs.Event.{History, has_machine, harts_of}
-use Rattle.aia_model.specs.Act.{acts_of}
 use Rattle.aia_model.specs.SourceOf.{is_source}
+use Rattle.aia_model.specs.Sent.{acts_of}
 use Rattle.aia_model.specs.FileOf.{MachineFile, SupervisorFile, page_at, select_of}
 use Rattle.aia_model.specs.Refusal.{refusal, raises_illegal, faults, guards, place_refusal, is_machine_size, lacks_machine, has_one_already, is_out_of_range, is_illegal, is_fault, is_guarded}
 use Rattle.aia_model.specs.Answer.{answer, after, accepted_answer, history_after}

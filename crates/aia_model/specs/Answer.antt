@@ -1,5 +1,5 @@
 -- What a line answers after a history, and the history after it. Profile, where no chapter is named.
-use Rattle.std.specs.Prelude.{ℕ, ◌∷◌, Option, Some, None, unwrap_or}
+use Rattle.std.specs.Prelude.{ℕ, List, [], ◌∷◌, Option, Some, None, unwrap_or}
 use Rattle.aia_word.specs.Top.{top_value}
 use Rattle.aia_regs.specs.declared.access.Csr.{Csr}
 use Rattle.aia_regs.specs.declared.access.Csr.TheVariants.{Select, Reg, Topei}
@@ -10,11 +10,13 @@ use Rattle.aia_model.specs.declared.line.Line.TheVariants.{Machine, Wire, Load, 
 use Rattle.aia_model.specs.declared.answer.Answer.{Answer}
 use Rattle.aia_model.specs.declared.answer.Answer.TheVariants.{Okay, Narrow, Wide}
 use Rattle.aia_model.specs.declared.answer.Answer.TheVariants as words
+use Rattle.aia_model.specs.declared.msi.Msi.{Msi}
 use Rattle.aia_model.specs.Event.{History}
-use Rattle.aia_model.specs.Event.Event.{Accepted}
-use Rattle.aia_model.specs.Act.{DomainName, domain_at, register_at, acts_of}
+use Rattle.aia_model.specs.Event.Event.{Accepted, Delivered}
+use Rattle.aia_model.specs.Act.{DomainName, domain_at, register_at}
 use Rattle.aia_model.specs.Act.DomainName.{Root, Child}
 use Rattle.aia_model.specs.SourceOf.{register_read, is_signalled}
+use Rattle.aia_model.specs.Sent.{acts_of, msis_of}
 use Rattle.aia_model.specs.FileOf.{FileName, MachineFile, SupervisorFile, select_of, file_of}
 use Rattle.aia_model.specs.Refusal.{refusal}
 
@@ -54,9 +56,14 @@ accepted_answer h (Pins hart) = words.Pins (is_signalled (acts_of h) Root hart) 
 unfoldable pub answer : History → Line → Answer
 answer h line = unwrap_or (refusal h line) (accepted_answer h line)
 
--- What has happened after an accepted line: it is one event.
+-- MSIs are delivered, the first of a list first: each is an event of its own.
+abbrev pub delivered : List Msi → History → History
+delivered [] h = h
+delivered (msi ∷ later) h = delivered later (Delivered msi.address msi.value ∷ h)
+
+-- What has happened after an accepted line: it, then the MSIs that it sends.
 abbrev pub happens : History → Line → History
-happens h line = Accepted line ∷ h
+happens h line = delivered (msis_of h line) (Accepted line ∷ h)
 
 -- The history after a line, by its refusal: a refused line changes nothing.
 abbrev pub history_after : Option Answer → History → Line → History

@@ -4,9 +4,10 @@ use Rattle.std.specs.Option.{option_map_or}
 use Rattle.aia_model.specs.declared.line.Line.{Line}
 use Rattle.aia_model.specs.declared.line.Line.TheVariants.{Machine}
 
--- What happens: a line is accepted.
+-- What happens: a line is accepted; an MSI of the APLIC is delivered, 32 bits stored at an address, also where no file is to take it.
 pub data Event : Type 0 where
   Accepted : (line : Line) → Event
+  Delivered : (address value : ℕ) → Event
 
 -- What has happened, the newest first.
 abbrev pub History : Type 0

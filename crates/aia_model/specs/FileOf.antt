@@ -15,7 +15,7 @@ use Rattle.aia_imsic.specs.declared.spot.Spot.{Spot}
 use Rattle.aia_imsic.specs.Map.{spot_at}
 use Rattle.aia_model.specs.declared.line.Line.TheVariants.{Machine, Wire, Load, Store, MachineCsr, HostCsr, Pins}
 use Rattle.aia_model.specs.Event.{Event, History, harts_of, guests_of}
-use Rattle.aia_model.specs.Event.Event.{Accepted}
+use Rattle.aia_model.specs.Event.Event.{Accepted, Delivered}
 
 -- ---- which files there are
 
@@ -48,7 +48,8 @@ pub data Deed : Type 0 where
   Stores : (offset value : ℕ) → Deed  -- 32 bits are stored at an offset of its page
   Rests : Deed  -- nothing
 
--- The deed of an event at a file, given what was before it: an access is its own hart's alone, a store reaches the file in whose page it lies.
+-- The deed of an event at a file, given what was before it: an access is its own hart's alone, a store, by a line or an MSI, reaches the file in whose
+-- page it lies. Of a file that isn't there it says something too, which nothing shows.
 abbrev pub deed_at : History → FileName → Event → Deed
 deed_at past f (Accepted (Machine harts guests n sources)) = Makes n
 deed_at past f (Accepted (Wire source level)) = Rests
@@ -57,6 +58,7 @@ deed_at past f (Accepted (Store addr value)) = if is_at f addr then Stores (addr
 deed_at past f (Accepted (MachineCsr hart csr op)) = if is_file f (MachineFile hart) then Accesses csr op else Rests
 deed_at past f (Accepted (HostCsr hart csr op)) = if is_file f (SupervisorFile hart) then Accesses csr op else Rests
 deed_at past f (Accepted (Pins hart)) = Rests
+deed_at past f (Delivered address value) = if is_at f address then Stores (address % 0x1000) value else Rests
 
 -- ---- the file after a history
 

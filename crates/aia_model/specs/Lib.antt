@@ -4,7 +4,9 @@ pub mod Printing
 pub mod Reading
 pub mod Event
 pub mod Act
+pub mod AddressOf
 pub mod SourceOf
+pub mod Sent
 pub mod FileOf
 pub mod Refusal
 pub mod Answer

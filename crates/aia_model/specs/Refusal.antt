@@ -15,8 +15,9 @@ use Rattle.aia_model.specs.declared.line.Line.TheVariants.{Machine, Wire, Load, 
 use Rattle.aia_model.specs.declared.answer.Answer.{Answer}
 use Rattle.aia_model.specs.declared.answer.Answer.TheVariants.{NoMachine, Again, Range, Illegal, Fault, Guarded}
 use Rattle.aia_model.specs.Event.{History, has_machine, harts_of}
-use Rattle.aia_model.specs.Act.{domain_at, acts_of}
+use Rattle.aia_model.specs.Act.{domain_at}
 use Rattle.aia_model.specs.SourceOf.{is_source}
+use Rattle.aia_model.specs.Sent.{acts_of}
 use Rattle.aia_model.specs.FileOf.{MachineFile, SupervisorFile, page_at, select_of}
 
 -- ---- the cells: whether a word's condition holds of a line after a history. Profile, where no chapter is named.

@@ -6,8 +6,10 @@
 mod answer;
 pub mod laws;
 mod line;
+mod msi;
 mod parsed;
 
 pub use answer::Answer;
 pub use line::Line;
+pub use msi::Msi;
 pub use parsed::Parsed;

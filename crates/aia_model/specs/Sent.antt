@@ -1,0 +1,87 @@
+-- The MSIs that an APLIC sends: what waits to be sent, in which order, where to and with which value. Profile, where no chapter is named: this project's
+-- way to speak of time.
+use Rattle.std.specs.Prelude.{ℕ, zero, suc, ◌&&◌, Bool, true, false, List, [], ◌∷◌, map, Option, Some, None}
+use Rattle.aia_regs.specs.Fields.{field}
+use Rattle.aia_source.specs.Top.{hart_of}
+use Rattle.aia_model.specs.declared.msi.Msi.{Msi}
+use Rattle.aia_model.specs.Act.{DomainName, Sender, Act, Past, act_of}
+use Rattle.aia_model.specs.Act.DomainName.{Root, Child}
+use Rattle.aia_model.specs.Act.Sender.{ByGenMsi, BySource}
+use Rattle.aia_model.specs.Act.Act.{Sent}
+use Rattle.aia_model.specs.AddressOf.{AddressRegisters, address_by, addresses_of}
+use Rattle.aia_model.specs.SourceOf.{sources_in, is_on, is_msi, enabled, target, pending, genmsi_of, genmsi_waits}
+use Rattle.aia_model.specs.declared.line.Line.{Line}
+use Rattle.aia_model.specs.Event.{History}
+use Rattle.aia_model.specs.Event.Event.{Accepted, Delivered}
+
+-- ---- what waits
+
+-- Whether a source is to be forwarded by a domain: the domain delivers by MSIs and is enabled, and the source is pending and enabled in it.
+-- AIA 1.0, Advanced Platform-Level Interrupt Controller (APLIC), "Interrupt forwarding by MSIs".
+abbrev pub is_ready : Past → DomainName → ℕ → Bool
+is_ready past d s = is_msi past d && is_on past d && pending past d s && enabled past d s
+
+-- A sender before others, where it has something to send.
+abbrev pub first_if : Bool → Sender → List Sender → List Sender
+first_if true sender later = sender ∷ later
+first_if false sender later = later
+
+-- The sources of `count` numbers from `from` on that are to be forwarded, rising.
+unfoldable pub ready_sources : (DomainName → ℕ → Bool) → ℕ → ℕ → List Sender
+ready_sources ready from zero = []
+ready_sources ready from (suc count) = first_if (ready Root from) (BySource Root from) (first_if (ready Child from) (BySource Child from) (ready_sources ready (suc from) count))
+
+-- All that waits to be sent, in the order in which it is sent: what was asked for by genmsi, then the sources of both domains by rising number.
+-- AIA 1.0, Advanced Platform-Level Interrupt Controller (APLIC), "Interrupt forwarding by MSIs". Profile: the order.
+abbrev pub senders : Past → List Sender
+senders past = first_if (genmsi_waits past Root) (ByGenMsi Root) (first_if (genmsi_waits past Child) (ByGenMsi Child) (ready_sources (is_ready past) 1 (sources_in past)))
+
+-- ---- their MSIs
+
+-- The register that a sender's MSI is made of: genmsi, or the source's target.
+abbrev pub register_of_sender : Past → Sender → ℕ
+register_of_sender past (ByGenMsi d) = genmsi_of past d
+register_of_sender past (BySource d s) = target past d s
+
+abbrev pub domain_of_sender : Sender → DomainName
+domain_of_sender (ByGenMsi d) = d
+domain_of_sender (BySource d s) = d
+
+-- An MSI by such a register: it goes to the hart of bits 31:18, with the identity of bits 10:0.
+-- AIA 1.0, Advanced Platform-Level Interrupt Controller (APLIC), "Interrupt forwarding by MSIs".
+abbrev pub msi_by : AddressRegisters → DomainName → ℕ → Msi
+msi_by a d register = record { address = address_by a d (hart_of register); value = field register 10 0 }
+
+abbrev pub msi_of : Past → Sender → Msi
+msi_of past sender = msi_by (addresses_of past) (domain_of_sender sender) (register_of_sender past sender)
+
+-- The MSIs of all that waits, in order.
+abbrev pub msis : Past → List Msi
+msis past = map (msi_of past) (senders past)
+
+-- ---- all of it is sent
+
+abbrev pub sent_by : List Sender → Past → Past
+sent_by [] past = past
+sent_by (sender ∷ later) past = sent_by later (Sent sender ∷ past)
+
+-- All that waits is sent: what has happened then.
+abbrev pub settled : Past → Past
+settled past = sent_by (senders past) past
+
+-- ---- the acts of a history
+
+abbrev pub with_act : Option Act → Past → Past
+with_act None past = past
+with_act (Some a) past = a ∷ past
+
+-- What happened to the APLIC in a history: after each line all that then waits is sent.
+-- AIA 1.0, Advanced Platform-Level Interrupt Controller (APLIC), "Interrupt forwarding by MSIs". Profile: within the line.
+abbrev pub acts_of : History → Past
+acts_of [] = []
+acts_of (Accepted line ∷ h) = settled (with_act (act_of line) (acts_of h))
+acts_of (Delivered address value ∷ h) = acts_of h
+
+-- The MSIs that a line sends which is accepted after a history, in order.
+abbrev pub msis_of : History → Line → List Msi
+msis_of h line = msis (with_act (act_of line) (acts_of h))
