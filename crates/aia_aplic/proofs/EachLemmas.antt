@@ -1,9 +1,7 @@
 -- Lists whose members are changed by their places.
 use Rattle.std.proofs.Common.{◌≡◌, ℕ, suc, ◌<◌, List, [], ◌∷◌, length, slice_get, Option, Some, None, option_map, refl, sym, ap, ◌∙◌}
 use Rattle.std.proofs.lemmas.Option.{slice_get_within}
-
-abbrev pub EachAt : {A : Type 0} → List A → List A → (ℕ → A → A) → Type 0
-EachAt old new change = (i : ℕ) → slice_get new i ≡ option_map (change i) (slice_get old i)
+use Rattle.aia_domain.specs.Held.{EachAt}
 
 pub each-length : {A : Type 0} (old new : List A) (change : ℕ → A → A) → EachAt old new change → length new ≡ length old
 each-length [] [] change each = refl

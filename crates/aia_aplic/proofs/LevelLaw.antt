@@ -4,74 +4,17 @@ use Rattle.aia_regs.specs.declared.domain_registers.DomainReg.{DomainReg}
 use Rattle.aia_regs.specs.declared.domain_registers.DomainReg.TheVariants.{DomainCfg, SourceCfg, ClaimI}
 use Rattle.aia_regs.specs.Word.{settle}
 use Rattle.aia_source.specs.declared.mode.Mode.{Mode}
-use Rattle.aia_source.specs.declared.mode.Mode.TheVariants.{Inactive, Detached, RisingEdge, FallingEdge, LevelHigh, LevelLow}
 use Rattle.aia_source.specs.Source.{is_level, rectified, says}
-use Rattle.aia_source.specs.Source.Deed.{Moved, Set, Cleared, Claimed, Configured, Activated, Switched, Untouched}
+use Rattle.aia_source.specs.Source.Deed.{Moved, Forwarded, Configured, Activated, Switched, Untouched}
 use Rattle.aia_source.specs.Registers.{domaincfg_kept, is_by_msi, root_sourcecfg, child_sourcecfg, delegates, mode_of, sets_pending, clears_pending, same_bool}
 use Rattle.aia_source.specs.Top.{is_top}
-use Rattle.aia_model.specs.Act.{DomainName, Past, newest, when}
+use Rattle.aia_model.specs.Act.{DomainName, Sender, Past, newest, when}
+use Rattle.aia_model.specs.Act.Sender.{ByGenMsi, BySource}
 use Rattle.aia_model.specs.Act.DomainName.{Root, Child}
-use Rattle.aia_model.specs.Act.Act.{Made, Driven, Written, Loaded}
+use Rattle.aia_model.specs.Act.Act.{Made, Driven, Written, Loaded, Sent}
 use Rattle.aia_model.specs.SourceOf.{harts_in, is_register_of, wire_of, root_sourcecfg_of, is_delegated, child_told, mode, owns, input, is_msi, pending, top}
+use Rattle.aia_source.proofs.SourceLemmas.{unheard, followed, begun, changed, claimed}
 use Rattle.aia_aplic.proofs.WriteSteps.{same_bools}
-
--- ---- what each deed makes of the pending bit of a source at a level mode
-
--- a register: it is not heard, and nor is what says nothing
-unheard : (m : Mode) (msi r was a b : Bool) → is_level m ≡ true → msi ≡ false → was ≡ r → settle (says m msi r r (cond a Set (cond b Cleared Untouched))) was ≡ r
-unheard Inactive msi r was a b l e same = cc
-unheard Detached msi r was a b l e same = cc
-unheard RisingEdge msi r was a b l e same = cc
-unheard FallingEdge msi r was a b l e same = cc
-unheard LevelHigh true r was a b l e same = cc
-unheard LevelHigh false r was true b l e same = same
-unheard LevelHigh false r was false true l e same = same
-unheard LevelHigh false r was false false l e same = same
-unheard LevelLow true r was a b l e same = cc
-unheard LevelLow false r was true b l e same = same
-unheard LevelLow false r was false true l e same = same
-unheard LevelLow false r was false false l e same = same
-
--- its wire
-followed : (m : Mode) (msi before r was : Bool) → is_level m ≡ true → was ≡ before → settle (says m msi before r Moved) was ≡ r
-followed Inactive msi before r was l same = cc
-followed Detached msi before r was l same = cc
-followed RisingEdge msi before r was l same = cc
-followed FallingEdge msi before r was l same = cc
-followed LevelHigh msi true true was l same = same
-followed LevelHigh msi true false was l same = refl
-followed LevelHigh msi false true was l same = refl
-followed LevelHigh msi false false was l same = same
-followed LevelLow msi true true was l same = same
-followed LevelLow msi true false was l same = refl
-followed LevelLow msi false true was l same = refl
-followed LevelLow msi false false was l same = same
-
--- its sourcecfg
-begun : (m : Mode) (msi before r was active : Bool) → is_level m ≡ true → settle (says m msi before r (cond active Configured Activated)) was ≡ r
-begun Inactive msi before r was active l = cc
-begun Detached msi before r was active l = cc
-begun RisingEdge msi before r was active l = cc
-begun FallingEdge msi before r was active l = cc
-begun LevelHigh msi before true was true l = refl
-begun LevelHigh msi before true was false l = refl
-begun LevelHigh msi before false was true l = refl
-begun LevelHigh msi before false was false l = refl
-begun LevelLow msi before true was true l = refl
-begun LevelLow msi before true was false l = refl
-begun LevelLow msi before false was true l = refl
-begun LevelLow msi before false was false l = refl
-
--- the delivery mode
-changed : (m : Mode) (msi before r was : Bool) → is_level m ≡ true → settle (says m msi before r Switched) was ≡ r
-changed Inactive msi before r was l = cc
-changed Detached msi before r was l = cc
-changed RisingEdge msi before r was l = cc
-changed FallingEdge msi before r was l = cc
-changed LevelHigh msi before true was l = refl
-changed LevelHigh msi before false was l = refl
-changed LevelLow msi before true was l = refl
-changed LevelLow msi before false was l = refl
 
 -- ---- what each act leaves of the law
 
@@ -84,17 +27,6 @@ unfolding newest wire_of pending
 made harts sources past Root s law = λ l e. unheard (mode past Root s) (is_msi past Root) (input past Root s) (pending past Root s) false false l e (law l e)
 made harts sources past Child s law = λ l e. unheard (mode past Child s) (is_msi past Child) (input past Child s) (pending past Child s) false false l e (law l e)
 
--- a claim
-claimed : (m : Mode) (msi r was b : Bool) → is_level m ≡ true → msi ≡ false → was ≡ r → settle (says m msi r r (cond b Claimed Untouched)) was ≡ r
-claimed Inactive msi r was b l e same = cc
-claimed Detached msi r was b l e same = cc
-claimed RisingEdge msi r was b l e same = cc
-claimed FallingEdge msi r was b l e same = cc
-claimed LevelHigh msi r was true l e same = same
-claimed LevelHigh msi r was false l e same = same
-claimed LevelLow msi r was true l e same = same
-claimed LevelLow msi r was false l e same = same
-
 loaded : (e : DomainName) (reg : DomainReg) (past : Past) (d : DomainName) (s : ℕ) → IsLawful past d s → IsLawful (Loaded e reg ∷ past) d s
 unfolding newest wire_of pending
 loaded Root (ClaimI hart) past Root s law = λ l e. claimed (mode past Root s) (is_msi past Root) (input past Root s) (pending past Root s) (nat_lt hart (harts_in past) && is_top (top past Root hart) s) l e (law l e)
@@ -105,6 +37,21 @@ loaded Root reg past Root s law = λ l e. claimed (mode past Root s) (is_msi pas
 loaded Child reg past Root s law = λ l e. claimed (mode past Root s) (is_msi past Root) (input past Root s) (pending past Root s) false l e (law l e)
 loaded Root reg past Child s law = λ l e. claimed (mode past Child s) (is_msi past Child) (input past Child s) (pending past Child s) false l e (law l e)
 loaded Child reg past Child s law = λ l e. claimed (mode past Child s) (is_msi past Child) (input past Child s) (pending past Child s) false l e (law l e)
+
+-- only a domain that delivers by MSIs forwards
+forwards : (m : Mode) (msi r was b : Bool) → is_level m ≡ true → msi ≡ false → was ≡ r → settle (says m msi r r (cond (b && msi) Forwarded Untouched)) was ≡ r
+forwards m true r was b l e same = cc
+forwards m false r was true l e same = unheard m false r was false false l e same
+forwards m false r was false l e same = unheard m false r was false false l e same
+
+sent : (sender : Sender) (past : Past) (d : DomainName) (s : ℕ) → IsLawful past d s → IsLawful (Sent sender ∷ past) d s
+unfolding newest wire_of pending
+sent (ByGenMsi e) past Root s law = λ l e. unheard (mode past Root s) (is_msi past Root) (input past Root s) (pending past Root s) false false l e (law l e)
+sent (ByGenMsi e) past Child s law = λ l e. unheard (mode past Child s) (is_msi past Child) (input past Child s) (pending past Child s) false false l e (law l e)
+sent (BySource Root t) past Root s law = λ l e. forwards (mode past Root s) (is_msi past Root) (input past Root s) (pending past Root s) (nat_eq t s) l e (law l e)
+sent (BySource Child t) past Child s law = λ l e. forwards (mode past Child s) (is_msi past Child) (input past Child s) (pending past Child s) (nat_eq t s) l e (law l e)
+sent (BySource Child t) past Root s law = λ l e. unheard (mode past Root s) (is_msi past Root) (input past Root s) (pending past Root s) false false l e (law l e)
+sent (BySource Root t) past Child s law = λ l e. unheard (mode past Child s) (is_msi past Child) (input past Child s) (pending past Child s) false false l e (law l e)
 
 driven : (t : ℕ) (level : Bool) (past : Past) (d : DomainName) (s : ℕ) → IsLawful past d s → IsLawful (Driven t level ∷ past) d s
 unfolding newest wire_of pending
@@ -176,6 +123,7 @@ level_follows [] d s = begins d s
 level_follows (Made harts sources ∷ past) d s = made harts sources past d s (level_follows past d s)
 level_follows (Driven t level ∷ past) d s = driven t level past d s (level_follows past d s)
 level_follows (Loaded e reg ∷ past) d s = loaded e reg past d s (level_follows past d s)
+level_follows (Sent sender ∷ past) d s = sent sender past d s (level_follows past d s)
 level_follows (Written Root reg v ∷ past) Root s = written_root reg v past s (level_follows past Root s)
 level_follows (Written Child reg v ∷ past) Root s = root_at_child reg v past s (level_follows past Root s)
 level_follows (Written Root reg v ∷ past) Child s = child_at_root reg v past s (level_follows past Child s)

@@ -3,6 +3,8 @@ pub mod Steps
 pub mod WriteSteps
 pub mod DrivenSteps
 pub mod LoadedSteps
+pub mod SentSteps
+pub mod AddressSteps
 pub mod Standing
 pub mod Reading
 pub mod TopStands
@@ -12,3 +14,7 @@ pub mod LevelLaw
 pub mod OwnerLaw
 pub mod RiseLaw
 pub mod TopLaw
+pub mod SendingLemmas
+pub mod FirstLemmas
+pub mod FewerLemmas
+pub mod OrderLaw

@@ -21,7 +21,7 @@ use Rattle.aia_domain.specs.Domain.{DomainState, domain_read}
 use Rattle.aia_model.specs.Act.{DomainName, Past, is_domain, newest, when}
 use Rattle.aia_model.specs.Act.DomainName.{Root, Child}
 use Rattle.aia_model.specs.Act.Act.{Written}
-use Rattle.aia_model.specs.SourceOf.{sources_in, is_source, is_register_of, root_sourcecfg_of, is_delegated, child_told, sourcecfg_of, mode, input, is_on, enabled, target, pending, only, sources_word, register_read}
+use Rattle.aia_model.specs.SourceOf.{sources_in, is_source, is_register_of, root_sourcecfg_of, is_delegated, child_told, sourcecfg_of, mode, input, is_on, enabled, target, pending, only, sources_word, own_read}
 use Rattle.aia_aplic.specs.Stands.{held, DomainStands}
 use Rattle.aia_aplic.specs.Controls.{is_control}
 use Rattle.aia_aplic.proofs.Steps.{held-idle}
@@ -39,7 +39,7 @@ root-zero [] = refl
 root-zero (Written Root (SourceCfg i) v ∷ past) = ap (λ (b : Bool). unwrap_or (when b (root_sourcecfg v)) (root_sourcecfg_of past 0)) (and_false (nat_eq i 0)) ∙ root-zero past
 root-zero (a ∷ past) = root-zero past
 
-mode-zero : (past : Past) (d : DomainName) → is_active (mode past d 0) ≡ false
+pub mode-zero : (past : Past) (d : DomainName) → is_active (mode past d 0) ≡ false
 mode-zero past Root = ap (λ c. is_active (mode_of c)) (root-zero past)
 mode-zero past Child = ap (λ c. is_active (mode_of c)) (child-none past 0 (ap delegates (root-zero past)))
 
@@ -189,7 +189,7 @@ config_zero : (past : Past) (name : DomainName) → sourcecfg_of past name 0 ≡
 config_zero past Root = root-zero past
 config_zero past Child = child-none past 0 (ap delegates (root-zero past))
 
-pub read-stands : (reg : DomainReg) (d : DomainState) (past : Past) (name : DomainName) → is_control reg ≡ false → DomainStands d past name → domain_read d reg ≡ register_read past name reg
+pub read-stands : (reg : DomainReg) (d : DomainState) (past : Past) (name : DomainName) → is_control reg ≡ false → DomainStands d past name → domain_read d reg ≡ own_read past name reg
 read-stands DomainCfg d past name plain stands = ap (λ (b : Bool). 0x80000000 + one_at b 8 + one_at d.msi 2) stands.on ∙ ap (λ (b : Bool). 0x80000000 + one_at (is_on past name) 8 + one_at b 2) stands.msi
 read-stands (SetIp k) d past name plain stands = word-stands looks.Pending d past name k stands
 read-stands (InClrIp k) d past name plain stands = word-stands looks.Input d past name k stands

@@ -7,17 +7,22 @@ use Rattle.aia_regs.specs.declared.domain_registers.DomainReg.TheVariants.{Sourc
 use Rattle.aia_regs.specs.Fields.{field}
 use Rattle.aia_source.specs.Registers.{delegates, root_sourcecfg}
 use Rattle.aia_source.specs.Top.{Pair, topi_value}
-use Rattle.aia_domain.specs.Held.{EachSource, granted_at, changed_at, wired}
-use Rattle.aia_domain.specs.Domain.{DomainState, with_sources, source_after, domain_after}
+use Rattle.aia_source.specs.Source.Deed.{Forwarded}
+use Rattle.aia_domain.specs.Held.{EachSource, granted_at, changed_at, wired, with_deed}
+use Rattle.aia_domain.specs.Domain.{DomainState, with_sources, source_after, domain_after, is_ready}
 use Rattle.aia_direct.specs.Control.{Control, new_control, control_read, control_claimed, claimed_top, top_shown, signals, one_if}
 use Rattle.aia_model.specs.Act.{DomainName, Act, Past, is_domain, newest, when}
 use Rattle.aia_model.specs.Act.DomainName.{Root, Child}
-use Rattle.aia_model.specs.Act.Act.{Made, Driven, Written, Loaded}
-use Rattle.aia_model.specs.SourceOf.{harts_in, register_read, top, is_msi, is_on, is_signalled, delivery_told, delivery_of, force_told, force_of, threshold_of, only}
+use Rattle.aia_model.specs.Act.{Sender}
+use Rattle.aia_model.specs.Act.Sender.{ByGenMsi, BySource}
+use Rattle.aia_model.specs.Act.Act.{Made, Driven, Written, Loaded, Sent}
+use Rattle.aia_model.specs.SourceOf.{harts_in, own_read, top, is_msi, is_on, is_signalled, delivery_told, delivery_of, force_told, force_of, threshold_of, only}
 use Rattle.aia_aplic.specs.Stands.{control, SideState, SideStands, IsNewSide, AplicState, AplicStands, IsNewAplic}
 use Rattle.aia_aplic.specs.Controls.{EachControl, is_control, hart_of_register, control_after, control_at, claimed_at}
 use Rattle.aia_aplic.proofs.LoadedSteps.{is_claim}
-use Rattle.aia_aplic.proofs.Standing.{driven-stands, own-stands, root-stands_other, child-stands_other, child-stands_written, read-stands_same, root-stands_loaded, child-stands_loaded, unclaimed-stands, claimed-stands, new_domain-stands}
+use Rattle.aia_aplic.proofs.Standing.{driven-stands, own-stands, root-stands_other, child-stands_other, child-stands_written, read-stands_same, root-stands_loaded, child-stands_loaded, unclaimed-stands, claimed-stands, new_domain-stands, sent-stands_other, forwarded-stands, genmsi_sent-stands}
+use Rattle.aia_aplic.proofs.SentSteps.{is_source_in, is_genmsi_of, sent_control}
+use Rattle.aia_aplic.proofs.AddressSteps.{addresses_made}
 use Rattle.aia_aplic.proofs.TopStands.{top-stands}
 use Rattle.aia_aplic.proofs.ControlSteps.{driven_control, root_at_child_write, child_at_root_write, root_at_child_load, child_at_root_load, loaded_control, written_control, claimed_control, controls-after, controls-still, new_controls-stand}
 
@@ -34,6 +39,10 @@ harts_written d reg v past = refl
 harts_loaded : (d : DomainName) (reg : DomainReg) (past : Past) → harts_in (Loaded d reg ∷ past) ≡ harts_in past
 unfolding newest
 harts_loaded d reg past = refl
+
+harts_sent : (sender : Sender) (past : Past) → harts_in (Sent sender ∷ past) ≡ harts_in past
+unfolding newest
+harts_sent sender past = refl
 
 -- ---- wires and writes
 
@@ -88,6 +97,31 @@ pub child-side_loaded : (reg : DomainReg) (a : SideState) (past : Past) → Side
 child-side_loaded reg a past stands = record {
   domain = child-stands_loaded reg a.domain past stands.domain;
   controls = controls-still (Loaded Root reg) a.controls past Child (harts_loaded Root reg past) (λ h low. child_at_root_load reg past h) stands.controls;
+}
+
+-- ---- the sending of an MSI
+
+pub side-sent_other : (sender : Sender) (a : SideState) (past : Past) (name : DomainName) → is_genmsi_of sender name ≡ false → is_source_in sender name ≡ false → SideStands a past name → SideStands a (Sent sender ∷ past) name
+side-sent_other sender a past name genmsi source stands = record {
+  domain = sent-stands_other sender a.domain past name genmsi source stands.domain;
+  controls = controls-still (Sent sender) a.controls past name (harts_sent sender past) (λ h low. sent_control sender past name h) stands.controls;
+}
+
+pub side-forwarded : (t : ℕ) (a : SideState) (e : DomainState) (past : Past) (name : DomainName) → is_ready a.domain t ≡ true → EachSource a.domain.sources e.sources (changed_at t (with_deed true Forwarded)) → e ≡ with_sources a.domain e.sources
+    → SideStands a past name → SideStands (record { domain = e; controls = a.controls }) (Sent (BySource name t) ∷ past) name
+side-forwarded t a e past name ready each rest stands = record {
+  domain = forwarded-stands t a.domain e past name (sym stands.domain.msi ∙ first_true a.domain.msi a.domain.on _ ready) each rest stands.domain;
+  controls = controls-still (Sent (BySource name t)) a.controls past name (harts_sent (BySource name t) past) (λ h low. sent_control (BySource name t) past name h) stands.controls;
+}
+  where
+    first_true : (x y z : Bool) → (x && y && z) ≡ true → x ≡ true
+    first_true true y z e = refl
+    first_true false y z e = cc
+
+pub side-genmsi_sent : (a : SideState) (e : DomainState) (past : Past) (name : DomainName) → e ≡ record a.domain { genmsi_waits = false } → SideStands a past name → SideStands (record { domain = e; controls = a.controls }) (Sent (ByGenMsi name) ∷ past) name
+side-genmsi_sent a e past name is stands = record {
+  domain = genmsi_sent-stands a.domain e past name is stands.domain;
+  controls = controls-still (Sent (ByGenMsi name)) a.controls past name (harts_sent (ByGenMsi name) past) (λ h low. sent_control (ByGenMsi name) past name h) stands.controls;
 }
 
 -- the control of a hart that is there
@@ -172,7 +206,7 @@ shown_bit (suc zero) small = refl
 shown_bit (suc (suc m)) small = absurd (omega arith)
 
 -- the register of a hart that is there, and of one that isn't
-pub control_there : (reg : DomainReg) (hart : ℕ) (a : SideState) (past : Past) (name : DomainName) → hart_of_register reg ≡ Some hart → hart < length a.controls → SideStands a past name → control_read (control_at a.controls hart) reg ≡ register_read past name reg
+pub control_there : (reg : DomainReg) (hart : ℕ) (a : SideState) (past : Past) (name : DomainName) → hart_of_register reg ≡ Some hart → hart < length a.controls → SideStands a past name → control_read (control_at a.controls hart) reg ≡ own_read past name reg
 control_there (IDelivery x) hart a past name is low stands =
     let same : x ≡ hart = cc in
     ap (λ (c : Control). one_if c.delivery) (control_is a past name hart low stands) ∙ shown_bit (delivery_of past name hart) (newest_below (delivery_told name hart) 2 (omega arith) (delivery_bit name hart) past)
@@ -186,7 +220,7 @@ control_there (IThreshold x) hart a past name is low stands =
     ap (λ (c : Control). c.threshold) (control_is a past name hart low stands) ∙ sym (cond-true _ _ _ (hart_there a past name hart low stands)) ∙ ap (λ h. only (nat_lt h (harts_in past)) (threshold_of past name h)) (sym same)
 control_there reg hart a past name is low stands = absurd (cc)
 
-pub control_away : (reg : DomainReg) (hart : ℕ) (a : SideState) (past : Past) (name : DomainName) → hart_of_register reg ≡ Some hart → length a.controls ≤ hart → SideStands a past name → 0 ≡ register_read past name reg
+pub control_away : (reg : DomainReg) (hart : ℕ) (a : SideState) (past : Past) (name : DomainName) → hart_of_register reg ≡ Some hart → length a.controls ≤ hart → SideStands a past name → 0 ≡ own_read past name reg
 control_away (IDelivery x) hart a past name is beyond stands =
     let same : x ≡ hart = cc in sym (ap (λ h. only (nat_lt h (harts_in past)) (delivery_of past name h)) same ∙ cond-false _ _ _ (hart_away a past name hart beyond stands))
 control_away (IForce x) hart a past name is beyond stands =
@@ -216,7 +250,7 @@ new_side-stands n h leaf a name is new = record { domain = new_domain-stands n h
 
 -- an APLIC as a machine begins
 pub new-stands : (n h : ℕ) (a : AplicState) → IsNewAplic n h a → AplicStands a (Made h n ∷ [])
-new-stands n h a new = record { root = new_side-stands n h false a.root Root refl new.root; child = new_side-stands n h true a.child Child refl new.child }
+new-stands n h a new = record { root = new_side-stands n h false a.root Root refl new.root; child = new_side-stands n h true a.child Child refl new.child; addresses = new.addresses ∙ addresses_made h n }
 
 -- ---- registers that are no control's
 

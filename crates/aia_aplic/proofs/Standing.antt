@@ -1,24 +1,29 @@
 -- A domain that stood for the past stands for the longer one.
-use Rattle.std.proofs.Common.{◌≡◌, ℕ, suc, ◌<◌, Bool, true, false, not, cond, ◌&&◌, nat_lt, [], ◌∷◌, slice_get, Option, None, unwrap_or, refl, sym, ap, subst, ◌∙◌}
+use Rattle.std.proofs.Common.{◌≡◌, ℕ, suc, ◌<◌, Bool, true, false, not, cond, ◌&&◌, nat_eq, nat_lt, [], ◌∷◌, slice_get, Option, None, unwrap_or, refl, sym, ap, subst, ◌∙◌}
 use Rattle.std.proofs.lemmas.Bool.{cond-true, cond-false}
 use Rattle.std.proofs.lemmas.Option.{slice_get_within, get_or_from_slice_get}
 use Rattle.std.proofs.lemmas.List.Elements.{All-get_or}
 use Rattle.aia_regs.specs.declared.domain_registers.DomainReg.{DomainReg}
 use Rattle.aia_regs.specs.declared.domain_registers.DomainReg.TheVariants.{DomainCfg, SourceCfg, GenMsi, ClaimI}
+use Rattle.aia_regs.specs.Word.{settle}
+use Rattle.aia_regs.specs.Word.Word.{Ask, Clear, Nothing}
 use Rattle.aia_source.specs.Registers.{domaincfg_kept, enables, is_by_msi, root_sourcecfg, delegates, genmsi_kept, same_bool}
 use Rattle.aia_domain.specs.Held.{Held, new_held, with_deed, wired, changed_at, granted_at, EachSource}
 use Rattle.aia_domain.specs.Domain.{DomainState, IsNewDomain, with_sources, source_changed, source_after, domaincfg_written, domain_after}
 use Rattle.aia_model.specs.Act.{DomainName, Act, Past, is_domain, newest, when}
 use Rattle.aia_model.specs.Act.DomainName.{Root, Child}
-use Rattle.aia_model.specs.Act.Act.{Made, Driven, Written, Loaded}
-use Rattle.aia_model.specs.SourceOf.{harts_in, sources_in, wire_of, enabled, target, pending, domaincfg_of, is_on, is_msi, genmsi_of, top}
+use Rattle.aia_model.specs.Act.Act.{Made, Driven, Written, Loaded, Sent}
+use Rattle.aia_model.specs.SourceOf.{harts_in, sources_in, wire_of, enabled, target, pending, domaincfg_of, is_on, is_msi, genmsi_of, genmsi_waits, top}
 use Rattle.aia_direct.specs.Control.{claimed_top}
 use Rattle.aia_aplic.specs.Stands.{held, DomainStands}
 use Rattle.aia_aplic.proofs.EachLemmas.{each-length, each-held, unchanged}
 use Rattle.aia_aplic.proofs.WriteSteps.{same_bools, root_written, child_written, root_at_child_written, child_at_root_config, child_at_root_written, is_config}
 use Rattle.aia_aplic.proofs.DrivenSteps.{driven}
 use Rattle.aia_aplic.proofs.LoadedSteps.{is_claim, claimed, loaded, root_at_child_loaded, child_at_root_loaded}
-use Rattle.aia_source.specs.Source.Deed.{Claimed}
+use Rattle.aia_source.specs.Source.Deed.{Claimed, Forwarded}
+use Rattle.aia_model.specs.Act.{Sender}
+use Rattle.aia_model.specs.Act.Sender.{ByGenMsi, BySource}
+use Rattle.aia_aplic.proofs.SentSteps.{forwarded, sent_elsewhere, is_source_in, is_genmsi_of}
 use Rattle.aia_source.specs.Top.{Pair, is_top}
 
 -- what a domain keeps beside its sources, and its harts, is as the longer past has it
@@ -30,6 +35,7 @@ pub record Keeps (d e : DomainState) (a : Act) (past : Past) (name : DomainName)
   pub on : e.on ≡ is_on (a ∷ past) name
   pub msi : e.msi ≡ is_msi (a ∷ past) name
   pub genmsi : e.genmsi ≡ genmsi_of (a ∷ past) name
+  pub genmsi_waits : e.genmsi_waits ≡ genmsi_waits (a ∷ past) name
 
 pub stands-after : (a : Act) (d e : DomainState) (past : Past) (name : DomainName) (change : ℕ → Held → Held) → Keeps d e a past name → EachSource d.sources e.sources change
     → ((s : ℕ) → s < suc (sources_in past) → change s (held past name s) ≡ held (a ∷ past) name s) → DomainStands d past name → DomainStands e (a ∷ past) name
@@ -39,6 +45,7 @@ stands-after a d e past name change keeps each goes stands = record {
   on = keeps.on;
   msi = keeps.msi;
   genmsi = keeps.genmsi;
+  genmsi_waits = keeps.genmsi_waits;
   count = each-length d.sources e.sources change each ∙ stands.count ∙ sym (ap suc keeps.sources_in);
   each = each-held d.sources e.sources change (held past name) (held (a ∷ past) name) each stands.each (λ s low. goes s (subst (λ n. s < n) stands.count low));
 }
@@ -57,7 +64,7 @@ is_plain reg = true
 
 -- the same domain but for its sources, where the act says nothing of it
 abbrev pub IsQuiet : Act → Past → DomainName → Type 0
-IsQuiet a past name = (harts_in (a ∷ past) ≡ harts_in past) × (sources_in (a ∷ past) ≡ sources_in past) × (is_on (a ∷ past) name ≡ is_on past name) × (is_msi (a ∷ past) name ≡ is_msi past name) × (genmsi_of (a ∷ past) name ≡ genmsi_of past name)
+IsQuiet a past name = (harts_in (a ∷ past) ≡ harts_in past) × (sources_in (a ∷ past) ≡ sources_in past) × (is_on (a ∷ past) name ≡ is_on past name) × (is_msi (a ∷ past) name ≡ is_msi past name) × (genmsi_of (a ∷ past) name ≡ genmsi_of past name) × (genmsi_waits (a ∷ past) name ≡ genmsi_waits past name)
 
 keeps_quiet : (a : Act) (d e : DomainState) (past : Past) (name : DomainName) → IsQuiet a past name → e ≡ with_sources d e.sources → DomainStands d past name → Keeps d e a past name
 keeps_quiet a d e past name quiet rest stands = record {
@@ -68,23 +75,24 @@ keeps_quiet a d e past name quiet rest stands = record {
   on = ap (λ (x : DomainState). x.on) rest ∙ stands.on ∙ sym quiet.2;
   msi = ap (λ (x : DomainState). x.msi) rest ∙ stands.msi ∙ sym quiet.3;
   genmsi = ap (λ (x : DomainState). x.genmsi) rest ∙ stands.genmsi ∙ sym quiet.4;
+  genmsi_waits = ap (λ (x : DomainState). x.genmsi_waits) rest ∙ stands.genmsi_waits ∙ sym quiet.5;
 }
 
 quiet_driven : (t : ℕ) (level : Bool) (past : Past) (name : DomainName) → IsQuiet (Driven t level) past name
-unfolding newest
-quiet_driven t level past name = (refl, refl, refl, refl, refl)
+unfolding newest genmsi_waits
+quiet_driven t level past name = (refl, refl, refl, refl, refl, refl)
 
 quiet_root : (reg : DomainReg) (v : ℕ) (past : Past) → IsQuiet (Written Child reg v) past Root
-unfolding newest
-quiet_root DomainCfg v past = (refl, refl, refl, refl, refl)
-quiet_root GenMsi v past = (refl, refl, refl, refl, refl)
-quiet_root reg v past = (refl, refl, refl, refl, refl)
+unfolding newest genmsi_waits
+quiet_root DomainCfg v past = (refl, refl, refl, refl, refl, refl)
+quiet_root GenMsi v past = (refl, refl, refl, refl, refl, refl)
+quiet_root reg v past = (refl, refl, refl, refl, refl, refl)
 
 quiet_child : (reg : DomainReg) (v : ℕ) (past : Past) → IsQuiet (Written Root reg v) past Child
-unfolding newest
-quiet_child DomainCfg v past = (refl, refl, refl, refl, refl)
-quiet_child GenMsi v past = (refl, refl, refl, refl, refl)
-quiet_child reg v past = (refl, refl, refl, refl, refl)
+unfolding newest genmsi_waits
+quiet_child DomainCfg v past = (refl, refl, refl, refl, refl, refl)
+quiet_child GenMsi v past = (refl, refl, refl, refl, refl, refl)
+quiet_child reg v past = (refl, refl, refl, refl, refl, refl)
 
 -- ---- a wire
 
@@ -136,6 +144,25 @@ unfolding newest
 genmsi_written v past Root = refl
 genmsi_written v past Child = refl
 
+-- whether what genmsi asked for waits, by its newest word
+waits_no_more : (same waits : Bool) → cond same waits false ≡ settle (cond (not same) Clear Nothing) waits
+waits_no_more true waits = refl
+waits_no_more false waits = refl
+
+waits_now : (msi waits : Bool) → cond msi true waits ≡ settle (cond msi Ask Nothing) waits
+waits_now true waits = refl
+waits_now false waits = refl
+
+waits_at_cfg : (v : ℕ) (past : Past) (name : DomainName) → cond (same_bool (is_msi past name) (is_by_msi (domaincfg_kept v))) (genmsi_waits past name) false ≡ genmsi_waits (Written name DomainCfg v ∷ past) name
+unfolding genmsi_waits
+waits_at_cfg v past Root = waits_no_more (same_bool (is_msi past Root) (is_by_msi (domaincfg_kept v))) (genmsi_waits past Root)
+waits_at_cfg v past Child = waits_no_more (same_bool (is_msi past Child) (is_by_msi (domaincfg_kept v))) (genmsi_waits past Child)
+
+waits_written : (v : ℕ) (past : Past) (name : DomainName) → cond (is_msi past name) true (genmsi_waits past name) ≡ genmsi_waits (Written name GenMsi v ∷ past) name
+unfolding genmsi_waits
+waits_written v past Root = waits_now (is_msi past Root) (genmsi_waits past Root)
+waits_written v past Child = waits_now (is_msi past Child) (genmsi_waits past Child)
+
 same_size : (reg : DomainReg) (v : ℕ) (past : Past) (name : DomainName) → (harts_in (Written name reg v ∷ past) ≡ harts_in past) × (sources_in (Written name reg v ∷ past) ≡ sources_in past)
 unfolding newest
 same_size reg v past name = (refl, refl)
@@ -145,13 +172,13 @@ msi_after : (same on msi : Bool) (d : DomainState) → same ≡ same_bool d.msi 
 msi_after true on msi d e = same_bools d.msi msi (sym e)
 msi_after false on msi d e = refl
 
-after_cfg : (same on msi : Bool) (d : DomainState) → let e = domaincfg_written same on msi d in (e.leaf ≡ d.leaf) × (e.harts ≡ d.harts) × (e.on ≡ on) × (e.genmsi ≡ unwrap_or (when (not same) 0) d.genmsi)
-after_cfg true on msi d = (refl, refl, refl, refl)
-after_cfg false on msi d = (refl, refl, refl, refl)
+after_cfg : (same on msi : Bool) (d : DomainState) → let e = domaincfg_written same on msi d in (e.leaf ≡ d.leaf) × (e.harts ≡ d.harts) × (e.on ≡ on) × (e.genmsi ≡ unwrap_or (when (not same) 0) d.genmsi) × (e.genmsi_waits ≡ cond same d.genmsi_waits false)
+after_cfg true on msi d = (refl, refl, refl, refl, refl)
+after_cfg false on msi d = (refl, refl, refl, refl, refl)
 
-after_genmsi : (b : Bool) (v : ℕ) (d : DomainState) → let e = cond b (record d { genmsi = v; sends = true }) d in (e.leaf ≡ d.leaf) × (e.harts ≡ d.harts) × (e.on ≡ d.on) × (e.msi ≡ d.msi) × (e.genmsi ≡ unwrap_or (when b v) d.genmsi)
-after_genmsi true v d = (refl, refl, refl, refl, refl)
-after_genmsi false v d = (refl, refl, refl, refl, refl)
+after_genmsi : (b : Bool) (v : ℕ) (d : DomainState) → let e = cond b (record d { genmsi = v; genmsi_waits = true }) d in (e.leaf ≡ d.leaf) × (e.harts ≡ d.harts) × (e.on ≡ d.on) × (e.msi ≡ d.msi) × (e.genmsi ≡ unwrap_or (when b v) d.genmsi) × (e.genmsi_waits ≡ cond b true d.genmsi_waits)
+after_genmsi true v d = (refl, refl, refl, refl, refl, refl)
+after_genmsi false v d = (refl, refl, refl, refl, refl, refl)
 
 cfg_stays : (v : ℕ) (past : Past) (name : DomainName) → is_on (Written name GenMsi v ∷ past) name ≡ is_on past name
 unfolding newest
@@ -162,10 +189,10 @@ unfolding newest
 msi_stays v past name = refl
 
 quiet_own : (reg : DomainReg) (v : ℕ) (past : Past) (name : DomainName) → is_plain reg ≡ true → IsQuiet (Written name reg v) past name
-unfolding newest
+unfolding newest genmsi_waits
 quiet_own DomainCfg v past name plain = cc
 quiet_own GenMsi v past name plain = cc
-quiet_own reg v past name plain = (refl, refl, refl, refl, refl)
+quiet_own reg v past name plain = (refl, refl, refl, refl, refl, refl)
 
 keeps_own : (reg : DomainReg) (v : ℕ) (d e : DomainState) (past : Past) (name : DomainName) → e ≡ with_sources (domain_after reg v d) e.sources → DomainStands d past name → Keeps d e (Written name reg v) past name
 keeps_own DomainCfg v d e past name rest stands =
@@ -181,6 +208,8 @@ keeps_own DomainCfg v d e past name rest stands =
       msi = ap (λ (x : DomainState). x.msi) rest ∙ msi_after (same_bool d.msi (is_by_msi cfg)) (enables cfg) (is_by_msi cfg) d refl ∙ ap is_by_msi (sym (cfg_written v past name));
       genmsi = ap (λ (x : DomainState). x.genmsi) rest ∙ after.3 ∙ ap (λ m. unwrap_or (when (not (same_bool m (is_by_msi cfg))) 0) d.genmsi) stands.msi
           ∙ ap (λ g. unwrap_or (when (not (same_bool (is_msi past name) (is_by_msi cfg))) 0) g) stands.genmsi ∙ sym (genmsi_at_cfg v past name);
+      genmsi_waits = ap (λ (x : DomainState). x.genmsi_waits) rest ∙ after.4 ∙ ap (λ m. cond (same_bool m (is_by_msi cfg)) d.genmsi_waits false) stands.msi
+          ∙ ap (λ b. cond (same_bool (is_msi past name) (is_by_msi cfg)) b false) stands.genmsi_waits ∙ waits_at_cfg v past name;
     }
 keeps_own GenMsi v d e past name rest stands =
     let after = after_genmsi d.msi (genmsi_kept d.harts v) d in
@@ -195,6 +224,7 @@ keeps_own GenMsi v d e past name rest stands =
       genmsi = ap (λ (x : DomainState). x.genmsi) rest ∙ after.4 ∙ ap (λ m. unwrap_or (when m (genmsi_kept d.harts v)) d.genmsi) stands.msi
           ∙ ap (λ n. unwrap_or (when (is_msi past name) (genmsi_kept n v)) d.genmsi) stands.harts ∙ ap (λ g. unwrap_or (when (is_msi past name) (genmsi_kept (harts_in past) v)) g) stands.genmsi
           ∙ sym (genmsi_written v past name);
+      genmsi_waits = ap (λ (x : DomainState). x.genmsi_waits) rest ∙ after.5 ∙ ap (λ m. cond m true d.genmsi_waits) stands.msi ∙ ap (λ b. cond (is_msi past name) true b) stands.genmsi_waits ∙ waits_written v past name;
     }
 keeps_own reg v d e past name rest stands = keeps_quiet (Written name reg v) d e past name (quiet_own reg v past name refl) rest stands
 
@@ -214,8 +244,8 @@ own-stands reg v d e past name each rest stands =
 -- ---- loads
 
 quiet_loaded : (e : DomainName) (reg : DomainReg) (past : Past) (name : DomainName) → IsQuiet (Loaded e reg) past name
-unfolding newest
-quiet_loaded e reg past name = (refl, refl, refl, refl, refl)
+unfolding newest genmsi_waits
+quiet_loaded e reg past name = (refl, refl, refl, refl, refl, refl)
 
 loaded-stands : (e : DomainName) (reg : DomainReg) (d : DomainState) (past : Past) (name : DomainName) → ((s : ℕ) → held (Loaded e reg ∷ past) name s ≡ held past name s) → DomainStands d past name → DomainStands d (Loaded e reg ∷ past) name
 loaded-stands e reg d past name same stands = still-stands (Loaded e reg) d past name (keeps_quiet (Loaded e reg) d d past name (quiet_loaded e reg past name) refl stands) (λ s low. same s) stands
@@ -252,6 +282,56 @@ claimed-stands hart o d e past name there shown each rest stands =
     ∙ ap (λ (p : Option Pair). cond (is_top p s) (with_deed (is_msi past name) Claimed (held past name s)) (held past name s)) shown
     ∙ sym (claimed hart past name s ∙ ap (λ (b : Bool). cond (b && is_top (top past name hart) s) (with_deed (is_msi past name) Claimed (held past name s)) (held past name s)) there)) stands
 
+-- ---- the sending of an MSI
+
+quiet_sent : (sender : Sender) (past : Past) (name : DomainName) → is_genmsi_of sender name ≡ false → IsQuiet (Sent sender) past name
+unfolding newest genmsi_waits
+quiet_sent (BySource e t) past name other = (refl, refl, refl, refl, refl, refl)
+quiet_sent (ByGenMsi Root) past Child other = (refl, refl, refl, refl, refl, refl)
+quiet_sent (ByGenMsi Child) past Root other = (refl, refl, refl, refl, refl, refl)
+quiet_sent (ByGenMsi Root) past Root other = cc
+quiet_sent (ByGenMsi Child) past Child other = cc
+
+-- of the other domain
+pub sent-stands_other : (sender : Sender) (d : DomainState) (past : Past) (name : DomainName) → is_genmsi_of sender name ≡ false → is_source_in sender name ≡ false → DomainStands d past name → DomainStands d (Sent sender ∷ past) name
+sent-stands_other sender d past name genmsi source stands =
+    still-stands (Sent sender) d past name (keeps_quiet (Sent sender) d d past name (quiet_sent sender past name genmsi) refl stands) (λ s low. sent_elsewhere sender past name s source) stands
+
+-- of a source
+pub forwarded-stands : (t : ℕ) (d e : DomainState) (past : Past) (name : DomainName) → is_msi past name ≡ true → EachSource d.sources e.sources (changed_at t (with_deed true Forwarded)) → e ≡ with_sources d e.sources
+    → DomainStands d past name → DomainStands e (Sent (BySource name t) ∷ past) name
+forwarded-stands t d e past name by_msi each rest stands =
+    stands-after (Sent (BySource name t)) d e past name (changed_at t (with_deed true Forwarded)) (keeps_quiet (Sent (BySource name t)) d e past name (quiet_sent (BySource name t) past name refl) rest stands) each
+    (λ s low. by_mode (nat_eq t s) (is_msi past name) (held past name s) by_msi ∙ sym (forwarded t past name s)) stands
+  where
+    by_mode : (b msi : Bool) (x : Held) → msi ≡ true → cond b (with_deed true Forwarded x) x ≡ cond (b && msi) (with_deed msi Forwarded x) x
+    by_mode true true x e = refl
+    by_mode true false x e = cc
+    by_mode false msi x e = refl
+
+-- of genmsi
+sent_genmsi : (past : Past) (name : DomainName) → (harts_in (Sent (ByGenMsi name) ∷ past) ≡ harts_in past) × (sources_in (Sent (ByGenMsi name) ∷ past) ≡ sources_in past) × (is_on (Sent (ByGenMsi name) ∷ past) name ≡ is_on past name)
+    × (is_msi (Sent (ByGenMsi name) ∷ past) name ≡ is_msi past name) × (genmsi_of (Sent (ByGenMsi name) ∷ past) name ≡ genmsi_of past name) × (genmsi_waits (Sent (ByGenMsi name) ∷ past) name ≡ false)
+unfolding newest genmsi_waits
+sent_genmsi past Root = (refl, refl, refl, refl, refl, refl)
+sent_genmsi past Child = (refl, refl, refl, refl, refl, refl)
+
+pub genmsi_sent-stands : (d e : DomainState) (past : Past) (name : DomainName) → e ≡ record d { genmsi_waits = false } → DomainStands d past name → DomainStands e (Sent (ByGenMsi name) ∷ past) name
+genmsi_sent-stands d e past name is stands =
+    let says = sent_genmsi past name in
+    let keeps : Keeps d (record d { genmsi_waits = false }) (Sent (ByGenMsi name)) past name = record {
+      leaf = refl;
+      harts = refl;
+      harts_in = says.0;
+      sources_in = says.1;
+      on = stands.on ∙ sym says.2;
+      msi = stands.msi ∙ sym says.3;
+      genmsi = stands.genmsi ∙ sym says.4;
+      genmsi_waits = sym says.5;
+    } in
+    subst (λ (x : DomainState). DomainStands x (Sent (ByGenMsi name) ∷ past) name) (sym is)
+    (stands-after (Sent (ByGenMsi name)) d (record d { genmsi_waits = false }) past name (λ s x. x) keeps (λ s. unchanged (slice_get d.sources s)) (λ s low. sym (sent_elsewhere (ByGenMsi name) past name s refl)) stands)
+
 -- ---- the beginning
 
 begun : (h n : ℕ) (name : DomainName) (s : ℕ) → new_held ≡ held (Made h n ∷ []) name s
@@ -263,9 +343,9 @@ new_size : (h n : ℕ) → (harts_in (Made h n ∷ []) ≡ h) × (sources_in (Ma
 unfolding newest
 new_size h n = (refl, refl)
 
-new_domaincfg : (h n : ℕ) (name : DomainName) → (is_on (Made h n ∷ []) name ≡ false) × (is_msi (Made h n ∷ []) name ≡ false) × (genmsi_of (Made h n ∷ []) name ≡ 0)
-unfolding newest
-new_domaincfg h n name = (refl, refl, refl)
+new_domaincfg : (h n : ℕ) (name : DomainName) → (is_on (Made h n ∷ []) name ≡ false) × (is_msi (Made h n ∷ []) name ≡ false) × (genmsi_of (Made h n ∷ []) name ≡ 0) × (genmsi_waits (Made h n ∷ []) name ≡ false)
+unfolding newest genmsi_waits
+new_domaincfg h n name = (refl, refl, refl, refl)
 
 pub new_domain-stands : (n h : ℕ) (leaf : Bool) (d : DomainState) (name : DomainName) → leaf ≡ is_domain name Child → IsNewDomain n h leaf d → DomainStands d (Made h n ∷ []) name
 new_domain-stands n h leaf d name is new =
@@ -276,6 +356,7 @@ new_domain-stands n h leaf d name is new =
       on = new.on ∙ sym cfg.0;
       msi = new.msi ∙ sym cfg.1;
       genmsi = new.genmsi ∙ sym cfg.2;
+      genmsi_waits = new.genmsi_waits ∙ sym cfg.3;
       count = new.count ∙ sym (ap suc (new_size h n).1);
       each = λ s x found. sym (get_or_from_slice_get d.sources s x x found) ∙ All-get_or (λ y. y ≡ new_held) d.sources s x (slice_get_within d.sources s x found) new.each ∙ begun h n name s;
     }

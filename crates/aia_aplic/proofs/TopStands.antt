@@ -1,7 +1,9 @@
 -- What a hart is shown by a domain that stands for the past.
 use Rattle.std.proofs.Common.{◌≡◌, ℕ, zero, suc, ◌+◌, ◌-◌, ◌<◌, ◌≤◌, Bool, true, false, cond, ◌&&◌, nat_eq, length, Option, None, refl, sym, ap, ◌∙◌, arith}
 use Rattle.std.proofs.lemmas.Option.{slice_get-get_or}
-use Rattle.aia_source.specs.Top.{Pair, lesser, least_pair, passes, priority_of, hart_of, pair_if}
+use Rattle.aia_word.specs.Top.{passes}
+use Rattle.aia_source.specs.Top.{Pair, lesser, least_pair, priority_of, hart_of, pair_if}
+use Rattle.aia_source.proofs.TopLemmas.{least_pair-none, least_pair-suc}
 use Rattle.aia_domain.specs.Held.{new_held, held_at}
 use Rattle.aia_domain.specs.Domain.{DomainState}
 use Rattle.aia_direct.specs.Control.{Control, candidate, candidate_at, top_shown}
@@ -10,19 +12,11 @@ use Rattle.aia_model.specs.SourceOf.{sources_in, owns, enabled, target, pending,
 use Rattle.aia_aplic.specs.Stands.{held, DomainStands}
 use Rattle.aia_aplic.proofs.Steps.{held-idle}
 
-least_none : (f g : ℕ → Option Pair) (from : ℕ) → least_pair f from 0 ≡ least_pair g from 0
-unfolding least_pair
-least_none f g from = refl
-
-least_more : (f : ℕ → Option Pair) (from count : ℕ) → least_pair f from (suc count) ≡ lesser (f from) (least_pair f (suc from) count)
-unfolding least_pair
-least_more f from count = refl
-
 least_same : (f g : ℕ → Option Pair) (from count : ℕ) → ((s : ℕ) → from ≤ s → s < from + count → f s ≡ g s) → least_pair f from count ≡ least_pair g from count
-least_same f g from zero same = least_none f g from
+least_same f g from zero same = least_pair-none f from ∙ sym (least_pair-none g from)
 least_same f g from (suc count) same =
-    least_more f from count ∙ ap (λ o. lesser o (least_pair f (suc from) count)) (same from (omega arith) (omega arith))
-    ∙ ap (lesser (g from)) (least_same f g (suc from) count (λ s a b. same s (omega arith) (omega arith))) ∙ sym (least_more g from count)
+    least_pair-suc f from count ∙ ap (λ o. lesser o (least_pair f (suc from) count)) (same from (omega arith) (omega arith))
+    ∙ ap (lesser (g from)) (least_same f g (suc from) count (λ s a b. same s (omega arith) (omega arith))) ∙ sym (least_pair-suc g from count)
 
 -- by the tests of either side, in their orders; what is not owned has no enable bit
 same_pair : (p e h q a : Bool) (t s : ℕ) → (a ≡ false → e ≡ false) → pair_if (p && e && h && q) t s ≡ cond (a && e && h && q) (pair_if p t s) None

@@ -19,7 +19,7 @@ use Rattle.aia_model.specs.Act.DomainName.{Root, Child}
 use Rattle.aia_model.specs.Act.Act.{Written}
 use Rattle.aia_model.specs.SourceOf.{harts_in, sources_in, is_register_of, wire_of, root_sourcecfg_of, is_delegated, child_told, is_msi, enable_word, target_after}
 use Rattle.aia_aplic.specs.Stands.{held}
-use Rattle.aia_aplic.proofs.Steps.{stepped, held-step, held-idle, IsIdle, step-nothing, step-deed, step-enable, step-disable, step-aim, said_nothing}
+use Rattle.aia_aplic.proofs.Steps.{stepped, held-step, held-idle, IsIdle, step-nothing, step-deed, step-enable, step-disable, step-aim, said_nothing, same_enable}
 
 touch-set : (b msi : Bool) (x : Held) → IsIdle x → stepped x.source.mode x.source.wire msi msi x.delegated None Nothing (cond b Set Untouched) x ≡ cond b (touched msi SetPending x) x
 touch-set true msi x idle = step-deed msi x Set idle
@@ -48,10 +48,6 @@ switched_says RisingEdge msi msi' r was = refl
 switched_says FallingEdge msi msi' r was = refl
 switched_says LevelHigh msi msi' r was = refl
 switched_says LevelLow msi msi' r was = refl
-
-same_enable : (b : Bool) (was : Bool) → (b ≡ false → was ≡ false) → settle (enable_word b b Nothing) was ≡ was
-same_enable true was idle = refl
-same_enable false was idle = sym (idle refl)
 
 switched_target : (b msi msi' : Bool) (was : ℕ) → same_bool msi msi' ≡ false → target_after b b msi msi' was ≡ cond b (first_target msi') 0
 switched_target true msi msi' was e = ap (λ s. cond s was (first_target msi')) e

@@ -1,13 +1,14 @@
 -- What a write makes of the delivery controls of harts.
-use Rattle.std.specs.Prelude.{◌≡◌, ℕ, Bool, true, false, nat_eq, if◌then◌else◌, List, get_or, slice_get, Option, Some, None, option_map}
+use Rattle.std.specs.Prelude.{ℕ, Bool, true, false, nat_eq, if◌then◌else◌, List, get_or, Option, Some, None}
 use Rattle.aia_regs.specs.declared.domain_registers.DomainReg.{DomainReg}
 use Rattle.aia_regs.specs.declared.domain_registers.DomainReg.TheVariants.{IDelivery, IForce, IThreshold, TopI, ClaimI}
+use Rattle.aia_domain.specs.Held.{EachAt}
 use Rattle.aia_domain.specs.Domain.{DomainState}
 use Rattle.aia_direct.specs.Control.{Control, new_control, control_written, control_claimed, top_shown}
 
 -- Each control of a list is changed by its hart.
 abbrev pub EachControl : List Control → List Control → (ℕ → Control → Control) → Type 0
-EachControl old new change = (hart : ℕ) → slice_get new hart ≡ option_map (change hart) (slice_get old hart)
+EachControl old new change = EachAt old new change
 
 -- Whether a register is one of a hart's control, and whether of this hart's.
 abbrev pub is_control : DomainReg → Bool

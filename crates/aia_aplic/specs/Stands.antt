@@ -5,7 +5,8 @@ use Rattle.aia_domain.specs.Domain.{DomainState, IsNewDomain}
 use Rattle.aia_direct.specs.Control.{Control, new_control}
 use Rattle.aia_model.specs.Act.{DomainName, Past, is_domain}
 use Rattle.aia_model.specs.Act.DomainName.{Root, Child}
-use Rattle.aia_model.specs.SourceOf.{harts_in, sources_in, wire_of, is_delegated, mode, is_on, is_msi, enabled, target, pending, genmsi_of, delivery_of, force_of, threshold_of}
+use Rattle.aia_model.specs.SourceOf.{harts_in, sources_in, wire_of, is_delegated, mode, is_on, is_msi, enabled, target, pending, genmsi_of, genmsi_waits, delivery_of, force_of, threshold_of}
+use Rattle.aia_model.specs.AddressOf.{AddressRegisters, new_addresses, addresses_of}
 
 -- What the past makes of a source in a domain. Profile: this project's way to speak of what is kept.
 abbrev pub held : Past → DomainName → ℕ → Held
@@ -23,6 +24,7 @@ pub record DomainStands (d : DomainState) (past : Past) (name : DomainName) : Ty
   pub on : d.on ≡ is_on past name
   pub msi : d.msi ≡ is_msi past name
   pub genmsi : d.genmsi ≡ genmsi_of past name
+  pub genmsi_waits : d.genmsi_waits ≡ genmsi_waits past name
   pub count : length d.sources ≡ suc (sources_in past)
   pub each : (s : ℕ) (x : Held) → slice_get d.sources s ≡ Some x → x ≡ held past name s
 
@@ -50,15 +52,17 @@ pub record IsNewSide (source_count hart_count : ℕ) (leaf : Bool) (a : SideStat
   pub count : length a.controls ≡ hart_count
   pub each : All (λ c. c ≡ new_control) a.controls
 
--- Both.
+-- Both, and the registers of MSI addresses.
 pub record AplicState : Type 0 where
   pub root : SideState
   pub child : SideState
+  pub addresses : AddressRegisters
 
--- Both keep what the past makes of them. Profile.
+-- All is kept as the past makes it. Profile.
 pub record AplicStands (a : AplicState) (past : Past) : Type 0 where
   pub root : SideStands a.root past Root
   pub child : SideStands a.child past Child
+  pub addresses : a.addresses ≡ addresses_of past
 
 -- The domain with a number: 0 the root domain, 1 its child. Profile.
 abbrev pub domain_name : ℕ → DomainName
@@ -69,3 +73,4 @@ domain_name (suc d) = Child
 pub record IsNewAplic (source_count hart_count : ℕ) (a : AplicState) : Type 0 where
   pub root : IsNewSide source_count hart_count false a.root
   pub child : IsNewSide source_count hart_count true a.child
+  pub addresses : a.addresses ≡ new_addresses

@@ -1,11 +1,14 @@
-//! The APLIC of a machine: its two interrupt domains, and the wired sources that they share.
+//! The APLIC of a machine: its two interrupt domains, the wired sources that they share, and the MSIs that it sends.
 #![tactic(auto)]
 
+mod addresses;
 mod aplic;
 mod controls;
 pub mod laws;
+mod sender;
 mod side;
 #[cfg(test)]
 mod tests;
 
+pub use aia_model::Msi;
 pub use aplic::Aplic;

@@ -1,15 +1,18 @@
 ghost use Rattle.aia_aplic.specs.Controls.{EachControl, control_after, control_at, claimed_at, hart_of_register};
 ghost use Rattle.aia_source.specs.Top.{topi_value};
-ghost use Rattle.aia_domain.specs.Held.{EachSource};
-ghost use Rattle.aia_domain.specs.Domain.{with_sources, source_after, domain_after};
+ghost use Rattle.aia_source.specs.Source.Deed.{Forwarded};
+ghost use Rattle.aia_domain.specs.Held.{EachSource, changed_at, with_deed, held_at};
+ghost use Rattle.aia_domain.specs.Domain.{with_sources, source_after, domain_after, is_ready};
 ghost use Rattle.aia_direct.specs.Control.{top_shown, claimed_top};
-ghost use Rattle.std.specs.Prelude.{Some, length, ◌≡◌, ◌<◌, ◌≤◌, ◌∷◌, ℕ, Bool, IfOk};
+ghost use Rattle.std.specs.Prelude.{Some, length, ◌≡◌, ◌<◌, ◌≤◌, ◌∷◌, ℕ, Bool, true, false, IfOk};
 ghost use Rattle.aia_source.specs.Registers.{delegates, root_sourcecfg};
 ghost use Rattle.aia_model.specs.Act.{DomainName, Past};
 ghost use Rattle.aia_model.specs.Act.DomainName.{Root, Child};
-ghost use Rattle.aia_model.specs.Act.Act.{Driven, Written, Loaded};
-ghost use Rattle.aia_model.specs.SourceOf.{harts_in, sources_in, register_read, is_signalled};
+ghost use Rattle.aia_model.specs.Act.Sender.{ByGenMsi, BySource};
+ghost use Rattle.aia_model.specs.Act.Act.{Driven, Written, Loaded, Sent};
+ghost use Rattle.aia_model.specs.SourceOf.{harts_in, sources_in, target, genmsi_of, own_read, is_signalled};
 ghost use Rattle.aia_aplic.specs.Stands.{SideStands, IsNewSide};
+ghost use Rattle.aia_aplic.specs.Sending.{IsLeastOf, waiting_in};
 
 use crate::controls::{claim, load_control, new_controls, signal_of, store_control, topi_of};
 use aia_direct::Idc;
@@ -92,7 +95,7 @@ impl Side {
 
     /// A register is read.
     pub(crate) fn load(&mut self, reg: DomainReg) -> u32
-        ensures reads { (past : Past) (name : DomainName) → SideStands self.old past name → result ≡ register_read past name reg }
+        ensures reads { (past : Past) (name : DomainName) → SideStands self.old past name → result ≡ own_read past name reg }
         ensures stands { (past : Past) (name : DomainName) → SideStands self.old past name → SideStands self.new (Loaded name reg ∷ past) name }
     {
         match reg {
@@ -107,7 +110,7 @@ impl Side {
 
     fn load_control(&self, hart: u32, reg: DomainReg) -> u32
         requires { hart_of_register reg ≡ Some hart }
-        ensures { (past : Past) (name : DomainName) → SideStands self.now past name → result ≡ register_read past name reg }
+        ensures { (past : Past) (name : DomainName) → SideStands self.now past name → result ≡ own_read past name reg }
     {
         if (hart as usize) < self.controls.len() {
             load_control(&self.controls, hart, reg)
@@ -117,7 +120,7 @@ impl Side {
     }
 
     fn topi(&self, hart: u32) -> u32
-        ensures { (past : Past) (name : DomainName) → SideStands self.now past name → result ≡ register_read past name (DomainReg.TopI hart) }
+        ensures { (past : Past) (name : DomainName) → SideStands self.now past name → result ≡ own_read past name (DomainReg.TopI hart) }
     {
         if (hart as usize) < self.controls.len() {
             topi_of(&self.controls, &self.domain, hart)
@@ -127,7 +130,7 @@ impl Side {
     }
 
     fn claimi(&mut self, hart: u32) -> u32
-        ensures reads { (past : Past) (name : DomainName) → SideStands self.old past name → result ≡ register_read past name (DomainReg.ClaimI hart) }
+        ensures reads { (past : Past) (name : DomainName) → SideStands self.old past name → result ≡ own_read past name (DomainReg.ClaimI hart) }
         ensures stands { (past : Past) (name : DomainName) → SideStands self.old past name → SideStands self.new (Loaded name (DomainReg.ClaimI hart) ∷ past) name }
     {
         if (hart as usize) < self.controls.len() {
@@ -147,9 +150,70 @@ impl Side {
         claim(&mut self.controls, &mut self.domain, hart)
     }
 
+    /// Whether an MSI that `genmsi` asked for waits.
+    pub(crate) fn genmsi_waits(&self) -> bool
+        ensures { result ≡ self.now.domain.genmsi_waits }
+    {
+        self.domain.genmsi_waits()
+    }
+
+    /// The least source that is to be forwarded.
+    pub(crate) fn least_ready(&self) -> Option<u32>
+        ensures { IsLeastOf (is_ready self.now.domain) result }
+    {
+        if !(self.domain.delivers_by_msi() && self.domain.is_enabled()) {
+            return None;
+        }
+        self.domain.ready().next()
+    }
+
+    /// The MSI that `genmsi` asked for is sent: what `genmsi` keeps.
+    pub(crate) fn send_genmsi(&mut self) -> u32
+        requires { self.old.domain.genmsi_waits ≡ true }
+        ensures value { (past : Past) (name : DomainName) → SideStands self.old past name → result ≡ genmsi_of past name }
+        ensures stands { (past : Past) (name : DomainName) → SideStands self.old past name → SideStands self.new (Sent (ByGenMsi name) ∷ past) name }
+        ensures fewer { waiting_in self.new < waiting_in self.old }
+    {
+        self.take_genmsi()
+    }
+
+    fn take_genmsi(&mut self) -> u32
+        requires { self.old.domain.genmsi_waits ≡ true }
+        ensures value { result ≡ self.old.domain.genmsi }
+        ensures domain { self.new.domain ≡ record self.old.domain { genmsi_waits = false } }
+        ensures controls { self.new.controls ≡ self.old.controls }
+    {
+        match self.domain.take_genmsi() {
+            Some(genmsi) => genmsi,
+            None => unreachable!(),
+        }
+    }
+
+    /// A source is forwarded: its target.
+    pub(crate) fn forward(&mut self, s: u32) -> u32
+        requires { is_ready self.old.domain s ≡ true }
+        ensures value { (past : Past) (name : DomainName) → SideStands self.old past name → result ≡ target past name s }
+        ensures stands { (past : Past) (name : DomainName) → SideStands self.old past name → SideStands self.new (Sent (BySource name s) ∷ past) name }
+        ensures fewer { waiting_in self.new < waiting_in self.old }
+    {
+        self.forwarded(s)
+    }
+
+    fn forwarded(&mut self, s: u32) -> u32
+        ensures value { result ≡ (held_at self.old.domain.sources s).target }
+        ensures sources { EachSource self.old.domain.sources self.new.domain.sources (changed_at s (with_deed true Forwarded)) }
+        ensures domain { self.new.domain ≡ with_sources self.old.domain self.new.domain.sources }
+        ensures controls { self.new.controls ≡ self.old.controls }
+    {
+        let target = self.domain.target(s);
+        self.domain.forwarded(s);
+        target
+    }
+
     /// Whether a hart is signalled; one that isn't there is not.
     pub(crate) fn signal(&self, hart: u32) -> bool
-        ensures { (past : Past) (name : DomainName) → SideStands self.now past name → hart < harts_in past → result ≡ is_signalled past name hart }
+        ensures signal { (past : Past) (name : DomainName) → SideStands self.now past name → hart < harts_in past → result ≡ is_signalled past name hart }
+        ensures away { (past : Past) (name : DomainName) → SideStands self.now past name → harts_in past ≤ hart → result ≡ false }
     {
         (hart as usize) < self.controls.len() && signal_of(&self.controls, &self.domain, hart)
     }

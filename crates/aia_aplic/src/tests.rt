@@ -1,4 +1,4 @@
-use crate::Aplic;
+use crate::{Aplic, Msi};
 use std::test::Fail;
 
 #[test]
@@ -59,5 +59,57 @@ fn a_child_signals_the_hart_that_a_source_is_aimed_at(rt: HostRuntime) -> Result
     aplic.store(1, 0x0000, 0x100);
     aplic.store(1, 0x4020, 1);
     assert!(rt; aplic.pin(1, 1) && !aplic.pin(1, 0) && !aplic.pin(0, 1));
+    Ok(())
+}
+
+/// What the APLIC of one hart is set up with, each at a register of the child domain or not: both domains deliver by MSIs, source 1 is the root domain's,
+/// source 2 is delegated; both are detached, enabled, and ask for identities of their own. IE is off in the root domain at the end.
+const SETUP: [(bool, u32, u32); 12] = [
+    (false, 0x1bc0, 0x24000),
+    (false, 0x1bc8, 0x28000),
+    (false, 0x0000, 0x104),
+    (true, 0x0000, 0x104),
+    (false, 0x0004, 1),
+    (false, 0x0008, 0x400),
+    (true, 0x0008, 1),
+    (false, 0x3004, 5),
+    (true, 0x3008, 6),
+    (false, 0x1e00, 0b10),
+    (true, 0x1e00, 0b100),
+    (false, 0x0000, 0x004),
+];
+
+/// Sources 2 and 1 are asked for, of which 1 waits for IE, and both `genmsi`, which don't, the child's first; then IE is turned on.
+const ASKED: [(bool, u32, u32); 5] = [
+    (true, 0x1cdc, 2),
+    (false, 0x1cdc, 1),
+    (true, 0x3000, 7),
+    (false, 0x3000, 8),
+    (false, 0x0000, 0x104),
+];
+
+#[test]
+fn msis_are_sent_in_order_until_none_waits(rt: HostRuntime) -> Result<(), Fail> {
+    let mut aplic = Aplic::new(rt.alloc(), 1, 8)?;
+    for (is_child, offset, value) in SETUP {
+        aplic.store(u32::from(is_child), offset, value);
+        assert_eq!(rt; aplic.next_msi(), None, "at {offset:x}");
+    }
+    for (is_child, offset, value) in ASKED {
+        aplic.store(u32::from(is_child), offset, value);
+    }
+    for (address, value) in [
+        (0x2400_0000, 8),
+        (0x2800_0000, 7),
+        (0x2400_0000, 5),
+        (0x2800_0000, 6),
+    ] {
+        assert_eq!(rt; aplic.next_msi(), Some(Msi { address, value }));
+    }
+    assert_eq!(rt; aplic.next_msi(), None);
+    assert_eq!(rt; aplic.load(0, 0x1c00), 0);
+    assert_eq!(rt; aplic.load(1, 0x1c00), 0);
+    assert_eq!(rt; aplic.load(0, 0x1bc0), 0x24000);
+    assert_eq!(rt; aplic.load(1, 0x1bc0), 0);
     Ok(())
 }

@@ -1,0 +1,64 @@
+-- What the next MSI is, and what is left of those that wait. Profile: this project's way to speak of it.
+use Rattle.std.specs.Prelude.{◌≡◌, ℕ, ◌+◌, ◌<◌, ◌≤◌, Bool, true, false, count_by, if◌then◌else◌, List, [], ◌∷◌, Option, Some, None}
+use Rattle.aia_domain.specs.Held.{waits}
+use Rattle.aia_domain.specs.Domain.{is_ready}
+use Rattle.aia_model.specs.declared.msi.Msi.{Msi}
+use Rattle.aia_model.specs.Act.{Past}
+use Rattle.aia_model.specs.Act.{Sender}
+use Rattle.aia_model.specs.Act.DomainName.{Root, Child}
+use Rattle.aia_model.specs.Act.Sender.{ByGenMsi, BySource}
+use Rattle.aia_model.specs.Act.Act.{Sent}
+use Rattle.aia_model.specs.Sent.{senders, msi_of}
+use Rattle.aia_aplic.specs.Stands.{SideState, AplicState, AplicStands}
+use Rattle.aia_aplic.specs.declared.sender.Waiting.{Waiting}
+use Rattle.aia_aplic.specs.declared.sender.Waiting.TheVariants.{RootGenMsi, ChildGenMsi, RootSource, ChildSource}
+
+-- The least number that passes a test; None where none does.
+abbrev pub IsLeastOf : (ℕ → Bool) → Option ℕ → Type 0
+IsLeastOf test None = (s : ℕ) → test s ≡ false
+IsLeastOf test (Some s) = (test s ≡ true) × ((t : ℕ) → t < s → test t ≡ false)
+
+-- The sender of what waits.
+abbrev pub sender_of : Waiting → Sender
+sender_of RootGenMsi = ByGenMsi Root
+sender_of ChildGenMsi = ByGenMsi Child
+sender_of (RootSource s) = BySource Root s
+sender_of (ChildSource s) = BySource Child s
+
+-- It is the least source that is to be forwarded, of two domains, in which sources p and q are; at the same number the root domain's; or none is.
+abbrev pub IsFirstSource : (ℕ → Bool) → (ℕ → Bool) → Option Waiting → Type 0
+IsFirstSource p q None = ((s : ℕ) → p s ≡ false) × ((s : ℕ) → q s ≡ false)
+IsFirstSource p q (Some (RootSource s)) = (p s ≡ true) × ((t : ℕ) → t < s → p t ≡ false) × ((t : ℕ) → t < s → q t ≡ false)
+IsFirstSource p q (Some (ChildSource s)) = (q s ≡ true) × ((t : ℕ) → t ≤ s → p t ≡ false) × ((t : ℕ) → t < s → q t ≡ false)
+IsFirstSource p q (Some w) = ⊥
+
+-- It is the first of all that waits, or nothing waits.
+abbrev pub IsFirst : Option Waiting → Past → Type 0
+IsFirst None past = senders past ≡ []
+IsFirst (Some w) past = (later : List Sender) × (senders past ≡ sender_of w ∷ later)
+
+-- Whether it waits in what is kept.
+abbrev pub does_wait : AplicState → Waiting → Bool
+does_wait a RootGenMsi = a.root.domain.genmsi_waits
+does_wait a ChildGenMsi = a.child.domain.genmsi_waits
+does_wait a (RootSource s) = is_ready a.root.domain s
+does_wait a (ChildSource s) = is_ready a.child.domain s
+
+-- How many MSIs a domain may have to send: what was asked for by genmsi, and one for each source that is pending and enabled.
+abbrev pub waiting_in : SideState → ℕ
+waiting_in a = (if a.domain.genmsi_waits then 1 else 0) + count_by waits a.domain.sources
+
+abbrev pub waiting : AplicState → ℕ
+waiting a = waiting_in a.root + waiting_in a.child
+
+-- An MSI is that of the first sender, which has sent it now; or nothing waits, and nothing is changed.
+pub record IsSent (new : AplicState) (given : Msi) (past : Past) : Type 0 where
+  pub sender : Sender
+  pub later : List Sender
+  pub first : senders past ≡ sender ∷ later
+  pub msi : given ≡ msi_of past sender
+  pub stands : AplicStands new (Sent sender ∷ past)
+
+abbrev pub Next : AplicState → Option Msi → Past → Type 0
+Next new None past = (senders past ≡ []) × AplicStands new past
+Next new (Some msi) past = IsSent new msi past
