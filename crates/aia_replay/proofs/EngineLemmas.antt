@@ -11,15 +11,22 @@ use Rattle.aia_model.specs.Event.{History}
 use Rattle.aia_model.specs.Event.Event.{Accepted}
 use Rattle.aia_model.specs.FileOf.{FileName}
 use Rattle.aia_model.specs.Refusal.{refusal, is_machine_size}
-use Rattle.aia_model.specs.Answer.{answer, after}
+use Rattle.aia_model.specs.Answer.{answer, after, history_after}
 use Rattle.aia_model.proofs.AnswerLemmas.{answered, after_by, machine_refusal, no_machine_refusal}
 use Rattle.aia_model.proofs.FileLemmas.{file_step, select_step}
 use Rattle.aia_aplic.proofs.SideLemmas.{new-stands}
+use Rattle.aia_aplic.proofs.SendingLemmas.{none_begun}
+use Rattle.aia_model.specs.Act.{Past}
+use Rattle.aia_model.specs.Act.Act.{Made}
 use Rattle.aia_replay.specs.declared.machine.Machine.{Machine}
 use Rattle.aia_replay.specs.declared.engine.Engine.{Engine}
-use Rattle.aia_imsic.specs.Files.{IsThere}
+use Rattle.aia_file.specs.InterruptFile.{SameFile, empty_file}
+use Rattle.aia_file.specs.FileState.{shown}
+use Rattle.aia_imsic.specs.declared.spot.Spot.TheVariants as spots
+use Rattle.aia_imsic.specs.Files.{IsThere, file_at}
 use Rattle.aia_replay.specs.Places.{spot_of, select_place}
-use Rattle.aia_replay.specs.Stands.{FileStands, IsNewMachine, MachineStands, StandsFor, Serves}
+use Rattle.aia_replay.specs.Stands.{FileStands, IsNewMachine, MachineHolds, MachineStands, StandsFor, Serves}
+use Rattle.aia_replay.proofs.DeliveryLemmas.{after_delivery, all_sent}
 
 -- ---- with no machine
 
@@ -69,17 +76,20 @@ pub machine_made : (old new : Engine) (m : Machine) (harts guests n sources : �
 machine_made old new m harts guests n sources was now size fresh =
     let line = MachineLine harts guests n sources in
     let accepted : refusal [] line ≡ None = machine_refusal [] harts guests n sources ∙ cond-false _ _ _ (ap not size) in
-    let stands : MachineStands m (Accepted line ∷ []) = record {
+    let past : Past = Made harts sources ∷ [] in
+    let holds : MachineHolds m (Accepted line ∷ []) past = record {
       there = refl;
       harts = fresh.harts;
       guests = fresh.guests;
       few_harts = fresh.few_harts;
       few_guests = fresh.few_guests;
       each = λ f inside. new_file m harts guests n sources f fresh inside;
+      unreached = λ hart g inside. let new = fresh.files.each (spots.GuestFile hart g) inside in subst (λ k. SameFile (shown (file_at m.imsic (spots.GuestFile hart g))) (empty_file k)) (sym new.n) new;
       aplic = new-stands sources harts m.aplic fresh.aplic;
     } in
+    let stands : MachineStands m (history_after None [] line) = after_delivery m [] line None (all_sent m (Accepted line ∷ []) past (none_begun harts sources) holds) in
     record {
       answers = λ h given. sym (ap (λ x. answer x line) (empty_history old h was given) ∙ answered [] line None accepted);
       stands = λ h given. subst (StandsFor new) (sym (ap (λ x. after x line) (empty_history old h was given) ∙ after_by [] line None accepted))
-          (subst (λ (o : Option Machine). MatchOption o ((Accepted line ∷ []) ≡ []) (λ m. MachineStands m (Accepted line ∷ []))) (sym now) stands);
+          (subst (λ (o : Option Machine). MatchOption o (history_after None [] line ≡ []) (λ m. MachineStands m (history_after None [] line))) (sym now) stands);
     }

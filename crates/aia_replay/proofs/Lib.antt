@@ -4,4 +4,5 @@ pub mod CutLemmas
 pub mod StreamLemmas
 pub mod ProgramLemmas
 pub mod AccessLemmas
+pub mod DeliveryLemmas
 pub mod EngineLemmas

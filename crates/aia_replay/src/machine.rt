@@ -1,4 +1,4 @@
-ghost use Rattle.std.specs.Prelude.{◌≡◌, ℕ, ◌+◌, ◌*◌, ◌<◌, ◌≤◌, Bool, true, false, length, slice_index, slice_set, IsTrue, is_some, IfOk, OnErr, IfSome, IfNone, OnSome, MatchResult, if◌then◌else◌};
+ghost use Rattle.std.specs.Prelude.{◌≡◌, ◌∷◌, ℕ, ◌+◌, ◌*◌, ◌<◌, ◌≤◌, Bool, true, false, length, slice_index, slice_set, IsTrue, is_some, IfOk, OnErr, IfSome, IfNone, OnSome, MatchResult, if◌then◌else◌};
 ghost use Rattle.aia_regs.specs.FileRegisters.{select_after};
 ghost use Rattle.aia_regs.specs.AddressMap.{is_in_memory};
 ghost use Rattle.std.specs.Result.{result_err};
@@ -12,12 +12,14 @@ ghost use Rattle.aia_model.specs.FileOf.{Accesses, file_after};
 ghost use Rattle.aia_model.specs.Refusal.{raises_illegal, is_machine_size, place_refusal};
 ghost use Rattle.aia_model.specs.Answer.{csr_shown};
 ghost use Rattle.aia_replay.specs.Places.{IsHost, FileDone, csr_line, name_of, spot_of, select_place};
-ghost use Rattle.aia_replay.specs.Stands.{HasDone, MachineServes, IsNewMachine, IsReached, deed_of};
+ghost use Rattle.aia_replay.specs.Stands.{HasDone, MachineHolds, MachineTakes, MachineServes, Delivers, SoFar, IsNewMachine, IsReached, deed_of};
 ghost use Rattle.std.specs.Option.{option_map};
-ghost use Rattle.aia_model.specs.Act.{domain_at};
+ghost use Rattle.aia_model.specs.Act.{Past, domain_at};
+ghost use Rattle.aia_model.specs.Event.{History};
+ghost use Rattle.aia_model.specs.Event.Event.{Delivered};
 ghost use Rattle.aia_aplic.specs.Stands.{domain_name};
 
-use aia_aplic::Aplic;
+use aia_aplic::{Aplic, Msi};
 use aia_csr::{Access, Level, decide};
 use aia_file::File;
 use aia_imsic::{Imsic, Spot};
@@ -75,10 +77,20 @@ impl Machine {
         }))
     }
 
-    /// Answers a line after the one that made this machine.
+    /// Answers a line after the one that made this machine. All MSIs that wait then are sent and land before it returns.
     pub fn line(&mut self, line: &Line) -> Answer
         requires { IsListed line.now }
         ensures { MachineServes self.old self.new line.now result }
+    {
+        let answer = self.serve(line);
+        self.deliver();
+        answer
+    }
+
+    /// Answers it, and does what it does itself.
+    fn serve(&mut self, line: &Line) -> Answer
+        requires { IsListed line.now }
+        ensures { MachineTakes self.old self.new line.now result }
     {
         match *line {
             Line::Machine { .. } => Answer::Again,
@@ -91,8 +103,33 @@ impl Machine {
         }
     }
 
+    /// All MSIs that wait are sent, and each is delivered.
+    fn deliver(&mut self)
+        ensures { Delivers self.old self.new }
+    {
+        while let Some(msi) = self.aplic.next_msi() {
+            self.land(msi);
+        }
+    }
+
+    /// An MSI lands in the file in whose page its address lies, a machine-level or a supervisor file that is there; elsewhere it is dropped (our
+    /// profile).
+    fn land(&mut self, msi: Msi)
+        ensures holds { (h : History) (past : Past) → MachineHolds self.old h past → MachineHolds self.new (Delivered msi.address msi.value ∷ h) past }
+        ensures aplic { self.new.aplic ≡ self.old.aplic }
+    {
+        let spot = self.imsic.locate(msi.address);
+        match spot {
+            Spot::MachineFile(_) | Spot::HostFile(_) => {
+                let offset = (msi.address % PAGE) as u32;
+                self.imsic.store(spot, offset, msi.value);
+            }
+            Spot::GuestFile(..) | Spot::Nowhere => {}
+        }
+    }
+
     fn wire(&mut self, source: u64, level: bool) -> Answer
-        ensures { MachineServes self.old self.new (Line.Wire source level) result }
+        ensures { MachineTakes self.old self.new (Line.Wire source level) result }
     {
         if source == 0 {
             return Answer::Range;
@@ -105,7 +142,7 @@ impl Machine {
     }
 
     fn load(&mut self, addr: u64) -> Answer
-        ensures { MachineServes self.old self.new (Line.Load addr) result }
+        ensures { MachineTakes self.old self.new (Line.Load addr) result }
     {
         match self.reach(addr) {
             Ok(Place::File(_)) => Answer::Narrow(0),
@@ -117,7 +154,7 @@ impl Machine {
     }
 
     fn store(&mut self, addr: u64, value: u32) -> Answer
-        ensures { MachineServes self.old self.new (Line.Store addr value) result }
+        ensures { MachineTakes self.old self.new (Line.Store addr value) result }
     {
         match self.reach(addr) {
             Ok(Place::File(spot)) => {
@@ -156,7 +193,7 @@ impl Machine {
     fn access(&mut self, level: Level, hart: u64, csr: Csr, op: Op) -> Answer
         requires listed { IsInTable level csr }
         requires host { IsHost level }
-        ensures { MachineServes self.old self.new (csr_line level hart csr op) result }
+        ensures { MachineTakes self.old self.new (csr_line level hart csr op) result }
     {
         if hart >= u64::from(self.imsic.harts()) {
             return Answer::Range;
@@ -168,7 +205,7 @@ impl Machine {
     }
 
     fn pins(&self, hart: u64) -> Answer
-        ensures { MachineServes self.now self.now (Line.Pins hart) result }
+        ensures { MachineTakes self.now self.now (Line.Pins hart) result }
     {
         if u64::from(self.imsic.harts()) <= hart {
             return Answer::Range;
@@ -179,7 +216,7 @@ impl Machine {
     /// The signals of a hart that is there.
     fn pins_there(&self, hart: u32) -> Answer
         requires there { hart < self.now.imsic.harts }
-        ensures { MachineServes self.now self.now (Line.Pins hart) result }
+        ensures { MachineTakes self.now self.now (Line.Pins hart) result }
     {
         Answer::Pins(
             self.aplic.pin(0, hart),
