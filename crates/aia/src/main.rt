@@ -1,11 +1,13 @@
 //! `aia replay`: reads a script from standard input and prints the answers of its lines.
 #![tactic(auto)]
 
-ghost use Rattle.std.specs.Prelude.{◌≡◌};
+ghost use Rattle.std.specs.Prelude.{◌≡◌, ◌≢◌};
+ghost use Rattle.std.specs.IoError.{error_kind};
 
 use aia_io::{StdSink, StdSource};
 use aia_replay::{Status, run};
 use std::alloc::AllocError;
+use std::io::ErrorKind;
 use std::process::ExitCode;
 use std::{env, io};
 
@@ -24,8 +26,11 @@ fn arguments(rt: &HostRuntime) -> io::Result<Vec<String>> {
 }
 
 /// What words that can't be read mean: they are no text, or there is no memory for them.
-fn refusal(error: &io::Error) -> Status {
-    if error.kind() == io::ErrorKind::OutOfMemory {
+fn refusal(error: &io::Error) -> Status
+    ensures memory { error_kind error.now ≡ ErrorKind.OutOfMemory → result ≡ Status.Memory }
+    ensures usage { error_kind error.now ≢ ErrorKind.OutOfMemory → result ≡ Status.Usage }
+{
+    if error.kind() == ErrorKind::OutOfMemory {
         Status::Memory
     } else {
         Status::Usage
