@@ -2,6 +2,7 @@
 #![tactic(auto)]
 
 pub mod delivery_rows;
+pub mod msi_rows;
 pub mod register_rows;
 pub mod rows;
 pub mod source_rows;

@@ -3,7 +3,7 @@
 use crate::rows::Row;
 
 /// All rows of a domain's registers.
-pub const REGISTER_ROWS: [Row; 11] = [
+pub const REGISTER_ROWS: [Row; 10] = [
     Row {
         script: RESERVED_MODES_AND_CHILD_INDEXES_SCRIPT,
         answers: RESERVED_MODES_AND_CHILD_INDEXES_ANSWERS,
@@ -29,12 +29,8 @@ pub const REGISTER_ROWS: [Row; 11] = [
         answers: BITS_OF_NO_SOURCE_ANSWERS,
     },
     Row {
-        script: DOMAINCFG_KEEPS_THE_ENABLE_SCRIPT,
-        answers: DOMAINCFG_KEEPS_THE_ENABLE_ANSWERS,
-    },
-    Row {
-        script: DELIVERY_READS_ZERO_SCRIPT,
-        answers: DELIVERY_READS_ZERO_ANSWERS,
+        script: DOMAINCFG_KEEPS_ENABLE_AND_DELIVERY_SCRIPT,
+        answers: DOMAINCFG_KEEPS_ENABLE_AND_DELIVERY_ANSWERS,
     },
     Row {
         script: NOTHING_AT_OTHER_OFFSETS_SCRIPT,
@@ -482,8 +478,8 @@ pub const BITS_OF_NO_SOURCE_ANSWERS: &str = "\
     ok\n\
     0x00000100\n";
 
-/// domaincfg keeps IE, bit 8, each domain its own; bits 31 to 24 read 0x80, and all others 0.
-pub const DOMAINCFG_KEEPS_THE_ENABLE_SCRIPT: &str = "\
+/// domaincfg keeps IE, bit 8, and DM, bit 2, each domain its own; bits 31 to 24 read 0x80, and all others 0.
+pub const DOMAINCFG_KEEPS_ENABLE_AND_DELIVERY_SCRIPT: &str = "\
     machine 1 0 63 8\n\
     ld 0x0c000000\n\
     st 0x0c000000 0xfffffffb\n\
@@ -495,10 +491,15 @@ pub const DOMAINCFG_KEEPS_THE_ENABLE_SCRIPT: &str = "\
     ld 0x0c000000\n\
     ld 0x0c008000\n\
     st 0x0c008000 1\n\
+    ld 0x0c008000\n\
+    st 0x0c008000 0xffffffff\n\
+    ld 0x0c008000\n\
+    ld 0x0c000000\n\
+    st 0x0c008000 0xfffffeff\n\
     ld 0x0c008000\n";
 
-/// What [`DOMAINCFG_KEEPS_THE_ENABLE_SCRIPT`] prints.
-pub const DOMAINCFG_KEEPS_THE_ENABLE_ANSWERS: &str = "\
+/// What [`DOMAINCFG_KEEPS_ENABLE_AND_DELIVERY_SCRIPT`] prints.
+pub const DOMAINCFG_KEEPS_ENABLE_AND_DELIVERY_ANSWERS: &str = "\
     ok\n\
     0x80000000\n\
     ok\n\
@@ -510,40 +511,12 @@ pub const DOMAINCFG_KEEPS_THE_ENABLE_ANSWERS: &str = "\
     0x80000000\n\
     0x80000100\n\
     ok\n\
-    0x80000000\n";
-
-/// The registers of the delivery of MSIs, which this model hasn't got yet: DM of domaincfg, genmsi, and the addresses of MSIs. They
-/// read 0 and keep nothing.
-pub const DELIVERY_READS_ZERO_SCRIPT: &str = "\
-    machine 1 0 63 8\n\
-    st 0x0c000000 4\n\
-    ld 0x0c000000\n\
-    st 0x0c003000 1\n\
-    ld 0x0c003000\n\
-    st 0x0c001bc0 1\n\
-    ld 0x0c001bc0\n\
-    st 0x0c001bc4 0x80000001\n\
-    ld 0x0c001bc4\n\
-    st 0x0c001bc8 1\n\
-    ld 0x0c001bc8\n\
-    st 0x0c001bcc 1\n\
-    ld 0x0c001bcc\n";
-
-/// What [`DELIVERY_READS_ZERO_SCRIPT`] prints.
-pub const DELIVERY_READS_ZERO_ANSWERS: &str = "\
-    ok\n\
-    ok\n\
     0x80000000\n\
     ok\n\
-    0x00000000\n\
+    0x80000104\n\
+    0x80000000\n\
     ok\n\
-    0x00000000\n\
-    ok\n\
-    0x00000000\n\
-    ok\n\
-    0x00000000\n\
-    ok\n\
-    0x00000000\n";
+    0x80000004\n";
 
 /// Offsets of a domain's control region where no register is: they read 0 and keep nothing.
 pub const NOTHING_AT_OTHER_OFFSETS_SCRIPT: &str = "\

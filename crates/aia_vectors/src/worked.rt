@@ -1,56 +1,116 @@
 //! Worked scripts as theorems: what the model makes of each script is, byte for byte, what it must print. Each function does
 //! nothing, and its clause is what was proved, by computing.
-#![tactic(auto, unfolding(aia_word::specs::Sets::word_of, aia_word::specs::Sets::least_of, aia_model::specs::Reading::number_at, aia_model::specs::Reading::n32_at, aia_model::specs::Reading::bit_at, aia_model::specs::Reading::machine_at, aia_model::specs::Reading::wire_at, aia_model::specs::Reading::store_at, aia_model::specs::Reading::load_at, aia_model::specs::Reading::csr_at, aia_model::specs::Reading::read_at, aia_model::specs::Reading::write_at, aia_model::specs::Reading::instruction_at, aia_model::specs::Reading::machine_csr_at, aia_model::specs::Reading::host_csr_at, aia_model::specs::Reading::pins_at, aia_model::specs::Reading::line_at, aia_model::specs::Reading::reading, aia_model::specs::FileOf::select_of, aia_model::specs::FileOf::file_of, aia_regs::specs::DomainRegisters::domain_register_of, aia_model::specs::Act::newest, aia_model::specs::SourceOf::wire_of, aia_model::specs::SourceOf::enabled, aia_model::specs::SourceOf::target, aia_model::specs::SourceOf::pending, aia_source::specs::Top::least_pair, aia_model::specs::Answer::answer, aia_model::specs::Answer::after, aia_model::specs::AnswerText::hex_digits, aia_model::specs::AnswerText::answer_text))]
+#![tactic(auto, unfolding(aia_word::specs::Sets::word_of, aia_word::specs::Sets::least_of, aia_model::specs::Reading::number_at, aia_model::specs::Reading::n32_at, aia_model::specs::Reading::bit_at, aia_model::specs::Reading::machine_at, aia_model::specs::Reading::wire_at, aia_model::specs::Reading::store_at, aia_model::specs::Reading::load_at, aia_model::specs::Reading::csr_at, aia_model::specs::Reading::read_at, aia_model::specs::Reading::write_at, aia_model::specs::Reading::instruction_at, aia_model::specs::Reading::machine_csr_at, aia_model::specs::Reading::host_csr_at, aia_model::specs::Reading::pins_at, aia_model::specs::Reading::line_at, aia_model::specs::Reading::reading, aia_model::specs::FileOf::select_of, aia_model::specs::FileOf::file_of, aia_regs::specs::DomainRegisters::domain_register_of, aia_model::specs::Act::newest, aia_model::specs::SourceOf::wire_of, aia_model::specs::SourceOf::enabled, aia_model::specs::SourceOf::target, aia_model::specs::SourceOf::pending, aia_source::specs::Top::least_pair, aia_model::specs::AddressOf::addresses_of, aia_model::specs::SourceOf::genmsi_waits, aia_model::specs::Sent::ready_sources, aia_model::specs::Answer::answer, aia_model::specs::Answer::after, aia_model::specs::AnswerText::hex_digits, aia_model::specs::AnswerText::answer_text))]
 
 ghost use Rattle.std.specs.Prelude.{◌≡◌};
 ghost use Rattle.aia_model.specs.Script.{answers};
 
-use crate::delivery_rows::{
-    CHILD_SHOWS_A_DELEGATED_SOURCE_ANSWERS, CHILD_SHOWS_A_DELEGATED_SOURCE_SCRIPT,
-    CLAIMS_OF_LEVEL_AND_EDGE_ANSWERS, CLAIMS_OF_LEVEL_AND_EDGE_SCRIPT,
-    CONTROLS_KEEP_THEIR_FIELDS_ANSWERS, CONTROLS_KEEP_THEIR_FIELDS_SCRIPT,
-    DIRECT_DELIVERY_EXAMPLE_ANSWERS, DIRECT_DELIVERY_EXAMPLE_SCRIPT,
-    ENABLES_AND_TARGETS_OF_MODES_ANSWERS, ENABLES_AND_TARGETS_OF_MODES_SCRIPT,
-    FOUR_PINS_OF_A_HART_ANSWERS, FOUR_PINS_OF_A_HART_SCRIPT,
-    LOWER_PRIORITY_NUMBERS_COME_FIRST_ANSWERS, LOWER_PRIORITY_NUMBERS_COME_FIRST_SCRIPT,
-    MANY_SOURCES_AND_FORCE_ANSWERS, MANY_SOURCES_AND_FORCE_SCRIPT, TIES_AND_THRESHOLDS_ANSWERS,
-    TIES_AND_THRESHOLDS_SCRIPT,
-};
-use crate::register_rows::{
-    ADDRESSES_OF_DOMAINS_ANSWERS, ADDRESSES_OF_DOMAINS_SCRIPT, BITS_OF_NO_SOURCE_ANSWERS,
-    BITS_OF_NO_SOURCE_SCRIPT, DELIVERY_READS_ZERO_ANSWERS, DELIVERY_READS_ZERO_SCRIPT,
-    DOMAINCFG_KEEPS_THE_ENABLE_ANSWERS, DOMAINCFG_KEEPS_THE_ENABLE_SCRIPT,
-    LAST_OF_ALL_SOURCES_ANSWERS, LAST_OF_ALL_SOURCES_SCRIPT, NOTHING_AT_OTHER_OFFSETS_ANSWERS,
-    NOTHING_AT_OTHER_OFFSETS_SCRIPT, RESERVED_MODES_AND_CHILD_INDEXES_ANSWERS,
-    RESERVED_MODES_AND_CHILD_INDEXES_SCRIPT, SOURCES_BY_NUMBER_ANSWERS, SOURCES_BY_NUMBER_SCRIPT,
-    TARGETS_OF_HARTS_AND_PRIORITIES_ANSWERS, TARGETS_OF_HARTS_AND_PRIORITIES_SCRIPT,
-    WIRES_ARE_REFUSED_ANSWERS, WIRES_ARE_REFUSED_SCRIPT, WORDS_OF_SOURCES_ANSWERS,
-    WORDS_OF_SOURCES_SCRIPT,
-};
-use crate::rows::{
-    CLAIM_EXAMPLE_ANSWERS, CLAIM_EXAMPLE_SCRIPT, FILES_AND_BYTE_ORDERS_EXAMPLE_ANSWERS,
-    FILES_AND_BYTE_ORDERS_EXAMPLE_SCRIPT, LONGEST_TEXTS_ANSWERS, LONGEST_TEXTS_SCRIPT,
-    MACHINE_IS_REFUSED_ANSWERS, MACHINE_IS_REFUSED_SCRIPT, MACHINE_LEVEL_SETS_AND_CLEARS_ANSWERS,
-    MACHINE_LEVEL_SETS_AND_CLEARS_SCRIPT, NO_LINES_ANSWERS, NO_LINES_SCRIPT,
-    NUMBERS_RANGES_AND_SPELLING_ANSWERS, NUMBERS_RANGES_AND_SPELLING_SCRIPT,
-    REFUSALS_EXAMPLE_ANSWERS, REFUSALS_EXAMPLE_SCRIPT, STORE_IS_CLAIMED_ANSWERS,
-    STORE_IS_CLAIMED_SCRIPT, STORES_LOADS_AND_GUARDED_PAGES_ANSWERS,
-    STORES_LOADS_AND_GUARDED_PAGES_SCRIPT, THRESHOLD_AND_LEAST_IDENTITY_ANSWERS,
-    THRESHOLD_AND_LEAST_IDENTITY_SCRIPT, WIRES_MODES_AND_DELEGATION_EXAMPLE_ANSWERS,
-    WIRES_MODES_AND_DELEGATION_EXAMPLE_SCRIPT,
-};
-use crate::source_rows::{
-    CHILD_LEAVES_SOURCES_OF_THE_ROOT_ANSWERS, CHILD_LEAVES_SOURCES_OF_THE_ROOT_SCRIPT,
-    DELEGATED_TWICE_AND_TAKEN_BACK_HIGH_ANSWERS, DELEGATED_TWICE_AND_TAKEN_BACK_HIGH_SCRIPT,
-    DELEGATION_GIVEN_AND_TAKEN_BACK_ANSWERS, DELEGATION_GIVEN_AND_TAKEN_BACK_SCRIPT,
-    EDGES_ARE_RISES_OF_A_WIRE_ANSWERS, EDGES_ARE_RISES_OF_A_WIRE_SCRIPT,
-    FILES_AND_DOMAINS_ARE_APART_ANSWERS, FILES_AND_DOMAINS_ARE_APART_SCRIPT,
-    LEVEL_LOW_AND_FALLING_EDGE_ANSWERS, LEVEL_LOW_AND_FALLING_EDGE_SCRIPT,
-    LEVELS_HEAR_NO_STORE_ANSWERS, LEVELS_HEAR_NO_STORE_SCRIPT, MODES_CHANGE_WITH_NO_RISE_ANSWERS,
-    MODES_CHANGE_WITH_NO_RISE_SCRIPT, ROOT_LEAVES_DELEGATED_SOURCES_ANSWERS,
-    ROOT_LEAVES_DELEGATED_SOURCES_SCRIPT, SOURCES_BEGIN_ANEW_ANSWERS, SOURCES_BEGIN_ANEW_SCRIPT,
-    TAKEN_BACK_WHILE_PENDING_ANSWERS, TAKEN_BACK_WHILE_PENDING_SCRIPT,
-};
+use crate::delivery_rows::CHILD_SHOWS_A_DELEGATED_SOURCE_ANSWERS;
+use crate::delivery_rows::CHILD_SHOWS_A_DELEGATED_SOURCE_SCRIPT;
+use crate::delivery_rows::CLAIMS_OF_LEVEL_AND_EDGE_ANSWERS;
+use crate::delivery_rows::CLAIMS_OF_LEVEL_AND_EDGE_SCRIPT;
+use crate::delivery_rows::CONTROLS_KEEP_THEIR_FIELDS_ANSWERS;
+use crate::delivery_rows::CONTROLS_KEEP_THEIR_FIELDS_SCRIPT;
+use crate::delivery_rows::DIRECT_DELIVERY_EXAMPLE_ANSWERS;
+use crate::delivery_rows::DIRECT_DELIVERY_EXAMPLE_SCRIPT;
+use crate::delivery_rows::ENABLES_AND_TARGETS_OF_MODES_ANSWERS;
+use crate::delivery_rows::ENABLES_AND_TARGETS_OF_MODES_SCRIPT;
+use crate::delivery_rows::FOUR_PINS_OF_A_HART_ANSWERS;
+use crate::delivery_rows::FOUR_PINS_OF_A_HART_SCRIPT;
+use crate::delivery_rows::LOWER_PRIORITY_NUMBERS_COME_FIRST_ANSWERS;
+use crate::delivery_rows::LOWER_PRIORITY_NUMBERS_COME_FIRST_SCRIPT;
+use crate::delivery_rows::MANY_SOURCES_AND_FORCE_ANSWERS;
+use crate::delivery_rows::MANY_SOURCES_AND_FORCE_SCRIPT;
+use crate::delivery_rows::TIES_AND_THRESHOLDS_ANSWERS;
+use crate::delivery_rows::TIES_AND_THRESHOLDS_SCRIPT;
+use crate::msi_rows::ADDRESS_REGISTERS_KEEP_THEIR_FIELDS_ANSWERS;
+use crate::msi_rows::ADDRESS_REGISTERS_KEEP_THEIR_FIELDS_SCRIPT;
+use crate::msi_rows::BOTH_DOMAINS_SEND_TO_THEIR_FILES_ANSWERS;
+use crate::msi_rows::BOTH_DOMAINS_SEND_TO_THEIR_FILES_SCRIPT;
+use crate::msi_rows::CHANGE_OF_DELIVERY_ANSWERS;
+use crate::msi_rows::CHANGE_OF_DELIVERY_SCRIPT;
+use crate::msi_rows::GENMSI_AND_THE_LOCK_ANSWERS;
+use crate::msi_rows::GENMSI_AND_THE_LOCK_SCRIPT;
+use crate::msi_rows::GROUPS_OF_HARTS_ANSWERS;
+use crate::msi_rows::GROUPS_OF_HARTS_SCRIPT;
+use crate::msi_rows::LEVEL_PENDED_AGAIN_BY_SOURCECFG_ANSWERS;
+use crate::msi_rows::LEVEL_PENDED_AGAIN_BY_SOURCECFG_SCRIPT;
+use crate::msi_rows::LEVEL_SOURCE_BY_MSIS_ANSWERS;
+use crate::msi_rows::LEVEL_SOURCE_BY_MSIS_SCRIPT;
+use crate::msi_rows::MSI_DELIVERY_EXAMPLE_ANSWERS;
+use crate::msi_rows::MSI_DELIVERY_EXAMPLE_SCRIPT;
+use crate::msi_rows::MSIS_ELSEWHERE_ARE_DROPPED_ANSWERS;
+use crate::msi_rows::MSIS_ELSEWHERE_ARE_DROPPED_SCRIPT;
+use crate::msi_rows::NO_DIRECT_DELIVERY_BY_MSIS_ANSWERS;
+use crate::msi_rows::NO_DIRECT_DELIVERY_BY_MSIS_SCRIPT;
+use crate::msi_rows::SENT_ONLY_WHERE_ENABLED_ANSWERS;
+use crate::msi_rows::SENT_ONLY_WHERE_ENABLED_SCRIPT;
+use crate::register_rows::ADDRESSES_OF_DOMAINS_ANSWERS;
+use crate::register_rows::ADDRESSES_OF_DOMAINS_SCRIPT;
+use crate::register_rows::BITS_OF_NO_SOURCE_ANSWERS;
+use crate::register_rows::BITS_OF_NO_SOURCE_SCRIPT;
+use crate::register_rows::DOMAINCFG_KEEPS_ENABLE_AND_DELIVERY_ANSWERS;
+use crate::register_rows::DOMAINCFG_KEEPS_ENABLE_AND_DELIVERY_SCRIPT;
+use crate::register_rows::LAST_OF_ALL_SOURCES_ANSWERS;
+use crate::register_rows::LAST_OF_ALL_SOURCES_SCRIPT;
+use crate::register_rows::NOTHING_AT_OTHER_OFFSETS_ANSWERS;
+use crate::register_rows::NOTHING_AT_OTHER_OFFSETS_SCRIPT;
+use crate::register_rows::RESERVED_MODES_AND_CHILD_INDEXES_ANSWERS;
+use crate::register_rows::RESERVED_MODES_AND_CHILD_INDEXES_SCRIPT;
+use crate::register_rows::SOURCES_BY_NUMBER_ANSWERS;
+use crate::register_rows::SOURCES_BY_NUMBER_SCRIPT;
+use crate::register_rows::TARGETS_OF_HARTS_AND_PRIORITIES_ANSWERS;
+use crate::register_rows::TARGETS_OF_HARTS_AND_PRIORITIES_SCRIPT;
+use crate::register_rows::WIRES_ARE_REFUSED_ANSWERS;
+use crate::register_rows::WIRES_ARE_REFUSED_SCRIPT;
+use crate::register_rows::WORDS_OF_SOURCES_ANSWERS;
+use crate::register_rows::WORDS_OF_SOURCES_SCRIPT;
+use crate::rows::CLAIM_EXAMPLE_ANSWERS;
+use crate::rows::CLAIM_EXAMPLE_SCRIPT;
+use crate::rows::FILES_AND_BYTE_ORDERS_EXAMPLE_ANSWERS;
+use crate::rows::FILES_AND_BYTE_ORDERS_EXAMPLE_SCRIPT;
+use crate::rows::LONGEST_TEXTS_ANSWERS;
+use crate::rows::LONGEST_TEXTS_SCRIPT;
+use crate::rows::MACHINE_IS_REFUSED_ANSWERS;
+use crate::rows::MACHINE_IS_REFUSED_SCRIPT;
+use crate::rows::MACHINE_LEVEL_SETS_AND_CLEARS_ANSWERS;
+use crate::rows::MACHINE_LEVEL_SETS_AND_CLEARS_SCRIPT;
+use crate::rows::NO_LINES_ANSWERS;
+use crate::rows::NO_LINES_SCRIPT;
+use crate::rows::NUMBERS_RANGES_AND_SPELLING_ANSWERS;
+use crate::rows::NUMBERS_RANGES_AND_SPELLING_SCRIPT;
+use crate::rows::REFUSALS_EXAMPLE_ANSWERS;
+use crate::rows::REFUSALS_EXAMPLE_SCRIPT;
+use crate::rows::STORE_IS_CLAIMED_ANSWERS;
+use crate::rows::STORE_IS_CLAIMED_SCRIPT;
+use crate::rows::STORES_LOADS_AND_GUARDED_PAGES_ANSWERS;
+use crate::rows::STORES_LOADS_AND_GUARDED_PAGES_SCRIPT;
+use crate::rows::THRESHOLD_AND_LEAST_IDENTITY_ANSWERS;
+use crate::rows::THRESHOLD_AND_LEAST_IDENTITY_SCRIPT;
+use crate::rows::WIRES_MODES_AND_DELEGATION_EXAMPLE_ANSWERS;
+use crate::rows::WIRES_MODES_AND_DELEGATION_EXAMPLE_SCRIPT;
+use crate::source_rows::CHILD_LEAVES_SOURCES_OF_THE_ROOT_ANSWERS;
+use crate::source_rows::CHILD_LEAVES_SOURCES_OF_THE_ROOT_SCRIPT;
+use crate::source_rows::DELEGATED_TWICE_AND_TAKEN_BACK_HIGH_ANSWERS;
+use crate::source_rows::DELEGATED_TWICE_AND_TAKEN_BACK_HIGH_SCRIPT;
+use crate::source_rows::DELEGATION_GIVEN_AND_TAKEN_BACK_ANSWERS;
+use crate::source_rows::DELEGATION_GIVEN_AND_TAKEN_BACK_SCRIPT;
+use crate::source_rows::EDGES_ARE_RISES_OF_A_WIRE_ANSWERS;
+use crate::source_rows::EDGES_ARE_RISES_OF_A_WIRE_SCRIPT;
+use crate::source_rows::FILES_AND_DOMAINS_ARE_APART_ANSWERS;
+use crate::source_rows::FILES_AND_DOMAINS_ARE_APART_SCRIPT;
+use crate::source_rows::LEVEL_LOW_AND_FALLING_EDGE_ANSWERS;
+use crate::source_rows::LEVEL_LOW_AND_FALLING_EDGE_SCRIPT;
+use crate::source_rows::LEVELS_HEAR_NO_STORE_ANSWERS;
+use crate::source_rows::LEVELS_HEAR_NO_STORE_SCRIPT;
+use crate::source_rows::MODES_CHANGE_WITH_NO_RISE_ANSWERS;
+use crate::source_rows::MODES_CHANGE_WITH_NO_RISE_SCRIPT;
+use crate::source_rows::ROOT_LEAVES_DELEGATED_SOURCES_ANSWERS;
+use crate::source_rows::ROOT_LEAVES_DELEGATED_SOURCES_SCRIPT;
+use crate::source_rows::SOURCES_BEGIN_ANEW_ANSWERS;
+use crate::source_rows::SOURCES_BEGIN_ANEW_SCRIPT;
+use crate::source_rows::TAKEN_BACK_WHILE_PENDING_ANSWERS;
+use crate::source_rows::TAKEN_BACK_WHILE_PENDING_SCRIPT;
 
 /// A script with no line prints nothing.
 pub fn no_lines_print_nothing()
@@ -203,14 +263,9 @@ pub fn bits_of_no_source_are_ignored()
     ensures { answers BITS_OF_NO_SOURCE_SCRIPT.now ≡ BITS_OF_NO_SOURCE_ANSWERS.now }
 {}
 
-/// Each domain's domaincfg keeps whether its interrupts are enabled, and else reads the same always.
-pub fn domaincfg_keeps_the_enable()
-    ensures { answers DOMAINCFG_KEEPS_THE_ENABLE_SCRIPT.now ≡ DOMAINCFG_KEEPS_THE_ENABLE_ANSWERS.now }
-{}
-
-/// The registers of delivery read 0 and keep nothing.
-pub fn delivery_reads_zero()
-    ensures { answers DELIVERY_READS_ZERO_SCRIPT.now ≡ DELIVERY_READS_ZERO_ANSWERS.now }
+/// Each domain's domaincfg keeps whether its interrupts are enabled and whether it delivers by MSIs, and else reads the same always.
+pub fn domaincfg_keeps_enable_and_delivery()
+    ensures { answers DOMAINCFG_KEEPS_ENABLE_AND_DELIVERY_SCRIPT.now ≡ DOMAINCFG_KEEPS_ENABLE_AND_DELIVERY_ANSWERS.now }
 {}
 
 /// Where a domain has no register a load reads 0, and a store is ignored.
@@ -275,4 +330,59 @@ pub fn lower_priority_numbers_come_first()
 /// The example of direct delivery answers as it says.
 pub fn the_example_of_direct_delivery()
     ensures { answers DIRECT_DELIVERY_EXAMPLE_SCRIPT.now ≡ DIRECT_DELIVERY_EXAMPLE_ANSWERS.now }
+{}
+
+/// A level source is sent at its rise, and again only where a register asks while its input is high.
+pub fn a_level_source_by_msis()
+    ensures { answers LEVEL_SOURCE_BY_MSIS_SCRIPT.now ≡ LEVEL_SOURCE_BY_MSIS_ANSWERS.now }
+{}
+
+/// `genmsi` sends at once and is read back; locked registers of MSI addresses stay as they are.
+pub fn genmsi_and_the_lock()
+    ensures { answers GENMSI_AND_THE_LOCK_SCRIPT.now ≡ GENMSI_AND_THE_LOCK_ANSWERS.now }
+{}
+
+/// A write of `sourcecfg` makes a level source whose MSI was sent pending again.
+pub fn a_level_source_is_pended_again_by_sourcecfg()
+    ensures { answers LEVEL_PENDED_AGAIN_BY_SOURCECFG_SCRIPT.now ≡ LEVEL_PENDED_AGAIN_BY_SOURCECFG_ANSWERS.now }
+{}
+
+/// A change of the delivery mode sets the targets anew.
+pub fn a_change_of_delivery()
+    ensures { answers CHANGE_OF_DELIVERY_SCRIPT.now ≡ CHANGE_OF_DELIVERY_ANSWERS.now }
+{}
+
+/// The example of the delivery of MSIs answers as it says.
+pub fn the_example_of_msi_delivery()
+    ensures { answers MSI_DELIVERY_EXAMPLE_SCRIPT.now ≡ MSI_DELIVERY_EXAMPLE_ANSWERS.now }
+{}
+
+/// The registers of MSI addresses keep their fields until they are locked, and the child domain has none.
+pub fn address_registers_keep_their_fields()
+    ensures { answers ADDRESS_REGISTERS_KEEP_THEIR_FIELDS_SCRIPT.now ≡ ADDRESS_REGISTERS_KEEP_THEIR_FIELDS_ANSWERS.now }
+{}
+
+/// A hart's group and its number in it are shifted to their places.
+pub fn groups_of_harts()
+    ensures { answers GROUPS_OF_HARTS_SCRIPT.now ≡ GROUPS_OF_HARTS_ANSWERS.now }
+{}
+
+/// Each domain sends to the files of its level.
+pub fn both_domains_send_to_their_files()
+    ensures { answers BOTH_DOMAINS_SEND_TO_THEIR_FILES_SCRIPT.now ≡ BOTH_DOMAINS_SEND_TO_THEIR_FILES_ANSWERS.now }
+{}
+
+/// A source is sent only where it and its domain are enabled.
+pub fn sent_only_where_enabled()
+    ensures { answers SENT_ONLY_WHERE_ENABLED_SCRIPT.now ≡ SENT_ONLY_WHERE_ENABLED_ANSWERS.now }
+{}
+
+/// An MSI that reaches no file of the host, or names no identity, does nothing.
+pub fn msis_elsewhere_are_dropped()
+    ensures { answers MSIS_ELSEWHERE_ARE_DROPPED_SCRIPT.now ≡ MSIS_ELSEWHERE_ARE_DROPPED_ANSWERS.now }
+{}
+
+/// A domain that delivers by MSIs shows a hart nothing.
+pub fn no_direct_delivery_by_msis()
+    ensures { answers NO_DIRECT_DELIVERY_BY_MSIS_SCRIPT.now ≡ NO_DIRECT_DELIVERY_BY_MSIS_ANSWERS.now }
 {}

@@ -3,6 +3,7 @@
 ghost use Rattle.std.specs.Prelude.{◌<◌};
 
 use crate::delivery_rows::DELIVERY_ROWS;
+use crate::msi_rows::MSI_ROWS;
 use crate::register_rows::REGISTER_ROWS;
 use crate::rows::{ROWS, Row};
 use crate::source_rows::SOURCE_ROWS;
@@ -39,7 +40,13 @@ fn replays(
 
 #[test]
 fn rows_print_their_answers_whatever_the_pieces(rt: HostRuntime) -> Result<(), Fail> {
-    let all: [&[Row]; 4] = [&ROWS, &SOURCE_ROWS, &REGISTER_ROWS, &DELIVERY_ROWS];
+    let all: [&[Row]; 5] = [
+        &ROWS,
+        &SOURCE_ROWS,
+        &REGISTER_ROWS,
+        &DELIVERY_ROWS,
+        &MSI_ROWS,
+    ];
     for piece in [1, 7, 4096] {
         for rows in all {
             for row in rows {
