@@ -1,4 +1,4 @@
-# awk -v mode=msi|direct -f delivery.awk: a long script in which 1,023 wired sources of the root domain rise and fall, the same one each time. All are
+# awk -v mode=msi|direct -f common.awk -f delivery.awk: a long script in which 1,023 wired sources of the root domain rise and fall, the same one each time. All are
 # rising edges and enabled, and aim at the one hart: by an MSI of the source's own number to the machine-level file, or directly, with priority 1.
 # Of 16 lines of its body, on average, 15 change the level of a wire, so half of those are rises, and 1 is a claim.
 
@@ -30,17 +30,6 @@ BEGIN {
   for (k = 0; k < 32; k++) put(sprintf("st 0x%x 0xffffffff", root + 7680 + 4 * k))  # setie
   claim = mode == "msi" ? "m 0 csrrw mtopei 0" : sprintf("ld 0x%08x", root + 16412)
   while (bytes < bytes_wanted) body_line()
-}
-
-function put(line) {
-  print line
-  bytes += length(line) + 1
-}
-
-# A number from 0 to n - 1, by the generator of Park and Miller.
-function random(n) {
-  seed = seed * 16807 % 2147483647
-  return int(seed / 65536) % n
 }
 
 function body_line(    s) {

@@ -1,4 +1,4 @@
-# awk -v N=63 -f script.awk: a long script over the machine-level and supervisor files of four harts, the same one each time.
+# awk -v N=63 -f common.awk -f script.awk: a long script over the machine-level and supervisor files of four harts, the same one each time.
 # Of 16 lines of its body, on average, 5 store to a file, in either byte order, 5 claim, 3 read what is on top, 1 selects an
 # enable register, and 2 set or clear a bit of the selected one. Between a third and a half of the claims and reads find nothing
 # on top.
@@ -13,17 +13,6 @@ BEGIN {
     enable_all("h " hart, "si", "sireg")
   }
   while (bytes < bytes_wanted) body_line()
-}
-
-function put(line) {
-  print line
-  bytes += length(line) + 1
-}
-
-# A number from 0 to n - 1, by the generator of Park and Miller.
-function random(n) {
-  seed = seed * 16807 % 2147483647
-  return int(seed / 65536) % n
 }
 
 function enable_register(word) { return sprintf("0x%x", 192 + 2 * word) }

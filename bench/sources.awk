@@ -1,4 +1,4 @@
-# awk -v S=1023 -f sources.awk: a long script over wired sources and both domains of the APLIC, the same one each time. Of 16 lines of its body, on
+# awk -v S=1023 -f common.awk -f sources.awk: a long script over wired sources and both domains of the APLIC, the same one each time. Of 16 lines of its body, on
 # average, 6 give a wire a level, 2 write and 2 read a word of sources, 3 write by number, 1 writes a target, 1 a sourcecfg, and 1 reads one.
 
 BEGIN {
@@ -15,19 +15,8 @@ BEGIN {
   while (bytes < bytes_wanted) body_line()
 }
 
-function put(line) {
-  print line
-  bytes += length(line) + 1
-}
-
 # The first address of a domain's control region.
 function at(domain) { return 201326592 + 32768 * domain }
-
-# A number from 0 to n - 1, by the generator of Park and Miller.
-function random(n) {
-  seed = seed * 16807 % 2147483647
-  return int(seed / 65536) % n
-}
 
 function body_line(    domain, s, word, kind) {
   domain = random(2)
