@@ -2,8 +2,10 @@
 use Rattle.std.proofs.Common.{◌≡◌, ℕ, Bool, true, [], ◌∷◌, refl}
 use Rattle.std.proofs.lemmas.Bool.{cond-true}
 use Rattle.aia_regs.specs.declared.domain_registers.DomainReg.{DomainReg}
-use Rattle.aia_model.specs.Act.{DomainName, Sender, Act, Past}
-use Rattle.aia_model.specs.Act.DomainName.{Root, Child}
+use Rattle.aia_model.specs.declared.domain_name.DomainName.{DomainName}
+use Rattle.aia_model.specs.declared.sender.Sender.{Sender}
+use Rattle.aia_model.specs.Act.{Act, Past}
+use Rattle.aia_model.specs.declared.domain_name.DomainName.TheVariants.{Root, Child}
 use Rattle.aia_model.specs.Act.Act.{Made, Driven, Written, Loaded, Sent}
 use Rattle.aia_model.specs.AddressOf.{new_addresses, are_locked, address_written, addresses_of}
 

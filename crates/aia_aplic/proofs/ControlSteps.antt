@@ -7,8 +7,9 @@ use Rattle.aia_regs.specs.declared.domain_registers.DomainReg.{DomainReg}
 use Rattle.aia_regs.specs.declared.domain_registers.DomainReg.TheVariants.{IDelivery, IForce, IThreshold, ClaimI}
 use Rattle.aia_regs.specs.Fields.{field}
 use Rattle.aia_direct.specs.Control.{Control, new_control, control_claimed}
-use Rattle.aia_model.specs.Act.{DomainName, Act, Past, newest, when}
-use Rattle.aia_model.specs.Act.DomainName.{Root, Child}
+use Rattle.aia_model.specs.declared.domain_name.DomainName.{DomainName}
+use Rattle.aia_model.specs.Act.{Act, Past, newest, when}
+use Rattle.aia_model.specs.declared.domain_name.DomainName.TheVariants.{Root, Child}
 use Rattle.aia_model.specs.Act.Act.{Made, Driven, Written, Loaded}
 use Rattle.aia_model.specs.SourceOf.{harts_in, delivery_of, force_of, threshold_of, is_msi, top}
 use Rattle.aia_aplic.specs.Stands.{control, ControlsStand}

@@ -4,8 +4,9 @@ use Rattle.aia_regs.specs.Word.Word.{Nothing}
 use Rattle.aia_source.specs.Source.{done, is_active}
 use Rattle.aia_source.specs.Source.Deed.{Moved, Untouched}
 use Rattle.aia_domain.specs.Held.{Held, wired, changed_at}
-use Rattle.aia_model.specs.Act.{DomainName, Past, newest}
-use Rattle.aia_model.specs.Act.DomainName.{Root, Child}
+use Rattle.aia_model.specs.declared.domain_name.DomainName.{DomainName}
+use Rattle.aia_model.specs.Act.{Past, newest}
+use Rattle.aia_model.specs.declared.domain_name.DomainName.TheVariants.{Root, Child}
 use Rattle.aia_model.specs.Act.Act.{Driven}
 use Rattle.aia_model.specs.SourceOf.{wire_of, is_msi}
 use Rattle.aia_aplic.specs.Stands.{held}

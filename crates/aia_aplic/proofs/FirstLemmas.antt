@@ -7,9 +7,10 @@ use Rattle.aia_domain.specs.Domain.{DomainState, ready_from}
 use Rattle.aia_domain.specs.Domain as kept
 use Rattle.aia_domain.specs.Rising.{IsMember, IsRising}
 use Rattle.aia_domain.proofs.ReadyLemmas.{from_members, from_each, from_rising}
-use Rattle.aia_model.specs.Act.{DomainName, Past}
-use Rattle.aia_model.specs.Act.DomainName.{Root, Child}
-use Rattle.aia_model.specs.Act.Sender.{ByGenMsi}
+use Rattle.aia_model.specs.declared.domain_name.DomainName.{DomainName}
+use Rattle.aia_model.specs.Act.{Past}
+use Rattle.aia_model.specs.declared.domain_name.DomainName.TheVariants.{Root, Child}
+use Rattle.aia_model.specs.declared.sender.Sender.TheVariants.{ByGenMsi}
 use Rattle.aia_model.specs.SourceOf.{sources_in, is_on, is_msi, enabled, pending, genmsi_waits}
 use Rattle.aia_model.specs.Sent.{is_ready, first_if, ready_sources, senders}
 use Rattle.aia_aplic.specs.Stands.{held, DomainStands, AplicState, AplicStands}

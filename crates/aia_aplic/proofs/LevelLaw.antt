@@ -8,9 +8,11 @@ use Rattle.aia_source.specs.Source.{is_level, rectified, says}
 use Rattle.aia_source.specs.Source.Deed.{Moved, Forwarded, Configured, Activated, Switched, Untouched}
 use Rattle.aia_source.specs.Registers.{domaincfg_kept, is_by_msi, root_sourcecfg, child_sourcecfg, delegates, mode_of, sets_pending, clears_pending, same_bool}
 use Rattle.aia_source.specs.Top.{is_top}
-use Rattle.aia_model.specs.Act.{DomainName, Sender, Past, newest, when}
-use Rattle.aia_model.specs.Act.Sender.{ByGenMsi, BySource}
-use Rattle.aia_model.specs.Act.DomainName.{Root, Child}
+use Rattle.aia_model.specs.declared.domain_name.DomainName.{DomainName}
+use Rattle.aia_model.specs.declared.sender.Sender.{Sender}
+use Rattle.aia_model.specs.Act.{Past, newest, when}
+use Rattle.aia_model.specs.declared.sender.Sender.TheVariants.{ByGenMsi, BySource}
+use Rattle.aia_model.specs.declared.domain_name.DomainName.TheVariants.{Root, Child}
 use Rattle.aia_model.specs.Act.Act.{Made, Driven, Written, Loaded, Sent}
 use Rattle.aia_model.specs.SourceOf.{harts_in, is_register_of, wire_of, root_sourcecfg_of, is_delegated, child_told, mode, owns, input, is_msi, pending, top}
 use Rattle.aia_source.proofs.SourceLemmas.{unheard, followed, begun, changed, claimed}

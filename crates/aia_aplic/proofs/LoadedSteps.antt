@@ -5,8 +5,9 @@ use Rattle.aia_regs.specs.declared.domain_registers.DomainReg.TheVariants.{Claim
 use Rattle.aia_source.specs.Source.Deed.{Claimed}
 use Rattle.aia_source.specs.Top.{is_top}
 use Rattle.aia_domain.specs.Held.{with_deed}
-use Rattle.aia_model.specs.Act.{DomainName, Past, newest}
-use Rattle.aia_model.specs.Act.DomainName.{Root, Child}
+use Rattle.aia_model.specs.declared.domain_name.DomainName.{DomainName}
+use Rattle.aia_model.specs.Act.{Past, newest}
+use Rattle.aia_model.specs.declared.domain_name.DomainName.TheVariants.{Root, Child}
 use Rattle.aia_model.specs.Act.Act.{Loaded}
 use Rattle.aia_model.specs.SourceOf.{harts_in, wire_of, is_msi, top}
 use Rattle.aia_aplic.specs.Stands.{held}

@@ -1,9 +1,11 @@
 -- Which senders wait, and in which order.
 use Rattle.std.proofs.Common.{◌≡◌, ℕ, zero, suc, ◌+◌, ◌<◌, ◌≤◌, Bool, true, false, List, ◌⊎◌, inl, inr, refl, sym, ap, subst, ◌∙◌, arith}
 use Rattle.std.proofs.lemmas.Bool.{cases_eq}
-use Rattle.aia_model.specs.Act.{DomainName, Sender, Past}
-use Rattle.aia_model.specs.Act.DomainName.{Root, Child}
-use Rattle.aia_model.specs.Act.Sender.{ByGenMsi, BySource}
+use Rattle.aia_model.specs.declared.domain_name.DomainName.{DomainName}
+use Rattle.aia_model.specs.declared.sender.Sender.{Sender}
+use Rattle.aia_model.specs.Act.{Past}
+use Rattle.aia_model.specs.declared.domain_name.DomainName.TheVariants.{Root, Child}
+use Rattle.aia_model.specs.declared.sender.Sender.TheVariants.{ByGenMsi, BySource}
 use Rattle.aia_model.specs.SourceOf.{sources_in, genmsi_waits}
 use Rattle.aia_model.specs.Sent.{is_ready, first_if, ready_sources, senders}
 use Rattle.aia_aplic.specs.Senders.{IsAmong, SendsBefore, IsInOrder}

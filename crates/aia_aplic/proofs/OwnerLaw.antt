@@ -4,7 +4,7 @@ use Rattle.std.proofs.lemmas.Bool.{cases_eq, ne_eqb}
 use Rattle.aia_source.specs.Source.{is_active}
 use Rattle.aia_source.specs.Registers.{mode_of}
 use Rattle.aia_model.specs.Act.{Past}
-use Rattle.aia_model.specs.Act.DomainName.{Root, Child}
+use Rattle.aia_model.specs.declared.domain_name.DomainName.TheVariants.{Root, Child}
 use Rattle.aia_model.specs.SourceOf.{root_sourcecfg_of, owns}
 use Rattle.aia_aplic.proofs.Reading.{and_false}
 use Rattle.aia_aplic.proofs.WriteSteps.{child-none}

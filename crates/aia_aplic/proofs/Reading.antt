@@ -18,8 +18,9 @@ use Rattle.aia_domain.specs.declared.entry.Look.TheVariants as looks
 use Rattle.aia_domain.specs.Held.{Held, sourcecfg_shown, bit_shown, bit_of, bit_at_source, target_of}
 use Rattle.aia_domain.specs.Held as kept
 use Rattle.aia_domain.specs.Domain.{DomainState, domain_read}
-use Rattle.aia_model.specs.Act.{DomainName, Past, is_domain, newest, when}
-use Rattle.aia_model.specs.Act.DomainName.{Root, Child}
+use Rattle.aia_model.specs.declared.domain_name.DomainName.{DomainName}
+use Rattle.aia_model.specs.Act.{Past, is_domain, newest, when}
+use Rattle.aia_model.specs.declared.domain_name.DomainName.TheVariants.{Root, Child}
 use Rattle.aia_model.specs.Act.Act.{Written}
 use Rattle.aia_model.specs.SourceOf.{sources_in, is_source, is_register_of, root_sourcecfg_of, is_delegated, child_told, sourcecfg_of, mode, input, is_on, enabled, target, pending, only, sources_word, own_read}
 use Rattle.aia_aplic.specs.Stands.{held, DomainStands}

@@ -9,8 +9,9 @@ use Rattle.aia_source.specs.Source.{Deed, is_active, is_level, detached_says, ed
 use Rattle.aia_source.specs.Source.Deed.{Moved, Set, Cleared, Claimed, Forwarded, Configured, Activated, Switched, Untouched}
 use Rattle.aia_source.specs.Registers.{domaincfg_kept, is_by_msi, root_sourcecfg, child_sourcecfg, mode_of, sets_pending, clears_pending, same_bool}
 use Rattle.aia_source.specs.Top.{Pair}
-use Rattle.aia_model.specs.Act.{DomainName, Past, newest, when}
-use Rattle.aia_model.specs.Act.DomainName.{Root, Child}
+use Rattle.aia_model.specs.declared.domain_name.DomainName.{DomainName}
+use Rattle.aia_model.specs.Act.{Past, newest, when}
+use Rattle.aia_model.specs.declared.domain_name.DomainName.TheVariants.{Root, Child}
 use Rattle.aia_model.specs.Act.Act.{Written}
 use Rattle.aia_model.specs.SourceOf.{is_register_of, root_sourcecfg_of, is_delegated, child_told, mode, owns, input, is_msi, deed_of_write, deed, pending, top_in}
 

@@ -5,9 +5,11 @@ use Rattle.aia_source.specs.Source.{rectified}
 use Rattle.aia_source.specs.Source.Deed.{Forwarded}
 use Rattle.aia_domain.specs.Held.{Held, with_deed}
 use Rattle.aia_model.specs.declared.msi.Msi.{Msi}
-use Rattle.aia_model.specs.Act.{DomainName, Sender, Past, is_domain, newest, act_of}
-use Rattle.aia_model.specs.Act.DomainName.{Root, Child}
-use Rattle.aia_model.specs.Act.Sender.{ByGenMsi, BySource}
+use Rattle.aia_model.specs.declared.domain_name.DomainName.{DomainName}
+use Rattle.aia_model.specs.declared.sender.Sender.{Sender}
+use Rattle.aia_model.specs.Act.{Past, is_domain, newest, act_of}
+use Rattle.aia_model.specs.declared.domain_name.DomainName.TheVariants.{Root, Child}
+use Rattle.aia_model.specs.declared.sender.Sender.TheVariants.{ByGenMsi, BySource}
 use Rattle.aia_model.specs.Act.Act.{Made, Sent}
 use Rattle.aia_model.specs.SourceOf.{harts_in, sources_in, mode, input, is_on, is_msi, owns, enabled, target, pending, genmsi_of, genmsi_waits}
 use Rattle.aia_model.specs.Sent.{is_ready, first_if, ready_sources, senders, msi_by, msi_of, msis, sent_by, settled, with_act, acts_of}

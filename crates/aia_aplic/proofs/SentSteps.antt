@@ -6,9 +6,11 @@ use Rattle.aia_source.specs.declared.mode.Mode.TheVariants.{Inactive, Detached, 
 use Rattle.aia_source.specs.Source.{says}
 use Rattle.aia_source.specs.Source.Deed.{Forwarded}
 use Rattle.aia_domain.specs.Held.{with_deed}
-use Rattle.aia_model.specs.Act.{DomainName, Sender, Past, is_domain, newest}
-use Rattle.aia_model.specs.Act.DomainName.{Root, Child}
-use Rattle.aia_model.specs.Act.Sender.{ByGenMsi, BySource}
+use Rattle.aia_model.specs.declared.domain_name.DomainName.{DomainName}
+use Rattle.aia_model.specs.declared.sender.Sender.{Sender}
+use Rattle.aia_model.specs.Act.{Past, is_domain, newest}
+use Rattle.aia_model.specs.declared.domain_name.DomainName.TheVariants.{Root, Child}
+use Rattle.aia_model.specs.declared.sender.Sender.TheVariants.{ByGenMsi, BySource}
 use Rattle.aia_model.specs.Act.Act.{Sent}
 use Rattle.aia_model.specs.SourceOf.{wire_of, is_msi}
 use Rattle.aia_aplic.specs.Stands.{held, control}

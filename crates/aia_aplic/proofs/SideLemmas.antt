@@ -11,10 +11,11 @@ use Rattle.aia_source.specs.Source.Deed.{Forwarded}
 use Rattle.aia_domain.specs.Held.{EachSource, granted_at, changed_at, wired, with_deed}
 use Rattle.aia_domain.specs.Domain.{DomainState, with_sources, source_after, domain_after, is_ready}
 use Rattle.aia_direct.specs.Control.{Control, new_control, control_read, control_claimed, claimed_top, top_shown, signals, one_if}
-use Rattle.aia_model.specs.Act.{DomainName, Act, Past, is_domain, newest, when}
-use Rattle.aia_model.specs.Act.DomainName.{Root, Child}
-use Rattle.aia_model.specs.Act.{Sender}
-use Rattle.aia_model.specs.Act.Sender.{ByGenMsi, BySource}
+use Rattle.aia_model.specs.declared.domain_name.DomainName.{DomainName}
+use Rattle.aia_model.specs.Act.{Act, Past, is_domain, newest, when}
+use Rattle.aia_model.specs.declared.domain_name.DomainName.TheVariants.{Root, Child}
+use Rattle.aia_model.specs.declared.sender.Sender.{Sender}
+use Rattle.aia_model.specs.declared.sender.Sender.TheVariants.{ByGenMsi, BySource}
 use Rattle.aia_model.specs.Act.Act.{Made, Driven, Written, Loaded, Sent}
 use Rattle.aia_model.specs.SourceOf.{harts_in, own_read, top, is_msi, is_on, is_signalled, delivery_told, delivery_of, force_told, force_of, threshold_of, only}
 use Rattle.aia_aplic.specs.Stands.{control, SideState, SideStands, IsNewSide, AplicState, AplicStands, IsNewAplic}

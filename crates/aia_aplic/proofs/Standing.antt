@@ -10,8 +10,9 @@ use Rattle.aia_regs.specs.Word.Word.{Ask, Clear, Nothing}
 use Rattle.aia_source.specs.Registers.{domaincfg_kept, enables, is_by_msi, root_sourcecfg, delegates, genmsi_kept, same_bool}
 use Rattle.aia_domain.specs.Held.{Held, new_held, with_deed, wired, changed_at, granted_at, EachSource}
 use Rattle.aia_domain.specs.Domain.{DomainState, IsNewDomain, with_sources, source_changed, source_after, domaincfg_written, domain_after}
-use Rattle.aia_model.specs.Act.{DomainName, Act, Past, is_domain, newest, when}
-use Rattle.aia_model.specs.Act.DomainName.{Root, Child}
+use Rattle.aia_model.specs.declared.domain_name.DomainName.{DomainName}
+use Rattle.aia_model.specs.Act.{Act, Past, is_domain, newest, when}
+use Rattle.aia_model.specs.declared.domain_name.DomainName.TheVariants.{Root, Child}
 use Rattle.aia_model.specs.Act.Act.{Made, Driven, Written, Loaded, Sent}
 use Rattle.aia_model.specs.SourceOf.{harts_in, sources_in, wire_of, enabled, target, pending, domaincfg_of, is_on, is_msi, genmsi_of, genmsi_waits, top}
 use Rattle.aia_direct.specs.Control.{claimed_top}
@@ -21,8 +22,8 @@ use Rattle.aia_aplic.proofs.WriteSteps.{same_bools, root_written, child_written,
 use Rattle.aia_aplic.proofs.DrivenSteps.{driven}
 use Rattle.aia_aplic.proofs.LoadedSteps.{is_claim, claimed, loaded, root_at_child_loaded, child_at_root_loaded}
 use Rattle.aia_source.specs.Source.Deed.{Claimed, Forwarded}
-use Rattle.aia_model.specs.Act.{Sender}
-use Rattle.aia_model.specs.Act.Sender.{ByGenMsi, BySource}
+use Rattle.aia_model.specs.declared.sender.Sender.{Sender}
+use Rattle.aia_model.specs.declared.sender.Sender.TheVariants.{ByGenMsi, BySource}
 use Rattle.aia_aplic.proofs.SentSteps.{forwarded, sent_elsewhere, is_source_in, is_genmsi_of}
 use Rattle.aia_source.specs.Top.{Pair, is_top}
 

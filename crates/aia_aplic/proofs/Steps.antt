@@ -9,7 +9,8 @@ use Rattle.aia_source.specs.Source.{Deed, done, is_active, rectified, says}
 use Rattle.aia_source.specs.Source.Deed.{Untouched}
 use Rattle.aia_source.specs.Registers.{target_kept}
 use Rattle.aia_domain.specs.Held.{Held, with_deed, with_enable, aimed}
-use Rattle.aia_model.specs.Act.{DomainName, Act, Past}
+use Rattle.aia_model.specs.declared.domain_name.DomainName.{DomainName}
+use Rattle.aia_model.specs.Act.{Act, Past}
 use Rattle.aia_model.specs.SourceOf.{wire_of, is_delegated, mode, owns, is_msi, enable_asked, enable_word, enabled, target_told, target_after, target, deed, pending, top_in}
 use Rattle.aia_aplic.specs.Stands.{held}
 

@@ -3,7 +3,8 @@ use Rattle.std.proofs.Common.{◌≡◌, ℕ, ◌≤◌, Bool, true, false, cond
 use Rattle.std.proofs.lemmas.Bool.{cond-true, cond-false}
 use Rattle.aia_source.specs.Top.{Pair, least_pair, NamesItself, priority_of, pair_if}
 use Rattle.aia_source.proofs.TopLemmas.{least_found, least_none}
-use Rattle.aia_model.specs.Act.{DomainName, Past}
+use Rattle.aia_model.specs.declared.domain_name.DomainName.{DomainName}
+use Rattle.aia_model.specs.Act.{Past}
 use Rattle.aia_model.specs.SourceOf.{sources_in, target, pending, is_msi, is_for, pair_in, top}
 use Rattle.aia_aplic.specs.Tops.{IsOnTop}
 

@@ -7,7 +7,8 @@ use Rattle.aia_source.proofs.TopLemmas.{least_pair-none, least_pair-suc}
 use Rattle.aia_domain.specs.Held.{new_held, held_at}
 use Rattle.aia_domain.specs.Domain.{DomainState}
 use Rattle.aia_direct.specs.Control.{Control, candidate, candidate_at, top_shown}
-use Rattle.aia_model.specs.Act.{DomainName, Past}
+use Rattle.aia_model.specs.declared.domain_name.DomainName.{DomainName}
+use Rattle.aia_model.specs.Act.{Past}
 use Rattle.aia_model.specs.SourceOf.{sources_in, owns, enabled, target, pending, is_msi, threshold_of, pair_in, top}
 use Rattle.aia_aplic.specs.Stands.{held, DomainStands}
 use Rattle.aia_aplic.proofs.Steps.{held-idle}

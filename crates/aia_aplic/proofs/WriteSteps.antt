@@ -15,7 +15,7 @@ use Rattle.aia_domain.specs.declared.entry.Touch.TheVariants.{SetPending, ClearP
 use Rattle.aia_domain.specs.Held.{Held, with_deed, touched, configured, switched, aimed, sourcecfg_written, granted, granted_at}
 use Rattle.aia_domain.specs.Domain.{source_changed}
 use Rattle.aia_model.specs.Act.{Past, newest, when}
-use Rattle.aia_model.specs.Act.DomainName.{Root, Child}
+use Rattle.aia_model.specs.declared.domain_name.DomainName.TheVariants.{Root, Child}
 use Rattle.aia_model.specs.Act.Act.{Written}
 use Rattle.aia_model.specs.SourceOf.{harts_in, sources_in, is_register_of, wire_of, root_sourcecfg_of, is_delegated, child_told, is_msi, enable_word, target_after}
 use Rattle.aia_aplic.specs.Stands.{held}

@@ -1,8 +1,8 @@
 -- Lists of senders as sets, and in order. Profile: this project's way to speak of them.
 use Rattle.std.specs.Prelude.{◌≡◌, ◌<◌, ◌⊎◌, List, [], ◌∷◌}
-use Rattle.aia_model.specs.Act.{Sender}
-use Rattle.aia_model.specs.Act.DomainName.{Root, Child}
-use Rattle.aia_model.specs.Act.Sender.{ByGenMsi, BySource}
+use Rattle.aia_model.specs.declared.sender.Sender.{Sender}
+use Rattle.aia_model.specs.declared.domain_name.DomainName.TheVariants.{Root, Child}
+use Rattle.aia_model.specs.declared.sender.Sender.TheVariants.{ByGenMsi, BySource}
 
 -- A sender stands in a list.
 abbrev pub IsAmong : Sender → List Sender → Type 0

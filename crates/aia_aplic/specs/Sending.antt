@@ -4,9 +4,9 @@ use Rattle.aia_domain.specs.Held.{waits}
 use Rattle.aia_domain.specs.Domain.{is_ready}
 use Rattle.aia_model.specs.declared.msi.Msi.{Msi}
 use Rattle.aia_model.specs.Act.{Past}
-use Rattle.aia_model.specs.Act.{Sender}
-use Rattle.aia_model.specs.Act.DomainName.{Root, Child}
-use Rattle.aia_model.specs.Act.Sender.{ByGenMsi, BySource}
+use Rattle.aia_model.specs.declared.sender.Sender.{Sender}
+use Rattle.aia_model.specs.declared.domain_name.DomainName.TheVariants.{Root, Child}
+use Rattle.aia_model.specs.declared.sender.Sender.TheVariants.{ByGenMsi, BySource}
 use Rattle.aia_model.specs.Act.Act.{Sent}
 use Rattle.aia_model.specs.Sent.{senders, msi_of}
 use Rattle.aia_aplic.specs.Stands.{SideState, AplicState, AplicStands}

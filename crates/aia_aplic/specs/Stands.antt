@@ -3,8 +3,9 @@ use Rattle.std.specs.Prelude.{◌≡◌, ℕ, zero, suc, Bool, true, false, nat_
 use Rattle.aia_domain.specs.Held.{Held}
 use Rattle.aia_domain.specs.Domain.{DomainState, IsNewDomain}
 use Rattle.aia_direct.specs.Control.{Control, new_control}
-use Rattle.aia_model.specs.Act.{DomainName, Past, is_domain}
-use Rattle.aia_model.specs.Act.DomainName.{Root, Child}
+use Rattle.aia_model.specs.declared.domain_name.DomainName.{DomainName}
+use Rattle.aia_model.specs.Act.{Past, is_domain}
+use Rattle.aia_model.specs.declared.domain_name.DomainName.TheVariants.{Root, Child}
 use Rattle.aia_model.specs.SourceOf.{harts_in, sources_in, wire_of, is_delegated, mode, is_on, is_msi, enabled, target, pending, genmsi_of, genmsi_waits, delivery_of, force_of, threshold_of}
 use Rattle.aia_model.specs.AddressOf.{AddressRegisters, new_addresses, addresses_of}
 

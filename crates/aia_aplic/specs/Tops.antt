@@ -1,7 +1,8 @@
 -- What it is to be on top for a hart, said of the set of sources. Profile: this project's way to speak of it.
 use Rattle.std.specs.Prelude.{◌≡◌, ℕ, ◌≤◌, true, false}
 use Rattle.aia_source.specs.Top.{Pair, ComesFirst, priority_of}
-use Rattle.aia_model.specs.Act.{DomainName, Past}
+use Rattle.aia_model.specs.declared.domain_name.DomainName.{DomainName}
+use Rattle.aia_model.specs.Act.{Past}
 use Rattle.aia_model.specs.SourceOf.{sources_in, target, pending, is_msi, is_for}
 
 -- A pair is that of a pending source that is the hart's, in a domain that delivers directly, and comes before the pair of each such source: by

@@ -1,7 +1,7 @@
 ghost use Rattle.std.specs.Prelude.{◌≡◌, ◌^◌, ◌<◌};
 ghost use Rattle.aia_regs.specs.Fields.{field};
 ghost use Rattle.aia_source.specs.Top.{hart_of};
-ghost use Rattle.aia_model.specs.Act.DomainName.{Root, Child};
+ghost use Rattle.aia_model.specs.declared.domain_name.DomainName.TheVariants.{Root, Child};
 ghost use Rattle.aia_model.specs.AddressOf.{new_addresses, are_locked, address_put, address_written, address_read};
 ghost use Rattle.aia_model.specs.Sent.{msi_by};
 

@@ -1,7 +1,7 @@
 ghost use Rattle.std.specs.Prelude.{◌≡◌, ◌<◌, ◌≤◌, [], ◌∷◌, length, Bool, true, false, IfOk, IfSome};
 ghost use Rattle.aia_regs.specs.DomainRegisters.{domain_register_of};
 ghost use Rattle.aia_model.specs.Act.{Past};
-ghost use Rattle.aia_model.specs.Act.DomainName.{Root};
+ghost use Rattle.aia_model.specs.declared.domain_name.DomainName.TheVariants.{Root};
 ghost use Rattle.aia_model.specs.Act.Act.{Made, Driven, Written, Loaded, Sent};
 ghost use Rattle.aia_model.specs.Sent.{msi_of};
 ghost use Rattle.aia_domain.specs.Domain.{is_ready};

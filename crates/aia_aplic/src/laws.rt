@@ -2,8 +2,8 @@
 
 ghost use Rattle.std.specs.Prelude.{◌≡◌, ◌↔◌, ℕ, ◌≤◌, Bool, true, false, ◌&&◌, List, [], ◌∷◌, Option, Some, None};
 ghost use Rattle.aia_model.specs.Event.{History};
-ghost use Rattle.aia_model.specs.Act.{Sender};
-ghost use Rattle.aia_model.specs.Act.Sender.{ByGenMsi, BySource};
+ghost use Rattle.aia_model.specs.declared.sender.Sender.{Sender};
+ghost use Rattle.aia_model.specs.declared.sender.Sender.TheVariants.{ByGenMsi, BySource};
 ghost use Rattle.aia_model.specs.Sent.{is_ready, senders, msi_of, msis, settled, acts_of};
 ghost use Rattle.aia_aplic.specs.Senders.{IsAmong, IsInOrder};
 ghost use Rattle.aia_source.specs.Top.{Pair};
@@ -12,9 +12,10 @@ ghost use Rattle.aia_regs.specs.declared.domain_registers.DomainReg.{DomainReg};
 ghost use Rattle.aia_regs.specs.declared.domain_registers.DomainReg.TheVariants.{SourceCfg};
 ghost use Rattle.aia_source.specs.Source.{is_level};
 ghost use Rattle.aia_source.specs.Registers.{sets_pending};
-ghost use Rattle.aia_model.specs.Act.{DomainName, Act, Past};
+ghost use Rattle.aia_model.specs.declared.domain_name.DomainName.{DomainName};
+ghost use Rattle.aia_model.specs.Act.{Act, Past};
 ghost use Rattle.aia_model.specs.AddressOf.{are_locked, addresses_of};
-ghost use Rattle.aia_model.specs.Act.DomainName.{Root, Child};
+ghost use Rattle.aia_model.specs.declared.domain_name.DomainName.TheVariants.{Root, Child};
 ghost use Rattle.aia_model.specs.Act.Act.{Written, Sent};
 ghost use Rattle.aia_model.specs.SourceOf.{is_delegated, sourcecfg_of, mode, owns, input, is_msi, enabled, target, pending, sources_in, genmsi_waits, is_for, top};
 

@@ -6,9 +6,10 @@ ghost use Rattle.aia_domain.specs.Domain.{with_sources, source_after, domain_aft
 ghost use Rattle.aia_direct.specs.Control.{top_shown, claimed_top};
 ghost use Rattle.std.specs.Prelude.{Some, length, ◌≡◌, ◌<◌, ◌≤◌, ◌∷◌, ℕ, Bool, true, false, IfOk};
 ghost use Rattle.aia_source.specs.Registers.{delegates, root_sourcecfg};
-ghost use Rattle.aia_model.specs.Act.{DomainName, Past};
-ghost use Rattle.aia_model.specs.Act.DomainName.{Root, Child};
-ghost use Rattle.aia_model.specs.Act.Sender.{ByGenMsi, BySource};
+ghost use Rattle.aia_model.specs.declared.domain_name.DomainName.{DomainName};
+ghost use Rattle.aia_model.specs.Act.{Past};
+ghost use Rattle.aia_model.specs.declared.domain_name.DomainName.TheVariants.{Root, Child};
+ghost use Rattle.aia_model.specs.declared.sender.Sender.TheVariants.{ByGenMsi, BySource};
 ghost use Rattle.aia_model.specs.Act.Act.{Driven, Written, Loaded, Sent};
 ghost use Rattle.aia_model.specs.SourceOf.{harts_in, sources_in, target, genmsi_of, own_read, is_signalled};
 ghost use Rattle.aia_aplic.specs.Stands.{SideStands, IsNewSide};

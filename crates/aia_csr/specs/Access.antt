@@ -7,8 +7,8 @@ use Rattle.aia_regs.specs.declared.file_registers.FileReg.{FileReg}
 use Rattle.aia_regs.specs.declared.file_registers.FileReg.TheVariants.{Odd, Outside}
 use Rattle.aia_regs.specs.Operations.{is_writing}
 use Rattle.aia_regs.specs.FileRegisters.{register_of, IsUsable}
-use Rattle.aia_csr.specs.declared.access.Level.{Level}
-use Rattle.aia_csr.specs.declared.access.Level.TheVariants as levels
+use Rattle.aia_regs.specs.declared.access.Level.{Level}
+use Rattle.aia_regs.specs.declared.access.Level.TheVariants as levels
 use Rattle.aia_csr.specs.declared.access.Access.{Access}
 use Rattle.aia_csr.specs.declared.access.Access.TheVariants as reaches
 

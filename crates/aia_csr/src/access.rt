@@ -1,18 +1,7 @@
 ghost use Rattle.std.specs.Prelude.{◌≡◌};
 ghost use Rattle.aia_csr.specs.Access.{access_of, IsInTable, ReachesUsable, register_at};
 
-use aia_regs::{Csr, FileReg, Op, file_reg};
-
-/// The privilege level of an access.
-#[derive(Clone, Copy, Debug, PartialEq, Eq)]
-pub enum Level {
-    /// Machine level: `miselect`, `mireg`, `mtopei`.
-    Machine,
-    /// Supervisor level of the host: `siselect`, `sireg`, `stopei`.
-    Host,
-    /// Supervisor level of a guest (VS): the same, `stopi`, `sip` and `sie`.
-    Guest,
-}
+use aia_regs::{Csr, FileReg, Level, Op, file_reg};
 
 /// What an access reaches, or the fault that it raises.
 #[derive(Clone, Copy, Debug, PartialEq, Eq)]

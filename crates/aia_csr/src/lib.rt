@@ -3,4 +3,4 @@
 
 mod access;
 
-pub use access::{Access, Level, decide};
+pub use access::{Access, decide};

@@ -1,19 +1,23 @@
 -- Answers and histories by the refusal of a line.
-use Rattle.std.proofs.Common.{◌≡◌, ℕ, Bool, true, false, not, cond, nat_lt, Option, Some, None, unwrap_or, refl, ap, ◌∙◌}
+use Rattle.std.proofs.Common.{◌≡◌, ℕ, Bool, true, false, not, cond, nat_lt, Option, Some, None, unwrap_or, refl, sym, ap, ◌∙◌}
+use Rattle.std.proofs.lemmas.Bool.{cond-true}
 use Rattle.std.specs.Option.{option_map}
 use Rattle.aia_regs.specs.declared.access.Csr.{Csr}
 use Rattle.aia_regs.specs.declared.access.Op.{Op}
-use Rattle.aia_csr.specs.declared.access.Level.TheVariants as levels
+use Rattle.aia_regs.specs.declared.access.Level.TheVariants as levels
 use Rattle.aia_csr.specs.Access.{access_of}
 use Rattle.aia_model.specs.declared.line.Line.{Line}
 use Rattle.aia_model.specs.declared.line.Line.TheVariants.{Machine, Wire, Load, Store, MachineCsr, HostCsr, Pins}
+use Rattle.aia_imsic.specs.declared.spot.Spot.{Spot}
 use Rattle.aia_model.specs.declared.answer.Answer.{Answer}
-use Rattle.aia_model.specs.declared.answer.Answer.TheVariants.{NoMachine, Again, Range, Illegal, Fault, Guarded}
+use Rattle.aia_model.specs.declared.answer.Answer.TheVariants.{NoMachine, Again, Refused}
+use Rattle.aia_model.specs.declared.refusal.Refusal.{Refusal}
+use Rattle.aia_model.specs.declared.refusal.Refusal.TheVariants.{Range, Illegal, Fault, Guarded}
 use Rattle.aia_model.specs.Event.{History, has_machine, harts_of}
 use Rattle.aia_model.specs.SourceOf.{is_source}
 use Rattle.aia_model.specs.Sent.{acts_of}
 use Rattle.aia_model.specs.FileOf.{MachineFile, SupervisorFile, page_at, select_of}
-use Rattle.aia_model.specs.Refusal.{refusal, raises_illegal, faults, guards, place_refusal, is_machine_size, lacks_machine, has_one_already, is_out_of_range, is_illegal, is_fault, is_guarded}
+use Rattle.aia_model.specs.Refusal.{refusal, raises_illegal, faults, guards, place_refusal, is_machine_size, lacks_machine}
 use Rattle.aia_model.specs.Answer.{answer, after, accepted_answer, history_after}
 
 pub answered : (h : History) (line : Line) (r : Option Answer) → refusal h line ≡ r → answer h line ≡ unwrap_or r (accepted_answer h line)
@@ -24,58 +28,51 @@ pub after_by : (h : History) (line : Line) (r : Option Answer) → refusal h lin
 unfolding after
 after_by h line r e = ap (λ o. history_after o h line) e
 
--- ---- the refusal of each form of line, where a machine stands
+-- ---- the refusal of each form of line: by computation it is the words whose cells matter to the form, in order
 
-pushed : {A B : Type 0} (f : A → B) (b : Bool) (x y : Option A) → option_map f (cond b x y) ≡ cond b (option_map f x) (option_map f y)
-pushed f true x y = refl
-pushed f false x y = refl
+-- a machine stands, so the first word is passed
+past_machine : (h : History) (later : Option Answer) → has_machine h ≡ true → cond (not (has_machine h)) (Some NoMachine) later ≡ later
+past_machine h later there = ap (λ b. cond (not b) (Some NoMachine) later) there
 
--- the first word whose test holds, of six
-abbrev pub first_word : Bool → Bool → Bool → Bool → Bool → Bool → Option Answer
-first_word a b c d e f = cond a (Some NoMachine) (cond b (Some Again) (cond c (Some Range) (cond d (Some Illegal) (cond e (Some Fault) (cond f (Some Guarded) None)))))
+-- the word of a core's refusal, where there is one
+abbrev pub refused_by : Option Refusal → Option Answer
+refused_by = option_map Refused
 
-refusal_tests : (h : History) (line : Line) → refusal h line ≡ first_word (lacks_machine h line) (has_one_already h line) (is_out_of_range h line) (is_illegal h line) (is_fault h line) (is_guarded h line)
-refusal_tests h line =
-    let word = λ (r : Answer × (History → Line → Bool)). r.0 in
-    pushed word (lacks_machine h line) _ _ ∙ ap (cond (lacks_machine h line) (Some NoMachine)) (
-    pushed word (has_one_already h line) _ _ ∙ ap (cond (has_one_already h line) (Some Again)) (
-    pushed word (is_out_of_range h line) _ _ ∙ ap (cond (is_out_of_range h line) (Some Range)) (
-    pushed word (is_illegal h line) _ _ ∙ ap (cond (is_illegal h line) (Some Illegal)) (
-    pushed word (is_fault h line) _ _ ∙ ap (cond (is_fault h line) (Some Fault)) (pushed word (is_guarded h line) _ _)
-    )
-    )
-    )
-    )
+pushed : (b : Bool) (x y : Option Refusal) → refused_by (cond b x y) ≡ cond b (refused_by x) (refused_by y)
+pushed true x y = refl
+pushed false x y = refl
 
-pub machine_refusal : (h : History) (harts guests n sources : ℕ) → refusal h (Machine harts guests n sources) ≡ cond (has_machine h) (Some Again) (cond (not (is_machine_size harts guests n sources)) (Some Range) None)
-machine_refusal h harts guests n sources = refusal_tests h (Machine harts guests n sources)
+-- the word of a place
+place_word : (spot : Spot) (addr : ℕ) → cond (faults spot addr) (Some (Refused Fault)) (cond (guards spot addr) (Some (Refused Guarded)) None) ≡ refused_by (place_refusal spot addr)
+place_word spot addr = sym (pushed (faults spot addr) (Some Fault) (cond (guards spot addr) (Some Guarded) None) ∙ ap (cond (faults spot addr) (Some (Refused Fault))) (pushed (guards spot addr) (Some Guarded) None))
 
-pub wire_refusal : (h : History) (source : ℕ) (level : Bool) → has_machine h ≡ true → refusal h (Wire source level) ≡ cond (not (is_source (acts_of h) source)) (Some Range) None
-wire_refusal h source level there = refusal_tests h (Wire source level) ∙ ap (λ b. first_word (not b) false (not (is_source (acts_of h) source)) false false false) there
+pub machine_refusal : (h : History) (harts guests n sources : ℕ) → refusal h (Machine harts guests n sources) ≡ cond (has_machine h) (Some Again) (cond (not (is_machine_size harts guests n sources)) (Some (Refused Range)) None)
+machine_refusal h harts guests n sources = refl
 
-pub pins_refusal : (h : History) (hart : ℕ) → has_machine h ≡ true → refusal h (Pins hart) ≡ cond (not (nat_lt hart (harts_of h))) (Some Range) None
-pins_refusal h hart there = refusal_tests h (Pins hart) ∙ ap (λ b. first_word (not b) false (not (nat_lt hart (harts_of h))) false false false) there
+pub wire_refusal : (h : History) (source : ℕ) (level : Bool) → has_machine h ≡ true → refusal h (Wire source level) ≡ cond (not (is_source (acts_of h) source)) (Some (Refused Range)) None
+wire_refusal h source level there = past_machine h _ there
 
-pub load_refusal : (h : History) (addr : ℕ) → has_machine h ≡ true → refusal h (Load addr) ≡ place_refusal (page_at h addr) addr
-load_refusal h addr there = refusal_tests h (Load addr) ∙ ap (λ b. first_word (not b) false false false (faults (page_at h addr) addr) (guards (page_at h addr) addr)) there
+pub pins_refusal : (h : History) (hart : ℕ) → has_machine h ≡ true → refusal h (Pins hart) ≡ cond (not (nat_lt hart (harts_of h))) (Some (Refused Range)) None
+pins_refusal h hart there = past_machine h _ there
 
-pub store_refusal : (h : History) (addr value : ℕ) → has_machine h ≡ true → refusal h (Store addr value) ≡ place_refusal (page_at h addr) addr
-store_refusal h addr value there = refusal_tests h (Store addr value) ∙ ap (λ b. first_word (not b) false false false (faults (page_at h addr) addr) (guards (page_at h addr) addr)) there
+pub load_refusal : (h : History) (addr : ℕ) → has_machine h ≡ true → refusal h (Load addr) ≡ refused_by (place_refusal (page_at h addr) addr)
+load_refusal h addr there = past_machine h _ there ∙ place_word (page_at h addr) addr
+
+pub store_refusal : (h : History) (addr value : ℕ) → has_machine h ≡ true → refusal h (Store addr value) ≡ refused_by (place_refusal (page_at h addr) addr)
+store_refusal h addr value there = past_machine h _ there ∙ place_word (page_at h addr) addr
 
 -- the refusal of an access of a hart, given whether it raises an illegal-instruction fault
 abbrev pub access_refusal : History → ℕ → Bool → Option Answer
-access_refusal h hart illegal = cond (not (nat_lt hart (harts_of h))) (Some Range) (cond illegal (Some Illegal) None)
+access_refusal h hart illegal = cond (not (nat_lt hart (harts_of h))) (Some (Refused Range)) (cond illegal (Some (Refused Illegal)) None)
 
 pub machine_csr_refusal : (h : History) (hart : ℕ) (csr : Csr) (op : Op) → has_machine h ≡ true
     → refusal h (MachineCsr hart csr op) ≡ access_refusal h hart (raises_illegal (access_of levels.Machine csr op (select_of h (MachineFile hart)) false))
-machine_csr_refusal h hart csr op there =
-    refusal_tests h (MachineCsr hart csr op) ∙ ap (λ b. first_word (not b) false (not (nat_lt hart (harts_of h))) (raises_illegal (access_of levels.Machine csr op (select_of h (MachineFile hart)) false)) false false) there
+machine_csr_refusal h hart csr op there = past_machine h _ there
 
 pub host_csr_refusal : (h : History) (hart : ℕ) (csr : Csr) (op : Op) → has_machine h ≡ true
     → refusal h (HostCsr hart csr op) ≡ access_refusal h hart (raises_illegal (access_of levels.Host csr op (select_of h (SupervisorFile hart)) false))
-host_csr_refusal h hart csr op there =
-    refusal_tests h (HostCsr hart csr op) ∙ ap (λ b. first_word (not b) false (not (nat_lt hart (harts_of h))) (raises_illegal (access_of levels.Host csr op (select_of h (SupervisorFile hart)) false)) false false) there
+host_csr_refusal h hart csr op there = past_machine h _ there
 
 -- a line that makes no machine is refused where none stands
 pub no_machine_refusal : (h : History) (line : Line) → lacks_machine h line ≡ true → refusal h line ≡ Some NoMachine
-no_machine_refusal h line lacks = refusal_tests h line ∙ ap (λ b. first_word b (has_one_already h line) (is_out_of_range h line) (is_illegal h line) (is_fault h line) (is_guarded h line)) lacks
+no_machine_refusal h line lacks = cond-true _ _ _ lacks

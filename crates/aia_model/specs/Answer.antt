@@ -13,8 +13,9 @@ use Rattle.aia_model.specs.declared.answer.Answer.TheVariants as words
 use Rattle.aia_model.specs.declared.msi.Msi.{Msi}
 use Rattle.aia_model.specs.Event.{History}
 use Rattle.aia_model.specs.Event.Event.{Accepted, Delivered}
-use Rattle.aia_model.specs.Act.{DomainName, domain_at, register_at}
-use Rattle.aia_model.specs.Act.DomainName.{Root, Child}
+use Rattle.aia_model.specs.declared.domain_name.DomainName.{DomainName}
+use Rattle.aia_model.specs.Act.{domain_at, register_at}
+use Rattle.aia_model.specs.declared.domain_name.DomainName.TheVariants.{Root, Child}
 use Rattle.aia_model.specs.SourceOf.{register_read, is_signalled}
 use Rattle.aia_model.specs.Sent.{acts_of, msis_of}
 use Rattle.aia_model.specs.FileOf.{FileName, MachineFile, SupervisorFile, select_of, file_of}

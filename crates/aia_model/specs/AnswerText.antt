@@ -1,7 +1,9 @@
 -- How an answer is printed. Profile.
 use Rattle.std.specs.Prelude.{ℕ, zero, suc, ◌+◌, ◌*◌, ◌/◌, ◌%◌, ◌^◌, Bool, nat_lt, if◌then◌else◌, List, [], ◌∷◌, ◌++◌, codes}
 use Rattle.aia_model.specs.declared.answer.Answer.{Answer}
-use Rattle.aia_model.specs.declared.answer.Answer.TheVariants.{Okay, Narrow, Wide, Pins, Bad, NoMachine, Again, Range, Illegal, Fault, Guarded}
+use Rattle.aia_model.specs.declared.answer.Answer.TheVariants.{Okay, Narrow, Wide, Pins, Bad, NoMachine, Again, Refused}
+use Rattle.aia_model.specs.declared.refusal.Refusal.{Refusal}
+use Rattle.aia_model.specs.declared.refusal.Refusal.TheVariants.{Range, Illegal, Fault, Guarded}
 use Rattle.aia_model.specs.Grammar.{bit_number}
 
 -- The character of a digit of 0 to 15: 0 to 9, a to f.
@@ -17,6 +19,13 @@ hex_digits (suc count) v = digit_character (v / 2 ^ (4 * count) % 16) ∷ hex_di
 abbrev pub level_text : Bool → List ℕ
 level_text level = 32 ∷ digit_character (bit_number level) ∷ []
 
+-- How a refusal is spelled.
+abbrev pub refusal_word : Refusal → List ℕ
+refusal_word Range = codes "range"
+refusal_word Illegal = codes "illegal"
+refusal_word Fault = codes "fault"
+refusal_word Guarded = codes "guarded"
+
 -- The word of an answer.
 abbrev pub answer_word : Answer → List ℕ
 answer_word Okay = codes "ok"
@@ -26,10 +35,7 @@ answer_word (Pins root child machine supervisor) = codes "pins" ++ level_text ro
 answer_word Bad = codes "bad"
 answer_word NoMachine = codes "nomachine"
 answer_word Again = codes "again"
-answer_word Range = codes "range"
-answer_word Illegal = codes "illegal"
-answer_word Fault = codes "fault"
-answer_word Guarded = codes "guarded"
+answer_word (Refused word) = refusal_word word
 
 -- The bytes of an answer: its word and an LF.
 unfoldable pub answer_text : Answer → List ℕ

@@ -1,11 +1,11 @@
 -- When a line is refused, and with which word.
-use Rattle.std.specs.Prelude.{ℕ, ◌%◌, Bool, true, false, ◌&&◌, ◌||◌, not, nat_eq, nat_lt, is_some, is_none, List, [], ◌∷◌, find, if◌then◌else◌, Option, Some, None}
+use Rattle.std.specs.Prelude.{ℕ, ◌%◌, Bool, true, false, ◌&&◌, ◌||◌, not, nat_eq, nat_lt, is_some, is_none, List, [], ◌∷◌, if◌then◌else◌, Option, Some, None}
 use Rattle.std.specs.Int.{is_in_range}
-use Rattle.std.specs.Option.{option_map}
-use Rattle.aia_csr.specs.declared.access.Level.TheVariants as levels
+use Rattle.aia_regs.specs.declared.access.Level.TheVariants as levels
 use Rattle.aia_csr.specs.declared.access.Access.{Access}
 use Rattle.aia_csr.specs.declared.access.Access.TheVariants as accesses
 use Rattle.aia_csr.specs.Access.{access_of}
+use Rattle.aia_regs.specs.declared.limits.TheConstants.{HARTS, GUEST_FILES, SOURCES}
 use Rattle.aia_regs.specs.AddressMap.{is_in_memory}
 use Rattle.aia_file.specs.InterruptFile.{is_width}
 use Rattle.aia_imsic.specs.declared.spot.Spot.{Spot}
@@ -13,7 +13,9 @@ use Rattle.aia_imsic.specs.Map.{is_page, is_guest_page}
 use Rattle.aia_model.specs.declared.line.Line.{Line}
 use Rattle.aia_model.specs.declared.line.Line.TheVariants.{Machine, Wire, Load, Store, MachineCsr, HostCsr, Pins}
 use Rattle.aia_model.specs.declared.answer.Answer.{Answer}
-use Rattle.aia_model.specs.declared.answer.Answer.TheVariants.{NoMachine, Again, Range, Illegal, Fault, Guarded}
+use Rattle.aia_model.specs.declared.answer.Answer.TheVariants.{NoMachine, Again, Refused}
+use Rattle.aia_model.specs.declared.refusal.Refusal.{Refusal}
+use Rattle.aia_model.specs.declared.refusal.Refusal.TheVariants.{Range, Illegal, Fault, Guarded}
 use Rattle.aia_model.specs.Event.{History, has_machine, harts_of}
 use Rattle.aia_model.specs.Act.{domain_at}
 use Rattle.aia_model.specs.SourceOf.{is_source}
@@ -34,7 +36,7 @@ has_one_already h line = false
 
 -- `range`: a machine's number is out of its limits, or the named source or hart isn't there.
 abbrev pub is_machine_size : ℕ → ℕ → ℕ → ℕ → Bool
-is_machine_size harts guests n sources = is_in_range 1 4 harts && is_in_range 0 7 guests && is_width n && is_in_range 1 1023 sources
+is_machine_size harts guests n sources = is_in_range 1 HARTS harts && is_in_range 0 GUEST_FILES guests && is_width n && is_in_range 1 SOURCES sources
 
 abbrev pub is_out_of_range : History → Line → Bool
 is_out_of_range h (Machine harts guests n sources) = not (is_machine_size harts guests n sources)
@@ -68,7 +70,7 @@ abbrev pub guards : Spot → ℕ → Bool
 guards spot addr = is_guest_page spot || is_in_memory addr
 
 -- The word that refuses a load or a store, by what lies at its address, where it does.
-abbrev pub place_refusal : Spot → ℕ → Option Answer
+abbrev pub place_refusal : Spot → ℕ → Option Refusal
 place_refusal spot addr = if faults spot addr then Some Fault else (if guards spot addr then Some Guarded else None)
 
 abbrev pub is_guarded : History → Line → Bool
@@ -80,11 +82,18 @@ is_guarded h line = false
 
 -- The words with their cells, in the order in which they come.
 abbrev pub refusals : List (Answer × (History → Line → Bool))
-refusals = (NoMachine, lacks_machine) ∷ (Again, has_one_already) ∷ (Range, is_out_of_range) ∷ (Illegal, is_illegal) ∷ (Fault, is_fault) ∷ (Guarded, is_guarded) ∷ []
+refusals =
+    (NoMachine, lacks_machine) ∷ (Again, has_one_already) ∷ (Refused Range, is_out_of_range) ∷ (Refused Illegal, is_illegal)
+    ∷ (Refused Fault, is_fault) ∷ (Refused Guarded, is_guarded) ∷ []
 
--- The refusal of a line: the first word whose cell holds, None where the line is accepted.
+-- The first word whose cell holds, None where none does.
+abbrev pub first_refusal : History → Line → List (Answer × (History → Line → Bool)) → Option Answer
+first_refusal h line [] = None
+first_refusal h line (row ∷ later) = if row.1 h line then Some row.0 else first_refusal h line later
+
+-- The refusal of a line, None where it is accepted.
 abbrev pub refusal : History → Line → Option Answer
-refusal h line = option_map (λ (r : Answer × (History → Line → Bool)). r.0) (find (λ r. r.1 h line) refusals)
+refusal h line = first_refusal h line refusals
 
 -- Whether a line is a `machine` line that is accepted.
 abbrev pub makes_machine : History → Line → Bool

@@ -4,9 +4,11 @@ use Rattle.std.specs.Prelude.{ℕ, zero, suc, ◌&&◌, Bool, true, false, List,
 use Rattle.aia_regs.specs.Fields.{field}
 use Rattle.aia_source.specs.Top.{hart_of}
 use Rattle.aia_model.specs.declared.msi.Msi.{Msi}
-use Rattle.aia_model.specs.Act.{DomainName, Sender, Act, Past, act_of}
-use Rattle.aia_model.specs.Act.DomainName.{Root, Child}
-use Rattle.aia_model.specs.Act.Sender.{ByGenMsi, BySource}
+use Rattle.aia_model.specs.declared.domain_name.DomainName.{DomainName}
+use Rattle.aia_model.specs.declared.sender.Sender.{Sender}
+use Rattle.aia_model.specs.Act.{Act, Past, act_of}
+use Rattle.aia_model.specs.declared.domain_name.DomainName.TheVariants.{Root, Child}
+use Rattle.aia_model.specs.declared.sender.Sender.TheVariants.{ByGenMsi, BySource}
 use Rattle.aia_model.specs.Act.Act.{Sent}
 use Rattle.aia_model.specs.AddressOf.{AddressRegisters, address_by, addresses_of}
 use Rattle.aia_model.specs.SourceOf.{sources_in, is_on, is_msi, enabled, target, pending, genmsi_of, genmsi_waits}

@@ -1,4 +1,6 @@
-/// What a line answers: one form for each form of answer, and one for each word of refusal.
+use crate::Refusal;
+
+/// What a text answers, if it is not skipped: one form for each form of answer.
 #[derive(Clone, Copy, Debug, PartialEq, Eq)]
 pub enum Answer {
     /// `ok`.
@@ -16,12 +18,6 @@ pub enum Answer {
     NoMachine,
     /// `again`: a machine stands already.
     Again,
-    /// `range`: a number names nothing, or is past its limit.
-    Range,
-    /// `illegal`: the access raises an illegal-instruction fault.
-    Illegal,
-    /// `fault`: the address is in no place that is there, or isn't aligned.
-    Fault,
-    /// `guarded`: the address is a guest's, or in memory.
-    Guarded,
+    /// One of the words by which a machine refuses a line.
+    Refused(Refusal),
 }

@@ -4,12 +4,18 @@
 #![tactic(auto)]
 
 mod answer;
+mod domain_name;
 pub mod laws;
 mod line;
 mod msi;
 mod parsed;
+mod refusal;
+mod sender;
 
 pub use answer::Answer;
+pub use domain_name::DomainName;
 pub use line::Line;
 pub use msi::Msi;
 pub use parsed::Parsed;
+pub use refusal::Refusal;
+pub use sender::Sender;

@@ -1,6 +1,17 @@
 ghost use Rattle.std.specs.Prelude.{◌≡◌};
 ghost use Rattle.aia_regs.specs.Operations.{is_writing, written};
 
+/// The privilege level of an access.
+#[derive(Clone, Copy, Debug, PartialEq, Eq)]
+pub enum Level {
+    /// Machine level: `miselect`, `mireg`, `mtopei`.
+    Machine,
+    /// Supervisor level of the host: `siselect`, `sireg`, `stopei`.
+    Host,
+    /// Supervisor level of a guest (VS): the same, `stopi`, `sip` and `sie`.
+    Guest,
+}
+
 /// A CSR of one privilege level, by its part in the AIA.
 ///
 /// AIA 1.0, Incoming MSI Controller, and Interrupts for Virtual Machines (VS Level).

@@ -8,11 +8,12 @@ mod domain_registers;
 mod fields;
 mod file_registers;
 pub mod laws;
+pub mod limits;
 mod request;
 #[cfg(test)]
 mod tests;
 
-pub use access::{Csr, Op};
+pub use access::{Csr, Level, Op};
 pub use byte_order::swap32;
 pub use domain_registers::{DomainReg, domain_reg};
 pub use fields::{bits, put_bits};

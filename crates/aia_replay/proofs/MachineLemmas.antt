@@ -9,8 +9,8 @@ use Rattle.std.proofs.lemmas.Bool.Decides.{nat_tests}
 use Rattle.aia_regs.specs.AddressMap.{machine_page, supervisor_page, is_in_page, is_in_memory, is_in_region, root_region, child_region}
 use Rattle.aia_regs.specs.declared.access.Csr.{Csr}
 use Rattle.aia_regs.specs.declared.access.Op.{Op}
-use Rattle.aia_csr.specs.declared.access.Level.{Level}
-use Rattle.aia_csr.specs.declared.access.Level.TheVariants as levels
+use Rattle.aia_regs.specs.declared.access.Level.{Level}
+use Rattle.aia_regs.specs.declared.access.Level.TheVariants as levels
 use Rattle.aia_csr.specs.Access.{access_of}
 use Rattle.aia_file.specs.InterruptFile.{SameFile, empty_file, landed, signals}
 use Rattle.aia_file.specs.FileState.{FileState, shown}
@@ -28,9 +28,10 @@ use Rattle.aia_model.specs.declared.answer.Answer.TheVariants as words
 use Rattle.aia_model.specs.declared.answer.Answer.TheVariants.{Okay, Narrow, Wide, Range, Illegal, Fault, Guarded}
 use Rattle.aia_model.specs.Event.{Event, History, has_machine, harts_of, guests_of}
 use Rattle.aia_model.specs.Event.Event.{Accepted, Delivered}
-use Rattle.aia_model.specs.Act.{DomainName, Past, newest, domain_at, register_at, act_of}
+use Rattle.aia_model.specs.declared.domain_name.DomainName.{DomainName}
+use Rattle.aia_model.specs.Act.{Past, newest, domain_at, register_at, act_of}
 use Rattle.aia_model.specs.Sent.{with_act, acts_of}
-use Rattle.aia_model.specs.Act.DomainName.{Root, Child}
+use Rattle.aia_model.specs.declared.domain_name.DomainName.TheVariants.{Root, Child}
 use Rattle.aia_model.specs.Act.Act.{Driven, Written, Loaded}
 use Rattle.aia_model.specs.SourceOf.{harts_in, sources_in, is_source, register_read, is_signalled}
 use Rattle.aia_model.specs.FileOf.{FileName, MachineFile, SupervisorFile, Deed, is_at, page_at, deed_at, select_of, select_told, file_of, file_after}

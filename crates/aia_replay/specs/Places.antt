@@ -2,8 +2,8 @@
 use Rattle.std.specs.Prelude.{◌≡◌, ℕ, ◌+◌, ◌*◌}
 use Rattle.aia_regs.specs.declared.access.Csr.{Csr}
 use Rattle.aia_regs.specs.declared.access.Op.{Op}
-use Rattle.aia_csr.specs.declared.access.Level.{Level}
-use Rattle.aia_csr.specs.declared.access.Level.TheVariants as levels
+use Rattle.aia_regs.specs.declared.access.Level.{Level}
+use Rattle.aia_regs.specs.declared.access.Level.TheVariants as levels
 use Rattle.aia_file.specs.InterruptFile.{SameFile}
 use Rattle.aia_file.specs.FileState.{FileState, shown}
 use Rattle.aia_imsic.specs.declared.spot.Spot.{Spot}

@@ -20,11 +20,11 @@ ghost use Rattle.aia_model.specs.Event.Event.{Delivered};
 ghost use Rattle.aia_aplic.specs.Stands.{domain_name};
 
 use aia_aplic::{Aplic, Msi};
-use aia_csr::{Access, Level, decide};
+use aia_csr::{Access, decide};
 use aia_file::File;
 use aia_imsic::{Imsic, Spot};
 use aia_regs::address_map::{MEMORY, MEMORY_END, PAGE, REGION, ROOT_DOMAIN};
-use aia_regs::{Csr, Op};
+use aia_regs::{Csr, Level, Op};
 use aia_script::{Answer, Line};
 use std::alloc::{AllocError, Global};
 

@@ -11,7 +11,7 @@ mod print;
 mod spelling;
 mod words;
 
-pub use aia_model::{Answer, Line, Parsed};
+pub use aia_model::{Answer, Line, Parsed, Refusal};
 pub use aia_regs::{Csr, Op};
 pub use parse::parse_line;
 pub use print::print_answer;

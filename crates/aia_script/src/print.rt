@@ -2,9 +2,9 @@
 
 ghost use Rattle.std.specs.Prelude.{◌≡◌, ◌+◌, ◌<◌, ◌≤◌, [], ◌++◌, length};
 ghost use Rattle.arrayvec.specs.ArrayVec.{array_vec_len};
-ghost use Rattle.aia_model.specs.AnswerText.{digit_character, hex_digits, level_text, answer_word, answer_text};
+ghost use Rattle.aia_model.specs.AnswerText.{digit_character, hex_digits, level_text, refusal_word, answer_word, answer_text};
 
-use aia_model::Answer;
+use aia_model::{Answer, Refusal};
 use arrayvec::ArrayVec;
 
 /// Appends a text, for which there is room.
@@ -64,6 +64,20 @@ fn push_pins(out: &mut ArrayVec<u8, 64>, root: bool, child: bool, machine: bool,
     push_level(out, supervisor);
 }
 
+/// Appends the word of a refusal.
+fn push_refusal(out: &mut ArrayVec<u8, 64>, word: Refusal)
+    requires { array_vec_len out.old + 7 ≤ 64 }
+    ensures text { out.new.items ≡ out.old.items ++ refusal_word word }
+    ensures length { array_vec_len out.new ≤ array_vec_len out.old + 7 }
+{
+    match word {
+        Refusal::Range => push_text(out, b"range"),
+        Refusal::Illegal => push_text(out, b"illegal"),
+        Refusal::Fault => push_text(out, b"fault"),
+        Refusal::Guarded => push_text(out, b"guarded"),
+    }
+}
+
 /// Prints an answer into `out`, which is empty: its word and an LF, at most 64 bytes in all.
 ///
 /// The words are our profile's choice.
@@ -89,10 +103,7 @@ pub fn print_answer(answer: &Answer, out: &mut ArrayVec<u8, 64>)
         Answer::Bad => push_text(out, b"bad"),
         Answer::NoMachine => push_text(out, b"nomachine"),
         Answer::Again => push_text(out, b"again"),
-        Answer::Range => push_text(out, b"range"),
-        Answer::Illegal => push_text(out, b"illegal"),
-        Answer::Fault => push_text(out, b"fault"),
-        Answer::Guarded => push_text(out, b"guarded"),
+        Answer::Refused(word) => push_refusal(out, *word),
     }
     push_text(out, b"\n");
 }

@@ -108,10 +108,10 @@ fn answers_are_printed(rt: HostRuntime) {
         (Answer::Bad, "bad\n"),
         (Answer::NoMachine, "nomachine\n"),
         (Answer::Again, "again\n"),
-        (Answer::Range, "range\n"),
-        (Answer::Illegal, "illegal\n"),
-        (Answer::Fault, "fault\n"),
-        (Answer::Guarded, "guarded\n"),
+        (Answer::Refused(Refusal::Range), "range\n"),
+        (Answer::Refused(Refusal::Illegal), "illegal\n"),
+        (Answer::Refused(Refusal::Fault), "fault\n"),
+        (Answer::Refused(Refusal::Guarded), "guarded\n"),
     ];
     for (answer, want) in answers {
         let mut out = ArrayVec::new();

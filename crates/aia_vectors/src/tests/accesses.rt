@@ -1,7 +1,7 @@
 //! What an access to a CSR reaches, by the table of levels and CSRs.
 
-use aia_csr::{Access, Level, decide};
-use aia_regs::{Csr, FileReg, Op};
+use aia_csr::{Access, decide};
+use aia_regs::{Csr, FileReg, Level, Op};
 
 const OPS: [Op; 4] = [Op::Read, Op::Write(1), Op::Set(0), Op::Clear(0)];
 

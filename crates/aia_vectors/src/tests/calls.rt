@@ -1,7 +1,7 @@
 //! The public calls below the run that no other crate's tests make.
 
 use aia_file::File;
-use aia_model::{Answer, Line};
+use aia_model::{Answer, Line, Refusal};
 use aia_regs::{Csr, FileReg, Op};
 use aia_replay::Engine;
 use std::test::Fail;
@@ -21,7 +21,7 @@ fn an_engine_answers_lines_and_texts(rt: HostRuntime) -> Result<(), Fail> {
         ("h 0 csrrw siselect 0xc0", Some(Answer::Wide(0))),
         ("h 0 csrrw sireg 0x20", Some(Answer::Wide(0))),
         ("h 0 csrrw sireg", Some(Answer::Bad)),
-        ("h 1 csrr sireg", Some(Answer::Range)),
+        ("h 1 csrr sireg", Some(Answer::Refused(Refusal::Range))),
         ("h 0 csrr sireg", Some(Answer::Wide(0x20))),
     ];
     for (text, answer) in texts {

@@ -1,5 +1,5 @@
 use Rattle.std.proofs.Common.{sym, subst, ◌∙◌}
-use Rattle.aia_model.specs.Act.DomainName.{Root}
+use Rattle.aia_model.specs.declared.domain_name.DomainName.TheVariants.{Root}
 use Rattle.aia_aplic.specs.Stands.{AplicState, AplicStands}
 use Rattle.aia_aplic.proofs.AddressSteps.{addresses_loaded}
 use Rattle.aia_aplic.proofs.SideLemmas.{child-side_loaded}

@@ -1,6 +1,6 @@
 use Rattle.std.proofs.Common.{◌≡◌, ◌∷◌, sym, subst, ◌∙◌, arith}
 use Rattle.aia_regs.specs.declared.domain_registers.DomainReg.{DomainReg}
-use Rattle.aia_model.specs.Act.DomainName.{Child}
+use Rattle.aia_model.specs.declared.domain_name.DomainName.TheVariants.{Child}
 use Rattle.aia_model.specs.Act.Act.{Written}
 use Rattle.aia_aplic.specs.Stands.{AplicState, AplicStands, domain_name}
 use Rattle.aia_aplic.proofs.AddressSteps.{addresses_child}

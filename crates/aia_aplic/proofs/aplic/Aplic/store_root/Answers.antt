@@ -1,5 +1,5 @@
 use Rattle.std.proofs.Common.{◌∷◌, sym, ap, subst, ◌∙◌}
-use Rattle.aia_model.specs.Act.DomainName.{Root, Child}
+use Rattle.aia_model.specs.declared.domain_name.DomainName.TheVariants.{Root, Child}
 use Rattle.aia_regs.specs.declared.domain_registers.DomainReg.{DomainReg}
 use Rattle.aia_model.specs.Act.Act.{Written}
 use Rattle.aia_aplic.specs.Stands.{AplicState, SideStands, AplicStands}

@@ -1,6 +1,6 @@
 use Rattle.std.proofs.Common.{◌∷◌, List, sym, subst}
 use Rattle.aia_direct.specs.Control.{Control}
-use Rattle.aia_model.specs.Act.Sender.{BySource}
+use Rattle.aia_model.specs.declared.sender.Sender.TheVariants.{BySource}
 use Rattle.aia_model.specs.Act.Act.{Sent}
 use Rattle.aia_aplic.specs.Stands.{SideStands}
 use Rattle.aia_aplic.proofs.SideLemmas.{side-forwarded}

@@ -1,0 +1,12 @@
+/// Why a machine that stands refuses a line: one form for each word.
+#[derive(Clone, Copy, Debug, PartialEq, Eq)]
+pub enum Refusal {
+    /// `range`: a number names nothing, or is past its limit.
+    Range,
+    /// `illegal`: the access raises an illegal-instruction fault.
+    Illegal,
+    /// `fault`: the address is in no place that is there, or isn't aligned.
+    Fault,
+    /// `guarded`: the address is a guest's, or in memory.
+    Guarded,
+}
