@@ -298,7 +298,7 @@ none_begun h n =
 pub none_between : (h : History) → senders (acts_of h) ≡ []
 none_between [] = begun_none
 none_between (Accepted line ∷ h) = none_wait (with_act (act_of line) (acts_of h))
-none_between (Delivered address value ∷ h) = none_between h
+none_between (Delivered msi ∷ h) = none_between h
 
 -- the harts stay
 harts_sent : (sender : Sender) (past : Past) → harts_in (Sent sender ∷ past) ≡ harts_in past

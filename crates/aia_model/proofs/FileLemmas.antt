@@ -1,45 +1,46 @@
 -- What one event more makes of the file that a history gives.
-use Rattle.std.proofs.Common.{◌≡◌, ℕ, ◌%◌, ◌≢◌, ◌∷◌, true, false, refl}
-use Rattle.std.proofs.lemmas.Bool.{eq-eqb, ne_eqb, cond-true, cond-false}
+use Rattle.std.proofs.Common.{◌≡◌, ◌≢◌, ℕ, true, false, ◌∷◌, ◌⊎◌, inl, inr, refl, sym, ap, subst, ◌∙◌}
+use Rattle.std.proofs.lemmas.Bool.{cases_Bool, eq-eqb, eqb-true, false≢true}
 use Rattle.aia_regs.specs.declared.access.Csr.{Csr}
 use Rattle.aia_regs.specs.declared.access.Csr.TheVariants.{Topei}
-use Rattle.aia_regs.specs.declared.access.Op.{Op}
 use Rattle.aia_regs.specs.declared.access.Op.TheVariants as ops
 use Rattle.aia_regs.specs.Word.{settle}
 use Rattle.aia_file.specs.InterruptFile.{InterruptFile}
-use Rattle.aia_model.specs.declared.line.Line.TheVariants.{Store, MachineCsr, HostCsr}
 use Rattle.aia_model.specs.Event.{Event, History}
-use Rattle.aia_model.specs.Event.Event.{Accepted}
-use Rattle.aia_model.specs.FileOf.{FileName, MachineFile, SupervisorFile, Deed, is_at, deed_at, select_of, select_told, file_of, file_after, pending_said, enabled_said, IsMaking}
-use Rattle.aia_model.specs.FileOf.Deed.{Makes, Accesses, Stores, Rests}
+use Rattle.aia_model.specs.FileAfter.{Deed, select_by, select_told, file_by, file_after, pending_said, enabled_said, IsMaking}
+use Rattle.aia_model.specs.FileAfter.Deed.{Makes, Accesses, Stores, Rests}
+use Rattle.aia_model.specs.FileOf.{FileName, MachineFile, SupervisorFile, is_file, deed_at, select_of, file_of}
 
-pub file_step : (event : Event) (h : History) (f : FileName) → file_of (event ∷ h) f ≡ file_after (select_of h f) (deed_at h f event) (file_of h f)
-unfolding file_of
+pub file_step : (event : Event) (h : History) (f : FileName) → file_of (event ∷ h) f ≡ file_after (select_of h f) (deed_at f event) (file_of h f)
+unfolding file_by
 file_step event h f = refl
 
-pub select_step : (event : Event) (h : History) (f : FileName) → select_of (event ∷ h) f ≡ select_told (deed_at h f event) (select_of h f)
-unfolding select_of
+pub select_step : (event : Event) (h : History) (f : FileName) → select_of (event ∷ h) f ≡ select_told (deed_at f event) (select_of h f)
+unfolding select_by
 select_step event h f = refl
 
--- ---- which deed an event is
+-- ---- names are told apart
 
-pub own_machine_access : (h : History) (hart : ℕ) (csr : Csr) (op : Op) → deed_at h (MachineFile hart) (Accepted (MachineCsr hart csr op)) ≡ Accesses csr op
-own_machine_access h hart csr op = cond-true _ _ _ (eq-eqb hart hart refl)
+pub is_file-same : (f g : FileName) → is_file f g ≡ true → f ≡ g
+is_file-same (MachineFile x) (MachineFile y) e = ap MachineFile (eqb-true x y e)
+is_file-same (SupervisorFile x) (SupervisorFile y) e = ap SupervisorFile (eqb-true x y e)
+is_file-same f g e = absurd (cc)
 
-pub other_machine_access : (h : History) (hart x : ℕ) (csr : Csr) (op : Op) → x ≢ hart → deed_at h (MachineFile x) (Accepted (MachineCsr hart csr op)) ≡ Rests
-other_machine_access h hart x csr op other = cond-false _ _ _ (ne_eqb x hart other)
+is_file-self : (f : FileName) → is_file f f ≡ true
+is_file-self (MachineFile x) = eq-eqb x x refl
+is_file-self (SupervisorFile x) = eq-eqb x x refl
 
-pub own_host_access : (h : History) (hart : ℕ) (csr : Csr) (op : Op) → deed_at h (SupervisorFile hart) (Accepted (HostCsr hart csr op)) ≡ Accesses csr op
-own_host_access h hart csr op = cond-true _ _ _ (eq-eqb hart hart refl)
+pub is_file-itself : (f g : FileName) → f ≡ g → is_file f g ≡ true
+is_file-itself f g e = subst (λ (x : FileName). is_file f x ≡ true) e (is_file-self f)
 
-pub other_host_access : (h : History) (hart x : ℕ) (csr : Csr) (op : Op) → x ≢ hart → deed_at h (SupervisorFile x) (Accepted (HostCsr hart csr op)) ≡ Rests
-other_host_access h hart x csr op other = cond-false _ _ _ (ne_eqb x hart other)
+pub is_file-other : (f g : FileName) → f ≢ g → is_file f g ≡ false
+is_file-other f g ne = elim (cases_Bool (is_file f g)) [ inl e ↦ absurd (ne (is_file-same f g e)) | inr e ↦ e ]
 
-pub store_here : (h : History) (f : FileName) (addr value : ℕ) → is_at f addr ≡ true → deed_at h f (Accepted (Store addr value)) ≡ Stores (addr % 0x1000) value
-store_here h f addr value here = cond-true _ _ _ here
-
-pub store_elsewhere : (h : History) (f : FileName) (addr value : ℕ) → is_at f addr ≡ false → deed_at h f (Accepted (Store addr value)) ≡ Rests
-store_elsewhere h f addr value elsewhere = cond-false _ _ _ elsewhere
+pub same_or_other : (f g : FileName) → (f ≡ g) ⊎ (f ≢ g)
+same_or_other f g = elim (cases_Bool (is_file f g)) [
+  | inl e ↦ inl (is_file-same f g e)
+  | inr e ↦ inr (λ same. absurd (false≢true (sym e ∙ is_file-itself f g same)))
+]
 
 -- ---- the newest word
 

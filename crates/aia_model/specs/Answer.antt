@@ -6,7 +6,7 @@ use Rattle.aia_regs.specs.declared.access.Csr.TheVariants.{Select, Reg, Topei}
 use Rattle.aia_regs.specs.FileRegisters.{register_of}
 use Rattle.aia_file.specs.InterruptFile.{InterruptFile, register_value, top_of, signals}
 use Rattle.aia_model.specs.declared.line.Line.{Line}
-use Rattle.aia_model.specs.declared.line.Line.TheVariants.{Machine, Wire, Load, Store, MachineCsr, HostCsr, Pins}
+use Rattle.aia_model.specs.declared.line.Line.TheVariants.{Load, MachineCsr, HostCsr, Pins}
 use Rattle.aia_model.specs.declared.answer.Answer.{Answer}
 use Rattle.aia_model.specs.declared.answer.Answer.TheVariants.{Okay, Narrow, Wide}
 use Rattle.aia_model.specs.declared.answer.Answer.TheVariants as words
@@ -42,29 +42,37 @@ place_read h addr (Some d) = register_read (acts_of h) d (register_at addr)
 abbrev pub load_value : History → ℕ → ℕ
 load_value h addr = place_read h addr (domain_at addr)
 
--- What an accepted line answers: a CSR instruction the value that the CSR read before it, a load what it reads, `pins` the signals of a hart: of both
--- domains, of its machine-level file and of its supervisor file.
+-- What an accepted line answers: a load what it reads, a CSR instruction the value that the CSR read before
+-- it, `pins` the signals of a hart (of both domains, of its machine-level file and of its supervisor file),
+-- and every other line `ok`.
 abbrev pub accepted_answer : History → Line → Answer
-accepted_answer h (Machine harts guests n sources) = Okay
-accepted_answer h (Wire source level) = Okay
 accepted_answer h (Load addr) = Narrow (load_value h addr)
-accepted_answer h (Store addr value) = Okay
 accepted_answer h (MachineCsr hart csr op) = Wide (csr_value h (MachineFile hart) csr)
 accepted_answer h (HostCsr hart csr op) = Wide (csr_value h (SupervisorFile hart) csr)
-accepted_answer h (Pins hart) = words.Pins (is_signalled (acts_of h) Root hart) (is_signalled (acts_of h) Child hart) (signals (file_of h (MachineFile hart))) (signals (file_of h (SupervisorFile hart)))
+accepted_answer h (Pins hart) =
+    words.Pins (is_signalled (acts_of h) Root hart) (is_signalled (acts_of h) Child hart)
+    (signals (file_of h (MachineFile hart))) (signals (file_of h (SupervisorFile hart)))
+accepted_answer h line = Okay
 
 -- What a line answers: the word of its refusal, else what it answers where it is accepted.
 unfoldable pub answer : History → Line → Answer
 answer h line = unwrap_or (refusal h line) (accepted_answer h line)
 
--- MSIs are delivered, the first of a list first: each is an event of its own.
+-- What an accepted line itself makes happen, and what a delivered MSI does.
+abbrev pub taken : History → Line → History
+taken h line = Accepted line ∷ h
+
+abbrev pub msi_taken : Msi → History → History
+msi_taken msi h = Delivered msi ∷ h
+
+-- MSIs are delivered, the first of a list first.
 abbrev pub delivered : List Msi → History → History
 delivered [] h = h
-delivered (msi ∷ later) h = delivered later (Delivered msi.address msi.value ∷ h)
+delivered (msi ∷ later) h = delivered later (msi_taken msi h)
 
 -- What has happened after an accepted line: it, then the MSIs that it sends.
 abbrev pub happens : History → Line → History
-happens h line = delivered (msis_of h line) (Accepted line ∷ h)
+happens h line = delivered (msis_of h line) (taken h line)
 
 -- The history after a line, by its refusal: a refused line changes nothing.
 abbrev pub history_after : Option Answer → History → Line → History

@@ -3,11 +3,12 @@ use Rattle.std.specs.Prelude.{ℕ, Bool, is_some, List, [], ◌∷◌, Option, S
 use Rattle.std.specs.Option.{option_map_or}
 use Rattle.aia_model.specs.declared.line.Line.{Line}
 use Rattle.aia_model.specs.declared.line.Line.TheVariants.{Machine}
+use Rattle.aia_model.specs.declared.msi.Msi.{Msi}
 
--- What happens: a line is accepted; an MSI of the APLIC is delivered, 32 bits stored at an address, also where no file is to take it.
+-- What happens: a line is accepted; an MSI of the APLIC is delivered, also where no file is to take it.
 pub data Event : Type 0 where
   Accepted : (line : Line) → Event
-  Delivered : (address value : ℕ) → Event
+  Delivered : (msi : Msi) → Event
 
 -- What has happened, the newest first.
 abbrev pub History : Type 0
@@ -37,3 +38,7 @@ guests_of h = option_map_or (λ (m : Shape). m.guests) (machine_of h) 0
 -- How many harts there are, 0 where no machine stands.
 abbrev pub harts_of : History → ℕ
 harts_of h = option_map_or (λ (m : Shape). m.harts) (machine_of h) 0
+
+-- The greatest identity of each file, 0 where no machine stands.
+abbrev pub identities_of : History → ℕ
+identities_of h = option_map_or (λ (m : Shape). m.n) (machine_of h) 0

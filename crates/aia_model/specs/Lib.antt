@@ -7,6 +7,7 @@ pub mod Act
 pub mod AddressOf
 pub mod SourceOf
 pub mod Sent
+pub mod FileAfter
 pub mod FileOf
 pub mod Refusal
 pub mod Answer

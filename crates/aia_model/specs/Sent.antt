@@ -14,7 +14,7 @@ use Rattle.aia_model.specs.AddressOf.{AddressRegisters, address_by, addresses_of
 use Rattle.aia_model.specs.SourceOf.{sources_in, is_on, is_msi, enabled, target, pending, genmsi_of, genmsi_waits}
 use Rattle.aia_model.specs.declared.line.Line.{Line}
 use Rattle.aia_model.specs.Event.{History}
-use Rattle.aia_model.specs.Event.Event.{Accepted, Delivered}
+use Rattle.aia_model.specs.Event.Event.{Accepted}
 
 -- ---- what waits
 
@@ -82,7 +82,7 @@ with_act (Some a) past = a ∷ past
 abbrev pub acts_of : History → Past
 acts_of [] = []
 acts_of (Accepted line ∷ h) = settled (with_act (act_of line) (acts_of h))
-acts_of (Delivered address value ∷ h) = acts_of h
+acts_of (event ∷ h) = acts_of h
 
 -- The MSIs that a line sends which is accepted after a history, in order.
 abbrev pub msis_of : History → Line → List Msi

@@ -7,7 +7,7 @@ ghost use Rattle.aia_model.specs.Printing.{line_text, IsPrintable};
 ghost use Rattle.aia_model.specs.Reading.{reading};
 ghost use Rattle.aia_regs.specs.Word.{settle};
 ghost use Rattle.aia_file.specs.InterruptFile.{InterruptFile};
-ghost use Rattle.aia_model.specs.FileOf.{Deed, IsMaking, file_after, pending_said, enabled_said};
+ghost use Rattle.aia_model.specs.FileAfter.{Deed, IsMaking, file_after, pending_said, enabled_said};
 
 use crate::{Line, Parsed};
 

@@ -1,0 +1,5 @@
+pub mod NameLemmas
+pub mod EventLemmas
+pub mod PageLemmas
+pub mod AccessLemmas
+pub mod StoreLemmas

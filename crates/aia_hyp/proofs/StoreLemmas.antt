@@ -1,0 +1,100 @@
+-- What loads, stores and MSIs leave of a core that stands for a history.
+use Rattle.std.proofs.Common.{◌≡◌, ◌≢◌, ℕ, ◌%◌, ◌≤◌, true, false, cond, ◌∷◌, Option, Some, None, refl, sym, ap, subst, ◌∙◌}
+use Rattle.std.proofs.lemmas.Bool.{cond-true, cond-false}
+use Rattle.aia_file.specs.InterruptFile.{SameFile, landed}
+use Rattle.aia_file.specs.FileState.{FileState, shown}
+use Rattle.aia_imsic.specs.declared.spot.Spot.{Spot}
+use Rattle.aia_imsic.specs.Files.{Harts, IsThere, file_at, with_file}
+use Rattle.aia_imsic.specs.Map.{spot_at}
+use Rattle.aia_model.specs.declared.answer.Answer.{Answer}
+use Rattle.aia_model.specs.declared.answer.Answer.TheVariants.{Okay, Narrow, Refused}
+use Rattle.aia_model.specs.declared.refusal.Refusal.{Refusal}
+use Rattle.aia_model.specs.declared.refusal.Refusal.TheVariants.{Fault}
+use Rattle.aia_model.specs.declared.line.Line.TheVariants.{Load, Store}
+use Rattle.aia_model.specs.declared.msi.Msi.{Msi}
+use Rattle.aia_model.specs.Event.{Event, History, harts_of, machine_of}
+use Rattle.aia_model.specs.Event.Event.{Accepted, Delivered}
+use Rattle.aia_model.specs.Act.{domain_at}
+use Rattle.aia_model.specs.FileAfter.Deed.{Stores, Rests}
+use Rattle.aia_model.specs.FileOf.{FileName, is_at, page_at, deed_at, store_deed}
+use Rattle.aia_model.specs.Refusal.{refusal, place_refusal}
+use Rattle.aia_model.specs.Answer.{place_read}
+use Rattle.aia_model.proofs.AnswerLemmas.{refused_by, load_refusal, store_refusal}
+use Rattle.aia_hyp.specs.Core.{CoreState}
+use Rattle.aia_hyp.specs.HostFiles.{HasDone, host_spot, is_host_spot}
+use Rattle.aia_hyp.specs.Stands.{CoreStands, CoreTakes, CoreHears, core_refusal}
+use Rattle.aia_hyp.proofs.NameLemmas.{name_at, at_name, other_spot, is_hosts}
+use Rattle.aia_hyp.proofs.EventLemmas.{Changes, one_more, nothing_done, one_done, file_done, accepted, refused}
+use Rattle.aia_hyp.proofs.PageLemmas.{name_at_page, elsewhere, outside_regions, no_file_there}
+
+-- ---- a store at the file in whose page an address lies
+
+-- what the call of the files says of it
+pub record IsStored (x y : CoreState) (addr value : ℕ) (spot : Spot) : Type 0 where
+  pub few : x.imsic.harts ≤ 4
+  pub at : spot ≡ spot_at x.imsic.harts x.imsic.guests addr
+  pub host : is_host_spot spot ≡ true
+  pub there : IsThere x.imsic spot
+  pub lands : SameFile (shown (file_at y.imsic spot)) (landed (addr % 0x1000) value (shown (file_at x.imsic spot)))
+  pub others : y.imsic ≡ with_file x.imsic spot (file_at y.imsic spot)
+  pub selects : y.selects ≡ x.selects
+
+-- an event that is such a store changes just that file
+stored_changes : (x y : CoreState) (addr value : ℕ) (spot : Spot) (h : History) (event : Event) → ((f : FileName) → deed_at f event ≡ store_deed f addr value) → machine_of (event ∷ h) ≡ machine_of h → IsStored x y addr value spot → Changes x y h event
+stored_changes x y addr value spot h event is machine stored =
+    let f = name_at spot in
+    let named : spot ≡ host_spot f = at_name spot stored.host in
+    let here : is_at f addr ≡ true = name_at_page x.imsic addr f (sym stored.at ∙ named) in
+    let done : HasDone x y f (Stores (addr % 0x1000) value) = file_done x y f (Stores (addr % 0x1000) value) spot named stored.there stored.others stored.selects stored.lands refl in
+    one_done x y h event f (subst (HasDone x y f) (sym (is f ∙ cond-true _ _ _ here)) done) machine
+    (λ g inside ne. is g ∙ cond-false _ _ _ (elsewhere x.imsic addr spot g stored.few stored.at inside (λ e. other_spot f g ne (e ∙ named))))
+
+-- ---- lines
+
+page_stands : (x : CoreState) (h : History) (addr : ℕ) → CoreStands x h → spot_at x.imsic.harts x.imsic.guests addr ≡ page_at h addr
+page_stands x h addr stands = ap (λ k. spot_at k x.imsic.guests addr) stands.harts ∙ ap (λ k. spot_at (harts_of h) k addr) stands.guests
+
+-- the word by which the core refuses a place is the model's
+word_stands : (x : CoreState) (h : History) (addr : ℕ) (word : Option Refusal) → domain_at addr ≡ None → word ≡ core_refusal (spot_at x.imsic.harts x.imsic.guests addr) addr → CoreStands x h → refused_by (place_refusal (page_at h addr) addr) ≡ refused_by word
+word_stands x h addr word outside is stands =
+    ap refused_by (ap (λ s. place_refusal s addr) (sym (page_stands x h addr stands)) ∙ outside_regions (spot_at x.imsic.harts x.imsic.guests addr) addr outside ∙ sym is)
+
+pub load_refused : (x : CoreState) (addr : ℕ) (word : Refusal) → domain_at addr ≡ None → Some word ≡ core_refusal (spot_at x.imsic.harts x.imsic.guests addr) addr → CoreTakes x x (Load addr) (Refused word)
+load_refused x addr word outside is = refused x (Load addr) (Refused word) (λ h stands. load_refusal h addr stands.there ∙ word_stands x h addr (Some word) outside is stands)
+
+pub store_refused : (x : CoreState) (addr value : ℕ) (word : Refusal) → domain_at addr ≡ None → Some word ≡ core_refusal (spot_at x.imsic.harts x.imsic.guests addr) addr → CoreTakes x x (Store addr value) (Refused word)
+store_refused x addr value word outside is = refused x (Store addr value) (Refused word) (λ h stands. store_refusal h addr value stands.there ∙ word_stands x h addr (Some word) outside is stands)
+
+pub loaded : (x : CoreState) (addr : ℕ) → domain_at addr ≡ None → None ≡ core_refusal (spot_at x.imsic.harts x.imsic.guests addr) addr → CoreTakes x x (Load addr) (Narrow 0)
+loaded x addr outside is = accepted x x (Load addr) (Narrow 0) (λ h stands. (
+  load_refusal h addr stands.there ∙ word_stands x h addr None outside is stands,
+  sym (ap (λ o. Narrow (place_read h addr o)) outside),
+  nothing_done x h (Accepted (Load addr)) refl (λ f inside. refl),
+))
+
+pub stored : (x y : CoreState) (addr value : ℕ) (spot : Spot) → domain_at addr ≡ None → None ≡ core_refusal (spot_at x.imsic.harts x.imsic.guests addr) addr → IsStored x y addr value spot → CoreTakes x y (Store addr value) Okay
+stored x y addr value spot outside is done = accepted x y (Store addr value) Okay (λ h stands. (
+  store_refusal h addr value stands.there ∙ word_stands x h addr None outside is stands,
+  refl,
+  stored_changes x y addr value spot h (Accepted (Store addr value)) (λ f. refl) refl done,
+))
+
+-- ---- MSIs
+
+pub msi_landed : (x y : CoreState) (msi : Msi) (spot : Spot) → IsStored x y msi.address msi.value spot → CoreHears x y msi
+msi_landed x y msi spot done = λ h stands. one_more x y h (Delivered msi) (stored_changes x y msi.address msi.value spot h (Delivered msi) (λ f. refl) refl done) stands
+
+pub msi_dropped : (x : CoreState) (msi : Msi) (spot : Spot) → x.imsic.harts ≤ 4 → spot ≡ spot_at x.imsic.harts x.imsic.guests msi.address → is_host_spot spot ≡ false → CoreHears x x msi
+msi_dropped x msi spot few at none = λ h stands. one_more x x h (Delivered msi) (nothing_done x h (Delivered msi) refl (λ f inside. cond-false _ _ _ (elsewhere x.imsic msi.address spot f few at inside (other f)))) stands
+  where
+    other : (f : FileName) → host_spot f ≢ spot
+    other f e = let bad : true ≡ false = sym (is_hosts f) ∙ ap is_host_spot e ∙ none in absurd (cc)
+
+-- ---- lines of the APLIC, which are nothing to the core
+
+pub store_rests : (x : CoreState) (h : History) (addr value : ℕ) → domain_at addr ≢ None → CoreStands x h → CoreStands x (Accepted (Store addr value) ∷ h)
+store_rests x h addr value there stands = one_more x x h (Accepted (Store addr value)) (nothing_done x h (Accepted (Store addr value)) refl (λ f inside. cond-false _ _ _ (no_file_there addr f there))) stands
+
+-- a line that reaches no file of the host and makes no machine
+pub line_rests : (x : CoreState) (h : History) (event : Event) → machine_of (event ∷ h) ≡ machine_of h → ((f : FileName) → deed_at f event ≡ Rests) → CoreStands x h → CoreStands x (event ∷ h)
+line_rests x h event machine rests stands = one_more x x h event (nothing_done x h event machine (λ f inside. rests f)) stands

@@ -1,0 +1,250 @@
+ghost use Rattle.std.specs.Prelude.{◌≡◌, ◌≢◌, ◌<◌, ◌≤◌, ◌%◌, true, None, Some, Ok, Err, IsTrue, IfOk, OnOk, if◌then◌else◌, slice_index};
+ghost use Rattle.std.specs.Result.{result_err};
+ghost use Rattle.aia_regs.specs.FileRegisters.{select_after, register_of, IsUsable};
+ghost use Rattle.aia_regs.specs.AddressMap.{is_in_memory};
+ghost use Rattle.aia_csr.specs.Access.{IsInTable};
+ghost use Rattle.aia_file.specs.InterruptFile.{is_width, register_value, top_of, signals};
+ghost use Rattle.aia_file.specs.FileState.{shown};
+ghost use Rattle.aia_imsic.specs.Files.{IsThere, file_at};
+ghost use Rattle.aia_imsic.specs.Map.{spot_at};
+ghost use Rattle.aia_word.specs.Top.{top_value};
+ghost use Rattle.aia_model.specs.Event.{History};
+ghost use Rattle.aia_model.specs.Act.{domain_at};
+ghost use Rattle.aia_model.specs.FileAfter.{Accesses};
+ghost use Rattle.aia_model.specs.declared.line.Line.TheVariants.{Load, Store};
+ghost use Rattle.aia_model.specs.declared.answer.Answer.TheVariants.{Okay, Narrow, Wide};
+ghost use Rattle.aia_hyp.specs.HostFiles.{IsHost, HasDone, name_of, csr_line, host_spot, is_host_spot, select_place, select_in};
+ghost use Rattle.aia_hyp.specs.Stands.{CoreStands, CoreTakes, CoreBegins, CoreHears, answer_by, core_refusal, signals_of};
+
+use aia_csr::{Access, decide};
+use aia_imsic::{Imsic, Spot};
+use aia_model::{Msi, Refusal};
+use aia_regs::address_map::{MEMORY, MEMORY_END, PAGE};
+use aia_regs::limits::{GUEST_FILES, HARTS};
+use aia_regs::{Csr, FileReg, Level, Op};
+use std::alloc::{AllocError, Global};
+use std::marker::Model;
+
+/// The select numbers that a select CSR keeps are below this.
+const SELECT_NUMBERS: u64 = 0x1000;
+
+/// Two select numbers for each hart.
+const SELECTS: usize = 2 * HARTS as usize;
+
+/// The hypervisor's core: all interrupt files, and the select numbers of the host, of each hart `miselect`, then
+/// `siselect`.
+#[derive(Drop)]
+pub struct Hyp {
+    imsic: Imsic,
+    selects: [u64; SELECTS],
+}
+
+impl Model for Hyp {
+    ghost use Rattle.aia_hyp.specs.Core.{CoreState};
+
+    ghost Value = { CoreState };
+
+    ghost view = { λ h. record { imsic = h.imsic; selects = h.selects } };
+}
+
+impl Hyp {
+    /// Makes the core of a machine of `harts` harts, 1 to 4, with `guests` guest files each, 0 to 7, and the
+    /// identities 1 to `n`, which is 63, 127, 255, 511, 1023 or 2047: every file is empty, and every select
+    /// number 0. `Err` is want of memory.
+    pub fn new(alloc: Global, harts: u32, guests: u32, n: u32) -> Result<Hyp, AllocError>
+        requires some { 1 ≤ harts }
+        requires few { harts ≤ HARTS }
+        requires guests { guests ≤ GUEST_FILES }
+        requires width { IsTrue (is_width n) }
+        ensures { IfOk result (λ hyp. CoreBegins hyp harts guests n) }
+    {
+        let imsic = Imsic::new(alloc, harts, guests, n)?;
+        Ok(Hyp {
+            imsic,
+            selects: [0; SELECTS],
+        })
+    }
+
+    /// Does a CSR instruction of a hart at a level of the host, `Select`, `Reg` or `Topei`, and answers what the
+    /// CSR read before it. `Err` is `Range` where the hart isn't there, and `Illegal` where the access raises an
+    /// illegal-instruction fault; nothing is changed then.
+    ///
+    /// AIA 1.0, Incoming MSI Controller, "Indirectly accessed interrupt-file registers".
+    pub fn host(&mut self, level: Level, hart: u64, csr: Csr, op: Op) -> Result<u64, Refusal>
+        requires listed { IsInTable level csr }
+        requires host { IsHost level }
+        ensures { CoreTakes self.old self.new (csr_line level hart csr op) (answer_by Wide result) }
+    {
+        if hart >= u64::from(self.imsic.harts()) {
+            return Err(Refusal::Range);
+        }
+        self.access(level, hart as u32, csr, op)
+    }
+
+    /// The access of a hart that is there.
+    fn access(&mut self, level: Level, hart: u32, csr: Csr, op: Op) -> Result<u64, Refusal>
+        requires listed { IsInTable level csr }
+        requires host { IsHost level }
+        requires there { hart < self.old.imsic.harts }
+        requires few { hart < HARTS }
+        ensures { CoreTakes self.old self.new (csr_line level hart csr op) (answer_by Wide result) }
+    {
+        let select = self.selects[select_place(level, hart)];
+        match decide(level, csr, op, select, false) {
+            Access::Select => Ok(self.access_select(level, hart, op)),
+            Access::File(reg) => Ok(self.access_file(level, hart, reg, op)),
+            Access::Top => Ok(self.access_top(level, hart, op)),
+            Access::Illegal => Err(Refusal::Illegal),
+            Access::Topi | Access::Sip | Access::Sie | Access::Virtual => unreachable!(),
+        }
+    }
+
+    fn access_select(&mut self, level: Level, hart: u32, op: Op) -> u64
+        requires host { IsHost level }
+        requires few { hart < HARTS }
+        ensures value { result ≡ select_in self.old (name_of level hart) }
+        ensures done { HasDone self.old self.new (name_of level hart) (Accesses Csr.Select op) }
+    {
+        let place = select_place(level, hart);
+        let before = self.selects[place];
+        if op.is_writing() {
+            self.selects[place] = op.written(before) % SELECT_NUMBERS;
+        }
+        before
+    }
+
+    fn access_file(&mut self, level: Level, hart: u32, reg: FileReg, op: Op) -> u64
+        requires host { IsHost level }
+        requires there { hart < self.old.imsic.harts }
+        requires named { register_of (select_in self.old (name_of level hart)) ≡ reg }
+        requires usable { IsUsable reg }
+        ensures value { result ≡ register_value (shown (file_at self.old.imsic (host_spot (name_of level hart)))) reg }
+        ensures done { HasDone self.old self.new (name_of level hart) (Accesses Csr.Reg op) }
+    {
+        self.imsic.file_mut(spot(level, hart)).access(reg, op)
+    }
+
+    fn access_top(&mut self, level: Level, hart: u32, op: Op) -> u64
+        requires host { IsHost level }
+        requires there { hart < self.old.imsic.harts }
+        ensures value { result ≡ top_value (top_of (shown (file_at self.old.imsic (host_spot (name_of level hart))))) }
+        ensures done { HasDone self.old self.new (name_of level hart) (Accesses Csr.Topei op) }
+    {
+        let spot = spot(level, hart);
+        if op.is_writing() {
+            return self.imsic.file_mut(spot).claim();
+        }
+        self.imsic.file(spot).top()
+    }
+
+    /// Stores 32 bits at an address for the host or a device of it. `Err` is `Fault` where the address is no
+    /// multiple of 4 or in no place of the core's, an address of the APLIC among them, and `Guarded` in a guest's
+    /// page or in memory; nothing is changed then.
+    ///
+    /// AIA 1.0, Incoming MSI Controller, "Memory region for an interrupt file".
+    pub fn store(&mut self, addr: u64, value: u32) -> Result<(), Refusal>
+        ensures takes { domain_at addr ≡ None → CoreTakes self.old self.new (Store addr value) (answer_by (λ _. Okay) result) }
+        ensures refused { domain_at addr ≢ None → result ≡ Err Refusal.Fault }
+        ensures unchanged { domain_at addr ≢ None → self.new ≡ self.old }
+    {
+        let spot = self.reach(addr)?;
+        self.imsic.store(spot, (addr % PAGE) as u32, value);
+        Ok(())
+    }
+
+    /// Loads 32 bits from an address: a file's page reads 0. `Err` as of [`Hyp::store`].
+    ///
+    /// AIA 1.0, Incoming MSI Controller, "Memory region for an interrupt file".
+    pub fn load(&self, addr: u64) -> Result<u32, Refusal>
+        ensures takes { domain_at addr ≡ None → CoreTakes self.now self.now (Load addr) (answer_by Narrow result) }
+        ensures refused { domain_at addr ≢ None → result ≡ Err Refusal.Fault }
+    {
+        let _spot = self.reach(addr)?;
+        Ok(0)
+    }
+
+    /// The file of the host in whose page the address lies, or the word that refuses a load or store there.
+    fn reach(&self, addr: u64) -> Result<Spot, Refusal>
+        ensures at { IfOk result (λ spot. spot ≡ spot_at self.now.imsic.harts self.now.imsic.guests addr) }
+        ensures host { IfOk result (λ spot. is_host_spot spot ≡ true) }
+        ensures there { IfOk result (IsThere self.now.imsic) }
+        ensures refused { result_err result ≡ core_refusal (spot_at self.now.imsic.harts self.now.imsic.guests addr) addr }
+        ensures few { OnOk result (self.now.imsic.harts ≤ HARTS) }
+    {
+        if addr % 4 != 0 {
+            return Err(Refusal::Fault);
+        }
+        let spot = self.imsic.locate(addr);
+        match spot {
+            Spot::MachineFile(_) | Spot::HostFile(_) => Ok(spot),
+            Spot::GuestFile(..) => Err(Refusal::Guarded),
+            Spot::Nowhere if is_in_memory(addr) => Err(Refusal::Guarded),
+            Spot::Nowhere => Err(Refusal::Fault),
+        }
+    }
+
+    /// Lands an MSI in the file in whose page its address lies, a machine-level or a supervisor file that is there;
+    /// elsewhere it is dropped (our profile).
+    pub fn land(&mut self, msi: Msi)
+        ensures { CoreHears self.old self.new msi }
+    {
+        let spot = self.imsic.locate(msi.address);
+        match spot {
+            Spot::MachineFile(_) | Spot::HostFile(_) => {
+                let offset = (msi.address % PAGE) as u32;
+                self.imsic.store(spot, offset, msi.value);
+            }
+            Spot::GuestFile(..) | Spot::Nowhere => {}
+        }
+    }
+
+    /// Tells the signals of a hart's machine-level file and of its supervisor file. `Err` is `Range` exactly where
+    /// the hart isn't there.
+    ///
+    /// AIA 1.0, Incoming MSI Controller, "Interrupt files and interrupt identities".
+    pub fn signals(&self, hart: u64) -> Result<(bool, bool), Refusal>
+        ensures value { (h : History) → CoreStands self.now h → result ≡ signals_of h hart }
+        ensures few { OnOk result (hart < HARTS) }
+    {
+        if hart >= u64::from(self.imsic.harts()) {
+            return Err(Refusal::Range);
+        }
+        let hart = hart as u32;
+        Ok((
+            self.imsic.file(Spot::MachineFile(hart)).signal(),
+            self.imsic.file(Spot::HostFile(hart)).signal(),
+        ))
+    }
+}
+
+/// Where the file of a hart at a level of the host is.
+fn spot(level: Level, hart: u32) -> Spot
+    requires { IsHost level }
+    ensures { result ≡ host_spot (name_of level hart) }
+{
+    match level {
+        Level::Machine => Spot::MachineFile(hart),
+        Level::Host => Spot::HostFile(hart),
+        Level::Guest => unreachable!(),
+    }
+}
+
+/// Where its select number is.
+fn select_place(level: Level, hart: u32) -> usize
+    requires host { IsHost level }
+    requires few { hart < HARTS }
+    ensures place { result ≡ select_place (name_of level hart) }
+    ensures within { result < SELECTS }
+{
+    match level {
+        Level::Machine => 2 * hart as usize,
+        Level::Host => 2 * hart as usize + 1,
+        Level::Guest => unreachable!(),
+    }
+}
+
+fn is_in_memory(addr: u64) -> bool
+    ensures { result ≡ is_in_memory addr }
+{
+    MEMORY <= addr && addr < MEMORY_END
+}
