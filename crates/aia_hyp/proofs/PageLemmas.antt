@@ -1,6 +1,6 @@
 -- What lies at an address: pages of files, control regions, memory.
 use Rattle.std.proofs.Common.{◌≡◌, ◌≢◌, ℕ, ◌+◌, ◌%◌, ◌<◌, ◌≤◌, Bool, true, false, ◌&&◌, ◌||◌, not, cond, nat_eq, is_some, Option, Some, None, inl, inr, refl, sym, ap, subst, ◌∙◌, arith}
-use Rattle.std.proofs.lemmas.Bool.{cases_Bool, cases_lt, cond-true, cond-false, eq-eqb, false≢true}
+use Rattle.std.proofs.lemmas.Bool.{cases_Bool, cases_lt, eq-eqb, ne_eqb}
 use Rattle.std.proofs.lemmas.Bool.Decides.{nat_tests}
 use Rattle.aia_regs.specs.AddressMap.{machine_page, supervisor_page, is_in_page, is_in_memory, is_in_region, root_region, child_region}
 use Rattle.aia_imsic.specs.declared.spot.Spot.{Spot}
@@ -107,3 +107,21 @@ host_is_free i addr spot few at host aligned =
     free (spots.MachineFile hart) h = ap (λ b. cond (not (b && true)) (Some Fault) (cond (is_in_memory addr) (Some Guarded) None)) (eq-eqb (addr % 4) 0 aligned) ∙ ap (λ b. cond b (Some Guarded) None) outside
     free (spots.HostFile hart) h = ap (λ b. cond (not (b && true)) (Some Fault) (cond (is_in_memory addr) (Some Guarded) None)) (eq-eqb (addr % 4) 0 aligned) ∙ ap (λ b. cond b (Some Guarded) None) outside
     free s h = absurd (cc)
+
+-- ---- what the model says of them
+
+pub misaligned : (spot : Spot) (addr : ℕ) → addr % 4 ≢ 0 → place_refusal spot addr ≡ Some Fault
+misaligned spot addr off = ap (λ b. cond (not (b && (is_page spot || is_some (domain_at addr) || is_in_memory addr))) (Some Fault) (cond (guards spot addr) (Some Guarded) None)) (ne_eqb (addr % 4) 0 off)
+
+-- every aligned address of a control region may be loaded from and stored to
+pub region_is_free : (harts guests addr : ℕ) → addr % 4 ≡ 0 → domain_at addr ≢ None → place_refusal (spot_at harts guests addr) addr ≡ None
+region_is_free harts guests addr aligned there =
+    let low = region_below addr there in
+    ap (λ s. place_refusal s addr) (below_all harts guests addr (omega (arith, low)))
+    ∙ ap (λ b. cond (not (nat_eq (addr % 4) 0 && (false || is_some (domain_at addr) || b))) (Some Fault) (cond (false || b) (Some Guarded) None)) (not_in_memory addr (omega (arith, low)))
+    ∙ free (domain_at addr) (nat_eq (addr % 4) 0) there (eq-eqb (addr % 4) 0 aligned)
+  where
+    free : (o : Option DomainName) (b : Bool) → o ≢ None → b ≡ true → cond (not (b && (false || is_some o || false))) (Some Fault) None ≡ None
+    free (Some d) true some is = refl
+    free (Some d) false some is = absurd (cc)
+    free None b some is = absurd (some refl)

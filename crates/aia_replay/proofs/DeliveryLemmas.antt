@@ -4,25 +4,28 @@ use Rattle.aia_model.specs.declared.line.Line.{Line}
 use Rattle.aia_model.specs.declared.msi.Msi.{Msi}
 use Rattle.aia_model.specs.declared.answer.Answer.{Answer}
 use Rattle.aia_model.specs.Event.{History}
-use Rattle.aia_model.specs.Event.Event.{Accepted, Delivered}
+use Rattle.aia_model.specs.Event.Event.{Accepted}
 use Rattle.aia_model.specs.Act.{Past, act_of}
 use Rattle.aia_model.specs.Act.Act.{Sent}
 use Rattle.aia_model.specs.Sent.{senders, msi_of, msis, sent_by, settled, with_act, acts_of}
 use Rattle.aia_model.specs.Refusal.{refusal}
-use Rattle.aia_model.specs.Answer.{delivered, history_after}
+use Rattle.aia_model.specs.Answer.{delivered, msi_taken, history_after}
 use Rattle.aia_model.proofs.AnswerLemmas.{after_by}
 use Rattle.aia_aplic.specs.Stands.{AplicStands}
 use Rattle.aia_aplic.specs.Sending.{Next}
 use Rattle.aia_aplic.proofs.SendingLemmas.{msis_next, settled_next, none_between}
 use Rattle.aia_replay.specs.declared.machine.Machine.{Machine}
-use Rattle.aia_replay.specs.Stands.{MachineHolds, MachineStands, MachineTakes, MachineServes, Delivers, SoFar, line_taken, act_taken, with_aplic}
+use Rattle.aia_aplic.specs.Stands.{AplicState}
+use Rattle.aia_hyp.specs.Core.{CoreState}
+use Rattle.aia_hyp.specs.Stands.{CoreStands, CoreHears, line_taken}
+use Rattle.aia_replay.specs.Stands.{MachineHolds, MachineStands, MachineTakes, MachineServes, Delivers, act_taken}
 
 -- ---- histories
 
 -- a delivery says nothing to the wired sources
 acts_delivered : (ms : List Msi) (h : History) → acts_of (delivered ms h) ≡ acts_of h
 acts_delivered [] h = refl
-acts_delivered (m ∷ ms) h = acts_delivered ms (Delivered m.address m.value ∷ h)
+acts_delivered (m ∷ ms) h = acts_delivered ms (msi_taken m h)
 
 none_sent : (past : Past) → senders past ≡ [] → settled past ≡ past
 none_sent past none = ap (λ xs. sent_by xs past) none
@@ -51,39 +54,37 @@ served m taken n line given takes delivers = record {
 
 -- ---- the loop
 
+-- some of the MSIs that waited are delivered; when the others are too, all is as if all had been delivered at once
+pub record Way (now : Machine) (h : History) (past : Past) : Type 0 where
+  pub events : History
+  pub acts : Past
+  pub holds : MachineHolds now events acts
+  pub same : delivered (msis acts) events ≡ delivered (msis past) h
+  pub settles : settled acts ≡ settled past
+
+abbrev pub SoFar : Machine → Machine → Type 0
+SoFar old now = (h : History) (past : Past) → MachineHolds old h past → Way now h past
+
 pub begin : (m : Machine) → SoFar m m
 begin m = λ h past holds. record { events = h; acts = past; holds = holds; same = refl; settles = refl }
 
--- another APLIC
-pub aplic_sent : {past q : Past} (m : Machine) (h : History) (n : Machine) → n ≡ with_aplic m n.aplic → AplicStands n.aplic q → MachineHolds m h past → MachineHolds n h q
-aplic_sent {past} {q} m h n is stands holds = subst (λ (x : Machine). MachineHolds x h q) (sym is) (record {
-  there = holds.there;
-  harts = holds.harts;
-  guests = holds.guests;
-  few_harts = holds.few_harts;
-  few_guests = holds.few_guests;
-  each = λ f inside. record { file = (holds.each f inside).file; select = (holds.each f inside).select };
-  unreached = holds.unreached;
-  aplic = stands;
-})
-
-pub one_more : (old m sent landed : Machine) (msi : Msi) → SoFar old m → ((past : Past) → AplicStands m.aplic past → Next sent.aplic (Some msi) past) → sent ≡ with_aplic m sent.aplic
-    → ((h : History) (past : Past) → MachineHolds sent h past → MachineHolds landed (Delivered msi.address msi.value ∷ h) past) → SoFar old landed
-one_more old m sent landed msi so_far nexts is lands = λ h past holds.
+pub one_more : (old m n : Machine) (msi : Msi) → SoFar old m → ((past : Past) → AplicStands m.aplic past → Next n.aplic (Some msi) past) → CoreHears m.core n.core msi → SoFar old n
+one_more old m n msi so_far nexts hears = λ h past holds.
     let way = so_far h past holds in
     let next = nexts way.acts way.holds.aplic in
     let acts : Past = Sent next.sender ∷ way.acts in
     record {
-      events = Delivered msi.address msi.value ∷ way.events;
+      events = msi_taken msi way.events;
       acts = acts;
-      holds = lands way.events acts (aplic_sent m way.events sent is next.stands way.holds);
-      same = ap (λ (x : Msi). delivered (msis acts) (Delivered x.address x.value ∷ way.events)) next.msi ∙ sym (ap (λ ms. delivered ms way.events) (msis_next way.acts next.sender next.later next.first)) ∙ way.same;
+      holds = record { core = hears way.events way.holds.core; aplic = next.stands };
+      same = ap (λ (x : Msi). delivered (msis acts) (msi_taken x way.events)) next.msi ∙ sym (ap (λ ms. delivered ms way.events) (msis_next way.acts next.sender next.later next.first)) ∙ way.same;
       settles = sym (settled_next way.acts next.sender next.later next.first) ∙ way.settles;
     }
 
-pub all_delivered : (old m n : Machine) → SoFar old m → ((past : Past) → AplicStands m.aplic past → Next n.aplic None past) → n ≡ with_aplic m n.aplic → Delivers old n
-all_delivered old m n so_far nexts is = λ h past holds.
+pub all_delivered : (old m n : Machine) → SoFar old m → ((past : Past) → AplicStands m.aplic past → Next n.aplic None past) → n.core ≡ m.core → Delivers old n
+all_delivered old m n so_far nexts same = λ h past holds.
     let way = so_far h past holds in
     let next = nexts way.acts way.holds.aplic in
+    let now : MachineHolds n way.events way.acts = record { core = subst (λ (x : CoreState). CoreStands x way.events) (sym same) way.holds.core; aplic = next.1 } in
     subst (λ (x : History). MachineHolds n x (settled past)) way.same
-    (subst (λ (p : Past). MachineHolds n (delivered (msis way.acts) way.events) p) way.settles (all_sent n way.events way.acts next.0 (aplic_sent m way.events n is next.1 way.holds)))
+    (subst (λ (p : Past). MachineHolds n (delivered (msis way.acts) way.events) p) way.settles (all_sent n way.events way.acts next.0 now))

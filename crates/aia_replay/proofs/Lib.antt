@@ -3,6 +3,6 @@ pub mod MachineLemmas
 pub mod CutLemmas
 pub mod StreamLemmas
 pub mod ProgramLemmas
-pub mod AccessLemmas
+pub mod HartLemmas
 pub mod DeliveryLemmas
 pub mod EngineLemmas

@@ -1,5 +1,4 @@
 pub mod Buffered
-pub mod Places
 pub mod Stands
 pub mod Streams
 pub mod Runs

@@ -5,7 +5,8 @@ ghost use Rattle.aia_model.specs.Reading.{reading};
 ghost use Rattle.aia_replay.specs.Stands.{StandsFor, Serves, ServesText, WantsMachine, ReadsAsMachine};
 
 use crate::machine::Machine;
-use aia_script::{Answer, Line, Parsed, parse_line};
+use aia_model::{Answer, Line, Parsed, Refusal};
+use aia_script::parse_line;
 use std::alloc::{AllocError, Global};
 
 /// Answers lines, one after another, by the state that the lines before left.
@@ -44,7 +45,7 @@ impl Engine {
             return Ok(Answer::NoMachine);
         };
         let Some(machine) = Machine::of_size(alloc, harts, guests, n, sources)? else {
-            return Ok(Answer::Range);
+            return Ok(Answer::Refused(Refusal::Range));
         };
         self.machine = Some(machine);
         Ok(Answer::Okay)

@@ -1,5 +1,5 @@
 use Rattle.aia_aplic.specs.Sending.{waiting}
-use Rattle.aia_replay.specs.Stands.{SoFar}
+use Rattle.aia_replay.proofs.DeliveryLemmas.{SoFar}
 use Rattle.aia_replay.proofs.machine.Machine.deliver.Given as goal
 
 abbrev pub invariant-loop-msi : goal.invariant-loop-msi

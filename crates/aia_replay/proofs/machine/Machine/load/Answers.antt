@@ -1,18 +1,15 @@
-use Rattle.std.proofs.Common.{refl, subst}
-use Rattle.aia_replay.specs.declared.machine.Place.TheVariants.{File, Domain}
-use Rattle.aia_replay.specs.Stands.{IsReached}
-use Rattle.aia_replay.proofs.MachineLemmas.{loaded, register_loaded, load_refused}
+use Rattle.std.proofs.Common.{◌≡◌, None, refl, sym}
+use Rattle.aia_model.specs.Act.{domain_at}
+use Rattle.aia_replay.proofs.MachineLemmas.{core_line, load_silent, load_misaligned, register_loaded}
 use Rattle.aia_replay.proofs.machine.Machine.load.Goals as goal
 
-pub returns-in-Ok-File : goal.returns-in-Ok-File
-returns-in-Ok-File c =
-    let found : IsReached c.args.self.now c.args.addr (File c.in-Ok-File.field-0-0) = subst (IsReached c.args.self.now c.args.addr) c.in-Ok-File.field-0-is c.in-Ok-File.ensures.found in
-    loaded c.args.self.now c.args.addr c.in-Ok-File.ensures.refused found.2
+pub returns-in_default : goal.returns-in_default
+returns-in_default c =
+    let outside : domain_at c.args.addr ≡ None = sym c.in_default.ensures.named in
+    rw c.narrow.ensures (core_line c.args.self.now _ _ _ (load_silent c.args.addr outside) (c.load.ensures.takes outside) refl)
 
-pub returns-in-Ok-Domain : goal.returns-in-Ok-Domain
-returns-in-Ok-Domain c =
-    let found : IsReached c.args.self.now c.args.addr (Domain c.in-Ok-Domain.domain) = subst (IsReached c.args.self.now c.args.addr) c.in-Ok-Domain.field-0-is c.in-Ok-Domain.ensures.found in
-    register_loaded c.args.self.now _ c.args.addr c.in-Ok-Domain.domain c.load.result c.in-Ok-Domain.ensures.refused found.0 refl refl c.load.ensures.reads c.load.ensures.stands
+pub returns-then-addr-ne0 : goal.returns-then-addr-ne0
+returns-then-addr-ne0 c = load_misaligned c.args.self.now c.args.addr c.if-addr-ne0.true
 
-pub returns-in-Err : goal.returns-in-Err
-returns-in-Err c = load_refused c.args.self.now c.args.addr c.in-Err.word c.in-Err.ensures.refused
+pub returns : goal.returns
+returns c = register_loaded c.args.self.now _ c.args.addr c.in-Some.domain c.load-2.result c.if-addr-ne0.false (sym c.in-Some.ensures.named) refl c.load-2.ensures.reads c.load-2.ensures.stands

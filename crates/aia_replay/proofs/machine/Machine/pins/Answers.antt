@@ -1,6 +1,8 @@
-use Rattle.std.proofs.Common.{◌≤◌, arith}
-use Rattle.aia_replay.proofs.MachineLemmas.{pins_refused}
+use Rattle.aia_replay.proofs.MachineLemmas.{no_pins, pins_shown}
 use Rattle.aia_replay.proofs.machine.Machine.pins.Goals as goal
 
-pub returns-then-from-hart : goal.returns-then-from-hart
-returns-then-from-hart c = let past : c.harts.result ≤ c.args.hart = omega (arith, c.if-from-hart.true, c.from.ensures) in pins_refused c.args.self.now c.args.hart (omega (arith, c.harts.ensures.value))
+pub returns-in-Ok : goal.returns-in-Ok
+returns-in-Ok c = pins_shown c.args.self.now c.args.hart c.pin.result c.pin-in-Ok.result c.in-Ok.machine c.in-Ok.supervisor c.pin.ensures.signal c.pin-in-Ok.ensures.signal c.in-Ok.ensures.value
+
+pub returns-in-Err : goal.returns-in-Err
+returns-in-Err c = no_pins c.args.self.now c.args.hart c.in-Err.word c.in-Err.ensures.value
