@@ -1,8 +1,8 @@
 -- What one event more makes of a core that stands for a history, and what a line answers by its refusal.
-use Rattle.std.proofs.Common.{◌≡◌, ◌≢◌, ℕ, zero, suc, ◌<◌, ◌≤◌, Bool, get_or, length, replicate, is_some, [], ◌∷◌, Option, Some, None, unwrap_or, inl, inr, refl, sym, ap, subst, ◌∙◌, arith}
+use Rattle.std.proofs.Common.{◌≡◌, ◌≢◌, ℕ, zero, suc, ◌<◌, Bool, get_or, length, replicate, is_some, [], ◌∷◌, Option, Some, None, unwrap_or, inl, inr, refl, sym, ap, subst, ◌∙◌, arith}
 use Rattle.std.specs.Prelude.{Result, Ok, Err}
 use Rattle.std.specs.Option.{option_map_or}
-use Rattle.std.proofs.lemmas.Bool.{cond-true, cond-false, lt-ltb, le-ltb}
+use Rattle.std.proofs.lemmas.Bool.{cond-true, lt-ltb}
 use Rattle.aia_file.specs.InterruptFile.{InterruptFile, SameFile, empty_file, signals}
 use Rattle.aia_file.specs.FileState.{FileState, shown}
 use Rattle.aia_file.proofs.FileLemmas.{same_file}
@@ -170,9 +170,6 @@ begun x harts guests n sources same_harts same_guests files selects =
     }
 
 -- ---- signals
-
-pub no_signals : (x : CoreState) (h : History) (hart : ℕ) → x.imsic.harts ≤ hart → CoreStands x h → ◌≡◌ {A = Result (Bool × Bool) Refusal} (Err Range) (signals_of h hart)
-no_signals x h hart past stands = sym (cond-false _ _ _ (le-ltb hart (harts_of h) (omega (arith, stands.harts))))
 
 pub signals_there : (x : CoreState) (h : History) (hart : ℕ) (machine supervisor : Bool) → hart < x.imsic.harts → machine ≡ signals (shown (file_at x.imsic (spots.MachineFile hart))) → supervisor ≡ signals (shown (file_at x.imsic (spots.HostFile hart)))
     → CoreStands x h → ◌≡◌ {A = Result (Bool × Bool) Refusal} (Ok (machine, supervisor)) (signals_of h hart)

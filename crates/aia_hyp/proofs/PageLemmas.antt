@@ -1,6 +1,6 @@
 -- What lies at an address: pages of files, control regions, memory.
 use Rattle.std.proofs.Common.{◌≡◌, ◌≢◌, ℕ, ◌+◌, ◌%◌, ◌<◌, ◌≤◌, Bool, true, false, ◌&&◌, ◌||◌, not, cond, nat_eq, is_some, Option, Some, None, inl, inr, refl, sym, ap, subst, ◌∙◌, arith}
-use Rattle.std.proofs.lemmas.Bool.{cases_Bool, cases_lt, eq-eqb, ne_eqb}
+use Rattle.std.proofs.lemmas.Bool.{cases_Bool, cases_lt, eq-eqb}
 use Rattle.std.proofs.lemmas.Bool.Decides.{nat_tests}
 use Rattle.aia_regs.specs.AddressMap.{machine_page, supervisor_page, is_in_page, is_in_memory, is_in_region, root_region, child_region}
 use Rattle.aia_imsic.specs.declared.spot.Spot.{Spot}
@@ -110,8 +110,8 @@ host_is_free i addr spot few at host aligned =
 
 -- ---- what the model says of them
 
-pub misaligned : (spot : Spot) (addr : ℕ) → addr % 4 ≢ 0 → place_refusal spot addr ≡ Some Fault
-misaligned spot addr off = ap (λ b. cond (not (b && (is_page spot || is_some (domain_at addr) || is_in_memory addr))) (Some Fault) (cond (guards spot addr) (Some Guarded) None)) (ne_eqb (addr % 4) 0 off)
+pub misaligned : (spot : Spot) (addr : ℕ) → nat_eq (addr % 4) 0 ≡ false → place_refusal spot addr ≡ Some Fault
+misaligned spot addr off = ap (λ b. cond (not (b && (is_page spot || is_some (domain_at addr) || is_in_memory addr))) (Some Fault) (cond (guards spot addr) (Some Guarded) None)) off
 
 -- every aligned address of a control region may be loaded from and stored to
 pub region_is_free : (harts guests addr : ℕ) → addr % 4 ≡ 0 → domain_at addr ≢ None → place_refusal (spot_at harts guests addr) addr ≡ None

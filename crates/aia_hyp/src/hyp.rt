@@ -3,20 +3,21 @@ ghost use Rattle.std.specs.Result.{result_err};
 ghost use Rattle.aia_regs.specs.FileRegisters.{select_after, register_of, IsUsable};
 ghost use Rattle.aia_regs.specs.AddressMap.{is_in_memory};
 ghost use Rattle.aia_csr.specs.Access.{IsInTable};
-ghost use Rattle.aia_file.specs.InterruptFile.{is_width, register_value, top_of, signals};
+ghost use Rattle.aia_file.specs.InterruptFile.{SameFile, is_width, register_value, top_of};
 ghost use Rattle.aia_file.specs.FileState.{shown};
 ghost use Rattle.aia_imsic.specs.Files.{IsThere, file_at};
 ghost use Rattle.aia_imsic.specs.Map.{spot_at};
 ghost use Rattle.aia_word.specs.Top.{top_value};
 ghost use Rattle.aia_model.specs.Event.{History};
 ghost use Rattle.aia_model.specs.Act.{domain_at};
-ghost use Rattle.aia_model.specs.FileAfter.{Accesses};
+ghost use Rattle.aia_model.specs.FileAfter.{Accesses, file_after};
 ghost use Rattle.aia_model.specs.declared.line.Line.TheVariants.{Load, Store};
 ghost use Rattle.aia_model.specs.declared.answer.Answer.TheVariants.{Okay, Narrow, Wide};
 ghost use Rattle.aia_hyp.specs.HostFiles.{IsHost, HasDone, name_of, csr_line, host_spot, is_host_spot, select_place, select_in};
 ghost use Rattle.aia_hyp.specs.Stands.{CoreStands, CoreTakes, CoreBegins, CoreHears, answer_by, core_refusal, signals_of};
 
 use aia_csr::{Access, decide};
+use aia_file::File;
 use aia_imsic::{Imsic, Spot};
 use aia_model::{Msi, Refusal};
 use aia_regs::address_map::{MEMORY, MEMORY_END, PAGE};
@@ -130,11 +131,7 @@ impl Hyp {
         ensures value { result ≡ top_value (top_of (shown (file_at self.old.imsic (host_spot (name_of level hart))))) }
         ensures done { HasDone self.old self.new (name_of level hart) (Accesses Csr.Topei op) }
     {
-        let spot = spot(level, hart);
-        if op.is_writing() {
-            return self.imsic.file_mut(spot).claim();
-        }
-        self.imsic.file(spot).top()
+        claim_or_read(self.imsic.file_mut(spot(level, hart)), op)
     }
 
     /// Stores 32 bits at an address for the host or a device of it. `Err` is `Fault` where the address is no
@@ -206,7 +203,7 @@ impl Hyp {
         ensures value { (h : History) → CoreStands self.now h → result ≡ signals_of h hart }
         ensures few { OnOk result (hart < HARTS) }
     {
-        if hart >= u64::from(self.imsic.harts()) {
+        if u64::from(self.imsic.harts()) <= hart {
             return Err(Refusal::Range);
         }
         let hart = hart as u32;
@@ -240,6 +237,18 @@ fn select_place(level: Level, hart: u32) -> usize
         Level::Machine => 2 * hart as usize,
         Level::Host => 2 * hart as usize + 1,
         Level::Guest => unreachable!(),
+    }
+}
+
+/// Reads the topei CSR of a file, and claims the identity on top where the instruction writes.
+fn claim_or_read(file: &mut File, op: Op) -> u64
+    ensures value { result ≡ top_value (top_of (shown file.old)) }
+    ensures done { SameFile (shown file.new) (file_after 0 (Accesses Csr.Topei op) (shown file.old)) }
+{
+    if op.is_writing() {
+        file.claim()
+    } else {
+        file.top()
     }
 }
 

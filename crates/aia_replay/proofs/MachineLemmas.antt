@@ -1,9 +1,9 @@
 -- What lines leave of machines that stood for a history: those of the core, and those of the APLIC.
-use Rattle.std.proofs.Common.{◌≡◌, ◌≢◌, ℕ, ◌+◌, ◌%◌, ◌<◌, ◌≤◌, Bool, true, false, not, cond, nat_lt, ◌∷◌, unwrap_or, Option, Some, None, refl, sym, ap, subst, ◌∙◌, arith}
+use Rattle.std.proofs.Common.{◌≡◌, ◌≢◌, ℕ, ◌+◌, ◌%◌, ◌<◌, ◌≤◌, Bool, true, false, not, cond, nat_eq, nat_lt, ◌∷◌, unwrap_or, Option, Some, None, refl, sym, ap, subst, ◌∙◌, arith}
 use Rattle.std.specs.Option.{option_map}
 use Rattle.std.specs.Int.{is_in_range}
 use Rattle.std.specs.Prelude.{Result, Ok, Err}
-use Rattle.std.proofs.lemmas.Bool.{cond-true, cond-false, ltb-true}
+use Rattle.std.proofs.lemmas.Bool.{cond-true, cond-false, ltb-true, eqb-true}
 use Rattle.std.proofs.lemmas.Bool.Decides.{nat_tests}
 use Rattle.aia_file.specs.InterruptFile.{signals}
 use Rattle.aia_model.specs.declared.line.Line.{Line}
@@ -89,11 +89,28 @@ load_silent addr outside past = ap (λ o. with_act (option_map (λ d. Loaded d (
 pub store_silent : (addr value : ℕ) → domain_at addr ≡ None → (past : Past) → with_act (act_of (Store addr value)) past ≡ past
 store_silent addr value outside past = ap (λ o. with_act (option_map (λ d. Written d (register_at addr) value) o) past) outside
 
-pub load_misaligned : (m : Machine) (addr : ℕ) → addr % 4 ≢ 0 → MachineTakes m m (Load addr) (Refused Fault)
-load_misaligned m addr off = refused m (Load addr) (Refused Fault) (λ h stands. load_refusal h addr stands.core.there ∙ ap refused_by (misaligned (page_at h addr) addr off))
+-- the word of an address is a fault, where it is no multiple of 4
+off_by : (addr : ℕ) (word : Refusal) → ◌≡◌ {A = Option Refusal} (Some word) (cond (nat_eq (addr % 4) 0) None (Some Fault)) → (nat_eq (addr % 4) 0 ≡ false) × (word ≡ Fault)
+off_by addr word is = told (nat_eq (addr % 4) 0) is
+  where
+    told : (b : Bool) → ◌≡◌ {A = Option Refusal} (Some word) (cond b None (Some Fault)) → (b ≡ false) × (word ≡ Fault)
+    told true e = absurd (cc)
+    told false e = (refl, cc)
 
-pub store_misaligned : (m : Machine) (addr value : ℕ) → addr % 4 ≢ 0 → MachineTakes m m (Store addr value) (Refused Fault)
-store_misaligned m addr value off = refused m (Store addr value) (Refused Fault) (λ h stands. store_refusal h addr value stands.core.there ∙ ap refused_by (misaligned (page_at h addr) addr off))
+pub load_misaligned : (m : Machine) (addr : ℕ) (word : Refusal) → ◌≡◌ {A = Option Refusal} (Some word) (cond (nat_eq (addr % 4) 0) None (Some Fault)) → MachineTakes m m (Load addr) (Refused word)
+load_misaligned m addr word is = let off = off_by addr word is in
+    refused m (Load addr) (Refused word) (λ h stands. load_refusal h addr stands.core.there ∙ ap refused_by (misaligned (page_at h addr) addr off.0) ∙ ap (λ (w : Refusal). Some (Refused w)) (sym off.1))
+
+pub store_misaligned : (m : Machine) (addr value : ℕ) (word : Refusal) → ◌≡◌ {A = Option Refusal} (Some word) (cond (nat_eq (addr % 4) 0) None (Some Fault)) → MachineTakes m m (Store addr value) (Refused word)
+store_misaligned m addr value word is = let off = off_by addr word is in
+    refused m (Store addr value) (Refused word) (λ h stands. store_refusal h addr value stands.core.there ∙ ap refused_by (misaligned (page_at h addr) addr off.0) ∙ ap (λ (w : Refusal). Some (Refused w)) (sym off.1))
+
+pub aligned : (addr : ℕ) → ◌≡◌ {A = Option Refusal} None (cond (nat_eq (addr % 4) 0) None (Some Fault)) → addr % 4 ≡ 0
+aligned addr is = eqb-true (addr % 4) 0 (told (nat_eq (addr % 4) 0) is)
+  where
+    told : (b : Bool) → ◌≡◌ {A = Option Refusal} None (cond b None (Some Fault)) → b ≡ true
+    told true e = refl
+    told false e = absurd (cc)
 
 in_region : (addr : ℕ) (d : DomainName) → domain_at addr ≡ Some d → domain_at addr ≢ None
 in_region addr d there none = let bad : ◌≡◌ {A = Option DomainName} None (Some d) = sym none ∙ there in absurd (cc)

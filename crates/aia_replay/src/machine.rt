@@ -1,5 +1,6 @@
-ghost use Rattle.std.specs.Prelude.{◌≡◌, ◌∷◌, ℕ, ◌<◌, ◌≤◌, [], true, Some, is_some, IfOk, OnErr, IfSome};
+ghost use Rattle.std.specs.Prelude.{◌≡◌, ◌∷◌, ℕ, ◌≤◌, ◌%◌, [], true, None, Some, is_some, nat_eq, if◌then◌else◌, IfOk, OnErr, IfSome};
 ghost use Rattle.std.specs.Option.{option_map};
+ghost use Rattle.std.specs.Result.{result_err};
 ghost use Rattle.aia_csr.specs.Access.{IsInTable};
 ghost use Rattle.aia_file.specs.InterruptFile.{is_width};
 ghost use Rattle.aia_model.specs.Grammar.{IsListed};
@@ -104,26 +105,24 @@ impl Machine {
     fn load(&mut self, addr: u64) -> Answer
         ensures { MachineTakes self.old self.new (Line.Load addr) result }
     {
-        let Some(domain) = domain_at(addr) else {
-            return narrow(self.core.load(addr));
-        };
-        if addr % 4 != 0 {
-            return Answer::Refused(Refusal::Fault);
+        match register_domain(addr) {
+            Ok(None) => narrow(self.core.load(addr)),
+            Ok(Some(domain)) => Answer::Narrow(self.aplic.load(domain, (addr % REGION) as u32)),
+            Err(word) => Answer::Refused(word),
         }
-        Answer::Narrow(self.aplic.load(domain, (addr % REGION) as u32))
     }
 
     fn store(&mut self, addr: u64, value: u32) -> Answer
         ensures { MachineTakes self.old self.new (Line.Store addr value) result }
     {
-        let Some(domain) = domain_at(addr) else {
-            return okay(self.core.store(addr, value));
-        };
-        if addr % 4 != 0 {
-            return Answer::Refused(Refusal::Fault);
+        match register_domain(addr) {
+            Ok(None) => okay(self.core.store(addr, value)),
+            Ok(Some(domain)) => {
+                self.aplic.store(domain, (addr % REGION) as u32, value);
+                Answer::Okay
+            }
+            Err(word) => Answer::Refused(word),
         }
-        self.aplic.store(domain, (addr % REGION) as u32, value);
-        Answer::Okay
     }
 
     fn access(&mut self, level: Level, hart: u64, csr: Csr, op: Op) -> Answer
@@ -179,15 +178,19 @@ fn wide(given: Result<u64, Refusal>) -> Answer
     }
 }
 
-/// The domain in whose control region the address lies.
-fn domain_at(addr: u64) -> Option<u32>
-    ensures named { option_map domain_name result ≡ domain_at addr }
-    ensures few { IfSome result (λ domain. domain ≤ 1) }
+/// The domain, 0 or 1, in whose control region the address lies, `None` in none; `Err` where it is no multiple of 4.
+fn register_domain(addr: u64) -> Result<Option<u32>, Refusal>
+    ensures named { IfOk result (λ domain. option_map domain_name domain ≡ domain_at addr) }
+    ensures few { IfOk result (λ domain. IfSome domain (λ d. d ≤ 1)) }
+    ensures refused { result_err result ≡ (if nat_eq (addr % 4) 0 then None else Some Refusal.Fault) }
 {
-    if addr < ROOT_DOMAIN || addr >= ROOT_DOMAIN + 2 * REGION {
-        return None;
+    if addr % 4 != 0 {
+        return Err(Refusal::Fault);
     }
-    Some(((addr - ROOT_DOMAIN) / REGION) as u32)
+    if addr < ROOT_DOMAIN || addr >= ROOT_DOMAIN + 2 * REGION {
+        return Ok(None);
+    }
+    Ok(Some(((addr - ROOT_DOMAIN) / REGION) as u32))
 }
 
 fn is_machine_size(harts: u64, guests: u64, n: u64, sources: u64) -> bool

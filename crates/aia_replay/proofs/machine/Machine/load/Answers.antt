@@ -1,15 +1,19 @@
-use Rattle.std.proofs.Common.{◌≡◌, None, refl, sym}
+use Rattle.std.proofs.Common.{◌≡◌, ℕ, Option, None, Some, refl, sym, subst}
+use Rattle.std.specs.Option.{option_map}
 use Rattle.aia_model.specs.Act.{domain_at}
-use Rattle.aia_replay.proofs.MachineLemmas.{core_line, load_silent, load_misaligned, register_loaded}
+use Rattle.aia_aplic.specs.Stands.{domain_name}
+use Rattle.aia_replay.proofs.MachineLemmas.{core_line, load_silent, load_misaligned, register_loaded, aligned}
 use Rattle.aia_replay.proofs.machine.Machine.load.Goals as goal
 
-pub returns-in_default : goal.returns-in_default
-returns-in_default c =
-    let outside : domain_at c.args.addr ≡ None = sym c.in_default.ensures.named in
+pub returns-in-Ok-None : goal.returns-in-Ok-None
+returns-in-Ok-None c =
+    let outside : domain_at c.args.addr ≡ None = subst (λ (o : Option ℕ). domain_at c.args.addr ≡ option_map domain_name o) c.in-Ok-None.field-0-is (sym c.in-Ok-None.ensures.named) in
     rw c.narrow.ensures (core_line c.args.self.now _ _ _ (load_silent c.args.addr outside) (c.load.ensures.takes outside) refl)
 
-pub returns-then-addr-ne0 : goal.returns-then-addr-ne0
-returns-then-addr-ne0 c = load_misaligned c.args.self.now c.args.addr c.if-addr-ne0.true
+pub returns-in-Ok-Some : goal.returns-in-Ok-Some
+returns-in-Ok-Some c =
+    let there : domain_at c.args.addr ≡ Some (domain_name c.in-Ok-Some.domain) = subst (λ (o : Option ℕ). domain_at c.args.addr ≡ option_map domain_name o) c.in-Ok-Some.field-0-is (sym c.in-Ok-Some.ensures.named) in
+    register_loaded c.args.self.now _ c.args.addr c.in-Ok-Some.domain c.load-in-Ok-Some.result (aligned c.args.addr c.in-Ok-Some.ensures.refused) there refl c.load-in-Ok-Some.ensures.reads c.load-in-Ok-Some.ensures.stands
 
-pub returns : goal.returns
-returns c = register_loaded c.args.self.now _ c.args.addr c.in-Some.domain c.load-2.result c.if-addr-ne0.false (sym c.in-Some.ensures.named) refl c.load-2.ensures.reads c.load-2.ensures.stands
+pub returns-in-Err : goal.returns-in-Err
+returns-in-Err c = load_misaligned c.args.self.now c.args.addr c.in-Err.word c.in-Err.ensures.refused
