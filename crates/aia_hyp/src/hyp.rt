@@ -186,13 +186,11 @@ impl Hyp {
         ensures { CoreHears self.old self.new msi }
     {
         let spot = self.imsic.locate(msi.address);
-        match spot {
-            Spot::MachineFile(_) | Spot::HostFile(_) => {
-                let offset = (msi.address % PAGE) as u32;
-                self.imsic.store(spot, offset, msi.value);
-            }
-            Spot::GuestFile(..) | Spot::Nowhere => {}
+        if !is_host(spot) {
+            return;
         }
+        self.imsic
+            .store(spot, (msi.address % PAGE) as u32, msi.value);
     }
 
     /// Tells the signals of a hart's machine-level file and of its supervisor file. `Err` is `Range` exactly where
@@ -224,6 +222,13 @@ fn spot(level: Level, hart: u32) -> Spot
         Level::Host => Spot::HostFile(hart),
         Level::Guest => unreachable!(),
     }
+}
+
+/// Whether a place is that of a file of the host.
+fn is_host(spot: Spot) -> bool
+    ensures { result ≡ is_host_spot spot }
+{
+    matches!(spot, Spot::MachineFile(_) | Spot::HostFile(_))
 }
 
 /// Where its select number is.

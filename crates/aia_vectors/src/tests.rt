@@ -1,5 +1,6 @@
 mod accesses;
 mod calls;
+mod core;
 mod ends;
 mod files;
 mod registers;
