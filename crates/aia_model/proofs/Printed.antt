@@ -142,6 +142,23 @@ csr_short (row ∷ rows) test csr =
     by_test name plain short later rest true = record { plain = ap (λ t. t && true) plain; short = omega arith }
     by_test name plain short later rest false = rest
 
+csr_in_range : (rows : List (List ℕ × Csr)) (csr : Csr) → IsInRange (field_among rows csr)
+csr_in_range [] csr = tt
+csr_in_range (row ∷ rows) csr = by_test (is_csr row.1 csr) (field_among rows csr) (csr_in_range rows csr)
+  where
+    by_test : (t : Bool) (later : Field) → IsInRange later → IsInRange (cond t (Keyword row.0) later)
+    by_test true later range = tt
+    by_test false later range = range
+
+pub name_in_range : (level : Level) (csr : Csr) → IsInRange (csr_field level csr)
+name_in_range level csr = csr_in_range (csr_names level) csr
+
+pub name_length : (level : Level) (csr : Csr) → length (field_text (csr_field level csr)) ≤ 8
+name_length level csr =
+    let few : longest (csr_field level csr) + 1 + 0 ≤ 9 = (csr_short (csr_names level) (level_names level) csr).short in
+    let low : length (field_text (csr_field level csr)) ≤ longest (csr_field level csr) = field_length (csr_field level csr) (name_in_range level csr) in
+    omega arith
+
 instruction_short : (csr : Field) (op : Op) → AreShort 9 (csr ∷ []) → AreShort 34 (instruction csr op)
 instruction_short csr ops.Read few = let low : longest_of (csr ∷ []) ≤ 9 = few.short in record { plain = few.plain; short = omega arith }
 instruction_short csr (ops.Write v) few = let low : longest_of (csr ∷ []) ≤ 9 = few.short in record { plain = few.plain; short = omega arith }

@@ -138,7 +138,6 @@ reads_row {A = A} {B = B} {reader = reader} {rest = rest} reads rows fields keyw
     after a [] fits = absurd fits
     after a (w ∷ ws) fits = ap (λ k. row_of rows k >>= λ read. read ws) fits.0 ∙ ap (λ o. o >>= λ read. read ws) there ∙ reads.finds made a ws fits.1
 
--- what is found after its word is spelled
 -- the rows that are left of a table: what each finds is spelled by its word and the words after it
 abbrev pub AreRows : {B : Type 0} → (B → List Field) → List (List ℕ × (Words → Option B)) → Type 0
 AreRows {B = B} fields = AllByRecursion (λ (row : List ℕ × (Words → Option B)). (ws : Words) (x : B) → row.1 ws ≡ Some x → AllFit (row.0 ∷ ws) (fields x))
