@@ -1,4 +1,5 @@
--- The forms of lines, each by the fields that it reads: what is spelled is read, and what is read is spelled so.
+-- The forms of lines, each by the fields that it reads: what is spelled is read, and what is read
+-- is spelled so. A new form is its value here, a row of `spelled_read` and a row of `all_forms`.
 use Rattle.std.proofs.Common.{◌≡◌, ℕ, ◌^◌, ◌<◌, Bool, true, false, cond, nat_eq, nat_lt, List, [], ◌∷◌, Option, Some, None, inl, inr, refl, ap, subst, ◌∙◌}
 use Rattle.std.specs.Prelude.{codes}
 use Rattle.std.specs.List.{AllByRecursion}
@@ -16,6 +17,11 @@ use Rattle.aia_model.specs.Grammar.{Field, bit_number, Fits, AllFit, csr_names, 
 use Rattle.aia_model.specs.Grammar.Field.{Keyword, Decimal, Hex, Hex32, Bit}
 use Rattle.aia_model.specs.Reading.{Words, row_of, number_at, n32_at, bit_of, bit_at, named, csr_at, read_at, write_at, mnemonics, instruction_at, forms, machine_at, wire_at, store_at, load_at, machine_csr_at, host_csr_at, pins_at, line_at}
 use Rattle.aia_model.proofs.Readers.{chosen, ReadsWord, by_word, by_number, ReadsAll, the_end, ◌and_then◌, made_of, row_found, IsRow, reads_row, AreRows, spelled_by_rows}
+
+infixr 4 ◌and_row◌
+-- what holds of each row of a table
+◌and_row◌ : {P Q : Type 0} → P → Q → P × Q
+◌and_row◌ p q = (p, q)
 
 -- ---- fields of one word
 
@@ -61,9 +67,9 @@ abbrev IsName : Level → List ℕ → Csr → Type 0
 IsName level name csr = Fits name (csr_field level csr) × (named level name ≡ Some csr)
 
 names : (level : Level) → AllByRecursion (λ row. IsName level row.0 row.1) (csr_names level)
-names levels.Machine = ((refl, refl), ((refl, refl), ((refl, refl), tt)))
-names levels.Host = ((refl, refl), ((refl, refl), ((refl, refl), tt)))
-names levels.Guest = ((refl, refl), ((refl, refl), ((refl, refl), ((refl, refl), ((refl, refl), ((refl, refl), tt))))))
+names levels.Machine = (refl, refl) and_row (refl, refl) and_row (refl, refl) and_row tt
+names levels.Host = (refl, refl) and_row (refl, refl) and_row (refl, refl) and_row tt
+names levels.Guest = (refl, refl) and_row (refl, refl) and_row (refl, refl) and_row (refl, refl) and_row (refl, refl) and_row (refl, refl) and_row tt
 
 same_csr : (a b : Csr) → is_csr a b ≡ true → a ≡ b
 same_csr Select Select e = refl
@@ -93,23 +99,27 @@ csr level = by_word (named level) (csr_field level) (names_its_csr level (csr_na
 abbrev access_fields : Level → Csr × Op → List Field
 access_fields level access = instruction (csr_field level access.0) access.1
 
-plain : (level : Level) → IsRow {A = Csr × Unit {0}} (mnemonics (named level)) (access_fields level) (codes "csrr", read_at (named level)) (λ a. (a.0, ops.Read))
+-- an instruction of a level, by what is made of the values of its fields
+abbrev IsInstruction : {A : Type 0} → Level → List ℕ → (Words → Option (Csr × Op)) → (A → Csr × Op) → Type 0
+IsInstruction level mnemonic reader made = IsRow (mnemonics (named level)) (access_fields level) (mnemonic, reader) made
+
+plain : (level : Level) → IsInstruction {A = Csr × Unit {0}} level (codes "csrr") (read_at (named level)) (λ a. (a.0, ops.Read))
 unfolding read_at
-plain level = reads_row (csr level and_then the_end) (mnemonics (named level)) (access_fields level) (codes "csrr") (λ a. (a.0, ops.Read)) refl (λ a. refl)
+plain level = reads_row (csr level and_then the_end) (mnemonics (named level)) (access_fields level) _ _ refl (λ a. refl)
 
--- an instruction with an operand, whichever it is
-operand : (level : Level) (mnemonic : List ℕ) (op : ℕ → Op) → row_of (mnemonics (named level)) mnemonic ≡ Some (write_at (named level) op) → ((csr : Field) (v : ℕ) → instruction csr (op v) ≡ Keyword mnemonic ∷ csr ∷ Hex v ∷ []) → IsRow {A = Csr × (ℕ × Unit {0})} (mnemonics (named level)) (access_fields level) (mnemonic, write_at (named level) op) (λ a. (a.0, op a.1.0))
+-- one with an operand, whichever it is
+operand : (level : Level) (mnemonic : List ℕ) (op : ℕ → Op) → row_of (mnemonics (named level)) mnemonic ≡ Some (write_at (named level) op) → ((csr : Field) (v : ℕ) → instruction csr (op v) ≡ Keyword mnemonic ∷ csr ∷ Hex v ∷ []) → IsInstruction {A = Csr × (ℕ × Unit {0})} level mnemonic (write_at (named level) op) (λ a. (a.0, op a.1.0))
 unfolding write_at
-operand level mnemonic op there spelled = reads_row (csr level and_then hexadecimal and_then the_end) (mnemonics (named level)) (access_fields level) mnemonic (λ a. (a.0, op a.1.0)) there (λ a. spelled (csr_field level a.0) a.1.0)
+operand level mnemonic op there spelled = reads_row (csr level and_then hexadecimal and_then the_end) (mnemonics (named level)) (access_fields level) _ _ there (λ a. spelled (csr_field level a.0) a.1.0)
 
-write : (level : Level) → IsRow {A = Csr × (ℕ × Unit {0})} (mnemonics (named level)) (access_fields level) (codes "csrrw", write_at (named level) ops.Write) (λ a. (a.0, ops.Write a.1.0))
-write level = operand level (codes "csrrw") ops.Write refl (λ csr v. refl)
+write : (level : Level) → IsInstruction {A = Csr × (ℕ × Unit {0})} level (codes "csrrw") (write_at (named level) ops.Write) (λ a. (a.0, ops.Write a.1.0))
+write level = operand level _ ops.Write refl (λ csr v. refl)
 
-set : (level : Level) → IsRow {A = Csr × (ℕ × Unit {0})} (mnemonics (named level)) (access_fields level) (codes "csrrs", write_at (named level) ops.Set) (λ a. (a.0, ops.Set a.1.0))
-set level = operand level (codes "csrrs") ops.Set refl (λ csr v. refl)
+set : (level : Level) → IsInstruction {A = Csr × (ℕ × Unit {0})} level (codes "csrrs") (write_at (named level) ops.Set) (λ a. (a.0, ops.Set a.1.0))
+set level = operand level _ ops.Set refl (λ csr v. refl)
 
-clear : (level : Level) → IsRow {A = Csr × (ℕ × Unit {0})} (mnemonics (named level)) (access_fields level) (codes "csrrc", write_at (named level) ops.Clear) (λ a. (a.0, ops.Clear a.1.0))
-clear level = operand level (codes "csrrc") ops.Clear refl (λ csr v. refl)
+clear : (level : Level) → IsInstruction {A = Csr × (ℕ × Unit {0})} level (codes "csrrc") (write_at (named level) ops.Clear) (λ a. (a.0, ops.Clear a.1.0))
+clear level = operand level _ ops.Clear refl (λ csr v. refl)
 
 instruction_read : (level : Level) (access : Csr × Op) (ws : Words) → AllFit ws (access_fields level access) → instruction_at (named level) ws ≡ Some access
 unfolding instruction_at
@@ -118,9 +128,12 @@ instruction_read level (csr, ops.Write v) ws fits = (write level).finds (csr, (v
 instruction_read level (csr, ops.Set v) ws fits = (set level).finds (csr, (v, tt)) ws fits
 instruction_read level (csr, ops.Clear v) ws fits = (clear level).finds (csr, (v, tt)) ws fits
 
+all_instructions : (level : Level) → AreRows (access_fields level) (mnemonics (named level))
+all_instructions level = (plain level).found and_row (write level).found and_row (set level).found and_row (clear level).found and_row tt
+
 instruction_spelled : (level : Level) (ws : Words) (access : Csr × Op) → instruction_at (named level) ws ≡ Some access → AllFit ws (access_fields level access)
 unfolding instruction_at
-instruction_spelled level ws access e = spelled_by_rows (access_fields level) (mnemonics (named level)) ((plain level).found, ((write level).found, ((set level).found, ((clear level).found, tt)))) ws access e
+instruction_spelled level ws access e = spelled_by_rows (access_fields level) (mnemonics (named level)) (all_instructions level) ws access e
 
 -- the rest of a line is an instruction of a level
 an_instruction : (level : Level) → {B : Type 0} → ReadsAll {A = Csr × Op} {B = B} (λ made ws. instruction_at (named level) ws >>= λ access. Some (made access)) (access_fields level)
@@ -135,31 +148,31 @@ IsForm keyword reader made = IsRow forms fields_of (keyword, reader) made
 a_form : {A : Type 0} {reader : (A → Line) → Words → Option Line} {rest : A → List Field} → ReadsAll reader rest → (keyword : List ℕ) (made : A → Line) → row_of forms keyword ≡ Some (reader made) → ((a : A) → fields_of (made a) ≡ Keyword keyword ∷ rest a) → IsForm keyword (reader made) made
 a_form reads keyword made there spelled = reads_row reads forms fields_of keyword made there spelled
 
-machine : IsForm {A = ℕ × (ℕ × (ℕ × (ℕ × Unit {0})))} (codes "machine") machine_at (λ a. Machine a.0 a.1.0 a.1.1.0 a.1.1.1.0)
+machine : IsForm {A = ℕ × (ℕ × (ℕ × (ℕ × Unit {0})))} (codes "machine") machine_at (λ (harts, (guests, (n, (sources, end)))). Machine harts guests n sources)
 unfolding machine_at
 machine = a_form (decimal and_then decimal and_then decimal and_then decimal and_then the_end) _ _ refl (λ a. refl)
 
-wire : IsForm {A = ℕ × (Bool × Unit {0})} (codes "wire") wire_at (λ a. Wire a.0 a.1.0)
+wire : IsForm {A = ℕ × (Bool × Unit {0})} (codes "wire") wire_at (λ (source, (level, end)). Wire source level)
 unfolding wire_at
 wire = a_form (decimal and_then bit and_then the_end) _ _ refl (λ a. refl)
 
-load : IsForm {A = ℕ × Unit {0}} (codes "ld") load_at (λ a. Load a.0)
+load : IsForm {A = ℕ × Unit {0}} (codes "ld") load_at (λ (addr, end). Load addr)
 unfolding load_at
 load = a_form (hexadecimal and_then the_end) _ _ refl (λ a. refl)
 
-store : IsForm {A = ℕ × (ℕ × Unit {0})} (codes "st") store_at (λ a. Store a.0 a.1.0)
+store : IsForm {A = ℕ × (ℕ × Unit {0})} (codes "st") store_at (λ (addr, (value, end)). Store addr value)
 unfolding store_at
 store = a_form (hexadecimal and_then small and_then the_end) _ _ refl (λ a. refl)
 
-machine_csr : IsForm {A = ℕ × (Csr × Op)} (codes "m") machine_csr_at (λ a. MachineCsr a.0 a.1.0 a.1.1)
+machine_csr : IsForm {A = ℕ × (Csr × Op)} (codes "m") machine_csr_at (λ (hart, (csr, op)). MachineCsr hart csr op)
 unfolding machine_csr_at
 machine_csr = a_form (decimal and_then an_instruction levels.Machine) _ _ refl (λ a. refl)
 
-host_csr : IsForm {A = ℕ × (Csr × Op)} (codes "h") host_csr_at (λ a. HostCsr a.0 a.1.0 a.1.1)
+host_csr : IsForm {A = ℕ × (Csr × Op)} (codes "h") host_csr_at (λ (hart, (csr, op)). HostCsr hart csr op)
 unfolding host_csr_at
 host_csr = a_form (decimal and_then an_instruction levels.Host) _ _ refl (λ a. refl)
 
-pins : IsForm {A = ℕ × Unit {0}} (codes "pins") pins_at (λ a. Pins a.0)
+pins : IsForm {A = ℕ × Unit {0}} (codes "pins") pins_at (λ (hart, end). Pins hart)
 unfolding pins_at
 pins = a_form (decimal and_then the_end) _ _ refl (λ a. refl)
 
@@ -173,10 +186,6 @@ spelled_read ws (Store addr value) fits = store.finds (addr, (value, tt)) ws fit
 spelled_read ws (MachineCsr hart csr op) fits = machine_csr.finds (hart, (csr, op)) ws fits
 spelled_read ws (HostCsr hart csr op) fits = host_csr.finds (hart, (csr, op)) ws fits
 spelled_read ws (Pins hart) fits = pins.finds (hart, tt) ws fits
-
-infixr 4 ◌and_row◌
-◌and_row◌ : {P Q : Type 0} → P → Q → P × Q
-◌and_row◌ p q = (p, q)
 
 all_forms : AreRows fields_of forms
 all_forms =

@@ -1,4 +1,5 @@
--- Readers of words, and the fields that they read: what is spelled is found, and what is found is spelled so.
+-- Readers of words, and the fields that they read: what is spelled is found, and what is found
+-- is spelled so.
 use Rattle.std.proofs.Common.{◌≡◌, ℕ, Bool, true, false, cond, List, [], ◌∷◌, Option, Some, None, ◌⊎◌, inl, inr, refl, sym, ap, subst, ◌∙◌}
 use Rattle.std.specs.List.{AllByRecursion}
 use Rattle.std.proofs.lemmas.Slice.Eq.{bytes_eq-Decides}
@@ -121,7 +122,8 @@ row_found {A = A} P (row ∷ rows) all w a e = elim (chosen (is_word w row.0) (S
   | inr h ↦ row_found P rows all.1 w a h.1
 ]
 
--- a row: what is made of a value is read exactly where the row's word and the words after it spell its fields
+-- a row: what is made of a value is read exactly where the row's word and the words after it spell
+-- its fields
 pub record IsRow {A B : Type 0} (rows : List (List ℕ × (Words → Option B))) (fields : B → List Field) (row : List ℕ × (Words → Option B)) (made : A → B) : Type 0 where
   pub finds : (a : A) (ws : Words) → AllFit ws (fields (made a)) → by_rows rows ws ≡ Some (made a)
   pub found : (ws : Words) (x : B) → row.1 ws ≡ Some x → AllFit (row.0 ∷ ws) (fields x)

@@ -50,8 +50,10 @@ IsNamed field = Unit {0}
 
 -- The names of a level's CSRs, each with the CSR that it names.
 abbrev pub csr_names : Level → List (List ℕ × Csr)
-csr_names levels.Machine = (codes "miselect", Select) ∷ (codes "mireg", Reg) ∷ (codes "mtopei", Topei) ∷ []
-csr_names levels.Host = (codes "siselect", Select) ∷ (codes "sireg", Reg) ∷ (codes "stopei", Topei) ∷ []
+csr_names levels.Machine =
+    (codes "miselect", Select) ∷ (codes "mireg", Reg) ∷ (codes "mtopei", Topei) ∷ []
+csr_names levels.Host =
+    (codes "siselect", Select) ∷ (codes "sireg", Reg) ∷ (codes "stopei", Topei) ∷ []
 csr_names levels.Guest =
     (codes "siselect", Select) ∷ (codes "sireg", Reg) ∷ (codes "stopei", Topei)
     ∷ (codes "stopi", Topi) ∷ (codes "sip", Sip) ∷ (codes "sie", Sie) ∷ []
@@ -90,11 +92,14 @@ fields_of (Machine harts guests n sources) = Keyword (codes "machine") ∷ Decim
 fields_of (Wire source level) = Keyword (codes "wire") ∷ Decimal source ∷ Bit level ∷ []
 fields_of (Load addr) = Keyword (codes "ld") ∷ Hex addr ∷ []
 fields_of (Store addr value) = Keyword (codes "st") ∷ Hex addr ∷ Hex32 value ∷ []
-fields_of (MachineCsr hart csr op) = Keyword (codes "m") ∷ Decimal hart ∷ instruction (csr_field levels.Machine csr) op
-fields_of (HostCsr hart csr op) = Keyword (codes "h") ∷ Decimal hart ∷ instruction (csr_field levels.Host csr) op
+fields_of (MachineCsr hart csr op) =
+    Keyword (codes "m") ∷ Decimal hart ∷ instruction (csr_field levels.Machine csr) op
+fields_of (HostCsr hart csr op) =
+    Keyword (codes "h") ∷ Decimal hart ∷ instruction (csr_field levels.Host csr) op
 fields_of (Pins hart) = Keyword (codes "pins") ∷ Decimal hart ∷ []
 
--- Whether a text spells a line: it is short enough, and its words spell the line's fields.
+-- Whether a text spells a line: it has at most LINE_BYTES bytes, and its words spell the line's
+-- fields.
 abbrev pub Spells : List ℕ → Line → Type 0
 Spells text line = (length text ≤ LINE_BYTES) × AllFit (words_of text) (fields_of line)
 

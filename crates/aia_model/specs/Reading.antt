@@ -183,4 +183,5 @@ parsed_of (Some line) = parsed.Line line
 unfoldable pub reading : List ℕ → Parsed
 reading text =
     if is_skipped text then parsed.Skip
-    else (if nat_le (length text) LINE_BYTES then parsed_of (line_at (words_of text)) else parsed.Bad)
+    else (if nat_le (length text) LINE_BYTES then parsed_of (line_at (words_of text))
+    else parsed.Bad)

@@ -69,7 +69,7 @@ fn push_hex(out: &mut ArrayVec<u8, LINE_BYTES>, value: u64)
 
 /// Appends a mnemonic, a CSR's name and an operand.
 fn push_operand(out: &mut ArrayVec<u8, LINE_BYTES>, mnemonic: &[u8], name: &[u8], operand: u64)
-    requires room { array_vec_len out.old + length mnemonic.now + length name.now + 23 ≤ LINE_BYTES }
+    requires { array_vec_len out.old + length mnemonic.now + length name.now + 23 ≤ LINE_BYTES }
     ensures text { out.new.items ≡ out.old.items ++ mnemonic.now ++ name.now ++ 32 ∷ hex_text operand }
 {
     push_text(out, mnemonic);
@@ -108,7 +108,8 @@ fn push_access(
 )
     requires empty { out.old.items ≡ [] }
     requires short { length keyword.now ≤ 8 }
-    ensures text { out.new.items ≡ join_with_byte 32 (map field_text (Keyword keyword.now ∷ Decimal hart ∷ instruction (csr_field level csr) op)) }
+    ensures text { out.new.items ≡ join_with_byte 32 (map field_text
+        (Keyword keyword.now ∷ Decimal hart ∷ instruction (csr_field level csr) op)) }
     ensures range { FitsOp op }
 {
     push_text(out, keyword);
