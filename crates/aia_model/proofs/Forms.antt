@@ -14,13 +14,13 @@ use Rattle.aia_model.specs.declared.line.Line.{Line}
 use Rattle.aia_model.specs.declared.line.Line.TheVariants.{Machine, Wire, Load, Store, MachineCsr, HostCsr, Pins}
 use Rattle.aia_model.specs.Text.{number_of, below, ◌>>=◌}
 use Rattle.aia_model.specs.Grammar.{Field, bit_number, Fits, AllFit, csr_names, is_csr, field_among, csr_field, instruction, fields_of}
-use Rattle.aia_model.specs.Grammar.Field.{Keyword, Decimal, Hex, Hex32, Bit}
+use Rattle.aia_model.specs.Grammar.Field.{Keyword, Decimal, Hex, Hex32, Bit, Unspelled}
 use Rattle.aia_model.specs.Reading.{Words, row_of, number_at, n32_at, bit_of, bit_at, named, csr_at, read_at, write_at, mnemonics, instruction_at, forms, machine_at, wire_at, store_at, load_at, machine_csr_at, host_csr_at, pins_at, line_at}
 use Rattle.aia_model.proofs.Readers.{chosen, ReadsWord, by_word, by_number, ReadsAll, the_end, ◌and_then◌, made_of, row_found, IsRow, reads_row, AreRows, spelled_by_rows}
 
 infixr 4 ◌and_row◌
 -- what holds of each row of a table
-◌and_row◌ : {P Q : Type 0} → P → Q → P × Q
+pub ◌and_row◌ : {P Q : Type 0} → P → Q → P × Q
 ◌and_row◌ p q = (p, q)
 
 -- ---- fields of one word
@@ -63,10 +63,10 @@ bit = by_number bit_of Bit of_level is_bit
 -- ---- the names of CSRs
 
 -- a name is its CSR's field, and names it
-abbrev IsName : Level → List ℕ → Csr → Type 0
+abbrev pub IsName : Level → List ℕ → Csr → Type 0
 IsName level name csr = Fits name (csr_field level csr) × (named level name ≡ Some csr)
 
-names : (level : Level) → AllByRecursion (λ row. IsName level row.0 row.1) (csr_names level)
+pub names : (level : Level) → AllByRecursion (λ row. IsName level row.0 row.1) (csr_names level)
 names levels.Machine = (refl, refl) and_row (refl, refl) and_row (refl, refl) and_row tt
 names levels.Host = (refl, refl) and_row (refl, refl) and_row (refl, refl) and_row tt
 names levels.Guest = (refl, refl) and_row (refl, refl) and_row (refl, refl) and_row (refl, refl) and_row (refl, refl) and_row (refl, refl) and_row tt
@@ -80,18 +80,22 @@ same_csr Sip Sip e = refl
 same_csr Sie Sie e = refl
 same_csr a b e = absurd (cc)
 
--- a word that is a CSR's field names it
-names_its_csr : (level : Level) (rows : List (List ℕ × Csr)) → AllByRecursion (λ row. IsName level row.0 row.1) rows → (w : List ℕ) (csr : Csr) → Fits w (field_among rows csr) → named level w ≡ Some csr
-names_its_csr level [] all w csr fits = absurd fits
-names_its_csr level (row ∷ rows) all w csr fits = by_test (is_csr row.1 csr) refl fits (names_its_csr level rows all.1 w csr)
+-- what holds of the name of a CSR holds of its field, where it holds of none
+pub among : (Q : List ℕ → Csr → Type 0) (P : Field → Type 0) (csr : Csr) → P Unspelled → ((name : List ℕ) → Q name csr → P (Keyword name)) → (rows : List (List ℕ × Csr)) → AllByRecursion (λ row. Q row.0 row.1) rows → P (field_among rows csr)
+among Q P csr none one [] all = none
+among Q P csr none one (row ∷ rows) all = by_test (is_csr row.1 csr) refl (among Q P csr none one rows all.1)
   where
-    by_test : (t : Bool) → is_csr row.1 csr ≡ t → Fits w (cond t (Keyword row.0) (field_among rows csr)) → (Fits w (field_among rows csr) → named level w ≡ Some csr) → named level w ≡ Some csr
-    by_test true e fits later = ap (named level) fits ∙ all.0.1 ∙ ap Some (same_csr row.1 csr e)
-    by_test false e fits later = later fits
+    by_test : (t : Bool) → is_csr row.1 csr ≡ t → P (field_among rows csr) → P (cond t (Keyword row.0) (field_among rows csr))
+    by_test true e later = one row.0 (subst (Q row.0) (same_csr row.1 csr e) all.0)
+    by_test false e later = later
+
+-- a word that is a CSR's field names it
+names_its_csr : (level : Level) (w : List ℕ) (csr : Csr) → Fits w (csr_field level csr) → named level w ≡ Some csr
+names_its_csr level w csr = among (IsName level) (λ field. Fits w field → named level w ≡ Some csr) csr (λ fits. absurd fits) (λ name is fits. ap (named level) fits ∙ is.1) (csr_names level) (names level)
 
 csr : (level : Level) → ReadsWord (csr_at (named level)) (csr_field level)
 unfolding csr_at
-csr level = by_word (named level) (csr_field level) (names_its_csr level (csr_names level) (names level)) (λ w csr e. (row_found (IsName level) (csr_names level) (names level) w csr e).0)
+csr level = by_word (named level) (csr_field level) (names_its_csr level) (λ w csr e. (row_found (IsName level) (csr_names level) (names level) w csr e).0)
 
 -- ---- CSR instructions
 

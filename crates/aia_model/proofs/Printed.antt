@@ -14,11 +14,12 @@ use Rattle.aia_model.specs.declared.line.Line.{Line}
 use Rattle.aia_model.specs.declared.line.Line.TheVariants.{MachineCsr, HostCsr}
 use Rattle.aia_model.specs.declared.parsed.Parsed.TheVariants as parsed
 use Rattle.aia_model.specs.Text.{words_of}
-use Rattle.aia_model.specs.Grammar.{Spells, Field, bit_number, Fits, AllFit, IsListed, IsNamed, csr_names, is_csr, field_among, csr_field, fields_of, instruction}
+use Rattle.aia_model.specs.Grammar.{Spells, Field, bit_number, Fits, AllFit, IsListed, IsNamed, csr_names, csr_field, fields_of, instruction}
 use Rattle.aia_model.specs.Grammar.Field.{Keyword, Decimal, Hex, Hex32, Bit, Unspelled}
 use Rattle.aia_model.specs.Printing.{decimal_text, hex_text, field_text, line_text, IsInRange, IsPrintable}
 use Rattle.aia_model.specs.Reading.{reading}
 use Rattle.aia_model.proofs.PrintedNumbers.{decimal_again, hex_number_again, NoSpace, shown, shown_no_space, length-shown}
+use Rattle.aia_model.proofs.Forms.{◌and_row◌, among, IsName, names}
 use Rattle.aia_model.proofs.Spelled.{begin_with_keyword, keyword_first, reading_only}
 
 -- ---- a printed field
@@ -122,40 +123,30 @@ record AreShort (bytes : ℕ) (fields : List Field) : Type 0 where
   pub plain : are_plain fields ≡ true
   pub short : longest_of fields ≤ bytes
 
--- the field of a CSR, by the names of its level
-abbrev are_names : List (List ℕ × Csr) → Bool
-are_names [] = true
-are_names (row ∷ rows) = has_no_space row.0 && nat_le (length row.0) 8 && are_names rows
+-- the names of CSRs have no space, and at most 8 bytes
+abbrev is_name : List ℕ → Bool
+is_name name = has_no_space name && nat_le (length name) 8
 
-level_names : (level : Level) → are_names (csr_names level) ≡ true
-level_names levels.Machine = refl
-level_names level = refl
+short_names : (level : Level) → AllByRecursion (λ row. is_name row.0 ≡ true) (csr_names level)
+short_names levels.Machine = refl and_row refl and_row refl and_row tt
+short_names levels.Host = refl and_row refl and_row refl and_row tt
+short_names levels.Guest = refl and_row refl and_row refl and_row refl and_row refl and_row refl and_row tt
 
-csr_short : (rows : List (List ℕ × Csr)) → are_names rows ≡ true → (csr : Csr) → AreShort 9 (field_among rows csr ∷ [])
-csr_short [] test csr = record { plain = refl; short = omega arith }
-csr_short (row ∷ rows) test csr =
-    let p = and_parts (has_no_space row.0 && nat_le (length row.0) 8) (are_names rows) test in
-    let q = and_parts (has_no_space row.0) (nat_le (length row.0) 8) p.0 in
-    by_test row.0 q.0 (leb-true _ _ q.1) (field_among rows csr) (csr_short rows p.1 csr) (is_csr row.1 csr)
+csr_short : (level : Level) (csr : Csr) → AreShort 9 (csr_field level csr ∷ [])
+csr_short level csr = among (λ name csr. is_name name ≡ true) (λ field. AreShort 9 (field ∷ [])) csr (record { plain = refl; short = omega arith }) of_name (csr_names level) (short_names level)
   where
-    by_test : (name : List ℕ) → has_no_space name ≡ true → length name ≤ 8 → (later : Field) → AreShort 9 (later ∷ []) → (t : Bool) → AreShort 9 (cond t (Keyword name) later ∷ [])
-    by_test name plain short later rest true = record { plain = ap (λ t. t && true) plain; short = omega arith }
-    by_test name plain short later rest false = rest
-
-csr_in_range : (rows : List (List ℕ × Csr)) (csr : Csr) → IsInRange (field_among rows csr)
-csr_in_range [] csr = tt
-csr_in_range (row ∷ rows) csr = by_test (is_csr row.1 csr) (field_among rows csr) (csr_in_range rows csr)
-  where
-    by_test : (t : Bool) (later : Field) → IsInRange later → IsInRange (cond t (Keyword row.0) later)
-    by_test true later range = tt
-    by_test false later range = range
+    of_name : (name : List ℕ) → is_name name ≡ true → AreShort 9 (Keyword name ∷ [])
+    of_name name test =
+        let p = and_parts (has_no_space name) (nat_le (length name) 8) test in
+        let low : length name ≤ 8 = leb-true _ _ p.1 in
+        record { plain = ap (λ t. t && true) p.0; short = omega arith }
 
 pub name_in_range : (level : Level) (csr : Csr) → IsInRange (csr_field level csr)
-name_in_range level csr = csr_in_range (csr_names level) csr
+name_in_range level csr = among (IsName level) IsInRange csr tt (λ name is. tt) (csr_names level) (names level)
 
 pub name_length : (level : Level) (csr : Csr) → length (field_text (csr_field level csr)) ≤ 8
 name_length level csr =
-    let few : longest (csr_field level csr) + 1 + 0 ≤ 9 = (csr_short (csr_names level) (level_names level) csr).short in
+    let few : longest (csr_field level csr) + 1 + 0 ≤ 9 = (csr_short level csr).short in
     let low : length (field_text (csr_field level csr)) ≤ longest (csr_field level csr) = field_length (csr_field level csr) (name_in_range level csr) in
     omega arith
 
@@ -166,7 +157,7 @@ instruction_short csr (ops.Set v) few = let low : longest_of (csr ∷ []) ≤ 9 
 instruction_short csr (ops.Clear v) few = let low : longest_of (csr ∷ []) ≤ 9 = few.short in record { plain = few.plain; short = omega arith }
 
 access_short : (level : Level) (csr : Csr) (op : Op) → AreShort 34 (instruction (csr_field level csr) op)
-access_short level csr op = instruction_short (csr_field level csr) op (csr_short (csr_names level) (level_names level) csr)
+access_short level csr op = instruction_short (csr_field level csr) op (csr_short level csr)
 
 line_short : (line : Line) → AreShort LINE_BYTES (fields_of line)
 line_short (MachineCsr hart csr op) = let few = access_short levels.Machine csr op in record { plain = few.plain; short = omega (arith, few.short) }
