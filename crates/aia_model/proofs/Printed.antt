@@ -1,109 +1,26 @@
 -- What is printed spells what it was printed from.
-use Rattle.std.proofs.Common.{◌≡◌, ℕ, ◌+◌, ◌-◌, ◌*◌, ◌^◌, ◌<◌, ◌≤◌, Bool, true, false, ◌&&◌, cond, nat_eq, List, [], ◌∷◌, length, map, get_or, Option, Some, inl, inr, refl, sym, ap, subst, ◌∙◌, arith, length-append}
-use Rattle.std.specs.Prelude.{codes}
-use Rattle.std.specs.Int.{is_in_range}
+use Rattle.std.proofs.Common.{◌≡◌, ℕ, ◌+◌, ◌^◌, ◌<◌, ◌≤◌, Bool, true, false, ◌&&◌, cond, nat_eq, nat_le, List, [], ◌∷◌, length, map, inl, inr, refl, sym, ap, subst, ◌∙◌, arith, length-append}
 use Rattle.std.specs.List.{AllByRecursion, join_with_byte}
-use Rattle.std.specs.Int.Digits.{digits_of, number_from_digits_after, number_from_digits, AllBelowBase}
-use Rattle.std.proofs.lemmas.Int.Digits.{number_digits_of, all_below_base_digits_of, first_digits_of, length-digits_of-le}
-use Rattle.std.proofs.lemmas.Bool.{cases_eq, cases_lt, cond-true, cond-false, lt-ltb, le-ltb, eq-eqb, ne_eqb}
-use Rattle.std.proofs.lemmas.Bool.Decides.{nat_tests}
-use Rattle.std.proofs.lemmas.List.{length-map}
+use Rattle.std.proofs.lemmas.Bool.{and_parts, cases_eq, cond-true, cond-false, leb-true, eq-eqb, ne_eqb}
 use Rattle.std.proofs.lemmas.List.Elements.{All-from_recursion}
 use Rattle.std.proofs.lemmas.List.Splits.{slice_split_none, slice_split_at}
 use Rattle.aia_regs.specs.declared.access.Csr.{Csr}
-use Rattle.aia_regs.specs.declared.access.Csr.TheVariants.{Select, Reg, Topei}
+use Rattle.aia_regs.specs.declared.access.Level.{Level}
+use Rattle.aia_regs.specs.declared.access.Level.TheVariants as levels
 use Rattle.aia_regs.specs.declared.access.Op.{Op}
 use Rattle.aia_regs.specs.declared.access.Op.TheVariants as ops
+use Rattle.aia_model.specs.declared.limits.TheConstants.{LINE_BYTES}
 use Rattle.aia_model.specs.declared.line.Line.{Line}
-use Rattle.aia_model.specs.declared.line.Line.TheVariants.{Machine, Wire, Load, Store, MachineCsr, HostCsr, Pins}
+use Rattle.aia_model.specs.declared.line.Line.TheVariants.{MachineCsr, HostCsr}
 use Rattle.aia_model.specs.declared.parsed.Parsed.TheVariants as parsed
-use Rattle.aia_model.specs.AnswerText.{digit_character}
-use Rattle.aia_model.specs.Text.{decimal_digit, hex_digit, value_after, below, number_of, after_zero, words_of, ◌>>=◌}
-use Rattle.aia_model.specs.Grammar.{Field, bit_number, Fits, AllFit, Spells, IsListed, IsNamed, instruction, machine_csr, supervisor_csr, fields_of}
+use Rattle.aia_model.specs.Text.{words_of}
+use Rattle.aia_model.specs.Grammar.{Spells, Field, bit_number, Fits, AllFit, IsListed, IsNamed, csr_names, csr_field, fields_of, instruction}
 use Rattle.aia_model.specs.Grammar.Field.{Keyword, Decimal, Hex, Hex32, Bit, Unspelled}
 use Rattle.aia_model.specs.Printing.{decimal_text, hex_text, field_text, line_text, IsInRange, IsPrintable}
 use Rattle.aia_model.specs.Reading.{reading}
-use Rattle.aia_model.proofs.Spelled.{reading_only}
-
--- ---- a number that is printed is read again
-
-decimal_digit_again : (d : ℕ) → d < 10 → decimal_digit (digit_character d) ≡ Some d
-decimal_digit_again d low =
-    ap decimal_digit (cond-true _ _ _ (lt-ltb d 10 low)) ∙ (let e : (48 + d) - 48 ≡ d = omega arith in let t : is_in_range 48 57 (48 + d) ≡ true = grind (arith, nat_tests) in cond-true _ _ _ t ∙ ap Some e)
-
-hex_digit_again : (d : ℕ) → d < 16 → hex_digit (digit_character d) ≡ Some d
-hex_digit_again d low =
-    elim (cases_lt d 10) [
-      | inl h ↦ ap hex_digit (cond-true _ _ _ (lt-ltb d 10 h)) ∙ (let e : (48 + d) - 48 ≡ d = omega arith in let t : is_in_range 48 57 (48 + d) ≡ true = grind (arith, nat_tests) in cond-true _ _ _ t ∙ ap Some e)
-      | inr h ↦ ap hex_digit (cond-false _ _ _ (le-ltb d 10 h)) ∙ (let e : (87 + d) - 87 ≡ d = omega arith in let t : is_in_range 48 57 (87 + d) ≡ false = grind (arith, nat_tests) in let u : is_in_range 97 102 (87 + d) ≡ true = grind (arith, nat_tests) in cond-false _ _ _ t ∙ cond-true _ _ _ u ∙ ap Some e)
-    ]
-
-value_again : (digit : ℕ → Option ℕ) (base : ℕ) → ((d : ℕ) → d < base → digit (digit_character d) ≡ Some d) → (n : ℕ) (ds : List ℕ) → AllBelowBase base ds → value_after digit base n (map digit_character ds) ≡ Some (number_from_digits_after base n ds)
-value_again digit base again n [] small = refl
-value_again digit base again n (d ∷ ds) small = ap (λ o. o >>= λ x. value_after digit base (n * base + x) (map digit_character ds)) (again d small.0) ∙ value_again digit base again (n * base + d) ds small.1
-
-from_digits : (n : ℕ) (ds : List ℕ) → AllBelowBase 10 ds → 0 < get_or ds 0 0 → number_from_digits 10 ds ≡ n → n < 2 ^ 64 → number_of (map digit_character ds) ≡ Some n
-from_digits n [] small first e low = absurd (omega arith)
-from_digits n (d ∷ ds) small first e low =
-    let is : digit_character d ≡ 48 + d = cond-true _ _ _ (lt-ltb d 10 small.0) in
-    cond-false _ _ _ (ap (λ c. nat_eq c 48) is ∙ ne_eqb (48 + d) 48 (λ z. absurd (omega arith)))
-    ∙ ap (λ o. o >>= below (2 ^ 64)) (value_again decimal_digit 10 decimal_digit_again 0 (d ∷ ds) small ∙ ap Some e)
-    ∙ cond-true _ _ _ (lt-ltb n (2 ^ 64) low)
-
-pub decimal_again : (n : ℕ) → n < 2 ^ 64 → number_of (decimal_text n) ≡ Some n
-decimal_again n low =
-    elim (cases_eq n 0) [
-      | inl z ↦ ap number_of (cond-true _ _ _ (eq-eqb n 0 z)) ∙ ap Some (sym z)
-      | inr ne ↦ ap number_of (cond-false _ _ _ (ne_eqb n 0 ne)) ∙ from_digits n (digits_of 10 n) (all_below_base_digits_of 10 n (omega arith)) (first_digits_of 10 n (omega arith) (omega arith)) (number_digits_of 10 n (omega arith)) low
-    ]
-
-hex_digits_again : (n : ℕ) (ds : List ℕ) → AllBelowBase 16 ds → 1 ≤ length ds → length ds ≤ 16 → number_from_digits 16 ds ≡ n → n < 2 ^ 64 → after_zero (120 ∷ map digit_character ds) ≡ Some n
-hex_digits_again n ds small some few e low =
-    let fits : (nat_eq 120 120 && is_in_range 1 16 (length (map digit_character ds))) ≡ true = rw length-map (grind (arith, nat_tests)) in
-    cond-true _ _ _ fits ∙ ap (λ o. o >>= below (2 ^ 64)) (value_again hex_digit 16 hex_digit_again 0 ds small ∙ ap Some e) ∙ cond-true _ _ _ (lt-ltb n (2 ^ 64) low)
-
-some_digits : (ds : List ℕ) → 0 < get_or ds 0 0 → 1 ≤ length ds
-some_digits [] h = absurd (omega arith)
-some_digits (d ∷ ds) h = omega arith
-
-pub hex_number_again : (n : ℕ) → n < 2 ^ 64 → number_of (hex_text n) ≡ Some n
-hex_number_again n low =
-    elim (cases_eq n 0) [
-      | inl z ↦ ap (λ t. number_of (48 ∷ 120 ∷ t)) (cond-true _ _ _ (eq-eqb n 0 z)) ∙ ap Some (sym z)
-      | inr ne ↦ ap (λ t. number_of (48 ∷ 120 ∷ t)) (cond-false _ _ _ (ne_eqb n 0 ne))
-          ∙ hex_digits_again n (digits_of 16 n) (all_below_base_digits_of 16 n (omega arith)) (some_digits (digits_of 16 n) (first_digits_of 16 n (omega arith) (omega arith))) (length-digits_of-le 16 16 n (omega arith) low) (number_digits_of 16 n (omega arith)) low
-    ]
-
--- ---- a printed number has no space, and few digits
-
-abbrev NoSpace : List ℕ → Type 0
-NoSpace = AllByRecursion (λ b. nat_eq b 32 ≡ false)
-
-digits_no_space : (ds : List ℕ) → NoSpace (map digit_character ds)
-digits_no_space [] = tt
-digits_no_space (d ∷ ds) = (no_space d, digits_no_space ds)
-  where
-    no_space : (d : ℕ) → nat_eq (digit_character d) 32 ≡ false
-    no_space d = elim (cases_lt d 10) [
-      | inl h ↦ ap (λ c. nat_eq c 32) (cond-true _ _ _ (lt-ltb d 10 h)) ∙ ne_eqb (48 + d) 32 (λ e. absurd (omega arith))
-      | inr h ↦ ap (λ c. nat_eq c 32) (cond-false _ _ _ (le-ltb d 10 h)) ∙ ne_eqb (87 + d) 32 (λ e. absurd (omega arith))
-    ]
-
--- the digits of a number in a base, `0` for zero
-abbrev shown : ℕ → ℕ → List ℕ
-shown base n = cond (nat_eq n 0) (codes "0") (map digit_character (digits_of base n))
-
-shown_no_space : (base n : ℕ) → NoSpace (shown base n)
-shown_no_space base n = elim (cases_eq n 0) [
-  | inl z ↦ subst NoSpace (sym (cond-true _ _ _ (eq-eqb n 0 z))) (refl, tt)
-  | inr ne ↦ subst NoSpace (sym (cond-false _ _ _ (ne_eqb n 0 ne))) (digits_no_space (digits_of base n))
-]
-
-pub length-shown : (base count n : ℕ) → 2 ≤ base → 1 ≤ count → n < base ^ count → length (cond (nat_eq n 0) (codes "0") (map digit_character (digits_of base n))) ≤ count
-length-shown base count n two one low = elim (cases_eq n 0) [
-  | inl z ↦ subst (λ (t : List ℕ). length t ≤ count) (sym (cond-true _ _ _ (eq-eqb n 0 z))) one
-  | inr ne ↦ subst (λ (t : List ℕ). length t ≤ count) (sym (cond-false _ _ _ (ne_eqb n 0 ne))) (rw length-map (length-digits_of-le base count n two low))
-]
+use Rattle.aia_model.proofs.PrintedNumbers.{decimal_again, hex_number_again, NoSpace, shown, shown_no_space, length-shown}
+use Rattle.aia_model.proofs.Forms.{◌and_row◌, among, IsName, names}
+use Rattle.aia_model.proofs.Spelled.{begin_with_keyword, keyword_first, reading_only}
 
 -- ---- a printed field
 
@@ -143,14 +60,19 @@ all_fit : (fields : List Field) → AllWords fields → AllFit (map field_text f
 all_fit [] all = tt
 all_fit (field ∷ fields) all = (all.0.fits, all_fit fields all.1)
 
--- ---- the fields of a line
+-- ---- a field that is tested
 
-has_no_space : List ℕ → Bool
+-- whether a word has no space
+abbrev has_no_space : List ℕ → Bool
 has_no_space [] = true
 has_no_space (b ∷ bs) = cond (nat_eq b 32) false (has_no_space bs)
 
+-- whether a keyword has no space
+abbrev is_plain : Field → Bool
+is_plain (Keyword word) = has_no_space word
+is_plain field = true
+
 keyword_word : (word : List ℕ) → has_no_space word ≡ true → IsWord word (Keyword word)
-unfolding has_no_space
 keyword_word word test = record { fits = refl; no_space = tested word test }
   where
     tested : (word : List ℕ) → has_no_space word ≡ true → NoSpace word
@@ -160,42 +82,13 @@ keyword_word word test = record { fits = refl; no_space = tested word test }
       | inr ne ↦ (ne_eqb b 32 ne, tested bs (sym (cond-false _ _ _ (ne_eqb b 32 ne)) ∙ test))
     ]
 
-machine_csr_word : (csr : Csr) → IsNamed (machine_csr csr) → IsWord (field_text (machine_csr csr)) (machine_csr csr)
-unfolding has_no_space
-machine_csr_word Select named = keyword_word _ refl
-machine_csr_word Reg named = keyword_word _ refl
-machine_csr_word Topei named = keyword_word _ refl
-machine_csr_word csr named = absurd named
-
-supervisor_csr_word : (csr : Csr) → IsNamed (supervisor_csr csr) → IsWord (field_text (supervisor_csr csr)) (supervisor_csr csr)
-unfolding has_no_space
-supervisor_csr_word Select named = keyword_word _ refl
-supervisor_csr_word Reg named = keyword_word _ refl
-supervisor_csr_word Topei named = keyword_word _ refl
-supervisor_csr_word csr named = absurd named
-
--- an instruction, whatever its level
-instruction_words : (csr : Field) → IsWord (field_text csr) csr → (op : Op) → AllByRecursion IsInRange (instruction csr op) → AllWords (instruction csr op)
-unfolding has_no_space
-instruction_words csr word ops.Read range = (keyword_word _ refl, (word, tt))
-instruction_words csr word (ops.Write v) range = (keyword_word _ refl, (word, (hex_word v range.1.1.0, tt)))
-instruction_words csr word (ops.Set v) range = (keyword_word _ refl, (word, (hex_word v range.1.1.0, tt)))
-instruction_words csr word (ops.Clear v) range = (keyword_word _ refl, (word, (hex_word v range.1.1.0, tt)))
-
-line_words : (line : Line) → IsListed line → IsPrintable line → AllWords (fields_of line)
-unfolding has_no_space
-line_words (Machine harts guests n sources) named range =
-    (keyword_word _ refl, (decimal_word harts range.1.0, (decimal_word guests range.1.1.0, (decimal_word n range.1.1.1.0, (decimal_word sources range.1.1.1.1.0, tt)))))
-line_words (Wire source level) named range = (keyword_word _ refl, (decimal_word source range.1.0, (bit_word level, tt)))
-line_words (Load addr) named range = (keyword_word _ refl, (hex_word addr range.1.0, tt))
-line_words (Store addr value) named range = (keyword_word _ refl, (hex_word addr range.1.0, (hex32_word value range.1.1.0, tt)))
-line_words (MachineCsr hart csr op) named range =
-    (keyword_word _ refl, (decimal_word hart range.1.0, instruction_words (machine_csr csr) (machine_csr_word csr named) op range.1.1))
-line_words (HostCsr hart csr op) named range =
-    (keyword_word _ refl, (decimal_word hart range.1.0, instruction_words (supervisor_csr csr) (supervisor_csr_word csr named) op range.1.1))
-line_words (Pins hart) named range = (keyword_word _ refl, (decimal_word hart range.1.0, tt))
-
--- ---- how long a printed line is
+field_word : (field : Field) → is_plain field ≡ true → IsNamed field → IsInRange field → IsWord (field_text field) field
+field_word (Keyword word) plain named range = keyword_word word plain
+field_word (Decimal n) plain named range = decimal_word n range
+field_word (Hex n) plain named range = hex_word n range
+field_word (Hex32 n) plain named range = hex32_word n range
+field_word (Bit level) plain named range = bit_word level
+field_word Unspelled plain named range = absurd named
 
 -- the most bytes of a field
 abbrev longest : Field → ℕ
@@ -206,18 +99,72 @@ longest (Hex32 n) = 10
 longest (Bit level) = 1
 longest Unspelled = 0
 
--- and of fields, each with a space
-abbrev longest_of : List Field → ℕ
-longest_of [] = 0
-longest_of (field ∷ fields) = longest field + 1 + longest_of fields
-
-pub field_length : (field : Field) → IsInRange field → length (field_text field) ≤ longest field
+field_length : (field : Field) → IsInRange field → length (field_text field) ≤ longest field
 field_length (Keyword word) range = omega arith
 field_length (Decimal n) range = length-shown 10 20 n (omega arith) (omega arith) (omega arith)
 field_length (Hex n) range = let low : length (shown 16 n) ≤ 16 = length-shown 16 16 n (omega arith) (omega arith) (omega arith) in omega arith
 field_length (Hex32 n) range = let low : length (shown 16 n) ≤ 8 = length-shown 16 8 n (omega arith) (omega arith) (omega arith) in omega arith
 field_length (Bit level) range = let low : bit_number level < 2 = bit_low level in length-shown 10 1 (bit_number level) (omega arith) (omega arith) (omega arith)
 field_length Unspelled range = omega arith
+
+-- ---- the fields of a line are short
+
+-- the most bytes of fields, each with a space
+abbrev longest_of : List Field → ℕ
+longest_of [] = 0
+longest_of (field ∷ fields) = longest field + 1 + longest_of fields
+
+abbrev are_plain : List Field → Bool
+are_plain [] = true
+are_plain (field ∷ fields) = is_plain field && are_plain fields
+
+-- the keywords of some fields have no space, and their text has at most so many bytes
+record AreShort (bytes : ℕ) (fields : List Field) : Type 0 where
+  pub plain : are_plain fields ≡ true
+  pub short : longest_of fields ≤ bytes
+
+-- the names of CSRs have no space, and at most 8 bytes
+abbrev is_name : List ℕ → Bool
+is_name name = has_no_space name && nat_le (length name) 8
+
+short_names : (level : Level) → AllByRecursion (λ row. is_name row.0 ≡ true) (csr_names level)
+short_names levels.Machine = refl and_row refl and_row refl and_row tt
+short_names levels.Host = refl and_row refl and_row refl and_row tt
+short_names levels.Guest = refl and_row refl and_row refl and_row refl and_row refl and_row refl and_row tt
+
+csr_short : (level : Level) (csr : Csr) → AreShort 9 (csr_field level csr ∷ [])
+csr_short level csr = among (λ name csr. is_name name ≡ true) (λ field. AreShort 9 (field ∷ [])) csr (record { plain = refl; short = omega arith }) of_name (csr_names level) (short_names level)
+  where
+    of_name : (name : List ℕ) → is_name name ≡ true → AreShort 9 (Keyword name ∷ [])
+    of_name name test =
+        let p = and_parts (has_no_space name) (nat_le (length name) 8) test in
+        let low : length name ≤ 8 = leb-true _ _ p.1 in
+        record { plain = ap (λ t. t && true) p.0; short = omega arith }
+
+pub name_in_range : (level : Level) (csr : Csr) → IsInRange (csr_field level csr)
+name_in_range level csr = among (IsName level) IsInRange csr tt (λ name is. tt) (csr_names level) (names level)
+
+pub name_length : (level : Level) (csr : Csr) → length (field_text (csr_field level csr)) ≤ 8
+name_length level csr =
+    let few : longest (csr_field level csr) + 1 + 0 ≤ 9 = (csr_short level csr).short in
+    let low : length (field_text (csr_field level csr)) ≤ longest (csr_field level csr) = field_length (csr_field level csr) (name_in_range level csr) in
+    omega arith
+
+instruction_short : (csr : Field) (op : Op) → AreShort 9 (csr ∷ []) → AreShort 34 (instruction csr op)
+instruction_short csr ops.Read few = let low : longest_of (csr ∷ []) ≤ 9 = few.short in record { plain = few.plain; short = omega arith }
+instruction_short csr (ops.Write v) few = let low : longest_of (csr ∷ []) ≤ 9 = few.short in record { plain = few.plain; short = omega arith }
+instruction_short csr (ops.Set v) few = let low : longest_of (csr ∷ []) ≤ 9 = few.short in record { plain = few.plain; short = omega arith }
+instruction_short csr (ops.Clear v) few = let low : longest_of (csr ∷ []) ≤ 9 = few.short in record { plain = few.plain; short = omega arith }
+
+access_short : (level : Level) (csr : Csr) (op : Op) → AreShort 34 (instruction (csr_field level csr) op)
+access_short level csr op = instruction_short (csr_field level csr) op (csr_short level csr)
+
+line_short : (line : Line) → AreShort LINE_BYTES (fields_of line)
+line_short (MachineCsr hart csr op) = let few = access_short levels.Machine csr op in record { plain = few.plain; short = omega (arith, few.short) }
+line_short (HostCsr hart csr op) = let few = access_short levels.Host csr op in record { plain = few.plain; short = omega (arith, few.short) }
+line_short line = record { plain = refl; short = omega arith }
+
+-- ---- the text of a line is short
 
 fields_length : (fields : List Field) → AllByRecursion IsInRange fields → length (join_with_byte 32 (map field_text fields)) ≤ longest_of fields
 fields_length [] range = omega arith
@@ -227,59 +174,32 @@ fields_length (field ∷ next ∷ fields) range =
     let rest : length (join_with_byte 32 (map field_text (next ∷ fields))) ≤ longest_of (next ∷ fields) = fields_length (next ∷ fields) range.1 in
     omega (arith, length-append (field_text field) (32 ∷ join_with_byte 32 (map field_text (next ∷ fields))))
 
-instruction_length : (csr : Field) (op : Op) → longest csr ≤ 8 → longest_of (instruction csr op) ≤ 34
-instruction_length csr ops.Read few = omega arith
-instruction_length csr (ops.Write v) few = omega arith
-instruction_length csr (ops.Set v) few = omega arith
-instruction_length csr (ops.Clear v) few = omega arith
-
-machine_csr_length : (csr : Csr) → longest (machine_csr csr) ≤ 8
-machine_csr_length Select = omega arith
-machine_csr_length Reg = omega arith
-machine_csr_length Topei = omega arith
-machine_csr_length csr = omega arith
-
-supervisor_csr_length : (csr : Csr) → longest (supervisor_csr csr) ≤ 8
-supervisor_csr_length Select = omega arith
-supervisor_csr_length Reg = omega arith
-supervisor_csr_length Topei = omega arith
-supervisor_csr_length csr = omega arith
-
-line_length : (line : Line) → longest_of (fields_of line) ≤ 128
-line_length (Machine harts guests n sources) = omega arith
-line_length (Wire source level) = omega arith
-line_length (Load addr) = omega arith
-line_length (Store addr value) = omega arith
-line_length (MachineCsr hart csr op) = let few : longest_of (instruction (machine_csr csr) op) ≤ 34 = instruction_length (machine_csr csr) op (machine_csr_length csr) in omega arith
-line_length (HostCsr hart csr op) = let few : longest_of (instruction (supervisor_csr csr) op) ≤ 34 = instruction_length (supervisor_csr csr) op (supervisor_csr_length csr) in omega arith
-line_length (Pins hart) = omega arith
-
-pub length-line_text : (line : Line) → IsPrintable line → length (line_text line) ≤ 128
+pub length-line_text : (line : Line) → IsPrintable line → length (line_text line) ≤ LINE_BYTES
 unfolding line_text
-length-line_text line range = let low : length (join_with_byte 32 (map field_text (fields_of line))) ≤ longest_of (fields_of line) = fields_length (fields_of line) range in let few : longest_of (fields_of line) ≤ 128 = line_length line in omega arith
+length-line_text line range =
+    let low : length (join_with_byte 32 (map field_text (fields_of line))) ≤ longest_of (fields_of line) = fields_length (fields_of line) range in
+    let few : longest_of (fields_of line) ≤ LINE_BYTES = (line_short line).short in
+    omega arith
 
 -- ---- what is printed spells the line
 
+all_words : (fields : List Field) → are_plain fields ≡ true → AllByRecursion IsNamed fields → AllByRecursion IsInRange fields → AllWords fields
+all_words [] plain named range = tt
+all_words (field ∷ fields) plain named range =
+    let p = and_parts (is_plain field) (are_plain fields) plain in
+    (field_word field p.0 named.0 range.0, all_words fields p.1 named.1 range.1)
+
 words_printed : (line : Line) → AllWords (fields_of line) → words_of (line_text line) ≡ map field_text (fields_of line)
 unfolding line_text
-words_printed line all = cut_fields (fields_of line) (has_fields line) all
+words_printed line all = cut_fields (fields_of line) (keyword_first line) all
   where
-    cut_fields : (fields : List Field) → 0 < length fields → AllWords fields → words_of (join_with_byte 32 (map field_text fields)) ≡ map field_text fields
-    cut_fields [] some all = absurd (omega arith)
-    cut_fields (field ∷ fields) some all = cut_again field fields all
-
-    has_fields : (line : Line) → 0 < length (fields_of line)
-    has_fields (Machine harts guests n sources) = omega arith
-    has_fields (Wire source level) = omega arith
-    has_fields (Load addr) = omega arith
-    has_fields (Store addr value) = omega arith
-    has_fields (MachineCsr hart csr op) = omega arith
-    has_fields (HostCsr hart csr op) = omega arith
-    has_fields (Pins hart) = omega arith
+    cut_fields : (fields : List Field) → begin_with_keyword fields ≡ true → AllWords fields → words_of (join_with_byte 32 (map field_text fields)) ≡ map field_text fields
+    cut_fields [] first all = absurd (cc)
+    cut_fields (field ∷ fields) first all = cut_again field fields all
 
 pub printed_spelled : (line : Line) → IsListed line → IsPrintable line → Spells (line_text line) line
 printed_spelled line named range =
-    let all : AllWords (fields_of line) = line_words line named range in
+    let all : AllWords (fields_of line) = all_words (fields_of line) (line_short line).plain named range in
     (length-line_text line range, subst (λ (ws : List (List ℕ)). AllFit ws (fields_of line)) (sym (words_printed line all)) (all_fit (fields_of line) all))
 
 pub printed_read : (line : Line) → IsListed line → IsPrintable line → reading (line_text line) ≡ parsed.Line line

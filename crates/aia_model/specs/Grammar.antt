@@ -1,9 +1,13 @@
 -- The spelling of lines, as a table of fields. Profile: the whole grammar is this project's own.
-use Rattle.std.specs.Prelude.{◌≡◌, ℕ, ◌^◌, ◌<◌, ◌≤◌, Bool, if◌then◌else◌, List, [], ◌∷◌, length, Some, codes}
+use Rattle.std.specs.Prelude.{◌≡◌, ℕ, ◌^◌, ◌<◌, ◌≤◌, Bool, true, false, if◌then◌else◌, List, [], ◌∷◌, length, Some, codes}
+use Rattle.std.specs.List.{AllByRecursion}
+use Rattle.aia_model.specs.declared.limits.TheConstants.{LINE_BYTES}
 use Rattle.aia_model.specs.declared.line.Line.{Line}
 use Rattle.aia_model.specs.declared.line.Line.TheVariants.{Machine, Wire, Load, Store, MachineCsr, HostCsr, Pins}
 use Rattle.aia_regs.specs.declared.access.Csr.{Csr}
-use Rattle.aia_regs.specs.declared.access.Csr.TheVariants.{Select, Reg, Topei}
+use Rattle.aia_regs.specs.declared.access.Csr.TheVariants.{Select, Reg, Topei, Topi, Sip, Sie}
+use Rattle.aia_regs.specs.declared.access.Level.{Level}
+use Rattle.aia_regs.specs.declared.access.Level.TheVariants as levels
 use Rattle.aia_regs.specs.declared.access.Op.{Op}
 use Rattle.aia_regs.specs.declared.access.Op.TheVariants.{Read, Write, Set}
 use Rattle.aia_regs.specs.declared.access.Op.TheVariants as ops
@@ -37,26 +41,43 @@ AllFit [] [] = Unit {0}
 AllFit (word ∷ words) (field ∷ fields) = Fits word field × AllFit words fields
 AllFit words fields = ⊥
 
--- ---- the table of lines
-
--- The names of the CSRs at machine level.
-abbrev pub machine_csr : Csr → Field
-machine_csr Select = Keyword (codes "miselect")
-machine_csr Reg = Keyword (codes "mireg")
-machine_csr Topei = Keyword (codes "mtopei")
-machine_csr csr = Unspelled
-
--- The names of the CSRs at supervisor level.
-abbrev pub supervisor_csr : Csr → Field
-supervisor_csr Select = Keyword (codes "siselect")
-supervisor_csr Reg = Keyword (codes "sireg")
-supervisor_csr Topei = Keyword (codes "stopei")
-supervisor_csr csr = Unspelled
-
 -- Whether a field has a spelling.
 abbrev pub IsNamed : Field → Type 0
 IsNamed Unspelled = ⊥
 IsNamed field = Unit {0}
+
+-- ---- the names of CSRs
+
+-- The names of a level's CSRs, each with the CSR that it names.
+abbrev pub csr_names : Level → List (List ℕ × Csr)
+csr_names levels.Machine =
+    (codes "miselect", Select) ∷ (codes "mireg", Reg) ∷ (codes "mtopei", Topei) ∷ []
+csr_names levels.Host =
+    (codes "siselect", Select) ∷ (codes "sireg", Reg) ∷ (codes "stopei", Topei) ∷ []
+csr_names levels.Guest =
+    (codes "siselect", Select) ∷ (codes "sireg", Reg) ∷ (codes "stopei", Topei)
+    ∷ (codes "stopi", Topi) ∷ (codes "sip", Sip) ∷ (codes "sie", Sie) ∷ []
+
+-- Whether two CSRs are the same.
+abbrev pub is_csr : Csr → Csr → Bool
+is_csr Select Select = true
+is_csr Reg Reg = true
+is_csr Topei Topei = true
+is_csr Topi Topi = true
+is_csr Sip Sip = true
+is_csr Sie Sie = true
+is_csr csr other = false
+
+-- The field of a CSR among named ones: its name, where it has one.
+abbrev pub field_among : List (List ℕ × Csr) → Csr → Field
+field_among [] csr = Unspelled
+field_among (row ∷ rows) csr = if is_csr row.1 csr then Keyword row.0 else field_among rows csr
+
+-- The field of a CSR at a level.
+abbrev pub csr_field : Level → Csr → Field
+csr_field level = field_among (csr_names level)
+
+-- ---- the table of lines
 
 -- A CSR instruction, given how its CSR is spelled.
 abbrev pub instruction : Field → Op → List Field
@@ -71,16 +92,17 @@ fields_of (Machine harts guests n sources) = Keyword (codes "machine") ∷ Decim
 fields_of (Wire source level) = Keyword (codes "wire") ∷ Decimal source ∷ Bit level ∷ []
 fields_of (Load addr) = Keyword (codes "ld") ∷ Hex addr ∷ []
 fields_of (Store addr value) = Keyword (codes "st") ∷ Hex addr ∷ Hex32 value ∷ []
-fields_of (MachineCsr hart csr op) = Keyword (codes "m") ∷ Decimal hart ∷ instruction (machine_csr csr) op
-fields_of (HostCsr hart csr op) = Keyword (codes "h") ∷ Decimal hart ∷ instruction (supervisor_csr csr) op
+fields_of (MachineCsr hart csr op) =
+    Keyword (codes "m") ∷ Decimal hart ∷ instruction (csr_field levels.Machine csr) op
+fields_of (HostCsr hart csr op) =
+    Keyword (codes "h") ∷ Decimal hart ∷ instruction (csr_field levels.Host csr) op
 fields_of (Pins hart) = Keyword (codes "pins") ∷ Decimal hart ∷ []
 
--- Whether a text spells a line: it has at most 128 bytes, and its words spell the line's fields.
+-- Whether a text spells a line: it has at most LINE_BYTES bytes, and its words spell the line's
+-- fields.
 abbrev pub Spells : List ℕ → Line → Type 0
-Spells text line = (length text ≤ 128) × AllFit (words_of text) (fields_of line)
+Spells text line = (length text ≤ LINE_BYTES) × AllFit (words_of text) (fields_of line)
 
--- Whether the CSR of a line is one that its row of the table names.
+-- Whether each field of a line has a spelling: only a CSR that its level doesn't name has none.
 abbrev pub IsListed : Line → Type 0
-IsListed (MachineCsr hart csr op) = IsNamed (machine_csr csr)
-IsListed (HostCsr hart csr op) = IsNamed (supervisor_csr csr)
-IsListed line = Unit {0}
+IsListed line = AllByRecursion IsNamed (fields_of line)

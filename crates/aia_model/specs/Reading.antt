@@ -2,14 +2,17 @@
 -- it spells is proved. Profile.
 use Rattle.std.specs.Prelude.{ℕ, ◌^◌, Bool, true, false, nat_eq, nat_le, if◌then◌else◌, List, [], ◌∷◌, length, Option, Some, None, codes}
 use Rattle.std.specs.Str.{bytes_eq}
+use Rattle.aia_model.specs.declared.limits.TheConstants.{LINE_BYTES}
 use Rattle.aia_model.specs.declared.line.Line.{Line}
 use Rattle.aia_model.specs.declared.line.Line.TheVariants.{Machine, Wire, Load, Store, MachineCsr, HostCsr, Pins}
 use Rattle.aia_model.specs.declared.parsed.Parsed.{Parsed}
 use Rattle.aia_model.specs.declared.parsed.Parsed.TheVariants as parsed
 use Rattle.aia_regs.specs.declared.access.Csr.{Csr}
-use Rattle.aia_regs.specs.declared.access.Csr.TheVariants.{Select, Reg, Topei}
+use Rattle.aia_regs.specs.declared.access.Level.{Level}
+use Rattle.aia_regs.specs.declared.access.Level.TheVariants as levels
 use Rattle.aia_regs.specs.declared.access.Op.{Op}
 use Rattle.aia_regs.specs.declared.access.Op.TheVariants as ops
+use Rattle.aia_model.specs.Grammar.{csr_names}
 use Rattle.aia_model.specs.Text.{words_of, number_of, below, is_skipped, ◌>>=◌}
 
 -- The words that are still to be read.
@@ -19,6 +22,11 @@ Words = List (List ℕ)
 -- Whether a word is the other.
 abbrev pub is_word : List ℕ → List ℕ → Bool
 is_word = bytes_eq
+
+-- What stands in the row of a word, the first such row of a table.
+abbrev pub row_of : {A : Type 0} → List (List ℕ × A) → List ℕ → Option A
+row_of [] word = None
+row_of (row ∷ rows) word = if is_word word row.0 then Some row.1 else row_of rows word
 
 -- The next word, a number, a number below 2^32 or a bit, each with the words after it.
 abbrev pub word_at : Words → Option (List ℕ × Words)
@@ -82,20 +90,9 @@ load_at words = do
   addr ← number_at words
   at_end addr.1 (Load addr.0)
 
--- The CSR of machine level, or of supervisor level, that a word names.
-abbrev pub machine_csr_of : List ℕ → Option Csr
-machine_csr_of word =
-    if is_word word (codes "miselect") then Some Select
-    else (if is_word word (codes "mireg") then Some Reg
-    else (if is_word word (codes "mtopei") then Some Topei
-    else None))
-
-abbrev pub supervisor_csr_of : List ℕ → Option Csr
-supervisor_csr_of word =
-    if is_word word (codes "siselect") then Some Select
-    else (if is_word word (codes "sireg") then Some Reg
-    else (if is_word word (codes "stopei") then Some Topei
-    else None))
+-- The CSR that a word names at a level.
+abbrev pub named : Level → List ℕ → Option Csr
+named level = row_of (csr_names level)
 
 -- A CSR by its level's names, with the words after it.
 unfoldable pub csr_at : (List ℕ → Option Csr) → Words → Option (Csr × Words)
@@ -117,14 +114,18 @@ write_at named op words = do
   value ← number_at csr.1
   whole value.1 (csr.0, op value.0)
 
+-- The mnemonics, each with the reader of what follows it.
+abbrev pub mnemonics : (List ℕ → Option Csr) → List (List ℕ × (Words → Option (Csr × Op)))
+mnemonics named =
+    (codes "csrr", read_at named)
+    ∷ (codes "csrrw", write_at named ops.Write)
+    ∷ (codes "csrrs", write_at named ops.Set)
+    ∷ (codes "csrrc", write_at named ops.Clear)
+    ∷ []
+
 -- What follows a mnemonic.
 abbrev pub instruction_after : (List ℕ → Option Csr) → List ℕ → Words → Option (Csr × Op)
-instruction_after named mnemonic words =
-    if is_word mnemonic (codes "csrr") then read_at named words
-    else (if is_word mnemonic (codes "csrrw") then write_at named ops.Write words
-    else (if is_word mnemonic (codes "csrrs") then write_at named ops.Set words
-    else (if is_word mnemonic (codes "csrrc") then write_at named ops.Clear words
-    else None)))
+instruction_after named mnemonic words = row_of (mnemonics named) mnemonic >>= λ read. read words
 
 -- A CSR instruction, by the names of its level's CSRs.
 unfoldable pub instruction_at : (List ℕ → Option Csr) → Words → Option (Csr × Op)
@@ -135,13 +136,13 @@ instruction_at named words = do
 unfoldable pub machine_csr_at : Words → Option Line
 machine_csr_at words = do
   hart ← number_at words
-  access ← instruction_at machine_csr_of hart.1
+  access ← instruction_at (named levels.Machine) hart.1
   Some (MachineCsr hart.0 access.0 access.1)
 
 unfoldable pub host_csr_at : Words → Option Line
 host_csr_at words = do
   hart ← number_at words
-  access ← instruction_at supervisor_csr_of hart.1
+  access ← instruction_at (named levels.Host) hart.1
   Some (HostCsr hart.0 access.0 access.1)
 
 unfoldable pub pins_at : Words → Option Line
@@ -149,17 +150,21 @@ pins_at words = do
   hart ← number_at words
   at_end hart.1 (Pins hart.0)
 
+-- The forms of lines: the keywords, each with the reader of what follows it.
+abbrev pub forms : List (List ℕ × (Words → Option Line))
+forms =
+    (codes "machine", machine_at)
+    ∷ (codes "wire", wire_at)
+    ∷ (codes "ld", load_at)
+    ∷ (codes "st", store_at)
+    ∷ (codes "m", machine_csr_at)
+    ∷ (codes "h", host_csr_at)
+    ∷ (codes "pins", pins_at)
+    ∷ []
+
 -- What follows a line's keyword.
 abbrev pub line_after : List ℕ → Words → Option Line
-line_after keyword words =
-    if is_word keyword (codes "machine") then machine_at words
-    else (if is_word keyword (codes "wire") then wire_at words
-    else (if is_word keyword (codes "ld") then load_at words
-    else (if is_word keyword (codes "st") then store_at words
-    else (if is_word keyword (codes "m") then machine_csr_at words
-    else (if is_word keyword (codes "h") then host_csr_at words
-    else (if is_word keyword (codes "pins") then pins_at words
-    else None))))))
+line_after keyword words = row_of forms keyword >>= λ read. read words
 
 -- The line that words spell.
 unfoldable pub line_at : Words → Option Line
@@ -178,4 +183,5 @@ parsed_of (Some line) = parsed.Line line
 unfoldable pub reading : List ℕ → Parsed
 reading text =
     if is_skipped text then parsed.Skip
-    else (if nat_le (length text) 128 then parsed_of (line_at (words_of text)) else parsed.Bad)
+    else (if nat_le (length text) LINE_BYTES then parsed_of (line_at (words_of text))
+    else parsed.Bad)

@@ -6,6 +6,7 @@
 mod answer;
 mod domain_name;
 pub mod laws;
+pub mod limits;
 mod line;
 mod msi;
 mod parsed;

@@ -2,5 +2,5 @@ pub mod WordLemmas
 pub mod NumberLemmas
 pub mod DigitLemmas
 pub mod AnswerLength
-pub mod NameLemmas
 pub mod PrintLemmas
+pub mod NameLemmas

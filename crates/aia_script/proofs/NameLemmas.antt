@@ -1,11 +1,28 @@
--- The CSR that a word names, found by comparing the word with each name.
-use Rattle.std.proofs.Common.{◌≡◌, ℕ, cond, List, Some, None, refl}
-use Rattle.aia_regs.specs.declared.access.Csr.TheVariants.{Select, Reg, Topei}
-use Rattle.aia_model.specs.Reading.{is_word}
-use Rattle.aia_script.specs.declared.instructions.Level.{Level}
-use Rattle.aia_script.specs.declared.instructions.Level.TheVariants.{Machine, Supervisor}
-use Rattle.aia_script.specs.Names.{csr_name, named}
+-- The name of a CSR, found row by row.
+use Rattle.std.proofs.Common.{◌≡◌, ℕ, ◌<◌, true, List, length, map, drop, get_or, refl, sym, ap, ◌∙◌}
+use Rattle.std.specs.Borrow.{Bor}
+use Rattle.std.proofs.lemmas.Bool.{cond-true}
+use Rattle.std.proofs.lemmas.List.{at_drop_more}
+use Rattle.aia_regs.specs.declared.access.Csr.{Csr}
+use Rattle.aia_regs.specs.declared.access.Csr.TheVariants.{Select, Reg, Topei, Topi, Sip, Sie}
+use Rattle.aia_model.specs.Grammar.{Field, is_csr, field_among}
+use Rattle.aia_model.specs.Printing.{field_text}
 
-pub named_by_names : (level : Level) (word : List ℕ) → named level word ≡ cond (is_word word (csr_name level Select)) (Some Select) (cond (is_word word (csr_name level Reg)) (Some Reg) (cond (is_word word (csr_name level Topei)) (Some Topei) None))
-named_by_names Machine word = refl
-named_by_names Supervisor word = refl
+-- the row of a CSR has its name
+pub name_there : (rows : List (Bor (List ℕ) × Csr)) (i : ℕ) (first : Bor (List ℕ) × Csr) (field : Field) (csr : Csr) → i < length rows → (get_or rows i first).1 ≡ csr → field_among (map (λ row. (row.0.now, row.1)) (drop i rows)) csr ≡ field → (get_or rows i first).0.now ≡ field_text field
+name_there rows i first field csr there is rest =
+    let row = get_or rows i first in
+    sym (ap field_text (cond-true _ _ _ (itself row.1 csr is)))
+    ∙ sym (at_drop_more (λ rows. field_text (field_among (map (λ row. (row.0.now, row.1)) rows) csr)) rows i first there)
+    ∙ ap field_text rest
+  where
+    itself : (csr other : Csr) → csr ≡ other → is_csr csr other ≡ true
+    itself csr other e = ap (is_csr csr) (sym e) ∙ same csr
+      where
+        same : (csr : Csr) → is_csr csr csr ≡ true
+        same Select = refl
+        same Reg = refl
+        same Topei = refl
+        same Topi = refl
+        same Sip = refl
+        same Sie = refl

@@ -9,13 +9,12 @@ use Rattle.aia_regs.specs.declared.access.Op.TheVariants as ops
 use Rattle.aia_model.specs.AnswerText.{digit_character}
 use Rattle.std.specs.List.{AllByRecursion}
 use Rattle.aia_regs.specs.declared.access.Csr.{Csr}
-use Rattle.aia_regs.specs.declared.access.Csr.TheVariants.{Select, Reg, Topei}
 use Rattle.aia_regs.specs.Operations.{FitsOp}
 use Rattle.aia_model.specs.Grammar.{Field, instruction}
 use Rattle.aia_model.specs.Printing.{field_text, IsInRange}
-use Rattle.aia_script.specs.declared.instructions.Level.{Level}
-use Rattle.aia_script.specs.declared.instructions.Level.TheVariants.{Machine, Supervisor}
-use Rattle.aia_script.specs.Names.{csr_field}
+use Rattle.aia_regs.specs.declared.access.Level.{Level}
+use Rattle.aia_model.specs.Grammar.{csr_field}
+use Rattle.aia_model.proofs.Printed.{name_in_range}
 use Rattle.aia_script.specs.declared.number.Radix.{Radix}
 use Rattle.aia_script.specs.declared.number.Radix.TheVariants.{Decimal, Hexadecimal}
 use Rattle.aia_script.specs.Digits.{base}
@@ -58,19 +57,9 @@ pub digit_low : (radix : Radix) (b n : ℕ) → b ≡ base radix → n % b < 16
 digit_low Decimal b n e = rw e (omega arith)
 digit_low Hexadecimal b n e = rw e (omega arith)
 
-csr_in_range : (level : Level) (csr : Csr) → IsInRange (csr_field level csr)
-csr_in_range Machine Select = tt
-csr_in_range Machine Reg = tt
-csr_in_range Machine Topei = tt
-csr_in_range Machine csr = tt
-csr_in_range Supervisor Select = tt
-csr_in_range Supervisor Reg = tt
-csr_in_range Supervisor Topei = tt
-csr_in_range Supervisor csr = tt
-
 -- the fields of a CSR instruction whose operand is in range
 pub access_in_range : (level : Level) (csr : Csr) (op : Op) → FitsOp op → AllByRecursion IsInRange (instruction (csr_field level csr) op)
-access_in_range level csr ops.Read fits = (tt, (csr_in_range level csr, tt))
-access_in_range level csr (ops.Write v) fits = (tt, (csr_in_range level csr, (fits, tt)))
-access_in_range level csr (ops.Set v) fits = (tt, (csr_in_range level csr, (fits, tt)))
-access_in_range level csr (ops.Clear v) fits = (tt, (csr_in_range level csr, (fits, tt)))
+access_in_range level csr ops.Read fits = (tt, (name_in_range level csr, tt))
+access_in_range level csr (ops.Write v) fits = (tt, (name_in_range level csr, (fits, tt)))
+access_in_range level csr (ops.Set v) fits = (tt, (name_in_range level csr, (fits, tt)))
+access_in_range level csr (ops.Clear v) fits = (tt, (name_in_range level csr, (fits, tt)))

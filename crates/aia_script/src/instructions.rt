@@ -1,56 +1,64 @@
 //! CSR instructions: the CSR's name at a level, and what follows each mnemonic.
 
-ghost use Rattle.std.specs.Prelude.{◌≡◌, ℕ, ◌≤◌, length};
+ghost use Rattle.std.specs.Prelude.{◌≡◌, ℕ, map};
 ghost use Rattle.std.specs.Option.{option_map};
-ghost use Rattle.aia_model.specs.Reading.{csr_at, read_at, write_at, instruction_after, instruction_at};
+ghost use Rattle.aia_model.specs.Grammar.{csr_names, csr_field};
+ghost use Rattle.aia_model.specs.Printing.{field_text};
+ghost use Rattle.aia_model.specs.Reading.{named, csr_at, read_at, write_at, instruction_after, instruction_at};
 ghost use Rattle.aia_script.specs.Cursor.{left};
-ghost use Rattle.aia_script.specs.Names.{csr_name, named};
 
 use crate::number::number_at;
 use crate::words::{Words, at_end, word_at};
-use aia_regs::{Csr, Op};
+use aia_regs::{Csr, Level, Op};
 
-/// The level whose names a CSR instruction's CSR has.
-#[derive(Clone, Copy)]
-pub enum Level {
-    /// The names of machine level.
-    Machine,
-    /// The names of supervisor level.
-    Supervisor,
+/// The names of a level's CSRs, each with the CSR that it names.
+fn csr_names(level: Level) -> &'static [(&'static [u8], Csr)]
+    ensures { map (λ row. (row.0.now, row.1)) result.now ≡ csr_names level }
+{
+    match level {
+        Level::Machine => &[
+            (b"miselect", Csr::Select),
+            (b"mireg", Csr::Reg),
+            (b"mtopei", Csr::Topei),
+        ],
+        Level::Host => &[
+            (b"siselect", Csr::Select),
+            (b"sireg", Csr::Reg),
+            (b"stopei", Csr::Topei),
+        ],
+        Level::Guest => &[
+            (b"siselect", Csr::Select),
+            (b"sireg", Csr::Reg),
+            (b"stopei", Csr::Topei),
+            (b"stopi", Csr::Topi),
+            (b"sip", Csr::Sip),
+            (b"sie", Csr::Sie),
+        ],
+    }
 }
 
-impl Level {
-    /// The name of a CSR at this level; empty where no line of this level names it.
-    pub fn name(self, csr: Csr) -> &'static [u8]
-        ensures name { result.now ≡ csr_name self csr }
-        ensures short { length result.now ≤ 8 }
-    {
-        match (self, csr) {
-            (Level::Machine, Csr::Select) => b"miselect",
-            (Level::Machine, Csr::Reg) => b"mireg",
-            (Level::Machine, Csr::Topei) => b"mtopei",
-            (Level::Supervisor, Csr::Select) => b"siselect",
-            (Level::Supervisor, Csr::Reg) => b"sireg",
-            (Level::Supervisor, Csr::Topei) => b"stopei",
-            (_, Csr::Topi | Csr::Sip | Csr::Sie) => b"",
+/// The CSR that a word names at a level.
+fn named(level: Level, word: &[u8]) -> Option<Csr>
+    ensures { result ≡ named level word.now }
+{
+    for (name, csr) in csr_names(level) {
+        if word == *name {
+            return Some(*csr);
         }
     }
+    None
+}
 
-    /// The CSR that a word names at this level.
-    #[tactic(auto, using(crate::proofs::NameLemmas::named_by_names))]
-    fn csr(self, word: &[u8]) -> Option<Csr>
-        ensures { result ≡ named self word.now }
-    {
-        if word == self.name(Csr::Select) {
-            Some(Csr::Select)
-        } else if word == self.name(Csr::Reg) {
-            Some(Csr::Reg)
-        } else if word == self.name(Csr::Topei) {
-            Some(Csr::Topei)
-        } else {
-            None
+/// The name of a CSR at a level; empty where the level names it not.
+pub fn csr_name(level: Level, csr: Csr) -> &'static [u8]
+    ensures { result.now ≡ field_text (csr_field level csr) }
+{
+    for (name, named) in csr_names(level) {
+        if *named == csr {
+            return name;
         }
     }
+    b""
 }
 
 /// The CSR that the next word names, and the words after it.
@@ -59,7 +67,7 @@ fn csr_at(level: Level, words: Words<'_>) -> Option<(Csr, Words<'_>)>
     ensures { option_map (λ p. (p.0, left p.1)) result ≡ csr_at (named level) (left words.entry) }
 {
     let (word, words) = word_at(words)?;
-    Some((level.csr(word)?, words))
+    Some((named(level, word)?, words))
 }
 
 /// The CSR that the words after `csrr` spell.

@@ -4,10 +4,11 @@ ghost use Rattle.std.specs.Prelude.{◌≡◌};
 ghost use Rattle.aia_model.specs.Reading.{machine_at, wire_at, load_at, store_at, machine_csr_at, host_csr_at, pins_at, line_after, line_at};
 ghost use Rattle.aia_script.specs.Cursor.{left};
 
-use crate::instructions::{Level, instruction_at};
+use crate::instructions::instruction_at;
 use crate::number::{bit_at, n32_at, number_at};
 use crate::words::{Words, at_end, word_at};
 use aia_model::Line;
+use aia_regs::Level;
 
 /// The line that the words after `machine` spell.
 #[tactic(auto, unfolding(aia_model::specs::Reading::machine_at))]
@@ -74,7 +75,7 @@ fn host_csr_at(words: Words<'_>) -> Option<Line>
     ensures { result ≡ host_csr_at (left words.entry) }
 {
     let (hart, words) = number_at(words)?;
-    let (csr, op) = instruction_at(Level::Supervisor, words)?;
+    let (csr, op) = instruction_at(Level::Host, words)?;
     Some(Line::HostCsr { hart, csr, op })
 }
 

@@ -7,10 +7,8 @@ ghost use Rattle.aia_model.specs.Reading.{reading};
 
 use crate::lines::line_at;
 use crate::words::all_words;
+use aia_model::limits::LINE_BYTES;
 use aia_model::{Line, Parsed};
-
-/// The most bytes that a line or a comment has.
-const LONGEST: usize = 128;
 
 /// Whether a text prints nothing: it is empty, or a comment.
 fn is_skipped(text: &[u8]) -> bool
@@ -18,7 +16,7 @@ fn is_skipped(text: &[u8]) -> bool
 {
     match text {
         [] => true,
-        [first, ..] => text.len() <= LONGEST && *first == b'#',
+        [first, ..] => text.len() <= LINE_BYTES && *first == b'#',
     }
 }
 
@@ -45,7 +43,7 @@ fn read(text: &[u8]) -> Parsed
     if is_skipped(text) {
         return Parsed::Skip;
     }
-    if text.len() > LONGEST {
+    if text.len() > LINE_BYTES {
         return Parsed::Bad;
     }
     match line_at(all_words(text)) {

@@ -6,22 +6,24 @@ ghost use Rattle.std.specs.List.{join_with_byte};
 ghost use Rattle.arrayvec.specs.ArrayVec.{array_vec_len};
 ghost use Rattle.aia_regs.specs.Operations.{FitsOp};
 ghost use Rattle.aia_model.specs.AnswerText.{digit_character};
-ghost use Rattle.aia_model.specs.Grammar.{Spells, IsListed, instruction};
+ghost use Rattle.aia_model.specs.Grammar.{Spells, IsListed, csr_field, instruction};
+ghost use Rattle.aia_model.specs.Grammar.Field.{Keyword, Decimal};
 ghost use Rattle.aia_model.specs.Printing.{decimal_text, hex_text, field_text, line_text, IsPrintable};
 ghost use Rattle.aia_model.specs.Reading.{reading};
+ghost use Rattle.aia_model.specs.declared.limits.TheConstants.{LINE_BYTES};
 ghost use Rattle.aia_script.specs.Digits.{base, number_text};
-ghost use Rattle.aia_script.specs.Names.{csr_field};
 
-use crate::instructions::Level;
+use crate::instructions::csr_name;
 use crate::number::Radix;
 use crate::print::{digit_character, push_text};
+use aia_model::limits::LINE_BYTES;
 use aia_model::{Line, Parsed};
-use aia_regs::{Csr, Op};
+use aia_regs::{Csr, Level, Op};
 use arrayvec::ArrayVec;
 
 /// Appends the digits of a value, the highest first, and none for 0.
-fn push_all_digits(out: &mut ArrayVec<u8, 128>, radix: Radix, value: u64)
-    requires { array_vec_len out.old + length (digits_of (base radix) value) ≤ 128 }
+fn push_all_digits(out: &mut ArrayVec<u8, LINE_BYTES>, radix: Radix, value: u64)
+    requires { array_vec_len out.old + length (digits_of (base radix) value) ≤ LINE_BYTES }
     ensures text { out.new.items ≡ out.old.items ++ map digit_character (digits_of (base radix) value) }
     ensures length { array_vec_len out.new ≡ array_vec_len out.old + length (digits_of (base radix) value) }
 {
@@ -33,8 +35,8 @@ fn push_all_digits(out: &mut ArrayVec<u8, 128>, radix: Radix, value: u64)
 }
 
 /// Appends a number by its digits, without leading zeros.
-fn push_number(out: &mut ArrayVec<u8, 128>, radix: Radix, value: u64)
-    requires { array_vec_len out.old + 20 ≤ 128 }
+fn push_number(out: &mut ArrayVec<u8, LINE_BYTES>, radix: Radix, value: u64)
+    requires { array_vec_len out.old + 20 ≤ LINE_BYTES }
     ensures text { out.new.items ≡ out.old.items ++ number_text radix value }
     ensures length { array_vec_len out.new ≤ array_vec_len out.old + 20 }
 {
@@ -46,8 +48,8 @@ fn push_number(out: &mut ArrayVec<u8, 128>, radix: Radix, value: u64)
 }
 
 /// Appends a space and a number in decimal.
-fn push_decimal(out: &mut ArrayVec<u8, 128>, value: u64)
-    requires { array_vec_len out.old + 21 ≤ 128 }
+fn push_decimal(out: &mut ArrayVec<u8, LINE_BYTES>, value: u64)
+    requires { array_vec_len out.old + 21 ≤ LINE_BYTES }
     ensures text { out.new.items ≡ out.old.items ++ 32 ∷ decimal_text value }
     ensures length { array_vec_len out.new ≤ array_vec_len out.old + 21 }
 {
@@ -56,8 +58,8 @@ fn push_decimal(out: &mut ArrayVec<u8, 128>, value: u64)
 }
 
 /// Appends a space and a number in hexadecimal.
-fn push_hex(out: &mut ArrayVec<u8, 128>, value: u64)
-    requires { array_vec_len out.old + 23 ≤ 128 }
+fn push_hex(out: &mut ArrayVec<u8, LINE_BYTES>, value: u64)
+    requires { array_vec_len out.old + 23 ≤ LINE_BYTES }
     ensures text { out.new.items ≡ out.old.items ++ 32 ∷ hex_text value }
     ensures length { array_vec_len out.new ≤ array_vec_len out.old + 23 }
 {
@@ -66,8 +68,8 @@ fn push_hex(out: &mut ArrayVec<u8, 128>, value: u64)
 }
 
 /// Appends a mnemonic, a CSR's name and an operand.
-fn push_operand(out: &mut ArrayVec<u8, 128>, mnemonic: &[u8], name: &[u8], operand: u64)
-    requires room { array_vec_len out.old + length mnemonic.now + length name.now + 23 ≤ 128 }
+fn push_operand(out: &mut ArrayVec<u8, LINE_BYTES>, mnemonic: &[u8], name: &[u8], operand: u64)
+    requires { array_vec_len out.old + length mnemonic.now + length name.now + 23 ≤ LINE_BYTES }
     ensures text { out.new.items ≡ out.old.items ++ mnemonic.now ++ name.now ++ 32 ∷ hex_text operand }
 {
     push_text(out, mnemonic);
@@ -76,12 +78,13 @@ fn push_operand(out: &mut ArrayVec<u8, 128>, mnemonic: &[u8], name: &[u8], opera
 }
 
 /// Appends a space and a CSR instruction, by the level's names. Its operand is in range by its type.
-fn push_instruction(out: &mut ArrayVec<u8, 128>, level: Level, csr: Csr, op: Op)
-    requires { array_vec_len out.old + 38 ≤ 128 }
+#[tactic(auto, using(aia_model::proofs::Printed::name_length))]
+fn push_instruction(out: &mut ArrayVec<u8, LINE_BYTES>, level: Level, csr: Csr, op: Op)
+    requires { array_vec_len out.old + 38 ≤ LINE_BYTES }
     ensures text { out.new.items ≡ out.old.items ++ 32 ∷ join_with_byte 32 (map field_text (instruction (csr_field level csr) op)) }
     ensures range { FitsOp op }
 {
-    let name = level.name(csr);
+    let name = csr_name(level, csr);
     match op {
         Op::Read => {
             push_text(out, b" csrr ");
@@ -93,9 +96,30 @@ fn push_instruction(out: &mut ArrayVec<u8, 128>, level: Level, csr: Csr, op: Op)
     }
 }
 
+/// Appends a line of a keyword, a hart and a CSR instruction to `out`, which is empty.
+#[tactic(auto, using(crate::proofs::PrintLemmas::joined_instruction))]
+fn push_access(
+    out: &mut ArrayVec<u8, LINE_BYTES>,
+    keyword: &[u8],
+    hart: u64,
+    level: Level,
+    csr: Csr,
+    op: Op,
+)
+    requires empty { out.old.items ≡ [] }
+    requires short { length keyword.now ≤ 8 }
+    ensures text { out.new.items ≡ join_with_byte 32 (map field_text
+        (Keyword keyword.now ∷ Decimal hart ∷ instruction (csr_field level csr) op)) }
+    ensures range { FitsOp op }
+{
+    push_text(out, keyword);
+    push_decimal(out, hart);
+    push_instruction(out, level, csr, op);
+}
+
 /// Appends the printing spelling of a `machine` line to `out`, which is empty.
 #[tactic(auto, unfolding(aia_model::specs::Printing::line_text))]
-fn push_machine(out: &mut ArrayVec<u8, 128>, harts: u64, guests: u64, n: u64, sources: u64)
+fn push_machine(out: &mut ArrayVec<u8, LINE_BYTES>, harts: u64, guests: u64, n: u64, sources: u64)
     requires { out.old.items ≡ [] }
     ensures { out.new.items ≡ line_text (Line.Machine harts guests n sources) }
 {
@@ -108,7 +132,7 @@ fn push_machine(out: &mut ArrayVec<u8, 128>, harts: u64, guests: u64, n: u64, so
 
 /// Appends the printing spelling of a `pins` line to `out`, which is empty.
 #[tactic(auto, unfolding(aia_model::specs::Printing::line_text))]
-fn push_pins(out: &mut ArrayVec<u8, 128>, hart: u64)
+fn push_pins(out: &mut ArrayVec<u8, LINE_BYTES>, hart: u64)
     requires { out.old.items ≡ [] }
     ensures { out.new.items ≡ line_text (Line.Pins hart) }
 {
@@ -118,7 +142,7 @@ fn push_pins(out: &mut ArrayVec<u8, 128>, hart: u64)
 
 /// Appends the printing spelling of a line to `out`, which is empty. Its numbers are in range by their types.
 #[tactic(auto, unfolding(aia_model::specs::Printing::line_text), using(crate::proofs::PrintLemmas::joined_instruction, crate::proofs::PrintLemmas::access_in_range))]
-fn push_line(line: &Line, out: &mut ArrayVec<u8, 128>)
+fn push_line(line: &Line, out: &mut ArrayVec<u8, LINE_BYTES>)
     requires { out.old.items ≡ [] }
     ensures text { out.new.items ≡ line_text line.now }
     ensures range { IsPrintable line.now }
@@ -144,16 +168,8 @@ fn push_line(line: &Line, out: &mut ArrayVec<u8, 128>)
             push_hex(out, addr);
             push_hex(out, value as u64);
         }
-        Line::MachineCsr { hart, csr, op } => {
-            push_text(out, b"m");
-            push_decimal(out, hart);
-            push_instruction(out, Level::Machine, csr, op);
-        }
-        Line::HostCsr { hart, csr, op } => {
-            push_text(out, b"h");
-            push_decimal(out, hart);
-            push_instruction(out, Level::Supervisor, csr, op);
-        }
+        Line::MachineCsr { hart, csr, op } => push_access(out, b"m", hart, Level::Machine, csr, op),
+        Line::HostCsr { hart, csr, op } => push_access(out, b"h", hart, Level::Host, csr, op),
         Line::Pins { hart } => push_pins(out, hart),
     }
 }
@@ -165,7 +181,7 @@ fn push_line(line: &Line, out: &mut ArrayVec<u8, 128>)
 ///
 /// `parse_line(print_line(x)) = Line(x)`: the clause `again` says that the reading of what is printed is `Line(line)`, and
 /// `parse_line` returns the reading of its text. Nothing is allocated.
-pub fn print_line(line: &Line, out: &mut ArrayVec<u8, 128>)
+pub fn print_line(line: &Line, out: &mut ArrayVec<u8, LINE_BYTES>)
     requires listed { IsListed line.now }
     requires empty { out.old.items ≡ [] }
     ensures text { out.new.items ≡ line_text line.now }

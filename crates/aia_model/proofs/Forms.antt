@@ -1,0 +1,208 @@
+-- The forms of lines, each by the fields that it reads: what is spelled is read, and what is read
+-- is spelled so. A new form is its value here, a row of `spelled_read` and a row of `all_forms`.
+use Rattle.std.proofs.Common.{◌≡◌, ℕ, ◌^◌, ◌<◌, Bool, true, false, cond, nat_eq, nat_lt, List, [], ◌∷◌, Option, Some, None, inl, inr, refl, ap, subst, ◌∙◌}
+use Rattle.std.specs.Prelude.{codes}
+use Rattle.std.specs.List.{AllByRecursion}
+use Rattle.std.proofs.lemmas.Bool.{cond-true, lt-ltb, ltb-true, eqb-true}
+use Rattle.aia_regs.specs.declared.access.Csr.{Csr}
+use Rattle.aia_regs.specs.declared.access.Csr.TheVariants.{Select, Reg, Topei, Topi, Sip, Sie}
+use Rattle.aia_regs.specs.declared.access.Level.{Level}
+use Rattle.aia_regs.specs.declared.access.Level.TheVariants as levels
+use Rattle.aia_regs.specs.declared.access.Op.{Op}
+use Rattle.aia_regs.specs.declared.access.Op.TheVariants as ops
+use Rattle.aia_model.specs.declared.line.Line.{Line}
+use Rattle.aia_model.specs.declared.line.Line.TheVariants.{Machine, Wire, Load, Store, MachineCsr, HostCsr, Pins}
+use Rattle.aia_model.specs.Text.{number_of, below, ◌>>=◌}
+use Rattle.aia_model.specs.Grammar.{Field, bit_number, Fits, AllFit, csr_names, is_csr, field_among, csr_field, instruction, fields_of}
+use Rattle.aia_model.specs.Grammar.Field.{Keyword, Decimal, Hex, Hex32, Bit, Unspelled}
+use Rattle.aia_model.specs.Reading.{Words, row_of, number_at, n32_at, bit_of, bit_at, named, csr_at, read_at, write_at, mnemonics, instruction_at, forms, machine_at, wire_at, store_at, load_at, machine_csr_at, host_csr_at, pins_at, line_at}
+use Rattle.aia_model.proofs.Readers.{chosen, ReadsWord, by_word, by_number, ReadsAll, the_end, ◌and_then◌, made_of, row_found, IsRow, reads_row, AreRows, spelled_by_rows}
+
+infixr 4 ◌and_row◌
+-- what holds of each row of a table
+pub ◌and_row◌ : {P Q : Type 0} → P → Q → P × Q
+◌and_row◌ p q = (p, q)
+
+-- ---- fields of one word
+
+decimal : ReadsWord number_at Decimal
+unfolding number_at
+decimal = by_word number_of Decimal (λ w n p. p) (λ w n p. p)
+
+hexadecimal : ReadsWord number_at Hex
+unfolding number_at
+hexadecimal = by_word number_of Hex (λ w n p. p) (λ w n p. p)
+
+small : ReadsWord n32_at Hex32
+unfolding n32_at
+small = by_number (below (2 ^ 32)) Hex32 (λ w n p. ap (λ o. o >>= below (2 ^ 32)) p.0 ∙ cond-true _ _ _ (lt-ltb n (2 ^ 32) p.1)) is_below
+  where
+    is_below : (w : List ℕ) (n s : ℕ) → number_of w ≡ Some n → below (2 ^ 32) n ≡ Some s → Fits w (Hex32 s)
+    is_below w n s e b = elim (chosen (nat_lt n (2 ^ 32)) (Some n) None s b) [
+      | inl h ↦ let q : n ≡ s = cc in (e ∙ ap Some q, subst (λ n. n < 2 ^ 32) q (ltb-true n (2 ^ 32) h.0))
+      | inr h ↦ let bad : ◌≡◌ {A = Option ℕ} None (Some s) = h.1 in absurd (cc)
+    ]
+
+bit : ReadsWord bit_at Bit
+unfolding bit_at
+bit = by_number bit_of Bit of_level is_bit
+  where
+    of_level : (w : List ℕ) (level : Bool) → number_of w ≡ Some (bit_number level) → (number_of w >>= bit_of) ≡ Some level
+    of_level w false e = ap (λ o. o >>= bit_of) e
+    of_level w true e = ap (λ o. o >>= bit_of) e
+
+    is_bit : (w : List ℕ) (n : ℕ) (level : Bool) → number_of w ≡ Some n → bit_of n ≡ Some level → number_of w ≡ Some (bit_number level)
+    is_bit w n level e b = elim (chosen (nat_eq n 0) (Some false) _ level b) [
+      | inl h ↦ let q : false ≡ level = cc in e ∙ ap Some (eqb-true n 0 h.0 ∙ ap bit_number q)
+      | inr h ↦ elim (chosen (nat_eq n 1) (Some true) None level h.1) [
+        | inl i ↦ let q : true ≡ level = cc in e ∙ ap Some (eqb-true n 1 i.0 ∙ ap bit_number q)
+        | inr i ↦ let bad : ◌≡◌ {A = Option Bool} None (Some level) = i.1 in absurd (cc)
+      ]
+    ]
+
+-- ---- the names of CSRs
+
+-- a name is its CSR's field, and names it
+abbrev pub IsName : Level → List ℕ → Csr → Type 0
+IsName level name csr = Fits name (csr_field level csr) × (named level name ≡ Some csr)
+
+pub names : (level : Level) → AllByRecursion (λ row. IsName level row.0 row.1) (csr_names level)
+names levels.Machine = (refl, refl) and_row (refl, refl) and_row (refl, refl) and_row tt
+names levels.Host = (refl, refl) and_row (refl, refl) and_row (refl, refl) and_row tt
+names levels.Guest = (refl, refl) and_row (refl, refl) and_row (refl, refl) and_row (refl, refl) and_row (refl, refl) and_row (refl, refl) and_row tt
+
+same_csr : (a b : Csr) → is_csr a b ≡ true → a ≡ b
+same_csr Select Select e = refl
+same_csr Reg Reg e = refl
+same_csr Topei Topei e = refl
+same_csr Topi Topi e = refl
+same_csr Sip Sip e = refl
+same_csr Sie Sie e = refl
+same_csr a b e = absurd (cc)
+
+-- what holds of the name of a CSR holds of its field, where it holds of none
+pub among : (Q : List ℕ → Csr → Type 0) (P : Field → Type 0) (csr : Csr) → P Unspelled → ((name : List ℕ) → Q name csr → P (Keyword name)) → (rows : List (List ℕ × Csr)) → AllByRecursion (λ row. Q row.0 row.1) rows → P (field_among rows csr)
+among Q P csr none one [] all = none
+among Q P csr none one (row ∷ rows) all = by_test (is_csr row.1 csr) refl (among Q P csr none one rows all.1)
+  where
+    by_test : (t : Bool) → is_csr row.1 csr ≡ t → P (field_among rows csr) → P (cond t (Keyword row.0) (field_among rows csr))
+    by_test true e later = one row.0 (subst (Q row.0) (same_csr row.1 csr e) all.0)
+    by_test false e later = later
+
+-- a word that is a CSR's field names it
+names_its_csr : (level : Level) (w : List ℕ) (csr : Csr) → Fits w (csr_field level csr) → named level w ≡ Some csr
+names_its_csr level w csr = among (IsName level) (λ field. Fits w field → named level w ≡ Some csr) csr (λ fits. absurd fits) (λ name is fits. ap (named level) fits ∙ is.1) (csr_names level) (names level)
+
+csr : (level : Level) → ReadsWord (csr_at (named level)) (csr_field level)
+unfolding csr_at
+csr level = by_word (named level) (csr_field level) (names_its_csr level) (λ w csr e. (row_found (IsName level) (csr_names level) (names level) w csr e).0)
+
+-- ---- CSR instructions
+
+-- the fields of an instruction of a level
+abbrev access_fields : Level → Csr × Op → List Field
+access_fields level access = instruction (csr_field level access.0) access.1
+
+-- an instruction of a level, by what is made of the values of its fields
+abbrev IsInstruction : {A : Type 0} → Level → List ℕ → (Words → Option (Csr × Op)) → (A → Csr × Op) → Type 0
+IsInstruction level mnemonic reader made = IsRow (mnemonics (named level)) (access_fields level) (mnemonic, reader) made
+
+plain : (level : Level) → IsInstruction {A = Csr × Unit {0}} level (codes "csrr") (read_at (named level)) (λ a. (a.0, ops.Read))
+unfolding read_at
+plain level = reads_row (csr level and_then the_end) (mnemonics (named level)) (access_fields level) _ _ refl (λ a. refl)
+
+-- one with an operand, whichever it is
+operand : (level : Level) (mnemonic : List ℕ) (op : ℕ → Op) → row_of (mnemonics (named level)) mnemonic ≡ Some (write_at (named level) op) → ((csr : Field) (v : ℕ) → instruction csr (op v) ≡ Keyword mnemonic ∷ csr ∷ Hex v ∷ []) → IsInstruction {A = Csr × (ℕ × Unit {0})} level mnemonic (write_at (named level) op) (λ a. (a.0, op a.1.0))
+unfolding write_at
+operand level mnemonic op there spelled = reads_row (csr level and_then hexadecimal and_then the_end) (mnemonics (named level)) (access_fields level) _ _ there (λ a. spelled (csr_field level a.0) a.1.0)
+
+write : (level : Level) → IsInstruction {A = Csr × (ℕ × Unit {0})} level (codes "csrrw") (write_at (named level) ops.Write) (λ a. (a.0, ops.Write a.1.0))
+write level = operand level _ ops.Write refl (λ csr v. refl)
+
+set : (level : Level) → IsInstruction {A = Csr × (ℕ × Unit {0})} level (codes "csrrs") (write_at (named level) ops.Set) (λ a. (a.0, ops.Set a.1.0))
+set level = operand level _ ops.Set refl (λ csr v. refl)
+
+clear : (level : Level) → IsInstruction {A = Csr × (ℕ × Unit {0})} level (codes "csrrc") (write_at (named level) ops.Clear) (λ a. (a.0, ops.Clear a.1.0))
+clear level = operand level _ ops.Clear refl (λ csr v. refl)
+
+instruction_read : (level : Level) (access : Csr × Op) (ws : Words) → AllFit ws (access_fields level access) → instruction_at (named level) ws ≡ Some access
+unfolding instruction_at
+instruction_read level (csr, ops.Read) ws fits = (plain level).finds (csr, tt) ws fits
+instruction_read level (csr, ops.Write v) ws fits = (write level).finds (csr, (v, tt)) ws fits
+instruction_read level (csr, ops.Set v) ws fits = (set level).finds (csr, (v, tt)) ws fits
+instruction_read level (csr, ops.Clear v) ws fits = (clear level).finds (csr, (v, tt)) ws fits
+
+all_instructions : (level : Level) → AreRows (access_fields level) (mnemonics (named level))
+all_instructions level = (plain level).found and_row (write level).found and_row (set level).found and_row (clear level).found and_row tt
+
+instruction_spelled : (level : Level) (ws : Words) (access : Csr × Op) → instruction_at (named level) ws ≡ Some access → AllFit ws (access_fields level access)
+unfolding instruction_at
+instruction_spelled level ws access e = spelled_by_rows (access_fields level) (mnemonics (named level)) (all_instructions level) ws access e
+
+-- the rest of a line is an instruction of a level
+an_instruction : (level : Level) → {B : Type 0} → ReadsAll {A = Csr × Op} {B = B} (λ made ws. instruction_at (named level) ws >>= λ access. Some (made access)) (access_fields level)
+an_instruction level = made_of (instruction_at (named level)) (access_fields level) (instruction_read level) (instruction_spelled level)
+
+-- ---- the forms of lines
+
+-- a form of line, by what is made of the values of its fields
+abbrev IsForm : {A : Type 0} → List ℕ → (Words → Option Line) → (A → Line) → Type 0
+IsForm keyword reader made = IsRow forms fields_of (keyword, reader) made
+
+a_form : {A : Type 0} {reader : (A → Line) → Words → Option Line} {rest : A → List Field} → ReadsAll reader rest → (keyword : List ℕ) (made : A → Line) → row_of forms keyword ≡ Some (reader made) → ((a : A) → fields_of (made a) ≡ Keyword keyword ∷ rest a) → IsForm keyword (reader made) made
+a_form reads keyword made there spelled = reads_row reads forms fields_of keyword made there spelled
+
+machine : IsForm {A = ℕ × (ℕ × (ℕ × (ℕ × Unit {0})))} (codes "machine") machine_at (λ (harts, (guests, (n, (sources, end)))). Machine harts guests n sources)
+unfolding machine_at
+machine = a_form (decimal and_then decimal and_then decimal and_then decimal and_then the_end) _ _ refl (λ a. refl)
+
+wire : IsForm {A = ℕ × (Bool × Unit {0})} (codes "wire") wire_at (λ (source, (level, end)). Wire source level)
+unfolding wire_at
+wire = a_form (decimal and_then bit and_then the_end) _ _ refl (λ a. refl)
+
+load : IsForm {A = ℕ × Unit {0}} (codes "ld") load_at (λ (addr, end). Load addr)
+unfolding load_at
+load = a_form (hexadecimal and_then the_end) _ _ refl (λ a. refl)
+
+store : IsForm {A = ℕ × (ℕ × Unit {0})} (codes "st") store_at (λ (addr, (value, end)). Store addr value)
+unfolding store_at
+store = a_form (hexadecimal and_then small and_then the_end) _ _ refl (λ a. refl)
+
+machine_csr : IsForm {A = ℕ × (Csr × Op)} (codes "m") machine_csr_at (λ (hart, (csr, op)). MachineCsr hart csr op)
+unfolding machine_csr_at
+machine_csr = a_form (decimal and_then an_instruction levels.Machine) _ _ refl (λ a. refl)
+
+host_csr : IsForm {A = ℕ × (Csr × Op)} (codes "h") host_csr_at (λ (hart, (csr, op)). HostCsr hart csr op)
+unfolding host_csr_at
+host_csr = a_form (decimal and_then an_instruction levels.Host) _ _ refl (λ a. refl)
+
+pins : IsForm {A = ℕ × Unit {0}} (codes "pins") pins_at (λ (hart, end). Pins hart)
+unfolding pins_at
+pins = a_form (decimal and_then the_end) _ _ refl (λ a. refl)
+
+-- words that spell a line are read as it
+pub spelled_read : (ws : Words) (line : Line) → AllFit ws (fields_of line) → line_at ws ≡ Some line
+unfolding line_at
+spelled_read ws (Machine harts guests n sources) fits = machine.finds (harts, (guests, (n, (sources, tt)))) ws fits
+spelled_read ws (Wire source level) fits = wire.finds (source, (level, tt)) ws fits
+spelled_read ws (Load addr) fits = load.finds (addr, tt) ws fits
+spelled_read ws (Store addr value) fits = store.finds (addr, (value, tt)) ws fits
+spelled_read ws (MachineCsr hart csr op) fits = machine_csr.finds (hart, (csr, op)) ws fits
+spelled_read ws (HostCsr hart csr op) fits = host_csr.finds (hart, (csr, op)) ws fits
+spelled_read ws (Pins hart) fits = pins.finds (hart, tt) ws fits
+
+all_forms : AreRows fields_of forms
+all_forms =
+    machine.found
+    and_row wire.found
+    and_row load.found
+    and_row store.found
+    and_row machine_csr.found
+    and_row host_csr.found
+    and_row pins.found
+    and_row tt
+
+-- what is read is spelled so
+pub read_spelled : (ws : Words) (x : Line) → line_at ws ≡ Some x → AllFit ws (fields_of x)
+unfolding line_at
+read_spelled ws x e = spelled_by_rows fields_of forms all_forms ws x e

@@ -1,0 +1,6 @@
+use Rattle.std.proofs.Common.{◌≡◌, map, drop}
+use Rattle.aia_model.specs.Reading.{row_of, named}
+use Rattle.aia_script.proofs.instructions.named.Given as goal
+
+abbrev pub invariant-loop-name : goal.invariant-loop-name
+invariant-loop-name l = row_of (map (λ row. (row.0.now, row.1)) (drop l.name-index l.name-items)) l.word ≡ named l.fn.level l.word
