@@ -36,7 +36,3 @@ not_empty n e = elim (cases_eq n 0) [ inl z ↦ absurd (false≢true (e ∙ eq-e
 
 pub is_empty : (n : ℕ) → true ≡ nat_eq n 0 → n ≡ 0
 is_empty n e = elim (cases_eq n 0) [ inl z ↦ z | inr some ↦ absurd (false≢true (sym (e ∙ ne_eqb n 0 some))) ]
-
--- the front of a buffer whose first part was read into
-pub front_read : (buf rest : List ℕ) (n : ℕ) → n ≤ length buf → take n (buf ++ rest) ≡ take n buf
-front_read buf rest n within = take-append-le n buf rest within

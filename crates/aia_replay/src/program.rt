@@ -1,8 +1,9 @@
-ghost use Rattle.std.specs.Prelude.{◌≡◌, ◌≢◌, ◌≤◌, ◌↔◌, List, [], IsTrue};
+ghost use Rattle.std.specs.Prelude.{◌≡◌, ◌≢◌, ◌+◌, ◌≤◌, ◌↔◌, List, [], IsTrue};
 ghost use Rattle.aia_io.specs.Ends.{Rose};
-ghost use Rattle.aia_replay.specs.Runs.{IsReplay, WritesAnswers, WritesFront, WritesLines, StopsAtMachine, TakesAll, Takes, TakesAtMost, HasAtMost, IsDoneOrMemory};
+ghost use Rattle.aia_replay.specs.Runs.{IsReplay, EndsWith, WritesAnswers, WritesFront, WritesLines, StopsAtMachine, TakesAll, Takes, TakesAtMost, HasAtMost, IsDoneOrMemory};
 ghost use Rattle.std.specs.Io.KnownBytes.{Appends, Consumes};
 
+use crate::limits::SCRIPT_BYTES;
 use crate::replayer::Replayer;
 use crate::stop::Stop;
 use aia_io::{Sink, Source};
@@ -21,7 +22,7 @@ pub enum Status {
     WriteFault,
     /// There was no memory for the machine.
     Memory,
-    /// The script has more than 16,777,216 bytes.
+    /// The script has more than [`SCRIPT_BYTES`] bytes.
     TooLong,
 }
 
@@ -46,7 +47,7 @@ pub fn run<S: Source, K: Sink>(
     // The other endings have a cause that shows.
     ensures read_fault { result ≡ Status.ReadFault → Rose (S.faults source.old) (S.faults source.new) }
     ensures write_fault { result ≡ Status.WriteFault → Rose (K.faults sink.old) (K.faults sink.new) }
-    ensures too_long { result ≡ Status.TooLong → Takes 16777217 (S.left source.old) (S.left source.new) }
+    ensures too_long { result ≡ Status.TooLong → Takes (SCRIPT_BYTES + 1) (S.left source.old) (S.left source.new) }
     ensures memory { result ≡ Status.Memory → StopsAtMachine (S.left source.old) (S.left source.new) (K.taken sink.old) (K.taken sink.new) }
 
     // They too write nothing but answers: of the whole lines read, or a front of what the bytes read answer.
@@ -55,10 +56,10 @@ pub fn run<S: Source, K: Sink>(
     ensures write_fault_written { result ≡ Status.WriteFault → WritesFront (S.left source.old) (S.left source.new) (K.taken sink.old) (K.taken sink.new) }
 
     // Completeness: with good words, no fault and a script that fits, nothing but want of memory is in the way.
-    ensures complete { IsReplay words.now → (¬ Rose (S.faults source.old) (S.faults source.new)) → (¬ Rose (K.faults sink.old) (K.faults sink.new)) → HasAtMost 16777216 (S.left source.old) → IsDoneOrMemory result }
+    ensures complete { IsReplay words.now → (¬ Rose (S.faults source.old) (S.faults source.new)) → (¬ Rose (K.faults sink.old) (K.faults sink.new)) → HasAtMost SCRIPT_BYTES (S.left source.old) → IsDoneOrMemory result }
 
-    ensures bound { TakesAtMost 16777217 (S.left source.old) (S.left source.new) }
-    ensures limit { result ≢ Status.TooLong → TakesAtMost 16777216 (S.left source.old) (S.left source.new) }
+    ensures bound { TakesAtMost (SCRIPT_BYTES + 1) (S.left source.old) (S.left source.new) }
+    ensures limit { result ≢ Status.TooLong → TakesAtMost SCRIPT_BYTES (S.left source.old) (S.left source.new) }
     ensures source_faults { S.faults source.old ≤ S.faults source.new }
     ensures sink_faults { K.faults sink.old ≤ K.faults sink.new }
 {
@@ -80,19 +81,9 @@ fn is_replay(words: &[&str]) -> bool
 
 fn replay<S: Source, K: Sink>(alloc: Global, source: &mut S, sink: &mut K) -> Status
     ensures usage { result ≢ Status.Usage }
-    ensures done { result ≡ Status.Done → WritesAnswers (S.left source.old) (K.taken sink.old) (K.taken sink.new) }
-    ensures all { result ≡ Status.Done → TakesAll (S.left source.old) (S.left source.new) }
-    ensures read_fault { result ≡ Status.ReadFault → Rose (S.faults source.old) (S.faults source.new) }
-    ensures write_fault { result ≡ Status.WriteFault → Rose (K.faults sink.old) (K.faults sink.new) }
-    ensures too_long { result ≡ Status.TooLong → Takes 16777217 (S.left source.old) (S.left source.new) }
-    ensures memory { result ≡ Status.Memory → StopsAtMachine (S.left source.old) (S.left source.new) (K.taken sink.old) (K.taken sink.new) }
-    ensures read_fault_written { result ≡ Status.ReadFault → WritesLines 0 (S.left source.old) (S.left source.new) (K.taken sink.old) (K.taken sink.new) }
-    ensures too_long_written { result ≡ Status.TooLong → WritesLines 1 (S.left source.old) (S.left source.new) (K.taken sink.old) (K.taken sink.new) }
-    ensures write_fault_written { result ≡ Status.WriteFault → WritesFront (S.left source.old) (S.left source.new) (K.taken sink.old) (K.taken sink.new) }
-    ensures bound { TakesAtMost 16777217 (S.left source.old) (S.left source.new) }
-    ensures limit { result ≢ Status.TooLong → TakesAtMost 16777216 (S.left source.old) (S.left source.new) }
-    ensures source_faults { S.faults source.old ≤ S.faults source.new }
-    ensures sink_faults { K.faults sink.old ≤ K.faults sink.new }
+    ensures ends { EndsWith result (S.left source.old) (S.left source.new) (K.taken sink.old)
+        (K.taken sink.new) (S.faults source.old) (S.faults source.new) (K.faults sink.old)
+        (K.faults sink.new) }
 {
     let mut replayer = Replayer::new();
     match replayer.read_all(alloc, source, sink) {
