@@ -22,9 +22,6 @@ use Rattle.aia_replay.proofs.CutLemmas.{texts_front, texts_last, take_short, tak
 
 -- ---- what waits in the buffer
 
-passes_nothing : (out : List ℕ) (now : Option (List ℕ)) → Passes out out now now []
-passes_nothing out now = record { taken = []; appended = Appends-nil now; together = sym (append-nil out) }
-
 -- what passes after what waits
 passes_more : (out more : List ℕ) (before mid now : Option (List ℕ)) (written added : List ℕ) → Passes [] out before mid written → Passes out more mid now added → Passes [] more before now (written ++ added)
 passes_more out more before mid now written added first then = record {

@@ -28,8 +28,7 @@ use Rattle.aia_replay.specs.declared.limits.TheConstants.{SCRIPT_BYTES}
 
 pub reads_on : (old new : Option (List ℕ)) (buffer rest : List ℕ) (read : Read) → Reads old new buffer read → ReadsOn old new (buffer ++ rest) read
 reads_on old new buffer rest (reads.Got n) took =
-    let front = take-append-le n buffer rest took.1 in
-    (
+    let front = take-append-le n buffer rest took.1 in (
       ap length front ∙ omega (arith, length-take n buffer, took.1),
       λ left bytes so_far. subst (λ xs. Consumes left new (bytes ++ xs)) (sym front) (Consumes-trans left old new bytes (take n buffer) so_far took.2),
     )

@@ -27,16 +27,19 @@ pub record Holds (r : Replayer) (before now : Option (List ℕ)) (bytes : List �
   pub gathered : Passes [] r.out.bytes.items before now written
   pub split : bytes ≡ whole ++ tail
   pub answered : written ≡ answers whole
-  pub completes : (more : List ℕ) → written ++ answers_from history (texts_of (tail ++ more)) ≡ answers (bytes ++ more)
+  pub completes : (more : List ℕ)
+      → written ++ answers_from history (texts_of (tail ++ more)) ≡ answers (bytes ++ more)
   pub lines : IsWhole whole
   pub told : history ≡ after_texts [] (texts_of whole)
-  pub tells : (more : List ℕ) → after_texts history (texts_of (tail ++ more)) ≡ after_texts [] (texts_of (bytes ++ more))
+  pub tells : (more : List ℕ)
+      → after_texts history (texts_of (tail ++ more)) ≡ after_texts [] (texts_of (bytes ++ more))
   pub no_end : NoEnd tail
   pub line : r.line.items ≡ take 129 tail
 
 -- A line of the bytes asks for a machine, for which there is no memory. The answers of the lines
 -- before it are written or wait, and `more` follows it.
-pub record HoldsStop (r : Replayer) (before now : Option (List ℕ)) (bytes more : List ℕ) : Type 0 where
+pub record HoldsStop (r : Replayer) (before now : Option (List ℕ)) (bytes more : List ℕ)
+    : Type 0 where
   pub whole : List ℕ
   pub text : List ℕ
   pub gathered : Passes [] r.out.bytes.items before now (answers whole)
@@ -51,14 +54,17 @@ ReadsFront most old new piece (reads.Got n) = (0 < n) × (n ≤ most) × Consume
 ReadsFront most old new piece reads.End = IsAtEnd old × Keeps old new
 ReadsFront most old new piece reads.Failed = Keeps old new
 
--- What one read took follows whatever was taken before; at the end that is all of the script.
+-- Said of all that was taken of a source till now, whatever the source had left before.
+abbrev pub WhateverWasTaken : Option (List ℕ) → (Option (List ℕ) → List ℕ → Type 0) → Type 0
+WhateverWasTaken now P = (left : Option (List ℕ)) (bytes : List ℕ) → Consumes left now bytes → P left bytes
+
+-- What one read took follows what was taken before; at the end that was all of the script.
 abbrev pub ReadsOn : Option (List ℕ) → Option (List ℕ) → List ℕ → Read → Type 0
 ReadsOn old new piece (reads.Got n) = (length (take n piece) ≡ n)
-    × ((left : Option (List ℕ)) (bytes : List ℕ) → Consumes left old bytes → Consumes left new (bytes ++ take n piece))
+    × WhateverWasTaken old (λ left bytes. Consumes left new (bytes ++ take n piece))
 ReadsOn old new piece reads.End =
-    (left : Option (List ℕ)) (bytes : List ℕ) → Consumes left old bytes → Consumes left new bytes × IsScript left bytes
-ReadsOn old new piece reads.Failed =
-    (left : Option (List ℕ)) (bytes : List ℕ) → Consumes left old bytes → Consumes left new bytes
+    WhateverWasTaken old (λ left bytes. Consumes left new bytes × IsScript left bytes)
+ReadsOn old new piece reads.Failed = WhateverWasTaken old (λ left bytes. Consumes left new bytes)
 
 -- Nothing was read yet.
 pub record Begins (r : Replayer) : Type 0 where
@@ -66,42 +72,47 @@ pub record Begins (r : Replayer) : Type 0 where
   pub line : r.line.items ≡ []
   pub out : r.out.bytes.items ≡ []
 
+-- Said of all that a replayer holds and its sink took, whatever it had read and the sink had taken
+-- before.
+abbrev pub WhateverWasRead : Replayer → Option (List ℕ) → (Option (List ℕ) → List ℕ → Type 0) → Type 0
+WhateverWasRead r now P =
+    (before : Option (List ℕ)) (bytes : List ℕ) → Holds r before now bytes → P before bytes
+
 -- All that waits is written, whatever was read before.
 pub record WritesOut (old new : Replayer) (mid now : Option (List ℕ)) : Type 0 where
-  pub holds : (before : Option (List ℕ)) (bytes : List ℕ) → Holds old before mid bytes → Holds new before now bytes
+  pub holds : WhateverWasRead old mid (λ before bytes. Holds new before now bytes)
   pub empty : new.out.bytes.items ≡ []
 
 -- The sink failed, and took a front of what waits, whatever was read before.
 abbrev pub WritesOutFront : Replayer → Option (List ℕ) → Option (List ℕ) → Type 0
-WritesOutFront old mid now =
-    (before : Option (List ℕ)) (bytes : List ℕ) → Holds old before mid bytes → CutsLines before now bytes
+WritesOutFront old mid now = WhateverWasRead old mid (λ before bytes. CutsLines before now bytes)
 
 -- A piece more was read, whatever was read before.
 abbrev pub Feeds : Replayer → Replayer → Option (List ℕ) → Option (List ℕ) → List ℕ → Type 0
 Feeds old new mid now piece =
-    (before : Option (List ℕ)) (bytes : List ℕ) → Holds old before mid bytes → Holds new before now (bytes ++ piece)
+    WhateverWasRead old mid (λ before bytes. Holds new before now (bytes ++ piece))
 
 -- All that was read is a script, and its answers are written.
 abbrev pub Finishes : Replayer → Option (List ℕ) → Option (List ℕ) → Type 0
-Finishes old mid now =
-    (before : Option (List ℕ)) (bytes : List ℕ) → Holds old before mid bytes → Appends before now (answers bytes)
+Finishes old mid now = WhateverWasRead old mid (λ before bytes. Appends before now (answers bytes))
 
--- Where a piece was read and not all of it answered: the sink failed, or there was no memory for a machine.
+-- Where a piece was read and not all of it answered: the sink failed, or there was no memory for a
+-- machine.
 abbrev pub FeedsFront : Replayer → Option (List ℕ) → Option (List ℕ) → List ℕ → Type 0
 FeedsFront old mid now piece =
-    (before : Option (List ℕ)) (bytes : List ℕ) → Holds old before mid bytes → CutsLines before now (bytes ++ piece)
+    WhateverWasRead old mid (λ before bytes. CutsLines before now (bytes ++ piece))
 
 abbrev pub FeedsStop : Replayer → Replayer → Option (List ℕ) → Option (List ℕ) → List ℕ → Type 0
-FeedsStop old new mid now piece = (before : Option (List ℕ)) (bytes : List ℕ) → Holds old before mid bytes
-    → (next : List ℕ) × HoldsStop new before now (bytes ++ piece) (10 ∷ next)
+FeedsStop old new mid now piece = WhateverWasRead old mid
+    (λ before bytes. (next : List ℕ) × HoldsStop new before now (bytes ++ piece) (10 ∷ next))
 
 abbrev pub FinishesFront : Replayer → Option (List ℕ) → Option (List ℕ) → Type 0
 FinishesFront old mid now =
-    (before : Option (List ℕ)) (bytes : List ℕ) → Holds old before mid bytes → CutOff before now (answers bytes)
+    WhateverWasRead old mid (λ before bytes. CutOff before now (answers bytes))
 
 abbrev pub FinishesStop : Replayer → Replayer → Option (List ℕ) → Option (List ℕ) → Type 0
 FinishesStop old new mid now =
-    (before : Option (List ℕ)) (bytes : List ℕ) → Holds old before mid bytes → HoldsStop new before now bytes []
+    WhateverWasRead old mid (λ before bytes. HoldsStop new before now bytes [])
 
 -- The line that was kept asks for a machine, for which there is no memory, and nothing was done.
 pub record LacksMemory (old new : Replayer) (mid now : Option (List ℕ)) : Type 0 where
@@ -109,10 +120,12 @@ pub record LacksMemory (old new : Replayer) (mid now : Option (List ℕ)) : Type
   pub same : new ≡ old
   pub kept : now ≡ mid
 
--- The line that was kept is answered, whatever history the engine stood for, and the next one begins.
+-- The line that was kept is answered, whatever history the engine stood for, and the next one
+-- begins.
 pub record AnswersLine (old new : Replayer) (mid now : Option (List ℕ)) : Type 0 where
   pub answers : (h : History) → StandsFor old.engine h
-      → Passes old.out.bytes.items new.out.bytes.items mid now (printed (text_answer h (reading old.line.items)))
+      → Passes old.out.bytes.items new.out.bytes.items mid now
+      (printed (text_answer h (reading old.line.items)))
   pub stands : (h : History) → StandsFor old.engine h
       → StandsFor new.engine (after_text h (reading old.line.items))
   pub empty : new.line.items ≡ []

@@ -18,7 +18,8 @@ const LF: u8 = b'\n';
 /// One byte more than the longest line has, so that a longer one shows.
 const LINE: usize = 129;
 
-/// Answers a script that comes in pieces: the engine, the line that is being read, and the answers that wait.
+/// Answers a script that comes in pieces: the engine, the line that is being read, and the answers
+/// that wait.
 #[derive(Drop)]
 pub struct Replayer {
     engine: Engine,
@@ -54,10 +55,13 @@ impl Replayer {
 
     /// Answers the line that was read, and begins the next one.
     fn end_line<K: Sink>(&mut self, alloc: Global, sink: &mut K) -> Result<(), Stop>
-        ensures ok { OnOk result (AnswersLine self.old self.new (K.taken sink.old) (K.taken sink.new)) }
+        ensures ok { OnOk result
+            (AnswersLine self.old self.new (K.taken sink.old) (K.taken sink.new)) }
         ensures sink { result ≡ Err Stop.Sink → Rose (K.faults sink.old) (K.faults sink.new) }
-        ensures cut { result ≡ Err Stop.Sink → CutOff (K.taken sink.old) (K.taken sink.new) self.old.out.bytes.items }
-        ensures memory { result ≡ Err Stop.Memory → LacksMemory self.old self.new (K.taken sink.old) (K.taken sink.new) }
+        ensures cut { result ≡ Err Stop.Sink
+            → CutOff (K.taken sink.old) (K.taken sink.new) self.old.out.bytes.items }
+        ensures memory { result ≡ Err Stop.Memory
+            → LacksMemory self.old self.new (K.taken sink.old) (K.taken sink.new) }
         ensures later { K.faults sink.old ≤ K.faults sink.new }
     {
         if let Some(answer) = self.engine.text(alloc, self.line.as_slice())? {
@@ -67,12 +71,16 @@ impl Replayer {
         Ok(())
     }
 
-    /// Reads a piece of the script: answers each line that ends in it, and keeps what is left of the last one.
+    /// Reads a piece of the script: answers each line that ends in it, and keeps what is left of the
+    /// last one.
     fn feed<K: Sink>(&mut self, alloc: Global, sink: &mut K, piece: &[u8]) -> Result<(), Stop>
-        ensures ok { OnOk result (Feeds self.old self.new (K.taken sink.old) (K.taken sink.new) piece.now) }
+        ensures ok { OnOk result
+            (Feeds self.old self.new (K.taken sink.old) (K.taken sink.new) piece.now) }
         ensures sink { result ≡ Err Stop.Sink → Rose (K.faults sink.old) (K.faults sink.new) }
-        ensures cut { result ≡ Err Stop.Sink → FeedsFront self.old (K.taken sink.old) (K.taken sink.new) piece.now }
-        ensures memory { result ≡ Err Stop.Memory → FeedsStop self.old self.new (K.taken sink.old) (K.taken sink.new) piece.now }
+        ensures cut { result ≡ Err Stop.Sink
+            → FeedsFront self.old (K.taken sink.old) (K.taken sink.new) piece.now }
+        ensures memory { result ≡ Err Stop.Memory
+            → FeedsStop self.old self.new (K.taken sink.old) (K.taken sink.new) piece.now }
         ensures later { K.faults sink.old ≤ K.faults sink.new }
     {
         let mut rest = piece;
@@ -89,8 +97,10 @@ impl Replayer {
     fn finish<K: Sink>(&mut self, alloc: Global, sink: &mut K) -> Result<(), Stop>
         ensures ok { OnOk result (Finishes self.old (K.taken sink.old) (K.taken sink.new)) }
         ensures sink { result ≡ Err Stop.Sink → Rose (K.faults sink.old) (K.faults sink.new) }
-        ensures cut { result ≡ Err Stop.Sink → FinishesFront self.old (K.taken sink.old) (K.taken sink.new) }
-        ensures memory { result ≡ Err Stop.Memory → FinishesStop self.old self.new (K.taken sink.old) (K.taken sink.new) }
+        ensures cut { result ≡ Err Stop.Sink
+            → FinishesFront self.old (K.taken sink.old) (K.taken sink.new) }
+        ensures memory { result ≡ Err Stop.Memory
+            → FinishesStop self.old self.new (K.taken sink.old) (K.taken sink.new) }
         ensures later { K.faults sink.old ≤ K.faults sink.new }
     {
         if !self.line.is_empty() {
@@ -100,7 +110,8 @@ impl Replayer {
         Ok(())
     }
 
-    /// Reads the source to its end, or to its limit, and answers what it gives: `Done`, `ReadFault` or `TooLong`.
+    /// Reads the source to its end, or to its limit, and answers what it gives: `Done`, `ReadFault` or
+    /// `TooLong`.
     pub fn read_all<S: Source, K: Sink>(
         &mut self,
         alloc: Global,
@@ -110,7 +121,8 @@ impl Replayer {
         requires { Begins self.old }
         ensures ok { IfOk result (λ status. Streams status (S.left source.old)
             (S.left source.new) (K.taken sink.old) (K.taken sink.new)) }
-        ensures source { result ≡ Ok Status.ReadFault → Rose (S.faults source.old) (S.faults source.new) }
+        ensures source { result ≡ Ok Status.ReadFault
+            → Rose (S.faults source.old) (S.faults source.new) }
         ensures sink { result ≡ Err Stop.Sink → Rose (K.faults sink.old) (K.faults sink.new) }
         ensures cut { result ≡ Err Stop.Sink → StreamsFront (S.left source.old) (S.left source.new)
             (K.taken sink.old) (K.taken sink.new) }
