@@ -1,23 +1,10 @@
 -- What a replayer holds after a piece, line by line.
-use Rattle.std.proofs.Common.{◌≡◌, ℕ, ◌+◌, ◌<◌, ◌≤◌, false, ◌&&◌, cond, nat_eq, List, [], ◌∷◌, ◌++◌, length, take, Option, inl, inr, refl, sym, ap, subst, ◌∙◌, append_assoc, arith}
-use Rattle.std.specs.Io.KnownBytes.{Appends, Consumes, Keeps, IsAtEnd}
-use Rattle.std.proofs.KnownBytes.{Appends-nil, Appends-trans, Consumes-nil, Consumes-trans, Consumes-kept, Consumes-whole}
-use Rattle.std.proofs.lemmas.List.{append-nil, length-append, length-take}
-use Rattle.std.proofs.lemmas.List.Elements.{All-append, All-nil}
-use Rattle.std.proofs.lemmas.Bool.{cases_lt, lt-leb}
-use Rattle.aia_model.specs.declared.parsed.Parsed.{Parsed}
-use Rattle.aia_model.specs.declared.parsed.Parsed.TheVariants.{Skip, Bad, Line}
-use Rattle.aia_model.specs.Event.{History}
-use Rattle.aia_model.specs.Text.{texts_of, words_of}
-use Rattle.aia_model.specs.Reading.{reading, parsed_of, line_at}
-use Rattle.aia_model.specs.Script.{answers, answers_from, printed, text_answer, after_text}
-use Rattle.aia_replay.specs.declared.engine.Engine.{Engine}
+use Rattle.std.proofs.Common.{◌≡◌, ℕ, List, [], ◌∷◌, ◌++◌, take, Option, refl, sym, ap, subst, ◌∙◌, append_assoc}
+use Rattle.std.proofs.lemmas.List.{append-nil}
 use Rattle.aia_replay.specs.declared.replayer.Replayer.{Replayer}
-use Rattle.aia_replay.specs.declared.program.Status.TheVariants.{Done, ReadFault, TooLong}
-use Rattle.aia_replay.specs.Buffered.{Passes, CutOff}
-use Rattle.aia_replay.specs.Stands.{StandsFor, ReadsAsMachine}
-use Rattle.aia_replay.specs.Runs.{NoEnd, AsksMachine, after_texts, TakesAtMost, CutsLines, WritesFront}
-use Rattle.aia_replay.specs.Streams.{Holds, HoldsStop, Begins, Feeds, FeedsFront, FeedsStop, Finishes, FinishesFront, FinishesStop, AnswersLine, LacksMemory, Streams, StreamsStop}
+use Rattle.aia_replay.specs.Buffered.{CutOff}
+use Rattle.aia_replay.specs.Runs.{NoEnd, CutsLines}
+use Rattle.aia_replay.specs.Streams.{Holds, HoldsStop, Feeds, FeedsFront, FeedsStop, AnswersLine, LacksMemory}
 use Rattle.aia_replay.proofs.HeldLemmas.{part_kept, line_ended, holds_cut, line_stopped}
 
 -- ---- a piece, line by line

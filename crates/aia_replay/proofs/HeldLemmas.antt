@@ -1,8 +1,8 @@
 -- What a replayer holds after a line and at the end, and what waits in its buffer.
-use Rattle.std.proofs.Common.{◌≡◌, ℕ, ◌+◌, ◌<◌, ◌≤◌, false, ◌&&◌, cond, nat_eq, List, [], ◌∷◌, ◌++◌, length, take, Option, inl, inr, refl, sym, ap, subst, ◌∙◌, append_assoc, arith}
-use Rattle.std.specs.Io.KnownBytes.{Appends, Consumes, Keeps, IsAtEnd}
-use Rattle.std.proofs.KnownBytes.{Appends-nil, Appends-trans, Consumes-nil, Consumes-trans, Consumes-kept, Consumes-whole}
-use Rattle.std.proofs.lemmas.List.{append-nil, length-append, length-take}
+use Rattle.std.proofs.Common.{◌≡◌, ℕ, ◌<◌, false, ◌&&◌, cond, nat_eq, List, [], ◌∷◌, ◌++◌, length, take, Option, inl, inr, refl, sym, ap, subst, ◌∙◌, append_assoc, arith}
+use Rattle.std.specs.Io.KnownBytes.{Appends}
+use Rattle.std.proofs.KnownBytes.{Appends-nil, Appends-trans}
+use Rattle.std.proofs.lemmas.List.{append-nil, length-take, nil_from_length, take_all}
 use Rattle.std.proofs.lemmas.List.Elements.{All-append, All-nil}
 use Rattle.std.proofs.lemmas.Bool.{cases_lt, lt-leb}
 use Rattle.aia_model.specs.declared.parsed.Parsed.{Parsed}
@@ -13,12 +13,11 @@ use Rattle.aia_model.specs.Reading.{reading, parsed_of, line_at}
 use Rattle.aia_model.specs.Script.{answers, answers_from, printed, text_answer, after_text}
 use Rattle.aia_replay.specs.declared.engine.Engine.{Engine}
 use Rattle.aia_replay.specs.declared.replayer.Replayer.{Replayer}
-use Rattle.aia_replay.specs.declared.program.Status.TheVariants.{Done, ReadFault, TooLong}
 use Rattle.aia_replay.specs.Buffered.{Passes, CutOff}
 use Rattle.aia_replay.specs.Stands.{StandsFor, ReadsAsMachine}
-use Rattle.aia_replay.specs.Runs.{NoEnd, AsksMachine, after_texts, TakesAtMost, CutsLines, WritesFront}
-use Rattle.aia_replay.specs.Streams.{WritesOut, WritesOutFront, Holds, HoldsStop, Begins, Feeds, FeedsFront, FeedsStop, Finishes, FinishesFront, FinishesStop, AnswersLine, LacksMemory, Streams, StreamsStop}
-use Rattle.aia_replay.proofs.CutLemmas.{texts_front, texts_last, take_short, take_again}
+use Rattle.aia_replay.specs.Runs.{NoEnd, AsksMachine, after_texts, CutsLines}
+use Rattle.aia_replay.specs.Streams.{WritesOut, WritesOutFront, Holds, HoldsStop, Begins, AnswersLine, LacksMemory}
+use Rattle.aia_replay.proofs.CutLemmas.{texts_front, texts_last, take_again}
 
 -- ---- what waits in the buffer
 
@@ -54,7 +53,7 @@ reading_take [] = refl
 reading_take (b ∷ bytes) =
     elim (cases_lt 129 (length (b ∷ bytes))) [
       | inl long ↦ too_long b (take 128 bytes) (omega (arith, length-take 128 bytes)) ∙ sym (too_long b bytes (omega arith))
-      | inr short ↦ ap reading (take_short (b ∷ bytes) 129 short)
+      | inr short ↦ ap reading (take_all 129 (b ∷ bytes) short)
     ]
 
 -- a part of a line is kept
@@ -76,11 +75,21 @@ part_kept old new before now bytes part none line others holds = record {
   line = line ∙ ap (λ xs. take 129 (xs ++ part)) holds.line ∙ take_again holds.tail part 129;
 }
 
+-- the line that is kept reads as the whole tail, and its answer passes after all that was answered
+tail_read : (r : Replayer) (before now : Option (List ℕ)) (bytes : List ℕ) → (holds : Holds r before now bytes) → reading r.line.items ≡ reading holds.tail
+tail_read r before now bytes holds = ap reading holds.line ∙ reading_take holds.tail
+
+reply_passes : (old new : Replayer) (before mid now : Option (List ℕ)) (bytes : List ℕ) → AnswersLine old new mid now → (holds : Holds old before mid bytes)
+    → Passes [] new.out.bytes.items before now (holds.written ++ printed (text_answer holds.history (reading holds.tail)))
+reply_passes old new before mid now bytes line holds =
+    let h = holds.history in
+    let reply = subst (λ (p : Parsed). Passes old.out.bytes.items new.out.bytes.items mid now (printed (text_answer h p))) (tail_read old before mid bytes holds) (line.answers h holds.stands) in
+    passes_more old.out.bytes.items new.out.bytes.items before mid now holds.written (printed (text_answer h (reading holds.tail))) holds.gathered reply
+
 -- the line's LF is read, and the line answered
 pub line_ended : (old new : Replayer) (before mid now : Option (List ℕ)) (bytes : List ℕ) → AnswersLine old new mid now → Holds old before mid bytes → Holds new before now (bytes ++ 10 ∷ [])
 line_ended old new before mid now bytes line holds =
     let h = holds.history in
-    let read : reading old.line.items ≡ reading holds.tail = ap reading holds.line ∙ reading_take holds.tail in
     let reply = printed (text_answer h (reading holds.tail)) in
     let goes = λ (more : List ℕ). let e : (holds.written ++ reply) ++ answers_from (after_text h (reading holds.tail)) (texts_of more) ≡ answers ((bytes ++ 10 ∷ []) ++ more) =
     append_assoc holds.written reply (answers_from (after_text h (reading holds.tail)) (texts_of more)) ∙ sym (ap (λ ts. holds.written ++ answers_from h ts) (texts_front holds.tail more holds.no_end))
@@ -92,8 +101,8 @@ line_ended old new before mid now bytes line holds =
       written = holds.written ++ reply;
       whole = bytes ++ 10 ∷ [];
       tail = [];
-      stands = subst (λ (p : Parsed). StandsFor new.engine (after_text h p)) read (line.stands h holds.stands);
-      gathered = passes_more old.out.bytes.items new.out.bytes.items before mid now holds.written reply holds.gathered (subst (λ (p : Parsed). Passes old.out.bytes.items new.out.bytes.items mid now (printed (text_answer h p))) read (line.answers h holds.stands));
+      stands = subst (λ (p : Parsed). StandsFor new.engine (after_text h p)) (tail_read old before mid bytes holds) (line.stands h holds.stands);
+      gathered = reply_passes old new before mid now bytes line holds;
       split = sym (append-nil (bytes ++ 10 ∷ []));
       answered = sym (append-nil (holds.written ++ reply)) ∙ goes [] ∙ ap answers (append-nil (bytes ++ 10 ∷ []));
       completes = goes;
@@ -152,13 +161,9 @@ at_start r before begins = record {
 -- nothing is left of a line
 pub finished_empty : (r : Replayer) (before mid now : Option (List ℕ)) (bytes : List ℕ) → length r.line.items ≡ 0 → Appends mid now r.out.bytes.items → Holds r before mid bytes → Appends before now (answers bytes)
 finished_empty r before mid now bytes empty wrote holds =
-    let tail_empty : holds.tail ≡ [] = no_tail holds.tail (omega (arith, empty, ap length holds.line, length-take 129 holds.tail)) in
+    let tail_empty : holds.tail ≡ [] = nil_from_length holds.tail (omega (arith, empty, ap length holds.line, length-take 129 holds.tail)) in
     subst (Appends before now) (holds.answered ∙ ap answers (sym (append-nil holds.whole) ∙ ap (λ t. holds.whole ++ t) (sym tail_empty) ∙ sym holds.split))
     (all_written r.out.bytes.items before mid now holds.written holds.gathered wrote)
-  where
-    no_tail : (xs : List ℕ) → length xs ≡ 0 → xs ≡ []
-    no_tail [] e = refl
-    no_tail (x ∷ xs) e = absurd (omega arith)
 
 one_text : (tail : List ℕ) → 0 < length tail → NoEnd tail → texts_of tail ≡ tail ∷ []
 one_text [] some none = absurd (omega arith)
@@ -174,12 +179,7 @@ last_answered r bytes before mid some holds =
 -- a last line is answered
 pub finished_line : (old new : Replayer) (before mid late now : Option (List ℕ)) (bytes : List ℕ) → 0 < length old.line.items → AnswersLine old new mid late → Appends late now new.out.bytes.items → Holds old before mid bytes → Appends before now (answers bytes)
 finished_line old new before mid late now bytes some line wrote holds =
-    let h = holds.history in
-    let read : reading old.line.items ≡ reading holds.tail = ap reading holds.line ∙ reading_take holds.tail in
-    let reply = printed (text_answer h (reading holds.tail)) in
-    let all : holds.written ++ reply ≡ answers bytes = last_answered old bytes before mid some holds in
-    let passed = passes_more old.out.bytes.items new.out.bytes.items before mid late holds.written reply holds.gathered (subst (λ (p : Parsed). Passes old.out.bytes.items new.out.bytes.items mid late (printed (text_answer h p))) read (line.answers h holds.stands)) in
-    subst (Appends before now) all (all_written new.out.bytes.items before late now (holds.written ++ reply) passed wrote)
+    subst (Appends before now) (last_answered old bytes before mid some holds) (all_written new.out.bytes.items before late now _ (reply_passes old new before mid late bytes line holds) wrote)
 
 -- ---- where the sink fails, or memory lacks
 
@@ -218,7 +218,6 @@ asks_for old h Bad stands reads = absurd reads
 -- there is no memory for the machine that the kept line asks for
 pub line_stopped : (old new : Replayer) (before mid now : Option (List ℕ)) (bytes more : List ℕ) → LacksMemory old new mid now → Holds old before mid bytes → HoldsStop new before now (bytes ++ more) more
 line_stopped old new before mid now bytes more lacks holds =
-    let read : reading old.line.items ≡ reading holds.tail = ap reading holds.line ∙ reading_take holds.tail in
     record {
       whole = holds.whole;
       text = holds.tail;
@@ -228,7 +227,7 @@ line_stopped old new before mid now bytes more lacks holds =
       lines = holds.lines;
       no_end = holds.no_end;
       asks = subst (λ h. AsksMachine h (reading holds.tail)) holds.told
-          (subst (AsksMachine holds.history) read (asks_for old.engine holds.history (reading old.line.items) holds.stands lacks.asks));
+          (subst (AsksMachine holds.history) (tail_read old before mid bytes holds) (asks_for old.engine holds.history (reading old.line.items) holds.stands lacks.asks));
     }
 
 pub last_stopped : (old new : Replayer) (before mid now : Option (List ℕ)) (bytes : List ℕ) → LacksMemory old new mid now → Holds old before mid bytes → HoldsStop new before now bytes []
@@ -237,8 +236,5 @@ last_stopped old new before mid now bytes lacks holds = subst (λ xs. HoldsStop 
 -- the last answer does not go out
 pub finished_cut : (old new : Replayer) (before mid late now : Option (List ℕ)) (bytes : List ℕ) → 0 < length old.line.items → AnswersLine old new mid late → CutOff late now new.out.bytes.items → Holds old before mid bytes → CutOff before now (answers bytes)
 finished_cut old new before mid late now bytes some line cut holds =
-    let h = holds.history in
-    let read : reading old.line.items ≡ reading holds.tail = ap reading holds.line ∙ reading_take holds.tail in
-    let reply = printed (text_answer h (reading holds.tail)) in
-    let passed = passes_more old.out.bytes.items new.out.bytes.items before mid late holds.written reply holds.gathered (subst (λ (p : Parsed). Passes old.out.bytes.items new.out.bytes.items mid late (printed (text_answer h p))) read (line.answers h holds.stands)) in
-    cut_after new.out.bytes.items [] (answers bytes) before late now (holds.written ++ reply) passed cut (append-nil (holds.written ++ reply) ∙ last_answered old bytes before mid some holds)
+    let written = holds.written ++ printed (text_answer holds.history (reading holds.tail)) in
+    cut_after new.out.bytes.items [] (answers bytes) before late now written (reply_passes old new before mid late bytes line holds) cut (append-nil written ∙ last_answered old bytes before mid some holds)

@@ -107,7 +107,7 @@ stopped_front r left rest before mid now stop cut =
     } in
     record {
       front = record { bytes = stop.bytes; consumed = stop.consumed; cut = inl lines };
-      few = (stop.bytes, stop.consumed, stop.few);
+      limit = (stop.bytes, stop.consumed, stop.limit);
     }
 
 -- ---- how a run ends
@@ -128,8 +128,8 @@ ends_read {status} {left} {rest} {before} {now} streams rose source_later sink_l
       read_fault_written = λ is. lines_at_fault left rest before now bytes took (wrote ReadFault is);
       too_long_written = λ is. lines_at_limit left rest before now bytes took (wrote TooLong is);
       write_fault_written = λ is. absurd (wrote WriteFault is);
-      bound = (bytes, took, few_or_past status before now bytes streams.few streams.written);
-      limit = λ other. (bytes, took, streams.few other);
+      bound = (bytes, took, few_or_past status before now bytes streams.limit streams.written);
+      limit = λ other. (bytes, took, streams.limit other);
       source_faults = source_later;
       sink_faults = sink_later;
     }
@@ -146,8 +146,8 @@ ends_cut {left} {rest} cut rose source_later sink_later = record {
   read_fault_written = λ e. absurd (cc);
   too_long_written = λ e. absurd (cc);
   write_fault_written = λ e. cut.front;
-  bound = one_more left rest cut.few;
-  limit = λ e. cut.few;
+  bound = one_more left rest cut.limit;
+  limit = λ e. cut.limit;
   source_faults = source_later;
   sink_faults = sink_later;
 }
@@ -155,7 +155,7 @@ ends_cut {left} {rest} cut rose source_later sink_later = record {
 -- where memory lacked, and what waited is written
 pub ends_stopped : {r : Replayer} {left rest before mid now : Option (List ℕ)} {a b c d : ℕ} → StreamsStop r left rest before mid → Appends mid now r.out.bytes.items → a ≤ b → c ≤ d → EndsWith Memory left rest before now a b c d
 ends_stopped {r} {left} {rest} {before} {mid} {now} stop wrote source_later sink_later =
-    let few : TakesAtMost SCRIPT_BYTES left rest = (stop.bytes, stop.consumed, stop.few) in
+    let few : TakesAtMost SCRIPT_BYTES left rest = (stop.bytes, stop.consumed, stop.limit) in
     record {
       done = λ e. absurd (cc);
       all = λ e. absurd (cc);

@@ -1,23 +1,11 @@
 -- What a run has taken and written so far, and how it ends.
-use Rattle.std.proofs.Common.{◌≡◌, ℕ, ◌+◌, ◌<◌, ◌≤◌, false, ◌&&◌, cond, nat_eq, List, [], ◌∷◌, ◌++◌, length, take, Option, inl, inr, refl, sym, ap, subst, ◌∙◌, append_assoc, arith}
-use Rattle.std.specs.Io.KnownBytes.{Appends, Consumes, Keeps, IsAtEnd}
-use Rattle.std.proofs.KnownBytes.{Appends-nil, Appends-trans, Consumes-nil, Consumes-trans, Consumes-kept, Consumes-whole}
+use Rattle.std.proofs.Common.{◌≡◌, ℕ, ◌+◌, ◌≤◌, List, [], ◌∷◌, ◌++◌, length, take, Option, inl, inr, refl, sym, ap, subst, ◌∙◌, arith}
+use Rattle.std.specs.Io.KnownBytes.{Appends, Consumes}
+use Rattle.std.proofs.KnownBytes.{Consumes-nil, Consumes-trans, Consumes-kept, Consumes-whole}
 use Rattle.std.proofs.lemmas.List.{append-nil, length-append, length-take, take-append-le}
-use Rattle.std.proofs.lemmas.List.Elements.{All-append, All-nil}
-use Rattle.std.proofs.lemmas.Bool.{cases_lt, lt-leb}
-use Rattle.aia_model.specs.declared.parsed.Parsed.{Parsed}
-use Rattle.aia_model.specs.declared.parsed.Parsed.TheVariants.{Skip, Bad, Line}
-use Rattle.aia_model.specs.Event.{History}
-use Rattle.aia_model.specs.Text.{texts_of, words_of}
-use Rattle.aia_model.specs.Reading.{reading, parsed_of, line_at}
-use Rattle.aia_model.specs.Script.{answers, answers_from, printed, text_answer, after_text}
-use Rattle.aia_replay.specs.declared.engine.Engine.{Engine}
 use Rattle.aia_replay.specs.declared.replayer.Replayer.{Replayer}
 use Rattle.aia_replay.specs.declared.program.Status.TheVariants.{Done, ReadFault, TooLong}
-use Rattle.aia_replay.specs.Buffered.{Passes, CutOff}
-use Rattle.aia_replay.specs.Stands.{StandsFor, ReadsAsMachine}
-use Rattle.aia_replay.specs.Runs.{NoEnd, AsksMachine, after_texts, TakesAtMost, CutsLines, WritesFront}
-use Rattle.aia_replay.specs.Streams.{ReadsOn, WritesOut, WritesOutFront, AnswersWhole, StreamsFront, Holds, HoldsStop, Begins, Feeds, FeedsFront, FeedsStop, Finishes, FinishesFront, FinishesStop, AnswersLine, LacksMemory, Streams, StreamsStop}
+use Rattle.aia_replay.specs.Streams.{ReadsOn, WritesOut, WritesOutFront, AnswersWhole, StreamsFront, Holds, Begins, Feeds, FeedsFront, FeedsStop, Finishes, FinishesFront, FinishesStop, Streams, StreamsStop}
 use Rattle.aia_replay.proofs.HeldLemmas.{at_start}
 use Rattle.aia_io.specs.Ends.{Reads}
 use Rattle.aia_io.specs.declared.source.Read.{Read}
@@ -39,17 +27,17 @@ reads_on old new buffer rest reads.Failed kept = λ left bytes so_far. Consumes-
 -- ---- the loop
 
 -- So many bytes were read, and the replayer holds them.
-pub record SoFar (r : Replayer) (left rest before now : Option (List ℕ)) (count : ℕ) : Type 0 where
+pub record ReadSoFar (r : Replayer) (left rest before now : Option (List ℕ)) (count : ℕ) : Type 0 where
   pub bytes : List ℕ
   pub consumed : Consumes left rest bytes
   pub holds : Holds r before now bytes
   pub length : length bytes ≡ count
 
-pub nothing_read : (r : Replayer) (left before : Option (List ℕ)) → Begins r → SoFar r left left before before 0
+pub nothing_read : (r : Replayer) (left before : Option (List ℕ)) → Begins r → ReadSoFar r left left before before 0
 nothing_read r left before begins = record { bytes = []; consumed = Consumes-nil left; holds = at_start r before begins; length = refl }
 
 -- what waits is written, before the next read
-pub so_far_written : {old new : Replayer} {left rest before mid now : Option (List ℕ)} {count : ℕ} → WritesOut old new mid now → SoFar old left rest before mid count → SoFar new left rest before now count
+pub so_far_written : {old new : Replayer} {left rest before mid now : Option (List ℕ)} {count : ℕ} → WritesOut old new mid now → ReadSoFar old left rest before mid count → ReadSoFar new left rest before now count
 so_far_written {before = before} wrote so_far = record {
   bytes = so_far.bytes;
   consumed = so_far.consumed;
@@ -58,7 +46,7 @@ so_far_written {before = before} wrote so_far = record {
 }
 
 -- a piece more
-pub piece_more : {old new : Replayer} {left mid rest before now later : Option (List ℕ)} {count : ℕ} (n : ℕ) (buffer : List ℕ) → SoFar old left mid before now count → ReadsOn mid rest buffer (reads.Got n) → Feeds old new now later (take n buffer) → SoFar new left rest before later (count + n)
+pub piece_more : {old new : Replayer} {left mid rest before now later : Option (List ℕ)} {count : ℕ} (n : ℕ) (buffer : List ℕ) → ReadSoFar old left mid before now count → ReadsOn mid rest buffer (reads.Got n) → Feeds old new now later (take n buffer) → ReadSoFar new left rest before later (count + n)
 piece_more {left = left} {before = before} n buffer so_far took feeds = record {
   bytes = so_far.bytes ++ take n buffer;
   consumed = took.1 left so_far.bytes so_far.consumed;
@@ -79,16 +67,16 @@ lines_answered r before now bytes empty holds = record {
   written = subst (Appends before now) (sym (append-nil holds.gathered.taken) ∙ ap (λ xs. holds.gathered.taken ++ xs) (sym empty) ∙ holds.gathered.together ∙ holds.answered) holds.gathered.appended;
 }
 
-pub reading_failed : {r : Replayer} {left mid rest before now : Option (List ℕ)} {count : ℕ} (buffer : List ℕ) → r.out.bytes.items ≡ [] → SoFar r left mid before now count → ReadsOn mid rest buffer reads.Failed → count ≤ SCRIPT_BYTES → Streams ReadFault left rest before now
+pub reading_failed : {r : Replayer} {left mid rest before now : Option (List ℕ)} {count : ℕ} (buffer : List ℕ) → r.out.bytes.items ≡ [] → ReadSoFar r left mid before now count → ReadsOn mid rest buffer reads.Failed → count ≤ SCRIPT_BYTES → Streams ReadFault left rest before now
 reading_failed {r} {left} {mid} {rest} {before} {now} buffer empty so_far kept within = record {
   bytes = so_far.bytes;
   consumed = kept left so_far.bytes so_far.consumed;
   written = lines_answered r before now so_far.bytes empty so_far.holds;
   whole = λ e. absurd (cc);
-  few = λ other. omega (arith, so_far.length, within);
+  limit = λ other. omega (arith, so_far.length, within);
 }
 
-pub reading_too_long : {r : Replayer} {left mid rest before now : Option (List ℕ)} {count : ℕ} (n : ℕ) (buffer : List ℕ) → r.out.bytes.items ≡ [] → SoFar r left mid before now count → ReadsOn mid rest buffer (reads.Got n) → n ≡ 1 → count ≡ SCRIPT_BYTES → Streams TooLong left rest before now
+pub reading_too_long : {r : Replayer} {left mid rest before now : Option (List ℕ)} {count : ℕ} (n : ℕ) (buffer : List ℕ) → r.out.bytes.items ≡ [] → ReadSoFar r left mid before now count → ReadsOn mid rest buffer (reads.Got n) → n ≡ 1 → count ≡ SCRIPT_BYTES → Streams TooLong left rest before now
 reading_too_long {r} {left} {mid} {rest} {before} {now} n buffer empty so_far took one full = record {
   bytes = so_far.bytes ++ take n buffer;
   consumed = took.1 left so_far.bytes so_far.consumed;
@@ -101,44 +89,44 @@ reading_too_long {r} {left} {mid} {rest} {before} {now} n buffer empty so_far to
     answered = lines_answered r before now so_far.bytes empty so_far.holds;
   };
   whole = λ e. absurd (cc);
-  few = λ other. absurd (other refl);
+  limit = λ other. absurd (other refl);
 }
 
-pub reading_done : {r : Replayer} {left mid rest before now later : Option (List ℕ)} {count : ℕ} (buffer : List ℕ) → SoFar r left mid before now count → ReadsOn mid rest buffer reads.End → Finishes r now later → count ≤ SCRIPT_BYTES → Streams Done left rest before later
+pub reading_done : {r : Replayer} {left mid rest before now later : Option (List ℕ)} {count : ℕ} (buffer : List ℕ) → ReadSoFar r left mid before now count → ReadsOn mid rest buffer reads.End → Finishes r now later → count ≤ SCRIPT_BYTES → Streams Done left rest before later
 reading_done {left = left} {before = before} buffer so_far ended finishes within = record {
   bytes = so_far.bytes;
   consumed = (ended left so_far.bytes so_far.consumed).0;
   written = finishes before so_far.bytes so_far.holds;
   whole = λ e. (ended left so_far.bytes so_far.consumed).1;
-  few = λ other. omega (arith, so_far.length, within);
+  limit = λ other. omega (arith, so_far.length, within);
 }
 
 -- ---- how the reading stops
 
-pub front_at_once : {r : Replayer} {left rest before mid now : Option (List ℕ)} {count : ℕ} → SoFar r left rest before mid count → WritesOutFront r mid now → count ≤ SCRIPT_BYTES → StreamsFront left rest before now
+pub front_at_once : {r : Replayer} {left rest before mid now : Option (List ℕ)} {count : ℕ} → ReadSoFar r left rest before mid count → WritesOutFront r mid now → count ≤ SCRIPT_BYTES → StreamsFront left rest before now
 front_at_once {before = before} so_far front within = record {
   front = record { bytes = so_far.bytes; consumed = so_far.consumed; cut = inl (front before so_far.bytes so_far.holds) };
-  few = (so_far.bytes, so_far.consumed, omega (arith, so_far.length, within));
+  limit = (so_far.bytes, so_far.consumed, omega (arith, so_far.length, within));
 }
 
-pub front_of_piece : {r : Replayer} {left mid rest before now later : Option (List ℕ)} {count : ℕ} (n : ℕ) (buffer : List ℕ) → SoFar r left mid before now count → ReadsOn mid rest buffer (reads.Got n) → FeedsFront r now later (take n buffer) → count + n ≤ SCRIPT_BYTES → StreamsFront left rest before later
+pub front_of_piece : {r : Replayer} {left mid rest before now later : Option (List ℕ)} {count : ℕ} (n : ℕ) (buffer : List ℕ) → ReadSoFar r left mid before now count → ReadsOn mid rest buffer (reads.Got n) → FeedsFront r now later (take n buffer) → count + n ≤ SCRIPT_BYTES → StreamsFront left rest before later
 front_of_piece {left = left} {before = before} n buffer so_far took front within =
     let bytes = so_far.bytes ++ take n buffer in
     let consumed = took.1 left so_far.bytes so_far.consumed in
     record {
       front = record { bytes = bytes; consumed = consumed; cut = inl (front before so_far.bytes so_far.holds) };
-      few = (bytes, consumed, omega (arith, length-append so_far.bytes (take n buffer), so_far.length, took.0, within));
+      limit = (bytes, consumed, omega (arith, length-append so_far.bytes (take n buffer), so_far.length, took.0, within));
     }
 
-pub front_at_end : {r : Replayer} {left mid rest before now later : Option (List ℕ)} {count : ℕ} (buffer : List ℕ) → SoFar r left mid before now count → ReadsOn mid rest buffer reads.End → FinishesFront r now later → count ≤ SCRIPT_BYTES → StreamsFront left rest before later
+pub front_at_end : {r : Replayer} {left mid rest before now later : Option (List ℕ)} {count : ℕ} (buffer : List ℕ) → ReadSoFar r left mid before now count → ReadsOn mid rest buffer reads.End → FinishesFront r now later → count ≤ SCRIPT_BYTES → StreamsFront left rest before later
 front_at_end {left = left} {before = before} buffer so_far ended front within =
     let all = ended left so_far.bytes so_far.consumed in
     record {
       front = record { bytes = so_far.bytes; consumed = all.0; cut = inr (all.1, front before so_far.bytes so_far.holds) };
-      few = (so_far.bytes, all.0, omega (arith, so_far.length, within));
+      limit = (so_far.bytes, all.0, omega (arith, so_far.length, within));
     }
 
-pub stop_in_piece : {r new : Replayer} {left mid rest before now later : Option (List ℕ)} {count : ℕ} (n : ℕ) (buffer : List ℕ) → SoFar r left mid before now count → ReadsOn mid rest buffer (reads.Got n) → FeedsStop r new now later (take n buffer) → count + n ≤ SCRIPT_BYTES → StreamsStop new left rest before later
+pub stop_in_piece : {r new : Replayer} {left mid rest before now later : Option (List ℕ)} {count : ℕ} (n : ℕ) (buffer : List ℕ) → ReadSoFar r left mid before now count → ReadsOn mid rest buffer (reads.Got n) → FeedsStop r new now later (take n buffer) → count + n ≤ SCRIPT_BYTES → StreamsStop new left rest before later
 stop_in_piece {left = left} {before = before} n buffer so_far took stop within =
     let held = stop before so_far.bytes so_far.holds in
     record {
@@ -147,10 +135,10 @@ stop_in_piece {left = left} {before = before} n buffer so_far took stop within =
       consumed = took.1 left so_far.bytes so_far.consumed;
       holds = held.1;
       end = inl (held.0, refl);
-      few = omega (arith, length-append so_far.bytes (take n buffer), so_far.length, took.0, within);
+      limit = omega (arith, length-append so_far.bytes (take n buffer), so_far.length, took.0, within);
     }
 
-pub stop_at_end : {r new : Replayer} {left mid rest before now later : Option (List ℕ)} {count : ℕ} (buffer : List ℕ) → SoFar r left mid before now count → ReadsOn mid rest buffer reads.End → FinishesStop r new now later → count ≤ SCRIPT_BYTES → StreamsStop new left rest before later
+pub stop_at_end : {r new : Replayer} {left mid rest before now later : Option (List ℕ)} {count : ℕ} (buffer : List ℕ) → ReadSoFar r left mid before now count → ReadsOn mid rest buffer reads.End → FinishesStop r new now later → count ≤ SCRIPT_BYTES → StreamsStop new left rest before later
 stop_at_end {left = left} {before = before} buffer so_far ended stop within =
     let all = ended left so_far.bytes so_far.consumed in
     record {
@@ -159,5 +147,5 @@ stop_at_end {left = left} {before = before} buffer so_far ended stop within =
       consumed = all.0;
       holds = stop before so_far.bytes so_far.holds;
       end = inr (refl, all.1);
-      few = omega (arith, so_far.length, within);
+      limit = omega (arith, so_far.length, within);
     }

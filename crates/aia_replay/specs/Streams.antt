@@ -56,7 +56,8 @@ ReadsFront most old new piece reads.Failed = Keeps old new
 
 -- Said of all that was taken of a source till now, whatever the source had left before.
 abbrev pub WhateverWasTaken : Option (List ℕ) → (Option (List ℕ) → List ℕ → Type 0) → Type 0
-WhateverWasTaken now P = (left : Option (List ℕ)) (bytes : List ℕ) → Consumes left now bytes → P left bytes
+WhateverWasTaken now P =
+    (left : Option (List ℕ)) (bytes : List ℕ) → Consumes left now bytes → P left bytes
 
 -- What one read took follows what was taken before; at the end that was all of the script.
 abbrev pub ReadsOn : Option (List ℕ) → Option (List ℕ) → List ℕ → Read → Type 0
@@ -74,7 +75,8 @@ pub record Begins (r : Replayer) : Type 0 where
 
 -- Said of all that a replayer holds and its sink took, whatever it had read and the sink had taken
 -- before.
-abbrev pub WhateverWasRead : Replayer → Option (List ℕ) → (Option (List ℕ) → List ℕ → Type 0) → Type 0
+abbrev pub WhateverWasRead : Replayer → Option (List ℕ) → (Option (List ℕ) → List ℕ → Type 0)
+    → Type 0
 WhateverWasRead r now P =
     (before : Option (List ℕ)) (bytes : List ℕ) → Holds r before now bytes → P before bytes
 
@@ -165,13 +167,13 @@ pub record Streams (status : Status) (left rest before now : Option (List ℕ)) 
   pub consumed : Consumes left rest bytes
   pub written : WrittenFor status before now bytes
   pub whole : status ≡ Done → IsScript left bytes
-  pub few : status ≢ TooLong → length bytes ≤ SCRIPT_BYTES
+  pub limit : status ≢ TooLong → length bytes ≤ SCRIPT_BYTES
 
 -- A run took no more bytes of the source than a script has, and the sink failed after a front of
 -- their answers.
 pub record StreamsFront (left rest before now : Option (List ℕ)) : Type 0 where
   pub front : WritesFront left rest before now
-  pub few : TakesAtMost SCRIPT_BYTES left rest
+  pub limit : TakesAtMost SCRIPT_BYTES left rest
 
 -- A run took some bytes of the source, no more than a script has, and stopped at a line that asks
 -- for a machine, for which there is no memory.
@@ -181,4 +183,4 @@ pub record StreamsStop (r : Replayer) (left rest before now : Option (List ℕ))
   pub consumed : Consumes left rest bytes
   pub holds : HoldsStop r before now bytes more
   pub end : ((next : List ℕ) × (more ≡ 10 ∷ next)) ⊎ ((more ≡ []) × IsScript left bytes)
-  pub few : length bytes ≤ SCRIPT_BYTES
+  pub limit : length bytes ≤ SCRIPT_BYTES

@@ -13,7 +13,7 @@ use arrayvec::ArrayVec;
 #[derive(Clone, Copy, Debug, PartialEq, Eq)]
 pub struct SinkFault;
 
-/// Answers on their way to a sink, so many bytes at a time.
+/// Answers on their way to a sink, at most [`BUFFER_BYTES`] bytes at a time.
 #[derive(Drop)]
 pub struct Buffered {
     bytes: ArrayVec<u8, BUFFER_BYTES>,

@@ -26,8 +26,8 @@ pub enum Status {
     TooLong,
 }
 
-/// Runs the command that `words` give, the command line without the program's name: `replay` reads a
-/// script from the source to its end and writes the answers of its lines to the sink. Every other
+/// Runs the command that `words` give, the command line without the program's name: `replay` reads
+/// a script from the source to its end and writes the answers of its lines to the sink. Every other
 /// list of words is refused.
 ///
 /// It returns always. Answers are written at the latest before the next read and before it returns.
@@ -57,20 +57,23 @@ pub fn run<S: Source, K: Sink>(
     ensures memory { result ≡ Status.Memory → StopsAtMachine (S.left source.old) (S.left source.new)
         (K.taken sink.old) (K.taken sink.new) }
 
-    // They too write nothing but answers: of the whole lines read, or a front of what the bytes read
-    // answer.
-    ensures read_fault_written { result ≡ Status.ReadFault → WritesLines 0 (S.left source.old) (S.left source.new)
+    // They too write nothing but answers: of the whole lines read, or a front of what the bytes
+    // read answer.
+    ensures read_fault_written { result ≡ Status.ReadFault
+        → WritesLines 0 (S.left source.old) (S.left source.new)
         (K.taken sink.old) (K.taken sink.new) }
-    ensures too_long_written { result ≡ Status.TooLong → WritesLines 1 (S.left source.old) (S.left source.new)
+    ensures too_long_written { result ≡ Status.TooLong
+        → WritesLines 1 (S.left source.old) (S.left source.new)
         (K.taken sink.old) (K.taken sink.new) }
-    ensures write_fault_written { result ≡ Status.WriteFault → WritesFront (S.left source.old) (S.left source.new)
+    ensures write_fault_written { result ≡ Status.WriteFault
+        → WritesFront (S.left source.old) (S.left source.new)
         (K.taken sink.old) (K.taken sink.new) }
 
     // Completeness: with good words, no fault and a script that fits, nothing but want of memory is
     // in the way.
     ensures complete { IsReplay words.now → (¬ Rose (S.faults source.old) (S.faults source.new))
-        → (¬ Rose (K.faults sink.old) (K.faults sink.new)) → HasAtMost SCRIPT_BYTES (S.left source.old)
-        → IsDoneOrMemory result }
+        → (¬ Rose (K.faults sink.old) (K.faults sink.new))
+        → HasAtMost SCRIPT_BYTES (S.left source.old) → IsDoneOrMemory result }
 
     ensures bound { TakesAtMost (SCRIPT_BYTES + 1) (S.left source.old) (S.left source.new) }
     ensures limit { result ≢ Status.TooLong

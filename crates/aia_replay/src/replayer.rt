@@ -71,8 +71,8 @@ impl Replayer {
         Ok(())
     }
 
-    /// Reads a piece of the script: answers each line that ends in it, and keeps what is left of the
-    /// last one.
+    /// Reads a piece of the script: answers each line that ends in it, and keeps what is left of
+    /// the last one.
     fn feed<K: Sink>(&mut self, alloc: Global, sink: &mut K, piece: &[u8]) -> Result<(), Stop>
         ensures ok { OnOk result
             (Feeds self.old self.new (K.taken sink.old) (K.taken sink.new) piece.now) }
@@ -110,8 +110,8 @@ impl Replayer {
         Ok(())
     }
 
-    /// Reads the source to its end, or to its limit, and answers what it gives: `Done`, `ReadFault` or
-    /// `TooLong`.
+    /// Reads the source to its end, or to its limit, and answers what it gives: `Done`, `ReadFault`
+    /// or `TooLong`.
     pub fn read_all<S: Source, K: Sink>(
         &mut self,
         alloc: Global,

@@ -1,4 +1,4 @@
-use Rattle.std.proofs.Common.{rules, refl, arith}
+use Rattle.std.proofs.Common.{rules, arith}
 use Rattle.aia_replay.proofs.StreamLemmas.{nothing_read, so_far_written, piece_more, reading_failed, reading_too_long, reading_done, front_at_once, front_of_piece, front_at_end, stop_in_piece, stop_at_end}
 use Rattle.aia_replay.proofs.replayer.Replayer.read_all.Goals as goal
 
