@@ -98,20 +98,22 @@ Feeds old new mid now piece =
 abbrev pub Finishes : Replayer → Option (List ℕ) → Option (List ℕ) → Type 0
 Finishes old mid now = WhateverWasRead old mid (λ before bytes. Appends before now (answers bytes))
 
--- Where a piece was read and not all of it answered: the sink failed, or there was no memory for a
--- machine.
+-- The sink failed on the way through a piece, and took a front of the answers of its whole lines.
 abbrev pub FeedsFront : Replayer → Option (List ℕ) → Option (List ℕ) → List ℕ → Type 0
 FeedsFront old mid now piece =
     WhateverWasRead old mid (λ before bytes. CutsLines before now (bytes ++ piece))
 
+-- A line of a piece, ended by its LF, asks for a machine, for which there is no memory.
 abbrev pub FeedsStop : Replayer → Replayer → Option (List ℕ) → Option (List ℕ) → List ℕ → Type 0
 FeedsStop old new mid now piece = WhateverWasRead old mid
     (λ before bytes. (next : List ℕ) × HoldsStop new before now (bytes ++ piece) (10 ∷ next))
 
+-- The sink failed at the script's end, and took a front of the script's answers.
 abbrev pub FinishesFront : Replayer → Option (List ℕ) → Option (List ℕ) → Type 0
 FinishesFront old mid now =
     WhateverWasRead old mid (λ before bytes. CutOff before now (answers bytes))
 
+-- The script's last line asks for a machine, for which there is no memory.
 abbrev pub FinishesStop : Replayer → Replayer → Option (List ℕ) → Option (List ℕ) → Type 0
 FinishesStop old new mid now =
     WhateverWasRead old mid (λ before bytes. HoldsStop new before now bytes [])
