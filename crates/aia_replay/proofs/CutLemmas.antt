@@ -2,8 +2,7 @@
 use Rattle.std.proofs.Common.{◌≡◌, ℕ, suc, ◌+◌, ◌<◌, ◌≤◌, Bool, true, false, nat_eq, List, [], ◌∷◌, ◌++◌, length, take, drop, min, Option, Some, None, inl, inr, refl, sym, ap, ◌∙◌, arith}
 use Rattle.std.specs.Prelude.{position}
 use Rattle.std.specs.List.{position_or_len, before_first, after_first, onto_first}
-use Rattle.std.proofs.lemmas.Grind.{common_steps}
-use Rattle.std.proofs.lemmas.List.{get_or-take, length-take, length-append, take-append-le}
+use Rattle.std.proofs.lemmas.List.{take_all, get_or-take, length-take, length-append, take-append-le}
 use Rattle.std.proofs.Math.Seq.{take-length, take-append-add}
 use Rattle.std.proofs.lemmas.List.Elements.{All-from_get_or}
 use Rattle.std.proofs.lemmas.List.Sums.{fails_before_first, passes_at_first, split_at_first}
@@ -57,21 +56,18 @@ texts_last x (y ∷ ys) none = cond-false _ _ _ (none 0 0 (omega arith)) ∙ ap 
 
 -- ---- a line that is kept as far as there is room
 
-pub take_short : (xs : List ℕ) (n : ℕ) → length xs ≤ n → take n xs ≡ xs
-take_short xs n h = grind (arith, common_steps)
-
 -- a part is kept
 pub part_fits : (line part : List ℕ) (room n : ℕ) → length line + room ≡ 129 → n ≡ min (length part) room → line ++ take n part ≡ take 129 (line ++ part)
 part_fits line part room n whole e =
     elim (cases_lt room (length part)) [
       | inl longer ↦ let n_is : n ≡ room = omega arith in ap (λ k. line ++ take k part) n_is ∙ sym (ap (λ k. take k (line ++ part)) (sym whole) ∙ take-append-add line part room)
-      | inr fits ↦ let n_is : n ≡ length part = omega arith in ap (λ k. line ++ take k part) n_is ∙ ap (λ xs. line ++ xs) (take-length part) ∙ sym (take_short (line ++ part) 129 (omega (arith, length-append line part)))
+      | inr fits ↦ let n_is : n ≡ length part = omega arith in ap (λ k. line ++ take k part) n_is ∙ ap (λ xs. line ++ xs) (take-length part) ∙ sym (take_all 129 (line ++ part) (omega (arith, length-append line part)))
     ]
 
 -- of a line that is kept a part more makes what is kept of the longer line
 pub take_again : (tail part : List ℕ) (n : ℕ) → take n (take n tail ++ part) ≡ take n (tail ++ part)
 take_again tail part n =
     elim (cases_lt (length tail) n) [
-      | inl short ↦ ap (λ xs. take n (xs ++ part)) (take_short tail n (omega arith))
-      | inr long ↦ take-append-le n (take n tail) part (omega (arith, length-take n tail)) ∙ take_short (take n tail) n (omega (arith, length-take n tail)) ∙ sym (take-append-le n tail part long)
+      | inl short ↦ ap (λ xs. take n (xs ++ part)) (take_all n tail (omega arith))
+      | inr long ↦ take-append-le n (take n tail) part (omega (arith, length-take n tail)) ∙ take_all n (take n tail) (omega (arith, length-take n tail)) ∙ sym (take-append-le n tail part long)
     ]

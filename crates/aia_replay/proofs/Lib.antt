@@ -1,6 +1,8 @@
 pub mod PieceLemmas
 pub mod MachineLemmas
 pub mod CutLemmas
+pub mod HeldLemmas
+pub mod FeedLemmas
 pub mod StreamLemmas
 pub mod ProgramLemmas
 pub mod HartLemmas

@@ -1,7 +1,7 @@
 -- Bytes that are read and written in pieces.
-use Rattle.std.proofs.Common.{◌≡◌, ℕ, ◌+◌, ◌-◌, ◌<◌, ◌≤◌, true, false, nat_eq, List, ◌++◌, length, take, drop, Option, inl, inr, sym, subst, ◌∙◌, arith}
-use Rattle.std.proofs.lemmas.Bool.{cases_eq, eq-eqb, ne_eqb, false≢true}
-use Rattle.std.proofs.lemmas.List.{take-append-le}
+use Rattle.std.proofs.Common.{◌≡◌, ℕ, ◌+◌, ◌-◌, ◌<◌, false, nat_eq, List, length, take, drop, Option, sym, subst, arith}
+use Rattle.std.proofs.lemmas.Bool.{eqb-false}
+use Rattle.std.proofs.lemmas.List.{take-append-drop}
 use Rattle.std.proofs.Math.Seq.{take-add}
 use Rattle.std.proofs.lemmas.Grind.{common_steps}
 use Rattle.std.specs.Io.KnownBytes.{Appends, Keeps}
@@ -19,24 +19,14 @@ pub wrote_more : (before mid now : Option (List ℕ)) (bytes : List ℕ) (at n :
 wrote_more before mid now bytes at n a b = subst (Appends before now) (sym (take-add at n bytes)) (Appends-trans before mid now _ _ a b)
 
 -- the sink fails after a part
-front_and_rest : (bytes : List ℕ) (at : ℕ) → take at bytes ++ drop at bytes ≡ bytes
-front_and_rest bytes at = grind (arith, common_steps)
-
 pub cut_here : (before mid now : Option (List ℕ)) (bytes : List ℕ) (at : ℕ) → Appends before mid (take at bytes) → Keeps mid now → CutOff before now bytes
 cut_here before mid now bytes at wrote kept = record {
   part = take at bytes;
   lost = drop at bytes;
   appended = Appends-kept before mid now (take at bytes) wrote kept;
-  together = front_and_rest bytes at;
+  together = take-append-drop at bytes;
 }
 
 -- what a test of a length says
 pub not_empty : (n : ℕ) → false ≡ nat_eq n 0 → 0 < n
-not_empty n e = elim (cases_eq n 0) [ inl z ↦ absurd (false≢true (e ∙ eq-eqb n 0 z)) | inr some ↦ omega arith ]
-
-pub is_empty : (n : ℕ) → true ≡ nat_eq n 0 → n ≡ 0
-is_empty n e = elim (cases_eq n 0) [ inl z ↦ z | inr some ↦ absurd (false≢true (sym (e ∙ ne_eqb n 0 some))) ]
-
--- the front of a buffer whose first part was read into
-pub front_read : (buf rest : List ℕ) (n : ℕ) → n ≤ length buf → take n (buf ++ rest) ≡ take n buf
-front_read buf rest n within = take-append-le n buf rest within
+not_empty n e = omega (arith, eqb-false n 0 (sym e))

@@ -1,5 +1,5 @@
 -- What the endings of a run mean for its source, and the one word that is taken.
-use Rattle.std.proofs.Common.{◌≡◌, ◌≢◌, ℕ, ◌<◌, ◌≤◌, true, Bool, List, [], ◌∷◌, ◌++◌, length, get_or, map, Option, Some, None, IfSome, inl, inr, refl, sym, ap, subst, ◌∙◌, arith}
+use Rattle.std.proofs.Common.{◌≡◌, ◌≢◌, ℕ, ◌+◌, ◌<◌, ◌≤◌, true, Bool, List, [], ◌∷◌, ◌++◌, length, get_or, map, Option, Some, None, IfSome, inl, inr, refl, sym, ap, subst, ◌∙◌, arith}
 use Rattle.std.specs.Borrow.{Bor}
 use Rattle.std.specs.Str.{bytes_eq}
 use Rattle.std.proofs.lemmas.Slice.Eq.{bytes_eq-Decides}
@@ -8,12 +8,13 @@ use Rattle.std.specs.Io.KnownBytes.{Appends, Consumes}
 use Rattle.aia_model.specs.Script.{answers}
 use Rattle.aia_replay.specs.declared.program.Status.{Status}
 use Rattle.aia_replay.specs.declared.program.Status.TheVariants.{Done, Usage, ReadFault, WriteFault, Memory, TooLong}
-use Rattle.aia_replay.specs.Runs.{IsScript, Takes, TakesAll, HasAtMost, IsDoneOrMemory, WritesFront, WritesLines, StopsAtMachine}
+use Rattle.aia_replay.specs.declared.limits.TheConstants.{SCRIPT_BYTES}
+use Rattle.aia_replay.specs.Runs.{IsScript, TakesAll, TakesAtMost, WritesAnswers, WritesLines, CutsLines, StopsAtMachine, EndsWith}
 use Rattle.aia_io.specs.Ends.{Rose}
 use Rattle.aia_replay.specs.Buffered.{CutOff}
 use Rattle.aia_replay.specs.declared.replayer.Replayer.{Replayer}
-use Rattle.aia_replay.specs.Streams.{Streams, StreamsStop, WrittenFor}
-use Rattle.aia_replay.proofs.StreamLemmas.{all_written, cut_after}
+use Rattle.aia_replay.specs.Streams.{Streams, StreamsFront, StreamsStop, WrittenFor, AnswersWhole, GoesPast}
+use Rattle.aia_replay.proofs.HeldLemmas.{all_written, cut_after}
 
 pub one_word : (ws : List (Bor (List ℕ))) (d : Bor (List ℕ)) (p : List ℕ) (r : Bool) → 1 ≤ length ws → length ws < 2 → r ≡ bytes_eq (get_or ws 0 d).now p → (r ≡ true → map (λ (w : Bor (List ℕ)). w.now) ws ≡ p ∷ []) × (map (λ (w : Bor (List ℕ)). w.now) ws ≡ p ∷ [] → r ≡ true)
 one_word [] d p r low high e = absurd (omega arith)
@@ -29,52 +30,54 @@ all_of None rest bytes took whole = tt
 all_of (Some script) None bytes took whole = absurd took
 all_of (Some script) (Some more) bytes took whole = ap Some (nothing_left bytes more (sym whole ∙ took))
 
-pub all_taken : (status : Status) (left rest before now : Option (List ℕ)) → Streams status left rest before now → status ≡ Done → TakesAll left rest
-all_taken status left rest before now streams done = all_of left rest streams.bytes streams.consumed (streams.whole done)
+past_length : (before now : Option (List ℕ)) (bytes : List ℕ) → GoesPast before now bytes → length bytes ≡ SCRIPT_BYTES + 1
+past_length before now bytes past = ap length past.split ∙ length-append past.within past.beyond ∙ omega (arith, past.full, past.one)
 
-too_long_count : (status : Status) (before now : Option (List ℕ)) (bytes : List ℕ) → status ≡ TooLong → WrittenFor status before now bytes → length bytes ≡ 16777217
-too_long_count status before now bytes is written = at_limit (subst (λ s. WrittenFor s before now bytes) is written)
-  where
-    at_limit : WrittenFor TooLong before now bytes → length bytes ≡ 16777217
-    at_limit w = ap length w.3 ∙ length-append (w.0 ++ w.1) w.2 ∙ omega (arith, w.4, w.5)
+few_or_past : (status : Status) (before now : Option (List ℕ)) (bytes : List ℕ) → (status ≢ TooLong → length bytes ≤ SCRIPT_BYTES) → WrittenFor status before now bytes → length bytes ≤ SCRIPT_BYTES + 1
+few_or_past Done before now bytes few written = omega (arith, few (λ e. absurd (cc)))
+few_or_past ReadFault before now bytes few written = omega (arith, few (λ e. absurd (cc)))
+few_or_past TooLong before now bytes few past = omega (arith, past_length before now bytes past)
+few_or_past Usage before now bytes few written = absurd written
+few_or_past WriteFault before now bytes few written = absurd written
+few_or_past Memory before now bytes few written = absurd written
 
-pub one_past_limit : (status : Status) (left rest before now : Option (List ℕ)) → Streams status left rest before now → status ≡ TooLong → Takes 16777217 left rest
-one_past_limit status left rest before now streams is = (streams.bytes, streams.consumed, too_long_count status before now streams.bytes is streams.written)
+one_more : (left rest : Option (List ℕ)) → TakesAtMost SCRIPT_BYTES left rest → TakesAtMost (SCRIPT_BYTES + 1) left rest
+one_more left rest few = (few.0, few.1, omega (arith, few.2))
 
 -- ---- what was written
 
-lines_at_fault : (left rest before now : Option (List ℕ)) (bytes : List ℕ) → Consumes left rest bytes → WrittenFor ReadFault before now bytes → WritesLines 0 left rest before now
-lines_at_fault left rest before now bytes took w = record {
-  whole = w.0;
-  tail = w.1;
+answers_written : (left before now : Option (List ℕ)) (bytes : List ℕ) → IsScript left bytes → Appends before now (answers bytes) → WritesAnswers left before now
+answers_written None before now bytes whole wrote = tt
+answers_written (Some script) before now bytes whole wrote = subst (λ xs. Appends before now (answers xs)) (sym whole) wrote
+
+lines_at_fault : (left rest before now : Option (List ℕ)) (bytes : List ℕ) → Consumes left rest bytes → AnswersWhole before now bytes → WritesLines 0 left rest before now
+lines_at_fault left rest before now bytes took read = record {
+  whole = read.whole;
+  tail = read.tail;
   beyond = [];
-  consumed = subst (Consumes left rest) (w.2 ∙ sym (append-nil (w.0 ++ w.1))) took;
-  lines = w.3;
-  no_end = w.4;
+  consumed = subst (Consumes left rest) (read.split ∙ sym (append-nil (read.whole ++ read.tail))) took;
+  lines = read.lines;
+  no_end = read.no_end;
   past = refl;
-  written = w.5;
+  written = read.written;
 }
 
-pub written_at_fault : (status : Status) (left rest before now : Option (List ℕ)) → Streams status left rest before now → status ≡ ReadFault → WritesLines 0 left rest before now
-written_at_fault status left rest before now streams is = lines_at_fault left rest before now streams.bytes streams.consumed (subst (λ s. WrittenFor s before now streams.bytes) is streams.written)
-
-lines_at_limit : (left rest before now : Option (List ℕ)) (bytes : List ℕ) → Consumes left rest bytes → WrittenFor TooLong before now bytes → WritesLines 1 left rest before now
-lines_at_limit left rest before now bytes took w = record {
-  whole = w.0;
-  tail = w.1;
-  beyond = w.2;
-  consumed = subst (Consumes left rest) w.3 took;
-  lines = w.6;
-  no_end = w.7;
-  past = w.5;
-  written = w.8;
-}
-
-pub written_at_limit : (status : Status) (left rest before now : Option (List ℕ)) → Streams status left rest before now → status ≡ TooLong → WritesLines 1 left rest before now
-written_at_limit status left rest before now streams is = lines_at_limit left rest before now streams.bytes streams.consumed (subst (λ s. WrittenFor s before now streams.bytes) is streams.written)
+lines_at_limit : (left rest before now : Option (List ℕ)) (bytes : List ℕ) → Consumes left rest bytes → GoesPast before now bytes → WritesLines 1 left rest before now
+lines_at_limit left rest before now bytes took past =
+    let read = past.answered in
+    record {
+      whole = read.whole;
+      tail = read.tail;
+      beyond = past.beyond;
+      consumed = subst (Consumes left rest) (past.split ∙ ap (λ xs. xs ++ past.beyond) read.split) took;
+      lines = read.lines;
+      no_end = read.no_end;
+      past = past.one;
+      written = read.written;
+    }
 
 -- what waits is written, and is all that was answered
-pub stopped : (r : Replayer) (left rest before mid now : Option (List ℕ)) → StreamsStop r left rest before mid → Appends mid now r.out.bytes.items → StopsAtMachine left rest before now
+stopped : (r : Replayer) (left rest before mid now : Option (List ℕ)) → StreamsStop r left rest before mid → Appends mid now r.out.bytes.items → StopsAtMachine left rest before now
 stopped r left rest before mid now stop wrote =
     let holds = stop.holds in
     record {
@@ -92,31 +95,79 @@ stopped r left rest before mid now stop wrote =
       written = all_written r.out.bytes.items before mid now _ holds.gathered wrote;
     }
 
-pub stopped_front : (r : Replayer) (left rest before mid now : Option (List ℕ)) → StreamsStop r left rest before mid → CutOff mid now r.out.bytes.items → WritesFront left rest before now
-stopped_front r left rest before mid now stop cut = record {
-  bytes = stop.bytes;
-  consumed = stop.consumed;
-  cut = inl (record {
-    whole = stop.holds.whole;
-    more = stop.holds.text ++ stop.more;
-    split = stop.holds.split;
-    lines = stop.holds.lines;
-    cut = cut_after r.out.bytes.items [] (answers stop.holds.whole) before mid now (answers stop.holds.whole) stop.holds.gathered cut (append-nil (answers stop.holds.whole));
-  });
+pub stopped_front : (r : Replayer) (left rest before mid now : Option (List ℕ)) → StreamsStop r left rest before mid → CutOff mid now r.out.bytes.items → StreamsFront left rest before now
+stopped_front r left rest before mid now stop cut =
+    let holds = stop.holds in
+    let lines : CutsLines before now stop.bytes = record {
+      whole = holds.whole;
+      more = holds.text ++ stop.more;
+      split = holds.split;
+      lines = holds.lines;
+      cut = cut_after r.out.bytes.items [] (answers holds.whole) before mid now (answers holds.whole) holds.gathered cut (append-nil (answers holds.whole));
+    } in
+    record {
+      front = record { bytes = stop.bytes; consumed = stop.consumed; cut = inl lines };
+      limit = (stop.bytes, stop.consumed, stop.limit);
+    }
+
+-- ---- how a run ends
+
+-- where the reading ended
+pub ends_read : {status : Status} {left rest before now : Option (List ℕ)} {a b c d : ℕ} → Streams status left rest before now → (status ≡ ReadFault → Rose a b) → a ≤ b → c ≤ d → EndsWith status left rest before now a b c d
+ends_read {status} {left} {rest} {before} {now} streams rose source_later sink_later =
+    let bytes = streams.bytes in
+    let took = streams.consumed in
+    let wrote = λ (s : Status) (is : status ≡ s). let w : WrittenFor s before now bytes = subst (λ s. WrittenFor s before now bytes) is streams.written in w in
+    record {
+      done = λ is. answers_written left before now bytes (streams.whole is) (wrote Done is);
+      all = λ is. all_of left rest bytes took (streams.whole is);
+      read_fault = rose;
+      write_fault = λ is. absurd (wrote WriteFault is);
+      too_long = λ is. (bytes, took, past_length before now bytes (wrote TooLong is));
+      memory = λ is. absurd (wrote Memory is);
+      read_fault_written = λ is. lines_at_fault left rest before now bytes took (wrote ReadFault is);
+      too_long_written = λ is. lines_at_limit left rest before now bytes took (wrote TooLong is);
+      write_fault_written = λ is. absurd (wrote WriteFault is);
+      bound = (bytes, took, few_or_past status before now bytes streams.limit streams.written);
+      limit = λ other. (bytes, took, streams.limit other);
+      source_faults = source_later;
+      sink_faults = sink_later;
+    }
+
+-- where the sink failed
+pub ends_cut : {left rest before now : Option (List ℕ)} {a b c d : ℕ} → StreamsFront left rest before now → Rose c d → a ≤ b → c ≤ d → EndsWith WriteFault left rest before now a b c d
+ends_cut {left} {rest} cut rose source_later sink_later = record {
+  done = λ e. absurd (cc);
+  all = λ e. absurd (cc);
+  read_fault = λ e. absurd (cc);
+  write_fault = λ e. rose;
+  too_long = λ e. absurd (cc);
+  memory = λ e. absurd (cc);
+  read_fault_written = λ e. absurd (cc);
+  too_long_written = λ e. absurd (cc);
+  write_fault_written = λ e. cut.front;
+  bound = one_more left rest cut.limit;
+  limit = λ e. cut.limit;
+  source_faults = source_later;
+  sink_faults = sink_later;
 }
 
--- ---- completeness
-
-fits : (left rest : Option (List ℕ)) → Takes 16777217 left rest → HasAtMost 16777216 left → ⊥
-fits None rest took few = few
-fits (Some script) None took few = took.1
-fits (Some script) (Some more) took few = omega (arith, few, took.2, ap length took.1, length-append took.0 more)
-
-pub complete : (status : Status) (left rest : Option (List ℕ)) (a b c d : ℕ) → status ≢ Usage → (status ≡ ReadFault → Rose a b) → (status ≡ WriteFault → Rose c d)
-    → (status ≡ TooLong → Takes 16777217 left rest) → ¬ Rose a b → ¬ Rose c d → HasAtMost 16777216 left → IsDoneOrMemory status
-complete Done left rest a b c d usage read write long quiet still few = inl refl
-complete Usage left rest a b c d usage read write long quiet still few = absurd (usage refl)
-complete ReadFault left rest a b c d usage read write long quiet still few = absurd (quiet (read refl))
-complete WriteFault left rest a b c d usage read write long quiet still few = absurd (still (write refl))
-complete Memory left rest a b c d usage read write long quiet still few = inr refl
-complete TooLong left rest a b c d usage read write long quiet still few = absurd (fits left rest (long refl) few)
+-- where memory lacked, and what waited is written
+pub ends_stopped : {r : Replayer} {left rest before mid now : Option (List ℕ)} {a b c d : ℕ} → StreamsStop r left rest before mid → Appends mid now r.out.bytes.items → a ≤ b → c ≤ d → EndsWith Memory left rest before now a b c d
+ends_stopped {r} {left} {rest} {before} {mid} {now} stop wrote source_later sink_later =
+    let few : TakesAtMost SCRIPT_BYTES left rest = (stop.bytes, stop.consumed, stop.limit) in
+    record {
+      done = λ e. absurd (cc);
+      all = λ e. absurd (cc);
+      read_fault = λ e. absurd (cc);
+      write_fault = λ e. absurd (cc);
+      too_long = λ e. absurd (cc);
+      memory = λ e. stopped r left rest before mid now stop wrote;
+      read_fault_written = λ e. absurd (cc);
+      too_long_written = λ e. absurd (cc);
+      write_fault_written = λ e. absurd (cc);
+      bound = one_more left rest few;
+      limit = λ e. few;
+      source_faults = source_later;
+      sink_faults = sink_later;
+    }

@@ -2,8 +2,10 @@
 use Rattle.std.specs.Prelude.{◌≡◌, ℕ, List, ◌++◌, Option}
 use Rattle.std.specs.Io.KnownBytes.{Appends}
 
--- The sink took some bytes, and those still waiting stand behind them: together they are all that was waiting and what was added.
-pub record Passes (waiting still : List ℕ) (before now : Option (List ℕ)) (added : List ℕ) : Type 0 where
+-- The sink took some bytes, and those still waiting stand behind them: together they are all that
+-- was waiting and what was added.
+pub record Passes (waiting still : List ℕ) (before now : Option (List ℕ)) (added : List ℕ)
+    : Type 0 where
   pub taken : List ℕ
   pub appended : Appends before now taken
   pub together : taken ++ still ≡ waiting ++ added

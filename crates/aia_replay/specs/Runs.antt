@@ -1,7 +1,8 @@
 -- What a run promises, by its status. Profile.
-use Rattle.std.specs.Prelude.{◌≡◌, ℕ, ◌≤◌, ◌⊎◌, true, false, nat_eq, List, [], ◌∷◌, ◌++◌, length, map, codes, All, Option, Some, None, IfSome}
+use Rattle.std.specs.Prelude.{◌≡◌, ◌≢◌, ℕ, ◌+◌, ◌≤◌, ◌⊎◌, true, false, nat_eq, List, [], ◌∷◌, ◌++◌, length, map, codes, All, Option, Some, None, IfSome}
 use Rattle.std.specs.Borrow.{Bor}
 use Rattle.std.specs.Io.KnownBytes.{Appends, Consumes}
+use Rattle.aia_io.specs.Ends.{Rose}
 use Rattle.aia_model.specs.declared.parsed.Parsed.{Parsed}
 use Rattle.aia_model.specs.declared.parsed.Parsed.TheVariants as parsed
 use Rattle.aia_model.specs.Event.{History}
@@ -10,7 +11,8 @@ use Rattle.aia_model.specs.Text.{texts_of}
 use Rattle.aia_model.specs.Reading.{reading}
 use Rattle.aia_model.specs.Script.{answers, after_text}
 use Rattle.aia_replay.specs.declared.program.Status.{Status}
-use Rattle.aia_replay.specs.declared.program.Status.TheVariants.{Done, Memory}
+use Rattle.aia_replay.specs.declared.program.Status.TheVariants.{Done, ReadFault, WriteFault, Memory, TooLong}
+use Rattle.aia_replay.specs.declared.limits.TheConstants.{SCRIPT_BYTES}
 use Rattle.aia_replay.specs.Buffered.{CutOff}
 
 -- The command line that replays: the one word `replay`. Profile.
@@ -56,8 +58,8 @@ IsWhole bytes = (bytes ≡ []) ⊎ ((front : List ℕ) × (bytes ≡ front ++ 10
 abbrev pub IsScript : Option (List ℕ) → List ℕ → Type 0
 IsScript left bytes = IfSome left (λ script. script ≡ bytes)
 
--- The whole lines that were taken are answered, and their answers alone are written. Of the bytes taken, so many at the end are
--- left out of account.
+-- The whole lines that were taken are answered, and their answers alone are written. Of the bytes
+-- taken, so many at the end are left out of account.
 pub record WritesLines (count : ℕ) (left rest before now : Option (List ℕ)) : Type 0 where
   pub whole : List ℕ
   pub tail : List ℕ
@@ -76,7 +78,8 @@ pub record CutsLines (before now : Option (List ℕ)) (bytes : List ℕ) : Type 
   pub lines : IsWhole whole
   pub cut : CutOff before now (answers whole)
 
--- The sink took a front of the answers of the lines that were taken: of whole lines, or of all the script's.
+-- The sink took a front of the answers of the lines that were taken: of whole lines, or of all the
+-- script's.
 pub record WritesFront (left rest before now : Option (List ℕ)) : Type 0 where
   pub bytes : List ℕ
   pub consumed : Consumes left rest bytes
@@ -93,8 +96,8 @@ AsksMachine h (parsed.Line line) = makes_machine h line ≡ true
 AsksMachine h parsed.Skip = ⊥
 AsksMachine h parsed.Bad = ⊥
 
--- A line that was taken, ended by an LF or by the script's end, is a `machine` line and accepted; the answers of the lines before
--- it, and no others, are written.
+-- A line that was taken, ended by an LF or by the script's end, is a `machine` line and accepted;
+-- the answers of the lines before it, and no others, are written.
 pub record StopsAtMachine (left rest before now : Option (List ℕ)) : Type 0 where
   pub whole : List ℕ
   pub text : List ℕ
@@ -105,3 +108,24 @@ pub record StopsAtMachine (left rest before now : Option (List ℕ)) : Type 0 wh
   pub end : ((next : List ℕ) × (more ≡ 10 ∷ next)) ⊎ ((more ≡ []) × IsScript left (whole ++ text))
   pub asks : AsksMachine (after_texts [] (texts_of whole)) (reading text)
   pub written : Appends before now (answers whole)
+
+-- ---- the whole promise
+
+-- What a run that the words allow promises, by the status that it ends with: of what the source
+-- had left before and after it, what the sink had taken before and after it, and the counts of
+-- faults of the source and of the sink, each before and after it.
+pub record EndsWith (status : Status) (left rest before now : Option (List ℕ))
+    (source_old source_new sink_old sink_new : ℕ) : Type 0 where
+  pub done : status ≡ Done → WritesAnswers left before now
+  pub all : status ≡ Done → TakesAll left rest
+  pub read_fault : status ≡ ReadFault → Rose source_old source_new
+  pub write_fault : status ≡ WriteFault → Rose sink_old sink_new
+  pub too_long : status ≡ TooLong → Takes (SCRIPT_BYTES + 1) left rest
+  pub memory : status ≡ Memory → StopsAtMachine left rest before now
+  pub read_fault_written : status ≡ ReadFault → WritesLines 0 left rest before now
+  pub too_long_written : status ≡ TooLong → WritesLines 1 left rest before now
+  pub write_fault_written : status ≡ WriteFault → WritesFront left rest before now
+  pub bound : TakesAtMost (SCRIPT_BYTES + 1) left rest
+  pub limit : status ≢ TooLong → TakesAtMost SCRIPT_BYTES left rest
+  pub source_faults : source_old ≤ source_new
+  pub sink_faults : sink_old ≤ sink_new

@@ -1,5 +1,5 @@
 -- What a replayer has read, answered and written.
-use Rattle.std.specs.Prelude.{◌≡◌, ℕ, ◌<◌, ◌≤◌, ◌⊎◌, List, [], ◌∷◌, ◌++◌, length, take, Option, IfSome}
+use Rattle.std.specs.Prelude.{◌≡◌, ◌≢◌, ℕ, ◌<◌, ◌≤◌, ◌⊎◌, List, [], ◌∷◌, ◌++◌, length, take, Option}
 use Rattle.std.specs.Io.KnownBytes.{Appends, Consumes, IsAtEnd, Keeps}
 use Rattle.aia_io.specs.declared.source.Read.{Read}
 use Rattle.aia_io.specs.declared.source.Read.TheVariants as reads
@@ -7,15 +7,17 @@ use Rattle.aia_model.specs.Event.{History}
 use Rattle.aia_model.specs.Text.{texts_of}
 use Rattle.aia_model.specs.Reading.{reading}
 use Rattle.aia_model.specs.Script.{answers, answers_from, printed, text_answer, after_text}
+use Rattle.aia_replay.specs.declared.limits.TheConstants.{SCRIPT_BYTES}
 use Rattle.aia_replay.specs.declared.replayer.Replayer.{Replayer}
 use Rattle.aia_replay.specs.declared.program.Status.{Status}
 use Rattle.aia_replay.specs.declared.program.Status.TheVariants.{Done, ReadFault, TooLong}
 use Rattle.aia_replay.specs.Buffered.{Passes, CutOff}
 use Rattle.aia_replay.specs.Stands.{StandsFor, ReadsAsMachine}
-use Rattle.aia_replay.specs.Runs.{NoEnd, IsWhole, IsScript, CutsLines, AsksMachine, after_texts}
+use Rattle.aia_replay.specs.Runs.{NoEnd, IsWhole, IsScript, TakesAtMost, CutsLines, WritesFront, AsksMachine, after_texts}
 
--- The bytes read so far are whole lines, which are answered, and the tail of a line whose LF wasn't read; what was answered is
--- written or waits in the buffer, and whatever follows is answered as the script's rest.
+-- The bytes read so far are whole lines, which are answered, and the tail of a line whose LF wasn't
+-- read; what was answered is written or waits in the buffer, and whatever follows is answered as
+-- the script's rest.
 pub record Holds (r : Replayer) (before now : Option (List ℕ)) (bytes : List ℕ) : Type 0 where
   pub history : History
   pub written : List ℕ
@@ -25,16 +27,19 @@ pub record Holds (r : Replayer) (before now : Option (List ℕ)) (bytes : List �
   pub gathered : Passes [] r.out.bytes.items before now written
   pub split : bytes ≡ whole ++ tail
   pub answered : written ≡ answers whole
-  pub completes : (more : List ℕ) → written ++ answers_from history (texts_of (tail ++ more)) ≡ answers (bytes ++ more)
+  pub completes : (more : List ℕ)
+      → written ++ answers_from history (texts_of (tail ++ more)) ≡ answers (bytes ++ more)
   pub lines : IsWhole whole
   pub told : history ≡ after_texts [] (texts_of whole)
-  pub tells : (more : List ℕ) → after_texts history (texts_of (tail ++ more)) ≡ after_texts [] (texts_of (bytes ++ more))
+  pub tells : (more : List ℕ)
+      → after_texts history (texts_of (tail ++ more)) ≡ after_texts [] (texts_of (bytes ++ more))
   pub no_end : NoEnd tail
   pub line : r.line.items ≡ take 129 tail
 
--- A line of the bytes asks for a machine, for which there is no memory. The answers of the lines before it are written or wait,
--- and `more` follows it.
-pub record HoldsStop (r : Replayer) (before now : Option (List ℕ)) (bytes more : List ℕ) : Type 0 where
+-- A line of the bytes asks for a machine, for which there is no memory. The answers of the lines
+-- before it are written or wait, and `more` follows it.
+pub record HoldsStop (r : Replayer) (before now : Option (List ℕ)) (bytes more : List ℕ)
+    : Type 0 where
   pub whole : List ℕ
   pub text : List ℕ
   pub gathered : Passes [] r.out.bytes.items before now (answers whole)
@@ -49,32 +54,69 @@ ReadsFront most old new piece (reads.Got n) = (0 < n) × (n ≤ most) × Consume
 ReadsFront most old new piece reads.End = IsAtEnd old × Keeps old new
 ReadsFront most old new piece reads.Failed = Keeps old new
 
+-- Said of all that was taken of a source till now, whatever the source had left before.
+abbrev pub WhateverWasTaken : Option (List ℕ) → (Option (List ℕ) → List ℕ → Type 0) → Type 0
+WhateverWasTaken now P =
+    (left : Option (List ℕ)) (bytes : List ℕ) → Consumes left now bytes → P left bytes
+
+-- What one read took follows what was taken before; at the end that was all of the script.
+abbrev pub ReadsOn : Option (List ℕ) → Option (List ℕ) → List ℕ → Read → Type 0
+ReadsOn old new piece (reads.Got n) = (length (take n piece) ≡ n)
+    × WhateverWasTaken old (λ left bytes. Consumes left new (bytes ++ take n piece))
+ReadsOn old new piece reads.End =
+    WhateverWasTaken old (λ left bytes. Consumes left new bytes × IsScript left bytes)
+ReadsOn old new piece reads.Failed = WhateverWasTaken old (λ left bytes. Consumes left new bytes)
+
 -- Nothing was read yet.
 pub record Begins (r : Replayer) : Type 0 where
   pub engine : StandsFor r.engine []
   pub line : r.line.items ≡ []
   pub out : r.out.bytes.items ≡ []
 
+-- Said of all that a replayer holds and its sink took, whatever it had read and the sink had taken
+-- before.
+abbrev pub WhateverWasRead : Replayer → Option (List ℕ) → (Option (List ℕ) → List ℕ → Type 0)
+    → Type 0
+WhateverWasRead r now P =
+    (before : Option (List ℕ)) (bytes : List ℕ) → Holds r before now bytes → P before bytes
+
+-- All that waits is written, whatever was read before.
+pub record WritesOut (old new : Replayer) (mid now : Option (List ℕ)) : Type 0 where
+  pub holds : WhateverWasRead old mid (λ before bytes. Holds new before now bytes)
+  pub empty : new.out.bytes.items ≡ []
+
+-- The sink failed, and took a front of what waits, whatever was read before.
+abbrev pub WritesOutFront : Replayer → Option (List ℕ) → Option (List ℕ) → Type 0
+WritesOutFront old mid now = WhateverWasRead old mid (λ before bytes. CutsLines before now bytes)
+
 -- A piece more was read, whatever was read before.
 abbrev pub Feeds : Replayer → Replayer → Option (List ℕ) → Option (List ℕ) → List ℕ → Type 0
-Feeds old new mid now piece = (before : Option (List ℕ)) (bytes : List ℕ) → Holds old before mid bytes → Holds new before now (bytes ++ piece)
+Feeds old new mid now piece =
+    WhateverWasRead old mid (λ before bytes. Holds new before now (bytes ++ piece))
 
 -- All that was read is a script, and its answers are written.
 abbrev pub Finishes : Replayer → Option (List ℕ) → Option (List ℕ) → Type 0
-Finishes old mid now = (before : Option (List ℕ)) (bytes : List ℕ) → Holds old before mid bytes → Appends before now (answers bytes)
+Finishes old mid now = WhateverWasRead old mid (λ before bytes. Appends before now (answers bytes))
 
--- Where a piece was read and not all of it answered: the sink failed, or there was no memory for a machine.
+-- The sink failed on the way through a piece, and took a front of the answers of its whole lines.
 abbrev pub FeedsFront : Replayer → Option (List ℕ) → Option (List ℕ) → List ℕ → Type 0
-FeedsFront old mid now piece = (before : Option (List ℕ)) (bytes : List ℕ) → Holds old before mid bytes → CutsLines before now (bytes ++ piece)
+FeedsFront old mid now piece =
+    WhateverWasRead old mid (λ before bytes. CutsLines before now (bytes ++ piece))
 
+-- A line of a piece, ended by its LF, asks for a machine, for which there is no memory.
 abbrev pub FeedsStop : Replayer → Replayer → Option (List ℕ) → Option (List ℕ) → List ℕ → Type 0
-FeedsStop old new mid now piece = (before : Option (List ℕ)) (bytes : List ℕ) → Holds old before mid bytes → (next : List ℕ) × HoldsStop new before now (bytes ++ piece) (10 ∷ next)
+FeedsStop old new mid now piece = WhateverWasRead old mid
+    (λ before bytes. (next : List ℕ) × HoldsStop new before now (bytes ++ piece) (10 ∷ next))
 
+-- The sink failed at the script's end, and took a front of the script's answers.
 abbrev pub FinishesFront : Replayer → Option (List ℕ) → Option (List ℕ) → Type 0
-FinishesFront old mid now = (before : Option (List ℕ)) (bytes : List ℕ) → Holds old before mid bytes → CutOff before now (answers bytes)
+FinishesFront old mid now =
+    WhateverWasRead old mid (λ before bytes. CutOff before now (answers bytes))
 
+-- The script's last line asks for a machine, for which there is no memory.
 abbrev pub FinishesStop : Replayer → Replayer → Option (List ℕ) → Option (List ℕ) → Type 0
-FinishesStop old new mid now = (before : Option (List ℕ)) (bytes : List ℕ) → Holds old before mid bytes → HoldsStop new before now bytes []
+FinishesStop old new mid now =
+    WhateverWasRead old mid (λ before bytes. HoldsStop new before now bytes [])
 
 -- The line that was kept asks for a machine, for which there is no memory, and nothing was done.
 pub record LacksMemory (old new : Replayer) (mid now : Option (List ℕ)) : Type 0 where
@@ -82,20 +124,43 @@ pub record LacksMemory (old new : Replayer) (mid now : Option (List ℕ)) : Type
   pub same : new ≡ old
   pub kept : now ≡ mid
 
--- The line that was kept is answered, whatever history the engine stood for, and the next one begins.
+-- The line that was kept is answered, whatever history the engine stood for, and the next one
+-- begins.
 pub record AnswersLine (old new : Replayer) (mid now : Option (List ℕ)) : Type 0 where
-  pub answers : (h : History) → StandsFor old.engine h → Passes old.out.bytes.items new.out.bytes.items mid now (printed (text_answer h (reading old.line.items)))
-  pub stands : (h : History) → StandsFor old.engine h → StandsFor new.engine (after_text h (reading old.line.items))
+  pub answers : (h : History) → StandsFor old.engine h
+      → Passes old.out.bytes.items new.out.bytes.items mid now
+      (printed (text_answer h (reading old.line.items)))
+  pub stands : (h : History) → StandsFor old.engine h
+      → StandsFor new.engine (after_text h (reading old.line.items))
   pub empty : new.line.items ≡ []
 
 -- ---- a whole run
 
--- What was written where reading ended so: at the end the answers of the script, else the answers of the whole lines read; a script
--- that is too long was read to its limit and one byte further.
+-- The answers of the whole lines that the bytes begin with are written, and no others; after them
+-- the bytes have no LF.
+pub record AnswersWhole (before now : Option (List ℕ)) (bytes : List ℕ) : Type 0 where
+  pub whole : List ℕ
+  pub tail : List ℕ
+  pub split : bytes ≡ whole ++ tail
+  pub lines : IsWhole whole
+  pub no_end : NoEnd tail
+  pub written : Appends before now (answers whole)
+
+-- The bytes are as many as a script has at most, whose whole lines are answered, and one more.
+pub record GoesPast (before now : Option (List ℕ)) (bytes : List ℕ) : Type 0 where
+  pub within : List ℕ
+  pub beyond : List ℕ
+  pub split : bytes ≡ within ++ beyond
+  pub full : length within ≡ SCRIPT_BYTES
+  pub one : length beyond ≡ 1
+  pub answered : AnswersWhole before now within
+
+-- What was written where reading ended so: at the end the answers of the script, else the answers
+-- of the whole lines read; a script that is too long was read to its limit and one byte further.
 abbrev pub WrittenFor : Status → Option (List ℕ) → Option (List ℕ) → List ℕ → Type 0
 WrittenFor Done before now bytes = Appends before now (answers bytes)
-WrittenFor ReadFault before now bytes = (whole : List ℕ) × (tail : List ℕ) × (bytes ≡ whole ++ tail) × IsWhole whole × NoEnd tail × Appends before now (answers whole)
-WrittenFor TooLong before now bytes = (whole : List ℕ) × (tail : List ℕ) × (more : List ℕ) × (bytes ≡ (whole ++ tail) ++ more) × (length (whole ++ tail) ≡ 16777216) × (length more ≡ 1) × IsWhole whole × NoEnd tail × Appends before now (answers whole)
+WrittenFor ReadFault before now bytes = AnswersWhole before now bytes
+WrittenFor TooLong before now bytes = GoesPast before now bytes
 WrittenFor status before now bytes = ⊥
 
 -- A run took some bytes of the source, and wrote what its status says.
@@ -103,12 +168,21 @@ pub record Streams (status : Status) (left rest before now : Option (List ℕ)) 
   pub bytes : List ℕ
   pub consumed : Consumes left rest bytes
   pub written : WrittenFor status before now bytes
-  pub whole : status ≡ Done → IfSome left (λ script. script ≡ bytes)
+  pub whole : status ≡ Done → IsScript left bytes
+  pub limit : status ≢ TooLong → length bytes ≤ SCRIPT_BYTES
 
--- A run took some bytes of the source, and stopped at a line that asks for a machine, for which there is no memory.
+-- A run took no more bytes of the source than a script has, and the sink failed after a front of
+-- their answers.
+pub record StreamsFront (left rest before now : Option (List ℕ)) : Type 0 where
+  pub front : WritesFront left rest before now
+  pub limit : TakesAtMost SCRIPT_BYTES left rest
+
+-- A run took some bytes of the source, no more than a script has, and stopped at a line that asks
+-- for a machine, for which there is no memory.
 pub record StreamsStop (r : Replayer) (left rest before now : Option (List ℕ)) : Type 0 where
   pub bytes : List ℕ
   pub more : List ℕ
   pub consumed : Consumes left rest bytes
   pub holds : HoldsStop r before now bytes more
   pub end : ((next : List ℕ) × (more ≡ 10 ∷ next)) ⊎ ((more ≡ []) × IsScript left bytes)
+  pub limit : length bytes ≤ SCRIPT_BYTES

@@ -4,6 +4,7 @@ ghost use Rattle.aia_io.specs.Ends.{Rose};
 ghost use Rattle.aia_model.specs.AnswerText.{answer_text};
 ghost use Rattle.aia_replay.specs.Buffered.{Passes, CutOff};
 
+use crate::limits::BUFFER_BYTES;
 use aia_io::{Sink, Write};
 use aia_script::{Answer, print_answer};
 use arrayvec::ArrayVec;
@@ -12,10 +13,10 @@ use arrayvec::ArrayVec;
 #[derive(Clone, Copy, Debug, PartialEq, Eq)]
 pub struct SinkFault;
 
-/// Answers on their way to a sink, at most 4,096 bytes at a time.
+/// Answers on their way to a sink, at most [`BUFFER_BYTES`] bytes at a time.
 #[derive(Drop)]
 pub struct Buffered {
-    bytes: ArrayVec<u8, 4096>,
+    bytes: ArrayVec<u8, BUFFER_BYTES>,
 }
 
 impl Buffered {
@@ -30,10 +31,12 @@ impl Buffered {
 
     /// Adds bytes; where they don't fit, those that wait are written first.
     fn add<K: Sink>(&mut self, sink: &mut K, bytes: &[u8]) -> Result<(), SinkFault>
-        requires { length bytes.now ≤ 4096 }
-        ensures ok { OnOk result (Passes self.old.bytes.items self.new.bytes.items (K.taken sink.old) (K.taken sink.new) bytes.now) }
+        requires { length bytes.now ≤ BUFFER_BYTES }
+        ensures ok { OnOk result (Passes self.old.bytes.items self.new.bytes.items
+            (K.taken sink.old) (K.taken sink.new) bytes.now) }
         ensures err { OnErr result (Rose (K.faults sink.old) (K.faults sink.new)) }
-        ensures cut { OnErr result (CutOff (K.taken sink.old) (K.taken sink.new) self.old.bytes.items) }
+        ensures cut { OnErr result
+            (CutOff (K.taken sink.old) (K.taken sink.new) self.old.bytes.items) }
         ensures later { K.faults sink.old ≤ K.faults sink.new }
     {
         if self.bytes.try_extend_from_slice(bytes).is_err() {
@@ -45,9 +48,11 @@ impl Buffered {
 
     /// Adds an answer, with its LF.
     pub fn add_answer<K: Sink>(&mut self, sink: &mut K, answer: &Answer) -> Result<(), SinkFault>
-        ensures ok { OnOk result (Passes self.old.bytes.items self.new.bytes.items (K.taken sink.old) (K.taken sink.new) (answer_text answer.now)) }
+        ensures ok { OnOk result (Passes self.old.bytes.items self.new.bytes.items
+            (K.taken sink.old) (K.taken sink.new) (answer_text answer.now)) }
         ensures err { OnErr result (Rose (K.faults sink.old) (K.faults sink.new)) }
-        ensures cut { OnErr result (CutOff (K.taken sink.old) (K.taken sink.new) self.old.bytes.items) }
+        ensures cut { OnErr result
+            (CutOff (K.taken sink.old) (K.taken sink.new) self.old.bytes.items) }
         ensures later { K.faults sink.old ≤ K.faults sink.new }
     {
         let mut text = ArrayVec::new();
@@ -57,10 +62,12 @@ impl Buffered {
 
     /// Writes all bytes that wait.
     pub fn write_out<K: Sink>(&mut self, sink: &mut K) -> Result<(), SinkFault>
-        ensures ok { OnOk result (Appends (K.taken sink.old) (K.taken sink.new) self.old.bytes.items) }
+        ensures ok { OnOk result
+            (Appends (K.taken sink.old) (K.taken sink.new) self.old.bytes.items) }
         ensures empty { OnOk result (self.new.bytes.items ≡ []) }
         ensures err { OnErr result (Rose (K.faults sink.old) (K.faults sink.new)) }
-        ensures cut { OnErr result (CutOff (K.taken sink.old) (K.taken sink.new) self.old.bytes.items) }
+        ensures cut { OnErr result
+            (CutOff (K.taken sink.old) (K.taken sink.new) self.old.bytes.items) }
         ensures later { K.faults sink.old ≤ K.faults sink.new }
     {
         write_all(sink, self.bytes.as_slice())?;

@@ -3,10 +3,12 @@
 
 mod buffered;
 mod engine;
+mod limits;
 mod machine;
 mod program;
 mod replayer;
 mod stop;
 
 pub use engine::Engine;
+pub use limits::SCRIPT_BYTES;
 pub use program::{Status, run};

@@ -1,8 +1,9 @@
-ghost use Rattle.std.specs.Prelude.{◌≡◌, ◌≢◌, ◌≤◌, ◌↔◌, List, [], IsTrue};
+ghost use Rattle.std.specs.Prelude.{◌≡◌, ◌≢◌, ◌+◌, ◌≤◌, ◌↔◌, List, [], IsTrue};
 ghost use Rattle.aia_io.specs.Ends.{Rose};
-ghost use Rattle.aia_replay.specs.Runs.{IsReplay, WritesAnswers, WritesFront, WritesLines, StopsAtMachine, TakesAll, Takes, TakesAtMost, HasAtMost, IsDoneOrMemory};
+ghost use Rattle.aia_replay.specs.Runs.{IsReplay, EndsWith, WritesAnswers, WritesFront, WritesLines, StopsAtMachine, TakesAll, Takes, TakesAtMost, HasAtMost, IsDoneOrMemory};
 ghost use Rattle.std.specs.Io.KnownBytes.{Appends, Consumes};
 
+use crate::limits::SCRIPT_BYTES;
 use crate::replayer::Replayer;
 use crate::stop::Stop;
 use aia_io::{Sink, Source};
@@ -21,15 +22,16 @@ pub enum Status {
     WriteFault,
     /// There was no memory for the machine.
     Memory,
-    /// The script has more than 16,777,216 bytes.
+    /// The script has more than [`SCRIPT_BYTES`] bytes.
     TooLong,
 }
 
-/// Runs the command that `words` give, the command line without the program's name: `replay` reads a script from the
-/// source to its end and writes the answers of its lines to the sink. Every other list of words is refused.
+/// Runs the command that `words` give, the command line without the program's name: `replay` reads
+/// a script from the source to its end and writes the answers of its lines to the sink. Every other
+/// list of words is refused.
 ///
-/// It returns always. Answers are written at the latest before the next read and before it returns. Memory is taken for the
-/// machine alone.
+/// It returns always. Answers are written at the latest before the next read and before it returns.
+/// Memory is taken for the machine alone.
 pub fn run<S: Source, K: Sink>(
     alloc: Global,
     words: &[&str],
@@ -37,28 +39,45 @@ pub fn run<S: Source, K: Sink>(
     sink: &mut K,
 ) -> Status
     ensures usage { (result ≡ Status.Usage) ↔ (¬ IsReplay words.now) }
-    ensures nothing { result ≡ Status.Usage → Consumes (S.left source.old) (S.left source.new) [] × Appends (K.taken sink.old) (K.taken sink.new) [] }
+    ensures nothing { result ≡ Status.Usage → Consumes (S.left source.old) (S.left source.new) []
+        × Appends (K.taken sink.old) (K.taken sink.new) [] }
 
     // The headline: what is written is the model's answers of the whole script.
-    ensures done { result ≡ Status.Done → WritesAnswers (S.left source.old) (K.taken sink.old) (K.taken sink.new) }
+    ensures done { result ≡ Status.Done → WritesAnswers (S.left source.old)
+        (K.taken sink.old) (K.taken sink.new) }
     ensures all { result ≡ Status.Done → TakesAll (S.left source.old) (S.left source.new) }
 
     // The other endings have a cause that shows.
-    ensures read_fault { result ≡ Status.ReadFault → Rose (S.faults source.old) (S.faults source.new) }
-    ensures write_fault { result ≡ Status.WriteFault → Rose (K.faults sink.old) (K.faults sink.new) }
-    ensures too_long { result ≡ Status.TooLong → Takes 16777217 (S.left source.old) (S.left source.new) }
-    ensures memory { result ≡ Status.Memory → StopsAtMachine (S.left source.old) (S.left source.new) (K.taken sink.old) (K.taken sink.new) }
+    ensures read_fault { result ≡ Status.ReadFault
+        → Rose (S.faults source.old) (S.faults source.new) }
+    ensures write_fault { result ≡ Status.WriteFault
+        → Rose (K.faults sink.old) (K.faults sink.new) }
+    ensures too_long { result ≡ Status.TooLong
+        → Takes (SCRIPT_BYTES + 1) (S.left source.old) (S.left source.new) }
+    ensures memory { result ≡ Status.Memory → StopsAtMachine (S.left source.old) (S.left source.new)
+        (K.taken sink.old) (K.taken sink.new) }
 
-    // They too write nothing but answers: of the whole lines read, or a front of what the bytes read answer.
-    ensures read_fault_written { result ≡ Status.ReadFault → WritesLines 0 (S.left source.old) (S.left source.new) (K.taken sink.old) (K.taken sink.new) }
-    ensures too_long_written { result ≡ Status.TooLong → WritesLines 1 (S.left source.old) (S.left source.new) (K.taken sink.old) (K.taken sink.new) }
-    ensures write_fault_written { result ≡ Status.WriteFault → WritesFront (S.left source.old) (S.left source.new) (K.taken sink.old) (K.taken sink.new) }
+    // They too write nothing but answers: of the whole lines read, or a front of what the bytes
+    // read answer.
+    ensures read_fault_written { result ≡ Status.ReadFault
+        → WritesLines 0 (S.left source.old) (S.left source.new)
+        (K.taken sink.old) (K.taken sink.new) }
+    ensures too_long_written { result ≡ Status.TooLong
+        → WritesLines 1 (S.left source.old) (S.left source.new)
+        (K.taken sink.old) (K.taken sink.new) }
+    ensures write_fault_written { result ≡ Status.WriteFault
+        → WritesFront (S.left source.old) (S.left source.new)
+        (K.taken sink.old) (K.taken sink.new) }
 
-    // Completeness: with good words, no fault and a script that fits, nothing but want of memory is in the way.
-    ensures complete { IsReplay words.now → (¬ Rose (S.faults source.old) (S.faults source.new)) → (¬ Rose (K.faults sink.old) (K.faults sink.new)) → HasAtMost 16777216 (S.left source.old) → IsDoneOrMemory result }
+    // Completeness: with good words, no fault and a script that fits, nothing but want of memory is
+    // in the way.
+    ensures complete { IsReplay words.now → (¬ Rose (S.faults source.old) (S.faults source.new))
+        → (¬ Rose (K.faults sink.old) (K.faults sink.new))
+        → HasAtMost SCRIPT_BYTES (S.left source.old) → IsDoneOrMemory result }
 
-    ensures bound { TakesAtMost 16777217 (S.left source.old) (S.left source.new) }
-    ensures limit { result ≢ Status.TooLong → TakesAtMost 16777216 (S.left source.old) (S.left source.new) }
+    ensures bound { TakesAtMost (SCRIPT_BYTES + 1) (S.left source.old) (S.left source.new) }
+    ensures limit { result ≢ Status.TooLong
+        → TakesAtMost SCRIPT_BYTES (S.left source.old) (S.left source.new) }
     ensures source_faults { S.faults source.old ≤ S.faults source.new }
     ensures sink_faults { K.faults sink.old ≤ K.faults sink.new }
 {
@@ -80,19 +99,9 @@ fn is_replay(words: &[&str]) -> bool
 
 fn replay<S: Source, K: Sink>(alloc: Global, source: &mut S, sink: &mut K) -> Status
     ensures usage { result ≢ Status.Usage }
-    ensures done { result ≡ Status.Done → WritesAnswers (S.left source.old) (K.taken sink.old) (K.taken sink.new) }
-    ensures all { result ≡ Status.Done → TakesAll (S.left source.old) (S.left source.new) }
-    ensures read_fault { result ≡ Status.ReadFault → Rose (S.faults source.old) (S.faults source.new) }
-    ensures write_fault { result ≡ Status.WriteFault → Rose (K.faults sink.old) (K.faults sink.new) }
-    ensures too_long { result ≡ Status.TooLong → Takes 16777217 (S.left source.old) (S.left source.new) }
-    ensures memory { result ≡ Status.Memory → StopsAtMachine (S.left source.old) (S.left source.new) (K.taken sink.old) (K.taken sink.new) }
-    ensures read_fault_written { result ≡ Status.ReadFault → WritesLines 0 (S.left source.old) (S.left source.new) (K.taken sink.old) (K.taken sink.new) }
-    ensures too_long_written { result ≡ Status.TooLong → WritesLines 1 (S.left source.old) (S.left source.new) (K.taken sink.old) (K.taken sink.new) }
-    ensures write_fault_written { result ≡ Status.WriteFault → WritesFront (S.left source.old) (S.left source.new) (K.taken sink.old) (K.taken sink.new) }
-    ensures bound { TakesAtMost 16777217 (S.left source.old) (S.left source.new) }
-    ensures limit { result ≢ Status.TooLong → TakesAtMost 16777216 (S.left source.old) (S.left source.new) }
-    ensures source_faults { S.faults source.old ≤ S.faults source.new }
-    ensures sink_faults { K.faults sink.old ≤ K.faults sink.new }
+    ensures ends { EndsWith result (S.left source.old) (S.left source.new) (K.taken sink.old)
+        (K.taken sink.new) (S.faults source.old) (S.faults source.new) (K.faults sink.old)
+        (K.faults sink.new) }
 {
     let mut replayer = Replayer::new();
     match replayer.read_all(alloc, source, sink) {

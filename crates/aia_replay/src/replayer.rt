@@ -1,11 +1,11 @@
 ghost use Rattle.std.specs.Prelude.{◌≡◌, ◌≢◌, ℕ, ◌+◌, ◌*◌, ◌<◌, ◌≤◌, List, [], ◌∷◌, ◌++◌, length, take, position, nat_eq, Option, IfOk, OnOk, OnErr, Ok, Err};
 ghost use Rattle.arrayvec.specs.ArrayVec.{array_vec_len};
 ghost use Rattle.aia_io.specs.Ends.{Rose, ReadHasCause};
-ghost use Rattle.aia_replay.specs.Runs.{TakesAtMost};
-ghost use Rattle.aia_replay.specs.Streams.{ReadsFront};
+ghost use Rattle.aia_replay.specs.Streams.{ReadsFront, ReadsOn};
 
 use crate::buffered::{Buffered, SinkFault};
 use crate::engine::Engine;
+use crate::limits::{PIECE_BYTES, SCRIPT_BYTES};
 use crate::program::Status;
 use crate::stop::Stop;
 use aia_io::{Read, Sink, Source};
@@ -15,16 +15,11 @@ use std::alloc::Global;
 /// The byte that ends a line.
 const LF: u8 = b'\n';
 
-/// The most bytes that one read asks for.
-const PIECE: usize = 4096;
-
-/// The most bytes that a script has.
-const LIMIT: usize = 16_777_216;
-
 /// One byte more than the longest line has, so that a longer one shows.
 const LINE: usize = 129;
 
-/// Answers a script that comes in pieces: the engine, the line that is being read, and the answers that wait.
+/// Answers a script that comes in pieces: the engine, the line that is being read, and the answers
+/// that wait.
 #[derive(Drop)]
 pub struct Replayer {
     engine: Engine,
@@ -34,9 +29,9 @@ pub struct Replayer {
 
 impl Replayer {
     ghost use Rattle.aia_replay.specs.Buffered.{CutOff};
-    ghost use Rattle.aia_replay.specs.Runs.{WritesFront};
     ghost use Rattle.std.specs.Io.KnownBytes.{Appends};
-    ghost use Rattle.aia_replay.specs.Streams.{Begins, Feeds, FeedsFront, FeedsStop, Finishes, FinishesFront, FinishesStop, Streams, StreamsStop, AnswersLine, LacksMemory};
+    ghost use Rattle.aia_replay.specs.Streams.{Begins, AnswersLine, LacksMemory, WritesOut, WritesOutFront};
+    ghost use Rattle.aia_replay.specs.Streams.{Feeds, FeedsFront, FeedsStop, Finishes, FinishesFront, FinishesStop, Streams, StreamsFront, StreamsStop};
 
     /// A replayer that has read nothing.
     pub fn new() -> Replayer
@@ -60,10 +55,13 @@ impl Replayer {
 
     /// Answers the line that was read, and begins the next one.
     fn end_line<K: Sink>(&mut self, alloc: Global, sink: &mut K) -> Result<(), Stop>
-        ensures ok { OnOk result (AnswersLine self.old self.new (K.taken sink.old) (K.taken sink.new)) }
+        ensures ok { OnOk result
+            (AnswersLine self.old self.new (K.taken sink.old) (K.taken sink.new)) }
         ensures sink { result ≡ Err Stop.Sink → Rose (K.faults sink.old) (K.faults sink.new) }
-        ensures cut { result ≡ Err Stop.Sink → CutOff (K.taken sink.old) (K.taken sink.new) self.old.out.bytes.items }
-        ensures memory { result ≡ Err Stop.Memory → LacksMemory self.old self.new (K.taken sink.old) (K.taken sink.new) }
+        ensures cut { result ≡ Err Stop.Sink
+            → CutOff (K.taken sink.old) (K.taken sink.new) self.old.out.bytes.items }
+        ensures memory { result ≡ Err Stop.Memory
+            → LacksMemory self.old self.new (K.taken sink.old) (K.taken sink.new) }
         ensures later { K.faults sink.old ≤ K.faults sink.new }
     {
         if let Some(answer) = self.engine.text(alloc, self.line.as_slice())? {
@@ -73,12 +71,16 @@ impl Replayer {
         Ok(())
     }
 
-    /// Reads a piece of the script: answers each line that ends in it, and keeps what is left of the last one.
+    /// Reads a piece of the script: answers each line that ends in it, and keeps what is left of
+    /// the last one.
     fn feed<K: Sink>(&mut self, alloc: Global, sink: &mut K, piece: &[u8]) -> Result<(), Stop>
-        ensures ok { OnOk result (Feeds self.old self.new (K.taken sink.old) (K.taken sink.new) piece.now) }
+        ensures ok { OnOk result
+            (Feeds self.old self.new (K.taken sink.old) (K.taken sink.new) piece.now) }
         ensures sink { result ≡ Err Stop.Sink → Rose (K.faults sink.old) (K.faults sink.new) }
-        ensures cut { result ≡ Err Stop.Sink → FeedsFront self.old (K.taken sink.old) (K.taken sink.new) piece.now }
-        ensures memory { result ≡ Err Stop.Memory → FeedsStop self.old self.new (K.taken sink.old) (K.taken sink.new) piece.now }
+        ensures cut { result ≡ Err Stop.Sink
+            → FeedsFront self.old (K.taken sink.old) (K.taken sink.new) piece.now }
+        ensures memory { result ≡ Err Stop.Memory
+            → FeedsStop self.old self.new (K.taken sink.old) (K.taken sink.new) piece.now }
         ensures later { K.faults sink.old ≤ K.faults sink.new }
     {
         let mut rest = piece;
@@ -95,18 +97,21 @@ impl Replayer {
     fn finish<K: Sink>(&mut self, alloc: Global, sink: &mut K) -> Result<(), Stop>
         ensures ok { OnOk result (Finishes self.old (K.taken sink.old) (K.taken sink.new)) }
         ensures sink { result ≡ Err Stop.Sink → Rose (K.faults sink.old) (K.faults sink.new) }
-        ensures cut { result ≡ Err Stop.Sink → FinishesFront self.old (K.taken sink.old) (K.taken sink.new) }
-        ensures memory { result ≡ Err Stop.Memory → FinishesStop self.old self.new (K.taken sink.old) (K.taken sink.new) }
+        ensures cut { result ≡ Err Stop.Sink
+            → FinishesFront self.old (K.taken sink.old) (K.taken sink.new) }
+        ensures memory { result ≡ Err Stop.Memory
+            → FinishesStop self.old self.new (K.taken sink.old) (K.taken sink.new) }
         ensures later { K.faults sink.old ≤ K.faults sink.new }
     {
         if !self.line.is_empty() {
             self.end_line(alloc, sink)?;
         }
-        self.out.write_out(sink)?;
+        self.write_out(sink)?;
         Ok(())
     }
 
-    /// Reads the source to its end, or to its limit, and answers what it gives: `Done`, `ReadFault` or `TooLong`.
+    /// Reads the source to its end, or to its limit, and answers what it gives: `Done`, `ReadFault`
+    /// or `TooLong`.
     pub fn read_all<S: Source, K: Sink>(
         &mut self,
         alloc: Global,
@@ -114,22 +119,25 @@ impl Replayer {
         sink: &mut K,
     ) -> Result<Status, Stop>
         requires { Begins self.old }
-        ensures ok { IfOk result (λ status. Streams status (S.left source.old) (S.left source.new) (K.taken sink.old) (K.taken sink.new)) }
-        ensures source { result ≡ Ok Status.ReadFault → Rose (S.faults source.old) (S.faults source.new) }
+        ensures ok { IfOk result (λ status. Streams status (S.left source.old)
+            (S.left source.new) (K.taken sink.old) (K.taken sink.new)) }
+        ensures source { result ≡ Ok Status.ReadFault
+            → Rose (S.faults source.old) (S.faults source.new) }
         ensures sink { result ≡ Err Stop.Sink → Rose (K.faults sink.old) (K.faults sink.new) }
-        ensures cut { result ≡ Err Stop.Sink → WritesFront (S.left source.old) (S.left source.new) (K.taken sink.old) (K.taken sink.new) }
-        ensures memory { result ≡ Err Stop.Memory → StreamsStop self.new (S.left source.old) (S.left source.new) (K.taken sink.old) (K.taken sink.new) }
-        ensures bound { TakesAtMost 16777217 (S.left source.old) (S.left source.new) }
-        ensures limit { result ≢ Ok Status.TooLong → TakesAtMost 16777216 (S.left source.old) (S.left source.new) }
-        ensures later { (S.faults source.old ≤ S.faults source.new) × (K.faults sink.old ≤ K.faults sink.new) }
+        ensures cut { result ≡ Err Stop.Sink → StreamsFront (S.left source.old) (S.left source.new)
+            (K.taken sink.old) (K.taken sink.new) }
+        ensures memory { result ≡ Err Stop.Memory → StreamsStop self.new (S.left source.old)
+            (S.left source.new) (K.taken sink.old) (K.taken sink.new) }
+        ensures later { (S.faults source.old ≤ S.faults source.new)
+            × (K.faults sink.old ≤ K.faults sink.new) }
     {
-        let mut piece = [0; PIECE];
+        let mut piece = [0; PIECE_BYTES];
         let mut taken: usize = 0;
         loop {
-            self.out.write_out(sink)?;
-            let asked = (LIMIT - taken).clamp(1, PIECE);
+            self.write_out(sink)?;
+            let asked = (SCRIPT_BYTES - taken).clamp(1, PIECE_BYTES);
             match read_front(source, &mut piece, asked) {
-                Read::Got(_) if taken == LIMIT => return Ok(Status::TooLong),
+                Read::Got(_) if taken == SCRIPT_BYTES => return Ok(Status::TooLong),
                 Read::Got(n) => {
                     self.feed(alloc, sink, &piece[..n])?;
                     taken += n;
@@ -145,9 +153,15 @@ impl Replayer {
 
     /// Writes all answers that wait.
     pub fn write_out<K: Sink>(&mut self, sink: &mut K) -> Result<(), SinkFault>
-        ensures ok { OnOk result (Appends (K.taken sink.old) (K.taken sink.new) self.old.out.bytes.items) }
+        ensures ok { OnOk result
+            (Appends (K.taken sink.old) (K.taken sink.new) self.old.out.bytes.items) }
+        ensures held { OnOk result
+            (WritesOut self.old self.new (K.taken sink.old) (K.taken sink.new)) }
         ensures err { OnErr result (Rose (K.faults sink.old) (K.faults sink.new)) }
-        ensures cut { OnErr result (CutOff (K.taken sink.old) (K.taken sink.new) self.old.out.bytes.items) }
+        ensures cut { OnErr result
+            (CutOff (K.taken sink.old) (K.taken sink.new) self.old.out.bytes.items) }
+        ensures front { OnErr result
+            (WritesOutFront self.old (K.taken sink.old) (K.taken sink.new)) }
         ensures later { K.faults sink.old ≤ K.faults sink.new }
     {
         self.out.write_out(sink)
@@ -174,6 +188,7 @@ fn read_front<S: Source>(source: &mut S, piece: &mut [u8], most: usize) -> Read
     requires some { 0 < most }
     requires room { most ≤ length piece.old }
     ensures bytes { ReadsFront most (S.left source.old) (S.left source.new) piece.new result }
+    ensures taken { ReadsOn (S.left source.old) (S.left source.new) piece.new result }
     ensures cause { ReadHasCause (S.faults source.old) (S.faults source.new) result }
 {
     source.read(&mut piece[..most])

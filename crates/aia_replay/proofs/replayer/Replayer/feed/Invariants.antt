@@ -1,5 +1,5 @@
 use Rattle.std.proofs.Common.{◌≤◌, length}
-use Rattle.aia_replay.proofs.StreamLemmas.{Fed}
+use Rattle.aia_replay.proofs.FeedLemmas.{Fed}
 use Rattle.aia_replay.proofs.replayer.Replayer.feed.Given as goal
 
 abbrev pub invariant-loop-end : goal.invariant-loop-end

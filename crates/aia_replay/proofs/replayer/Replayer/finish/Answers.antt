@@ -1,9 +1,10 @@
-use Rattle.std.proofs.Common.{rules}
+use Rattle.std.proofs.Common.{rules, sym}
+use Rattle.std.proofs.lemmas.Bool.{eqb-true}
 use Rattle.std.specs.Io.KnownBytes.{Appends}
 use Rattle.aia_replay.specs.Buffered.{CutOff}
 use Rattle.aia_replay.specs.Streams.{AnswersLine}
-use Rattle.aia_replay.proofs.PieceLemmas.{not_empty, is_empty}
-use Rattle.aia_replay.proofs.StreamLemmas.{finished_empty, finished_line, finished_cut, holds_cut_all, last_stopped}
+use Rattle.aia_replay.proofs.PieceLemmas.{not_empty}
+use Rattle.aia_replay.proofs.HeldLemmas.{finished_empty, finished_line, finished_cut, holds_cut_all, last_stopped}
 use Rattle.aia_replay.proofs.replayer.Replayer.finish.Goals as goal
 use Rattle.aia_replay.proofs.replayer.Replayer.finish.Goals.{then-not-is_empty+in_ok-end_line, else-not-is_empty}
 
@@ -18,7 +19,7 @@ returns-clause-ok g c = λ before bytes holds.
           finished_line c.args.self.now r before (g.K.Sink.taken c.args.sink.now) (g.K.Sink.taken c.if-not-is_empty.sink) now bytes (not_empty _ w.if-not-is_empty.ensures) answered out holds
       | else-not-is_empty w ↦
           let wrote : Appends (g.K.Sink.taken c.args.sink.now) now c.args.self.now.out.bytes.items = rw (w.self-is, w.sink-is) at out in
-          finished_empty c.args.self.now before (g.K.Sink.taken c.args.sink.now) now bytes (is_empty _ w.if-not-is_empty.ensures) wrote holds
+          finished_empty c.args.self.now before (g.K.Sink.taken c.args.sink.now) now bytes (eqb-true _ 0 (sym w.if-not-is_empty.ensures)) wrote holds
     ]
 
 pub returns-in_err-end_line-clause-cut : goal.returns-in_err-end_line-clause-cut

@@ -1,14 +1,15 @@
 use Rattle.std.proofs.Common.{◌≤◌, ◌-◌}
-use Rattle.aia_replay.proofs.StreamLemmas.{SoFar}
+use Rattle.aia_replay.specs.declared.limits.TheConstants.{SCRIPT_BYTES}
+use Rattle.aia_replay.proofs.StreamLemmas.{ReadSoFar}
 use Rattle.aia_replay.proofs.replayer.Replayer.read_all.Given as goal
 
 abbrev pub invariant-loop-asked : goal.invariant-loop-asked
 invariant-loop-asked g l = record {
-  so_far : SoFar l.self (g.S.Source.left l.fn.source) (g.S.Source.left l.source) (g.K.Sink.taken l.fn.sink) (g.K.Sink.taken l.sink) l.taken;
-  within : l.taken ≤ 16777216;
+  so_far : ReadSoFar l.self (g.S.Source.left l.fn.source) (g.S.Source.left l.source) (g.K.Sink.taken l.fn.sink) (g.K.Sink.taken l.sink) l.taken;
+  within : l.taken ≤ SCRIPT_BYTES;
   source_later : g.S.Source.faults l.fn.source ≤ g.S.Source.faults l.source;
   sink_later : g.K.Sink.faults l.fn.sink ≤ g.K.Sink.faults l.sink;
 }
 
 abbrev pub decreases-loop-asked : goal.decreases-loop-asked
-decreases-loop-asked g l = 16777216 - l.taken
+decreases-loop-asked g l = SCRIPT_BYTES - l.taken
