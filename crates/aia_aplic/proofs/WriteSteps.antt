@@ -1,5 +1,5 @@
 -- What a store makes of a source in the domain that it is to.
-use Rattle.std.proofs.Common.{◌≡◌, ◌<◌, ℕ, suc, Bool, true, false, not, cond, ◌&&◌, nat_eq, nat_lt, [], ◌∷◌, Option, None, unwrap_or, refl, sym, ap, ◌∙◌, arith}
+use Rattle.std.proofs.Common.{◌≡◌, ◌<◌, ℕ, suc, Bool, true, false, not, cond, ◌&&◌, nat_eq, nat_lt, [], ◌∷◌, Option, Some, None, unwrap_or, refl, sym, ap, ◌∙◌, arith}
 use Rattle.std.proofs.lemmas.Bool.Decides.{nat_tests}
 use Rattle.std.specs.Int.{swap_bytes, w32, is_in_range}
 use Rattle.aia_regs.specs.declared.domain_registers.DomainReg.{DomainReg}
@@ -10,8 +10,9 @@ use Rattle.aia_source.specs.declared.mode.Mode.{Mode}
 use Rattle.aia_source.specs.declared.mode.Mode.TheVariants.{Inactive, Detached, RisingEdge, FallingEdge, LevelHigh, LevelLow}
 use Rattle.aia_source.specs.Source.{done, is_active, rectified, says}
 use Rattle.aia_source.specs.Source.Deed.{Set, Cleared, Configured, Activated, Switched, Untouched}
-use Rattle.aia_source.specs.Registers.{domaincfg_kept, is_by_msi, root_sourcecfg, child_sourcecfg, delegates, mode_of, in_word, first_target, target_kept, same_bool, is_named}
-use Rattle.aia_domain.specs.declared.entry.Touch.TheVariants.{SetPending, ClearPending, SetEnable, ClearEnable}
+use Rattle.aia_source.specs.Registers.{domaincfg_kept, is_by_msi, root_sourcecfg, child_sourcecfg, delegates, mode_of, touch, deed_of_touch, enable_of_touch, first_target, target_kept, same_bool, is_named}
+use Rattle.aia_source.specs.declared.touch.Touch.{Touch}
+use Rattle.aia_source.specs.declared.touch.Touch.TheVariants.{SetPending, ClearPending, SetEnable, ClearEnable}
 use Rattle.aia_domain.specs.Held.{Held, with_deed, touched, configured, switched, aimed, sourcecfg_written, granted, granted_at}
 use Rattle.aia_domain.specs.Domain.{source_changed}
 use Rattle.aia_model.specs.Act.{Past, newest, when}
@@ -21,21 +22,13 @@ use Rattle.aia_model.specs.SourceOf.{harts_in, sources_in, is_register_of, wire_
 use Rattle.aia_aplic.specs.Stands.{held}
 use Rattle.aia_aplic.proofs.Steps.{stepped, held-step, held-idle, IsIdle, step-nothing, step-deed, step-enable, step-disable, step-aim, said_nothing, same_enable}
 
-touch-set : (b msi : Bool) (x : Held) → IsIdle x → stepped x.source.mode x.source.wire msi msi x.delegated None Nothing (cond b Set Untouched) x ≡ cond b (touched msi SetPending x) x
-touch-set true msi x idle = step-deed msi x Set idle
-touch-set false msi x idle = step-nothing msi x idle
-
-touch-clear : (b msi : Bool) (x : Held) → IsIdle x → stepped x.source.mode x.source.wire msi msi x.delegated None Nothing (cond b Cleared Untouched) x ≡ cond b (touched msi ClearPending x) x
-touch-clear true msi x idle = step-deed msi x Cleared idle
-touch-clear false msi x idle = step-nothing msi x idle
-
-touch-enable : (b msi : Bool) (x : Held) → IsIdle x → stepped x.source.mode x.source.wire msi msi x.delegated None (cond b Ask Nothing) Untouched x ≡ cond b (touched msi SetEnable x) x
-touch-enable true msi x idle = step-enable msi x idle
-touch-enable false msi x idle = step-nothing msi x idle
-
-touch-disable : (b msi : Bool) (x : Held) → IsIdle x → stepped x.source.mode x.source.wire msi msi x.delegated None (cond b Clear Nothing) Untouched x ≡ cond b (touched msi ClearEnable x) x
-touch-disable true msi x idle = step-disable msi x idle
-touch-disable false msi x idle = step-nothing msi x idle
+-- a store to a register that touches bits alone
+touch-step : (t : Option Touch) (msi : Bool) (x : Held) → IsIdle x → stepped x.source.mode x.source.wire msi msi x.delegated None (enable_of_touch t) (deed_of_touch t) x ≡ touched msi t x
+touch-step None msi x idle = step-nothing msi x idle
+touch-step (Some SetPending) msi x idle = step-deed msi x Set idle
+touch-step (Some ClearPending) msi x idle = step-deed msi x Cleared idle
+touch-step (Some SetEnable) msi x idle = step-enable msi x idle
+touch-step (Some ClearEnable) msi x idle = step-disable msi x idle
 
 touch-aim : (b : Bool) (harts : ℕ) (msi : Bool) (v : ℕ) (x : Held) → IsIdle x → stepped x.source.mode x.source.wire msi msi x.delegated (when b (target_kept harts msi v)) Nothing Untouched x ≡ cond b (aimed harts msi v x) x
 touch-aim true harts msi v x idle = step-aim harts msi v x idle
@@ -123,17 +116,7 @@ root_written (SourceCfg i) v past s there =
     ∙ root-config (is_register_of past i s) (is_msi past Root) v (root_sourcecfg_of past s) (held past Root s) (held-idle past Root s) refl refl
     ∙ ap (λ (b : Bool). cond b (sourcecfg_written false (is_msi past Root) v (held past Root s)) (held past Root s)) (named_there past i s there)
 root_written (Target i) v past s there = held-step (Written Root (Target i) v) past Root s ∙ touch-aim (nat_eq i s) (harts_in past) (is_msi past Root) v (held past Root s) (held-idle past Root s)
-root_written (SetIp k) v past s there = held-step (Written Root (SetIp k) v) past Root s ∙ touch-set (in_word k v s) (is_msi past Root) (held past Root s) (held-idle past Root s)
-root_written SetIpNum v past s there = held-step (Written Root SetIpNum v) past Root s ∙ touch-set (nat_eq v s) (is_msi past Root) (held past Root s) (held-idle past Root s)
-root_written SetIpNumLe v past s there = held-step (Written Root SetIpNumLe v) past Root s ∙ touch-set (nat_eq v s) (is_msi past Root) (held past Root s) (held-idle past Root s)
-root_written SetIpNumBe v past s there = held-step (Written Root SetIpNumBe v) past Root s ∙ touch-set (nat_eq (swap_bytes w32 v) s) (is_msi past Root) (held past Root s) (held-idle past Root s)
-root_written (InClrIp k) v past s there = held-step (Written Root (InClrIp k) v) past Root s ∙ touch-clear (in_word k v s) (is_msi past Root) (held past Root s) (held-idle past Root s)
-root_written ClrIpNum v past s there = held-step (Written Root ClrIpNum v) past Root s ∙ touch-clear (nat_eq v s) (is_msi past Root) (held past Root s) (held-idle past Root s)
-root_written (SetIe k) v past s there = held-step (Written Root (SetIe k) v) past Root s ∙ touch-enable (in_word k v s) (is_msi past Root) (held past Root s) (held-idle past Root s)
-root_written SetIeNum v past s there = held-step (Written Root SetIeNum v) past Root s ∙ touch-enable (nat_eq v s) (is_msi past Root) (held past Root s) (held-idle past Root s)
-root_written (ClrIe k) v past s there = held-step (Written Root (ClrIe k) v) past Root s ∙ touch-disable (in_word k v s) (is_msi past Root) (held past Root s) (held-idle past Root s)
-root_written ClrIeNum v past s there = held-step (Written Root ClrIeNum v) past Root s ∙ touch-disable (nat_eq v s) (is_msi past Root) (held past Root s) (held-idle past Root s)
-root_written reg v past s there = held-step (Written Root reg v) past Root s ∙ step-nothing (is_msi past Root) (held past Root s) (held-idle past Root s)
+root_written reg v past s there = held-step (Written Root reg v) past Root s ∙ touch-step (touch reg v s) (is_msi past Root) (held past Root s) (held-idle past Root s)
 
 -- ---- domain 1
 
@@ -186,17 +169,7 @@ child_written (SourceCfg i) v past s there =
     ∙ child-config (is_register_of past i s) (is_delegated past s) (is_msi past Child) v (newest (child_told s) past) (held past Child s) (held-idle past Child s) refl refl (child-none past s)
     ∙ ap (λ (b : Bool). cond b (sourcecfg_written true (is_msi past Child) v (held past Child s)) (held past Child s)) (named_there past i s there)
 child_written (Target i) v past s there = held-step (Written Child (Target i) v) past Child s ∙ touch-aim (nat_eq i s) (harts_in past) (is_msi past Child) v (held past Child s) (held-idle past Child s)
-child_written (SetIp k) v past s there = held-step (Written Child (SetIp k) v) past Child s ∙ touch-set (in_word k v s) (is_msi past Child) (held past Child s) (held-idle past Child s)
-child_written SetIpNum v past s there = held-step (Written Child SetIpNum v) past Child s ∙ touch-set (nat_eq v s) (is_msi past Child) (held past Child s) (held-idle past Child s)
-child_written SetIpNumLe v past s there = held-step (Written Child SetIpNumLe v) past Child s ∙ touch-set (nat_eq v s) (is_msi past Child) (held past Child s) (held-idle past Child s)
-child_written SetIpNumBe v past s there = held-step (Written Child SetIpNumBe v) past Child s ∙ touch-set (nat_eq (swap_bytes w32 v) s) (is_msi past Child) (held past Child s) (held-idle past Child s)
-child_written (InClrIp k) v past s there = held-step (Written Child (InClrIp k) v) past Child s ∙ touch-clear (in_word k v s) (is_msi past Child) (held past Child s) (held-idle past Child s)
-child_written ClrIpNum v past s there = held-step (Written Child ClrIpNum v) past Child s ∙ touch-clear (nat_eq v s) (is_msi past Child) (held past Child s) (held-idle past Child s)
-child_written (SetIe k) v past s there = held-step (Written Child (SetIe k) v) past Child s ∙ touch-enable (in_word k v s) (is_msi past Child) (held past Child s) (held-idle past Child s)
-child_written SetIeNum v past s there = held-step (Written Child SetIeNum v) past Child s ∙ touch-enable (nat_eq v s) (is_msi past Child) (held past Child s) (held-idle past Child s)
-child_written (ClrIe k) v past s there = held-step (Written Child (ClrIe k) v) past Child s ∙ touch-disable (in_word k v s) (is_msi past Child) (held past Child s) (held-idle past Child s)
-child_written ClrIeNum v past s there = held-step (Written Child ClrIeNum v) past Child s ∙ touch-disable (nat_eq v s) (is_msi past Child) (held past Child s) (held-idle past Child s)
-child_written reg v past s there = held-step (Written Child reg v) past Child s ∙ step-nothing (is_msi past Child) (held past Child s) (held-idle past Child s)
+child_written reg v past s there = held-step (Written Child reg v) past Child s ∙ touch-step (touch reg v s) (is_msi past Child) (held past Child s) (held-idle past Child s)
 
 -- ---- what a store to one domain makes of the other
 

@@ -8,11 +8,11 @@ use crate::entries::{
     aim_one, claim_one, configure_one, forward_one, grant_one, is_waiting, new_entries,
     sourcecfg_of, switch_all, target_of, touch_one, touch_word, wire_one, word_shown,
 };
-use crate::entry::{Entry, Look, Touch};
+use crate::entry::{Entry, Look};
 use crate::kept::{domaincfg_kept, enables, genmsi_kept, is_by_msi};
 use crate::ready::Ready;
 use aia_regs::{DomainReg, swap32};
-use aia_source::Wired;
+use aia_source::{Touch, Wired};
 use std::alloc::{AllocError, Global};
 use std::marker::Model;
 

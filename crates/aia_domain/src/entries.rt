@@ -1,12 +1,13 @@
 //! The sources of a domain, by their numbers: each function here changes some of them, and leaves the others as they are.
 
-ghost use Rattle.std.specs.Prelude.{◌≡◌, ◌*◌, ◌≤◌, Bool, slice_get, length, All, IfOk, if◌then◌else◌};
+ghost use Rattle.std.specs.Prelude.{◌≡◌, ◌*◌, ◌≤◌, Bool, nat_eq, slice_get, length, All, IfOk, if◌then◌else◌};
 ghost use Rattle.aia_word.specs.Sets.{word_of};
 ghost use Rattle.aia_source.specs.Source.Deed.{Claimed, Forwarded};
 ghost use Rattle.aia_source.specs.Registers.{in_word};
 ghost use Rattle.aia_domain.specs.Held.{EachSource, new_held, changed_at, touched, touched_where, written_at, all_switched, switched, aimed, sourcecfg_written, granted_at, wired, with_deed, sourcecfg_of, target_of, bit_at_source, waits_of};
 
-use crate::entry::{Entry, Look, Touch};
+use crate::entry::{Entry, Look};
+use aia_source::Touch;
 use std::alloc::{AllocError, Global};
 
 /// The sources that a register has in one word.
@@ -26,7 +27,7 @@ pub(crate) fn new_entries(alloc: Global, count: u32) -> Result<Vec<Entry>, Alloc
 
 /// One source is touched, where it is there.
 pub(crate) fn touch_one(entries: &mut [Entry], s: u64, touch: Touch, msi: bool)
-    ensures { EachSource entries.old entries.new (changed_at s (touched msi touch)) }
+    ensures { EachSource entries.old entries.new (touched_where (nat_eq s) msi touch) }
 {
     if s < entries.len() as u64 {
         entries[s as usize].touch(touch, msi);

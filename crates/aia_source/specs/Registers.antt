@@ -1,12 +1,18 @@
 -- The registers of a domain that concern its wired sources: what a write of each keeps, and which sources it names.
-use Rattle.std.specs.Prelude.{ℕ, ◌+◌, ◌*◌, ◌/◌, ◌%◌, ◌^◌, Bool, true, false, not, ◌&&◌, ◌||◌, nat_eq, nat_lt, bit_and, if◌then◌else◌}
+use Rattle.std.specs.Prelude.{ℕ, ◌+◌, ◌*◌, ◌/◌, ◌%◌, ◌^◌, Bool, true, false, not, ◌&&◌, ◌||◌, nat_eq, nat_lt, bit_and, if◌then◌else◌, Option, Some, None}
 use Rattle.std.specs.Int.{swap_bytes, w32}
 use Rattle.aia_regs.specs.declared.domain_registers.DomainReg.{DomainReg}
 use Rattle.aia_regs.specs.declared.domain_registers.DomainReg.TheVariants.{SetIp, SetIpNum, InClrIp, ClrIpNum, SetIe, SetIeNum, ClrIe, ClrIeNum, SetIpNumLe, SetIpNumBe}
 use Rattle.aia_regs.specs.Fields.{field}
 use Rattle.aia_regs.specs.Operations.{is_one}
+use Rattle.aia_regs.specs.Word.{Word}
+use Rattle.aia_regs.specs.Word.Word.{Ask, Clear, Nothing}
 use Rattle.aia_source.specs.declared.mode.Mode.{Mode}
 use Rattle.aia_source.specs.declared.mode.Mode.TheVariants.{Inactive, Detached, RisingEdge, FallingEdge, LevelHigh, LevelLow}
+use Rattle.aia_source.specs.declared.touch.Touch.{Touch}
+use Rattle.aia_source.specs.declared.touch.Touch.TheVariants.{SetPending, ClearPending, SetEnable, ClearEnable}
+use Rattle.aia_source.specs.Source.{Deed}
+use Rattle.aia_source.specs.Source.Deed.{Set, Cleared, Untouched}
 
 -- ---- domaincfg
 
@@ -72,27 +78,34 @@ mode_number LevelLow = 7
 abbrev pub in_word : ℕ → ℕ → ℕ → Bool
 in_word k v s = nat_eq (s / 32) k && is_one v (s % 32)
 
-abbrev pub sets_pending : DomainReg → ℕ → ℕ → Bool
-sets_pending (SetIp k) v s = in_word k v s
-sets_pending SetIpNum v s = nat_eq v s
-sets_pending SetIpNumLe v s = nat_eq v s
-sets_pending SetIpNumBe v s = nat_eq (swap_bytes w32 v) s
-sets_pending reg v s = false
+-- A touch of those that are named, and of no other.
+abbrev pub touch_where : (ℕ → Bool) → Touch → ℕ → Option Touch
+touch_where named touch s = if named s then Some touch else None
 
-abbrev pub clears_pending : DomainReg → ℕ → ℕ → Bool
-clears_pending (InClrIp k) v s = in_word k v s
-clears_pending ClrIpNum v s = nat_eq v s
-clears_pending reg v s = false
+-- What a store of v to a register does to source s; None where it does not touch its bits.
+abbrev pub touch : DomainReg → ℕ → ℕ → Option Touch
+touch (SetIp k) v s = touch_where (in_word k v) SetPending s
+touch SetIpNum v s = touch_where (nat_eq v) SetPending s
+touch SetIpNumLe v s = touch_where (nat_eq v) SetPending s
+touch SetIpNumBe v s = touch_where (nat_eq (swap_bytes w32 v)) SetPending s
+touch (InClrIp k) v s = touch_where (in_word k v) ClearPending s
+touch ClrIpNum v s = touch_where (nat_eq v) ClearPending s
+touch (SetIe k) v s = touch_where (in_word k v) SetEnable s
+touch SetIeNum v s = touch_where (nat_eq v) SetEnable s
+touch (ClrIe k) v s = touch_where (in_word k v) ClearEnable s
+touch ClrIeNum v s = touch_where (nat_eq v) ClearEnable s
+touch reg v s = None
 
-abbrev pub sets_enable : DomainReg → ℕ → ℕ → Bool
-sets_enable (SetIe k) v s = in_word k v s
-sets_enable SetIeNum v s = nat_eq v s
-sets_enable reg v s = false
+-- What it is to the source's pending bit, and what it says of its enable bit.
+abbrev pub deed_of_touch : Option Touch → Deed
+deed_of_touch (Some SetPending) = Set
+deed_of_touch (Some ClearPending) = Cleared
+deed_of_touch touch = Untouched
 
-abbrev pub clears_enable : DomainReg → ℕ → ℕ → Bool
-clears_enable (ClrIe k) v s = in_word k v s
-clears_enable ClrIeNum v s = nat_eq v s
-clears_enable reg v s = false
+abbrev pub enable_of_touch : Option Touch → Word
+enable_of_touch (Some SetEnable) = Ask
+enable_of_touch (Some ClearEnable) = Clear
+enable_of_touch touch = Nothing
 
 -- ---- target and genmsi
 

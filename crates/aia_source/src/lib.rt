@@ -5,7 +5,9 @@ pub mod laws;
 mod mode;
 #[cfg(test)]
 mod tests;
+mod touch;
 mod wired;
 
 pub use mode::Mode;
+pub use touch::Touch;
 pub use wired::Wired;

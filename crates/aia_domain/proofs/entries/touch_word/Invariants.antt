@@ -1,5 +1,5 @@
 use Rattle.aia_domain.specs.Held.{EachSource, touched_where}
-use Rattle.aia_domain.specs.Loops.{in_word_below}
+use Rattle.aia_domain.proofs.Loops.{in_word_below}
 use Rattle.aia_domain.proofs.entries.touch_word.Given as goal
 
 abbrev pub invariant-loop-bit : goal.invariant-loop-bit
