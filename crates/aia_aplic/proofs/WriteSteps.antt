@@ -10,6 +10,7 @@ use Rattle.aia_source.specs.declared.mode.Mode.{Mode}
 use Rattle.aia_source.specs.declared.mode.Mode.TheVariants.{Inactive, Detached, RisingEdge, FallingEdge, LevelHigh, LevelLow}
 use Rattle.aia_source.specs.Source.{done, is_active, rectified, says}
 use Rattle.aia_source.specs.Source.Deed.{Set, Cleared, Configured, Activated, Switched, Untouched}
+use Rattle.aia_source.specs.declared.kept.TheConstants.{DELEGATED}
 use Rattle.aia_source.specs.Registers.{domaincfg_kept, is_by_msi, root_sourcecfg, child_sourcecfg, delegates, mode_of, touch, deed_of_touch, enable_of_touch, first_target, target_kept, same_bool, is_named}
 use Rattle.aia_source.specs.declared.touch.Touch.{Touch}
 use Rattle.aia_source.specs.declared.touch.Touch.TheVariants.{SetPending, ClearPending, SetEnable, ClearEnable}
@@ -93,11 +94,11 @@ step-inactive msi delegated' x = λ i. record {
 }
 
 -- the register of a source of domain 0 is written
-root-config : (b msi : Bool) (v c : ℕ) (x : Held) → IsIdle x → x.source.mode ≡ mode_of c → x.delegated ≡ nat_eq c 0x400
-    → stepped (mode_of (unwrap_or (when b (root_sourcecfg v)) c)) x.source.wire msi msi (nat_eq (unwrap_or (when b (root_sourcecfg v)) c) 0x400) None Nothing (cond b (cond (is_active x.source.mode) Configured Activated) Untouched) x
+root-config : (b msi : Bool) (v c : ℕ) (x : Held) → IsIdle x → x.source.mode ≡ mode_of c → x.delegated ≡ nat_eq c DELEGATED
+    → stepped (mode_of (unwrap_or (when b (root_sourcecfg v)) c)) x.source.wire msi msi (nat_eq (unwrap_or (when b (root_sourcecfg v)) c) DELEGATED) None Nothing (cond b (cond (is_active x.source.mode) Configured Activated) Untouched) x
     ≡ cond b (sourcecfg_written false msi v x) x
 root-config true msi v c x idle e g = step-configure (mode_of (root_sourcecfg v)) msi (delegates (root_sourcecfg v)) x
-root-config false msi v c x idle e g = ap (λ m. stepped m x.source.wire msi msi (nat_eq c 0x400) None Nothing Untouched x) (sym e) ∙ ap (λ k. stepped x.source.mode x.source.wire msi msi k None Nothing Untouched x) (sym g) ∙ step-nothing msi x idle
+root-config false msi v c x idle e g = ap (λ m. stepped m x.source.wire msi msi (nat_eq c DELEGATED) None Nothing Untouched x) (sym e) ∙ ap (λ k. stepped x.source.mode x.source.wire msi msi k None Nothing Untouched x) (sym g) ∙ step-nothing msi x idle
 
 -- a register's index is that of a source that is there
 pub named_there : (past : Past) (i s : ℕ) → s < suc (sources_in past) → is_register_of past i s ≡ is_named i s
@@ -126,7 +127,7 @@ unfolding newest
 child-none [] s e = refl
 child-none (Written Root (SourceCfg i) v ∷ past) s e = at (is_register_of past i s) (is_delegated past s) (delegates (root_sourcecfg v)) (root_sourcecfg v) (root_sourcecfg_of past s) (newest (child_told s) past) refl refl (child-none past s) e
   where
-    at : (this was is : Bool) (kept c old : ℕ) → is ≡ nat_eq kept 0x400 → was ≡ nat_eq c 0x400 → (was ≡ false → old ≡ 0) → nat_eq (unwrap_or (when this kept) c) 0x400 ≡ false → unwrap_or (when (this && not (was && is)) 0) old ≡ 0
+    at : (this was is : Bool) (kept c old : ℕ) → is ≡ nat_eq kept DELEGATED → was ≡ nat_eq c DELEGATED → (was ≡ false → old ≡ 0) → nat_eq (unwrap_or (when this kept) c) DELEGATED ≡ false → unwrap_or (when (this && not (was && is)) 0) old ≡ 0
     at false was is kept c old p q before e = before (q ∙ e)
     at true true true kept c old p q before e = cc
     at true true false kept c old p q before e = refl
@@ -190,10 +191,10 @@ child-granted false false msi c x idle e g none =
 child-granted true false msi c x idle e g none = step-inactive msi false x ∙ sym (ap (λ (k : Bool). cond (same_bool k false) x (record (configured msi Inactive x) { delegated = false })) g)
 child-granted false true msi c x idle e g none = step-inactive msi true x ∙ sym (ap (λ (k : Bool). cond (same_bool k true) x (record (configured msi Inactive x) { delegated = true })) g)
 
-child-kept : (b msi : Bool) (is was : Bool) (kept c c1 : ℕ) (x : Held) → IsIdle x → x.source.mode ≡ mode_of c → x.delegated ≡ was → was ≡ nat_eq c1 0x400 → is ≡ nat_eq kept 0x400 → (was ≡ false → c ≡ 0)
-    → stepped (mode_of (unwrap_or (when (b && not (was && is)) 0) c)) x.source.wire msi msi (nat_eq (unwrap_or (when b kept) c1) 0x400) None Nothing Untouched x ≡ cond b (granted is msi x) x
+child-kept : (b msi : Bool) (is was : Bool) (kept c c1 : ℕ) (x : Held) → IsIdle x → x.source.mode ≡ mode_of c → x.delegated ≡ was → was ≡ nat_eq c1 DELEGATED → is ≡ nat_eq kept DELEGATED → (was ≡ false → c ≡ 0)
+    → stepped (mode_of (unwrap_or (when (b && not (was && is)) 0) c)) x.source.wire msi msi (nat_eq (unwrap_or (when b kept) c1) DELEGATED) None Nothing Untouched x ≡ cond b (granted is msi x) x
 child-kept true msi is was kept c c1 x idle e g w k none = ap (λ j. stepped (mode_of (unwrap_or (when (not (was && is)) 0) c)) x.source.wire msi msi j None Nothing Untouched x) (sym k) ∙ child-granted was is msi c x idle e g none
-child-kept false msi is was kept c c1 x idle e g w k none = ap (λ m. stepped m x.source.wire msi msi (nat_eq c1 0x400) None Nothing Untouched x) (sym e) ∙ ap (λ j. stepped x.source.mode x.source.wire msi msi j None Nothing Untouched x) (sym w ∙ sym g) ∙ step-nothing msi x idle
+child-kept false msi is was kept c c1 x idle e g w k none = ap (λ m. stepped m x.source.wire msi msi (nat_eq c1 DELEGATED) None Nothing Untouched x) (sym e) ∙ ap (λ j. stepped x.source.mode x.source.wire msi msi j None Nothing Untouched x) (sym w ∙ sym g) ∙ step-nothing msi x idle
 
 pub child_at_root_config : (i v : ℕ) (past : Past) (s : ℕ) → s < suc (sources_in past)
     → held (Written Root (SourceCfg i) v ∷ past) Child s ≡ granted_at i (delegates (root_sourcecfg v)) (is_msi past Child) s (held past Child s)

@@ -1,4 +1,5 @@
 ghost use Rattle.std.specs.Prelude.{◌≡◌, ◌<◌, ◌≤◌, [], ◌∷◌, length, Bool, true, false, IfOk, IfSome};
+ghost use Rattle.aia_regs.specs.declared.limits.TheConstants.{HARTS, SOURCES};
 ghost use Rattle.aia_regs.specs.DomainRegisters.{domain_register_of};
 ghost use Rattle.aia_model.specs.Act.{Past};
 ghost use Rattle.aia_model.specs.declared.domain_name.DomainName.TheVariants.{Root};
@@ -12,9 +13,9 @@ ghost use Rattle.aia_aplic.specs.Sending.{IsLeastOf, IsFirstSource, IsFirst, sen
 use crate::addresses::Addresses;
 use crate::sender::Waiting;
 use crate::side::Side;
-use aia_domain::delegates;
 use aia_model::Msi;
 use aia_regs::{DomainReg, domain_reg};
+use aia_source::delegates;
 use std::alloc::{AllocError, Global};
 use std::marker::Model;
 
@@ -41,8 +42,8 @@ impl Aplic {
     /// `domaincfg`.
     pub fn new(alloc: Global, harts: u32, sources: u32) -> Result<Aplic, AllocError>
         requires some { 1 ≤ sources }
-        requires few { sources ≤ 1023 }
-        requires harts { harts ≤ 4 }
+        requires few { sources ≤ SOURCES }
+        requires harts { harts ≤ HARTS }
         ensures new { IfOk result (IsNewAplic sources harts) }
         ensures stands { IfOk result (λ aplic. AplicStands aplic (Made harts sources ∷ [])) }
     {
@@ -58,7 +59,7 @@ impl Aplic {
     /// How many wired sources there are, up to 1023.
     pub fn sources(&self) -> u32
         ensures count { (past : Past) → AplicStands self.now past → result ≡ sources_in past }
-        ensures few { result ≤ 1023 }
+        ensures few { result ≤ SOURCES }
     {
         self.root.sources()
     }

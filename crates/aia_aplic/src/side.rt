@@ -5,6 +5,7 @@ ghost use Rattle.aia_domain.specs.Held.{EachSource, changed_at, with_deed, held_
 ghost use Rattle.aia_domain.specs.Domain.{with_sources, source_after, domain_after, is_ready};
 ghost use Rattle.aia_direct.specs.Control.{top_shown, claimed_top};
 ghost use Rattle.std.specs.Prelude.{Some, length, ◌≡◌, ◌<◌, ◌≤◌, ◌∷◌, ℕ, Bool, true, false, IfOk};
+ghost use Rattle.aia_regs.specs.declared.limits.TheConstants.{HARTS, SOURCES};
 ghost use Rattle.aia_source.specs.Registers.{delegates, root_sourcecfg};
 ghost use Rattle.aia_model.specs.declared.domain_name.DomainName.{DomainName};
 ghost use Rattle.aia_model.specs.Act.{Past};
@@ -45,8 +46,8 @@ impl Side {
         leaf: bool,
     ) -> Result<Side, AllocError>
         requires some { 1 ≤ sources }
-        requires few { sources ≤ 1023 }
-        requires harts { harts ≤ 4 }
+        requires few { sources ≤ SOURCES }
+        requires harts { harts ≤ HARTS }
         ensures { IfOk result (IsNewSide sources harts leaf) }
     {
         let domain = Domain::new(alloc, sources, harts, leaf)?;
@@ -56,7 +57,7 @@ impl Side {
 
     pub(crate) fn sources(&self) -> u32
         ensures count { (past : Past) (name : DomainName) → SideStands self.now past name → result ≡ sources_in past }
-        ensures few { result ≤ 1023 }
+        ensures few { result ≤ SOURCES }
     {
         self.domain.sources()
     }

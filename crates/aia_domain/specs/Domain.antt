@@ -3,7 +3,7 @@ use Rattle.std.specs.Prelude.{◌≡◌, ℕ, zero, suc, ◌+◌, ◌-◌, ◌*�
 use Rattle.aia_word.specs.Sets.{word_of}
 use Rattle.aia_regs.specs.declared.domain_registers.DomainReg.{DomainReg}
 use Rattle.aia_regs.specs.declared.domain_registers.DomainReg.TheVariants.{DomainCfg, SourceCfg, SetIp, InClrIp, SetIe, GenMsi, Target}
-use Rattle.aia_source.specs.Registers.{domaincfg_kept, enables, is_by_msi, touch, genmsi_kept, same_bool, one_at}
+use Rattle.aia_source.specs.Registers.{domaincfg_kept, domaincfg_read, enables, is_by_msi, touch, genmsi_kept, same_bool}
 use Rattle.aia_domain.specs.declared.entry.Look.TheVariants as looks
 use Rattle.aia_domain.specs.Held.{Held, new_held, changed_at, written_at, touched, switched, aimed, waits_of, sourcecfg_of, target_of, bit_at_source}
 
@@ -69,7 +69,7 @@ domain_after reg v d = d
 -- What a load of a register reads: 0 where none is there. The registers of the harts' delivery are not kept here.
 -- AIA 1.0, Advanced Platform-Level Interrupt Controller (APLIC), "Memory-mapped control region for an interrupt domain".
 abbrev pub domain_read : DomainState → DomainReg → ℕ
-domain_read d DomainCfg = 0x80000000 + one_at d.on 8 + one_at d.msi 2
+domain_read d DomainCfg = domaincfg_read d.on d.msi
 domain_read d (SourceCfg i) = sourcecfg_of d.leaf (slice_get d.sources i)
 domain_read d (SetIp k) = word_of (bit_at_source d.sources looks.Pending) (32 * k) 32
 domain_read d (InClrIp k) = word_of (bit_at_source d.sources looks.Input) (32 * k) 32

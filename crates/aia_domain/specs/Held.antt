@@ -4,6 +4,7 @@ use Rattle.aia_source.specs.declared.mode.Mode.{Mode}
 use Rattle.aia_source.specs.declared.mode.Mode.TheVariants.{Inactive}
 use Rattle.aia_source.specs.Source.{Source, Deed, new_source, done, is_active, rectified}
 use Rattle.aia_source.specs.Source.Deed.{Moved, Set, Cleared, Configured, Activated, Switched}
+use Rattle.aia_source.specs.declared.kept.TheConstants.{DELEGATED}
 use Rattle.aia_source.specs.Registers.{root_sourcecfg, child_sourcecfg, delegates, mode_of, mode_number, first_target, target_kept, same_bool, is_named, touch_where}
 use Rattle.aia_source.specs.declared.touch.Touch.{Touch}
 use Rattle.aia_source.specs.declared.touch.Touch.TheVariants.{SetPending, ClearPending, SetEnable, ClearEnable}
@@ -83,7 +84,7 @@ wired msi level x = record x { source = done msi Moved x.source.mode level x.sou
 -- Its sourcecfg: in the root domain one that delegates it, and else the mode's number.
 -- AIA 1.0, Advanced Platform-Level Interrupt Controller (APLIC).
 abbrev pub sourcecfg_shown : Bool → Held → ℕ
-sourcecfg_shown leaf x = if not leaf && x.delegated then 0x400 else mode_number x.source.mode
+sourcecfg_shown leaf x = if not leaf && x.delegated then DELEGATED else mode_number x.source.mode
 
 -- Its bit of setip, in_clrip and setie.
 -- AIA 1.0, Advanced Platform-Level Interrupt Controller (APLIC).

@@ -1,13 +1,13 @@
 ghost use Rattle.std.specs.Prelude.{◌≡◌, ◌≤◌, Bool, Some};
+ghost use Rattle.aia_regs.specs.declared.limits.TheConstants.{HARTS};
 ghost use Rattle.aia_source.specs.Source.{is_active};
 ghost use Rattle.aia_source.specs.Source.Deed.{Claimed, Forwarded};
 ghost use Rattle.aia_domain.specs.Held.{Held, new_held, with_deed, touched, configured, switched, aimed, sourcecfg_written, granted, wired, sourcecfg_shown, bit_shown, waits};
 
-use crate::kept::{
-    DELEGATED, child_sourcecfg, delegates, first_target, mode_number, mode_of, root_sourcecfg,
-    target_kept,
+use aia_source::{
+    DELEGATED, Mode, Touch, Wired, child_sourcecfg, delegates, first_target, mode_number, mode_of,
+    root_sourcecfg, target_kept,
 };
-use aia_source::{Mode, Touch, Wired};
 use std::marker::Model;
 
 /// Which bit of each source a register shows.
@@ -153,7 +153,7 @@ impl Entry {
 
     /// Its `target` is written.
     pub(crate) fn aim(&mut self, harts: u32, msi: bool, value: u32)
-        requires few { harts ≤ 4 }
+        requires few { harts ≤ HARTS }
         ensures { self.new ≡ aimed harts msi value self.old }
     {
         self.target = if self.is_active() {

@@ -7,6 +7,7 @@ use Rattle.aia_regs.specs.Fields.{field}
 use Rattle.aia_regs.specs.Operations.{is_one}
 use Rattle.aia_regs.specs.Word.{Word}
 use Rattle.aia_regs.specs.Word.Word.{Ask, Clear, Nothing}
+use Rattle.aia_source.specs.declared.kept.TheConstants.{IE, DM, D, DELEGATED, DOMAINCFG_TOP}
 use Rattle.aia_source.specs.declared.mode.Mode.{Mode}
 use Rattle.aia_source.specs.declared.mode.Mode.TheVariants.{Inactive, Detached, RisingEdge, FallingEdge, LevelHigh, LevelLow}
 use Rattle.aia_source.specs.declared.touch.Touch.{Touch}
@@ -14,19 +15,43 @@ use Rattle.aia_source.specs.declared.touch.Touch.TheVariants.{SetPending, ClearP
 use Rattle.aia_source.specs.Source.{Deed}
 use Rattle.aia_source.specs.Source.Deed.{Set, Cleared, Untouched}
 
+-- ---- bits and conditions
+
+-- Whether two are the same. Profile.
+abbrev pub same_bool : Bool → Bool → Bool
+same_bool true b = b
+same_bool false b = not b
+
+-- A number with a one at bit b, or with none. Profile.
+abbrev pub one_at : Bool → ℕ → ℕ
+one_at is b = if is then 2 ^ b else 0
+
+-- Whether a register's index is a source's number; 0 is none's. Profile: sources are numbered from 1.
+abbrev pub is_named : ℕ → ℕ → Bool
+is_named i s = nat_eq i s && nat_lt 0 s
+
 -- ---- domaincfg
 
--- What a write keeps: IE, bit 8, and DM, bit 2.
--- AIA 1.0, Advanced Platform-Level Interrupt Controller (APLIC). Profile: BE, bit 0, is read-only zero.
-abbrev pub domaincfg_kept : ℕ → ℕ
-domaincfg_kept v = bit_and v 0x104
+-- A domaincfg of IE and DM. What a write keeps: both, of the value.
+-- AIA 1.0, Advanced Platform-Level Interrupt Controller (APLIC). Profile: BE is read-only zero.
+abbrev pub domaincfg_with : Bool → Bool → ℕ
+domaincfg_with ie dm = one_at ie IE + one_at dm DM
 
--- Whether a domaincfg enables the domain's interrupts (IE), and whether it delivers them by MSIs (DM).
+abbrev pub domaincfg_kept : ℕ → ℕ
+domaincfg_kept v = domaincfg_with (is_one v IE) (is_one v DM)
+
+-- What domaincfg reads: 0x80 in bits 31:24, IE and DM.
+-- AIA 1.0, Advanced Platform-Level Interrupt Controller (APLIC).
+abbrev pub domaincfg_read : Bool → Bool → ℕ
+domaincfg_read ie dm = DOMAINCFG_TOP + domaincfg_with ie dm
+
+-- Whether a domaincfg enables the domain's interrupts (IE), and whether it delivers them by MSIs
+-- (DM).
 abbrev pub enables : ℕ → Bool
-enables cfg = is_one cfg 8
+enables cfg = is_one cfg IE
 
 abbrev pub is_by_msi : ℕ → Bool
-is_by_msi cfg = is_one cfg 2
+is_by_msi cfg = is_one cfg DM
 
 -- ---- sourcecfg
 
@@ -35,20 +60,20 @@ is_by_msi cfg = is_one cfg 2
 abbrev pub legal_mode : ℕ → ℕ
 legal_mode sm = if nat_eq sm 2 || nat_eq sm 3 then 0 else sm
 
--- What a write keeps in the root domain: with D, bit 10, the source is delegated to the child domain that bits 9:0 name; without, SM,
--- bits 2:0, is its mode.
+-- What a write keeps in the root domain: with D, the source is delegated to the child domain that
+-- bits 9:0 name; without, SM, bits 2:0, is its mode.
 -- AIA 1.0, Advanced Platform-Level Interrupt Controller (APLIC). Profile: there is one child, with the index 0; another index makes the register 0.
 abbrev pub root_sourcecfg : ℕ → ℕ
-root_sourcecfg v = if is_one v 10 then (if nat_eq (field v 9 0) 0 then 0x400 else 0) else legal_mode (field v 2 0)
+root_sourcecfg v = if is_one v D then (if nat_eq (field v 9 0) 0 then DELEGATED else 0) else legal_mode (field v 2 0)
 
 -- What it keeps in the child domain, which has no child: D makes the register 0.
 -- AIA 1.0, Advanced Platform-Level Interrupt Controller (APLIC).
 abbrev pub child_sourcecfg : ℕ → ℕ
-child_sourcecfg v = if is_one v 10 then 0 else legal_mode (field v 2 0)
+child_sourcecfg v = if is_one v D then 0 else legal_mode (field v 2 0)
 
 -- Whether a sourcecfg of the root domain delegates the source.
 abbrev pub delegates : ℕ → Bool
-delegates cfg = nat_eq cfg 0x400
+delegates cfg = nat_eq cfg DELEGATED
 
 -- The mode that a sourcecfg gives.
 -- AIA 1.0, Advanced Platform-Level Interrupt Controller (APLIC).
@@ -136,18 +161,3 @@ target_kept harts msi v = hart_kept harts v + (if msi then field v 10 0 else leg
 -- AIA 1.0, Advanced Platform-Level Interrupt Controller (APLIC). Profile: the MSI is sent at once.
 abbrev pub genmsi_kept : ℕ → ℕ → ℕ
 genmsi_kept harts v = hart_kept harts v + field v 10 0
-
--- ---- bits and conditions
-
--- Whether two are the same. Profile.
-abbrev pub same_bool : Bool → Bool → Bool
-same_bool true b = b
-same_bool false b = not b
-
--- A number with a one at bit b, or with none. Profile.
-abbrev pub one_at : Bool → ℕ → ℕ
-one_at is b = if is then 2 ^ b else 0
-
--- Whether a register's index is a source's number; 0 is none's. Profile: sources are numbered from 1.
-abbrev pub is_named : ℕ → ℕ → Bool
-is_named i s = nat_eq i s && nat_lt 0 s
