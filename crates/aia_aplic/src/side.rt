@@ -13,12 +13,14 @@ ghost use Rattle.aia_model.specs.declared.domain_name.DomainName.TheVariants.{Ro
 ghost use Rattle.aia_model.specs.declared.sender.Sender.TheVariants.{ByGenMsi, BySource};
 ghost use Rattle.aia_model.specs.Act.Act.{Driven, Written, Loaded, Sent};
 ghost use Rattle.aia_model.specs.SourceOf.{harts_in, sources_in, target, genmsi_of, own_read, is_signalled};
+ghost use Rattle.aia_model.specs.Sent.{domain_of_sender, register_of_sender};
 ghost use Rattle.aia_aplic.specs.Stands.{SideStands, IsNewSide};
-ghost use Rattle.aia_aplic.specs.Sending.{IsLeastOf, waiting_in};
+ghost use Rattle.aia_aplic.specs.Sending.{IsLeastOf, waits_in, waiting_in};
 
 use crate::controls::{claim, load_control, new_controls, signal_of, store_control, topi_of};
 use aia_direct::Idc;
 use aia_domain::Domain;
+use aia_model::Sender;
 use aia_regs::DomainReg;
 use std::alloc::{AllocError, Global};
 use std::marker::Model;
@@ -169,8 +171,21 @@ impl Side {
         self.domain.ready().next()
     }
 
+    /// A sender of this domain sends its MSI: what that is made of.
+    pub(crate) fn send(&mut self, sender: Sender) -> u32
+        requires { waits_in self.old.domain sender ≡ true }
+        ensures value { (past : Past) → SideStands self.old past (domain_of_sender sender) → result ≡ register_of_sender past sender }
+        ensures stands { (past : Past) → SideStands self.old past (domain_of_sender sender) → SideStands self.new (Sent sender ∷ past) (domain_of_sender sender) }
+        ensures fewer { waiting_in self.new < waiting_in self.old }
+    {
+        match sender {
+            Sender::ByGenMsi(_) => self.send_genmsi(),
+            Sender::BySource(_, s) => self.forward(s),
+        }
+    }
+
     /// The MSI that `genmsi` asked for is sent: what `genmsi` keeps.
-    pub(crate) fn send_genmsi(&mut self) -> u32
+    fn send_genmsi(&mut self) -> u32
         requires { self.old.domain.genmsi_waits ≡ true }
         ensures value { (past : Past) (name : DomainName) → SideStands self.old past name → result ≡ genmsi_of past name }
         ensures stands { (past : Past) (name : DomainName) → SideStands self.old past name → SideStands self.new (Sent (ByGenMsi name) ∷ past) name }
@@ -192,7 +207,7 @@ impl Side {
     }
 
     /// A source is forwarded: its target.
-    pub(crate) fn forward(&mut self, s: u32) -> u32
+    fn forward(&mut self, s: u32) -> u32
         requires { is_ready self.old.domain s ≡ true }
         ensures value { (past : Past) (name : DomainName) → SideStands self.old past name → result ≡ target past name s }
         ensures stands { (past : Past) (name : DomainName) → SideStands self.old past name → SideStands self.new (Sent (BySource name s) ∷ past) name }

@@ -10,7 +10,8 @@ use Rattle.aia_model.specs.Act.{Act, Past, act_of}
 use Rattle.aia_model.specs.declared.domain_name.DomainName.TheVariants.{Root, Child}
 use Rattle.aia_model.specs.declared.sender.Sender.TheVariants.{ByGenMsi, BySource}
 use Rattle.aia_model.specs.Act.Act.{Sent}
-use Rattle.aia_model.specs.AddressOf.{AddressRegisters, address_by, addresses_of}
+use Rattle.aia_msiaddr.specs.Registers.{AddressRegisters}
+use Rattle.aia_model.specs.AddressOf.{address_by, addresses_of}
 use Rattle.aia_model.specs.SourceOf.{sources_in, is_on, is_msi, enabled, target, pending, genmsi_of, genmsi_waits}
 use Rattle.aia_model.specs.declared.line.Line.{Line}
 use Rattle.aia_model.specs.Event.{History}
