@@ -1,13 +1,11 @@
 //! What sends an MSI, and the MSI that it sends.
 
-ghost use Rattle.std.specs.Prelude.{◌≡◌, ◌^◌, ◌<◌};
-ghost use Rattle.aia_regs.specs.Fields.{field};
-ghost use Rattle.aia_source.specs.Top.{hart_of};
+ghost use Rattle.std.specs.Prelude.{◌≡◌};
 ghost use Rattle.aia_model.specs.Sent.{domain_of_sender, msi_by};
 
 use aia_model::{DomainName, Msi, Sender};
 use aia_msiaddr::Addresses;
-use aia_regs::bits;
+use aia_source::{hart_of, identity_of};
 
 /// The guest index of the child domain's MSIs (our profile).
 const NO_GUEST: u32 = 0;
@@ -35,17 +33,4 @@ pub(crate) fn msi_by(addresses: &Addresses, name: DomainName, register: u32) -> 
         address,
         value: identity_of(register),
     }
-}
-
-fn hart_of(register: u32) -> u32
-    ensures index { result ≡ hart_of register }
-    ensures fits { result < 2 ^ 14 }
-{
-    bits(u64::from(register), 31, 18) as u32
-}
-
-fn identity_of(register: u32) -> u32
-    ensures { result ≡ field register 10 0 }
-{
-    bits(u64::from(register), 10, 0) as u32
 }

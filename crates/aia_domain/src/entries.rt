@@ -2,7 +2,6 @@
 
 ghost use Rattle.std.specs.Prelude.{◌≡◌, ◌*◌, ◌≤◌, Bool, nat_eq, slice_get, length, All, IfOk, if◌then◌else◌};
 ghost use Rattle.aia_word.specs.Sets.{word_of};
-ghost use Rattle.aia_regs.specs.declared.limits.TheConstants.{HARTS};
 ghost use Rattle.aia_source.specs.Source.Deed.{Claimed, Forwarded};
 ghost use Rattle.aia_source.specs.Registers.{in_word};
 ghost use Rattle.aia_domain.specs.Held.{EachSource, new_held, changed_at, touched, touched_where, written_at, all_switched, switched, aimed, sourcecfg_written, granted_at, wired, with_deed, sourcecfg_of, target_of, bit_at_source, waits_of};
@@ -62,7 +61,6 @@ pub(crate) fn configure_one(entries: &mut [Entry], s: u32, leaf: bool, msi: bool
 
 /// The `target` of a source is written, where it is there.
 pub(crate) fn aim_one(entries: &mut [Entry], s: u32, harts: u32, msi: bool, value: u32)
-    requires few { harts ≤ HARTS }
     ensures { EachSource entries.old entries.new (changed_at s (aimed harts msi value)) }
 {
     if (s as usize) < entries.len() {

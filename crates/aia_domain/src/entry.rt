@@ -1,5 +1,4 @@
 ghost use Rattle.std.specs.Prelude.{◌≡◌, ◌≤◌, Bool, Some};
-ghost use Rattle.aia_regs.specs.declared.limits.TheConstants.{HARTS};
 ghost use Rattle.aia_source.specs.Source.{is_active};
 ghost use Rattle.aia_source.specs.Source.Deed.{Claimed, Forwarded};
 ghost use Rattle.aia_domain.specs.Held.{Held, new_held, with_deed, touched, configured, switched, aimed, sourcecfg_written, granted, wired, sourcecfg_shown, bit_shown, waits};
@@ -153,7 +152,6 @@ impl Entry {
 
     /// Its `target` is written.
     pub(crate) fn aim(&mut self, harts: u32, msi: bool, value: u32)
-        requires few { harts ≤ HARTS }
         ensures { self.new ≡ aimed harts msi value self.old }
     {
         self.target = if self.is_active() {

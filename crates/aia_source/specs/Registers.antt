@@ -3,7 +3,7 @@ use Rattle.std.specs.Prelude.{ℕ, ◌+◌, ◌*◌, ◌/◌, ◌%◌, ◌^◌, 
 use Rattle.std.specs.Int.{swap_bytes, w32}
 use Rattle.aia_regs.specs.declared.domain_registers.DomainReg.{DomainReg}
 use Rattle.aia_regs.specs.declared.domain_registers.DomainReg.TheVariants.{SetIp, SetIpNum, InClrIp, ClrIpNum, SetIe, SetIeNum, ClrIe, ClrIeNum, SetIpNumLe, SetIpNumBe}
-use Rattle.aia_regs.specs.Fields.{field}
+use Rattle.aia_regs.specs.Fields.{field, with_field}
 use Rattle.aia_regs.specs.Operations.{is_one}
 use Rattle.aia_regs.specs.Word.{Word}
 use Rattle.aia_regs.specs.Word.Word.{Ask, Clear, Nothing}
@@ -12,6 +12,7 @@ use Rattle.aia_source.specs.declared.mode.Mode.{Mode}
 use Rattle.aia_source.specs.declared.mode.Mode.TheVariants.{Inactive, Detached, RisingEdge, FallingEdge, LevelHigh, LevelLow}
 use Rattle.aia_source.specs.declared.touch.Touch.{Touch}
 use Rattle.aia_source.specs.declared.touch.Touch.TheVariants.{SetPending, ClearPending, SetEnable, ClearEnable}
+use Rattle.aia_source.specs.Top.{hart_of, priority_of, identity_of}
 use Rattle.aia_source.specs.Source.{Deed}
 use Rattle.aia_source.specs.Source.Deed.{Set, Cleared, Untouched}
 
@@ -148,16 +149,20 @@ legal_hart harts x = if nat_lt x harts then x else 0
 abbrev pub legal_priority : ℕ → ℕ
 legal_priority x = if nat_eq x 0 then 1 else x
 
--- What a write keeps in bits 31:18, the hart index.
+-- What a write keeps in bits 31:18, the hart index, the others being 0.
 abbrev pub hart_kept : ℕ → ℕ → ℕ
-hart_kept harts v = legal_hart harts (field v 31 18) * 2 ^ 18
+hart_kept harts v = with_field 0 31 18 (legal_hart harts (hart_of v))
 
--- What a write of a source's target keeps: the hart index, and the priority in bits 7:0, or by MSIs the identity in bits 10:0.
--- AIA 1.0, Advanced Platform-Level Interrupt Controller (APLIC). Profile: by MSIs the guest index, bits 17:12, is read-only zero.
-abbrev pub target_kept : ℕ → Bool → ℕ → ℕ
-target_kept harts msi v = hart_kept harts v + (if msi then field v 10 0 else legal_priority (field v 7 0))
-
--- What a write of genmsi keeps where the domain delivers by MSIs: the hart index and the identity; Busy, bit 12, is 0.
+-- What a write of genmsi keeps where the domain delivers by MSIs: the hart index, and the identity
+-- in bits 10:0; Busy, bit 12, is 0.
 -- AIA 1.0, Advanced Platform-Level Interrupt Controller (APLIC). Profile: the MSI is sent at once.
 abbrev pub genmsi_kept : ℕ → ℕ → ℕ
-genmsi_kept harts v = hart_kept harts v + field v 10 0
+genmsi_kept harts v = with_field (hart_kept harts v) 10 0 (identity_of v)
+
+-- What a write of a source's target keeps: by MSIs what genmsi keeps, and else the hart index and,
+-- in bits 7:0, the priority.
+-- AIA 1.0, Advanced Platform-Level Interrupt Controller (APLIC). Profile: by MSIs the guest index,
+-- bits 17:12, is read-only zero.
+abbrev pub target_kept : ℕ → Bool → ℕ → ℕ
+target_kept harts msi v =
+    if msi then genmsi_kept harts v else with_field (hart_kept harts v) 7 0 (legal_priority (priority_of v))

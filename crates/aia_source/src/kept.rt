@@ -1,9 +1,9 @@
 //! What a write of a register keeps.
 
-ghost use Rattle.std.specs.Prelude.{◌≡◌, ◌*◌, ◌^◌, ◌<◌, ◌≤◌};
-ghost use Rattle.aia_regs.specs.declared.limits.TheConstants.{HARTS};
+ghost use Rattle.std.specs.Prelude.{◌≡◌, ◌^◌, ◌<◌};
 ghost use Rattle.aia_regs.specs.Fields.{field};
 ghost use Rattle.aia_source.specs.Registers.{domaincfg_with, domaincfg_kept, domaincfg_read, enables, is_by_msi, root_sourcecfg, child_sourcecfg, delegates, legal_mode, legal_priority, mode_of, mode_number, first_target, hart_kept, target_kept, genmsi_kept};
+ghost use Rattle.aia_source.specs.Top.{hart_of, priority_of, identity_of};
 
 use crate::mode::Mode;
 use aia_regs::{bit, bits, put_bits};
@@ -138,47 +138,67 @@ pub fn first_target(msi: bool) -> u32
     if msi { 0 } else { 1 }
 }
 
+/// Gives the hart index of a `target` or a `genmsi`.
+pub fn hart_of(register: u32) -> u32
+    ensures index { result ≡ hart_of register }
+    ensures fits { result < 2 ^ 14 }
+{
+    bits(u64::from(register), 31, 18) as u32
+}
+
+/// Gives the priority of a `target`.
+pub fn priority_of(register: u32) -> u32
+    ensures value { result ≡ priority_of register }
+    ensures fits { result < 2 ^ 8 }
+{
+    bits(u64::from(register), 7, 0) as u32
+}
+
+/// Gives the identity of a `target` or a `genmsi`.
+pub fn identity_of(register: u32) -> u32
+    ensures value { result ≡ identity_of register }
+    ensures fits { result < 2 ^ 11 }
+{
+    bits(u64::from(register), 10, 0) as u32
+}
+
 /// Gives what a write of `target` keeps, of so many harts.
 pub fn target_kept(harts: u32, msi: bool, value: u32) -> u32
-    requires few { harts ≤ HARTS }
     ensures { result ≡ target_kept harts msi value }
 {
-    let low = if msi {
-        bits(u64::from(value), 10, 0)
-    } else {
-        legal_priority(value)
-    };
-    hart_kept(harts, value) + low as u32
+    if msi {
+        return genmsi_kept(harts, value);
+    }
+    let priority = legal_priority(priority_of(value));
+    put_bits(hart_kept(harts, value), 7, 0, u64::from(priority)) as u32
 }
 
 /// Gives what a write of `genmsi` keeps, of so many harts.
 pub fn genmsi_kept(harts: u32, value: u32) -> u32
-    requires few { harts ≤ HARTS }
     ensures { result ≡ genmsi_kept harts value }
 {
-    hart_kept(harts, value) + bits(u64::from(value), 10, 0) as u32
+    put_bits(hart_kept(harts, value), 10, 0, u64::from(identity_of(value))) as u32
 }
 
 /// The hart index of a value, in its place, of so many harts: one that isn't there becomes 0.
-fn hart_kept(harts: u32, value: u32) -> u32
-    requires few { harts ≤ HARTS }
+fn hart_kept(harts: u32, value: u32) -> u64
     ensures kept { result ≡ hart_kept harts value }
-    ensures low { result ≤ 3 * 2 ^ 18 }
+    ensures word { result < 2 ^ 32 }
 {
-    let hart = bits(u64::from(value), 31, 18);
-    if hart < u64::from(harts) {
-        put_bits(0, 31, 18, hart) as u32
+    let hart = hart_of(value);
+    if hart < harts {
+        put_bits(0, 31, 18, u64::from(hart))
     } else {
         0
     }
 }
 
-/// The priority of a value: 0 becomes 1.
-fn legal_priority(value: u32) -> u64
-    ensures kept { result ≡ legal_priority (field value 7 0) }
+fn legal_priority(priority: u32) -> u32
+    requires { priority < 2 ^ 8 }
+    ensures kept { result ≡ legal_priority priority }
     ensures fits { result < 2 ^ 8 }
 {
-    match bits(u64::from(value), 7, 0) {
+    match priority {
         0 => 1,
         priority => priority,
     }

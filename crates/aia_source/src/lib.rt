@@ -11,7 +11,8 @@ mod wired;
 
 pub use kept::{
     DELEGATED, child_sourcecfg, delegates, domaincfg_kept, domaincfg_read, enables, first_target,
-    genmsi_kept, is_by_msi, mode_number, mode_of, root_sourcecfg, target_kept,
+    genmsi_kept, hart_of, identity_of, is_by_msi, mode_number, mode_of, priority_of,
+    root_sourcecfg, target_kept,
 };
 pub use mode::Mode;
 pub use touch::Touch;
