@@ -12,9 +12,7 @@ use crate::entries::{
 use crate::entry::{Entry, Look};
 use crate::ready::Ready;
 use aia_regs::{DomainReg, swap32};
-use aia_source::{
-    Touch, Wired, domaincfg_kept, domaincfg_read, enables, genmsi_kept, is_by_msi,
-};
+use aia_source::{Touch, Wired, domaincfg_kept, domaincfg_read, enables, genmsi_kept, is_by_msi};
 use std::alloc::{AllocError, Global};
 use std::marker::Model;
 

@@ -177,7 +177,12 @@ pub fn target_kept(harts: u32, msi: bool, value: u32) -> u32
 pub fn genmsi_kept(harts: u32, value: u32) -> u32
     ensures { result ≡ genmsi_kept harts value }
 {
-    put_bits(hart_kept(harts, value), 10, 0, u64::from(identity_of(value))) as u32
+    put_bits(
+        hart_kept(harts, value),
+        10,
+        0,
+        u64::from(identity_of(value)),
+    ) as u32
 }
 
 /// The hart index of a value, in its place, of so many harts: one that isn't there becomes 0.
