@@ -7,7 +7,8 @@ use Rattle.aia_model.specs.declared.sender.Sender.{Sender}
 use Rattle.aia_model.specs.Act.{Act, Past}
 use Rattle.aia_model.specs.declared.domain_name.DomainName.TheVariants.{Root, Child}
 use Rattle.aia_model.specs.Act.Act.{Made, Driven, Written, Loaded, Sent}
-use Rattle.aia_model.specs.AddressOf.{new_addresses, are_locked, address_written, addresses_of}
+use Rattle.aia_msiaddr.specs.Registers.{new_addresses, are_locked, address_written}
+use Rattle.aia_model.specs.AddressOf.{addresses_of}
 
 pub addresses_made : (h n : ℕ) → new_addresses ≡ addresses_of (Made h n ∷ [])
 unfolding addresses_of

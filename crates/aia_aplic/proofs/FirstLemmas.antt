@@ -10,12 +10,11 @@ use Rattle.aia_domain.proofs.ReadyLemmas.{from_members, from_each, from_rising}
 use Rattle.aia_model.specs.declared.domain_name.DomainName.{DomainName}
 use Rattle.aia_model.specs.Act.{Past}
 use Rattle.aia_model.specs.declared.domain_name.DomainName.TheVariants.{Root, Child}
-use Rattle.aia_model.specs.declared.sender.Sender.TheVariants.{ByGenMsi}
+use Rattle.aia_model.specs.declared.sender.Sender.{Sender}
+use Rattle.aia_model.specs.declared.sender.Sender.TheVariants.{ByGenMsi, BySource}
 use Rattle.aia_model.specs.SourceOf.{sources_in, is_on, is_msi, enabled, pending, genmsi_waits}
 use Rattle.aia_model.specs.Sent.{is_ready, first_if, ready_sources, senders}
 use Rattle.aia_aplic.specs.Stands.{held, DomainStands, AplicState, AplicStands}
-use Rattle.aia_aplic.specs.declared.sender.Waiting.{Waiting}
-use Rattle.aia_aplic.specs.declared.sender.Waiting.TheVariants.{RootGenMsi, ChildGenMsi, RootSource, ChildSource}
 use Rattle.aia_aplic.specs.Sending.{IsLeastOf, IsFirstSource, IsFirst}
 use Rattle.aia_aplic.proofs.Steps.{held-idle}
 use Rattle.aia_aplic.proofs.Reading.{mode-zero}
@@ -100,19 +99,19 @@ none_by_mode d off s = at d.msi d.on off
 
 -- ---- what waits first
 
-at_genmsi : (past : Past) → genmsi_waits past Root ≡ true → IsFirst (Some RootGenMsi) past
+at_genmsi : (past : Past) → genmsi_waits past Root ≡ true → IsFirst (Some (ByGenMsi Root)) past
 at_genmsi past busy = (first_if (genmsi_waits past Child) (ByGenMsi Child) (ready_sources (is_ready past) 1 (sources_in past)), ap (λ b. first_if b (ByGenMsi Root) (first_if (genmsi_waits past Child) (ByGenMsi Child) (ready_sources (is_ready past) 1 (sources_in past)))) busy)
 
-at_child_genmsi : (past : Past) → genmsi_waits past Root ≡ false → genmsi_waits past Child ≡ true → IsFirst (Some ChildGenMsi) past
+at_child_genmsi : (past : Past) → genmsi_waits past Root ≡ false → genmsi_waits past Child ≡ true → IsFirst (Some (ByGenMsi Child)) past
 at_child_genmsi past idle busy = (
   ready_sources (is_ready past) 1 (sources_in past),
   ap (λ b. first_if b (ByGenMsi Root) (first_if (genmsi_waits past Child) (ByGenMsi Child) (ready_sources (is_ready past) 1 (sources_in past)))) idle ∙ ap (λ b. first_if b (ByGenMsi Child) (ready_sources (is_ready past) 1 (sources_in past))) busy,
 )
 
-pub root_genmsi_first : (a : AplicState) (past : Past) → a.root.domain.genmsi_waits ≡ true → AplicStands a past → IsFirst (Some RootGenMsi) past
+pub root_genmsi_first : (a : AplicState) (past : Past) → a.root.domain.genmsi_waits ≡ true → AplicStands a past → IsFirst (Some (ByGenMsi Root)) past
 root_genmsi_first a past busy stands = at_genmsi past (sym stands.root.domain.genmsi_waits ∙ busy)
 
-pub child_genmsi_first : (a : AplicState) (past : Past) → a.root.domain.genmsi_waits ≡ false → a.child.domain.genmsi_waits ≡ true → AplicStands a past → IsFirst (Some ChildGenMsi) past
+pub child_genmsi_first : (a : AplicState) (past : Past) → a.root.domain.genmsi_waits ≡ false → a.child.domain.genmsi_waits ≡ true → AplicStands a past → IsFirst (Some (ByGenMsi Child)) past
 child_genmsi_first a past idle busy stands = at_child_genmsi past (sym stands.root.domain.genmsi_waits ∙ idle) (sym stands.child.domain.genmsi_waits ∙ busy)
 
 -- no genmsi waits
@@ -120,7 +119,7 @@ sources_alone : (past : Past) → genmsi_waits past Root ≡ false → genmsi_wa
 sources_alone past idle quiet =
     ap (λ b. first_if b (ByGenMsi Root) (first_if (genmsi_waits past Child) (ByGenMsi Child) (ready_sources (is_ready past) 1 (sources_in past)))) idle ∙ ap (λ b. first_if b (ByGenMsi Child) (ready_sources (is_ready past) 1 (sources_in past))) quiet
 
-pub source_first : (a : AplicState) (past : Past) (w : Option Waiting) → a.root.domain.genmsi_waits ≡ false → a.child.domain.genmsi_waits ≡ false → IsFirstSource (kept.is_ready a.root.domain) (kept.is_ready a.child.domain) w → AplicStands a past → IsFirst w past
+pub source_first : (a : AplicState) (past : Past) (w : Option Sender) → a.root.domain.genmsi_waits ≡ false → a.child.domain.genmsi_waits ≡ false → IsFirstSource (kept.is_ready a.root.domain) (kept.is_ready a.child.domain) w → AplicStands a past → IsFirst w past
 source_first a past None idle quiet first stands =
     sources_alone past (sym stands.root.domain.genmsi_waits ∙ idle) (sym stands.child.domain.genmsi_waits ∙ quiet)
     ∙ no_ready (is_ready past) 1 (sources_in past) (λ d s low high. none d s (omega arith))
@@ -128,7 +127,7 @@ source_first a past None idle quiet first stands =
     none : (d : DomainName) (s : ℕ) → s < suc (sources_in past) → is_ready past d s ≡ false
     none Root s low = sym (ready_is a.root.domain past Root s stands.root.domain low) ∙ first.0 s
     none Child s low = sym (ready_is a.child.domain past Child s stands.child.domain low) ∙ first.1 s
-source_first a past (Some (RootSource s)) idle quiet first stands =
+source_first a past (Some (BySource Root s)) idle quiet first stands =
     let low : s < suc (sources_in past) = subst (λ n. s < n) stands.root.domain.count (ready_within a.root.domain s first.0) in
     let here : is_ready past Root s ≡ true = sym (ready_is a.root.domain past Root s stands.root.domain low) ∙ first.0 in
     let found = root_first (is_ready past) 1 (sources_in past) s (not_zero past Root s here) (omega arith) here (λ d t below. none d t below low) in
@@ -137,7 +136,7 @@ source_first a past (Some (RootSource s)) idle quiet first stands =
     none : (d : DomainName) (t : ℕ) → t < s → s < suc (sources_in past) → is_ready past d t ≡ false
     none Root t below low = sym (ready_is a.root.domain past Root t stands.root.domain (omega arith)) ∙ first.1 t below
     none Child t below low = sym (ready_is a.child.domain past Child t stands.child.domain (omega arith)) ∙ first.2 t below
-source_first a past (Some (ChildSource s)) idle quiet first stands =
+source_first a past (Some (BySource Child s)) idle quiet first stands =
     let low : s < suc (sources_in past) = subst (λ n. s < n) stands.child.domain.count (ready_within a.child.domain s first.0) in
     let here : is_ready past Child s ≡ true = sym (ready_is a.child.domain past Child s stands.child.domain low) ∙ first.0 in
     let other : is_ready past Root s ≡ false = sym (ready_is a.root.domain past Root s stands.root.domain low) ∙ first.1 s (omega arith) in
@@ -147,5 +146,4 @@ source_first a past (Some (ChildSource s)) idle quiet first stands =
     none : (d : DomainName) (t : ℕ) → t < s → s < suc (sources_in past) → is_ready past d t ≡ false
     none Root t below low = sym (ready_is a.root.domain past Root t stands.root.domain (omega arith)) ∙ first.1 t (omega arith)
     none Child t below low = sym (ready_is a.child.domain past Child t stands.child.domain (omega arith)) ∙ first.2 t below
-source_first a past (Some RootGenMsi) idle quiet first stands = absurd first
-source_first a past (Some ChildGenMsi) idle quiet first stands = absurd first
+source_first a past (Some (ByGenMsi d)) idle quiet first stands = absurd first

@@ -1,5 +1,5 @@
 -- A domain that stands for the past reads what the past says.
-use Rattle.std.proofs.Common.{◌≡◌, ◌≢◌, ℕ, zero, suc, ◌+◌, ◌*◌, ◌<◌, ◌≤◌, Bool, true, false, not, cond, ◌&&◌, nat_eq, [], ◌∷◌, length, slice_get, get_or, Some, None, unwrap_or, ◌⊎◌, inl, inr, refl, sym, ap, subst, ◌∙◌, arith}
+use Rattle.std.proofs.Common.{◌≡◌, ◌≢◌, ℕ, zero, suc, ◌*◌, ◌<◌, ◌≤◌, Bool, true, false, not, cond, ◌&&◌, nat_eq, [], ◌∷◌, length, slice_get, get_or, Some, None, unwrap_or, ◌⊎◌, inl, inr, refl, sym, ap, subst, ◌∙◌, arith}
 use Rattle.std.proofs.lemmas.Bool.{cases_eq, cases_lt, eq-eqb, ne_eqb, cond-true, cond-false}
 use Rattle.std.proofs.lemmas.Bool.Decides.{nat_tests}
 use Rattle.std.proofs.lemmas.Option.{slice_get_past, slice_get-get_or}
@@ -12,7 +12,8 @@ use Rattle.aia_regs.specs.Operations.{is_one}
 use Rattle.aia_source.specs.declared.mode.Mode.{Mode}
 use Rattle.aia_source.specs.declared.mode.Mode.TheVariants.{Inactive, Detached, RisingEdge, FallingEdge, LevelHigh, LevelLow}
 use Rattle.aia_source.specs.Source.{is_active, rectified}
-use Rattle.aia_source.specs.Registers.{legal_mode, root_sourcecfg, child_sourcecfg, delegates, mode_of, mode_number, one_at}
+use Rattle.aia_source.specs.declared.kept.TheConstants.{DELEGATED}
+use Rattle.aia_source.specs.Registers.{legal_mode, root_sourcecfg, child_sourcecfg, delegates, mode_of, mode_number, domaincfg_read}
 use Rattle.aia_domain.specs.declared.entry.Look.{Look}
 use Rattle.aia_domain.specs.declared.entry.Look.TheVariants as looks
 use Rattle.aia_domain.specs.Held.{Held, sourcecfg_shown, bit_shown, bit_of, bit_at_source, target_of}
@@ -105,7 +106,7 @@ word-stands look d past name k stands = ap (λ f. word_of f (32 * k) 32) (same_s
 -- ---- sourcecfg: a kept value is one that its mode gives again
 
 abbrev pub IsLegal : ℕ → Type 0
-IsLegal c = mode_number (mode_of c) ≡ (cond (nat_eq c 0x400) 0 c)
+IsLegal c = mode_number (mode_of c) ≡ (cond (nat_eq c DELEGATED) 0 c)
 
 legal_low : (sm : ℕ) → sm < 8 → IsLegal (legal_mode sm)
 legal_low zero h = refl
@@ -121,7 +122,7 @@ legal_low (suc (suc (suc (suc (suc (suc (suc (suc sm)))))))) h = absurd (omega a
 legal_root : (v : ℕ) → IsLegal (root_sourcecfg v)
 legal_root v = at (is_one v 10) (nat_eq (field v 9 0) 0)
   where
-    at : (a b : Bool) → IsLegal (cond a (cond b 0x400 0) (legal_mode (field v 2 0)))
+    at : (a b : Bool) → IsLegal (cond a (cond b DELEGATED 0) (legal_mode (field v 2 0)))
     at true true = refl
     at true false = refl
     at false b = legal_low (field v 2 0) (omega arith)
@@ -169,10 +170,10 @@ child-legal (Written Child (SourceCfg i) v ∷ past) s = at (is_register_of past
     at false before = before
 child-legal (a ∷ past) s = child-legal past s
 
-root_shows : (c : ℕ) → IsLegal c → cond (true && nat_eq c 0x400) 0x400 (mode_number (mode_of c)) ≡ c
-root_shows c legal = elim (cases_eq c 0x400) [
-  | inl e ↦ cond-true _ _ _ (eq-eqb c 0x400 e) ∙ sym e
-  | inr ne ↦ cond-false _ _ _ (ne_eqb c 0x400 ne) ∙ legal ∙ cond-false _ _ _ (ne_eqb c 0x400 ne)
+root_shows : (c : ℕ) → IsLegal c → cond (true && nat_eq c DELEGATED) DELEGATED (mode_number (mode_of c)) ≡ c
+root_shows c legal = elim (cases_eq c DELEGATED) [
+  | inl e ↦ cond-true _ _ _ (eq-eqb c DELEGATED e) ∙ sym e
+  | inr ne ↦ cond-false _ _ _ (ne_eqb c DELEGATED ne) ∙ legal ∙ cond-false _ _ _ (ne_eqb c DELEGATED ne)
 ]
 
 config_shown : (past : Past) (name : DomainName) (s : ℕ) → sourcecfg_shown (is_domain name Child) (held past name s) ≡ sourcecfg_of past name s
@@ -191,7 +192,7 @@ config_zero past Root = root-zero past
 config_zero past Child = child-none past 0 (ap delegates (root-zero past))
 
 pub read-stands : (reg : DomainReg) (d : DomainState) (past : Past) (name : DomainName) → is_control reg ≡ false → DomainStands d past name → domain_read d reg ≡ own_read past name reg
-read-stands DomainCfg d past name plain stands = ap (λ (b : Bool). 0x80000000 + one_at b 8 + one_at d.msi 2) stands.on ∙ ap (λ (b : Bool). 0x80000000 + one_at (is_on past name) 8 + one_at b 2) stands.msi
+read-stands DomainCfg d past name plain stands = ap (λ (b : Bool). domaincfg_read b d.msi) stands.on ∙ ap (λ (b : Bool). domaincfg_read (is_on past name) b) stands.msi
 read-stands (SetIp k) d past name plain stands = word-stands looks.Pending d past name k stands
 read-stands (InClrIp k) d past name plain stands = word-stands looks.Input d past name k stands
 read-stands (SetIe k) d past name plain stands = word-stands looks.Enable d past name k stands

@@ -1,5 +1,5 @@
 -- A write makes no rise.
-use Rattle.std.proofs.Common.{◌≡◌, ℕ, Option, Bool, true, false, cond, ◌&&◌, ◌∷◌, unwrap_or, refl, ap}
+use Rattle.std.proofs.Common.{◌≡◌, ◌≢◌, ℕ, Option, Some, None, Bool, true, false, cond, ◌&&◌, ◌∷◌, unwrap_or, refl, ap}
 use Rattle.aia_regs.specs.declared.domain_registers.DomainReg.{DomainReg}
 use Rattle.aia_regs.specs.declared.domain_registers.DomainReg.TheVariants.{DomainCfg, SourceCfg}
 use Rattle.aia_regs.specs.Word.{settle}
@@ -7,7 +7,9 @@ use Rattle.aia_source.specs.declared.mode.Mode.{Mode}
 use Rattle.aia_source.specs.declared.mode.Mode.TheVariants.{Inactive, Detached, RisingEdge, FallingEdge, LevelHigh, LevelLow}
 use Rattle.aia_source.specs.Source.{Deed, is_active, is_level, detached_says, edge_says, says}
 use Rattle.aia_source.specs.Source.Deed.{Moved, Set, Cleared, Claimed, Forwarded, Configured, Activated, Switched, Untouched}
-use Rattle.aia_source.specs.Registers.{domaincfg_kept, is_by_msi, root_sourcecfg, child_sourcecfg, mode_of, sets_pending, clears_pending, same_bool}
+use Rattle.aia_source.specs.Registers.{domaincfg_kept, is_by_msi, root_sourcecfg, child_sourcecfg, mode_of, touch, deed_of_touch, same_bool}
+use Rattle.aia_source.specs.declared.touch.Touch.{Touch}
+use Rattle.aia_source.specs.declared.touch.Touch.TheVariants.{SetPending, ClearPending, SetEnable, ClearEnable}
 use Rattle.aia_source.specs.Top.{Pair}
 use Rattle.aia_model.specs.declared.domain_name.DomainName.{DomainName}
 use Rattle.aia_model.specs.Act.{Past, newest, when}
@@ -96,7 +98,14 @@ unasked_at FallingEdge msi before after does was e l none = edge_unasked before 
 unasked_at LevelHigh msi before after does was e l none = cc
 unasked_at LevelLow msi before after does was e l none = cc
 
-unasked_write : (past : Past) (d : DomainName) (reg : DomainReg) (v s : ℕ) → sets_pending reg v s ≡ false → asks (deed_of_write past d reg v s) ≡ false
+unasked_touch : (t : Option Touch) → t ≢ Some SetPending → asks (deed_of_touch t) ≡ false
+unasked_touch None e = refl
+unasked_touch (Some SetPending) e = absurd (e refl)
+unasked_touch (Some ClearPending) e = refl
+unasked_touch (Some SetEnable) e = refl
+unasked_touch (Some ClearEnable) e = refl
+
+unasked_write : (past : Past) (d : DomainName) (reg : DomainReg) (v s : ℕ) → touch reg v s ≢ Some SetPending → asks (deed_of_write past d reg v s) ≡ false
 unasked_write past d (SourceCfg i) v s e = at (is_register_of past i s) (owns past d s)
   where
     at : (b active : Bool) → asks (cond b (cond active Configured Activated) Untouched) ≡ false
@@ -108,19 +117,14 @@ unasked_write past d DomainCfg v s e = at (same_bool (is_msi past d) (is_by_msi 
     at : (b : Bool) → asks (cond b Untouched Switched) ≡ false
     at true = refl
     at false = refl
-unasked_write past d reg v s e = at (sets_pending reg v s) (clears_pending reg v s) e
-  where
-    at : (a b : Bool) → a ≡ false → asks (cond a Set (cond b Cleared Untouched)) ≡ false
-    at true b e = cc
-    at false true e = refl
-    at false false e = refl
+unasked_write past d reg v s e = unasked_touch (touch reg v s) e
 
-unasked_deed : (shown : ℕ → Option Pair) (past : Past) (e d : DomainName) (reg : DomainReg) (v s : ℕ) → sets_pending reg v s ≡ false → asks (deed shown past (Written e reg v) d s) ≡ false
+unasked_deed : (shown : ℕ → Option Pair) (past : Past) (e d : DomainName) (reg : DomainReg) (v s : ℕ) → touch reg v s ≢ Some SetPending → asks (deed shown past (Written e reg v) d s) ≡ false
 unasked_deed shown past Root Root reg v s quiet = unasked_write past Root reg v s quiet
 unasked_deed shown past Root Child reg v s quiet = refl
 unasked_deed shown past Child Root reg v s quiet = refl
 unasked_deed shown past Child Child reg v s quiet = unasked_write past Child reg v s quiet
 
-pub unasked : (past : Past) (e d : DomainName) (reg : DomainReg) (v s : ℕ) → sets_pending reg v s ≡ false → is_level (mode (Written e reg v ∷ past) d s) ≡ false → pending past d s ≡ false → pending (Written e reg v ∷ past) d s ≡ false
+pub unasked : (past : Past) (e d : DomainName) (reg : DomainReg) (v s : ℕ) → touch reg v s ≢ Some SetPending → is_level (mode (Written e reg v ∷ past) d s) ≡ false → pending past d s ≡ false → pending (Written e reg v ∷ past) d s ≡ false
 unfolding pending
 unasked past e d reg v s quiet l none = unasked_at (mode (Written e reg v ∷ past) d s) (is_msi past d) (input past d s) (input (Written e reg v ∷ past) d s) (deed (top_in (pending past d) past d) past (Written e reg v) d s) (pending past d s) (unasked_deed (top_in (pending past d) past d) past e d reg v s quiet) l none

@@ -17,13 +17,14 @@ use Rattle.aia_model.specs.declared.domain_name.DomainName.TheVariants.{Root, Ch
 use Rattle.aia_model.specs.declared.sender.Sender.{Sender}
 use Rattle.aia_model.specs.declared.sender.Sender.TheVariants.{ByGenMsi, BySource}
 use Rattle.aia_model.specs.Act.Act.{Made, Driven, Written, Loaded, Sent}
+use Rattle.aia_model.specs.Sent.{domain_of_sender}
 use Rattle.aia_model.specs.SourceOf.{harts_in, own_read, top, is_msi, is_on, is_signalled, delivery_told, delivery_of, force_told, force_of, threshold_of, only}
 use Rattle.aia_aplic.specs.Stands.{control, SideState, SideStands, IsNewSide, AplicState, AplicStands, IsNewAplic}
 use Rattle.aia_aplic.specs.Controls.{EachControl, is_control, hart_of_register, control_after, control_at, claimed_at}
 use Rattle.aia_aplic.proofs.LoadedSteps.{is_claim}
 use Rattle.aia_aplic.proofs.Standing.{driven-stands, own-stands, root-stands_other, child-stands_other, child-stands_written, read-stands_same, root-stands_loaded, child-stands_loaded, unclaimed-stands, claimed-stands, new_domain-stands, sent-stands_other, forwarded-stands, genmsi_sent-stands}
 use Rattle.aia_aplic.proofs.SentSteps.{is_source_in, is_genmsi_of, sent_control}
-use Rattle.aia_aplic.proofs.AddressSteps.{addresses_made}
+use Rattle.aia_aplic.proofs.AddressSteps.{addresses_made, addresses_sent}
 use Rattle.aia_aplic.proofs.TopStands.{top-stands}
 use Rattle.aia_aplic.proofs.ControlSteps.{driven_control, root_at_child_write, child_at_root_write, root_at_child_load, child_at_root_load, loaded_control, written_control, claimed_control, controls-after, controls-still, new_controls-stand}
 
@@ -124,6 +125,21 @@ side-genmsi_sent a e past name is stands = record {
   domain = genmsi_sent-stands a.domain e past name is stands.domain;
   controls = controls-still (Sent (ByGenMsi name)) a.controls past name (harts_sent (ByGenMsi name) past) (λ h low. sent_control (ByGenMsi name) past name h) stands.controls;
 }
+
+-- a domain sends, and the other one stays
+pub root_sends : (sender : Sender) (a : AplicState) (new : SideState) (past : Past) → domain_of_sender sender ≡ Root → (SideStands a.root past (domain_of_sender sender) → SideStands new (Sent sender ∷ past) (domain_of_sender sender)) → AplicStands a past
+    → AplicStands (record { root = new; child = a.child; addresses = a.addresses }) (Sent sender ∷ past)
+root_sends (ByGenMsi Root) a new past e sends stands = record { root = sends stands.root; child = side-sent_other (ByGenMsi Root) a.child past Child refl refl stands.child; addresses = stands.addresses ∙ sym (addresses_sent (ByGenMsi Root) past) }
+root_sends (BySource Root s) a new past e sends stands = record { root = sends stands.root; child = side-sent_other (BySource Root s) a.child past Child refl refl stands.child; addresses = stands.addresses ∙ sym (addresses_sent (BySource Root s) past) }
+root_sends (ByGenMsi Child) a new past e sends stands = cc
+root_sends (BySource Child s) a new past e sends stands = cc
+
+pub child_sends : (sender : Sender) (a : AplicState) (new : SideState) (past : Past) → domain_of_sender sender ≡ Child → (SideStands a.child past (domain_of_sender sender) → SideStands new (Sent sender ∷ past) (domain_of_sender sender)) → AplicStands a past
+    → AplicStands (record { root = a.root; child = new; addresses = a.addresses }) (Sent sender ∷ past)
+child_sends (ByGenMsi Child) a new past e sends stands = record { root = side-sent_other (ByGenMsi Child) a.root past Root refl refl stands.root; child = sends stands.child; addresses = stands.addresses ∙ sym (addresses_sent (ByGenMsi Child) past) }
+child_sends (BySource Child s) a new past e sends stands = record { root = side-sent_other (BySource Child s) a.root past Root refl refl stands.root; child = sends stands.child; addresses = stands.addresses ∙ sym (addresses_sent (BySource Child s) past) }
+child_sends (ByGenMsi Root) a new past e sends stands = cc
+child_sends (BySource Root s) a new past e sends stands = cc
 
 -- the control of a hart that is there
 pub control_is : (a : SideState) (past : Past) (name : DomainName) (hart : ℕ) → hart < length a.controls → SideStands a past name → control_at a.controls hart ≡ control past name hart

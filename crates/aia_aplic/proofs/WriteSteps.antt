@@ -1,17 +1,19 @@
 -- What a store makes of a source in the domain that it is to.
-use Rattle.std.proofs.Common.{◌≡◌, ◌<◌, ℕ, suc, Bool, true, false, not, cond, ◌&&◌, nat_eq, nat_lt, [], ◌∷◌, Option, None, unwrap_or, refl, sym, ap, ◌∙◌, arith}
+use Rattle.std.proofs.Common.{◌≡◌, ◌<◌, ℕ, suc, Bool, true, false, not, cond, ◌&&◌, nat_eq, nat_lt, [], ◌∷◌, Option, Some, None, unwrap_or, refl, sym, ap, ◌∙◌, arith}
 use Rattle.std.proofs.lemmas.Bool.Decides.{nat_tests}
-use Rattle.std.specs.Int.{swap_bytes, w32, is_in_range}
+use Rattle.std.specs.Int.{is_in_range}
 use Rattle.aia_regs.specs.declared.domain_registers.DomainReg.{DomainReg}
-use Rattle.aia_regs.specs.declared.domain_registers.DomainReg.TheVariants.{DomainCfg, SourceCfg, SetIp, SetIpNum, InClrIp, ClrIpNum, SetIe, SetIeNum, ClrIe, ClrIeNum, SetIpNumLe, SetIpNumBe, GenMsi, Target}
+use Rattle.aia_regs.specs.declared.domain_registers.DomainReg.TheVariants.{DomainCfg, SourceCfg, GenMsi, Target}
 use Rattle.aia_regs.specs.Word.{settle}
-use Rattle.aia_regs.specs.Word.Word.{Ask, Clear, Nothing}
+use Rattle.aia_regs.specs.Word.Word.{Nothing}
 use Rattle.aia_source.specs.declared.mode.Mode.{Mode}
 use Rattle.aia_source.specs.declared.mode.Mode.TheVariants.{Inactive, Detached, RisingEdge, FallingEdge, LevelHigh, LevelLow}
 use Rattle.aia_source.specs.Source.{done, is_active, rectified, says}
 use Rattle.aia_source.specs.Source.Deed.{Set, Cleared, Configured, Activated, Switched, Untouched}
-use Rattle.aia_source.specs.Registers.{domaincfg_kept, is_by_msi, root_sourcecfg, child_sourcecfg, delegates, mode_of, in_word, first_target, target_kept, same_bool, is_named}
-use Rattle.aia_domain.specs.declared.entry.Touch.TheVariants.{SetPending, ClearPending, SetEnable, ClearEnable}
+use Rattle.aia_source.specs.declared.kept.TheConstants.{DELEGATED}
+use Rattle.aia_source.specs.Registers.{domaincfg_kept, is_by_msi, root_sourcecfg, child_sourcecfg, delegates, mode_of, touch, deed_of_touch, enable_of_touch, first_target, target_kept, same_bool, is_named}
+use Rattle.aia_source.specs.declared.touch.Touch.{Touch}
+use Rattle.aia_source.specs.declared.touch.Touch.TheVariants.{SetPending, ClearPending, SetEnable, ClearEnable}
 use Rattle.aia_domain.specs.Held.{Held, with_deed, touched, configured, switched, aimed, sourcecfg_written, granted, granted_at}
 use Rattle.aia_domain.specs.Domain.{source_changed}
 use Rattle.aia_model.specs.Act.{Past, newest, when}
@@ -21,21 +23,13 @@ use Rattle.aia_model.specs.SourceOf.{harts_in, sources_in, is_register_of, wire_
 use Rattle.aia_aplic.specs.Stands.{held}
 use Rattle.aia_aplic.proofs.Steps.{stepped, held-step, held-idle, IsIdle, step-nothing, step-deed, step-enable, step-disable, step-aim, said_nothing, same_enable}
 
-touch-set : (b msi : Bool) (x : Held) → IsIdle x → stepped x.source.mode x.source.wire msi msi x.delegated None Nothing (cond b Set Untouched) x ≡ cond b (touched msi SetPending x) x
-touch-set true msi x idle = step-deed msi x Set idle
-touch-set false msi x idle = step-nothing msi x idle
-
-touch-clear : (b msi : Bool) (x : Held) → IsIdle x → stepped x.source.mode x.source.wire msi msi x.delegated None Nothing (cond b Cleared Untouched) x ≡ cond b (touched msi ClearPending x) x
-touch-clear true msi x idle = step-deed msi x Cleared idle
-touch-clear false msi x idle = step-nothing msi x idle
-
-touch-enable : (b msi : Bool) (x : Held) → IsIdle x → stepped x.source.mode x.source.wire msi msi x.delegated None (cond b Ask Nothing) Untouched x ≡ cond b (touched msi SetEnable x) x
-touch-enable true msi x idle = step-enable msi x idle
-touch-enable false msi x idle = step-nothing msi x idle
-
-touch-disable : (b msi : Bool) (x : Held) → IsIdle x → stepped x.source.mode x.source.wire msi msi x.delegated None (cond b Clear Nothing) Untouched x ≡ cond b (touched msi ClearEnable x) x
-touch-disable true msi x idle = step-disable msi x idle
-touch-disable false msi x idle = step-nothing msi x idle
+-- a store to a register that touches bits alone
+touch-step : (t : Option Touch) (msi : Bool) (x : Held) → IsIdle x → stepped x.source.mode x.source.wire msi msi x.delegated None (enable_of_touch t) (deed_of_touch t) x ≡ touched msi t x
+touch-step None msi x idle = step-nothing msi x idle
+touch-step (Some SetPending) msi x idle = step-deed msi x Set idle
+touch-step (Some ClearPending) msi x idle = step-deed msi x Cleared idle
+touch-step (Some SetEnable) msi x idle = step-enable msi x idle
+touch-step (Some ClearEnable) msi x idle = step-disable msi x idle
 
 touch-aim : (b : Bool) (harts : ℕ) (msi : Bool) (v : ℕ) (x : Held) → IsIdle x → stepped x.source.mode x.source.wire msi msi x.delegated (when b (target_kept harts msi v)) Nothing Untouched x ≡ cond b (aimed harts msi v x) x
 touch-aim true harts msi v x idle = step-aim harts msi v x idle
@@ -100,11 +94,11 @@ step-inactive msi delegated' x = λ i. record {
 }
 
 -- the register of a source of domain 0 is written
-root-config : (b msi : Bool) (v c : ℕ) (x : Held) → IsIdle x → x.source.mode ≡ mode_of c → x.delegated ≡ nat_eq c 0x400
-    → stepped (mode_of (unwrap_or (when b (root_sourcecfg v)) c)) x.source.wire msi msi (nat_eq (unwrap_or (when b (root_sourcecfg v)) c) 0x400) None Nothing (cond b (cond (is_active x.source.mode) Configured Activated) Untouched) x
+root-config : (b msi : Bool) (v c : ℕ) (x : Held) → IsIdle x → x.source.mode ≡ mode_of c → x.delegated ≡ nat_eq c DELEGATED
+    → stepped (mode_of (unwrap_or (when b (root_sourcecfg v)) c)) x.source.wire msi msi (nat_eq (unwrap_or (when b (root_sourcecfg v)) c) DELEGATED) None Nothing (cond b (cond (is_active x.source.mode) Configured Activated) Untouched) x
     ≡ cond b (sourcecfg_written false msi v x) x
 root-config true msi v c x idle e g = step-configure (mode_of (root_sourcecfg v)) msi (delegates (root_sourcecfg v)) x
-root-config false msi v c x idle e g = ap (λ m. stepped m x.source.wire msi msi (nat_eq c 0x400) None Nothing Untouched x) (sym e) ∙ ap (λ k. stepped x.source.mode x.source.wire msi msi k None Nothing Untouched x) (sym g) ∙ step-nothing msi x idle
+root-config false msi v c x idle e g = ap (λ m. stepped m x.source.wire msi msi (nat_eq c DELEGATED) None Nothing Untouched x) (sym e) ∙ ap (λ k. stepped x.source.mode x.source.wire msi msi k None Nothing Untouched x) (sym g) ∙ step-nothing msi x idle
 
 -- a register's index is that of a source that is there
 pub named_there : (past : Past) (i s : ℕ) → s < suc (sources_in past) → is_register_of past i s ≡ is_named i s
@@ -123,17 +117,7 @@ root_written (SourceCfg i) v past s there =
     ∙ root-config (is_register_of past i s) (is_msi past Root) v (root_sourcecfg_of past s) (held past Root s) (held-idle past Root s) refl refl
     ∙ ap (λ (b : Bool). cond b (sourcecfg_written false (is_msi past Root) v (held past Root s)) (held past Root s)) (named_there past i s there)
 root_written (Target i) v past s there = held-step (Written Root (Target i) v) past Root s ∙ touch-aim (nat_eq i s) (harts_in past) (is_msi past Root) v (held past Root s) (held-idle past Root s)
-root_written (SetIp k) v past s there = held-step (Written Root (SetIp k) v) past Root s ∙ touch-set (in_word k v s) (is_msi past Root) (held past Root s) (held-idle past Root s)
-root_written SetIpNum v past s there = held-step (Written Root SetIpNum v) past Root s ∙ touch-set (nat_eq v s) (is_msi past Root) (held past Root s) (held-idle past Root s)
-root_written SetIpNumLe v past s there = held-step (Written Root SetIpNumLe v) past Root s ∙ touch-set (nat_eq v s) (is_msi past Root) (held past Root s) (held-idle past Root s)
-root_written SetIpNumBe v past s there = held-step (Written Root SetIpNumBe v) past Root s ∙ touch-set (nat_eq (swap_bytes w32 v) s) (is_msi past Root) (held past Root s) (held-idle past Root s)
-root_written (InClrIp k) v past s there = held-step (Written Root (InClrIp k) v) past Root s ∙ touch-clear (in_word k v s) (is_msi past Root) (held past Root s) (held-idle past Root s)
-root_written ClrIpNum v past s there = held-step (Written Root ClrIpNum v) past Root s ∙ touch-clear (nat_eq v s) (is_msi past Root) (held past Root s) (held-idle past Root s)
-root_written (SetIe k) v past s there = held-step (Written Root (SetIe k) v) past Root s ∙ touch-enable (in_word k v s) (is_msi past Root) (held past Root s) (held-idle past Root s)
-root_written SetIeNum v past s there = held-step (Written Root SetIeNum v) past Root s ∙ touch-enable (nat_eq v s) (is_msi past Root) (held past Root s) (held-idle past Root s)
-root_written (ClrIe k) v past s there = held-step (Written Root (ClrIe k) v) past Root s ∙ touch-disable (in_word k v s) (is_msi past Root) (held past Root s) (held-idle past Root s)
-root_written ClrIeNum v past s there = held-step (Written Root ClrIeNum v) past Root s ∙ touch-disable (nat_eq v s) (is_msi past Root) (held past Root s) (held-idle past Root s)
-root_written reg v past s there = held-step (Written Root reg v) past Root s ∙ step-nothing (is_msi past Root) (held past Root s) (held-idle past Root s)
+root_written reg v past s there = held-step (Written Root reg v) past Root s ∙ touch-step (touch reg v s) (is_msi past Root) (held past Root s) (held-idle past Root s)
 
 -- ---- domain 1
 
@@ -143,7 +127,7 @@ unfolding newest
 child-none [] s e = refl
 child-none (Written Root (SourceCfg i) v ∷ past) s e = at (is_register_of past i s) (is_delegated past s) (delegates (root_sourcecfg v)) (root_sourcecfg v) (root_sourcecfg_of past s) (newest (child_told s) past) refl refl (child-none past s) e
   where
-    at : (this was is : Bool) (kept c old : ℕ) → is ≡ nat_eq kept 0x400 → was ≡ nat_eq c 0x400 → (was ≡ false → old ≡ 0) → nat_eq (unwrap_or (when this kept) c) 0x400 ≡ false → unwrap_or (when (this && not (was && is)) 0) old ≡ 0
+    at : (this was is : Bool) (kept c old : ℕ) → is ≡ nat_eq kept DELEGATED → was ≡ nat_eq c DELEGATED → (was ≡ false → old ≡ 0) → nat_eq (unwrap_or (when this kept) c) DELEGATED ≡ false → unwrap_or (when (this && not (was && is)) 0) old ≡ 0
     at false was is kept c old p q before e = before (q ∙ e)
     at true true true kept c old p q before e = cc
     at true true false kept c old p q before e = refl
@@ -186,17 +170,7 @@ child_written (SourceCfg i) v past s there =
     ∙ child-config (is_register_of past i s) (is_delegated past s) (is_msi past Child) v (newest (child_told s) past) (held past Child s) (held-idle past Child s) refl refl (child-none past s)
     ∙ ap (λ (b : Bool). cond b (sourcecfg_written true (is_msi past Child) v (held past Child s)) (held past Child s)) (named_there past i s there)
 child_written (Target i) v past s there = held-step (Written Child (Target i) v) past Child s ∙ touch-aim (nat_eq i s) (harts_in past) (is_msi past Child) v (held past Child s) (held-idle past Child s)
-child_written (SetIp k) v past s there = held-step (Written Child (SetIp k) v) past Child s ∙ touch-set (in_word k v s) (is_msi past Child) (held past Child s) (held-idle past Child s)
-child_written SetIpNum v past s there = held-step (Written Child SetIpNum v) past Child s ∙ touch-set (nat_eq v s) (is_msi past Child) (held past Child s) (held-idle past Child s)
-child_written SetIpNumLe v past s there = held-step (Written Child SetIpNumLe v) past Child s ∙ touch-set (nat_eq v s) (is_msi past Child) (held past Child s) (held-idle past Child s)
-child_written SetIpNumBe v past s there = held-step (Written Child SetIpNumBe v) past Child s ∙ touch-set (nat_eq (swap_bytes w32 v) s) (is_msi past Child) (held past Child s) (held-idle past Child s)
-child_written (InClrIp k) v past s there = held-step (Written Child (InClrIp k) v) past Child s ∙ touch-clear (in_word k v s) (is_msi past Child) (held past Child s) (held-idle past Child s)
-child_written ClrIpNum v past s there = held-step (Written Child ClrIpNum v) past Child s ∙ touch-clear (nat_eq v s) (is_msi past Child) (held past Child s) (held-idle past Child s)
-child_written (SetIe k) v past s there = held-step (Written Child (SetIe k) v) past Child s ∙ touch-enable (in_word k v s) (is_msi past Child) (held past Child s) (held-idle past Child s)
-child_written SetIeNum v past s there = held-step (Written Child SetIeNum v) past Child s ∙ touch-enable (nat_eq v s) (is_msi past Child) (held past Child s) (held-idle past Child s)
-child_written (ClrIe k) v past s there = held-step (Written Child (ClrIe k) v) past Child s ∙ touch-disable (in_word k v s) (is_msi past Child) (held past Child s) (held-idle past Child s)
-child_written ClrIeNum v past s there = held-step (Written Child ClrIeNum v) past Child s ∙ touch-disable (nat_eq v s) (is_msi past Child) (held past Child s) (held-idle past Child s)
-child_written reg v past s there = held-step (Written Child reg v) past Child s ∙ step-nothing (is_msi past Child) (held past Child s) (held-idle past Child s)
+child_written reg v past s there = held-step (Written Child reg v) past Child s ∙ touch-step (touch reg v s) (is_msi past Child) (held past Child s) (held-idle past Child s)
 
 -- ---- what a store to one domain makes of the other
 
@@ -217,10 +191,10 @@ child-granted false false msi c x idle e g none =
 child-granted true false msi c x idle e g none = step-inactive msi false x ∙ sym (ap (λ (k : Bool). cond (same_bool k false) x (record (configured msi Inactive x) { delegated = false })) g)
 child-granted false true msi c x idle e g none = step-inactive msi true x ∙ sym (ap (λ (k : Bool). cond (same_bool k true) x (record (configured msi Inactive x) { delegated = true })) g)
 
-child-kept : (b msi : Bool) (is was : Bool) (kept c c1 : ℕ) (x : Held) → IsIdle x → x.source.mode ≡ mode_of c → x.delegated ≡ was → was ≡ nat_eq c1 0x400 → is ≡ nat_eq kept 0x400 → (was ≡ false → c ≡ 0)
-    → stepped (mode_of (unwrap_or (when (b && not (was && is)) 0) c)) x.source.wire msi msi (nat_eq (unwrap_or (when b kept) c1) 0x400) None Nothing Untouched x ≡ cond b (granted is msi x) x
+child-kept : (b msi : Bool) (is was : Bool) (kept c c1 : ℕ) (x : Held) → IsIdle x → x.source.mode ≡ mode_of c → x.delegated ≡ was → was ≡ nat_eq c1 DELEGATED → is ≡ nat_eq kept DELEGATED → (was ≡ false → c ≡ 0)
+    → stepped (mode_of (unwrap_or (when (b && not (was && is)) 0) c)) x.source.wire msi msi (nat_eq (unwrap_or (when b kept) c1) DELEGATED) None Nothing Untouched x ≡ cond b (granted is msi x) x
 child-kept true msi is was kept c c1 x idle e g w k none = ap (λ j. stepped (mode_of (unwrap_or (when (not (was && is)) 0) c)) x.source.wire msi msi j None Nothing Untouched x) (sym k) ∙ child-granted was is msi c x idle e g none
-child-kept false msi is was kept c c1 x idle e g w k none = ap (λ m. stepped m x.source.wire msi msi (nat_eq c1 0x400) None Nothing Untouched x) (sym e) ∙ ap (λ j. stepped x.source.mode x.source.wire msi msi j None Nothing Untouched x) (sym w ∙ sym g) ∙ step-nothing msi x idle
+child-kept false msi is was kept c c1 x idle e g w k none = ap (λ m. stepped m x.source.wire msi msi (nat_eq c1 DELEGATED) None Nothing Untouched x) (sym e) ∙ ap (λ j. stepped x.source.mode x.source.wire msi msi j None Nothing Untouched x) (sym w ∙ sym g) ∙ step-nothing msi x idle
 
 pub child_at_root_config : (i v : ℕ) (past : Past) (s : ℕ) → s < suc (sources_in past)
     → held (Written Root (SourceCfg i) v ∷ past) Child s ≡ granted_at i (delegates (root_sourcecfg v)) (is_msi past Child) s (held past Child s)

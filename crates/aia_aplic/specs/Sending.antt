@@ -1,48 +1,41 @@
 -- What the next MSI is, and what is left of those that wait. Profile: this project's way to speak of it.
 use Rattle.std.specs.Prelude.{◌≡◌, ℕ, ◌+◌, ◌<◌, ◌≤◌, Bool, true, false, count_by, if◌then◌else◌, List, [], ◌∷◌, Option, Some, None}
 use Rattle.aia_domain.specs.Held.{waits}
-use Rattle.aia_domain.specs.Domain.{is_ready}
+use Rattle.aia_domain.specs.Domain.{DomainState, is_ready}
 use Rattle.aia_model.specs.declared.msi.Msi.{Msi}
 use Rattle.aia_model.specs.Act.{Past}
 use Rattle.aia_model.specs.declared.sender.Sender.{Sender}
 use Rattle.aia_model.specs.declared.domain_name.DomainName.TheVariants.{Root, Child}
 use Rattle.aia_model.specs.declared.sender.Sender.TheVariants.{ByGenMsi, BySource}
 use Rattle.aia_model.specs.Act.Act.{Sent}
-use Rattle.aia_model.specs.Sent.{senders, msi_of}
-use Rattle.aia_aplic.specs.Stands.{SideState, AplicState, AplicStands}
-use Rattle.aia_aplic.specs.declared.sender.Waiting.{Waiting}
-use Rattle.aia_aplic.specs.declared.sender.Waiting.TheVariants.{RootGenMsi, ChildGenMsi, RootSource, ChildSource}
+use Rattle.aia_model.specs.Sent.{senders, domain_of_sender, msi_of}
+use Rattle.aia_aplic.specs.Stands.{SideState, AplicState, AplicStands, side}
 
 -- The least number that passes a test; None where none does.
 abbrev pub IsLeastOf : (ℕ → Bool) → Option ℕ → Type 0
 IsLeastOf test None = (s : ℕ) → test s ≡ false
 IsLeastOf test (Some s) = (test s ≡ true) × ((t : ℕ) → t < s → test t ≡ false)
 
--- The sender of what waits.
-abbrev pub sender_of : Waiting → Sender
-sender_of RootGenMsi = ByGenMsi Root
-sender_of ChildGenMsi = ByGenMsi Child
-sender_of (RootSource s) = BySource Root s
-sender_of (ChildSource s) = BySource Child s
-
--- It is the least source that is to be forwarded, of two domains, in which sources p and q are; at the same number the root domain's; or none is.
-abbrev pub IsFirstSource : (ℕ → Bool) → (ℕ → Bool) → Option Waiting → Type 0
+-- It is the least source that is to be forwarded, of two domains, in which sources p and q are; at
+-- the same number the root domain's; or none is.
+abbrev pub IsFirstSource : (ℕ → Bool) → (ℕ → Bool) → Option Sender → Type 0
 IsFirstSource p q None = ((s : ℕ) → p s ≡ false) × ((s : ℕ) → q s ≡ false)
-IsFirstSource p q (Some (RootSource s)) = (p s ≡ true) × ((t : ℕ) → t < s → p t ≡ false) × ((t : ℕ) → t < s → q t ≡ false)
-IsFirstSource p q (Some (ChildSource s)) = (q s ≡ true) × ((t : ℕ) → t ≤ s → p t ≡ false) × ((t : ℕ) → t < s → q t ≡ false)
-IsFirstSource p q (Some w) = ⊥
+IsFirstSource p q (Some (BySource Root s)) = (p s ≡ true) × ((t : ℕ) → t < s → p t ≡ false) × ((t : ℕ) → t < s → q t ≡ false)
+IsFirstSource p q (Some (BySource Child s)) = (q s ≡ true) × ((t : ℕ) → t ≤ s → p t ≡ false) × ((t : ℕ) → t < s → q t ≡ false)
+IsFirstSource p q (Some (ByGenMsi d)) = ⊥
 
 -- It is the first of all that waits, or nothing waits.
-abbrev pub IsFirst : Option Waiting → Past → Type 0
+abbrev pub IsFirst : Option Sender → Past → Type 0
 IsFirst None past = senders past ≡ []
-IsFirst (Some w) past = (later : List Sender) × (senders past ≡ sender_of w ∷ later)
+IsFirst (Some sender) past = (later : List Sender) × (senders past ≡ sender ∷ later)
 
--- Whether it waits in what is kept.
-abbrev pub does_wait : AplicState → Waiting → Bool
-does_wait a RootGenMsi = a.root.domain.genmsi_waits
-does_wait a ChildGenMsi = a.child.domain.genmsi_waits
-does_wait a (RootSource s) = is_ready a.root.domain s
-does_wait a (ChildSource s) = is_ready a.child.domain s
+-- Whether it waits in what is kept: in a domain, and in that of the sender.
+abbrev pub waits_in : DomainState → Sender → Bool
+waits_in d (ByGenMsi e) = d.genmsi_waits
+waits_in d (BySource e s) = is_ready d s
+
+abbrev pub does_wait : AplicState → Sender → Bool
+does_wait a sender = waits_in (side a (domain_of_sender sender)).domain sender
 
 -- How many MSIs a domain may have to send: what was asked for by genmsi, and one for each source that is pending and enabled.
 abbrev pub waiting_in : SideState → ℕ

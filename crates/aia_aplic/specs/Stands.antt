@@ -7,7 +7,8 @@ use Rattle.aia_model.specs.declared.domain_name.DomainName.{DomainName}
 use Rattle.aia_model.specs.Act.{Past, is_domain}
 use Rattle.aia_model.specs.declared.domain_name.DomainName.TheVariants.{Root, Child}
 use Rattle.aia_model.specs.SourceOf.{harts_in, sources_in, wire_of, is_delegated, mode, is_on, is_msi, enabled, target, pending, genmsi_of, genmsi_waits, delivery_of, force_of, threshold_of}
-use Rattle.aia_model.specs.AddressOf.{AddressRegisters, new_addresses, addresses_of}
+use Rattle.aia_msiaddr.specs.Registers.{AddressRegisters, new_addresses}
+use Rattle.aia_model.specs.AddressOf.{addresses_of}
 
 -- What the past makes of a source in a domain. Profile: this project's way to speak of what is kept.
 abbrev pub held : Past → DomainName → ℕ → Held
@@ -58,6 +59,11 @@ pub record AplicState : Type 0 where
   pub root : SideState
   pub child : SideState
   pub addresses : AddressRegisters
+
+-- One domain of them.
+abbrev pub side : AplicState → DomainName → SideState
+side a Root = a.root
+side a Child = a.child
 
 -- All is kept as the past makes it. Profile.
 pub record AplicStands (a : AplicState) (past : Past) : Type 0 where

@@ -1,4 +1,5 @@
 ghost use Rattle.std.specs.Prelude.{◌≡◌, ◌<◌, ◌≤◌, [], ◌∷◌, length, Bool, true, false, IfOk, IfSome};
+ghost use Rattle.aia_regs.specs.declared.limits.TheConstants.{HARTS, SOURCES};
 ghost use Rattle.aia_regs.specs.DomainRegisters.{domain_register_of};
 ghost use Rattle.aia_model.specs.Act.{Past};
 ghost use Rattle.aia_model.specs.declared.domain_name.DomainName.TheVariants.{Root};
@@ -6,15 +7,15 @@ ghost use Rattle.aia_model.specs.Act.Act.{Made, Driven, Written, Loaded, Sent};
 ghost use Rattle.aia_model.specs.Sent.{msi_of};
 ghost use Rattle.aia_domain.specs.Domain.{is_ready};
 ghost use Rattle.aia_model.specs.SourceOf.{harts_in, sources_in, register_read, is_signalled};
-ghost use Rattle.aia_aplic.specs.Stands.{AplicStands, IsNewAplic, domain_name};
-ghost use Rattle.aia_aplic.specs.Sending.{IsLeastOf, IsFirstSource, IsFirst, sender_of, does_wait, waiting, Next};
+ghost use Rattle.aia_aplic.specs.Stands.{AplicStands, IsNewAplic, side, domain_name};
+ghost use Rattle.aia_aplic.specs.Sending.{IsLeastOf, IsFirstSource, IsFirst, does_wait, waiting, Next};
 
-use crate::addresses::Addresses;
-use crate::sender::Waiting;
+use crate::sender::{domain_of, msi_by};
 use crate::side::Side;
-use aia_domain::delegates;
-use aia_model::Msi;
+use aia_model::{DomainName, Msi, Sender};
+use aia_msiaddr::Addresses;
 use aia_regs::{DomainReg, domain_reg};
+use aia_source::delegates;
 use std::alloc::{AllocError, Global};
 use std::marker::Model;
 
@@ -41,8 +42,8 @@ impl Aplic {
     /// `domaincfg`.
     pub fn new(alloc: Global, harts: u32, sources: u32) -> Result<Aplic, AllocError>
         requires some { 1 ≤ sources }
-        requires few { sources ≤ 1023 }
-        requires harts { harts ≤ 4 }
+        requires few { sources ≤ SOURCES }
+        requires harts { harts ≤ HARTS }
         ensures new { IfOk result (IsNewAplic sources harts) }
         ensures stands { IfOk result (λ aplic. AplicStands aplic (Made harts sources ∷ [])) }
     {
@@ -58,7 +59,7 @@ impl Aplic {
     /// How many wired sources there are, up to 1023.
     pub fn sources(&self) -> u32
         ensures count { (past : Past) → AplicStands self.now past → result ≡ sources_in past }
-        ensures few { result ≤ 1023 }
+        ensures few { result ≤ SOURCES }
     {
         self.root.sources()
     }
@@ -80,20 +81,20 @@ impl Aplic {
         ensures reads { (past : Past) → AplicStands self.old past → result ≡ register_read past (domain_name domain) (domain_register_of offset) }
         ensures stands { (past : Past) → AplicStands self.old past → AplicStands self.new (Loaded (domain_name domain) (domain_register_of offset) ∷ past) }
     {
-        let reg = domain_reg(offset);
-        if domain == 0 {
-            self.load_root(reg)
-        } else {
-            self.child.load(reg)
-        }
+        self.load_register(domain_name(domain), domain_reg(offset))
     }
 
-    fn load_root(&mut self, reg: DomainReg) -> u32
-        ensures reads { (past : Past) → AplicStands self.old past → result ≡ register_read past Root reg }
-        ensures stands { (past : Past) → AplicStands self.old past → AplicStands self.new (Loaded Root reg ∷ past) }
+    fn load_register(&mut self, name: DomainName, reg: DomainReg) -> u32
+        ensures reads { (past : Past) → AplicStands self.old past → result ≡ register_read past name reg }
+        ensures stands { (past : Past) → AplicStands self.old past → AplicStands self.new (Loaded name reg ∷ past) }
     {
-        let read = self.root.load(reg);
-        self.addresses.load(reg).unwrap_or(read)
+        match name {
+            DomainName::Root => {
+                let read = self.root.load(reg);
+                self.addresses.load(reg).unwrap_or(read)
+            }
+            DomainName::Child => self.child.load(reg),
+        }
     }
 
     /// The register at an offset of a domain's control region is written: domain 0 is the root domain, 1 its child.
@@ -103,11 +104,15 @@ impl Aplic {
         requires { domain ≤ 1 }
         ensures { (past : Past) → AplicStands self.old past → AplicStands self.new (Written (domain_name domain) (domain_register_of offset) value ∷ past) }
     {
-        let reg = domain_reg(offset);
-        if domain == 0 {
-            self.store_root(reg, value);
-        } else {
-            self.child.store(reg, value);
+        self.store_register(domain_name(domain), domain_reg(offset), value);
+    }
+
+    fn store_register(&mut self, name: DomainName, reg: DomainReg, value: u32)
+        ensures { (past : Past) → AplicStands self.old past → AplicStands self.new (Written name reg value ∷ past) }
+    {
+        match name {
+            DomainName::Root => self.store_root(reg, value),
+            DomainName::Child => self.child.store(reg, value),
         }
     }
 
@@ -130,10 +135,15 @@ impl Aplic {
         ensures signal { (past : Past) → AplicStands self.now past → hart < harts_in past → result ≡ is_signalled past (domain_name domain) hart }
         ensures away { (past : Past) → AplicStands self.now past → harts_in past ≤ hart → result ≡ false }
     {
-        if domain == 0 {
-            self.root.signal(hart)
-        } else {
-            self.child.signal(hart)
+        self.side(domain_name(domain)).signal(hart)
+    }
+
+    fn side(&self, name: DomainName) -> &Side
+        ensures { result.now ≡ side self.now name }
+    {
+        match name {
+            DomainName::Root => &self.root,
+            DomainName::Child => &self.child,
         }
     }
 
@@ -154,61 +164,65 @@ impl Aplic {
     }
 
     /// What waits first.
-    fn first_waiting(&self) -> Option<Waiting>
+    fn first_waiting(&self) -> Option<Sender>
         ensures first { (past : Past) → AplicStands self.now past → IsFirst result past }
-        ensures waits { IfSome result (λ w. does_wait self.now w ≡ true) }
+        ensures waits { IfSome result (λ sender. does_wait self.now sender ≡ true) }
     {
         if self.root.genmsi_waits() {
-            return Some(Waiting::RootGenMsi);
+            return Some(Sender::ByGenMsi(DomainName::Root));
         }
         if self.child.genmsi_waits() {
-            return Some(Waiting::ChildGenMsi);
+            return Some(Sender::ByGenMsi(DomainName::Child));
         }
         self.first_source()
     }
 
     /// The least source that is to be forwarded.
-    fn first_source(&self) -> Option<Waiting>
+    fn first_source(&self) -> Option<Sender>
         ensures { IsFirstSource (is_ready self.now.root.domain) (is_ready self.now.child.domain) result }
     {
         match (self.root.least_ready(), self.child.least_ready()) {
             (None, None) => None,
-            (Some(s), None) => Some(Waiting::RootSource(s)),
-            (None, Some(t)) => Some(Waiting::ChildSource(t)),
+            (Some(s), None) => Some(Sender::BySource(DomainName::Root, s)),
+            (None, Some(t)) => Some(Sender::BySource(DomainName::Child, t)),
             (Some(s), Some(t)) => {
                 if s <= t {
-                    Some(Waiting::RootSource(s))
+                    Some(Sender::BySource(DomainName::Root, s))
                 } else {
-                    Some(Waiting::ChildSource(t))
+                    Some(Sender::BySource(DomainName::Child, t))
                 }
             }
         }
     }
 
-    /// The MSI of something that waits is sent.
-    fn send(&mut self, first: Waiting) -> Msi
-        requires { does_wait self.old first ≡ true }
-        ensures msi { (past : Past) → AplicStands self.old past → result ≡ msi_of past (sender_of first) }
-        ensures stands { (past : Past) → AplicStands self.old past → AplicStands self.new (Sent (sender_of first) ∷ past) }
+    /// The MSI of a sender that waits is sent.
+    fn send(&mut self, sender: Sender) -> Msi
+        requires { does_wait self.old sender ≡ true }
+        ensures msi { (past : Past) → AplicStands self.old past → result ≡ msi_of past sender }
+        ensures stands { (past : Past) → AplicStands self.old past → AplicStands self.new (Sent sender ∷ past) }
         ensures fewer { waiting self.new < waiting self.old }
     {
-        match first {
-            Waiting::RootGenMsi => {
-                let register = self.root.send_genmsi();
-                self.addresses.machine_msi(register)
+        match domain_of(sender) {
+            DomainName::Root => {
+                let register = self.root.send(sender);
+                msi_by(&self.addresses, DomainName::Root, register)
             }
-            Waiting::ChildGenMsi => {
-                let register = self.child.send_genmsi();
-                self.addresses.supervisor_msi(register)
-            }
-            Waiting::RootSource(s) => {
-                let target = self.root.forward(s);
-                self.addresses.machine_msi(target)
-            }
-            Waiting::ChildSource(s) => {
-                let target = self.child.forward(s);
-                self.addresses.supervisor_msi(target)
+            DomainName::Child => {
+                let register = self.child.send(sender);
+                msi_by(&self.addresses, DomainName::Child, register)
             }
         }
+    }
+}
+
+/// The domain with a number, 0 or 1.
+fn domain_name(domain: u32) -> DomainName
+    requires { domain ≤ 1 }
+    ensures { result ≡ domain_name domain }
+{
+    if domain == 0 {
+        DomainName::Root
+    } else {
+        DomainName::Child
     }
 }

@@ -1,6 +1,6 @@
 //! What the definitions of the wired sources mean, as laws for every past: each function does nothing, and its clauses are what was proved.
 
-ghost use Rattle.std.specs.Prelude.{◌≡◌, ◌↔◌, ℕ, ◌≤◌, Bool, true, false, ◌&&◌, List, [], ◌∷◌, Option, Some, None};
+ghost use Rattle.std.specs.Prelude.{◌≡◌, ◌≢◌, ◌↔◌, ℕ, ◌≤◌, Bool, true, false, ◌&&◌, List, [], ◌∷◌, Option, Some, None};
 ghost use Rattle.aia_model.specs.Event.{History};
 ghost use Rattle.aia_model.specs.declared.sender.Sender.{Sender};
 ghost use Rattle.aia_model.specs.declared.sender.Sender.TheVariants.{ByGenMsi, BySource};
@@ -11,10 +11,12 @@ ghost use Rattle.aia_aplic.specs.Tops.{IsOnTop};
 ghost use Rattle.aia_regs.specs.declared.domain_registers.DomainReg.{DomainReg};
 ghost use Rattle.aia_regs.specs.declared.domain_registers.DomainReg.TheVariants.{SourceCfg};
 ghost use Rattle.aia_source.specs.Source.{is_level};
-ghost use Rattle.aia_source.specs.Registers.{sets_pending};
+ghost use Rattle.aia_source.specs.declared.touch.Touch.TheVariants.{SetPending};
+ghost use Rattle.aia_source.specs.Registers.{touch};
 ghost use Rattle.aia_model.specs.declared.domain_name.DomainName.{DomainName};
 ghost use Rattle.aia_model.specs.Act.{Act, Past};
-ghost use Rattle.aia_model.specs.AddressOf.{are_locked, addresses_of};
+ghost use Rattle.aia_msiaddr.specs.Registers.{are_locked};
+ghost use Rattle.aia_model.specs.AddressOf.{addresses_of};
 ghost use Rattle.aia_model.specs.declared.domain_name.DomainName.TheVariants.{Root, Child};
 ghost use Rattle.aia_model.specs.Act.Act.{Written, Sent};
 ghost use Rattle.aia_model.specs.SourceOf.{is_delegated, sourcecfg_of, mode, owns, input, is_msi, enabled, target, pending, sources_in, genmsi_waits, is_for, top};
@@ -58,7 +60,7 @@ pub fn what_is_not_delegated_is_zero_in_the_child()
 pub fn only_a_wire_makes_a_rise()
     ensures stays { (past : Past) (d : DomainName) (i v s : ℕ) → owns past d s ≡ true → owns (Written d (SourceCfg i) v ∷ past) d s ≡ true → is_level (mode (Written d (SourceCfg i) v ∷ past) d s) ≡ false → pending (Written d (SourceCfg i) v ∷ past) d s ≡ pending past d s }
     ensures begins { (past : Past) (d : DomainName) (i v s : ℕ) → owns past d s ≡ false → is_level (mode (Written d (SourceCfg i) v ∷ past) d s) ≡ false → pending (Written d (SourceCfg i) v ∷ past) d s ≡ false }
-    ensures unasked { (past : Past) (e d : DomainName) (reg : DomainReg) (v s : ℕ) → sets_pending reg v s ≡ false → is_level (mode (Written e reg v ∷ past) d s) ≡ false → pending past d s ≡ false → pending (Written e reg v ∷ past) d s ≡ false }
+    ensures unasked { (past : Past) (e d : DomainName) (reg : DomainReg) (v s : ℕ) → touch reg v s ≢ Some SetPending → is_level (mode (Written e reg v ∷ past) d s) ≡ false → pending past d s ≡ false → pending (Written e reg v ∷ past) d s ≡ false }
 {}
 
 /// Whatever has happened, what `topi` of a hart shows is the least pair of priority and number of the pending sources that are the hart's, and nothing

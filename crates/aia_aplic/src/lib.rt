@@ -1,7 +1,6 @@
 //! The APLIC of a machine: its two interrupt domains, the wired sources that they share, and the MSIs that it sends.
 #![tactic(auto)]
 
-mod addresses;
 mod aplic;
 mod controls;
 pub mod laws;

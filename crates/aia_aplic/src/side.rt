@@ -5,6 +5,7 @@ ghost use Rattle.aia_domain.specs.Held.{EachSource, changed_at, with_deed, held_
 ghost use Rattle.aia_domain.specs.Domain.{with_sources, source_after, domain_after, is_ready};
 ghost use Rattle.aia_direct.specs.Control.{top_shown, claimed_top};
 ghost use Rattle.std.specs.Prelude.{Some, length, ◌≡◌, ◌<◌, ◌≤◌, ◌∷◌, ℕ, Bool, true, false, IfOk};
+ghost use Rattle.aia_regs.specs.declared.limits.TheConstants.{HARTS, SOURCES};
 ghost use Rattle.aia_source.specs.Registers.{delegates, root_sourcecfg};
 ghost use Rattle.aia_model.specs.declared.domain_name.DomainName.{DomainName};
 ghost use Rattle.aia_model.specs.Act.{Past};
@@ -12,12 +13,14 @@ ghost use Rattle.aia_model.specs.declared.domain_name.DomainName.TheVariants.{Ro
 ghost use Rattle.aia_model.specs.declared.sender.Sender.TheVariants.{ByGenMsi, BySource};
 ghost use Rattle.aia_model.specs.Act.Act.{Driven, Written, Loaded, Sent};
 ghost use Rattle.aia_model.specs.SourceOf.{harts_in, sources_in, target, genmsi_of, own_read, is_signalled};
+ghost use Rattle.aia_model.specs.Sent.{domain_of_sender, register_of_sender};
 ghost use Rattle.aia_aplic.specs.Stands.{SideStands, IsNewSide};
-ghost use Rattle.aia_aplic.specs.Sending.{IsLeastOf, waiting_in};
+ghost use Rattle.aia_aplic.specs.Sending.{IsLeastOf, waits_in, waiting_in};
 
 use crate::controls::{claim, load_control, new_controls, signal_of, store_control, topi_of};
 use aia_direct::Idc;
 use aia_domain::Domain;
+use aia_model::Sender;
 use aia_regs::DomainReg;
 use std::alloc::{AllocError, Global};
 use std::marker::Model;
@@ -45,8 +48,8 @@ impl Side {
         leaf: bool,
     ) -> Result<Side, AllocError>
         requires some { 1 ≤ sources }
-        requires few { sources ≤ 1023 }
-        requires harts { harts ≤ 4 }
+        requires few { sources ≤ SOURCES }
+        requires harts { harts ≤ HARTS }
         ensures { IfOk result (IsNewSide sources harts leaf) }
     {
         let domain = Domain::new(alloc, sources, harts, leaf)?;
@@ -56,7 +59,7 @@ impl Side {
 
     pub(crate) fn sources(&self) -> u32
         ensures count { (past : Past) (name : DomainName) → SideStands self.now past name → result ≡ sources_in past }
-        ensures few { result ≤ 1023 }
+        ensures few { result ≤ SOURCES }
     {
         self.domain.sources()
     }
@@ -168,8 +171,21 @@ impl Side {
         self.domain.ready().next()
     }
 
+    /// A sender of this domain sends its MSI: what that is made of.
+    pub(crate) fn send(&mut self, sender: Sender) -> u32
+        requires { waits_in self.old.domain sender ≡ true }
+        ensures value { (past : Past) → SideStands self.old past (domain_of_sender sender) → result ≡ register_of_sender past sender }
+        ensures stands { (past : Past) → SideStands self.old past (domain_of_sender sender) → SideStands self.new (Sent sender ∷ past) (domain_of_sender sender) }
+        ensures fewer { waiting_in self.new < waiting_in self.old }
+    {
+        match sender {
+            Sender::ByGenMsi(_) => self.send_genmsi(),
+            Sender::BySource(_, s) => self.forward(s),
+        }
+    }
+
     /// The MSI that `genmsi` asked for is sent: what `genmsi` keeps.
-    pub(crate) fn send_genmsi(&mut self) -> u32
+    fn send_genmsi(&mut self) -> u32
         requires { self.old.domain.genmsi_waits ≡ true }
         ensures value { (past : Past) (name : DomainName) → SideStands self.old past name → result ≡ genmsi_of past name }
         ensures stands { (past : Past) (name : DomainName) → SideStands self.old past name → SideStands self.new (Sent (ByGenMsi name) ∷ past) name }
@@ -191,7 +207,7 @@ impl Side {
     }
 
     /// A source is forwarded: its target.
-    pub(crate) fn forward(&mut self, s: u32) -> u32
+    fn forward(&mut self, s: u32) -> u32
         requires { is_ready self.old.domain s ≡ true }
         ensures value { (past : Past) (name : DomainName) → SideStands self.old past name → result ≡ target past name s }
         ensures stands { (past : Past) (name : DomainName) → SideStands self.old past name → SideStands self.new (Sent (BySource name s) ∷ past) name }

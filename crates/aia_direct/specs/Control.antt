@@ -1,8 +1,10 @@
 -- A hart's interrupt delivery control in a domain: what is on top for it, a claim, and its signal.
-use Rattle.std.specs.Prelude.{ℕ, ◌-◌, ◌<◌, Bool, false, not, ◌&&◌, ◌||◌, nat_eq, is_some, is_none, if◌then◌else◌, List, length, Option, Some, None}
+use Rattle.std.specs.Prelude.{ℕ, ◌-◌, ◌^◌, ◌<◌, ◌≤◌, Bool, false, not, ◌&&◌, ◌||◌, nat_eq, is_some, is_none, if◌then◌else◌, List, length, Option, Some, None}
 use Rattle.aia_regs.specs.declared.domain_registers.DomainReg.{DomainReg}
 use Rattle.aia_regs.specs.declared.domain_registers.DomainReg.TheVariants.{IDelivery, IForce, IThreshold}
+use Rattle.aia_regs.specs.declared.limits.TheConstants.{SOURCES}
 use Rattle.aia_regs.specs.Fields.{field}
+use Rattle.aia_regs.specs.Operations.{is_one}
 use Rattle.aia_source.specs.Source.Deed.{Claimed}
 use Rattle.aia_source.specs.Top.{Pair, least_pair, priority_of, hart_of, pair_if, is_top}
 use Rattle.aia_word.specs.Top.{passes}
@@ -33,8 +35,8 @@ control_read c (IThreshold hart) = c.threshold
 control_read c reg = 0
 
 abbrev pub control_written : DomainReg → ℕ → Control → Control
-control_written (IDelivery hart) v c = record c { delivery = nat_eq (field v 0 0) 1 }
-control_written (IForce hart) v c = record c { force = nat_eq (field v 0 0) 1 }
+control_written (IDelivery hart) v c = record c { delivery = is_one v 0 }
+control_written (IForce hart) v c = record c { force = is_one v 0 }
 control_written (IThreshold hart) v c = record c { threshold = field v 7 0 }
 control_written reg v c = c
 
@@ -53,10 +55,10 @@ candidate_at sources hart threshold s = candidate hart threshold s (held_at sour
 abbrev pub top_shown : Control → DomainState → ℕ → Option Pair
 top_shown c d hart = if d.msi then None else least_pair (candidate_at d.sources hart c.threshold) 1 (length d.sources - 1)
 
--- A pair that fits a register: 8 bits of priority, and a number below 1024.
+-- A pair that fits a register: 8 bits of priority, and a number of a source that may be there.
 abbrev pub IsSmall : Option Pair → Type 0
 IsSmall None = Unit {0}
-IsSmall (Some p) = (p.0 < 256) × (p.1 < 1024)
+IsSmall (Some p) = (p.0 < 2 ^ 8) × (p.1 ≤ SOURCES)
 
 -- ---- a claim and the signal
 

@@ -1,5 +1,5 @@
-ghost use Rattle.std.specs.Prelude.{◌≡◌, ◌<◌, ◌+◌, ◌*◌, Bool, length};
-ghost use Rattle.aia_regs.specs.Fields.{field};
+ghost use Rattle.std.specs.Prelude.{◌≡◌, ◌<◌, ◌≤◌, ◌^◌, Bool, length, Some};
+ghost use Rattle.aia_regs.specs.declared.limits.TheConstants.{SOURCES};
 ghost use Rattle.aia_source.specs.Top.{lesser, topi_value};
 ghost use Rattle.aia_word.specs.Top.{passes};
 ghost use Rattle.aia_domain.specs.Held.{EachSource};
@@ -7,7 +7,8 @@ ghost use Rattle.aia_domain.specs.Domain.{with_sources};
 ghost use Rattle.aia_direct.specs.Control.{new_control, one_if, control_read, control_written, candidate_at, top_shown, IsSmall, claimed_top, control_claimed, signals};
 
 use aia_domain::Domain;
-use aia_regs::{DomainReg, bits};
+use aia_regs::{DomainReg, bit, bits, put_bits};
+use aia_source::{hart_of, priority_of};
 use std::marker::Model;
 
 /// The interrupt delivery control of one hart in one domain: `idelivery`, `iforce` and `ithreshold`.
@@ -57,8 +58,8 @@ impl Idc {
         ensures { self.new ≡ control_written reg value self.old }
     {
         match reg {
-            DomainReg::IDelivery(_) => self.delivery = bits(u64::from(value), 0, 0) == 1,
-            DomainReg::IForce(_) => self.force = bits(u64::from(value), 0, 0) == 1,
+            DomainReg::IDelivery(_) => self.delivery = bit(u64::from(value), 0),
+            DomainReg::IForce(_) => self.force = bit(u64::from(value), 0),
             DomainReg::IThreshold(_) => self.threshold = bits(u64::from(value), 7, 0) as u32,
             _ => {}
         }
@@ -134,14 +135,14 @@ fn top(idc: &Idc, domain: &Domain, hart: u32) -> Option<(u32, u32)>
 /// The pair of a source, where it is to be shown to the hart.
 fn candidate(domain: &Domain, s: u32, hart: u32, threshold: u32) -> Option<(u32, u32)>
     requires there { s < length domain.now.sources }
-    requires low { s < 1024 }
+    requires low { s ≤ SOURCES }
     ensures value { result ≡ candidate_at domain.now.sources hart threshold s }
     ensures small { IsSmall result }
 {
     let waits = domain.source(s).pending() && domain.enabled(s);
-    let target = u64::from(domain.target(s));
-    let priority = bits(target, 7, 0) as u32;
-    if waits && bits(target, 31, 18) == u64::from(hart) && passes(threshold, priority) {
+    let target = domain.target(s);
+    let priority = priority_of(target);
+    if waits && hart_of(target) == hart && passes(threshold, priority) {
         Some((priority, s))
     } else {
         None
@@ -169,9 +170,9 @@ fn lesser(first: Option<(u32, u32)>, second: Option<(u32, u32)>) -> Option<(u32,
 }
 
 fn topi_value(priority: u32, s: u32) -> u32
-    requires priority { priority < 256 }
-    requires number { s < 1024 }
-    ensures { result ≡ s * 65536 + priority }
+    requires priority { priority < 2 ^ 8 }
+    requires number { s ≤ SOURCES }
+    ensures { result ≡ topi_value (Some (priority, s)) }
 {
-    s * 0x1_0000 + priority
+    put_bits(put_bits(0, 25, 16, u64::from(s)), 7, 0, u64::from(priority)) as u32
 }

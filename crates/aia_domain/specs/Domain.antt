@@ -1,13 +1,11 @@
 -- A domain as it is kept: what a store makes of it, and what a load reads.
-use Rattle.std.specs.Prelude.{◌≡◌, ℕ, zero, suc, ◌+◌, ◌-◌, ◌*◌, Bool, true, false, ◌&&◌, nat_eq, if◌then◌else◌, List, [], ◌∷◌, length, All, slice_get}
-use Rattle.std.specs.Int.{swap_bytes, w32}
+use Rattle.std.specs.Prelude.{◌≡◌, ℕ, zero, suc, ◌-◌, ◌*◌, Bool, true, false, ◌&&◌, if◌then◌else◌, List, [], ◌∷◌, length, All, slice_get}
 use Rattle.aia_word.specs.Sets.{word_of}
 use Rattle.aia_regs.specs.declared.domain_registers.DomainReg.{DomainReg}
-use Rattle.aia_regs.specs.declared.domain_registers.DomainReg.TheVariants.{DomainCfg, SourceCfg, SetIp, SetIpNum, InClrIp, ClrIpNum, SetIe, SetIeNum, ClrIe, ClrIeNum, SetIpNumLe, SetIpNumBe, GenMsi, Target}
-use Rattle.aia_source.specs.Registers.{domaincfg_kept, enables, is_by_msi, in_word, genmsi_kept, same_bool, one_at}
-use Rattle.aia_domain.specs.declared.entry.Touch.TheVariants.{SetPending, ClearPending, SetEnable, ClearEnable}
+use Rattle.aia_regs.specs.declared.domain_registers.DomainReg.TheVariants.{DomainCfg, SourceCfg, SetIp, InClrIp, SetIe, GenMsi, Target}
+use Rattle.aia_source.specs.Registers.{domaincfg_kept, domaincfg_read, enables, is_by_msi, touch, genmsi_kept, same_bool}
 use Rattle.aia_domain.specs.declared.entry.Look.TheVariants as looks
-use Rattle.aia_domain.specs.Held.{Held, new_held, changed_at, written_at, touched_where, switched, aimed, waits_of, sourcecfg_of, target_of, bit_at_source}
+use Rattle.aia_domain.specs.Held.{Held, new_held, changed_at, written_at, touched, switched, aimed, waits_of, sourcecfg_of, target_of, bit_at_source}
 
 -- Whether it is a leaf of the tree of domains, which has no child; how many harts there are; IE and DM; genmsi, and whether an MSI that it
 -- asked for is still to be sent; the sources.
@@ -49,17 +47,7 @@ abbrev pub source_changed : Bool → ℕ → Bool → DomainReg → ℕ → ℕ 
 source_changed leaf harts msi DomainCfg v s x = configured_by (domaincfg_kept v) msi s x
 source_changed leaf harts msi (SourceCfg i) v s x = written_at i leaf msi v s x
 source_changed leaf harts msi (Target i) v s x = changed_at i (aimed harts msi v) s x
-source_changed leaf harts msi (SetIp k) v s x = touched_where (in_word k v) msi SetPending s x
-source_changed leaf harts msi SetIpNum v s x = touched_where (nat_eq v) msi SetPending s x
-source_changed leaf harts msi SetIpNumLe v s x = touched_where (nat_eq v) msi SetPending s x
-source_changed leaf harts msi SetIpNumBe v s x = touched_where (nat_eq (swap_bytes w32 v)) msi SetPending s x
-source_changed leaf harts msi (InClrIp k) v s x = touched_where (in_word k v) msi ClearPending s x
-source_changed leaf harts msi ClrIpNum v s x = touched_where (nat_eq v) msi ClearPending s x
-source_changed leaf harts msi (SetIe k) v s x = touched_where (in_word k v) msi SetEnable s x
-source_changed leaf harts msi SetIeNum v s x = touched_where (nat_eq v) msi SetEnable s x
-source_changed leaf harts msi (ClrIe k) v s x = touched_where (in_word k v) msi ClearEnable s x
-source_changed leaf harts msi ClrIeNum v s x = touched_where (nat_eq v) msi ClearEnable s x
-source_changed leaf harts msi reg v s x = x
+source_changed leaf harts msi reg v s x = touched msi (touch reg v s) x
 
 -- The same in a domain.
 abbrev pub source_after : DomainState → DomainReg → ℕ → ℕ → Held → Held
@@ -81,7 +69,7 @@ domain_after reg v d = d
 -- What a load of a register reads: 0 where none is there. The registers of the harts' delivery are not kept here.
 -- AIA 1.0, Advanced Platform-Level Interrupt Controller (APLIC), "Memory-mapped control region for an interrupt domain".
 abbrev pub domain_read : DomainState → DomainReg → ℕ
-domain_read d DomainCfg = 0x80000000 + one_at d.on 8 + one_at d.msi 2
+domain_read d DomainCfg = domaincfg_read d.on d.msi
 domain_read d (SourceCfg i) = sourcecfg_of d.leaf (slice_get d.sources i)
 domain_read d (SetIp k) = word_of (bit_at_source d.sources looks.Pending) (32 * k) 32
 domain_read d (InClrIp k) = word_of (bit_at_source d.sources looks.Input) (32 * k) 32

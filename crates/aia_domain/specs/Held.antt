@@ -4,9 +4,10 @@ use Rattle.aia_source.specs.declared.mode.Mode.{Mode}
 use Rattle.aia_source.specs.declared.mode.Mode.TheVariants.{Inactive}
 use Rattle.aia_source.specs.Source.{Source, Deed, new_source, done, is_active, rectified}
 use Rattle.aia_source.specs.Source.Deed.{Moved, Set, Cleared, Configured, Activated, Switched}
-use Rattle.aia_source.specs.Registers.{root_sourcecfg, child_sourcecfg, delegates, mode_of, mode_number, first_target, target_kept, same_bool, is_named}
-use Rattle.aia_domain.specs.declared.entry.Touch.{Touch}
-use Rattle.aia_domain.specs.declared.entry.Touch.TheVariants.{SetPending, ClearPending, SetEnable, ClearEnable}
+use Rattle.aia_source.specs.declared.kept.TheConstants.{DELEGATED}
+use Rattle.aia_source.specs.Registers.{root_sourcecfg, child_sourcecfg, delegates, mode_of, mode_number, first_target, target_kept, same_bool, is_named, touch_where}
+use Rattle.aia_source.specs.declared.touch.Touch.{Touch}
+use Rattle.aia_source.specs.declared.touch.Touch.TheVariants.{SetPending, ClearPending, SetEnable, ClearEnable}
 use Rattle.aia_domain.specs.declared.entry.Look.{Look}
 use Rattle.aia_domain.specs.declared.entry.Look.TheVariants as looks
 
@@ -33,12 +34,14 @@ with_deed msi deed x = record x { source = done msi deed x.source.mode x.source.
 abbrev pub with_enable : Bool → Held → Held
 with_enable b x = record x { enabled = is_active x.source.mode && b }
 
--- A register touches its pending bit or its enable bit.
-abbrev pub touched : Bool → Touch → Held → Held
-touched msi SetPending x = with_deed msi Set x
-touched msi ClearPending x = with_deed msi Cleared x
-touched msi SetEnable x = with_enable true x
-touched msi ClearEnable x = with_enable false x
+-- A store touches its pending bit, its enable bit, or neither.
+-- AIA 1.0, Advanced Platform-Level Interrupt Controller (APLIC).
+abbrev pub touched : Bool → Option Touch → Held → Held
+touched msi None x = x
+touched msi (Some SetPending) x = with_deed msi Set x
+touched msi (Some ClearPending) x = with_deed msi Cleared x
+touched msi (Some SetEnable) x = with_enable true x
+touched msi (Some ClearEnable) x = with_enable false x
 
 -- A mode is written: what was inactive begins with no enable and the first target, and what becomes inactive has none.
 -- AIA 1.0, Advanced Platform-Level Interrupt Controller (APLIC). Profile: enable and target stay from one active mode to another.
@@ -81,7 +84,7 @@ wired msi level x = record x { source = done msi Moved x.source.mode level x.sou
 -- Its sourcecfg: in the root domain one that delegates it, and else the mode's number.
 -- AIA 1.0, Advanced Platform-Level Interrupt Controller (APLIC).
 abbrev pub sourcecfg_shown : Bool → Held → ℕ
-sourcecfg_shown leaf x = if not leaf && x.delegated then 0x400 else mode_number x.source.mode
+sourcecfg_shown leaf x = if not leaf && x.delegated then DELEGATED else mode_number x.source.mode
 
 -- Its bit of setip, in_clrip and setie.
 -- AIA 1.0, Advanced Platform-Level Interrupt Controller (APLIC).
@@ -107,9 +110,9 @@ EachSource old new change = EachAt old new change
 abbrev pub changed_at : ℕ → (Held → Held) → ℕ → Held → Held
 changed_at at change s x = if nat_eq at s then change x else x
 
--- Those that are named are touched by a register.
+-- Those that are named are touched.
 abbrev pub touched_where : (ℕ → Bool) → Bool → Touch → ℕ → Held → Held
-touched_where named msi touch s x = if named s then touched msi touch x else x
+touched_where named msi touch s x = touched msi (touch_where named touch s) x
 
 -- The sourcecfg of a source is written; number 0 names no source.
 abbrev pub written_at : ℕ → Bool → Bool → ℕ → ℕ → Held → Held

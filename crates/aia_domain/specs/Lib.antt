@@ -1,4 +1,3 @@
 pub mod Held
 pub mod Domain
-pub mod Loops
 pub mod Rising

@@ -1,4 +1,5 @@
 ghost use Rattle.std.specs.Prelude.{◌≡◌, suc, ◌≤◌, ◌<◌, Bool, length, slice_get, Some, None, IfOk, if◌then◌else◌};
+ghost use Rattle.aia_regs.specs.declared.limits.TheConstants.{HARTS, SOURCES};
 ghost use Rattle.aia_source.specs.Registers.{enables, is_by_msi, same_bool};
 ghost use Rattle.aia_source.specs.Source.Deed.{Claimed, Forwarded};
 ghost use Rattle.aia_domain.specs.Held.{EachSource, changed_at, granted_at, wired, with_deed, held_at, bit_at_source, target_of};
@@ -8,11 +9,10 @@ use crate::entries::{
     aim_one, claim_one, configure_one, forward_one, grant_one, is_waiting, new_entries,
     sourcecfg_of, switch_all, target_of, touch_one, touch_word, wire_one, word_shown,
 };
-use crate::entry::{Entry, Look, Touch};
-use crate::kept::{domaincfg_kept, enables, genmsi_kept, is_by_msi};
+use crate::entry::{Entry, Look};
 use crate::ready::Ready;
 use aia_regs::{DomainReg, swap32};
-use aia_source::Wired;
+use aia_source::{Touch, Wired, domaincfg_kept, domaincfg_read, enables, genmsi_kept, is_by_msi};
 use std::alloc::{AllocError, Global};
 use std::marker::Model;
 
@@ -33,14 +33,15 @@ pub struct Domain {
 }
 
 impl Model for Domain {
-    ghost use Rattle.std.specs.Prelude.{◌<◌, ◌≤◌, length};
+    ghost use Rattle.std.specs.Prelude.{suc, ◌<◌, ◌≤◌, length};
+    ghost use Rattle.aia_regs.specs.declared.limits.TheConstants.{HARTS, SOURCES};
     ghost use Rattle.aia_domain.specs.Domain.{DomainState};
 
     ghost Value = { DomainState };
 
     ghost view = { λ d. record { leaf = d.leaf; harts = d.harts; on = d.on; msi = d.msi; genmsi = d.genmsi; genmsi_waits = d.genmsi_waits; sources = d.sources.items } };
 
-    ghost invariant = { λ d. (d.harts ≤ 4) × (0 < length d.sources.items) × (length d.sources.items ≤ 1024) };
+    ghost invariant = { λ d. (d.harts ≤ HARTS) × (0 < length d.sources.items) × (length d.sources.items ≤ suc SOURCES) };
 }
 
 impl Domain {
@@ -48,8 +49,8 @@ impl Domain {
     /// source is inactive, and every register 0 but `domaincfg`.
     pub fn new(alloc: Global, sources: u32, harts: u32, leaf: bool) -> Result<Domain, AllocError>
         requires some { 1 ≤ sources }
-        requires few { sources ≤ 1023 }
-        requires harts { harts ≤ 4 }
+        requires few { sources ≤ SOURCES }
+        requires harts { harts ≤ HARTS }
         ensures { IfOk result (IsNewDomain sources harts leaf) }
     {
         let sources = new_entries(alloc, sources + 1)?;
@@ -67,7 +68,7 @@ impl Domain {
     /// How many wired sources there are, 1 to 1023.
     pub fn sources(&self) -> u32
         ensures count { length self.now.sources ≡ suc result }
-        ensures few { result ≤ 1023 }
+        ensures few { result ≤ SOURCES }
     {
         self.sources.len() as u32 - 1
     }
@@ -93,7 +94,7 @@ impl Domain {
     fn domaincfg(&self) -> u32
         ensures { result ≡ domain_read self.now DomainReg.DomainCfg }
     {
-        0x8000_0000 + if self.on { 0x100 } else { 0 } + if self.msi { 4 } else { 0 }
+        domaincfg_read(self.on, self.msi)
     }
 
     /// A register is written; where none is there, nothing is done.

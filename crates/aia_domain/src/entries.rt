@@ -1,12 +1,14 @@
 //! The sources of a domain, by their numbers: each function here changes some of them, and leaves the others as they are.
 
-ghost use Rattle.std.specs.Prelude.{◌≡◌, ◌*◌, ◌≤◌, Bool, slice_get, length, All, IfOk, if◌then◌else◌};
+ghost use Rattle.std.specs.Prelude.{◌≡◌, ◌*◌, ◌≤◌, Bool, nat_eq, slice_get, length, All, IfOk, if◌then◌else◌};
 ghost use Rattle.aia_word.specs.Sets.{word_of};
 ghost use Rattle.aia_source.specs.Source.Deed.{Claimed, Forwarded};
 ghost use Rattle.aia_source.specs.Registers.{in_word};
 ghost use Rattle.aia_domain.specs.Held.{EachSource, new_held, changed_at, touched, touched_where, written_at, all_switched, switched, aimed, sourcecfg_written, granted_at, wired, with_deed, sourcecfg_of, target_of, bit_at_source, waits_of};
 
-use crate::entry::{Entry, Look, Touch};
+use crate::entry::{Entry, Look};
+use aia_regs::bit;
+use aia_source::Touch;
 use std::alloc::{AllocError, Global};
 
 /// The sources that a register has in one word.
@@ -26,7 +28,7 @@ pub(crate) fn new_entries(alloc: Global, count: u32) -> Result<Vec<Entry>, Alloc
 
 /// One source is touched, where it is there.
 pub(crate) fn touch_one(entries: &mut [Entry], s: u64, touch: Touch, msi: bool)
-    ensures { EachSource entries.old entries.new (changed_at s (touched msi touch)) }
+    ensures { EachSource entries.old entries.new (touched_where (nat_eq s) msi touch) }
 {
     if s < entries.len() as u64 {
         entries[s as usize].touch(touch, msi);
@@ -37,9 +39,9 @@ pub(crate) fn touch_one(entries: &mut [Entry], s: u64, touch: Touch, msi: bool)
 pub(crate) fn touch_word(entries: &mut [Entry], k: u32, value: u32, touch: Touch, msi: bool)
     ensures { EachSource entries.old entries.new (touched_where (in_word k value) msi touch) }
 {
-    for bit in 0..WORD {
-        if (value >> bit) & 1 == 1 {
-            let s = u64::from(WORD) * u64::from(k) + u64::from(bit);
+    for place in 0..WORD {
+        if bit(u64::from(value), place) {
+            let s = u64::from(WORD) * u64::from(k) + u64::from(place);
             touch_one(entries, s, touch, msi);
         }
     }
@@ -59,7 +61,6 @@ pub(crate) fn configure_one(entries: &mut [Entry], s: u32, leaf: bool, msi: bool
 
 /// The `target` of a source is written, where it is there.
 pub(crate) fn aim_one(entries: &mut [Entry], s: u32, harts: u32, msi: bool, value: u32)
-    requires few { harts ≤ 4 }
     ensures { EachSource entries.old entries.new (changed_at s (aimed harts msi value)) }
 {
     if (s as usize) < entries.len() {
@@ -164,8 +165,8 @@ pub(crate) fn word_shown(entries: &[Entry], k: u32, look: Look) -> u32
 {
     let first = u64::from(WORD) * u64::from(k);
     let mut word = 0;
-    for bit in (0..WORD).rev() {
-        word = 2 * word + bit_of(entries, first + u64::from(bit), look);
+    for place in (0..WORD).rev() {
+        word = 2 * word + bit_of(entries, first + u64::from(place), look);
     }
     word
 }

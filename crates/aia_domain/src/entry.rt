@@ -1,27 +1,13 @@
-ghost use Rattle.std.specs.Prelude.{◌≡◌, ◌≤◌, Bool};
+ghost use Rattle.std.specs.Prelude.{◌≡◌, ◌≤◌, Bool, Some};
 ghost use Rattle.aia_source.specs.Source.{is_active};
 ghost use Rattle.aia_source.specs.Source.Deed.{Claimed, Forwarded};
 ghost use Rattle.aia_domain.specs.Held.{Held, new_held, with_deed, touched, configured, switched, aimed, sourcecfg_written, granted, wired, sourcecfg_shown, bit_shown, waits};
 
-use crate::kept::{
-    DELEGATED, child_sourcecfg, delegates, first_target, mode_number, mode_of, root_sourcecfg,
-    target_kept,
+use aia_source::{
+    DELEGATED, Mode, Touch, Wired, child_sourcecfg, delegates, first_target, mode_number, mode_of,
+    root_sourcecfg, target_kept,
 };
-use aia_source::{Mode, Wired};
 use std::marker::Model;
-
-/// What a register does to the bits of the sources that a write names.
-#[derive(Clone, Copy, Debug, PartialEq, Eq)]
-pub enum Touch {
-    /// `setip` and its kin.
-    SetPending,
-    /// `in_clrip` and `clripnum`.
-    ClearPending,
-    /// `setie` and `setienum`.
-    SetEnable,
-    /// `clrie` and `clrienum`.
-    ClearEnable,
-}
 
 /// Which bit of each source a register shows.
 #[derive(Clone, Copy, Debug, PartialEq, Eq)]
@@ -116,7 +102,7 @@ impl Entry {
     }
 
     pub(crate) fn touch(&mut self, touch: Touch, msi: bool)
-        ensures { self.new ≡ touched msi touch self.old }
+        ensures { self.new ≡ touched msi (Some touch) self.old }
     {
         match touch {
             Touch::SetPending => self.wired.set(msi),
@@ -166,7 +152,6 @@ impl Entry {
 
     /// Its `target` is written.
     pub(crate) fn aim(&mut self, harts: u32, msi: bool, value: u32)
-        requires few { harts ≤ 4 }
         ensures { self.new ≡ aimed harts msi value self.old }
     {
         self.target = if self.is_active() {

@@ -4,12 +4,10 @@
 mod domain;
 mod entries;
 mod entry;
-mod kept;
 pub mod laws;
 mod ready;
 #[cfg(test)]
 mod tests;
 
 pub use domain::Domain;
-pub use kept::delegates;
 pub use ready::Ready;

@@ -1,6 +1,6 @@
-use crate::{Domain, delegates};
+use crate::Domain;
 use aia_regs::DomainReg;
-use aia_source::Mode;
+use aia_source::{Mode, delegates};
 use std::test::Fail;
 
 /// A register of the root domain of 40 sources and two harts, a value that is written to it, and what a register reads then.

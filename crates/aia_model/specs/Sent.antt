@@ -1,8 +1,7 @@
 -- The MSIs that an APLIC sends: what waits to be sent, in which order, where to and with which value. Profile, where no chapter is named: this project's
 -- way to speak of time.
 use Rattle.std.specs.Prelude.{ℕ, zero, suc, ◌&&◌, Bool, true, false, List, [], ◌∷◌, map, Option, Some, None}
-use Rattle.aia_regs.specs.Fields.{field}
-use Rattle.aia_source.specs.Top.{hart_of}
+use Rattle.aia_source.specs.Top.{hart_of, identity_of}
 use Rattle.aia_model.specs.declared.msi.Msi.{Msi}
 use Rattle.aia_model.specs.declared.domain_name.DomainName.{DomainName}
 use Rattle.aia_model.specs.declared.sender.Sender.{Sender}
@@ -10,7 +9,8 @@ use Rattle.aia_model.specs.Act.{Act, Past, act_of}
 use Rattle.aia_model.specs.declared.domain_name.DomainName.TheVariants.{Root, Child}
 use Rattle.aia_model.specs.declared.sender.Sender.TheVariants.{ByGenMsi, BySource}
 use Rattle.aia_model.specs.Act.Act.{Sent}
-use Rattle.aia_model.specs.AddressOf.{AddressRegisters, address_by, addresses_of}
+use Rattle.aia_msiaddr.specs.Registers.{AddressRegisters}
+use Rattle.aia_model.specs.AddressOf.{address_by, addresses_of}
 use Rattle.aia_model.specs.SourceOf.{sources_in, is_on, is_msi, enabled, target, pending, genmsi_of, genmsi_waits}
 use Rattle.aia_model.specs.declared.line.Line.{Line}
 use Rattle.aia_model.specs.Event.{History}
@@ -52,7 +52,7 @@ domain_of_sender (BySource d s) = d
 -- An MSI by such a register: it goes to the hart of bits 31:18, with the identity of bits 10:0.
 -- AIA 1.0, Advanced Platform-Level Interrupt Controller (APLIC), "Interrupt forwarding by MSIs".
 abbrev pub msi_by : AddressRegisters → DomainName → ℕ → Msi
-msi_by a d register = record { address = address_by a d (hart_of register); value = field register 10 0 }
+msi_by a d register = record { address = address_by a d (hart_of register); value = identity_of register }
 
 abbrev pub msi_of : Past → Sender → Msi
 msi_of past sender = msi_by (addresses_of past) (domain_of_sender sender) (register_of_sender past sender)

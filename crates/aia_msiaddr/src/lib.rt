@@ -1,8 +1,10 @@
-//! The addresses of the MSIs that an APLIC's domains send.
+//! The addresses of the MSIs that an APLIC's domains send, and the registers that give them.
 #![tactic(auto)]
 
 mod addresses;
+mod registers;
 #[cfg(test)]
 mod tests;
 
 pub use addresses::{machine_address, supervisor_address};
+pub use registers::Addresses;

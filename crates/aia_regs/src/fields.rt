@@ -3,6 +3,15 @@
 ghost use Rattle.std.specs.Prelude.{◌≡◌, ℕ, ◌+◌, ◌-◌, ◌^◌, ◌<◌, ◌≤◌};
 ghost use Rattle.std.specs.Int.{bit_at};
 ghost use Rattle.aia_regs.specs.Fields.{field, with_field, IsOutside};
+ghost use Rattle.aia_regs.specs.Operations.{is_one};
+
+/// Tells whether the bit of `x` at a place is a one, the lowest being at 0.
+pub fn bit(x: u64, place: u32) -> bool
+    requires within { place < 64 }
+    ensures { result ≡ is_one x place }
+{
+    (x >> place) % 2 == 1
+}
 
 /// The field `hi:lo` of `x`: its bits from `lo` to `hi`, `lo` as the lowest.
 pub fn bits(x: u64, hi: u32, lo: u32) -> u64

@@ -16,6 +16,6 @@ mod tests;
 pub use access::{Csr, Level, Op};
 pub use byte_order::swap32;
 pub use domain_registers::{DomainReg, domain_reg};
-pub use fields::{bits, put_bits};
+pub use fields::{bit, bits, put_bits};
 pub use file_registers::{FileReg, file_reg};
 pub use request::requested;

@@ -1,27 +1,33 @@
 -- A source at a level mode, in a domain that delivers directly.
-use Rattle.std.proofs.Common.{◌≡◌, ◌≢◌, Bool, true, false, cond, refl}
+use Rattle.std.proofs.Common.{◌≡◌, ◌≢◌, Bool, true, false, cond, Option, Some, None, refl}
 use Rattle.aia_regs.specs.Word.{settle}
 use Rattle.aia_source.specs.declared.mode.Mode.{Mode}
 use Rattle.aia_source.specs.declared.mode.Mode.TheVariants.{Inactive, Detached, RisingEdge, FallingEdge, LevelHigh, LevelLow}
-use Rattle.aia_source.specs.Source.{Deed, is_level, rectified, says}
+use Rattle.aia_source.specs.declared.touch.Touch.{Touch}
+use Rattle.aia_source.specs.declared.touch.Touch.TheVariants.{SetPending, ClearPending, SetEnable, ClearEnable}
+use Rattle.aia_source.specs.Registers.{deed_of_touch}
+use Rattle.aia_source.specs.Source.{Deed, is_level, rectified, level_says, says}
 use Rattle.aia_source.specs.Source.Deed.{Moved, Set, Cleared, Claimed, Forwarded, Configured, Activated, Switched, Untouched}
 
 -- ---- what each deed makes of the pending bit of a source at a level mode
 
--- a register: it is not heard, and nor is what says nothing
-pub unheard : (m : Mode) (msi r was a b : Bool) → is_level m ≡ true → msi ≡ false → was ≡ r → settle (says m msi r r (cond a Set (cond b Cleared Untouched))) was ≡ r
-unheard Inactive msi r was a b l e same = cc
-unheard Detached msi r was a b l e same = cc
-unheard RisingEdge msi r was a b l e same = cc
-unheard FallingEdge msi r was a b l e same = cc
-unheard LevelHigh true r was a b l e same = cc
-unheard LevelHigh false r was true b l e same = same
-unheard LevelHigh false r was false true l e same = same
-unheard LevelHigh false r was false false l e same = same
-unheard LevelLow true r was a b l e same = cc
-unheard LevelLow false r was true b l e same = same
-unheard LevelLow false r was false true l e same = same
-unheard LevelLow false r was false false l e same = same
+unheard_level : (r was : Bool) (t : Option Touch) → was ≡ r → settle (level_says false r r (deed_of_touch t)) was ≡ r
+unheard_level r was None same = same
+unheard_level r was (Some SetPending) same = same
+unheard_level r was (Some ClearPending) same = same
+unheard_level r was (Some SetEnable) same = same
+unheard_level r was (Some ClearEnable) same = same
+
+-- a register: it is not heard, and nor is what touches nothing
+pub unheard : (m : Mode) (msi r was : Bool) (t : Option Touch) → is_level m ≡ true → msi ≡ false → was ≡ r → settle (says m msi r r (deed_of_touch t)) was ≡ r
+unheard Inactive msi r was t l e same = cc
+unheard Detached msi r was t l e same = cc
+unheard RisingEdge msi r was t l e same = cc
+unheard FallingEdge msi r was t l e same = cc
+unheard LevelHigh true r was t l e same = cc
+unheard LevelHigh false r was t l e same = unheard_level r was t same
+unheard LevelLow true r was t l e same = cc
+unheard LevelLow false r was t l e same = unheard_level r was t same
 
 -- its wire
 pub followed : (m : Mode) (msi before r was : Bool) → is_level m ≡ true → was ≡ before → settle (says m msi before r Moved) was ≡ r
@@ -82,11 +88,11 @@ level_follows mode was wire pending lawful level = followed mode false (rectifie
 
 pub level_stays : (mode : Mode) (wire pending : Bool) (deed : Deed) → deed ≢ Forwarded → (is_level mode ≡ true → pending ≡ rectified mode wire) → is_level mode ≡ true → settle (says mode false (rectified mode wire) (rectified mode wire) deed) pending ≡ rectified mode wire
 level_stays mode wire pending Moved other lawful level = followed mode false (rectified mode wire) (rectified mode wire) pending level (lawful level)
-level_stays mode wire pending Set other lawful level = unheard mode false (rectified mode wire) pending true false level refl (lawful level)
-level_stays mode wire pending Cleared other lawful level = unheard mode false (rectified mode wire) pending false true level refl (lawful level)
+level_stays mode wire pending Set other lawful level = unheard mode false (rectified mode wire) pending (Some SetPending) level refl (lawful level)
+level_stays mode wire pending Cleared other lawful level = unheard mode false (rectified mode wire) pending (Some ClearPending) level refl (lawful level)
 level_stays mode wire pending Claimed other lawful level = claimed mode false (rectified mode wire) pending true level refl (lawful level)
 level_stays mode wire pending Forwarded other lawful level = absurd (other refl)
 level_stays mode wire pending Configured other lawful level = begun mode false (rectified mode wire) (rectified mode wire) pending true level
 level_stays mode wire pending Activated other lawful level = begun mode false (rectified mode wire) (rectified mode wire) pending false level
 level_stays mode wire pending Switched other lawful level = changed mode false (rectified mode wire) (rectified mode wire) pending level
-level_stays mode wire pending Untouched other lawful level = unheard mode false (rectified mode wire) pending false false level refl (lawful level)
+level_stays mode wire pending Untouched other lawful level = unheard mode false (rectified mode wire) pending None level refl (lawful level)

@@ -1,26 +1,58 @@
 -- The registers of a domain that concern its wired sources: what a write of each keeps, and which sources it names.
-use Rattle.std.specs.Prelude.{ℕ, ◌+◌, ◌*◌, ◌/◌, ◌%◌, ◌^◌, Bool, true, false, not, ◌&&◌, ◌||◌, nat_eq, nat_lt, bit_and, if◌then◌else◌}
+use Rattle.std.specs.Prelude.{ℕ, ◌+◌, ◌/◌, ◌%◌, ◌^◌, Bool, true, false, not, ◌&&◌, ◌||◌, nat_eq, nat_lt, if◌then◌else◌, Option, Some, None}
 use Rattle.std.specs.Int.{swap_bytes, w32}
 use Rattle.aia_regs.specs.declared.domain_registers.DomainReg.{DomainReg}
 use Rattle.aia_regs.specs.declared.domain_registers.DomainReg.TheVariants.{SetIp, SetIpNum, InClrIp, ClrIpNum, SetIe, SetIeNum, ClrIe, ClrIeNum, SetIpNumLe, SetIpNumBe}
-use Rattle.aia_regs.specs.Fields.{field}
+use Rattle.aia_regs.specs.Fields.{field, with_field}
 use Rattle.aia_regs.specs.Operations.{is_one}
+use Rattle.aia_regs.specs.Word.{Word}
+use Rattle.aia_regs.specs.Word.Word.{Ask, Clear, Nothing}
+use Rattle.aia_source.specs.declared.kept.TheConstants.{IE, DM, D, DELEGATED, DOMAINCFG_TOP}
 use Rattle.aia_source.specs.declared.mode.Mode.{Mode}
 use Rattle.aia_source.specs.declared.mode.Mode.TheVariants.{Inactive, Detached, RisingEdge, FallingEdge, LevelHigh, LevelLow}
+use Rattle.aia_source.specs.declared.touch.Touch.{Touch}
+use Rattle.aia_source.specs.declared.touch.Touch.TheVariants.{SetPending, ClearPending, SetEnable, ClearEnable}
+use Rattle.aia_source.specs.Top.{hart_of, priority_of, identity_of}
+use Rattle.aia_source.specs.Source.{Deed}
+use Rattle.aia_source.specs.Source.Deed.{Set, Cleared, Untouched}
+
+-- ---- bits and conditions
+
+-- Whether two are the same. Profile.
+abbrev pub same_bool : Bool → Bool → Bool
+same_bool true b = b
+same_bool false b = not b
+
+-- A number with a one at bit b, or with none. Profile.
+abbrev pub one_at : Bool → ℕ → ℕ
+one_at is b = if is then 2 ^ b else 0
+
+-- Whether a register's index is a source's number; 0 is none's. Profile: sources are numbered from 1.
+abbrev pub is_named : ℕ → ℕ → Bool
+is_named i s = nat_eq i s && nat_lt 0 s
 
 -- ---- domaincfg
 
--- What a write keeps: IE, bit 8, and DM, bit 2.
--- AIA 1.0, Advanced Platform-Level Interrupt Controller (APLIC). Profile: BE, bit 0, is read-only zero.
-abbrev pub domaincfg_kept : ℕ → ℕ
-domaincfg_kept v = bit_and v 0x104
+-- A domaincfg of IE and DM. What a write keeps: both, of the value.
+-- AIA 1.0, Advanced Platform-Level Interrupt Controller (APLIC). Profile: BE is read-only zero.
+abbrev pub domaincfg_with : Bool → Bool → ℕ
+domaincfg_with ie dm = one_at ie IE + one_at dm DM
 
--- Whether a domaincfg enables the domain's interrupts (IE), and whether it delivers them by MSIs (DM).
+abbrev pub domaincfg_kept : ℕ → ℕ
+domaincfg_kept v = domaincfg_with (is_one v IE) (is_one v DM)
+
+-- What domaincfg reads: 0x80 in bits 31:24, IE and DM.
+-- AIA 1.0, Advanced Platform-Level Interrupt Controller (APLIC).
+abbrev pub domaincfg_read : Bool → Bool → ℕ
+domaincfg_read ie dm = DOMAINCFG_TOP + domaincfg_with ie dm
+
+-- Whether a domaincfg enables the domain's interrupts (IE), and whether it delivers them by MSIs
+-- (DM).
 abbrev pub enables : ℕ → Bool
-enables cfg = is_one cfg 8
+enables cfg = is_one cfg IE
 
 abbrev pub is_by_msi : ℕ → Bool
-is_by_msi cfg = is_one cfg 2
+is_by_msi cfg = is_one cfg DM
 
 -- ---- sourcecfg
 
@@ -29,20 +61,20 @@ is_by_msi cfg = is_one cfg 2
 abbrev pub legal_mode : ℕ → ℕ
 legal_mode sm = if nat_eq sm 2 || nat_eq sm 3 then 0 else sm
 
--- What a write keeps in the root domain: with D, bit 10, the source is delegated to the child domain that bits 9:0 name; without, SM,
--- bits 2:0, is its mode.
+-- What a write keeps in the root domain: with D, the source is delegated to the child domain that
+-- bits 9:0 name; without, SM, bits 2:0, is its mode.
 -- AIA 1.0, Advanced Platform-Level Interrupt Controller (APLIC). Profile: there is one child, with the index 0; another index makes the register 0.
 abbrev pub root_sourcecfg : ℕ → ℕ
-root_sourcecfg v = if is_one v 10 then (if nat_eq (field v 9 0) 0 then 0x400 else 0) else legal_mode (field v 2 0)
+root_sourcecfg v = if is_one v D then (if nat_eq (field v 9 0) 0 then DELEGATED else 0) else legal_mode (field v 2 0)
 
 -- What it keeps in the child domain, which has no child: D makes the register 0.
 -- AIA 1.0, Advanced Platform-Level Interrupt Controller (APLIC).
 abbrev pub child_sourcecfg : ℕ → ℕ
-child_sourcecfg v = if is_one v 10 then 0 else legal_mode (field v 2 0)
+child_sourcecfg v = if is_one v D then 0 else legal_mode (field v 2 0)
 
 -- Whether a sourcecfg of the root domain delegates the source.
 abbrev pub delegates : ℕ → Bool
-delegates cfg = nat_eq cfg 0x400
+delegates cfg = nat_eq cfg DELEGATED
 
 -- The mode that a sourcecfg gives.
 -- AIA 1.0, Advanced Platform-Level Interrupt Controller (APLIC).
@@ -72,27 +104,34 @@ mode_number LevelLow = 7
 abbrev pub in_word : ℕ → ℕ → ℕ → Bool
 in_word k v s = nat_eq (s / 32) k && is_one v (s % 32)
 
-abbrev pub sets_pending : DomainReg → ℕ → ℕ → Bool
-sets_pending (SetIp k) v s = in_word k v s
-sets_pending SetIpNum v s = nat_eq v s
-sets_pending SetIpNumLe v s = nat_eq v s
-sets_pending SetIpNumBe v s = nat_eq (swap_bytes w32 v) s
-sets_pending reg v s = false
+-- A touch of those that are named, and of no other.
+abbrev pub touch_where : (ℕ → Bool) → Touch → ℕ → Option Touch
+touch_where named touch s = if named s then Some touch else None
 
-abbrev pub clears_pending : DomainReg → ℕ → ℕ → Bool
-clears_pending (InClrIp k) v s = in_word k v s
-clears_pending ClrIpNum v s = nat_eq v s
-clears_pending reg v s = false
+-- What a store of v to a register does to source s; None where it does not touch its bits.
+abbrev pub touch : DomainReg → ℕ → ℕ → Option Touch
+touch (SetIp k) v s = touch_where (in_word k v) SetPending s
+touch SetIpNum v s = touch_where (nat_eq v) SetPending s
+touch SetIpNumLe v s = touch_where (nat_eq v) SetPending s
+touch SetIpNumBe v s = touch_where (nat_eq (swap_bytes w32 v)) SetPending s
+touch (InClrIp k) v s = touch_where (in_word k v) ClearPending s
+touch ClrIpNum v s = touch_where (nat_eq v) ClearPending s
+touch (SetIe k) v s = touch_where (in_word k v) SetEnable s
+touch SetIeNum v s = touch_where (nat_eq v) SetEnable s
+touch (ClrIe k) v s = touch_where (in_word k v) ClearEnable s
+touch ClrIeNum v s = touch_where (nat_eq v) ClearEnable s
+touch reg v s = None
 
-abbrev pub sets_enable : DomainReg → ℕ → ℕ → Bool
-sets_enable (SetIe k) v s = in_word k v s
-sets_enable SetIeNum v s = nat_eq v s
-sets_enable reg v s = false
+-- What it is to the source's pending bit, and what it says of its enable bit.
+abbrev pub deed_of_touch : Option Touch → Deed
+deed_of_touch (Some SetPending) = Set
+deed_of_touch (Some ClearPending) = Cleared
+deed_of_touch touch = Untouched
 
-abbrev pub clears_enable : DomainReg → ℕ → ℕ → Bool
-clears_enable (ClrIe k) v s = in_word k v s
-clears_enable ClrIeNum v s = nat_eq v s
-clears_enable reg v s = false
+abbrev pub enable_of_touch : Option Touch → Word
+enable_of_touch (Some SetEnable) = Ask
+enable_of_touch (Some ClearEnable) = Clear
+enable_of_touch touch = Nothing
 
 -- ---- target and genmsi
 
@@ -110,31 +149,20 @@ legal_hart harts x = if nat_lt x harts then x else 0
 abbrev pub legal_priority : ℕ → ℕ
 legal_priority x = if nat_eq x 0 then 1 else x
 
--- What a write keeps in bits 31:18, the hart index.
+-- What a write keeps in bits 31:18, the hart index, the others being 0.
 abbrev pub hart_kept : ℕ → ℕ → ℕ
-hart_kept harts v = legal_hart harts (field v 31 18) * 2 ^ 18
+hart_kept harts v = with_field 0 31 18 (legal_hart harts (hart_of v))
 
--- What a write of a source's target keeps: the hart index, and the priority in bits 7:0, or by MSIs the identity in bits 10:0.
--- AIA 1.0, Advanced Platform-Level Interrupt Controller (APLIC). Profile: by MSIs the guest index, bits 17:12, is read-only zero.
-abbrev pub target_kept : ℕ → Bool → ℕ → ℕ
-target_kept harts msi v = hart_kept harts v + (if msi then field v 10 0 else legal_priority (field v 7 0))
-
--- What a write of genmsi keeps where the domain delivers by MSIs: the hart index and the identity; Busy, bit 12, is 0.
+-- What a write of genmsi keeps where the domain delivers by MSIs: the hart index, and the identity
+-- in bits 10:0; Busy, bit 12, is 0.
 -- AIA 1.0, Advanced Platform-Level Interrupt Controller (APLIC). Profile: the MSI is sent at once.
 abbrev pub genmsi_kept : ℕ → ℕ → ℕ
-genmsi_kept harts v = hart_kept harts v + field v 10 0
+genmsi_kept harts v = with_field (hart_kept harts v) 10 0 (identity_of v)
 
--- ---- bits and conditions
-
--- Whether two are the same. Profile.
-abbrev pub same_bool : Bool → Bool → Bool
-same_bool true b = b
-same_bool false b = not b
-
--- A number with a one at bit b, or with none. Profile.
-abbrev pub one_at : Bool → ℕ → ℕ
-one_at is b = if is then 2 ^ b else 0
-
--- Whether a register's index is a source's number; 0 is none's. Profile: sources are numbered from 1.
-abbrev pub is_named : ℕ → ℕ → Bool
-is_named i s = nat_eq i s && nat_lt 0 s
+-- What a write of a source's target keeps: by MSIs what genmsi keeps, and else the hart index and,
+-- in bits 7:0, the priority.
+-- AIA 1.0, Advanced Platform-Level Interrupt Controller (APLIC). Profile: by MSIs the guest index,
+-- bits 17:12, is read-only zero.
+abbrev pub target_kept : ℕ → Bool → ℕ → ℕ
+target_kept harts msi v =
+    if msi then genmsi_kept harts v else with_field (hart_kept harts v) 7 0 (legal_priority (priority_of v))

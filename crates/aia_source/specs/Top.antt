@@ -1,6 +1,6 @@
 -- Which of some sources is on top for a hart: the one with the least pair of priority and number.
-use Rattle.std.specs.Prelude.{◌≡◌, ℕ, zero, suc, ◌+◌, ◌*◌, ◌<◌, ◌≤◌, ◌⊎◌, Bool, false, nat_eq, nat_lt, if◌then◌else◌, Option, Some, None}
-use Rattle.aia_regs.specs.Fields.{field}
+use Rattle.std.specs.Prelude.{◌≡◌, ℕ, zero, suc, ◌+◌, ◌<◌, ◌≤◌, ◌⊎◌, Bool, false, nat_eq, nat_lt, if◌then◌else◌, Option, Some, None}
+use Rattle.aia_regs.specs.Fields.{field, with_field}
 
 -- A source's priority and its number.
 -- AIA 1.0, Advanced Platform-Level Interrupt Controller (APLIC), "Interrupt delivery directly by the APLIC".
@@ -35,7 +35,7 @@ pub record IsLeast (candidate : ℕ → Option Pair) (from count : ℕ) (p : Pai
   pub is : candidate p.1 ≡ Some p
   pub least : (s : ℕ) (q : Pair) → from ≤ s → s < from + count → candidate s ≡ Some q → ComesFirst p q
 
--- The priority and the hart index of a target.
+-- The priority and the hart index of a target, and the identity of one by MSIs.
 -- AIA 1.0, Advanced Platform-Level Interrupt Controller (APLIC).
 abbrev pub priority_of : ℕ → ℕ
 priority_of target = field target 7 0
@@ -43,15 +43,19 @@ priority_of target = field target 7 0
 abbrev pub hart_of : ℕ → ℕ
 hart_of target = field target 31 18
 
+abbrev pub identity_of : ℕ → ℕ
+identity_of target = field target 10 0
+
 -- The pair of a source with this target, where it is among those that are looked at.
 abbrev pub pair_if : Bool → ℕ → ℕ → Option Pair
 pair_if is target s = if is then Some (priority_of target, s) else None
 
--- What topi reads: the number from bit 16 on, the priority below it; 0 where no source is on top.
--- AIA 1.0, Advanced Platform-Level Interrupt Controller (APLIC), "Interrupt delivery directly by the APLIC".
+-- What topi reads: the number in bits 25:16, the priority in bits 7:0; 0 where no source is on top.
+-- AIA 1.0, Advanced Platform-Level Interrupt Controller (APLIC), "Interrupt delivery directly by the
+-- APLIC".
 abbrev pub topi_value : Option Pair → ℕ
 topi_value None = 0
-topi_value (Some p) = p.1 * 65536 + p.0
+topi_value (Some p) = with_field (with_field 0 25 16 p.1) 7 0 p.0
 
 -- Whether a source is the one on top.
 abbrev pub is_top : Option Pair → ℕ → Bool

@@ -1,5 +1,5 @@
 use Rattle.aia_domain.specs.Held.{EachSource}
-use Rattle.aia_domain.specs.Loops.{switched_below}
+use Rattle.aia_domain.proofs.Loops.{switched_below}
 use Rattle.aia_domain.proofs.entries.switch_all.Given as goal
 
 abbrev pub invariant-loop-s : goal.invariant-loop-s

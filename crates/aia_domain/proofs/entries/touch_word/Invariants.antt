@@ -1,6 +1,6 @@
 use Rattle.aia_domain.specs.Held.{EachSource, touched_where}
-use Rattle.aia_domain.specs.Loops.{in_word_below}
+use Rattle.aia_domain.proofs.Loops.{in_word_below}
 use Rattle.aia_domain.proofs.entries.touch_word.Given as goal
 
-abbrev pub invariant-loop-bit : goal.invariant-loop-bit
-invariant-loop-bit l = EachSource l.fn.entries l.entries (touched_where (in_word_below l.bit l.k l.value) l.msi l.touch)
+abbrev pub invariant-loop-place : goal.invariant-loop-place
+invariant-loop-place l = EachSource l.fn.entries l.entries (touched_where (in_word_below l.place l.k l.value) l.msi l.touch)

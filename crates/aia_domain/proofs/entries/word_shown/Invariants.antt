@@ -3,5 +3,5 @@ use Rattle.aia_word.specs.Sets.{word_of}
 use Rattle.aia_domain.specs.Held.{bit_at_source}
 use Rattle.aia_domain.proofs.entries.word_shown.Given as goal
 
-abbrev pub invariant-loop-bit : goal.invariant-loop-bit
-invariant-loop-bit l = l.word ≡ word_of (bit_at_source l.entries l.look) (32 * l.k + l.bit) (32 - l.bit)
+abbrev pub invariant-loop-place : goal.invariant-loop-place
+invariant-loop-place l = l.word ≡ word_of (bit_at_source l.entries l.look) (32 * l.k + l.place) (32 - l.place)

@@ -3,7 +3,7 @@ use Rattle.aia_model.specs.declared.domain_name.DomainName.TheVariants.{Root, Ch
 use Rattle.aia_regs.specs.declared.domain_registers.DomainReg.{DomainReg}
 use Rattle.aia_model.specs.Act.Act.{Written}
 use Rattle.aia_aplic.specs.Stands.{AplicState, SideStands, AplicStands}
-use Rattle.aia_model.specs.AddressOf.{address_written}
+use Rattle.aia_msiaddr.specs.Registers.{address_written}
 use Rattle.aia_aplic.proofs.AddressSteps.{addresses_root}
 use Rattle.aia_aplic.proofs.SideLemmas.{child-side_other}
 use Rattle.aia_aplic.proofs.aplic.Aplic.store_root.Goals as goal
