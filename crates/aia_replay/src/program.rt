@@ -1,6 +1,6 @@
-ghost use Rattle.std.specs.Prelude.{◌≡◌, ◌≢◌, ◌+◌, ◌≤◌, ◌↔◌, List, [], IsTrue};
+ghost use Rattle.std.specs.Prelude.{◌≡◌, ◌≢◌, ◌↔◌, List, [], IsTrue};
 ghost use Rattle.aia_io.specs.Ends.{Rose};
-ghost use Rattle.aia_replay.specs.Runs.{IsReplay, EndsWith, WritesAnswers, WritesFront, WritesLines, StopsAtMachine, TakesAll, Takes, TakesAtMost, HasAtMost, IsDoneOrMemory};
+ghost use Rattle.aia_replay.specs.Runs.{IsReplay, EndsWith, WritesAnswers, TakesAll, HasAtMost, IsDoneOrMemory};
 ghost use Rattle.std.specs.Io.KnownBytes.{Appends, Consumes};
 
 use crate::limits::SCRIPT_BYTES;
@@ -47,39 +47,16 @@ pub fn run<S: Source, K: Sink>(
         (K.taken sink.old) (K.taken sink.new) }
     ensures all { result ≡ Status.Done → TakesAll (S.left source.old) (S.left source.new) }
 
-    // The other endings have a cause that shows.
-    ensures read_fault { result ≡ Status.ReadFault
-        → Rose (S.faults source.old) (S.faults source.new) }
-    ensures write_fault { result ≡ Status.WriteFault
-        → Rose (K.faults sink.old) (K.faults sink.new) }
-    ensures too_long { result ≡ Status.TooLong
-        → Takes (SCRIPT_BYTES + 1) (S.left source.old) (S.left source.new) }
-    ensures memory { result ≡ Status.Memory → StopsAtMachine (S.left source.old) (S.left source.new)
-        (K.taken sink.old) (K.taken sink.new) }
-
-    // They too write nothing but answers: of the whole lines read, or a front of what the bytes
-    // read answer.
-    ensures read_fault_written { result ≡ Status.ReadFault
-        → WritesLines 0 (S.left source.old) (S.left source.new)
-        (K.taken sink.old) (K.taken sink.new) }
-    ensures too_long_written { result ≡ Status.TooLong
-        → WritesLines 1 (S.left source.old) (S.left source.new)
-        (K.taken sink.old) (K.taken sink.new) }
-    ensures write_fault_written { result ≡ Status.WriteFault
-        → WritesFront (S.left source.old) (S.left source.new)
-        (K.taken sink.old) (K.taken sink.new) }
+    // What every ending promises: its cause, what was then written, and how much was taken.
+    ensures ends { EndsWith result (S.left source.old) (S.left source.new) (K.taken sink.old)
+        (K.taken sink.new) (S.faults source.old) (S.faults source.new) (K.faults sink.old)
+        (K.faults sink.new) }
 
     // Completeness: with good words, no fault and a script that fits, nothing but want of memory is
     // in the way.
     ensures complete { IsReplay words.now → (¬ Rose (S.faults source.old) (S.faults source.new))
         → (¬ Rose (K.faults sink.old) (K.faults sink.new))
         → HasAtMost SCRIPT_BYTES (S.left source.old) → IsDoneOrMemory result }
-
-    ensures bound { TakesAtMost (SCRIPT_BYTES + 1) (S.left source.old) (S.left source.new) }
-    ensures limit { result ≢ Status.TooLong
-        → TakesAtMost SCRIPT_BYTES (S.left source.old) (S.left source.new) }
-    ensures source_faults { S.faults source.old ≤ S.faults source.new }
-    ensures sink_faults { K.faults sink.old ≤ K.faults sink.new }
 {
     if is_replay(words) {
         replay(alloc, source, sink)
