@@ -1,6 +1,6 @@
 -- With each MSI that is sent fewer wait.
 use Rattle.std.proofs.Common.{◌≡◌, ℕ, zero, suc, ◌+◌, ◌<◌, ◌≤◌, Bool, true, false, cond, ◌&&◌, nat_eq, List, [], ◌∷◌, slice_get, count_by, Option, Some, None, refl, sym, ap, subst, ◌∙◌, arith}
-use Rattle.std.proofs.lemmas.Bool.{eq-eqb}
+use Rattle.std.proofs.lemmas.Bool.{eq-eqb, and_parts}
 use Rattle.std.proofs.lemmas.List.Recursion.{is_count_by}
 use Rattle.aia_source.specs.Source.{rectified}
 use Rattle.aia_source.specs.Source.Deed.{Forwarded}
@@ -72,15 +72,10 @@ fewer_at false x e = e
 falls_at : (s : ℕ) (x : Held) → waits (changed_at s (with_deed true Forwarded) s x) ≡ false
 falls_at s x = ap (λ b. waits (cond b (with_deed true Forwarded x) x)) (eq-eqb s s refl) ∙ falls_now x
 
-last_true : (a b c : Bool) → (a && b && c) ≡ true → c ≡ true
-last_true true true c e = e
-last_true true false c e = absurd (cc)
-last_true false b c e = absurd (cc)
-
 pub fewer_forwarded : (s : ℕ) (d e : DomainState) → is_ready d s ≡ true → EachSource d.sources e.sources (changed_at s (with_deed true Forwarded)) → e ≡ with_sources d e.sources
     → cond e.genmsi_waits 1 0 + count_by waits e.sources < cond d.genmsi_waits 1 0 + count_by waits d.sources
 fewer_forwarded s d e ready each rest =
-    let less = one_less d.sources e.sources (changed_at s (with_deed true Forwarded)) s each (λ i x. fewer_at (nat_eq s i) x) (last_true d.msi d.on (waits_of (slice_get d.sources s)) ready) (falls_at s) in
+    let less = one_less d.sources e.sources (changed_at s (with_deed true Forwarded)) s each (λ i x. fewer_at (nat_eq s i) x) (and_parts (d.msi && d.on) (waits_of (slice_get d.sources s)) ready).1 (falls_at s) in
     let fewer : count_by waits e.sources < count_by waits d.sources = subst (λ n. count_by waits e.sources < n) (count_is d.sources) (subst (λ n. n < count d.sources) (count_is e.sources) less) in
     let same : cond e.genmsi_waits 1 0 ≡ cond d.genmsi_waits 1 0 = ap (λ (x : DomainState). cond x.genmsi_waits 1 0) rest in
     subst (λ n. n + count_by waits e.sources < cond d.genmsi_waits 1 0 + count_by waits d.sources) (sym same) (omega (arith, fewer))

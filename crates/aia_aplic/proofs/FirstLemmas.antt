@@ -1,11 +1,11 @@
 -- What is kept tells what waits first.
-use Rattle.std.proofs.Common.{◌≡◌, ℕ, zero, suc, ◌<◌, ◌≤◌, Bool, true, false, ◌&&◌, List, [], ◌∷◌, length, slice_get, get_or, Option, Some, None, MatchOption, inl, inr, refl, sym, ap, subst, ◌∙◌, arith}
-use Rattle.std.proofs.lemmas.Bool.{cases_lt}
+use Rattle.std.proofs.Common.{◌≡◌, ℕ, zero, suc, ◌<◌, ◌≤◌, Bool, true, false, ◌&&◌, List, [], ◌∷◌, length, slice_get, get_or, Option, Some, None, MatchOption, ◌⊎◌, inl, inr, refl, sym, ap, subst, ◌∙◌, arith}
+use Rattle.std.specs.List.{Contains, AllPairs}
+use Rattle.std.proofs.lemmas.Bool.{cases_lt, and_parts}
 use Rattle.std.proofs.lemmas.Option.{slice_get_past, slice_get-get_or}
 use Rattle.aia_domain.specs.Held.{Held, waits_of}
 use Rattle.aia_domain.specs.Domain.{DomainState, ready_from}
 use Rattle.aia_domain.specs.Domain as kept
-use Rattle.aia_domain.specs.Rising.{IsMember, IsRising}
 use Rattle.aia_domain.proofs.ReadyLemmas.{from_members, from_each, from_rising}
 use Rattle.aia_model.specs.declared.domain_name.DomainName.{DomainName}
 use Rattle.aia_model.specs.Act.{Past}
@@ -13,24 +13,21 @@ use Rattle.aia_model.specs.declared.domain_name.DomainName.TheVariants.{Root, Ch
 use Rattle.aia_model.specs.declared.sender.Sender.{Sender}
 use Rattle.aia_model.specs.declared.sender.Sender.TheVariants.{ByGenMsi, BySource}
 use Rattle.aia_model.specs.SourceOf.{sources_in, is_on, is_msi, enabled, pending, genmsi_waits}
-use Rattle.aia_model.specs.Sent.{is_ready, first_if, ready_sources, senders}
-use Rattle.aia_aplic.specs.Stands.{held, DomainStands, AplicState, AplicStands}
+use Rattle.aia_model.specs.Sent.{is_ready, all_senders, does_send}
+use Rattle.aia_aplic.specs.Stands.{held, DomainStands, AplicState, AplicStands, side}
 use Rattle.aia_aplic.specs.Sending.{IsLeastOf, IsFirstSource, IsFirst}
 use Rattle.aia_aplic.proofs.Steps.{held-idle}
 use Rattle.aia_aplic.proofs.Reading.{mode-zero}
-use Rattle.aia_aplic.proofs.SendingLemmas.{no_ready, root_first, child_first}
+use Rattle.aia_aplic.specs.Senders.{SendsBefore}
+use Rattle.aia_source.proofs.ListLemmas.{here, here_or_later, nowhere, pairs_head, filter_none, filter_first}
+use Rattle.aia_aplic.proofs.OrderLaw.{all_in_order, all_genmsi, all_sources, source_there}
 
 -- ---- what is kept tells what is ready
 
-and_last : (a b c : Bool) → (a && b && c) ≡ true → c ≡ true
-and_last true true c e = e
-and_last true false c e = absurd (cc)
-and_last false b c e = absurd (cc)
-
 pub ready_within : (d : DomainState) (s : ℕ) → kept.is_ready d s ≡ true → s < length d.sources
-ready_within d s here = elim (cases_lt s (length d.sources)) [
+ready_within d s ready = elim (cases_lt s (length d.sources)) [
   | inl p ↦ p
-  | inr p ↦ let none : false ≡ true = sym (ap waits_of (slice_get_past d.sources s p)) ∙ and_last d.msi d.on (waits_of (slice_get d.sources s)) here in absurd (cc)
+  | inr p ↦ let none : false ≡ true = sym (ap waits_of (slice_get_past d.sources s p)) ∙ (and_parts (d.msi && d.on) (waits_of (slice_get d.sources s)) ready).1 in absurd (cc)
 ]
 
 regroup : (a b c d : Bool) → (a && b && c && d) ≡ (a && b && (c && d))
@@ -60,28 +57,28 @@ ready_zero past name =
     ∙ neither (is_msi past name) (is_on past name)
 
 not_zero : (past : Past) (name : DomainName) (s : ℕ) → is_ready past name s ≡ true → 1 ≤ s
-not_zero past name zero here = let bad : false ≡ true = sym (ready_zero past name) ∙ here in absurd (cc)
-not_zero past name (suc s) here = omega arith
+not_zero past name zero ready = let bad : false ≡ true = sym (ready_zero past name) ∙ ready in absurd (cc)
+not_zero past name (suc s) ready = omega arith
 
 -- ---- the least source that a domain is to forward
 
-below_head : (x t : ℕ) (xs : List ℕ) → IsMember t (x ∷ xs) → IsRising (x ∷ xs) → x ≤ t
-below_head x t xs (inl e) rising = omega (arith, e)
-below_head x t xs (inr m) rising = let below = rising.0 t m in omega (arith, below)
-
-pub none_ready : (d : DomainState) → ready_from d 0 ≡ [] → (s : ℕ) → kept.is_ready d s ≡ false
+none_ready : (d : DomainState) → ready_from d 0 ≡ [] → (s : ℕ) → kept.is_ready d s ≡ false
 none_ready d is s = at (kept.is_ready d s) refl
   where
     at : (b : Bool) → kept.is_ready d s ≡ b → kept.is_ready d s ≡ false
     at false e = e
-    at true e = let m : IsMember s [] = subst (IsMember s) is (from_each d 0 s (omega arith) (ready_within d s e) e) in absurd m
+    at true e = nowhere s (subst (λ xs. Contains xs s) is (from_each d 0 s (omega arith) (ready_within d s e) e))
 
-pub first_ready : (d : DomainState) (x : ℕ) (xs : List ℕ) → ready_from d 0 ≡ x ∷ xs → (kept.is_ready d x ≡ true) × ((t : ℕ) → t < x → kept.is_ready d t ≡ false)
-first_ready d x xs is = ((from_members d 0 x (subst (IsMember x) (sym is) (inl refl))).2, λ t low. at t low (kept.is_ready d t) refl)
+first_ready : (d : DomainState) (x : ℕ) (xs : List ℕ) → ready_from d 0 ≡ x ∷ xs → (kept.is_ready d x ≡ true) × ((t : ℕ) → t < x → kept.is_ready d t ≡ false)
+first_ready d x xs is = ((from_members d 0 x (subst (λ ys. Contains ys x) (sym is) (here x xs))).2, λ t low. at t low (kept.is_ready d t) refl)
   where
+    above : (t : ℕ) → (x ≡ t) ⊎ Contains xs t → x ≤ t
+    above t (inl e) = omega (arith, e)
+    above t (inr m) = let low = pairs_head (λ a b. a < b) x t xs (subst (AllPairs (λ a b. a < b)) is (from_rising d 0)) m in omega (arith, low)
+
     at : (t : ℕ) → t < x → (b : Bool) → kept.is_ready d t ≡ b → kept.is_ready d t ≡ false
     at t low false e = e
-    at t low true e = let above = below_head x t xs (subst (IsMember t) is (from_each d 0 t (omega arith) (ready_within d t e) e)) (subst IsRising is (from_rising d 0)) in absurd (omega (arith, above, low))
+    at t low true e = let high = above t (here_or_later x t xs (subst (λ ys. Contains ys t) is (from_each d 0 t (omega arith) (ready_within d t e) e))) in absurd (omega (arith, high, low))
 
 -- what an iterator over the sources that are ready gives first
 pub least_yielded : (d : DomainState) (old new : List ℕ) (r : Option ℕ) → MatchOption r ((old ≡ []) × (new ≡ [])) (λ x. old ≡ x ∷ new) → ready_from d 0 ≡ old → IsLeastOf (kept.is_ready d) r
@@ -99,51 +96,68 @@ none_by_mode d off s = at d.msi d.on off
 
 -- ---- what waits first
 
-at_genmsi : (past : Past) → genmsi_waits past Root ≡ true → IsFirst (Some (ByGenMsi Root)) past
-at_genmsi past busy = (first_if (genmsi_waits past Child) (ByGenMsi Child) (ready_sources (is_ready past) 1 (sources_in past)), ap (λ b. first_if b (ByGenMsi Root) (first_if (genmsi_waits past Child) (ByGenMsi Child) (ready_sources (is_ready past) 1 (sources_in past)))) busy)
-
-at_child_genmsi : (past : Past) → genmsi_waits past Root ≡ false → genmsi_waits past Child ≡ true → IsFirst (Some (ByGenMsi Child)) past
-at_child_genmsi past idle busy = (
-  ready_sources (is_ready past) 1 (sources_in past),
-  ap (λ b. first_if b (ByGenMsi Root) (first_if (genmsi_waits past Child) (ByGenMsi Child) (ready_sources (is_ready past) 1 (sources_in past)))) idle ∙ ap (λ b. first_if b (ByGenMsi Child) (ready_sources (is_ready past) 1 (sources_in past))) busy,
-)
+-- one that has an MSI to send, while none before it has
+first_is : (past : Past) (x : Sender) → Contains (all_senders (sources_in past)) x → does_send past x ≡ true → ((y : Sender) → Contains (all_senders (sources_in past)) y → SendsBefore y x → does_send past y ≡ false) → IsFirst (Some x) past
+first_is past x there sends none = filter_first SendsBefore (does_send past) (all_senders (sources_in past)) x (all_in_order (sources_in past)) there sends none
 
 pub root_genmsi_first : (a : AplicState) (past : Past) → a.root.domain.genmsi_waits ≡ true → AplicStands a past → IsFirst (Some (ByGenMsi Root)) past
-root_genmsi_first a past busy stands = at_genmsi past (sym stands.root.domain.genmsi_waits ∙ busy)
+root_genmsi_first a past busy stands = first_is past (ByGenMsi Root) (all_genmsi (sources_in past) Root) (sym stands.root.domain.genmsi_waits ∙ busy) none
+  where
+    none : (y : Sender) → Contains (all_senders (sources_in past)) y → SendsBefore y (ByGenMsi Root) → does_send past y ≡ false
+    none (ByGenMsi Root) m before = absurd before
+    none (ByGenMsi Child) m before = absurd before
+    none (BySource d s) m before = absurd before
 
 pub child_genmsi_first : (a : AplicState) (past : Past) → a.root.domain.genmsi_waits ≡ false → a.child.domain.genmsi_waits ≡ true → AplicStands a past → IsFirst (Some (ByGenMsi Child)) past
-child_genmsi_first a past idle busy stands = at_child_genmsi past (sym stands.root.domain.genmsi_waits ∙ idle) (sym stands.child.domain.genmsi_waits ∙ busy)
+child_genmsi_first a past idle busy stands = first_is past (ByGenMsi Child) (all_genmsi (sources_in past) Child) (sym stands.child.domain.genmsi_waits ∙ busy) none
+  where
+    none : (y : Sender) → Contains (all_senders (sources_in past)) y → SendsBefore y (ByGenMsi Child) → does_send past y ≡ false
+    none (ByGenMsi Root) m before = sym stands.root.domain.genmsi_waits ∙ idle
+    none (ByGenMsi Child) m before = absurd before
+    none (BySource d s) m before = absurd before
 
 -- no genmsi waits
-sources_alone : (past : Past) → genmsi_waits past Root ≡ false → genmsi_waits past Child ≡ false → senders past ≡ ready_sources (is_ready past) 1 (sources_in past)
-sources_alone past idle quiet =
-    ap (λ b. first_if b (ByGenMsi Root) (first_if (genmsi_waits past Child) (ByGenMsi Child) (ready_sources (is_ready past) 1 (sources_in past)))) idle ∙ ap (λ b. first_if b (ByGenMsi Child) (ready_sources (is_ready past) 1 (sources_in past))) quiet
+genmsi_idle : (a : AplicState) (past : Past) (d : DomainName) → a.root.domain.genmsi_waits ≡ false → a.child.domain.genmsi_waits ≡ false → AplicStands a past → genmsi_waits past d ≡ false
+genmsi_idle a past Root idle quiet stands = sym stands.root.domain.genmsi_waits ∙ idle
+genmsi_idle a past Child idle quiet stands = sym stands.child.domain.genmsi_waits ∙ quiet
+
+-- a source that is there is ready where what is kept says so
+ready_there : (a : AplicState) (past : Past) (d : DomainName) (s : ℕ) → AplicStands a past → Contains (all_senders (sources_in past)) (BySource d s) → is_ready past d s ≡ kept.is_ready (side a d).domain s
+ready_there a past Root s stands m = let there = source_there (sources_in past) Root s m in sym (ready_is a.root.domain past Root s stands.root.domain (omega (arith, there.1)))
+ready_there a past Child s stands m = let there = source_there (sources_in past) Child s m in sym (ready_is a.child.domain past Child s stands.child.domain (omega (arith, there.1)))
+
+-- a source that is ready is there
+ready_source : (a : AplicState) (past : Past) (d : DomainName) (s : ℕ) → AplicStands a past → kept.is_ready (side a d).domain s ≡ true → Contains (all_senders (sources_in past)) (BySource d s)
+ready_source a past Root s stands ready =
+    let low : s < suc (sources_in past) = subst (λ n. s < n) stands.root.domain.count (ready_within a.root.domain s ready) in
+    all_sources (sources_in past) Root s (not_zero past Root s (sym (ready_is a.root.domain past Root s stands.root.domain low) ∙ ready)) (omega (arith, low))
+ready_source a past Child s stands ready =
+    let low : s < suc (sources_in past) = subst (λ n. s < n) stands.child.domain.count (ready_within a.child.domain s ready) in
+    all_sources (sources_in past) Child s (not_zero past Child s (sym (ready_is a.child.domain past Child s stands.child.domain low) ∙ ready)) (omega (arith, low))
 
 pub source_first : (a : AplicState) (past : Past) (w : Option Sender) → a.root.domain.genmsi_waits ≡ false → a.child.domain.genmsi_waits ≡ false → IsFirstSource (kept.is_ready a.root.domain) (kept.is_ready a.child.domain) w → AplicStands a past → IsFirst w past
-source_first a past None idle quiet first stands =
-    sources_alone past (sym stands.root.domain.genmsi_waits ∙ idle) (sym stands.child.domain.genmsi_waits ∙ quiet)
-    ∙ no_ready (is_ready past) 1 (sources_in past) (λ d s low high. none d s (omega arith))
+source_first a past None idle quiet first stands = filter_none (does_send past) (all_senders (sources_in past)) none
   where
-    none : (d : DomainName) (s : ℕ) → s < suc (sources_in past) → is_ready past d s ≡ false
-    none Root s low = sym (ready_is a.root.domain past Root s stands.root.domain low) ∙ first.0 s
-    none Child s low = sym (ready_is a.child.domain past Child s stands.child.domain low) ∙ first.1 s
+    none : (y : Sender) → Contains (all_senders (sources_in past)) y → does_send past y ≡ false
+    none (ByGenMsi d) m = genmsi_idle a past d idle quiet stands
+    none (BySource Root s) m = ready_there a past Root s stands m ∙ first.0 s
+    none (BySource Child s) m = ready_there a past Child s stands m ∙ first.1 s
 source_first a past (Some (BySource Root s)) idle quiet first stands =
-    let low : s < suc (sources_in past) = subst (λ n. s < n) stands.root.domain.count (ready_within a.root.domain s first.0) in
-    let here : is_ready past Root s ≡ true = sym (ready_is a.root.domain past Root s stands.root.domain low) ∙ first.0 in
-    let found = root_first (is_ready past) 1 (sources_in past) s (not_zero past Root s here) (omega arith) here (λ d t below. none d t below low) in
-    (found.0, sources_alone past (sym stands.root.domain.genmsi_waits ∙ idle) (sym stands.child.domain.genmsi_waits ∙ quiet) ∙ found.1)
+    let there = ready_source a past Root s stands first.0 in first_is past (BySource Root s) there (ready_there a past Root s stands there ∙ first.0) none
   where
-    none : (d : DomainName) (t : ℕ) → t < s → s < suc (sources_in past) → is_ready past d t ≡ false
-    none Root t below low = sym (ready_is a.root.domain past Root t stands.root.domain (omega arith)) ∙ first.1 t below
-    none Child t below low = sym (ready_is a.child.domain past Child t stands.child.domain (omega arith)) ∙ first.2 t below
+    none : (y : Sender) → Contains (all_senders (sources_in past)) y → SendsBefore y (BySource Root s) → does_send past y ≡ false
+    none (ByGenMsi d) m before = genmsi_idle a past d idle quiet stands
+    none (BySource Root t) m before = ready_there a past Root t stands m ∙ first.1 t before
+    none (BySource Child t) m before = ready_there a past Child t stands m ∙ first.2 t before
 source_first a past (Some (BySource Child s)) idle quiet first stands =
-    let low : s < suc (sources_in past) = subst (λ n. s < n) stands.child.domain.count (ready_within a.child.domain s first.0) in
-    let here : is_ready past Child s ≡ true = sym (ready_is a.child.domain past Child s stands.child.domain low) ∙ first.0 in
-    let other : is_ready past Root s ≡ false = sym (ready_is a.root.domain past Root s stands.root.domain low) ∙ first.1 s (omega arith) in
-    let found = child_first (is_ready past) 1 (sources_in past) s (not_zero past Child s here) (omega arith) here other (λ d t below. none d t below low) in
-    (found.0, sources_alone past (sym stands.root.domain.genmsi_waits ∙ idle) (sym stands.child.domain.genmsi_waits ∙ quiet) ∙ found.1)
+    let there = ready_source a past Child s stands first.0 in first_is past (BySource Child s) there (ready_there a past Child s stands there ∙ first.0) none
   where
-    none : (d : DomainName) (t : ℕ) → t < s → s < suc (sources_in past) → is_ready past d t ≡ false
-    none Root t below low = sym (ready_is a.root.domain past Root t stands.root.domain (omega arith)) ∙ first.1 t (omega arith)
-    none Child t below low = sym (ready_is a.child.domain past Child t stands.child.domain (omega arith)) ∙ first.2 t below
+    up_to : (t : ℕ) → (t < s) ⊎ (t ≡ s) → t ≤ s
+    up_to t (inl low) = omega (arith, low)
+    up_to t (inr e) = omega (arith, e)
+
+    none : (y : Sender) → Contains (all_senders (sources_in past)) y → SendsBefore y (BySource Child s) → does_send past y ≡ false
+    none (ByGenMsi d) m before = genmsi_idle a past d idle quiet stands
+    none (BySource Root t) m before = ready_there a past Root t stands m ∙ first.1 t (up_to t before)
+    none (BySource Child t) m before = ready_there a past Child t stands m ∙ first.2 t before
 source_first a past (Some (ByGenMsi d)) idle quiet first stands = absurd first

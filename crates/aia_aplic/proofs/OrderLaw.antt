@@ -1,149 +1,125 @@
--- Which senders wait, and in which order.
-use Rattle.std.proofs.Common.{◌≡◌, ℕ, zero, suc, ◌+◌, ◌<◌, ◌≤◌, Bool, true, false, List, ◌⊎◌, inl, inr, refl, sym, ap, subst, ◌∙◌, arith}
+-- Which senders there are, and in which order; which of them wait.
+use Rattle.std.proofs.Common.{◌≡◌, ℕ, zero, suc, ◌+◌, ◌<◌, ◌≤◌, Bool, true, List, [], ◌∷◌, inl, inr, refl, ap, subst, ◌∙◌, arith}
+use Rattle.std.specs.List.{All, AllPairs, Contains, filter, flat_map, range_with_len}
 use Rattle.std.proofs.lemmas.Bool.{cases_eq}
+use Rattle.std.proofs.lemmas.List.Elements.{All-cons, All-weaker, All-contains}
+use Rattle.std.proofs.lemmas.List.Kept.{AllPairs-cons, AllPairs-filter}
+use Rattle.aia_source.proofs.ListLemmas.{here, later, in_filter, filter_has}
 use Rattle.aia_model.specs.declared.domain_name.DomainName.{DomainName}
 use Rattle.aia_model.specs.declared.sender.Sender.{Sender}
 use Rattle.aia_model.specs.Act.{Past}
 use Rattle.aia_model.specs.declared.domain_name.DomainName.TheVariants.{Root, Child}
 use Rattle.aia_model.specs.declared.sender.Sender.TheVariants.{ByGenMsi, BySource}
 use Rattle.aia_model.specs.SourceOf.{sources_in, genmsi_waits}
-use Rattle.aia_model.specs.Sent.{is_ready, first_if, ready_sources, senders}
-use Rattle.aia_aplic.specs.Senders.{IsAmong, SendsBefore, IsInOrder}
-use Rattle.aia_aplic.proofs.SendingLemmas.{more_ready, none_left}
+use Rattle.aia_model.specs.Sent.{is_ready, all_senders, does_send, senders}
+use Rattle.aia_aplic.specs.Senders.{SendsBefore}
 
--- a member of a list to which a sender may have been put
-among_of : (b : Bool) (x y : Sender) (later : List Sender) → IsAmong y (first_if b x later) → ((b ≡ true) × (y ≡ x)) ⊎ IsAmong y later
-among_of true x y later (inl e) = inl (refl, e)
-among_of true x y later (inr m) = inr m
-among_of false x y later m = inr m
+-- ---- the sources of both domains
 
-put_first : (b : Bool) (x : Sender) (later : List Sender) → b ≡ true → IsAmong x (first_if b x later)
-put_first true x later e = inl refl
-put_first false x later e = absurd (cc)
+abbrev sources_from : ℕ → ℕ → List Sender
+sources_from from count = flat_map (λ s. BySource Root s ∷ BySource Child s ∷ []) (range_with_len from count)
 
-put_later : (b : Bool) (x y : Sender) (later : List Sender) → IsAmong y later → IsAmong y (first_if b x later)
-put_later true x y later m = inr m
-put_later false x y later m = m
+-- a sender is a source of such a number
+abbrev IsSourceFrom : ℕ → ℕ → Sender → Type 0
+IsSourceFrom from count (ByGenMsi d) = ⊥
+IsSourceFrom from count (BySource d s) = (from ≤ s) × (s < from + count)
 
-put_in_order : (b : Bool) (x : Sender) (later : List Sender) → ((y : Sender) → IsAmong y later → SendsBefore x y) → IsInOrder later → IsInOrder (first_if b x later)
-put_in_order true x later before order = (before, order)
-put_in_order false x later before order = order
+one_more : (from count : ℕ) (y : Sender) → IsSourceFrom (from + 1) count y → IsSourceFrom from (suc count) y
+one_more from count (ByGenMsi d) r = r
+one_more from count (BySource d s) r = (omega (arith, r.0), omega (arith, r.1))
 
--- ---- the sources that are ready
+sources_are : (from count : ℕ) → All (IsSourceFrom from count) (sources_from from count)
+sources_are from zero = λ k d low. absurd (omega (arith, low))
+sources_are from (suc count) =
+    All-cons (IsSourceFrom from (suc count)) (BySource Root from) (BySource Child from ∷ sources_from (from + 1) count) (omega arith, omega arith)
+    (All-cons (IsSourceFrom from (suc count)) (BySource Child from) (sources_from (from + 1) count) (omega arith, omega arith)
+    (All-weaker (IsSourceFrom (from + 1) count) (IsSourceFrom from (suc count)) (one_more from count) (sources_from (from + 1) count) (sources_are (from + 1) count)))
 
--- what a member of them is
-abbrev IsReady : (DomainName → ℕ → Bool) → ℕ → ℕ → Sender → Type 0
-IsReady p from count (ByGenMsi d) = ⊥
-IsReady p from count (BySource d s) = (from ≤ s) × (s < from + count) × (p d s ≡ true)
-
-later_ready : (p : DomainName → ℕ → Bool) (from count : ℕ) (y : Sender) → IsReady p (suc from) count y → IsReady p from (suc count) y
-later_ready p from count (ByGenMsi d) r = absurd r
-later_ready p from count (BySource d s) r = (omega (arith, r.0), omega (arith, r.1), r.2)
-
-ready_members : (p : DomainName → ℕ → Bool) (from count : ℕ) (y : Sender) → IsAmong y (ready_sources p from count) → IsReady p from count y
-ready_members p from zero y m = absurd (subst (IsAmong y) (none_left p from) m)
-ready_members p from (suc count) y m =
-    at (among_of (p Root from) (BySource Root from) y (first_if (p Child from) (BySource Child from) (ready_sources p (suc from) count)) (subst (IsAmong y) (more_ready p from count) m)) (λ later. ready_members p (suc from) count y later)
+sources_have : (from count : ℕ) (d : DomainName) (s : ℕ) → from ≤ s → s < from + count → Contains (sources_from from count) (BySource d s)
+sources_have from zero d s low high = absurd (omega (arith, low, high))
+sources_have from (suc count) d s low high = elim (cases_eq from s) [
+  | inl e ↦ subst (λ n. Contains (sources_from from (suc count)) (BySource d n)) e (first d)
+  | inr ne ↦ later (BySource Root from) (BySource d s) (BySource Child from ∷ sources_from (from + 1) count) (later (BySource Child from) (BySource d s) (sources_from (from + 1) count) (sources_have (from + 1) count d s (omega (arith, low)) (omega (arith, high))))
+]
   where
-    child : ((p Child from ≡ true) × (y ≡ BySource Child from)) ⊎ IsAmong y (ready_sources p (suc from) count) → (IsAmong y (ready_sources p (suc from) count) → IsReady p (suc from) count y) → IsReady p from (suc count) y
-    child (inl here) rest = subst (IsReady p from (suc count)) (sym here.1) (omega arith, omega arith, here.0)
-    child (inr later) rest = later_ready p from count y (rest later)
+    first : (d : DomainName) → Contains (sources_from from (suc count)) (BySource d from)
+    first Root = here (BySource Root from) (BySource Child from ∷ sources_from (from + 1) count)
+    first Child = later (BySource Root from) (BySource Child from) (BySource Child from ∷ sources_from (from + 1) count) (here (BySource Child from) (sources_from (from + 1) count))
 
-    at : ((p Root from ≡ true) × (y ≡ BySource Root from)) ⊎ IsAmong y (first_if (p Child from) (BySource Child from) (ready_sources p (suc from) count)) → (IsAmong y (ready_sources p (suc from) count) → IsReady p (suc from) count y) → IsReady p from (suc count) y
-    at (inl here) rest = subst (IsReady p from (suc count)) (sym here.1) (omega arith, omega arith, here.0)
-    at (inr later) rest = child (among_of (p Child from) (BySource Child from) y (ready_sources p (suc from) count) later) rest
+before_later : (d : DomainName) (from count : ℕ) (y : Sender) → IsSourceFrom (from + 1) count y → SendsBefore (BySource d from) y
+before_later d from count (ByGenMsi e) r = absurd r
+before_later Root from count (BySource Root t) r = omega (arith, r.0)
+before_later Root from count (BySource Child t) r = inl (omega (arith, r.0))
+before_later Child from count (BySource Root t) r = omega (arith, r.0)
+before_later Child from count (BySource Child t) r = omega (arith, r.0)
 
-ready_here : (p : DomainName → ℕ → Bool) (d : DomainName) (from : ℕ) (later : List Sender) → p d from ≡ true → IsAmong (BySource d from) (first_if (p Root from) (BySource Root from) (first_if (p Child from) (BySource Child from) later))
-ready_here p Root from later is = put_first (p Root from) (BySource Root from) (first_if (p Child from) (BySource Child from) later) is
-ready_here p Child from later is = put_later (p Root from) (BySource Root from) (BySource Child from) (first_if (p Child from) (BySource Child from) later) (put_first (p Child from) (BySource Child from) later is)
-
-ready_each : (p : DomainName → ℕ → Bool) (from count : ℕ) (d : DomainName) (s : ℕ) → from ≤ s → s < from + count → p d s ≡ true → IsAmong (BySource d s) (ready_sources p from count)
-ready_each p from zero d s low high is = absurd (omega arith)
-ready_each p from (suc count) d s low high is = subst (IsAmong (BySource d s)) (sym (more_ready p from count)) (elim (cases_eq from s) [
-  | inl e ↦ subst (λ n. IsAmong (BySource d n) (first_if (p Root from) (BySource Root from) (first_if (p Child from) (BySource Child from) (ready_sources p (suc from) count)))) e (ready_here p d from (ready_sources p (suc from) count) (ap (p d) e ∙ is))
-  | inr ne ↦
-      put_later (p Root from) (BySource Root from) (BySource d s) (first_if (p Child from) (BySource Child from) (ready_sources p (suc from) count))
-      (put_later (p Child from) (BySource Child from) (BySource d s) (ready_sources p (suc from) count) (ready_each p (suc from) count d s (omega arith) (omega arith) is))
-])
-
--- ---- their order
-
-above : (d : DomainName) (from count : ℕ) (p : DomainName → ℕ → Bool) (y : Sender) → IsReady p (suc from) count y → SendsBefore (BySource d from) y
-above d from count p (ByGenMsi e) r = absurd r
-above Root from count p (BySource Root t) r = omega (arith, r.0)
-above Root from count p (BySource Child t) r = inl (omega (arith, r.0))
-above Child from count p (BySource Root t) r = omega (arith, r.0)
-above Child from count p (BySource Child t) r = omega (arith, r.0)
-
-ready_in_order : (p : DomainName → ℕ → Bool) (from count : ℕ) → IsInOrder (ready_sources p from count)
-ready_in_order p from zero = subst IsInOrder (sym (none_left p from)) tt
-ready_in_order p from (suc count) =
-    subst IsInOrder (sym (more_ready p from count))
-    (put_in_order (p Root from) (BySource Root from) (first_if (p Child from) (BySource Child from) (ready_sources p (suc from) count)) before
-    (put_in_order (p Child from) (BySource Child from) (ready_sources p (suc from) count) (λ y m. above Child from count p y (ready_members p (suc from) count y m)) (ready_in_order p (suc from) count)))
+sources_in_order : (from count : ℕ) → AllPairs SendsBefore (sources_from from count)
+sources_in_order from zero = λ i j d low within. absurd (omega (arith, within))
+sources_in_order from (suc count) =
+    AllPairs-cons SendsBefore (BySource Root from) (BySource Child from ∷ sources_from (from + 1) count)
+    (All-cons (SendsBefore (BySource Root from)) (BySource Child from) (sources_from (from + 1) count) (inr refl) (rest Root))
+    (AllPairs-cons SendsBefore (BySource Child from) (sources_from (from + 1) count) (rest Child) (sources_in_order (from + 1) count))
   where
-    before : (y : Sender) → IsAmong y (first_if (p Child from) (BySource Child from) (ready_sources p (suc from) count)) → SendsBefore (BySource Root from) y
-    before y m = elim (among_of (p Child from) (BySource Child from) y (ready_sources p (suc from) count) m) [
-      | inl here ↦ subst (SendsBefore (BySource Root from)) (sym here.1) (inr refl)
-      | inr later ↦ above Root from count p y (ready_members p (suc from) count y later)
-    ]
+    rest : (d : DomainName) → All (SendsBefore (BySource d from)) (sources_from (from + 1) count)
+    rest d = All-weaker (IsSourceFrom (from + 1) count) (SendsBefore (BySource d from)) (before_later d from count) (sources_from (from + 1) count) (sources_are (from + 1) count)
 
 -- ---- all senders
 
-no_genmsi : (p : DomainName → ℕ → Bool) (from count : ℕ) (d : DomainName) → IsAmong (ByGenMsi d) (ready_sources p from count) → ⊥
-no_genmsi p from count d m = ready_members p from count (ByGenMsi d) m
-
-same_genmsi : (d e : DomainName) → ByGenMsi d ≡ ByGenMsi e → d ≡ e
-same_genmsi d e p = cc
-
-pub source_among : (past : Past) (d : DomainName) (s : ℕ) → IsAmong (BySource d s) (senders past) → (1 ≤ s) × (s ≤ sources_in past) × (is_ready past d s ≡ true)
-source_among past d s m = after (among_of (genmsi_waits past Root) (ByGenMsi Root) (BySource d s) (first_if (genmsi_waits past Child) (ByGenMsi Child) (ready_sources (is_ready past) 1 (sources_in past))) m)
+before_sources : (d : DomainName) (count : ℕ) → All (SendsBefore (ByGenMsi d)) (sources_from 1 count)
+before_sources d count = All-weaker (IsSourceFrom 1 count) (SendsBefore (ByGenMsi d)) (before d) (sources_from 1 count) (sources_are 1 count)
   where
-    of_ready : IsAmong (BySource d s) (ready_sources (is_ready past) 1 (sources_in past)) → (1 ≤ s) × (s ≤ sources_in past) × (is_ready past d s ≡ true)
-    of_ready later = let r = ready_members (is_ready past) 1 (sources_in past) (BySource d s) later in (r.0, omega (arith, r.1), r.2)
+    before : (d : DomainName) (y : Sender) → IsSourceFrom 1 count y → SendsBefore (ByGenMsi d) y
+    before d (ByGenMsi e) r = absurd r
+    before Root (BySource e t) r = tt
+    before Child (BySource e t) r = tt
 
-    child : ((genmsi_waits past Child ≡ true) × (BySource d s ≡ ByGenMsi Child)) ⊎ IsAmong (BySource d s) (ready_sources (is_ready past) 1 (sources_in past)) → (1 ≤ s) × (s ≤ sources_in past) × (is_ready past d s ≡ true)
-    child (inl here) = absurd (cc (here.1))
-    child (inr later) = of_ready later
+pub all_in_order : (count : ℕ) → AllPairs SendsBefore (all_senders count)
+unfolding all_senders
+all_in_order count =
+    AllPairs-cons SendsBefore (ByGenMsi Root) (ByGenMsi Child ∷ sources_from 1 count) (All-cons (SendsBefore (ByGenMsi Root)) (ByGenMsi Child) (sources_from 1 count) tt (before_sources Root count))
+    (AllPairs-cons SendsBefore (ByGenMsi Child) (sources_from 1 count) (before_sources Child count) (sources_in_order 1 count))
 
-    after : ((genmsi_waits past Root ≡ true) × (BySource d s ≡ ByGenMsi Root)) ⊎ IsAmong (BySource d s) (first_if (genmsi_waits past Child) (ByGenMsi Child) (ready_sources (is_ready past) 1 (sources_in past))) → (1 ≤ s) × (s ≤ sources_in past) × (is_ready past d s ≡ true)
-    after (inl here) = absurd (cc (here.1))
-    after (inr later) = child (among_of (genmsi_waits past Child) (ByGenMsi Child) (BySource d s) (ready_sources (is_ready past) 1 (sources_in past)) later)
+pub all_genmsi : (count : ℕ) (d : DomainName) → Contains (all_senders count) (ByGenMsi d)
+unfolding all_senders
+all_genmsi count Root = here (ByGenMsi Root) (ByGenMsi Child ∷ sources_from 1 count)
+all_genmsi count Child = later (ByGenMsi Root) (ByGenMsi Child) (ByGenMsi Child ∷ sources_from 1 count) (here (ByGenMsi Child) (sources_from 1 count))
 
-pub among_source : (past : Past) (d : DomainName) (s : ℕ) → 1 ≤ s → s ≤ sources_in past → is_ready past d s ≡ true → IsAmong (BySource d s) (senders past)
-among_source past d s low high ready =
-    put_later (genmsi_waits past Root) (ByGenMsi Root) (BySource d s) (first_if (genmsi_waits past Child) (ByGenMsi Child) (ready_sources (is_ready past) 1 (sources_in past)))
-    (put_later (genmsi_waits past Child) (ByGenMsi Child) (BySource d s) (ready_sources (is_ready past) 1 (sources_in past)) (ready_each (is_ready past) 1 (sources_in past) d s low (omega arith) ready))
+pub all_sources : (count : ℕ) (d : DomainName) (s : ℕ) → 1 ≤ s → s ≤ count → Contains (all_senders count) (BySource d s)
+unfolding all_senders
+all_sources count d s low high = later (ByGenMsi Root) (BySource d s) (ByGenMsi Child ∷ sources_from 1 count) (later (ByGenMsi Child) (BySource d s) (sources_from 1 count) (sources_have 1 count d s low (omega (arith, high))))
 
-pub genmsi_among : (past : Past) (d : DomainName) → IsAmong (ByGenMsi d) (senders past) → genmsi_waits past d ≡ true
-genmsi_among past d m = after (among_of (genmsi_waits past Root) (ByGenMsi Root) (ByGenMsi d) (first_if (genmsi_waits past Child) (ByGenMsi Child) (ready_sources (is_ready past) 1 (sources_in past))) m)
+-- genmsi, or a source that is there
+abbrev IsThere : ℕ → Sender → Type 0
+IsThere count (ByGenMsi d) = Unit {0}
+IsThere count (BySource d s) = (1 ≤ s) × (s ≤ count)
+
+all_there : (count : ℕ) → All (IsThere count) (all_senders count)
+unfolding all_senders
+all_there count = All-cons (IsThere count) (ByGenMsi Root) (ByGenMsi Child ∷ sources_from 1 count) tt (All-cons (IsThere count) (ByGenMsi Child) (sources_from 1 count) tt (All-weaker (IsSourceFrom 1 count) (IsThere count) there (sources_from 1 count) (sources_are 1 count)))
   where
-    child : ((genmsi_waits past Child ≡ true) × (ByGenMsi d ≡ ByGenMsi Child)) ⊎ IsAmong (ByGenMsi d) (ready_sources (is_ready past) 1 (sources_in past)) → genmsi_waits past d ≡ true
-    child (inl here) = ap (genmsi_waits past) (same_genmsi d Child here.1) ∙ here.0
-    child (inr later) = absurd (no_genmsi (is_ready past) 1 (sources_in past) d later)
+    there : (y : Sender) → IsSourceFrom 1 count y → IsThere count y
+    there (ByGenMsi d) r = tt
+    there (BySource d s) r = (r.0, omega (arith, r.1))
 
-    after : ((genmsi_waits past Root ≡ true) × (ByGenMsi d ≡ ByGenMsi Root)) ⊎ IsAmong (ByGenMsi d) (first_if (genmsi_waits past Child) (ByGenMsi Child) (ready_sources (is_ready past) 1 (sources_in past))) → genmsi_waits past d ≡ true
-    after (inl here) = ap (genmsi_waits past) (same_genmsi d Root here.1) ∙ here.0
-    after (inr later) = child (among_of (genmsi_waits past Child) (ByGenMsi Child) (ByGenMsi d) (ready_sources (is_ready past) 1 (sources_in past)) later)
+pub source_there : (count : ℕ) (d : DomainName) (s : ℕ) → Contains (all_senders count) (BySource d s) → (1 ≤ s) × (s ≤ count)
+source_there count d s m = All-contains (IsThere count) (all_senders count) (BySource d s) (all_there count) m
 
-pub among_genmsi : (past : Past) (d : DomainName) → genmsi_waits past d ≡ true → IsAmong (ByGenMsi d) (senders past)
-among_genmsi past Root busy = put_first (genmsi_waits past Root) (ByGenMsi Root) (first_if (genmsi_waits past Child) (ByGenMsi Child) (ready_sources (is_ready past) 1 (sources_in past))) busy
-among_genmsi past Child busy =
-    put_later (genmsi_waits past Root) (ByGenMsi Root) (ByGenMsi Child) (first_if (genmsi_waits past Child) (ByGenMsi Child) (ready_sources (is_ready past) 1 (sources_in past)))
-    (put_first (genmsi_waits past Child) (ByGenMsi Child) (ready_sources (is_ready past) 1 (sources_in past)) busy)
+-- ---- those that wait
 
-before_sources : (p : DomainName → ℕ → Bool) (from count : ℕ) (d : DomainName) (y : Sender) → IsAmong y (ready_sources p from count) → SendsBefore (ByGenMsi d) y
-before_sources p from count d (ByGenMsi e) m = absurd (no_genmsi p from count e m)
-before_sources p from count Root (BySource e t) m = tt
-before_sources p from count Child (BySource e t) m = tt
+pub source_among : (past : Past) (d : DomainName) (s : ℕ) → Contains (senders past) (BySource d s) → (1 ≤ s) × (s ≤ sources_in past) × (is_ready past d s ≡ true)
+source_among past d s m =
+    let r = in_filter (does_send past) (all_senders (sources_in past)) (BySource d s) m in
+    let there = source_there (sources_in past) d s r.0 in
+    (there.0, there.1, r.1)
 
-pub senders_in_order : (past : Past) → IsInOrder (senders past)
-senders_in_order past =
-    put_in_order (genmsi_waits past Root) (ByGenMsi Root) (first_if (genmsi_waits past Child) (ByGenMsi Child) (ready_sources (is_ready past) 1 (sources_in past))) before
-    (put_in_order (genmsi_waits past Child) (ByGenMsi Child) (ready_sources (is_ready past) 1 (sources_in past)) (before_sources (is_ready past) 1 (sources_in past) Child) (ready_in_order (is_ready past) 1 (sources_in past)))
-  where
-    before : (y : Sender) → IsAmong y (first_if (genmsi_waits past Child) (ByGenMsi Child) (ready_sources (is_ready past) 1 (sources_in past))) → SendsBefore (ByGenMsi Root) y
-    before y m = elim (among_of (genmsi_waits past Child) (ByGenMsi Child) y (ready_sources (is_ready past) 1 (sources_in past)) m) [
-      | inl here ↦ subst (SendsBefore (ByGenMsi Root)) (sym here.1) tt
-      | inr later ↦ before_sources (is_ready past) 1 (sources_in past) Root y later
-    ]
+pub among_source : (past : Past) (d : DomainName) (s : ℕ) → 1 ≤ s → s ≤ sources_in past → is_ready past d s ≡ true → Contains (senders past) (BySource d s)
+among_source past d s low high ready = filter_has (does_send past) (all_senders (sources_in past)) (BySource d s) (all_sources (sources_in past) d s low high) ready
+
+pub genmsi_among : (past : Past) (d : DomainName) → Contains (senders past) (ByGenMsi d) → genmsi_waits past d ≡ true
+genmsi_among past d m = (in_filter (does_send past) (all_senders (sources_in past)) (ByGenMsi d) m).1
+
+pub among_genmsi : (past : Past) (d : DomainName) → genmsi_waits past d ≡ true → Contains (senders past) (ByGenMsi d)
+among_genmsi past d busy = filter_has (does_send past) (all_senders (sources_in past)) (ByGenMsi d) (all_genmsi (sources_in past) d) busy
+
+pub senders_in_order : (past : Past) → AllPairs SendsBefore (senders past)
+senders_in_order past = AllPairs-filter SendsBefore (does_send past) (all_senders (sources_in past)) (all_in_order (sources_in past))

@@ -1,6 +1,7 @@
 -- The first of all that waits to be sent, and what waits when its MSI is sent.
-use Rattle.std.proofs.Common.{◌≡◌, ℕ, zero, suc, ◌+◌, ◌<◌, ◌≤◌, Bool, true, false, not, cond, ◌&&◌, nat_eq, List, [], ◌∷◌, map, inl, inr, refl, sym, ap, ◌∙◌, arith}
-use Rattle.std.proofs.lemmas.Bool.{cases_eq, eq-eqb, ne_eqb}
+use Rattle.std.proofs.Common.{◌≡◌, ℕ, zero, suc, ◌+◌, ◌<◌, ◌≤◌, Bool, true, false, not, cond, ◌&&◌, nat_eq, List, [], ◌∷◌, map, refl, sym, ap, ◌∙◌, arith}
+use Rattle.std.specs.List.{filter}
+use Rattle.std.proofs.lemmas.Bool.{eq-eqb, ne_eqb, and_right}
 use Rattle.aia_source.specs.Source.{rectified}
 use Rattle.aia_source.specs.Source.Deed.{Forwarded}
 use Rattle.aia_domain.specs.Held.{Held, with_deed}
@@ -12,127 +13,42 @@ use Rattle.aia_model.specs.declared.domain_name.DomainName.TheVariants.{Root, Ch
 use Rattle.aia_model.specs.declared.sender.Sender.TheVariants.{ByGenMsi, BySource}
 use Rattle.aia_model.specs.Act.Act.{Made, Sent}
 use Rattle.aia_model.specs.SourceOf.{harts_in, sources_in, mode, input, is_on, is_msi, owns, enabled, target, pending, genmsi_of, genmsi_waits}
-use Rattle.aia_model.specs.Sent.{is_ready, first_if, ready_sources, senders, msi_by, msi_of, msis, sent_by, settled, with_act, acts_of}
+use Rattle.aia_model.specs.Sent.{is_ready, all_senders, does_send, senders, msi_by, msi_of, msis, sent_by, settled, with_act, acts_of}
 use Rattle.aia_model.specs.Event.{History}
 use Rattle.aia_model.specs.Event.Event.{Accepted, Delivered}
 use Rattle.aia_model.specs.AddressOf.{addresses_of}
 use Rattle.aia_aplic.specs.Stands.{held}
 use Rattle.aia_aplic.proofs.Steps.{held-idle, same_target}
-use Rattle.aia_aplic.proofs.SentSteps.{forward_says, forwarded, sent_elsewhere}
+use Rattle.aia_aplic.proofs.SentSteps.{harts_sent, forward_says, forwarded, sent_elsewhere}
 use Rattle.aia_aplic.proofs.AddressSteps.{addresses_sent}
-use Rattle.aia_aplic.proofs.Reading.{and_false}
+use Rattle.aia_source.proofs.ListLemmas.{filter_none, filter_rest}
+use Rattle.aia_aplic.specs.Senders.{SendsBefore}
+use Rattle.aia_aplic.proofs.OrderLaw.{all_in_order}
 
--- ---- lists of what is ready
+-- ---- one sender, and the others
 
-pub same_ready : (p q : DomainName → ℕ → Bool) (from count : ℕ) → ((d : DomainName) (s : ℕ) → from ≤ s → p d s ≡ q d s) → ready_sources p from count ≡ ready_sources q from count
-unfolding ready_sources
-same_ready p q from zero same = refl
-same_ready p q from (suc count) same =
-    ap (λ (b : Bool). first_if b (BySource Root from) (first_if (p Child from) (BySource Child from) (ready_sources p (suc from) count))) (same Root from (omega arith))
-    ∙ ap (λ (b : Bool). first_if (q Root from) (BySource Root from) (first_if b (BySource Child from) (ready_sources p (suc from) count))) (same Child from (omega arith))
-    ∙ ap (λ later. first_if (q Root from) (BySource Root from) (first_if (q Child from) (BySource Child from) later)) (same_ready p q (suc from) count (λ d s low. same d s (omega arith)))
+abbrev same_sender : Sender → Sender → Bool
+same_sender (ByGenMsi e) (ByGenMsi d) = is_domain e d
+same_sender (BySource e t) (BySource d s) = is_domain e d && nat_eq t s
+same_sender x y = false
 
-pub no_ready : (p : DomainName → ℕ → Bool) (from count : ℕ) → ((d : DomainName) (s : ℕ) → from ≤ s → s < from + count → p d s ≡ false) → ready_sources p from count ≡ []
-unfolding ready_sources
-no_ready p from zero none = refl
-no_ready p from (suc count) none =
-    ap (λ (b : Bool). first_if b (BySource Root from) (first_if (p Child from) (BySource Child from) (ready_sources p (suc from) count))) (none Root from (omega arith) (omega arith))
-    ∙ ap (λ (b : Bool). first_if b (BySource Child from) (ready_sources p (suc from) count)) (none Child from (omega arith) (omega arith))
-    ∙ no_ready p (suc from) count (λ d s low high. none d s (omega arith) (omega arith))
+same_itself : (x : Sender) → same_sender x x ≡ true
+same_itself (ByGenMsi Root) = refl
+same_itself (ByGenMsi Child) = refl
+same_itself (BySource Root s) = eq-eqb s s refl
+same_itself (BySource Child s) = eq-eqb s s refl
 
--- the list by its first two tests
-pub more_ready : (p : DomainName → ℕ → Bool) (from count : ℕ) → ready_sources p from (suc count) ≡ first_if (p Root from) (BySource Root from) (first_if (p Child from) (BySource Child from) (ready_sources p (suc from) count))
-unfolding ready_sources
-more_ready p from count = refl
-
-pub none_left : (p : DomainName → ℕ → Bool) (from : ℕ) → ready_sources p from 0 ≡ []
-unfolding ready_sources
-none_left p from = refl
-
--- a list that begins so
-abbrev pub Begins : List Sender → Sender → Type 0
-Begins senders sender = (later : List Sender) × (senders ≡ sender ∷ later)
-
-pub root_first : (p : DomainName → ℕ → Bool) (from count s : ℕ) → from ≤ s → s < from + count → p Root s ≡ true → ((d : DomainName) (t : ℕ) → t < s → p d t ≡ false) → Begins (ready_sources p from count) (BySource Root s)
-root_first p from zero s low high here none = absurd (omega arith)
-root_first p from (suc count) s low high here none = elim (cases_eq from s) [
-  | inl e ↦ (
-    first_if (p Child from) (BySource Child from) (ready_sources p (suc from) count),
-    more_ready p from count ∙ ap (λ (b : Bool). first_if b (BySource Root from) (first_if (p Child from) (BySource Child from) (ready_sources p (suc from) count))) (ap (p Root) e ∙ here)
-        ∙ ap (λ n. BySource Root n ∷ first_if (p Child from) (BySource Child from) (ready_sources p (suc from) count)) e,
-  )
-  | inr ne ↦ let next = root_first p (suc from) count s (omega arith) (omega arith) here none in (
-    next.0,
-    more_ready p from count ∙ ap (λ (b : Bool). first_if b (BySource Root from) (first_if (p Child from) (BySource Child from) (ready_sources p (suc from) count))) (none Root from (omega arith))
-        ∙ ap (λ (b : Bool). first_if b (BySource Child from) (ready_sources p (suc from) count)) (none Child from (omega arith)) ∙ next.1,
-  )
-]
-
-pub child_first : (p : DomainName → ℕ → Bool) (from count s : ℕ) → from ≤ s → s < from + count → p Child s ≡ true → p Root s ≡ false → ((d : DomainName) (t : ℕ) → t < s → p d t ≡ false) → Begins (ready_sources p from count) (BySource Child s)
-child_first p from zero s low high here other none = absurd (omega arith)
-child_first p from (suc count) s low high here other none = elim (cases_eq from s) [
-  | inl e ↦ (
-    ready_sources p (suc from) count,
-    more_ready p from count ∙ ap (λ (b : Bool). first_if b (BySource Root from) (first_if (p Child from) (BySource Child from) (ready_sources p (suc from) count))) (ap (p Root) e ∙ other)
-        ∙ ap (λ (b : Bool). first_if b (BySource Child from) (ready_sources p (suc from) count)) (ap (p Child) e ∙ here)
-        ∙ ap (λ n. BySource Child n ∷ ready_sources p (suc from) count) e,
-  )
-  | inr ne ↦ let next = child_first p (suc from) count s (omega arith) (omega arith) here other none in (
-    next.0,
-    more_ready p from count ∙ ap (λ (b : Bool). first_if b (BySource Root from) (first_if (p Child from) (BySource Child from) (ready_sources p (suc from) count))) (none Root from (omega arith))
-        ∙ ap (λ (b : Bool). first_if b (BySource Child from) (ready_sources p (suc from) count)) (none Child from (omega arith)) ∙ next.1,
-  )
-]
-
--- ---- what is ready but for one
-
-abbrev pub is_the_source : Sender → DomainName → ℕ → Bool
-is_the_source (ByGenMsi e) d s = false
-is_the_source (BySource e t) d s = is_domain e d && nat_eq t s
-
-abbrev pub but : Sender → (DomainName → ℕ → Bool) → DomainName → ℕ → Bool
-but sender p d s = not (is_the_source sender d s) && p d s
-
-but_above : (e : DomainName) (t : ℕ) (p : DomainName → ℕ → Bool) (d : DomainName) (s : ℕ) → t < s → but (BySource e t) p d s ≡ p d s
-but_above e t p d s above = ap (λ (b : Bool). not (is_domain e d && b) && p d s) (ne_eqb t s (λ q. absurd (omega arith))) ∙ ap (λ (b : Bool). not b && p d s) (and_false (is_domain e d))
-
-but_self : (p : DomainName → ℕ → Bool) (d : DomainName) (s : ℕ) → but (BySource d s) p d s ≡ false
-but_self p Root s = ap (λ (b : Bool). not b && p Root s) (eq-eqb s s refl)
-but_self p Child s = ap (λ (b : Bool). not b && p Child s) (eq-eqb s s refl)
-
-but_none : (sender : Sender) (p : DomainName → ℕ → Bool) (d : DomainName) (s : ℕ) → p d s ≡ false → but sender p d s ≡ false
-but_none sender p d s none = ap (λ (b : Bool). not (is_the_source sender d s) && b) none ∙ and_false (not (is_the_source sender d s))
-
-head_same : (x y : Sender) (xs ys : List Sender) → (x ∷ xs) ≡ (y ∷ ys) → (x ≡ y) × (xs ≡ ys)
-head_same x y xs ys e = (cc, cc)
-
--- without its first one the list goes on
-pub ready_later : (p : DomainName → ℕ → Bool) (from count : ℕ) (sender : Sender) (later : List Sender) → ready_sources p from count ≡ sender ∷ later → ready_sources (but sender p) from count ≡ later
-ready_later p from zero sender later e = let bad : ◌≡◌ {A = List Sender} [] (sender ∷ later) = sym (none_left p from) ∙ e in absurd (cc)
-ready_later p from (suc count) sender later e = at (p Root from) (p Child from) refl refl (sym (more_ready p from count) ∙ e) (ready_later p (suc from) count sender later)
-  where
-    at : (a b : Bool) → p Root from ≡ a → p Child from ≡ b → first_if (p Root from) (BySource Root from) (first_if (p Child from) (BySource Child from) (ready_sources p (suc from) count)) ≡ sender ∷ later
-        → (ready_sources p (suc from) count ≡ sender ∷ later → ready_sources (but sender p) (suc from) count ≡ later) → ready_sources (but sender p) from (suc count) ≡ later
-    at true b is_a is_b list rest =
-        let same = head_same (BySource Root from) sender (first_if (p Child from) (BySource Child from) (ready_sources p (suc from) count)) later (sym (ap (λ (x : Bool). first_if x (BySource Root from) (first_if (p Child from) (BySource Child from) (ready_sources p (suc from) count))) is_a) ∙ list) in
-        ap (λ (o : Sender). ready_sources (but o p) from (suc count)) (sym same.0) ∙ more_ready (but (BySource Root from) p) from count
-        ∙ ap (λ (x : Bool). first_if x (BySource Root from) (first_if (p Child from) (BySource Child from) (ready_sources (but (BySource Root from) p) (suc from) count))) (but_self p Root from)
-        ∙ ap (λ l. first_if (p Child from) (BySource Child from) l) (same_ready (but (BySource Root from) p) p (suc from) count (λ d s low. but_above Root from p d s low)) ∙ same.1
-    at false true is_a is_b list rest =
-        let l1 = ap (λ (x : Bool). first_if x (BySource Root from) (first_if (p Child from) (BySource Child from) (ready_sources p (suc from) count))) is_a in
-        let l2 = ap (λ (x : Bool). first_if x (BySource Child from) (ready_sources p (suc from) count)) is_b in
-        let same = head_same (BySource Child from) sender (ready_sources p (suc from) count) later (sym (l1 ∙ l2) ∙ list) in
-        ap (λ (o : Sender). ready_sources (but o p) from (suc count)) (sym same.0) ∙ more_ready (but (BySource Child from) p) from count
-        ∙ ap (λ (x : Bool). first_if x (BySource Root from) (first_if (but (BySource Child from) p Child from) (BySource Child from) (ready_sources (but (BySource Child from) p) (suc from) count))) is_a
-        ∙ ap (λ (x : Bool). first_if x (BySource Child from) (ready_sources (but (BySource Child from) p) (suc from) count)) (but_self p Child from)
-        ∙ same_ready (but (BySource Child from) p) p (suc from) count (λ d s low. but_above Child from p d s low) ∙ same.1
-    at false false is_a is_b list rest =
-        let l1 = ap (λ (x : Bool). first_if x (BySource Root from) (first_if (p Child from) (BySource Child from) (ready_sources p (suc from) count))) is_a in
-        let l2 = ap (λ (x : Bool). first_if x (BySource Child from) (ready_sources p (suc from) count)) is_b in
-        more_ready (but sender p) from count
-        ∙ ap (λ (x : Bool). first_if x (BySource Root from) (first_if (but sender p Child from) (BySource Child from) (ready_sources (but sender p) (suc from) count))) (but_none sender p Root from is_a)
-        ∙ ap (λ (x : Bool). first_if x (BySource Child from) (ready_sources (but sender p) (suc from) count)) (but_none sender p Child from is_b)
-        ∙ rest (sym (l1 ∙ l2) ∙ list)
+-- one that sends before another is another
+other_sender : (x y : Sender) → SendsBefore x y → same_sender x y ≡ false
+other_sender (ByGenMsi Root) (ByGenMsi Root) r = absurd r
+other_sender (ByGenMsi Root) (ByGenMsi Child) r = refl
+other_sender (ByGenMsi Child) (ByGenMsi d) r = absurd r
+other_sender (ByGenMsi d) (BySource e t) r = refl
+other_sender (BySource d s) (ByGenMsi e) r = refl
+other_sender (BySource Root s) (BySource Root t) r = ne_eqb s t (λ e. absurd (omega (arith, r, e)))
+other_sender (BySource Root s) (BySource Child t) r = refl
+other_sender (BySource Child s) (BySource Root t) r = refl
+other_sender (BySource Child s) (BySource Child t) r = ne_eqb s t (λ e. absurd (omega (arith, r, e)))
 
 -- ---- after an MSI is sent
 
@@ -163,64 +79,32 @@ ready_one true true on x = ap (λ (p : Bool). on && p && x.enabled) (forward_say
 ready_one true false on x = refl
 ready_one false msi on x = refl
 
-pub ready_sent : (sender : Sender) (past : Past) (d : DomainName) (s : ℕ) → is_ready (Sent sender ∷ past) d s ≡ but sender (is_ready past) d s
+ready_sent : (sender : Sender) (past : Past) (d : DomainName) (s : ℕ) → is_ready (Sent sender ∷ past) d s ≡ (not (same_sender sender (BySource d s)) && is_ready past d s)
 ready_sent (ByGenMsi e) past d s = ready_held (ByGenMsi e) past d s (held past d s) (sent_elsewhere (ByGenMsi e) past d s refl)
 ready_sent (BySource Root t) past Root s = ready_held (BySource Root t) past Root s _ (forwarded t past Root s) ∙ ready_one (nat_eq t s) (is_msi past Root) (is_on past Root) (held past Root s)
 ready_sent (BySource Child t) past Child s = ready_held (BySource Child t) past Child s _ (forwarded t past Child s) ∙ ready_one (nat_eq t s) (is_msi past Child) (is_on past Child) (held past Child s)
 ready_sent (BySource Root t) past Child s = ready_held (BySource Root t) past Child s (held past Child s) (sent_elsewhere (BySource Root t) past Child s refl)
 ready_sent (BySource Child t) past Root s = ready_held (BySource Child t) past Root s (held past Root s) (sent_elsewhere (BySource Child t) past Root s refl)
 
-abbrev is_the_genmsi : Sender → DomainName → Bool
-is_the_genmsi (ByGenMsi e) d = is_domain e d
-is_the_genmsi (BySource e t) d = false
-
-waits_sent : (sender : Sender) (past : Past) (d : DomainName) → genmsi_waits (Sent sender ∷ past) d ≡ (not (is_the_genmsi sender d) && genmsi_waits past d)
+-- who has an MSI to send after one was sent: all that had, but for its sender
+does_send_sent : (sender : Sender) (past : Past) (x : Sender) → does_send (Sent sender ∷ past) x ≡ (not (same_sender sender x) && does_send past x)
 unfolding genmsi_waits
-waits_sent (BySource e t) past d = refl
-waits_sent (ByGenMsi Root) past Root = refl
-waits_sent (ByGenMsi Root) past Child = refl
-waits_sent (ByGenMsi Child) past Root = refl
-waits_sent (ByGenMsi Child) past Child = refl
-
--- what waits, by its parts
-abbrev waiting_list : Bool → Bool → List Sender → List Sender
-waiting_list a b sources = first_if a (ByGenMsi Root) (first_if b (ByGenMsi Child) sources)
-
-after_sent : (sender : Sender) (past : Past) → senders (Sent sender ∷ past) ≡ waiting_list (not (is_the_genmsi sender Root) && genmsi_waits past Root) (not (is_the_genmsi sender Child) && genmsi_waits past Child) (ready_sources (but sender (is_ready past)) 1 (sources_in past))
-after_sent sender past =
-    ap (λ a. waiting_list a (genmsi_waits (Sent sender ∷ past) Child) (ready_sources (is_ready (Sent sender ∷ past)) 1 (sources_in (Sent sender ∷ past)))) (waits_sent sender past Root)
-    ∙ ap (λ b. waiting_list (not (is_the_genmsi sender Root) && genmsi_waits past Root) b (ready_sources (is_ready (Sent sender ∷ past)) 1 (sources_in (Sent sender ∷ past)))) (waits_sent sender past Child)
-    ∙ ap (λ n. waiting_list (not (is_the_genmsi sender Root) && genmsi_waits past Root) (not (is_the_genmsi sender Child) && genmsi_waits past Child) (ready_sources (is_ready (Sent sender ∷ past)) 1 n)) (sizes sender past)
-    ∙ ap (λ l. waiting_list (not (is_the_genmsi sender Root) && genmsi_waits past Root) (not (is_the_genmsi sender Child) && genmsi_waits past Child) l) (same_ready (is_ready (Sent sender ∷ past)) (but sender (is_ready past)) 1 (sources_in past) (λ d s low. ready_sent sender past d s))
-
-no_genmsi : (p : DomainName → ℕ → Bool) (from count : ℕ) (e : DomainName) (later : List Sender) → ready_sources p from count ≡ ByGenMsi e ∷ later → ⊥
-no_genmsi p from zero e later list = let bad : ◌≡◌ {A = List Sender} [] (ByGenMsi e ∷ later) = sym (none_left p from) ∙ list in absurd (cc)
-no_genmsi p from (suc count) e later list = at (p Root from) (p Child from) (sym (more_ready p from count) ∙ list) (no_genmsi p (suc from) count e later)
-  where
-    at : (a b : Bool) → first_if a (BySource Root from) (first_if b (BySource Child from) (ready_sources p (suc from) count)) ≡ ByGenMsi e ∷ later → (ready_sources p (suc from) count ≡ ByGenMsi e ∷ later → ⊥) → ⊥
-    at true b list rest = absurd (cc)
-    at false true list rest = absurd (cc)
-    at false false list rest = rest list
-
-source_left : (p : DomainName → ℕ → Bool) (count : ℕ) (sender : Sender) (later : List Sender) → ready_sources p 1 count ≡ sender ∷ later
-    → waiting_list (not (is_the_genmsi sender Root) && false) (not (is_the_genmsi sender Child) && false) (ready_sources (but sender p) 1 count) ≡ later
-source_left p count (BySource e t) later list = ready_later p 1 count (BySource e t) later list
-source_left p count (ByGenMsi e) later list = absurd (no_genmsi p 1 count e later list)
-
--- by what waits first
-left : (a b : Bool) (p : DomainName → ℕ → Bool) (count : ℕ) (sender : Sender) (later : List Sender) → waiting_list a b (ready_sources p 1 count) ≡ sender ∷ later
-    → waiting_list (not (is_the_genmsi sender Root) && a) (not (is_the_genmsi sender Child) && b) (ready_sources (but sender p) 1 count) ≡ later
-left true b p count sender later list =
-    let same = head_same (ByGenMsi Root) sender (first_if b (ByGenMsi Child) (ready_sources p 1 count)) later list in
-    ap (λ (o : Sender). waiting_list (not (is_the_genmsi o Root) && true) (not (is_the_genmsi o Child) && b) (ready_sources (but o p) 1 count)) (sym same.0) ∙ same.1
-left false true p count sender later list =
-    let same = head_same (ByGenMsi Child) sender (ready_sources p 1 count) later list in
-    ap (λ (o : Sender). waiting_list (not (is_the_genmsi o Root) && false) (not (is_the_genmsi o Child) && true) (ready_sources (but o p) 1 count)) (sym same.0) ∙ same.1
-left false false p count sender later list = source_left p count sender later list
+does_send_sent (BySource e t) past (ByGenMsi d) = refl
+does_send_sent (ByGenMsi Root) past (ByGenMsi Root) = refl
+does_send_sent (ByGenMsi Root) past (ByGenMsi Child) = refl
+does_send_sent (ByGenMsi Child) past (ByGenMsi Root) = refl
+does_send_sent (ByGenMsi Child) past (ByGenMsi Child) = refl
+does_send_sent (ByGenMsi e) past (BySource d s) = ready_sent (ByGenMsi e) past d s
+does_send_sent (BySource e t) past (BySource d s) = ready_sent (BySource e t) past d s
 
 -- when the first MSI is sent, the others wait
 pub senders_left : (past : Past) (sender : Sender) (later : List Sender) → senders past ≡ sender ∷ later → senders (Sent sender ∷ past) ≡ later
-senders_left past sender later list = after_sent sender past ∙ left (genmsi_waits past Root) (genmsi_waits past Child) (is_ready past) (sources_in past) sender later list
+senders_left past sender later list =
+    ap (λ n. filter (does_send (Sent sender ∷ past)) (all_senders n)) (sizes sender past)
+    ∙ filter_rest SendsBefore (does_send past) (does_send (Sent sender ∷ past)) (all_senders (sources_in past)) later sender (all_in_order (sources_in past)) list
+    (does_send_sent sender past sender ∙ ap (λ (b : Bool). not b && does_send past sender) (same_itself sender))
+    (λ x none. does_send_sent sender past x ∙ and_right (not (same_sender sender x)) (does_send past x) none)
+    (λ x before. does_send_sent sender past x ∙ ap (λ (b : Bool). not b && does_send past x) (other_sender sender x before))
 
 another : (t : ℕ) (past : Past) (d : DomainName) (s : ℕ) → (t ≡ s → ⊥) → pending (Sent (BySource d t) ∷ past) d s ≡ pending past d s
 another t past d s other =
@@ -281,18 +165,16 @@ none_wait past = left_by (senders past) past refl
 
 -- and nothing at first
 pub begun_none : senders [] ≡ []
-unfolding newest genmsi_waits ready_sources
+unfolding newest genmsi_waits all_senders
 begun_none = refl
 
-begun_modes : (h n : ℕ) (d : DomainName) → (is_msi (Made h n ∷ []) d ≡ false) × (genmsi_waits (Made h n ∷ []) d ≡ false)
+none_begun_by : (h n : ℕ) (x : Sender) → does_send (Made h n ∷ []) x ≡ false
 unfolding newest genmsi_waits
-begun_modes h n d = (refl, refl)
+none_begun_by h n (ByGenMsi d) = refl
+none_begun_by h n (BySource d s) = refl
 
 pub none_begun : (h n : ℕ) → senders (Made h n ∷ []) ≡ []
-none_begun h n =
-    ap (λ a. waiting_list a (genmsi_waits (Made h n ∷ []) Child) (ready_sources (is_ready (Made h n ∷ [])) 1 (sources_in (Made h n ∷ [])))) (begun_modes h n Root).1
-    ∙ ap (λ b. waiting_list false b (ready_sources (is_ready (Made h n ∷ [])) 1 (sources_in (Made h n ∷ [])))) (begun_modes h n Child).1
-    ∙ no_ready (is_ready (Made h n ∷ [])) 1 (sources_in (Made h n ∷ [])) (λ d s low high. ap (λ m. m && is_on (Made h n ∷ []) d && pending (Made h n ∷ []) d s && enabled (Made h n ∷ []) d s) (begun_modes h n d).0)
+none_begun h n = filter_none (does_send (Made h n ∷ [])) (all_senders (sources_in (Made h n ∷ []))) (λ x m. none_begun_by h n x)
 
 -- between lines nothing waits
 pub none_between : (h : History) → senders (acts_of h) ≡ []
@@ -301,10 +183,6 @@ none_between (Accepted line ∷ h) = none_wait (with_act (act_of line) (acts_of 
 none_between (Delivered msi ∷ h) = none_between h
 
 -- the harts stay
-harts_sent : (sender : Sender) (past : Past) → harts_in (Sent sender ∷ past) ≡ harts_in past
-unfolding newest
-harts_sent sender past = refl
-
 harts_by : (xs : List Sender) (past : Past) → harts_in (sent_by xs past) ≡ harts_in past
 harts_by [] past = refl
 harts_by (x ∷ xs) past = harts_by xs (Sent x ∷ past) ∙ harts_sent x past

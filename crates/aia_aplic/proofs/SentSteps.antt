@@ -12,7 +12,7 @@ use Rattle.aia_model.specs.Act.{Past, is_domain, newest}
 use Rattle.aia_model.specs.declared.domain_name.DomainName.TheVariants.{Root, Child}
 use Rattle.aia_model.specs.declared.sender.Sender.TheVariants.{ByGenMsi, BySource}
 use Rattle.aia_model.specs.Act.Act.{Sent}
-use Rattle.aia_model.specs.SourceOf.{wire_of, is_msi}
+use Rattle.aia_model.specs.SourceOf.{harts_in, wire_of, is_msi}
 use Rattle.aia_aplic.specs.Stands.{held, control}
 use Rattle.aia_aplic.proofs.Steps.{held-step, held-idle, step-nothing, done_if}
 
@@ -51,3 +51,8 @@ sent_elsewhere (BySource Root t) past Child s other = held-step (Sent (BySource 
 pub sent_control : (sender : Sender) (past : Past) (d : DomainName) (h : ℕ) → control (Sent sender ∷ past) d h ≡ control past d h
 unfolding newest
 sent_control sender past d h = refl
+
+-- the harts stay
+pub harts_sent : (sender : Sender) (past : Past) → harts_in (Sent sender ∷ past) ≡ harts_in past
+unfolding newest
+harts_sent sender past = refl

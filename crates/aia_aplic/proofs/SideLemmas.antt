@@ -23,7 +23,7 @@ use Rattle.aia_aplic.specs.Stands.{control, SideState, SideStands, IsNewSide, Ap
 use Rattle.aia_aplic.specs.Controls.{EachControl, is_control, hart_of_register, control_after, control_at, claimed_at}
 use Rattle.aia_aplic.proofs.LoadedSteps.{is_claim}
 use Rattle.aia_aplic.proofs.Standing.{driven-stands, own-stands, root-stands_other, child-stands_other, child-stands_written, read-stands_same, root-stands_loaded, child-stands_loaded, unclaimed-stands, claimed-stands, new_domain-stands, sent-stands_other, forwarded-stands, genmsi_sent-stands}
-use Rattle.aia_aplic.proofs.SentSteps.{is_source_in, is_genmsi_of, sent_control}
+use Rattle.aia_aplic.proofs.SentSteps.{harts_sent, is_source_in, is_genmsi_of, sent_control}
 use Rattle.aia_aplic.proofs.AddressSteps.{addresses_made, addresses_sent}
 use Rattle.aia_aplic.proofs.TopStands.{top-stands}
 use Rattle.aia_aplic.proofs.ControlSteps.{driven_control, root_at_child_write, child_at_root_write, root_at_child_load, child_at_root_load, loaded_control, written_control, claimed_control, controls-after, controls-still, new_controls-stand}
@@ -41,10 +41,6 @@ harts_written d reg v past = refl
 harts_loaded : (d : DomainName) (reg : DomainReg) (past : Past) → harts_in (Loaded d reg ∷ past) ≡ harts_in past
 unfolding newest
 harts_loaded d reg past = refl
-
-harts_sent : (sender : Sender) (past : Past) → harts_in (Sent sender ∷ past) ≡ harts_in past
-unfolding newest
-harts_sent sender past = refl
 
 -- ---- wires and writes
 

@@ -1,11 +1,11 @@
 //! What the definitions of the wired sources mean, as laws for every past: each function does nothing, and its clauses are what was proved.
 
-ghost use Rattle.std.specs.Prelude.{◌≡◌, ◌≢◌, ◌↔◌, ℕ, ◌≤◌, Bool, true, false, ◌&&◌, List, [], ◌∷◌, Option, Some, None};
+ghost use Rattle.std.specs.Prelude.{◌≡◌, ◌≢◌, ◌↔◌, ℕ, ◌≤◌, Bool, true, false, ◌&&◌, List, [], ◌∷◌, Option, Some, None, Contains, AllPairs};
 ghost use Rattle.aia_model.specs.Event.{History};
 ghost use Rattle.aia_model.specs.declared.sender.Sender.{Sender};
 ghost use Rattle.aia_model.specs.declared.sender.Sender.TheVariants.{ByGenMsi, BySource};
 ghost use Rattle.aia_model.specs.Sent.{is_ready, senders, msi_of, msis, settled, acts_of};
-ghost use Rattle.aia_aplic.specs.Senders.{IsAmong, IsInOrder};
+ghost use Rattle.aia_aplic.specs.Senders.{SendsBefore};
 ghost use Rattle.aia_source.specs.Top.{Pair};
 ghost use Rattle.aia_aplic.specs.Tops.{IsOnTop};
 ghost use Rattle.aia_regs.specs.declared.domain_registers.DomainReg.{DomainReg};
@@ -77,9 +77,9 @@ pub fn the_source_on_top_is_the_least_of_the_harts()
 ///
 /// AIA 1.0, Advanced Platform-Level Interrupt Controller (APLIC), "Interrupt forwarding by MSIs".
 pub fn what_waits_is_genmsi_and_the_sources_that_are_ready()
-    ensures genmsi { (past : Past) (d : DomainName) → IsAmong (ByGenMsi d) (senders past) ↔ (genmsi_waits past d ≡ true) }
-    ensures sources { (past : Past) (d : DomainName) (s : ℕ) → IsAmong (BySource d s) (senders past) ↔ ((1 ≤ s) × (s ≤ sources_in past) × (is_ready past d s ≡ true)) }
-    ensures order { (past : Past) → IsInOrder (senders past) }
+    ensures genmsi { (past : Past) (d : DomainName) → Contains (senders past) (ByGenMsi d) ↔ (genmsi_waits past d ≡ true) }
+    ensures sources { (past : Past) (d : DomainName) (s : ℕ) → Contains (senders past) (BySource d s) ↔ ((1 ≤ s) × (s ≤ sources_in past) × (is_ready past d s ≡ true)) }
+    ensures order { (past : Past) → AllPairs SendsBefore (senders past) }
 {}
 
 /// When the first MSI of those that wait is sent, the others wait as before, in the same order, each with the address and the value that it had. So

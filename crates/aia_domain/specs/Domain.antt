@@ -1,5 +1,6 @@
 -- A domain as it is kept: what a store makes of it, and what a load reads.
-use Rattle.std.specs.Prelude.{◌≡◌, ℕ, zero, suc, ◌-◌, ◌*◌, Bool, true, false, ◌&&◌, if◌then◌else◌, List, [], ◌∷◌, length, All, slice_get}
+use Rattle.std.specs.Prelude.{◌≡◌, ℕ, zero, suc, ◌-◌, ◌*◌, Bool, true, false, ◌&&◌, if◌then◌else◌, List, [], ◌∷◌, length, All, slice_get, filter}
+use Rattle.std.specs.List.{range_with_len}
 use Rattle.aia_word.specs.Sets.{word_of}
 use Rattle.aia_regs.specs.declared.domain_registers.DomainReg.{DomainReg}
 use Rattle.aia_regs.specs.declared.domain_registers.DomainReg.TheVariants.{DomainCfg, SourceCfg, SetIp, InClrIp, SetIe, GenMsi, Target}
@@ -85,15 +86,6 @@ domain_read d reg = 0
 abbrev pub is_ready : DomainState → ℕ → Bool
 is_ready d s = d.msi && d.on && waits_of (slice_get d.sources s)
 
--- The sources of `count` numbers from `from` on that are to be forwarded, rising.
-abbrev pub with_ready : Bool → ℕ → List ℕ → List ℕ
-with_ready true s later = s ∷ later
-with_ready false s later = later
-
-unfoldable pub ready_among : (ℕ → Bool) → ℕ → ℕ → List ℕ
-ready_among ready from zero = []
-ready_among ready from (suc count) = with_ready (ready from) from (ready_among ready (suc from) count)
-
--- Those from a number on, up to the last source.
+-- Those from a number on, up to the last source, rising.
 unfoldable pub ready_from : DomainState → ℕ → List ℕ
-ready_from d from = ready_among (is_ready d) from (length d.sources - from)
+ready_from d from = filter (is_ready d) (range_with_len from (length d.sources - from))

@@ -1,6 +1,7 @@
 -- The MSIs that an APLIC sends: what waits to be sent, in which order, where to and with which value. Profile, where no chapter is named: this project's
 -- way to speak of time.
-use Rattle.std.specs.Prelude.{ℕ, zero, suc, ◌&&◌, Bool, true, false, List, [], ◌∷◌, map, Option, Some, None}
+use Rattle.std.specs.Prelude.{ℕ, ◌&&◌, Bool, List, [], ◌∷◌, map, filter, flat_map, Option, Some, None}
+use Rattle.std.specs.List.{range_with_len}
 use Rattle.aia_source.specs.Top.{hart_of, identity_of}
 use Rattle.aia_model.specs.declared.msi.Msi.{Msi}
 use Rattle.aia_model.specs.declared.domain_name.DomainName.{DomainName}
@@ -23,20 +24,21 @@ use Rattle.aia_model.specs.Event.Event.{Accepted}
 abbrev pub is_ready : Past → DomainName → ℕ → Bool
 is_ready past d s = is_msi past d && is_on past d && pending past d s && enabled past d s
 
--- A sender before others, where it has something to send.
-abbrev pub first_if : Bool → Sender → List Sender → List Sender
-first_if true sender later = sender ∷ later
-first_if false sender later = later
+-- All senders that there may be, with so many wired sources, in the order in which they send: genmsi of
+-- both domains, then the sources by rising number. Profile: the order.
+unfoldable pub all_senders : ℕ → List Sender
+all_senders count =
+    ByGenMsi Root ∷ ByGenMsi Child ∷ flat_map (λ s. BySource Root s ∷ BySource Child s ∷ []) (range_with_len 1 count)
 
--- The sources of `count` numbers from `from` on that are to be forwarded, rising.
-unfoldable pub ready_sources : (DomainName → ℕ → Bool) → ℕ → ℕ → List Sender
-ready_sources ready from zero = []
-ready_sources ready from (suc count) = first_if (ready Root from) (BySource Root from) (first_if (ready Child from) (BySource Child from) (ready_sources ready (suc from) count))
+-- Whether one has an MSI to send: genmsi asked for one, or the source is to be forwarded.
+abbrev pub does_send : Past → Sender → Bool
+does_send past (ByGenMsi d) = genmsi_waits past d
+does_send past (BySource d s) = is_ready past d s
 
--- All that waits to be sent, in the order in which it is sent: what was asked for by genmsi, then the sources of both domains by rising number.
--- AIA 1.0, Advanced Platform-Level Interrupt Controller (APLIC), "Interrupt forwarding by MSIs". Profile: the order.
+-- All that waits to be sent, in the order in which it is sent.
+-- AIA 1.0, Advanced Platform-Level Interrupt Controller (APLIC), "Interrupt forwarding by MSIs".
 abbrev pub senders : Past → List Sender
-senders past = first_if (genmsi_waits past Root) (ByGenMsi Root) (first_if (genmsi_waits past Child) (ByGenMsi Child) (ready_sources (is_ready past) 1 (sources_in past)))
+senders past = filter (does_send past) (all_senders (sources_in past))
 
 -- ---- their MSIs
 
