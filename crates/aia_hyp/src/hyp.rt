@@ -1,8 +1,8 @@
-ghost use Rattle.std.specs.Prelude.{◌≡◌, ◌≢◌, ◌<◌, ◌≤◌, ◌%◌, true, None, Some, Ok, Err, IsTrue, IfOk, OnOk, if◌then◌else◌, slice_index};
+ghost use Rattle.std.specs.Prelude.{◌≡◌, ◌≢◌, ◌<◌, ◌≤◌, ◌%◌, true, false, None, Some, Ok, Err, IsTrue, IfOk, OnOk, if◌then◌else◌, slice_index};
 ghost use Rattle.std.specs.Result.{result_err};
 ghost use Rattle.aia_regs.specs.FileRegisters.{select_after, register_of, IsUsable};
 ghost use Rattle.aia_regs.specs.AddressMap.{is_in_memory};
-ghost use Rattle.aia_csr.specs.Access.{IsInTable};
+ghost use Rattle.aia_csr.specs.Access.{IsInTable, ReachesUsable, access_of};
 ghost use Rattle.aia_file.specs.InterruptFile.{SameFile, is_width, register_value, top_of};
 ghost use Rattle.aia_file.specs.FileState.{shown};
 ghost use Rattle.aia_imsic.specs.Files.{IsThere, file_at};
@@ -90,14 +90,25 @@ impl Hyp {
         requires few { hart < HARTS }
         ensures { CoreTakes self.old self.new (csr_line level hart csr op) (answer_by Wide result) }
     {
-        let select = self.selects[select_place(level, hart)];
-        match decide(level, csr, op, select, false) {
+        match self.reached(level, hart, csr, op) {
             Access::Select => Ok(self.access_select(level, hart, op)),
             Access::File(reg) => Ok(self.access_file(level, hart, reg, op)),
             Access::Top => Ok(self.access_top(level, hart, op)),
             Access::Illegal => Err(Refusal::Illegal),
             Access::Topi | Access::Sip | Access::Sie | Access::Virtual => unreachable!(),
         }
+    }
+
+    /// What the access reaches, by the select number of the hart and level.
+    fn reached(&self, level: Level, hart: u32, csr: Csr, op: Op) -> Access
+        requires listed { IsInTable level csr }
+        requires host { IsHost level }
+        requires few { hart < HARTS }
+        ensures table { result ≡ access_of level csr op (select_in self.now (name_of level hart)) false }
+        ensures usable { ReachesUsable result }
+    {
+        let select = self.selects[select_place(level, hart)];
+        decide(level, csr, op, select, false)
     }
 
     fn access_select(&mut self, level: Level, hart: u32, op: Op) -> u64
