@@ -2,7 +2,7 @@
 use Rattle.std.proofs.Common.{◌≡◌, ◌≢◌, ℕ, ◌+◌, ◌%◌, ◌<◌, ◌≤◌, Bool, true, false, not, cond, nat_eq, nat_lt, ◌∷◌, unwrap_or, Option, Some, None, refl, sym, ap, subst, ◌∙◌, arith}
 use Rattle.std.specs.Option.{option_map}
 use Rattle.std.specs.Int.{is_in_range}
-use Rattle.std.specs.Prelude.{Result, Ok, Err}
+use Rattle.std.specs.Prelude.{Result, Ok, Err, MatchResult}
 use Rattle.std.proofs.lemmas.Bool.{cond-true, cond-false, ltb-true, eqb-true}
 use Rattle.std.proofs.lemmas.Bool.Decides.{nat_tests}
 use Rattle.aia_file.specs.InterruptFile.{signals}
@@ -31,7 +31,7 @@ use Rattle.aia_regs.specs.declared.access.Level.{Level}
 use Rattle.aia_regs.specs.declared.access.Level.TheVariants as levels
 use Rattle.aia_hyp.specs.HostFiles.{IsHost, csr_line}
 use Rattle.aia_hyp.specs.Core.{CoreState}
-use Rattle.aia_hyp.specs.Stands.{CoreStands, CoreTakes, line_taken, signals_of}
+use Rattle.aia_hyp.specs.Stands.{CoreStands, CoreTakes, answer_by, line_taken, signals_of}
 use Rattle.aia_hyp.proofs.PageLemmas.{misaligned, region_is_free}
 use Rattle.aia_hyp.proofs.StoreLemmas.{store_rests, line_rests}
 use Rattle.aia_aplic.specs.Stands.{AplicState, AplicStands, domain_name}
@@ -74,6 +74,11 @@ aplic_line m n line given same by = by_refusal m n line given (λ h stands. let 
   r.1,
   record { core = subst (λ (x : CoreState). CoreStands x (taken h line)) (sym same) r.2; aplic = r.3 },
 ))
+
+-- the answer to a call of the core, by what it gives
+pub answered_by : {A : Type 0} (show : A → Answer) (r : Result A Refusal) (given : Answer) → MatchResult r (λ x. given ≡ show x) (λ e. given ≡ Refused e) → given ≡ answer_by show r
+answered_by show (Ok x) given e = e
+answered_by show (Err word) given e = e
 
 pub access_silent : (level : Level) → IsHost level → (hart : ℕ) (csr : Csr) (op : Op) (past : Past) → with_act (act_of (csr_line level hart csr op)) past ≡ past
 access_silent levels.Machine host hart csr op past = refl

@@ -106,7 +106,10 @@ impl Machine {
         ensures { MachineTakes self.old self.new (Line.Load addr) result }
     {
         match register_domain(addr) {
-            Ok(None) => narrow(self.core.load(addr)),
+            Ok(None) => {
+                let given = self.core.load(addr);
+                given.map_or_else(Answer::Refused, Answer::Narrow)
+            }
             Ok(Some(domain)) => Answer::Narrow(self.aplic.load(domain, (addr % REGION) as u32)),
             Err(word) => Answer::Refused(word),
         }
@@ -130,7 +133,8 @@ impl Machine {
         requires host { IsHost level }
         ensures { MachineTakes self.old self.new (csr_line level hart csr op) result }
     {
-        wide(self.core.host(level, hart, csr, op))
+        let given = self.core.host(level, hart, csr, op);
+        given.map_or_else(Answer::Refused, Answer::Wide)
     }
 
     fn pins(&self, hart: u64) -> Answer
@@ -154,26 +158,6 @@ fn okay(given: Result<(), Refusal>) -> Answer
 {
     match given {
         Ok(()) => Answer::Okay,
-        Err(word) => Answer::Refused(word),
-    }
-}
-
-/// The answer to one that gives 32 bits.
-fn narrow(given: Result<u32, Refusal>) -> Answer
-    ensures { result ≡ answer_by Answer.Narrow given }
-{
-    match given {
-        Ok(value) => Answer::Narrow(value),
-        Err(word) => Answer::Refused(word),
-    }
-}
-
-/// The answer to one that gives 64 bits.
-fn wide(given: Result<u64, Refusal>) -> Answer
-    ensures { result ≡ answer_by Answer.Wide given }
-{
-    match given {
-        Ok(value) => Answer::Wide(value),
         Err(word) => Answer::Refused(word),
     }
 }
