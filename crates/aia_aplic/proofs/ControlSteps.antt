@@ -14,7 +14,8 @@ use Rattle.aia_model.specs.Act.Act.{Made, Driven, Written, Loaded}
 use Rattle.aia_model.specs.SourceOf.{harts_in, delivery_of, force_of, threshold_of, is_msi, top}
 use Rattle.aia_aplic.specs.Stands.{control, ControlsStand}
 use Rattle.aia_aplic.specs.Controls.{EachControl, control_after}
-use Rattle.aia_aplic.proofs.EachLemmas.{each-length, each-held, unchanged}
+use Rattle.std.proofs.lemmas.Iterator.Adapters.{option_map_id}
+use Rattle.aia_domain.proofs.EachLemmas.{each-length, each-held}
 use Rattle.aia_aplic.proofs.LoadedSteps.{is_claim}
 
 -- ---- acts that say nothing of it
@@ -114,7 +115,7 @@ controls-after a old new past name change harts each goes stands = record {
 }
 
 pub controls-still : (a : Act) (old : List Control) (past : Past) (name : DomainName) → harts_in (a ∷ past) ≡ harts_in past → ((h : ℕ) → h < harts_in past → control (a ∷ past) name h ≡ control past name h) → ControlsStand old past name → ControlsStand old (a ∷ past) name
-controls-still a old past name harts same stands = controls-after a old old past name (λ h c. c) harts (λ h. unchanged (slice_get old h)) (λ h low. sym (same h low)) stands
+controls-still a old past name harts same stands = controls-after a old old past name (λ h c. c) harts (λ h. sym (option_map_id (slice_get old h))) (λ h low. sym (same h low)) stands
 
 new_control_is : (h n : ℕ) (name : DomainName) (x : ℕ) → new_control ≡ control (Made h n ∷ []) name x
 unfolding newest

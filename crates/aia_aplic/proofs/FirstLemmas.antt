@@ -1,7 +1,7 @@
 -- What is kept tells what waits first.
 use Rattle.std.proofs.Common.{◌≡◌, ℕ, zero, suc, ◌<◌, ◌≤◌, Bool, true, false, ◌&&◌, List, [], ◌∷◌, length, slice_get, get_or, Option, Some, None, MatchOption, ◌⊎◌, inl, inr, refl, sym, ap, subst, ◌∙◌, arith}
 use Rattle.std.specs.List.{Contains, AllPairs}
-use Rattle.std.proofs.lemmas.Bool.{cases_lt, and_parts}
+use Rattle.std.proofs.lemmas.Bool.{cases_lt, and_parts, and_right}
 use Rattle.std.proofs.lemmas.Option.{slice_get_past, slice_get-get_or}
 use Rattle.aia_domain.specs.Held.{Held, waits_of}
 use Rattle.aia_domain.specs.Domain.{DomainState, ready_from}
@@ -44,17 +44,12 @@ ready_is d past name s stands low =
     ∙ ap (λ (o : Option Held). is_msi past name && is_on past name && waits_of o) (found ∙ ap (λ (x : Held). Some x) (stands.each s (get_or d.sources s (held past name s)) found))
     ∙ sym (regroup (is_msi past name) (is_on past name) (pending past name s) (enabled past name s))
 
-neither : (a b : Bool) → (a && b && false) ≡ false
-neither true true = refl
-neither true false = refl
-neither false b = refl
-
 -- no source has the number 0
 ready_zero : (past : Past) (name : DomainName) → is_ready past name 0 ≡ false
 ready_zero past name =
     regroup (is_msi past name) (is_on past name) (pending past name 0) (enabled past name 0)
     ∙ ap (λ (b : Bool). is_msi past name && is_on past name && (b && enabled past name 0)) ((held-idle past name 0).pending (mode-zero past name))
-    ∙ neither (is_msi past name) (is_on past name)
+    ∙ and_right (is_msi past name && is_on past name) false refl
 
 not_zero : (past : Past) (name : DomainName) (s : ℕ) → is_ready past name s ≡ true → 1 ≤ s
 not_zero past name zero ready = let bad : false ≡ true = sym (ready_zero past name) ∙ ready in absurd (cc)

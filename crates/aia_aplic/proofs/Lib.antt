@@ -1,4 +1,3 @@
-pub mod EachLemmas
 pub mod Steps
 pub mod WriteSteps
 pub mod DrivenSteps
@@ -6,6 +5,7 @@ pub mod LoadedSteps
 pub mod SentSteps
 pub mod AddressSteps
 pub mod Standing
+pub mod SentStanding
 pub mod Reading
 pub mod TopStands
 pub mod ControlSteps

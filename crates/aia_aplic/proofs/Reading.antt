@@ -1,6 +1,6 @@
 -- A domain that stands for the past reads what the past says.
 use Rattle.std.proofs.Common.{◌≡◌, ◌≢◌, ℕ, zero, suc, ◌*◌, ◌<◌, ◌≤◌, Bool, true, false, not, cond, ◌&&◌, nat_eq, [], ◌∷◌, length, slice_get, get_or, Some, None, unwrap_or, ◌⊎◌, inl, inr, refl, sym, ap, subst, ◌∙◌, arith}
-use Rattle.std.proofs.lemmas.Bool.{cases_eq, cases_lt, eq-eqb, ne_eqb, cond-true, cond-false}
+use Rattle.std.proofs.lemmas.Bool.{cases_eq, cases_lt, eq-eqb, ne_eqb, cond-true, cond-false, and_right}
 use Rattle.std.proofs.lemmas.Bool.Decides.{nat_tests}
 use Rattle.std.proofs.lemmas.Option.{slice_get_past, slice_get-get_or}
 use Rattle.aia_word.specs.Sets.{word_of}
@@ -31,14 +31,10 @@ use Rattle.aia_aplic.proofs.WriteSteps.{child-none}
 
 -- ---- no source has the number 0
 
-pub and_false : (b : Bool) → (b && false) ≡ false
-and_false true = refl
-and_false false = refl
-
 root-zero : (past : Past) → root_sourcecfg_of past 0 ≡ 0
 unfolding newest
 root-zero [] = refl
-root-zero (Written Root (SourceCfg i) v ∷ past) = ap (λ (b : Bool). unwrap_or (when b (root_sourcecfg v)) (root_sourcecfg_of past 0)) (and_false (nat_eq i 0)) ∙ root-zero past
+root-zero (Written Root (SourceCfg i) v ∷ past) = ap (λ (b : Bool). unwrap_or (when b (root_sourcecfg v)) (root_sourcecfg_of past 0)) (and_right (nat_eq i 0) false refl) ∙ root-zero past
 root-zero (a ∷ past) = root-zero past
 
 pub mode-zero : (past : Past) (d : DomainName) → is_active (mode past d 0) ≡ false

@@ -1,7 +1,7 @@
 -- The first of all that waits to be sent, and what waits when its MSI is sent.
-use Rattle.std.proofs.Common.{◌≡◌, ℕ, zero, suc, ◌+◌, ◌<◌, ◌≤◌, Bool, true, false, not, cond, ◌&&◌, nat_eq, List, [], ◌∷◌, map, refl, sym, ap, ◌∙◌, arith}
+use Rattle.std.proofs.Common.{◌≡◌, ℕ, Bool, true, false, not, cond, ◌&&◌, nat_eq, List, [], ◌∷◌, map, refl, sym, ap, ◌∙◌, arith}
 use Rattle.std.specs.List.{filter}
-use Rattle.std.proofs.lemmas.Bool.{eq-eqb, ne_eqb, and_right}
+use Rattle.std.proofs.lemmas.Bool.{eq-eqb, ne_eqb, and_left, and_right}
 use Rattle.aia_source.specs.Source.{rectified}
 use Rattle.aia_source.specs.Source.Deed.{Forwarded}
 use Rattle.aia_domain.specs.Held.{Held, with_deed}
@@ -12,7 +12,7 @@ use Rattle.aia_model.specs.Act.{Past, is_domain, newest, act_of}
 use Rattle.aia_model.specs.declared.domain_name.DomainName.TheVariants.{Root, Child}
 use Rattle.aia_model.specs.declared.sender.Sender.TheVariants.{ByGenMsi, BySource}
 use Rattle.aia_model.specs.Act.Act.{Made, Sent}
-use Rattle.aia_model.specs.SourceOf.{harts_in, sources_in, mode, input, is_on, is_msi, owns, enabled, target, pending, genmsi_of, genmsi_waits}
+use Rattle.aia_model.specs.SourceOf.{harts_in, sources_in, mode, input, is_on, is_msi, owns, target, pending, genmsi_of, genmsi_waits}
 use Rattle.aia_model.specs.Sent.{is_ready, all_senders, does_send, senders, msi_by, msi_of, msis, sent_by, settled, with_act, acts_of}
 use Rattle.aia_model.specs.Event.{History}
 use Rattle.aia_model.specs.Event.Event.{Accepted, Delivered}
@@ -69,13 +69,9 @@ ready_held sender past d s y e =
     ap (λ m. ready_with m (is_on (Sent sender ∷ past) d) (held (Sent sender ∷ past) d s)) (modes sender past d).0 ∙ ap (λ o. ready_with (is_msi past d) o (held (Sent sender ∷ past) d s)) (modes sender past d).1
     ∙ ap (ready_with (is_msi past d) (is_on past d)) e
 
-none_pending : (on enabled : Bool) → (on && false && enabled) ≡ false
-none_pending true enabled = refl
-none_pending false enabled = refl
-
 -- a source that is forwarded
 ready_one : (b msi on : Bool) (x : Held) → ready_with msi on (cond (b && msi) (with_deed msi Forwarded x) x) ≡ (not (true && b) && ready_with msi on x)
-ready_one true true on x = ap (λ (p : Bool). on && p && x.enabled) (forward_says x.source.mode true (rectified x.source.mode x.source.wire) x.source.pending) ∙ none_pending on x.enabled
+ready_one true true on x = ap (λ (p : Bool). on && p && x.enabled) (forward_says x.source.mode true (rectified x.source.mode x.source.wire) x.source.pending) ∙ and_left (on && false) x.enabled (and_right on false refl)
 ready_one true false on x = refl
 ready_one false msi on x = refl
 

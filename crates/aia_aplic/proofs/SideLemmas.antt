@@ -1,6 +1,6 @@
 -- A domain with its delivery controls, which stood for the past, stands for the longer one.
 use Rattle.std.proofs.Common.{◌≡◌, ℕ, zero, suc, ◌<◌, ◌≤◌, Bool, true, false, not, cond, ◌&&◌, ◌||◌, nat_eq, nat_lt, is_some, unwrap_or, List, [], ◌∷◌, length, Option, Some, None, ◌≢◌, ◌⊎◌, inl, inr, refl, sym, ap, subst, ◌∙◌, arith}
-use Rattle.std.proofs.lemmas.Bool.{lt-ltb, le-ltb, cond-true, cond-false, ne_eqb, cases_eq}
+use Rattle.std.proofs.lemmas.Bool.{lt-ltb, le-ltb, cond-true, cond-false, ne_eqb, cases_eq, and_parts}
 use Rattle.std.proofs.lemmas.Option.{slice_get-get_or}
 use Rattle.aia_regs.specs.declared.domain_registers.DomainReg.{DomainReg}
 use Rattle.aia_regs.specs.declared.domain_registers.DomainReg.TheVariants.{SourceCfg, IDelivery, IForce, IThreshold, TopI, ClaimI}
@@ -22,7 +22,8 @@ use Rattle.aia_model.specs.SourceOf.{harts_in, own_read, top, is_msi, is_on, is_
 use Rattle.aia_aplic.specs.Stands.{control, SideState, SideStands, IsNewSide, AplicState, AplicStands, IsNewAplic}
 use Rattle.aia_aplic.specs.Controls.{EachControl, is_control, hart_of_register, control_after, control_at, claimed_at}
 use Rattle.aia_aplic.proofs.LoadedSteps.{is_claim}
-use Rattle.aia_aplic.proofs.Standing.{driven-stands, own-stands, root-stands_other, child-stands_other, child-stands_written, read-stands_same, root-stands_loaded, child-stands_loaded, unclaimed-stands, claimed-stands, new_domain-stands, sent-stands_other, forwarded-stands, genmsi_sent-stands}
+use Rattle.aia_aplic.proofs.Standing.{driven-stands, own-stands, root-stands_other, child-stands_other, child-stands_written, read-stands_same, root-stands_loaded, child-stands_loaded, unclaimed-stands, claimed-stands, new_domain-stands}
+use Rattle.aia_aplic.proofs.SentStanding.{sent-stands_other, forwarded-stands, genmsi_sent-stands}
 use Rattle.aia_aplic.proofs.SentSteps.{harts_sent, is_source_in, is_genmsi_of, sent_control}
 use Rattle.aia_aplic.proofs.AddressSteps.{addresses_made, addresses_sent}
 use Rattle.aia_aplic.proofs.TopStands.{top-stands}
@@ -108,13 +109,9 @@ side-sent_other sender a past name genmsi source stands = record {
 pub side-forwarded : (t : ℕ) (a : SideState) (e : DomainState) (past : Past) (name : DomainName) → is_ready a.domain t ≡ true → EachSource a.domain.sources e.sources (changed_at t (with_deed true Forwarded)) → e ≡ with_sources a.domain e.sources
     → SideStands a past name → SideStands (record { domain = e; controls = a.controls }) (Sent (BySource name t) ∷ past) name
 side-forwarded t a e past name ready each rest stands = record {
-  domain = forwarded-stands t a.domain e past name (sym stands.domain.msi ∙ first_true a.domain.msi a.domain.on _ ready) each rest stands.domain;
+  domain = forwarded-stands t a.domain e past name (sym stands.domain.msi ∙ (and_parts a.domain.msi a.domain.on (and_parts (a.domain.msi && a.domain.on) _ ready).0).0) each rest stands.domain;
   controls = controls-still (Sent (BySource name t)) a.controls past name (harts_sent (BySource name t) past) (λ h low. sent_control (BySource name t) past name h) stands.controls;
 }
-  where
-    first_true : (x y z : Bool) → (x && y && z) ≡ true → x ≡ true
-    first_true true y z e = refl
-    first_true false y z e = cc
 
 pub side-genmsi_sent : (a : SideState) (e : DomainState) (past : Past) (name : DomainName) → e ≡ record a.domain { genmsi_waits = false } → SideStands a past name → SideStands (record { domain = e; controls = a.controls }) (Sent (ByGenMsi name) ∷ past) name
 side-genmsi_sent a e past name is stands = record {

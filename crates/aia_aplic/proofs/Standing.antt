@@ -1,5 +1,5 @@
 -- A domain that stood for the past stands for the longer one.
-use Rattle.std.proofs.Common.{◌≡◌, ℕ, suc, ◌<◌, Bool, true, false, not, cond, ◌&&◌, nat_eq, nat_lt, [], ◌∷◌, slice_get, Option, None, unwrap_or, refl, sym, ap, subst, ◌∙◌}
+use Rattle.std.proofs.Common.{◌≡◌, ℕ, suc, ◌<◌, Bool, true, false, not, cond, ◌&&◌, nat_lt, [], ◌∷◌, slice_get, Option, None, unwrap_or, refl, sym, ap, subst, ◌∙◌}
 use Rattle.std.proofs.lemmas.Bool.{cond-true, cond-false}
 use Rattle.std.proofs.lemmas.Option.{slice_get_within, get_or_from_slice_get}
 use Rattle.std.proofs.lemmas.List.Elements.{All-get_or}
@@ -13,18 +13,16 @@ use Rattle.aia_domain.specs.Domain.{DomainState, IsNewDomain, with_sources, sour
 use Rattle.aia_model.specs.declared.domain_name.DomainName.{DomainName}
 use Rattle.aia_model.specs.Act.{Act, Past, is_domain, newest, when}
 use Rattle.aia_model.specs.declared.domain_name.DomainName.TheVariants.{Root, Child}
-use Rattle.aia_model.specs.Act.Act.{Made, Driven, Written, Loaded, Sent}
+use Rattle.aia_model.specs.Act.Act.{Made, Driven, Written, Loaded}
 use Rattle.aia_model.specs.SourceOf.{harts_in, sources_in, wire_of, enabled, target, pending, domaincfg_of, is_on, is_msi, genmsi_of, genmsi_waits, top}
 use Rattle.aia_direct.specs.Control.{claimed_top}
 use Rattle.aia_aplic.specs.Stands.{held, DomainStands}
-use Rattle.aia_aplic.proofs.EachLemmas.{each-length, each-held, unchanged}
+use Rattle.std.proofs.lemmas.Iterator.Adapters.{option_map_id}
+use Rattle.aia_domain.proofs.EachLemmas.{each-length, each-held}
 use Rattle.aia_aplic.proofs.WriteSteps.{same_bools, root_written, child_written, root_at_child_written, child_at_root_config, child_at_root_written, is_config}
 use Rattle.aia_aplic.proofs.DrivenSteps.{driven}
 use Rattle.aia_aplic.proofs.LoadedSteps.{is_claim, claimed, loaded, root_at_child_loaded, child_at_root_loaded}
-use Rattle.aia_source.specs.Source.Deed.{Claimed, Forwarded}
-use Rattle.aia_model.specs.declared.sender.Sender.{Sender}
-use Rattle.aia_model.specs.declared.sender.Sender.TheVariants.{ByGenMsi, BySource}
-use Rattle.aia_aplic.proofs.SentSteps.{forwarded, sent_elsewhere, is_source_in, is_genmsi_of}
+use Rattle.aia_source.specs.Source.Deed.{Claimed}
 use Rattle.aia_source.specs.Top.{Pair, is_top}
 
 -- what a domain keeps beside its sources, and its harts, is as the longer past has it
@@ -52,8 +50,8 @@ stands-after a d e past name change keeps each goes stands = record {
 }
 
 -- an act that a domain has no part in
-still-stands : (a : Act) (d : DomainState) (past : Past) (name : DomainName) → Keeps d d a past name → ((s : ℕ) → s < suc (sources_in past) → held (a ∷ past) name s ≡ held past name s) → DomainStands d past name → DomainStands d (a ∷ past) name
-still-stands a d past name keeps same stands = stands-after a d d past name (λ s x. x) keeps (λ s. unchanged (slice_get d.sources s)) (λ s low. sym (same s low)) stands
+pub still-stands : (a : Act) (d : DomainState) (past : Past) (name : DomainName) → Keeps d d a past name → ((s : ℕ) → s < suc (sources_in past) → held (a ∷ past) name s ≡ held past name s) → DomainStands d past name → DomainStands d (a ∷ past) name
+still-stands a d past name keeps same stands = stands-after a d d past name (λ s x. x) keeps (λ s. sym (option_map_id (slice_get d.sources s))) (λ s low. sym (same s low)) stands
 
 -- a register that is no domaincfg and no genmsi
 abbrev is_plain : DomainReg → Bool
@@ -67,7 +65,7 @@ is_plain reg = true
 abbrev pub IsQuiet : Act → Past → DomainName → Type 0
 IsQuiet a past name = (harts_in (a ∷ past) ≡ harts_in past) × (sources_in (a ∷ past) ≡ sources_in past) × (is_on (a ∷ past) name ≡ is_on past name) × (is_msi (a ∷ past) name ≡ is_msi past name) × (genmsi_of (a ∷ past) name ≡ genmsi_of past name) × (genmsi_waits (a ∷ past) name ≡ genmsi_waits past name)
 
-keeps_quiet : (a : Act) (d e : DomainState) (past : Past) (name : DomainName) → IsQuiet a past name → e ≡ with_sources d e.sources → DomainStands d past name → Keeps d e a past name
+pub keeps_quiet : (a : Act) (d e : DomainState) (past : Past) (name : DomainName) → IsQuiet a past name → e ≡ with_sources d e.sources → DomainStands d past name → Keeps d e a past name
 keeps_quiet a d e past name quiet rest stands = record {
   leaf = ap (λ (x : DomainState). x.leaf) rest;
   harts = ap (λ (x : DomainState). x.harts) rest;
@@ -282,56 +280,6 @@ claimed-stands hart o d e past name there shown each rest stands =
     (λ s low. top_claimed (is_msi past name) o s (held past name s) (λ m. shown ∙ msi_shows_none past name hart m)
     ∙ ap (λ (p : Option Pair). cond (is_top p s) (with_deed (is_msi past name) Claimed (held past name s)) (held past name s)) shown
     ∙ sym (claimed hart past name s ∙ ap (λ (b : Bool). cond (b && is_top (top past name hart) s) (with_deed (is_msi past name) Claimed (held past name s)) (held past name s)) there)) stands
-
--- ---- the sending of an MSI
-
-quiet_sent : (sender : Sender) (past : Past) (name : DomainName) → is_genmsi_of sender name ≡ false → IsQuiet (Sent sender) past name
-unfolding newest genmsi_waits
-quiet_sent (BySource e t) past name other = (refl, refl, refl, refl, refl, refl)
-quiet_sent (ByGenMsi Root) past Child other = (refl, refl, refl, refl, refl, refl)
-quiet_sent (ByGenMsi Child) past Root other = (refl, refl, refl, refl, refl, refl)
-quiet_sent (ByGenMsi Root) past Root other = cc
-quiet_sent (ByGenMsi Child) past Child other = cc
-
--- of the other domain
-pub sent-stands_other : (sender : Sender) (d : DomainState) (past : Past) (name : DomainName) → is_genmsi_of sender name ≡ false → is_source_in sender name ≡ false → DomainStands d past name → DomainStands d (Sent sender ∷ past) name
-sent-stands_other sender d past name genmsi source stands =
-    still-stands (Sent sender) d past name (keeps_quiet (Sent sender) d d past name (quiet_sent sender past name genmsi) refl stands) (λ s low. sent_elsewhere sender past name s source) stands
-
--- of a source
-pub forwarded-stands : (t : ℕ) (d e : DomainState) (past : Past) (name : DomainName) → is_msi past name ≡ true → EachSource d.sources e.sources (changed_at t (with_deed true Forwarded)) → e ≡ with_sources d e.sources
-    → DomainStands d past name → DomainStands e (Sent (BySource name t) ∷ past) name
-forwarded-stands t d e past name by_msi each rest stands =
-    stands-after (Sent (BySource name t)) d e past name (changed_at t (with_deed true Forwarded)) (keeps_quiet (Sent (BySource name t)) d e past name (quiet_sent (BySource name t) past name refl) rest stands) each
-    (λ s low. by_mode (nat_eq t s) (is_msi past name) (held past name s) by_msi ∙ sym (forwarded t past name s)) stands
-  where
-    by_mode : (b msi : Bool) (x : Held) → msi ≡ true → cond b (with_deed true Forwarded x) x ≡ cond (b && msi) (with_deed msi Forwarded x) x
-    by_mode true true x e = refl
-    by_mode true false x e = cc
-    by_mode false msi x e = refl
-
--- of genmsi
-sent_genmsi : (past : Past) (name : DomainName) → (harts_in (Sent (ByGenMsi name) ∷ past) ≡ harts_in past) × (sources_in (Sent (ByGenMsi name) ∷ past) ≡ sources_in past) × (is_on (Sent (ByGenMsi name) ∷ past) name ≡ is_on past name)
-    × (is_msi (Sent (ByGenMsi name) ∷ past) name ≡ is_msi past name) × (genmsi_of (Sent (ByGenMsi name) ∷ past) name ≡ genmsi_of past name) × (genmsi_waits (Sent (ByGenMsi name) ∷ past) name ≡ false)
-unfolding newest genmsi_waits
-sent_genmsi past Root = (refl, refl, refl, refl, refl, refl)
-sent_genmsi past Child = (refl, refl, refl, refl, refl, refl)
-
-pub genmsi_sent-stands : (d e : DomainState) (past : Past) (name : DomainName) → e ≡ record d { genmsi_waits = false } → DomainStands d past name → DomainStands e (Sent (ByGenMsi name) ∷ past) name
-genmsi_sent-stands d e past name is stands =
-    let says = sent_genmsi past name in
-    let keeps : Keeps d (record d { genmsi_waits = false }) (Sent (ByGenMsi name)) past name = record {
-      leaf = refl;
-      harts = refl;
-      harts_in = says.0;
-      sources_in = says.1;
-      on = stands.on ∙ sym says.2;
-      msi = stands.msi ∙ sym says.3;
-      genmsi = stands.genmsi ∙ sym says.4;
-      genmsi_waits = sym says.5;
-    } in
-    subst (λ (x : DomainState). DomainStands x (Sent (ByGenMsi name) ∷ past) name) (sym is)
-    (stands-after (Sent (ByGenMsi name)) d (record d { genmsi_waits = false }) past name (λ s x. x) keeps (λ s. unchanged (slice_get d.sources s)) (λ s low. sym (sent_elsewhere (ByGenMsi name) past name s refl)) stands)
 
 -- ---- the beginning
 

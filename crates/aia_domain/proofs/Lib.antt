@@ -1,3 +1,4 @@
+pub mod EachLemmas
 pub mod WordLemmas
 pub mod ReadyLemmas
 pub mod Loops

@@ -86,6 +86,6 @@ domain_read d reg = 0
 abbrev pub is_ready : DomainState → ℕ → Bool
 is_ready d s = d.msi && d.on && waits_of (slice_get d.sources s)
 
--- Those from a number on, up to the last source, rising.
+-- The sources that are to be forwarded, from a number on, rising.
 unfoldable pub ready_from : DomainState → ℕ → List ℕ
 ready_from d from = filter (is_ready d) (range_with_len from (length d.sources - from))

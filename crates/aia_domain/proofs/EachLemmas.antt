@@ -20,7 +20,3 @@ each-held {A} old new change was is each stands goes s y found = at (slice_get o
         let same : ◌≡◌ {A = Option A} (Some (change s x)) (Some y) = sym (ap (option_map (change s)) e) ∙ sym (each s) ∙ found in
         let f : change s x ≡ y = cc in
         sym f ∙ ap (change s) (stands s x e) ∙ goes s (slice_get_within old s x e)
-
-pub unchanged : {A : Type 0} (o : Option A) → o ≡ option_map (λ x. x) o
-unchanged None = refl
-unchanged (Some x) = refl
