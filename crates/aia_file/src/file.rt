@@ -1,6 +1,7 @@
 ghost use Rattle.std.specs.Prelude.{◌≡◌, ℕ, ◌+◌, ◌-◌, ◌*◌, ◌%◌, ◌<◌, ◌≤◌, ◌↔◌, false, ◌&&◌, not, nat_eq, length, IsTrue, IfOk, IfSome};
 ghost use Rattle.aia_word.specs.Sets.{has_bit, is_in};
 ghost use Rattle.aia_word.specs.Top.{top_value, passes};
+ghost use Rattle.aia_regs.specs.declared.limits.TheConstants.{IDENTITIES};
 ghost use Rattle.aia_regs.specs.Word.{settle};
 ghost use Rattle.aia_regs.specs.FileRegisters.{IsUsable, set_word, number_after};
 ghost use Rattle.aia_file.specs.InterruptFile.{is_width, SameFile, empty_file, register_value, top_of, signals, accessed, landed, claimed};
@@ -162,7 +163,7 @@ impl File {
     fn on_top(&self) -> Option<u32>
         ensures top { result ≡ top_of (shown self.now) }
         ensures small { IfSome result (λ identity. identity ≤ self.now.n) }
-        ensures fits { self.now.n ≤ 2047 }
+        ensures fits { self.now.n ≤ IDENTITIES }
     {
         let least = sets::least_common(&self.pending, &self.enabled)?;
         if passes(self.threshold, least) {
@@ -182,7 +183,7 @@ fn passes(threshold: u64, identity: u32) -> bool
 
 /// How a topei register shows the identity on top.
 fn topei(top: Option<u32>) -> u64
-    requires { IfSome top (λ identity. identity ≤ 2047) }
+    requires { IfSome top (λ identity. identity ≤ IDENTITIES) }
     ensures { result ≡ top_value top }
 {
     match top {

@@ -11,6 +11,7 @@ ghost use Rattle.aia_imsic.specs.Lends.{LendsFile};
 use crate::spot::Spot;
 use aia_file::File;
 use aia_regs::address_map::{HART_STRIDE, MACHINE_FILES, PAGE, SUPERVISOR_FILES};
+use aia_regs::limits::{GUEST_FILES, HARTS};
 use std::alloc::{AllocError, Global};
 use std::marker::Model;
 
@@ -26,13 +27,14 @@ pub struct Imsic {
 
 impl Model for Imsic {
     ghost use Rattle.std.specs.Prelude.{◌≡◌, ◌+◌, ◌*◌, ◌≤◌, length};
+    ghost use Rattle.aia_regs.specs.declared.limits.TheConstants.{HARTS, GUEST_FILES};
     ghost use Rattle.aia_imsic.specs.Files.{Harts};
 
     ghost Value = { Harts };
 
     ghost view = { λ i. record { harts = i.harts; guests = i.guests; files = i.files.items } };
 
-    ghost invariant = { λ i. (i.harts ≤ 4) × (i.guests ≤ 7) × (length i.files.items ≡ i.harts * (i.guests + 2)) };
+    ghost invariant = { λ i. (i.harts ≤ HARTS) × (i.guests ≤ GUEST_FILES) × (length i.files.items ≡ i.harts * (i.guests + 2)) };
 }
 
 impl Imsic {
@@ -40,8 +42,8 @@ impl Imsic {
     /// `n`, which is 63, 127, 255, 511, 1023 or 2047.
     pub fn new(alloc: Global, harts: u32, guests: u32, n: u32) -> Result<Imsic, AllocError>
         requires some { 1 ≤ harts }
-        requires few { harts ≤ 4 }
-        requires guests { guests ≤ 7 }
+        requires few { harts ≤ HARTS }
+        requires guests { guests ≤ GUEST_FILES }
         requires width { IsTrue (is_width n) }
         ensures size { IfOk result (λ i. (i.harts ≡ harts) × (i.guests ≡ guests) × (length i.files ≡ harts * (guests + 2))) }
         ensures empty { IfOk result (λ i. AreEmpty i n) }
@@ -57,7 +59,7 @@ impl Imsic {
     /// How many harts there are, 1 to 4.
     pub fn harts(&self) -> u32
         ensures value { result ≡ self.now.harts }
-        ensures few { result ≤ 4 }
+        ensures few { result ≤ HARTS }
     {
         self.harts
     }
@@ -65,7 +67,7 @@ impl Imsic {
     /// How many guest files each hart has, 0 to 7.
     pub fn guests(&self) -> u32
         ensures value { result ≡ self.now.guests }
-        ensures few { result ≤ 7 }
+        ensures few { result ≤ GUEST_FILES }
     {
         self.guests
     }
@@ -76,7 +78,7 @@ impl Imsic {
     pub fn locate(&self, addr: u64) -> Spot
         ensures spot { result ≡ spot_at self.now.harts self.now.guests addr }
         ensures there { result ≢ Spot.Nowhere → IsThere self.now result }
-        ensures few { (self.now.harts ≤ 4) × (self.now.guests ≤ 7) }
+        ensures few { (self.now.harts ≤ HARTS) × (self.now.guests ≤ GUEST_FILES) }
     {
         let harts = u64::from(self.harts);
         if addr < MACHINE_FILES {

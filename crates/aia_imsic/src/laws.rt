@@ -2,6 +2,7 @@
 
 ghost use Rattle.std.specs.Prelude.{◌≡◌, ◌≢◌, ℕ, ◌+◌, ◌*◌, ◌<◌, ◌≤◌, ◌↔◌, true, length};
 ghost use Rattle.aia_regs.specs.AddressMap.{machine_page, supervisor_page, guest_page, is_in_page};
+ghost use Rattle.aia_regs.specs.declared.limits.TheConstants.{HARTS, GUEST_FILES};
 ghost use Rattle.aia_file.specs.FileState.{FileState};
 ghost use Rattle.aia_imsic.specs.declared.spot.Spot.{Spot};
 ghost use Rattle.aia_imsic.specs.Map.{spot_at};
@@ -10,8 +11,8 @@ ghost use Rattle.aia_imsic.specs.Files.{Harts, IsThere, place_of, file_at, with_
 /// An address names a file exactly where the file is there and the address lies in its page, so it names at most one.
 pub fn an_address_names_one_file()
     ensures machine { (harts guests addr hart : ℕ) → (spot_at harts guests addr ≡ Spot.MachineFile hart) ↔ ((hart < harts) × (is_in_page (machine_page hart) addr ≡ true)) }
-    ensures host { (harts guests addr hart : ℕ) → harts ≤ 4 → (spot_at harts guests addr ≡ Spot.HostFile hart) ↔ ((hart < harts) × (is_in_page (supervisor_page hart) addr ≡ true)) }
-    ensures guest { (harts guests addr hart file : ℕ) → harts ≤ 4 → guests ≤ 7 → (spot_at harts guests addr ≡ Spot.GuestFile hart file) ↔ ((hart < harts) × (1 ≤ file) × (file ≤ guests) × (is_in_page (guest_page hart file) addr ≡ true)) }
+    ensures host { (harts guests addr hart : ℕ) → harts ≤ HARTS → (spot_at harts guests addr ≡ Spot.HostFile hart) ↔ ((hart < harts) × (is_in_page (supervisor_page hart) addr ≡ true)) }
+    ensures guest { (harts guests addr hart file : ℕ) → harts ≤ HARTS → guests ≤ GUEST_FILES → (spot_at harts guests addr ≡ Spot.GuestFile hart file) ↔ ((hart < harts) × (1 ≤ file) × (file ≤ guests) × (is_in_page (guest_page hart file) addr ≡ true)) }
 {}
 
 /// Two files are kept apart, each where there is room for it.

@@ -9,6 +9,7 @@ ghost use Rattle.aia_regs.specs.Word.{settle};
 ghost use Rattle.aia_file.specs.InterruptFile.{InterruptFile};
 ghost use Rattle.aia_model.specs.FileAfter.{Deed, IsMaking, file_after, pending_said, enabled_said};
 
+use crate::limits::LINE_BYTES;
 use crate::{Line, Parsed};
 
 /// A text spells at most one line.
@@ -58,4 +59,9 @@ pub fn printed_is_short()
 pub fn newest_word_decides()
     ensures pending { (select : ℕ) (deed : Deed) (file : InterruptFile) (i : ℕ) → (¬ IsMaking deed) → (file_after select deed file).pending i ≡ settle (pending_said select file deed i) (file.pending i) }
     ensures enabled { (select : ℕ) (deed : Deed) (file : InterruptFile) (i : ℕ) → (¬ IsMaking deed) → (file_after select deed file).enabled i ≡ settle (enabled_said select file deed i) (file.enabled i) }
+{}
+
+/// A line has at most 128 bytes.
+pub fn limits()
+    ensures line { LINE_BYTES ≡ 128 }
 {}

@@ -10,6 +10,7 @@ ghost use Rattle.aia_regs.specs.AddressMap.{machine_page, supervisor_page, guest
 use crate::address_map::{
     HART_STRIDE, MACHINE_FILES, MEMORY, MEMORY_END, PAGE, REGION, ROOT_DOMAIN, SUPERVISOR_FILES,
 };
+use crate::limits::{GUEST_FILES, HARTS, IDENTITIES, SOURCES};
 use crate::{DomainReg, FileReg};
 
 /// The register map, row by row: which select numbers each register has.
@@ -62,4 +63,12 @@ pub fn address_map()
     ensures child { child_region ≡ ROOT_DOMAIN + REGION }
     ensures region { (base addr : ℕ) → (is_in_region base addr ≡ true) ↔ ((base ≤ addr) × (addr < base + REGION)) }
     ensures memory { (addr : ℕ) → (is_in_memory addr ≡ true) ↔ ((MEMORY ≤ addr) × (addr < MEMORY_END)) }
+{}
+
+/// The limits of a machine are these numbers.
+pub fn limits()
+    ensures harts { HARTS ≡ 4 }
+    ensures guest_files { GUEST_FILES ≡ 7 }
+    ensures identities { IDENTITIES ≡ 2047 }
+    ensures sources { SOURCES ≡ 1023 }
 {}

@@ -1,5 +1,5 @@
 -- What a replayer has read, answered and written.
-use Rattle.std.specs.Prelude.{◌≡◌, ◌≢◌, ℕ, ◌<◌, ◌≤◌, ◌⊎◌, List, [], ◌∷◌, ◌++◌, length, take, Option}
+use Rattle.std.specs.Prelude.{◌≡◌, ◌≢◌, ℕ, ◌+◌, ◌<◌, ◌≤◌, ◌⊎◌, List, [], ◌∷◌, ◌++◌, length, take, Option}
 use Rattle.std.specs.Io.KnownBytes.{Appends, Consumes, IsAtEnd, Keeps}
 use Rattle.aia_io.specs.declared.source.Read.{Read}
 use Rattle.aia_io.specs.declared.source.Read.TheVariants as reads
@@ -7,6 +7,7 @@ use Rattle.aia_model.specs.Event.{History}
 use Rattle.aia_model.specs.Text.{texts_of}
 use Rattle.aia_model.specs.Reading.{reading}
 use Rattle.aia_model.specs.Script.{answers, answers_from, printed, text_answer, after_text}
+use Rattle.aia_model.specs.declared.limits.TheConstants.{LINE_BYTES}
 use Rattle.aia_replay.specs.declared.limits.TheConstants.{SCRIPT_BYTES}
 use Rattle.aia_replay.specs.declared.replayer.Replayer.{Replayer}
 use Rattle.aia_replay.specs.declared.program.Status.{Status}
@@ -34,7 +35,7 @@ pub record Holds (r : Replayer) (before now : Option (List ℕ)) (bytes : List �
   pub tells : (more : List ℕ)
       → after_texts history (texts_of (tail ++ more)) ≡ after_texts [] (texts_of (bytes ++ more))
   pub no_end : NoEnd tail
-  pub line : r.line.items ≡ take 129 tail
+  pub line : r.line.items ≡ take (LINE_BYTES + 1) tail
 
 -- A line of the bytes asks for a machine, for which there is no memory. The answers of the lines
 -- before it are written or wait, and `more` follows it.

@@ -3,6 +3,7 @@
 
 mod buffered;
 mod engine;
+pub mod laws;
 mod limits;
 mod machine;
 mod program;

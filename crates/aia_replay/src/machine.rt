@@ -19,7 +19,7 @@ use aia_aplic::Aplic;
 use aia_hyp::Hyp;
 use aia_model::{Answer, Line, Msi, Refusal};
 use aia_regs::address_map::{REGION, ROOT_DOMAIN};
-use aia_regs::limits::{GUEST_FILES, HARTS, SOURCES};
+use aia_regs::limits::{GUEST_FILES, HARTS, IDENTITIES, SOURCES};
 use aia_regs::{Csr, Level, Op};
 use std::alloc::{AllocError, Global};
 
@@ -189,5 +189,5 @@ fn is_machine_size(harts: u64, guests: u64, n: u64, sources: u64) -> bool
 fn is_width(n: u64) -> bool
     ensures { result ≡ is_width n }
 {
-    matches!(n, 63 | 127 | 255 | 511 | 1023 | 2047)
+    matches!(n, 63 | 127 | 255 | 511 | 1023) || n == u64::from(IDENTITIES)
 }

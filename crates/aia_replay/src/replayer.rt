@@ -9,6 +9,7 @@ use crate::limits::{PIECE_BYTES, SCRIPT_BYTES};
 use crate::program::Status;
 use crate::stop::Stop;
 use aia_io::{Read, Sink, Source};
+use aia_model::limits::LINE_BYTES;
 use arrayvec::ArrayVec;
 use std::alloc::Global;
 
@@ -16,7 +17,7 @@ use std::alloc::Global;
 const LF: u8 = b'\n';
 
 /// One byte more than the longest line has, so that a longer one shows.
-const LINE: usize = 129;
+const LINE: usize = LINE_BYTES + 1;
 
 /// Answers a script that comes in pieces: the engine, the line that is being read, and the answers
 /// that wait.

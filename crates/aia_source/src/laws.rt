@@ -1,6 +1,9 @@
 //! What the definitions of this crate mean, as laws: each function does nothing, and its clauses are what was proved.
 
-ghost use Rattle.std.specs.Prelude.{◌≡◌, ◌≢◌, ℕ, ◌+◌, ◌<◌, ◌≤◌, Bool, false, Option, Some, None};
+ghost use Rattle.std.specs.Prelude.{◌≡◌, ◌≢◌, ℕ, ◌+◌, ◌<◌, ◌≤◌, Bool, false, nat_eq, if◌then◌else◌, Option, Some, None};
+ghost use Rattle.aia_regs.specs.Fields.{field};
+ghost use Rattle.aia_regs.specs.Operations.{is_one};
+ghost use Rattle.aia_source.specs.Registers.{one_at, enables, is_by_msi, domaincfg_kept, domaincfg_read, delegates, root_sourcecfg, child_sourcecfg, legal_mode};
 ghost use Rattle.aia_source.specs.Top.{Pair, NamesItself, IsLeast, least_pair};
 ghost use Rattle.aia_source.specs.Source.{Source, Deed, IsLawful, new_source, done};
 ghost use Rattle.aia_source.specs.Source.Deed.{Moved, Forwarded, Configured, Activated, Switched};
@@ -33,4 +36,19 @@ pub fn an_inactive_source_is_not_pending()
 pub fn the_least_pair_is_the_least()
     ensures found { (candidate : ℕ → Option Pair) (from count : ℕ) (p : Pair) → NamesItself candidate → least_pair candidate from count ≡ Some p → IsLeast candidate from count p }
     ensures none { (candidate : ℕ → Option Pair) (from count : ℕ) → NamesItself candidate → ◌≡◌ {A = Option Pair} (least_pair candidate from count) None → (s : ℕ) → from ≤ s → s < from + count → ◌≡◌ {A = Option Pair} (candidate s) None }
+{}
+
+/// Where the bits of `domaincfg` and `sourcecfg` stand: IE at 8 and DM at 2, and above them 0x80 in bits 31:24; D at
+/// 10, which delegates, to the child 0, by 0x400 alone.
+///
+/// AIA 1.0, Advanced Platform-Level Interrupt Controller (APLIC).
+pub fn bits_of_registers()
+    ensures enables { (cfg : ℕ) → enables cfg ≡ is_one cfg 8 }
+    ensures by_msi { (cfg : ℕ) → is_by_msi cfg ≡ is_one cfg 2 }
+    ensures kept { (v : ℕ) → domaincfg_kept v ≡ one_at (is_one v 8) 8 + one_at (is_one v 2) 2 }
+    ensures read { (ie dm : Bool) → domaincfg_read ie dm ≡ 0x80000000 + (one_at ie 8 + one_at dm 2) }
+    ensures delegates { (cfg : ℕ) → delegates cfg ≡ nat_eq cfg 0x400 }
+    ensures root { (v : ℕ) → root_sourcecfg v
+        ≡ (if is_one v 10 then (if nat_eq (field v 9 0) 0 then 0x400 else 0) else legal_mode (field v 2 0)) }
+    ensures child { (v : ℕ) → child_sourcecfg v ≡ (if is_one v 10 then 0 else legal_mode (field v 2 0)) }
 {}
