@@ -1,4 +1,5 @@
--- What the next MSI is, and what is left of those that wait. Profile: this project's way to speak of it.
+-- What the next MSI is, and what is left of those that wait. Profile: this project's way to speak
+-- of it.
 use Rattle.std.specs.Prelude.{◌≡◌, ℕ, ◌+◌, ◌<◌, ◌≤◌, Bool, true, false, count_by, if◌then◌else◌, List, [], ◌∷◌, Option, Some, None}
 use Rattle.aia_domain.specs.Held.{waits}
 use Rattle.aia_domain.specs.Domain.{DomainState, is_ready}
@@ -20,8 +21,10 @@ IsLeastOf test (Some s) = (test s ≡ true) × ((t : ℕ) → t < s → test t �
 -- the same number the root domain's; or none is.
 abbrev pub IsFirstSource : (ℕ → Bool) → (ℕ → Bool) → Option Sender → Type 0
 IsFirstSource p q None = ((s : ℕ) → p s ≡ false) × ((s : ℕ) → q s ≡ false)
-IsFirstSource p q (Some (BySource Root s)) = (p s ≡ true) × ((t : ℕ) → t < s → p t ≡ false) × ((t : ℕ) → t < s → q t ≡ false)
-IsFirstSource p q (Some (BySource Child s)) = (q s ≡ true) × ((t : ℕ) → t ≤ s → p t ≡ false) × ((t : ℕ) → t < s → q t ≡ false)
+IsFirstSource p q (Some (BySource Root s)) =
+    (p s ≡ true) × ((t : ℕ) → t < s → p t ≡ false) × ((t : ℕ) → t < s → q t ≡ false)
+IsFirstSource p q (Some (BySource Child s)) =
+    (q s ≡ true) × ((t : ℕ) → t ≤ s → p t ≡ false) × ((t : ℕ) → t < s → q t ≡ false)
 IsFirstSource p q (Some (ByGenMsi d)) = ⊥
 
 -- It is the first of all that waits, or nothing waits.
@@ -37,14 +40,16 @@ waits_in d (BySource e s) = is_ready d s
 abbrev pub does_wait : AplicState → Sender → Bool
 does_wait a sender = waits_in (side a (domain_of_sender sender)).domain sender
 
--- How many MSIs a domain may have to send: what was asked for by genmsi, and one for each source that is pending and enabled.
+-- How many MSIs a domain may have to send: what was asked for by genmsi, and one for each source
+-- that is pending and enabled.
 abbrev pub waiting_in : SideState → ℕ
 waiting_in a = (if a.domain.genmsi_waits then 1 else 0) + count_by waits a.domain.sources
 
 abbrev pub waiting : AplicState → ℕ
 waiting a = waiting_in a.root + waiting_in a.child
 
--- An MSI is that of the first sender, which has sent it now; or nothing waits, and nothing is changed.
+-- An MSI is that of the first sender, which has sent it now; or nothing waits, and nothing is
+-- changed.
 pub record IsSent (new : AplicState) (given : Msi) (past : Past) : Type 0 where
   pub sender : Sender
   pub later : List Sender

@@ -78,15 +78,18 @@ impl Aplic {
     /// AIA 1.0, Advanced Platform-Level Interrupt Controller (APLIC), "Memory-mapped control region for an interrupt domain".
     pub fn load(&mut self, domain: u32, offset: u32) -> u32
         requires { domain ≤ 1 }
-        ensures reads { (past : Past) → AplicStands self.old past → result ≡ register_read past (domain_name domain) (domain_register_of offset) }
+        ensures reads { (past : Past) → AplicStands self.old past →
+            result ≡ register_read past (domain_name domain) (domain_register_of offset) }
         ensures stands { (past : Past) → AplicStands self.old past → AplicStands self.new (Loaded (domain_name domain) (domain_register_of offset) ∷ past) }
     {
         self.load_register(domain_name(domain), domain_reg(offset))
     }
 
     fn load_register(&mut self, name: DomainName, reg: DomainReg) -> u32
-        ensures reads { (past : Past) → AplicStands self.old past → result ≡ register_read past name reg }
-        ensures stands { (past : Past) → AplicStands self.old past → AplicStands self.new (Loaded name reg ∷ past) }
+        ensures reads { (past : Past) → AplicStands self.old past →
+            result ≡ register_read past name reg }
+        ensures stands { (past : Past) → AplicStands self.old past →
+            AplicStands self.new (Loaded name reg ∷ past) }
     {
         match name {
             DomainName::Root => {
@@ -108,7 +111,8 @@ impl Aplic {
     }
 
     fn store_register(&mut self, name: DomainName, reg: DomainReg, value: u32)
-        ensures { (past : Past) → AplicStands self.old past → AplicStands self.new (Written name reg value ∷ past) }
+        ensures { (past : Past) → AplicStands self.old past →
+            AplicStands self.new (Written name reg value ∷ past) }
     {
         match name {
             DomainName::Root => self.store_root(reg, value),
@@ -199,7 +203,8 @@ impl Aplic {
     fn send(&mut self, sender: Sender) -> Msi
         requires { does_wait self.old sender ≡ true }
         ensures msi { (past : Past) → AplicStands self.old past → result ≡ msi_of past sender }
-        ensures stands { (past : Past) → AplicStands self.old past → AplicStands self.new (Sent sender ∷ past) }
+        ensures stands { (past : Past) → AplicStands self.old past →
+            AplicStands self.new (Sent sender ∷ past) }
         ensures fewer { waiting self.new < waiting self.old }
     {
         match domain_of(sender) {

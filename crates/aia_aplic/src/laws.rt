@@ -60,7 +60,9 @@ pub fn what_is_not_delegated_is_zero_in_the_child()
 pub fn only_a_wire_makes_a_rise()
     ensures stays { (past : Past) (d : DomainName) (i v s : ℕ) → owns past d s ≡ true → owns (Written d (SourceCfg i) v ∷ past) d s ≡ true → is_level (mode (Written d (SourceCfg i) v ∷ past) d s) ≡ false → pending (Written d (SourceCfg i) v ∷ past) d s ≡ pending past d s }
     ensures begins { (past : Past) (d : DomainName) (i v s : ℕ) → owns past d s ≡ false → is_level (mode (Written d (SourceCfg i) v ∷ past) d s) ≡ false → pending (Written d (SourceCfg i) v ∷ past) d s ≡ false }
-    ensures unasked { (past : Past) (e d : DomainName) (reg : DomainReg) (v s : ℕ) → touch reg v s ≢ Some SetPending → is_level (mode (Written e reg v ∷ past) d s) ≡ false → pending past d s ≡ false → pending (Written e reg v ∷ past) d s ≡ false }
+    ensures unasked { (past : Past) (e d : DomainName) (reg : DomainReg) (v s : ℕ) →
+        touch reg v s ≢ Some SetPending → is_level (mode (Written e reg v ∷ past) d s) ≡ false →
+        pending past d s ≡ false → pending (Written e reg v ∷ past) d s ≡ false }
 {}
 
 /// Whatever has happened, what `topi` of a hart shows is the least pair of priority and number of the pending sources that are the hart's, and nothing
@@ -77,8 +79,11 @@ pub fn the_source_on_top_is_the_least_of_the_harts()
 ///
 /// AIA 1.0, Advanced Platform-Level Interrupt Controller (APLIC), "Interrupt forwarding by MSIs".
 pub fn what_waits_is_genmsi_and_the_sources_that_are_ready()
-    ensures genmsi { (past : Past) (d : DomainName) → Contains (senders past) (ByGenMsi d) ↔ (genmsi_waits past d ≡ true) }
-    ensures sources { (past : Past) (d : DomainName) (s : ℕ) → Contains (senders past) (BySource d s) ↔ ((1 ≤ s) × (s ≤ sources_in past) × (is_ready past d s ≡ true)) }
+    ensures genmsi { (past : Past) (d : DomainName) → Contains (senders past) (ByGenMsi d) ↔
+        (genmsi_waits past d ≡ true) }
+    ensures sources { (past : Past) (d : DomainName) (s : ℕ) →
+        Contains (senders past) (BySource d s) ↔ ((1 ≤ s) × (s ≤ sources_in past) ×
+        (is_ready past d s ≡ true)) }
     ensures order { (past : Past) → AllPairs SendsBefore (senders past) }
 {}
 

@@ -174,8 +174,10 @@ impl Side {
     /// A sender of this domain sends its MSI: what that is made of.
     pub(crate) fn send(&mut self, sender: Sender) -> u32
         requires { waits_in self.old.domain sender ≡ true }
-        ensures value { (past : Past) → SideStands self.old past (domain_of_sender sender) → result ≡ register_of_sender past sender }
-        ensures stands { (past : Past) → SideStands self.old past (domain_of_sender sender) → SideStands self.new (Sent sender ∷ past) (domain_of_sender sender) }
+        ensures value { (past : Past) → SideStands self.old past (domain_of_sender sender) →
+            result ≡ register_of_sender past sender }
+        ensures stands { (past : Past) → SideStands self.old past (domain_of_sender sender) →
+            SideStands self.new (Sent sender ∷ past) (domain_of_sender sender) }
         ensures fewer { waiting_in self.new < waiting_in self.old }
     {
         match sender {

@@ -1,5 +1,5 @@
 -- A domain as it is kept: what a store makes of it, and what a load reads.
-use Rattle.std.specs.Prelude.{◌≡◌, ℕ, zero, suc, ◌-◌, ◌*◌, Bool, true, false, ◌&&◌, if◌then◌else◌, List, [], ◌∷◌, length, All, slice_get, filter}
+use Rattle.std.specs.Prelude.{◌≡◌, ℕ, suc, ◌-◌, ◌*◌, Bool, true, false, ◌&&◌, if◌then◌else◌, List, length, All, slice_get, filter}
 use Rattle.std.specs.List.{range_with_len}
 use Rattle.aia_word.specs.Sets.{word_of}
 use Rattle.aia_regs.specs.declared.domain_registers.DomainReg.{DomainReg}

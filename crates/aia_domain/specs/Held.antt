@@ -5,7 +5,7 @@ use Rattle.aia_source.specs.declared.mode.Mode.TheVariants.{Inactive}
 use Rattle.aia_source.specs.Source.{Source, Deed, new_source, done, is_active, rectified}
 use Rattle.aia_source.specs.Source.Deed.{Moved, Set, Cleared, Configured, Activated, Switched}
 use Rattle.aia_source.specs.declared.kept.TheConstants.{DELEGATED}
-use Rattle.aia_source.specs.Registers.{root_sourcecfg, child_sourcecfg, delegates, mode_of, mode_number, first_target, target_kept, same_bool, is_named, touch_where}
+use Rattle.aia_source.specs.Registers.{root_sourcecfg, child_sourcecfg, delegates, mode_of, mode_number, first_target, target_kept, same_bool, is_named}
 use Rattle.aia_source.specs.declared.touch.Touch.{Touch}
 use Rattle.aia_source.specs.declared.touch.Touch.TheVariants.{SetPending, ClearPending, SetEnable, ClearEnable}
 use Rattle.aia_domain.specs.declared.entry.Look.{Look}
@@ -109,10 +109,6 @@ EachSource old new change = EachAt old new change
 -- One source is changed.
 abbrev pub changed_at : ℕ → (Held → Held) → ℕ → Held → Held
 changed_at at change s x = if nat_eq at s then change x else x
-
--- Those that are named are touched.
-abbrev pub touched_where : (ℕ → Bool) → Bool → Touch → ℕ → Held → Held
-touched_where named msi touch s x = touched msi (touch_where named touch s) x
 
 -- The sourcecfg of a source is written; number 0 names no source.
 abbrev pub written_at : ℕ → Bool → Bool → ℕ → ℕ → Held → Held

@@ -3,8 +3,8 @@
 ghost use Rattle.std.specs.Prelude.{◌≡◌, ◌*◌, ◌≤◌, Bool, nat_eq, slice_get, length, All, IfOk, if◌then◌else◌};
 ghost use Rattle.aia_word.specs.Sets.{word_of};
 ghost use Rattle.aia_source.specs.Source.Deed.{Claimed, Forwarded};
-ghost use Rattle.aia_source.specs.Registers.{in_word};
-ghost use Rattle.aia_domain.specs.Held.{EachSource, new_held, changed_at, touched, touched_where, written_at, all_switched, switched, aimed, sourcecfg_written, granted_at, wired, with_deed, sourcecfg_of, target_of, bit_at_source, waits_of};
+ghost use Rattle.aia_source.specs.Registers.{in_word, touch_where};
+ghost use Rattle.aia_domain.specs.Held.{EachSource, new_held, changed_at, touched, written_at, all_switched, switched, aimed, sourcecfg_written, granted_at, wired, with_deed, sourcecfg_of, target_of, bit_at_source, waits_of};
 
 use crate::entry::{Entry, Look};
 use aia_regs::bit;
@@ -28,7 +28,7 @@ pub(crate) fn new_entries(alloc: Global, count: u32) -> Result<Vec<Entry>, Alloc
 
 /// One source is touched, where it is there.
 pub(crate) fn touch_one(entries: &mut [Entry], s: u64, touch: Touch, msi: bool)
-    ensures { EachSource entries.old entries.new (touched_where (nat_eq s) msi touch) }
+    ensures { EachSource entries.old entries.new (λ i. touched msi (touch_where (nat_eq s) touch i)) }
 {
     if s < entries.len() as u64 {
         entries[s as usize].touch(touch, msi);
@@ -37,7 +37,7 @@ pub(crate) fn touch_one(entries: &mut [Entry], s: u64, touch: Touch, msi: bool)
 
 /// The sources of word `k` whose bits are ones in `value` are touched.
 pub(crate) fn touch_word(entries: &mut [Entry], k: u32, value: u32, touch: Touch, msi: bool)
-    ensures { EachSource entries.old entries.new (touched_where (in_word k value) msi touch) }
+    ensures { EachSource entries.old entries.new (λ s. touched msi (touch_where (in_word k value) touch s)) }
 {
     for place in 0..WORD {
         if bit(u64::from(value), place) {

@@ -7,6 +7,7 @@ ghost use Rattle.aia_domain.specs.Domain.{DomainState, is_ready, ready_from};
 ///
 /// AIA 1.0, Advanced Platform-Level Interrupt Controller (APLIC), "Interrupt forwarding by MSIs".
 pub fn ready_sources_are_those_to_be_forwarded()
-    ensures members { (d : DomainState) (from s : ℕ) → Contains (ready_from d from) s ↔ ((from ≤ s) × (s < length d.sources) × (is_ready d s ≡ true)) }
+    ensures members { (d : DomainState) (from s : ℕ) → Contains (ready_from d from) s ↔
+        ((from ≤ s) × (s < length d.sources) × (is_ready d s ≡ true)) }
     ensures rising { (d : DomainState) (from : ℕ) → AllPairs (λ x y. x < y) (ready_from d from) }
 {}

@@ -1,5 +1,5 @@
--- The MSIs that an APLIC sends: what waits to be sent, in which order, where to and with which value. Profile, where no chapter is named: this project's
--- way to speak of time.
+-- The MSIs that an APLIC sends: what waits to be sent, in which order, where to and with which
+-- value. Profile, where no chapter is named: this project's way to speak of time.
 use Rattle.std.specs.Prelude.{ℕ, ◌&&◌, Bool, List, [], ◌∷◌, map, filter, flat_map, Option, Some, None}
 use Rattle.std.specs.List.{range_with_len}
 use Rattle.aia_source.specs.Top.{hart_of, identity_of}
@@ -19,16 +19,18 @@ use Rattle.aia_model.specs.Event.Event.{Accepted}
 
 -- ---- what waits
 
--- Whether a source is to be forwarded by a domain: the domain delivers by MSIs and is enabled, and the source is pending and enabled in it.
+-- Whether a source is to be forwarded by a domain: the domain delivers by MSIs and is enabled, and
+-- the source is pending and enabled in it.
 -- AIA 1.0, Advanced Platform-Level Interrupt Controller (APLIC), "Interrupt forwarding by MSIs".
 abbrev pub is_ready : Past → DomainName → ℕ → Bool
 is_ready past d s = is_msi past d && is_on past d && pending past d s && enabled past d s
 
--- All senders that there may be, with so many wired sources, in the order in which they send: genmsi of
--- both domains, then the sources by rising number. Profile: the order.
+-- All senders that there may be, with so many wired sources, in the order in which they send:
+-- genmsi of both domains, then the sources by rising number. Profile: the order.
 unfoldable pub all_senders : ℕ → List Sender
 all_senders count =
-    ByGenMsi Root ∷ ByGenMsi Child ∷ flat_map (λ s. BySource Root s ∷ BySource Child s ∷ []) (range_with_len 1 count)
+    ByGenMsi Root ∷ ByGenMsi Child
+    ∷ flat_map (λ s. BySource Root s ∷ BySource Child s ∷ []) (range_with_len 1 count)
 
 -- Whether one has an MSI to send: genmsi asked for one, or the source is to be forwarded.
 abbrev pub does_send : Past → Sender → Bool
@@ -54,7 +56,10 @@ domain_of_sender (BySource d s) = d
 -- An MSI by such a register: it goes to the hart of bits 31:18, with the identity of bits 10:0.
 -- AIA 1.0, Advanced Platform-Level Interrupt Controller (APLIC), "Interrupt forwarding by MSIs".
 abbrev pub msi_by : AddressRegisters → DomainName → ℕ → Msi
-msi_by a d register = record { address = address_by a d (hart_of register); value = identity_of register }
+msi_by a d register = record {
+  address = address_by a d (hart_of register);
+  value = identity_of register;
+}
 
 abbrev pub msi_of : Past → Sender → Msi
 msi_of past sender = msi_by (addresses_of past) (domain_of_sender sender) (register_of_sender past sender)
@@ -80,7 +85,8 @@ with_act None past = past
 with_act (Some a) past = a ∷ past
 
 -- What happened to the APLIC in a history: after each line all that then waits is sent.
--- AIA 1.0, Advanced Platform-Level Interrupt Controller (APLIC), "Interrupt forwarding by MSIs". Profile: within the line.
+-- AIA 1.0, Advanced Platform-Level Interrupt Controller (APLIC), "Interrupt forwarding by MSIs".
+-- Profile: within the line.
 abbrev pub acts_of : History → Past
 acts_of [] = []
 acts_of (Accepted line ∷ h) = settled (with_act (act_of line) (acts_of h))

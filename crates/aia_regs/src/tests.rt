@@ -1,4 +1,4 @@
-use crate::{DomainReg, FileReg, Op, bits, domain_reg, file_reg, put_bits, requested, swap32};
+use crate::{DomainReg, FileReg, Op, bit, bits, domain_reg, file_reg, put_bits, requested, swap32};
 
 #[test]
 fn names_each_kind_of_register(rt: HostRuntime) {
@@ -131,6 +131,7 @@ fn names_the_registers_of_a_domain(rt: HostRuntime) {
 
 #[test]
 fn reads_fields(rt: HostRuntime) {
+    assert!(rt; bit(0x100, 8) && !bit(0x100, 7) && bit(0x8000_0000_0000_0000, 63));
     assert_eq!(rt; bits(0xffff_0a5f, 15, 8), 0x0a);
     assert_eq!(rt; bits(0x8000_0000_0000_0001, 63, 0), 0x8000_0000_0000_0001);
     assert_eq!(rt; bits(0x8000_0000_0000_0001, 63, 63), 1);

@@ -1,4 +1,5 @@
--- The registers of a domain that concern its wired sources: what a write of each keeps, and which sources it names.
+-- The registers of a domain that concern its wired sources: what a write of each keeps, and which
+-- sources it names.
 use Rattle.std.specs.Prelude.{ℕ, ◌+◌, ◌/◌, ◌%◌, ◌^◌, Bool, true, false, not, ◌&&◌, ◌||◌, nat_eq, nat_lt, if◌then◌else◌, Option, Some, None}
 use Rattle.std.specs.Int.{swap_bytes, w32}
 use Rattle.aia_regs.specs.declared.domain_registers.DomainReg.{DomainReg}
@@ -27,7 +28,8 @@ same_bool false b = not b
 abbrev pub one_at : Bool → ℕ → ℕ
 one_at is b = if is then 2 ^ b else 0
 
--- Whether a register's index is a source's number; 0 is none's. Profile: sources are numbered from 1.
+-- Whether a register's index is a source's number; 0 is none's. Profile: sources are numbered from
+-- 1.
 abbrev pub is_named : ℕ → ℕ → Bool
 is_named i s = nat_eq i s && nat_lt 0 s
 
@@ -57,15 +59,18 @@ is_by_msi cfg = is_one cfg DM
 -- ---- sourcecfg
 
 -- The source mode that a write of this SM keeps.
--- AIA 1.0, Advanced Platform-Level Interrupt Controller (APLIC). Profile: a reserved one, 2 or 3, becomes 0, inactive.
+-- AIA 1.0, Advanced Platform-Level Interrupt Controller (APLIC). Profile: a reserved one, 2 or 3,
+-- becomes 0, inactive.
 abbrev pub legal_mode : ℕ → ℕ
 legal_mode sm = if nat_eq sm 2 || nat_eq sm 3 then 0 else sm
 
 -- What a write keeps in the root domain: with D, the source is delegated to the child domain that
 -- bits 9:0 name; without, SM, bits 2:0, is its mode.
--- AIA 1.0, Advanced Platform-Level Interrupt Controller (APLIC). Profile: there is one child, with the index 0; another index makes the register 0.
+-- AIA 1.0, Advanced Platform-Level Interrupt Controller (APLIC). Profile: there is one child, with
+-- the index 0; another index makes the register 0.
 abbrev pub root_sourcecfg : ℕ → ℕ
-root_sourcecfg v = if is_one v D then (if nat_eq (field v 9 0) 0 then DELEGATED else 0) else legal_mode (field v 2 0)
+root_sourcecfg v =
+    if is_one v D then (if nat_eq (field v 9 0) 0 then DELEGATED else 0) else legal_mode (field v 2 0)
 
 -- What it keeps in the child domain, which has no child: D makes the register 0.
 -- AIA 1.0, Advanced Platform-Level Interrupt Controller (APLIC).
@@ -98,7 +103,8 @@ mode_number LevelHigh = 6
 mode_number LevelLow = 7
 
 -- ---- which sources a store names: by the ones of a word of 32, or by number
--- AIA 1.0, Advanced Platform-Level Interrupt Controller (APLIC), "Memory-mapped control region for an interrupt domain".
+-- AIA 1.0, Advanced Platform-Level Interrupt Controller (APLIC), "Memory-mapped control region for
+-- an interrupt domain".
 
 -- Word k has the sources 32k to 32k + 31.
 abbrev pub in_word : ℕ → ℕ → ℕ → Bool
@@ -135,8 +141,8 @@ enable_of_touch touch = Nothing
 
 -- ---- target and genmsi
 
--- The target of a source that becomes active, and of each active source when the delivery mode changes: hart 0, and where the domain
--- delivers directly priority 1. Profile.
+-- The target of a source that becomes active, and of each active source when the delivery mode
+-- changes: hart 0, and where the domain delivers directly priority 1. Profile.
 abbrev pub first_target : Bool → ℕ
 first_target msi = if msi then 0 else 1
 
@@ -165,4 +171,5 @@ genmsi_kept harts v = with_field (hart_kept harts v) 10 0 (identity_of v)
 -- bits 17:12, is read-only zero.
 abbrev pub target_kept : ℕ → Bool → ℕ → ℕ
 target_kept harts msi v =
-    if msi then genmsi_kept harts v else with_field (hart_kept harts v) 7 0 (legal_priority (priority_of v))
+    if msi then genmsi_kept harts v
+    else with_field (hart_kept harts v) 7 0 (legal_priority (priority_of v))

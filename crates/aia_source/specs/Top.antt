@@ -3,19 +3,22 @@ use Rattle.std.specs.Prelude.{◌≡◌, ℕ, zero, suc, ◌+◌, ◌<◌, ◌�
 use Rattle.aia_regs.specs.Fields.{field, with_field}
 
 -- A source's priority and its number.
--- AIA 1.0, Advanced Platform-Level Interrupt Controller (APLIC), "Interrupt delivery directly by the APLIC".
+-- AIA 1.0, Advanced Platform-Level Interrupt Controller (APLIC), "Interrupt delivery directly by
+-- the APLIC".
 abbrev pub Pair : Type 0
 Pair = ℕ × ℕ
 
 -- The lesser of two, by priority; of two with the same one the first.
--- AIA 1.0, Advanced Platform-Level Interrupt Controller (APLIC), "Interrupt delivery directly by the APLIC": the lower a priority number, the
--- higher the priority; of two with the same one the source with the lower number comes first.
+-- AIA 1.0, Advanced Platform-Level Interrupt Controller (APLIC), "Interrupt delivery directly by
+-- the APLIC": the lower a priority number, the higher the priority; of two with the same one the
+-- source with the lower number comes first.
 abbrev pub lesser : Option Pair → Option Pair → Option Pair
 lesser None q = q
 lesser (Some p) None = Some p
 lesser (Some p) (Some q) = if nat_lt q.0 p.0 then Some q else Some p
 
--- The least pair of the `count` numbers from `from` on that have one, None where none has; that it is the least is a law.
+-- The least pair of the `count` numbers from `from` on that have one, None where none has; that it
+-- is the least is a law.
 unfoldable pub least_pair : (ℕ → Option Pair) → ℕ → ℕ → Option Pair
 least_pair candidate from zero = None
 least_pair candidate from (suc count) = lesser (candidate from) (least_pair candidate (suc from) count)
@@ -51,8 +54,8 @@ abbrev pub pair_if : Bool → ℕ → ℕ → Option Pair
 pair_if is target s = if is then Some (priority_of target, s) else None
 
 -- What topi reads: the number in bits 25:16, the priority in bits 7:0; 0 where no source is on top.
--- AIA 1.0, Advanced Platform-Level Interrupt Controller (APLIC), "Interrupt delivery directly by the
--- APLIC".
+-- AIA 1.0, Advanced Platform-Level Interrupt Controller (APLIC), "Interrupt delivery directly by
+-- the APLIC".
 abbrev pub topi_value : Option Pair → ℕ
 topi_value None = 0
 topi_value (Some p) = with_field (with_field 0 25 16 p.1) 7 0 p.0
