@@ -4,3 +4,4 @@
 mod access;
 
 pub use access::{Access, decide};
+pub use aia_regs::Level;

@@ -27,7 +27,7 @@ use Rattle.aia_model.specs.Answer.{accepted_answer, csr_shown, csr_value}
 use Rattle.aia_model.proofs.AnswerLemmas.{access_refusal, machine_csr_refusal, host_csr_refusal}
 use Rattle.aia_model.proofs.FileLemmas.{is_file-itself, is_file-other}
 use Rattle.aia_hyp.specs.Core.{CoreState}
-use Rattle.aia_hyp.specs.HostFiles.{IsHost, HasDone, name_of, csr_line, host_spot, select_in}
+use Rattle.aia_hyp.specs.HostFiles.{IsHost, HasDone, name_of, csr_line, spot_of, select_in}
 use Rattle.aia_hyp.specs.Stands.{CoreStands, CoreTakes}
 use Rattle.aia_hyp.proofs.NameLemmas.{named_there}
 use Rattle.aia_hyp.proofs.EventLemmas.{Changes, one_done, accepted, refused}
@@ -48,7 +48,8 @@ register_kind level Odd = tt
 register_kind level Outside = tt
 register_kind level r = refl
 
--- the register of the file is reached by the reg CSR alone, and is the one that the select number names
+-- the register of the file is reached by the reg CSR alone, and is the one that the select number
+-- names
 pub file_reached : (level : Level) (csr : Csr) (op : Op) (select : ℕ) (reg : FileReg) → IsHost level → IsInTable level csr → reaches.File reg ≡ access_of level csr op select false → (csr ≡ csrs.Reg) × (register_of select ≡ reg)
 file_reached levels.Guest csr op select reg host listed e = absurd host
 file_reached level csrs.Select op select reg host listed e = absurd (cc)
@@ -123,7 +124,7 @@ illegal x level host hart csr op inside table = refused x (csr_line level hart c
 
 -- an access that was done, and answered by what its CSR, of this kind, read
 pub accessed : (x y : CoreState) (level : Level) → IsHost level → (hart : ℕ) (csr kind : Csr) (op : Op) (access : Access) (value : ℕ) → hart < x.imsic.harts → access ≡ access_of level csr op (select_in x (name_of level hart)) false → raises_illegal access ≡ false
-    → csr ≡ kind → value ≡ csr_shown (select_in x (name_of level hart)) (shown (file_at x.imsic (host_spot (name_of level hart)))) kind → HasDone x y (name_of level hart) (Accesses kind op) → CoreTakes x y (csr_line level hart csr op) (Wide value)
+    → csr ≡ kind → value ≡ csr_shown (select_in x (name_of level hart)) (shown (file_at x.imsic (spot_of (name_of level hart)))) kind → HasDone x y (name_of level hart) (Accesses kind op) → CoreTakes x y (csr_line level hart csr op) (Wide value)
 accessed x y level host hart csr kind op access value inside table legal named read done =
     let f = name_of level hart in
     let there = named_there level host x.imsic hart inside in
@@ -131,7 +132,7 @@ accessed x y level host hart csr kind op access value inside table legal named r
     let deed : deed_at f (Accepted line) ≡ Accesses kind op = own_access level host hart csr op ∙ ap (λ (k : Csr). Accesses k op) named in
     accepted x y line (Wide value) (λ h stands. let file = stands.host f there in (
       refusal_there x level host hart csr op access h inside table stands ∙ cond-false _ _ _ legal,
-      ap Wide (read ∙ ap (λ (k : Csr). csr_shown (select_in x f) (shown (file_at x.imsic (host_spot f))) k) (sym named)
-          ∙ ap (λ s. csr_shown s (shown (file_at x.imsic (host_spot f))) csr) file.select ∙ ap (λ (i : InterruptFile). csr_shown (select_of h f) i csr) file.file) ∙ sym (csr_accepted level host h hart csr op),
+      ap Wide (read ∙ ap (λ (k : Csr). csr_shown (select_in x f) (shown (file_at x.imsic (spot_of f))) k) (sym named)
+          ∙ ap (λ s. csr_shown s (shown (file_at x.imsic (spot_of f))) csr) file.select ∙ ap (λ (i : InterruptFile). csr_shown (select_of h f) i csr) file.file) ∙ sym (csr_accepted level host h hart csr op),
       one_done x y h (Accepted line) f (subst (HasDone x y f) (sym deed) done) (machine_stays level host h hart csr op) (λ g inside ne. other_access level host hart g csr op ne),
     ))

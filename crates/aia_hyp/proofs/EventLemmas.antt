@@ -1,4 +1,5 @@
--- What one event more makes of a core that stands for a history, and what a line answers by its refusal.
+-- What one event more makes of a core that stands for a history, and what a line answers by its
+-- refusal.
 use Rattle.std.proofs.Common.{◌≡◌, ◌≢◌, ℕ, zero, suc, ◌<◌, Bool, get_or, length, replicate, is_some, [], ◌∷◌, Option, Some, None, unwrap_or, inl, inr, refl, sym, ap, subst, ◌∙◌, arith}
 use Rattle.std.specs.Prelude.{Result, Ok, Err}
 use Rattle.std.specs.Option.{option_map_or}
@@ -25,24 +26,24 @@ use Rattle.aia_model.specs.Answer.{accepted_answer}
 use Rattle.aia_model.proofs.AnswerLemmas.{answered}
 use Rattle.aia_model.proofs.FileLemmas.{file_step, select_step, same_or_other}
 use Rattle.aia_hyp.specs.Core.{CoreState}
-use Rattle.aia_hyp.specs.HostFiles.{FileDone, HasDone, host_spot, select_place, select_in}
+use Rattle.aia_hyp.specs.HostFiles.{FileDone, HasDone, spot_of, select_place, select_in}
 use Rattle.aia_hyp.specs.Stands.{HostStands, CoreStands, CoreTakes, line_taken, signals_of}
 use Rattle.aia_hyp.proofs.NameLemmas.{no_guest, is_hosts, other_spot, there_too}
 
 -- ---- one event more
 
--- What an event changes: it leaves the machine's numbers and the guest files, and is to each file of the host
--- that is there the deed that was done at it.
+-- What an event changes: it leaves the machine's numbers and the guest files, and is to each file
+-- of the host that is there the deed that was done at it.
 pub record Changes (old new : CoreState) (h : History) (event : Event) : Type 0 where
   pub machine : machine_of (event ∷ h) ≡ machine_of h
   pub harts : new.imsic.harts ≡ old.imsic.harts
   pub guests : new.imsic.guests ≡ old.imsic.guests
-  pub host : (f : FileName) → IsThere old.imsic (host_spot f) → FileDone old new f (deed_at f event)
+  pub host : (f : FileName) → IsThere old.imsic (spot_of f) → FileDone old new f (deed_at f event)
   pub guest_files : (hart file : ℕ) → IsThere old.imsic (spots.GuestFile hart file) → file_at new.imsic (spots.GuestFile hart file) ≡ file_at old.imsic (spots.GuestFile hart file)
 
 host_more : (x y : CoreState) (h : History) (event : Event) (f : FileName) → FileDone x y f (deed_at f event) → HostStands x h f → HostStands y (event ∷ h) f
 host_more x y h event f done stands = record {
-  file = same_file _ _ done.file ∙ ap (λ s. file_after s (deed_at f event) (shown (file_at x.imsic (host_spot f)))) stands.select
+  file = same_file _ _ done.file ∙ ap (λ s. file_after s (deed_at f event) (shown (file_at x.imsic (spot_of f)))) stands.select
       ∙ ap (file_after (select_of h f) (deed_at f event)) stands.file ∙ sym (file_step event h f);
   select = done.select ∙ ap (select_told (deed_at f event)) stands.select ∙ sym (select_step event h f);
 }
@@ -66,18 +67,18 @@ pub as_it_was : (file : InterruptFile) → SameFile file file
 as_it_was file = record { n = refl; pending = λ i. refl; enabled = λ i. refl; threshold = refl; delivery = refl }
 
 -- an event that is nothing to any file that is there
-pub nothing_done : (x : CoreState) (h : History) (event : Event) → machine_of (event ∷ h) ≡ machine_of h → ((f : FileName) → IsThere x.imsic (host_spot f) → deed_at f event ≡ Rests) → Changes x x h event
+pub nothing_done : (x : CoreState) (h : History) (event : Event) → machine_of (event ∷ h) ≡ machine_of h → ((f : FileName) → IsThere x.imsic (spot_of f) → deed_at f event ≡ Rests) → Changes x x h event
 nothing_done x h event machine rests = record {
   machine = machine;
   harts = refl;
   guests = refl;
-  host = λ f inside. subst (FileDone x x f) (sym (rests f inside)) (record { file = as_it_was (shown (file_at x.imsic (host_spot f))); select = refl });
+  host = λ f inside. subst (FileDone x x f) (sym (rests f inside)) (record { file = as_it_was (shown (file_at x.imsic (spot_of f))); select = refl });
   guest_files = λ hart file inside. refl;
 }
 
 -- an event that is a deed at one file, where it was done, and nothing to the others
 pub one_done : (x y : CoreState) (h : History) (event : Event) (f : FileName) → HasDone x y f (deed_at f event) → machine_of (event ∷ h) ≡ machine_of h
-    → ((g : FileName) → IsThere x.imsic (host_spot g) → g ≢ f → deed_at g event ≡ Rests) → Changes x y h event
+    → ((g : FileName) → IsThere x.imsic (spot_of g) → g ≢ f → deed_at g event ≡ Rests) → Changes x y h event
 one_done x y h event f done machine rests = record {
   machine = machine;
   harts = done.harts;
@@ -86,17 +87,17 @@ one_done x y h event f done machine rests = record {
     | inl e ↦ subst (λ (n : FileName). FileDone x y n (deed_at n event)) (sym e) done.done
     | inr ne ↦ subst (FileDone x y g) (sym (rests g inside ne)) (other g inside ne)
   ];
-  guest_files = λ hart file inside. done.files (spots.GuestFile hart file) inside (no_guest (host_spot f) (is_hosts f) hart file);
+  guest_files = λ hart file inside. done.files (spots.GuestFile hart file) inside (no_guest (spot_of f) (is_hosts f) hart file);
 }
   where
-    other : (g : FileName) → IsThere x.imsic (host_spot g) → g ≢ f → FileDone x y g Rests
+    other : (g : FileName) → IsThere x.imsic (spot_of g) → g ≢ f → FileDone x y g Rests
     other g inside ne = record {
-      file = subst (λ (file : FileState). SameFile (shown file) (shown (file_at x.imsic (host_spot g)))) (sym (done.files (host_spot g) inside (other_spot f g ne))) (as_it_was (shown (file_at x.imsic (host_spot g))));
+      file = subst (λ (file : FileState). SameFile (shown file) (shown (file_at x.imsic (spot_of g)))) (sym (done.files (spot_of g) inside (other_spot f g ne))) (as_it_was (shown (file_at x.imsic (spot_of g))));
       select = done.selects g ne;
     }
 
 -- a deed was done at one file, which stands now in the place of the old one
-pub file_done : (x y : CoreState) (f : FileName) (deed : Deed) (spot : Spot) → spot ≡ host_spot f → IsThere x.imsic spot → y.imsic ≡ with_file x.imsic spot (file_at y.imsic spot) → y.selects ≡ x.selects
+pub file_done : (x y : CoreState) (f : FileName) (deed : Deed) (spot : Spot) → spot ≡ spot_of f → IsThere x.imsic spot → y.imsic ≡ with_file x.imsic spot (file_at y.imsic spot) → y.selects ≡ x.selects
     → SameFile (shown (file_at y.imsic spot)) (file_after (select_in x f) deed (shown (file_at x.imsic spot))) → select_told deed (select_in x f) ≡ select_in x f → HasDone x y f deed
 file_done x y f deed spot named there imsic selects done select = record {
   harts = ap (λ (i : Harts). i.harts) imsic;
@@ -110,7 +111,7 @@ file_done x y f deed spot named there imsic selects done select = record {
 }
 
 -- the same of a file that was lent
-pub lent_done : (x : CoreState) (f : FileName) (deed : Deed) (spot : Spot) (file : FileState) → spot ≡ host_spot f → IsThere x.imsic (host_spot f) → place_of x.imsic spot < length x.imsic.files
+pub lent_done : (x : CoreState) (f : FileName) (deed : Deed) (spot : Spot) (file : FileState) → spot ≡ spot_of f → IsThere x.imsic (spot_of f) → place_of x.imsic spot < length x.imsic.files
     → SameFile (shown file) (file_after (select_in x f) deed (shown (file_at x.imsic spot))) → select_told deed (select_in x f) ≡ select_in x f → HasDone x (record x { imsic = with_file x.imsic spot file }) f deed
 lent_done x f deed spot file named there within done select =
     let now : file_at (with_file x.imsic spot file) spot ≡ file = replaced_here x.imsic spot file within in
@@ -118,11 +119,11 @@ lent_done x f deed spot file named there within done select =
     (subst (λ (n : FileState). SameFile (shown n) (file_after (select_in x f) deed (shown (file_at x.imsic spot)))) (sym now) done) select
 
 -- a deed that leaves its file and select number
-pub none_done : (x : CoreState) (f : FileName) (deed : Deed) → file_after (select_in x f) deed (shown (file_at x.imsic (host_spot f))) ≡ shown (file_at x.imsic (host_spot f)) → select_told deed (select_in x f) ≡ select_in x f → HasDone x x f deed
+pub none_done : (x : CoreState) (f : FileName) (deed : Deed) → file_after (select_in x f) deed (shown (file_at x.imsic (spot_of f))) ≡ shown (file_at x.imsic (spot_of f)) → select_told deed (select_in x f) ≡ select_in x f → HasDone x x f deed
 none_done x f deed file select = record {
   harts = refl;
   guests = refl;
-  done = record { file = subst (SameFile (shown (file_at x.imsic (host_spot f)))) (sym file) (as_it_was (shown (file_at x.imsic (host_spot f)))); select = sym select };
+  done = record { file = subst (SameFile (shown (file_at x.imsic (spot_of f)))) (sym file) (as_it_was (shown (file_at x.imsic (spot_of f)))); select = sym select };
   files = λ spot inside ne. refl;
   selects = λ g ne. refl;
 }
@@ -165,7 +166,7 @@ begun x harts guests n sources same_harts same_guests files selects =
       there = refl;
       harts = same_harts;
       guests = same_guests;
-      host = λ f inside. record { file = same_file _ _ (files.each (host_spot f) inside) ∙ sym (file_step event [] f); select = no_selects x f selects ∙ sym (select_step event [] f) };
+      host = λ f inside. record { file = same_file _ _ (files.each (spot_of f) inside) ∙ sym (file_step event [] f); select = no_selects x f selects ∙ sym (select_step event [] f) };
       free = λ hart file inside. same_file _ _ (files.each (spots.GuestFile hart file) inside);
     }
 

@@ -14,22 +14,22 @@ use Rattle.aia_model.specs.declared.refusal.Refusal.{Refusal}
 use Rattle.aia_model.specs.declared.refusal.Refusal.TheVariants.{Fault, Guarded}
 use Rattle.aia_model.specs.Act.{domain_at}
 use Rattle.aia_model.specs.FileOf.{FileName, MachineFile, SupervisorFile, is_at}
-use Rattle.aia_model.specs.Refusal.{guards, place_refusal}
-use Rattle.aia_hyp.specs.HostFiles.{host_spot, is_host_spot}
+use Rattle.aia_model.specs.Refusal.{guards, place_refusal_by, place_refusal}
+use Rattle.aia_hyp.specs.HostFiles.{spot_of, is_host_spot}
 use Rattle.aia_hyp.specs.Stands.{core_refusal}
 
 -- ---- pages of the host's files
 
-pub page_of_name : (i : Harts) (addr : ℕ) (f : FileName) → i.harts ≤ 4 → IsThere i (host_spot f) → is_at f addr ≡ true → spot_at i.harts i.guests addr ≡ host_spot f
+pub page_of_name : (i : Harts) (addr : ℕ) (f : FileName) → i.harts ≤ 4 → IsThere i (spot_of f) → is_at f addr ≡ true → spot_at i.harts i.guests addr ≡ spot_of f
 page_of_name i addr (MachineFile hart) few inside here = spot_of_machine i.harts i.guests addr hart inside here
 page_of_name i addr (SupervisorFile hart) few inside here = spot_of_host i.harts i.guests addr hart few inside here
 
-pub name_at_page : (i : Harts) (addr : ℕ) (f : FileName) → spot_at i.harts i.guests addr ≡ host_spot f → is_at f addr ≡ true
+pub name_at_page : (i : Harts) (addr : ℕ) (f : FileName) → spot_at i.harts i.guests addr ≡ spot_of f → is_at f addr ≡ true
 name_at_page i addr (MachineFile hart) e = (machine_of_spot i.harts i.guests addr hart e).1
 name_at_page i addr (SupervisorFile hart) e = (host_of_spot i.harts i.guests addr hart e).1
 
 -- the address is in no page of another file that is there
-pub elsewhere : (i : Harts) (addr : ℕ) (spot : Spot) (g : FileName) → i.harts ≤ 4 → spot ≡ spot_at i.harts i.guests addr → IsThere i (host_spot g) → host_spot g ≢ spot → is_at g addr ≡ false
+pub elsewhere : (i : Harts) (addr : ℕ) (spot : Spot) (g : FileName) → i.harts ≤ 4 → spot ≡ spot_at i.harts i.guests addr → IsThere i (spot_of g) → spot_of g ≢ spot → is_at g addr ≡ false
 elsewhere i addr spot g few at inside other = elim (cases_Bool (is_at g addr)) [
   | inl here ↦ absurd (other (sym (at ∙ page_of_name i addr g few inside here)))
   | inr e ↦ e
@@ -74,15 +74,7 @@ page_below i addr spot few at host = absurd (cc)
 
 -- the core's, where the address is no domain's, are the model's
 pub outside_regions : (spot : Spot) (addr : ℕ) → domain_at addr ≡ None → place_refusal spot addr ≡ core_refusal spot addr
-outside_regions spot addr none =
-    ap (λ b. cond (not (nat_eq (addr % 4) 0 && b)) (Some Fault) (cond (guards spot addr) (Some Guarded) None)) (dropped (is_page spot) (is_in_memory addr) ∙ ap (λ o. o) refl)
-  where
-    dropped : (a b : Bool) → (a || is_some (domain_at addr) || b) ≡ (a || b)
-    dropped a b = ap (λ (o : Option DomainName). a || is_some o || b) none ∙ both a b
-      where
-        both : (a b : Bool) → (a || false || b) ≡ (a || b)
-        both true b = refl
-        both false b = refl
+outside_regions spot addr none = ap (λ (o : Option DomainName). place_refusal_by (is_some o) spot addr) none
 
 -- an address of a domain is in no place of the core's
 pub in_a_region : (i : Harts) (addr : ℕ) → domain_at addr ≢ None → core_refusal (spot_at i.harts i.guests addr) addr ≡ Some Fault

@@ -21,7 +21,7 @@ use Rattle.aia_model.specs.Refusal.{refusal, place_refusal}
 use Rattle.aia_model.specs.Answer.{place_read}
 use Rattle.aia_model.proofs.AnswerLemmas.{refused_by, load_refusal, store_refusal}
 use Rattle.aia_hyp.specs.Core.{CoreState}
-use Rattle.aia_hyp.specs.HostFiles.{HasDone, host_spot, is_host_spot}
+use Rattle.aia_hyp.specs.HostFiles.{HasDone, spot_of, is_host_spot}
 use Rattle.aia_hyp.specs.Stands.{CoreStands, CoreTakes, CoreHears, core_refusal}
 use Rattle.aia_hyp.proofs.NameLemmas.{name_at, at_name, other_spot, is_hosts}
 use Rattle.aia_hyp.proofs.EventLemmas.{Changes, one_more, nothing_done, one_done, file_done, accepted, refused}
@@ -43,7 +43,7 @@ pub record IsStored (x y : CoreState) (addr value : ℕ) (spot : Spot) : Type 0 
 stored_changes : (x y : CoreState) (addr value : ℕ) (spot : Spot) (h : History) (event : Event) → ((f : FileName) → deed_at f event ≡ store_deed f addr value) → machine_of (event ∷ h) ≡ machine_of h → IsStored x y addr value spot → Changes x y h event
 stored_changes x y addr value spot h event is machine stored =
     let f = name_at spot in
-    let named : spot ≡ host_spot f = at_name spot stored.host in
+    let named : spot ≡ spot_of f = at_name spot stored.host in
     let here : is_at f addr ≡ true = name_at_page x.imsic addr f (sym stored.at ∙ named) in
     let done : HasDone x y f (Stores (addr % 0x1000) value) = file_done x y f (Stores (addr % 0x1000) value) spot named stored.there stored.others stored.selects stored.lands refl in
     one_done x y h event f (subst (HasDone x y f) (sym (is f ∙ cond-true _ _ _ here)) done) machine
@@ -87,7 +87,7 @@ msi_landed x y msi spot done = λ h stands. one_more x y h (Delivered msi) (stor
 pub msi_dropped : (x : CoreState) (msi : Msi) (spot : Spot) → x.imsic.harts ≤ 4 → spot ≡ spot_at x.imsic.harts x.imsic.guests msi.address → is_host_spot spot ≡ false → CoreHears x x msi
 msi_dropped x msi spot few at none = λ h stands. one_more x x h (Delivered msi) (nothing_done x h (Delivered msi) refl (λ f inside. cond-false _ _ _ (elsewhere x.imsic msi.address spot f few at inside (other f)))) stands
   where
-    other : (f : FileName) → host_spot f ≢ spot
+    other : (f : FileName) → spot_of f ≢ spot
     other f e = let bad : true ≡ false = sym (is_hosts f) ∙ ap is_host_spot e ∙ none in absurd (cc)
 
 -- ---- lines of the APLIC, which are nothing to the core

@@ -1,12 +1,12 @@
--- The host's files in the core: their names in the model, where they are kept, and whose select numbers they
--- have. Profile: this project's way to speak of them.
+-- The host's files in the core: their names in the model, where they are kept, and whose select
+-- numbers they have. Profile: this project's way to speak of them.
 use Rattle.std.specs.Prelude.{◌≡◌, ◌≢◌, ℕ, ◌+◌, ◌*◌, Bool, true, false, slice_index}
 use Rattle.aia_regs.specs.declared.access.Csr.{Csr}
 use Rattle.aia_regs.specs.declared.access.Op.{Op}
 use Rattle.aia_regs.specs.declared.access.Level.{Level}
 use Rattle.aia_regs.specs.declared.access.Level.TheVariants as levels
 use Rattle.aia_file.specs.InterruptFile.{SameFile}
-use Rattle.aia_file.specs.FileState.{shown}
+use Rattle.aia_file.specs.FileState.{FileState, shown}
 use Rattle.aia_imsic.specs.declared.spot.Spot.{Spot}
 use Rattle.aia_imsic.specs.declared.spot.Spot.TheVariants as spots
 use Rattle.aia_imsic.specs.Files.{IsThere, file_at}
@@ -32,9 +32,9 @@ csr_line levels.Machine hart csr op = MachineCsr hart csr op
 csr_line level hart csr op = HostCsr hart csr op
 
 -- Where a file is among all files.
-abbrev pub host_spot : FileName → Spot
-host_spot (MachineFile hart) = spots.MachineFile hart
-host_spot (SupervisorFile hart) = spots.HostFile hart
+abbrev pub spot_of : FileName → Spot
+spot_of (MachineFile hart) = spots.MachineFile hart
+spot_of (SupervisorFile hart) = spots.HostFile hart
 
 -- Whether a place among all files is that of a file of the host.
 abbrev pub is_host_spot : Spot → Bool
@@ -42,26 +42,30 @@ is_host_spot (spots.MachineFile hart) = true
 is_host_spot (spots.HostFile hart) = true
 is_host_spot spot = false
 
--- Where its select number is among the select numbers: of each hart that of machine level, then that of
--- supervisor level.
+-- Where its select number is among the select numbers: of each hart that of machine level, then
+-- that of supervisor level.
 abbrev pub select_place : FileName → ℕ
 select_place (MachineFile hart) = 2 * hart
 select_place (SupervisorFile hart) = 2 * hart + 1
 
--- Its select number.
+-- What is kept of it, and its select number.
+abbrev pub file_in : CoreState → FileName → FileState
+file_in x f = file_at x.imsic (spot_of f)
+
 abbrev pub select_in : CoreState → FileName → ℕ
 select_in x f = slice_index x.selects (select_place f)
 
 -- A deed was done at a file and its select number.
 pub record FileDone (old new : CoreState) (f : FileName) (deed : Deed) : Type 0 where
-  pub file : SameFile (shown (file_at new.imsic (host_spot f))) (file_after (select_in old f) deed (shown (file_at old.imsic (host_spot f))))
+  pub file : SameFile (shown (file_in new f)) (file_after (select_in old f) deed (shown (file_in old f)))
   pub select : select_in new f ≡ select_told deed (select_in old f)
 
--- A deed was done at one file of the host; every other file, a guest's too, and every other select number is
--- as it was.
+-- A deed was done at one file of the host; every other file, a guest's too, and every other select
+-- number is as it was.
 pub record HasDone (old new : CoreState) (f : FileName) (deed : Deed) : Type 0 where
   pub harts : new.imsic.harts ≡ old.imsic.harts
   pub guests : new.imsic.guests ≡ old.imsic.guests
   pub done : FileDone old new f deed
-  pub files : (spot : Spot) → IsThere old.imsic spot → spot ≢ host_spot f → file_at new.imsic spot ≡ file_at old.imsic spot
+  pub files : (spot : Spot) → IsThere old.imsic spot → spot ≢ spot_of f
+      → file_at new.imsic spot ≡ file_at old.imsic spot
   pub selects : (g : FileName) → g ≢ f → select_in new g ≡ select_in old g

@@ -1,43 +1,42 @@
--- When the hypervisor's core stands for a history, and what each of its calls promises. Profile: this
--- project's way to speak of it.
-use Rattle.std.specs.Prelude.{◌≡◌, ℕ, Bool, true, ◌&&◌, ◌||◌, not, nat_eq, nat_lt, ◌%◌, if◌then◌else◌, [], ◌∷◌, Option, Some, None, Result, Ok, Err}
-use Rattle.aia_regs.specs.AddressMap.{is_in_memory}
+-- When the hypervisor's core stands for a history, and what each of its calls promises. Profile:
+-- this project's way to speak of it.
+use Rattle.std.specs.Prelude.{◌≡◌, ℕ, Bool, true, false, nat_lt, if◌then◌else◌, [], ◌∷◌, Option, Some, None, Result, Ok, Err}
 use Rattle.aia_file.specs.InterruptFile.{empty_file, signals}
 use Rattle.aia_file.specs.FileState.{shown}
 use Rattle.aia_imsic.specs.declared.spot.Spot.{Spot}
 use Rattle.aia_imsic.specs.declared.spot.Spot.TheVariants as spots
 use Rattle.aia_imsic.specs.Files.{IsThere, file_at}
-use Rattle.aia_imsic.specs.Map.{is_page}
 use Rattle.aia_model.specs.declared.answer.Answer.{Answer}
 use Rattle.aia_model.specs.declared.answer.Answer.TheVariants.{Refused}
 use Rattle.aia_model.specs.declared.refusal.Refusal.{Refusal}
-use Rattle.aia_model.specs.declared.refusal.Refusal.TheVariants.{Range, Fault, Guarded}
+use Rattle.aia_model.specs.declared.refusal.Refusal.TheVariants.{Range}
 use Rattle.aia_model.specs.declared.line.Line.{Line}
 use Rattle.aia_model.specs.declared.line.Line.TheVariants.{Machine}
 use Rattle.aia_model.specs.declared.msi.Msi.{Msi}
 use Rattle.aia_model.specs.Event.{History, has_machine, harts_of, guests_of, identities_of}
 use Rattle.aia_model.specs.Event.Event.{Accepted}
 use Rattle.aia_model.specs.FileOf.{FileName, MachineFile, SupervisorFile, file_of, select_of}
-use Rattle.aia_model.specs.Refusal.{refusal, guards}
+use Rattle.aia_model.specs.Refusal.{refusal, place_refusal_by}
 use Rattle.aia_model.specs.Answer.{answer, taken, msi_taken}
 use Rattle.aia_hyp.specs.Core.{CoreState}
-use Rattle.aia_hyp.specs.HostFiles.{host_spot, select_in}
+use Rattle.aia_hyp.specs.HostFiles.{spot_of, file_in, select_in}
 
 -- ---- what is kept
 
 -- A file of the host and its select number are as the history gives them.
 pub record HostStands (x : CoreState) (h : History) (f : FileName) : Type 0 where
-  pub file : shown (file_at x.imsic (host_spot f)) ≡ file_of h f
+  pub file : shown (file_in x f) ≡ file_of h f
   pub select : select_in x f ≡ select_of h f
 
--- The core is that of the history's machine, each file of the host that is there stands for it, and each guest
--- file is free, and so empty.
+-- The core is that of the history's machine, each file of the host that is there stands for it, and
+-- each guest file is free, and so empty.
 pub record CoreStands (x : CoreState) (h : History) : Type 0 where
   pub there : has_machine h ≡ true
   pub harts : x.imsic.harts ≡ harts_of h
   pub guests : x.imsic.guests ≡ guests_of h
-  pub host : (f : FileName) → IsThere x.imsic (host_spot f) → HostStands x h f
-  pub free : (hart file : ℕ) → IsThere x.imsic (spots.GuestFile hart file) → shown (file_at x.imsic (spots.GuestFile hart file)) ≡ empty_file (identities_of h)
+  pub host : (f : FileName) → IsThere x.imsic (spot_of f) → HostStands x h f
+  pub free : (hart file : ℕ) → IsThere x.imsic (spots.GuestFile hart file) → shown (file_at x.imsic
+      (spots.GuestFile hart file)) ≡ empty_file (identities_of h)
 
 -- ---- what calls promise
 
@@ -51,29 +50,36 @@ abbrev pub line_taken : Option Answer → History → Line → History
 line_taken None h line = taken h line
 line_taken (Some word) h line = h
 
--- A line is answered as the model does, and the core then stands for the history with what the line itself is;
--- where it is refused, the core is unchanged.
+-- A line is answered as the model does, and the core then stands for the history with what the line
+-- itself is; where it is refused, the core is unchanged.
 pub record CoreTakes (old new : CoreState) (line : Line) (given : Answer) : Type 0 where
   pub answers : (h : History) → CoreStands old h → given ≡ answer h line
-  pub stands : (h : History) → CoreStands old h → CoreStands new (line_taken (refusal h line) h line)
-  pub unchanged : (h : History) (word : Answer) → CoreStands old h → refusal h line ≡ Some word → new ≡ old
+  pub stands : (h : History) → CoreStands old h → CoreStands new (line_taken (refusal h line) h
+      line)
+  pub unchanged : (h : History) (word : Answer) → CoreStands old h → refusal h line ≡ Some word →
+      new ≡ old
 
 -- It begins with the machine, whatever the number of wired sources, which are nothing to the core.
 abbrev pub CoreBegins : CoreState → ℕ → ℕ → ℕ → Type 0
-CoreBegins new harts guests n = (sources : ℕ) → CoreStands new (Accepted (Machine harts guests n sources) ∷ [])
+CoreBegins new harts guests n = (sources : ℕ) → CoreStands new (Accepted (Machine harts guests n
+    sources) ∷ [])
 
 -- An MSI of the APLIC is delivered.
 abbrev pub CoreHears : CoreState → CoreState → Msi → Type 0
 CoreHears old new msi = (h : History) → CoreStands old h → CoreStands new (msi_taken msi h)
 
--- The signals of a hart's machine-level file and of its supervisor file, or the word that refuses the hart.
+-- The signals of a hart's machine-level file and of its supervisor file, or the word that refuses
+-- the hart.
 abbrev pub signals_of : History → ℕ → Result (Bool × Bool) Refusal
 signals_of h hart =
-    if nat_lt hart (harts_of h) then Ok (signals (file_of h (MachineFile hart)), signals (file_of h (SupervisorFile hart)))
+    if nat_lt hart (harts_of h) then Ok (
+      signals (file_of h (MachineFile hart)),
+      signals (file_of h
+          (SupervisorFile hart)),
+    )
     else Err Range
 
--- The word that refuses a load or a store by the core, to which an address of the APLIC is no place.
+-- The word that refuses a load or a store by the core, to which an address of the APLIC is no
+-- place.
 abbrev pub core_refusal : Spot → ℕ → Option Refusal
-core_refusal spot addr =
-    if not (nat_eq (addr % 4) 0 && (is_page spot || is_in_memory addr)) then Some Fault
-    else (if guards spot addr then Some Guarded else None)
+core_refusal = place_refusal_by false

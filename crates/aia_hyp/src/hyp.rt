@@ -1,11 +1,11 @@
-ghost use Rattle.std.specs.Prelude.{◌≡◌, ◌≢◌, ◌<◌, ◌≤◌, ◌%◌, true, false, None, Some, Ok, Err, IsTrue, IfOk, OnOk, if◌then◌else◌, slice_index};
+ghost use Rattle.std.specs.Prelude.{◌≡◌, ◌≢◌, ◌<◌, ◌≤◌, ◌%◌, true, false, None, Ok, Err, IsTrue, IfOk, OnOk};
 ghost use Rattle.std.specs.Result.{result_err};
-ghost use Rattle.aia_regs.specs.FileRegisters.{select_after, register_of, IsUsable};
+ghost use Rattle.aia_regs.specs.FileRegisters.{register_of, IsUsable};
 ghost use Rattle.aia_regs.specs.AddressMap.{is_in_memory};
 ghost use Rattle.aia_csr.specs.Access.{IsInTable, ReachesUsable, access_of};
 ghost use Rattle.aia_file.specs.InterruptFile.{SameFile, is_width, register_value, top_of};
 ghost use Rattle.aia_file.specs.FileState.{shown};
-ghost use Rattle.aia_imsic.specs.Files.{IsThere, file_at};
+ghost use Rattle.aia_imsic.specs.Files.{IsThere};
 ghost use Rattle.aia_imsic.specs.Map.{spot_at};
 ghost use Rattle.aia_word.specs.Top.{top_value};
 ghost use Rattle.aia_model.specs.Event.{History};
@@ -13,7 +13,7 @@ ghost use Rattle.aia_model.specs.Act.{domain_at};
 ghost use Rattle.aia_model.specs.FileAfter.{Accesses, file_after};
 ghost use Rattle.aia_model.specs.declared.line.Line.TheVariants.{Load, Store};
 ghost use Rattle.aia_model.specs.declared.answer.Answer.TheVariants.{Okay, Narrow, Wide};
-ghost use Rattle.aia_hyp.specs.HostFiles.{IsHost, HasDone, name_of, csr_line, host_spot, is_host_spot, select_place, select_in};
+ghost use Rattle.aia_hyp.specs.HostFiles.{IsHost, HasDone, name_of, csr_line, spot_of, is_host_spot, file_in, select_place, select_in};
 ghost use Rattle.aia_hyp.specs.Stands.{CoreStands, CoreTakes, CoreBegins, CoreHears, answer_by, core_refusal, signals_of};
 
 use aia_csr::{Access, decide};
@@ -32,8 +32,8 @@ const SELECT_NUMBERS: u64 = 0x1000;
 /// Two select numbers for each hart.
 const SELECTS: usize = 2 * HARTS as usize;
 
-/// The hypervisor's core: all interrupt files, and the select numbers of the host, of each hart `miselect`, then
-/// `siselect`.
+/// The hypervisor's core: all interrupt files, and the select numbers of the host, of each hart
+/// `miselect`, then `siselect`.
 #[derive(Drop)]
 pub struct Hyp {
     imsic: Imsic,
@@ -49,9 +49,9 @@ impl Model for Hyp {
 }
 
 impl Hyp {
-    /// Makes the core of a machine of `harts` harts, 1 to 4, with `guests` guest files each, 0 to 7, and the
-    /// identities 1 to `n`, which is 63, 127, 255, 511, 1023 or 2047: every file is empty, and every select
-    /// number 0. `Err` is want of memory.
+    /// Makes the core of a machine of `harts` harts, 1 to 4, with `guests` guest files each, 0 to
+    /// 7, and the identities 1 to `n`, which is 63, 127, 255, 511, 1023 or 2047: every file is
+    /// empty, and every select number 0. `Err` is want of memory.
     pub fn new(alloc: Global, harts: u32, guests: u32, n: u32) -> Result<Hyp, AllocError>
         requires some { 1 ≤ harts }
         requires few { harts ≤ HARTS }
@@ -66,9 +66,9 @@ impl Hyp {
         })
     }
 
-    /// Does a CSR instruction of a hart at a level of the host, `Select`, `Reg` or `Topei`, and answers what the
-    /// CSR read before it. `Err` is `Range` where the hart isn't there, and `Illegal` where the access raises an
-    /// illegal-instruction fault; nothing is changed then.
+    /// Does a CSR instruction of a hart at a level of the host, `Select`, `Reg` or `Topei`, and
+    /// answers what the CSR read before it. `Err` is `Range` where the hart isn't there, and
+    /// `Illegal` where the access raises an illegal-instruction fault; nothing is changed then.
     ///
     /// AIA 1.0, Incoming MSI Controller, "Indirectly accessed interrupt-file registers".
     pub fn host(&mut self, level: Level, hart: u64, csr: Csr, op: Op) -> Result<u64, Refusal>
@@ -104,7 +104,8 @@ impl Hyp {
         requires listed { IsInTable level csr }
         requires host { IsHost level }
         requires few { hart < HARTS }
-        ensures table { result ≡ access_of level csr op (select_in self.now (name_of level hart)) false }
+        ensures table { result
+            ≡ access_of level csr op (select_in self.now (name_of level hart)) false }
         ensures usable { ReachesUsable result }
     {
         let select = self.selects[select_place(level, hart)];
@@ -130,7 +131,7 @@ impl Hyp {
         requires there { hart < self.old.imsic.harts }
         requires named { register_of (select_in self.old (name_of level hart)) ≡ reg }
         requires usable { IsUsable reg }
-        ensures value { result ≡ register_value (shown (file_at self.old.imsic (host_spot (name_of level hart)))) reg }
+        ensures value { result ≡ register_value (shown (file_in self.old (name_of level hart))) reg }
         ensures done { HasDone self.old self.new (name_of level hart) (Accesses Csr.Reg op) }
     {
         self.imsic.file_mut(spot(level, hart)).access(reg, op)
@@ -139,19 +140,20 @@ impl Hyp {
     fn access_top(&mut self, level: Level, hart: u32, op: Op) -> u64
         requires host { IsHost level }
         requires there { hart < self.old.imsic.harts }
-        ensures value { result ≡ top_value (top_of (shown (file_at self.old.imsic (host_spot (name_of level hart))))) }
+        ensures value { result ≡ top_value (top_of (shown (file_in self.old (name_of level hart)))) }
         ensures done { HasDone self.old self.new (name_of level hart) (Accesses Csr.Topei op) }
     {
         claim_or_read(self.imsic.file_mut(spot(level, hart)), op)
     }
 
-    /// Stores 32 bits at an address for the host or a device of it. `Err` is `Fault` where the address is no
-    /// multiple of 4 or in no place of the core's, an address of the APLIC among them, and `Guarded` in a guest's
-    /// page or in memory; nothing is changed then.
+    /// Stores 32 bits at an address for the host or a device of it. `Err` is `Fault` where the
+    /// address is no multiple of 4 or in no place of the core's, an address of the APLIC among
+    /// them, and `Guarded` in a guest's page or in memory; nothing is changed then.
     ///
     /// AIA 1.0, Incoming MSI Controller, "Memory region for an interrupt file".
     pub fn store(&mut self, addr: u64, value: u32) -> Result<(), Refusal>
-        ensures takes { domain_at addr ≡ None → CoreTakes self.old self.new (Store addr value) (answer_by (λ _. Okay) result) }
+        ensures takes { domain_at addr ≡ None → CoreTakes self.old self.new (Store addr value)
+            (answer_by (λ _. Okay) result) }
         ensures refused { domain_at addr ≢ None → result ≡ Err Refusal.Fault }
         ensures unchanged { domain_at addr ≢ None → self.new ≡ self.old }
     {
@@ -164,35 +166,41 @@ impl Hyp {
     ///
     /// AIA 1.0, Incoming MSI Controller, "Memory region for an interrupt file".
     pub fn load(&self, addr: u64) -> Result<u32, Refusal>
-        ensures takes { domain_at addr ≡ None → CoreTakes self.now self.now (Load addr) (answer_by Narrow result) }
+        ensures takes { domain_at addr ≡ None → CoreTakes self.now self.now (Load addr)
+            (answer_by Narrow result) }
         ensures refused { domain_at addr ≢ None → result ≡ Err Refusal.Fault }
     {
         let _spot = self.reach(addr)?;
         Ok(0)
     }
 
-    /// The file of the host in whose page the address lies, or the word that refuses a load or store there.
+    /// The file of the host in whose page the address lies, or the word that refuses a load or
+    /// store there.
     fn reach(&self, addr: u64) -> Result<Spot, Refusal>
-        ensures at { IfOk result (λ spot. spot ≡ spot_at self.now.imsic.harts self.now.imsic.guests addr) }
+        ensures at { IfOk result (λ spot. spot
+            ≡ spot_at self.now.imsic.harts self.now.imsic.guests addr) }
         ensures host { IfOk result (λ spot. is_host_spot spot ≡ true) }
         ensures there { IfOk result (IsThere self.now.imsic) }
-        ensures refused { result_err result ≡ core_refusal (spot_at self.now.imsic.harts self.now.imsic.guests addr) addr }
+        ensures refused { result_err result
+            ≡ core_refusal (spot_at self.now.imsic.harts self.now.imsic.guests addr) addr }
         ensures few { OnOk result (self.now.imsic.harts ≤ HARTS) }
     {
         if addr % 4 != 0 {
             return Err(Refusal::Fault);
         }
         let spot = self.imsic.locate(addr);
+        if is_host(spot) {
+            return Ok(spot);
+        }
         match spot {
-            Spot::MachineFile(_) | Spot::HostFile(_) => Ok(spot),
             Spot::GuestFile(..) => Err(Refusal::Guarded),
-            Spot::Nowhere if is_in_memory(addr) => Err(Refusal::Guarded),
-            Spot::Nowhere => Err(Refusal::Fault),
+            _ if is_in_memory(addr) => Err(Refusal::Guarded),
+            _ => Err(Refusal::Fault),
         }
     }
 
-    /// Lands an MSI in the file in whose page its address lies, a machine-level or a supervisor file that is there;
-    /// elsewhere it is dropped (our profile).
+    /// Lands an MSI in the file in whose page its address lies, a machine-level or a supervisor
+    /// file that is there; elsewhere it is dropped (our profile).
     pub fn land(&mut self, msi: Msi)
         ensures { CoreHears self.old self.new msi }
     {
@@ -204,8 +212,8 @@ impl Hyp {
             .store(spot, (msi.address % PAGE) as u32, msi.value);
     }
 
-    /// Tells the signals of a hart's machine-level file and of its supervisor file. `Err` is `Range` exactly where
-    /// the hart isn't there.
+    /// Tells the signals of a hart's machine-level file and of its supervisor file. `Err` is
+    /// `Range` exactly where the hart isn't there.
     ///
     /// AIA 1.0, Incoming MSI Controller, "Interrupt files and interrupt identities".
     pub fn signals(&self, hart: u64) -> Result<(bool, bool), Refusal>
@@ -226,7 +234,7 @@ impl Hyp {
 /// Where the file of a hart at a level of the host is.
 fn spot(level: Level, hart: u32) -> Spot
     requires { IsHost level }
-    ensures { result ≡ host_spot (name_of level hart) }
+    ensures { result ≡ spot_of (name_of level hart) }
 {
     match level {
         Level::Machine => Spot::MachineFile(hart),
@@ -259,7 +267,8 @@ fn select_place(level: Level, hart: u32) -> usize
 /// Reads the topei CSR of a file, and claims the identity on top where the instruction writes.
 fn claim_or_read(file: &mut File, op: Op) -> u64
     ensures value { result ≡ top_value (top_of (shown file.old)) }
-    ensures done { SameFile (shown file.new) (file_after 0 (Accesses Csr.Topei op) (shown file.old)) }
+    ensures done { SameFile (shown file.new)
+        (file_after 0 (Accesses Csr.Topei op) (shown file.old)) }
 {
     if op.is_writing() {
         file.claim()

@@ -30,8 +30,9 @@ after_by h line r e = ap (λ o. history_after o h line) e
 
 -- ---- the refusal of each form of line: by computation it is the words whose cells matter to the form, in order
 
--- a machine stands, so the first word is passed
-past_machine : (h : History) (later : Option Answer) → has_machine h ≡ true → cond (not (has_machine h)) (Some NoMachine) later ≡ later
+-- a machine stands, so the first word is passed: what is left is the chain of the other words'
+-- cells
+pub past_machine : (h : History) (later : Option Answer) → has_machine h ≡ true → cond (not (has_machine h)) (Some NoMachine) later ≡ later
 past_machine h later there = ap (λ b. cond (not b) (Some NoMachine) later) there
 
 -- the word of a core's refusal, where there is one

@@ -1,4 +1,5 @@
--- What a line answers after a history, and the history after it. Profile, where no chapter is named.
+-- What a line answers after a history, and the history after it. Profile, where no chapter is
+-- named.
 use Rattle.std.specs.Prelude.{ℕ, List, [], ◌∷◌, Option, Some, None, unwrap_or}
 use Rattle.aia_word.specs.Top.{top_value}
 use Rattle.aia_regs.specs.declared.access.Csr.{Csr}
@@ -22,7 +23,8 @@ use Rattle.aia_model.specs.FileOf.{FileName, MachineFile, SupervisorFile, select
 use Rattle.aia_model.specs.Refusal.{refusal}
 
 -- What a CSR of a file reads: the select number, the selected register, or the identity on top.
--- AIA 1.0, IMSIC, "Top external interrupt CSRs" for the last. A file has no other CSR, and no line names one.
+-- AIA 1.0, IMSIC, "Top external interrupt CSRs" for the last. A file has no other CSR, and no line
+-- names one.
 abbrev pub csr_shown : ℕ → InterruptFile → Csr → ℕ
 csr_shown select file Select = select
 csr_shown select file Reg = register_value file (register_of select)
@@ -42,9 +44,9 @@ place_read h addr (Some d) = register_read (acts_of h) d (register_at addr)
 abbrev pub load_value : History → ℕ → ℕ
 load_value h addr = place_read h addr (domain_at addr)
 
--- What an accepted line answers: a load what it reads, a CSR instruction the value that the CSR read before
--- it, `pins` the signals of a hart (of both domains, of its machine-level file and of its supervisor file),
--- and every other line `ok`.
+-- What an accepted line answers: a load what it reads, a CSR instruction the value that the CSR
+-- read before it, `pins` the signals of a hart (of both domains, of its machine-level file and of
+-- its supervisor file), and every other line `ok`.
 abbrev pub accepted_answer : History → Line → Answer
 accepted_answer h (Load addr) = Narrow (load_value h addr)
 accepted_answer h (MachineCsr hart csr op) = Wide (csr_value h (MachineFile hart) csr)

@@ -1,11 +1,13 @@
--- What happens to a machine, and the history of a script. Profile: this project's way to speak of time.
+-- What happens to a machine, and the history of a script. Profile: this project's way to speak of
+-- time.
 use Rattle.std.specs.Prelude.{ℕ, Bool, is_some, List, [], ◌∷◌, Option, Some, None}
 use Rattle.std.specs.Option.{option_map_or}
 use Rattle.aia_model.specs.declared.line.Line.{Line}
 use Rattle.aia_model.specs.declared.line.Line.TheVariants.{Machine}
 use Rattle.aia_model.specs.declared.msi.Msi.{Msi}
 
--- What happens: a line is accepted; an MSI of the APLIC is delivered, also where no file is to take it.
+-- What happens: a line is accepted; an MSI of the APLIC is delivered, also where no file is to take
+-- it.
 pub data Event : Type 0 where
   Accepted : (line : Line) → Event
   Delivered : (msi : Msi) → Event
@@ -14,7 +16,8 @@ pub data Event : Type 0 where
 abbrev pub History : Type 0
 History = List Event
 
--- The numbers that a machine is made with: its harts, the guest files of each hart, the greatest identity, the wired sources.
+-- The numbers that a machine is made with: its harts, the guest files of each hart, the greatest
+-- identity, the wired sources.
 pub record Shape : Type 0 where
   pub harts : ℕ
   pub guests : ℕ
@@ -24,7 +27,13 @@ pub record Shape : Type 0 where
 -- The machine that stands after a history, None where none was made.
 abbrev pub machine_of : History → Option Shape
 machine_of [] = None
-machine_of (Accepted (Machine harts guests n sources) ∷ past) = Some (record { harts = harts; guests = guests; n = n; sources = sources })
+machine_of (Accepted (Machine harts guests n sources) ∷ past) = Some (record {
+  harts = harts;
+  guests
+      = guests;
+  n = n;
+  sources = sources;
+})
 machine_of (event ∷ past) = machine_of past
 
 -- Whether one stands.

@@ -1,5 +1,5 @@
--- What becomes of an interrupt file: what an event is to it, and what it is after all of them. Profile,
--- where no chapter is named: this project's way to speak of time.
+-- What becomes of an interrupt file: what an event is to it, and what it is after all of them.
+-- Profile, where no chapter is named: this project's way to speak of time.
 use Rattle.std.specs.Prelude.{ℕ, if◌then◌else◌, [], ◌∷◌}
 use Rattle.aia_regs.specs.declared.access.Csr.{Csr}
 use Rattle.aia_regs.specs.declared.access.Csr.TheVariants.{Select, Reg, Topei}
@@ -27,7 +27,8 @@ select_told (Accesses Select op) was = select_after op was
 select_told deed was = was
 
 -- What a deed makes of the file, given the select number.
--- AIA 1.0, IMSIC: an access by the reg CSR reaches the selected register, any write to the topei CSR claims, a store may ask.
+-- AIA 1.0, IMSIC: an access by the reg CSR reaches the selected register, any write to the topei
+-- CSR claims, a store may ask.
 abbrev pub file_after : ℕ → Deed → InterruptFile → InterruptFile
 file_after select (Makes n) file = empty_file n
 file_after select (Accesses Reg op) file = accessed (register_of select) op file
@@ -50,10 +51,12 @@ file_by deed (event ∷ past) = file_after (select_by deed past) (deed event) (f
 -- ---- the word of a deed on an identity: the law of the newest word says that it decides
 
 -- What a deed says of identity i's being pending, given the select number and the file before it.
--- AIA 1.0, IMSIC: a write to eip says what its bits say, a write to the topei CSR clears the identity on top, a store to the page asks.
+-- AIA 1.0, IMSIC: a write to eip says what its bits say, a write to the topei CSR clears the
+-- identity on top, a store to the page asks.
 abbrev pub pending_said : ℕ → InterruptFile → Deed → ℕ → Word
 pending_said select file (Accesses Reg op) i = pending_word file.n (register_of select) op i
-pending_said select file (Accesses Topei op) i = if is_writing op then claim_word (top_of file) i else Nothing
+pending_said select file (Accesses Topei op) i = if is_writing op then claim_word (top_of file) i
+    else Nothing
 pending_said select file (Stores offset value) i = request_word file.n offset value i
 pending_said select file deed i = Nothing
 

@@ -13,7 +13,8 @@ use Rattle.aia_model.specs.FileAfter.Deed.{Makes, Accesses, Stores, Rests}
 
 -- ---- which files there are
 
--- An interrupt file of a machine, by what it serves: a hart at machine level or at supervisor level.
+-- An interrupt file of a machine, by what it serves: a hart at machine level or at supervisor
+-- level.
 pub data FileName : Type 0 where
   MachineFile : (hart : ℕ) → FileName
   SupervisorFile : (hart : ℕ) → FileName
@@ -39,13 +40,15 @@ page_at h addr = spot_at (harts_of h) (guests_of h) addr
 abbrev pub store_deed : FileName → ℕ → ℕ → Deed
 store_deed f addr value = if is_at f addr then Stores (addr % 0x1000) value else Rests
 
--- The deed of an event at a file; an access is its own hart's alone. Of a file that isn't there it says
--- something too, which nothing shows.
+-- The deed of an event at a file; an access is its own hart's alone. Of a file that isn't there it
+-- says something too, which nothing shows.
 abbrev pub deed_at : FileName → Event → Deed
 deed_at f (Accepted (Machine harts guests n sources)) = Makes n
 deed_at f (Accepted (Store addr value)) = store_deed f addr value
-deed_at f (Accepted (MachineCsr hart csr op)) = if is_file f (MachineFile hart) then Accesses csr op else Rests
-deed_at f (Accepted (HostCsr hart csr op)) = if is_file f (SupervisorFile hart) then Accesses csr op else Rests
+deed_at f (Accepted (MachineCsr hart csr op)) = if is_file f (MachineFile hart) then Accesses csr op
+    else Rests
+deed_at f (Accepted (HostCsr hart csr op)) = if is_file f (SupervisorFile hart) then Accesses csr op
+    else Rests
 deed_at f (Delivered msi) = store_deed f msi.address msi.value
 deed_at f event = Rests
 

@@ -13,7 +13,8 @@ use Rattle.aia_regs.specs.declared.access.Op.TheVariants.{Read, Write, Set}
 use Rattle.aia_regs.specs.declared.access.Op.TheVariants as ops
 use Rattle.aia_model.specs.Text.{words_of, number_of}
 
--- One word of a line: a keyword, or a number, which our own printing writes in decimal or in hexadecimal.
+-- One word of a line: a keyword, or a number, which our own printing writes in decimal or in
+-- hexadecimal.
 pub data Field : Type 0 where
   Keyword : (word : List ℕ) → Field
   Decimal : (n : ℕ) → Field
@@ -88,7 +89,8 @@ instruction csr (ops.Clear v) = Keyword (codes "csrrc") ∷ csr ∷ Hex v ∷ []
 
 -- The fields of a line.
 abbrev pub fields_of : Line → List Field
-fields_of (Machine harts guests n sources) = Keyword (codes "machine") ∷ Decimal harts ∷ Decimal guests ∷ Decimal n ∷ Decimal sources ∷ []
+fields_of (Machine harts guests n sources) = Keyword (codes "machine") ∷ Decimal harts ∷ Decimal
+    guests ∷ Decimal n ∷ Decimal sources ∷ []
 fields_of (Wire source level) = Keyword (codes "wire") ∷ Decimal source ∷ Bit level ∷ []
 fields_of (Load addr) = Keyword (codes "ld") ∷ Hex addr ∷ []
 fields_of (Store addr value) = Keyword (codes "st") ∷ Hex addr ∷ Hex32 value ∷ []

@@ -1,5 +1,5 @@
--- A way to compute the line that a text spells, word by word. Believe the table of fields in Grammar: that this finds just what
--- it spells is proved. Profile.
+-- A way to compute the line that a text spells, word by word. Believe the table of fields in
+-- Grammar: that this finds just what it spells is proved. Profile.
 use Rattle.std.specs.Prelude.{ℕ, ◌^◌, Bool, true, false, nat_eq, nat_le, if◌then◌else◌, List, [], ◌∷◌, length, Option, Some, None, codes}
 use Rattle.std.specs.Str.{bytes_eq}
 use Rattle.aia_model.specs.declared.limits.TheConstants.{LINE_BYTES}
@@ -62,8 +62,7 @@ whole words found = None
 
 abbrev pub at_end : Words → Line → Option Line
 at_end = whole
-
--- ---- what follows each keyword: `machine`, `wire`, `st`, `ld`, `pins`, and `m H` and `h H` with a CSR instruction
+    -- ---- what follows each keyword, and after `m H` and `h H` a CSR instruction
 
 unfoldable pub machine_at : Words → Option Line
 machine_at words = do

@@ -9,8 +9,8 @@ pub enum Answer {
     Narrow(u32),
     /// `0x` and sixteen digits: what a CSR read.
     Wide(u64),
-    /// `pins` and four digits: whether the hart is signalled by the APLIC's root domain, by its child, by the machine-level
-    /// file, by the supervisor file.
+    /// `pins` and four digits: whether the hart is signalled by the APLIC's root domain, by its
+    /// child, by the machine-level file, by the supervisor file.
     Pins(bool, bool, bool, bool),
     /// `bad`: the text spells no line.
     Bad,
@@ -18,6 +18,6 @@ pub enum Answer {
     NoMachine,
     /// `again`: a machine stands already.
     Again,
-    /// One of the words by which a machine refuses a line.
+    /// The word of a line that is refused for what it names or reaches.
     Refused(Refusal),
 }

@@ -3,8 +3,8 @@ use aia_regs::{Csr, Op};
 /// A good line of a script.
 #[derive(Clone, Copy, Debug, PartialEq, Eq)]
 pub enum Line {
-    /// `machine H G N S`: makes the machine of `harts` harts, `guests` guest files a hart, the identities 1 to `n` and
-    /// `sources` wired sources.
+    /// `machine H G N S`: makes the machine of `harts` harts, `guests` guest files a hart, the
+    /// identities 1 to `n` and `sources` wired sources.
     Machine {
         harts: u64,
         guests: u64,

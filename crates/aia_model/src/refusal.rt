@@ -1,4 +1,4 @@
-/// Why a machine that stands refuses a line: one form for each word.
+/// Why a line is refused, for what it names or reaches: one form for each word.
 #[derive(Clone, Copy, Debug, PartialEq, Eq)]
 pub enum Refusal {
     /// `range`: a number names nothing, or is past its limit.

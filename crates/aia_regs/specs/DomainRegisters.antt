@@ -1,7 +1,6 @@
 -- The registers of an APLIC interrupt domain, each at an offset of the domain's control region.
 use Rattle.std.specs.Prelude.{ℕ, ◌+◌, ◌-◌, ◌*◌, ◌/◌, ◌%◌, Bool, ◌&&◌, nat_eq, nat_le, if◌then◌else◌, List, [], ◌∷◌, Option, Some, None}
 use Rattle.std.specs.Int.{is_in_range}
-use Rattle.aia_regs.specs.declared.limits.TheConstants.{SOURCES}
 use Rattle.aia_regs.specs.declared.domain_registers.DomainReg.{DomainReg}
 use Rattle.aia_regs.specs.declared.domain_registers.DomainReg.TheVariants.{DomainCfg, SourceCfg, MMsiAddrCfg, MMsiAddrCfgH, SMsiAddrCfg, SMsiAddrCfgH, SetIp, SetIpNum, InClrIp, ClrIpNum, SetIe, SetIeNum, ClrIe, ClrIeNum, SetIpNumLe, SetIpNumBe, GenMsi, Target, IDelivery, IForce, IThreshold, TopI, ClaimI, Nothing}
 
@@ -32,7 +31,7 @@ single base register = indexed base 4 0 0 (λ i. register)
 abbrev pub table : List Row
 table =
     single 0x0000 DomainCfg
-    ∷ indexed 0x0000 4 1 SOURCES SourceCfg
+    ∷ indexed 0x0000 4 1 1023 SourceCfg
     ∷ single 0x1bc0 MMsiAddrCfg
     ∷ single 0x1bc4 MMsiAddrCfgH
     ∷ single 0x1bc8 SMsiAddrCfg
@@ -48,7 +47,7 @@ table =
     ∷ single 0x2000 SetIpNumLe
     ∷ single 0x2004 SetIpNumBe
     ∷ single 0x3000 GenMsi
-    ∷ indexed 0x3000 4 1 SOURCES Target
+    ∷ indexed 0x3000 4 1 1023 Target
     ∷ indexed 0x4000 32 0 511 IDelivery
     ∷ indexed 0x4004 32 0 511 IForce
     ∷ indexed 0x4008 32 0 511 IThreshold
@@ -90,7 +89,7 @@ offset_of_index base stride first last i = if is_in_range first last i then Some
 -- AIA 1.0, Advanced Platform-Level Interrupt Controller (APLIC), "Memory-mapped control region for an interrupt domain".
 abbrev pub domain_offset_of : DomainReg → Option ℕ
 domain_offset_of DomainCfg = Some 0x0000
-domain_offset_of (SourceCfg i) = offset_of_index 0x0000 4 1 SOURCES i
+domain_offset_of (SourceCfg i) = offset_of_index 0x0000 4 1 1023 i
 domain_offset_of MMsiAddrCfg = Some 0x1bc0
 domain_offset_of MMsiAddrCfgH = Some 0x1bc4
 domain_offset_of SMsiAddrCfg = Some 0x1bc8
@@ -106,7 +105,7 @@ domain_offset_of ClrIeNum = Some 0x1fdc
 domain_offset_of SetIpNumLe = Some 0x2000
 domain_offset_of SetIpNumBe = Some 0x2004
 domain_offset_of GenMsi = Some 0x3000
-domain_offset_of (Target i) = offset_of_index 0x3000 4 1 SOURCES i
+domain_offset_of (Target i) = offset_of_index 0x3000 4 1 1023 i
 domain_offset_of (IDelivery h) = offset_of_index 0x4000 32 0 511 h
 domain_offset_of (IForce h) = offset_of_index 0x4004 32 0 511 h
 domain_offset_of (IThreshold h) = offset_of_index 0x4008 32 0 511 h

@@ -1,4 +1,5 @@
--- After a line all MSIs that wait are delivered, and then the machine stands for the history after the line.
+-- After a line all MSIs that wait are delivered, and then the machine stands for the history after
+-- the line.
 use Rattle.std.proofs.Common.{◌≡◌, List, [], ◌∷◌, Option, Some, None, map, refl, sym, ap, subst, ◌∙◌}
 use Rattle.aia_model.specs.declared.line.Line.{Line}
 use Rattle.aia_model.specs.declared.msi.Msi.{Msi}
@@ -54,7 +55,8 @@ served m taken n line given takes delivers = record {
 
 -- ---- the loop
 
--- some of the MSIs that waited are delivered; when the others are too, all is as if all had been delivered at once
+-- some of the MSIs that waited are delivered; when the others are too, all is as if all had been
+-- delivered at once
 pub record Way (now : Machine) (h : History) (past : Past) : Type 0 where
   pub events : History
   pub acts : Past

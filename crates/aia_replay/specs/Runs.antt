@@ -111,7 +111,7 @@ pub record StopsAtMachine (left rest before now : Option (List ℕ)) : Type 0 wh
 
 -- ---- the whole promise
 
--- What a run that the words allow promises, by the status that it ends with: of what the source
+-- What a run promises by the status that it ends with: of what the source
 -- had left before and after it, what the sink had taken before and after it, and the counts of
 -- faults of the source and of the sink, each before and after it.
 pub record EndsWith (status : Status) (left rest before now : Option (List ℕ))

@@ -1,5 +1,5 @@
--- When a machine, and the engine, stand for a history: the core for the history, the APLIC for the past that the
--- history is to it. Profile: this project's way to speak of its engine.
+-- When a machine, and the engine, stand for a history: the core for the history, the APLIC for the
+-- past that the history is to it. Profile: this project's way to speak of its engine.
 use Rattle.std.specs.Prelude.{◌≡◌, true, [], Option, Some, None, MatchOption}
 use Rattle.aia_model.specs.declared.answer.Answer.{Answer}
 use Rattle.aia_model.specs.declared.line.Line.{Line}
@@ -18,7 +18,8 @@ use Rattle.aia_replay.specs.declared.engine.Engine.{Engine}
 
 -- ---- a machine
 
--- The core stands for a history, the APLIC for a past; while MSIs wait the two are not one and the same.
+-- The core stands for a history, the APLIC for a past; while MSIs wait the two are not one and the
+-- same.
 pub record MachineHolds (m : Machine) (h : History) (past : Past) : Type 0 where
   pub core : CoreStands m.core h
   pub aplic : AplicStands m.aplic past
@@ -35,11 +36,13 @@ act_taken (Some word) h line = acts_of h
 -- A machine answers a line as the model does, and holds what the line itself makes of it.
 pub record MachineTakes (old new : Machine) (line : Line) (given : Answer) : Type 0 where
   pub answers : (h : History) → MachineStands old h → given ≡ answer h line
-  pub takes : (h : History) → MachineStands old h → MachineHolds new (line_taken (refusal h line) h line) (act_taken (refusal h line) h line)
+  pub takes : (h : History) → MachineStands old h → MachineHolds new (line_taken (refusal h line) h
+      line) (act_taken (refusal h line) h line)
 
 -- All MSIs that wait are delivered.
 abbrev pub Delivers : Machine → Machine → Type 0
-Delivers old new = (h : History) (past : Past) → MachineHolds old h past → MachineHolds new (delivered (msis past) h) (settled past)
+Delivers old new = (h : History) (past : Past) → MachineHolds old h past → MachineHolds new
+    (delivered (msis past) h) (settled past)
 
 -- A machine answers a line as the model does, and stands for the history after it.
 pub record MachineServes (old new : Machine) (line : Line) (given : Answer) : Type 0 where

@@ -23,8 +23,9 @@ impl Engine {
         Engine { machine: None }
     }
 
-    /// Answers a line. Only an accepted `machine` line takes memory; where there is none, no machine stands and all is as
-    /// before. A refused line changes nothing. The line's CSR is one that lines of its form name.
+    /// Answers a line. Only an accepted `machine` line takes memory; where there is none, no
+    /// machine stands and all is as before. A refused line changes nothing. The line's CSR is one
+    /// that lines of its form name.
     pub fn line(&mut self, alloc: Global, line: &Line) -> Result<Answer, AllocError>
         requires { IsListed line.now }
         ensures serves { IfOk result (Serves self.old self.new line.now) }
@@ -51,8 +52,8 @@ impl Engine {
         Ok(Answer::Okay)
     }
 
-    /// Answers a text of a script, by what it reads as: `None` exactly for a skipped text, and `Bad` for one that is neither
-    /// skipped nor a line. Both change nothing.
+    /// Answers a text of a script, by what it reads as: `None` exactly for a skipped text, and
+    /// `Bad` for one that is neither skipped nor a line. Both change nothing.
     pub fn text(&mut self, alloc: Global, text: &[u8]) -> Result<Option<Answer>, AllocError>
         ensures serves { IfOk result (ServesText self.old self.new (reading text.now)) }
         ensures skipped { IfOk result (λ given. IsNone given ↔ IsTrue (is_skipped text.now)) }

@@ -1,4 +1,5 @@
-//! What the definitions of this crate mean, as laws: each function does nothing, and its clauses are what was proved.
+//! What the definitions of this crate mean, as laws: each function does nothing, and its clauses
+//! are what was proved.
 
 ghost use Rattle.std.specs.Prelude.{◌≡◌};
 

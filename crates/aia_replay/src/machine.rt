@@ -4,12 +4,10 @@ ghost use Rattle.std.specs.Result.{result_err};
 ghost use Rattle.aia_csr.specs.Access.{IsInTable};
 ghost use Rattle.aia_file.specs.InterruptFile.{is_width};
 ghost use Rattle.aia_model.specs.Grammar.{IsListed};
-ghost use Rattle.aia_model.specs.Event.{History};
 ghost use Rattle.aia_model.specs.Event.Event.{Accepted};
-ghost use Rattle.aia_model.specs.Act.{Past, domain_at};
+ghost use Rattle.aia_model.specs.Act.{domain_at};
 ghost use Rattle.aia_model.specs.Act.Act.{Made};
 ghost use Rattle.aia_model.specs.Refusal.{is_machine_size};
-ghost use Rattle.aia_model.specs.Answer.{msi_taken};
 ghost use Rattle.aia_hyp.specs.HostFiles.{IsHost, csr_line};
 ghost use Rattle.aia_hyp.specs.Stands.{answer_by};
 ghost use Rattle.aia_aplic.specs.Stands.{domain_name};
@@ -17,7 +15,7 @@ ghost use Rattle.aia_replay.specs.Stands.{MachineHolds, MachineTakes, MachineSer
 
 use aia_aplic::Aplic;
 use aia_hyp::Hyp;
-use aia_model::{Answer, Line, Msi, Refusal};
+use aia_model::{Answer, Line, Refusal};
 use aia_regs::address_map::{REGION, ROOT_DOMAIN};
 use aia_regs::limits::{GUEST_FILES, HARTS, IDENTITIES, SOURCES};
 use aia_regs::{Csr, Level, Op};
@@ -31,9 +29,9 @@ pub struct Machine {
 }
 
 impl Machine {
-    /// Makes the machine of these numbers: 1 to 4 harts, up to 7 guest files a hart, identities 1 to `n` (63, 127,
-    /// 255, 511, 1023 or 2047) and 1 to 1023 wired sources. `None` exactly where a number is none of these; `Err`
-    /// is want of memory.
+    /// Makes the machine of these numbers: 1 to 4 harts, up to 7 guest files a hart, identities 1
+    /// to `n` (63, 127, 255, 511, 1023 or 2047) and 1 to 1023 wired sources. `None` exactly where a
+    /// number is none of these; `Err` is want of memory.
     pub fn of_size(
         alloc: Global,
         harts: u64,
@@ -42,7 +40,8 @@ impl Machine {
         sources: u64,
     ) -> Result<Option<Machine>, AllocError>
         ensures size { IfOk result (λ made. is_some made ≡ is_machine_size harts guests n sources) }
-        ensures new { IfOk result (λ made. IfSome made (λ m. MachineHolds m (Accepted (Line.Machine harts guests n sources) ∷ []) (Made harts sources ∷ []))) }
+        ensures new { IfOk result (λ made. IfSome made (λ m. MachineHolds m (Accepted (Line.Machine
+            harts guests n sources) ∷ []) (Made harts sources ∷ []))) }
         ensures err { OnErr result (is_machine_size harts guests n sources ≡ true) }
     {
         if !is_machine_size(harts, guests, n, sources) {
@@ -53,8 +52,8 @@ impl Machine {
         Ok(Some(Machine { core, aplic }))
     }
 
-    /// Answers a line after the one that made this machine. All MSIs that wait then are sent and land before it
-    /// returns.
+    /// Answers a line after the one that made this machine. All MSIs that wait then are sent and
+    /// land before it returns.
     pub fn line(&mut self, line: &Line) -> Answer
         requires { IsListed line.now }
         ensures { MachineServes self.old self.new line.now result }
@@ -162,7 +161,8 @@ fn okay(given: Result<(), Refusal>) -> Answer
     }
 }
 
-/// The domain, 0 or 1, in whose control region the address lies, `None` in none; `Err` where it is no multiple of 4.
+/// The domain, 0 or 1, in whose control region the address lies, `None` in none; `Err` where it is
+/// no multiple of 4.
 fn register_domain(addr: u64) -> Result<Option<u32>, Refusal>
     ensures named { IfOk result (λ domain. option_map domain_name domain ≡ domain_at addr) }
     ensures few { IfOk result (λ domain. IfSome domain (λ d. d ≤ 1)) }

@@ -4,7 +4,7 @@ use Rattle.aia_csr.specs.declared.access.Access.TheVariants.{Select, File, Top}
 use Rattle.aia_file.specs.InterruptFile.{register_value}
 use Rattle.aia_file.specs.FileState.{shown}
 use Rattle.aia_imsic.specs.Files.{file_at}
-use Rattle.aia_hyp.specs.HostFiles.{name_of, host_spot}
+use Rattle.aia_hyp.specs.HostFiles.{name_of, spot_of}
 use Rattle.aia_hyp.proofs.AccessLemmas.{file_reached, select_reached, top_reached, illegal, accessed}
 use Rattle.aia_hyp.proofs.hyp.Hyp.access.Goals as goal
 
@@ -16,7 +16,7 @@ returns-in-Select c =
 pub returns-in-File : goal.returns-in-File
 returns-in-File c =
     let reached = file_reached c.args.level c.args.csr c.args.op _ c.in-File.reg c.requires.host c.requires.listed c.in-File.ensures.table in
-    let read = c.access_file.ensures.value ∙ ap (register_value (shown (file_at c.args.self.now.imsic (host_spot (name_of c.args.level c.args.hart))))) (sym reached.1) in
+    let read = c.access_file.ensures.value ∙ ap (register_value (shown (file_at c.args.self.now.imsic (spot_of (name_of c.args.level c.args.hart))))) (sym reached.1) in
     accessed c.args.self.now _ c.args.level c.requires.host c.args.hart c.args.csr csrs.Reg c.args.op (File c.in-File.reg) c.access_file.result c.requires.there c.in-File.ensures.table refl
     reached.0 read c.access_file.ensures.done
 
