@@ -2,7 +2,6 @@
 #![tactic(auto)]
 
 mod addresses;
-pub mod laws;
 mod registers;
 #[cfg(test)]
 mod tests;

@@ -1,7 +1,6 @@
 //! What the definitions of this crate mean, as laws: each function does nothing, and its clauses are what was proved.
 
-ghost use Rattle.std.specs.Prelude.{◌≡◌, ◌≢◌, ℕ, ◌+◌, ◌*◌, ◌^◌, ◌<◌, ◌≤◌, Bool, false, Option, Some, None};
-ghost use Rattle.aia_source.specs.declared.kept.TheConstants.{IE, DM, D, DELEGATED, DOMAINCFG_TOP};
+ghost use Rattle.std.specs.Prelude.{◌≡◌, ◌≢◌, ℕ, ◌+◌, ◌<◌, ◌≤◌, Bool, false, Option, Some, None};
 ghost use Rattle.aia_source.specs.Top.{Pair, NamesItself, IsLeast, least_pair};
 ghost use Rattle.aia_source.specs.Source.{Source, Deed, IsLawful, new_source, done};
 ghost use Rattle.aia_source.specs.Source.Deed.{Moved, Forwarded, Configured, Activated, Switched};
@@ -34,13 +33,4 @@ pub fn an_inactive_source_is_not_pending()
 pub fn the_least_pair_is_the_least()
     ensures found { (candidate : ℕ → Option Pair) (from count : ℕ) (p : Pair) → NamesItself candidate → least_pair candidate from count ≡ Some p → IsLeast candidate from count p }
     ensures none { (candidate : ℕ → Option Pair) (from count : ℕ) → NamesItself candidate → ◌≡◌ {A = Option Pair} (least_pair candidate from count) None → (s : ℕ) → from ≤ s → s < from + count → ◌≡◌ {A = Option Pair} (candidate s) None }
-{}
-
-/// The fields of `domaincfg` and `sourcecfg` that are named by their places are at these.
-///
-/// AIA 1.0, Advanced Platform-Level Interrupt Controller (APLIC), "Memory-mapped control region for
-/// an interrupt domain".
-pub fn named_fields_are_at_their_places()
-    ensures domaincfg { (IE ≡ 8) × (DM ≡ 2) × (DOMAINCFG_TOP ≡ 0x80 * 2 ^ 24) }
-    ensures sourcecfg { (D ≡ 10) × (DELEGATED ≡ 2 ^ 10) }
 {}
