@@ -35,8 +35,8 @@ pub record CoreStands (x : CoreState) (h : History) : Type 0 where
   pub harts : x.imsic.harts ≡ harts_of h
   pub guests : x.imsic.guests ≡ guests_of h
   pub host : (f : FileName) → IsThere x.imsic (spot_of f) → HostStands x h f
-  pub free : (hart file : ℕ) → IsThere x.imsic (spots.GuestFile hart file) → shown (file_at x.imsic
-      (spots.GuestFile hart file)) ≡ empty_file (identities_of h)
+  pub free : (hart file : ℕ) → IsThere x.imsic (spots.GuestFile hart file)
+      → shown (file_at x.imsic (spots.GuestFile hart file)) ≡ empty_file (identities_of h)
 
 -- ---- what calls promise
 
@@ -54,15 +54,15 @@ line_taken (Some word) h line = h
 -- itself is; where it is refused, the core is unchanged.
 pub record CoreTakes (old new : CoreState) (line : Line) (given : Answer) : Type 0 where
   pub answers : (h : History) → CoreStands old h → given ≡ answer h line
-  pub stands : (h : History) → CoreStands old h → CoreStands new (line_taken (refusal h line) h
-      line)
-  pub unchanged : (h : History) (word : Answer) → CoreStands old h → refusal h line ≡ Some word →
-      new ≡ old
+  pub stands : (h : History) → CoreStands old h
+      → CoreStands new (line_taken (refusal h line) h line)
+  pub unchanged : (h : History) (word : Answer) → CoreStands old h
+      → refusal h line ≡ Some word → new ≡ old
 
 -- It begins with the machine, whatever the number of wired sources, which are nothing to the core.
 abbrev pub CoreBegins : CoreState → ℕ → ℕ → ℕ → Type 0
-CoreBegins new harts guests n = (sources : ℕ) → CoreStands new (Accepted (Machine harts guests n
-    sources) ∷ [])
+CoreBegins new harts guests n =
+    (sources : ℕ) → CoreStands new (Accepted (Machine harts guests n sources) ∷ [])
 
 -- An MSI of the APLIC is delivered.
 abbrev pub CoreHears : CoreState → CoreState → Msi → Type 0
@@ -72,11 +72,8 @@ CoreHears old new msi = (h : History) → CoreStands old h → CoreStands new (m
 -- the hart.
 abbrev pub signals_of : History → ℕ → Result (Bool × Bool) Refusal
 signals_of h hart =
-    if nat_lt hart (harts_of h) then Ok (
-      signals (file_of h (MachineFile hart)),
-      signals (file_of h
-          (SupervisorFile hart)),
-    )
+    if nat_lt hart (harts_of h)
+    then Ok (signals (file_of h (MachineFile hart)), signals (file_of h (SupervisorFile hart)))
     else Err Range
 
 -- The word that refuses a load or a store by the core, to which an address of the APLIC is no

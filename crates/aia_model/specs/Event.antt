@@ -27,13 +27,8 @@ pub record Shape : Type 0 where
 -- The machine that stands after a history, None where none was made.
 abbrev pub machine_of : History → Option Shape
 machine_of [] = None
-machine_of (Accepted (Machine harts guests n sources) ∷ past) = Some (record {
-  harts = harts;
-  guests
-      = guests;
-  n = n;
-  sources = sources;
-})
+machine_of (Accepted (Machine harts guests n sources) ∷ past) =
+    Some (record { harts = harts; guests = guests; n = n; sources = sources })
 machine_of (event ∷ past) = machine_of past
 
 -- Whether one stands.

@@ -55,8 +55,8 @@ file_by deed (event ∷ past) = file_after (select_by deed past) (deed event) (f
 -- identity on top, a store to the page asks.
 abbrev pub pending_said : ℕ → InterruptFile → Deed → ℕ → Word
 pending_said select file (Accesses Reg op) i = pending_word file.n (register_of select) op i
-pending_said select file (Accesses Topei op) i = if is_writing op then claim_word (top_of file) i
-    else Nothing
+pending_said select file (Accesses Topei op) i =
+    if is_writing op then claim_word (top_of file) i else Nothing
 pending_said select file (Stores offset value) i = request_word file.n offset value i
 pending_said select file deed i = Nothing
 

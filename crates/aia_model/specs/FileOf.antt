@@ -45,10 +45,10 @@ store_deed f addr value = if is_at f addr then Stores (addr % 0x1000) value else
 abbrev pub deed_at : FileName → Event → Deed
 deed_at f (Accepted (Machine harts guests n sources)) = Makes n
 deed_at f (Accepted (Store addr value)) = store_deed f addr value
-deed_at f (Accepted (MachineCsr hart csr op)) = if is_file f (MachineFile hart) then Accesses csr op
-    else Rests
-deed_at f (Accepted (HostCsr hart csr op)) = if is_file f (SupervisorFile hart) then Accesses csr op
-    else Rests
+deed_at f (Accepted (MachineCsr hart csr op)) =
+    if is_file f (MachineFile hart) then Accesses csr op else Rests
+deed_at f (Accepted (HostCsr hart csr op)) =
+    if is_file f (SupervisorFile hart) then Accesses csr op else Rests
 deed_at f (Delivered msi) = store_deed f msi.address msi.value
 deed_at f event = Rests
 

@@ -89,8 +89,8 @@ instruction csr (ops.Clear v) = Keyword (codes "csrrc") ∷ csr ∷ Hex v ∷ []
 
 -- The fields of a line.
 abbrev pub fields_of : Line → List Field
-fields_of (Machine harts guests n sources) = Keyword (codes "machine") ∷ Decimal harts ∷ Decimal
-    guests ∷ Decimal n ∷ Decimal sources ∷ []
+fields_of (Machine harts guests n sources) =
+    Keyword (codes "machine") ∷ Decimal harts ∷ Decimal guests ∷ Decimal n ∷ Decimal sources ∷ []
 fields_of (Wire source level) = Keyword (codes "wire") ∷ Decimal source ∷ Bit level ∷ []
 fields_of (Load addr) = Keyword (codes "ld") ∷ Hex addr ∷ []
 fields_of (Store addr value) = Keyword (codes "st") ∷ Hex addr ∷ Hex32 value ∷ []

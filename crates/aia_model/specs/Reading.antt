@@ -62,7 +62,8 @@ whole words found = None
 
 abbrev pub at_end : Words → Line → Option Line
 at_end = whole
-    -- ---- what follows each keyword, and after `m H` and `h H` a CSR instruction
+
+-- ---- what follows each keyword, and after `m H` and `h H` a CSR instruction
 
 unfoldable pub machine_at : Words → Option Line
 machine_at words = do

@@ -37,8 +37,9 @@ has_one_already h line = false
 
 -- `range`: a machine's number is out of its limits, or the named source or hart isn't there.
 abbrev pub is_machine_size : ℕ → ℕ → ℕ → ℕ → Bool
-is_machine_size harts guests n sources = is_in_range 1 HARTS harts && is_in_range 0 GUEST_FILES
-    guests && is_width n && is_in_range 1 SOURCES sources
+is_machine_size harts guests n sources =
+    is_in_range 1 HARTS harts && is_in_range 0 GUEST_FILES guests && is_width n
+    && is_in_range 1 SOURCES sources
 
 abbrev pub is_out_of_range : History → Line → Bool
 is_out_of_range h (Machine harts guests n sources) = not (is_machine_size harts guests n sources)
@@ -54,17 +55,17 @@ raises_illegal accesses.Illegal = true
 raises_illegal access = false
 
 abbrev pub is_illegal : History → Line → Bool
-is_illegal h (MachineCsr hart csr op) = raises_illegal (access_of levels.Machine csr op (select_of h
-    (MachineFile hart)) false)
-is_illegal h (HostCsr hart csr op) = raises_illegal (access_of levels.Host csr op (select_of h
-    (SupervisorFile hart)) false)
+is_illegal h (MachineCsr hart csr op) =
+    raises_illegal (access_of levels.Machine csr op (select_of h (MachineFile hart)) false)
+is_illegal h (HostCsr hart csr op) =
+    raises_illegal (access_of levels.Host csr op (select_of h (SupervisorFile hart)) false)
 is_illegal h line = false
 
 -- `fault`: the address isn't a multiple of 4, or lies neither in a file's page nor in a domain's
 -- control region nor in memory; given whether there is such a region.
 abbrev pub faults_by : Bool → Spot → ℕ → Bool
-faults_by region spot addr = not (nat_eq (addr % 4) 0 && (is_page spot || region || is_in_memory
-    addr))
+faults_by region spot addr =
+    not (nat_eq (addr % 4) 0 && (is_page spot || region || is_in_memory addr))
 
 abbrev pub faults : Spot → ℕ → Bool
 faults spot addr = faults_by (is_some (domain_at addr)) spot addr
@@ -82,8 +83,8 @@ guards spot addr = is_guest_page spot || is_in_memory addr
 -- whether a domain's control region does.
 abbrev pub place_refusal_by : Bool → Spot → ℕ → Option Refusal
 place_refusal_by region spot addr =
-    if faults_by region spot addr then Some Fault else (if guards spot addr then Some Guarded else
-    None)
+    if faults_by region spot addr then Some Fault
+    else (if guards spot addr then Some Guarded else None)
 
 abbrev pub place_refusal : Spot → ℕ → Option Refusal
 place_refusal spot addr = place_refusal_by (is_some (domain_at addr)) spot addr
@@ -98,9 +99,9 @@ is_guarded h line = false
 -- The words with their cells, in the order in which they come.
 abbrev pub refusals : List (Answer × (History → Line → Bool))
 refusals =
-    (NoMachine, lacks_machine) ∷ (Again, has_one_already) ∷ (Refused Range, is_out_of_range) ∷
-    (Refused Illegal, is_illegal)
-    ∷ (Refused Fault, is_fault) ∷ (Refused Guarded, is_guarded) ∷ []
+    (NoMachine, lacks_machine) ∷ (Again, has_one_already) ∷ (Refused Range, is_out_of_range)
+    ∷ (Refused Illegal, is_illegal) ∷ (Refused Fault, is_fault) ∷ (Refused Guarded, is_guarded)
+    ∷ []
 
 -- The first word whose cell holds, None where none does.
 abbrev pub first_refusal : History → Line → List (Answer × (History → Line → Bool)) → Option Answer
@@ -113,6 +114,6 @@ refusal h line = first_refusal h line refusals
 
 -- Whether a line is a `machine` line that is accepted.
 abbrev pub makes_machine : History → Line → Bool
-makes_machine h (Machine harts guests n sources) = is_none (refusal h (Machine harts guests n
-    sources))
+makes_machine h (Machine harts guests n sources) =
+    is_none (refusal h (Machine harts guests n sources))
 makes_machine h line = false

@@ -62,8 +62,8 @@ msi_by a d register = record {
 }
 
 abbrev pub msi_of : Past → Sender → Msi
-msi_of past sender = msi_by (addresses_of past) (domain_of_sender sender) (register_of_sender past
-    sender)
+msi_of past sender =
+    msi_by (addresses_of past) (domain_of_sender sender) (register_of_sender past sender)
 
 -- The MSIs of all that waits, in order.
 abbrev pub msis : Past → List Msi

@@ -29,8 +29,8 @@ pub fn skips_what_is_skipped()
 
 /// The reading of a text is `Bad` exactly where the text is not skipped and spells no line.
 pub fn bad_is_the_rest()
-    ensures { (text : List ℕ) → (reading text ≡ Parsed.Bad) ↔ ((¬ IsTrue (is_skipped text)) × ((line
-        : Line) → ¬ Spells text line)) }
+    ensures { (text : List ℕ) → (reading text ≡ Parsed.Bad)
+        ↔ ((¬ IsTrue (is_skipped text)) × ((line : Line) → ¬ Spells text line)) }
 {}
 
 /// A text that is skipped spells no line.
@@ -46,9 +46,10 @@ pub fn spelled_is_listed()
 /// The printing spelling of a line spells it, and so is read as it: where a line of its form names
 /// its CSR, and each number is in the range of its field.
 pub fn printed_spells()
-    ensures spells { (line : Line) → IsListed line → IsPrintable line → Spells (line_text line) line }
-    ensures reading { (line : Line) → IsListed line → IsPrintable line → reading (line_text line) ≡
-        Parsed.Line line }
+    ensures spells { (line : Line) → IsListed line → IsPrintable line
+        → Spells (line_text line) line }
+    ensures reading { (line : Line) → IsListed line → IsPrintable line
+        → reading (line_text line) ≡ Parsed.Line line }
 {}
 
 /// The printing spelling of a line whose numbers are in the ranges of their fields has at most 128
@@ -60,12 +61,14 @@ pub fn printed_is_short()
 /// The newest word decides: after a deed other than its making, an identity is pending, or enabled,
 /// exactly where the deed asks for it, or says nothing of it and it was so before.
 pub fn newest_word_decides()
-    ensures pending { (select : ℕ) (deed : Deed) (file : InterruptFile) (i : ℕ) → (¬ IsMaking deed)
-        → (file_after select deed file).pending i ≡ settle (pending_said select file deed i)
-        (file.pending i) }
-    ensures enabled { (select : ℕ) (deed : Deed) (file : InterruptFile) (i : ℕ) → (¬ IsMaking deed)
-        → (file_after select deed file).enabled i ≡ settle (enabled_said select file deed i)
-        (file.enabled i) }
+    ensures pending { (select : ℕ) (deed : Deed) (file : InterruptFile) (i : ℕ)
+        → (¬ IsMaking deed)
+        → (file_after select deed file).pending i
+        ≡ settle (pending_said select file deed i) (file.pending i) }
+    ensures enabled { (select : ℕ) (deed : Deed) (file : InterruptFile) (i : ℕ)
+        → (¬ IsMaking deed)
+        → (file_after select deed file).enabled i
+        ≡ settle (enabled_said select file deed i) (file.enabled i) }
 {}
 
 /// A line has at most 128 bytes.

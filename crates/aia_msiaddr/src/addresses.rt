@@ -4,7 +4,8 @@ ghost use Rattle.aia_msiaddr.specs.Addresses.{base_page, group_of, member_of, ha
 
 use aia_regs::bits;
 
-/// The address of an MSI to a hart at machine level, by `mmsiaddrcfg` (`cfg`) and `mmsiaddrcfgh` (`cfgh`); the hart's index is below 16,384.
+/// Gives the address of an MSI to a hart at machine level, by `mmsiaddrcfg` (`cfg`) and
+/// `mmsiaddrcfgh` (`cfgh`); the hart's index is below 16,384.
 ///
 /// AIA 1.0, Advanced Platform-Level Interrupt Controller (APLIC), "Interrupt forwarding by MSIs".
 pub fn machine_address(cfg: u32, cfgh: u32, hart: u32) -> u64
@@ -14,8 +15,9 @@ pub fn machine_address(cfg: u32, cfgh: u32, hart: u32) -> u64
     hart_page(cfgh, cfg, cfgh, hart) << 12
 }
 
-/// The address of an MSI to a hart at supervisor level, or to a guest of it, by `mmsiaddrcfgh` (`mcfgh`), `smsiaddrcfg` (`cfg`) and `smsiaddrcfgh` (`cfgh`);
-/// the hart's index is below 16,384, the guest's below 64, and 0 for the hart itself.
+/// Gives the address of an MSI to a hart at supervisor level, or to a guest of it, by
+/// `mmsiaddrcfgh` (`mcfgh`), `smsiaddrcfg` (`cfg`) and `smsiaddrcfgh` (`cfgh`); the hart's index is
+/// below 16,384, the guest's below 64, and 0 for the hart itself.
 ///
 /// AIA 1.0, Advanced Platform-Level Interrupt Controller (APLIC), "Interrupt forwarding by MSIs".
 pub fn supervisor_address(mcfgh: u32, cfg: u32, cfgh: u32, hart: u32, guest: u32) -> u64

@@ -33,7 +33,12 @@ impl Model for Addresses {
 
     ghost Value = { AddressRegisters };
 
-    ghost view = { λ a. record { mmsiaddrcfg = a.mmsiaddrcfg; mmsiaddrcfgh = a.mmsiaddrcfgh; smsiaddrcfg = a.smsiaddrcfg; smsiaddrcfgh = a.smsiaddrcfgh } };
+    ghost view = { λ a. record {
+      mmsiaddrcfg = a.mmsiaddrcfg;
+      mmsiaddrcfgh = a.mmsiaddrcfgh;
+      smsiaddrcfg = a.smsiaddrcfg;
+      smsiaddrcfgh = a.smsiaddrcfgh;
+    } };
 }
 
 impl Addresses {
@@ -97,8 +102,8 @@ impl Addresses {
     pub fn supervisor_address(&self, hart: u32, guest: u32) -> u64
         requires hart { hart < 2 ^ 14 }
         requires guest { guest < 64 }
-        ensures { result ≡
-            supervisor_address self.now.mmsiaddrcfgh self.now.smsiaddrcfg self.now.smsiaddrcfgh hart guest }
+        ensures { result ≡ supervisor_address self.now.mmsiaddrcfgh self.now.smsiaddrcfg
+            self.now.smsiaddrcfgh hart guest }
     {
         supervisor_address(
             self.mmsiaddrcfgh,

@@ -36,13 +36,14 @@ act_taken (Some word) h line = acts_of h
 -- A machine answers a line as the model does, and holds what the line itself makes of it.
 pub record MachineTakes (old new : Machine) (line : Line) (given : Answer) : Type 0 where
   pub answers : (h : History) → MachineStands old h → given ≡ answer h line
-  pub takes : (h : History) → MachineStands old h → MachineHolds new (line_taken (refusal h line) h
-      line) (act_taken (refusal h line) h line)
+  pub takes : (h : History) → MachineStands old h
+      → MachineHolds new (line_taken (refusal h line) h line) (act_taken (refusal h line) h line)
 
 -- All MSIs that wait are delivered.
 abbrev pub Delivers : Machine → Machine → Type 0
-Delivers old new = (h : History) (past : Past) → MachineHolds old h past → MachineHolds new
-    (delivered (msis past) h) (settled past)
+Delivers old new =
+    (h : History) (past : Past) → MachineHolds old h past
+    → MachineHolds new (delivered (msis past) h) (settled past)
 
 -- A machine answers a line as the model does, and stands for the history after it.
 pub record MachineServes (old new : Machine) (line : Line) (given : Answer) : Type 0 where

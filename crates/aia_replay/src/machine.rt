@@ -40,8 +40,8 @@ impl Machine {
         sources: u64,
     ) -> Result<Option<Machine>, AllocError>
         ensures size { IfOk result (λ made. is_some made ≡ is_machine_size harts guests n sources) }
-        ensures new { IfOk result (λ made. IfSome made (λ m. MachineHolds m (Accepted (Line.Machine
-            harts guests n sources) ∷ []) (Made harts sources ∷ []))) }
+        ensures new { IfOk result (λ made. IfSome made (λ m. MachineHolds m
+            (Accepted (Line.Machine harts guests n sources) ∷ []) (Made harts sources ∷ []))) }
         ensures err { OnErr result (is_machine_size harts guests n sources ≡ true) }
     {
         if !is_machine_size(harts, guests, n, sources) {
@@ -166,7 +166,8 @@ fn okay(given: Result<(), Refusal>) -> Answer
 fn register_domain(addr: u64) -> Result<Option<u32>, Refusal>
     ensures named { IfOk result (λ domain. option_map domain_name domain ≡ domain_at addr) }
     ensures few { IfOk result (λ domain. IfSome domain (λ d. d ≤ 1)) }
-    ensures refused { result_err result ≡ (if nat_eq (addr % 4) 0 then None else Some Refusal.Fault) }
+    ensures refused { result_err result
+        ≡ (if nat_eq (addr % 4) 0 then None else Some Refusal.Fault) }
 {
     if addr % 4 != 0 {
         return Err(Refusal::Fault);

@@ -6,7 +6,8 @@ ghost use Rattle.aia_source.specs.Source.{is_level, rectified};
 /// AIA 1.0, Advanced Platform-Level Interrupt Controller (APLIC).
 #[derive(Clone, Copy, Debug, PartialEq, Eq)]
 pub enum Mode {
-    /// The source is not active in the domain: it is never pending, and its wire counts for nothing.
+    /// The source is not active in the domain: it is never pending, and its wire counts for
+    /// nothing.
     Inactive,
     /// The wire counts for nothing; only registers make the source pending.
     Detached,
