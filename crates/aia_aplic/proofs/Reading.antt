@@ -104,15 +104,16 @@ word-stands look d past name k stands = ap (λ f. word_of f (32 * k) 32) (same_s
 abbrev pub IsLegal : ℕ → Type 0
 IsLegal c = mode_number (mode_of c) ≡ (cond (nat_eq c DELEGATED) 0 c)
 
-legal_low : (sm : ℕ) → sm < 8 → IsLegal (legal_mode sm)
-legal_low zero h = refl
-legal_low (suc zero) h = refl
-legal_low (suc (suc zero)) h = refl
-legal_low (suc (suc (suc zero))) h = refl
-legal_low (suc (suc (suc (suc zero)))) h = refl
-legal_low (suc (suc (suc (suc (suc zero))))) h = refl
-legal_low (suc (suc (suc (suc (suc (suc zero)))))) h = refl
-legal_low (suc (suc (suc (suc (suc (suc (suc zero))))))) h = refl
+legal_low : (sm : ℕ) → sm < 8
+    → (nat_eq (legal_mode sm) DELEGATED ≡ false) × (mode_number (mode_of (legal_mode sm)) ≡ legal_mode sm)
+legal_low zero h = (refl, refl)
+legal_low (suc zero) h = (refl, refl)
+legal_low (suc (suc zero)) h = (refl, refl)
+legal_low (suc (suc (suc zero))) h = (refl, refl)
+legal_low (suc (suc (suc (suc zero)))) h = (refl, refl)
+legal_low (suc (suc (suc (suc (suc zero))))) h = (refl, refl)
+legal_low (suc (suc (suc (suc (suc (suc zero)))))) h = (refl, refl)
+legal_low (suc (suc (suc (suc (suc (suc (suc zero))))))) h = (refl, refl)
 legal_low (suc (suc (suc (suc (suc (suc (suc (suc sm)))))))) h = absurd (omega arith)
 
 legal_root : (v : ℕ) → IsLegal (root_sourcecfg v)
@@ -121,25 +122,14 @@ legal_root v = at (is_one v 10) (nat_eq (field v 9 0) 0)
     at : (a b : Bool) → IsLegal (cond a (cond b DELEGATED 0) (legal_mode (field v 2 0)))
     at true true = refl
     at true false = refl
-    at false b = legal_low (field v 2 0) (omega arith)
+    at false b = let low = legal_low (field v 2 0) (omega arith) in low.1 ∙ sym (cond-false _ _ _ low.0)
 
 legal_child : (v : ℕ) → (mode_number (mode_of (child_sourcecfg v)) ≡ child_sourcecfg v)
 legal_child v = at (is_one v 10)
   where
-    low : (sm : ℕ) → sm < 8 → mode_number (mode_of (legal_mode sm)) ≡ legal_mode sm
-    low zero h = refl
-    low (suc zero) h = refl
-    low (suc (suc zero)) h = refl
-    low (suc (suc (suc zero))) h = refl
-    low (suc (suc (suc (suc zero)))) h = refl
-    low (suc (suc (suc (suc (suc zero))))) h = refl
-    low (suc (suc (suc (suc (suc (suc zero)))))) h = refl
-    low (suc (suc (suc (suc (suc (suc (suc zero))))))) h = refl
-    low (suc (suc (suc (suc (suc (suc (suc (suc sm)))))))) h = absurd (omega arith)
-
     at : (a : Bool) → mode_number (mode_of (cond a 0 (legal_mode (field v 2 0)))) ≡ cond a 0 (legal_mode (field v 2 0))
     at true = refl
-    at false = low (field v 2 0) (omega arith)
+    at false = (legal_low (field v 2 0) (omega arith)).1
 
 root-legal : (past : Past) (s : ℕ) → IsLegal (root_sourcecfg_of past s)
 unfolding newest

@@ -44,22 +44,15 @@ same_or_other f g = elim (cases_Bool (is_file f g)) [
 
 -- ---- the newest word
 
-pub newest_pending : (select : ℕ) (deed : Deed) (file : InterruptFile) (i : ℕ) → (¬ IsMaking deed) → (file_after select deed file).pending i ≡ settle (pending_said select file deed i) (file.pending i)
-newest_pending select (Makes n) file i other = absurd (other tt)
-newest_pending select (Accesses Topei ops.Read) file i other = refl
-newest_pending select (Accesses Topei (ops.Write v)) file i other = refl
-newest_pending select (Accesses Topei (ops.Set v)) file i other = refl
-newest_pending select (Accesses Topei (ops.Clear v)) file i other = refl
-newest_pending select (Accesses csr op) file i other = refl
-newest_pending select (Stores offset value) file i other = refl
-newest_pending select Rests file i other = refl
-
-pub newest_enabled : (select : ℕ) (deed : Deed) (file : InterruptFile) (i : ℕ) → (¬ IsMaking deed) → (file_after select deed file).enabled i ≡ settle (enabled_said select file deed i) (file.enabled i)
-newest_enabled select (Makes n) file i other = absurd (other tt)
-newest_enabled select (Accesses Topei ops.Read) file i other = refl
-newest_enabled select (Accesses Topei (ops.Write v)) file i other = refl
-newest_enabled select (Accesses Topei (ops.Set v)) file i other = refl
-newest_enabled select (Accesses Topei (ops.Clear v)) file i other = refl
-newest_enabled select (Accesses csr op) file i other = refl
-newest_enabled select (Stores offset value) file i other = refl
-newest_enabled select Rests file i other = refl
+-- after a deed other than its making, an identity is pending, and enabled, as the deed says of it
+pub newest_word : (select : ℕ) (deed : Deed) (file : InterruptFile) (i : ℕ) → (¬ IsMaking deed)
+    → ((file_after select deed file).pending i ≡ settle (pending_said select file deed i) (file.pending i))
+    × ((file_after select deed file).enabled i ≡ settle (enabled_said select file deed i) (file.enabled i))
+newest_word select (Makes n) file i other = absurd (other tt)
+newest_word select (Accesses Topei ops.Read) file i other = (refl, refl)
+newest_word select (Accesses Topei (ops.Write v)) file i other = (refl, refl)
+newest_word select (Accesses Topei (ops.Set v)) file i other = (refl, refl)
+newest_word select (Accesses Topei (ops.Clear v)) file i other = (refl, refl)
+newest_word select (Accesses csr op) file i other = (refl, refl)
+newest_word select (Stores offset value) file i other = (refl, refl)
+newest_word select Rests file i other = (refl, refl)
