@@ -10,7 +10,8 @@ use Rattle.aia_source.specs.Top.{Pair, topi_value}
 use Rattle.aia_source.specs.Source.Deed.{Forwarded}
 use Rattle.aia_domain.specs.Held.{EachSource, granted_at, changed_at, wired, with_deed}
 use Rattle.aia_domain.specs.Domain.{DomainState, with_sources, source_after, domain_after, is_ready}
-use Rattle.aia_direct.specs.Control.{Control, new_control, control_read, control_claimed, claimed_top, top_shown, signals, one_if}
+use Rattle.aia_regs.specs.Fields.{bit_number}
+use Rattle.aia_direct.specs.Control.{Control, new_control, control_read, control_claimed, claimed_top, top_shown, signals}
 use Rattle.aia_model.specs.declared.domain_name.DomainName.{DomainName}
 use Rattle.aia_model.specs.Act.{Act, Past, is_domain, newest, when}
 use Rattle.aia_model.specs.declared.domain_name.DomainName.TheVariants.{Root, Child}
@@ -210,7 +211,7 @@ force_bit d hart past (Loaded e reg) x told = none_told x told
 force_bit d hart past a x told = none_told x told
 
 -- a bit that is kept of a number of one bit
-shown_bit : (n : ℕ) → n < 2 → one_if (nat_eq n 1) ≡ n
+shown_bit : (n : ℕ) → n < 2 → bit_number (nat_eq n 1) ≡ n
 shown_bit zero small = refl
 shown_bit (suc zero) small = refl
 shown_bit (suc (suc m)) small = absurd (omega arith)
@@ -219,11 +220,11 @@ shown_bit (suc (suc m)) small = absurd (omega arith)
 pub control_there : (reg : DomainReg) (hart : ℕ) (a : SideState) (past : Past) (name : DomainName) → hart_of_register reg ≡ Some hart → hart < length a.controls → SideStands a past name → control_read (control_at a.controls hart) reg ≡ own_read past name reg
 control_there (IDelivery x) hart a past name is low stands =
     let same : x ≡ hart = cc in
-    ap (λ (c : Control). one_if c.delivery) (control_is a past name hart low stands) ∙ shown_bit (delivery_of past name hart) (newest_below (delivery_told name hart) 2 (omega arith) (delivery_bit name hart) past)
+    ap (λ (c : Control). bit_number c.delivery) (control_is a past name hart low stands) ∙ shown_bit (delivery_of past name hart) (newest_below (delivery_told name hart) 2 (omega arith) (delivery_bit name hart) past)
     ∙ sym (cond-true _ _ _ (hart_there a past name hart low stands)) ∙ ap (λ h. only (nat_lt h (harts_in past)) (delivery_of past name h)) (sym same)
 control_there (IForce x) hart a past name is low stands =
     let same : x ≡ hart = cc in
-    ap (λ (c : Control). one_if c.force) (control_is a past name hart low stands) ∙ shown_bit (force_of past name hart) (newest_below (force_told name hart) 2 (omega arith) (force_bit name hart) past)
+    ap (λ (c : Control). bit_number c.force) (control_is a past name hart low stands) ∙ shown_bit (force_of past name hart) (newest_below (force_told name hart) 2 (omega arith) (force_bit name hart) past)
     ∙ sym (cond-true _ _ _ (hart_there a past name hart low stands)) ∙ ap (λ h. only (nat_lt h (harts_in past)) (force_of past name h)) (sym same)
 control_there (IThreshold x) hart a past name is low stands =
     let same : x ≡ hart = cc in

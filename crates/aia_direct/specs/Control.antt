@@ -3,7 +3,7 @@ use Rattle.std.specs.Prelude.{ℕ, ◌-◌, ◌^◌, ◌<◌, ◌≤◌, Bool, f
 use Rattle.aia_regs.specs.declared.domain_registers.DomainReg.{DomainReg}
 use Rattle.aia_regs.specs.declared.domain_registers.DomainReg.TheVariants.{IDelivery, IForce, IThreshold}
 use Rattle.aia_regs.specs.declared.limits.TheConstants.{SOURCES}
-use Rattle.aia_regs.specs.Fields.{field}
+use Rattle.aia_regs.specs.Fields.{field, bit_number}
 use Rattle.aia_regs.specs.Operations.{is_one}
 use Rattle.aia_source.specs.Source.Deed.{Claimed}
 use Rattle.aia_source.specs.Top.{Pair, least_pair, priority_of, hart_of, pair_if, is_top}
@@ -22,15 +22,11 @@ pub record Control : Type 0 where
 abbrev pub new_control : Control
 new_control = record { delivery = false; force = false; threshold = 0 }
 
--- A number with a one in its lowest bit, or with none.
-abbrev pub one_if : Bool → ℕ
-one_if is = if is then 1 else 0
-
 -- What its registers read, and what a write of each keeps.
 -- AIA 1.0, Advanced Platform-Level Interrupt Controller (APLIC), "Interrupt delivery directly by the APLIC". Profile: a priority has 8 bits.
 abbrev pub control_read : Control → DomainReg → ℕ
-control_read c (IDelivery hart) = one_if c.delivery
-control_read c (IForce hart) = one_if c.force
+control_read c (IDelivery hart) = bit_number c.delivery
+control_read c (IForce hart) = bit_number c.force
 control_read c (IThreshold hart) = c.threshold
 control_read c reg = 0
 

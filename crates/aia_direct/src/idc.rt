@@ -4,7 +4,7 @@ ghost use Rattle.aia_source.specs.Top.{lesser, topi_value};
 ghost use Rattle.aia_word.specs.Top.{passes};
 ghost use Rattle.aia_domain.specs.Held.{EachSource};
 ghost use Rattle.aia_domain.specs.Domain.{with_sources};
-ghost use Rattle.aia_direct.specs.Control.{new_control, one_if, control_read, control_written, candidate_at, top_shown, IsSmall, claimed_top, control_claimed, signals};
+ghost use Rattle.aia_direct.specs.Control.{new_control, control_read, control_written, candidate_at, top_shown, IsSmall, claimed_top, control_claimed, signals};
 
 use aia_domain::Domain;
 use aia_regs::{DomainReg, bit, bits, put_bits};

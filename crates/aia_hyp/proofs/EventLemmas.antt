@@ -4,6 +4,7 @@ use Rattle.std.proofs.Common.{◌≡◌, ◌≢◌, ℕ, zero, suc, ◌<◌, Boo
 use Rattle.std.specs.Prelude.{Result, Ok, Err}
 use Rattle.std.specs.Option.{option_map_or}
 use Rattle.std.proofs.lemmas.Bool.{cond-true, lt-ltb}
+use Rattle.std.proofs.lemmas.Option.{none-some}
 use Rattle.aia_file.specs.InterruptFile.{InterruptFile, SameFile, empty_file, signals}
 use Rattle.aia_file.specs.FileState.{FileState, shown}
 use Rattle.aia_file.proofs.FileLemmas.{same_file}
@@ -141,10 +142,7 @@ by_refusal x y line given by = record {
 
 pub accepted : (x y : CoreState) (line : Line) (given : Answer)
     → ((h : History) → CoreStands x h → (refusal h line ≡ None) × (given ≡ accepted_answer h line) × Changes x y h (Accepted line)) → CoreTakes x y line given
-accepted x y line given by = by_refusal x y line given (λ h stands. let r = by h stands in (None, r.0, r.1, one_more x y h (Accepted line) r.2 stands, λ word e. absurd (no_word word e)))
-  where
-    no_word : (word : Answer) → ◌≡◌ {A = Option Answer} None (Some word) → ⊥
-    no_word word e = cc
+accepted x y line given by = by_refusal x y line given (λ h stands. let r = by h stands in (None, r.0, r.1, one_more x y h (Accepted line) r.2 stands, λ word e. absurd (none-some word e)))
 
 pub refused : (x : CoreState) (line : Line) (word : Answer) → ((h : History) → CoreStands x h → refusal h line ≡ Some word) → CoreTakes x x line word
 refused x line word is = by_refusal x x line word (λ h stands. (Some word, is h stands, refl, stands, λ w e. refl))

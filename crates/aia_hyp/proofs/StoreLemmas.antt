@@ -25,7 +25,7 @@ use Rattle.aia_hyp.specs.HostFiles.{HasDone, spot_of, is_host_spot}
 use Rattle.aia_hyp.specs.Stands.{CoreStands, CoreTakes, CoreHears, core_refusal}
 use Rattle.aia_hyp.proofs.NameLemmas.{name_at, at_name, other_spot, is_hosts}
 use Rattle.aia_hyp.proofs.EventLemmas.{Changes, one_more, nothing_done, one_done, file_done, accepted, refused}
-use Rattle.aia_hyp.proofs.PageLemmas.{name_at_page, elsewhere, outside_regions, no_file_there}
+use Rattle.aia_hyp.proofs.PageLemmas.{name_at_page, elsewhere, outside_regions}
 
 -- ---- a store at the file in whose page an address lies
 
@@ -91,9 +91,6 @@ msi_dropped x msi spot few at none = λ h stands. one_more x x h (Delivered msi)
     other f e = let bad : true ≡ false = sym (is_hosts f) ∙ ap is_host_spot e ∙ none in absurd (cc)
 
 -- ---- lines of the APLIC, which are nothing to the core
-
-pub store_rests : (x : CoreState) (h : History) (addr value : ℕ) → domain_at addr ≢ None → CoreStands x h → CoreStands x (Accepted (Store addr value) ∷ h)
-store_rests x h addr value there stands = one_more x x h (Accepted (Store addr value)) (nothing_done x h (Accepted (Store addr value)) refl (λ f inside. cond-false _ _ _ (no_file_there addr f there))) stands
 
 -- a line that reaches no file of the host and makes no machine
 pub line_rests : (x : CoreState) (h : History) (event : Event) → machine_of (event ∷ h) ≡ machine_of h → ((f : FileName) → deed_at f event ≡ Rests) → CoreStands x h → CoreStands x (event ∷ h)

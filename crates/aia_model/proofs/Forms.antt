@@ -10,10 +10,11 @@ use Rattle.aia_regs.specs.declared.access.Level.{Level}
 use Rattle.aia_regs.specs.declared.access.Level.TheVariants as levels
 use Rattle.aia_regs.specs.declared.access.Op.{Op}
 use Rattle.aia_regs.specs.declared.access.Op.TheVariants as ops
+use Rattle.aia_regs.specs.Fields.{bit_number}
 use Rattle.aia_model.specs.declared.line.Line.{Line}
 use Rattle.aia_model.specs.declared.line.Line.TheVariants.{Machine, Wire, Load, Store, MachineCsr, HostCsr, Pins}
 use Rattle.aia_model.specs.Text.{number_of, below, ◌>>=◌}
-use Rattle.aia_model.specs.Grammar.{Field, bit_number, Fits, AllFit, csr_names, is_csr, field_among, csr_field, instruction, fields_of}
+use Rattle.aia_model.specs.Grammar.{Field, Fits, AllFit, csr_names, is_csr, field_among, csr_field, instruction, fields_of}
 use Rattle.aia_model.specs.Grammar.Field.{Keyword, Decimal, Hex, Hex32, Bit, Unspelled}
 use Rattle.aia_model.specs.Reading.{Words, row_of, number_at, n32_at, bit_of, bit_at, named, csr_at, read_at, write_at, mnemonics, instruction_at, forms, machine_at, wire_at, store_at, load_at, machine_csr_at, host_csr_at, pins_at, line_at}
 use Rattle.aia_model.proofs.Readers.{chosen, ReadsWord, by_word, by_number, ReadsAll, the_end, ◌and_then◌, made_of, row_found, IsRow, reads_row, AreRows, spelled_by_rows}
@@ -38,7 +39,7 @@ unfolding n32_at
 small = by_number (below (2 ^ 32)) Hex32 (λ w n p. ap (λ o. o >>= below (2 ^ 32)) p.0 ∙ cond-true _ _ _ (lt-ltb n (2 ^ 32) p.1)) is_below
   where
     is_below : (w : List ℕ) (n s : ℕ) → number_of w ≡ Some n → below (2 ^ 32) n ≡ Some s → Fits w (Hex32 s)
-    is_below w n s e b = elim (chosen (nat_lt n (2 ^ 32)) (Some n) None s b) [
+    is_below w n s e b = elim (chosen (nat_lt n (2 ^ 32)) (Some n) None (Some s) b) [
       | inl h ↦ let q : n ≡ s = cc in (e ∙ ap Some q, subst (λ n. n < 2 ^ 32) q (ltb-true n (2 ^ 32) h.0))
       | inr h ↦ let bad : ◌≡◌ {A = Option ℕ} None (Some s) = h.1 in absurd (cc)
     ]
@@ -52,9 +53,9 @@ bit = by_number bit_of Bit of_level is_bit
     of_level w true e = ap (λ o. o >>= bit_of) e
 
     is_bit : (w : List ℕ) (n : ℕ) (level : Bool) → number_of w ≡ Some n → bit_of n ≡ Some level → number_of w ≡ Some (bit_number level)
-    is_bit w n level e b = elim (chosen (nat_eq n 0) (Some false) _ level b) [
+    is_bit w n level e b = elim (chosen (nat_eq n 0) (Some false) _ (Some level) b) [
       | inl h ↦ let q : false ≡ level = cc in e ∙ ap Some (eqb-true n 0 h.0 ∙ ap bit_number q)
-      | inr h ↦ elim (chosen (nat_eq n 1) (Some true) None level h.1) [
+      | inr h ↦ elim (chosen (nat_eq n 1) (Some true) None (Some level) h.1) [
         | inl i ↦ let q : true ≡ level = cc in e ∙ ap Some (eqb-true n 1 i.0 ∙ ap bit_number q)
         | inr i ↦ let bad : ◌≡◌ {A = Option Bool} None (Some level) = i.1 in absurd (cc)
       ]

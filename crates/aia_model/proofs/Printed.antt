@@ -9,16 +9,17 @@ use Rattle.aia_regs.specs.declared.access.Level.{Level}
 use Rattle.aia_regs.specs.declared.access.Level.TheVariants as levels
 use Rattle.aia_regs.specs.declared.access.Op.{Op}
 use Rattle.aia_regs.specs.declared.access.Op.TheVariants as ops
+use Rattle.aia_regs.specs.Fields.{bit_number}
 use Rattle.aia_model.specs.declared.limits.TheConstants.{LINE_BYTES}
 use Rattle.aia_model.specs.declared.line.Line.{Line}
 use Rattle.aia_model.specs.declared.line.Line.TheVariants.{MachineCsr, HostCsr}
 use Rattle.aia_model.specs.declared.parsed.Parsed.TheVariants as parsed
 use Rattle.aia_model.specs.Text.{words_of}
-use Rattle.aia_model.specs.Grammar.{Spells, Field, bit_number, Fits, AllFit, IsListed, IsNamed, csr_names, csr_field, fields_of, instruction}
+use Rattle.aia_model.specs.Grammar.{Spells, Field, Fits, AllFit, IsListed, IsNamed, csr_names, csr_field, fields_of, instruction}
 use Rattle.aia_model.specs.Grammar.Field.{Keyword, Decimal, Hex, Hex32, Bit, Unspelled}
-use Rattle.aia_model.specs.Printing.{decimal_text, hex_text, field_text, line_text, IsInRange, IsPrintable}
+use Rattle.aia_model.specs.Printing.{number_text, decimal_text, hex_text, field_text, line_text, IsInRange, IsPrintable}
 use Rattle.aia_model.specs.Reading.{reading}
-use Rattle.aia_model.proofs.PrintedNumbers.{decimal_again, hex_number_again, NoSpace, shown, shown_no_space, length-shown}
+use Rattle.aia_model.proofs.PrintedNumbers.{decimal_again, hex_number_again, NoSpace, no_space_in_number, length-number_text}
 use Rattle.aia_model.proofs.Forms.{◌and_row◌, among, IsName, names}
 use Rattle.aia_model.proofs.Spelled.{begin_with_keyword, keyword_first, reading_only}
 
@@ -30,20 +31,20 @@ pub record IsWord (word : List ℕ) (field : Field) : Type 0 where
   pub no_space : NoSpace word
 
 decimal_word : (n : ℕ) → n < 2 ^ 64 → IsWord (decimal_text n) (Decimal n)
-decimal_word n low = record { fits = decimal_again n low; no_space = shown_no_space 10 n }
+decimal_word n low = record { fits = decimal_again n low; no_space = no_space_in_number 10 n }
 
 hex_word : (n : ℕ) → n < 2 ^ 64 → IsWord (hex_text n) (Hex n)
-hex_word n low = record { fits = hex_number_again n low; no_space = (refl, (refl, shown_no_space 16 n)) }
+hex_word n low = record { fits = hex_number_again n low; no_space = (refl, (refl, no_space_in_number 16 n)) }
 
 hex32_word : (n : ℕ) → n < 2 ^ 32 → IsWord (hex_text n) (Hex32 n)
-hex32_word n low = record { fits = (hex_number_again n (omega arith), low); no_space = (refl, (refl, shown_no_space 16 n)) }
+hex32_word n low = record { fits = (hex_number_again n (omega arith), low); no_space = (refl, (refl, no_space_in_number 16 n)) }
 
 bit_low : (level : Bool) → bit_number level < 2
 bit_low false = omega arith
 bit_low true = omega arith
 
 bit_word : (level : Bool) → IsWord (decimal_text (bit_number level)) (Bit level)
-bit_word level = let low : bit_number level < 2 = bit_low level in record { fits = decimal_again (bit_number level) (omega arith); no_space = shown_no_space 10 (bit_number level) }
+bit_word level = let low : bit_number level < 2 = bit_low level in record { fits = decimal_again (bit_number level) (omega arith); no_space = no_space_in_number 10 (bit_number level) }
 
 -- ---- words in a row, cut again
 
@@ -101,10 +102,10 @@ longest Unspelled = 0
 
 field_length : (field : Field) → IsInRange field → length (field_text field) ≤ longest field
 field_length (Keyword word) range = omega arith
-field_length (Decimal n) range = length-shown 10 20 n (omega arith) (omega arith) (omega arith)
-field_length (Hex n) range = let low : length (shown 16 n) ≤ 16 = length-shown 16 16 n (omega arith) (omega arith) (omega arith) in omega arith
-field_length (Hex32 n) range = let low : length (shown 16 n) ≤ 8 = length-shown 16 8 n (omega arith) (omega arith) (omega arith) in omega arith
-field_length (Bit level) range = let low : bit_number level < 2 = bit_low level in length-shown 10 1 (bit_number level) (omega arith) (omega arith) (omega arith)
+field_length (Decimal n) range = length-number_text 10 20 n (omega arith) (omega arith) (omega arith)
+field_length (Hex n) range = let low : length (number_text 16 n) ≤ 16 = length-number_text 16 16 n (omega arith) (omega arith) (omega arith) in omega arith
+field_length (Hex32 n) range = let low : length (number_text 16 n) ≤ 8 = length-number_text 16 8 n (omega arith) (omega arith) (omega arith) in omega arith
+field_length (Bit level) range = let low : bit_number level < 2 = bit_low level in length-number_text 10 1 (bit_number level) (omega arith) (omega arith) (omega arith)
 field_length Unspelled range = omega arith
 
 -- ---- the fields of a line are short

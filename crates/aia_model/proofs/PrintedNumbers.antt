@@ -10,7 +10,7 @@ use Rattle.std.proofs.lemmas.Bool.Decides.{nat_tests}
 use Rattle.std.proofs.lemmas.List.{length-map}
 use Rattle.aia_model.specs.AnswerText.{digit_character}
 use Rattle.aia_model.specs.Text.{decimal_digit, hex_digit, value_after, below, after_zero, number_of, ◌>>=◌}
-use Rattle.aia_model.specs.Printing.{decimal_text, hex_text}
+use Rattle.aia_model.specs.Printing.{number_text, decimal_text, hex_text}
 
 -- ---- a number that is printed is read again
 
@@ -77,17 +77,14 @@ digits_no_space (d ∷ ds) = (no_space d, digits_no_space ds)
     ]
 
 -- the digits of a number in a base, `0` for zero
-abbrev pub shown : ℕ → ℕ → List ℕ
-shown base n = cond (nat_eq n 0) (codes "0") (map digit_character (digits_of base n))
-
-pub shown_no_space : (base n : ℕ) → NoSpace (shown base n)
-shown_no_space base n = elim (cases_eq n 0) [
+pub no_space_in_number : (base n : ℕ) → NoSpace (number_text base n)
+no_space_in_number base n = elim (cases_eq n 0) [
   | inl z ↦ subst NoSpace (sym (cond-true _ _ _ (eq-eqb n 0 z))) (refl, tt)
   | inr ne ↦ subst NoSpace (sym (cond-false _ _ _ (ne_eqb n 0 ne))) (digits_no_space (digits_of base n))
 ]
 
-pub length-shown : (base count n : ℕ) → 2 ≤ base → 1 ≤ count → n < base ^ count → length (cond (nat_eq n 0) (codes "0") (map digit_character (digits_of base n))) ≤ count
-length-shown base count n two one low = elim (cases_eq n 0) [
+pub length-number_text : (base count n : ℕ) → 2 ≤ base → 1 ≤ count → n < base ^ count → length (number_text base n) ≤ count
+length-number_text base count n two one low = elim (cases_eq n 0) [
   | inl z ↦ subst (λ (t : List ℕ). length t ≤ count) (sym (cond-true _ _ _ (eq-eqb n 0 z))) one
   | inr ne ↦ subst (λ (t : List ℕ). length t ≤ count) (sym (cond-false _ _ _ (ne_eqb n 0 ne))) (rw length-map (length-digits_of-le base count n two low))
 ]

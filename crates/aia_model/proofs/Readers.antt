@@ -13,7 +13,7 @@ bind_some None f y e = absurd (cc)
 bind_some (Some x) f y e = (x, refl, e)
 
 -- which way an `if` went
-pub chosen : {A : Type 0} (b : Bool) (x y : Option A) (z : A) → cond b x y ≡ Some z → ((b ≡ true) × (x ≡ Some z)) ⊎ ((b ≡ false) × (y ≡ Some z))
+pub chosen : {A : Type 0} (b : Bool) (x y z : A) → cond b x y ≡ z → ((b ≡ true) × (x ≡ z)) ⊎ ((b ≡ false) × (y ≡ z))
 chosen true x y z e = inl (refl, e)
 chosen false x y z e = inr (refl, e)
 
@@ -117,7 +117,7 @@ by_rows rows ws = word_at ws >>= λ word. row_of rows word.0 >>= λ read. read w
 -- what holds of each row holds of the row that a word finds
 pub row_found : {A : Type 0} (P : List ℕ → A → Type 0) (rows : List (List ℕ × A)) → AllByRecursion (λ row. P row.0 row.1) rows → (w : List ℕ) (a : A) → row_of rows w ≡ Some a → P w a
 row_found P [] all w a e = absurd (cc)
-row_found {A = A} P (row ∷ rows) all w a e = elim (chosen (is_word w row.0) (Some row.1) (row_of rows w) a e) [
+row_found {A = A} P (row ∷ rows) all w a e = elim (chosen (is_word w row.0) (Some row.1) (row_of rows w) (Some a) e) [
   | inl h ↦ let there : row.1 ≡ a = cc in subst (λ (x : A). P w x) there (subst (λ (k : List ℕ). P k row.1) (sym ((bytes_eq-Decides w row.0).0 h.0)) all.0)
   | inr h ↦ row_found P rows all.1 w a h.1
 ]

@@ -21,6 +21,7 @@ use Rattle.aia_model.specs.Text.{words_of, is_skipped}
 use Rattle.aia_model.specs.Grammar.{Spells, Field, Fits, AllFit, IsListed, IsNamed, csr_field, instruction, fields_of}
 use Rattle.aia_model.specs.Grammar.Field.{Keyword, Unspelled}
 use Rattle.aia_model.specs.Reading.{reading, parsed_of, Words, line_at}
+use Rattle.aia_model.proofs.Readers.{chosen}
 use Rattle.aia_model.proofs.Forms.{spelled_read, read_spelled}
 
 -- ---- a line begins with a keyword
@@ -62,10 +63,6 @@ spelled_not_skipped text line s = not_skipped text (fields_of line) (keyword_fir
 
 -- ---- the reading of a text
 
-chosen_parsed : (t : Bool) (x y z : Parsed) → cond t x y ≡ z → ((t ≡ true) × (x ≡ z)) ⊎ ((t ≡ false) × (y ≡ z))
-chosen_parsed true x y z e = inl (refl, e)
-chosen_parsed false x y z e = inr (refl, e)
-
 -- a text that spells a line is read as it
 pub reading_only : (text : List ℕ) (line : Line) → Spells text line → reading text ≡ parsed.Line line
 unfolding reading
@@ -76,9 +73,9 @@ reading_only text line s =
 pub reading_found : (text : List ℕ) (line : Line) → reading text ≡ parsed.Line line → Spells text line
 unfolding reading
 reading_found text line e =
-    elim (chosen_parsed (is_skipped text) _ _ (parsed.Line line) e) [
+    elim (chosen (is_skipped text) _ _ (parsed.Line line) e) [
       | inl h ↦ let bad : parsed.Skip ≡ parsed.Line line = h.1 in absurd (cc)
-      | inr h ↦ elim (chosen_parsed (nat_le (length text) LINE_BYTES) _ _ (parsed.Line line) h.1) [
+      | inr h ↦ elim (chosen (nat_le (length text) LINE_BYTES) _ _ (parsed.Line line) h.1) [
         | inl i ↦ (leb-true _ _ i.0, read_spelled (words_of text) line (line_in (line_at (words_of text)) line i.1))
         | inr i ↦ let bad : parsed.Bad ≡ parsed.Line line = i.1 in absurd (cc)
       ]
@@ -97,9 +94,9 @@ reading_skips text e = cond-true _ _ _ e
 pub skips_found : (text : List ℕ) → reading text ≡ parsed.Skip → is_skipped text ≡ true
 unfolding reading
 skips_found text e =
-    elim (chosen_parsed (is_skipped text) _ _ parsed.Skip e) [
+    elim (chosen (is_skipped text) _ _ parsed.Skip e) [
       | inl h ↦ h.0
-      | inr h ↦ elim (chosen_parsed (nat_le (length text) LINE_BYTES) _ _ parsed.Skip h.1) [
+      | inr h ↦ elim (chosen (nat_le (length text) LINE_BYTES) _ _ parsed.Skip h.1) [
         | inl i ↦ absurd (never_skips (line_at (words_of text)) i.1)
         | inr i ↦ let bad : parsed.Bad ≡ parsed.Skip = i.1 in absurd (cc)
       ]

@@ -4,7 +4,7 @@ use Rattle.aia_model.specs.declared.answer.Answer.{Answer}
 use Rattle.aia_model.specs.declared.answer.Answer.TheVariants.{Okay, Narrow, Wide, Pins, Bad, NoMachine, Again, Refused}
 use Rattle.aia_model.specs.declared.refusal.Refusal.{Refusal}
 use Rattle.aia_model.specs.declared.refusal.Refusal.TheVariants.{Range, Illegal, Fault, Guarded}
-use Rattle.aia_model.specs.Grammar.{bit_number}
+use Rattle.aia_regs.specs.Fields.{bit_number}
 
 -- The character of a digit of 0 to 15: 0 to 9, a to f.
 abbrev pub digit_character : ℕ → ℕ

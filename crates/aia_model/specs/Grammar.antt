@@ -11,6 +11,7 @@ use Rattle.aia_regs.specs.declared.access.Level.TheVariants as levels
 use Rattle.aia_regs.specs.declared.access.Op.{Op}
 use Rattle.aia_regs.specs.declared.access.Op.TheVariants.{Read, Write, Set}
 use Rattle.aia_regs.specs.declared.access.Op.TheVariants as ops
+use Rattle.aia_regs.specs.Fields.{bit_number}
 use Rattle.aia_model.specs.Text.{words_of, number_of}
 
 -- One word of a line: a keyword, or a number, which our own printing writes in decimal or in
@@ -22,10 +23,6 @@ pub data Field : Type 0 where
   Hex32 : (n : ℕ) → Field  -- below 2^32
   Bit : (level : Bool) → Field  -- 1 or 0
   Unspelled : Field  -- no word spells it
-
--- The number that tells a level: 1 where it is high, 0 where it is low.
-abbrev pub bit_number : Bool → ℕ
-bit_number level = if level then 1 else 0
 
 -- Whether a word spells a field.
 abbrev pub Fits : List ℕ → Field → Type 0

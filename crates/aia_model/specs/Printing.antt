@@ -2,18 +2,23 @@
 use Rattle.std.specs.Prelude.{ℕ, ◌^◌, ◌<◌, nat_eq, if◌then◌else◌, List, [], ◌++◌, map, codes}
 use Rattle.std.specs.Int.Digits.{digits_of}
 use Rattle.std.specs.List.{join_with_byte, AllByRecursion}
+use Rattle.aia_regs.specs.Fields.{bit_number}
 use Rattle.aia_model.specs.declared.line.Line.{Line}
 use Rattle.aia_model.specs.AnswerText.{digit_character}
-use Rattle.aia_model.specs.Grammar.{Field, bit_number, fields_of}
+use Rattle.aia_model.specs.Grammar.{Field, fields_of}
 use Rattle.aia_model.specs.Grammar.Field.{Keyword, Decimal, Hex, Hex32, Bit, Unspelled}
 
--- A number in decimal, without leading zeros.
-abbrev pub decimal_text : ℕ → List ℕ
-decimal_text n = if nat_eq n 0 then codes "0" else map digit_character (digits_of 10 n)
+-- A number by its digits in a base, without leading zeros.
+abbrev pub number_text : ℕ → ℕ → List ℕ
+number_text base n = if nat_eq n 0 then codes "0" else map digit_character (digits_of base n)
 
--- A number as `0x` and lower-case digits, without leading zeros.
+-- A number in decimal.
+abbrev pub decimal_text : ℕ → List ℕ
+decimal_text = number_text 10
+
+-- A number as `0x` and lower-case digits.
 abbrev pub hex_text : ℕ → List ℕ
-hex_text n = codes "0x" ++ (if nat_eq n 0 then codes "0" else map digit_character (digits_of 16 n))
+hex_text n = codes "0x" ++ number_text 16 n
 
 -- A field: addresses, values and operands in hexadecimal, all other numbers in decimal.
 abbrev pub field_text : Field → List ℕ

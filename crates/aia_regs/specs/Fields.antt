@@ -1,5 +1,5 @@
 -- A field hi:lo of a register, and a register with another number in it.
-use Rattle.std.specs.Prelude.{ℕ, ◌+◌, ◌-◌, ◌*◌, ◌/◌, ◌%◌, ◌^◌, ◌<◌, ◌⊎◌}
+use Rattle.std.specs.Prelude.{ℕ, ◌+◌, ◌-◌, ◌*◌, ◌/◌, ◌%◌, ◌^◌, ◌<◌, ◌⊎◌, Bool, if◌then◌else◌}
 
 -- The number that the bits from lo to hi of x make, lo as the lowest; as the standard's tables number the bits of a register.
 -- Profile: this project's way to speak of registers.
@@ -10,6 +10,11 @@ field x hi lo = x / 2 ^ lo % 2 ^ (hi - lo + 1)
 -- Profile: this project's way to speak of registers.
 abbrev pub with_field : ℕ → ℕ → ℕ → ℕ → ℕ
 with_field x hi lo v = (x / 2 ^ lo / 2 ^ (hi - lo + 1) * 2 ^ (hi - lo + 1) + v) * 2 ^ lo + x % 2 ^ lo
+
+-- A bit, or the level of a wire, as a number.
+-- Profile: this project's way to speak of registers.
+abbrev pub bit_number : Bool → ℕ
+bit_number bit = if bit then 1 else 0
 
 -- A bit is outside the field: below lo or above hi.
 -- Profile: this project's way to speak of registers.

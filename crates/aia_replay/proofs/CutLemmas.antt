@@ -8,24 +8,17 @@ use Rattle.std.proofs.lemmas.List.Elements.{All-from_get_or}
 use Rattle.std.proofs.lemmas.List.Sums.{fails_before_first, passes_at_first, split_at_first}
 use Rattle.std.proofs.lemmas.Bool.{cases_lt, cond-true, cond-false, lt-ltb}
 use Rattle.aia_model.specs.Text.{texts_of}
-use Rattle.aia_script.proofs.WordLemmas.{position_some}
+use Rattle.aia_script.proofs.WordLemmas.{position_some, none_found}
 use Rattle.aia_replay.specs.Runs.{NoEnd}
 
 -- ---- where the first LF is
-
-position_none : (p : ℕ → Bool) (xs : List ℕ) → position p xs ≡ None → length xs ≤ position_or_len p xs
-position_none p xs e =
-    elim (cases_lt (position_or_len p xs) (length xs)) [
-      | inl h ↦ let e2 : ◌≡◌ {A = Option ℕ} (Some (position_or_len p xs)) None = sym (cond-true _ _ _ (lt-ltb _ _ h)) ∙ e in absurd (cc)
-      | inr h ↦ h
-    ]
 
 abbrev pub is_end : ℕ → Bool
 is_end b = nat_eq b 10
 
 -- with no LF
 pub no_end_at_all : (bytes : List ℕ) → position is_end bytes ≡ None → NoEnd bytes
-no_end_at_all bytes none = All-from_get_or (λ b. is_end b ≡ false) bytes 0 (λ k low. fails_before_first is_end bytes k 0 (omega (arith, position_none is_end bytes none)))
+no_end_at_all = none_found is_end
 
 -- before the first LF
 pub no_end_before : (bytes : List ℕ) (i : ℕ) → position is_end bytes ≡ Some i → NoEnd (take i bytes)

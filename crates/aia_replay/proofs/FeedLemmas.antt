@@ -22,6 +22,11 @@ fed_nothing r now piece = record {
   feeds = λ before bytes holds. subst (Holds r before now) (sym (append-nil bytes)) holds;
 }
 
+-- the bytes of a line are kept, which is cut off at its LF
+kept_at : (old mid kept : Replayer) (before first late : Option (List ℕ)) (bytes piece rest front : List ℕ) → (fed : Fed old mid first late piece rest) → NoEnd front
+    → kept.line.items ≡ take 129 (mid.line.items ++ front) → kept ≡ record mid { line = kept.line } → Holds old before first bytes → Holds kept before late ((bytes ++ fed.done) ++ front)
+kept_at old mid kept before first late bytes piece rest front fed none line others holds = part_kept mid kept before late (bytes ++ fed.done) front none line others (fed.feeds before bytes holds)
+
 -- a line more
 pub fed_line : (old mid kept new : Replayer) (first late now : Option (List ℕ)) (piece rest front more : List ℕ) → Fed old mid first late piece rest → rest ≡ front ++ (10 ∷ more) → NoEnd front
     → kept.line.items ≡ take 129 (mid.line.items ++ front) → kept ≡ record mid { line = kept.line } → AnswersLine kept new late now → Fed old new first now piece more
@@ -29,13 +34,8 @@ fed_line old mid kept new first late now piece rest front more fed cut none line
   done = fed.done ++ (front ++ (10 ∷ []));
   split = fed.split ∙ ap (λ xs. fed.done ++ xs) (cut ∙ sym (append_assoc front (10 ∷ []) more)) ∙ sym (append_assoc fed.done (front ++ (10 ∷ [])) more);
   feeds = λ before bytes holds. subst (Holds new before now) (ap (λ xs. xs ++ (10 ∷ [])) (append_assoc bytes fed.done front) ∙ append_assoc bytes (fed.done ++ front) (10 ∷ []) ∙ ap (λ xs. bytes ++ xs) (append_assoc fed.done front (10 ∷ [])))
-      (line_ended kept new before late now ((bytes ++ fed.done) ++ front) answered (part_kept mid kept before late (bytes ++ fed.done) front none line others (fed.feeds before bytes holds)));
+      (line_ended kept new before late now ((bytes ++ fed.done) ++ front) answered (kept_at old mid kept before first late bytes piece rest front fed none line others holds));
 }
-
--- the bytes of a line are kept, which is cut off at its LF
-kept_at : (old mid kept : Replayer) (before first late : Option (List ℕ)) (bytes piece rest front : List ℕ) → (fed : Fed old mid first late piece rest) → NoEnd front
-    → kept.line.items ≡ take 129 (mid.line.items ++ front) → kept ≡ record mid { line = kept.line } → Holds old before first bytes → Holds kept before late ((bytes ++ fed.done) ++ front)
-kept_at old mid kept before first late bytes piece rest front fed none line others holds = part_kept mid kept before late (bytes ++ fed.done) front none line others (fed.feeds before bytes holds)
 
 all_of_piece : (bytes done front more rest piece : List ℕ) → piece ≡ done ++ rest → rest ≡ front ++ (10 ∷ more) → ((bytes ++ done) ++ front) ++ (10 ∷ more) ≡ bytes ++ piece
 all_of_piece bytes done front more rest piece split cut =
@@ -60,4 +60,4 @@ fed_stop old mid kept new first late now piece rest front more fed cut none line
 pub fed_rest : (old mid new : Replayer) (first now : Option (List ℕ)) (piece rest : List ℕ) → Fed old mid first now piece rest → NoEnd rest
     → new.line.items ≡ take 129 (mid.line.items ++ rest) → new ≡ record mid { line = new.line } → Feeds old new first now piece
 fed_rest old mid new first now piece rest fed none line others =
-    λ before bytes holds. subst (Holds new before now) (append_assoc bytes fed.done rest ∙ ap (λ xs. bytes ++ xs) (sym fed.split)) (part_kept mid new before now (bytes ++ fed.done) rest none line others (fed.feeds before bytes holds))
+    λ before bytes holds. subst (Holds new before now) (append_assoc bytes fed.done rest ∙ ap (λ xs. bytes ++ xs) (sym fed.split)) (kept_at old mid new before first now bytes piece rest rest fed none line others holds)

@@ -33,7 +33,8 @@ use Rattle.aia_hyp.specs.HostFiles.{IsHost, csr_line}
 use Rattle.aia_hyp.specs.Core.{CoreState}
 use Rattle.aia_hyp.specs.Stands.{CoreStands, CoreTakes, answer_by, line_taken, signals_of}
 use Rattle.aia_hyp.proofs.PageLemmas.{misaligned, region_is_free}
-use Rattle.aia_hyp.proofs.StoreLemmas.{store_rests, line_rests}
+use Rattle.aia_hyp.proofs.PageLemmas.{no_file_there}
+use Rattle.aia_hyp.proofs.StoreLemmas.{line_rests}
 use Rattle.aia_aplic.specs.Stands.{AplicState, AplicStands, domain_name}
 use Rattle.aia_replay.specs.declared.machine.Machine.{Machine}
 use Rattle.aia_replay.specs.Stands.{MachineHolds, MachineStands, MachineTakes, act_taken}
@@ -135,7 +136,7 @@ pub register_stored : (m n : Machine) (addr value domain : ℕ) → addr % 4 ≡
 register_stored m n addr value domain aligned there same writes = aplic_line m n (Store addr value) Okay same (λ h stands. (
   store_refusal h addr value stands.core.there ∙ ap refused_by (region_is_free (harts_of h) _ addr aligned (in_region addr (domain_name domain) there)),
   refl,
-  store_rests m.core h addr value (in_region addr (domain_name domain) there) stands.core,
+  line_rests m.core h (Accepted (Store addr value)) refl (λ f. cond-false _ _ _ (no_file_there addr f (in_region addr (domain_name domain) there))) stands.core,
   subst (AplicStands n.aplic) (sym (ap (λ o. with_act (option_map (λ d. Written d (register_at addr) value) o) (acts_of h)) there)) (writes (acts_of h) stands.aplic),
 ))
 

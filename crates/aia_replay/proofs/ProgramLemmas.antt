@@ -9,11 +9,11 @@ use Rattle.aia_model.specs.Script.{answers}
 use Rattle.aia_replay.specs.declared.program.Status.{Status}
 use Rattle.aia_replay.specs.declared.program.Status.TheVariants.{Done, Usage, ReadFault, WriteFault, Memory, TooLong}
 use Rattle.aia_replay.specs.declared.limits.TheConstants.{SCRIPT_BYTES}
-use Rattle.aia_replay.specs.Runs.{IsScript, TakesAll, TakesAtMost, WritesAnswers, WritesLines, CutsLines, StopsAtMachine, EndsWith}
+use Rattle.aia_replay.specs.Runs.{IsScript, TakesAll, TakesAtMost, WritesAnswers, AnswersWhole, WritesLines, CutsLines, StopsAtMachine, EndsWith}
 use Rattle.aia_io.specs.Ends.{Rose}
 use Rattle.aia_replay.specs.Buffered.{CutOff}
 use Rattle.aia_replay.specs.declared.replayer.Replayer.{Replayer}
-use Rattle.aia_replay.specs.Streams.{Streams, StreamsFront, StreamsStop, WrittenFor, AnswersWhole, GoesPast}
+use Rattle.aia_replay.specs.Streams.{Streams, StreamsFront, StreamsStop, WrittenFor, GoesPast}
 use Rattle.aia_replay.proofs.HeldLemmas.{all_written, cut_after}
 
 pub one_word : (ws : List (Bor (List ℕ))) (d : Bor (List ℕ)) (p : List ℕ) (r : Bool) → 1 ≤ length ws → length ws < 2 → r ≡ bytes_eq (get_or ws 0 d).now p → (r ≡ true → map (λ (w : Bor (List ℕ)). w.now) ws ≡ p ∷ []) × (map (λ (w : Bor (List ℕ)). w.now) ws ≡ p ∷ [] → r ≡ true)
@@ -52,29 +52,21 @@ answers_written (Some script) before now bytes whole wrote = subst (λ xs. Appen
 
 lines_at_fault : (left rest before now : Option (List ℕ)) (bytes : List ℕ) → Consumes left rest bytes → AnswersWhole before now bytes → WritesLines 0 left rest before now
 lines_at_fault left rest before now bytes took read = record {
-  whole = read.whole;
-  tail = read.tail;
+  bytes = bytes;
   beyond = [];
-  consumed = subst (Consumes left rest) (read.split ∙ sym (append-nil (read.whole ++ read.tail))) took;
-  lines = read.lines;
-  no_end = read.no_end;
+  consumed = subst (Consumes left rest) (sym (append-nil bytes)) took;
   past = refl;
-  written = read.written;
+  answered = read;
 }
 
 lines_at_limit : (left rest before now : Option (List ℕ)) (bytes : List ℕ) → Consumes left rest bytes → GoesPast before now bytes → WritesLines 1 left rest before now
-lines_at_limit left rest before now bytes took past =
-    let read = past.answered in
-    record {
-      whole = read.whole;
-      tail = read.tail;
-      beyond = past.beyond;
-      consumed = subst (Consumes left rest) (past.split ∙ ap (λ xs. xs ++ past.beyond) read.split) took;
-      lines = read.lines;
-      no_end = read.no_end;
-      past = past.one;
-      written = read.written;
-    }
+lines_at_limit left rest before now bytes took past = record {
+  bytes = past.within;
+  beyond = past.beyond;
+  consumed = subst (Consumes left rest) past.split took;
+  past = past.one;
+  answered = past.answered;
+}
 
 -- what waits is written, and is all that was answered
 stopped : (r : Replayer) (left rest before mid now : Option (List ℕ)) → StreamsStop r left rest before mid → Appends mid now r.out.bytes.items → StopsAtMachine left rest before now

@@ -5,7 +5,8 @@ use Rattle.std.proofs.KnownBytes.{Consumes-nil, Consumes-trans, Consumes-kept, C
 use Rattle.std.proofs.lemmas.List.{append-nil, length-append, length-take, take-append-le}
 use Rattle.aia_replay.specs.declared.replayer.Replayer.{Replayer}
 use Rattle.aia_replay.specs.declared.program.Status.TheVariants.{Done, ReadFault, TooLong}
-use Rattle.aia_replay.specs.Streams.{ReadsOn, WritesOut, WritesOutFront, AnswersWhole, StreamsFront, Holds, Begins, Feeds, FeedsFront, FeedsStop, Finishes, FinishesFront, FinishesStop, Streams, StreamsStop}
+use Rattle.aia_replay.specs.Runs.{AnswersWhole}
+use Rattle.aia_replay.specs.Streams.{ReadsOn, WritesOut, WritesOutFront, StreamsFront, Holds, Begins, Feeds, FeedsFront, FeedsStop, Finishes, FinishesFront, FinishesStop, Streams, StreamsStop}
 use Rattle.aia_replay.proofs.HeldLemmas.{at_start}
 use Rattle.aia_io.specs.Ends.{Reads}
 use Rattle.aia_io.specs.declared.source.Read.{Read}

@@ -58,17 +58,23 @@ IsWhole bytes = (bytes ≡ []) ⊎ ((front : List ℕ) × (bytes ≡ front ++ 10
 abbrev pub IsScript : Option (List ℕ) → List ℕ → Type 0
 IsScript left bytes = IfSome left (λ script. script ≡ bytes)
 
--- The whole lines that were taken are answered, and their answers alone are written. Of the bytes
--- taken, so many at the end are left out of account.
-pub record WritesLines (count : ℕ) (left rest before now : Option (List ℕ)) : Type 0 where
+-- The answers of the whole lines that the bytes begin with are written, and no others; after them
+-- the bytes have no LF.
+pub record AnswersWhole (before now : Option (List ℕ)) (bytes : List ℕ) : Type 0 where
   pub whole : List ℕ
   pub tail : List ℕ
-  pub beyond : List ℕ
-  pub consumed : Consumes left rest ((whole ++ tail) ++ beyond)
+  pub split : bytes ≡ whole ++ tail
   pub lines : IsWhole whole
   pub no_end : NoEnd tail
-  pub past : length beyond ≡ count
   pub written : Appends before now (answers whole)
+
+-- So of the bytes that were taken, so many at the end left out of account.
+pub record WritesLines (count : ℕ) (left rest before now : Option (List ℕ)) : Type 0 where
+  pub bytes : List ℕ
+  pub beyond : List ℕ
+  pub consumed : Consumes left rest (bytes ++ beyond)
+  pub past : length beyond ≡ count
+  pub answered : AnswersWhole before now bytes
 
 -- The sink took a front of the answers of whole lines that the bytes begin with.
 pub record CutsLines (before now : Option (List ℕ)) (bytes : List ℕ) : Type 0 where

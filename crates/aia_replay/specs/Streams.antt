@@ -14,7 +14,7 @@ use Rattle.aia_replay.specs.declared.program.Status.{Status}
 use Rattle.aia_replay.specs.declared.program.Status.TheVariants.{Done, ReadFault, TooLong}
 use Rattle.aia_replay.specs.Buffered.{Passes, CutOff}
 use Rattle.aia_replay.specs.Stands.{StandsFor, ReadsAsMachine}
-use Rattle.aia_replay.specs.Runs.{NoEnd, IsWhole, IsScript, TakesAtMost, CutsLines, WritesFront, AsksMachine, after_texts}
+use Rattle.aia_replay.specs.Runs.{NoEnd, IsWhole, AnswersWhole, IsScript, TakesAtMost, CutsLines, WritesFront, AsksMachine, after_texts}
 
 -- The bytes read so far are whole lines, which are answered, and the tail of a line whose LF wasn't
 -- read; what was answered is written or waits in the buffer, and whatever follows is answered as
@@ -136,16 +136,6 @@ pub record AnswersLine (old new : Replayer) (mid now : Option (List ℕ)) : Type
   pub empty : new.line.items ≡ []
 
 -- ---- a whole run
-
--- The answers of the whole lines that the bytes begin with are written, and no others; after them
--- the bytes have no LF.
-pub record AnswersWhole (before now : Option (List ℕ)) (bytes : List ℕ) : Type 0 where
-  pub whole : List ℕ
-  pub tail : List ℕ
-  pub split : bytes ≡ whole ++ tail
-  pub lines : IsWhole whole
-  pub no_end : NoEnd tail
-  pub written : Appends before now (answers whole)
 
 -- The bytes are as many as a script has at most, whose whole lines are answered, and one more.
 pub record GoesPast (before now : Option (List ℕ)) (bytes : List ℕ) : Type 0 where

@@ -38,6 +38,6 @@ pub past_limit : (digit : ℕ → Option ℕ) (base n d i : ℕ) (word : List �
 past_limit digit base n d i word b h e past =
     ap (λ o. o >>= below (2 ^ 64)) (digit_read digit base n d i word h e) ∙ too_large digit base (n * base + d) (drop (i + 1) word) b (below_none _ _ past)
 
-pub base_positive : (radix : Radix) → 1 ≤ base radix
-base_positive Decimal = omega arith
-base_positive Hexadecimal = omega arith
+pub two_digits : (radix : Radix) → 2 ≤ base radix
+two_digits Decimal = omega arith
+two_digits Hexadecimal = omega arith

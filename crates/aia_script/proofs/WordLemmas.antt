@@ -1,6 +1,6 @@
 -- The first word of a text, found by the first space.
 use Rattle.std.proofs.Common.{◌≡◌, ℕ, ◌+◌, ◌-◌, ◌<◌, ◌≤◌, Bool, false, nat_eq, List, [], ◌∷◌, length, take, drop, Option, Some, None, inl, inr, sym, ap, ◌∙◌, refl, arith, length-drop}
-use Rattle.std.specs.Prelude.{position, count_by}
+use Rattle.std.specs.Prelude.{position, count_by, All}
 use Rattle.std.specs.Borrow.{Bor}
 use Rattle.std.specs.List.{position_or_len}
 use Rattle.std.proofs.lemmas.Grind.{common_steps}
@@ -19,6 +19,13 @@ position_some p xs i e =
       | inr h ↦ let e2 : ◌≡◌ {A = Option ℕ} None (Some i) = sym (cond-false _ _ _ (le-ltb _ _ h)) ∙ e in absurd (cc)
     ]
 
+pub none_found : (p : ℕ → Bool) (xs : List ℕ) → position p xs ≡ None → All (λ b. p b ≡ false) xs
+none_found p xs e =
+    elim (cases_lt (position_or_len p xs) (length xs)) [
+      | inl h ↦ let e2 : ◌≡◌ {A = Option ℕ} (Some (position_or_len p xs)) None = sym (cond-true _ _ _ (lt-ltb _ _ h)) ∙ e in absurd (cc)
+      | inr h ↦ All-from_get_or (λ b. p b ≡ false) xs 0 (λ i low. fails_before_first p xs i 0 (omega arith))
+    ]
+
 -- a space ends the first word
 pub words_cut : (text : List ℕ) (i : ℕ) → position (λ b. nat_eq b 32) text ≡ Some i → words_of text ≡ take i text ∷ words_of (drop (i + 1) text)
 words_cut text i e =
@@ -27,11 +34,7 @@ words_cut text i e =
 
 -- with no space, the text is one word
 pub words_whole : (text : List ℕ) → position (λ b. nat_eq b 32) text ≡ None → words_of text ≡ text ∷ []
-words_whole text e =
-    elim (cases_lt (position_or_len (λ b. nat_eq b 32) text) (length text)) [
-      | inl h ↦ let e2 : ◌≡◌ {A = Option ℕ} (Some (position_or_len (λ b. nat_eq b 32) text)) None = sym (cond-true _ _ _ (lt-ltb _ _ h)) ∙ e in absurd (cc)
-      | inr h ↦ slice_split_none (λ b. nat_eq b 32) text (All-from_get_or (λ x. nat_eq x 32 ≡ false) text 0 (λ i low. fails_before_first (λ b. nat_eq b 32) text i 0 (omega arith)))
-    ]
+words_whole text e = slice_split_none (λ b. nat_eq b 32) text (none_found (λ b. nat_eq b 32) text e)
 
 -- what a space ends is the next word
 pub cut_word : (rest : Option (Bor (List ℕ))) (text : Bor (List ℕ)) (i : ℕ) → rest ≡ Some text → position (λ b. nat_eq b 32) text.now ≡ Some i → Some (take i text.now, words_of (take (length text.now - (i + 1)) (drop (i + 1) text.now))) ≡ word_at (words_of_rest rest)

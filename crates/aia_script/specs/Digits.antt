@@ -1,7 +1,5 @@
 -- The digits of a number, by their base.
-use Rattle.std.specs.Prelude.{ℕ, ◌^◌, nat_eq, if◌then◌else◌, List, map, Option, codes}
-use Rattle.std.specs.Int.Digits.{digits_of}
-use Rattle.aia_model.specs.AnswerText.{digit_character}
+use Rattle.std.specs.Prelude.{ℕ, ◌^◌, List, Option}
 use Rattle.aia_model.specs.Text.{decimal_digit, hex_digit, value_after, below, ◌>>=◌}
 use Rattle.aia_script.specs.declared.number.Radix.{Radix}
 use Rattle.aia_script.specs.declared.number.Radix.TheVariants.{Decimal, Hexadecimal}
@@ -18,7 +16,3 @@ digit_in Hexadecimal = hex_digit
 -- The number that digits spell, where it is below 2^64.
 abbrev pub value_in : Radix → List ℕ → Option ℕ
 value_in radix digits = value_after (digit_in radix) (base radix) 0 digits >>= below (2 ^ 64)
-
--- A number by its digits, without leading zeros.
-abbrev pub number_text : Radix → ℕ → List ℕ
-number_text radix n = if nat_eq n 0 then codes "0" else map digit_character (digits_of (base radix) n)

@@ -8,10 +8,10 @@ ghost use Rattle.aia_regs.specs.Operations.{FitsOp};
 ghost use Rattle.aia_model.specs.AnswerText.{digit_character};
 ghost use Rattle.aia_model.specs.Grammar.{Spells, IsListed, csr_field, instruction};
 ghost use Rattle.aia_model.specs.Grammar.Field.{Keyword, Decimal};
-ghost use Rattle.aia_model.specs.Printing.{decimal_text, hex_text, field_text, line_text, IsPrintable};
+ghost use Rattle.aia_model.specs.Printing.{number_text, decimal_text, hex_text, field_text, line_text, IsPrintable};
 ghost use Rattle.aia_model.specs.Reading.{reading};
 ghost use Rattle.aia_model.specs.declared.limits.TheConstants.{LINE_BYTES};
-ghost use Rattle.aia_script.specs.Digits.{base, number_text};
+ghost use Rattle.aia_script.specs.Digits.{base};
 
 use crate::instructions::csr_name;
 use crate::number::Radix;
@@ -37,7 +37,7 @@ fn push_all_digits(out: &mut ArrayVec<u8, LINE_BYTES>, radix: Radix, value: u64)
 /// Appends a number by its digits, without leading zeros.
 fn push_number(out: &mut ArrayVec<u8, LINE_BYTES>, radix: Radix, value: u64)
     requires { array_vec_len out.old + 20 ≤ LINE_BYTES }
-    ensures text { out.new.items ≡ out.old.items ++ number_text radix value }
+    ensures text { out.new.items ≡ out.old.items ++ number_text (base radix) value }
     ensures length { array_vec_len out.new ≤ array_vec_len out.old + 20 }
 {
     if value == 0 {
