@@ -1,27 +1,26 @@
 -- What an access to a CSR of the host reaches, what it answers, and what it leaves.
 use Rattle.std.proofs.Common.{◌≡◌, ◌≢◌, ℕ, ◌<◌, ◌≤◌, ◌∷◌, true, false, not, cond, Some, None, refl, sym, ap, subst, ◌∙◌, arith}
 use Rattle.std.proofs.lemmas.Bool.{cond-true, cond-false, lt-ltb, le-ltb}
-use Rattle.aia_word.specs.Top.{top_value}
 use Rattle.aia_regs.specs.declared.access.Csr.{Csr}
 use Rattle.aia_regs.specs.declared.access.Csr.TheVariants as csrs
 use Rattle.aia_regs.specs.declared.access.Op.{Op}
 use Rattle.aia_regs.specs.declared.access.Level.{Level}
 use Rattle.aia_regs.specs.declared.access.Level.TheVariants as levels
 use Rattle.aia_regs.specs.declared.file_registers.FileReg.{FileReg}
-use Rattle.aia_regs.specs.declared.file_registers.FileReg.TheVariants.{Delivery, Threshold, Pending, Enable, Reserved, Odd, Outside}
+use Rattle.aia_regs.specs.declared.file_registers.FileReg.TheVariants.{Odd, Outside}
 use Rattle.aia_regs.specs.FileRegisters.{register_of}
 use Rattle.aia_csr.specs.declared.access.Access.{Access}
 use Rattle.aia_csr.specs.declared.access.Access.TheVariants as reaches
 use Rattle.aia_csr.specs.Access.{access_of, register_at, IsInTable}
-use Rattle.aia_file.specs.InterruptFile.{InterruptFile, register_value, top_of}
+use Rattle.aia_file.specs.InterruptFile.{InterruptFile}
 use Rattle.aia_file.specs.FileState.{shown}
-use Rattle.aia_imsic.specs.Files.{IsThere, file_at}
+use Rattle.aia_imsic.specs.Files.{file_at}
 use Rattle.aia_model.specs.declared.answer.Answer.TheVariants.{Wide, Refused}
 use Rattle.aia_model.specs.declared.refusal.Refusal.TheVariants.{Range, Illegal}
 use Rattle.aia_model.specs.Event.{History, has_machine, harts_of, machine_of}
 use Rattle.aia_model.specs.Event.Event.{Accepted}
 use Rattle.aia_model.specs.FileAfter.Deed.{Accesses, Rests}
-use Rattle.aia_model.specs.FileOf.{FileName, MachineFile, SupervisorFile, deed_at, select_of, file_of}
+use Rattle.aia_model.specs.FileOf.{FileName, MachineFile, SupervisorFile, deed_at, select_of}
 use Rattle.aia_model.specs.Refusal.{refusal, raises_illegal}
 use Rattle.aia_model.specs.Answer.{accepted_answer, csr_shown, csr_value}
 use Rattle.aia_model.proofs.AnswerLemmas.{access_refusal, machine_csr_refusal, host_csr_refusal}
@@ -30,7 +29,7 @@ use Rattle.aia_hyp.specs.Core.{CoreState}
 use Rattle.aia_hyp.specs.HostFiles.{IsHost, HasDone, name_of, csr_line, spot_of, select_in}
 use Rattle.aia_hyp.specs.Stands.{CoreStands, CoreTakes}
 use Rattle.aia_hyp.proofs.NameLemmas.{named_there}
-use Rattle.aia_hyp.proofs.EventLemmas.{Changes, one_done, accepted, refused}
+use Rattle.aia_hyp.proofs.EventLemmas.{one_done, accepted, refused}
 
 -- ---- what is reached
 

@@ -1,7 +1,7 @@
 -- What one event more makes of a core that stands for a history, and what a line answers by its
 -- refusal.
 use Rattle.std.proofs.Common.{◌≡◌, ◌≢◌, ℕ, zero, suc, ◌<◌, Bool, get_or, length, replicate, is_some, [], ◌∷◌, Option, Some, None, unwrap_or, inl, inr, refl, sym, ap, subst, ◌∙◌, arith}
-use Rattle.std.specs.Prelude.{Result, Ok, Err}
+use Rattle.std.specs.Prelude.{Result, Ok}
 use Rattle.std.specs.Option.{option_map_or}
 use Rattle.std.proofs.lemmas.Bool.{cond-true, lt-ltb}
 use Rattle.std.proofs.lemmas.Option.{none-some}
@@ -14,7 +14,6 @@ use Rattle.aia_imsic.specs.Files.{Harts, IsThere, place_of, file_at, with_file, 
 use Rattle.aia_imsic.proofs.PlaceLemmas.{replaced_here, kept_elsewhere}
 use Rattle.aia_model.specs.declared.answer.Answer.{Answer}
 use Rattle.aia_model.specs.declared.refusal.Refusal.{Refusal}
-use Rattle.aia_model.specs.declared.refusal.Refusal.TheVariants.{Range}
 use Rattle.aia_model.specs.declared.line.Line.{Line}
 use Rattle.aia_model.specs.declared.line.Line.TheVariants.{Machine}
 use Rattle.aia_model.specs.Event.{Event, History, Shape, machine_of, harts_of}

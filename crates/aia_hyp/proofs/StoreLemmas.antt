@@ -2,14 +2,12 @@
 use Rattle.std.proofs.Common.{◌≡◌, ◌≢◌, ℕ, ◌%◌, ◌≤◌, true, false, cond, ◌∷◌, Option, Some, None, refl, sym, ap, subst, ◌∙◌}
 use Rattle.std.proofs.lemmas.Bool.{cond-true, cond-false}
 use Rattle.aia_file.specs.InterruptFile.{SameFile, landed}
-use Rattle.aia_file.specs.FileState.{FileState, shown}
+use Rattle.aia_file.specs.FileState.{shown}
 use Rattle.aia_imsic.specs.declared.spot.Spot.{Spot}
-use Rattle.aia_imsic.specs.Files.{Harts, IsThere, file_at, with_file}
+use Rattle.aia_imsic.specs.Files.{IsThere, file_at, with_file}
 use Rattle.aia_imsic.specs.Map.{spot_at}
-use Rattle.aia_model.specs.declared.answer.Answer.{Answer}
 use Rattle.aia_model.specs.declared.answer.Answer.TheVariants.{Okay, Narrow, Refused}
 use Rattle.aia_model.specs.declared.refusal.Refusal.{Refusal}
-use Rattle.aia_model.specs.declared.refusal.Refusal.TheVariants.{Fault}
 use Rattle.aia_model.specs.declared.line.Line.TheVariants.{Load, Store}
 use Rattle.aia_model.specs.declared.msi.Msi.{Msi}
 use Rattle.aia_model.specs.Event.{Event, History, harts_of, machine_of}
@@ -17,7 +15,7 @@ use Rattle.aia_model.specs.Event.Event.{Accepted, Delivered}
 use Rattle.aia_model.specs.Act.{domain_at}
 use Rattle.aia_model.specs.FileAfter.Deed.{Stores, Rests}
 use Rattle.aia_model.specs.FileOf.{FileName, is_at, page_at, deed_at, store_deed}
-use Rattle.aia_model.specs.Refusal.{refusal, place_refusal}
+use Rattle.aia_model.specs.Refusal.{place_refusal}
 use Rattle.aia_model.specs.Answer.{place_read}
 use Rattle.aia_model.proofs.AnswerLemmas.{refused_by, load_refusal, store_refusal}
 use Rattle.aia_hyp.specs.Core.{CoreState}

@@ -16,7 +16,6 @@ use Rattle.aia_aplic.specs.Stands.{AplicStands}
 use Rattle.aia_aplic.specs.Sending.{Next}
 use Rattle.aia_aplic.proofs.SendingLemmas.{msis_next, settled_next, none_between}
 use Rattle.aia_replay.specs.declared.machine.Machine.{Machine}
-use Rattle.aia_aplic.specs.Stands.{AplicState}
 use Rattle.aia_hyp.specs.Core.{CoreState}
 use Rattle.aia_hyp.specs.Stands.{CoreStands, CoreHears, line_taken}
 use Rattle.aia_replay.specs.Stands.{MachineHolds, MachineStands, MachineTakes, MachineServes, Delivers, act_taken}

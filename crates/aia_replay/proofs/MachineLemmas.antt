@@ -1,5 +1,5 @@
 -- What lines leave of machines that stood for a history: those of the core, and those of the APLIC.
-use Rattle.std.proofs.Common.{◌≡◌, ◌≢◌, ℕ, ◌+◌, ◌%◌, ◌<◌, ◌≤◌, Bool, true, false, not, cond, nat_eq, nat_lt, ◌∷◌, unwrap_or, Option, Some, None, refl, sym, ap, subst, ◌∙◌, arith}
+use Rattle.std.proofs.Common.{◌≡◌, ◌≢◌, ℕ, ◌%◌, ◌<◌, ◌≤◌, Bool, true, false, not, cond, nat_eq, nat_lt, ◌∷◌, unwrap_or, Option, Some, None, refl, sym, ap, subst, ◌∙◌, arith}
 use Rattle.std.specs.Option.{option_map}
 use Rattle.std.specs.Int.{is_in_range}
 use Rattle.std.specs.Prelude.{Result, Ok, Err, MatchResult}
@@ -15,14 +15,14 @@ use Rattle.aia_model.specs.declared.refusal.Refusal.{Refusal}
 use Rattle.aia_model.specs.declared.refusal.Refusal.TheVariants.{Range, Fault}
 use Rattle.aia_model.specs.declared.domain_name.DomainName.{DomainName}
 use Rattle.aia_model.specs.declared.domain_name.DomainName.TheVariants.{Root, Child}
-use Rattle.aia_model.specs.Event.{History, has_machine, harts_of}
+use Rattle.aia_model.specs.Event.{History, harts_of}
 use Rattle.aia_model.specs.Event.Event.{Accepted}
-use Rattle.aia_model.specs.Act.{Past, newest, domain_at, register_at, act_of}
+use Rattle.aia_model.specs.Act.{Past, domain_at, register_at, act_of}
 use Rattle.aia_model.specs.Act.Act.{Driven, Written, Loaded}
 use Rattle.aia_model.specs.Sent.{with_act, acts_of}
 use Rattle.aia_model.specs.SourceOf.{harts_in, sources_in, is_source, register_read, is_signalled}
 use Rattle.aia_model.specs.FileOf.{MachineFile, SupervisorFile, page_at, file_of}
-use Rattle.aia_model.specs.Refusal.{refusal, place_refusal}
+use Rattle.aia_model.specs.Refusal.{refusal}
 use Rattle.aia_model.specs.Answer.{accepted_answer, place_read, taken}
 use Rattle.aia_model.proofs.AnswerLemmas.{answered, refused_by, wire_refusal, pins_refusal, load_refusal, store_refusal}
 use Rattle.aia_regs.specs.declared.access.Csr.{Csr}

@@ -1,4 +1,4 @@
-use Rattle.std.proofs.Common.{rules, ◌≡◌, Option, None, Some, Ok, Err, sym, ap, ◌∙◌}
+use Rattle.std.proofs.Common.{rules, ◌≡◌, Option, None, Some, Err, ap, ◌∙◌}
 use Rattle.aia_model.specs.declared.refusal.Refusal.{Refusal}
 use Rattle.aia_model.specs.declared.refusal.Refusal.TheVariants.{Fault}
 use Rattle.aia_hyp.proofs.PageLemmas.{in_a_region}

@@ -1,7 +1,6 @@
-use Rattle.std.proofs.Common.{◌<◌, ap, subst, arith, ◌∙◌}
+use Rattle.std.proofs.Common.{◌<◌, ap, arith, ◌∙◌}
 use Rattle.aia_file.specs.InterruptFile.{signals}
 use Rattle.aia_file.specs.FileState.{FileState, shown}
-use Rattle.aia_hyp.specs.Core.{CoreState}
 use Rattle.aia_hyp.proofs.EventLemmas.{signals_there}
 use Rattle.aia_hyp.proofs.hyp.Hyp.signals.Goals as goal
 

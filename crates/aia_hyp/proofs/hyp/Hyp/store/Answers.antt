@@ -1,4 +1,4 @@
-use Rattle.std.proofs.Common.{rules, ◌≡◌, ◌%◌, subst, Option, None, Some, Ok, Err, sym, ap, ◌∙◌}
+use Rattle.std.proofs.Common.{rules, ◌≡◌, ◌%◌, subst, Option, None, Some, Err, ap, ◌∙◌}
 use Rattle.aia_file.specs.InterruptFile.{SameFile, landed}
 use Rattle.aia_file.specs.FileState.{shown}
 use Rattle.aia_imsic.specs.Files.{file_at, with_file}
