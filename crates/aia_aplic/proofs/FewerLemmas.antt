@@ -1,6 +1,7 @@
 -- With each MSI that is sent fewer wait.
 use Rattle.std.proofs.Common.{◌≡◌, ℕ, zero, suc, ◌+◌, ◌<◌, ◌≤◌, Bool, true, false, cond, ◌&&◌, nat_eq, List, [], ◌∷◌, slice_get, count_by, Option, Some, None, refl, sym, ap, subst, ◌∙◌, arith}
 use Rattle.std.proofs.lemmas.Bool.{eq-eqb, and_parts}
+use Rattle.std.proofs.lemmas.Option.{same_Some}
 use Rattle.std.proofs.lemmas.List.Recursion.{is_count_by}
 use Rattle.aia_source.specs.Source.{rectified}
 use Rattle.aia_source.specs.Source.Deed.{Forwarded}
@@ -29,9 +30,6 @@ counted_one true b m n none some below = absurd (cc)
 counted_one false true m n none some below = omega (arith, below)
 counted_one false false m n none some below = absurd (cc)
 
-some_same : (x y : Held) → Some x ≡ Some y → x ≡ y
-some_same x y e = cc
-
 -- how many of a list wait
 count : List Held → ℕ
 count [] = 0
@@ -47,7 +45,7 @@ no_more [] [] change each less = omega arith
 no_more [] (y ∷ ys) change each less = let e : ◌≡◌ {A = Option Held} (Some y) None = each 0 in absurd (cc)
 no_more (x ∷ xs) [] change each less = let e : ◌≡◌ {A = Option Held} None (Some (change 0 x)) = each 0 in absurd (cc)
 no_more (x ∷ xs) (y ∷ ys) change each less =
-    let is : y ≡ change 0 x = some_same y (change 0 x) (each 0) in
+    let is : y ≡ change 0 x = same_Some y (change 0 x) (each 0) in
     counted (waits y) (waits x) (count ys) (count xs) (λ e. less 0 x (sym (ap waits is) ∙ e)) (no_more xs ys (λ i. change (suc i)) (λ i. each (suc i)) (λ i. less (suc i)))
 
 one_less : (old new : List Held) (change : ℕ → Held → Held) (s : ℕ) → EachSource old new change → NoMore change → waits_of (slice_get old s) ≡ true → ((x : Held) → waits (change s x) ≡ false) → count new < count old
@@ -55,10 +53,10 @@ unfolding count
 one_less [] new change s each less here falls = absurd (cc)
 one_less (x ∷ xs) [] change s each less here falls = let e : ◌≡◌ {A = Option Held} None (Some (change 0 x)) = each 0 in absurd (cc)
 one_less (x ∷ xs) (y ∷ ys) change zero each less here falls =
-    let is : y ≡ change 0 x = some_same y (change 0 x) (each 0) in
+    let is : y ≡ change 0 x = same_Some y (change 0 x) (each 0) in
     counted_one (waits y) (waits x) (count ys) (count xs) (ap waits is ∙ falls x) here (no_more xs ys (λ i. change (suc i)) (λ i. each (suc i)) (λ i. less (suc i)))
 one_less (x ∷ xs) (y ∷ ys) change (suc s) each less here falls =
-    let is : y ≡ change 0 x = some_same y (change 0 x) (each 0) in
+    let is : y ≡ change 0 x = same_Some y (change 0 x) (each 0) in
     counted_less (waits y) (waits x) (count ys) (count xs) (λ e. less 0 x (sym (ap waits is) ∙ e)) (one_less xs ys (λ i. change (suc i)) s (λ i. each (suc i)) (λ i. less (suc i)) here falls)
 
 -- a source that is forwarded

@@ -93,26 +93,15 @@ step-deed msi x does idle = λ i. record {
   delegated = x.delegated;
 }
 
-asked_enable : (b : Bool) (was : Bool) → settle (enable_word b b Ask) was ≡ (b && true)
-asked_enable true was = refl
-asked_enable false was = refl
+enable_set : (e b was : Bool) → settle (enable_word b b (cond e Ask Clear)) was ≡ (b && e)
+enable_set true true was = refl
+enable_set false true was = refl
+enable_set e false was = refl
 
-cleared_enable : (b : Bool) (was : Bool) → settle (enable_word b b Clear) was ≡ (b && false)
-cleared_enable true was = refl
-cleared_enable false was = refl
-
-pub step-enable : (msi : Bool) (x : Held) → IsIdle x → stepped x.source.mode x.source.wire msi msi x.delegated None Ask Untouched x ≡ with_enable true x
-step-enable msi x idle = λ i. record {
+pub step-enable : (e msi : Bool) (x : Held) → IsIdle x → stepped x.source.mode x.source.wire msi msi x.delegated None (cond e Ask Clear) Untouched x ≡ with_enable e x
+step-enable e msi x idle = λ i. record {
   source = record { mode = x.source.mode; wire = x.source.wire; pending = same_mode_says x.source.mode msi (rectified x.source.mode x.source.wire) x.source.pending idle.pending i };
-  enabled = asked_enable (is_active x.source.mode) x.enabled i;
-  target = same_target (is_active x.source.mode) msi x.target idle.target i;
-  delegated = x.delegated;
-}
-
-pub step-disable : (msi : Bool) (x : Held) → IsIdle x → stepped x.source.mode x.source.wire msi msi x.delegated None Clear Untouched x ≡ with_enable false x
-step-disable msi x idle = λ i. record {
-  source = record { mode = x.source.mode; wire = x.source.wire; pending = same_mode_says x.source.mode msi (rectified x.source.mode x.source.wire) x.source.pending idle.pending i };
-  enabled = cleared_enable (is_active x.source.mode) x.enabled i;
+  enabled = enable_set e (is_active x.source.mode) x.enabled i;
   target = same_target (is_active x.source.mode) msi x.target idle.target i;
   delegated = x.delegated;
 }

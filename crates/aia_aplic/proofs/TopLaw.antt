@@ -1,6 +1,7 @@
 -- The source on top is the least of the hart's.
 use Rattle.std.proofs.Common.{◌≡◌, ℕ, ◌≤◌, Bool, true, false, cond, Option, Some, None, refl, sym, ap, ◌∙◌, arith}
 use Rattle.std.proofs.lemmas.Bool.{cond-true, cond-false}
+use Rattle.std.proofs.lemmas.Option.{same_Some}
 use Rattle.aia_source.specs.Top.{Pair, least_pair, NamesItself, priority_of, pair_if}
 use Rattle.aia_source.proofs.TopLemmas.{least_found, least_none}
 use Rattle.aia_model.specs.declared.domain_name.DomainName.{DomainName}
@@ -14,11 +15,8 @@ record HasPair (a b : Bool) (t s : ℕ) (q : Pair) : Type 0 where
   member : b ≡ true
   is : q ≡ (priority_of t, s)
 
-some_same : (p q : Pair) → Some p ≡ Some q → q ≡ p
-some_same p q e = cc
-
 has_pair : (a b : Bool) (t s : ℕ) (q : Pair) → cond a (pair_if b t s) None ≡ Some q → HasPair a b t s q
-has_pair true true t s q e = record { for_it = refl; member = refl; is = some_same (priority_of t, s) q e }
+has_pair true true t s q e = record { for_it = refl; member = refl; is = sym (same_Some (priority_of t, s) q e) }
 has_pair true false t s q e = absurd (cc)
 has_pair false b t s q e = absurd (cc)
 

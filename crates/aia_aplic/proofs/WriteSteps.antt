@@ -21,15 +21,15 @@ use Rattle.aia_model.specs.declared.domain_name.DomainName.TheVariants.{Root, Ch
 use Rattle.aia_model.specs.Act.Act.{Written}
 use Rattle.aia_model.specs.SourceOf.{harts_in, sources_in, is_register_of, wire_of, root_sourcecfg_of, is_delegated, child_told, is_msi, enable_word, target_after}
 use Rattle.aia_aplic.specs.Stands.{held}
-use Rattle.aia_aplic.proofs.Steps.{stepped, held-step, held-idle, IsIdle, step-nothing, step-deed, step-enable, step-disable, step-aim, said_nothing, same_enable}
+use Rattle.aia_aplic.proofs.Steps.{stepped, held-step, held-idle, IsIdle, step-nothing, step-deed, step-enable, step-aim, said_nothing, same_enable}
 
 -- a store to a register that touches bits alone
 touch-step : (t : Option Touch) (msi : Bool) (x : Held) → IsIdle x → stepped x.source.mode x.source.wire msi msi x.delegated None (enable_of_touch t) (deed_of_touch t) x ≡ touched msi t x
 touch-step None msi x idle = step-nothing msi x idle
 touch-step (Some SetPending) msi x idle = step-deed msi x Set idle
 touch-step (Some ClearPending) msi x idle = step-deed msi x Cleared idle
-touch-step (Some SetEnable) msi x idle = step-enable msi x idle
-touch-step (Some ClearEnable) msi x idle = step-disable msi x idle
+touch-step (Some SetEnable) msi x idle = step-enable true msi x idle
+touch-step (Some ClearEnable) msi x idle = step-enable false msi x idle
 
 touch-aim : (b : Bool) (harts : ℕ) (msi : Bool) (v : ℕ) (x : Held) → IsIdle x → stepped x.source.mode x.source.wire msi msi x.delegated (when b (target_kept harts msi v)) Nothing Untouched x ≡ cond b (aimed harts msi v x) x
 touch-aim true harts msi v x idle = step-aim harts msi v x idle

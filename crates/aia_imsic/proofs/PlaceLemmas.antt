@@ -1,6 +1,6 @@
 -- Where files are kept, and what is there once one is replaced.
-use Rattle.std.proofs.Common.{◌≡◌, ◌≢◌, ℕ, ◌+◌, ◌*◌, ◌/◌, ◌<◌, ◌≤◌, length, refl, sym, ap, ◌∙◌, arith}
-use Rattle.std.proofs.lemmas.Nat.{div-mul-add, mul-le}
+use Rattle.std.proofs.Common.{◌≡◌, ◌≢◌, ℕ, ◌+◌, ◌*◌, ◌/◌, ◌<◌, length, refl, sym, ap, ◌∙◌, arith}
+use Rattle.std.proofs.lemmas.Nat.{div-mul-add, mul-add-lt}
 use Rattle.std.proofs.lemmas.List.{get_or-set_other}
 use Rattle.std.proofs.lemmas.Grind.{get_or-set_at}
 use Rattle.aia_file.specs.FileState.{FileState}
@@ -15,9 +15,6 @@ same_row size a b x y p q e = sym (div-mul-add a size x p) ∙ ap (λ n. n / siz
 
 same_column : (size a b x y : ℕ) → x < size → y < size → a * size + x ≡ b * size + y → x ≡ y
 same_column size a b x y p q e = let rows : a * size ≡ b * size = ap (λ n. n * size) (same_row size a b x y p q e) in omega arith
-
-within_rows : (size a n x : ℕ) → a < n → x < size → a * size + x < n * size
-within_rows size a n x p q = let more : (a + 1) * size ≤ n * size = mul-le (a + 1) size n size (omega arith) (omega arith) in omega arith
 
 -- ---- the row and the column of a file
 
@@ -67,7 +64,7 @@ same_spot h a Nowhere p q r c = absurd q
 -- ---- what callers know
 
 pub place_within : (h : Harts) (spot : Spot) → IsThere h spot → place_of h spot < h.harts * (h.guests + 2)
-place_within h spot there = rw (placed h spot) (within_rows (h.guests + 2) (row_of spot) h.harts (column_of spot) (row_there h spot there) (column_there h spot there))
+place_within h spot there = rw (placed h spot) (omega (arith, mul-add-lt (row_of spot) (h.guests + 2) (column_of spot) h.harts (row_there h spot there) (column_there h spot there)))
 
 pub same_place : (h : Harts) (a b : Spot) → IsThere h a → IsThere h b → place_of h a ≡ place_of h b → a ≡ b
 same_place h a b p q e =

@@ -1,8 +1,8 @@
 -- A word of bits that is made bit by bit, from the lowest on.
-use Rattle.std.proofs.Common.{◌≡◌, ◌≢◌, ℕ, ◌+◌, ◌*◌, ◌%◌, ◌^◌, ◌<◌, ◌≤◌, Bool, true, false, ◌&&◌, ◌||◌, nat_lt, inl, inr, refl, sym, ap, ◌∙◌, arith}
+use Rattle.std.proofs.Common.{◌≡◌, ◌≢◌, ℕ, ◌+◌, ◌*◌, ◌%◌, ◌^◌, ◌<◌, ◌≤◌, Bool, true, false, ◌&&◌, ◌||◌, nat_lt, inl, inr, sym, ap, ◌∙◌, arith}
 use Rattle.std.specs.Prelude.{bit_or}
 use Rattle.std.specs.Int.{is_in_range}
-use Rattle.std.proofs.lemmas.Bool.{cases_eq, eq-eqb, ne_eqb}
+use Rattle.std.proofs.lemmas.Bool.{cases_eq, eq-eqb, ne_eqb, and_right}
 use Rattle.std.proofs.lemmas.Bool.Decides.{nat_tests}
 use Rattle.aia_word.specs.Sets.{has_bit}
 use Rattle.aia_word.proofs.BitLemmas.{has_bit-set}
@@ -22,12 +22,8 @@ bit_put bits at members low here so_far j = has_bit-set bits at j low ∙ elim (
   | inr ne ↦ ap (λ b. b || has_bit bits j) (ne_eqb j at ne) ∙ so_far j ∙ ap (λ b. b && members j) (one_more j at ne)
 ]
 
-pub both_false : (a b : Bool) → b ≡ false → (a && b) ≡ false
-both_false true b e = e
-both_false false b e = refl
-
 pub bit_left : (bits at : ℕ) (members : ℕ → Bool) → members at ≡ false → ((j : ℕ) → has_bit bits j ≡ (nat_lt j at && members j)) → (j : ℕ) → has_bit bits j ≡ (nat_lt j (at + 1) && members j)
 bit_left bits at members out so_far j = so_far j ∙ elim (cases_eq j at) [
-  | inl e ↦ both_false _ _ (ap members e ∙ out) ∙ sym (both_false _ _ (ap members e ∙ out))
+  | inl e ↦ and_right _ _ (ap members e ∙ out) ∙ sym (and_right _ _ (ap members e ∙ out))
   | inr ne ↦ ap (λ b. b && members j) (one_more j at ne)
 ]

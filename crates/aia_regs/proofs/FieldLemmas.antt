@@ -1,7 +1,7 @@
 -- A field that is put into a number, and the bits about it.
 use Rattle.std.proofs.Common.{◌≡◌, ℕ, suc, ◌+◌, ◌-◌, ◌*◌, ◌/◌, ◌%◌, ◌^◌, ◌<◌, ◌≤◌, ◌⊎◌, inl, inr, sym, ap, subst, ◌∙◌, arith}
 use Rattle.std.specs.Int.{bit_at}
-use Rattle.std.proofs.lemmas.Nat.{pow-add, pow_pos, div-mul-add, mod-mul-add, div-add-mod', shr-shr}
+use Rattle.std.proofs.lemmas.Nat.{pow-add, pow_pos, div-mul-add, mod-mul-add, div-add-mod', shr-shr, shl_whole}
 use Rattle.std.proofs.lemmas.Nat.Bits.{bit_at_cat_low, bit_at_cat_high, bit_at_above, same_from_bits}
 use Rattle.std.proofs.lemmas.Bool.{cases_lt}
 use Rattle.std.proofs.Math.Nat.{mod-lt, mod-eq_of_lt, mul-le-mul_right, lt_of_mul-lt-mul_right}
@@ -58,21 +58,16 @@ pub put_fits : (x hi lo v w : ℕ) → lo ≤ hi → hi < w → v < 2 ^ (hi - lo
 put_fits x hi lo v w order within small fits =
     parts_fit (above x hi lo) (2 ^ (hi - lo + 1)) (2 ^ lo) (field x hi lo) v (x % 2 ^ lo) (2 ^ (w - suc hi)) (2 ^ w) (powers hi lo w order within) (subst (λ (y : ℕ). y < 2 ^ w) (sym (put_back x hi lo)) fits) small (mod-lt x (pow_pos lo))
 
--- the shifts lose nothing
+-- the shift loses nothing
 old_shifted : (x hi lo : ℕ) → x < 2 ^ 64 → field x hi lo * 2 ^ lo % 2 ^ 64 ≡ field x hi lo * 2 ^ lo
 old_shifted x hi lo fits = let below : field x hi lo * 2 ^ lo < 2 ^ 64 = omega (arith, field_within x hi lo) in mod-eq_of_lt below
-
-new_shifted : (v hi lo : ℕ) → lo ≤ hi → hi < 64 → v < 2 ^ (hi - lo + 1) → v * 2 ^ lo % 2 ^ 64 ≡ v * 2 ^ lo
-new_shifted v hi lo order within small =
-    let e : 0 - field 0 hi lo * 2 ^ lo + v * 2 ^ lo ≡ v * 2 ^ lo = omega arith in
-    let below : v * 2 ^ lo < 2 ^ 64 = omega (arith, exchange 0 hi lo v, put_fits 0 hi lo v 64 order within small (omega arith)) in mod-eq_of_lt below
 
 -- what `put_bits` computes
 pub exchange_shifted : (x hi lo v old : ℕ) → lo ≤ hi → hi < 64 → v < 2 ^ (hi - lo + 1) → x < 2 ^ 64 → old ≡ field x hi lo → x - old * 2 ^ lo % 2 ^ 64 + v * 2 ^ lo % 2 ^ 64 ≡ with_field x hi lo v
 exchange_shifted x hi lo v old order within small fits e =
     ap (λ y. x - y * 2 ^ lo % 2 ^ 64 + v * 2 ^ lo % 2 ^ 64) e
     ∙ ap (λ y. x - y + v * 2 ^ lo % 2 ^ 64) (old_shifted x hi lo fits)
-    ∙ ap (λ y. x - field x hi lo * 2 ^ lo + y) (new_shifted v hi lo order within small)
+    ∙ ap (λ y. x - field x hi lo * 2 ^ lo + y) (shl_whole v (hi - lo + 1) lo 64 small (omega arith))
     ∙ exchange x hi lo v
 
 -- ---- bits

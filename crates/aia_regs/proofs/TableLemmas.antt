@@ -2,7 +2,7 @@
 use Rattle.std.proofs.Common.{◌≡◌, ◌≢◌, ℕ, zero, suc, ◌+◌, ◌-◌, ◌*◌, ◌/◌, ◌%◌, ◌<◌, ◌≤◌, Bool, true, false, not, cond, ◌&&◌, ◌||◌, nat_eq, nat_lt, nat_le, ◌⊎◌, ◌↔◌, inl, inr, List, [], ◌∷◌, Option, Some, None, refl, sym, ap, subst, ◌∙◌, arith}
 use Rattle.std.specs.Int.{is_in_range}
 use Rattle.std.specs.List.{slice_get}
-use Rattle.std.proofs.lemmas.Bool.{cond-true, cond-false, cases_eq, and_parts}
+use Rattle.std.proofs.lemmas.Bool.{cond-true, cond-false, cases_eq, and_parts, false_from_ne_true}
 use Rattle.std.proofs.lemmas.Bool.Decides.{nat_tests}
 use Rattle.std.proofs.lemmas.Nat.{div-mul-add, mod-mul-add, div-add-mod'}
 use Rattle.std.proofs.Math.Nat.{add-mul-mod_self_left, mul-le-mul_left}
@@ -110,10 +110,6 @@ in_each test (a ∷ rows) (suc k) row h e = in_each test rows k row (and_parts (
 positive : (n : ℕ) → nat_lt 0 n ≡ true → 0 < n
 positive n h = grind (arith, nat_tests)
 
-not_true : (a : Bool) → (a ≡ true → ⊥) → a ≡ false
-not_true true h = absurd (h refl)
-not_true false h = refl
-
 parts_of_rows : (row : Row) (rows : List Row) → are_rows (row ∷ rows) ≡ true → (nat_lt 0 row.stride ≡ true) × (each (are_apart row) rows ≡ true) × (are_rows rows ≡ true)
 parts_of_rows row rows h =
     let p = and_parts (nat_lt 0 row.stride && each (are_apart row) rows) (are_rows rows) h in
@@ -131,7 +127,7 @@ named_by_rows (a ∷ rows) zero row i offset h e at =
 named_by_rows (a ∷ rows) (suc k) row i offset h e at =
     let p = parts_of_rows a rows h in
     let apart : are_apart a row ≡ true = in_each (are_apart a) rows k row p.1 e in
-    let not_here : has_offset a offset ≡ false = not_true (has_offset a offset) (λ t. not_in_both a row (index_at a offset) i offset apart (is_at a offset t) at) in
+    let not_here : has_offset a offset ≡ false = false_from_ne_true (has_offset a offset) (λ t. not_in_both a row (index_at a offset) i offset apart (is_at a offset t) at) in
     cond-false (has_offset a offset) (a.register (index_at a offset)) (register_by rows offset) not_here ∙ named_by_rows rows k row i offset p.2 e at
 
 -- where no row has the offset, the rows name nothing there
@@ -283,7 +279,7 @@ aligned_offset base stride i offset h e =
     omega arith
 
 unaligned_row : (offset : ℕ) → offset % 4 ≢ 0 → (row : Row) → is_aligned row ≡ true → has_offset row offset ≡ false
-unaligned_row offset ne row h = not_true (has_offset row offset) (λ t. ne (aligned_offset row.base row.stride (index_at row offset) offset h (is_at row offset t).place))
+unaligned_row offset ne row h = false_from_ne_true (has_offset row offset) (λ t. ne (aligned_offset row.base row.stride (index_at row offset) offset h (is_at row offset t).place))
 
 pub unaligned : (offset : ℕ) → offset % 4 ≢ 0 → domain_register_of offset ≡ Nothing
 unfolding domain_register_of
@@ -294,7 +290,7 @@ abbrev is_inside : Row → Bool
 is_inside row = nat_lt (last_offset row) 0x8000
 
 beyond_row : (offset : ℕ) → 0x8000 ≤ offset → (row : Row) → is_inside row ≡ true → has_offset row offset ≡ false
-beyond_row offset past row h = not_true (has_offset row offset) (λ t. outside (last_offset row) h (to_last row (index_at row offset) offset (is_at row offset t)))
+beyond_row offset past row h = false_from_ne_true (has_offset row offset) (λ t. outside (last_offset row) h (to_last row (index_at row offset) offset (is_at row offset t)))
   where
     outside : (last : ℕ) → nat_lt last 0x8000 ≡ true → offset ≤ last → ⊥
     outside last small low = grind (arith, nat_tests)
@@ -309,7 +305,7 @@ is_elsewhere place row = nat_lt (last_offset row) 0x4000 || nat_eq row.stride 32
 
 elsewhere_row : (hart place offset : ℕ) → place < 32 → offset ≡ 0x4000 + 32 * hart + place → (row : Row) → is_elsewhere place row ≡ true → has_offset row offset ≡ false
 elsewhere_row hart place offset small e row h =
-    not_true (has_offset row offset) (λ t. outside (last_offset row) row.stride row.base h (to_last row (index_at row offset) offset (is_at row offset t)) (rest_here row (index_at row offset) offset (is_at row offset t)))
+    false_from_ne_true (has_offset row offset) (λ t. outside (last_offset row) row.stride row.base h (to_last row (index_at row offset) offset (is_at row offset t)) (rest_here row (index_at row offset) offset (is_at row offset t)))
   where
     outside : (last stride base : ℕ) → (nat_lt last 0x4000 || nat_eq stride 32 && not (nat_eq (base % 32) place)) ≡ true → offset ≤ last → offset % stride ≡ base % stride → ⊥
     outside last stride base test low rest =

@@ -1,6 +1,7 @@
 -- The least of pairs.
 use Rattle.std.proofs.Common.{◌≡◌, ℕ, zero, suc, ◌+◌, ◌-◌, ◌<◌, ◌≤◌, true, false, nat_lt, Option, Some, None, inl, inr, refl, sym, ap, subst, ◌∙◌, arith}
 use Rattle.std.proofs.lemmas.Bool.{cases_lt, cases_eq, lt-ltb, le-ltb, cond-true, cond-false}
+use Rattle.std.proofs.lemmas.Option.{none-some, same_Some}
 use Rattle.aia_source.specs.Top.{Pair, lesser, least_pair, ComesFirst, NamesItself, IsLeast}
 
 pub lesser-none : (a : Option Pair) → lesser a None ≡ a
@@ -48,12 +49,6 @@ abbrev pub IsLeastOf : (ℕ → Option Pair) → ℕ → ℕ → Option Pair →
 IsLeastOf candidate from count None = (s : ℕ) → from ≤ s → s < from + count → candidate s ≡ None
 IsLeastOf candidate from count (Some p) = IsLeast candidate from count p
 
-same_pair : (o : Option Pair) (p q : Pair) → o ≡ Some p → o ≡ Some q → q ≡ p
-same_pair o p q e f = let g : ◌≡◌ {A = Option Pair} (Some q) (Some p) = sym f ∙ e in cc
-
-no_pair : {A : Type 0} (o : Option Pair) (q : Pair) → o ≡ None → o ≡ Some q → A
-no_pair o q e f = let g : ◌≡◌ {A = Option Pair} None (Some q) = sym e ∙ f in absurd (cc)
-
 first_is : (p q : Pair) → q ≡ p → ComesFirst p q
 first_is p q e = subst (ComesFirst p) (sym e) (inr (refl, omega arith))
 
@@ -68,7 +63,7 @@ one_more candidate from count None (Some r) own here rest = record {
   high = omega (arith, rest.high);
   is = rest.is;
   least = λ s q low high found. elim (cases_eq s from) [
-    | inl e ↦ no_pair (candidate s) q (ap candidate e ∙ here) found
+    | inl e ↦ absurd (none-some q (sym (ap candidate e ∙ here) ∙ found))
     | inr ne ↦ rest.least s q (omega arith) (omega arith) found
   ];
 }
@@ -79,8 +74,8 @@ one_more candidate from count (Some p) None own here rest =
       high = omega arith;
       is = ap candidate at ∙ here;
       least = λ s q low high found. elim (cases_eq s from) [
-        | inl e ↦ first_is p q (same_pair (candidate s) p q (ap candidate e ∙ here) found)
-        | inr ne ↦ no_pair (candidate s) q (rest s (omega arith) (omega arith)) found
+        | inl e ↦ first_is p q (same_Some q p (sym found ∙ ap candidate e ∙ here))
+        | inr ne ↦ absurd (none-some q (sym (rest s (omega arith) (omega arith)) ∙ found))
       ];
     }
 one_more candidate from count (Some p) (Some r) own here rest = elim (cases_lt r.0 p.0) [
@@ -89,7 +84,7 @@ one_more candidate from count (Some p) (Some r) own here rest = elim (cases_lt r
     high = omega (arith, rest.high);
     is = rest.is;
     least = λ s q low high found. elim (cases_eq s from) [
-      | inl e ↦ let f : q ≡ p = same_pair (candidate s) p q (ap candidate e ∙ here) found in subst (ComesFirst r) (sym f) (inl less)
+      | inl e ↦ let f : q ≡ p = same_Some q p (sym found ∙ ap candidate e ∙ here) in subst (ComesFirst r) (sym f) (inl less)
       | inr ne ↦ rest.least s q (omega arith) (omega arith) found
     ];
   })
@@ -98,7 +93,7 @@ one_more candidate from count (Some p) (Some r) own here rest = elim (cases_lt r
     high = omega arith;
     is = ap candidate at ∙ here;
     least = λ s q low high found. elim (cases_eq s from) [
-      | inl e ↦ first_is p q (same_pair (candidate s) p q (ap candidate e ∙ here) found)
+      | inl e ↦ first_is p q (same_Some q p (sym found ∙ ap candidate e ∙ here))
       | inr ne ↦ after more at (own s q found) (rest.least s q (omega arith) (omega arith) found) (omega arith)
     ];
   })
