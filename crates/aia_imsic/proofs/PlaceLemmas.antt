@@ -1,20 +1,12 @@
 -- Where files are kept, and what is there once one is replaced.
-use Rattle.std.proofs.Common.{◌≡◌, ◌≢◌, ℕ, ◌+◌, ◌*◌, ◌/◌, ◌<◌, length, refl, sym, ap, ◌∙◌, arith}
-use Rattle.std.proofs.lemmas.Nat.{div-mul-add, mul-add-lt}
+use Rattle.std.proofs.Common.{◌≡◌, ◌≢◌, ℕ, ◌+◌, ◌*◌, ◌<◌, length, refl, sym, ap, ◌∙◌, arith}
+use Rattle.std.proofs.lemmas.Nat.{same_from_place, mul-add-lt}
 use Rattle.std.proofs.lemmas.List.{get_or-set_other}
 use Rattle.std.proofs.lemmas.Grind.{get_or-set_at}
 use Rattle.aia_file.specs.FileState.{FileState}
 use Rattle.aia_imsic.specs.declared.spot.Spot.{Spot}
 use Rattle.aia_imsic.specs.declared.spot.Spot.TheVariants.{MachineFile, HostFile, GuestFile, Nowhere}
 use Rattle.aia_imsic.specs.Files.{Harts, IsThere, place_of, no_file, file_at, with_file}
-
--- ---- rows of `size` places
-
-same_row : (size a b x y : ℕ) → x < size → y < size → a * size + x ≡ b * size + y → a ≡ b
-same_row size a b x y p q e = sym (div-mul-add a size x p) ∙ ap (λ n. n / size) e ∙ div-mul-add b size y q
-
-same_column : (size a b x y : ℕ) → x < size → y < size → a * size + x ≡ b * size + y → x ≡ y
-same_column size a b x y p q e = let rows : a * size ≡ b * size = ap (λ n. n * size) (same_row size a b x y p q e) in omega arith
 
 -- ---- the row and the column of a file
 
@@ -71,7 +63,7 @@ same_place h a b p q e =
     let same = sym (placed h a) ∙ e ∙ placed h b in
     let x = column_there h a p in
     let y = column_there h b q in
-    same_spot h a b p q (same_row (h.guests + 2) (row_of a) (row_of b) (column_of a) (column_of b) x y same) (same_column (h.guests + 2) (row_of a) (row_of b) (column_of a) (column_of b) x y same)
+    let at = same_from_place (row_of a) (column_of a) (row_of b) (column_of b) (h.guests + 2) x y same in same_spot h a b p q at.0 at.1
 
 pub replaced_here : (h : Harts) (spot : Spot) (file : FileState) → place_of h spot < length h.files → file_at (with_file h spot file) spot ≡ file
 replaced_here h spot file within = get_or-set_at h.files (place_of h spot) (place_of h spot) file no_file refl within

@@ -2,6 +2,7 @@
 use Rattle.std.proofs.Common.{◌≡◌, ◌≢◌, ℕ, zero, suc, ◌+◌, ◌-◌, ◌*◌, ◌/◌, ◌%◌, ◌<◌, ◌≤◌, Bool, true, false, not, cond, ◌&&◌, ◌||◌, nat_eq, nat_lt, nat_le, ◌⊎◌, ◌↔◌, inl, inr, List, [], ◌∷◌, Option, Some, None, refl, sym, ap, subst, ◌∙◌, arith}
 use Rattle.std.specs.Int.{is_in_range}
 use Rattle.std.specs.List.{slice_get}
+use Rattle.std.proofs.lemmas.Option.{cond_some}
 use Rattle.std.proofs.lemmas.Bool.{cond-true, cond-false, cases_eq, and_parts, false_from_ne_true}
 use Rattle.std.proofs.lemmas.Bool.Decides.{nat_tests}
 use Rattle.std.proofs.lemmas.Nat.{div-mul-add, mod-mul-add, div-add-mod'}
@@ -144,11 +145,10 @@ table_has_rows = refl
 
 -- a register with an index that has an offset: the index is in its row
 pub in_range : (base stride first last i offset : ℕ) → offset_of_index base stride first last i ≡ Some offset → (first ≤ i) × (i ≤ last) × (offset ≡ base + stride * i)
-in_range base stride first last i offset e = chosen (is_in_range first last i) refl e
-  where
-    chosen : (t : Bool) → is_in_range first last i ≡ t → cond t (Some (base + stride * i)) None ≡ Some offset → (first ≤ i) × (i ≤ last) × (offset ≡ base + stride * i)
-    chosen true q e = (grind (arith, nat_tests), grind (arith, nat_tests), cc)
-    chosen false q e = absurd (cc)
+in_range base stride first last i offset e =
+    let h = cond_some (is_in_range first last i) (base + stride * i) offset e in
+    let inside : is_in_range first last i ≡ true = h.0 in
+    (grind (arith, nat_tests, inside), grind (arith, nat_tests, inside), sym h.1)
 
 in_table : (k : ℕ) (row : Row) → slice_get table k ≡ Some row → (i offset : ℕ) → offset_of_index row.base row.stride row.first row.last i ≡ Some offset → domain_register_of offset ≡ row.register i
 unfolding domain_register_of
