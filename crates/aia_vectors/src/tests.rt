@@ -1,8 +1,8 @@
 mod accesses;
 mod calls;
-mod core;
 mod ends;
 mod files;
+mod hypervisor_core;
 mod registers;
 mod runs;
 mod spellings;

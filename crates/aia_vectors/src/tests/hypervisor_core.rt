@@ -16,19 +16,37 @@ fn the_core_serves_the_files_of_the_host(rt: HostRuntime) -> Result<(), Fail> {
         (Csr::Reg, 1, 0),
     ];
     for (csr, value, before) in accesses {
-        assert_eq!(rt; core.host(Level::Host, 0, csr, Op::Write(value)), Ok(before));
+        assert_eq!(rt;
+            core.host(Level::Host, 0, csr, Op::Write(value)),
+            Ok(before)
+        );
     }
     assert_eq!(rt; core.signals(0), Ok((false, false)));
     assert_eq!(rt; core.store(0x2800_0000, 5), Ok(()));
-    core.land(Msi { address: 0x2800_0000, value: 3 });
+    core.land(Msi {
+        address: 0x2800_0000,
+        value: 3,
+    });
     // An MSI to a guest's page, and one to no page, are dropped.
-    core.land(Msi { address: 0x2800_1000, value: 5 });
-    core.land(Msi { address: 0x0c00_0000, value: 5 });
+    core.land(Msi {
+        address: 0x2800_1000,
+        value: 5,
+    });
+    core.land(Msi {
+        address: 0x0c00_0000,
+        value: 5,
+    });
     assert_eq!(rt; core.signals(0), Ok((false, true)));
     assert_eq!(rt; core.load(0x2800_0000), Ok(0));
     assert_eq!(rt; core.host(Level::Machine, 0, Csr::Topei, Op::Read), Ok(0));
-    assert_eq!(rt; core.host(Level::Host, 0, Csr::Topei, Op::Write(0)), Ok(0x3_0003));
-    assert_eq!(rt; core.host(Level::Host, 0, Csr::Topei, Op::Write(0)), Ok(0x5_0005));
+    assert_eq!(rt;
+        core.host(Level::Host, 0, Csr::Topei, Op::Write(0)),
+        Ok(0x3_0003)
+    );
+    assert_eq!(rt;
+        core.host(Level::Host, 0, Csr::Topei, Op::Write(0)),
+        Ok(0x5_0005)
+    );
     assert_eq!(rt; core.host(Level::Host, 0, Csr::Topei, Op::Read), Ok(0));
     Ok(())
 }
@@ -49,7 +67,13 @@ fn the_core_refuses_with_its_words(rt: HostRuntime) -> Result<(), Fail> {
         assert_eq!(rt; core.load(addr), Err(word), "at {addr}");
     }
     assert_eq!(rt; core.signals(1), Err(Refusal::Range));
-    assert_eq!(rt; core.host(Level::Host, 1, Csr::Select, Op::Read), Err(Refusal::Range));
-    assert_eq!(rt; core.host(Level::Host, 0, Csr::Reg, Op::Read), Err(Refusal::Illegal));
+    assert_eq!(rt;
+        core.host(Level::Host, 1, Csr::Select, Op::Read),
+        Err(Refusal::Range)
+    );
+    assert_eq!(rt;
+        core.host(Level::Host, 0, Csr::Reg, Op::Read),
+        Err(Refusal::Illegal)
+    );
     Ok(())
 }
