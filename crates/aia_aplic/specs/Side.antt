@@ -31,12 +31,17 @@ pub record DomainStands (d : DomainState) (past : Past) (name : DomainName) : Ty
 
 -- What the past makes of a hart's delivery control in a domain. Profile.
 abbrev pub control : Past → DomainName → ℕ → IdcState
-control past d hart = record { idelivery = nat_eq (idelivery_of past d hart) 1; iforce = nat_eq (iforce_of past d hart) 1; ithreshold = ithreshold_of past d hart }
+control past d hart = record {
+  idelivery = nat_eq (idelivery_of past d hart) 1;
+  iforce = nat_eq (iforce_of past d hart) 1;
+  ithreshold = ithreshold_of past d hart;
+}
 
 -- The delivery controls that are kept are what the past makes of them. Profile.
 pub record ControlsStand (controls : List IdcState) (past : Past) (name : DomainName) : Type 0 where
   pub count : length controls ≡ harts_in past
-  pub each : (hart : ℕ) (c : IdcState) → slice_get controls hart ≡ Some c → c ≡ control past name hart
+  pub each : (hart : ℕ) (c : IdcState) → slice_get controls hart ≡ Some c
+      → c ≡ control past name hart
 
 -- A domain with the delivery controls of its harts.
 pub record SideState : Type 0 where

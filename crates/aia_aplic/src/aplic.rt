@@ -67,7 +67,8 @@ impl Aplic {
 
     /// The wire of a source gets a level; a number that is no source's changes none.
     pub fn wire(&mut self, s: u32, level: bool)
-        ensures { (past : Past) → AplicStands self.old past → AplicStands self.new (Driven s level ∷ past) }
+        ensures { (past : Past) → AplicStands self.old past
+            → AplicStands self.new (Driven s level ∷ past) }
     {
         self.root.wire(s, level);
         self.child.wire(s, level);
@@ -82,7 +83,9 @@ impl Aplic {
         requires { domain ≤ 1 }
         ensures reads { (past : Past) → AplicStands self.old past →
             result ≡ register_read past (domain_name domain) (domain_register_of offset) }
-        ensures stands { (past : Past) → AplicStands self.old past → AplicStands self.new (Loaded (domain_name domain) (domain_register_of offset) ∷ past) }
+        ensures stands { (past : Past) → AplicStands self.old past
+            → AplicStands self.new (Loaded (domain_name domain)
+            (domain_register_of offset) ∷ past) }
     {
         self.load_register(domain_name(domain), domain_reg(offset))
     }
@@ -108,7 +111,9 @@ impl Aplic {
     /// AIA 1.0, APLIC, "Memory-mapped control region for an interrupt domain".
     pub fn store(&mut self, domain: u32, offset: u32, value: u32)
         requires { domain ≤ 1 }
-        ensures { (past : Past) → AplicStands self.old past → AplicStands self.new (Written (domain_name domain) (domain_register_of offset) value ∷ past) }
+        ensures { (past : Past) → AplicStands self.old past
+            → AplicStands self.new (Written (domain_name domain)
+            (domain_register_of offset) value ∷ past) }
     {
         self.store_register(domain_name(domain), domain_reg(offset), value);
     }
@@ -124,7 +129,8 @@ impl Aplic {
     }
 
     fn store_root(&mut self, reg: DomainReg, value: u32)
-        ensures { (past : Past) → AplicStands self.old past → AplicStands self.new (Written Root reg value ∷ past) }
+        ensures { (past : Past) → AplicStands self.old past
+            → AplicStands self.new (Written Root reg value ∷ past) }
     {
         self.addresses.store(reg, value);
         self.root.store(reg, value);
@@ -140,8 +146,10 @@ impl Aplic {
     /// AIA 1.0, APLIC, "Interrupt delivery directly by the APLIC".
     pub fn pin(&self, domain: u32, hart: u32) -> bool
         requires { domain ≤ 1 }
-        ensures signal { (past : Past) → AplicStands self.now past → hart < harts_in past → result ≡ is_signalled past (domain_name domain) hart }
-        ensures away { (past : Past) → AplicStands self.now past → harts_in past ≤ hart → result ≡ false }
+        ensures signal { (past : Past) → AplicStands self.now past → hart < harts_in past
+            → result ≡ is_signalled past (domain_name domain) hart }
+        ensures away { (past : Past) → AplicStands self.now past → harts_in past ≤ hart
+            → result ≡ false }
     {
         self.side(domain_name(domain)).signal(hart)
     }
@@ -189,7 +197,8 @@ impl Aplic {
 
     /// The least source that is to be forwarded.
     fn first_source(&self) -> Option<Sender>
-        ensures { IsFirstSource (is_ready self.now.root.domain) (is_ready self.now.child.domain) result }
+        ensures { IsFirstSource (is_ready self.now.root.domain)
+            (is_ready self.now.child.domain) result }
     {
         match (self.root.least_ready(), self.child.least_ready()) {
             (None, None) => None,

@@ -60,7 +60,8 @@ pub(crate) fn claim(controls: &mut [Idc], domain: &mut Domain, hart: u32) -> u32
     requires { hart < length controls.now }
     ensures value { result ≡ topi_value (top_shown (control_at controls.old hart) domain.old hart) }
     ensures controls { EachControl controls.old controls.new (claimed_at domain.old hart) }
-    ensures sources { EachSource domain.old.sources domain.new.sources (claimed_top (top_shown (control_at controls.old hart) domain.old hart)) }
+    ensures sources { EachSource domain.old.sources domain.new.sources
+        (claimed_top (top_shown (control_at controls.old hart) domain.old hart)) }
     ensures domain { domain.new ≡ with_sources domain.old domain.new.sources }
 {
     claimi(&mut controls[hart as usize], domain, hart)

@@ -6,7 +6,7 @@ use Rattle.aia_regs.specs.declared.domain_registers.DomainReg.{DomainReg}
 use Rattle.aia_regs.specs.declared.domain_registers.DomainReg.TheVariants.{DomainCfg, SourceCfg, SetIp, InClrIp, SetIe, GenMsi, Target}
 use Rattle.aia_source.specs.Registers.{domaincfg_kept, domaincfg_read, enables, is_by_msi, touch, genmsi_kept, same_bool}
 use Rattle.aia_domain.specs.declared.entry.Look.TheVariants as looks
-use Rattle.aia_domain.specs.Entry.{EntryState, new_entry, changed_at, written_at, touched, switched, aimed, waits_of, sourcecfg_of, target_of, bit_at_source}
+use Rattle.aia_domain.specs.Entry.{EntryState, new_entry, changed_at, written_at, touched, switched, aimed, waits_at, sourcecfg_at, target_at, bit_at_source}
 
 -- Whether it is a leaf of the tree of domains, which has no child; how many harts there are; IE and
 -- DM; genmsi, and whether an MSI that it asked for is still to be sent; the sources.
@@ -72,12 +72,12 @@ domain_after reg v d = d
 -- AIA 1.0, APLIC, "Memory-mapped control region for an interrupt domain".
 abbrev pub domain_read : DomainState → DomainReg → ℕ
 domain_read d DomainCfg = domaincfg_read d.on d.msi
-domain_read d (SourceCfg i) = sourcecfg_of d.leaf (slice_get d.sources i)
+domain_read d (SourceCfg i) = sourcecfg_at d.sources d.leaf i
 domain_read d (SetIp k) = word_of (bit_at_source d.sources looks.Pending) (32 * k) 32
 domain_read d (InClrIp k) = word_of (bit_at_source d.sources looks.Input) (32 * k) 32
 domain_read d (SetIe k) = word_of (bit_at_source d.sources looks.Enable) (32 * k) 32
 domain_read d GenMsi = d.genmsi
-domain_read d (Target i) = target_of (slice_get d.sources i)
+domain_read d (Target i) = target_at d.sources i
 domain_read d reg = 0
 
 -- ---- what is to be sent
@@ -86,7 +86,7 @@ domain_read d reg = 0
 -- is pending and enabled.
 -- AIA 1.0, APLIC, "Interrupt forwarding by MSIs".
 abbrev pub is_ready : DomainState → ℕ → Bool
-is_ready d s = d.msi && d.on && waits_of (slice_get d.sources s)
+is_ready d s = d.msi && d.on && waits_at d.sources s
 
 -- The sources that are to be forwarded, from a number on, rising.
 unfoldable pub ready_from : DomainState → ℕ → List ℕ

@@ -1,9 +1,10 @@
 -- What a domain keeps of one source, and what is done to it.
 use Rattle.std.specs.Prelude.{◌≡◌, ℕ, Bool, true, false, not, ◌&&◌, nat_eq, if◌then◌else◌, List, slice_get, get_or, Option, Some, None, option_map}
+use Rattle.std.specs.Option.{option_map_or}
 use Rattle.aia_source.specs.declared.mode.Mode.{Mode}
 use Rattle.aia_source.specs.declared.mode.Mode.TheVariants.{Inactive}
 use Rattle.aia_source.specs.Wired.{WiredState, SourceDeed, new_wired, done, is_active, rectified}
-use Rattle.aia_source.specs.Wired.SourceDeed.{LevelGiven, Set, Cleared, Configured, Activated, Switched}
+use Rattle.aia_source.specs.Wired.SourceDeed.{LevelGiven, Set, Cleared, Configured, Switched}
 use Rattle.aia_source.specs.declared.kept.TheConstants.{DELEGATED}
 use Rattle.aia_source.specs.Registers.{root_sourcecfg, child_sourcecfg, delegates, mode_of, mode_number, first_target, target_kept, same_bool, is_named}
 use Rattle.aia_source.specs.declared.touch.Touch.{Touch}
@@ -49,7 +50,7 @@ touched msi (Some ClearEnable) x = with_enable false x
 -- AIA 1.0, APLIC. Profile: enable and target stay from one active mode to another.
 abbrev pub configured : Bool → Mode → EntryState → EntryState
 configured msi mode x = record x {
-  source = done msi (if is_active x.source.mode then Configured else Activated) mode x.source.wire x.source;
+  source = done msi Configured mode x.source.wire x.source;
   enabled = is_active x.source.mode && is_active mode && x.enabled;
   target = if is_active mode then (if is_active x.source.mode then x.target else first_target msi) else 0;
 }
@@ -129,22 +130,15 @@ all_switched msi s x = switched msi x
 abbrev pub entry_at : List EntryState → ℕ → EntryState
 entry_at sources s = get_or sources s new_entry
 
--- What is shown of a source, given what is kept of it; a source that isn't there shows nothing.
-abbrev pub bit_of : Look → Option EntryState → Bool
-bit_of look None = false
-bit_of look (Some x) = bit_shown look x
-
+-- What is shown of a source by its number; one that isn't there shows nothing.
 abbrev pub bit_at_source : List EntryState → Look → ℕ → Bool
-bit_at_source sources look s = bit_of look (slice_get sources s)
+bit_at_source sources look s = option_map_or (bit_shown look) (slice_get sources s) false
 
-abbrev pub waits_of : Option EntryState → Bool
-waits_of None = false
-waits_of (Some x) = waits x
+abbrev pub waits_at : List EntryState → ℕ → Bool
+waits_at sources s = option_map_or waits (slice_get sources s) false
 
-abbrev pub sourcecfg_of : Bool → Option EntryState → ℕ
-sourcecfg_of leaf None = 0
-sourcecfg_of leaf (Some x) = sourcecfg_shown leaf x
+abbrev pub sourcecfg_at : List EntryState → Bool → ℕ → ℕ
+sourcecfg_at sources leaf s = option_map_or (sourcecfg_shown leaf) (slice_get sources s) 0
 
-abbrev pub target_of : Option EntryState → ℕ
-target_of None = 0
-target_of (Some x) = x.target
+abbrev pub target_at : List EntryState → ℕ → ℕ
+target_at sources s = option_map_or (λ (x : EntryState). x.target) (slice_get sources s) 0

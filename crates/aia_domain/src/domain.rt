@@ -2,12 +2,12 @@ ghost use Rattle.std.specs.Prelude.{◌≡◌, suc, ◌≤◌, ◌<◌, Bool, le
 ghost use Rattle.aia_regs.specs.declared.limits.TheConstants.{HARTS, SOURCES};
 ghost use Rattle.aia_source.specs.Registers.{enables, is_by_msi, same_bool};
 ghost use Rattle.aia_source.specs.Wired.SourceDeed.{Claimed, Forwarded};
-ghost use Rattle.aia_domain.specs.Entry.{EachSource, changed_at, granted_at, wired, with_deed, entry_at, bit_at_source, target_of};
+ghost use Rattle.aia_domain.specs.Entry.{EachSource, changed_at, granted_at, wired, with_deed, entry_at, bit_at_source, target_at};
 ghost use Rattle.aia_domain.specs.Domain.{IsNewDomain, with_sources, configured_by, source_after, domain_after, domaincfg_written, domain_read, is_ready, ready_from};
 
 use crate::entries::{
     aim_one, claim_one, configure_one, forward_one, grant_one, is_waiting, new_entries,
-    sourcecfg_of, switch_all, target_of, touch_one, touch_word, wire_one, word_shown,
+    sourcecfg_at, switch_all, target_at, touch_one, touch_word, wire_one, word_shown,
 };
 use crate::entry::{Entry, Look};
 use crate::ready::Ready;
@@ -81,12 +81,12 @@ impl Domain {
     {
         match reg {
             DomainReg::DomainCfg => self.domaincfg(),
-            DomainReg::SourceCfg(i) => sourcecfg_of(&self.sources, i, self.leaf),
+            DomainReg::SourceCfg(i) => sourcecfg_at(&self.sources, i, self.leaf),
             DomainReg::SetIp(k) => word_shown(&self.sources, k, Look::Pending),
             DomainReg::InClrIp(k) => word_shown(&self.sources, k, Look::Input),
             DomainReg::SetIe(k) => word_shown(&self.sources, k, Look::Enable),
             DomainReg::GenMsi => self.genmsi,
-            DomainReg::Target(i) => target_of(&self.sources, i),
+            DomainReg::Target(i) => target_at(&self.sources, i),
             _ => 0,
         }
     }

@@ -5,7 +5,7 @@ ghost use Rattle.std.specs.Prelude.{◌≡◌, ◌*◌, ◌≤◌, Bool, nat_eq,
 ghost use Rattle.aia_word.specs.Sets.{word_of};
 ghost use Rattle.aia_source.specs.Wired.SourceDeed.{Claimed, Forwarded};
 ghost use Rattle.aia_source.specs.Registers.{in_word, touch_where};
-ghost use Rattle.aia_domain.specs.Entry.{EachSource, new_entry, changed_at, touched, written_at, all_switched, switched, aimed, sourcecfg_written, granted_at, wired, with_deed, sourcecfg_of, target_of, bit_at_source, waits_of};
+ghost use Rattle.aia_domain.specs.Entry.{EachSource, new_entry, changed_at, touched, written_at, all_switched, switched, aimed, sourcecfg_written, granted_at, wired, with_deed, sourcecfg_at, target_at, bit_at_source, waits_at};
 
 use crate::entry::{Entry, Look};
 use aia_regs::bit;
@@ -126,8 +126,8 @@ pub(crate) fn forward_one(entries: &mut [Entry], s: u32)
 }
 
 /// The `sourcecfg` of a source, 0 where it isn't there.
-pub(crate) fn sourcecfg_of(entries: &[Entry], s: u32, leaf: bool) -> u32
-    ensures { result ≡ sourcecfg_of leaf (slice_get entries.now s) }
+pub(crate) fn sourcecfg_at(entries: &[Entry], s: u32, leaf: bool) -> u32
+    ensures { result ≡ sourcecfg_at entries.now leaf s }
 {
     match entries.get(s as usize) {
         Some(entry) => entry.sourcecfg(leaf),
@@ -136,8 +136,8 @@ pub(crate) fn sourcecfg_of(entries: &[Entry], s: u32, leaf: bool) -> u32
 }
 
 /// The `target` of a source, 0 where it isn't there.
-pub(crate) fn target_of(entries: &[Entry], s: u32) -> u32
-    ensures { result ≡ target_of (slice_get entries.now s) }
+pub(crate) fn target_at(entries: &[Entry], s: u32) -> u32
+    ensures { result ≡ target_at entries.now s }
 {
     match entries.get(s as usize) {
         Some(entry) => entry.target(),
@@ -155,7 +155,7 @@ fn bit_of(entries: &[Entry], s: u64, look: Look) -> u32
 
 /// Whether a source is pending and enabled; one that isn't there is not.
 pub(crate) fn is_waiting(entries: &[Entry], s: u32) -> bool
-    ensures { result ≡ waits_of (slice_get entries.now s) }
+    ensures { result ≡ waits_at entries.now s }
 {
     (s as usize) < entries.len() && entries[s as usize].waits()
 }

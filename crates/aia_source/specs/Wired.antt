@@ -12,8 +12,7 @@ pub data SourceDeed : Type 0 where
   Cleared : SourceDeed  -- in_clrip, or a register that takes its number, clears it
   Claimed : SourceDeed  -- a load of claimi shows it
   Forwarded : SourceDeed  -- its MSI is sent
-  Configured : SourceDeed  -- its sourcecfg is written while it is active
-  Activated : SourceDeed  -- its sourcecfg is written while it is inactive
+  Configured : SourceDeed  -- its sourcecfg is written
   Switched : SourceDeed  -- the domain's delivery mode changes
   Untouched : SourceDeed
 
@@ -42,14 +41,12 @@ rectified LevelLow wire = not wire
 -- AIA 1.0, APLIC, "Precise effects on interrupt-pending bits". Profile: what a write of sourcecfg
 -- and a change of the delivery mode say.
 
--- Detached: registers ask, and registers, a claim and an MSI clear. One that becomes active begins
--- with nothing pending.
+-- Detached: registers ask, and registers, a claim and an MSI clear.
 abbrev pub detached_says : SourceDeed → Word
 detached_says Set = Ask
 detached_says Cleared = Clear
 detached_says Claimed = Clear
 detached_says Forwarded = Clear
-detached_says Activated = Clear
 detached_says deed = Nothing
 
 -- Edge: as detached, and a rise of the rectified input asks, given the input before and after.

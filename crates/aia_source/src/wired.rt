@@ -1,6 +1,6 @@
 ghost use Rattle.std.specs.Prelude.{◌≡◌, Bool, false, if◌then◌else◌};
 ghost use Rattle.aia_source.specs.Wired.{WiredState, new_wired, done, rectified, is_active};
-ghost use Rattle.aia_source.specs.Wired.SourceDeed.{LevelGiven, Set, Cleared, Forwarded, Configured, Activated, Switched};
+ghost use Rattle.aia_source.specs.Wired.SourceDeed.{LevelGiven, Set, Cleared, Forwarded, Configured, Switched};
 ghost use Rattle.aia_source.specs.declared.mode.Mode.TheVariants.{Inactive};
 
 use crate::mode::Mode;
@@ -117,7 +117,8 @@ impl Wired {
     /// mode it stays pending if it was (our profile); one that was inactive is not.
     pub fn recfg(&mut self, mode: Mode)
         ensures mode { self.new.mode ≡ mode }
-        ensures after { (msi : Bool) → self.new ≡ done msi (if is_active self.old.mode then Configured else Activated) mode self.old.wire self.old }
+        ensures after { (msi : Bool)
+            → self.new ≡ done msi Configured mode self.old.wire self.old }
     {
         self.mode = mode;
         if mode.is_level() {
@@ -131,7 +132,8 @@ impl Wired {
     /// its input is high (our profile).
     pub fn delivery_changed(&mut self)
         ensures mode { self.new.mode ≡ self.old.mode }
-        ensures after { (msi : Bool) → self.new ≡ done msi Switched self.old.mode self.old.wire self.old }
+        ensures after { (msi : Bool)
+            → self.new ≡ done msi Switched self.old.mode self.old.wire self.old }
     {
         if self.mode.is_level() {
             self.pending = self.rectified();
