@@ -72,7 +72,7 @@ impl Side {
         self.domain.wire(s, level);
     }
 
-    /// A register is written.
+    /// Writes a register.
     pub(crate) fn store(&mut self, reg: DomainReg, value: u32)
         ensures { (past : Past) (name : DomainName) → SideStands self.old past name
             → SideStands self.new (Written name reg value ∷ past) name }
@@ -92,7 +92,7 @@ impl Side {
         store_control(&mut self.controls, reg, value);
     }
 
-    /// The root domain's `sourcecfg` of a source is written with this value; this is its child.
+    /// Hears that the root domain's `sourcecfg` of a source is written; this is its child.
     pub(crate) fn delegate(&mut self, s: u32, given: bool)
         ensures { (past : Past) (v : ℕ) → given ≡ delegates (root_sourcecfg v)
             → SideStands self.old past Child
@@ -105,7 +105,7 @@ impl Side {
         }
     }
 
-    /// A register is read.
+    /// Reads a register.
     pub(crate) fn load(&mut self, reg: DomainReg) -> u32
         ensures reads { (past : Past) (name : DomainName) → SideStands self.old past name
             → result ≡ own_read past name reg }
@@ -172,14 +172,14 @@ impl Side {
         claim(&mut self.controls, &mut self.domain, hart)
     }
 
-    /// Whether an MSI that `genmsi` asked for waits.
+    /// Tells whether an MSI that `genmsi` asked for waits.
     pub(crate) fn genmsi_waits(&self) -> bool
         ensures { result ≡ self.now.domain.genmsi_waits }
     {
         self.domain.genmsi_waits()
     }
 
-    /// The least source that is to be forwarded.
+    /// Gives the least source that is to be forwarded, `None` where none is.
     pub(crate) fn least_ready(&self) -> Option<u32>
         ensures { IsLeastOf (is_ready self.now.domain) result }
     {
@@ -189,7 +189,7 @@ impl Side {
         self.domain.ready().next()
     }
 
-    /// A sender of this domain sends its MSI: what that is made of.
+    /// Sends the MSI of a sender of this domain, and gives what it is made of.
     pub(crate) fn send(&mut self, sender: Sender) -> u32
         requires { waits_in self.old.domain sender ≡ true }
         ensures value { (past : Past) → SideStands self.old past (domain_of_sender sender) →
@@ -204,7 +204,7 @@ impl Side {
         }
     }
 
-    /// The MSI that `genmsi` asked for is sent: what `genmsi` keeps.
+    /// Sends the MSI that `genmsi` asked for, and gives what `genmsi` keeps.
     fn send_genmsi(&mut self) -> u32
         requires { self.old.domain.genmsi_waits ≡ true }
         ensures value { (past : Past) (name : DomainName) → SideStands self.old past name
@@ -228,7 +228,7 @@ impl Side {
         }
     }
 
-    /// A source is forwarded: its target.
+    /// Forwards a source, and gives its target.
     fn forward(&mut self, s: u32) -> u32
         requires { is_ready self.old.domain s ≡ true }
         ensures value { (past : Past) (name : DomainName) → SideStands self.old past name
@@ -252,7 +252,7 @@ impl Side {
         target
     }
 
-    /// Whether a hart is signalled; one that isn't there is not.
+    /// Tells whether a hart is signalled; one that isn't there is not.
     pub(crate) fn signal(&self, hart: u32) -> bool
         ensures signal { (past : Past) (name : DomainName) → SideStands self.now past name
             → hart < harts_in past → result ≡ is_signalled past name hart }

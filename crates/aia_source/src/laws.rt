@@ -55,10 +55,12 @@ pub fn bits_of_registers()
     ensures enables { (cfg : ℕ) → enables cfg ≡ is_one cfg 8 }
     ensures by_msi { (cfg : ℕ) → is_by_msi cfg ≡ is_one cfg 2 }
     ensures kept { (v : ℕ) → domaincfg_kept v ≡ one_at (is_one v 8) 8 + one_at (is_one v 2) 2 }
-    ensures read { (ie dm : Bool) → domaincfg_read ie dm ≡ 0x80000000 + (one_at ie 8 + one_at dm 2) }
+    ensures read { (ie dm : Bool)
+        → domaincfg_read ie dm ≡ 0x80000000 + (one_at ie 8 + one_at dm 2) }
     ensures delegates { (cfg : ℕ) → delegates cfg ≡ nat_eq cfg 0x400 }
     ensures root { (v : ℕ) → root_sourcecfg v
         ≡ (if is_one v 10 then (if nat_eq (field v 9 0) 0 then 0x400 else 0)
         else legal_mode (field v 2 0)) }
-    ensures child { (v : ℕ) → child_sourcecfg v ≡ (if is_one v 10 then 0 else legal_mode (field v 2 0)) }
+    ensures child { (v : ℕ) → child_sourcecfg v
+        ≡ (if is_one v 10 then 0 else legal_mode (field v 2 0)) }
 {}
