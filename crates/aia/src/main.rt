@@ -1,20 +1,7 @@
 //! `aia replay`: reads a script from standard input and prints the answers of its lines.
 #![tactic(auto)]
 
-ghost use Rattle.std.specs.Prelude.{
-  ◌≡◌,
-  ◌≢◌,
-  ◌+◌,
-  ◌⊎◌,
-  ◌↔◌,
-  [],
-  ◌∷◌,
-  map,
-  codes,
-  Contains,
-  IfOk,
-  OnErr,
-};
+ghost use Rattle.std.specs.Prelude.{◌≡◌, ◌≢◌, ◌+◌, ◌⊎◌, ◌↔◌, [], ◌∷◌, map, codes, Contains, IfOk, OnErr};
 ghost use Rattle.std.specs.Io.KnownBytes.{Appends, Consumes};
 ghost use Rattle.std.specs.IoError.{error_kind};
 ghost use Rattle.std.specs.Process.{exit_status};
