@@ -1,4 +1,6 @@
-use crate::{Idc, claimi, signal, topi};
+//! What is on top for a hart, claims and signals.
+
+use aia_direct::{Idc, claimi, signal, topi};
 use aia_domain::Domain;
 use aia_regs::DomainReg;
 use std::test::Fail;

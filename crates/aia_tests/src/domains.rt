@@ -1,9 +1,12 @@
-use crate::Domain;
+//! The registers and the sources of one domain.
+
+use aia_domain::Domain;
 use aia_regs::DomainReg;
 use aia_source::{Mode, delegates};
 use std::test::Fail;
 
-/// A register of the root domain of 40 sources and two harts, a value that is written to it, and what a register reads then.
+/// A register of the root domain of 40 sources and two harts, a value that is written to it, and
+/// what a register reads then.
 const WRITES: [(DomainReg, u32, DomainReg, u32); 27] = [
     (
         DomainReg::DomainCfg,
@@ -11,7 +14,8 @@ const WRITES: [(DomainReg, u32, DomainReg, u32); 27] = [
         DomainReg::DomainCfg,
         0x8000_0100,
     ),
-    // Level low with a low wire, delegated, no child of that index, no such mode, level high, detached, not there.
+    // Level low with a low wire, delegated, no child of that index, no such mode, level high,
+    // detached, not there.
     (DomainReg::SourceCfg(1), 7, DomainReg::SourceCfg(1), 7),
     (
         DomainReg::SourceCfg(2),
@@ -24,7 +28,8 @@ const WRITES: [(DomainReg, u32, DomainReg, u32); 27] = [
     (DomainReg::SourceCfg(33), 0x806, DomainReg::SourceCfg(33), 6),
     (DomainReg::SourceCfg(40), 1, DomainReg::SourceCfg(40), 1),
     (DomainReg::SourceCfg(41), 1, DomainReg::SourceCfg(41), 0),
-    // The first target, hart 1 with a priority, a hart that isn't there, priority 0, an inactive source.
+    // The first target, hart 1 with a priority, a hart that isn't there, priority 0, an inactive
+    // source.
     (DomainReg::Nothing, 9, DomainReg::Target(1), 1),
     (
         DomainReg::Target(1),
@@ -109,7 +114,6 @@ fn a_claim_and_an_msi_take_an_edge_and_direct_delivery_sends_none(
     }
     assert!(rt; sent.is_empty());
     assert_eq!(rt; root.take_genmsi(), None);
-    assert!(rt; root.places() == 4);
     assert_eq!(rt; root.sources(), 3);
     assert!(rt; root.is_enabled() && !root.delivers_by_msi());
     let edge = root.source(1);
@@ -126,8 +130,8 @@ fn a_claim_and_an_msi_take_an_edge_and_direct_delivery_sends_none(
     Ok(())
 }
 
-/// In a domain of three sources and two harts that was delivering directly: a register, a value that is written to it, and what a register
-/// reads then.
+/// In a domain of three sources and two harts that was delivering directly: a register, a value
+/// that is written to it, and what a register reads then.
 const WRITES_BY_MSI: [(DomainReg, u32, DomainReg, u32); 10] = [
     (
         DomainReg::DomainCfg,
@@ -138,7 +142,8 @@ const WRITES_BY_MSI: [(DomainReg, u32, DomainReg, u32); 10] = [
     // The change made the targets anew.
     (DomainReg::Nothing, 9, DomainReg::Target(1), 0),
     (DomainReg::Nothing, 9, DomainReg::Target(3), 0),
-    // All bits of an identity and no guest index, a hart that isn't there, identity 0, an inactive source.
+    // All bits of an identity and no guest index, a hart that isn't there, identity 0, an inactive
+    // source.
     (
         DomainReg::Target(3),
         0x0007_ffff,

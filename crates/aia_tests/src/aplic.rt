@@ -1,4 +1,6 @@
-use crate::{Aplic, Msi};
+//! Both domains of an APLIC, and the MSIs that they send.
+
+use aia_aplic::{Aplic, Msi};
 use std::test::Fail;
 
 #[test]
@@ -62,8 +64,9 @@ fn a_child_signals_the_hart_that_a_source_is_aimed_at(rt: HostRuntime) -> Result
     Ok(())
 }
 
-/// What the APLIC of one hart is set up with, each at a register of the child domain or not: both domains deliver by MSIs, source 1 is the root domain's,
-/// source 2 is delegated; both are detached, enabled, and ask for identities of their own. IE is off in the root domain at the end.
+/// What the APLIC of one hart is set up with, each at a register of the child domain or not: both
+/// domains deliver by MSIs, source 1 is the root domain's, source 2 is delegated; both are
+/// detached, enabled, and ask for identities of their own. IE is off in the root domain at the end.
 const SETUP: [(bool, u32, u32); 12] = [
     (false, 0x1bc0, 0x24000),
     (false, 0x1bc8, 0x28000),
@@ -79,7 +82,8 @@ const SETUP: [(bool, u32, u32); 12] = [
     (false, 0x0000, 0x004),
 ];
 
-/// Sources 2 and 1 are asked for, of which 1 waits for IE, and both `genmsi`, which don't, the child's first; then IE is turned on.
+/// Sources 2 and 1 are asked for, of which 1 waits for IE, and both `genmsi`, which don't, the
+/// child's first; then IE is turned on.
 const ASKED: [(bool, u32, u32); 5] = [
     (true, 0x1cdc, 2),
     (false, 0x1cdc, 1),

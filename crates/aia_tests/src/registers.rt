@@ -1,4 +1,8 @@
-use crate::{DomainReg, FileReg, Op, bit, bits, domain_reg, file_reg, put_bits, requested, swap32};
+//! The register maps, fields of registers, CSR instructions, and what a store asks for.
+
+use aia_regs::{
+    DomainReg, FileReg, Op, bit, bits, domain_reg, file_reg, put_bits, requested, swap32,
+};
 
 #[test]
 fn names_each_kind_of_register(rt: HostRuntime) {
@@ -46,10 +50,15 @@ fn writes_sets_and_clears(rt: HostRuntime) {
     ];
     for (op, value) in instructions {
         assert_eq!(rt; op.written(0b1100), value);
+        assert_eq!(rt; op.is_writing(), op != Op::Read);
+    }
+    // An instruction that sets or clears no bit writes all the same.
+    for op in [Op::Write(0), Op::Set(0), Op::Clear(0)] {
+        assert!(rt; op.is_writing());
     }
 }
 
-// What is at the ends of each row of the table, and just after them.
+/// What is at the ends of each row of the table, and just after them.
 const DOMAIN_REGISTERS: [(u32, DomainReg); 36] = [
     (0x0000, DomainReg::DomainCfg),
     (0x0004, DomainReg::SourceCfg(1)),
@@ -89,12 +98,13 @@ const DOMAIN_REGISTERS: [(u32, DomainReg); 36] = [
     (0x3ffc, DomainReg::Target(1023)),
 ];
 
-// The delivery controls of the first hart and of the last one, and what is no register.
-const DELIVERY_CONTROLS: [(u32, DomainReg); 26] = [
+/// The delivery controls of the first hart and of the last one, and what is no register.
+const DELIVERY_CONTROLS: [(u32, DomainReg); 28] = [
     (0x4000, DomainReg::IDelivery(0)),
     (0x4004, DomainReg::IForce(0)),
     (0x4008, DomainReg::IThreshold(0)),
     (0x400c, DomainReg::Nothing),
+    (0x4010, DomainReg::Nothing),
     (0x4014, DomainReg::Nothing),
     (0x4018, DomainReg::TopI(0)),
     (0x401c, DomainReg::ClaimI(0)),
@@ -114,6 +124,7 @@ const DELIVERY_CONTROLS: [(u32, DomainReg); 26] = [
     (0x0006, DomainReg::Nothing),
     (0x1c03, DomainReg::Nothing),
     (0x3001, DomainReg::Nothing),
+    (0x3006, DomainReg::Nothing),
     (0x401e, DomainReg::Nothing),
     (0xffff_fffc, DomainReg::Nothing),
     (0xffff_ffff, DomainReg::Nothing),

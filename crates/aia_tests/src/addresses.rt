@@ -1,4 +1,6 @@
-use crate::{Addresses, machine_address, supervisor_address};
+//! Addresses of MSIs, and the registers that they go by.
+
+use aia_msiaddr::{Addresses, machine_address, supervisor_address};
 use aia_regs::DomainReg;
 
 #[test]

@@ -3,7 +3,7 @@ ghost use Rattle.std.specs.Prelude.{◌≡◌, ◌<◌, length, take, IfOk};
 ghost use Rattle.std.specs.Io.KnownBytes.{Appends, Consumes};
 ghost use Rattle.aia_io.specs.Ends.{Rose};
 
-use crate::{
+use aia_io::{
     MemSink, MemSource, QuietSink, QuietSource, Read, Sink, Source, StdSink, StdSource, Write,
 };
 use std::alloc::{AllocError, Global};

@@ -1,4 +1,6 @@
-use crate::{
+//! One wired source in one domain.
+
+use aia_source::{
     Mode, Wired, child_sourcecfg, delegates, domaincfg_kept, domaincfg_read, enables, first_target,
     genmsi_kept, hart_of, identity_of, is_by_msi, mode_number, mode_of, priority_of,
     root_sourcecfg, target_kept,
