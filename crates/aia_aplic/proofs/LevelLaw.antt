@@ -4,8 +4,8 @@ use Rattle.aia_regs.specs.declared.domain_registers.DomainReg.{DomainReg}
 use Rattle.aia_regs.specs.declared.domain_registers.DomainReg.TheVariants.{DomainCfg, SourceCfg, ClaimI}
 use Rattle.aia_regs.specs.Word.{settle}
 use Rattle.aia_source.specs.declared.mode.Mode.{Mode}
-use Rattle.aia_source.specs.Source.{is_level, rectified, says}
-use Rattle.aia_source.specs.Source.Deed.{Moved, Forwarded, Configured, Activated, Switched, Untouched}
+use Rattle.aia_source.specs.Wired.{is_level, rectified, says}
+use Rattle.aia_source.specs.Wired.SourceDeed.{LevelGiven, Forwarded, Configured, Activated, Switched, Untouched}
 use Rattle.aia_source.specs.Registers.{domaincfg_kept, is_by_msi, root_sourcecfg, child_sourcecfg, delegates, mode_of, touch, same_bool}
 use Rattle.aia_source.specs.Top.{is_top}
 use Rattle.aia_model.specs.declared.domain_name.DomainName.{DomainName}
@@ -59,12 +59,12 @@ driven : (t : ℕ) (level : Bool) (past : Past) (d : DomainName) (s : ℕ) → I
 unfolding newest wire_of pending
 driven t level past Root s law = at (nat_eq t s)
   where
-    at : (b : Bool) → (l : is_level (mode past Root s) ≡ true) → (e : is_msi past Root ≡ false) → settle (says (mode past Root s) (is_msi past Root) (input past Root s) (rectified (mode past Root s) (cond b level (wire_of past s))) (cond b Moved Untouched)) (pending past Root s) ≡ rectified (mode past Root s) (cond b level (wire_of past s))
+    at : (b : Bool) → (l : is_level (mode past Root s) ≡ true) → (e : is_msi past Root ≡ false) → settle (says (mode past Root s) (is_msi past Root) (input past Root s) (rectified (mode past Root s) (cond b level (wire_of past s))) (cond b LevelGiven Untouched)) (pending past Root s) ≡ rectified (mode past Root s) (cond b level (wire_of past s))
     at true l e = followed (mode past Root s) (is_msi past Root) (input past Root s) (rectified (mode past Root s) level) (pending past Root s) l (law l e)
     at false l e = unheard (mode past Root s) (is_msi past Root) (input past Root s) (pending past Root s) None l e (law l e)
 driven t level past Child s law = at (nat_eq t s)
   where
-    at : (b : Bool) → (l : is_level (mode past Child s) ≡ true) → (e : is_msi past Child ≡ false) → settle (says (mode past Child s) (is_msi past Child) (input past Child s) (rectified (mode past Child s) (cond b level (wire_of past s))) (cond b Moved Untouched)) (pending past Child s) ≡ rectified (mode past Child s) (cond b level (wire_of past s))
+    at : (b : Bool) → (l : is_level (mode past Child s) ≡ true) → (e : is_msi past Child ≡ false) → settle (says (mode past Child s) (is_msi past Child) (input past Child s) (rectified (mode past Child s) (cond b level (wire_of past s))) (cond b LevelGiven Untouched)) (pending past Child s) ≡ rectified (mode past Child s) (cond b level (wire_of past s))
     at true l e = followed (mode past Child s) (is_msi past Child) (input past Child s) (rectified (mode past Child s) level) (pending past Child s) l (law l e)
     at false l e = unheard (mode past Child s) (is_msi past Child) (input past Child s) (pending past Child s) None l e (law l e)
 

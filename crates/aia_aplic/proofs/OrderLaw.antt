@@ -11,7 +11,7 @@ use Rattle.aia_model.specs.Act.{Past}
 use Rattle.aia_model.specs.declared.domain_name.DomainName.TheVariants.{Root, Child}
 use Rattle.aia_model.specs.declared.sender.Sender.TheVariants.{ByGenMsi, BySource}
 use Rattle.aia_model.specs.SourceOf.{sources_in, genmsi_waits}
-use Rattle.aia_model.specs.Sent.{is_ready, all_senders, does_send, senders}
+use Rattle.aia_model.specs.Sent.{forwards, all_senders, has_msi, senders}
 use Rattle.aia_aplic.specs.Senders.{SendsBefore}
 
 -- ---- the sources of both domains
@@ -106,20 +106,20 @@ source_there count d s m = All-contains (IsThere count) (all_senders count) (ByS
 
 -- ---- those that wait
 
-pub source_among : (past : Past) (d : DomainName) (s : ℕ) → Contains (senders past) (BySource d s) → (1 ≤ s) × (s ≤ sources_in past) × (is_ready past d s ≡ true)
+pub source_among : (past : Past) (d : DomainName) (s : ℕ) → Contains (senders past) (BySource d s) → (1 ≤ s) × (s ≤ sources_in past) × (forwards past d s ≡ true)
 source_among past d s m =
-    let r = in_filter (does_send past) (all_senders (sources_in past)) (BySource d s) m in
+    let r = in_filter (has_msi past) (all_senders (sources_in past)) (BySource d s) m in
     let there = source_there (sources_in past) d s r.0 in
     (there.0, there.1, r.1)
 
-pub among_source : (past : Past) (d : DomainName) (s : ℕ) → 1 ≤ s → s ≤ sources_in past → is_ready past d s ≡ true → Contains (senders past) (BySource d s)
-among_source past d s low high ready = filter_has (does_send past) (all_senders (sources_in past)) (BySource d s) (all_sources (sources_in past) d s low high) ready
+pub among_source : (past : Past) (d : DomainName) (s : ℕ) → 1 ≤ s → s ≤ sources_in past → forwards past d s ≡ true → Contains (senders past) (BySource d s)
+among_source past d s low high ready = filter_has (has_msi past) (all_senders (sources_in past)) (BySource d s) (all_sources (sources_in past) d s low high) ready
 
 pub genmsi_among : (past : Past) (d : DomainName) → Contains (senders past) (ByGenMsi d) → genmsi_waits past d ≡ true
-genmsi_among past d m = (in_filter (does_send past) (all_senders (sources_in past)) (ByGenMsi d) m).1
+genmsi_among past d m = (in_filter (has_msi past) (all_senders (sources_in past)) (ByGenMsi d) m).1
 
 pub among_genmsi : (past : Past) (d : DomainName) → genmsi_waits past d ≡ true → Contains (senders past) (ByGenMsi d)
-among_genmsi past d busy = filter_has (does_send past) (all_senders (sources_in past)) (ByGenMsi d) (all_genmsi (sources_in past) d) busy
+among_genmsi past d busy = filter_has (has_msi past) (all_senders (sources_in past)) (ByGenMsi d) (all_genmsi (sources_in past) d) busy
 
 pub senders_in_order : (past : Past) → AllPairs SendsBefore (senders past)
-senders_in_order past = AllPairs-filter SendsBefore (does_send past) (all_senders (sources_in past)) (all_in_order (sources_in past))
+senders_in_order past = AllPairs-filter SendsBefore (has_msi past) (all_senders (sources_in past)) (all_in_order (sources_in past))

@@ -1,7 +1,7 @@
 -- A source is active in one domain at most.
 use Rattle.std.proofs.Common.{◌≡◌, ℕ, false, ◌&&◌, inl, inr, ap, ◌∙◌, refl}
 use Rattle.std.proofs.lemmas.Bool.{cases_eq, ne_eqb, and_right}
-use Rattle.aia_source.specs.Source.{is_active}
+use Rattle.aia_source.specs.Wired.{is_active}
 use Rattle.aia_source.specs.declared.kept.TheConstants.{DELEGATED}
 use Rattle.aia_source.specs.Registers.{mode_of}
 use Rattle.aia_model.specs.Act.{Past}

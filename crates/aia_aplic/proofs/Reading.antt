@@ -11,22 +11,22 @@ use Rattle.aia_regs.specs.Fields.{field}
 use Rattle.aia_regs.specs.Operations.{is_one}
 use Rattle.aia_source.specs.declared.mode.Mode.{Mode}
 use Rattle.aia_source.specs.declared.mode.Mode.TheVariants.{Inactive, Detached, RisingEdge, FallingEdge, LevelHigh, LevelLow}
-use Rattle.aia_source.specs.Source.{is_active, rectified}
+use Rattle.aia_source.specs.Wired.{is_active, rectified}
 use Rattle.aia_source.specs.declared.kept.TheConstants.{DELEGATED}
 use Rattle.aia_source.specs.Registers.{legal_mode, root_sourcecfg, child_sourcecfg, delegates, mode_of, mode_number, domaincfg_read}
 use Rattle.aia_domain.specs.declared.entry.Look.{Look}
 use Rattle.aia_domain.specs.declared.entry.Look.TheVariants as looks
-use Rattle.aia_domain.specs.Held.{Held, sourcecfg_shown, bit_shown, bit_of, bit_at_source, target_of}
-use Rattle.aia_domain.specs.Held as kept
+use Rattle.aia_domain.specs.Entry.{EntryState, sourcecfg_shown, bit_shown, bit_of, bit_at_source, target_of}
+use Rattle.aia_domain.specs.Entry as kept
 use Rattle.aia_domain.specs.Domain.{DomainState, domain_read}
 use Rattle.aia_model.specs.declared.domain_name.DomainName.{DomainName}
 use Rattle.aia_model.specs.Act.{Past, is_domain, newest, when}
 use Rattle.aia_model.specs.declared.domain_name.DomainName.TheVariants.{Root, Child}
 use Rattle.aia_model.specs.Act.Act.{Written}
 use Rattle.aia_model.specs.SourceOf.{sources_in, is_source, is_register_of, root_sourcecfg_of, is_delegated, child_told, sourcecfg_of, mode, input, is_on, enabled, target, pending, only, sources_word, own_read}
-use Rattle.aia_aplic.specs.Stands.{held, DomainStands}
+use Rattle.aia_aplic.specs.Side.{entry_of, DomainStands}
 use Rattle.aia_aplic.specs.Controls.{is_control}
-use Rattle.aia_aplic.proofs.Steps.{held-idle}
+use Rattle.aia_aplic.proofs.Steps.{entry-idle}
 use Rattle.aia_aplic.proofs.WriteSteps.{child-none}
 
 -- ---- no source has the number 0
@@ -42,14 +42,14 @@ mode-zero past Root = ap (λ c. is_active (mode_of c)) (root-zero past)
 mode-zero past Child = ap (λ c. is_active (mode_of c)) (child-none past 0 (ap delegates (root-zero past)))
 
 -- what is at a place: what the past makes of it, or nothing past the sources
-pub place : (d : DomainState) (past : Past) (name : DomainName) (s : ℕ) → DomainStands d past name → ((s < suc (sources_in past)) × (slice_get d.sources s ≡ Some (held past name s))) ⊎ ((suc (sources_in past) ≤ s) × (slice_get d.sources s ≡ None))
+pub place : (d : DomainState) (past : Past) (name : DomainName) (s : ℕ) → DomainStands d past name → ((s < suc (sources_in past)) × (slice_get d.sources s ≡ Some (entry_of past name s))) ⊎ ((suc (sources_in past) ≤ s) × (slice_get d.sources s ≡ None))
 place d past name s stands = elim (cases_lt s (length d.sources)) [
-  | inl p ↦ inl (subst (λ n. s < n) stands.count p, at (get_or d.sources s (held past name s)) (slice_get-get_or d.sources s (held past name s) p))
+  | inl p ↦ inl (subst (λ n. s < n) stands.count p, at (get_or d.sources s (entry_of past name s)) (slice_get-get_or d.sources s (entry_of past name s) p))
   | inr p ↦ inr (subst (λ n. n ≤ s) stands.count p, slice_get_past d.sources s p)
 ]
   where
-    at : (x : Held) → slice_get d.sources s ≡ Some x → slice_get d.sources s ≡ Some (held past name s)
-    at x e = e ∙ ap (λ (y : Held). Some y) (stands.each s x e)
+    at : (x : EntryState) → slice_get d.sources s ≡ Some x → slice_get d.sources s ≡ Some (entry_of past name s)
+    at x e = e ∙ ap (λ (y : EntryState). Some y) (stands.each s x e)
 
 there : (n s : ℕ) → s < suc n → s ≢ 0 → is_in_range 1 n s ≡ true
 there n s low some = grind (arith, nat_tests)
@@ -66,7 +66,7 @@ said looks.Pending past d s = pending past d s
 said looks.Input past d s = input past d s
 said looks.Enable past d s = enabled past d s
 
-shown_said : (look : Look) (past : Past) (d : DomainName) (s : ℕ) → bit_shown look (held past d s) ≡ said look past d s
+shown_said : (look : Look) (past : Past) (d : DomainName) (s : ℕ) → bit_shown look (entry_of past d s) ≡ said look past d s
 shown_said looks.Pending past d s = refl
 shown_said looks.Input past d s = refl
 shown_said looks.Enable past d s = refl
@@ -80,9 +80,9 @@ no_input LevelHigh w e = cc
 no_input LevelLow w e = cc
 
 said-zero : (look : Look) (past : Past) (d : DomainName) → said look past d 0 ≡ false
-said-zero looks.Pending past d = (held-idle past d 0).pending (mode-zero past d)
+said-zero looks.Pending past d = (entry-idle past d 0).pending (mode-zero past d)
 said-zero looks.Input past d = no_input (mode past d 0) _ (mode-zero past d)
-said-zero looks.Enable past d = (held-idle past d 0).enabled (mode-zero past d)
+said-zero looks.Enable past d = (entry-idle past d 0).enabled (mode-zero past d)
 
 pub shown-stands : (look : Look) (d : DomainState) (past : Past) (name : DomainName) (s : ℕ) → DomainStands d past name → bit_at_source d.sources look s ≡ (is_source past s && said look past name s)
 shown-stands look d past name s stands = elim (place d past name s stands) [
@@ -162,7 +162,7 @@ root_shows c legal = elim (cases_eq c DELEGATED) [
   | inr ne ↦ cond-false _ _ _ (ne_eqb c DELEGATED ne) ∙ legal ∙ cond-false _ _ _ (ne_eqb c DELEGATED ne)
 ]
 
-config_shown : (past : Past) (name : DomainName) (s : ℕ) → sourcecfg_shown (is_domain name Child) (held past name s) ≡ sourcecfg_of past name s
+config_shown : (past : Past) (name : DomainName) (s : ℕ) → sourcecfg_shown (is_domain name Child) (entry_of past name s) ≡ sourcecfg_of past name s
 config_shown past Root s = root_shows (root_sourcecfg_of past s) (root-legal past s)
 config_shown past Child s = child-legal past s
 
@@ -184,11 +184,11 @@ read-stands (InClrIp k) d past name plain stands = word-stands looks.Input d pas
 read-stands (SetIe k) d past name plain stands = word-stands looks.Enable d past name k stands
 read-stands GenMsi d past name plain stands = stands.genmsi
 read-stands (SourceCfg i) d past name plain stands = elim (place d past name i stands) [
-  | inl p ↦ numbered (sourcecfg_of past name) past i _ p.0 (config_zero past name) (ap (kept.sourcecfg_of d.leaf) p.1 ∙ ap (λ (b : Bool). sourcecfg_shown b (held past name i)) stands.leaf ∙ config_shown past name i)
+  | inl p ↦ numbered (sourcecfg_of past name) past i _ p.0 (config_zero past name) (ap (kept.sourcecfg_of d.leaf) p.1 ∙ ap (λ (b : Bool). sourcecfg_shown b (entry_of past name i)) stands.leaf ∙ config_shown past name i)
   | inr p ↦ ap (kept.sourcecfg_of d.leaf) p.1 ∙ sym (cond-false _ _ _ (not_there (sources_in past) i p.0))
 ]
 read-stands (Target i) d past name plain stands = elim (place d past name i stands) [
-  | inl p ↦ numbered (target past name) past i _ p.0 ((held-idle past name 0).target (mode-zero past name)) (ap target_of p.1)
+  | inl p ↦ numbered (target past name) past i _ p.0 ((entry-idle past name 0).target (mode-zero past name)) (ap target_of p.1)
   | inr p ↦ ap target_of p.1 ∙ sym (cond-false _ _ _ (not_there (sources_in past) i p.0))
 ]
 read-stands (IDelivery hart) d past name plain stands = cc

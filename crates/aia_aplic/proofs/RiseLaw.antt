@@ -5,8 +5,8 @@ use Rattle.aia_regs.specs.declared.domain_registers.DomainReg.TheVariants.{Domai
 use Rattle.aia_regs.specs.Word.{settle}
 use Rattle.aia_source.specs.declared.mode.Mode.{Mode}
 use Rattle.aia_source.specs.declared.mode.Mode.TheVariants.{Inactive, Detached, RisingEdge, FallingEdge, LevelHigh, LevelLow}
-use Rattle.aia_source.specs.Source.{Deed, is_active, is_level, detached_says, edge_says, says}
-use Rattle.aia_source.specs.Source.Deed.{Moved, Set, Cleared, Claimed, Forwarded, Configured, Activated, Switched, Untouched}
+use Rattle.aia_source.specs.Wired.{SourceDeed, is_active, is_level, detached_says, edge_says, says}
+use Rattle.aia_source.specs.Wired.SourceDeed.{LevelGiven, Set, Cleared, Claimed, Forwarded, Configured, Activated, Switched, Untouched}
 use Rattle.aia_source.specs.Registers.{domaincfg_kept, is_by_msi, root_sourcecfg, child_sourcecfg, mode_of, touch, deed_of_touch, same_bool}
 use Rattle.aia_source.specs.declared.touch.Touch.{Touch}
 use Rattle.aia_source.specs.declared.touch.Touch.TheVariants.{SetPending, ClearPending, SetEnable, ClearEnable}
@@ -70,13 +70,13 @@ begins past Child i v s old l = begins_at (mode (Written Child (SourceCfg i) v �
 -- ---- a write that does not ask
 
 -- a deed that can make a source pending whose mode is no level
-abbrev asks : Deed → Bool
-asks Moved = true
+abbrev asks : SourceDeed → Bool
+asks LevelGiven = true
 asks Set = true
 asks does = false
 
-detached_unasked : (does : Deed) (was : Bool) → asks does ≡ false → was ≡ false → settle (detached_says does) was ≡ false
-detached_unasked Moved was e none = cc
+detached_unasked : (does : SourceDeed) (was : Bool) → asks does ≡ false → was ≡ false → settle (detached_says does) was ≡ false
+detached_unasked LevelGiven was e none = cc
 detached_unasked Set was e none = cc
 detached_unasked Cleared was e none = refl
 detached_unasked Claimed was e none = refl
@@ -86,11 +86,11 @@ detached_unasked Activated was e none = refl
 detached_unasked Switched was e none = none
 detached_unasked Untouched was e none = none
 
-edge_unasked : (before after : Bool) (does : Deed) (was : Bool) → asks does ≡ false → was ≡ false → settle (edge_says before after does) was ≡ false
-edge_unasked before after Moved was e none = cc
+edge_unasked : (before after : Bool) (does : SourceDeed) (was : Bool) → asks does ≡ false → was ≡ false → settle (edge_says before after does) was ≡ false
+edge_unasked before after LevelGiven was e none = cc
 edge_unasked before after does was e none = detached_unasked does was e none
 
-unasked_at : (m : Mode) (msi before after : Bool) (does : Deed) (was : Bool) → asks does ≡ false → is_level m ≡ false → was ≡ false → settle (says m msi before after does) was ≡ false
+unasked_at : (m : Mode) (msi before after : Bool) (does : SourceDeed) (was : Bool) → asks does ≡ false → is_level m ≡ false → was ≡ false → settle (says m msi before after does) was ≡ false
 unasked_at Inactive msi before after does was e l none = refl
 unasked_at Detached msi before after does was e l none = detached_unasked does was e none
 unasked_at RisingEdge msi before after does was e l none = edge_unasked before after does was e none

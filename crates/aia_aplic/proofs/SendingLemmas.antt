@@ -2,9 +2,9 @@
 use Rattle.std.proofs.Common.{◌≡◌, ℕ, Bool, true, false, not, cond, ◌&&◌, nat_eq, List, [], ◌∷◌, map, refl, sym, ap, ◌∙◌, arith}
 use Rattle.std.specs.List.{filter}
 use Rattle.std.proofs.lemmas.Bool.{eq-eqb, ne_eqb, and_left, and_right}
-use Rattle.aia_source.specs.Source.{rectified}
-use Rattle.aia_source.specs.Source.Deed.{Forwarded}
-use Rattle.aia_domain.specs.Held.{Held, with_deed}
+use Rattle.aia_source.specs.Wired.{rectified}
+use Rattle.aia_source.specs.Wired.SourceDeed.{Forwarded}
+use Rattle.aia_domain.specs.Entry.{EntryState, with_deed}
 use Rattle.aia_model.specs.declared.msi.Msi.{Msi}
 use Rattle.aia_model.specs.declared.domain_name.DomainName.{DomainName}
 use Rattle.aia_model.specs.declared.sender.Sender.{Sender}
@@ -13,12 +13,12 @@ use Rattle.aia_model.specs.declared.domain_name.DomainName.TheVariants.{Root, Ch
 use Rattle.aia_model.specs.declared.sender.Sender.TheVariants.{ByGenMsi, BySource}
 use Rattle.aia_model.specs.Act.Act.{Made, Sent}
 use Rattle.aia_model.specs.SourceOf.{harts_in, sources_in, mode, input, is_on, is_msi, owns, target, pending, genmsi_of, genmsi_waits}
-use Rattle.aia_model.specs.Sent.{is_ready, all_senders, does_send, senders, msi_by, msi_of, msis, sent_by, settled, with_act, acts_of}
+use Rattle.aia_model.specs.Sent.{forwards, all_senders, has_msi, senders, msi_by, msi_of, msis, sent_by, settled, with_act, acts_of}
 use Rattle.aia_model.specs.Event.{History}
 use Rattle.aia_model.specs.Event.Event.{Accepted, Delivered}
 use Rattle.aia_model.specs.AddressOf.{addresses_of}
-use Rattle.aia_aplic.specs.Stands.{held}
-use Rattle.aia_aplic.proofs.Steps.{held-idle, same_target}
+use Rattle.aia_aplic.specs.Side.{entry_of}
+use Rattle.aia_aplic.proofs.Steps.{entry-idle, same_target}
 use Rattle.aia_aplic.proofs.SentSteps.{harts_sent, forward_says, forwarded, sent_elsewhere}
 use Rattle.aia_aplic.proofs.AddressSteps.{addresses_sent}
 use Rattle.aia_source.proofs.ListLemmas.{filter_none, filter_rest}
@@ -60,30 +60,30 @@ modes : (sender : Sender) (past : Past) (d : DomainName) → (is_msi (Sent sende
 unfolding newest
 modes sender past d = (refl, refl)
 
--- whether a source is to be forwarded, by what is held of it
-abbrev ready_with : Bool → Bool → Held → Bool
+-- whether a source is to be forwarded, by what is entry_of of it
+abbrev ready_with : Bool → Bool → EntryState → Bool
 ready_with msi on x = msi && on && x.source.pending && x.enabled
 
-ready_held : (sender : Sender) (past : Past) (d : DomainName) (s : ℕ) (y : Held) → held (Sent sender ∷ past) d s ≡ y → is_ready (Sent sender ∷ past) d s ≡ ready_with (is_msi past d) (is_on past d) y
+ready_held : (sender : Sender) (past : Past) (d : DomainName) (s : ℕ) (y : EntryState) → entry_of (Sent sender ∷ past) d s ≡ y → forwards (Sent sender ∷ past) d s ≡ ready_with (is_msi past d) (is_on past d) y
 ready_held sender past d s y e =
-    ap (λ m. ready_with m (is_on (Sent sender ∷ past) d) (held (Sent sender ∷ past) d s)) (modes sender past d).0 ∙ ap (λ o. ready_with (is_msi past d) o (held (Sent sender ∷ past) d s)) (modes sender past d).1
+    ap (λ m. ready_with m (is_on (Sent sender ∷ past) d) (entry_of (Sent sender ∷ past) d s)) (modes sender past d).0 ∙ ap (λ o. ready_with (is_msi past d) o (entry_of (Sent sender ∷ past) d s)) (modes sender past d).1
     ∙ ap (ready_with (is_msi past d) (is_on past d)) e
 
 -- a source that is forwarded
-ready_one : (b msi on : Bool) (x : Held) → ready_with msi on (cond (b && msi) (with_deed msi Forwarded x) x) ≡ (not (true && b) && ready_with msi on x)
+ready_one : (b msi on : Bool) (x : EntryState) → ready_with msi on (cond (b && msi) (with_deed msi Forwarded x) x) ≡ (not (true && b) && ready_with msi on x)
 ready_one true true on x = ap (λ (p : Bool). on && p && x.enabled) (forward_says x.source.mode true (rectified x.source.mode x.source.wire) x.source.pending) ∙ and_left (on && false) x.enabled (and_right on false refl)
 ready_one true false on x = refl
 ready_one false msi on x = refl
 
-ready_sent : (sender : Sender) (past : Past) (d : DomainName) (s : ℕ) → is_ready (Sent sender ∷ past) d s ≡ (not (same_sender sender (BySource d s)) && is_ready past d s)
-ready_sent (ByGenMsi e) past d s = ready_held (ByGenMsi e) past d s (held past d s) (sent_elsewhere (ByGenMsi e) past d s refl)
-ready_sent (BySource Root t) past Root s = ready_held (BySource Root t) past Root s _ (forwarded t past Root s) ∙ ready_one (nat_eq t s) (is_msi past Root) (is_on past Root) (held past Root s)
-ready_sent (BySource Child t) past Child s = ready_held (BySource Child t) past Child s _ (forwarded t past Child s) ∙ ready_one (nat_eq t s) (is_msi past Child) (is_on past Child) (held past Child s)
-ready_sent (BySource Root t) past Child s = ready_held (BySource Root t) past Child s (held past Child s) (sent_elsewhere (BySource Root t) past Child s refl)
-ready_sent (BySource Child t) past Root s = ready_held (BySource Child t) past Root s (held past Root s) (sent_elsewhere (BySource Child t) past Root s refl)
+ready_sent : (sender : Sender) (past : Past) (d : DomainName) (s : ℕ) → forwards (Sent sender ∷ past) d s ≡ (not (same_sender sender (BySource d s)) && forwards past d s)
+ready_sent (ByGenMsi e) past d s = ready_held (ByGenMsi e) past d s (entry_of past d s) (sent_elsewhere (ByGenMsi e) past d s refl)
+ready_sent (BySource Root t) past Root s = ready_held (BySource Root t) past Root s _ (forwarded t past Root s) ∙ ready_one (nat_eq t s) (is_msi past Root) (is_on past Root) (entry_of past Root s)
+ready_sent (BySource Child t) past Child s = ready_held (BySource Child t) past Child s _ (forwarded t past Child s) ∙ ready_one (nat_eq t s) (is_msi past Child) (is_on past Child) (entry_of past Child s)
+ready_sent (BySource Root t) past Child s = ready_held (BySource Root t) past Child s (entry_of past Child s) (sent_elsewhere (BySource Root t) past Child s refl)
+ready_sent (BySource Child t) past Root s = ready_held (BySource Child t) past Root s (entry_of past Root s) (sent_elsewhere (BySource Child t) past Root s refl)
 
 -- who has an MSI to send after one was sent: all that had, but for its sender
-does_send_sent : (sender : Sender) (past : Past) (x : Sender) → does_send (Sent sender ∷ past) x ≡ (not (same_sender sender x) && does_send past x)
+does_send_sent : (sender : Sender) (past : Past) (x : Sender) → has_msi (Sent sender ∷ past) x ≡ (not (same_sender sender x) && has_msi past x)
 unfolding genmsi_waits
 does_send_sent (BySource e t) past (ByGenMsi d) = refl
 does_send_sent (ByGenMsi Root) past (ByGenMsi Root) = refl
@@ -96,26 +96,26 @@ does_send_sent (BySource e t) past (BySource d s) = ready_sent (BySource e t) pa
 -- when the first MSI is sent, the others wait
 pub senders_left : (past : Past) (sender : Sender) (later : List Sender) → senders past ≡ sender ∷ later → senders (Sent sender ∷ past) ≡ later
 senders_left past sender later list =
-    ap (λ n. filter (does_send (Sent sender ∷ past)) (all_senders n)) (sizes sender past)
-    ∙ filter_rest SendsBefore (does_send past) (does_send (Sent sender ∷ past)) (all_senders (sources_in past)) later sender (all_in_order (sources_in past)) list
-    (does_send_sent sender past sender ∙ ap (λ (b : Bool). not b && does_send past sender) (same_itself sender))
-    (λ x none. does_send_sent sender past x ∙ and_right (not (same_sender sender x)) (does_send past x) none)
-    (λ x before. does_send_sent sender past x ∙ ap (λ (b : Bool). not b && does_send past x) (other_sender sender x before))
+    ap (λ n. filter (has_msi (Sent sender ∷ past)) (all_senders n)) (sizes sender past)
+    ∙ filter_rest SendsBefore (has_msi past) (has_msi (Sent sender ∷ past)) (all_senders (sources_in past)) later sender (all_in_order (sources_in past)) list
+    (does_send_sent sender past sender ∙ ap (λ (b : Bool). not b && has_msi past sender) (same_itself sender))
+    (λ x none. does_send_sent sender past x ∙ and_right (not (same_sender sender x)) (has_msi past x) none)
+    (λ x before. does_send_sent sender past x ∙ ap (λ (b : Bool). not b && has_msi past x) (other_sender sender x before))
 
 another : (t : ℕ) (past : Past) (d : DomainName) (s : ℕ) → (t ≡ s → ⊥) → pending (Sent (BySource d t) ∷ past) d s ≡ pending past d s
 another t past d s other =
-    ap (λ (x : Held). x.source.pending) (forwarded t past d s) ∙ ap (λ b. (cond (b && is_msi past d) (with_deed (is_msi past d) Forwarded (held past d s)) (held past d s)).source.pending) (ne_eqb t s other)
+    ap (λ (x : EntryState). x.source.pending) (forwarded t past d s) ∙ ap (λ b. (cond (b && is_msi past d) (with_deed (is_msi past d) Forwarded (entry_of past d s)) (entry_of past d s)).source.pending) (ne_eqb t s other)
 
 -- a source that is sent is no longer pending, and nothing else of any source is changed
 pub sent_falls : (past : Past) (d : DomainName) (s : ℕ) → is_msi past d ≡ true → pending (Sent (BySource d s) ∷ past) d s ≡ false
 sent_falls past d s by_msi =
-    ap (λ (x : Held). x.source.pending) (forwarded s past d s) ∙ ap (λ b. (cond (b && is_msi past d) (with_deed (is_msi past d) Forwarded (held past d s)) (held past d s)).source.pending) (eq-eqb s s refl)
-    ∙ ap (λ b. (cond b (with_deed (is_msi past d) Forwarded (held past d s)) (held past d s)).source.pending) by_msi ∙ forward_says (mode past d s) (is_msi past d) (input past d s) (pending past d s)
+    ap (λ (x : EntryState). x.source.pending) (forwarded s past d s) ∙ ap (λ b. (cond (b && is_msi past d) (with_deed (is_msi past d) Forwarded (entry_of past d s)) (entry_of past d s)).source.pending) (eq-eqb s s refl)
+    ∙ ap (λ b. (cond b (with_deed (is_msi past d) Forwarded (entry_of past d s)) (entry_of past d s)).source.pending) by_msi ∙ forward_says (mode past d s) (is_msi past d) (input past d s) (pending past d s)
 
 pub sent_stays : (sender : Sender) (past : Past) (d : DomainName) (s : ℕ) → (sender ≡ BySource d s → ⊥) → pending (Sent sender ∷ past) d s ≡ pending past d s
-sent_stays (ByGenMsi e) past d s other = ap (λ (x : Held). x.source.pending) (sent_elsewhere (ByGenMsi e) past d s refl)
-sent_stays (BySource Root t) past Child s other = ap (λ (x : Held). x.source.pending) (sent_elsewhere (BySource Root t) past Child s refl)
-sent_stays (BySource Child t) past Root s other = ap (λ (x : Held). x.source.pending) (sent_elsewhere (BySource Child t) past Root s refl)
+sent_stays (ByGenMsi e) past d s other = ap (λ (x : EntryState). x.source.pending) (sent_elsewhere (ByGenMsi e) past d s refl)
+sent_stays (BySource Root t) past Child s other = ap (λ (x : EntryState). x.source.pending) (sent_elsewhere (BySource Root t) past Child s refl)
+sent_stays (BySource Child t) past Root s other = ap (λ (x : EntryState). x.source.pending) (sent_elsewhere (BySource Child t) past Root s refl)
 sent_stays (BySource Root t) past Root s other = another t past Root s (λ e. other (ap (BySource Root) e))
 sent_stays (BySource Child t) past Child s other = another t past Child s (λ e. other (ap (BySource Child) e))
 
@@ -123,8 +123,8 @@ sent_stays (BySource Child t) past Child s other = another t past Child s (λ e.
 
 target_sent : (sender : Sender) (past : Past) (d : DomainName) (s : ℕ) → target (Sent sender ∷ past) d s ≡ target past d s
 unfolding target newest
-target_sent sender past Root s = same_target (owns past Root s) (is_msi past Root) (target past Root s) ((held-idle past Root s).target)
-target_sent sender past Child s = same_target (owns past Child s) (is_msi past Child) (target past Child s) ((held-idle past Child s).target)
+target_sent sender past Root s = same_target (owns past Root s) (is_msi past Root) (target past Root s) ((entry-idle past Root s).target)
+target_sent sender past Child s = same_target (owns past Child s) (is_msi past Child) (target past Child s) ((entry-idle past Child s).target)
 
 genmsi_sent : (sender : Sender) (past : Past) (d : DomainName) → genmsi_of (Sent sender ∷ past) d ≡ genmsi_of past d
 unfolding newest
@@ -164,13 +164,13 @@ pub begun_none : senders [] ≡ []
 unfolding newest genmsi_waits all_senders
 begun_none = refl
 
-none_begun_by : (h n : ℕ) (x : Sender) → does_send (Made h n ∷ []) x ≡ false
+none_begun_by : (h n : ℕ) (x : Sender) → has_msi (Made h n ∷ []) x ≡ false
 unfolding newest genmsi_waits
 none_begun_by h n (ByGenMsi d) = refl
 none_begun_by h n (BySource d s) = refl
 
 pub none_begun : (h n : ℕ) → senders (Made h n ∷ []) ≡ []
-none_begun h n = filter_none (does_send (Made h n ∷ [])) (all_senders (sources_in (Made h n ∷ []))) (λ x m. none_begun_by h n x)
+none_begun h n = filter_none (has_msi (Made h n ∷ [])) (all_senders (sources_in (Made h n ∷ []))) (λ x m. none_begun_by h n x)
 
 -- between lines nothing waits
 pub none_between : (h : History) → senders (acts_of h) ≡ []

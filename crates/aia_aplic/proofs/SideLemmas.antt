@@ -7,11 +7,11 @@ use Rattle.aia_regs.specs.declared.domain_registers.DomainReg.TheVariants.{Sourc
 use Rattle.aia_regs.specs.Fields.{field}
 use Rattle.aia_source.specs.Registers.{delegates, root_sourcecfg}
 use Rattle.aia_source.specs.Top.{Pair, topi_value}
-use Rattle.aia_source.specs.Source.Deed.{Forwarded}
-use Rattle.aia_domain.specs.Held.{EachSource, granted_at, changed_at, wired, with_deed}
+use Rattle.aia_source.specs.Wired.SourceDeed.{Forwarded}
+use Rattle.aia_domain.specs.Entry.{EachSource, granted_at, changed_at, wired, with_deed}
 use Rattle.aia_domain.specs.Domain.{DomainState, with_sources, source_after, domain_after, is_ready}
 use Rattle.aia_regs.specs.Fields.{bit_number}
-use Rattle.aia_direct.specs.Control.{Control, new_control, control_read, control_claimed, claimed_top, top_shown, signals}
+use Rattle.aia_direct.specs.Idc.{IdcState, new_idc, control_read, control_claimed, claimed_top, top_shown, signals_hart}
 use Rattle.aia_model.specs.declared.domain_name.DomainName.{DomainName}
 use Rattle.aia_model.specs.Act.{Act, Past, is_domain, newest, when}
 use Rattle.aia_model.specs.declared.domain_name.DomainName.TheVariants.{Root, Child}
@@ -19,8 +19,9 @@ use Rattle.aia_model.specs.declared.sender.Sender.{Sender}
 use Rattle.aia_model.specs.declared.sender.Sender.TheVariants.{ByGenMsi, BySource}
 use Rattle.aia_model.specs.Act.Act.{Made, Driven, Written, Loaded, Sent}
 use Rattle.aia_model.specs.Sent.{domain_of_sender}
-use Rattle.aia_model.specs.SourceOf.{harts_in, own_read, top, is_msi, is_on, is_signalled, delivery_told, delivery_of, force_told, force_of, threshold_of, only}
-use Rattle.aia_aplic.specs.Stands.{control, SideState, SideStands, IsNewSide, AplicState, AplicStands, IsNewAplic}
+use Rattle.aia_model.specs.SourceOf.{harts_in, own_read, top, is_msi, is_on, is_signalled, idelivery_told, idelivery_of, iforce_told, iforce_of, ithreshold_of, only}
+use Rattle.aia_aplic.specs.Side.{control, SideState, SideStands, IsNewSide}
+use Rattle.aia_aplic.specs.Aplic.{AplicState, AplicStands, IsNewAplic}
 use Rattle.aia_aplic.specs.Controls.{EachControl, is_control, hart_of_register, control_after, control_at, claimed_at}
 use Rattle.aia_aplic.proofs.LoadedSteps.{is_claim}
 use Rattle.aia_aplic.proofs.Standing.{driven-stands, own-stands, root-stands_other, child-stands_other, child-stands_written, read-stands_same, root-stands_loaded, child-stands_loaded, unclaimed-stands, claimed-stands, new_domain-stands}
@@ -53,7 +54,7 @@ side-driven t level a e past name each rest stands = record {
   controls = controls-still (Driven t level) a.controls past name (harts_driven t level past) (λ h low. driven_control t level past name h) stands.controls;
 }
 
-pub side-written : (reg : DomainReg) (v : ℕ) (a : SideState) (e : DomainState) (controls : List Control) (past : Past) (name : DomainName) → EachSource a.domain.sources e.sources (source_after a.domain reg v) → e ≡ with_sources (domain_after reg v a.domain) e.sources
+pub side-written : (reg : DomainReg) (v : ℕ) (a : SideState) (e : DomainState) (controls : List IdcState) (past : Past) (name : DomainName) → EachSource a.domain.sources e.sources (source_after a.domain reg v) → e ≡ with_sources (domain_after reg v a.domain) e.sources
     → EachControl a.controls controls (control_after reg v) → SideStands a past name → SideStands (record { domain = e; controls = controls }) (Written name reg v ∷ past) name
 side-written reg v a e controls past name each rest writes stands = record {
   domain = own-stands reg v a.domain e past name each rest stands.domain;
@@ -137,7 +138,7 @@ child_sends (BySource Root s) a new past e sends stands = cc
 
 -- the control of a hart that is there
 pub control_is : (a : SideState) (past : Past) (name : DomainName) (hart : ℕ) → hart < length a.controls → SideStands a past name → control_at a.controls hart ≡ control past name hart
-control_is a past name hart low stands = stands.controls.each hart (control_at a.controls hart) (slice_get-get_or a.controls hart new_control low)
+control_is a past name hart low stands = stands.controls.each hart (control_at a.controls hart) (slice_get-get_or a.controls hart new_idc low)
 
 pub hart_there : (a : SideState) (past : Past) (name : DomainName) (hart : ℕ) → hart < length a.controls → SideStands a past name → nat_lt hart (harts_in past) ≡ true
 hart_there a past name hart low stands = lt-ltb hart (harts_in past) (subst (λ n. hart < n) stands.controls.count low)
@@ -146,9 +147,9 @@ pub hart_away : (a : SideState) (past : Past) (name : DomainName) (hart : ℕ) �
 hart_away a past name hart past_all stands = le-ltb hart (harts_in past) (subst (λ n. n ≤ hart) stands.controls.count past_all)
 
 pub top_is : (a : SideState) (past : Past) (name : DomainName) (hart : ℕ) → hart < length a.controls → SideStands a past name → top_shown (control_at a.controls hart) a.domain hart ≡ top past name hart
-top_is a past name hart low stands = top-stands (control_at a.controls hart) a.domain past name hart stands.domain (ap (λ (c : Control). c.threshold) (control_is a past name hart low stands))
+top_is a past name hart low stands = top-stands (control_at a.controls hart) a.domain past name hart stands.domain (ap (λ (c : IdcState). c.ithreshold) (control_is a past name hart low stands))
 
-pub side-claimed : (hart : ℕ) (a : SideState) (e : DomainState) (controls : List Control) (past : Past) (name : DomainName) → hart < length a.controls
+pub side-claimed : (hart : ℕ) (a : SideState) (e : DomainState) (controls : List IdcState) (past : Past) (name : DomainName) → hart < length a.controls
     → EachControl a.controls controls (claimed_at a.domain hart) → EachSource a.domain.sources e.sources (claimed_top (top_shown (control_at a.controls hart) a.domain hart)) → e ≡ with_sources a.domain e.sources
     → SideStands a past name → SideStands (record { domain = e; controls = controls }) (Loaded name (ClaimI hart) ∷ past) name
 side-claimed hart a e controls past name low claims each rest stands = record {
@@ -158,7 +159,7 @@ side-claimed hart a e controls past name low claims each rest stands = record {
   where
     own : claimed_at a.domain hart hart (control past name hart) ≡ cond (nat_eq hart hart) (control_claimed (is_msi past name) (top past name hart) (control past name hart)) (control past name hart)
     own =
-        ap (λ (c : Control). cond (nat_eq hart hart) (control_claimed a.domain.msi (top_shown c a.domain hart) (control past name hart)) (control past name hart)) (sym (control_is a past name hart low stands))
+        ap (λ (c : IdcState). cond (nat_eq hart hart) (control_claimed a.domain.msi (top_shown c a.domain hart) (control past name hart)) (control past name hart)) (sym (control_is a past name hart low stands))
         ∙ ap (λ (o : Option Pair). cond (nat_eq hart hart) (control_claimed a.domain.msi o (control past name hart)) (control past name hart)) (top_is a past name hart low stands)
         ∙ ap (λ m. cond (nat_eq hart hart) (control_claimed m (top past name hart) (control past name hart)) (control past name hart)) stands.domain.msi
 
@@ -198,12 +199,12 @@ zero_bit false x e = absurd (cc)
 none_told : (x : ℕ) → ◌≡◌ {A = Option ℕ} None (Some x) → x < 2
 none_told x e = absurd (cc)
 
-delivery_bit : (d : DomainName) (hart : ℕ) (past : Past) (a : Act) (x : ℕ) → delivery_told d hart past a ≡ Some x → x < 2
+delivery_bit : (d : DomainName) (hart : ℕ) (past : Past) (a : Act) (x : ℕ) → idelivery_told d hart past a ≡ Some x → x < 2
 delivery_bit d hart past (Written e (IDelivery y) v) x told = one_bit _ v x told
 delivery_bit d hart past (Written e reg v) x told = none_told x told
 delivery_bit d hart past a x told = none_told x told
 
-force_bit : (d : DomainName) (hart : ℕ) (past : Past) (a : Act) (x : ℕ) → force_told d hart past a ≡ Some x → x < 2
+force_bit : (d : DomainName) (hart : ℕ) (past : Past) (a : Act) (x : ℕ) → iforce_told d hart past a ≡ Some x → x < 2
 force_bit d hart past (Written e (IForce y) v) x told = one_bit _ v x told
 force_bit d hart past (Written e reg v) x told = none_told x told
 force_bit d hart past (Loaded e (ClaimI y)) x told = zero_bit _ x told
@@ -220,24 +221,24 @@ shown_bit (suc (suc m)) small = absurd (omega arith)
 pub control_there : (reg : DomainReg) (hart : ℕ) (a : SideState) (past : Past) (name : DomainName) → hart_of_register reg ≡ Some hart → hart < length a.controls → SideStands a past name → control_read (control_at a.controls hart) reg ≡ own_read past name reg
 control_there (IDelivery x) hart a past name is low stands =
     let same : x ≡ hart = cc in
-    ap (λ (c : Control). bit_number c.delivery) (control_is a past name hart low stands) ∙ shown_bit (delivery_of past name hart) (newest_below (delivery_told name hart) 2 (omega arith) (delivery_bit name hart) past)
-    ∙ sym (cond-true _ _ _ (hart_there a past name hart low stands)) ∙ ap (λ h. only (nat_lt h (harts_in past)) (delivery_of past name h)) (sym same)
+    ap (λ (c : IdcState). bit_number c.idelivery) (control_is a past name hart low stands) ∙ shown_bit (idelivery_of past name hart) (newest_below (idelivery_told name hart) 2 (omega arith) (delivery_bit name hart) past)
+    ∙ sym (cond-true _ _ _ (hart_there a past name hart low stands)) ∙ ap (λ h. only (nat_lt h (harts_in past)) (idelivery_of past name h)) (sym same)
 control_there (IForce x) hart a past name is low stands =
     let same : x ≡ hart = cc in
-    ap (λ (c : Control). bit_number c.force) (control_is a past name hart low stands) ∙ shown_bit (force_of past name hart) (newest_below (force_told name hart) 2 (omega arith) (force_bit name hart) past)
-    ∙ sym (cond-true _ _ _ (hart_there a past name hart low stands)) ∙ ap (λ h. only (nat_lt h (harts_in past)) (force_of past name h)) (sym same)
+    ap (λ (c : IdcState). bit_number c.iforce) (control_is a past name hart low stands) ∙ shown_bit (iforce_of past name hart) (newest_below (iforce_told name hart) 2 (omega arith) (force_bit name hart) past)
+    ∙ sym (cond-true _ _ _ (hart_there a past name hart low stands)) ∙ ap (λ h. only (nat_lt h (harts_in past)) (iforce_of past name h)) (sym same)
 control_there (IThreshold x) hart a past name is low stands =
     let same : x ≡ hart = cc in
-    ap (λ (c : Control). c.threshold) (control_is a past name hart low stands) ∙ sym (cond-true _ _ _ (hart_there a past name hart low stands)) ∙ ap (λ h. only (nat_lt h (harts_in past)) (threshold_of past name h)) (sym same)
+    ap (λ (c : IdcState). c.ithreshold) (control_is a past name hart low stands) ∙ sym (cond-true _ _ _ (hart_there a past name hart low stands)) ∙ ap (λ h. only (nat_lt h (harts_in past)) (ithreshold_of past name h)) (sym same)
 control_there reg hart a past name is low stands = absurd (cc)
 
 pub control_away : (reg : DomainReg) (hart : ℕ) (a : SideState) (past : Past) (name : DomainName) → hart_of_register reg ≡ Some hart → length a.controls ≤ hart → SideStands a past name → 0 ≡ own_read past name reg
 control_away (IDelivery x) hart a past name is beyond stands =
-    let same : x ≡ hart = cc in sym (ap (λ h. only (nat_lt h (harts_in past)) (delivery_of past name h)) same ∙ cond-false _ _ _ (hart_away a past name hart beyond stands))
+    let same : x ≡ hart = cc in sym (ap (λ h. only (nat_lt h (harts_in past)) (idelivery_of past name h)) same ∙ cond-false _ _ _ (hart_away a past name hart beyond stands))
 control_away (IForce x) hart a past name is beyond stands =
-    let same : x ≡ hart = cc in sym (ap (λ h. only (nat_lt h (harts_in past)) (force_of past name h)) same ∙ cond-false _ _ _ (hart_away a past name hart beyond stands))
+    let same : x ≡ hart = cc in sym (ap (λ h. only (nat_lt h (harts_in past)) (iforce_of past name h)) same ∙ cond-false _ _ _ (hart_away a past name hart beyond stands))
 control_away (IThreshold x) hart a past name is beyond stands =
-    let same : x ≡ hart = cc in sym (ap (λ h. only (nat_lt h (harts_in past)) (threshold_of past name h)) same ∙ cond-false _ _ _ (hart_away a past name hart beyond stands))
+    let same : x ≡ hart = cc in sym (ap (λ h. only (nat_lt h (harts_in past)) (ithreshold_of past name h)) same ∙ cond-false _ _ _ (hart_away a past name hart beyond stands))
 control_away reg hart a past name is beyond stands = absurd (cc)
 
 -- topi of a hart, and its signal
@@ -247,12 +248,12 @@ topi_there hart a past name low stands = ap topi_value (top_is a past name hart 
 pub topi_away : (hart : ℕ) (a : SideState) (past : Past) (name : DomainName) → length a.controls ≤ hart → SideStands a past name → 0 ≡ only (nat_lt hart (harts_in past)) (topi_value (top past name hart))
 topi_away hart a past name beyond stands = sym (cond-false _ _ _ (hart_away a past name hart beyond stands))
 
-pub signals_is : (hart : ℕ) (a : SideState) (past : Past) (name : DomainName) → hart < length a.controls → SideStands a past name → signals (control_at a.controls hart) a.domain hart ≡ is_signalled past name hart
+pub signals_is : (hart : ℕ) (a : SideState) (past : Past) (name : DomainName) → hart < length a.controls → SideStands a past name → signals_hart (control_at a.controls hart) a.domain hart ≡ is_signalled past name hart
 signals_is hart a past name low stands =
-    ap (λ m. not m && a.domain.on && (control_at a.controls hart).delivery && ((control_at a.controls hart).force || is_some (top_shown (control_at a.controls hart) a.domain hart))) stands.domain.msi
-    ∙ ap (λ o. not (is_msi past name) && o && (control_at a.controls hart).delivery && ((control_at a.controls hart).force || is_some (top_shown (control_at a.controls hart) a.domain hart))) stands.domain.on
-    ∙ ap (λ (t : Option Pair). not (is_msi past name) && is_on past name && (control_at a.controls hart).delivery && ((control_at a.controls hart).force || is_some t)) (top_is a past name hart low stands)
-    ∙ ap (λ (c : Control). not (is_msi past name) && is_on past name && c.delivery && (c.force || is_some (top past name hart))) (control_is a past name hart low stands)
+    ap (λ m. not m && a.domain.on && (control_at a.controls hart).idelivery && ((control_at a.controls hart).iforce || is_some (top_shown (control_at a.controls hart) a.domain hart))) stands.domain.msi
+    ∙ ap (λ o. not (is_msi past name) && o && (control_at a.controls hart).idelivery && ((control_at a.controls hart).iforce || is_some (top_shown (control_at a.controls hart) a.domain hart))) stands.domain.on
+    ∙ ap (λ (t : Option Pair). not (is_msi past name) && is_on past name && (control_at a.controls hart).idelivery && ((control_at a.controls hart).iforce || is_some t)) (top_is a past name hart low stands)
+    ∙ ap (λ (c : IdcState). not (is_msi past name) && is_on past name && c.idelivery && (c.iforce || is_some (top past name hart))) (control_is a past name hart low stands)
 
 -- ---- the beginning
 

@@ -5,17 +5,17 @@ use Rattle.aia_regs.specs.Word.{Word, settle}
 use Rattle.aia_regs.specs.Word.Word.{Ask, Clear, Nothing}
 use Rattle.aia_source.specs.declared.mode.Mode.{Mode}
 use Rattle.aia_source.specs.declared.mode.Mode.TheVariants.{Inactive, Detached, RisingEdge, FallingEdge, LevelHigh, LevelLow}
-use Rattle.aia_source.specs.Source.{Deed, done, is_active, rectified, says}
-use Rattle.aia_source.specs.Source.Deed.{Untouched}
+use Rattle.aia_source.specs.Wired.{SourceDeed, done, is_active, rectified, says}
+use Rattle.aia_source.specs.Wired.SourceDeed.{Untouched}
 use Rattle.aia_source.specs.Registers.{target_kept}
-use Rattle.aia_domain.specs.Held.{Held, with_deed, with_enable, aimed}
+use Rattle.aia_domain.specs.Entry.{EntryState, with_deed, with_enable, aimed}
 use Rattle.aia_model.specs.declared.domain_name.DomainName.{DomainName}
 use Rattle.aia_model.specs.Act.{Act, Past}
 use Rattle.aia_model.specs.SourceOf.{wire_of, is_delegated, mode, owns, is_msi, enable_asked, enable_word, enabled, target_told, target_after, target, deed, pending, top_in}
-use Rattle.aia_aplic.specs.Stands.{held}
+use Rattle.aia_aplic.specs.Side.{entry_of}
 
--- what a step makes of what was held, by what the act says
-abbrev pub stepped : Mode → Bool → Bool → Bool → Bool → Option ℕ → Word → Deed → Held → Held
+-- what a step makes of what was entry_of, by what the act says
+abbrev pub stepped : Mode → Bool → Bool → Bool → Bool → Option ℕ → Word → SourceDeed → EntryState → EntryState
 stepped mode' wire' msi msi' delegated' aim asked does x = record {
   source = done msi does mode' wire' x.source;
   enabled = settle (enable_word (is_active x.source.mode) (is_active mode') asked) x.enabled;
@@ -23,18 +23,18 @@ stepped mode' wire' msi msi' delegated' aim asked does x = record {
   delegated = delegated';
 }
 
-pub held-step : (a : Act) (past : Past) (d : DomainName) (s : ℕ) →
-    held (a ∷ past) d s ≡ stepped (mode (a ∷ past) d s) (wire_of (a ∷ past) s) (is_msi past d) (is_msi (a ∷ past) d) (is_delegated (a ∷ past) s) (target_told d s past a) (enable_asked d s a) (deed (top_in (pending past d) past d) past a d s) (held past d s)
+pub entry-step : (a : Act) (past : Past) (d : DomainName) (s : ℕ) →
+    entry_of (a ∷ past) d s ≡ stepped (mode (a ∷ past) d s) (wire_of (a ∷ past) s) (is_msi past d) (is_msi (a ∷ past) d) (is_delegated (a ∷ past) s) (target_told d s past a) (enable_asked d s a) (deed (top_in (pending past d) past d) past a d s) (entry_of past d s)
 unfolding pending enabled target
-held-step a past d s = refl
+entry-step a past d s = refl
 
 -- a source that isn't active holds nothing
-pub record IsIdle (x : Held) : Type 0 where
+pub record IsIdle (x : EntryState) : Type 0 where
   pub pending : is_active x.source.mode ≡ false → x.source.pending ≡ false
   pub enabled : is_active x.source.mode ≡ false → x.enabled ≡ false
   pub target : is_active x.source.mode ≡ false → x.target ≡ 0
 
-pub said_nothing : (m : Mode) (msi before after : Bool) (does : Deed) (was : Bool) → is_active m ≡ false → settle (says m msi before after does) was ≡ false
+pub said_nothing : (m : Mode) (msi before after : Bool) (does : SourceDeed) (was : Bool) → is_active m ≡ false → settle (says m msi before after does) was ≡ false
 said_nothing Inactive msi before after does was e = refl
 said_nothing Detached msi before after does was e = cc
 said_nothing RisingEdge msi before after does was e = cc
@@ -42,10 +42,10 @@ said_nothing FallingEdge msi before after does was e = cc
 said_nothing LevelHigh msi before after does was e = cc
 said_nothing LevelLow msi before after does was e = cc
 
-pub held-idle : (past : Past) (d : DomainName) (s : ℕ) → IsIdle (held past d s)
+pub entry-idle : (past : Past) (d : DomainName) (s : ℕ) → IsIdle (entry_of past d s)
 unfolding pending enabled target
-held-idle [] d s = record { pending = λ e. refl; enabled = λ e. refl; target = λ e. refl }
-held-idle (a ∷ past) d s = record {
+entry-idle [] d s = record { pending = λ e. refl; enabled = λ e. refl; target = λ e. refl }
+entry-idle (a ∷ past) d s = record {
   pending = λ e. said_nothing (mode (a ∷ past) d s) _ _ _ _ _ e;
   enabled = λ e. no_enable (owns past d s) (owns (a ∷ past) d s) _ _ e;
   target = λ e. cond-false _ _ _ e;
@@ -76,7 +76,7 @@ same_target true false was idle = refl
 same_target false msi was idle = sym (idle refl)
 
 -- an act that says nothing
-pub step-nothing : (msi : Bool) (x : Held) → IsIdle x → stepped x.source.mode x.source.wire msi msi x.delegated None Nothing Untouched x ≡ x
+pub step-nothing : (msi : Bool) (x : EntryState) → IsIdle x → stepped x.source.mode x.source.wire msi msi x.delegated None Nothing Untouched x ≡ x
 step-nothing msi x idle = λ i. record {
   source = record { mode = x.source.mode; wire = x.source.wire; pending = same_mode_says x.source.mode msi (rectified x.source.mode x.source.wire) x.source.pending idle.pending i };
   enabled = same_enable (is_active x.source.mode) x.enabled idle.enabled i;
@@ -85,7 +85,7 @@ step-nothing msi x idle = λ i. record {
 }
 
 -- an act that is about pending alone
-pub step-deed : (msi : Bool) (x : Held) (does : Deed) → IsIdle x → stepped x.source.mode x.source.wire msi msi x.delegated None Nothing does x ≡ with_deed msi does x
+pub step-deed : (msi : Bool) (x : EntryState) (does : SourceDeed) → IsIdle x → stepped x.source.mode x.source.wire msi msi x.delegated None Nothing does x ≡ with_deed msi does x
 step-deed msi x does idle = λ i. record {
   source = done msi does x.source.mode x.source.wire x.source;
   enabled = same_enable (is_active x.source.mode) x.enabled idle.enabled i;
@@ -98,7 +98,7 @@ enable_set true true was = refl
 enable_set false true was = refl
 enable_set e false was = refl
 
-pub step-enable : (e msi : Bool) (x : Held) → IsIdle x → stepped x.source.mode x.source.wire msi msi x.delegated None (cond e Ask Clear) Untouched x ≡ with_enable e x
+pub step-enable : (e msi : Bool) (x : EntryState) → IsIdle x → stepped x.source.mode x.source.wire msi msi x.delegated None (cond e Ask Clear) Untouched x ≡ with_enable e x
 step-enable e msi x idle = λ i. record {
   source = record { mode = x.source.mode; wire = x.source.wire; pending = same_mode_says x.source.mode msi (rectified x.source.mode x.source.wire) x.source.pending idle.pending i };
   enabled = enable_set e (is_active x.source.mode) x.enabled i;
@@ -111,7 +111,7 @@ aimed_target true true new = refl
 aimed_target true false new = refl
 aimed_target false msi new = refl
 
-pub step-aim : (harts : ℕ) (msi : Bool) (v : ℕ) (x : Held) → IsIdle x → stepped x.source.mode x.source.wire msi msi x.delegated (Some (target_kept harts msi v)) Nothing Untouched x ≡ aimed harts msi v x
+pub step-aim : (harts : ℕ) (msi : Bool) (v : ℕ) (x : EntryState) → IsIdle x → stepped x.source.mode x.source.wire msi msi x.delegated (Some (target_kept harts msi v)) Nothing Untouched x ≡ aimed harts msi v x
 step-aim harts msi v x idle = λ i. record {
   source = record { mode = x.source.mode; wire = x.source.wire; pending = same_mode_says x.source.mode msi (rectified x.source.mode x.source.wire) x.source.pending idle.pending i };
   enabled = same_enable (is_active x.source.mode) x.enabled idle.enabled i;
@@ -119,6 +119,6 @@ step-aim harts msi v x idle = λ i. record {
   delegated = x.delegated;
 }
 
-pub done_if : (b msi : Bool) (does : Deed) (x : Held) → IsIdle x → stepped x.source.mode x.source.wire msi msi x.delegated None Nothing (cond b does Untouched) x ≡ cond b (with_deed msi does x) x
+pub done_if : (b msi : Bool) (does : SourceDeed) (x : EntryState) → IsIdle x → stepped x.source.mode x.source.wire msi msi x.delegated None Nothing (cond b does Untouched) x ≡ cond b (with_deed msi does x) x
 done_if true msi does x idle = step-deed msi x does idle
 done_if false msi does x idle = step-nothing msi x idle

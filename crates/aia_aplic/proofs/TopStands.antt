@@ -1,17 +1,17 @@
 -- What a hart is shown by a domain that stands for the past.
 use Rattle.std.proofs.Common.{◌≡◌, ℕ, zero, suc, ◌+◌, ◌-◌, ◌<◌, ◌≤◌, Bool, true, false, cond, ◌&&◌, nat_eq, length, Option, None, refl, sym, ap, ◌∙◌, arith}
 use Rattle.std.proofs.lemmas.Option.{slice_get-get_or}
-use Rattle.aia_word.specs.Top.{passes}
+use Rattle.aia_word.specs.Top.{lets_through}
 use Rattle.aia_source.specs.Top.{Pair, lesser, least_pair, priority_of, hart_of, pair_if}
 use Rattle.aia_source.proofs.TopLemmas.{least_pair-none, least_pair-suc}
-use Rattle.aia_domain.specs.Held.{new_held, held_at}
+use Rattle.aia_domain.specs.Entry.{new_entry, entry_at}
 use Rattle.aia_domain.specs.Domain.{DomainState}
-use Rattle.aia_direct.specs.Control.{Control, candidate, candidate_at, top_shown}
+use Rattle.aia_direct.specs.Idc.{IdcState, candidate, candidate_at, top_shown}
 use Rattle.aia_model.specs.declared.domain_name.DomainName.{DomainName}
 use Rattle.aia_model.specs.Act.{Past}
-use Rattle.aia_model.specs.SourceOf.{sources_in, owns, enabled, target, pending, is_msi, threshold_of, pair_in, top}
-use Rattle.aia_aplic.specs.Stands.{held, DomainStands}
-use Rattle.aia_aplic.proofs.Steps.{held-idle}
+use Rattle.aia_model.specs.SourceOf.{sources_in, owns, enabled, target, pending, is_msi, ithreshold_of, pair_in, top}
+use Rattle.aia_aplic.specs.Side.{entry_of, DomainStands}
+use Rattle.aia_aplic.proofs.Steps.{entry-idle}
 
 least_same : (f g : ℕ → Option Pair) (from count : ℕ) → ((s : ℕ) → from ≤ s → s < from + count → f s ≡ g s) → least_pair f from count ≡ least_pair g from count
 least_same f g from zero same = least_pair-none f from ∙ sym (least_pair-none g from)
@@ -33,16 +33,16 @@ same_pair true true h q false t s idle = absurd (cc (idle refl))
 same_pair true false h q false t s idle = refl
 same_pair false e h q false t s idle = refl
 
-pub top-stands : (c : Control) (d : DomainState) (past : Past) (name : DomainName) (hart : ℕ) → DomainStands d past name → c.threshold ≡ threshold_of past name hart → top_shown c d hart ≡ top past name hart
-top-stands c d past name hart stands limit = ap (λ (b : Bool). cond b None (least_pair (candidate_at d.sources hart c.threshold) 1 (length d.sources - 1))) stands.msi ∙ ap (cond (is_msi past name) None) least
+pub top-stands : (c : IdcState) (d : DomainState) (past : Past) (name : DomainName) (hart : ℕ) → DomainStands d past name → c.ithreshold ≡ ithreshold_of past name hart → top_shown c d hart ≡ top past name hart
+top-stands c d past name hart stands limit = ap (λ (b : Bool). cond b None (least_pair (candidate_at d.sources hart c.ithreshold) 1 (length d.sources - 1))) stands.msi ∙ ap (cond (is_msi past name) None) least
   where
-    each : (s : ℕ) → 1 ≤ s → s < 1 + sources_in past → candidate_at d.sources hart c.threshold s ≡ pair_in (pending past name) past name hart s
+    each : (s : ℕ) → 1 ≤ s → s < 1 + sources_in past → candidate_at d.sources hart c.ithreshold s ≡ pair_in (pending past name) past name hart s
     each s low high =
         let within : s < length d.sources = omega (arith, stands.count) in
-        let is : held_at d.sources s ≡ held past name s = stands.each s (held_at d.sources s) (slice_get-get_or d.sources s new_held within) in
-        ap (candidate hart c.threshold s) is ∙ ap (λ n. candidate hart n s (held past name s)) limit
-        ∙ same_pair (pending past name s) (enabled past name s) (nat_eq (hart_of (target past name s)) hart) (passes (threshold_of past name hart) (priority_of (target past name s))) (owns past name s) (target past name s) s
-        ((held-idle past name s).enabled)
+        let is : entry_at d.sources s ≡ entry_of past name s = stands.each s (entry_at d.sources s) (slice_get-get_or d.sources s new_entry within) in
+        ap (candidate hart c.ithreshold s) is ∙ ap (λ n. candidate hart n s (entry_of past name s)) limit
+        ∙ same_pair (pending past name s) (enabled past name s) (nat_eq (hart_of (target past name s)) hart) (lets_through (ithreshold_of past name hart) (priority_of (target past name s))) (owns past name s) (target past name s) s
+        ((entry-idle past name s).enabled)
 
-    least : least_pair (candidate_at d.sources hart c.threshold) 1 (length d.sources - 1) ≡ least_pair (pair_in (pending past name) past name hart) 1 (sources_in past)
-    least = let n : length d.sources - 1 ≡ sources_in past = omega (arith, stands.count) in ap (least_pair (candidate_at d.sources hart c.threshold) 1) n ∙ least_same _ _ 1 (sources_in past) each
+    least : least_pair (candidate_at d.sources hart c.ithreshold) 1 (length d.sources - 1) ≡ least_pair (pair_in (pending past name) past name hart) 1 (sources_in past)
+    least = let n : length d.sources - 1 ≡ sources_in past = omega (arith, stands.count) in ap (least_pair (candidate_at d.sources hart c.ithreshold) 1) n ∙ least_same _ _ 1 (sources_in past) each

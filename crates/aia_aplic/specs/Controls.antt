@@ -2,12 +2,12 @@
 use Rattle.std.specs.Prelude.{ℕ, Bool, true, false, nat_eq, if◌then◌else◌, List, get_or, Option, Some, None}
 use Rattle.aia_regs.specs.declared.domain_registers.DomainReg.{DomainReg}
 use Rattle.aia_regs.specs.declared.domain_registers.DomainReg.TheVariants.{IDelivery, IForce, IThreshold, TopI, ClaimI}
-use Rattle.aia_domain.specs.Held.{EachAt}
+use Rattle.aia_domain.specs.Entry.{EachAt}
 use Rattle.aia_domain.specs.Domain.{DomainState}
-use Rattle.aia_direct.specs.Control.{Control, new_control, control_written, control_claimed, top_shown}
+use Rattle.aia_direct.specs.Idc.{IdcState, new_idc, control_written, control_claimed, top_shown}
 
 -- Each control of a list is changed by its hart.
-abbrev pub EachControl : List Control → List Control → (ℕ → Control → Control) → Type 0
+abbrev pub EachControl : List IdcState → List IdcState → (ℕ → IdcState → IdcState) → Type 0
 EachControl old new change = EachAt old new change
 
 -- Whether a register is one of a hart's control, and whether of this hart's.
@@ -26,15 +26,15 @@ is_of_hart (IThreshold x) hart = nat_eq x hart
 is_of_hart reg hart = false
 
 -- A register is written.
-abbrev pub control_after : DomainReg → ℕ → ℕ → Control → Control
+abbrev pub control_after : DomainReg → ℕ → ℕ → IdcState → IdcState
 control_after reg v hart c = if is_of_hart reg hart then control_written reg v c else c
 
 -- The control of a hart that is there.
-abbrev pub control_at : List Control → ℕ → Control
-control_at controls hart = get_or controls hart new_control
+abbrev pub control_at : List IdcState → ℕ → IdcState
+control_at controls hart = get_or controls hart new_idc
 
 -- A hart claims.
-abbrev pub claimed_at : DomainState → ℕ → ℕ → Control → Control
+abbrev pub claimed_at : DomainState → ℕ → ℕ → IdcState → IdcState
 claimed_at d hart h c = if nat_eq hart h then control_claimed d.msi (top_shown c d hart) c else c
 
 -- The hart of idelivery, iforce or ithreshold.

@@ -1,4 +1,5 @@
-pub mod Stands
+pub mod Side
+pub mod Aplic
 pub mod Controls
 pub mod Tops
 pub mod Sending

@@ -1,4 +1,4 @@
--- The order in which senders send. Profile: this project's way to speak of it.
+-- The order in which senders send. Vocabulary.
 use Rattle.std.specs.Prelude.{◌≡◌, ◌<◌, ◌⊎◌}
 use Rattle.aia_model.specs.declared.sender.Sender.{Sender}
 use Rattle.aia_model.specs.declared.domain_name.DomainName.TheVariants.{Root, Child}

@@ -1,7 +1,6 @@
--- What the next MSI is, and what is left of those that wait. Profile: this project's way to speak
--- of it.
+-- What the next MSI is, and what is left of those that wait. Vocabulary.
 use Rattle.std.specs.Prelude.{◌≡◌, ℕ, ◌+◌, ◌<◌, ◌≤◌, Bool, true, false, count_by, if◌then◌else◌, List, [], ◌∷◌, Option, Some, None}
-use Rattle.aia_domain.specs.Held.{waits}
+use Rattle.aia_domain.specs.Entry.{waits}
 use Rattle.aia_domain.specs.Domain.{DomainState, is_ready}
 use Rattle.aia_model.specs.declared.msi.Msi.{Msi}
 use Rattle.aia_model.specs.Act.{Past}
@@ -10,7 +9,8 @@ use Rattle.aia_model.specs.declared.domain_name.DomainName.TheVariants.{Root, Ch
 use Rattle.aia_model.specs.declared.sender.Sender.TheVariants.{ByGenMsi, BySource}
 use Rattle.aia_model.specs.Act.Act.{Sent}
 use Rattle.aia_model.specs.Sent.{senders, domain_of_sender, msi_of}
-use Rattle.aia_aplic.specs.Stands.{SideState, AplicState, AplicStands, side}
+use Rattle.aia_aplic.specs.Side.{SideState}
+use Rattle.aia_aplic.specs.Aplic.{AplicState, AplicStands, side}
 
 -- The least number that passes a test; None where none does.
 abbrev pub IsLeastOf : (ℕ → Bool) → Option ℕ → Type 0

@@ -7,7 +7,7 @@ ghost use Rattle.aia_model.specs.Act.Act.{Made, Driven, Written, Loaded, Sent};
 ghost use Rattle.aia_model.specs.Sent.{msi_of};
 ghost use Rattle.aia_domain.specs.Domain.{is_ready};
 ghost use Rattle.aia_model.specs.SourceOf.{harts_in, sources_in, register_read, is_signalled};
-ghost use Rattle.aia_aplic.specs.Stands.{AplicStands, IsNewAplic, side, domain_name};
+ghost use Rattle.aia_aplic.specs.Aplic.{AplicStands, IsNewAplic, side, domain_name};
 ghost use Rattle.aia_aplic.specs.Sending.{IsLeastOf, IsFirstSource, IsFirst, does_wait, waiting, Next};
 
 use crate::sender::{domain_of, msi_by};
@@ -19,9 +19,10 @@ use aia_source::delegates;
 use std::alloc::{AllocError, Global};
 use std::marker::Model;
 
-/// The APLIC of a machine: the root domain, at machine level, and its child, at supervisor level, which share the wired sources.
+/// The APLIC of a machine: the root domain, at machine level, and its child, at supervisor level,
+/// which share the wired sources.
 ///
-/// AIA 1.0, Advanced Platform-Level Interrupt Controller (APLIC), "Interrupt domains".
+/// AIA 1.0, APLIC, "Interrupt domains".
 #[derive(Drop)]
 pub struct Aplic {
     root: Side,
@@ -30,7 +31,7 @@ pub struct Aplic {
 }
 
 impl Model for Aplic {
-    ghost use Rattle.aia_aplic.specs.Stands.{AplicState};
+    ghost use Rattle.aia_aplic.specs.Aplic.{AplicState};
 
     ghost Value = { AplicState };
 
@@ -38,8 +39,8 @@ impl Model for Aplic {
 }
 
 impl Aplic {
-    /// The APLIC of `harts` harts, up to 4, and `sources` wired sources, 1 to 1023: every source is inactive, and every register 0 but
-    /// `domaincfg`.
+    /// The APLIC of `harts` harts, up to 4, and `sources` wired sources, 1 to 1023: every source is
+    /// inactive, and every register 0 but `domaincfg`.
     pub fn new(alloc: Global, harts: u32, sources: u32) -> Result<Aplic, AllocError>
         requires some { 1 ≤ sources }
         requires few { sources ≤ SOURCES }
@@ -72,10 +73,11 @@ impl Aplic {
         self.child.wire(s, level);
     }
 
-    /// The register at an offset of a domain's control region is read: domain 0 is the root domain, 1 its child. A load of a hart's `claimi` claims
-    /// the source that it shows, or, where it shows none in a domain that delivers directly, makes its `iforce` 0.
+    /// The register at an offset of a domain's control region is read: domain 0 is the root domain,
+    /// 1 its child. A load of a hart's `claimi` claims the source that it shows, or, where it shows
+    /// none in a domain that delivers directly, makes its `iforce` 0.
     ///
-    /// AIA 1.0, Advanced Platform-Level Interrupt Controller (APLIC), "Memory-mapped control region for an interrupt domain".
+    /// AIA 1.0, APLIC, "Memory-mapped control region for an interrupt domain".
     pub fn load(&mut self, domain: u32, offset: u32) -> u32
         requires { domain ≤ 1 }
         ensures reads { (past : Past) → AplicStands self.old past →
@@ -100,9 +102,10 @@ impl Aplic {
         }
     }
 
-    /// The register at an offset of a domain's control region is written: domain 0 is the root domain, 1 its child.
+    /// The register at an offset of a domain's control region is written: domain 0 is the root
+    /// domain, 1 its child.
     ///
-    /// AIA 1.0, Advanced Platform-Level Interrupt Controller (APLIC), "Memory-mapped control region for an interrupt domain".
+    /// AIA 1.0, APLIC, "Memory-mapped control region for an interrupt domain".
     pub fn store(&mut self, domain: u32, offset: u32, value: u32)
         requires { domain ≤ 1 }
         ensures { (past : Past) → AplicStands self.old past → AplicStands self.new (Written (domain_name domain) (domain_register_of offset) value ∷ past) }
@@ -130,10 +133,11 @@ impl Aplic {
         }
     }
 
-    /// Whether a hart is signalled by a domain, 0 or 1: the domain delivers directly and its interrupts are enabled, the hart's `idelivery` is 1, and a source
-    /// is on top for it or its `iforce` is 1. A hart that isn't there is not.
+    /// Whether a hart is signalled by a domain, 0 or 1: the domain delivers directly and its
+    /// interrupts are enabled, the hart's `idelivery` is 1, and a source is on top for it or its
+    /// `iforce` is 1. A hart that isn't there is not.
     ///
-    /// AIA 1.0, Advanced Platform-Level Interrupt Controller (APLIC), "Interrupt delivery directly by the APLIC".
+    /// AIA 1.0, APLIC, "Interrupt delivery directly by the APLIC".
     pub fn pin(&self, domain: u32, hart: u32) -> bool
         requires { domain ≤ 1 }
         ensures signal { (past : Past) → AplicStands self.now past → hart < harts_in past → result ≡ is_signalled past (domain_name domain) hart }
@@ -151,14 +155,16 @@ impl Aplic {
         }
     }
 
-    /// The next MSI is sent: where a `genmsi` asked for one, that, the root domain's first; else that of the least source that a domain is to forward, whose
-    /// pending bit falls (our profile's order). `None` exactly where nothing waits. Called until it answers `None`, it gives all MSIs that wait, in
-    /// order, and then none waits.
+    /// The next MSI is sent: where a `genmsi` asked for one, that, the root domain's first; else
+    /// that of the least source that a domain is to forward, whose pending bit falls (our profile's
+    /// order). `None` exactly where nothing waits. Called until it answers `None`, it gives all
+    /// MSIs that wait, in order, and then none waits.
     ///
-    /// A machine calls it so after each line. Until it is called, a second `genmsi` takes the place of the first, a change of the delivery mode drops it, and
-    /// a source may cease to be ready; no register shows that an MSI waits.
+    /// A machine calls it so after each line. Until it is called, a second `genmsi` takes the place
+    /// of the first, a change of the delivery mode drops it, and a source may cease to be ready; no
+    /// register shows that an MSI waits.
     ///
-    /// AIA 1.0, Advanced Platform-Level Interrupt Controller (APLIC), "Interrupt forwarding by MSIs".
+    /// AIA 1.0, APLIC, "Interrupt forwarding by MSIs".
     pub fn next_msi(&mut self) -> Option<Msi>
         ensures next { (past : Past) → AplicStands self.old past → Next self.new result past }
         ensures fewer { IfSome result (λ msi. waiting self.new < waiting self.old) }

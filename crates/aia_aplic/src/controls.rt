@@ -1,10 +1,11 @@
-//! The delivery controls of the harts in a domain, by their harts: each function here changes one of them at most.
+//! The delivery controls of the harts in a domain, by their harts: each function here changes one
+//! of them at most.
 
 ghost use Rattle.std.specs.Prelude.{◌≡◌, ◌<◌, ◌≤◌, length, All, IfOk, Bool};
 ghost use Rattle.aia_source.specs.Top.{topi_value};
-ghost use Rattle.aia_domain.specs.Held.{EachSource};
+ghost use Rattle.aia_domain.specs.Entry.{EachSource};
 ghost use Rattle.aia_domain.specs.Domain.{with_sources};
-ghost use Rattle.aia_direct.specs.Control.{new_control, control_read, top_shown, claimed_top, signals};
+ghost use Rattle.aia_direct.specs.Idc.{new_idc, control_read, top_shown, claimed_top, signals_hart};
 ghost use Rattle.aia_aplic.specs.Controls.{EachControl, control_after, control_at, claimed_at};
 
 use aia_direct::{Idc, claimi, signal, topi};
@@ -15,7 +16,7 @@ use std::alloc::{AllocError, Global};
 /// The controls of so many harts, as a machine begins.
 pub(crate) fn new_controls(alloc: Global, harts: u32) -> Result<Vec<Idc>, AllocError>
     ensures length { IfOk result (λ controls. length controls.items ≡ harts) }
-    ensures each { IfOk result (λ controls. All (λ c. c ≡ new_control) controls.items) }
+    ensures each { IfOk result (λ controls. All (λ c. c ≡ new_idc) controls.items) }
 {
     let mut controls = Vec::new(alloc);
     for _hart in 0..harts {
@@ -68,7 +69,7 @@ pub(crate) fn claim(controls: &mut [Idc], domain: &mut Domain, hart: u32) -> u32
 /// Whether a hart that is there is signalled.
 pub(crate) fn signal_of(controls: &[Idc], domain: &Domain, hart: u32) -> bool
     requires { hart < length controls.now }
-    ensures { result ≡ signals (control_at controls.now hart) domain.now hart }
+    ensures { result ≡ signals_hart (control_at controls.now hart) domain.now hart }
 {
     signal(&controls[hart as usize], domain, hart)
 }

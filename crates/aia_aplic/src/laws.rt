@@ -1,16 +1,17 @@
-//! What the definitions of the wired sources mean, as laws for every past: each function does nothing, and its clauses are what was proved.
+//! What the definitions of the wired sources mean, as laws for every past: each function does
+//! nothing, and its clauses are what was proved.
 
 ghost use Rattle.std.specs.Prelude.{◌≡◌, ◌≢◌, ◌↔◌, ℕ, ◌≤◌, Bool, true, false, ◌&&◌, List, [], ◌∷◌, Option, Some, None, Contains, AllPairs};
 ghost use Rattle.aia_model.specs.Event.{History};
 ghost use Rattle.aia_model.specs.declared.sender.Sender.{Sender};
 ghost use Rattle.aia_model.specs.declared.sender.Sender.TheVariants.{ByGenMsi, BySource};
-ghost use Rattle.aia_model.specs.Sent.{is_ready, senders, msi_of, msis, settled, acts_of};
+ghost use Rattle.aia_model.specs.Sent.{forwards, senders, msi_of, msis, settled, acts_of};
 ghost use Rattle.aia_aplic.specs.Senders.{SendsBefore};
 ghost use Rattle.aia_source.specs.Top.{Pair};
 ghost use Rattle.aia_aplic.specs.Tops.{IsOnTop};
 ghost use Rattle.aia_regs.specs.declared.domain_registers.DomainReg.{DomainReg};
 ghost use Rattle.aia_regs.specs.declared.domain_registers.DomainReg.TheVariants.{SourceCfg};
-ghost use Rattle.aia_source.specs.Source.{is_level};
+ghost use Rattle.aia_source.specs.Wired.{is_level};
 ghost use Rattle.aia_source.specs.declared.touch.Touch.TheVariants.{SetPending};
 ghost use Rattle.aia_source.specs.Registers.{touch};
 ghost use Rattle.aia_model.specs.declared.domain_name.DomainName.{DomainName};
@@ -21,24 +22,25 @@ ghost use Rattle.aia_model.specs.declared.domain_name.DomainName.TheVariants.{Ro
 ghost use Rattle.aia_model.specs.Act.Act.{Written, Sent};
 ghost use Rattle.aia_model.specs.SourceOf.{is_delegated, sourcecfg_of, mode, owns, input, is_msi, enabled, target, pending, sources_in, genmsi_waits, is_for, top};
 
-/// Whatever has happened, a source at a level mode, in a domain that delivers directly, is pending exactly while its rectified input is high.
+/// Whatever has happened, a source at a level mode, in a domain that delivers directly, is pending
+/// exactly while its rectified input is high.
 ///
-/// AIA 1.0, Advanced Platform-Level Interrupt Controller (APLIC), "Precise effects on interrupt-pending bits".
+/// AIA 1.0, APLIC, "Precise effects on interrupt-pending bits".
 pub fn a_level_source_follows_its_input()
     ensures { (past : Past) (d : DomainName) (s : ℕ) → is_level (mode past d s) ≡ true → is_msi past d ≡ false → pending past d s ≡ input past d s }
 {}
 
 /// Whatever has happened, no source is active in both domains.
 ///
-/// AIA 1.0, Advanced Platform-Level Interrupt Controller (APLIC), "Interrupt domains".
+/// AIA 1.0, APLIC, "Interrupt domains".
 pub fn a_source_has_one_owner_at_most()
     ensures { (past : Past) (s : ℕ) → (owns past Root s && owns past Child s) ≡ false }
 {}
 
-/// Whatever has happened, in a domain in which a source is not active its input, its pending bit, its enable bit and its target are 0.
+/// Whatever has happened, in a domain in which a source is not active its input, its pending bit,
+/// its enable bit and its target are 0.
 ///
-/// AIA 1.0, Advanced Platform-Level Interrupt Controller (APLIC), "Memory-mapped control region for an interrupt domain". Our profile: the
-/// input.
+/// AIA 1.0, APLIC, "Memory-mapped control region for an interrupt domain". Our profile: the input.
 pub fn what_is_not_owned_is_zero()
     ensures input { (past : Past) (d : DomainName) (s : ℕ) → owns past d s ≡ false → input past d s ≡ false }
     ensures pending { (past : Past) (d : DomainName) (s : ℕ) → owns past d s ≡ false → pending past d s ≡ false }
@@ -46,17 +48,20 @@ pub fn what_is_not_owned_is_zero()
     ensures target { (past : Past) (d : DomainName) (s : ℕ) → owns past d s ≡ false → target past d s ≡ 0 }
 {}
 
-/// Whatever has happened, the child domain's register of a source that the root domain does not delegate is 0.
+/// Whatever has happened, the child domain's register of a source that the root domain does not
+/// delegate is 0.
 ///
-/// AIA 1.0, Advanced Platform-Level Interrupt Controller (APLIC), "Memory-mapped control region for an interrupt domain".
+/// AIA 1.0, APLIC, "Memory-mapped control region for an interrupt domain".
 pub fn what_is_not_delegated_is_zero_in_the_child()
     ensures { (past : Past) (s : ℕ) → is_delegated past s ≡ false → sourcecfg_of past Child s ≡ 0 }
 {}
 
-/// A write is no rise of a wire. At an edge or detached mode, a `sourcecfg` leaves the pending bit of a source that was active (our profile), and one
-/// that was not is then not pending; nor does any other write make a source at such a mode pending but one that asks for it, whatever its input becomes.
+/// A write is no rise of a wire. At an edge or detached mode, a `sourcecfg` leaves the pending bit
+/// of a source that was active (our profile), and one that was not is then not pending; nor does
+/// any other write make a source at such a mode pending but one that asks for it, whatever its
+/// input becomes.
 ///
-/// AIA 1.0, Advanced Platform-Level Interrupt Controller (APLIC), "Precise effects on interrupt-pending bits".
+/// AIA 1.0, APLIC, "Precise effects on interrupt-pending bits".
 pub fn only_a_wire_makes_a_rise()
     ensures stays { (past : Past) (d : DomainName) (i v s : ℕ) → owns past d s ≡ true → owns (Written d (SourceCfg i) v ∷ past) d s ≡ true → is_level (mode (Written d (SourceCfg i) v ∷ past) d s) ≡ false → pending (Written d (SourceCfg i) v ∷ past) d s ≡ pending past d s }
     ensures begins { (past : Past) (d : DomainName) (i v s : ℕ) → owns past d s ≡ false → is_level (mode (Written d (SourceCfg i) v ∷ past) d s) ≡ false → pending (Written d (SourceCfg i) v ∷ past) d s ≡ false }
@@ -65,45 +70,50 @@ pub fn only_a_wire_makes_a_rise()
         pending past d s ≡ false → pending (Written e reg v ∷ past) d s ≡ false }
 {}
 
-/// Whatever has happened, what `topi` of a hart shows is the least pair of priority and number of the pending sources that are the hart's, and nothing
-/// exactly where there is none, in a domain that delivers directly.
+/// Whatever has happened, what `topi` of a hart shows is the least pair of priority and number of
+/// the pending sources that are the hart's, and nothing exactly where there is none, in a domain
+/// that delivers directly.
 ///
-/// AIA 1.0, Advanced Platform-Level Interrupt Controller (APLIC), "Interrupt delivery directly by the APLIC".
+/// AIA 1.0, APLIC, "Interrupt delivery directly by the APLIC".
 pub fn the_source_on_top_is_the_least_of_the_harts()
     ensures found { (past : Past) (d : DomainName) (hart : ℕ) (p : Pair) → top past d hart ≡ Some p → IsOnTop past d hart p }
     ensures none { (past : Past) (d : DomainName) (hart : ℕ) → is_msi past d ≡ false → ◌≡◌ {A = Option Pair} (top past d hart) None → (s : ℕ) → 1 ≤ s → s ≤ sources_in past → is_for past d hart s ≡ true → pending past d s ≡ false }
 {}
 
-/// Whatever has happened, what waits to be sent is: what a `genmsi` asked for and has not sent, and each source that is there and is to be forwarded by a
-/// domain. They stand in order: `genmsi` first, then the sources by rising number (our profile).
+/// Whatever has happened, what waits to be sent is: what a `genmsi` asked for and has not sent, and
+/// each source that is there and is to be forwarded by a domain. They stand in order: `genmsi`
+/// first, then the sources by rising number (our profile).
 ///
-/// AIA 1.0, Advanced Platform-Level Interrupt Controller (APLIC), "Interrupt forwarding by MSIs".
+/// AIA 1.0, APLIC, "Interrupt forwarding by MSIs".
 pub fn what_waits_is_genmsi_and_the_sources_that_are_ready()
     ensures genmsi { (past : Past) (d : DomainName) → Contains (senders past) (ByGenMsi d) ↔
         (genmsi_waits past d ≡ true) }
     ensures sources { (past : Past) (d : DomainName) (s : ℕ) →
         Contains (senders past) (BySource d s) ↔ ((1 ≤ s) × (s ≤ sources_in past) ×
-        (is_ready past d s ≡ true)) }
+        (forwards past d s ≡ true)) }
     ensures order { (past : Past) → AllPairs SendsBefore (senders past) }
 {}
 
-/// When the first MSI of those that wait is sent, the others wait as before, in the same order, each with the address and the value that it had. So
-/// to send the first until none waits is to send them all, in order.
+/// When the first MSI of those that wait is sent, the others wait as before, in the same order,
+/// each with the address and the value that it had. So to send the first until none waits is to
+/// send them all, in order.
 pub fn msis_are_sent_one_after_another()
     ensures senders { (past : Past) (sender : Sender) (later : List Sender) → senders past ≡ sender ∷ later → senders (Sent sender ∷ past) ≡ later }
     ensures msis { (past : Past) (sender : Sender) (later : List Sender) → senders past ≡ sender ∷ later → msis past ≡ msi_of past sender ∷ msis (Sent sender ∷ past) }
     ensures settled { (past : Past) (sender : Sender) (later : List Sender) → senders past ≡ sender ∷ later → settled past ≡ settled (Sent sender ∷ past) }
 {}
 
-/// When all that waits is sent, nothing waits; so it is between the lines of every history: no source is to be forwarded then.
+/// When all that waits is sent, nothing waits; so it is between the lines of every history: no
+/// source is to be forwarded then.
 pub fn nothing_waits_between_lines()
     ensures sent { (past : Past) → senders (settled past) ≡ [] }
     ensures between { (h : History) → senders (acts_of h) ≡ [] }
 {}
 
-/// A source whose MSI is sent is no longer pending, at each mode, whatever its input is; no other source's pending bit is changed.
+/// A source whose MSI is sent is no longer pending, at each mode, whatever its input is; no other
+/// source's pending bit is changed.
 ///
-/// AIA 1.0, Advanced Platform-Level Interrupt Controller (APLIC), "Interrupt forwarding by MSIs".
+/// AIA 1.0, APLIC, "Interrupt forwarding by MSIs".
 pub fn a_source_that_is_sent_is_no_longer_pending()
     ensures falls { (past : Past) (d : DomainName) (s : ℕ) → is_msi past d ≡ true → pending (Sent (BySource d s) ∷ past) d s ≡ false }
     ensures stays { (past : Past) (sender : Sender) (d : DomainName) (s : ℕ) → (sender ≡ BySource d s → ⊥) → pending (Sent sender ∷ past) d s ≡ pending past d s }
@@ -111,7 +121,7 @@ pub fn a_source_that_is_sent_is_no_longer_pending()
 
 /// Whatever happens after the registers of MSI addresses are locked, they stay as they are.
 ///
-/// AIA 1.0, Advanced Platform-Level Interrupt Controller (APLIC), "Memory-mapped control region for an interrupt domain".
+/// AIA 1.0, APLIC, "Memory-mapped control region for an interrupt domain".
 pub fn locked_registers_of_addresses_stay()
     ensures { (past : Past) (a : Act) → are_locked (addresses_of past) ≡ true → addresses_of (a ∷ past) ≡ addresses_of past }
 {}

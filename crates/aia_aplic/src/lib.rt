@@ -1,4 +1,5 @@
-//! The APLIC of a machine: its two interrupt domains, the wired sources that they share, and the MSIs that it sends.
+//! The APLIC of a machine: its two interrupt domains, the wired sources that they share, and the
+//! MSIs that it sends.
 #![tactic(auto)]
 
 mod aplic;

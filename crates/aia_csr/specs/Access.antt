@@ -12,22 +12,23 @@ use Rattle.aia_regs.specs.declared.access.Level.TheVariants as levels
 use Rattle.aia_csr.specs.declared.access.Access.{Access}
 use Rattle.aia_csr.specs.declared.access.Access.TheVariants as reaches
 
--- What an access to mireg or sireg reaches, by the register that the select number names. One that doesn't exist is illegal, but at a
--- guest it raises a virtual-instruction fault.
+-- What an access to mireg or sireg reaches, by the register that the select number names. One that
+-- doesn't exist is illegal, but at a guest it raises a virtual-instruction fault.
 -- AIA 1.0, IMSIC, "Indirectly accessed interrupt-file registers". Profile: also where nothing is.
-abbrev pub register_at : Level → FileReg → Access
-register_at levels.Guest Odd = reaches.Virtual
-register_at levels.Guest Outside = reaches.Virtual
-register_at level Odd = reaches.Illegal
-register_at level Outside = reaches.Illegal
-register_at level reg = reaches.File reg
+abbrev pub register_access : Level → FileReg → Access
+register_access levels.Guest Odd = reaches.Virtual
+register_access levels.Guest Outside = reaches.Virtual
+register_access level Odd = reaches.Illegal
+register_access level Outside = reaches.Illegal
+register_access level reg = reaches.File reg
 
 -- The table, by level, CSR and instruction, the select number, and hvictl's VTI.
--- AIA 1.0, IMSIC, and Interrupts for Virtual Machines (VS Level). A host's access to stopi, sip or sie is not modelled.
+-- AIA 1.0, IMSIC, and Interrupts for Virtual Machines (VS Level). A host's access to stopi, sip or
+-- sie is not modelled.
 abbrev pub access_of : Level → Csr → Op → ℕ → Bool → Access
 access_of level csrs.Select op select vti = reaches.Select
 access_of level csrs.Topei op select vti = reaches.Top
-access_of level csrs.Reg op select vti = register_at level (register_of select)
+access_of level csrs.Reg op select vti = register_access level (register_of select)
 access_of levels.Guest csrs.Topi op select vti = if is_writing op then reaches.Illegal else reaches.Topi
 access_of levels.Guest csrs.Sip op select vti = if vti then reaches.Virtual else reaches.Sip
 access_of levels.Guest csrs.Sie op select vti = if vti then reaches.Virtual else reaches.Sie

@@ -1,5 +1,5 @@
 ghost use Rattle.std.specs.Prelude.{◌≡◌};
-ghost use Rattle.aia_csr.specs.Access.{access_of, IsInTable, ReachesUsable, register_at};
+ghost use Rattle.aia_csr.specs.Access.{access_of, IsInTable, ReachesUsable, register_access};
 
 use aia_regs::{Csr, FileReg, Level, Op, file_reg};
 
@@ -24,8 +24,8 @@ pub enum Access {
     Virtual,
 }
 
-/// What the access reaches, given the select number and whether hvictl's VTI is 1 (which only a guest's `sip` and `sie`
-/// ask for). A host's CSR is `Select`, `Reg` or `Topei`.
+/// What the access reaches, given the select number and whether hvictl's VTI is 1 (which only a
+/// guest's `sip` and `sie` ask for). A host's CSR is `Select`, `Reg` or `Topei`.
 ///
 /// AIA 1.0, Incoming MSI Controller, and Interrupts for Virtual Machines (VS Level).
 pub fn decide(level: Level, csr: Csr, op: Op, select: u64, vti: bool) -> Access
@@ -47,7 +47,7 @@ pub fn decide(level: Level, csr: Csr, op: Op, select: u64, vti: bool) -> Access
 
 /// What an access by the select number reaches.
 fn register(level: Level, reg: FileReg) -> Access
-    ensures { result ≡ register_at level reg }
+    ensures { result ≡ register_access level reg }
 {
     match (reg, level) {
         (FileReg::Odd | FileReg::Outside, Level::Guest) => Access::Virtual,

@@ -1,4 +1,5 @@
-//! Direct delivery: of each hart in a domain of an APLIC, what is on top for it, and whether it is signalled.
+//! Direct delivery: of each hart in a domain of an APLIC, what is on top for it, and whether it is
+//! signalled.
 #![tactic(auto)]
 
 mod idc;

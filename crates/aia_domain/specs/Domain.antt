@@ -6,11 +6,11 @@ use Rattle.aia_regs.specs.declared.domain_registers.DomainReg.{DomainReg}
 use Rattle.aia_regs.specs.declared.domain_registers.DomainReg.TheVariants.{DomainCfg, SourceCfg, SetIp, InClrIp, SetIe, GenMsi, Target}
 use Rattle.aia_source.specs.Registers.{domaincfg_kept, domaincfg_read, enables, is_by_msi, touch, genmsi_kept, same_bool}
 use Rattle.aia_domain.specs.declared.entry.Look.TheVariants as looks
-use Rattle.aia_domain.specs.Held.{Held, new_held, changed_at, written_at, touched, switched, aimed, waits_of, sourcecfg_of, target_of, bit_at_source}
+use Rattle.aia_domain.specs.Entry.{EntryState, new_entry, changed_at, written_at, touched, switched, aimed, waits_of, sourcecfg_of, target_of, bit_at_source}
 
--- Whether it is a leaf of the tree of domains, which has no child; how many harts there are; IE and DM; genmsi, and whether an MSI that it
--- asked for is still to be sent; the sources.
--- AIA 1.0, Advanced Platform-Level Interrupt Controller (APLIC), "Interrupt domains".
+-- Whether it is a leaf of the tree of domains, which has no child; how many harts there are; IE and
+-- DM; genmsi, and whether an MSI that it asked for is still to be sent; the sources.
+-- AIA 1.0, APLIC, "Interrupt domains".
 pub record DomainState : Type 0 where
   pub leaf : Bool
   pub harts : ℕ
@@ -18,7 +18,7 @@ pub record DomainState : Type 0 where
   pub msi : Bool
   pub genmsi : ℕ
   pub genmsi_waits : Bool
-  pub sources : List Held
+  pub sources : List EntryState
 
 -- A domain as a machine begins: all its sources are inactive. Profile.
 pub record IsNewDomain (source_count hart_count : ℕ) (is_leaf : Bool) (d : DomainState) : Type 0 where
@@ -29,34 +29,34 @@ pub record IsNewDomain (source_count hart_count : ℕ) (is_leaf : Bool) (d : Dom
   pub genmsi : d.genmsi ≡ 0
   pub genmsi_waits : d.genmsi_waits ≡ false
   pub count : length d.sources ≡ suc source_count
-  pub each : All (λ x. x ≡ new_held) d.sources
+  pub each : All (λ x. x ≡ new_entry) d.sources
 
 -- The same but for its sources.
-abbrev pub with_sources : DomainState → List Held → DomainState
+abbrev pub with_sources : DomainState → List EntryState → DomainState
 with_sources d sources = record d { sources = sources }
 
 -- ---- a store
 
 -- A domaincfg is written: where the delivery mode changes, all sources begin with it.
--- AIA 1.0, Advanced Platform-Level Interrupt Controller (APLIC).
-abbrev pub configured_by : ℕ → Bool → ℕ → Held → Held
+-- AIA 1.0, APLIC.
+abbrev pub configured_by : ℕ → Bool → ℕ → EntryState → EntryState
 configured_by cfg msi s x = if same_bool msi (is_by_msi cfg) then x else switched (is_by_msi cfg) x
 
 -- What a store of v to a register makes of source s. Number 0 names no source.
--- AIA 1.0, Advanced Platform-Level Interrupt Controller (APLIC), "Memory-mapped control region for an interrupt domain".
-abbrev pub source_changed : Bool → ℕ → Bool → DomainReg → ℕ → ℕ → Held → Held
+-- AIA 1.0, APLIC, "Memory-mapped control region for an interrupt domain".
+abbrev pub source_changed : Bool → ℕ → Bool → DomainReg → ℕ → ℕ → EntryState → EntryState
 source_changed leaf harts msi DomainCfg v s x = configured_by (domaincfg_kept v) msi s x
 source_changed leaf harts msi (SourceCfg i) v s x = written_at i leaf msi v s x
 source_changed leaf harts msi (Target i) v s x = changed_at i (aimed harts msi v) s x
 source_changed leaf harts msi reg v s x = touched msi (touch reg v s) x
 
 -- The same in a domain.
-abbrev pub source_after : DomainState → DomainReg → ℕ → ℕ → Held → Held
+abbrev pub source_after : DomainState → DomainReg → ℕ → ℕ → EntryState → EntryState
 source_after d reg v s x = source_changed d.leaf d.harts d.msi reg v s x
 
--- What a store makes of the domain itself: domaincfg writes IE and DM; genmsi is written only where the domain delivers by MSIs, and a change of
--- that makes it 0.
--- AIA 1.0, Advanced Platform-Level Interrupt Controller (APLIC). Profile: what direct delivery and a change make of genmsi.
+-- What a store makes of the domain itself: domaincfg writes IE and DM; genmsi is written only where
+-- the domain delivers by MSIs, and a change of that makes it 0.
+-- AIA 1.0, APLIC. Profile: what direct delivery and a change make of genmsi.
 abbrev pub domaincfg_written : Bool → Bool → Bool → DomainState → DomainState
 domaincfg_written same on msi d = if same then record d { on = on } else record d { on = on; msi = msi; genmsi = 0; genmsi_waits = false }
 
@@ -67,8 +67,9 @@ domain_after reg v d = d
 
 -- ---- a load
 
--- What a load of a register reads: 0 where none is there. The registers of the harts' delivery are not kept here.
--- AIA 1.0, Advanced Platform-Level Interrupt Controller (APLIC), "Memory-mapped control region for an interrupt domain".
+-- What a load of a register reads: 0 where none is there. The registers of the harts' delivery are
+-- not kept here.
+-- AIA 1.0, APLIC, "Memory-mapped control region for an interrupt domain".
 abbrev pub domain_read : DomainState → DomainReg → ℕ
 domain_read d DomainCfg = domaincfg_read d.on d.msi
 domain_read d (SourceCfg i) = sourcecfg_of d.leaf (slice_get d.sources i)
@@ -81,8 +82,9 @@ domain_read d reg = 0
 
 -- ---- what is to be sent
 
--- Whether a source is to be forwarded: the domain delivers by MSIs and is enabled, and the source is pending and enabled.
--- AIA 1.0, Advanced Platform-Level Interrupt Controller (APLIC), "Interrupt forwarding by MSIs".
+-- Whether a source is to be forwarded: the domain delivers by MSIs and is enabled, and the source
+-- is pending and enabled.
+-- AIA 1.0, APLIC, "Interrupt forwarding by MSIs".
 abbrev pub is_ready : DomainState → ℕ → Bool
 is_ready d s = d.msi && d.on && waits_of (slice_get d.sources s)
 

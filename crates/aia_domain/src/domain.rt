@@ -1,8 +1,8 @@
 ghost use Rattle.std.specs.Prelude.{◌≡◌, suc, ◌≤◌, ◌<◌, Bool, length, slice_get, Some, None, IfOk, if◌then◌else◌};
 ghost use Rattle.aia_regs.specs.declared.limits.TheConstants.{HARTS, SOURCES};
 ghost use Rattle.aia_source.specs.Registers.{enables, is_by_msi, same_bool};
-ghost use Rattle.aia_source.specs.Source.Deed.{Claimed, Forwarded};
-ghost use Rattle.aia_domain.specs.Held.{EachSource, changed_at, granted_at, wired, with_deed, held_at, bit_at_source, target_of};
+ghost use Rattle.aia_source.specs.Wired.SourceDeed.{Claimed, Forwarded};
+ghost use Rattle.aia_domain.specs.Entry.{EachSource, changed_at, granted_at, wired, with_deed, entry_at, bit_at_source, target_of};
 ghost use Rattle.aia_domain.specs.Domain.{IsNewDomain, with_sources, configured_by, source_after, domain_after, domaincfg_written, domain_read, is_ready, ready_from};
 
 use crate::entries::{
@@ -16,10 +16,10 @@ use aia_source::{Touch, Wired, domaincfg_kept, domaincfg_read, enables, genmsi_k
 use std::alloc::{AllocError, Global};
 use std::marker::Model;
 
-/// One interrupt domain of an APLIC, as wired sources and registers see it. The registers of the harts' delivery are not kept here: they
-/// read 0 and ignore writes.
+/// One interrupt domain of an APLIC, as wired sources and registers see it. The registers of the
+/// harts' delivery are not kept here: they read 0 and ignore writes.
 ///
-/// AIA 1.0, Advanced Platform-Level Interrupt Controller (APLIC), "Interrupt domains".
+/// AIA 1.0, APLIC, "Interrupt domains".
 #[derive(Drop)]
 pub struct Domain {
     leaf: bool,
@@ -45,8 +45,8 @@ impl Model for Domain {
 }
 
 impl Domain {
-    /// A domain of `sources` wired sources, 1 to 1023, and `harts` harts, 1 to 4: the root domain, or, as a `leaf`, its child. Every
-    /// source is inactive, and every register 0 but `domaincfg`.
+    /// A domain of `sources` wired sources, 1 to 1023, and `harts` harts, 1 to 4: the root domain,
+    /// or, as a `leaf`, its child. Every source is inactive, and every register 0 but `domaincfg`.
     pub fn new(alloc: Global, sources: u32, harts: u32, leaf: bool) -> Result<Domain, AllocError>
         requires some { 1 ≤ sources }
         requires few { sources ≤ SOURCES }
@@ -75,7 +75,7 @@ impl Domain {
 
     /// What a register reads: 0 where none is there.
     ///
-    /// AIA 1.0, Advanced Platform-Level Interrupt Controller (APLIC), "Memory-mapped control region for an interrupt domain".
+    /// AIA 1.0, APLIC, "Memory-mapped control region for an interrupt domain".
     pub fn load(&self, reg: DomainReg) -> u32
         ensures { result ≡ domain_read self.now reg }
     {
@@ -99,7 +99,7 @@ impl Domain {
 
     /// A register is written; where none is there, nothing is done.
     ///
-    /// AIA 1.0, Advanced Platform-Level Interrupt Controller (APLIC), "Memory-mapped control region for an interrupt domain".
+    /// AIA 1.0, APLIC, "Memory-mapped control region for an interrupt domain".
     pub fn store(&mut self, reg: DomainReg, value: u32)
         ensures sources { EachSource self.old.sources self.new.sources (source_after self.old reg value) }
         ensures domain { self.new ≡ with_sources (domain_after reg value self.old) self.new.sources }
@@ -159,7 +159,8 @@ impl Domain {
         wire_one(&mut self.sources, s, level, self.msi);
     }
 
-    /// The root domain delegates a source to this one, its child: where that is new, the source begins inactive here.
+    /// The root domain delegates a source to this one, its child: where that is new, the source
+    /// begins inactive here.
     pub fn grant(&mut self, s: u32)
         ensures sources { EachSource self.old.sources self.new.sources (granted_at s Bool.true self.old.msi) }
         ensures domain { self.new ≡ with_sources self.old self.new.sources }
@@ -167,7 +168,8 @@ impl Domain {
         grant_one(&mut self.sources, s, true, self.msi);
     }
 
-    /// The root domain does not delegate a source to this one, its child: where it did, the source is inactive here from now on.
+    /// The root domain does not delegate a source to this one, its child: where it did, the source
+    /// is inactive here from now on.
     pub fn withdraw(&mut self, s: u32)
         ensures sources { EachSource self.old.sources self.new.sources (granted_at s Bool.false self.old.msi) }
         ensures domain { self.new ≡ with_sources self.old self.new.sources }
@@ -175,7 +177,8 @@ impl Domain {
         grant_one(&mut self.sources, s, false, self.msi);
     }
 
-    /// A claim in direct delivery shows a source: its pending bit falls, but for one at a level mode.
+    /// A claim in direct delivery shows a source: its pending bit falls, but for one at a level
+    /// mode.
     pub fn claimed(&mut self, s: u32)
         ensures sources { EachSource self.old.sources self.new.sources (changed_at s (with_deed Bool.false Claimed)) }
         ensures domain { self.new ≡ with_sources self.old self.new.sources }
@@ -210,10 +213,10 @@ impl Domain {
         self.genmsi_waits
     }
 
-    /// The sources that are to be forwarded, in rising order: the pending enabled ones, where the domain delivers by MSIs and its interrupts
-    /// are enabled.
+    /// The sources that are to be forwarded, in rising order: the pending enabled ones, where the
+    /// domain delivers by MSIs and its interrupts are enabled.
     ///
-    /// AIA 1.0, Advanced Platform-Level Interrupt Controller (APLIC), "Interrupt forwarding by MSIs".
+    /// AIA 1.0, APLIC, "Interrupt forwarding by MSIs".
     pub fn ready(&self) -> Ready<'_>
         ensures { ready_from result.domain.now result.at ≡ ready_from self.now 0 }
     {
@@ -223,21 +226,21 @@ impl Domain {
     /// A source that is there.
     pub fn source(&self, s: u32) -> &Wired
         requires there { s < length self.now.sources }
-        ensures { result.now ≡ (held_at self.now.sources s).source }
+        ensures { result.now ≡ (entry_at self.now.sources s).source }
     {
         self.sources[s as usize].wired()
     }
 
     /// The enable bit of a source, false where the source isn't there.
     pub fn enabled(&self, s: u32) -> bool
-        ensures { result ≡ (held_at self.now.sources s).enabled }
+        ensures { result ≡ (entry_at self.now.sources s).enabled }
     {
         (s as usize) < self.sources.len() && self.sources[s as usize].enabled()
     }
 
     /// The `target` of a source, 0 where the source isn't there.
     pub fn target(&self, s: u32) -> u32
-        ensures { result ≡ (held_at self.now.sources s).target }
+        ensures { result ≡ (entry_at self.now.sources s).target }
     {
         match self.sources.get(s as usize) {
             Some(entry) => entry.target(),

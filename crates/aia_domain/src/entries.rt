@@ -1,10 +1,11 @@
-//! The sources of a domain, by their numbers: each function here changes some of them, and leaves the others as they are.
+//! The sources of a domain, by their numbers: each function here changes some of them, and leaves
+//! the others as they are.
 
 ghost use Rattle.std.specs.Prelude.{◌≡◌, ◌*◌, ◌≤◌, Bool, nat_eq, slice_get, length, All, IfOk, if◌then◌else◌};
 ghost use Rattle.aia_word.specs.Sets.{word_of};
-ghost use Rattle.aia_source.specs.Source.Deed.{Claimed, Forwarded};
+ghost use Rattle.aia_source.specs.Wired.SourceDeed.{Claimed, Forwarded};
 ghost use Rattle.aia_source.specs.Registers.{in_word, touch_where};
-ghost use Rattle.aia_domain.specs.Held.{EachSource, new_held, changed_at, touched, written_at, all_switched, switched, aimed, sourcecfg_written, granted_at, wired, with_deed, sourcecfg_of, target_of, bit_at_source, waits_of};
+ghost use Rattle.aia_domain.specs.Entry.{EachSource, new_entry, changed_at, touched, written_at, all_switched, switched, aimed, sourcecfg_written, granted_at, wired, with_deed, sourcecfg_of, target_of, bit_at_source, waits_of};
 
 use crate::entry::{Entry, Look};
 use aia_regs::bit;
@@ -17,7 +18,7 @@ const WORD: u32 = 32;
 /// So many sources as a domain begins.
 pub(crate) fn new_entries(alloc: Global, count: u32) -> Result<Vec<Entry>, AllocError>
     ensures length { IfOk result (λ entries. length entries.items ≡ count) }
-    ensures each { IfOk result (λ entries. All (λ x. x ≡ new_held) entries.items) }
+    ensures each { IfOk result (λ entries. All (λ x. x ≡ new_entry) entries.items) }
 {
     let mut entries = Vec::new(alloc);
     for _number in 0..count {

@@ -1,7 +1,7 @@
 ghost use Rattle.std.specs.Prelude.{◌≡◌, ◌≤◌, Bool, Some};
-ghost use Rattle.aia_source.specs.Source.{is_active};
-ghost use Rattle.aia_source.specs.Source.Deed.{Claimed, Forwarded};
-ghost use Rattle.aia_domain.specs.Held.{Held, new_held, with_deed, touched, configured, switched, aimed, sourcecfg_written, granted, wired, sourcecfg_shown, bit_shown, waits};
+ghost use Rattle.aia_source.specs.Wired.{is_active};
+ghost use Rattle.aia_source.specs.Wired.SourceDeed.{Claimed, Forwarded};
+ghost use Rattle.aia_domain.specs.Entry.{EntryState, new_entry, with_deed, touched, configured, switched, aimed, sourcecfg_written, granted, wired, sourcecfg_shown, bit_shown, waits};
 
 use aia_source::{
     DELEGATED, Mode, Touch, Wired, child_sourcecfg, delegates, first_target, mode_number, mode_of,
@@ -31,14 +31,14 @@ pub struct Entry {
 }
 
 impl Model for Entry {
-    ghost Value = { Held };
+    ghost Value = { EntryState };
 
     ghost view = { λ e. record { source = e.wired; enabled = e.enabled; target = e.target; delegated = e.delegated } };
 }
 
 impl Entry {
     pub(crate) fn new() -> Entry
-        ensures { result ≡ new_held }
+        ensures { result ≡ new_entry }
     {
         Entry {
             wired: Wired::new(),

@@ -1,9 +1,9 @@
 ghost use Rattle.std.specs.Prelude.{◌≡◌, ℕ, ◌+◌, ◌-◌, ◌*◌, ◌%◌, ◌<◌, ◌≤◌, ◌↔◌, false, ◌&&◌, not, nat_eq, length, IsTrue, IfOk, IfSome};
 ghost use Rattle.aia_word.specs.Sets.{has_bit, is_in};
-ghost use Rattle.aia_word.specs.Top.{top_value, passes};
+ghost use Rattle.aia_word.specs.Top.{top_value, lets_through};
 ghost use Rattle.aia_regs.specs.declared.limits.TheConstants.{IDENTITIES};
 ghost use Rattle.aia_regs.specs.Word.{settle};
-ghost use Rattle.aia_regs.specs.FileRegisters.{IsUsable, set_word, number_after};
+ghost use Rattle.aia_regs.specs.FileRegisters.{IsUsable, set_said, number_after};
 ghost use Rattle.aia_file.specs.InterruptFile.{is_width, SameFile, empty_file, register_value, top_of, signals, accessed, landed, claimed};
 ghost use Rattle.aia_file.specs.FileState.{shown};
 
@@ -12,7 +12,8 @@ use aia_word::sets;
 use std::alloc::{AllocError, Global};
 use std::marker::Model;
 
-/// An interrupt file with the identities 1 to `n`: which are pending, which are enabled, `eithreshold` and `eidelivery`.
+/// An interrupt file with the identities 1 to `n`: which are pending, which are enabled,
+/// `eithreshold` and `eidelivery`.
 ///
 /// AIA 1.0, Incoming MSI Controller, "Interrupt files and interrupt identities".
 #[derive(Drop)]
@@ -114,14 +115,16 @@ impl File {
         self.access(reg, Op::Clear(value))
     }
 
-    /// What a topei register shows: the identity on top twice, in bits 26:16 and 10:0; 0 where there is none.
+    /// What a topei register shows: the identity on top twice, in bits 26:16 and 10:0; 0 where
+    /// there is none.
     pub fn top(&self) -> u64
         ensures { result ≡ top_value (top_of (shown self.now)) }
     {
         topei(self.on_top())
     }
 
-    /// Claims: clears the pending bit of the identity on top, and answers what a topei register showed before.
+    /// Claims: clears the pending bit of the identity on top, and answers what a topei register
+    /// showed before.
     pub fn claim(&mut self) -> u64
         ensures top { result ≡ top_value (top_of (shown self.old)) }
         ensures after { SameFile (shown self.new) (claimed (shown self.old)) }
@@ -166,7 +169,7 @@ impl File {
         ensures fits { self.now.n ≤ IDENTITIES }
     {
         let least = sets::least_common(&self.pending, &self.enabled)?;
-        if passes(self.threshold, least) {
+        if lets_through(self.threshold, least) {
             Some(least)
         } else {
             None
@@ -175,8 +178,8 @@ impl File {
 }
 
 /// Whether the threshold lets the identity through.
-fn passes(threshold: u64, identity: u32) -> bool
-    ensures { result ≡ passes threshold identity }
+fn lets_through(threshold: u64, identity: u32) -> bool
+    ensures { result ≡ lets_through threshold identity }
 {
     threshold == 0 || u64::from(identity) < threshold
 }
@@ -204,12 +207,13 @@ fn access_number(was: u64, modulus: u64, op: Op) -> u64
     }
 }
 
-/// Does the instruction on register `k` of a set; registers past the last word read 0, and a write to them is ignored.
+/// Does the instruction on register `k` of a set; registers past the last word read 0, and a write
+/// to them is ignored.
 fn access_set(words: &mut [u64], k: u32, op: Op)
     requires even { k % 2 ≡ 0 }
     requires some { 0 < length words.old }
     requires no_zero { is_in words.old 0 ≡ false }
-    ensures { (i : ℕ) → is_in words.new i ≡ settle (set_word (64 * length words.old - 1) k op i) (is_in words.old i) }
+    ensures { (i : ℕ) → is_in words.new i ≡ settle (set_said (64 * length words.old - 1) k op i) (is_in words.old i) }
 {
     let at = (k / 2) as usize;
     if at < words.len() {

@@ -11,15 +11,15 @@ use Rattle.aia_regs.specs.declared.file_registers.FileReg.TheVariants.{Odd, Outs
 use Rattle.aia_regs.specs.FileRegisters.{register_of}
 use Rattle.aia_csr.specs.declared.access.Access.{Access}
 use Rattle.aia_csr.specs.declared.access.Access.TheVariants as reaches
-use Rattle.aia_csr.specs.Access.{access_of, register_at, IsInTable}
+use Rattle.aia_csr.specs.Access.{access_of, register_access, IsInTable}
 use Rattle.aia_file.specs.InterruptFile.{InterruptFile}
 use Rattle.aia_file.specs.FileState.{shown}
-use Rattle.aia_imsic.specs.Files.{file_at}
+use Rattle.aia_imsic.specs.Imsic.{file_at}
 use Rattle.aia_model.specs.declared.answer.Answer.TheVariants.{Wide, Refused}
 use Rattle.aia_model.specs.declared.refusal.Refusal.TheVariants.{Range, Illegal}
 use Rattle.aia_model.specs.Event.{History, has_machine, harts_of, machine_of}
 use Rattle.aia_model.specs.Event.Event.{Accepted}
-use Rattle.aia_model.specs.FileAfter.Deed.{Accesses, Rests}
+use Rattle.aia_model.specs.FileAfter.FileDeed.{Accesses, Rests}
 use Rattle.aia_model.specs.FileOf.{FileName, MachineFile, SupervisorFile, deed_at, select_of}
 use Rattle.aia_model.specs.Refusal.{refusal, raises_illegal}
 use Rattle.aia_model.specs.Answer.{accepted_answer, csr_shown, csr_value}
@@ -40,7 +40,7 @@ IsFileOrFault r reaches.Illegal = Unit {0}
 IsFileOrFault r reaches.Virtual = Unit {0}
 IsFileOrFault r access = ⊥
 
-register_kind : (level : Level) (r : FileReg) → IsFileOrFault r (register_at level r)
+register_kind : (level : Level) (r : FileReg) → IsFileOrFault r (register_access level r)
 register_kind levels.Guest Odd = tt
 register_kind levels.Guest Outside = tt
 register_kind level Odd = tt

@@ -10,7 +10,7 @@ use Rattle.aia_file.specs.FileState.{FileState, shown}
 use Rattle.aia_file.proofs.FileLemmas.{same_file}
 use Rattle.aia_imsic.specs.declared.spot.Spot.{Spot}
 use Rattle.aia_imsic.specs.declared.spot.Spot.TheVariants as spots
-use Rattle.aia_imsic.specs.Files.{Harts, IsThere, place_of, file_at, with_file, AreEmpty}
+use Rattle.aia_imsic.specs.Imsic.{ImsicState, IsThere, place_of, file_at, with_file, AreEmpty}
 use Rattle.aia_imsic.proofs.PlaceLemmas.{replaced_here, kept_elsewhere}
 use Rattle.aia_model.specs.declared.answer.Answer.{Answer}
 use Rattle.aia_model.specs.declared.refusal.Refusal.{Refusal}
@@ -18,8 +18,8 @@ use Rattle.aia_model.specs.declared.line.Line.{Line}
 use Rattle.aia_model.specs.declared.line.Line.TheVariants.{Machine}
 use Rattle.aia_model.specs.Event.{Event, History, Shape, machine_of, harts_of}
 use Rattle.aia_model.specs.Event.Event.{Accepted}
-use Rattle.aia_model.specs.FileAfter.{Deed, select_told, file_after}
-use Rattle.aia_model.specs.FileAfter.Deed.{Rests}
+use Rattle.aia_model.specs.FileAfter.{FileDeed, select_after, file_after}
+use Rattle.aia_model.specs.FileAfter.FileDeed.{Rests}
 use Rattle.aia_model.specs.FileOf.{FileName, MachineFile, SupervisorFile, deed_at, select_of, file_of}
 use Rattle.aia_model.specs.Refusal.{refusal}
 use Rattle.aia_model.specs.Answer.{accepted_answer}
@@ -45,7 +45,7 @@ host_more : (x y : CoreState) (h : History) (event : Event) (f : FileName) → F
 host_more x y h event f done stands = record {
   file = same_file _ _ done.file ∙ ap (λ s. file_after s (deed_at f event) (shown (file_at x.imsic (spot_of f)))) stands.select
       ∙ ap (file_after (select_of h f) (deed_at f event)) stands.file ∙ sym (file_step event h f);
-  select = done.select ∙ ap (select_told (deed_at f event)) stands.select ∙ sym (select_step event h f);
+  select = done.select ∙ ap (select_after (deed_at f event)) stands.select ∙ sym (select_step event h f);
 }
 
 guest_too : (x y : CoreState) (hart file : ℕ) → y.imsic.harts ≡ x.imsic.harts → y.imsic.guests ≡ x.imsic.guests → IsThere y.imsic (spots.GuestFile hart file) → IsThere x.imsic (spots.GuestFile hart file)
@@ -97,29 +97,29 @@ one_done x y h event f done machine rests = record {
     }
 
 -- a deed was done at one file, which stands now in the place of the old one
-pub file_done : (x y : CoreState) (f : FileName) (deed : Deed) (spot : Spot) → spot ≡ spot_of f → IsThere x.imsic spot → y.imsic ≡ with_file x.imsic spot (file_at y.imsic spot) → y.selects ≡ x.selects
-    → SameFile (shown (file_at y.imsic spot)) (file_after (select_in x f) deed (shown (file_at x.imsic spot))) → select_told deed (select_in x f) ≡ select_in x f → HasDone x y f deed
+pub file_done : (x y : CoreState) (f : FileName) (deed : FileDeed) (spot : Spot) → spot ≡ spot_of f → IsThere x.imsic spot → y.imsic ≡ with_file x.imsic spot (file_at y.imsic spot) → y.selects ≡ x.selects
+    → SameFile (shown (file_at y.imsic spot)) (file_after (select_in x f) deed (shown (file_at x.imsic spot))) → select_after deed (select_in x f) ≡ select_in x f → HasDone x y f deed
 file_done x y f deed spot named there imsic selects done select = record {
-  harts = ap (λ (i : Harts). i.harts) imsic;
-  guests = ap (λ (i : Harts). i.guests) imsic;
+  harts = ap (λ (i : ImsicState). i.harts) imsic;
+  guests = ap (λ (i : ImsicState). i.guests) imsic;
   done = record {
     file = subst (λ (s : Spot). SameFile (shown (file_at y.imsic s)) (file_after (select_in x f) deed (shown (file_at x.imsic s)))) named done;
     select = ap (λ xs. get_or xs (select_place f) 0) selects ∙ sym select;
   };
-  files = λ other inside ne. ap (λ (i : Harts). file_at i other) imsic ∙ kept_elsewhere x.imsic spot other (file_at y.imsic spot) there inside (λ e. ne (e ∙ named));
+  files = λ other inside ne. ap (λ (i : ImsicState). file_at i other) imsic ∙ kept_elsewhere x.imsic spot other (file_at y.imsic spot) there inside (λ e. ne (e ∙ named));
   selects = λ g ne. ap (λ xs. get_or xs (select_place g) 0) selects;
 }
 
 -- the same of a file that was lent
-pub lent_done : (x : CoreState) (f : FileName) (deed : Deed) (spot : Spot) (file : FileState) → spot ≡ spot_of f → IsThere x.imsic (spot_of f) → place_of x.imsic spot < length x.imsic.files
-    → SameFile (shown file) (file_after (select_in x f) deed (shown (file_at x.imsic spot))) → select_told deed (select_in x f) ≡ select_in x f → HasDone x (record x { imsic = with_file x.imsic spot file }) f deed
+pub lent_done : (x : CoreState) (f : FileName) (deed : FileDeed) (spot : Spot) (file : FileState) → spot ≡ spot_of f → IsThere x.imsic (spot_of f) → place_of x.imsic spot < length x.imsic.files
+    → SameFile (shown file) (file_after (select_in x f) deed (shown (file_at x.imsic spot))) → select_after deed (select_in x f) ≡ select_in x f → HasDone x (record x { imsic = with_file x.imsic spot file }) f deed
 lent_done x f deed spot file named there within done select =
     let now : file_at (with_file x.imsic spot file) spot ≡ file = replaced_here x.imsic spot file within in
     file_done x (record x { imsic = with_file x.imsic spot file }) f deed spot named (subst (IsThere x.imsic) (sym named) there) (ap (with_file x.imsic spot) (sym now)) refl
     (subst (λ (n : FileState). SameFile (shown n) (file_after (select_in x f) deed (shown (file_at x.imsic spot)))) (sym now) done) select
 
 -- a deed that leaves its file and select number
-pub none_done : (x : CoreState) (f : FileName) (deed : Deed) → file_after (select_in x f) deed (shown (file_at x.imsic (spot_of f))) ≡ shown (file_at x.imsic (spot_of f)) → select_told deed (select_in x f) ≡ select_in x f → HasDone x x f deed
+pub none_done : (x : CoreState) (f : FileName) (deed : FileDeed) → file_after (select_in x f) deed (shown (file_at x.imsic (spot_of f))) ≡ shown (file_at x.imsic (spot_of f)) → select_after deed (select_in x f) ≡ select_in x f → HasDone x x f deed
 none_done x f deed file select = record {
   harts = refl;
   guests = refl;

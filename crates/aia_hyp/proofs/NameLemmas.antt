@@ -6,7 +6,7 @@ use Rattle.aia_regs.specs.declared.access.Level.{Level}
 use Rattle.aia_regs.specs.declared.access.Level.TheVariants as levels
 use Rattle.aia_imsic.specs.declared.spot.Spot.{Spot}
 use Rattle.aia_imsic.specs.declared.spot.Spot.TheVariants as spots
-use Rattle.aia_imsic.specs.Files.{Harts, IsThere}
+use Rattle.aia_imsic.specs.Imsic.{ImsicState, IsThere}
 use Rattle.aia_model.specs.FileOf.{FileName, MachineFile, SupervisorFile}
 use Rattle.aia_hyp.specs.HostFiles.{IsHost, name_of, spot_of, is_host_spot, select_place}
 
@@ -57,11 +57,11 @@ other_place f g ne e = ne (sym (named_by_place g) ∙ ap name_by_place e ∙ nam
 
 -- ---- which are there
 
-pub there_too : (a b : Harts) (f : FileName) → a.harts ≡ b.harts → IsThere a (spot_of f) → IsThere b (spot_of f)
+pub there_too : (a b : ImsicState) (f : FileName) → a.harts ≡ b.harts → IsThere a (spot_of f) → IsThere b (spot_of f)
 there_too a b (MachineFile hart) e inside = omega arith
 there_too a b (SupervisorFile hart) e inside = omega arith
 
-pub named_there : (level : Level) → IsHost level → (i : Harts) (hart : ℕ) → hart < i.harts → IsThere i (spot_of (name_of level hart))
+pub named_there : (level : Level) → IsHost level → (i : ImsicState) (hart : ℕ) → hart < i.harts → IsThere i (spot_of (name_of level hart))
 named_there levels.Machine host i hart inside = inside
 named_there levels.Host host i hart inside = inside
 named_there levels.Guest host i hart inside = absurd host

@@ -5,7 +5,7 @@ use Rattle.std.proofs.lemmas.Bool.Decides.{nat_tests}
 use Rattle.aia_regs.specs.AddressMap.{machine_page, supervisor_page, is_in_memory, is_in_region, root_region, child_region}
 use Rattle.aia_imsic.specs.declared.spot.Spot.{Spot}
 use Rattle.aia_imsic.specs.declared.spot.Spot.TheVariants as spots
-use Rattle.aia_imsic.specs.Files.{Harts, IsThere}
+use Rattle.aia_imsic.specs.Imsic.{ImsicState, IsThere}
 use Rattle.aia_imsic.specs.Map.{spot_at, is_page}
 use Rattle.aia_imsic.proofs.MapLemmas.{spot_of_machine, spot_of_host, machine_of_spot, host_of_spot, from_page, to_page, below_all}
 use Rattle.aia_model.specs.declared.domain_name.DomainName.{DomainName}
@@ -20,16 +20,16 @@ use Rattle.aia_hyp.specs.Stands.{core_refusal}
 
 -- ---- pages of the host's files
 
-pub page_of_name : (i : Harts) (addr : ℕ) (f : FileName) → i.harts ≤ 4 → IsThere i (spot_of f) → is_at f addr ≡ true → spot_at i.harts i.guests addr ≡ spot_of f
+pub page_of_name : (i : ImsicState) (addr : ℕ) (f : FileName) → i.harts ≤ 4 → IsThere i (spot_of f) → is_at f addr ≡ true → spot_at i.harts i.guests addr ≡ spot_of f
 page_of_name i addr (MachineFile hart) few inside here = spot_of_machine i.harts i.guests addr hart inside here
 page_of_name i addr (SupervisorFile hart) few inside here = spot_of_host i.harts i.guests addr hart few inside here
 
-pub name_at_page : (i : Harts) (addr : ℕ) (f : FileName) → spot_at i.harts i.guests addr ≡ spot_of f → is_at f addr ≡ true
+pub name_at_page : (i : ImsicState) (addr : ℕ) (f : FileName) → spot_at i.harts i.guests addr ≡ spot_of f → is_at f addr ≡ true
 name_at_page i addr (MachineFile hart) e = (machine_of_spot i.harts i.guests addr hart e).1
 name_at_page i addr (SupervisorFile hart) e = (host_of_spot i.harts i.guests addr hart e).1
 
 -- the address is in no page of another file that is there
-pub elsewhere : (i : Harts) (addr : ℕ) (spot : Spot) (g : FileName) → i.harts ≤ 4 → spot ≡ spot_at i.harts i.guests addr → IsThere i (spot_of g) → spot_of g ≢ spot → is_at g addr ≡ false
+pub elsewhere : (i : ImsicState) (addr : ℕ) (spot : Spot) (g : FileName) → i.harts ≤ 4 → spot ≡ spot_at i.harts i.guests addr → IsThere i (spot_of g) → spot_of g ≢ spot → is_at g addr ≡ false
 elsewhere i addr spot g few at inside other = elim (cases_Bool (is_at g addr)) [
   | inl here ↦ absurd (other (sym (at ∙ page_of_name i addr g few inside here)))
   | inr e ↦ e
@@ -63,7 +63,7 @@ no_file_there addr f there = elim (cases_Bool (is_at f addr)) [
 not_in_memory : (addr : ℕ) → addr < 0x80000000 → is_in_memory addr ≡ false
 not_in_memory addr low = grind (arith, nat_tests)
 
-page_below : (i : Harts) (addr : ℕ) (spot : Spot) → i.harts ≤ 4 → spot ≡ spot_at i.harts i.guests addr → is_host_spot spot ≡ true → addr < 0x80000000
+page_below : (i : ImsicState) (addr : ℕ) (spot : Spot) → i.harts ≤ 4 → spot ≡ spot_at i.harts i.guests addr → is_host_spot spot ≡ true → addr < 0x80000000
 page_below i addr (spots.MachineFile hart) few at host =
     let there = machine_of_spot i.harts i.guests addr hart (sym at) in let below = to_page (machine_page hart) addr there.1 in omega (arith, there.0)
 page_below i addr (spots.HostFile hart) few at host =
@@ -77,7 +77,7 @@ pub outside_regions : (spot : Spot) (addr : ℕ) → domain_at addr ≡ None →
 outside_regions spot addr none = ap (λ (o : Option DomainName). place_refusal_by (is_some o) spot addr) none
 
 -- an address of a domain is in no place of the core's
-pub in_a_region : (i : Harts) (addr : ℕ) → domain_at addr ≢ None → core_refusal (spot_at i.harts i.guests addr) addr ≡ Some Fault
+pub in_a_region : (i : ImsicState) (addr : ℕ) → domain_at addr ≢ None → core_refusal (spot_at i.harts i.guests addr) addr ≡ Some Fault
 in_a_region i addr there =
     let low = region_below addr there in
     ap (λ s. core_refusal s addr) (below_all i.harts i.guests addr (omega (arith, low)))
@@ -88,7 +88,7 @@ in_a_region i addr there =
     nothing false = refl
 
 -- a file of the host may be loaded from and stored to at every aligned address of its page
-pub host_is_free : (i : Harts) (addr : ℕ) (spot : Spot) → i.harts ≤ 4 → spot ≡ spot_at i.harts i.guests addr → is_host_spot spot ≡ true → addr % 4 ≡ 0 → ◌≡◌ {A = Option Refusal} None (core_refusal (spot_at i.harts i.guests addr) addr)
+pub host_is_free : (i : ImsicState) (addr : ℕ) (spot : Spot) → i.harts ≤ 4 → spot ≡ spot_at i.harts i.guests addr → is_host_spot spot ≡ true → addr % 4 ≡ 0 → ◌≡◌ {A = Option Refusal} None (core_refusal (spot_at i.harts i.guests addr) addr)
 host_is_free i addr spot few at host aligned =
     sym (ap (λ s. core_refusal s addr) (sym at) ∙ free spot host)
   where

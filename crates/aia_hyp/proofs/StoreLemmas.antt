@@ -4,7 +4,7 @@ use Rattle.std.proofs.lemmas.Bool.{cond-true, cond-false}
 use Rattle.aia_file.specs.InterruptFile.{SameFile, landed}
 use Rattle.aia_file.specs.FileState.{shown}
 use Rattle.aia_imsic.specs.declared.spot.Spot.{Spot}
-use Rattle.aia_imsic.specs.Files.{IsThere, file_at, with_file}
+use Rattle.aia_imsic.specs.Imsic.{IsThere, file_at, with_file}
 use Rattle.aia_imsic.specs.Map.{spot_at}
 use Rattle.aia_model.specs.declared.answer.Answer.TheVariants.{Okay, Narrow, Refused}
 use Rattle.aia_model.specs.declared.refusal.Refusal.{Refusal}
@@ -13,7 +13,7 @@ use Rattle.aia_model.specs.declared.msi.Msi.{Msi}
 use Rattle.aia_model.specs.Event.{Event, History, harts_of, machine_of}
 use Rattle.aia_model.specs.Event.Event.{Accepted, Delivered}
 use Rattle.aia_model.specs.Act.{domain_at}
-use Rattle.aia_model.specs.FileAfter.Deed.{Stores, Rests}
+use Rattle.aia_model.specs.FileAfter.FileDeed.{Stores, Rests}
 use Rattle.aia_model.specs.FileOf.{FileName, is_at, page_at, deed_at, store_deed}
 use Rattle.aia_model.specs.Refusal.{place_refusal}
 use Rattle.aia_model.specs.Answer.{place_read}

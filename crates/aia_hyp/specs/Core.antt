@@ -1,8 +1,8 @@
--- What the hypervisor's core keeps. Profile: this project's way to speak of it.
+-- What the hypervisor's core keeps. Vocabulary.
 use Rattle.std.specs.Prelude.{ℕ, List}
-use Rattle.aia_imsic.specs.Files.{Harts}
+use Rattle.aia_imsic.specs.Imsic.{ImsicState}
 
 -- All interrupt files, and the select numbers of the host.
 pub record CoreState : Type 0 where
-  pub imsic : Harts
+  pub imsic : ImsicState
   pub selects : List ℕ

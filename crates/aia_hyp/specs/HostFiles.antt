@@ -1,5 +1,5 @@
 -- The host's files in the core: their names in the model, where they are kept, and whose select
--- numbers they have. Profile: this project's way to speak of them.
+-- numbers they have. Vocabulary.
 use Rattle.std.specs.Prelude.{◌≡◌, ◌≢◌, ℕ, ◌+◌, ◌*◌, Bool, true, false, slice_index}
 use Rattle.aia_regs.specs.declared.access.Csr.{Csr}
 use Rattle.aia_regs.specs.declared.access.Op.{Op}
@@ -9,10 +9,10 @@ use Rattle.aia_file.specs.InterruptFile.{SameFile}
 use Rattle.aia_file.specs.FileState.{FileState, shown}
 use Rattle.aia_imsic.specs.declared.spot.Spot.{Spot}
 use Rattle.aia_imsic.specs.declared.spot.Spot.TheVariants as spots
-use Rattle.aia_imsic.specs.Files.{IsThere, file_at}
+use Rattle.aia_imsic.specs.Imsic.{IsThere, file_at}
 use Rattle.aia_model.specs.declared.line.Line.{Line}
 use Rattle.aia_model.specs.declared.line.Line.TheVariants.{MachineCsr, HostCsr}
-use Rattle.aia_model.specs.FileAfter.{Deed, select_told, file_after}
+use Rattle.aia_model.specs.FileAfter.{FileDeed, select_after, file_after}
 use Rattle.aia_model.specs.FileOf.{FileName, MachineFile, SupervisorFile}
 use Rattle.aia_hyp.specs.Core.{CoreState}
 
@@ -56,13 +56,13 @@ abbrev pub select_in : CoreState → FileName → ℕ
 select_in x f = slice_index x.selects (select_place f)
 
 -- A deed was done at a file and its select number.
-pub record FileDone (old new : CoreState) (f : FileName) (deed : Deed) : Type 0 where
+pub record FileDone (old new : CoreState) (f : FileName) (deed : FileDeed) : Type 0 where
   pub file : SameFile (shown (file_in new f)) (file_after (select_in old f) deed (shown (file_in old f)))
-  pub select : select_in new f ≡ select_told deed (select_in old f)
+  pub select : select_in new f ≡ select_after deed (select_in old f)
 
 -- A deed was done at one file of the host; every other file, a guest's too, and every other select
 -- number is as it was.
-pub record HasDone (old new : CoreState) (f : FileName) (deed : Deed) : Type 0 where
+pub record HasDone (old new : CoreState) (f : FileName) (deed : FileDeed) : Type 0 where
   pub harts : new.imsic.harts ≡ old.imsic.harts
   pub guests : new.imsic.guests ≡ old.imsic.guests
   pub done : FileDone old new f deed

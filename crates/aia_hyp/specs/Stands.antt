@@ -1,11 +1,10 @@
--- When the hypervisor's core stands for a history, and what each of its calls promises. Profile:
--- this project's way to speak of it.
+-- When the hypervisor's core stands for a history, and what each of its calls promises. Vocabulary.
 use Rattle.std.specs.Prelude.{◌≡◌, ℕ, Bool, true, false, nat_lt, if◌then◌else◌, [], ◌∷◌, Option, Some, None, Result, Ok, Err}
 use Rattle.aia_file.specs.InterruptFile.{empty_file, signals}
 use Rattle.aia_file.specs.FileState.{shown}
 use Rattle.aia_imsic.specs.declared.spot.Spot.{Spot}
 use Rattle.aia_imsic.specs.declared.spot.Spot.TheVariants as spots
-use Rattle.aia_imsic.specs.Files.{IsThere, file_at}
+use Rattle.aia_imsic.specs.Imsic.{IsThere, file_at}
 use Rattle.aia_model.specs.declared.answer.Answer.{Answer}
 use Rattle.aia_model.specs.declared.answer.Answer.TheVariants.{Refused}
 use Rattle.aia_model.specs.declared.refusal.Refusal.{Refusal}

@@ -5,7 +5,7 @@ ghost use Rattle.aia_regs.specs.AddressMap.{is_in_memory};
 ghost use Rattle.aia_csr.specs.Access.{IsInTable, ReachesUsable, access_of};
 ghost use Rattle.aia_file.specs.InterruptFile.{SameFile, is_width, register_value, top_of};
 ghost use Rattle.aia_file.specs.FileState.{shown};
-ghost use Rattle.aia_imsic.specs.Files.{IsThere};
+ghost use Rattle.aia_imsic.specs.Imsic.{IsThere};
 ghost use Rattle.aia_imsic.specs.Map.{spot_at};
 ghost use Rattle.aia_word.specs.Top.{top_value};
 ghost use Rattle.aia_model.specs.Event.{History};

@@ -5,7 +5,7 @@ use Rattle.std.proofs.lemmas.Bool.Decides.{nat_tests}
 use Rattle.aia_word.proofs.LeastLemmas.{least_of-found, least_of-none, least_of_is}
 use Rattle.aia_regs.specs.AddressMap.{machine_page, supervisor_page, guest_page, is_in_page}
 use Rattle.aia_imsic.specs.declared.spot.Spot.TheVariants.{MachineFile, HostFile, GuestFile, Nowhere}
-use Rattle.aia_imsic.specs.Map.{machine_at, supervisor_at, guest_file_at, guest_hart_at, guest_spot, guest_spot_of, host_spot, machine_spot, spot_at}
+use Rattle.aia_imsic.specs.Map.{machine_file_at, supervisor_file_at, guest_file_at, guest_hart_at, guest_spot, guest_spot_of, host_spot, machine_spot, spot_at}
 
 -- ---- pages
 
@@ -26,21 +26,21 @@ to_page page addr here = grind (arith, nat_tests)
 
 -- ---- which harts and guest files
 
-no_machine : (harts addr : ℕ) → harts ≤ 4 → 0x24000000 + harts * 0x1000 ≤ addr → machine_at harts addr ≡ None
+no_machine : (harts addr : ℕ) → harts ≤ 4 → 0x24000000 + harts * 0x1000 ≤ addr → machine_file_at harts addr ≡ None
 no_machine harts addr few high = least_of-none (λ hart. is_in_page (machine_page hart) addr) 0 harts (λ j a b. after_page (machine_page j) addr (omega arith))
 
-no_machine_below : (harts addr : ℕ) → addr < 0x24000000 → machine_at harts addr ≡ None
+no_machine_below : (harts addr : ℕ) → addr < 0x24000000 → machine_file_at harts addr ≡ None
 no_machine_below harts addr low = least_of-none (λ hart. is_in_page (machine_page hart) addr) 0 harts (λ j a b. before_page (machine_page j) addr (omega arith))
 
-the_machine : (harts addr hart : ℕ) → hart < harts → is_in_page (machine_page hart) addr ≡ true → machine_at harts addr ≡ Some hart
+the_machine : (harts addr hart : ℕ) → hart < harts → is_in_page (machine_page hart) addr ≡ true → machine_file_at harts addr ≡ Some hart
 the_machine harts addr hart there here =
     let low = from_page (machine_page hart) addr here in
     least_of-found (λ x. is_in_page (machine_page x) addr) 0 harts hart (omega arith) (omega arith) here (λ j a b. after_page (machine_page j) addr (omega arith))
 
-no_supervisor : (harts addr : ℕ) → ((hart : ℕ) → hart < harts → is_in_page (supervisor_page hart) addr ≡ false) → supervisor_at harts addr ≡ None
+no_supervisor : (harts addr : ℕ) → ((hart : ℕ) → hart < harts → is_in_page (supervisor_page hart) addr ≡ false) → supervisor_file_at harts addr ≡ None
 no_supervisor harts addr none = least_of-none (λ hart. is_in_page (supervisor_page hart) addr) 0 harts (λ j a b. none j (omega arith))
 
-the_supervisor : (harts addr hart : ℕ) → hart < harts → is_in_page (supervisor_page hart) addr ≡ true → supervisor_at harts addr ≡ Some hart
+the_supervisor : (harts addr hart : ℕ) → hart < harts → is_in_page (supervisor_page hart) addr ≡ true → supervisor_file_at harts addr ≡ Some hart
 the_supervisor harts addr hart there here =
     let low = from_page (supervisor_page hart) addr here in
     least_of-found (λ x. is_in_page (supervisor_page x) addr) 0 harts hart (omega arith) (omega arith) here (λ j a b. after_page (supervisor_page j) addr (omega arith))
@@ -73,7 +73,7 @@ guest_is_not_host hart file x addr some few here =
       | inr more ↦ after_page (supervisor_page x) addr (omega arith)
     ]
 
-by_parts : (harts guests addr : ℕ) (machine host guest_hart : Option ℕ) → machine_at harts addr ≡ machine → supervisor_at harts addr ≡ host → guest_hart_at harts guests addr ≡ guest_hart
+by_parts : (harts guests addr : ℕ) (machine host guest_hart : Option ℕ) → machine_file_at harts addr ≡ machine → supervisor_file_at harts addr ≡ host → guest_hart_at harts guests addr ≡ guest_hart
     → spot_at harts guests addr ≡ machine_spot (host_spot (guest_spot_of guests addr guest_hart) host) machine
 by_parts harts guests addr machine host guest_hart m s g = rw (m, s, g)
 
@@ -92,7 +92,7 @@ spot_of_guest harts guests addr hart file few eight there some below here =
     (no_supervisor harts addr (λ x c. guest_is_not_host hart file x addr some (omega arith) here)) (the_guest_hart harts guests addr hart file eight there some below here)
     ∙ ap (guest_spot hart) (the_guest_file guests hart addr file some below here)
 
-pub spot_of_none : (harts guests addr : ℕ) → machine_at harts addr ≡ None → ((hart : ℕ) → hart < harts → is_in_page (supervisor_page hart) addr ≡ false)
+pub spot_of_none : (harts guests addr : ℕ) → machine_file_at harts addr ≡ None → ((hart : ℕ) → hart < harts → is_in_page (supervisor_page hart) addr ≡ false)
     → ((hart file : ℕ) → hart < harts → 1 ≤ file → file ≤ guests → is_in_page (guest_page hart file) addr ≡ false) → spot_at harts guests addr ≡ Nowhere
 spot_of_none harts guests addr machine host guest = by_parts harts guests addr None None None machine (no_supervisor harts addr host) (no_guest_hart harts guests addr guest)
 
@@ -131,17 +131,17 @@ is_guest guests addr hart file None None (Some x) e =
 
 pub machine_of_spot : (harts guests addr hart : ℕ) → spot_at harts guests addr ≡ MachineFile hart → (hart < harts) × (is_in_page (machine_page hart) addr ≡ true)
 machine_of_spot harts guests addr hart e =
-    let least = least_of_is (λ x. is_in_page (machine_page x) addr) 0 harts hart (is_machine guests addr hart (machine_at harts addr) (supervisor_at harts addr) (guest_hart_at harts guests addr) e) in
+    let least = least_of_is (λ x. is_in_page (machine_page x) addr) 0 harts hart (is_machine guests addr hart (machine_file_at harts addr) (supervisor_file_at harts addr) (guest_hart_at harts guests addr) e) in
     (omega (arith, least.1), least.2)
 
 pub host_of_spot : (harts guests addr hart : ℕ) → spot_at harts guests addr ≡ HostFile hart → (hart < harts) × (is_in_page (supervisor_page hart) addr ≡ true)
 host_of_spot harts guests addr hart e =
-    let least = least_of_is (λ x. is_in_page (supervisor_page x) addr) 0 harts hart (is_host guests addr hart (machine_at harts addr) (supervisor_at harts addr) (guest_hart_at harts guests addr) e) in
+    let least = least_of_is (λ x. is_in_page (supervisor_page x) addr) 0 harts hart (is_host guests addr hart (machine_file_at harts addr) (supervisor_file_at harts addr) (guest_hart_at harts guests addr) e) in
     (omega (arith, least.1), least.2)
 
 pub guest_of_spot : (harts guests addr hart file : ℕ) → spot_at harts guests addr ≡ GuestFile hart file → (hart < harts) × (1 ≤ file) × (file ≤ guests) × (is_in_page (guest_page hart file) addr ≡ true)
 guest_of_spot harts guests addr hart file e =
-    let found = is_guest guests addr hart file (machine_at harts addr) (supervisor_at harts addr) (guest_hart_at harts guests addr) e in
+    let found = is_guest guests addr hart file (machine_file_at harts addr) (supervisor_file_at harts addr) (guest_hart_at harts guests addr) e in
     let least_hart = least_of_is (λ x. is_some (guest_file_at guests x addr)) 0 harts hart found.0 in
     let least_file = least_of_is (λ x. is_in_page (guest_page hart x) addr) 1 guests file found.1 in
     (omega (arith, least_hart.1), least_file.0, omega (arith, least_file.1), least_file.2)

@@ -1,3 +1,3 @@
 pub mod Map
-pub mod Files
+pub mod Imsic
 pub mod Lends

@@ -5,13 +5,14 @@ use Rattle.aia_regs.specs.AddressMap.{machine_page, supervisor_page, guest_page,
 use Rattle.aia_imsic.specs.declared.spot.Spot.{Spot}
 use Rattle.aia_imsic.specs.declared.spot.Spot.TheVariants.{MachineFile, HostFile, GuestFile, Nowhere}
 
--- The hart in the page of whose machine-level file an address lies, of so many harts. Profile, like the whole map.
-abbrev pub machine_at : ℕ → ℕ → Option ℕ
-machine_at harts addr = least_of (λ hart. is_in_page (machine_page hart) addr) 0 harts
+-- The hart in the page of whose machine-level file an address lies, of so many harts. Profile, like
+-- the whole map.
+abbrev pub machine_file_at : ℕ → ℕ → Option ℕ
+machine_file_at harts addr = least_of (λ hart. is_in_page (machine_page hart) addr) 0 harts
 
 -- The hart in the page of whose supervisor file it lies.
-abbrev pub supervisor_at : ℕ → ℕ → Option ℕ
-supervisor_at harts addr = least_of (λ hart. is_in_page (supervisor_page hart) addr) 0 harts
+abbrev pub supervisor_file_at : ℕ → ℕ → Option ℕ
+supervisor_file_at harts addr = least_of (λ hart. is_in_page (supervisor_page hart) addr) 0 harts
 
 -- The guest file of a hart in whose page it lies, of the guest files 1 to `guests`.
 abbrev pub guest_file_at : ℕ → ℕ → ℕ → Option ℕ
@@ -48,6 +49,7 @@ abbrev pub is_guest_page : Spot → Bool
 is_guest_page (GuestFile hart file) = true
 is_guest_page spot = false
 
--- The file in whose page an address lies, of a machine of so many harts and guest files a hart; Nowhere where it lies in none.
+-- The file in whose page an address lies, of a machine of so many harts and guest files a hart;
+-- Nowhere where it lies in none.
 abbrev pub spot_at : ℕ → ℕ → ℕ → Spot
-spot_at harts guests addr = machine_spot (host_spot (guest_spot_of guests addr (guest_hart_at harts guests addr)) (supervisor_at harts addr)) (machine_at harts addr)
+spot_at harts guests addr = machine_spot (host_spot (guest_spot_of guests addr (guest_hart_at harts guests addr)) (supervisor_file_at harts addr)) (machine_file_at harts addr)

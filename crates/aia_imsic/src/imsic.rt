@@ -5,7 +5,7 @@ ghost use Rattle.aia_word.specs.Sets.{has_bit};
 ghost use Rattle.aia_file.specs.InterruptFile.{is_width, SameFile, empty_file, signals, landed};
 ghost use Rattle.aia_file.specs.FileState.{shown};
 ghost use Rattle.aia_imsic.specs.Map.{spot_at};
-ghost use Rattle.aia_imsic.specs.Files.{IsThere, place_of, file_at, with_file, AreEmpty};
+ghost use Rattle.aia_imsic.specs.Imsic.{IsThere, place_of, file_at, with_file, AreEmpty};
 ghost use Rattle.aia_imsic.specs.Lends.{LendsFile};
 
 use crate::spot::Spot;
@@ -15,7 +15,8 @@ use aia_regs::limits::{GUEST_FILES, HARTS};
 use std::alloc::{AllocError, Global};
 use std::marker::Model;
 
-/// The interrupt files of all harts of a machine: of each hart the machine-level file, the supervisor file and the guest files.
+/// The interrupt files of all harts of a machine: of each hart the machine-level file, the
+/// supervisor file and the guest files.
 ///
 /// AIA 1.0, Incoming MSI Controller.
 #[derive(Drop)]
@@ -28,9 +29,9 @@ pub struct Imsic {
 impl Model for Imsic {
     ghost use Rattle.std.specs.Prelude.{◌≡◌, ◌+◌, ◌*◌, ◌≤◌, length};
     ghost use Rattle.aia_regs.specs.declared.limits.TheConstants.{HARTS, GUEST_FILES};
-    ghost use Rattle.aia_imsic.specs.Files.{Harts};
+    ghost use Rattle.aia_imsic.specs.Imsic.{ImsicState};
 
-    ghost Value = { Harts };
+    ghost Value = { ImsicState };
 
     ghost view = { λ i. record { harts = i.harts; guests = i.guests; files = i.files.items } };
 
@@ -38,8 +39,8 @@ impl Model for Imsic {
 }
 
 impl Imsic {
-    /// The empty files of `harts` harts, 1 to 4, each with `guests` guest files, 0 to 7; every file has the identities 1 to
-    /// `n`, which is 63, 127, 255, 511, 1023 or 2047.
+    /// The empty files of `harts` harts, 1 to 4, each with `guests` guest files, 0 to 7; every file
+    /// has the identities 1 to `n`, which is 63, 127, 255, 511, 1023 or 2047.
     pub fn new(alloc: Global, harts: u32, guests: u32, n: u32) -> Result<Imsic, AllocError>
         requires some { 1 ≤ harts }
         requires few { harts ≤ HARTS }
@@ -74,7 +75,8 @@ impl Imsic {
 
     /// The file in whose page `addr` lies, and `Nowhere` where it lies in none.
     ///
-    /// AIA 1.0, Incoming MSI Controller, "Memory region for an interrupt file": each file is a page. The map is our profile's.
+    /// AIA 1.0, Incoming MSI Controller, "Memory region for an interrupt file": each file is a
+    /// page. The map is our profile's.
     pub fn locate(&self, addr: u64) -> Spot
         ensures spot { result ≡ spot_at self.now.harts self.now.guests addr }
         ensures there { result ≢ Spot.Nowhere → IsThere self.now result }
@@ -136,7 +138,8 @@ impl Imsic {
         self.file_mut(spot).land(offset, value);
     }
 
-    /// What hgeip of a hart reads: bit j, from 1 to the number of guest files, is whether guest file j signals; the others are 0.
+    /// What hgeip of a hart reads: bit j, from 1 to the number of guest files, is whether guest
+    /// file j signals; the others are 0.
     ///
     /// The hypervisor extension 1.0; AIA 1.0, Incoming MSI Controller.
     pub fn hgeip(&self, hart: u32) -> u64

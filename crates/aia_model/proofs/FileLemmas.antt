@@ -6,15 +6,15 @@ use Rattle.aia_regs.specs.declared.access.Op.TheVariants as ops
 use Rattle.aia_regs.specs.Word.{settle}
 use Rattle.aia_file.specs.InterruptFile.{InterruptFile}
 use Rattle.aia_model.specs.Event.{Event, History}
-use Rattle.aia_model.specs.FileAfter.{Deed, select_by, select_told, file_by, file_after, pending_said, enabled_said, IsMaking}
-use Rattle.aia_model.specs.FileAfter.Deed.{Makes, Accesses, Stores, Rests}
+use Rattle.aia_model.specs.FileAfter.{FileDeed, select_by, select_after, file_by, file_after, pending_said, enabled_said, IsMaking}
+use Rattle.aia_model.specs.FileAfter.FileDeed.{Makes, Accesses, Stores, Rests}
 use Rattle.aia_model.specs.FileOf.{FileName, MachineFile, SupervisorFile, is_file, deed_at, select_of, file_of}
 
 pub file_step : (event : Event) (h : History) (f : FileName) → file_of (event ∷ h) f ≡ file_after (select_of h f) (deed_at f event) (file_of h f)
 unfolding file_by
 file_step event h f = refl
 
-pub select_step : (event : Event) (h : History) (f : FileName) → select_of (event ∷ h) f ≡ select_told (deed_at f event) (select_of h f)
+pub select_step : (event : Event) (h : History) (f : FileName) → select_of (event ∷ h) f ≡ select_after (deed_at f event) (select_of h f)
 unfolding select_by
 select_step event h f = refl
 
@@ -44,7 +44,7 @@ same_or_other f g = elim (cases_Bool (is_file f g)) [
 -- ---- the newest word
 
 -- after a deed other than its making, an identity is pending, and enabled, as the deed says of it
-pub newest_word : (select : ℕ) (deed : Deed) (file : InterruptFile) (i : ℕ) → (¬ IsMaking deed)
+pub newest_word : (select : ℕ) (deed : FileDeed) (file : InterruptFile) (i : ℕ) → (¬ IsMaking deed)
     → ((file_after select deed file).pending i ≡ settle (pending_said select file deed i) (file.pending i))
     × ((file_after select deed file).enabled i ≡ settle (enabled_said select file deed i) (file.enabled i))
 newest_word select (Makes n) file i other = absurd (other tt)

@@ -43,8 +43,8 @@ bit_low : (level : Bool) → bit_number level < 2
 bit_low false = omega arith
 bit_low true = omega arith
 
-bit_word : (level : Bool) → IsWord (decimal_text (bit_number level)) (Bit level)
-bit_word level = let low : bit_number level < 2 = bit_low level in record { fits = decimal_again (bit_number level) (omega arith); no_space = no_space_in_number 10 (bit_number level) }
+bit_said : (level : Bool) → IsWord (decimal_text (bit_number level)) (Bit level)
+bit_said level = let low : bit_number level < 2 = bit_low level in record { fits = decimal_again (bit_number level) (omega arith); no_space = no_space_in_number 10 (bit_number level) }
 
 -- ---- words in a row, cut again
 
@@ -88,7 +88,7 @@ field_word (Keyword word) plain named range = keyword_word word plain
 field_word (Decimal n) plain named range = decimal_word n range
 field_word (Hex n) plain named range = hex_word n range
 field_word (Hex32 n) plain named range = hex32_word n range
-field_word (Bit level) plain named range = bit_word level
+field_word (Bit level) plain named range = bit_said level
 field_word Unspelled plain named range = absurd named
 
 -- the most bytes of a field

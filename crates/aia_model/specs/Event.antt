@@ -1,5 +1,4 @@
--- What happens to a machine, and the history of a script. Profile: this project's way to speak of
--- time.
+-- What happens to a machine, and the history of a script. Vocabulary.
 use Rattle.std.specs.Prelude.{ℕ, Bool, is_some, List, [], ◌∷◌, Option, Some, None}
 use Rattle.std.specs.Option.{option_map_or}
 use Rattle.aia_model.specs.declared.line.Line.{Line}

@@ -1,5 +1,4 @@
--- The interrupt files of the host that a history gives. Profile, where no chapter is named: this
--- project's way to speak of time.
+-- The interrupt files of the host that a history gives. Vocabulary, where no chapter is named.
 use Rattle.std.specs.Prelude.{ℕ, ◌%◌, Bool, false, nat_eq, if◌then◌else◌}
 use Rattle.aia_regs.specs.AddressMap.{machine_page, supervisor_page, is_in_page}
 use Rattle.aia_file.specs.InterruptFile.{InterruptFile}
@@ -8,8 +7,8 @@ use Rattle.aia_imsic.specs.Map.{spot_at}
 use Rattle.aia_model.specs.declared.line.Line.TheVariants.{Machine, Store, MachineCsr, HostCsr}
 use Rattle.aia_model.specs.Event.{Event, History, harts_of, guests_of}
 use Rattle.aia_model.specs.Event.Event.{Accepted, Delivered}
-use Rattle.aia_model.specs.FileAfter.{Deed, select_by, file_by}
-use Rattle.aia_model.specs.FileAfter.Deed.{Makes, Accesses, Stores, Rests}
+use Rattle.aia_model.specs.FileAfter.{FileDeed, select_by, file_by}
+use Rattle.aia_model.specs.FileAfter.FileDeed.{Makes, Accesses, Stores, Rests}
 
 -- ---- which files there are
 
@@ -37,12 +36,12 @@ page_at h addr = spot_at (harts_of h) (guests_of h) addr
 -- ---- what an event does at one file
 
 -- A store, by a line or an MSI, reaches the file in whose page it lies.
-abbrev pub store_deed : FileName → ℕ → ℕ → Deed
+abbrev pub store_deed : FileName → ℕ → ℕ → FileDeed
 store_deed f addr value = if is_at f addr then Stores (addr % 0x1000) value else Rests
 
 -- The deed of an event at a file; an access is its own hart's alone. Of a file that isn't there it
 -- says something too, which nothing shows.
-abbrev pub deed_at : FileName → Event → Deed
+abbrev pub deed_at : FileName → Event → FileDeed
 deed_at f (Accepted (Machine harts guests n sources)) = Makes n
 deed_at f (Accepted (Store addr value)) = store_deed f addr value
 deed_at f (Accepted (MachineCsr hart csr op)) =

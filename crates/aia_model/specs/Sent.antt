@@ -1,5 +1,5 @@
 -- The MSIs that an APLIC sends: what waits to be sent, in which order, where to and with which
--- value. Profile, where no chapter is named: this project's way to speak of time.
+-- value. Vocabulary, where no chapter is named.
 use Rattle.std.specs.Prelude.{ℕ, ◌&&◌, Bool, List, [], ◌∷◌, map, filter, flat_map, Option, Some, None}
 use Rattle.std.specs.List.{range_with_len}
 use Rattle.aia_source.specs.Top.{hart_of, identity_of}
@@ -21,9 +21,9 @@ use Rattle.aia_model.specs.Event.Event.{Accepted}
 
 -- Whether a source is to be forwarded by a domain: the domain delivers by MSIs and is enabled, and
 -- the source is pending and enabled in it.
--- AIA 1.0, Advanced Platform-Level Interrupt Controller (APLIC), "Interrupt forwarding by MSIs".
-abbrev pub is_ready : Past → DomainName → ℕ → Bool
-is_ready past d s = is_msi past d && is_on past d && pending past d s && enabled past d s
+-- AIA 1.0, APLIC, "Interrupt forwarding by MSIs".
+abbrev pub forwards : Past → DomainName → ℕ → Bool
+forwards past d s = is_msi past d && is_on past d && pending past d s && enabled past d s
 
 -- All senders that there may be, with so many wired sources, in the order in which they send:
 -- genmsi of both domains, then the sources by rising number. Profile: the order.
@@ -33,14 +33,14 @@ all_senders count =
     ∷ flat_map (λ s. BySource Root s ∷ BySource Child s ∷ []) (range_with_len 1 count)
 
 -- Whether one has an MSI to send: genmsi asked for one, or the source is to be forwarded.
-abbrev pub does_send : Past → Sender → Bool
-does_send past (ByGenMsi d) = genmsi_waits past d
-does_send past (BySource d s) = is_ready past d s
+abbrev pub has_msi : Past → Sender → Bool
+has_msi past (ByGenMsi d) = genmsi_waits past d
+has_msi past (BySource d s) = forwards past d s
 
 -- All that waits to be sent, in the order in which it is sent.
--- AIA 1.0, Advanced Platform-Level Interrupt Controller (APLIC), "Interrupt forwarding by MSIs".
+-- AIA 1.0, APLIC, "Interrupt forwarding by MSIs".
 abbrev pub senders : Past → List Sender
-senders past = filter (does_send past) (all_senders (sources_in past))
+senders past = filter (has_msi past) (all_senders (sources_in past))
 
 -- ---- their MSIs
 
@@ -54,7 +54,7 @@ domain_of_sender (ByGenMsi d) = d
 domain_of_sender (BySource d s) = d
 
 -- An MSI by such a register: it goes to the hart of bits 31:18, with the identity of bits 10:0.
--- AIA 1.0, Advanced Platform-Level Interrupt Controller (APLIC), "Interrupt forwarding by MSIs".
+-- AIA 1.0, APLIC, "Interrupt forwarding by MSIs".
 abbrev pub msi_by : AddressRegisters → DomainName → ℕ → Msi
 msi_by a d register = record {
   address = address_by a d (hart_of register);
@@ -86,8 +86,7 @@ with_act None past = past
 with_act (Some a) past = a ∷ past
 
 -- What happened to the APLIC in a history: after each line all that then waits is sent.
--- AIA 1.0, Advanced Platform-Level Interrupt Controller (APLIC), "Interrupt forwarding by MSIs".
--- Profile: within the line.
+-- AIA 1.0, APLIC, "Interrupt forwarding by MSIs". Profile: within the line.
 abbrev pub acts_of : History → Past
 acts_of [] = []
 acts_of (Accepted line ∷ h) = settled (with_act (act_of line) (acts_of h))

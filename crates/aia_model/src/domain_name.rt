@@ -1,6 +1,6 @@
 /// One of the two interrupt domains of the APLIC (our profile).
 ///
-/// AIA 1.0, Advanced Platform-Level Interrupt Controller (APLIC), "Interrupt domains".
+/// AIA 1.0, APLIC, "Interrupt domains".
 #[derive(Clone, Copy, Debug, PartialEq, Eq)]
 pub enum DomainName {
     /// The root domain, at machine level.

@@ -7,7 +7,7 @@ ghost use Rattle.aia_model.specs.Printing.{line_text, IsPrintable};
 ghost use Rattle.aia_model.specs.Reading.{reading};
 ghost use Rattle.aia_regs.specs.Word.{settle};
 ghost use Rattle.aia_file.specs.InterruptFile.{InterruptFile};
-ghost use Rattle.aia_model.specs.FileAfter.{Deed, IsMaking, file_after, pending_said, enabled_said};
+ghost use Rattle.aia_model.specs.FileAfter.{FileDeed, IsMaking, file_after, pending_said, enabled_said};
 
 use crate::limits::LINE_BYTES;
 use crate::{Line, Parsed};
@@ -61,11 +61,11 @@ pub fn printed_is_short()
 /// The newest word decides: after a deed other than its making, an identity is pending, or enabled,
 /// exactly where the deed asks for it, or says nothing of it and it was so before.
 pub fn newest_word_decides()
-    ensures pending { (select : ℕ) (deed : Deed) (file : InterruptFile) (i : ℕ)
+    ensures pending { (select : ℕ) (deed : FileDeed) (file : InterruptFile) (i : ℕ)
         → (¬ IsMaking deed)
         → (file_after select deed file).pending i
         ≡ settle (pending_said select file deed i) (file.pending i) }
-    ensures enabled { (select : ℕ) (deed : Deed) (file : InterruptFile) (i : ℕ)
+    ensures enabled { (select : ℕ) (deed : FileDeed) (file : InterruptFile) (i : ℕ)
         → (¬ IsMaking deed)
         → (file_after select deed file).enabled i
         ≡ settle (enabled_said select file deed i) (file.enabled i) }

@@ -2,7 +2,7 @@ use crate::DomainName;
 
 /// What sends an MSI.
 ///
-/// AIA 1.0, Advanced Platform-Level Interrupt Controller (APLIC), "Interrupt forwarding by MSIs".
+/// AIA 1.0, APLIC, "Interrupt forwarding by MSIs".
 #[derive(Clone, Copy, Debug, PartialEq, Eq)]
 pub enum Sender {
     /// A write of the `genmsi` of a domain.

@@ -7,7 +7,7 @@ use aia_regs::bits;
 /// Gives the address of an MSI to a hart at machine level, by `mmsiaddrcfg` (`cfg`) and
 /// `mmsiaddrcfgh` (`cfgh`); the hart's index is below 16,384.
 ///
-/// AIA 1.0, Advanced Platform-Level Interrupt Controller (APLIC), "Interrupt forwarding by MSIs".
+/// AIA 1.0, APLIC, "Interrupt forwarding by MSIs".
 pub fn machine_address(cfg: u32, cfgh: u32, hart: u32) -> u64
     requires { hart < 2 ^ 14 }
     ensures { result ≡ machine_address cfg cfgh hart }
@@ -19,7 +19,7 @@ pub fn machine_address(cfg: u32, cfgh: u32, hart: u32) -> u64
 /// `mmsiaddrcfgh` (`mcfgh`), `smsiaddrcfg` (`cfg`) and `smsiaddrcfgh` (`cfgh`); the hart's index is
 /// below 16,384, the guest's below 64, and 0 for the hart itself.
 ///
-/// AIA 1.0, Advanced Platform-Level Interrupt Controller (APLIC), "Interrupt forwarding by MSIs".
+/// AIA 1.0, APLIC, "Interrupt forwarding by MSIs".
 pub fn supervisor_address(mcfgh: u32, cfg: u32, cfgh: u32, hart: u32, guest: u32) -> u64
     requires hart { hart < 2 ^ 14 }
     requires guest { guest < 64 }

@@ -18,8 +18,7 @@ pub const L: u32 = 31;
 
 /// The registers of MSI addresses: `mmsiaddrcfg`, `mmsiaddrcfgh`, `smsiaddrcfg` and `smsiaddrcfgh`.
 ///
-/// AIA 1.0, Advanced Platform-Level Interrupt Controller (APLIC), "Memory-mapped control region for
-/// an interrupt domain".
+/// AIA 1.0, APLIC, "Memory-mapped control region for an interrupt domain".
 #[derive(Debug, Drop)]
 pub struct Addresses {
     mmsiaddrcfg: u32,

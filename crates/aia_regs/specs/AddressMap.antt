@@ -1,4 +1,5 @@
--- Where the interrupt files of harts, the domains of the APLIC and the memory lie. Profile: all addresses of the map.
+-- Where the interrupt files of harts, the domains of the APLIC and the memory lie. Profile: all
+-- addresses of the map.
 use Rattle.std.specs.Prelude.{ℕ, ◌+◌, ◌*◌, Bool, ◌&&◌, nat_le, nat_lt}
 
 -- The first address of the page of a hart's machine-level file.
@@ -9,7 +10,8 @@ machine_page hart = 0x24000000 + hart * 0x1000
 abbrev pub supervisor_page : ℕ → ℕ
 supervisor_page hart = 0x28000000 + hart * 0x8000
 
--- The first address of the page of a hart's guest file: the guest files 1, 2 .. follow the supervisor file.
+-- The first address of the page of a hart's guest file: the guest files 1, 2 .. follow the
+-- supervisor file.
 abbrev pub guest_page : ℕ → ℕ → ℕ
 guest_page hart file = supervisor_page hart + file * 0x1000
 
@@ -18,8 +20,9 @@ guest_page hart file = supervisor_page hart + file * 0x1000
 abbrev pub is_in_page : ℕ → ℕ → Bool
 is_in_page page addr = nat_le page addr && nat_lt addr (page + 0x1000)
 
--- Whether an address lies in the control region of 32 KiB that begins at `base`: the root domain's, or its child's, right after it.
--- AIA 1.0, Advanced Platform-Level Interrupt Controller (APLIC), "Memory-mapped control region for an interrupt domain".
+-- Whether an address lies in the control region of 32 KiB that begins at `base`: the root domain's,
+-- or its child's, right after it.
+-- AIA 1.0, APLIC, "Memory-mapped control region for an interrupt domain".
 abbrev pub is_in_region : ℕ → ℕ → Bool
 is_in_region base addr = nat_le base addr && nat_lt addr (base + 0x8000)
 

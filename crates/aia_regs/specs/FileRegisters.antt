@@ -1,4 +1,5 @@
--- The registers of an interrupt file, reached by a select number: which there are, and what a write keeps.
+-- The registers of an interrupt file, reached by a select number: which there are, and what a write
+-- keeps.
 use Rattle.std.specs.Prelude.{◌≡◌, ℕ, ◌+◌, ◌-◌, ◌*◌, ◌%◌, ◌<◌, Bool, ◌&&◌, nat_eq, if◌then◌else◌}
 use Rattle.std.specs.Int.{is_in_range}
 use Rattle.aia_regs.specs.declared.access.Op.{Op}
@@ -6,12 +7,14 @@ use Rattle.aia_regs.specs.declared.file_registers.FileReg.{FileReg}
 use Rattle.aia_regs.specs.declared.file_registers.FileReg.TheVariants.{Delivery, Threshold, Pending, Enable, Reserved, Odd, Outside}
 use Rattle.aia_regs.specs.Word.{Word}
 use Rattle.aia_regs.specs.Word.Word.{Nothing}
-use Rattle.aia_regs.specs.Operations.{is_writing, written, bit_word}
+use Rattle.aia_regs.specs.Operations.{is_writing, written, bit_said}
 
 -- ---- which register a select number names
 
--- The register map: eidelivery, eithreshold, the reserved numbers about them, eip and eie, whose odd numbers don't exist at XLEN 64.
--- AIA 1.0, IMSIC, "Indirectly accessed interrupt-file registers". Profile: all numbers outside 0x70 to 0xff name nothing.
+-- The register map: eidelivery, eithreshold, the reserved numbers about them, eip and eie, whose
+-- odd numbers don't exist at XLEN 64.
+-- AIA 1.0, IMSIC, "Indirectly accessed interrupt-file registers". Profile: all numbers outside 0x70
+-- to 0xff name nothing.
 abbrev pub register_of : ℕ → FileReg
 register_of select =
     if nat_eq select 0x70 then Delivery
@@ -33,30 +36,31 @@ IsUsable r = Unit {0}
 
 -- ---- what an access says and keeps, by a file's greatest identity n
 
--- Whether register k of eip or eie shows identity i of 1 to n: it shows the identities 32k to 32k + 63.
+-- Whether register k of eip or eie shows identity i of 1 to n: it shows the identities 32k to 32k +
+-- 63.
 -- AIA 1.0, IMSIC, "Indirectly accessed interrupt-file registers".
 abbrev pub shows : ℕ → ℕ → ℕ → Bool
 shows n k i = is_in_range 1 n i && is_in_range (32 * k) (32 * k + 63) i
 
 -- What an access to register k of a set says of identity i, where it shows it.
 -- AIA 1.0, IMSIC, "Indirectly accessed interrupt-file registers".
-abbrev pub set_word : ℕ → ℕ → Op → ℕ → Word
-set_word n k op i = if shows n k i then bit_word op (i - 32 * k) else Nothing
+abbrev pub set_said : ℕ → ℕ → Op → ℕ → Word
+set_said n k op i = if shows n k i then bit_said op (i - 32 * k) else Nothing
 
 -- What an access to a register says of identity i's being pending.
 -- AIA 1.0, IMSIC, "Indirectly accessed interrupt-file registers": eip.
-abbrev pub pending_word : ℕ → FileReg → Op → ℕ → Word
-pending_word n (Pending k) op i = set_word n k op i
-pending_word n r op i = Nothing
+abbrev pub eip_said : ℕ → FileReg → Op → ℕ → Word
+eip_said n (Pending k) op i = set_said n k op i
+eip_said n r op i = Nothing
 
 -- What it says of identity i's being enabled.
 -- AIA 1.0, IMSIC, "Indirectly accessed interrupt-file registers": eie.
-abbrev pub enabled_word : ℕ → FileReg → Op → ℕ → Word
-enabled_word n (Enable k) op i = set_word n k op i
-enabled_word n r op i = Nothing
+abbrev pub eie_said : ℕ → FileReg → Op → ℕ → Word
+eie_said n (Enable k) op i = set_said n k op i
+eie_said n r op i = Nothing
 
--- The number that a register keeps, given what it kept before: a read leaves it, a write leaves what `kept` makes of the number written.
--- Profile: this project's way to speak of registers.
+-- The number that a register keeps, given what it kept before: a read leaves it, a write leaves
+-- what `kept` makes of the number written. Vocabulary.
 abbrev pub number_after : (ℕ → ℕ) → Op → ℕ → ℕ
 number_after kept op was = if is_writing op then kept (written op was) else was
 
@@ -71,5 +75,5 @@ delivery_after Delivery op was = number_after (λ v. v % 2) op was
 delivery_after r op was = was
 
 -- What a select CSR is after an access. Profile: a write keeps the low 12 bits.
-abbrev pub select_after : Op → ℕ → ℕ
-select_after op was = number_after (λ v. v % 4096) op was
+abbrev pub select_written : Op → ℕ → ℕ
+select_written op was = number_after (λ v. v % 4096) op was

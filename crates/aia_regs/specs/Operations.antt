@@ -6,16 +6,16 @@ use Rattle.aia_regs.specs.declared.access.Op.TheVariants as ops
 use Rattle.aia_regs.specs.Word.{Word}
 use Rattle.aia_regs.specs.Word.Word.{Ask, Clear, Nothing}
 
--- Whether the instruction writes: `csrr` never does, the others always do, also where they change no bit.
--- Profile: `csrrs` and `csrrc` write whatever their operand is.
+-- Whether the instruction writes: `csrr` never does, the others always do, also where they change
+-- no bit. Profile: `csrrs` and `csrrc` write whatever their operand is.
 abbrev pub is_writing : Op → Bool
 is_writing ops.Read = false
 is_writing (ops.Write v) = true
 is_writing (ops.Set v) = true
 is_writing (ops.Clear v) = true
 
--- The number that it writes: the operand, the old value with the operand's ones set, or with them cleared.
--- RISC-V Unprivileged Architecture, "Zicsr".
+-- The number that it writes: the operand, the old value with the operand's ones set, or with them
+-- cleared. RISC-V Unprivileged Architecture, "Zicsr".
 abbrev pub written : Op → ℕ → ℕ
 written ops.Read old = old
 written (ops.Write v) old = v
@@ -26,13 +26,13 @@ written (ops.Clear v) old = bit_and old (bit_not w64 v)
 abbrev pub is_one : ℕ → ℕ → Bool
 is_one v b = nat_eq (bit_at v b) 1
 
--- What it says of bit b of the register; that this is the number written, bit by bit, is a law of the file's crate.
--- RISC-V Unprivileged Architecture, "Zicsr".
-abbrev pub bit_word : Op → ℕ → Word
-bit_word ops.Read b = Nothing
-bit_word (ops.Write v) b = if is_one v b then Ask else Clear
-bit_word (ops.Set v) b = if is_one v b then Ask else Nothing
-bit_word (ops.Clear v) b = if is_one v b then Clear else Nothing
+-- What it says of bit b of the register; that this is the number written, bit by bit, is a law of
+-- the file's crate. RISC-V Unprivileged Architecture, "Zicsr".
+abbrev pub bit_said : Op → ℕ → Word
+bit_said ops.Read b = Nothing
+bit_said (ops.Write v) b = if is_one v b then Ask else Clear
+bit_said (ops.Set v) b = if is_one v b then Ask else Nothing
+bit_said (ops.Clear v) b = if is_one v b then Clear else Nothing
 
 -- Whether the operand has 64 bits.
 -- RISC-V Unprivileged Architecture, "Zicsr", at XLEN 64.

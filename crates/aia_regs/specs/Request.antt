@@ -4,7 +4,8 @@ use Rattle.std.specs.Int.{swap_bytes, is_in_range, w32}
 use Rattle.aia_regs.specs.Word.{Word, names}
 use Rattle.aia_regs.specs.Word.Word.{Ask, Nothing}
 
--- The number that a 32-bit store writes to seteipnum_le, at offset 0, or to seteipnum_be, at offset 4; None at every other offset.
+-- The number that a 32-bit store writes to seteipnum_le, at offset 0, or to seteipnum_be, at offset
+-- 4; None at every other offset.
 -- AIA 1.0, IMSIC, "Memory region for an interrupt file".
 abbrev pub number_written : ℕ → ℕ → Option ℕ
 number_written offset value = if nat_eq offset 0 then Some value else (if nat_eq offset 4 then Some (swap_bytes w32 value) else None)
@@ -22,5 +23,5 @@ requested n offset value = implemented n (number_written offset value)
 
 -- What the store says of identity i.
 -- AIA 1.0, IMSIC, "Memory region for an interrupt file".
-abbrev pub request_word : ℕ → ℕ → ℕ → ℕ → Word
-request_word n offset value i = if names (requested n offset value) i then Ask else Nothing
+abbrev pub request_said : ℕ → ℕ → ℕ → ℕ → Word
+request_said n offset value i = if names (requested n offset value) i then Ask else Nothing

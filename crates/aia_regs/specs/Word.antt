@@ -2,14 +2,14 @@
 use Rattle.std.specs.Prelude.{ℕ, Bool, true, false, nat_eq, Option, Some, None}
 
 -- An event asks for an identity's bit, clears it, or says nothing of it.
--- Profile: this project's way to speak of pending and enable bits.
+-- Vocabulary.
 pub data Word : Type 0 where
   Ask : Word
   Clear : Word
   Nothing : Word
 
--- Whether an identity is in a set after an event, given what the event says of it and whether it was in it before.
--- So a set holds just the identities whose newest word asks for them. Profile.
+-- Whether an identity is in a set after an event, given what the event says of it and whether it
+-- was in it before. So a set holds just the identities whose newest word asks for them. Profile.
 abbrev pub settle : Word → Bool → Bool
 settle Ask was = true
 settle Clear was = false

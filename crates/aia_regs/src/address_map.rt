@@ -1,4 +1,5 @@
-//! Where the interrupt files of harts, the domains of the APLIC and the memory lie (our profile's choice).
+//! Where the interrupt files of harts, the domains of the APLIC and the memory lie (our profile's
+//! choice).
 
 /// The control region of the APLIC's root domain; its child's is the next [`REGION`] bytes.
 pub const ROOT_DOMAIN: u64 = 0x0c00_0000;
@@ -12,7 +13,8 @@ pub const MACHINE_FILES: u64 = 0x2400_0000;
 /// The page of hart 0's supervisor file; each further hart's is [`HART_STRIDE`] bytes on.
 pub const SUPERVISOR_FILES: u64 = 0x2800_0000;
 
-/// The bytes from one hart's supervisor file to the next one's; the hart's guest files lie in between.
+/// The bytes from one hart's supervisor file to the next one's; the hart's guest files lie in
+/// between.
 pub const HART_STRIDE: u64 = 0x8000;
 
 /// The bytes of one interrupt file's page.

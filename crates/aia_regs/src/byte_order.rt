@@ -1,7 +1,8 @@
 ghost use Rattle.std.specs.Prelude.{◌≡◌};
 ghost use Rattle.std.specs.Int.{swap_bytes, w32};
 
-/// A word with its four bytes in the other order, as a number written to a big-endian register has them.
+/// A word with its four bytes in the other order, as a number written to a big-endian register has
+/// them.
 ///
 /// AIA 1.0, Incoming MSI Controller, "Memory region for an interrupt file": `seteipnum_be`.
 pub fn swap32(x: u32) -> u32

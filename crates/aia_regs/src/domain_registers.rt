@@ -3,12 +3,13 @@ ghost use Rattle.aia_regs.specs.DomainRegisters.{domain_register_of};
 
 /// A register of an APLIC interrupt domain, as an offset of the domain's control region names it.
 ///
-/// AIA 1.0, Advanced Platform-Level Interrupt Controller (APLIC), "Memory-mapped control region for an interrupt domain".
+/// AIA 1.0, APLIC, "Memory-mapped control region for an interrupt domain".
 #[derive(Clone, Copy, Debug, PartialEq, Eq)]
 pub enum DomainReg {
     /// `domaincfg`: the domain's configuration.
     DomainCfg,
-    /// `sourcecfg` of this source, 1 to 1023: its mode, or the child domain that it is delegated to.
+    /// `sourcecfg` of this source, 1 to 1023: its mode, or the child domain that it is delegated
+    /// to.
     SourceCfg(u32),
     /// `mmsiaddrcfg`: the low half of the base page number of machine-level files.
     MMsiAddrCfg,
@@ -18,19 +19,23 @@ pub enum DomainReg {
     SMsiAddrCfg,
     /// `smsiaddrcfgh`: the high half of it, and the place of a hart's index in an address.
     SMsiAddrCfgH,
-    /// `setip` with this index `k`, 0 to 31: the pending bits of the sources `32k` to `32k + 31`, set by ones.
+    /// `setip` with this index `k`, 0 to 31: the pending bits of the sources `32k` to `32k + 31`,
+    /// set by ones.
     SetIp(u32),
     /// `setipnum`: sets the pending bit of the source written.
     SetIpNum,
-    /// `in_clrip` with this index `k`, 0 to 31: the rectified inputs of the sources `32k` to `32k + 31`; ones clear pending bits.
+    /// `in_clrip` with this index `k`, 0 to 31: the rectified inputs of the sources `32k` to `32k +
+    /// 31`; ones clear pending bits.
     InClrIp(u32),
     /// `clripnum`: clears the pending bit of the source written.
     ClrIpNum,
-    /// `setie` with this index `k`, 0 to 31: the enable bits of the sources `32k` to `32k + 31`, set by ones.
+    /// `setie` with this index `k`, 0 to 31: the enable bits of the sources `32k` to `32k + 31`,
+    /// set by ones.
     SetIe(u32),
     /// `setienum`: sets the enable bit of the source written.
     SetIeNum,
-    /// `clrie` with this index `k`, 0 to 31: ones clear enable bits of the sources `32k` to `32k + 31`.
+    /// `clrie` with this index `k`, 0 to 31: ones clear enable bits of the sources `32k` to `32k +
+    /// 31`.
     ClrIe(u32),
     /// `clrienum`: clears the enable bit of the source written.
     ClrIeNum,
@@ -40,25 +45,28 @@ pub enum DomainReg {
     SetIpNumBe,
     /// `genmsi`: sends an MSI that software asks for.
     GenMsi,
-    /// `target` of this source, 1 to 1023: the hart that it goes to, and its priority or identity there.
+    /// `target` of this source, 1 to 1023: the hart that it goes to, and its priority or identity
+    /// there.
     Target(u32),
     /// `idelivery` of the hart with this index, 0 to 511: whether interrupts are delivered to it.
     IDelivery(u32),
     /// `iforce` of the hart with this index, 0 to 511: forces an interrupt.
     IForce(u32),
-    /// `ithreshold` of the hart with this index, 0 to 511: the priority from which interrupts are held back.
+    /// `ithreshold` of the hart with this index, 0 to 511: the priority from which interrupts are
+    /// held back.
     IThreshold(u32),
     /// `topi` of the hart with this index, 0 to 511: the interrupt on top.
     TopI(u32),
     /// `claimi` of the hart with this index, 0 to 511: the interrupt on top, which a read claims.
     ClaimI(u32),
-    /// No register: the offset is reserved, no multiple of 4, or beyond the region, which ends at 0x8000.
+    /// No register: the offset is reserved, no multiple of 4, or beyond the region, which ends at
+    /// 0x8000.
     Nothing,
 }
 
 /// The register at an offset of a domain's control region.
 ///
-/// AIA 1.0, Advanced Platform-Level Interrupt Controller (APLIC), "Memory-mapped control region for an interrupt domain".
+/// AIA 1.0, APLIC, "Memory-mapped control region for an interrupt domain".
 #[tactic(auto, unfolding(crate::specs::DomainRegisters::domain_register_of))]
 pub fn domain_reg(offset: u32) -> DomainReg
     ensures { result ≡ domain_register_of offset }

@@ -29,7 +29,8 @@ pub fn bits(x: u64, hi: u32, lo: u32) -> u64
     }
 }
 
-/// The number `x` with `v` in its field `hi:lo`; all other bits stay, so that a number of 32 bits is one after it too.
+/// The number `x` with `v` in its field `hi:lo`; all other bits stay, so that a number of 32 bits
+/// is one after it too.
 pub fn put_bits(x: u64, hi: u32, lo: u32, v: u64) -> u64
     requires order { lo ≤ hi }
     requires within { hi < 64 }

@@ -1,4 +1,5 @@
-//! What the definitions of this crate mean, as laws: each function does nothing, and its clauses are what was proved.
+//! What the definitions of this crate mean, as laws: each function does nothing, and its clauses
+//! are what was proved.
 
 ghost use Rattle.std.specs.Prelude.{◌≡◌, ◌≢◌, ℕ, ◌+◌, ◌-◌, ◌*◌, ◌%◌, ◌^◌, ◌<◌, ◌≤◌, ◌↔◌, ◌⊎◌, true, Option, Some};
 ghost use Rattle.std.specs.Int.{bit_at, swap_bytes, w32};
@@ -26,9 +27,10 @@ pub fn register_map()
     ensures outside { (select : ℕ) → (register_of select ≡ FileReg.Outside) ↔ ((select < 0x70) ⊎ (0xff < select)) }
 {}
 
-/// The registers of an APLIC domain: what an offset names is the register with that offset, and there is one at most.
+/// The registers of an APLIC domain: what an offset names is the register with that offset, and
+/// there is one at most.
 ///
-/// AIA 1.0, Advanced Platform-Level Interrupt Controller (APLIC), "Memory-mapped control region for an interrupt domain".
+/// AIA 1.0, APLIC, "Memory-mapped control region for an interrupt domain".
 pub fn domain_register_map()
     ensures both_ways { (r : DomainReg) (offset : ℕ) → r ≢ DomainReg.Nothing → (domain_register_of offset ≡ r) ↔ (domain_offset_of r ≡ Some offset) }
     ensures nothing { (offset : ℕ) → (domain_register_of offset ≡ DomainReg.Nothing) ↔ ((r : DomainReg) → domain_offset_of r ≢ Some offset) }
@@ -37,7 +39,8 @@ pub fn domain_register_map()
 
 /// The fields of a register, bit by bit, and what it is to put a number into one.
 ///
-/// A field that is put in is got back, every other bit and field stays, and to put back what was there changes nothing.
+/// A field that is put in is got back, every other bit and field stays, and to put back what was
+/// there changes nothing.
 pub fn fields()
     ensures bits { (x hi lo i : ℕ) → lo + i ≤ hi → bit_at (field x hi lo) i ≡ bit_at x (lo + i) }
     ensures no_more { (x hi lo i : ℕ) → lo ≤ hi → hi < lo + i → bit_at (field x hi lo) i ≡ 0 }

@@ -1,4 +1,5 @@
-//! The registers of an interrupt file and of an APLIC domain, the CSR instructions that reach them, and the map of addresses.
+//! The registers of an interrupt file and of an APLIC domain, the CSR instructions that reach them,
+//! and the map of addresses.
 #![tactic(auto)]
 
 mod access;

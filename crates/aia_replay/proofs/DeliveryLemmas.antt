@@ -12,7 +12,7 @@ use Rattle.aia_model.specs.Sent.{senders, msi_of, msis, sent_by, settled, with_a
 use Rattle.aia_model.specs.Refusal.{refusal}
 use Rattle.aia_model.specs.Answer.{delivered, msi_taken, history_after}
 use Rattle.aia_model.proofs.AnswerLemmas.{after_by}
-use Rattle.aia_aplic.specs.Stands.{AplicStands}
+use Rattle.aia_aplic.specs.Aplic.{AplicStands}
 use Rattle.aia_aplic.specs.Sending.{Next}
 use Rattle.aia_aplic.proofs.SendingLemmas.{msis_next, settled_next, none_between}
 use Rattle.aia_replay.specs.declared.machine.Machine.{Machine}

@@ -13,7 +13,7 @@ use Rattle.aia_model.specs.Reading.{reading, parsed_of, line_at}
 use Rattle.aia_model.specs.Script.{answers, answers_from, printed, text_answer, after_text}
 use Rattle.aia_replay.specs.declared.engine.Engine.{Engine}
 use Rattle.aia_replay.specs.declared.replayer.Replayer.{Replayer}
-use Rattle.aia_replay.specs.Buffered.{Passes, CutOff}
+use Rattle.aia_replay.specs.Buffered.{Gathers, CutOff}
 use Rattle.aia_replay.specs.Stands.{StandsFor, ReadsAsMachine}
 use Rattle.aia_replay.specs.Runs.{NoEnd, AsksMachine, after_texts, CutsLines}
 use Rattle.aia_replay.specs.Streams.{WritesOut, WritesOutFront, Holds, HoldsStop, Begins, AnswersLine, LacksMemory}
@@ -22,7 +22,7 @@ use Rattle.aia_replay.proofs.CutLemmas.{texts_front, texts_last, take_again}
 -- ---- what waits in the buffer
 
 -- what passes after what waits
-passes_more : (out more : List ℕ) (before mid now : Option (List ℕ)) (written added : List ℕ) → Passes [] out before mid written → Passes out more mid now added → Passes [] more before now (written ++ added)
+passes_more : (out more : List ℕ) (before mid now : Option (List ℕ)) (written added : List ℕ) → Gathers [] out before mid written → Gathers out more mid now added → Gathers [] more before now (written ++ added)
 passes_more out more before mid now written added first then = record {
   taken = first.taken ++ then.taken;
   appended = Appends-trans before mid now first.taken then.taken first.appended then.appended;
@@ -30,10 +30,10 @@ passes_more out more before mid now written added first then = record {
 }
 
 -- all that waits is written
-pub all_written : (out : List ℕ) (before mid now : Option (List ℕ)) (written : List ℕ) → Passes [] out before mid written → Appends mid now out → Appends before now written
+pub all_written : (out : List ℕ) (before mid now : Option (List ℕ)) (written : List ℕ) → Gathers [] out before mid written → Appends mid now out → Appends before now written
 all_written out before mid now written passed last = subst (Appends before now) passed.together (Appends-trans before mid now passed.taken out passed.appended last)
 
-written_out : (out new : List ℕ) (before mid now : Option (List ℕ)) (written : List ℕ) → Passes [] out before mid written → Appends mid now out → new ≡ [] → Passes [] new before now written
+written_out : (out new : List ℕ) (before mid now : Option (List ℕ)) (written : List ℕ) → Gathers [] out before mid written → Appends mid now out → new ≡ [] → Gathers [] new before now written
 written_out out new before mid now written passed last empty = record {
   taken = written;
   appended = all_written out before mid now written passed last;
@@ -64,7 +64,7 @@ part_kept old new before now bytes part none line others holds = record {
   whole = holds.whole;
   tail = holds.tail ++ part;
   stands = subst (λ (r : Replayer). StandsFor r.engine holds.history) (sym others) holds.stands;
-  gathered = subst (λ (r : Replayer). Passes [] r.out.bytes.items before now holds.written) (sym others) holds.gathered;
+  gathered = subst (λ (r : Replayer). Gathers [] r.out.bytes.items before now holds.written) (sym others) holds.gathered;
   split = ap (λ xs. xs ++ part) holds.split ∙ append_assoc holds.whole holds.tail part;
   answered = holds.answered;
   lines = holds.lines;
@@ -80,10 +80,10 @@ tail_read : (r : Replayer) (before now : Option (List ℕ)) (bytes : List ℕ) �
 tail_read r before now bytes holds = ap reading holds.line ∙ reading_take holds.tail
 
 reply_passes : (old new : Replayer) (before mid now : Option (List ℕ)) (bytes : List ℕ) → AnswersLine old new mid now → (holds : Holds old before mid bytes)
-    → Passes [] new.out.bytes.items before now (holds.written ++ printed (text_answer holds.history (reading holds.tail)))
+    → Gathers [] new.out.bytes.items before now (holds.written ++ printed (text_answer holds.history (reading holds.tail)))
 reply_passes old new before mid now bytes line holds =
     let h = holds.history in
-    let reply = subst (λ (p : Parsed). Passes old.out.bytes.items new.out.bytes.items mid now (printed (text_answer h p))) (tail_read old before mid bytes holds) (line.answers h holds.stands) in
+    let reply = subst (λ (p : Parsed). Gathers old.out.bytes.items new.out.bytes.items mid now (printed (text_answer h p))) (tail_read old before mid bytes holds) (line.answers h holds.stands) in
     passes_more old.out.bytes.items new.out.bytes.items before mid now holds.written (printed (text_answer h (reading holds.tail))) holds.gathered reply
 
 -- the line's LF is read, and the line answered
@@ -186,7 +186,7 @@ finished_line old new before mid late now bytes some line wrote holds =
 joined : (a b c d : List ℕ) → (a ++ b) ++ (c ++ d) ≡ (a ++ (b ++ c)) ++ d
 joined a b c d = append_assoc a b (c ++ d) ∙ ap (λ xs. a ++ xs) (sym (append_assoc b c d)) ∙ sym (append_assoc a (b ++ c) d)
 
-pub cut_after : (out later all : List ℕ) (before mid now : Option (List ℕ)) (written : List ℕ) → Passes [] out before mid written → CutOff mid now out → written ++ later ≡ all → CutOff before now all
+pub cut_after : (out later all : List ℕ) (before mid now : Option (List ℕ)) (written : List ℕ) → Gathers [] out before mid written → CutOff mid now out → written ++ later ≡ all → CutOff before now all
 cut_after out later all before mid now written passed cut goes_on = record {
   part = passed.taken ++ cut.part;
   lost = cut.lost ++ later;
@@ -221,8 +221,8 @@ line_stopped old new before mid now bytes more lacks holds =
     record {
       whole = holds.whole;
       text = holds.tail;
-      gathered = subst (λ (r : Replayer). Passes [] r.out.bytes.items before now (answers holds.whole)) (sym lacks.same)
-          (subst (λ k. Passes [] old.out.bytes.items before k (answers holds.whole)) (sym lacks.kept) (subst (Passes [] old.out.bytes.items before mid) holds.answered holds.gathered));
+      gathered = subst (λ (r : Replayer). Gathers [] r.out.bytes.items before now (answers holds.whole)) (sym lacks.same)
+          (subst (λ k. Gathers [] old.out.bytes.items before k (answers holds.whole)) (sym lacks.kept) (subst (Gathers [] old.out.bytes.items before mid) holds.answered holds.gathered));
       split = ap (λ xs. xs ++ more) holds.split ∙ append_assoc holds.whole holds.tail more;
       lines = holds.lines;
       no_end = holds.no_end;

@@ -35,7 +35,7 @@ use Rattle.aia_hyp.specs.Stands.{CoreStands, CoreTakes, answer_by, line_taken, s
 use Rattle.aia_hyp.proofs.PageLemmas.{misaligned, region_is_free}
 use Rattle.aia_hyp.proofs.PageLemmas.{no_file_there}
 use Rattle.aia_hyp.proofs.StoreLemmas.{line_rests}
-use Rattle.aia_aplic.specs.Stands.{AplicState, AplicStands, domain_name}
+use Rattle.aia_aplic.specs.Aplic.{AplicState, AplicStands, domain_name}
 use Rattle.aia_replay.specs.declared.machine.Machine.{Machine}
 use Rattle.aia_replay.specs.Stands.{MachineHolds, MachineStands, MachineTakes, act_taken}
 use Rattle.aia_replay.proofs.HartLemmas.{same_harts}

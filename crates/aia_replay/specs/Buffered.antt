@@ -4,7 +4,7 @@ use Rattle.std.specs.Io.KnownBytes.{Appends}
 
 -- The sink took some bytes, and those still waiting stand behind them: together they are all that
 -- was waiting and what was added.
-pub record Passes (waiting still : List ℕ) (before now : Option (List ℕ)) (added : List ℕ)
+pub record Gathers (waiting still : List ℕ) (before now : Option (List ℕ)) (added : List ℕ)
     : Type 0 where
   pub taken : List ℕ
   pub appended : Appends before now taken

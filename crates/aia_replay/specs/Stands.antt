@@ -1,5 +1,5 @@
 -- When a machine, and the engine, stand for a history: the core for the history, the APLIC for the
--- past that the history is to it. Profile: this project's way to speak of its engine.
+-- past that the history is to it. Vocabulary.
 use Rattle.std.specs.Prelude.{◌≡◌, true, [], Option, Some, None, MatchOption}
 use Rattle.aia_model.specs.declared.answer.Answer.{Answer}
 use Rattle.aia_model.specs.declared.line.Line.{Line}
@@ -12,7 +12,7 @@ use Rattle.aia_model.specs.Refusal.{refusal, makes_machine}
 use Rattle.aia_model.specs.Answer.{answer, after, delivered}
 use Rattle.aia_model.specs.Script.{text_answer, after_text}
 use Rattle.aia_hyp.specs.Stands.{CoreStands, line_taken}
-use Rattle.aia_aplic.specs.Stands.{AplicStands}
+use Rattle.aia_aplic.specs.Aplic.{AplicStands}
 use Rattle.aia_replay.specs.declared.machine.Machine.{Machine}
 use Rattle.aia_replay.specs.declared.engine.Engine.{Engine}
 

@@ -12,7 +12,7 @@ use Rattle.aia_replay.specs.declared.limits.TheConstants.{SCRIPT_BYTES}
 use Rattle.aia_replay.specs.declared.replayer.Replayer.{Replayer}
 use Rattle.aia_replay.specs.declared.program.Status.{Status}
 use Rattle.aia_replay.specs.declared.program.Status.TheVariants.{Done, ReadFault, TooLong}
-use Rattle.aia_replay.specs.Buffered.{Passes, CutOff}
+use Rattle.aia_replay.specs.Buffered.{Gathers, CutOff}
 use Rattle.aia_replay.specs.Stands.{StandsFor, ReadsAsMachine}
 use Rattle.aia_replay.specs.Runs.{NoEnd, IsWhole, AnswersWhole, IsScript, TakesAtMost, CutsLines, WritesFront, AsksMachine, after_texts}
 
@@ -25,7 +25,7 @@ pub record Holds (r : Replayer) (before now : Option (List ℕ)) (bytes : List �
   pub whole : List ℕ
   pub tail : List ℕ
   pub stands : StandsFor r.engine history
-  pub gathered : Passes [] r.out.bytes.items before now written
+  pub gathered : Gathers [] r.out.bytes.items before now written
   pub split : bytes ≡ whole ++ tail
   pub answered : written ≡ answers whole
   pub completes : (more : List ℕ)
@@ -43,7 +43,7 @@ pub record HoldsStop (r : Replayer) (before now : Option (List ℕ)) (bytes more
     : Type 0 where
   pub whole : List ℕ
   pub text : List ℕ
-  pub gathered : Passes [] r.out.bytes.items before now (answers whole)
+  pub gathered : Gathers [] r.out.bytes.items before now (answers whole)
   pub split : bytes ≡ whole ++ (text ++ more)
   pub lines : IsWhole whole
   pub no_end : NoEnd text
@@ -129,7 +129,7 @@ pub record LacksMemory (old new : Replayer) (mid now : Option (List ℕ)) : Type
 -- begins.
 pub record AnswersLine (old new : Replayer) (mid now : Option (List ℕ)) : Type 0 where
   pub answers : (h : History) → StandsFor old.engine h
-      → Passes old.out.bytes.items new.out.bytes.items mid now
+      → Gathers old.out.bytes.items new.out.bytes.items mid now
       (printed (text_answer h (reading old.line.items)))
   pub stands : (h : History) → StandsFor old.engine h
       → StandsFor new.engine (after_text h (reading old.line.items))

@@ -2,7 +2,7 @@ ghost use Rattle.std.specs.Prelude.{◌≡◌, ℕ, ◌+◌, ◌*◌, ◌^◌, �
 ghost use Rattle.std.specs.Io.KnownBytes.{Appends};
 ghost use Rattle.aia_io.specs.Ends.{Rose};
 ghost use Rattle.aia_model.specs.AnswerText.{answer_text};
-ghost use Rattle.aia_replay.specs.Buffered.{Passes, CutOff};
+ghost use Rattle.aia_replay.specs.Buffered.{Gathers, CutOff};
 
 use crate::limits::BUFFER_BYTES;
 use aia_io::{Sink, Write};
@@ -32,7 +32,7 @@ impl Buffered {
     /// Adds bytes; where they don't fit, those that wait are written first.
     fn add<K: Sink>(&mut self, sink: &mut K, bytes: &[u8]) -> Result<(), SinkFault>
         requires { length bytes.now ≤ BUFFER_BYTES }
-        ensures ok { OnOk result (Passes self.old.bytes.items self.new.bytes.items
+        ensures ok { OnOk result (Gathers self.old.bytes.items self.new.bytes.items
             (K.taken sink.old) (K.taken sink.new) bytes.now) }
         ensures err { OnErr result (Rose (K.faults sink.old) (K.faults sink.new)) }
         ensures cut { OnErr result
@@ -48,7 +48,7 @@ impl Buffered {
 
     /// Adds an answer, with its LF.
     pub fn add_answer<K: Sink>(&mut self, sink: &mut K, answer: &Answer) -> Result<(), SinkFault>
-        ensures ok { OnOk result (Passes self.old.bytes.items self.new.bytes.items
+        ensures ok { OnOk result (Gathers self.old.bytes.items self.new.bytes.items
             (K.taken sink.old) (K.taken sink.new) (answer_text answer.now)) }
         ensures err { OnErr result (Rose (K.faults sink.old) (K.faults sink.new)) }
         ensures cut { OnErr result

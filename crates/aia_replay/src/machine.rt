@@ -10,7 +10,7 @@ ghost use Rattle.aia_model.specs.Act.Act.{Made};
 ghost use Rattle.aia_model.specs.Refusal.{is_machine_size};
 ghost use Rattle.aia_hyp.specs.HostFiles.{IsHost, csr_line};
 ghost use Rattle.aia_hyp.specs.Stands.{answer_by};
-ghost use Rattle.aia_aplic.specs.Stands.{domain_name};
+ghost use Rattle.aia_aplic.specs.Aplic.{domain_name};
 ghost use Rattle.aia_replay.specs.Stands.{MachineHolds, MachineTakes, MachineServes, Delivers};
 
 use aia_aplic::Aplic;

@@ -48,7 +48,8 @@ fn with_digit(number: u64, base: u64, digit: u64) -> Option<u64>
     number.checked_mul(base)?.checked_add(digit)
 }
 
-/// The number that digits spell; `None` where a character is no digit, or the number is 2^64 or above.
+/// The number that digits spell; `None` where a character is no digit, or the number is 2^64 or
+/// above.
 fn value(radix: Radix, digits: &[u8]) -> Option<u64>
     ensures { result ≡ value_in radix digits.now }
 {
@@ -60,8 +61,8 @@ fn value(radix: Radix, digits: &[u8]) -> Option<u64>
     Some(number)
 }
 
-/// The number that a word spells: `0`, decimal digits that begin with another digit, or `0x` and 1 to 16 hexadecimal
-/// digits. `None` for every other word, and where the number is 2^64 or above.
+/// The number that a word spells: `0`, decimal digits that begin with another digit, or `0x` and 1
+/// to 16 hexadecimal digits. `None` for every other word, and where the number is 2^64 or above.
 fn number(word: &[u8]) -> Option<u64>
     ensures { result ≡ number_of word.now }
 {

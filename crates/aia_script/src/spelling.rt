@@ -77,7 +77,8 @@ fn push_operand(out: &mut ArrayVec<u8, LINE_BYTES>, mnemonic: &[u8], name: &[u8]
     push_hex(out, operand);
 }
 
-/// Appends a space and a CSR instruction, by the level's names. Its operand is in range by its type.
+/// Appends a space and a CSR instruction, by the level's names. Its operand is in range by its
+/// type.
 #[tactic(auto, using(aia_model::proofs::Printed::name_length))]
 fn push_instruction(out: &mut ArrayVec<u8, LINE_BYTES>, level: Level, csr: Csr, op: Op)
     requires { array_vec_len out.old + 38 ≤ LINE_BYTES }
@@ -140,7 +141,8 @@ fn push_pins(out: &mut ArrayVec<u8, LINE_BYTES>, hart: u64)
     push_decimal(out, hart);
 }
 
-/// Appends the printing spelling of a line to `out`, which is empty. Its numbers are in range by their types.
+/// Appends the printing spelling of a line to `out`, which is empty. Its numbers are in range by
+/// their types.
 #[tactic(auto, unfolding(aia_model::specs::Printing::line_text), using(crate::proofs::PrintLemmas::joined_instruction, crate::proofs::PrintLemmas::access_in_range))]
 fn push_line(line: &Line, out: &mut ArrayVec<u8, LINE_BYTES>)
     requires { out.old.items ≡ [] }
@@ -174,13 +176,14 @@ fn push_line(line: &Line, out: &mut ArrayVec<u8, LINE_BYTES>)
     }
 }
 
-/// Appends the printing spelling of a line to `out`, which is empty. The line's CSR is one that lines of its form name.
+/// Appends the printing spelling of a line to `out`, which is empty. The line's CSR is one that
+/// lines of its form name.
 ///
-/// A single space stands between two fields. Addresses, values and operands are `0x` and lower-case digits, all other
-/// numbers are decimal, and none has leading zeros.
+/// A single space stands between two fields. Addresses, values and operands are `0x` and lower-case
+/// digits, all other numbers are decimal, and none has leading zeros.
 ///
-/// `parse_line(print_line(x)) = Line(x)`: the clause `again` says that the reading of what is printed is `Line(line)`, and
-/// `parse_line` returns the reading of its text. Nothing is allocated.
+/// `parse_line(print_line(x)) = Line(x)`: the clause `again` says that the reading of what is
+/// printed is `Line(line)`, and `parse_line` returns the reading of its text. Nothing is allocated.
 pub fn print_line(line: &Line, out: &mut ArrayVec<u8, LINE_BYTES>)
     requires listed { IsListed line.now }
     requires empty { out.old.items ≡ [] }

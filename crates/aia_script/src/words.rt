@@ -6,7 +6,8 @@ ghost use Rattle.aia_model.specs.Text.{words_of};
 ghost use Rattle.aia_model.specs.Reading.{word_at, whole};
 ghost use Rattle.aia_script.specs.Cursor.{left};
 
-/// The words of a text that are still to be read: a single space stands between one word and the next.
+/// The words of a text that are still to be read: a single space stands between one word and the
+/// next.
 #[derive(Clone, Copy)]
 pub struct Words<'a> {
     /// The text from the next word on; `None` where no word is left.

@@ -6,8 +6,8 @@ use Rattle.aia_source.specs.declared.mode.Mode.TheVariants.{Inactive, Detached, 
 use Rattle.aia_source.specs.declared.touch.Touch.{Touch}
 use Rattle.aia_source.specs.declared.touch.Touch.TheVariants.{SetPending, ClearPending, SetEnable, ClearEnable}
 use Rattle.aia_source.specs.Registers.{deed_of_touch}
-use Rattle.aia_source.specs.Source.{Deed, is_level, rectified, level_says, says}
-use Rattle.aia_source.specs.Source.Deed.{Moved, Set, Cleared, Claimed, Forwarded, Configured, Activated, Switched, Untouched}
+use Rattle.aia_source.specs.Wired.{SourceDeed, is_level, rectified, level_says, says}
+use Rattle.aia_source.specs.Wired.SourceDeed.{LevelGiven, Set, Cleared, Claimed, Forwarded, Configured, Activated, Switched, Untouched}
 
 -- ---- what each deed makes of the pending bit of a source at a level mode
 
@@ -30,7 +30,7 @@ unheard LevelLow true r was t l e same = cc
 unheard LevelLow false r was t l e same = unheard_level r was t same
 
 -- its wire
-pub followed : (m : Mode) (msi before r was : Bool) → is_level m ≡ true → was ≡ before → settle (says m msi before r Moved) was ≡ r
+pub followed : (m : Mode) (msi before r was : Bool) → is_level m ≡ true → was ≡ before → settle (says m msi before r LevelGiven) was ≡ r
 followed Inactive msi before r was l same = cc
 followed Detached msi before r was l same = cc
 followed RisingEdge msi before r was l same = cc
@@ -83,11 +83,11 @@ claimed LevelLow msi r was false l e same = same
 
 -- ---- each deed but the sending of an MSI leaves the law
 
-pub level_follows : (mode : Mode) (was wire pending : Bool) → (is_level mode ≡ true → pending ≡ rectified mode was) → is_level mode ≡ true → settle (says mode false (rectified mode was) (rectified mode wire) Moved) pending ≡ rectified mode wire
+pub level_follows : (mode : Mode) (was wire pending : Bool) → (is_level mode ≡ true → pending ≡ rectified mode was) → is_level mode ≡ true → settle (says mode false (rectified mode was) (rectified mode wire) LevelGiven) pending ≡ rectified mode wire
 level_follows mode was wire pending lawful level = followed mode false (rectified mode was) (rectified mode wire) pending level (lawful level)
 
-pub level_stays : (mode : Mode) (wire pending : Bool) (deed : Deed) → deed ≢ Forwarded → (is_level mode ≡ true → pending ≡ rectified mode wire) → is_level mode ≡ true → settle (says mode false (rectified mode wire) (rectified mode wire) deed) pending ≡ rectified mode wire
-level_stays mode wire pending Moved other lawful level = followed mode false (rectified mode wire) (rectified mode wire) pending level (lawful level)
+pub level_stays : (mode : Mode) (wire pending : Bool) (deed : SourceDeed) → deed ≢ Forwarded → (is_level mode ≡ true → pending ≡ rectified mode wire) → is_level mode ≡ true → settle (says mode false (rectified mode wire) (rectified mode wire) deed) pending ≡ rectified mode wire
+level_stays mode wire pending LevelGiven other lawful level = followed mode false (rectified mode wire) (rectified mode wire) pending level (lawful level)
 level_stays mode wire pending Set other lawful level = unheard mode false (rectified mode wire) pending (Some SetPending) level refl (lawful level)
 level_stays mode wire pending Cleared other lawful level = unheard mode false (rectified mode wire) pending (Some ClearPending) level refl (lawful level)
 level_stays mode wire pending Claimed other lawful level = claimed mode false (rectified mode wire) pending true level refl (lawful level)

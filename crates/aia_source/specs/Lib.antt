@@ -1,3 +1,3 @@
-pub mod Source
+pub mod Wired
 pub mod Registers
 pub mod Top

@@ -14,8 +14,8 @@ use Rattle.aia_source.specs.declared.mode.Mode.TheVariants.{Inactive, Detached, 
 use Rattle.aia_source.specs.declared.touch.Touch.{Touch}
 use Rattle.aia_source.specs.declared.touch.Touch.TheVariants.{SetPending, ClearPending, SetEnable, ClearEnable}
 use Rattle.aia_source.specs.Top.{hart_of, priority_of, identity_of}
-use Rattle.aia_source.specs.Source.{Deed}
-use Rattle.aia_source.specs.Source.Deed.{Set, Cleared, Untouched}
+use Rattle.aia_source.specs.Wired.{SourceDeed}
+use Rattle.aia_source.specs.Wired.SourceDeed.{Set, Cleared, Untouched}
 
 -- ---- bits and conditions
 
@@ -36,7 +36,7 @@ is_named i s = nat_eq i s && nat_lt 0 s
 -- ---- domaincfg
 
 -- A domaincfg of IE and DM. What a write keeps: both, of the value.
--- AIA 1.0, Advanced Platform-Level Interrupt Controller (APLIC). Profile: BE is read-only zero.
+-- AIA 1.0, APLIC. Profile: BE is read-only zero.
 abbrev pub domaincfg_with : Bool → Bool → ℕ
 domaincfg_with ie dm = one_at ie IE + one_at dm DM
 
@@ -44,7 +44,7 @@ abbrev pub domaincfg_kept : ℕ → ℕ
 domaincfg_kept v = domaincfg_with (is_one v IE) (is_one v DM)
 
 -- What domaincfg reads: 0x80 in bits 31:24, IE and DM.
--- AIA 1.0, Advanced Platform-Level Interrupt Controller (APLIC).
+-- AIA 1.0, APLIC.
 abbrev pub domaincfg_read : Bool → Bool → ℕ
 domaincfg_read ie dm = DOMAINCFG_TOP + domaincfg_with ie dm
 
@@ -59,21 +59,20 @@ is_by_msi cfg = is_one cfg DM
 -- ---- sourcecfg
 
 -- The source mode that a write of this SM keeps.
--- AIA 1.0, Advanced Platform-Level Interrupt Controller (APLIC). Profile: a reserved one, 2 or 3,
--- becomes 0, inactive.
+-- AIA 1.0, APLIC. Profile: a reserved one, 2 or 3, becomes 0, inactive.
 abbrev pub legal_mode : ℕ → ℕ
 legal_mode sm = if nat_eq sm 2 || nat_eq sm 3 then 0 else sm
 
 -- What a write keeps in the root domain: with D, the source is delegated to the child domain that
 -- bits 9:0 name; without, SM, bits 2:0, is its mode.
--- AIA 1.0, Advanced Platform-Level Interrupt Controller (APLIC). Profile: there is one child, with
--- the index 0; another index makes the register 0.
+-- AIA 1.0, APLIC. Profile: there is one child, with the index 0; another index makes the register
+-- 0.
 abbrev pub root_sourcecfg : ℕ → ℕ
 root_sourcecfg v =
     if is_one v D then (if nat_eq (field v 9 0) 0 then DELEGATED else 0) else legal_mode (field v 2 0)
 
 -- What it keeps in the child domain, which has no child: D makes the register 0.
--- AIA 1.0, Advanced Platform-Level Interrupt Controller (APLIC).
+-- AIA 1.0, APLIC.
 abbrev pub child_sourcecfg : ℕ → ℕ
 child_sourcecfg v = if is_one v D then 0 else legal_mode (field v 2 0)
 
@@ -82,7 +81,7 @@ abbrev pub delegates : ℕ → Bool
 delegates cfg = nat_eq cfg DELEGATED
 
 -- The mode that a sourcecfg gives.
--- AIA 1.0, Advanced Platform-Level Interrupt Controller (APLIC).
+-- AIA 1.0, APLIC.
 abbrev pub mode_of : ℕ → Mode
 mode_of cfg =
     if nat_eq cfg 1 then Detached
@@ -93,7 +92,7 @@ mode_of cfg =
     else Inactive))))
 
 -- The SM of a mode.
--- AIA 1.0, Advanced Platform-Level Interrupt Controller (APLIC).
+-- AIA 1.0, APLIC.
 abbrev pub mode_number : Mode → ℕ
 mode_number Inactive = 0
 mode_number Detached = 1
@@ -103,8 +102,7 @@ mode_number LevelHigh = 6
 mode_number LevelLow = 7
 
 -- ---- which sources a store names: by the ones of a word of 32, or by number
--- AIA 1.0, Advanced Platform-Level Interrupt Controller (APLIC), "Memory-mapped control region for
--- an interrupt domain".
+-- AIA 1.0, APLIC, "Memory-mapped control region for an interrupt domain".
 
 -- Word k has the sources 32k to 32k + 31.
 abbrev pub in_word : ℕ → ℕ → ℕ → Bool
@@ -129,7 +127,7 @@ touch ClrIeNum v s = touch_where (nat_eq v) ClearEnable s
 touch reg v s = None
 
 -- What it is to the source's pending bit, and what it says of its enable bit.
-abbrev pub deed_of_touch : Option Touch → Deed
+abbrev pub deed_of_touch : Option Touch → SourceDeed
 deed_of_touch (Some SetPending) = Set
 deed_of_touch (Some ClearPending) = Cleared
 deed_of_touch touch = Untouched
@@ -151,7 +149,7 @@ abbrev pub legal_hart : ℕ → ℕ → ℕ
 legal_hart harts x = if nat_lt x harts then x else 0
 
 -- The priority that a write keeps: 0 becomes 1.
--- AIA 1.0, Advanced Platform-Level Interrupt Controller (APLIC).
+-- AIA 1.0, APLIC.
 abbrev pub legal_priority : ℕ → ℕ
 legal_priority x = if nat_eq x 0 then 1 else x
 
@@ -161,14 +159,13 @@ hart_kept harts v = with_field 0 31 18 (legal_hart harts (hart_of v))
 
 -- What a write of genmsi keeps where the domain delivers by MSIs: the hart index, and the identity
 -- in bits 10:0; Busy, bit 12, is 0.
--- AIA 1.0, Advanced Platform-Level Interrupt Controller (APLIC). Profile: the MSI is sent at once.
+-- AIA 1.0, APLIC. Profile: the MSI is sent at once.
 abbrev pub genmsi_kept : ℕ → ℕ → ℕ
 genmsi_kept harts v = with_field (hart_kept harts v) 10 0 (identity_of v)
 
 -- What a write of a source's target keeps: by MSIs what genmsi keeps, and else the hart index and,
 -- in bits 7:0, the priority.
--- AIA 1.0, Advanced Platform-Level Interrupt Controller (APLIC). Profile: by MSIs the guest index,
--- bits 17:12, is read-only zero.
+-- AIA 1.0, APLIC. Profile: by MSIs the guest index, bits 17:12, is read-only zero.
 abbrev pub target_kept : ℕ → Bool → ℕ → ℕ
 target_kept harts msi v =
     if msi then genmsi_kept harts v

@@ -3,15 +3,13 @@ use Rattle.std.specs.Prelude.{◌≡◌, ℕ, zero, suc, ◌+◌, ◌<◌, ◌�
 use Rattle.aia_regs.specs.Fields.{field, with_field}
 
 -- A source's priority and its number.
--- AIA 1.0, Advanced Platform-Level Interrupt Controller (APLIC), "Interrupt delivery directly by
--- the APLIC".
+-- AIA 1.0, APLIC, "Interrupt delivery directly by the APLIC".
 abbrev pub Pair : Type 0
 Pair = ℕ × ℕ
 
 -- The lesser of two, by priority; of two with the same one the first.
--- AIA 1.0, Advanced Platform-Level Interrupt Controller (APLIC), "Interrupt delivery directly by
--- the APLIC": the lower a priority number, the higher the priority; of two with the same one the
--- source with the lower number comes first.
+-- AIA 1.0, APLIC, "Interrupt delivery directly by the APLIC": the lower a priority number, the
+-- higher the priority; of two with the same one the source with the lower number comes first.
 abbrev pub lesser : Option Pair → Option Pair → Option Pair
 lesser None q = q
 lesser (Some p) None = Some p
@@ -39,7 +37,7 @@ pub record IsLeast (candidate : ℕ → Option Pair) (from count : ℕ) (p : Pai
   pub least : (s : ℕ) (q : Pair) → from ≤ s → s < from + count → candidate s ≡ Some q → ComesFirst p q
 
 -- The priority and the hart index of a target, and the identity of one by MSIs.
--- AIA 1.0, Advanced Platform-Level Interrupt Controller (APLIC).
+-- AIA 1.0, APLIC.
 abbrev pub priority_of : ℕ → ℕ
 priority_of target = field target 7 0
 
@@ -54,8 +52,7 @@ abbrev pub pair_if : Bool → ℕ → ℕ → Option Pair
 pair_if is target s = if is then Some (priority_of target, s) else None
 
 -- What topi reads: the number in bits 25:16, the priority in bits 7:0; 0 where no source is on top.
--- AIA 1.0, Advanced Platform-Level Interrupt Controller (APLIC), "Interrupt delivery directly by
--- the APLIC".
+-- AIA 1.0, APLIC, "Interrupt delivery directly by the APLIC".
 abbrev pub topi_value : Option Pair → ℕ
 topi_value None = 0
 topi_value (Some p) = with_field (with_field 0 25 16 p.1) 7 0 p.0

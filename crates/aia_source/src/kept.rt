@@ -63,8 +63,7 @@ pub fn is_by_msi(cfg: u32) -> bool
 /// Tells whether a write of this value to a `sourcecfg` of the root domain delegates the source to
 /// the child domain.
 ///
-/// AIA 1.0, Advanced Platform-Level Interrupt Controller (APLIC). Our profile: there is one child
-/// domain, with the index 0.
+/// AIA 1.0, APLIC. Our profile: there is one child domain, with the index 0.
 pub fn delegates(value: u32) -> bool
     ensures { result ≡ delegates (root_sourcecfg value) }
 {

@@ -1,47 +1,49 @@
-//! What the definitions of this crate mean, as laws: each function does nothing, and its clauses are what was proved.
+//! What the definitions of this crate mean, as laws: each function does nothing, and its clauses
+//! are what was proved.
 
 ghost use Rattle.std.specs.Prelude.{◌≡◌, ◌≢◌, ℕ, ◌+◌, ◌<◌, ◌≤◌, Bool, false, nat_eq, if◌then◌else◌, Option, Some, None};
 ghost use Rattle.aia_regs.specs.Fields.{field};
 ghost use Rattle.aia_regs.specs.Operations.{is_one};
 ghost use Rattle.aia_source.specs.Registers.{one_at, enables, is_by_msi, domaincfg_kept, domaincfg_read, delegates, root_sourcecfg, child_sourcecfg, legal_mode};
 ghost use Rattle.aia_source.specs.Top.{Pair, NamesItself, IsLeast, least_pair};
-ghost use Rattle.aia_source.specs.Source.{Source, Deed, IsLawful, new_source, done};
-ghost use Rattle.aia_source.specs.Source.Deed.{Moved, Forwarded, Configured, Activated, Switched};
+ghost use Rattle.aia_source.specs.Wired.{WiredState, SourceDeed, IsLawful, new_wired, done};
+ghost use Rattle.aia_source.specs.Wired.SourceDeed.{LevelGiven, Forwarded, Configured, Activated, Switched};
 
 use crate::mode::Mode;
 
-/// A source at a level mode is pending exactly while its rectified input is high, in a domain that delivers directly: it is so where
-/// it begins, where its `sourcecfg` is written and where the domain begins to deliver directly, and each deed but the sending of an MSI,
-/// which such a domain does not do, leaves it so.
+/// A source at a level mode is pending exactly while its rectified input is high, in a domain that
+/// delivers directly: it is so where it begins, where its `sourcecfg` is written and where the
+/// domain begins to deliver directly, and each deed but the sending of an MSI, which such a domain
+/// does not do, leaves it so.
 ///
-/// AIA 1.0, Advanced Platform-Level Interrupt Controller (APLIC), "Precise effects on interrupt-pending bits".
+/// AIA 1.0, APLIC, "Precise effects on interrupt-pending bits".
 pub fn a_level_source_follows_its_input()
-    ensures begins { IsLawful new_source }
-    ensures moved { (s : Source) (wire : Bool) → IsLawful s → IsLawful (done false Moved s.mode wire s) }
-    ensures stays { (s : Source) (deed : Deed) → deed ≢ Forwarded → IsLawful s → IsLawful (done false deed s.mode s.wire s) }
-    ensures switched { (s : Source) → IsLawful (done false Switched s.mode s.wire s) }
-    ensures configured { (s : Source) (mode : Mode) → IsLawful (done false Configured mode s.wire s) }
-    ensures activated { (s : Source) (mode : Mode) → IsLawful (done false Activated mode s.wire s) }
+    ensures begins { IsLawful new_wired }
+    ensures moved { (s : WiredState) (wire : Bool) → IsLawful s → IsLawful (done false LevelGiven s.mode wire s) }
+    ensures stays { (s : WiredState) (deed : SourceDeed) → deed ≢ Forwarded → IsLawful s → IsLawful (done false deed s.mode s.wire s) }
+    ensures switched { (s : WiredState) → IsLawful (done false Switched s.mode s.wire s) }
+    ensures configured { (s : WiredState) (mode : Mode) → IsLawful (done false Configured mode s.wire s) }
+    ensures activated { (s : WiredState) (mode : Mode) → IsLawful (done false Activated mode s.wire s) }
 {}
 
 /// An inactive source is never pending.
 pub fn an_inactive_source_is_not_pending()
-    ensures { (s : Source) (msi : Bool) (deed : Deed) (wire : Bool) → (done msi deed Mode.Inactive wire s).pending ≡ false }
+    ensures { (s : WiredState) (msi : Bool) (deed : SourceDeed) (wire : Bool) → (done msi deed Mode.Inactive wire s).pending ≡ false }
 {}
 
-/// The least pair of a range is the least: it is a candidate's, and no candidate's pair comes before it, by priority and then by number; there is
-/// none exactly where there is no candidate.
+/// The least pair of a range is the least: it is a candidate's, and no candidate's pair comes
+/// before it, by priority and then by number; there is none exactly where there is no candidate.
 ///
-/// AIA 1.0, Advanced Platform-Level Interrupt Controller (APLIC), "Interrupt delivery directly by the APLIC".
+/// AIA 1.0, APLIC, "Interrupt delivery directly by the APLIC".
 pub fn the_least_pair_is_the_least()
     ensures found { (candidate : ℕ → Option Pair) (from count : ℕ) (p : Pair) → NamesItself candidate → least_pair candidate from count ≡ Some p → IsLeast candidate from count p }
     ensures none { (candidate : ℕ → Option Pair) (from count : ℕ) → NamesItself candidate → ◌≡◌ {A = Option Pair} (least_pair candidate from count) None → (s : ℕ) → from ≤ s → s < from + count → ◌≡◌ {A = Option Pair} (candidate s) None }
 {}
 
-/// Where the bits of `domaincfg` and `sourcecfg` stand: IE at 8 and DM at 2, and above them 0x80 in bits 31:24; D at
-/// 10, which delegates, to the child 0, by 0x400 alone.
+/// Where the bits of `domaincfg` and `sourcecfg` stand: IE at 8 and DM at 2, and above them 0x80 in
+/// bits 31:24; D at 10, which delegates, to the child 0, by 0x400 alone.
 ///
-/// AIA 1.0, Advanced Platform-Level Interrupt Controller (APLIC).
+/// AIA 1.0, APLIC.
 pub fn bits_of_registers()
     ensures enables { (cfg : ℕ) → enables cfg ≡ is_one cfg 8 }
     ensures by_msi { (cfg : ℕ) → is_by_msi cfg ≡ is_one cfg 2 }

@@ -1,9 +1,9 @@
 ghost use Rattle.std.specs.Prelude.{◌≡◌};
-ghost use Rattle.aia_source.specs.Source.{is_level, rectified};
+ghost use Rattle.aia_source.specs.Wired.{is_level, rectified};
 
 /// What a source's `sourcecfg` register makes of its wire.
 ///
-/// AIA 1.0, Advanced Platform-Level Interrupt Controller (APLIC).
+/// AIA 1.0, APLIC.
 #[derive(Clone, Copy, Debug, PartialEq, Eq)]
 pub enum Mode {
     /// The source is not active in the domain: it is never pending, and its wire counts for

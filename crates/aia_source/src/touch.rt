@@ -1,7 +1,6 @@
 /// What a store to a register does to a bit of each source that it names.
 ///
-/// AIA 1.0, Advanced Platform-Level Interrupt Controller (APLIC), "Memory-mapped control region for
-/// an interrupt domain".
+/// AIA 1.0, APLIC, "Memory-mapped control region for an interrupt domain".
 #[derive(Clone, Copy, Debug, PartialEq, Eq)]
 pub enum Touch {
     /// `setip` and its kin.

@@ -1,6 +1,6 @@
 ghost use Rattle.std.specs.Prelude.{◌≡◌, Bool, false, if◌then◌else◌};
-ghost use Rattle.aia_source.specs.Source.{Source, new_source, done, rectified, is_active};
-ghost use Rattle.aia_source.specs.Source.Deed.{Moved, Set, Cleared, Forwarded, Configured, Activated, Switched};
+ghost use Rattle.aia_source.specs.Wired.{WiredState, new_wired, done, rectified, is_active};
+ghost use Rattle.aia_source.specs.Wired.SourceDeed.{LevelGiven, Set, Cleared, Forwarded, Configured, Activated, Switched};
 ghost use Rattle.aia_source.specs.declared.mode.Mode.TheVariants.{Inactive};
 
 use crate::mode::Mode;
@@ -8,7 +8,7 @@ use std::marker::Model;
 
 /// One wired source in one domain: its mode, the level of its wire, and whether it is pending.
 ///
-/// AIA 1.0, Advanced Platform-Level Interrupt Controller (APLIC), "Precise effects on interrupt-pending bits".
+/// AIA 1.0, APLIC, "Precise effects on interrupt-pending bits".
 #[derive(Debug, Drop)]
 pub struct Wired {
     mode: Mode,
@@ -17,7 +17,7 @@ pub struct Wired {
 }
 
 impl Model for Wired {
-    ghost Value = { Source };
+    ghost Value = { WiredState };
 
     ghost view = { λ w. record { mode = w.mode; wire = w.wire; pending = w.pending } };
 
@@ -27,7 +27,7 @@ impl Model for Wired {
 impl Wired {
     /// A source that is inactive, with a low wire.
     pub fn new() -> Wired
-        ensures { result ≡ new_source }
+        ensures { result ≡ new_wired }
     {
         Wired {
             mode: Mode::Inactive,
@@ -43,8 +43,8 @@ impl Wired {
         self.mode
     }
 
-    /// Its rectified input: whether the wire is at the level, or past the edge, that the mode waits for; false for a source
-    /// that is inactive or detached.
+    /// Its rectified input: whether the wire is at the level, or past the edge, that the mode waits
+    /// for; false for a source that is inactive or detached.
     pub fn rectified(&self) -> bool
         ensures { result ≡ rectified self.now.mode self.now.wire }
     {
@@ -62,7 +62,7 @@ impl Wired {
     ///
     /// A rectified rise makes the source pending, and at a level mode a fall takes that back.
     pub fn wire(&mut self, level: bool, msi: bool)
-        ensures { self.new ≡ done msi Moved self.old.mode level self.old }
+        ensures { self.new ≡ done msi LevelGiven self.old.mode level self.old }
     {
         let before = self.rectified();
         self.wire = level;
@@ -77,7 +77,8 @@ impl Wired {
 
     /// A register asks for it: `setip` or one that takes the source's number.
     ///
-    /// A source at a level mode hears it only where the domain delivers by MSIs (`msi`) and the input is high.
+    /// A source at a level mode hears it only where the domain delivers by MSIs (`msi`) and the
+    /// input is high.
     pub fn set(&mut self, msi: bool)
         ensures { self.new ≡ done msi Set self.old.mode self.old.wire self.old }
     {
@@ -112,8 +113,8 @@ impl Wired {
 
     /// Its `sourcecfg` is written with this mode.
     ///
-    /// At a level mode it is then pending exactly where its input is high. At an edge or detached mode it stays pending if it was
-    /// (our profile); one that was inactive is not.
+    /// At a level mode it is then pending exactly where its input is high. At an edge or detached
+    /// mode it stays pending if it was (our profile); one that was inactive is not.
     pub fn recfg(&mut self, mode: Mode)
         ensures mode { self.new.mode ≡ mode }
         ensures after { (msi : Bool) → self.new ≡ done msi (if is_active self.old.mode then Configured else Activated) mode self.old.wire self.old }
@@ -126,7 +127,8 @@ impl Wired {
         }
     }
 
-    /// The domain's delivery mode changed: a source at a level mode is then pending exactly where its input is high (our profile).
+    /// The domain's delivery mode changed: a source at a level mode is then pending exactly where
+    /// its input is high (our profile).
     pub fn delivery_changed(&mut self)
         ensures mode { self.new.mode ≡ self.old.mode }
         ensures after { (msi : Bool) → self.new ≡ done msi Switched self.old.mode self.old.wire self.old }

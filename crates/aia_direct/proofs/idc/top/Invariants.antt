@@ -1,6 +1,6 @@
 use Rattle.std.proofs.Common.{◌≡◌, ◌-◌, length}
 use Rattle.aia_source.specs.Top.{lesser, least_pair}
-use Rattle.aia_direct.specs.Control.{candidate_at, IsSmall}
+use Rattle.aia_direct.specs.Idc.{candidate_at, IsSmall}
 use Rattle.aia_direct.proofs.idc.top.Given as goal
 
 abbrev pub invariant-loop-s : goal.invariant-loop-s

@@ -1,4 +1,4 @@
-use Rattle.aia_domain.specs.Held.{EachSource}
+use Rattle.aia_domain.specs.Entry.{EachSource}
 use Rattle.aia_domain.proofs.Loops.{switched_below}
 use Rattle.aia_domain.proofs.entries.switch_all.Given as goal
 

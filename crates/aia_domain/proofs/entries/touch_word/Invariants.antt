@@ -1,4 +1,4 @@
-use Rattle.aia_domain.specs.Held.{EachSource, touched}
+use Rattle.aia_domain.specs.Entry.{EachSource, touched}
 use Rattle.aia_source.specs.Registers.{touch_where}
 use Rattle.aia_domain.proofs.Loops.{in_word_below}
 use Rattle.aia_domain.proofs.entries.touch_word.Given as goal

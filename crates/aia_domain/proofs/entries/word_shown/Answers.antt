@@ -1,7 +1,7 @@
 use Rattle.std.proofs.Common.{◌≡◌, ◌+◌, ◌*◌, ◌-◌, cond, sym, ap, ◌∙◌, arith}
 use Rattle.std.proofs.Math.Nat.{add_comm}
 use Rattle.aia_word.specs.Sets.{word_of}
-use Rattle.aia_domain.specs.Held.{bit_at_source}
+use Rattle.aia_domain.specs.Entry.{bit_at_source}
 use Rattle.aia_domain.proofs.WordLemmas.{word_of-none, word_of-more, word_of-fits}
 use Rattle.aia_domain.proofs.entries.word_shown.Goals as goal
 

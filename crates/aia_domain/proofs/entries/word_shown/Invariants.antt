@@ -1,6 +1,6 @@
 use Rattle.std.specs.Prelude.{◌≡◌, ◌+◌, ◌-◌, ◌*◌}
 use Rattle.aia_word.specs.Sets.{word_of}
-use Rattle.aia_domain.specs.Held.{bit_at_source}
+use Rattle.aia_domain.specs.Entry.{bit_at_source}
 use Rattle.aia_domain.proofs.entries.word_shown.Given as goal
 
 abbrev pub invariant-loop-place : goal.invariant-loop-place

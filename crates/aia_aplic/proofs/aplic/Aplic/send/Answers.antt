@@ -1,5 +1,5 @@
 use Rattle.std.proofs.Common.{sym, subst, ◌∙◌}
-use Rattle.aia_aplic.specs.Stands.{AplicState, AplicStands}
+use Rattle.aia_aplic.specs.Aplic.{AplicState, AplicStands}
 use Rattle.aia_aplic.proofs.SideLemmas.{root_sends, child_sends}
 use Rattle.aia_aplic.proofs.aplic.Aplic.send.Goals as goal
 

@@ -1,5 +1,5 @@
 use Rattle.std.proofs.Common.{◌<◌, ◌≤◌, length, subst, ◌∙◌, arith}
-use Rattle.aia_aplic.specs.Stands.{SideState}
+use Rattle.aia_aplic.specs.Side.{SideState}
 use Rattle.aia_aplic.proofs.SideLemmas.{side-claimed, side-unclaimed, topi_there}
 use Rattle.aia_aplic.proofs.side.Side.claimi.Goals as goal
 

@@ -1,6 +1,6 @@
 use Rattle.std.proofs.Common.{sym, subst}
 use Rattle.aia_domain.specs.Domain.{ready_from, is_ready}
-use Rattle.aia_aplic.specs.Stands.{SideState}
+use Rattle.aia_aplic.specs.Side.{SideState}
 use Rattle.aia_aplic.specs.Sending.{IsLeastOf}
 use Rattle.aia_aplic.proofs.FirstLemmas.{least_yielded}
 use Rattle.aia_aplic.proofs.side.Side.least_ready.Goals as goal

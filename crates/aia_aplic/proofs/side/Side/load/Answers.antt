@@ -1,5 +1,5 @@
 use Rattle.std.proofs.Common.{sym, subst, ap, ◌∙◌}
-use Rattle.aia_aplic.specs.Stands.{SideState, SideStands}
+use Rattle.aia_aplic.specs.Side.{SideState, SideStands}
 use Rattle.aia_aplic.proofs.LoadedSteps.{is_claim}
 use Rattle.aia_aplic.proofs.Reading.{read-stands}
 use Rattle.aia_aplic.proofs.SideLemmas.{side-loaded, not_control, not_claim}

@@ -1,5 +1,5 @@
 use Rattle.std.proofs.Common.{sym, subst}
-use Rattle.aia_aplic.specs.Stands.{SideState, SideStands}
+use Rattle.aia_aplic.specs.Side.{SideState, SideStands}
 use Rattle.aia_aplic.proofs.SideLemmas.{side-driven}
 use Rattle.aia_aplic.proofs.side.Side.wire.Goals as goal
 

@@ -3,7 +3,7 @@ use Rattle.aia_regs.specs.declared.access.Csr.TheVariants as csrs
 use Rattle.aia_csr.specs.declared.access.Access.TheVariants.{Select, File, Top}
 use Rattle.aia_file.specs.InterruptFile.{register_value}
 use Rattle.aia_file.specs.FileState.{shown}
-use Rattle.aia_imsic.specs.Files.{file_at}
+use Rattle.aia_imsic.specs.Imsic.{file_at}
 use Rattle.aia_hyp.specs.HostFiles.{name_of, spot_of}
 use Rattle.aia_hyp.proofs.AccessLemmas.{file_reached, select_reached, top_reached, illegal, accessed}
 use Rattle.aia_hyp.proofs.hyp.Hyp.access.Goals as goal

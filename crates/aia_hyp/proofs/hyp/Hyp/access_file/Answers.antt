@@ -4,8 +4,8 @@ use Rattle.aia_regs.specs.declared.file_registers.FileReg.{FileReg}
 use Rattle.aia_regs.specs.FileRegisters.{register_of}
 use Rattle.aia_file.specs.InterruptFile.{SameFile, accessed}
 use Rattle.aia_file.specs.FileState.{FileState, shown}
-use Rattle.aia_imsic.specs.Files.{file_at}
-use Rattle.aia_model.specs.FileAfter.Deed.{Accesses}
+use Rattle.aia_imsic.specs.Imsic.{file_at}
+use Rattle.aia_model.specs.FileAfter.FileDeed.{Accesses}
 use Rattle.aia_hyp.specs.Core.{CoreState}
 use Rattle.aia_hyp.specs.HostFiles.{name_of, select_in}
 use Rattle.aia_hyp.proofs.NameLemmas.{named_there}

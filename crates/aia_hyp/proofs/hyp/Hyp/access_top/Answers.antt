@@ -3,7 +3,7 @@ use Rattle.aia_regs.specs.declared.access.Csr.TheVariants.{Topei}
 use Rattle.aia_file.specs.InterruptFile.{SameFile}
 use Rattle.aia_file.specs.FileState.{FileState, shown}
 use Rattle.aia_model.specs.FileAfter.{file_after}
-use Rattle.aia_model.specs.FileAfter.Deed.{Accesses}
+use Rattle.aia_model.specs.FileAfter.FileDeed.{Accesses}
 use Rattle.aia_hyp.specs.Core.{CoreState}
 use Rattle.aia_hyp.specs.HostFiles.{name_of}
 use Rattle.aia_hyp.proofs.NameLemmas.{named_there}

@@ -1,7 +1,7 @@
 use Rattle.std.proofs.Common.{rules, ◌≡◌, ◌%◌, subst, Option, None, Some, Err, ap, ◌∙◌}
 use Rattle.aia_file.specs.InterruptFile.{SameFile, landed}
 use Rattle.aia_file.specs.FileState.{shown}
-use Rattle.aia_imsic.specs.Files.{file_at, with_file}
+use Rattle.aia_imsic.specs.Imsic.{file_at, with_file}
 use Rattle.aia_model.specs.declared.refusal.Refusal.{Refusal}
 use Rattle.aia_model.specs.declared.refusal.Refusal.TheVariants.{Fault}
 use Rattle.aia_hyp.specs.Core.{CoreState}

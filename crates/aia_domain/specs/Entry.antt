@@ -2,8 +2,8 @@
 use Rattle.std.specs.Prelude.{◌≡◌, ℕ, Bool, true, false, not, ◌&&◌, nat_eq, if◌then◌else◌, List, slice_get, get_or, Option, Some, None, option_map}
 use Rattle.aia_source.specs.declared.mode.Mode.{Mode}
 use Rattle.aia_source.specs.declared.mode.Mode.TheVariants.{Inactive}
-use Rattle.aia_source.specs.Source.{Source, Deed, new_source, done, is_active, rectified}
-use Rattle.aia_source.specs.Source.Deed.{Moved, Set, Cleared, Configured, Activated, Switched}
+use Rattle.aia_source.specs.Wired.{WiredState, SourceDeed, new_wired, done, is_active, rectified}
+use Rattle.aia_source.specs.Wired.SourceDeed.{LevelGiven, Set, Cleared, Configured, Activated, Switched}
 use Rattle.aia_source.specs.declared.kept.TheConstants.{DELEGATED}
 use Rattle.aia_source.specs.Registers.{root_sourcecfg, child_sourcecfg, delegates, mode_of, mode_number, first_target, target_kept, same_bool, is_named}
 use Rattle.aia_source.specs.declared.touch.Touch.{Touch}
@@ -13,39 +13,41 @@ use Rattle.aia_domain.specs.declared.entry.Look.TheVariants as looks
 
 -- ---- one source
 
--- The source, its enable bit, its target, and whether the root domain delegates it to the child domain.
--- AIA 1.0, Advanced Platform-Level Interrupt Controller (APLIC).
-pub record Held : Type 0 where
-  pub source : Source
+-- The source, its enable bit, its target, and whether the root domain delegates it to the child
+-- domain.
+-- AIA 1.0, APLIC.
+pub record EntryState : Type 0 where
+  pub source : WiredState
   pub enabled : Bool
   pub target : ℕ
   pub delegated : Bool
 
 -- A source as a domain begins. Profile.
-abbrev pub new_held : Held
-new_held = record { source = new_source; enabled = false; target = 0; delegated = false }
+abbrev pub new_entry : EntryState
+new_entry = record { source = new_wired; enabled = false; target = 0; delegated = false }
 
 -- A deed that leaves its mode and its wire.
-abbrev pub with_deed : Bool → Deed → Held → Held
+abbrev pub with_deed : Bool → SourceDeed → EntryState → EntryState
 with_deed msi deed x = record x { source = done msi deed x.source.mode x.source.wire x.source }
 
 -- Its enable bit is written; that of an inactive source is read-only zero.
--- AIA 1.0, Advanced Platform-Level Interrupt Controller (APLIC).
-abbrev pub with_enable : Bool → Held → Held
+-- AIA 1.0, APLIC.
+abbrev pub with_enable : Bool → EntryState → EntryState
 with_enable b x = record x { enabled = is_active x.source.mode && b }
 
 -- A store touches its pending bit, its enable bit, or neither.
--- AIA 1.0, Advanced Platform-Level Interrupt Controller (APLIC).
-abbrev pub touched : Bool → Option Touch → Held → Held
+-- AIA 1.0, APLIC.
+abbrev pub touched : Bool → Option Touch → EntryState → EntryState
 touched msi None x = x
 touched msi (Some SetPending) x = with_deed msi Set x
 touched msi (Some ClearPending) x = with_deed msi Cleared x
 touched msi (Some SetEnable) x = with_enable true x
 touched msi (Some ClearEnable) x = with_enable false x
 
--- A mode is written: what was inactive begins with no enable and the first target, and what becomes inactive has none.
--- AIA 1.0, Advanced Platform-Level Interrupt Controller (APLIC). Profile: enable and target stay from one active mode to another.
-abbrev pub configured : Bool → Mode → Held → Held
+-- A mode is written: what was inactive begins with no enable and the first target, and what becomes
+-- inactive has none.
+-- AIA 1.0, APLIC. Profile: enable and target stay from one active mode to another.
+abbrev pub configured : Bool → Mode → EntryState → EntryState
 configured msi mode x = record x {
   source = done msi (if is_active x.source.mode then Configured else Activated) mode x.source.wire x.source;
   enabled = is_active x.source.mode && is_active mode && x.enabled;
@@ -53,95 +55,96 @@ configured msi mode x = record x {
 }
 
 -- The domain begins to deliver by MSIs, or directly. Profile.
-abbrev pub switched : Bool → Held → Held
+abbrev pub switched : Bool → EntryState → EntryState
 switched msi x = record x {
   source = done msi Switched x.source.mode x.source.wire x.source;
   target = if is_active x.source.mode then first_target msi else 0;
 }
 
 -- Its target is written; that of an inactive source is read-only zero.
--- AIA 1.0, Advanced Platform-Level Interrupt Controller (APLIC).
-abbrev pub aimed : ℕ → Bool → ℕ → Held → Held
+-- AIA 1.0, APLIC.
+abbrev pub aimed : ℕ → Bool → ℕ → EntryState → EntryState
 aimed harts msi v x = record x { target = if is_active x.source.mode then target_kept harts msi v else 0 }
 
--- Its sourcecfg is written: in the root domain, which may delegate it; in the child domain, where it counts only for a delegated source.
--- AIA 1.0, Advanced Platform-Level Interrupt Controller (APLIC).
-abbrev pub sourcecfg_written : Bool → Bool → ℕ → Held → Held
+-- Its sourcecfg is written: in the root domain, which may delegate it; in the child domain, where
+-- it counts only for a delegated source.
+-- AIA 1.0, APLIC.
+abbrev pub sourcecfg_written : Bool → Bool → ℕ → EntryState → EntryState
 sourcecfg_written false msi v x = record (configured msi (mode_of (root_sourcecfg v)) x) { delegated = delegates (root_sourcecfg v) }
 sourcecfg_written true msi v x = if x.delegated then configured msi (mode_of (child_sourcecfg v)) x else x
 
 -- The child domain gets it or loses it: where that is a change it is inactive then.
--- AIA 1.0, Advanced Platform-Level Interrupt Controller (APLIC).
-abbrev pub granted : Bool → Bool → Held → Held
+-- AIA 1.0, APLIC.
+abbrev pub granted : Bool → Bool → EntryState → EntryState
 granted given msi x = if same_bool x.delegated given then x else record (configured msi Inactive x) { delegated = given }
 
 -- Its wire gets a level.
-abbrev pub wired : Bool → Bool → Held → Held
-wired msi level x = record x { source = done msi Moved x.source.mode level x.source }
+abbrev pub wired : Bool → Bool → EntryState → EntryState
+wired msi level x = record x { source = done msi LevelGiven x.source.mode level x.source }
 
 -- ---- what registers show of it
 
 -- Its sourcecfg: in the root domain one that delegates it, and else the mode's number.
--- AIA 1.0, Advanced Platform-Level Interrupt Controller (APLIC).
-abbrev pub sourcecfg_shown : Bool → Held → ℕ
+-- AIA 1.0, APLIC.
+abbrev pub sourcecfg_shown : Bool → EntryState → ℕ
 sourcecfg_shown leaf x = if not leaf && x.delegated then DELEGATED else mode_number x.source.mode
 
 -- Its bit of setip, in_clrip and setie.
--- AIA 1.0, Advanced Platform-Level Interrupt Controller (APLIC).
-abbrev pub bit_shown : Look → Held → Bool
+-- AIA 1.0, APLIC.
+abbrev pub bit_shown : Look → EntryState → Bool
 bit_shown looks.Pending x = x.source.pending
 bit_shown looks.Input x = rectified x.source.mode x.source.wire
 bit_shown looks.Enable x = x.enabled
 
 -- Whether it is pending and enabled.
-abbrev pub waits : Held → Bool
+abbrev pub waits : EntryState → Bool
 waits x = x.source.pending && x.enabled
 
 -- ---- all sources, by their numbers; the place of number 0, which is no source, is inactive for good
 
--- Each member of a list is changed by its place: a source by its number. Profile: this project's way to speak of it.
+-- Each member of a list is changed by its place: a source by its number. Vocabulary.
 abbrev pub EachAt : {A : Type 0} → List A → List A → (ℕ → A → A) → Type 0
 EachAt old new change = (i : ℕ) → slice_get new i ≡ option_map (change i) (slice_get old i)
 
-abbrev pub EachSource : List Held → List Held → (ℕ → Held → Held) → Type 0
+abbrev pub EachSource : List EntryState → List EntryState → (ℕ → EntryState → EntryState) → Type 0
 EachSource old new change = EachAt old new change
 
 -- One source is changed.
-abbrev pub changed_at : ℕ → (Held → Held) → ℕ → Held → Held
+abbrev pub changed_at : ℕ → (EntryState → EntryState) → ℕ → EntryState → EntryState
 changed_at at change s x = if nat_eq at s then change x else x
 
 -- The sourcecfg of a source is written; number 0 names no source.
-abbrev pub written_at : ℕ → Bool → Bool → ℕ → ℕ → Held → Held
+abbrev pub written_at : ℕ → Bool → Bool → ℕ → ℕ → EntryState → EntryState
 written_at at leaf msi v s x = if is_named at s then sourcecfg_written leaf msi v x else x
 
 -- The child domain gets a source, or loses it; number 0 names no source.
-abbrev pub granted_at : ℕ → Bool → Bool → ℕ → Held → Held
+abbrev pub granted_at : ℕ → Bool → Bool → ℕ → EntryState → EntryState
 granted_at at given msi s x = if is_named at s then granted given msi x else x
 
 -- The delivery mode of the domain is now this one.
-abbrev pub all_switched : Bool → ℕ → Held → Held
+abbrev pub all_switched : Bool → ℕ → EntryState → EntryState
 all_switched msi s x = switched msi x
 
 -- What is kept of a source that is there.
-abbrev pub held_at : List Held → ℕ → Held
-held_at sources s = get_or sources s new_held
+abbrev pub entry_at : List EntryState → ℕ → EntryState
+entry_at sources s = get_or sources s new_entry
 
 -- What is shown of a source, given what is kept of it; a source that isn't there shows nothing.
-abbrev pub bit_of : Look → Option Held → Bool
+abbrev pub bit_of : Look → Option EntryState → Bool
 bit_of look None = false
 bit_of look (Some x) = bit_shown look x
 
-abbrev pub bit_at_source : List Held → Look → ℕ → Bool
+abbrev pub bit_at_source : List EntryState → Look → ℕ → Bool
 bit_at_source sources look s = bit_of look (slice_get sources s)
 
-abbrev pub waits_of : Option Held → Bool
+abbrev pub waits_of : Option EntryState → Bool
 waits_of None = false
 waits_of (Some x) = waits x
 
-abbrev pub sourcecfg_of : Bool → Option Held → ℕ
+abbrev pub sourcecfg_of : Bool → Option EntryState → ℕ
 sourcecfg_of leaf None = 0
 sourcecfg_of leaf (Some x) = sourcecfg_shown leaf x
 
-abbrev pub target_of : Option Held → ℕ
+abbrev pub target_of : Option EntryState → ℕ
 target_of None = 0
 target_of (Some x) = x.target

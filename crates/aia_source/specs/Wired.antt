@@ -5,20 +5,20 @@ use Rattle.aia_regs.specs.Word.Word.{Ask, Clear, Nothing}
 use Rattle.aia_source.specs.declared.mode.Mode.{Mode}
 use Rattle.aia_source.specs.declared.mode.Mode.TheVariants.{Inactive, Detached, RisingEdge, FallingEdge, LevelHigh, LevelLow}
 
--- What can be done about a source in a domain. Profile: this project's way to speak of it.
-pub data Deed : Type 0 where
-  Moved : Deed  -- its wire gets a level
-  Set : Deed  -- setip, or a register that takes its number, asks for it
-  Cleared : Deed  -- in_clrip, or a register that takes its number, clears it
-  Claimed : Deed  -- a load of claimi shows it
-  Forwarded : Deed  -- its MSI is sent
-  Configured : Deed  -- its sourcecfg is written while it is active
-  Activated : Deed  -- its sourcecfg is written while it is inactive
-  Switched : Deed  -- the domain's delivery mode changes
-  Untouched : Deed
+-- What can be done about a source in a domain. Vocabulary.
+pub data SourceDeed : Type 0 where
+  LevelGiven : SourceDeed  -- its wire gets a level
+  Set : SourceDeed  -- setip, or a register that takes its number, asks for it
+  Cleared : SourceDeed  -- in_clrip, or a register that takes its number, clears it
+  Claimed : SourceDeed  -- a load of claimi shows it
+  Forwarded : SourceDeed  -- its MSI is sent
+  Configured : SourceDeed  -- its sourcecfg is written while it is active
+  Activated : SourceDeed  -- its sourcecfg is written while it is inactive
+  Switched : SourceDeed  -- the domain's delivery mode changes
+  Untouched : SourceDeed
 
 -- Whether a source is active in the domain.
--- AIA 1.0, Advanced Platform-Level Interrupt Controller (APLIC).
+-- AIA 1.0, APLIC.
 abbrev pub is_active : Mode → Bool
 is_active Inactive = false
 is_active mode = true
@@ -29,7 +29,7 @@ is_level LevelLow = true
 is_level mode = false
 
 -- The rectified input, by the mode and the level of the wire.
--- AIA 1.0, Advanced Platform-Level Interrupt Controller (APLIC). Profile: it is low for an inactive and a detached source.
+-- AIA 1.0, APLIC. Profile: it is low for an inactive and a detached source.
 abbrev pub rectified : Mode → Bool → Bool
 rectified Inactive wire = false
 rectified Detached wire = false
@@ -39,11 +39,12 @@ rectified LevelHigh wire = wire
 rectified LevelLow wire = not wire
 
 -- ---- the table of pending bits: what a deed says of it, by the mode that the source has then
--- AIA 1.0, Advanced Platform-Level Interrupt Controller (APLIC), "Precise effects on interrupt-pending bits". Profile: what a write of
--- sourcecfg and a change of the delivery mode say.
+-- AIA 1.0, APLIC, "Precise effects on interrupt-pending bits". Profile: what a write of sourcecfg
+-- and a change of the delivery mode say.
 
--- Detached: registers ask, and registers, a claim and an MSI clear. One that becomes active begins with nothing pending.
-abbrev pub detached_says : Deed → Word
+-- Detached: registers ask, and registers, a claim and an MSI clear. One that becomes active begins
+-- with nothing pending.
+abbrev pub detached_says : SourceDeed → Word
 detached_says Set = Ask
 detached_says Cleared = Clear
 detached_says Claimed = Clear
@@ -52,14 +53,15 @@ detached_says Activated = Clear
 detached_says deed = Nothing
 
 -- Edge: as detached, and a rise of the rectified input asks, given the input before and after.
-abbrev pub edge_says : Bool → Bool → Deed → Word
-edge_says before after Moved = if not before && after then Ask else Nothing
+abbrev pub edge_says : Bool → Bool → SourceDeed → Word
+edge_says before after LevelGiven = if not before && after then Ask else Nothing
 edge_says before after deed = detached_says deed
 
--- Level: a rise asks and a fall clears; registers are heard only where the domain delivers by MSIs, and ask only while the input is
--- high; a claim leaves it, an MSI clears it; a write of sourcecfg and a change of delivery go by the input.
-abbrev pub level_says : Bool → Bool → Bool → Deed → Word
-level_says msi before after Moved = if before then (if after then Nothing else Clear) else (if after then Ask else Nothing)
+-- Level: a rise asks and a fall clears; registers are heard only where the domain delivers by MSIs,
+-- and ask only while the input is high; a claim leaves it, an MSI clears it; a write of sourcecfg
+-- and a change of delivery go by the input.
+abbrev pub level_says : Bool → Bool → Bool → SourceDeed → Word
+level_says msi before after LevelGiven = if before then (if after then Nothing else Clear) else (if after then Ask else Nothing)
 level_says msi before after Set = if msi && after then Ask else Nothing
 level_says msi before after Cleared = if msi then Clear else Nothing
 level_says msi before after Claimed = Nothing
@@ -68,7 +70,7 @@ level_says msi before after Untouched = Nothing
 level_says msi before after deed = if after then Ask else Clear
 
 -- By mode, whether the domain delivers by MSIs, and the rectified input before and after.
-abbrev pub says : Mode → Bool → Bool → Bool → Deed → Word
+abbrev pub says : Mode → Bool → Bool → Bool → SourceDeed → Word
 says Inactive msi before after deed = Clear
 says Detached msi before after deed = detached_says deed
 says RisingEdge msi before after deed = edge_says before after deed
@@ -79,18 +81,18 @@ says LevelLow msi before after deed = level_says msi before after deed
 -- ---- a source
 
 -- Its mode, the level of its wire, and whether it is pending.
--- AIA 1.0, Advanced Platform-Level Interrupt Controller (APLIC).
-pub record Source : Type 0 where
+-- AIA 1.0, APLIC.
+pub record WiredState : Type 0 where
   pub mode : Mode
   pub wire : Bool
   pub pending : Bool
 
 -- A source as a domain begins. Profile: inactive, with a low wire.
-abbrev pub new_source : Source
-new_source = record { mode = Inactive; wire = false; pending = false }
+abbrev pub new_wired : WiredState
+new_wired = record { mode = Inactive; wire = false; pending = false }
 
 -- What a deed makes of a source that has this mode and wire from then on.
-abbrev pub done : Bool → Deed → Mode → Bool → Source → Source
+abbrev pub done : Bool → SourceDeed → Mode → Bool → WiredState → WiredState
 done msi deed mode wire s = record {
   mode = mode;
   wire = wire;
@@ -98,5 +100,5 @@ done msi deed mode wire s = record {
 }
 
 -- At a level mode it is pending exactly where its rectified input is high.
-abbrev pub IsLawful : Source → Type 0
+abbrev pub IsLawful : WiredState → Type 0
 IsLawful s = is_level s.mode ≡ true → s.pending ≡ rectified s.mode s.wire
