@@ -9,8 +9,7 @@ function fail(why) {
 
 # A text of Rust for a line, over as many lines of at most 100 columns as it needs.
 function quoted(text, column,    out, at, room) {
-  gsub(/\\/, "\\\\", text)
-  gsub(/"/, "\\\"", text)
+  if (text ~ /["\\]/) fail("a line has a quotation mark or a backslash")
   out = "\""
   room = 98 - column
   while (length(text) >= room) {
@@ -101,6 +100,7 @@ function end_row() {
 function begin_row(    i) {
   end_row()
   name = $2
+  if ($2 !~ /^[A-Z][A-Z0-9_]*$/ || $3 !~ /^[a-z][a-z0-9_]*$/) fail("a row has two names")
   theorem = $3
   path = "suite/" tolower(name)
   gsub(/_/, "-", path)
@@ -128,7 +128,7 @@ function take_line(    at) {
 }
 
 /^\/\/! / && name == "" { head = head $0 "\n"; next }
-/^== [A-Z]/ { begin_row(); next }
+/^== / { begin_row(); next }
 /^-- / && name != "" && count == 0 { shows = shows (shows == "" ? "" : " ") substr($0, 4); next }
 name != "" { take_line(); next }
 $0 != "" { fail("this line is of no row") }

@@ -6,6 +6,7 @@ use aia_vectors::{
     direct_delivery, examples, files, lines, machines, msi_delivery, registers, sources,
 };
 use std::alloc::{AllocError, Global};
+use std::process::Abort;
 use std::test::Fail;
 
 /// Gives the script of a row: its lines, each with an LF.
@@ -30,43 +31,30 @@ pub(crate) fn answers_of(alloc: Global, row: &[(&str, &str)]) -> Result<Vec<u8>,
     Ok(answers)
 }
 
-/// All rows, by their subjects.
-const SUBJECTS: [&[Row]; 8] = [
-    &lines::ROWS,
-    &files::ROWS,
-    &machines::ROWS,
-    &sources::ROWS,
-    &registers::ROWS,
-    &direct_delivery::ROWS,
-    &msi_delivery::ROWS,
-    &examples::ROWS,
-];
-
-#[test]
-fn rows_print_their_answers_whatever_the_pieces(rt: HostRuntime) -> Result<(), Fail> {
-    let alloc = rt.alloc();
-    for rows in SUBJECTS {
-        for row in rows {
-            let script = script_of(alloc, row.pairs)?;
-            let answers = answers_of(alloc, row.pairs)?;
-            for piece in [1, 7, 4096] {
-                replays(&rt, alloc, row.name, &script, piece, &answers)?;
-            }
+/// Replays each row in pieces of three lengths, and once with no LF after its last line.
+fn replays_all(rt: &impl Abort, alloc: Global, rows: &[Row]) -> Result<(), AllocError> {
+    for row in rows {
+        let mut script = script_of(alloc, row.pairs)?;
+        let answers = answers_of(alloc, row.pairs)?;
+        for piece in [1, 7, 4096] {
+            replays(rt, alloc, row.name, &script, piece, &answers)?;
         }
+        script.pop();
+        replays(rt, alloc, row.name, &script, 100, &answers)?;
     }
     Ok(())
 }
 
 #[test]
-fn a_rows_last_line_needs_no_line_feed(rt: HostRuntime) -> Result<(), Fail> {
+fn rows_print_their_answers_whatever_the_pieces(rt: HostRuntime) -> Result<(), Fail> {
     let alloc = rt.alloc();
-    for rows in SUBJECTS {
-        for row in rows {
-            let mut script = script_of(alloc, row.pairs)?;
-            script.pop();
-            let answers = answers_of(alloc, row.pairs)?;
-            replays(&rt, alloc, row.name, &script, 100, &answers)?;
-        }
-    }
+    replays_all(&rt, alloc, &lines::ROWS)?;
+    replays_all(&rt, alloc, &files::ROWS)?;
+    replays_all(&rt, alloc, &machines::ROWS)?;
+    replays_all(&rt, alloc, &sources::ROWS)?;
+    replays_all(&rt, alloc, &registers::ROWS)?;
+    replays_all(&rt, alloc, &direct_delivery::ROWS)?;
+    replays_all(&rt, alloc, &msi_delivery::ROWS)?;
+    replays_all(&rt, alloc, &examples::ROWS)?;
     Ok(())
 }
