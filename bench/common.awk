@@ -1,4 +1,5 @@
-# What the scripts of the benches share: lines that are counted, up to the bytes that a script is to have, and numbers by chance, the same ones each time.
+# What the scripts of the benches share: lines that are counted, up to the bytes that a script is to
+# have, and numbers by chance, the same ones each time.
 
 function put(line) {
   print line

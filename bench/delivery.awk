@@ -1,6 +1,8 @@
-# awk -v mode=msi|direct -f common.awk -f delivery.awk: a long script in which 1,023 wired sources of the root domain rise and fall, the same one each time. All are
-# rising edges and enabled, and aim at the one hart: by an MSI of the source's own number to the machine-level file, or directly, with priority 1.
-# Of 16 lines of its body, on average, 15 change the level of a wire, so half of those are rises, and 1 is a claim.
+# awk -v mode=msi|direct -f common.awk -f delivery.awk: a long script in which 1,023 wired sources
+# of the root domain rise and fall, the same one each time. All are rising edges and enabled, and
+# aim at the one hart: by an MSI of the source's own number to the machine-level file, or directly,
+# with priority 1. Of 16 lines of its body, on average, 15 change the level of a wire, so half of
+# those are rises, and 1 is a claim.
 
 BEGIN {
   if (mode != "msi" && mode != "direct") {

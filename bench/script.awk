@@ -1,6 +1,7 @@
-# awk -v N=63 -f common.awk -f script.awk: a long script over the machine-level and supervisor files of four harts, the same one each time.
-# Of 16 lines of its body, on average, 5 store to a file, in either byte order, 5 claim, 3 read what is on top, 1 selects an
-# enable register, and 2 set or clear a bit of the selected one. Between a third and a half of the claims and reads find nothing
+# awk -v N=63 -f common.awk -f script.awk: a long script over the machine-level and supervisor files
+# of four harts, the same one each time. Of 16 lines of its body, on average, 5 store to a file, in
+# either byte order, 5 claim, 3 read what is on top, 1 selects an enable register, and 2 set or
+# clear a bit of the selected one. Between a third and a half of the claims and reads find nothing
 # on top.
 
 BEGIN {

@@ -1,5 +1,7 @@
-# awk -v S=1023 -f common.awk -f sources.awk: a long script over wired sources and both domains of the APLIC, the same one each time. Of 16 lines of its body, on
-# average, 6 give a wire a level, 2 write and 2 read a word of sources, 3 write by number, 1 writes a target, 1 a sourcecfg, and 1 reads one.
+# awk -v S=1023 -f common.awk -f sources.awk: a long script over wired sources and both domains of
+# the APLIC, the same one each time. Of 16 lines of its body, on average, 6 give a wire a level, 2
+# write and 2 read a word of sources, 3 write by number, 1 writes a target, 1 a sourcecfg, and 1
+# reads one.
 
 BEGIN {
   bytes_wanted = 15500000  # a script has at most 16,777,216

@@ -5,7 +5,7 @@ use Rattle.std.proofs.lemmas.Option.{same_Some}
 use Rattle.std.proofs.lemmas.List.Recursion.{is_count_by}
 use Rattle.aia_source.specs.Wired.{rectified}
 use Rattle.aia_source.specs.Wired.SourceDeed.{Forwarded}
-use Rattle.aia_domain.specs.Entry.{EntryState, EachSource, changed_at, with_deed, waits, waits_of}
+use Rattle.aia_domain.specs.Entry.{EntryState, EachSource, changed_at, with_deed, waits, waits_at}
 use Rattle.aia_domain.specs.Domain.{DomainState, with_sources, is_ready}
 use Rattle.aia_aplic.proofs.SentSteps.{forward_says}
 
@@ -48,7 +48,7 @@ no_more (x ∷ xs) (y ∷ ys) change each less =
     let is : y ≡ change 0 x = same_Some y (change 0 x) (each 0) in
     counted (waits y) (waits x) (count ys) (count xs) (λ e. less 0 x (sym (ap waits is) ∙ e)) (no_more xs ys (λ i. change (suc i)) (λ i. each (suc i)) (λ i. less (suc i)))
 
-one_less : (old new : List EntryState) (change : ℕ → EntryState → EntryState) (s : ℕ) → EachSource old new change → NoMore change → waits_of (slice_get old s) ≡ true → ((x : EntryState) → waits (change s x) ≡ false) → count new < count old
+one_less : (old new : List EntryState) (change : ℕ → EntryState → EntryState) (s : ℕ) → EachSource old new change → NoMore change → waits_at old s ≡ true → ((x : EntryState) → waits (change s x) ≡ false) → count new < count old
 unfolding count
 one_less [] new change s each less here falls = absurd (cc)
 one_less (x ∷ xs) [] change s each less here falls = let e : ◌≡◌ {A = Option EntryState} None (Some (change 0 x)) = each 0 in absurd (cc)
@@ -73,7 +73,7 @@ falls_at s x = ap (λ b. waits (cond b (with_deed true Forwarded x) x)) (eq-eqb 
 pub fewer_forwarded : (s : ℕ) (d e : DomainState) → is_ready d s ≡ true → EachSource d.sources e.sources (changed_at s (with_deed true Forwarded)) → e ≡ with_sources d e.sources
     → cond e.genmsi_waits 1 0 + count_by waits e.sources < cond d.genmsi_waits 1 0 + count_by waits d.sources
 fewer_forwarded s d e ready each rest =
-    let less = one_less d.sources e.sources (changed_at s (with_deed true Forwarded)) s each (λ i x. fewer_at (nat_eq s i) x) (and_parts (d.msi && d.on) (waits_of (slice_get d.sources s)) ready).1 (falls_at s) in
+    let less = one_less d.sources e.sources (changed_at s (with_deed true Forwarded)) s each (λ i x. fewer_at (nat_eq s i) x) (and_parts (d.msi && d.on) (waits_at d.sources s) ready).1 (falls_at s) in
     let fewer : count_by waits e.sources < count_by waits d.sources = subst (λ n. count_by waits e.sources < n) (count_is d.sources) (subst (λ n. n < count d.sources) (count_is e.sources) less) in
     let same : cond e.genmsi_waits 1 0 ≡ cond d.genmsi_waits 1 0 = ap (λ (x : DomainState). cond x.genmsi_waits 1 0) rest in
     subst (λ n. n + count_by waits e.sources < cond d.genmsi_waits 1 0 + count_by waits d.sources) (sym same) (omega (arith, fewer))

@@ -2,8 +2,9 @@
 use Rattle.std.proofs.Common.{◌≡◌, ℕ, zero, suc, ◌<◌, ◌≤◌, Bool, true, false, ◌&&◌, List, [], ◌∷◌, length, slice_get, get_or, Option, Some, None, MatchOption, ◌⊎◌, inl, inr, refl, sym, ap, subst, ◌∙◌, arith}
 use Rattle.std.specs.List.{Contains, AllPairs}
 use Rattle.std.proofs.lemmas.Bool.{cases_lt, and_parts, and_right}
+use Rattle.std.specs.Option.{option_map_or}
 use Rattle.std.proofs.lemmas.Option.{slice_get_past, slice_get-get_or}
-use Rattle.aia_domain.specs.Entry.{EntryState, waits_of}
+use Rattle.aia_domain.specs.Entry.{EntryState, waits, waits_at}
 use Rattle.aia_domain.specs.Domain.{DomainState, ready_from}
 use Rattle.aia_domain.specs.Domain as kept
 use Rattle.aia_domain.proofs.ReadyLemmas.{from_members, from_each, from_rising}
@@ -28,7 +29,7 @@ use Rattle.aia_aplic.proofs.OrderLaw.{all_in_order, all_genmsi, all_sources, sou
 pub ready_within : (d : DomainState) (s : ℕ) → kept.is_ready d s ≡ true → s < length d.sources
 ready_within d s ready = elim (cases_lt s (length d.sources)) [
   | inl p ↦ p
-  | inr p ↦ let none : false ≡ true = sym (ap waits_of (slice_get_past d.sources s p)) ∙ (and_parts (d.msi && d.on) (waits_of (slice_get d.sources s)) ready).1 in absurd (cc)
+  | inr p ↦ let none : false ≡ true = sym (ap (λ (o : Option EntryState). option_map_or waits o false) (slice_get_past d.sources s p)) ∙ (and_parts (d.msi && d.on) (waits_at d.sources s) ready).1 in absurd (cc)
 ]
 
 regroup : (a b c d : Bool) → (a && b && c && d) ≡ (a && b && (c && d))
@@ -41,8 +42,8 @@ pub ready_is : (d : DomainState) (past : Past) (name : DomainName) (s : ℕ) →
 ready_is d past name s stands low =
     let within : s < length d.sources = subst (λ n. s < n) (sym stands.count) low in
     let found : slice_get d.sources s ≡ Some (get_or d.sources s (entry_of past name s)) = slice_get-get_or d.sources s (entry_of past name s) within in
-    ap (λ m. m && d.on && waits_of (slice_get d.sources s)) stands.msi ∙ ap (λ o. is_msi past name && o && waits_of (slice_get d.sources s)) stands.on
-    ∙ ap (λ (o : Option EntryState). is_msi past name && is_on past name && waits_of o) (found ∙ ap (λ (x : EntryState). Some x) (stands.each s (get_or d.sources s (entry_of past name s)) found))
+    ap (λ m. m && d.on && waits_at d.sources s) stands.msi ∙ ap (λ o. is_msi past name && o && waits_at d.sources s) stands.on
+    ∙ ap (λ (o : Option EntryState). is_msi past name && is_on past name && option_map_or waits o false) (found ∙ ap (λ (x : EntryState). Some x) (stands.each s (get_or d.sources s (entry_of past name s)) found))
     ∙ sym (regroup (is_msi past name) (is_on past name) (pending past name s) (enabled past name s))
 
 -- no source has the number 0
@@ -85,7 +86,7 @@ least_yielded d old new (Some x) gives is = first_ready d x new (is ∙ gives)
 pub none_by_mode : (d : DomainState) → (d.msi && d.on) ≡ false → (s : ℕ) → kept.is_ready d s ≡ false
 none_by_mode d off s = at d.msi d.on off
   where
-    at : (m o : Bool) → (m && o) ≡ false → (m && o && waits_of (slice_get d.sources s)) ≡ false
+    at : (m o : Bool) → (m && o) ≡ false → (m && o && waits_at d.sources s) ≡ false
     at true true e = absurd (cc)
     at true false e = refl
     at false o e = refl

@@ -5,7 +5,7 @@ use Rattle.aia_regs.specs.declared.domain_registers.DomainReg.TheVariants.{Domai
 use Rattle.aia_regs.specs.Word.{settle}
 use Rattle.aia_source.specs.declared.mode.Mode.{Mode}
 use Rattle.aia_source.specs.Wired.{is_level, rectified, says}
-use Rattle.aia_source.specs.Wired.SourceDeed.{LevelGiven, Forwarded, Configured, Activated, Switched, Untouched}
+use Rattle.aia_source.specs.Wired.SourceDeed.{LevelGiven, Forwarded, Configured, Switched, Untouched}
 use Rattle.aia_source.specs.Registers.{domaincfg_kept, is_by_msi, root_sourcecfg, child_sourcecfg, delegates, mode_of, touch, same_bool}
 use Rattle.aia_source.specs.Top.{is_top}
 use Rattle.aia_model.specs.declared.domain_name.DomainName.{DomainName}
@@ -69,11 +69,11 @@ driven t level past Child s law = at (nat_eq t s)
     at false l e = unheard (mode past Child s) (is_msi past Child) (input past Child s) (pending past Child s) None l e (law l e)
 
 -- the mode of a source is written where `b`, and stays where not; a source whose mode is not written has the register c
-configured : (b written active msi wire was : Bool) (new c : ℕ) → (b ≡ false → written ≡ false) → (is_level (mode_of c) ≡ true → msi ≡ false → was ≡ rectified (mode_of c) wire)
-    → let m = mode_of (unwrap_or (when written new) c) in is_level m ≡ true → msi ≡ false → settle (says m msi (rectified (mode_of c) wire) (rectified m wire) (cond b (cond active Configured Activated) Untouched)) was ≡ rectified m wire
-configured true written active msi wire was new c only law = λ l e. begun (mode_of (unwrap_or (when written new) c)) msi (rectified (mode_of c) wire) (rectified (mode_of (unwrap_or (when written new) c)) wire) was active l
-configured false true active msi wire was new c only law = let bad : true ≡ false = only refl in cc
-configured false false active msi wire was new c only law = λ l e. unheard (mode_of c) msi (rectified (mode_of c) wire) was None l e (law l e)
+configured : (b written msi wire was : Bool) (new c : ℕ) → (b ≡ false → written ≡ false) → (is_level (mode_of c) ≡ true → msi ≡ false → was ≡ rectified (mode_of c) wire)
+    → let m = mode_of (unwrap_or (when written new) c) in is_level m ≡ true → msi ≡ false → settle (says m msi (rectified (mode_of c) wire) (rectified m wire) (cond b Configured Untouched)) was ≡ rectified m wire
+configured true written msi wire was new c only law = λ l e. begun (mode_of (unwrap_or (when written new) c)) msi (rectified (mode_of c) wire) (rectified (mode_of (unwrap_or (when written new) c)) wire) was l
+configured false true msi wire was new c only law = let bad : true ≡ false = only refl in cc
+configured false false msi wire was new c only law = λ l e. unheard (mode_of c) msi (rectified (mode_of c) wire) was None l e (law l e)
 
 switched : (m : Mode) (msi msi' r was : Bool) → (is_level m ≡ true → msi ≡ false → was ≡ r) → is_level m ≡ true → msi' ≡ false → settle (says m msi r r (cond (same_bool msi msi') Untouched Switched)) was ≡ r
 switched m msi msi' r was law l e = at (same_bool msi msi') refl
@@ -86,13 +86,13 @@ switched m msi msi' r was law l e = at (same_bool msi msi') refl
 written_root : (reg : DomainReg) (v : ℕ) (past : Past) (s : ℕ) → IsLawful past Root s → IsLawful (Written Root reg v ∷ past) Root s
 unfolding newest wire_of pending
 written_root DomainCfg v past s law = switched (mode past Root s) (is_msi past Root) (is_by_msi (domaincfg_kept v)) (input past Root s) (pending past Root s) law
-written_root (SourceCfg i) v past s law = configured (is_register_of past i s) (is_register_of past i s) (owns past Root s) (is_msi past Root) (wire_of past s) (pending past Root s) (root_sourcecfg v) (root_sourcecfg_of past s) (λ e. e) law
+written_root (SourceCfg i) v past s law = configured (is_register_of past i s) (is_register_of past i s) (is_msi past Root) (wire_of past s) (pending past Root s) (root_sourcecfg v) (root_sourcecfg_of past s) (λ e. e) law
 written_root reg v past s law = λ l e. unheard (mode past Root s) (is_msi past Root) (input past Root s) (pending past Root s) (touch reg v s) l e (law l e)
 
 written_child : (reg : DomainReg) (v : ℕ) (past : Past) (s : ℕ) → IsLawful past Child s → IsLawful (Written Child reg v ∷ past) Child s
 unfolding newest wire_of pending
 written_child DomainCfg v past s law = switched (mode past Child s) (is_msi past Child) (is_by_msi (domaincfg_kept v)) (input past Child s) (pending past Child s) law
-written_child (SourceCfg i) v past s law = configured (is_register_of past i s) (is_register_of past i s && is_delegated past s) (owns past Child s) (is_msi past Child) (wire_of past s) (pending past Child s) (child_sourcecfg v) (newest (child_told s) past) (λ e. ap (λ (b : Bool). b && is_delegated past s) e) law
+written_child (SourceCfg i) v past s law = configured (is_register_of past i s) (is_register_of past i s && is_delegated past s) (is_msi past Child) (wire_of past s) (pending past Child s) (child_sourcecfg v) (newest (child_told s) past) (λ e. ap (λ (b : Bool). b && is_delegated past s) e) law
 written_child reg v past s law = λ l e. unheard (mode past Child s) (is_msi past Child) (input past Child s) (pending past Child s) (touch reg v s) l e (law l e)
 
 -- a write of a register of the other domain

@@ -1,7 +1,8 @@
 -- A domain that stands for the past reads what the past says.
-use Rattle.std.proofs.Common.{◌≡◌, ◌≢◌, ℕ, zero, suc, ◌*◌, ◌<◌, ◌≤◌, Bool, true, false, not, cond, ◌&&◌, nat_eq, [], ◌∷◌, length, slice_get, get_or, Some, None, unwrap_or, ◌⊎◌, inl, inr, refl, sym, ap, subst, ◌∙◌, arith}
+use Rattle.std.proofs.Common.{◌≡◌, ◌≢◌, ℕ, zero, suc, ◌*◌, ◌<◌, ◌≤◌, Bool, true, false, not, cond, ◌&&◌, nat_eq, [], ◌∷◌, length, slice_get, get_or, Some, None, unwrap_or, ◌⊎◌, inl, inr, refl, sym, ap, subst, ◌∙◌, arith, Option}
 use Rattle.std.proofs.lemmas.Bool.{cases_eq, cases_lt, eq-eqb, ne_eqb, cond-true, cond-false, and_right}
 use Rattle.std.proofs.lemmas.Bool.Decides.{nat_tests}
+use Rattle.std.specs.Option.{option_map_or}
 use Rattle.std.proofs.lemmas.Option.{slice_get_past, slice_get-get_or}
 use Rattle.aia_word.specs.Sets.{word_of}
 use Rattle.std.specs.Int.{is_in_range}
@@ -16,7 +17,7 @@ use Rattle.aia_source.specs.declared.kept.TheConstants.{DELEGATED}
 use Rattle.aia_source.specs.Registers.{legal_mode, root_sourcecfg, child_sourcecfg, delegates, mode_of, mode_number, domaincfg_read}
 use Rattle.aia_domain.specs.declared.entry.Look.{Look}
 use Rattle.aia_domain.specs.declared.entry.Look.TheVariants as looks
-use Rattle.aia_domain.specs.Entry.{EntryState, sourcecfg_shown, bit_shown, bit_of, bit_at_source, target_of}
+use Rattle.aia_domain.specs.Entry.{EntryState, sourcecfg_shown, bit_shown, bit_at_source}
 use Rattle.aia_domain.specs.Entry as kept
 use Rattle.aia_domain.specs.Domain.{DomainState, domain_read}
 use Rattle.aia_model.specs.declared.domain_name.DomainName.{DomainName}
@@ -86,11 +87,11 @@ said-zero looks.Enable past d = (entry-idle past d 0).enabled (mode-zero past d)
 
 pub shown-stands : (look : Look) (d : DomainState) (past : Past) (name : DomainName) (s : ℕ) → DomainStands d past name → bit_at_source d.sources look s ≡ (is_source past s && said look past name s)
 shown-stands look d past name s stands = elim (place d past name s stands) [
-  | inl p ↦ ap (bit_of look) p.1 ∙ shown_said look past name s ∙ elim (cases_eq s 0) [
+  | inl p ↦ ap (λ (o : Option EntryState). option_map_or (bit_shown look) o false) p.1 ∙ shown_said look past name s ∙ elim (cases_eq s 0) [
     | inl e ↦ ap (said look past name) e ∙ said-zero look past name ∙ sym (ap (λ (b : Bool). b && said look past name s) (zero_not (sources_in past) s e))
     | inr ne ↦ sym (ap (λ (b : Bool). b && said look past name s) (there (sources_in past) s p.0 ne))
   ]
-  | inr p ↦ ap (bit_of look) p.1 ∙ sym (ap (λ (b : Bool). b && said look past name s) (not_there (sources_in past) s p.0))
+  | inr p ↦ ap (λ (o : Option EntryState). option_map_or (bit_shown look) o false) p.1 ∙ sym (ap (λ (b : Bool). b && said look past name s) (not_there (sources_in past) s p.0))
 ]
 
 same_sets : (f g : ℕ → Bool) → ((s : ℕ) → f s ≡ g s) → f ≡ g
@@ -184,12 +185,12 @@ read-stands (InClrIp k) d past name plain stands = word-stands looks.Input d pas
 read-stands (SetIe k) d past name plain stands = word-stands looks.Enable d past name k stands
 read-stands GenMsi d past name plain stands = stands.genmsi
 read-stands (SourceCfg i) d past name plain stands = elim (place d past name i stands) [
-  | inl p ↦ numbered (sourcecfg_of past name) past i _ p.0 (config_zero past name) (ap (kept.sourcecfg_of d.leaf) p.1 ∙ ap (λ (b : Bool). sourcecfg_shown b (entry_of past name i)) stands.leaf ∙ config_shown past name i)
-  | inr p ↦ ap (kept.sourcecfg_of d.leaf) p.1 ∙ sym (cond-false _ _ _ (not_there (sources_in past) i p.0))
+  | inl p ↦ numbered (sourcecfg_of past name) past i _ p.0 (config_zero past name) (ap (λ (o : Option EntryState). option_map_or (sourcecfg_shown d.leaf) o 0) p.1 ∙ ap (λ (b : Bool). sourcecfg_shown b (entry_of past name i)) stands.leaf ∙ config_shown past name i)
+  | inr p ↦ ap (λ (o : Option EntryState). option_map_or (sourcecfg_shown d.leaf) o 0) p.1 ∙ sym (cond-false _ _ _ (not_there (sources_in past) i p.0))
 ]
 read-stands (Target i) d past name plain stands = elim (place d past name i stands) [
-  | inl p ↦ numbered (target past name) past i _ p.0 ((entry-idle past name 0).target (mode-zero past name)) (ap target_of p.1)
-  | inr p ↦ ap target_of p.1 ∙ sym (cond-false _ _ _ (not_there (sources_in past) i p.0))
+  | inl p ↦ numbered (target past name) past i _ p.0 ((entry-idle past name 0).target (mode-zero past name)) (ap (λ (o : Option EntryState). option_map_or (λ (x : EntryState). x.target) o 0) p.1)
+  | inr p ↦ ap (λ (o : Option EntryState). option_map_or (λ (x : EntryState). x.target) o 0) p.1 ∙ sym (cond-false _ _ _ (not_there (sources_in past) i p.0))
 ]
 read-stands (IDelivery hart) d past name plain stands = cc
 read-stands (IForce hart) d past name plain stands = cc

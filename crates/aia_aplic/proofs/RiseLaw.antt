@@ -6,7 +6,7 @@ use Rattle.aia_regs.specs.Word.{settle}
 use Rattle.aia_source.specs.declared.mode.Mode.{Mode}
 use Rattle.aia_source.specs.declared.mode.Mode.TheVariants.{Inactive, Detached, RisingEdge, FallingEdge, LevelHigh, LevelLow}
 use Rattle.aia_source.specs.Wired.{SourceDeed, is_active, is_level, detached_says, edge_says, says}
-use Rattle.aia_source.specs.Wired.SourceDeed.{LevelGiven, Set, Cleared, Claimed, Forwarded, Configured, Activated, Switched, Untouched}
+use Rattle.aia_source.specs.Wired.SourceDeed.{LevelGiven, Set, Cleared, Claimed, Forwarded, Configured, Switched, Untouched}
 use Rattle.aia_source.specs.Registers.{domaincfg_kept, is_by_msi, root_sourcecfg, child_sourcecfg, mode_of, touch, deed_of_touch, same_bool}
 use Rattle.aia_source.specs.declared.touch.Touch.{Touch}
 use Rattle.aia_source.specs.declared.touch.Touch.TheVariants.{SetPending, ClearPending, SetEnable, ClearEnable}
@@ -15,59 +15,29 @@ use Rattle.aia_model.specs.declared.domain_name.DomainName.{DomainName}
 use Rattle.aia_model.specs.Act.{Past, newest, when}
 use Rattle.aia_model.specs.declared.domain_name.DomainName.TheVariants.{Root, Child}
 use Rattle.aia_model.specs.Act.Act.{Written}
+use Rattle.aia_aplic.proofs.Steps.{entry-idle}
 use Rattle.aia_model.specs.SourceOf.{is_register_of, root_sourcecfg_of, is_delegated, child_told, mode, owns, input, is_msi, deed_of_write, deed, pending, top_in}
 
 -- ---- a sourcecfg at an active source
 
-stays_at : (m : Mode) (msi before after was b active : Bool) → active ≡ true → is_active m ≡ true → is_level m ≡ false → settle (says m msi before after (cond b (cond active Configured Activated) Untouched)) was ≡ was
-stays_at Inactive msi before after was b active old new l = cc
-stays_at LevelHigh msi before after was b active old new l = cc
-stays_at LevelLow msi before after was b active old new l = cc
-stays_at Detached msi before after was true true old new l = refl
-stays_at RisingEdge msi before after was true true old new l = refl
-stays_at FallingEdge msi before after was true true old new l = refl
-stays_at Detached msi before after was true false old new l = cc
-stays_at RisingEdge msi before after was true false old new l = cc
-stays_at FallingEdge msi before after was true false old new l = cc
-stays_at Detached msi before after was false active old new l = refl
-stays_at RisingEdge msi before after was false active old new l = refl
-stays_at FallingEdge msi before after was false active old new l = refl
+stays_at : (m : Mode) (msi before after was b : Bool) → is_active m ≡ true → is_level m ≡ false → settle (says m msi before after (cond b Configured Untouched)) was ≡ was
+stays_at Inactive msi before after was b new l = cc
+stays_at LevelHigh msi before after was b new l = cc
+stays_at LevelLow msi before after was b new l = cc
+stays_at Detached msi before after was true new l = refl
+stays_at RisingEdge msi before after was true new l = refl
+stays_at FallingEdge msi before after was true new l = refl
+stays_at Detached msi before after was false new l = refl
+stays_at RisingEdge msi before after was false new l = refl
+stays_at FallingEdge msi before after was false new l = refl
 
 pub stays : (past : Past) (d : DomainName) (i v s : ℕ) → owns past d s ≡ true → owns (Written d (SourceCfg i) v ∷ past) d s ≡ true → is_level (mode (Written d (SourceCfg i) v ∷ past) d s) ≡ false
     → pending (Written d (SourceCfg i) v ∷ past) d s ≡ pending past d s
 unfolding pending
-stays past Root i v s old new l = stays_at (mode (Written Root (SourceCfg i) v ∷ past) Root s) (is_msi past Root) (input past Root s) (input (Written Root (SourceCfg i) v ∷ past) Root s) (pending past Root s) (is_register_of past i s) (owns past Root s) old new l
-stays past Child i v s old new l = stays_at (mode (Written Child (SourceCfg i) v ∷ past) Child s) (is_msi past Child) (input past Child s) (input (Written Child (SourceCfg i) v ∷ past) Child s) (pending past Child s) (is_register_of past i s) (owns past Child s) old new l
+stays past Root i v s old new l = stays_at (mode (Written Root (SourceCfg i) v ∷ past) Root s) (is_msi past Root) (input past Root s) (input (Written Root (SourceCfg i) v ∷ past) Root s) (pending past Root s) (is_register_of past i s) new l
+stays past Child i v s old new l = stays_at (mode (Written Child (SourceCfg i) v ∷ past) Child s) (is_msi past Child) (input past Child s) (input (Written Child (SourceCfg i) v ∷ past) Child s) (pending past Child s) (is_register_of past i s) new l
 
--- ---- a sourcecfg at an inactive source
-
-begins_at : (m : Mode) (msi before after was b active : Bool) → active ≡ false → is_level m ≡ false → (b ≡ false → is_active m ≡ false) → settle (says m msi before after (cond b (cond active Configured Activated) Untouched)) was ≡ false
-begins_at Inactive msi before after was b active old l still = refl
-begins_at LevelHigh msi before after was b active old l still = cc
-begins_at LevelLow msi before after was b active old l still = cc
-begins_at Detached msi before after was true true old l still = cc
-begins_at RisingEdge msi before after was true true old l still = cc
-begins_at FallingEdge msi before after was true true old l still = cc
-begins_at Detached msi before after was true false old l still = refl
-begins_at RisingEdge msi before after was true false old l still = refl
-begins_at FallingEdge msi before after was true false old l still = refl
-begins_at Detached msi before after was false active old l still = let bad : true ≡ false = still refl in cc
-begins_at RisingEdge msi before after was false active old l still = let bad : true ≡ false = still refl in cc
-begins_at FallingEdge msi before after was false active old l still = let bad : true ≡ false = still refl in cc
-
--- a register that is not written gives the mode that it gave
-unwritten : (b : Bool) (new c : ℕ) → is_active (mode_of c) ≡ false → b ≡ false → is_active (mode_of (unwrap_or (when b new) c)) ≡ false
-unwritten true new c old e = cc
-unwritten false new c old e = old
-
-pub begins : (past : Past) (d : DomainName) (i v s : ℕ) → owns past d s ≡ false → is_level (mode (Written d (SourceCfg i) v ∷ past) d s) ≡ false → pending (Written d (SourceCfg i) v ∷ past) d s ≡ false
-unfolding newest pending
-begins past Root i v s old l = begins_at (mode (Written Root (SourceCfg i) v ∷ past) Root s) (is_msi past Root) (input past Root s) (input (Written Root (SourceCfg i) v ∷ past) Root s) (pending past Root s) (is_register_of past i s) (owns past Root s) old l
-    (unwritten (is_register_of past i s) (root_sourcecfg v) (root_sourcecfg_of past s) old)
-begins past Child i v s old l = begins_at (mode (Written Child (SourceCfg i) v ∷ past) Child s) (is_msi past Child) (input past Child s) (input (Written Child (SourceCfg i) v ∷ past) Child s) (pending past Child s) (is_register_of past i s) (owns past Child s) old l
-    (λ e. unwritten (is_register_of past i s && is_delegated past s) (child_sourcecfg v) (newest (child_told s) past) old (ap (λ (b : Bool). b && is_delegated past s) e))
-
--- ---- a write that does not ask
+-- ---- a deed that does not ask
 
 -- a deed that can make a source pending whose mode is no level
 abbrev asks : SourceDeed → Bool
@@ -82,7 +52,6 @@ detached_unasked Cleared was e none = refl
 detached_unasked Claimed was e none = refl
 detached_unasked Forwarded was e none = refl
 detached_unasked Configured was e none = none
-detached_unasked Activated was e none = refl
 detached_unasked Switched was e none = none
 detached_unasked Untouched was e none = none
 
@@ -98,6 +67,20 @@ unasked_at FallingEdge msi before after does was e l none = edge_unasked before 
 unasked_at LevelHigh msi before after does was e l none = cc
 unasked_at LevelLow msi before after does was e l none = cc
 
+-- ---- a sourcecfg at an inactive source
+
+-- nothing is pending before, since the source is inactive, and its sourcecfg does not ask
+begins_at : (m : Mode) (msi before after was b : Bool) → was ≡ false → is_level m ≡ false → settle (says m msi before after (cond b Configured Untouched)) was ≡ false
+begins_at m msi before after was true none l = unasked_at m msi before after Configured was refl l none
+begins_at m msi before after was false none l = unasked_at m msi before after Untouched was refl l none
+
+pub begins : (past : Past) (d : DomainName) (i v s : ℕ) → owns past d s ≡ false → is_level (mode (Written d (SourceCfg i) v ∷ past) d s) ≡ false → pending (Written d (SourceCfg i) v ∷ past) d s ≡ false
+unfolding newest pending
+begins past Root i v s old l = begins_at (mode (Written Root (SourceCfg i) v ∷ past) Root s) (is_msi past Root) (input past Root s) (input (Written Root (SourceCfg i) v ∷ past) Root s) (pending past Root s) (is_register_of past i s) ((entry-idle past Root s).pending old) l
+begins past Child i v s old l = begins_at (mode (Written Child (SourceCfg i) v ∷ past) Child s) (is_msi past Child) (input past Child s) (input (Written Child (SourceCfg i) v ∷ past) Child s) (pending past Child s) (is_register_of past i s) ((entry-idle past Child s).pending old) l
+
+-- ---- a store that does not ask
+
 unasked_touch : (t : Option Touch) → t ≢ Some SetPending → asks (deed_of_touch t) ≡ false
 unasked_touch None e = refl
 unasked_touch (Some SetPending) e = absurd (e refl)
@@ -106,12 +89,11 @@ unasked_touch (Some SetEnable) e = refl
 unasked_touch (Some ClearEnable) e = refl
 
 unasked_write : (past : Past) (d : DomainName) (reg : DomainReg) (v s : ℕ) → touch reg v s ≢ Some SetPending → asks (deed_of_write past d reg v s) ≡ false
-unasked_write past d (SourceCfg i) v s e = at (is_register_of past i s) (owns past d s)
+unasked_write past d (SourceCfg i) v s e = at (is_register_of past i s)
   where
-    at : (b active : Bool) → asks (cond b (cond active Configured Activated) Untouched) ≡ false
-    at true true = refl
-    at true false = refl
-    at false active = refl
+    at : (b : Bool) → asks (cond b Configured Untouched) ≡ false
+    at true = refl
+    at false = refl
 unasked_write past d DomainCfg v s e = at (same_bool (is_msi past d) (is_by_msi (domaincfg_kept v)))
   where
     at : (b : Bool) → asks (cond b Untouched Switched) ≡ false

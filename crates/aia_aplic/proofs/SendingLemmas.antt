@@ -19,7 +19,7 @@ use Rattle.aia_model.specs.Event.Event.{Accepted, Delivered}
 use Rattle.aia_model.specs.AddressOf.{addresses_of}
 use Rattle.aia_aplic.specs.Side.{entry_of}
 use Rattle.aia_aplic.proofs.Steps.{entry-idle, same_target}
-use Rattle.aia_aplic.proofs.SentSteps.{harts_sent, forward_says, forwarded, sent_elsewhere}
+use Rattle.aia_aplic.proofs.SentSteps.{forward_says, forwarded, sent_elsewhere}
 use Rattle.aia_aplic.proofs.AddressSteps.{addresses_sent}
 use Rattle.aia_source.proofs.ListLemmas.{filter_none, filter_rest}
 use Rattle.aia_aplic.specs.Senders.{SendsBefore}
@@ -178,10 +178,14 @@ none_between [] = begun_none
 none_between (Accepted line ∷ h) = none_wait (with_act (act_of line) (acts_of h))
 none_between (Delivered msi ∷ h) = none_between h
 
--- the harts stay
-harts_by : (xs : List Sender) (past : Past) → harts_in (sent_by xs past) ≡ harts_in past
-harts_by [] past = refl
-harts_by (x ∷ xs) past = harts_by xs (Sent x ∷ past) ∙ harts_sent x past
+-- the harts and the sources stay
+sizes_sent : (sender : Sender) (past : Past) → ◌≡◌ {A = ℕ × ℕ} (harts_in (Sent sender ∷ past), sources_in (Sent sender ∷ past)) (harts_in past, sources_in past)
+unfolding newest
+sizes_sent sender past = refl
 
-pub harts_settled : (past : Past) → harts_in (settled past) ≡ harts_in past
-harts_settled past = harts_by (senders past) past
+sizes_by : (xs : List Sender) (past : Past) → ◌≡◌ {A = ℕ × ℕ} (harts_in (sent_by xs past), sources_in (sent_by xs past)) (harts_in past, sources_in past)
+sizes_by [] past = refl
+sizes_by (x ∷ xs) past = sizes_by xs (Sent x ∷ past) ∙ sizes_sent x past
+
+pub sizes_settled : (past : Past) → ◌≡◌ {A = ℕ × ℕ} (harts_in (settled past), sources_in (settled past)) (harts_in past, sources_in past)
+sizes_settled past = sizes_by (senders past) past

@@ -1,30 +1,35 @@
 -- What each act makes of a source in a domain.
-use Rattle.std.proofs.Common.{◌≡◌, ℕ, Bool, true, false, cond, ◌&&◌, [], ◌∷◌, Option, Some, None, unwrap_or, refl, sym}
-use Rattle.std.proofs.lemmas.Bool.{cond-false}
+use Rattle.std.proofs.Common.{◌≡◌, ℕ, Bool, true, false, not, cond, ◌&&◌, ◌||◌, [], ◌∷◌, Option, Some, None, unwrap_or, refl, sym, ap}
+use Rattle.std.proofs.lemmas.Bool.{cond-true}
 use Rattle.aia_regs.specs.Word.{Word, settle}
 use Rattle.aia_regs.specs.Word.Word.{Ask, Clear, Nothing}
 use Rattle.aia_source.specs.declared.mode.Mode.{Mode}
 use Rattle.aia_source.specs.declared.mode.Mode.TheVariants.{Inactive, Detached, RisingEdge, FallingEdge, LevelHigh, LevelLow}
 use Rattle.aia_source.specs.Wired.{SourceDeed, done, is_active, rectified, says}
 use Rattle.aia_source.specs.Wired.SourceDeed.{Untouched}
-use Rattle.aia_source.specs.Registers.{target_kept}
+use Rattle.aia_source.specs.Registers.{first_target, target_kept, same_bool}
 use Rattle.aia_domain.specs.Entry.{EntryState, with_deed, with_enable, aimed}
 use Rattle.aia_model.specs.declared.domain_name.DomainName.{DomainName}
 use Rattle.aia_model.specs.Act.{Act, Past}
-use Rattle.aia_model.specs.SourceOf.{wire_of, is_delegated, mode, owns, is_msi, enable_asked, enable_word, enabled, target_told, target_after, target, deed, pending, top_in}
+use Rattle.aia_model.specs.SourceOf.{wire_of, is_delegated, mode, owns, is_msi, enable_said, enabled, target_told, target, deed, pending, top_in}
 use Rattle.aia_aplic.specs.Side.{entry_of}
 
--- what a step makes of what was entry_of, by what the act says
+-- the target that a step leaves, given whether the source was and is active, the delivery mode before and after, and what was
+-- kept
+abbrev pub target_after : Bool → Bool → Bool → Bool → ℕ → ℕ
+target_after before after msi msi' kept = cond (not after) 0 (cond (not before || not (same_bool msi msi')) (first_target msi') kept)
+
+-- what a step makes of what was kept, by what the act says
 abbrev pub stepped : Mode → Bool → Bool → Bool → Bool → Option ℕ → Word → SourceDeed → EntryState → EntryState
 stepped mode' wire' msi msi' delegated' aim asked does x = record {
   source = done msi does mode' wire' x.source;
-  enabled = settle (enable_word (is_active x.source.mode) (is_active mode') asked) x.enabled;
+  enabled = is_active x.source.mode && is_active mode' && settle asked x.enabled;
   target = target_after (is_active x.source.mode) (is_active mode') msi msi' (unwrap_or aim x.target);
   delegated = delegated';
 }
 
 pub entry-step : (a : Act) (past : Past) (d : DomainName) (s : ℕ) →
-    entry_of (a ∷ past) d s ≡ stepped (mode (a ∷ past) d s) (wire_of (a ∷ past) s) (is_msi past d) (is_msi (a ∷ past) d) (is_delegated (a ∷ past) s) (target_told d s past a) (enable_asked d s a) (deed (top_in (pending past d) past d) past a d s) (entry_of past d s)
+    entry_of (a ∷ past) d s ≡ stepped (mode (a ∷ past) d s) (wire_of (a ∷ past) s) (is_msi past d) (is_msi (a ∷ past) d) (is_delegated (a ∷ past) s) (target_told d s past a) (enable_said d s a) (deed (top_in (pending past d) past d) past a d s) (entry_of past d s)
 unfolding pending enabled target
 entry-step a past d s = refl
 
@@ -47,14 +52,14 @@ unfolding pending enabled target
 entry-idle [] d s = record { pending = λ e. refl; enabled = λ e. refl; target = λ e. refl }
 entry-idle (a ∷ past) d s = record {
   pending = λ e. said_nothing (mode (a ∷ past) d s) _ _ _ _ _ e;
-  enabled = λ e. no_enable (owns past d s) (owns (a ∷ past) d s) _ _ e;
-  target = λ e. cond-false _ _ _ e;
+  enabled = λ e. no_enable (owns past d s) (owns (a ∷ past) d s) (enable_said d s a) (enabled past d s) e;
+  target = λ e. cond-true _ _ _ (ap not e);
 }
   where
-    no_enable : (before after : Bool) (w : Word) (was : Bool) → after ≡ false → settle (enable_word before after w) was ≡ false
-    no_enable before true w was e = cc
+    no_enable : (before after : Bool) (w : Word) (was : Bool) → after ≡ false → (before && after && settle w was) ≡ false
+    no_enable true true w was e = cc
     no_enable true false w was e = refl
-    no_enable false false w was e = refl
+    no_enable false after w was e = refl
 
 -- ---- acts that leave mode, wire and delivery mode
 
@@ -66,7 +71,7 @@ same_mode_says FallingEdge msi r was idle = refl
 same_mode_says LevelHigh msi r was idle = refl
 same_mode_says LevelLow msi r was idle = refl
 
-pub same_enable : (b : Bool) (was : Bool) → (b ≡ false → was ≡ false) → settle (enable_word b b Nothing) was ≡ was
+pub same_enable : (b : Bool) (was : Bool) → (b ≡ false → was ≡ false) → (b && b && was) ≡ was
 same_enable true was idle = refl
 same_enable false was idle = sym (idle refl)
 
@@ -93,7 +98,7 @@ step-deed msi x does idle = λ i. record {
   delegated = x.delegated;
 }
 
-enable_set : (e b was : Bool) → settle (enable_word b b (cond e Ask Clear)) was ≡ (b && e)
+enable_set : (e b was : Bool) → (b && b && settle (cond e Ask Clear) was) ≡ (b && e)
 enable_set true true was = refl
 enable_set false true was = refl
 enable_set e false was = refl

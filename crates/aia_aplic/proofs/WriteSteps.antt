@@ -9,7 +9,7 @@ use Rattle.aia_regs.specs.Word.Word.{Nothing}
 use Rattle.aia_source.specs.declared.mode.Mode.{Mode}
 use Rattle.aia_source.specs.declared.mode.Mode.TheVariants.{Inactive, Detached, RisingEdge, FallingEdge, LevelHigh, LevelLow}
 use Rattle.aia_source.specs.Wired.{done, is_active, rectified, says}
-use Rattle.aia_source.specs.Wired.SourceDeed.{Set, Cleared, Configured, Activated, Switched, Untouched}
+use Rattle.aia_source.specs.Wired.SourceDeed.{Set, Cleared, Configured, Switched, Untouched}
 use Rattle.aia_source.specs.declared.kept.TheConstants.{DELEGATED}
 use Rattle.aia_source.specs.Registers.{domaincfg_kept, is_by_msi, root_sourcecfg, child_sourcecfg, delegates, mode_of, touch, deed_of_touch, enable_of_touch, first_target, target_kept, same_bool, is_named}
 use Rattle.aia_source.specs.declared.touch.Touch.{Touch}
@@ -19,9 +19,9 @@ use Rattle.aia_domain.specs.Domain.{source_changed}
 use Rattle.aia_model.specs.Act.{Past, newest, when}
 use Rattle.aia_model.specs.declared.domain_name.DomainName.TheVariants.{Root, Child}
 use Rattle.aia_model.specs.Act.Act.{Written}
-use Rattle.aia_model.specs.SourceOf.{harts_in, sources_in, is_register_of, wire_of, root_sourcecfg_of, is_delegated, child_told, is_msi, enable_word, target_after}
+use Rattle.aia_model.specs.SourceOf.{harts_in, sources_in, is_register_of, wire_of, root_sourcecfg_of, is_delegated, child_told, is_msi}
 use Rattle.aia_aplic.specs.Side.{entry_of}
-use Rattle.aia_aplic.proofs.Steps.{stepped, entry-step, entry-idle, IsIdle, step-nothing, step-deed, step-enable, step-aim, said_nothing, same_enable}
+use Rattle.aia_aplic.proofs.Steps.{stepped, target_after, entry-step, entry-idle, IsIdle, step-nothing, step-deed, step-enable, step-aim, said_nothing, same_enable}
 
 -- a store to a register that touches bits alone
 touch-step : (t : Option Touch) (msi : Bool) (x : EntryState) → IsIdle x → stepped x.source.mode x.source.wire msi msi x.delegated None (enable_of_touch t) (deed_of_touch t) x ≡ touched msi t x
@@ -44,7 +44,7 @@ switched_says LevelHigh msi msi' r was = refl
 switched_says LevelLow msi msi' r was = refl
 
 switched_target : (b msi msi' : Bool) (was : ℕ) → same_bool msi msi' ≡ false → target_after b b msi msi' was ≡ cond b (first_target msi') 0
-switched_target true msi msi' was e = ap (λ s. cond s was (first_target msi')) e
+switched_target true msi msi' was e = ap (λ s. cond (not s) (first_target msi') was) e
 switched_target false msi msi' was e = refl
 
 pub same_bools : (a b : Bool) → same_bool a b ≡ true → a ≡ b
@@ -65,21 +65,16 @@ touch-switch msi msi' x idle = at (same_bool msi msi') refl
       delegated = x.delegated;
     }
 
-configured_enable : (a b e : Bool) → settle (enable_word a b Nothing) e ≡ (a && b && e)
-configured_enable true true e = refl
-configured_enable true false e = refl
-configured_enable false b e = refl
-
 configured_target : (a b msi : Bool) (t : ℕ) → target_after a b msi msi t ≡ cond b (cond a t (first_target msi)) 0
 configured_target a false msi t = refl
 configured_target true true true t = refl
 configured_target true true false t = refl
 configured_target false true msi t = refl
 
-pub step-configure : (mode' : Mode) (msi delegated' : Bool) (x : EntryState) → stepped mode' x.source.wire msi msi delegated' None Nothing (cond (is_active x.source.mode) Configured Activated) x ≡ record (configured msi mode' x) { delegated = delegated' }
+pub step-configure : (mode' : Mode) (msi delegated' : Bool) (x : EntryState) → stepped mode' x.source.wire msi msi delegated' None Nothing Configured x ≡ record (configured msi mode' x) { delegated = delegated' }
 step-configure mode' msi delegated' x = λ i. record {
-  source = done msi (cond (is_active x.source.mode) Configured Activated) mode' x.source.wire x.source;
-  enabled = configured_enable (is_active x.source.mode) (is_active mode') x.enabled i;
+  source = done msi Configured mode' x.source.wire x.source;
+  enabled = is_active x.source.mode && is_active mode' && x.enabled;
   target = configured_target (is_active x.source.mode) (is_active mode') msi x.target i;
   delegated = delegated';
 }
@@ -88,14 +83,14 @@ step-configure mode' msi delegated' x = λ i. record {
 pub step-inactive : (msi delegated' : Bool) (x : EntryState) → stepped Inactive x.source.wire msi msi delegated' None Nothing Untouched x ≡ record (configured msi Inactive x) { delegated = delegated' }
 step-inactive msi delegated' x = λ i. record {
   source = record { mode = Inactive; wire = x.source.wire; pending = false };
-  enabled = configured_enable (is_active x.source.mode) false x.enabled i;
+  enabled = is_active x.source.mode && false && x.enabled;
   target = 0;
   delegated = delegated';
 }
 
 -- the register of a source of domain 0 is written
 root-config : (b msi : Bool) (v c : ℕ) (x : EntryState) → IsIdle x → x.source.mode ≡ mode_of c → x.delegated ≡ nat_eq c DELEGATED
-    → stepped (mode_of (unwrap_or (when b (root_sourcecfg v)) c)) x.source.wire msi msi (nat_eq (unwrap_or (when b (root_sourcecfg v)) c) DELEGATED) None Nothing (cond b (cond (is_active x.source.mode) Configured Activated) Untouched) x
+    → stepped (mode_of (unwrap_or (when b (root_sourcecfg v)) c)) x.source.wire msi msi (nat_eq (unwrap_or (when b (root_sourcecfg v)) c) DELEGATED) None Nothing (cond b Configured Untouched) x
     ≡ cond b (sourcecfg_written false msi v x) x
 root-config true msi v c x idle e g = step-configure (mode_of (root_sourcecfg v)) msi (delegates (root_sourcecfg v)) x
 root-config false msi v c x idle e g = ap (λ m. stepped m x.source.wire msi msi (nat_eq c DELEGATED) None Nothing Untouched x) (sym e) ∙ ap (λ k. stepped x.source.mode x.source.wire msi msi k None Nothing Untouched x) (sym g) ∙ step-nothing msi x idle
@@ -139,9 +134,9 @@ child-none (Written Child (SourceCfg i) v ∷ past) s e = ap (λ (o : Option ℕ
     none false = refl
 child-none (a ∷ past) s e = child-none past s e
 
-child-idle : (msi : Bool) (x : EntryState) → IsIdle x → is_active x.source.mode ≡ false → with_deed msi Activated x ≡ x
-child-idle msi x idle off = λ i. record {
-  source = record { mode = x.source.mode; wire = x.source.wire; pending = (said_nothing x.source.mode msi (rectified x.source.mode x.source.wire) (rectified x.source.mode x.source.wire) Activated x.source.pending off ∙ sym (idle.pending off)) i };
+pub inactive-stays : (msi : Bool) (x : EntryState) → IsIdle x → is_active x.source.mode ≡ false → with_deed msi Configured x ≡ x
+inactive-stays msi x idle off = λ i. record {
+  source = record { mode = x.source.mode; wire = x.source.wire; pending = (said_nothing x.source.mode msi (rectified x.source.mode x.source.wire) (rectified x.source.mode x.source.wire) Configured x.source.pending off ∙ sym (idle.pending off)) i };
   enabled = x.enabled;
   target = x.target;
   delegated = x.delegated;
@@ -149,17 +144,16 @@ child-idle msi x idle off = λ i. record {
 
 -- the register of a source of domain 1 is written
 child-config : (b delegated msi : Bool) (v c : ℕ) (x : EntryState) → IsIdle x → x.source.mode ≡ mode_of c → x.delegated ≡ delegated → (delegated ≡ false → c ≡ 0)
-    → stepped (mode_of (unwrap_or (when (b && delegated) (child_sourcecfg v)) c)) x.source.wire msi msi delegated None Nothing (cond b (cond (is_active x.source.mode) Configured Activated) Untouched) x
+    → stepped (mode_of (unwrap_or (when (b && delegated) (child_sourcecfg v)) c)) x.source.wire msi msi delegated None Nothing (cond b Configured Untouched) x
     ≡ cond b (sourcecfg_written true msi v x) x
 child-config false delegated msi v c x idle e g none = ap (λ m. stepped m x.source.wire msi msi delegated None Nothing Untouched x) (sym e) ∙ ap (λ k. stepped x.source.mode x.source.wire msi msi k None Nothing Untouched x) (sym g) ∙ step-nothing msi x idle
 child-config true true msi v c x idle e g none =
     step-configure (mode_of (child_sourcecfg v)) msi true x ∙ ap (λ k. record (configured msi (mode_of (child_sourcecfg v)) x) { delegated = k }) (sym g) ∙ sym (ap (λ (k : Bool). cond k (configured msi (mode_of (child_sourcecfg v)) x) x) g)
 child-config true false msi v c x idle e g none =
     let off : is_active x.source.mode ≡ false = ap is_active (e ∙ ap mode_of (none refl)) in
-    ap (λ m. stepped m x.source.wire msi msi false None Nothing (cond (is_active x.source.mode) Configured Activated) x) (sym e)
-    ∙ ap (λ (b : Bool). stepped x.source.mode x.source.wire msi msi false None Nothing (cond b Configured Activated) x) off
-    ∙ ap (λ k. stepped x.source.mode x.source.wire msi msi k None Nothing Activated x) (sym g)
-    ∙ step-deed msi x Activated idle ∙ child-idle msi x idle off ∙ sym (ap (λ (k : Bool). cond k (configured msi (mode_of (child_sourcecfg v)) x) x) g)
+    ap (λ m. stepped m x.source.wire msi msi false None Nothing Configured x) (sym e)
+    ∙ ap (λ k. stepped x.source.mode x.source.wire msi msi k None Nothing Configured x) (sym g)
+    ∙ step-deed msi x Configured idle ∙ inactive-stays msi x idle off ∙ sym (ap (λ (k : Bool). cond k (configured msi (mode_of (child_sourcecfg v)) x) x) g)
 
 pub child_written : (reg : DomainReg) (v : ℕ) (past : Past) (s : ℕ) → s < suc (sources_in past)
     → entry_of (Written Child reg v ∷ past) Child s ≡ source_changed true (harts_in past) (is_msi past Child) reg v s (entry_of past Child s)

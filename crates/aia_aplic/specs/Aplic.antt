@@ -18,18 +18,18 @@ abbrev pub side : AplicState → DomainName → SideState
 side a Root = a.root
 side a Child = a.child
 
--- All is kept as the past makes it. Profile.
+-- All is kept as the past makes it.
 pub record AplicStands (a : AplicState) (past : Past) : Type 0 where
   pub root : SideStands a.root past Root
   pub child : SideStands a.child past Child
   pub addresses : a.addresses ≡ addresses_of past
 
--- The domain with a number: 0 the root domain, 1 its child. Profile.
+-- The domain with a number: 0 the root domain, 1 its child.
 abbrev pub domain_name : ℕ → DomainName
 domain_name zero = Root
 domain_name (suc d) = Child
 
--- An APLIC as a machine begins. Profile.
+-- An APLIC as a machine begins.
 pub record IsNewAplic (source_count hart_count : ℕ) (a : AplicState) : Type 0 where
   pub root : IsNewSide source_count hart_count false a.root
   pub child : IsNewSide source_count hart_count true a.child

@@ -1,4 +1,5 @@
 -- What a write makes of the delivery controls of harts.
+-- AIA 1.0, APLIC, "Interrupt delivery directly by the APLIC".
 use Rattle.std.specs.Prelude.{ℕ, Bool, true, false, nat_eq, if◌then◌else◌, List, get_or, Option, Some, None}
 use Rattle.aia_regs.specs.declared.domain_registers.DomainReg.{DomainReg}
 use Rattle.aia_regs.specs.declared.domain_registers.DomainReg.TheVariants.{IDelivery, IForce, IThreshold, TopI, ClaimI}

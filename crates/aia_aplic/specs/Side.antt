@@ -9,7 +9,7 @@ use Rattle.aia_model.specs.Act.{Past, is_domain}
 use Rattle.aia_model.specs.declared.domain_name.DomainName.TheVariants.{Child}
 use Rattle.aia_model.specs.SourceOf.{harts_in, sources_in, wire_of, is_delegated, mode, is_on, is_msi, enabled, target, pending, genmsi_of, genmsi_waits, idelivery_of, iforce_of, ithreshold_of}
 
--- What the past makes of a source in a domain. Vocabulary.
+-- What the past makes of a source in a domain.
 abbrev pub entry_of : Past → DomainName → ℕ → EntryState
 entry_of past d s = record {
   source = record { mode = mode past d s; wire = wire_of past s; pending = pending past d s };
@@ -18,7 +18,7 @@ entry_of past d s = record {
   delegated = is_delegated past s;
 }
 
--- What a domain keeps is what the past makes of it. Profile.
+-- What a domain keeps is what the past makes of it.
 pub record DomainStands (d : DomainState) (past : Past) (name : DomainName) : Type 0 where
   pub leaf : d.leaf ≡ is_domain name Child
   pub harts : d.harts ≡ harts_in past
@@ -29,14 +29,19 @@ pub record DomainStands (d : DomainState) (past : Past) (name : DomainName) : Ty
   pub count : length d.sources ≡ suc (sources_in past)
   pub each : (s : ℕ) (x : EntryState) → slice_get d.sources s ≡ Some x → x ≡ entry_of past name s
 
--- What the past makes of a hart's delivery control in a domain. Profile.
+-- What the past makes of a hart's delivery control in a domain.
 abbrev pub control : Past → DomainName → ℕ → IdcState
-control past d hart = record { idelivery = nat_eq (idelivery_of past d hart) 1; iforce = nat_eq (iforce_of past d hart) 1; ithreshold = ithreshold_of past d hart }
+control past d hart = record {
+  idelivery = nat_eq (idelivery_of past d hart) 1;
+  iforce = nat_eq (iforce_of past d hart) 1;
+  ithreshold = ithreshold_of past d hart;
+}
 
--- The delivery controls that are kept are what the past makes of them. Profile.
+-- The delivery controls that are kept are what the past makes of them.
 pub record ControlsStand (controls : List IdcState) (past : Past) (name : DomainName) : Type 0 where
   pub count : length controls ≡ harts_in past
-  pub each : (hart : ℕ) (c : IdcState) → slice_get controls hart ≡ Some c → c ≡ control past name hart
+  pub each : (hart : ℕ) (c : IdcState) → slice_get controls hart ≡ Some c
+      → c ≡ control past name hart
 
 -- A domain with the delivery controls of its harts.
 pub record SideState : Type 0 where
@@ -47,7 +52,7 @@ pub record SideStands (a : SideState) (past : Past) (name : DomainName) : Type 0
   pub domain : DomainStands a.domain past name
   pub controls : ControlsStand a.controls past name
 
--- How it begins. Profile.
+-- How it begins.
 pub record IsNewSide (source_count hart_count : ℕ) (leaf : Bool) (a : SideState) : Type 0 where
   pub domain : IsNewDomain source_count hart_count leaf a.domain
   pub count : length a.controls ≡ hart_count

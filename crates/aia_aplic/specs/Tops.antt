@@ -15,4 +15,5 @@ pub record IsOnTop (past : Past) (d : DomainName) (hart : ℕ) (p : Pair) : Type
   pub waits : pending past d p.1 ≡ true
   pub here : is_for past d hart p.1 ≡ true
   pub priority : p.0 ≡ priority_of (target past d p.1)
-  pub least : (s : ℕ) → 1 ≤ s → s ≤ sources_in past → pending past d s ≡ true → is_for past d hart s ≡ true → ComesFirst p (priority_of (target past d s), s)
+  pub least : (s : ℕ) → 1 ≤ s → s ≤ sources_in past → pending past d s ≡ true
+      → is_for past d hart s ≡ true → ComesFirst p (priority_of (target past d s), s)

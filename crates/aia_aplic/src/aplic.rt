@@ -39,8 +39,8 @@ impl Model for Aplic {
 }
 
 impl Aplic {
-    /// The APLIC of `harts` harts, up to 4, and `sources` wired sources, 1 to 1023: every source is
-    /// inactive, and every register 0 but `domaincfg`.
+    /// Makes the APLIC of `harts` harts, up to 4, and `sources` wired sources, 1 to 1023: every
+    /// source is inactive, and every register 0 but `domaincfg`.
     pub fn new(alloc: Global, harts: u32, sources: u32) -> Result<Aplic, AllocError>
         requires some { 1 ≤ sources }
         requires few { sources ≤ SOURCES }
@@ -57,7 +57,7 @@ impl Aplic {
         })
     }
 
-    /// How many wired sources there are, up to 1023.
+    /// Tells how many wired sources there are, up to 1023.
     pub fn sources(&self) -> u32
         ensures count { (past : Past) → AplicStands self.now past → result ≡ sources_in past }
         ensures few { result ≤ SOURCES }
@@ -65,15 +65,16 @@ impl Aplic {
         self.root.sources()
     }
 
-    /// The wire of a source gets a level; a number that is no source's changes none.
+    /// Gives the wire of a source a level; a number that is no source's changes none.
     pub fn wire(&mut self, s: u32, level: bool)
-        ensures { (past : Past) → AplicStands self.old past → AplicStands self.new (Driven s level ∷ past) }
+        ensures { (past : Past) → AplicStands self.old past
+            → AplicStands self.new (Driven s level ∷ past) }
     {
         self.root.wire(s, level);
         self.child.wire(s, level);
     }
 
-    /// The register at an offset of a domain's control region is read: domain 0 is the root domain,
+    /// Loads the register at an offset of a domain's control region: domain 0 is the root domain,
     /// 1 its child. A load of a hart's `claimi` claims the source that it shows, or, where it shows
     /// none in a domain that delivers directly, makes its `iforce` 0.
     ///
@@ -82,7 +83,9 @@ impl Aplic {
         requires { domain ≤ 1 }
         ensures reads { (past : Past) → AplicStands self.old past →
             result ≡ register_read past (domain_name domain) (domain_register_of offset) }
-        ensures stands { (past : Past) → AplicStands self.old past → AplicStands self.new (Loaded (domain_name domain) (domain_register_of offset) ∷ past) }
+        ensures stands { (past : Past) → AplicStands self.old past
+            → AplicStands self.new (Loaded (domain_name domain)
+            (domain_register_of offset) ∷ past) }
     {
         self.load_register(domain_name(domain), domain_reg(offset))
     }
@@ -102,13 +105,15 @@ impl Aplic {
         }
     }
 
-    /// The register at an offset of a domain's control region is written: domain 0 is the root
+    /// Stores to the register at an offset of a domain's control region: domain 0 is the root
     /// domain, 1 its child.
     ///
     /// AIA 1.0, APLIC, "Memory-mapped control region for an interrupt domain".
     pub fn store(&mut self, domain: u32, offset: u32, value: u32)
         requires { domain ≤ 1 }
-        ensures { (past : Past) → AplicStands self.old past → AplicStands self.new (Written (domain_name domain) (domain_register_of offset) value ∷ past) }
+        ensures { (past : Past) → AplicStands self.old past
+            → AplicStands self.new (Written (domain_name domain)
+            (domain_register_of offset) value ∷ past) }
     {
         self.store_register(domain_name(domain), domain_reg(offset), value);
     }
@@ -124,7 +129,8 @@ impl Aplic {
     }
 
     fn store_root(&mut self, reg: DomainReg, value: u32)
-        ensures { (past : Past) → AplicStands self.old past → AplicStands self.new (Written Root reg value ∷ past) }
+        ensures { (past : Past) → AplicStands self.old past
+            → AplicStands self.new (Written Root reg value ∷ past) }
     {
         self.addresses.store(reg, value);
         self.root.store(reg, value);
@@ -133,15 +139,17 @@ impl Aplic {
         }
     }
 
-    /// Whether a hart is signalled by a domain, 0 or 1: the domain delivers directly and its
+    /// Tells whether a hart is signalled by a domain, 0 or 1: the domain delivers directly and its
     /// interrupts are enabled, the hart's `idelivery` is 1, and a source is on top for it or its
     /// `iforce` is 1. A hart that isn't there is not.
     ///
     /// AIA 1.0, APLIC, "Interrupt delivery directly by the APLIC".
     pub fn pin(&self, domain: u32, hart: u32) -> bool
         requires { domain ≤ 1 }
-        ensures signal { (past : Past) → AplicStands self.now past → hart < harts_in past → result ≡ is_signalled past (domain_name domain) hart }
-        ensures away { (past : Past) → AplicStands self.now past → harts_in past ≤ hart → result ≡ false }
+        ensures signal { (past : Past) → AplicStands self.now past → hart < harts_in past
+            → result ≡ is_signalled past (domain_name domain) hart }
+        ensures away { (past : Past) → AplicStands self.now past → harts_in past ≤ hart
+            → result ≡ false }
     {
         self.side(domain_name(domain)).signal(hart)
     }
@@ -155,7 +163,7 @@ impl Aplic {
         }
     }
 
-    /// The next MSI is sent: where a `genmsi` asked for one, that, the root domain's first; else
+    /// Sends the next MSI: where a `genmsi` asked for one, that, the root domain's first; else
     /// that of the least source that a domain is to forward, whose pending bit falls (our profile's
     /// order). `None` exactly where nothing waits. Called until it answers `None`, it gives all
     /// MSIs that wait, in order, and then none waits.
@@ -173,7 +181,7 @@ impl Aplic {
         Some(self.send(first))
     }
 
-    /// What waits first.
+    /// Tells what waits first, `None` where nothing waits.
     fn first_waiting(&self) -> Option<Sender>
         ensures first { (past : Past) → AplicStands self.now past → IsFirst result past }
         ensures waits { IfSome result (λ sender. does_wait self.now sender ≡ true) }
@@ -187,9 +195,10 @@ impl Aplic {
         self.first_source()
     }
 
-    /// The least source that is to be forwarded.
+    /// Gives the least source that is to be forwarded, `None` where none is.
     fn first_source(&self) -> Option<Sender>
-        ensures { IsFirstSource (is_ready self.now.root.domain) (is_ready self.now.child.domain) result }
+        ensures { IsFirstSource (is_ready self.now.root.domain)
+            (is_ready self.now.child.domain) result }
     {
         match (self.root.least_ready(), self.child.least_ready()) {
             (None, None) => None,
@@ -205,7 +214,7 @@ impl Aplic {
         }
     }
 
-    /// The MSI of a sender that waits is sent.
+    /// Sends the MSI of a sender that waits.
     fn send(&mut self, sender: Sender) -> Msi
         requires { does_wait self.old sender ≡ true }
         ensures msi { (past : Past) → AplicStands self.old past → result ≡ msi_of past sender }
@@ -226,7 +235,7 @@ impl Aplic {
     }
 }
 
-/// The domain with a number, 0 or 1.
+/// Gives the domain with a number, 0 or 1.
 fn domain_name(domain: u32) -> DomainName
     requires { domain ≤ 1 }
     ensures { result ≡ domain_name domain }

@@ -13,7 +13,7 @@ use aia_domain::Domain;
 use aia_regs::DomainReg;
 use std::alloc::{AllocError, Global};
 
-/// The controls of so many harts, as a machine begins.
+/// Makes the controls of so many harts, as a machine begins.
 pub(crate) fn new_controls(alloc: Global, harts: u32) -> Result<Vec<Idc>, AllocError>
     ensures length { IfOk result (λ controls. length controls.items ≡ harts) }
     ensures each { IfOk result (λ controls. All (λ c. c ≡ new_idc) controls.items) }
@@ -25,7 +25,7 @@ pub(crate) fn new_controls(alloc: Global, harts: u32) -> Result<Vec<Idc>, AllocE
     Ok(controls)
 }
 
-/// What a register of a control reads, of a hart that is there.
+/// Gives what a register of a control reads, of a hart that is there.
 pub(crate) fn load_control(controls: &[Idc], hart: u32, reg: DomainReg) -> u32
     requires { hart < length controls.now }
     ensures { result ≡ control_read (control_at controls.now hart) reg }
@@ -33,7 +33,7 @@ pub(crate) fn load_control(controls: &[Idc], hart: u32, reg: DomainReg) -> u32
     controls[hart as usize].load(reg)
 }
 
-/// A register is written, where it is one of a hart's control, and the hart is there.
+/// Writes a register, where it is one of a hart's control, and the hart is there.
 pub(crate) fn store_control(controls: &mut [Idc], reg: DomainReg, value: u32)
     ensures { EachControl controls.old controls.new (control_after reg value) }
 {
@@ -47,7 +47,7 @@ pub(crate) fn store_control(controls: &mut [Idc], reg: DomainReg, value: u32)
     }
 }
 
-/// What `topi` of a hart that is there reads.
+/// Gives what `topi` of a hart that is there reads.
 pub(crate) fn topi_of(controls: &[Idc], domain: &Domain, hart: u32) -> u32
     requires { hart < length controls.now }
     ensures { result ≡ topi_value (top_shown (control_at controls.now hart) domain.now hart) }
@@ -55,18 +55,19 @@ pub(crate) fn topi_of(controls: &[Idc], domain: &Domain, hart: u32) -> u32
     topi(&controls[hart as usize], domain, hart)
 }
 
-/// A load of `claimi` of a hart that is there.
+/// Loads `claimi` of a hart that is there.
 pub(crate) fn claim(controls: &mut [Idc], domain: &mut Domain, hart: u32) -> u32
     requires { hart < length controls.now }
     ensures value { result ≡ topi_value (top_shown (control_at controls.old hart) domain.old hart) }
     ensures controls { EachControl controls.old controls.new (claimed_at domain.old hart) }
-    ensures sources { EachSource domain.old.sources domain.new.sources (claimed_top (top_shown (control_at controls.old hart) domain.old hart)) }
+    ensures sources { EachSource domain.old.sources domain.new.sources
+        (claimed_top (top_shown (control_at controls.old hart) domain.old hart)) }
     ensures domain { domain.new ≡ with_sources domain.old domain.new.sources }
 {
     claimi(&mut controls[hart as usize], domain, hart)
 }
 
-/// Whether a hart that is there is signalled.
+/// Tells whether a hart that is there is signalled.
 pub(crate) fn signal_of(controls: &[Idc], domain: &Domain, hart: u32) -> bool
     requires { hart < length controls.now }
     ensures { result ≡ signals_hart (control_at controls.now hart) domain.now hart }

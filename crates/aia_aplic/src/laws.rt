@@ -9,11 +9,12 @@ ghost use Rattle.aia_model.specs.Sent.{forwards, senders, msi_of, msis, settled,
 ghost use Rattle.aia_aplic.specs.Senders.{SendsBefore};
 ghost use Rattle.aia_source.specs.Top.{Pair};
 ghost use Rattle.aia_aplic.specs.Tops.{IsOnTop};
+ghost use Rattle.aia_aplic.specs.Side.{entry_of};
 ghost use Rattle.aia_regs.specs.declared.domain_registers.DomainReg.{DomainReg};
 ghost use Rattle.aia_regs.specs.declared.domain_registers.DomainReg.TheVariants.{SourceCfg};
 ghost use Rattle.aia_source.specs.Wired.{is_level};
 ghost use Rattle.aia_source.specs.declared.touch.Touch.TheVariants.{SetPending};
-ghost use Rattle.aia_source.specs.Registers.{touch};
+ghost use Rattle.aia_source.specs.Registers.{touch, delegates, root_sourcecfg};
 ghost use Rattle.aia_model.specs.declared.domain_name.DomainName.{DomainName};
 ghost use Rattle.aia_model.specs.Act.{Act, Past};
 ghost use Rattle.aia_msiaddr.specs.Registers.{are_locked};
@@ -27,7 +28,8 @@ ghost use Rattle.aia_model.specs.SourceOf.{is_delegated, sourcecfg_of, mode, own
 ///
 /// AIA 1.0, APLIC, "Precise effects on interrupt-pending bits".
 pub fn a_level_source_follows_its_input()
-    ensures { (past : Past) (d : DomainName) (s : ℕ) → is_level (mode past d s) ≡ true → is_msi past d ≡ false → pending past d s ≡ input past d s }
+    ensures { (past : Past) (d : DomainName) (s : ℕ) → is_level (mode past d s) ≡ true
+        → is_msi past d ≡ false → pending past d s ≡ input past d s }
 {}
 
 /// Whatever has happened, no source is active in both domains.
@@ -42,10 +44,28 @@ pub fn a_source_has_one_owner_at_most()
 ///
 /// AIA 1.0, APLIC, "Memory-mapped control region for an interrupt domain". Our profile: the input.
 pub fn what_is_not_owned_is_zero()
-    ensures input { (past : Past) (d : DomainName) (s : ℕ) → owns past d s ≡ false → input past d s ≡ false }
-    ensures pending { (past : Past) (d : DomainName) (s : ℕ) → owns past d s ≡ false → pending past d s ≡ false }
-    ensures enabled { (past : Past) (d : DomainName) (s : ℕ) → owns past d s ≡ false → enabled past d s ≡ false }
-    ensures target { (past : Past) (d : DomainName) (s : ℕ) → owns past d s ≡ false → target past d s ≡ 0 }
+    ensures input { (past : Past) (d : DomainName) (s : ℕ) → owns past d s ≡ false
+        → input past d s ≡ false }
+    ensures pending { (past : Past) (d : DomainName) (s : ℕ) → owns past d s ≡ false
+        → pending past d s ≡ false }
+    ensures enabled { (past : Past) (d : DomainName) (s : ℕ) → owns past d s ≡ false
+        → enabled past d s ≡ false }
+    ensures target { (past : Past) (d : DomainName) (s : ℕ) → owns past d s ≡ false
+        → target past d s ≡ 0 }
+{}
+
+/// To delegate again what is delegated changes nothing: whatever has happened, every source's
+/// registers, and what both domains have of it (its mode, its pending and enable bits, its target),
+/// are as they were.
+///
+/// AIA 1.0, APLIC, "Interrupt domains". Our profile: the child keeps its register.
+pub fn to_delegate_again_changes_nothing()
+    ensures registers { (past : Past) (i v : ℕ) (d : DomainName) (s : ℕ)
+        → is_delegated past i ≡ true → delegates (root_sourcecfg v) ≡ true
+        → sourcecfg_of (Written Root (SourceCfg i) v ∷ past) d s ≡ sourcecfg_of past d s }
+    ensures sources { (past : Past) (i v : ℕ) (d : DomainName) (s : ℕ)
+        → is_delegated past i ≡ true → delegates (root_sourcecfg v) ≡ true
+        → entry_of (Written Root (SourceCfg i) v ∷ past) d s ≡ entry_of past d s }
 {}
 
 /// Whatever has happened, the child domain's register of a source that the root domain does not
@@ -63,8 +83,13 @@ pub fn what_is_not_delegated_is_zero_in_the_child()
 ///
 /// AIA 1.0, APLIC, "Precise effects on interrupt-pending bits".
 pub fn only_a_wire_makes_a_rise()
-    ensures stays { (past : Past) (d : DomainName) (i v s : ℕ) → owns past d s ≡ true → owns (Written d (SourceCfg i) v ∷ past) d s ≡ true → is_level (mode (Written d (SourceCfg i) v ∷ past) d s) ≡ false → pending (Written d (SourceCfg i) v ∷ past) d s ≡ pending past d s }
-    ensures begins { (past : Past) (d : DomainName) (i v s : ℕ) → owns past d s ≡ false → is_level (mode (Written d (SourceCfg i) v ∷ past) d s) ≡ false → pending (Written d (SourceCfg i) v ∷ past) d s ≡ false }
+    ensures stays { (past : Past) (d : DomainName) (i v s : ℕ) → owns past d s ≡ true
+        → owns (Written d (SourceCfg i) v ∷ past) d s ≡ true
+        → is_level (mode (Written d (SourceCfg i) v ∷ past) d s) ≡ false
+        → pending (Written d (SourceCfg i) v ∷ past) d s ≡ pending past d s }
+    ensures begins { (past : Past) (d : DomainName) (i v s : ℕ) → owns past d s ≡ false
+        → is_level (mode (Written d (SourceCfg i) v ∷ past) d s) ≡ false
+        → pending (Written d (SourceCfg i) v ∷ past) d s ≡ false }
     ensures unasked { (past : Past) (e d : DomainName) (reg : DomainReg) (v s : ℕ) →
         touch reg v s ≢ Some SetPending → is_level (mode (Written e reg v ∷ past) d s) ≡ false →
         pending past d s ≡ false → pending (Written e reg v ∷ past) d s ≡ false }
@@ -76,8 +101,11 @@ pub fn only_a_wire_makes_a_rise()
 ///
 /// AIA 1.0, APLIC, "Interrupt delivery directly by the APLIC".
 pub fn the_source_on_top_is_the_least_of_the_harts()
-    ensures found { (past : Past) (d : DomainName) (hart : ℕ) (p : Pair) → top past d hart ≡ Some p → IsOnTop past d hart p }
-    ensures none { (past : Past) (d : DomainName) (hart : ℕ) → is_msi past d ≡ false → ◌≡◌ {A = Option Pair} (top past d hart) None → (s : ℕ) → 1 ≤ s → s ≤ sources_in past → is_for past d hart s ≡ true → pending past d s ≡ false }
+    ensures found { (past : Past) (d : DomainName) (hart : ℕ) (p : Pair)
+        → top past d hart ≡ Some p → IsOnTop past d hart p }
+    ensures none { (past : Past) (d : DomainName) (hart : ℕ) → is_msi past d ≡ false
+        → ◌≡◌ {A = Option Pair} (top past d hart) None → (s : ℕ) → 1 ≤ s → s ≤ sources_in past
+        → is_for past d hart s ≡ true → pending past d s ≡ false }
 {}
 
 /// Whatever has happened, what waits to be sent is: what a `genmsi` asked for and has not sent, and
@@ -98,9 +126,13 @@ pub fn what_waits_is_genmsi_and_the_sources_that_are_ready()
 /// each with the address and the value that it had. So to send the first until none waits is to
 /// send them all, in order.
 pub fn msis_are_sent_one_after_another()
-    ensures senders { (past : Past) (sender : Sender) (later : List Sender) → senders past ≡ sender ∷ later → senders (Sent sender ∷ past) ≡ later }
-    ensures msis { (past : Past) (sender : Sender) (later : List Sender) → senders past ≡ sender ∷ later → msis past ≡ msi_of past sender ∷ msis (Sent sender ∷ past) }
-    ensures settled { (past : Past) (sender : Sender) (later : List Sender) → senders past ≡ sender ∷ later → settled past ≡ settled (Sent sender ∷ past) }
+    ensures senders { (past : Past) (sender : Sender) (later : List Sender)
+        → senders past ≡ sender ∷ later → senders (Sent sender ∷ past) ≡ later }
+    ensures msis { (past : Past) (sender : Sender) (later : List Sender)
+        → senders past ≡ sender ∷ later
+        → msis past ≡ msi_of past sender ∷ msis (Sent sender ∷ past) }
+    ensures settled { (past : Past) (sender : Sender) (later : List Sender)
+        → senders past ≡ sender ∷ later → settled past ≡ settled (Sent sender ∷ past) }
 {}
 
 /// When all that waits is sent, nothing waits; so it is between the lines of every history: no
@@ -115,13 +147,16 @@ pub fn nothing_waits_between_lines()
 ///
 /// AIA 1.0, APLIC, "Interrupt forwarding by MSIs".
 pub fn a_source_that_is_sent_is_no_longer_pending()
-    ensures falls { (past : Past) (d : DomainName) (s : ℕ) → is_msi past d ≡ true → pending (Sent (BySource d s) ∷ past) d s ≡ false }
-    ensures stays { (past : Past) (sender : Sender) (d : DomainName) (s : ℕ) → (sender ≡ BySource d s → ⊥) → pending (Sent sender ∷ past) d s ≡ pending past d s }
+    ensures falls { (past : Past) (d : DomainName) (s : ℕ) → is_msi past d ≡ true
+        → pending (Sent (BySource d s) ∷ past) d s ≡ false }
+    ensures stays { (past : Past) (sender : Sender) (d : DomainName) (s : ℕ)
+        → (sender ≡ BySource d s → ⊥) → pending (Sent sender ∷ past) d s ≡ pending past d s }
 {}
 
 /// Whatever happens after the registers of MSI addresses are locked, they stay as they are.
 ///
 /// AIA 1.0, APLIC, "Memory-mapped control region for an interrupt domain".
 pub fn locked_registers_of_addresses_stay()
-    ensures { (past : Past) (a : Act) → are_locked (addresses_of past) ≡ true → addresses_of (a ∷ past) ≡ addresses_of past }
+    ensures { (past : Past) (a : Act) → are_locked (addresses_of past) ≡ true
+        → addresses_of (a ∷ past) ≡ addresses_of past }
 {}

@@ -10,7 +10,7 @@ use aia_source::{hart_of, identity_of};
 /// The guest index of the child domain's MSIs (our profile).
 const NO_GUEST: u32 = 0;
 
-/// The domain that a sender is of.
+/// Gives the domain that a sender is of.
 pub(crate) fn domain_of(sender: Sender) -> DomainName
     ensures { result ≡ domain_of_sender sender }
 {
@@ -20,7 +20,7 @@ pub(crate) fn domain_of(sender: Sender) -> DomainName
     }
 }
 
-/// The MSI of a domain by a `genmsi` or a `target`.
+/// Gives the MSI of a domain by a `genmsi` or a `target`.
 pub(crate) fn msi_by(addresses: &Addresses, name: DomainName, register: u32) -> Msi
     ensures { result ≡ msi_by addresses.now name register }
 {

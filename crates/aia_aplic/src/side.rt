@@ -58,37 +58,45 @@ impl Side {
     }
 
     pub(crate) fn sources(&self) -> u32
-        ensures count { (past : Past) (name : DomainName) → SideStands self.now past name → result ≡ sources_in past }
+        ensures count { (past : Past) (name : DomainName) → SideStands self.now past name
+            → result ≡ sources_in past }
         ensures few { result ≤ SOURCES }
     {
         self.domain.sources()
     }
 
     pub(crate) fn wire(&mut self, s: u32, level: bool)
-        ensures { (past : Past) (name : DomainName) → SideStands self.old past name → SideStands self.new (Driven s level ∷ past) name }
+        ensures { (past : Past) (name : DomainName) → SideStands self.old past name
+            → SideStands self.new (Driven s level ∷ past) name }
     {
         self.domain.wire(s, level);
     }
 
-    /// A register is written.
+    /// Writes a register.
     pub(crate) fn store(&mut self, reg: DomainReg, value: u32)
-        ensures { (past : Past) (name : DomainName) → SideStands self.old past name → SideStands self.new (Written name reg value ∷ past) name }
+        ensures { (past : Past) (name : DomainName) → SideStands self.old past name
+            → SideStands self.new (Written name reg value ∷ past) name }
     {
         self.write(reg, value);
     }
 
     fn write(&mut self, reg: DomainReg, value: u32)
-        ensures sources { EachSource self.old.domain.sources self.new.domain.sources (source_after self.old.domain reg value) }
-        ensures domain { self.new.domain ≡ with_sources (domain_after reg value self.old.domain) self.new.domain.sources }
-        ensures controls { EachControl self.old.controls self.new.controls (control_after reg value) }
+        ensures sources { EachSource self.old.domain.sources self.new.domain.sources
+            (source_after self.old.domain reg value) }
+        ensures domain { self.new.domain
+            ≡ with_sources (domain_after reg value self.old.domain) self.new.domain.sources }
+        ensures controls { EachControl self.old.controls self.new.controls
+            (control_after reg value) }
     {
         self.domain.store(reg, value);
         store_control(&mut self.controls, reg, value);
     }
 
-    /// The root domain's `sourcecfg` of a source is written with this value; this is its child.
+    /// Hears that the root domain's `sourcecfg` of a source is written; this is its child.
     pub(crate) fn delegate(&mut self, s: u32, given: bool)
-        ensures { (past : Past) (v : ℕ) → given ≡ delegates (root_sourcecfg v) → SideStands self.old past Child → SideStands self.new (Written Root (DomainReg.SourceCfg s) v ∷ past) Child }
+        ensures { (past : Past) (v : ℕ) → given ≡ delegates (root_sourcecfg v)
+            → SideStands self.old past Child
+            → SideStands self.new (Written Root (DomainReg.SourceCfg s) v ∷ past) Child }
     {
         if given {
             self.domain.grant(s);
@@ -97,10 +105,12 @@ impl Side {
         }
     }
 
-    /// A register is read.
+    /// Reads a register.
     pub(crate) fn load(&mut self, reg: DomainReg) -> u32
-        ensures reads { (past : Past) (name : DomainName) → SideStands self.old past name → result ≡ own_read past name reg }
-        ensures stands { (past : Past) (name : DomainName) → SideStands self.old past name → SideStands self.new (Loaded name reg ∷ past) name }
+        ensures reads { (past : Past) (name : DomainName) → SideStands self.old past name
+            → result ≡ own_read past name reg }
+        ensures stands { (past : Past) (name : DomainName) → SideStands self.old past name
+            → SideStands self.new (Loaded name reg ∷ past) name }
     {
         match reg {
             DomainReg::IDelivery(hart) => self.load_control(hart, reg),
@@ -114,7 +124,8 @@ impl Side {
 
     fn load_control(&self, hart: u32, reg: DomainReg) -> u32
         requires { hart_of_register reg ≡ Some hart }
-        ensures { (past : Past) (name : DomainName) → SideStands self.now past name → result ≡ own_read past name reg }
+        ensures { (past : Past) (name : DomainName) → SideStands self.now past name
+            → result ≡ own_read past name reg }
     {
         if (hart as usize) < self.controls.len() {
             load_control(&self.controls, hart, reg)
@@ -124,7 +135,8 @@ impl Side {
     }
 
     fn topi(&self, hart: u32) -> u32
-        ensures { (past : Past) (name : DomainName) → SideStands self.now past name → result ≡ own_read past name (DomainReg.TopI hart) }
+        ensures { (past : Past) (name : DomainName) → SideStands self.now past name
+            → result ≡ own_read past name (DomainReg.TopI hart) }
     {
         if (hart as usize) < self.controls.len() {
             topi_of(&self.controls, &self.domain, hart)
@@ -134,8 +146,10 @@ impl Side {
     }
 
     fn claimi(&mut self, hart: u32) -> u32
-        ensures reads { (past : Past) (name : DomainName) → SideStands self.old past name → result ≡ own_read past name (DomainReg.ClaimI hart) }
-        ensures stands { (past : Past) (name : DomainName) → SideStands self.old past name → SideStands self.new (Loaded name (DomainReg.ClaimI hart) ∷ past) name }
+        ensures reads { (past : Past) (name : DomainName) → SideStands self.old past name
+            → result ≡ own_read past name (DomainReg.ClaimI hart) }
+        ensures stands { (past : Past) (name : DomainName) → SideStands self.old past name
+            → SideStands self.new (Loaded name (DomainReg.ClaimI hart) ∷ past) name }
     {
         if (hart as usize) < self.controls.len() {
             self.claim(hart)
@@ -146,22 +160,26 @@ impl Side {
 
     fn claim(&mut self, hart: u32) -> u32
         requires { hart < length self.old.controls }
-        ensures value { result ≡ topi_value (top_shown (control_at self.old.controls hart) self.old.domain hart) }
-        ensures controls { EachControl self.old.controls self.new.controls (claimed_at self.old.domain hart) }
-        ensures sources { EachSource self.old.domain.sources self.new.domain.sources (claimed_top (top_shown (control_at self.old.controls hart) self.old.domain hart)) }
+        ensures value { result
+            ≡ topi_value (top_shown (control_at self.old.controls hart) self.old.domain hart) }
+        ensures controls { EachControl self.old.controls self.new.controls
+            (claimed_at self.old.domain hart) }
+        ensures sources { EachSource self.old.domain.sources self.new.domain.sources
+            (claimed_top
+            (top_shown (control_at self.old.controls hart) self.old.domain hart)) }
         ensures domain { self.new.domain ≡ with_sources self.old.domain self.new.domain.sources }
     {
         claim(&mut self.controls, &mut self.domain, hart)
     }
 
-    /// Whether an MSI that `genmsi` asked for waits.
+    /// Tells whether an MSI that `genmsi` asked for waits.
     pub(crate) fn genmsi_waits(&self) -> bool
         ensures { result ≡ self.now.domain.genmsi_waits }
     {
         self.domain.genmsi_waits()
     }
 
-    /// The least source that is to be forwarded.
+    /// Gives the least source that is to be forwarded, `None` where none is.
     pub(crate) fn least_ready(&self) -> Option<u32>
         ensures { IsLeastOf (is_ready self.now.domain) result }
     {
@@ -171,7 +189,7 @@ impl Side {
         self.domain.ready().next()
     }
 
-    /// A sender of this domain sends its MSI: what that is made of.
+    /// Sends the MSI of a sender of this domain, and gives what it is made of.
     pub(crate) fn send(&mut self, sender: Sender) -> u32
         requires { waits_in self.old.domain sender ≡ true }
         ensures value { (past : Past) → SideStands self.old past (domain_of_sender sender) →
@@ -186,11 +204,13 @@ impl Side {
         }
     }
 
-    /// The MSI that `genmsi` asked for is sent: what `genmsi` keeps.
+    /// Sends the MSI that `genmsi` asked for, and gives what `genmsi` keeps.
     fn send_genmsi(&mut self) -> u32
         requires { self.old.domain.genmsi_waits ≡ true }
-        ensures value { (past : Past) (name : DomainName) → SideStands self.old past name → result ≡ genmsi_of past name }
-        ensures stands { (past : Past) (name : DomainName) → SideStands self.old past name → SideStands self.new (Sent (ByGenMsi name) ∷ past) name }
+        ensures value { (past : Past) (name : DomainName) → SideStands self.old past name
+            → result ≡ genmsi_of past name }
+        ensures stands { (past : Past) (name : DomainName) → SideStands self.old past name
+            → SideStands self.new (Sent (ByGenMsi name) ∷ past) name }
         ensures fewer { waiting_in self.new < waiting_in self.old }
     {
         self.take_genmsi()
@@ -208,11 +228,13 @@ impl Side {
         }
     }
 
-    /// A source is forwarded: its target.
+    /// Forwards a source, and gives its target.
     fn forward(&mut self, s: u32) -> u32
         requires { is_ready self.old.domain s ≡ true }
-        ensures value { (past : Past) (name : DomainName) → SideStands self.old past name → result ≡ target past name s }
-        ensures stands { (past : Past) (name : DomainName) → SideStands self.old past name → SideStands self.new (Sent (BySource name s) ∷ past) name }
+        ensures value { (past : Past) (name : DomainName) → SideStands self.old past name
+            → result ≡ target past name s }
+        ensures stands { (past : Past) (name : DomainName) → SideStands self.old past name
+            → SideStands self.new (Sent (BySource name s) ∷ past) name }
         ensures fewer { waiting_in self.new < waiting_in self.old }
     {
         self.forwarded(s)
@@ -220,7 +242,8 @@ impl Side {
 
     fn forwarded(&mut self, s: u32) -> u32
         ensures value { result ≡ (entry_at self.old.domain.sources s).target }
-        ensures sources { EachSource self.old.domain.sources self.new.domain.sources (changed_at s (with_deed true Forwarded)) }
+        ensures sources { EachSource self.old.domain.sources self.new.domain.sources
+            (changed_at s (with_deed true Forwarded)) }
         ensures domain { self.new.domain ≡ with_sources self.old.domain self.new.domain.sources }
         ensures controls { self.new.controls ≡ self.old.controls }
     {
@@ -229,10 +252,12 @@ impl Side {
         target
     }
 
-    /// Whether a hart is signalled; one that isn't there is not.
+    /// Tells whether a hart is signalled; one that isn't there is not.
     pub(crate) fn signal(&self, hart: u32) -> bool
-        ensures signal { (past : Past) (name : DomainName) → SideStands self.now past name → hart < harts_in past → result ≡ is_signalled past name hart }
-        ensures away { (past : Past) (name : DomainName) → SideStands self.now past name → harts_in past ≤ hart → result ≡ false }
+        ensures signal { (past : Past) (name : DomainName) → SideStands self.now past name
+            → hart < harts_in past → result ≡ is_signalled past name hart }
+        ensures away { (past : Past) (name : DomainName) → SideStands self.now past name
+            → harts_in past ≤ hart → result ≡ false }
     {
         (hart as usize) < self.controls.len() && signal_of(&self.controls, &self.domain, hart)
     }

@@ -1,4 +1,5 @@
 -- A hart's interrupt delivery control in a domain: what is on top for it, a claim, and its signal.
+-- AIA 1.0, APLIC, "Interrupt delivery directly by the APLIC".
 use Rattle.std.specs.Prelude.{ℕ, ◌-◌, ◌^◌, ◌<◌, ◌≤◌, Bool, false, not, ◌&&◌, ◌||◌, nat_eq, is_some, is_none, if◌then◌else◌, List, length, Option, Some, None}
 use Rattle.aia_regs.specs.declared.domain_registers.DomainReg.{DomainReg}
 use Rattle.aia_regs.specs.declared.domain_registers.DomainReg.TheVariants.{IDelivery, IForce, IThreshold}
@@ -12,7 +13,6 @@ use Rattle.aia_domain.specs.Entry.{EntryState, with_deed, entry_at}
 use Rattle.aia_domain.specs.Domain.{DomainState}
 
 -- idelivery, iforce and ithreshold.
--- AIA 1.0, APLIC, "Interrupt delivery directly by the APLIC".
 pub record IdcState : Type 0 where
   pub idelivery : Bool
   pub iforce : Bool
@@ -23,7 +23,7 @@ abbrev pub new_idc : IdcState
 new_idc = record { idelivery = false; iforce = false; ithreshold = 0 }
 
 -- What its registers read, and what a write of each keeps.
--- AIA 1.0, APLIC, "Interrupt delivery directly by the APLIC". Profile: a priority has 8 bits.
+-- Profile: a priority has 8 bits.
 abbrev pub control_read : IdcState → DomainReg → ℕ
 control_read c (IDelivery hart) = bit_number c.idelivery
 control_read c (IForce hart) = bit_number c.iforce
@@ -40,17 +40,20 @@ control_written reg v c = c
 
 -- The pair of a source, where it is pending, enabled and aimed at the hart, and the threshold lets
 -- its priority through.
--- AIA 1.0, APLIC, "Interrupt delivery directly by the APLIC".
 abbrev pub candidate : ℕ → ℕ → ℕ → EntryState → Option Pair
-candidate hart threshold s x = pair_if (x.source.pending && x.enabled && nat_eq (hart_of x.target) hart && lets_through threshold (priority_of x.target)) x.target s
+candidate hart threshold s x =
+    pair_if (x.source.pending && x.enabled && nat_eq (hart_of x.target) hart
+    && lets_through threshold (priority_of x.target)) x.target s
 
 abbrev pub candidate_at : List EntryState → ℕ → ℕ → ℕ → Option Pair
 candidate_at sources hart threshold s = candidate hart threshold s (entry_at sources s)
 
 -- The least pair of the domain's sources; none where the domain delivers by MSIs.
--- AIA 1.0, APLIC, "Interrupt delivery directly by the APLIC". Profile: the last.
+-- Profile: the last.
 abbrev pub top_shown : IdcState → DomainState → ℕ → Option Pair
-top_shown c d hart = if d.msi then None else least_pair (candidate_at d.sources hart c.ithreshold) 1 (length d.sources - 1)
+top_shown c d hart =
+    if d.msi then None
+    else least_pair (candidate_at d.sources hart c.ithreshold) 1 (length d.sources - 1)
 
 -- A pair that fits a register: 8 bits of priority, and a number of a source that may be there.
 abbrev pub IsSmall : Option Pair → Type 0
@@ -60,18 +63,17 @@ IsSmall (Some p) = (p.0 < 2 ^ 8) × (p.1 ≤ SOURCES)
 -- ---- a claim and the signal
 
 -- What a claim makes of a source, given what is on top: it claims the source that is shown.
--- AIA 1.0, APLIC, "Interrupt delivery directly by the APLIC".
 abbrev pub claimed_top : Option Pair → ℕ → EntryState → EntryState
 claimed_top top s x = if is_top top s then with_deed false Claimed x else x
 
 -- What it makes of the control: where it shows nothing in a domain that delivers directly, iforce
 -- becomes 0.
--- AIA 1.0, APLIC, "Interrupt delivery directly by the APLIC". Profile: by MSIs it does nothing.
+-- Profile: by MSIs it does nothing.
 abbrev pub control_claimed : Bool → Option Pair → IdcState → IdcState
 control_claimed msi top c = if not msi && is_none top then record c { iforce = false } else c
 
 -- Whether the hart is signalled: the domain delivers directly and is enabled, the control delivers,
 -- and a source is on top or iforce is 1.
--- AIA 1.0, APLIC, "Interrupt delivery directly by the APLIC".
 abbrev pub signals_hart : IdcState → DomainState → ℕ → Bool
-signals_hart c d hart = not d.msi && d.on && c.idelivery && (c.iforce || is_some (top_shown c d hart))
+signals_hart c d hart =
+    not d.msi && d.on && c.idelivery && (c.iforce || is_some (top_shown c d hart))

@@ -27,11 +27,15 @@ impl Model for Idc {
 
     ghost Value = { IdcState };
 
-    ghost view = { λ i. record { idelivery = i.idelivery; iforce = i.iforce; ithreshold = i.ithreshold } };
+    ghost view = { λ i. record {
+      idelivery = i.idelivery;
+      iforce = i.iforce;
+      ithreshold = i.ithreshold;
+    } };
 }
 
 impl Idc {
-    /// All three registers are 0.
+    /// Makes a control whose three registers are 0.
     pub fn new() -> Idc
         ensures { result ≡ new_idc }
     {
@@ -42,8 +46,8 @@ impl Idc {
         }
     }
 
-    /// What `idelivery`, `iforce` or `ithreshold` reads, whatever hart the register names; every
-    /// other register reads 0 here.
+    /// Gives what `idelivery`, `iforce` or `ithreshold` reads, whatever hart the register names;
+    /// every other register reads 0 here.
     pub fn load(&self, reg: DomainReg) -> u32
         ensures { result ≡ control_read self.now reg }
     {
@@ -55,7 +59,7 @@ impl Idc {
         }
     }
 
-    /// `idelivery`, `iforce` or `ithreshold` is written, whatever hart the register names; every
+    /// Writes `idelivery`, `iforce` or `ithreshold`, whatever hart the register names; every
     /// other register is nothing here.
     pub fn store(&mut self, reg: DomainReg, value: u32)
         ensures { self.new ≡ control_written reg value self.old }
@@ -69,8 +73,8 @@ impl Idc {
     }
 }
 
-/// What `topi` of a hart reads: the number and the priority of the pending enabled source aimed at
-/// the hart that has the least priority number, then the least number, among those that
+/// Gives what `topi` of a hart reads: the number and the priority of the pending enabled source
+/// aimed at the hart that has the least priority number, then the least number, among those that
 /// `ithreshold` lets through; 0 where there is none, and where the domain delivers by MSIs.
 ///
 /// AIA 1.0, APLIC, "Interrupt delivery directly by the APLIC".
@@ -83,15 +87,17 @@ pub fn topi(idc: &Idc, domain: &Domain, hart: u32) -> u32
     }
 }
 
-/// A load of `claimi` of a hart: it reads what `topi` reads and claims the source that it shows,
+/// Loads `claimi` of a hart: it reads what `topi` reads and claims the source that it shows,
 /// whose pending bit falls but at a level mode; where it reads 0, `iforce` becomes 0. Where the
 /// domain delivers by MSIs it reads 0 and does nothing (our profile).
 ///
 /// AIA 1.0, APLIC, "Interrupt delivery directly by the APLIC".
 pub fn claimi(idc: &mut Idc, domain: &mut Domain, hart: u32) -> u32
     ensures value { result ≡ topi_value (top_shown idc.old domain.old hart) }
-    ensures idc { idc.new ≡ control_claimed domain.old.msi (top_shown idc.old domain.old hart) idc.old }
-    ensures sources { EachSource domain.old.sources domain.new.sources (claimed_top (top_shown idc.old domain.old hart)) }
+    ensures idc { idc.new
+        ≡ control_claimed domain.old.msi (top_shown idc.old domain.old hart) idc.old }
+    ensures sources { EachSource domain.old.sources domain.new.sources
+        (claimed_top (top_shown idc.old domain.old hart)) }
     ensures domain { domain.new ≡ with_sources domain.old domain.new.sources }
 {
     if domain.delivers_by_msi() {
@@ -109,8 +115,8 @@ pub fn claimi(idc: &mut Idc, domain: &mut Domain, hart: u32) -> u32
     }
 }
 
-/// Whether the hart is signalled: the domain delivers directly and its interrupts are enabled,
-/// `idelivery` is 1, and a source is on top or `iforce` is 1.
+/// Tells whether the hart is signalled: the domain delivers directly and its interrupts are
+/// enabled, `idelivery` is 1, and a source is on top or `iforce` is 1.
 ///
 /// AIA 1.0, APLIC, "Interrupt delivery directly by the APLIC".
 pub fn signal(idc: &Idc, domain: &Domain, hart: u32) -> bool
@@ -122,7 +128,7 @@ pub fn signal(idc: &Idc, domain: &Domain, hart: u32) -> bool
         && (idc.iforce || top(idc, domain, hart).is_some())
 }
 
-/// The priority and the number of the source on top.
+/// Gives the priority and the number of the source on top, `None` where none is.
 fn top(idc: &Idc, domain: &Domain, hart: u32) -> Option<(u32, u32)>
     ensures value { result ≡ top_shown idc.now domain.now hart }
     ensures small { IsSmall result }
@@ -138,7 +144,7 @@ fn top(idc: &Idc, domain: &Domain, hart: u32) -> Option<(u32, u32)>
     least
 }
 
-/// The pair of a source, where it is to be shown to the hart.
+/// Gives the pair of a source, where it is to be shown to the hart.
 fn candidate(domain: &Domain, s: u32, hart: u32, threshold: u32) -> Option<(u32, u32)>
     requires there { s < length domain.now.sources }
     requires low { s ≤ SOURCES }
@@ -161,7 +167,7 @@ fn lets_through(threshold: u32, priority: u32) -> bool
     threshold == 0 || priority < threshold
 }
 
-/// The lesser of two pairs, by priority; of two with the same one the first.
+/// Gives the lesser of two pairs, by priority; the first where they have the same one.
 fn lesser(first: Option<(u32, u32)>, second: Option<(u32, u32)>) -> Option<(u32, u32)>
     requires first { IsSmall first }
     requires second { IsSmall second }

@@ -1,4 +1,5 @@
 -- A domain as it is kept: what a store makes of it, and what a load reads.
+-- AIA 1.0, APLIC, where no comment names another source; a heading of that chapter is named alone.
 use Rattle.std.specs.Prelude.{◌≡◌, ℕ, suc, ◌-◌, ◌*◌, Bool, true, false, ◌&&◌, if◌then◌else◌, List, length, All, slice_get, filter}
 use Rattle.std.specs.List.{range_with_len}
 use Rattle.aia_word.specs.Sets.{word_of}
@@ -6,11 +7,11 @@ use Rattle.aia_regs.specs.declared.domain_registers.DomainReg.{DomainReg}
 use Rattle.aia_regs.specs.declared.domain_registers.DomainReg.TheVariants.{DomainCfg, SourceCfg, SetIp, InClrIp, SetIe, GenMsi, Target}
 use Rattle.aia_source.specs.Registers.{domaincfg_kept, domaincfg_read, enables, is_by_msi, touch, genmsi_kept, same_bool}
 use Rattle.aia_domain.specs.declared.entry.Look.TheVariants as looks
-use Rattle.aia_domain.specs.Entry.{EntryState, new_entry, changed_at, written_at, touched, switched, aimed, waits_of, sourcecfg_of, target_of, bit_at_source}
+use Rattle.aia_domain.specs.Entry.{EntryState, new_entry, changed_at, written_at, touched, switched, aimed, waits_at, sourcecfg_at, target_at, bit_at_source}
 
 -- Whether it is a leaf of the tree of domains, which has no child; how many harts there are; IE and
 -- DM; genmsi, and whether an MSI that it asked for is still to be sent; the sources.
--- AIA 1.0, APLIC, "Interrupt domains".
+-- "Interrupt domains".
 pub record DomainState : Type 0 where
   pub leaf : Bool
   pub harts : ℕ
@@ -21,7 +22,8 @@ pub record DomainState : Type 0 where
   pub sources : List EntryState
 
 -- A domain as a machine begins: all its sources are inactive. Profile.
-pub record IsNewDomain (source_count hart_count : ℕ) (is_leaf : Bool) (d : DomainState) : Type 0 where
+pub record IsNewDomain (source_count hart_count : ℕ) (is_leaf : Bool) (d : DomainState)
+    : Type 0 where
   pub leaf : d.leaf ≡ is_leaf
   pub harts : d.harts ≡ hart_count
   pub on : d.on ≡ false
@@ -38,12 +40,11 @@ with_sources d sources = record d { sources = sources }
 -- ---- a store
 
 -- A domaincfg is written: where the delivery mode changes, all sources begin with it.
--- AIA 1.0, APLIC.
 abbrev pub configured_by : ℕ → Bool → ℕ → EntryState → EntryState
 configured_by cfg msi s x = if same_bool msi (is_by_msi cfg) then x else switched (is_by_msi cfg) x
 
 -- What a store of v to a register makes of source s. Number 0 names no source.
--- AIA 1.0, APLIC, "Memory-mapped control region for an interrupt domain".
+-- "Memory-mapped control region for an interrupt domain".
 abbrev pub source_changed : Bool → ℕ → Bool → DomainReg → ℕ → ℕ → EntryState → EntryState
 source_changed leaf harts msi DomainCfg v s x = configured_by (domaincfg_kept v) msi s x
 source_changed leaf harts msi (SourceCfg i) v s x = written_at i leaf msi v s x
@@ -56,37 +57,42 @@ source_after d reg v s x = source_changed d.leaf d.harts d.msi reg v s x
 
 -- What a store makes of the domain itself: domaincfg writes IE and DM; genmsi is written only where
 -- the domain delivers by MSIs, and a change of that makes it 0.
--- AIA 1.0, APLIC. Profile: what direct delivery and a change make of genmsi.
+-- Profile: what direct delivery and a change make of genmsi.
 abbrev pub domaincfg_written : Bool → Bool → Bool → DomainState → DomainState
-domaincfg_written same on msi d = if same then record d { on = on } else record d { on = on; msi = msi; genmsi = 0; genmsi_waits = false }
+domaincfg_written same on msi d =
+    if same then record d { on = on }
+    else record d { on = on; msi = msi; genmsi = 0; genmsi_waits = false }
 
 abbrev pub domain_after : DomainReg → ℕ → DomainState → DomainState
-domain_after DomainCfg v d = domaincfg_written (same_bool d.msi (is_by_msi (domaincfg_kept v))) (enables (domaincfg_kept v)) (is_by_msi (domaincfg_kept v)) d
-domain_after GenMsi v d = if d.msi then record d { genmsi = genmsi_kept d.harts v; genmsi_waits = true } else d
+domain_after DomainCfg v d =
+    domaincfg_written (same_bool d.msi (is_by_msi (domaincfg_kept v)))
+    (enables (domaincfg_kept v)) (is_by_msi (domaincfg_kept v)) d
+domain_after GenMsi v d =
+    if d.msi then record d { genmsi = genmsi_kept d.harts v; genmsi_waits = true } else d
 domain_after reg v d = d
 
 -- ---- a load
 
 -- What a load of a register reads: 0 where none is there. The registers of the harts' delivery are
 -- not kept here.
--- AIA 1.0, APLIC, "Memory-mapped control region for an interrupt domain".
+-- "Memory-mapped control region for an interrupt domain".
 abbrev pub domain_read : DomainState → DomainReg → ℕ
 domain_read d DomainCfg = domaincfg_read d.on d.msi
-domain_read d (SourceCfg i) = sourcecfg_of d.leaf (slice_get d.sources i)
+domain_read d (SourceCfg i) = sourcecfg_at d.sources d.leaf i
 domain_read d (SetIp k) = word_of (bit_at_source d.sources looks.Pending) (32 * k) 32
 domain_read d (InClrIp k) = word_of (bit_at_source d.sources looks.Input) (32 * k) 32
 domain_read d (SetIe k) = word_of (bit_at_source d.sources looks.Enable) (32 * k) 32
 domain_read d GenMsi = d.genmsi
-domain_read d (Target i) = target_of (slice_get d.sources i)
+domain_read d (Target i) = target_at d.sources i
 domain_read d reg = 0
 
 -- ---- what is to be sent
 
 -- Whether a source is to be forwarded: the domain delivers by MSIs and is enabled, and the source
 -- is pending and enabled.
--- AIA 1.0, APLIC, "Interrupt forwarding by MSIs".
+-- "Interrupt forwarding by MSIs".
 abbrev pub is_ready : DomainState → ℕ → Bool
-is_ready d s = d.msi && d.on && waits_of (slice_get d.sources s)
+is_ready d s = d.msi && d.on && waits_at d.sources s
 
 -- The sources that are to be forwarded, from a number on, rising.
 unfoldable pub ready_from : DomainState → ℕ → List ℕ

@@ -1,9 +1,11 @@
 -- What a domain keeps of one source, and what is done to it.
+-- AIA 1.0, APLIC, where no comment names another source.
 use Rattle.std.specs.Prelude.{◌≡◌, ℕ, Bool, true, false, not, ◌&&◌, nat_eq, if◌then◌else◌, List, slice_get, get_or, Option, Some, None, option_map}
+use Rattle.std.specs.Option.{option_map_or}
 use Rattle.aia_source.specs.declared.mode.Mode.{Mode}
 use Rattle.aia_source.specs.declared.mode.Mode.TheVariants.{Inactive}
 use Rattle.aia_source.specs.Wired.{WiredState, SourceDeed, new_wired, done, is_active, rectified}
-use Rattle.aia_source.specs.Wired.SourceDeed.{LevelGiven, Set, Cleared, Configured, Activated, Switched}
+use Rattle.aia_source.specs.Wired.SourceDeed.{LevelGiven, Set, Cleared, Configured, Switched}
 use Rattle.aia_source.specs.declared.kept.TheConstants.{DELEGATED}
 use Rattle.aia_source.specs.Registers.{root_sourcecfg, child_sourcecfg, delegates, mode_of, mode_number, first_target, target_kept, same_bool, is_named}
 use Rattle.aia_source.specs.declared.touch.Touch.{Touch}
@@ -15,7 +17,6 @@ use Rattle.aia_domain.specs.declared.entry.Look.TheVariants as looks
 
 -- The source, its enable bit, its target, and whether the root domain delegates it to the child
 -- domain.
--- AIA 1.0, APLIC.
 pub record EntryState : Type 0 where
   pub source : WiredState
   pub enabled : Bool
@@ -31,12 +32,10 @@ abbrev pub with_deed : Bool → SourceDeed → EntryState → EntryState
 with_deed msi deed x = record x { source = done msi deed x.source.mode x.source.wire x.source }
 
 -- Its enable bit is written; that of an inactive source is read-only zero.
--- AIA 1.0, APLIC.
 abbrev pub with_enable : Bool → EntryState → EntryState
 with_enable b x = record x { enabled = is_active x.source.mode && b }
 
 -- A store touches its pending bit, its enable bit, or neither.
--- AIA 1.0, APLIC.
 abbrev pub touched : Bool → Option Touch → EntryState → EntryState
 touched msi None x = x
 touched msi (Some SetPending) x = with_deed msi Set x
@@ -46,12 +45,14 @@ touched msi (Some ClearEnable) x = with_enable false x
 
 -- A mode is written: what was inactive begins with no enable and the first target, and what becomes
 -- inactive has none.
--- AIA 1.0, APLIC. Profile: enable and target stay from one active mode to another.
+-- Profile: enable and target stay from one active mode to another.
 abbrev pub configured : Bool → Mode → EntryState → EntryState
 configured msi mode x = record x {
-  source = done msi (if is_active x.source.mode then Configured else Activated) mode x.source.wire x.source;
+  source = done msi Configured mode x.source.wire x.source;
   enabled = is_active x.source.mode && is_active mode && x.enabled;
-  target = if is_active mode then (if is_active x.source.mode then x.target else first_target msi) else 0;
+  target =
+      if is_active mode then (if is_active x.source.mode then x.target else first_target msi)
+      else 0;
 }
 
 -- The domain begins to deliver by MSIs, or directly. Profile.
@@ -62,21 +63,24 @@ switched msi x = record x {
 }
 
 -- Its target is written; that of an inactive source is read-only zero.
--- AIA 1.0, APLIC.
 abbrev pub aimed : ℕ → Bool → ℕ → EntryState → EntryState
-aimed harts msi v x = record x { target = if is_active x.source.mode then target_kept harts msi v else 0 }
+aimed harts msi v x =
+    record x { target = if is_active x.source.mode then target_kept harts msi v else 0 }
 
 -- Its sourcecfg is written: in the root domain, which may delegate it; in the child domain, where
 -- it counts only for a delegated source.
--- AIA 1.0, APLIC.
 abbrev pub sourcecfg_written : Bool → Bool → ℕ → EntryState → EntryState
-sourcecfg_written false msi v x = record (configured msi (mode_of (root_sourcecfg v)) x) { delegated = delegates (root_sourcecfg v) }
-sourcecfg_written true msi v x = if x.delegated then configured msi (mode_of (child_sourcecfg v)) x else x
+sourcecfg_written false msi v x =
+    record (configured msi (mode_of (root_sourcecfg v)) x)
+    { delegated = delegates (root_sourcecfg v) }
+sourcecfg_written true msi v x =
+    if x.delegated then configured msi (mode_of (child_sourcecfg v)) x else x
 
 -- The child domain gets it or loses it: where that is a change it is inactive then.
--- AIA 1.0, APLIC.
 abbrev pub granted : Bool → Bool → EntryState → EntryState
-granted given msi x = if same_bool x.delegated given then x else record (configured msi Inactive x) { delegated = given }
+granted given msi x =
+    if same_bool x.delegated given then x
+    else record (configured msi Inactive x) { delegated = given }
 
 -- Its wire gets a level.
 abbrev pub wired : Bool → Bool → EntryState → EntryState
@@ -85,12 +89,10 @@ wired msi level x = record x { source = done msi LevelGiven x.source.mode level 
 -- ---- what registers show of it
 
 -- Its sourcecfg: in the root domain one that delegates it, and else the mode's number.
--- AIA 1.0, APLIC.
 abbrev pub sourcecfg_shown : Bool → EntryState → ℕ
 sourcecfg_shown leaf x = if not leaf && x.delegated then DELEGATED else mode_number x.source.mode
 
 -- Its bit of setip, in_clrip and setie.
--- AIA 1.0, APLIC.
 abbrev pub bit_shown : Look → EntryState → Bool
 bit_shown looks.Pending x = x.source.pending
 bit_shown looks.Input x = rectified x.source.mode x.source.wire
@@ -100,7 +102,7 @@ bit_shown looks.Enable x = x.enabled
 abbrev pub waits : EntryState → Bool
 waits x = x.source.pending && x.enabled
 
--- ---- all sources, by their numbers; the place of number 0, which is no source, is inactive for good
+-- ---- all sources, by their numbers; number 0, which is no source, has a place that stays inactive
 
 -- Each member of a list is changed by its place: a source by its number. Vocabulary.
 abbrev pub EachAt : {A : Type 0} → List A → List A → (ℕ → A → A) → Type 0
@@ -129,22 +131,15 @@ all_switched msi s x = switched msi x
 abbrev pub entry_at : List EntryState → ℕ → EntryState
 entry_at sources s = get_or sources s new_entry
 
--- What is shown of a source, given what is kept of it; a source that isn't there shows nothing.
-abbrev pub bit_of : Look → Option EntryState → Bool
-bit_of look None = false
-bit_of look (Some x) = bit_shown look x
-
+-- What is shown of a source by its number; one that isn't there shows nothing.
 abbrev pub bit_at_source : List EntryState → Look → ℕ → Bool
-bit_at_source sources look s = bit_of look (slice_get sources s)
+bit_at_source sources look s = option_map_or (bit_shown look) (slice_get sources s) false
 
-abbrev pub waits_of : Option EntryState → Bool
-waits_of None = false
-waits_of (Some x) = waits x
+abbrev pub waits_at : List EntryState → ℕ → Bool
+waits_at sources s = option_map_or waits (slice_get sources s) false
 
-abbrev pub sourcecfg_of : Bool → Option EntryState → ℕ
-sourcecfg_of leaf None = 0
-sourcecfg_of leaf (Some x) = sourcecfg_shown leaf x
+abbrev pub sourcecfg_at : List EntryState → Bool → ℕ → ℕ
+sourcecfg_at sources leaf s = option_map_or (sourcecfg_shown leaf) (slice_get sources s) 0
 
-abbrev pub target_of : Option EntryState → ℕ
-target_of None = 0
-target_of (Some x) = x.target
+abbrev pub target_at : List EntryState → ℕ → ℕ
+target_at sources s = option_map_or (λ (x : EntryState). x.target) (slice_get sources s) 0

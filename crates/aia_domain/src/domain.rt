@@ -2,12 +2,12 @@ ghost use Rattle.std.specs.Prelude.{◌≡◌, suc, ◌≤◌, ◌<◌, Bool, le
 ghost use Rattle.aia_regs.specs.declared.limits.TheConstants.{HARTS, SOURCES};
 ghost use Rattle.aia_source.specs.Registers.{enables, is_by_msi, same_bool};
 ghost use Rattle.aia_source.specs.Wired.SourceDeed.{Claimed, Forwarded};
-ghost use Rattle.aia_domain.specs.Entry.{EachSource, changed_at, granted_at, wired, with_deed, entry_at, bit_at_source, target_of};
+ghost use Rattle.aia_domain.specs.Entry.{EachSource, changed_at, granted_at, wired, with_deed, entry_at, bit_at_source, target_at};
 ghost use Rattle.aia_domain.specs.Domain.{IsNewDomain, with_sources, configured_by, source_after, domain_after, domaincfg_written, domain_read, is_ready, ready_from};
 
 use crate::entries::{
     aim_one, claim_one, configure_one, forward_one, grant_one, is_waiting, new_entries,
-    sourcecfg_of, switch_all, target_of, touch_one, touch_word, wire_one, word_shown,
+    sourcecfg_at, switch_all, target_at, touch_one, touch_word, wire_one, word_shown,
 };
 use crate::entry::{Entry, Look};
 use crate::ready::Ready;
@@ -39,14 +39,24 @@ impl Model for Domain {
 
     ghost Value = { DomainState };
 
-    ghost view = { λ d. record { leaf = d.leaf; harts = d.harts; on = d.on; msi = d.msi; genmsi = d.genmsi; genmsi_waits = d.genmsi_waits; sources = d.sources.items } };
+    ghost view = { λ d. record {
+      leaf = d.leaf;
+      harts = d.harts;
+      on = d.on;
+      msi = d.msi;
+      genmsi = d.genmsi;
+      genmsi_waits = d.genmsi_waits;
+      sources = d.sources.items;
+    } };
 
-    ghost invariant = { λ d. (d.harts ≤ HARTS) × (0 < length d.sources.items) × (length d.sources.items ≤ suc SOURCES) };
+    ghost invariant = { λ d. (d.harts ≤ HARTS) × (0 < length d.sources.items)
+        × (length d.sources.items ≤ suc SOURCES) };
 }
 
 impl Domain {
-    /// A domain of `sources` wired sources, 1 to 1023, and `harts` harts, 1 to 4: the root domain,
-    /// or, as a `leaf`, its child. Every source is inactive, and every register 0 but `domaincfg`.
+    /// Makes a domain of `sources` wired sources, 1 to 1023, and `harts` harts, 1 to 4: the root
+    /// domain, or, as a `leaf`, its child. Every source is inactive, and every register 0 but
+    /// `domaincfg`.
     pub fn new(alloc: Global, sources: u32, harts: u32, leaf: bool) -> Result<Domain, AllocError>
         requires some { 1 ≤ sources }
         requires few { sources ≤ SOURCES }
@@ -65,7 +75,7 @@ impl Domain {
         })
     }
 
-    /// How many wired sources there are, 1 to 1023.
+    /// Tells how many wired sources there are, 1 to 1023.
     pub fn sources(&self) -> u32
         ensures count { length self.now.sources ≡ suc result }
         ensures few { result ≤ SOURCES }
@@ -73,7 +83,7 @@ impl Domain {
         self.sources.len() as u32 - 1
     }
 
-    /// What a register reads: 0 where none is there.
+    /// Gives what a register reads: 0 where none is there.
     ///
     /// AIA 1.0, APLIC, "Memory-mapped control region for an interrupt domain".
     pub fn load(&self, reg: DomainReg) -> u32
@@ -81,12 +91,12 @@ impl Domain {
     {
         match reg {
             DomainReg::DomainCfg => self.domaincfg(),
-            DomainReg::SourceCfg(i) => sourcecfg_of(&self.sources, i, self.leaf),
+            DomainReg::SourceCfg(i) => sourcecfg_at(&self.sources, i, self.leaf),
             DomainReg::SetIp(k) => word_shown(&self.sources, k, Look::Pending),
             DomainReg::InClrIp(k) => word_shown(&self.sources, k, Look::Input),
             DomainReg::SetIe(k) => word_shown(&self.sources, k, Look::Enable),
             DomainReg::GenMsi => self.genmsi,
-            DomainReg::Target(i) => target_of(&self.sources, i),
+            DomainReg::Target(i) => target_at(&self.sources, i),
             _ => 0,
         }
     }
@@ -97,12 +107,14 @@ impl Domain {
         domaincfg_read(self.on, self.msi)
     }
 
-    /// A register is written; where none is there, nothing is done.
+    /// Writes a register; where none is there, nothing is done.
     ///
     /// AIA 1.0, APLIC, "Memory-mapped control region for an interrupt domain".
     pub fn store(&mut self, reg: DomainReg, value: u32)
-        ensures sources { EachSource self.old.sources self.new.sources (source_after self.old reg value) }
-        ensures domain { self.new ≡ with_sources (domain_after reg value self.old) self.new.sources }
+        ensures sources { EachSource self.old.sources self.new.sources
+            (source_after self.old reg value) }
+        ensures domain { self.new
+            ≡ with_sources (domain_after reg value self.old) self.new.sources }
     {
         let msi = self.msi;
         let sources = &mut self.sources;
@@ -129,8 +141,11 @@ impl Domain {
     }
 
     fn write_domaincfg(&mut self, cfg: u32)
-        ensures sources { EachSource self.old.sources self.new.sources (configured_by cfg self.old.msi) }
-        ensures domain { self.new ≡ with_sources (domaincfg_written (same_bool self.old.msi (is_by_msi cfg)) (enables cfg) (is_by_msi cfg) self.old) self.new.sources }
+        ensures sources { EachSource self.old.sources self.new.sources
+            (configured_by cfg self.old.msi) }
+        ensures domain { self.new ≡ with_sources
+            (domaincfg_written (same_bool self.old.msi (is_by_msi cfg)) (enables cfg)
+            (is_by_msi cfg) self.old) self.new.sources }
     {
         let msi = is_by_msi(cfg);
         self.on = enables(cfg);
@@ -151,50 +166,56 @@ impl Domain {
         }
     }
 
-    /// The wire of a source gets a level; a number that is no source's changes none.
+    /// Gives the wire of a source a level; a number that is no source's changes none.
     pub fn wire(&mut self, s: u32, level: bool)
-        ensures sources { EachSource self.old.sources self.new.sources (changed_at s (wired self.old.msi level)) }
+        ensures sources { EachSource self.old.sources self.new.sources
+            (changed_at s (wired self.old.msi level)) }
         ensures domain { self.new ≡ with_sources self.old self.new.sources }
     {
         wire_one(&mut self.sources, s, level, self.msi);
     }
 
-    /// The root domain delegates a source to this one, its child: where that is new, the source
-    /// begins inactive here.
+    /// Gets a source that the root domain delegates to this one, its child: where that is new, the
+    /// source begins inactive here.
     pub fn grant(&mut self, s: u32)
-        ensures sources { EachSource self.old.sources self.new.sources (granted_at s Bool.true self.old.msi) }
+        ensures sources { EachSource self.old.sources self.new.sources
+            (granted_at s Bool.true self.old.msi) }
         ensures domain { self.new ≡ with_sources self.old self.new.sources }
     {
         grant_one(&mut self.sources, s, true, self.msi);
     }
 
-    /// The root domain does not delegate a source to this one, its child: where it did, the source
-    /// is inactive here from now on.
+    /// Loses a source that the root domain does not delegate to this one, its child: where it did,
+    /// the source is inactive here from now on.
     pub fn withdraw(&mut self, s: u32)
-        ensures sources { EachSource self.old.sources self.new.sources (granted_at s Bool.false self.old.msi) }
+        ensures sources { EachSource self.old.sources self.new.sources
+            (granted_at s Bool.false self.old.msi) }
         ensures domain { self.new ≡ with_sources self.old self.new.sources }
     {
         grant_one(&mut self.sources, s, false, self.msi);
     }
 
-    /// A claim in direct delivery shows a source: its pending bit falls, but for one at a level
-    /// mode.
+    /// Claims a source, as `claimi` in direct delivery does: its pending bit falls, but for one at
+    /// a level mode.
     pub fn claimed(&mut self, s: u32)
-        ensures sources { EachSource self.old.sources self.new.sources (changed_at s (with_deed Bool.false Claimed)) }
+        ensures sources { EachSource self.old.sources self.new.sources
+            (changed_at s (with_deed Bool.false Claimed)) }
         ensures domain { self.new ≡ with_sources self.old self.new.sources }
     {
         claim_one(&mut self.sources, s);
     }
 
-    /// The MSI of a source is sent: its pending bit falls.
+    /// Hears that the MSI of a source is sent: its pending bit falls.
     pub fn forwarded(&mut self, s: u32)
-        ensures sources { EachSource self.old.sources self.new.sources (changed_at s (with_deed Bool.true Forwarded)) }
+        ensures sources { EachSource self.old.sources self.new.sources
+            (changed_at s (with_deed Bool.true Forwarded)) }
         ensures domain { self.new ≡ with_sources self.old self.new.sources }
     {
         forward_one(&mut self.sources, s);
     }
 
-    /// What `genmsi` keeps, where an MSI that it asked for is still to be sent, which is then done.
+    /// Takes what `genmsi` keeps, where an MSI that it asked for is still to be sent, which is then
+    /// done.
     pub fn take_genmsi(&mut self) -> Option<u32>
         ensures taken { result ≡ (if self.old.genmsi_waits then Some self.old.genmsi else None) }
         ensures domain { self.new ≡ record self.old { genmsi_waits = Bool.false } }
@@ -206,15 +227,15 @@ impl Domain {
         Some(self.genmsi)
     }
 
-    /// Whether an MSI that `genmsi` asked for is still to be sent.
+    /// Tells whether an MSI that `genmsi` asked for is still to be sent.
     pub fn genmsi_waits(&self) -> bool
         ensures { result ≡ self.now.genmsi_waits }
     {
         self.genmsi_waits
     }
 
-    /// The sources that are to be forwarded, in rising order: the pending enabled ones, where the
-    /// domain delivers by MSIs and its interrupts are enabled.
+    /// Gives the sources that are to be forwarded, in rising order: the pending enabled ones, where
+    /// the domain delivers by MSIs and its interrupts are enabled.
     ///
     /// AIA 1.0, APLIC, "Interrupt forwarding by MSIs".
     pub fn ready(&self) -> Ready<'_>
@@ -223,7 +244,7 @@ impl Domain {
         Ready::new(self)
     }
 
-    /// A source that is there.
+    /// Gives a source that is there.
     pub fn source(&self, s: u32) -> &Wired
         requires there { s < length self.now.sources }
         ensures { result.now ≡ (entry_at self.now.sources s).source }
@@ -231,14 +252,14 @@ impl Domain {
         self.sources[s as usize].wired()
     }
 
-    /// The enable bit of a source, false where the source isn't there.
+    /// Tells the enable bit of a source, false where the source isn't there.
     pub fn enabled(&self, s: u32) -> bool
         ensures { result ≡ (entry_at self.now.sources s).enabled }
     {
         (s as usize) < self.sources.len() && self.sources[s as usize].enabled()
     }
 
-    /// The `target` of a source, 0 where the source isn't there.
+    /// Gives the `target` of a source, 0 where the source isn't there.
     pub fn target(&self, s: u32) -> u32
         ensures { result ≡ (entry_at self.now.sources s).target }
     {
@@ -248,28 +269,28 @@ impl Domain {
         }
     }
 
-    /// Whether its interrupts are enabled: IE of `domaincfg`.
+    /// Tells whether its interrupts are enabled: IE of `domaincfg`.
     pub fn is_enabled(&self) -> bool
         ensures { result ≡ self.now.on }
     {
         self.on
     }
 
-    /// Whether it delivers by MSIs, and not directly: DM of `domaincfg`.
+    /// Tells whether it delivers by MSIs, and not directly: DM of `domaincfg`.
     pub fn delivers_by_msi(&self) -> bool
         ensures { result ≡ self.now.msi }
     {
         self.msi
     }
 
-    /// The number after the greatest source's.
+    /// Gives the number after the greatest source's.
     pub(crate) fn places(&self) -> u32
         ensures { result ≡ length self.now.sources }
     {
         self.sources.len() as u32
     }
 
-    /// Whether a source is to be forwarded.
+    /// Tells whether a source is to be forwarded.
     pub(crate) fn is_ready(&self, s: u32) -> bool
         ensures { result ≡ is_ready self.now s }
     {

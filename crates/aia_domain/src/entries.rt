@@ -5,7 +5,7 @@ ghost use Rattle.std.specs.Prelude.{◌≡◌, ◌*◌, ◌≤◌, Bool, nat_eq,
 ghost use Rattle.aia_word.specs.Sets.{word_of};
 ghost use Rattle.aia_source.specs.Wired.SourceDeed.{Claimed, Forwarded};
 ghost use Rattle.aia_source.specs.Registers.{in_word, touch_where};
-ghost use Rattle.aia_domain.specs.Entry.{EachSource, new_entry, changed_at, touched, written_at, all_switched, switched, aimed, sourcecfg_written, granted_at, wired, with_deed, sourcecfg_of, target_of, bit_at_source, waits_of};
+ghost use Rattle.aia_domain.specs.Entry.{EachSource, new_entry, changed_at, touched, written_at, all_switched, switched, aimed, sourcecfg_written, granted_at, wired, with_deed, sourcecfg_at, target_at, bit_at_source, waits_at};
 
 use crate::entry::{Entry, Look};
 use aia_regs::bit;
@@ -15,7 +15,7 @@ use std::alloc::{AllocError, Global};
 /// The sources that a register has in one word.
 const WORD: u32 = 32;
 
-/// So many sources as a domain begins.
+/// Makes so many sources as a domain begins with.
 pub(crate) fn new_entries(alloc: Global, count: u32) -> Result<Vec<Entry>, AllocError>
     ensures length { IfOk result (λ entries. length entries.items ≡ count) }
     ensures each { IfOk result (λ entries. All (λ x. x ≡ new_entry) entries.items) }
@@ -27,18 +27,20 @@ pub(crate) fn new_entries(alloc: Global, count: u32) -> Result<Vec<Entry>, Alloc
     Ok(entries)
 }
 
-/// One source is touched, where it is there.
+/// Touches one source, where it is there.
 pub(crate) fn touch_one(entries: &mut [Entry], s: u64, touch: Touch, msi: bool)
-    ensures { EachSource entries.old entries.new (λ i. touched msi (touch_where (nat_eq s) touch i)) }
+    ensures { EachSource entries.old entries.new
+        (λ i. touched msi (touch_where (nat_eq s) touch i)) }
 {
     if s < entries.len() as u64 {
         entries[s as usize].touch(touch, msi);
     }
 }
 
-/// The sources of word `k` whose bits are ones in `value` are touched.
+/// Touches the sources of word `k` whose bits are ones in `value`.
 pub(crate) fn touch_word(entries: &mut [Entry], k: u32, value: u32, touch: Touch, msi: bool)
-    ensures { EachSource entries.old entries.new (λ s. touched msi (touch_where (in_word k value) touch s)) }
+    ensures { EachSource entries.old entries.new
+        (λ s. touched msi (touch_where (in_word k value) touch s)) }
 {
     for place in 0..WORD {
         if bit(u64::from(value), place) {
@@ -48,7 +50,7 @@ pub(crate) fn touch_word(entries: &mut [Entry], k: u32, value: u32, touch: Touch
     }
 }
 
-/// The `sourcecfg` of a source is written, where it is there.
+/// Writes the `sourcecfg` of a source, where it is there.
 pub(crate) fn configure_one(entries: &mut [Entry], s: u32, leaf: bool, msi: bool, value: u32)
     ensures { EachSource entries.old entries.new (written_at s leaf msi value) }
 {
@@ -60,7 +62,7 @@ pub(crate) fn configure_one(entries: &mut [Entry], s: u32, leaf: bool, msi: bool
     }
 }
 
-/// The `target` of a source is written, where it is there.
+/// Writes the `target` of a source, where it is there.
 pub(crate) fn aim_one(entries: &mut [Entry], s: u32, harts: u32, msi: bool, value: u32)
     ensures { EachSource entries.old entries.new (changed_at s (aimed harts msi value)) }
 {
@@ -69,7 +71,7 @@ pub(crate) fn aim_one(entries: &mut [Entry], s: u32, harts: u32, msi: bool, valu
     }
 }
 
-/// The delivery mode of the domain is now this one.
+/// Has all sources hear that the delivery mode of the domain is now this one.
 pub(crate) fn switch_all(entries: &mut [Entry], msi: bool)
     ensures { EachSource entries.old entries.new (all_switched msi) }
 {
@@ -86,7 +88,7 @@ fn switch_one(entries: &mut [Entry], s: usize, msi: bool)
     }
 }
 
-/// The child domain gets a source, or loses it.
+/// Has the child domain get a source, or lose it.
 pub(crate) fn grant_one(entries: &mut [Entry], s: u32, given: bool, msi: bool)
     ensures { EachSource entries.old entries.new (granted_at s given msi) }
 {
@@ -98,7 +100,7 @@ pub(crate) fn grant_one(entries: &mut [Entry], s: u32, given: bool, msi: bool)
     }
 }
 
-/// The wire of a source gets a level, where it is there.
+/// Gives the wire of a source a level, where it is there.
 pub(crate) fn wire_one(entries: &mut [Entry], s: u32, level: bool, msi: bool)
     ensures { EachSource entries.old entries.new (changed_at s (wired msi level)) }
 {
@@ -107,7 +109,7 @@ pub(crate) fn wire_one(entries: &mut [Entry], s: u32, level: bool, msi: bool)
     }
 }
 
-/// A claim shows a source.
+/// Claims a source.
 pub(crate) fn claim_one(entries: &mut [Entry], s: u32)
     ensures { EachSource entries.old entries.new (changed_at s (with_deed Bool.false Claimed)) }
 {
@@ -116,7 +118,7 @@ pub(crate) fn claim_one(entries: &mut [Entry], s: u32)
     }
 }
 
-/// The MSI of a source is sent.
+/// Has a source hear that its MSI is sent.
 pub(crate) fn forward_one(entries: &mut [Entry], s: u32)
     ensures { EachSource entries.old entries.new (changed_at s (with_deed Bool.true Forwarded)) }
 {
@@ -125,9 +127,9 @@ pub(crate) fn forward_one(entries: &mut [Entry], s: u32)
     }
 }
 
-/// The `sourcecfg` of a source, 0 where it isn't there.
-pub(crate) fn sourcecfg_of(entries: &[Entry], s: u32, leaf: bool) -> u32
-    ensures { result ≡ sourcecfg_of leaf (slice_get entries.now s) }
+/// Gives the `sourcecfg` of a source, 0 where it isn't there.
+pub(crate) fn sourcecfg_at(entries: &[Entry], s: u32, leaf: bool) -> u32
+    ensures { result ≡ sourcecfg_at entries.now leaf s }
 {
     match entries.get(s as usize) {
         Some(entry) => entry.sourcecfg(leaf),
@@ -135,9 +137,9 @@ pub(crate) fn sourcecfg_of(entries: &[Entry], s: u32, leaf: bool) -> u32
     }
 }
 
-/// The `target` of a source, 0 where it isn't there.
-pub(crate) fn target_of(entries: &[Entry], s: u32) -> u32
-    ensures { result ≡ target_of (slice_get entries.now s) }
+/// Gives the `target` of a source, 0 where it isn't there.
+pub(crate) fn target_at(entries: &[Entry], s: u32) -> u32
+    ensures { result ≡ target_at entries.now s }
 {
     match entries.get(s as usize) {
         Some(entry) => entry.target(),
@@ -145,7 +147,7 @@ pub(crate) fn target_of(entries: &[Entry], s: u32) -> u32
     }
 }
 
-/// The bit of a source in a register, a zero where it isn't there.
+/// Gives the bit of a source in a register, a zero where it isn't there.
 fn bit_of(entries: &[Entry], s: u64, look: Look) -> u32
     ensures value { result ≡ (if bit_at_source entries.now look s then 1 else 0) }
     ensures small { result ≤ 1 }
@@ -153,14 +155,15 @@ fn bit_of(entries: &[Entry], s: u64, look: Look) -> u32
     u32::from(s < entries.len() as u64 && entries[s as usize].bit(look))
 }
 
-/// Whether a source is pending and enabled; one that isn't there is not.
+/// Tells whether a source is pending and enabled; one that isn't there is not.
 pub(crate) fn is_waiting(entries: &[Entry], s: u32) -> bool
-    ensures { result ≡ waits_of (slice_get entries.now s) }
+    ensures { result ≡ waits_at entries.now s }
 {
     (s as usize) < entries.len() && entries[s as usize].waits()
 }
 
-/// Word `k` of a register that shows the sources: their bits, the lowest source in the lowest bit.
+/// Gives word `k` of a register that shows the sources: their bits, the lowest source in the
+/// lowest bit.
 pub(crate) fn word_shown(entries: &[Entry], k: u32, look: Look) -> u32
     ensures { result ≡ word_of (bit_at_source entries.now look) (32 * k) 32 }
 {

@@ -33,7 +33,12 @@ pub struct Entry {
 impl Model for Entry {
     ghost Value = { EntryState };
 
-    ghost view = { λ e. record { source = e.wired; enabled = e.enabled; target = e.target; delegated = e.delegated } };
+    ghost view = { λ e. record {
+      source = e.wired;
+      enabled = e.enabled;
+      target = e.target;
+      delegated = e.delegated;
+    } };
 }
 
 impl Entry {
@@ -72,7 +77,7 @@ impl Entry {
         self.wired.mode() != Mode::Inactive
     }
 
-    /// Its bit in a register.
+    /// Tells its bit in a register.
     pub(crate) fn bit(&self, look: Look) -> bool
         ensures { result ≡ bit_shown look self.now }
     {
@@ -83,7 +88,7 @@ impl Entry {
         }
     }
 
-    /// Its `sourcecfg`.
+    /// Gives its `sourcecfg`.
     pub(crate) fn sourcecfg(&self, leaf: bool) -> u32
         ensures { result ≡ sourcecfg_shown leaf self.now }
     {
@@ -94,7 +99,7 @@ impl Entry {
         }
     }
 
-    /// Whether it is pending and enabled.
+    /// Tells whether it is pending and enabled.
     pub(crate) fn waits(&self) -> bool
         ensures { result ≡ waits self.now }
     {
@@ -126,7 +131,7 @@ impl Entry {
         }
     }
 
-    /// Its `sourcecfg` is written.
+    /// Writes its `sourcecfg`.
     pub(crate) fn write_sourcecfg(&mut self, leaf: bool, msi: bool, value: u32)
         ensures { self.new ≡ sourcecfg_written leaf msi value self.old }
     {
@@ -138,7 +143,7 @@ impl Entry {
         }
     }
 
-    /// The delivery mode of its domain is now this one.
+    /// Hears that the delivery mode of its domain is now this one.
     pub(crate) fn switch(&mut self, msi: bool)
         ensures { self.new ≡ switched msi self.old }
     {
@@ -150,7 +155,7 @@ impl Entry {
         };
     }
 
-    /// Its `target` is written.
+    /// Writes its `target`.
     pub(crate) fn aim(&mut self, harts: u32, msi: bool, value: u32)
         ensures { self.new ≡ aimed harts msi value self.old }
     {
@@ -161,7 +166,7 @@ impl Entry {
         };
     }
 
-    /// The child domain gets it, or loses it.
+    /// Comes to the child domain, or leaves it.
     pub(crate) fn grant(&mut self, given: bool, msi: bool)
         ensures { self.new ≡ granted given msi self.old }
     {

@@ -14,7 +14,8 @@ use Rattle.aia_model.specs.declared.refusal.Refusal.{Refusal}
 use Rattle.aia_model.specs.declared.refusal.Refusal.TheVariants.{Fault, Guarded}
 use Rattle.aia_model.specs.Act.{domain_at}
 use Rattle.aia_model.specs.FileOf.{FileName, MachineFile, SupervisorFile, is_at}
-use Rattle.aia_model.specs.Refusal.{guards, place_refusal_by, place_refusal}
+use Rattle.aia_model.specs.Refusal.{guards}
+use Rattle.aia_model.proofs.AnswerLemmas.{place_refusal}
 use Rattle.aia_hyp.specs.HostFiles.{spot_of, is_host_spot}
 use Rattle.aia_hyp.specs.Stands.{core_refusal}
 
@@ -74,7 +75,7 @@ page_below i addr spot few at host = absurd (cc)
 
 -- the core's, where the address is no domain's, are the model's
 pub outside_regions : (spot : Spot) (addr : ℕ) → domain_at addr ≡ None → place_refusal spot addr ≡ core_refusal spot addr
-outside_regions spot addr none = ap (λ (o : Option DomainName). place_refusal_by (is_some o) spot addr) none
+outside_regions spot addr none = ap (λ (o : Option DomainName). cond (not (nat_eq (addr % 4) 0 && (is_some o || is_page spot || is_in_memory addr))) (Some Fault) (cond (guards spot addr) (Some Guarded) None)) none
 
 -- an address of a domain is in no place of the core's
 pub in_a_region : (i : ImsicState) (addr : ℕ) → domain_at addr ≢ None → core_refusal (spot_at i.harts i.guests addr) addr ≡ Some Fault
@@ -103,17 +104,17 @@ host_is_free i addr spot few at host aligned =
 -- ---- what the model says of them
 
 pub misaligned : (spot : Spot) (addr : ℕ) → nat_eq (addr % 4) 0 ≡ false → place_refusal spot addr ≡ Some Fault
-misaligned spot addr off = ap (λ b. cond (not (b && (is_page spot || is_some (domain_at addr) || is_in_memory addr))) (Some Fault) (cond (guards spot addr) (Some Guarded) None)) off
+misaligned spot addr off = ap (λ b. cond (not (b && (is_some (domain_at addr) || is_page spot || is_in_memory addr))) (Some Fault) (cond (guards spot addr) (Some Guarded) None)) off
 
 -- every aligned address of a control region may be loaded from and stored to
 pub region_is_free : (harts guests addr : ℕ) → addr % 4 ≡ 0 → domain_at addr ≢ None → place_refusal (spot_at harts guests addr) addr ≡ None
 region_is_free harts guests addr aligned there =
     let low = region_below addr there in
     ap (λ s. place_refusal s addr) (below_all harts guests addr (omega (arith, low)))
-    ∙ ap (λ b. cond (not (nat_eq (addr % 4) 0 && (false || is_some (domain_at addr) || b))) (Some Fault) (cond (false || b) (Some Guarded) None)) (not_in_memory addr (omega (arith, low)))
+    ∙ ap (λ b. cond (not (nat_eq (addr % 4) 0 && (is_some (domain_at addr) || false || b))) (Some Fault) (cond (false || b) (Some Guarded) None)) (not_in_memory addr (omega (arith, low)))
     ∙ free (domain_at addr) (nat_eq (addr % 4) 0) there (eq-eqb (addr % 4) 0 aligned)
   where
-    free : (o : Option DomainName) (b : Bool) → o ≢ None → b ≡ true → cond (not (b && (false || is_some o || false))) (Some Fault) None ≡ None
+    free : (o : Option DomainName) (b : Bool) → o ≢ None → b ≡ true → cond (not (b && (is_some o || false || false))) (Some Fault) None ≡ None
     free (Some d) true some is = refl
     free (Some d) false some is = absurd (cc)
     free None b some is = absurd (some refl)

@@ -1,5 +1,6 @@
 -- What loads, stores and MSIs leave of a core that stands for a history.
 use Rattle.std.proofs.Common.{◌≡◌, ◌≢◌, ℕ, ◌%◌, ◌≤◌, true, false, cond, ◌∷◌, Option, Some, None, refl, sym, ap, subst, ◌∙◌}
+use Rattle.std.specs.Option.{option_map_or}
 use Rattle.std.proofs.lemmas.Bool.{cond-true, cond-false}
 use Rattle.aia_file.specs.InterruptFile.{SameFile, landed}
 use Rattle.aia_file.specs.FileState.{shown}
@@ -12,12 +13,13 @@ use Rattle.aia_model.specs.declared.line.Line.TheVariants.{Load, Store}
 use Rattle.aia_model.specs.declared.msi.Msi.{Msi}
 use Rattle.aia_model.specs.Event.{Event, History, harts_of, machine_of}
 use Rattle.aia_model.specs.Event.Event.{Accepted, Delivered}
-use Rattle.aia_model.specs.Act.{domain_at}
+use Rattle.aia_model.specs.declared.domain_name.DomainName.{DomainName}
+use Rattle.aia_model.specs.Act.{domain_at, register_at}
 use Rattle.aia_model.specs.FileAfter.FileDeed.{Stores, Rests}
 use Rattle.aia_model.specs.FileOf.{FileName, is_at, page_at, deed_at, store_deed}
-use Rattle.aia_model.specs.Refusal.{place_refusal}
-use Rattle.aia_model.specs.Answer.{place_read}
-use Rattle.aia_model.proofs.AnswerLemmas.{refused_by, load_refusal, store_refusal}
+use Rattle.aia_model.specs.SourceOf.{register_read}
+use Rattle.aia_model.specs.Sent.{acts_of}
+use Rattle.aia_model.proofs.AnswerLemmas.{refused_by, place_refusal, load_refusal, store_refusal}
 use Rattle.aia_hyp.specs.Core.{CoreState}
 use Rattle.aia_hyp.specs.HostFiles.{HasDone, spot_of, is_host_spot}
 use Rattle.aia_hyp.specs.Stands.{CoreStands, CoreTakes, CoreHears, core_refusal}
@@ -66,7 +68,7 @@ store_refused x addr value word outside is = refused x (Store addr value) (Refus
 pub loaded : (x : CoreState) (addr : ℕ) → domain_at addr ≡ None → None ≡ core_refusal (spot_at x.imsic.harts x.imsic.guests addr) addr → CoreTakes x x (Load addr) (Narrow 0)
 loaded x addr outside is = accepted x x (Load addr) (Narrow 0) (λ h stands. (
   load_refusal h addr stands.there ∙ word_stands x h addr None outside is stands,
-  sym (ap (λ o. Narrow (place_read h addr o)) outside),
+  sym (ap (λ (o : Option DomainName). Narrow (option_map_or (λ d. register_read (acts_of h) d (register_at addr)) o 0)) outside),
   nothing_done x h (Accepted (Load addr)) refl (λ f inside. refl),
 ))
 

@@ -57,7 +57,8 @@ select_in x f = slice_index x.selects (select_place f)
 
 -- A deed was done at a file and its select number.
 pub record FileDone (old new : CoreState) (f : FileName) (deed : FileDeed) : Type 0 where
-  pub file : SameFile (shown (file_in new f)) (file_after (select_in old f) deed (shown (file_in old f)))
+  pub file : SameFile (shown (file_in new f))
+      (file_after (select_in old f) deed (shown (file_in old f)))
   pub select : select_in new f ≡ select_after deed (select_in old f)
 
 -- A deed was done at one file of the host; every other file, a guest's too, and every other select

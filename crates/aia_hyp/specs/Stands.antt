@@ -1,21 +1,23 @@
 -- When the hypervisor's core stands for a history, and what each of its calls promises. Vocabulary.
-use Rattle.std.specs.Prelude.{◌≡◌, ℕ, Bool, true, false, nat_lt, if◌then◌else◌, [], ◌∷◌, Option, Some, None, Result, Ok, Err}
+use Rattle.std.specs.Prelude.{◌≡◌, ℕ, ◌%◌, Bool, true, not, ◌&&◌, ◌||◌, nat_eq, nat_lt, if◌then◌else◌, [], ◌∷◌, Option, Some, None, Result, Ok, Err}
+use Rattle.aia_regs.specs.AddressMap.{is_in_memory}
 use Rattle.aia_file.specs.InterruptFile.{empty_file, signals}
 use Rattle.aia_file.specs.FileState.{shown}
 use Rattle.aia_imsic.specs.declared.spot.Spot.{Spot}
 use Rattle.aia_imsic.specs.declared.spot.Spot.TheVariants as spots
 use Rattle.aia_imsic.specs.Imsic.{IsThere, file_at}
+use Rattle.aia_imsic.specs.Map.{is_page}
 use Rattle.aia_model.specs.declared.answer.Answer.{Answer}
 use Rattle.aia_model.specs.declared.answer.Answer.TheVariants.{Refused}
 use Rattle.aia_model.specs.declared.refusal.Refusal.{Refusal}
-use Rattle.aia_model.specs.declared.refusal.Refusal.TheVariants.{Range}
+use Rattle.aia_model.specs.declared.refusal.Refusal.TheVariants.{Range, Fault, Guarded}
 use Rattle.aia_model.specs.declared.line.Line.{Line}
 use Rattle.aia_model.specs.declared.line.Line.TheVariants.{Machine}
 use Rattle.aia_model.specs.declared.msi.Msi.{Msi}
 use Rattle.aia_model.specs.Event.{History, has_machine, harts_of, guests_of, identities_of}
 use Rattle.aia_model.specs.Event.Event.{Accepted}
 use Rattle.aia_model.specs.FileOf.{FileName, MachineFile, SupervisorFile, file_of, select_of}
-use Rattle.aia_model.specs.Refusal.{refusal, place_refusal_by}
+use Rattle.aia_model.specs.Refusal.{refusal, guards}
 use Rattle.aia_model.specs.Answer.{answer, taken, msi_taken}
 use Rattle.aia_hyp.specs.Core.{CoreState}
 use Rattle.aia_hyp.specs.HostFiles.{spot_of, file_in, select_in}
@@ -78,4 +80,6 @@ signals_of h hart =
 -- The word that refuses a load or a store by the core, to which an address of the APLIC is no
 -- place.
 abbrev pub core_refusal : Spot → ℕ → Option Refusal
-core_refusal = place_refusal_by false
+core_refusal spot addr =
+    if not (nat_eq (addr % 4) 0 && (is_page spot || is_in_memory addr)) then Some Fault
+    else (if guards spot addr then Some Guarded else None)

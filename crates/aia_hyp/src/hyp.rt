@@ -82,7 +82,7 @@ impl Hyp {
         self.access(level, hart as u32, csr, op)
     }
 
-    /// The access of a hart that is there.
+    /// Does the access of a hart that is there.
     fn access(&mut self, level: Level, hart: u32, csr: Csr, op: Op) -> Result<u64, Refusal>
         requires listed { IsInTable level csr }
         requires host { IsHost level }
@@ -99,7 +99,7 @@ impl Hyp {
         }
     }
 
-    /// What the access reaches, by the select number of the hart and level.
+    /// Tells what the access reaches, by the select number of the hart and level.
     fn reached(&self, level: Level, hart: u32, csr: Csr, op: Op) -> Access
         requires listed { IsInTable level csr }
         requires host { IsHost level }
@@ -112,6 +112,7 @@ impl Hyp {
         decide(level, csr, op, select, false)
     }
 
+    /// Accesses the select CSR, and gives the old select number.
     fn access_select(&mut self, level: Level, hart: u32, op: Op) -> u64
         requires host { IsHost level }
         requires few { hart < HARTS }
@@ -126,21 +127,25 @@ impl Hyp {
         before
     }
 
+    /// Accesses a register of a file, and gives what it read before.
     fn access_file(&mut self, level: Level, hart: u32, reg: FileReg, op: Op) -> u64
         requires host { IsHost level }
         requires there { hart < self.old.imsic.harts }
         requires named { register_of (select_in self.old (name_of level hart)) ≡ reg }
         requires usable { IsUsable reg }
-        ensures value { result ≡ register_value (shown (file_in self.old (name_of level hart))) reg }
+        ensures value { result
+            ≡ register_value (shown (file_in self.old (name_of level hart))) reg }
         ensures done { HasDone self.old self.new (name_of level hart) (Accesses Csr.Reg op) }
     {
         self.imsic.file_mut(spot(level, hart)).access(reg, op)
     }
 
+    /// Accesses the topei CSR, and gives what it read before; a write claims.
     fn access_top(&mut self, level: Level, hart: u32, op: Op) -> u64
         requires host { IsHost level }
         requires there { hart < self.old.imsic.harts }
-        ensures value { result ≡ top_value (top_of (shown (file_in self.old (name_of level hart)))) }
+        ensures value { result
+            ≡ top_value (top_of (shown (file_in self.old (name_of level hart)))) }
         ensures done { HasDone self.old self.new (name_of level hart) (Accesses Csr.Topei op) }
     {
         claim_or_read(self.imsic.file_mut(spot(level, hart)), op)
@@ -174,8 +179,8 @@ impl Hyp {
         Ok(0)
     }
 
-    /// The file of the host in whose page the address lies, or the word that refuses a load or
-    /// store there.
+    /// Finds the file of the host in whose page the address lies, or the word that refuses a load
+    /// or store there.
     fn reach(&self, addr: u64) -> Result<Spot, Refusal>
         ensures at { IfOk result (λ spot. spot
             ≡ spot_at self.now.imsic.harts self.now.imsic.guests addr) }
@@ -231,7 +236,7 @@ impl Hyp {
     }
 }
 
-/// Where the file of a hart at a level of the host is.
+/// Tells where the file of a hart at a level of the host is.
 fn spot(level: Level, hart: u32) -> Spot
     requires { IsHost level }
     ensures { result ≡ spot_of (name_of level hart) }
@@ -243,14 +248,14 @@ fn spot(level: Level, hart: u32) -> Spot
     }
 }
 
-/// Whether a place is that of a file of the host.
+/// Tells whether a place is that of a file of the host.
 fn is_host(spot: Spot) -> bool
     ensures { result ≡ is_host_spot spot }
 {
     matches!(spot, Spot::MachineFile(_) | Spot::HostFile(_))
 }
 
-/// Where its select number is.
+/// Tells where its select number is.
 fn select_place(level: Level, hart: u32) -> usize
     requires host { IsHost level }
     requires few { hart < HARTS }
@@ -277,6 +282,7 @@ fn claim_or_read(file: &mut File, op: Op) -> u64
     }
 }
 
+/// Tells whether an address lies in memory.
 fn is_in_memory(addr: u64) -> bool
     ensures { result ≡ is_in_memory addr }
 {

@@ -2,10 +2,12 @@
 use Rattle.std.proofs.Common.{◌≡◌, ◌≢◌, ℕ, ◌+◌, ◌-◌, ◌*◌, ◌/◌, ◌%◌, ◌<◌, ◌≤◌, true, false, is_some, Option, Some, None, inl, inr, refl, sym, ap, ◌∙◌, arith}
 use Rattle.std.proofs.lemmas.Bool.{cases_lt}
 use Rattle.std.proofs.lemmas.Bool.Decides.{nat_tests}
+use Rattle.std.specs.Option.{option_map_or}
 use Rattle.aia_word.proofs.LeastLemmas.{least_of-found, least_of-none, least_of_is}
 use Rattle.aia_regs.specs.AddressMap.{machine_page, supervisor_page, guest_page, is_in_page}
+use Rattle.aia_imsic.specs.declared.spot.Spot.{Spot}
 use Rattle.aia_imsic.specs.declared.spot.Spot.TheVariants.{MachineFile, HostFile, GuestFile, Nowhere}
-use Rattle.aia_imsic.specs.Map.{machine_file_at, supervisor_file_at, guest_file_at, guest_hart_at, guest_spot, guest_spot_of, host_spot, machine_spot, spot_at}
+use Rattle.aia_imsic.specs.Map.{machine_file_at, supervisor_file_at, guest_file_at, guest_hart_at, spot_at}
 
 -- ---- pages
 
@@ -73,8 +75,16 @@ guest_is_not_host hart file x addr some few here =
       | inr more ↦ after_page (supervisor_page x) addr (omega arith)
     ]
 
+-- where an address lies, by what was found of each kind
+abbrev guest_of : ℕ → ℕ → ℕ → Spot
+guest_of guests addr hart = option_map_or (GuestFile hart) (guest_file_at guests hart addr) Nowhere
+
+abbrev chosen : ℕ → ℕ → Option ℕ → Option ℕ → Option ℕ → Spot
+chosen guests addr machine host guest_hart =
+    option_map_or MachineFile machine (option_map_or HostFile host (option_map_or (guest_of guests addr) guest_hart Nowhere))
+
 by_parts : (harts guests addr : ℕ) (machine host guest_hart : Option ℕ) → machine_file_at harts addr ≡ machine → supervisor_file_at harts addr ≡ host → guest_hart_at harts guests addr ≡ guest_hart
-    → spot_at harts guests addr ≡ machine_spot (host_spot (guest_spot_of guests addr guest_hart) host) machine
+    → spot_at harts guests addr ≡ chosen guests addr machine host guest_hart
 by_parts harts guests addr machine host guest_hart m s g = rw (m, s, g)
 
 pub spot_of_machine : (harts guests addr hart : ℕ) → hart < harts → is_in_page (machine_page hart) addr ≡ true → spot_at harts guests addr ≡ MachineFile hart
@@ -90,7 +100,7 @@ spot_of_guest harts guests addr hart file few eight there some below here =
     let low = from_page (guest_page hart file) addr here in
     by_parts harts guests addr None None (Some hart) (no_machine harts addr few (omega arith))
     (no_supervisor harts addr (λ x c. guest_is_not_host hart file x addr some (omega arith) here)) (the_guest_hart harts guests addr hart file eight there some below here)
-    ∙ ap (guest_spot hart) (the_guest_file guests hart addr file some below here)
+    ∙ ap (λ file. option_map_or (GuestFile hart) file Nowhere) (the_guest_file guests hart addr file some below here)
 
 pub spot_of_none : (harts guests addr : ℕ) → machine_file_at harts addr ≡ None → ((hart : ℕ) → hart < harts → is_in_page (supervisor_page hart) addr ≡ false)
     → ((hart file : ℕ) → hart < harts → 1 ≤ file → file ≤ guests → is_in_page (guest_page hart file) addr ≡ false) → spot_at harts guests addr ≡ Nowhere
@@ -98,31 +108,31 @@ spot_of_none harts guests addr machine host guest = by_parts harts guests addr N
 
 -- ---- the other way round: the page of the file that an address names
 
-guest_is_no_machine : (x hart : ℕ) (file : Option ℕ) → guest_spot x file ≢ MachineFile hart
+guest_is_no_machine : (x hart : ℕ) (file : Option ℕ) → option_map_or (GuestFile x) file Nowhere ≢ MachineFile hart
 guest_is_no_machine x hart None e = cc
 guest_is_no_machine x hart (Some y) e = cc
 
-guest_is_no_host : (x hart : ℕ) (file : Option ℕ) → guest_spot x file ≢ HostFile hart
+guest_is_no_host : (x hart : ℕ) (file : Option ℕ) → option_map_or (GuestFile x) file Nowhere ≢ HostFile hart
 guest_is_no_host x hart None e = cc
 guest_is_no_host x hart (Some y) e = cc
 
-guest_parts : (x hart file : ℕ) (found : Option ℕ) → guest_spot x found ≡ GuestFile hart file → (x ≡ hart) × (found ≡ Some file)
+guest_parts : (x hart file : ℕ) (found : Option ℕ) → option_map_or (GuestFile x) found Nowhere ≡ GuestFile hart file → (x ≡ hart) × (found ≡ Some file)
 guest_parts x hart file None e = absurd (cc)
 guest_parts x hart file (Some y) e = (cc, cc)
 
-is_machine : (guests addr hart : ℕ) (machine host guest_hart : Option ℕ) → machine_spot (host_spot (guest_spot_of guests addr guest_hart) host) machine ≡ MachineFile hart → machine ≡ Some hart
+is_machine : (guests addr hart : ℕ) (machine host guest_hart : Option ℕ) → chosen guests addr machine host guest_hart ≡ MachineFile hart → machine ≡ Some hart
 is_machine guests addr hart (Some x) host guest_hart e = cc
 is_machine guests addr hart None (Some y) guest_hart e = absurd (cc)
 is_machine guests addr hart None None (Some x) e = absurd (guest_is_no_machine x hart (guest_file_at guests x addr) e)
 is_machine guests addr hart None None None e = absurd (cc)
 
-is_host : (guests addr hart : ℕ) (machine host guest_hart : Option ℕ) → machine_spot (host_spot (guest_spot_of guests addr guest_hart) host) machine ≡ HostFile hart → host ≡ Some hart
+is_host : (guests addr hart : ℕ) (machine host guest_hart : Option ℕ) → chosen guests addr machine host guest_hart ≡ HostFile hart → host ≡ Some hart
 is_host guests addr hart (Some x) host guest_hart e = absurd (cc)
 is_host guests addr hart None (Some y) guest_hart e = cc
 is_host guests addr hart None None (Some x) e = absurd (guest_is_no_host x hart (guest_file_at guests x addr) e)
 is_host guests addr hart None None None e = absurd (cc)
 
-is_guest : (guests addr hart file : ℕ) (machine host guest_hart : Option ℕ) → machine_spot (host_spot (guest_spot_of guests addr guest_hart) host) machine ≡ GuestFile hart file → (guest_hart ≡ Some hart) × (guest_file_at guests hart addr ≡ Some file)
+is_guest : (guests addr hart file : ℕ) (machine host guest_hart : Option ℕ) → chosen guests addr machine host guest_hart ≡ GuestFile hart file → (guest_hart ≡ Some hart) × (guest_file_at guests hart addr ≡ Some file)
 is_guest guests addr hart file (Some x) host guest_hart e = absurd (cc)
 is_guest guests addr hart file None (Some y) guest_hart e = absurd (cc)
 is_guest guests addr hart file None None None e = absurd (cc)

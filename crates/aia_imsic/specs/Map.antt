@@ -1,5 +1,6 @@
 -- The file in whose page an address lies.
-use Rattle.std.specs.Prelude.{ℕ, Bool, true, false, is_some, Option, Some, None}
+use Rattle.std.specs.Prelude.{ℕ, Bool, true, false, is_some, Option}
+use Rattle.std.specs.Option.{option_map_or}
 use Rattle.aia_word.specs.Sets.{least_of}
 use Rattle.aia_regs.specs.AddressMap.{machine_page, supervisor_page, guest_page, is_in_page}
 use Rattle.aia_imsic.specs.declared.spot.Spot.{Spot}
@@ -22,23 +23,21 @@ guest_file_at guests hart addr = least_of (λ file. is_in_page (guest_page hart 
 abbrev pub guest_hart_at : ℕ → ℕ → ℕ → Option ℕ
 guest_hart_at harts guests addr = least_of (λ hart. is_some (guest_file_at guests hart addr)) 0 harts
 
--- ---- the map: pages of machine-level, supervisor and guest files; all pages are apart
+-- ---- the map: pages of machine-level, supervisor and guest files, which are all apart
 
-abbrev pub guest_spot : ℕ → Option ℕ → Spot
-guest_spot hart None = Nowhere
-guest_spot hart (Some file) = GuestFile hart file
+-- The guest file in whose page an address lies, of any hart; Nowhere where it lies in none.
+abbrev pub guest_spot_at : ℕ → ℕ → ℕ → Spot
+guest_spot_at harts guests addr =
+    option_map_or (λ hart. option_map_or (GuestFile hart) (guest_file_at guests hart addr) Nowhere)
+    (guest_hart_at harts guests addr) Nowhere
 
-abbrev pub guest_spot_of : ℕ → ℕ → Option ℕ → Spot
-guest_spot_of guests addr None = Nowhere
-guest_spot_of guests addr (Some hart) = guest_spot hart (guest_file_at guests hart addr)
-
-abbrev pub host_spot : Spot → Option ℕ → Spot
-host_spot other None = other
-host_spot other (Some hart) = HostFile hart
-
-abbrev pub machine_spot : Spot → Option ℕ → Spot
-machine_spot other None = other
-machine_spot other (Some hart) = MachineFile hart
+-- The file in whose page an address lies, of a machine of so many harts and guest files a hart;
+-- Nowhere where it lies in none.
+abbrev pub spot_at : ℕ → ℕ → ℕ → Spot
+spot_at harts guests addr =
+    option_map_or MachineFile (machine_file_at harts addr)
+    (option_map_or HostFile (supervisor_file_at harts addr)
+    (guest_spot_at harts guests addr))
 
 -- Whether an address lies in a file's page, and whether in a guest file's.
 abbrev pub is_page : Spot → Bool
@@ -48,8 +47,3 @@ is_page spot = true
 abbrev pub is_guest_page : Spot → Bool
 is_guest_page (GuestFile hart file) = true
 is_guest_page spot = false
-
--- The file in whose page an address lies, of a machine of so many harts and guest files a hart;
--- Nowhere where it lies in none.
-abbrev pub spot_at : ℕ → ℕ → ℕ → Spot
-spot_at harts guests addr = machine_spot (host_spot (guest_spot_of guests addr (guest_hart_at harts guests addr)) (supervisor_file_at harts addr)) (machine_file_at harts addr)

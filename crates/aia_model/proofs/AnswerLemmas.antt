@@ -2,6 +2,7 @@
 use Rattle.std.proofs.Common.{◌≡◌, ℕ, Bool, true, false, not, cond, nat_lt, Option, Some, None, unwrap_or, refl, sym, ap, ◌∙◌}
 use Rattle.std.proofs.lemmas.Bool.{cond-true}
 use Rattle.std.specs.Option.{option_map}
+use Rattle.std.specs.Int.{is_in_range}
 use Rattle.aia_regs.specs.declared.access.Csr.{Csr}
 use Rattle.aia_regs.specs.declared.access.Op.{Op}
 use Rattle.aia_regs.specs.declared.access.Level.TheVariants as levels
@@ -13,11 +14,9 @@ use Rattle.aia_model.specs.declared.answer.Answer.{Answer}
 use Rattle.aia_model.specs.declared.answer.Answer.TheVariants.{NoMachine, Again, Refused}
 use Rattle.aia_model.specs.declared.refusal.Refusal.{Refusal}
 use Rattle.aia_model.specs.declared.refusal.Refusal.TheVariants.{Range, Illegal, Fault, Guarded}
-use Rattle.aia_model.specs.Event.{History, has_machine, harts_of}
-use Rattle.aia_model.specs.SourceOf.{is_source}
-use Rattle.aia_model.specs.Sent.{acts_of}
+use Rattle.aia_model.specs.Event.{History, has_machine, harts_of, sources_of}
 use Rattle.aia_model.specs.FileOf.{MachineFile, SupervisorFile, page_at, select_of}
-use Rattle.aia_model.specs.Refusal.{refusal, raises_illegal, faults, guards, place_refusal, is_machine_size, lacks_machine}
+use Rattle.aia_model.specs.Refusal.{refusal, raises_illegal, faults, guards, is_machine_size, lacks_machine}
 use Rattle.aia_model.specs.Answer.{answer, after, accepted_answer, history_after}
 
 pub answered : (h : History) (line : Line) (r : Option Answer) → refusal h line ≡ r → answer h line ≡ unwrap_or r (accepted_answer h line)
@@ -43,14 +42,17 @@ pushed : (b : Bool) (x y : Option Refusal) → refused_by (cond b x y) ≡ cond 
 pushed true x y = refl
 pushed false x y = refl
 
--- the word of a place
+-- the word that refuses a load or a store, by what lies at its address
+abbrev pub place_refusal : Spot → ℕ → Option Refusal
+place_refusal spot addr = cond (faults spot addr) (Some Fault) (cond (guards spot addr) (Some Guarded) None)
+
 place_word : (spot : Spot) (addr : ℕ) → cond (faults spot addr) (Some (Refused Fault)) (cond (guards spot addr) (Some (Refused Guarded)) None) ≡ refused_by (place_refusal spot addr)
 place_word spot addr = sym (pushed (faults spot addr) (Some Fault) (cond (guards spot addr) (Some Guarded) None) ∙ ap (cond (faults spot addr) (Some (Refused Fault))) (pushed (guards spot addr) (Some Guarded) None))
 
 pub machine_refusal : (h : History) (harts guests n sources : ℕ) → refusal h (Machine harts guests n sources) ≡ cond (has_machine h) (Some Again) (cond (not (is_machine_size harts guests n sources)) (Some (Refused Range)) None)
 machine_refusal h harts guests n sources = refl
 
-pub wire_refusal : (h : History) (source : ℕ) (level : Bool) → has_machine h ≡ true → refusal h (Wire source level) ≡ cond (not (is_source (acts_of h) source)) (Some (Refused Range)) None
+pub wire_refusal : (h : History) (source : ℕ) (level : Bool) → has_machine h ≡ true → refusal h (Wire source level) ≡ cond (not (is_in_range 1 (sources_of h) source)) (Some (Refused Range)) None
 wire_refusal h source level there = past_machine h _ there
 
 pub pins_refusal : (h : History) (hart : ℕ) → has_machine h ≡ true → refusal h (Pins hart) ≡ cond (not (nat_lt hart (harts_of h))) (Some (Refused Range)) None

@@ -1,6 +1,7 @@
 -- What a line answers after a history, and the history after it. Profile, where no chapter is
 -- named.
 use Rattle.std.specs.Prelude.{ℕ, List, [], ◌∷◌, Option, Some, None, unwrap_or}
+use Rattle.std.specs.Option.{option_map_or}
 use Rattle.aia_word.specs.Top.{top_value}
 use Rattle.aia_regs.specs.declared.access.Csr.{Csr}
 use Rattle.aia_regs.specs.declared.access.Csr.TheVariants.{Select, Reg, Topei}
@@ -14,7 +15,6 @@ use Rattle.aia_model.specs.declared.answer.Answer.TheVariants as words
 use Rattle.aia_model.specs.declared.msi.Msi.{Msi}
 use Rattle.aia_model.specs.Event.{History}
 use Rattle.aia_model.specs.Event.Event.{Accepted, Delivered}
-use Rattle.aia_model.specs.declared.domain_name.DomainName.{DomainName}
 use Rattle.aia_model.specs.Act.{domain_at, register_at}
 use Rattle.aia_model.specs.declared.domain_name.DomainName.TheVariants.{Root, Child}
 use Rattle.aia_model.specs.SourceOf.{register_read, is_signalled}
@@ -37,12 +37,9 @@ csr_value h f csr = csr_shown (select_of h f) (file_of h f) csr
 
 -- What a load reads: a register of a domain, and 0 in a file's page.
 -- AIA 1.0, IMSIC, "Memory region for an interrupt file", for the last.
-abbrev pub place_read : History → ℕ → Option DomainName → ℕ
-place_read h addr None = 0
-place_read h addr (Some d) = register_read (acts_of h) d (register_at addr)
-
 abbrev pub load_value : History → ℕ → ℕ
-load_value h addr = place_read h addr (domain_at addr)
+load_value h addr =
+    option_map_or (λ d. register_read (acts_of h) d (register_at addr)) (domain_at addr) 0
 
 -- What an accepted line answers: a load what it reads, a CSR instruction the value that the CSR
 -- read before it, `pins` the signals of a hart (of both domains, of its machine-level file and of

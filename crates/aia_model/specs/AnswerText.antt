@@ -31,7 +31,9 @@ abbrev pub answer_word : Answer → List ℕ
 answer_word Okay = codes "ok"
 answer_word (Narrow v) = codes "0x" ++ hex_digits 8 v
 answer_word (Wide v) = codes "0x" ++ hex_digits 16 v
-answer_word (Pins root child machine supervisor) = codes "pins" ++ level_text root ++ level_text child ++ level_text machine ++ level_text supervisor
+answer_word (Pins root child machine supervisor) =
+    codes "pins" ++ level_text root ++ level_text child ++ level_text machine
+    ++ level_text supervisor
 answer_word Bad = codes "bad"
 answer_word NoMachine = codes "nomachine"
 answer_word Again = codes "again"

@@ -42,6 +42,10 @@ guests_of h = option_map_or (λ (m : Shape). m.guests) (machine_of h) 0
 abbrev pub harts_of : History → ℕ
 harts_of h = option_map_or (λ (m : Shape). m.harts) (machine_of h) 0
 
+-- How many wired sources there are, 0 where no machine stands.
+abbrev pub sources_of : History → ℕ
+sources_of h = option_map_or (λ (m : Shape). m.sources) (machine_of h) 0
+
 -- The greatest identity of each file, 0 where no machine stands.
 abbrev pub identities_of : History → ℕ
 identities_of h = option_map_or (λ (m : Shape). m.n) (machine_of h) 0

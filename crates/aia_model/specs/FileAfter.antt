@@ -14,10 +14,14 @@ use Rattle.aia_model.specs.Event.{Event, History}
 
 -- What an event is to one file: all that becomes of the file is said by deeds.
 pub data FileDeed : Type 0 where
-  Makes : (n : ℕ) → FileDeed  -- the file comes to be, with the identities 1 to n
-  Accesses : (csr : Csr) (op : Op) → FileDeed  -- the hart that the file serves does a CSR instruction
-  Stores : (offset value : ℕ) → FileDeed  -- 32 bits are stored at an offset of its page
-  Rests : FileDeed  -- nothing
+  -- the file comes to be, with the identities 1 to n
+  Makes : (n : ℕ) → FileDeed
+  -- the hart that the file serves does a CSR instruction
+  Accesses : (csr : Csr) (op : Op) → FileDeed
+  -- 32 bits are stored at an offset of its page
+  Stores : (offset value : ℕ) → FileDeed
+  -- nothing
+  Rests : FileDeed
 
 -- The select number after a deed: a write to the select CSR tells it anew.
 -- AIA 1.0, IMSIC. Profile: it is 0 at first.

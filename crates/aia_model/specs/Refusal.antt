@@ -14,12 +14,9 @@ use Rattle.aia_model.specs.declared.line.Line.{Line}
 use Rattle.aia_model.specs.declared.line.Line.TheVariants.{Machine, Wire, Load, Store, MachineCsr, HostCsr, Pins}
 use Rattle.aia_model.specs.declared.answer.Answer.{Answer}
 use Rattle.aia_model.specs.declared.answer.Answer.TheVariants.{NoMachine, Again, Refused}
-use Rattle.aia_model.specs.declared.refusal.Refusal.{Refusal}
 use Rattle.aia_model.specs.declared.refusal.Refusal.TheVariants.{Range, Illegal, Fault, Guarded}
-use Rattle.aia_model.specs.Event.{History, has_machine, harts_of}
+use Rattle.aia_model.specs.Event.{History, has_machine, harts_of, sources_of}
 use Rattle.aia_model.specs.Act.{domain_at}
-use Rattle.aia_model.specs.SourceOf.{is_source}
-use Rattle.aia_model.specs.Sent.{acts_of}
 use Rattle.aia_model.specs.FileOf.{MachineFile, SupervisorFile, page_at, select_of}
 
 -- ---- the cells: whether a word's condition holds of a line after a history
@@ -43,7 +40,7 @@ is_machine_size harts guests n sources =
 
 abbrev pub is_out_of_range : History → Line → Bool
 is_out_of_range h (Machine harts guests n sources) = not (is_machine_size harts guests n sources)
-is_out_of_range h (Wire source level) = not (is_source (acts_of h) source)
+is_out_of_range h (Wire source level) = not (is_in_range 1 (sources_of h) source)
 is_out_of_range h (MachineCsr hart csr op) = not (nat_lt hart (harts_of h))
 is_out_of_range h (HostCsr hart csr op) = not (nat_lt hart (harts_of h))
 is_out_of_range h (Pins hart) = not (nat_lt hart (harts_of h))
@@ -61,14 +58,11 @@ is_illegal h (HostCsr hart csr op) =
     raises_illegal (access_of levels.Host csr op (select_of h (SupervisorFile hart)) false)
 is_illegal h line = false
 
--- `fault`: the address isn't a multiple of 4, or lies neither in a file's page nor in a domain's
--- control region nor in memory; given whether there is such a region.
-abbrev pub faults_by : Bool → Spot → ℕ → Bool
-faults_by region spot addr =
-    not (nat_eq (addr % 4) 0 && (is_page spot || region || is_in_memory addr))
-
+-- `fault`: the address isn't a multiple of 4, or lies neither in a domain's control region nor in a
+-- file's page nor in memory.
 abbrev pub faults : Spot → ℕ → Bool
-faults spot addr = faults_by (is_some (domain_at addr)) spot addr
+faults spot addr =
+    not (nat_eq (addr % 4) 0 && (is_some (domain_at addr) || is_page spot || is_in_memory addr))
 
 abbrev pub is_fault : History → Line → Bool
 is_fault h (Load addr) = faults (page_at h addr) addr
@@ -78,16 +72,6 @@ is_fault h line = false
 -- `guarded`: a guest's file or memory lies there.
 abbrev pub guards : Spot → ℕ → Bool
 guards spot addr = is_guest_page spot || is_in_memory addr
-
--- The word that refuses a load or a store, by what lies at its address, where it does; given
--- whether a domain's control region does.
-abbrev pub place_refusal_by : Bool → Spot → ℕ → Option Refusal
-place_refusal_by region spot addr =
-    if faults_by region spot addr then Some Fault
-    else (if guards spot addr then Some Guarded else None)
-
-abbrev pub place_refusal : Spot → ℕ → Option Refusal
-place_refusal spot addr = place_refusal_by (is_some (domain_at addr)) spot addr
 
 abbrev pub is_guarded : History → Line → Bool
 is_guarded h (Load addr) = guards (page_at h addr) addr

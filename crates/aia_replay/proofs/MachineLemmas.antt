@@ -1,6 +1,6 @@
 -- What lines leave of machines that stood for a history: those of the core, and those of the APLIC.
 use Rattle.std.proofs.Common.{◌≡◌, ◌≢◌, ℕ, ◌%◌, ◌<◌, ◌≤◌, Bool, true, false, not, cond, nat_eq, nat_lt, ◌∷◌, unwrap_or, Option, Some, None, refl, sym, ap, subst, ◌∙◌, arith}
-use Rattle.std.specs.Option.{option_map}
+use Rattle.std.specs.Option.{option_map, option_map_or}
 use Rattle.std.specs.Int.{is_in_range}
 use Rattle.std.specs.Prelude.{Result, Ok, Err, MatchResult}
 use Rattle.std.proofs.lemmas.Bool.{cond-true, cond-false, ltb-true, eqb-true}
@@ -15,7 +15,7 @@ use Rattle.aia_model.specs.declared.refusal.Refusal.{Refusal}
 use Rattle.aia_model.specs.declared.refusal.Refusal.TheVariants.{Range, Fault}
 use Rattle.aia_model.specs.declared.domain_name.DomainName.{DomainName}
 use Rattle.aia_model.specs.declared.domain_name.DomainName.TheVariants.{Root, Child}
-use Rattle.aia_model.specs.Event.{History, harts_of}
+use Rattle.aia_model.specs.Event.{History, has_machine, harts_of}
 use Rattle.aia_model.specs.Event.Event.{Accepted}
 use Rattle.aia_model.specs.Act.{Past, domain_at, register_at, act_of}
 use Rattle.aia_model.specs.Act.Act.{Driven, Written, Loaded}
@@ -23,7 +23,7 @@ use Rattle.aia_model.specs.Sent.{with_act, acts_of}
 use Rattle.aia_model.specs.SourceOf.{harts_in, sources_in, is_source, register_read, is_signalled}
 use Rattle.aia_model.specs.FileOf.{MachineFile, SupervisorFile, page_at, file_of}
 use Rattle.aia_model.specs.Refusal.{refusal}
-use Rattle.aia_model.specs.Answer.{accepted_answer, place_read, taken}
+use Rattle.aia_model.specs.Answer.{accepted_answer, taken}
 use Rattle.aia_model.proofs.AnswerLemmas.{answered, refused_by, wire_refusal, pins_refusal, load_refusal, store_refusal}
 use Rattle.aia_regs.specs.declared.access.Csr.{Csr}
 use Rattle.aia_regs.specs.declared.access.Op.{Op}
@@ -38,7 +38,7 @@ use Rattle.aia_hyp.proofs.StoreLemmas.{line_rests}
 use Rattle.aia_aplic.specs.Aplic.{AplicState, AplicStands, domain_name}
 use Rattle.aia_replay.specs.declared.machine.Machine.{Machine}
 use Rattle.aia_replay.specs.Stands.{MachineHolds, MachineStands, MachineTakes, act_taken}
-use Rattle.aia_replay.proofs.HartLemmas.{same_harts}
+use Rattle.aia_replay.proofs.SizeLemmas.{same_harts, same_sources}
 
 -- ---- what a line answers and leaves, by its refusal
 
@@ -126,7 +126,7 @@ pub register_loaded : (m n : Machine) (addr domain value : ℕ) → addr % 4 ≡
     → MachineTakes m n (Load addr) (Narrow value)
 register_loaded m n addr domain value aligned there same reads stands_after = aplic_line m n (Load addr) (Narrow value) same (λ h stands. (
   load_refusal h addr stands.core.there ∙ ap refused_by (region_is_free (harts_of h) _ addr aligned (in_region addr (domain_name domain) there)),
-  ap Narrow (reads (acts_of h) stands.aplic ∙ sym (ap (place_read h addr) there)),
+  ap Narrow (reads (acts_of h) stands.aplic ∙ sym (ap (λ (o : Option DomainName). option_map_or (λ d. register_read (acts_of h) d (register_at addr)) o 0) there)),
   line_rests m.core h (Accepted (Load addr)) refl (λ f. refl) stands.core,
   subst (AplicStands n.aplic) (sym (ap (λ o. with_act (option_map (λ d. Loaded d (register_at addr)) o) (acts_of h)) there)) (stands_after (acts_of h) stands.aplic),
 ))
@@ -168,6 +168,10 @@ pins_shown m hart root child machine supervisor by_root by_child by_core = aplic
 
 -- ---- wires
 
+-- a wire's line is refused, or not, by what the APLIC says of the source
+wire_by : (h : History) (source : ℕ) (level : Bool) (there : Bool) → has_machine h ≡ true → is_source (acts_of h) source ≡ there → refusal h (Wire source level) ≡ cond (not there) (Some (Refused Range)) None
+wire_by h source level there stands is = wire_refusal h source level stands ∙ ap (λ k. cond (not (is_in_range 1 k source)) (Some (Refused Range)) None) (sym (same_sources h)) ∙ ap (λ b. cond (not b) (Some (Refused Range)) None) is
+
 pub no_source : (past : Past) (s : ℕ) → s ≡ 0 → is_source past s ≡ false
 no_source past s none = at (sources_in past)
   where
@@ -187,12 +191,12 @@ among_sources past s n is some within = subst (λ k. is_in_range 1 k s ≡ true)
     inside = grind (arith, nat_tests)
 
 pub no_wire : (m : Machine) (source : ℕ) (level : Bool) → ((past : Past) → AplicStands m.aplic past → is_source past source ≡ false) → MachineTakes m m (Wire source level) (Refused Range)
-no_wire m source level none = refused m (Wire source level) (Refused Range) (λ h stands. wire_refusal h source level stands.core.there ∙ cond-true _ _ _ (ap not (none (acts_of h) stands.aplic)))
+no_wire m source level none = refused m (Wire source level) (Refused Range) (λ h stands. wire_by h source level false stands.core.there (none (acts_of h) stands.aplic))
 
 pub wire_driven : (m n : Machine) (source : ℕ) (level : Bool) → n.core ≡ m.core → ((past : Past) → AplicStands m.aplic past → is_source past source ≡ true)
     → ((past : Past) → AplicStands m.aplic past → AplicStands n.aplic (Driven source level ∷ past)) → MachineTakes m n (Wire source level) Okay
 wire_driven m n source level same there drives = aplic_line m n (Wire source level) Okay same (λ h stands. (
-  wire_refusal h source level stands.core.there ∙ cond-false _ _ _ (ap not (there (acts_of h) stands.aplic)),
+  wire_by h source level true stands.core.there (there (acts_of h) stands.aplic),
   refl,
   line_rests m.core h (Accepted (Wire source level)) refl (λ f. refl) stands.core,
   drives (acts_of h) stands.aplic,

@@ -1,4 +1,4 @@
--- Answers that wait in a buffer for the sink.
+-- Answers that wait in a buffer for the sink. Vocabulary.
 use Rattle.std.specs.Prelude.{◌≡◌, ℕ, List, ◌++◌, Option}
 use Rattle.std.specs.Io.KnownBytes.{Appends}
 

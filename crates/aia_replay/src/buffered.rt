@@ -20,7 +20,7 @@ pub struct Buffered {
 }
 
 impl Buffered {
-    /// With no bytes waiting.
+    /// Makes a buffer with no bytes waiting.
     pub fn new() -> Buffered
         ensures { result.bytes.items ≡ [] }
     {

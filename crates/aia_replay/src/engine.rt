@@ -16,7 +16,7 @@ pub struct Engine {
 }
 
 impl Engine {
-    /// An engine with no machine.
+    /// Makes an engine with no machine.
     pub fn new() -> Engine
         ensures { StandsFor result [] }
     {

@@ -88,6 +88,7 @@ impl Machine {
         }
     }
 
+    /// Gives the wire of a source a level; `Range` where the source isn't there.
     fn wire(&mut self, source: u64, level: bool) -> Answer
         ensures { MachineTakes self.old self.new (Line.Wire source level) result }
     {
@@ -101,6 +102,7 @@ impl Machine {
         Answer::Okay
     }
 
+    /// Loads from a register of the APLIC, or else by the core.
     fn load(&mut self, addr: u64) -> Answer
         ensures { MachineTakes self.old self.new (Line.Load addr) result }
     {
@@ -114,6 +116,7 @@ impl Machine {
         }
     }
 
+    /// Stores to a register of the APLIC, or else by the core.
     fn store(&mut self, addr: u64, value: u32) -> Answer
         ensures { MachineTakes self.old self.new (Line.Store addr value) result }
     {
@@ -127,6 +130,7 @@ impl Machine {
         }
     }
 
+    /// Does a CSR instruction of a hart at a level of the host.
     fn access(&mut self, level: Level, hart: u64, csr: Csr, op: Op) -> Answer
         requires listed { IsInTable level csr }
         requires host { IsHost level }
@@ -136,6 +140,7 @@ impl Machine {
         given.map_or_else(Answer::Refused, Answer::Wide)
     }
 
+    /// Tells the four signals of a hart; `Range` where the hart isn't there.
     fn pins(&self, hart: u64) -> Answer
         ensures { MachineTakes self.now self.now (Line.Pins hart) result }
     {
@@ -151,7 +156,7 @@ impl Machine {
     }
 }
 
-/// The answer to a call of the core that gives nothing.
+/// Answers a call of the core that gives nothing.
 fn okay(given: Result<(), Refusal>) -> Answer
     ensures { result ≡ answer_by (λ _. Answer.Okay) given }
 {
@@ -161,8 +166,8 @@ fn okay(given: Result<(), Refusal>) -> Answer
     }
 }
 
-/// The domain, 0 or 1, in whose control region the address lies, `None` in none; `Err` where it is
-/// no multiple of 4.
+/// Gives the domain, 0 or 1, in whose control region the address lies, `None` in none; `Err` where
+/// it is no multiple of 4.
 fn register_domain(addr: u64) -> Result<Option<u32>, Refusal>
     ensures named { IfOk result (λ domain. option_map domain_name domain ≡ domain_at addr) }
     ensures few { IfOk result (λ domain. IfSome domain (λ d. d ≤ 1)) }
@@ -178,6 +183,7 @@ fn register_domain(addr: u64) -> Result<Option<u32>, Refusal>
     Ok(Some(((addr - ROOT_DOMAIN) / REGION) as u32))
 }
 
+/// Tells whether a machine may have these numbers.
 fn is_machine_size(harts: u64, guests: u64, n: u64, sources: u64) -> bool
     ensures { result ≡ is_machine_size harts guests n sources }
 {
@@ -187,6 +193,7 @@ fn is_machine_size(harts: u64, guests: u64, n: u64, sources: u64) -> bool
         && (1..=u64::from(SOURCES)).contains(&sources)
 }
 
+/// Tells whether a file may have the identities 1 to `n`.
 fn is_width(n: u64) -> bool
     ensures { result ≡ is_width n }
 {

@@ -34,7 +34,7 @@ impl Replayer {
     ghost use Rattle.aia_replay.specs.Streams.{Begins, AnswersLine, LacksMemory, WritesOut, WritesOutFront};
     ghost use Rattle.aia_replay.specs.Streams.{Feeds, FeedsFront, FeedsStop, Finishes, FinishesFront, FinishesStop, Streams, StreamsFront, StreamsStop};
 
-    /// A replayer that has read nothing.
+    /// Makes a replayer that has read nothing.
     pub fn new() -> Replayer
         ensures { Begins result }
     {
@@ -177,7 +177,7 @@ fn extend(line: &mut ArrayVec<u8, LINE>, bytes: &[u8])
     let _ = line.try_extend_from_slice(bytes);
 }
 
-/// Where the first line of `bytes` ends.
+/// Tells where the first line of `bytes` ends, `None` where none does.
 fn line_end(bytes: &[u8]) -> Option<usize>
     ensures { result ≡ position (λ b. nat_eq b LF) bytes.now }
 {

@@ -7,7 +7,7 @@ use Rattle.aia_source.specs.declared.touch.Touch.{Touch}
 use Rattle.aia_source.specs.declared.touch.Touch.TheVariants.{SetPending, ClearPending, SetEnable, ClearEnable}
 use Rattle.aia_source.specs.Registers.{deed_of_touch}
 use Rattle.aia_source.specs.Wired.{SourceDeed, is_level, rectified, level_says, says}
-use Rattle.aia_source.specs.Wired.SourceDeed.{LevelGiven, Set, Cleared, Claimed, Forwarded, Configured, Activated, Switched, Untouched}
+use Rattle.aia_source.specs.Wired.SourceDeed.{LevelGiven, Set, Cleared, Claimed, Forwarded, Configured, Switched, Untouched}
 
 -- ---- what each deed makes of the pending bit of a source at a level mode
 
@@ -45,19 +45,15 @@ followed LevelLow msi false true was l same = refl
 followed LevelLow msi false false was l same = same
 
 -- its sourcecfg
-pub begun : (m : Mode) (msi before r was active : Bool) → is_level m ≡ true → settle (says m msi before r (cond active Configured Activated)) was ≡ r
-begun Inactive msi before r was active l = cc
-begun Detached msi before r was active l = cc
-begun RisingEdge msi before r was active l = cc
-begun FallingEdge msi before r was active l = cc
-begun LevelHigh msi before true was true l = refl
-begun LevelHigh msi before true was false l = refl
-begun LevelHigh msi before false was true l = refl
-begun LevelHigh msi before false was false l = refl
-begun LevelLow msi before true was true l = refl
-begun LevelLow msi before true was false l = refl
-begun LevelLow msi before false was true l = refl
-begun LevelLow msi before false was false l = refl
+pub begun : (m : Mode) (msi before r was : Bool) → is_level m ≡ true → settle (says m msi before r Configured) was ≡ r
+begun Inactive msi before r was l = cc
+begun Detached msi before r was l = cc
+begun RisingEdge msi before r was l = cc
+begun FallingEdge msi before r was l = cc
+begun LevelHigh msi before true was l = refl
+begun LevelHigh msi before false was l = refl
+begun LevelLow msi before true was l = refl
+begun LevelLow msi before false was l = refl
 
 -- the delivery mode
 pub changed : (m : Mode) (msi before r was : Bool) → is_level m ≡ true → settle (says m msi before r Switched) was ≡ r
@@ -92,7 +88,6 @@ level_stays mode wire pending Set other lawful level = unheard mode false (recti
 level_stays mode wire pending Cleared other lawful level = unheard mode false (rectified mode wire) pending (Some ClearPending) level refl (lawful level)
 level_stays mode wire pending Claimed other lawful level = claimed mode false (rectified mode wire) pending true level refl (lawful level)
 level_stays mode wire pending Forwarded other lawful level = absurd (other refl)
-level_stays mode wire pending Configured other lawful level = begun mode false (rectified mode wire) (rectified mode wire) pending true level
-level_stays mode wire pending Activated other lawful level = begun mode false (rectified mode wire) (rectified mode wire) pending false level
+level_stays mode wire pending Configured other lawful level = begun mode false (rectified mode wire) (rectified mode wire) pending level
 level_stays mode wire pending Switched other lawful level = changed mode false (rectified mode wire) (rectified mode wire) pending level
 level_stays mode wire pending Untouched other lawful level = unheard mode false (rectified mode wire) pending None level refl (lawful level)

@@ -1,5 +1,6 @@
 -- The registers of a domain that concern its wired sources: what a write of each keeps, and which
 -- sources it names.
+-- AIA 1.0, APLIC, where no comment names another source; a heading of that chapter is named alone.
 use Rattle.std.specs.Prelude.{ℕ, ◌+◌, ◌/◌, ◌%◌, ◌^◌, Bool, true, false, not, ◌&&◌, ◌||◌, nat_eq, nat_lt, if◌then◌else◌, Option, Some, None}
 use Rattle.std.specs.Int.{swap_bytes, w32}
 use Rattle.aia_regs.specs.declared.domain_registers.DomainReg.{DomainReg}
@@ -19,24 +20,23 @@ use Rattle.aia_source.specs.Wired.SourceDeed.{Set, Cleared, Untouched}
 
 -- ---- bits and conditions
 
--- Whether two are the same. Profile.
+-- Whether two are the same. Vocabulary.
 abbrev pub same_bool : Bool → Bool → Bool
 same_bool true b = b
 same_bool false b = not b
 
--- A number with a one at bit b, or with none. Profile.
+-- A number with a one at bit b, or with none. Vocabulary.
 abbrev pub one_at : Bool → ℕ → ℕ
 one_at is b = if is then 2 ^ b else 0
 
--- Whether a register's index is a source's number; 0 is none's. Profile: sources are numbered from
--- 1.
+-- Whether a register's index is a source's number: they are numbered from 1, and 0 is none's.
 abbrev pub is_named : ℕ → ℕ → Bool
 is_named i s = nat_eq i s && nat_lt 0 s
 
 -- ---- domaincfg
 
 -- A domaincfg of IE and DM. What a write keeps: both, of the value.
--- AIA 1.0, APLIC. Profile: BE is read-only zero.
+-- Profile: BE is read-only zero.
 abbrev pub domaincfg_with : Bool → Bool → ℕ
 domaincfg_with ie dm = one_at ie IE + one_at dm DM
 
@@ -44,7 +44,6 @@ abbrev pub domaincfg_kept : ℕ → ℕ
 domaincfg_kept v = domaincfg_with (is_one v IE) (is_one v DM)
 
 -- What domaincfg reads: 0x80 in bits 31:24, IE and DM.
--- AIA 1.0, APLIC.
 abbrev pub domaincfg_read : Bool → Bool → ℕ
 domaincfg_read ie dm = DOMAINCFG_TOP + domaincfg_with ie dm
 
@@ -59,20 +58,20 @@ is_by_msi cfg = is_one cfg DM
 -- ---- sourcecfg
 
 -- The source mode that a write of this SM keeps.
--- AIA 1.0, APLIC. Profile: a reserved one, 2 or 3, becomes 0, inactive.
+-- Profile: a reserved one, 2 or 3, becomes 0, inactive.
 abbrev pub legal_mode : ℕ → ℕ
 legal_mode sm = if nat_eq sm 2 || nat_eq sm 3 then 0 else sm
 
 -- What a write keeps in the root domain: with D, the source is delegated to the child domain that
 -- bits 9:0 name; without, SM, bits 2:0, is its mode.
--- AIA 1.0, APLIC. Profile: there is one child, with the index 0; another index makes the register
+-- Profile: there is one child, with the index 0; another index makes the register
 -- 0.
 abbrev pub root_sourcecfg : ℕ → ℕ
 root_sourcecfg v =
-    if is_one v D then (if nat_eq (field v 9 0) 0 then DELEGATED else 0) else legal_mode (field v 2 0)
+    if is_one v D then (if nat_eq (field v 9 0) 0 then DELEGATED else 0)
+    else legal_mode (field v 2 0)
 
 -- What it keeps in the child domain, which has no child: D makes the register 0.
--- AIA 1.0, APLIC.
 abbrev pub child_sourcecfg : ℕ → ℕ
 child_sourcecfg v = if is_one v D then 0 else legal_mode (field v 2 0)
 
@@ -81,7 +80,6 @@ abbrev pub delegates : ℕ → Bool
 delegates cfg = nat_eq cfg DELEGATED
 
 -- The mode that a sourcecfg gives.
--- AIA 1.0, APLIC.
 abbrev pub mode_of : ℕ → Mode
 mode_of cfg =
     if nat_eq cfg 1 then Detached
@@ -92,7 +90,6 @@ mode_of cfg =
     else Inactive))))
 
 -- The SM of a mode.
--- AIA 1.0, APLIC.
 abbrev pub mode_number : Mode → ℕ
 mode_number Inactive = 0
 mode_number Detached = 1
@@ -102,7 +99,7 @@ mode_number LevelHigh = 6
 mode_number LevelLow = 7
 
 -- ---- which sources a store names: by the ones of a word of 32, or by number
--- AIA 1.0, APLIC, "Memory-mapped control region for an interrupt domain".
+-- "Memory-mapped control region for an interrupt domain".
 
 -- Word k has the sources 32k to 32k + 31.
 abbrev pub in_word : ℕ → ℕ → ℕ → Bool
@@ -149,7 +146,6 @@ abbrev pub legal_hart : ℕ → ℕ → ℕ
 legal_hart harts x = if nat_lt x harts then x else 0
 
 -- The priority that a write keeps: 0 becomes 1.
--- AIA 1.0, APLIC.
 abbrev pub legal_priority : ℕ → ℕ
 legal_priority x = if nat_eq x 0 then 1 else x
 
@@ -159,13 +155,13 @@ hart_kept harts v = with_field 0 31 18 (legal_hart harts (hart_of v))
 
 -- What a write of genmsi keeps where the domain delivers by MSIs: the hart index, and the identity
 -- in bits 10:0; Busy, bit 12, is 0.
--- AIA 1.0, APLIC. Profile: the MSI is sent at once.
+-- Profile: the MSI is sent at once.
 abbrev pub genmsi_kept : ℕ → ℕ → ℕ
 genmsi_kept harts v = with_field (hart_kept harts v) 10 0 (identity_of v)
 
 -- What a write of a source's target keeps: by MSIs what genmsi keeps, and else the hart index and,
 -- in bits 7:0, the priority.
--- AIA 1.0, APLIC. Profile: by MSIs the guest index, bits 17:12, is read-only zero.
+-- Profile: by MSIs the guest index, bits 17:12, is read-only zero.
 abbrev pub target_kept : ℕ → Bool → ℕ → ℕ
 target_kept harts msi v =
     if msi then genmsi_kept harts v

@@ -1,15 +1,15 @@
 -- Which of some sources is on top for a hart: the one with the least pair of priority and number.
+-- AIA 1.0, APLIC, "Interrupt delivery directly by the APLIC".
 use Rattle.std.specs.Prelude.{◌≡◌, ℕ, zero, suc, ◌+◌, ◌<◌, ◌≤◌, ◌⊎◌, Bool, false, nat_eq, nat_lt, if◌then◌else◌, Option, Some, None}
 use Rattle.aia_regs.specs.Fields.{field, with_field}
 
 -- A source's priority and its number.
--- AIA 1.0, APLIC, "Interrupt delivery directly by the APLIC".
 abbrev pub Pair : Type 0
 Pair = ℕ × ℕ
 
--- The lesser of two, by priority; of two with the same one the first.
--- AIA 1.0, APLIC, "Interrupt delivery directly by the APLIC": the lower a priority number, the
--- higher the priority; of two with the same one the source with the lower number comes first.
+-- The lesser of two, by priority; the first where they have the same one.
+-- The lower a priority number, the higher the priority; of two sources with the same one that with
+-- the lower number comes first.
 abbrev pub lesser : Option Pair → Option Pair → Option Pair
 lesser None q = q
 lesser (Some p) None = Some p
@@ -19,7 +19,8 @@ lesser (Some p) (Some q) = if nat_lt q.0 p.0 then Some q else Some p
 -- is the least is a law.
 unfoldable pub least_pair : (ℕ → Option Pair) → ℕ → ℕ → Option Pair
 least_pair candidate from zero = None
-least_pair candidate from (suc count) = lesser (candidate from) (least_pair candidate (suc from) count)
+least_pair candidate from (suc count) =
+    lesser (candidate from) (least_pair candidate (suc from) count)
 
 -- Whether a pair comes before another, or is it: by priority, then by number.
 abbrev pub ComesFirst : Pair → Pair → Type 0
@@ -34,10 +35,10 @@ pub record IsLeast (candidate : ℕ → Option Pair) (from count : ℕ) (p : Pai
   pub low : from ≤ p.1
   pub high : p.1 < from + count
   pub is : candidate p.1 ≡ Some p
-  pub least : (s : ℕ) (q : Pair) → from ≤ s → s < from + count → candidate s ≡ Some q → ComesFirst p q
+  pub least : (s : ℕ) (q : Pair) → from ≤ s → s < from + count → candidate s ≡ Some q
+      → ComesFirst p q
 
 -- The priority and the hart index of a target, and the identity of one by MSIs.
--- AIA 1.0, APLIC.
 abbrev pub priority_of : ℕ → ℕ
 priority_of target = field target 7 0
 
@@ -52,7 +53,6 @@ abbrev pub pair_if : Bool → ℕ → ℕ → Option Pair
 pair_if is target s = if is then Some (priority_of target, s) else None
 
 -- What topi reads: the number in bits 25:16, the priority in bits 7:0; 0 where no source is on top.
--- AIA 1.0, APLIC, "Interrupt delivery directly by the APLIC".
 abbrev pub topi_value : Option Pair → ℕ
 topi_value None = 0
 topi_value (Some p) = with_field (with_field 0 25 16 p.1) 7 0 p.0

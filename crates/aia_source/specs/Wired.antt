@@ -1,4 +1,5 @@
 -- One wired source in one domain of an APLIC: what becomes of its pending bit.
+-- AIA 1.0, APLIC, where no comment names another source; a heading of that chapter is named alone.
 use Rattle.std.specs.Prelude.{◌≡◌, Bool, true, false, not, ◌&&◌, if◌then◌else◌}
 use Rattle.aia_regs.specs.Word.{Word, settle}
 use Rattle.aia_regs.specs.Word.Word.{Ask, Clear, Nothing}
@@ -12,13 +13,11 @@ pub data SourceDeed : Type 0 where
   Cleared : SourceDeed  -- in_clrip, or a register that takes its number, clears it
   Claimed : SourceDeed  -- a load of claimi shows it
   Forwarded : SourceDeed  -- its MSI is sent
-  Configured : SourceDeed  -- its sourcecfg is written while it is active
-  Activated : SourceDeed  -- its sourcecfg is written while it is inactive
+  Configured : SourceDeed  -- its sourcecfg is written
   Switched : SourceDeed  -- the domain's delivery mode changes
   Untouched : SourceDeed
 
 -- Whether a source is active in the domain.
--- AIA 1.0, APLIC.
 abbrev pub is_active : Mode → Bool
 is_active Inactive = false
 is_active mode = true
@@ -29,7 +28,7 @@ is_level LevelLow = true
 is_level mode = false
 
 -- The rectified input, by the mode and the level of the wire.
--- AIA 1.0, APLIC. Profile: it is low for an inactive and a detached source.
+-- Profile: it is low for an inactive and a detached source.
 abbrev pub rectified : Mode → Bool → Bool
 rectified Inactive wire = false
 rectified Detached wire = false
@@ -39,17 +38,15 @@ rectified LevelHigh wire = wire
 rectified LevelLow wire = not wire
 
 -- ---- the table of pending bits: what a deed says of it, by the mode that the source has then
--- AIA 1.0, APLIC, "Precise effects on interrupt-pending bits". Profile: what a write of sourcecfg
+-- "Precise effects on interrupt-pending bits". Profile: what a write of sourcecfg
 -- and a change of the delivery mode say.
 
--- Detached: registers ask, and registers, a claim and an MSI clear. One that becomes active begins
--- with nothing pending.
+-- Detached: registers ask, and registers, a claim and an MSI clear.
 abbrev pub detached_says : SourceDeed → Word
 detached_says Set = Ask
 detached_says Cleared = Clear
 detached_says Claimed = Clear
 detached_says Forwarded = Clear
-detached_says Activated = Clear
 detached_says deed = Nothing
 
 -- Edge: as detached, and a rise of the rectified input asks, given the input before and after.
@@ -61,7 +58,8 @@ edge_says before after deed = detached_says deed
 -- and ask only while the input is high; a claim leaves it, an MSI clears it; a write of sourcecfg
 -- and a change of delivery go by the input.
 abbrev pub level_says : Bool → Bool → Bool → SourceDeed → Word
-level_says msi before after LevelGiven = if before then (if after then Nothing else Clear) else (if after then Ask else Nothing)
+level_says msi before after LevelGiven =
+    if before then (if after then Nothing else Clear) else (if after then Ask else Nothing)
 level_says msi before after Set = if msi && after then Ask else Nothing
 level_says msi before after Cleared = if msi then Clear else Nothing
 level_says msi before after Claimed = Nothing
@@ -81,7 +79,6 @@ says LevelLow msi before after deed = level_says msi before after deed
 -- ---- a source
 
 -- Its mode, the level of its wire, and whether it is pending.
--- AIA 1.0, APLIC.
 pub record WiredState : Type 0 where
   pub mode : Mode
   pub wire : Bool

@@ -92,7 +92,7 @@ pub fn child_sourcecfg(value: u32) -> u32
     }
 }
 
-/// The SM of a value, as a `sourcecfg` keeps it.
+/// Gives the SM of a value, as a `sourcecfg` keeps it.
 fn legal_mode(value: u32) -> u32
     ensures { result ≡ legal_mode (field value 2 0) }
 {
@@ -184,7 +184,7 @@ pub fn genmsi_kept(harts: u32, value: u32) -> u32
     ) as u32
 }
 
-/// The hart index of a value, in its place, of so many harts: one that isn't there becomes 0.
+/// Gives the hart index of a value, in its place, of so many harts: one that isn't there becomes 0.
 fn hart_kept(harts: u32, value: u32) -> u64
     ensures kept { result ≡ hart_kept harts value }
     ensures word { result < 2 ^ 32 }

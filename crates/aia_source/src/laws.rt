@@ -7,7 +7,7 @@ ghost use Rattle.aia_regs.specs.Operations.{is_one};
 ghost use Rattle.aia_source.specs.Registers.{one_at, enables, is_by_msi, domaincfg_kept, domaincfg_read, delegates, root_sourcecfg, child_sourcecfg, legal_mode};
 ghost use Rattle.aia_source.specs.Top.{Pair, NamesItself, IsLeast, least_pair};
 ghost use Rattle.aia_source.specs.Wired.{WiredState, SourceDeed, IsLawful, new_wired, done};
-ghost use Rattle.aia_source.specs.Wired.SourceDeed.{LevelGiven, Forwarded, Configured, Activated, Switched};
+ghost use Rattle.aia_source.specs.Wired.SourceDeed.{LevelGiven, Forwarded, Configured, Switched};
 
 use crate::mode::Mode;
 
@@ -19,16 +19,19 @@ use crate::mode::Mode;
 /// AIA 1.0, APLIC, "Precise effects on interrupt-pending bits".
 pub fn a_level_source_follows_its_input()
     ensures begins { IsLawful new_wired }
-    ensures moved { (s : WiredState) (wire : Bool) → IsLawful s → IsLawful (done false LevelGiven s.mode wire s) }
-    ensures stays { (s : WiredState) (deed : SourceDeed) → deed ≢ Forwarded → IsLawful s → IsLawful (done false deed s.mode s.wire s) }
+    ensures wired { (s : WiredState) (wire : Bool) → IsLawful s
+        → IsLawful (done false LevelGiven s.mode wire s) }
+    ensures stays { (s : WiredState) (deed : SourceDeed) → deed ≢ Forwarded → IsLawful s
+        → IsLawful (done false deed s.mode s.wire s) }
     ensures switched { (s : WiredState) → IsLawful (done false Switched s.mode s.wire s) }
-    ensures configured { (s : WiredState) (mode : Mode) → IsLawful (done false Configured mode s.wire s) }
-    ensures activated { (s : WiredState) (mode : Mode) → IsLawful (done false Activated mode s.wire s) }
+    ensures configured { (s : WiredState) (mode : Mode)
+        → IsLawful (done false Configured mode s.wire s) }
 {}
 
 /// An inactive source is never pending.
 pub fn an_inactive_source_is_not_pending()
-    ensures { (s : WiredState) (msi : Bool) (deed : SourceDeed) (wire : Bool) → (done msi deed Mode.Inactive wire s).pending ≡ false }
+    ensures { (s : WiredState) (msi : Bool) (deed : SourceDeed) (wire : Bool)
+        → (done msi deed Mode.Inactive wire s).pending ≡ false }
 {}
 
 /// The least pair of a range is the least: it is a candidate's, and no candidate's pair comes
@@ -36,8 +39,12 @@ pub fn an_inactive_source_is_not_pending()
 ///
 /// AIA 1.0, APLIC, "Interrupt delivery directly by the APLIC".
 pub fn the_least_pair_is_the_least()
-    ensures found { (candidate : ℕ → Option Pair) (from count : ℕ) (p : Pair) → NamesItself candidate → least_pair candidate from count ≡ Some p → IsLeast candidate from count p }
-    ensures none { (candidate : ℕ → Option Pair) (from count : ℕ) → NamesItself candidate → ◌≡◌ {A = Option Pair} (least_pair candidate from count) None → (s : ℕ) → from ≤ s → s < from + count → ◌≡◌ {A = Option Pair} (candidate s) None }
+    ensures found { (candidate : ℕ → Option Pair) (from count : ℕ) (p : Pair)
+        → NamesItself candidate → least_pair candidate from count ≡ Some p
+        → IsLeast candidate from count p }
+    ensures none { (candidate : ℕ → Option Pair) (from count : ℕ) → NamesItself candidate
+        → ◌≡◌ {A = Option Pair} (least_pair candidate from count) None
+        → (s : ℕ) → from ≤ s → s < from + count → ◌≡◌ {A = Option Pair} (candidate s) None }
 {}
 
 /// Where the bits of `domaincfg` and `sourcecfg` stand: IE at 8 and DM at 2, and above them 0x80 in
@@ -48,9 +55,12 @@ pub fn bits_of_registers()
     ensures enables { (cfg : ℕ) → enables cfg ≡ is_one cfg 8 }
     ensures by_msi { (cfg : ℕ) → is_by_msi cfg ≡ is_one cfg 2 }
     ensures kept { (v : ℕ) → domaincfg_kept v ≡ one_at (is_one v 8) 8 + one_at (is_one v 2) 2 }
-    ensures read { (ie dm : Bool) → domaincfg_read ie dm ≡ 0x80000000 + (one_at ie 8 + one_at dm 2) }
+    ensures read { (ie dm : Bool)
+        → domaincfg_read ie dm ≡ 0x80000000 + (one_at ie 8 + one_at dm 2) }
     ensures delegates { (cfg : ℕ) → delegates cfg ≡ nat_eq cfg 0x400 }
     ensures root { (v : ℕ) → root_sourcecfg v
-        ≡ (if is_one v 10 then (if nat_eq (field v 9 0) 0 then 0x400 else 0) else legal_mode (field v 2 0)) }
-    ensures child { (v : ℕ) → child_sourcecfg v ≡ (if is_one v 10 then 0 else legal_mode (field v 2 0)) }
+        ≡ (if is_one v 10 then (if nat_eq (field v 9 0) 0 then 0x400 else 0)
+        else legal_mode (field v 2 0)) }
+    ensures child { (v : ℕ) → child_sourcecfg v
+        ≡ (if is_one v 10 then 0 else legal_mode (field v 2 0)) }
 {}

@@ -22,7 +22,7 @@ pub enum Mode {
 }
 
 impl Mode {
-    /// The rectified input where the wire has this level.
+    /// Gives the rectified input where the wire has this level.
     pub(crate) fn rectified(self, wire: bool) -> bool
         ensures { result ≡ rectified self wire }
     {
@@ -33,6 +33,7 @@ impl Mode {
         }
     }
 
+    /// Tells whether the mode is level high or level low.
     pub(crate) fn is_level(self) -> bool
         ensures { result ≡ is_level self }
     {

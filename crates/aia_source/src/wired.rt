@@ -1,6 +1,6 @@
 ghost use Rattle.std.specs.Prelude.{◌≡◌, Bool, false, if◌then◌else◌};
 ghost use Rattle.aia_source.specs.Wired.{WiredState, new_wired, done, rectified, is_active};
-ghost use Rattle.aia_source.specs.Wired.SourceDeed.{LevelGiven, Set, Cleared, Forwarded, Configured, Activated, Switched};
+ghost use Rattle.aia_source.specs.Wired.SourceDeed.{LevelGiven, Set, Cleared, Forwarded, Configured, Switched};
 ghost use Rattle.aia_source.specs.declared.mode.Mode.TheVariants.{Inactive};
 
 use crate::mode::Mode;
@@ -25,7 +25,7 @@ impl Model for Wired {
 }
 
 impl Wired {
-    /// A source that is inactive, with a low wire.
+    /// Makes a source that is inactive, with a low wire.
     pub fn new() -> Wired
         ensures { result ≡ new_wired }
     {
@@ -36,29 +36,29 @@ impl Wired {
         }
     }
 
-    /// Its mode.
+    /// Gives its mode.
     pub fn mode(&self) -> Mode
         ensures { result ≡ self.now.mode }
     {
         self.mode
     }
 
-    /// Its rectified input: whether the wire is at the level, or past the edge, that the mode waits
-    /// for; false for a source that is inactive or detached.
+    /// Tells its rectified input: whether the wire is at the level, or past the edge, that the mode
+    /// waits for; false for a source that is inactive or detached.
     pub fn rectified(&self) -> bool
         ensures { result ≡ rectified self.now.mode self.now.wire }
     {
         self.mode.rectified(self.wire)
     }
 
-    /// Whether it is pending.
+    /// Tells whether it is pending.
     pub fn pending(&self) -> bool
         ensures { result ≡ self.now.pending }
     {
         self.pending
     }
 
-    /// The wire gets this level; `msi` is whether the domain delivers by MSIs.
+    /// Gives the wire a level; `msi` is whether the domain delivers by MSIs.
     ///
     /// A rectified rise makes the source pending, and at a level mode a fall takes that back.
     pub fn wire(&mut self, level: bool, msi: bool)
@@ -75,7 +75,7 @@ impl Wired {
         }
     }
 
-    /// A register asks for it: `setip` or one that takes the source's number.
+    /// Asks for it, as `setip` does, and a register that takes the source's number.
     ///
     /// A source at a level mode hears it only where the domain delivers by MSIs (`msi`) and the
     /// input is high.
@@ -93,7 +93,7 @@ impl Wired {
         }
     }
 
-    /// A register clears it: `in_clrip` or one that takes the source's number.
+    /// Clears it, as `in_clrip` does, and a register that takes the source's number.
     ///
     /// A source at a level mode hears it only where the domain delivers by MSIs (`msi`).
     pub fn clear(&mut self, msi: bool)
@@ -104,20 +104,21 @@ impl Wired {
         }
     }
 
-    /// Its MSI was sent, so it is no longer pending.
+    /// Hears that its MSI was sent, so that it is no longer pending.
     pub fn forwarded(&mut self)
         ensures { self.new ≡ done Bool.true Forwarded self.old.mode self.old.wire self.old }
     {
         self.clear(true);
     }
 
-    /// Its `sourcecfg` is written with this mode.
+    /// Takes the mode that a write of its `sourcecfg` gives it.
     ///
     /// At a level mode it is then pending exactly where its input is high. At an edge or detached
     /// mode it stays pending if it was (our profile); one that was inactive is not.
     pub fn recfg(&mut self, mode: Mode)
         ensures mode { self.new.mode ≡ mode }
-        ensures after { (msi : Bool) → self.new ≡ done msi (if is_active self.old.mode then Configured else Activated) mode self.old.wire self.old }
+        ensures after { (msi : Bool)
+            → self.new ≡ done msi Configured mode self.old.wire self.old }
     {
         self.mode = mode;
         if mode.is_level() {
@@ -127,11 +128,12 @@ impl Wired {
         }
     }
 
-    /// The domain's delivery mode changed: a source at a level mode is then pending exactly where
-    /// its input is high (our profile).
+    /// Hears that the domain's delivery mode changed: a source at a level mode is then pending
+    /// exactly where its input is high (our profile).
     pub fn delivery_changed(&mut self)
         ensures mode { self.new.mode ≡ self.old.mode }
-        ensures after { (msi : Bool) → self.new ≡ done msi Switched self.old.mode self.old.wire self.old }
+        ensures after { (msi : Bool)
+            → self.new ≡ done msi Switched self.old.mode self.old.wire self.old }
     {
         if self.mode.is_level() {
             self.pending = self.rectified();
