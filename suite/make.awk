@@ -137,7 +137,7 @@ END {
   if (failed) exit 1
   end_row()
   if (failed) exit 1
-  file = top "/crates/aia_vectors/src/" subject ".rt"
+  file = top "/crates/aia_vectors/src/rows/" subject ".rt"
   printf "%s//!\n", head > file
   print "//! Made of suite/rows/" subject ".rows by suite/make: edit the rows.\n" > file
   print "ghost use Rattle.std.specs.Prelude.{◌≡◌};" > file

@@ -4,7 +4,7 @@
 use crate::rows::{answers_of, script_of};
 use aia_io::{MemSink, MemSource, QuietSink, QuietSource, StdSink, StdSource};
 use aia_replay::{Status, run};
-use aia_vectors::files::STORE_IS_CLAIMED;
+use aia_vectors::rows::files::STORE_IS_CLAIMED;
 use std::io;
 use std::test::Fail;
 

@@ -2,7 +2,7 @@
 
 use crate::runs::replays;
 use aia_vectors::row::Row;
-use aia_vectors::{
+use aia_vectors::rows::{
     direct_delivery, examples, files, lines, machines, msi_delivery, registers, sources,
 };
 use std::alloc::{AllocError, Global};
