@@ -7,8 +7,6 @@ mod controls;
 pub mod laws;
 mod sender;
 mod side;
-#[cfg(test)]
-mod tests;
 
 pub use aia_model::Msi;
 pub use aplic::Aplic;

@@ -3,7 +3,5 @@
 #![tactic(auto)]
 
 mod idc;
-#[cfg(test)]
-mod tests;
 
 pub use idc::{Idc, claimi, signal, topi};

@@ -6,8 +6,6 @@ mod entries;
 mod entry;
 pub mod laws;
 mod ready;
-#[cfg(test)]
-mod tests;
 
 pub use domain::Domain;
 pub use ready::Ready;

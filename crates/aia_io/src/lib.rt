@@ -15,8 +15,6 @@ mod source;
 mod std_sink;
 mod std_source;
 mod tape;
-#[cfg(test)]
-mod tests;
 
 pub use mem_sink::MemSink;
 pub use mem_source::MemSource;

@@ -4,8 +4,6 @@
 mod addresses;
 pub mod laws;
 mod registers;
-#[cfg(test)]
-mod tests;
 
 pub use addresses::{machine_address, supervisor_address};
 pub use registers::Addresses;

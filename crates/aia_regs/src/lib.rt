@@ -11,8 +11,6 @@ mod file_registers;
 pub mod laws;
 pub mod limits;
 mod request;
-#[cfg(test)]
-mod tests;
 
 pub use access::{Csr, Level, Op};
 pub use byte_order::swap32;

@@ -16,6 +16,3 @@ pub use aia_regs::{Csr, Op};
 pub use parse::parse_line;
 pub use print::print_answer;
 pub use spelling::print_line;
-
-#[cfg(test)]
-mod tests;

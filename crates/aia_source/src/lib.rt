@@ -4,8 +4,6 @@
 mod kept;
 pub mod laws;
 mod mode;
-#[cfg(test)]
-mod tests;
 mod touch;
 mod wired;
 

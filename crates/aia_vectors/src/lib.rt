@@ -1,11 +1,5 @@
-//! Worked scripts, each with what it must print: as theorems of the model, and as tests of the run.
+//! Worked scripts, each line with its answer beside it, as theorems of the model.
 #![tactic(auto)]
 
-pub mod delivery_rows;
-pub mod msi_rows;
-pub mod register_rows;
+pub mod row;
 pub mod rows;
-pub mod source_rows;
-#[cfg(test)]
-mod tests;
-pub mod worked;

@@ -8,7 +8,5 @@
 mod bits;
 pub mod laws;
 pub mod sets;
-#[cfg(test)]
-mod tests;
 
 pub use bits::least_one;

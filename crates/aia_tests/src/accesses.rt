@@ -1,0 +1,124 @@
+//! What an access to a CSR reaches, by the table of levels and CSRs.
+
+use aia_csr::{Access, decide};
+use aia_regs::{Csr, FileReg, Level, Op};
+
+const OPS: [Op; 4] = [Op::Read, Op::Write(1), Op::Set(0), Op::Clear(0)];
+
+/// What a select number names, and what an access by it reaches at the machine's and the host's
+/// level, and at a guest's.
+const SELECTED: [(u64, Access, Access); 14] = [
+    (0, Access::Illegal, Access::Virtual),
+    (0x6f, Access::Illegal, Access::Virtual),
+    (
+        0x70,
+        Access::File(FileReg::Delivery),
+        Access::File(FileReg::Delivery),
+    ),
+    (
+        0x71,
+        Access::File(FileReg::Reserved),
+        Access::File(FileReg::Reserved),
+    ),
+    (
+        0x72,
+        Access::File(FileReg::Threshold),
+        Access::File(FileReg::Threshold),
+    ),
+    (
+        0x73,
+        Access::File(FileReg::Reserved),
+        Access::File(FileReg::Reserved),
+    ),
+    (
+        0x7f,
+        Access::File(FileReg::Reserved),
+        Access::File(FileReg::Reserved),
+    ),
+    (
+        0x80,
+        Access::File(FileReg::Pending(0)),
+        Access::File(FileReg::Pending(0)),
+    ),
+    (0x81, Access::Illegal, Access::Virtual),
+    (
+        0xbe,
+        Access::File(FileReg::Pending(62)),
+        Access::File(FileReg::Pending(62)),
+    ),
+    (
+        0xc0,
+        Access::File(FileReg::Enable(0)),
+        Access::File(FileReg::Enable(0)),
+    ),
+    (
+        0xfe,
+        Access::File(FileReg::Enable(62)),
+        Access::File(FileReg::Enable(62)),
+    ),
+    (0xff, Access::Illegal, Access::Virtual),
+    (0x100, Access::Illegal, Access::Virtual),
+];
+
+/// What a guest's access to its majors reaches: by a read, by a write, and by either where hvictl's
+/// VTI is 1.
+const MAJORS: [(Csr, Access, Access, Access, Access); 3] = [
+    (
+        Csr::Topi,
+        Access::Topi,
+        Access::Illegal,
+        Access::Topi,
+        Access::Illegal,
+    ),
+    (
+        Csr::Sip,
+        Access::Sip,
+        Access::Sip,
+        Access::Virtual,
+        Access::Virtual,
+    ),
+    (
+        Csr::Sie,
+        Access::Sie,
+        Access::Sie,
+        Access::Virtual,
+        Access::Virtual,
+    ),
+];
+
+#[test]
+fn accesses_reach_what_the_table_says(rt: HostRuntime) {
+    for op in OPS {
+        for vti in [false, true] {
+            for (select, host, guest) in SELECTED {
+                assert_eq!(rt;
+                    decide(Level::Machine, Csr::Reg, op, select, vti),
+                    host,
+                    "at {select}"
+                );
+                assert_eq!(rt;
+                    decide(Level::Host, Csr::Reg, op, select, vti),
+                    host,
+                    "at {select}"
+                );
+                assert_eq!(rt;
+                    decide(Level::Guest, Csr::Reg, op, select, vti),
+                    guest,
+                    "at {select}"
+                );
+            }
+            for level in [Level::Machine, Level::Host, Level::Guest] {
+                assert_eq!(rt; decide(level, Csr::Select, op, 0x81, vti), Access::Select);
+                assert_eq!(rt; decide(level, Csr::Topei, op, 0x81, vti), Access::Top);
+            }
+        }
+        for (csr, read, written, read_at_vti, written_at_vti) in MAJORS {
+            let (plain, at_vti) = match op {
+                Op::Read => (read, read_at_vti),
+                Op::Write(_) | Op::Set(_) | Op::Clear(_) => (written, written_at_vti),
+            };
+            assert_eq!(rt; decide(Level::Guest, csr, op, 0, false), plain);
+            assert_eq!(rt; decide(Level::Guest, csr, op, 0, true), at_vti);
+        }
+    }
+}

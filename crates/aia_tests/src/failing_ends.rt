@@ -1,0 +1,200 @@
+//! What a run makes of its words, and of ends that fail, that take little at a time or that only
+//! count.
+
+use crate::rows::{answers_of, script_of};
+use aia_io::{MemSink, MemSource, QuietSink, QuietSource, StdSink, StdSource};
+use aia_replay::{Status, run};
+use aia_vectors::rows::files::STORE_IS_CLAIMED;
+use std::io;
+use std::test::Fail;
+
+#[test]
+fn other_words_are_refused_with_nothing_read_or_written(rt: HostRuntime) -> Result<(), Fail> {
+    let alloc = rt.alloc();
+    let refused: [&[&str]; 5] = [
+        &[],
+        &["gen", "x", "1"],
+        &["gen", "100001", "1"],
+        &["--help"],
+        &["replay", "replay"],
+    ];
+    for words in refused {
+        let script = script_of(alloc, &STORE_IS_CLAIMED)?;
+        let mut source = MemSource::new(script, 1, vec![in alloc; 1]?);
+        let mut sink = MemSink::new(alloc, 1, vec![in alloc; 1]?)?;
+        assert_eq!(rt; run(alloc, words, &mut source, &mut sink), Status::Usage);
+        // Each end fails at its first call, so neither was called.
+        assert_eq!(rt; source.faults(), 0);
+        assert_eq!(rt; sink.faults(), 0);
+    }
+    Ok(())
+}
+
+/// A run over pieces of 41 bytes, which are two lines at first, that an end cuts short.
+///
+/// Calls are numbered from 1, so that 0 is none.
+struct CutShort {
+    failing_read: u64,
+    failing_write: u64,
+    room: usize,
+    status: Status,
+    answers: &'static str,
+}
+
+const CUT_SHORT: [CutShort; 6] = [
+    CutShort {
+        failing_read: 1,
+        failing_write: 0,
+        room: 1000,
+        status: Status::ReadFault,
+        answers: "",
+    },
+    CutShort {
+        failing_read: 2,
+        failing_write: 0,
+        room: 1000,
+        status: Status::ReadFault,
+        answers: "ok\n0x0000000000000000\n",
+    },
+    // The second piece ends within the fifth line.
+    CutShort {
+        failing_read: 3,
+        failing_write: 0,
+        room: 1000,
+        status: Status::ReadFault,
+        answers: "ok\n0x0000000000000000\n0x0000000000000000\nok\n",
+    },
+    CutShort {
+        failing_read: 0,
+        failing_write: 1,
+        room: 1000,
+        status: Status::WriteFault,
+        answers: "",
+    },
+    CutShort {
+        failing_read: 0,
+        failing_write: 2,
+        room: 1000,
+        status: Status::WriteFault,
+        answers: "ok\n0x0000000000000000\n",
+    },
+    CutShort {
+        failing_read: 0,
+        failing_write: 0,
+        room: 5,
+        status: Status::WriteFault,
+        answers: "ok\n0x",
+    },
+];
+
+#[test]
+fn a_failing_end_ends_the_run(rt: HostRuntime) -> Result<(), Fail> {
+    let alloc = rt.alloc();
+    for cut in &CUT_SHORT {
+        let script = script_of(alloc, &STORE_IS_CLAIMED)?;
+        let mut source = MemSource::new(script, 41, vec![in alloc; cut.failing_read]?);
+        let mut sink = MemSink::new(alloc, cut.room, vec![in alloc; cut.failing_write]?)?;
+        let status = run(alloc, &["replay"], &mut source, &mut sink);
+        assert_eq!(rt; status, cut.status);
+        assert_eq!(rt; sink.bytes(), cut.answers.as_bytes());
+        assert_eq!(rt; source.faults() == 1, cut.status == Status::ReadFault);
+        assert_eq!(rt; sink.faults() == 1, cut.status == Status::WriteFault);
+    }
+    Ok(())
+}
+
+/// The bytes that a source gives at a time, and the call that fails, the first one after all of its
+/// 28 bytes.
+const FAILS_AT_ITS_END: [(usize, u64); 4] = [(1, 29), (26, 3), (27, 3), (28, 2)];
+
+#[test]
+fn a_line_that_a_failing_source_cuts_off_is_not_answered(rt: HostRuntime) -> Result<(), Fail> {
+    let alloc = rt.alloc();
+    for (piece, failing) in FAILS_AT_ITS_END {
+        let script = Vec::from_slice(alloc, b"machine 1 1 63 8\nwire 1 1\nwi")?;
+        let mut source = MemSource::new(script, piece, vec![in alloc; failing]?);
+        let mut sink = MemSink::new(alloc, 1000, Vec::new(alloc))?;
+        let status = run(alloc, &["replay"], &mut source, &mut sink);
+        assert_eq!(rt; status, Status::ReadFault);
+        assert_eq!(rt; sink.bytes(), b"ok\nok\n".as_slice(), "by {piece} bytes");
+        assert_eq!(rt; source.faults(), 1);
+        assert_eq!(rt; sink.faults(), 0);
+    }
+    Ok(())
+}
+
+/// What a sink took before its second call failed, by the bytes that the source gives at a time.
+///
+/// The answers of the lines that a piece ends are written before the next piece is read.
+const SECOND_WRITE_FAILS: [(usize, &str); 3] = [
+    (1, "ok\n"),
+    (62, "ok\n0x0000000000000000\n0x0000000000000000\n"),
+    (
+        109,
+        "ok\n0x0000000000000000\n0x0000000000000000\nok\n0x0000000000050005\n",
+    ),
+];
+
+#[test]
+fn a_sink_that_fails_again_has_a_front_of_the_answers(rt: HostRuntime) -> Result<(), Fail> {
+    let alloc = rt.alloc();
+    for (piece, taken) in SECOND_WRITE_FAILS {
+        let script = script_of(alloc, &STORE_IS_CLAIMED)?;
+        let mut source = MemSource::new(script, piece, Vec::new(alloc));
+        let mut sink = MemSink::new(alloc, 1000, vec![in alloc; 2]?)?;
+        let status = run(alloc, &["replay"], &mut source, &mut sink);
+        assert_eq!(rt; status, Status::WriteFault);
+        assert_eq!(rt; sink.bytes(), taken.as_bytes());
+        let all = answers_of(alloc, &STORE_IS_CLAIMED)?;
+        assert!(rt; all.starts_with(sink.bytes()));
+        assert_eq!(rt; source.faults(), 0);
+        assert_eq!(rt; sink.faults(), 1);
+    }
+    Ok(())
+}
+
+/// A writer that takes at most five bytes at a time.
+#[derive(Drop)]
+struct TakesLittle<'a> {
+    out: &'a mut Vec<u8>,
+}
+
+impl io::Write for TakesLittle<'_> {
+    fn write(&mut self, buf: &[u8]) -> io::Result<usize> {
+        let count = buf.len().min(5);
+        match self.out.extend_from_slice(&buf[..count]) {
+            Ok(()) => Ok(count),
+            Err(_) => Err(io::Error::from(io::ErrorKind::OutOfMemory)),
+        }
+    }
+
+    fn flush(&mut self) -> io::Result<()> {
+        Ok(())
+    }
+}
+
+#[test]
+fn a_writer_that_takes_little_is_given_all(rt: HostRuntime) -> Result<(), Fail> {
+    let alloc = rt.alloc();
+    let script = script_of(alloc, &STORE_IS_CLAIMED)?;
+    let mut out = Vec::new(alloc);
+    let mut source = StdSource::new(script.as_slice());
+    let mut sink = StdSink::new(TakesLittle { out: &mut out });
+    let status = run(alloc, &["replay"], &mut source, &mut sink);
+    assert_eq!(rt; status, Status::Done);
+    assert_eq!(rt; out, answers_of(alloc, &STORE_IS_CLAIMED)?);
+    Ok(())
+}
+
+#[test]
+fn a_run_between_quiet_ends_is_done(rt: HostRuntime) -> Result<(), Fail> {
+    let alloc = rt.alloc();
+    let script = script_of(alloc, &STORE_IS_CLAIMED)?;
+    let mut source = QuietSource::new(script);
+    let mut sink = QuietSink::new();
+    let status = run(alloc, &["replay"], &mut source, &mut sink);
+    assert_eq!(rt; status, Status::Done);
+    let answers = answers_of(alloc, &STORE_IS_CLAIMED)?;
+    assert_eq!(rt; sink.count(), answers.len() as u64);
+    Ok(())
+}

@@ -1,0 +1,148 @@
+//! One interrupt file, and the files of a machine.
+
+use aia_file::File;
+use aia_imsic::{Imsic, Spot};
+use aia_regs::{FileReg, Op};
+use std::test::Fail;
+
+/// Addresses at the ends of pages, of a machine of two harts with one guest file each.
+const PLACES: [(u64, Spot); 17] = [
+    (0, Spot::Nowhere),
+    (0x0c00_0000, Spot::Nowhere),
+    (0x23ff_ffff, Spot::Nowhere),
+    (0x2400_0000, Spot::MachineFile(0)),
+    (0x2400_0fff, Spot::MachineFile(0)),
+    (0x2400_1000, Spot::MachineFile(1)),
+    (0x2400_2000, Spot::Nowhere),
+    (0x27ff_ffff, Spot::Nowhere),
+    (0x2800_0000, Spot::HostFile(0)),
+    (0x2800_1000, Spot::GuestFile(0, 1)),
+    (0x2800_1fff, Spot::GuestFile(0, 1)),
+    (0x2800_2000, Spot::Nowhere),
+    (0x2800_8004, Spot::HostFile(1)),
+    (0x2800_9000, Spot::GuestFile(1, 1)),
+    (0x2801_0000, Spot::Nowhere),
+    (0x8000_0000, Spot::Nowhere),
+    (u64::MAX, Spot::Nowhere),
+];
+
+#[test]
+fn an_address_lies_in_one_page(rt: HostRuntime) -> Result<(), Fail> {
+    let imsic = Imsic::new(rt.alloc(), 2, 1, 63)?;
+    assert_eq!(rt; imsic.harts(), 2);
+    assert_eq!(rt; imsic.guests(), 1);
+    for (addr, spot) in PLACES {
+        assert_eq!(rt; imsic.locate(addr), spot, "at {addr}");
+    }
+    Ok(())
+}
+
+/// Enables the identities 1 to 4, and delivers them.
+fn listens(file: &mut File) {
+    file.write(FileReg::Enable(0), 0b1_1110);
+    file.write(FileReg::Delivery, 1);
+}
+
+#[test]
+fn files_are_apart_and_those_of_guests_signal(rt: HostRuntime) -> Result<(), Fail> {
+    let mut imsic = Imsic::new(rt.alloc(), 1, 2, 63)?;
+    imsic.store(Spot::MachineFile(0), 0, 1);
+    imsic.store(Spot::HostFile(0), 4, 0x0200_0000);
+    imsic.store(Spot::GuestFile(0, 1), 0, 3);
+    imsic.store(Spot::GuestFile(0, 2), 0, 4);
+    let pending = FileReg::Pending(0);
+    assert_eq!(rt; imsic.file(Spot::MachineFile(0)).read(pending), 0b10);
+    assert_eq!(rt; imsic.file(Spot::HostFile(0)).read(pending), 0b100);
+    assert_eq!(rt; imsic.file(Spot::GuestFile(0, 1)).read(pending), 0b1000);
+    assert_eq!(rt; imsic.file(Spot::GuestFile(0, 2)).read(pending), 0b1_0000);
+    listens(imsic.file_mut(Spot::HostFile(0)));
+    listens(imsic.file_mut(Spot::GuestFile(0, 2)));
+    // The host's own file signals too, but is none of a guest's.
+    assert!(rt; imsic.file(Spot::HostFile(0)).signal());
+    assert_eq!(rt; imsic.hgeip(0), 0b100);
+    assert_eq!(rt; imsic.file_mut(Spot::GuestFile(0, 2)).claim(), 0x4_0004);
+    assert_eq!(rt; imsic.hgeip(0), 0);
+    Ok(())
+}
+
+#[test]
+fn ones_are_set_and_cleared(rt: HostRuntime) -> Result<(), Fail> {
+    let mut file = File::new(rt.alloc(), 63)?;
+    // Each register, the ones set, what is then kept, the ones cleared, and what is left.
+    let steps = [
+        (FileReg::Delivery, 3, 1, 1, 0),
+        (FileReg::Threshold, 0x45, 5, 4, 1),
+        (FileReg::Pending(0), 0b1011, 0b1010, 0b110, 0b1000),
+        (FileReg::Pending(2), 1, 0, 1, 0),
+        (
+            FileReg::Enable(0),
+            u64::MAX,
+            u64::MAX - 1,
+            0b110,
+            u64::MAX - 7,
+        ),
+        (FileReg::Reserved, 7, 0, 7, 0),
+    ];
+    for (reg, ones, kept, gone, left) in steps {
+        assert_eq!(rt; file.set(reg, ones), 0);
+        assert_eq!(rt; file.set(reg, 0), kept);
+        assert_eq!(rt; file.clear(reg, gone), kept);
+        assert_eq!(rt; file.read(reg), left);
+    }
+    // The threshold is 1, which holds every identity back.
+    assert_eq!(rt; file.top(), 0);
+    assert_eq!(rt; file.clear(FileReg::Threshold, 1), 1);
+    assert_eq!(rt; file.top(), 0x3_0003);
+    Ok(())
+}
+
+#[test]
+fn a_file_shows_and_claims_the_identity_on_top(rt: HostRuntime) -> Result<(), Fail> {
+    let mut file = File::new(rt.alloc(), 63)?;
+    assert!(rt; file.is_empty());
+    assert_eq!(rt; file.claim(), 0);
+    // Identity 0 can't be enabled: 4 and 5 are.
+    assert_eq!(rt; file.write(FileReg::Enable(0), 0b11_0001), 0);
+    assert_eq!(rt; file.read(FileReg::Enable(0)), 0b11_0000);
+    // 5 by either byte order, and what no file with 63 identities hears.
+    for (offset, value) in [(0, 5), (4, 0x0400_0000), (0, 0), (0, 64), (8, 6), (4, 6)] {
+        file.land(offset, value);
+    }
+    assert_eq!(rt; file.read(FileReg::Pending(0)), 0b11_0000);
+    assert_eq!(rt; file.top(), 0x4_0004);
+    assert!(rt; !file.signal());
+    assert_eq!(rt; file.write(FileReg::Delivery, 3), 0);
+    assert_eq!(rt; file.read(FileReg::Delivery), 1);
+    assert!(rt; file.signal());
+    // The threshold is kept modulo 64, so as 4.
+    assert_eq!(rt; file.access(FileReg::Threshold, Op::Set(68)), 0);
+    assert_eq!(rt; file.top(), 0);
+    assert!(rt; !file.signal());
+    assert_eq!(rt; file.access(FileReg::Threshold, Op::Clear(4)), 4);
+    assert_eq!(rt; file.access(FileReg::Threshold, Op::Read), 0);
+    assert_eq!(rt; file.claim(), 0x4_0004);
+    assert_eq!(rt; file.claim(), 0x5_0005);
+    assert_eq!(rt; file.claim(), 0);
+    assert_eq!(rt; file.write(FileReg::Reserved, 1), 0);
+    assert_eq!(rt; file.read(FileReg::Reserved), 0);
+    assert!(rt; !file.is_empty());
+    assert_eq!(rt; file.write(FileReg::Enable(0), 0), 0b11_0000);
+    assert_eq!(rt; file.write(FileReg::Delivery, 0), 1);
+    assert!(rt; file.is_empty());
+    Ok(())
+}
+
+#[test]
+fn a_file_has_the_identities_up_to_its_greatest(rt: HostRuntime) -> Result<(), Fail> {
+    let mut small = File::new(rt.alloc(), 63)?;
+    assert_eq!(rt; small.write(FileReg::Pending(2), 1), 0);
+    assert_eq!(rt; small.read(FileReg::Pending(2)), 0);
+    let mut large = File::new(rt.alloc(), 2047)?;
+    large.land(0, 64);
+    large.land(4, 0xff07_0000);
+    large.land(0, 2048);
+    assert_eq!(rt; large.read(FileReg::Pending(2)), 1);
+    assert_eq!(rt; large.write(FileReg::Enable(62), 1 << 63), 0);
+    assert_eq!(rt; large.top(), 0x07ff_07ff);
+    Ok(())
+}

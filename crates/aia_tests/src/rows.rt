@@ -1,0 +1,60 @@
+//! The worked rows over whole runs.
+
+use crate::runs::replays;
+use aia_vectors::row::Row;
+use aia_vectors::rows::{
+    direct_delivery, examples, files, lines, machines, msi_delivery, registers, sources,
+};
+use std::alloc::{AllocError, Global};
+use std::process::Abort;
+use std::test::Fail;
+
+/// Gives the script of a row: its lines, each with an LF.
+pub(crate) fn script_of(alloc: Global, row: &[(&str, &str)]) -> Result<Vec<u8>, AllocError> {
+    let mut script = Vec::new(alloc);
+    for (line, _) in row {
+        script.extend_from_slice(line.as_bytes())?;
+        script.push(b'\n')?;
+    }
+    Ok(script)
+}
+
+/// Gives what a row prints: its answers, each with an LF.
+pub(crate) fn answers_of(alloc: Global, row: &[(&str, &str)]) -> Result<Vec<u8>, AllocError> {
+    let mut answers = Vec::new(alloc);
+    for (_, answer) in row {
+        if !answer.is_empty() {
+            answers.extend_from_slice(answer.as_bytes())?;
+            answers.push(b'\n')?;
+        }
+    }
+    Ok(answers)
+}
+
+/// Replays each row in pieces of three lengths, and once with no LF after its last line.
+fn replays_all(rt: &impl Abort, alloc: Global, rows: &[Row]) -> Result<(), AllocError> {
+    for row in rows {
+        let mut script = script_of(alloc, row.pairs)?;
+        let answers = answers_of(alloc, row.pairs)?;
+        for piece in [1, 7, 4096] {
+            replays(rt, alloc, row.name, &script, piece, &answers)?;
+        }
+        script.pop();
+        replays(rt, alloc, row.name, &script, 100, &answers)?;
+    }
+    Ok(())
+}
+
+#[test]
+fn rows_print_their_answers_whatever_the_pieces(rt: HostRuntime) -> Result<(), Fail> {
+    let alloc = rt.alloc();
+    replays_all(&rt, alloc, &lines::ROWS)?;
+    replays_all(&rt, alloc, &files::ROWS)?;
+    replays_all(&rt, alloc, &machines::ROWS)?;
+    replays_all(&rt, alloc, &sources::ROWS)?;
+    replays_all(&rt, alloc, &registers::ROWS)?;
+    replays_all(&rt, alloc, &direct_delivery::ROWS)?;
+    replays_all(&rt, alloc, &msi_delivery::ROWS)?;
+    replays_all(&rt, alloc, &examples::ROWS)?;
+    Ok(())
+}
