@@ -1,31 +1,80 @@
 //! `aia replay`: reads a script from standard input and prints the answers of its lines.
 #![tactic(auto)]
 
-ghost use Rattle.std.specs.Prelude.{◌≡◌, ◌≢◌};
+ghost use Rattle.std.specs.Prelude.{◌≡◌, ◌≢◌, ◌+◌, ◌⊎◌, ◌↔◌, [], ◌∷◌, map, codes, Contains, IfOk, OnErr};
+ghost use Rattle.std.specs.Io.KnownBytes.{Appends, Consumes};
 ghost use Rattle.std.specs.IoError.{error_kind};
+ghost use Rattle.std.specs.Process.{exit_status};
+ghost use Rattle.aia_io.specs.Ends.{Rose};
+ghost use Rattle.aia_replay.specs.Runs.{EndsWith, HasAtMost, IsDoneOrMemory, StopsAtMachine, Takes, TakesAll, WritesAnswers};
+ghost use Rattle.aia.specs.Command.{AreRefused, AreTaken, exit_numbers, words_of};
 
-use aia_io::{StdSink, StdSource};
-use aia_replay::{Status, run};
-use std::alloc::AllocError;
+use aia_io::{Sink, Source, StdSink, StdSource};
+use aia_replay::{SCRIPT_BYTES, Status, run};
+use std::alloc::{AllocError, Global};
 use std::io::ErrorKind;
 use std::process::ExitCode;
 use std::{env, io};
 
 fn main(rt: HostRuntime) -> ExitCode {
-    let status = match arguments(&rt) {
-        Ok(arguments) => replay(&rt, &arguments).unwrap_or(Status::Memory),
-        Err(error) => refusal(&error),
-    };
-    ExitCode::from(exit_status(status))
+    let mut source = StdSource::new(rt.stdin());
+    let mut sink = StdSink::new(rt.stdout());
+    command(rt.alloc(), arguments(&rt), &mut source, &mut sink)
 }
 
-/// The words of the command line, the program's name first.
+/// Reads the words of the command line, the program's name first. `Err`: one of them is no text,
+/// or there is no memory for them.
 fn arguments(rt: &HostRuntime) -> io::Result<Vec<String>> {
     let arguments = env::args(rt)?.collect(rt.alloc())?;
     Ok(arguments)
 }
 
-/// What words that can't be read mean: they are no text, or there is no memory for them.
+/// Runs the command that the words of the command line give, the program's name first, from the
+/// source to the sink, and gives the exit status of the program.
+fn command<S: Source, K: Sink>(
+    alloc: Global,
+    arguments: io::Result<Vec<String>>,
+    source: &mut S,
+    sink: &mut K,
+) -> ExitCode
+    ensures done { exit_status result ≡ 0
+        → WritesAnswers (S.left source.old) (K.taken sink.old) (K.taken sink.new) }
+    ensures all { exit_status result ≡ 0 → TakesAll (S.left source.old) (S.left source.new) }
+
+    // Where there is memory for the words, they are refused exactly by 2.
+    ensures usage { exit_status result ≢ 5 → ((exit_status result ≡ 2) ↔ AreRefused arguments) }
+    ensures nothing { exit_status result ≡ 2
+        → Consumes (S.left source.old) (S.left source.new) []
+        × Appends (K.taken sink.old) (K.taken sink.new) [] }
+
+    ensures read_fault { exit_status result ≡ 3
+        → Rose (S.faults source.old) (S.faults source.new) }
+    ensures write_fault { exit_status result ≡ 4 → Rose (K.faults sink.old) (K.faults sink.new) }
+
+    // No memory for the words, and nothing was touched, or none for the machine.
+    ensures memory { exit_status result ≡ 5
+        → ((source.new ≡ source.old) × (sink.new ≡ sink.old))
+        ⊎ StopsAtMachine (S.left source.old) (S.left source.new)
+        (K.taken sink.old) (K.taken sink.new) }
+    ensures too_long { exit_status result ≡ 6
+        → Takes (SCRIPT_BYTES + 1) (S.left source.old) (S.left source.new) }
+
+    // There is no other number, and where nothing is in the way, it is 0, or 5.
+    ensures number { Contains exit_numbers (exit_status result) }
+    ensures complete { AreTaken arguments
+        → (¬ Rose (S.faults source.old) (S.faults source.new))
+        → (¬ Rose (K.faults sink.old) (K.faults sink.new))
+        → HasAtMost SCRIPT_BYTES (S.left source.old)
+        → (exit_status result ≡ 0) ⊎ (exit_status result ≡ 5) }
+{
+    let status = match arguments {
+        Ok(arguments) => replay(alloc, &arguments, source, sink).unwrap_or(Status::Memory),
+        Err(error) => refusal(&error),
+    };
+    exit_code(status)
+}
+
+/// Says what words that can't be read mean: they are no text, or there is no memory for them.
 fn refusal(error: &io::Error) -> Status
     ensures memory { error_kind error.now ≡ ErrorKind.OutOfMemory → result ≡ Status.Memory }
     ensures usage { error_kind error.now ≢ ErrorKind.OutOfMemory → result ≡ Status.Usage }
@@ -37,32 +86,61 @@ fn refusal(error: &io::Error) -> Status
     }
 }
 
-/// Runs the command over the standard streams.
-fn replay(rt: &HostRuntime, arguments: &[String]) -> Result<Status, AllocError> {
-    let mut words = Vec::new(rt.alloc());
-    for argument in arguments.iter().skip(1) {
-        words.push(argument.as_str())?;
-    }
-    let mut source = StdSource::new(rt.stdin());
-    let mut sink = StdSink::new(rt.stdout());
-    Ok(run(rt.alloc(), &words, &mut source, &mut sink))
+/// Runs the command on the words without the program's name. `Err`: there is no memory for them.
+fn replay<S: Source, K: Sink>(
+    alloc: Global,
+    arguments: &[String],
+    source: &mut S,
+    sink: &mut K,
+) -> Result<Status, AllocError>
+    ensures usage { IfOk result (λ status.
+        (status ≡ Status.Usage) ↔ (words_of arguments.now ≢ codes "replay" ∷ [])) }
+    ensures nothing { IfOk result (λ status. status ≡ Status.Usage
+        → Consumes (S.left source.old) (S.left source.new) []
+        × Appends (K.taken sink.old) (K.taken sink.new) []) }
+    ensures ends { IfOk result (λ status. EndsWith status
+        (S.left source.old) (S.left source.new) (K.taken sink.old) (K.taken sink.new)
+        (S.faults source.old) (S.faults source.new)
+        (K.faults sink.old) (K.faults sink.new)) }
+    ensures complete { words_of arguments.now ≡ codes "replay" ∷ []
+        → (¬ Rose (S.faults source.old) (S.faults source.new))
+        → (¬ Rose (K.faults sink.old) (K.faults sink.new))
+        → HasAtMost SCRIPT_BYTES (S.left source.old)
+        → IfOk result IsDoneOrMemory }
+    ensures err { OnErr result ((source.new ≡ source.old) × (sink.new ≡ sink.old)) }
+{
+    let words = words(alloc, arguments)?;
+    Ok(run(alloc, &words, source, sink))
 }
 
-/// The exit status of the program. Profile.
-fn exit_status(status: Status) -> u8
-    ensures done { status ≡ Status.Done → result ≡ 0 }
-    ensures usage { status ≡ Status.Usage → result ≡ 2 }
-    ensures read_fault { status ≡ Status.ReadFault → result ≡ 3 }
-    ensures write_fault { status ≡ Status.WriteFault → result ≡ 4 }
-    ensures memory { status ≡ Status.Memory → result ≡ 5 }
-    ensures too_long { status ≡ Status.TooLong → result ≡ 6 }
+/// Gives the words without the program's name. `Err`: there is no memory for them.
+fn words(alloc: Global, arguments: &[String]) -> Result<Vec<&str>, AllocError>
+    ensures { IfOk result (λ words. map (λ word. word.now) words.items ≡ words_of arguments.now) }
 {
-    match status {
+    let mut words = Vec::new(alloc);
+    let rest = arguments.get(1..).unwrap_or_default();
+    for argument in rest {
+        words.push(argument.as_str())?;
+    }
+    Ok(words)
+}
+
+/// Gives each status its number, by which the program ends.
+fn exit_code(status: Status) -> ExitCode
+    ensures done { (exit_status result ≡ 0) ↔ (status ≡ Status.Done) }
+    ensures usage { (exit_status result ≡ 2) ↔ (status ≡ Status.Usage) }
+    ensures read_fault { (exit_status result ≡ 3) ↔ (status ≡ Status.ReadFault) }
+    ensures write_fault { (exit_status result ≡ 4) ↔ (status ≡ Status.WriteFault) }
+    ensures memory { (exit_status result ≡ 5) ↔ (status ≡ Status.Memory) }
+    ensures too_long { (exit_status result ≡ 6) ↔ (status ≡ Status.TooLong) }
+    ensures number { Contains exit_numbers (exit_status result) }
+{
+    ExitCode::from(match status {
         Status::Done => 0,
         Status::Usage => 2,
         Status::ReadFault => 3,
         Status::WriteFault => 4,
         Status::Memory => 5,
         Status::TooLong => 6,
-    }
+    })
 }

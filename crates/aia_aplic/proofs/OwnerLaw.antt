@@ -11,7 +11,7 @@ use Rattle.aia_model.specs.Act.{Past, newest, when}
 use Rattle.aia_model.specs.Act.Act.{Written}
 use Rattle.aia_model.specs.declared.domain_name.DomainName.{DomainName}
 use Rattle.aia_model.specs.declared.domain_name.DomainName.TheVariants.{Root, Child}
-use Rattle.aia_model.specs.SourceOf.{is_source, is_register_of, wire_of, root_sourcecfg_of, is_delegated, child_told, sourcecfg_of, is_msi, owns}
+use Rattle.aia_model.specs.SourceOf.{is_source, is_register_of, wire_of, root_sourcecfg_of, is_delegated, child_told, sourcecfg_of, by_msis, owns}
 use Rattle.aia_aplic.specs.Side.{entry_of}
 use Rattle.aia_aplic.proofs.Steps.{stepped, entry-step, entry-idle, step-nothing, step-deed}
 use Rattle.aia_aplic.proofs.WriteSteps.{child-none, inactive-stays}
@@ -55,16 +55,16 @@ pub same_entry : (past : Past) (i v : ℕ) (d : DomainName) (s : ℕ) → is_del
 unfolding newest wire_of
 same_entry past i v Child s was again =
     entry-step (Written Root (SourceCfg i) v) past Child s
-    ∙ ap (λ c. stepped (mode_of c) (wire_of past s) (is_msi past Child) (is_msi past Child) (is_delegated (Written Root (SourceCfg i) v ∷ past) s) None Nothing Untouched (entry_of past Child s)) (same_sourcecfg past i v Child s was again)
-    ∙ ap (λ c. stepped (mode_of (sourcecfg_of past Child s)) (wire_of past s) (is_msi past Child) (is_msi past Child) (delegates c) None Nothing Untouched (entry_of past Child s)) (same_sourcecfg past i v Root s was again)
-    ∙ step-nothing (is_msi past Child) (entry_of past Child s) (entry-idle past Child s)
+    ∙ ap (λ c. stepped (mode_of c) (wire_of past s) (by_msis past Child) (by_msis past Child) (is_delegated (Written Root (SourceCfg i) v ∷ past) s) None Nothing Untouched (entry_of past Child s)) (same_sourcecfg past i v Child s was again)
+    ∙ ap (λ c. stepped (mode_of (sourcecfg_of past Child s)) (wire_of past s) (by_msis past Child) (by_msis past Child) (delegates c) None Nothing Untouched (entry_of past Child s)) (same_sourcecfg past i v Root s was again)
+    ∙ step-nothing (by_msis past Child) (entry_of past Child s) (entry-idle past Child s)
 same_entry past i v Root s was again =
     entry-step (Written Root (SourceCfg i) v) past Root s
-    ∙ ap (λ c. stepped (mode_of c) (wire_of past s) (is_msi past Root) (is_msi past Root) (delegates c) None Nothing (cond (is_register_of past i s) Configured Untouched) (entry_of past Root s)) (same_sourcecfg past i v Root s was again)
+    ∙ ap (λ c. stepped (mode_of c) (wire_of past s) (by_msis past Root) (by_msis past Root) (delegates c) None Nothing (cond (is_register_of past i s) Configured Untouched) (entry_of past Root s)) (same_sourcecfg past i v Root s was again)
     ∙ at (is_register_of past i s) refl
   where
-    at : (b : Bool) → is_register_of past i s ≡ b → stepped (mode_of (sourcecfg_of past Root s)) (wire_of past s) (is_msi past Root) (is_msi past Root) (is_delegated past s) None Nothing (cond b Configured Untouched) (entry_of past Root s) ≡ entry_of past Root s
+    at : (b : Bool) → is_register_of past i s ≡ b → stepped (mode_of (sourcecfg_of past Root s)) (wire_of past s) (by_msis past Root) (by_msis past Root) (is_delegated past s) None Nothing (cond b Configured Untouched) (entry_of past Root s) ≡ entry_of past Root s
     at true here =
         let off : owns past Root s ≡ false = ap (λ c. is_active (mode_of c)) (eqb-true (root_sourcecfg_of past s) DELEGATED (both_delegated past i s v was here)) in
-        step-deed (is_msi past Root) (entry_of past Root s) Configured (entry-idle past Root s) ∙ inactive-stays (is_msi past Root) (entry_of past Root s) (entry-idle past Root s) off
-    at false e = step-nothing (is_msi past Root) (entry_of past Root s) (entry-idle past Root s)
+        step-deed (by_msis past Root) (entry_of past Root s) Configured (entry-idle past Root s) ∙ inactive-stays (by_msis past Root) (entry_of past Root s) (entry-idle past Root s) off
+    at false e = step-nothing (by_msis past Root) (entry_of past Root s) (entry-idle past Root s)

@@ -11,7 +11,7 @@ use Rattle.aia_source.specs.Registers.{first_target, target_kept, same_bool}
 use Rattle.aia_domain.specs.Entry.{EntryState, with_deed, with_enable, aimed}
 use Rattle.aia_model.specs.declared.domain_name.DomainName.{DomainName}
 use Rattle.aia_model.specs.Act.{Act, Past}
-use Rattle.aia_model.specs.SourceOf.{wire_of, is_delegated, mode, owns, is_msi, enable_said, enabled, target_told, target, deed, pending, top_in}
+use Rattle.aia_model.specs.SourceOf.{wire_of, is_delegated, mode, owns, by_msis, enable_said, enabled, target_told, target, deed, pending, top_in}
 use Rattle.aia_aplic.specs.Side.{entry_of}
 
 -- the target that a step leaves, given whether the source was and is active, the delivery mode before and after, and what was
@@ -29,7 +29,7 @@ stepped mode' wire' msi msi' delegated' aim asked does x = record {
 }
 
 pub entry-step : (a : Act) (past : Past) (d : DomainName) (s : ℕ) →
-    entry_of (a ∷ past) d s ≡ stepped (mode (a ∷ past) d s) (wire_of (a ∷ past) s) (is_msi past d) (is_msi (a ∷ past) d) (is_delegated (a ∷ past) s) (target_told d s past a) (enable_said d s a) (deed (top_in (pending past d) past d) past a d s) (entry_of past d s)
+    entry_of (a ∷ past) d s ≡ stepped (mode (a ∷ past) d s) (wire_of (a ∷ past) s) (by_msis past d) (by_msis (a ∷ past) d) (is_delegated (a ∷ past) s) (target_told d s past a) (enable_said d s a) (deed (top_in (pending past d) past d) past a d s) (entry_of past d s)
 unfolding pending enabled target
 entry-step a past d s = refl
 

@@ -5,7 +5,7 @@ ghost use Rattle.std.specs.Prelude.{◌≡◌, ◌≢◌, ◌↔◌, ℕ, ◌≤
 ghost use Rattle.aia_model.specs.Event.{History};
 ghost use Rattle.aia_model.specs.declared.sender.Sender.{Sender};
 ghost use Rattle.aia_model.specs.declared.sender.Sender.TheVariants.{ByGenMsi, BySource};
-ghost use Rattle.aia_model.specs.Sent.{forwards, senders, msi_of, msis, settled, acts_of};
+ghost use Rattle.aia_model.specs.Sent.{forwards, senders, msi_of, waiting_msis, with_all_sent, acts_of};
 ghost use Rattle.aia_aplic.specs.Senders.{SendsBefore};
 ghost use Rattle.aia_source.specs.Top.{Pair};
 ghost use Rattle.aia_aplic.specs.Tops.{IsOnTop};
@@ -21,7 +21,7 @@ ghost use Rattle.aia_msiaddr.specs.Registers.{are_locked};
 ghost use Rattle.aia_model.specs.AddressOf.{addresses_of};
 ghost use Rattle.aia_model.specs.declared.domain_name.DomainName.TheVariants.{Root, Child};
 ghost use Rattle.aia_model.specs.Act.Act.{Written, Sent};
-ghost use Rattle.aia_model.specs.SourceOf.{is_delegated, sourcecfg_of, mode, owns, input, is_msi, enabled, target, pending, sources_in, genmsi_waits, is_for, top};
+ghost use Rattle.aia_model.specs.SourceOf.{is_delegated, sourcecfg_of, mode, owns, input, by_msis, enabled, target, pending, sources_in, genmsi_waits, is_for, top};
 
 /// Whatever has happened, a source at a level mode, in a domain that delivers directly, is pending
 /// exactly while its rectified input is high.
@@ -29,7 +29,7 @@ ghost use Rattle.aia_model.specs.SourceOf.{is_delegated, sourcecfg_of, mode, own
 /// AIA 1.0, APLIC, "Precise effects on interrupt-pending bits".
 pub fn a_level_source_follows_its_input()
     ensures { (past : Past) (d : DomainName) (s : ℕ) → is_level (mode past d s) ≡ true
-        → is_msi past d ≡ false → pending past d s ≡ input past d s }
+        → by_msis past d ≡ false → pending past d s ≡ input past d s }
 {}
 
 /// Whatever has happened, no source is active in both domains.
@@ -103,7 +103,7 @@ pub fn only_a_wire_makes_a_rise()
 pub fn the_source_on_top_is_the_least_of_the_harts()
     ensures found { (past : Past) (d : DomainName) (hart : ℕ) (p : Pair)
         → top past d hart ≡ Some p → IsOnTop past d hart p }
-    ensures none { (past : Past) (d : DomainName) (hart : ℕ) → is_msi past d ≡ false
+    ensures none { (past : Past) (d : DomainName) (hart : ℕ) → by_msis past d ≡ false
         → ◌≡◌ {A = Option Pair} (top past d hart) None → (s : ℕ) → 1 ≤ s → s ≤ sources_in past
         → is_for past d hart s ≡ true → pending past d s ≡ false }
 {}
@@ -128,17 +128,17 @@ pub fn what_waits_is_genmsi_and_the_sources_that_are_ready()
 pub fn msis_are_sent_one_after_another()
     ensures senders { (past : Past) (sender : Sender) (later : List Sender)
         → senders past ≡ sender ∷ later → senders (Sent sender ∷ past) ≡ later }
-    ensures msis { (past : Past) (sender : Sender) (later : List Sender)
+    ensures waiting_msis { (past : Past) (sender : Sender) (later : List Sender)
         → senders past ≡ sender ∷ later
-        → msis past ≡ msi_of past sender ∷ msis (Sent sender ∷ past) }
-    ensures settled { (past : Past) (sender : Sender) (later : List Sender)
-        → senders past ≡ sender ∷ later → settled past ≡ settled (Sent sender ∷ past) }
+        → waiting_msis past ≡ msi_of past sender ∷ waiting_msis (Sent sender ∷ past) }
+    ensures with_all_sent { (past : Past) (sender : Sender) (later : List Sender)
+        → senders past ≡ sender ∷ later → with_all_sent past ≡ with_all_sent (Sent sender ∷ past) }
 {}
 
 /// When all that waits is sent, nothing waits; so it is between the lines of every history: no
 /// source is to be forwarded then.
 pub fn nothing_waits_between_lines()
-    ensures sent { (past : Past) → senders (settled past) ≡ [] }
+    ensures sent { (past : Past) → senders (with_all_sent past) ≡ [] }
     ensures between { (h : History) → senders (acts_of h) ≡ [] }
 {}
 
@@ -147,7 +147,7 @@ pub fn nothing_waits_between_lines()
 ///
 /// AIA 1.0, APLIC, "Interrupt forwarding by MSIs".
 pub fn a_source_that_is_sent_is_no_longer_pending()
-    ensures falls { (past : Past) (d : DomainName) (s : ℕ) → is_msi past d ≡ true
+    ensures falls { (past : Past) (d : DomainName) (s : ℕ) → by_msis past d ≡ true
         → pending (Sent (BySource d s) ∷ past) d s ≡ false }
     ensures stays { (past : Past) (sender : Sender) (d : DomainName) (s : ℕ)
         → (sender ≡ BySource d s → ⊥) → pending (Sent sender ∷ past) d s ≡ pending past d s }

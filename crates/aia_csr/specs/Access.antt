@@ -29,12 +29,13 @@ abbrev pub access_of : Level → Csr → Op → ℕ → Bool → Access
 access_of level csrs.Select op select vti = reaches.Select
 access_of level csrs.Topei op select vti = reaches.Top
 access_of level csrs.Reg op select vti = register_access level (register_of select)
-access_of levels.Guest csrs.Topi op select vti = if is_writing op then reaches.Illegal else reaches.Topi
+access_of levels.Guest csrs.Topi op select vti =
+    if is_writing op then reaches.Illegal else reaches.Topi
 access_of levels.Guest csrs.Sip op select vti = if vti then reaches.Virtual else reaches.Sip
 access_of levels.Guest csrs.Sie op select vti = if vti then reaches.Virtual else reaches.Sie
 access_of level csr op select vti = reaches.Illegal
 
--- Whether a host's CSR is one of the table.
+-- The CSR is one that the table has at the level.
 abbrev pub IsInTable : Level → Csr → Type 0
 IsInTable levels.Guest csr = Unit {0}
 IsInTable level csrs.Select = Unit {0}

@@ -24,10 +24,11 @@ pub enum Access {
     Virtual,
 }
 
-/// What the access reaches, given the select number and whether hvictl's VTI is 1 (which only a
-/// guest's `sip` and `sie` ask for). A host's CSR is `Select`, `Reg` or `Topei`.
+/// Decides what the access reaches, or which fault it raises, given the select number and whether
+/// hvictl's VTI is 1, which only a guest's `sip` and `sie` ask for. At machine level and at the
+/// host's supervisor level the CSR is `Select`, `Reg` or `Topei`.
 ///
-/// AIA 1.0, Incoming MSI Controller, and Interrupts for Virtual Machines (VS Level).
+/// AIA 1.0, IMSIC, and Interrupts for Virtual Machines (VS Level).
 pub fn decide(level: Level, csr: Csr, op: Op, select: u64, vti: bool) -> Access
     requires { IsInTable level csr }
     ensures table { result ≡ access_of level csr op select vti }
@@ -45,7 +46,7 @@ pub fn decide(level: Level, csr: Csr, op: Op, select: u64, vti: bool) -> Access
     }
 }
 
-/// What an access by the select number reaches.
+/// Decides what an access by the select number reaches.
 fn register(level: Level, reg: FileReg) -> Access
     ensures { result ≡ register_access level reg }
 {

@@ -7,7 +7,7 @@ use Rattle.aia_source.specs.declared.mode.Mode.TheVariants.{Inactive}
 use Rattle.aia_source.specs.Wired.{WiredState, SourceDeed, new_wired, done, is_active, rectified}
 use Rattle.aia_source.specs.Wired.SourceDeed.{LevelGiven, Set, Cleared, Configured, Switched}
 use Rattle.aia_source.specs.declared.kept.TheConstants.{DELEGATED}
-use Rattle.aia_source.specs.Registers.{root_sourcecfg, child_sourcecfg, delegates, mode_of, mode_number, first_target, target_kept, same_bool, is_named}
+use Rattle.aia_source.specs.Registers.{root_sourcecfg, child_sourcecfg, delegates, mode_of, mode_number, first_target, target_kept, same_bool, is_number_of}
 use Rattle.aia_source.specs.declared.touch.Touch.{Touch}
 use Rattle.aia_source.specs.declared.touch.Touch.TheVariants.{SetPending, ClearPending, SetEnable, ClearEnable}
 use Rattle.aia_domain.specs.declared.entry.Look.{Look}
@@ -117,11 +117,11 @@ changed_at at change s x = if nat_eq at s then change x else x
 
 -- The sourcecfg of a source is written; number 0 names no source.
 abbrev pub written_at : ℕ → Bool → Bool → ℕ → ℕ → EntryState → EntryState
-written_at at leaf msi v s x = if is_named at s then sourcecfg_written leaf msi v x else x
+written_at at leaf msi v s x = if is_number_of at s then sourcecfg_written leaf msi v x else x
 
 -- The child domain gets a source, or loses it; number 0 names no source.
 abbrev pub granted_at : ℕ → Bool → Bool → ℕ → EntryState → EntryState
-granted_at at given msi s x = if is_named at s then granted given msi x else x
+granted_at at given msi s x = if is_number_of at s then granted given msi x else x
 
 -- The delivery mode of the domain is now this one.
 abbrev pub all_switched : Bool → ℕ → EntryState → EntryState

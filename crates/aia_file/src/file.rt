@@ -15,7 +15,7 @@ use std::marker::Model;
 /// An interrupt file with the identities 1 to `n`: which are pending, which are enabled,
 /// `eithreshold` and `eidelivery`.
 ///
-/// AIA 1.0, Incoming MSI Controller, "Interrupt files and interrupt identities".
+/// AIA 1.0, IMSIC, "Interrupt files and interrupt identities".
 #[derive(Drop)]
 pub struct File {
     n: u32,
@@ -38,7 +38,8 @@ impl Model for File {
 }
 
 impl File {
-    /// An empty file with the identities 1 to `n`, which is 63, 127, 255, 511, 1023 or 2047.
+    /// Makes an empty file with the identities 1 to `n`, which is 63, 127, 255, 511, 1023 or 2047.
+    /// `Err`: there is no memory for it.
     pub fn new(alloc: Global, n: u32) -> Result<File, AllocError>
         requires { IsTrue (is_width n) }
         ensures { IfOk result (λ f. SameFile (shown f) (empty_file n)) }
@@ -55,7 +56,7 @@ impl File {
         })
     }
 
-    /// What the register reads.
+    /// Gives what the register, one that a file serves, reads.
     pub fn read(&self, reg: FileReg) -> u64
         requires { IsUsable reg }
         ensures { result ≡ register_value (shown self.now) reg }
@@ -69,7 +70,8 @@ impl File {
         }
     }
 
-    /// Does a CSR instruction on the register, and answers what the register read before it.
+    /// Does a CSR instruction on the register, one that a file serves, and answers what the
+    /// register read before it.
     pub fn access(&mut self, reg: FileReg, op: Op) -> u64
         requires { IsUsable reg }
         ensures before { result ≡ register_value (shown self.old) reg }
@@ -88,7 +90,7 @@ impl File {
         before
     }
 
-    /// Writes the register, and answers what it read before.
+    /// Writes the register, as csrrw does, and answers what it read before.
     pub fn write(&mut self, reg: FileReg, value: u64) -> u64
         requires { IsUsable reg }
         ensures before { result ≡ register_value (shown self.old) reg }
@@ -115,8 +117,8 @@ impl File {
         self.access(reg, Op::Clear(value))
     }
 
-    /// What a topei register shows: the identity on top twice, in bits 26:16 and 10:0; 0 where
-    /// there is none.
+    /// Gives what a topei register shows: the identity on top twice, in bits 26:16 and 10:0; 0
+    /// where there is none.
     pub fn top(&self) -> u64
         ensures { result ≡ top_value (top_of (shown self.now)) }
     {
@@ -124,7 +126,7 @@ impl File {
     }
 
     /// Claims: clears the pending bit of the identity on top, and answers what a topei register
-    /// showed before.
+    /// showed before; with none on top it answers 0 and changes nothing.
     pub fn claim(&mut self) -> u64
         ensures top { result ≡ top_value (top_of (shown self.old)) }
         ensures after { SameFile (shown self.new) (claimed (shown self.old)) }
@@ -136,14 +138,15 @@ impl File {
         topei(top)
     }
 
-    /// Whether the file signals its hart.
+    /// Tells whether the file signals its hart.
     pub fn signal(&self) -> bool
         ensures { result ≡ signals (shown self.now) }
     {
         self.delivery == 1 && self.on_top().is_some()
     }
 
-    /// A 32-bit store of `value` at `offset` of the file's page.
+    /// Takes a 32-bit store of `value` at `offset` of the file's page: it makes the identity that
+    /// it names pending, and does nothing where it names none.
     pub fn land(&mut self, offset: u32, value: u32)
         ensures { SameFile (shown self.new) (landed offset value (shown self.old)) }
     {
@@ -152,7 +155,7 @@ impl File {
         }
     }
 
-    /// Whether no identity is pending or enabled, and both numbers are 0.
+    /// Tells whether no identity is pending or enabled, and both numbers are 0.
     pub fn is_empty(&self) -> bool
         ensures { IsTrue result ↔ SameFile (shown self.now) (empty_file self.now.n) }
     {
@@ -162,7 +165,7 @@ impl File {
             && self.delivery == 0
     }
 
-    /// The identity on top.
+    /// Gives the identity on top; `None` where there is none.
     fn on_top(&self) -> Option<u32>
         ensures top { result ≡ top_of (shown self.now) }
         ensures small { IfSome result (λ identity. identity ≤ self.now.n) }
@@ -177,14 +180,14 @@ impl File {
     }
 }
 
-/// Whether the threshold lets the identity through.
+/// Tells whether the threshold lets the identity through.
 fn lets_through(threshold: u64, identity: u32) -> bool
     ensures { result ≡ lets_through threshold identity }
 {
     threshold == 0 || u64::from(identity) < threshold
 }
 
-/// How a topei register shows the identity on top.
+/// Gives what a topei register reads, by the identity on top.
 fn topei(top: Option<u32>) -> u64
     requires { IfSome top (λ identity. identity ≤ IDENTITIES) }
     ensures { result ≡ top_value top }
@@ -195,7 +198,7 @@ fn topei(top: Option<u32>) -> u64
     }
 }
 
-/// What an access makes of a register that keeps a number modulo `modulus`.
+/// Gives what an access makes of a register that keeps a number modulo `modulus`.
 fn access_number(was: u64, modulus: u64, op: Op) -> u64
     requires { 0 < modulus }
     ensures { result ≡ number_after (λ v. v % modulus) op was }
@@ -213,7 +216,8 @@ fn access_set(words: &mut [u64], k: u32, op: Op)
     requires even { k % 2 ≡ 0 }
     requires some { 0 < length words.old }
     requires no_zero { is_in words.old 0 ≡ false }
-    ensures { (i : ℕ) → is_in words.new i ≡ settle (set_said (64 * length words.old - 1) k op i) (is_in words.old i) }
+    ensures { (i : ℕ) → is_in words.new i
+        ≡ settle (set_said (64 * length words.old - 1) k op i) (is_in words.old i) }
 {
     let at = (k / 2) as usize;
     if at < words.len() {
@@ -222,9 +226,10 @@ fn access_set(words: &mut [u64], k: u32, op: Op)
     }
 }
 
-/// `value` as word `at` of a set, but for identity 0, which no file has.
+/// Gives `value` as word `at` of a set, but for identity 0, which no file has.
 fn without_zero(at: usize, value: u64) -> u64
-    ensures { (bit : ℕ) → bit < 64 → has_bit result bit ≡ (not (nat_eq (64 * at + bit) 0) && has_bit value bit) }
+    ensures { (bit : ℕ) → bit < 64
+        → has_bit result bit ≡ (not (nat_eq (64 * at + bit) 0) && has_bit value bit) }
 {
     if at == 0 { value & !1 } else { value }
 }

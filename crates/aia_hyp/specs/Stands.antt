@@ -14,11 +14,11 @@ use Rattle.aia_model.specs.declared.refusal.Refusal.TheVariants.{Range, Fault, G
 use Rattle.aia_model.specs.declared.line.Line.{Line}
 use Rattle.aia_model.specs.declared.line.Line.TheVariants.{Machine}
 use Rattle.aia_model.specs.declared.msi.Msi.{Msi}
-use Rattle.aia_model.specs.Event.{History, has_machine, harts_of, guests_of, identities_of}
-use Rattle.aia_model.specs.Event.Event.{Accepted}
+use Rattle.aia_model.specs.Event.{History, has_machine, harts_of, guests_of, greatest_identity_of}
+use Rattle.aia_model.specs.Event.Event.{Accepted, Delivered}
 use Rattle.aia_model.specs.FileOf.{FileName, MachineFile, SupervisorFile, file_of, select_of}
 use Rattle.aia_model.specs.Refusal.{refusal, guards}
-use Rattle.aia_model.specs.Answer.{answer, taken, msi_taken}
+use Rattle.aia_model.specs.Answer.{answer}
 use Rattle.aia_hyp.specs.Core.{CoreState}
 use Rattle.aia_hyp.specs.HostFiles.{spot_of, file_in, select_in}
 
@@ -37,7 +37,7 @@ pub record CoreStands (x : CoreState) (h : History) : Type 0 where
   pub guests : x.imsic.guests ≡ guests_of h
   pub host : (f : FileName) → IsThere x.imsic (spot_of f) → HostStands x h f
   pub free : (hart file : ℕ) → IsThere x.imsic (spots.GuestFile hart file)
-      → shown (file_at x.imsic (spots.GuestFile hart file)) ≡ empty_file (identities_of h)
+      → shown (file_at x.imsic (spots.GuestFile hart file)) ≡ empty_file (greatest_identity_of h)
 
 -- ---- what calls promise
 
@@ -48,7 +48,7 @@ answer_by show (Err word) = Refused word
 
 -- What has happened when a line is served, and its MSIs are still to be delivered.
 abbrev pub line_taken : Option Answer → History → Line → History
-line_taken None h line = taken h line
+line_taken None h line = Accepted line ∷ h
 line_taken (Some word) h line = h
 
 -- A line is answered as the model does, and the core then stands for the history with what the line
@@ -67,7 +67,7 @@ CoreBegins new harts guests n =
 
 -- An MSI of the APLIC is delivered.
 abbrev pub CoreHears : CoreState → CoreState → Msi → Type 0
-CoreHears old new msi = (h : History) → CoreStands old h → CoreStands new (msi_taken msi h)
+CoreHears old new msi = (h : History) → CoreStands old h → CoreStands new (Delivered msi ∷ h)
 
 -- The signals of a hart's machine-level file and of its supervisor file, or the word that refuses
 -- the hart.

@@ -1,4 +1,4 @@
--- The file in whose page an address lies.
+-- The file in whose page an address lies. Profile: where the pages lie.
 use Rattle.std.specs.Prelude.{ℕ, Bool, true, false, is_some, Option}
 use Rattle.std.specs.Option.{option_map_or}
 use Rattle.aia_word.specs.Sets.{least_of}
@@ -6,8 +6,7 @@ use Rattle.aia_regs.specs.AddressMap.{machine_page, supervisor_page, guest_page,
 use Rattle.aia_imsic.specs.declared.spot.Spot.{Spot}
 use Rattle.aia_imsic.specs.declared.spot.Spot.TheVariants.{MachineFile, HostFile, GuestFile, Nowhere}
 
--- The hart in the page of whose machine-level file an address lies, of so many harts. Profile, like
--- the whole map.
+-- The hart in the page of whose machine-level file an address lies, of so many harts.
 abbrev pub machine_file_at : ℕ → ℕ → Option ℕ
 machine_file_at harts addr = least_of (λ hart. is_in_page (machine_page hart) addr) 0 harts
 
@@ -21,7 +20,8 @@ guest_file_at guests hart addr = least_of (λ file. is_in_page (guest_page hart 
 
 -- The hart that has such a guest file.
 abbrev pub guest_hart_at : ℕ → ℕ → ℕ → Option ℕ
-guest_hart_at harts guests addr = least_of (λ hart. is_some (guest_file_at guests hart addr)) 0 harts
+guest_hart_at harts guests addr =
+    least_of (λ hart. is_some (guest_file_at guests hart addr)) 0 harts
 
 -- ---- the map: pages of machine-level, supervisor and guest files, which are all apart
 

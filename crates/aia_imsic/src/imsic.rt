@@ -18,7 +18,7 @@ use std::marker::Model;
 /// The interrupt files of all harts of a machine: of each hart the machine-level file, the
 /// supervisor file and the guest files.
 ///
-/// AIA 1.0, Incoming MSI Controller.
+/// AIA 1.0, IMSIC.
 #[derive(Drop)]
 pub struct Imsic {
     harts: u32,
@@ -35,18 +35,21 @@ impl Model for Imsic {
 
     ghost view = { λ i. record { harts = i.harts; guests = i.guests; files = i.files.items } };
 
-    ghost invariant = { λ i. (i.harts ≤ HARTS) × (i.guests ≤ GUEST_FILES) × (length i.files.items ≡ i.harts * (i.guests + 2)) };
+    ghost invariant = { λ i. (i.harts ≤ HARTS) × (i.guests ≤ GUEST_FILES)
+        × (length i.files.items ≡ i.harts * (i.guests + 2)) };
 }
 
 impl Imsic {
-    /// The empty files of `harts` harts, 1 to 4, each with `guests` guest files, 0 to 7; every file
-    /// has the identities 1 to `n`, which is 63, 127, 255, 511, 1023 or 2047.
+    /// Makes the empty files of `harts` harts, 1 to 4, each with `guests` guest files, 0 to 7;
+    /// every file has the identities 1 to `n`, which is 63, 127, 255, 511, 1023 or 2047. `Err`:
+    /// there is no memory for them.
     pub fn new(alloc: Global, harts: u32, guests: u32, n: u32) -> Result<Imsic, AllocError>
         requires some { 1 ≤ harts }
         requires few { harts ≤ HARTS }
         requires guests { guests ≤ GUEST_FILES }
         requires width { IsTrue (is_width n) }
-        ensures size { IfOk result (λ i. (i.harts ≡ harts) × (i.guests ≡ guests) × (length i.files ≡ harts * (guests + 2))) }
+        ensures size { IfOk result (λ i. (i.harts ≡ harts) × (i.guests ≡ guests)
+            × (length i.files ≡ harts * (guests + 2))) }
         ensures empty { IfOk result (λ i. AreEmpty i n) }
     {
         let files = empty_files(alloc, harts * (guests + 2), n)?;
@@ -57,7 +60,7 @@ impl Imsic {
         })
     }
 
-    /// How many harts there are, 1 to 4.
+    /// Tells how many harts there are, 1 to 4.
     pub fn harts(&self) -> u32
         ensures value { result ≡ self.now.harts }
         ensures few { result ≤ HARTS }
@@ -65,7 +68,7 @@ impl Imsic {
         self.harts
     }
 
-    /// How many guest files each hart has, 0 to 7.
+    /// Tells how many guest files each hart has, 0 to 7.
     pub fn guests(&self) -> u32
         ensures value { result ≡ self.now.guests }
         ensures few { result ≤ GUEST_FILES }
@@ -73,10 +76,10 @@ impl Imsic {
         self.guests
     }
 
-    /// The file in whose page `addr` lies, and `Nowhere` where it lies in none.
+    /// Finds the file in whose page `addr` lies; `Nowhere` exactly where it lies in none.
     ///
-    /// AIA 1.0, Incoming MSI Controller, "Memory region for an interrupt file": each file is a
-    /// page. The map is our profile's.
+    /// AIA 1.0, IMSIC, "Memory region for an interrupt file": each file is a page. Profile: where
+    /// the pages lie.
     pub fn locate(&self, addr: u64) -> Spot
         ensures spot { result ≡ spot_at self.now.harts self.now.guests addr }
         ensures there { result ≢ Spot.Nowhere → IsThere self.now result }
@@ -107,7 +110,7 @@ impl Imsic {
         Spot::GuestFile(hart as u32, file as u32)
     }
 
-    /// The file at a place that is there.
+    /// Gives the file at a place that is there.
     pub fn file(&self, spot: Spot) -> &File
         requires { IsThere self.now spot }
         ensures { result.now ≡ file_at self.now spot }
@@ -116,7 +119,7 @@ impl Imsic {
         &self.files[place]
     }
 
-    /// The file at a place that is there; what is made of it is made of that file alone.
+    /// Lends the file at a place that is there; what is made of it is made of that file alone.
     pub fn file_mut(&mut self, spot: Spot) -> &mut File
         requires { IsThere self.old spot }
         ensures* writes_back { sem 𝓛 (LendsFile self.entry spot result) }
@@ -127,24 +130,28 @@ impl Imsic {
         &mut self.files[place]
     }
 
-    /// A 32-bit store of `value` at `offset` of the page of the file at `spot`, which is there.
+    /// Takes a 32-bit store of `value` at `offset` of the page of the file at `spot`, which is
+    /// there; every other file stays.
     ///
-    /// AIA 1.0, Incoming MSI Controller, "Memory region for an interrupt file".
+    /// AIA 1.0, IMSIC, "Memory region for an interrupt file".
     pub fn store(&mut self, spot: Spot, offset: u32, value: u32)
         requires { IsThere self.old spot }
-        ensures lands { SameFile (shown (file_at self.new spot)) (landed offset value (shown (file_at self.old spot))) }
+        ensures lands { SameFile (shown (file_at self.new spot))
+            (landed offset value (shown (file_at self.old spot))) }
         ensures others { self.new ≡ with_file self.old spot (file_at self.new spot) }
     {
         self.file_mut(spot).land(offset, value);
     }
 
-    /// What hgeip of a hart reads: bit j, from 1 to the number of guest files, is whether guest
-    /// file j signals; the others are 0.
+    /// Gives what hgeip of a hart that is there reads: bit j, from 1 to the number of guest files,
+    /// is whether guest file j signals; the others are 0.
     ///
-    /// The hypervisor extension 1.0; AIA 1.0, Incoming MSI Controller.
+    /// The hypervisor extension 1.0; AIA 1.0, IMSIC.
     pub fn hgeip(&self, hart: u32) -> u64
         requires { hart < self.now.harts }
-        ensures { (j : ℕ) → has_bit result j ≡ (is_in_range 1 self.now.guests j && signals (shown (file_at self.now (Spot.GuestFile hart j)))) }
+        ensures { (j : ℕ) → has_bit result j
+            ≡ (is_in_range 1 self.now.guests j
+            && signals (shown (file_at self.now (Spot.GuestFile hart j)))) }
     {
         let mut bits = 0;
         for file in 1..self.guests + 1 {
@@ -155,7 +162,7 @@ impl Imsic {
         bits
     }
 
-    /// Where the file is kept.
+    /// Tells where the file is kept.
     fn place(&self, spot: Spot) -> usize
         requires { IsThere self.now spot }
         ensures value { result ≡ place_of self.now spot }
@@ -172,11 +179,12 @@ impl Imsic {
     }
 }
 
-/// `count` empty files, each with the identities 1 to `n`.
+/// Makes `count` empty files, each with the identities 1 to `n`.
 fn empty_files(alloc: Global, count: u32, n: u32) -> Result<Vec<File>, AllocError>
     requires { IsTrue (is_width n) }
     ensures length { IfOk result (λ files. length files.items ≡ count) }
-    ensures empty { IfOk result (λ files. All (λ file. SameFile (shown file) (empty_file n)) files.items) }
+    ensures empty { IfOk result (λ files.
+        All (λ file. SameFile (shown file) (empty_file n)) files.items) }
 {
     let mut files = Vec::new(alloc);
     for _place in 0..count {

@@ -10,13 +10,16 @@ use Rattle.aia_io.specs.declared.sink.Write.TheVariants as writes
 abbrev pub Rose : ℕ → ℕ → Type 0
 Rose before now = (before < now) ⊎ (now ≡ 2 ^ 64 - 1)
 
--- `Got n` gives the first n bytes left, at least one; `End` comes only where none is left; a failure takes none
+-- `Got n` gives the first n bytes left, at least one; `End` comes only where none is left; a
+-- failure takes none
 abbrev pub Reads : Option (List ℕ) → Option (List ℕ) → List ℕ → Read → Type 0
-Reads old new buffer (reads.Got n) = (0 < n) × (n ≤ length buffer) × Consumes old new (take n buffer)
+Reads old new buffer (reads.Got n) =
+    (0 < n) × (n ≤ length buffer) × Consumes old new (take n buffer)
 Reads old new buffer reads.End = IsAtEnd old × Keeps old new
 Reads old new buffer reads.Failed = Keeps old new
 
--- the bytes that a read gave stand at the front of the buffer, and the rest of the buffer is as before
+-- the bytes that a read gave stand at the front of the buffer, and the rest of the buffer is as
+-- before
 abbrev pub Fills : List ℕ → List ℕ → List ℕ → Read → Type 0
 Fills left old new (reads.Got n) = new ≡ take n left ++ drop n old
 Fills left old new reads.End = new ≡ old
@@ -30,7 +33,8 @@ ReadHasCause before now reads.Failed = (before ≤ now) × Rose before now
 
 -- `Took n` appends the first n bytes offered, at least one; a failure appends none
 abbrev pub Writes : Option (List ℕ) → Option (List ℕ) → List ℕ → Write → Type 0
-Writes old new bytes (writes.Took n) = (0 < n) × (n ≤ length bytes) × Appends old new (take n bytes)
+Writes old new bytes (writes.Took n) =
+    (0 < n) × (n ≤ length bytes) × Appends old new (take n bytes)
 Writes old new bytes writes.Failed = Keeps old new
 
 -- a write's count of faults never falls, and rose where the write failed

@@ -4,7 +4,8 @@ use Rattle.aia_io.specs.declared.sink.Write.{Write}
 use Rattle.aia_io.specs.declared.sink.Write.TheVariants.{Took, Failed}
 use Rattle.aia_io.specs.Calls.{one_more}
 
--- the bytes taken, how many it takes in all, which calls fail, and how many calls were made and how many failed
+-- the bytes taken, how many it takes in all, which calls fail, and how many calls were made and
+-- how many failed
 pub record SinkState : Type 0 where
   pub taken : List ℕ
   pub room : ℕ
@@ -23,5 +24,6 @@ TakesMost s bytes Failed = ⊤
 
 -- the sink after a write that answered so: each call counts, and but for the answer nothing changes
 abbrev pub after_write : SinkState → List ℕ → Write → SinkState
-after_write s bytes (Took n) = record s { taken = s.taken ++ take n bytes; calls = one_more s.calls }
+after_write s bytes (Took n) =
+    record s { taken = s.taken ++ take n bytes; calls = one_more s.calls }
 after_write s bytes Failed = record s { calls = one_more s.calls; faults = one_more s.faults }

@@ -4,7 +4,8 @@ use Rattle.aia_io.specs.declared.source.Read.{Read}
 use Rattle.aia_io.specs.declared.source.Read.TheVariants.{Got, End, Failed}
 use Rattle.aia_io.specs.Calls.{one_more}
 
--- the bytes left, the most that a call gives, which calls fail, and how many calls were made and how many failed
+-- the bytes left, the most that a call gives, which calls fail, and how many calls were made and
+-- how many failed
 pub record SourceState : Type 0 where
   pub left : List ℕ
   pub piece : ℕ
@@ -18,7 +19,8 @@ GivesMost s room (Got n) = n ≡ min (min s.piece room) (length s.left)
 GivesMost s room End = ⊤
 GivesMost s room Failed = ⊤
 
--- the source after a read that answered so: each call counts, and but for the answer nothing changes
+-- the source after a read that answered so: each call counts, and but for the answer nothing
+-- changes
 abbrev pub after_read : SourceState → Read → SourceState
 after_read s (Got n) = record s { left = drop n s.left; calls = one_more s.calls }
 after_read s End = record s { calls = one_more s.calls }

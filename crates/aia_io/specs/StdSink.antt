@@ -19,7 +19,8 @@ abbrev pub WriteCounts : ℕ → ℕ → Write → Type 0
 WriteCounts before now (Took n) = now ≡ before
 WriteCounts before now Failed = now ≡ one_more before
 
--- what the writer is known to hold grew by the bytes taken, and at a failure by a front of those offered
+-- what the writer is known to hold grew by the bytes taken, and at a failure by a front of those
+-- offered
 abbrev pub PutsFront : Option (List ℕ) → Option (List ℕ) → List ℕ → Write → Type 0
 PutsFront old new bytes (Took n) = Appends old new (take n bytes)
 PutsFront old new bytes Failed = (n : ℕ) × (n ≤ length bytes) × Appends old new (take n bytes)

@@ -1,9 +1,9 @@
 //! The two ends of a run: where its bytes come from, and where they go.
 //!
-//! A [`Source`] and a [`Sink`] say which bytes moved, where they can tell, and count their own faults:
-//! a call that failed has a cause, which code that merely calls them cannot make up. [`MemSource`] and
-//! [`MemSink`] are fakes that fail at chosen calls, [`QuietSource`] and [`QuietSink`] never fail, and
-//! [`StdSource`] and [`StdSink`] are the outside world.
+//! A [`Source`] and a [`Sink`] say which bytes moved, where they can tell, and count their own
+//! faults: a call that failed has a cause, which code that merely calls them cannot make up.
+//! [`MemSource`] and [`MemSink`] are fakes that fail at chosen calls, [`QuietSource`] and
+//! [`QuietSink`] never fail, and [`StdSource`] and [`StdSink`] are the outside world.
 #![tactic(auto)]
 
 mod mem_sink;

@@ -8,8 +8,8 @@ use crate::sink::{Sink, Write};
 use std::alloc::{AllocError, Global};
 use std::marker::Model;
 
-/// Keeps the bytes that it took, and fails at the calls whose numbers it was given and where no room
-/// is left: a fake, for runs that have to meet a failure at a chosen place.
+/// Keeps the bytes that it took, and fails at the calls whose numbers it was given and where no
+/// room is left: a fake, for runs that have to meet a failure at a chosen place.
 ///
 /// The first call has the number 1. Past u64::MAX calls the number stays there.
 #[derive(Drop)]
@@ -39,8 +39,9 @@ impl Model for MemSink {
 }
 
 impl MemSink {
-    /// Will take `room` bytes in all, and fail at the calls numbered in `fails`. All the memory that
-    /// it ever needs is taken here, and `Err` comes only where there is too little.
+    /// Makes a sink that takes `room` bytes in all, 0 or more, and fails at the calls numbered in
+    /// `fails`. All the memory that it ever needs is taken here, and `Err` comes only where there
+    /// is too little.
     pub fn new(alloc: Global, room: usize, fails: Vec<u64>) -> Result<MemSink, AllocError>
         ensures { IfOk result (λ sink. sink ≡ record {
           taken = [];
@@ -60,14 +61,14 @@ impl MemSink {
         })
     }
 
-    /// What it took, in order.
+    /// Gives the bytes that it took, in order.
     pub fn bytes(&self) -> &[u8]
         ensures { result.now ≡ self.now.taken }
     {
         &self.bytes
     }
 
-    /// How many calls failed, up to u64::MAX, where the count stays.
+    /// Gives the number of calls that failed, up to u64::MAX, where the count stays.
     pub fn faults(&self) -> u64
         ensures { result ≡ self.now.faults }
     {
@@ -80,7 +81,8 @@ impl Sink for MemSink {
 
     ghost faults = { λ s. s.faults };
 
-    /// `Failed` at the calls listed and where no room is left, and else takes all that it has room for.
+    /// Takes as many of `bytes`, at least one, as it has room for. `Failed` comes exactly at the
+    /// calls listed and where no room is left; then none is taken, and a fault is counted.
     fn write(&mut self, bytes: &[u8]) -> Write
         requires { 0 < length bytes.now }
         ensures bytes { Writes (Some self.old.taken) (Some self.new.taken) bytes.now result }

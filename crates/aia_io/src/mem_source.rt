@@ -8,8 +8,8 @@ use crate::source::{Read, Source};
 use crate::tape::Tape;
 use std::marker::Model;
 
-/// Gives the bytes that it was made of, at most `piece` a call, and fails at the calls whose numbers
-/// it was given: a fake, for runs that have to meet a failure at a chosen place.
+/// Gives the bytes that it was made of, at most `piece` a call, and fails at the calls whose
+/// numbers it was given: a fake, for runs that have to meet a failure at a chosen place.
 ///
 /// The first call has the number 1. Past u64::MAX calls the number stays there.
 #[derive(Drop)]
@@ -39,7 +39,8 @@ impl Model for MemSource {
 }
 
 impl MemSource {
-    /// Will give `bytes`, at most `piece` a call, and fail at the calls numbered in `fails`.
+    /// Makes a source that gives `bytes`, at most `piece` a call, which is at least 1, and fails at
+    /// the calls numbered in `fails`.
     pub fn new(bytes: Vec<u8>, piece: usize, fails: Vec<u64>) -> MemSource
         requires { 0 < piece }
         ensures { result ≡ record {
@@ -59,7 +60,7 @@ impl MemSource {
         }
     }
 
-    /// How many calls failed, up to u64::MAX, where the count stays.
+    /// Gives the number of calls that failed, up to u64::MAX, where the count stays.
     pub fn faults(&self) -> u64
         ensures { result ≡ self.now.faults }
     {
@@ -72,8 +73,9 @@ impl Source for MemSource {
 
     ghost faults = { λ s. s.faults };
 
-    /// `Failed` at the calls listed. At the others `End` where nothing is left, and else as many bytes
-    /// as the piece, the buffer and what is left allow.
+    /// Gives as many bytes, at least one, as the piece, the buffer and what is left allow. `Failed`
+    /// comes exactly at the calls listed; then nothing is given, and a fault is counted. At the
+    /// others `End` comes exactly where nothing is left.
     fn read(&mut self, buf: &mut [u8]) -> Read
         requires { 0 < length buf.old }
         ensures bytes { Reads (Some self.old.left) (Some self.new.left) buf.new result }

@@ -21,14 +21,14 @@ impl Model for QuietSink {
 }
 
 impl QuietSink {
-    /// Has taken nothing.
+    /// Makes a sink that has taken nothing.
     pub fn new() -> QuietSink
         ensures { result ≡ 0 }
     {
         QuietSink { count: 0 }
     }
 
-    /// How many bytes it took, up to u64::MAX, where the count stays.
+    /// Gives the number of bytes that it took, up to u64::MAX, where the count stays.
     pub fn count(&self) -> u64
         ensures { result ≡ self.now }
     {
@@ -41,7 +41,7 @@ impl Sink for QuietSink {
 
     ghost faults = { λ _. 0 };
 
-    /// Takes all of `bytes`.
+    /// Takes all of `bytes`, at least one; `Failed` never comes.
     fn write(&mut self, bytes: &[u8]) -> Write
         requires { 0 < length bytes.now }
         ensures bytes { Writes None None bytes.now result }

@@ -23,7 +23,7 @@ impl Model for QuietSource {
 }
 
 impl QuietSource {
-    /// Will give `bytes`.
+    /// Makes a source that gives `bytes`.
     pub fn new(bytes: Vec<u8>) -> QuietSource
         ensures { result ≡ bytes.items }
     {
@@ -38,7 +38,8 @@ impl Source for QuietSource {
 
     ghost faults = { λ _. 0 };
 
-    /// `End` where nothing is left, and else as many bytes as the buffer and what is left allow.
+    /// Gives as many bytes, at least one, as the buffer and what is left allow. `End` comes exactly
+    /// where nothing is left, and `Failed` never.
     fn read(&mut self, buf: &mut [u8]) -> Read
         requires { 0 < length buf.old }
         ensures bytes { Reads (Some self.old) (Some self.new) buf.new result }

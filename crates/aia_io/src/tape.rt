@@ -27,7 +27,8 @@ impl Tape {
         Tape { bytes, at: 0 }
     }
 
-    // Moves the next bytes to the front of `buf`: as many as `most`, its room and what is left allow.
+    // Moves the next bytes to the front of `buf`: as many as `most`, its room and what is left
+    // allow.
     pub(crate) fn give(&mut self, buf: &mut [u8], most: usize) -> usize
         ensures count { result ≡ min (min most (length buf.old)) (length self.old) }
         ensures given { buf.new ≡ take result self.old ++ drop result buf.old }

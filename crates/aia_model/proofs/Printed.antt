@@ -15,9 +15,9 @@ use Rattle.aia_model.specs.declared.line.Line.{Line}
 use Rattle.aia_model.specs.declared.line.Line.TheVariants.{MachineCsr, HostCsr}
 use Rattle.aia_model.specs.declared.parsed.Parsed.TheVariants as parsed
 use Rattle.aia_model.specs.Text.{words_of}
-use Rattle.aia_model.specs.Grammar.{Spells, Field, Fits, AllFit, IsListed, IsNamed, csr_names, csr_field, fields_of, instruction}
+use Rattle.aia_model.specs.Grammar.{Spells, Field, Fits, AllFit, IsListed, HasSpelling, csr_names, csr_field, fields_of, instruction}
 use Rattle.aia_model.specs.Grammar.Field.{Keyword, Decimal, Hex, Hex32, Bit, Unspelled}
-use Rattle.aia_model.specs.Printing.{number_text, decimal_text, hex_text, field_text, line_text, IsInRange, IsPrintable}
+use Rattle.aia_model.specs.Printing.{number_text, decimal_text, hex_text, field_text, line_text, FitsField, IsPrintable}
 use Rattle.aia_model.specs.Reading.{reading}
 use Rattle.aia_model.proofs.PrintedNumbers.{decimal_again, hex_number_again, NoSpace, no_space_in_number, length-number_text}
 use Rattle.aia_model.proofs.Forms.{◌and_row◌, among, IsName, names}
@@ -83,7 +83,7 @@ keyword_word word test = record { fits = refl; no_space = tested word test }
       | inr ne ↦ (ne_eqb b 32 ne, tested bs (sym (cond-false _ _ _ (ne_eqb b 32 ne)) ∙ test))
     ]
 
-field_word : (field : Field) → is_plain field ≡ true → IsNamed field → IsInRange field → IsWord (field_text field) field
+field_word : (field : Field) → is_plain field ≡ true → HasSpelling field → FitsField field → IsWord (field_text field) field
 field_word (Keyword word) plain named range = keyword_word word plain
 field_word (Decimal n) plain named range = decimal_word n range
 field_word (Hex n) plain named range = hex_word n range
@@ -100,7 +100,7 @@ longest (Hex32 n) = 10
 longest (Bit level) = 1
 longest Unspelled = 0
 
-field_length : (field : Field) → IsInRange field → length (field_text field) ≤ longest field
+field_length : (field : Field) → FitsField field → length (field_text field) ≤ longest field
 field_length (Keyword word) range = omega arith
 field_length (Decimal n) range = length-number_text 10 20 n (omega arith) (omega arith) (omega arith)
 field_length (Hex n) range = let low : length (number_text 16 n) ≤ 16 = length-number_text 16 16 n (omega arith) (omega arith) (omega arith) in omega arith
@@ -142,8 +142,8 @@ csr_short level csr = among (λ name csr. is_name name ≡ true) (λ field. AreS
         let low : length name ≤ 8 = leb-true _ _ p.1 in
         record { plain = ap (λ t. t && true) p.0; short = omega arith }
 
-pub name_in_range : (level : Level) (csr : Csr) → IsInRange (csr_field level csr)
-name_in_range level csr = among (IsName level) IsInRange csr tt (λ name is. tt) (csr_names level) (names level)
+pub name_in_range : (level : Level) (csr : Csr) → FitsField (csr_field level csr)
+name_in_range level csr = among (IsName level) FitsField csr tt (λ name is. tt) (csr_names level) (names level)
 
 pub name_length : (level : Level) (csr : Csr) → length (field_text (csr_field level csr)) ≤ 8
 name_length level csr =
@@ -167,7 +167,7 @@ line_short line = record { plain = refl; short = omega arith }
 
 -- ---- the text of a line is short
 
-fields_length : (fields : List Field) → AllByRecursion IsInRange fields → length (join_with_byte 32 (map field_text fields)) ≤ longest_of fields
+fields_length : (fields : List Field) → AllByRecursion FitsField fields → length (join_with_byte 32 (map field_text fields)) ≤ longest_of fields
 fields_length [] range = omega arith
 fields_length (field ∷ []) range = let low : length (field_text field) ≤ longest field = field_length field range.0 in omega arith
 fields_length (field ∷ next ∷ fields) range =
@@ -184,7 +184,7 @@ length-line_text line range =
 
 -- ---- what is printed spells the line
 
-all_words : (fields : List Field) → are_plain fields ≡ true → AllByRecursion IsNamed fields → AllByRecursion IsInRange fields → AllWords fields
+all_words : (fields : List Field) → are_plain fields ≡ true → AllByRecursion HasSpelling fields → AllByRecursion FitsField fields → AllWords fields
 all_words [] plain named range = tt
 all_words (field ∷ fields) plain named range =
     let p = and_parts (is_plain field) (are_plain fields) plain in

@@ -18,7 +18,7 @@ use Rattle.aia_model.specs.declared.line.Line.TheVariants.{MachineCsr, HostCsr, 
 use Rattle.aia_model.specs.declared.parsed.Parsed.{Parsed}
 use Rattle.aia_model.specs.declared.parsed.Parsed.TheVariants as parsed
 use Rattle.aia_model.specs.Text.{words_of, is_skipped}
-use Rattle.aia_model.specs.Grammar.{Spells, Field, Fits, AllFit, IsListed, IsNamed, csr_field, instruction, fields_of}
+use Rattle.aia_model.specs.Grammar.{Spells, Field, Fits, AllFit, IsListed, HasSpelling, csr_field, instruction, fields_of}
 use Rattle.aia_model.specs.Grammar.Field.{Keyword, Unspelled}
 use Rattle.aia_model.specs.Reading.{reading, parsed_of, Words, line_at}
 use Rattle.aia_model.proofs.Readers.{chosen}
@@ -130,13 +130,13 @@ pub spells_one : (text : List ℕ) (x y : Line) → Spells text x → Spells tex
 spells_one text x y s t = let e : reading text ≡ parsed.Line x = reading_only text x s in let f : reading text ≡ parsed.Line y = reading_only text y t in cc
 
 -- fields that words spell are named
-all_named : (ws : Words) (fields : List Field) → AllFit ws fields → AllByRecursion IsNamed fields
+all_named : (ws : Words) (fields : List Field) → AllFit ws fields → AllByRecursion HasSpelling fields
 all_named [] [] fits = tt
 all_named [] (field ∷ fields) fits = absurd fits
 all_named (w ∷ ws) [] fits = absurd fits
 all_named (w ∷ ws) (field ∷ fields) fits = (named w field fits.0, all_named ws fields fits.1)
   where
-    named : (w : List ℕ) (f : Field) → Fits w f → IsNamed f
+    named : (w : List ℕ) (f : Field) → Fits w f → HasSpelling f
     named w Unspelled fits = absurd fits
     named w f fits = tt
 
@@ -146,14 +146,14 @@ spelled_listed text line s = all_named (words_of text) (fields_of line) s.1
 
 -- ---- the CSR of a listed line
 
-csr_named : (csr : Field) (op : Op) → AllByRecursion IsNamed (instruction csr op) → IsNamed csr
+csr_named : (csr : Field) (op : Op) → AllByRecursion HasSpelling (instruction csr op) → HasSpelling csr
 csr_named csr ops.Read all = all.1.0
 csr_named csr (ops.Write v) all = all.1.0
 csr_named csr (ops.Set v) all = all.1.0
 csr_named csr (ops.Clear v) all = all.1.0
 
 -- a CSR that a level names is in the access table
-in_table : (level : Level) (csr : Csr) → IsNamed (csr_field level csr) → IsInTable level csr
+in_table : (level : Level) (csr : Csr) → HasSpelling (csr_field level csr) → IsInTable level csr
 in_table levels.Guest csr named = tt
 in_table level Select named = tt
 in_table level Reg named = tt

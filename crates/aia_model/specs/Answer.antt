@@ -11,14 +11,14 @@ use Rattle.aia_model.specs.declared.line.Line.{Line}
 use Rattle.aia_model.specs.declared.line.Line.TheVariants.{Load, MachineCsr, HostCsr, Pins}
 use Rattle.aia_model.specs.declared.answer.Answer.{Answer}
 use Rattle.aia_model.specs.declared.answer.Answer.TheVariants.{Okay, Narrow, Wide}
-use Rattle.aia_model.specs.declared.answer.Answer.TheVariants as words
+use Rattle.aia_model.specs.declared.answer.Answer.TheVariants as kinds
 use Rattle.aia_model.specs.declared.msi.Msi.{Msi}
 use Rattle.aia_model.specs.Event.{History}
 use Rattle.aia_model.specs.Event.Event.{Accepted, Delivered}
 use Rattle.aia_model.specs.Act.{domain_at, register_at}
 use Rattle.aia_model.specs.declared.domain_name.DomainName.TheVariants.{Root, Child}
 use Rattle.aia_model.specs.SourceOf.{register_read, is_signalled}
-use Rattle.aia_model.specs.Sent.{acts_of, msis_of}
+use Rattle.aia_model.specs.Sent.{acts_of, msis_sent_by}
 use Rattle.aia_model.specs.FileOf.{FileName, MachineFile, SupervisorFile, select_of, file_of}
 use Rattle.aia_model.specs.Refusal.{refusal}
 
@@ -49,7 +49,7 @@ accepted_answer h (Load addr) = Narrow (load_value h addr)
 accepted_answer h (MachineCsr hart csr op) = Wide (csr_value h (MachineFile hart) csr)
 accepted_answer h (HostCsr hart csr op) = Wide (csr_value h (SupervisorFile hart) csr)
 accepted_answer h (Pins hart) =
-    words.Pins (is_signalled (acts_of h) Root hart) (is_signalled (acts_of h) Child hart)
+    kinds.Pins (is_signalled (acts_of h) Root hart) (is_signalled (acts_of h) Child hart)
     (signals (file_of h (MachineFile hart))) (signals (file_of h (SupervisorFile hart)))
 accepted_answer h line = Okay
 
@@ -57,25 +57,18 @@ accepted_answer h line = Okay
 unfoldable pub answer : History → Line → Answer
 answer h line = unwrap_or (refusal h line) (accepted_answer h line)
 
--- What an accepted line itself makes happen, and what a delivered MSI does.
-abbrev pub taken : History → Line → History
-taken h line = Accepted line ∷ h
-
-abbrev pub msi_taken : Msi → History → History
-msi_taken msi h = Delivered msi ∷ h
-
 -- MSIs are delivered, the first of a list first.
 abbrev pub delivered : List Msi → History → History
 delivered [] h = h
-delivered (msi ∷ later) h = delivered later (msi_taken msi h)
+delivered (msi ∷ later) h = delivered later (Delivered msi ∷ h)
 
 -- What has happened after an accepted line: it, then the MSIs that it sends.
-abbrev pub happens : History → Line → History
-happens h line = delivered (msis_of h line) (taken h line)
+abbrev pub after_accepted : History → Line → History
+after_accepted h line = delivered (msis_sent_by h line) (Accepted line ∷ h)
 
 -- The history after a line, by its refusal: a refused line changes nothing.
 abbrev pub history_after : Option Answer → History → Line → History
-history_after None h line = happens h line
+history_after None h line = after_accepted h line
 history_after (Some word) h line = h
 
 -- The history after a line.

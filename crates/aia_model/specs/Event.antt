@@ -30,7 +30,7 @@ machine_of (Accepted (Machine harts guests n sources) ∷ past) =
     Some (record { harts = harts; guests = guests; n = n; sources = sources })
 machine_of (event ∷ past) = machine_of past
 
--- Whether one stands.
+-- Whether a machine stands.
 abbrev pub has_machine : History → Bool
 has_machine h = is_some (machine_of h)
 
@@ -47,5 +47,5 @@ abbrev pub sources_of : History → ℕ
 sources_of h = option_map_or (λ (m : Shape). m.sources) (machine_of h) 0
 
 -- The greatest identity of each file, 0 where no machine stands.
-abbrev pub identities_of : History → ℕ
-identities_of h = option_map_or (λ (m : Shape). m.n) (machine_of h) 0
+abbrev pub greatest_identity_of : History → ℕ
+greatest_identity_of h = option_map_or (λ (m : Shape). m.n) (machine_of h) 0

@@ -39,8 +39,8 @@ page_at h addr = spot_at (harts_of h) (guests_of h) addr
 abbrev pub store_deed : FileName → ℕ → ℕ → FileDeed
 store_deed f addr value = if is_at f addr then Stores (addr % 0x1000) value else Rests
 
--- The deed of an event at a file; an access is its own hart's alone. Of a file that isn't there it
--- says something too, which nothing shows.
+-- The deed of an event at a file; an access is its own hart's alone. It is said of
+-- files that aren't there too, which no line can name.
 abbrev pub deed_at : FileName → Event → FileDeed
 deed_at f (Accepted (Machine harts guests n sources)) = Makes n
 deed_at f (Accepted (Store addr value)) = store_deed f addr value

@@ -9,7 +9,6 @@ use Rattle.aia_regs.specs.declared.access.Csr.TheVariants.{Select, Reg, Topei, T
 use Rattle.aia_regs.specs.declared.access.Level.{Level}
 use Rattle.aia_regs.specs.declared.access.Level.TheVariants as levels
 use Rattle.aia_regs.specs.declared.access.Op.{Op}
-use Rattle.aia_regs.specs.declared.access.Op.TheVariants.{Read, Write, Set}
 use Rattle.aia_regs.specs.declared.access.Op.TheVariants as ops
 use Rattle.aia_regs.specs.Fields.{bit_number}
 use Rattle.aia_model.specs.Text.{words_of, number_of}
@@ -40,9 +39,9 @@ AllFit (word ∷ words) (field ∷ fields) = Fits word field × AllFit words fie
 AllFit words fields = ⊥
 
 -- Whether a field has a spelling.
-abbrev pub IsNamed : Field → Type 0
-IsNamed Unspelled = ⊥
-IsNamed field = Unit {0}
+abbrev pub HasSpelling : Field → Type 0
+HasSpelling Unspelled = ⊥
+HasSpelling field = Unit {0}
 
 -- ---- the names of CSRs
 
@@ -79,9 +78,9 @@ csr_field level = field_among (csr_names level)
 
 -- A CSR instruction, given how its CSR is spelled.
 abbrev pub instruction : Field → Op → List Field
-instruction csr Read = Keyword (codes "csrr") ∷ csr ∷ []
-instruction csr (Write v) = Keyword (codes "csrrw") ∷ csr ∷ Hex v ∷ []
-instruction csr (Set v) = Keyword (codes "csrrs") ∷ csr ∷ Hex v ∷ []
+instruction csr ops.Read = Keyword (codes "csrr") ∷ csr ∷ []
+instruction csr (ops.Write v) = Keyword (codes "csrrw") ∷ csr ∷ Hex v ∷ []
+instruction csr (ops.Set v) = Keyword (codes "csrrs") ∷ csr ∷ Hex v ∷ []
 instruction csr (ops.Clear v) = Keyword (codes "csrrc") ∷ csr ∷ Hex v ∷ []
 
 -- The fields of a line.
@@ -104,4 +103,4 @@ Spells text line = (length text ≤ LINE_BYTES) × AllFit (words_of text) (field
 
 -- Whether each field of a line has a spelling: only a CSR that its level doesn't name has none.
 abbrev pub IsListed : Line → Type 0
-IsListed line = AllByRecursion IsNamed (fields_of line)
+IsListed line = AllByRecursion HasSpelling (fields_of line)

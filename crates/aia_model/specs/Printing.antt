@@ -34,14 +34,14 @@ unfoldable pub line_text : Line → List ℕ
 line_text line = join_with_byte 32 (map field_text (fields_of line))
 
 -- Whether a field's number is in the range of its kind of field.
-abbrev pub IsInRange : Field → Type 0
-IsInRange (Keyword word) = Unit {0}
-IsInRange (Decimal n) = n < 2 ^ 64
-IsInRange (Hex n) = n < 2 ^ 64
-IsInRange (Hex32 n) = n < 2 ^ 32
-IsInRange (Bit level) = Unit {0}
-IsInRange Unspelled = Unit {0}
+abbrev pub FitsField : Field → Type 0
+FitsField (Keyword word) = Unit {0}
+FitsField (Decimal n) = n < 2 ^ 64
+FitsField (Hex n) = n < 2 ^ 64
+FitsField (Hex32 n) = n < 2 ^ 32
+FitsField (Bit level) = Unit {0}
+FitsField Unspelled = Unit {0}
 
 -- Whether each number of a line is in range.
 abbrev pub IsPrintable : Line → Type 0
-IsPrintable line = AllByRecursion IsInRange (fields_of line)
+IsPrintable line = AllByRecursion FitsField (fields_of line)

@@ -32,12 +32,14 @@ abbrev pub has_one_already : History → Line → Bool
 has_one_already h (Machine harts guests n sources) = has_machine h
 has_one_already h line = false
 
--- `range`: a machine's number is out of its limits, or the named source or hart isn't there.
+-- Whether a machine may have these numbers: its harts, the guest files of each, the greatest
+-- identity, the wired sources.
 abbrev pub is_machine_size : ℕ → ℕ → ℕ → ℕ → Bool
 is_machine_size harts guests n sources =
     is_in_range 1 HARTS harts && is_in_range 0 GUEST_FILES guests && is_width n
     && is_in_range 1 SOURCES sources
 
+-- `range`: a machine's number is out of its limits, or the named source or hart isn't there.
 abbrev pub is_out_of_range : History → Line → Bool
 is_out_of_range h (Machine harts guests n sources) = not (is_machine_size harts guests n sources)
 is_out_of_range h (Wire source level) = not (is_in_range 1 (sources_of h) source)
@@ -59,7 +61,7 @@ is_illegal h (HostCsr hart csr op) =
 is_illegal h line = false
 
 -- `fault`: the address isn't a multiple of 4, or lies neither in a domain's control region nor in a
--- file's page nor in memory.
+-- file's page nor in memory; given the place in whose page it lies.
 abbrev pub faults : Spot → ℕ → Bool
 faults spot addr =
     not (nat_eq (addr % 4) 0 && (is_some (domain_at addr) || is_page spot || is_in_memory addr))
@@ -69,7 +71,7 @@ is_fault h (Load addr) = faults (page_at h addr) addr
 is_fault h (Store addr value) = faults (page_at h addr) addr
 is_fault h line = false
 
--- `guarded`: a guest's file or memory lies there.
+-- `guarded`: a guest's file or memory lies there; given the place in whose page it lies.
 abbrev pub guards : Spot → ℕ → Bool
 guards spot addr = is_guest_page spot || is_in_memory addr
 

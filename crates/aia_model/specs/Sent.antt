@@ -12,7 +12,7 @@ use Rattle.aia_model.specs.declared.sender.Sender.TheVariants.{ByGenMsi, BySourc
 use Rattle.aia_model.specs.Act.Act.{Sent}
 use Rattle.aia_msiaddr.specs.Registers.{AddressRegisters}
 use Rattle.aia_model.specs.AddressOf.{address_by, addresses_of}
-use Rattle.aia_model.specs.SourceOf.{sources_in, is_on, is_msi, enabled, target, pending, genmsi_of, genmsi_waits}
+use Rattle.aia_model.specs.SourceOf.{sources_in, is_on, by_msis, enabled, target, pending, genmsi_of, genmsi_waits}
 use Rattle.aia_model.specs.declared.line.Line.{Line}
 use Rattle.aia_model.specs.Event.{History}
 use Rattle.aia_model.specs.Event.Event.{Accepted}
@@ -23,12 +23,12 @@ use Rattle.aia_model.specs.Event.Event.{Accepted}
 -- the source is pending and enabled in it.
 -- AIA 1.0, APLIC, "Interrupt forwarding by MSIs".
 abbrev pub forwards : Past → DomainName → ℕ → Bool
-forwards past d s = is_msi past d && is_on past d && pending past d s && enabled past d s
+forwards past d s = by_msis past d && is_on past d && pending past d s && enabled past d s
 
 -- All senders that there may be, with so many wired sources, in the order in which they send:
 -- genmsi of both domains, then the sources by rising number. Profile: the order.
-unfoldable pub all_senders : ℕ → List Sender
-all_senders count =
+unfoldable pub in_order : ℕ → List Sender
+in_order count =
     ByGenMsi Root ∷ ByGenMsi Child
     ∷ flat_map (λ s. BySource Root s ∷ BySource Child s ∷ []) (range_with_len 1 count)
 
@@ -40,7 +40,7 @@ has_msi past (BySource d s) = forwards past d s
 -- All that waits to be sent, in the order in which it is sent.
 -- AIA 1.0, APLIC, "Interrupt forwarding by MSIs".
 abbrev pub senders : Past → List Sender
-senders past = filter (has_msi past) (all_senders (sources_in past))
+senders past = filter (has_msi past) (in_order (sources_in past))
 
 -- ---- their MSIs
 
@@ -66,8 +66,8 @@ msi_of past sender =
     msi_by (addresses_of past) (domain_of_sender sender) (register_of_sender past sender)
 
 -- The MSIs of all that waits, in order.
-abbrev pub msis : Past → List Msi
-msis past = map (msi_of past) (senders past)
+abbrev pub waiting_msis : Past → List Msi
+waiting_msis past = map (msi_of past) (senders past)
 
 -- ---- all of it is sent
 
@@ -76,8 +76,8 @@ sent_by [] past = past
 sent_by (sender ∷ later) past = sent_by later (Sent sender ∷ past)
 
 -- All that waits is sent: what has happened then.
-abbrev pub settled : Past → Past
-settled past = sent_by (senders past) past
+abbrev pub with_all_sent : Past → Past
+with_all_sent past = sent_by (senders past) past
 
 -- ---- the acts of a history
 
@@ -89,9 +89,9 @@ with_act (Some a) past = a ∷ past
 -- AIA 1.0, APLIC, "Interrupt forwarding by MSIs". Profile: within the line.
 abbrev pub acts_of : History → Past
 acts_of [] = []
-acts_of (Accepted line ∷ h) = settled (with_act (act_of line) (acts_of h))
+acts_of (Accepted line ∷ h) = with_all_sent (with_act (act_of line) (acts_of h))
 acts_of (event ∷ h) = acts_of h
 
 -- The MSIs that a line sends which is accepted after a history, in order.
-abbrev pub msis_of : History → Line → List Msi
-msis_of h line = msis (with_act (act_of line) (acts_of h))
+abbrev pub msis_sent_by : History → Line → List Msi
+msis_sent_by h line = waiting_msis (with_act (act_of line) (acts_of h))

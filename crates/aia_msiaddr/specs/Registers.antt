@@ -1,4 +1,5 @@
 -- The registers of MSI addresses: what a write of each keeps, their lock, and what they read.
+-- AIA 1.0, APLIC, "Memory-mapped control region for an interrupt domain".
 use Rattle.std.specs.Prelude.{ℕ, Bool, bit_and, if◌then◌else◌, Option, Some, None}
 use Rattle.aia_regs.specs.declared.domain_registers.DomainReg.{DomainReg}
 use Rattle.aia_regs.specs.declared.domain_registers.DomainReg.TheVariants.{MMsiAddrCfg, MMsiAddrCfgH, SMsiAddrCfg, SMsiAddrCfgH}
@@ -7,9 +8,7 @@ use Rattle.aia_msiaddr.specs.declared.registers.TheConstants.{MMSIADDRCFGH, SMSI
 
 -- What a write of mmsiaddrcfgh keeps: the lock L, HHXS, LHXS, HHXW, LHXW and the high half of the
 -- base page number; of smsiaddrcfgh: LHXS and the high half of the base page number. mmsiaddrcfg
--- and smsiaddrcfg keep all 32 bits.
--- AIA 1.0, APLIC, "Memory-mapped control region for an interrupt domain". Profile: each field is
--- kept whole.
+-- and smsiaddrcfg keep all 32 bits. So each field is kept whole.
 abbrev pub mmsiaddrcfgh_kept : ℕ → ℕ
 mmsiaddrcfgh_kept v = bit_and v MMSIADDRCFGH
 
@@ -17,20 +16,18 @@ abbrev pub smsiaddrcfgh_kept : ℕ → ℕ
 smsiaddrcfgh_kept v = bit_and v SMSIADDRCFGH
 
 -- Whether an mmsiaddrcfgh locks all four registers: L. From then on no write changes them.
--- AIA 1.0, APLIC, "Memory-mapped control region for an interrupt domain".
 abbrev pub locks : ℕ → Bool
 locks cfgh = is_one cfgh L
 
 -- ---- the four registers
 
--- AIA 1.0, APLIC, "Memory-mapped control region for an interrupt domain".
 pub record AddressRegisters : Type 0 where
   pub mmsiaddrcfg : ℕ
   pub mmsiaddrcfgh : ℕ
   pub smsiaddrcfg : ℕ
   pub smsiaddrcfgh : ℕ
 
--- As a machine begins. Profile.
+-- As a machine begins. Profile: every register is 0.
 abbrev pub new_addresses : AddressRegisters
 new_addresses = record { mmsiaddrcfg = 0; mmsiaddrcfgh = 0; smsiaddrcfg = 0; smsiaddrcfgh = 0 }
 
@@ -40,7 +37,6 @@ are_locked a = locks a.mmsiaddrcfgh
 
 -- A register is written: a write counts, whole, where they are not locked before it, so the one
 -- that locks them is the last that does.
--- AIA 1.0, APLIC, "Memory-mapped control region for an interrupt domain".
 abbrev pub address_put : DomainReg → ℕ → AddressRegisters → AddressRegisters
 address_put MMsiAddrCfg v a = record a { mmsiaddrcfg = v }
 address_put MMsiAddrCfgH v a = record a { mmsiaddrcfgh = mmsiaddrcfgh_kept v }

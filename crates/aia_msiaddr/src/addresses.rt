@@ -4,7 +4,7 @@ ghost use Rattle.aia_msiaddr.specs.Addresses.{base_page, group_of, member_of, ha
 
 use aia_regs::bits;
 
-/// Gives the address of an MSI to a hart at machine level, by `mmsiaddrcfg` (`cfg`) and
+/// Gives the address of an MSI to a hart at machine level, in 64 bits, by `mmsiaddrcfg` (`cfg`) and
 /// `mmsiaddrcfgh` (`cfgh`); the hart's index is below 16,384.
 ///
 /// AIA 1.0, APLIC, "Interrupt forwarding by MSIs".
@@ -15,7 +15,7 @@ pub fn machine_address(cfg: u32, cfgh: u32, hart: u32) -> u64
     hart_page(cfgh, cfg, cfgh, hart) << 12
 }
 
-/// Gives the address of an MSI to a hart at supervisor level, or to a guest of it, by
+/// Gives the address of an MSI to a hart at supervisor level, or to a guest of it, in 64 bits, by
 /// `mmsiaddrcfgh` (`mcfgh`), `smsiaddrcfg` (`cfg`) and `smsiaddrcfgh` (`cfgh`); the hart's index is
 /// below 16,384, the guest's below 64, and 0 for the hart itself.
 ///

@@ -53,7 +53,7 @@ impl Addresses {
         }
     }
 
-    /// Reads one of them; `None` for every other register.
+    /// Reads one of them; `None` exactly for every other register.
     pub fn load(&self, reg: DomainReg) -> Option<u32>
         ensures { result ≡ address_read self.now reg }
     {

@@ -1,4 +1,6 @@
 -- The registers of an APLIC interrupt domain, each at an offset of the domain's control region.
+-- AIA 1.0, APLIC, "Memory-mapped control region for an interrupt domain"; rows and their indexes
+-- are vocabulary.
 use Rattle.std.specs.Prelude.{ℕ, ◌+◌, ◌-◌, ◌*◌, ◌/◌, ◌%◌, Bool, ◌&&◌, nat_eq, nat_le, if◌then◌else◌, List, [], ◌∷◌, Option, Some, None}
 use Rattle.std.specs.Int.{is_in_range}
 use Rattle.aia_regs.specs.declared.domain_registers.DomainReg.{DomainReg}
@@ -7,7 +9,7 @@ use Rattle.aia_regs.specs.declared.domain_registers.DomainReg.TheVariants.{Domai
 -- ---- the table
 
 -- A row of the table: the registers with the indexes from `first` to `last`, register i at `base +
--- stride * i`. Vocabulary.
+-- stride * i`.
 pub record Row : Type 0 where
   pub base : ℕ
   pub stride : ℕ
@@ -16,19 +18,21 @@ pub record Row : Type 0 where
   pub register : ℕ → DomainReg
 
 -- A row of registers with an index, from the offset that register 0 has or would have.
--- Vocabulary.
 abbrev pub indexed : ℕ → ℕ → ℕ → ℕ → (ℕ → DomainReg) → Row
-indexed base stride first last register = record { base = base; stride = stride; first = first; last = last; register = register }
+indexed base stride first last register = record {
+  base = base;
+  stride = stride;
+  first = first;
+  last = last;
+  register = register;
+}
 
 -- A row of one register, which has no index.
--- Vocabulary.
 abbrev pub single : ℕ → DomainReg → Row
 single base register = indexed base 4 0 0 (λ i. register)
 
 -- The control region's registers, by offset; at its end the interrupt delivery controls of 512
--- harts, 32 bytes each.
--- AIA 1.0, APLIC, "Memory-mapped control region for an interrupt domain". Profile: a region of 32
--- KiB, which has room for 512 harts.
+-- harts, 32 bytes each. Profile: a region of 32 KiB, which has room for 512 harts.
 abbrev pub table : List Row
 table =
     single 0x0000 DomainCfg
@@ -59,35 +63,36 @@ table =
 -- ---- from an offset to its register
 
 -- The index that an offset would have in a row.
--- Vocabulary.
 abbrev pub index_at : Row → ℕ → ℕ
 index_at row offset = (offset - row.base) / row.stride
 
 -- Whether one of the row's registers is at the offset.
--- Vocabulary.
 abbrev pub has_offset : Row → ℕ → Bool
-has_offset row offset = nat_le row.base offset && nat_eq ((offset - row.base) % row.stride) 0 && is_in_range row.first row.last (index_at row offset)
+has_offset row offset =
+    nat_le row.base offset
+    && nat_eq ((offset - row.base) % row.stride) 0
+    && is_in_range row.first row.last (index_at row offset)
 
 -- The register at an offset by some rows, that of the first row which has it; Nothing where none
--- has it. Vocabulary.
+-- has it.
 abbrev pub register_by : List Row → ℕ → DomainReg
 register_by [] offset = Nothing
-register_by (row ∷ rows) offset = if has_offset row offset then row.register (index_at row offset) else register_by rows offset
+register_by (row ∷ rows) offset =
+    if has_offset row offset then row.register (index_at row offset)
+    else register_by rows offset
 
 -- The register at an offset of a domain's control region.
--- AIA 1.0, APLIC, "Memory-mapped control region for an interrupt domain".
 unfoldable pub domain_register_of : ℕ → DomainReg
 domain_register_of offset = register_by table offset
 
 -- ---- from a register to its offset
 
 -- The offset of register i of those from `first` to `last`; None for another i.
--- Vocabulary.
 abbrev pub offset_of_index : ℕ → ℕ → ℕ → ℕ → ℕ → Option ℕ
-offset_of_index base stride first last i = if is_in_range first last i then Some (base + stride * i) else None
+offset_of_index base stride first last i =
+    if is_in_range first last i then Some (base + stride * i) else None
 
 -- The offset of a register; None for Nothing and for an index that no register has.
--- AIA 1.0, APLIC, "Memory-mapped control region for an interrupt domain".
 abbrev pub domain_offset_of : DomainReg → Option ℕ
 domain_offset_of DomainCfg = Some 0x0000
 domain_offset_of (SourceCfg i) = offset_of_index 0x0000 4 1 1023 i

@@ -1,5 +1,5 @@
 -- The registers of an interrupt file, reached by a select number: which there are, and what a write
--- keeps.
+-- keeps. AIA 1.0, IMSIC, "Indirectly accessed interrupt-file registers".
 use Rattle.std.specs.Prelude.{◌≡◌, ℕ, ◌+◌, ◌-◌, ◌*◌, ◌%◌, ◌<◌, Bool, ◌&&◌, nat_eq, if◌then◌else◌}
 use Rattle.std.specs.Int.{is_in_range}
 use Rattle.aia_regs.specs.declared.access.Op.{Op}
@@ -13,8 +13,7 @@ use Rattle.aia_regs.specs.Operations.{is_writing, written, bit_said}
 
 -- The register map: eidelivery, eithreshold, the reserved numbers about them, eip and eie, whose
 -- odd numbers don't exist at XLEN 64.
--- AIA 1.0, IMSIC, "Indirectly accessed interrupt-file registers". Profile: all numbers outside 0x70
--- to 0xff name nothing.
+-- Profile: all numbers outside 0x70 to 0xff name nothing.
 abbrev pub register_of : ℕ → FileReg
 register_of select =
     if nat_eq select 0x70 then Delivery
@@ -26,7 +25,6 @@ register_of select =
     else Outside)))))
 
 -- A register that a file serves: it exists, and of eip and eie the index is even and below 64.
--- AIA 1.0, IMSIC, "Indirectly accessed interrupt-file registers".
 abbrev pub IsUsable : FileReg → Type 0
 IsUsable (Pending k) = (k % 2 ≡ 0) × (k < 64)
 IsUsable (Enable k) = (k % 2 ≡ 0) × (k < 64)
@@ -38,23 +36,19 @@ IsUsable r = Unit {0}
 
 -- Whether register k of eip or eie shows identity i of 1 to n: it shows the identities 32k to 32k +
 -- 63.
--- AIA 1.0, IMSIC, "Indirectly accessed interrupt-file registers".
 abbrev pub shows : ℕ → ℕ → ℕ → Bool
 shows n k i = is_in_range 1 n i && is_in_range (32 * k) (32 * k + 63) i
 
 -- What an access to register k of a set says of identity i, where it shows it.
--- AIA 1.0, IMSIC, "Indirectly accessed interrupt-file registers".
 abbrev pub set_said : ℕ → ℕ → Op → ℕ → Word
 set_said n k op i = if shows n k i then bit_said op (i - 32 * k) else Nothing
 
--- What an access to a register says of identity i's being pending.
--- AIA 1.0, IMSIC, "Indirectly accessed interrupt-file registers": eip.
+-- What an access to a register says of identity i's being pending: one to eip says it.
 abbrev pub eip_said : ℕ → FileReg → Op → ℕ → Word
 eip_said n (Pending k) op i = set_said n k op i
 eip_said n r op i = Nothing
 
--- What it says of identity i's being enabled.
--- AIA 1.0, IMSIC, "Indirectly accessed interrupt-file registers": eie.
+-- What it says of identity i's being enabled: one to eie says it.
 abbrev pub eie_said : ℕ → FileReg → Op → ℕ → Word
 eie_said n (Enable k) op i = set_said n k op i
 eie_said n r op i = Nothing

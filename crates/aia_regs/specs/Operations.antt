@@ -1,4 +1,5 @@
 -- What a CSR instruction writes, given what the register read before it.
+-- RISC-V Unprivileged Architecture, "Zicsr", at XLEN 64.
 use Rattle.std.specs.Prelude.{ℕ, ◌^◌, ◌<◌, Bool, true, false, nat_eq, bit_and, bit_or, if◌then◌else◌}
 use Rattle.std.specs.Int.{bit_at, bit_not, w64}
 use Rattle.aia_regs.specs.declared.access.Op.{Op}
@@ -15,19 +16,19 @@ is_writing (ops.Set v) = true
 is_writing (ops.Clear v) = true
 
 -- The number that it writes: the operand, the old value with the operand's ones set, or with them
--- cleared. RISC-V Unprivileged Architecture, "Zicsr".
+-- cleared.
 abbrev pub written : Op → ℕ → ℕ
 written ops.Read old = old
 written (ops.Write v) old = v
 written (ops.Set v) old = bit_or old v
 written (ops.Clear v) old = bit_and old (bit_not w64 v)
 
--- Whether bit b of a number is a one, b counted from 0 at the lowest. Profile.
+-- Whether bit b of a number is a one, b counted from 0 at the lowest. Vocabulary.
 abbrev pub is_one : ℕ → ℕ → Bool
 is_one v b = nat_eq (bit_at v b) 1
 
 -- What it says of bit b of the register; that this is the number written, bit by bit, is a law of
--- the file's crate. RISC-V Unprivileged Architecture, "Zicsr".
+-- the file's crate.
 abbrev pub bit_said : Op → ℕ → Word
 bit_said ops.Read b = Nothing
 bit_said (ops.Write v) b = if is_one v b then Ask else Clear
@@ -35,7 +36,6 @@ bit_said (ops.Set v) b = if is_one v b then Ask else Nothing
 bit_said (ops.Clear v) b = if is_one v b then Clear else Nothing
 
 -- Whether the operand has 64 bits.
--- RISC-V Unprivileged Architecture, "Zicsr", at XLEN 64.
 abbrev pub FitsOp : Op → Type 0
 FitsOp ops.Read = Unit {0}
 FitsOp (ops.Write v) = v < 2 ^ 64

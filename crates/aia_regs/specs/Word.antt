@@ -1,25 +1,24 @@
--- What an event says of an identity.
+-- What an event says of an identity. Vocabulary.
 use Rattle.std.specs.Prelude.{ℕ, Bool, true, false, nat_eq, Option, Some, None}
 
 -- An event asks for an identity's bit, clears it, or says nothing of it.
--- Vocabulary.
 pub data Word : Type 0 where
   Ask : Word
   Clear : Word
   Nothing : Word
 
 -- Whether an identity is in a set after an event, given what the event says of it and whether it
--- was in it before. So a set holds just the identities whose newest word asks for them. Profile.
+-- was in it before. So a set holds just the identities whose newest word asks for them.
 abbrev pub settle : Word → Bool → Bool
 settle Ask was = true
 settle Clear was = false
 settle Nothing was = was
 
--- Whether an identity, where there is one, is i. Profile.
+-- Whether an identity, where there is one, is i.
 abbrev pub names : Option ℕ → ℕ → Bool
 names None i = false
 names (Some x) i = nat_eq x i
 
--- A set after an event, given what the event says of each identity. Profile.
+-- A set after an event, given what the event says of each identity.
 abbrev pub set_after : (ℕ → Word) → (ℕ → Bool) → ℕ → Bool
 set_after word was i = settle (word i) (was i)

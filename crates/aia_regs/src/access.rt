@@ -14,7 +14,7 @@ pub enum Level {
 
 /// A CSR of one privilege level, by its part in the AIA.
 ///
-/// AIA 1.0, Incoming MSI Controller, and Interrupts for Virtual Machines (VS Level).
+/// AIA 1.0, IMSIC, and Interrupts for Virtual Machines (VS Level).
 #[derive(Clone, Copy, Debug, PartialEq, Eq)]
 pub enum Csr {
     /// `miselect` or `siselect`: the select number.
@@ -45,14 +45,15 @@ pub enum Op {
 }
 
 impl Op {
-    /// Whether the instruction writes.
+    /// Tells whether the instruction writes: `csrr` does not, the others do whatever their operand.
     pub fn is_writing(self) -> bool
         ensures { result ≡ is_writing self }
     {
         !matches!(self, Op::Read)
     }
 
-    /// What the instruction makes of the value `old` of the register.
+    /// Gives the number that the instruction writes where the register reads `old`; of `csrr`,
+    /// which writes nothing, `old`.
     pub fn written(self, old: u64) -> u64
         ensures { result ≡ written self old }
     {

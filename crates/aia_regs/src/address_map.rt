@@ -1,5 +1,4 @@
-//! Where the interrupt files of harts, the domains of the APLIC and the memory lie (our profile's
-//! choice).
+//! Where the interrupt files of harts, the domains of the APLIC and the memory lie. Profile.
 
 /// The control region of the APLIC's root domain; its child's is the next [`REGION`] bytes.
 pub const ROOT_DOMAIN: u64 = 0x0c00_0000;

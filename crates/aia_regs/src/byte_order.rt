@@ -1,10 +1,9 @@
 ghost use Rattle.std.specs.Prelude.{◌≡◌};
 ghost use Rattle.std.specs.Int.{swap_bytes, w32};
 
-/// A word with its four bytes in the other order, as a number written to a big-endian register has
-/// them.
+/// Reverses the four bytes of a word, as a number written to a big-endian register has them.
 ///
-/// AIA 1.0, Incoming MSI Controller, "Memory region for an interrupt file": `seteipnum_be`.
+/// AIA 1.0, IMSIC, "Memory region for an interrupt file": `seteipnum_be`.
 pub fn swap32(x: u32) -> u32
     ensures { result ≡ swap_bytes w32 x }
 {

@@ -64,7 +64,7 @@ pub enum DomainReg {
     Nothing,
 }
 
-/// The register at an offset of a domain's control region.
+/// Gives the register at an offset of a domain's control region; `Nothing` where none is there.
 ///
 /// AIA 1.0, APLIC, "Memory-mapped control region for an interrupt domain".
 #[tactic(auto, unfolding(crate::specs::DomainRegisters::domain_register_of))]
@@ -98,7 +98,7 @@ pub fn domain_reg(offset: u32) -> DomainReg
     }
 }
 
-// The register at `place` of a hart's interrupt delivery control.
+// Gives the register at `place` of a hart's interrupt delivery control.
 fn control_reg(hart: u32, place: u32) -> DomainReg
     requires aligned { place % 4 ≡ 0 }
     requires inside { place < 32 }

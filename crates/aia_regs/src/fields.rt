@@ -5,7 +5,7 @@ ghost use Rattle.std.specs.Int.{bit_at};
 ghost use Rattle.aia_regs.specs.Fields.{field, with_field, IsOutside};
 ghost use Rattle.aia_regs.specs.Operations.{is_one};
 
-/// Tells whether the bit of `x` at a place is a one, the lowest being at 0.
+/// Tells whether the bit of `x` at a place, 0 to 63, is a one, the lowest being at 0.
 pub fn bit(x: u64, place: u32) -> bool
     requires within { place < 64 }
     ensures { result ≡ is_one x place }
@@ -13,7 +13,7 @@ pub fn bit(x: u64, place: u32) -> bool
     (x >> place) % 2 == 1
 }
 
-/// The field `hi:lo` of `x`: its bits from `lo` to `hi`, `lo` as the lowest.
+/// Gives the field `hi:lo` of `x`: its bits from `lo` to `hi`, 0 to 63, `lo` as the lowest.
 pub fn bits(x: u64, hi: u32, lo: u32) -> u64
     requires order { lo ≤ hi }
     requires within { hi < 64 }
@@ -29,8 +29,8 @@ pub fn bits(x: u64, hi: u32, lo: u32) -> u64
     }
 }
 
-/// The number `x` with `v` in its field `hi:lo`; all other bits stay, so that a number of 32 bits
-/// is one after it too.
+/// Gives the number `x` with `v`, which fits, in its field `hi:lo`, of the bits 0 to 63; all other
+/// bits stay, so that a number of 32 bits is one after it too.
 pub fn put_bits(x: u64, hi: u32, lo: u32, v: u64) -> u64
     requires order { lo ≤ hi }
     requires within { hi < 64 }

@@ -3,7 +3,7 @@ ghost use Rattle.aia_regs.specs.FileRegisters.{register_of};
 
 /// A register of an interrupt file, as a select number names it.
 ///
-/// AIA 1.0, Incoming MSI Controller, "Indirectly accessed interrupt-file registers".
+/// AIA 1.0, IMSIC, "Indirectly accessed interrupt-file registers".
 #[derive(Clone, Copy, Debug, PartialEq, Eq)]
 pub enum FileReg {
     /// `eidelivery`: whether the file signals, 0 or 1.
@@ -18,11 +18,12 @@ pub enum FileReg {
     Reserved,
     /// An odd `eip` or `eie`, which doesn't exist at XLEN 64: an access is a fault.
     Odd,
-    /// Any other number: an access is a fault (our profile's choice).
+    /// Any other number: an access is a fault. Profile.
     Outside,
 }
 
-/// The register that a select number names.
+/// Gives the register that a select number names: the index of an `eip` or `eie` is even and below
+/// 64; a number below 0x70 or above 0xff names `Outside`.
 pub fn file_reg(select: u64) -> FileReg
     ensures { result ≡ register_of select }
 {

@@ -16,15 +16,20 @@ use crate::{DomainReg, FileReg};
 
 /// The register map, row by row: which select numbers each register has.
 ///
-/// AIA 1.0, Incoming MSI Controller, "Indirectly accessed interrupt-file registers".
+/// AIA 1.0, IMSIC, "Indirectly accessed interrupt-file registers".
 pub fn register_map()
     ensures delivery { (select : ℕ) → (register_of select ≡ FileReg.Delivery) ↔ (select ≡ 0x70) }
     ensures threshold { (select : ℕ) → (register_of select ≡ FileReg.Threshold) ↔ (select ≡ 0x72) }
-    ensures pending { (select k : ℕ) → (register_of select ≡ FileReg.Pending k) ↔ ((k % 2 ≡ 0) × (k < 64) × (select ≡ 0x80 + k)) }
-    ensures enable { (select k : ℕ) → (register_of select ≡ FileReg.Enable k) ↔ ((k % 2 ≡ 0) × (k < 64) × (select ≡ 0xc0 + k)) }
-    ensures reserved { (select : ℕ) → (register_of select ≡ FileReg.Reserved) ↔ ((select ≡ 0x71) ⊎ ((0x73 ≤ select) × (select ≤ 0x7f))) }
-    ensures odd { (select : ℕ) → (register_of select ≡ FileReg.Odd) ↔ ((0x80 ≤ select) × (select ≤ 0xff) × (select % 2 ≡ 1)) }
-    ensures outside { (select : ℕ) → (register_of select ≡ FileReg.Outside) ↔ ((select < 0x70) ⊎ (0xff < select)) }
+    ensures pending { (select k : ℕ) → (register_of select ≡ FileReg.Pending k)
+        ↔ ((k % 2 ≡ 0) × (k < 64) × (select ≡ 0x80 + k)) }
+    ensures enable { (select k : ℕ) → (register_of select ≡ FileReg.Enable k)
+        ↔ ((k % 2 ≡ 0) × (k < 64) × (select ≡ 0xc0 + k)) }
+    ensures reserved { (select : ℕ) → (register_of select ≡ FileReg.Reserved)
+        ↔ ((select ≡ 0x71) ⊎ ((0x73 ≤ select) × (select ≤ 0x7f))) }
+    ensures odd { (select : ℕ) → (register_of select ≡ FileReg.Odd)
+        ↔ ((0x80 ≤ select) × (select ≤ 0xff) × (select % 2 ≡ 1)) }
+    ensures outside { (select : ℕ) → (register_of select ≡ FileReg.Outside)
+        ↔ ((select < 0x70) ⊎ (0xff < select)) }
 {}
 
 /// The registers of an APLIC domain: what an offset names is the register with that offset, and
@@ -32,9 +37,12 @@ pub fn register_map()
 ///
 /// AIA 1.0, APLIC, "Memory-mapped control region for an interrupt domain".
 pub fn domain_register_map()
-    ensures both_ways { (r : DomainReg) (offset : ℕ) → r ≢ DomainReg.Nothing → (domain_register_of offset ≡ r) ↔ (domain_offset_of r ≡ Some offset) }
-    ensures nothing { (offset : ℕ) → (domain_register_of offset ≡ DomainReg.Nothing) ↔ ((r : DomainReg) → domain_offset_of r ≢ Some offset) }
-    ensures at_most_one { (r s : DomainReg) (offset : ℕ) → domain_offset_of r ≡ Some offset → domain_offset_of s ≡ Some offset → r ≡ s }
+    ensures both_ways { (r : DomainReg) (offset : ℕ) → r ≢ DomainReg.Nothing
+        → (domain_register_of offset ≡ r) ↔ (domain_offset_of r ≡ Some offset) }
+    ensures nothing { (offset : ℕ) → (domain_register_of offset ≡ DomainReg.Nothing)
+        ↔ ((r : DomainReg) → domain_offset_of r ≢ Some offset) }
+    ensures at_most_one { (r s : DomainReg) (offset : ℕ) → domain_offset_of r ≡ Some offset
+        → domain_offset_of s ≡ Some offset → r ≡ s }
 {}
 
 /// The fields of a register, bit by bit, and what it is to put a number into one.
@@ -45,10 +53,14 @@ pub fn fields()
     ensures bits { (x hi lo i : ℕ) → lo + i ≤ hi → bit_at (field x hi lo) i ≡ bit_at x (lo + i) }
     ensures no_more { (x hi lo i : ℕ) → lo ≤ hi → hi < lo + i → bit_at (field x hi lo) i ≡ 0 }
     ensures got { (x hi lo v : ℕ) → v < 2 ^ (hi - lo + 1) → field (with_field x hi lo v) hi lo ≡ v }
-    ensures others { (x hi lo v i : ℕ) → lo ≤ hi → v < 2 ^ (hi - lo + 1) → IsOutside hi lo i → bit_at (with_field x hi lo v) i ≡ bit_at x i }
-    ensures other_fields { (x hi lo v top bottom : ℕ) → lo ≤ hi → bottom ≤ top → v < 2 ^ (hi - lo + 1) → (top < lo) ⊎ (hi < bottom) → field (with_field x hi lo v) top bottom ≡ field x top bottom }
+    ensures others { (x hi lo v i : ℕ) → lo ≤ hi → v < 2 ^ (hi - lo + 1) → IsOutside hi lo i
+        → bit_at (with_field x hi lo v) i ≡ bit_at x i }
+    ensures other_fields { (x hi lo v top bottom : ℕ) → lo ≤ hi → bottom ≤ top
+        → v < 2 ^ (hi - lo + 1) → (top < lo) ⊎ (hi < bottom)
+        → field (with_field x hi lo v) top bottom ≡ field x top bottom }
     ensures put_back { (x hi lo : ℕ) → with_field x hi lo (field x hi lo) ≡ x }
-    ensures fits { (x hi lo v w : ℕ) → lo ≤ hi → hi < w → v < 2 ^ (hi - lo + 1) → x < 2 ^ w → with_field x hi lo v < 2 ^ w }
+    ensures fits { (x hi lo v w : ℕ) → lo ≤ hi → hi < w → v < 2 ^ (hi - lo + 1) → x < 2 ^ w
+        → with_field x hi lo v < 2 ^ w }
 {}
 
 /// The bytes of a word reversed twice are the word.
@@ -60,12 +72,16 @@ pub fn byte_order()
 pub fn address_map()
     ensures machine { (hart : ℕ) → machine_page hart ≡ MACHINE_FILES + hart * PAGE }
     ensures supervisor { (hart : ℕ) → supervisor_page hart ≡ SUPERVISOR_FILES + hart * HART_STRIDE }
-    ensures guest { (hart file : ℕ) → guest_page hart file ≡ SUPERVISOR_FILES + hart * HART_STRIDE + file * PAGE }
-    ensures page { (page addr : ℕ) → (is_in_page page addr ≡ true) ↔ ((page ≤ addr) × (addr < page + PAGE)) }
+    ensures guest { (hart file : ℕ) → guest_page hart file
+        ≡ SUPERVISOR_FILES + hart * HART_STRIDE + file * PAGE }
+    ensures page { (page addr : ℕ) → (is_in_page page addr ≡ true)
+        ↔ ((page ≤ addr) × (addr < page + PAGE)) }
     ensures root { root_region ≡ ROOT_DOMAIN }
     ensures child { child_region ≡ ROOT_DOMAIN + REGION }
-    ensures region { (base addr : ℕ) → (is_in_region base addr ≡ true) ↔ ((base ≤ addr) × (addr < base + REGION)) }
-    ensures memory { (addr : ℕ) → (is_in_memory addr ≡ true) ↔ ((MEMORY ≤ addr) × (addr < MEMORY_END)) }
+    ensures region { (base addr : ℕ) → (is_in_region base addr ≡ true)
+        ↔ ((base ≤ addr) × (addr < base + REGION)) }
+    ensures memory { (addr : ℕ) → (is_in_memory addr ≡ true)
+        ↔ ((MEMORY ≤ addr) × (addr < MEMORY_END)) }
 {}
 
 /// The limits of a machine are these numbers.

@@ -1,4 +1,4 @@
-//! How large a machine may be (our profile's choice).
+//! How large a machine may be. Profile.
 
 /// The most harts of a machine.
 pub const HARTS: u32 = 4;

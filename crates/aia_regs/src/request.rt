@@ -3,12 +3,13 @@ ghost use Rattle.aia_regs.specs.Request.{requested};
 
 use crate::swap32;
 
-/// The identity that a 32-bit store at `offset` of a file's page asks for, where the file has the
-/// identities 1 to `n`.
+/// Gives the identity that a 32-bit store at `offset` of a file's page asks for, where the file has
+/// the identities 1 to `n`.
 ///
 /// Offset 0 takes the identity little-endian, offset 4 big-endian. `None` at every other offset,
-/// and where the number is 0 or above `n`: such a store is ignored. AIA 1.0, Incoming MSI
-/// Controller, "Memory region for an interrupt file".
+/// and where the number is 0 or above `n`: such a store is ignored.
+///
+/// AIA 1.0, IMSIC, "Memory region for an interrupt file".
 pub fn requested(n: u32, offset: u32, value: u32) -> Option<u32>
     ensures { result ≡ requested n offset value }
 {

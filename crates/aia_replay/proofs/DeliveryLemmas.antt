@@ -5,12 +5,12 @@ use Rattle.aia_model.specs.declared.line.Line.{Line}
 use Rattle.aia_model.specs.declared.msi.Msi.{Msi}
 use Rattle.aia_model.specs.declared.answer.Answer.{Answer}
 use Rattle.aia_model.specs.Event.{History}
-use Rattle.aia_model.specs.Event.Event.{Accepted}
+use Rattle.aia_model.specs.Event.Event.{Accepted, Delivered}
 use Rattle.aia_model.specs.Act.{Past, act_of}
 use Rattle.aia_model.specs.Act.Act.{Sent}
-use Rattle.aia_model.specs.Sent.{senders, msi_of, msis, sent_by, settled, with_act, acts_of}
+use Rattle.aia_model.specs.Sent.{senders, msi_of, waiting_msis, sent_by, with_all_sent, with_act, acts_of}
 use Rattle.aia_model.specs.Refusal.{refusal}
-use Rattle.aia_model.specs.Answer.{delivered, msi_taken, history_after}
+use Rattle.aia_model.specs.Answer.{delivered, history_after}
 use Rattle.aia_model.proofs.AnswerLemmas.{after_by}
 use Rattle.aia_aplic.specs.Aplic.{AplicStands}
 use Rattle.aia_aplic.specs.Sending.{Next}
@@ -25,26 +25,26 @@ use Rattle.aia_replay.specs.Stands.{MachineHolds, MachineStands, MachineTakes, M
 -- a delivery says nothing to the wired sources
 acts_delivered : (ms : List Msi) (h : History) → acts_of (delivered ms h) ≡ acts_of h
 acts_delivered [] h = refl
-acts_delivered (m ∷ ms) h = acts_delivered ms (msi_taken m h)
+acts_delivered (m ∷ ms) h = acts_delivered ms (Delivered m ∷ h)
 
-none_sent : (past : Past) → senders past ≡ [] → settled past ≡ past
+none_sent : (past : Past) → senders past ≡ [] → with_all_sent past ≡ past
 none_sent past none = ap (λ xs. sent_by xs past) none
 
-no_msis : (past : Past) → senders past ≡ [] → msis past ≡ []
+no_msis : (past : Past) → senders past ≡ [] → waiting_msis past ≡ []
 no_msis past none = ap (map (msi_of past)) none
 
 -- where nothing waits all that waits is sent
-pub all_sent : (m : Machine) (h : History) (past : Past) → senders past ≡ [] → MachineHolds m h past → MachineHolds m (delivered (msis past) h) (settled past)
-all_sent m h past none holds = subst (λ p. MachineHolds m (delivered (msis past) h) p) (sym (none_sent past none)) (subst (λ ms. MachineHolds m (delivered ms h) past) (sym (no_msis past none)) holds)
+pub all_sent : (m : Machine) (h : History) (past : Past) → senders past ≡ [] → MachineHolds m h past → MachineHolds m (delivered (waiting_msis past) h) (with_all_sent past)
+all_sent m h past none holds = subst (λ p. MachineHolds m (delivered (waiting_msis past) h) p) (sym (none_sent past none)) (subst (λ ms. MachineHolds m (delivered ms h) past) (sym (no_msis past none)) holds)
 
 -- ---- a line, then its MSIs
 
-pub after_delivery : (n : Machine) (h : History) (line : Line) (r : Option Answer) → MachineHolds n (delivered (msis (act_taken r h line)) (line_taken r h line)) (settled (act_taken r h line)) → MachineStands n (history_after r h line)
+pub after_delivery : (n : Machine) (h : History) (line : Line) (r : Option Answer) → MachineHolds n (delivered (waiting_msis (act_taken r h line)) (line_taken r h line)) (with_all_sent (act_taken r h line)) → MachineStands n (history_after r h line)
 after_delivery n h line None holds =
-    subst (λ p. MachineHolds n (delivered (msis (with_act (act_of line) (acts_of h))) (Accepted line ∷ h)) p) (sym (acts_delivered (msis (with_act (act_of line) (acts_of h))) (Accepted line ∷ h))) holds
+    subst (λ p. MachineHolds n (delivered (waiting_msis (with_act (act_of line) (acts_of h))) (Accepted line ∷ h)) p) (sym (acts_delivered (waiting_msis (with_act (act_of line) (acts_of h))) (Accepted line ∷ h))) holds
 after_delivery n h line (Some word) holds =
     subst (λ p. MachineHolds n h p) (none_sent (acts_of h) (none_between h))
-    (subst (λ ms. MachineHolds n (delivered ms h) (settled (acts_of h))) (no_msis (acts_of h) (none_between h)) holds)
+    (subst (λ ms. MachineHolds n (delivered ms h) (with_all_sent (acts_of h))) (no_msis (acts_of h) (none_between h)) holds)
 
 pub served : (m taken n : Machine) (line : Line) (given : Answer) → MachineTakes m taken line given → Delivers taken n → MachineServes m n line given
 served m taken n line given takes delivers = record {
@@ -60,8 +60,8 @@ pub record Way (now : Machine) (h : History) (past : Past) : Type 0 where
   pub events : History
   pub acts : Past
   pub holds : MachineHolds now events acts
-  pub same : delivered (msis acts) events ≡ delivered (msis past) h
-  pub settles : settled acts ≡ settled past
+  pub same : delivered (waiting_msis acts) events ≡ delivered (waiting_msis past) h
+  pub settles : with_all_sent acts ≡ with_all_sent past
 
 abbrev pub SoFar : Machine → Machine → Type 0
 SoFar old now = (h : History) (past : Past) → MachineHolds old h past → Way now h past
@@ -75,10 +75,10 @@ one_more old m n msi so_far nexts hears = λ h past holds.
     let next = nexts way.acts way.holds.aplic in
     let acts : Past = Sent next.sender ∷ way.acts in
     record {
-      events = msi_taken msi way.events;
+      events = Delivered msi ∷ way.events;
       acts = acts;
       holds = record { core = hears way.events way.holds.core; aplic = next.stands };
-      same = ap (λ (x : Msi). delivered (msis acts) (msi_taken x way.events)) next.msi ∙ sym (ap (λ ms. delivered ms way.events) (msis_next way.acts next.sender next.later next.first)) ∙ way.same;
+      same = ap (λ (x : Msi). delivered (waiting_msis acts) (Delivered x ∷ way.events)) next.msi ∙ sym (ap (λ ms. delivered ms way.events) (msis_next way.acts next.sender next.later next.first)) ∙ way.same;
       settles = sym (settled_next way.acts next.sender next.later next.first) ∙ way.settles;
     }
 
@@ -87,5 +87,5 @@ all_delivered old m n so_far nexts same = λ h past holds.
     let way = so_far h past holds in
     let next = nexts way.acts way.holds.aplic in
     let now : MachineHolds n way.events way.acts = record { core = subst (λ (x : CoreState). CoreStands x way.events) (sym same) way.holds.core; aplic = next.1 } in
-    subst (λ (x : History). MachineHolds n x (settled past)) way.same
-    (subst (λ (p : Past). MachineHolds n (delivered (msis way.acts) way.events) p) way.settles (all_sent n way.events way.acts next.0 now))
+    subst (λ (x : History). MachineHolds n x (with_all_sent past)) way.same
+    (subst (λ (p : Past). MachineHolds n (delivered (waiting_msis way.acts) way.events) p) way.settles (all_sent n way.events way.acts next.0 now))

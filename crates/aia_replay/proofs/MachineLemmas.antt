@@ -23,7 +23,7 @@ use Rattle.aia_model.specs.Sent.{with_act, acts_of}
 use Rattle.aia_model.specs.SourceOf.{harts_in, sources_in, is_source, register_read, is_signalled}
 use Rattle.aia_model.specs.FileOf.{MachineFile, SupervisorFile, page_at, file_of}
 use Rattle.aia_model.specs.Refusal.{refusal}
-use Rattle.aia_model.specs.Answer.{accepted_answer, taken}
+use Rattle.aia_model.specs.Answer.{accepted_answer}
 use Rattle.aia_model.proofs.AnswerLemmas.{answered, refused_by, wire_refusal, pins_refusal, load_refusal, store_refusal}
 use Rattle.aia_regs.specs.declared.access.Csr.{Csr}
 use Rattle.aia_regs.specs.declared.access.Op.{Op}
@@ -68,12 +68,12 @@ core_line m n line given silent takes same = record {
 
 -- a line of the APLIC that is accepted, which is nothing to the core
 aplic_line : (m n : Machine) (line : Line) (given : Answer) → n.core ≡ m.core
-    → ((h : History) → MachineStands m h → (refusal h line ≡ None) × (given ≡ accepted_answer h line) × CoreStands m.core (taken h line) × AplicStands n.aplic (act_taken None h line)) → MachineTakes m n line given
+    → ((h : History) → MachineStands m h → (refusal h line ≡ None) × (given ≡ accepted_answer h line) × CoreStands m.core (Accepted line ∷ h) × AplicStands n.aplic (act_taken None h line)) → MachineTakes m n line given
 aplic_line m n line given same by = by_refusal m n line given (λ h stands. let r = by h stands in (
   None,
   r.0,
   r.1,
-  record { core = subst (λ (x : CoreState). CoreStands x (taken h line)) (sym same) r.2; aplic = r.3 },
+  record { core = subst (λ (x : CoreState). CoreStands x (Accepted line ∷ h)) (sym same) r.2; aplic = r.3 },
 ))
 
 -- the answer to a call of the core, by what it gives

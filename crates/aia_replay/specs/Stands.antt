@@ -7,7 +7,7 @@ use Rattle.aia_model.specs.declared.parsed.Parsed.{Parsed}
 use Rattle.aia_model.specs.declared.parsed.Parsed.TheVariants as parsed
 use Rattle.aia_model.specs.Event.{History}
 use Rattle.aia_model.specs.Act.{Past, act_of}
-use Rattle.aia_model.specs.Sent.{with_act, acts_of, settled, msis}
+use Rattle.aia_model.specs.Sent.{with_act, acts_of, with_all_sent, waiting_msis}
 use Rattle.aia_model.specs.Refusal.{refusal, makes_machine}
 use Rattle.aia_model.specs.Answer.{answer, after, delivered}
 use Rattle.aia_model.specs.Script.{text_answer, after_text}
@@ -43,7 +43,7 @@ pub record MachineTakes (old new : Machine) (line : Line) (given : Answer) : Typ
 abbrev pub Delivers : Machine → Machine → Type 0
 Delivers old new =
     (h : History) (past : Past) → MachineHolds old h past
-    → MachineHolds new (delivered (msis past) h) (settled past)
+    → MachineHolds new (delivered (waiting_msis past) h) (with_all_sent past)
 
 -- A machine answers a line as the model does, and stands for the history after it.
 pub record MachineServes (old new : Machine) (line : Line) (given : Answer) : Type 0 where

@@ -11,7 +11,7 @@ use Rattle.std.specs.List.{AllByRecursion}
 use Rattle.aia_regs.specs.declared.access.Csr.{Csr}
 use Rattle.aia_regs.specs.Operations.{FitsOp}
 use Rattle.aia_model.specs.Grammar.{Field, instruction}
-use Rattle.aia_model.specs.Printing.{field_text, IsInRange}
+use Rattle.aia_model.specs.Printing.{field_text, FitsField}
 use Rattle.aia_script.proofs.NumberLemmas.{two_digits}
 use Rattle.aia_regs.specs.declared.access.Level.{Level}
 use Rattle.aia_model.specs.Grammar.{csr_field}
@@ -55,7 +55,7 @@ digit_low Decimal b n e = rw e (omega arith)
 digit_low Hexadecimal b n e = rw e (omega arith)
 
 -- the fields of a CSR instruction whose operand is in range
-pub access_in_range : (level : Level) (csr : Csr) (op : Op) → FitsOp op → AllByRecursion IsInRange (instruction (csr_field level csr) op)
+pub access_in_range : (level : Level) (csr : Csr) (op : Op) → FitsOp op → AllByRecursion FitsField (instruction (csr_field level csr) op)
 access_in_range level csr ops.Read fits = (tt, (name_in_range level csr, tt))
 access_in_range level csr (ops.Write v) fits = (tt, (name_in_range level csr, (fits, tt)))
 access_in_range level csr (ops.Set v) fits = (tt, (name_in_range level csr, (fits, tt)))

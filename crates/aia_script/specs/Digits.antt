@@ -4,6 +4,7 @@ use Rattle.aia_model.specs.Text.{decimal_digit, hex_digit, value_after, below, �
 use Rattle.aia_script.specs.declared.number.Radix.{Radix}
 use Rattle.aia_script.specs.declared.number.Radix.TheVariants.{Decimal, Hexadecimal}
 
+-- How many digits there are.
 abbrev pub base : Radix → ℕ
 base Decimal = 10
 base Hexadecimal = 16

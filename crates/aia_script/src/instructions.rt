@@ -11,7 +11,7 @@ use crate::number::number_at;
 use crate::words::{Words, at_end, word_at};
 use aia_regs::{Csr, Level, Op};
 
-/// The names of a level's CSRs, each with the CSR that it names.
+/// Gives the names of a level's CSRs, each with the CSR that it names.
 fn csr_names(level: Level) -> &'static [(&'static [u8], Csr)]
     ensures { map (λ row. (row.0.now, row.1)) result.now ≡ csr_names level }
 {
@@ -37,7 +37,7 @@ fn csr_names(level: Level) -> &'static [(&'static [u8], Csr)]
     }
 }
 
-/// The CSR that a word names at a level.
+/// Gives the CSR that a word names at a level; `None` where it names none.
 fn named(level: Level, word: &[u8]) -> Option<Csr>
     ensures { result ≡ named level word.now }
 {
@@ -49,7 +49,7 @@ fn named(level: Level, word: &[u8]) -> Option<Csr>
     None
 }
 
-/// The name of a CSR at a level; empty where the level names it not.
+/// Gives the name of a CSR at a level; empty where the level names it not.
 pub fn csr_name(level: Level, csr: Csr) -> &'static [u8]
     ensures { result.now ≡ field_text (csr_field level csr) }
 {
@@ -61,7 +61,8 @@ pub fn csr_name(level: Level, csr: Csr) -> &'static [u8]
     b""
 }
 
-/// The CSR that the next word names, and the words after it.
+/// Reads the CSR that the next word names, and gives the words after it; `None` where it names
+/// none.
 #[tactic(auto, unfolding(aia_model::specs::Reading::csr_at))]
 fn csr_at(level: Level, words: Words<'_>) -> Option<(Csr, Words<'_>)>
     ensures { option_map (λ p. (p.0, left p.1)) result ≡ csr_at (named level) (left words.entry) }
@@ -70,7 +71,7 @@ fn csr_at(level: Level, words: Words<'_>) -> Option<(Csr, Words<'_>)>
     Some((named(level, word)?, words))
 }
 
-/// The CSR that the words after `csrr` spell.
+/// Reads the CSR that the words after `csrr` spell; `None` where they spell none.
 #[tactic(auto, unfolding(aia_model::specs::Reading::read_at))]
 fn read_at(level: Level, words: Words<'_>) -> Option<(Csr, Op)>
     ensures { result ≡ read_at (named level) (left words.entry) }
@@ -79,17 +80,20 @@ fn read_at(level: Level, words: Words<'_>) -> Option<(Csr, Op)>
     at_end(words, (csr, Op::Read))
 }
 
-/// The CSR and the operand that the words after `csrrw`, `csrrs` or `csrrc` spell.
+/// Reads the CSR and the operand that the words after `csrrw`, `csrrs` or `csrrc` spell; `None`
+/// where they spell none.
 #[tactic(auto, unfolding(aia_model::specs::Reading::write_at))]
 fn operand_at(level: Level, words: Words<'_>) -> Option<(Csr, u64)>
-    ensures { (op : ℕ → Op) → option_map (λ p. (p.0, op p.1)) result ≡ write_at (named level) op (left words.entry) }
+    ensures { (op : ℕ → Op) → option_map (λ p. (p.0, op p.1)) result
+        ≡ write_at (named level) op (left words.entry) }
 {
     let (csr, words) = csr_at(level, words)?;
     let (value, words) = number_at(words)?;
     at_end(words, (csr, value))
 }
 
-/// The CSR and the operation that a mnemonic and the words after it spell.
+/// Reads the CSR and the operation that a mnemonic and the words after it spell; `None` where they
+/// spell none.
 fn instruction_after(level: Level, mnemonic: &[u8], words: Words<'_>) -> Option<(Csr, Op)>
     ensures { result ≡ instruction_after (named level) mnemonic.now (left words.entry) }
 {
@@ -108,7 +112,8 @@ fn instruction_after(level: Level, mnemonic: &[u8], words: Words<'_>) -> Option<
     }
 }
 
-/// The CSR and the operation that the words after `m H` or `h H` spell, by the level's names.
+/// Reads the CSR and the operation that the words after `m H` or `h H` spell, by the level's names;
+/// `None` where they spell none.
 #[tactic(auto, unfolding(aia_model::specs::Reading::instruction_at))]
 pub fn instruction_at(level: Level, words: Words<'_>) -> Option<(Csr, Op)>
     ensures { result ≡ instruction_at (named level) (left words.entry) }

@@ -1,6 +1,6 @@
 //! A script's text: what line a text spells, and how an answer is printed.
 //!
-//! The grammar is our profile's choice; `aia_model` states it as a table of fields.
+//! `aia_model` states the grammar as a table of fields.
 #![tactic(auto)]
 
 mod instructions;

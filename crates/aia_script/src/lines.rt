@@ -10,7 +10,7 @@ use crate::words::{Words, at_end, word_at};
 use aia_model::Line;
 use aia_regs::Level;
 
-/// The line that the words after `machine` spell.
+/// Reads the line that the words after `machine` spell; `None` where they spell none.
 #[tactic(auto, unfolding(aia_model::specs::Reading::machine_at))]
 fn machine_at(words: Words<'_>) -> Option<Line>
     ensures { result ≡ machine_at (left words.entry) }
@@ -30,7 +30,7 @@ fn machine_at(words: Words<'_>) -> Option<Line>
     )
 }
 
-/// The line that the words after `wire` spell.
+/// Reads the line that the words after `wire` spell; `None` where they spell none.
 #[tactic(auto, unfolding(aia_model::specs::Reading::wire_at))]
 fn wire_at(words: Words<'_>) -> Option<Line>
     ensures { result ≡ wire_at (left words.entry) }
@@ -40,7 +40,7 @@ fn wire_at(words: Words<'_>) -> Option<Line>
     at_end(words, Line::Wire { source, level })
 }
 
-/// The line that the words after `st` spell.
+/// Reads the line that the words after `st` spell; `None` where they spell none.
 #[tactic(auto, unfolding(aia_model::specs::Reading::store_at))]
 fn store_at(words: Words<'_>) -> Option<Line>
     ensures { result ≡ store_at (left words.entry) }
@@ -50,7 +50,7 @@ fn store_at(words: Words<'_>) -> Option<Line>
     at_end(words, Line::Store { addr, value })
 }
 
-/// The line that the words after `ld` spell.
+/// Reads the line that the words after `ld` spell; `None` where they spell none.
 #[tactic(auto, unfolding(aia_model::specs::Reading::load_at))]
 fn load_at(words: Words<'_>) -> Option<Line>
     ensures { result ≡ load_at (left words.entry) }
@@ -59,7 +59,7 @@ fn load_at(words: Words<'_>) -> Option<Line>
     at_end(words, Line::Load { addr })
 }
 
-/// The line that the words after `m` spell.
+/// Reads the line that the words after `m` spell; `None` where they spell none.
 #[tactic(auto, unfolding(aia_model::specs::Reading::machine_csr_at))]
 fn machine_csr_at(words: Words<'_>) -> Option<Line>
     ensures { result ≡ machine_csr_at (left words.entry) }
@@ -69,7 +69,7 @@ fn machine_csr_at(words: Words<'_>) -> Option<Line>
     Some(Line::MachineCsr { hart, csr, op })
 }
 
-/// The line that the words after `h` spell.
+/// Reads the line that the words after `h` spell; `None` where they spell none.
 #[tactic(auto, unfolding(aia_model::specs::Reading::host_csr_at))]
 fn host_csr_at(words: Words<'_>) -> Option<Line>
     ensures { result ≡ host_csr_at (left words.entry) }
@@ -79,7 +79,7 @@ fn host_csr_at(words: Words<'_>) -> Option<Line>
     Some(Line::HostCsr { hart, csr, op })
 }
 
-/// The line that the words after `pins` spell.
+/// Reads the line that the words after `pins` spell; `None` where they spell none.
 #[tactic(auto, unfolding(aia_model::specs::Reading::pins_at))]
 fn pins_at(words: Words<'_>) -> Option<Line>
     ensures { result ≡ pins_at (left words.entry) }
@@ -88,7 +88,7 @@ fn pins_at(words: Words<'_>) -> Option<Line>
     at_end(words, Line::Pins { hart })
 }
 
-/// The line that the words after a keyword spell.
+/// Reads the line that the words after a keyword spell; `None` where they spell none.
 fn line_after(keyword: &[u8], words: Words<'_>) -> Option<Line>
     ensures { result ≡ line_after keyword.now (left words.entry) }
 {
@@ -111,7 +111,7 @@ fn line_after(keyword: &[u8], words: Words<'_>) -> Option<Line>
     }
 }
 
-/// The line that words spell; `None` where they spell none.
+/// Reads the line that words spell; `None` where they spell none.
 #[tactic(auto, unfolding(aia_model::specs::Reading::line_at))]
 pub fn line_at(words: Words<'_>) -> Option<Line>
     ensures { result ≡ line_at (left words.entry) }

@@ -19,7 +19,7 @@ pub enum Radix {
 }
 
 impl Radix {
-    /// How many digits there are.
+    /// Gives the number of digits, 10 or 16.
     pub fn base(self) -> u64
         ensures { result ≡ base self }
     {
@@ -29,7 +29,7 @@ impl Radix {
         }
     }
 
-    /// The digit that a character stands for; `None` where it is none.
+    /// Gives the digit that a character stands for, below the base; `None` where it is none.
     fn digit(self, character: u8) -> Option<u64>
         ensures { result ≡ digit_in self character }
     {
@@ -41,15 +41,15 @@ impl Radix {
     }
 }
 
-/// The number that one more digit makes of `number`; `None` where it is 2^64 or above.
+/// Gives the number that one more digit makes of `number`; `None` where it is 2^64 or above.
 fn with_digit(number: u64, base: u64, digit: u64) -> Option<u64>
     ensures { result ≡ below (2 ^ 64) (number * base + digit) }
 {
     number.checked_mul(base)?.checked_add(digit)
 }
 
-/// The number that digits spell; `None` where a character is no digit, or the number is 2^64 or
-/// above.
+/// Gives the number that digits spell; `None` where a character is no digit, or the number is 2^64
+/// or above.
 fn value(radix: Radix, digits: &[u8]) -> Option<u64>
     ensures { result ≡ value_in radix digits.now }
 {
@@ -61,8 +61,9 @@ fn value(radix: Radix, digits: &[u8]) -> Option<u64>
     Some(number)
 }
 
-/// The number that a word spells: `0`, decimal digits that begin with another digit, or `0x` and 1
-/// to 16 hexadecimal digits. `None` for every other word, and where the number is 2^64 or above.
+/// Gives the number that a word spells: `0`, decimal digits that begin with another digit, or `0x`
+/// and 1 to 16 hexadecimal digits. `None` for every other word, and where the number is 2^64 or
+/// above.
 fn number(word: &[u8]) -> Option<u64>
     ensures { result ≡ number_of word.now }
 {
@@ -77,7 +78,8 @@ fn number(word: &[u8]) -> Option<u64>
     }
 }
 
-/// The number that the next word spells, and the words after it.
+/// Reads the number that the next word spells, and gives the words after it; `None` where it spells
+/// none below 2^64.
 #[tactic(auto, unfolding(aia_model::specs::Reading::number_at))]
 pub fn number_at(words: Words<'_>) -> Option<(u64, Words<'_>)>
     ensures { option_map (λ p. (p.0, left p.1)) result ≡ number_at (left words.entry) }
@@ -86,7 +88,8 @@ pub fn number_at(words: Words<'_>) -> Option<(u64, Words<'_>)>
     Some((number(word)?, words))
 }
 
-/// The number below 2^32 that the next word spells, and the words after it.
+/// Reads the number below 2^32 that the next word spells, and gives the words after it; `None`
+/// where it spells none.
 #[tactic(auto, unfolding(aia_model::specs::Reading::n32_at))]
 pub fn n32_at(words: Words<'_>) -> Option<(u32, Words<'_>)>
     ensures { option_map (λ p. (p.0, left p.1)) result ≡ n32_at (left words.entry) }
@@ -95,7 +98,7 @@ pub fn n32_at(words: Words<'_>) -> Option<(u32, Words<'_>)>
     Some((u32::try_from(number).ok()?, words))
 }
 
-/// The level that a number tells; `None` where it is neither 0 nor 1.
+/// Gives the level that a number tells; `None` where it is neither 0 nor 1.
 fn bit(number: u64) -> Option<bool>
     ensures { result ≡ bit_of number }
 {
@@ -106,7 +109,8 @@ fn bit(number: u64) -> Option<bool>
     }
 }
 
-/// The level that the next word tells, and the words after it.
+/// Reads the level that the next word tells, and gives the words after it; `None` where it spells
+/// neither 0 nor 1.
 #[tactic(auto, unfolding(aia_model::specs::Reading::bit_at))]
 pub fn bit_at(words: Words<'_>) -> Option<(bool, Words<'_>)>
     ensures { option_map (λ p. (p.0, left p.1)) result ≡ bit_at (left words.entry) }

@@ -10,7 +10,7 @@ use crate::words::all_words;
 use aia_model::limits::LINE_BYTES;
 use aia_model::{Line, Parsed};
 
-/// Whether a text prints nothing: it is empty, or a comment.
+/// Tells whether a text prints nothing: it is empty, or a comment.
 fn is_skipped(text: &[u8]) -> bool
     ensures { result ≡ is_skipped text.now }
 {
@@ -20,7 +20,7 @@ fn is_skipped(text: &[u8]) -> bool
     }
 }
 
-/// What a text of a script is, by our profile's grammar; a script is cut into texts at LF.
+/// Reads a text of a script, which is cut into texts at LF.
 ///
 /// `Line(line)` says that the text spells `line`, and no other line. `Skip` says that it is empty,
 /// or a comment: it begins with `#` and has at most 128 bytes. `Bad` says that it is neither: it
@@ -28,14 +28,15 @@ fn is_skipped(text: &[u8]) -> bool
 pub fn parse_line(text: &[u8]) -> Parsed
     ensures line { (line : Line) → (result ≡ Parsed.Line line) ↔ Spells text.now line }
     ensures skip { (result ≡ Parsed.Skip) ↔ IsTrue (is_skipped text.now) }
-    ensures bad { (result ≡ Parsed.Bad) ↔ ((¬ IsTrue (is_skipped text.now)) × ((line : Line) → ¬ Spells text.now line)) }
+    ensures bad { (result ≡ Parsed.Bad)
+        ↔ ((¬ IsTrue (is_skipped text.now)) × ((line : Line) → ¬ Spells text.now line)) }
     ensures listed { (line : Line) → result ≡ Parsed.Line line → IsListed line }
     ensures reading { result ≡ reading text.now }
 {
     read(text)
 }
 
-/// What a text is, word by word.
+/// Reads a text, word by word.
 #[tactic(auto, unfolding(aia_model::specs::Reading::reading))]
 fn read(text: &[u8]) -> Parsed
     ensures { result ≡ reading text.now }

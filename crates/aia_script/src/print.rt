@@ -17,7 +17,7 @@ pub fn push_text<const N: usize>(out: &mut ArrayVec<u8, N>, text: &[u8])
     let _ = out.try_extend_from_slice(text);
 }
 
-/// The character of a digit.
+/// Gives the character of a digit, 0 to 15, a lower-case letter from 10 on.
 pub fn digit_character(digit: u64) -> u8
     requires { digit < 16 }
     ensures { result ≡ digit_character digit }
@@ -54,7 +54,8 @@ fn push_level(out: &mut ArrayVec<u8, 64>, level: bool)
 /// Appends the word of an answer to `pins`.
 fn push_pins(out: &mut ArrayVec<u8, 64>, root: bool, child: bool, machine: bool, supervisor: bool)
     requires { array_vec_len out.old + 12 ≤ 64 }
-    ensures text { out.new.items ≡ out.old.items ++ answer_word (Answer.Pins root child machine supervisor) }
+    ensures text { out.new.items
+        ≡ out.old.items ++ answer_word (Answer.Pins root child machine supervisor) }
     ensures length { array_vec_len out.new ≡ array_vec_len out.old + 12 }
 {
     push_text(out, b"pins");
@@ -79,8 +80,6 @@ fn push_refusal(out: &mut ArrayVec<u8, 64>, word: Refusal)
 }
 
 /// Prints an answer into `out`, which is empty: its word and an LF, at most 64 bytes in all.
-///
-/// The words are our profile's choice.
 #[tactic(auto, unfolding(aia_model::specs::AnswerText::answer_text))]
 pub fn print_answer(answer: &Answer, out: &mut ArrayVec<u8, 64>)
     requires { out.old.items ≡ [] }

@@ -24,8 +24,10 @@ use arrayvec::ArrayVec;
 /// Appends the digits of a value, the highest first, and none for 0.
 fn push_all_digits(out: &mut ArrayVec<u8, LINE_BYTES>, radix: Radix, value: u64)
     requires { array_vec_len out.old + length (digits_of (base radix) value) ≤ LINE_BYTES }
-    ensures text { out.new.items ≡ out.old.items ++ map digit_character (digits_of (base radix) value) }
-    ensures length { array_vec_len out.new ≡ array_vec_len out.old + length (digits_of (base radix) value) }
+    ensures text { out.new.items
+        ≡ out.old.items ++ map digit_character (digits_of (base radix) value) }
+    ensures length { array_vec_len out.new
+        ≡ array_vec_len out.old + length (digits_of (base radix) value) }
 {
     if value > 0 {
         let base = radix.base();
@@ -70,7 +72,8 @@ fn push_hex(out: &mut ArrayVec<u8, LINE_BYTES>, value: u64)
 /// Appends a mnemonic, a CSR's name and an operand.
 fn push_operand(out: &mut ArrayVec<u8, LINE_BYTES>, mnemonic: &[u8], name: &[u8], operand: u64)
     requires { array_vec_len out.old + length mnemonic.now + length name.now + 23 ≤ LINE_BYTES }
-    ensures text { out.new.items ≡ out.old.items ++ mnemonic.now ++ name.now ++ 32 ∷ hex_text operand }
+    ensures text { out.new.items
+        ≡ out.old.items ++ mnemonic.now ++ name.now ++ 32 ∷ hex_text operand }
 {
     push_text(out, mnemonic);
     push_text(out, name);
@@ -82,7 +85,8 @@ fn push_operand(out: &mut ArrayVec<u8, LINE_BYTES>, mnemonic: &[u8], name: &[u8]
 #[tactic(auto, using(aia_model::proofs::Printed::name_length))]
 fn push_instruction(out: &mut ArrayVec<u8, LINE_BYTES>, level: Level, csr: Csr, op: Op)
     requires { array_vec_len out.old + 38 ≤ LINE_BYTES }
-    ensures text { out.new.items ≡ out.old.items ++ 32 ∷ join_with_byte 32 (map field_text (instruction (csr_field level csr) op)) }
+    ensures text { out.new.items ≡ out.old.items
+        ++ 32 ∷ join_with_byte 32 (map field_text (instruction (csr_field level csr) op)) }
     ensures range { FitsOp op }
 {
     let name = csr_name(level, csr);

@@ -14,21 +14,21 @@ pub struct Words<'a> {
     rest: Option<&'a [u8]>,
 }
 
-/// All words of a text.
+/// Gives all words of a text.
 pub fn all_words(text: &[u8]) -> Words<'_>
     ensures { left result ≡ words_of text.now }
 {
     Words { rest: Some(text) }
 }
 
-/// Where the first space of a text stands; `None` where it has none.
+/// Finds the place of the first space of a text; `None` where it has none.
 fn first_space(text: &[u8]) -> Option<usize>
     ensures { result ≡ position (λ byte. nat_eq byte 32) text.now }
 {
     text.iter().position(|byte| *byte == b' ')
 }
 
-/// The next word, and the words after it; `None` where no word is left.
+/// Gives the next word, and the words after it; `None` where no word is left.
 pub fn word_at(words: Words<'_>) -> Option<(&[u8], Words<'_>)>
     ensures { option_map (λ p. (p.0.now, left p.1)) result ≡ word_at (left words.entry) }
 {
@@ -44,7 +44,7 @@ pub fn word_at(words: Words<'_>) -> Option<(&[u8], Words<'_>)>
     }
 }
 
-/// `found`, where no word is left.
+/// Gives `found` where no word is left; `None` where one is.
 #[tactic(auto, using(crate::proofs::WordLemmas::words_left))]
 pub fn at_end<T: Copy>(words: Words<'_>, found: T) -> Option<T>
     ensures { result ≡ whole (left words.entry) found }

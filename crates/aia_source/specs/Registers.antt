@@ -9,7 +9,7 @@ use Rattle.aia_regs.specs.Fields.{field, with_field}
 use Rattle.aia_regs.specs.Operations.{is_one}
 use Rattle.aia_regs.specs.Word.{Word}
 use Rattle.aia_regs.specs.Word.Word.{Ask, Clear, Nothing}
-use Rattle.aia_source.specs.declared.kept.TheConstants.{IE, DM, D, DELEGATED, DOMAINCFG_TOP}
+use Rattle.aia_source.specs.declared.kept.TheConstants.{IE, DM, D, DELEGATED, DOMAINCFG_ONES}
 use Rattle.aia_source.specs.declared.mode.Mode.{Mode}
 use Rattle.aia_source.specs.declared.mode.Mode.TheVariants.{Inactive, Detached, RisingEdge, FallingEdge, LevelHigh, LevelLow}
 use Rattle.aia_source.specs.declared.touch.Touch.{Touch}
@@ -30,22 +30,22 @@ abbrev pub one_at : Bool → ℕ → ℕ
 one_at is b = if is then 2 ^ b else 0
 
 -- Whether a register's index is a source's number: they are numbered from 1, and 0 is none's.
-abbrev pub is_named : ℕ → ℕ → Bool
-is_named i s = nat_eq i s && nat_lt 0 s
+abbrev pub is_number_of : ℕ → ℕ → Bool
+is_number_of i s = nat_eq i s && nat_lt 0 s
 
 -- ---- domaincfg
 
--- A domaincfg of IE and DM. What a write keeps: both, of the value.
--- Profile: BE is read-only zero.
+-- The domaincfg that has IE and DM in their places.
 abbrev pub domaincfg_with : Bool → Bool → ℕ
 domaincfg_with ie dm = one_at ie IE + one_at dm DM
 
+-- What a write keeps: IE and DM of the value. Profile: BE is read-only zero.
 abbrev pub domaincfg_kept : ℕ → ℕ
 domaincfg_kept v = domaincfg_with (is_one v IE) (is_one v DM)
 
 -- What domaincfg reads: 0x80 in bits 31:24, IE and DM.
 abbrev pub domaincfg_read : Bool → Bool → ℕ
-domaincfg_read ie dm = DOMAINCFG_TOP + domaincfg_with ie dm
+domaincfg_read ie dm = DOMAINCFG_ONES + domaincfg_with ie dm
 
 -- Whether a domaincfg enables the domain's interrupts (IE), and whether it delivers them by MSIs
 -- (DM).

@@ -37,9 +37,9 @@ rectified FallingEdge wire = not wire
 rectified LevelHigh wire = wire
 rectified LevelLow wire = not wire
 
--- ---- the table of pending bits: what a deed says of it, by the mode that the source has then
--- "Precise effects on interrupt-pending bits". Profile: what a write of sourcecfg
--- and a change of the delivery mode say.
+-- ---- the table of pending bits: what a deed says of it, by the mode that the source has after it
+-- "Precise effects on interrupt-pending bits". Profile: what a write of sourcecfg and a change of
+-- the delivery mode say.
 
 -- Detached: registers ask, and registers, a claim and an MSI clear.
 abbrev pub detached_says : SourceDeed → Word
@@ -62,12 +62,13 @@ level_says msi before after LevelGiven =
     if before then (if after then Nothing else Clear) else (if after then Ask else Nothing)
 level_says msi before after Set = if msi && after then Ask else Nothing
 level_says msi before after Cleared = if msi then Clear else Nothing
-level_says msi before after Claimed = Nothing
 level_says msi before after Forwarded = Clear
-level_says msi before after Untouched = Nothing
-level_says msi before after deed = if after then Ask else Clear
+level_says msi before after Configured = if after then Ask else Clear
+level_says msi before after Switched = if after then Ask else Clear
+level_says msi before after deed = Nothing
 
--- By mode, whether the domain delivers by MSIs, and the rectified input before and after.
+-- By mode, whether the domain delivers by MSIs, and the rectified input before and after: an
+-- inactive source is never pending, whatever is done.
 abbrev pub says : Mode → Bool → Bool → Bool → SourceDeed → Word
 says Inactive msi before after deed = Clear
 says Detached msi before after deed = detached_says deed

@@ -21,7 +21,7 @@ pub const D: u32 = 10;
 pub const DELEGATED: u32 = 0x400;
 
 /// What `domaincfg` reads in bits 31:24, in their place.
-pub const DOMAINCFG_TOP: u32 = 0x8000_0000;
+pub const DOMAINCFG_ONES: u32 = 0x8000_0000;
 
 /// Gives what a write of `domaincfg` keeps.
 pub fn domaincfg_kept(value: u32) -> u32
@@ -34,7 +34,7 @@ pub fn domaincfg_kept(value: u32) -> u32
 pub fn domaincfg_read(ie: bool, dm: bool) -> u32
     ensures { result ≡ domaincfg_read ie dm }
 {
-    DOMAINCFG_TOP + domaincfg_with(ie, dm)
+    DOMAINCFG_ONES + domaincfg_with(ie, dm)
 }
 
 fn domaincfg_with(ie: bool, dm: bool) -> u32

@@ -15,9 +15,9 @@ pub enum Mode {
     RisingEdge,
     /// A fall of the wire makes it pending.
     FallingEdge,
-    /// A high wire makes it pending.
+    /// Its input is high while the wire is high.
     LevelHigh,
-    /// A low wire makes it pending.
+    /// Its input is high while the wire is low.
     LevelLow,
 }
 

@@ -1,8 +1,8 @@
-//! Sets of interrupt identities kept as words of 64 bits: identity `i` is bit `i % 64` of word `i /
-//! 64`.
+//! Sets of interrupt identities kept as words of 64 bits: identity `i` is bit `i % 64` of word
+//! `i / 64`.
 //!
-//! The words are the registers `eip` and `eie` of an interrupt file (AIA 1.0, Incoming MSI
-//! Controller).
+//! The words are the registers `eip` and `eie` of an interrupt file. AIA 1.0, IMSIC, "Indirectly
+//! accessed interrupt-file registers".
 #![tactic(auto)]
 
 mod bits;
