@@ -14,7 +14,8 @@ use Rattle.aia_csr.specs.declared.access.Access.TheVariants as reaches
 
 -- What an access to mireg or sireg reaches, by the register that the select number names. One that
 -- doesn't exist is illegal, but at a guest it raises a virtual-instruction fault.
--- AIA 1.0, IMSIC, "Indirectly accessed interrupt-file registers". Profile: also where nothing is.
+-- AIA 1.0, IMSIC, "Indirectly accessed interrupt-file registers". Profile: a number outside 0x70 to
+-- 0xff is refused in the same way.
 abbrev pub register_access : Level → FileReg → Access
 register_access levels.Guest Odd = reaches.Virtual
 register_access levels.Guest Outside = reaches.Virtual

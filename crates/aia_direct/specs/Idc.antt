@@ -49,7 +49,7 @@ abbrev pub candidate_at : List EntryState → ℕ → ℕ → ℕ → Option Pai
 candidate_at sources hart threshold s = candidate hart threshold s (entry_at sources s)
 
 -- The least pair of the domain's sources; none where the domain delivers by MSIs.
--- Profile: the last.
+-- Profile: none by MSIs.
 abbrev pub top_shown : IdcState → DomainState → ℕ → Option Pair
 top_shown c d hart =
     if d.msi then None

@@ -4,7 +4,7 @@ ghost use Rattle.aia_word.specs.Top.{top_value, lets_through};
 ghost use Rattle.aia_regs.specs.declared.limits.TheConstants.{IDENTITIES};
 ghost use Rattle.aia_regs.specs.Word.{settle};
 ghost use Rattle.aia_regs.specs.FileRegisters.{IsUsable, set_said, number_after};
-ghost use Rattle.aia_file.specs.InterruptFile.{is_width, SameFile, empty_file, register_value, top_of, signals, accessed, landed, claimed};
+ghost use Rattle.aia_file.specs.InterruptFile.{is_greatest_identity, SameFile, empty_file, register_value, top_of, signals, accessed, landed, claimed};
 ghost use Rattle.aia_file.specs.FileState.{shown};
 
 use aia_regs::{FileReg, Op, requested};
@@ -41,7 +41,7 @@ impl File {
     /// Makes an empty file with the identities 1 to `n`, which is 63, 127, 255, 511, 1023 or 2047.
     /// `Err`: there is no memory for it.
     pub fn new(alloc: Global, n: u32) -> Result<File, AllocError>
-        requires { IsTrue (is_width n) }
+        requires { IsTrue (is_greatest_identity n) }
         ensures { IfOk result (λ f. SameFile (shown f) (empty_file n)) }
     {
         let words = (n as usize + 1) / 64;

@@ -3,7 +3,7 @@ ghost use Rattle.std.specs.Result.{result_err};
 ghost use Rattle.aia_regs.specs.FileRegisters.{register_of, IsUsable};
 ghost use Rattle.aia_regs.specs.AddressMap.{is_in_memory};
 ghost use Rattle.aia_csr.specs.Access.{IsInTable, ReachesUsable, access_of};
-ghost use Rattle.aia_file.specs.InterruptFile.{SameFile, is_width, register_value, top_of};
+ghost use Rattle.aia_file.specs.InterruptFile.{SameFile, is_greatest_identity, register_value, top_of};
 ghost use Rattle.aia_file.specs.FileState.{shown};
 ghost use Rattle.aia_imsic.specs.Imsic.{IsThere};
 ghost use Rattle.aia_imsic.specs.Map.{spot_at};
@@ -56,7 +56,7 @@ impl Hyp {
         requires some { 1 ≤ harts }
         requires few { harts ≤ HARTS }
         requires guests { guests ≤ GUEST_FILES }
-        requires width { IsTrue (is_width n) }
+        requires width { IsTrue (is_greatest_identity n) }
         ensures { IfOk result (λ hyp. CoreBegins hyp harts guests n) }
     {
         let imsic = Imsic::new(alloc, harts, guests, n)?;
@@ -70,7 +70,7 @@ impl Hyp {
     /// answers what the CSR read before it. `Err` is `Range` where the hart isn't there, and
     /// `Illegal` where the access raises an illegal-instruction fault; nothing is changed then.
     ///
-    /// AIA 1.0, Incoming MSI Controller, "Indirectly accessed interrupt-file registers".
+    /// AIA 1.0, IMSIC, "Indirectly accessed interrupt-file registers".
     pub fn host(&mut self, level: Level, hart: u64, csr: Csr, op: Op) -> Result<u64, Refusal>
         requires listed { IsInTable level csr }
         requires host { IsHost level }
@@ -155,7 +155,7 @@ impl Hyp {
     /// address is no multiple of 4 or in no place of the core's, an address of the APLIC among
     /// them, and `Guarded` in a guest's page or in memory; nothing is changed then.
     ///
-    /// AIA 1.0, Incoming MSI Controller, "Memory region for an interrupt file".
+    /// AIA 1.0, IMSIC, "Memory region for an interrupt file".
     pub fn store(&mut self, addr: u64, value: u32) -> Result<(), Refusal>
         ensures takes { domain_at addr ≡ None → CoreTakes self.old self.new (Store addr value)
             (answer_by (λ _. Okay) result) }
@@ -169,7 +169,7 @@ impl Hyp {
 
     /// Loads 32 bits from an address: a file's page reads 0. `Err` as of [`Hyp::store`].
     ///
-    /// AIA 1.0, Incoming MSI Controller, "Memory region for an interrupt file".
+    /// AIA 1.0, IMSIC, "Memory region for an interrupt file".
     pub fn load(&self, addr: u64) -> Result<u32, Refusal>
         ensures takes { domain_at addr ≡ None → CoreTakes self.now self.now (Load addr)
             (answer_by Narrow result) }
@@ -220,7 +220,7 @@ impl Hyp {
     /// Tells the signals of a hart's machine-level file and of its supervisor file. `Err` is
     /// `Range` exactly where the hart isn't there.
     ///
-    /// AIA 1.0, Incoming MSI Controller, "Interrupt files and interrupt identities".
+    /// AIA 1.0, IMSIC, "Interrupt files and interrupt identities".
     pub fn signals(&self, hart: u64) -> Result<(bool, bool), Refusal>
         ensures value { (h : History) → CoreStands self.now h → result ≡ signals_of h hart }
         ensures few { OnOk result (hart < HARTS) }

@@ -7,7 +7,7 @@ use Rattle.aia_word.proofs.LeastLemmas.{least_of-found, least_of-none, least_of_
 use Rattle.aia_regs.specs.AddressMap.{machine_page, supervisor_page, guest_page, is_in_page}
 use Rattle.aia_imsic.specs.declared.spot.Spot.{Spot}
 use Rattle.aia_imsic.specs.declared.spot.Spot.TheVariants.{MachineFile, HostFile, GuestFile, Nowhere}
-use Rattle.aia_imsic.specs.Map.{machine_file_at, supervisor_file_at, guest_file_at, guest_hart_at, spot_at}
+use Rattle.aia_imsic.specs.Map.{machine_file_at, supervisor_file_at, guest_file_at, guest_hart_at, guest_spot_of, spot_at}
 
 -- ---- pages
 
@@ -76,12 +76,9 @@ guest_is_not_host hart file x addr some few here =
     ]
 
 -- where an address lies, by what was found of each kind
-abbrev guest_of : ℕ → ℕ → ℕ → Spot
-guest_of guests addr hart = option_map_or (GuestFile hart) (guest_file_at guests hart addr) Nowhere
-
 abbrev chosen : ℕ → ℕ → Option ℕ → Option ℕ → Option ℕ → Spot
 chosen guests addr machine host guest_hart =
-    option_map_or MachineFile machine (option_map_or HostFile host (option_map_or (guest_of guests addr) guest_hart Nowhere))
+    option_map_or MachineFile machine (option_map_or HostFile host (option_map_or (guest_spot_of guests addr) guest_hart Nowhere))
 
 by_parts : (harts guests addr : ℕ) (machine host guest_hart : Option ℕ) → machine_file_at harts addr ≡ machine → supervisor_file_at harts addr ≡ host → guest_hart_at harts guests addr ≡ guest_hart
     → spot_at harts guests addr ≡ chosen guests addr machine host guest_hart

@@ -18,18 +18,22 @@ supervisor_file_at harts addr = least_of (λ hart. is_in_page (supervisor_page h
 abbrev pub guest_file_at : ℕ → ℕ → ℕ → Option ℕ
 guest_file_at guests hart addr = least_of (λ file. is_in_page (guest_page hart file) addr) 1 guests
 
--- The hart that has such a guest file.
+-- The hart in the page of one of whose guest files it lies.
 abbrev pub guest_hart_at : ℕ → ℕ → ℕ → Option ℕ
 guest_hart_at harts guests addr =
     least_of (λ hart. is_some (guest_file_at guests hart addr)) 0 harts
 
 -- ---- the map: pages of machine-level, supervisor and guest files, which are all apart
 
--- The guest file in whose page an address lies, of any hart; Nowhere where it lies in none.
+-- The guest file of a hart in whose page an address lies; Nowhere where it lies in none.
+abbrev pub guest_spot_of : ℕ → ℕ → ℕ → Spot
+guest_spot_of guests addr hart =
+    option_map_or (GuestFile hart) (guest_file_at guests hart addr) Nowhere
+
+-- The same of any hart.
 abbrev pub guest_spot_at : ℕ → ℕ → ℕ → Spot
 guest_spot_at harts guests addr =
-    option_map_or (λ hart. option_map_or (GuestFile hart) (guest_file_at guests hart addr) Nowhere)
-    (guest_hart_at harts guests addr) Nowhere
+    option_map_or (guest_spot_of guests addr) (guest_hart_at harts guests addr) Nowhere
 
 -- The file in whose page an address lies, of a machine of so many harts and guest files a hart;
 -- Nowhere where it lies in none.

@@ -2,7 +2,7 @@ ghost use Rattle.std.specs.Prelude.{◌≡◌, ◌≢◌, ℕ, ◌+◌, ◌*◌,
 ghost use Rattle.std.specs.Borrow.{sem};
 ghost use Rattle.std.specs.Int.{is_in_range};
 ghost use Rattle.aia_word.specs.Sets.{has_bit};
-ghost use Rattle.aia_file.specs.InterruptFile.{is_width, SameFile, empty_file, signals, landed};
+ghost use Rattle.aia_file.specs.InterruptFile.{is_greatest_identity, SameFile, empty_file, signals, landed};
 ghost use Rattle.aia_file.specs.FileState.{shown};
 ghost use Rattle.aia_imsic.specs.Map.{spot_at};
 ghost use Rattle.aia_imsic.specs.Imsic.{IsThere, place_of, file_at, with_file, AreEmpty};
@@ -47,7 +47,7 @@ impl Imsic {
         requires some { 1 ≤ harts }
         requires few { harts ≤ HARTS }
         requires guests { guests ≤ GUEST_FILES }
-        requires width { IsTrue (is_width n) }
+        requires width { IsTrue (is_greatest_identity n) }
         ensures size { IfOk result (λ i. (i.harts ≡ harts) × (i.guests ≡ guests)
             × (length i.files ≡ harts * (guests + 2))) }
         ensures empty { IfOk result (λ i. AreEmpty i n) }
@@ -181,7 +181,7 @@ impl Imsic {
 
 /// Makes `count` empty files, each with the identities 1 to `n`.
 fn empty_files(alloc: Global, count: u32, n: u32) -> Result<Vec<File>, AllocError>
-    requires { IsTrue (is_width n) }
+    requires { IsTrue (is_greatest_identity n) }
     ensures length { IfOk result (λ files. length files.items ≡ count) }
     ensures empty { IfOk result (λ files.
         All (λ file. SameFile (shown file) (empty_file n)) files.items) }

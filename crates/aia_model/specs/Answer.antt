@@ -1,4 +1,4 @@
--- What a line answers after a history, and the history after it. Profile, where no chapter is
+-- What a line answers after a history, and the history after it. Vocabulary, where no chapter is
 -- named.
 use Rattle.std.specs.Prelude.{ℕ, List, [], ◌∷◌, Option, Some, None, unwrap_or}
 use Rattle.std.specs.Option.{option_map_or}

@@ -7,7 +7,7 @@ use Rattle.aia_csr.specs.declared.access.Access.TheVariants as accesses
 use Rattle.aia_csr.specs.Access.{access_of}
 use Rattle.aia_regs.specs.declared.limits.TheConstants.{HARTS, GUEST_FILES, SOURCES}
 use Rattle.aia_regs.specs.AddressMap.{is_in_memory}
-use Rattle.aia_file.specs.InterruptFile.{is_width}
+use Rattle.aia_file.specs.InterruptFile.{is_greatest_identity}
 use Rattle.aia_imsic.specs.declared.spot.Spot.{Spot}
 use Rattle.aia_imsic.specs.Map.{is_page, is_guest_page}
 use Rattle.aia_model.specs.declared.line.Line.{Line}
@@ -36,7 +36,7 @@ has_one_already h line = false
 -- identity, the wired sources.
 abbrev pub is_machine_size : ℕ → ℕ → ℕ → ℕ → Bool
 is_machine_size harts guests n sources =
-    is_in_range 1 HARTS harts && is_in_range 0 GUEST_FILES guests && is_width n
+    is_in_range 1 HARTS harts && is_in_range 0 GUEST_FILES guests && is_greatest_identity n
     && is_in_range 1 SOURCES sources
 
 -- `range`: a machine's number is out of its limits, or the named source or hart isn't there.

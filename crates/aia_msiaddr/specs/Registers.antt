@@ -8,7 +8,7 @@ use Rattle.aia_msiaddr.specs.declared.registers.TheConstants.{MMSIADDRCFGH, SMSI
 
 -- What a write of mmsiaddrcfgh keeps: the lock L, HHXS, LHXS, HHXW, LHXW and the high half of the
 -- base page number; of smsiaddrcfgh: LHXS and the high half of the base page number. mmsiaddrcfg
--- and smsiaddrcfg keep all 32 bits. So each field is kept whole.
+-- and smsiaddrcfg keep all 32 bits. Profile: each field is kept whole.
 abbrev pub mmsiaddrcfgh_kept : ℕ → ℕ
 mmsiaddrcfgh_kept v = bit_and v MMSIADDRCFGH
 
@@ -35,8 +35,7 @@ new_addresses = record { mmsiaddrcfg = 0; mmsiaddrcfgh = 0; smsiaddrcfg = 0; sms
 abbrev pub are_locked : AddressRegisters → Bool
 are_locked a = locks a.mmsiaddrcfgh
 
--- A register is written: a write counts, whole, where they are not locked before it, so the one
--- that locks them is the last that does.
+-- A number is put into a register.
 abbrev pub address_put : DomainReg → ℕ → AddressRegisters → AddressRegisters
 address_put MMsiAddrCfg v a = record a { mmsiaddrcfg = v }
 address_put MMsiAddrCfgH v a = record a { mmsiaddrcfgh = mmsiaddrcfgh_kept v }
@@ -44,6 +43,8 @@ address_put SMsiAddrCfg v a = record a { smsiaddrcfg = v }
 address_put SMsiAddrCfgH v a = record a { smsiaddrcfgh = smsiaddrcfgh_kept v }
 address_put reg v a = a
 
+-- A register is written: a write counts where they are not locked before it; so the one that locks
+-- them is the last that does.
 abbrev pub address_written : DomainReg → ℕ → AddressRegisters → AddressRegisters
 address_written reg v a = if are_locked a then a else address_put reg v a
 

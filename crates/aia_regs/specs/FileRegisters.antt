@@ -1,5 +1,6 @@
 -- The registers of an interrupt file, reached by a select number: which there are, and what a write
--- keeps. AIA 1.0, IMSIC, "Indirectly accessed interrupt-file registers".
+-- keeps.
+-- AIA 1.0, IMSIC, "Indirectly accessed interrupt-file registers".
 use Rattle.std.specs.Prelude.{◌≡◌, ℕ, ◌+◌, ◌-◌, ◌*◌, ◌%◌, ◌<◌, Bool, ◌&&◌, nat_eq, if◌then◌else◌}
 use Rattle.std.specs.Int.{is_in_range}
 use Rattle.aia_regs.specs.declared.access.Op.{Op}

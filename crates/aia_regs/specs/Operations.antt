@@ -1,5 +1,5 @@
 -- What a CSR instruction writes, given what the register read before it.
--- RISC-V Unprivileged Architecture, "Zicsr", at XLEN 64.
+-- RISC-V Unprivileged Architecture, Zicsr extension, at XLEN 64.
 use Rattle.std.specs.Prelude.{ℕ, ◌^◌, ◌<◌, Bool, true, false, nat_eq, bit_and, bit_or, if◌then◌else◌}
 use Rattle.std.specs.Int.{bit_at, bit_not, w64}
 use Rattle.aia_regs.specs.declared.access.Op.{Op}
@@ -23,7 +23,8 @@ written (ops.Write v) old = v
 written (ops.Set v) old = bit_or old v
 written (ops.Clear v) old = bit_and old (bit_not w64 v)
 
--- Whether bit b of a number is a one, b counted from 0 at the lowest. Vocabulary.
+-- Whether bit b of a number is a one, b counted from 0 at the lowest: aia_word's has_bit.
+-- Vocabulary.
 abbrev pub is_one : ℕ → ℕ → Bool
 is_one v b = nat_eq (bit_at v b) 1
 

@@ -1,14 +1,14 @@
--- What an event says of an identity. Vocabulary.
+-- What an event says of a bit: of an identity's, or of a source's. Vocabulary.
 use Rattle.std.specs.Prelude.{ℕ, Bool, true, false, nat_eq, Option, Some, None}
 
--- An event asks for an identity's bit, clears it, or says nothing of it.
+-- An event asks for a bit, clears it, or says nothing of it.
 pub data Word : Type 0 where
   Ask : Word
   Clear : Word
   Nothing : Word
 
--- Whether an identity is in a set after an event, given what the event says of it and whether it
--- was in it before. So a set holds just the identities whose newest word asks for them.
+-- Whether a bit is a one after an event, given what the event says of it and whether it was one
+-- before. So just the bits are ones whose newest word asks for them.
 abbrev pub settle : Word → Bool → Bool
 settle Ask was = true
 settle Clear was = false

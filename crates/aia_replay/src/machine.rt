@@ -2,7 +2,7 @@ ghost use Rattle.std.specs.Prelude.{◌≡◌, ◌∷◌, ℕ, ◌≤◌, ◌%�
 ghost use Rattle.std.specs.Option.{option_map};
 ghost use Rattle.std.specs.Result.{result_err};
 ghost use Rattle.aia_csr.specs.Access.{IsInTable};
-ghost use Rattle.aia_file.specs.InterruptFile.{is_width};
+ghost use Rattle.aia_file.specs.InterruptFile.{is_greatest_identity};
 ghost use Rattle.aia_model.specs.Grammar.{IsListed};
 ghost use Rattle.aia_model.specs.Event.Event.{Accepted};
 ghost use Rattle.aia_model.specs.Act.{domain_at};
@@ -189,13 +189,13 @@ fn is_machine_size(harts: u64, guests: u64, n: u64, sources: u64) -> bool
 {
     (1..=u64::from(HARTS)).contains(&harts)
         && guests <= u64::from(GUEST_FILES)
-        && is_width(n)
+        && is_greatest_identity(n)
         && (1..=u64::from(SOURCES)).contains(&sources)
 }
 
 /// Tells whether a file may have the identities 1 to `n`.
-fn is_width(n: u64) -> bool
-    ensures { result ≡ is_width n }
+fn is_greatest_identity(n: u64) -> bool
+    ensures { result ≡ is_greatest_identity n }
 {
     matches!(n, 63 | 127 | 255 | 511 | 1023) || n == u64::from(IDENTITIES)
 }

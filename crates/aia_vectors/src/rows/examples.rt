@@ -9,7 +9,7 @@ ghost use Rattle.aia_vectors.specs.Rows.{script_of, answers_of};
 use crate::row::Row;
 
 /// One interrupt, from a device's store to the hart's claim.
-pub const CLAIM_EXAMPLE: [(&str, &str); 33] = [
+pub const CLAIM_EXAMPLE: [(&str, &str); 34] = [
     (
         "# One interrupt, from a device's store to the hart's claim.",
         "",
@@ -42,9 +42,10 @@ pub const CLAIM_EXAMPLE: [(&str, &str); 33] = [
     ("", ""),
     (
         "# The identity on top is the least one: 3, in bits 26:16 and again in bits 10:0. A read \
-         claims nothing.",
+         claims",
         "",
     ),
+    ("# nothing.", ""),
     ("h 0 csrr stopei", "0x0000000000030003"),
     (
         "# Any write claims: it answers what was on top, and clears that pending bit.",
@@ -83,7 +84,7 @@ pub fn the_example_of_a_claim()
 {}
 
 /// What each refusal looks like.
-pub const REFUSALS_EXAMPLE: [(&str, &str); 51] = [
+pub const REFUSALS_EXAMPLE: [(&str, &str); 55] = [
     (
         "# What each refusal looks like. A refused line changes nothing, and the script goes on.",
         "",
@@ -95,10 +96,13 @@ pub const REFUSALS_EXAMPLE: [(&str, &str); 51] = [
     ("", ""),
     (
         "# bad: the text spells no line. Fields are all there, keywords are lower case, a number \
-         has no leading",
+         has no",
         "",
     ),
-    ("# zero, and one space stands between two words.", ""),
+    (
+        "# leading zero, and one space stands between two words.",
+        "",
+    ),
     ("machine", "bad"),
     ("MACHINE 1 0 63 1", "bad"),
     ("machine 01 0 63 1", "bad"),
@@ -114,16 +118,18 @@ pub const REFUSALS_EXAMPLE: [(&str, &str); 51] = [
     ("", ""),
     (
         "# This one is accepted: two harts, seven guest files each, the identities 1 to 127, eight \
-         wired sources.",
+         wired",
         "",
     ),
+    ("# sources.", ""),
     ("machine 2 7 127 8", "ok"),
     ("", ""),
     (
         "# again: a machine stands. Of two refusals that both apply the first is printed: again \
-         comes before range.",
+         comes before",
         "",
     ),
+    ("# range.", ""),
     ("machine 1 0 63 1", "again"),
     ("machine 9 9 9 9", "again"),
     ("", ""),
@@ -152,18 +158,20 @@ pub const REFUSALS_EXAMPLE: [(&str, &str); 51] = [
     ("", ""),
     (
         "# fault: the address is no multiple of 4, or lies in no page that is there (hart 2 again, \
-         and address 0).",
+         and",
         "",
     ),
+    ("# address 0).", ""),
     ("st 0x28008002 1", "fault"),
     ("st 0x28010000 1", "fault"),
     ("st 0 1", "fault"),
     ("", ""),
     (
         "# These are accepted and do nothing: another offset of the page, and a number that is no \
-         identity here.",
+         identity",
         "",
     ),
+    ("# here.", ""),
     ("st 0x28008008 1", "ok"),
     ("st 0x28008000 128", "ok"),
     ("h 1 csrrw siselect 0x80", "0x0000000000000071"),
@@ -187,30 +195,33 @@ pub fn the_example_of_refusals()
 {}
 
 /// Both files of a hart, and both byte orders.
-pub const FILES_AND_BYTE_ORDERS_EXAMPLE: [(&str, &str); 110] = [
+pub const FILES_AND_BYTE_ORDERS_EXAMPLE: [(&str, &str); 121] = [
     (
         "# Two files of each hart, the machine-level one and the supervisor one, and the two byte \
-         orders of their pages.",
+         orders of",
         "",
     ),
+    ("# their pages.", ""),
     ("#", ""),
     (
         "# A machine of two harts, each with one guest file, with the identities 1 to 63 and one \
-         wired source.",
+         wired",
         "",
     ),
+    ("# source.", ""),
     ("machine 2 1 63 1", "ok"),
     ("", ""),
     (
         "# The machine-level file of hart h lies at 0x24000000 + h * 0x1000, its supervisor file \
-         at 0x28000000 + h * 0x8000.",
+         at",
         "",
     ),
     (
-        "# Offset 0 of a page takes an identity little-endian: this asks for 5 in the \
-         machine-level file of hart 1.",
+        "# 0x28000000 + h * 0x8000. Offset 0 of a page takes an identity little-endian: this asks \
+         for 5 in",
         "",
     ),
+    ("# the machine-level file of hart 1.", ""),
     ("st 0x24001000 5", "ok"),
     (
         "# Offset 4 takes it big-endian: this asks for 9 in the same file.",
@@ -219,26 +230,29 @@ pub const FILES_AND_BYTE_ORDERS_EXAMPLE: [(&str, &str); 110] = [
     ("st 0x24001004 0x09000000", "ok"),
     (
         "# In the wrong byte order each value is far above 63, so it names no identity and the \
-         store is ignored.",
+         store is",
         "",
     ),
+    ("# ignored.", ""),
     ("st 0x24001004 9", "ok"),
     ("st 0x24001000 0x09000000", "ok"),
     ("# Other offsets of a page ignore stores.", ""),
     ("st 0x24001008 7", "ok"),
     (
         "# The supervisor file of hart 1 is another file: this asks for 5 there, big-endian, and \
-         for 12, little-endian.",
+         for 12,",
         "",
     ),
+    ("# little-endian.", ""),
     ("st 0x28008004 0x05000000", "ok"),
     ("st 0x28008000 12", "ok"),
     ("", ""),
     (
         "# Machine level reads its file through miselect and mireg. eip0, the pending bits up to \
-         63, shows 5 and 9.",
+         63, shows 5",
         "",
     ),
+    ("# and 9.", ""),
     ("m 1 csrrw miselect 0x80", "0x0000000000000000"),
     ("m 1 csrr mireg", "0x0000000000000220"),
     (
@@ -293,9 +307,10 @@ pub const FILES_AND_BYTE_ORDERS_EXAMPLE: [(&str, &str); 110] = [
     ("m 1 csrr mtopei", "0x0000000000000000"),
     (
         "# 5 is still pending in the supervisor file. Its claims go the same way, and the value \
-         that is written does not matter.",
+         that is",
         "",
     ),
+    ("# written does not matter.", ""),
     ("h 1 csrrc stopei 0xffffffffffffffff", "0x0000000000050005"),
     ("h 1 csrr stopei", "0x00000000000c000c"),
     ("h 1 csrrs stopei 0", "0x00000000000c000c"),
@@ -310,9 +325,10 @@ pub const FILES_AND_BYTE_ORDERS_EXAMPLE: [(&str, &str); 110] = [
     ("m 1 csrr mtopei", "0x0000000000090009"),
     (
         "# A threshold of 9 holds 9 back. csrrs makes 0x72, eithreshold, of the select number \
-         0x70, eidelivery.",
+         0x70,",
         "",
     ),
+    ("# eidelivery.", ""),
     ("m 1 csrrw miselect 0x70", "0x0000000000000080"),
     ("m 1 csrrs miselect 0x2", "0x0000000000000070"),
     ("m 1 csrrw mireg 9", "0x0000000000000000"),
@@ -343,9 +359,10 @@ pub const FILES_AND_BYTE_ORDERS_EXAMPLE: [(&str, &str); 110] = [
     ("", ""),
     (
         "# The odd select numbers from 0x81 on have no register behind them, and so have all below \
-         0x70 and above 0xff.",
+         0x70 and",
         "",
     ),
+    ("# above 0xff.", ""),
     ("m 1 csrrw miselect 0x81", "0x0000000000000072"),
     ("m 1 csrr mireg", "illegal"),
     ("m 1 csrrs mireg 0", "illegal"),
@@ -355,18 +372,20 @@ pub const FILES_AND_BYTE_ORDERS_EXAMPLE: [(&str, &str); 110] = [
     ("h 1 csrrw sireg 1", "illegal"),
     (
         "# A select CSR keeps the low 12 bits of a write: this selects 0x71, which is reserved, \
-         reads 0 and keeps nothing.",
+         reads 0 and",
         "",
     ),
+    ("# keeps nothing.", ""),
     ("m 1 csrrw miselect 0x1071", "0x0000000000000fff"),
     ("m 1 csrrw mireg 0xff", "0x0000000000000000"),
     ("m 1 csrr mireg", "0x0000000000000000"),
     ("m 1 csrr miselect", "0x0000000000000071"),
     (
         "# 0x82 has a register, eip2, of identities that this machine has not got: it reads 0 and \
-         keeps nothing.",
+         keeps",
         "",
     ),
+    ("# nothing.", ""),
     ("m 1 csrrw miselect 0x82", "0x0000000000000071"),
     ("m 1 csrrw mireg 0xff", "0x0000000000000000"),
     ("m 1 csrr mireg", "0x0000000000000000"),
@@ -387,30 +406,33 @@ pub fn the_example_of_files_and_byte_orders()
 {}
 
 /// Wires, modes and delegation.
-pub const WIRES_MODES_AND_DELEGATION_EXAMPLE: [(&str, &str); 132] = [
+pub const WIRES_MODES_AND_DELEGATION_EXAMPLE: [(&str, &str); 139] = [
     (
         "# Wired sources at the APLIC: a level, an edge, and a source that is handed to the child \
-         domain and taken back.",
+         domain and",
         "",
     ),
+    ("# taken back.", ""),
     ("#", ""),
     (
         "# A machine of two harts with no guest files, the identities 1 to 63 and eight wired \
-         sources. All wires are low at first.",
+         sources. All",
         "",
     ),
+    ("# wires are low at first.", ""),
     ("machine 2 0 63 8", "ok"),
     ("", ""),
     (
         "# The APLIC has two domains, each with a control region of 32 KiB: the root domain, at \
-         machine level, at 0x0c000000,",
+         machine",
         "",
     ),
     (
-        "# and its child, at supervisor level, at 0x0c008000. The root domain has all sources \
-         until it delegates them.",
+        "# level, at 0x0c000000, and its child, at supervisor level, at 0x0c008000. The root \
+         domain has all",
         "",
     ),
+    ("# sources until it delegates them.", ""),
     ("", ""),
     ("# ---- a level source", ""),
     (
@@ -434,9 +456,10 @@ pub const WIRES_MODES_AND_DELEGATION_EXAMPLE: [(&str, &str); 132] = [
     ("ld 0x0c003004", "0x00040005"),
     (
         "# A hart that isn't there becomes hart 0, and priority 0 becomes 1. Then hart 1 and \
-         priority 5 again.",
+         priority 5",
         "",
     ),
+    ("# again.", ""),
     ("st 0x0c003004 0x80000", "ok"),
     ("ld 0x0c003004", "0x00000001"),
     ("st 0x0c003004 0x40005", "ok"),
@@ -464,9 +487,10 @@ pub const WIRES_MODES_AND_DELEGATION_EXAMPLE: [(&str, &str); 132] = [
     ("ld 0x0c001d00", "0x00000002"),
     (
         "# so clearing it, by a one in in_clrip or by its number in clripnum, has no effect while \
-         the wire is high,",
+         the wire is",
         "",
     ),
+    ("# high,", ""),
     ("st 0x0c001d00 0x2", "ok"),
     ("st 0x0c001ddc 1", "ok"),
     ("ld 0x0c001c00", "0x00000002"),
@@ -481,12 +505,12 @@ pub const WIRES_MODES_AND_DELEGATION_EXAMPLE: [(&str, &str); 132] = [
     ("st 0x0c001cdc 1", "ok"),
     ("ld 0x0c001c00", "0x00000000"),
     ("", ""),
-    ("# ---- an edge source", ""),
     (
-        "# Mode 4 is rising edge. A rise is remembered: the source is pending still when its wire \
-         is low again.",
+        "# ---- an edge source Mode 4 is rising edge. A rise is remembered: the source is pending \
+         still when",
         "",
     ),
+    ("# its wire is low again.", ""),
     ("st 0x0c000008 4", "ok"),
     ("wire 2 1", "ok"),
     ("wire 2 0", "ok"),
@@ -502,36 +526,37 @@ pub const WIRES_MODES_AND_DELEGATION_EXAMPLE: [(&str, &str); 132] = [
     ("ld 0x0c001c00", "0x00000000"),
     (
         "# Mode 5 is falling edge, whose rectified input is the inverse of the wire. Back in mode \
-         4 the input is high again,",
+         4 the input",
         "",
     ),
-    ("# but a change of mode makes no rise.", ""),
+    ("# is high again, but a change of mode makes no rise.", ""),
     ("st 0x0c000008 5", "ok"),
     ("ld 0x0c001d00", "0x00000000"),
     ("st 0x0c000008 4", "ok"),
     ("ld 0x0c001d00", "0x00000004"),
     ("ld 0x0c001c00", "0x00000000"),
     (
-        "# Software can ask for an edge source by a store: here the number is taken big-endian, by \
-         setipnum_be.",
+        "# Software can ask for an edge source by a store: here the number is taken big-endian, by",
         "",
     ),
+    ("# setipnum_be.", ""),
     ("st 0x0c002004 0x02000000", "ok"),
     ("ld 0x0c001c00", "0x00000004"),
     ("", ""),
-    ("# ---- delegation", ""),
     (
-        "# In sourcecfg of the root domain bit 10, D, with the child index 0, delegates source 3 \
-         to the child domain.",
+        "# ---- delegation In sourcecfg of the root domain bit 10, D, with the child index 0, \
+         delegates",
         "",
     ),
+    ("# source 3 to the child domain.", ""),
     ("st 0x0c00000c 0x400", "ok"),
     ("ld 0x0c00000c", "0x00000400"),
     (
         "# There its register begins at 0, inactive. The child gives it mode 7, level low; the \
-         wire is low, so it is pending.",
+         wire is low,",
         "",
     ),
+    ("# so it is pending.", ""),
     ("ld 0x0c00800c", "0x00000000"),
     ("st 0x0c00800c 7", "ok"),
     ("ld 0x0c009c00", "0x00000008"),
@@ -541,11 +566,12 @@ pub const WIRES_MODES_AND_DELEGATION_EXAMPLE: [(&str, &str); 132] = [
     ("ld 0x0c00b00c", "0x00040002"),
     (
         "# In the root domain the source has no pending bit, no enable bit and no target, whatever \
-         is stored. What the root",
+         is stored.",
         "",
     ),
     (
-        "# domain shows is source 2, pending with a high wire, and source 1, enabled.",
+        "# What the root domain shows is source 2, pending with a high wire, and source 1, \
+         enabled.",
         "",
     ),
     ("st 0x0c001edc 3", "ok"),
@@ -560,10 +586,10 @@ pub const WIRES_MODES_AND_DELEGATION_EXAMPLE: [(&str, &str); 132] = [
     ("ld 0x0c00b00c", "0x00040002"),
     (
         "# In the child domain, source 1 is read-only zero, since it isn't delegated; and D makes \
-         a register 0, since the child",
+         a register",
         "",
     ),
-    ("# domain has no child.", ""),
+    ("# 0, since the child domain has no child.", ""),
     ("st 0x0c008004 6", "ok"),
     ("ld 0x0c008004", "0x00000000"),
     ("st 0x0c00800c 0x400", "ok"),
@@ -575,12 +601,12 @@ pub const WIRES_MODES_AND_DELEGATION_EXAMPLE: [(&str, &str); 132] = [
     ("ld 0x0c009e00", "0x00000000"),
     ("ld 0x0c00b00c", "0x00000001"),
     ("", ""),
-    ("# ---- taking it back", ""),
     (
-        "# The root domain gives it a mode: then it has the source, newly active, and pending, \
-         since the input is high.",
+        "# ---- taking it back The root domain gives it a mode: then it has the source, newly \
+         active, and",
         "",
     ),
+    ("# pending, since the input is high.", ""),
     ("st 0x0c00000c 7", "ok"),
     ("ld 0x0c00000c", "0x00000007"),
     ("ld 0x0c001c00", "0x0000000c"),
@@ -623,7 +649,7 @@ pub fn the_example_of_wires_modes_and_delegation()
 {}
 
 /// Direct delivery: configure, raise, read `topi`, claim.
-pub const DIRECT_DELIVERY_EXAMPLE: [(&str, &str); 45] = [
+pub const DIRECT_DELIVERY_EXAMPLE: [(&str, &str); 46] = [
     (
         "# Direct delivery, as firmware sets it up first: one hart, two wired sources, the root \
          domain.",
@@ -633,9 +659,10 @@ pub const DIRECT_DELIVERY_EXAMPLE: [(&str, &str); 45] = [
     ("", ""),
     (
         "# Source 1 is level high with priority 2, source 2 a rising edge with priority 1. A lower \
-         number is a higher priority.",
+         number is",
         "",
     ),
+    ("# a higher priority.", ""),
     ("st 0x0c000004 6", "ok"),
     ("st 0x0c000008 4", "ok"),
     ("st 0x0c003004 2", "ok"),
@@ -710,18 +737,20 @@ pub fn the_example_of_direct_delivery()
 {}
 
 /// Delivery by MSIs: from a wire to `stopei`.
-pub const MSI_DELIVERY_EXAMPLE: [(&str, &str); 47] = [
+pub const MSI_DELIVERY_EXAMPLE: [(&str, &str); 54] = [
     (
         "# From a wire to stopei, by MSIs. Firmware sets up two harts with the identities 1 to 63, \
-         and eight wired sources.",
+         and eight",
         "",
     ),
+    ("# wired sources.", ""),
     ("machine 2 0 63 8", "ok"),
     (
         "# MSI addresses: the page of hart 0, and one bit of hart index, not shifted at machine \
-         level, shifted by 3 for the child.",
+         level,",
         "",
     ),
+    ("# shifted by 3 for the child.", ""),
     ("st 0x0c001bc0 0x24000", "ok"),
     ("st 0x0c001bc4 0x1000", "ok"),
     ("st 0x0c001bc8 0x28000", "ok"),
@@ -736,9 +765,10 @@ pub const MSI_DELIVERY_EXAMPLE: [(&str, &str); 47] = [
     ("", ""),
     (
         "# Source 1 is delegated to the child, which makes it level high: identity 5 at hart 1. A \
-         target has the hart in bits 31:18.",
+         target has",
         "",
     ),
+    ("# the hart in bits 31:18.", ""),
     ("st 0x0c000004 0x400", "ok"),
     ("st 0x0c008004 6", "ok"),
     ("st 0x0c00b004 0x40005", "ok"),
@@ -753,10 +783,10 @@ pub const MSI_DELIVERY_EXAMPLE: [(&str, &str); 47] = [
     ("st 0x0c001edc 2", "ok"),
     ("", ""),
     (
-        "# The harts enable identities in eie0: 5 in the supervisor file of hart 1; 6 and 7 in the \
-         machine-level file of hart 0.",
+        "# The harts enable identities in eie0: 5 in the supervisor file of hart 1; 6 and 7 in the",
         "",
     ),
+    ("# machine-level file of hart 0.", ""),
     ("h 1 csrrw siselect 0xc0", "0x0000000000000000"),
     ("h 1 csrrw sireg 0x20", "0x0000000000000000"),
     ("m 0 csrrw miselect 0xc0", "0x0000000000000000"),
@@ -764,9 +794,10 @@ pub const MSI_DELIVERY_EXAMPLE: [(&str, &str); 47] = [
     ("", ""),
     (
         "# Each wire rises, and its MSI is sent in the same line. stopei shows identity 5, and a \
-         write of it claims; mtopei likewise.",
+         write of it",
         "",
     ),
+    ("# claims; mtopei likewise.", ""),
     ("wire 1 1", "ok"),
     ("h 1 csrr stopei", "0x0000000000050005"),
     ("h 1 csrrw stopei 0", "0x0000000000050005"),
@@ -775,18 +806,20 @@ pub const MSI_DELIVERY_EXAMPLE: [(&str, &str); 47] = [
     ("", ""),
     (
         "# Sending took the pending bit, though wire 1 is high still; a write of sourcecfg makes \
-         the level source pending again.",
+         the level",
         "",
     ),
+    ("# source pending again.", ""),
     ("ld 0x0c009c00", "0x00000000"),
     ("st 0x0c008004 6", "ok"),
     ("h 1 csrrw stopei 0", "0x0000000000050005"),
     ("", ""),
     (
         "# genmsi sends an MSI without a source: identity 7 to hart 0. Then L, bit 31, locks the \
-         four address registers.",
+         four address",
         "",
     ),
+    ("# registers.", ""),
     ("st 0x0c003000 7", "ok"),
     ("m 0 csrrw mtopei 0", "0x0000000000070007"),
     ("st 0x0c001bc4 0x80001000", "ok"),
