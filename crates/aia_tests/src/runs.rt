@@ -29,7 +29,7 @@ pub(crate) fn replays(
     let mut source = MemSource::new(script, piece, Vec::new(alloc));
     let mut sink = MemSink::new(alloc, ROOM, Vec::new(alloc))?;
     let status = run(alloc, &["replay"], &mut source, &mut sink);
-    assert_eq!(rt; status, Status::Done);
+    assert_eq!(rt; status, Status::Done, "{name} by {piece} bytes");
     assert_eq!(rt; sink.bytes(), answers, "{name} by {piece} bytes");
     Ok(())
 }
