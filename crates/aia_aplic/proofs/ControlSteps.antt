@@ -11,7 +11,7 @@ use Rattle.aia_model.specs.declared.domain_name.DomainName.{DomainName}
 use Rattle.aia_model.specs.Act.{Act, Past, newest, when}
 use Rattle.aia_model.specs.declared.domain_name.DomainName.TheVariants.{Root, Child}
 use Rattle.aia_model.specs.Act.Act.{Made, Driven, Written, Loaded}
-use Rattle.aia_model.specs.SourceOf.{harts_in, idelivery_of, iforce_of, ithreshold_of, by_msis, top}
+use Rattle.aia_model.specs.SourceOf.{harts_in, idelivery_of, iforce_of, ithreshold_of, delivers_by_msis, top}
 use Rattle.aia_aplic.specs.Side.{control, ControlsStand}
 use Rattle.aia_aplic.specs.Controls.{EachControl, control_after}
 use Rattle.std.proofs.lemmas.Iterator.Adapters.{option_map_id}
@@ -100,10 +100,10 @@ claims true true false false old c e f = ap (λ x. record c { iforce = x }) (sym
 claims false true msi none old c e f = ap (λ x. record c { iforce = x }) (sym f)
 claims b false msi none old c e f = cc
 
-pub claimed_control : (x : ℕ) (past : Past) (d : DomainName) (h : ℕ) → h < harts_in past → control (Loaded d (ClaimI x) ∷ past) d h ≡ cond (nat_eq x h) (control_claimed (by_msis past d) (top past d h) (control past d h)) (control past d h)
+pub claimed_control : (x : ℕ) (past : Past) (d : DomainName) (h : ℕ) → h < harts_in past → control (Loaded d (ClaimI x) ∷ past) d h ≡ cond (nat_eq x h) (control_claimed (delivers_by_msis past d) (top past d h) (control past d h)) (control past d h)
 unfolding newest
-claimed_control x past Root h low = claims (nat_eq x h) (nat_lt h (harts_in past)) (by_msis past Root) (is_none (top past Root h)) (iforce_of past Root h) (control past Root h) (lt-ltb h (harts_in past) low) refl
-claimed_control x past Child h low = claims (nat_eq x h) (nat_lt h (harts_in past)) (by_msis past Child) (is_none (top past Child h)) (iforce_of past Child h) (control past Child h) (lt-ltb h (harts_in past) low) refl
+claimed_control x past Root h low = claims (nat_eq x h) (nat_lt h (harts_in past)) (delivers_by_msis past Root) (is_none (top past Root h)) (iforce_of past Root h) (control past Root h) (lt-ltb h (harts_in past) low) refl
+claimed_control x past Child h low = claims (nat_eq x h) (nat_lt h (harts_in past)) (delivers_by_msis past Child) (is_none (top past Child h)) (iforce_of past Child h) (control past Child h) (lt-ltb h (harts_in past) low) refl
 
 -- ---- all controls
 

@@ -8,7 +8,7 @@ use Rattle.aia_model.specs.declared.domain_name.DomainName.{DomainName}
 use Rattle.aia_model.specs.Act.{Past, newest}
 use Rattle.aia_model.specs.declared.domain_name.DomainName.TheVariants.{Root, Child}
 use Rattle.aia_model.specs.Act.Act.{Driven}
-use Rattle.aia_model.specs.SourceOf.{wire_of, by_msis}
+use Rattle.aia_model.specs.SourceOf.{wire_of, delivers_by_msis}
 use Rattle.aia_aplic.specs.Side.{entry_of}
 use Rattle.aia_aplic.proofs.Steps.{stepped, entry-step, entry-idle, IsIdle, step-nothing, same_enable, same_target}
 
@@ -24,7 +24,7 @@ moved : (b msi level : Bool) (x : EntryState) → IsIdle x → stepped x.source.
 moved true msi level x idle = step-driven msi level x idle
 moved false msi level x idle = step-nothing msi x idle
 
-pub driven : (t : ℕ) (level : Bool) (past : Past) (d : DomainName) (s : ℕ) → entry_of (Driven t level ∷ past) d s ≡ changed_at t (wired (by_msis past d) level) s (entry_of past d s)
+pub driven : (t : ℕ) (level : Bool) (past : Past) (d : DomainName) (s : ℕ) → entry_of (Driven t level ∷ past) d s ≡ changed_at t (wired (delivers_by_msis past d) level) s (entry_of past d s)
 unfolding newest wire_of
-driven t level past Root s = entry-step (Driven t level) past Root s ∙ moved (nat_eq t s) (by_msis past Root) level (entry_of past Root s) (entry-idle past Root s)
-driven t level past Child s = entry-step (Driven t level) past Child s ∙ moved (nat_eq t s) (by_msis past Child) level (entry_of past Child s) (entry-idle past Child s)
+driven t level past Root s = entry-step (Driven t level) past Root s ∙ moved (nat_eq t s) (delivers_by_msis past Root) level (entry_of past Root s) (entry-idle past Root s)
+driven t level past Child s = entry-step (Driven t level) past Child s ∙ moved (nat_eq t s) (delivers_by_msis past Child) level (entry_of past Child s) (entry-idle past Child s)

@@ -11,7 +11,7 @@ use Rattle.aia_model.specs.Act.{Past}
 use Rattle.aia_model.specs.declared.domain_name.DomainName.TheVariants.{Root, Child}
 use Rattle.aia_model.specs.declared.sender.Sender.TheVariants.{ByGenMsi, BySource}
 use Rattle.aia_model.specs.SourceOf.{sources_in, genmsi_waits}
-use Rattle.aia_model.specs.Sent.{forwards, in_order, has_msi, senders}
+use Rattle.aia_model.specs.Sent.{forwards, all_senders, has_msi, senders}
 use Rattle.aia_aplic.specs.Senders.{SendsBefore}
 
 -- ---- the sources of both domains
@@ -73,19 +73,19 @@ before_sources d count = All-weaker (IsSourceFrom 1 count) (SendsBefore (ByGenMs
     before Root (BySource e t) r = tt
     before Child (BySource e t) r = tt
 
-pub all_in_order : (count : ℕ) → AllPairs SendsBefore (in_order count)
-unfolding in_order
+pub all_in_order : (count : ℕ) → AllPairs SendsBefore (all_senders count)
+unfolding all_senders
 all_in_order count =
     AllPairs-cons SendsBefore (ByGenMsi Root) (ByGenMsi Child ∷ sources_from 1 count) (All-cons (SendsBefore (ByGenMsi Root)) (ByGenMsi Child) (sources_from 1 count) tt (before_sources Root count))
     (AllPairs-cons SendsBefore (ByGenMsi Child) (sources_from 1 count) (before_sources Child count) (sources_in_order 1 count))
 
-pub all_genmsi : (count : ℕ) (d : DomainName) → Contains (in_order count) (ByGenMsi d)
-unfolding in_order
+pub all_genmsi : (count : ℕ) (d : DomainName) → Contains (all_senders count) (ByGenMsi d)
+unfolding all_senders
 all_genmsi count Root = here (ByGenMsi Root) (ByGenMsi Child ∷ sources_from 1 count)
 all_genmsi count Child = later (ByGenMsi Root) (ByGenMsi Child) (ByGenMsi Child ∷ sources_from 1 count) (here (ByGenMsi Child) (sources_from 1 count))
 
-pub all_sources : (count : ℕ) (d : DomainName) (s : ℕ) → 1 ≤ s → s ≤ count → Contains (in_order count) (BySource d s)
-unfolding in_order
+pub all_sources : (count : ℕ) (d : DomainName) (s : ℕ) → 1 ≤ s → s ≤ count → Contains (all_senders count) (BySource d s)
+unfolding all_senders
 all_sources count d s low high = later (ByGenMsi Root) (BySource d s) (ByGenMsi Child ∷ sources_from 1 count) (later (ByGenMsi Child) (BySource d s) (sources_from 1 count) (sources_have 1 count d s low (omega (arith, high))))
 
 -- genmsi, or a source that is there
@@ -93,33 +93,33 @@ abbrev IsThere : ℕ → Sender → Type 0
 IsThere count (ByGenMsi d) = Unit {0}
 IsThere count (BySource d s) = (1 ≤ s) × (s ≤ count)
 
-all_there : (count : ℕ) → All (IsThere count) (in_order count)
-unfolding in_order
+all_there : (count : ℕ) → All (IsThere count) (all_senders count)
+unfolding all_senders
 all_there count = All-cons (IsThere count) (ByGenMsi Root) (ByGenMsi Child ∷ sources_from 1 count) tt (All-cons (IsThere count) (ByGenMsi Child) (sources_from 1 count) tt (All-weaker (IsSourceFrom 1 count) (IsThere count) there (sources_from 1 count) (sources_are 1 count)))
   where
     there : (y : Sender) → IsSourceFrom 1 count y → IsThere count y
     there (ByGenMsi d) r = tt
     there (BySource d s) r = (r.0, omega (arith, r.1))
 
-pub source_there : (count : ℕ) (d : DomainName) (s : ℕ) → Contains (in_order count) (BySource d s) → (1 ≤ s) × (s ≤ count)
-source_there count d s m = All-contains (IsThere count) (in_order count) (BySource d s) (all_there count) m
+pub source_there : (count : ℕ) (d : DomainName) (s : ℕ) → Contains (all_senders count) (BySource d s) → (1 ≤ s) × (s ≤ count)
+source_there count d s m = All-contains (IsThere count) (all_senders count) (BySource d s) (all_there count) m
 
 -- ---- those that wait
 
 pub source_among : (past : Past) (d : DomainName) (s : ℕ) → Contains (senders past) (BySource d s) → (1 ≤ s) × (s ≤ sources_in past) × (forwards past d s ≡ true)
 source_among past d s m =
-    let r = in_filter (has_msi past) (in_order (sources_in past)) (BySource d s) m in
+    let r = in_filter (has_msi past) (all_senders (sources_in past)) (BySource d s) m in
     let there = source_there (sources_in past) d s r.0 in
     (there.0, there.1, r.1)
 
 pub among_source : (past : Past) (d : DomainName) (s : ℕ) → 1 ≤ s → s ≤ sources_in past → forwards past d s ≡ true → Contains (senders past) (BySource d s)
-among_source past d s low high ready = filter_has (has_msi past) (in_order (sources_in past)) (BySource d s) (all_sources (sources_in past) d s low high) ready
+among_source past d s low high ready = filter_has (has_msi past) (all_senders (sources_in past)) (BySource d s) (all_sources (sources_in past) d s low high) ready
 
 pub genmsi_among : (past : Past) (d : DomainName) → Contains (senders past) (ByGenMsi d) → genmsi_waits past d ≡ true
-genmsi_among past d m = (in_filter (has_msi past) (in_order (sources_in past)) (ByGenMsi d) m).1
+genmsi_among past d m = (in_filter (has_msi past) (all_senders (sources_in past)) (ByGenMsi d) m).1
 
 pub among_genmsi : (past : Past) (d : DomainName) → genmsi_waits past d ≡ true → Contains (senders past) (ByGenMsi d)
-among_genmsi past d busy = filter_has (has_msi past) (in_order (sources_in past)) (ByGenMsi d) (all_genmsi (sources_in past) d) busy
+among_genmsi past d busy = filter_has (has_msi past) (all_senders (sources_in past)) (ByGenMsi d) (all_genmsi (sources_in past) d) busy
 
 pub senders_in_order : (past : Past) → AllPairs SendsBefore (senders past)
-senders_in_order past = AllPairs-filter SendsBefore (has_msi past) (in_order (sources_in past)) (all_in_order (sources_in past))
+senders_in_order past = AllPairs-filter SendsBefore (has_msi past) (all_senders (sources_in past)) (all_in_order (sources_in past))

@@ -11,16 +11,16 @@ use Rattle.aia_model.specs.Act.{Past, newest, when}
 use Rattle.aia_model.specs.Act.Act.{Written}
 use Rattle.aia_model.specs.declared.domain_name.DomainName.{DomainName}
 use Rattle.aia_model.specs.declared.domain_name.DomainName.TheVariants.{Root, Child}
-use Rattle.aia_model.specs.SourceOf.{is_source, is_register_of, wire_of, root_sourcecfg_of, is_delegated, child_told, sourcecfg_of, by_msis, owns}
+use Rattle.aia_model.specs.SourceOf.{is_source, is_register_of, wire_of, root_sourcecfg_of, is_delegated, child_told, sourcecfg_of, delivers_by_msis, is_active_in}
 use Rattle.aia_aplic.specs.Side.{entry_of}
 use Rattle.aia_aplic.proofs.Steps.{stepped, entry-step, entry-idle, step-nothing, step-deed}
 use Rattle.aia_aplic.proofs.WriteSteps.{child-none, inactive-stays}
 
 -- the root domain's register of a delegated source gives no mode, and that of another source leaves the child domain's register 0
-pub one_owner : (past : Past) (s : ℕ) → (owns past Root s && owns past Child s) ≡ false
+pub one_owner : (past : Past) (s : ℕ) → (is_active_in past Root s && is_active_in past Child s) ≡ false
 one_owner past s = elim (cases_eq (root_sourcecfg_of past s) DELEGATED) [
-  | inl e ↦ ap (λ c. is_active (mode_of c) && owns past Child s) e
-  | inr ne ↦ ap (λ c. owns past Root s && is_active (mode_of c)) (child-none past s (ne_eqb (root_sourcecfg_of past s) DELEGATED ne)) ∙ and_right (owns past Root s) false refl
+  | inl e ↦ ap (λ c. is_active (mode_of c) && is_active_in past Child s) e
+  | inr ne ↦ ap (λ c. is_active_in past Root s && is_active (mode_of c)) (child-none past s (ne_eqb (root_sourcecfg_of past s) DELEGATED ne)) ∙ and_right (is_active_in past Root s) false refl
 ]
 
 -- ---- a source that is delegated is delegated again
@@ -55,16 +55,16 @@ pub same_entry : (past : Past) (i v : ℕ) (d : DomainName) (s : ℕ) → is_del
 unfolding newest wire_of
 same_entry past i v Child s was again =
     entry-step (Written Root (SourceCfg i) v) past Child s
-    ∙ ap (λ c. stepped (mode_of c) (wire_of past s) (by_msis past Child) (by_msis past Child) (is_delegated (Written Root (SourceCfg i) v ∷ past) s) None Nothing Untouched (entry_of past Child s)) (same_sourcecfg past i v Child s was again)
-    ∙ ap (λ c. stepped (mode_of (sourcecfg_of past Child s)) (wire_of past s) (by_msis past Child) (by_msis past Child) (delegates c) None Nothing Untouched (entry_of past Child s)) (same_sourcecfg past i v Root s was again)
-    ∙ step-nothing (by_msis past Child) (entry_of past Child s) (entry-idle past Child s)
+    ∙ ap (λ c. stepped (mode_of c) (wire_of past s) (delivers_by_msis past Child) (delivers_by_msis past Child) (is_delegated (Written Root (SourceCfg i) v ∷ past) s) None Nothing Untouched (entry_of past Child s)) (same_sourcecfg past i v Child s was again)
+    ∙ ap (λ c. stepped (mode_of (sourcecfg_of past Child s)) (wire_of past s) (delivers_by_msis past Child) (delivers_by_msis past Child) (delegates c) None Nothing Untouched (entry_of past Child s)) (same_sourcecfg past i v Root s was again)
+    ∙ step-nothing (delivers_by_msis past Child) (entry_of past Child s) (entry-idle past Child s)
 same_entry past i v Root s was again =
     entry-step (Written Root (SourceCfg i) v) past Root s
-    ∙ ap (λ c. stepped (mode_of c) (wire_of past s) (by_msis past Root) (by_msis past Root) (delegates c) None Nothing (cond (is_register_of past i s) Configured Untouched) (entry_of past Root s)) (same_sourcecfg past i v Root s was again)
+    ∙ ap (λ c. stepped (mode_of c) (wire_of past s) (delivers_by_msis past Root) (delivers_by_msis past Root) (delegates c) None Nothing (cond (is_register_of past i s) Configured Untouched) (entry_of past Root s)) (same_sourcecfg past i v Root s was again)
     ∙ at (is_register_of past i s) refl
   where
-    at : (b : Bool) → is_register_of past i s ≡ b → stepped (mode_of (sourcecfg_of past Root s)) (wire_of past s) (by_msis past Root) (by_msis past Root) (is_delegated past s) None Nothing (cond b Configured Untouched) (entry_of past Root s) ≡ entry_of past Root s
+    at : (b : Bool) → is_register_of past i s ≡ b → stepped (mode_of (sourcecfg_of past Root s)) (wire_of past s) (delivers_by_msis past Root) (delivers_by_msis past Root) (is_delegated past s) None Nothing (cond b Configured Untouched) (entry_of past Root s) ≡ entry_of past Root s
     at true here =
-        let off : owns past Root s ≡ false = ap (λ c. is_active (mode_of c)) (eqb-true (root_sourcecfg_of past s) DELEGATED (both_delegated past i s v was here)) in
-        step-deed (by_msis past Root) (entry_of past Root s) Configured (entry-idle past Root s) ∙ inactive-stays (by_msis past Root) (entry_of past Root s) (entry-idle past Root s) off
-    at false e = step-nothing (by_msis past Root) (entry_of past Root s) (entry-idle past Root s)
+        let off : is_active_in past Root s ≡ false = ap (λ c. is_active (mode_of c)) (eqb-true (root_sourcecfg_of past s) DELEGATED (both_delegated past i s v was here)) in
+        step-deed (delivers_by_msis past Root) (entry_of past Root s) Configured (entry-idle past Root s) ∙ inactive-stays (delivers_by_msis past Root) (entry_of past Root s) (entry-idle past Root s) off
+    at false e = step-nothing (delivers_by_msis past Root) (entry_of past Root s) (entry-idle past Root s)

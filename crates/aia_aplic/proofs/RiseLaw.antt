@@ -16,7 +16,7 @@ use Rattle.aia_model.specs.Act.{Past, newest, when}
 use Rattle.aia_model.specs.declared.domain_name.DomainName.TheVariants.{Root, Child}
 use Rattle.aia_model.specs.Act.Act.{Written}
 use Rattle.aia_aplic.proofs.Steps.{entry-idle}
-use Rattle.aia_model.specs.SourceOf.{is_register_of, root_sourcecfg_of, is_delegated, child_told, mode, owns, input, by_msis, deed_of_write, deed, pending, top_in}
+use Rattle.aia_model.specs.SourceOf.{is_register_of, root_sourcecfg_of, is_delegated, child_told, mode, is_active_in, input, delivers_by_msis, deed_of_write, deed, pending, top_in}
 
 -- ---- a sourcecfg at an active source
 
@@ -31,11 +31,11 @@ stays_at Detached msi before after was false new l = refl
 stays_at RisingEdge msi before after was false new l = refl
 stays_at FallingEdge msi before after was false new l = refl
 
-pub stays : (past : Past) (d : DomainName) (i v s : ℕ) → owns past d s ≡ true → owns (Written d (SourceCfg i) v ∷ past) d s ≡ true → is_level (mode (Written d (SourceCfg i) v ∷ past) d s) ≡ false
+pub stays : (past : Past) (d : DomainName) (i v s : ℕ) → is_active_in past d s ≡ true → is_active_in (Written d (SourceCfg i) v ∷ past) d s ≡ true → is_level (mode (Written d (SourceCfg i) v ∷ past) d s) ≡ false
     → pending (Written d (SourceCfg i) v ∷ past) d s ≡ pending past d s
 unfolding pending
-stays past Root i v s old new l = stays_at (mode (Written Root (SourceCfg i) v ∷ past) Root s) (by_msis past Root) (input past Root s) (input (Written Root (SourceCfg i) v ∷ past) Root s) (pending past Root s) (is_register_of past i s) new l
-stays past Child i v s old new l = stays_at (mode (Written Child (SourceCfg i) v ∷ past) Child s) (by_msis past Child) (input past Child s) (input (Written Child (SourceCfg i) v ∷ past) Child s) (pending past Child s) (is_register_of past i s) new l
+stays past Root i v s old new l = stays_at (mode (Written Root (SourceCfg i) v ∷ past) Root s) (delivers_by_msis past Root) (input past Root s) (input (Written Root (SourceCfg i) v ∷ past) Root s) (pending past Root s) (is_register_of past i s) new l
+stays past Child i v s old new l = stays_at (mode (Written Child (SourceCfg i) v ∷ past) Child s) (delivers_by_msis past Child) (input past Child s) (input (Written Child (SourceCfg i) v ∷ past) Child s) (pending past Child s) (is_register_of past i s) new l
 
 -- ---- a deed that does not ask
 
@@ -74,10 +74,10 @@ begins_at : (m : Mode) (msi before after was b : Bool) → was ≡ false → is_
 begins_at m msi before after was true none l = unasked_at m msi before after Configured was refl l none
 begins_at m msi before after was false none l = unasked_at m msi before after Untouched was refl l none
 
-pub begins : (past : Past) (d : DomainName) (i v s : ℕ) → owns past d s ≡ false → is_level (mode (Written d (SourceCfg i) v ∷ past) d s) ≡ false → pending (Written d (SourceCfg i) v ∷ past) d s ≡ false
+pub begins : (past : Past) (d : DomainName) (i v s : ℕ) → is_active_in past d s ≡ false → is_level (mode (Written d (SourceCfg i) v ∷ past) d s) ≡ false → pending (Written d (SourceCfg i) v ∷ past) d s ≡ false
 unfolding newest pending
-begins past Root i v s old l = begins_at (mode (Written Root (SourceCfg i) v ∷ past) Root s) (by_msis past Root) (input past Root s) (input (Written Root (SourceCfg i) v ∷ past) Root s) (pending past Root s) (is_register_of past i s) ((entry-idle past Root s).pending old) l
-begins past Child i v s old l = begins_at (mode (Written Child (SourceCfg i) v ∷ past) Child s) (by_msis past Child) (input past Child s) (input (Written Child (SourceCfg i) v ∷ past) Child s) (pending past Child s) (is_register_of past i s) ((entry-idle past Child s).pending old) l
+begins past Root i v s old l = begins_at (mode (Written Root (SourceCfg i) v ∷ past) Root s) (delivers_by_msis past Root) (input past Root s) (input (Written Root (SourceCfg i) v ∷ past) Root s) (pending past Root s) (is_register_of past i s) ((entry-idle past Root s).pending old) l
+begins past Child i v s old l = begins_at (mode (Written Child (SourceCfg i) v ∷ past) Child s) (delivers_by_msis past Child) (input past Child s) (input (Written Child (SourceCfg i) v ∷ past) Child s) (pending past Child s) (is_register_of past i s) ((entry-idle past Child s).pending old) l
 
 -- ---- a store that does not ask
 
@@ -94,7 +94,7 @@ unasked_write past d (SourceCfg i) v s e = at (is_register_of past i s)
     at : (b : Bool) → asks (cond b Configured Untouched) ≡ false
     at true = refl
     at false = refl
-unasked_write past d DomainCfg v s e = at (same_bool (by_msis past d) (is_by_msi (domaincfg_kept v)))
+unasked_write past d DomainCfg v s e = at (same_bool (delivers_by_msis past d) (is_by_msi (domaincfg_kept v)))
   where
     at : (b : Bool) → asks (cond b Untouched Switched) ≡ false
     at true = refl
@@ -109,4 +109,4 @@ unasked_deed shown past Child Child reg v s quiet = unasked_write past Child reg
 
 pub unasked : (past : Past) (e d : DomainName) (reg : DomainReg) (v s : ℕ) → touch reg v s ≢ Some SetPending → is_level (mode (Written e reg v ∷ past) d s) ≡ false → pending past d s ≡ false → pending (Written e reg v ∷ past) d s ≡ false
 unfolding pending
-unasked past e d reg v s quiet l none = unasked_at (mode (Written e reg v ∷ past) d s) (by_msis past d) (input past d s) (input (Written e reg v ∷ past) d s) (deed (top_in (pending past d) past d) past (Written e reg v) d s) (pending past d s) (unasked_deed (top_in (pending past d) past d) past e d reg v s quiet) l none
+unasked past e d reg v s quiet l none = unasked_at (mode (Written e reg v ∷ past) d s) (delivers_by_msis past d) (input past d s) (input (Written e reg v ∷ past) d s) (deed (top_in (pending past d) past d) past (Written e reg v) d s) (pending past d s) (unasked_deed (top_in (pending past d) past d) past e d reg v s quiet) l none

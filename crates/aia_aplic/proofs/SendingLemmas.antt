@@ -12,8 +12,8 @@ use Rattle.aia_model.specs.Act.{Past, is_domain, newest, act_of}
 use Rattle.aia_model.specs.declared.domain_name.DomainName.TheVariants.{Root, Child}
 use Rattle.aia_model.specs.declared.sender.Sender.TheVariants.{ByGenMsi, BySource}
 use Rattle.aia_model.specs.Act.Act.{Made, Sent}
-use Rattle.aia_model.specs.SourceOf.{harts_in, sources_in, mode, input, is_on, by_msis, owns, target, pending, genmsi_of, genmsi_waits}
-use Rattle.aia_model.specs.Sent.{forwards, in_order, has_msi, senders, msi_by, msi_of, waiting_msis, sent_by, with_all_sent, with_act, acts_of}
+use Rattle.aia_model.specs.SourceOf.{harts_in, sources_in, mode, input, is_on, delivers_by_msis, is_active_in, target, pending, genmsi_of, genmsi_waits}
+use Rattle.aia_model.specs.Sent.{forwards, all_senders, has_msi, senders, msi_by, msi_of, waiting_msis, sent_by, with_all_sent, with_act, acts_of}
 use Rattle.aia_model.specs.Event.{History}
 use Rattle.aia_model.specs.Event.Event.{Accepted, Delivered}
 use Rattle.aia_model.specs.AddressOf.{addresses_of}
@@ -56,7 +56,7 @@ sizes : (sender : Sender) (past : Past) → sources_in (Sent sender ∷ past) �
 unfolding newest
 sizes sender past = refl
 
-modes : (sender : Sender) (past : Past) (d : DomainName) → (by_msis (Sent sender ∷ past) d ≡ by_msis past d) × (is_on (Sent sender ∷ past) d ≡ is_on past d)
+modes : (sender : Sender) (past : Past) (d : DomainName) → (delivers_by_msis (Sent sender ∷ past) d ≡ delivers_by_msis past d) × (is_on (Sent sender ∷ past) d ≡ is_on past d)
 unfolding newest
 modes sender past d = (refl, refl)
 
@@ -64,10 +64,10 @@ modes sender past d = (refl, refl)
 abbrev ready_with : Bool → Bool → EntryState → Bool
 ready_with msi on x = msi && on && x.source.pending && x.enabled
 
-ready_held : (sender : Sender) (past : Past) (d : DomainName) (s : ℕ) (y : EntryState) → entry_of (Sent sender ∷ past) d s ≡ y → forwards (Sent sender ∷ past) d s ≡ ready_with (by_msis past d) (is_on past d) y
+ready_held : (sender : Sender) (past : Past) (d : DomainName) (s : ℕ) (y : EntryState) → entry_of (Sent sender ∷ past) d s ≡ y → forwards (Sent sender ∷ past) d s ≡ ready_with (delivers_by_msis past d) (is_on past d) y
 ready_held sender past d s y e =
-    ap (λ m. ready_with m (is_on (Sent sender ∷ past) d) (entry_of (Sent sender ∷ past) d s)) (modes sender past d).0 ∙ ap (λ o. ready_with (by_msis past d) o (entry_of (Sent sender ∷ past) d s)) (modes sender past d).1
-    ∙ ap (ready_with (by_msis past d) (is_on past d)) e
+    ap (λ m. ready_with m (is_on (Sent sender ∷ past) d) (entry_of (Sent sender ∷ past) d s)) (modes sender past d).0 ∙ ap (λ o. ready_with (delivers_by_msis past d) o (entry_of (Sent sender ∷ past) d s)) (modes sender past d).1
+    ∙ ap (ready_with (delivers_by_msis past d) (is_on past d)) e
 
 -- a source that is forwarded
 ready_one : (b msi on : Bool) (x : EntryState) → ready_with msi on (cond (b && msi) (with_deed msi Forwarded x) x) ≡ (not (true && b) && ready_with msi on x)
@@ -77,8 +77,8 @@ ready_one false msi on x = refl
 
 ready_sent : (sender : Sender) (past : Past) (d : DomainName) (s : ℕ) → forwards (Sent sender ∷ past) d s ≡ (not (same_sender sender (BySource d s)) && forwards past d s)
 ready_sent (ByGenMsi e) past d s = ready_held (ByGenMsi e) past d s (entry_of past d s) (sent_elsewhere (ByGenMsi e) past d s refl)
-ready_sent (BySource Root t) past Root s = ready_held (BySource Root t) past Root s _ (forwarded t past Root s) ∙ ready_one (nat_eq t s) (by_msis past Root) (is_on past Root) (entry_of past Root s)
-ready_sent (BySource Child t) past Child s = ready_held (BySource Child t) past Child s _ (forwarded t past Child s) ∙ ready_one (nat_eq t s) (by_msis past Child) (is_on past Child) (entry_of past Child s)
+ready_sent (BySource Root t) past Root s = ready_held (BySource Root t) past Root s _ (forwarded t past Root s) ∙ ready_one (nat_eq t s) (delivers_by_msis past Root) (is_on past Root) (entry_of past Root s)
+ready_sent (BySource Child t) past Child s = ready_held (BySource Child t) past Child s _ (forwarded t past Child s) ∙ ready_one (nat_eq t s) (delivers_by_msis past Child) (is_on past Child) (entry_of past Child s)
 ready_sent (BySource Root t) past Child s = ready_held (BySource Root t) past Child s (entry_of past Child s) (sent_elsewhere (BySource Root t) past Child s refl)
 ready_sent (BySource Child t) past Root s = ready_held (BySource Child t) past Root s (entry_of past Root s) (sent_elsewhere (BySource Child t) past Root s refl)
 
@@ -96,21 +96,21 @@ does_send_sent (BySource e t) past (BySource d s) = ready_sent (BySource e t) pa
 -- when the first MSI is sent, the others wait
 pub senders_left : (past : Past) (sender : Sender) (later : List Sender) → senders past ≡ sender ∷ later → senders (Sent sender ∷ past) ≡ later
 senders_left past sender later list =
-    ap (λ n. filter (has_msi (Sent sender ∷ past)) (in_order n)) (sizes sender past)
-    ∙ filter_rest SendsBefore (has_msi past) (has_msi (Sent sender ∷ past)) (in_order (sources_in past)) later sender (all_in_order (sources_in past)) list
+    ap (λ n. filter (has_msi (Sent sender ∷ past)) (all_senders n)) (sizes sender past)
+    ∙ filter_rest SendsBefore (has_msi past) (has_msi (Sent sender ∷ past)) (all_senders (sources_in past)) later sender (all_in_order (sources_in past)) list
     (does_send_sent sender past sender ∙ ap (λ (b : Bool). not b && has_msi past sender) (same_itself sender))
     (λ x none. does_send_sent sender past x ∙ and_right (not (same_sender sender x)) (has_msi past x) none)
     (λ x before. does_send_sent sender past x ∙ ap (λ (b : Bool). not b && has_msi past x) (other_sender sender x before))
 
 another : (t : ℕ) (past : Past) (d : DomainName) (s : ℕ) → (t ≡ s → ⊥) → pending (Sent (BySource d t) ∷ past) d s ≡ pending past d s
 another t past d s other =
-    ap (λ (x : EntryState). x.source.pending) (forwarded t past d s) ∙ ap (λ b. (cond (b && by_msis past d) (with_deed (by_msis past d) Forwarded (entry_of past d s)) (entry_of past d s)).source.pending) (ne_eqb t s other)
+    ap (λ (x : EntryState). x.source.pending) (forwarded t past d s) ∙ ap (λ b. (cond (b && delivers_by_msis past d) (with_deed (delivers_by_msis past d) Forwarded (entry_of past d s)) (entry_of past d s)).source.pending) (ne_eqb t s other)
 
 -- a source that is sent is no longer pending, and nothing else of any source is changed
-pub sent_falls : (past : Past) (d : DomainName) (s : ℕ) → by_msis past d ≡ true → pending (Sent (BySource d s) ∷ past) d s ≡ false
+pub sent_falls : (past : Past) (d : DomainName) (s : ℕ) → delivers_by_msis past d ≡ true → pending (Sent (BySource d s) ∷ past) d s ≡ false
 sent_falls past d s by_msi =
-    ap (λ (x : EntryState). x.source.pending) (forwarded s past d s) ∙ ap (λ b. (cond (b && by_msis past d) (with_deed (by_msis past d) Forwarded (entry_of past d s)) (entry_of past d s)).source.pending) (eq-eqb s s refl)
-    ∙ ap (λ b. (cond b (with_deed (by_msis past d) Forwarded (entry_of past d s)) (entry_of past d s)).source.pending) by_msi ∙ forward_says (mode past d s) (by_msis past d) (input past d s) (pending past d s)
+    ap (λ (x : EntryState). x.source.pending) (forwarded s past d s) ∙ ap (λ b. (cond (b && delivers_by_msis past d) (with_deed (delivers_by_msis past d) Forwarded (entry_of past d s)) (entry_of past d s)).source.pending) (eq-eqb s s refl)
+    ∙ ap (λ b. (cond b (with_deed (delivers_by_msis past d) Forwarded (entry_of past d s)) (entry_of past d s)).source.pending) by_msi ∙ forward_says (mode past d s) (delivers_by_msis past d) (input past d s) (pending past d s)
 
 pub sent_stays : (sender : Sender) (past : Past) (d : DomainName) (s : ℕ) → (sender ≡ BySource d s → ⊥) → pending (Sent sender ∷ past) d s ≡ pending past d s
 sent_stays (ByGenMsi e) past d s other = ap (λ (x : EntryState). x.source.pending) (sent_elsewhere (ByGenMsi e) past d s refl)
@@ -123,8 +123,8 @@ sent_stays (BySource Child t) past Child s other = another t past Child s (λ e.
 
 target_sent : (sender : Sender) (past : Past) (d : DomainName) (s : ℕ) → target (Sent sender ∷ past) d s ≡ target past d s
 unfolding target newest
-target_sent sender past Root s = same_target (owns past Root s) (by_msis past Root) (target past Root s) ((entry-idle past Root s).target)
-target_sent sender past Child s = same_target (owns past Child s) (by_msis past Child) (target past Child s) ((entry-idle past Child s).target)
+target_sent sender past Root s = same_target (is_active_in past Root s) (delivers_by_msis past Root) (target past Root s) ((entry-idle past Root s).target)
+target_sent sender past Child s = same_target (is_active_in past Child s) (delivers_by_msis past Child) (target past Child s) ((entry-idle past Child s).target)
 
 genmsi_sent : (sender : Sender) (past : Past) (d : DomainName) → genmsi_of (Sent sender ∷ past) d ≡ genmsi_of past d
 unfolding newest
@@ -161,7 +161,7 @@ none_wait past = left_by (senders past) past refl
 
 -- and nothing at first
 pub begun_none : senders [] ≡ []
-unfolding newest genmsi_waits in_order
+unfolding newest genmsi_waits all_senders
 begun_none = refl
 
 none_begun_by : (h n : ℕ) (x : Sender) → has_msi (Made h n ∷ []) x ≡ false
@@ -170,7 +170,7 @@ none_begun_by h n (ByGenMsi d) = refl
 none_begun_by h n (BySource d s) = refl
 
 pub none_begun : (h n : ℕ) → senders (Made h n ∷ []) ≡ []
-none_begun h n = filter_none (has_msi (Made h n ∷ [])) (in_order (sources_in (Made h n ∷ []))) (λ x m. none_begun_by h n x)
+none_begun h n = filter_none (has_msi (Made h n ∷ [])) (all_senders (sources_in (Made h n ∷ []))) (λ x m. none_begun_by h n x)
 
 -- between lines nothing waits
 pub none_between : (h : History) → senders (acts_of h) ≡ []

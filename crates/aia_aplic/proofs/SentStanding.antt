@@ -6,7 +6,7 @@ use Rattle.aia_model.specs.declared.domain_name.DomainName.{DomainName}
 use Rattle.aia_model.specs.Act.{Past, newest}
 use Rattle.aia_model.specs.declared.domain_name.DomainName.TheVariants.{Root, Child}
 use Rattle.aia_model.specs.Act.Act.{Sent}
-use Rattle.aia_model.specs.SourceOf.{harts_in, sources_in, is_on, by_msis, genmsi_of, genmsi_waits}
+use Rattle.aia_model.specs.SourceOf.{harts_in, sources_in, is_on, delivers_by_msis, genmsi_of, genmsi_waits}
 use Rattle.aia_aplic.specs.Side.{entry_of, DomainStands}
 use Rattle.std.proofs.lemmas.Iterator.Adapters.{option_map_id}
 use Rattle.aia_source.specs.Wired.SourceDeed.{Forwarded}
@@ -29,11 +29,11 @@ sent-stands_other sender d past name genmsi source stands =
     still-stands (Sent sender) d past name (keeps_quiet (Sent sender) d d past name (quiet_sent sender past name genmsi) refl stands) (λ s low. sent_elsewhere sender past name s source) stands
 
 -- of a source
-pub forwarded-stands : (t : ℕ) (d e : DomainState) (past : Past) (name : DomainName) → by_msis past name ≡ true → EachSource d.sources e.sources (changed_at t (with_deed true Forwarded)) → e ≡ with_sources d e.sources
+pub forwarded-stands : (t : ℕ) (d e : DomainState) (past : Past) (name : DomainName) → delivers_by_msis past name ≡ true → EachSource d.sources e.sources (changed_at t (with_deed true Forwarded)) → e ≡ with_sources d e.sources
     → DomainStands d past name → DomainStands e (Sent (BySource name t) ∷ past) name
 forwarded-stands t d e past name by_msi each rest stands =
     stands-after (Sent (BySource name t)) d e past name (changed_at t (with_deed true Forwarded)) (keeps_quiet (Sent (BySource name t)) d e past name (quiet_sent (BySource name t) past name refl) rest stands) each
-    (λ s low. by_mode (nat_eq t s) (by_msis past name) (entry_of past name s) by_msi ∙ sym (forwarded t past name s)) stands
+    (λ s low. by_mode (nat_eq t s) (delivers_by_msis past name) (entry_of past name s) by_msi ∙ sym (forwarded t past name s)) stands
   where
     by_mode : (b msi : Bool) (x : EntryState) → msi ≡ true → cond b (with_deed true Forwarded x) x ≡ cond (b && msi) (with_deed msi Forwarded x) x
     by_mode true true x e = refl
@@ -42,7 +42,7 @@ forwarded-stands t d e past name by_msi each rest stands =
 
 -- of genmsi
 sent_genmsi : (past : Past) (name : DomainName) → (harts_in (Sent (ByGenMsi name) ∷ past) ≡ harts_in past) × (sources_in (Sent (ByGenMsi name) ∷ past) ≡ sources_in past) × (is_on (Sent (ByGenMsi name) ∷ past) name ≡ is_on past name)
-    × (by_msis (Sent (ByGenMsi name) ∷ past) name ≡ by_msis past name) × (genmsi_of (Sent (ByGenMsi name) ∷ past) name ≡ genmsi_of past name) × (genmsi_waits (Sent (ByGenMsi name) ∷ past) name ≡ false)
+    × (delivers_by_msis (Sent (ByGenMsi name) ∷ past) name ≡ delivers_by_msis past name) × (genmsi_of (Sent (ByGenMsi name) ∷ past) name ≡ genmsi_of past name) × (genmsi_waits (Sent (ByGenMsi name) ∷ past) name ≡ false)
 unfolding newest genmsi_waits
 sent_genmsi past Root = (refl, refl, refl, refl, refl, refl)
 sent_genmsi past Child = (refl, refl, refl, refl, refl, refl)

@@ -19,7 +19,7 @@ use Rattle.aia_model.specs.declared.sender.Sender.{Sender}
 use Rattle.aia_model.specs.declared.sender.Sender.TheVariants.{ByGenMsi, BySource}
 use Rattle.aia_model.specs.Act.Act.{Made, Driven, Written, Loaded, Sent}
 use Rattle.aia_model.specs.Sent.{domain_of_sender}
-use Rattle.aia_model.specs.SourceOf.{harts_in, own_read, top, by_msis, is_on, is_signalled, idelivery_told, idelivery_of, iforce_told, iforce_of, ithreshold_of, only}
+use Rattle.aia_model.specs.SourceOf.{harts_in, own_read, top, delivers_by_msis, is_on, is_signalled, idelivery_told, idelivery_of, iforce_told, iforce_of, ithreshold_of, only}
 use Rattle.aia_aplic.specs.Side.{control, SideState, SideStands, IsNewSide}
 use Rattle.aia_aplic.specs.Aplic.{AplicState, AplicStands, IsNewAplic}
 use Rattle.aia_aplic.specs.Controls.{EachControl, is_control, hart_of_register, control_after, control_at, claimed_at}
@@ -157,14 +157,14 @@ side-claimed hart a e controls past name low claims each rest stands = record {
   controls = controls-after (Loaded name (ClaimI hart)) a.controls controls past name (claimed_at a.domain hart) (harts_loaded name (ClaimI hart) past) claims (λ h small. goes h (cases_eq hart h) ∙ sym (claimed_control hart past name h small)) stands.controls;
 }
   where
-    own : claimed_at a.domain hart hart (control past name hart) ≡ cond (nat_eq hart hart) (control_claimed (by_msis past name) (top past name hart) (control past name hart)) (control past name hart)
+    own : claimed_at a.domain hart hart (control past name hart) ≡ cond (nat_eq hart hart) (control_claimed (delivers_by_msis past name) (top past name hart) (control past name hart)) (control past name hart)
     own =
         ap (λ (c : IdcState). cond (nat_eq hart hart) (control_claimed a.domain.msi (top_shown c a.domain hart) (control past name hart)) (control past name hart)) (sym (control_is a past name hart low stands))
         ∙ ap (λ (o : Option Pair). cond (nat_eq hart hart) (control_claimed a.domain.msi o (control past name hart)) (control past name hart)) (top_is a past name hart low stands)
         ∙ ap (λ m. cond (nat_eq hart hart) (control_claimed m (top past name hart) (control past name hart)) (control past name hart)) stands.domain.msi
 
-    goes : (h : ℕ) → (hart ≡ h) ⊎ (hart ≢ h) → claimed_at a.domain hart h (control past name h) ≡ cond (nat_eq hart h) (control_claimed (by_msis past name) (top past name h) (control past name h)) (control past name h)
-    goes h (inl e) = subst (λ k. claimed_at a.domain hart k (control past name k) ≡ cond (nat_eq hart k) (control_claimed (by_msis past name) (top past name k) (control past name k)) (control past name k)) e own
+    goes : (h : ℕ) → (hart ≡ h) ⊎ (hart ≢ h) → claimed_at a.domain hart h (control past name h) ≡ cond (nat_eq hart h) (control_claimed (delivers_by_msis past name) (top past name h) (control past name h)) (control past name h)
+    goes h (inl e) = subst (λ k. claimed_at a.domain hart k (control past name k) ≡ cond (nat_eq hart k) (control_claimed (delivers_by_msis past name) (top past name k) (control past name k)) (control past name k)) e own
     goes h (inr ne) = cond-false _ _ _ (ne_eqb hart h ne) ∙ sym (cond-false _ _ _ (ne_eqb hart h ne))
 
 pub side-unclaimed : (hart : ℕ) (a : SideState) (past : Past) (name : DomainName) → length a.controls ≤ hart → SideStands a past name → SideStands a (Loaded name (ClaimI hart) ∷ past) name
@@ -251,9 +251,9 @@ topi_away hart a past name beyond stands = sym (cond-false _ _ _ (hart_away a pa
 pub signals_is : (hart : ℕ) (a : SideState) (past : Past) (name : DomainName) → hart < length a.controls → SideStands a past name → signals_hart (control_at a.controls hart) a.domain hart ≡ is_signalled past name hart
 signals_is hart a past name low stands =
     ap (λ m. not m && a.domain.on && (control_at a.controls hart).idelivery && ((control_at a.controls hart).iforce || is_some (top_shown (control_at a.controls hart) a.domain hart))) stands.domain.msi
-    ∙ ap (λ o. not (by_msis past name) && o && (control_at a.controls hart).idelivery && ((control_at a.controls hart).iforce || is_some (top_shown (control_at a.controls hart) a.domain hart))) stands.domain.on
-    ∙ ap (λ (t : Option Pair). not (by_msis past name) && is_on past name && (control_at a.controls hart).idelivery && ((control_at a.controls hart).iforce || is_some t)) (top_is a past name hart low stands)
-    ∙ ap (λ (c : IdcState). not (by_msis past name) && is_on past name && c.idelivery && (c.iforce || is_some (top past name hart))) (control_is a past name hart low stands)
+    ∙ ap (λ o. not (delivers_by_msis past name) && o && (control_at a.controls hart).idelivery && ((control_at a.controls hart).iforce || is_some (top_shown (control_at a.controls hart) a.domain hart))) stands.domain.on
+    ∙ ap (λ (t : Option Pair). not (delivers_by_msis past name) && is_on past name && (control_at a.controls hart).idelivery && ((control_at a.controls hart).iforce || is_some t)) (top_is a past name hart low stands)
+    ∙ ap (λ (c : IdcState). not (delivers_by_msis past name) && is_on past name && c.idelivery && (c.iforce || is_some (top past name hart))) (control_is a past name hart low stands)
 
 -- ---- the beginning
 

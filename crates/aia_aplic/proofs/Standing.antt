@@ -14,7 +14,7 @@ use Rattle.aia_model.specs.declared.domain_name.DomainName.{DomainName}
 use Rattle.aia_model.specs.Act.{Act, Past, is_domain, newest, when}
 use Rattle.aia_model.specs.declared.domain_name.DomainName.TheVariants.{Root, Child}
 use Rattle.aia_model.specs.Act.Act.{Made, Driven, Written, Loaded}
-use Rattle.aia_model.specs.SourceOf.{harts_in, sources_in, wire_of, enabled, target, pending, domaincfg_of, is_on, by_msis, genmsi_of, genmsi_waits, top}
+use Rattle.aia_model.specs.SourceOf.{harts_in, sources_in, wire_of, enabled, target, pending, domaincfg_of, is_on, delivers_by_msis, genmsi_of, genmsi_waits, top}
 use Rattle.aia_direct.specs.Idc.{claimed_top}
 use Rattle.aia_aplic.specs.Side.{entry_of, DomainStands}
 use Rattle.std.proofs.lemmas.Iterator.Adapters.{option_map_id}
@@ -32,7 +32,7 @@ pub record Keeps (d e : DomainState) (a : Act) (past : Past) (name : DomainName)
   pub harts_in : harts_in (a ∷ past) ≡ harts_in past
   pub sources_in : sources_in (a ∷ past) ≡ sources_in past
   pub on : e.on ≡ is_on (a ∷ past) name
-  pub msi : e.msi ≡ by_msis (a ∷ past) name
+  pub msi : e.msi ≡ delivers_by_msis (a ∷ past) name
   pub genmsi : e.genmsi ≡ genmsi_of (a ∷ past) name
   pub genmsi_waits : e.genmsi_waits ≡ genmsi_waits (a ∷ past) name
 
@@ -63,7 +63,7 @@ is_plain reg = true
 
 -- the same domain but for its sources, where the act says nothing of it
 abbrev pub IsQuiet : Act → Past → DomainName → Type 0
-IsQuiet a past name = (harts_in (a ∷ past) ≡ harts_in past) × (sources_in (a ∷ past) ≡ sources_in past) × (is_on (a ∷ past) name ≡ is_on past name) × (by_msis (a ∷ past) name ≡ by_msis past name) × (genmsi_of (a ∷ past) name ≡ genmsi_of past name) × (genmsi_waits (a ∷ past) name ≡ genmsi_waits past name)
+IsQuiet a past name = (harts_in (a ∷ past) ≡ harts_in past) × (sources_in (a ∷ past) ≡ sources_in past) × (is_on (a ∷ past) name ≡ is_on past name) × (delivers_by_msis (a ∷ past) name ≡ delivers_by_msis past name) × (genmsi_of (a ∷ past) name ≡ genmsi_of past name) × (genmsi_waits (a ∷ past) name ≡ genmsi_waits past name)
 
 pub keeps_quiet : (a : Act) (d e : DomainState) (past : Past) (name : DomainName) → IsQuiet a past name → e ≡ with_sources d e.sources → DomainStands d past name → Keeps d e a past name
 keeps_quiet a d e past name quiet rest stands = record {
@@ -133,12 +133,12 @@ unfolding newest
 cfg_written v past Root = refl
 cfg_written v past Child = refl
 
-genmsi_at_cfg : (v : ℕ) (past : Past) (name : DomainName) → genmsi_of (Written name DomainCfg v ∷ past) name ≡ unwrap_or (when (not (same_bool (by_msis past name) (is_by_msi (domaincfg_kept v)))) 0) (genmsi_of past name)
+genmsi_at_cfg : (v : ℕ) (past : Past) (name : DomainName) → genmsi_of (Written name DomainCfg v ∷ past) name ≡ unwrap_or (when (not (same_bool (delivers_by_msis past name) (is_by_msi (domaincfg_kept v)))) 0) (genmsi_of past name)
 unfolding newest
 genmsi_at_cfg v past Root = refl
 genmsi_at_cfg v past Child = refl
 
-genmsi_written : (v : ℕ) (past : Past) (name : DomainName) → genmsi_of (Written name GenMsi v ∷ past) name ≡ unwrap_or (when (by_msis past name) (genmsi_kept (harts_in past) v)) (genmsi_of past name)
+genmsi_written : (v : ℕ) (past : Past) (name : DomainName) → genmsi_of (Written name GenMsi v ∷ past) name ≡ unwrap_or (when (delivers_by_msis past name) (genmsi_kept (harts_in past) v)) (genmsi_of past name)
 unfolding newest
 genmsi_written v past Root = refl
 genmsi_written v past Child = refl
@@ -152,15 +152,15 @@ waits_now : (msi waits : Bool) → cond msi true waits ≡ settle (cond msi Ask 
 waits_now true waits = refl
 waits_now false waits = refl
 
-waits_at_cfg : (v : ℕ) (past : Past) (name : DomainName) → cond (same_bool (by_msis past name) (is_by_msi (domaincfg_kept v))) (genmsi_waits past name) false ≡ genmsi_waits (Written name DomainCfg v ∷ past) name
+waits_at_cfg : (v : ℕ) (past : Past) (name : DomainName) → cond (same_bool (delivers_by_msis past name) (is_by_msi (domaincfg_kept v))) (genmsi_waits past name) false ≡ genmsi_waits (Written name DomainCfg v ∷ past) name
 unfolding genmsi_waits
-waits_at_cfg v past Root = waits_no_more (same_bool (by_msis past Root) (is_by_msi (domaincfg_kept v))) (genmsi_waits past Root)
-waits_at_cfg v past Child = waits_no_more (same_bool (by_msis past Child) (is_by_msi (domaincfg_kept v))) (genmsi_waits past Child)
+waits_at_cfg v past Root = waits_no_more (same_bool (delivers_by_msis past Root) (is_by_msi (domaincfg_kept v))) (genmsi_waits past Root)
+waits_at_cfg v past Child = waits_no_more (same_bool (delivers_by_msis past Child) (is_by_msi (domaincfg_kept v))) (genmsi_waits past Child)
 
-waits_written : (v : ℕ) (past : Past) (name : DomainName) → cond (by_msis past name) true (genmsi_waits past name) ≡ genmsi_waits (Written name GenMsi v ∷ past) name
+waits_written : (v : ℕ) (past : Past) (name : DomainName) → cond (delivers_by_msis past name) true (genmsi_waits past name) ≡ genmsi_waits (Written name GenMsi v ∷ past) name
 unfolding genmsi_waits
-waits_written v past Root = waits_now (by_msis past Root) (genmsi_waits past Root)
-waits_written v past Child = waits_now (by_msis past Child) (genmsi_waits past Child)
+waits_written v past Root = waits_now (delivers_by_msis past Root) (genmsi_waits past Root)
+waits_written v past Child = waits_now (delivers_by_msis past Child) (genmsi_waits past Child)
 
 same_size : (reg : DomainReg) (v : ℕ) (past : Past) (name : DomainName) → (harts_in (Written name reg v ∷ past) ≡ harts_in past) × (sources_in (Written name reg v ∷ past) ≡ sources_in past)
 unfolding newest
@@ -183,7 +183,7 @@ cfg_stays : (v : ℕ) (past : Past) (name : DomainName) → is_on (Written name 
 unfolding newest
 cfg_stays v past name = refl
 
-msi_stays : (v : ℕ) (past : Past) (name : DomainName) → by_msis (Written name GenMsi v ∷ past) name ≡ by_msis past name
+msi_stays : (v : ℕ) (past : Past) (name : DomainName) → delivers_by_msis (Written name GenMsi v ∷ past) name ≡ delivers_by_msis past name
 unfolding newest
 msi_stays v past name = refl
 
@@ -206,9 +206,9 @@ keeps_own DomainCfg v d e past name rest stands =
       on = ap (λ (x : DomainState). x.on) rest ∙ after.2 ∙ ap enables (sym (cfg_written v past name));
       msi = ap (λ (x : DomainState). x.msi) rest ∙ msi_after (same_bool d.msi (is_by_msi cfg)) (enables cfg) (is_by_msi cfg) d refl ∙ ap is_by_msi (sym (cfg_written v past name));
       genmsi = ap (λ (x : DomainState). x.genmsi) rest ∙ after.3 ∙ ap (λ m. unwrap_or (when (not (same_bool m (is_by_msi cfg))) 0) d.genmsi) stands.msi
-          ∙ ap (λ g. unwrap_or (when (not (same_bool (by_msis past name) (is_by_msi cfg))) 0) g) stands.genmsi ∙ sym (genmsi_at_cfg v past name);
+          ∙ ap (λ g. unwrap_or (when (not (same_bool (delivers_by_msis past name) (is_by_msi cfg))) 0) g) stands.genmsi ∙ sym (genmsi_at_cfg v past name);
       genmsi_waits = ap (λ (x : DomainState). x.genmsi_waits) rest ∙ after.4 ∙ ap (λ m. cond (same_bool m (is_by_msi cfg)) d.genmsi_waits false) stands.msi
-          ∙ ap (λ b. cond (same_bool (by_msis past name) (is_by_msi cfg)) b false) stands.genmsi_waits ∙ waits_at_cfg v past name;
+          ∙ ap (λ b. cond (same_bool (delivers_by_msis past name) (is_by_msi cfg)) b false) stands.genmsi_waits ∙ waits_at_cfg v past name;
     }
 keeps_own GenMsi v d e past name rest stands =
     let after = after_genmsi d.msi (genmsi_kept d.harts v) d in
@@ -221,15 +221,15 @@ keeps_own GenMsi v d e past name rest stands =
       on = ap (λ (x : DomainState). x.on) rest ∙ after.2 ∙ stands.on ∙ sym (cfg_stays v past name);
       msi = ap (λ (x : DomainState). x.msi) rest ∙ after.3 ∙ stands.msi ∙ sym (msi_stays v past name);
       genmsi = ap (λ (x : DomainState). x.genmsi) rest ∙ after.4 ∙ ap (λ m. unwrap_or (when m (genmsi_kept d.harts v)) d.genmsi) stands.msi
-          ∙ ap (λ n. unwrap_or (when (by_msis past name) (genmsi_kept n v)) d.genmsi) stands.harts ∙ ap (λ g. unwrap_or (when (by_msis past name) (genmsi_kept (harts_in past) v)) g) stands.genmsi
+          ∙ ap (λ n. unwrap_or (when (delivers_by_msis past name) (genmsi_kept n v)) d.genmsi) stands.harts ∙ ap (λ g. unwrap_or (when (delivers_by_msis past name) (genmsi_kept (harts_in past) v)) g) stands.genmsi
           ∙ sym (genmsi_written v past name);
-      genmsi_waits = ap (λ (x : DomainState). x.genmsi_waits) rest ∙ after.5 ∙ ap (λ m. cond m true d.genmsi_waits) stands.msi ∙ ap (λ b. cond (by_msis past name) true b) stands.genmsi_waits ∙ waits_written v past name;
+      genmsi_waits = ap (λ (x : DomainState). x.genmsi_waits) rest ∙ after.5 ∙ ap (λ m. cond m true d.genmsi_waits) stands.msi ∙ ap (λ b. cond (delivers_by_msis past name) true b) stands.genmsi_waits ∙ waits_written v past name;
     }
 keeps_own reg v d e past name rest stands = keeps_quiet (Written name reg v) d e past name (quiet_own reg v past name refl) rest stands
 
 -- what the write makes of a source
 written : (reg : DomainReg) (v : ℕ) (past : Past) (name : DomainName) (s : ℕ) → s < suc (sources_in past)
-    → entry_of (Written name reg v ∷ past) name s ≡ source_changed (is_domain name Child) (harts_in past) (by_msis past name) reg v s (entry_of past name s)
+    → entry_of (Written name reg v ∷ past) name s ≡ source_changed (is_domain name Child) (harts_in past) (delivers_by_msis past name) reg v s (entry_of past name s)
 written reg v past Root s low = root_written reg v past s low
 written reg v past Child s low = child_written reg v past s low
 
@@ -269,7 +269,7 @@ top_claimed : (msi : Bool) (o : Option Pair) (s : ℕ) (x : EntryState) → (msi
 top_claimed false o s x none = refl
 top_claimed true o s x none = ap (λ (p : Option Pair). claimed_top p s x) (none refl) ∙ sym (ap (λ (p : Option Pair). cond (is_top p s) (with_deed true Claimed x) x) (none refl))
 
-msi_shows_none : (past : Past) (name : DomainName) (hart : ℕ) → by_msis past name ≡ true → top past name hart ≡ None
+msi_shows_none : (past : Past) (name : DomainName) (hart : ℕ) → delivers_by_msis past name ≡ true → top past name hart ≡ None
 msi_shows_none past name hart e = cond-true _ _ _ e
 
 -- a claim by a hart that is there
@@ -277,9 +277,9 @@ pub claimed-stands : (hart : ℕ) (o : Option Pair) (d e : DomainState) (past : 
     → EachSource d.sources e.sources (claimed_top o) → e ≡ with_sources d e.sources → DomainStands d past name → DomainStands e (Loaded name (ClaimI hart) ∷ past) name
 claimed-stands hart o d e past name there shown each rest stands =
     stands-after (Loaded name (ClaimI hart)) d e past name (claimed_top o) (keeps_quiet (Loaded name (ClaimI hart)) d e past name (quiet_loaded name (ClaimI hart) past name) rest stands) each
-    (λ s low. top_claimed (by_msis past name) o s (entry_of past name s) (λ m. shown ∙ msi_shows_none past name hart m)
-    ∙ ap (λ (p : Option Pair). cond (is_top p s) (with_deed (by_msis past name) Claimed (entry_of past name s)) (entry_of past name s)) shown
-    ∙ sym (claimed hart past name s ∙ ap (λ (b : Bool). cond (b && is_top (top past name hart) s) (with_deed (by_msis past name) Claimed (entry_of past name s)) (entry_of past name s)) there)) stands
+    (λ s low. top_claimed (delivers_by_msis past name) o s (entry_of past name s) (λ m. shown ∙ msi_shows_none past name hart m)
+    ∙ ap (λ (p : Option Pair). cond (is_top p s) (with_deed (delivers_by_msis past name) Claimed (entry_of past name s)) (entry_of past name s)) shown
+    ∙ sym (claimed hart past name s ∙ ap (λ (b : Bool). cond (b && is_top (top past name hart) s) (with_deed (delivers_by_msis past name) Claimed (entry_of past name s)) (entry_of past name s)) there)) stands
 
 -- ---- the beginning
 
@@ -292,7 +292,7 @@ new_size : (h n : ℕ) → (harts_in (Made h n ∷ []) ≡ h) × (sources_in (Ma
 unfolding newest
 new_size h n = (refl, refl)
 
-new_domaincfg : (h n : ℕ) (name : DomainName) → (is_on (Made h n ∷ []) name ≡ false) × (by_msis (Made h n ∷ []) name ≡ false) × (genmsi_of (Made h n ∷ []) name ≡ 0) × (genmsi_waits (Made h n ∷ []) name ≡ false)
+new_domaincfg : (h n : ℕ) (name : DomainName) → (is_on (Made h n ∷ []) name ≡ false) × (delivers_by_msis (Made h n ∷ []) name ≡ false) × (genmsi_of (Made h n ∷ []) name ≡ 0) × (genmsi_waits (Made h n ∷ []) name ≡ false)
 unfolding newest genmsi_waits
 new_domaincfg h n name = (refl, refl, refl, refl)
 

@@ -11,7 +11,7 @@ use Rattle.aia_source.specs.Registers.{first_target, target_kept, same_bool}
 use Rattle.aia_domain.specs.Entry.{EntryState, with_deed, with_enable, aimed}
 use Rattle.aia_model.specs.declared.domain_name.DomainName.{DomainName}
 use Rattle.aia_model.specs.Act.{Act, Past}
-use Rattle.aia_model.specs.SourceOf.{wire_of, is_delegated, mode, owns, by_msis, enable_said, enabled, target_told, target, deed, pending, top_in}
+use Rattle.aia_model.specs.SourceOf.{wire_of, is_delegated, mode, is_active_in, delivers_by_msis, enable_said, enabled, target_told, target, deed, pending, top_in}
 use Rattle.aia_aplic.specs.Side.{entry_of}
 
 -- the target that a step leaves, given whether the source was and is active, the delivery mode before and after, and what was
@@ -29,7 +29,7 @@ stepped mode' wire' msi msi' delegated' aim asked does x = record {
 }
 
 pub entry-step : (a : Act) (past : Past) (d : DomainName) (s : ℕ) →
-    entry_of (a ∷ past) d s ≡ stepped (mode (a ∷ past) d s) (wire_of (a ∷ past) s) (by_msis past d) (by_msis (a ∷ past) d) (is_delegated (a ∷ past) s) (target_told d s past a) (enable_said d s a) (deed (top_in (pending past d) past d) past a d s) (entry_of past d s)
+    entry_of (a ∷ past) d s ≡ stepped (mode (a ∷ past) d s) (wire_of (a ∷ past) s) (delivers_by_msis past d) (delivers_by_msis (a ∷ past) d) (is_delegated (a ∷ past) s) (target_told d s past a) (enable_said d s a) (deed (top_in (pending past d) past d) past a d s) (entry_of past d s)
 unfolding pending enabled target
 entry-step a past d s = refl
 
@@ -52,7 +52,7 @@ unfolding pending enabled target
 entry-idle [] d s = record { pending = λ e. refl; enabled = λ e. refl; target = λ e. refl }
 entry-idle (a ∷ past) d s = record {
   pending = λ e. said_nothing (mode (a ∷ past) d s) _ _ _ _ _ e;
-  enabled = λ e. no_enable (owns past d s) (owns (a ∷ past) d s) (enable_said d s a) (enabled past d s) e;
+  enabled = λ e. no_enable (is_active_in past d s) (is_active_in (a ∷ past) d s) (enable_said d s a) (enabled past d s) e;
   target = λ e. cond-true _ _ _ (ap not e);
 }
   where

@@ -6,7 +6,7 @@ use Rattle.aia_source.specs.Top.{Pair, least_pair, NamesItself, priority_of, pai
 use Rattle.aia_source.proofs.TopLemmas.{least_found, least_none}
 use Rattle.aia_model.specs.declared.domain_name.DomainName.{DomainName}
 use Rattle.aia_model.specs.Act.{Past}
-use Rattle.aia_model.specs.SourceOf.{sources_in, target, pending, by_msis, is_for, pair_in, top}
+use Rattle.aia_model.specs.SourceOf.{sources_in, target, pending, delivers_by_msis, is_for, pair_in, top}
 use Rattle.aia_aplic.specs.Tops.{IsOnTop}
 
 -- what it is to have a pair
@@ -33,7 +33,7 @@ chosen false o p e = (refl, e)
 
 pub on_top : (past : Past) (d : DomainName) (hart : ℕ) (p : Pair) → top past d hart ≡ Some p → IsOnTop past d hart p
 on_top past d hart p e =
-    let found = chosen (by_msis past d) (least_pair (pair_in (pending past d) past d hart) 1 (sources_in past)) p e in
+    let found = chosen (delivers_by_msis past d) (least_pair (pair_in (pending past d) past d hart) 1 (sources_in past)) p e in
     let least = least_found (pair_in (pending past d) past d hart) 1 (sources_in past) p (names_itself past d hart) found.1 in
     let has = has_pair (is_for past d hart p.1) (pending past d p.1) (target past d p.1) p.1 p least.is in
     record {
@@ -52,7 +52,7 @@ no_pair true true t s e f = absurd (cc)
 no_pair true false t s e f = refl
 no_pair false b t s e f = absurd (cc)
 
-pub none_on_top : (past : Past) (d : DomainName) (hart : ℕ) → by_msis past d ≡ false → top past d hart ≡ None → (s : ℕ) → 1 ≤ s → s ≤ sources_in past → is_for past d hart s ≡ true → pending past d s ≡ false
+pub none_on_top : (past : Past) (d : DomainName) (hart : ℕ) → delivers_by_msis past d ≡ false → top past d hart ≡ None → (s : ℕ) → 1 ≤ s → s ≤ sources_in past → is_for past d hart s ≡ true → pending past d s ≡ false
 none_on_top past d hart direct e s low high is =
     let empty : least_pair (pair_in (pending past d) past d hart) 1 (sources_in past) ≡ None = sym (cond-false _ _ _ direct) ∙ e in
     no_pair (is_for past d hart s) (pending past d s) (target past d s) s (least_none (pair_in (pending past d) past d hart) 1 (sources_in past) (names_itself past d hart) empty s low (omega arith)) is

@@ -9,7 +9,7 @@ use Rattle.aia_domain.specs.Domain.{DomainState}
 use Rattle.aia_direct.specs.Idc.{IdcState, candidate, candidate_at, top_shown}
 use Rattle.aia_model.specs.declared.domain_name.DomainName.{DomainName}
 use Rattle.aia_model.specs.Act.{Past}
-use Rattle.aia_model.specs.SourceOf.{sources_in, owns, enabled, target, pending, by_msis, ithreshold_of, pair_in, top}
+use Rattle.aia_model.specs.SourceOf.{sources_in, is_active_in, enabled, target, pending, delivers_by_msis, ithreshold_of, pair_in, top}
 use Rattle.aia_aplic.specs.Side.{entry_of, DomainStands}
 use Rattle.aia_aplic.proofs.Steps.{entry-idle}
 
@@ -34,14 +34,14 @@ same_pair true false h q false t s idle = refl
 same_pair false e h q false t s idle = refl
 
 pub top-stands : (c : IdcState) (d : DomainState) (past : Past) (name : DomainName) (hart : ℕ) → DomainStands d past name → c.ithreshold ≡ ithreshold_of past name hart → top_shown c d hart ≡ top past name hart
-top-stands c d past name hart stands limit = ap (λ (b : Bool). cond b None (least_pair (candidate_at d.sources hart c.ithreshold) 1 (length d.sources - 1))) stands.msi ∙ ap (cond (by_msis past name) None) least
+top-stands c d past name hart stands limit = ap (λ (b : Bool). cond b None (least_pair (candidate_at d.sources hart c.ithreshold) 1 (length d.sources - 1))) stands.msi ∙ ap (cond (delivers_by_msis past name) None) least
   where
     each : (s : ℕ) → 1 ≤ s → s < 1 + sources_in past → candidate_at d.sources hart c.ithreshold s ≡ pair_in (pending past name) past name hart s
     each s low high =
         let within : s < length d.sources = omega (arith, stands.count) in
         let is : entry_at d.sources s ≡ entry_of past name s = stands.each s (entry_at d.sources s) (slice_get-get_or d.sources s new_entry within) in
         ap (candidate hart c.ithreshold s) is ∙ ap (λ n. candidate hart n s (entry_of past name s)) limit
-        ∙ same_pair (pending past name s) (enabled past name s) (nat_eq (hart_of (target past name s)) hart) (lets_through (ithreshold_of past name hart) (priority_of (target past name s))) (owns past name s) (target past name s) s
+        ∙ same_pair (pending past name s) (enabled past name s) (nat_eq (hart_of (target past name s)) hart) (lets_through (ithreshold_of past name hart) (priority_of (target past name s))) (is_active_in past name s) (target past name s) s
         ((entry-idle past name s).enabled)
 
     least : least_pair (candidate_at d.sources hart c.ithreshold) 1 (length d.sources - 1) ≡ least_pair (pair_in (pending past name) past name hart) 1 (sources_in past)

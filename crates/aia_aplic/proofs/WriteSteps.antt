@@ -19,7 +19,7 @@ use Rattle.aia_domain.specs.Domain.{source_changed}
 use Rattle.aia_model.specs.Act.{Past, newest, when}
 use Rattle.aia_model.specs.declared.domain_name.DomainName.TheVariants.{Root, Child}
 use Rattle.aia_model.specs.Act.Act.{Written}
-use Rattle.aia_model.specs.SourceOf.{harts_in, sources_in, is_register_of, wire_of, root_sourcecfg_of, is_delegated, child_told, by_msis}
+use Rattle.aia_model.specs.SourceOf.{harts_in, sources_in, is_register_of, wire_of, root_sourcecfg_of, is_delegated, child_told, delivers_by_msis}
 use Rattle.aia_aplic.specs.Side.{entry_of}
 use Rattle.aia_aplic.proofs.Steps.{stepped, target_after, entry-step, entry-idle, IsIdle, step-nothing, step-deed, step-enable, step-aim, said_nothing, same_enable}
 
@@ -104,15 +104,15 @@ named_there past i s low = at (sources_in past) low
 
 -- a store to the root domain
 pub root_written : (reg : DomainReg) (v : ℕ) (past : Past) (s : ℕ) → s < suc (sources_in past)
-    → entry_of (Written Root reg v ∷ past) Root s ≡ source_changed false (harts_in past) (by_msis past Root) reg v s (entry_of past Root s)
+    → entry_of (Written Root reg v ∷ past) Root s ≡ source_changed false (harts_in past) (delivers_by_msis past Root) reg v s (entry_of past Root s)
 unfolding newest wire_of
-root_written DomainCfg v past s there = entry-step (Written Root DomainCfg v) past Root s ∙ touch-switch (by_msis past Root) (is_by_msi (domaincfg_kept v)) (entry_of past Root s) (entry-idle past Root s)
+root_written DomainCfg v past s there = entry-step (Written Root DomainCfg v) past Root s ∙ touch-switch (delivers_by_msis past Root) (is_by_msi (domaincfg_kept v)) (entry_of past Root s) (entry-idle past Root s)
 root_written (SourceCfg i) v past s there =
     entry-step (Written Root (SourceCfg i) v) past Root s
-    ∙ root-config (is_register_of past i s) (by_msis past Root) v (root_sourcecfg_of past s) (entry_of past Root s) (entry-idle past Root s) refl refl
-    ∙ ap (λ (b : Bool). cond b (sourcecfg_written false (by_msis past Root) v (entry_of past Root s)) (entry_of past Root s)) (named_there past i s there)
-root_written (Target i) v past s there = entry-step (Written Root (Target i) v) past Root s ∙ touch-aim (nat_eq i s) (harts_in past) (by_msis past Root) v (entry_of past Root s) (entry-idle past Root s)
-root_written reg v past s there = entry-step (Written Root reg v) past Root s ∙ touch-step (touch reg v s) (by_msis past Root) (entry_of past Root s) (entry-idle past Root s)
+    ∙ root-config (is_register_of past i s) (delivers_by_msis past Root) v (root_sourcecfg_of past s) (entry_of past Root s) (entry-idle past Root s) refl refl
+    ∙ ap (λ (b : Bool). cond b (sourcecfg_written false (delivers_by_msis past Root) v (entry_of past Root s)) (entry_of past Root s)) (named_there past i s there)
+root_written (Target i) v past s there = entry-step (Written Root (Target i) v) past Root s ∙ touch-aim (nat_eq i s) (harts_in past) (delivers_by_msis past Root) v (entry_of past Root s) (entry-idle past Root s)
+root_written reg v past s there = entry-step (Written Root reg v) past Root s ∙ touch-step (touch reg v s) (delivers_by_msis past Root) (entry_of past Root s) (entry-idle past Root s)
 
 -- ---- domain 1
 
@@ -156,22 +156,22 @@ child-config true false msi v c x idle e g none =
     ∙ step-deed msi x Configured idle ∙ inactive-stays msi x idle off ∙ sym (ap (λ (k : Bool). cond k (configured msi (mode_of (child_sourcecfg v)) x) x) g)
 
 pub child_written : (reg : DomainReg) (v : ℕ) (past : Past) (s : ℕ) → s < suc (sources_in past)
-    → entry_of (Written Child reg v ∷ past) Child s ≡ source_changed true (harts_in past) (by_msis past Child) reg v s (entry_of past Child s)
+    → entry_of (Written Child reg v ∷ past) Child s ≡ source_changed true (harts_in past) (delivers_by_msis past Child) reg v s (entry_of past Child s)
 unfolding newest wire_of
-child_written DomainCfg v past s there = entry-step (Written Child DomainCfg v) past Child s ∙ touch-switch (by_msis past Child) (is_by_msi (domaincfg_kept v)) (entry_of past Child s) (entry-idle past Child s)
+child_written DomainCfg v past s there = entry-step (Written Child DomainCfg v) past Child s ∙ touch-switch (delivers_by_msis past Child) (is_by_msi (domaincfg_kept v)) (entry_of past Child s) (entry-idle past Child s)
 child_written (SourceCfg i) v past s there =
     entry-step (Written Child (SourceCfg i) v) past Child s
-    ∙ child-config (is_register_of past i s) (is_delegated past s) (by_msis past Child) v (newest (child_told s) past) (entry_of past Child s) (entry-idle past Child s) refl refl (child-none past s)
-    ∙ ap (λ (b : Bool). cond b (sourcecfg_written true (by_msis past Child) v (entry_of past Child s)) (entry_of past Child s)) (named_there past i s there)
-child_written (Target i) v past s there = entry-step (Written Child (Target i) v) past Child s ∙ touch-aim (nat_eq i s) (harts_in past) (by_msis past Child) v (entry_of past Child s) (entry-idle past Child s)
-child_written reg v past s there = entry-step (Written Child reg v) past Child s ∙ touch-step (touch reg v s) (by_msis past Child) (entry_of past Child s) (entry-idle past Child s)
+    ∙ child-config (is_register_of past i s) (is_delegated past s) (delivers_by_msis past Child) v (newest (child_told s) past) (entry_of past Child s) (entry-idle past Child s) refl refl (child-none past s)
+    ∙ ap (λ (b : Bool). cond b (sourcecfg_written true (delivers_by_msis past Child) v (entry_of past Child s)) (entry_of past Child s)) (named_there past i s there)
+child_written (Target i) v past s there = entry-step (Written Child (Target i) v) past Child s ∙ touch-aim (nat_eq i s) (harts_in past) (delivers_by_msis past Child) v (entry_of past Child s) (entry-idle past Child s)
+child_written reg v past s there = entry-step (Written Child reg v) past Child s ∙ touch-step (touch reg v s) (delivers_by_msis past Child) (entry_of past Child s) (entry-idle past Child s)
 
 -- ---- what a store to one domain makes of the other
 
 pub root_at_child_written : (reg : DomainReg) (v : ℕ) (past : Past) (s : ℕ) → entry_of (Written Child reg v ∷ past) Root s ≡ entry_of past Root s
 unfolding newest wire_of
-root_at_child_written GenMsi v past s = entry-step (Written Child GenMsi v) past Root s ∙ step-nothing (by_msis past Root) (entry_of past Root s) (entry-idle past Root s)
-root_at_child_written reg v past s = entry-step (Written Child reg v) past Root s ∙ step-nothing (by_msis past Root) (entry_of past Root s) (entry-idle past Root s)
+root_at_child_written GenMsi v past s = entry-step (Written Child GenMsi v) past Root s ∙ step-nothing (delivers_by_msis past Root) (entry_of past Root s) (entry-idle past Root s)
+root_at_child_written reg v past s = entry-step (Written Child reg v) past Root s ∙ step-nothing (delivers_by_msis past Root) (entry_of past Root s) (entry-idle past Root s)
 
 -- whether a source was and is delegated
 child-granted : (was is msi : Bool) (c : ℕ) (x : EntryState) → IsIdle x → x.source.mode ≡ mode_of c → x.delegated ≡ was → (was ≡ false → c ≡ 0)
@@ -191,12 +191,12 @@ child-kept true msi is was kept c c1 x idle e g w k none = ap (λ j. stepped (mo
 child-kept false msi is was kept c c1 x idle e g w k none = ap (λ m. stepped m x.source.wire msi msi (nat_eq c1 DELEGATED) None Nothing Untouched x) (sym e) ∙ ap (λ j. stepped x.source.mode x.source.wire msi msi j None Nothing Untouched x) (sym w ∙ sym g) ∙ step-nothing msi x idle
 
 pub child_at_root_config : (i v : ℕ) (past : Past) (s : ℕ) → s < suc (sources_in past)
-    → entry_of (Written Root (SourceCfg i) v ∷ past) Child s ≡ granted_at i (delegates (root_sourcecfg v)) (by_msis past Child) s (entry_of past Child s)
+    → entry_of (Written Root (SourceCfg i) v ∷ past) Child s ≡ granted_at i (delegates (root_sourcecfg v)) (delivers_by_msis past Child) s (entry_of past Child s)
 unfolding newest wire_of
 child_at_root_config i v past s there =
     entry-step (Written Root (SourceCfg i) v) past Child s
-    ∙ child-kept (is_register_of past i s) (by_msis past Child) (delegates (root_sourcecfg v)) (is_delegated past s) (root_sourcecfg v) (newest (child_told s) past) (root_sourcecfg_of past s) (entry_of past Child s) (entry-idle past Child s) refl refl refl refl (child-none past s)
-    ∙ ap (λ (b : Bool). cond b (granted (delegates (root_sourcecfg v)) (by_msis past Child) (entry_of past Child s)) (entry_of past Child s)) (named_there past i s there)
+    ∙ child-kept (is_register_of past i s) (delivers_by_msis past Child) (delegates (root_sourcecfg v)) (is_delegated past s) (root_sourcecfg v) (newest (child_told s) past) (root_sourcecfg_of past s) (entry_of past Child s) (entry-idle past Child s) refl refl refl refl (child-none past s)
+    ∙ ap (λ (b : Bool). cond b (granted (delegates (root_sourcecfg v)) (delivers_by_msis past Child) (entry_of past Child s)) (entry_of past Child s)) (named_there past i s there)
 
 abbrev pub is_config : DomainReg → Bool
 is_config (SourceCfg i) = true
@@ -205,4 +205,4 @@ is_config reg = false
 pub child_at_root_written : (reg : DomainReg) (v : ℕ) (past : Past) (s : ℕ) → is_config reg ≡ false → entry_of (Written Root reg v ∷ past) Child s ≡ entry_of past Child s
 unfolding newest wire_of
 child_at_root_written (SourceCfg i) v past s e = cc
-child_at_root_written reg v past s e = entry-step (Written Root reg v) past Child s ∙ step-nothing (by_msis past Child) (entry_of past Child s) (entry-idle past Child s)
+child_at_root_written reg v past s e = entry-step (Written Root reg v) past Child s ∙ step-nothing (delivers_by_msis past Child) (entry_of past Child s) (entry-idle past Child s)

@@ -7,7 +7,7 @@ use Rattle.aia_direct.specs.Idc.{IdcState, new_idc}
 use Rattle.aia_model.specs.declared.domain_name.DomainName.{DomainName}
 use Rattle.aia_model.specs.Act.{Past, is_domain}
 use Rattle.aia_model.specs.declared.domain_name.DomainName.TheVariants.{Child}
-use Rattle.aia_model.specs.SourceOf.{harts_in, sources_in, wire_of, is_delegated, mode, is_on, by_msis, enabled, target, pending, genmsi_of, genmsi_waits, idelivery_of, iforce_of, ithreshold_of}
+use Rattle.aia_model.specs.SourceOf.{harts_in, sources_in, wire_of, is_delegated, mode, is_on, delivers_by_msis, enabled, target, pending, genmsi_of, genmsi_waits, idelivery_of, iforce_of, ithreshold_of}
 
 -- What the past makes of a source in a domain.
 abbrev pub entry_of : Past → DomainName → ℕ → EntryState
@@ -23,7 +23,7 @@ pub record DomainStands (d : DomainState) (past : Past) (name : DomainName) : Ty
   pub leaf : d.leaf ≡ is_domain name Child
   pub harts : d.harts ≡ harts_in past
   pub on : d.on ≡ is_on past name
-  pub msi : d.msi ≡ by_msis past name
+  pub msi : d.msi ≡ delivers_by_msis past name
   pub genmsi : d.genmsi ≡ genmsi_of past name
   pub genmsi_waits : d.genmsi_waits ≡ genmsi_waits past name
   pub count : length d.sources ≡ suc (sources_in past)

@@ -3,13 +3,13 @@ use Rattle.std.specs.Prelude.{◌≡◌, ℕ, ◌≤◌, true, false}
 use Rattle.aia_source.specs.Top.{Pair, ComesFirst, priority_of}
 use Rattle.aia_model.specs.declared.domain_name.DomainName.{DomainName}
 use Rattle.aia_model.specs.Act.{Past}
-use Rattle.aia_model.specs.SourceOf.{sources_in, target, pending, by_msis, is_for}
+use Rattle.aia_model.specs.SourceOf.{sources_in, target, pending, delivers_by_msis, is_for}
 
 -- A pair is that of a pending source that is the hart's, in a domain that delivers directly, and
 -- comes before the pair of each such source: by priority, then by number.
 -- AIA 1.0, APLIC, "Interrupt delivery directly by the APLIC".
 pub record IsOnTop (past : Past) (d : DomainName) (hart : ℕ) (p : Pair) : Type 0 where
-  pub direct : by_msis past d ≡ false
+  pub direct : delivers_by_msis past d ≡ false
   pub some : 1 ≤ p.1
   pub within : p.1 ≤ sources_in past
   pub waits : pending past d p.1 ≡ true

@@ -21,7 +21,7 @@ ghost use Rattle.aia_msiaddr.specs.Registers.{are_locked};
 ghost use Rattle.aia_model.specs.AddressOf.{addresses_of};
 ghost use Rattle.aia_model.specs.declared.domain_name.DomainName.TheVariants.{Root, Child};
 ghost use Rattle.aia_model.specs.Act.Act.{Written, Sent};
-ghost use Rattle.aia_model.specs.SourceOf.{is_delegated, sourcecfg_of, mode, owns, input, by_msis, enabled, target, pending, sources_in, genmsi_waits, is_for, top};
+ghost use Rattle.aia_model.specs.SourceOf.{is_delegated, sourcecfg_of, mode, is_active_in, input, delivers_by_msis, enabled, target, pending, sources_in, genmsi_waits, is_for, top};
 
 /// Whatever has happened, a source at a level mode, in a domain that delivers directly, is pending
 /// exactly while its rectified input is high.
@@ -29,14 +29,15 @@ ghost use Rattle.aia_model.specs.SourceOf.{is_delegated, sourcecfg_of, mode, own
 /// AIA 1.0, APLIC, "Precise effects on interrupt-pending bits".
 pub fn a_level_source_follows_its_input()
     ensures { (past : Past) (d : DomainName) (s : ℕ) → is_level (mode past d s) ≡ true
-        → by_msis past d ≡ false → pending past d s ≡ input past d s }
+        → delivers_by_msis past d ≡ false → pending past d s ≡ input past d s }
 {}
 
 /// Whatever has happened, no source is active in both domains.
 ///
 /// AIA 1.0, APLIC, "Interrupt domains".
 pub fn a_source_has_one_owner_at_most()
-    ensures { (past : Past) (s : ℕ) → (owns past Root s && owns past Child s) ≡ false }
+    ensures { (past : Past) (s : ℕ)
+        → (is_active_in past Root s && is_active_in past Child s) ≡ false }
 {}
 
 /// Whatever has happened, in a domain in which a source is not active its input, its pending bit,
@@ -44,13 +45,13 @@ pub fn a_source_has_one_owner_at_most()
 ///
 /// AIA 1.0, APLIC, "Memory-mapped control region for an interrupt domain". Our profile: the input.
 pub fn what_is_not_owned_is_zero()
-    ensures input { (past : Past) (d : DomainName) (s : ℕ) → owns past d s ≡ false
+    ensures input { (past : Past) (d : DomainName) (s : ℕ) → is_active_in past d s ≡ false
         → input past d s ≡ false }
-    ensures pending { (past : Past) (d : DomainName) (s : ℕ) → owns past d s ≡ false
+    ensures pending { (past : Past) (d : DomainName) (s : ℕ) → is_active_in past d s ≡ false
         → pending past d s ≡ false }
-    ensures enabled { (past : Past) (d : DomainName) (s : ℕ) → owns past d s ≡ false
+    ensures enabled { (past : Past) (d : DomainName) (s : ℕ) → is_active_in past d s ≡ false
         → enabled past d s ≡ false }
-    ensures target { (past : Past) (d : DomainName) (s : ℕ) → owns past d s ≡ false
+    ensures target { (past : Past) (d : DomainName) (s : ℕ) → is_active_in past d s ≡ false
         → target past d s ≡ 0 }
 {}
 
@@ -83,11 +84,11 @@ pub fn what_is_not_delegated_is_zero_in_the_child()
 ///
 /// AIA 1.0, APLIC, "Precise effects on interrupt-pending bits".
 pub fn only_a_wire_makes_a_rise()
-    ensures stays { (past : Past) (d : DomainName) (i v s : ℕ) → owns past d s ≡ true
-        → owns (Written d (SourceCfg i) v ∷ past) d s ≡ true
+    ensures stays { (past : Past) (d : DomainName) (i v s : ℕ) → is_active_in past d s ≡ true
+        → is_active_in (Written d (SourceCfg i) v ∷ past) d s ≡ true
         → is_level (mode (Written d (SourceCfg i) v ∷ past) d s) ≡ false
         → pending (Written d (SourceCfg i) v ∷ past) d s ≡ pending past d s }
-    ensures begins { (past : Past) (d : DomainName) (i v s : ℕ) → owns past d s ≡ false
+    ensures begins { (past : Past) (d : DomainName) (i v s : ℕ) → is_active_in past d s ≡ false
         → is_level (mode (Written d (SourceCfg i) v ∷ past) d s) ≡ false
         → pending (Written d (SourceCfg i) v ∷ past) d s ≡ false }
     ensures unasked { (past : Past) (e d : DomainName) (reg : DomainReg) (v s : ℕ) →
@@ -103,7 +104,7 @@ pub fn only_a_wire_makes_a_rise()
 pub fn the_source_on_top_is_the_least_of_the_harts()
     ensures found { (past : Past) (d : DomainName) (hart : ℕ) (p : Pair)
         → top past d hart ≡ Some p → IsOnTop past d hart p }
-    ensures none { (past : Past) (d : DomainName) (hart : ℕ) → by_msis past d ≡ false
+    ensures none { (past : Past) (d : DomainName) (hart : ℕ) → delivers_by_msis past d ≡ false
         → ◌≡◌ {A = Option Pair} (top past d hart) None → (s : ℕ) → 1 ≤ s → s ≤ sources_in past
         → is_for past d hart s ≡ true → pending past d s ≡ false }
 {}
@@ -147,7 +148,7 @@ pub fn nothing_waits_between_lines()
 ///
 /// AIA 1.0, APLIC, "Interrupt forwarding by MSIs".
 pub fn a_source_that_is_sent_is_no_longer_pending()
-    ensures falls { (past : Past) (d : DomainName) (s : ℕ) → by_msis past d ≡ true
+    ensures falls { (past : Past) (d : DomainName) (s : ℕ) → delivers_by_msis past d ≡ true
         → pending (Sent (BySource d s) ∷ past) d s ≡ false }
     ensures stays { (past : Past) (sender : Sender) (d : DomainName) (s : ℕ)
         → (sender ≡ BySource d s → ⊥) → pending (Sent sender ∷ past) d s ≡ pending past d s }

@@ -13,7 +13,7 @@ use Rattle.aia_csr.specs.declared.access.Access.{Access}
 use Rattle.aia_csr.specs.declared.access.Access.TheVariants as reaches
 
 -- What an access to mireg or sireg reaches, by the register that the select number names. One that
--- doesn't exist is illegal, but at a guest it raises a virtual-instruction fault.
+-- doesn't exist is illegal, but at a guest it raises a virtual-instruction exception.
 -- AIA 1.0, IMSIC, "Indirectly accessed interrupt-file registers". Profile: a number outside 0x70 to
 -- 0xff is refused in the same way.
 abbrev pub register_access : Level → FileReg → Access

@@ -3,7 +3,7 @@ ghost use Rattle.aia_csr.specs.Access.{access_of, IsInTable, ReachesUsable, regi
 
 use aia_regs::{Csr, FileReg, Level, Op, file_reg};
 
-/// What an access reaches, or the fault that it raises.
+/// What an access reaches, or the exception that it raises.
 #[derive(Clone, Copy, Debug, PartialEq, Eq)]
 pub enum Access {
     /// The select number.
@@ -18,15 +18,15 @@ pub enum Access {
     Sip,
     /// The enabled majors.
     Sie,
-    /// An illegal-instruction fault.
+    /// An illegal-instruction exception.
     Illegal,
-    /// A virtual-instruction fault.
+    /// A virtual-instruction exception.
     Virtual,
 }
 
-/// Decides what the access reaches, or which fault it raises, given the select number and whether
-/// hvictl's VTI is 1, which only a guest's `sip` and `sie` ask for. At machine level and at the
-/// host's supervisor level the CSR is `Select`, `Reg` or `Topei`.
+/// Decides what the access reaches, or which exception it raises, given the select number and
+/// whether hvictl's VTI is 1, which only a guest's `sip` and `sie` ask for. At machine level and at
+/// the host's supervisor level the CSR is `Select`, `Reg` or `Topei`.
 ///
 /// AIA 1.0, IMSIC, and Interrupts for Virtual Machines (VS Level).
 pub fn decide(level: Level, csr: Csr, op: Op, select: u64, vti: bool) -> Access

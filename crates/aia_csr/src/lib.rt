@@ -1,4 +1,4 @@
-//! Which register an access to a CSR reaches, or which fault it raises.
+//! Which register an access to a CSR reaches, or which exception it raises.
 #![tactic(auto)]
 
 mod access;

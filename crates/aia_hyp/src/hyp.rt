@@ -68,7 +68,7 @@ impl Hyp {
 
     /// Does a CSR instruction of a hart at a level of the host, `Select`, `Reg` or `Topei`, and
     /// answers what the CSR read before it. `Err` is `Range` where the hart isn't there, and
-    /// `Illegal` where the access raises an illegal-instruction fault; nothing is changed then.
+    /// `Illegal` where the access raises an illegal-instruction exception; nothing is changed then.
     ///
     /// AIA 1.0, IMSIC, "Indirectly accessed interrupt-file registers".
     pub fn host(&mut self, level: Level, hart: u64, csr: Csr, op: Op) -> Result<u64, Refusal>

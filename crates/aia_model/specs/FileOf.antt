@@ -13,7 +13,7 @@ use Rattle.aia_model.specs.FileAfter.FileDeed.{Makes, Accesses, Stores, Rests}
 -- ---- which files there are
 
 -- An interrupt file of a machine, by what it serves: a hart at machine level or at supervisor
--- level.
+-- level (among the places of files, `Spot`, the latter is the host's file).
 pub data FileName : Type 0 where
   MachineFile : (hart : ℕ) → FileName
   SupervisorFile : (hart : ℕ) → FileName

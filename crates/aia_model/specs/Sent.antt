@@ -12,7 +12,7 @@ use Rattle.aia_model.specs.declared.sender.Sender.TheVariants.{ByGenMsi, BySourc
 use Rattle.aia_model.specs.Act.Act.{Sent}
 use Rattle.aia_msiaddr.specs.Registers.{AddressRegisters}
 use Rattle.aia_model.specs.AddressOf.{address_by, addresses_of}
-use Rattle.aia_model.specs.SourceOf.{sources_in, is_on, by_msis, enabled, target, pending, genmsi_of, genmsi_waits}
+use Rattle.aia_model.specs.SourceOf.{sources_in, is_on, delivers_by_msis, enabled, target, pending, genmsi_of, genmsi_waits}
 use Rattle.aia_model.specs.declared.line.Line.{Line}
 use Rattle.aia_model.specs.Event.{History}
 use Rattle.aia_model.specs.Event.Event.{Accepted}
@@ -23,12 +23,12 @@ use Rattle.aia_model.specs.Event.Event.{Accepted}
 -- the source is pending and enabled in it.
 -- AIA 1.0, APLIC, "Interrupt forwarding by MSIs".
 abbrev pub forwards : Past → DomainName → ℕ → Bool
-forwards past d s = by_msis past d && is_on past d && pending past d s && enabled past d s
+forwards past d s = delivers_by_msis past d && is_on past d && pending past d s && enabled past d s
 
 -- All senders that there may be, with so many wired sources, in the order in which they send:
 -- genmsi of both domains, then the sources by rising number. Profile: the order.
-unfoldable pub in_order : ℕ → List Sender
-in_order count =
+unfoldable pub all_senders : ℕ → List Sender
+all_senders count =
     ByGenMsi Root ∷ ByGenMsi Child
     ∷ flat_map (λ s. BySource Root s ∷ BySource Child s ∷ []) (range_with_len 1 count)
 
@@ -40,7 +40,7 @@ has_msi past (BySource d s) = forwards past d s
 -- All that waits to be sent, in the order in which it is sent.
 -- AIA 1.0, APLIC, "Interrupt forwarding by MSIs".
 abbrev pub senders : Past → List Sender
-senders past = filter (has_msi past) (in_order (sources_in past))
+senders past = filter (has_msi past) (all_senders (sources_in past))
 
 -- ---- their MSIs
 
@@ -49,6 +49,7 @@ abbrev pub register_of_sender : Past → Sender → ℕ
 register_of_sender past (ByGenMsi d) = genmsi_of past d
 register_of_sender past (BySource d s) = target past d s
 
+-- The domain that it is of.
 abbrev pub domain_of_sender : Sender → DomainName
 domain_of_sender (ByGenMsi d) = d
 domain_of_sender (BySource d s) = d
@@ -61,6 +62,7 @@ msi_by a d register = record {
   value = identity_of register;
 }
 
+-- The MSI of a sender, as things stand.
 abbrev pub msi_of : Past → Sender → Msi
 msi_of past sender =
     msi_by (addresses_of past) (domain_of_sender sender) (register_of_sender past sender)
@@ -71,6 +73,7 @@ waiting_msis past = map (msi_of past) (senders past)
 
 -- ---- all of it is sent
 
+-- Senders send, the first of a list first.
 abbrev pub sent_by : List Sender → Past → Past
 sent_by [] past = past
 sent_by (sender ∷ later) past = sent_by later (Sent sender ∷ past)
@@ -81,6 +84,7 @@ with_all_sent past = sent_by (senders past) past
 
 -- ---- the acts of a history
 
+-- An act, where there is one, happens.
 abbrev pub with_act : Option Act → Past → Past
 with_act None past = past
 with_act (Some a) past = a ∷ past

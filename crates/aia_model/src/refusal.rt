@@ -3,7 +3,7 @@
 pub enum Refusal {
     /// `range`: a number names nothing, or is past its limit.
     Range,
-    /// `illegal`: the access raises an illegal-instruction fault.
+    /// `illegal`: the access raises an illegal-instruction exception.
     Illegal,
     /// `fault`: the address is in no place that is there, or isn't aligned.
     Fault,

@@ -27,7 +27,7 @@ same_bool false b = not b
 
 -- A number with a one at bit b, or with none. Vocabulary.
 abbrev pub one_at : Bool → ℕ → ℕ
-one_at is b = if is then 2 ^ b else 0
+one_at bit b = if bit then 2 ^ b else 0
 
 -- Whether a register's index is a source's number: they are numbered from 1, and 0 is none's.
 abbrev pub is_number_of : ℕ → ℕ → Bool
@@ -47,11 +47,11 @@ domaincfg_kept v = domaincfg_with (is_one v IE) (is_one v DM)
 abbrev pub domaincfg_read : Bool → Bool → ℕ
 domaincfg_read ie dm = DOMAINCFG_ONES + domaincfg_with ie dm
 
--- Whether a domaincfg enables the domain's interrupts (IE), and whether it delivers them by MSIs
--- (DM).
+-- Whether a domaincfg enables the domain's interrupts: IE.
 abbrev pub enables : ℕ → Bool
 enables cfg = is_one cfg IE
 
+-- Whether the domain delivers by MSIs: DM.
 abbrev pub is_by_msi : ℕ → Bool
 is_by_msi cfg = is_one cfg DM
 

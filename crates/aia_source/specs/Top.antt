@@ -38,19 +38,21 @@ pub record IsLeast (candidate : ℕ → Option Pair) (from count : ℕ) (p : Pai
   pub least : (s : ℕ) (q : Pair) → from ≤ s → s < from + count → candidate s ≡ Some q
       → ComesFirst p q
 
--- The priority and the hart index of a target, and the identity of one by MSIs.
+-- The priority of a target in direct delivery.
 abbrev pub priority_of : ℕ → ℕ
 priority_of target = field target 7 0
 
+-- Its hart index.
 abbrev pub hart_of : ℕ → ℕ
 hart_of target = field target 31 18
 
+-- The identity of one by MSIs.
 abbrev pub identity_of : ℕ → ℕ
 identity_of target = field target 10 0
 
 -- The pair of a source with this target, where it is among those that are looked at.
 abbrev pub pair_if : Bool → ℕ → ℕ → Option Pair
-pair_if is target s = if is then Some (priority_of target, s) else None
+pair_if among target s = if among then Some (priority_of target, s) else None
 
 -- What topi reads: the number in bits 25:16, the priority in bits 7:0; 0 where no source is on top.
 abbrev pub topi_value : Option Pair → ℕ
