@@ -23,6 +23,8 @@ mod files;
 #[cfg(test)]
 mod hypervisor_core;
 #[cfg(test)]
+mod memory;
+#[cfg(test)]
 mod registers;
 #[cfg(test)]
 mod rows;
