@@ -1,6 +1,8 @@
 -- Words of a row of bytes: where they stand, and what one that is written changes.
-use Rattle.std.proofs.Common.{◌≡◌, ℕ, zero, suc, ◌+◌, ◌-◌, ◌*◌, ◌^◌, ◌<◌, ◌≤◌, List, [], ◌∷◌, ◌++◌, length, take, drop, replicate, get_or, refl, sym, ap, ◌∙◌, arith}
+use Rattle.std.proofs.Common.{◌≡◌, ℕ, zero, suc, ◌+◌, ◌-◌, ◌*◌, ◌/◌, ◌%◌, ◌^◌, ◌<◌, ◌≤◌, List, [], ◌∷◌, ◌++◌, length, take, drop, replicate, get_or, refl, sym, ap, ◌∙◌, arith}
 use Rattle.std.proofs.Math.ListN.{set}
+use Rattle.std.proofs.Math.Nat.{div-one}
+use Rattle.std.specs.Prelude.{slice_index}
 use Rattle.std.proofs.lemmas.List.{drop-drop, length-drop, drop_all, take_all, append-nil}
 use Rattle.byteorder.specs.Endian.{little_number, little_bytes}
 use Rattle.byteorder.specs.Numbers.{little_number-reads_back, little_from-append, little_from-take, length-bytes_low_first}
@@ -38,7 +40,7 @@ pub words_of_zeros : (n m : ℕ) → words_of n (replicate {A = ℕ} m 0) ≡ re
 words_of_zeros zero m = refl
 words_of_zeros (suc n) m = rw (word_of_zeros m, drop-zeros 8 m, words_of_zeros n (m - 8)) refl
 
-first_written : (v : ℕ) (rest : List ℕ) → v < 2 ^ 64 → word_in (bytes_in v ++ rest) ≡ v
+pub first_written : (v : ℕ) (rest : List ℕ) → v < 2 ^ 64 → word_in (bytes_in v ++ rest) ≡ v
 unfolding word_in bytes_in
 first_written v rest h = little_number-reads_back 8 v rest h
 
@@ -102,3 +104,20 @@ word_written at v bytes new h e =
     let none : drop n (drop at bytes) ≡ [] = drop_all n (drop at bytes) (omega (arith, length-drop at bytes)) in
     let whole : take n (drop at bytes) ≡ drop at bytes = take_all n (drop at bytes) (omega (arith, length-drop at bytes)) in
     rw (none, append-nil new) (ap (λ b. take at bytes ++ b) (rw (whole, drop-drop 8 at bytes) at e))
+
+-- ---- the bytes of a word
+
+pub bytes_of_word : (v : ℕ) → length (bytes_in v) ≡ 8
+bytes_of_word = length-bytes_in
+
+pub byte_of_word : (v b : ℕ) → b < 8 → slice_index (bytes_in v) b ≡ v / 256 ^ b % 256
+unfolding bytes_in
+byte_of_word v zero h = sym (ap (λ n. n % 256) (div-one v))
+byte_of_word v (suc zero) h = refl
+byte_of_word v (suc (suc zero)) h = refl
+byte_of_word v (suc (suc (suc zero))) h = refl
+byte_of_word v (suc (suc (suc (suc zero)))) h = refl
+byte_of_word v (suc (suc (suc (suc (suc zero))))) h = refl
+byte_of_word v (suc (suc (suc (suc (suc (suc zero)))))) h = refl
+byte_of_word v (suc (suc (suc (suc (suc (suc (suc zero))))))) h = refl
+byte_of_word v (suc (suc (suc (suc (suc (suc (suc (suc b)))))))) h = absurd (omega arith)
