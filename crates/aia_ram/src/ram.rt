@@ -24,6 +24,7 @@ impl Model for Ram {
 impl Ram {
     /// Makes memory of `len` bytes, all 0; bytes behind the last whole word are not reached.
     /// `Err`: there is no memory for it.
+    #[tactic(auto, using(crate::proofs::RamLemmas::zeros_are_words))]
     pub fn new(alloc: Global, len: usize) -> Result<Ram, AllocError>
         ensures { IfOk result (λ ram. ram ≡ replicate (len / 8) 0) }
     {
@@ -33,6 +34,7 @@ impl Ram {
 
     /// Tells whether a word begins at byte `at`: `at` is a multiple of 8, and all of the word is
     /// there.
+    #[tactic(auto, using(crate::proofs::RamLemmas::words_there))]
     pub fn fits(&self, at: usize) -> bool
         ensures { IsTrue result ↔ Fits self.now at }
     {
@@ -40,6 +42,7 @@ impl Ram {
     }
 
     /// Gives the word at byte `at`, where one begins.
+    #[tactic(auto, using(crate::proofs::RamLemmas::words_there, crate::proofs::RamLemmas::word_loaded))]
     pub fn load(&self, at: usize) -> u64
         requires { Fits self.now at }
         ensures { result ≡ slice_index self.now (at / 8) }
@@ -48,6 +51,7 @@ impl Ram {
     }
 
     /// Makes `v` the word at byte `at`, where one begins; every other word stays.
+    #[tactic(auto, using(crate::proofs::RamLemmas::words_there, crate::proofs::RamLemmas::word_stored))]
     pub fn store(&mut self, at: usize, v: u64)
         requires { Fits self.old at }
         ensures { self.new ≡ slice_set self.old (at / 8) v }
