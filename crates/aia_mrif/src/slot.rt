@@ -10,10 +10,13 @@ use aia_regs::limits::IDENTITIES;
 use aia_regs::requested;
 use aia_word::Bank;
 
-/// A slot of memory, lent for the accesses of one call.
+/// A slot of memory, which keeps a memory-resident interrupt file: memory is lent for the accesses
+/// of one call.
 #[derive(Drop)]
 pub struct SlotMut<'a> {
+    /// The memory, which has the slot.
     pub ram: &'a mut Ram,
+    /// The number of the slot, counted from 0.
     pub q: u32,
     ghost there: { HasSlot ram.now q },
 }
