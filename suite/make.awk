@@ -7,11 +7,20 @@ function fail(why) {
   exit 1
 }
 
+# A line as a text of Rust has it, between its quotation marks.
+function spelled(text) {
+  if (text ~ /["\\]/) fail("a line has a quotation mark or a backslash")
+  gsub(/\t/, "\\t", text)
+  gsub(/\r/, "\\r", text)
+  return text
+}
+
 # A text of Rust for a line, over as many lines of at most 100 columns as it needs.
 function quoted(text, column,    out, at, room) {
-  if (text ~ /["\\]/) fail("a line has a quotation mark or a backslash")
+  text = spelled(text)
   out = "\""
   room = 98 - column
+  if (length(text) >= room && text ~ /\\/) fail("a long line has a TAB or a CR")
   while (length(text) >= room) {
     for (at = room; at > 0 && substr(text, at, 1) != " "; at--) continue
     if (at == 0) at = room
@@ -49,7 +58,7 @@ function pair(i,    both) {
 
 function pairs(    i, out, all) {
   for (i = 1; i <= count; i++) {
-    all = all (i == 1 ? "" : ", ") "(\"" lines[i] "\", \"" answers[i] "\")"
+    all = all (i == 1 ? "" : ", ") "(\"" spelled(lines[i]) "\", \"" answers[i] "\")"
     out = out pair(i)
   }
   if (length(all) <= 60) return "[" all "]"
@@ -123,6 +132,10 @@ function take_line(    at) {
     sub(/ +$/, "", lines[count])
     answers[count] = substr($0, at + 4)
   }
+  # The bytes that an editor does not show, or that would stand at an end.
+  gsub(/\\t/, "\t", lines[count])
+  gsub(/\\r/, "\r", lines[count])
+  gsub(/\\s/, " ", lines[count])
   if (is_skipped(lines[count]) && answers[count] != "") fail("this line answers nothing")
   if (!is_skipped(lines[count]) && answers[count] == "") fail("what does this line answer?")
 }

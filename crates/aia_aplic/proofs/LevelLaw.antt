@@ -14,7 +14,7 @@ use Rattle.aia_model.specs.Act.{Past, newest, when}
 use Rattle.aia_model.specs.declared.sender.Sender.TheVariants.{ByGenMsi, BySource}
 use Rattle.aia_model.specs.declared.domain_name.DomainName.TheVariants.{Root, Child}
 use Rattle.aia_model.specs.Act.Act.{Made, Driven, Written, Loaded, Sent}
-use Rattle.aia_model.specs.SourceOf.{harts_in, is_register_of, wire_of, root_sourcecfg_of, is_delegated, child_told, mode, is_active_in, input, delivers_by_msis, pending, top}
+use Rattle.aia_model.specs.SourceOf.{harts_in, is_register_of, wire_of, root_sourcecfg_of, is_delegated, child_told, mode, input, delivers_by_msis, pending, top}
 use Rattle.aia_source.proofs.SourceLemmas.{unheard, followed, begun, changed, claimed}
 use Rattle.aia_aplic.proofs.WriteSteps.{same_bools}
 

@@ -1,6 +1,6 @@
 -- A source is active in one domain at most, and to delegate again what is delegated changes nothing.
 use Rattle.std.proofs.Common.{◌≡◌, ℕ, Bool, true, false, not, cond, ◌&&◌, ◌∷◌, nat_eq, None, unwrap_or, inl, inr, ap, sym, subst, ◌∙◌, refl}
-use Rattle.std.proofs.lemmas.Bool.{cases_eq, cases_Bool, ne_eqb, eqb-true, and_left, and_right, and_parts}
+use Rattle.std.proofs.lemmas.Bool.{cases_eq, ne_eqb, eqb-true, and_right, and_parts}
 use Rattle.aia_source.specs.Wired.{is_active}
 use Rattle.aia_source.specs.declared.kept.TheConstants.{DELEGATED}
 use Rattle.aia_source.specs.Registers.{mode_of, root_sourcecfg, delegates}

@@ -18,7 +18,6 @@ use Rattle.aia_source.specs.Registers.{legal_mode, root_sourcecfg, child_sourcec
 use Rattle.aia_domain.specs.declared.entry.Look.{Look}
 use Rattle.aia_domain.specs.declared.entry.Look.TheVariants as looks
 use Rattle.aia_domain.specs.Entry.{EntryState, sourcecfg_shown, bit_shown, bit_at_source}
-use Rattle.aia_domain.specs.Entry as kept
 use Rattle.aia_domain.specs.Domain.{DomainState, domain_read}
 use Rattle.aia_model.specs.declared.domain_name.DomainName.{DomainName}
 use Rattle.aia_model.specs.Act.{Past, is_domain, newest, when}

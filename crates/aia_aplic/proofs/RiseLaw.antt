@@ -1,5 +1,5 @@
 -- A write makes no rise.
-use Rattle.std.proofs.Common.{◌≡◌, ◌≢◌, ℕ, Option, Some, None, Bool, true, false, cond, ◌&&◌, ◌∷◌, unwrap_or, refl, ap}
+use Rattle.std.proofs.Common.{◌≡◌, ◌≢◌, ℕ, Option, Some, None, Bool, true, false, cond, ◌∷◌, refl}
 use Rattle.aia_regs.specs.declared.domain_registers.DomainReg.{DomainReg}
 use Rattle.aia_regs.specs.declared.domain_registers.DomainReg.TheVariants.{DomainCfg, SourceCfg}
 use Rattle.aia_regs.specs.Word.{settle}
@@ -7,16 +7,16 @@ use Rattle.aia_source.specs.declared.mode.Mode.{Mode}
 use Rattle.aia_source.specs.declared.mode.Mode.TheVariants.{Inactive, Detached, RisingEdge, FallingEdge, LevelHigh, LevelLow}
 use Rattle.aia_source.specs.Wired.{SourceDeed, is_active, is_level, detached_says, edge_says, says}
 use Rattle.aia_source.specs.Wired.SourceDeed.{LevelGiven, Set, Cleared, Claimed, Forwarded, Configured, Switched, Untouched}
-use Rattle.aia_source.specs.Registers.{domaincfg_kept, is_by_msi, root_sourcecfg, child_sourcecfg, mode_of, touch, deed_of_touch, same_bool}
+use Rattle.aia_source.specs.Registers.{domaincfg_kept, is_by_msi, touch, deed_of_touch, same_bool}
 use Rattle.aia_source.specs.declared.touch.Touch.{Touch}
 use Rattle.aia_source.specs.declared.touch.Touch.TheVariants.{SetPending, ClearPending, SetEnable, ClearEnable}
 use Rattle.aia_source.specs.Top.{Pair}
 use Rattle.aia_model.specs.declared.domain_name.DomainName.{DomainName}
-use Rattle.aia_model.specs.Act.{Past, newest, when}
+use Rattle.aia_model.specs.Act.{Past, newest}
 use Rattle.aia_model.specs.declared.domain_name.DomainName.TheVariants.{Root, Child}
 use Rattle.aia_model.specs.Act.Act.{Written}
 use Rattle.aia_aplic.proofs.Steps.{entry-idle}
-use Rattle.aia_model.specs.SourceOf.{is_register_of, root_sourcecfg_of, is_delegated, child_told, mode, is_active_in, input, delivers_by_msis, deed_of_write, deed, pending, top_in}
+use Rattle.aia_model.specs.SourceOf.{is_register_of, mode, is_active_in, input, delivers_by_msis, deed_of_write, deed, pending, top_in}
 
 -- ---- a sourcecfg at an active source
 

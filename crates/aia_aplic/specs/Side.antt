@@ -1,6 +1,6 @@
 -- What a domain keeps with the delivery controls of its harts, and when it stands for a past.
 -- Vocabulary.
-use Rattle.std.specs.Prelude.{◌≡◌, ℕ, suc, Bool, false, nat_eq, List, length, All, slice_get, Some}
+use Rattle.std.specs.Prelude.{◌≡◌, ℕ, suc, Bool, nat_eq, List, length, All, slice_get, Some}
 use Rattle.aia_domain.specs.Entry.{EntryState}
 use Rattle.aia_domain.specs.Domain.{DomainState, IsNewDomain}
 use Rattle.aia_direct.specs.Idc.{IdcState, new_idc}

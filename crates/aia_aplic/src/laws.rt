@@ -35,7 +35,7 @@ pub fn a_level_source_follows_its_input()
 /// Whatever has happened, no source is active in both domains.
 ///
 /// AIA 1.0, APLIC, "Interrupt domains".
-pub fn a_source_has_one_owner_at_most()
+pub fn a_source_is_active_in_one_domain_at_most()
     ensures { (past : Past) (s : ℕ)
         → (is_active_in past Root s && is_active_in past Child s) ≡ false }
 {}
@@ -44,7 +44,7 @@ pub fn a_source_has_one_owner_at_most()
 /// its enable bit and its target are 0.
 ///
 /// AIA 1.0, APLIC, "Memory-mapped control region for an interrupt domain". Our profile: the input.
-pub fn what_is_not_owned_is_zero()
+pub fn what_is_not_active_is_zero()
     ensures input { (past : Past) (d : DomainName) (s : ℕ) → is_active_in past d s ≡ false
         → input past d s ≡ false }
     ensures pending { (past : Past) (d : DomainName) (s : ℕ) → is_active_in past d s ≡ false

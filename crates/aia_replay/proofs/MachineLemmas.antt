@@ -3,7 +3,7 @@ use Rattle.std.proofs.Common.{◌≡◌, ◌≢◌, ℕ, ◌%◌, ◌<◌, ◌�
 use Rattle.std.specs.Option.{option_map, option_map_or}
 use Rattle.std.specs.Int.{is_in_range}
 use Rattle.std.specs.Prelude.{Result, Ok, Err, MatchResult}
-use Rattle.std.proofs.lemmas.Bool.{cond-true, cond-false, ltb-true, eqb-true}
+use Rattle.std.proofs.lemmas.Bool.{cond-false, ltb-true, eqb-true}
 use Rattle.std.proofs.lemmas.Bool.Decides.{nat_tests}
 use Rattle.aia_file.specs.InterruptFile.{signals}
 use Rattle.aia_model.specs.declared.line.Line.{Line}

@@ -254,8 +254,46 @@ pub fn lower_priority_numbers_come_first()
         ≡ answers_of LOWER_PRIORITY_NUMBERS_COME_FIRST }
 {}
 
+/// A claim that shows a source leaves iforce as it is, in either domain; one that shows nothing
+/// ends it.
+pub const CLAIM_OF_A_SOURCE_LEAVES_IFORCE: [(&str, &str); 27] = [
+    ("machine 1 0 63 8", "ok"),
+    ("st 0x0c000000 0x100", "ok"),
+    ("st 0x0c000004 1", "ok"),
+    ("st 0x0c003004 5", "ok"),
+    ("st 0x0c001edc 1", "ok"),
+    ("st 0x0c001cdc 1", "ok"),
+    ("st 0x0c004000 1", "ok"),
+    ("st 0x0c004004 1", "ok"),
+    ("ld 0x0c00401c", "0x00010005"),
+    ("ld 0x0c004004", "0x00000001"),
+    ("pins 0", "pins 1 0 0 0"),
+    ("ld 0x0c004018", "0x00000000"),
+    ("ld 0x0c004004", "0x00000001"),
+    ("ld 0x0c00401c", "0x00000000"),
+    ("ld 0x0c004004", "0x00000000"),
+    ("pins 0", "pins 0 0 0 0"),
+    ("st 0x0c000008 0x400", "ok"),
+    ("st 0x0c008008 6", "ok"),
+    ("st 0x0c009edc 2", "ok"),
+    ("wire 2 1", "ok"),
+    ("st 0x0c00c004 1", "ok"),
+    ("ld 0x0c00c01c", "0x00020001"),
+    ("ld 0x0c00c01c", "0x00020001"),
+    ("ld 0x0c00c004", "0x00000001"),
+    ("wire 2 0", "ok"),
+    ("ld 0x0c00c01c", "0x00000000"),
+    ("ld 0x0c00c004", "0x00000000"),
+];
+
+/// Proves that the model answers [`CLAIM_OF_A_SOURCE_LEAVES_IFORCE`] as it says.
+pub fn a_claim_of_a_source_leaves_iforce()
+    ensures { answers (script_of CLAIM_OF_A_SOURCE_LEAVES_IFORCE)
+        ≡ answers_of CLAIM_OF_A_SOURCE_LEAVES_IFORCE }
+{}
+
 /// All rows of this file, each with its name.
-pub const ROWS: [Row; 8] = [
+pub const ROWS: [Row; 9] = [
     Row {
         name: "TIES_AND_THRESHOLDS",
         pairs: &TIES_AND_THRESHOLDS,
@@ -287,5 +325,9 @@ pub const ROWS: [Row; 8] = [
     Row {
         name: "LOWER_PRIORITY_NUMBERS_COME_FIRST",
         pairs: &LOWER_PRIORITY_NUMBERS_COME_FIRST,
+    },
+    Row {
+        name: "CLAIM_OF_A_SOURCE_LEAVES_IFORCE",
+        pairs: &CLAIM_OF_A_SOURCE_LEAVES_IFORCE,
     },
 ];

@@ -124,8 +124,41 @@ pub fn files_and_domains_are_apart()
         ≡ answers_of FILES_AND_DOMAINS_ARE_APART }
 {}
 
+/// eidelivery keeps bit 0 of a write, so 2 and 0x40000000 leave a file off, and 3 turns it on.
+pub const EIDELIVERY_KEEPS_BIT_0: [(&str, &str); 24] = [
+    ("machine 1 0 63 8", "ok"),
+    ("h 0 csrrw siselect 0xc0", "0x0000000000000000"),
+    ("h 0 csrrw sireg 2", "0x0000000000000000"),
+    ("st 0x28000000 1", "ok"),
+    ("h 0 csrrw siselect 0x70", "0x00000000000000c0"),
+    ("h 0 csrrw sireg 2", "0x0000000000000000"),
+    ("h 0 csrr sireg", "0x0000000000000000"),
+    ("h 0 csrrw sireg 0x40000000", "0x0000000000000000"),
+    ("h 0 csrr sireg", "0x0000000000000000"),
+    ("pins 0", "pins 0 0 0 0"),
+    ("h 0 csrrw sireg 3", "0x0000000000000000"),
+    ("h 0 csrr sireg", "0x0000000000000001"),
+    ("pins 0", "pins 0 0 0 1"),
+    ("h 0 csrrs sireg 0x8000000000000002", "0x0000000000000001"),
+    ("h 0 csrrc sireg 0xfffffffffffffffe", "0x0000000000000001"),
+    ("h 0 csrr sireg", "0x0000000000000001"),
+    ("h 0 csrrw sireg 0xfffffffffffffffe", "0x0000000000000001"),
+    ("h 0 csrr sireg", "0x0000000000000000"),
+    ("pins 0", "pins 0 0 0 0"),
+    ("m 0 csrrw miselect 0x70", "0x0000000000000000"),
+    ("m 0 csrrw mireg 0x40000000", "0x0000000000000000"),
+    ("m 0 csrrs mireg 2", "0x0000000000000000"),
+    ("m 0 csrrw mireg 0xffffffff", "0x0000000000000000"),
+    ("m 0 csrr mireg", "0x0000000000000001"),
+];
+
+/// Proves that the model answers [`EIDELIVERY_KEEPS_BIT_0`] as it says.
+pub fn eidelivery_keeps_bit_0()
+    ensures { answers (script_of EIDELIVERY_KEEPS_BIT_0) ≡ answers_of EIDELIVERY_KEEPS_BIT_0 }
+{}
+
 /// All rows of this file, each with its name.
-pub const ROWS: [Row; 5] = [
+pub const ROWS: [Row; 6] = [
     Row {
         name: "STORE_IS_CLAIMED",
         pairs: &STORE_IS_CLAIMED,
@@ -145,5 +178,9 @@ pub const ROWS: [Row; 5] = [
     Row {
         name: "FILES_AND_DOMAINS_ARE_APART",
         pairs: &FILES_AND_DOMAINS_ARE_APART,
+    },
+    Row {
+        name: "EIDELIVERY_KEEPS_BIT_0",
+        pairs: &EIDELIVERY_KEEPS_BIT_0,
     },
 ];

@@ -231,8 +231,33 @@ pub fn identities_up_to_1023()
     ensures { answers (script_of IDENTITIES_UP_TO_1023) ≡ answers_of IDENTITIES_UP_TO_1023 }
 {}
 
+/// Memory has six pages from 0x80000000 on: what is there is guarded, and before it, behind it and
+/// at its copies above 2^32 there is no place.
+pub const MEMORY_IS_GUARDED: [(&str, &str); 15] = [
+    ("ld 0x80000000", "nomachine"),
+    ("machine 1 0 63 8", "ok"),
+    ("ld 0x80000000", "guarded"),
+    ("st 0x80000000 1", "guarded"),
+    ("ld 0x80003000", "guarded"),
+    ("ld 0x80005ffc", "guarded"),
+    ("st 0x80005ffc 1", "guarded"),
+    ("ld 0x80000002", "fault"),
+    ("st 0x80005ffe 1", "fault"),
+    ("ld 0x7ffffffc", "fault"),
+    ("st 0x7ffffffc 1", "fault"),
+    ("ld 0x80006000", "fault"),
+    ("st 0x80006000 1", "fault"),
+    ("ld 0x80007ffc", "fault"),
+    ("ld 0x180000000", "fault"),
+];
+
+/// Proves that the model answers [`MEMORY_IS_GUARDED`] as it says.
+pub fn memory_is_guarded()
+    ensures { answers (script_of MEMORY_IS_GUARDED) ≡ answers_of MEMORY_IS_GUARDED }
+{}
+
 /// All rows of this file, each with its name.
-pub const ROWS: [Row; 10] = [
+pub const ROWS: [Row; 11] = [
     Row {
         name: "GREATEST_MACHINE",
         pairs: &GREATEST_MACHINE,
@@ -272,5 +297,9 @@ pub const ROWS: [Row; 10] = [
     Row {
         name: "IDENTITIES_UP_TO_1023",
         pairs: &IDENTITIES_UP_TO_1023,
+    },
+    Row {
+        name: "MEMORY_IS_GUARDED",
+        pairs: &MEMORY_IS_GUARDED,
     },
 ];

@@ -320,8 +320,262 @@ pub fn no_direct_delivery_by_msis()
         ≡ answers_of NO_DIRECT_DELIVERY_BY_MSIS }
 {}
 
+/// An MSI carries eleven bits of identity: a source's and `genmsi`'s, above 255, and none where the
+/// file has no such identity.
+pub const MSIS_OF_GREAT_IDENTITIES: [(&str, &str); 27] = [
+    ("machine 1 0 511 8", "ok"),
+    ("st 0x0c001bc0 0x24000", "ok"),
+    ("st 0x0c001bc8 0x28000", "ok"),
+    ("st 0x0c000000 0x104", "ok"),
+    ("st 0x0c008000 4", "ok"),
+    ("st 0x0c000004 1", "ok"),
+    ("st 0x0c003004 0x100", "ok"),
+    ("ld 0x0c003004", "0x00000100"),
+    ("st 0x0c001edc 1", "ok"),
+    ("st 0x0c001cdc 1", "ok"),
+    ("st 0x0c003000 0x1ff", "ok"),
+    ("ld 0x0c003000", "0x000001ff"),
+    ("st 0x0c003000 0x201", "ok"),
+    ("ld 0x0c003000", "0x00000201"),
+    ("st 0x0c00b000 0x12c", "ok"),
+    ("m 0 csrrw miselect 0x80", "0x0000000000000000"),
+    ("m 0 csrr mireg", "0x0000000000000000"),
+    ("m 0 csrrw miselect 0x86", "0x0000000000000080"),
+    ("m 0 csrr mireg", "0x0000000000000000"),
+    ("m 0 csrrw miselect 0x88", "0x0000000000000086"),
+    ("m 0 csrr mireg", "0x0000000000000001"),
+    ("m 0 csrrw miselect 0x8e", "0x0000000000000088"),
+    ("m 0 csrr mireg", "0x8000000000000000"),
+    ("h 0 csrrw siselect 0x80", "0x0000000000000000"),
+    ("h 0 csrr sireg", "0x0000000000000000"),
+    ("h 0 csrrw siselect 0x88", "0x0000000000000080"),
+    ("h 0 csrr sireg", "0x0000100000000000"),
+];
+
+/// Proves that the model answers [`MSIS_OF_GREAT_IDENTITIES`] as it says.
+pub fn msis_of_great_identities()
+    ensures { answers (script_of MSIS_OF_GREAT_IDENTITIES) ≡ answers_of MSIS_OF_GREAT_IDENTITIES }
+{}
+
+/// The last identity that a file can have, 2047, reaches a file by an MSI; the bits of `genmsi`
+/// above it, up to its hart, are read-only zero.
+pub const MSI_OF_THE_LAST_IDENTITY: [(&str, &str); 7] = [
+    ("machine 1 0 2047 1", "ok"),
+    ("st 0x0c001bc0 0x24000", "ok"),
+    ("st 0x0c000000 4", "ok"),
+    ("st 0x0c003000 0x3ffff", "ok"),
+    ("ld 0x0c003000", "0x000007ff"),
+    ("m 0 csrrw miselect 0xbe", "0x0000000000000000"),
+    ("m 0 csrr mireg", "0x8000000000000000"),
+];
+
+/// Proves that the model answers [`MSI_OF_THE_LAST_IDENTITY`] as it says.
+pub fn an_msi_of_the_last_identity()
+    ensures { answers (script_of MSI_OF_THE_LAST_IDENTITY) ≡ answers_of MSI_OF_THE_LAST_IDENTITY }
+{}
+
+/// In direct delivery `genmsi` keeps nothing and sends nothing, then or later; by MSIs it does
+/// both.
+pub const GENMSI_IN_DIRECT_DELIVERY: [(&str, &str); 22] = [
+    ("machine 1 0 63 8", "ok"),
+    ("st 0x0c001bc0 0x24000", "ok"),
+    ("st 0x0c001bc8 0x28000", "ok"),
+    ("m 0 csrrw miselect 0x80", "0x0000000000000000"),
+    ("h 0 csrrw siselect 0x80", "0x0000000000000000"),
+    ("st 0x0c003000 5", "ok"),
+    ("ld 0x0c003000", "0x00000000"),
+    ("st 0x0c00b000 5", "ok"),
+    ("ld 0x0c00b000", "0x00000000"),
+    ("m 0 csrr mireg", "0x0000000000000000"),
+    ("h 0 csrr sireg", "0x0000000000000000"),
+    ("st 0x0c000000 0x104", "ok"),
+    ("ld 0x0c003000", "0x00000000"),
+    ("m 0 csrr mireg", "0x0000000000000000"),
+    ("st 0x0c003000 6", "ok"),
+    ("ld 0x0c003000", "0x00000006"),
+    ("m 0 csrr mireg", "0x0000000000000040"),
+    ("st 0x0c000000 0x100", "ok"),
+    ("st 0x0c003000 7", "ok"),
+    ("ld 0x0c003000", "0x00000000"),
+    ("m 0 csrr mireg", "0x0000000000000040"),
+    ("h 0 csrr sireg", "0x0000000000000000"),
+];
+
+/// Proves that the model answers [`GENMSI_IN_DIRECT_DELIVERY`] as it says.
+pub fn genmsi_in_direct_delivery()
+    ensures { answers (script_of GENMSI_IN_DIRECT_DELIVERY) ≡ answers_of GENMSI_IN_DIRECT_DELIVERY }
+{}
+
+/// The page number of an MSI has 44 bits, 12 of them in the high registers: where one of those is 1
+/// the page is no file's.
+pub const HIGH_HALF_OF_THE_PAGE_NUMBER: [(&str, &str); 25] = [
+    ("machine 1 0 63 8", "ok"),
+    ("st 0x0c001bc0 0x24000", "ok"),
+    ("st 0x0c001bc4 1", "ok"),
+    ("ld 0x0c001bc4", "0x00000001"),
+    ("st 0x0c000000 4", "ok"),
+    ("st 0x0c003000 5", "ok"),
+    ("st 0x0c001bc4 0x800", "ok"),
+    ("ld 0x0c001bc4", "0x00000800"),
+    ("st 0x0c003000 6", "ok"),
+    ("st 0x0c001bc4 0", "ok"),
+    ("st 0x0c003000 7", "ok"),
+    ("m 0 csrrw miselect 0x80", "0x0000000000000000"),
+    ("m 0 csrr mireg", "0x0000000000000080"),
+    ("st 0x0c001bc8 0x28000", "ok"),
+    ("st 0x0c001bcc 1", "ok"),
+    ("ld 0x0c001bcc", "0x00000001"),
+    ("st 0x0c008000 4", "ok"),
+    ("st 0x0c00b000 5", "ok"),
+    ("st 0x0c001bcc 0x800", "ok"),
+    ("ld 0x0c001bcc", "0x00000800"),
+    ("st 0x0c00b000 6", "ok"),
+    ("st 0x0c001bcc 0", "ok"),
+    ("st 0x0c00b000 7", "ok"),
+    ("h 0 csrrw siselect 0x80", "0x0000000000000000"),
+    ("h 0 csrr sireg", "0x0000000000000080"),
+];
+
+/// Proves that the model answers [`HIGH_HALF_OF_THE_PAGE_NUMBER`] as it says.
+pub fn the_high_half_of_the_page_number()
+    ensures { answers (script_of HIGH_HALF_OF_THE_PAGE_NUMBER)
+        ≡ answers_of HIGH_HALF_OF_THE_PAGE_NUMBER }
+{}
+
+/// The group of a hart has HHXW bits, 0 to 7 of them, and what stands above them is dropped: with
+/// one bit hart 3 is in group 1, with two in group 3, whose page is no file's, and with none all
+/// harts are in group 0.
+pub const WIDTH_OF_A_GROUP: [(&str, &str); 24] = [
+    ("machine 4 0 63 8", "ok"),
+    ("st 0x0c000000 4", "ok"),
+    ("st 0x0c001bc0 0x20000", "ok"),
+    ("st 0x0c001bc4 0x02010000", "ok"),
+    ("ld 0x0c001bc4", "0x02010000"),
+    ("st 0x0c003000 0xc0005", "ok"),
+    ("st 0x0c001bc4 0x02020000", "ok"),
+    ("ld 0x0c001bc4", "0x02020000"),
+    ("st 0x0c003000 0xc0006", "ok"),
+    ("st 0x0c001bc4 0x02040000", "ok"),
+    ("ld 0x0c001bc4", "0x02040000"),
+    ("st 0x0c003000 0x40009", "ok"),
+    ("st 0x0c001bc0 0x24000", "ok"),
+    ("st 0x0c001bc4 0x1000", "ok"),
+    ("st 0x0c003000 0x80007", "ok"),
+    ("st 0x0c003000 0xc0008", "ok"),
+    ("m 0 csrrw miselect 0x80", "0x0000000000000000"),
+    ("m 0 csrr mireg", "0x00000000000002a0"),
+    ("m 1 csrrw miselect 0x80", "0x0000000000000000"),
+    ("m 1 csrr mireg", "0x0000000000000100"),
+    ("m 2 csrrw miselect 0x80", "0x0000000000000000"),
+    ("m 2 csrr mireg", "0x0000000000000000"),
+    ("m 3 csrrw miselect 0x80", "0x0000000000000000"),
+    ("m 3 csrr mireg", "0x0000000000000000"),
+];
+
+/// Proves that the model answers [`WIDTH_OF_A_GROUP`] as it says.
+pub fn the_width_of_a_group()
+    ensures { answers (script_of WIDTH_OF_A_GROUP) ≡ answers_of WIDTH_OF_A_GROUP }
+{}
+
+/// The group of a hart begins at bit LHXW, 0 to 15, of its index, and the bits below are its number
+/// in the group: at 0 hart 1 is group 1, at 2 and at 8 all harts are in group 0.
+pub const PLACE_OF_A_GROUP: [(&str, &str); 21] = [
+    ("machine 4 0 63 8", "ok"),
+    ("st 0x0c000000 4", "ok"),
+    ("st 0x0c001bc0 0x20000", "ok"),
+    ("st 0x0c001bc4 0x02010000", "ok"),
+    ("st 0x0c003000 0x40005", "ok"),
+    ("st 0x0c001bc4 0x02012000", "ok"),
+    ("ld 0x0c001bc4", "0x02012000"),
+    ("st 0x0c003000 0x80006", "ok"),
+    ("st 0x0c001bc4 0x02018000", "ok"),
+    ("ld 0x0c001bc4", "0x02018000"),
+    ("st 0x0c003000 0x40007", "ok"),
+    ("st 0x0c001bc0 0x24000", "ok"),
+    ("st 0x0c003000 0xc0008", "ok"),
+    ("m 0 csrrw miselect 0x80", "0x0000000000000000"),
+    ("m 0 csrr mireg", "0x0000000000000020"),
+    ("m 1 csrrw miselect 0x80", "0x0000000000000000"),
+    ("m 1 csrr mireg", "0x0000000000000000"),
+    ("m 2 csrrw miselect 0x80", "0x0000000000000000"),
+    ("m 2 csrr mireg", "0x0000000000000000"),
+    ("m 3 csrrw miselect 0x80", "0x0000000000000000"),
+    ("m 3 csrr mireg", "0x0000000000000100"),
+];
+
+/// Proves that the model answers [`PLACE_OF_A_GROUP`] as it says.
+pub fn the_place_of_a_group()
+    ensures { answers (script_of PLACE_OF_A_GROUP) ≡ answers_of PLACE_OF_A_GROUP }
+{}
+
+/// A group's number is shifted by HHXS + 12, HHXS 0 to 31: at 18, 10 and 31 group 1 is at no file's
+/// page; at 2 it is where the machine-level files are, at 3 where the supervisor files are.
+pub const SHIFT_OF_A_GROUP: [(&str, &str); 22] = [
+    ("machine 2 0 63 8", "ok"),
+    ("st 0x0c000000 4", "ok"),
+    ("st 0x0c001bc0 0x20000", "ok"),
+    ("st 0x0c001bc4 0x12010000", "ok"),
+    ("ld 0x0c001bc4", "0x12010000"),
+    ("st 0x0c003000 0x40005", "ok"),
+    ("st 0x0c001bc4 0x1f010000", "ok"),
+    ("ld 0x0c001bc4", "0x1f010000"),
+    ("st 0x0c003000 0x40006", "ok"),
+    ("st 0x0c001bc4 0x0a010000", "ok"),
+    ("ld 0x0c001bc4", "0x0a010000"),
+    ("st 0x0c003000 0x40007", "ok"),
+    ("st 0x0c001bc4 0x02010000", "ok"),
+    ("st 0x0c003000 0x40008", "ok"),
+    ("st 0x0c001bc4 0x03010000", "ok"),
+    ("st 0x0c003000 0x40009", "ok"),
+    ("m 0 csrrw miselect 0x80", "0x0000000000000000"),
+    ("m 0 csrr mireg", "0x0000000000000100"),
+    ("m 1 csrrw miselect 0x80", "0x0000000000000000"),
+    ("m 1 csrr mireg", "0x0000000000000000"),
+    ("h 0 csrrw siselect 0x80", "0x0000000000000000"),
+    ("h 0 csrr sireg", "0x0000000000000200"),
+];
+
+/// Proves that the model answers [`SHIFT_OF_A_GROUP`] as it says.
+pub fn the_shift_of_a_group()
+    ensures { answers (script_of SHIFT_OF_A_GROUP) ≡ answers_of SHIFT_OF_A_GROUP }
+{}
+
+/// A hart's number in its group is shifted by LHXS, 0 to 7, each domain by its own: at 4 hart 1 has
+/// the page where hart 2's supervisor file is, at 3 that of its own, at 7 no file's.
+pub const SHIFT_OF_A_HART: [(&str, &str); 24] = [
+    ("machine 3 0 63 8", "ok"),
+    ("st 0x0c000000 4", "ok"),
+    ("st 0x0c008000 4", "ok"),
+    ("st 0x0c001bc0 0x28000", "ok"),
+    ("st 0x0c001bc4 0x00402000", "ok"),
+    ("ld 0x0c001bc4", "0x00402000"),
+    ("st 0x0c003000 0x40005", "ok"),
+    ("st 0x0c001bc4 0x00702000", "ok"),
+    ("ld 0x0c001bc4", "0x00702000"),
+    ("st 0x0c003000 0x40006", "ok"),
+    ("st 0x0c001bc4 0x00302000", "ok"),
+    ("st 0x0c003000 0x40007", "ok"),
+    ("st 0x0c001bc8 0x28000", "ok"),
+    ("st 0x0c001bcc 0x00400000", "ok"),
+    ("ld 0x0c001bcc", "0x00400000"),
+    ("st 0x0c00b000 0x40009", "ok"),
+    ("st 0x0c001bcc 0x00700000", "ok"),
+    ("st 0x0c00b000 0x4000a", "ok"),
+    ("h 0 csrrw siselect 0x80", "0x0000000000000000"),
+    ("h 0 csrr sireg", "0x0000000000000000"),
+    ("h 1 csrrw siselect 0x80", "0x0000000000000000"),
+    ("h 1 csrr sireg", "0x0000000000000080"),
+    ("h 2 csrrw siselect 0x80", "0x0000000000000000"),
+    ("h 2 csrr sireg", "0x0000000000000220"),
+];
+
+/// Proves that the model answers [`SHIFT_OF_A_HART`] as it says.
+pub fn the_shift_of_a_hart()
+    ensures { answers (script_of SHIFT_OF_A_HART) ≡ answers_of SHIFT_OF_A_HART }
+{}
+
 /// All rows of this file, each with its name.
-pub const ROWS: [Row; 10] = [
+pub const ROWS: [Row; 18] = [
     Row {
         name: "LEVEL_SOURCE_BY_MSIS",
         pairs: &LEVEL_SOURCE_BY_MSIS,
@@ -361,5 +615,37 @@ pub const ROWS: [Row; 10] = [
     Row {
         name: "NO_DIRECT_DELIVERY_BY_MSIS",
         pairs: &NO_DIRECT_DELIVERY_BY_MSIS,
+    },
+    Row {
+        name: "MSIS_OF_GREAT_IDENTITIES",
+        pairs: &MSIS_OF_GREAT_IDENTITIES,
+    },
+    Row {
+        name: "MSI_OF_THE_LAST_IDENTITY",
+        pairs: &MSI_OF_THE_LAST_IDENTITY,
+    },
+    Row {
+        name: "GENMSI_IN_DIRECT_DELIVERY",
+        pairs: &GENMSI_IN_DIRECT_DELIVERY,
+    },
+    Row {
+        name: "HIGH_HALF_OF_THE_PAGE_NUMBER",
+        pairs: &HIGH_HALF_OF_THE_PAGE_NUMBER,
+    },
+    Row {
+        name: "WIDTH_OF_A_GROUP",
+        pairs: &WIDTH_OF_A_GROUP,
+    },
+    Row {
+        name: "PLACE_OF_A_GROUP",
+        pairs: &PLACE_OF_A_GROUP,
+    },
+    Row {
+        name: "SHIFT_OF_A_GROUP",
+        pairs: &SHIFT_OF_A_GROUP,
+    },
+    Row {
+        name: "SHIFT_OF_A_HART",
+        pairs: &SHIFT_OF_A_HART,
     },
 ];

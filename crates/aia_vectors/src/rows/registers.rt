@@ -349,8 +349,41 @@ pub fn addresses_of_domains()
     ensures { answers (script_of ADDRESSES_OF_DOMAINS) ≡ answers_of ADDRESSES_OF_DOMAINS }
 {}
 
+/// A number whose low ten or sixteen bits alone name a source names none, in each register that
+/// takes a source's number.
+pub const WHOLE_NUMBERS_OF_SOURCES: [(&str, &str); 23] = [
+    ("machine 1 0 63 8", "ok"),
+    ("st 0x0c000004 1", "ok"),
+    ("st 0x0c000020 1", "ok"),
+    ("st 0x0c002000 0x408", "ok"),
+    ("st 0x0c002000 0x10008", "ok"),
+    ("st 0x0c002000 0x80000001", "ok"),
+    ("st 0x0c002004 0x08040000", "ok"),
+    ("st 0x0c002004 0x08000100", "ok"),
+    ("st 0x0c002004 0x01000080", "ok"),
+    ("st 0x0c001cdc 0x408", "ok"),
+    ("st 0x0c001cdc 0x10008", "ok"),
+    ("ld 0x0c001c00", "0x00000000"),
+    ("st 0x0c001c00 0x102", "ok"),
+    ("st 0x0c001ddc 0x408", "ok"),
+    ("st 0x0c001ddc 0x10001", "ok"),
+    ("ld 0x0c001c00", "0x00000102"),
+    ("st 0x0c001edc 0x408", "ok"),
+    ("st 0x0c001edc 0x10001", "ok"),
+    ("ld 0x0c001e00", "0x00000000"),
+    ("st 0x0c001e00 0x102", "ok"),
+    ("st 0x0c001fdc 0x408", "ok"),
+    ("st 0x0c001fdc 0x10001", "ok"),
+    ("ld 0x0c001e00", "0x00000102"),
+];
+
+/// Proves that the model answers [`WHOLE_NUMBERS_OF_SOURCES`] as it says.
+pub fn sources_are_named_by_whole_numbers()
+    ensures { answers (script_of WHOLE_NUMBERS_OF_SOURCES) ≡ answers_of WHOLE_NUMBERS_OF_SOURCES }
+{}
+
 /// All rows of this file, each with its name.
-pub const ROWS: [Row; 9] = [
+pub const ROWS: [Row; 10] = [
     Row {
         name: "RESERVED_MODES_AND_CHILD_INDEXES",
         pairs: &RESERVED_MODES_AND_CHILD_INDEXES,
@@ -386,5 +419,9 @@ pub const ROWS: [Row; 9] = [
     Row {
         name: "ADDRESSES_OF_DOMAINS",
         pairs: &ADDRESSES_OF_DOMAINS,
+    },
+    Row {
+        name: "WHOLE_NUMBERS_OF_SOURCES",
+        pairs: &WHOLE_NUMBERS_OF_SOURCES,
     },
 ];

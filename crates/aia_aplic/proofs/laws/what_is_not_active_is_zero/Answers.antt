@@ -1,5 +1,5 @@
 use Rattle.aia_aplic.proofs.Steps.{entry-idle}
-use Rattle.aia_aplic.proofs.laws.what_is_not_owned_is_zero.Goals as goal
+use Rattle.aia_aplic.proofs.laws.what_is_not_active_is_zero.Goals as goal
 
 pub returns-clause-pending : goal.returns-clause-pending
 returns-clause-pending c = λ past d s. (entry-idle past d s).pending

@@ -1,5 +1,5 @@
 use Rattle.aia_aplic.proofs.OwnerLaw.{one_owner}
-use Rattle.aia_aplic.proofs.laws.a_source_has_one_owner_at_most.Goals as goal
+use Rattle.aia_aplic.proofs.laws.a_source_is_active_in_one_domain_at_most.Goals as goal
 
 pub returns : goal.returns
 returns c = one_owner
