@@ -1,4 +1,4 @@
-ghost use Rattle.std.specs.Prelude.{◌≡◌, ℕ, ◌+◌, ◌/◌, ◌<◌, ◌≤◌, ◌↔◌, ◌++◌, length, take, drop, replicate, slice_index, slice_set, bit_or, IsTrue, IfOk};
+ghost use Rattle.std.specs.Prelude.{◌≡◌, ℕ, ◌+◌, ◌*◌, ◌/◌, ◌<◌, ◌≤◌, ◌↔◌, ◌++◌, length, take, drop, replicate, slice_index, slice_set, bit_or, IsTrue, IfOk};
 ghost use Rattle.aia_ram.specs.Words.{Fits, word_in, bytes_in};
 
 use byteorder::{ByteOrder, LittleEndian};
@@ -39,6 +39,14 @@ impl Ram {
         ensures { IsTrue result ↔ Fits self.now at }
     {
         at % 8 == 0 && at / 8 < self.bytes.len() / 8
+    }
+
+    /// Gives how many bytes the words of memory have, a multiple of 8.
+    #[tactic(auto, using(crate::proofs::RamLemmas::words_there))]
+    pub fn len(&self) -> usize
+        ensures { result ≡ 8 * length self.now }
+    {
+        self.bytes.len() / 8 * 8
     }
 
     /// Gives the word at byte `at`, where one begins.
