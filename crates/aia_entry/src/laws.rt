@@ -1,10 +1,14 @@
 //! What the definitions of this crate mean, as laws: each function does nothing, and its clauses
 //! are what was proved.
 
-ghost use Rattle.std.specs.Prelude.{◌≡◌, ℕ, ◌%◌, ◌^◌, ◌<◌, ◌↔◌, true, false};
+ghost use Rattle.std.specs.Prelude.{◌≡◌, ◌≢◌, ℕ, ◌%◌, ◌^◌, ◌<◌, ◌↔◌, ◌⊎◌, true, false, List, length};
+ghost use Rattle.aia_word.specs.Sets.{has_bit};
 ghost use Rattle.aia_regs.specs.Operations.{is_one};
 ghost use Rattle.aia_entry.specs.declared.entry.Entry.TheVariants.{Basic, Mrif, NotValid, Custom};
+ghost use Rattle.aia_entry.specs.declared.limits.TheConstants.{PATTERN, ENTRIES};
 ghost use Rattle.aia_entry.specs.Format.{decoded, basic_word, mrif_word, notice_word};
+ghost use Rattle.aia_entry.specs.Translation.{IsMask, page_number, is_msi_address, file_number};
+ghost use Rattle.aia_entry.specs.Tables.{TableState, table_of, entry_in_force, written_entry, fenced_at};
 
 /// The words that are made for an entry say that entry; a basic one whatever its word 1 is.
 pub fn made_words_are_read_back()
@@ -31,4 +35,34 @@ pub fn order_of_looks()
     ensures not_valid { (w0 w1 : ℕ) → (decoded w0 w1 ≡ NotValid) ↔ (is_one w0 0 ≡ false) }
     ensures custom { (w0 w1 : ℕ) → (decoded w0 w1 ≡ Custom)
         ↔ ((is_one w0 0 ≡ true) × (is_one w0 63 ≡ true)) }
+{}
+
+/// An address is an MSI address of a VM exactly where its page has the pattern's bit at each place
+/// where the mask has a 0, and the file that it names is one of the table's.
+#[tactic(auto, using(crate::proofs::TableLemmas::agrees, crate::proofs::TableLemmas::named_has_entry))]
+pub fn addresses_name_files()
+    ensures pattern { (mask addr : ℕ) → (is_msi_address mask addr ≡ true)
+        ↔ ((i : ℕ) → has_bit mask i ≡ false
+        → has_bit (page_number addr) i ≡ has_bit PATTERN i) }
+    ensures file { (mask addr : ℕ) → IsMask mask → file_number mask addr < ENTRIES }
+{}
+
+/// A fence puts one entry in force, that of its file in its VM's table; every other entry in force
+/// of that VM and of all others stays, and so do the masks and the places of all tables.
+#[tactic(auto, using(crate::proofs::TableLemmas::fenced_here, crate::proofs::TableLemmas::fenced_elsewhere, crate::proofs::TableLemmas::fenced_mask, crate::proofs::TableLemmas::fenced_start, crate::proofs::TableLemmas::fenced_count))]
+pub fn a_fence_changes_one_entry()
+    ensures here { (tables : List TableState) (vm file : ℕ) (words : List ℕ)
+        → vm < length tables → file < length (table_of tables vm).in_force
+        → entry_in_force (table_of (fenced_at tables vm file words) vm) file
+        ≡ written_entry words (table_of tables vm) file }
+    ensures elsewhere { (tables : List TableState) (vm file : ℕ) (words : List ℕ) (v f : ℕ)
+        → (v ≢ vm) ⊎ (f ≢ file)
+        → entry_in_force (table_of (fenced_at tables vm file words) v) f
+        ≡ entry_in_force (table_of tables v) f }
+    ensures masks { (tables : List TableState) (vm file : ℕ) (words : List ℕ) (v : ℕ)
+        → (table_of (fenced_at tables vm file words) v).mask ≡ (table_of tables v).mask }
+    ensures places { (tables : List TableState) (vm file : ℕ) (words : List ℕ) (v : ℕ)
+        → (table_of (fenced_at tables vm file words) v).start ≡ (table_of tables v).start }
+    ensures vms { (tables : List TableState) (vm file : ℕ) (words : List ℕ)
+        → length (fenced_at tables vm file words) ≡ length tables }
 {}

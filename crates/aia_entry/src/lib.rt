@@ -6,7 +6,12 @@
 
 mod entry;
 mod format;
+mod iommu;
 pub mod laws;
+pub mod limits;
+mod table;
 
 pub use entry::Entry;
 pub use format::{basic, decode, mrif};
+pub use iommu::Iommu;
+pub use table::Route;
