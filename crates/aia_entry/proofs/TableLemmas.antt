@@ -1,17 +1,18 @@
 -- The file that an address names has an entry, and a fence changes one.
-use Rattle.std.proofs.Common.{◌≡◌, ◌≢◌, ℕ, zero, suc, ◌^◌, ◌<◌, ◌≤◌, ◌⊎◌, inl, inr, ◌↔◌, Bool, true, false, ◌||◌, List, length, refl, sym, ap, ◌∙◌, arith}
+use Rattle.std.proofs.Common.{◌≡◌, ◌≢◌, ℕ, zero, suc, ◌^◌, ◌<◌, ◌≤◌, ◌⊎◌, inl, inr, ◌↔◌, Bool, true, false, ◌||◌, List, length, get_or, refl, sym, ap, ◌∙◌, arith}
 use Rattle.std.specs.Prelude.{bit_or}
 use Rattle.std.proofs.lemmas.Bool.{cases_eq, cases_lt, eqb-true, eq-eqb}
 use Rattle.std.proofs.lemmas.Nat.Bits.{bit_at-lt, same_from_bits}
-use Rattle.std.proofs.lemmas.List.{get_or-set_same, get_or-set_other, set_past, length-set}
+use Rattle.std.proofs.lemmas.List.{get_or-set_same, get_or-set_other, set_past, length-set, get_or_default}
 use Rattle.aia_word.specs.Packed.{extract, ones}
 use Rattle.aia_word.specs.Sets.{has_bit}
 use Rattle.aia_word.proofs.PackedLemmas.{packed-lt}
 use Rattle.aia_word.proofs.BitLemmas.{has_bit-or}
 use Rattle.aia_word.proofs.SetLemmas.{same_bit}
 use Rattle.aia_entry.specs.declared.limits.TheConstants.{PATTERN}
-use Rattle.aia_entry.specs.declared.entry.Entry.TheVariants.{NotValid}
-use Rattle.aia_entry.specs.Translation.{IsMask, page_number, is_msi_address}
+use Rattle.aia_entry.specs.declared.entry.Entry.{Entry}
+use Rattle.aia_entry.specs.declared.entry.Entry.TheVariants.{Basic, NotValid}
+use Rattle.aia_entry.specs.Translation.{page_number, is_msi_address}
 use Rattle.aia_entry.specs.Tables.{TableState, no_table, table_of, entry_in_force, written_entry, fenced, fenced_at}
 
 few_files : (n : ℕ) → n ≤ 4 → 2 ^ n ≤ 16
@@ -22,13 +23,18 @@ few_files (suc (suc (suc zero))) h = omega arith
 few_files (suc (suc (suc (suc zero)))) h = omega arith
 few_files (suc (suc (suc (suc (suc n))))) h = absurd (omega arith)
 
-pub has_entry : (mask file : ℕ) → IsMask mask → file < 2 ^ ones 64 mask → file < 16
-has_entry mask file h low =
-    let most = few_files (ones 64 mask) h.1 in
+pub has_entry : (mask file : ℕ) → ones 64 mask ≤ 4 → file < 2 ^ ones 64 mask → file < 16
+has_entry mask file few low =
+    let most = few_files (ones 64 mask) few in
     omega (arith, most, low)
 
-pub named_has_entry : (x mask : ℕ) → IsMask mask → extract x mask < 16
-named_has_entry x mask h = has_entry mask (extract x mask) h (packed-lt 64 x mask)
+pub named_has_entry : (x mask : ℕ) → ones 64 mask ≤ 4 → extract x mask < 16
+named_has_entry x mask few = has_entry mask (extract x mask) few (packed-lt 64 x mask)
+
+pub entry_read : (in_force : List Entry) (file x mask : ℕ) → ones 64 mask ≤ 4 → length in_force ≡ 16 → file ≡ extract x mask → get_or in_force file (Basic 0) ≡ get_or in_force (extract x mask) NotValid
+entry_read in_force file x mask few long is =
+    let low = named_has_entry x mask few in
+    rw (is) (get_or_default in_force (extract x mask) (Basic 0) NotValid (omega (arith, low, long)))
 
 -- ---- a fence
 

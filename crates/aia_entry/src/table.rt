@@ -70,7 +70,7 @@ impl Table {
     }
 
     /// Gives the entry in force for the file that an MSI address names.
-    #[tactic(auto, using(crate::proofs::TableLemmas::named_has_entry))]
+    #[tactic(auto, using(crate::proofs::TableLemmas::named_has_entry, crate::proofs::TableLemmas::entry_read))]
     fn entry_for(&self, addr: u64) -> Entry
         ensures { result ≡ entry_in_force self.now (file_number self.now.mask addr) }
     {
