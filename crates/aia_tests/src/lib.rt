@@ -36,3 +36,5 @@ mod sets;
 mod sources;
 #[cfg(test)]
 mod spellings;
+#[cfg(test)]
+mod tables;
