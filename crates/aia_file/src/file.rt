@@ -1,4 +1,4 @@
-ghost use Rattle.std.specs.Prelude.{◌≡◌, ℕ, ◌+◌, ◌-◌, ◌*◌, ◌%◌, ◌<◌, ◌≤◌, ◌↔◌, false, ◌&&◌, not, nat_eq, length, IsTrue, IfOk, IfSome};
+ghost use Rattle.std.specs.Prelude.{◌≡◌, ℕ, ◌+◌, ◌-◌, ◌*◌, ◌/◌, ◌%◌, ◌<◌, ◌≤◌, ◌↔◌, false, ◌&&◌, ◌||◌, not, nat_eq, if◌then◌else◌, length, slice_index, slice_set, bit_or, IsTrue, IfOk, IfSome};
 ghost use Rattle.aia_word.specs.Sets.{has_bit, is_in};
 ghost use Rattle.aia_word.specs.Top.{top_value, lets_through};
 ghost use Rattle.aia_regs.specs.declared.limits.TheConstants.{IDENTITIES};
@@ -8,7 +8,7 @@ ghost use Rattle.aia_file.specs.InterruptFile.{is_greatest_identity, SameFile, e
 ghost use Rattle.aia_file.specs.FileState.{shown};
 
 use aia_regs::{FileReg, Op, requested};
-use aia_word::sets;
+use aia_word::{Bank, sets};
 use std::alloc::{AllocError, Global};
 use std::marker::Model;
 
@@ -178,6 +178,99 @@ impl File {
             None
         }
     }
+}
+
+impl Bank for File {
+    ghost use Rattle.std.specs.Prelude.{◌+◌, ◌/◌};
+    ghost use Rattle.aia_word.specs.Sets.{is_in};
+
+    ghost pending = { λ f. is_in f.pending };
+
+    ghost enabled = { λ f. is_in f.enabled };
+
+    ghost width = { λ f. (f.n + 1) / 64 };
+
+    fn words(&self) -> usize
+        ensures { result ≡ (self.now.n + 1) / 64 }
+    {
+        self.pending.len()
+    }
+
+    fn swap_pending(&mut self, k: usize, v: u64) -> u64
+        requires word { k < (self.old.n + 1) / 64 }
+        requires no_zero { k ≡ 0 → has_bit v 0 ≡ false }
+        ensures stood { (b : ℕ) → b < 64
+            → has_bit result b ≡ is_in self.old.pending (64 * k + b) }
+        ensures after { (i : ℕ) → is_in self.new.pending i
+            ≡ (if nat_eq (i / 64) k then has_bit v (i % 64) else is_in self.old.pending i) }
+        ensures others { (i : ℕ) → is_in self.new.enabled i ≡ is_in self.old.enabled i }
+        ensures width { (self.new.n + 1) / 64 ≡ (self.old.n + 1) / 64 }
+        ensures state { self.new ≡ record self.old { pending = slice_set self.old.pending k v } }
+        ensures word_stood { result ≡ slice_index self.old.pending k }
+        ensures no_zero_stood { k ≡ 0 → has_bit result 0 ≡ false }
+        ensures within { k < length self.old.pending }
+    {
+        swap_word(&mut self.pending, k, v)
+    }
+
+    fn or_pending(&mut self, k: usize, v: u64)
+        requires word { k < (self.old.n + 1) / 64 }
+        requires no_zero { k ≡ 0 → has_bit v 0 ≡ false }
+        ensures after { (i : ℕ) → is_in self.new.pending i
+            ≡ (if nat_eq (i / 64) k then (is_in self.old.pending i || has_bit v (i % 64))
+            else is_in self.old.pending i) }
+        ensures others { (i : ℕ) → is_in self.new.enabled i ≡ is_in self.old.enabled i }
+        ensures width { (self.new.n + 1) / 64 ≡ (self.old.n + 1) / 64 }
+        ensures state { self.new ≡ record self.old {
+          pending = slice_set self.old.pending k (bit_or (slice_index self.old.pending k) v);
+        } }
+        ensures within { k < length self.old.pending }
+    {
+        join_word(&mut self.pending, k, v);
+    }
+
+    fn swap_enable(&mut self, k: usize, v: u64) -> u64
+        requires word { k < (self.old.n + 1) / 64 }
+        requires no_zero { k ≡ 0 → has_bit v 0 ≡ false }
+        ensures stood { (b : ℕ) → b < 64
+            → has_bit result b ≡ is_in self.old.enabled (64 * k + b) }
+        ensures after { (i : ℕ) → is_in self.new.enabled i
+            ≡ (if nat_eq (i / 64) k then has_bit v (i % 64) else is_in self.old.enabled i) }
+        ensures others { (i : ℕ) → is_in self.new.pending i ≡ is_in self.old.pending i }
+        ensures width { (self.new.n + 1) / 64 ≡ (self.old.n + 1) / 64 }
+        ensures state { self.new ≡ record self.old { enabled = slice_set self.old.enabled k v } }
+        ensures word_stood { result ≡ slice_index self.old.enabled k }
+        ensures no_zero_stood { k ≡ 0 → has_bit result 0 ≡ false }
+        ensures within { k < length self.old.enabled }
+    {
+        swap_word(&mut self.enabled, k, v)
+    }
+}
+
+/// Makes `v` word `k` of a set, and gives what stood there.
+fn swap_word(words: &mut [u64], k: usize, v: u64) -> u64
+    requires { k < length words.old }
+    ensures stood { result ≡ slice_index words.old k }
+    ensures after { words.new ≡ slice_set words.old k v }
+{
+    let stood = words[k];
+    words[k] = v;
+    stood
+}
+
+/// Puts the identities into a set that `v` shows as word `k`; every other identity stays.
+#[tactic(auto, using(crate::proofs::BankLemmas::members_joined, crate::proofs::BankLemmas::no_zero_joined))]
+fn join_word(words: &mut [u64], k: usize, v: u64)
+    requires { k < length words.old }
+    ensures after { words.new ≡ slice_set words.old k (bit_or (slice_index words.old k) v) }
+    ensures members { (i : ℕ) → is_in words.new i
+        ≡ (if nat_eq (i / 64) k then (is_in words.old i || has_bit v (i % 64))
+        else is_in words.old i) }
+    ensures no_zero { (k ≡ 0 → has_bit v 0 ≡ false) → is_in words.old 0 ≡ false
+        → is_in words.new 0 ≡ false }
+    ensures length { length words.new ≡ length words.old }
+{
+    words[k] |= v;
 }
 
 /// Tells whether the threshold lets the identity through.

@@ -23,6 +23,8 @@ mod files;
 #[cfg(test)]
 mod hypervisor_core;
 #[cfg(test)]
+mod memory;
+#[cfg(test)]
 mod registers;
 #[cfg(test)]
 mod rows;
@@ -34,3 +36,5 @@ mod sets;
 mod sources;
 #[cfg(test)]
 mod spellings;
+#[cfg(test)]
+mod tables;

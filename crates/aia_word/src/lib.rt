@@ -5,8 +5,12 @@
 //! accessed interrupt-file registers".
 #![tactic(auto)]
 
+mod bank;
 mod bits;
 pub mod laws;
+mod packed;
 pub mod sets;
 
+pub use bank::Bank;
 pub use bits::least_one;
+pub use packed::{deposit, extract};

@@ -1,0 +1,2 @@
+pub mod Mrif
+pub mod Words

@@ -1,0 +1,7 @@
+//! Memory: a row of 64-bit words, kept as bytes.
+#![tactic(auto)]
+
+pub mod laws;
+mod ram;
+
+pub use ram::Ram;

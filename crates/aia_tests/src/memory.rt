@@ -1,0 +1,116 @@
+//! Memory, and what it keeps of guests that no hart holds.
+
+ghost use Rattle.std.specs.Prelude.{◌≡◌, ◌<◌, false};
+ghost use Rattle.aia_word.specs.Sets.{has_bit};
+ghost use Rattle.aia_mrif.specs.Words.{HasSlot};
+
+use aia_file::File;
+use aia_mrif::{SlotMut, Stored, look};
+use aia_ram::Ram;
+use aia_regs::FileReg;
+use aia_word::Bank;
+use std::test::Fail;
+
+#[test]
+fn memory_keeps_its_words(rt: HostRuntime) -> Result<(), Fail> {
+    let mut ram = Ram::new(rt.alloc(), 28)?;
+    for (at, there) in [
+        (0, true),
+        (4, false),
+        (8, true),
+        (9, false),
+        (16, true),
+        (24, false),
+        (usize::MAX, false),
+    ] {
+        assert_eq!(rt; ram.fits(at), there, "at {at}");
+    }
+    assert_eq!(rt; ram.load(8), 0);
+    ram.store(8, 0x0123_4567_89ab_cdef);
+    ram.or(8, 0x1000_0000_0000_0010);
+    assert_eq!(rt; ram.swap(8, 5), 0x1123_4567_89ab_cdff);
+    assert_eq!(rt; ram.load(8), 5);
+    assert_eq!(rt; ram.load(0), 0);
+    assert_eq!(rt; ram.load(16), 0);
+    Ok(())
+}
+
+/// Stores to slot 1 of memory.
+fn lands(ram: &mut Ram, offset: u32, value: u32) -> Stored
+    requires { HasSlot ram.old 1 }
+    ensures { HasSlot ram.new 1 }
+{
+    let mut slot = SlotMut { ram, q: 1 };
+    slot.land(offset, value)
+}
+
+#[test]
+fn a_store_to_a_slot_is_noticed_where_enabled(rt: HostRuntime) -> Result<(), Fail> {
+    let mut ram = Ram::new(rt.alloc(), 1536)?;
+    ram.store(520, 0x20);
+    assert_eq!(rt; lands(&mut ram, 0, 5), Stored::Notice);
+    assert_eq!(rt; lands(&mut ram, 0, 5), Stored::Notice);
+    assert_eq!(rt; lands(&mut ram, 4, 0x0500_0000), Stored::Notice);
+    assert_eq!(rt; lands(&mut ram, 0, 6), Stored::Quiet);
+    assert_eq!(rt; lands(&mut ram, 0, 0), Stored::Discarded);
+    assert_eq!(rt; lands(&mut ram, 0, 2048), Stored::Discarded);
+    assert_eq!(rt; lands(&mut ram, 8, 5), Stored::Discarded);
+    assert_eq!(rt; look(&ram, 1, 0), (0x60, 0x20));
+    assert_eq!(rt; lands(&mut ram, 0, 2047), Stored::Quiet);
+    assert_eq!(rt; look(&ram, 1, 31), (1 << 63, 0));
+    assert_eq!(rt; look(&ram, 0, 31), (0, 0));
+    Ok(())
+}
+
+/// Takes what is pending among the identities 1 to 63.
+fn taken<B: Bank>(bank: &mut B) -> u64
+    requires { 0 < B.width bank.old }
+    ensures { B.width bank.new ≡ B.width bank.old }
+{
+    bank.swap_pending(0, 0)
+}
+
+/// Puts pending and enabled identities of 1 to 63, and gives those that were enabled.
+fn put<B: Bank>(bank: &mut B, pending: u64, enabled: u64) -> u64
+    requires word { 0 < B.width bank.old }
+    requires pending { has_bit pending 0 ≡ false }
+    requires enabled { has_bit enabled 0 ≡ false }
+    ensures { B.width bank.new ≡ B.width bank.old }
+{
+    bank.or_pending(0, pending);
+    bank.swap_enable(0, enabled)
+}
+
+#[test]
+fn a_file_is_a_bank(rt: HostRuntime) -> Result<(), Fail> {
+    let mut file = File::new(rt.alloc(), 127)?;
+    assert_eq!(rt; file.words(), 2);
+    file.land(0, 3);
+    file.land(0, 65);
+    file.write(FileReg::Enable(0), 0b10);
+    assert_eq!(rt; put(&mut file, 0b100, 0b110), 0b10);
+    assert_eq!(rt; file.read(FileReg::Enable(0)), 0b110);
+    assert_eq!(rt; taken(&mut file), 0b1100);
+    assert_eq!(rt; file.read(FileReg::Pending(0)), 0);
+    assert_eq!(rt; file.read(FileReg::Pending(2)), 0b10);
+    Ok(())
+}
+
+#[test]
+fn a_slot_is_a_bank(rt: HostRuntime) -> Result<(), Fail> {
+    let mut ram = Ram::new(rt.alloc(), 512)?;
+    let mut slot = SlotMut {
+        ram: &mut ram,
+        q: 0,
+    };
+    assert_eq!(rt; slot.words(), 32);
+    assert_eq!(rt; slot.land(0, 3), Stored::Quiet);
+    assert_eq!(rt; slot.land(0, 65), Stored::Quiet);
+    assert_eq!(rt; put(&mut slot, 0b100, 0b110), 0);
+    assert_eq!(rt; slot.land(0, 2), Stored::Notice);
+    assert_eq!(rt; taken(&mut slot), 0b1100);
+    assert_eq!(rt; put(&mut slot, 0, 0), 0b110);
+    assert_eq!(rt; slot.land(0, 2), Stored::Quiet);
+    assert_eq!(rt; slot.swap_pending(1, 0), 0b10);
+    Ok(())
+}
