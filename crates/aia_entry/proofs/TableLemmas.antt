@@ -1,6 +1,11 @@
 -- The file that an address names has an entry, and a fence changes one.
-use Rattle.std.proofs.Common.{◌≡◌, ◌≢◌, ℕ, zero, suc, ◌^◌, ◌<◌, ◌≤◌, ◌⊎◌, inl, inr, ◌↔◌, Bool, true, false, ◌||◌, List, length, get_or, refl, sym, ap, ◌∙◌, arith}
-use Rattle.std.specs.Prelude.{bit_or}
+use Rattle.std.proofs.Common.{◌≡◌, ◌≢◌, ℕ, zero, suc, ◌*◌, ◌/◌, ◌%◌, ◌+◌, ◌^◌, ◌<◌, ◌≤◌, ◌⊎◌, inl, inr, ◌↔◌, Bool, true, false, ◌&&◌, ◌||◌, nat_le, nat_lt, List, length, get_or, refl, sym, ap, ◌∙◌, arith}
+use Rattle.std.specs.Prelude.{bit_or, count_ones}
+use Rattle.std.specs.Int.{is_in_range}
+use Rattle.std.specs.Int.Count.{ones_step}
+use Rattle.std.proofs.Math.Nat.{pow-succ'}
+use Rattle.std.proofs.lemmas.Nat.{ones_le_self}
+use Rattle.std.proofs.lemmas.Bool.Decides.{nat_tests}
 use Rattle.std.proofs.lemmas.Bool.{cases_eq, cases_lt, eqb-true, eq-eqb}
 use Rattle.std.proofs.lemmas.Nat.Bits.{bit_at-lt, same_from_bits}
 use Rattle.std.proofs.lemmas.List.{get_or-set_same, get_or-set_other, set_past, length-set, get_or_default}
@@ -9,11 +14,36 @@ use Rattle.aia_word.specs.Sets.{has_bit}
 use Rattle.aia_word.proofs.PackedLemmas.{packed-lt}
 use Rattle.aia_word.proofs.BitLemmas.{has_bit-or}
 use Rattle.aia_word.proofs.SetLemmas.{same_bit}
-use Rattle.aia_entry.specs.declared.limits.TheConstants.{PATTERN}
+use Rattle.aia_regs.specs.declared.address_map.TheConstants.{PATTERN}
 use Rattle.aia_entry.specs.declared.entry.Entry.{Entry}
 use Rattle.aia_entry.specs.declared.entry.Entry.TheVariants.{Basic, NotValid}
-use Rattle.aia_entry.specs.Translation.{page_number, is_msi_address}
+use Rattle.aia_entry.specs.Translation.{is_mask, page_number, is_msi_address}
 use Rattle.aia_entry.specs.Tables.{TableState, no_table, table_of, entry_in_force, written_entry, fenced, fenced_at}
+
+-- ---- masks
+
+zero_ones : count_ones 0 ≡ ones 0 0
+unfolding ones
+zero_ones = let few = ones_le_self 0 in omega (arith, few)
+
+-- the ones of a number of 64 bits are all that it has
+ones_below : (k x : ℕ) → x < 2 ^ k → count_ones x ≡ ones k x
+unfolding ones
+ones_below zero x low = let none : x ≡ 0 = omega (arith, low) in rw none zero_ones
+ones_below (suc k) x low = ones_step x ∙ ap (λ n. x % 2 + n) (ones_below k (x / 2) (halves k x low))
+  where
+    halves : (k x : ℕ) → x < 2 ^ suc k → x / 2 < 2 ^ k
+    halves k x low = let power : 2 ^ suc k ≡ 2 * 2 ^ k = pow-succ' 2 k in omega (arith, low)
+
+pub ones_counted : (mask : ℕ) → mask < 2 ^ 64 → count_ones mask ≡ ones 64 mask
+ones_counted mask low = ones_below 64 mask low
+
+pub mask_by_ones : (mask : ℕ) → mask < 2 ^ 64 → is_mask mask ≡ (is_in_range 1 4 (count_ones mask) && nat_lt mask 32768)
+mask_by_ones mask low = ap (λ n. is_in_range 1 4 n && nat_lt mask 32768) (sym (ones_counted mask low))
+
+-- what a mask has
+pub mask_parts : (mask : ℕ) → is_mask mask ≡ true → (1 ≤ ones 64 mask) × (ones 64 mask ≤ 4) × (mask < 2 ^ 15)
+mask_parts mask is = grind (arith, nat_tests)
 
 few_files : (n : ℕ) → n ≤ 4 → 2 ^ n ≤ 16
 few_files zero h = omega arith

@@ -6,7 +6,7 @@ use Rattle.aia_entry.specs.declared.entry.Entry.{Entry}
 use Rattle.aia_entry.specs.declared.entry.Entry.TheVariants.{Basic, Mrif, NotValid, Custom, Misconfigured}
 use Rattle.aia_entry.specs.declared.table.Route.{Route}
 use Rattle.aia_entry.specs.declared.table.Route.TheVariants.{Other, Fault, To}
-use Rattle.aia_entry.specs.declared.limits.TheConstants.{ENTRIES}
+use Rattle.aia_regs.specs.declared.limits.TheConstants.{ENTRIES}
 use Rattle.aia_entry.specs.Format.{decoded}
 use Rattle.aia_entry.specs.Translation.{file_number, is_msi_address}
 

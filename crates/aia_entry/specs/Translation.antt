@@ -1,14 +1,18 @@
 -- Which addresses are MSI addresses of a VM, and which interrupt file of the VM each of them names.
 -- AIA 1.0, IOMMU Support for MSIs to Virtual Machines: address pattern, address mask.
-use Rattle.std.specs.Prelude.{ℕ, ◌/◌, ◌^◌, ◌<◌, ◌≤◌, Bool, nat_eq, bit_or}
+use Rattle.std.specs.Prelude.{◌≡◌, ℕ, ◌/◌, ◌^◌, Bool, true, ◌&&◌, nat_eq, nat_lt, bit_or}
+use Rattle.std.specs.Int.{is_in_range}
 use Rattle.aia_word.specs.Packed.{extract, ones}
-use Rattle.aia_regs.specs.declared.address_map.TheConstants.{PAGE}
-use Rattle.aia_entry.specs.declared.limits.TheConstants.{MASK_ONES, MASK_BITS, PATTERN}
+use Rattle.aia_regs.specs.declared.address_map.TheConstants.{PAGE, PATTERN}
+use Rattle.aia_regs.specs.declared.limits.TheConstants.{MASK_ONES, MASK_BITS}
 
--- A number may be the mask of a VM's page numbers. Profile: it has one to four ones, all below bit
--- 15.
+-- Whether a number may be the mask of a VM's page numbers. Profile: it has one to four ones, all
+-- below bit 15.
+abbrev pub is_mask : ℕ → Bool
+is_mask mask = is_in_range 1 MASK_ONES (ones 64 mask) && nat_lt mask (2 ^ MASK_BITS)
+
 abbrev pub IsMask : ℕ → Type 0
-IsMask mask = (1 ≤ ones 64 mask) × (ones 64 mask ≤ MASK_ONES) × (mask < 2 ^ MASK_BITS)
+IsMask mask = is_mask mask ≡ true
 
 -- The number of the page in which an address lies.
 abbrev pub page_number : ℕ → ℕ

@@ -4,9 +4,9 @@ ghost use Rattle.aia_ram.specs.Words.{Fits};
 ghost use Rattle.aia_entry.specs.Translation.{IsMask, is_msi_address};
 ghost use Rattle.aia_entry.specs.Tables.{new_table, table_of, entry_place, fenced, fenced_at, route_of};
 
-use crate::limits::VMS;
 use crate::table::{Route, Table};
 use aia_ram::Ram;
+use aia_regs::limits::VMS;
 use std::alloc::{AllocError, Global};
 use std::marker::Model;
 
@@ -20,7 +20,7 @@ pub struct Iommu {
 impl Model for Iommu {
     ghost use Rattle.std.specs.Prelude.{◌≤◌, List};
     ghost use Rattle.std.specs.Vec.{vec_capacity};
-    ghost use Rattle.aia_entry.specs.declared.limits.TheConstants.{VMS};
+    ghost use Rattle.aia_regs.specs.declared.limits.TheConstants.{VMS};
     ghost use Rattle.aia_entry.specs.Tables.{TableState};
 
     ghost Value = { List TableState };

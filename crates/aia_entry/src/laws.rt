@@ -9,17 +9,8 @@ ghost use Rattle.aia_entry.specs.Format.{decoded, basic_word, mrif_word, notice_
 ghost use Rattle.aia_entry.specs.Translation.{IsMask, page_number, is_msi_address, file_number};
 ghost use Rattle.aia_entry.specs.Tables.{TableState, table_of, entry_in_force, written_entry, fenced_at};
 
-use crate::limits::{ENTRIES, MASK_BITS, MASK_ONES, PATTERN, VMS};
-
-/// The limits are these numbers, and a table has as many entries as the most ones of a mask number.
-pub fn limits()
-    ensures vms { VMS ≡ 4 }
-    ensures mask_ones { MASK_ONES ≡ 4 }
-    ensures mask_bits { MASK_BITS ≡ 15 }
-    ensures entries { ENTRIES ≡ 16 }
-    ensures pattern { PATTERN ≡ 0x28000 }
-    ensures enough { ENTRIES ≡ 2 ^ MASK_ONES }
-{}
+use aia_regs::address_map::PATTERN;
+use aia_regs::limits::ENTRIES;
 
 /// The words that are made for an entry say that entry; a basic one whatever its word 1 is.
 pub fn made_words_are_read_back()

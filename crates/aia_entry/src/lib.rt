@@ -8,10 +8,9 @@ mod entry;
 mod format;
 mod iommu;
 pub mod laws;
-pub mod limits;
 mod table;
 
 pub use entry::Entry;
 pub use format::{basic, decode, mrif};
 pub use iommu::Iommu;
-pub use table::Route;
+pub use table::{Route, is_mask};

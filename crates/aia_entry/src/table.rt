@@ -1,13 +1,14 @@
 ghost use Rattle.std.specs.Prelude.{◌≡◌, ℕ, ◌+◌, ◌*◌, ◌^◌, ◌<◌, ◌↔◌, false};
+ghost use Rattle.std.specs.Int.{is_in_range};
 ghost use Rattle.aia_word.specs.Packed.{ones};
 ghost use Rattle.aia_ram.specs.Words.{Fits};
-ghost use Rattle.aia_entry.specs.Translation.{IsMask, is_msi_address, file_number};
+ghost use Rattle.aia_entry.specs.Translation.{IsMask, is_mask, is_msi_address, file_number};
 ghost use Rattle.aia_entry.specs.Tables.{new_table, entry_in_force, entry_place, fenced, leads_by, route_of};
 
-use crate::limits::{ENTRIES, PATTERN};
 use crate::{Entry, decode};
 use aia_ram::Ram;
-use aia_regs::address_map::PAGE;
+use aia_regs::address_map::{PAGE, PATTERN};
+use aia_regs::limits::{ENTRIES, MASK_BITS, MASK_ONES};
 use aia_word::extract;
 use std::marker::Model;
 
@@ -32,7 +33,7 @@ pub struct Table {
 
 impl Model for Table {
     ghost use Rattle.std.specs.Prelude.{◌≡◌, length};
-    ghost use Rattle.aia_entry.specs.declared.limits.TheConstants.{ENTRIES};
+    ghost use Rattle.aia_regs.specs.declared.limits.TheConstants.{ENTRIES};
     ghost use Rattle.aia_entry.specs.Tables.{TableState};
     ghost use Rattle.aia_entry.specs.Translation.{IsMask};
 
@@ -91,6 +92,21 @@ impl Table {
         let at = self.start + 16 * file as usize;
         self.in_force[file as usize] = decode(ram.load(at), ram.load(at + 8));
     }
+}
+
+/// Tells whether `mask` may be the mask of a VM: it has 1 to 4 ones, all below bit 15.
+#[tactic(auto, using(crate::proofs::TableLemmas::mask_by_ones))]
+pub fn is_mask(mask: u64) -> bool
+    ensures { result ≡ is_mask mask }
+{
+    are_mask_ones(mask.count_ones()) && mask < 1 << MASK_BITS
+}
+
+/// Tells whether a mask may have so many ones.
+fn are_mask_ones(count: u32) -> bool
+    ensures { result ≡ is_in_range 1 MASK_ONES count }
+{
+    (1..=MASK_ONES).contains(&count)
 }
 
 /// Tells whether an address is an MSI address of a VM with this mask.

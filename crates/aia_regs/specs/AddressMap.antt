@@ -32,6 +32,14 @@ root_region = 0x0c000000
 abbrev pub child_region : ℕ
 child_region = 0x0c008000
 
--- Whether an address lies in memory.
+-- Whether an address lies in memory. Its slots come first, then the MSI page tables of VMs.
 abbrev pub is_in_memory : ℕ → Bool
 is_in_memory addr = nat_le 0x80000000 addr && nat_lt addr 0x80006000
+
+-- The first address of a slot, which keeps a memory-resident interrupt file.
+abbrev pub slot_address : ℕ → ℕ
+slot_address q = 0x80000000 + q * 0x200
+
+-- The first address of the MSI page table of a VM.
+abbrev pub table_address : ℕ → ℕ
+table_address vm = 0x80002000 + vm * 0x1000

@@ -22,5 +22,18 @@ pub const PAGE: u64 = 0x1000;
 /// The first byte of memory.
 pub const MEMORY: u64 = 0x8000_0000;
 
+/// The bytes of a slot of memory; slot 0 is at [`MEMORY`], each further one right after.
+pub const SLOT: u64 = 0x200;
+
+/// The MSI page table of VM 0; each further VM's is [`TABLE`] bytes on.
+pub const TABLES: u64 = 0x8000_2000;
+
+/// The bytes from one VM's MSI page table to the next one's.
+pub const TABLE: u64 = 0x1000;
+
 /// The first byte after memory.
 pub const MEMORY_END: u64 = 0x8000_6000;
+
+/// The page of a VM's MSI addresses where its mask has a 0: the address pattern, the same for all
+/// VMs, which is the page of hart 0's supervisor file.
+pub const PATTERN: u64 = 0x28000;

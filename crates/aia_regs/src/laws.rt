@@ -6,12 +6,15 @@ ghost use Rattle.std.specs.Int.{bit_at, swap_bytes, w32};
 ghost use Rattle.aia_regs.specs.FileRegisters.{register_of};
 ghost use Rattle.aia_regs.specs.DomainRegisters.{domain_register_of, domain_offset_of};
 ghost use Rattle.aia_regs.specs.Fields.{field, with_field, IsOutside};
-ghost use Rattle.aia_regs.specs.AddressMap.{machine_page, supervisor_page, guest_page, is_in_page, is_in_region, root_region, child_region, is_in_memory};
+ghost use Rattle.aia_regs.specs.AddressMap.{machine_page, supervisor_page, guest_page, is_in_page, is_in_region, root_region, child_region, is_in_memory, slot_address, table_address};
 
 use crate::address_map::{
-    HART_STRIDE, MACHINE_FILES, MEMORY, MEMORY_END, PAGE, REGION, ROOT_DOMAIN, SUPERVISOR_FILES,
+    HART_STRIDE, MACHINE_FILES, MEMORY, MEMORY_END, PAGE, PATTERN, REGION, ROOT_DOMAIN, SLOT,
+    SUPERVISOR_FILES, TABLE, TABLES,
 };
-use crate::limits::{GUEST_FILES, HARTS, IDENTITIES, SOURCES};
+use crate::limits::{
+    ENTRIES, GUEST_FILES, HARTS, IDENTITIES, MASK_BITS, MASK_ONES, SOURCES, VCPUS, VM_VCPUS, VMS,
+};
 use crate::{DomainReg, FileReg};
 
 /// The register map, row by row: which select numbers each register has.
@@ -82,12 +85,31 @@ pub fn address_map()
         ↔ ((base ≤ addr) × (addr < base + REGION)) }
     ensures memory { (addr : ℕ) → (is_in_memory addr ≡ true)
         ↔ ((MEMORY ≤ addr) × (addr < MEMORY_END)) }
+    ensures slot { (q : ℕ) → slot_address q ≡ MEMORY + q * SLOT }
+    ensures table { (vm : ℕ) → table_address vm ≡ TABLES + vm * TABLE }
 {}
 
-/// The limits of a machine are these numbers.
+/// Memory has the slots of all virtual harts, then the tables of all VMs, each with all its
+/// entries, and no more; the MSI addresses of VMs begin where the supervisor files do.
+pub fn memory_is_full()
+    ensures slots { slot_address VCPUS ≡ TABLES }
+    ensures tables { table_address VMS ≡ MEMORY_END }
+    ensures entries { 16 * ENTRIES ≤ TABLE }
+    ensures pattern { PATTERN * PAGE ≡ SUPERVISOR_FILES }
+{}
+
+/// The limits of a machine are these numbers, and a table has as many entries as the most ones of
+/// a mask number.
 pub fn limits()
     ensures harts { HARTS ≡ 4 }
     ensures guest_files { GUEST_FILES ≡ 7 }
     ensures identities { IDENTITIES ≡ 2047 }
     ensures sources { SOURCES ≡ 1023 }
+    ensures vms { VMS ≡ 4 }
+    ensures vcpus_of_a_vm { VM_VCPUS ≡ 8 }
+    ensures vcpus { VCPUS ≡ 16 }
+    ensures mask_ones { MASK_ONES ≡ 4 }
+    ensures mask_bits { MASK_BITS ≡ 15 }
+    ensures entries { ENTRIES ≡ 16 }
+    ensures enough { ENTRIES ≡ 2 ^ MASK_ONES }
 {}

@@ -1,4 +1,4 @@
-//! How large a machine may be. Profile.
+//! How large a machine and its VMs may be. Profile.
 
 /// The most harts of a machine.
 pub const HARTS: u32 = 4;
@@ -11,3 +11,21 @@ pub const IDENTITIES: u32 = 2047;
 
 /// The most wired sources of a machine.
 pub const SOURCES: u32 = 1023;
+
+/// The most VMs of a machine.
+pub const VMS: u32 = 4;
+
+/// The most virtual harts of a VM.
+pub const VM_VCPUS: u32 = 8;
+
+/// The most virtual harts of all VMs of a machine.
+pub const VCPUS: u32 = 16;
+
+/// The most ones of a VM's mask, of at least 1.
+pub const MASK_ONES: u32 = 4;
+
+/// The bits of a VM's mask: its ones are all among them.
+pub const MASK_BITS: u32 = 15;
+
+/// The entries of a VM's MSI page table: as many as [`MASK_ONES`] bits number.
+pub const ENTRIES: usize = 16;

@@ -1,0 +1,3 @@
+pub mod Vms
+pub mod Home
+pub mod Routes

@@ -1,0 +1,50 @@
+-- VMs, in the order in which they are made, and their virtual harts. Vocabulary, where no chapter
+-- is named.
+use Rattle.std.specs.Prelude.{ℕ, ◌+◌, Bool, ◌&&◌, nat_eq, nat_lt, List, [], ◌∷◌, take, slice_index_or}
+use Rattle.aia_home.specs.declared.vm.Vm.{Vm}
+
+-- No VM stands past the last one; this stands there.
+abbrev pub no_vm : Vm
+no_vm = record { vcpus = 0; mask = 0; notice_hart = 0 }
+
+-- The VM of a number: they are numbered from 0 on.
+abbrev pub vm_in : List Vm → ℕ → Vm
+vm_in vms vm = slice_index_or vms vm no_vm
+
+-- How many virtual harts they have in all.
+abbrev pub vcpus_in : List Vm → ℕ
+vcpus_in [] = 0
+vcpus_in (vm ∷ vms) = vm.vcpus + vcpus_in vms
+
+-- ---- virtual harts
+
+-- A virtual hart, by its VM and its number in that VM, which is the number of its interrupt file
+-- too.
+pub record Vcpu : Type 0 where
+  pub vm : ℕ
+  pub number : ℕ
+
+abbrev pub vcpu : ℕ → ℕ → Vcpu
+vcpu vm number = record { vm = vm; number = number }
+
+-- Whether two are the same.
+abbrev pub is_vcpu : Vcpu → Vcpu → Bool
+is_vcpu a b = nat_eq a.vm b.vm && nat_eq a.number b.number
+
+-- Whether there is such a virtual hart.
+abbrev pub is_vcpu_in : List Vm → Vcpu → Bool
+is_vcpu_in vms g = nat_lt g.number (vm_in vms g.vm).vcpus
+
+-- Its number over all VMs, in the order of their making: that of its slot of memory, for good.
+-- Profile.
+abbrev pub slot_of : List Vm → Vcpu → ℕ
+slot_of vms g = vcpus_in (take g.vm vms) + g.number
+
+-- The identity by which the host is told of its interrupts: its number over all VMs, counted from
+-- 1. Profile.
+abbrev pub notice_identity : List Vm → Vcpu → ℕ
+notice_identity vms g = slot_of vms g + 1
+
+-- The hart whose supervisor file is told: its VM's notice hart. Profile.
+abbrev pub notice_hart : List Vm → Vcpu → ℕ
+notice_hart vms g = (vm_in vms g.vm).notice_hart

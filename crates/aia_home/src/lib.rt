@@ -1,0 +1,7 @@
+//! The VMs of a machine, their virtual harts, and where the interrupts of a virtual hart are kept.
+#![tactic(auto)]
+
+pub mod laws;
+mod vm;
+
+pub use vm::Vm;
