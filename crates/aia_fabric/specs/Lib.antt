@@ -1,0 +1,4 @@
+pub mod World
+pub mod Stores
+pub mod Making
+pub mod Whole

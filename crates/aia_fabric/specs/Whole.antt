@@ -1,0 +1,32 @@
+-- What is true of the world at all times. Vocabulary.
+use Rattle.std.specs.Prelude.{◌≡◌, ℕ, ◌+◌, ◌*◌, ◌^◌, ◌<◌, ◌≤◌, true, length, All}
+use Rattle.aia_word.specs.Packed.{ones}
+use Rattle.aia_regs.specs.declared.limits.TheConstants.{HARTS, GUEST_FILES, VMS, VCPUS}
+use Rattle.aia_file.specs.InterruptFile.{is_greatest_identity}
+use Rattle.aia_file.specs.FileState.{FileState}
+use Rattle.aia_entry.specs.Tables.{table_of}
+use Rattle.aia_entry.specs.Translation.{IsMask}
+use Rattle.aia_home.specs.Vms.{vm_in, vcpus_in}
+use Rattle.aia_fabric.specs.World.{World}
+use Rattle.aia_fabric.specs.Making.{table_place}
+
+-- A VM that stands, with its table.
+pub record IsVm (w : World) (v : ℕ) : Type 0 where
+  pub mask : IsMask (vm_in w.vms v).mask
+  pub numbers : (vm_in w.vms v).vcpus ≤ 2 ^ ones 64 (vm_in w.vms v).mask
+  pub notice_hart : (vm_in w.vms v).notice_hart < w.imsic.harts
+  pub same_mask : (table_of w.tables v).mask ≡ (vm_in w.vms v).mask
+  pub start : (table_of w.tables v).start ≡ table_place v
+
+-- Every file has the world's identities, memory has its slots and tables, and each VM its table.
+pub record IsWhole (w : World) : Type 0 where
+  pub harts : w.imsic.harts ≤ HARTS
+  pub guests : w.imsic.guests ≤ GUEST_FILES
+  pub files : length w.imsic.files ≡ w.imsic.harts * (w.imsic.guests + 2)
+  pub greatest : is_greatest_identity w.n ≡ true
+  pub width : All (λ (f : FileState). f.n ≡ w.n) w.imsic.files
+  pub memory : length w.memory ≡ 0xc00
+  pub few : length w.vms ≤ VMS
+  pub tables : length w.tables ≡ length w.vms
+  pub vcpus : vcpus_in w.vms ≤ VCPUS
+  pub vms : (v : ℕ) → v < length w.vms → IsVm w v
