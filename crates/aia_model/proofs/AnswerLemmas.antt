@@ -1,5 +1,5 @@
 -- Answers and histories by the refusal of a line.
-use Rattle.std.proofs.Common.{◌≡◌, ℕ, Bool, true, false, not, cond, nat_lt, Option, Some, None, unwrap_or, refl, sym, ap, ◌∙◌}
+use Rattle.std.proofs.Common.{◌≡◌, ℕ, ◌%◌, Bool, true, false, ◌&&◌, not, cond, nat_eq, nat_lt, Option, Some, None, unwrap_or, refl, sym, ap, ◌∙◌}
 use Rattle.std.proofs.lemmas.Bool.{cond-true}
 use Rattle.std.specs.Option.{option_map}
 use Rattle.std.specs.Int.{is_in_range}
@@ -9,14 +9,18 @@ use Rattle.aia_regs.specs.declared.access.Level.TheVariants as levels
 use Rattle.aia_csr.specs.Access.{access_of}
 use Rattle.aia_model.specs.declared.line.Line.{Line}
 use Rattle.aia_model.specs.declared.line.Line.TheVariants.{Machine, Wire, Load, Store, MachineCsr, HostCsr, Pins}
+use Rattle.aia_model.specs.declared.line.Line.TheVariants as lines
 use Rattle.aia_imsic.specs.declared.spot.Spot.{Spot}
 use Rattle.aia_model.specs.declared.answer.Answer.{Answer}
 use Rattle.aia_model.specs.declared.answer.Answer.TheVariants.{NoMachine, Again, Refused}
 use Rattle.aia_model.specs.declared.refusal.Refusal.{Refusal}
-use Rattle.aia_model.specs.declared.refusal.Refusal.TheVariants.{Range, Illegal, Fault, Guarded}
-use Rattle.aia_model.specs.Event.{History, has_machine, harts_of, sources_of}
+use Rattle.aia_model.specs.declared.refusal.Refusal.TheVariants.{Range, Full, Illegal, Fault, Guarded, Other, NotValid}
+use Rattle.aia_model.specs.Event.{History, has_machine, has_hart, harts_of, sources_of}
+use Rattle.aia_entry.specs.Translation.{is_msi_address}
+use Rattle.aia_model.specs.Vms.{has_vm, has_vcpu, mask_of}
+use Rattle.aia_model.specs.GuestFile.{named_by}
 use Rattle.aia_model.specs.FileOf.{MachineFile, SupervisorFile, page_at, select_of}
-use Rattle.aia_model.specs.Refusal.{refusal, raises_illegal, faults, guards, is_machine_size, lacks_machine}
+use Rattle.aia_model.specs.Refusal.{refusal, raises_illegal, faults, guards, is_machine_size, lacks_machine, is_vm_size, is_full}
 use Rattle.aia_model.specs.Answer.{answer, after, accepted_answer, history_after}
 
 pub answered : (h : History) (line : Line) (r : Option Answer) → refusal h line ≡ r → answer h line ≡ unwrap_or r (accepted_answer h line)
@@ -75,6 +79,18 @@ machine_csr_refusal h hart csr op there = past_machine h _ there
 pub host_csr_refusal : (h : History) (hart : ℕ) (csr : Csr) (op : Op) → has_machine h ≡ true
     → refusal h (HostCsr hart csr op) ≡ access_refusal h hart (raises_illegal (access_of levels.Host csr op (select_of h (SupervisorFile hart)) false))
 host_csr_refusal h hart csr op there = past_machine h _ there
+
+pub vm_refusal : (h : History) (vcpus mask hart : ℕ) → has_machine h ≡ true
+    → refusal h (lines.Vm vcpus mask hart) ≡ cond (not (is_vm_size vcpus mask && has_hart h hart)) (Some (Refused Range)) (cond (is_full h (lines.Vm vcpus mask hart)) (Some (Refused Full)) None)
+vm_refusal h vcpus mask hart there = past_machine h _ there
+
+pub msi_refusal : (h : History) (vm addr value : ℕ) → has_machine h ≡ true
+    → refusal h (lines.Msi vm addr value) ≡ cond (not (has_vm h vm)) (Some (Refused Range)) (cond (not (nat_eq (addr % 4) 0)) (Some (Refused Fault))
+      (cond (not (is_msi_address (mask_of h vm) addr)) (Some (Refused Other)) (cond (not (has_vcpu h (named_by h vm addr))) (Some (Refused NotValid)) None)))
+msi_refusal h vm addr value there = past_machine h _ there
+
+pub entry_refusal : (h : History) (w0 w1 : ℕ) → has_machine h ≡ true → refusal h (lines.Entry w0 w1) ≡ None
+entry_refusal h w0 w1 there = past_machine h _ there
 
 -- a line that makes no machine is refused where none stands
 pub no_machine_refusal : (h : History) (line : Line) → lacks_machine h line ≡ true → refusal h line ≡ Some NoMachine

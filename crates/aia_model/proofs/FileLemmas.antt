@@ -10,13 +10,18 @@ use Rattle.aia_model.specs.FileAfter.{FileDeed, select_by, select_after, file_by
 use Rattle.aia_model.specs.FileAfter.FileDeed.{Makes, Accesses, Stores, Rests}
 use Rattle.aia_model.specs.FileOf.{FileName, MachineFile, SupervisorFile, is_file, deed_at, select_of, file_of}
 
-pub file_step : (event : Event) (h : History) (f : FileName) → file_of (event ∷ h) f ≡ file_after (select_of h f) (deed_at f event) (file_of h f)
+pub file_step : (event : Event) (h : History) (f : FileName) → file_of (event ∷ h) f ≡ file_after (select_of h f) (deed_at f h event) (file_of h f)
 unfolding file_by
 file_step event h f = refl
 
-pub select_step : (event : Event) (h : History) (f : FileName) → select_of (event ∷ h) f ≡ select_after (deed_at f event) (select_of h f)
+pub select_step : (event : Event) (h : History) (f : FileName) → select_of (event ∷ h) f ≡ select_after (deed_at f h event) (select_of h f)
 unfolding select_by
 select_step event h f = refl
+
+-- of any file by its deeds, as a virtual hart's
+pub file_by_step : (deed : History → Event → FileDeed) (event : Event) (h : History) → file_by deed (event ∷ h) ≡ file_after (select_by deed h) (deed h event) (file_by deed h)
+unfolding file_by
+file_by_step deed event h = refl
 
 -- ---- names are told apart
 

@@ -13,10 +13,11 @@ use Rattle.aia_regs.specs.declared.access.Op.TheVariants as ops
 use Rattle.aia_regs.specs.Fields.{bit_number}
 use Rattle.aia_model.specs.declared.line.Line.{Line}
 use Rattle.aia_model.specs.declared.line.Line.TheVariants.{Machine, Wire, Load, Store, MachineCsr, HostCsr, Pins}
+use Rattle.aia_model.specs.declared.line.Line.TheVariants as lines
 use Rattle.aia_model.specs.Text.{number_of, below, ◌>>=◌}
 use Rattle.aia_model.specs.Grammar.{Field, Fits, AllFit, csr_names, is_csr, field_among, csr_field, instruction, fields_of}
-use Rattle.aia_model.specs.Grammar.Field.{Keyword, Decimal, Hex, Hex32, Bit, Unspelled}
-use Rattle.aia_model.specs.Reading.{Words, row_of, number_at, n32_at, bit_of, bit_at, named, csr_at, read_at, write_at, mnemonics, instruction_at, forms, machine_at, wire_at, store_at, load_at, machine_csr_at, host_csr_at, pins_at, line_at}
+use Rattle.aia_model.specs.Grammar.Field.{Keyword, Decimal, Decimal32, Hex, Hex32, Bit, Unspelled}
+use Rattle.aia_model.specs.Reading.{Words, row_of, number_at, n32_at, bit_of, bit_at, named, csr_at, read_at, write_at, mnemonics, instruction_at, forms, machine_at, vm_at, wire_at, store_at, load_at, msi_at, machine_csr_at, host_csr_at, pins_at, entry_at, line_at}
 use Rattle.aia_model.proofs.Readers.{chosen, ReadsWord, by_word, by_number, ReadsAll, the_end, ◌and_then◌, made_of, row_found, IsRow, reads_row, AreRows, spelled_by_rows}
 
 infixr 4 ◌and_row◌
@@ -34,15 +35,25 @@ hexadecimal : ReadsWord number_at Hex
 unfolding number_at
 hexadecimal = by_word number_of Hex (λ w n p. p) (λ w n p. p)
 
-small : ReadsWord n32_at Hex32
+-- a number below 2^32, whichever way it is printed
+abbrev IsSmall : List ℕ → ℕ → Type 0
+IsSmall w n = (number_of w ≡ Some n) × (n < 2 ^ 32)
+
+small_by : (field : ℕ → Field) → ((w : List ℕ) (n : ℕ) → Fits w (field n) → IsSmall w n) → ((w : List ℕ) (n : ℕ) → IsSmall w n → Fits w (field n)) → ReadsWord n32_at field
 unfolding n32_at
-small = by_number (below (2 ^ 32)) Hex32 (λ w n p. ap (λ o. o >>= below (2 ^ 32)) p.0 ∙ cond-true _ _ _ (lt-ltb n (2 ^ 32) p.1)) is_below
+small_by field small fits = by_number (below (2 ^ 32)) field (λ w n p. let q = small w n p in ap (λ o. o >>= below (2 ^ 32)) q.0 ∙ cond-true _ _ _ (lt-ltb n (2 ^ 32) q.1)) (λ w n s e b. fits w s (is_below w n s e b))
   where
-    is_below : (w : List ℕ) (n s : ℕ) → number_of w ≡ Some n → below (2 ^ 32) n ≡ Some s → Fits w (Hex32 s)
+    is_below : (w : List ℕ) (n s : ℕ) → number_of w ≡ Some n → below (2 ^ 32) n ≡ Some s → IsSmall w s
     is_below w n s e b = elim (chosen (nat_lt n (2 ^ 32)) (Some n) None (Some s) b) [
       | inl h ↦ let q : n ≡ s = cc in (e ∙ ap Some q, subst (λ n. n < 2 ^ 32) q (ltb-true n (2 ^ 32) h.0))
       | inr h ↦ let bad : ◌≡◌ {A = Option ℕ} None (Some s) = h.1 in absurd (cc)
     ]
+
+small : ReadsWord n32_at Hex32
+small = small_by Hex32 (λ w n p. p) (λ w n p. p)
+
+small_decimal : ReadsWord n32_at Decimal32
+small_decimal = small_by Decimal32 (λ w n p. p) (λ w n p. p)
 
 bit : ReadsWord bit_at Bit
 unfolding bit_at
@@ -157,6 +168,10 @@ machine : IsForm {A = ℕ × (ℕ × (ℕ × (ℕ × Unit {0})))} (codes "machin
 unfolding machine_at
 machine = a_form (decimal and_then decimal and_then decimal and_then decimal and_then the_end) _ _ refl (λ a. refl)
 
+vm : IsForm {A = ℕ × (ℕ × (ℕ × Unit {0}))} (codes "vm") vm_at (λ (vcpus, (mask, (hart, end))). lines.Vm vcpus mask hart)
+unfolding vm_at
+vm = a_form (decimal and_then hexadecimal and_then decimal and_then the_end) _ _ refl (λ a. refl)
+
 wire : IsForm {A = ℕ × (Bool × Unit {0})} (codes "wire") wire_at (λ (source, (level, end)). Wire source level)
 unfolding wire_at
 wire = a_form (decimal and_then bit and_then the_end) _ _ refl (λ a. refl)
@@ -168,6 +183,10 @@ load = a_form (hexadecimal and_then the_end) _ _ refl (λ a. refl)
 store : IsForm {A = ℕ × (ℕ × Unit {0})} (codes "st") store_at (λ (addr, (value, end)). Store addr value)
 unfolding store_at
 store = a_form (hexadecimal and_then small and_then the_end) _ _ refl (λ a. refl)
+
+msi : IsForm {A = ℕ × (ℕ × (ℕ × Unit {0}))} (codes "msi") msi_at (λ (vm, (addr, (value, end))). lines.Msi vm addr value)
+unfolding msi_at
+msi = a_form (decimal and_then hexadecimal and_then small_decimal and_then the_end) _ _ refl (λ a. refl)
 
 machine_csr : IsForm {A = ℕ × (Csr × Op)} (codes "m") machine_csr_at (λ (hart, (csr, op)). MachineCsr hart csr op)
 unfolding machine_csr_at
@@ -181,26 +200,36 @@ pins : IsForm {A = ℕ × Unit {0}} (codes "pins") pins_at (λ (hart, end). Pins
 unfolding pins_at
 pins = a_form (decimal and_then the_end) _ _ refl (λ a. refl)
 
+entry : IsForm {A = ℕ × (ℕ × Unit {0})} (codes "entry") entry_at (λ (w0, (w1, end)). lines.Entry w0 w1)
+unfolding entry_at
+entry = a_form (hexadecimal and_then hexadecimal and_then the_end) _ _ refl (λ a. refl)
+
 -- words that spell a line are read as it
 pub spelled_read : (ws : Words) (line : Line) → AllFit ws (fields_of line) → line_at ws ≡ Some line
 unfolding line_at
 spelled_read ws (Machine harts guests n sources) fits = machine.finds (harts, (guests, (n, (sources, tt)))) ws fits
+spelled_read ws (lines.Vm vcpus mask hart) fits = vm.finds (vcpus, (mask, (hart, tt))) ws fits
 spelled_read ws (Wire source level) fits = wire.finds (source, (level, tt)) ws fits
 spelled_read ws (Load addr) fits = load.finds (addr, tt) ws fits
 spelled_read ws (Store addr value) fits = store.finds (addr, (value, tt)) ws fits
+spelled_read ws (lines.Msi vm addr value) fits = msi.finds (vm, (addr, (value, tt))) ws fits
 spelled_read ws (MachineCsr hart csr op) fits = machine_csr.finds (hart, (csr, op)) ws fits
 spelled_read ws (HostCsr hart csr op) fits = host_csr.finds (hart, (csr, op)) ws fits
 spelled_read ws (Pins hart) fits = pins.finds (hart, tt) ws fits
+spelled_read ws (lines.Entry w0 w1) fits = entry.finds (w0, (w1, tt)) ws fits
 
 all_forms : AreRows fields_of forms
 all_forms =
     machine.found
+    and_row vm.found
     and_row wire.found
     and_row load.found
     and_row store.found
+    and_row msi.found
     and_row machine_csr.found
     and_row host_csr.found
     and_row pins.found
+    and_row entry.found
     and_row tt
 
 -- what is read is spelled so

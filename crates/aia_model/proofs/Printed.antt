@@ -16,8 +16,9 @@ use Rattle.aia_model.specs.declared.line.Line.TheVariants.{MachineCsr, HostCsr}
 use Rattle.aia_model.specs.declared.parsed.Parsed.TheVariants as parsed
 use Rattle.aia_model.specs.Text.{words_of}
 use Rattle.aia_model.specs.Grammar.{Spells, Field, Fits, AllFit, IsListed, HasSpelling, csr_names, csr_field, fields_of, instruction}
-use Rattle.aia_model.specs.Grammar.Field.{Keyword, Decimal, Hex, Hex32, Bit, Unspelled}
-use Rattle.aia_model.specs.Printing.{number_text, decimal_text, hex_text, field_text, line_text, FitsField, IsPrintable}
+use Rattle.aia_model.specs.Grammar.Field.{Keyword, Decimal, Decimal32, Hex, Hex32, Bit, Unspelled}
+use Rattle.aia_model.specs.AnswerText.{number_text, decimal_text}
+use Rattle.aia_model.specs.Printing.{hex_text, field_text, line_text, FitsField, IsPrintable}
 use Rattle.aia_model.specs.Reading.{reading}
 use Rattle.aia_model.proofs.PrintedNumbers.{decimal_again, hex_number_again, NoSpace, no_space_in_number, length-number_text}
 use Rattle.aia_model.proofs.Forms.{◌and_row◌, among, IsName, names}
@@ -32,6 +33,9 @@ pub record IsWord (word : List ℕ) (field : Field) : Type 0 where
 
 decimal_word : (n : ℕ) → n < 2 ^ 64 → IsWord (decimal_text n) (Decimal n)
 decimal_word n low = record { fits = decimal_again n low; no_space = no_space_in_number 10 n }
+
+decimal32_word : (n : ℕ) → n < 2 ^ 32 → IsWord (decimal_text n) (Decimal32 n)
+decimal32_word n low = record { fits = (decimal_again n (omega arith), low); no_space = no_space_in_number 10 n }
 
 hex_word : (n : ℕ) → n < 2 ^ 64 → IsWord (hex_text n) (Hex n)
 hex_word n low = record { fits = hex_number_again n low; no_space = (refl, (refl, no_space_in_number 16 n)) }
@@ -86,6 +90,7 @@ keyword_word word test = record { fits = refl; no_space = tested word test }
 field_word : (field : Field) → is_plain field ≡ true → HasSpelling field → FitsField field → IsWord (field_text field) field
 field_word (Keyword word) plain named range = keyword_word word plain
 field_word (Decimal n) plain named range = decimal_word n range
+field_word (Decimal32 n) plain named range = decimal32_word n range
 field_word (Hex n) plain named range = hex_word n range
 field_word (Hex32 n) plain named range = hex32_word n range
 field_word (Bit level) plain named range = bit_said level
@@ -95,6 +100,7 @@ field_word Unspelled plain named range = absurd named
 abbrev longest : Field → ℕ
 longest (Keyword word) = length word
 longest (Decimal n) = 20
+longest (Decimal32 n) = 10
 longest (Hex n) = 18
 longest (Hex32 n) = 10
 longest (Bit level) = 1
@@ -103,6 +109,7 @@ longest Unspelled = 0
 field_length : (field : Field) → FitsField field → length (field_text field) ≤ longest field
 field_length (Keyword word) range = omega arith
 field_length (Decimal n) range = length-number_text 10 20 n (omega arith) (omega arith) (omega arith)
+field_length (Decimal32 n) range = length-number_text 10 10 n (omega arith) (omega arith) (omega arith)
 field_length (Hex n) range = let low : length (number_text 16 n) ≤ 16 = length-number_text 16 16 n (omega arith) (omega arith) (omega arith) in omega arith
 field_length (Hex32 n) range = let low : length (number_text 16 n) ≤ 8 = length-number_text 16 8 n (omega arith) (omega arith) (omega arith) in omega arith
 field_length (Bit level) range = let low : bit_number level < 2 = bit_low level in length-number_text 10 1 (bit_number level) (omega arith) (omega arith) (omega arith)

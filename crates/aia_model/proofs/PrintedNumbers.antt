@@ -7,9 +7,9 @@ use Rattle.std.proofs.lemmas.Int.Digits.{number_digits_of, all_below_base_digits
 use Rattle.std.proofs.lemmas.Bool.{cases_eq, cases_lt, cond-true, cond-false, lt-ltb, le-ltb, eq-eqb, ne_eqb}
 use Rattle.std.proofs.lemmas.Bool.Decides.{nat_tests}
 use Rattle.std.proofs.lemmas.List.{length-map}
-use Rattle.aia_model.specs.AnswerText.{digit_character}
+use Rattle.aia_model.specs.AnswerText.{digit_character, number_text, decimal_text}
 use Rattle.aia_model.specs.Text.{decimal_digit, hex_digit, value_after, below, after_zero, number_of, ◌>>=◌}
-use Rattle.aia_model.specs.Printing.{number_text, decimal_text, hex_text}
+use Rattle.aia_model.specs.Printing.{hex_text}
 
 -- ---- a number that is printed is read again
 

@@ -7,8 +7,10 @@ use Rattle.aia_regs.specs.declared.access.Csr.{Csr}
 use Rattle.aia_regs.specs.declared.access.Csr.TheVariants.{Select, Reg, Topei}
 use Rattle.aia_regs.specs.FileRegisters.{register_of}
 use Rattle.aia_file.specs.InterruptFile.{InterruptFile, register_value, top_of, signals}
+use Rattle.aia_entry.specs.Format.{decoded}
 use Rattle.aia_model.specs.declared.line.Line.{Line}
 use Rattle.aia_model.specs.declared.line.Line.TheVariants.{Load, MachineCsr, HostCsr, Pins}
+use Rattle.aia_model.specs.declared.line.Line.TheVariants as lines
 use Rattle.aia_model.specs.declared.answer.Answer.{Answer}
 use Rattle.aia_model.specs.declared.answer.Answer.TheVariants.{Okay, Narrow, Wide}
 use Rattle.aia_model.specs.declared.answer.Answer.TheVariants as kinds
@@ -43,7 +45,7 @@ load_value h addr =
 
 -- What an accepted line answers: a load what it reads, a CSR instruction the value that the CSR
 -- read before it, `pins` the signals of a hart (of both domains, of its machine-level file and of
--- its supervisor file), and every other line `ok`.
+-- its supervisor file), `entry` what the two words say, and every other line `ok`.
 abbrev pub accepted_answer : History → Line → Answer
 accepted_answer h (Load addr) = Narrow (load_value h addr)
 accepted_answer h (MachineCsr hart csr op) = Wide (csr_value h (MachineFile hart) csr)
@@ -51,6 +53,7 @@ accepted_answer h (HostCsr hart csr op) = Wide (csr_value h (SupervisorFile hart
 accepted_answer h (Pins hart) =
     kinds.Pins (is_signalled (acts_of h) Root hart) (is_signalled (acts_of h) Child hart)
     (signals (file_of h (MachineFile hart))) (signals (file_of h (SupervisorFile hart)))
+accepted_answer h (lines.Entry w0 w1) = kinds.Entry (decoded w0 w1)
 accepted_answer h line = Okay
 
 -- What a line answers: the word of its refusal, else what it answers where it is accepted.

@@ -1,5 +1,5 @@
 -- What happens to a machine, and the history of a script. Vocabulary.
-use Rattle.std.specs.Prelude.{ℕ, Bool, is_some, List, [], ◌∷◌, Option, Some, None}
+use Rattle.std.specs.Prelude.{ℕ, Bool, is_some, nat_lt, List, [], ◌∷◌, Option, Some, None}
 use Rattle.std.specs.Option.{option_map_or}
 use Rattle.aia_model.specs.declared.line.Line.{Line}
 use Rattle.aia_model.specs.declared.line.Line.TheVariants.{Machine}
@@ -41,6 +41,10 @@ guests_of h = option_map_or (λ (m : Shape). m.guests) (machine_of h) 0
 -- How many harts there are, 0 where no machine stands.
 abbrev pub harts_of : History → ℕ
 harts_of h = option_map_or (λ (m : Shape). m.harts) (machine_of h) 0
+
+-- Whether a hart is there.
+abbrev pub has_hart : History → ℕ → Bool
+has_hart h hart = nat_lt hart (harts_of h)
 
 -- How many wired sources there are, 0 where no machine stands.
 abbrev pub sources_of : History → ℕ

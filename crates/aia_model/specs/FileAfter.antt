@@ -40,17 +40,18 @@ file_after select (Accesses Topei op) file = if is_writing op then claimed file 
 file_after select (Stores offset value) file = landed offset value file
 file_after select deed file = file
 
--- ---- the file after a history, each of whose events is a deed at it
+-- ---- the file after a history, each of whose events is a deed at it, by what was before
 
 -- The select number: what the newest write keeps.
-unfoldable pub select_by : (Event → FileDeed) → History → ℕ
+unfoldable pub select_by : (History → Event → FileDeed) → History → ℕ
 select_by deed [] = 0
-select_by deed (event ∷ past) = select_after (deed event) (select_by deed past)
+select_by deed (event ∷ past) = select_after (deed past event) (select_by deed past)
 
 -- The file.
-unfoldable pub file_by : (Event → FileDeed) → History → InterruptFile
+unfoldable pub file_by : (History → Event → FileDeed) → History → InterruptFile
 file_by deed [] = empty_file 0
-file_by deed (event ∷ past) = file_after (select_by deed past) (deed event) (file_by deed past)
+file_by deed (event ∷ past) =
+    file_after (select_by deed past) (deed past event) (file_by deed past)
 
 -- ---- the word of a deed on an identity: the law of the newest word says that it decides
 

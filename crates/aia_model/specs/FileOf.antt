@@ -1,12 +1,15 @@
 -- The interrupt files of the host that a history gives. Vocabulary, where no chapter is named.
-use Rattle.std.specs.Prelude.{ℕ, ◌%◌, Bool, false, nat_eq, if◌then◌else◌}
+use Rattle.std.specs.Prelude.{ℕ, ◌%◌, Bool, false, nat_eq, if◌then◌else◌, Option, Some, None}
 use Rattle.aia_regs.specs.AddressMap.{machine_page, supervisor_page, is_in_page}
 use Rattle.aia_file.specs.InterruptFile.{InterruptFile}
+use Rattle.aia_home.specs.Vms.{Vcpu, notice_identity, notice_hart}
 use Rattle.aia_imsic.specs.declared.spot.Spot.{Spot}
 use Rattle.aia_imsic.specs.Map.{spot_at}
 use Rattle.aia_model.specs.declared.line.Line.TheVariants.{Machine, Store, MachineCsr, HostCsr}
 use Rattle.aia_model.specs.Event.{Event, History, harts_of, guests_of}
 use Rattle.aia_model.specs.Event.Event.{Accepted, Delivered}
+use Rattle.aia_model.specs.Vms.{vms_of}
+use Rattle.aia_model.specs.Notice.{noticed}
 use Rattle.aia_model.specs.FileAfter.{FileDeed, select_by, file_by}
 use Rattle.aia_model.specs.FileAfter.FileDeed.{Makes, Accesses, Stores, Rests}
 
@@ -39,17 +42,26 @@ page_at h addr = spot_at (harts_of h) (guests_of h) addr
 abbrev pub store_deed : FileName → ℕ → ℕ → FileDeed
 store_deed f addr value = if is_at f addr then Stores (addr % 0x1000) value else Rests
 
--- The deed of an event at a file; an access is its own hart's alone. It is said of
--- files that aren't there too, which no line can name.
-abbrev pub deed_at : FileName → Event → FileDeed
-deed_at f (Accepted (Machine harts guests n sources)) = Makes n
-deed_at f (Accepted (Store addr value)) = store_deed f addr value
-deed_at f (Accepted (MachineCsr hart csr op)) =
+-- A notice for a virtual hart is a store of its notice identity at the supervisor file of its
+-- notice hart.
+-- AIA 1.0, IOMMU Support for MSIs to Virtual Machines, "Memory-resident interrupt files".
+abbrev pub notice_deed : History → FileName → Option Vcpu → FileDeed
+notice_deed past f None = Rests
+notice_deed past f (Some g) =
+    if is_file f (SupervisorFile (notice_hart (vms_of past) g))
+    then Stores 0 (notice_identity (vms_of past) g) else Rests
+
+-- The deed of an event at a file, after what was before; an access is its own hart's alone. It is
+-- said of files that aren't there too, which no line can name.
+abbrev pub deed_at : FileName → History → Event → FileDeed
+deed_at f past (Accepted (Machine harts guests n sources)) = Makes n
+deed_at f past (Accepted (Store addr value)) = store_deed f addr value
+deed_at f past (Accepted (MachineCsr hart csr op)) =
     if is_file f (MachineFile hart) then Accesses csr op else Rests
-deed_at f (Accepted (HostCsr hart csr op)) =
+deed_at f past (Accepted (HostCsr hart csr op)) =
     if is_file f (SupervisorFile hart) then Accesses csr op else Rests
-deed_at f (Delivered msi) = store_deed f msi.address msi.value
-deed_at f event = Rests
+deed_at f past (Delivered msi) = store_deed f msi.address msi.value
+deed_at f past event = notice_deed past f (noticed past event)
 
 -- ---- the file after a history
 

@@ -4,6 +4,7 @@ use Rattle.std.specs.List.{AllByRecursion}
 use Rattle.aia_model.specs.declared.limits.TheConstants.{LINE_BYTES}
 use Rattle.aia_model.specs.declared.line.Line.{Line}
 use Rattle.aia_model.specs.declared.line.Line.TheVariants.{Machine, Wire, Load, Store, MachineCsr, HostCsr, Pins}
+use Rattle.aia_model.specs.declared.line.Line.TheVariants as lines
 use Rattle.aia_regs.specs.declared.access.Csr.{Csr}
 use Rattle.aia_regs.specs.declared.access.Csr.TheVariants.{Select, Reg, Topei, Topi, Sip, Sie}
 use Rattle.aia_regs.specs.declared.access.Level.{Level}
@@ -18,6 +19,7 @@ use Rattle.aia_model.specs.Text.{words_of, number_of}
 pub data Field : Type 0 where
   Keyword : (word : List ℕ) → Field
   Decimal : (n : ℕ) → Field
+  Decimal32 : (n : ℕ) → Field  -- below 2^32
   Hex : (n : ℕ) → Field
   Hex32 : (n : ℕ) → Field  -- below 2^32
   Bit : (level : Bool) → Field  -- 1 or 0
@@ -27,6 +29,7 @@ pub data Field : Type 0 where
 abbrev pub Fits : List ℕ → Field → Type 0
 Fits word (Keyword k) = word ≡ k
 Fits word (Decimal n) = number_of word ≡ Some n
+Fits word (Decimal32 n) = (number_of word ≡ Some n) × (n < 2 ^ 32)
 Fits word (Hex n) = number_of word ≡ Some n
 Fits word (Hex32 n) = (number_of word ≡ Some n) × (n < 2 ^ 32)
 Fits word (Bit level) = number_of word ≡ Some (bit_number level)
@@ -87,14 +90,19 @@ instruction csr (ops.Clear v) = Keyword (codes "csrrc") ∷ csr ∷ Hex v ∷ []
 abbrev pub fields_of : Line → List Field
 fields_of (Machine harts guests n sources) =
     Keyword (codes "machine") ∷ Decimal harts ∷ Decimal guests ∷ Decimal n ∷ Decimal sources ∷ []
+fields_of (lines.Vm vcpus mask hart) =
+    Keyword (codes "vm") ∷ Decimal vcpus ∷ Hex mask ∷ Decimal hart ∷ []
 fields_of (Wire source level) = Keyword (codes "wire") ∷ Decimal source ∷ Bit level ∷ []
 fields_of (Load addr) = Keyword (codes "ld") ∷ Hex addr ∷ []
 fields_of (Store addr value) = Keyword (codes "st") ∷ Hex addr ∷ Hex32 value ∷ []
+fields_of (lines.Msi vm addr value) =
+    Keyword (codes "msi") ∷ Decimal vm ∷ Hex addr ∷ Decimal32 value ∷ []
 fields_of (MachineCsr hart csr op) =
     Keyword (codes "m") ∷ Decimal hart ∷ instruction (csr_field levels.Machine csr) op
 fields_of (HostCsr hart csr op) =
     Keyword (codes "h") ∷ Decimal hart ∷ instruction (csr_field levels.Host csr) op
 fields_of (Pins hart) = Keyword (codes "pins") ∷ Decimal hart ∷ []
+fields_of (lines.Entry w0 w1) = Keyword (codes "entry") ∷ Hex w0 ∷ Hex w1 ∷ []
 
 -- Whether a text spells a line: it has at most LINE_BYTES bytes, and its words spell the line's
 -- fields.

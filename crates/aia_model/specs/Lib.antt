@@ -7,7 +7,11 @@ pub mod Act
 pub mod AddressOf
 pub mod SourceOf
 pub mod Sent
+pub mod Vms
 pub mod FileAfter
+pub mod GuestFile
+pub mod HomeOf
+pub mod Notice
 pub mod FileOf
 pub mod Refusal
 pub mod Answer

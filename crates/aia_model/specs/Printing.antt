@@ -1,20 +1,11 @@
 -- How a line is printed: its fields, with one space between two. Profile.
-use Rattle.std.specs.Prelude.{ℕ, ◌^◌, ◌<◌, nat_eq, if◌then◌else◌, List, [], ◌++◌, map, codes}
-use Rattle.std.specs.Int.Digits.{digits_of}
+use Rattle.std.specs.Prelude.{ℕ, ◌^◌, ◌<◌, List, [], ◌++◌, map, codes}
 use Rattle.std.specs.List.{join_with_byte, AllByRecursion}
 use Rattle.aia_regs.specs.Fields.{bit_number}
 use Rattle.aia_model.specs.declared.line.Line.{Line}
-use Rattle.aia_model.specs.AnswerText.{digit_character}
+use Rattle.aia_model.specs.AnswerText.{number_text, decimal_text}
 use Rattle.aia_model.specs.Grammar.{Field, fields_of}
-use Rattle.aia_model.specs.Grammar.Field.{Keyword, Decimal, Hex, Hex32, Bit, Unspelled}
-
--- A number by its digits in a base, without leading zeros.
-abbrev pub number_text : ℕ → ℕ → List ℕ
-number_text base n = if nat_eq n 0 then codes "0" else map digit_character (digits_of base n)
-
--- A number in decimal.
-abbrev pub decimal_text : ℕ → List ℕ
-decimal_text = number_text 10
+use Rattle.aia_model.specs.Grammar.Field.{Keyword, Decimal, Decimal32, Hex, Hex32, Bit, Unspelled}
 
 -- A number as `0x` and lower-case digits.
 abbrev pub hex_text : ℕ → List ℕ
@@ -24,6 +15,7 @@ hex_text n = codes "0x" ++ number_text 16 n
 abbrev pub field_text : Field → List ℕ
 field_text (Keyword word) = word
 field_text (Decimal n) = decimal_text n
+field_text (Decimal32 n) = decimal_text n
 field_text (Hex n) = hex_text n
 field_text (Hex32 n) = hex_text n
 field_text (Bit level) = decimal_text (bit_number level)
@@ -37,6 +29,7 @@ line_text line = join_with_byte 32 (map field_text (fields_of line))
 abbrev pub FitsField : Field → Type 0
 FitsField (Keyword word) = Unit {0}
 FitsField (Decimal n) = n < 2 ^ 64
+FitsField (Decimal32 n) = n < 2 ^ 32
 FitsField (Hex n) = n < 2 ^ 64
 FitsField (Hex32 n) = n < 2 ^ 32
 FitsField (Bit level) = Unit {0}

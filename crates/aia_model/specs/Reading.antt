@@ -5,6 +5,7 @@ use Rattle.std.specs.Str.{bytes_eq}
 use Rattle.aia_model.specs.declared.limits.TheConstants.{LINE_BYTES}
 use Rattle.aia_model.specs.declared.line.Line.{Line}
 use Rattle.aia_model.specs.declared.line.Line.TheVariants.{Machine, Wire, Load, Store, MachineCsr, HostCsr, Pins}
+use Rattle.aia_model.specs.declared.line.Line.TheVariants as lines
 use Rattle.aia_model.specs.declared.parsed.Parsed.{Parsed}
 use Rattle.aia_model.specs.declared.parsed.Parsed.TheVariants as parsed
 use Rattle.aia_regs.specs.declared.access.Csr.{Csr}
@@ -73,6 +74,13 @@ machine_at words = do
   sources ← number_at n.1
   at_end sources.1 (Machine harts.0 guests.0 n.0 sources.0)
 
+unfoldable pub vm_at : Words → Option Line
+vm_at words = do
+  vcpus ← number_at words
+  mask ← number_at vcpus.1
+  hart ← number_at mask.1
+  at_end hart.1 (lines.Vm vcpus.0 mask.0 hart.0)
+
 unfoldable pub wire_at : Words → Option Line
 wire_at words = do
   source ← number_at words
@@ -89,6 +97,19 @@ unfoldable pub load_at : Words → Option Line
 load_at words = do
   addr ← number_at words
   at_end addr.1 (Load addr.0)
+
+unfoldable pub msi_at : Words → Option Line
+msi_at words = do
+  vm ← number_at words
+  addr ← number_at vm.1
+  value ← n32_at addr.1
+  at_end value.1 (lines.Msi vm.0 addr.0 value.0)
+
+unfoldable pub entry_at : Words → Option Line
+entry_at words = do
+  w0 ← number_at words
+  w1 ← number_at w0.1
+  at_end w1.1 (lines.Entry w0.0 w1.0)
 
 -- The CSR that a word names at a level.
 abbrev pub named : Level → List ℕ → Option Csr
@@ -154,12 +175,15 @@ pins_at words = do
 abbrev pub forms : List (List ℕ × (Words → Option Line))
 forms =
     (codes "machine", machine_at)
+    ∷ (codes "vm", vm_at)
     ∷ (codes "wire", wire_at)
     ∷ (codes "ld", load_at)
     ∷ (codes "st", store_at)
+    ∷ (codes "msi", msi_at)
     ∷ (codes "m", machine_csr_at)
     ∷ (codes "h", host_csr_at)
     ∷ (codes "pins", pins_at)
+    ∷ (codes "entry", entry_at)
     ∷ []
 
 -- What follows a line's keyword.

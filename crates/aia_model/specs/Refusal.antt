@@ -1,22 +1,28 @@
 -- When a line is refused, and with which word.
-use Rattle.std.specs.Prelude.{ℕ, ◌%◌, Bool, true, false, ◌&&◌, ◌||◌, not, nat_eq, nat_lt, is_some, is_none, List, [], ◌∷◌, if◌then◌else◌, Option, Some, None}
+use Rattle.std.specs.Prelude.{ℕ, ◌+◌, ◌%◌, ◌^◌, Bool, true, false, ◌&&◌, ◌||◌, not, nat_eq, nat_lt, nat_le, is_some, is_none, List, [], ◌∷◌, length, if◌then◌else◌, Option, Some, None}
 use Rattle.std.specs.Int.{is_in_range}
 use Rattle.aia_regs.specs.declared.access.Level.TheVariants as levels
 use Rattle.aia_csr.specs.declared.access.Access.{Access}
 use Rattle.aia_csr.specs.declared.access.Access.TheVariants as accesses
 use Rattle.aia_csr.specs.Access.{access_of}
-use Rattle.aia_regs.specs.declared.limits.TheConstants.{HARTS, GUEST_FILES, SOURCES}
+use Rattle.aia_regs.specs.declared.limits.TheConstants.{HARTS, GUEST_FILES, SOURCES, VMS, VM_VCPUS, VCPUS}
 use Rattle.aia_regs.specs.AddressMap.{is_in_memory}
 use Rattle.aia_file.specs.InterruptFile.{is_greatest_identity}
+use Rattle.aia_word.specs.Packed.{ones}
+use Rattle.aia_entry.specs.Translation.{is_mask, is_msi_address}
+use Rattle.aia_home.specs.Vms.{vcpus_in}
 use Rattle.aia_imsic.specs.declared.spot.Spot.{Spot}
 use Rattle.aia_imsic.specs.Map.{is_page, is_guest_page}
 use Rattle.aia_model.specs.declared.line.Line.{Line}
 use Rattle.aia_model.specs.declared.line.Line.TheVariants.{Machine, Wire, Load, Store, MachineCsr, HostCsr, Pins}
+use Rattle.aia_model.specs.declared.line.Line.TheVariants as lines
 use Rattle.aia_model.specs.declared.answer.Answer.{Answer}
 use Rattle.aia_model.specs.declared.answer.Answer.TheVariants.{NoMachine, Again, Refused}
-use Rattle.aia_model.specs.declared.refusal.Refusal.TheVariants.{Range, Illegal, Fault, Guarded}
-use Rattle.aia_model.specs.Event.{History, has_machine, harts_of, sources_of}
+use Rattle.aia_model.specs.declared.refusal.Refusal.TheVariants.{Range, Full, Illegal, Fault, Guarded, Other, NotValid}
+use Rattle.aia_model.specs.Event.{History, has_machine, has_hart, sources_of}
 use Rattle.aia_model.specs.Act.{domain_at}
+use Rattle.aia_model.specs.Vms.{vms_of, has_vm, has_vcpu, mask_of}
+use Rattle.aia_model.specs.GuestFile.{named_by}
 use Rattle.aia_model.specs.FileOf.{MachineFile, SupervisorFile, page_at, select_of}
 
 -- ---- the cells: whether a word's condition holds of a line after a history
@@ -39,14 +45,30 @@ is_machine_size harts guests n sources =
     is_in_range 1 HARTS harts && is_in_range 0 GUEST_FILES guests && is_greatest_identity n
     && is_in_range 1 SOURCES sources
 
--- `range`: a machine's number is out of its limits, or the named source or hart isn't there.
+-- Whether a VM may have these numbers: its mask may be one, and it has 1 to as many virtual harts
+-- as the ones of the mask number.
+abbrev pub is_vm_size : ℕ → ℕ → Bool
+is_vm_size vcpus mask = is_mask mask && is_in_range 1 (2 ^ ones 64 mask) vcpus
+
+-- `range`: a machine's or a VM's number is out of its limits, or the named source, hart or VM isn't
+-- there.
 abbrev pub is_out_of_range : History → Line → Bool
 is_out_of_range h (Machine harts guests n sources) = not (is_machine_size harts guests n sources)
+is_out_of_range h (lines.Vm vcpus mask hart) = not (is_vm_size vcpus mask && has_hart h hart)
 is_out_of_range h (Wire source level) = not (is_in_range 1 (sources_of h) source)
-is_out_of_range h (MachineCsr hart csr op) = not (nat_lt hart (harts_of h))
-is_out_of_range h (HostCsr hart csr op) = not (nat_lt hart (harts_of h))
-is_out_of_range h (Pins hart) = not (nat_lt hart (harts_of h))
+is_out_of_range h (lines.Msi vm addr value) = not (has_vm h vm)
+is_out_of_range h (MachineCsr hart csr op) = not (has_hart h hart)
+is_out_of_range h (HostCsr hart csr op) = not (has_hart h hart)
+is_out_of_range h (Pins hart) = not (has_hart h hart)
 is_out_of_range h line = false
+
+-- `full`: as many VMs stand as may, or the VM has more virtual harts than one may, or with it all
+-- have more than may be.
+abbrev pub is_full : History → Line → Bool
+is_full h (lines.Vm vcpus mask hart) =
+    nat_le VMS (length (vms_of h)) || nat_lt VM_VCPUS vcpus
+    || nat_lt VCPUS (vcpus_in (vms_of h) + vcpus)
+is_full h line = false
 
 -- `illegal`: by the access table.
 abbrev pub raises_illegal : Access → Bool
@@ -60,8 +82,8 @@ is_illegal h (HostCsr hart csr op) =
     raises_illegal (access_of levels.Host csr op (select_of h (SupervisorFile hart)) false)
 is_illegal h line = false
 
--- `fault`: the address isn't a multiple of 4, or lies neither in a domain's control region nor in a
--- file's page nor in memory; given the place in whose page it lies.
+-- `fault`: the address isn't a multiple of 4, or, of a load or a store, lies neither in a domain's
+-- control region nor in a file's page nor in memory; given the place in whose page it lies.
 abbrev pub faults : Spot → ℕ → Bool
 faults spot addr =
     not (nat_eq (addr % 4) 0 && (is_some (domain_at addr) || is_page spot || is_in_memory addr))
@@ -69,6 +91,7 @@ faults spot addr =
 abbrev pub is_fault : History → Line → Bool
 is_fault h (Load addr) = faults (page_at h addr) addr
 is_fault h (Store addr value) = faults (page_at h addr) addr
+is_fault h (lines.Msi vm addr value) = not (nat_eq (addr % 4) 0)
 is_fault h line = false
 
 -- `guarded`: a guest's file or memory lies there; given the place in whose page it lies.
@@ -80,13 +103,25 @@ is_guarded h (Load addr) = guards (page_at h addr) addr
 is_guarded h (Store addr value) = guards (page_at h addr) addr
 is_guarded h line = false
 
+-- `other`: the address is no MSI address of the VM.
+-- AIA 1.0, IOMMU Support for MSIs to Virtual Machines.
+abbrev pub is_other : History → Line → Bool
+is_other h (lines.Msi vm addr value) = not (is_msi_address (mask_of h vm) addr)
+is_other h line = false
+
+-- `notvalid`: it names the file of no virtual hart.
+abbrev pub names_none : History → Line → Bool
+names_none h (lines.Msi vm addr value) = not (has_vcpu h (named_by h vm addr))
+names_none h line = false
+
 -- ---- the order
 
 -- The words with their cells, in the order in which they come.
 abbrev pub refusals : List (Answer × (History → Line → Bool))
 refusals =
     (NoMachine, lacks_machine) ∷ (Again, has_one_already) ∷ (Refused Range, is_out_of_range)
-    ∷ (Refused Illegal, is_illegal) ∷ (Refused Fault, is_fault) ∷ (Refused Guarded, is_guarded)
+    ∷ (Refused Full, is_full) ∷ (Refused Illegal, is_illegal) ∷ (Refused Fault, is_fault)
+    ∷ (Refused Guarded, is_guarded) ∷ (Refused Other, is_other) ∷ (Refused NotValid, names_none)
     ∷ []
 
 -- The first word whose cell holds, None where none does.

@@ -1,4 +1,5 @@
 use crate::Refusal;
+use aia_entry::Entry;
 
 /// What a text answers, if it is not skipped: one form for each form of answer.
 #[derive(Clone, Copy, Debug, PartialEq, Eq)]
@@ -12,6 +13,8 @@ pub enum Answer {
     /// `pins` and four digits: whether the hart is signalled by the APLIC's root domain, by its
     /// child, by the machine-level file, by the supervisor file.
     Pins(bool, bool, bool, bool),
+    /// `basic P`, `mrif A P I`, `notvalid`, `custom` or `misconfigured`: what an entry says.
+    Entry(Entry),
     /// `bad`: the text spells no line.
     Bad,
     /// `nomachine`: no machine stands.

@@ -11,6 +11,13 @@ pub enum Line {
         n: u64,
         sources: u64,
     },
+    /// `vm C MASK HART`: makes the next VM, of `vcpus` virtual harts, whose MSI addresses have this
+    /// mask and whose notices go to the supervisor file of a hart.
+    Vm {
+        vcpus: u64,
+        mask: u64,
+        hart: u64,
+    },
     /// `wire S L`: the wire of a source gets a level.
     Wire {
         source: u64,
@@ -22,6 +29,12 @@ pub enum Line {
     },
     /// `st A V`: the host, or a device of it, stores 32 bits at an address.
     Store {
+        addr: u64,
+        value: u32,
+    },
+    /// `msi VM A D`: a device of a VM stores 32 bits at an address.
+    Msi {
+        vm: u64,
         addr: u64,
         value: u32,
     },
@@ -40,5 +53,10 @@ pub enum Line {
     /// `pins H`: which of a hart's interrupt signals are high.
     Pins {
         hart: u64,
+    },
+    /// `entry W0 W1`: what an entry of an MSI page table of these words says.
+    Entry {
+        w0: u64,
+        w1: u64,
     },
 }

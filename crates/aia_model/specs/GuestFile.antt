@@ -1,0 +1,31 @@
+-- The interrupt file of a virtual hart that a history gives: it is one file, that never moves.
+use Rattle.std.specs.Prelude.{ℕ, ◌%◌, if◌then◌else◌}
+use Rattle.aia_regs.specs.declared.address_map.TheConstants.{PAGE}
+use Rattle.aia_file.specs.InterruptFile.{InterruptFile}
+use Rattle.aia_entry.specs.Translation.{file_number}
+use Rattle.aia_home.specs.Vms.{Vcpu, vcpu, is_vcpu}
+use Rattle.aia_model.specs.declared.line.Line.TheVariants.{Machine}
+use Rattle.aia_model.specs.declared.line.Line.TheVariants as lines
+use Rattle.aia_model.specs.Event.{Event, History}
+use Rattle.aia_model.specs.Event.Event.{Accepted}
+use Rattle.aia_model.specs.FileAfter.{FileDeed, file_by}
+use Rattle.aia_model.specs.FileAfter.FileDeed.{Makes, Stores, Rests}
+use Rattle.aia_model.specs.Vms.{mask_of}
+
+-- The virtual hart whose file an MSI address of its VM names.
+-- AIA 1.0, IOMMU Support for MSIs to Virtual Machines.
+abbrev pub named_by : History → ℕ → ℕ → Vcpu
+named_by past vm addr = vcpu vm (file_number (mask_of past vm) addr)
+
+-- The deed of an event at a virtual hart's file: a store of a device of its VM reaches it at an
+-- address that names it. Vocabulary: it comes to be with the machine, though nothing can reach it
+-- before its VM stands.
+abbrev pub guest_deed : Vcpu → History → Event → FileDeed
+guest_deed g past (Accepted (Machine harts guests n sources)) = Makes n
+guest_deed g past (Accepted (lines.Msi vm addr value)) =
+    if is_vcpu g (named_by past vm addr) then Stores (addr % PAGE) value else Rests
+guest_deed g past event = Rests
+
+-- The file.
+abbrev pub guest_file : History → Vcpu → InterruptFile
+guest_file h g = file_by (guest_deed g) h
