@@ -29,7 +29,7 @@ use Rattle.aia_hyp.specs.Core.{CoreState}
 use Rattle.aia_hyp.specs.HostFiles.{IsHost, HasDone, name_of, csr_line, spot_of, select_in}
 use Rattle.aia_hyp.specs.Stands.{CoreStands, CoreTakes}
 use Rattle.aia_hyp.proofs.NameLemmas.{named_there}
-use Rattle.aia_hyp.proofs.EventLemmas.{one_done, accepted, refused}
+use Rattle.aia_hyp.proofs.EventLemmas.{IsHosts, one_done, accepted, refused}
 
 -- ---- what is reached
 
@@ -88,50 +88,49 @@ csr_accepted levels.Host host h hart csr op = refl
 csr_accepted levels.Guest host h hart csr op = absurd host
 
 -- it is a deed at its own hart's file
-own_access : (level : Level) → IsHost level → (hart : ℕ) (csr : Csr) (op : Op) → deed_at (name_of level hart) (Accepted (csr_line level hart csr op)) ≡ Accesses csr op
-own_access levels.Machine host hart csr op = cond-true _ _ _ (is_file-itself (MachineFile hart) (MachineFile hart) refl)
-own_access levels.Host host hart csr op = cond-true _ _ _ (is_file-itself (SupervisorFile hart) (SupervisorFile hart) refl)
-own_access levels.Guest host hart csr op = absurd host
+own_access : (level : Level) → IsHost level → (h : History) (hart : ℕ) (csr : Csr) (op : Op) → deed_at (name_of level hart) h (Accepted (csr_line level hart csr op)) ≡ Accesses csr op
+own_access levels.Machine host h hart csr op = cond-true _ _ _ (is_file-itself (MachineFile hart) (MachineFile hart) refl)
+own_access levels.Host host h hart csr op = cond-true _ _ _ (is_file-itself (SupervisorFile hart) (SupervisorFile hart) refl)
+own_access levels.Guest host h hart csr op = absurd host
 
-other_access : (level : Level) → IsHost level → (hart : ℕ) (g : FileName) (csr : Csr) (op : Op) → g ≢ name_of level hart → deed_at g (Accepted (csr_line level hart csr op)) ≡ Rests
-other_access levels.Machine host hart g csr op ne = cond-false _ _ _ (is_file-other g (MachineFile hart) ne)
-other_access levels.Host host hart g csr op ne = cond-false _ _ _ (is_file-other g (SupervisorFile hart) ne)
-other_access levels.Guest host hart g csr op ne = absurd host
+other_access : (level : Level) → IsHost level → (h : History) (hart : ℕ) (g : FileName) (csr : Csr) (op : Op) → g ≢ name_of level hart → deed_at g h (Accepted (csr_line level hart csr op)) ≡ Rests
+other_access levels.Machine host h hart g csr op ne = cond-false _ _ _ (is_file-other g (MachineFile hart) ne)
+other_access levels.Host host h hart g csr op ne = cond-false _ _ _ (is_file-other g (SupervisorFile hart) ne)
+other_access levels.Guest host h hart g csr op ne = absurd host
 
-machine_stays : (level : Level) → IsHost level → (h : History) (hart : ℕ) (csr : Csr) (op : Op) → machine_of (Accepted (csr_line level hart csr op) ∷ h) ≡ machine_of h
-machine_stays levels.Machine host h hart csr op = refl
-machine_stays levels.Host host h hart csr op = refl
-machine_stays levels.Guest host h hart csr op = absurd host
+is_hosts_line : (level : Level) → IsHost level → (h : History) (hart : ℕ) (csr : Csr) (op : Op) → IsHosts h (Accepted (csr_line level hart csr op))
+is_hosts_line levels.Machine host h hart csr op = record { machine = refl; vms = refl; quiet = refl; guests = λ g. refl }
+is_hosts_line levels.Host host h hart csr op = record { machine = refl; vms = refl; quiet = refl; guests = λ g. refl }
+is_hosts_line levels.Guest host h hart csr op = absurd host
 
 -- ---- what the core promises of it
 
-pub no_hart : (x : CoreState) (level : Level) → IsHost level → (hart : ℕ) (csr : Csr) (op : Op) → x.imsic.harts ≤ hart → CoreTakes x x (csr_line level hart csr op) (Refused Range)
+pub no_hart : (x : CoreState) (level : Level) → IsHost level → (hart : ℕ) (csr : Csr) (op : Op) → x.world.imsic.harts ≤ hart → CoreTakes x x (csr_line level hart csr op) (Refused Range)
 no_hart x level host hart csr op past = refused x (csr_line level hart csr op) (Refused Range) (λ h stands.
     csr_refusal level host h hart csr op stands.there ∙ cond-true _ _ _ (ap not (le-ltb hart (harts_of h) (omega (arith, stands.harts)))))
 
 -- the refusal of an access of a hart that is there, by the select number that the core keeps
-refusal_there : (x : CoreState) (level : Level) (host : IsHost level) (hart : ℕ) (csr : Csr) (op : Op) (access : Access) (h : History) → hart < x.imsic.harts → access ≡ access_of level csr op (select_in x (name_of level hart)) false → CoreStands x h
+refusal_there : (x : CoreState) (level : Level) (host : IsHost level) (hart : ℕ) (csr : Csr) (op : Op) (access : Access) (h : History) → hart < x.world.imsic.harts → access ≡ access_of level csr op (select_in x (name_of level hart)) false → CoreStands x h
     → refusal h (csr_line level hart csr op) ≡ cond (raises_illegal access) (Some (Refused Illegal)) None
 refusal_there x level host hart csr op access h inside table stands =
     csr_refusal level host h hart csr op stands.there ∙ cond-false _ _ _ (ap not (lt-ltb hart (harts_of h) (omega (arith, stands.harts))))
-    ∙ ap (λ s. cond (raises_illegal (access_of level csr op s false)) (Some (Refused Illegal)) None) (sym (stands.host (name_of level hart) (named_there level host x.imsic hart inside)).select)
+    ∙ ap (λ s. cond (raises_illegal (access_of level csr op s false)) (Some (Refused Illegal)) None) (sym (stands.host (name_of level hart) (named_there level host x.world.imsic hart inside)).select)
     ∙ ap (λ (a : Access). cond (raises_illegal a) (Some (Refused Illegal)) None) (sym table)
 
-pub illegal : (x : CoreState) (level : Level) → IsHost level → (hart : ℕ) (csr : Csr) (op : Op) → hart < x.imsic.harts → reaches.Illegal ≡ access_of level csr op (select_in x (name_of level hart)) false
+pub illegal : (x : CoreState) (level : Level) → IsHost level → (hart : ℕ) (csr : Csr) (op : Op) → hart < x.world.imsic.harts → reaches.Illegal ≡ access_of level csr op (select_in x (name_of level hart)) false
     → CoreTakes x x (csr_line level hart csr op) (Refused Illegal)
 illegal x level host hart csr op inside table = refused x (csr_line level hart csr op) (Refused Illegal) (λ h stands. refusal_there x level host hart csr op reaches.Illegal h inside table stands)
 
 -- an access that was done, and answered by what its CSR, of this kind, read
-pub accessed : (x y : CoreState) (level : Level) → IsHost level → (hart : ℕ) (csr kind : Csr) (op : Op) (access : Access) (value : ℕ) → hart < x.imsic.harts → access ≡ access_of level csr op (select_in x (name_of level hart)) false → raises_illegal access ≡ false
-    → csr ≡ kind → value ≡ csr_shown (select_in x (name_of level hart)) (shown (file_at x.imsic (spot_of (name_of level hart)))) kind → HasDone x y (name_of level hart) (Accesses kind op) → CoreTakes x y (csr_line level hart csr op) (Wide value)
+pub accessed : (x y : CoreState) (level : Level) → IsHost level → (hart : ℕ) (csr kind : Csr) (op : Op) (access : Access) (value : ℕ) → hart < x.world.imsic.harts → access ≡ access_of level csr op (select_in x (name_of level hart)) false → raises_illegal access ≡ false
+    → csr ≡ kind → value ≡ csr_shown (select_in x (name_of level hart)) (shown (file_at x.world.imsic (spot_of (name_of level hart)))) kind → HasDone x y (name_of level hart) (Accesses kind op) → CoreTakes x y (csr_line level hart csr op) (Wide value)
 accessed x y level host hart csr kind op access value inside table legal named read done =
     let f = name_of level hart in
-    let there = named_there level host x.imsic hart inside in
+    let there = named_there level host x.world.imsic hart inside in
     let line = csr_line level hart csr op in
-    let deed : deed_at f (Accepted line) ≡ Accesses kind op = own_access level host hart csr op ∙ ap (λ (k : Csr). Accesses k op) named in
-    accepted x y line (Wide value) (λ h stands. let file = stands.host f there in (
+    accepted x y line (Wide value) (λ h stands. let file = stands.host f there in let deed : deed_at f h (Accepted line) ≡ Accesses kind op = own_access level host h hart csr op ∙ ap (λ (k : Csr). Accesses k op) named in (
       refusal_there x level host hart csr op access h inside table stands ∙ cond-false _ _ _ legal,
-      ap Wide (read ∙ ap (λ (k : Csr). csr_shown (select_in x f) (shown (file_at x.imsic (spot_of f))) k) (sym named)
-          ∙ ap (λ s. csr_shown s (shown (file_at x.imsic (spot_of f))) csr) file.select ∙ ap (λ (i : InterruptFile). csr_shown (select_of h f) i csr) file.file) ∙ sym (csr_accepted level host h hart csr op),
-      one_done x y h (Accepted line) f (subst (HasDone x y f) (sym deed) done) (machine_stays level host h hart csr op) (λ g inside ne. other_access level host hart g csr op ne),
+      ap Wide (read ∙ ap (λ (k : Csr). csr_shown (select_in x f) (shown (file_at x.world.imsic (spot_of f))) k) (sym named)
+          ∙ ap (λ s. csr_shown s (shown (file_at x.world.imsic (spot_of f))) csr) file.select ∙ ap (λ (i : InterruptFile). csr_shown (select_of h f) i csr) file.file) ∙ sym (csr_accepted level host h hart csr op),
+      one_done x y h (Accepted line) f (subst (HasDone x y f) (sym deed) done) (is_hosts_line level host h hart csr op) (λ g inside ne. other_access level host h hart g csr op ne),
     ))

@@ -1,8 +1,8 @@
 -- What the hypervisor's core keeps. Vocabulary.
 use Rattle.std.specs.Prelude.{ℕ, List}
-use Rattle.aia_imsic.specs.Imsic.{ImsicState}
+use Rattle.aia_fabric.specs.World.{World}
 
--- All interrupt files, and the select numbers of the host.
+-- All that stores reach, and the select numbers of the host.
 pub record CoreState : Type 0 where
-  pub imsic : ImsicState
+  pub world : World
   pub selects : List ℕ

@@ -50,7 +50,7 @@ select_place (SupervisorFile hart) = 2 * hart + 1
 
 -- What is kept of it, and its select number.
 abbrev pub file_in : CoreState → FileName → FileState
-file_in x f = file_at x.imsic (spot_of f)
+file_in x f = file_at x.world.imsic (spot_of f)
 
 abbrev pub select_in : CoreState → FileName → ℕ
 select_in x f = slice_index x.selects (select_place f)
@@ -61,12 +61,13 @@ pub record FileDone (old new : CoreState) (f : FileName) (deed : FileDeed) : Typ
       (file_after (select_in old f) deed (shown (file_in old f)))
   pub select : select_in new f ≡ select_after deed (select_in old f)
 
--- A deed was done at one file of the host; every other file, a guest's too, and every other select
--- number is as it was.
+-- A deed was done at one file of the host; every other file, a guest's too, every other select
+-- number, and all else that stores reach is as it was.
 pub record HasDone (old new : CoreState) (f : FileName) (deed : FileDeed) : Type 0 where
-  pub harts : new.imsic.harts ≡ old.imsic.harts
-  pub guests : new.imsic.guests ≡ old.imsic.guests
+  pub harts : new.world.imsic.harts ≡ old.world.imsic.harts
+  pub guests : new.world.imsic.guests ≡ old.world.imsic.guests
+  pub rest : new.world ≡ record old.world { imsic = new.world.imsic }
   pub done : FileDone old new f deed
-  pub files : (spot : Spot) → IsThere old.imsic spot → spot ≢ spot_of f
-      → file_at new.imsic spot ≡ file_at old.imsic spot
+  pub files : (spot : Spot) → IsThere old.world.imsic spot → spot ≢ spot_of f
+      → file_at new.world.imsic spot ≡ file_at old.world.imsic spot
   pub selects : (g : FileName) → g ≢ f → select_in new g ≡ select_in old g
