@@ -3,3 +3,5 @@ pub mod EventLemmas
 pub mod PageLemmas
 pub mod AccessLemmas
 pub mod StoreLemmas
+pub mod GuestLemmas
+pub mod DeviceLemmas
