@@ -1,13 +1,13 @@
 -- What stands as the machine is made, and what the making of a VM changes. Profile: the layout of
 -- memory.
-use Rattle.std.specs.Prelude.{◌≡◌, ◌≢◌, ℕ, zero, ◌+◌, ◌-◌, ◌*◌, ◌/◌, ◌<◌, ◌⊎◌, ◌≤◌, nat_lt, if◌then◌else◌, List, [], ◌∷◌, ◌++◌, length, replicate, slice_index}
+use Rattle.std.specs.Prelude.{◌≡◌, ℕ, ◌+◌, ◌-◌, ◌*◌, ◌/◌, ◌<◌, ◌⊎◌, ◌≤◌, nat_lt, if◌then◌else◌, [], ◌∷◌, ◌++◌, length, replicate, slice_index}
 use Rattle.aia_regs.specs.declared.address_map.TheConstants.{MEMORY, MEMORY_END, PAGE}
 use Rattle.aia_regs.specs.AddressMap.{supervisor_page, slot_address, table_address}
 use Rattle.aia_imsic.specs.Imsic.{AreEmpty}
 use Rattle.aia_entry.specs.declared.entry.Entry.{Entry}
 use Rattle.aia_entry.specs.declared.entry.Entry.TheVariants.{Mrif, NotValid}
 use Rattle.aia_entry.specs.Format.{mrif_word, notice_word}
-use Rattle.aia_entry.specs.Tables.{TableState, table_of, entry_in_force, entry_place}
+use Rattle.aia_entry.specs.Tables.{table_of, entry_in_force}
 use Rattle.aia_home.specs.declared.vm.Vm.{Vm}
 use Rattle.aia_home.specs.Vms.{vcpus_in}
 use Rattle.aia_fabric.specs.World.{World}

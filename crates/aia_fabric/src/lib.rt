@@ -2,7 +2,3 @@
 //!
 //! AIA 1.0, IOMMU Support for MSIs to Virtual Machines.
 #![tactic(auto)]
-
-
-
-
