@@ -10,17 +10,17 @@ use Rattle.aia_regs.specs.Request.{requested}
 use Rattle.aia_file.specs.FileState.{shown}
 use Rattle.aia_file.specs.InterruptFile.{SameFile, landed}
 use Rattle.aia_imsic.specs.declared.spot.Spot.{Spot}
-use Rattle.aia_imsic.specs.declared.spot.Spot.TheVariants.{MachineFile, HostFile, GuestFile, Nowhere}
+use Rattle.aia_imsic.specs.declared.spot.Spot.TheVariants.{MachineFile, HostFile, GuestFile}
 use Rattle.aia_imsic.specs.Map.{spot_at}
 use Rattle.aia_imsic.specs.Imsic.{ImsicState, file_at, with_file}
 use Rattle.aia_mrif.specs.declared.slot.Stored.{Stored}
-use Rattle.aia_mrif.specs.declared.slot.Stored.TheVariants.{Discarded, Quiet, Notice}
+use Rattle.aia_mrif.specs.declared.slot.Stored.TheVariants.{Notice}
 use Rattle.aia_mrif.specs.Mrif.{mrif_in, stored}
 use Rattle.aia_mrif.specs.Words.{words_after_store}
 use Rattle.aia_entry.specs.declared.entry.Entry.{Entry}
-use Rattle.aia_entry.specs.declared.entry.Entry.TheVariants.{Basic, Mrif, NotValid, Custom, Misconfigured}
+use Rattle.aia_entry.specs.declared.entry.Entry.TheVariants.{Basic, Mrif}
 use Rattle.aia_entry.specs.declared.table.Route.{Route}
-use Rattle.aia_entry.specs.declared.table.Route.TheVariants.{Other, Fault, To}
+use Rattle.aia_entry.specs.declared.table.Route.TheVariants.{To}
 use Rattle.aia_fabric.specs.World.{World}
 
 -- ---- which place a page or an address names

@@ -1,5 +1,6 @@
 -- Virtual harts and their slots.
-use Rattle.std.proofs.Common.{◌≡◌, ℕ, zero, suc, ◌+◌, ◌<◌, ◌≤◌, true, nat_lt, List, [], ◌∷◌, ◌++◌, length, take, refl, ap, ◌∙◌, arith}
+use Rattle.std.proofs.Common.{◌≡◌, ℕ, zero, suc, ◌+◌, ◌-◌, ◌<◌, ◌≤◌, inl, inr, true, nat_lt, List, [], ◌∷◌, ◌++◌, length, take, refl, ap, ◌∙◌, arith}
+use Rattle.std.proofs.lemmas.Bool.{cases_lt, lt-ltb}
 use Rattle.std.proofs.lemmas.Bool.Decides.{nat_tests}
 use Rattle.aia_home.specs.declared.vm.Vm.{Vm}
 use Rattle.aia_home.specs.Vms.{vm_in, vcpus_in, Vcpu, vcpu, is_vcpu_in, slot_of}
@@ -27,6 +28,23 @@ pub same_slot : (vms : List Vm) (a b : Vcpu) → is_vcpu_in vms a ≡ true → i
 same_slot vms a b here there e =
     let same = one_by vms a.vm a.number b.vm b.number (numbered vms a.vm a.number here) (numbered vms b.vm b.number there) e in
     ap (λ vm. vcpu vm a.number) same.0 ∙ ap (λ number. vcpu b.vm number) same.1
+
+-- every slot of them is that of a virtual hart
+taken_by : (vms : List Vm) (q : ℕ) → q < vcpus_in vms → (vm : ℕ) × (number : ℕ) × (number < (vm_in vms vm).vcpus) × (slot_of vms (vcpu vm number) ≡ q)
+taken_by [] q low = absurd (omega (arith, low))
+taken_by (first ∷ later) q low = elim (cases_lt q first.vcpus) [
+  | inl here ↦ (0, q, here, omega arith)
+  | inr past ↦
+      let rest = taken_by later (q - first.vcpus) (omega (arith, low, past)) in
+      let same = rest.3 in
+      (suc rest.0, rest.1, rest.2, omega (arith, same, past))
+]
+
+pub slot_taken : (vms : List Vm) (q : ℕ) → q < vcpus_in vms → (g : Vcpu) × (is_vcpu_in vms g ≡ true) × (slot_of vms g ≡ q)
+slot_taken vms q low =
+    let taken = taken_by vms q low in
+    let there : is_vcpu_in vms (vcpu taken.0 taken.1) ≡ true = lt-ltb _ _ taken.2 in
+    (vcpu taken.0 taken.1, there, taken.3)
 
 -- ---- one VM more
 

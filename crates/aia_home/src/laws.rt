@@ -14,3 +14,9 @@ pub fn slots_are_apart()
     ensures below { (vms : List Vm) (g : Vcpu) → is_vcpu_in vms g ≡ true
         → slot_of vms g < vcpus_in vms }
 {}
+
+/// Each slot below the number of all virtual harts is that of a virtual hart which is there.
+pub fn each_slot_is_taken()
+    ensures { (vms : List Vm) (q : ℕ) → q < vcpus_in vms
+        → (g : Vcpu) × (is_vcpu_in vms g ≡ true) × (slot_of vms g ≡ q) }
+{}

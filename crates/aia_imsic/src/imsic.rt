@@ -3,7 +3,7 @@ ghost use Rattle.std.specs.Borrow.{sem};
 ghost use Rattle.std.specs.Int.{is_in_range};
 ghost use Rattle.aia_word.specs.Sets.{has_bit};
 ghost use Rattle.aia_file.specs.InterruptFile.{is_greatest_identity, SameFile, empty_file, signals, landed};
-ghost use Rattle.aia_file.specs.FileState.{shown};
+ghost use Rattle.aia_file.specs.FileState.{FileState, shown};
 ghost use Rattle.aia_imsic.specs.Map.{spot_at};
 ghost use Rattle.aia_imsic.specs.Imsic.{IsThere, place_of, file_at, with_file, AreEmpty};
 ghost use Rattle.aia_imsic.specs.Lends.{LendsFile};
@@ -51,6 +51,7 @@ impl Imsic {
         ensures size { IfOk result (λ i. (i.harts ≡ harts) × (i.guests ≡ guests)
             × (length i.files ≡ harts * (guests + 2))) }
         ensures empty { IfOk result (λ i. AreEmpty i n) }
+        ensures width { IfOk result (λ i. All (λ (f : FileState). f.n ≡ n) i.files) }
     {
         let files = empty_files(alloc, harts * (guests + 2), n)?;
         Ok(Imsic {
@@ -185,6 +186,7 @@ fn empty_files(alloc: Global, count: u32, n: u32) -> Result<Vec<File>, AllocErro
     ensures length { IfOk result (λ files. length files.items ≡ count) }
     ensures empty { IfOk result (λ files.
         All (λ file. SameFile (shown file) (empty_file n)) files.items) }
+    ensures width { IfOk result (λ files. All (λ (f : FileState). f.n ≡ n) files.items) }
 {
     let mut files = Vec::new(alloc);
     for _place in 0..count {

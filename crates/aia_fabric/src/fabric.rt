@@ -1,0 +1,319 @@
+ghost use Rattle.std.specs.Prelude.{◌≡◌, ◌≢◌, ℕ, ◌+◌, ◌^◌, ◌<◌, ◌≤◌, ◌&&◌, true, length, IsTrue, IfOk};
+ghost use Rattle.std.specs.Int.{is_in_range};
+ghost use Rattle.aia_word.specs.Packed.{ones};
+ghost use Rattle.aia_word.specs.Sets.{has_bit};
+ghost use Rattle.aia_word.specs.Top.{top_value};
+ghost use Rattle.aia_regs.specs.declared.limits.TheConstants.{IDENTITIES, HARTS, GUEST_FILES, VMS, VCPUS};
+ghost use Rattle.aia_regs.specs.FileRegisters.{IsUsable};
+ghost use Rattle.aia_regs.specs.Request.{requested};
+ghost use Rattle.aia_file.specs.FileState.{shown};
+ghost use Rattle.aia_file.specs.InterruptFile.{SameFile, is_greatest_identity, register_value, accessed, claimed, signals, top_of};
+ghost use Rattle.aia_imsic.specs.Map.{spot_at};
+ghost use Rattle.aia_imsic.specs.Imsic.{IsThere, file_at, with_file};
+ghost use Rattle.aia_mrif.specs.Mrif.{mrif_in, stored};
+ghost use Rattle.aia_entry.specs.Tables.{table_of, route_of};
+ghost use Rattle.aia_entry.specs.Translation.{IsMask};
+ghost use Rattle.aia_home.specs.Vms.{Vcpu, vcpus_in, is_vcpu_in, slot_of, notice_hart};
+ghost use Rattle.aia_fabric.specs.Making.{IsNew, MakesVm, with_vm, with_entry};
+ghost use Rattle.aia_fabric.specs.Stores.{StoresIn, Posts, page_spot, with_store};
+ghost use Rattle.aia_fabric.specs.Whole.{IsWhole};
+
+use crate::map;
+use crate::vms::Vms;
+use aia_entry::{Iommu, Route};
+use aia_file::File;
+use aia_home::Vm;
+use aia_imsic::{Imsic, Spot};
+use aia_mrif::{SlotMut, Stored};
+use aia_ram::Ram;
+use aia_regs::address_map::{MEMORY, MEMORY_END, PAGE};
+use aia_regs::{FileReg, Op};
+use std::alloc::{AllocError, Global};
+use std::marker::Model;
+
+/// The interrupt files, memory, the VMs with their MSI page tables, and the count of notices.
+#[derive(Drop)]
+pub struct Fabric {
+    n: u32,
+    imsic: Imsic,
+    ram: Ram,
+    vms: Vms,
+    iommu: Iommu,
+    notices: u64,
+}
+
+impl Model for Fabric {
+    ghost use Rattle.aia_fabric.specs.World.{World};
+    ghost use Rattle.aia_fabric.specs.Whole.{IsWhole};
+
+    ghost Value = { World };
+
+    ghost view = { λ f. record { n = f.n; imsic = f.imsic; memory = f.ram; vms = f.vms;
+        tables = f.iommu; notices = f.notices } };
+
+    ghost invariant = { λ f. IsWhole (record { n = f.n; imsic = f.imsic; memory = f.ram;
+        vms = f.vms; tables = f.iommu; notices = f.notices }) };
+}
+
+#[tactic(auto, using(crate::proofs::WholeLemmas::width_at))]
+impl Fabric {
+    /// Makes the machine's empty files, memory of zeros, and the room for all VMs: of `harts`
+    /// harts, 1 to 4, each with `guests` guest files, 0 to 7; every file has the identities 1 to
+    /// `n`, which is 63, 127, 255, 511, 1023 or 2047. `Err`: there is no memory for it.
+    pub fn new(alloc: Global, harts: u32, guests: u32, n: u32) -> Result<Fabric, AllocError>
+        requires some { 1 ≤ harts }
+        requires few { harts ≤ HARTS }
+        requires guests { guests ≤ GUEST_FILES }
+        requires width { IsTrue (is_greatest_identity n) }
+        ensures { IfOk result (λ f. IsNew f harts guests n) }
+    {
+        let imsic = Imsic::new(alloc, harts, guests, n)?;
+        let ram = Ram::new(alloc, (MEMORY_END - MEMORY) as usize)?;
+        let vms = Vms::new(alloc)?;
+        let iommu = Iommu::new(alloc)?;
+        Ok(Fabric {
+            n,
+            imsic,
+            ram,
+            vms,
+            iommu,
+            notices: 0,
+        })
+    }
+
+    /// Makes the next VM, while fewer than four stand: of `vcpus` virtual harts, as many as its
+    /// mask numbers at most and 16 with those of the VMs that stand, and the mask `mask` of its MSI
+    /// addresses, over numbers of pages, which has 1 to 4 ones, all below bit 15. The supervisor
+    /// file of hart `hart`, one that is there, takes the notices of its virtual harts. The entry of
+    /// each virtual hart is written and in force, and leads to its slot of memory.
+    ///
+    /// AIA 1.0, IOMMU Support for MSIs to Virtual Machines, "MSI page tables".
+    pub fn vm(&mut self, vcpus: u32, mask: u64, hart: u32)
+        requires few { length self.old.vms < VMS }
+        requires mask { IsMask mask }
+        requires numbers { vcpus ≤ 2 ^ ones 64 mask }
+        requires vcpus { vcpus_in self.old.vms + vcpus ≤ VCPUS }
+        requires hart { hart < self.old.imsic.harts }
+        ensures { MakesVm self.old self.new
+            (record { vcpus = vcpus; mask = mask; notice_hart = hart }) }
+    {
+        let vm = self.vms();
+        let first = self.vcpus();
+        let page = map::supervisor_page(hart);
+        self.begin(Vm {
+            vcpus,
+            mask,
+            notice_hart: hart,
+        });
+        for file in 0..vcpus {
+            self.enter(vm, file, first + file, page);
+        }
+    }
+
+    // ---- what it shows
+
+    /// Tells how many harts there are, 1 to 4.
+    pub fn harts(&self) -> u32
+        ensures value { result ≡ self.now.imsic.harts }
+        ensures few { result ≤ HARTS }
+    {
+        self.imsic.harts()
+    }
+
+    /// Tells how many guest files each hart has, 0 to 7.
+    pub fn guests(&self) -> u32
+        ensures value { result ≡ self.now.imsic.guests }
+        ensures few { result ≤ GUEST_FILES }
+    {
+        self.imsic.guests()
+    }
+
+    /// Finds the file in whose page `addr` lies; `Nowhere` exactly where it lies in none.
+    ///
+    /// AIA 1.0, IMSIC, "Memory region for an interrupt file": each file is a page. Profile: where
+    /// the pages lie.
+    pub fn locate(&self, addr: u64) -> Spot
+        ensures spot { result ≡ spot_at self.now.imsic.harts self.now.imsic.guests addr }
+        ensures there { result ≢ Spot.Nowhere → IsThere self.now.imsic result }
+        ensures few { (self.now.imsic.harts ≤ HARTS) × (self.now.imsic.guests ≤ GUEST_FILES) }
+    {
+        self.imsic.locate(addr)
+    }
+
+    /// Gives the file at a place that is there.
+    pub fn file(&self, spot: Spot) -> &File
+        requires { IsThere self.now.imsic spot }
+        ensures { result.now ≡ file_at self.now.imsic spot }
+    {
+        self.imsic.file(spot)
+    }
+
+    /// Gives what hgeip of a hart that is there reads: bit j, from 1 to the number of guest files,
+    /// is whether guest file j signals; the others are 0.
+    ///
+    /// The hypervisor extension 1.0; AIA 1.0, IMSIC.
+    pub fn hgeip(&self, hart: u32) -> u64
+        requires { hart < self.now.imsic.harts }
+        ensures { (j : ℕ) → has_bit result j
+            ≡ (is_in_range 1 self.now.imsic.guests j
+            && signals (shown (file_at self.now.imsic (Spot.GuestFile hart j)))) }
+    {
+        self.imsic.hgeip(hart)
+    }
+
+    /// Tells how many VMs stand, 0 to 4.
+    pub fn vms(&self) -> u32
+        ensures value { result ≡ length self.now.vms }
+        ensures few { result ≤ VMS }
+        ensures whole { IsWhole self.now }
+    {
+        self.vms.count()
+    }
+
+    /// Tells how many virtual harts the VMs have in all, 0 to 16.
+    pub fn vcpus(&self) -> u32
+        ensures value { result ≡ vcpus_in self.now.vms }
+        ensures few { result ≤ VCPUS }
+    {
+        self.vms.vcpus()
+    }
+
+    /// Tells how many notices were sent; the count stays at `2^64 - 1`.
+    pub fn notices(&self) -> u64
+        ensures { result ≡ self.now.notices }
+    {
+        self.notices
+    }
+
+    // ---- files
+
+    /// Does what one CSR instruction does with a register of the file at a place that is there, and
+    /// gives what the register reads before. Every other file stays, and all else.
+    ///
+    /// AIA 1.0, IMSIC, "Indirectly accessed interrupt-file registers".
+    pub fn reg(&mut self, spot: Spot, reg: FileReg, op: Op) -> u64
+        requires there { IsThere self.old.imsic spot }
+        requires usable { IsUsable reg }
+        ensures value { result ≡ register_value (shown (file_at self.old.imsic spot)) reg }
+        ensures lands { SameFile (shown (file_at self.new.imsic spot))
+            (accessed reg op (shown (file_at self.old.imsic spot))) }
+        ensures others { self.new ≡ record self.old {
+            imsic = with_file self.old.imsic spot (file_at self.new.imsic spot) } }
+    {
+        self.imsic.file_mut(spot).access(reg, op)
+    }
+
+    /// Claims the identity on top at the file at a place that is there, and gives it as the top
+    /// register shows it; 0 where none is on top, and then nothing changes. Every other file stays,
+    /// and all else.
+    ///
+    /// AIA 1.0, IMSIC, "Top external interrupt CSRs".
+    pub fn claim(&mut self, spot: Spot) -> u64
+        requires { IsThere self.old.imsic spot }
+        ensures value { result ≡ top_value (top_of (shown (file_at self.old.imsic spot))) }
+        ensures lands { SameFile (shown (file_at self.new.imsic spot))
+            (claimed (shown (file_at self.old.imsic spot))) }
+        ensures others { self.new ≡ record self.old {
+            imsic = with_file self.old.imsic spot (file_at self.new.imsic spot) } }
+    {
+        self.imsic.file_mut(spot).claim()
+    }
+
+    /// Takes a 32-bit store of `value` at `offset` of the page of the file at a place that is
+    /// there. Every other file stays, and all else.
+    ///
+    /// AIA 1.0, IMSIC, "Memory region for an interrupt file".
+    pub fn host_store(&mut self, spot: Spot, offset: u32, value: u32)
+        requires { IsThere self.old.imsic spot }
+        ensures { StoresIn self.old self.new spot offset value }
+    {
+        self.imsic.store(spot, offset, value);
+    }
+
+    // ---- notices
+
+    /// Sends the notice of the virtual hart that has number `q` over all VMs: a store of `q + 1` to
+    /// the supervisor file of its VM's notice hart, which is counted.
+    ///
+    /// AIA 1.0, IOMMU Support for MSIs to Virtual Machines, "Memory-resident interrupt files".
+    pub fn notice(&mut self, q: u32)
+        requires { q < vcpus_in self.old.vms }
+        ensures { (g : Vcpu) → is_vcpu_in self.old.vms g ≡ true → slot_of self.old.vms g ≡ q
+            → Posts self.old self.new (Spot.HostFile (notice_hart self.old.vms g)) (q + 1) }
+    {
+        let hart = self.vms.notice_hart(q);
+        self.post(Spot::HostFile(hart), q + 1);
+    }
+
+    /// Sends a notice to a file: a store of its identity, which is counted.
+    pub fn post(&mut self, spot: Spot, identity: u32)
+        requires { IsThere self.old.imsic spot }
+        ensures { Posts self.old self.new spot identity }
+    {
+        self.host_store(spot, 0, identity);
+        self.notices = self.notices.saturating_add(1);
+    }
+
+    // ---- what stores of devices are made of
+
+    /// Tells where a store of a device of a VM goes, by the entry in force.
+    pub fn translate(&self, vm: u32, addr: u64) -> Route
+        requires { vm < length self.now.vms }
+        ensures { result ≡ route_of (table_of self.now.tables vm) addr }
+    {
+        self.iommu.translate(vm, addr)
+    }
+
+    /// Finds the file whose page has this number.
+    pub fn page_spot(&self, page: u64) -> Spot
+        ensures value { result ≡ page_spot self.now.imsic page }
+        ensures there { result ≢ Spot.Nowhere → IsThere self.now.imsic result }
+    {
+        match page.checked_mul(PAGE) {
+            Some(addr) => self.imsic.locate(addr),
+            None => Spot::Nowhere,
+        }
+    }
+
+    /// Takes a 32-bit store of `value` at `offset` of a slot, and tells whether a notice is due.
+    pub fn land(&mut self, q: u32, offset: u32, value: u32) -> Stored
+        requires { q < VCPUS }
+        ensures stored { result
+            ≡ stored (mrif_in self.old.memory q) (requested IDENTITIES offset value) }
+        ensures after { self.new ≡ with_store self.old q offset value }
+    {
+        let mut slot = SlotMut { ram: &mut self.ram, q };
+        slot.land(offset, value)
+    }
+
+    // ---- what the making of a VM is made of
+
+    /// Makes the next VM and its table, with no entry.
+    fn begin(&mut self, vm: Vm)
+        requires few { length self.old.vms < VMS }
+        requires mask { IsMask vm.mask }
+        requires numbers { vm.vcpus ≤ 2 ^ ones 64 vm.mask }
+        requires vcpus { vcpus_in self.old.vms + vm.vcpus ≤ VCPUS }
+        requires hart { vm.notice_hart < self.old.imsic.harts }
+        ensures { self.new ≡ with_vm self.old vm }
+    {
+        let number = self.vms.count();
+        self.iommu.vm(vm.mask, map::table_place(number));
+        self.vms.push(vm);
+    }
+
+    /// Leads the entry of a file of a VM to a slot, with notices to a page, of the slot's number
+    /// counted from 1.
+    fn enter(&mut self, vm: u32, file: u32, slot: u32, page: u64)
+        requires vm { vm < length self.old.vms }
+        requires file { file < 2 ^ ones 64 (table_of self.old.tables vm).mask }
+        requires slot { slot < VCPUS }
+        requires page { page < 2 ^ 44 }
+        ensures { self.new ≡ with_entry self.old vm file slot page }
+    {
+        let ram = &mut self.ram;
+        let at = map::table_place(vm) + 16 * file as usize;
+        map::write_entry(ram, at, slot, page);
+        self.iommu.fence(vm, file, &self.ram);
+    }
+}

@@ -1,0 +1,84 @@
+ghost use Rattle.std.specs.Prelude.{◌≡◌, ◌≢◌, ◌%◌, ◌<◌, length, Some};
+ghost use Rattle.aia_regs.specs.declared.address_map.TheConstants.{PAGE};
+ghost use Rattle.aia_regs.specs.declared.limits.TheConstants.{VCPUS};
+ghost use Rattle.aia_imsic.specs.Imsic.{IsThere};
+ghost use Rattle.aia_entry.specs.Tables.{table_of, route_of};
+ghost use Rattle.aia_fabric.specs.Stores.{Reaches, ReachesBy, StoresAt, StoresInSlot, NoticedAt, page_spot};
+
+use crate::Fabric;
+use crate::map::slot_at;
+use aia_entry::{Entry, Route};
+use aia_imsic::Spot;
+use aia_mrif::Stored;
+use aia_regs::address_map::PAGE;
+
+impl Fabric {
+    /// Takes a 32-bit store of `value` at `addr` of a device of a VM that stands: it goes where the
+    /// entry in force leads, a guest file or a slot of memory, and a notice is sent where one is
+    /// due. Tells the route.
+    ///
+    /// AIA 1.0, IOMMU Support for MSIs to Virtual Machines.
+    pub fn device_store(&mut self, vm: u32, addr: u64, value: u32) -> Route
+        requires { vm < length self.old.vms }
+        ensures route { result ≡ route_of (table_of self.old.tables vm) addr }
+        ensures reaches { Reaches result self.old self.new (addr % PAGE) value }
+    {
+        let route = self.translate(vm, addr);
+        match route {
+            Route::To(entry) => self.store_by(entry, (addr % PAGE) as u32, value),
+            Route::Other | Route::Fault(_) => {}
+        }
+        route
+    }
+
+    /// Takes a store that an entry leads to its place.
+    fn store_by(&mut self, entry: Entry, offset: u32, value: u32)
+        ensures { ReachesBy entry self.old self.new offset value }
+    {
+        match entry {
+            Entry::Basic(page) => self.store_at(page, offset, value),
+            Entry::Mrif(addr, page, identity) => {
+                if let Some(q) = slot_at(addr) {
+                    let spot = self.page_spot(page);
+                    self.store_in(q, spot, identity, offset, value);
+                }
+            }
+            Entry::NotValid | Entry::Custom | Entry::Misconfigured => {}
+        }
+    }
+
+    /// Takes a store to the page of this number: it lands in a guest file, and is dropped at every
+    /// other page.
+    fn store_at(&mut self, page: u64, offset: u32, value: u32)
+        ensures { StoresAt self.old self.new (page_spot self.old.imsic page) offset value }
+    {
+        let spot = self.page_spot(page);
+        match spot {
+            Spot::GuestFile(_, _) => self.host_store(spot, offset, value),
+            Spot::MachineFile(_) | Spot::HostFile(_) | Spot::Nowhere => {}
+        }
+    }
+
+    /// Takes a store to a slot, with notices to a file.
+    fn store_in(&mut self, q: u32, spot: Spot, identity: u32, offset: u32, value: u32)
+        requires slot { q < VCPUS }
+        requires there { spot ≢ Spot.Nowhere → IsThere self.old.imsic spot }
+        ensures { StoresInSlot self.old self.new (Some q) spot identity offset value }
+    {
+        match self.land(q, offset, value) {
+            Stored::Notice => self.notice_at(spot, identity),
+            Stored::Quiet | Stored::Discarded => {}
+        }
+    }
+
+    /// Sends a notice to a file of the host; to any other page it is dropped.
+    fn notice_at(&mut self, spot: Spot, identity: u32)
+        requires { spot ≢ Spot.Nowhere → IsThere self.old.imsic spot }
+        ensures { NoticedAt self.old self.new spot identity }
+    {
+        match spot {
+            Spot::MachineFile(_) | Spot::HostFile(_) => self.post(spot, identity),
+            Spot::GuestFile(_, _) | Spot::Nowhere => {}
+        }
+    }
+}

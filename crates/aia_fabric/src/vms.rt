@@ -1,0 +1,95 @@
+ghost use Rattle.std.specs.Prelude.{◌≡◌, ℕ, ◌<◌, ◌≤◌, true, [], ◌∷◌, ◌++◌, length, take, IfOk};
+ghost use Rattle.aia_regs.specs.declared.limits.TheConstants.{VMS, VCPUS};
+ghost use Rattle.aia_home.specs.Vms.{Vcpu, vcpus_in, is_vcpu_in, slot_of, notice_hart};
+
+use aia_home::Vm;
+use aia_regs::limits::VMS;
+use std::alloc::{AllocError, Global};
+use std::marker::Model;
+
+/// All VMs of a machine, numbered from 0 as they are made.
+#[derive(Drop)]
+pub struct Vms {
+    kept: Vec<Vm>,
+}
+
+impl Model for Vms {
+    ghost use Rattle.std.specs.Prelude.{◌≤◌, List};
+    ghost use Rattle.std.specs.Vec.{vec_capacity};
+    ghost use Rattle.aia_regs.specs.declared.limits.TheConstants.{VMS};
+    ghost use Rattle.aia_home.specs.declared.vm.Vm.{Vm};
+
+    ghost Value = { List Vm };
+
+    ghost view = { λ v. v.kept.items };
+
+    ghost invariant = { λ v. VMS ≤ vec_capacity v.kept };
+}
+
+impl Vms {
+    /// Makes the room for all VMs; no VM stands. `Err`: there is no memory for it.
+    pub fn new(alloc: Global) -> Result<Vms, AllocError>
+        ensures { IfOk result (λ v. v ≡ []) }
+    {
+        let kept = Vec::with_capacity(alloc, VMS as usize)?;
+        Ok(Vms { kept })
+    }
+
+    /// Makes the next VM, while fewer than four stand.
+    pub fn push(&mut self, vm: Vm)
+        requires { length self.old < VMS }
+        ensures { self.new ≡ self.old ++ vm ∷ [] }
+    {
+        match self.kept.push(vm) {
+            Ok(()) => {}
+            Err(_) => unreachable!(),
+        }
+    }
+
+    /// Tells how many there are.
+    pub fn count(&self) -> u32
+        requires { length self.now ≤ VMS }
+        ensures { result ≡ length self.now }
+    {
+        self.kept.len() as u32
+    }
+
+    /// Tells how many virtual harts they have in all.
+    #[tactic(auto, using(crate::proofs::OwnerLemmas::vcpus_next, crate::proofs::OwnerLemmas::vcpus_first, crate::proofs::OwnerLemmas::vcpus_all))]
+    pub fn vcpus(&self) -> u32
+        requires { vcpus_in self.now ≤ VCPUS }
+        ensures { result ≡ vcpus_in self.now }
+    {
+        let mut count = 0;
+        for vm in &self.kept {
+            count += vm.vcpus;
+        }
+        count
+    }
+
+    /// Finds the hart that takes the notices of the virtual hart of slot `q`.
+    pub fn notice_hart(&self, q: u32) -> u32
+        requires { q < vcpus_in self.now }
+        ensures { (g : Vcpu) → is_vcpu_in self.now g ≡ true → slot_of self.now g ≡ q
+            → result ≡ notice_hart self.now g }
+    {
+        notice_hart_in(&self.kept, q)
+    }
+}
+
+/// Finds the hart that takes the notices of the virtual hart of slot `q`.
+#[tactic(auto, using(crate::proofs::OwnerLemmas::vcpus_next, crate::proofs::OwnerLemmas::vcpus_all, crate::proofs::OwnerLemmas::owner))]
+fn notice_hart_in(vms: &[Vm], q: u32) -> u32
+    requires { q < vcpus_in vms.now }
+    ensures { (g : Vcpu) → is_vcpu_in vms.now g ≡ true → slot_of vms.now g ≡ q
+        → result ≡ notice_hart vms.now g }
+{
+    let mut left = q;
+    for vm in vms {
+        if left < vm.vcpus {
+            return vm.notice_hart;
+        }
+        left -= vm.vcpus;
+    }
+    unreachable!()
+}
