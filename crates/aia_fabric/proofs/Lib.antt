@@ -1,4 +1,1 @@
 pub mod PlaceLemmas
-pub mod OwnerLemmas
-pub mod WholeLemmas
-pub mod MakingLemmas

@@ -2,10 +2,3 @@
 //!
 //! AIA 1.0, IOMMU Support for MSIs to Virtual Machines.
 #![tactic(auto)]
-
-mod fabric;
-mod map;
-mod stores;
-mod vms;
-
-pub use fabric::Fabric;

@@ -5,3 +5,4 @@ pub mod AccessLemmas
 pub mod StoreLemmas
 pub mod GuestLemmas
 pub mod DeviceLemmas
+pub mod VmLines
