@@ -48,11 +48,23 @@ impl Model for Fabric {
 
     ghost Value = { World };
 
-    ghost view = { λ f. record { n = f.n; imsic = f.imsic; memory = f.ram; vms = f.vms;
-        tables = f.iommu; notices = f.notices } };
+    ghost view = { λ f. record {
+      n = f.n;
+      imsic = f.imsic;
+      memory = f.ram;
+      vms = f.vms;
+      tables = f.iommu;
+      notices = f.notices;
+    } };
 
-    ghost invariant = { λ f. IsWhole (record { n = f.n; imsic = f.imsic; memory = f.ram;
-        vms = f.vms; tables = f.iommu; notices = f.notices }) };
+    ghost invariant = { λ f. IsWhole (record {
+      n = f.n;
+      imsic = f.imsic;
+      memory = f.ram;
+      vms = f.vms;
+      tables = f.iommu;
+      notices = f.notices;
+    }) };
 }
 
 #[tactic(auto, using(crate::proofs::WholeLemmas::width_at))]
@@ -198,7 +210,8 @@ impl Fabric {
         ensures lands { SameFile (shown (file_at self.new.imsic spot))
             (accessed reg op (shown (file_at self.old.imsic spot))) }
         ensures others { self.new ≡ record self.old {
-            imsic = with_file self.old.imsic spot (file_at self.new.imsic spot) } }
+          imsic = with_file self.old.imsic spot (file_at self.new.imsic spot);
+        } }
     {
         self.imsic.file_mut(spot).access(reg, op)
     }
@@ -214,7 +227,8 @@ impl Fabric {
         ensures lands { SameFile (shown (file_at self.new.imsic spot))
             (claimed (shown (file_at self.old.imsic spot))) }
         ensures others { self.new ≡ record self.old {
-            imsic = with_file self.old.imsic spot (file_at self.new.imsic spot) } }
+          imsic = with_file self.old.imsic spot (file_at self.new.imsic spot);
+        } }
     {
         self.imsic.file_mut(spot).claim()
     }
@@ -282,7 +296,10 @@ impl Fabric {
             ≡ stored (mrif_in self.old.memory q) (requested IDENTITIES offset value) }
         ensures after { self.new ≡ with_store self.old q offset value }
     {
-        let mut slot = SlotMut { ram: &mut self.ram, q };
+        let mut slot = SlotMut {
+            ram: &mut self.ram,
+            q,
+        };
         slot.land(offset, value)
     }
 
