@@ -4,6 +4,7 @@
 #![tactic(auto)]
 
 mod fabric;
+mod making;
 mod map;
 mod stores;
 mod vms;
