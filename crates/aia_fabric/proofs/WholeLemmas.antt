@@ -1,14 +1,12 @@
 -- What is always true of the world: what callers take from it, and that it stays true as a VM is
 -- made.
-use Rattle.std.proofs.Common.{◌≡◌, ℕ, ◌+◌, ◌*◌, ◌/◌, ◌%◌, ◌^◌, ◌<◌, ◌≤◌, true, List, [], ◌∷◌, ◌++◌, length, inl, inr, ◌⊎◌, refl, sym, ap, ◌∙◌, subst, arith}
-use Rattle.std.specs.Prelude.{All}
+use Rattle.std.proofs.Common.{◌≡◌, ℕ, ◌+◌, ◌*◌, ◌^◌, ◌<◌, ◌≤◌, true, List, [], ◌∷◌, ◌++◌, length, inl, inr, refl, sym, ap, ◌∙◌, subst, arith}
 use Rattle.std.proofs.Math.ListN.{get_or-append}
 use Rattle.std.proofs.Math.Seq.{get_or-append_seam}
 use Rattle.std.proofs.lemmas.Bool.{cases_lt}
 use Rattle.std.proofs.lemmas.List.{length-append}
 use Rattle.std.proofs.lemmas.List.Elements.{All-get_or}
 use Rattle.aia_word.specs.Packed.{ones}
-use Rattle.aia_ram.specs.Words.{Fits}
 use Rattle.aia_regs.specs.declared.limits.TheConstants.{VMS, VCPUS}
 use Rattle.aia_file.specs.FileState.{FileState}
 use Rattle.aia_imsic.specs.declared.spot.Spot.{Spot}
@@ -18,7 +16,7 @@ use Rattle.aia_entry.specs.Tables.{TableState, new_table, no_table, table_of, en
 use Rattle.aia_entry.specs.Translation.{IsMask}
 use Rattle.aia_entry.proofs.TableLemmas.{has_entry, mask_parts}
 use Rattle.aia_home.specs.declared.vm.Vm.{Vm}
-use Rattle.aia_home.specs.Vms.{vm_in, vcpus_in, Vcpu, is_vcpu_in, slot_of, notice_hart}
+use Rattle.aia_home.specs.Vms.{vcpus_in, Vcpu, is_vcpu_in, slot_of, notice_hart}
 use Rattle.aia_home.proofs.VmLemmas.{vm_stays, vm_new, vm_past, vcpus_more, slot_taken, numbered}
 use Rattle.aia_fabric.specs.World.{World}
 use Rattle.aia_fabric.specs.Whole.{IsWhole, IsVm}

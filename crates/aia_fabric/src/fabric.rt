@@ -14,7 +14,7 @@ ghost use Rattle.aia_mrif.specs.Mrif.{mrif_in, stored};
 ghost use Rattle.aia_entry.specs.Tables.{table_of, route_of};
 ghost use Rattle.aia_entry.specs.Translation.{IsMask};
 ghost use Rattle.aia_home.specs.Vms.{Vcpu, vcpus_in, is_vcpu_in, slot_of, notice_hart};
-ghost use Rattle.aia_fabric.specs.Making.{IsNew, MakesVm, with_vm, with_entry};
+ghost use Rattle.aia_fabric.specs.Making.{IsNew, with_vm, with_entry};
 ghost use Rattle.aia_fabric.specs.Stores.{StoresIn, Posts, page_spot, with_store};
 ghost use Rattle.aia_fabric.specs.Whole.{IsWhole};
 
@@ -48,11 +48,23 @@ impl Model for Fabric {
 
     ghost Value = { World };
 
-    ghost view = { λ f. record { n = f.n; imsic = f.imsic; memory = f.ram; vms = f.vms;
-        tables = f.iommu; notices = f.notices } };
+    ghost view = { λ f. record {
+      n = f.n;
+      imsic = f.imsic;
+      memory = f.ram;
+      vms = f.vms;
+      tables = f.iommu;
+      notices = f.notices;
+    } };
 
-    ghost invariant = { λ f. IsWhole (record { n = f.n; imsic = f.imsic; memory = f.ram;
-        vms = f.vms; tables = f.iommu; notices = f.notices }) };
+    ghost invariant = { λ f. IsWhole (record {
+      n = f.n;
+      imsic = f.imsic;
+      memory = f.ram;
+      vms = f.vms;
+      tables = f.iommu;
+      notices = f.notices;
+    }) };
 }
 
 #[tactic(auto, using(crate::proofs::WholeLemmas::width_at))]
@@ -79,35 +91,6 @@ impl Fabric {
             iommu,
             notices: 0,
         })
-    }
-
-    /// Makes the next VM, while fewer than four stand: of `vcpus` virtual harts, as many as its
-    /// mask numbers at most and 16 with those of the VMs that stand, and the mask `mask` of its MSI
-    /// addresses, over numbers of pages, which has 1 to 4 ones, all below bit 15. The supervisor
-    /// file of hart `hart`, one that is there, takes the notices of its virtual harts. The entry of
-    /// each virtual hart is written and in force, and leads to its slot of memory.
-    ///
-    /// AIA 1.0, IOMMU Support for MSIs to Virtual Machines, "MSI page tables".
-    pub fn vm(&mut self, vcpus: u32, mask: u64, hart: u32)
-        requires few { length self.old.vms < VMS }
-        requires mask { IsMask mask }
-        requires numbers { vcpus ≤ 2 ^ ones 64 mask }
-        requires vcpus { vcpus_in self.old.vms + vcpus ≤ VCPUS }
-        requires hart { hart < self.old.imsic.harts }
-        ensures { MakesVm self.old self.new
-            (record { vcpus = vcpus; mask = mask; notice_hart = hart }) }
-    {
-        let vm = self.vms();
-        let first = self.vcpus();
-        let page = map::supervisor_page(hart);
-        self.begin(Vm {
-            vcpus,
-            mask,
-            notice_hart: hart,
-        });
-        for file in 0..vcpus {
-            self.enter(vm, file, first + file, page);
-        }
     }
 
     // ---- what it shows
@@ -198,7 +181,8 @@ impl Fabric {
         ensures lands { SameFile (shown (file_at self.new.imsic spot))
             (accessed reg op (shown (file_at self.old.imsic spot))) }
         ensures others { self.new ≡ record self.old {
-            imsic = with_file self.old.imsic spot (file_at self.new.imsic spot) } }
+          imsic = with_file self.old.imsic spot (file_at self.new.imsic spot);
+        } }
     {
         self.imsic.file_mut(spot).access(reg, op)
     }
@@ -214,7 +198,8 @@ impl Fabric {
         ensures lands { SameFile (shown (file_at self.new.imsic spot))
             (claimed (shown (file_at self.old.imsic spot))) }
         ensures others { self.new ≡ record self.old {
-            imsic = with_file self.old.imsic spot (file_at self.new.imsic spot) } }
+          imsic = with_file self.old.imsic spot (file_at self.new.imsic spot);
+        } }
     {
         self.imsic.file_mut(spot).claim()
     }
@@ -246,7 +231,7 @@ impl Fabric {
     }
 
     /// Sends a notice to a file: a store of its identity, which is counted.
-    pub fn post(&mut self, spot: Spot, identity: u32)
+    pub(crate) fn post(&mut self, spot: Spot, identity: u32)
         requires { IsThere self.old.imsic spot }
         ensures { Posts self.old self.new spot identity }
     {
@@ -257,7 +242,7 @@ impl Fabric {
     // ---- what stores of devices are made of
 
     /// Tells where a store of a device of a VM goes, by the entry in force.
-    pub fn translate(&self, vm: u32, addr: u64) -> Route
+    pub(crate) fn translate(&self, vm: u32, addr: u64) -> Route
         requires { vm < length self.now.vms }
         ensures { result ≡ route_of (table_of self.now.tables vm) addr }
     {
@@ -265,7 +250,7 @@ impl Fabric {
     }
 
     /// Finds the file whose page has this number.
-    pub fn page_spot(&self, page: u64) -> Spot
+    pub(crate) fn page_spot(&self, page: u64) -> Spot
         ensures value { result ≡ page_spot self.now.imsic page }
         ensures there { result ≢ Spot.Nowhere → IsThere self.now.imsic result }
     {
@@ -276,20 +261,23 @@ impl Fabric {
     }
 
     /// Takes a 32-bit store of `value` at `offset` of a slot, and tells whether a notice is due.
-    pub fn land(&mut self, q: u32, offset: u32, value: u32) -> Stored
+    pub(crate) fn land(&mut self, q: u32, offset: u32, value: u32) -> Stored
         requires { q < VCPUS }
         ensures stored { result
             ≡ stored (mrif_in self.old.memory q) (requested IDENTITIES offset value) }
         ensures after { self.new ≡ with_store self.old q offset value }
     {
-        let mut slot = SlotMut { ram: &mut self.ram, q };
+        let mut slot = SlotMut {
+            ram: &mut self.ram,
+            q,
+        };
         slot.land(offset, value)
     }
 
     // ---- what the making of a VM is made of
 
     /// Makes the next VM and its table, with no entry.
-    fn begin(&mut self, vm: Vm)
+    pub(crate) fn begin(&mut self, vm: Vm)
         requires few { length self.old.vms < VMS }
         requires mask { IsMask vm.mask }
         requires numbers { vm.vcpus ≤ 2 ^ ones 64 vm.mask }
@@ -304,7 +292,7 @@ impl Fabric {
 
     /// Leads the entry of a file of a VM to a slot, with notices to a page, of the slot's number
     /// counted from 1.
-    fn enter(&mut self, vm: u32, file: u32, slot: u32, page: u64)
+    pub(crate) fn enter(&mut self, vm: u32, file: u32, slot: u32, page: u64)
         requires vm { vm < length self.old.vms }
         requires file { file < 2 ^ ones 64 (table_of self.old.tables vm).mask }
         requires slot { slot < VCPUS }

@@ -2,3 +2,11 @@
 //!
 //! AIA 1.0, IOMMU Support for MSIs to Virtual Machines.
 #![tactic(auto)]
+
+mod fabric;
+mod making;
+mod map;
+mod stores;
+mod vms;
+
+pub use fabric::Fabric;

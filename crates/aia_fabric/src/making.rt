@@ -1,0 +1,40 @@
+ghost use Rattle.std.specs.Prelude.{◌≡◌, ◌+◌, ◌^◌, ◌<◌, ◌≤◌, length};
+ghost use Rattle.aia_word.specs.Packed.{ones};
+ghost use Rattle.aia_regs.specs.declared.limits.TheConstants.{VMS, VCPUS};
+ghost use Rattle.aia_entry.specs.Translation.{IsMask};
+ghost use Rattle.aia_home.specs.Vms.{vcpus_in};
+ghost use Rattle.aia_fabric.specs.Making.{MakesVm};
+
+use crate::{Fabric, map};
+use aia_home::Vm;
+
+impl Fabric {
+    /// Makes the next VM, while fewer than four stand: of `vcpus` virtual harts, as many as its
+    /// mask numbers at most and 16 with those of the VMs that stand, and the mask `mask` of its MSI
+    /// addresses, over numbers of pages, which has 1 to 4 ones, all below bit 15. The supervisor
+    /// file of hart `hart`, one that is there, takes the notices of its virtual harts. The entry of
+    /// each virtual hart is written and in force, and leads to its slot of memory.
+    ///
+    /// AIA 1.0, IOMMU Support for MSIs to Virtual Machines, "MSI page tables".
+    pub fn vm(&mut self, vcpus: u32, mask: u64, hart: u32)
+        requires few { length self.old.vms < VMS }
+        requires mask { IsMask mask }
+        requires numbers { vcpus ≤ 2 ^ ones 64 mask }
+        requires vcpus { vcpus_in self.old.vms + vcpus ≤ VCPUS }
+        requires hart { hart < self.old.imsic.harts }
+        ensures { MakesVm self.old self.new
+            (record { vcpus = vcpus; mask = mask; notice_hart = hart }) }
+    {
+        let vm = self.vms();
+        let first = self.vcpus();
+        let page = map::supervisor_page(hart);
+        self.begin(Vm {
+            vcpus,
+            mask,
+            notice_hart: hart,
+        });
+        for file in 0..vcpus {
+            self.enter(vm, file, first + file, page);
+        }
+    }
+}
