@@ -1,1 +1,4 @@
 pub mod PlaceLemmas
+pub mod OwnerLemmas
+pub mod WholeLemmas
+pub mod MakingLemmas

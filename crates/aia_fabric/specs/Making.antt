@@ -1,13 +1,13 @@
 -- What stands as the machine is made, and what the making of a VM changes. Profile: the layout of
 -- memory.
-use Rattle.std.specs.Prelude.{◌≡◌, ℕ, ◌+◌, ◌-◌, ◌*◌, ◌/◌, ◌<◌, ◌⊎◌, ◌≤◌, nat_lt, if◌then◌else◌, [], ◌∷◌, ◌++◌, length, replicate, slice_index}
+use Rattle.std.specs.Prelude.{◌≡◌, ℕ, ◌+◌, ◌-◌, ◌*◌, ◌/◌, ◌<◌, ◌⊎◌, ◌≤◌, nat_lt, if◌then◌else◌, List, [], ◌∷◌, ◌++◌, length, replicate, slice_index, slice_set}
 use Rattle.aia_regs.specs.declared.address_map.TheConstants.{MEMORY, MEMORY_END, PAGE}
 use Rattle.aia_regs.specs.AddressMap.{supervisor_page, slot_address, table_address}
 use Rattle.aia_imsic.specs.Imsic.{AreEmpty}
 use Rattle.aia_entry.specs.declared.entry.Entry.{Entry}
 use Rattle.aia_entry.specs.declared.entry.Entry.TheVariants.{Mrif, NotValid}
 use Rattle.aia_entry.specs.Format.{mrif_word, notice_word}
-use Rattle.aia_entry.specs.Tables.{table_of, entry_in_force}
+use Rattle.aia_entry.specs.Tables.{new_table, table_of, entry_in_force, fenced_at}
 use Rattle.aia_home.specs.declared.vm.Vm.{Vm}
 use Rattle.aia_home.specs.Vms.{vcpus_in}
 use Rattle.aia_fabric.specs.World.{World}
@@ -69,3 +69,26 @@ pub record MakesVm (w u : World) (vm : Vm) : Type 0 where
       ⊎ (entry_word (length w.tables) vm.vcpus ≤ place)
       → slice_index u.memory place ≡ slice_index w.memory place
   pub rest : u ≡ record w { vms = u.vms; tables = u.tables; memory = u.memory }
+
+-- ---- one entry
+
+-- The entry of a file of a VM leads to a slot, with notices to a page of the slot's number counted
+-- from 1: both its words are written.
+abbrev pub words_with_entry : List ℕ → ℕ → ℕ → ℕ → ℕ → List ℕ
+words_with_entry words vm file slot page =
+    slice_set (slice_set words (entry_word vm file) (mrif_word (slot_address slot)))
+    (entry_word vm file + 1) (notice_word page (slot + 1))
+
+-- And it is put in force.
+abbrev pub with_entry : World → ℕ → ℕ → ℕ → ℕ → World
+with_entry w vm file slot page = record w {
+  memory = words_with_entry w.memory vm file slot page;
+  tables = fenced_at w.tables vm file (words_with_entry w.memory vm file slot page);
+}
+
+-- A VM stands last, its table with no entry is the next in memory.
+abbrev pub with_vm : World → Vm → World
+with_vm w vm = record w {
+  vms = w.vms ++ vm ∷ [];
+  tables = w.tables ++ new_table vm.mask (table_place (length w.tables)) ∷ [];
+}

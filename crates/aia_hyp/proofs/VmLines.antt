@@ -1,6 +1,9 @@
 -- What the making of a VM leaves, and what it is answered.
 use Rattle.std.proofs.Common.{◌≡◌, ◌≢◌, ℕ, ◌+◌, ◌-◌, ◌*◌, ◌/◌, ◌%◌, ◌^◌, ◌<◌, ◌≤◌, Bool, true, false, not, ◌&&◌, ◌||◌, cond, nat_eq, nat_lt, nat_le, List, length, get_or, [], ◌∷◌, ◌++◌, Option, Some, None, ◌⊎◌, inl, inr, refl, sym, ap, subst, ◌∙◌, arith, length-append}
-use Rattle.std.specs.Prelude.{min, slice_index}
+use Rattle.std.specs.Prelude.{min, count_ones}
+use Rattle.std.specs.Int.{is_in_range}
+use Rattle.aia_entry.specs.Translation.{is_mask}
+use Rattle.aia_entry.proofs.TableLemmas.{ones_counted}
 use Rattle.std.proofs.lemmas.Bool.{cases_Bool, cases_eq, cases_lt, cond-true, cond-false, lt-ltb, le-ltb, ltb-true, false≢true}
 use Rattle.std.proofs.lemmas.Bool.Decides.{nat_tests}
 use Rattle.aia_word.specs.Sets.{has_bit}
@@ -28,7 +31,7 @@ use Rattle.aia_model.specs.Vms.{vms_of, has_vm, has_vcpu}
 use Rattle.aia_model.specs.FileAfter.FileDeed.{Rests}
 use Rattle.aia_model.specs.GuestFile.{guest_deed, guest_file}
 use Rattle.aia_model.specs.FileOf.{FileName, deed_at}
-use Rattle.aia_model.specs.Refusal.{is_vm_size, is_full}
+use Rattle.aia_model.specs.Refusal.{is_vm_size, lacks_room}
 use Rattle.aia_model.proofs.AnswerLemmas.{vm_refusal}
 use Rattle.aia_model.proofs.FileLemmas.{file_by_step}
 use Rattle.aia_hyp.specs.Core.{CoreState}
@@ -161,9 +164,9 @@ made_stands x y h vm c =
 
 -- ---- what it is answered
 
--- whether a VM of so many virtual harts has no room beside these
-abbrev pub lacks_room : List Vm → ℕ → Bool
-lacks_room vms vcpus = nat_le 4 (length vms) || nat_lt 8 vcpus || nat_lt 16 (vcpus_in vms + vcpus)
+-- whether its numbers are a VM's, by the count of the mask's ones
+pub size_by_ones : (vcpus mask : ℕ) → mask < 2 ^ 64 → is_vm_size vcpus mask ≡ (is_mask mask && is_in_range 1 (2 ^ count_ones mask) vcpus)
+size_by_ones vcpus mask low = ap (λ n. is_mask mask && is_in_range 1 (2 ^ n) vcpus) (sym (ones_counted mask low))
 
 pub vm_made : (x y : CoreState) (vcpus mask hart : ℕ) → IsWhole x.world → is_vm_size vcpus mask ≡ true → hart < x.world.imsic.harts → lacks_room x.world.vms vcpus ≡ false → MakesVm x.world y.world (record { vcpus = vcpus; mask = mask; notice_hart = hart }) → y.selects ≡ x.selects
     → CoreTakes x y (lines.Vm vcpus mask hart) Okay

@@ -11,17 +11,21 @@ ghost use Rattle.aia_word.specs.Top.{top_value};
 ghost use Rattle.aia_model.specs.Event.{History};
 ghost use Rattle.aia_model.specs.Act.{domain_at};
 ghost use Rattle.aia_model.specs.FileAfter.{Accesses, file_after};
-ghost use Rattle.aia_model.specs.declared.line.Line.TheVariants.{Load, Store};
+ghost use Rattle.aia_model.specs.declared.line.Line.TheVariants.{Load, Store, Vm};
+ghost use Rattle.aia_model.specs.declared.line.Line.TheVariants as lines;
+ghost use Rattle.aia_model.specs.Refusal.{is_vm_size, lacks_room};
+ghost use Rattle.aia_fabric.specs.Whole.{IsWhole};
 ghost use Rattle.aia_model.specs.declared.answer.Answer.TheVariants.{Okay, Narrow, Wide};
 ghost use Rattle.aia_hyp.specs.HostFiles.{IsHost, HasDone, name_of, csr_line, spot_of, is_host_spot, file_in, select_place, select_in};
 ghost use Rattle.aia_hyp.specs.Stands.{CoreStands, CoreTakes, CoreBegins, CoreHears, answer_by, core_refusal, signals_of};
 
 use aia_csr::{Access, decide};
-use aia_file::File;
-use aia_imsic::{Imsic, Spot};
+use aia_entry::{Route, is_mask};
+use aia_fabric::Fabric;
+use aia_imsic::Spot;
 use aia_model::{Msi, Refusal};
 use aia_regs::address_map::{MEMORY, MEMORY_END, PAGE};
-use aia_regs::limits::{GUEST_FILES, HARTS};
+use aia_regs::limits::{GUEST_FILES, HARTS, VCPUS, VM_VCPUS, VMS};
 use aia_regs::{Csr, FileReg, Level, Op};
 use std::alloc::{AllocError, Global};
 use std::marker::Model;
@@ -32,11 +36,11 @@ const SELECT_NUMBERS: u64 = 0x1000;
 /// Two select numbers for each hart.
 const SELECTS: usize = 2 * HARTS as usize;
 
-/// The hypervisor's core: all interrupt files, and the select numbers of the host, of each hart
-/// `miselect`, then `siselect`.
+/// The hypervisor's core: all that stores reach, with the VMs that stand, and the select numbers of
+/// the host, of each hart `miselect`, then `siselect`.
 #[derive(Drop)]
 pub struct Hyp {
-    imsic: Imsic,
+    fabric: Fabric,
     selects: [u64; SELECTS],
 }
 
@@ -45,13 +49,14 @@ impl Model for Hyp {
 
     ghost Value = { CoreState };
 
-    ghost view = { λ h. record { imsic = h.imsic; selects = h.selects } };
+    ghost view = { λ h. record { world = h.fabric; selects = h.selects } };
 }
 
 impl Hyp {
     /// Makes the core of a machine of `harts` harts, 1 to 4, with `guests` guest files each, 0 to
     /// 7, and the identities 1 to `n`, which is 63, 127, 255, 511, 1023 or 2047: every file is
-    /// empty, and every select number 0. `Err` is want of memory.
+    /// empty, memory and every select number are 0, and no VM stands. `Err` is want of memory; no
+    /// other call takes any.
     pub fn new(alloc: Global, harts: u32, guests: u32, n: u32) -> Result<Hyp, AllocError>
         requires some { 1 ≤ harts }
         requires few { harts ≤ HARTS }
@@ -59,9 +64,9 @@ impl Hyp {
         requires width { IsTrue (is_greatest_identity n) }
         ensures { IfOk result (λ hyp. CoreBegins hyp harts guests n) }
     {
-        let imsic = Imsic::new(alloc, harts, guests, n)?;
+        let fabric = Fabric::new(alloc, harts, guests, n)?;
         Ok(Hyp {
-            imsic,
+            fabric,
             selects: [0; SELECTS],
         })
     }
@@ -76,7 +81,7 @@ impl Hyp {
         requires host { IsHost level }
         ensures { CoreTakes self.old self.new (csr_line level hart csr op) (answer_by Wide result) }
     {
-        if hart >= u64::from(self.imsic.harts()) {
+        if hart >= u64::from(self.fabric.harts()) {
             return Err(Refusal::Range);
         }
         self.access(level, hart as u32, csr, op)
@@ -86,7 +91,7 @@ impl Hyp {
     fn access(&mut self, level: Level, hart: u32, csr: Csr, op: Op) -> Result<u64, Refusal>
         requires listed { IsInTable level csr }
         requires host { IsHost level }
-        requires there { hart < self.old.imsic.harts }
+        requires there { hart < self.old.world.imsic.harts }
         requires few { hart < HARTS }
         ensures { CoreTakes self.old self.new (csr_line level hart csr op) (answer_by Wide result) }
     {
@@ -130,25 +135,30 @@ impl Hyp {
     /// Accesses a register of a file, and gives what it read before.
     fn access_file(&mut self, level: Level, hart: u32, reg: FileReg, op: Op) -> u64
         requires host { IsHost level }
-        requires there { hart < self.old.imsic.harts }
+        requires there { hart < self.old.world.imsic.harts }
         requires named { register_of (select_in self.old (name_of level hart)) ≡ reg }
         requires usable { IsUsable reg }
         ensures value { result
             ≡ register_value (shown (file_in self.old (name_of level hart))) reg }
         ensures done { HasDone self.old self.new (name_of level hart) (Accesses Csr.Reg op) }
     {
-        self.imsic.file_mut(spot(level, hart)).access(reg, op)
+        self.fabric.reg(spot(level, hart), reg, op)
     }
 
     /// Accesses the topei CSR, and gives what it read before; a write claims.
     fn access_top(&mut self, level: Level, hart: u32, op: Op) -> u64
         requires host { IsHost level }
-        requires there { hart < self.old.imsic.harts }
+        requires there { hart < self.old.world.imsic.harts }
         ensures value { result
             ≡ top_value (top_of (shown (file_in self.old (name_of level hart)))) }
         ensures done { HasDone self.old self.new (name_of level hart) (Accesses Csr.Topei op) }
     {
-        claim_or_read(self.imsic.file_mut(spot(level, hart)), op)
+        let spot = spot(level, hart);
+        if op.is_writing() {
+            self.fabric.claim(spot)
+        } else {
+            self.fabric.file(spot).top()
+        }
     }
 
     /// Stores 32 bits at an address for the host or a device of it. `Err` is `Fault` where the
@@ -163,7 +173,7 @@ impl Hyp {
         ensures unchanged { domain_at addr ≢ None → self.new ≡ self.old }
     {
         let spot = self.reach(addr)?;
-        self.imsic.store(spot, (addr % PAGE) as u32, value);
+        self.fabric.host_store(spot, (addr % PAGE) as u32, value);
         Ok(())
     }
 
@@ -183,17 +193,17 @@ impl Hyp {
     /// or store there.
     fn reach(&self, addr: u64) -> Result<Spot, Refusal>
         ensures at { IfOk result (λ spot. spot
-            ≡ spot_at self.now.imsic.harts self.now.imsic.guests addr) }
+            ≡ spot_at self.now.world.imsic.harts self.now.world.imsic.guests addr) }
         ensures host { IfOk result (λ spot. is_host_spot spot ≡ true) }
-        ensures there { IfOk result (IsThere self.now.imsic) }
+        ensures there { IfOk result (IsThere self.now.world.imsic) }
         ensures refused { result_err result
-            ≡ core_refusal (spot_at self.now.imsic.harts self.now.imsic.guests addr) addr }
-        ensures few { OnOk result (self.now.imsic.harts ≤ HARTS) }
+            ≡ core_refusal (spot_at self.now.world.imsic.harts self.now.world.imsic.guests addr) addr }
+        ensures few { OnOk result (self.now.world.imsic.harts ≤ HARTS) }
     {
         if addr % 4 != 0 {
             return Err(Refusal::Fault);
         }
-        let spot = self.imsic.locate(addr);
+        let spot = self.fabric.locate(addr);
         if is_host(spot) {
             return Ok(spot);
         }
@@ -209,12 +219,67 @@ impl Hyp {
     pub fn land(&mut self, msi: Msi)
         ensures { CoreHears self.old self.new msi }
     {
-        let spot = self.imsic.locate(msi.address);
+        let spot = self.fabric.locate(msi.address);
         if !is_host(spot) {
             return;
         }
-        self.imsic
-            .store(spot, (msi.address % PAGE) as u32, msi.value);
+        self.fabric
+            .host_store(spot, (msi.address % PAGE) as u32, msi.value);
+    }
+
+    /// Makes the next VM, of `vcpus` virtual harts, with `mask` over the numbers of the pages of its
+    /// MSI addresses; its notices go to the supervisor file of a hart. Its virtual harts are parked,
+    /// their interrupts in memory. `Err` is `Range` where the mask has not 1 to 4 ones, all below
+    /// bit 15, where `vcpus` is not from 1 to as many as the mask's ones number, or where the hart
+    /// isn't there; `Full` where 4 VMs stand, `vcpus` is above 8, or all VMs would have more than 16
+    /// virtual harts; nothing is changed then.
+    ///
+    /// AIA 1.0, IOMMU Support for MSIs to Virtual Machines.
+    pub fn vm(&mut self, vcpus: u64, mask: u64, hart: u64) -> Result<(), Refusal>
+        ensures { CoreTakes self.old self.new (Vm vcpus mask hart) (answer_by (λ _. Okay) result) }
+    {
+        if !is_vm_size(vcpus, mask) || hart >= u64::from(self.fabric.harts()) {
+            return Err(Refusal::Range);
+        }
+        if self.lacks_room(vcpus) {
+            return Err(Refusal::Full);
+        }
+        self.fabric.vm(vcpus as u32, mask, hart as u32);
+        Ok(())
+    }
+
+    /// Tells whether there is no room for a VM of so many virtual harts.
+    fn lacks_room(&self, vcpus: u64) -> bool
+        ensures room { result ≡ lacks_room self.now.world.vms vcpus }
+        ensures whole { IsWhole self.now.world }
+    {
+        self.fabric.vms() >= VMS
+            || vcpus > u64::from(VM_VCPUS)
+            || u64::from(self.fabric.vcpus()) + vcpus > u64::from(VCPUS)
+    }
+
+    /// Takes a 32-bit store of a device of a VM at an address: it asks at the virtual hart that the
+    /// address names, and sends a notice where that one's identity is enabled. `Err` is `Range`
+    /// where the VM doesn't stand, `Fault` where the address is no multiple of 4, `Other` where it
+    /// is no MSI address of the VM, `NotValid` where it names no virtual hart; nothing is changed
+    /// then.
+    ///
+    /// AIA 1.0, IOMMU Support for MSIs to Virtual Machines.
+    pub fn msi(&mut self, vm: u64, addr: u64, value: u32) -> Result<(), Refusal>
+        ensures { CoreTakes self.old self.new (lines.Msi vm addr value)
+            (answer_by (λ _. Okay) result) }
+    {
+        if vm >= u64::from(self.fabric.vms()) {
+            return Err(Refusal::Range);
+        }
+        if addr % 4 != 0 {
+            return Err(Refusal::Fault);
+        }
+        match self.fabric.device_store(vm as u32, addr, value) {
+            Route::Other => Err(Refusal::Other),
+            Route::Fault(_) => Err(Refusal::NotValid),
+            Route::To(_) => Ok(()),
+        }
     }
 
     /// Tells the signals of a hart's machine-level file and of its supervisor file. `Err` is
@@ -225,15 +290,23 @@ impl Hyp {
         ensures value { (h : History) → CoreStands self.now h → result ≡ signals_of h hart }
         ensures few { OnOk result (hart < HARTS) }
     {
-        if u64::from(self.imsic.harts()) <= hart {
+        if u64::from(self.fabric.harts()) <= hart {
             return Err(Refusal::Range);
         }
         let hart = hart as u32;
         Ok((
-            self.imsic.file(Spot::MachineFile(hart)).signal(),
-            self.imsic.file(Spot::HostFile(hart)).signal(),
+            self.fabric.file(Spot::MachineFile(hart)).signal(),
+            self.fabric.file(Spot::HostFile(hart)).signal(),
         ))
     }
+}
+
+/// Tells whether a VM may have so many virtual harts and this mask.
+#[tactic(auto, using(crate::proofs::VmLines::size_by_ones))]
+fn is_vm_size(vcpus: u64, mask: u64) -> bool
+    ensures { result ≡ is_vm_size vcpus mask }
+{
+    is_mask(mask) && (1..=1u64 << mask.count_ones()).contains(&vcpus)
 }
 
 /// Tells where the file of a hart at a level of the host is.
@@ -266,19 +339,6 @@ fn select_place(level: Level, hart: u32) -> usize
         Level::Machine => 2 * hart as usize,
         Level::Host => 2 * hart as usize + 1,
         Level::Guest => unreachable!(),
-    }
-}
-
-/// Reads the topei CSR of a file, and claims the identity on top where the instruction writes.
-fn claim_or_read(file: &mut File, op: Op) -> u64
-    ensures value { result ≡ top_value (top_of (shown file.old)) }
-    ensures done { SameFile (shown file.new)
-        (file_after 0 (Accesses Csr.Topei op) (shown file.old)) }
-{
-    if op.is_writing() {
-        file.claim()
-    } else {
-        file.top()
     }
 }
 

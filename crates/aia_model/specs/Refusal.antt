@@ -10,6 +10,7 @@ use Rattle.aia_regs.specs.AddressMap.{is_in_memory}
 use Rattle.aia_file.specs.InterruptFile.{is_greatest_identity}
 use Rattle.aia_word.specs.Packed.{ones}
 use Rattle.aia_entry.specs.Translation.{is_mask, is_msi_address}
+use Rattle.aia_home.specs.declared.vm.Vm.{Vm}
 use Rattle.aia_home.specs.Vms.{vcpus_in}
 use Rattle.aia_imsic.specs.declared.spot.Spot.{Spot}
 use Rattle.aia_imsic.specs.Map.{is_page, is_guest_page}
@@ -64,10 +65,12 @@ is_out_of_range h line = false
 
 -- `full`: as many VMs stand as may, or the VM has more virtual harts than one may, or with it all
 -- have more than may be.
+abbrev pub lacks_room : List Vm → ℕ → Bool
+lacks_room vms vcpus =
+    nat_le VMS (length vms) || nat_lt VM_VCPUS vcpus || nat_lt VCPUS (vcpus_in vms + vcpus)
+
 abbrev pub is_full : History → Line → Bool
-is_full h (lines.Vm vcpus mask hart) =
-    nat_le VMS (length (vms_of h)) || nat_lt VM_VCPUS vcpus
-    || nat_lt VCPUS (vcpus_in (vms_of h) + vcpus)
+is_full h (lines.Vm vcpus mask hart) = lacks_room (vms_of h) vcpus
 is_full h line = false
 
 -- `illegal`: by the access table.
