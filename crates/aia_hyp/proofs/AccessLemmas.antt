@@ -1,5 +1,5 @@
 -- What an access to a CSR of the host reaches, what it answers, and what it leaves.
-use Rattle.std.proofs.Common.{◌≡◌, ◌≢◌, ℕ, ◌<◌, ◌≤◌, ◌∷◌, true, false, not, cond, Some, None, refl, sym, ap, subst, ◌∙◌, arith}
+use Rattle.std.proofs.Common.{◌≡◌, ◌≢◌, ℕ, ◌<◌, ◌≤◌, true, false, not, cond, Some, None, refl, sym, ap, subst, ◌∙◌, arith}
 use Rattle.std.proofs.lemmas.Bool.{cond-true, cond-false, lt-ltb, le-ltb}
 use Rattle.aia_regs.specs.declared.access.Csr.{Csr}
 use Rattle.aia_regs.specs.declared.access.Csr.TheVariants as csrs
@@ -17,7 +17,7 @@ use Rattle.aia_file.specs.FileState.{shown}
 use Rattle.aia_imsic.specs.Imsic.{file_at}
 use Rattle.aia_model.specs.declared.answer.Answer.TheVariants.{Wide, Refused}
 use Rattle.aia_model.specs.declared.refusal.Refusal.TheVariants.{Range, Illegal}
-use Rattle.aia_model.specs.Event.{History, has_machine, harts_of, machine_of}
+use Rattle.aia_model.specs.Event.{History, has_machine, harts_of}
 use Rattle.aia_model.specs.Event.Event.{Accepted}
 use Rattle.aia_model.specs.FileAfter.FileDeed.{Accesses, Rests}
 use Rattle.aia_model.specs.FileOf.{FileName, MachineFile, SupervisorFile, deed_at, select_of}

@@ -1,11 +1,10 @@
 -- What a store of a device of a VM leaves, and what it is answered.
-use Rattle.std.proofs.Common.{◌≡◌, ◌≢◌, ℕ, ◌+◌, ◌*◌, ◌/◌, ◌%◌, ◌<◌, ◌≤◌, Bool, true, false, not, cond, nat_eq, nat_lt, List, length, get_or, ◌∷◌, Option, Some, None, ◌⊎◌, inl, inr, unwrap_or, refl, sym, ap, subst, ◌∙◌, arith}
-use Rattle.std.proofs.lemmas.Bool.{cases_Bool, cases_eq, cond-true, cond-false, eq-eqb, ne_eqb, lt-ltb, le-ltb, false≢true}
+use Rattle.std.proofs.Common.{◌≡◌, ◌≢◌, ℕ, ◌/◌, ◌%◌, ◌<◌, ◌≤◌, Bool, true, false, not, cond, nat_eq, List, length, get_or, ◌∷◌, Option, Some, None, ◌⊎◌, inl, inr, unwrap_or, refl, sym, ap, subst, ◌∙◌, arith}
+use Rattle.std.proofs.lemmas.Bool.{cases_Bool, cond-true, cond-false, eq-eqb, ne_eqb, lt-ltb, le-ltb, false≢true}
 use Rattle.std.proofs.lemmas.Option.{none-some}
 use Rattle.aia_regs.specs.AddressMap.{supervisor_page, slot_address}
-use Rattle.aia_regs.specs.Word.{set_after, settle}
-use Rattle.aia_regs.specs.Request.{requested, request_said}
-use Rattle.aia_regs.proofs.RequestLemmas.{requested_in_range}
+use Rattle.aia_regs.specs.Word.{settle}
+use Rattle.aia_regs.specs.Request.{requested}
 use Rattle.aia_file.specs.InterruptFile.{SameFile, is_greatest_identity}
 use Rattle.aia_file.specs.FileState.{FileState, shown}
 use Rattle.aia_imsic.specs.declared.spot.Spot.{Spot}
@@ -14,40 +13,38 @@ use Rattle.aia_imsic.specs.Imsic.{ImsicState, IsThere, file_at}
 use Rattle.aia_imsic.proofs.PlaceLemmas.{kept_elsewhere}
 use Rattle.aia_mrif.specs.declared.slot.Stored.{Stored}
 use Rattle.aia_mrif.specs.declared.slot.Stored.TheVariants.{Discarded, Quiet, Notice}
-use Rattle.aia_mrif.specs.Mrif.{Mrif, mrif_in, pending_place, stored}
-use Rattle.aia_mrif.specs.Words.{HasSlot, words_after_store}
-use Rattle.aia_entry.specs.declared.entry.Entry.{Entry}
+use Rattle.aia_mrif.specs.Mrif.{mrif_in, stored}
+use Rattle.aia_mrif.specs.Words.{words_after_store}
 use Rattle.aia_entry.specs.declared.entry.Entry.TheVariants as entries
 use Rattle.aia_entry.specs.declared.table.Route.{Route}
 use Rattle.aia_entry.specs.declared.table.Route.TheVariants.{Other, Fault, To}
 use Rattle.aia_entry.specs.Translation.{is_msi_address, file_number}
-use Rattle.aia_entry.specs.Tables.{TableState, table_of, entry_in_force, leads_by, route_of}
+use Rattle.aia_entry.specs.Tables.{table_of, entry_in_force, leads_by, route_of}
 use Rattle.aia_home.specs.declared.vm.Vm.{Vm}
 use Rattle.aia_home.specs.Vms.{Vcpu, is_vcpu, vm_in, vcpus_in, slot_of, notice_identity, notice_hart}
 use Rattle.aia_home.proofs.VmLemmas.{slot_below, same_slot}
 use Rattle.aia_fabric.specs.World.{World}
-use Rattle.aia_fabric.specs.Stores.{LandsIn, Posts, NoticedBy, StoresInSlot, Reaches, ReachesBy, slot_at, page_spot, with_store}
+use Rattle.aia_fabric.specs.Stores.{Posts, NoticedBy, StoresInSlot, Reaches, slot_at, page_spot, with_store}
 use Rattle.aia_fabric.specs.Whole.{IsWhole}
 use Rattle.aia_fabric.proofs.PlaceLemmas.{slot_found, host_page, slot_takes_store, other_slot_stays}
 use Rattle.aia_model.specs.declared.answer.Answer.{Answer}
 use Rattle.aia_model.specs.declared.answer.Answer.TheVariants.{Okay, Refused}
 use Rattle.aia_model.specs.declared.refusal.Refusal.TheVariants as words
 use Rattle.aia_model.specs.declared.line.Line.TheVariants as lines
-use Rattle.aia_model.specs.Event.{Event, History, greatest_identity_of}
+use Rattle.aia_model.specs.Event.{History, greatest_identity_of}
 use Rattle.aia_model.specs.Event.Event.{Accepted}
 use Rattle.aia_model.specs.Vms.{vms_of, has_vm, has_vcpu, mask_of}
-use Rattle.aia_model.specs.FileAfter.{FileDeed, select_after}
 use Rattle.aia_model.specs.FileAfter.FileDeed.{Stores, Rests}
 use Rattle.aia_model.specs.GuestFile.{named_by, guest_deed, guest_file}
-use Rattle.aia_model.specs.Notice.{noticed, is_noticed}
-use Rattle.aia_model.specs.FileOf.{FileName, MachineFile, SupervisorFile, deed_at, notice_deed}
+use Rattle.aia_model.specs.Notice.{noticed}
+use Rattle.aia_model.specs.FileOf.{FileName, SupervisorFile, deed_at, notice_deed}
 use Rattle.aia_model.specs.Refusal.{refusal}
 use Rattle.aia_model.proofs.AnswerLemmas.{msi_refusal}
 use Rattle.aia_model.proofs.FileLemmas.{same_or_other, is_file-itself, is_file-other}
 use Rattle.aia_hyp.specs.Core.{CoreState}
-use Rattle.aia_hyp.specs.HostFiles.{FileDone, spot_of, select_in, select_place, file_in}
-use Rattle.aia_hyp.specs.Stands.{IsParked, CoreStands, CoreTakes, line_taken}
-use Rattle.aia_hyp.proofs.NameLemmas.{no_guest, is_hosts, other_spot}
+use Rattle.aia_hyp.specs.HostFiles.{FileDone, spot_of, select_place}
+use Rattle.aia_hyp.specs.Stands.{CoreStands, CoreTakes, line_taken, route_answer}
+use Rattle.aia_hyp.proofs.NameLemmas.{no_guest, other_spot}
 use Rattle.aia_hyp.proofs.EventLemmas.{Changes, SlotDone, count_after, one_more, as_it_was, by_refusal, refused}
 use Rattle.aia_hyp.proofs.GuestLemmas.{same_vcpu, is_itself, guest_n, enabled_within, said_within, is_notice, is_notice-true, notices_alike, few_identities}
 
@@ -176,12 +173,6 @@ loudly x y h vm addr value there posts selects loud =
 
 -- ---- the route that the address takes, and what the store is answered
 
--- by the route
-abbrev pub answer_of : Route → Answer
-answer_of Other = Refused words.Other
-answer_of (Fault entry) = Refused words.NotValid
-answer_of (To entry) = Okay
-
 same_core : (x y : CoreState) → y.world ≡ x.world → y.selects ≡ x.selects → y ≡ x
 same_core x y world selects = λ k. record { world = world k; selects = selects k }
 
@@ -202,7 +193,7 @@ pub record Reached (x y : CoreState) (h : History) (vm addr value : ℕ) : Type 
 -- what is to be shown of it
 abbrev Answered : CoreState → CoreState → History → ℕ → ℕ → ℕ → Type 0
 Answered x y h vm addr value =
-    (r : Option Answer) × (refusal h (lines.Msi vm addr value) ≡ r) × (answer_of (route_of (table_of x.world.tables vm) addr) ≡ unwrap_or r Okay)
+    (r : Option Answer) × (refusal h (lines.Msi vm addr value) ≡ r) × (route_answer (route_of (table_of x.world.tables vm) addr) ≡ unwrap_or r Okay)
     × CoreStands y (line_taken r h (lines.Msi vm addr value)) × ((word : Answer) → r ≡ Some word → y ≡ x)
 
 vm_there : (x y : CoreState) (h : History) (vm addr value : ℕ) → Reached x y h vm addr value → has_vm h vm ≡ true
@@ -225,9 +216,13 @@ outside : (x y : CoreState) (h : History) (vm addr value : ℕ) → Reached x y 
 outside x y h vm addr value c none =
     let route : route_of (table_of x.world.tables vm) addr ≡ Other = cond-false _ _ _ (ap (λ mask. is_msi_address mask addr) (mask_is x y h vm addr value c) ∙ none) in
     let same : y.world ≡ x.world = subst (λ (r : Route). Reaches r x.world y.world (addr % 0x1000) value) route c.reaches in
-    let core = same_core x y same c.selects in
-    (Some (Refused words.Other), left x y h vm addr value c ∙ ap (λ b. cond (not b) (Some (Refused words.Other)) (cond (not (has_vcpu h (named_by h vm addr))) (Some (Refused words.NotValid)) None)) none,
-      ap answer_of route, subst (λ z. CoreStands z h) (sym core) c.stands, λ word e. core)
+    let core = same_core x y same c.selects in (
+      Some (Refused words.Other),
+      left x y h vm addr value c ∙ ap (λ b. cond (not b) (Some (Refused words.Other)) (cond (not (has_vcpu h (named_by h vm addr))) (Some (Refused words.NotValid)) None)) none,
+      ap route_answer route,
+      subst (λ z. CoreStands z h) (sym core) c.stands,
+      λ word e. core,
+    )
 
 -- the route of an MSI address
 route_is : (x y : CoreState) (h : History) (vm addr value : ℕ) → Reached x y h vm addr value → is_msi_address (mask_of h vm) addr ≡ true
@@ -245,16 +240,20 @@ names_none : (x y : CoreState) (h : History) (vm addr value : ℕ) → Reached x
 names_none x y h vm addr value c is none =
     let route : route_of (table_of x.world.tables vm) addr ≡ Fault entries.NotValid = route_is x y h vm addr value c is ∙ ap leads_by (c.stands.no_entry (named_by h vm addr) (vm_there x y h vm addr value c) none) in
     let same : y.world ≡ x.world = subst (λ (r : Route). Reaches r x.world y.world (addr % 0x1000) value) route c.reaches in
-    let core = same_core x y same c.selects in
-    (Some (Refused words.NotValid), inside x y h vm addr value c is ∙ ap (λ b. cond (not b) (Some (Refused words.NotValid)) None) none,
-      ap answer_of route, subst (λ z. CoreStands z h) (sym core) c.stands, λ word e. core)
+    let core = same_core x y same c.selects in (
+      Some (Refused words.NotValid),
+      inside x y h vm addr value c is ∙ ap (λ b. cond (not b) (Some (Refused words.NotValid)) None) none,
+      ap route_answer route,
+      subst (λ z. CoreStands z h) (sym core) c.stands,
+      λ word e. core,
+    )
 
 -- what the slot of the one that it names makes of the store
 slot_reached : (x y : CoreState) (h : History) (vm addr value : ℕ) → Reached x y h vm addr value → is_msi_address (mask_of h vm) addr ≡ true → has_vcpu h (named_by h vm addr) ≡ true
     → (route_of (table_of x.world.tables vm) addr ≡ To (entries.Mrif (slot_address (slot_of (vms_of h) (named_by h vm addr))) (supervisor_page (notice_hart (vms_of h) (named_by h vm addr)) / 0x1000) (notice_identity (vms_of h) (named_by h vm addr))))
     × (notice_hart (vms_of h) (named_by h vm addr) < x.world.imsic.harts)
     × NoticedBy (stored (mrif_in x.world.memory (slot_of (vms_of h) (named_by h vm addr))) (requested 2047 (addr % 0x1000) value)) (with_store x.world (slot_of (vms_of h) (named_by h vm addr)) (addr % 0x1000) value) y.world
-      (spots.HostFile (notice_hart (vms_of h) (named_by h vm addr))) (notice_identity (vms_of h) (named_by h vm addr))
+    (spots.HostFile (notice_hart (vms_of h) (named_by h vm addr))) (notice_identity (vms_of h) (named_by h vm addr))
 slot_reached x y h vm addr value c is there =
     let g = named_by h vm addr in
     let q = slot_of (vms_of h) g in
@@ -280,7 +279,7 @@ names_one : (x y : CoreState) (h : History) (vm addr value : ℕ) → Reached x 
 names_one x y h vm addr value c is there =
     let reached = slot_reached x y h vm addr value c is there in
     let who = noticed_so x y h vm addr value c there in
-    (None, inside x y h vm addr value c is ∙ ap (λ b. cond (not b) (Some (Refused words.NotValid)) None) there, ap answer_of reached.0, changed (cases_Bool (is_notice made)) reached.1 reached.2 who, λ word e. absurd (none-some word e))
+    (None, inside x y h vm addr value c is ∙ ap (λ b. cond (not b) (Some (Refused words.NotValid)) None) there, ap route_answer reached.0, changed (cases_Bool (is_notice made)) reached.1 reached.2 who, λ word e. absurd (none-some word e))
   where
     made : Stored
     made = stored (mrif_in x.world.memory (slot_of (vms_of h) (named_by h vm addr))) (requested 2047 (addr % 0x1000) value)
@@ -304,10 +303,15 @@ store_answered x y h vm addr value c = elim (cases_Bool (is_msi_address (mask_of
 ]
 
 pub store_taken : (x y : CoreState) (vm addr value : ℕ) (route : Route) → IsWhole x.world → vm < length x.world.vms → addr % 4 ≡ 0 → route ≡ route_of (table_of x.world.tables vm) addr
-    → Reaches route x.world y.world (addr % 0x1000) value → y.selects ≡ x.selects → CoreTakes x y (lines.Msi vm addr value) (answer_of route)
+    → Reaches route x.world y.world (addr % 0x1000) value → y.selects ≡ x.selects → CoreTakes x y (lines.Msi vm addr value) (route_answer route)
 store_taken x y vm addr value route whole low aligned is reaches selects =
-    rw (is) (by_refusal x y (lines.Msi vm addr value) (answer_of (route_of (table_of x.world.tables vm) addr)) (λ h stands. store_answered x y h vm addr value (record {
-      stands = stands; whole = whole; low = low; aligned = aligned; reaches = subst (λ (r : Route). Reaches r x.world y.world (addr % 0x1000) value) is reaches; selects = selects;
+    rw (is) (by_refusal x y (lines.Msi vm addr value) (route_answer (route_of (table_of x.world.tables vm) addr)) (λ h stands. store_answered x y h vm addr value (record {
+      stands = stands;
+      whole = whole;
+      low = low;
+      aligned = aligned;
+      reaches = subst (λ (r : Route). Reaches r x.world y.world (addr % 0x1000) value) is reaches;
+      selects = selects;
     })))
 
 -- ---- what is refused before

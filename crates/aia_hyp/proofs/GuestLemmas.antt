@@ -1,7 +1,7 @@
 -- The file of a virtual hart that a history gives, and stores that ask at it.
-use Rattle.std.proofs.Common.{◌≡◌, ◌≢◌, ℕ, ◌+◌, ◌/◌, ◌%◌, ◌<◌, ◌≤◌, Bool, true, false, ◌&&◌, ◌||◌, cond, nat_eq, nat_lt, [], ◌∷◌, Option, Some, None, inl, inr, refl, sym, ap, subst, ◌∙◌, arith}
+use Rattle.std.proofs.Common.{◌≡◌, ◌≢◌, ℕ, ◌+◌, ◌/◌, ◌%◌, ◌<◌, ◌≤◌, Bool, true, false, ◌&&◌, cond, nat_eq, [], ◌∷◌, Option, Some, None, inl, inr, refl, sym, ap, subst, ◌∙◌, arith}
 use Rattle.std.specs.Int.{is_in_range}
-use Rattle.std.proofs.lemmas.Bool.{cases_Bool, cases_eq, cond-true, cond-false, eq-eqb, ne_eqb, eqb-true, lt-ltb, false≢true, and_parts}
+use Rattle.std.proofs.lemmas.Bool.{cases_Bool, cases_eq, eq-eqb, ne_eqb, eqb-true, lt-ltb, false≢true, and_parts}
 use Rattle.std.proofs.lemmas.Bool.Decides.{nat_tests}
 use Rattle.aia_regs.specs.Word.{names}
 use Rattle.aia_regs.specs.Word.Word.{Ask, Nothing}
@@ -14,9 +14,9 @@ use Rattle.aia_home.specs.Vms.{Vcpu, vcpu, is_vcpu}
 use Rattle.aia_home.specs.Home.Home.{Parked}
 use Rattle.aia_model.specs.declared.line.Line.TheVariants.{Machine}
 use Rattle.aia_model.specs.declared.line.Line.TheVariants as lines
-use Rattle.aia_model.specs.Event.{Event, History, greatest_identity_of}
+use Rattle.aia_model.specs.Event.{History, greatest_identity_of}
 use Rattle.aia_model.specs.Event.Event.{Accepted, Delivered}
-use Rattle.aia_model.specs.FileAfter.{FileDeed, file_after, file_by, select_by}
+use Rattle.aia_model.specs.FileAfter.{file_after, file_by, select_by}
 use Rattle.aia_model.specs.FileAfter.FileDeed.{Stores, Rests}
 use Rattle.aia_model.specs.GuestFile.{named_by, guest_deed, guest_file}
 use Rattle.aia_model.specs.Notice.{is_noticed}
@@ -98,13 +98,31 @@ is_notice-true Discarded e = absurd (cc)
 -- what holds of each of the six greatest identities that there may be
 each_size : (P : ℕ → Type 0) → P 63 → P 127 → P 255 → P 511 → P 1023 → P 2047 → (n : ℕ) → is_greatest_identity n ≡ true → P n
 each_size P p63 p127 p255 p511 p1023 p2047 n greatest =
-    elim (cases_eq n 63) [ inl e ↦ subst P (sym e) p63 | inr n63 ↦
-    elim (cases_eq n 127) [ inl e ↦ subst P (sym e) p127 | inr n127 ↦
-    elim (cases_eq n 255) [ inl e ↦ subst P (sym e) p255 | inr n255 ↦
-    elim (cases_eq n 511) [ inl e ↦ subst P (sym e) p511 | inr n511 ↦
-    elim (cases_eq n 1023) [ inl e ↦ subst P (sym e) p1023 | inr n1023 ↦
-    elim (cases_eq n 2047) [ inl e ↦ subst P (sym e) p2047 | inr n2047 ↦
-    let none : is_greatest_identity n ≡ false = grind (arith, nat_tests) in absurd (false≢true (sym none ∙ greatest)) ] ] ] ] ] ]
+    elim (cases_eq n 63) [
+      | inl e ↦ subst P (sym e) p63
+      | inr n63 ↦
+          elim (cases_eq n 127) [
+            | inl e ↦ subst P (sym e) p127
+            | inr n127 ↦
+                elim (cases_eq n 255) [
+                  | inl e ↦ subst P (sym e) p255
+                  | inr n255 ↦
+                      elim (cases_eq n 511) [
+                        | inl e ↦ subst P (sym e) p511
+                        | inr n511 ↦
+                            elim (cases_eq n 1023) [
+                              | inl e ↦ subst P (sym e) p1023
+                              | inr n1023 ↦
+                                  elim (cases_eq n 2047) [
+                                    | inl e ↦ subst P (sym e) p2047
+                                    | inr n2047 ↦
+                                        let none : is_greatest_identity n ≡ false = grind (arith, nat_tests) in absurd (false≢true (sym none ∙ greatest))
+                                  ]
+                            ]
+                      ]
+                ]
+          ]
+    ]
 
 pub few_identities : (n : ℕ) → is_greatest_identity n ≡ true → n ≤ 2047
 few_identities n greatest = each_size (λ n. n ≤ 2047) (omega arith) (omega arith) (omega arith) (omega arith) (omega arith) (omega arith) n greatest

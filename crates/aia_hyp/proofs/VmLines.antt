@@ -1,41 +1,38 @@
 -- What the making of a VM leaves, and what it is answered.
-use Rattle.std.proofs.Common.{◌≡◌, ◌≢◌, ℕ, ◌+◌, ◌-◌, ◌*◌, ◌/◌, ◌%◌, ◌^◌, ◌<◌, ◌≤◌, Bool, true, false, not, ◌&&◌, ◌||◌, cond, nat_eq, nat_lt, nat_le, List, length, get_or, [], ◌∷◌, ◌++◌, Option, Some, None, ◌⊎◌, inl, inr, refl, sym, ap, subst, ◌∙◌, arith, length-append}
+use Rattle.std.proofs.Common.{◌≡◌, ℕ, ◌+◌, ◌-◌, ◌*◌, ◌/◌, ◌%◌, ◌^◌, ◌<◌, ◌≤◌, true, false, not, ◌&&◌, nat_lt, nat_le, List, length, get_or, [], ◌∷◌, ◌++◌, ◌⊎◌, inl, inr, refl, sym, ap, subst, ◌∙◌, arith, length-append}
 use Rattle.std.specs.Prelude.{min, count_ones}
 use Rattle.std.specs.Int.{is_in_range}
 use Rattle.aia_entry.specs.Translation.{is_mask}
-use Rattle.aia_entry.proofs.TableLemmas.{ones_counted}
-use Rattle.std.proofs.lemmas.Bool.{cases_Bool, cases_eq, cases_lt, cond-true, cond-false, lt-ltb, le-ltb, ltb-true, false≢true}
+use Rattle.aia_entry.proofs.TableLemmas.{ones_counted, mask_parts}
+use Rattle.aia_word.specs.Packed.{ones}
+use Rattle.aia_mrif.proofs.SlotLemmas.{one_bit}
+use Rattle.std.proofs.lemmas.Bool.{cases_Bool, cases_eq, cases_lt, cond-true, cond-false, lt-ltb, le-ltb, ltb-true}
 use Rattle.std.proofs.lemmas.Bool.Decides.{nat_tests}
 use Rattle.aia_word.specs.Sets.{has_bit}
-use Rattle.aia_regs.specs.AddressMap.{supervisor_page, slot_address}
-use Rattle.aia_file.specs.InterruptFile.{InterruptFile, empty_file}
+use Rattle.aia_file.specs.InterruptFile.{InterruptFile}
 use Rattle.aia_file.specs.FileState.{shown}
-use Rattle.aia_imsic.specs.declared.spot.Spot.TheVariants as spots
-use Rattle.aia_imsic.specs.Imsic.{ImsicState, IsThere, file_at}
-use Rattle.aia_mrif.specs.Mrif.{Mrif, mrif_in, set_at, pending_place, enable_place}
-use Rattle.aia_entry.specs.declared.entry.Entry.{Entry}
+use Rattle.aia_imsic.specs.Imsic.{ImsicState, file_at}
+use Rattle.aia_mrif.specs.Mrif.{mrif_in, set_at, pending_place, enable_place}
 use Rattle.aia_entry.specs.declared.entry.Entry.TheVariants as entries
 use Rattle.aia_entry.specs.Tables.{TableState, table_of, entry_in_force}
 use Rattle.aia_home.specs.declared.vm.Vm.{Vm}
-use Rattle.aia_home.specs.Vms.{Vcpu, vcpu, is_vcpu_in, vm_in, vcpus_in, slot_of, notice_identity, notice_hart}
+use Rattle.aia_home.specs.Vms.{Vcpu, vcpu, is_vcpu_in, vm_in, vcpus_in, slot_of, notice_hart}
 use Rattle.aia_home.proofs.VmLemmas.{numbered, slot_below, vm_stays, slot_stays, vm_new, slot_new, vcpus_more, vm_past}
 use Rattle.aia_fabric.specs.World.{World}
-use Rattle.aia_fabric.specs.Making.{MakesVm, made_entry, entry_word}
+use Rattle.aia_fabric.specs.Making.{MakesVm, made_entry}
 use Rattle.aia_fabric.specs.Whole.{IsWhole}
 use Rattle.aia_model.specs.declared.answer.Answer.TheVariants.{Okay, Refused}
 use Rattle.aia_model.specs.declared.refusal.Refusal.TheVariants as words
 use Rattle.aia_model.specs.declared.line.Line.TheVariants as lines
 use Rattle.aia_model.specs.Event.{Event, History, has_hart, harts_of}
 use Rattle.aia_model.specs.Event.Event.{Accepted}
-use Rattle.aia_model.specs.Vms.{vms_of, has_vm, has_vcpu}
-use Rattle.aia_model.specs.FileAfter.FileDeed.{Rests}
+use Rattle.aia_model.specs.Vms.{vms_of, has_vcpu}
 use Rattle.aia_model.specs.GuestFile.{guest_deed, guest_file}
-use Rattle.aia_model.specs.FileOf.{FileName, deed_at}
 use Rattle.aia_model.specs.Refusal.{is_vm_size, lacks_room}
 use Rattle.aia_model.proofs.AnswerLemmas.{vm_refusal}
 use Rattle.aia_model.proofs.FileLemmas.{file_by_step}
 use Rattle.aia_hyp.specs.Core.{CoreState}
-use Rattle.aia_hyp.specs.HostFiles.{FileDone, spot_of, select_place}
+use Rattle.aia_hyp.specs.HostFiles.{spot_of, select_place}
 use Rattle.aia_hyp.specs.Stands.{IsParked, CoreStands, CoreTakes}
 use Rattle.aia_hyp.proofs.NameLemmas.{there_too}
 use Rattle.aia_hyp.proofs.EventLemmas.{host_more, as_it_was, taken, refused, notices_step}
@@ -165,8 +162,12 @@ made_stands x y h vm c =
 -- ---- what it is answered
 
 -- whether its numbers are a VM's, by the count of the mask's ones
-pub size_by_ones : (vcpus mask : ℕ) → mask < 2 ^ 64 → is_vm_size vcpus mask ≡ (is_mask mask && is_in_range 1 (2 ^ count_ones mask) vcpus)
-size_by_ones vcpus mask low = ap (λ n. is_mask mask && is_in_range 1 (2 ^ n) vcpus) (sym (ones_counted mask low))
+pub size_by_ones : (vcpus mask : ℕ) → mask < 2 ^ 64 → is_mask mask ≡ true → is_in_range 1 (1 * 2 ^ count_ones mask % 2 ^ 64) vcpus ≡ is_vm_size vcpus mask
+size_by_ones vcpus mask low is =
+    let few : ones 64 mask ≤ 4 = (mask_parts mask is).1 in
+    let count = ones_counted mask low in
+    let whole : 1 * 2 ^ count_ones mask % 2 ^ 64 ≡ 2 ^ ones 64 mask = ap (λ n. 1 * 2 ^ n % 2 ^ 64) count ∙ one_bit (ones 64 mask) (omega (arith, few)) in
+    ap (λ n. is_in_range 1 n vcpus) whole ∙ ap (λ b. b && is_in_range 1 (2 ^ ones 64 mask) vcpus) (sym is)
 
 pub vm_made : (x y : CoreState) (vcpus mask hart : ℕ) → IsWhole x.world → is_vm_size vcpus mask ≡ true → hart < x.world.imsic.harts → lacks_room x.world.vms vcpus ≡ false → MakesVm x.world y.world (record { vcpus = vcpus; mask = mask; notice_hart = hart }) → y.selects ≡ x.selects
     → CoreTakes x y (lines.Vm vcpus mask hart) Okay

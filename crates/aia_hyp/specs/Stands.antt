@@ -11,14 +11,17 @@ use Rattle.aia_imsic.specs.Imsic.{IsThere, file_at}
 use Rattle.aia_imsic.specs.Map.{is_page}
 use Rattle.aia_mrif.specs.Mrif.{mrif_in}
 use Rattle.aia_entry.specs.declared.entry.Entry.TheVariants.{Mrif, NotValid}
+use Rattle.aia_entry.specs.declared.table.Route.{Route}
+use Rattle.aia_entry.specs.declared.table.Route.TheVariants.{Other, Fault, To}
 use Rattle.aia_entry.specs.Tables.{table_of, entry_in_force}
 use Rattle.aia_home.specs.declared.vm.Vm.{Vm}
 use Rattle.aia_home.specs.Vms.{Vcpu, vcpus_in, slot_of, notice_identity, notice_hart}
 use Rattle.aia_fabric.specs.World.{World}
 use Rattle.aia_model.specs.declared.answer.Answer.{Answer}
-use Rattle.aia_model.specs.declared.answer.Answer.TheVariants.{Refused}
+use Rattle.aia_model.specs.declared.answer.Answer.TheVariants.{Okay, Refused}
 use Rattle.aia_model.specs.declared.refusal.Refusal.{Refusal}
-use Rattle.aia_model.specs.declared.refusal.Refusal.TheVariants.{Range, Fault, Guarded}
+use Rattle.aia_model.specs.declared.refusal.Refusal.TheVariants.{Range, Guarded}
+use Rattle.aia_model.specs.declared.refusal.Refusal.TheVariants as refusals
 use Rattle.aia_model.specs.declared.line.Line.{Line}
 use Rattle.aia_model.specs.declared.line.Line.TheVariants.{Machine}
 use Rattle.aia_model.specs.declared.msi.Msi.{Msi}
@@ -118,5 +121,12 @@ signals_of h hart =
 -- place.
 abbrev pub core_refusal : Spot → ℕ → Option Refusal
 core_refusal spot addr =
-    if not (nat_eq (addr % 4) 0 && (is_page spot || is_in_memory addr)) then Some Fault
+    if not (nat_eq (addr % 4) 0 && (is_page spot || is_in_memory addr)) then Some refusals.Fault
     else (if guards spot addr then Some Guarded else None)
+
+-- What a store of a device of a VM is answered, by where its address goes: in a core that stands for
+-- a history each entry in force is valid, but those past the VM's virtual harts.
+abbrev pub route_answer : Route → Answer
+route_answer Other = Refused refusals.Other
+route_answer (Fault entry) = Refused refusals.NotValid
+route_answer (To entry) = Okay

@@ -1,4 +1,5 @@
-ghost use Rattle.std.specs.Prelude.{◌≡◌, ◌≢◌, ◌<◌, ◌≤◌, ◌%◌, true, false, None, Ok, Err, IsTrue, IfOk, OnOk};
+ghost use Rattle.std.specs.Prelude.{◌≡◌, ◌≢◌, ◌<◌, ◌≤◌, ◌%◌, ◌&&◌, nat_lt, true, false, None, Ok, Err, IsTrue, IfOk, OnOk};
+ghost use Rattle.std.specs.Int.{is_in_range};
 ghost use Rattle.std.specs.Result.{result_err};
 ghost use Rattle.aia_regs.specs.FileRegisters.{register_of, IsUsable};
 ghost use Rattle.aia_regs.specs.AddressMap.{is_in_memory};
@@ -17,7 +18,7 @@ ghost use Rattle.aia_model.specs.Refusal.{is_vm_size, lacks_room};
 ghost use Rattle.aia_fabric.specs.Whole.{IsWhole};
 ghost use Rattle.aia_model.specs.declared.answer.Answer.TheVariants.{Okay, Narrow, Wide};
 ghost use Rattle.aia_hyp.specs.HostFiles.{IsHost, HasDone, name_of, csr_line, spot_of, is_host_spot, file_in, select_place, select_in};
-ghost use Rattle.aia_hyp.specs.Stands.{CoreStands, CoreTakes, CoreBegins, CoreHears, answer_by, core_refusal, signals_of};
+ghost use Rattle.aia_hyp.specs.Stands.{CoreStands, CoreTakes, CoreBegins, CoreHears, answer_by, core_refusal, signals_of, route_answer};
 
 use aia_csr::{Access, decide};
 use aia_entry::{Route, is_mask};
@@ -238,7 +239,7 @@ impl Hyp {
     pub fn vm(&mut self, vcpus: u64, mask: u64, hart: u64) -> Result<(), Refusal>
         ensures { CoreTakes self.old self.new (Vm vcpus mask hart) (answer_by (λ _. Okay) result) }
     {
-        if !is_vm_size(vcpus, mask) || hart >= u64::from(self.fabric.harts()) {
+        if !self.is_in_range(vcpus, mask, hart) {
             return Err(Refusal::Range);
         }
         if self.lacks_room(vcpus) {
@@ -246,6 +247,13 @@ impl Hyp {
         }
         self.fabric.vm(vcpus as u32, mask, hart as u32);
         Ok(())
+    }
+
+    /// Tells whether a VM may have these numbers on this machine.
+    fn is_in_range(&self, vcpus: u64, mask: u64, hart: u64) -> bool
+        ensures { result ≡ (is_vm_size vcpus mask && nat_lt hart self.now.world.imsic.harts) }
+    {
+        is_vm_size(vcpus, mask) && hart < u64::from(self.fabric.harts())
     }
 
     /// Tells whether there is no room for a VM of so many virtual harts.
@@ -275,11 +283,7 @@ impl Hyp {
         if addr % 4 != 0 {
             return Err(Refusal::Fault);
         }
-        match self.fabric.device_store(vm as u32, addr, value) {
-            Route::Other => Err(Refusal::Other),
-            Route::Fault(_) => Err(Refusal::NotValid),
-            Route::To(_) => Ok(()),
-        }
+        taken_by(self.fabric.device_store(vm as u32, addr, value))
     }
 
     /// Tells the signals of a hart's machine-level file and of its supervisor file. `Err` is
@@ -302,11 +306,28 @@ impl Hyp {
 }
 
 /// Tells whether a VM may have so many virtual harts and this mask.
-#[tactic(auto, using(crate::proofs::VmLines::size_by_ones))]
 fn is_vm_size(vcpus: u64, mask: u64) -> bool
     ensures { result ≡ is_vm_size vcpus mask }
 {
-    is_mask(mask) && (1..=1u64 << mask.count_ones()).contains(&vcpus)
+    is_mask(mask) && is_from_one(vcpus, 1 << mask.count_ones())
+}
+
+/// Tells whether a number is from 1 to `most`.
+fn is_from_one(n: u64, most: u64) -> bool
+    ensures { result ≡ is_in_range 1 most n }
+{
+    (1..=most).contains(&n)
+}
+
+/// Tells what becomes of a store of a device of a VM, by where its address goes.
+fn taken_by(route: Route) -> Result<(), Refusal>
+    ensures { answer_by (λ _. Okay) result ≡ route_answer route }
+{
+    match route {
+        Route::Other => Err(Refusal::Other),
+        Route::Fault(_) => Err(Refusal::NotValid),
+        Route::To(_) => Ok(()),
+    }
 }
 
 /// Tells where the file of a hart at a level of the host is.

@@ -16,7 +16,7 @@ returns-in-Select c =
 pub returns-in-File : goal.returns-in-File
 returns-in-File c =
     let reached = file_reached c.args.level c.args.csr c.args.op _ c.in-File.reg c.requires.host c.requires.listed c.in-File.ensures.table in
-    let read = c.access_file.ensures.value ∙ ap (register_value (shown (file_at c.args.self.now.imsic (spot_of (name_of c.args.level c.args.hart))))) (sym reached.1) in
+    let read = c.access_file.ensures.value ∙ ap (register_value (shown (file_at c.args.self.now.world.imsic (spot_of (name_of c.args.level c.args.hart))))) (sym reached.1) in
     accessed c.args.self.now _ c.args.level c.requires.host c.args.hart c.args.csr csrs.Reg c.args.op (File c.in-File.reg) c.access_file.result c.requires.there c.in-File.ensures.table refl
     reached.0 read c.access_file.ensures.done
 

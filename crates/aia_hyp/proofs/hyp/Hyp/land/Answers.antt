@@ -1,4 +1,5 @@
-use Rattle.std.proofs.Common.{◌≡◌, true, refl, sym, ◌∙◌}
+use Rattle.std.proofs.Common.{◌≡◌, true, refl, sym, ap, ◌∙◌}
+use Rattle.aia_imsic.specs.Imsic.{ImsicState}
 use Rattle.aia_hyp.specs.HostFiles.{is_host_spot}
 use Rattle.aia_hyp.proofs.NameLemmas.{not_nowhere}
 use Rattle.aia_hyp.proofs.StoreLemmas.{msi_landed, msi_dropped}
@@ -16,7 +17,7 @@ returns c =
       at = c.locate-spot.ensures.spot;
       host = host;
       there = c.locate-spot.ensures.there (not_nowhere spot host);
-      lands = c.store.ensures.lands;
-      others = c.store.ensures.others;
+      lands = c.host_store.ensures.lands.lands;
+      others = c.host_store.ensures.rest ∙ ap (λ (i : ImsicState). record c.self.inside.fabric { imsic = i }) c.host_store.ensures.lands.others;
       selects = refl;
     }))

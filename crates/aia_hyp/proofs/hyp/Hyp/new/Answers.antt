@@ -3,4 +3,4 @@ use Rattle.aia_hyp.proofs.EventLemmas.{begun}
 use Rattle.aia_hyp.proofs.hyp.Hyp.new.Goals as goal
 
 pub returns : goal.returns
-returns c = λ sources. begun _ c.args.harts c.args.guests c.args.n sources c.in_ok-imsic.ensures.size.0 c.in_ok-imsic.ensures.size.1 c.in_ok-imsic.ensures.empty refl
+returns c = λ sources. begun _ c.args.harts c.args.guests c.args.n sources c.in_ok-fabric.ensures refl
