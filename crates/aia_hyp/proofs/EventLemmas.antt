@@ -4,6 +4,7 @@ use Rattle.std.proofs.Common.{◌≡◌, ◌≢◌, ℕ, zero, suc, ◌-◌, ◌
 use Rattle.std.specs.Prelude.{Result, Ok, min}
 use Rattle.std.specs.Option.{option_map_or}
 use Rattle.std.proofs.lemmas.Bool.{cond-true, lt-ltb, ltb-true}
+use Rattle.std.proofs.lemmas.List.{set-get_or}
 use Rattle.std.proofs.lemmas.Nat.Bits.{bit_at-zero}
 use Rattle.aia_word.specs.Sets.{has_bit}
 use Rattle.aia_home.proofs.VmLemmas.{numbered}
@@ -16,7 +17,7 @@ use Rattle.aia_file.specs.FileState.{FileState, shown}
 use Rattle.aia_file.proofs.FileLemmas.{same_file}
 use Rattle.aia_imsic.specs.declared.spot.Spot.{Spot}
 use Rattle.aia_imsic.specs.declared.spot.Spot.TheVariants as spots
-use Rattle.aia_imsic.specs.Imsic.{ImsicState, IsThere, file_at, with_file}
+use Rattle.aia_imsic.specs.Imsic.{ImsicState, IsThere, file_at, with_file, place_of, no_file}
 use Rattle.aia_imsic.proofs.PlaceLemmas.{kept_elsewhere}
 use Rattle.aia_mrif.specs.Mrif.{Mrif, mrif_in, pending_place, enable_place}
 use Rattle.aia_entry.specs.Tables.{TableState, table_of, entry_in_force}
@@ -221,6 +222,10 @@ file_done x y f deed spot named there world selects done select =
       files = λ other inside ne. ap (λ (i : ImsicState). file_at i other) imsic ∙ kept_elsewhere x.world.imsic spot other (file_at y.world.imsic spot) there inside (λ e. ne (e ∙ named));
       selects = λ g ne. ap (λ xs. get_or xs (select_place g) 0) selects;
     }
+
+-- a file in its own place changes nothing
+pub kept_file : (w : World) (spot : Spot) → w ≡ record w { imsic = with_file w.imsic spot (file_at w.imsic spot) }
+kept_file w spot = ap (λ (files : List FileState). record w { imsic = record w.imsic { files = files } }) (sym (set-get_or w.imsic.files (place_of w.imsic spot) no_file))
 
 -- a deed that leaves its file and select number
 pub none_done : (x : CoreState) (f : FileName) (deed : FileDeed) → file_after (select_in x f) deed (shown (file_at x.world.imsic (spot_of f))) ≡ shown (file_at x.world.imsic (spot_of f)) → select_after deed (select_in x f) ≡ select_in x f → HasDone x x f deed

@@ -6,7 +6,7 @@ ghost use Rattle.aia_regs.specs.AddressMap.{is_in_memory};
 ghost use Rattle.aia_csr.specs.Access.{IsInTable, ReachesUsable, access_of};
 ghost use Rattle.aia_file.specs.InterruptFile.{SameFile, is_greatest_identity, register_value, top_of};
 ghost use Rattle.aia_file.specs.FileState.{shown};
-ghost use Rattle.aia_imsic.specs.Imsic.{IsThere};
+ghost use Rattle.aia_imsic.specs.Imsic.{IsThere, file_at, with_file};
 ghost use Rattle.aia_imsic.specs.Map.{spot_at};
 ghost use Rattle.aia_word.specs.Top.{top_value};
 ghost use Rattle.aia_model.specs.Event.{History};
@@ -154,12 +154,7 @@ impl Hyp {
             ≡ top_value (top_of (shown (file_in self.old (name_of level hart)))) }
         ensures done { HasDone self.old self.new (name_of level hart) (Accesses Csr.Topei op) }
     {
-        let spot = spot(level, hart);
-        if op.is_writing() {
-            self.fabric.claim(spot)
-        } else {
-            self.fabric.file(spot).top()
-        }
+        claim_or_read(&mut self.fabric, spot(level, hart), op)
     }
 
     /// Stores 32 bits at an address for the host or a device of it. `Err` is `Fault` where the
@@ -360,6 +355,25 @@ fn select_place(level: Level, hart: u32) -> usize
         Level::Machine => 2 * hart as usize,
         Level::Host => 2 * hart as usize + 1,
         Level::Guest => unreachable!(),
+    }
+}
+
+/// Reads the topei CSR of a file that is there, and claims the identity on top where the instruction
+/// writes; all else stays.
+#[tactic(auto, using(crate::proofs::EventLemmas::kept_file))]
+fn claim_or_read(fabric: &mut Fabric, spot: Spot, op: Op) -> u64
+    requires { IsThere fabric.old.imsic spot }
+    ensures value { result ≡ top_value (top_of (shown (file_at fabric.old.imsic spot))) }
+    ensures done { SameFile (shown (file_at fabric.new.imsic spot))
+        (file_after 0 (Accesses Csr.Topei op) (shown (file_at fabric.old.imsic spot))) }
+    ensures others { fabric.new ≡ record fabric.old {
+      imsic = with_file fabric.old.imsic spot (file_at fabric.new.imsic spot);
+    } }
+{
+    if op.is_writing() {
+        fabric.claim(spot)
+    } else {
+        fabric.file(spot).top()
     }
 }
 

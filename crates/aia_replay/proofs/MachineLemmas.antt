@@ -8,6 +8,9 @@ use Rattle.std.proofs.lemmas.Bool.Decides.{nat_tests}
 use Rattle.aia_file.specs.InterruptFile.{signals}
 use Rattle.aia_model.specs.declared.line.Line.{Line}
 use Rattle.aia_model.specs.declared.line.Line.TheVariants.{Wire, Load, Store, Pins}
+use Rattle.aia_model.specs.declared.line.Line.TheVariants as lines
+use Rattle.aia_entry.specs.declared.entry.Entry.{Entry}
+use Rattle.aia_entry.specs.Format.{decoded}
 use Rattle.aia_model.specs.declared.answer.Answer.{Answer}
 use Rattle.aia_model.specs.declared.answer.Answer.TheVariants.{Okay, Narrow, Refused}
 use Rattle.aia_model.specs.declared.answer.Answer.TheVariants as words
@@ -24,7 +27,7 @@ use Rattle.aia_model.specs.SourceOf.{harts_in, sources_in, is_source, register_r
 use Rattle.aia_model.specs.FileOf.{MachineFile, SupervisorFile, page_at, file_of}
 use Rattle.aia_model.specs.Refusal.{refusal}
 use Rattle.aia_model.specs.Answer.{accepted_answer}
-use Rattle.aia_model.proofs.AnswerLemmas.{answered, refused_by, wire_refusal, pins_refusal, load_refusal, store_refusal}
+use Rattle.aia_model.proofs.AnswerLemmas.{answered, refused_by, wire_refusal, pins_refusal, load_refusal, store_refusal, entry_refusal}
 use Rattle.aia_regs.specs.declared.access.Csr.{Csr}
 use Rattle.aia_regs.specs.declared.access.Op.{Op}
 use Rattle.aia_regs.specs.declared.access.Level.{Level}
@@ -86,6 +89,16 @@ access_silent levels.Machine host hart csr op past = refl
 access_silent levels.Host host hart csr op past = refl
 access_silent levels.Guest host hart csr op past = absurd host
 
+-- ---- entries, which are nothing to the machine
+
+pub entry_read : (m : Machine) (w0 w1 : ℕ) (entry : Entry) → entry ≡ decoded w0 w1 → MachineTakes m m (lines.Entry w0 w1) (words.Entry entry)
+entry_read m w0 w1 entry is = aplic_line m m (lines.Entry w0 w1) (words.Entry entry) refl (λ h stands. (
+  entry_refusal h w0 w1 stands.core.there,
+  ap words.Entry is,
+  line_rests m.core h (Accepted (lines.Entry w0 w1)) (record { machine = refl; vms = refl; quiet = refl; guests = λ g. refl }) (λ f. refl) stands.core,
+  stands.aplic,
+))
+
 -- ---- loads and stores
 
 -- an address that is no domain's is nothing to the APLIC
@@ -127,7 +140,7 @@ pub register_loaded : (m n : Machine) (addr domain value : ℕ) → addr % 4 ≡
 register_loaded m n addr domain value aligned there same reads stands_after = aplic_line m n (Load addr) (Narrow value) same (λ h stands. (
   load_refusal h addr stands.core.there ∙ ap refused_by (region_is_free (harts_of h) _ addr aligned (in_region addr (domain_name domain) there)),
   ap Narrow (reads (acts_of h) stands.aplic ∙ sym (ap (λ (o : Option DomainName). option_map_or (λ d. register_read (acts_of h) d (register_at addr)) o 0) there)),
-  line_rests m.core h (Accepted (Load addr)) refl (λ f. refl) stands.core,
+  line_rests m.core h (Accepted (Load addr)) (record { machine = refl; vms = refl; quiet = refl; guests = λ g. refl }) (λ f. refl) stands.core,
   subst (AplicStands n.aplic) (sym (ap (λ o. with_act (option_map (λ d. Loaded d (register_at addr)) o) (acts_of h)) there)) (stands_after (acts_of h) stands.aplic),
 ))
 
@@ -136,7 +149,7 @@ pub register_stored : (m n : Machine) (addr value domain : ℕ) → addr % 4 ≡
 register_stored m n addr value domain aligned there same writes = aplic_line m n (Store addr value) Okay same (λ h stands. (
   store_refusal h addr value stands.core.there ∙ ap refused_by (region_is_free (harts_of h) _ addr aligned (in_region addr (domain_name domain) there)),
   refl,
-  line_rests m.core h (Accepted (Store addr value)) refl (λ f. cond-false _ _ _ (no_file_there addr f (in_region addr (domain_name domain) there))) stands.core,
+  line_rests m.core h (Accepted (Store addr value)) (record { machine = refl; vms = refl; quiet = refl; guests = λ g. refl }) (λ f. cond-false _ _ _ (no_file_there addr f (in_region addr (domain_name domain) there))) stands.core,
   subst (AplicStands n.aplic) (sym (ap (λ o. with_act (option_map (λ d. Written d (register_at addr) value) o) (acts_of h)) there)) (writes (acts_of h) stands.aplic),
 ))
 
@@ -158,7 +171,7 @@ pins_shown m hart root child machine supervisor by_root by_child by_core = aplic
       pins_refusal h hart stands.core.there ∙ cond-false _ _ _ (ap not core.0),
       ap (λ x. words.Pins x child machine supervisor) (by_root (acts_of h) stands.aplic acts) ∙ ap (λ x. words.Pins (is_signalled (acts_of h) Root hart) x machine supervisor) (by_child (acts_of h) stands.aplic acts)
           ∙ ap (λ (p : Bool × Bool). words.Pins (is_signalled (acts_of h) Root hart) (is_signalled (acts_of h) Child hart) p.0 p.1) core.1,
-      line_rests m.core h (Accepted (Pins hart)) refl (λ f. refl) stands.core,
+      line_rests m.core h (Accepted (Pins hart)) (record { machine = refl; vms = refl; quiet = refl; guests = λ g. refl }) (λ f. refl) stands.core,
       stands.aplic,
     ))
   where
@@ -198,6 +211,6 @@ pub wire_driven : (m n : Machine) (source : ℕ) (level : Bool) → n.core ≡ m
 wire_driven m n source level same there drives = aplic_line m n (Wire source level) Okay same (λ h stands. (
   wire_by h source level true stands.core.there (there (acts_of h) stands.aplic),
   refl,
-  line_rests m.core h (Accepted (Wire source level)) refl (λ f. refl) stands.core,
+  line_rests m.core h (Accepted (Wire source level)) (record { machine = refl; vms = refl; quiet = refl; guests = λ g. refl }) (λ f. refl) stands.core,
   drives (acts_of h) stands.aplic,
 ))

@@ -14,6 +14,7 @@ ghost use Rattle.aia_aplic.specs.Aplic.{domain_name};
 ghost use Rattle.aia_replay.specs.Stands.{MachineHolds, MachineTakes, MachineServes, Delivers};
 
 use aia_aplic::Aplic;
+use aia_entry::decode;
 use aia_hyp::Hyp;
 use aia_model::{Answer, Line, Refusal};
 use aia_regs::address_map::{REGION, ROOT_DOMAIN};
@@ -70,12 +71,15 @@ impl Machine {
     {
         match *line {
             Line::Machine { .. } => Answer::Again,
+            Line::Vm { vcpus, mask, hart } => self.vm(vcpus, mask, hart),
             Line::Wire { source, level } => self.wire(source, level),
             Line::Load { addr } => self.load(addr),
             Line::Store { addr, value } => self.store(addr, value),
+            Line::Msi { vm, addr, value } => self.msi(vm, addr, value),
             Line::MachineCsr { hart, csr, op } => self.access(Level::Machine, hart, csr, op),
             Line::HostCsr { hart, csr, op } => self.access(Level::Host, hart, csr, op),
             Line::Pins { hart } => self.pins(hart),
+            Line::Entry { w0, w1 } => self.entry(w0, w1),
         }
     }
 
@@ -86,6 +90,27 @@ impl Machine {
         while let Some(msi) = self.aplic.next_msi() {
             self.core.land(msi);
         }
+    }
+
+    /// Makes the next VM, by the core.
+    fn vm(&mut self, vcpus: u64, mask: u64, hart: u64) -> Answer
+        ensures { MachineTakes self.old self.new (Line.Vm vcpus mask hart) result }
+    {
+        okay(self.core.vm(vcpus, mask, hart))
+    }
+
+    /// Takes a store of a device of a VM, by the core.
+    fn msi(&mut self, vm: u64, addr: u64, value: u32) -> Answer
+        ensures { MachineTakes self.old self.new (Line.Msi vm addr value) result }
+    {
+        okay(self.core.msi(vm, addr, value))
+    }
+
+    /// Tells what an entry of an MSI page table says.
+    fn entry(&self, w0: u64, w1: u64) -> Answer
+        ensures { MachineTakes self.now self.now (Line.Entry w0 w1) result }
+    {
+        Answer::Entry(decode(w0, w1))
     }
 
     /// Gives the wire of a source a level; `Range` where the source isn't there.
