@@ -4,6 +4,7 @@
 #![tactic(auto)]
 
 mod fabric;
+pub mod laws;
 mod making;
 mod map;
 mod stores;

@@ -55,7 +55,7 @@ impl Vms {
     }
 
     /// Tells how many virtual harts they have in all.
-    #[tactic(auto, using(crate::proofs::OwnerLemmas::vcpus_next, crate::proofs::OwnerLemmas::vcpus_first, crate::proofs::OwnerLemmas::vcpus_all))]
+    #[tactic(auto, using(crate::proofs::OwnerLemmas::vcpus_next, crate::proofs::OwnerLemmas::vcpus_all))]
     pub fn vcpus(&self) -> u32
         requires { vcpus_in self.now ≤ VCPUS }
         ensures { result ≡ vcpus_in self.now }
@@ -78,7 +78,7 @@ impl Vms {
 }
 
 /// Finds the hart that takes the notices of the virtual hart of slot `q`.
-#[tactic(auto, using(crate::proofs::OwnerLemmas::vcpus_next, crate::proofs::OwnerLemmas::vcpus_all, crate::proofs::OwnerLemmas::owner))]
+#[tactic(auto, using(crate::proofs::OwnerLemmas::vcpus_next, crate::proofs::OwnerLemmas::vcpus_all))]
 fn notice_hart_in(vms: &[Vm], q: u32) -> u32
     requires { q < vcpus_in vms.now }
     ensures { (g : Vcpu) → is_vcpu_in vms.now g ≡ true → slot_of vms.now g ≡ q
