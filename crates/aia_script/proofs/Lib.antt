@@ -1,6 +1,5 @@
 pub mod WordLemmas
 pub mod NumberLemmas
 pub mod DigitLemmas
-pub mod AnswerLength
 pub mod PrintLemmas
 pub mod NameLemmas

@@ -7,6 +7,7 @@ mod instructions;
 mod lines;
 mod number;
 mod parse;
+mod pieces;
 mod print;
 mod spelling;
 mod words;

@@ -1,7 +1,7 @@
 //! Lines: what follows each keyword.
 
 ghost use Rattle.std.specs.Prelude.{◌≡◌};
-ghost use Rattle.aia_model.specs.Reading.{machine_at, wire_at, load_at, store_at, machine_csr_at, host_csr_at, pins_at, line_after, line_at};
+ghost use Rattle.aia_model.specs.Reading.{machine_at, vm_at, wire_at, load_at, store_at, msi_at, machine_csr_at, host_csr_at, pins_at, entry_at, line_after, line_at};
 ghost use Rattle.aia_script.specs.Cursor.{left};
 
 use crate::instructions::instruction_at;
@@ -28,6 +28,17 @@ fn machine_at(words: Words<'_>) -> Option<Line>
             sources,
         },
     )
+}
+
+/// Reads the line that the words after `vm` spell; `None` where they spell none.
+#[tactic(auto, unfolding(aia_model::specs::Reading::vm_at))]
+fn vm_at(words: Words<'_>) -> Option<Line>
+    ensures { result ≡ vm_at (left words.entry) }
+{
+    let (vcpus, words) = number_at(words)?;
+    let (mask, words) = number_at(words)?;
+    let (hart, words) = number_at(words)?;
+    at_end(words, Line::Vm { vcpus, mask, hart })
 }
 
 /// Reads the line that the words after `wire` spell; `None` where they spell none.
@@ -59,6 +70,17 @@ fn load_at(words: Words<'_>) -> Option<Line>
     at_end(words, Line::Load { addr })
 }
 
+/// Reads the line that the words after `msi` spell; `None` where they spell none.
+#[tactic(auto, unfolding(aia_model::specs::Reading::msi_at))]
+fn msi_at(words: Words<'_>) -> Option<Line>
+    ensures { result ≡ msi_at (left words.entry) }
+{
+    let (vm, words) = number_at(words)?;
+    let (addr, words) = number_at(words)?;
+    let (value, words) = n32_at(words)?;
+    at_end(words, Line::Msi { vm, addr, value })
+}
+
 /// Reads the line that the words after `m` spell; `None` where they spell none.
 #[tactic(auto, unfolding(aia_model::specs::Reading::machine_csr_at))]
 fn machine_csr_at(words: Words<'_>) -> Option<Line>
@@ -88,24 +110,40 @@ fn pins_at(words: Words<'_>) -> Option<Line>
     at_end(words, Line::Pins { hart })
 }
 
+/// Reads the line that the words after `entry` spell; `None` where they spell none.
+#[tactic(auto, unfolding(aia_model::specs::Reading::entry_at))]
+fn entry_at(words: Words<'_>) -> Option<Line>
+    ensures { result ≡ entry_at (left words.entry) }
+{
+    let (w0, words) = number_at(words)?;
+    let (w1, words) = number_at(words)?;
+    at_end(words, Line::Entry { w0, w1 })
+}
+
 /// Reads the line that the words after a keyword spell; `None` where they spell none.
 fn line_after(keyword: &[u8], words: Words<'_>) -> Option<Line>
     ensures { result ≡ line_after keyword.now (left words.entry) }
 {
     if keyword == b"machine".as_slice() {
         machine_at(words)
+    } else if keyword == b"vm".as_slice() {
+        vm_at(words)
     } else if keyword == b"wire".as_slice() {
         wire_at(words)
     } else if keyword == b"ld".as_slice() {
         load_at(words)
     } else if keyword == b"st".as_slice() {
         store_at(words)
+    } else if keyword == b"msi".as_slice() {
+        msi_at(words)
     } else if keyword == b"m".as_slice() {
         machine_csr_at(words)
     } else if keyword == b"h".as_slice() {
         host_csr_at(words)
     } else if keyword == b"pins".as_slice() {
         pins_at(words)
+    } else if keyword == b"entry".as_slice() {
+        entry_at(words)
     } else {
         None
     }

@@ -1,33 +1,14 @@
 //! An answer is printed.
 
-ghost use Rattle.std.specs.Prelude.{◌≡◌, ◌+◌, ◌<◌, ◌≤◌, [], ◌++◌, length};
+ghost use Rattle.std.specs.Prelude.{◌≡◌, ◌+◌, ◌≤◌, [], ◌++◌};
 ghost use Rattle.arrayvec.specs.ArrayVec.{array_vec_len};
-ghost use Rattle.aia_model.specs.AnswerText.{digit_character, hex_digits, level_text, refusal_word, answer_word, answer_text};
+ghost use Rattle.aia_model.specs.AnswerText.{hex_digits, level_text, entry_text, refusal_word, answer_word, answer_text};
 
+use crate::number::Radix;
+use crate::pieces::{digit_character, push_number, push_text};
+use aia_entry::Entry;
 use aia_model::{Answer, Refusal};
 use arrayvec::ArrayVec;
-
-/// Appends a text, for which there is room.
-pub fn push_text<const N: usize>(out: &mut ArrayVec<u8, N>, text: &[u8])
-    requires { array_vec_len out.old + length text.now ≤ N }
-    ensures text { out.new.items ≡ out.old.items ++ text.now }
-    ensures length { array_vec_len out.new ≡ array_vec_len out.old + length text.now }
-{
-    // There is room, so this never fails.
-    let _ = out.try_extend_from_slice(text);
-}
-
-/// Gives the character of a digit, 0 to 15, a lower-case letter from 10 on.
-pub fn digit_character(digit: u64) -> u8
-    requires { digit < 16 }
-    ensures { result ≡ digit_character digit }
-{
-    if digit < 10 {
-        b'0' + digit as u8
-    } else {
-        b'a' + (digit - 10) as u8
-    }
-}
 
 /// Appends the lowest `count` hexadecimal digits of a value.
 fn push_digits(out: &mut ArrayVec<u8, 64>, count: u32, value: u64)
@@ -65,17 +46,45 @@ fn push_pins(out: &mut ArrayVec<u8, 64>, root: bool, child: bool, machine: bool,
     push_level(out, supervisor);
 }
 
+/// Appends what an entry says.
+fn push_entry(out: &mut ArrayVec<u8, 64>, entry: Entry)
+    requires { array_vec_len out.old + 63 ≤ 64 }
+    ensures text { out.new.items ≡ out.old.items ++ entry_text entry }
+    ensures length { array_vec_len out.new ≤ array_vec_len out.old + 63 }
+{
+    match entry {
+        Entry::Basic(page) => {
+            push_text(out, b"basic 0x");
+            push_digits(out, 16, page);
+        }
+        Entry::Mrif(addr, page, identity) => {
+            push_text(out, b"mrif 0x");
+            push_digits(out, 16, addr);
+            push_text(out, b" 0x");
+            push_digits(out, 16, page);
+            push_text(out, b" ");
+            push_number(out, Radix::Decimal, identity as u64);
+        }
+        Entry::NotValid => push_text(out, b"notvalid"),
+        Entry::Custom => push_text(out, b"custom"),
+        Entry::Misconfigured => push_text(out, b"misconfigured"),
+    }
+}
+
 /// Appends the word of a refusal.
 fn push_refusal(out: &mut ArrayVec<u8, 64>, word: Refusal)
-    requires { array_vec_len out.old + 7 ≤ 64 }
+    requires { array_vec_len out.old + 8 ≤ 64 }
     ensures text { out.new.items ≡ out.old.items ++ refusal_word word }
-    ensures length { array_vec_len out.new ≤ array_vec_len out.old + 7 }
+    ensures length { array_vec_len out.new ≤ array_vec_len out.old + 8 }
 {
     match word {
         Refusal::Range => push_text(out, b"range"),
+        Refusal::Full => push_text(out, b"full"),
         Refusal::Illegal => push_text(out, b"illegal"),
         Refusal::Fault => push_text(out, b"fault"),
         Refusal::Guarded => push_text(out, b"guarded"),
+        Refusal::Other => push_text(out, b"other"),
+        Refusal::NotValid => push_text(out, b"notvalid"),
     }
 }
 
@@ -99,6 +108,7 @@ pub fn print_answer(answer: &Answer, out: &mut ArrayVec<u8, 64>)
         Answer::Pins(root, child, machine, supervisor) => {
             push_pins(out, *root, *child, *machine, *supervisor);
         }
+        Answer::Entry(entry) => push_entry(out, *entry),
         Answer::Bad => push_text(out, b"bad"),
         Answer::NoMachine => push_text(out, b"nomachine"),
         Answer::Again => push_text(out, b"again"),

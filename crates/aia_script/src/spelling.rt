@@ -1,53 +1,23 @@
 //! A line is printed: its keyword, and its other fields, each after a space.
 
 ghost use Rattle.std.specs.Prelude.{◌≡◌, ◌+◌, ◌≤◌, [], ◌∷◌, ◌++◌, length, map};
-ghost use Rattle.std.specs.Int.Digits.{digits_of};
 ghost use Rattle.std.specs.List.{join_with_byte};
 ghost use Rattle.arrayvec.specs.ArrayVec.{array_vec_len};
 ghost use Rattle.aia_regs.specs.Operations.{FitsOp};
-ghost use Rattle.aia_model.specs.AnswerText.{digit_character};
+ghost use Rattle.aia_model.specs.AnswerText.{decimal_text};
 ghost use Rattle.aia_model.specs.Grammar.{Spells, IsListed, csr_field, instruction};
 ghost use Rattle.aia_model.specs.Grammar.Field.{Keyword, Decimal};
-ghost use Rattle.aia_model.specs.Printing.{number_text, decimal_text, hex_text, field_text, line_text, IsPrintable};
+ghost use Rattle.aia_model.specs.Printing.{hex_text, field_text, line_text, IsPrintable};
 ghost use Rattle.aia_model.specs.Reading.{reading};
 ghost use Rattle.aia_model.specs.declared.limits.TheConstants.{LINE_BYTES};
-ghost use Rattle.aia_script.specs.Digits.{base};
 
 use crate::instructions::csr_name;
 use crate::number::Radix;
-use crate::print::{digit_character, push_text};
+use crate::pieces::{push_number, push_text};
 use aia_model::limits::LINE_BYTES;
 use aia_model::{Line, Parsed};
 use aia_regs::{Csr, Level, Op};
 use arrayvec::ArrayVec;
-
-/// Appends the digits of a value, the highest first, and none for 0.
-fn push_all_digits(out: &mut ArrayVec<u8, LINE_BYTES>, radix: Radix, value: u64)
-    requires { array_vec_len out.old + length (digits_of (base radix) value) ≤ LINE_BYTES }
-    ensures text { out.new.items
-        ≡ out.old.items ++ map digit_character (digits_of (base radix) value) }
-    ensures length { array_vec_len out.new
-        ≡ array_vec_len out.old + length (digits_of (base radix) value) }
-{
-    if value > 0 {
-        let base = radix.base();
-        push_all_digits(out, radix, value / base);
-        out.push(digit_character(value % base));
-    }
-}
-
-/// Appends a number by its digits, without leading zeros.
-fn push_number(out: &mut ArrayVec<u8, LINE_BYTES>, radix: Radix, value: u64)
-    requires { array_vec_len out.old + 20 ≤ LINE_BYTES }
-    ensures text { out.new.items ≡ out.old.items ++ number_text (base radix) value }
-    ensures length { array_vec_len out.new ≤ array_vec_len out.old + 20 }
-{
-    if value == 0 {
-        push_text(out, b"0");
-    } else {
-        push_all_digits(out, radix, value);
-    }
-}
 
 /// Appends a space and a number in decimal.
 fn push_decimal(out: &mut ArrayVec<u8, LINE_BYTES>, value: u64)
@@ -135,6 +105,30 @@ fn push_machine(out: &mut ArrayVec<u8, LINE_BYTES>, harts: u64, guests: u64, n: 
     push_decimal(out, sources);
 }
 
+/// Appends the printing spelling of a `vm` line to `out`, which is empty.
+#[tactic(auto, unfolding(aia_model::specs::Printing::line_text))]
+fn push_vm(out: &mut ArrayVec<u8, LINE_BYTES>, vcpus: u64, mask: u64, hart: u64)
+    requires { out.old.items ≡ [] }
+    ensures { out.new.items ≡ line_text (Line.Vm vcpus mask hart) }
+{
+    push_text(out, b"vm");
+    push_decimal(out, vcpus);
+    push_hex(out, mask);
+    push_decimal(out, hart);
+}
+
+/// Appends the printing spelling of an `msi` line to `out`, which is empty.
+#[tactic(auto, unfolding(aia_model::specs::Printing::line_text))]
+fn push_msi(out: &mut ArrayVec<u8, LINE_BYTES>, vm: u64, addr: u64, value: u32)
+    requires { out.old.items ≡ [] }
+    ensures { out.new.items ≡ line_text (Line.Msi vm addr value) }
+{
+    push_text(out, b"msi");
+    push_decimal(out, vm);
+    push_hex(out, addr);
+    push_decimal(out, value as u64);
+}
+
 /// Appends the printing spelling of a `pins` line to `out`, which is empty.
 #[tactic(auto, unfolding(aia_model::specs::Printing::line_text))]
 fn push_pins(out: &mut ArrayVec<u8, LINE_BYTES>, hart: u64)
@@ -160,6 +154,7 @@ fn push_line(line: &Line, out: &mut ArrayVec<u8, LINE_BYTES>)
             n,
             sources,
         } => push_machine(out, harts, guests, n, sources),
+        Line::Vm { vcpus, mask, hart } => push_vm(out, vcpus, mask, hart),
         Line::Wire { source, level } => {
             push_text(out, b"wire");
             push_decimal(out, source);
@@ -174,9 +169,15 @@ fn push_line(line: &Line, out: &mut ArrayVec<u8, LINE_BYTES>)
             push_hex(out, addr);
             push_hex(out, value as u64);
         }
+        Line::Msi { vm, addr, value } => push_msi(out, vm, addr, value),
         Line::MachineCsr { hart, csr, op } => push_access(out, b"m", hart, Level::Machine, csr, op),
         Line::HostCsr { hart, csr, op } => push_access(out, b"h", hart, Level::Host, csr, op),
         Line::Pins { hart } => push_pins(out, hart),
+        Line::Entry { w0, w1 } => {
+            push_text(out, b"entry");
+            push_hex(out, w0);
+            push_hex(out, w1);
+        }
     }
 }
 

@@ -2,7 +2,7 @@ use Rattle.std.proofs.Common.{◌≡◌, ◌+◌, ◌/◌, ◌<◌, length, arit
 use Rattle.std.specs.Int.Digits.{digits_of}
 use Rattle.aia_script.specs.Digits.{base}
 use Rattle.aia_script.proofs.PrintLemmas.{digits_above, digit_appended, smaller, digit_low}
-use Rattle.aia_script.proofs.spelling.+push_all_digits.Goals as goal
+use Rattle.aia_script.proofs.pieces.+push_all_digits.Goals as goal
 
 pub push_all_digits-requires : goal.push_all_digits-requires
 push_all_digits-requires t c =
