@@ -3,3 +3,4 @@ pub mod OwnerLemmas
 pub mod WholeLemmas
 pub mod MakingLemmas
 pub mod LawLemmas
+pub mod FrameLemmas

@@ -15,7 +15,7 @@ ghost use Rattle.aia_entry.specs.Tables.{table_of, route_of};
 ghost use Rattle.aia_entry.specs.Translation.{IsMask};
 ghost use Rattle.aia_home.specs.Vms.{Vcpu, vcpus_in, is_vcpu_in, slot_of, notice_hart};
 ghost use Rattle.aia_fabric.specs.Making.{IsNew, with_vm, with_entry};
-ghost use Rattle.aia_fabric.specs.Stores.{StoresIn, Posts, page_spot, with_store};
+ghost use Rattle.aia_fabric.specs.Stores.{StoresIn, Posts, counted, page_spot, with_store};
 ghost use Rattle.aia_fabric.specs.Whole.{IsWhole};
 
 use crate::map;
@@ -223,8 +223,12 @@ impl Fabric {
     /// AIA 1.0, IOMMU Support for MSIs to Virtual Machines, "Memory-resident interrupt files".
     pub fn notice(&mut self, q: u32)
         requires { q < vcpus_in self.old.vms }
-        ensures { (g : Vcpu) → is_vcpu_in self.old.vms g ≡ true → slot_of self.old.vms g ≡ q
+        ensures posts { (g : Vcpu) → is_vcpu_in self.old.vms g ≡ true → slot_of self.old.vms g ≡ q
             → Posts self.old self.new (Spot.HostFile (notice_hart self.old.vms g)) (q + 1) }
+        ensures rest { self.new ≡ record self.old {
+          imsic = record self.old.imsic { files = self.new.imsic.files };
+          notices = counted self.old.notices;
+        } }
     {
         let hart = self.vms.notice_hart(q);
         self.post(Spot::HostFile(hart), q + 1);

@@ -15,13 +15,19 @@ use aia_regs::address_map::PAGE;
 impl Fabric {
     /// Takes a 32-bit store of `value` at `addr` of a device of a VM that stands: it goes where the
     /// entry in force leads, a guest file or a slot of memory, and a notice is sent where one is
-    /// due. Tells the route.
+    /// due. Tells the route. All but files, memory and the count of notices stays.
     ///
     /// AIA 1.0, IOMMU Support for MSIs to Virtual Machines.
+    #[tactic(auto, using(crate::proofs::FrameLemmas::reaches_rest))]
     pub fn device_store(&mut self, vm: u32, addr: u64, value: u32) -> Route
         requires { vm < length self.old.vms }
         ensures route { result ≡ route_of (table_of self.old.tables vm) addr }
         ensures reaches { Reaches result self.old self.new (addr % PAGE) value }
+        ensures rest { self.new ≡ record self.old {
+          imsic = record self.old.imsic { files = self.new.imsic.files };
+          memory = self.new.memory;
+          notices = self.new.notices;
+        } }
     {
         let route = self.translate(vm, addr);
         match route {
