@@ -75,6 +75,17 @@ packs_all x mask i out at high p =
     let none : packed (64 - i) (x / 2 ^ i) (mask / 2 ^ i) ≡ 0 = packed_none (64 - i) (x / 2 ^ i) (mask / 2 ^ i) (omega arith) in
     zero_times out (2 ^ at) ∙ rw none at p.sum
 
+-- no one of the mask is left
+none_picked : (n x : ℕ) → packed n x 0 ≡ 0
+unfolding packed
+none_picked zero x = refl
+none_picked (suc n) x = none_picked n (x / 2)
+
+pub packs_rest : (x mask i out at : ℕ) → mask / 2 ^ i ≡ 0 → Packs x mask i out at → out ≡ packed 64 x mask
+packs_rest x mask i out at empty p =
+    let none : packed (64 - i) (x / 2 ^ i) (mask / 2 ^ i) ≡ 0 = ap (packed (64 - i) (x / 2 ^ i)) empty ∙ none_picked (64 - i) (x / 2 ^ i) in
+    zero_times out (2 ^ at) ∙ rw none at p.sum
+
 -- ---- spreading
 
 -- i bits of the mask are looked at, and `at` bits of x are put

@@ -13,6 +13,9 @@ pub fn extract(x: u64, mask: u64) -> u64
     let mut packed = 0;
     let mut at = 0u32;
     for i in 0..64u32 {
+        if mask >> i == 0 {
+            break;
+        }
         if (mask >> i) % 2 == 1 {
             packed |= ((x >> i) % 2) << at;
             at += 1;
