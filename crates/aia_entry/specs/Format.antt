@@ -20,15 +20,15 @@ is_plain_mrif w0 w1 =
     && nat_eq (field w1 59 54) 0 && nat_eq (field w1 63 61) 0
 
 -- The identity of an MRIF entry's notices: its low ten bits, and bit 10 apart from them.
-abbrev pub notice_identity : ℕ → ℕ
-notice_identity w1 = field w1 9 0 + 1024 * field w1 60 60
+abbrev pub named_identity : ℕ → ℕ
+named_identity w1 = field w1 9 0 + 1024 * field w1 60 60
 
 -- What a valid entry that is not custom says: mode 3 is basic, mode 1 MRIF.
 abbrev pub decoded_by_mode : ℕ → ℕ → ℕ → Entry
 decoded_by_mode mode w0 w1 =
     if nat_eq mode 3 && is_plain_basic w0 then Basic (field w0 53 10)
     else (if nat_eq mode 1 && is_plain_mrif w0 w1
-    then Mrif (field w0 53 7 * 512) (field w1 53 10) (notice_identity w1)
+    then Mrif (field w0 53 7 * 512) (field w1 53 10) (named_identity w1)
     else Misconfigured)
 
 -- What an entry says: whether it is valid is looked at first, then whether it is custom.

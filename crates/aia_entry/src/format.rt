@@ -1,7 +1,7 @@
 //! What the two words of an entry say, and the words that say it.
 
 ghost use Rattle.std.specs.Prelude.{◌≡◌, ℕ, ◌%◌, ◌^◌, ◌<◌};
-ghost use Rattle.aia_entry.specs.Format.{decoded, is_plain_basic, is_plain_mrif, notice_identity, basic_word, mrif_word, notice_word};
+ghost use Rattle.aia_entry.specs.Format.{decoded, is_plain_basic, is_plain_mrif, named_identity, basic_word, mrif_word, notice_word};
 
 use crate::Entry;
 use aia_regs::{bit, bits};
@@ -21,7 +21,7 @@ pub fn decode(w0: u64, w1: u64) -> Entry
     match bits(w0, 2, 1) {
         3 if is_plain_basic(w0) => Entry::Basic(bits(w0, 53, 10)),
         1 if is_plain_mrif(w0, w1) => {
-            Entry::Mrif(bits(w0, 53, 7) * 512, bits(w1, 53, 10), notice_identity(w1))
+            Entry::Mrif(bits(w0, 53, 7) * 512, bits(w1, 53, 10), named_identity(w1))
         }
         _ => Entry::Misconfigured,
     }
@@ -42,8 +42,8 @@ fn is_plain_mrif(w0: u64, w1: u64) -> bool
 }
 
 /// Gives the identity of the notices of an MRIF entry, 0 to 2047.
-fn notice_identity(w1: u64) -> u32
-    ensures { result ≡ notice_identity w1 }
+fn named_identity(w1: u64) -> u32
+    ensures { result ≡ named_identity w1 }
 {
     (bits(w1, 9, 0) + 1024 * bits(w1, 60, 60)) as u32
 }
