@@ -4,7 +4,8 @@
 use crate::runs::replays;
 use aia_vectors::row::Row;
 use aia_vectors::rows::{
-    direct_delivery, examples, files, lines, machines, msi_delivery, registers, sources,
+    direct_delivery, entries, examples, files, lines, machines, msi_delivery, registers, sources,
+    virtual_machines,
 };
 use std::alloc::{AllocError, Global};
 use std::process::Abort;
@@ -96,6 +97,22 @@ fn rows_of_msi_delivery_print_their_answers_whatever_the_pieces(
 ) -> Result<(), Fail> {
     let alloc = rt.alloc();
     replays_all(&rt, alloc, &msi_delivery::ROWS)?;
+    Ok(())
+}
+
+#[test]
+fn rows_of_virtual_machines_print_their_answers_whatever_the_pieces(
+    rt: HostRuntime,
+) -> Result<(), Fail> {
+    let alloc = rt.alloc();
+    replays_all(&rt, alloc, &virtual_machines::ROWS)?;
+    Ok(())
+}
+
+#[test]
+fn rows_of_entries_print_their_answers_whatever_the_pieces(rt: HostRuntime) -> Result<(), Fail> {
+    let alloc = rt.alloc();
+    replays_all(&rt, alloc, &entries::ROWS)?;
     Ok(())
 }
 
