@@ -1,5 +1,4 @@
 pub mod PlaceLemmas
-pub mod OwnerLemmas
 pub mod WholeLemmas
 pub mod MakingLemmas
 pub mod LawLemmas

@@ -2,7 +2,7 @@ ghost use Rattle.std.specs.Prelude.{◌≡◌, ℕ, ◌<◌, ◌≤◌, true, []
 ghost use Rattle.aia_regs.specs.declared.limits.TheConstants.{VMS, VCPUS};
 ghost use Rattle.aia_home.specs.Vms.{Vcpu, vcpus_in, is_vcpu_in, slot_of, notice_hart};
 
-use aia_home::Vm;
+use aia_home::{Vm, notice_hart_of, vcpus_in};
 use aia_regs::limits::VMS;
 use std::alloc::{AllocError, Global};
 use std::marker::Model;
@@ -55,16 +55,11 @@ impl Vms {
     }
 
     /// Tells how many virtual harts they have in all.
-    #[tactic(auto, using(crate::proofs::OwnerLemmas::vcpus_next, crate::proofs::OwnerLemmas::vcpus_all))]
     pub fn vcpus(&self) -> u32
         requires { vcpus_in self.now ≤ VCPUS }
         ensures { result ≡ vcpus_in self.now }
     {
-        let mut count = 0;
-        for vm in &self.kept {
-            count += vm.vcpus;
-        }
-        count
+        vcpus_in(&self.kept)
     }
 
     /// Finds the hart that takes the notices of the virtual hart of slot `q`.
@@ -73,23 +68,6 @@ impl Vms {
         ensures { (g : Vcpu) → is_vcpu_in self.now g ≡ true → slot_of self.now g ≡ q
             → result ≡ notice_hart self.now g }
     {
-        notice_hart_in(&self.kept, q)
+        notice_hart_of(&self.kept, q)
     }
-}
-
-/// Finds the hart that takes the notices of the virtual hart of slot `q`.
-#[tactic(auto, using(crate::proofs::OwnerLemmas::vcpus_next, crate::proofs::OwnerLemmas::vcpus_all))]
-fn notice_hart_in(vms: &[Vm], q: u32) -> u32
-    requires { q < vcpus_in vms.now }
-    ensures { (g : Vcpu) → is_vcpu_in vms.now g ≡ true → slot_of vms.now g ≡ q
-        → result ≡ notice_hart vms.now g }
-{
-    let mut left = q;
-    for vm in vms {
-        if left < vm.vcpus {
-            return vm.notice_hart;
-        }
-        left -= vm.vcpus;
-    }
-    unreachable!()
 }

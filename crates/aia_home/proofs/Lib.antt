@@ -1,1 +1,2 @@
 pub mod VmLemmas
+pub mod OwnerLemmas

@@ -4,4 +4,4 @@
 pub mod laws;
 mod vm;
 
-pub use vm::Vm;
+pub use vm::{Vm, notice_hart_of, vcpus_in};

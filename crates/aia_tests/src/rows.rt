@@ -4,8 +4,8 @@
 use crate::runs::replays;
 use aia_vectors::row::Row;
 use aia_vectors::rows::{
-    direct_delivery, entries, examples, files, lines, machines, msi_delivery, registers, sources,
-    virtual_machines,
+    direct_delivery, entries, examples, examples_of_guests, files, lines, machines, msi_delivery,
+    registers, sources, virtual_machines,
 };
 use std::alloc::{AllocError, Global};
 use std::process::Abort;
@@ -120,5 +120,14 @@ fn rows_of_entries_print_their_answers_whatever_the_pieces(rt: HostRuntime) -> R
 fn rows_of_examples_print_their_answers_whatever_the_pieces(rt: HostRuntime) -> Result<(), Fail> {
     let alloc = rt.alloc();
     replays_all(&rt, alloc, &examples::ROWS)?;
+    Ok(())
+}
+
+#[test]
+fn rows_of_examples_of_guests_print_their_answers_whatever_the_pieces(
+    rt: HostRuntime,
+) -> Result<(), Fail> {
+    let alloc = rt.alloc();
+    replays_all(&rt, alloc, &examples_of_guests::ROWS)?;
     Ok(())
 }

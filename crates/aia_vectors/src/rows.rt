@@ -7,6 +7,7 @@
 pub mod direct_delivery;
 pub mod entries;
 pub mod examples;
+pub mod examples_of_guests;
 pub mod files;
 pub mod lines;
 pub mod machines;

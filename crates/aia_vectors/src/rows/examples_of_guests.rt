@@ -1,0 +1,223 @@
+//! The scripts of examples/, for a reader.
+//!
+//! Made of suite/rows/examples_of_guests.rows by suite/make: edit the rows.
+
+ghost use Rattle.std.specs.Prelude.{◌≡◌};
+ghost use Rattle.aia_model.specs.Script.{answers};
+ghost use Rattle.aia_vectors.specs.Rows.{script_of, answers_of};
+
+use crate::row::Row;
+
+/// What an entry of an MSI page table means, and where an MSI of a VM's device goes.
+pub const VIRTUAL_MACHINES_EXAMPLE: [(&str, &str); 87] = [
+    (
+        "# What an entry of an MSI page table means, and where an MSI of a VM's device goes. Where \
+         the fields",
+        "",
+    ),
+    (
+        "# of an entry stand, the pattern of addresses and the limits of masks are this project's \
+         choice.",
+        "",
+    ),
+    ("#", ""),
+    (
+        "# A machine of one hart with one guest file, the identities 1 to 63 and one wired source.",
+        "",
+    ),
+    ("machine 1 1 63 1", "ok"),
+    ("", ""),
+    ("# ---- what an entry means", ""),
+    (
+        "# An entry is two words of 64 bits. Bit 0 of word 0, V, says that it is valid; bits 2:1, \
+         M, are its",
+        "",
+    ),
+    (
+        "# mode. Mode 3 is basic: an MSI goes to the page whose number is in bits 53:10, here \
+         0x28001, the",
+        "",
+    ),
+    ("# page of guest file 1.", ""),
+    ("entry 0x0a000407 0", "basic 0x0000000000028001"),
+    ("# Word 1 of a basic entry is not looked at.", ""),
+    (
+        "entry 0x0a000407 0xffffffffffffffff",
+        "basic 0x0000000000028001",
+    ),
+    ("", ""),
+    (
+        "# Mode 1 is MRIF: an MSI goes to a memory-resident interrupt file, and a notice of it to \
+         the host.",
+        "",
+    ),
+    (
+        "# Bits 53:7 of word 0 are bits 55:9 of the file's address, here 0x80000200. Word 1 says \
+         where the",
+        "",
+    ),
+    (
+        "# notice goes: to the page whose number is in bits 53:10, here 0x28000, with the identity \
+         in bits",
+        "",
+    ),
+    ("# 9:0, here 2.", ""),
+    (
+        "entry 0x20000083 0x0a000002",
+        "mrif 0x0000000080000200 0x0000000000028000 2",
+    ),
+    (
+        "# Bit 10 of that identity stands apart, in bit 60 of word 1: this one is 1024 + 2.",
+        "",
+    ),
+    (
+        "entry 0x20000083 0x100000000a000002",
+        "mrif 0x0000000080000200 0x0000000000028000 1026",
+    ),
+    ("", ""),
+    (
+        "# Without V an entry says nothing, whatever else stands in it.",
+        "",
+    ),
+    ("entry 0x0a000406 0", "notvalid"),
+    (
+        "# Bit 63 of word 0, C, leaves the meaning of a valid entry to custom use.",
+        "",
+    ),
+    ("entry 0x800000000a000407 0", "custom"),
+    ("# The modes 0 and 2 are reserved,", ""),
+    ("entry 0x0a000401 0", "misconfigured"),
+    ("entry 0x0a000405 0", "misconfigured"),
+    (
+        "# and so are bits of word 0 in each mode, here bit 3, and of word 1 in mode 1, here bit \
+         54.",
+        "",
+    ),
+    ("entry 0x0a00040f 0", "misconfigured"),
+    ("entry 0x2000008b 0x0a000002", "misconfigured"),
+    ("entry 0x20000083 0x004000000a000002", "misconfigured"),
+    ("# V is looked at first, then C.", ""),
+    ("entry 0x8000000000000000 0", "notvalid"),
+    ("entry 0x8000000000000005 0", "custom"),
+    ("", ""),
+    ("# ---- which file an MSI of a VM's device names", ""),
+    (
+        "# A VM of five virtual harts. Each has an interrupt file, which is in memory, and the \
+         VM's table has",
+        "",
+    ),
+    (
+        "# an MRIF entry for it; notices go to the supervisor file of hart 0. The mask, 0x29, has \
+         ones at the",
+        "",
+    ),
+    ("# bits 0, 3 and 5 of a page's number.", ""),
+    ("vm 5 0x29 0", "ok"),
+    ("", ""),
+    (
+        "# The page of each MSI address agrees with the pattern, page 0x28000, at each bit that is \
+         no one of",
+        "",
+    ),
+    (
+        "# the mask. Its bits at the ones, packed, the lowest first, are the number of the file.",
+        "",
+    ),
+    (
+        "# Page 0x28000 names file 0; a device asks it for identity 5.",
+        "",
+    ),
+    ("msi 0 0x28000000 5", "ok"),
+    (
+        "# Page 0x28001 has bit 0, so file 1. Page 0x28008 has bit 3, the second one: file 2. Four \
+         bytes on,",
+        "",
+    ),
+    ("# the identity is taken big-endian.", ""),
+    ("msi 0 0x28001000 5", "ok"),
+    ("msi 0 0x28008004 0x05000000", "ok"),
+    (
+        "# Page 0x28009 names file 3, and page 0x28020, by the third one, file 4, the last.",
+        "",
+    ),
+    ("msi 0 0x28009000 5", "ok"),
+    ("msi 0 0x28020000 5", "ok"),
+    (
+        "# Page 0x28021 names file 5. There is no virtual hart 5, and its entry is not valid.",
+        "",
+    ),
+    ("msi 0 0x28021000 5", "notvalid"),
+    ("", ""),
+    (
+        "# Page 0x28002 has bit 1, in a gap of the mask. That is no MSI address of this VM: an \
+         IOMMU",
+        "",
+    ),
+    (
+        "# translates it like any other address, which is beyond this model.",
+        "",
+    ),
+    ("msi 0 0x28002000 5", "other"),
+    (
+        "# So with the first bit above the mask, and with one far above.",
+        "",
+    ),
+    ("msi 0 0x28040000 5", "other"),
+    ("msi 0 0x128000000 5", "other"),
+    ("", ""),
+    (
+        "# fault: the address is no multiple of 4. range: there is no VM 1 yet.",
+        "",
+    ),
+    ("msi 0 0x28000002 5", "fault"),
+    ("msi 1 0x28000000 5", "range"),
+    ("", ""),
+    (
+        "# The next VM has another mask: what names file 2 in the first one names file 1 here, and \
+         page",
+        "",
+    ),
+    ("# 0x28001 is no MSI address.", ""),
+    ("vm 2 0x8 0", "ok"),
+    ("msi 1 0x28008000 5", "ok"),
+    ("msi 1 0x28001000 5", "other"),
+    ("", ""),
+    ("# ---- what the host sees of it", ""),
+    (
+        "# To the host 0x28000000 is the page of its own file of hart 0. No MSI of a VM's device \
+         came there,",
+        "",
+    ),
+    (
+        "# and no notice: those are of enabled identities, and no virtual hart has enabled one.",
+        "",
+    ),
+    ("h 0 csrrw siselect 0x80", "0x0000000000000000"),
+    ("h 0 csrr sireg", "0x0000000000000000"),
+    (
+        "# A store of the host or of its own devices does come there.",
+        "",
+    ),
+    ("st 0x28000000 5", "ok"),
+    ("h 0 csrr sireg", "0x0000000000000020"),
+    (
+        "# The page of guest file 1, the file of virtual hart 1 in memory and the table of the \
+         first VM are",
+        "",
+    ),
+    ("# there, but not for the host.", ""),
+    ("ld 0x28001000", "guarded"),
+    ("ld 0x80000200", "guarded"),
+    ("ld 0x80002000", "guarded"),
+];
+
+/// Proves that the model answers [`VIRTUAL_MACHINES_EXAMPLE`] as it says.
+pub fn the_example_of_virtual_machines()
+    ensures { answers (script_of VIRTUAL_MACHINES_EXAMPLE) ≡ answers_of VIRTUAL_MACHINES_EXAMPLE }
+{}
+
+/// All rows of this file, each with its name.
+pub const ROWS: [Row; 1] = [Row {
+    name: "VIRTUAL_MACHINES_EXAMPLE",
+    pairs: &VIRTUAL_MACHINES_EXAMPLE,
+}];
