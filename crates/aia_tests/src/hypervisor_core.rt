@@ -77,3 +77,28 @@ fn the_core_refuses_with_its_words(rt: HostRuntime) -> Result<(), Fail> {
     );
     Ok(())
 }
+
+#[test]
+fn the_core_makes_vms_and_takes_stores_of_their_devices(rt: HostRuntime) -> Result<(), Fail> {
+    let mut core = Hyp::new(rt.alloc(), 2, 0, 63)?;
+    let vms = [
+        ((2, 0x8, 2), Err(Refusal::Range)),
+        ((5, 0x18, 0), Err(Refusal::Range)),
+        ((9, 0x78, 0), Err(Refusal::Full)),
+        ((3, 0x28, 1), Ok(())),
+    ];
+    for ((vcpus, mask, hart), given) in vms {
+        assert_eq!(rt; core.vm(vcpus, mask, hart), given, "{vcpus} of {mask}");
+    }
+    let stores = [
+        (1, 0x2800_0000, Err(Refusal::Range)),
+        (0, 0x2800_0002, Err(Refusal::Fault)),
+        (0, 0x2801_0000, Err(Refusal::Other)),
+        (0, 0x2802_8000, Err(Refusal::NotValid)),
+        (0, 0x2802_0000, Ok(())),
+    ];
+    for (vm, addr, given) in stores {
+        assert_eq!(rt; core.msi(vm, addr, 5), given, "at {addr}");
+    }
+    Ok(())
+}

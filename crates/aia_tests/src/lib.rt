@@ -17,6 +17,8 @@ mod ends;
 #[cfg(test)]
 mod engine;
 #[cfg(test)]
+mod fabric;
+#[cfg(test)]
 mod failing_ends;
 #[cfg(test)]
 mod files;

@@ -1,5 +1,6 @@
 //! Texts that are read as lines, lines and answers that are printed.
 
+use aia_entry::Entry;
 use aia_script::{Answer, Csr, Line, Op, Parsed, Refusal, parse_line, print_answer, print_line};
 use arrayvec::ArrayVec;
 use std::process::Abort;
@@ -35,6 +36,18 @@ fn host(hart: u64, csr: Csr, op: Op) -> Parsed {
 
 fn pins(hart: u64) -> Parsed {
     Parsed::Line(Line::Pins { hart })
+}
+
+fn vm(vcpus: u64, mask: u64, hart: u64) -> Parsed {
+    Parsed::Line(Line::Vm { vcpus, mask, hart })
+}
+
+fn msi(vm: u64, addr: u64, value: u32) -> Parsed {
+    Parsed::Line(Line::Msi { vm, addr, value })
+}
+
+fn entry(w0: u64, w1: u64) -> Parsed {
+    Parsed::Line(Line::Entry { w0, w1 })
 }
 
 #[test]
@@ -98,6 +111,14 @@ fn texts_are_read_by_the_grammar(rt: HostRuntime) {
         ("pins 1 1", Parsed::Bad),
         ("pins x", Parsed::Bad),
         ("pin 0", Parsed::Bad),
+        ("vm 2 0x38 1", vm(2, 56, 1)),
+        ("vm 2 56", Parsed::Bad),
+        ("vm 2 56 1 0", Parsed::Bad),
+        ("msi 0 0x28008000 4294967295", msi(0, 671121408, u32::MAX)),
+        ("msi 0 0 4294967296", Parsed::Bad),
+        ("msi 0 0", Parsed::Bad),
+        ("entry 0x20000003 9", entry(536870915, 9)),
+        ("entry 1", Parsed::Bad),
         ("# st 0 0", Parsed::Skip),
         ("", Parsed::Skip),
     ];
@@ -120,13 +141,27 @@ fn answers_are_printed(rt: HostRuntime) {
         (Answer::Pins(false, true, false, false), "pins 0 1 0 0\n"),
         (Answer::Pins(false, false, true, false), "pins 0 0 1 0\n"),
         (Answer::Pins(false, false, false, true), "pins 0 0 0 1\n"),
+        (
+            Answer::Entry(Entry::Basic(0x28001)),
+            "basic 0x0000000000028001\n",
+        ),
+        (
+            Answer::Entry(Entry::Mrif(0x8000_0000, 0x28000, 1025)),
+            "mrif 0x0000000080000000 0x0000000000028000 1025\n",
+        ),
+        (Answer::Entry(Entry::NotValid), "notvalid\n"),
+        (Answer::Entry(Entry::Custom), "custom\n"),
+        (Answer::Entry(Entry::Misconfigured), "misconfigured\n"),
         (Answer::Bad, "bad\n"),
         (Answer::NoMachine, "nomachine\n"),
         (Answer::Again, "again\n"),
         (Answer::Refused(Refusal::Range), "range\n"),
+        (Answer::Refused(Refusal::Full), "full\n"),
         (Answer::Refused(Refusal::Illegal), "illegal\n"),
         (Answer::Refused(Refusal::Fault), "fault\n"),
         (Answer::Refused(Refusal::Guarded), "guarded\n"),
+        (Answer::Refused(Refusal::Other), "other\n"),
+        (Answer::Refused(Refusal::NotValid), "notvalid\n"),
     ];
     for (answer, want) in answers {
         let mut out = ArrayVec::new();
@@ -149,7 +184,7 @@ fn prints(rt: &impl Abort, text: &str, printed: &str) {
 
 /// Texts that spell a line, and how the line is printed: addresses, values and operands in
 /// hexadecimal, all else in decimal.
-const PRINTED: [(&str, &str); 13] = [
+const PRINTED: [(&str, &str); 16] = [
     ("machine 0x4 0x0 0x7ff 1023", "machine 4 0 2047 1023"),
     (
         "machine 10 16 7 0xffffffffffffffff",
@@ -169,6 +204,12 @@ const PRINTED: [(&str, &str); 13] = [
     ("m 3 csrrw miselect 112", "m 3 csrrw miselect 0x70"),
     ("h 2 csrrw stopei 0", "h 2 csrrw stopei 0x0"),
     ("h 1 csrrc sireg 3840", "h 1 csrrc sireg 0xf00"),
+    ("vm 0x2 56 0x1", "vm 2 0x38 1"),
+    (
+        "msi 0x1 671121408 0xffffffff",
+        "msi 1 0x28008000 4294967295",
+    ),
+    ("entry 536870915 9", "entry 0x20000003 0x9"),
 ];
 
 /// Texts that lines are printed as, one for each instruction of both levels and for each CSR.

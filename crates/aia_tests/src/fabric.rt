@@ -1,0 +1,135 @@
+//! All that stores reach, called by itself, with two VMs.
+
+use aia_entry::{Entry, Route, is_mask};
+use aia_fabric::Fabric;
+use aia_home::{Vm, notice_hart_of, vcpus_in};
+use aia_imsic::Spot;
+use aia_regs::{FileReg, Op};
+use std::alloc::{AllocError, Global};
+use std::test::Fail;
+
+/// Makes four harts with two guest files each, and VMs of three and of two virtual harts.
+#[tactic(auto, unfolding(aia_word::specs::Packed::ones))]
+fn two_vms(alloc: Global) -> Result<Fabric, AllocError> {
+    let mut fabric = Fabric::new(alloc, 4, 2, 63)?;
+    fabric.vm(3, 0x18, 1);
+    fabric.vm(2, 0x8, 2);
+    Ok(fabric)
+}
+
+/// Takes a store of a device, where the VM stands.
+fn stores(fabric: &mut Fabric, vm: u32, addr: u64, value: u32) -> Option<Route> {
+    if vm >= fabric.vms() {
+        return None;
+    }
+    Some(fabric.device_store(vm, addr, value))
+}
+
+/// Sends the notice of a virtual hart, where it is there.
+fn notices(fabric: &mut Fabric, q: u32) {
+    if q < fabric.vcpus() {
+        fabric.notice(q);
+    }
+}
+
+/// Does an instruction on the first pending register of the file in whose page an address lies.
+fn pending(fabric: &mut Fabric, addr: u64, op: Op) -> Option<u64> {
+    let spot = fabric.locate(addr);
+    if spot == Spot::Nowhere {
+        return None;
+    }
+    Some(fabric.reg(spot, FileReg::Pending(0), op))
+}
+
+#[test]
+fn entries_in_force_lead_stores_to_slots(rt: HostRuntime) -> Result<(), Fail> {
+    let mut fabric = two_vms(rt.alloc())?;
+    assert_eq!(rt; fabric.vms(), 2);
+    assert_eq!(rt; fabric.vcpus(), 5);
+    assert_eq!(rt; fabric.harts(), 4);
+    assert_eq!(rt; fabric.guests(), 2);
+    let routes = [
+        (
+            1,
+            0x2800_8000,
+            Some(Route::To(Entry::Mrif(0x8000_0800, 0x28010, 5))),
+        ),
+        (
+            0,
+            0x2800_0000,
+            Some(Route::To(Entry::Mrif(0x8000_0000, 0x28008, 1))),
+        ),
+        (
+            0,
+            0x2801_0000,
+            Some(Route::To(Entry::Mrif(0x8000_0400, 0x28008, 3))),
+        ),
+        (0, 0x2801_8000, Some(Route::Fault(Entry::NotValid))),
+        (0, 0x2802_8000, Some(Route::Other)),
+        (2, 0x2800_0000, None),
+    ];
+    for (vm, addr, route) in routes {
+        assert_eq!(rt; stores(&mut fabric, vm, addr, 5), route, "at {addr}");
+    }
+    assert_eq!(rt; fabric.notices(), 0);
+    Ok(())
+}
+
+#[test]
+fn notices_reach_the_notice_hart(rt: HostRuntime) -> Result<(), Fail> {
+    let mut fabric = two_vms(rt.alloc())?;
+    notices(&mut fabric, 4);
+    notices(&mut fabric, 2);
+    assert_eq!(rt; fabric.notices(), 2);
+    assert_eq!(rt; pending(&mut fabric, 0x2801_0000, Op::Read), Some(1 << 5));
+    assert_eq!(rt; pending(&mut fabric, 0x2800_8000, Op::Read), Some(1 << 3));
+    assert_eq!(rt; pending(&mut fabric, 0x2800_0000, Op::Read), Some(0));
+    Ok(())
+}
+
+#[test]
+fn stores_of_the_host_land_in_one_file(rt: HostRuntime) -> Result<(), Fail> {
+    let mut fabric = two_vms(rt.alloc())?;
+    let spot = fabric.locate(0x2801_a000);
+    assert_eq!(rt; spot, Spot::GuestFile(3, 2));
+    if spot == Spot::Nowhere {
+        return Ok(());
+    }
+    fabric.host_store(spot, 0, 7);
+    assert_eq!(rt; fabric.file(spot).top(), 0);
+    assert_eq!(rt; fabric.reg(spot, FileReg::Enable(0), Op::Write(0x80)), 0);
+    assert_eq!(rt; fabric.claim(spot), 0x7_0007);
+    assert_eq!(rt; pending(&mut fabric, 0x2801_a000, Op::Read), Some(0));
+    assert_eq!(rt; pending(&mut fabric, 0x2801_b000, Op::Read), None);
+    Ok(())
+}
+
+#[test]
+fn slots_of_virtual_harts_follow_one_another(rt: HostRuntime) -> Result<(), Fail> {
+    let vms = [
+        Vm {
+            vcpus: 3,
+            mask: 0x18,
+            notice_hart: 1,
+        },
+        Vm {
+            vcpus: 2,
+            mask: 0x8,
+            notice_hart: 0,
+        },
+    ];
+    assert_eq!(rt; vcpus_in(&vms), 5);
+    assert_eq!(rt; notice_hart_of(&vms, 2), 1);
+    assert_eq!(rt; notice_hart_of(&vms, 3), 0);
+    let masks = [
+        (0, false),
+        (8, true),
+        (0x4028, true),
+        (0x1f, false),
+        (0x8000, false),
+    ];
+    for (mask, may_be) in masks {
+        assert_eq!(rt; is_mask(mask), may_be, "{mask}");
+    }
+    Ok(())
+}
