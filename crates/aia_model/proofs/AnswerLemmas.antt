@@ -86,7 +86,7 @@ vm_refusal h vcpus mask hart there = past_machine h _ there
 
 pub msi_refusal : (h : History) (vm addr value : ℕ) → has_machine h ≡ true
     → refusal h (lines.Msi vm addr value) ≡ cond (not (has_vm h vm)) (Some (Refused Range)) (cond (not (nat_eq (addr % 4) 0)) (Some (Refused Fault))
-      (cond (not (is_msi_address (mask_of h vm) addr)) (Some (Refused Other)) (cond (not (has_vcpu h (named_by h vm addr))) (Some (Refused NotValid)) None)))
+    (cond (not (is_msi_address (mask_of h vm) addr)) (Some (Refused Other)) (cond (not (has_vcpu h (named_by h vm addr))) (Some (Refused NotValid)) None)))
 msi_refusal h vm addr value there = past_machine h _ there
 
 pub entry_refusal : (h : History) (w0 w1 : ℕ) → has_machine h ≡ true → refusal h (lines.Entry w0 w1) ≡ None
