@@ -45,7 +45,8 @@ impl Model for Table {
 }
 
 impl Table {
-    /// Makes the table at byte `start` of memory of a VM with this mask; no entry is in force.
+    /// Makes the table at byte `start` of memory of a VM with this mask; no entry in force is
+    /// valid.
     pub fn new(mask: u64, start: usize) -> Table
         requires { IsMask mask }
         ensures { result ≡ new_table mask start }

@@ -16,7 +16,7 @@ use Rattle.aia_entry.proofs.TableLemmas.{fenced_here, fenced_elsewhere, table_el
 use Rattle.aia_home.specs.declared.vm.Vm.{Vm}
 use Rattle.aia_home.specs.Vms.{vcpus_in}
 use Rattle.aia_fabric.specs.World.{World}
-use Rattle.aia_fabric.specs.Making.{MakesVm, table_place, notice_page, entry_word, words_with_entry, with_entry, with_vm}
+use Rattle.aia_fabric.specs.Making.{MakesVm, table_place, notice_page, entry_word_place, words_with_entry, with_entry, with_vm}
 
 -- the entry in force of a file, once those of so many files are made
 abbrev pub entry_so_far : Vm → ℕ → ℕ → ℕ → Entry
@@ -33,9 +33,9 @@ pub record HasMade (w u : World) (vm : Vm) (made : ℕ) : Type 0 where
   pub room : length (table_of u.tables (length w.tables)).in_force ≡ 16
   pub size : length u.memory ≡ 0xc00
   pub in_force : (file : ℕ) → entry_in_force (table_of u.tables (length w.tables)) file ≡ entry_so_far vm (vcpus_in w.vms) made file
-  pub word0 : (file : ℕ) → file < made → slice_index u.memory (entry_word (length w.tables) file) ≡ mrif_word (slot_address (vcpus_in w.vms + file))
-  pub word1 : (file : ℕ) → file < made → slice_index u.memory (entry_word (length w.tables) file + 1) ≡ notice_word (notice_page vm) (vcpus_in w.vms + file + 1)
-  pub elsewhere : (place : ℕ) → (place < entry_word (length w.tables) 0) ⊎ (entry_word (length w.tables) made ≤ place) → slice_index u.memory place ≡ slice_index w.memory place
+  pub word0 : (file : ℕ) → file < made → slice_index u.memory (entry_word_place (length w.tables) file) ≡ mrif_word (slot_address (vcpus_in w.vms + file))
+  pub word1 : (file : ℕ) → file < made → slice_index u.memory (entry_word_place (length w.tables) file + 1) ≡ notice_word (notice_page vm) (vcpus_in w.vms + file + 1)
+  pub elsewhere : (place : ℕ) → (place < entry_word_place (length w.tables) 0) ⊎ (entry_word_place (length w.tables) made ≤ place) → slice_index u.memory place ≡ slice_index w.memory place
   pub rest : u ≡ record w { vms = u.vms; tables = u.tables; memory = u.memory }
 
 below : (a b : ℕ) → a < b → nat_lt a b ≡ true
@@ -80,33 +80,33 @@ table_here : (tables : List TableState) (vm file : ℕ) (words : List ℕ) → v
 table_here tables vm file words there = get_or-set_same tables vm (fenced words file (table_of tables vm)) no_table there
 
 -- the words of an entry that is written
-first_word : (words : List ℕ) (vm file slot page : ℕ) → entry_word vm file < 0xbff → length words ≡ 0xc00 → slice_index (words_with_entry words vm file slot page) (entry_word vm file) ≡ mrif_word (slot_address slot)
+first_word : (words : List ℕ) (vm file slot page : ℕ) → entry_word_place vm file < 0xbff → length words ≡ 0xc00 → slice_index (words_with_entry words vm file slot page) (entry_word_place vm file) ≡ mrif_word (slot_address slot)
 first_word words vm file slot page low size =
-    get_or-set_other (set words (entry_word vm file) (mrif_word (slot_address slot))) (entry_word vm file + 1) (entry_word vm file) (notice_word page (slot + 1)) 0 (λ e. omega arith)
-    ∙ get_or-set_same words (entry_word vm file) (mrif_word (slot_address slot)) 0 (omega arith)
+    get_or-set_other (set words (entry_word_place vm file) (mrif_word (slot_address slot))) (entry_word_place vm file + 1) (entry_word_place vm file) (notice_word page (slot + 1)) 0 (λ e. omega arith)
+    ∙ get_or-set_same words (entry_word_place vm file) (mrif_word (slot_address slot)) 0 (omega arith)
 
-second_word : (words : List ℕ) (vm file slot page : ℕ) → entry_word vm file < 0xbff → length words ≡ 0xc00 → slice_index (words_with_entry words vm file slot page) (entry_word vm file + 1) ≡ notice_word page (slot + 1)
+second_word : (words : List ℕ) (vm file slot page : ℕ) → entry_word_place vm file < 0xbff → length words ≡ 0xc00 → slice_index (words_with_entry words vm file slot page) (entry_word_place vm file + 1) ≡ notice_word page (slot + 1)
 second_word words vm file slot page low size =
-    get_or-set_same (set words (entry_word vm file) (mrif_word (slot_address slot))) (entry_word vm file + 1) (notice_word page (slot + 1)) 0 (omega (arith, length-set words (entry_word vm file) (mrif_word (slot_address slot))))
+    get_or-set_same (set words (entry_word_place vm file) (mrif_word (slot_address slot))) (entry_word_place vm file + 1) (notice_word page (slot + 1)) 0 (omega (arith, length-set words (entry_word_place vm file) (mrif_word (slot_address slot))))
 
-other_word : (words : List ℕ) (vm file slot page place : ℕ) → place ≢ entry_word vm file → place ≢ entry_word vm file + 1 → slice_index (words_with_entry words vm file slot page) place ≡ slice_index words place
+other_word : (words : List ℕ) (vm file slot page place : ℕ) → place ≢ entry_word_place vm file → place ≢ entry_word_place vm file + 1 → slice_index (words_with_entry words vm file slot page) place ≡ slice_index words place
 other_word words vm file slot page place first second =
-    get_or-set_other (set words (entry_word vm file) (mrif_word (slot_address slot))) (entry_word vm file + 1) place (notice_word page (slot + 1)) 0 second
-    ∙ get_or-set_other words (entry_word vm file) place (mrif_word (slot_address slot)) 0 first
+    get_or-set_other (set words (entry_word_place vm file) (mrif_word (slot_address slot))) (entry_word_place vm file + 1) place (notice_word page (slot + 1)) 0 second
+    ∙ get_or-set_other words (entry_word_place vm file) place (mrif_word (slot_address slot)) 0 first
 
 size_kept : (words : List ℕ) (vm file slot page : ℕ) → length (words_with_entry words vm file slot page) ≡ length words
-size_kept words vm file slot page = length-set (set words (entry_word vm file) (mrif_word (slot_address slot))) (entry_word vm file + 1) (notice_word page (slot + 1)) ∙ length-set words (entry_word vm file) (mrif_word (slot_address slot))
+size_kept words vm file slot page = length-set (set words (entry_word_place vm file) (mrif_word (slot_address slot))) (entry_word_place vm file + 1) (notice_word page (slot + 1)) ∙ length-set words (entry_word_place vm file) (mrif_word (slot_address slot))
 
 -- what they say
-said : (words : List ℕ) (t : TableState) (vm file slot page : ℕ) → t.start ≡ table_place vm → entry_word vm file < 0xbff → length words ≡ 0xc00 → slot < 16 → page < 2 ^ 44
+said : (words : List ℕ) (t : TableState) (vm file slot page : ℕ) → t.start ≡ table_place vm → entry_word_place vm file < 0xbff → length words ≡ 0xc00 → slot < 16 → page < 2 ^ 44
     → written_entry (words_with_entry words vm file slot page) t file ≡ Mrif (slot_address slot) page (slot + 1)
 said words t vm file slot page start low size few there =
-    let first : (t.start + 16 * file) / 8 ≡ entry_word vm file = ap (λ n. (n + 16 * file) / 8) start in
-    let second : (t.start + 16 * file + 8) / 8 ≡ entry_word vm file + 1 = omega (arith, first) in
+    let first : (t.start + 16 * file) / 8 ≡ entry_word_place vm file = ap (λ n. (n + 16 * file) / 8) start in
+    let second : (t.start + 16 * file + 8) / 8 ≡ entry_word_place vm file + 1 = omega (arith, first) in
     let new = words_with_entry words vm file slot page in
     ap (λ n. decoded (slice_index new n) (slice_index new ((t.start + 16 * file + 8) / 8))) first
-    ∙ ap (λ n. decoded (slice_index new (entry_word vm file)) (slice_index new n)) second
-    ∙ ap (λ x. decoded x (slice_index new (entry_word vm file + 1))) (first_word words vm file slot page low size)
+    ∙ ap (λ n. decoded (slice_index new (entry_word_place vm file)) (slice_index new n)) second
+    ∙ ap (λ x. decoded x (slice_index new (entry_word_place vm file + 1))) (first_word words vm file slot page low size)
     ∙ ap (λ x. decoded (mrif_word (slot_address slot)) x) (second_word words vm file slot page low size)
     ∙ mrif_back (slot_address slot) page (slot + 1) (omega arith) (omega arith) there (omega arith)
 
@@ -120,7 +120,7 @@ one_more_made w u vm made page so_far vms few slots is there =
     let count = so_far.count in
     let stands : new < length u.tables = omega arith in
     let room = so_far.room in
-    let low : entry_word new made < 0xbff = omega arith in
+    let low : entry_word_place new made < 0xbff = omega arith in
     let here = table_here u.tables new made words stands in
     let entry : entry_in_force (table_of (fenced_at u.tables new made words) new) made ≡ Mrif (slot_address slot) (notice_page vm) (slot + 1) =
     fenced_here u.tables new made words stands (omega arith) ∙ said u.memory t new made slot page so_far.start low so_far.size slots there ∙ ap (λ p. Mrif (slot_address slot) p (slot + 1)) is in
@@ -137,12 +137,12 @@ one_more_made w u vm made page so_far vms few slots is there =
         | inr ne ↦ fenced_elsewhere u.tables new made words new file (inr ne) ∙ so_far.in_force file ∙ ap (λ b. cond b (Mrif (slot_address (vcpus_in w.vms + file)) (notice_page vm) (vcpus_in w.vms + file + 1)) NotValid) (one_more file made ne)
       ];
       word0 = λ file under. elim (cases_eq file made) [
-        | inl e ↦ ap (λ n. slice_index words (entry_word new n)) e ∙ first_word u.memory new made slot page low so_far.size ∙ ap (λ n. mrif_word (slot_address (vcpus_in w.vms + n))) (sym e)
-        | inr ne ↦ other_word u.memory new made slot page (entry_word new file) (λ e. omega arith) (λ e. omega arith) ∙ so_far.word0 file (omega arith)
+        | inl e ↦ ap (λ n. slice_index words (entry_word_place new n)) e ∙ first_word u.memory new made slot page low so_far.size ∙ ap (λ n. mrif_word (slot_address (vcpus_in w.vms + n))) (sym e)
+        | inr ne ↦ other_word u.memory new made slot page (entry_word_place new file) (λ e. omega arith) (λ e. omega arith) ∙ so_far.word0 file (omega arith)
       ];
       word1 = λ file under. elim (cases_eq file made) [
-        | inl e ↦ ap (λ n. slice_index words (entry_word new n + 1)) e ∙ second_word u.memory new made slot page low so_far.size ∙ ap (λ p. notice_word p (slot + 1)) is ∙ ap (λ n. notice_word (notice_page vm) (vcpus_in w.vms + n + 1)) (sym e)
-        | inr ne ↦ other_word u.memory new made slot page (entry_word new file + 1) (λ e. omega arith) (λ e. omega arith) ∙ so_far.word1 file (omega arith)
+        | inl e ↦ ap (λ n. slice_index words (entry_word_place new n + 1)) e ∙ second_word u.memory new made slot page low so_far.size ∙ ap (λ p. notice_word p (slot + 1)) is ∙ ap (λ n. notice_word (notice_page vm) (vcpus_in w.vms + n + 1)) (sym e)
+        | inr ne ↦ other_word u.memory new made slot page (entry_word_place new file + 1) (λ e. omega arith) (λ e. omega arith) ∙ so_far.word1 file (omega arith)
       ];
       elsewhere = λ place apart. elim apart [
         | inl before ↦ other_word u.memory new made slot page place (λ e. omega arith) (λ e. omega arith) ∙ so_far.elsewhere place (inl before)

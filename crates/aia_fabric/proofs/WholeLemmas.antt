@@ -20,7 +20,7 @@ use Rattle.aia_home.specs.Vms.{vcpus_in, Vcpu, is_vcpu_in, slot_of, notice_hart}
 use Rattle.aia_home.proofs.VmLemmas.{vm_stays, vm_new, vm_past, vcpus_more, slot_taken, numbered}
 use Rattle.aia_fabric.specs.World.{World}
 use Rattle.aia_fabric.specs.Whole.{IsWhole, IsVm}
-use Rattle.aia_fabric.specs.Making.{with_vm, table_place, entry_word}
+use Rattle.aia_fabric.specs.Making.{with_vm, table_place, entry_word_place}
 
 pub width_at : (w : World) (spot : Spot) → IsWhole w → IsThere w.imsic spot → (file_at w.imsic spot).n ≡ w.n
 width_at w spot whole there =
@@ -98,7 +98,7 @@ vm_whole w vm whole few mask numbers vcpus hart = record {
 -- ---- where an entry lies
 
 pub entry_at : (w : World) (vm file : ℕ) → IsWhole w → vm < length w.vms → file < 2 ^ ones 64 (table_of w.tables vm).mask
-    → (file < 16) × (entry_place (table_of w.tables vm) file ≡ table_place vm + 16 * file) × (entry_word vm file * 8 ≡ table_place vm + 16 * file) × (entry_word vm file < 0xbff)
+    → (file < 16) × (entry_place (table_of w.tables vm) file ≡ table_place vm + 16 * file) × (entry_word_place vm file * 8 ≡ table_place vm + 16 * file) × (entry_word_place vm file < 0xbff)
 entry_at w vm file whole there low =
     let is = whole.vms vm there in
     let few = has_entry (table_of w.tables vm).mask file (mask_parts (table_of w.tables vm).mask (rw (is.same_mask) is.mask)).1 low in

@@ -45,8 +45,8 @@ made_entry vm first file =
     else NotValid
 
 -- The word of memory at which the entry of a file of a VM begins.
-abbrev pub entry_word : ℕ → ℕ → ℕ
-entry_word vm file = (table_place vm + 16 * file) / 8
+abbrev pub entry_word_place : ℕ → ℕ → ℕ
+entry_word_place vm file = (table_place vm + 16 * file) / 8
 
 -- The next VM is made: it stands last, its table is the next in memory, each virtual hart's entry
 -- is written and in force; all other words of memory, all other tables and all files stay.
@@ -59,34 +59,34 @@ pub record MakesVm (w u : World) (vm : Vm) : Type 0 where
   pub in_force : (file : ℕ) → entry_in_force (table_of u.tables (length w.tables)) file
       ≡ made_entry vm (vcpus_in w.vms) file
   pub word0 : (file : ℕ) → file < vm.vcpus
-      → slice_index u.memory (entry_word (length w.tables) file)
+      → slice_index u.memory (entry_word_place (length w.tables) file)
       ≡ mrif_word (slot_address (vcpus_in w.vms + file))
   pub word1 : (file : ℕ) → file < vm.vcpus
-      → slice_index u.memory (entry_word (length w.tables) file + 1)
+      → slice_index u.memory (entry_word_place (length w.tables) file + 1)
       ≡ notice_word (notice_page vm) (vcpus_in w.vms + file + 1)
   pub elsewhere : (place : ℕ)
-      → (place < entry_word (length w.tables) 0)
-      ⊎ (entry_word (length w.tables) vm.vcpus ≤ place)
+      → (place < entry_word_place (length w.tables) 0)
+      ⊎ (entry_word_place (length w.tables) vm.vcpus ≤ place)
       → slice_index u.memory place ≡ slice_index w.memory place
   pub rest : u ≡ record w { vms = u.vms; tables = u.tables; memory = u.memory }
 
 -- ---- one entry
 
--- The entry of a file of a VM leads to a slot, with notices to a page of the slot's number counted
--- from 1: both its words are written.
+-- Memory with both words of a file's entry: it leads to the slot, and its notices have the slot's
+-- number, counted from 1, as identity.
 abbrev pub words_with_entry : List ℕ → ℕ → ℕ → ℕ → ℕ → List ℕ
 words_with_entry words vm file slot page =
-    slice_set (slice_set words (entry_word vm file) (mrif_word (slot_address slot)))
-    (entry_word vm file + 1) (notice_word page (slot + 1))
+    slice_set (slice_set words (entry_word_place vm file) (mrif_word (slot_address slot)))
+    (entry_word_place vm file + 1) (notice_word page (slot + 1))
 
--- And it is put in force.
+-- The same, with the entry in force.
 abbrev pub with_entry : World → ℕ → ℕ → ℕ → ℕ → World
 with_entry w vm file slot page = record w {
   memory = words_with_entry w.memory vm file slot page;
   tables = fenced_at w.tables vm file (words_with_entry w.memory vm file slot page);
 }
 
--- A VM stands last, its table with no entry is the next in memory.
+-- A VM stands last, its table, where no entry in force is valid, is the next in memory.
 abbrev pub with_vm : World → Vm → World
 with_vm w vm = record w {
   vms = w.vms ++ vm ∷ [];

@@ -74,7 +74,7 @@ NoticedAt w u spot identity = u ≡ w
 -- What became of a store to a slot says whether its notice is sent.
 abbrev pub NoticedBy : Stored → World → World → Spot → ℕ → Type 0
 NoticedBy Notice w u spot identity = NoticedAt w u spot identity
-NoticedBy stored w u spot identity = u ≡ w
+NoticedBy outcome w u spot identity = u ≡ w
 
 -- The memory-resident interrupt file in a slot has taken a store.
 abbrev pub with_store : World → ℕ → ℕ → ℕ → World

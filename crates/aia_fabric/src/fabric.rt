@@ -204,8 +204,8 @@ impl Fabric {
         self.imsic.file_mut(spot).claim()
     }
 
-    /// Takes a 32-bit store of `value` at `offset` of the page of the file at a place that is
-    /// there. Every other file stays, and all else.
+    /// Takes a 32-bit store of `value` at `offset`, in bytes, of the page of the file at a place
+    /// that is there. Every other file stays, and all else.
     ///
     /// AIA 1.0, IMSIC, "Memory region for an interrupt file".
     pub fn host_store(&mut self, spot: Spot, offset: u32, value: u32)
@@ -217,8 +217,8 @@ impl Fabric {
 
     // ---- notices
 
-    /// Sends the notice of the virtual hart that has number `q` over all VMs: a store of `q + 1` to
-    /// the supervisor file of its VM's notice hart, which is counted.
+    /// Sends the notice of the virtual hart that has number `q`, 0 to 15, over all VMs: a store of
+    /// `q + 1` to the supervisor file of its VM's notice hart, which is counted.
     ///
     /// AIA 1.0, IOMMU Support for MSIs to Virtual Machines, "Memory-resident interrupt files".
     pub fn notice(&mut self, q: u32)
@@ -281,7 +281,7 @@ impl Fabric {
     // ---- what the making of a VM is made of
 
     /// Makes the next VM and its table, with no entry.
-    pub(crate) fn begin(&mut self, vm: Vm)
+    pub(crate) fn add_vm(&mut self, vm: Vm)
         requires few { length self.old.vms < VMS }
         requires mask { IsMask vm.mask }
         requires numbers { vm.vcpus ≤ 2 ^ ones 64 vm.mask }
@@ -294,9 +294,9 @@ impl Fabric {
         self.vms.push(vm);
     }
 
-    /// Leads the entry of a file of a VM to a slot, with notices to a page, of the slot's number
-    /// counted from 1.
-    pub(crate) fn enter(&mut self, vm: u32, file: u32, slot: u32, page: u64)
+    /// Makes the entry of a file of a VM lead to slot `slot`, 0 to 15, and puts it in force; its
+    /// notices go to the page of number `page`, below `2^44`, with the identity `slot + 1`.
+    pub(crate) fn make_entry(&mut self, vm: u32, file: u32, slot: u32, page: u64)
         requires vm { vm < length self.old.vms }
         requires file { file < 2 ^ ones 64 (table_of self.old.tables vm).mask }
         requires slot { slot < VCPUS }

@@ -9,8 +9,8 @@ use crate::{Fabric, map};
 use aia_home::Vm;
 
 impl Fabric {
-    /// Makes the next VM, while fewer than four stand: of `vcpus` virtual harts, as many as its
-    /// mask numbers at most and 16 with those of the VMs that stand, and the mask `mask` of its MSI
+    /// Makes the next VM, while fewer than four stand: of `vcpus` virtual harts, at most 2^k where
+    /// its mask has k ones, and 16 with those of the VMs that stand, and the mask `mask` of its MSI
     /// addresses, over numbers of pages, which has 1 to 4 ones, all below bit 15. The supervisor
     /// file of hart `hart`, one that is there, takes the notices of its virtual harts. The entry of
     /// each virtual hart is written and in force, and leads to its slot of memory.
@@ -27,14 +27,14 @@ impl Fabric {
     {
         let vm = self.vms();
         let first = self.vcpus();
-        let page = map::supervisor_page(hart);
-        self.begin(Vm {
+        let page = map::notice_page(hart);
+        self.add_vm(Vm {
             vcpus,
             mask,
             notice_hart: hart,
         });
         for file in 0..vcpus {
-            self.enter(vm, file, first + file, page);
+            self.make_entry(vm, file, first + file, page);
         }
     }
 }

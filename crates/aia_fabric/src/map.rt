@@ -38,8 +38,8 @@ pub fn table_place(vm: u32) -> usize
     (TABLES - MEMORY) as usize + vm as usize * TABLE as usize
 }
 
-/// Gives the number of the page of a hart's supervisor file.
-pub fn supervisor_page(hart: u32) -> u64
+/// Gives the number of the page of a hart's supervisor file, to which notices go.
+pub fn notice_page(hart: u32) -> u64
     requires { hart < HARTS }
     ensures value { result ≡ supervisor_page hart / PAGE }
     ensures fits { result < 2 ^ 44 }
@@ -47,8 +47,9 @@ pub fn supervisor_page(hart: u32) -> u64
     (SUPERVISOR_FILES + u64::from(hart) * HART_STRIDE) / PAGE
 }
 
-/// Writes the entry at byte `at` of memory, whose two words are there: it leads to a slot, with
-/// notices to a page, of the slot's number counted from 1.
+/// Writes the entry at byte `at` of memory, whose two words are there: it leads to slot `slot`, 0
+/// to 15, and its notices go to the page of number `page`, below `2^44`, with the identity
+/// `slot + 1`.
 pub fn write_entry(ram: &mut Ram, at: usize, slot: u32, page: u64)
     requires word0 { Fits ram.old at }
     requires word1 { at / 8 + 1 < length ram.old }

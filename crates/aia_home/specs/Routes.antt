@@ -24,7 +24,8 @@ peers_reach (Shifting from to at) = if nat_lt at.steps 5 then Some from else Som
 
 -- Whether a store to the slot notices the host of the identities of word w that are enabled, of
 -- files with so many words: those of the parked, in a leave from the step on that puts the word's
--- enables into the slot, and in an arrival until the step that takes them.
+-- enables into the slot, and in an arrival until the step that takes them. Past the last word of a
+-- file it may say anything: no identity there is enabled.
 abbrev pub is_watched : ℕ → Home → ℕ → Bool
 is_watched words Parked w = nat_lt w words
 is_watched words (Resident p) w = false

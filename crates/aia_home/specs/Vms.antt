@@ -3,7 +3,7 @@
 use Rattle.std.specs.Prelude.{ℕ, ◌+◌, Bool, ◌&&◌, nat_eq, nat_lt, List, [], ◌∷◌, take, slice_index_or}
 use Rattle.aia_home.specs.declared.vm.Vm.{Vm}
 
--- No VM stands past the last one; this stands there.
+-- What a list of VMs has past its last one.
 abbrev pub no_vm : Vm
 no_vm = record { vcpus = 0; mask = 0; notice_hart = 0 }
 

@@ -6,9 +6,9 @@ ghost use Rattle.aia_home.specs.Vms.{Vcpu, vcpus_in, is_vcpu_in, slot_of, notice
 pub struct Vm {
     /// How many virtual harts it has, 1 to 8.
     pub vcpus: u32,
-    /// The mask of its MSI addresses, over numbers of pages.
+    /// The mask of its MSI addresses, over numbers of pages: 1 to 4 ones, all below bit 15.
     pub mask: u64,
-    /// The hart whose supervisor file takes the notices of its virtual harts.
+    /// The hart, 0 to 3, whose supervisor file takes the notices of its virtual harts.
     pub notice_hart: u32,
 }
 

@@ -116,7 +116,7 @@ store_changes x y h vm addr value who stands whole there done = record {
   host = done.host;
   slots = slots_done x.world y.world h vm addr value whole stands.greatest stands.vms there done.memory;
   guest_files = done.guest_files;
-  no_file = λ g outside. ap (λ b. cond b (Stores (addr % 0x1000) value) Rests) (not_named h vm addr g there outside);
+  no_vcpu = λ g outside. ap (λ b. cond b (Stores (addr % 0x1000) value) Rests) (not_named h vm addr g there outside);
   no_slot = λ q past few.
       let below = slot_below (vms_of h) (named_by h vm addr) there in
       ap (λ ws. mrif_in ws q) done.memory ∙ other_slot_stays x.world.memory (slot_of (vms_of h) (named_by h vm addr)) q (addr % 0x1000) value (λ e. omega (arith, below, past, e));

@@ -77,7 +77,7 @@ pub record Changes (x y : CoreState) (h : History) (event : Event) : Type 0 wher
   pub host : (f : FileName) → IsThere x.world.imsic (spot_of f) → FileDone x y f (deed_at f h event)
   pub slots : (g : Vcpu) → has_vcpu h g ≡ true → SlotDone (guest_file h g).n (guest_deed g h event) (mrif_in x.world.memory (slot_of (vms_of h) g)) (mrif_in y.world.memory (slot_of (vms_of h) g))
   pub guest_files : (hart file : ℕ) → IsThere x.world.imsic (spots.GuestFile hart file) → file_at y.world.imsic (spots.GuestFile hart file) ≡ file_at x.world.imsic (spots.GuestFile hart file)
-  pub no_file : (g : Vcpu) → has_vcpu h g ≡ false → guest_deed g h event ≡ Rests
+  pub no_vcpu : (g : Vcpu) → has_vcpu h g ≡ false → guest_deed g h event ≡ Rests
   pub no_slot : (q : ℕ) → vcpus_in (vms_of h) ≤ q → q < VCPUS → mrif_in y.world.memory q ≡ mrif_in x.world.memory q
 
 pub host_more : (x y : CoreState) (h : History) (event : Event) (f : FileName) → FileDone x y f (deed_at f h event) → HostStands x h f → HostStands y (event ∷ h) f
@@ -132,9 +132,9 @@ one_more x y h event changes stands =
           subst (λ (vms : List Vm). IsParked y.world vms g (guest_file (event ∷ h) g)) (sym changes.vms) (subst (IsParked y.world (vms_of h) g) (sym (file_by_step (guest_deed g) event h)) more);
       free = λ hart file inside. let before = guest_too x y hart file changes.harts changes.guests inside in
           ap shown (changes.guest_files hart file before) ∙ stands.free hart file before ∙ ap empty_file same_n;
-      no_file = λ g outside.
+      no_vcpu = λ g outside.
           let before : has_vcpu h g ≡ false = ap (λ vms. is_vcpu_in vms g) (sym changes.vms) ∙ outside in
-          file_by_step (guest_deed g) event h ∙ ap (λ deed. file_after (select_by (guest_deed g) h) deed (guest_file h g)) (changes.no_file g before) ∙ stands.no_file g before ∙ ap empty_file same_n;
+          file_by_step (guest_deed g) event h ∙ ap (λ deed. file_after (select_by (guest_deed g) h) deed (guest_file h g)) (changes.no_vcpu g before) ∙ stands.no_vcpu g before ∙ ap empty_file same_n;
       no_entry = λ g inside outside.
           let there : has_vm h g.vm ≡ true = ap (λ (vms : List Vm). nat_lt g.vm (length vms)) (sym changes.vms) ∙ inside in
           let before : has_vcpu h g ≡ false = ap (λ vms. is_vcpu_in vms g) (sym changes.vms) ∙ outside in
@@ -179,7 +179,7 @@ host_alone x y h event hosts rest harts guests files guest_files =
       host = files;
       slots = λ g inside. slot_as_it_was (guest_file h g).n (guest_deed g h event) x.world y.world (slot_of (vms_of h) g) (hosts.guests g) memory;
       guest_files = guest_files;
-      no_file = λ g outside. hosts.guests g;
+      no_vcpu = λ g outside. hosts.guests g;
       no_slot = λ q past few. ap (λ words. mrif_in words q) memory;
     }
 
@@ -298,7 +298,7 @@ begun x harts guests n sources new selects =
       host = λ f inside. record { file = same_file _ _ (new.files.each (spot_of f) inside) ∙ sym (file_step event [] f); select = no_selects x f selects ∙ sym (select_step event [] f) };
       vcpus = λ g inside. absurd (nobody g inside);
       free = λ hart file inside. same_file _ _ (new.files.each (spots.GuestFile hart file) inside);
-      no_file = λ g outside. file_by_step (guest_deed g) event [];
+      no_vcpu = λ g outside. file_by_step (guest_deed g) event [];
       no_entry = λ g inside outside. absurd (none_below_0 g.vm inside);
       no_slot = λ q i past few. rw (new.memory) (no_bit (nat_le i 2047) 0xc00 (pending_place q (i / 64)) (i % 64), no_bit (nat_le i 2047) 0xc00 (enable_place q (i / 64)) (i % 64));
     }

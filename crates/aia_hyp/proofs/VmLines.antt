@@ -111,7 +111,7 @@ new_parked x y h vm c g last low lacks =
     let hart : notice_hart (vms_of h ++ vm ∷ []) g ≡ vm.notice_hart = ap (λ (v : Vm). v.notice_hart) (ap (vm_in (vms_of h ++ vm ∷ [])) last ∙ vm_new (vms_of h) vm) in
     let few : vcpus_in (vms_of h) + g.number < 16 = let most = c.few in omega (arith, most, low) in
     let empty = λ (i : ℕ). c.stands.no_slot (vcpus_in (vms_of h) + g.number) i (omega arith) few in
-    let file = c.stands.no_file g lacks in
+    let file = c.stands.no_vcpu g lacks in
     let table = tables_as_vms x y h vm c in
     record {
       pending = λ i small. rw (slot) (pending_stays x.world y.world vm (vcpus_in (vms_of h) + g.number) i c.makes few ∙ (empty i).0 ∙ sym (ap (λ (f : InterruptFile). f.pending i) file));
@@ -139,7 +139,7 @@ made_stands x y h vm c =
           }) (c.stands.host f before);
       vcpus = λ g inside. subst (IsParked y.world (vms_of h ++ vm ∷ []) g) (sym (file_stays g)) (by_age g (old_or_new (vms_of h) vm g inside) inside);
       free = λ hart file inside. rw (imsic) (c.stands.free hart file (rw (imsic) at inside));
-      no_file = λ g outside. file_stays g ∙ c.stands.no_file g (not_there_before (vms_of h) vm g outside);
+      no_vcpu = λ g outside. file_stays g ∙ c.stands.no_vcpu g (not_there_before (vms_of h) vm g outside);
       no_entry = λ g inside outside. no_entry_past g (ltb-true g.vm _ inside) outside table;
       no_slot = λ q i past few.
           let before : vcpus_in (vms_of h) ≤ q = let more = vcpus_more (vms_of h) vm in omega (arith, past, more) in

@@ -56,8 +56,8 @@ pub record IsParked (w : World) (vms : List Vm) (g : Vcpu) (file : InterruptFile
 
 -- The core is that of the history's machine: it has its numbers, its VMs, and has sent its notices.
 -- Each file of the host that is there stands for the history, and each virtual hart that is there
--- is parked. What nobody has is empty: guest files, the files of virtual harts that aren't there,
--- entries and slots past the last virtual hart's.
+-- is parked. What nobody has is empty: guest files, entries and slots past the last virtual hart's;
+-- and the history asked for nothing at virtual harts that aren't there.
 pub record CoreStands (x : CoreState) (h : History) : Type 0 where
   pub there : has_machine h ≡ true
   pub harts : x.world.imsic.harts ≡ harts_of h
@@ -71,7 +71,7 @@ pub record CoreStands (x : CoreState) (h : History) : Type 0 where
   pub free : (hart file : ℕ) → IsThere x.world.imsic (spots.GuestFile hart file)
       → shown (file_at x.world.imsic (spots.GuestFile hart file))
       ≡ empty_file (greatest_identity_of h)
-  pub no_file : (g : Vcpu) → has_vcpu h g ≡ false
+  pub no_vcpu : (g : Vcpu) → has_vcpu h g ≡ false
       → guest_file h g ≡ empty_file (greatest_identity_of h)
   pub no_entry : (g : Vcpu) → has_vm h g.vm ≡ true → has_vcpu h g ≡ false
       → entry_in_force (table_of x.world.tables g.vm) g.number ≡ NotValid
@@ -124,8 +124,8 @@ core_refusal spot addr =
     if not (nat_eq (addr % 4) 0 && (is_page spot || is_in_memory addr)) then Some refusals.Fault
     else (if guards spot addr then Some Guarded else None)
 
--- What a store of a device of a VM is answered, by where its address goes: in a core that stands for
--- a history each entry in force is valid, but those past the VM's virtual harts.
+-- What a store of a device of a VM is answered, by where its address goes: in a core that stands
+-- for a history each entry in force is valid, but those past the VM's virtual harts.
 abbrev pub route_answer : Route → Answer
 route_answer Other = Refused refusals.Other
 route_answer (Fault entry) = Refused refusals.NotValid

@@ -192,8 +192,8 @@ impl Hyp {
             ≡ spot_at self.now.world.imsic.harts self.now.world.imsic.guests addr) }
         ensures host { IfOk result (λ spot. is_host_spot spot ≡ true) }
         ensures there { IfOk result (IsThere self.now.world.imsic) }
-        ensures refused { result_err result
-            ≡ core_refusal (spot_at self.now.world.imsic.harts self.now.world.imsic.guests addr) addr }
+        ensures refused { result_err result ≡ core_refusal
+            (spot_at self.now.world.imsic.harts self.now.world.imsic.guests addr) addr }
         ensures few { OnOk result (self.now.world.imsic.harts ≤ HARTS) }
     {
         if addr % 4 != 0 {
@@ -223,12 +223,12 @@ impl Hyp {
             .host_store(spot, (msi.address % PAGE) as u32, msi.value);
     }
 
-    /// Makes the next VM, of `vcpus` virtual harts, with `mask` over the numbers of the pages of its
-    /// MSI addresses; its notices go to the supervisor file of a hart. Its virtual harts are parked,
-    /// their interrupts in memory. `Err` is `Range` where the mask has not 1 to 4 ones, all below
-    /// bit 15, where `vcpus` is not from 1 to as many as the mask's ones number, or where the hart
-    /// isn't there; `Full` where 4 VMs stand, `vcpus` is above 8, or all VMs would have more than 16
-    /// virtual harts; nothing is changed then.
+    /// Makes the next VM, of `vcpus` virtual harts, with `mask` over the page numbers of its MSI
+    /// addresses; its notices go to the supervisor file of hart `hart`. Its virtual harts are
+    /// parked, their interrupts in memory. `Err` is `Range` where the mask does not have 1 to 4
+    /// ones, all below bit 15, where `vcpus` is not from 1 to 2^k for a mask of k ones, or where
+    /// the hart isn't there; `Full` where 4 VMs stand, `vcpus` is above 8, or all VMs would have
+    /// more than 16 virtual harts; nothing is changed then.
     ///
     /// AIA 1.0, IOMMU Support for MSIs to Virtual Machines.
     pub fn vm(&mut self, vcpus: u64, mask: u64, hart: u64) -> Result<(), Refusal>
@@ -261,11 +261,11 @@ impl Hyp {
             || u64::from(self.fabric.vcpus()) + vcpus > u64::from(VCPUS)
     }
 
-    /// Takes a 32-bit store of a device of a VM at an address: it asks at the virtual hart that the
-    /// address names, and sends a notice where that one's identity is enabled. `Err` is `Range`
-    /// where the VM doesn't stand, `Fault` where the address is no multiple of 4, `Other` where it
-    /// is no MSI address of the VM, `NotValid` where it names no virtual hart; nothing is changed
-    /// then.
+    /// Takes a 32-bit store of a device of a VM at an address: it asks at the virtual hart that
+    /// the address names, and sends a notice where the identity that it asks for is enabled there.
+    /// `Err` is `Range` where the VM doesn't stand, `Fault` where the address is no multiple of 4,
+    /// `Other` where it is no MSI address of the VM, `NotValid` where it names no virtual hart;
+    /// nothing is changed then.
     ///
     /// AIA 1.0, IOMMU Support for MSIs to Virtual Machines.
     pub fn msi(&mut self, vm: u64, addr: u64, value: u32) -> Result<(), Refusal>
@@ -358,8 +358,8 @@ fn select_place(level: Level, hart: u32) -> usize
     }
 }
 
-/// Reads the topei CSR of a file that is there, and claims the identity on top where the instruction
-/// writes; all else stays.
+/// Reads the topei CSR of a file that is there, and claims the identity on top where the
+/// instruction writes; all else stays.
 #[tactic(auto, using(crate::proofs::EventLemmas::kept_file))]
 fn claim_or_read(fabric: &mut Fabric, spot: Spot, op: Op) -> u64
     requires { IsThere fabric.old.imsic spot }

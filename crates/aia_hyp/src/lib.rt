@@ -1,5 +1,5 @@
-//! The hypervisor's core: the interrupt files of a machine and what the host keeps beside them, and
-//! what each line and each MSI makes of them.
+//! The hypervisor's core: all that stores reach, what the host keeps beside it, and what each line
+//! and each MSI makes of them.
 #![tactic(auto)]
 
 mod hyp;

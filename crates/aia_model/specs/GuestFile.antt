@@ -18,8 +18,7 @@ abbrev pub named_by : History → ℕ → ℕ → Vcpu
 named_by past vm addr = vcpu vm (file_number (mask_of past vm) addr)
 
 -- The deed of an event at a virtual hart's file: a store of a device of its VM reaches it at an
--- address that names it. Vocabulary: it comes to be with the machine, though nothing can reach it
--- before its VM stands.
+-- address that names it. Vocabulary: the file comes to be with the machine.
 abbrev pub guest_deed : Vcpu → History → Event → FileDeed
 guest_deed g past (Accepted (Machine harts guests n sources)) = Makes n
 guest_deed g past (Accepted (lines.Msi vm addr value)) =

@@ -46,8 +46,8 @@ is_machine_size harts guests n sources =
     is_in_range 1 HARTS harts && is_in_range 0 GUEST_FILES guests && is_greatest_identity n
     && is_in_range 1 SOURCES sources
 
--- Whether a VM may have these numbers: its mask may be one, and it has 1 to as many virtual harts
--- as the ones of the mask number.
+-- Whether a VM may have these numbers: its mask may be one, and it has 1 to 2^k virtual harts, k
+-- being how many ones the mask has.
 abbrev pub is_vm_size : ℕ → ℕ → Bool
 is_vm_size vcpus mask = is_mask mask && is_in_range 1 (2 ^ ones 64 mask) vcpus
 

@@ -8,5 +8,5 @@ loop-file-preserved c =
     let w = c.args.self.now in
     let vm : Vm = record { vcpus = c.args.vcpus; mask = c.args.mask; notice_hart = c.args.hart } in
     let number : c.vms-vm.result ≡ length w.tables = omega (arith, c.vms-vm.ensures.whole.tables) in
-    rw (c.enter.ensures, number, c.vcpus-first.ensures.value)
-    (one_more_made w c.loop-file.self vm c.loop-file.file c.supervisor_page-page.result c.loop-file.invariant (omega (arith, number)) (omega arith) (omega arith) c.supervisor_page-page.ensures.value c.supervisor_page-page.ensures.fits)
+    rw (c.make_entry.ensures, number, c.vcpus-first.ensures.value)
+    (one_more_made w c.loop-file.self vm c.loop-file.file c.notice_page-page.result c.loop-file.invariant (omega (arith, number)) (omega arith) (omega arith) c.notice_page-page.ensures.value c.notice_page-page.ensures.fits)

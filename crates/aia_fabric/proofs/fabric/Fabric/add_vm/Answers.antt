@@ -1,6 +1,6 @@
 use Rattle.aia_fabric.specs.World.{World}
 use Rattle.aia_fabric.proofs.WholeLemmas.{vm_whole}
-use Rattle.aia_fabric.proofs.fabric.Fabric.begin.Goals as goal
+use Rattle.aia_fabric.proofs.fabric.Fabric.add_vm.Goals as goal
 
 pub invariant_of-self : goal.invariant_of-self
 invariant_of-self c =
