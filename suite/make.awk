@@ -81,6 +81,16 @@ function add_theorem(    script, clause) {
   rows++
 }
 
+# The rows of a file as a list, laid out as `rt fmt` does: of one row the brackets stand with it.
+function row_list(    list) {
+  if (rows > 1) return "[\n" all_rows "]"
+  list = all_rows
+  gsub(/\n    /, "\n", list)
+  sub(/^    /, "[", list)
+  sub(/,\n$/, "]", list)
+  return list
+}
+
 # The script's file: its lines, below a comment that says what the row shows.
 function write_files(    script, out, i) {
   script = top "/" path ".script"
@@ -160,6 +170,6 @@ END {
   print "use crate::row::Row;" > file
   printf "%s\n", theorems > file
   print "/// All rows of this file, each with its name." > file
-  printf "pub const ROWS: [Row; %d] = [\n%s];\n", rows, all_rows > file
+  printf "pub const ROWS: [Row; %d] = %s;\n", rows, row_list() > file
   close(file)
 }
