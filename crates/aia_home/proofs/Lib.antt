@@ -1,2 +1,4 @@
 pub mod VmLemmas
 pub mod OwnerLemmas
+pub mod AllLemmas
+pub mod PlanLemmas

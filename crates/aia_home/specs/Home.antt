@@ -1,14 +1,17 @@
--- The home of a virtual hart: where its interrupts are kept. Profile.
-use Rattle.std.specs.Prelude.{ℕ}
+-- The home of a virtual hart: where its interrupts are kept, and what a move makes of it. Profile.
+use Rattle.std.specs.Prelude.{ℕ, ◌+◌, ◌*◌, Bool, true, false, ◌&&◌, ◌||◌, nat_eq, if◌then◌else◌}
+use Rattle.aia_home.specs.declared.place.Place.{Place}
 
--- A guest file, by its hart and its number.
-pub record Place : Type 0 where
-  pub hart : ℕ
-  pub file : ℕ
+-- Whether two guest files are the same.
+abbrev pub is_place : Place → Place → Bool
+is_place p q = nat_eq p.hart q.hart && nat_eq p.file q.file
 
 -- How far a move has come: so many of its steps are done.
 pub record Progress : Type 0 where
   pub steps : ℕ
+
+abbrev pub at_first : Progress
+at_first = record { steps = 0 }
 
 -- It is parked, its interrupts in memory; or resident in a guest file; or it is moved, from a guest
 -- file to memory, from memory to a guest file, or from one guest file to another.
@@ -18,3 +21,79 @@ pub data Home : Type 0 where
   Leaving : (from : Place) (at : Progress) → Home
   Arriving : (to : Place) (at : Progress) → Home
   Shifting : (from to : Place) (at : Progress) → Home
+
+-- ---- which it is
+
+abbrev pub is_parked : Home → Bool
+is_parked Parked = true
+is_parked there = false
+
+abbrev pub is_resident : Home → Bool
+is_resident (Resident p) = true
+is_resident there = false
+
+abbrev pub is_moving : Home → Bool
+is_moving (Leaving from at) = true
+is_moving (Arriving to at) = true
+is_moving (Shifting from to at) = true
+is_moving there = false
+
+-- Whether it holds a guest file: a shift holds both of its files until its last step is done.
+abbrev pub holds : Place → Home → Bool
+holds p Parked = false
+holds p (Resident q) = is_place p q
+holds p (Leaving from at) = is_place p from
+holds p (Arriving to at) = is_place p to
+holds p (Shifting from to at) = is_place p from || is_place p to
+
+-- ---- its moves
+
+-- It begins to leave its file, to arrive in a file, to shift to another one.
+abbrev pub leaving : Home → Home
+leaving (Resident p) = Leaving p at_first
+leaving there = there
+
+abbrev pub arriving : Place → Home → Home
+arriving to Parked = Arriving to at_first
+arriving to there = there
+
+abbrev pub shifting : Place → Home → Home
+shifting to (Resident p) = Shifting p to at_first
+shifting to there = there
+
+-- How many steps a move has, of files of so many words.
+abbrev pub leave_steps : ℕ → ℕ
+leave_steps words = 8 + 5 * words
+
+abbrev pub arrive_steps : ℕ → ℕ
+arrive_steps words = 6 + 4 * words
+
+abbrev pub shift_steps : ℕ → ℕ
+shift_steps words = 8 + 4 * words
+
+-- Whether the next step of its move is the last one.
+abbrev pub is_at_last : ℕ → Home → Bool
+is_at_last words (Leaving from at) = nat_eq (at.steps + 1) (leave_steps words)
+is_at_last words (Arriving to at) = nat_eq (at.steps + 1) (arrive_steps words)
+is_at_last words (Shifting from to at) = nat_eq (at.steps + 1) (shift_steps words)
+is_at_last words there = false
+
+-- Its move ends; one more step of it is done.
+abbrev pub ended : Home → Home
+ended (Leaving from at) = Parked
+ended (Arriving to at) = Resident to
+ended (Shifting from to at) = Resident to
+ended there = there
+
+abbrev pub one_further : Progress → Progress
+one_further at = record { steps = at.steps + 1 }
+
+abbrev pub one_more : Home → Home
+one_more (Leaving from at) = Leaving from (one_further at)
+one_more (Arriving to at) = Arriving to (one_further at)
+one_more (Shifting from to at) = Shifting from to (one_further at)
+one_more there = there
+
+-- A step is done.
+abbrev pub stepped : ℕ → Home → Home
+stepped words there = if is_at_last words there then ended there else one_more there

@@ -1,3 +1,5 @@
 pub mod Vms
 pub mod Home
 pub mod Routes
+pub mod Plans
+pub mod BySteps

@@ -1,6 +1,6 @@
 -- VMs, in the order in which they are made, and their virtual harts. Vocabulary, where no chapter
 -- is named.
-use Rattle.std.specs.Prelude.{ℕ, ◌+◌, Bool, ◌&&◌, nat_eq, nat_lt, List, [], ◌∷◌, take, slice_index_or}
+use Rattle.std.specs.Prelude.{ℕ, zero, suc, ◌+◌, Bool, ◌&&◌, nat_eq, nat_lt, List, [], ◌∷◌, ◌++◌, take, slice_index_or}
 use Rattle.aia_home.specs.declared.vm.Vm.{Vm}
 
 -- What a list of VMs has past its last one.
@@ -48,3 +48,19 @@ notice_identity vms g = slot_of vms g + 1
 -- The hart whose supervisor file is told: its VM's notice hart. Profile.
 abbrev pub notice_hart : List Vm → Vcpu → ℕ
 notice_hart vms g = (vm_in vms g.vm).notice_hart
+
+-- ---- all of them
+
+-- So many virtual harts of a VM, from a number on; those of VMs that are numbered from a number
+-- on; those of all VMs.
+abbrev pub vcpus_from : ℕ → ℕ → ℕ → List Vcpu
+vcpus_from vm number zero = []
+vcpus_from vm number (suc count) = vcpu vm number ∷ vcpus_from vm (suc number) count
+
+abbrev pub vcpus_of_vms : ℕ → List Vm → List Vcpu
+vcpus_of_vms number [] = []
+vcpus_of_vms number (vm ∷ vms) =
+    vcpus_from number 0 vm.vcpus ++ vcpus_of_vms (suc number) vms
+
+abbrev pub all_vcpus : List Vm → List Vcpu
+all_vcpus vms = vcpus_of_vms 0 vms

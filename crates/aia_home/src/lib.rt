@@ -2,6 +2,8 @@
 #![tactic(auto)]
 
 pub mod laws;
+mod place;
 mod vm;
 
+pub use place::Place;
 pub use vm::{Vm, notice_hart_of, vcpus_in};

@@ -1,0 +1,177 @@
+-- The plans of moves: which accesses each makes, in order. Profile: all plans.
+use Rattle.std.specs.Prelude.{◌≡◌, ℕ, zero, suc, ◌+◌, ◌*◌, Bool, true, false, nat_lt, List, [], ◌∷◌, ◌++◌, slice_get, Option}
+use Rattle.aia_home.specs.Home.{Home}
+use Rattle.aia_home.specs.Home.Home.{Leaving, Arriving, Shifting}
+
+-- One access of a plan. The old place is the one that the move leaves, the new place the one to
+-- which it leads: a guest file, or the slot of memory.
+pub data Access : Type 0 where
+  -- eidelivery of the old file is taken, so that the file signals no more; it is put in the new one
+  TakeDelivery : Access
+  PutDelivery : Access
+  -- word 1 of the MSI page table's entry is written: where notices go; word 0: the new place
+  WriteNotice : Access
+  WriteEntry : Access
+  -- the entry is put in force
+  Fence : Access
+  -- the G-stage record is written: the new file, or nothing; it is put in force
+  WriteStage : Access
+  FenceStage : Access
+  -- word w of the pending set is taken from the old place, and put in the new one
+  TakePending : (w : ℕ) → Access
+  PutPending : (w : ℕ) → Access
+  -- word w of the enabled set is taken from the old place, and put in the new one
+  TakeEnables : (w : ℕ) → Access
+  PutEnables : (w : ℕ) → Access
+  -- word w of both sets is read in memory
+  Look : (w : ℕ) → Access
+  -- eithreshold of the old file is taken; it is put in the new one
+  TakeThreshold : Access
+  PutThreshold : Access
+  -- the notice is sent, where a look saw an identity both pending and enabled
+  Post : Access
+
+-- The accesses of so many words from one on, each word's in order.
+abbrev pub each_word : (ℕ → List Access) → ℕ → ℕ → List Access
+each_word of_word from zero = []
+each_word of_word from (suc count) = of_word from ++ each_word of_word (suc from) count
+
+-- Both sets, word by word.
+abbrev pub all_words : ℕ → List Access
+all_words words =
+    each_word (λ w. TakePending w ∷ PutPending w ∷ []) 0 words
+    ++ each_word (λ w. TakeEnables w ∷ PutEnables w ∷ []) 0 words
+
+abbrev pub leave_plan : ℕ → List Access
+leave_plan words =
+    (TakeDelivery ∷ WriteNotice ∷ WriteEntry ∷ Fence ∷ WriteStage ∷ FenceStage ∷ [])
+    ++ all_words words ++ each_word (λ w. Look w ∷ []) 0 words ++ TakeThreshold ∷ Post ∷ []
+
+abbrev pub arrive_plan : ℕ → List Access
+arrive_plan words =
+    (WriteEntry ∷ Fence ∷ WriteStage ∷ FenceStage ∷ [])
+    ++ all_words words ++ PutThreshold ∷ PutDelivery ∷ []
+
+abbrev pub shift_plan : ℕ → List Access
+shift_plan words =
+    (TakeDelivery ∷ WriteEntry ∷ Fence ∷ WriteStage ∷ FenceStage ∷ [])
+    ++ all_words words ++ TakeThreshold ∷ PutThreshold ∷ PutDelivery ∷ []
+
+-- The plan of a move, of files of so many words.
+abbrev pub plan_of : ℕ → Home → List Access
+plan_of words (Leaving from at) = leave_plan words
+plan_of words (Arriving to at) = arrive_plan words
+plan_of words (Shifting from to at) = shift_plan words
+plan_of words there = []
+
+-- How many of its steps are done.
+abbrev pub steps_done : Home → ℕ
+steps_done (Leaving from at) = at.steps
+steps_done (Arriving to at) = at.steps
+steps_done (Shifting from to at) = at.steps
+steps_done there = 0
+
+-- The access that its next step makes.
+abbrev pub next_access : ℕ → Home → Option Access
+next_access words there = slice_get (plan_of words there) (steps_done there)
+
+-- ---- the same plans by the number of each step, counted from 0: a law says that they agree
+
+-- Whether a plan has an access.
+abbrev pub is_in_leave : ℕ → Access → Bool
+is_in_leave words (TakePending w) = nat_lt w words
+is_in_leave words (PutPending w) = nat_lt w words
+is_in_leave words (TakeEnables w) = nat_lt w words
+is_in_leave words (PutEnables w) = nat_lt w words
+is_in_leave words (Look w) = nat_lt w words
+is_in_leave words PutThreshold = false
+is_in_leave words PutDelivery = false
+is_in_leave words access = true
+
+abbrev pub is_in_arrive : ℕ → Access → Bool
+is_in_arrive words (TakePending w) = nat_lt w words
+is_in_arrive words (PutPending w) = nat_lt w words
+is_in_arrive words (TakeEnables w) = nat_lt w words
+is_in_arrive words (PutEnables w) = nat_lt w words
+is_in_arrive words (Look w) = false
+is_in_arrive words TakeDelivery = false
+is_in_arrive words WriteNotice = false
+is_in_arrive words TakeThreshold = false
+is_in_arrive words Post = false
+is_in_arrive words access = true
+
+abbrev pub is_in_shift : ℕ → Access → Bool
+is_in_shift words (TakePending w) = nat_lt w words
+is_in_shift words (PutPending w) = nat_lt w words
+is_in_shift words (TakeEnables w) = nat_lt w words
+is_in_shift words (PutEnables w) = nat_lt w words
+is_in_shift words (Look w) = false
+is_in_shift words WriteNotice = false
+is_in_shift words Post = false
+is_in_shift words access = true
+
+-- The step that makes it.
+abbrev pub leave_step : ℕ → Access → ℕ
+leave_step words TakeDelivery = 0
+leave_step words WriteNotice = 1
+leave_step words WriteEntry = 2
+leave_step words Fence = 3
+leave_step words WriteStage = 4
+leave_step words FenceStage = 5
+leave_step words (TakePending w) = 6 + 2 * w
+leave_step words (PutPending w) = 7 + 2 * w
+leave_step words (TakeEnables w) = 6 + 2 * words + 2 * w
+leave_step words (PutEnables w) = 7 + 2 * words + 2 * w
+leave_step words (Look w) = 6 + 4 * words + w
+leave_step words TakeThreshold = 6 + 5 * words
+leave_step words Post = 7 + 5 * words
+leave_step words access = 0
+
+abbrev pub arrive_step : ℕ → Access → ℕ
+arrive_step words WriteEntry = 0
+arrive_step words Fence = 1
+arrive_step words WriteStage = 2
+arrive_step words FenceStage = 3
+arrive_step words (TakePending w) = 4 + 2 * w
+arrive_step words (PutPending w) = 5 + 2 * w
+arrive_step words (TakeEnables w) = 4 + 2 * words + 2 * w
+arrive_step words (PutEnables w) = 5 + 2 * words + 2 * w
+arrive_step words PutThreshold = 4 + 4 * words
+arrive_step words PutDelivery = 5 + 4 * words
+arrive_step words access = 0
+
+abbrev pub shift_step : ℕ → Access → ℕ
+shift_step words TakeDelivery = 0
+shift_step words WriteEntry = 1
+shift_step words Fence = 2
+shift_step words WriteStage = 3
+shift_step words FenceStage = 4
+shift_step words (TakePending w) = 5 + 2 * w
+shift_step words (PutPending w) = 6 + 2 * w
+shift_step words (TakeEnables w) = 5 + 2 * words + 2 * w
+shift_step words (PutEnables w) = 6 + 2 * words + 2 * w
+shift_step words TakeThreshold = 5 + 4 * words
+shift_step words PutThreshold = 6 + 4 * words
+shift_step words PutDelivery = 7 + 4 * words
+shift_step words access = 0
+
+abbrev pub has_access : ℕ → Home → Access → Bool
+has_access words (Leaving from at) access = is_in_leave words access
+has_access words (Arriving to at) access = is_in_arrive words access
+has_access words (Shifting from to at) access = is_in_shift words access
+has_access words there access = false
+
+abbrev pub step_of : ℕ → Home → Access → ℕ
+step_of words (Leaving from at) access = leave_step words access
+step_of words (Arriving to at) access = arrive_step words access
+step_of words (Shifting from to at) access = shift_step words access
+step_of words there access = 0
+
+-- Whether an access of the plan of a move is made already.
+abbrev pub is_made : ℕ → Home → Access → Bool
+is_made words there access = nat_lt (step_of words there access) (steps_done there)
+
+-- An access is the one that the next step of a move makes.
+pub record IsNext (words : ℕ) (there : Home) (access : Access) : Type 0 where
+  pub has : has_access words there access ≡ true
+  pub step : steps_done there ≡ step_of words there access
