@@ -1,0 +1,13 @@
+pub mod SetSteps
+pub mod StayLemmas
+pub mod LookLemmas
+pub mod EntryLemmas
+pub mod StepLemmas
+pub mod LeaveKept
+pub mod ArriveKept
+pub mod ShiftKept
+pub mod AccessKept
+pub mod MoveEnds
+pub mod FileLemmas
+pub mod StoreLemmas
+pub mod WatchLemmas

@@ -1,0 +1,4 @@
+pub mod View
+pub mod Holds
+pub mod Steps
+pub mod Stores

@@ -1,0 +1,111 @@
+-- What one access of a move's plan makes of the places of the virtual hart that is moved, and of
+-- what the move carries. Vocabulary.
+use Rattle.std.specs.Prelude.{◌≡◌, ℕ, ◌/◌, ◌%◌, Bool, not, ◌&&◌, ◌||◌, nat_eq, if◌then◌else◌}
+use Rattle.aia_word.specs.Sets.{has_bit}
+use Rattle.aia_regs.specs.declared.access.Op.TheVariants as ops
+use Rattle.aia_regs.specs.declared.file_registers.FileReg.TheVariants.{Delivery, Threshold}
+use Rattle.aia_file.specs.InterruptFile.{InterruptFile, accessed, empty_file}
+use Rattle.aia_entry.specs.Format.{decoded}
+use Rattle.aia_home.specs.Home.{Home}
+use Rattle.aia_home.specs.Home.Home.{Leaving, Arriving, Shifting}
+use Rattle.aia_home.specs.BySteps.{new_file}
+use Rattle.aia_home.specs.Plans.{Access}
+use Rattle.aia_home.specs.Plans.Access.{TakeDelivery, PutDelivery, WriteNotice, WriteEntry, Fence, WriteStage, FenceStage, TakePending, PutPending, TakeEnables, PutEnables, Look, TakeThreshold, PutThreshold, Post}
+use Rattle.aia_places.specs.View.{View, TwoSets, old_place, new_place, entry_word, second_word}
+use Rattle.aia_places.specs.Holds.{Hand, meets}
+
+-- ---- a place with other sets
+
+abbrev pub with_file_sets : InterruptFile → TwoSets → InterruptFile
+with_file_sets file sets = record file { pending = sets.pending; enabled = sets.enabled }
+
+abbrev pub with_slot_sets : View → TwoSets → View
+with_slot_sets v sets =
+    record v { slot = record { pending = sets.pending; enabled = sets.enabled } }
+
+-- The old place, and the new place, of a move with other sets.
+abbrev pub with_old : Home → View → TwoSets → View
+with_old (Arriving to at) v sets = with_slot_sets v sets
+with_old there v sets = record v { own = with_file_sets v.own sets }
+
+abbrev pub with_new : Home → View → TwoSets → View
+with_new (Leaving from at) v sets = with_slot_sets v sets
+with_new (Arriving to at) v sets = record v { own = with_file_sets v.own sets }
+with_new (Shifting from to at) v sets = record v { next = with_file_sets v.next sets }
+with_new there v sets = v
+
+-- The new file of a move with other numbers.
+abbrev pub with_new_file : Home → View → (InterruptFile → InterruptFile) → View
+with_new_file (Shifting from to at) v after = record v { next = after v.next }
+with_new_file there v after = record v { own = after v.own }
+
+-- ---- the access
+
+-- A set without its word w; one in which the identities that a word shows are joined to its word w;
+-- one whose word w is that word.
+abbrev pub without_word : ℕ → (ℕ → Bool) → ℕ → Bool
+without_word w set i = not (nat_eq (i / 64) w) && set i
+
+abbrev pub joined_by : ℕ → ℕ → (ℕ → Bool) → ℕ → Bool
+joined_by w word set i = if nat_eq (i / 64) w then (set i || has_bit word (i % 64)) else set i
+
+abbrev pub replaced_by : ℕ → ℕ → (ℕ → Bool) → ℕ → Bool
+replaced_by w word set i = if nat_eq (i / 64) w then has_bit word (i % 64) else set i
+
+-- What it makes of the places, of the virtual hart of slot q, whose notices go to a hart. A fence
+-- puts in force what the words say.
+abbrev pub view_after : ℕ → ℕ → Access → Home → View → Hand → View
+view_after q hart TakeDelivery there v hand =
+    record v { own = accessed Delivery (ops.Write 0) v.own }
+view_after q hart PutDelivery there v hand =
+    with_new_file there v (accessed Delivery (ops.Write hand.delivery))
+view_after q hart WriteNotice there v hand = record v { word1 = second_word q hart }
+view_after q hart WriteEntry there v hand = record v { word0 = entry_word q (new_file there) }
+view_after q hart Fence there v hand = record v { in_force = decoded v.word0 v.word1 }
+view_after q hart WriteStage there v hand = record v { stage = new_file there }
+view_after q hart FenceStage there v hand = record v { stage_in_force = v.stage }
+view_after q hart (TakePending w) there v hand = with_old there v
+    (record (old_place v there) { pending = without_word w (old_place v there).pending })
+view_after q hart (PutPending w) there v hand = with_new there v
+    (record (new_place v there) { pending = joined_by w hand.word (new_place v there).pending })
+view_after q hart (TakeEnables w) there v hand = with_old there v
+    (record (old_place v there) { enabled = without_word w (old_place v there).enabled })
+view_after q hart (PutEnables w) there v hand = with_new there v
+    (record (new_place v there) { enabled = replaced_by w hand.word (new_place v there).enabled })
+view_after q hart (Look w) there v hand = v
+view_after q hart TakeThreshold there v hand =
+    record v { own = accessed Threshold (ops.Write 0) v.own }
+view_after q hart PutThreshold there v hand =
+    with_new_file there v (accessed Threshold (ops.Write hand.threshold))
+view_after q hart Post there v hand = v
+
+-- A word shows word w of a set.
+abbrev pub Shows : ℕ → ℕ → (ℕ → Bool) → Type 0
+Shows word w set = (i : ℕ) → i / 64 ≡ w → has_bit word (i % 64) ≡ set i
+
+-- What it makes of what is carried. A look sees words p and e that show word w of the slot's sets.
+abbrev pub CarriedAfter : Access → Home → View → Hand → Hand → Type 0
+CarriedAfter TakeDelivery there v hand now = now ≡ record hand { delivery = v.own.delivery }
+CarriedAfter (TakePending w) there v hand now =
+    Shows now.word w (old_place v there).pending × (now ≡ record hand { word = now.word })
+CarriedAfter (TakeEnables w) there v hand now =
+    Shows now.word w (old_place v there).enabled × (now ≡ record hand { word = now.word })
+CarriedAfter (Look w) there v hand now = (p : ℕ) × (e : ℕ)
+    × Shows p w v.slot.pending × Shows e w v.slot.enabled
+    × (now ≡ record hand { seen = hand.seen || meets p e })
+CarriedAfter TakeThreshold there v hand now = now ≡ record hand { threshold = v.own.threshold }
+CarriedAfter access there v hand now = now ≡ hand
+
+-- A step of the move makes it.
+pub record StepMade (q hart : ℕ) (access : Access) (there : Home) (v : View) (hand : Hand)
+    (u : View) (now : Hand) : Type 0 where
+  pub places : u ≡ view_after q hart access there v hand
+  pub carried : CarriedAfter access there v hand now
+
+-- ---- a move ends, and a store lands
+
+-- The places of a virtual hart whose move has ended: the file that it left is its own no more.
+abbrev pub view_ended : ℕ → Home → View → View
+view_ended n (Leaving from at) v = record v { own = empty_file n }
+view_ended n (Shifting from to at) v = record v { own = v.next; next = empty_file n }
+view_ended n there v = v
