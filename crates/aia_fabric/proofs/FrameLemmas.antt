@@ -13,8 +13,10 @@ use Rattle.aia_entry.specs.declared.entry.Entry.{Entry}
 use Rattle.aia_entry.specs.declared.entry.Entry.TheVariants.{Basic, Mrif, NotValid, Custom, Misconfigured}
 use Rattle.aia_entry.specs.declared.table.Route.{Route}
 use Rattle.aia_entry.specs.declared.table.Route.TheVariants.{Other, Fault, To}
+use Rattle.aia_home.specs.declared.place.Place.{Place}
+use Rattle.aia_home.specs.Vms.{Vcpu, slot_of, notice_identity, notice_hart}
 use Rattle.aia_fabric.specs.World.{World}
-use Rattle.aia_fabric.specs.Stores.{StoresIn, StoresAt, Posts, NoticedAt, NoticedBy, StoresInSlot, ReachesBy, Reaches, with_store, slot_at, page_spot}
+use Rattle.aia_fabric.specs.Stores.{StoresIn, StoresAt, Posts, NoticedAt, NoticedBy, StoresInSlot, ReachesBy, Reaches, Relays, with_store, slot_at, page_spot, named_spot}
 
 -- the world with other files, another memory and another count of notices
 abbrev with_stored : World → List FileState → List ℕ → ℕ → World
@@ -70,3 +72,8 @@ pub reaches_rest : (route : Route) (w u : World) (offset value : ℕ) → Reache
 reaches_rest (To entry) w u offset value s = entry_rest entry w u offset value s
 reaches_rest Other w u offset value s = same w u s
 reaches_rest (Fault entry) w u offset value s = same w u s
+
+pub relays_rest : (named : Option Place) (w u : World) (g : Vcpu) (value : ℕ) → Relays named w u g value
+    → u ≡ record w { imsic = record w.imsic { files = u.imsic.files }; memory = u.memory; notices = u.notices }
+relays_rest (Some p) w u g value s = at_rest w u (named_spot w.imsic p) 0 value s
+relays_rest None w u g value s = slot_rest w u (Some (slot_of w.vms g)) (HostFile (notice_hart w.vms g)) (notice_identity w.vms g) 0 value s

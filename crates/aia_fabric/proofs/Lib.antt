@@ -3,3 +3,5 @@ pub mod WholeLemmas
 pub mod MakingLemmas
 pub mod LawLemmas
 pub mod FrameLemmas
+pub mod ViewLemmas
+pub mod StoreViews

@@ -1,4 +1,5 @@
 pub mod World
 pub mod Stores
 pub mod Making
+pub mod Changes
 pub mod Whole

@@ -2,6 +2,7 @@
 -- memory.
 use Rattle.std.specs.Prelude.{◌≡◌, ℕ, ◌+◌, ◌-◌, ◌*◌, ◌/◌, ◌<◌, ◌⊎◌, ◌≤◌, nat_lt, if◌then◌else◌, List, [], ◌∷◌, ◌++◌, length, replicate, slice_index, slice_set}
 use Rattle.aia_regs.specs.declared.address_map.TheConstants.{MEMORY, MEMORY_END, PAGE}
+use Rattle.aia_regs.specs.declared.limits.TheConstants.{VCPUS}
 use Rattle.aia_regs.specs.AddressMap.{supervisor_page, slot_address, table_address}
 use Rattle.aia_imsic.specs.Imsic.{AreEmpty}
 use Rattle.aia_entry.specs.declared.entry.Entry.{Entry}
@@ -10,12 +11,12 @@ use Rattle.aia_entry.specs.Format.{mrif_word, notice_word}
 use Rattle.aia_entry.specs.Tables.{new_table, table_of, entry_in_force, fenced_at}
 use Rattle.aia_home.specs.declared.vm.Vm.{Vm}
 use Rattle.aia_home.specs.Vms.{vcpus_in}
-use Rattle.aia_fabric.specs.World.{World}
+use Rattle.aia_fabric.specs.World.{World, no_stage}
 
 -- ---- a new machine
 
 -- Of so many harts, guest files a hart and identities: all files are empty, memory is 0, no VM
--- stands and no notice was sent.
+-- stands, no G-stage record names a file, and no notice was sent.
 pub record IsNew (w : World) (harts guests n : ℕ) : Type 0 where
   pub greatest : w.n ≡ n
   pub hart_count : w.imsic.harts ≡ harts
@@ -24,6 +25,7 @@ pub record IsNew (w : World) (harts guests n : ℕ) : Type 0 where
   pub memory : w.memory ≡ replicate ((MEMORY_END - MEMORY) / 8) 0
   pub vms : w.vms ≡ []
   pub tables : w.tables ≡ []
+  pub stages : w.stages ≡ replicate VCPUS no_stage
   pub notices : w.notices ≡ 0
 
 -- ---- a new VM

@@ -1,7 +1,8 @@
--- What stores change: those of devices go where the entry in force leads, notices to a file of the
--- host.
+-- What stores change: those of devices go where the entry in force leads, those of guests where the
+-- G-stage record in force does, notices to a file of the host.
 -- AIA 1.0, IOMMU Support for MSIs to Virtual Machines.
-use Rattle.std.specs.Prelude.{◌≡◌, ℕ, ◌+◌, ◌-◌, ◌*◌, ◌^◌, nat_eq, min, Option, Some, None}
+use Rattle.std.specs.Prelude.{◌≡◌, ℕ, ◌+◌, ◌-◌, ◌*◌, ◌^◌, ◌&&◌, nat_eq, nat_lt, min, if◌then◌else◌, Option, Some, None}
+use Rattle.std.specs.Int.{is_in_range}
 use Rattle.aia_word.specs.Sets.{least_of}
 use Rattle.aia_regs.specs.declared.address_map.TheConstants.{PAGE}
 use Rattle.aia_regs.specs.declared.limits.TheConstants.{IDENTITIES, VCPUS}
@@ -10,7 +11,7 @@ use Rattle.aia_regs.specs.Request.{requested}
 use Rattle.aia_file.specs.FileState.{shown}
 use Rattle.aia_file.specs.InterruptFile.{SameFile, landed}
 use Rattle.aia_imsic.specs.declared.spot.Spot.{Spot}
-use Rattle.aia_imsic.specs.declared.spot.Spot.TheVariants.{MachineFile, HostFile, GuestFile}
+use Rattle.aia_imsic.specs.declared.spot.Spot.TheVariants.{MachineFile, HostFile, GuestFile, Nowhere}
 use Rattle.aia_imsic.specs.Map.{spot_at}
 use Rattle.aia_imsic.specs.Imsic.{ImsicState, file_at, with_file}
 use Rattle.aia_mrif.specs.declared.slot.Stored.{Stored}
@@ -21,6 +22,8 @@ use Rattle.aia_entry.specs.declared.entry.Entry.{Entry}
 use Rattle.aia_entry.specs.declared.entry.Entry.TheVariants.{Basic, Mrif}
 use Rattle.aia_entry.specs.declared.table.Route.{Route}
 use Rattle.aia_entry.specs.declared.table.Route.TheVariants.{To}
+use Rattle.aia_home.specs.declared.place.Place.{Place}
+use Rattle.aia_home.specs.Vms.{Vcpu, slot_of, notice_identity, notice_hart}
 use Rattle.aia_fabric.specs.World.{World}
 
 -- ---- which place a page or an address names
@@ -101,3 +104,22 @@ ReachesBy entry w u offset value = u ≡ w
 abbrev pub Reaches : Route → World → World → ℕ → ℕ → Type 0
 Reaches (To entry) w u offset value = ReachesBy entry w u offset value
 Reaches route w u offset value = u ≡ w
+
+-- ---- where a record leads
+
+-- The guest file that a record names; a record may name one that is not there.
+abbrev pub named_spot : ImsicState → Place → Spot
+named_spot i p =
+    if nat_lt p.hart i.harts && is_in_range 1 i.guests p.file
+    then GuestFile p.hart p.file
+    else Nowhere
+
+-- A store of a virtual hart for the file of virtual hart g goes to the guest file that g's record in
+-- force names, at the register of its page that takes stores; where none is named it goes to g's
+-- slot of memory, with its notice. Profile: where no file is mapped, the hypervisor does the store.
+-- The hypervisor extension 1.0.
+abbrev pub Relays : Option Place → World → World → Vcpu → ℕ → Type 0
+Relays (Some p) w u g value = StoresAt w u (named_spot w.imsic p) 0 value
+Relays None w u g value =
+    StoresInSlot w u (Some (slot_of w.vms g)) (HostFile (notice_hart w.vms g))
+    (notice_identity w.vms g) 0 value

@@ -1,9 +1,11 @@
 -- What is true of the world at all times. Vocabulary.
-use Rattle.std.specs.Prelude.{◌≡◌, ℕ, ◌+◌, ◌*◌, ◌^◌, ◌<◌, ◌≤◌, true, length, All}
+use Rattle.std.specs.Prelude.{◌≡◌, ℕ, ◌+◌, ◌*◌, ◌^◌, ◌<◌, ◌≤◌, true, false, length, slice_index, All}
 use Rattle.aia_word.specs.Packed.{ones}
-use Rattle.aia_regs.specs.declared.limits.TheConstants.{HARTS, GUEST_FILES, VMS, VCPUS}
+use Rattle.aia_word.specs.Sets.{has_bit}
+use Rattle.aia_regs.specs.declared.limits.TheConstants.{HARTS, GUEST_FILES, VMS, VCPUS, ENTRIES}
 use Rattle.aia_file.specs.InterruptFile.{is_greatest_identity}
 use Rattle.aia_file.specs.FileState.{FileState}
+use Rattle.aia_mrif.specs.Mrif.{pending_place, enable_place}
 use Rattle.aia_entry.specs.Tables.{table_of}
 use Rattle.aia_entry.specs.Translation.{IsMask}
 use Rattle.aia_home.specs.Vms.{vm_in, vcpus_in}
@@ -17,8 +19,10 @@ pub record IsVm (w : World) (v : ℕ) : Type 0 where
   pub notice_hart : (vm_in w.vms v).notice_hart < w.imsic.harts
   pub same_mask : (table_of w.tables v).mask ≡ (vm_in w.vms v).mask
   pub start : (table_of w.tables v).start ≡ table_place v
+  pub entries : length (table_of w.tables v).in_force ≡ ENTRIES
 
--- Every file has the world's identities, memory has its slots and tables, and each VM its table.
+-- Every file has the world's identities, memory has its slots, of which none has identity 0, and
+-- its tables, each VM has its table, and each virtual hart its record.
 pub record IsWhole (w : World) : Type 0 where
   pub harts : w.imsic.harts ≤ HARTS
   pub guests : w.imsic.guests ≤ GUEST_FILES
@@ -26,7 +30,12 @@ pub record IsWhole (w : World) : Type 0 where
   pub greatest : is_greatest_identity w.n ≡ true
   pub width : All (λ (f : FileState). f.n ≡ w.n) w.imsic.files
   pub memory : length w.memory ≡ 0xc00
+  pub no_pending_zero : (q : ℕ) → q < VCPUS
+      → has_bit (slice_index w.memory (pending_place q 0)) 0 ≡ false
+  pub no_enabled_zero : (q : ℕ) → q < VCPUS
+      → has_bit (slice_index w.memory (enable_place q 0)) 0 ≡ false
   pub few : length w.vms ≤ VMS
   pub tables : length w.tables ≡ length w.vms
   pub vcpus : vcpus_in w.vms ≤ VCPUS
   pub vms : (v : ℕ) → v < length w.vms → IsVm w v
+  pub stages : length w.stages ≡ VCPUS

@@ -1,15 +1,29 @@
--- All that stores reach: the interrupt files, memory, and the MSI page tables of VMs. Vocabulary.
-use Rattle.std.specs.Prelude.{ℕ, List}
+-- All that stores reach: the interrupt files, memory, the MSI page tables and the G-stage records.
+-- Vocabulary.
+use Rattle.std.specs.Prelude.{ℕ, List, slice_index_or, None}
 use Rattle.aia_imsic.specs.Imsic.{ImsicState}
 use Rattle.aia_entry.specs.Tables.{TableState}
 use Rattle.aia_home.specs.declared.vm.Vm.{Vm}
+use Rattle.aia_home.specs.Vms.{Vcpu, slot_of}
+use Rattle.aia_fabric.specs.declared.stage.Stage.{Stage}
 
 -- The greatest identity of each file, the files, the words of memory, the VMs with their tables,
--- and how many notices were sent.
+-- the G-stage record of each virtual hart, by its number over all VMs, and how many notices were
+-- sent.
 pub record World : Type 0 where
   pub n : ℕ
   pub imsic : ImsicState
   pub memory : List ℕ
   pub vms : List Vm
   pub tables : List TableState
+  pub stages : List Stage
   pub notices : ℕ
+
+-- A record that names nothing.
+abbrev pub no_stage : Stage
+no_stage = record { written = None; in_force = None }
+
+-- The G-stage record of a virtual hart.
+-- The hypervisor extension 1.0.
+abbrev pub stage_of : World → Vcpu → Stage
+stage_of w g = slice_index_or w.stages (slot_of w.vms g) no_stage

@@ -1,4 +1,4 @@
-ghost use Rattle.std.specs.Prelude.{◌≡◌, ◌≢◌, ℕ, ◌+◌, ◌^◌, ◌<◌, ◌≤◌, ◌&&◌, true, length, IsTrue, IfOk};
+ghost use Rattle.std.specs.Prelude.{◌≡◌, ◌≢◌, ℕ, ◌+◌, ◌*◌, ◌/◌, ◌^◌, ◌<◌, ◌≤◌, ◌&&◌, true, length, slice_index_or, IsTrue, IfOk};
 ghost use Rattle.std.specs.Int.{is_in_range};
 ghost use Rattle.aia_word.specs.Packed.{ones};
 ghost use Rattle.aia_word.specs.Sets.{has_bit};
@@ -13,32 +13,36 @@ ghost use Rattle.aia_imsic.specs.Imsic.{IsThere, file_at, with_file};
 ghost use Rattle.aia_mrif.specs.Mrif.{mrif_in, stored};
 ghost use Rattle.aia_entry.specs.Tables.{table_of, route_of};
 ghost use Rattle.aia_entry.specs.Translation.{IsMask};
-ghost use Rattle.aia_home.specs.Vms.{Vcpu, vcpus_in, is_vcpu_in, slot_of, notice_hart};
+ghost use Rattle.aia_home.specs.Vms.{Vcpu, vcpu, vcpus_in, is_vcpu_in, slot_of, notice_hart};
+ghost use Rattle.aia_fabric.specs.World.{no_stage};
 ghost use Rattle.aia_fabric.specs.Making.{IsNew, with_vm, with_entry};
-ghost use Rattle.aia_fabric.specs.Stores.{StoresIn, Posts, counted, page_spot, with_store};
+ghost use Rattle.aia_fabric.specs.Stores.{StoresIn, Posts, counted, page_spot, named_spot, with_store};
 ghost use Rattle.aia_fabric.specs.Whole.{IsWhole};
 
-use crate::map;
 use crate::vms::Vms;
+use crate::{Stage, map};
 use aia_entry::{Iommu, Route};
 use aia_file::File;
-use aia_home::Vm;
+use aia_home::{Place, Vm};
 use aia_imsic::{Imsic, Spot};
 use aia_mrif::{SlotMut, Stored};
 use aia_ram::Ram;
 use aia_regs::address_map::{MEMORY, MEMORY_END, PAGE};
+use aia_regs::limits::VCPUS;
 use aia_regs::{FileReg, Op};
 use std::alloc::{AllocError, Global};
 use std::marker::Model;
 
-/// The interrupt files, memory, the VMs with their MSI page tables, and the count of notices.
+/// The interrupt files, memory, the VMs with their MSI page tables, the G-stage records of virtual
+/// harts, and the count of notices.
 #[derive(Drop)]
 pub struct Fabric {
     n: u32,
-    imsic: Imsic,
-    ram: Ram,
-    vms: Vms,
-    iommu: Iommu,
+    pub(crate) imsic: Imsic,
+    pub(crate) ram: Ram,
+    pub(crate) vms: Vms,
+    pub(crate) iommu: Iommu,
+    pub(crate) stages: [Stage; VCPUS as usize],
     notices: u64,
 }
 
@@ -54,6 +58,7 @@ impl Model for Fabric {
       memory = f.ram;
       vms = f.vms;
       tables = f.iommu;
+      stages = f.stages;
       notices = f.notices;
     } };
 
@@ -63,15 +68,17 @@ impl Model for Fabric {
       memory = f.ram;
       vms = f.vms;
       tables = f.iommu;
+      stages = f.stages;
       notices = f.notices;
     }) };
 }
 
 #[tactic(auto, using(crate::proofs::WholeLemmas::width_at))]
 impl Fabric {
-    /// Makes the machine's empty files, memory of zeros, and the room for all VMs: of `harts`
-    /// harts, 1 to 4, each with `guests` guest files, 0 to 7; every file has the identities 1 to
-    /// `n`, which is 63, 127, 255, 511, 1023 or 2047. `Err`: there is no memory for it.
+    /// Makes the machine's empty files, memory of zeros, the room for all VMs, and an empty G-stage
+    /// record for each of 16 virtual harts: of `harts` harts, 1 to 4, each with `guests` guest
+    /// files, 0 to 7; every file has the identities 1 to `n`, which is 63, 127, 255, 511, 1023 or
+    /// 2047. `Err`: there is no memory for it.
     pub fn new(alloc: Global, harts: u32, guests: u32, n: u32) -> Result<Fabric, AllocError>
         requires some { 1 ≤ harts }
         requires few { harts ≤ HARTS }
@@ -89,11 +96,23 @@ impl Fabric {
             ram,
             vms,
             iommu,
+            stages: [Stage::new(); VCPUS as usize],
             notices: 0,
         })
     }
 
     // ---- what it shows
+
+    /// Tells how many words of 64 identities each set of a file has, 1 to 32.
+    pub fn words(&self) -> u32
+        ensures value { result ≡ (self.now.n + 1) / 64 }
+        ensures all { 64 * result ≡ self.now.n + 1 }
+        ensures some { 1 ≤ result }
+        ensures few { result ≤ 32 }
+        ensures whole { IsWhole self.now }
+    {
+        (self.n + 1) / 64
+    }
 
     /// Tells how many harts there are, 1 to 4.
     pub fn harts(&self) -> u32
@@ -144,7 +163,7 @@ impl Fabric {
         self.imsic.hgeip(hart)
     }
 
-    /// Tells how many VMs stand, 0 to 4.
+    /// Tells how many VMs stand, 0 to 4. Its clause `whole` says what is true at all times.
     pub fn vms(&self) -> u32
         ensures value { result ≡ length self.now.vms }
         ensures few { result ≤ VMS }
@@ -161,11 +180,39 @@ impl Fabric {
         self.vms.vcpus()
     }
 
+    /// Tells whether a virtual hart is there, by its VM and its number there; `whole` as of
+    /// [`Fabric::vms`].
+    pub fn has_vcpu(&self, vm: u64, number: u64) -> bool
+        ensures value { result ≡ is_vcpu_in self.now.vms (vcpu vm number) }
+        ensures whole { IsWhole self.now }
+    {
+        self.vms.has(vm, number)
+    }
+
     /// Tells how many notices were sent; the count stays at `2^64 - 1`.
     pub fn notices(&self) -> u64
         ensures { result ≡ self.now.notices }
     {
         self.notices
+    }
+
+    /// Gives the slot of a virtual hart that is there, 0 to 15.
+    pub fn slot_of(&self, vm: u32, number: u32) -> u32
+        requires { is_vcpu_in self.now.vms (vcpu vm number) ≡ true }
+        ensures value { result ≡ slot_of self.now.vms (vcpu vm number) }
+        ensures below { result < vcpus_in self.now.vms }
+        ensures few { result < VCPUS }
+    {
+        self.vms.slot_of(vm, number)
+    }
+
+    /// Gives the hart whose supervisor file takes the notices of a virtual hart that is there.
+    pub fn notice_hart(&self, vm: u32, number: u32) -> u32
+        requires { is_vcpu_in self.now.vms (vcpu vm number) ≡ true }
+        ensures value { result ≡ notice_hart self.now.vms (vcpu vm number) }
+        ensures there { result < self.now.imsic.harts }
+    {
+        self.vms.notice_hart(self.vms.slot_of(vm, number))
     }
 
     // ---- files
@@ -243,7 +290,7 @@ impl Fabric {
         self.notices = self.notices.saturating_add(1);
     }
 
-    // ---- what stores of devices are made of
+    // ---- what stores of devices and of guests are made of
 
     /// Tells where a store of a device of a VM goes, by the entry in force.
     pub(crate) fn translate(&self, vm: u32, addr: u64) -> Route
@@ -261,6 +308,27 @@ impl Fabric {
         match page.checked_mul(PAGE) {
             Some(addr) => self.imsic.locate(addr),
             None => Spot::Nowhere,
+        }
+    }
+
+    /// Gives the G-stage record of the virtual hart of a slot.
+    pub(crate) fn stage(&self, slot: u32) -> Stage
+        requires { slot < VCPUS }
+        ensures { result ≡ slice_index_or self.now.stages slot no_stage }
+    {
+        self.stages[slot as usize]
+    }
+
+    /// Finds the guest file that a G-stage record names; `Nowhere` exactly where it is not there.
+    pub(crate) fn named_spot(&self, place: Place) -> Spot
+        ensures value { result ≡ named_spot self.now.imsic place }
+        ensures there { result ≢ Spot.Nowhere → IsThere self.now.imsic result }
+    {
+        let guests = self.imsic.guests();
+        if place.hart < self.imsic.harts() && (1..=guests).contains(&place.file) {
+            Spot::GuestFile(place.hart, place.file)
+        } else {
+            Spot::Nowhere
         }
     }
 

@@ -1,13 +1,19 @@
-//! All that stores reach: the interrupt files, memory, and the MSI page tables of VMs.
+//! All that stores reach: the interrupt files, memory, the MSI page tables of VMs, and the G-stage
+//! records of virtual harts.
 //!
-//! AIA 1.0, IOMMU Support for MSIs to Virtual Machines.
+//! AIA 1.0, IOMMU Support for MSIs to Virtual Machines; the hypervisor extension 1.0.
 #![tactic(auto)]
 
+mod accesses;
+mod at;
 mod fabric;
 pub mod laws;
 mod making;
 mod map;
+mod stage;
 mod stores;
 mod vms;
 
+pub use at::At;
 pub use fabric::Fabric;
+pub use stage::Stage;

@@ -1,9 +1,11 @@
-ghost use Rattle.std.specs.Prelude.{◌≡◌, ◌≢◌, ◌%◌, ◌<◌, length, Some};
+ghost use Rattle.std.specs.Prelude.{◌≡◌, ◌≢◌, ◌%◌, ◌<◌, true, length, Some};
 ghost use Rattle.aia_regs.specs.declared.address_map.TheConstants.{PAGE};
 ghost use Rattle.aia_regs.specs.declared.limits.TheConstants.{VCPUS};
 ghost use Rattle.aia_imsic.specs.Imsic.{IsThere};
 ghost use Rattle.aia_entry.specs.Tables.{table_of, route_of};
-ghost use Rattle.aia_fabric.specs.Stores.{Reaches, ReachesBy, StoresAt, StoresInSlot, NoticedAt, page_spot};
+ghost use Rattle.aia_home.specs.Vms.{vcpu, is_vcpu_in};
+ghost use Rattle.aia_fabric.specs.World.{stage_of};
+ghost use Rattle.aia_fabric.specs.Stores.{Relays, Reaches, ReachesBy, StoresAt, StoresInSlot, NoticedAt, page_spot};
 
 use crate::Fabric;
 use crate::map::slot_at;
@@ -37,6 +39,34 @@ impl Fabric {
         route
     }
 
+    /// Takes a 32-bit store of `value` of a guest for virtual hart `to` of VM `vm`, one that is
+    /// there: it goes to the guest file that the G-stage record in force names, and is dropped where
+    /// no such file is there; where none is named it goes to the virtual hart's slot, with a notice
+    /// where one is due. All but files, memory and the count of notices stays.
+    ///
+    /// The hypervisor extension 1.0; profile.
+    #[tactic(auto, using(crate::proofs::FrameLemmas::relays_rest))]
+    pub fn guest_store(&mut self, vm: u32, to: u32, value: u32)
+        requires { is_vcpu_in self.old.vms (vcpu vm to) ≡ true }
+        ensures relays { Relays (stage_of self.old (vcpu vm to)).in_force self.old self.new
+            (vcpu vm to) value }
+        ensures rest { self.new ≡ record self.old {
+          imsic = record self.old.imsic { files = self.new.imsic.files };
+          memory = self.new.memory;
+          notices = self.new.notices;
+        } }
+    {
+        let slot = self.slot_of(vm, to);
+        let hart = self.notice_hart(vm, to);
+        match self.stage(slot).in_force {
+            Some(place) => {
+                let spot = self.named_spot(place);
+                self.store_guest(spot, 0, value);
+            }
+            None => self.store_in(slot, Spot::HostFile(hart), slot + 1, 0, value),
+        }
+    }
+
     /// Takes a store that an entry leads to its place.
     fn store_by(&mut self, entry: Entry, offset: u32, value: u32)
         ensures { ReachesBy entry self.old self.new offset value }
@@ -59,6 +89,14 @@ impl Fabric {
         ensures { StoresAt self.old self.new (page_spot self.old.imsic page) offset value }
     {
         let spot = self.page_spot(page);
+        self.store_guest(spot, offset, value);
+    }
+
+    /// Takes a store to a guest file; at every other file it is dropped.
+    fn store_guest(&mut self, spot: Spot, offset: u32, value: u32)
+        requires { spot ≢ Spot.Nowhere → IsThere self.old.imsic spot }
+        ensures { StoresAt self.old self.new spot offset value }
+    {
         match spot {
             Spot::GuestFile(_, _) => self.host_store(spot, offset, value),
             Spot::MachineFile(_) | Spot::HostFile(_) | Spot::Nowhere => {}

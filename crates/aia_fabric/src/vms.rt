@@ -1,6 +1,6 @@
 ghost use Rattle.std.specs.Prelude.{◌≡◌, ℕ, ◌<◌, ◌≤◌, true, [], ◌∷◌, ◌++◌, length, take, IfOk};
 ghost use Rattle.aia_regs.specs.declared.limits.TheConstants.{VMS, VCPUS};
-ghost use Rattle.aia_home.specs.Vms.{Vcpu, vcpus_in, is_vcpu_in, slot_of, notice_hart};
+ghost use Rattle.aia_home.specs.Vms.{Vcpu, vcpu, vcpus_in, is_vcpu_in, slot_of, notice_hart};
 
 use aia_home::{Vm, notice_hart_of, vcpus_in};
 use aia_regs::limits::VMS;
@@ -14,7 +14,7 @@ pub struct Vms {
 }
 
 impl Model for Vms {
-    ghost use Rattle.std.specs.Prelude.{◌≤◌, List};
+    ghost use Rattle.std.specs.Prelude.{◌≡◌, List};
     ghost use Rattle.std.specs.Vec.{vec_capacity};
     ghost use Rattle.aia_regs.specs.declared.limits.TheConstants.{VMS};
     ghost use Rattle.aia_home.specs.declared.vm.Vm.{Vm};
@@ -23,7 +23,7 @@ impl Model for Vms {
 
     ghost view = { λ v. v.kept.items };
 
-    ghost invariant = { λ v. VMS ≤ vec_capacity v.kept };
+    ghost invariant = { λ v. vec_capacity v.kept ≡ VMS };
 }
 
 impl Vms {
@@ -40,10 +40,7 @@ impl Vms {
         requires { length self.old < VMS }
         ensures { self.new ≡ self.old ++ vm ∷ [] }
     {
-        match self.kept.push(vm) {
-            Ok(()) => {}
-            Err(_) => unreachable!(),
-        }
+        self.kept.push_reserved(vm);
     }
 
     /// Tells how many there are.
@@ -62,6 +59,16 @@ impl Vms {
         vcpus_in(&self.kept)
     }
 
+    /// Tells whether a virtual hart is there, by its VM and its number there.
+    pub fn has(&self, vm: u64, number: u64) -> bool
+        ensures { result ≡ is_vcpu_in self.now (vcpu vm number) }
+    {
+        match self.kept.get(vm as usize) {
+            Some(found) => number < u64::from(found.vcpus),
+            None => false,
+        }
+    }
+
     /// Finds the hart that takes the notices of the virtual hart of slot `q`.
     pub fn notice_hart(&self, q: u32) -> u32
         requires { q < vcpus_in self.now }
@@ -69,5 +76,16 @@ impl Vms {
             → result ≡ notice_hart self.now g }
     {
         notice_hart_of(&self.kept, q)
+    }
+
+    /// Gives the slot of a virtual hart that is there.
+    #[tactic(auto, using(aia_home::proofs::OwnerLemmas::vcpus_first))]
+    pub fn slot_of(&self, vm: u32, number: u32) -> u32
+        requires there { is_vcpu_in self.now (vcpu vm number) ≡ true }
+        requires few { vcpus_in self.now ≤ VCPUS }
+        ensures value { result ≡ slot_of self.now (vcpu vm number) }
+        ensures below { result < vcpus_in self.now }
+    {
+        vcpus_in(&self.kept[..vm as usize]) + number
     }
 }

@@ -1,0 +1,21 @@
+use Rattle.std.proofs.Common.{rules, refl, arith}
+use Rattle.aia_mrif.specs.Mrif.{pending_place, enable_place}
+use Rattle.aia_fabric.proofs.WholeLemmas.{zero_bit}
+use Rattle.aia_fabric.proofs.fabric.Fabric.new.Goals as goal
+
+pub invariant_of-result : goal.invariant_of-result
+invariant_of-result c = record {
+  harts = search rules;
+  guests = search rules;
+  files = search rules;
+  greatest = search rules;
+  width = search rules;
+  memory = search rules;
+  no_pending_zero = λ q low. zero_bit c.in_ok-ram.ram 0xc00 (pending_place q 0) c.in_ok-ram.ensures (omega arith);
+  no_enabled_zero = λ q low. zero_bit c.in_ok-ram.ram 0xc00 (enable_place q 0) c.in_ok-ram.ensures (omega arith);
+  few = search rules;
+  tables = search rules;
+  vcpus = search rules;
+  vms = search rules;
+  stages = refl;
+}

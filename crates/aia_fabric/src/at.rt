@@ -1,0 +1,10 @@
+use aia_imsic::Spot;
+
+/// A place with two sets of identities.
+#[derive(Clone, Copy, Debug, PartialEq, Eq)]
+pub enum At {
+    /// An interrupt file.
+    File(Spot),
+    /// A slot of memory, 0 to 15.
+    Slot(u32),
+}
