@@ -1,0 +1,5 @@
+mod WhoLemmas
+mod StepLemmas
+pub mod MadeView
+pub mod TouchLemmas
+pub mod MoveKept

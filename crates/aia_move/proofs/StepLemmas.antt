@@ -1,0 +1,249 @@
+-- A step of a move: what its access leaves, that the next step can be made, and which access the
+-- phases of all moves make.
+use Rattle.std.proofs.Common.{◌≡◌, ℕ, ◌+◌, ◌-◌, ◌*◌, ◌/◌, ◌%◌, ◌<◌, ◌≤◌, Bool, true, false, inl, inr, refl, sym, ap, ◌∙◌, subst, arith}
+use Rattle.std.proofs.lemmas.Bool.{cases_eq, lt-ltb, eq-eqb, ne_eqb}
+use Rattle.aia_word.specs.Sets.{has_bit}
+use Rattle.aia_regs.specs.declared.file_registers.FileReg.{FileReg}
+use Rattle.aia_imsic.specs.declared.spot.Spot.{Spot}
+use Rattle.aia_imsic.specs.Imsic.{ImsicState, IsThere}
+use Rattle.aia_home.specs.declared.place.Place.{Place}
+use Rattle.aia_home.specs.Home.{Home, Progress, is_moving, is_at_last, one_more, one_further}
+use Rattle.aia_home.specs.Home.Home.{Parked, Resident, Leaving, Arriving, Shifting}
+use Rattle.aia_home.specs.Plans.{Access, steps_done, has_access, IsNext}
+use Rattle.aia_home.specs.Plans.Access.{TakeDelivery, PutDelivery, WriteNotice, WriteEntry, Fence, WriteStage, FenceStage, TakePending, PutPending, TakeEnables, PutEnables, Look, TakeThreshold, PutThreshold, Post}
+use Rattle.aia_home.specs.BySteps.{own_file, next_file, first_take, pending_step, enables_step}
+use Rattle.aia_home.proofs.PlanLemmas.{next_in_plan}
+use Rattle.aia_places.specs.Holds.{Hand}
+use Rattle.aia_fabric.specs.declared.at.At.{At}
+use Rattle.aia_fabric.specs.declared.at.At.TheVariants.{File, Slot}
+use Rattle.aia_fabric.specs.World.{World}
+use Rattle.aia_fabric.specs.Changes.{PutsRegister, spot_of, with_pending, with_enable}
+use Rattle.aia_move.specs.Move.{Moving, width, old_at, new_at, PostsIf, Makes, hand_after, Fits, Ends}
+use Rattle.aia_move.specs.Load.{Load, load_of, moving, one_done, Does, pending_access, enables_access}
+use Rattle.aia_move.specs.Turns.{IsBetween, GoesOn}
+
+-- ---- what an access leaves
+
+-- the VMs, and which files there are
+record Keeps (w u : World) : Type 0 where
+  pub n : u.n ≡ w.n
+  pub vms : u.vms ≡ w.vms
+  pub harts : u.imsic.harts ≡ w.imsic.harts
+  pub guests : u.imsic.guests ≡ w.imsic.guests
+
+by_equation : (w u x : World) → Keeps w x → u ≡ x → Keeps w u
+by_equation w u x kept e = subst (λ y. Keeps w y) (sym e) kept
+
+register_kept : (w u : World) (spot : Spot) (reg : FileReg) (v : ℕ) → PutsRegister w u spot reg v → Keeps w u
+register_kept w u spot reg v puts = by_equation w u _ (record { n = refl; vms = refl; harts = refl; guests = refl }) puts.others
+
+pending_kept : (w : World) (at : At) (k v : ℕ) → Keeps w (with_pending w at k v)
+pending_kept w (File spot) k v = record { n = refl; vms = refl; harts = refl; guests = refl }
+pending_kept w (Slot q) k v = record { n = refl; vms = refl; harts = refl; guests = refl }
+
+enable_kept : (w : World) (at : At) (k v : ℕ) → Keeps w (with_enable w at k v)
+enable_kept w (File spot) k v = record { n = refl; vms = refl; harts = refl; guests = refl }
+enable_kept w (Slot q) k v = record { n = refl; vms = refl; harts = refl; guests = refl }
+
+post_kept : (w u : World) (seen : Bool) (hart identity : ℕ) → PostsIf seen w u hart identity → Keeps w u
+post_kept w u true hart identity p = record {
+  n = ap (λ (x : World). x.n) p.rest;
+  vms = ap (λ (x : World). x.vms) p.rest;
+  harts = ap (λ (i : ImsicState). i.harts) p.lands.others;
+  guests = ap (λ (i : ImsicState). i.guests) p.lands.others;
+}
+post_kept w u false hart identity e = by_equation w u w (record { n = refl; vms = refl; harts = refl; guests = refl }) e
+
+access_keeps : (access : Access) (m : Moving) (w u : World) → Makes access m w u → Keeps w u
+access_keeps TakeDelivery m w u made = register_kept w u _ _ _ made
+access_keeps PutDelivery m w u made = register_kept w u _ _ _ made
+access_keeps WriteNotice m w u made = by_equation w u _ (record { n = refl; vms = refl; harts = refl; guests = refl }) made
+access_keeps WriteEntry m w u made = by_equation w u _ (record { n = refl; vms = refl; harts = refl; guests = refl }) made
+access_keeps Fence m w u made = by_equation w u _ (record { n = refl; vms = refl; harts = refl; guests = refl }) made
+access_keeps WriteStage m w u made = by_equation w u _ (record { n = refl; vms = refl; harts = refl; guests = refl }) made
+access_keeps FenceStage m w u made = by_equation w u _ (record { n = refl; vms = refl; harts = refl; guests = refl }) made
+access_keeps (TakePending k) m w u made = by_equation w u _ (pending_kept w (old_at m) k _) made
+access_keeps (PutPending k) m w u made = by_equation w u _ (pending_kept w (new_at m) k _) made.1
+access_keeps (TakeEnables k) m w u made = by_equation w u _ (enable_kept w (old_at m) k _) made
+access_keeps (PutEnables k) m w u made = by_equation w u _ (enable_kept w (new_at m) k _) made.1
+access_keeps (Look k) m w u made = by_equation w u w (record { n = refl; vms = refl; harts = refl; guests = refl }) made
+access_keeps TakeThreshold m w u made = register_kept w u _ _ _ made
+access_keeps PutThreshold m w u made = register_kept w u _ _ _ made
+access_keeps Post m w u made = post_kept w u m.hand.seen m.who.notice (m.who.slot + 1) made
+
+-- ---- one step more
+
+-- it is the same move
+record IsSame (there : Home) : Type 0 where
+  pub steps : steps_done (one_more there) ≡ steps_done there + 1
+  pub own : own_file (one_more there) ≡ own_file there
+  pub next : next_file (one_more there) ≡ next_file there
+  pub first : first_take (one_more there) ≡ first_take there
+
+same_move : (words : ℕ) (there : Home) (access : Access) → has_access words there access ≡ true → IsSame there
+same_move words Parked access has = absurd (cc)
+same_move words (Resident p) access has = absurd (cc)
+same_move words (Leaving from at) access has = record { steps = refl; own = refl; next = refl; first = refl }
+same_move words (Arriving to at) access has = record { steps = refl; own = refl; next = refl; first = refl }
+same_move words (Shifting from to at) access has = record { steps = refl; own = refl; next = refl; first = refl }
+
+-- a word 0 that the next access takes has no identity 0
+record TakesNoZero (w : World) (m t : Moving) : Type 0 where
+  pub pending : steps_done m.home ≡ pending_step m.home 0 → has_bit t.hand.word 0 ≡ false
+  pub enabled : steps_done m.home ≡ enables_step (width w) m.home 0 → has_bit t.hand.word 0 ≡ false
+
+file_stays : (w u : World) (p : Place) → Keeps w u → IsThere w.imsic (spot_of p) → IsThere u.imsic (spot_of p)
+file_stays w u p kept is = (omega (arith, is.0, kept.harts), is.1, omega (arith, is.2, kept.guests))
+
+one_step : (w u : World) (m t : Moving) (access : Access) → Fits w m → IsNext (width w) m.home access → Makes access m w u
+    → t ≡ record m { home = one_more m.home; hand = hand_after access m w } → is_at_last (width w) m.home ≡ false → TakesNoZero w m t → GoesOn w m u t
+one_step w u m t access fits next made is more zero = record {
+  goes = record {
+    step = record { access = access; is_next = next; in_table = next_in_plan (width w) m.home access next; makes = made; carries = ap (λ (x : Moving). x.hand) is };
+    more = more;
+    home = home;
+    same_who = who;
+  };
+  fits = record {
+    there = rw (who, kept.vms) fits.there;
+    slot = rw (who, kept.vms) fits.slot;
+    notice = rw (who, kept.vms) fits.notice;
+    own = λ p e. file_stays w u p kept (fits.own p (sym (ap own_file home ∙ same.own) ∙ e));
+    next = λ p e. file_stays w u p kept (fits.next p (sym (ap next_file home ∙ same.next) ∙ e));
+    no_pending_zero = λ e. zero.pending (omega (arith, steps, first, e));
+    no_enabled_zero = λ e. zero.enabled (omega (arith, steps, first, e, wide));
+  };
+  width = wide;
+  steps = steps;
+}
+  where
+    kept : Keeps w u
+    kept = access_keeps access m w u made
+
+    same : IsSame m.home
+    same = same_move (width w) m.home access next.has
+
+    home : t.home ≡ one_more m.home
+    home = ap (λ (x : Moving). x.home) is
+
+    who : t.who ≡ m.who
+    who = ap (λ (x : Moving). x.who) is
+
+    wide : width u ≡ width w
+    wide = ap (λ n. (n + 1) / 64) kept.n
+
+    steps : steps_done t.home ≡ steps_done m.home + 1
+    steps = ap steps_done home ∙ same.steps
+
+    first : first_take t.home ≡ first_take m.home
+    first = ap first_take home ∙ same.first
+
+-- ---- a step of a state m, which is seen as s
+
+seen_so : (w u : World) (m s t : Moving) (access : Access) → m ≡ s → Fits w s → IsNext (width w) m.home access → Makes access m w u
+    → t ≡ record m { home = one_more m.home; hand = hand_after access m w } → is_at_last (width w) m.home ≡ false → TakesNoZero w m t → GoesOn w s u t
+seen_so w u m s t access seen fits next made is more zero =
+    subst (λ x. GoesOn w x u t) seen (one_step w u m t access (subst (λ x. Fits w x) (sym seen) fits) next made is more zero)
+
+-- not the last one
+not_last : (words : ℕ) (there : Home) → steps_done there < first_take there + 4 * words → is_at_last words there ≡ false
+not_last words Parked low = refl
+not_last words (Resident p) low = refl
+not_last words (Leaving from at) low = ne_eqb _ _ (λ e. omega (arith, e, low))
+not_last words (Arriving to at) low = ne_eqb _ _ (λ e. omega (arith, e, low))
+not_last words (Shifting from to at) low = ne_eqb _ _ (λ e. omega (arith, e, low))
+
+-- the state with a load
+loaded : (m : Moving) (there : Progress → Home) (now : Load) (hand : Hand) → there (one_further (record { steps = steps_done m.home })) ≡ one_more m.home → now ≡ one_done (load_of m) hand
+    → moving there now ≡ record m { home = one_more m.home; hand = hand }
+loaded m there now hand next is = ap (λ (l : Load). moving there l) is ∙ ap (λ (h : Home). record m { home = h; hand = hand }) next
+
+-- before any word is carried, and after all are
+pub step_before : (w u : World) (m s : Moving) (there : Progress → Home) (now : Load) (access : Access) → m ≡ s → Fits w s → there (one_further (record { steps = steps_done m.home })) ≡ one_more m.home
+    → IsNext (width w) m.home access → Does access m w u now → steps_done m.home < first_take m.home → GoesOn w s u (moving there now)
+step_before w u m s there now access seen fits more next does low =
+    seen_so w u m s (moving there now) access seen fits next does.makes (loaded m there now _ more does.load) (not_last (width w) m.home (omega (arith, low))) (record { pending = λ e. absurd (omega (arith, e, low)); enabled = λ e. absurd (omega (arith, e, low)) })
+
+pub step_after : (w u : World) (m s : Moving) (there : Progress → Home) (now : Load) (access : Access) → m ≡ s → Fits w s → there (one_further (record { steps = steps_done m.home })) ≡ one_more m.home
+    → IsNext (width w) m.home access → Does access m w u now → is_at_last (width w) m.home ≡ false → 1 ≤ width w → first_take m.home + 4 * width w ≤ steps_done m.home → GoesOn w s u (moving there now)
+step_after w u m s there now access seen fits more next does unfinished some past =
+    seen_so w u m s (moving there now) access seen fits next does.makes (loaded m there now _ more does.load) unfinished (record { pending = λ e. absurd (omega (arith, e, past, some)); enabled = λ e. absurd (omega (arith, e, past, some)) })
+
+-- the last step
+pub step_last : (w u : World) (m s : Moving) (access : Access) → m ≡ s → IsNext (width w) m.home access → Makes access m w u → hand_after access m w ≡ m.hand → is_at_last (width w) m.home ≡ true
+    → Ends w s u s.hand
+step_last w u m s access seen next made same last =
+    subst (λ (x : Moving). Ends w x u x.hand) seen (record {
+      step = record { access = access; is_next = next; in_table = next_in_plan (width w) m.home access next; makes = made; carries = sym same };
+      last = last;
+    })
+
+-- ---- the phases of all moves
+
+-- the accesses that carry the sets, by their steps
+record CarriesSets (words : ℕ) (there : Home) : Type 0 where
+  pub take_pending : (w : ℕ) → w < words → steps_done there ≡ first_take there + 2 * w → IsNext words there (TakePending w)
+  pub put_pending : (w : ℕ) → w < words → steps_done there ≡ first_take there + 2 * w + 1 → IsNext words there (PutPending w)
+  pub take_enables : (w : ℕ) → w < words → steps_done there ≡ first_take there + 2 * words + 2 * w → IsNext words there (TakeEnables w)
+  pub put_enables : (w : ℕ) → w < words → steps_done there ≡ first_take there + 2 * words + 2 * w + 1 → IsNext words there (PutEnables w)
+
+carries_sets : (words : ℕ) (there : Home) → is_moving there ≡ true → CarriesSets words there
+carries_sets words Parked moves = absurd (cc)
+carries_sets words (Resident p) moves = absurd (cc)
+carries_sets words (Leaving from at) moves = record {
+  take_pending = λ w low e. record { has = lt-ltb w words low; step = e };
+  put_pending = λ w low e. record { has = lt-ltb w words low; step = omega (arith, e) };
+  take_enables = λ w low e. record { has = lt-ltb w words low; step = e };
+  put_enables = λ w low e. record { has = lt-ltb w words low; step = omega (arith, e) };
+}
+carries_sets words (Arriving to at) moves = record {
+  take_pending = λ w low e. record { has = lt-ltb w words low; step = e };
+  put_pending = λ w low e. record { has = lt-ltb w words low; step = omega (arith, e) };
+  take_enables = λ w low e. record { has = lt-ltb w words low; step = e };
+  put_enables = λ w low e. record { has = lt-ltb w words low; step = omega (arith, e) };
+}
+carries_sets words (Shifting from to at) moves = record {
+  take_pending = λ w low e. record { has = lt-ltb w words low; step = e };
+  put_pending = λ w low e. record { has = lt-ltb w words low; step = omega (arith, e) };
+  take_enables = λ w low e. record { has = lt-ltb w words low; step = e };
+  put_enables = λ w low e. record { has = lt-ltb w words low; step = omega (arith, e) };
+}
+
+pending_next : (words first : ℕ) (there : Home) → is_moving there ≡ true → first ≡ first_take there → first ≤ steps_done there → steps_done there < first + 2 * words
+    → IsNext words there (pending_access first (steps_done there))
+pending_next words first there moves is from below =
+    let all = carries_sets words there moves in
+    let w = (steps_done there - first) / 2 in
+    let low : w < words = omega arith in
+    elim (cases_eq ((steps_done there - first) % 2) 0) [
+      | inl even ↦ rw (eq-eqb ((steps_done there - first) % 2) 0 even) (all.take_pending w low (omega arith))
+      | inr odd ↦ rw (ne_eqb ((steps_done there - first) % 2) 0 odd) (all.put_pending w low (omega (arith, odd)))
+    ]
+
+enables_next : (words first : ℕ) (there : Home) → is_moving there ≡ true → first ≡ first_take there + 2 * words → first ≤ steps_done there → steps_done there < first + 2 * words
+    → IsNext words there (enables_access first (steps_done there))
+enables_next words first there moves is from below =
+    let all = carries_sets words there moves in
+    let w = (steps_done there - first) / 2 in
+    let low : w < words = omega arith in
+    elim (cases_eq ((steps_done there - first) % 2) 0) [
+      | inl even ↦ rw (eq-eqb ((steps_done there - first) % 2) 0 even) (all.take_enables w low (omega arith))
+      | inr odd ↦ rw (ne_eqb ((steps_done there - first) % 2) 0 odd) (all.put_enables w low (omega (arith, odd)))
+    ]
+
+-- a step of these phases, of a load
+pub carries_pending : (w u : World) (m s : Moving) (there : Progress → Home) (first : ℕ) (now : Load) → m ≡ s → Fits w s → is_moving m.home ≡ true → there (one_further (record { steps = steps_done m.home })) ≡ one_more m.home
+    → first ≡ first_take m.home → IsBetween first (first + 2 * width w) s → Does (pending_access first (steps_done m.home)) m w u now → (steps_done m.home ≡ first → has_bit now.hand.word 0 ≡ false) → GoesOn w s u (moving there now)
+carries_pending w u m s there first now seen fits moves next is between does zero =
+    let same : steps_done m.home ≡ steps_done s.home = ap (λ (x : Moving). steps_done x.home) seen in
+    seen_so w u m s (moving there now) (pending_access first (steps_done m.home)) seen fits
+    (pending_next (width w) first m.home moves is (omega (arith, same, between)) (omega (arith, same, between))) does.makes (loaded m there now _ next does.load)
+    (not_last (width w) m.home (omega (arith, same, between, is))) (record { pending = λ e. zero (omega (arith, e, is)); enabled = λ e. absurd (omega (arith, e, same, between, is)) })
+
+pub carries_enables : (w u : World) (m s : Moving) (there : Progress → Home) (first : ℕ) (now : Load) → m ≡ s → Fits w s → is_moving m.home ≡ true → there (one_further (record { steps = steps_done m.home })) ≡ one_more m.home
+    → first ≡ first_take m.home + 2 * width w → 1 ≤ width w → IsBetween first (first + 2 * width w) s → Does (enables_access first (steps_done m.home)) m w u now → (steps_done m.home ≡ first → has_bit now.hand.word 0 ≡ false) → GoesOn w s u (moving there now)
+carries_enables w u m s there first now seen fits moves next is some between does zero =
+    let same : steps_done m.home ≡ steps_done s.home = ap (λ (x : Moving). steps_done x.home) seen in
+    seen_so w u m s (moving there now) (enables_access first (steps_done m.home)) seen fits
+    (enables_next (width w) first m.home moves is (omega (arith, same, between)) (omega (arith, same, between))) does.makes (loaded m there now _ next does.load)
+    (not_last (width w) m.home (omega (arith, same, between, is))) (record { pending = λ e. absurd (omega (arith, e, same, between, is, some)); enabled = λ e. zero (omega (arith, e, is)) })

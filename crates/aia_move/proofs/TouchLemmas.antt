@@ -1,0 +1,327 @@
+-- A step of a move touches only its own.
+use Rattle.std.proofs.Common.{◌≡◌, ◌≢◌, ℕ, ◌+◌, ◌*◌, ◌<◌, ◌≤◌, Bool, true, false, nat_lt, length, get_or, Option, Some, None, inl, inr, ◌⊎◌, refl, sym, ap, ◌∙◌, subst, arith}
+use Rattle.std.proofs.Math.ListN.{set}
+use Rattle.std.proofs.lemmas.Bool.{cases_eq, cases_lt, ltb-true, or_left, or_right}
+use Rattle.std.proofs.lemmas.List.{get_or-set_other}
+use Rattle.std.specs.Prelude.{bit_or}
+use Rattle.aia_file.specs.InterruptFile.{empty_file}
+use Rattle.aia_file.specs.FileState.{FileState, shown}
+use Rattle.aia_imsic.specs.declared.spot.Spot.TheVariants.{MachineFile, HostFile}
+use Rattle.aia_imsic.specs.Imsic.{ImsicState, IsThere, file_at}
+use Rattle.aia_imsic.proofs.PlaceLemmas.{kept_elsewhere}
+use Rattle.aia_mrif.specs.Mrif.{mrif_in, pending_place, enable_place}
+use Rattle.aia_mrif.proofs.SlotLemmas.{other_words}
+use Rattle.aia_entry.specs.Tables.{table_of, entry_in_force}
+use Rattle.aia_entry.proofs.TableLemmas.{fenced_elsewhere, fenced_mask, fenced_start, fenced_count}
+use Rattle.aia_home.specs.declared.place.Place.{Place}
+use Rattle.aia_home.specs.Vms.{Vcpu, vcpu, is_vcpu_in, slot_of}
+use Rattle.aia_home.specs.Home.{Home, Progress, is_place, holds}
+use Rattle.aia_home.specs.Home.Home.{Parked, Resident, Leaving, Arriving, Shifting}
+use Rattle.aia_home.specs.BySteps.{own_file, next_file, new_file}
+use Rattle.aia_home.specs.Plans.{Access, IsNext}
+use Rattle.aia_home.specs.Plans.Access.{TakeDelivery, PutDelivery, WriteNotice, WriteEntry, Fence, WriteStage, FenceStage, TakePending, PutPending, TakeEnables, PutEnables, Look, TakeThreshold, PutThreshold, Post}
+use Rattle.aia_home.proofs.VmLemmas.{same_slot}
+use Rattle.aia_places.specs.View.{entry_word, second_word}
+use Rattle.aia_places.specs.Holds.{Hand}
+use Rattle.aia_fabric.specs.declared.stage.Stage.{Stage}
+use Rattle.aia_fabric.specs.World.{World, stage_of, no_stage}
+use Rattle.aia_fabric.specs.Whole.{IsWhole}
+use Rattle.aia_fabric.specs.Making.{entry_word_place}
+use Rattle.aia_fabric.specs.Stores.{Posts}
+use Rattle.aia_fabric.specs.Changes.{spot_of, file_in, view, with_word, with_state, with_entry_word, with_fence, with_stage}
+use Rattle.aia_fabric.proofs.WholeLemmas.{vcpu_entry, notice_hart_there}
+use Rattle.aia_move.specs.declared.who.Who.{Who}
+use Rattle.aia_move.specs.Move.{Moving, mover, width, PostsIf, Makes, Fits, MakesNext}
+use Rattle.aia_move.specs.Touches.{Touches, sends}
+use Rattle.aia_fabric.proofs.ViewLemmas.{same_place, is_place-refl, slot_low}
+use Rattle.aia_move.proofs.MadeView.{few_words}
+
+-- ---- what the changes leave
+
+module _ (w u : World) (m : Moving) where
+  abbrev TouchesOwn : World → Type 0
+  TouchesOwn x = Touches false w x m
+
+  pub touches_nothing : u ≡ w → Touches false w u m
+  touches_nothing e = subst TouchesOwn (sym e) (record {
+    identities = refl;
+    vms = refl;
+    harts = refl;
+    guests = refl;
+    tables = refl;
+    masks = λ v. refl;
+    starts = λ v. refl;
+    guest_files = λ p there none. refl;
+    machine_files = λ hart low. refl;
+    host_files = λ hart low other. refl;
+    noticed = λ no. absurd (cc);
+    count = λ no. refl;
+    slots = λ r low other. refl;
+    entry_words = λ g there other. (refl, refl);
+    in_force = λ g other. refl;
+    stages = λ g there other. refl;
+  })
+
+  held_apart : (there : Home) (r p : Place) → holds r there ≡ false → holds p there ≡ true → spot_of r ≢ spot_of p
+  held_apart there r p none some e = let no : false ≡ true = sym none ∙ ap (λ (x : Place). holds x there) (same_place r p e) ∙ some in absurd (cc)
+
+  pub touches_file : (p : Place) (f : FileState) → IsThere w.imsic (spot_of p) → holds p m.home ≡ true → u ≡ with_state w (spot_of p) f → Touches false w u m
+  touches_file p f stands held e = subst TouchesOwn (sym e) (record {
+    identities = refl;
+    vms = refl;
+    harts = refl;
+    guests = refl;
+    tables = refl;
+    masks = λ v. refl;
+    starts = λ v. refl;
+    guest_files = λ r there none. kept_elsewhere w.imsic (spot_of p) (spot_of r) f stands there (held_apart m.home r p none held);
+    machine_files = λ hart low. kept_elsewhere w.imsic (spot_of p) (MachineFile hart) f stands low (λ e. absurd (cc));
+    host_files = λ hart low other. kept_elsewhere w.imsic (spot_of p) (HostFile hart) f stands low (λ e. absurd (cc));
+    noticed = λ no. absurd (cc);
+    count = λ no. refl;
+    slots = λ r low other. refl;
+    entry_words = λ g there other. (refl, refl);
+    in_force = λ g other. refl;
+    stages = λ g there other. refl;
+  })
+
+  -- a word of memory: one of the slot, or one of the entry
+  touches_word : (place v : ℕ) → ((r : ℕ) → r < 16 → r ≢ m.who.slot → (place < 64 * r) ⊎ (64 * (r + 1) ≤ place))
+      → ((g : Vcpu) → is_vcpu_in w.vms g ≡ true → g ≢ mover m → (entry_word_place g.vm g.number ≢ place) × (entry_word_place g.vm g.number + 1 ≢ place))
+      → u ≡ with_word w place v → Touches false w u m
+  touches_word place v apart past e = subst TouchesOwn (sym e) (record {
+    identities = refl;
+    vms = refl;
+    harts = refl;
+    guests = refl;
+    tables = refl;
+    masks = λ x. refl;
+    starts = λ x. refl;
+    guest_files = λ r there none. refl;
+    machine_files = λ hart low. refl;
+    host_files = λ hart low other. refl;
+    noticed = λ no. absurd (cc);
+    count = λ no. refl;
+    slots = λ r low other. other_words w.memory r place v (apart r low other);
+    entry_words = λ g there other. (get_or-set_other w.memory place (entry_word_place g.vm g.number) v 0 (past g there other).0, get_or-set_other w.memory place (entry_word_place g.vm g.number + 1) v 0 (past g there other).1);
+    in_force = λ g other. refl;
+    stages = λ g there other. refl;
+  })
+
+  module _ (whole : IsWhole w) (stands : is_vcpu_in w.vms (mover m) ≡ true) where
+    pub touches_slot : (place j v : ℕ) → place ≡ 64 * m.who.slot + j → m.who.slot < 16 → j < 64 → u ≡ with_word w place v → Touches false w u m
+    touches_slot place j v at low few e = touches_word place v
+        (λ r small other. elim (cases_lt r m.who.slot) [
+          | inl less ↦ inr (omega arith)
+          | inr more ↦ inl (omega (arith, other))
+        ])
+        (λ g there other. (λ same. omega arith, λ same. omega arith)) e
+
+    one_entry : (a b c d x y : ℕ) → b < 16 → d < 16 → x ≤ 1 → y ≤ 1 → entry_word_place a b + x ≡ entry_word_place c d + y → (a ≡ c) × (b ≡ d)
+    one_entry a b c d x y low small one two e = (omega arith, omega arith)
+
+    pub touches_entry : (which v : ℕ) → which ≤ 1 → u ≡ with_entry_word w m.who.vm m.who.vcpu which v → Touches false w u m
+    touches_entry which v one e = touches_word (entry_word_place m.who.vm m.who.vcpu + which) v (λ r small other. inr (omega arith)) apart e
+      where
+        apart : (g : Vcpu) → is_vcpu_in w.vms g ≡ true → g ≢ mover m → (entry_word_place g.vm g.number ≢ entry_word_place m.who.vm m.who.vcpu + which) × (entry_word_place g.vm g.number + 1 ≢ entry_word_place m.who.vm m.who.vcpu + which)
+        apart g there other =
+            let mine = vcpu_entry w m.who.vm m.who.vcpu whole stands in
+            let its = vcpu_entry w g.vm g.number whole there in (
+              λ same. let zero : entry_word_place g.vm g.number + 0 ≡ entry_word_place m.who.vm m.who.vcpu + which = omega (arith, same) in
+                  let both = one_entry g.vm g.number m.who.vm m.who.vcpu 0 which its.2 mine.2 (omega arith) one zero in other (λ k. vcpu (both.0 k) (both.1 k)),
+              λ same. let both = one_entry g.vm g.number m.who.vm m.who.vcpu 1 which its.2 mine.2 (omega arith) one same in other (λ k. vcpu (both.0 k) (both.1 k)),
+            )
+
+    pub touches_fence : u ≡ with_fence w m.who.vm m.who.vcpu → Touches false w u m
+    touches_fence e = subst TouchesOwn (sym e) (record {
+      identities = refl;
+      vms = refl;
+      harts = refl;
+      guests = refl;
+      tables = fenced_count w.tables m.who.vm m.who.vcpu w.memory;
+      masks = λ v. fenced_mask w.tables m.who.vm m.who.vcpu w.memory v;
+      starts = λ v. fenced_start w.tables m.who.vm m.who.vcpu w.memory v;
+      guest_files = λ r there none. refl;
+      machine_files = λ hart low. refl;
+      host_files = λ hart low other. refl;
+      noticed = λ no. absurd (cc);
+      count = λ no. refl;
+      slots = λ r low other. refl;
+      entry_words = λ g there other. (refl, refl);
+      in_force = λ g other. fenced_elsewhere w.tables m.who.vm m.who.vcpu w.memory g.vm g.number (elsewhere g other);
+      stages = λ g there other. refl;
+    })
+      where
+        elsewhere : (g : Vcpu) → g ≢ mover m → (g.vm ≢ m.who.vm) ⊎ (g.number ≢ m.who.vcpu)
+        elsewhere g other = elim (cases_eq g.vm m.who.vm) [
+          | inl same ↦ inr (λ too. other (λ k. vcpu (same k) (too k)))
+          | inr ne ↦ inl ne
+        ]
+
+    pub touches_stage : (s : Stage) → u ≡ with_stage w (mover m) s → Touches false w u m
+    touches_stage s e = subst TouchesOwn (sym e) (record {
+      identities = refl;
+      vms = refl;
+      harts = refl;
+      guests = refl;
+      tables = refl;
+      masks = λ v. refl;
+      starts = λ v. refl;
+      guest_files = λ r there none. refl;
+      machine_files = λ hart low. refl;
+      host_files = λ hart low other. refl;
+      noticed = λ no. absurd (cc);
+      count = λ no. refl;
+      slots = λ r low other. refl;
+      entry_words = λ g there other. (refl, refl);
+      in_force = λ g other. refl;
+      stages = λ g there other. get_or-set_other w.stages (slot_of w.vms (mover m)) (slot_of w.vms g) s no_stage (λ same. other (same_slot w.vms g (mover m) there stands same));
+    })
+
+  pub touches_notice : m.who.notice < w.imsic.harts → Posts w u (HostFile m.who.notice) (m.who.slot + 1) → Touches true w u m
+  touches_notice low p = record {
+    identities = ap (λ (x : World). x.n) p.rest;
+    vms = ap (λ (x : World). x.vms) p.rest;
+    harts = ap (λ (j : ImsicState). j.harts) p.lands.others;
+    guests = ap (λ (j : ImsicState). j.guests) p.lands.others;
+    tables = ap (λ (x : World). length x.tables) p.rest;
+    masks = λ v. ap (λ (x : World). (table_of x.tables v).mask) p.rest;
+    starts = λ v. ap (λ (x : World). (table_of x.tables v).start) p.rest;
+    guest_files = λ r there none. ap (λ (j : ImsicState). file_at j (spot_of r)) p.lands.others ∙ kept_elsewhere w.imsic (HostFile m.who.notice) (spot_of r) (file_at u.imsic (HostFile m.who.notice)) low there (λ e. absurd (cc));
+    machine_files = λ hart small. ap (λ (j : ImsicState). file_at j (MachineFile hart)) p.lands.others ∙ kept_elsewhere w.imsic (HostFile m.who.notice) (MachineFile hart) (file_at u.imsic (HostFile m.who.notice)) low small (λ e. absurd (cc));
+    host_files = λ hart small which. elim which [
+      | inl never ↦ absurd (cc)
+      | inr other ↦ ap (λ (j : ImsicState). file_at j (HostFile hart)) p.lands.others ∙ kept_elsewhere w.imsic (HostFile m.who.notice) (HostFile hart) (file_at u.imsic (HostFile m.who.notice)) low small (λ e. let same : hart ≡ m.who.notice = cc in other same)
+    ];
+    noticed = λ yes. p;
+    count = λ no. absurd (cc);
+    slots = λ r small other. ap (λ (x : World). mrif_in x.memory r) p.rest;
+    entry_words = λ g there other. (ap (λ (x : World). get_or x.memory (entry_word_place g.vm g.number) 0) p.rest, ap (λ (x : World). get_or x.memory (entry_word_place g.vm g.number + 1) 0) p.rest);
+    in_force = λ g other. ap (λ (x : World). entry_in_force (table_of x.tables g.vm) g.number) p.rest;
+    stages = λ g there other. ap (λ (x : World). stage_of x g) p.rest;
+  }
+
+  pub touches_notice_if : (seen : Bool) → m.who.notice < w.imsic.harts → PostsIf seen w u m.who.notice (m.who.slot + 1) → Touches seen w u m
+  touches_notice_if true low p = touches_notice low p
+  touches_notice_if false low e = touches_nothing e
+
+-- ---- each move
+
+of_width : (w : World) (k : ℕ) → IsWhole w → nat_lt k (width w) ≡ true → k < 32
+of_width w k whole e = let low : k < width w = ltb-true _ _ e in let few = few_words w.n whole.greatest in omega (arith, low, few)
+
+leave_touches : (access : Access) (w u : World) (who : Who) (from : Place) (at : Progress) (hand : Hand) → IsWhole w → Fits w (record { who = who; home = (Leaving from at); hand = hand }) → IsNext (width w) (Leaving from at) access
+    → Makes access (record { who = who; home = (Leaving from at); hand = hand }) w u → Touches (sends access hand) w u (record { who = who; home = (Leaving from at); hand = hand })
+leave_touches WriteNotice w u who from at hand whole fits next makes = touches_entry w u (record { who = who; home = (Leaving from at); hand = hand }) whole fits.there 1 (second_word who.slot who.notice) (omega arith) makes
+leave_touches WriteEntry w u who from at hand whole fits next makes = touches_entry w u (record { who = who; home = (Leaving from at); hand = hand }) whole fits.there 0 (entry_word who.slot (new_file (Leaving from at))) (omega arith) makes
+leave_touches Fence w u who from at hand whole fits next makes = touches_fence w u (record { who = who; home = (Leaving from at); hand = hand }) whole fits.there makes
+leave_touches WriteStage w u who from at hand whole fits next makes = touches_stage w u (record { who = who; home = (Leaving from at); hand = hand }) whole fits.there (record (stage_of w (vcpu who.vm who.vcpu)) { written = new_file (Leaving from at) }) makes
+leave_touches FenceStage w u who from at hand whole fits next makes = touches_stage w u (record { who = who; home = (Leaving from at); hand = hand }) whole fits.there (record (stage_of w (vcpu who.vm who.vcpu)) { in_force = (stage_of w (vcpu who.vm who.vcpu)).written }) makes
+leave_touches TakeDelivery w u who from at hand whole fits next makes = touches_file w u (record { who = who; home = (Leaving from at); hand = hand }) from (file_at u.imsic (spot_of from)) (fits.own from refl) (is_place-refl from) makes.others
+leave_touches TakeThreshold w u who from at hand whole fits next makes = touches_file w u (record { who = who; home = (Leaving from at); hand = hand }) from (file_at u.imsic (spot_of from)) (fits.own from refl) (is_place-refl from) makes.others
+leave_touches (TakePending k) w u who from at hand whole fits next makes = touches_file w u (record { who = who; home = (Leaving from at); hand = hand }) from (record (file_at w.imsic (spot_of from)) { pending = set (file_at w.imsic (spot_of from)).pending k 0 }) (fits.own from refl) (is_place-refl from) makes
+leave_touches (TakeEnables k) w u who from at hand whole fits next makes = touches_file w u (record { who = who; home = (Leaving from at); hand = hand }) from (record (file_at w.imsic (spot_of from)) { enabled = set (file_at w.imsic (spot_of from)).enabled k 0 }) (fits.own from refl) (is_place-refl from) makes
+leave_touches (PutPending k) w u who from at hand whole fits next makes =
+    let few : k < 32 = of_width w k whole next.has in
+    let low : who.slot < 16 = let small = slot_low w (vcpu who.vm who.vcpu) whole fits.there in omega (arith, small, fits.slot) in
+    touches_slot w u (record { who = who; home = (Leaving from at); hand = hand }) whole fits.there (pending_place who.slot k) (2 * k) (bit_or (get_or w.memory (pending_place who.slot k) 0) hand.word) (omega arith) low (omega arith) makes.1
+leave_touches (PutEnables k) w u who from at hand whole fits next makes =
+    let few : k < 32 = of_width w k whole next.has in
+    let low : who.slot < 16 = let small = slot_low w (vcpu who.vm who.vcpu) whole fits.there in omega (arith, small, fits.slot) in
+    touches_slot w u (record { who = who; home = (Leaving from at); hand = hand }) whole fits.there (enable_place who.slot k) (2 * k + 1) hand.word (omega arith) low (omega arith) makes.1
+leave_touches (Look k) w u who from at hand whole fits next makes = touches_nothing w u (record { who = who; home = (Leaving from at); hand = hand }) makes
+leave_touches Post w u who from at hand whole fits next makes =
+    let low : who.notice < w.imsic.harts = let small = notice_hart_there w (vcpu who.vm who.vcpu) whole fits.there in omega (arith, small, fits.notice) in
+    touches_notice_if w u (record { who = who; home = (Leaving from at); hand = hand }) hand.seen low makes
+leave_touches PutDelivery w u who from at hand whole fits next makes = let no : false ≡ true = next.has in absurd (cc)
+leave_touches PutThreshold w u who from at hand whole fits next makes = let no : false ≡ true = next.has in absurd (cc)
+
+arrive_touches : (access : Access) (w u : World) (who : Who) (to : Place) (at : Progress) (hand : Hand) → IsWhole w → Fits w (record { who = who; home = (Arriving to at); hand = hand }) → IsNext (width w) (Arriving to at) access
+    → Makes access (record { who = who; home = (Arriving to at); hand = hand }) w u → Touches (sends access hand) w u (record { who = who; home = (Arriving to at); hand = hand })
+arrive_touches WriteEntry w u who to at hand whole fits next makes = touches_entry w u (record { who = who; home = (Arriving to at); hand = hand }) whole fits.there 0 (entry_word who.slot (new_file (Arriving to at))) (omega arith) makes
+arrive_touches Fence w u who to at hand whole fits next makes = touches_fence w u (record { who = who; home = (Arriving to at); hand = hand }) whole fits.there makes
+arrive_touches WriteStage w u who to at hand whole fits next makes = touches_stage w u (record { who = who; home = (Arriving to at); hand = hand }) whole fits.there (record (stage_of w (vcpu who.vm who.vcpu)) { written = new_file (Arriving to at) }) makes
+arrive_touches FenceStage w u who to at hand whole fits next makes = touches_stage w u (record { who = who; home = (Arriving to at); hand = hand }) whole fits.there (record (stage_of w (vcpu who.vm who.vcpu)) { in_force = (stage_of w (vcpu who.vm who.vcpu)).written }) makes
+arrive_touches PutDelivery w u who to at hand whole fits next makes = touches_file w u (record { who = who; home = (Arriving to at); hand = hand }) to (file_at u.imsic (spot_of to)) (fits.own to refl) (is_place-refl to) makes.others
+arrive_touches PutThreshold w u who to at hand whole fits next makes = touches_file w u (record { who = who; home = (Arriving to at); hand = hand }) to (file_at u.imsic (spot_of to)) (fits.own to refl) (is_place-refl to) makes.others
+arrive_touches (TakePending k) w u who to at hand whole fits next makes =
+    let few : k < 32 = of_width w k whole next.has in
+    let low : who.slot < 16 = let small = slot_low w (vcpu who.vm who.vcpu) whole fits.there in omega (arith, small, fits.slot) in
+    touches_slot w u (record { who = who; home = (Arriving to at); hand = hand }) whole fits.there (pending_place who.slot k) (2 * k) 0 (omega arith) low (omega arith) makes
+arrive_touches (TakeEnables k) w u who to at hand whole fits next makes =
+    let few : k < 32 = of_width w k whole next.has in
+    let low : who.slot < 16 = let small = slot_low w (vcpu who.vm who.vcpu) whole fits.there in omega (arith, small, fits.slot) in
+    touches_slot w u (record { who = who; home = (Arriving to at); hand = hand }) whole fits.there (enable_place who.slot k) (2 * k + 1) 0 (omega arith) low (omega arith) makes
+arrive_touches (PutPending k) w u who to at hand whole fits next makes = touches_file w u (record { who = who; home = (Arriving to at); hand = hand }) to (record (file_at w.imsic (spot_of to)) { pending = set (file_at w.imsic (spot_of to)).pending k (bit_or (get_or (file_at w.imsic (spot_of to)).pending k 0) hand.word) }) (fits.own to refl) (is_place-refl to) makes.1
+arrive_touches (PutEnables k) w u who to at hand whole fits next makes = touches_file w u (record { who = who; home = (Arriving to at); hand = hand }) to (record (file_at w.imsic (spot_of to)) { enabled = set (file_at w.imsic (spot_of to)).enabled k hand.word }) (fits.own to refl) (is_place-refl to) makes.1
+arrive_touches TakeDelivery w u who to at hand whole fits next makes = let no : false ≡ true = next.has in absurd (cc)
+arrive_touches TakeThreshold w u who to at hand whole fits next makes = let no : false ≡ true = next.has in absurd (cc)
+arrive_touches WriteNotice w u who to at hand whole fits next makes = let no : false ≡ true = next.has in absurd (cc)
+arrive_touches (Look k) w u who to at hand whole fits next makes = let no : false ≡ true = next.has in absurd (cc)
+arrive_touches Post w u who to at hand whole fits next makes = let no : false ≡ true = next.has in absurd (cc)
+
+shift_touches : (access : Access) (w u : World) (who : Who) (from to : Place) (at : Progress) (hand : Hand) → IsWhole w → Fits w (record { who = who; home = (Shifting from to at); hand = hand }) → IsNext (width w) (Shifting from to at) access
+    → Makes access (record { who = who; home = (Shifting from to at); hand = hand }) w u → Touches (sends access hand) w u (record { who = who; home = (Shifting from to at); hand = hand })
+shift_touches WriteEntry w u who from to at hand whole fits next makes = touches_entry w u (record { who = who; home = (Shifting from to at); hand = hand }) whole fits.there 0 (entry_word who.slot (new_file (Shifting from to at))) (omega arith) makes
+shift_touches Fence w u who from to at hand whole fits next makes = touches_fence w u (record { who = who; home = (Shifting from to at); hand = hand }) whole fits.there makes
+shift_touches WriteStage w u who from to at hand whole fits next makes = touches_stage w u (record { who = who; home = (Shifting from to at); hand = hand }) whole fits.there (record (stage_of w (vcpu who.vm who.vcpu)) { written = new_file (Shifting from to at) }) makes
+shift_touches FenceStage w u who from to at hand whole fits next makes = touches_stage w u (record { who = who; home = (Shifting from to at); hand = hand }) whole fits.there (record (stage_of w (vcpu who.vm who.vcpu)) { in_force = (stage_of w (vcpu who.vm who.vcpu)).written }) makes
+shift_touches TakeDelivery w u who from to at hand whole fits next makes = touches_file w u (record { who = who; home = (Shifting from to at); hand = hand }) from (file_at u.imsic (spot_of from)) (fits.own from refl) (or_left (is_place from from) (is_place from to) (is_place-refl from)) makes.others
+shift_touches TakeThreshold w u who from to at hand whole fits next makes = touches_file w u (record { who = who; home = (Shifting from to at); hand = hand }) from (file_at u.imsic (spot_of from)) (fits.own from refl) (or_left (is_place from from) (is_place from to) (is_place-refl from)) makes.others
+shift_touches PutDelivery w u who from to at hand whole fits next makes = touches_file w u (record { who = who; home = (Shifting from to at); hand = hand }) to (file_at u.imsic (spot_of to)) (fits.next to refl) (or_right (is_place to from) (is_place to to) (is_place-refl to)) makes.others
+shift_touches PutThreshold w u who from to at hand whole fits next makes = touches_file w u (record { who = who; home = (Shifting from to at); hand = hand }) to (file_at u.imsic (spot_of to)) (fits.next to refl) (or_right (is_place to from) (is_place to to) (is_place-refl to)) makes.others
+shift_touches (TakePending k) w u who from to at hand whole fits next makes = touches_file w u (record { who = who; home = (Shifting from to at); hand = hand }) from (record (file_at w.imsic (spot_of from)) { pending = set (file_at w.imsic (spot_of from)).pending k 0 }) (fits.own from refl) (or_left (is_place from from) (is_place from to) (is_place-refl from)) makes
+shift_touches (TakeEnables k) w u who from to at hand whole fits next makes = touches_file w u (record { who = who; home = (Shifting from to at); hand = hand }) from (record (file_at w.imsic (spot_of from)) { enabled = set (file_at w.imsic (spot_of from)).enabled k 0 }) (fits.own from refl) (or_left (is_place from from) (is_place from to) (is_place-refl from)) makes
+shift_touches (PutPending k) w u who from to at hand whole fits next makes = touches_file w u (record { who = who; home = (Shifting from to at); hand = hand }) to (record (file_at w.imsic (spot_of to)) { pending = set (file_at w.imsic (spot_of to)).pending k (bit_or (get_or (file_at w.imsic (spot_of to)).pending k 0) hand.word) }) (fits.next to refl) (or_right (is_place to from) (is_place to to) (is_place-refl to)) makes.1
+shift_touches (PutEnables k) w u who from to at hand whole fits next makes = touches_file w u (record { who = who; home = (Shifting from to at); hand = hand }) to (record (file_at w.imsic (spot_of to)) { enabled = set (file_at w.imsic (spot_of to)).enabled k hand.word }) (fits.next to refl) (or_right (is_place to from) (is_place to to) (is_place-refl to)) makes.1
+shift_touches WriteNotice w u who from to at hand whole fits next makes = let no : false ≡ true = next.has in absurd (cc)
+shift_touches (Look k) w u who from to at hand whole fits next makes = let no : false ≡ true = next.has in absurd (cc)
+shift_touches Post w u who from to at hand whole fits next makes = let no : false ≡ true = next.has in absurd (cc)
+
+touches_by : (access : Access) (w u : World) (who : Who) (there : Home) (hand : Hand) → IsWhole w → Fits w (record { who = who; home = there; hand = hand }) → IsNext (width w) there access
+    → Makes access (record { who = who; home = there; hand = hand }) w u → Touches (sends access hand) w u (record { who = who; home = there; hand = hand })
+touches_by access w u who Parked hand whole fits next makes = let no : false ≡ true = next.has in absurd (cc)
+touches_by access w u who (Resident p) hand whole fits next makes = let no : false ≡ true = next.has in absurd (cc)
+touches_by access w u who (Leaving from at) hand whole fits next makes = leave_touches access w u who from at hand whole fits next makes
+touches_by access w u who (Arriving to at) hand whole fits next makes = arrive_touches access w u who to at hand whole fits next makes
+touches_by access w u who (Shifting from to at) hand whole fits next makes = shift_touches access w u who from to at hand whole fits next makes
+
+-- a step touches only its own
+pub step_touches : (w u : World) (m : Moving) (hand : Hand) → IsWhole w → Fits w m → (step : MakesNext w m u hand) → Touches (sends step.access m.hand) w u m
+step_touches w u m hand whole fits step = touches_by step.access w u m.who m.home m.hand whole fits step.is_next step.makes
+
+-- ---- so the places of others stay
+
+own_is_held : (there : Home) (p : Place) → own_file there ≡ Some p → holds p there ≡ true
+own_is_held Parked p e = absurd (cc)
+own_is_held (Resident q) p e = let same : q ≡ p = cc in ap (λ (x : Place). is_place p x) same ∙ is_place-refl p
+own_is_held (Leaving from at) p e = let same : from ≡ p = cc in ap (λ (x : Place). is_place p x) same ∙ is_place-refl p
+own_is_held (Arriving to at) p e = let same : to ≡ p = cc in ap (λ (x : Place). is_place p x) same ∙ is_place-refl p
+own_is_held (Shifting from to at) p e = let same : from ≡ p = cc in or_left (is_place p from) (is_place p to) (ap (λ (x : Place). is_place p x) same ∙ is_place-refl p)
+
+next_is_held : (there : Home) (p : Place) → next_file there ≡ Some p → holds p there ≡ true
+next_is_held Parked p e = absurd (cc)
+next_is_held (Resident q) p e = absurd (cc)
+next_is_held (Leaving from at) p e = absurd (cc)
+next_is_held (Arriving to at) p e = absurd (cc)
+next_is_held (Shifting from to at) p e = let same : to ≡ p = cc in or_right (is_place p from) (is_place p to) (ap (λ (x : Place). is_place p x) same ∙ is_place-refl p)
+
+file_stays : (sent : Bool) (w u : World) (m : Moving) (o : Option Place) → Touches sent w u m → ((p : Place) → o ≡ Some p → IsThere w.imsic (spot_of p) × (holds p m.home ≡ false)) → file_in u o ≡ file_in w o
+file_stays sent w u m None t others = ap (λ n. empty_file n) t.identities
+file_stays sent w u m (Some p) t others = let other = others p refl in ap shown (t.guest_files p other.0 other.1)
+
+pub view_stays : (sent : Bool) (w u : World) (m : Moving) (g : Vcpu) (there : Home) → IsWhole w → Fits w m → Touches sent w u m → is_vcpu_in w.vms g ≡ true → g ≢ mover m
+    → ((p : Place) → holds p there ≡ true → IsThere w.imsic (spot_of p) × (holds p m.home ≡ false)) → view u g there ≡ view w g there
+view_stays sent w u m g there whole fits t stands other apart =
+    let own = file_stays sent w u m (own_file there) t (λ p e. apart p (own_is_held there p e)) in
+    let next = file_stays sent w u m (next_file there) t (λ p e. apart p (next_is_held there p e)) in
+    let slot = ap (λ vms. mrif_in u.memory (slot_of vms g)) t.vms
+    ∙ t.slots (slot_of w.vms g) (slot_low w g whole stands) (λ e. other (same_slot w.vms g (mover m) stands fits.there (e ∙ fits.slot))) in
+    let words = t.entry_words g stands other in
+    let entry = t.in_force g other in
+    let stage = t.stages g stands other in
+    λ k. record { own = own k; next = next k; slot = slot k; word0 = words.0 k; word1 = words.1 k; in_force = entry k; stage = (stage k).written; stage_in_force = (stage k).in_force }
+
+-- the virtual hart that is moved has its slot and notice hart still, and its files are there
+pub there_still : (sent : Bool) (w u : World) (m : Moving) (p : Place) → Touches sent w u m → IsThere w.imsic (spot_of p) → IsThere u.imsic (spot_of p)
+there_still sent w u m p t stands = (omega (arith, stands.0, t.harts), stands.1, omega (arith, stands.2, t.guests))

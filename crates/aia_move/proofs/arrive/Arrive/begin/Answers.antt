@@ -1,0 +1,25 @@
+use Rattle.std.proofs.Common.{◌≡◌, Some, refl, sym, ap, ◌∙◌, arith}
+use Rattle.aia_home.specs.Home.Home.{Arriving}
+use Rattle.aia_home.specs.Plans.{steps_done}
+use Rattle.aia_home.specs.Plans.Access.{WriteEntry, Fence}
+use Rattle.aia_move.specs.Move.{Moving}
+use Rattle.aia_move.specs.Load.{moving}
+use Rattle.aia_move.proofs.StepLemmas.{step_before}
+use Rattle.aia_move.proofs.arrive.Arrive.begin.Goals as goal
+
+pub returns-in-0 : goal.returns-in-0
+returns-in-0 g c =
+    let l = c.self.inside in
+    let m = moving (Arriving l.file) l.carrier in
+    let here : l.carrier.steps ≡ 0 = sym c.done.ensures ∙ c.in-0.is in
+    step_before c.args.fabric.now c.write_entry.new.fabric m c.args.self.now (Arriving l.file) c.write_entry.new.self WriteEntry c.self.view_is c.requires.fits refl (record { has = refl; step = here })
+    (c.write_entry.ensures m refl (ap (λ x. Some x) (sym c.place.ensures))) (omega (arith, here))
+
+pub returns-in_default : goal.returns-in_default
+returns-in_default g c =
+    let l = c.self.inside in
+    let m = moving (Arriving l.file) l.carrier in
+    let steps : l.carrier.steps ≡ steps_done c.args.self.now.home = ap (λ (x : Moving). steps_done x.home) c.self.view_is in
+    let here : l.carrier.steps ≡ 1 = omega (arith, steps, c.done.ensures, c.requires.phase) in
+    step_before c.args.fabric.now c.fence.new.fabric m c.args.self.now (Arriving l.file) c.fence.new.self Fence c.self.view_is c.requires.fits refl (record { has = refl; step = here })
+    (c.fence.ensures m refl) (omega (arith, here))

@@ -1,0 +1,11 @@
+use Rattle.aia_move.proofs.MoveKept.{goes_kept, ends_kept, ends_empty}
+use Rattle.aia_move.proofs.laws.a_step_keeps_the_file_of_its_virtual_hart.Goals as goal
+
+pub returns-clause-goes : goal.returns-clause-goes
+returns-clause-goes c = goes_kept
+
+pub returns-clause-ends : goal.returns-clause-ends
+returns-clause-ends c = ends_kept
+
+pub returns-clause-left : goal.returns-clause-left
+returns-clause-left c = ends_empty

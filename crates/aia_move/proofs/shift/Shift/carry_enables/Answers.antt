@@ -1,0 +1,18 @@
+use Rattle.std.proofs.Common.{◌+◌, ◌*◌, refl, sym, ap, ◌∙◌, arith}
+use Rattle.aia_home.specs.Home.Home.{Shifting}
+use Rattle.aia_fabric.specs.declared.at.At.TheVariants.{File}
+use Rattle.aia_move.specs.Move.{old_spot, new_spot}
+use Rattle.aia_move.specs.Load.{moving}
+use Rattle.aia_move.proofs.StepLemmas.{carries_enables}
+use Rattle.aia_move.proofs.shift.Shift.carry_enables.Goals as goal
+
+pub returns : goal.returns
+returns g c =
+    let l = c.self.inside in
+    let m = moving (Shifting l.from l.to) l.carrier in
+    let from = ap (λ x. File x) (ap old_spot c.self.view_is ∙ sym c.old_spot.ensures) in
+    let to = ap (λ x. File x) (ap new_spot c.self.view_is ∙ sym c.new_spot.ensures) in
+    let words = c.words-words.ensures.value in
+    let some = c.words-words.ensures.some in
+    carries_enables c.args.fabric.now c.carry_enables.new.fabric m c.args.self.now (Shifting l.from l.to) (5 + 2 * c.words-words.result) c.carry_enables.new.self c.self.view_is c.requires.fits refl refl (omega (arith, words)) (omega (arith, words, some)) (omega (arith, c.requires.phase, words))
+    (c.carry_enables.ensures.does m refl from to) c.carry_enables.ensures.no_zero

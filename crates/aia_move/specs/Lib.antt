@@ -1,0 +1,5 @@
+pub mod Move
+pub mod Load
+pub mod Turns
+pub mod Touches
+pub mod Plan

@@ -1,0 +1,57 @@
+-- What a step of a move leaves as it is: all but the places of the virtual hart that is moved, and
+-- the file to which its notice goes.
+use Rattle.std.specs.Prelude.{◌≡◌, ◌≢◌, ℕ, ◌+◌, ◌<◌, ◌⊎◌, Bool, true, false, length, slice_index}
+use Rattle.aia_regs.specs.declared.limits.TheConstants.{VCPUS}
+use Rattle.aia_imsic.specs.declared.spot.Spot.TheVariants.{MachineFile, HostFile}
+use Rattle.aia_imsic.specs.Imsic.{IsThere, file_at}
+use Rattle.aia_mrif.specs.Mrif.{mrif_in}
+use Rattle.aia_entry.specs.Tables.{table_of, entry_in_force}
+use Rattle.aia_home.specs.declared.place.Place.{Place}
+use Rattle.aia_home.specs.Vms.{Vcpu, is_vcpu_in}
+use Rattle.aia_home.specs.Home.{holds}
+use Rattle.aia_home.specs.Plans.{Access}
+use Rattle.aia_home.specs.Plans.Access.{Post}
+use Rattle.aia_places.specs.Holds.{Hand}
+use Rattle.aia_fabric.specs.World.{World, stage_of}
+use Rattle.aia_fabric.specs.Making.{entry_word_place}
+use Rattle.aia_fabric.specs.Stores.{Posts}
+use Rattle.aia_fabric.specs.Changes.{spot_of}
+use Rattle.aia_move.specs.Move.{Moving, mover}
+
+-- Whether an access sends the notice.
+abbrev pub sends : Access → Hand → Bool
+sends Post hand = hand.seen
+sends access hand = false
+
+-- A step of a move, which sends the notice or not, touches only its own.
+pub record Touches (sent : Bool) (w u : World) (m : Moving) : Type 0 where
+  -- what is made once
+  pub identities : u.n ≡ w.n
+  pub vms : u.vms ≡ w.vms
+  pub harts : u.imsic.harts ≡ w.imsic.harts
+  pub guests : u.imsic.guests ≡ w.imsic.guests
+  pub tables : length u.tables ≡ length w.tables
+  pub masks : (v : ℕ) → (table_of u.tables v).mask ≡ (table_of w.tables v).mask
+  pub starts : (v : ℕ) → (table_of u.tables v).start ≡ (table_of w.tables v).start
+  -- files: those that the move holds, and that of the notice hart, are all that it touches
+  pub guest_files : (p : Place) → IsThere w.imsic (spot_of p) → holds p m.home ≡ false
+      → file_at u.imsic (spot_of p) ≡ file_at w.imsic (spot_of p)
+  pub machine_files : (hart : ℕ) → hart < w.imsic.harts
+      → file_at u.imsic (MachineFile hart) ≡ file_at w.imsic (MachineFile hart)
+  pub host_files : (hart : ℕ) → hart < w.imsic.harts
+      → (sent ≡ false) ⊎ (hart ≢ m.who.notice)
+      → file_at u.imsic (HostFile hart) ≡ file_at w.imsic (HostFile hart)
+  -- the notice
+  pub noticed : sent ≡ true → Posts w u (HostFile m.who.notice) (m.who.slot + 1)
+  pub count : sent ≡ false → u.notices ≡ w.notices
+  -- slots, entries and records of other virtual harts
+  pub slots : (r : ℕ) → r < VCPUS → r ≢ m.who.slot → mrif_in u.memory r ≡ mrif_in w.memory r
+  pub entry_words : (g : Vcpu) → is_vcpu_in w.vms g ≡ true → g ≢ mover m
+      → (slice_index u.memory (entry_word_place g.vm g.number)
+      ≡ slice_index w.memory (entry_word_place g.vm g.number))
+      × (slice_index u.memory (entry_word_place g.vm g.number + 1)
+      ≡ slice_index w.memory (entry_word_place g.vm g.number + 1))
+  pub in_force : (g : Vcpu) → g ≢ mover m → entry_in_force (table_of u.tables g.vm) g.number
+      ≡ entry_in_force (table_of w.tables g.vm) g.number
+  pub stages : (g : Vcpu) → is_vcpu_in w.vms g ≡ true → g ≢ mover m
+      → stage_of u g ≡ stage_of w g

@@ -1,0 +1,22 @@
+//! The plans of moves, one access a step: a virtual hart leaves its guest file, arrives in one, or
+//! shifts to another one. Profile: all plans.
+#![tactic(auto)]
+
+mod arrive;
+mod carrier;
+pub mod laws;
+mod leave;
+mod phase;
+mod plan;
+mod shift;
+mod turn;
+mod who;
+mod words;
+
+pub use arrive::Arrive;
+pub use leave::Leave;
+pub use phase::{Closing, Drain, Enable, First, Last, Look};
+pub use plan::{Next, Plan};
+pub use shift::Shift;
+pub use turn::{Outcome, Turn};
+pub use who::{Kept, Who};

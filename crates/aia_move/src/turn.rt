@@ -1,0 +1,22 @@
+use crate::Kept;
+use aia_pool::FileLease;
+
+/// What a step makes of a move in one of its phases.
+#[derive(Drop)]
+pub enum Turn<S, T> {
+    /// It stays in the phase.
+    Stay(S),
+    /// It goes on to the next one.
+    On(T),
+}
+
+/// What a move gives back at its end.
+#[derive(Drop)]
+pub enum Outcome {
+    /// The virtual hart is parked: the file that it left, and what the hypervisor keeps of it.
+    Left(FileLease, Kept),
+    /// It is resident in this file.
+    Arrived(FileLease),
+    /// It left the first file, and is resident in the second.
+    Shifted(FileLease, FileLease),
+}
