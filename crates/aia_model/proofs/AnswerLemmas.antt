@@ -1,5 +1,5 @@
 -- Answers and histories by the refusal of a line.
-use Rattle.std.proofs.Common.{◌≡◌, ℕ, ◌%◌, Bool, true, false, ◌&&◌, not, cond, nat_eq, nat_lt, Option, Some, None, unwrap_or, refl, sym, ap, ◌∙◌}
+use Rattle.std.proofs.Common.{◌≡◌, ℕ, ◌%◌, Bool, true, false, ◌&&◌, not, cond, nat_eq, nat_lt, is_none, Option, Some, None, unwrap_or, refl, sym, ap, ◌∙◌}
 use Rattle.std.proofs.lemmas.Bool.{cond-true}
 use Rattle.std.specs.Option.{option_map}
 use Rattle.std.specs.Int.{is_in_range}
@@ -8,19 +8,23 @@ use Rattle.aia_regs.specs.declared.access.Op.{Op}
 use Rattle.aia_regs.specs.declared.access.Level.TheVariants as levels
 use Rattle.aia_csr.specs.Access.{access_of}
 use Rattle.aia_model.specs.declared.line.Line.{Line}
-use Rattle.aia_model.specs.declared.line.Line.TheVariants.{Machine, Wire, Load, Store, MachineCsr, HostCsr, Pins}
+use Rattle.aia_model.specs.declared.line.Line.TheVariants.{Machine, Wire, Load, Store, MachineCsr, HostCsr, Hgeip, Pins, GuestCsr, Ipi, Arrive, Leave, Shift}
 use Rattle.aia_model.specs.declared.line.Line.TheVariants as lines
 use Rattle.aia_imsic.specs.declared.spot.Spot.{Spot}
 use Rattle.aia_model.specs.declared.answer.Answer.{Answer}
 use Rattle.aia_model.specs.declared.answer.Answer.TheVariants.{NoMachine, Again, Refused}
 use Rattle.aia_model.specs.declared.refusal.Refusal.{Refusal}
-use Rattle.aia_model.specs.declared.refusal.Refusal.TheVariants.{Range, Full, Illegal, Fault, Guarded, Other, NotValid}
+use Rattle.aia_model.specs.declared.refusal.Refusal.TheVariants.{Range, Full, Busy, NoFile, Away, Illegal, Virtual, Fault, Guarded, Other, NotValid, GFault}
+use Rattle.aia_model.specs.declared.refusal.Refusal.TheVariants as words
 use Rattle.aia_model.specs.Event.{History, has_machine, has_hart, harts_of, sources_of}
 use Rattle.aia_entry.specs.Translation.{is_msi_address}
 use Rattle.aia_model.specs.Vms.{has_vm, has_vcpu, mask_of}
+use Rattle.aia_home.specs.Vms.{vcpu}
+use Rattle.aia_home.specs.Home.{is_moving, is_resident, is_parked}
+use Rattle.aia_model.specs.HomeOf.{home, free_file}
 use Rattle.aia_model.specs.GuestFile.{named_by}
 use Rattle.aia_model.specs.FileOf.{MachineFile, SupervisorFile, page_at, select_of}
-use Rattle.aia_model.specs.Refusal.{refusal, raises_illegal, faults, guards, is_machine_size, lacks_machine, is_vm_size, is_full}
+use Rattle.aia_model.specs.Refusal.{refusal, raises_illegal, raises_virtual, guest_access, faults, guards, is_machine_size, lacks_machine, is_vm_size, is_full}
 use Rattle.aia_model.specs.Answer.{answer, after, accepted_answer, history_after}
 
 pub answered : (h : History) (line : Line) (r : Option Answer) → refusal h line ≡ r → answer h line ≡ unwrap_or r (accepted_answer h line)
@@ -91,6 +95,38 @@ msi_refusal h vm addr value there = past_machine h _ there
 
 pub entry_refusal : (h : History) (w0 w1 : ℕ) → has_machine h ≡ true → refusal h (lines.Entry w0 w1) ≡ None
 entry_refusal h w0 w1 there = past_machine h _ there
+
+pub hgeip_refusal : (h : History) (hart : ℕ) → has_machine h ≡ true → refusal h (Hgeip hart) ≡ cond (not (has_hart h hart)) (Some (Refused Range)) None
+hgeip_refusal h hart there = past_machine h _ there
+
+-- what refuses a move that wants a guest file of a hart
+abbrev pub no_file_refusal : History → ℕ → Option Answer
+no_file_refusal h hart = cond (is_none (free_file h (home h) hart)) (Some (Refused NoFile)) None
+
+pub arrive_refusal : (h : History) (vm number hart : ℕ) → has_machine h ≡ true
+    → refusal h (Arrive vm number hart) ≡ cond (not (has_vcpu h (vcpu vm number) && has_hart h hart)) (Some (Refused Range)) (cond (is_moving (home h (vcpu vm number))) (Some (Refused Busy))
+    (cond (is_resident (home h (vcpu vm number))) (Some (Refused words.Home)) (no_file_refusal h hart)))
+arrive_refusal h vm number hart there = past_machine h _ there
+
+pub leave_refusal : (h : History) (vm number : ℕ) → has_machine h ≡ true
+    → refusal h (Leave vm number) ≡ cond (not (has_vcpu h (vcpu vm number))) (Some (Refused Range)) (cond (is_moving (home h (vcpu vm number))) (Some (Refused Busy))
+    (cond (is_parked (home h (vcpu vm number))) (Some (Refused words.Parked)) None))
+leave_refusal h vm number there = past_machine h _ there
+
+pub shift_refusal : (h : History) (vm number hart : ℕ) → has_machine h ≡ true
+    → refusal h (Shift vm number hart) ≡ cond (not (has_vcpu h (vcpu vm number) && has_hart h hart)) (Some (Refused Range)) (cond (is_moving (home h (vcpu vm number))) (Some (Refused Busy))
+    (cond (is_parked (home h (vcpu vm number))) (Some (Refused words.Parked)) (no_file_refusal h hart)))
+shift_refusal h vm number hart there = past_machine h _ there
+
+pub guest_refusal : (h : History) (vm number : ℕ) (csr : Csr) (op : Op) → has_machine h ≡ true
+    → refusal h (GuestCsr vm number csr op) ≡ cond (not (has_vcpu h (vcpu vm number))) (Some (Refused Range)) (cond (not (is_resident (home h (vcpu vm number)))) (Some (Refused Away))
+    (cond (raises_illegal (guest_access h (vcpu vm number) csr op)) (Some (Refused Illegal)) (cond (raises_virtual (guest_access h (vcpu vm number) csr op)) (Some (Refused Virtual)) None)))
+guest_refusal h vm number csr op there = past_machine h _ there
+
+pub ipi_refusal : (h : History) (vm number to value : ℕ) → has_machine h ≡ true
+    → refusal h (Ipi vm number to value) ≡ cond (not (has_vcpu h (vcpu vm number))) (Some (Refused Range)) (cond (not (is_resident (home h (vcpu vm number)))) (Some (Refused Away))
+    (cond (not (has_vcpu h (vcpu vm to))) (Some (Refused GFault)) None))
+ipi_refusal h vm number to value there = past_machine h _ there
 
 -- a line that makes no machine is refused where none stands
 pub no_machine_refusal : (h : History) (line : Line) → lacks_machine h line ≡ true → refusal h line ≡ Some NoMachine

@@ -1,9 +1,9 @@
 -- The forms of lines, each by the fields that it reads: what is spelled is read, and what is read
 -- is spelled so. A new form is its value here, a row of `spelled_read` and a row of `all_forms`.
-use Rattle.std.proofs.Common.{◌≡◌, ℕ, ◌^◌, ◌<◌, Bool, true, false, cond, nat_eq, nat_lt, List, [], ◌∷◌, Option, Some, None, inl, inr, refl, ap, subst, ◌∙◌}
+use Rattle.std.proofs.Common.{◌≡◌, ℕ, ◌^◌, ◌<◌, Bool, true, false, cond, nat_eq, nat_lt, List, [], ◌∷◌, Option, Some, None, ◌⊎◌, inl, inr, refl, ap, subst, ◌∙◌}
 use Rattle.std.specs.Prelude.{codes}
 use Rattle.std.specs.List.{AllByRecursion}
-use Rattle.std.proofs.lemmas.Bool.{cond-true, lt-ltb, ltb-true, eqb-true}
+use Rattle.std.proofs.lemmas.Bool.{cond-true, cond-false, lt-ltb, ltb-true, eqb-true}
 use Rattle.aia_regs.specs.declared.access.Csr.{Csr}
 use Rattle.aia_regs.specs.declared.access.Csr.TheVariants.{Select, Reg, Topei, Topi, Sip, Sie}
 use Rattle.aia_regs.specs.declared.access.Level.{Level}
@@ -12,13 +12,14 @@ use Rattle.aia_regs.specs.declared.access.Op.{Op}
 use Rattle.aia_regs.specs.declared.access.Op.TheVariants as ops
 use Rattle.aia_regs.specs.Fields.{bit_number}
 use Rattle.aia_model.specs.declared.line.Line.{Line}
-use Rattle.aia_model.specs.declared.line.Line.TheVariants.{Machine, Wire, Load, Store, MachineCsr, HostCsr, Pins}
+use Rattle.aia_model.specs.declared.line.Line.TheVariants.{Machine, Wire, Load, Store, MachineCsr, HostCsr, Hgeip, Pins, GuestCsr, Ipi, Arrive, Leave, Shift}
 use Rattle.aia_model.specs.declared.line.Line.TheVariants as lines
 use Rattle.aia_model.specs.Text.{number_of, below, ◌>>=◌}
 use Rattle.aia_model.specs.Grammar.{Field, Fits, AllFit, csr_names, is_csr, field_among, csr_field, instruction, fields_of}
 use Rattle.aia_model.specs.Grammar.Field.{Keyword, Decimal, Decimal32, Hex, Hex32, Bit, Unspelled}
-use Rattle.aia_model.specs.Reading.{Words, row_of, number_at, n32_at, bit_of, bit_at, named, csr_at, read_at, write_at, mnemonics, instruction_at, forms, machine_at, vm_at, wire_at, store_at, load_at, msi_at, machine_csr_at, host_csr_at, pins_at, entry_at, line_at}
-use Rattle.aia_model.proofs.Readers.{chosen, ReadsWord, by_word, by_number, ReadsAll, the_end, ◌and_then◌, made_of, row_found, IsRow, reads_row, AreRows, spelled_by_rows}
+use Rattle.aia_model.specs.Reading.{Words, row_of, number_at, n32_at, bit_of, bit_at, named, csr_at, read_at, write_at, mnemonics, instruction_at, forms, machine_at, vm_at, wire_at, store_at, load_at, msi_at, machine_csr_at, host_at, ipi_at, guest_at, arrive_at, leave_at, shift_at, pins_at, entry_at, line_at, instruction_after, is_word, word_at}
+use Rattle.std.proofs.lemmas.Slice.Eq.{bytes_eq-Decides}
+use Rattle.aia_model.proofs.Readers.{bind_some, chosen, ReadsWord, by_word, by_number, ReadsAll, the_end, ◌and_then◌, made_of, row_found, IsRow, reads_row, AreRows, spelled_by_rows}
 
 infixr 4 ◌and_row◌
 -- what holds of each row of a table
@@ -81,7 +82,7 @@ IsName level name csr = Fits name (csr_field level csr) × (named level name ≡
 pub names : (level : Level) → AllByRecursion (λ row. IsName level row.0 row.1) (csr_names level)
 names levels.Machine = (refl, refl) and_row (refl, refl) and_row (refl, refl) and_row tt
 names levels.Host = (refl, refl) and_row (refl, refl) and_row (refl, refl) and_row tt
-names levels.Guest = (refl, refl) and_row (refl, refl) and_row (refl, refl) and_row (refl, refl) and_row (refl, refl) and_row (refl, refl) and_row tt
+names levels.Guest = (refl, refl) and_row (refl, refl) and_row (refl, refl) and_row tt
 
 same_csr : (a b : Csr) → is_csr a b ≡ true → a ≡ b
 same_csr Select Select e = refl
@@ -192,9 +193,93 @@ machine_csr : IsForm {A = ℕ × (Csr × Op)} (codes "m") machine_csr_at (λ (ha
 unfolding machine_csr_at
 machine_csr = a_form (decimal and_then an_instruction levels.Machine) _ _ refl (λ a. refl)
 
-host_csr : IsForm {A = ℕ × (Csr × Op)} (codes "h") host_csr_at (λ (hart, (csr, op)). HostCsr hart csr op)
-unfolding host_csr_at
-host_csr = a_form (decimal and_then an_instruction levels.Host) _ _ refl (λ a. refl)
+-- ---- a keyword's rest that begins with a word of its own, or is an instruction
+
+-- the fields of either
+abbrev either_fields : {A : Type 0} → Level → List ℕ → (A → List Field) → A ⊎ (Csr × Op) → List Field
+either_fields level keyword fields (inl a) = Keyword keyword ∷ fields a
+either_fields level keyword fields (inr access) = access_fields level access
+
+-- no mnemonic is the word
+abbrev IsNoMnemonic : List ℕ → Type 0
+IsNoMnemonic keyword = (is_word (codes "csrr") keyword ≡ false) × (is_word (codes "csrrw") keyword ≡ false) × (is_word (codes "csrrs") keyword ≡ false) × (is_word (codes "csrrc") keyword ≡ false)
+
+either_reader : {A B : Type 0} → Level → List ℕ → ((A → B) → Words → Option B) → (A ⊎ (Csr × Op) → B) → Words → Option B
+either_reader level keyword rest made ws =
+    word_at ws >>= λ word. cond (is_word word.0 keyword) (rest (λ a. made (inl a)) word.1) (instruction_after (named level) word.0 word.1 >>= λ access. Some (made (inr access)))
+
+word_or_instruction : {A B : Type 0} {rest : (A → B) → Words → Option B} {fields : A → List Field} → (level : Level) (keyword : List ℕ) → IsNoMnemonic keyword → is_word keyword keyword ≡ true → ReadsAll rest fields
+    → ReadsAll {A = A ⊎ (Csr × Op)} {B = B} (either_reader level keyword rest) (either_fields level keyword fields)
+unfolding instruction_at either_reader
+word_or_instruction {A = A} {B = B} {rest = rest} {fields = fields} level keyword apart itself reads = record { finds = spelled; found = is_found }
+  where
+    other : (made : A ⊎ (Csr × Op) → B) (w : List ℕ) (ws : Words) (access : Csr × Op) → is_word w keyword ≡ false → instruction_after (named level) w ws ≡ Some access
+        → cond (is_word w keyword) (rest (λ a. made (inl a)) ws) (instruction_after (named level) w ws >>= λ access. Some (made (inr access))) ≡ Some (made (inr access))
+    other made w ws access no_word e = cond-false _ _ _ no_word ∙ ap (λ o. o >>= λ access. Some (made (inr access))) e
+
+    first_word : (op : Op) (csr : Field) (w : List ℕ) (ws : Words) → AllFit (w ∷ ws) (instruction csr op) → is_word w keyword ≡ false
+    first_word ops.Read csr w ws fits = ap (λ w. is_word w keyword) fits.0 ∙ apart.0
+    first_word (ops.Write v) csr w ws fits = ap (λ w. is_word w keyword) fits.0 ∙ apart.1
+    first_word (ops.Set v) csr w ws fits = ap (λ w. is_word w keyword) fits.0 ∙ apart.2
+    first_word (ops.Clear v) csr w ws fits = ap (λ w. is_word w keyword) fits.0 ∙ apart.3
+
+    spelled : (made : A ⊎ (Csr × Op) → B) (a : A ⊎ (Csr × Op)) (ws : Words) → AllFit ws (either_fields level keyword fields a) → either_reader level keyword rest made ws ≡ Some (made a)
+    spelled made (inl a) [] fits = absurd fits
+    spelled made (inl a) (w ∷ ws) fits = cond-true _ _ _ (ap (λ w. is_word w keyword) fits.0 ∙ itself) ∙ reads.finds (λ a. made (inl a)) a ws fits.1
+    spelled made (inr access) [] fits = absurd (no_words access.1 (csr_field level access.0) fits)
+      where
+        no_words : (op : Op) (csr : Field) → AllFit [] (instruction csr op) → ⊥
+        no_words ops.Read csr fits = fits
+        no_words (ops.Write v) csr fits = fits
+        no_words (ops.Set v) csr fits = fits
+        no_words (ops.Clear v) csr fits = fits
+    spelled made (inr access) (w ∷ ws) fits = other made w ws access (first_word access.1 (csr_field level access.0) w ws fits) (instruction_read level access (w ∷ ws) fits)
+
+    is_found : (made : A ⊎ (Csr × Op) → B) (ws : Words) (x : B) → either_reader level keyword rest made ws ≡ Some x → (a : A ⊎ (Csr × Op)) × (made a ≡ x) × AllFit ws (either_fields level keyword fields a)
+    is_found made [] x e = let bad : ◌≡◌ {A = Option B} None (Some x) = e in absurd (cc)
+    is_found made (w ∷ ws) x e = elim (chosen (is_word w keyword) _ _ (Some x) e) [
+      | inl h ↦ let r = reads.found (λ a. made (inl a)) ws x h.1 in (inl r.0, r.1, ((bytes_eq-Decides w keyword).0 h.0, r.2))
+      | inr h ↦
+          let a = bind_some (instruction_after (named level) w ws) _ x h.1 in
+          let p : made (inr a.0) ≡ x = cc in
+          (inr a.0, p, instruction_spelled level (w ∷ ws) a.0 a.1)
+    ]
+
+abbrev host_line : ℕ → Unit {0} ⊎ (Csr × Op) → Line
+host_line hart (inl end) = Hgeip hart
+host_line hart (inr (csr, op)) = HostCsr hart csr op
+
+host_csr : IsForm {A = ℕ × (Unit {0} ⊎ (Csr × Op))} (codes "h") host_at (λ (hart, part). host_line hart part)
+unfolding host_at either_reader
+host_csr = a_form (decimal and_then word_or_instruction levels.Host (codes "hgeip") (refl, refl, refl, refl) refl the_end) _ _ refl (λ (hart, part). spelled hart part)
+  where
+    spelled : (hart : ℕ) (part : Unit {0} ⊎ (Csr × Op)) → fields_of (host_line hart part) ≡ Keyword (codes "h") ∷ Decimal hart ∷ either_fields levels.Host (codes "hgeip") (λ end. []) part
+    spelled hart (inl end) = refl
+    spelled hart (inr access) = refl
+
+abbrev guest_line : ℕ → ℕ → (ℕ × (ℕ × Unit {0})) ⊎ (Csr × Op) → Line
+guest_line vm number (inl (to, (value, end))) = Ipi vm number to value
+guest_line vm number (inr (csr, op)) = GuestCsr vm number csr op
+
+guest : IsForm {A = ℕ × (ℕ × ((ℕ × (ℕ × Unit {0})) ⊎ (Csr × Op)))} (codes "g") guest_at (λ (vm, (number, part)). guest_line vm number part)
+unfolding guest_at ipi_at either_reader
+guest = a_form (decimal and_then decimal and_then word_or_instruction levels.Guest (codes "ipi") (refl, refl, refl, refl) refl (decimal and_then small_decimal and_then the_end)) _ _ refl (λ (vm, (number, part)). spelled vm number part)
+  where
+    spelled : (a b : ℕ) (part : (ℕ × (ℕ × Unit {0})) ⊎ (Csr × Op)) → fields_of (guest_line a b part) ≡ Keyword (codes "g") ∷ Decimal a ∷ Decimal b ∷ either_fields levels.Guest (codes "ipi") (λ (a : ℕ × (ℕ × Unit {0})). Decimal a.0 ∷ Decimal32 a.1.0 ∷ []) part
+    spelled a b (inl c) = refl
+    spelled a b (inr access) = refl
+
+arrive : IsForm {A = ℕ × (ℕ × (ℕ × Unit {0}))} (codes "arrive") arrive_at (λ (vm, (number, (hart, end))). Arrive vm number hart)
+unfolding arrive_at
+arrive = a_form (decimal and_then decimal and_then decimal and_then the_end) _ _ refl (λ a. refl)
+
+leave : IsForm {A = ℕ × (ℕ × Unit {0})} (codes "leave") leave_at (λ (vm, (number, end)). Leave vm number)
+unfolding leave_at
+leave = a_form (decimal and_then decimal and_then the_end) _ _ refl (λ a. refl)
+
+shift : IsForm {A = ℕ × (ℕ × (ℕ × Unit {0}))} (codes "shift") shift_at (λ (vm, (number, (hart, end))). Shift vm number hart)
+unfolding shift_at
+shift = a_form (decimal and_then decimal and_then decimal and_then the_end) _ _ refl (λ a. refl)
 
 pins : IsForm {A = ℕ × Unit {0}} (codes "pins") pins_at (λ (hart, end). Pins hart)
 unfolding pins_at
@@ -214,7 +299,13 @@ spelled_read ws (Load addr) fits = load.finds (addr, tt) ws fits
 spelled_read ws (Store addr value) fits = store.finds (addr, (value, tt)) ws fits
 spelled_read ws (lines.Msi vm addr value) fits = msi.finds (vm, (addr, (value, tt))) ws fits
 spelled_read ws (MachineCsr hart csr op) fits = machine_csr.finds (hart, (csr, op)) ws fits
-spelled_read ws (HostCsr hart csr op) fits = host_csr.finds (hart, (csr, op)) ws fits
+spelled_read ws (HostCsr hart csr op) fits = host_csr.finds (hart, inr (csr, op)) ws fits
+spelled_read ws (Hgeip hart) fits = host_csr.finds (hart, inl tt) ws fits
+spelled_read ws (GuestCsr vm number csr op) fits = guest.finds (vm, (number, inr (csr, op))) ws fits
+spelled_read ws (Ipi vm number to value) fits = guest.finds (vm, (number, inl (to, (value, tt)))) ws fits
+spelled_read ws (Arrive vm number hart) fits = arrive.finds (vm, (number, (hart, tt))) ws fits
+spelled_read ws (Leave vm number) fits = leave.finds (vm, (number, tt)) ws fits
+spelled_read ws (Shift vm number hart) fits = shift.finds (vm, (number, (hart, tt))) ws fits
 spelled_read ws (Pins hart) fits = pins.finds (hart, tt) ws fits
 spelled_read ws (lines.Entry w0 w1) fits = entry.finds (w0, (w1, tt)) ws fits
 
@@ -228,6 +319,10 @@ all_forms =
     and_row msi.found
     and_row machine_csr.found
     and_row host_csr.found
+    and_row guest.found
+    and_row arrive.found
+    and_row leave.found
+    and_row shift.found
     and_row pins.found
     and_row entry.found
     and_row tt

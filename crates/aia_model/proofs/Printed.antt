@@ -12,7 +12,7 @@ use Rattle.aia_regs.specs.declared.access.Op.TheVariants as ops
 use Rattle.aia_regs.specs.Fields.{bit_number}
 use Rattle.aia_model.specs.declared.limits.TheConstants.{LINE_BYTES}
 use Rattle.aia_model.specs.declared.line.Line.{Line}
-use Rattle.aia_model.specs.declared.line.Line.TheVariants.{MachineCsr, HostCsr}
+use Rattle.aia_model.specs.declared.line.Line.TheVariants.{MachineCsr, HostCsr, GuestCsr}
 use Rattle.aia_model.specs.declared.parsed.Parsed.TheVariants as parsed
 use Rattle.aia_model.specs.Text.{words_of}
 use Rattle.aia_model.specs.Grammar.{Spells, Field, Fits, AllFit, IsListed, HasSpelling, csr_names, csr_field, fields_of, instruction}
@@ -138,7 +138,7 @@ is_name name = has_no_space name && nat_le (length name) 8
 short_names : (level : Level) → AllByRecursion (λ row. is_name row.0 ≡ true) (csr_names level)
 short_names levels.Machine = refl and_row refl and_row refl and_row tt
 short_names levels.Host = refl and_row refl and_row refl and_row tt
-short_names levels.Guest = refl and_row refl and_row refl and_row refl and_row refl and_row refl and_row tt
+short_names levels.Guest = refl and_row refl and_row refl and_row tt
 
 csr_short : (level : Level) (csr : Csr) → AreShort 9 (csr_field level csr ∷ [])
 csr_short level csr = among (λ name csr. is_name name ≡ true) (λ field. AreShort 9 (field ∷ [])) csr (record { plain = refl; short = omega arith }) of_name (csr_names level) (short_names level)
@@ -170,6 +170,7 @@ access_short level csr op = instruction_short (csr_field level csr) op (csr_shor
 line_short : (line : Line) → AreShort LINE_BYTES (fields_of line)
 line_short (MachineCsr hart csr op) = let few = access_short levels.Machine csr op in record { plain = few.plain; short = omega (arith, few.short) }
 line_short (HostCsr hart csr op) = let few = access_short levels.Host csr op in record { plain = few.plain; short = omega (arith, few.short) }
+line_short (GuestCsr vm number csr op) = let few = access_short levels.Guest csr op in record { plain = few.plain; short = omega (arith, few.short) }
 line_short line = record { plain = refl; short = omega arith }
 
 -- ---- the text of a line is short

@@ -14,7 +14,7 @@ use Rattle.aia_regs.specs.declared.access.Op.TheVariants as ops
 use Rattle.aia_csr.specs.Access.{IsInTable}
 use Rattle.aia_model.specs.declared.limits.TheConstants.{LINE_BYTES}
 use Rattle.aia_model.specs.declared.line.Line.{Line}
-use Rattle.aia_model.specs.declared.line.Line.TheVariants.{MachineCsr, HostCsr, Pins}
+use Rattle.aia_model.specs.declared.line.Line.TheVariants.{MachineCsr, HostCsr, Pins, GuestCsr}
 use Rattle.aia_model.specs.declared.parsed.Parsed.{Parsed}
 use Rattle.aia_model.specs.declared.parsed.Parsed.TheVariants as parsed
 use Rattle.aia_model.specs.Text.{words_of, is_skipped}
@@ -166,3 +166,6 @@ machine_csr_in_table hart csr op all = in_table levels.Machine csr (csr_named (c
 
 pub host_csr_in_table : (hart : ℕ) (csr : Csr) (op : Op) → IsListed (HostCsr hart csr op) → IsInTable levels.Host csr
 host_csr_in_table hart csr op all = in_table levels.Host csr (csr_named (csr_field levels.Host csr) op all.1.1)
+
+pub guest_csr_in_table : (vm number : ℕ) (csr : Csr) (op : Op) → IsListed (GuestCsr vm number csr op) → IsInTable levels.Guest csr
+guest_csr_in_table vm number csr op all = tt

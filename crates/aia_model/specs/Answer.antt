@@ -1,6 +1,6 @@
 -- What a line answers after a history, and the history after it. Vocabulary, where no chapter is
 -- named.
-use Rattle.std.specs.Prelude.{ℕ, List, [], ◌∷◌, Option, Some, None, unwrap_or}
+use Rattle.std.specs.Prelude.{ℕ, zero, suc, List, [], ◌∷◌, Option, Some, None, unwrap_or}
 use Rattle.std.specs.Option.{option_map_or}
 use Rattle.aia_word.specs.Top.{top_value}
 use Rattle.aia_regs.specs.declared.access.Csr.{Csr}
@@ -9,19 +9,25 @@ use Rattle.aia_regs.specs.FileRegisters.{register_of}
 use Rattle.aia_file.specs.InterruptFile.{InterruptFile, register_value, top_of, signals}
 use Rattle.aia_entry.specs.Format.{decoded}
 use Rattle.aia_model.specs.declared.line.Line.{Line}
-use Rattle.aia_model.specs.declared.line.Line.TheVariants.{Load, MachineCsr, HostCsr, Pins}
+use Rattle.aia_model.specs.declared.line.Line.TheVariants.{Load, MachineCsr, HostCsr, Hgeip, Pins, GuestCsr}
 use Rattle.aia_model.specs.declared.line.Line.TheVariants as lines
 use Rattle.aia_model.specs.declared.answer.Answer.{Answer}
 use Rattle.aia_model.specs.declared.answer.Answer.TheVariants.{Okay, Narrow, Wide}
 use Rattle.aia_model.specs.declared.answer.Answer.TheVariants as kinds
 use Rattle.aia_model.specs.declared.msi.Msi.{Msi}
-use Rattle.aia_model.specs.Event.{History}
-use Rattle.aia_model.specs.Event.Event.{Accepted, Delivered}
+use Rattle.aia_home.specs.Vms.{Vcpu, vcpu}
+use Rattle.aia_home.specs.Home.{leave_steps, arrive_steps, shift_steps}
+use Rattle.aia_model.specs.Move.{Move, mover, move_of}
+use Rattle.aia_model.specs.Move.Move.{Arrives, Leaves, Shifts}
+use Rattle.aia_model.specs.Event.{History, file_words}
+use Rattle.aia_model.specs.Event.Event.{Accepted, Began, Stepped, Delivered}
 use Rattle.aia_model.specs.Act.{domain_at, register_at}
 use Rattle.aia_model.specs.declared.domain_name.DomainName.TheVariants.{Root, Child}
 use Rattle.aia_model.specs.SourceOf.{register_read, is_signalled}
 use Rattle.aia_model.specs.Sent.{acts_of, msis_sent_by}
 use Rattle.aia_model.specs.FileOf.{FileName, MachineFile, SupervisorFile, select_of, file_of}
+use Rattle.aia_model.specs.GuestFile.{guest_select, guest_file}
+use Rattle.aia_model.specs.Gate.{hgeip_value}
 use Rattle.aia_model.specs.Refusal.{refusal}
 
 -- What a CSR of a file reads: the select number, the selected register, or the identity on top.
@@ -37,6 +43,10 @@ csr_shown select file csr = 0
 abbrev pub csr_value : History → FileName → Csr → ℕ
 csr_value h f csr = csr_shown (select_of h f) (file_of h f) csr
 
+-- What a CSR of a virtual hart's file reads.
+abbrev pub guest_csr_value : History → Vcpu → Csr → ℕ
+guest_csr_value h g csr = csr_shown (guest_select h g) (guest_file h g) csr
+
 -- What a load reads: a register of a domain, and 0 in a file's page.
 -- AIA 1.0, IMSIC, "Memory region for an interrupt file", for the last.
 abbrev pub load_value : History → ℕ → ℕ
@@ -44,12 +54,15 @@ load_value h addr =
     option_map_or (λ d. register_read (acts_of h) d (register_at addr)) (domain_at addr) 0
 
 -- What an accepted line answers: a load what it reads, a CSR instruction the value that the CSR
--- read before it, `pins` the signals of a hart (of both domains, of its machine-level file and of
--- its supervisor file), `entry` what the two words say, and every other line `ok`.
+-- read before it, `hgeip` which guest files of a hart signal, `pins` the signals of a hart (of both
+-- domains, of its machine-level file and of its supervisor file), `entry` what the two words say,
+-- and every other line `ok`.
 abbrev pub accepted_answer : History → Line → Answer
 accepted_answer h (Load addr) = Narrow (load_value h addr)
 accepted_answer h (MachineCsr hart csr op) = Wide (csr_value h (MachineFile hart) csr)
 accepted_answer h (HostCsr hart csr op) = Wide (csr_value h (SupervisorFile hart) csr)
+accepted_answer h (Hgeip hart) = Wide (hgeip_value h hart)
+accepted_answer h (GuestCsr vm number csr op) = Wide (guest_csr_value h (vcpu vm number) csr)
 accepted_answer h (Pins hart) =
     kinds.Pins (is_signalled (acts_of h) Root hart) (is_signalled (acts_of h) Child hart)
     (signals (file_of h (MachineFile hart))) (signals (file_of h (SupervisorFile hart)))
@@ -60,14 +73,42 @@ accepted_answer h line = Okay
 unfoldable pub answer : History → Line → Answer
 answer h line = unwrap_or (refusal h line) (accepted_answer h line)
 
+-- ---- what has happened after a line
+
+-- An MSI is delivered; a step of a virtual hart's move is done.
+abbrev pub msi_taken : Msi → History → History
+msi_taken msi h = Delivered msi ∷ h
+
+abbrev pub step_taken : Vcpu → History → History
+step_taken g h = Stepped g ∷ h
+
 -- MSIs are delivered, the first of a list first.
 abbrev pub delivered : List Msi → History → History
 delivered [] h = h
-delivered (msi ∷ later) h = delivered later (Delivered msi ∷ h)
+delivered (msi ∷ later) h = delivered later (msi_taken msi h)
+
+-- So many steps of a virtual hart's move are done.
+abbrev pub steps_taken : ℕ → Vcpu → History → History
+steps_taken zero g h = h
+steps_taken (suc count) g h = steps_taken count g (step_taken g h)
+
+-- How many steps a move has, of files of so many words.
+abbrev pub steps_of : ℕ → Move → ℕ
+steps_of words (Arrives g hart) = arrive_steps words
+steps_of words (Leaves g) = leave_steps words
+steps_of words (Shifts g hart) = shift_steps words
+
+-- A whole move: it begins, and all its steps are done.
+abbrev pub whole_move : History → Move → History
+whole_move h move = steps_taken (steps_of (file_words h) move) (mover move) (Began move ∷ h)
+
+-- An accepted line itself: a move, or an event of its own.
+abbrev pub line_taken : History → Line → History
+line_taken h line = option_map_or (whole_move h) (move_of line) (Accepted line ∷ h)
 
 -- What has happened after an accepted line: it, then the MSIs that it sends.
 abbrev pub after_accepted : History → Line → History
-after_accepted h line = delivered (msis_sent_by h line) (Accepted line ∷ h)
+after_accepted h line = delivered (msis_sent_by h line) (line_taken h line)
 
 -- The history after a line, by its refusal: a refused line changes nothing.
 abbrev pub history_after : Option Answer → History → Line → History

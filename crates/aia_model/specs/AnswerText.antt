@@ -8,7 +8,8 @@ use Rattle.aia_model.specs.declared.answer.Answer.{Answer}
 use Rattle.aia_model.specs.declared.answer.Answer.TheVariants as kinds
 use Rattle.aia_model.specs.declared.answer.Answer.TheVariants.{Okay, Narrow, Wide, Pins, Bad, NoMachine, Again, Refused}
 use Rattle.aia_model.specs.declared.refusal.Refusal.{Refusal}
-use Rattle.aia_model.specs.declared.refusal.Refusal.TheVariants.{Range, Full, Illegal, Fault, Guarded, Other, NotValid}
+use Rattle.aia_model.specs.declared.refusal.Refusal.TheVariants.{Range, Full, Busy, NoFile, Away, Illegal, Virtual, Fault, Guarded, Other, NotValid, GFault}
+use Rattle.aia_model.specs.declared.refusal.Refusal.TheVariants as refusals
 use Rattle.aia_regs.specs.Fields.{bit_number}
 
 -- The character of a digit of 0 to 15: 0 to 9, a to f.
@@ -47,11 +48,18 @@ entry_text Misconfigured = codes "misconfigured"
 abbrev pub refusal_word : Refusal → List ℕ
 refusal_word Range = codes "range"
 refusal_word Full = codes "full"
+refusal_word Busy = codes "busy"
+refusal_word refusals.Home = codes "home"
+refusal_word refusals.Parked = codes "parked"
+refusal_word NoFile = codes "nofile"
+refusal_word Away = codes "away"
 refusal_word Illegal = codes "illegal"
+refusal_word Virtual = codes "virtual"
 refusal_word Fault = codes "fault"
 refusal_word Guarded = codes "guarded"
 refusal_word Other = codes "other"
 refusal_word NotValid = codes "notvalid"
+refusal_word GFault = codes "gfault"
 
 -- The word of an answer.
 abbrev pub answer_word : Answer → List ℕ

@@ -1,14 +1,18 @@
 -- What happens to a machine, and the history of a script. Vocabulary.
-use Rattle.std.specs.Prelude.{ℕ, Bool, is_some, nat_lt, List, [], ◌∷◌, Option, Some, None}
+use Rattle.std.specs.Prelude.{ℕ, ◌+◌, ◌/◌, Bool, is_some, nat_lt, List, [], ◌∷◌, Option, Some, None}
 use Rattle.std.specs.Option.{option_map_or}
 use Rattle.aia_model.specs.declared.line.Line.{Line}
 use Rattle.aia_model.specs.declared.line.Line.TheVariants.{Machine}
 use Rattle.aia_model.specs.declared.msi.Msi.{Msi}
+use Rattle.aia_home.specs.Vms.{Vcpu}
+use Rattle.aia_model.specs.Move.{Move}
 
--- What happens: a line is accepted; an MSI of the APLIC is delivered, also where no file is to take
--- it.
+-- What happens: a line that makes no move is accepted; a move begins; one step more of a virtual
+-- hart's move is done; an MSI of the APLIC is delivered, also where no file is to take it.
 pub data Event : Type 0 where
   Accepted : (line : Line) → Event
+  Began : (move : Move) → Event
+  Stepped : (g : Vcpu) → Event
   Delivered : (msi : Msi) → Event
 
 -- What has happened, the newest first.
@@ -53,3 +57,8 @@ sources_of h = option_map_or (λ (m : Shape). m.sources) (machine_of h) 0
 -- The greatest identity of each file, 0 where no machine stands.
 abbrev pub greatest_identity_of : History → ℕ
 greatest_identity_of h = option_map_or (λ (m : Shape). m.n) (machine_of h) 0
+
+-- How many words of 64 identities a set of a file has.
+-- AIA 1.0, IMSIC, "Indirectly accessed interrupt-file registers".
+abbrev pub file_words : History → ℕ
+file_words h = (greatest_identity_of h + 1) / 64

@@ -3,7 +3,7 @@ use Rattle.std.specs.Prelude.{◌≡◌, ℕ, ◌^◌, ◌<◌, ◌≤◌, Bool,
 use Rattle.std.specs.List.{AllByRecursion}
 use Rattle.aia_model.specs.declared.limits.TheConstants.{LINE_BYTES}
 use Rattle.aia_model.specs.declared.line.Line.{Line}
-use Rattle.aia_model.specs.declared.line.Line.TheVariants.{Machine, Wire, Load, Store, MachineCsr, HostCsr, Pins}
+use Rattle.aia_model.specs.declared.line.Line.TheVariants.{Machine, Wire, Load, Store, MachineCsr, HostCsr, Hgeip, Pins, GuestCsr, Ipi, Arrive, Leave, Shift}
 use Rattle.aia_model.specs.declared.line.Line.TheVariants as lines
 use Rattle.aia_regs.specs.declared.access.Csr.{Csr}
 use Rattle.aia_regs.specs.declared.access.Csr.TheVariants.{Select, Reg, Topei, Topi, Sip, Sie}
@@ -55,8 +55,7 @@ csr_names levels.Machine =
 csr_names levels.Host =
     (codes "siselect", Select) ∷ (codes "sireg", Reg) ∷ (codes "stopei", Topei) ∷ []
 csr_names levels.Guest =
-    (codes "siselect", Select) ∷ (codes "sireg", Reg) ∷ (codes "stopei", Topei)
-    ∷ (codes "stopi", Topi) ∷ (codes "sip", Sip) ∷ (codes "sie", Sie) ∷ []
+    (codes "siselect", Select) ∷ (codes "sireg", Reg) ∷ (codes "stopei", Topei) ∷ []
 
 -- Whether two CSRs are the same.
 abbrev pub is_csr : Csr → Csr → Bool
@@ -101,6 +100,17 @@ fields_of (MachineCsr hart csr op) =
     Keyword (codes "m") ∷ Decimal hart ∷ instruction (csr_field levels.Machine csr) op
 fields_of (HostCsr hart csr op) =
     Keyword (codes "h") ∷ Decimal hart ∷ instruction (csr_field levels.Host csr) op
+fields_of (Hgeip hart) = Keyword (codes "h") ∷ Decimal hart ∷ Keyword (codes "hgeip") ∷ []
+fields_of (GuestCsr vm number csr op) =
+    Keyword (codes "g") ∷ Decimal vm ∷ Decimal number ∷ instruction (csr_field levels.Guest csr) op
+fields_of (Ipi vm number to value) =
+    Keyword (codes "g") ∷ Decimal vm ∷ Decimal number
+    ∷ Keyword (codes "ipi") ∷ Decimal to ∷ Decimal32 value ∷ []
+fields_of (Arrive vm number hart) =
+    Keyword (codes "arrive") ∷ Decimal vm ∷ Decimal number ∷ Decimal hart ∷ []
+fields_of (Leave vm number) = Keyword (codes "leave") ∷ Decimal vm ∷ Decimal number ∷ []
+fields_of (Shift vm number hart) =
+    Keyword (codes "shift") ∷ Decimal vm ∷ Decimal number ∷ Decimal hart ∷ []
 fields_of (Pins hart) = Keyword (codes "pins") ∷ Decimal hart ∷ []
 fields_of (lines.Entry w0 w1) = Keyword (codes "entry") ∷ Hex w0 ∷ Hex w1 ∷ []
 

@@ -2,6 +2,7 @@ pub mod Text
 pub mod Grammar
 pub mod Printing
 pub mod Reading
+pub mod Move
 pub mod Event
 pub mod Act
 pub mod AddressOf
@@ -12,6 +13,7 @@ pub mod FileAfter
 pub mod GuestFile
 pub mod HomeOf
 pub mod Notice
+pub mod Gate
 pub mod FileOf
 pub mod Refusal
 pub mod Answer

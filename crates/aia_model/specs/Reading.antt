@@ -4,7 +4,7 @@ use Rattle.std.specs.Prelude.{ℕ, ◌^◌, Bool, true, false, nat_eq, nat_le, i
 use Rattle.std.specs.Str.{bytes_eq}
 use Rattle.aia_model.specs.declared.limits.TheConstants.{LINE_BYTES}
 use Rattle.aia_model.specs.declared.line.Line.{Line}
-use Rattle.aia_model.specs.declared.line.Line.TheVariants.{Machine, Wire, Load, Store, MachineCsr, HostCsr, Pins}
+use Rattle.aia_model.specs.declared.line.Line.TheVariants.{Machine, Wire, Load, Store, MachineCsr, HostCsr, Hgeip, Pins, GuestCsr, Ipi, Arrive, Leave, Shift}
 use Rattle.aia_model.specs.declared.line.Line.TheVariants as lines
 use Rattle.aia_model.specs.declared.parsed.Parsed.{Parsed}
 use Rattle.aia_model.specs.declared.parsed.Parsed.TheVariants as parsed
@@ -64,7 +64,7 @@ whole words found = None
 abbrev pub at_end : Words → Line → Option Line
 at_end = whole
 
--- ---- what follows each keyword, and after `m H` and `h H` a CSR instruction
+-- ---- what follows each keyword
 
 unfoldable pub machine_at : Words → Option Line
 machine_at words = do
@@ -160,11 +160,58 @@ machine_csr_at words = do
   access ← instruction_at (named levels.Machine) hart.1
   Some (MachineCsr hart.0 access.0 access.1)
 
-unfoldable pub host_csr_at : Words → Option Line
-host_csr_at words = do
+-- What follows `h H`: `hgeip`, or a CSR instruction; what follows `g VM C`: `ipi` and its numbers,
+-- or a CSR instruction. Each by its first word.
+abbrev pub host_after : ℕ → List ℕ → Words → Option Line
+host_after hart word words =
+    if is_word word (codes "hgeip") then at_end words (Hgeip hart)
+    else (instruction_after (named levels.Host) word words
+    >>= λ access. Some (HostCsr hart access.0 access.1))
+
+unfoldable pub host_at : Words → Option Line
+host_at words = do
   hart ← number_at words
-  access ← instruction_at (named levels.Host) hart.1
-  Some (HostCsr hart.0 access.0 access.1)
+  word ← word_at hart.1
+  host_after hart.0 word.0 word.1
+
+unfoldable pub ipi_at : ℕ → ℕ → Words → Option Line
+ipi_at vm number words = do
+  to ← number_at words
+  value ← n32_at to.1
+  at_end value.1 (Ipi vm number to.0 value.0)
+
+abbrev pub guest_after : ℕ → ℕ → List ℕ → Words → Option Line
+guest_after vm number word words =
+    if is_word word (codes "ipi") then ipi_at vm number words
+    else (instruction_after (named levels.Guest) word words
+    >>= λ access. Some (GuestCsr vm number access.0 access.1))
+
+unfoldable pub guest_at : Words → Option Line
+guest_at words = do
+  vm ← number_at words
+  number ← number_at vm.1
+  word ← word_at number.1
+  guest_after vm.0 number.0 word.0 word.1
+
+unfoldable pub arrive_at : Words → Option Line
+arrive_at words = do
+  vm ← number_at words
+  number ← number_at vm.1
+  hart ← number_at number.1
+  at_end hart.1 (Arrive vm.0 number.0 hart.0)
+
+unfoldable pub leave_at : Words → Option Line
+leave_at words = do
+  vm ← number_at words
+  number ← number_at vm.1
+  at_end number.1 (Leave vm.0 number.0)
+
+unfoldable pub shift_at : Words → Option Line
+shift_at words = do
+  vm ← number_at words
+  number ← number_at vm.1
+  hart ← number_at number.1
+  at_end hart.1 (Shift vm.0 number.0 hart.0)
 
 unfoldable pub pins_at : Words → Option Line
 pins_at words = do
@@ -181,7 +228,11 @@ forms =
     ∷ (codes "st", store_at)
     ∷ (codes "msi", msi_at)
     ∷ (codes "m", machine_csr_at)
-    ∷ (codes "h", host_csr_at)
+    ∷ (codes "h", host_at)
+    ∷ (codes "g", guest_at)
+    ∷ (codes "arrive", arrive_at)
+    ∷ (codes "leave", leave_at)
+    ∷ (codes "shift", shift_at)
     ∷ (codes "pins", pins_at)
     ∷ (codes "entry", entry_at)
     ∷ []

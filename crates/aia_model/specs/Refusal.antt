@@ -1,6 +1,9 @@
 -- When a line is refused, and with which word.
 use Rattle.std.specs.Prelude.{ℕ, ◌+◌, ◌%◌, ◌^◌, Bool, true, false, ◌&&◌, ◌||◌, not, nat_eq, nat_lt, nat_le, is_some, is_none, List, [], ◌∷◌, length, if◌then◌else◌, Option, Some, None}
 use Rattle.std.specs.Int.{is_in_range}
+use Rattle.std.specs.Option.{option_map_or, option_or}
+use Rattle.aia_regs.specs.declared.access.Csr.{Csr}
+use Rattle.aia_regs.specs.declared.access.Op.{Op}
 use Rattle.aia_regs.specs.declared.access.Level.TheVariants as levels
 use Rattle.aia_csr.specs.declared.access.Access.{Access}
 use Rattle.aia_csr.specs.declared.access.Access.TheVariants as accesses
@@ -11,19 +14,23 @@ use Rattle.aia_file.specs.InterruptFile.{is_greatest_identity}
 use Rattle.aia_word.specs.Packed.{ones}
 use Rattle.aia_entry.specs.Translation.{is_mask, is_msi_address}
 use Rattle.aia_home.specs.declared.vm.Vm.{Vm}
-use Rattle.aia_home.specs.Vms.{vcpus_in}
+use Rattle.aia_home.specs.Vms.{Vcpu, vcpu, vcpus_in}
+use Rattle.aia_home.specs.Home.{Home, is_parked, is_resident, is_moving}
 use Rattle.aia_imsic.specs.declared.spot.Spot.{Spot}
 use Rattle.aia_imsic.specs.Map.{is_page, is_guest_page}
 use Rattle.aia_model.specs.declared.line.Line.{Line}
-use Rattle.aia_model.specs.declared.line.Line.TheVariants.{Machine, Wire, Load, Store, MachineCsr, HostCsr, Pins}
+use Rattle.aia_model.specs.declared.line.Line.TheVariants.{Machine, Wire, Load, Store, MachineCsr, HostCsr, Hgeip, Pins, GuestCsr, Ipi, Arrive, Leave, Shift}
 use Rattle.aia_model.specs.declared.line.Line.TheVariants as lines
 use Rattle.aia_model.specs.declared.answer.Answer.{Answer}
 use Rattle.aia_model.specs.declared.answer.Answer.TheVariants.{NoMachine, Again, Refused}
-use Rattle.aia_model.specs.declared.refusal.Refusal.TheVariants.{Range, Full, Illegal, Fault, Guarded, Other, NotValid}
+use Rattle.aia_model.specs.declared.refusal.Refusal.TheVariants.{Range, Full, Busy, NoFile, Away, Illegal, Virtual, Fault, Guarded, Other, NotValid, GFault}
+use Rattle.aia_model.specs.declared.refusal.Refusal.TheVariants as words
 use Rattle.aia_model.specs.Event.{History, has_machine, has_hart, sources_of}
 use Rattle.aia_model.specs.Act.{domain_at}
 use Rattle.aia_model.specs.Vms.{vms_of, has_vm, has_vcpu, mask_of}
-use Rattle.aia_model.specs.GuestFile.{named_by}
+use Rattle.aia_model.specs.Move.{move_of, hart_wanted}
+use Rattle.aia_model.specs.GuestFile.{named_by, guest_select}
+use Rattle.aia_model.specs.HomeOf.{home, free_file}
 use Rattle.aia_model.specs.FileOf.{MachineFile, SupervisorFile, page_at, select_of}
 
 -- ---- the cells: whether a word's condition holds of a line after a history
@@ -51,8 +58,8 @@ is_machine_size harts guests n sources =
 abbrev pub is_vm_size : ℕ → ℕ → Bool
 is_vm_size vcpus mask = is_mask mask && is_in_range 1 (2 ^ ones 64 mask) vcpus
 
--- `range`: a machine's or a VM's number is out of its limits, or the named source, hart or VM isn't
--- there.
+-- `range`: a machine's or a VM's number is out of its limits, or the named source, hart, VM or
+-- virtual hart isn't there.
 abbrev pub is_out_of_range : History → Line → Bool
 is_out_of_range h (Machine harts guests n sources) = not (is_machine_size harts guests n sources)
 is_out_of_range h (lines.Vm vcpus mask hart) = not (is_vm_size vcpus mask && has_hart h hart)
@@ -60,7 +67,13 @@ is_out_of_range h (Wire source level) = not (is_in_range 1 (sources_of h) source
 is_out_of_range h (lines.Msi vm addr value) = not (has_vm h vm)
 is_out_of_range h (MachineCsr hart csr op) = not (has_hart h hart)
 is_out_of_range h (HostCsr hart csr op) = not (has_hart h hart)
+is_out_of_range h (Hgeip hart) = not (has_hart h hart)
 is_out_of_range h (Pins hart) = not (has_hart h hart)
+is_out_of_range h (GuestCsr vm number csr op) = not (has_vcpu h (vcpu vm number))
+is_out_of_range h (Ipi vm number to value) = not (has_vcpu h (vcpu vm number))
+is_out_of_range h (Arrive vm number hart) = not (has_vcpu h (vcpu vm number) && has_hart h hart)
+is_out_of_range h (Leave vm number) = not (has_vcpu h (vcpu vm number))
+is_out_of_range h (Shift vm number hart) = not (has_vcpu h (vcpu vm number) && has_hart h hart)
 is_out_of_range h line = false
 
 -- `full`: as many VMs stand as may, or the VM has more virtual harts than one may, or with it all
@@ -73,17 +86,72 @@ abbrev pub is_full : History → Line → Bool
 is_full h (lines.Vm vcpus mask hart) = lacks_room (vms_of h) vcpus
 is_full h line = false
 
--- `illegal`: by the access table.
+-- The virtual hart that a line is to move: wanted parked, wanted resident, or either, but not on a
+-- move already.
+abbrev pub wanted_parked : Line → Option Vcpu
+wanted_parked (Arrive vm number hart) = Some (vcpu vm number)
+wanted_parked line = None
+
+abbrev pub wanted_resident : Line → Option Vcpu
+wanted_resident (Leave vm number) = Some (vcpu vm number)
+wanted_resident (Shift vm number hart) = Some (vcpu vm number)
+wanted_resident line = None
+
+abbrev pub wanted_still : Line → Option Vcpu
+wanted_still line = option_or (wanted_parked line) (wanted_resident line)
+
+-- Whether the virtual hart that is wanted, where one is, has a home of a kind.
+abbrev pub has_home : (Home → Bool) → History → Option Vcpu → Bool
+has_home is h None = false
+has_home is h (Some g) = is (home h g)
+
+-- `busy`: it is being moved. `home`: it is wanted parked, and is resident. `parked`: it is wanted
+-- resident, and is parked.
+abbrev pub is_busy : History → Line → Bool
+is_busy h line = has_home is_moving h (wanted_still line)
+
+abbrev pub is_resident_already : History → Line → Bool
+is_resident_already h line = has_home is_resident h (wanted_parked line)
+
+abbrev pub is_still_parked : History → Line → Bool
+is_still_parked h line = has_home is_parked h (wanted_resident line)
+
+-- `nofile`: it is to be moved to a guest file of a hart that has none free.
+abbrev pub lacks_file : History → Line → Bool
+lacks_file h line =
+    option_map_or (λ move. option_map_or (λ hart. is_none (free_file h (home h) hart))
+    (hart_wanted move) false) (move_of line) false
+
+-- `away`: the virtual hart that does something is not resident.
+abbrev pub is_away : History → Line → Bool
+is_away h (GuestCsr vm number csr op) = not (is_resident (home h (vcpu vm number)))
+is_away h (Ipi vm number to value) = not (is_resident (home h (vcpu vm number)))
+is_away h line = false
+
+-- `illegal` and `virtual`: by the access table.
 abbrev pub raises_illegal : Access → Bool
 raises_illegal accesses.Illegal = true
 raises_illegal access = false
+
+abbrev pub raises_virtual : Access → Bool
+raises_virtual accesses.Virtual = true
+raises_virtual access = false
+
+-- What an access of a virtual hart reaches.
+abbrev pub guest_access : History → Vcpu → Csr → Op → Access
+guest_access h g csr op = access_of levels.Guest csr op (guest_select h g) false
 
 abbrev pub is_illegal : History → Line → Bool
 is_illegal h (MachineCsr hart csr op) =
     raises_illegal (access_of levels.Machine csr op (select_of h (MachineFile hart)) false)
 is_illegal h (HostCsr hart csr op) =
     raises_illegal (access_of levels.Host csr op (select_of h (SupervisorFile hart)) false)
+is_illegal h (GuestCsr vm number csr op) = raises_illegal (guest_access h (vcpu vm number) csr op)
 is_illegal h line = false
+
+abbrev pub is_virtual : History → Line → Bool
+is_virtual h (GuestCsr vm number csr op) = raises_virtual (guest_access h (vcpu vm number) csr op)
+is_virtual h line = false
 
 -- `fault`: the address isn't a multiple of 4, or, of a load or a store, lies neither in a domain's
 -- control region nor in a file's page nor in memory; given the place in whose page it lies.
@@ -117,15 +185,24 @@ abbrev pub names_none : History → Line → Bool
 names_none h (lines.Msi vm addr value) = not (has_vcpu h (named_by h vm addr))
 names_none h line = false
 
+-- `gfault`: a store of a virtual hart is for the file of one that its VM does not have, of which
+-- the G stage has no record.
+-- The hypervisor extension 1.0.
+abbrev pub names_no_peer : History → Line → Bool
+names_no_peer h (Ipi vm number to value) = not (has_vcpu h (vcpu vm to))
+names_no_peer h line = false
+
 -- ---- the order
 
 -- The words with their cells, in the order in which they come.
 abbrev pub refusals : List (Answer × (History → Line → Bool))
 refusals =
     (NoMachine, lacks_machine) ∷ (Again, has_one_already) ∷ (Refused Range, is_out_of_range)
-    ∷ (Refused Full, is_full) ∷ (Refused Illegal, is_illegal) ∷ (Refused Fault, is_fault)
+    ∷ (Refused Full, is_full) ∷ (Refused Busy, is_busy) ∷ (Refused words.Home, is_resident_already)
+    ∷ (Refused words.Parked, is_still_parked) ∷ (Refused NoFile, lacks_file) ∷ (Refused Away, is_away)
+    ∷ (Refused Illegal, is_illegal) ∷ (Refused Virtual, is_virtual) ∷ (Refused Fault, is_fault)
     ∷ (Refused Guarded, is_guarded) ∷ (Refused Other, is_other) ∷ (Refused NotValid, names_none)
-    ∷ []
+    ∷ (Refused GFault, names_no_peer) ∷ []
 
 -- The first word whose cell holds, None where none does.
 abbrev pub first_refusal : History → Line → List (Answer × (History → Line → Bool)) → Option Answer

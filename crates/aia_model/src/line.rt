@@ -50,6 +50,41 @@ pub enum Line {
         csr: Csr,
         op: Op,
     },
+    /// `h H hgeip`: which guest files of a hart signal.
+    Hgeip {
+        hart: u64,
+    },
+    /// `g VM C csrr CSR` and its kin: a virtual hart reaches a CSR of its own.
+    GuestCsr {
+        vm: u64,
+        vcpu: u64,
+        csr: Csr,
+        op: Op,
+    },
+    /// `g VM C ipi C2 D`: a virtual hart stores 32 bits at the file of one of its VM.
+    Ipi {
+        vm: u64,
+        vcpu: u64,
+        to: u64,
+        value: u32,
+    },
+    /// `arrive VM C H`: moves a virtual hart from memory to a guest file of a hart.
+    Arrive {
+        vm: u64,
+        vcpu: u64,
+        hart: u64,
+    },
+    /// `leave VM C`: moves a virtual hart from its guest file to memory.
+    Leave {
+        vm: u64,
+        vcpu: u64,
+    },
+    /// `shift VM C H`: moves a virtual hart from its guest file to one of a hart.
+    Shift {
+        vm: u64,
+        vcpu: u64,
+        hart: u64,
+    },
     /// `pins H`: which of a hart's interrupt signals are high.
     Pins {
         hart: u64,

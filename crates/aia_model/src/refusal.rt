@@ -5,8 +5,20 @@ pub enum Refusal {
     Range,
     /// `full`: there is no room for a VM of so many virtual harts.
     Full,
+    /// `busy`: the virtual hart is being moved.
+    Busy,
+    /// `home`: the virtual hart is resident already.
+    Home,
+    /// `parked`: the virtual hart is parked, its interrupts in memory.
+    Parked,
+    /// `nofile`: no guest file of the hart is free.
+    NoFile,
+    /// `away`: the virtual hart is not resident: it is parked, or is being moved.
+    Away,
     /// `illegal`: the access raises an illegal-instruction exception.
     Illegal,
+    /// `virtual`: the access raises a virtual-instruction exception.
+    Virtual,
     /// `fault`: the address is in no place that is there, or isn't aligned.
     Fault,
     /// `guarded`: the address is a guest's, or in memory.
@@ -15,4 +27,6 @@ pub enum Refusal {
     Other,
     /// `notvalid`: the entry for the file that the address names is not valid.
     NotValid,
+    /// `gfault`: the VM has no virtual hart whose file the store is for.
+    GFault,
 }
