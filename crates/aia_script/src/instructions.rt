@@ -30,9 +30,6 @@ fn csr_names(level: Level) -> &'static [(&'static [u8], Csr)]
             (b"siselect", Csr::Select),
             (b"sireg", Csr::Reg),
             (b"stopei", Csr::Topei),
-            (b"stopi", Csr::Topi),
-            (b"sip", Csr::Sip),
-            (b"sie", Csr::Sie),
         ],
     }
 }
@@ -94,7 +91,7 @@ fn operand_at(level: Level, words: Words<'_>) -> Option<(Csr, u64)>
 
 /// Reads the CSR and the operation that a mnemonic and the words after it spell; `None` where they
 /// spell none.
-fn instruction_after(level: Level, mnemonic: &[u8], words: Words<'_>) -> Option<(Csr, Op)>
+pub fn instruction_after(level: Level, mnemonic: &[u8], words: Words<'_>) -> Option<(Csr, Op)>
     ensures { result ≡ instruction_after (named level) mnemonic.now (left words.entry) }
 {
     if mnemonic == b"csrr".as_slice() {
@@ -112,8 +109,8 @@ fn instruction_after(level: Level, mnemonic: &[u8], words: Words<'_>) -> Option<
     }
 }
 
-/// Reads the CSR and the operation that the words after `m H` or `h H` spell, by the level's names;
-/// `None` where they spell none.
+/// Reads the CSR and the operation that words spell, by the level's names; `None` where they spell
+/// none.
 #[tactic(auto, unfolding(aia_model::specs::Reading::instruction_at))]
 pub fn instruction_at(level: Level, words: Words<'_>) -> Option<(Csr, Op)>
     ensures { result ≡ instruction_at (named level) (left words.entry) }

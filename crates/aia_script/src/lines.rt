@@ -1,10 +1,10 @@
 //! Lines: what follows each keyword.
 
 ghost use Rattle.std.specs.Prelude.{◌≡◌};
-ghost use Rattle.aia_model.specs.Reading.{machine_at, vm_at, wire_at, load_at, store_at, msi_at, machine_csr_at, host_csr_at, pins_at, entry_at, line_after, line_at};
+ghost use Rattle.aia_model.specs.Reading.{machine_at, vm_at, wire_at, load_at, store_at, msi_at, machine_csr_at, host_at, ipi_at, guest_at, arrive_at, leave_at, shift_at, pins_at, entry_at, line_after, line_at};
 ghost use Rattle.aia_script.specs.Cursor.{left};
 
-use crate::instructions::instruction_at;
+use crate::instructions::{instruction_after, instruction_at};
 use crate::number::{bit_at, n32_at, number_at};
 use crate::words::{Words, at_end, word_at};
 use aia_model::Line;
@@ -92,13 +92,83 @@ fn machine_csr_at(words: Words<'_>) -> Option<Line>
 }
 
 /// Reads the line that the words after `h` spell; `None` where they spell none.
-#[tactic(auto, unfolding(aia_model::specs::Reading::host_csr_at))]
-fn host_csr_at(words: Words<'_>) -> Option<Line>
-    ensures { result ≡ host_csr_at (left words.entry) }
+#[tactic(auto, unfolding(aia_model::specs::Reading::host_at))]
+fn host_at(words: Words<'_>) -> Option<Line>
+    ensures { result ≡ host_at (left words.entry) }
 {
     let (hart, words) = number_at(words)?;
-    let (csr, op) = instruction_at(Level::Host, words)?;
+    let (word, words) = word_at(words)?;
+    if word == b"hgeip".as_slice() {
+        return at_end(words, Line::Hgeip { hart });
+    }
+    let (csr, op) = instruction_after(Level::Host, word, words)?;
     Some(Line::HostCsr { hart, csr, op })
+}
+
+/// Reads the line that the words after `g`, the numbers of a virtual hart and `ipi` spell; `None`
+/// where they spell none.
+#[tactic(auto, unfolding(aia_model::specs::Reading::ipi_at))]
+fn ipi_at(vm: u64, vcpu: u64, words: Words<'_>) -> Option<Line>
+    ensures { result ≡ ipi_at vm vcpu (left words.entry) }
+{
+    let (to, words) = number_at(words)?;
+    let (value, words) = n32_at(words)?;
+    at_end(
+        words,
+        Line::Ipi {
+            vm,
+            vcpu,
+            to,
+            value,
+        },
+    )
+}
+
+/// Reads the line that the words after `g` spell; `None` where they spell none.
+#[tactic(auto, unfolding(aia_model::specs::Reading::guest_at))]
+fn guest_at(words: Words<'_>) -> Option<Line>
+    ensures { result ≡ guest_at (left words.entry) }
+{
+    let (vm, words) = number_at(words)?;
+    let (vcpu, words) = number_at(words)?;
+    let (word, words) = word_at(words)?;
+    if word == b"ipi".as_slice() {
+        return ipi_at(vm, vcpu, words);
+    }
+    let (csr, op) = instruction_after(Level::Guest, word, words)?;
+    Some(Line::GuestCsr { vm, vcpu, csr, op })
+}
+
+/// Reads the line that the words after `arrive` spell; `None` where they spell none.
+#[tactic(auto, unfolding(aia_model::specs::Reading::arrive_at))]
+fn arrive_at(words: Words<'_>) -> Option<Line>
+    ensures { result ≡ arrive_at (left words.entry) }
+{
+    let (vm, words) = number_at(words)?;
+    let (vcpu, words) = number_at(words)?;
+    let (hart, words) = number_at(words)?;
+    at_end(words, Line::Arrive { vm, vcpu, hart })
+}
+
+/// Reads the line that the words after `leave` spell; `None` where they spell none.
+#[tactic(auto, unfolding(aia_model::specs::Reading::leave_at))]
+fn leave_at(words: Words<'_>) -> Option<Line>
+    ensures { result ≡ leave_at (left words.entry) }
+{
+    let (vm, words) = number_at(words)?;
+    let (vcpu, words) = number_at(words)?;
+    at_end(words, Line::Leave { vm, vcpu })
+}
+
+/// Reads the line that the words after `shift` spell; `None` where they spell none.
+#[tactic(auto, unfolding(aia_model::specs::Reading::shift_at))]
+fn shift_at(words: Words<'_>) -> Option<Line>
+    ensures { result ≡ shift_at (left words.entry) }
+{
+    let (vm, words) = number_at(words)?;
+    let (vcpu, words) = number_at(words)?;
+    let (hart, words) = number_at(words)?;
+    at_end(words, Line::Shift { vm, vcpu, hart })
 }
 
 /// Reads the line that the words after `pins` spell; `None` where they spell none.
@@ -139,7 +209,15 @@ fn line_after(keyword: &[u8], words: Words<'_>) -> Option<Line>
     } else if keyword == b"m".as_slice() {
         machine_csr_at(words)
     } else if keyword == b"h".as_slice() {
-        host_csr_at(words)
+        host_at(words)
+    } else if keyword == b"g".as_slice() {
+        guest_at(words)
+    } else if keyword == b"arrive".as_slice() {
+        arrive_at(words)
+    } else if keyword == b"leave".as_slice() {
+        leave_at(words)
+    } else if keyword == b"shift".as_slice() {
+        shift_at(words)
     } else if keyword == b"pins".as_slice() {
         pins_at(words)
     } else if keyword == b"entry".as_slice() {

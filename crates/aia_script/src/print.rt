@@ -80,11 +80,18 @@ fn push_refusal(out: &mut ArrayVec<u8, 64>, word: Refusal)
     match word {
         Refusal::Range => push_text(out, b"range"),
         Refusal::Full => push_text(out, b"full"),
+        Refusal::Busy => push_text(out, b"busy"),
+        Refusal::Home => push_text(out, b"home"),
+        Refusal::Parked => push_text(out, b"parked"),
+        Refusal::NoFile => push_text(out, b"nofile"),
+        Refusal::Away => push_text(out, b"away"),
         Refusal::Illegal => push_text(out, b"illegal"),
+        Refusal::Virtual => push_text(out, b"virtual"),
         Refusal::Fault => push_text(out, b"fault"),
         Refusal::Guarded => push_text(out, b"guarded"),
         Refusal::Other => push_text(out, b"other"),
         Refusal::NotValid => push_text(out, b"notvalid"),
+        Refusal::GFault => push_text(out, b"gfault"),
     }
 }
 

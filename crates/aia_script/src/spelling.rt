@@ -129,6 +129,53 @@ fn push_msi(out: &mut ArrayVec<u8, LINE_BYTES>, vm: u64, addr: u64, value: u32)
     push_decimal(out, value as u64);
 }
 
+/// Appends the printing spelling of an `hgeip` line to `out`, which is empty.
+#[tactic(auto, unfolding(aia_model::specs::Printing::line_text))]
+fn push_hgeip(out: &mut ArrayVec<u8, LINE_BYTES>, hart: u64)
+    requires { out.old.items ≡ [] }
+    ensures { out.new.items ≡ line_text (Line.Hgeip hart) }
+{
+    push_text(out, b"h");
+    push_decimal(out, hart);
+    push_text(out, b" hgeip");
+}
+
+/// Appends a keyword and two numbers, of a virtual hart, to `out`, which is empty.
+fn push_virtual(out: &mut ArrayVec<u8, LINE_BYTES>, keyword: &[u8], vm: u64, vcpu: u64)
+    requires empty { out.old.items ≡ [] }
+    requires short { length keyword.now ≤ 8 }
+    ensures text { out.new.items
+        ≡ keyword.now ++ 32 ∷ (decimal_text vm ++ 32 ∷ decimal_text vcpu) }
+    ensures length { array_vec_len out.new ≤ 50 }
+{
+    push_text(out, keyword);
+    push_decimal(out, vm);
+    push_decimal(out, vcpu);
+}
+
+/// Appends the printing spelling of a `g` line with a CSR instruction to `out`, which is empty.
+#[tactic(auto, unfolding(aia_model::specs::Printing::line_text), using(crate::proofs::PrintLemmas::joined_instruction))]
+fn push_guest(out: &mut ArrayVec<u8, LINE_BYTES>, vm: u64, vcpu: u64, csr: Csr, op: Op)
+    requires empty { out.old.items ≡ [] }
+    ensures text { out.new.items ≡ line_text (Line.GuestCsr vm vcpu csr op) }
+    ensures range { FitsOp op }
+{
+    push_virtual(out, b"g", vm, vcpu);
+    push_instruction(out, Level::Guest, csr, op);
+}
+
+/// Appends the printing spelling of a `g` line with `ipi` to `out`, which is empty.
+#[tactic(auto, unfolding(aia_model::specs::Printing::line_text))]
+fn push_ipi(out: &mut ArrayVec<u8, LINE_BYTES>, vm: u64, vcpu: u64, to: u64, value: u32)
+    requires { out.old.items ≡ [] }
+    ensures { out.new.items ≡ line_text (Line.Ipi vm vcpu to value) }
+{
+    push_virtual(out, b"g", vm, vcpu);
+    push_text(out, b" ipi");
+    push_decimal(out, to);
+    push_decimal(out, u64::from(value));
+}
+
 /// Appends the printing spelling of a `pins` line to `out`, which is empty.
 #[tactic(auto, unfolding(aia_model::specs::Printing::line_text))]
 fn push_pins(out: &mut ArrayVec<u8, LINE_BYTES>, hart: u64)
@@ -172,6 +219,23 @@ fn push_line(line: &Line, out: &mut ArrayVec<u8, LINE_BYTES>)
         Line::Msi { vm, addr, value } => push_msi(out, vm, addr, value),
         Line::MachineCsr { hart, csr, op } => push_access(out, b"m", hart, Level::Machine, csr, op),
         Line::HostCsr { hart, csr, op } => push_access(out, b"h", hart, Level::Host, csr, op),
+        Line::Hgeip { hart } => push_hgeip(out, hart),
+        Line::GuestCsr { vm, vcpu, csr, op } => push_guest(out, vm, vcpu, csr, op),
+        Line::Ipi {
+            vm,
+            vcpu,
+            to,
+            value,
+        } => push_ipi(out, vm, vcpu, to, value),
+        Line::Arrive { vm, vcpu, hart } => {
+            push_virtual(out, b"arrive", vm, vcpu);
+            push_decimal(out, hart);
+        }
+        Line::Leave { vm, vcpu } => push_virtual(out, b"leave", vm, vcpu),
+        Line::Shift { vm, vcpu, hart } => {
+            push_virtual(out, b"shift", vm, vcpu);
+            push_decimal(out, hart);
+        }
         Line::Pins { hart } => push_pins(out, hart),
         Line::Entry { w0, w1 } => {
             push_text(out, b"entry");
