@@ -8,13 +8,14 @@ use Rattle.aia_regs.specs.declared.access.Level.{Level}
 use Rattle.aia_regs.specs.declared.access.Level.TheVariants as levels
 use Rattle.aia_regs.specs.declared.file_registers.FileReg.{FileReg}
 use Rattle.aia_regs.specs.declared.file_registers.FileReg.TheVariants.{Odd, Outside}
-use Rattle.aia_regs.specs.FileRegisters.{register_of}
+use Rattle.aia_regs.specs.FileRegisters.{register_of, select_written}
 use Rattle.aia_csr.specs.declared.access.Access.{Access}
 use Rattle.aia_csr.specs.declared.access.Access.TheVariants as reaches
-use Rattle.aia_csr.specs.Access.{access_of, register_access, IsInTable}
-use Rattle.aia_file.specs.InterruptFile.{InterruptFile}
+use Rattle.aia_csr.specs.Access.{access_of, register_access, IsFileCsr, IsInTable}
+use Rattle.aia_file.specs.InterruptFile.{InterruptFile, SameFile}
 use Rattle.aia_file.specs.FileState.{shown}
-use Rattle.aia_imsic.specs.Imsic.{file_at}
+use Rattle.aia_imsic.specs.Imsic.{ImsicState, file_at}
+use Rattle.aia_fabric.specs.World.{World}
 use Rattle.aia_model.specs.declared.answer.Answer.TheVariants.{Wide, Refused}
 use Rattle.aia_model.specs.declared.refusal.Refusal.TheVariants.{Range, Illegal}
 use Rattle.aia_model.specs.Event.{History, has_machine, harts_of}
@@ -25,11 +26,13 @@ use Rattle.aia_model.specs.Refusal.{refusal, raises_illegal}
 use Rattle.aia_model.specs.Answer.{accepted_answer, csr_shown, csr_value}
 use Rattle.aia_model.proofs.AnswerLemmas.{access_refusal, machine_csr_refusal, host_csr_refusal}
 use Rattle.aia_model.proofs.FileLemmas.{is_file-itself, is_file-other}
+use Rattle.aia_model.specs.declared.line.Line.TheVariants.{MachineCsr, HostCsr}
+use Rattle.aia_model.specs.Move.{move_of}
 use Rattle.aia_hyp.specs.Core.{CoreState}
-use Rattle.aia_hyp.specs.HostFiles.{IsHost, HasDone, name_of, csr_line, spot_of, select_in}
+use Rattle.aia_hyp.specs.HostFiles.{IsHost, HasDone, name_of, csr_line, host_spot, select_in}
 use Rattle.aia_hyp.specs.Stands.{CoreStands, CoreTakes}
 use Rattle.aia_hyp.proofs.NameLemmas.{named_there}
-use Rattle.aia_hyp.proofs.EventLemmas.{IsHosts, one_done, accepted, refused}
+use Rattle.aia_hyp.proofs.EventLemmas.{as_it_was, hosts_line, IsHosts, one_done, accepted, refused}
 
 -- ---- what is reached
 
@@ -47,32 +50,32 @@ register_kind level Odd = tt
 register_kind level Outside = tt
 register_kind level r = refl
 
+-- a CSR that the table has at a level of the host is a file's
+pub of_file : (level : Level) (csr : Csr) → IsHost level → IsInTable level csr → IsFileCsr csr
+of_file levels.Guest csr host listed = absurd host
+of_file levels.Host csr host listed = listed
+of_file levels.Machine csr host listed = listed
+
 -- the register of the file is reached by the reg CSR alone, and is the one that the select number
 -- names
-pub file_reached : (level : Level) (csr : Csr) (op : Op) (select : ℕ) (reg : FileReg) → IsHost level → IsInTable level csr → reaches.File reg ≡ access_of level csr op select false → (csr ≡ csrs.Reg) × (register_of select ≡ reg)
-file_reached levels.Guest csr op select reg host listed e = absurd host
-file_reached level csrs.Select op select reg host listed e = absurd (cc)
-file_reached level csrs.Topei op select reg host listed e = absurd (cc)
-file_reached level csrs.Reg op select reg host listed e = (refl, subst (IsFileOrFault (register_of select)) (sym e) (register_kind level (register_of select)))
-file_reached levels.Machine csr op select reg host listed e = absurd listed
-file_reached levels.Host csr op select reg host listed e = absurd listed
+pub file_reached : (level : Level) (csr : Csr) (op : Op) (select : ℕ) (reg : FileReg) → IsFileCsr csr → reaches.File reg ≡ access_of level csr op select false → (csr ≡ csrs.Reg) × (register_of select ≡ reg)
+file_reached level csrs.Select op select reg listed e = absurd (cc)
+file_reached level csrs.Topei op select reg listed e = absurd (cc)
+file_reached level csrs.Reg op select reg listed e = (refl, subst (IsFileOrFault (register_of select)) (sym e) (register_kind level (register_of select)))
+file_reached level csr op select reg listed e = absurd listed
 
 -- the select number by the select CSR alone, the identity on top by the topei CSR alone
-pub select_reached : (level : Level) (csr : Csr) (op : Op) (select : ℕ) → IsHost level → IsInTable level csr → reaches.Select ≡ access_of level csr op select false → csr ≡ csrs.Select
-select_reached levels.Guest csr op select host listed e = absurd host
-select_reached level csrs.Select op select host listed e = refl
-select_reached level csrs.Topei op select host listed e = absurd (cc)
-select_reached level csrs.Reg op select host listed e = absurd (subst (IsFileOrFault (register_of select)) (sym e) (register_kind level (register_of select)))
-select_reached levels.Machine csr op select host listed e = absurd listed
-select_reached levels.Host csr op select host listed e = absurd listed
+pub select_reached : (level : Level) (csr : Csr) (op : Op) (select : ℕ) → IsFileCsr csr → reaches.Select ≡ access_of level csr op select false → csr ≡ csrs.Select
+select_reached level csrs.Select op select listed e = refl
+select_reached level csrs.Topei op select listed e = absurd (cc)
+select_reached level csrs.Reg op select listed e = absurd (subst (IsFileOrFault (register_of select)) (sym e) (register_kind level (register_of select)))
+select_reached level csr op select listed e = absurd listed
 
-pub top_reached : (level : Level) (csr : Csr) (op : Op) (select : ℕ) → IsHost level → IsInTable level csr → reaches.Top ≡ access_of level csr op select false → csr ≡ csrs.Topei
-top_reached levels.Guest csr op select host listed e = absurd host
-top_reached level csrs.Select op select host listed e = absurd (cc)
-top_reached level csrs.Topei op select host listed e = refl
-top_reached level csrs.Reg op select host listed e = absurd (subst (IsFileOrFault (register_of select)) (sym e) (register_kind level (register_of select)))
-top_reached levels.Machine csr op select host listed e = absurd listed
-top_reached levels.Host csr op select host listed e = absurd listed
+pub top_reached : (level : Level) (csr : Csr) (op : Op) (select : ℕ) → IsFileCsr csr → reaches.Top ≡ access_of level csr op select false → csr ≡ csrs.Topei
+top_reached level csrs.Select op select listed e = absurd (cc)
+top_reached level csrs.Topei op select listed e = refl
+top_reached level csrs.Reg op select listed e = absurd (subst (IsFileOrFault (register_of select)) (sym e) (register_kind level (register_of select)))
+top_reached level csr op select listed e = absurd listed
 
 -- ---- the line of an access
 
@@ -99,9 +102,14 @@ other_access levels.Host host h hart g csr op ne = cond-false _ _ _ (is_file-oth
 other_access levels.Guest host h hart g csr op ne = absurd host
 
 is_hosts_line : (level : Level) → IsHost level → (h : History) (hart : ℕ) (csr : Csr) (op : Op) → IsHosts h (Accepted (csr_line level hart csr op))
-is_hosts_line levels.Machine host h hart csr op = record { machine = refl; vms = refl; quiet = refl; guests = λ g. refl }
-is_hosts_line levels.Host host h hart csr op = record { machine = refl; vms = refl; quiet = refl; guests = λ g. refl }
+is_hosts_line levels.Machine host h hart csr op = hosts_line h (MachineCsr hart csr op) refl refl refl (λ g. refl)
+is_hosts_line levels.Host host h hart csr op = hosts_line h (HostCsr hart csr op) refl refl refl (λ g. refl)
 is_hosts_line levels.Guest host h hart csr op = absurd host
+
+no_move : (level : Level) → IsHost level → (hart : ℕ) (csr : Csr) (op : Op) → move_of (csr_line level hart csr op) ≡ None
+no_move levels.Machine host hart csr op = refl
+no_move levels.Host host hart csr op = refl
+no_move levels.Guest host hart csr op = absurd host
 
 -- ---- what the core promises of it
 
@@ -123,14 +131,29 @@ illegal x level host hart csr op inside table = refused x (csr_line level hart c
 
 -- an access that was done, and answered by what its CSR, of this kind, read
 pub accessed : (x y : CoreState) (level : Level) → IsHost level → (hart : ℕ) (csr kind : Csr) (op : Op) (access : Access) (value : ℕ) → hart < x.world.imsic.harts → access ≡ access_of level csr op (select_in x (name_of level hart)) false → raises_illegal access ≡ false
-    → csr ≡ kind → value ≡ csr_shown (select_in x (name_of level hart)) (shown (file_at x.world.imsic (spot_of (name_of level hart)))) kind → HasDone x y (name_of level hart) (Accesses kind op) → CoreTakes x y (csr_line level hart csr op) (Wide value)
+    → csr ≡ kind → value ≡ csr_shown (select_in x (name_of level hart)) (shown (file_at x.world.imsic (host_spot (name_of level hart)))) kind → HasDone x y (name_of level hart) (Accesses kind op) → CoreTakes x y (csr_line level hart csr op) (Wide value)
 accessed x y level host hart csr kind op access value inside table legal named read done =
     let f = name_of level hart in
     let there = named_there level host x.world.imsic hart inside in
     let line = csr_line level hart csr op in
-    accepted x y line (Wide value) (λ h stands. let file = stands.host f there in let deed : deed_at f h (Accepted line) ≡ Accesses kind op = own_access level host h hart csr op ∙ ap (λ (k : Csr). Accesses k op) named in (
+    accepted x y line (Wide value) (no_move level host hart csr op) (λ h stands. let file = stands.host f there in let deed : deed_at f h (Accepted line) ≡ Accesses kind op = own_access level host h hart csr op ∙ ap (λ (k : Csr). Accesses k op) named in (
       refusal_there x level host hart csr op access h inside table stands ∙ cond-false _ _ _ legal,
-      ap Wide (read ∙ ap (λ (k : Csr). csr_shown (select_in x f) (shown (file_at x.world.imsic (spot_of f))) k) (sym named)
-          ∙ ap (λ s. csr_shown s (shown (file_at x.world.imsic (spot_of f))) csr) file.select ∙ ap (λ (i : InterruptFile). csr_shown (select_of h f) i csr) file.file) ∙ sym (csr_accepted level host h hart csr op),
-      one_done x y h (Accepted line) f (subst (HasDone x y f) (sym deed) done) (is_hosts_line level host h hart csr op) (λ g inside ne. other_access level host h hart g csr op ne),
+      ap Wide (read ∙ ap (λ (k : Csr). csr_shown (select_in x f) (shown (file_at x.world.imsic (host_spot f))) k) (sym named)
+          ∙ ap (λ s. csr_shown s (shown (file_at x.world.imsic (host_spot f))) csr) file.select ∙ ap (λ (i : InterruptFile). csr_shown (select_of h f) i csr) file.file) ∙ sym (csr_accepted level host h hart csr op),
+      one_done x y h (Accepted line) f stands (subst (HasDone x y f) (sym deed) done) (is_hosts_line level host h hart csr op) (λ g inside ne. other_access level host h hart g csr op ne),
     ))
+
+-- ---- what each access does
+
+-- the select number alone is written
+pub select_done : (x y : CoreState) (f : FileName) (op : Op) → y.world ≡ x.world → y.leases ≡ x.leases → y.vcpus ≡ x.vcpus → select_in y f ≡ select_written op (select_in x f) → ((g : FileName) → g ≢ f → select_in y g ≡ select_in x g) → HasDone x y f (Accesses csrs.Select op)
+select_done x y f op world leases vcpus own others = record {
+  harts = ap (λ (w : World). w.imsic.harts) world;
+  guests = ap (λ (w : World). w.imsic.guests) world;
+  rest = world ∙ ap (λ (i : ImsicState). record x.world { imsic = i }) (sym (ap (λ (w : World). w.imsic) world));
+  leases = leases;
+  vcpus = vcpus;
+  done = record { file = subst (λ (w : World). SameFile (shown (file_at w.imsic (host_spot f))) (shown (file_at x.world.imsic (host_spot f)))) (sym world) (as_it_was (shown (file_at x.world.imsic (host_spot f)))); select = own };
+  files = λ spot inside ne. ap (λ (w : World). file_at w.imsic spot) world;
+  selects = others;
+}

@@ -1,6 +1,6 @@
 -- What one event more makes of a core that stands for a history, and what a line answers by its
 -- refusal.
-use Rattle.std.proofs.Common.{◌≡◌, ◌≢◌, ℕ, zero, suc, ◌-◌, ◌/◌, ◌%◌, ◌^◌, ◌<◌, ◌≤◌, Bool, true, false, ◌&&◌, nat_eq, nat_lt, nat_le, get_or, List, length, replicate, is_some, [], ◌∷◌, Option, Some, None, unwrap_or, inl, inr, refl, sym, ap, subst, ◌∙◌, arith}
+use Rattle.std.proofs.Common.{◌≡◌, ◌≢◌, ℕ, zero, suc, ◌+◌, ◌-◌, ◌*◌, ◌/◌, ◌%◌, ◌^◌, ◌<◌, ◌≤◌, Bool, true, false, ◌&&◌, nat_eq, nat_lt, nat_le, get_or, List, length, replicate, is_some, [], ◌∷◌, Option, Some, None, unwrap_or, inl, inr, refl, sym, ap, subst, ◌∙◌, arith}
 use Rattle.std.specs.Prelude.{Result, Ok, min}
 use Rattle.std.specs.Option.{option_map_or}
 use Rattle.std.proofs.lemmas.Bool.{cond-true, lt-ltb, ltb-true}
@@ -10,8 +10,6 @@ use Rattle.aia_word.specs.Sets.{has_bit}
 use Rattle.aia_home.proofs.VmLemmas.{numbered}
 use Rattle.std.proofs.lemmas.Option.{none-some}
 use Rattle.aia_regs.specs.declared.limits.TheConstants.{VCPUS}
-use Rattle.aia_regs.specs.Word.{set_after}
-use Rattle.aia_regs.specs.Request.{request_said}
 use Rattle.aia_file.specs.InterruptFile.{InterruptFile, SameFile, empty_file, signals}
 use Rattle.aia_file.specs.FileState.{FileState, shown}
 use Rattle.aia_file.proofs.FileLemmas.{same_file}
@@ -22,7 +20,15 @@ use Rattle.aia_imsic.proofs.PlaceLemmas.{kept_elsewhere}
 use Rattle.aia_mrif.specs.Mrif.{Mrif, mrif_in, pending_place, enable_place}
 use Rattle.aia_entry.specs.Tables.{TableState, table_of, entry_in_force}
 use Rattle.aia_home.specs.declared.vm.Vm.{Vm}
+use Rattle.std.proofs.lemmas.List.{length-replicate}
+use Rattle.aia_home.specs.declared.place.Place.{Place}
 use Rattle.aia_home.specs.Vms.{Vcpu, vcpus_in, is_vcpu_in, slot_of}
+use Rattle.aia_home.specs.Home.{holds}
+use Rattle.aia_home.specs.Home.Home.{Parked}
+use Rattle.aia_pool.specs.Leases.{Leases, is_out}
+use Rattle.aia_fabric.specs.declared.stage.Stage.{Stage}
+use Rattle.aia_fabric.specs.World.{no_stage}
+use Rattle.aia_fabric.specs.Changes.{spot_of}
 use Rattle.aia_fabric.specs.World.{World}
 use Rattle.aia_fabric.specs.Stores.{counted}
 use Rattle.aia_fabric.specs.Making.{IsNew}
@@ -30,81 +36,67 @@ use Rattle.aia_model.specs.declared.answer.Answer.{Answer}
 use Rattle.aia_model.specs.declared.refusal.Refusal.{Refusal}
 use Rattle.aia_model.specs.declared.line.Line.{Line}
 use Rattle.aia_model.specs.declared.line.Line.TheVariants.{Machine}
-use Rattle.aia_model.specs.Event.{Event, History, Shape, machine_of, harts_of, greatest_identity_of}
-use Rattle.aia_model.specs.Event.Event.{Accepted}
+use Rattle.aia_model.specs.Event.{Event, History, Shape, machine_of, harts_of, guests_of, greatest_identity_of}
+use Rattle.aia_model.specs.declared.msi.Msi.{Msi}
+use Rattle.aia_model.specs.Event.Event.{Accepted, Delivered}
 use Rattle.aia_model.specs.Vms.{vms_of, has_vm, has_vcpu}
-use Rattle.aia_model.specs.FileAfter.{FileDeed, select_after, file_after, select_by}
-use Rattle.aia_model.specs.FileAfter.FileDeed.{Makes, Accesses, Stores, Rests}
-use Rattle.aia_model.specs.GuestFile.{guest_deed, guest_file}
+use Rattle.aia_model.specs.FileAfter.{FileDeed, select_after, file_after}
+use Rattle.aia_model.specs.FileAfter.FileDeed.{Rests}
+use Rattle.aia_model.specs.Move.{move_of}
+use Rattle.aia_model.specs.HomeOf.{home, moved}
+use Rattle.aia_model.specs.GuestFile.{guest_deed, guest_select, guest_file}
 use Rattle.aia_model.specs.Notice.{noticed, with_notice, notices_sent}
 use Rattle.aia_model.specs.FileOf.{FileName, MachineFile, SupervisorFile, deed_at, select_of, file_of}
 use Rattle.aia_model.specs.Refusal.{refusal}
-use Rattle.aia_model.specs.Answer.{accepted_answer}
+use Rattle.aia_model.specs.Answer.{accepted_answer, whole_move}
 use Rattle.aia_model.proofs.AnswerLemmas.{answered}
 use Rattle.aia_model.proofs.FileLemmas.{file_step, select_step, file_by_step, same_or_other}
-use Rattle.aia_hyp.specs.Core.{CoreState}
-use Rattle.aia_hyp.specs.HostFiles.{FileDone, HasDone, spot_of, select_place, select_in}
-use Rattle.aia_hyp.specs.Stands.{HostStands, IsParked, CoreStands, CoreTakes, line_taken, signals_of}
+use Rattle.aia_model.proofs.MoveLemmas.{home_step}
+use Rattle.aia_hyp.specs.declared.vcpu.VcpuRecord.{VcpuRecord}
+use Rattle.aia_hyp.specs.Core.{CoreState, no_record}
+use Rattle.aia_hyp.specs.HostFiles.{FileDone, HasDone, host_spot, select_place, select_in}
+use Rattle.aia_hyp.specs.Stands.{StandsForSome, HostStands, VcpuStands, is_held, CoreStands, CoreTakes, line_served, signals_of}
+use Rattle.aia_hyp.proofs.VcpuLemmas.{IsQuiet, same_n, quiet_line, quiet_msi, select_is, guest_rests, files_alone, held_stays}
 use Rattle.aia_hyp.proofs.NameLemmas.{no_guest, is_hosts, other_spot, there_too}
 
 -- ---- one event more
-
--- what a deed at the file of a virtual hart makes of its slot, of a file of the identities 1 to n
-abbrev pub SlotDone : ℕ → FileDeed → Mrif → Mrif → Type 0
-SlotDone n (Stores offset value) old new =
-    ((i : ℕ) → i ≤ n → new.pending i ≡ set_after (request_said n offset value) old.pending i)
-    × ((i : ℕ) → new.enabled i ≡ old.enabled i)
-SlotDone n Rests old new = new ≡ old
-SlotDone n deed old new = ⊥
 
 -- the count of notices, by whom an event notices
 abbrev pub count_after : Option Vcpu → ℕ → ℕ
 count_after None count = count
 count_after (Some g) count = counted count
 
--- What an event changes: it leaves the machine's numbers, the VMs with their tables, the guest files
--- and what nobody has, and is to each file that is there the deed that was done at it, a virtual
--- hart's in its slot.
+-- What an event changes that is nothing to any home: it leaves the machine's numbers, the VMs with
+-- their tables and records, the leases and what nobody has, and is to each file that is there the
+-- deed that was done at it.
 pub record Changes (x y : CoreState) (h : History) (event : Event) : Type 0 where
-  pub machine : machine_of (event ∷ h) ≡ machine_of h
-  pub vms : vms_of (event ∷ h) ≡ vms_of h
+  pub quiet : IsQuiet h event
   pub harts : y.world.imsic.harts ≡ x.world.imsic.harts
   pub guests : y.world.imsic.guests ≡ x.world.imsic.guests
   pub greatest : y.world.n ≡ x.world.n
   pub same_vms : y.world.vms ≡ x.world.vms
   pub tables : y.world.tables ≡ x.world.tables
+  pub stages : y.world.stages ≡ x.world.stages
+  pub leases : y.leases ≡ x.leases
+  pub records : length y.vcpus ≡ length x.vcpus
   pub count : y.world.notices ≡ count_after (noticed h event) x.world.notices
-  pub host : (f : FileName) → IsThere x.world.imsic (spot_of f) → FileDone x y f (deed_at f h event)
-  pub slots : (g : Vcpu) → has_vcpu h g ≡ true → SlotDone (guest_file h g).n (guest_deed g h event) (mrif_in x.world.memory (slot_of (vms_of h) g)) (mrif_in y.world.memory (slot_of (vms_of h) g))
-  pub guest_files : (hart file : ℕ) → IsThere x.world.imsic (spots.GuestFile hart file) → file_at y.world.imsic (spots.GuestFile hart file) ≡ file_at x.world.imsic (spots.GuestFile hart file)
+  pub host : (f : FileName) → IsThere x.world.imsic (host_spot f) → FileDone x y f (deed_at f h event)
+  pub vcpus : (g : Vcpu) → has_vcpu h g ≡ true → VcpuStands x h g → VcpuStands y (event ∷ h) g
+  pub free_files : (p : Place) → IsThere x.world.imsic (spot_of p) → is_held h p ≡ false → file_at y.world.imsic (spot_of p) ≡ file_at x.world.imsic (spot_of p)
   pub no_vcpu : (g : Vcpu) → has_vcpu h g ≡ false → guest_deed g h event ≡ Rests
   pub no_slot : (q : ℕ) → vcpus_in (vms_of h) ≤ q → q < VCPUS → mrif_in y.world.memory q ≡ mrif_in x.world.memory q
 
 pub host_more : (x y : CoreState) (h : History) (event : Event) (f : FileName) → FileDone x y f (deed_at f h event) → HostStands x h f → HostStands y (event ∷ h) f
 host_more x y h event f done stands = record {
-  file = same_file _ _ done.file ∙ ap (λ s. file_after s (deed_at f h event) (shown (file_at x.world.imsic (spot_of f)))) stands.select
+  file = same_file _ _ done.file ∙ ap (λ s. file_after s (deed_at f h event) (shown (file_at x.world.imsic (host_spot f)))) stands.select
       ∙ ap (file_after (select_of h f) (deed_at f h event)) stands.file ∙ sym (file_step event h f);
   select = done.select ∙ ap (select_after (deed_at f h event)) stands.select ∙ sym (select_step event h f);
 }
 
-guest_too : (x y : CoreState) (hart file : ℕ) → y.world.imsic.harts ≡ x.world.imsic.harts → y.world.imsic.guests ≡ x.world.imsic.guests → IsThere y.world.imsic (spots.GuestFile hart file) → IsThere x.world.imsic (spots.GuestFile hart file)
-guest_too x y hart file harts guests inside = (omega (arith, inside.0, harts), inside.1, omega (arith, inside.2, guests))
+pub guest_too : (a b : ImsicState) (p : Place) → a.harts ≡ b.harts → a.guests ≡ b.guests → IsThere a (spot_of p) → IsThere b (spot_of p)
+guest_too a b p harts guests inside = (omega (arith, inside.0, harts), inside.1, omega (arith, inside.2, guests))
 
-parked_more : (w u : World) (vms : List Vm) (g : Vcpu) (select : ℕ) (deed : FileDeed) (file : InterruptFile) → u.tables ≡ w.tables → SlotDone file.n deed (mrif_in w.memory (slot_of vms g)) (mrif_in u.memory (slot_of vms g)) → IsParked w vms g file → IsParked u vms g (file_after select deed file)
-parked_more w u vms g select (Stores offset value) file tables done parked = record {
-  pending = λ i low. done.0 i low ∙ ap (λ was. set_after (request_said file.n offset value) (λ j. was) i) (parked.pending i low);
-  enabled = λ i. done.1 i ∙ parked.enabled i;
-  entry = ap (λ (ts : List TableState). entry_in_force (table_of ts g.vm) g.number) tables ∙ parked.entry;
-}
-parked_more w u vms g select Rests file tables done parked = record {
-  pending = λ i low. ap (λ (m : Mrif). m.pending i) done ∙ parked.pending i low;
-  enabled = λ i. ap (λ (m : Mrif). m.enabled i) done ∙ parked.enabled i;
-  entry = ap (λ (ts : List TableState). entry_in_force (table_of ts g.vm) g.number) tables ∙ parked.entry;
-}
-parked_more w u vms g select (Makes n) file tables done parked = absurd done
-parked_more w u vms g select (Accesses csr op) file tables done parked = absurd done
-
-counted_more : (who : Option Vcpu) (count : ℕ) → count_after who (min count (2 ^ 64 - 1)) ≡ min (with_notice who count) (2 ^ 64 - 1)
+pub counted_more : (who : Option Vcpu) (count : ℕ) → count_after who (min count (2 ^ 64 - 1)) ≡ min (with_notice who count) (2 ^ 64 - 1)
 counted_more None count = refl
 counted_more (Some g) count = omega arith
 
@@ -112,109 +104,139 @@ pub notices_step : (event : Event) (h : History) → notices_sent (event ∷ h) 
 unfolding notices_sent
 notices_step event h = refl
 
-pub greatest_too : (a b : Option Shape) → a ≡ b → option_map_or (λ (m : Shape). m.n) a 0 ≡ option_map_or (λ (m : Shape). m.n) b 0
-greatest_too a b e = ap (λ (o : Option Shape). option_map_or (λ (m : Shape). m.n) o 0) e
-
 pub one_more : (x y : CoreState) (h : History) (event : Event) → Changes x y h event → CoreStands x h → CoreStands y (event ∷ h)
 one_more x y h event changes stands =
-    let same_n : greatest_identity_of h ≡ greatest_identity_of (event ∷ h) = sym (greatest_too _ _ changes.machine) in
+    let n : greatest_identity_of h ≡ greatest_identity_of (event ∷ h) = sym (same_n _ _ changes.quiet.machine) in
+    let harts : harts_of h ≡ harts_of (event ∷ h) = sym (ap (λ (o : Option Shape). option_map_or (λ (m : Shape). m.harts) o 0) changes.quiet.machine) in
+    let guests : guests_of h ≡ guests_of (event ∷ h) = sym (ap (λ (o : Option Shape). option_map_or (λ (m : Shape). m.guests) o 0) changes.quiet.machine) in
     record {
-      there = ap (λ (o : Option Shape). is_some o) changes.machine ∙ stands.there;
-      harts = changes.harts ∙ stands.harts ∙ sym (ap (λ (o : Option Shape). option_map_or (λ (m : Shape). m.harts) o 0) changes.machine);
-      guests = changes.guests ∙ stands.guests ∙ sym (ap (λ (o : Option Shape). option_map_or (λ (m : Shape). m.guests) o 0) changes.machine);
-      greatest = changes.greatest ∙ stands.greatest ∙ same_n;
-      vms = changes.same_vms ∙ stands.vms ∙ sym changes.vms;
+      there = ap (λ (o : Option Shape). is_some o) changes.quiet.machine ∙ stands.there;
+      harts = changes.harts ∙ stands.harts ∙ harts;
+      guests = changes.guests ∙ stands.guests ∙ guests;
+      greatest = changes.greatest ∙ stands.greatest ∙ n;
+      vms = changes.same_vms ∙ stands.vms ∙ sym changes.quiet.vms;
       notices = changes.count ∙ ap (count_after (noticed h event)) stands.notices ∙ counted_more (noticed h event) (notices_sent h) ∙ ap (λ count. min count (2 ^ 64 - 1)) (sym (notices_step event h));
       host = λ f inside. let before = there_too y.world.imsic x.world.imsic f changes.harts inside in host_more x y h event f (changes.host f before) (stands.host f before);
-      vcpus = λ g inside.
-          let before : has_vcpu h g ≡ true = ap (λ vms. is_vcpu_in vms g) (sym changes.vms) ∙ inside in
-          let more = parked_more x.world y.world (vms_of h) g (select_by (guest_deed g) h) (guest_deed g h event) (guest_file h g) changes.tables (changes.slots g before) (stands.vcpus g before) in
-          subst (λ (vms : List Vm). IsParked y.world vms g (guest_file (event ∷ h) g)) (sym changes.vms) (subst (IsParked y.world (vms_of h) g) (sym (file_by_step (guest_deed g) event h)) more);
-      free = λ hart file inside. let before = guest_too x y hart file changes.harts changes.guests inside in
-          ap shown (changes.guest_files hart file before) ∙ stands.free hart file before ∙ ap empty_file same_n;
+      records = changes.records ∙ stands.records ∙ ap vcpus_in (sym changes.quiet.vms);
+      vcpus = λ g inside. let before = was_there g inside in changes.vcpus g before (stands.vcpus g before);
+      lease_harts = ap (λ (l : Leases). l.harts) changes.leases ∙ stands.lease_harts ∙ harts;
+      lease_guests = ap (λ (l : Leases). l.guests) changes.leases ∙ stands.lease_guests ∙ guests;
+      lease_count = ap (λ (l : Leases). length l.out) changes.leases ∙ stands.lease_count ∙ (λ k. harts k * guests k);
+      leases = λ p inside. ap (λ l. is_out l p) changes.leases ∙ stands.leases p (place_before p inside) ∙ sym (held_stays h event changes.quiet p);
+      held = λ g p inside holding. place_after p (stands.held g p (was_there g inside) (ap (holds p) (sym (changes.quiet.homes g)) ∙ holding));
+      apart = λ a b p ia ib ha hb. stands.apart a b p (was_there a ia) (was_there b ib) (ap (holds p) (sym (changes.quiet.homes a)) ∙ ha) (ap (holds p) (sym (changes.quiet.homes b)) ∙ hb);
+      free = λ p inside none.
+          let before = place_before p inside in
+          let was : is_held h p ≡ false = sym (held_stays h event changes.quiet p) ∙ none in
+          ap shown (changes.free_files p before was) ∙ stands.free p before was ∙ ap empty_file n;
       no_vcpu = λ g outside.
-          let before : has_vcpu h g ≡ false = ap (λ vms. is_vcpu_in vms g) (sym changes.vms) ∙ outside in
-          file_by_step (guest_deed g) event h ∙ ap (λ deed. file_after (select_by (guest_deed g) h) deed (guest_file h g)) (changes.no_vcpu g before) ∙ stands.no_vcpu g before ∙ ap empty_file same_n;
+          let before = was_missing g outside in
+          let was = stands.no_vcpu g before in (
+            file_by_step (guest_deed g) event h ∙ ap (λ deed. file_after (guest_select h g) deed (guest_file h g)) (changes.no_vcpu g before) ∙ was.0 ∙ ap empty_file n,
+            select_is event h g ∙ ap (λ deed. select_after deed (guest_select h g)) (changes.no_vcpu g before) ∙ was.1,
+            changes.quiet.homes g ∙ was.2,
+          );
       no_entry = λ g inside outside.
-          let there : has_vm h g.vm ≡ true = ap (λ (vms : List Vm). nat_lt g.vm (length vms)) (sym changes.vms) ∙ inside in
-          let before : has_vcpu h g ≡ false = ap (λ vms. is_vcpu_in vms g) (sym changes.vms) ∙ outside in
-          ap (λ (ts : List TableState). entry_in_force (table_of ts g.vm) g.number) changes.tables ∙ stands.no_entry g there before;
-      no_slot = λ q i past few.
-          let before : vcpus_in (vms_of h) ≤ q = subst (λ (vms : List Vm). vcpus_in vms ≤ q) changes.vms past in
+          let there : has_vm h g.vm ≡ true = ap (λ (vms : List Vm). nat_lt g.vm (length vms)) (sym changes.quiet.vms) ∙ inside in
+          ap (λ (ts : List TableState). entry_in_force (table_of ts g.vm) g.number) changes.tables ∙ stands.no_entry g there (was_missing g outside);
+      no_slot = λ q past few.
+          let before : vcpus_in (vms_of h) ≤ q = subst (λ (vms : List Vm). vcpus_in vms ≤ q) changes.quiet.vms past in
           let same = changes.no_slot q before few in
-          let empty = stands.no_slot q i before few in (ap (λ (m : Mrif). m.pending i) same ∙ empty.0, ap (λ (m : Mrif). m.enabled i) same ∙ empty.1);
+          let empty = stands.no_slot q before few in
+          (λ i. ap (λ (m : Mrif). m.pending i) same ∙ empty.0 i, λ i. ap (λ (m : Mrif). m.enabled i) same ∙ empty.1 i, ap (λ (ss : List Stage). get_or ss q no_stage) changes.stages ∙ empty.2);
     }
+  where
+    was_there : (g : Vcpu) → has_vcpu (event ∷ h) g ≡ true → has_vcpu h g ≡ true
+    was_there g inside = ap (λ vms. is_vcpu_in vms g) (sym changes.quiet.vms) ∙ inside
+
+    was_missing : (g : Vcpu) → has_vcpu (event ∷ h) g ≡ false → has_vcpu h g ≡ false
+    was_missing g outside = ap (λ vms. is_vcpu_in vms g) (sym changes.quiet.vms) ∙ outside
+
+    place_before : (p : Place) → IsThere y.world.imsic (spot_of p) → IsThere x.world.imsic (spot_of p)
+    place_before p inside = guest_too y.world.imsic x.world.imsic p changes.harts changes.guests inside
+
+    place_after : (p : Place) → IsThere x.world.imsic (spot_of p) → IsThere y.world.imsic (spot_of p)
+    place_after p inside = guest_too x.world.imsic y.world.imsic p (sym changes.harts) (sym changes.guests) inside
 
 -- ---- events of the host, which are nothing to guests
 
 pub record IsHosts (h : History) (event : Event) : Type 0 where
-  pub machine : machine_of (event ∷ h) ≡ machine_of h
-  pub vms : vms_of (event ∷ h) ≡ vms_of h
-  pub quiet : noticed h event ≡ None
+  pub quiet : IsQuiet h event
+  pub none : noticed h event ≡ None
   pub guests : (g : Vcpu) → guest_deed g h event ≡ Rests
+
+pub hosts_line : (h : History) (line : Line) → machine_of (Accepted line ∷ h) ≡ machine_of h → vms_of (Accepted line ∷ h) ≡ vms_of h → noticed h (Accepted line) ≡ None → ((g : Vcpu) → guest_deed g h (Accepted line) ≡ Rests) → IsHosts h (Accepted line)
+hosts_line h line machine vms none guests = record { quiet = quiet_line h line machine vms; none = none; guests = guests }
+
+pub hosts_msi : (h : History) (msi : Msi) → IsHosts h (Delivered msi)
+hosts_msi h msi = record { quiet = quiet_msi h msi; none = refl; guests = λ g. refl }
 
 -- nothing was done at a file
 pub as_it_was : (file : InterruptFile) → SameFile file file
 as_it_was file = record { n = refl; pending = λ i. refl; enabled = λ i. refl; threshold = refl; delivery = refl }
 
-slot_as_it_was : (n : ℕ) (deed : FileDeed) (w u : World) (q : ℕ) → deed ≡ Rests → u.memory ≡ w.memory → SlotDone n deed (mrif_in w.memory q) (mrif_in u.memory q)
-slot_as_it_was n deed w u q rests memory = subst (λ (d : FileDeed). SlotDone n d (mrif_in w.memory q) (mrif_in u.memory q)) (sym rests) (ap (λ words. mrif_in words q) memory)
-
--- an event of the host, where files alone may have changed
-host_alone : (x y : CoreState) (h : History) (event : Event) → IsHosts h event → y.world ≡ record x.world { imsic = y.world.imsic } → y.world.imsic.harts ≡ x.world.imsic.harts → y.world.imsic.guests ≡ x.world.imsic.guests
-    → ((f : FileName) → IsThere x.world.imsic (spot_of f) → FileDone x y f (deed_at f h event))
-    → ((hart file : ℕ) → IsThere x.world.imsic (spots.GuestFile hart file) → file_at y.world.imsic (spots.GuestFile hart file) ≡ file_at x.world.imsic (spots.GuestFile hart file))
+-- an event of the host, where its files alone may have changed
+host_alone : (x y : CoreState) (h : History) (event : Event) → IsHosts h event → y.world ≡ record x.world { imsic = y.world.imsic } → y.leases ≡ x.leases → y.vcpus ≡ x.vcpus → y.world.imsic.harts ≡ x.world.imsic.harts → y.world.imsic.guests ≡ x.world.imsic.guests
+    → ((f : FileName) → IsThere x.world.imsic (host_spot f) → FileDone x y f (deed_at f h event))
+    → ((p : Place) → IsThere x.world.imsic (spot_of p) → file_at y.world.imsic (spot_of p) ≡ file_at x.world.imsic (spot_of p))
+    → ((g : Vcpu) (p : Place) → has_vcpu h g ≡ true → holds p (home h g) ≡ true → IsThere x.world.imsic (spot_of p))
     → Changes x y h event
-host_alone x y h event hosts rest harts guests files guest_files =
-    let memory = ap (λ (w : World). w.memory) rest in
+host_alone x y h event hosts rest leases vcpus harts guests files guest_files held =
+    let vms = ap (λ (w : World). w.vms) rest in
     record {
-      machine = hosts.machine;
-      vms = hosts.vms;
+      quiet = hosts.quiet;
       harts = harts;
       guests = guests;
       greatest = ap (λ (w : World). w.n) rest;
-      same_vms = ap (λ (w : World). w.vms) rest;
+      same_vms = vms;
       tables = ap (λ (w : World). w.tables) rest;
-      count = ap (λ (w : World). w.notices) rest ∙ ap (λ who. count_after who x.world.notices) (sym hosts.quiet);
+      stages = ap (λ (w : World). w.stages) rest;
+      leases = leases;
+      records = ap (λ (rs : List VcpuRecord). length rs) vcpus;
+      count = ap (λ (w : World). w.notices) rest ∙ ap (λ who. count_after who x.world.notices) (sym hosts.none);
       host = files;
-      slots = λ g inside. slot_as_it_was (guest_file h g).n (guest_deed g h event) x.world y.world (slot_of (vms_of h) g) (hosts.guests g) memory;
-      guest_files = guest_files;
+      vcpus = λ g inside p. guest_rests x y h event g hosts.quiet (record { n = ap (λ (w : World). w.n) rest; vms = vms; harts = harts; guests = guests }) (hosts.guests g) (λ k. get_or (vcpus k) (slot_of (vms k) g) no_record)
+          (files_alone x.world y.world g (home h g) rest (λ q holding. guest_files q (held g q inside holding))) p;
+      free_files = λ p inside none. guest_files p inside;
       no_vcpu = λ g outside. hosts.guests g;
-      no_slot = λ q past few. ap (λ words. mrif_in words q) memory;
+      no_slot = λ q past few. ap (λ (w : World). mrif_in w.memory q) rest;
     }
 
 -- an event that is nothing to any file that is there
-pub nothing_done : (x : CoreState) (h : History) (event : Event) → IsHosts h event → ((f : FileName) → IsThere x.world.imsic (spot_of f) → deed_at f h event ≡ Rests) → Changes x x h event
-nothing_done x h event hosts rests =
-    host_alone x x h event hosts refl refl refl (λ f inside. subst (FileDone x x f) (sym (rests f inside)) (record { file = as_it_was (shown (file_at x.world.imsic (spot_of f))); select = refl })) (λ hart file inside. refl)
+pub nothing_done : (x : CoreState) (h : History) (event : Event) → CoreStands x h → IsHosts h event → ((f : FileName) → IsThere x.world.imsic (host_spot f) → deed_at f h event ≡ Rests) → Changes x x h event
+nothing_done x h event stands hosts rests =
+    host_alone x x h event hosts refl refl refl refl refl (λ f inside. subst (FileDone x x f) (sym (rests f inside)) (record { file = as_it_was (shown (file_at x.world.imsic (host_spot f))); select = refl })) (λ p inside. refl) stands.held
 
 -- nothing was done at one file where something was done at another
-pub nothing_elsewhere : (x y : CoreState) (f g : FileName) (deed : FileDeed) → HasDone x y f deed → IsThere x.world.imsic (spot_of g) → g ≢ f → FileDone x y g Rests
+pub nothing_elsewhere : (x y : CoreState) (f g : FileName) (deed : FileDeed) → HasDone x y f deed → IsThere x.world.imsic (host_spot g) → g ≢ f → FileDone x y g Rests
 nothing_elsewhere x y f g deed done inside ne = record {
-  file = subst (λ (file : FileState). SameFile (shown file) (shown (file_at x.world.imsic (spot_of g)))) (sym (done.files (spot_of g) inside (other_spot f g ne))) (as_it_was (shown (file_at x.world.imsic (spot_of g))));
+  file = subst (λ (file : FileState). SameFile (shown file) (shown (file_at x.world.imsic (host_spot g)))) (sym (done.files (host_spot g) inside (other_spot f g ne))) (as_it_was (shown (file_at x.world.imsic (host_spot g))));
   select = done.selects g ne;
 }
 
 -- an event that is a deed at one file, where it was done, and nothing to the others
-pub one_done : (x y : CoreState) (h : History) (event : Event) (f : FileName) → HasDone x y f (deed_at f h event) → IsHosts h event
-    → ((g : FileName) → IsThere x.world.imsic (spot_of g) → g ≢ f → deed_at g h event ≡ Rests) → Changes x y h event
-one_done x y h event f done hosts rests =
-    host_alone x y h event hosts done.rest done.harts done.guests
+pub one_done : (x y : CoreState) (h : History) (event : Event) (f : FileName) → CoreStands x h → HasDone x y f (deed_at f h event) → IsHosts h event
+    → ((g : FileName) → IsThere x.world.imsic (host_spot g) → g ≢ f → deed_at g h event ≡ Rests) → Changes x y h event
+one_done x y h event f stands done hosts rests =
+    host_alone x y h event hosts done.rest done.leases done.vcpus done.harts done.guests
     (λ g inside. elim (same_or_other g f) [
       | inl e ↦ subst (λ (n : FileName). FileDone x y n (deed_at n h event)) (sym e) done.done
       | inr ne ↦ subst (FileDone x y g) (sym (rests g inside ne)) (nothing_elsewhere x y f g (deed_at f h event) done inside ne)
     ])
-    (λ hart file inside. done.files (spots.GuestFile hart file) inside (no_guest (spot_of f) (is_hosts f) hart file))
+    (λ p inside. done.files (spot_of p) inside (no_guest (host_spot f) (is_hosts f) p.hart p.file))
+    stands.held
 
 -- a deed was done at one file, which stands now in the place of the old one
-pub file_done : (x y : CoreState) (f : FileName) (deed : FileDeed) (spot : Spot) → spot ≡ spot_of f → IsThere x.world.imsic spot → y.world ≡ record x.world { imsic = with_file x.world.imsic spot (file_at y.world.imsic spot) } → y.selects ≡ x.selects
+pub file_done : (x y : CoreState) (f : FileName) (deed : FileDeed) (spot : Spot) → spot ≡ host_spot f → IsThere x.world.imsic spot → y.world ≡ record x.world { imsic = with_file x.world.imsic spot (file_at y.world.imsic spot) } → y.leases ≡ x.leases → y.vcpus ≡ x.vcpus → y.selects ≡ x.selects
     → SameFile (shown (file_at y.world.imsic spot)) (file_after (select_in x f) deed (shown (file_at x.world.imsic spot))) → select_after deed (select_in x f) ≡ select_in x f → HasDone x y f deed
-file_done x y f deed spot named there world selects done select =
+file_done x y f deed spot named there world leases vcpus selects done select =
     let imsic : y.world.imsic ≡ with_file x.world.imsic spot (file_at y.world.imsic spot) = ap (λ (w : World). w.imsic) world in
     record {
       harts = ap (λ (i : ImsicState). i.harts) imsic;
       guests = ap (λ (i : ImsicState). i.guests) imsic;
       rest = world ∙ ap (λ (i : ImsicState). record x.world { imsic = i }) (sym imsic);
+      leases = leases;
+      vcpus = vcpus;
       done = record {
         file = subst (λ (s : Spot). SameFile (shown (file_at y.world.imsic s)) (file_after (select_in x f) deed (shown (file_at x.world.imsic s)))) named done;
         select = ap (λ xs. get_or xs (select_place f) 0) selects ∙ sym select;
@@ -228,12 +250,14 @@ pub kept_file : (w : World) (spot : Spot) → w ≡ record w { imsic = with_file
 kept_file w spot = ap (λ (files : List FileState). record w { imsic = record w.imsic { files = files } }) (sym (set-get_or w.imsic.files (place_of w.imsic spot) no_file))
 
 -- a deed that leaves its file and select number
-pub none_done : (x : CoreState) (f : FileName) (deed : FileDeed) → file_after (select_in x f) deed (shown (file_at x.world.imsic (spot_of f))) ≡ shown (file_at x.world.imsic (spot_of f)) → select_after deed (select_in x f) ≡ select_in x f → HasDone x x f deed
+pub none_done : (x : CoreState) (f : FileName) (deed : FileDeed) → file_after (select_in x f) deed (shown (file_at x.world.imsic (host_spot f))) ≡ shown (file_at x.world.imsic (host_spot f)) → select_after deed (select_in x f) ≡ select_in x f → HasDone x x f deed
 none_done x f deed file select = record {
   harts = refl;
   guests = refl;
   rest = refl;
-  done = record { file = subst (SameFile (shown (file_at x.world.imsic (spot_of f)))) (sym file) (as_it_was (shown (file_at x.world.imsic (spot_of f)))); select = sym select };
+  leases = refl;
+  vcpus = refl;
+  done = record { file = subst (SameFile (shown (file_at x.world.imsic (host_spot f)))) (sym file) (as_it_was (shown (file_at x.world.imsic (host_spot f)))); select = sym select };
   files = λ spot inside ne. refl;
   selects = λ g ne. refl;
 }
@@ -242,21 +266,21 @@ none_done x f deed file select = record {
 
 -- for each history its refusal, the answer and what is left
 pub by_refusal : (x y : CoreState) (line : Line) (given : Answer)
-    → ((h : History) → CoreStands x h → (r : Option Answer) × (refusal h line ≡ r) × (given ≡ unwrap_or r (accepted_answer h line)) × CoreStands y (line_taken r h line) × ((word : Answer) → r ≡ Some word → y ≡ x)) → CoreTakes x y line given
+    → ((h : History) → CoreStands x h → (r : Option Answer) × (refusal h line ≡ r) × (given ≡ unwrap_or r (accepted_answer h line)) × CoreStands y (line_served r h line) × ((word : Answer) → r ≡ Some word → y ≡ x)) → CoreTakes x y line given
 by_refusal x y line given by = record {
   answers = λ h stands. let r = by h stands in r.2 ∙ sym (answered h line r.0 r.1);
-  stands = λ h stands. let r = by h stands in subst (λ (o : Option Answer). CoreStands y (line_taken o h line)) (sym r.1) r.3;
+  stands = λ h stands. let r = by h stands in subst (λ (o : Option Answer). CoreStands y (line_served o h line)) (sym r.1) r.3;
   unchanged = λ h word stands is. let r = by h stands in r.4 word (sym r.1 ∙ is);
 }
 
--- an accepted line, whatever it makes of the core
-pub taken : (x y : CoreState) (line : Line) (given : Answer)
+-- an accepted line that makes no move, whatever it makes of the core
+pub taken : (x y : CoreState) (line : Line) (given : Answer) → move_of line ≡ None
     → ((h : History) → CoreStands x h → (refusal h line ≡ None) × (given ≡ accepted_answer h line) × CoreStands y (Accepted line ∷ h)) → CoreTakes x y line given
-taken x y line given by = by_refusal x y line given (λ h stands. let r = by h stands in (None, r.0, r.1, r.2, λ word e. absurd (none-some word e)))
+taken x y line given still by = by_refusal x y line given (λ h stands. let r = by h stands in (None, r.0, r.1, subst (λ o. CoreStands y (option_map_or (whole_move h) o (Accepted line ∷ h))) (sym still) r.2, λ word e. absurd (none-some word e)))
 
-pub accepted : (x y : CoreState) (line : Line) (given : Answer)
+pub accepted : (x y : CoreState) (line : Line) (given : Answer) → move_of line ≡ None
     → ((h : History) → CoreStands x h → (refusal h line ≡ None) × (given ≡ accepted_answer h line) × Changes x y h (Accepted line)) → CoreTakes x y line given
-accepted x y line given by = taken x y line given (λ h stands. let r = by h stands in (r.0, r.1, one_more x y h (Accepted line) r.2 stands))
+accepted x y line given still by = taken x y line given still (λ h stands. let r = by h stands in (r.0, r.1, one_more x y h (Accepted line) r.2 stands))
 
 pub refused : (x : CoreState) (line : Line) (word : Answer) → ((h : History) → CoreStands x h → refusal h line ≡ Some word) → CoreTakes x x line word
 refused x line word is = by_refusal x x line word (λ h stands. (Some word, is h stands, refl, stands, λ w e. refl))
@@ -285,8 +309,28 @@ nobody g there = let low = numbered [] g.vm g.number there in omega (arith, low)
 none_below_0 : (n : ℕ) → nat_lt n 0 ≡ true → ⊥
 none_below_0 n low = let bad = ltb-true n 0 low in omega (arith, bad)
 
-pub begun : (x : CoreState) (harts guests n sources : ℕ) → IsNew x.world harts guests n → x.selects ≡ replicate 8 0 → CoreStands x (Accepted (Machine harts guests n sources) ∷ [])
-begun x harts guests n sources new selects =
+no_held : (p : Place) → is_held [] p ≡ false
+no_held p = refl
+
+no_out : (n p : ℕ) → get_or (replicate n false) p false ≡ false
+no_out zero p = refl
+no_out (suc n) zero = refl
+no_out (suc n) (suc p) = no_out n p
+
+no_stage_at : (n p : ℕ) → get_or (replicate n no_stage) p no_stage ≡ no_stage
+no_stage_at zero p = refl
+no_stage_at (suc n) zero = refl
+no_stage_at (suc n) (suc p) = no_stage_at n p
+
+parked_at_first : (event : Event) (g : Vcpu) → moved [] (home []) event g ≡ Parked → home (event ∷ []) g ≡ Parked
+parked_at_first event g e = home_step event [] g ∙ e
+
+home_nowhere : (g : Vcpu) → home [] g ≡ Parked
+unfolding home
+home_nowhere g = refl
+
+pub begun : (x : CoreState) (harts guests n sources : ℕ) → IsNew x.world harts guests n → x.leases ≡ record { harts = harts; guests = guests; out = replicate (harts * guests) false } → x.vcpus ≡ [] → x.selects ≡ replicate 8 0 → CoreStands x (Accepted (Machine harts guests n sources) ∷ [])
+begun x harts guests n sources new leases vcpus selects =
     let event = Accepted (Machine harts guests n sources) in
     record {
       there = refl;
@@ -295,12 +339,23 @@ begun x harts guests n sources new selects =
       greatest = new.greatest;
       vms = new.vms;
       notices = new.notices ∙ sym (ap (λ count. min count (2 ^ 64 - 1)) (notices_step event [] ∙ none_sent));
-      host = λ f inside. record { file = same_file _ _ (new.files.each (spot_of f) inside) ∙ sym (file_step event [] f); select = no_selects x f selects ∙ sym (select_step event [] f) };
+      host = λ f inside. record { file = same_file _ _ (new.files.each (host_spot f) inside) ∙ sym (file_step event [] f); select = no_selects x f selects ∙ sym (select_step event [] f) };
+      records = ap (λ (rs : List VcpuRecord). length rs) vcpus;
       vcpus = λ g inside. absurd (nobody g inside);
-      free = λ hart file inside. same_file _ _ (new.files.each (spots.GuestFile hart file) inside);
-      no_vcpu = λ g outside. file_by_step (guest_deed g) event [];
+      lease_harts = ap (λ (l : Leases). l.harts) leases;
+      lease_guests = ap (λ (l : Leases). l.guests) leases;
+      lease_count = ap (λ (l : Leases). length l.out) leases ∙ length-replicate (harts * guests) false;
+      leases = λ p inside. ap (λ l. is_out l p) leases ∙ no_out (harts * guests) (p.hart * guests + p.file - 1);
+      held = λ g p inside holding. absurd (nobody g inside);
+      apart = λ a b p ia ib ha hb. absurd (nobody a ia);
+      free = λ p inside none. same_file _ _ (new.files.each (spot_of p) inside);
+      no_vcpu = λ g outside. (file_by_step (guest_deed g) event [], select_is event [] g, home_step event [] g ∙ home_nowhere g);
       no_entry = λ g inside outside. absurd (none_below_0 g.vm inside);
-      no_slot = λ q i past few. rw (new.memory) (no_bit (nat_le i 2047) 0xc00 (pending_place q (i / 64)) (i % 64), no_bit (nat_le i 2047) 0xc00 (enable_place q (i / 64)) (i % 64));
+      no_slot = λ q past few. (
+        λ i. rw (new.memory) (no_bit (nat_le i 2047) 0xc00 (pending_place q (i / 64)) (i % 64)),
+        λ i. rw (new.memory) (no_bit (nat_le i 2047) 0xc00 (enable_place q (i / 64)) (i % 64)),
+        ap (λ ss. get_or ss q no_stage) new.stages ∙ no_stage_at 16 q,
+      );
     }
 
 -- ---- signals
@@ -311,3 +366,8 @@ signals_there x h hart machine supervisor inside by_machine by_supervisor stands
     ap (λ b. Ok (b, supervisor)) (by_machine ∙ ap signals (stands.host (MachineFile hart) inside).file)
     ∙ ap (λ b. Ok (signals (file_of h (MachineFile hart)), b)) (by_supervisor ∙ ap signals (stands.host (SupervisorFile hart) inside).file)
     ∙ sym (cond-true _ _ _ (lt-ltb hart (harts_of h) (omega (arith, stands.harts))))
+
+-- ---- so it stands for some history still
+
+pub still : (x y : CoreState) (line : Line) (given : Answer) → CoreTakes x y line given → StandsForSome x → StandsForSome y
+still x y line given takes some = record { past = line_served (refusal some.past line) some.past line; stands = takes.stands some.past some.stands }

@@ -8,7 +8,7 @@ use Rattle.aia_imsic.specs.declared.spot.Spot.{Spot}
 use Rattle.aia_imsic.specs.declared.spot.Spot.TheVariants as spots
 use Rattle.aia_imsic.specs.Imsic.{ImsicState, IsThere}
 use Rattle.aia_model.specs.FileOf.{FileName, MachineFile, SupervisorFile}
-use Rattle.aia_hyp.specs.HostFiles.{IsHost, name_of, spot_of, is_host_spot, select_place}
+use Rattle.aia_hyp.specs.HostFiles.{IsHost, name_of, host_spot, is_host_spot, select_place}
 
 -- ---- the way back
 
@@ -17,11 +17,11 @@ name_at (spots.MachineFile hart) = MachineFile hart
 name_at (spots.HostFile hart) = SupervisorFile hart
 name_at spot = MachineFile 0
 
-pub named_back : (f : FileName) → name_at (spot_of f) ≡ f
+pub named_back : (f : FileName) → name_at (host_spot f) ≡ f
 named_back (MachineFile hart) = refl
 named_back (SupervisorFile hart) = refl
 
-pub at_name : (spot : Spot) → is_host_spot spot ≡ true → spot ≡ spot_of (name_at spot)
+pub at_name : (spot : Spot) → is_host_spot spot ≡ true → spot ≡ host_spot (name_at spot)
 at_name (spots.MachineFile hart) host = refl
 at_name (spots.HostFile hart) host = refl
 at_name spot host = absurd (cc)
@@ -32,11 +32,11 @@ no_guest spot host hart g e = let bad : false ≡ true = ap is_host_spot e ∙ h
 pub not_nowhere : (spot : Spot) → is_host_spot spot ≡ true → spot ≢ spots.Nowhere
 not_nowhere spot host e = let bad : true ≡ false = sym host ∙ ap is_host_spot e in absurd (cc)
 
-pub is_hosts : (f : FileName) → is_host_spot (spot_of f) ≡ true
+pub is_hosts : (f : FileName) → is_host_spot (host_spot f) ≡ true
 is_hosts (MachineFile hart) = refl
 is_hosts (SupervisorFile hart) = refl
 
-pub other_spot : (f g : FileName) → g ≢ f → spot_of g ≢ spot_of f
+pub other_spot : (f g : FileName) → g ≢ f → host_spot g ≢ host_spot f
 other_spot f g ne e = ne (sym (named_back g) ∙ ap name_at e ∙ named_back f)
 
 -- ---- the same of select numbers
@@ -57,11 +57,11 @@ other_place f g ne e = ne (sym (named_by_place g) ∙ ap name_by_place e ∙ nam
 
 -- ---- which are there
 
-pub there_too : (a b : ImsicState) (f : FileName) → a.harts ≡ b.harts → IsThere a (spot_of f) → IsThere b (spot_of f)
+pub there_too : (a b : ImsicState) (f : FileName) → a.harts ≡ b.harts → IsThere a (host_spot f) → IsThere b (host_spot f)
 there_too a b (MachineFile hart) e inside = omega arith
 there_too a b (SupervisorFile hart) e inside = omega arith
 
-pub named_there : (level : Level) → IsHost level → (i : ImsicState) (hart : ℕ) → hart < i.harts → IsThere i (spot_of (name_of level hart))
+pub named_there : (level : Level) → IsHost level → (i : ImsicState) (hart : ℕ) → hart < i.harts → IsThere i (host_spot (name_of level hart))
 named_there levels.Machine host i hart inside = inside
 named_there levels.Host host i hart inside = inside
 named_there levels.Guest host i hart inside = absurd host

@@ -16,21 +16,21 @@ use Rattle.aia_model.specs.Act.{domain_at}
 use Rattle.aia_model.specs.FileOf.{FileName, MachineFile, SupervisorFile, is_at}
 use Rattle.aia_model.specs.Refusal.{guards}
 use Rattle.aia_model.proofs.AnswerLemmas.{place_refusal}
-use Rattle.aia_hyp.specs.HostFiles.{spot_of, is_host_spot}
+use Rattle.aia_hyp.specs.HostFiles.{host_spot, is_host_spot}
 use Rattle.aia_hyp.specs.Stands.{core_refusal}
 
 -- ---- pages of the host's files
 
-pub page_of_name : (i : ImsicState) (addr : ℕ) (f : FileName) → i.harts ≤ 4 → IsThere i (spot_of f) → is_at f addr ≡ true → spot_at i.harts i.guests addr ≡ spot_of f
+pub page_of_name : (i : ImsicState) (addr : ℕ) (f : FileName) → i.harts ≤ 4 → IsThere i (host_spot f) → is_at f addr ≡ true → spot_at i.harts i.guests addr ≡ host_spot f
 page_of_name i addr (MachineFile hart) few inside here = spot_of_machine i.harts i.guests addr hart inside here
 page_of_name i addr (SupervisorFile hart) few inside here = spot_of_host i.harts i.guests addr hart few inside here
 
-pub name_at_page : (i : ImsicState) (addr : ℕ) (f : FileName) → spot_at i.harts i.guests addr ≡ spot_of f → is_at f addr ≡ true
+pub name_at_page : (i : ImsicState) (addr : ℕ) (f : FileName) → spot_at i.harts i.guests addr ≡ host_spot f → is_at f addr ≡ true
 name_at_page i addr (MachineFile hart) e = (machine_of_spot i.harts i.guests addr hart e).1
 name_at_page i addr (SupervisorFile hart) e = (host_of_spot i.harts i.guests addr hart e).1
 
 -- the address is in no page of another file that is there
-pub elsewhere : (i : ImsicState) (addr : ℕ) (spot : Spot) (g : FileName) → i.harts ≤ 4 → spot ≡ spot_at i.harts i.guests addr → IsThere i (spot_of g) → spot_of g ≢ spot → is_at g addr ≡ false
+pub elsewhere : (i : ImsicState) (addr : ℕ) (spot : Spot) (g : FileName) → i.harts ≤ 4 → spot ≡ spot_at i.harts i.guests addr → IsThere i (host_spot g) → host_spot g ≢ spot → is_at g addr ≡ false
 elsewhere i addr spot g few at inside other = elim (cases_Bool (is_at g addr)) [
   | inl here ↦ absurd (other (sym (at ∙ page_of_name i addr g few inside here)))
   | inr e ↦ e
@@ -87,6 +87,15 @@ in_a_region i addr there =
     nothing : (aligned : Bool) → cond (not (aligned && false)) (Some Fault) None ≡ Some Fault
     nothing true = refl
     nothing false = refl
+
+-- so a place of the core's lies in no domain
+pub is_outside : (i : ImsicState) (addr : ℕ) → ◌≡◌ {A = Option Refusal} None (core_refusal (spot_at i.harts i.guests addr) addr) → domain_at addr ≡ None
+is_outside i addr free = by_domain (domain_at addr) refl
+  where
+    by_domain : (o : Option DomainName) → domain_at addr ≡ o → domain_at addr ≡ None
+    by_domain None e = e
+    by_domain (Some d) e =
+        let bad : ◌≡◌ {A = Option Refusal} None (Some Fault) = free ∙ in_a_region i addr (λ n. let no : ◌≡◌ {A = Option DomainName} (Some d) None = sym e ∙ n in absurd (cc)) in absurd (cc)
 
 -- a file of the host may be loaded from and stored to at every aligned address of its page
 pub host_is_free : (i : ImsicState) (addr : ℕ) (spot : Spot) → i.harts ≤ 4 → spot ≡ spot_at i.harts i.guests addr → is_host_spot spot ≡ true → addr % 4 ≡ 0 → ◌≡◌ {A = Option Refusal} None (core_refusal (spot_at i.harts i.guests addr) addr)

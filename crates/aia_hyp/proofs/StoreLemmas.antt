@@ -21,10 +21,10 @@ use Rattle.aia_model.specs.SourceOf.{register_read}
 use Rattle.aia_model.specs.Sent.{acts_of}
 use Rattle.aia_model.proofs.AnswerLemmas.{refused_by, place_refusal, load_refusal, store_refusal}
 use Rattle.aia_hyp.specs.Core.{CoreState}
-use Rattle.aia_hyp.specs.HostFiles.{HasDone, spot_of, is_host_spot}
+use Rattle.aia_hyp.specs.HostFiles.{HasDone, host_spot, is_host_spot}
 use Rattle.aia_hyp.specs.Stands.{CoreStands, CoreTakes, CoreHears, core_refusal}
 use Rattle.aia_hyp.proofs.NameLemmas.{name_at, at_name, other_spot, is_hosts}
-use Rattle.aia_hyp.proofs.EventLemmas.{IsHosts, Changes, one_more, nothing_done, one_done, file_done, accepted, refused}
+use Rattle.aia_hyp.proofs.EventLemmas.{hosts_line, hosts_msi, IsHosts, Changes, one_more, nothing_done, one_done, file_done, accepted, refused}
 use Rattle.aia_hyp.proofs.PageLemmas.{name_at_page, elsewhere, outside_regions}
 
 -- ---- a store at the file in whose page an address lies
@@ -37,16 +37,18 @@ pub record IsStored (x y : CoreState) (addr value : ℕ) (spot : Spot) : Type 0 
   pub there : IsThere x.world.imsic spot
   pub lands : SameFile (shown (file_at y.world.imsic spot)) (landed (addr % 0x1000) value (shown (file_at x.world.imsic spot)))
   pub others : y.world ≡ record x.world { imsic = with_file x.world.imsic spot (file_at y.world.imsic spot) }
+  pub leases : y.leases ≡ x.leases
+  pub vcpus : y.vcpus ≡ x.vcpus
   pub selects : y.selects ≡ x.selects
 
 -- an event that is such a store changes just that file
-stored_changes : (x y : CoreState) (addr value : ℕ) (spot : Spot) (h : History) (event : Event) → ((f : FileName) → deed_at f h event ≡ store_deed f addr value) → IsHosts h event → IsStored x y addr value spot → Changes x y h event
-stored_changes x y addr value spot h event is hosts stored =
+stored_changes : (x y : CoreState) (addr value : ℕ) (spot : Spot) (h : History) (event : Event) → ((f : FileName) → deed_at f h event ≡ store_deed f addr value) → IsHosts h event → CoreStands x h → IsStored x y addr value spot → Changes x y h event
+stored_changes x y addr value spot h event is hosts stands stored =
     let f = name_at spot in
-    let named : spot ≡ spot_of f = at_name spot stored.host in
+    let named : spot ≡ host_spot f = at_name spot stored.host in
     let here : is_at f addr ≡ true = name_at_page x.world.imsic addr f (sym stored.at ∙ named) in
-    let done : HasDone x y f (Stores (addr % 0x1000) value) = file_done x y f (Stores (addr % 0x1000) value) spot named stored.there stored.others stored.selects stored.lands refl in
-    one_done x y h event f (subst (HasDone x y f) (sym (is f ∙ cond-true _ _ _ here)) done) hosts
+    let done : HasDone x y f (Stores (addr % 0x1000) value) = file_done x y f (Stores (addr % 0x1000) value) spot named stored.there stored.others stored.leases stored.vcpus stored.selects stored.lands refl in
+    one_done x y h event f stands (subst (HasDone x y f) (sym (is f ∙ cond-true _ _ _ here)) done) hosts
     (λ g inside ne. is g ∙ cond-false _ _ _ (elsewhere x.world.imsic addr spot g stored.few stored.at inside (λ e. other_spot f g ne (e ∙ named))))
 
 -- ---- lines
@@ -66,32 +68,32 @@ pub store_refused : (x : CoreState) (addr value : ℕ) (word : Refusal) → doma
 store_refused x addr value word outside is = refused x (Store addr value) (Refused word) (λ h stands. store_refusal h addr value stands.there ∙ word_stands x h addr (Some word) outside is stands)
 
 pub loaded : (x : CoreState) (addr : ℕ) → domain_at addr ≡ None → None ≡ core_refusal (spot_at x.world.imsic.harts x.world.imsic.guests addr) addr → CoreTakes x x (Load addr) (Narrow 0)
-loaded x addr outside is = accepted x x (Load addr) (Narrow 0) (λ h stands. (
+loaded x addr outside is = accepted x x (Load addr) (Narrow 0) refl (λ h stands. (
   load_refusal h addr stands.there ∙ word_stands x h addr None outside is stands,
   sym (ap (λ (o : Option DomainName). Narrow (option_map_or (λ d. register_read (acts_of h) d (register_at addr)) o 0)) outside),
-  nothing_done x h (Accepted (Load addr)) (record { machine = refl; vms = refl; quiet = refl; guests = λ g. refl }) (λ f inside. refl),
+  nothing_done x h (Accepted (Load addr)) stands (hosts_line h (Load addr) refl refl refl (λ g. refl)) (λ f inside. refl),
 ))
 
 pub stored : (x y : CoreState) (addr value : ℕ) (spot : Spot) → domain_at addr ≡ None → None ≡ core_refusal (spot_at x.world.imsic.harts x.world.imsic.guests addr) addr → IsStored x y addr value spot → CoreTakes x y (Store addr value) Okay
-stored x y addr value spot outside is done = accepted x y (Store addr value) Okay (λ h stands. (
+stored x y addr value spot outside is done = accepted x y (Store addr value) Okay refl (λ h stands. (
   store_refusal h addr value stands.there ∙ word_stands x h addr None outside is stands,
   refl,
-  stored_changes x y addr value spot h (Accepted (Store addr value)) (λ f. refl) (record { machine = refl; vms = refl; quiet = refl; guests = λ g. refl }) done,
+  stored_changes x y addr value spot h (Accepted (Store addr value)) (λ f. refl) (hosts_line h (Store addr value) refl refl refl (λ g. refl)) stands done,
 ))
 
 -- ---- MSIs
 
 pub msi_landed : (x y : CoreState) (msi : Msi) (spot : Spot) → IsStored x y msi.address msi.value spot → CoreHears x y msi
-msi_landed x y msi spot done = λ h stands. one_more x y h (Delivered msi) (stored_changes x y msi.address msi.value spot h (Delivered msi) (λ f. refl) (record { machine = refl; vms = refl; quiet = refl; guests = λ g. refl }) done) stands
+msi_landed x y msi spot done = λ h stands. one_more x y h (Delivered msi) (stored_changes x y msi.address msi.value spot h (Delivered msi) (λ f. refl) (hosts_msi h msi) stands done) stands
 
 pub msi_dropped : (x : CoreState) (msi : Msi) (spot : Spot) → x.world.imsic.harts ≤ 4 → spot ≡ spot_at x.world.imsic.harts x.world.imsic.guests msi.address → is_host_spot spot ≡ false → CoreHears x x msi
-msi_dropped x msi spot few at none = λ h stands. one_more x x h (Delivered msi) (nothing_done x h (Delivered msi) (record { machine = refl; vms = refl; quiet = refl; guests = λ g. refl }) (λ f inside. cond-false _ _ _ (elsewhere x.world.imsic msi.address spot f few at inside (other f)))) stands
+msi_dropped x msi spot few at none = λ h stands. one_more x x h (Delivered msi) (nothing_done x h (Delivered msi) stands (hosts_msi h msi) (λ f inside. cond-false _ _ _ (elsewhere x.world.imsic msi.address spot f few at inside (other f)))) stands
   where
-    other : (f : FileName) → spot_of f ≢ spot
+    other : (f : FileName) → host_spot f ≢ spot
     other f e = let bad : true ≡ false = sym (is_hosts f) ∙ ap is_host_spot e ∙ none in absurd (cc)
 
 -- ---- lines of the APLIC, which are nothing to the core
 
 -- a line that reaches no file of the host and makes no machine
 pub line_rests : (x : CoreState) (h : History) (event : Event) → IsHosts h event → ((f : FileName) → deed_at f h event ≡ Rests) → CoreStands x h → CoreStands x (event ∷ h)
-line_rests x h event hosts rests stands = one_more x x h event (nothing_done x h event hosts (λ f inside. rests f)) stands
+line_rests x h event hosts rests stands = one_more x x h event (nothing_done x h event stands hosts (λ f inside. rests f)) stands

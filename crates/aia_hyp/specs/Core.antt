@@ -1,8 +1,54 @@
 -- What the hypervisor's core keeps. Vocabulary.
-use Rattle.std.specs.Prelude.{ℕ, List}
+use Rattle.std.specs.Prelude.{ℕ, false, List, Option, Some, None, slice_index_or}
+use Rattle.aia_home.specs.declared.place.Place.{Place}
+use Rattle.aia_home.specs.Vms.{Vcpu, slot_of}
+use Rattle.aia_home.specs.Home.{Home}
+use Rattle.aia_home.specs.Home.Home.{Parked, Resident}
+use Rattle.aia_places.specs.Holds.{Hand}
+use Rattle.aia_pool.specs.Leases.{Leases}
 use Rattle.aia_fabric.specs.World.{World}
+use Rattle.aia_move.specs.declared.who.Kept.{Kept}
+use Rattle.aia_move.specs.Plan.{moving_of}
+use Rattle.aia_hyp.specs.declared.vcpu.Stay.{Stay}
+use Rattle.aia_hyp.specs.declared.vcpu.Stay.TheVariants as stays
+use Rattle.aia_hyp.specs.declared.vcpu.VcpuRecord.{VcpuRecord}
 
--- All that stores reach, and the select numbers of the host.
+-- All that stores reach, which guest files are handed out, a record of each virtual hart by its
+-- number over all VMs, and the select numbers of the host.
 pub record CoreState : Type 0 where
   pub world : World
+  pub leases : Leases
+  pub vcpus : List VcpuRecord
   pub selects : List ℕ
+
+-- ---- a virtual hart
+
+-- What is kept of a virtual hart that was never moved, and its record.
+abbrev pub no_kept : Kept
+no_kept = record { delivery = 0; threshold = 0 }
+
+abbrev pub no_record : VcpuRecord
+no_record = record { stay = stays.Parked no_kept; select = 0 }
+
+-- The record of a virtual hart.
+abbrev pub record_of : CoreState → Vcpu → VcpuRecord
+record_of x g = slice_index_or x.vcpus (slot_of x.world.vms g) no_record
+
+-- Its home, as it is kept.
+abbrev pub home_in : Stay → Home
+home_in (stays.Parked kept) = Parked
+home_in (stays.Resident lease) = Resident lease
+home_in (stays.Moving plan) = (moving_of plan).home
+
+-- The guest file of one that is resident.
+abbrev pub resident_at : Stay → Option Place
+resident_at (stays.Resident lease) = Some lease
+resident_at stay = None
+
+-- What is carried or kept of its interrupt file: of a parked one the two numbers, of a resident one
+-- nothing, on a move what the move carries.
+abbrev pub hand_in : Stay → Hand
+hand_in (stays.Parked kept) =
+    record { word = 0; delivery = kept.delivery; threshold = kept.threshold; seen = false }
+hand_in (stays.Resident lease) = record { word = 0; delivery = 0; threshold = 0; seen = false }
+hand_in (stays.Moving plan) = (moving_of plan).hand

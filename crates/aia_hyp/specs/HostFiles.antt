@@ -32,9 +32,9 @@ csr_line levels.Machine hart csr op = MachineCsr hart csr op
 csr_line level hart csr op = HostCsr hart csr op
 
 -- Where a file is among all files.
-abbrev pub spot_of : FileName → Spot
-spot_of (MachineFile hart) = spots.MachineFile hart
-spot_of (SupervisorFile hart) = spots.HostFile hart
+abbrev pub host_spot : FileName → Spot
+host_spot (MachineFile hart) = spots.MachineFile hart
+host_spot (SupervisorFile hart) = spots.HostFile hart
 
 -- Whether a place among all files is that of a file of the host.
 abbrev pub is_host_spot : Spot → Bool
@@ -50,7 +50,7 @@ select_place (SupervisorFile hart) = 2 * hart + 1
 
 -- What is kept of it, and its select number.
 abbrev pub file_in : CoreState → FileName → FileState
-file_in x f = file_at x.world.imsic (spot_of f)
+file_in x f = file_at x.world.imsic (host_spot f)
 
 abbrev pub select_in : CoreState → FileName → ℕ
 select_in x f = slice_index x.selects (select_place f)
@@ -62,12 +62,14 @@ pub record FileDone (old new : CoreState) (f : FileName) (deed : FileDeed) : Typ
   pub select : select_in new f ≡ select_after deed (select_in old f)
 
 -- A deed was done at one file of the host; every other file, a guest's too, every other select
--- number, and all else that stores reach is as it was.
+-- number, all else that stores reach, and all that is kept of virtual harts is as it was.
 pub record HasDone (old new : CoreState) (f : FileName) (deed : FileDeed) : Type 0 where
   pub harts : new.world.imsic.harts ≡ old.world.imsic.harts
   pub guests : new.world.imsic.guests ≡ old.world.imsic.guests
   pub rest : new.world ≡ record old.world { imsic = new.world.imsic }
+  pub leases : new.leases ≡ old.leases
+  pub vcpus : new.vcpus ≡ old.vcpus
   pub done : FileDone old new f deed
-  pub files : (spot : Spot) → IsThere old.world.imsic spot → spot ≢ spot_of f
+  pub files : (spot : Spot) → IsThere old.world.imsic spot → spot ≢ host_spot f
       → file_at new.world.imsic spot ≡ file_at old.world.imsic spot
   pub selects : (g : FileName) → g ≢ f → select_in new g ≡ select_in old g

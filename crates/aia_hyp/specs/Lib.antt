@@ -1,3 +1,5 @@
 pub mod Core
 pub mod HostFiles
 pub mod Stands
+pub mod Moves
+pub mod Example

@@ -1,22 +1,27 @@
 -- When the hypervisor's core stands for a history, and what each of its calls promises. Vocabulary.
-use Rattle.std.specs.Prelude.{◌≡◌, ℕ, ◌-◌, ◌/◌, ◌%◌, ◌^◌, ◌<◌, ◌≤◌, min, Bool, true, false, not, ◌&&◌, ◌||◌, nat_eq, nat_lt, if◌then◌else◌, List, [], ◌∷◌, Option, Some, None, Result, Ok, Err}
-use Rattle.aia_regs.specs.declared.address_map.TheConstants.{PAGE}
+use Rattle.std.specs.Prelude.{◌≡◌, ℕ, ◌-◌, ◌*◌, ◌%◌, ◌^◌, ◌<◌, ◌≤◌, min, Bool, true, false, not, ◌&&◌, ◌||◌, nat_eq, nat_lt, if◌then◌else◌, [], ◌∷◌, length, slice_index_or, Option, Some, None, Result, Ok, Err}
+use Rattle.std.specs.List.{list_any}
 use Rattle.aia_regs.specs.declared.limits.TheConstants.{VCPUS}
-use Rattle.aia_regs.specs.AddressMap.{supervisor_page, is_in_memory, slot_address}
-use Rattle.aia_file.specs.InterruptFile.{InterruptFile, empty_file, signals}
+use Rattle.aia_regs.specs.AddressMap.{is_in_memory}
+use Rattle.aia_file.specs.InterruptFile.{empty_file, signals}
 use Rattle.aia_file.specs.FileState.{shown}
 use Rattle.aia_imsic.specs.declared.spot.Spot.{Spot}
-use Rattle.aia_imsic.specs.declared.spot.Spot.TheVariants as spots
 use Rattle.aia_imsic.specs.Imsic.{IsThere, file_at}
 use Rattle.aia_imsic.specs.Map.{is_page}
 use Rattle.aia_mrif.specs.Mrif.{mrif_in}
-use Rattle.aia_entry.specs.declared.entry.Entry.TheVariants.{Mrif, NotValid}
+use Rattle.aia_entry.specs.declared.entry.Entry.TheVariants.{NotValid}
 use Rattle.aia_entry.specs.declared.table.Route.{Route}
 use Rattle.aia_entry.specs.declared.table.Route.TheVariants.{Other, Fault, To}
 use Rattle.aia_entry.specs.Tables.{table_of, entry_in_force}
-use Rattle.aia_home.specs.declared.vm.Vm.{Vm}
-use Rattle.aia_home.specs.Vms.{Vcpu, vcpus_in, slot_of, notice_identity, notice_hart}
-use Rattle.aia_fabric.specs.World.{World}
+use Rattle.aia_home.specs.declared.place.Place.{Place}
+use Rattle.aia_home.specs.Vms.{Vcpu, vcpus_in, slot_of, notice_hart, all_vcpus}
+use Rattle.aia_home.specs.Home.{holds, is_moving}
+use Rattle.aia_home.specs.Home.Home.{Parked}
+use Rattle.aia_places.specs.Holds.{Holds}
+use Rattle.aia_places.specs.Stores.{AreApart}
+use Rattle.aia_pool.specs.Leases.{is_out}
+use Rattle.aia_fabric.specs.World.{World, no_stage}
+use Rattle.aia_fabric.specs.Changes.{spot_of, view}
 use Rattle.aia_model.specs.declared.answer.Answer.{Answer}
 use Rattle.aia_model.specs.declared.answer.Answer.TheVariants.{Okay, Refused}
 use Rattle.aia_model.specs.declared.refusal.Refusal.{Refusal}
@@ -25,16 +30,21 @@ use Rattle.aia_model.specs.declared.refusal.Refusal.TheVariants as refusals
 use Rattle.aia_model.specs.declared.line.Line.{Line}
 use Rattle.aia_model.specs.declared.line.Line.TheVariants.{Machine}
 use Rattle.aia_model.specs.declared.msi.Msi.{Msi}
-use Rattle.aia_model.specs.Event.{History, has_machine, harts_of, guests_of, greatest_identity_of}
-use Rattle.aia_model.specs.Event.Event.{Accepted, Delivered}
+use Rattle.aia_model.specs.Event.{History, has_machine, harts_of, guests_of, greatest_identity_of, file_words}
+use Rattle.aia_model.specs.Event.Event.{Accepted}
 use Rattle.aia_model.specs.Vms.{vms_of, has_vm, has_vcpu}
-use Rattle.aia_model.specs.GuestFile.{guest_file}
-use Rattle.aia_model.specs.Notice.{notices_sent}
+use Rattle.aia_model.specs.GuestFile.{guest_select, guest_file}
+use Rattle.aia_model.specs.HomeOf.{home}
+use Rattle.aia_model.specs.Notice.{a_look_saw, notices_sent}
 use Rattle.aia_model.specs.FileOf.{FileName, MachineFile, SupervisorFile, file_of, select_of}
 use Rattle.aia_model.specs.Refusal.{refusal, guards}
-use Rattle.aia_model.specs.Answer.{answer}
-use Rattle.aia_hyp.specs.Core.{CoreState}
-use Rattle.aia_hyp.specs.HostFiles.{spot_of, file_in, select_in}
+use Rattle.aia_model.specs.Answer.{answer, line_taken, msi_taken}
+use Rattle.aia_move.specs.Move.{mover, width, Fits}
+use Rattle.aia_move.specs.Plan.{moving_of, IsInPhase}
+use Rattle.aia_hyp.specs.declared.vcpu.Stay.{Stay}
+use Rattle.aia_hyp.specs.declared.vcpu.Stay.TheVariants as stays
+use Rattle.aia_hyp.specs.Core.{CoreState, record_of, home_in, hand_in}
+use Rattle.aia_hyp.specs.HostFiles.{host_spot, file_in, select_in}
 
 -- ---- what is kept
 
@@ -43,21 +53,37 @@ pub record HostStands (x : CoreState) (h : History) (f : FileName) : Type 0 wher
   pub file : shown (file_in x f) ≡ file_of h f
   pub select : select_in x f ≡ select_of h f
 
--- A virtual hart of these VMs is parked: its slot of memory has the identities that are pending and
--- enabled in its file, and the entry in force for it leads stores of devices there, its notices to
--- its notice hart.
-pub record IsParked (w : World) (vms : List Vm) (g : Vcpu) (file : InterruptFile) : Type 0 where
-  pub pending : (i : ℕ) → i ≤ file.n
-      → (mrif_in w.memory (slot_of vms g)).pending i ≡ file.pending i
-  pub enabled : (i : ℕ) → (mrif_in w.memory (slot_of vms g)).enabled i ≡ file.enabled i
-  pub entry : entry_in_force (table_of w.tables g.vm) g.number
-      ≡ Mrif (slot_address (slot_of vms g)) (supervisor_page (notice_hart vms g) / PAGE)
-      (notice_identity vms g)
+-- The plan of a move is the virtual hart's own, is at one of its steps, and can make the next one.
+abbrev pub PlanStands : World → Vcpu → Stay → Type 0
+PlanStands w g (stays.Moving plan) = Fits w (moving_of plan) × IsInPhase (width w) plan
+    × (mover (moving_of plan) ≡ g) × (is_moving (moving_of plan).home ≡ true)
+PlanStands w g stay = Unit {0}
+
+-- A virtual hart is where the history has it, with its select number, the files of a shift are two,
+-- and its places hold its interrupt file.
+pub record VcpuStands (x : CoreState) (h : History) (g : Vcpu) : Type 0 where
+  pub same_home : home_in (record_of x g).stay ≡ home h g
+  pub select : (record_of x g).select ≡ guest_select h g
+  pub two_files : AreApart (home h g)
+  pub plan : PlanStands x.world g (record_of x g).stay
+  pub holds : Holds (file_words h) (slot_of (vms_of h) g) (notice_hart (vms_of h) g)
+      (view x.world g (home h g)) (home h g) (hand_in (record_of x g).stay)
+      (guest_file h g) (a_look_saw h g)
+
+-- Whether a virtual hart holds a guest file.
+abbrev pub is_held : History → Place → Bool
+is_held h p = list_any (λ g. holds p (home h g)) (all_vcpus (vms_of h))
+
+-- No two virtual harts hold one guest file.
+abbrev pub HoldApart : History → Type 0
+HoldApart h = (a b : Vcpu) (p : Place) → has_vcpu h a ≡ true → has_vcpu h b ≡ true
+    → holds p (home h a) ≡ true → holds p (home h b) ≡ true → a ≡ b
 
 -- The core is that of the history's machine: it has its numbers, its VMs, and has sent its notices.
--- Each file of the host that is there stands for the history, and each virtual hart that is there
--- is parked. What nobody has is empty: guest files, entries and slots past the last virtual hart's;
--- and the history asked for nothing at virtual harts that aren't there.
+-- Each file of the host that is there stands for the history, and each virtual hart that is there.
+-- The guest files that are out are those that a virtual hart holds. What nobody has is empty: guest
+-- files, entries, slots and G-stage records past the last virtual hart's; and the history asked for
+-- nothing at virtual harts that aren't there.
 pub record CoreStands (x : CoreState) (h : History) : Type 0 where
   pub there : has_machine h ≡ true
   pub harts : x.world.imsic.harts ≡ harts_of h
@@ -65,19 +91,33 @@ pub record CoreStands (x : CoreState) (h : History) : Type 0 where
   pub greatest : x.world.n ≡ greatest_identity_of h
   pub vms : x.world.vms ≡ vms_of h
   pub notices : x.world.notices ≡ min (notices_sent h) (2 ^ 64 - 1)
-  pub host : (f : FileName) → IsThere x.world.imsic (spot_of f) → HostStands x h f
-  pub vcpus : (g : Vcpu) → has_vcpu h g ≡ true
-      → IsParked x.world (vms_of h) g (guest_file h g)
-  pub free : (hart file : ℕ) → IsThere x.world.imsic (spots.GuestFile hart file)
-      → shown (file_at x.world.imsic (spots.GuestFile hart file))
-      ≡ empty_file (greatest_identity_of h)
+  pub host : (f : FileName) → IsThere x.world.imsic (host_spot f) → HostStands x h f
+  pub records : length x.vcpus ≡ vcpus_in (vms_of h)
+  pub vcpus : (g : Vcpu) → has_vcpu h g ≡ true → VcpuStands x h g
+  pub lease_harts : x.leases.harts ≡ harts_of h
+  pub lease_guests : x.leases.guests ≡ guests_of h
+  pub lease_count : length x.leases.out ≡ harts_of h * guests_of h
+  pub leases : (p : Place) → IsThere x.world.imsic (spot_of p) → is_out x.leases p ≡ is_held h p
+  pub held : (g : Vcpu) (p : Place) → has_vcpu h g ≡ true → holds p (home h g) ≡ true
+      → IsThere x.world.imsic (spot_of p)
+  pub apart : HoldApart h
+  pub free : (p : Place) → IsThere x.world.imsic (spot_of p) → is_held h p ≡ false
+      → shown (file_at x.world.imsic (spot_of p)) ≡ empty_file (greatest_identity_of h)
   pub no_vcpu : (g : Vcpu) → has_vcpu h g ≡ false
-      → guest_file h g ≡ empty_file (greatest_identity_of h)
+      → (guest_file h g ≡ empty_file (greatest_identity_of h)) × (guest_select h g ≡ 0)
+      × (home h g ≡ Parked)
   pub no_entry : (g : Vcpu) → has_vm h g.vm ≡ true → has_vcpu h g ≡ false
       → entry_in_force (table_of x.world.tables g.vm) g.number ≡ NotValid
-  pub no_slot : (q i : ℕ) → vcpus_in (vms_of h) ≤ q → q < VCPUS
-      → ((mrif_in x.world.memory q).pending i ≡ false)
-      × ((mrif_in x.world.memory q).enabled i ≡ false)
+  pub no_slot : (q : ℕ) → vcpus_in (vms_of h) ≤ q → q < VCPUS
+      → ((i : ℕ) → (mrif_in x.world.memory q).pending i ≡ false)
+      × ((i : ℕ) → (mrif_in x.world.memory q).enabled i ≡ false)
+      × (slice_index_or x.world.stages q no_stage ≡ no_stage)
+
+-- It stands for some history: what is true of a core at all times. Each guest file that is free is
+-- empty, and none that is out is lost.
+pub record StandsForSome (x : CoreState) : Type 0 where
+  pub past : History
+  pub stands : CoreStands x past
 
 -- ---- what calls promise
 
@@ -87,16 +127,16 @@ answer_by show (Ok x) = show x
 answer_by show (Err word) = Refused word
 
 -- What has happened when a line is served, and its MSIs are still to be delivered.
-abbrev pub line_taken : Option Answer → History → Line → History
-line_taken None h line = Accepted line ∷ h
-line_taken (Some word) h line = h
+abbrev pub line_served : Option Answer → History → Line → History
+line_served None h line = line_taken h line
+line_served (Some word) h line = h
 
 -- A line is answered as the model does, and the core then stands for the history with what the line
 -- itself is; where it is refused, the core is unchanged.
 pub record CoreTakes (old new : CoreState) (line : Line) (given : Answer) : Type 0 where
   pub answers : (h : History) → CoreStands old h → given ≡ answer h line
   pub stands : (h : History) → CoreStands old h
-      → CoreStands new (line_taken (refusal h line) h line)
+      → CoreStands new (line_served (refusal h line) h line)
   pub unchanged : (h : History) (word : Answer) → CoreStands old h
       → refusal h line ≡ Some word → new ≡ old
 
@@ -107,7 +147,7 @@ CoreBegins new harts guests n =
 
 -- An MSI of the APLIC is delivered.
 abbrev pub CoreHears : CoreState → CoreState → Msi → Type 0
-CoreHears old new msi = (h : History) → CoreStands old h → CoreStands new (Delivered msi ∷ h)
+CoreHears old new msi = (h : History) → CoreStands old h → CoreStands new (msi_taken msi h)
 
 -- The signals of a hart's machine-level file and of its supervisor file, or the word that refuses
 -- the hart.

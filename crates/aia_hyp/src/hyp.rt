@@ -1,7 +1,8 @@
-ghost use Rattle.std.specs.Prelude.{◌≡◌, ◌≢◌, ◌<◌, ◌≤◌, ◌%◌, ◌&&◌, nat_lt, true, false, None, Ok, Err, IsTrue, IfOk, OnOk};
+ghost use Rattle.std.specs.Prelude.{◌≡◌, ◌≢◌, ◌+◌, ◌<◌, ◌≤◌, ◌%◌, ◌&&◌, ◌++◌, length, replicate, slice_index, nat_lt, true, false, None, Ok, Err, IsTrue, IfOk, OnOk};
 ghost use Rattle.std.specs.Int.{is_in_range};
 ghost use Rattle.std.specs.Result.{result_err};
-ghost use Rattle.aia_regs.specs.FileRegisters.{register_of, IsUsable};
+ghost use Rattle.std.specs.Vec.{vec_capacity};
+ghost use Rattle.aia_regs.specs.FileRegisters.{select_written};
 ghost use Rattle.aia_regs.specs.AddressMap.{is_in_memory};
 ghost use Rattle.aia_csr.specs.Access.{IsInTable, ReachesUsable, access_of};
 ghost use Rattle.aia_file.specs.InterruptFile.{SameFile, is_greatest_identity, register_value, top_of};
@@ -12,19 +13,23 @@ ghost use Rattle.aia_word.specs.Top.{top_value};
 ghost use Rattle.aia_model.specs.Event.{History};
 ghost use Rattle.aia_model.specs.Act.{domain_at};
 ghost use Rattle.aia_model.specs.FileAfter.{Accesses, file_after};
+ghost use Rattle.aia_model.specs.FileOf.{FileName};
 ghost use Rattle.aia_model.specs.declared.line.Line.TheVariants.{Load, Store, Vm};
 ghost use Rattle.aia_model.specs.declared.line.Line.TheVariants as lines;
 ghost use Rattle.aia_model.specs.Refusal.{is_vm_size, lacks_room};
 ghost use Rattle.aia_fabric.specs.Whole.{IsWhole};
 ghost use Rattle.aia_model.specs.declared.answer.Answer.TheVariants.{Okay, Narrow, Wide};
-ghost use Rattle.aia_hyp.specs.HostFiles.{IsHost, HasDone, name_of, csr_line, spot_of, is_host_spot, file_in, select_place, select_in};
+ghost use Rattle.aia_hyp.specs.Core.{no_record};
+ghost use Rattle.aia_hyp.specs.HostFiles.{IsHost, HasDone, name_of, csr_line, host_spot, is_host_spot, file_in, select_place, select_in};
 ghost use Rattle.aia_hyp.specs.Stands.{CoreStands, CoreTakes, CoreBegins, CoreHears, answer_by, core_refusal, signals_of, route_answer};
 
+use crate::vcpu::VcpuRecord;
 use aia_csr::{Access, decide};
 use aia_entry::{Route, is_mask};
 use aia_fabric::Fabric;
 use aia_imsic::Spot;
 use aia_model::{Msi, Refusal};
+use aia_pool::Pool;
 use aia_regs::address_map::{MEMORY, MEMORY_END, PAGE};
 use aia_regs::limits::{GUEST_FILES, HARTS, VCPUS, VM_VCPUS, VMS};
 use aia_regs::{Csr, FileReg, Level, Op};
@@ -37,20 +42,39 @@ const SELECT_NUMBERS: u64 = 0x1000;
 /// Two select numbers for each hart.
 const SELECTS: usize = 2 * HARTS as usize;
 
-/// The hypervisor's core: all that stores reach, with the VMs that stand, and the select numbers of
+/// The hypervisor's core: all that stores reach, with the VMs that stand; which guest files are
+/// handed out; a record of each virtual hart, by its number over all VMs; and the select numbers of
 /// the host, of each hart `miselect`, then `siselect`.
 #[derive(Drop)]
 pub struct Hyp {
-    fabric: Fabric,
+    pub(crate) fabric: Fabric,
+    pub(crate) pool: Pool,
+    pub(crate) vcpus: Vec<VcpuRecord>,
     selects: [u64; SELECTS],
 }
 
 impl Model for Hyp {
+    ghost use Rattle.std.specs.Prelude.{◌≡◌};
+    ghost use Rattle.std.specs.Vec.{vec_capacity};
+    ghost use Rattle.aia_regs.specs.declared.limits.TheConstants.{VCPUS};
     ghost use Rattle.aia_hyp.specs.Core.{CoreState};
+    ghost use Rattle.aia_hyp.specs.Stands.{StandsForSome};
 
     ghost Value = { CoreState };
 
-    ghost view = { λ h. record { world = h.fabric; selects = h.selects } };
+    ghost view = { λ h. record {
+      world = h.fabric;
+      leases = h.pool;
+      vcpus = h.vcpus.items;
+      selects = h.selects;
+    } };
+
+    ghost invariant = { λ h. StandsForSome (record {
+      world = h.fabric;
+      leases = h.pool;
+      vcpus = h.vcpus.items;
+      selects = h.selects;
+    }) × (vec_capacity h.vcpus ≡ VCPUS) };
 }
 
 impl Hyp {
@@ -66,8 +90,12 @@ impl Hyp {
         ensures { IfOk result (λ hyp. CoreBegins hyp harts guests n) }
     {
         let fabric = Fabric::new(alloc, harts, guests, n)?;
+        let pool = Pool::new(alloc, harts, guests)?;
+        let vcpus = Vec::with_capacity(alloc, VCPUS as usize)?;
         Ok(Hyp {
             fabric,
+            pool,
+            vcpus,
             selects: [0; SELECTS],
         })
     }
@@ -97,9 +125,9 @@ impl Hyp {
         ensures { CoreTakes self.old self.new (csr_line level hart csr op) (answer_by Wide result) }
     {
         match self.reached(level, hart, csr, op) {
-            Access::Select => Ok(self.access_select(level, hart, op)),
-            Access::File(reg) => Ok(self.access_file(level, hart, reg, op)),
-            Access::Top => Ok(self.access_top(level, hart, op)),
+            Access::Select => Ok(access_select(&mut self.selects, level, hart, op)),
+            Access::File(reg) => Ok(self.fabric.reg(spot(level, hart), reg, op)),
+            Access::Top => Ok(claim_or_read(&mut self.fabric, spot(level, hart), op)),
             Access::Illegal => Err(Refusal::Illegal),
             Access::Topi | Access::Sip | Access::Sie | Access::Virtual => unreachable!(),
         }
@@ -116,45 +144,6 @@ impl Hyp {
     {
         let select = self.selects[select_place(level, hart)];
         decide(level, csr, op, select, false)
-    }
-
-    /// Accesses the select CSR, and gives the old select number.
-    fn access_select(&mut self, level: Level, hart: u32, op: Op) -> u64
-        requires host { IsHost level }
-        requires few { hart < HARTS }
-        ensures value { result ≡ select_in self.old (name_of level hart) }
-        ensures done { HasDone self.old self.new (name_of level hart) (Accesses Csr.Select op) }
-    {
-        let place = select_place(level, hart);
-        let before = self.selects[place];
-        if op.is_writing() {
-            self.selects[place] = op.written(before) % SELECT_NUMBERS;
-        }
-        before
-    }
-
-    /// Accesses a register of a file, and gives what it read before.
-    fn access_file(&mut self, level: Level, hart: u32, reg: FileReg, op: Op) -> u64
-        requires host { IsHost level }
-        requires there { hart < self.old.world.imsic.harts }
-        requires named { register_of (select_in self.old (name_of level hart)) ≡ reg }
-        requires usable { IsUsable reg }
-        ensures value { result
-            ≡ register_value (shown (file_in self.old (name_of level hart))) reg }
-        ensures done { HasDone self.old self.new (name_of level hart) (Accesses Csr.Reg op) }
-    {
-        self.fabric.reg(spot(level, hart), reg, op)
-    }
-
-    /// Accesses the topei CSR, and gives what it read before; a write claims.
-    fn access_top(&mut self, level: Level, hart: u32, op: Op) -> u64
-        requires host { IsHost level }
-        requires there { hart < self.old.world.imsic.harts }
-        ensures value { result
-            ≡ top_value (top_of (shown (file_in self.old (name_of level hart)))) }
-        ensures done { HasDone self.old self.new (name_of level hart) (Accesses Csr.Topei op) }
-    {
-        claim_or_read(&mut self.fabric, spot(level, hart), op)
     }
 
     /// Stores 32 bits at an address for the host or a device of it. `Err` is `Fault` where the
@@ -241,6 +230,7 @@ impl Hyp {
             return Err(Refusal::Full);
         }
         self.fabric.vm(vcpus as u32, mask, hart as u32);
+        add_records(&mut self.vcpus, vcpus as u32);
         Ok(())
     }
 
@@ -262,7 +252,8 @@ impl Hyp {
     }
 
     /// Takes a 32-bit store of a device of a VM at an address: it asks at the virtual hart that
-    /// the address names, and sends a notice where the identity that it asks for is enabled there.
+    /// the address names. Where its interrupts are in memory, a notice is sent if the identity that
+    /// is asked for is enabled there.
     /// `Err` is `Range` where the VM doesn't stand, `Fault` where the address is no multiple of 4,
     /// `Other` where it is no MSI address of the VM, `NotValid` where it names no virtual hart;
     /// nothing is changed then.
@@ -300,6 +291,17 @@ impl Hyp {
     }
 }
 
+/// Adds the records of so many virtual harts that were never moved.
+fn add_records(vcpus: &mut Vec<VcpuRecord>, count: u32)
+    requires { length vcpus.old.items + count ≤ vec_capacity vcpus.old }
+    ensures after { vcpus.new.items ≡ vcpus.old.items ++ replicate count no_record }
+    ensures room { vec_capacity vcpus.new ≡ vec_capacity vcpus.old }
+{
+    for _ in 0..count {
+        vcpus.push_reserved(VcpuRecord::new());
+    }
+}
+
 /// Tells whether a VM may have so many virtual harts and this mask.
 fn is_vm_size(vcpus: u64, mask: u64) -> bool
     ensures { result ≡ is_vm_size vcpus mask }
@@ -328,7 +330,7 @@ fn taken_by(route: Route) -> Result<(), Refusal>
 /// Tells where the file of a hart at a level of the host is.
 fn spot(level: Level, hart: u32) -> Spot
     requires { IsHost level }
-    ensures { result ≡ spot_of (name_of level hart) }
+    ensures { result ≡ host_spot (name_of level hart) }
 {
     match level {
         Level::Machine => Spot::MachineFile(hart),
@@ -358,10 +360,38 @@ fn select_place(level: Level, hart: u32) -> usize
     }
 }
 
+/// Accesses the select CSR of a hart at a level of the host, and gives the old select number.
+#[tactic(auto, using(crate::proofs::NameLemmas::other_place))]
+fn access_select(selects: &mut [u64; SELECTS], level: Level, hart: u32, op: Op) -> u64
+    requires host { IsHost level }
+    requires few { hart < HARTS }
+    ensures value { result ≡ slice_index selects.old (select_place (name_of level hart)) }
+    ensures own { slice_index selects.new (select_place (name_of level hart))
+        ≡ select_written op (slice_index selects.old (select_place (name_of level hart))) }
+    ensures others { (f : FileName) → f ≢ name_of level hart
+        → slice_index selects.new (select_place f) ≡ slice_index selects.old (select_place f) }
+{
+    let place = select_place(level, hart);
+    let before = selects[place];
+    selects[place] = select_after(op, before);
+    before
+}
+
+/// Gives the select number after an access to a select CSR which had `before`.
+pub(crate) fn select_after(op: Op, before: u64) -> u64
+    ensures { result ≡ select_written op before }
+{
+    if op.is_writing() {
+        op.written(before) % SELECT_NUMBERS
+    } else {
+        before
+    }
+}
+
 /// Reads the topei CSR of a file that is there, and claims the identity on top where the
 /// instruction writes; all else stays.
 #[tactic(auto, using(crate::proofs::EventLemmas::kept_file))]
-fn claim_or_read(fabric: &mut Fabric, spot: Spot, op: Op) -> u64
+pub(crate) fn claim_or_read(fabric: &mut Fabric, spot: Spot, op: Op) -> u64
     requires { IsThere fabric.old.imsic spot }
     ensures value { result ≡ top_value (top_of (shown (file_at fabric.old.imsic spot))) }
     ensures done { SameFile (shown (file_at fabric.new.imsic spot))

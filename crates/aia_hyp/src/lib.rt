@@ -2,7 +2,14 @@
 //! and each MSI makes of them.
 #![tactic(auto)]
 
+mod guest;
 mod hyp;
+pub mod laws;
+mod moves;
+mod peers;
+mod signals;
+mod vcpu;
 
 pub use aia_model::Refusal;
 pub use hyp::Hyp;
+pub use moves::Want;

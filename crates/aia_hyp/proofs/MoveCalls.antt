@@ -1,0 +1,240 @@
+-- What the calls of a move say, of the fields that they change.
+use Rattle.std.proofs.Common.{◌≡◌, ℕ, ◌+◌, ◌/◌, ◌<◌, Bool, true, false, get_or, List, length, ◌∷◌, Option, Some, None, refl, sym, ap, subst, ◌∙◌, arith}
+use Rattle.std.proofs.Math.ListN.{set}
+use Rattle.std.proofs.lemmas.Bool.{true≢false}
+use Rattle.std.proofs.lemmas.List.{get_or-set_same, set-set}
+use Rattle.std.proofs.lemmas.Option.{slice_get_within}
+use Rattle.aia_home.specs.declared.place.Place.{Place}
+use Rattle.aia_home.specs.declared.vm.Vm.{Vm}
+use Rattle.aia_home.specs.Vms.{Vcpu, vcpu, is_vcpu_in, slot_of, notice_hart}
+use Rattle.aia_home.specs.Home.{Home, holds, is_moving, is_at_last, one_more}
+use Rattle.aia_home.specs.Home.Home.{Parked, Resident, Leaving, Arriving, Shifting}
+use Rattle.aia_home.specs.Plans.{Access, leave_plan, arrive_plan, shift_plan, IsNext}
+use Rattle.aia_home.proofs.PlanLemmas.{leave_plan-length, arrive_plan-length, shift_plan-length, next_in_plan}
+use Rattle.aia_home.proofs.VmLemmas.{slot_below}
+use Rattle.aia_home.proofs.AllLemmas.{any_vcpu}
+use Rattle.aia_places.specs.Holds.{Hand}
+use Rattle.aia_fabric.specs.World.{World}
+use Rattle.aia_fabric.specs.Whole.{IsWhole}
+use Rattle.aia_move.specs.declared.who.Who.{Who}
+use Rattle.aia_move.specs.declared.plan.Plan.{Plan}
+use Rattle.aia_move.specs.declared.plan.Next.{Next}
+use Rattle.aia_move.specs.declared.plan.Next.TheVariants.{Again, Finished}
+use Rattle.aia_move.specs.declared.turn.Outcome.{Outcome}
+use Rattle.aia_move.specs.Move.{width, Fits, Goes, IsWho}
+use Rattle.aia_move.specs.Plan.{moving_of, IsInPhase, MatchNext}
+use Rattle.aia_move.specs.Turns.{EndsAs}
+use Rattle.aia_model.specs.declared.answer.Answer.{Answer}
+use Rattle.aia_model.specs.Event.{History, file_words}
+use Rattle.aia_model.specs.Event.Event.{Stepped}
+use Rattle.aia_model.specs.Vms.{vms_of, has_vcpu}
+use Rattle.aia_model.specs.HomeOf.{home}
+use Rattle.aia_hyp.specs.declared.moves.Want.{Want}
+use Rattle.aia_hyp.specs.declared.vcpu.Stay.{Stay}
+use Rattle.aia_hyp.specs.declared.vcpu.Stay.TheVariants as stays
+use Rattle.aia_hyp.specs.declared.vcpu.VcpuRecord.{VcpuRecord}
+use Rattle.aia_hyp.specs.Core.{CoreState, no_record, record_of, home_in}
+use Rattle.aia_hyp.specs.Moves.{WantBegins, MoveBegins, stay_after, back_of, with_back, IsOutThere, stay_then, back_then, is_finished, steps_left, left_in, MoveGoes}
+use Rattle.aia_hyp.specs.Stands.{PlanStands, CoreStands, StandsForSome}
+use Rattle.aia_hyp.proofs.LeaseLemmas.{in_pool}
+use Rattle.aia_hyp.proofs.MoveSteps as steps
+use Rattle.aia_hyp.proofs.MoveSteps.{StepOf}
+use Rattle.aia_hyp.proofs.GoesLines.{GoesOf, goes_stands, later_moving}
+use Rattle.aia_hyp.proofs.EndLines.{EndsOf, ends_stands, ended_back, ended_held}
+use Rattle.aia_hyp.proofs.BeginCore.{at_stay, want_begins}
+
+-- ---- the records
+
+-- the record of a virtual hart that is there
+pub who_low : (x : CoreState) (who : Who) → StandsForSome x → IsWho x.world who → who.slot < length x.vcpus
+who_low x who some is =
+    let stands = some.stands in
+    let g = vcpu who.vm who.vcpu in
+    let below = slot_below (vms_of some.past) g (subst (λ (vs : List Vm). is_vcpu_in vs g ≡ true) stands.vms is.there) in
+    let mine : slot_of x.world.vms g ≡ slot_of (vms_of some.past) g = ap (λ vms. slot_of vms g) stands.vms in
+    omega (arith, below, mine, is.slot, stands.records)
+
+-- one that is put elsewhere twice
+pub put_twice : (xs ys zs : List VcpuRecord) (slot : ℕ) (a b : Stay) → slot < length xs → ys ≡ set xs slot (at_stay (get_or xs slot no_record) a) → zs ≡ set ys slot (at_stay (get_or ys slot no_record) b)
+    → zs ≡ set xs slot (at_stay (get_or xs slot no_record) b)
+put_twice xs ys zs slot a b low first second =
+    second ∙ (λ k. set (first k) slot (at_stay (get_or (first k) slot no_record) b))
+    ∙ ap (λ r. set (set xs slot (at_stay (get_or xs slot no_record) a)) slot (at_stay r b)) (get_or-set_same xs slot (at_stay (get_or xs slot no_record) a) no_record low)
+    ∙ set-set xs slot (at_stay (get_or xs slot no_record) a) (at_stay (get_or xs slot no_record) b)
+
+-- What a call did with the record of a virtual hart: it took it out, for another, and put it
+-- elsewhere.
+pub record Swapped (x y : CoreState) (who : Who) (old new : Stay) : Type 0 where
+  pub is_who : IsWho x.world who
+  pub some : StandsForSome x
+  pub between : List VcpuRecord
+  pub other : Stay
+  pub before : old ≡ (get_or x.vcpus who.slot no_record).stay
+  pub out : between ≡ set x.vcpus who.slot (at_stay (get_or x.vcpus who.slot no_record) other)
+  pub back : y.vcpus ≡ set between who.slot (at_stay (get_or between who.slot no_record) new)
+  pub selects : y.selects ≡ x.selects
+
+module _ (x y : CoreState) (who : Who) (old new : Stay) (s : Swapped x y who old new) where
+  abbrev g : Vcpu
+  g = vcpu who.vm who.vcpu
+
+  pub was_at : old ≡ (record_of x (vcpu who.vm who.vcpu)).stay
+  was_at = s.before ∙ ap (λ q. (get_or x.vcpus q no_record).stay) s.is_who.slot
+
+  pub put_at : y.vcpus ≡ set x.vcpus (slot_of x.world.vms (vcpu who.vm who.vcpu)) (at_stay (record_of x (vcpu who.vm who.vcpu)) new)
+  put_at =
+      put_twice x.vcpus s.between y.vcpus who.slot s.other new (who_low x who s.some s.is_who) s.out s.back
+      ∙ ap (λ q. set x.vcpus q (at_stay (get_or x.vcpus q no_record) new)) s.is_who.slot
+
+-- ---- a move begins
+
+pub begin_call : (x y : CoreState) (want : Want) (who : Who) (old new : Stay) (given : Answer) → y.world ≡ x.world → Swapped x y who old new → WantBegins want who old new x.leases y.leases given → MoveBegins x y who.vm who.vcpu want given
+begin_call x y want who old new given world s b =
+    want_begins x y want who new given (record { is_who = s.is_who; world = world; selects = s.selects; vcpus = put_at x y who old new s })
+    (subst (λ (o : Stay). WantBegins want who o new x.leases y.leases given) (was_at x y who old new s) b)
+
+-- ---- a step
+
+-- how many steps are left
+pub left_fewer : (words : ℕ) (there : Home) (access : Access) → IsNext words there access → steps_left words (one_more there) < steps_left words there
+left_fewer words Parked access next = let no : false ≡ true = next.has in absurd (cc)
+left_fewer words (Resident p) access next = let no : false ≡ true = next.has in absurd (cc)
+left_fewer words (Leaving from at) access next =
+    let low : at.steps < length (leave_plan words) = slice_get_within (leave_plan words) at.steps access (next_in_plan words (Leaving from at) access next) in
+    let long = leave_plan-length words in
+    omega (arith, low, long)
+left_fewer words (Arriving to at) access next =
+    let low : at.steps < length (arrive_plan words) = slice_get_within (arrive_plan words) at.steps access (next_in_plan words (Arriving to at) access next) in
+    let long = arrive_plan-length words in
+    omega (arith, low, long)
+left_fewer words (Shifting from to at) access next =
+    let low : at.steps < length (shift_plan words) = slice_get_within (shift_plan words) at.steps access (next_in_plan words (Shifting from to at) access next) in
+    let long = shift_plan-length words in
+    omega (arith, low, long)
+
+-- the plan that is kept can make its next step
+pub plan_known : (x : CoreState) (who : Who) (plan : Plan) → StandsForSome x → IsWho x.world who → stays.Moving plan ≡ (get_or x.vcpus who.slot no_record).stay → Fits x.world (moving_of plan) × IsInPhase (width x.world) plan
+plan_known x who plan some is was =
+    let g = vcpu who.vm who.vcpu in
+    let inside : has_vcpu some.past g ≡ true = subst (λ (vs : List Vm). is_vcpu_in vs g ≡ true) some.stands.vms is.there in
+    let at : stays.Moving plan ≡ (record_of x g).stay = was ∙ ap (λ q. (get_or x.vcpus q no_record).stay) is.slot in
+    let planned : PlanStands x.world g (stays.Moving plan) = subst (PlanStands x.world g) (sym at) (some.stands.vcpus g inside).plan in
+    (planned.0, planned.1)
+
+-- What a step's calls say.
+pub record Made (x y : CoreState) (who : Who) (plan : Plan) (next : Next) : Type 0 where
+  pub swapped : Swapped x y who (stays.Moving plan) (stay_then next)
+  pub whole : IsWhole x.world
+  pub whole_then : IsWhole y.world
+  pub leases : y.leases ≡ with_back (back_then next) x.leases
+  pub goes : MatchNext next (λ p. Goes x.world (moving_of plan) y.world (moving_of p)) (λ o. EndsAs x.world (moving_of plan) y.world o)
+  pub fits : MatchNext next (λ p. Fits y.world (moving_of p)) (λ o. Unit {0})
+  pub phase : MatchNext next (λ p. IsInPhase (width y.world) p) (λ o. Unit {0})
+
+module _ (x y : CoreState) (who : Who) (plan : Plan) where
+  abbrev its : Vcpu
+  its = vcpu who.vm who.vcpu
+
+  abbrev its_record : Stay → VcpuRecord
+  its_record stay = at_stay (record_of x (vcpu who.vm who.vcpu)) stay
+
+  its_there : (h : History) → CoreStands x h → IsWho x.world who → has_vcpu h (vcpu who.vm who.vcpu) ≡ true
+  its_there h stands is = subst (λ (vs : List Vm). is_vcpu_in vs its ≡ true) stands.vms is.there
+
+  goes_on : (later : Plan) (h : History) → CoreStands x h → Made x y who plan (Again later) → GoesOf x y h (vcpu who.vm who.vcpu) plan later (its_record (stays.Moving later))
+  goes_on later h stands c = record {
+    step_of = record {
+      stands = stands;
+      whole = c.whole;
+      there = its_there h stands c.swapped.is_who;
+      was = sym (was_at x y who (stays.Moving plan) (stays.Moving later) c.swapped);
+      step = c.goes.step;
+      selects = c.swapped.selects;
+      vcpus = put_at x y who (stays.Moving plan) (stays.Moving later) c.swapped;
+      select = refl;
+    };
+    leases = c.leases;
+    stay = refl;
+    goes = c.goes;
+    fits = c.fits;
+    phase = c.phase;
+  }
+
+  ends_it : (o : Outcome) (h : History) → CoreStands x h → Made x y who plan (Finished o) → EndsOf x y h (vcpu who.vm who.vcpu) plan o (its_record (stay_after o))
+  ends_it o h stands c = record {
+    step_of = record {
+      stands = stands;
+      whole = c.whole;
+      there = its_there h stands c.swapped.is_who;
+      was = sym (was_at x y who (stays.Moving plan) (stay_after o) c.swapped);
+      step = c.goes.ends.step;
+      selects = c.swapped.selects;
+      vcpus = put_at x y who (stays.Moving plan) (stay_after o) c.swapped;
+      select = refl;
+    };
+    whole_then = c.whole_then;
+    leases = c.leases;
+    stay = refl;
+    ends = c.goes;
+  }
+
+  at_last_by : (h : History) (r : VcpuRecord) (hand : Hand) (b : Bool) → StepOf x y h (vcpu who.vm who.vcpu) plan r hand → is_at_last (width x.world) (moving_of plan).home ≡ b → b ≡ is_at_last (file_words h) (home h (vcpu who.vm who.vcpu))
+  at_last_by h r hand b s e = sym e ∙ (λ k. is_at_last (steps.same_words x y h its plan r hand s k) (steps.same_home x y h its plan r hand s k))
+
+  pub step_goes : (next : Next) → Made x y who plan next → MoveGoes x y (vcpu who.vm who.vcpu) (is_finished next)
+  step_goes (Again later) c =
+      let some = c.swapped.some in
+      let now = goes_on later some.past some.stands c in
+      let kept : record_of y its ≡ its_record (stays.Moving later) = steps.step_record x y some.past its plan (its_record (stays.Moving later)) (moving_of later).hand now.step_of in
+      let was : (record_of x its).stay ≡ stays.Moving plan = now.step_of.was in
+      let touches = steps.touches x y some.past its plan (its_record (stays.Moving later)) (moving_of later).hand now.step_of in
+      let same : left_in y its ≡ steps_left (width x.world) (one_more (moving_of plan).home) = (λ k. steps_left ((touches.identities k + 1) / 64) (home_in (kept k).stay)) ∙ ap (steps_left (width x.world)) c.goes.home in
+      let less = left_fewer (width x.world) (moving_of plan).home c.goes.step.access c.goes.step.is_next in
+      record {
+        stands = λ h stands. goes_stands x y h its plan later (its_record (stays.Moving later)) (goes_on later h stands c);
+        at_last = λ h stands. at_last_by h (its_record (stays.Moving later)) (moving_of later).hand false (goes_on later h stands c).step_of c.goes.more;
+        moving = λ e. ap (λ (r : VcpuRecord). is_moving (home_in r.stay)) kept ∙ later_moving x y some.past its plan later (its_record (stays.Moving later)) now;
+        fewer = λ e. subst (λ n. n < left_in x its) (sym same) (subst (λ s. steps_left (width x.world) (one_more (moving_of plan).home) < steps_left (width x.world) (home_in s)) (sym was) less);
+      }
+  step_goes (Finished o) c = record {
+    stands = λ h stands. ends_stands x y h its plan o (its_record (stay_after o)) (ends_it o h stands c);
+    at_last = λ h stands. at_last_by h (its_record (stay_after o)) (moving_of plan).hand true (ends_it o h stands c).step_of c.goes.ends.last;
+    moving = λ e. absurd (true≢false e);
+    fewer = λ e. absurd (true≢false e);
+  }
+
+-- it stands for some history still
+pub goes_still : (x y : CoreState) (g : Vcpu) (last : Bool) → MoveGoes x y g last → StandsForSome x → StandsForSome y
+goes_still x y g last goes some = record { past = Stepped g ∷ some.past; stands = goes.stands some.past some.stands }
+
+-- ---- the file that comes back
+
+-- it is one that is there, and out
+pub back_known : (x : CoreState) (u : World) (who : Who) (plan : Plan) (next : Next) → StandsForSome x → IsWho x.world who → stays.Moving plan ≡ (get_or x.vcpus who.slot no_record).stay
+    → MatchNext next (λ p. Goes x.world (moving_of plan) u (moving_of p)) (λ o. EndsAs x.world (moving_of plan) u o) → IsOutThere x.leases (back_then next)
+back_known x u who plan (Again later) some is was c = tt
+back_known x u who plan (Finished o) some is was c = by_file (back_of o) refl
+  where
+    inside : has_vcpu some.past (vcpu who.vm who.vcpu) ≡ true
+    inside = subst (λ (vs : List Vm). is_vcpu_in vs (vcpu who.vm who.vcpu) ≡ true) some.stands.vms is.there
+
+    same : (moving_of plan).home ≡ home some.past (vcpu who.vm who.vcpu)
+    same = ap home_in (was ∙ ap (λ q. (get_or x.vcpus q no_record).stay) is.slot) ∙ (some.stands.vcpus (vcpu who.vm who.vcpu) inside).same_home
+
+    by_file : (back : Option Place) → back_of o ≡ back → IsOutThere x.leases back
+    by_file None e = tt
+    by_file (Some p) e =
+        let mine : holds p (home some.past (vcpu who.vm who.vcpu)) ≡ true = ap (holds p) (sym same) ∙ ended_held p (moving_of plan).home (sym (ended_back o (moving_of plan).home (moving_of plan).hand c.gives) ∙ e) in
+        let there = some.stands.held (vcpu who.vm who.vcpu) p inside mine in
+        (in_pool x some.past p some.stands there, some.stands.leases p there ∙ any_vcpu (vms_of some.past) (λ z. holds p (home some.past z)) (vcpu who.vm who.vcpu) inside mine)
+
+-- ---- who is moved
+
+pub who_still : (x y : CoreState) (who : Who) (last : Bool) → MoveGoes x y (vcpu who.vm who.vcpu) last → StandsForSome x → IsWho x.world who → IsWho y.world who
+who_still x y who last goes some is =
+    let vms : x.world.vms ≡ y.world.vms = some.stands.vms ∙ sym (goes.stands some.past some.stands).vms in
+    record {
+      there = subst (λ (vs : List Vm). is_vcpu_in vs (vcpu who.vm who.vcpu) ≡ true) vms is.there;
+      slot = is.slot ∙ ap (λ vs. slot_of vs (vcpu who.vm who.vcpu)) vms;
+      notice = is.notice ∙ ap (λ vs. notice_hart vs (vcpu who.vm who.vcpu)) vms;
+    }

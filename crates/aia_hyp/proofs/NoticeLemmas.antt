@@ -1,0 +1,148 @@
+-- The notice of a move's step, and what the step leaves of the records of stages that is nobody's.
+use Rattle.std.proofs.Common.{◌≡◌, ◌≢◌, ℕ, ◌+◌, ◌*◌, ◌<◌, Bool, true, false, ◌&&◌, cond, nat_eq, get_or, Some, None, inl, inr, refl, sym, ap, subst, ◌∙◌, arith}
+use Rattle.std.proofs.lemmas.Bool.{cond-true, cond-false, eq-eqb, ne_eqb, ltb-true}
+use Rattle.std.proofs.lemmas.List.{get_or-set_other}
+use Rattle.aia_file.specs.InterruptFile.{SameFile, landed}
+use Rattle.aia_file.specs.FileState.{FileState, shown}
+use Rattle.aia_imsic.specs.declared.spot.Spot.{Spot}
+use Rattle.aia_imsic.specs.declared.spot.Spot.TheVariants as spots
+use Rattle.aia_imsic.specs.Imsic.{IsThere, file_at}
+use Rattle.aia_home.specs.declared.place.Place.{Place}
+use Rattle.aia_home.specs.Vms.{Vcpu, slot_of, notice_hart}
+use Rattle.aia_home.specs.Home.{Home, Progress}
+use Rattle.aia_home.specs.Home.Home.{Parked, Resident, Leaving, Arriving, Shifting}
+use Rattle.aia_home.specs.BySteps.{is_leaving}
+use Rattle.aia_home.specs.Plans.{Access, IsNext}
+use Rattle.aia_home.specs.Plans.Access.{TakeDelivery, PutDelivery, WriteNotice, WriteEntry, Fence, WriteStage, FenceStage, TakePending, PutPending, TakeEnables, PutEnables, Look, TakeThreshold, PutThreshold, Post}
+use Rattle.aia_places.specs.Holds.{Hand}
+use Rattle.aia_fabric.specs.declared.at.At.{At}
+use Rattle.aia_fabric.specs.declared.at.At.TheVariants.{File, Slot}
+use Rattle.aia_fabric.specs.World.{World, no_stage}
+use Rattle.aia_fabric.specs.Changes.{with_pending, with_enable}
+use Rattle.aia_move.specs.Move.{Moving, mover, old_at, new_at, PostsIf, Makes, MakesNext}
+use Rattle.aia_move.specs.Touches.{Touches, sends}
+use Rattle.aia_model.specs.Event.{History}
+use Rattle.aia_model.specs.Vms.{vms_of}
+use Rattle.aia_model.specs.FileAfter.FileDeed.{Rests}
+use Rattle.aia_model.specs.Notice.{ends_leave}
+use Rattle.aia_model.specs.FileOf.{FileName, MachineFile, SupervisorFile, notice_deed}
+use Rattle.aia_model.proofs.FileLemmas.{same_or_other, is_file-itself, is_file-other}
+use Rattle.aia_hyp.specs.Core.{CoreState}
+use Rattle.aia_hyp.specs.HostFiles.{FileDone, host_spot, select_place}
+use Rattle.aia_hyp.proofs.EventLemmas.{count_after, as_it_was}
+
+-- ---- when it is sent
+
+not_last : (steps words : ℕ) (saw : Bool) → steps ≢ 7 + 5 * words → false ≡ (nat_eq (steps + 1) (8 + 5 * words) && saw)
+not_last steps words saw ne = sym (ap (λ b. b && saw) (ne_eqb (steps + 1) (8 + 5 * words) (λ e. ne (omega (arith, e)))))
+
+leave_sent : (words : ℕ) (access : Access) (from : Place) (at : Progress) (hand : Hand) (saw : Bool) → IsNext words (Leaving from at) access → hand.seen ≡ saw → sends access hand ≡ (nat_eq (at.steps + 1) (8 + 5 * words) && saw)
+leave_sent words Post from at hand saw next seen =
+    let step : at.steps ≡ 7 + 5 * words = next.step in
+    seen ∙ sym (ap (λ b. b && saw) (eq-eqb (at.steps + 1) (8 + 5 * words) (omega (arith, step))))
+leave_sent words TakeDelivery from at hand saw next seen = let step : at.steps ≡ 0 = next.step in not_last at.steps words saw (λ e. omega (arith, step, e))
+leave_sent words WriteNotice from at hand saw next seen = let step : at.steps ≡ 1 = next.step in not_last at.steps words saw (λ e. omega (arith, step, e))
+leave_sent words WriteEntry from at hand saw next seen = let step : at.steps ≡ 2 = next.step in not_last at.steps words saw (λ e. omega (arith, step, e))
+leave_sent words Fence from at hand saw next seen = let step : at.steps ≡ 3 = next.step in not_last at.steps words saw (λ e. omega (arith, step, e))
+leave_sent words WriteStage from at hand saw next seen = let step : at.steps ≡ 4 = next.step in not_last at.steps words saw (λ e. omega (arith, step, e))
+leave_sent words FenceStage from at hand saw next seen = let step : at.steps ≡ 5 = next.step in not_last at.steps words saw (λ e. omega (arith, step, e))
+leave_sent words (TakePending k) from at hand saw next seen =
+    let step : at.steps ≡ 6 + 2 * k = next.step in
+    let low : k < words = ltb-true k words next.has in not_last at.steps words saw (λ e. omega (arith, step, low, e))
+leave_sent words (PutPending k) from at hand saw next seen =
+    let step : at.steps ≡ 7 + 2 * k = next.step in
+    let low : k < words = ltb-true k words next.has in not_last at.steps words saw (λ e. omega (arith, step, low, e))
+leave_sent words (TakeEnables k) from at hand saw next seen =
+    let step : at.steps ≡ 6 + 2 * words + 2 * k = next.step in
+    let low : k < words = ltb-true k words next.has in not_last at.steps words saw (λ e. omega (arith, step, low, e))
+leave_sent words (PutEnables k) from at hand saw next seen =
+    let step : at.steps ≡ 7 + 2 * words + 2 * k = next.step in
+    let low : k < words = ltb-true k words next.has in not_last at.steps words saw (λ e. omega (arith, step, low, e))
+leave_sent words (Look k) from at hand saw next seen =
+    let step : at.steps ≡ 6 + 4 * words + k = next.step in
+    let low : k < words = ltb-true k words next.has in not_last at.steps words saw (λ e. omega (arith, step, low, e))
+leave_sent words TakeThreshold from at hand saw next seen = let step : at.steps ≡ 6 + 5 * words = next.step in not_last at.steps words saw (λ e. omega (arith, step, e))
+leave_sent words PutThreshold from at hand saw next seen = let no : false ≡ true = next.has in absurd (cc)
+leave_sent words PutDelivery from at hand saw next seen = let no : false ≡ true = next.has in absurd (cc)
+
+arrive_sent : (words : ℕ) (access : Access) (to : Place) (at : Progress) (hand : Hand) → IsNext words (Arriving to at) access → sends access hand ≡ false
+arrive_sent words Post to at hand next = let no : false ≡ true = next.has in absurd (cc)
+arrive_sent words access to at hand next = refl
+
+shift_sent : (words : ℕ) (access : Access) (from to : Place) (at : Progress) (hand : Hand) → IsNext words (Shifting from to at) access → sends access hand ≡ false
+shift_sent words Post from to at hand next = let no : false ≡ true = next.has in absurd (cc)
+shift_sent words access from to at hand next = refl
+
+-- at the end of a leave whose looks saw something
+pub sent_where : (words : ℕ) (access : Access) (there : Home) (hand : Hand) (saw : Bool) → IsNext words there access → (is_leaving there && hand.seen) ≡ (is_leaving there && saw) → sends access hand ≡ (ends_leave words there && saw)
+sent_where words access Parked hand saw next looks = let no : false ≡ true = next.has in absurd (cc)
+sent_where words access (Resident p) hand saw next looks = let no : false ≡ true = next.has in absurd (cc)
+sent_where words access (Leaving from at) hand saw next looks = leave_sent words access from at hand saw next looks
+sent_where words access (Arriving to at) hand saw next looks = arrive_sent words access to at hand next
+sent_where words access (Shifting from to at) hand saw next looks = shift_sent words access from to at hand next
+
+-- ---- what it is to the host
+
+pub count_sent : (sent : Bool) (w u : World) (m : Moving) (g : Vcpu) → Touches sent w u m → u.notices ≡ count_after (cond sent (Some g) None) w.notices
+count_sent true w u m g t = (t.noticed refl).count
+count_sent false w u m g t = t.count refl
+
+module _ (x y : CoreState) (h : History) (m : Moving) (g : Vcpu) (notice : m.who.notice ≡ notice_hart (vms_of h) g) (slot : m.who.slot ≡ slot_of (vms_of h) g) (selects : y.selects ≡ x.selects) where
+  rests : (f : FileName) → file_at y.world.imsic (host_spot f) ≡ file_at x.world.imsic (host_spot f) → FileDone x y f Rests
+  rests f same = record {
+    file = subst (λ (file : FileState). SameFile (shown file) (shown (file_at x.world.imsic (host_spot f)))) (sym same) (as_it_was (shown (file_at x.world.imsic (host_spot f))));
+    select = ap (λ xs. get_or xs (select_place f) 0) selects;
+  }
+
+  unsent : (f : FileName) → Touches false x.world y.world m → IsThere x.world.imsic (host_spot f) → file_at y.world.imsic (host_spot f) ≡ file_at x.world.imsic (host_spot f)
+  unsent (MachineFile hart) t inside = t.machine_files hart inside
+  unsent (SupervisorFile hart) t inside = t.host_files hart inside (inl refl)
+
+  elsewhere : (f : FileName) → Touches true x.world y.world m → IsThere x.world.imsic (host_spot f) → f ≢ SupervisorFile (notice_hart (vms_of h) g) → file_at y.world.imsic (host_spot f) ≡ file_at x.world.imsic (host_spot f)
+  elsewhere (MachineFile hart) t inside ne = t.machine_files hart inside
+  elsewhere (SupervisorFile hart) t inside ne = t.host_files hart inside (inr (λ e. ne (ap SupervisorFile (e ∙ notice))))
+
+  pub host_sent : (sent : Bool) (f : FileName) → Touches sent x.world y.world m → IsThere x.world.imsic (host_spot f) → FileDone x y f (notice_deed h f (cond sent (Some g) None))
+  host_sent false f t inside = rests f (unsent f t inside)
+  host_sent true f t inside = elim (same_or_other f (SupervisorFile (notice_hart (vms_of h) g))) [
+    | inl e ↦ subst (FileDone x y f) (sym (cond-true _ _ _ (is_file-itself f (SupervisorFile (notice_hart (vms_of h) g)) e))) (record {
+      file = subst (λ (i : ℕ). SameFile (shown (file_at y.world.imsic (host_spot f))) (landed 0 i (shown (file_at x.world.imsic (host_spot f))))) (ap (λ q. q + 1) slot)
+          (subst (λ (s : Spot). SameFile (shown (file_at y.world.imsic s)) (landed 0 (m.who.slot + 1) (shown (file_at x.world.imsic s)))) (ap spots.HostFile notice ∙ sym (ap host_spot e)) (t.noticed refl).lands.lands);
+      select = ap (λ xs. get_or xs (select_place f) 0) selects;
+    })
+    | inr ne ↦ subst (FileDone x y f) (sym (cond-false _ _ _ (is_file-other f (SupervisorFile (notice_hart (vms_of h) g)) ne))) (rests f (elsewhere f t inside ne))
+  ]
+
+-- ---- records of stages
+
+pending_stages : (w : World) (at : At) (k v q : ℕ) → get_or (with_pending w at k v).stages q no_stage ≡ get_or w.stages q no_stage
+pending_stages w (File spot) k v q = refl
+pending_stages w (Slot slot) k v q = refl
+
+enable_stages : (w : World) (at : At) (k v q : ℕ) → get_or (with_enable w at k v).stages q no_stage ≡ get_or w.stages q no_stage
+enable_stages w (File spot) k v q = refl
+enable_stages w (Slot slot) k v q = refl
+
+posts_stages : (sent : Bool) (w u : World) (hart identity q : ℕ) → PostsIf sent w u hart identity → get_or u.stages q no_stage ≡ get_or w.stages q no_stage
+posts_stages true w u hart identity q p = ap (λ (x : World). get_or x.stages q no_stage) p.rest
+posts_stages false w u hart identity q e = ap (λ (x : World). get_or x.stages q no_stage) e
+
+made_stages : (access : Access) (w u : World) (m : Moving) → Makes access m w u → (q : ℕ) → q ≢ slot_of w.vms (mover m) → get_or u.stages q no_stage ≡ get_or w.stages q no_stage
+made_stages TakeDelivery w u m makes q apart = ap (λ (x : World). get_or x.stages q no_stage) makes.others
+made_stages PutDelivery w u m makes q apart = ap (λ (x : World). get_or x.stages q no_stage) makes.others
+made_stages WriteNotice w u m makes q apart = ap (λ (x : World). get_or x.stages q no_stage) makes
+made_stages WriteEntry w u m makes q apart = ap (λ (x : World). get_or x.stages q no_stage) makes
+made_stages Fence w u m makes q apart = ap (λ (x : World). get_or x.stages q no_stage) makes
+made_stages WriteStage w u m makes q apart = ap (λ (x : World). get_or x.stages q no_stage) makes ∙ get_or-set_other w.stages (slot_of w.vms (mover m)) q _ no_stage apart
+made_stages FenceStage w u m makes q apart = ap (λ (x : World). get_or x.stages q no_stage) makes ∙ get_or-set_other w.stages (slot_of w.vms (mover m)) q _ no_stage apart
+made_stages (TakePending k) w u m makes q apart = ap (λ (x : World). get_or x.stages q no_stage) makes ∙ pending_stages w (old_at m) k 0 q
+made_stages (PutPending k) w u m makes q apart = ap (λ (x : World). get_or x.stages q no_stage) makes.1 ∙ pending_stages w (new_at m) k _ q
+made_stages (TakeEnables k) w u m makes q apart = ap (λ (x : World). get_or x.stages q no_stage) makes ∙ enable_stages w (old_at m) k 0 q
+made_stages (PutEnables k) w u m makes q apart = ap (λ (x : World). get_or x.stages q no_stage) makes.1 ∙ enable_stages w (new_at m) k _ q
+made_stages (Look k) w u m makes q apart = ap (λ (x : World). get_or x.stages q no_stage) makes
+made_stages TakeThreshold w u m makes q apart = ap (λ (x : World). get_or x.stages q no_stage) makes.others
+made_stages PutThreshold w u m makes q apart = ap (λ (x : World). get_or x.stages q no_stage) makes.others
+made_stages Post w u m makes q apart = posts_stages m.hand.seen w u m.who.notice (m.who.slot + 1) q makes
+
+pub step_stages : (w u : World) (m : Moving) (hand : Hand) → (step : MakesNext w m u hand) → (q : ℕ) → q ≢ slot_of w.vms (mover m) → get_or u.stages q no_stage ≡ get_or w.stages q no_stage
+step_stages w u m hand step q apart = made_stages step.access w u m step.makes q apart

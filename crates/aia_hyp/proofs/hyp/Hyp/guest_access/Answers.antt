@@ -1,0 +1,123 @@
+use Rattle.std.proofs.Common.{◌≡◌, ◌<◌, length, get_or, set, true, false, refl, sym, ap, subst, ◌∙◌, Some, arith}
+use Rattle.aia_regs.specs.declared.access.Csr.TheVariants as csrs
+use Rattle.aia_regs.specs.declared.access.Csr.{Csr}
+use Rattle.aia_regs.specs.declared.access.Op.{Op}
+use Rattle.aia_regs.specs.declared.access.Level.TheVariants as levels
+use Rattle.aia_regs.specs.declared.file_registers.FileReg.{FileReg}
+use Rattle.aia_regs.specs.FileRegisters.{select_written}
+use Rattle.aia_csr.specs.declared.access.Access.{Access}
+use Rattle.aia_csr.specs.declared.access.Access.TheVariants as reaches
+use Rattle.aia_csr.specs.Access.{access_of}
+use Rattle.aia_file.specs.InterruptFile.{SameFile, register_value, top_of, accessed}
+use Rattle.aia_file.specs.FileState.{shown}
+use Rattle.aia_imsic.specs.declared.spot.Spot.{Spot}
+use Rattle.aia_imsic.specs.Imsic.{IsThere, file_at, with_file}
+use Rattle.aia_home.specs.declared.place.Place.{Place}
+use Rattle.aia_home.specs.Vms.{Vcpu, vcpu, vcpus_in, is_vcpu_in, slot_of}
+use Rattle.aia_fabric.specs.Whole.{IsWhole}
+use Rattle.aia_fabric.specs.Changes.{spot_of}
+use Rattle.aia_model.specs.declared.answer.Answer.TheVariants.{Wide}
+use Rattle.aia_model.specs.declared.line.Line.TheVariants.{GuestCsr}
+use Rattle.aia_word.specs.Top.{top_value}
+use Rattle.aia_model.specs.FileAfter.{file_after}
+use Rattle.aia_model.specs.FileAfter.FileDeed.{Accesses}
+use Rattle.aia_hyp.specs.Core.{CoreState, no_record, record_of, resident_at}
+use Rattle.aia_hyp.specs.Stands.{CoreTakes}
+use Rattle.aia_hyp.proofs.EventLemmas.{still}
+use Rattle.aia_hyp.proofs.AccessLemmas.{file_reached, select_reached, top_reached}
+use Rattle.aia_hyp.proofs.GuestAccesses.{file_there, guest_select_done, guest_file_done, guest_accessed, guest_virtual}
+use Rattle.aia_hyp.proofs.hyp.Hyp.guest_access.Goals.{After-access_select_in, After-reg, After-claim_or_read}
+use Rattle.aia_hyp.proofs.hyp.Hyp.guest_access.Goals as goal
+
+-- what the call was asked, of the core before it
+record IsAsked (x : CoreState) (g : Vcpu) (p : Place) : Type 0 where
+  there : is_vcpu_in x.world.vms g ≡ true
+  whole : IsWhole x.world
+  at : resident_at (record_of x g).stay ≡ Some p
+
+asked : (x y : CoreState) (g : Vcpu) (p : Place) → x ≡ y → IsAsked y g p → IsAsked x g p
+asked x y g p e a = subst (λ (z : CoreState). IsAsked z g p) (sym e) a
+
+reached : (x y : CoreState) (g : Vcpu) (access was : Access) (csr : Csr) (op : Op) → x ≡ y → was ≡ access → was ≡ access_of levels.Guest csr op (record_of y g).select false → access ≡ access_of levels.Guest csr op (record_of x g).select false
+reached x y g access was csr op e is table = sym is ∙ table ∙ ap (λ (z : CoreState). access_of levels.Guest csr op (record_of z g).select false) (sym e)
+
+select_taken : (c : After-access_select_in) → CoreTakes (record { world = c.self.inside.fabric; leases = c.self.inside.pool; vcpus = c.self.inside.vcpus.items; selects = c.self.inside.selects }) (record { world = c.self.inside.fabric; leases = c.self.inside.pool; vcpus = c.access_select_in.new.vcpus.items; selects = c.self.inside.selects }) (GuestCsr c.args.vm c.args.number c.args.csr c.args.op) (Wide c.access_select_in.result)
+select_taken c =
+    let x : CoreState = record { world = c.self.inside.fabric; leases = c.self.inside.pool; vcpus = c.self.inside.vcpus.items; selects = c.self.inside.selects } in
+    let y : CoreState = record { world = c.self.inside.fabric; leases = c.self.inside.pool; vcpus = c.access_select_in.new.vcpus.items; selects = c.self.inside.selects } in
+    let g = vcpu c.args.vm c.args.number in
+    let a = asked x c.args.self.now g c.args.place c.self.view_is (record { there = c.requires.there; whole = c.requires.whole; at = c.requires.resident }) in
+    let table = reached x c.args.self.now g reaches.Select c.guest_reached.result c.args.csr c.args.op c.self.view_is c.in-Select.is c.guest_reached.ensures.table in
+    let slot = c.slot_of-slot.ensures.value in
+    let some = c.self.invariant.0 in
+    let below = c.slot_of-slot.ensures.below in
+    let low : slot_of x.world.vms g < length x.vcpus = omega (arith, below, slot, some.stands.records, ap vcpus_in some.stands.vms) in
+    let named = select_reached levels.Guest c.args.csr c.args.op (record_of x g).select c.requires.listed table in
+    guest_accessed x y c.args.vm c.args.number c.args.csr csrs.Select c.args.op c.args.place reaches.Select c.access_select_in.result a.whole a.there a.at table refl refl named
+    (c.access_select_in.ensures.value ∙ ap (λ q. (get_or x.vcpus q no_record).select) slot)
+    (guest_select_done x y g c.args.place c.args.op refl refl refl low
+    (subst (λ q. y.vcpus ≡ set x.vcpus q (record (get_or x.vcpus q no_record) { select = select_written c.args.op (get_or x.vcpus q no_record).select })) slot c.access_select_in.ensures.after))
+
+file_taken : (c : After-reg) → CoreTakes (record { world = c.self.inside.fabric; leases = c.self.inside.pool; vcpus = c.self.inside.vcpus.items; selects = c.self.inside.selects }) (record { world = c.reg.new.self; leases = c.self.inside.pool; vcpus = c.self.inside.vcpus.items; selects = c.self.inside.selects }) (GuestCsr c.args.vm c.args.number c.args.csr c.args.op) (Wide c.reg.result)
+file_taken c =
+    let spot = c.file_spot-spot.ensures in
+    let x : CoreState = record { world = c.self.inside.fabric; leases = c.self.inside.pool; vcpus = c.self.inside.vcpus.items; selects = c.self.inside.selects } in
+    let y : CoreState = record { world = c.reg.new.self; leases = c.self.inside.pool; vcpus = c.self.inside.vcpus.items; selects = c.self.inside.selects } in
+    let g = vcpu c.args.vm c.args.number in
+    let a = asked x c.args.self.now g c.args.place c.self.view_is (record { there = c.requires.there; whole = c.requires.whole; at = c.requires.resident }) in
+    let table = reached x c.args.self.now g (reaches.File c.in-File.reg) c.guest_reached.result c.args.csr c.args.op c.self.view_is c.in-File.is c.guest_reached.ensures.table in
+    let named = file_reached levels.Guest c.args.csr c.args.op (record_of x g).select c.in-File.reg c.requires.listed table in
+    let there = file_there x g c.args.place c.self.invariant.0 a.there a.at in
+    guest_accessed x y c.args.vm c.args.number c.args.csr csrs.Reg c.args.op c.args.place (reaches.File c.in-File.reg) c.reg.result a.whole a.there a.at table refl refl named.0
+    (subst (λ (s : Spot). c.reg.result ≡ register_value (shown (file_at x.world.imsic s)) c.in-File.reg) spot c.reg.ensures.value ∙ ap (register_value (shown (file_at x.world.imsic (spot_of c.args.place)))) (sym named.1))
+    (guest_file_done x y g c.args.place (Accesses csrs.Reg c.args.op) there (subst (λ (s : Spot). y.world ≡ record x.world { imsic = with_file x.world.imsic s (file_at y.world.imsic s) }) spot c.reg.ensures.others) refl refl refl
+    (subst (λ (r : FileReg). SameFile (shown (file_at y.world.imsic (spot_of c.args.place))) (accessed r c.args.op (shown (file_at x.world.imsic (spot_of c.args.place))))) (sym named.1)
+    (subst (λ (s : Spot). SameFile (shown (file_at y.world.imsic s)) (accessed c.in-File.reg c.args.op (shown (file_at x.world.imsic s)))) spot c.reg.ensures.lands)) refl)
+
+top_taken : (c : After-claim_or_read) → CoreTakes (record { world = c.self.inside.fabric; leases = c.self.inside.pool; vcpus = c.self.inside.vcpus.items; selects = c.self.inside.selects }) (record { world = c.claim_or_read.new.fabric; leases = c.self.inside.pool; vcpus = c.self.inside.vcpus.items; selects = c.self.inside.selects }) (GuestCsr c.args.vm c.args.number c.args.csr c.args.op) (Wide c.claim_or_read.result)
+top_taken c =
+    let spot = c.file_spot-spot.ensures in
+    let x : CoreState = record { world = c.self.inside.fabric; leases = c.self.inside.pool; vcpus = c.self.inside.vcpus.items; selects = c.self.inside.selects } in
+    let y : CoreState = record { world = c.claim_or_read.new.fabric; leases = c.self.inside.pool; vcpus = c.self.inside.vcpus.items; selects = c.self.inside.selects } in
+    let g = vcpu c.args.vm c.args.number in
+    let a = asked x c.args.self.now g c.args.place c.self.view_is (record { there = c.requires.there; whole = c.requires.whole; at = c.requires.resident }) in
+    let table = reached x c.args.self.now g reaches.Top c.guest_reached.result c.args.csr c.args.op c.self.view_is c.in-Top.is c.guest_reached.ensures.table in
+    let named = top_reached levels.Guest c.args.csr c.args.op (record_of x g).select c.requires.listed table in
+    let there = file_there x g c.args.place c.self.invariant.0 a.there a.at in
+    guest_accessed x y c.args.vm c.args.number c.args.csr csrs.Topei c.args.op c.args.place reaches.Top c.claim_or_read.result a.whole a.there a.at table refl refl named
+    (subst (λ (s : Spot). c.claim_or_read.result ≡ top_value (top_of (shown (file_at x.world.imsic s)))) spot c.claim_or_read.ensures.value)
+    (guest_file_done x y g c.args.place (Accesses csrs.Topei c.args.op) there (subst (λ (s : Spot). y.world ≡ record x.world { imsic = with_file x.world.imsic s (file_at y.world.imsic s) }) spot c.claim_or_read.ensures.others) refl refl refl
+    (subst (λ (s : Spot). SameFile (shown (file_at y.world.imsic s)) (file_after 0 (Accesses csrs.Topei c.args.op) (shown (file_at x.world.imsic s)))) spot c.claim_or_read.ensures.done) refl)
+
+pub invariant_of-self : goal.invariant_of-self
+invariant_of-self c = (still _ _ _ _ (select_taken c) c.self.invariant.0, (let room = c.access_select_in.ensures.room in let before = c.self.invariant.1 in omega (arith, room, before)))
+
+pub reg-requires-clause-there : goal.reg-requires-clause-there
+reg-requires-clause-there c =
+    let x : CoreState = record { world = c.self.inside.fabric; leases = c.self.inside.pool; vcpus = c.self.inside.vcpus.items; selects = c.self.inside.selects } in
+    let a = asked x c.args.self.now (vcpu c.args.vm c.args.number) c.args.place c.self.view_is (record { there = c.requires.there; whole = c.requires.whole; at = c.requires.resident }) in
+    subst (λ (s : Spot). IsThere x.world.imsic s) (sym c.file_spot-spot.ensures) (file_there x (vcpu c.args.vm c.args.number) c.args.place c.self.invariant.0 a.there a.at)
+
+pub invariant_of-self-in-File : goal.invariant_of-self-in-File
+invariant_of-self-in-File c = (still _ _ _ _ (file_taken c) c.self.invariant.0, c.self.invariant.1)
+
+pub claim_or_read-requires : goal.claim_or_read-requires
+claim_or_read-requires c =
+    let x : CoreState = record { world = c.self.inside.fabric; leases = c.self.inside.pool; vcpus = c.self.inside.vcpus.items; selects = c.self.inside.selects } in
+    let a = asked x c.args.self.now (vcpu c.args.vm c.args.number) c.args.place c.self.view_is (record { there = c.requires.there; whole = c.requires.whole; at = c.requires.resident }) in
+    subst (λ (s : Spot). IsThere x.world.imsic s) (sym c.file_spot-spot.ensures) (file_there x (vcpu c.args.vm c.args.number) c.args.place c.self.invariant.0 a.there a.at)
+
+pub invariant_of-self-in-Top : goal.invariant_of-self-in-Top
+invariant_of-self-in-Top c = (still _ _ _ _ (top_taken c) c.self.invariant.0, c.self.invariant.1)
+
+pub returns-in-Select : goal.returns-in-Select
+returns-in-Select c = rw (← c.self.view_is) (select_taken c)
+
+pub returns-in-File : goal.returns-in-File
+returns-in-File c = rw (← c.self.view_is) (file_taken c)
+
+pub returns-in-Top : goal.returns-in-Top
+returns-in-Top c = rw (← c.self.view_is) (top_taken c)
+
+pub returns-in-Virtual : goal.returns-in-Virtual
+returns-in-Virtual c = guest_virtual c.args.self.now c.args.vm c.args.number c.args.csr c.args.op c.args.place c.requires.there c.requires.resident (sym c.in-Virtual.is ∙ c.guest_reached.ensures.table)

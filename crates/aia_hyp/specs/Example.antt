@@ -1,0 +1,155 @@
+-- A history in which one virtual hart is resident in a guest file and another one is leaving its
+-- own, and the core that stands for it.
+use Rattle.std.specs.Prelude.{ℕ, ◌-◌, true, false, List, [], ◌∷◌, ◌++◌, replicate, Some, None}
+use Rattle.aia_regs.specs.declared.limits.TheConstants.{VCPUS, ENTRIES}
+use Rattle.aia_regs.specs.declared.access.Csr.{Csr}
+use Rattle.aia_regs.specs.declared.access.Csr.TheVariants.{Select, Reg}
+use Rattle.aia_regs.specs.declared.access.Op.TheVariants.{Write}
+use Rattle.aia_file.specs.FileState.{FileState}
+use Rattle.aia_imsic.specs.Imsic.{ImsicState}
+use Rattle.aia_entry.specs.declared.entry.Entry.TheVariants.{NotValid}
+use Rattle.aia_entry.specs.Tables.{TableState}
+use Rattle.aia_home.specs.declared.place.Place.{Place}
+use Rattle.aia_home.specs.Vms.{Vcpu, vcpu}
+use Rattle.aia_home.specs.Home.Home.{Leaving}
+use Rattle.aia_places.specs.View.{leads_to, entry_word, second_word}
+use Rattle.aia_fabric.specs.declared.stage.Stage.{Stage}
+use Rattle.aia_fabric.specs.World.{World, no_stage}
+use Rattle.aia_fabric.specs.Making.{table_place}
+use Rattle.aia_move.specs.declared.plan.Plan.TheVariants.{LeaveDrain}
+use Rattle.aia_move.specs.Move.{Moving}
+use Rattle.aia_model.specs.declared.line.Line.{Line}
+use Rattle.aia_model.specs.declared.line.Line.TheVariants as lines
+use Rattle.aia_model.specs.Move.Move.{Arrives, Leaves}
+use Rattle.aia_model.specs.Event.{History}
+use Rattle.aia_model.specs.Event.Event.{Accepted, Began}
+use Rattle.aia_model.specs.HomeOf.{place}
+use Rattle.aia_model.specs.Answer.{after, steps_taken, whole_move}
+use Rattle.aia_hyp.specs.declared.vcpu.Stay.TheVariants as stays
+use Rattle.aia_hyp.specs.Core.{CoreState}
+
+-- ---- what has happened
+
+-- The virtual hart that is resident, and the one that leaves.
+abbrev pub stayer : Vcpu
+stayer = vcpu 0 0
+
+abbrev pub leaver : Vcpu
+leaver = vcpu 0 1
+
+-- A machine of one hart with three guest files is made, and a VM of two virtual harts.
+abbrev pub made_history : History
+made_history = Accepted (lines.Vm 2 8 0) ∷ Accepted (lines.Machine 1 3 63 1) ∷ []
+
+-- Both virtual harts arrive.
+abbrev pub stayer_arrived : History
+stayer_arrived = whole_move made_history (Arrives stayer 0)
+
+abbrev pub both_arrived : History
+both_arrived = whole_move stayer_arrived (Arrives leaver 0)
+
+-- A write of the one that leaves to a CSR of its file.
+abbrev pub guest_write : Csr → ℕ → Line
+guest_write csr value = lines.GuestCsr 0 1 csr (Write value)
+
+-- It writes 1 to eidelivery and enables identity 1, which the other one then stores to its file.
+abbrev pub before_leaving : History
+before_leaving = Accepted (lines.Ipi 0 0 1 1)
+    ∷ Accepted (guest_write Reg 2) ∷ Accepted (guest_write Select 0xc0)
+    ∷ Accepted (guest_write Reg 1) ∷ Accepted (guest_write Select 0x70) ∷ both_arrived
+
+-- It begins to leave, and does seven steps of that: eidelivery is taken, all routes lead to its
+-- slot of memory, and the one word of the pending set is taken, but not put there yet.
+abbrev pub leaving_history : History
+leaving_history = steps_taken 7 leaver (Began (Leaves leaver) ∷ before_leaving)
+
+-- The lines that lead to it, up to the one whose move is under way, and that one.
+abbrev pub earlier_lines : List Line
+earlier_lines = lines.Machine 1 3 63 1 ∷ lines.Vm 2 8 0 ∷ lines.Arrive 0 0 0 ∷ lines.Arrive 0 1 0
+    ∷ guest_write Select 0x70 ∷ guest_write Reg 1
+    ∷ guest_write Select 0xc0 ∷ guest_write Reg 2 ∷ lines.Ipi 0 0 1 1 ∷ []
+
+abbrev pub leave_line : Line
+leave_line = lines.Leave 0 1
+
+-- The history after lines, the first of a list first.
+abbrev pub after_lines : History → List Line → History
+after_lines h [] = h
+after_lines h (line ∷ later) = after_lines (after h line) later
+
+-- ---- the core then
+
+-- Their guest files.
+abbrev pub stayer_file : Place
+stayer_file = place 0 1
+
+abbrev pub leaver_file : Place
+leaver_file = place 0 2
+
+-- A file of which nothing is pending or enabled.
+abbrev pub empty_state : FileState
+empty_state = record { n = 63; pending = 0 ∷ []; enabled = 0 ∷ []; threshold = 0; delivery = 0 }
+
+-- One of which identity 1 is enabled, and nothing is pending any more.
+abbrev pub drained_state : FileState
+drained_state =
+    record { n = 63; pending = 0 ∷ []; enabled = 2 ∷ []; threshold = 0; delivery = 0 }
+
+-- The files of the hart: at machine level, of the host, and the guest files 1 to 3.
+abbrev pub example_files : ImsicState
+example_files = record {
+  harts = 1;
+  guests = 3;
+  files = empty_state ∷ empty_state ∷ empty_state ∷ drained_state ∷ empty_state ∷ [];
+}
+
+-- Both words of both entries: one leads to a guest file, the other one to a slot.
+abbrev pub entry_words : List ℕ
+entry_words = entry_word 0 (Some stayer_file) ∷ second_word 0 0
+    ∷ entry_word 1 None ∷ second_word 1 0 ∷ []
+
+-- Memory: the slots, which are empty, the two entries, and 0 after them.
+abbrev pub example_memory : List ℕ
+example_memory = replicate 1024 0 ++ entry_words ++ replicate 2044 0
+
+-- The VM's table, with both entries in force as they are written.
+abbrev pub example_table : TableState
+example_table = record {
+  mask = 8;
+  start = table_place 0;
+  in_force = leads_to 0 0 (Some stayer_file) ∷ leads_to 1 0 None
+      ∷ replicate (ENTRIES - 2) NotValid;
+}
+
+-- A G-stage record that names a file, and has it in force.
+abbrev pub stage_to : Place → Stage
+stage_to p = record { written = Some p; in_force = Some p }
+
+abbrev pub example_world : World
+example_world = record {
+  n = 63;
+  imsic = example_files;
+  memory = example_memory;
+  vms = record { vcpus = 2; mask = 8; notice_hart = 0 } ∷ [];
+  tables = example_table ∷ [];
+  stages = stage_to stayer_file ∷ replicate (VCPUS - 1) no_stage;
+  notices = 0;
+}
+
+-- The leave, with seven steps done: it carries eidelivery and the word with identity 1.
+abbrev pub leave_under_way : Moving
+leave_under_way = record {
+  who = record { vm = 0; vcpu = 1; slot = 1; notice = 0 };
+  home = Leaving leaver_file (record { steps = 7 });
+  hand = record { word = 2; delivery = 1; threshold = 0; seen = false };
+}
+
+-- Of the guest files two are out; one virtual hart is resident, the other one is moved.
+abbrev pub leaving_core : CoreState
+leaving_core = record {
+  world = example_world;
+  leases = record { harts = 1; guests = 3; out = true ∷ true ∷ false ∷ [] };
+  vcpus = record { stay = stays.Resident stayer_file; select = 0 }
+      ∷ record { stay = stays.Moving (LeaveDrain leave_under_way); select = 0xc0 } ∷ [];
+  selects = replicate 8 0;
+}

@@ -1,0 +1,205 @@
+ghost use Rattle.std.specs.Prelude.{◌≡◌, ◌<◌, ◌≤◌, true, false, length, slice_index_or, slice_set, Option, Some, None, IfSome, IfNone};
+ghost use Rattle.std.specs.Vec.{vec_capacity};
+ghost use Rattle.aia_home.specs.Vms.{vcpu, is_vcpu_in};
+ghost use Rattle.aia_home.specs.Home.{is_moving};
+ghost use Rattle.aia_pool.specs.Leases.{Leases};
+ghost use Rattle.aia_model.specs.declared.answer.Answer.TheVariants.{Okay};
+ghost use Rattle.aia_move.specs.Move.{IsWho};
+ghost use Rattle.aia_hyp.specs.Core.{no_kept, no_record, record_of, home_in};
+ghost use Rattle.aia_hyp.specs.Stands.{CoreTakes, answer_by};
+ghost use Rattle.aia_hyp.specs.Moves.{move_line, WantBegins, LeaveBegins, ArriveBegins, ShiftBegins, MoveBegins, MoveGoes, stay_after, back_of, with_back, IsOutThere, stay_then, back_then, is_finished};
+
+use crate::hyp::Hyp;
+use crate::vcpu::{Stay, VcpuRecord};
+use aia_fabric::Fabric;
+use aia_model::Refusal;
+use aia_move::{Kept, Next, Outcome, Plan, Who};
+use aia_pool::Pool;
+
+/// A move that is wanted of a virtual hart.
+#[derive(Clone, Copy, Debug, PartialEq, Eq)]
+pub enum Want {
+    /// From its guest file to memory.
+    Leave,
+    /// From memory to a guest file of this hart.
+    Arrive(u64),
+    /// From its guest file to one of this hart.
+    Shift(u64),
+}
+
+impl Hyp {
+    /// Moves a virtual hart, by all steps of its plan. `Err` is `Range` where the virtual hart or
+    /// the hart isn't there, `Busy` where it is being moved, `Home` where it is to arrive and is
+    /// resident, `Parked` where it is to leave or shift and is parked, `NoFile` where no guest file
+    /// of the hart is free; nothing is changed then. Profile.
+    pub fn whole(&mut self, vm: u64, number: u64, want: Want) -> Result<(), Refusal>
+        ensures { CoreTakes self.old self.new (move_line vm number want)
+            (answer_by (λ _. Okay) result) }
+    {
+        let Some(who) = who_at(&self.fabric, vm, number) else {
+            return Err(Refusal::Range);
+        };
+        self.begin_of(who, want)?;
+        while !self.step(who) {}
+        Ok(())
+    }
+
+    /// Begins to move a virtual hart that is there, and does no step of the move.
+    fn begin_of(&mut self, who: Who, want: Want) -> Result<(), Refusal>
+        requires { IsWho self.old.world who }
+        ensures begins { MoveBegins self.old self.new who.vm who.vcpu want
+            (answer_by (λ _. Okay) result) }
+        ensures who { IsWho self.new.world who }
+    {
+        let harts = self.fabric.harts();
+        let old = swap_stay(&mut self.vcpus, who.slot, nowhere());
+        let (new, answer) = begun(old, who, want, harts, &mut self.pool);
+        swap_stay(&mut self.vcpus, who.slot, new);
+        answer
+    }
+
+    /// Makes the next step of the move of a virtual hart that is being moved, and tells whether it
+    /// was the last one.
+    fn step(&mut self, who: Who) -> bool
+        requires who { IsWho self.old.world who }
+        requires moving { is_moving (home_in (record_of self.old (vcpu who.vm who.vcpu)).stay)
+            ≡ true }
+        ensures goes { MoveGoes self.old self.new (vcpu who.vm who.vcpu) result }
+        ensures who { IsWho self.new.world who }
+    {
+        let _whole = self.fabric.words();
+        let Stay::Moving(plan) = swap_stay(&mut self.vcpus, who.slot, nowhere()) else {
+            unreachable!()
+        };
+        let next = plan.step(&mut self.fabric);
+        let _whole = self.fabric.words();
+        let (new, last) = rest_of(next, &mut self.pool);
+        swap_stay(&mut self.vcpus, who.slot, new);
+        last
+    }
+}
+
+/// Finds the virtual hart of this VM with this number, with its slot and its notice hart. `None`
+/// exactly where it isn't there.
+fn who_at(fabric: &Fabric, vm: u64, number: u64) -> Option<Who>
+    ensures there { IfSome result (λ who. IsWho fabric.now who) }
+    ensures named { IfSome result (λ who. (who.vm ≡ vm) × (who.vcpu ≡ number)) }
+    ensures none { IfNone result (is_vcpu_in fabric.now.vms (vcpu vm number) ≡ false) }
+{
+    if !fabric.has_vcpu(vm, number) {
+        return None;
+    }
+    let (vm, vcpu) = (vm as u32, number as u32);
+    Some(Who {
+        vm,
+        vcpu,
+        slot: fabric.slot_of(vm, vcpu),
+        notice: fabric.notice_hart(vm, vcpu),
+    })
+}
+
+/// Makes what stands in a record while the virtual hart's own is out.
+fn nowhere() -> Stay
+    ensures { result ≡ Stay.Parked no_kept }
+{
+    Stay::Parked(Kept {
+        delivery: 0,
+        threshold: 0,
+    })
+}
+
+/// Puts a virtual hart elsewhere, in its record, and gives where it was.
+fn swap_stay(vcpus: &mut Vec<VcpuRecord>, slot: u32, stay: Stay) -> Stay
+    requires { slot < length vcpus.old.items }
+    ensures before { result ≡ (slice_index_or vcpus.old.items slot no_record).stay }
+    ensures after { vcpus.new.items ≡ slice_set vcpus.old.items slot
+        (record (slice_index_or vcpus.old.items slot no_record) { stay = stay }) }
+    ensures room { vec_capacity vcpus.new ≡ vec_capacity vcpus.old }
+{
+    std::mem::replace(&mut vcpus[slot as usize].stay, stay)
+}
+
+/// Begins the move that is wanted of a virtual hart, and tells where the virtual hart is then. `Err`
+/// as of [`Hyp::whole`]: it is where it was.
+fn begun(
+    old: Stay,
+    who: Who,
+    want: Want,
+    harts: u32,
+    pool: &mut Pool,
+) -> (Stay, Result<(), Refusal>)
+    requires { harts ≡ pool.old.harts }
+    ensures { WantBegins want who old result.0 pool.old pool.new (answer_by (λ _. Okay) result.1) }
+{
+    match want {
+        Want::Leave => leave(old, who),
+        Want::Arrive(hart) if hart < u64::from(harts) => arrive(old, who, hart as u32, pool),
+        Want::Shift(hart) if hart < u64::from(harts) => shift(old, who, hart as u32, pool),
+        Want::Arrive(_) | Want::Shift(_) => (old, Err(Refusal::Range)),
+    }
+}
+
+/// Begins a leave of a virtual hart that is resident.
+fn leave(old: Stay, who: Who) -> (Stay, Result<(), Refusal>)
+    ensures { (l : Leases) → LeaveBegins who old result.0 l l (answer_by (λ _. Okay) result.1) }
+{
+    match old {
+        Stay::Resident(from) => (Stay::Moving(Plan::leave(from, who)), Ok(())),
+        Stay::Parked(kept) => (Stay::Parked(kept), Err(Refusal::Parked)),
+        Stay::Moving(plan) => (Stay::Moving(plan), Err(Refusal::Busy)),
+    }
+}
+
+/// Begins an arrival of a virtual hart that is parked, in the least free guest file of a hart.
+fn arrive(old: Stay, who: Who, hart: u32, pool: &mut Pool) -> (Stay, Result<(), Refusal>)
+    requires { hart < pool.old.harts }
+    ensures { ArriveBegins who hart old result.0 pool.old pool.new
+        (answer_by (λ _. Okay) result.1) }
+{
+    match old {
+        Stay::Parked(kept) => match pool.take(hart) {
+            Some(to) => (Stay::Moving(Plan::arrive(to, who, kept)), Ok(())),
+            None => (Stay::Parked(kept), Err(Refusal::NoFile)),
+        },
+        Stay::Resident(from) => (Stay::Resident(from), Err(Refusal::Home)),
+        Stay::Moving(plan) => (Stay::Moving(plan), Err(Refusal::Busy)),
+    }
+}
+
+/// Begins a shift of a virtual hart that is resident, to the least free guest file of a hart.
+fn shift(old: Stay, who: Who, hart: u32, pool: &mut Pool) -> (Stay, Result<(), Refusal>)
+    requires { hart < pool.old.harts }
+    ensures { ShiftBegins who hart old result.0 pool.old pool.new
+        (answer_by (λ _. Okay) result.1) }
+{
+    match old {
+        Stay::Resident(from) => match pool.take(hart) {
+            Some(to) => (Stay::Moving(Plan::shift(from, to, who)), Ok(())),
+            None => (Stay::Resident(from), Err(Refusal::NoFile)),
+        },
+        Stay::Parked(kept) => (Stay::Parked(kept), Err(Refusal::Parked)),
+        Stay::Moving(plan) => (Stay::Moving(plan), Err(Refusal::Busy)),
+    }
+}
+
+/// Tells where a virtual hart is after a step of its plan, and whether its move is at its end; the
+/// guest file that it left then comes back.
+fn rest_of(next: Next, pool: &mut Pool) -> (Stay, bool)
+    requires { IsOutThere pool.old (back_then next) }
+    ensures stay { result.0 ≡ stay_then next }
+    ensures back { pool.new ≡ with_back (back_then next) pool.old }
+    ensures last { result.1 ≡ is_finished next }
+{
+    match next {
+        Next::Again(plan) => (Stay::Moving(plan), false),
+        Next::Finished(Outcome::Left(from, kept)) => {
+            pool.give(from);
+            (Stay::Parked(kept), true)
+        }
+        Next::Finished(Outcome::Arrived(to)) => (Stay::Resident(to), true),
+        Next::Finished(Outcome::Shifted(from, to)) => {
+            pool.give(from);
+            (Stay::Resident(to), true)
+        }
+    }
+}

@@ -1,0 +1,33 @@
+ghost use Rattle.aia_model.specs.declared.line.Line.TheVariants.{Ipi};
+ghost use Rattle.aia_model.specs.declared.answer.Answer.TheVariants.{Okay};
+ghost use Rattle.aia_hyp.specs.Stands.{CoreTakes, answer_by};
+
+use crate::hyp::Hyp;
+use aia_model::Refusal;
+
+impl Hyp {
+    /// Takes a store of `value` by virtual hart `number` of a VM at the place, in its own address
+    /// space, of the interrupt file of virtual hart `to` of its VM, which may be itself: it asks
+    /// there for the identity that the value names, and where the interrupts of `to` are in memory,
+    /// a notice is sent if that one is enabled. `Err` is `Range` where the sender isn't there,
+    /// `Away` where it is not resident, `GFault` where there is no virtual hart `to`; nothing is
+    /// changed then.
+    ///
+    /// AIA 1.0, Interprocessor Interrupts (IPIs); the hypervisor extension 1.0.
+    pub fn ipi(&mut self, vm: u64, number: u64, to: u64, value: u32) -> Result<(), Refusal>
+        ensures { CoreTakes self.old self.new (Ipi vm number to value)
+            (answer_by (λ _. Okay) result) }
+    {
+        if !self.fabric.has_vcpu(vm, number) {
+            return Err(Refusal::Range);
+        }
+        if self.resident(vm as u32, number as u32).is_none() {
+            return Err(Refusal::Away);
+        }
+        if !self.fabric.has_vcpu(vm, to) {
+            return Err(Refusal::GFault);
+        }
+        self.fabric.guest_store(vm as u32, to as u32, value);
+        Ok(())
+    }
+}

@@ -1,0 +1,55 @@
+ghost use Rattle.std.specs.Prelude.{◌≡◌};
+ghost use Rattle.aia_hyp.specs.Core.{no_record, resident_at};
+
+use aia_home::Place;
+use aia_move::{Kept, Plan};
+use aia_pool::FileLease;
+
+/// Where a virtual hart is: what the hypervisor keeps of it there.
+#[derive(Drop)]
+pub enum Stay {
+    /// It is parked, its interrupts in its slot of memory.
+    Parked(Kept),
+    /// It is resident in the guest file of this lease.
+    Resident(FileLease),
+    /// It is being moved.
+    Moving(Plan),
+}
+
+impl Stay {
+    /// Tells the guest file of a virtual hart that is resident, `None` for one that is parked or is
+    /// being moved.
+    pub fn resident(&self) -> Option<Place>
+        ensures { result ≡ resident_at self.now }
+    {
+        match self {
+            Stay::Resident(lease) => Some(lease.place()),
+            Stay::Parked(_) | Stay::Moving(_) => None,
+        }
+    }
+}
+
+/// What the hypervisor keeps of a virtual hart.
+#[derive(Drop)]
+pub struct VcpuRecord {
+    /// Where it is.
+    pub stay: Stay,
+    /// Its select number: what `siselect` holds.
+    pub select: u64,
+}
+
+impl VcpuRecord {
+    /// Makes the record of a virtual hart that was never moved: it is parked, and all its numbers
+    /// are 0.
+    pub fn new() -> VcpuRecord
+        ensures { result ≡ no_record }
+    {
+        VcpuRecord {
+            stay: Stay::Parked(Kept {
+                delivery: 0,
+                threshold: 0,
+            }),
+            select: 0,
+        }
+    }
+}
