@@ -1,23 +1,27 @@
 -- After a line all MSIs that wait are delivered, and then the machine stands for the history after
 -- the line.
-use Rattle.std.proofs.Common.{◌≡◌, List, [], ◌∷◌, Option, Some, None, map, refl, sym, ap, subst, ◌∙◌}
+use Rattle.std.proofs.Common.{◌≡◌, ℕ, zero, suc, List, [], ◌∷◌, Option, Some, None, map, refl, sym, ap, subst, ◌∙◌}
 use Rattle.aia_model.specs.declared.line.Line.{Line}
 use Rattle.aia_model.specs.declared.msi.Msi.{Msi}
 use Rattle.aia_model.specs.declared.answer.Answer.{Answer}
-use Rattle.aia_model.specs.Event.{History}
-use Rattle.aia_model.specs.Event.Event.{Accepted, Delivered}
+use Rattle.aia_model.specs.Event.{History, file_words}
+use Rattle.aia_model.specs.Event.Event.{Accepted, Began, Stepped, Delivered}
 use Rattle.aia_model.specs.Act.{Past, act_of}
 use Rattle.aia_model.specs.Act.Act.{Sent}
 use Rattle.aia_model.specs.Sent.{senders, msi_of, waiting_msis, sent_by, with_all_sent, with_act, acts_of}
 use Rattle.aia_model.specs.Refusal.{refusal}
-use Rattle.aia_model.specs.Answer.{delivered, history_after}
+use Rattle.aia_model.specs.declared.line.Line.TheVariants as lines
+use Rattle.aia_home.specs.Vms.{Vcpu, vcpu}
+use Rattle.aia_model.specs.Move.{Move, mover}
+use Rattle.aia_model.specs.Move.Move.{Arrives, Leaves, Shifts}
+use Rattle.aia_model.specs.Answer.{delivered, steps_taken, steps_of, whole_move, line_taken, history_after}
 use Rattle.aia_model.proofs.AnswerLemmas.{after_by}
 use Rattle.aia_aplic.specs.Aplic.{AplicStands}
 use Rattle.aia_aplic.specs.Sending.{Next}
 use Rattle.aia_aplic.proofs.SendingLemmas.{msis_next, settled_next, none_between}
 use Rattle.aia_replay.specs.declared.machine.Machine.{Machine}
 use Rattle.aia_hyp.specs.Core.{CoreState}
-use Rattle.aia_hyp.specs.Stands.{CoreStands, CoreHears, line_taken}
+use Rattle.aia_hyp.specs.Stands.{CoreStands, CoreHears, line_served}
 use Rattle.aia_replay.specs.Stands.{MachineHolds, MachineStands, MachineTakes, MachineServes, Delivers, act_taken}
 
 -- ---- histories
@@ -39,9 +43,23 @@ all_sent m h past none holds = subst (λ p. MachineHolds m (delivered (waiting_m
 
 -- ---- a line, then its MSIs
 
-pub after_delivery : (n : Machine) (h : History) (line : Line) (r : Option Answer) → MachineHolds n (delivered (waiting_msis (act_taken r h line)) (line_taken r h line)) (with_all_sent (act_taken r h line)) → MachineStands n (history_after r h line)
+-- steps of moves say nothing to the wired sources, and nothing waits when a move begins
+acts_stepped : (count : ℕ) (g : Vcpu) (h : History) → acts_of (steps_taken count g h) ≡ acts_of h
+acts_stepped zero g h = refl
+acts_stepped (suc count) g h = acts_stepped count g (Stepped g ∷ h)
+
+acts_moved : (ms : List Msi) (h : History) (move : Move) → acts_of (delivered ms (whole_move h move)) ≡ with_all_sent (acts_of h)
+acts_moved ms h move = acts_delivered ms (whole_move h move) ∙ acts_stepped (steps_of (file_words h) move) (mover move) (Began move ∷ h) ∙ sym (none_sent (acts_of h) (none_between h))
+
+acts_taken : (ms : List Msi) (h : History) (line : Line) → acts_of (delivered ms (line_taken h line)) ≡ with_all_sent (with_act (act_of line) (acts_of h))
+acts_taken ms h (lines.Arrive vm number hart) = acts_moved ms h (Arrives (vcpu vm number) hart)
+acts_taken ms h (lines.Leave vm number) = acts_moved ms h (Leaves (vcpu vm number))
+acts_taken ms h (lines.Shift vm number hart) = acts_moved ms h (Shifts (vcpu vm number) hart)
+acts_taken ms h line = acts_delivered ms (Accepted line ∷ h)
+
+pub after_delivery : (n : Machine) (h : History) (line : Line) (r : Option Answer) → MachineHolds n (delivered (waiting_msis (act_taken r h line)) (line_served r h line)) (with_all_sent (act_taken r h line)) → MachineStands n (history_after r h line)
 after_delivery n h line None holds =
-    subst (λ p. MachineHolds n (delivered (waiting_msis (with_act (act_of line) (acts_of h))) (Accepted line ∷ h)) p) (sym (acts_delivered (waiting_msis (with_act (act_of line) (acts_of h))) (Accepted line ∷ h))) holds
+    subst (λ p. MachineHolds n (delivered (waiting_msis (with_act (act_of line) (acts_of h))) (line_taken h line)) p) (sym (acts_taken (waiting_msis (with_act (act_of line) (acts_of h))) h line)) holds
 after_delivery n h line (Some word) holds =
     subst (λ p. MachineHolds n h p) (none_sent (acts_of h) (none_between h))
     (subst (λ ms. MachineHolds n (delivered ms h) (with_all_sent (acts_of h))) (no_msis (acts_of h) (none_between h)) holds)

@@ -26,17 +26,22 @@ use Rattle.aia_model.specs.Sent.{with_act, acts_of}
 use Rattle.aia_model.specs.SourceOf.{harts_in, sources_in, is_source, register_read, is_signalled}
 use Rattle.aia_model.specs.FileOf.{MachineFile, SupervisorFile, page_at, file_of}
 use Rattle.aia_model.specs.Refusal.{refusal}
-use Rattle.aia_model.specs.Answer.{accepted_answer}
+use Rattle.aia_model.specs.Move.{Move, move_of}
+use Rattle.aia_model.specs.Answer.{accepted_answer, whole_move}
 use Rattle.aia_model.proofs.AnswerLemmas.{answered, refused_by, wire_refusal, pins_refusal, load_refusal, store_refusal, entry_refusal}
 use Rattle.aia_regs.specs.declared.access.Csr.{Csr}
 use Rattle.aia_regs.specs.declared.access.Op.{Op}
 use Rattle.aia_regs.specs.declared.access.Level.{Level}
 use Rattle.aia_regs.specs.declared.access.Level.TheVariants as levels
+use Rattle.aia_hyp.specs.declared.moves.Want.{Want}
+use Rattle.aia_hyp.specs.declared.moves.Want.TheVariants as wants
+use Rattle.aia_hyp.specs.Moves.{move_line}
 use Rattle.aia_hyp.specs.HostFiles.{IsHost, csr_line}
 use Rattle.aia_hyp.specs.Core.{CoreState}
-use Rattle.aia_hyp.specs.Stands.{CoreStands, CoreTakes, answer_by, line_taken, signals_of}
+use Rattle.aia_hyp.specs.Stands.{CoreStands, CoreTakes, answer_by, line_served, signals_of}
 use Rattle.aia_hyp.proofs.PageLemmas.{misaligned, region_is_free}
 use Rattle.aia_hyp.proofs.PageLemmas.{no_file_there}
+use Rattle.aia_hyp.proofs.EventLemmas.{hosts_line}
 use Rattle.aia_hyp.proofs.StoreLemmas.{line_rests}
 use Rattle.aia_aplic.specs.Aplic.{AplicState, AplicStands, domain_name}
 use Rattle.aia_replay.specs.declared.machine.Machine.{Machine}
@@ -46,10 +51,10 @@ use Rattle.aia_replay.proofs.SizeLemmas.{same_harts, same_sources}
 -- ---- what a line answers and leaves, by its refusal
 
 by_refusal : (m n : Machine) (line : Line) (given : Answer)
-    → ((h : History) → MachineStands m h → (r : Option Answer) × (refusal h line ≡ r) × (given ≡ unwrap_or r (accepted_answer h line)) × MachineHolds n (line_taken r h line) (act_taken r h line)) → MachineTakes m n line given
+    → ((h : History) → MachineStands m h → (r : Option Answer) × (refusal h line ≡ r) × (given ≡ unwrap_or r (accepted_answer h line)) × MachineHolds n (line_served r h line) (act_taken r h line)) → MachineTakes m n line given
 by_refusal m n line given by = record {
   answers = λ h stands. let r = by h stands in r.2 ∙ sym (answered h line r.0 r.1);
-  takes = λ h stands. let r = by h stands in subst (λ (x : Option Answer). MachineHolds n (line_taken x h line) (act_taken x h line)) (sym r.1) r.3;
+  takes = λ h stands. let r = by h stands in subst (λ (x : Option Answer). MachineHolds n (line_served x h line) (act_taken x h line)) (sym r.1) r.3;
 }
 
 pub refused : (m : Machine) (line : Line) (word : Answer) → ((h : History) → MachineStands m h → refusal h line ≡ Some word) → MachineTakes m m line word
@@ -70,13 +75,13 @@ core_line m n line given silent takes same = record {
     at h (Some word) = refl
 
 -- a line of the APLIC that is accepted, which is nothing to the core
-aplic_line : (m n : Machine) (line : Line) (given : Answer) → n.core ≡ m.core
+aplic_line : (m n : Machine) (line : Line) (given : Answer) → move_of line ≡ None → n.core ≡ m.core
     → ((h : History) → MachineStands m h → (refusal h line ≡ None) × (given ≡ accepted_answer h line) × CoreStands m.core (Accepted line ∷ h) × AplicStands n.aplic (act_taken None h line)) → MachineTakes m n line given
-aplic_line m n line given same by = by_refusal m n line given (λ h stands. let r = by h stands in (
+aplic_line m n line given still same by = by_refusal m n line given (λ h stands. let r = by h stands in (
   None,
   r.0,
   r.1,
-  record { core = subst (λ (x : CoreState). CoreStands x (Accepted line ∷ h)) (sym same) r.2; aplic = r.3 },
+  record { core = subst (λ (o : Option Move). CoreStands n.core (option_map_or (whole_move h) o (Accepted line ∷ h))) (sym still) (subst (λ (x : CoreState). CoreStands x (Accepted line ∷ h)) (sym same) r.2); aplic = r.3 },
 ))
 
 -- the answer to a call of the core, by what it gives
@@ -89,13 +94,18 @@ access_silent levels.Machine host hart csr op past = refl
 access_silent levels.Host host hart csr op past = refl
 access_silent levels.Guest host hart csr op past = absurd host
 
+pub move_silent : (vm number : ℕ) (want : Want) (past : Past) → with_act (act_of (move_line vm number want)) past ≡ past
+move_silent vm number wants.Leave past = refl
+move_silent vm number (wants.Arrive hart) past = refl
+move_silent vm number (wants.Shift hart) past = refl
+
 -- ---- entries, which are nothing to the machine
 
 pub entry_read : (m : Machine) (w0 w1 : ℕ) (entry : Entry) → entry ≡ decoded w0 w1 → MachineTakes m m (lines.Entry w0 w1) (words.Entry entry)
-entry_read m w0 w1 entry is = aplic_line m m (lines.Entry w0 w1) (words.Entry entry) refl (λ h stands. (
+entry_read m w0 w1 entry is = aplic_line m m (lines.Entry w0 w1) (words.Entry entry) refl refl (λ h stands. (
   entry_refusal h w0 w1 stands.core.there,
   ap words.Entry is,
-  line_rests m.core h (Accepted (lines.Entry w0 w1)) (record { machine = refl; vms = refl; quiet = refl; guests = λ g. refl }) (λ f. refl) stands.core,
+  line_rests m.core h (Accepted (lines.Entry w0 w1)) (hosts_line h (lines.Entry w0 w1) refl refl refl (λ g. refl)) (λ f. refl) stands.core,
   stands.aplic,
 ))
 
@@ -137,19 +147,19 @@ in_region addr d there none = let bad : ◌≡◌ {A = Option DomainName} None (
 pub register_loaded : (m n : Machine) (addr domain value : ℕ) → addr % 4 ≡ 0 → domain_at addr ≡ Some (domain_name domain) → n.core ≡ m.core
     → ((past : Past) → AplicStands m.aplic past → value ≡ register_read past (domain_name domain) (register_at addr)) → ((past : Past) → AplicStands m.aplic past → AplicStands n.aplic (Loaded (domain_name domain) (register_at addr) ∷ past))
     → MachineTakes m n (Load addr) (Narrow value)
-register_loaded m n addr domain value aligned there same reads stands_after = aplic_line m n (Load addr) (Narrow value) same (λ h stands. (
+register_loaded m n addr domain value aligned there same reads stands_after = aplic_line m n (Load addr) (Narrow value) refl same (λ h stands. (
   load_refusal h addr stands.core.there ∙ ap refused_by (region_is_free (harts_of h) _ addr aligned (in_region addr (domain_name domain) there)),
   ap Narrow (reads (acts_of h) stands.aplic ∙ sym (ap (λ (o : Option DomainName). option_map_or (λ d. register_read (acts_of h) d (register_at addr)) o 0) there)),
-  line_rests m.core h (Accepted (Load addr)) (record { machine = refl; vms = refl; quiet = refl; guests = λ g. refl }) (λ f. refl) stands.core,
+  line_rests m.core h (Accepted (Load addr)) (hosts_line h (Load addr) refl refl refl (λ g. refl)) (λ f. refl) stands.core,
   subst (AplicStands n.aplic) (sym (ap (λ o. with_act (option_map (λ d. Loaded d (register_at addr)) o) (acts_of h)) there)) (stands_after (acts_of h) stands.aplic),
 ))
 
 pub register_stored : (m n : Machine) (addr value domain : ℕ) → addr % 4 ≡ 0 → domain_at addr ≡ Some (domain_name domain) → n.core ≡ m.core
     → ((past : Past) → AplicStands m.aplic past → AplicStands n.aplic (Written (domain_name domain) (register_at addr) value ∷ past)) → MachineTakes m n (Store addr value) Okay
-register_stored m n addr value domain aligned there same writes = aplic_line m n (Store addr value) Okay same (λ h stands. (
+register_stored m n addr value domain aligned there same writes = aplic_line m n (Store addr value) Okay refl same (λ h stands. (
   store_refusal h addr value stands.core.there ∙ ap refused_by (region_is_free (harts_of h) _ addr aligned (in_region addr (domain_name domain) there)),
   refl,
-  line_rests m.core h (Accepted (Store addr value)) (record { machine = refl; vms = refl; quiet = refl; guests = λ g. refl }) (λ f. cond-false _ _ _ (no_file_there addr f (in_region addr (domain_name domain) there))) stands.core,
+  line_rests m.core h (Accepted (Store addr value)) (hosts_line h (Store addr value) refl refl refl (λ g. refl)) (λ f. cond-false _ _ _ (no_file_there addr f (in_region addr (domain_name domain) there))) stands.core,
   subst (AplicStands n.aplic) (sym (ap (λ o. with_act (option_map (λ d. Written d (register_at addr) value) o) (acts_of h)) there)) (writes (acts_of h) stands.aplic),
 ))
 
@@ -165,13 +175,13 @@ no_pins m hart word none = refused m (Pins hart) (Refused word) (λ h stands. pi
 pub pins_shown : (m : Machine) (hart : ℕ) (root child machine supervisor : Bool) → ((past : Past) → AplicStands m.aplic past → hart < harts_in past → root ≡ is_signalled past Root hart)
     → ((past : Past) → AplicStands m.aplic past → hart < harts_in past → child ≡ is_signalled past Child hart) → ((h : History) → CoreStands m.core h → Ok (machine, supervisor) ≡ signals_of h hart)
     → MachineTakes m m (Pins hart) (words.Pins root child machine supervisor)
-pins_shown m hart root child machine supervisor by_root by_child by_core = aplic_line m m (Pins hart) (words.Pins root child machine supervisor) refl (λ h stands.
+pins_shown m hart root child machine supervisor by_root by_child by_core = aplic_line m m (Pins hart) (words.Pins root child machine supervisor) refl refl (λ h stands.
     let core = told (nat_lt hart (harts_of h)) (machine, supervisor) (signals (file_of h (MachineFile hart)), signals (file_of h (SupervisorFile hart))) (by_core h stands.core) in
     let acts : hart < harts_in (acts_of h) = subst (λ k. hart < k) (sym (same_harts h)) (ltb-true hart (harts_of h) core.0) in (
       pins_refusal h hart stands.core.there ∙ cond-false _ _ _ (ap not core.0),
       ap (λ x. words.Pins x child machine supervisor) (by_root (acts_of h) stands.aplic acts) ∙ ap (λ x. words.Pins (is_signalled (acts_of h) Root hart) x machine supervisor) (by_child (acts_of h) stands.aplic acts)
           ∙ ap (λ (p : Bool × Bool). words.Pins (is_signalled (acts_of h) Root hart) (is_signalled (acts_of h) Child hart) p.0 p.1) core.1,
-      line_rests m.core h (Accepted (Pins hart)) (record { machine = refl; vms = refl; quiet = refl; guests = λ g. refl }) (λ f. refl) stands.core,
+      line_rests m.core h (Accepted (Pins hart)) (hosts_line h (Pins hart) refl refl refl (λ g. refl)) (λ f. refl) stands.core,
       stands.aplic,
     ))
   where
@@ -208,9 +218,9 @@ no_wire m source level none = refused m (Wire source level) (Refused Range) (λ 
 
 pub wire_driven : (m n : Machine) (source : ℕ) (level : Bool) → n.core ≡ m.core → ((past : Past) → AplicStands m.aplic past → is_source past source ≡ true)
     → ((past : Past) → AplicStands m.aplic past → AplicStands n.aplic (Driven source level ∷ past)) → MachineTakes m n (Wire source level) Okay
-wire_driven m n source level same there drives = aplic_line m n (Wire source level) Okay same (λ h stands. (
+wire_driven m n source level same there drives = aplic_line m n (Wire source level) Okay refl same (λ h stands. (
   wire_by h source level true stands.core.there (there (acts_of h) stands.aplic),
   refl,
-  line_rests m.core h (Accepted (Wire source level)) (record { machine = refl; vms = refl; quiet = refl; guests = λ g. refl }) (λ f. refl) stands.core,
+  line_rests m.core h (Accepted (Wire source level)) (hosts_line h (Wire source level) refl refl refl (λ g. refl)) (λ f. refl) stands.core,
   drives (acts_of h) stands.aplic,
 ))

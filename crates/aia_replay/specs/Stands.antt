@@ -11,7 +11,7 @@ use Rattle.aia_model.specs.Sent.{with_act, acts_of, with_all_sent, waiting_msis}
 use Rattle.aia_model.specs.Refusal.{refusal, makes_machine}
 use Rattle.aia_model.specs.Answer.{answer, after, delivered}
 use Rattle.aia_model.specs.Script.{text_answer, after_text}
-use Rattle.aia_hyp.specs.Stands.{CoreStands, line_taken}
+use Rattle.aia_hyp.specs.Stands.{CoreStands, line_served}
 use Rattle.aia_aplic.specs.Aplic.{AplicStands}
 use Rattle.aia_replay.specs.declared.machine.Machine.{Machine}
 use Rattle.aia_replay.specs.declared.engine.Engine.{Engine}
@@ -37,7 +37,7 @@ act_taken (Some word) h line = acts_of h
 pub record MachineTakes (old new : Machine) (line : Line) (given : Answer) : Type 0 where
   pub answers : (h : History) → MachineStands old h → given ≡ answer h line
   pub takes : (h : History) → MachineStands old h
-      → MachineHolds new (line_taken (refusal h line) h line) (act_taken (refusal h line) h line)
+      → MachineHolds new (line_served (refusal h line) h line) (act_taken (refusal h line) h line)
 
 -- All MSIs that wait are delivered.
 abbrev pub Delivers : Machine → Machine → Type 0

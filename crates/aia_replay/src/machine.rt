@@ -1,7 +1,7 @@
 ghost use Rattle.std.specs.Prelude.{◌≡◌, ◌∷◌, ℕ, ◌≤◌, ◌%◌, [], true, None, Some, is_some, nat_eq, if◌then◌else◌, IfOk, OnErr, IfSome};
 ghost use Rattle.std.specs.Option.{option_map};
 ghost use Rattle.std.specs.Result.{result_err};
-ghost use Rattle.aia_csr.specs.Access.{IsInTable};
+ghost use Rattle.aia_csr.specs.Access.{IsFileCsr, IsInTable};
 ghost use Rattle.aia_file.specs.InterruptFile.{is_greatest_identity};
 ghost use Rattle.aia_model.specs.Grammar.{IsListed};
 ghost use Rattle.aia_model.specs.Event.Event.{Accepted};
@@ -10,12 +10,13 @@ ghost use Rattle.aia_model.specs.Act.Act.{Made};
 ghost use Rattle.aia_model.specs.Refusal.{is_machine_size};
 ghost use Rattle.aia_hyp.specs.HostFiles.{IsHost, csr_line};
 ghost use Rattle.aia_hyp.specs.Stands.{answer_by};
+ghost use Rattle.aia_hyp.specs.Moves.{move_line};
 ghost use Rattle.aia_aplic.specs.Aplic.{domain_name};
 ghost use Rattle.aia_replay.specs.Stands.{MachineHolds, MachineTakes, MachineServes, Delivers};
 
 use aia_aplic::Aplic;
 use aia_entry::decode;
-use aia_hyp::Hyp;
+use aia_hyp::{Hyp, Want};
 use aia_model::{Answer, Line, Refusal};
 use aia_regs::address_map::{REGION, ROOT_DOMAIN};
 use aia_regs::limits::{GUEST_FILES, HARTS, IDENTITIES, SOURCES};
@@ -78,6 +79,17 @@ impl Machine {
             Line::Msi { vm, addr, value } => self.msi(vm, addr, value),
             Line::MachineCsr { hart, csr, op } => self.access(Level::Machine, hart, csr, op),
             Line::HostCsr { hart, csr, op } => self.access(Level::Host, hart, csr, op),
+            Line::Hgeip { hart } => self.hgeip(hart),
+            Line::GuestCsr { vm, vcpu, csr, op } => self.guest(vm, vcpu, csr, op),
+            Line::Ipi {
+                vm,
+                vcpu,
+                to,
+                value,
+            } => self.ipi(vm, vcpu, to, value),
+            Line::Arrive { vm, vcpu, hart } => self.whole_move(vm, vcpu, Want::Arrive(hart)),
+            Line::Leave { vm, vcpu } => self.whole_move(vm, vcpu, Want::Leave),
+            Line::Shift { vm, vcpu, hart } => self.whole_move(vm, vcpu, Want::Shift(hart)),
             Line::Pins { hart } => self.pins(hart),
             Line::Entry { w0, w1 } => self.entry(w0, w1),
         }
@@ -104,6 +116,35 @@ impl Machine {
         ensures { MachineTakes self.old self.new (Line.Msi vm addr value) result }
     {
         okay(self.core.msi(vm, addr, value))
+    }
+
+    /// Tells which guest files of a hart signal.
+    fn hgeip(&self, hart: u64) -> Answer
+        ensures { MachineTakes self.now self.now (Line.Hgeip hart) result }
+    {
+        wide(self.core.hgeip(hart))
+    }
+
+    /// Does a CSR instruction of a virtual hart.
+    fn guest(&mut self, vm: u64, vcpu: u64, csr: Csr, op: Op) -> Answer
+        requires listed { IsFileCsr csr }
+        ensures { MachineTakes self.old self.new (Line.GuestCsr vm vcpu csr op) result }
+    {
+        wide(self.core.guest(vm, vcpu, csr, op))
+    }
+
+    /// Takes a store of a virtual hart for one of its VM, by the core.
+    fn ipi(&mut self, vm: u64, vcpu: u64, to: u64, value: u32) -> Answer
+        ensures { MachineTakes self.old self.new (Line.Ipi vm vcpu to value) result }
+    {
+        okay(self.core.ipi(vm, vcpu, to, value))
+    }
+
+    /// Moves a virtual hart, by all steps of its move.
+    fn whole_move(&mut self, vm: u64, vcpu: u64, want: Want) -> Answer
+        ensures { MachineTakes self.old self.new (move_line vm vcpu want) result }
+    {
+        okay(self.core.whole(vm, vcpu, want))
     }
 
     /// Tells what an entry of an MSI page table says.
@@ -161,8 +202,7 @@ impl Machine {
         requires host { IsHost level }
         ensures { MachineTakes self.old self.new (csr_line level hart csr op) result }
     {
-        let given = self.core.host(level, hart, csr, op);
-        given.map_or_else(Answer::Refused, Answer::Wide)
+        wide(self.core.host(level, hart, csr, op))
     }
 
     /// Tells the four signals of a hart; `Range` where the hart isn't there.
@@ -189,6 +229,13 @@ fn okay(given: Result<(), Refusal>) -> Answer
         Ok(()) => Answer::Okay,
         Err(word) => Answer::Refused(word),
     }
+}
+
+/// Answers a call of the core that gives 64 bits.
+fn wide(given: Result<u64, Refusal>) -> Answer
+    ensures { result ≡ answer_by Answer.Wide given }
+{
+    given.map_or_else(Answer::Refused, Answer::Wide)
 }
 
 /// Gives the domain, 0 or 1, in whose control region the address lies, `None` in none; `Err` where
