@@ -2,6 +2,7 @@
 
 use aia_csr::{Access, decide};
 use aia_regs::{Csr, FileReg, Level, Op};
+use aia_vectors::same;
 
 const OPS: [Op; 4] = [Op::Read, Op::Write(1), Op::Set(0), Op::Clear(0)];
 
@@ -91,25 +92,13 @@ fn accesses_reach_what_the_table_says(rt: HostRuntime) {
     for op in OPS {
         for vti in [false, true] {
             for (select, host, guest) in SELECTED {
-                assert_eq!(rt;
-                    decide(Level::Machine, Csr::Reg, op, select, vti),
-                    host,
-                    "at {select}"
-                );
-                assert_eq!(rt;
-                    decide(Level::Host, Csr::Reg, op, select, vti),
-                    host,
-                    "at {select}"
-                );
-                assert_eq!(rt;
-                    decide(Level::Guest, Csr::Reg, op, select, vti),
-                    guest,
-                    "at {select}"
-                );
+                same!(rt; decide(Level::Machine, Csr::Reg, op, select, vti), host; select);
+                same!(rt; decide(Level::Host, Csr::Reg, op, select, vti), host; select);
+                same!(rt; decide(Level::Guest, Csr::Reg, op, select, vti), guest; select);
             }
             for level in [Level::Machine, Level::Host, Level::Guest] {
-                assert_eq!(rt; decide(level, Csr::Select, op, 0x81, vti), Access::Select);
-                assert_eq!(rt; decide(level, Csr::Topei, op, 0x81, vti), Access::Top);
+                same!(rt; decide(level, Csr::Select, op, 0x81, vti), Access::Select);
+                same!(rt; decide(level, Csr::Topei, op, 0x81, vti), Access::Top);
             }
         }
         for (csr, read, written, read_at_vti, written_at_vti) in MAJORS {
@@ -117,8 +106,8 @@ fn accesses_reach_what_the_table_says(rt: HostRuntime) {
                 Op::Read => (read, read_at_vti),
                 Op::Write(_) | Op::Set(_) | Op::Clear(_) => (written, written_at_vti),
             };
-            assert_eq!(rt; decide(Level::Guest, csr, op, 0, false), plain);
-            assert_eq!(rt; decide(Level::Guest, csr, op, 0, true), at_vti);
+            same!(rt; decide(Level::Guest, csr, op, 0, false), plain);
+            same!(rt; decide(Level::Guest, csr, op, 0, true), at_vti);
         }
     }
 }

@@ -3,6 +3,8 @@
 use aia_direct::{Idc, claimi, signal, topi};
 use aia_domain::Domain;
 use aia_regs::DomainReg;
+use aia_vectors::looks::holds;
+use aia_vectors::same;
 use std::test::Fail;
 
 #[test]
@@ -16,10 +18,10 @@ fn the_least_priority_is_shown_and_claimed(rt: HostRuntime) -> Result<(), Fail> 
     domain.store(DomainReg::SetIe(0), 0b110);
     domain.wire(1, true);
     domain.wire(2, true);
-    assert_eq!(rt; topi(&idc, &domain, 0), 0x0002_0003);
-    assert_eq!(rt; claimi(&mut idc, &mut domain, 0), 0x0002_0003);
-    assert_eq!(rt; claimi(&mut idc, &mut domain, 0), 0x0001_0007);
-    assert_eq!(rt; topi(&idc, &domain, 1), 0);
+    same!(rt; topi(&idc, &domain, 0), 0x0002_0003);
+    same!(rt; claimi(&mut idc, &mut domain, 0), 0x0002_0003);
+    same!(rt; claimi(&mut idc, &mut domain, 0), 0x0001_0007);
+    same!(rt; topi(&idc, &domain, 1), 0);
     Ok(())
 }
 
@@ -29,11 +31,11 @@ fn a_hart_is_signalled_while_its_control_delivers(rt: HostRuntime) -> Result<(),
     let mut idc = Idc::new();
     domain.store(DomainReg::DomainCfg, 0x100);
     idc.store(DomainReg::IForce(0), 1);
-    assert!(rt; !signal(&idc, &domain, 0));
+    holds(&rt, !signal(&idc, &domain, 0));
     idc.store(DomainReg::IDelivery(0), 3);
-    assert!(rt; signal(&idc, &domain, 0));
-    assert_eq!(rt; idc.load(DomainReg::IDelivery(0)), 1);
-    assert_eq!(rt; claimi(&mut idc, &mut domain, 0), 0);
-    assert_eq!(rt; idc.load(DomainReg::IForce(0)), 0);
+    holds(&rt, signal(&idc, &domain, 0));
+    same!(rt; idc.load(DomainReg::IDelivery(0)), 1);
+    same!(rt; claimi(&mut idc, &mut domain, 0), 0);
+    same!(rt; idc.load(DomainReg::IForce(0)), 0);
     Ok(())
 }

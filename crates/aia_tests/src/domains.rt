@@ -3,6 +3,9 @@
 use aia_domain::Domain;
 use aia_regs::DomainReg;
 use aia_source::{Mode, delegates};
+use aia_vectors::looks::holds;
+use aia_vectors::same;
+use std::process::Abort;
 use std::test::Fail;
 
 /// A register of the root domain of 40 sources and two harts, a value that is written to it, and
@@ -72,49 +75,85 @@ const WRITES: [(DomainReg, u32, DomainReg, u32); 27] = [
     (DomainReg::GenMsi, 0x0004_0007, DomainReg::GenMsi, 0),
 ];
 
+/// Writes to a register, and looks at what a register reads then.
+fn keeps(rt: &impl Abort, root: &mut Domain, write: &(DomainReg, u32, DomainReg, u32)) {
+    let (written, value, read, shown) = *write;
+    root.store(written, value);
+    same!(rt; root.load(read), shown; (written, value));
+}
+
 #[test]
 fn registers_keep_what_the_standard_lets_them(rt: HostRuntime) -> Result<(), Fail> {
     let mut root = Domain::new(rt.alloc(), 40, 2, false)?;
-    assert_eq!(rt; root.load(DomainReg::DomainCfg), 0x8000_0000);
-    for (written, value, read, shown) in WRITES {
-        root.store(written, value);
-        assert_eq!(rt; root.load(read), shown, "{written:?} := {value}");
+    same!(rt; root.load(DomainReg::DomainCfg), 0x8000_0000);
+    for write in &WRITES {
+        keeps(&rt, &mut root, write);
     }
     Ok(())
+}
+
+/// Stores values to registers.
+fn stores(domain: &mut Domain, stores: &[(DomainReg, u32)]) {
+    for (reg, value) in stores {
+        domain.store(*reg, *value);
+    }
+}
+
+/// Tells the mode of a source that is there.
+fn mode(domain: &Domain, s: u32) -> Option<Mode> {
+    if s > domain.sources() {
+        return None;
+    }
+    Some(domain.source(s).mode())
+}
+
+/// Tells the first source that is to be sent.
+fn ready(domain: &Domain) -> Option<u32> {
+    domain.ready().next()
 }
 
 #[test]
 fn a_domain_tells_what_it_keeps_and_what_it_sends(rt: HostRuntime) -> Result<(), Fail> {
     let mut root = Domain::new(rt.alloc(), 3, 1, false)?;
-    root.store(DomainReg::DomainCfg, 0x104);
-    root.store(DomainReg::SourceCfg(1), 4);
-    root.store(DomainReg::SetIe(0), 0b10);
-    root.store(DomainReg::Target(1), 9);
-    root.store(DomainReg::GenMsi, 5);
+    stores(
+        &mut root,
+        &[
+            (DomainReg::DomainCfg, 0x104),
+            (DomainReg::SourceCfg(1), 4),
+            (DomainReg::SetIe(0), 0b10),
+            (DomainReg::Target(1), 9),
+            (DomainReg::GenMsi, 5),
+        ],
+    );
     root.wire(1, true);
-    assert_eq!(rt; root.sources(), 3);
-    assert!(rt; root.is_enabled() && root.delivers_by_msi() && root.genmsi_waits());
-    assert_eq!(rt; root.source(1).mode(), Mode::RisingEdge);
-    assert!(rt; root.enabled(1) && !root.enabled(2));
-    assert_eq!(rt; root.target(1), 9);
-    assert_eq!(rt; root.take_genmsi(), Some(5));
-    assert_eq!(rt; root.take_genmsi(), None);
-    assert_eq!(rt; root.ready().next(), Some(1));
+    same!(rt; root.sources(), 3);
+    holds(&rt, root.is_enabled());
+    holds(&rt, root.delivers_by_msi());
+    holds(&rt, root.genmsi_waits());
+    same!(rt; mode(&root, 1), Some(Mode::RisingEdge));
+    holds(&rt, root.enabled(1));
+    holds(&rt, !root.enabled(2));
+    same!(rt; root.target(1), 9);
+    same!(rt; root.take_genmsi(), Some(5));
+    same!(rt; root.take_genmsi(), None);
+    same!(rt; ready(&root), Some(1));
     root.forwarded(1);
-    assert_eq!(rt; root.ready().next(), None);
+    same!(rt; ready(&root), None);
     Ok(())
 }
 
 #[test]
 fn a_claim_takes_an_edge_and_leaves_a_level(rt: HostRuntime) -> Result<(), Fail> {
     let mut root = Domain::new(rt.alloc(), 2, 1, false)?;
-    root.store(DomainReg::SourceCfg(1), 4);
-    root.store(DomainReg::SourceCfg(2), 6);
+    stores(
+        &mut root,
+        &[(DomainReg::SourceCfg(1), 4), (DomainReg::SourceCfg(2), 6)],
+    );
     root.wire(1, true);
     root.wire(2, true);
     root.claimed(1);
     root.claimed(2);
-    assert_eq!(rt; root.load(DomainReg::SetIp(0)), 0b100);
+    same!(rt; root.load(DomainReg::SetIp(0)), 0b100);
     Ok(())
 }
 
@@ -123,19 +162,21 @@ fn a_child_has_a_source_while_it_is_delegated(rt: HostRuntime) -> Result<(), Fai
     let mut child = Domain::new(rt.alloc(), 1, 1, true)?;
     let sourcecfg = DomainReg::SourceCfg(1);
     child.store(sourcecfg, 6);
-    assert_eq!(rt; child.load(sourcecfg), 0);
+    same!(rt; child.load(sourcecfg), 0);
     child.grant(1);
     child.store(sourcecfg, 6);
     // It has it already.
     child.grant(1);
-    assert_eq!(rt; child.load(sourcecfg), 6);
+    same!(rt; child.load(sourcecfg), 6);
     child.withdraw(1);
-    assert_eq!(rt; child.load(sourcecfg), 0);
+    same!(rt; child.load(sourcecfg), 0);
     Ok(())
 }
 
 #[test]
 fn bit_10_delegates_to_the_child_0_alone(rt: HostRuntime) {
-    assert!(rt; delegates(0x400) && delegates(0xffff_fc00));
-    assert!(rt; !delegates(0x401) && !delegates(6));
+    holds(&rt, delegates(0x400));
+    holds(&rt, delegates(0xffff_fc00));
+    holds(&rt, !delegates(0x401));
+    holds(&rt, !delegates(6));
 }

@@ -5,6 +5,7 @@ use aia_fabric::Fabric;
 use aia_home::{Vm, notice_hart_of, vcpus_in};
 use aia_imsic::Spot;
 use aia_regs::{FileReg, Op};
+use aia_vectors::same;
 use std::alloc::{AllocError, Global};
 use std::test::Fail;
 
@@ -18,7 +19,7 @@ fn two_vms(alloc: Global) -> Result<Fabric, AllocError> {
 }
 
 /// Takes a store of a device, where the VM stands.
-fn stores(fabric: &mut Fabric, vm: u32, addr: u64, value: u32) -> Option<Route> {
+pub(crate) fn stores(fabric: &mut Fabric, vm: u32, addr: u64, value: u32) -> Option<Route> {
     if vm >= fabric.vms() {
         return None;
     }
@@ -33,7 +34,7 @@ fn notices(fabric: &mut Fabric, q: u32) {
 }
 
 /// Does an instruction on the first pending register of the file in whose page an address lies.
-fn pending(fabric: &mut Fabric, addr: u64, op: Op) -> Option<u64> {
+pub(crate) fn pending(fabric: &mut Fabric, addr: u64, op: Op) -> Option<u64> {
     let spot = fabric.locate(addr);
     if spot == Spot::Nowhere {
         return None;
@@ -44,10 +45,10 @@ fn pending(fabric: &mut Fabric, addr: u64, op: Op) -> Option<u64> {
 #[test]
 fn entries_in_force_lead_stores_to_slots(rt: HostRuntime) -> Result<(), Fail> {
     let mut fabric = two_vms(rt.alloc())?;
-    assert_eq!(rt; fabric.vms(), 2);
-    assert_eq!(rt; fabric.vcpus(), 5);
-    assert_eq!(rt; fabric.harts(), 4);
-    assert_eq!(rt; fabric.guests(), 2);
+    same!(rt; fabric.vms(), 2);
+    same!(rt; fabric.vcpus(), 5);
+    same!(rt; fabric.harts(), 4);
+    same!(rt; fabric.guests(), 2);
     let routes = [
         (
             1,
@@ -69,9 +70,10 @@ fn entries_in_force_lead_stores_to_slots(rt: HostRuntime) -> Result<(), Fail> {
         (2, 0x2800_0000, None),
     ];
     for (vm, addr, route) in routes {
-        assert_eq!(rt; stores(&mut fabric, vm, addr, 5), route, "at {addr}");
+        same!(rt; stores(&mut fabric, vm, addr, 5), route; addr);
     }
-    assert_eq!(rt; fabric.notices(), 0);
+    same!(rt; fabric.notices(), 0);
+    drop(fabric);
     Ok(())
 }
 
@@ -80,10 +82,11 @@ fn notices_reach_the_notice_hart(rt: HostRuntime) -> Result<(), Fail> {
     let mut fabric = two_vms(rt.alloc())?;
     notices(&mut fabric, 4);
     notices(&mut fabric, 2);
-    assert_eq!(rt; fabric.notices(), 2);
-    assert_eq!(rt; pending(&mut fabric, 0x2801_0000, Op::Read), Some(1 << 5));
-    assert_eq!(rt; pending(&mut fabric, 0x2800_8000, Op::Read), Some(1 << 3));
-    assert_eq!(rt; pending(&mut fabric, 0x2800_0000, Op::Read), Some(0));
+    same!(rt; fabric.notices(), 2);
+    same!(rt; pending(&mut fabric, 0x2801_0000, Op::Read), Some(1 << 5));
+    same!(rt; pending(&mut fabric, 0x2800_8000, Op::Read), Some(1 << 3));
+    same!(rt; pending(&mut fabric, 0x2800_0000, Op::Read), Some(0));
+    drop(fabric);
     Ok(())
 }
 
@@ -91,16 +94,17 @@ fn notices_reach_the_notice_hart(rt: HostRuntime) -> Result<(), Fail> {
 fn stores_of_the_host_land_in_one_file(rt: HostRuntime) -> Result<(), Fail> {
     let mut fabric = two_vms(rt.alloc())?;
     let spot = fabric.locate(0x2801_a000);
-    assert_eq!(rt; spot, Spot::GuestFile(3, 2));
+    same!(rt; spot, Spot::GuestFile(3, 2));
     if spot == Spot::Nowhere {
         return Ok(());
     }
     fabric.host_store(spot, 0, 7);
-    assert_eq!(rt; fabric.file(spot).top(), 0);
-    assert_eq!(rt; fabric.reg(spot, FileReg::Enable(0), Op::Write(0x80)), 0);
-    assert_eq!(rt; fabric.claim(spot), 0x7_0007);
-    assert_eq!(rt; pending(&mut fabric, 0x2801_a000, Op::Read), Some(0));
-    assert_eq!(rt; pending(&mut fabric, 0x2801_b000, Op::Read), None);
+    same!(rt; fabric.file(spot).top(), 0);
+    same!(rt; fabric.reg(spot, FileReg::Enable(0), Op::Write(0x80)), 0);
+    same!(rt; fabric.claim(spot), 0x7_0007);
+    same!(rt; pending(&mut fabric, 0x2801_a000, Op::Read), Some(0));
+    same!(rt; pending(&mut fabric, 0x2801_b000, Op::Read), None);
+    drop(fabric);
     Ok(())
 }
 
@@ -118,9 +122,9 @@ fn slots_of_virtual_harts_follow_one_another(rt: HostRuntime) -> Result<(), Fail
             notice_hart: 0,
         },
     ];
-    assert_eq!(rt; vcpus_in(&vms), 5);
-    assert_eq!(rt; notice_hart_of(&vms, 2), 1);
-    assert_eq!(rt; notice_hart_of(&vms, 3), 0);
+    same!(rt; vcpus_in(&vms), 5);
+    same!(rt; notice_hart_of(&vms, 2), 1);
+    same!(rt; notice_hart_of(&vms, 3), 0);
     let masks = [
         (0, false),
         (8, true),
@@ -129,7 +133,7 @@ fn slots_of_virtual_harts_follow_one_another(rt: HostRuntime) -> Result<(), Fail
         (0x8000, false),
     ];
     for (mask, may_be) in masks {
-        assert_eq!(rt; is_mask(mask), may_be, "{mask}");
+        same!(rt; is_mask(mask), may_be; mask);
     }
     Ok(())
 }

@@ -3,6 +3,8 @@
 use aia_file::File;
 use aia_imsic::{Imsic, Spot};
 use aia_regs::{FileReg, Op};
+use aia_vectors::looks::holds;
+use aia_vectors::same;
 use std::test::Fail;
 
 /// Addresses at the ends of pages, of a machine of two harts with one guest file each.
@@ -29,10 +31,10 @@ const PLACES: [(u64, Spot); 17] = [
 #[test]
 fn an_address_lies_in_one_page(rt: HostRuntime) -> Result<(), Fail> {
     let imsic = Imsic::new(rt.alloc(), 2, 1, 63)?;
-    assert_eq!(rt; imsic.harts(), 2);
-    assert_eq!(rt; imsic.guests(), 1);
+    same!(rt; imsic.harts(), 2);
+    same!(rt; imsic.guests(), 1);
     for (addr, spot) in PLACES {
-        assert_eq!(rt; imsic.locate(addr), spot, "at {addr}");
+        same!(rt; imsic.locate(addr), spot; addr);
     }
     Ok(())
 }
@@ -51,17 +53,17 @@ fn files_are_apart_and_those_of_guests_signal(rt: HostRuntime) -> Result<(), Fai
     imsic.store(Spot::GuestFile(0, 1), 0, 3);
     imsic.store(Spot::GuestFile(0, 2), 0, 4);
     let pending = FileReg::Pending(0);
-    assert_eq!(rt; imsic.file(Spot::MachineFile(0)).read(pending), 0b10);
-    assert_eq!(rt; imsic.file(Spot::HostFile(0)).read(pending), 0b100);
-    assert_eq!(rt; imsic.file(Spot::GuestFile(0, 1)).read(pending), 0b1000);
-    assert_eq!(rt; imsic.file(Spot::GuestFile(0, 2)).read(pending), 0b1_0000);
+    same!(rt; imsic.file(Spot::MachineFile(0)).read(pending), 0b10);
+    same!(rt; imsic.file(Spot::HostFile(0)).read(pending), 0b100);
+    same!(rt; imsic.file(Spot::GuestFile(0, 1)).read(pending), 0b1000);
+    same!(rt; imsic.file(Spot::GuestFile(0, 2)).read(pending), 0b1_0000);
     listens(imsic.file_mut(Spot::HostFile(0)));
     listens(imsic.file_mut(Spot::GuestFile(0, 2)));
     // The host's own file signals too, but is none of a guest's.
-    assert!(rt; imsic.file(Spot::HostFile(0)).signal());
-    assert_eq!(rt; imsic.hgeip(0), 0b100);
-    assert_eq!(rt; imsic.file_mut(Spot::GuestFile(0, 2)).claim(), 0x4_0004);
-    assert_eq!(rt; imsic.hgeip(0), 0);
+    holds(&rt, imsic.file(Spot::HostFile(0)).signal());
+    same!(rt; imsic.hgeip(0), 0b100);
+    same!(rt; imsic.file_mut(Spot::GuestFile(0, 2)).claim(), 0x4_0004);
+    same!(rt; imsic.hgeip(0), 0);
     Ok(())
 }
 
@@ -69,30 +71,56 @@ fn files_are_apart_and_those_of_guests_signal(rt: HostRuntime) -> Result<(), Fai
 fn ones_are_set_and_cleared(rt: HostRuntime) -> Result<(), Fail> {
     let mut file = File::new(rt.alloc(), 63)?;
     let pending = FileReg::Pending(0);
-    assert_eq!(rt; file.set(pending, 0b1011), 0);
-    assert_eq!(rt; file.clear(pending, 0b110), 0b1010);
-    assert_eq!(rt; file.read(pending), 0b1000);
+    same!(rt; file.set(pending, 0b1011), 0);
+    same!(rt; file.clear(pending, 0b110), 0b1010);
+    same!(rt; file.read(pending), 0b1000);
     Ok(())
+}
+
+/// Writes the first enable register, and gives what it read before.
+fn enables(file: &mut File, value: u64) -> u64 {
+    file.write(FileReg::Enable(0), value)
+}
+
+/// Writes `eidelivery`, and gives what it read before.
+fn delivers(file: &mut File, value: u64) -> u64 {
+    file.write(FileReg::Delivery, value)
+}
+
+/// Does an instruction on the threshold.
+fn threshold(file: &mut File, op: Op) -> u64 {
+    file.access(FileReg::Threshold, op)
+}
+
+/// Takes a store.
+fn lands(file: &mut File, offset: u32, value: u32) {
+    file.land(offset, value);
+}
+
+/// Claims what is on top.
+fn claims(file: &mut File) -> u64 {
+    file.claim()
 }
 
 #[test]
 fn a_file_shows_and_claims_the_identity_on_top(rt: HostRuntime) -> Result<(), Fail> {
     let mut file = File::new(rt.alloc(), 63)?;
-    assert!(rt; file.is_empty());
+    holds(&rt, file.is_empty());
     // Identity 0 can't be enabled: 4 and 5 are.
-    assert_eq!(rt; file.write(FileReg::Enable(0), 0b11_0001), 0);
-    file.land(0, 5);
-    file.land(4, 0x0400_0000);
-    assert_eq!(rt; file.top(), 0x4_0004);
-    assert!(rt; !file.signal());
-    assert_eq!(rt; file.write(FileReg::Delivery, 3), 0);
-    assert!(rt; file.signal() && !file.is_empty());
+    same!(rt; enables(&mut file, 0b11_0001), 0);
+    lands(&mut file, 0, 5);
+    lands(&mut file, 4, 0x0400_0000);
+    same!(rt; file.top(), 0x4_0004);
+    holds(&rt, !file.signal());
+    same!(rt; delivers(&mut file, 3), 0);
+    holds(&rt, file.signal());
+    holds(&rt, !file.is_empty());
     // The threshold is kept modulo 64, so as 4.
-    assert_eq!(rt; file.access(FileReg::Threshold, Op::Set(68)), 0);
-    assert_eq!(rt; file.top(), 0);
-    assert_eq!(rt; file.access(FileReg::Threshold, Op::Clear(4)), 4);
-    assert_eq!(rt; file.claim(), 0x4_0004);
-    assert_eq!(rt; file.claim(), 0x5_0005);
-    assert_eq!(rt; file.claim(), 0);
+    same!(rt; threshold(&mut file, Op::Set(68)), 0);
+    same!(rt; file.top(), 0);
+    same!(rt; threshold(&mut file, Op::Clear(4)), 4);
+    same!(rt; claims(&mut file), 0x4_0004);
+    same!(rt; claims(&mut file), 0x5_0005);
+    same!(rt; claims(&mut file), 0);
     Ok(())
 }

@@ -1,8 +1,9 @@
 //! The hypervisor's core, called by itself.
 
-use aia_hyp::{Hyp, Refusal};
+use aia_hyp::{Hyp, Refusal, Want};
 use aia_model::Msi;
 use aia_regs::{Csr, Level, Op};
+use aia_vectors::same;
 use std::test::Fail;
 
 #[test]
@@ -16,13 +17,10 @@ fn the_core_serves_the_files_of_the_host(rt: HostRuntime) -> Result<(), Fail> {
         (Csr::Reg, 1, 0),
     ];
     for (csr, value, before) in accesses {
-        assert_eq!(rt;
-            core.host(Level::Host, 0, csr, Op::Write(value)),
-            Ok(before)
-        );
+        same!(rt; core.host(Level::Host, 0, csr, Op::Write(value)), Ok(before));
     }
-    assert_eq!(rt; core.signals(0), Ok((false, false)));
-    assert_eq!(rt; core.store(0x2800_0000, 5), Ok(()));
+    same!(rt; core.signals(0), Ok((false, false)));
+    same!(rt; core.store(0x2800_0000, 5), Ok(()));
     core.land(Msi {
         address: 0x2800_0000,
         value: 3,
@@ -36,18 +34,13 @@ fn the_core_serves_the_files_of_the_host(rt: HostRuntime) -> Result<(), Fail> {
         address: 0x0c00_0000,
         value: 5,
     });
-    assert_eq!(rt; core.signals(0), Ok((false, true)));
-    assert_eq!(rt; core.load(0x2800_0000), Ok(0));
-    assert_eq!(rt; core.host(Level::Machine, 0, Csr::Topei, Op::Read), Ok(0));
-    assert_eq!(rt;
-        core.host(Level::Host, 0, Csr::Topei, Op::Write(0)),
-        Ok(0x3_0003)
-    );
-    assert_eq!(rt;
-        core.host(Level::Host, 0, Csr::Topei, Op::Write(0)),
-        Ok(0x5_0005)
-    );
-    assert_eq!(rt; core.host(Level::Host, 0, Csr::Topei, Op::Read), Ok(0));
+    same!(rt; core.signals(0), Ok((false, true)));
+    same!(rt; core.load(0x2800_0000), Ok(0));
+    same!(rt; core.host(Level::Machine, 0, Csr::Topei, Op::Read), Ok(0));
+    same!(rt; core.host(Level::Host, 0, Csr::Topei, Op::Write(0)), Ok(0x3_0003));
+    same!(rt; core.host(Level::Host, 0, Csr::Topei, Op::Write(0)), Ok(0x5_0005));
+    same!(rt; core.host(Level::Host, 0, Csr::Topei, Op::Read), Ok(0));
+    drop(core);
     Ok(())
 }
 
@@ -63,18 +56,13 @@ fn the_core_refuses_with_its_words(rt: HostRuntime) -> Result<(), Fail> {
         (0x0c00_0000, Refusal::Fault),
     ];
     for (addr, word) in stores {
-        assert_eq!(rt; core.store(addr, 1), Err(word), "at {addr}");
-        assert_eq!(rt; core.load(addr), Err(word), "at {addr}");
+        same!(rt; core.store(addr, 1), Err(word); addr);
+        same!(rt; core.load(addr), Err(word); addr);
     }
-    assert_eq!(rt; core.signals(1), Err(Refusal::Range));
-    assert_eq!(rt;
-        core.host(Level::Host, 1, Csr::Select, Op::Read),
-        Err(Refusal::Range)
-    );
-    assert_eq!(rt;
-        core.host(Level::Host, 0, Csr::Reg, Op::Read),
-        Err(Refusal::Illegal)
-    );
+    same!(rt; core.signals(1), Err(Refusal::Range));
+    same!(rt; core.host(Level::Host, 1, Csr::Select, Op::Read), Err(Refusal::Range));
+    same!(rt; core.host(Level::Host, 0, Csr::Reg, Op::Read), Err(Refusal::Illegal));
+    drop(core);
     Ok(())
 }
 
@@ -88,7 +76,7 @@ fn the_core_makes_vms_and_takes_stores_of_their_devices(rt: HostRuntime) -> Resu
         ((3, 0x28, 1), Ok(())),
     ];
     for ((vcpus, mask, hart), given) in vms {
-        assert_eq!(rt; core.vm(vcpus, mask, hart), given, "{vcpus} of {mask}");
+        same!(rt; core.vm(vcpus, mask, hart), given; (vcpus, mask));
     }
     let stores = [
         (1, 0x2800_0000, Err(Refusal::Range)),
@@ -98,7 +86,69 @@ fn the_core_makes_vms_and_takes_stores_of_their_devices(rt: HostRuntime) -> Resu
         (0, 0x2802_0000, Ok(())),
     ];
     for (vm, addr, given) in stores {
-        assert_eq!(rt; core.msi(vm, addr, 5), given, "at {addr}");
+        same!(rt; core.msi(vm, addr, 5), given; addr);
     }
+    drop(core);
+    Ok(())
+}
+
+#[test]
+fn the_core_moves_virtual_harts(rt: HostRuntime) -> Result<(), Fail> {
+    let mut core = Hyp::new(rt.alloc(), 2, 1, 63)?;
+    same!(rt; core.vm(2, 0x8, 0), Ok(()));
+    let moves = [
+        (1, 0, Want::Leave, Err(Refusal::Range)),
+        (0, 2, Want::Leave, Err(Refusal::Range)),
+        (0, 0, Want::Arrive(2), Err(Refusal::Range)),
+        (0, 0, Want::Leave, Err(Refusal::Parked)),
+        (0, 0, Want::Arrive(1), Ok(())),
+        (0, 0, Want::Arrive(1), Err(Refusal::Home)),
+        (0, 1, Want::Arrive(1), Err(Refusal::NoFile)),
+        (0, 0, Want::Shift(0), Ok(())),
+        (0, 1, Want::Arrive(1), Ok(())),
+        (0, 1, Want::Leave, Ok(())),
+    ];
+    for (vm, number, want, given) in moves {
+        same!(rt; core.whole(vm, number, want), given; (vm, number));
+    }
+    drop(core);
+    Ok(())
+}
+
+#[test]
+fn the_core_serves_resident_virtual_harts(rt: HostRuntime) -> Result<(), Fail> {
+    let mut core = Hyp::new(rt.alloc(), 1, 1, 63)?;
+    same!(rt; core.vm(2, 0x8, 0), Ok(()));
+    same!(rt; core.whole(0, 0, Want::Arrive(0)), Ok(()));
+    // Enable 5, and let the file signal.
+    let accesses = [
+        (0, Csr::Select, Op::Write(0xc0), Ok(0)),
+        (0, Csr::Reg, Op::Write(0x20), Ok(0)),
+        (0, Csr::Select, Op::Write(0x70), Ok(0xc0)),
+        (0, Csr::Reg, Op::Write(1), Ok(0)),
+        (1, Csr::Topei, Op::Read, Err(Refusal::Away)),
+        (2, Csr::Topei, Op::Read, Err(Refusal::Range)),
+    ];
+    for (number, csr, op, given) in accesses {
+        same!(rt; core.guest(0, number, csr, op), given; number);
+    }
+    same!(rt; core.hgeip(0), Ok(0));
+    same!(rt; core.msi(0, 0x2800_0000, 5), Ok(()));
+    same!(rt; core.hgeip(0), Ok(2));
+    same!(rt; core.hgeip(1), Err(Refusal::Range));
+    same!(rt; core.guest(0, 0, Csr::Topei, Op::Write(0)), Ok(0x5_0005));
+    same!(rt; core.guest(0, 0, Csr::Select, Op::Write(0x81)), Ok(0x70));
+    same!(rt; core.guest(0, 0, Csr::Reg, Op::Read), Err(Refusal::Virtual));
+    let stores = [
+        (0, 2, 0, Err(Refusal::Range)),
+        (0, 1, 0, Err(Refusal::Away)),
+        (0, 0, 2, Err(Refusal::GFault)),
+        (0, 0, 0, Ok(())),
+    ];
+    for (vm, number, to, given) in stores {
+        same!(rt; core.ipi(vm, number, to, 5), given; (number, to));
+    }
+    same!(rt; core.hgeip(0), Ok(2));
+    drop(core);
     Ok(())
 }

@@ -1,5 +1,4 @@
-//! The tests of all crates: each public call with ample memory, the worked rows over whole runs,
-//! and ends that fail.
+//! The tests of the parts: each public call of a crate below `aia_replay`, with ample memory.
 #![tactic(auto)]
 
 #[cfg(test)]
@@ -13,13 +12,7 @@ mod delivery_controls;
 #[cfg(test)]
 mod domains;
 #[cfg(test)]
-mod ends;
-#[cfg(test)]
-mod engine;
-#[cfg(test)]
 mod fabric;
-#[cfg(test)]
-mod failing_ends;
 #[cfg(test)]
 mod files;
 #[cfg(test)]
@@ -27,11 +20,9 @@ mod hypervisor_core;
 #[cfg(test)]
 mod memory;
 #[cfg(test)]
+mod moves;
+#[cfg(test)]
 mod registers;
-#[cfg(test)]
-mod rows;
-#[cfg(test)]
-mod runs;
 #[cfg(test)]
 mod sets;
 #[cfg(test)]

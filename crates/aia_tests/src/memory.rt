@@ -8,6 +8,7 @@ use aia_file::File;
 use aia_mrif::{SlotMut, Stored, look};
 use aia_ram::Ram;
 use aia_regs::FileReg;
+use aia_vectors::same;
 use aia_word::Bank;
 use std::test::Fail;
 
@@ -23,15 +24,15 @@ fn memory_keeps_its_words(rt: HostRuntime) -> Result<(), Fail> {
         (24, false),
         (usize::MAX, false),
     ] {
-        assert_eq!(rt; ram.fits(at), there, "at {at}");
+        same!(rt; ram.fits(at), there; at);
     }
-    assert_eq!(rt; ram.load(8), 0);
+    same!(rt; ram.load(8), 0);
     ram.store(8, 0x0123_4567_89ab_cdef);
     ram.or(8, 0x1000_0000_0000_0010);
-    assert_eq!(rt; ram.swap(8, 5), 0x1123_4567_89ab_cdff);
-    assert_eq!(rt; ram.load(8), 5);
-    assert_eq!(rt; ram.load(0), 0);
-    assert_eq!(rt; ram.load(16), 0);
+    same!(rt; ram.swap(8, 5), 0x1123_4567_89ab_cdff);
+    same!(rt; ram.load(8), 5);
+    same!(rt; ram.load(0), 0);
+    same!(rt; ram.load(16), 0);
     Ok(())
 }
 
@@ -48,17 +49,17 @@ fn lands(ram: &mut Ram, offset: u32, value: u32) -> Stored
 fn a_store_to_a_slot_is_noticed_where_enabled(rt: HostRuntime) -> Result<(), Fail> {
     let mut ram = Ram::new(rt.alloc(), 1536)?;
     ram.store(520, 0x20);
-    assert_eq!(rt; lands(&mut ram, 0, 5), Stored::Notice);
-    assert_eq!(rt; lands(&mut ram, 0, 5), Stored::Notice);
-    assert_eq!(rt; lands(&mut ram, 4, 0x0500_0000), Stored::Notice);
-    assert_eq!(rt; lands(&mut ram, 0, 6), Stored::Quiet);
-    assert_eq!(rt; lands(&mut ram, 0, 0), Stored::Discarded);
-    assert_eq!(rt; lands(&mut ram, 0, 2048), Stored::Discarded);
-    assert_eq!(rt; lands(&mut ram, 8, 5), Stored::Discarded);
-    assert_eq!(rt; look(&ram, 1, 0), (0x60, 0x20));
-    assert_eq!(rt; lands(&mut ram, 0, 2047), Stored::Quiet);
-    assert_eq!(rt; look(&ram, 1, 31), (1 << 63, 0));
-    assert_eq!(rt; look(&ram, 0, 31), (0, 0));
+    same!(rt; lands(&mut ram, 0, 5), Stored::Notice);
+    same!(rt; lands(&mut ram, 0, 5), Stored::Notice);
+    same!(rt; lands(&mut ram, 4, 0x0500_0000), Stored::Notice);
+    same!(rt; lands(&mut ram, 0, 6), Stored::Quiet);
+    same!(rt; lands(&mut ram, 0, 0), Stored::Discarded);
+    same!(rt; lands(&mut ram, 0, 2048), Stored::Discarded);
+    same!(rt; lands(&mut ram, 8, 5), Stored::Discarded);
+    same!(rt; look(&ram, 1, 0), (0x60, 0x20));
+    same!(rt; lands(&mut ram, 0, 2047), Stored::Quiet);
+    same!(rt; look(&ram, 1, 31), (1 << 63, 0));
+    same!(rt; look(&ram, 0, 31), (0, 0));
     Ok(())
 }
 
@@ -84,15 +85,15 @@ fn put<B: Bank>(bank: &mut B, pending: u64, enabled: u64) -> u64
 #[test]
 fn a_file_is_a_bank(rt: HostRuntime) -> Result<(), Fail> {
     let mut file = File::new(rt.alloc(), 127)?;
-    assert_eq!(rt; file.words(), 2);
+    same!(rt; file.words(), 2);
     file.land(0, 3);
     file.land(0, 65);
     file.write(FileReg::Enable(0), 0b10);
-    assert_eq!(rt; put(&mut file, 0b100, 0b110), 0b10);
-    assert_eq!(rt; file.read(FileReg::Enable(0)), 0b110);
-    assert_eq!(rt; taken(&mut file), 0b1100);
-    assert_eq!(rt; file.read(FileReg::Pending(0)), 0);
-    assert_eq!(rt; file.read(FileReg::Pending(2)), 0b10);
+    same!(rt; put(&mut file, 0b100, 0b110), 0b10);
+    same!(rt; file.read(FileReg::Enable(0)), 0b110);
+    same!(rt; taken(&mut file), 0b1100);
+    same!(rt; file.read(FileReg::Pending(0)), 0);
+    same!(rt; file.read(FileReg::Pending(2)), 0b10);
     Ok(())
 }
 
@@ -103,14 +104,14 @@ fn a_slot_is_a_bank(rt: HostRuntime) -> Result<(), Fail> {
         ram: &mut ram,
         q: 0,
     };
-    assert_eq!(rt; slot.words(), 32);
-    assert_eq!(rt; slot.land(0, 3), Stored::Quiet);
-    assert_eq!(rt; slot.land(0, 65), Stored::Quiet);
-    assert_eq!(rt; put(&mut slot, 0b100, 0b110), 0);
-    assert_eq!(rt; slot.land(0, 2), Stored::Notice);
-    assert_eq!(rt; taken(&mut slot), 0b1100);
-    assert_eq!(rt; put(&mut slot, 0, 0), 0b110);
-    assert_eq!(rt; slot.land(0, 2), Stored::Quiet);
-    assert_eq!(rt; slot.swap_pending(1, 0), 0b10);
+    same!(rt; slot.words(), 32);
+    same!(rt; slot.land(0, 3), Stored::Quiet);
+    same!(rt; slot.land(0, 65), Stored::Quiet);
+    same!(rt; put(&mut slot, 0b100, 0b110), 0);
+    same!(rt; slot.land(0, 2), Stored::Notice);
+    same!(rt; taken(&mut slot), 0b1100);
+    same!(rt; put(&mut slot, 0, 0), 0b110);
+    same!(rt; slot.land(0, 2), Stored::Quiet);
+    same!(rt; slot.swap_pending(1, 0), 0b10);
     Ok(())
 }

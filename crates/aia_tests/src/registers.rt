@@ -3,6 +3,8 @@
 use aia_regs::{
     DomainReg, FileReg, Op, bit, bits, domain_reg, file_reg, put_bits, requested, swap32,
 };
+use aia_vectors::looks::holds;
+use aia_vectors::same;
 
 #[test]
 fn names_each_kind_of_register(rt: HostRuntime) {
@@ -16,7 +18,7 @@ fn names_each_kind_of_register(rt: HostRuntime) {
         (0xfe, FileReg::Enable(62)),
     ];
     for (select, register) in kinds {
-        assert_eq!(rt; file_reg(select), register, "at {select}");
+        same!(rt; file_reg(select), register; select);
     }
 }
 
@@ -32,11 +34,7 @@ fn takes_either_byte_order(rt: HostRuntime) {
         (8, 5, None),
     ];
     for (offset, value, identity) in stores {
-        assert_eq!(rt;
-            requested(63, offset, value),
-            identity,
-            "{value} at {offset}"
-        );
+        same!(rt; requested(63, offset, value), identity; (value, offset));
     }
 }
 
@@ -49,12 +47,12 @@ fn writes_sets_and_clears(rt: HostRuntime) {
         (Op::Clear(0b1010), 0b0100),
     ];
     for (op, value) in instructions {
-        assert_eq!(rt; op.written(0b1100), value);
-        assert_eq!(rt; op.is_writing(), op != Op::Read);
+        same!(rt; op.written(0b1100), value);
+        same!(rt; op.is_writing(), op != Op::Read);
     }
     // An instruction that sets or clears no bit writes all the same.
     for op in [Op::Write(0), Op::Set(0), Op::Clear(0)] {
-        assert!(rt; op.is_writing());
+        holds(&rt, op.is_writing());
     }
 }
 
@@ -133,37 +131,33 @@ const DELIVERY_CONTROLS: [(u32, DomainReg); 28] = [
 #[test]
 fn names_the_registers_of_a_domain(rt: HostRuntime) {
     for (offset, register) in DOMAIN_REGISTERS {
-        assert_eq!(rt; domain_reg(offset), register, "at {offset}");
+        same!(rt; domain_reg(offset), register; offset);
     }
     for (offset, register) in DELIVERY_CONTROLS {
-        assert_eq!(rt; domain_reg(offset), register, "at {offset}");
+        same!(rt; domain_reg(offset), register; offset);
     }
 }
 
 #[test]
 fn reads_fields(rt: HostRuntime) {
-    assert!(rt; bit(0x100, 8) && !bit(0x100, 7) && bit(0x8000_0000_0000_0000, 63));
-    assert_eq!(rt; bits(0xffff_0a5f, 15, 8), 0x0a);
-    assert_eq!(rt; bits(0x8000_0000_0000_0001, 63, 0), 0x8000_0000_0000_0001);
-    assert_eq!(rt; bits(0x8000_0000_0000_0001, 63, 63), 1);
-    assert_eq!(rt; bits(0x8000_0000_0000_0001, 62, 0), 1);
+    holds(&rt, bit(0x100, 8));
+    holds(&rt, !bit(0x100, 7));
+    holds(&rt, bit(0x8000_0000_0000_0000, 63));
+    same!(rt; bits(0xffff_0a5f, 15, 8), 0x0a);
+    same!(rt; bits(0x8000_0000_0000_0001, 63, 0), 0x8000_0000_0000_0001);
+    same!(rt; bits(0x8000_0000_0000_0001, 63, 63), 1);
+    same!(rt; bits(0x8000_0000_0000_0001, 62, 0), 1);
 }
 
 #[test]
 fn writes_fields(rt: HostRuntime) {
-    assert_eq!(rt; put_bits(0x1234, 7, 4, 0xa), 0x12a4);
-    assert_eq!(rt;
-        put_bits(0xffff_ffff_ffff_ffff, 11, 4, 0),
-        0xffff_ffff_ffff_f00f
-    );
-    assert_eq!(rt; put_bits(0x80, 8, 8, 1), 0x180);
-    assert_eq!(rt;
-        put_bits(7, 63, 0, 0xffff_ffff_ffff_ffff),
-        0xffff_ffff_ffff_ffff
-    );
+    same!(rt; put_bits(0x1234, 7, 4, 0xa), 0x12a4);
+    same!(rt; put_bits(0xffff_ffff_ffff_ffff, 11, 4, 0), 0xffff_ffff_ffff_f00f);
+    same!(rt; put_bits(0x80, 8, 8, 1), 0x180);
+    same!(rt; put_bits(7, 63, 0, 0xffff_ffff_ffff_ffff), 0xffff_ffff_ffff_ffff);
 }
 
 #[test]
 fn reverses_bytes(rt: HostRuntime) {
-    assert_eq!(rt; swap32(0x0102_0304), 0x0403_0201);
+    same!(rt; swap32(0x0102_0304), 0x0403_0201);
 }

@@ -5,6 +5,8 @@ use aia_source::{
     genmsi_kept, hart_of, identity_of, is_by_msi, mode_number, mode_of, priority_of,
     root_sourcecfg, target_kept,
 };
+use aia_vectors::looks::holds;
+use aia_vectors::same;
 
 /// A source of this mode, whose wire was raised while it was inactive.
 fn with_high_wire(mode: Mode) -> Wired {
@@ -17,11 +19,11 @@ fn with_high_wire(mode: Mode) -> Wired {
 #[test]
 fn a_new_source_is_inactive_and_hears_nothing(rt: HostRuntime) {
     let mut source = Wired::new();
-    assert_eq!(rt; source.mode(), Mode::Inactive);
+    same!(rt; source.mode(), Mode::Inactive);
     source.wire(true, false);
     source.set(true);
-    assert!(rt; !source.rectified());
-    assert!(rt; !source.pending());
+    holds(&rt, !source.rectified());
+    holds(&rt, !source.pending());
 }
 
 #[test]
@@ -36,8 +38,8 @@ fn a_mode_that_finds_its_level_is_pending_and_an_edge_is_not(rt: HostRuntime) {
     ];
     for (mode, rectified, pending) in modes {
         let source = with_high_wire(mode);
-        assert_eq!(rt; source.rectified(), rectified);
-        assert_eq!(rt; source.pending(), pending);
+        same!(rt; source.rectified(), rectified);
+        same!(rt; source.pending(), pending);
     }
 }
 
@@ -46,35 +48,35 @@ fn an_edge_is_remembered_until_it_is_cleared(rt: HostRuntime) {
     let mut source = with_high_wire(Mode::FallingEdge);
     source.wire(false, false);
     source.wire(true, false);
-    assert!(rt; source.pending());
+    holds(&rt, source.pending());
     source.recfg(Mode::RisingEdge);
-    assert!(rt; source.pending());
+    holds(&rt, source.pending());
     source.clear(false);
-    assert!(rt; !source.pending());
+    holds(&rt, !source.pending());
     source.set(false);
     source.delivery_changed();
-    assert!(rt; source.pending());
+    holds(&rt, source.pending());
     source.forwarded();
-    assert!(rt; !source.pending());
+    holds(&rt, !source.pending());
 }
 
 #[test]
 fn a_level_source_hears_registers_only_where_msis_are_sent(rt: HostRuntime) {
     let mut source = with_high_wire(Mode::LevelHigh);
     source.clear(false);
-    assert!(rt; source.pending());
+    holds(&rt, source.pending());
     source.clear(true);
-    assert!(rt; !source.pending());
+    holds(&rt, !source.pending());
     source.set(false);
-    assert!(rt; !source.pending());
+    holds(&rt, !source.pending());
     source.set(true);
-    assert!(rt; source.pending());
+    holds(&rt, source.pending());
     source.forwarded();
     source.delivery_changed();
-    assert!(rt; source.pending());
+    holds(&rt, source.pending());
     source.wire(false, true);
     source.set(true);
-    assert!(rt; !source.pending());
+    holds(&rt, !source.pending());
 }
 
 /// What is written to a register, what the root domain's `sourcecfg` keeps of it, what the
@@ -97,14 +99,14 @@ const SOURCE_CONFIGURATIONS: [(u32, u32, u32, bool); 12] = [
 #[test]
 fn source_configurations_keep_modes_and_the_one_child(rt: HostRuntime) {
     for (value, root, child, delegated) in SOURCE_CONFIGURATIONS {
-        assert_eq!(rt; root_sourcecfg(value), root);
-        assert_eq!(rt; child_sourcecfg(value), child);
-        assert_eq!(rt; delegates(value), delegated);
+        same!(rt; root_sourcecfg(value), root);
+        same!(rt; child_sourcecfg(value), child);
+        same!(rt; delegates(value), delegated);
     }
     for number in [0, 1, 4, 5, 6, 7] {
-        assert_eq!(rt; mode_number(mode_of(number)), number);
+        same!(rt; mode_number(mode_of(number)), number);
     }
-    assert_eq!(rt; mode_of(0x400), Mode::Inactive);
+    same!(rt; mode_of(0x400), Mode::Inactive);
 }
 
 #[test]
@@ -117,16 +119,13 @@ fn domain_configurations_keep_ie_and_dm(rt: HostRuntime) {
         (0xffff_fefb, 0),
     ];
     for (value, cfg) in kept {
-        assert_eq!(rt; domaincfg_kept(value), cfg);
-        assert_eq!(rt;
-            domaincfg_read(enables(value), is_by_msi(value)),
-            0x8000_0000 + cfg
-        );
+        same!(rt; domaincfg_kept(value), cfg);
+        same!(rt; domaincfg_read(enables(value), is_by_msi(value)), 0x8000_0000 + cfg);
     }
-    assert!(rt; enables(0x100));
-    assert!(rt; !enables(4));
-    assert!(rt; is_by_msi(4));
-    assert!(rt; !is_by_msi(0x100));
+    holds(&rt, enables(0x100));
+    holds(&rt, !enables(4));
+    holds(&rt, is_by_msi(4));
+    holds(&rt, !is_by_msi(0x100));
 }
 
 /// What is written to a register of a machine with two harts, and what `target` keeps of it where
@@ -143,13 +142,13 @@ const TARGETS: [(u32, u32, u32); 6] = [
 #[test]
 fn targets_keep_a_hart_that_is_there_and_a_priority_or_an_identity(rt: HostRuntime) {
     for (value, direct, msi) in TARGETS {
-        assert_eq!(rt; target_kept(2, false, value), direct);
-        assert_eq!(rt; target_kept(2, true, value), msi);
-        assert_eq!(rt; genmsi_kept(2, value), msi);
+        same!(rt; target_kept(2, false, value), direct);
+        same!(rt; target_kept(2, true, value), msi);
+        same!(rt; genmsi_kept(2, value), msi);
     }
-    assert_eq!(rt; first_target(false), 1);
-    assert_eq!(rt; first_target(true), 0);
-    assert_eq!(rt; hart_of(0xfffb_ffff), 0x3ffe);
-    assert_eq!(rt; priority_of(0xffff_ff7f), 0x7f);
-    assert_eq!(rt; identity_of(0xffff_fdff), 0x5ff);
+    same!(rt; first_target(false), 1);
+    same!(rt; first_target(true), 0);
+    same!(rt; hart_of(0xfffb_ffff), 0x3ffe);
+    same!(rt; priority_of(0xffff_ff7f), 0x7f);
+    same!(rt; identity_of(0xffff_fdff), 0x5ff);
 }

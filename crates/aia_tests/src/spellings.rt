@@ -2,17 +2,9 @@
 
 use aia_entry::Entry;
 use aia_script::{Answer, Csr, Line, Op, Parsed, Refusal, parse_line, print_answer, print_line};
+use aia_vectors::same;
 use arrayvec::ArrayVec;
 use std::process::Abort;
-
-fn machine(harts: u64, guests: u64, n: u64, sources: u64) -> Parsed {
-    Parsed::Line(Line::Machine {
-        harts,
-        guests,
-        n,
-        sources,
-    })
-}
 
 fn wire(source: u64, level: bool) -> Parsed {
     Parsed::Line(Line::Wire { source, level })
@@ -20,10 +12,6 @@ fn wire(source: u64, level: bool) -> Parsed {
 
 fn store(addr: u64, value: u32) -> Parsed {
     Parsed::Line(Line::Store { addr, value })
-}
-
-fn load(addr: u64) -> Parsed {
-    Parsed::Line(Line::Load { addr })
 }
 
 fn machine_csr(hart: u64, csr: Csr, op: Op) -> Parsed {
@@ -34,139 +22,201 @@ fn host(hart: u64, csr: Csr, op: Op) -> Parsed {
     Parsed::Line(Line::HostCsr { hart, csr, op })
 }
 
-fn pins(hart: u64) -> Parsed {
-    Parsed::Line(Line::Pins { hart })
+/// Texts that spell no line.
+const BAD: [&str; 30] = [
+    "machine 04 1 63 8",
+    "st 0 4294967296",
+    "st 0x000000000000000ab 0",
+    "st 0xAB 0",
+    "st 0x 0",
+    "st 18446744073709551616 0",
+    "st  0 0",
+    "st 0 0 ",
+    "st 0",
+    "h 3 csrr sireg 0",
+    "h 3 csrr mireg",
+    "h 3 csrrs sireg",
+    "h 3 csrrx sireg 1",
+    "m 0 csrr siselect",
+    "m csrr mireg",
+    "ld 0 0",
+    "ld",
+    "wire 1 2",
+    "wire 1",
+    "wire 1 1 1",
+    "wire 1 01",
+    "pins",
+    "pins 1 1",
+    "pins x",
+    "pin 0",
+    "vm 2 56",
+    "vm 2 56 1 0",
+    "msi 0 0 4294967296",
+    "msi 0 0",
+    "entry 1",
+];
+
+/// Reads a text.
+fn reads(rt: &impl Abort, text: &str, want: Parsed) {
+    same!(rt; parse_line(text.as_bytes()), want; text);
 }
 
-fn vm(vcpus: u64, mask: u64, hart: u64) -> Parsed {
-    Parsed::Line(Line::Vm { vcpus, mask, hart })
-}
-
-fn msi(vm: u64, addr: u64, value: u32) -> Parsed {
-    Parsed::Line(Line::Msi { vm, addr, value })
-}
-
-fn entry(w0: u64, w1: u64) -> Parsed {
-    Parsed::Line(Line::Entry { w0, w1 })
+#[test]
+fn texts_that_spell_no_line_are_bad(rt: HostRuntime) {
+    for text in BAD {
+        reads(&rt, text, Parsed::Bad);
+    }
+    reads(&rt, "# st 0 0", Parsed::Skip);
+    reads(&rt, "", Parsed::Skip);
+    same!(rt; parse_line(&[b'#'; 128]), Parsed::Skip);
+    same!(rt; parse_line(&[b'#'; 129]), Parsed::Bad);
 }
 
 #[test]
 fn texts_are_read_by_the_grammar(rt: HostRuntime) {
-    let texts = [
-        ("machine 4 1 63 8", machine(4, 1, 63, 8)),
-        ("machine 0x0 0 0x3f 0x0008", machine(0, 0, 63, 8)),
-        ("machine 04 1 63 8", Parsed::Bad),
-        ("st 0x28000000 5", store(671088640, 5)),
-        ("st 0 4294967295", store(0, 4294967295)),
-        ("st 0 4294967296", Parsed::Bad),
-        ("st 0x00000000000000ab 0", store(171, 0)),
-        ("st 0x000000000000000ab 0", Parsed::Bad),
-        ("st 0xAB 0", Parsed::Bad),
-        ("st 0x 0", Parsed::Bad),
-        ("st 18446744073709551615 0", store(u64::MAX, 0)),
-        ("st 18446744073709551616 0", Parsed::Bad),
-        ("st  0 0", Parsed::Bad),
-        ("st 0 0 ", Parsed::Bad),
-        ("st 0", Parsed::Bad),
-        ("h 3 csrr stopei", host(3, Csr::Topei, Op::Read)),
-        ("h 0 csrr siselect", host(0, Csr::Select, Op::Read)),
-        ("h 3 csrrw sireg 0xc0", host(3, Csr::Reg, Op::Write(192))),
-        ("h 1 csrrs sireg 7", host(1, Csr::Reg, Op::Set(7))),
-        ("h 2 csrrc stopei 0x0", host(2, Csr::Topei, Op::Clear(0))),
-        ("h 3 csrr sireg 0", Parsed::Bad),
-        ("h 3 csrr mireg", Parsed::Bad),
-        ("h 3 csrrs sireg", Parsed::Bad),
-        ("h 3 csrrx sireg 1", Parsed::Bad),
-        ("m 3 csrr mtopei", machine_csr(3, Csr::Topei, Op::Read)),
-        (
-            "m 0 csrrw miselect 112",
-            machine_csr(0, Csr::Select, Op::Write(112)),
-        ),
-        (
-            "m 0 csrrs mireg 0x10",
-            machine_csr(0, Csr::Reg, Op::Set(16)),
-        ),
-        (
-            "m 0 csrrc mireg 0xff",
-            machine_csr(0, Csr::Reg, Op::Clear(255)),
-        ),
-        ("m 0 csrr siselect", Parsed::Bad),
-        ("m csrr mireg", Parsed::Bad),
-        ("ld 0x24000000", load(603979776)),
-        ("ld 4", load(4)),
-        ("ld 0 0", Parsed::Bad),
-        ("ld", Parsed::Bad),
-        ("wire 1 1", wire(1, true)),
-        ("wire 0x10 0x0", wire(16, false)),
-        ("wire 1 0x0000000000000001", wire(1, true)),
-        ("wire 18446744073709551615 0", wire(u64::MAX, false)),
-        ("wire 1 2", Parsed::Bad),
-        ("wire 1", Parsed::Bad),
-        ("wire 1 1 1", Parsed::Bad),
-        ("wire 1 01", Parsed::Bad),
-        ("pins 0", pins(0)),
-        ("pins 0x3", pins(3)),
-        ("pins 18446744073709551615", pins(u64::MAX)),
-        ("pins", Parsed::Bad),
-        ("pins 1 1", Parsed::Bad),
-        ("pins x", Parsed::Bad),
-        ("pin 0", Parsed::Bad),
-        ("vm 2 0x38 1", vm(2, 56, 1)),
-        ("vm 2 56", Parsed::Bad),
-        ("vm 2 56 1 0", Parsed::Bad),
-        ("msi 0 0x28008000 4294967295", msi(0, 671121408, u32::MAX)),
-        ("msi 0 0 4294967296", Parsed::Bad),
-        ("msi 0 0", Parsed::Bad),
-        ("entry 0x20000003 9", entry(536870915, 9)),
-        ("entry 1", Parsed::Bad),
-        ("# st 0 0", Parsed::Skip),
-        ("", Parsed::Skip),
-    ];
-    for (text, want) in texts {
-        assert_eq!(rt; parse_line(text.as_bytes()), want, "at {text}");
-    }
-    assert_eq!(rt; parse_line(&[b'#'; 128]), Parsed::Skip);
-    assert_eq!(rt; parse_line(&[b'#'; 129]), Parsed::Bad);
+    reads(
+        &rt,
+        "machine 4 1 63 8",
+        Parsed::Line(Line::Machine {
+            harts: 4,
+            guests: 1,
+            n: 63,
+            sources: 8,
+        }),
+    );
+    reads(
+        &rt,
+        "machine 0x0 0 0x3f 0x0008",
+        Parsed::Line(Line::Machine {
+            harts: 0,
+            guests: 0,
+            n: 63,
+            sources: 8,
+        }),
+    );
+    reads(&rt, "st 0x28000000 5", store(671088640, 5));
+    reads(&rt, "st 0 4294967295", store(0, 4294967295));
+    reads(&rt, "st 0x00000000000000ab 0", store(171, 0));
+    reads(&rt, "st 18446744073709551615 0", store(u64::MAX, 0));
+    reads(&rt, "h 3 csrr stopei", host(3, Csr::Topei, Op::Read));
+    reads(&rt, "h 0 csrr siselect", host(0, Csr::Select, Op::Read));
+    reads(
+        &rt,
+        "h 3 csrrw sireg 0xc0",
+        host(3, Csr::Reg, Op::Write(192)),
+    );
+    reads(&rt, "h 1 csrrs sireg 7", host(1, Csr::Reg, Op::Set(7)));
+    reads(
+        &rt,
+        "h 2 csrrc stopei 0x0",
+        host(2, Csr::Topei, Op::Clear(0)),
+    );
+    reads(&rt, "m 3 csrr mtopei", machine_csr(3, Csr::Topei, Op::Read));
+    reads(
+        &rt,
+        "m 0 csrrw miselect 112",
+        machine_csr(0, Csr::Select, Op::Write(112)),
+    );
+    reads(
+        &rt,
+        "m 0 csrrs mireg 0x10",
+        machine_csr(0, Csr::Reg, Op::Set(16)),
+    );
+    reads(
+        &rt,
+        "m 0 csrrc mireg 0xff",
+        machine_csr(0, Csr::Reg, Op::Clear(255)),
+    );
+    reads(
+        &rt,
+        "ld 0x24000000",
+        Parsed::Line(Line::Load { addr: 603979776 }),
+    );
+    reads(&rt, "ld 4", Parsed::Line(Line::Load { addr: 4 }));
+    reads(&rt, "wire 1 1", wire(1, true));
+    reads(&rt, "wire 0x10 0x0", wire(16, false));
+    reads(&rt, "wire 1 0x0000000000000001", wire(1, true));
+    reads(&rt, "wire 18446744073709551615 0", wire(u64::MAX, false));
+    reads(&rt, "pins 0", Parsed::Line(Line::Pins { hart: 0 }));
+    reads(&rt, "pins 0x3", Parsed::Line(Line::Pins { hart: 3 }));
+    reads(
+        &rt,
+        "pins 18446744073709551615",
+        Parsed::Line(Line::Pins { hart: u64::MAX }),
+    );
+    reads(
+        &rt,
+        "vm 2 0x38 1",
+        Parsed::Line(Line::Vm {
+            vcpus: 2,
+            mask: 56,
+            hart: 1,
+        }),
+    );
+    reads(
+        &rt,
+        "msi 0 0x28008000 4294967295",
+        Parsed::Line(Line::Msi {
+            vm: 0,
+            addr: 671121408,
+            value: u32::MAX,
+        }),
+    );
+    reads(
+        &rt,
+        "entry 0x20000003 9",
+        Parsed::Line(Line::Entry {
+            w0: 536870915,
+            w1: 9,
+        }),
+    );
+}
+
+/// Answers, and how each is printed.
+const ANSWERS: [(Answer, &str); 24] = [
+    (Answer::Okay, "ok\n"),
+    (Answer::Narrow(0), "0x00000000\n"),
+    (Answer::Narrow(0x89ab_cdef), "0x89abcdef\n"),
+    (Answer::Wide(0), "0x0000000000000000\n"),
+    (Answer::Wide(0x0123_4567_89ab_cdef), "0x0123456789abcdef\n"),
+    (Answer::Pins(true, false, false, false), "pins 1 0 0 0\n"),
+    (Answer::Pins(false, true, false, false), "pins 0 1 0 0\n"),
+    (Answer::Pins(false, false, true, false), "pins 0 0 1 0\n"),
+    (Answer::Pins(false, false, false, true), "pins 0 0 0 1\n"),
+    (
+        Answer::Entry(Entry::Basic(0x28001)),
+        "basic 0x0000000000028001\n",
+    ),
+    (
+        Answer::Entry(Entry::Mrif(0x8000_0000, 0x28000, 1025)),
+        "mrif 0x0000000080000000 0x0000000000028000 1025\n",
+    ),
+    (Answer::Entry(Entry::NotValid), "notvalid\n"),
+    (Answer::Entry(Entry::Custom), "custom\n"),
+    (Answer::Entry(Entry::Misconfigured), "misconfigured\n"),
+    (Answer::Bad, "bad\n"),
+    (Answer::NoMachine, "nomachine\n"),
+    (Answer::Again, "again\n"),
+    (Answer::Refused(Refusal::Range), "range\n"),
+    (Answer::Refused(Refusal::Full), "full\n"),
+    (Answer::Refused(Refusal::Illegal), "illegal\n"),
+    (Answer::Refused(Refusal::Fault), "fault\n"),
+    (Answer::Refused(Refusal::Guarded), "guarded\n"),
+    (Answer::Refused(Refusal::Other), "other\n"),
+    (Answer::Refused(Refusal::NotValid), "notvalid\n"),
+];
+
+/// Prints an answer.
+fn answers(rt: &impl Abort, answer: &Answer, want: &str) {
+    let mut out = ArrayVec::new();
+    print_answer(answer, &mut out);
+    same!(rt; out.as_slice(), want.as_bytes());
 }
 
 #[test]
 fn answers_are_printed(rt: HostRuntime) {
-    let answers = [
-        (Answer::Okay, "ok\n"),
-        (Answer::Narrow(0), "0x00000000\n"),
-        (Answer::Narrow(0x89ab_cdef), "0x89abcdef\n"),
-        (Answer::Wide(0), "0x0000000000000000\n"),
-        (Answer::Wide(0x0123_4567_89ab_cdef), "0x0123456789abcdef\n"),
-        (Answer::Pins(true, false, false, false), "pins 1 0 0 0\n"),
-        (Answer::Pins(false, true, false, false), "pins 0 1 0 0\n"),
-        (Answer::Pins(false, false, true, false), "pins 0 0 1 0\n"),
-        (Answer::Pins(false, false, false, true), "pins 0 0 0 1\n"),
-        (
-            Answer::Entry(Entry::Basic(0x28001)),
-            "basic 0x0000000000028001\n",
-        ),
-        (
-            Answer::Entry(Entry::Mrif(0x8000_0000, 0x28000, 1025)),
-            "mrif 0x0000000080000000 0x0000000000028000 1025\n",
-        ),
-        (Answer::Entry(Entry::NotValid), "notvalid\n"),
-        (Answer::Entry(Entry::Custom), "custom\n"),
-        (Answer::Entry(Entry::Misconfigured), "misconfigured\n"),
-        (Answer::Bad, "bad\n"),
-        (Answer::NoMachine, "nomachine\n"),
-        (Answer::Again, "again\n"),
-        (Answer::Refused(Refusal::Range), "range\n"),
-        (Answer::Refused(Refusal::Full), "full\n"),
-        (Answer::Refused(Refusal::Illegal), "illegal\n"),
-        (Answer::Refused(Refusal::Fault), "fault\n"),
-        (Answer::Refused(Refusal::Guarded), "guarded\n"),
-        (Answer::Refused(Refusal::Other), "other\n"),
-        (Answer::Refused(Refusal::NotValid), "notvalid\n"),
-    ];
-    for (answer, want) in answers {
-        let mut out = ArrayVec::new();
-        print_answer(&answer, &mut out);
-        assert_eq!(rt; out.as_slice(), want.as_bytes());
+    for (answer, want) in &ANSWERS {
+        answers(&rt, answer, want);
     }
 }
 
@@ -177,8 +227,8 @@ fn prints(rt: &impl Abort, text: &str, printed: &str) {
     if let Parsed::Line(line) = parsed {
         let mut out = ArrayVec::new();
         print_line(&line, &mut out);
-        assert_eq!(rt; out.as_slice(), printed.as_bytes(), "at {text}");
-        assert_eq!(rt; parse_line(out.as_slice()), parsed, "at {text}");
+        same!(rt; out.as_slice(), printed.as_bytes(); text);
+        same!(rt; parse_line(out.as_slice()), parsed; text);
     }
 }
 

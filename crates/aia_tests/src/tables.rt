@@ -2,6 +2,7 @@
 
 use aia_entry::{Entry, Iommu, Route, basic, decode, mrif};
 use aia_ram::Ram;
+use aia_vectors::same;
 use std::test::Fail;
 
 #[test]
@@ -23,14 +24,11 @@ fn entries_say_what_their_words_say(rt: HostRuntime) -> Result<(), Fail> {
             Entry::Mrif(0x8000_0000, 0x28000, 1025),
         ),
     ] {
-        assert_eq!(rt; decode(w0, w1), entry, "{w0:#x} {w1:#x}");
+        same!(rt; decode(w0, w1), entry; (w0, w1));
     }
-    assert_eq!(rt; basic(0x28001), 0x0a00_0407);
-    assert_eq!(rt; mrif(0x8000_0000, 0x28000, 1), (0x2000_0003, 0x0a00_0001));
-    assert_eq!(rt;
-        mrif(0x8000_0000, 0x28000, 1025),
-        (0x2000_0003, 0x1000_0000_0a00_0001)
-    );
+    same!(rt; basic(0x28001), 0x0a00_0407);
+    same!(rt; mrif(0x8000_0000, 0x28000, 1), (0x2000_0003, 0x0a00_0001));
+    same!(rt; mrif(0x8000_0000, 0x28000, 1025), (0x2000_0003, 0x1000_0000_0a00_0001));
     Ok(())
 }
 
@@ -47,38 +45,20 @@ fn a_store_goes_by_the_entry_in_force(rt: HostRuntime) -> Result<(), Fail> {
     ram.store(0x2020, w0);
     ram.store(0x2028, w1);
     ram.store(0x3010, basic(0x28001));
-    assert_eq!(rt;
-        iommu.translate(0, 0x2802_0000),
-        Route::Fault(Entry::NotValid)
-    );
+    same!(rt; iommu.translate(0, 0x2802_0000), Route::Fault(Entry::NotValid));
     iommu.fence(0, 2, &ram);
     let in_memory = Route::To(Entry::Mrif(0x8000_0000, 0x28000, 1));
-    assert_eq!(rt; iommu.translate(0, 0x2802_0000), in_memory);
-    assert_eq!(rt; iommu.translate(0, 0x2802_0004), in_memory);
-    assert_eq!(rt;
-        iommu.translate(0, 0x2802_8000),
-        Route::Fault(Entry::NotValid)
-    );
-    assert_eq!(rt; iommu.translate(0, 0x2801_0000), Route::Other);
-    assert_eq!(rt;
-        iommu.translate(1, 0x2800_8000),
-        Route::Fault(Entry::NotValid)
-    );
+    same!(rt; iommu.translate(0, 0x2802_0000), in_memory);
+    same!(rt; iommu.translate(0, 0x2802_0004), in_memory);
+    same!(rt; iommu.translate(0, 0x2802_8000), Route::Fault(Entry::NotValid));
+    same!(rt; iommu.translate(0, 0x2801_0000), Route::Other);
+    same!(rt; iommu.translate(1, 0x2800_8000), Route::Fault(Entry::NotValid));
     iommu.fence(1, 1, &ram);
-    assert_eq!(rt;
-        iommu.translate(1, 0x2800_8000),
-        Route::To(Entry::Basic(0x28001))
-    );
+    same!(rt; iommu.translate(1, 0x2800_8000), Route::To(Entry::Basic(0x28001)));
     ram.store(0x3010, 0);
-    assert_eq!(rt;
-        iommu.translate(1, 0x2800_8000),
-        Route::To(Entry::Basic(0x28001))
-    );
+    same!(rt; iommu.translate(1, 0x2800_8000), Route::To(Entry::Basic(0x28001)));
     iommu.fence(1, 1, &ram);
-    assert_eq!(rt;
-        iommu.translate(1, 0x2800_8000),
-        Route::Fault(Entry::NotValid)
-    );
-    assert_eq!(rt; iommu.translate(0, 0x2802_0000), in_memory);
+    same!(rt; iommu.translate(1, 0x2800_8000), Route::Fault(Entry::NotValid));
+    same!(rt; iommu.translate(0, 0x2802_0000), in_memory);
     Ok(())
 }

@@ -216,8 +216,166 @@ pub fn the_example_of_virtual_machines()
     ensures { answers (script_of VIRTUAL_MACHINES_EXAMPLE) ≡ answers_of VIRTUAL_MACHINES_EXAMPLE }
 {}
 
+/// A virtual hart is interrupted, is moved to memory and back, and loses nothing on the way.
+pub const MOVED_GUEST_EXAMPLE: [(&str, &str); 80] = [
+    (
+        "# A virtual hart is interrupted while it runs, while it is parked, and after each move. \
+         That whole",
+        "",
+    ),
+    (
+        "# moves are lines, which guest file one gets, and that identities count from the slot in \
+         a notice",
+        "",
+    ),
+    ("# are this project's choice.", ""),
+    ("#", ""),
+    (
+        "# A machine of two harts with one guest file each, the identities 1 to 63 and one wired \
+         source. The",
+        "",
+    ),
+    (
+        "# host is told of notices in the supervisor file of hart 0, so it enables the identity of \
+         its first",
+        "",
+    ),
+    ("# virtual hart there: 1.", ""),
+    ("machine 2 1 63 1", "ok"),
+    ("h 0 csrrw siselect 0xc0", "0x0000000000000000"),
+    ("h 0 csrrw sireg 2", "0x0000000000000000"),
+    ("", ""),
+    ("# ---- a VM", ""),
+    (
+        "# It has two virtual harts, whose files bit 3 of a page's number tells apart: 0x28000000 \
+         and",
+        "",
+    ),
+    (
+        "# 0x28008000 are their MSI addresses. Both are parked: their files are in memory.",
+        "",
+    ),
+    ("vm 2 0x8 0", "ok"),
+    ("", ""),
+    ("# ---- a virtual hart runs", ""),
+    (
+        "# Virtual hart 0 gets the guest file of hart 1. By its own siselect and sireg it enables \
+         the",
+        "",
+    ),
+    (
+        "# identities 5 and 9, and lets its file signal (eidelivery, register 0x70).",
+        "",
+    ),
+    ("arrive 0 0 1", "ok"),
+    ("g 0 0 csrrw siselect 0xc0", "0x0000000000000000"),
+    ("g 0 0 csrrw sireg 0x220", "0x0000000000000000"),
+    ("g 0 0 csrrw siselect 0x70", "0x00000000000000c0"),
+    ("g 0 0 csrrw sireg 1", "0x0000000000000000"),
+    (
+        "# A device asks for 5. Bit 1 of hgeip on hart 1 says that guest file 1 signals, and the \
+         guest claims.",
+        "",
+    ),
+    ("msi 0 0x28000000 5", "ok"),
+    ("h 1 hgeip", "0x0000000000000002"),
+    ("g 0 0 csrrw stopei 0", "0x0000000000050005"),
+    ("h 1 hgeip", "0x0000000000000000"),
+    ("", ""),
+    ("# ---- it is parked", ""),
+    (
+        "# 9 is pending when it leaves its guest file for memory. The move sees it, and tells the \
+         host by a",
+        "",
+    ),
+    ("# notice: identity 1 at the supervisor file of hart 0.", ""),
+    ("msi 0 0x28000000 9", "ok"),
+    ("leave 0 0", "ok"),
+    ("h 1 hgeip", "0x0000000000000000"),
+    ("h 0 csrrw stopei 0", "0x0000000000010001"),
+    (
+        "# Parked it reaches none of its CSRs. What a device asks for waits in memory; the host is \
+         told of",
+        "",
+    ),
+    ("# what is enabled, here 5 but not 6.", ""),
+    ("g 0 0 csrr stopei", "away"),
+    ("msi 0 0x28000000 6", "ok"),
+    ("h 0 csrr stopei", "0x0000000000000000"),
+    ("msi 0 0x28000000 5", "ok"),
+    ("h 0 csrrw stopei 0", "0x0000000000010001"),
+    ("", ""),
+    ("# ---- it runs again, on another hart", ""),
+    (
+        "# All that was asked for is there, what it had enabled is, and it is the file that it \
+         was.",
+        "",
+    ),
+    ("arrive 0 0 0", "ok"),
+    ("h 0 hgeip", "0x0000000000000002"),
+    ("g 0 0 csrr siselect", "0x0000000000000070"),
+    ("g 0 0 csrrw stopei 0", "0x0000000000050005"),
+    ("g 0 0 csrrw stopei 0", "0x0000000000090009"),
+    ("h 0 hgeip", "0x0000000000000000"),
+    ("", ""),
+    ("# ---- it is moved from hart to hart", ""),
+    ("shift 0 0 1", "ok"),
+    ("msi 0 0x28000000 5", "ok"),
+    ("h 0 hgeip", "0x0000000000000000"),
+    ("h 1 hgeip", "0x0000000000000002"),
+    ("", ""),
+    ("# ---- one virtual hart asks another", ""),
+    (
+        "# Virtual hart 0 stores identity 5 at the file of virtual hart 1, which is parked and has \
+         enabled",
+        "",
+    ),
+    (
+        "# none: no notice is sent, and 5 waits. VM 0 has no virtual hart 2: the G stage maps \
+         nothing there.",
+        "",
+    ),
+    ("g 0 0 ipi 1 5", "ok"),
+    ("h 0 csrr stopei", "0x0000000000000000"),
+    ("g 0 0 ipi 2 5", "gfault"),
+    ("", ""),
+    ("# ---- what is refused", ""),
+    (
+        "# The guest file of hart 1 is taken; virtual hart 0 runs, virtual hart 1 is parked.",
+        "",
+    ),
+    ("arrive 0 1 1", "nofile"),
+    ("arrive 0 0 0", "home"),
+    ("leave 0 1", "parked"),
+    ("g 0 1 ipi 0 5", "away"),
+    (
+        "# Register 0x81 does not exist where registers have 64 bits.",
+        "",
+    ),
+    ("g 0 0 csrrw siselect 0x81", "0x0000000000000070"),
+    ("g 0 0 csrr sireg", "virtual"),
+    (
+        "# The guest file of hart 0 is free again. Identity 5 came with it.",
+        "",
+    ),
+    ("arrive 0 1 0", "ok"),
+    ("g 0 1 csrrw siselect 0x80", "0x0000000000000000"),
+    ("g 0 1 csrr sireg", "0x0000000000000020"),
+];
+
+/// Proves that the model answers [`MOVED_GUEST_EXAMPLE`] as it says.
+pub fn the_example_of_a_moved_guest()
+    ensures { answers (script_of MOVED_GUEST_EXAMPLE) ≡ answers_of MOVED_GUEST_EXAMPLE }
+{}
+
 /// All rows of this file, each with its name.
-pub const ROWS: [Row; 1] = [Row {
-    name: "VIRTUAL_MACHINES_EXAMPLE",
-    pairs: &VIRTUAL_MACHINES_EXAMPLE,
-}];
+pub const ROWS: [Row; 2] = [
+    Row {
+        name: "VIRTUAL_MACHINES_EXAMPLE",
+        pairs: &VIRTUAL_MACHINES_EXAMPLE,
+    },
+    Row {
+        name: "MOVED_GUEST_EXAMPLE",
+        pairs: &MOVED_GUEST_EXAMPLE,
+    },
+];

@@ -4,6 +4,7 @@ ghost use Rattle.std.specs.Prelude.{◌<◌};
 
 use aia_io::{MemSink, MemSource, Sink, Source};
 use aia_replay::{Status, run};
+use aia_vectors::same;
 use std::alloc::{AllocError, Global};
 use std::process::Abort;
 use std::test::Fail;
@@ -13,6 +14,11 @@ const ROOM: usize = 16_384;
 
 /// The most bytes that a script has.
 const LIMIT: usize = 16_777_216;
+
+/// Replays what the source gives. It has no clause, so that a test knows nothing of the run.
+pub(crate) fn replay<S: Source, K: Sink>(alloc: Global, source: &mut S, sink: &mut K) -> Status {
+    run(alloc, &["replay"], source, sink)
+}
 
 /// Replays a script that comes in pieces, and looks at what is printed.
 pub(crate) fn replays(
@@ -28,9 +34,9 @@ pub(crate) fn replays(
     let script = Vec::from_slice(alloc, script)?;
     let mut source = MemSource::new(script, piece, Vec::new(alloc));
     let mut sink = MemSink::new(alloc, ROOM, Vec::new(alloc))?;
-    let status = run(alloc, &["replay"], &mut source, &mut sink);
-    assert_eq!(rt; status, Status::Done, "{name} by {piece} bytes");
-    assert_eq!(rt; sink.bytes(), answers, "{name} by {piece} bytes");
+    let status = replay(alloc, &mut source, &mut sink);
+    same!(rt; status, Status::Done; (name, piece));
+    same!(rt; sink.bytes(), answers; (name, piece));
     Ok(())
 }
 
@@ -79,36 +85,44 @@ fn store_and_long_line(alloc: Global, bytes: usize) -> Result<Vec<u8>, AllocErro
     Ok(script)
 }
 
+/// Replays a script in one piece, and looks at how the run ends and at what is printed.
+fn ends(
+    rt: &impl Abort,
+    alloc: Global,
+    script: Vec<u8>,
+    status: Status,
+    answers: &str,
+) -> Result<(), AllocError> {
+    let mut source = MemSource::new(script, LIMIT, Vec::new(alloc));
+    let mut sink = MemSink::new(alloc, ROOM, Vec::new(alloc))?;
+    same!(rt; replay(alloc, &mut source, &mut sink), status);
+    same!(rt; sink.bytes(), answers.as_bytes());
+    Ok(())
+}
+
 #[test]
 fn a_script_has_at_most_so_many_bytes(rt: HostRuntime) -> Result<(), Fail> {
     let alloc = rt.alloc();
-    let scripts = [
-        (LIMIT, Status::Done, "nomachine\nbad\n"),
-        (LIMIT + 1, Status::TooLong, "nomachine\n"),
-    ];
-    for (bytes, status, answers) in scripts {
-        let script = store_and_long_line(alloc, bytes)?;
-        let mut source = MemSource::new(script, LIMIT, Vec::new(alloc));
-        let mut sink = MemSink::new(alloc, ROOM, Vec::new(alloc))?;
-        assert_eq!(rt; run(alloc, &["replay"], &mut source, &mut sink), status);
-        assert_eq!(rt; sink.bytes(), answers.as_bytes());
-    }
+    let script = store_and_long_line(alloc, LIMIT)?;
+    ends(&rt, alloc, script, Status::Done, "nomachine\nbad\n")?;
+    let script = store_and_long_line(alloc, LIMIT + 1)?;
+    ends(&rt, alloc, script, Status::TooLong, "nomachine\n")?;
     Ok(())
+}
+
+/// A script of so many bytes: empty lines, and then one long line.
+fn empty_lines_and_long_line(alloc: Global, bytes: usize) -> Result<Vec<u8>, AllocError> {
+    let mut script = vec![in alloc; b'\n'; 100_000]?;
+    script.resize(bytes, b'#')?;
+    Ok(script)
 }
 
 #[test]
 fn empty_lines_print_nothing_and_count_as_bytes(rt: HostRuntime) -> Result<(), Fail> {
     let alloc = rt.alloc();
-    for (bytes, status, answers) in [
-        (LIMIT, Status::Done, "bad\n"),
-        (LIMIT + 1, Status::TooLong, ""),
-    ] {
-        let mut script = vec![in alloc; b'\n'; 100_000]?;
-        script.resize(bytes, b'#')?;
-        let mut source = MemSource::new(script, LIMIT, Vec::new(alloc));
-        let mut sink = MemSink::new(alloc, ROOM, Vec::new(alloc))?;
-        assert_eq!(rt; run(alloc, &["replay"], &mut source, &mut sink), status);
-        assert_eq!(rt; sink.bytes(), answers.as_bytes());
-    }
+    let script = empty_lines_and_long_line(alloc, LIMIT)?;
+    ends(&rt, alloc, script, Status::Done, "bad\n")?;
+    let script = empty_lines_and_long_line(alloc, LIMIT + 1)?;
+    ends(&rt, alloc, script, Status::TooLong, "")?;
     Ok(())
 }

@@ -6,6 +6,7 @@ ghost use Rattle.aia_io.specs.Ends.{Rose};
 use aia_io::{
     MemSink, MemSource, QuietSink, QuietSource, Read, Sink, Source, StdSink, StdSource, Write,
 };
+use aia_vectors::same;
 use std::alloc::{AllocError, Global};
 use std::io;
 use std::test::Fail;
@@ -36,23 +37,43 @@ fn put<K: Sink>(sink: &mut K, bytes: &[u8]) -> usize
     }
 }
 
+// The same calls, and one read and one write, with no clause: a test knows nothing of them.
+fn gives<S: Source>(alloc: Global, source: &mut S, calls: u32) -> Result<Vec<u8>, AllocError> {
+    bytes_of(alloc, source, calls)
+}
+
+fn takes<K: Sink>(sink: &mut K, bytes: &[u8]) -> usize
+    requires { 0 < length bytes.now }
+{
+    put(sink, bytes)
+}
+
+fn reads<S: Source>(source: &mut S, buf: &mut [u8]) -> Read
+    requires { 0 < length buf.old }
+{
+    source.read(buf)
+}
+
+fn writes<K: Sink>(sink: &mut K, bytes: &[u8]) -> Write
+    requires { 0 < length bytes.now }
+{
+    sink.write(bytes)
+}
+
 #[test]
 fn a_source_in_memory_fails_at_the_calls_listed(rt: HostRuntime) -> Result<(), Fail> {
     let alloc = rt.alloc();
     let bytes = Vec::from_slice(alloc, b"abcdefg")?;
     let mut source = MemSource::new(bytes, 3, vec![in alloc; 2, 5]?);
     let mut buf = [0; 8];
-    assert_eq!(rt; source.read(&mut buf), Read::Got(3));
-    assert_eq!(rt; buf.as_slice(), b"abc\0\0\0\0\0".as_slice());
-    assert_eq!(rt; source.read(&mut buf), Read::Failed);
-    assert_eq!(rt; source.faults(), 1);
-    assert_eq!(rt;
-        bytes_of(alloc, &mut source, 2)?.as_slice(),
-        b"defg".as_slice()
-    );
-    assert_eq!(rt; source.read(&mut buf), Read::Failed);
-    assert_eq!(rt; source.read(&mut buf), Read::End);
-    assert_eq!(rt; source.faults(), 2);
+    same!(rt; reads(&mut source, &mut buf), Read::Got(3));
+    same!(rt; buf.as_slice(), b"abc\0\0\0\0\0".as_slice());
+    same!(rt; reads(&mut source, &mut buf), Read::Failed);
+    same!(rt; source.faults(), 1);
+    same!(rt; gives(alloc, &mut source, 2)?.as_slice(), b"defg".as_slice());
+    same!(rt; reads(&mut source, &mut buf), Read::Failed);
+    same!(rt; reads(&mut source, &mut buf), Read::End);
+    same!(rt; source.faults(), 2);
     Ok(())
 }
 
@@ -60,12 +81,12 @@ fn a_source_in_memory_fails_at_the_calls_listed(rt: HostRuntime) -> Result<(), F
 fn a_sink_in_memory_fails_at_the_calls_listed_and_when_full(rt: HostRuntime) -> Result<(), Fail> {
     let alloc = rt.alloc();
     let mut sink = MemSink::new(alloc, 5, vec![in alloc; 2]?)?;
-    assert_eq!(rt; put(&mut sink, b"abc"), 3);
-    assert_eq!(rt; sink.write(b"def"), Write::Failed);
-    assert_eq!(rt; put(&mut sink, b"def"), 2);
-    assert_eq!(rt; put(&mut sink, b"f"), 0);
-    assert_eq!(rt; sink.bytes(), b"abcde".as_slice());
-    assert_eq!(rt; sink.faults(), 2);
+    same!(rt; takes(&mut sink, b"abc"), 3);
+    same!(rt; writes(&mut sink, b"def"), Write::Failed);
+    same!(rt; takes(&mut sink, b"def"), 2);
+    same!(rt; takes(&mut sink, b"f"), 0);
+    same!(rt; sink.bytes(), b"abcde".as_slice());
+    same!(rt; sink.faults(), 2);
     Ok(())
 }
 
@@ -73,15 +94,12 @@ fn a_sink_in_memory_fails_at_the_calls_listed_and_when_full(rt: HostRuntime) -> 
 fn the_quiet_ends_give_and_count_all(rt: HostRuntime) -> Result<(), Fail> {
     let alloc = rt.alloc();
     let mut source = QuietSource::new(Vec::from_slice(alloc, b"abcdef")?);
-    assert_eq!(rt;
-        bytes_of(alloc, &mut source, 2)?.as_slice(),
-        b"abcdef".as_slice()
-    );
-    assert_eq!(rt; source.read(&mut [0]), Read::End);
+    same!(rt; gives(alloc, &mut source, 2)?.as_slice(), b"abcdef".as_slice());
+    same!(rt; reads(&mut source, &mut [0]), Read::End);
     let mut sink = QuietSink::new();
-    assert_eq!(rt; put(&mut sink, b"abc"), 3);
-    assert_eq!(rt; put(&mut sink, b"de"), 2);
-    assert_eq!(rt; sink.count(), 5);
+    same!(rt; takes(&mut sink, b"abc"), 3);
+    same!(rt; takes(&mut sink, b"de"), 2);
+    same!(rt; sink.count(), 5);
     Ok(())
 }
 
@@ -104,14 +122,11 @@ impl io::Read for Interrupted {
 #[test]
 fn a_reader_is_passed_on(rt: HostRuntime) -> Result<(), Fail> {
     let mut source = StdSource::new(b"abcdef".as_slice());
-    assert_eq!(rt;
-        bytes_of(rt.alloc(), &mut source, 2)?.as_slice(),
-        b"abcdef".as_slice()
-    );
-    assert_eq!(rt; source.read(&mut [0]), Read::End);
+    same!(rt; gives(rt.alloc(), &mut source, 2)?.as_slice(), b"abcdef".as_slice());
+    same!(rt; reads(&mut source, &mut [0]), Read::End);
     let mut interrupted = StdSource::new(Interrupted { done: false });
-    assert_eq!(rt; interrupted.read(&mut [0]), Read::Failed);
-    assert_eq!(rt; interrupted.read(&mut [0]), Read::End);
+    same!(rt; reads(&mut interrupted, &mut [0]), Read::Failed);
+    same!(rt; reads(&mut interrupted, &mut [0]), Read::End);
     Ok(())
 }
 
@@ -141,10 +156,10 @@ impl io::Write for Holding<'_> {
 fn a_writer_is_given_what_is_taken(rt: HostRuntime) -> Result<(), Fail> {
     let mut out = [0; 5];
     let mut sink = StdSink::new(out.as_mut_slice());
-    assert_eq!(rt; put(&mut sink, b"abc"), 3);
-    assert_eq!(rt; put(&mut sink, b"def"), 2);
-    assert_eq!(rt; sink.write(b"f"), Write::Failed);
-    assert_eq!(rt; out.as_slice(), b"abcde".as_slice());
+    same!(rt; takes(&mut sink, b"abc"), 3);
+    same!(rt; takes(&mut sink, b"def"), 2);
+    same!(rt; writes(&mut sink, b"f"), Write::Failed);
+    same!(rt; out.as_slice(), b"abcde".as_slice());
     Ok(())
 }
 
@@ -155,7 +170,7 @@ fn a_writer_is_flushed(rt: HostRuntime) {
         held: 0,
         out: &mut flushed,
     });
-    assert_eq!(rt; put(&mut sink, b"abc"), 3);
-    assert_eq!(rt; sink.write(b"defgh"), Write::Failed);
-    assert_eq!(rt; flushed, 3);
+    same!(rt; takes(&mut sink, b"abc"), 3);
+    same!(rt; writes(&mut sink, b"defgh"), Write::Failed);
+    same!(rt; flushed, 3);
 }

@@ -5,7 +5,7 @@ use crate::runs::replays;
 use aia_vectors::row::Row;
 use aia_vectors::rows::{
     direct_delivery, entries, examples, examples_of_guests, files, lines, machines, msi_delivery,
-    registers, sources, virtual_machines,
+    registers, sources, virtual_machines, whole_moves,
 };
 use std::alloc::{AllocError, Global};
 use std::process::Abort;
@@ -129,5 +129,14 @@ fn rows_of_examples_of_guests_print_their_answers_whatever_the_pieces(
 ) -> Result<(), Fail> {
     let alloc = rt.alloc();
     replays_all(&rt, alloc, &examples_of_guests::ROWS)?;
+    Ok(())
+}
+
+#[test]
+fn rows_of_whole_moves_print_their_answers_whatever_the_pieces(
+    rt: HostRuntime,
+) -> Result<(), Fail> {
+    let alloc = rt.alloc();
+    replays_all(&rt, alloc, &whole_moves::ROWS)?;
     Ok(())
 }

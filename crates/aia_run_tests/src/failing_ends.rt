@@ -1,12 +1,31 @@
 //! What a run makes of its words, and of ends that fail, that take little at a time or that only
 //! count.
 
+ghost use Rattle.std.specs.Prelude.{◌<◌};
+
 use crate::rows::{answers_of, script_of};
+use crate::runs::replay;
 use aia_io::{MemSink, MemSource, QuietSink, QuietSource, StdSink, StdSource};
 use aia_replay::{Status, run};
+use aia_vectors::looks::holds;
 use aia_vectors::rows::files::STORE_IS_CLAIMED;
+use aia_vectors::same;
+use std::alloc::{AllocError, Global};
 use std::io;
+use std::process::Abort;
 use std::test::Fail;
+
+/// Runs the command of these words, between ends that fail at their first call.
+fn refuses(rt: &impl Abort, alloc: Global, words: &[&str]) -> Result<(), AllocError> {
+    let script = script_of(alloc, &STORE_IS_CLAIMED)?;
+    let mut source = MemSource::new(script, 1, vec![in alloc; 1]?);
+    let mut sink = MemSink::new(alloc, 1, vec![in alloc; 1]?)?;
+    same!(rt; run(alloc, words, &mut source, &mut sink), Status::Usage);
+    // So neither end was called.
+    same!(rt; source.faults(), 0);
+    same!(rt; sink.faults(), 0);
+    Ok(())
+}
 
 #[test]
 fn other_words_are_refused_with_nothing_read_or_written(rt: HostRuntime) -> Result<(), Fail> {
@@ -19,13 +38,7 @@ fn other_words_are_refused_with_nothing_read_or_written(rt: HostRuntime) -> Resu
         &["replay", "replay"],
     ];
     for words in refused {
-        let script = script_of(alloc, &STORE_IS_CLAIMED)?;
-        let mut source = MemSource::new(script, 1, vec![in alloc; 1]?);
-        let mut sink = MemSink::new(alloc, 1, vec![in alloc; 1]?)?;
-        assert_eq!(rt; run(alloc, words, &mut source, &mut sink), Status::Usage);
-        // Each end fails at its first call, so neither was called.
-        assert_eq!(rt; source.faults(), 0);
-        assert_eq!(rt; sink.faults(), 0);
+        refuses(&rt, alloc, words)?;
     }
     Ok(())
 }
@@ -87,18 +100,23 @@ const CUT_SHORT: [CutShort; 6] = [
     },
 ];
 
+fn is_cut_short(rt: &impl Abort, alloc: Global, cut: &CutShort) -> Result<(), AllocError> {
+    let script = script_of(alloc, &STORE_IS_CLAIMED)?;
+    let mut source = MemSource::new(script, 41, vec![in alloc; cut.failing_read]?);
+    let mut sink = MemSink::new(alloc, cut.room, vec![in alloc; cut.failing_write]?)?;
+    let status = replay(alloc, &mut source, &mut sink);
+    same!(rt; status, cut.status);
+    same!(rt; sink.bytes(), cut.answers.as_bytes());
+    same!(rt; source.faults() == 1, cut.status == Status::ReadFault);
+    same!(rt; sink.faults() == 1, cut.status == Status::WriteFault);
+    Ok(())
+}
+
 #[test]
 fn a_failing_end_ends_the_run(rt: HostRuntime) -> Result<(), Fail> {
     let alloc = rt.alloc();
     for cut in &CUT_SHORT {
-        let script = script_of(alloc, &STORE_IS_CLAIMED)?;
-        let mut source = MemSource::new(script, 41, vec![in alloc; cut.failing_read]?);
-        let mut sink = MemSink::new(alloc, cut.room, vec![in alloc; cut.failing_write]?)?;
-        let status = run(alloc, &["replay"], &mut source, &mut sink);
-        assert_eq!(rt; status, cut.status);
-        assert_eq!(rt; sink.bytes(), cut.answers.as_bytes());
-        assert_eq!(rt; source.faults() == 1, cut.status == Status::ReadFault);
-        assert_eq!(rt; sink.faults() == 1, cut.status == Status::WriteFault);
+        is_cut_short(&rt, alloc, cut)?;
     }
     Ok(())
 }
@@ -107,18 +125,26 @@ fn a_failing_end_ends_the_run(rt: HostRuntime) -> Result<(), Fail> {
 /// 28 bytes.
 const FAILS_AT_ITS_END: [(usize, u64); 4] = [(1, 29), (26, 3), (27, 3), (28, 2)];
 
+/// Runs a script of two lines and a half, whose source fails at one call.
+fn is_cut_off(rt: &impl Abort, alloc: Global, piece: usize, failing: u64) -> Result<(), AllocError>
+    requires { 0 < piece }
+{
+    let script = Vec::from_slice(alloc, b"machine 1 1 63 8\nwire 1 1\nwi")?;
+    let mut source = MemSource::new(script, piece, vec![in alloc; failing]?);
+    let mut sink = MemSink::new(alloc, 1000, Vec::new(alloc))?;
+    let status = replay(alloc, &mut source, &mut sink);
+    same!(rt; status, Status::ReadFault; piece);
+    same!(rt; sink.bytes(), b"ok\nok\n".as_slice(); piece);
+    same!(rt; source.faults(), 1; piece);
+    same!(rt; sink.faults(), 0; piece);
+    Ok(())
+}
+
 #[test]
 fn a_line_that_a_failing_source_cuts_off_is_not_answered(rt: HostRuntime) -> Result<(), Fail> {
     let alloc = rt.alloc();
     for (piece, failing) in FAILS_AT_ITS_END {
-        let script = Vec::from_slice(alloc, b"machine 1 1 63 8\nwire 1 1\nwi")?;
-        let mut source = MemSource::new(script, piece, vec![in alloc; failing]?);
-        let mut sink = MemSink::new(alloc, 1000, Vec::new(alloc))?;
-        let status = run(alloc, &["replay"], &mut source, &mut sink);
-        assert_eq!(rt; status, Status::ReadFault);
-        assert_eq!(rt; sink.bytes(), b"ok\nok\n".as_slice(), "by {piece} bytes");
-        assert_eq!(rt; source.faults(), 1);
-        assert_eq!(rt; sink.faults(), 0);
+        is_cut_off(&rt, alloc, piece, failing)?;
     }
     Ok(())
 }
@@ -135,20 +161,28 @@ const SECOND_WRITE_FAILS: [(usize, &str); 3] = [
     ),
 ];
 
+/// Runs the script between a source that gives such pieces and a sink whose second call fails.
+fn has_a_front(rt: &impl Abort, alloc: Global, piece: usize, taken: &str) -> Result<(), AllocError>
+    requires { 0 < piece }
+{
+    let script = script_of(alloc, &STORE_IS_CLAIMED)?;
+    let all = answers_of(alloc, &STORE_IS_CLAIMED)?;
+    let mut source = MemSource::new(script, piece, Vec::new(alloc));
+    let mut sink = MemSink::new(alloc, 1000, vec![in alloc; 2]?)?;
+    let status = replay(alloc, &mut source, &mut sink);
+    same!(rt; status, Status::WriteFault; piece);
+    same!(rt; sink.bytes(), taken.as_bytes(); piece);
+    holds(rt, all.starts_with(sink.bytes()));
+    same!(rt; source.faults(), 0; piece);
+    same!(rt; sink.faults(), 1; piece);
+    Ok(())
+}
+
 #[test]
 fn a_sink_that_fails_again_has_a_front_of_the_answers(rt: HostRuntime) -> Result<(), Fail> {
     let alloc = rt.alloc();
     for (piece, taken) in SECOND_WRITE_FAILS {
-        let script = script_of(alloc, &STORE_IS_CLAIMED)?;
-        let mut source = MemSource::new(script, piece, Vec::new(alloc));
-        let mut sink = MemSink::new(alloc, 1000, vec![in alloc; 2]?)?;
-        let status = run(alloc, &["replay"], &mut source, &mut sink);
-        assert_eq!(rt; status, Status::WriteFault);
-        assert_eq!(rt; sink.bytes(), taken.as_bytes());
-        let all = answers_of(alloc, &STORE_IS_CLAIMED)?;
-        assert!(rt; all.starts_with(sink.bytes()));
-        assert_eq!(rt; source.faults(), 0);
-        assert_eq!(rt; sink.faults(), 1);
+        has_a_front(&rt, alloc, piece, taken)?;
     }
     Ok(())
 }
@@ -180,9 +214,10 @@ fn a_writer_that_takes_little_is_given_all(rt: HostRuntime) -> Result<(), Fail> 
     let mut out = Vec::new(alloc);
     let mut source = StdSource::new(script.as_slice());
     let mut sink = StdSink::new(TakesLittle { out: &mut out });
-    let status = run(alloc, &["replay"], &mut source, &mut sink);
-    assert_eq!(rt; status, Status::Done);
-    assert_eq!(rt; out, answers_of(alloc, &STORE_IS_CLAIMED)?);
+    let status = replay(alloc, &mut source, &mut sink);
+    same!(rt; status, Status::Done);
+    let answers = answers_of(alloc, &STORE_IS_CLAIMED)?;
+    same!(rt; out.as_slice(), answers.as_slice());
     Ok(())
 }
 
@@ -192,9 +227,9 @@ fn a_run_between_quiet_ends_is_done(rt: HostRuntime) -> Result<(), Fail> {
     let script = script_of(alloc, &STORE_IS_CLAIMED)?;
     let mut source = QuietSource::new(script);
     let mut sink = QuietSink::new();
-    let status = run(alloc, &["replay"], &mut source, &mut sink);
-    assert_eq!(rt; status, Status::Done);
+    let status = replay(alloc, &mut source, &mut sink);
+    same!(rt; status, Status::Done);
     let answers = answers_of(alloc, &STORE_IS_CLAIMED)?;
-    assert_eq!(rt; sink.count(), answers.len() as u64);
+    same!(rt; sink.count(), answers.len() as u64);
     Ok(())
 }

@@ -1,5 +1,5 @@
 use Rattle.std.specs.Io.KnownBytes.{Consumes}
-use Rattle.aia_tests.proofs.ends.bytes_of.Given as goal
+use Rattle.aia_run_tests.proofs.ends.bytes_of.Given as goal
 
 -- the bytes so far are what the source gave since the call
 abbrev pub invariant-loop : goal.invariant-loop

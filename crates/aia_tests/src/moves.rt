@@ -1,0 +1,226 @@
+//! Guest files that are handed out, what the steps of moves do to all that stores reach, and plans,
+//! called by themselves.
+
+ghost use Rattle.std.specs.Prelude.{◌≡◌, ◌<◌, false, IfSome};
+ghost use Rattle.aia_word.specs.Sets.{has_bit};
+ghost use Rattle.aia_move.specs.Move.{IsWho};
+
+use crate::fabric::{pending, stores};
+use aia_entry::{Entry, Route};
+use aia_fabric::{At, Fabric};
+use aia_home::Place;
+use aia_imsic::Spot;
+use aia_move::{Kept, Next, Plan, Who};
+use aia_pool::{FileLease, Pool};
+use aia_regs::Op;
+use aia_vectors::looks::holds;
+use aia_vectors::same;
+use std::alloc::{AllocError, Global};
+use std::process::Abort;
+use std::test::Fail;
+
+/// Makes two harts with one guest file each, and a VM of two virtual harts.
+#[tactic(auto, unfolding(aia_word::specs::Packed::ones))]
+fn one_vm(alloc: Global) -> Result<Fabric, AllocError> {
+    let mut fabric = Fabric::new(alloc, 2, 1, 63)?;
+    fabric.vm(2, 0x8, 1);
+    Ok(fabric)
+}
+
+#[test]
+#[tactic(auto, using(aia_pool::proofs::LeaseLemmas::out_here))]
+fn a_file_is_handed_out_and_comes_back(rt: HostRuntime) -> Result<(), Fail> {
+    let mut pool = Pool::new(rt.alloc(), 2, 2)?;
+    let Some(lease) = pool.take(1) else {
+        holds(&rt, false);
+        return Ok(());
+    };
+    same!(rt; lease.place(), Place { hart: 1, file: 1 });
+    same!(rt; (lease.hart(), lease.file()), (1, 1));
+    pool.give(lease);
+    Ok(())
+}
+
+#[test]
+fn the_least_file_of_a_hart_is_handed_out_while_one_is_left(rt: HostRuntime) -> Result<(), Fail> {
+    let mut pool = Pool::new(rt.alloc(), 2, 2)?;
+    same!(rt; taken(&mut pool, 1), Some(Place { hart: 1, file: 1 }));
+    same!(rt; taken(&mut pool, 0), Some(Place { hart: 0, file: 1 }));
+    same!(rt; taken(&mut pool, 1), Some(Place { hart: 1, file: 2 }));
+    same!(rt; taken(&mut pool, 1), None);
+    same!(rt; taken(&mut pool, 0), Some(Place { hart: 0, file: 2 }));
+    same!(rt; taken(&mut pool, 0), None);
+    Ok(())
+}
+
+/// Takes a guest file of a hart, which stays out.
+fn taken(pool: &mut Pool, hart: u32) -> Option<Place>
+    requires { hart < pool.old.harts }
+    ensures { pool.new.harts ≡ pool.old.harts }
+{
+    match pool.take(hart) {
+        Some(lease) => Some(lease.place()),
+        None => None,
+    }
+}
+
+/// Looks at the words of two places, the slot of a virtual hart and a guest file, as words are
+/// taken from one and put into the other.
+#[test]
+fn words_are_taken_and_put(rt: HostRuntime) -> Result<(), Fail> {
+    let mut fabric = one_vm(rt.alloc())?;
+    let slot = At::Slot(1);
+    same!(rt; fabric.swap_pending(slot, 0, 0x28), 0);
+    fabric.or_pending(slot, 0, 0x40);
+    same!(rt; fabric.swap_enable(slot, 31, 5), 0);
+    same!(rt; fabric.look(1, 0), (0x68, 0));
+    same!(rt; fabric.look(1, 31), (0, 5));
+    same!(rt; fabric.look(0, 0), (0, 0));
+    same!(rt; fabric.swap_enable(slot, 31, 0), 5);
+    same!(rt; fabric.swap_pending(slot, 0, 0), 0x68);
+    same!(rt; fabric.look(1, 0), (0, 0));
+    files_take_words(&rt, &mut fabric);
+    Ok(())
+}
+
+/// The same of guest file 1 of hart 1.
+fn files_take_words(rt: &impl Abort, fabric: &mut Fabric) {
+    same!(*rt; swapped(fabric, 6), Some(0));
+    joined(fabric, 8);
+    same!(*rt; enabled(fabric, 4), Some(0));
+    same!(*rt; topei(fabric), Some(0x2_0002));
+    same!(*rt; swapped(fabric, 0), Some(14));
+}
+
+/// Swaps word 0 of the pending set of that file, where it is there.
+fn swapped(fabric: &mut Fabric, v: u64) -> Option<u64>
+    requires { has_bit v 0 ≡ false }
+{
+    let spot = fabric.locate(0x2800_9000);
+    if spot == Spot::Nowhere || fabric.words() == 0 {
+        return None;
+    }
+    Some(fabric.swap_pending(At::File(spot), 0, v))
+}
+
+/// Joins it with more identities.
+fn joined(fabric: &mut Fabric, v: u64)
+    requires { has_bit v 0 ≡ false }
+{
+    let spot = fabric.locate(0x2800_9000);
+    if spot != Spot::Nowhere && fabric.words() > 0 {
+        fabric.or_pending(At::File(spot), 0, v);
+    }
+}
+
+/// Swaps word 0 of its enabled set.
+fn enabled(fabric: &mut Fabric, v: u64) -> Option<u64>
+    requires { has_bit v 0 ≡ false }
+{
+    let spot = fabric.locate(0x2800_9000);
+    if spot == Spot::Nowhere || fabric.words() == 0 {
+        return None;
+    }
+    Some(fabric.swap_enable(At::File(spot), 0, v))
+}
+
+/// Tells what its topei register shows.
+fn topei(fabric: &Fabric) -> Option<u64> {
+    match fabric.locate(0x2800_9000) {
+        Spot::Nowhere => None,
+        spot => Some(fabric.file(spot).top()),
+    }
+}
+
+/// Finds a virtual hart.
+fn who_is(fabric: &Fabric, vm: u32, vcpu: u32) -> Option<Who>
+    ensures there { IfSome result (IsWho fabric.now) }
+    ensures named { IfSome result (λ who. (who.vm ≡ vm) × (who.vcpu ≡ vcpu)) }
+{
+    if !fabric.has_vcpu(u64::from(vm), u64::from(vcpu)) {
+        return None;
+    }
+    Some(Who {
+        vm,
+        vcpu,
+        slot: fabric.slot_of(vm, vcpu),
+        notice: fabric.notice_hart(vm, vcpu),
+    })
+}
+
+/// Stores go by the entry and by the record in force, whatever is written.
+#[test]
+fn routes_change_when_they_are_put_in_force(rt: HostRuntime) -> Result<(), Fail> {
+    let mut fabric = one_vm(rt.alloc())?;
+    let mut pool = Pool::new(rt.alloc(), 2, 1)?;
+    same!(rt; fabric.words(), 1);
+    let Some(who) = who_is(&fabric, 0, 1) else {
+        holds(&rt, false);
+        return Ok(());
+    };
+    same!(rt; (who.slot, who.notice), (1, 1));
+    fabric.put_word(0, 1, 0, 0x0a00_2407);
+    let in_memory = Route::To(Entry::Mrif(0x8000_0200, 0x28008, 2));
+    same!(rt; stores(&mut fabric, 0, 0x2800_8000, 5), Some(in_memory));
+    put_in_force(&mut fabric);
+    let in_file = Route::To(Entry::Basic(0x28009));
+    same!(rt; stores(&mut fabric, 0, 0x2800_8000, 6), Some(in_file));
+    same!(rt; pending(&mut fabric, 0x2800_9000, Op::Read), Some(0x40));
+    peers_go_by_the_record(&mut fabric, pool.take(1));
+    same!(rt; pending(&mut fabric, 0x2800_9000, Op::Read), Some(0x140));
+    same!(rt; fabric.look(1, 0), (0xa0, 0));
+    Ok(())
+}
+
+/// Puts the entry of virtual hart 1 in force.
+fn put_in_force(fabric: &mut Fabric) {
+    if fabric.has_vcpu(0, 1) {
+        fabric.fence(0, 1);
+    }
+}
+
+/// Stores 7 and 8 for virtual hart 1, the one before its record is in force that names a guest
+/// file, the other after that.
+fn peers_go_by_the_record(fabric: &mut Fabric, to: Option<FileLease>) {
+    if fabric.has_vcpu(0, 1) {
+        fabric.map(0, 1, to.as_ref());
+        fabric.guest_store(0, 1, 7);
+        fabric.gfence(0, 1);
+        fabric.guest_store(0, 1, 8);
+    }
+}
+
+/// The first step of an arrival writes the entry, and puts nothing in force.
+#[test]
+fn a_plan_makes_one_access_a_step(rt: HostRuntime) -> Result<(), Fail> {
+    let mut fabric = one_vm(rt.alloc())?;
+    let mut pool = Pool::new(rt.alloc(), 2, 1)?;
+    let (Some(who), Some(to)) = (who_is(&fabric, 0, 1), pool.take(1)) else {
+        holds(&rt, false);
+        return Ok(());
+    };
+    holds(&rt, goes_on(&mut fabric, who, to));
+    let in_memory = Route::To(Entry::Mrif(0x8000_0200, 0x28008, 2));
+    same!(rt; stores(&mut fabric, 0, 0x2800_8000, 5), Some(in_memory));
+    put_in_force(&mut fabric);
+    let in_file = Route::To(Entry::Basic(0x28009));
+    same!(rt; stores(&mut fabric, 0, 0x2800_8000, 6), Some(in_file));
+    Ok(())
+}
+
+/// Begins to move a virtual hart to a guest file, and tells whether the move goes on after its first
+/// step.
+fn goes_on(fabric: &mut Fabric, who: Who, to: FileLease) -> bool
+    requires { IsWho fabric.old who }
+{
+    if to.hart() >= fabric.harts() || to.file() == 0 || to.file() > fabric.guests() {
+        return false;
+    }
+    let kept = Kept {
+        delivery: 1,
+        threshold: 9,
+    };
+    let plan = Plan::arrive(to, who, kept);
+    let _words = fabric.words();
+    matches!(plan.step(fabric), Next::Again(_))
+}
