@@ -36,13 +36,18 @@ access_of levels.Guest csrs.Sip op select vti = if vti then reaches.Virtual else
 access_of levels.Guest csrs.Sie op select vti = if vti then reaches.Virtual else reaches.Sie
 access_of level csr op select vti = reaches.Illegal
 
--- The CSR is one that the table has at the level.
+-- The CSR is one of an interrupt file's: the select number, the register that it selects, or the
+-- identity on top.
+abbrev pub IsFileCsr : Csr → Type 0
+IsFileCsr csrs.Select = Unit {0}
+IsFileCsr csrs.Reg = Unit {0}
+IsFileCsr csrs.Topei = Unit {0}
+IsFileCsr csr = ⊥
+
+-- The CSR is one that the table has at the level: a host has those of its files alone.
 abbrev pub IsInTable : Level → Csr → Type 0
 IsInTable levels.Guest csr = Unit {0}
-IsInTable level csrs.Select = Unit {0}
-IsInTable level csrs.Reg = Unit {0}
-IsInTable level csrs.Topei = Unit {0}
-IsInTable level csr = ⊥
+IsInTable level csr = IsFileCsr csr
 
 -- A register of the file that is reached is one that a file serves.
 abbrev pub ReachesUsable : Access → Type 0

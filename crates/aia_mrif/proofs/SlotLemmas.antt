@@ -35,7 +35,7 @@ under true x y e = e refl
 under false x y e = refl
 
 -- word k of it is written
-written : (place : ℕ → ℕ) (words : List ℕ) (k v i : ℕ) → ((j : ℕ) → place j ≡ place k → j ≡ k) → place k < length words → k < 32 → set_at place (set words (place k) v) i ≡ cond (nat_eq (i / 64) k) (has_bit v (i % 64)) (set_at place words i)
+pub written : (place : ℕ → ℕ) (words : List ℕ) (k v i : ℕ) → ((j : ℕ) → place j ≡ place k → j ≡ k) → place k < length words → k < 32 → set_at place (set words (place k) v) i ≡ cond (nat_eq (i / 64) k) (has_bit v (i % 64)) (set_at place words i)
 written place words k v i apart there low =
     elim (cases_eq (i / 64) k) [
       | inl e ↦
@@ -45,7 +45,7 @@ written place words k v i apart there low =
     ]
 
 -- a word that is none of its own is written
-kept : (place : ℕ → ℕ) (words : List ℕ) (p v i : ℕ) → ((j : ℕ) → j < 32 → place j ≢ p) → set_at place (set words p v) i ≡ set_at place words i
+pub kept : (place : ℕ → ℕ) (words : List ℕ) (p v i : ℕ) → ((j : ℕ) → j < 32 → place j ≢ p) → set_at place (set words p v) i ≡ set_at place words i
 kept place words p v i apart = under (nat_le i 2047) _ _ (λ b. ap (λ w. has_bit w (i % 64)) (get_or-set_other words p (place (i / 64)) v 0 (apart (i / 64) (low_word i b))))
 
 -- ---- a slot
