@@ -3,10 +3,10 @@ ghost use Rattle.std.specs.Prelude.{◌≡◌, ◌<◌, length, take, IfOk};
 ghost use Rattle.std.specs.Io.KnownBytes.{Appends, Consumes};
 ghost use Rattle.aia_io.specs.Ends.{Rose};
 
+use crate::same;
 use aia_io::{
     MemSink, MemSource, QuietSink, QuietSource, Read, Sink, Source, StdSink, StdSource, Write,
 };
-use aia_vectors::same;
 use std::alloc::{AllocError, Global};
 use std::io;
 use std::test::Fail;

@@ -2,10 +2,10 @@
 
 ghost use Rattle.aia_model.specs.Grammar.{IsListed};
 
+use crate::same;
 use aia_model::{Answer, Line, Refusal};
 use aia_regs::{Csr, Op};
 use aia_replay::Engine;
-use aia_vectors::same;
 use std::alloc::{AllocError, Global};
 use std::process::Abort;
 use std::test::Fail;

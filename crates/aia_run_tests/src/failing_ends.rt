@@ -3,13 +3,13 @@
 
 ghost use Rattle.std.specs.Prelude.{◌<◌};
 
+use crate::looks::holds;
 use crate::rows::{answers_of, script_of};
 use crate::runs::replay;
+use crate::same;
 use aia_io::{MemSink, MemSource, QuietSink, QuietSource, StdSink, StdSource};
 use aia_replay::{Status, run};
-use aia_vectors::looks::holds;
 use aia_vectors::rows::files::STORE_IS_CLAIMED;
-use aia_vectors::same;
 use std::alloc::{AllocError, Global};
 use std::io;
 use std::process::Abort;

@@ -9,6 +9,8 @@ mod engine;
 #[cfg(test)]
 mod failing_ends;
 #[cfg(test)]
+mod looks;
+#[cfg(test)]
 mod rows;
 #[cfg(test)]
 mod runs;

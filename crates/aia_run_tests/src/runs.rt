@@ -2,9 +2,9 @@
 
 ghost use Rattle.std.specs.Prelude.{◌<◌};
 
+use crate::same;
 use aia_io::{MemSink, MemSource, Sink, Source};
 use aia_replay::{Status, run};
-use aia_vectors::same;
 use std::alloc::{AllocError, Global};
 use std::process::Abort;
 use std::test::Fail;

@@ -1,8 +1,8 @@
 //! What an access to a CSR reaches, by the table of levels and CSRs.
 
+use crate::same;
 use aia_csr::{Access, decide};
 use aia_regs::{Csr, FileReg, Level, Op};
-use aia_vectors::same;
 
 const OPS: [Op; 4] = [Op::Read, Op::Write(1), Op::Set(0), Op::Clear(0)];
 

@@ -1,8 +1,8 @@
 //! Addresses of MSIs, and the registers that they go by.
 
+use crate::same;
 use aia_msiaddr::{Addresses, machine_address, supervisor_address};
 use aia_regs::DomainReg;
-use aia_vectors::same;
 
 #[test]
 fn addresses_are_those_of_the_harts_pages(rt: HostRuntime) {

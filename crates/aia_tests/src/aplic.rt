@@ -2,9 +2,9 @@
 
 ghost use Rattle.std.specs.Prelude.{◌≤◌};
 
+use crate::looks::holds;
+use crate::same;
 use aia_aplic::{Aplic, Msi};
-use aia_vectors::looks::holds;
-use aia_vectors::same;
 use std::test::Fail;
 
 /// Stores values at offsets of the root domain.

@@ -1,10 +1,10 @@
 //! What is on top for a hart, claims and signals.
 
+use crate::looks::holds;
+use crate::same;
 use aia_direct::{Idc, claimi, signal, topi};
 use aia_domain::Domain;
 use aia_regs::DomainReg;
-use aia_vectors::looks::holds;
-use aia_vectors::same;
 use std::test::Fail;
 
 #[test]

@@ -1,10 +1,10 @@
 //! The registers and the sources of one domain.
 
+use crate::looks::holds;
+use crate::same;
 use aia_domain::Domain;
 use aia_regs::DomainReg;
 use aia_source::{Mode, delegates};
-use aia_vectors::looks::holds;
-use aia_vectors::same;
 use std::process::Abort;
 use std::test::Fail;
 

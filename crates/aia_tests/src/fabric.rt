@@ -1,11 +1,11 @@
 //! All that stores reach, called by itself, with two VMs.
 
+use crate::same;
 use aia_entry::{Entry, Route, is_mask};
 use aia_fabric::Fabric;
 use aia_home::{Vm, notice_hart_of, vcpus_in};
 use aia_imsic::Spot;
 use aia_regs::{FileReg, Op};
-use aia_vectors::same;
 use std::alloc::{AllocError, Global};
 use std::test::Fail;
 

@@ -1,10 +1,10 @@
 //! One interrupt file, and the files of a machine.
 
+use crate::looks::holds;
+use crate::same;
 use aia_file::File;
 use aia_imsic::{Imsic, Spot};
 use aia_regs::{FileReg, Op};
-use aia_vectors::looks::holds;
-use aia_vectors::same;
 use std::test::Fail;
 
 /// Addresses at the ends of pages, of a machine of two harts with one guest file each.

@@ -1,9 +1,9 @@
 //! The hypervisor's core, called by itself.
 
+use crate::same;
 use aia_hyp::{Hyp, Refusal, Want};
 use aia_model::Msi;
 use aia_regs::{Csr, Level, Op};
-use aia_vectors::same;
 use std::test::Fail;
 
 #[test]

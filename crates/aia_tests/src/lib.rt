@@ -18,6 +18,8 @@ mod files;
 #[cfg(test)]
 mod hypervisor_core;
 #[cfg(test)]
+mod looks;
+#[cfg(test)]
 mod memory;
 #[cfg(test)]
 mod moves;

@@ -4,11 +4,11 @@ ghost use Rattle.std.specs.Prelude.{◌≡◌, ◌<◌, false};
 ghost use Rattle.aia_word.specs.Sets.{has_bit};
 ghost use Rattle.aia_mrif.specs.Words.{HasSlot};
 
+use crate::same;
 use aia_file::File;
 use aia_mrif::{SlotMut, Stored, look};
 use aia_ram::Ram;
 use aia_regs::FileReg;
-use aia_vectors::same;
 use aia_word::Bank;
 use std::test::Fail;
 

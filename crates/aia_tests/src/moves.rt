@@ -6,6 +6,8 @@ ghost use Rattle.aia_word.specs.Sets.{has_bit};
 ghost use Rattle.aia_move.specs.Move.{IsWho};
 
 use crate::fabric::{pending, stores};
+use crate::looks::holds;
+use crate::same;
 use aia_entry::{Entry, Route};
 use aia_fabric::{At, Fabric};
 use aia_home::Place;
@@ -13,8 +15,6 @@ use aia_imsic::Spot;
 use aia_move::{Kept, Next, Plan, Who};
 use aia_pool::{FileLease, Pool};
 use aia_regs::Op;
-use aia_vectors::looks::holds;
-use aia_vectors::same;
 use std::alloc::{AllocError, Global};
 use std::process::Abort;
 use std::test::Fail;

@@ -1,10 +1,10 @@
 //! The register maps, fields of registers, CSR instructions, and what a store asks for.
 
+use crate::looks::holds;
+use crate::same;
 use aia_regs::{
     DomainReg, FileReg, Op, bit, bits, domain_reg, file_reg, put_bits, requested, swap32,
 };
-use aia_vectors::looks::holds;
-use aia_vectors::same;
 
 #[test]
 fn names_each_kind_of_register(rt: HostRuntime) {

@@ -1,12 +1,12 @@
 //! One wired source in one domain.
 
+use crate::looks::holds;
+use crate::same;
 use aia_source::{
     Mode, Wired, child_sourcecfg, delegates, domaincfg_kept, domaincfg_read, enables, first_target,
     genmsi_kept, hart_of, identity_of, is_by_msi, mode_number, mode_of, priority_of,
     root_sourcecfg, target_kept,
 };
-use aia_vectors::looks::holds;
-use aia_vectors::same;
 
 /// A source of this mode, whose wire was raised while it was inactive.
 fn with_high_wire(mode: Mode) -> Wired {

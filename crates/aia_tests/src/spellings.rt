@@ -1,8 +1,8 @@
 //! Texts that are read as lines, lines and answers that are printed.
 
+use crate::same;
 use aia_entry::Entry;
 use aia_script::{Answer, Csr, Line, Op, Parsed, Refusal, parse_line, print_answer, print_line};
-use aia_vectors::same;
 use arrayvec::ArrayVec;
 use std::process::Abort;
 

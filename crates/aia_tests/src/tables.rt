@@ -1,8 +1,8 @@
 //! MSI page tables: entries, translation and fences.
 
+use crate::same;
 use aia_entry::{Entry, Iommu, Route, basic, decode, mrif};
 use aia_ram::Ram;
-use aia_vectors::same;
 use std::test::Fail;
 
 #[test]

@@ -1,7 +1,5 @@
-//! Worked scripts, each line with its answer beside it, as theorems of the model; and what tests look
-//! at.
+//! Worked scripts, each line with its answer beside it, as theorems of the model.
 #![tactic(auto)]
 
-pub mod looks;
 pub mod row;
 pub mod rows;

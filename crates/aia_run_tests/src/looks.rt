@@ -1,4 +1,4 @@
-//! What a test looks at, for the crates of tests. A look is one call, so that a test stays small for the prover and for the
+//! What a test looks at. A look is one call, so that a test stays small for the prover and for the
 //! compiler.
 
 use std::fmt::Debug;
