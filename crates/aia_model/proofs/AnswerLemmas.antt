@@ -8,7 +8,7 @@ use Rattle.aia_regs.specs.declared.access.Op.{Op}
 use Rattle.aia_regs.specs.declared.access.Level.TheVariants as levels
 use Rattle.aia_csr.specs.Access.{access_of}
 use Rattle.aia_model.specs.declared.line.Line.{Line}
-use Rattle.aia_model.specs.declared.line.Line.TheVariants.{Machine, Wire, Load, Store, MachineCsr, HostCsr, Hgeip, Pins, GuestCsr, Ipi, Arrive, Leave, Shift}
+use Rattle.aia_model.specs.declared.line.Line.TheVariants.{Machine, Wire, Load, Store, MachineCsr, HostCsr, Hgeip, Pins, GuestCsr, Ipi, Arrive, Leave, Shift, Inject, Hvictl, Hviprio}
 use Rattle.aia_model.specs.declared.line.Line.TheVariants as lines
 use Rattle.aia_imsic.specs.declared.spot.Spot.{Spot}
 use Rattle.aia_model.specs.declared.answer.Answer.{Answer}
@@ -19,6 +19,7 @@ use Rattle.aia_model.specs.declared.refusal.Refusal.TheVariants as words
 use Rattle.aia_model.specs.Event.{History, has_machine, has_hart, harts_of, sources_of}
 use Rattle.aia_entry.specs.Translation.{is_msi_address}
 use Rattle.aia_model.specs.Vms.{has_vm, has_vcpu, mask_of}
+use Rattle.aia_major.specs.VsMajor.{is_major, is_hvictl}
 use Rattle.aia_home.specs.Vms.{vcpu}
 use Rattle.aia_home.specs.Home.{is_moving, is_resident, is_parked}
 use Rattle.aia_model.specs.HomeOf.{home, free_file}
@@ -127,6 +128,18 @@ pub ipi_refusal : (h : History) (vm number to value : ℕ) → has_machine h ≡
     → refusal h (Ipi vm number to value) ≡ cond (not (has_vcpu h (vcpu vm number))) (Some (Refused Range)) (cond (not (is_resident (home h (vcpu vm number)))) (Some (Refused Away))
     (cond (not (has_vcpu h (vcpu vm to))) (Some (Refused GFault)) None))
 ipi_refusal h vm number to value there = past_machine h _ there
+
+pub inject_refusal : (h : History) (vm number bit : ℕ) (level : Bool) → has_machine h ≡ true
+    → refusal h (Inject vm number bit level) ≡ cond (not (has_vcpu h (vcpu vm number) && is_major bit)) (Some (Refused Range)) None
+inject_refusal h vm number bit level there = past_machine h _ there
+
+pub hvictl_refusal : (h : History) (vm number value : ℕ) → has_machine h ≡ true
+    → refusal h (Hvictl vm number value) ≡ cond (not (has_vcpu h (vcpu vm number) && is_hvictl value)) (Some (Refused Range)) None
+hvictl_refusal h vm number value there = past_machine h _ there
+
+pub hviprio_refusal : (h : History) (vm number value : ℕ) → has_machine h ≡ true
+    → refusal h (Hviprio vm number value) ≡ cond (not (has_vcpu h (vcpu vm number))) (Some (Refused Range)) None
+hviprio_refusal h vm number value there = past_machine h _ there
 
 -- a line that makes no machine is refused where none stands
 pub no_machine_refusal : (h : History) (line : Line) → lacks_machine h line ≡ true → refusal h line ≡ Some NoMachine

@@ -12,12 +12,12 @@ use Rattle.aia_regs.specs.declared.access.Op.{Op}
 use Rattle.aia_regs.specs.declared.access.Op.TheVariants as ops
 use Rattle.aia_regs.specs.Fields.{bit_number}
 use Rattle.aia_model.specs.declared.line.Line.{Line}
-use Rattle.aia_model.specs.declared.line.Line.TheVariants.{Machine, Wire, Load, Store, MachineCsr, HostCsr, Hgeip, Pins, GuestCsr, Ipi, Arrive, Leave, Shift}
+use Rattle.aia_model.specs.declared.line.Line.TheVariants.{Machine, Wire, Load, Store, MachineCsr, HostCsr, Hgeip, Pins, GuestCsr, Ipi, Arrive, Leave, Shift, Inject, Hvictl, Hviprio}
 use Rattle.aia_model.specs.declared.line.Line.TheVariants as lines
 use Rattle.aia_model.specs.Text.{number_of, below, ◌>>=◌}
 use Rattle.aia_model.specs.Grammar.{Field, Fits, AllFit, csr_names, is_csr, field_among, csr_field, instruction, fields_of}
 use Rattle.aia_model.specs.Grammar.Field.{Keyword, Decimal, Decimal32, Hex, Hex32, Bit, Unspelled}
-use Rattle.aia_model.specs.Reading.{Words, row_of, number_at, n32_at, bit_of, bit_at, named, csr_at, read_at, write_at, mnemonics, instruction_at, forms, machine_at, vm_at, wire_at, store_at, load_at, msi_at, machine_csr_at, host_at, ipi_at, guest_at, arrive_at, leave_at, shift_at, pins_at, entry_at, line_at, instruction_after, is_word, word_at}
+use Rattle.aia_model.specs.Reading.{Words, row_of, number_at, n32_at, bit_of, bit_at, named, csr_at, read_at, write_at, mnemonics, instruction_at, forms, machine_at, vm_at, wire_at, store_at, load_at, msi_at, machine_csr_at, host_at, ipi_at, guest_at, arrive_at, leave_at, shift_at, inject_at, hvictl_at, hviprio_at, pins_at, entry_at, line_at, instruction_after, is_word, word_at}
 use Rattle.std.proofs.lemmas.Slice.Eq.{bytes_eq-Decides}
 use Rattle.aia_model.proofs.Readers.{bind_some, chosen, ReadsWord, by_word, by_number, ReadsAll, the_end, ◌and_then◌, made_of, row_found, IsRow, reads_row, AreRows, spelled_by_rows}
 
@@ -82,7 +82,7 @@ IsName level name csr = Fits name (csr_field level csr) × (named level name ≡
 pub names : (level : Level) → AllByRecursion (λ row. IsName level row.0 row.1) (csr_names level)
 names levels.Machine = (refl, refl) and_row (refl, refl) and_row (refl, refl) and_row tt
 names levels.Host = (refl, refl) and_row (refl, refl) and_row (refl, refl) and_row tt
-names levels.Guest = (refl, refl) and_row (refl, refl) and_row (refl, refl) and_row tt
+names levels.Guest = (refl, refl) and_row (refl, refl) and_row (refl, refl) and_row (refl, refl) and_row (refl, refl) and_row (refl, refl) and_row tt
 
 same_csr : (a b : Csr) → is_csr a b ≡ true → a ≡ b
 same_csr Select Select e = refl
@@ -281,6 +281,18 @@ shift : IsForm {A = ℕ × (ℕ × (ℕ × Unit {0}))} (codes "shift") shift_at 
 unfolding shift_at
 shift = a_form (decimal and_then decimal and_then decimal and_then the_end) _ _ refl (λ a. refl)
 
+inject : IsForm {A = ℕ × (ℕ × (ℕ × (Bool × Unit {0})))} (codes "inject") inject_at (λ (vm, (number, (bit, (level, end)))). Inject vm number bit level)
+unfolding inject_at
+inject = a_form (decimal and_then decimal and_then decimal and_then bit and_then the_end) _ _ refl (λ a. refl)
+
+hvictl : IsForm {A = ℕ × (ℕ × (ℕ × Unit {0}))} (codes "hvictl") hvictl_at (λ (vm, (number, (value, end))). Hvictl vm number value)
+unfolding hvictl_at
+hvictl = a_form (decimal and_then decimal and_then hexadecimal and_then the_end) _ _ refl (λ a. refl)
+
+hviprio : IsForm {A = ℕ × (ℕ × (ℕ × Unit {0}))} (codes "hviprio") hviprio_at (λ (vm, (number, (value, end))). Hviprio vm number value)
+unfolding hviprio_at
+hviprio = a_form (decimal and_then decimal and_then hexadecimal and_then the_end) _ _ refl (λ a. refl)
+
 pins : IsForm {A = ℕ × Unit {0}} (codes "pins") pins_at (λ (hart, end). Pins hart)
 unfolding pins_at
 pins = a_form (decimal and_then the_end) _ _ refl (λ a. refl)
@@ -306,6 +318,9 @@ spelled_read ws (Ipi vm number to value) fits = guest.finds (vm, (number, inl (t
 spelled_read ws (Arrive vm number hart) fits = arrive.finds (vm, (number, (hart, tt))) ws fits
 spelled_read ws (Leave vm number) fits = leave.finds (vm, (number, tt)) ws fits
 spelled_read ws (Shift vm number hart) fits = shift.finds (vm, (number, (hart, tt))) ws fits
+spelled_read ws (Inject vm number bit level) fits = inject.finds (vm, (number, (bit, (level, tt)))) ws fits
+spelled_read ws (Hvictl vm number value) fits = hvictl.finds (vm, (number, (value, tt))) ws fits
+spelled_read ws (Hviprio vm number value) fits = hviprio.finds (vm, (number, (value, tt))) ws fits
 spelled_read ws (Pins hart) fits = pins.finds (hart, tt) ws fits
 spelled_read ws (lines.Entry w0 w1) fits = entry.finds (w0, (w1, tt)) ws fits
 
@@ -323,6 +338,9 @@ all_forms =
     and_row arrive.found
     and_row leave.found
     and_row shift.found
+    and_row inject.found
+    and_row hvictl.found
+    and_row hviprio.found
     and_row pins.found
     and_row entry.found
     and_row tt

@@ -138,7 +138,7 @@ is_name name = has_no_space name && nat_le (length name) 8
 short_names : (level : Level) → AllByRecursion (λ row. is_name row.0 ≡ true) (csr_names level)
 short_names levels.Machine = refl and_row refl and_row refl and_row tt
 short_names levels.Host = refl and_row refl and_row refl and_row tt
-short_names levels.Guest = refl and_row refl and_row refl and_row tt
+short_names levels.Guest = refl and_row refl and_row refl and_row refl and_row refl and_row refl and_row tt
 
 csr_short : (level : Level) (csr : Csr) → AreShort 9 (csr_field level csr ∷ [])
 csr_short level csr = among (λ name csr. is_name name ≡ true) (λ field. AreShort 9 (field ∷ [])) csr (record { plain = refl; short = omega arith }) of_name (csr_names level) (short_names level)

@@ -4,7 +4,7 @@ use Rattle.std.specs.Prelude.{ℕ, zero, suc, List, [], ◌∷◌, Option, Some,
 use Rattle.std.specs.Option.{option_map_or}
 use Rattle.aia_word.specs.Top.{top_value}
 use Rattle.aia_regs.specs.declared.access.Csr.{Csr}
-use Rattle.aia_regs.specs.declared.access.Csr.TheVariants.{Select, Reg, Topei}
+use Rattle.aia_regs.specs.declared.access.Csr.TheVariants.{Select, Reg, Topei, Topi, Sip, Sie}
 use Rattle.aia_regs.specs.FileRegisters.{register_of}
 use Rattle.aia_file.specs.InterruptFile.{InterruptFile, register_value, top_of, signals}
 use Rattle.aia_entry.specs.Format.{decoded}
@@ -27,6 +27,7 @@ use Rattle.aia_model.specs.SourceOf.{register_read, is_signalled}
 use Rattle.aia_model.specs.Sent.{acts_of, msis_sent_by}
 use Rattle.aia_model.specs.FileOf.{FileName, MachineFile, SupervisorFile, select_of, file_of}
 use Rattle.aia_model.specs.GuestFile.{guest_select, guest_file}
+use Rattle.aia_model.specs.MajorOf.{stopi_of, sip_of, sie_of}
 use Rattle.aia_model.specs.Gate.{hgeip_value}
 use Rattle.aia_model.specs.Refusal.{refusal}
 
@@ -43,8 +44,11 @@ csr_shown select file csr = 0
 abbrev pub csr_value : History → FileName → Csr → ℕ
 csr_value h f csr = csr_shown (select_of h f) (file_of h f) csr
 
--- What a CSR of a virtual hart's file reads.
+-- What a CSR of a virtual hart reads: one of its majors, or one of its file.
 abbrev pub guest_csr_value : History → Vcpu → Csr → ℕ
+guest_csr_value h g Topi = stopi_of h g
+guest_csr_value h g Sip = sip_of h g
+guest_csr_value h g Sie = sie_of h g
 guest_csr_value h g csr = csr_shown (guest_select h g) (guest_file h g) csr
 
 -- What a load reads: a register of a domain, and 0 in a file's page.

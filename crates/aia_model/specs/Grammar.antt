@@ -3,7 +3,7 @@ use Rattle.std.specs.Prelude.{◌≡◌, ℕ, ◌^◌, ◌<◌, ◌≤◌, Bool,
 use Rattle.std.specs.List.{AllByRecursion}
 use Rattle.aia_model.specs.declared.limits.TheConstants.{LINE_BYTES}
 use Rattle.aia_model.specs.declared.line.Line.{Line}
-use Rattle.aia_model.specs.declared.line.Line.TheVariants.{Machine, Wire, Load, Store, MachineCsr, HostCsr, Hgeip, Pins, GuestCsr, Ipi, Arrive, Leave, Shift}
+use Rattle.aia_model.specs.declared.line.Line.TheVariants.{Machine, Wire, Load, Store, MachineCsr, HostCsr, Hgeip, Pins, GuestCsr, Ipi, Arrive, Leave, Shift, Inject, Hvictl, Hviprio}
 use Rattle.aia_model.specs.declared.line.Line.TheVariants as lines
 use Rattle.aia_regs.specs.declared.access.Csr.{Csr}
 use Rattle.aia_regs.specs.declared.access.Csr.TheVariants.{Select, Reg, Topei, Topi, Sip, Sie}
@@ -55,7 +55,8 @@ csr_names levels.Machine =
 csr_names levels.Host =
     (codes "siselect", Select) ∷ (codes "sireg", Reg) ∷ (codes "stopei", Topei) ∷ []
 csr_names levels.Guest =
-    (codes "siselect", Select) ∷ (codes "sireg", Reg) ∷ (codes "stopei", Topei) ∷ []
+    (codes "siselect", Select) ∷ (codes "sireg", Reg) ∷ (codes "stopei", Topei)
+    ∷ (codes "stopi", Topi) ∷ (codes "sip", Sip) ∷ (codes "sie", Sie) ∷ []
 
 -- Whether two CSRs are the same.
 abbrev pub is_csr : Csr → Csr → Bool
@@ -111,6 +112,12 @@ fields_of (Arrive vm number hart) =
 fields_of (Leave vm number) = Keyword (codes "leave") ∷ Decimal vm ∷ Decimal number ∷ []
 fields_of (Shift vm number hart) =
     Keyword (codes "shift") ∷ Decimal vm ∷ Decimal number ∷ Decimal hart ∷ []
+fields_of (Inject vm number bit level) =
+    Keyword (codes "inject") ∷ Decimal vm ∷ Decimal number ∷ Decimal bit ∷ Bit level ∷ []
+fields_of (Hvictl vm number value) =
+    Keyword (codes "hvictl") ∷ Decimal vm ∷ Decimal number ∷ Hex value ∷ []
+fields_of (Hviprio vm number value) =
+    Keyword (codes "hviprio") ∷ Decimal vm ∷ Decimal number ∷ Hex value ∷ []
 fields_of (Pins hart) = Keyword (codes "pins") ∷ Decimal hart ∷ []
 fields_of (lines.Entry w0 w1) = Keyword (codes "entry") ∷ Hex w0 ∷ Hex w1 ∷ []
 

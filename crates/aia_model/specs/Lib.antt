@@ -11,6 +11,7 @@ pub mod Sent
 pub mod Vms
 pub mod FileAfter
 pub mod GuestFile
+pub mod MajorOf
 pub mod HomeOf
 pub mod Notice
 pub mod Gate

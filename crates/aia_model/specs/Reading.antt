@@ -4,7 +4,7 @@ use Rattle.std.specs.Prelude.{ℕ, ◌^◌, Bool, true, false, nat_eq, nat_le, i
 use Rattle.std.specs.Str.{bytes_eq}
 use Rattle.aia_model.specs.declared.limits.TheConstants.{LINE_BYTES}
 use Rattle.aia_model.specs.declared.line.Line.{Line}
-use Rattle.aia_model.specs.declared.line.Line.TheVariants.{Machine, Wire, Load, Store, MachineCsr, HostCsr, Hgeip, Pins, GuestCsr, Ipi, Arrive, Leave, Shift}
+use Rattle.aia_model.specs.declared.line.Line.TheVariants.{Machine, Wire, Load, Store, MachineCsr, HostCsr, Hgeip, Pins, GuestCsr, Ipi, Arrive, Leave, Shift, Inject, Hvictl, Hviprio}
 use Rattle.aia_model.specs.declared.line.Line.TheVariants as lines
 use Rattle.aia_model.specs.declared.parsed.Parsed.{Parsed}
 use Rattle.aia_model.specs.declared.parsed.Parsed.TheVariants as parsed
@@ -213,6 +213,28 @@ shift_at words = do
   hart ← number_at number.1
   at_end hart.1 (Shift vm.0 number.0 hart.0)
 
+unfoldable pub inject_at : Words → Option Line
+inject_at words = do
+  vm ← number_at words
+  number ← number_at vm.1
+  bit ← number_at number.1
+  level ← bit_at bit.1
+  at_end level.1 (Inject vm.0 number.0 bit.0 level.0)
+
+unfoldable pub hvictl_at : Words → Option Line
+hvictl_at words = do
+  vm ← number_at words
+  number ← number_at vm.1
+  value ← number_at number.1
+  at_end value.1 (Hvictl vm.0 number.0 value.0)
+
+unfoldable pub hviprio_at : Words → Option Line
+hviprio_at words = do
+  vm ← number_at words
+  number ← number_at vm.1
+  value ← number_at number.1
+  at_end value.1 (Hviprio vm.0 number.0 value.0)
+
 unfoldable pub pins_at : Words → Option Line
 pins_at words = do
   hart ← number_at words
@@ -233,6 +255,9 @@ forms =
     ∷ (codes "arrive", arrive_at)
     ∷ (codes "leave", leave_at)
     ∷ (codes "shift", shift_at)
+    ∷ (codes "inject", inject_at)
+    ∷ (codes "hvictl", hvictl_at)
+    ∷ (codes "hviprio", hviprio_at)
     ∷ (codes "pins", pins_at)
     ∷ (codes "entry", entry_at)
     ∷ []

@@ -13,13 +13,14 @@ use Rattle.aia_regs.specs.AddressMap.{is_in_memory}
 use Rattle.aia_file.specs.InterruptFile.{is_greatest_identity}
 use Rattle.aia_word.specs.Packed.{ones}
 use Rattle.aia_entry.specs.Translation.{is_mask, is_msi_address}
+use Rattle.aia_major.specs.VsMajor.{is_major, is_hvictl, vti_of}
 use Rattle.aia_home.specs.declared.vm.Vm.{Vm}
 use Rattle.aia_home.specs.Vms.{Vcpu, vcpu, vcpus_in}
 use Rattle.aia_home.specs.Home.{Home, is_parked, is_resident, is_moving}
 use Rattle.aia_imsic.specs.declared.spot.Spot.{Spot}
 use Rattle.aia_imsic.specs.Map.{is_page, is_guest_page}
 use Rattle.aia_model.specs.declared.line.Line.{Line}
-use Rattle.aia_model.specs.declared.line.Line.TheVariants.{Machine, Wire, Load, Store, MachineCsr, HostCsr, Hgeip, Pins, GuestCsr, Ipi, Arrive, Leave, Shift}
+use Rattle.aia_model.specs.declared.line.Line.TheVariants.{Machine, Wire, Load, Store, MachineCsr, HostCsr, Hgeip, Pins, GuestCsr, Ipi, Arrive, Leave, Shift, Inject, Hvictl, Hviprio}
 use Rattle.aia_model.specs.declared.line.Line.TheVariants as lines
 use Rattle.aia_model.specs.declared.answer.Answer.{Answer}
 use Rattle.aia_model.specs.declared.answer.Answer.TheVariants.{NoMachine, Again, Refused}
@@ -30,6 +31,7 @@ use Rattle.aia_model.specs.Act.{domain_at}
 use Rattle.aia_model.specs.Vms.{vms_of, has_vm, has_vcpu, mask_of}
 use Rattle.aia_model.specs.Move.{move_of, hart_wanted}
 use Rattle.aia_model.specs.GuestFile.{named_by, guest_select}
+use Rattle.aia_model.specs.MajorOf.{majors_of}
 use Rattle.aia_model.specs.HomeOf.{home, free_file}
 use Rattle.aia_model.specs.FileOf.{MachineFile, SupervisorFile, page_at, select_of}
 
@@ -58,8 +60,8 @@ is_machine_size harts guests n sources =
 abbrev pub is_vm_size : ℕ → ℕ → Bool
 is_vm_size vcpus mask = is_mask mask && is_in_range 1 (2 ^ ones 64 mask) vcpus
 
--- `range`: a machine's or a VM's number is out of its limits, or the named source, hart, VM or
--- virtual hart isn't there.
+-- `range`: a machine's or a VM's number is out of its limits, the named source, hart, VM, virtual
+-- hart or major isn't there, or hvictl doesn't take the number.
 abbrev pub is_out_of_range : History → Line → Bool
 is_out_of_range h (Machine harts guests n sources) = not (is_machine_size harts guests n sources)
 is_out_of_range h (lines.Vm vcpus mask hart) = not (is_vm_size vcpus mask && has_hart h hart)
@@ -74,6 +76,11 @@ is_out_of_range h (Ipi vm number to value) = not (has_vcpu h (vcpu vm number))
 is_out_of_range h (Arrive vm number hart) = not (has_vcpu h (vcpu vm number) && has_hart h hart)
 is_out_of_range h (Leave vm number) = not (has_vcpu h (vcpu vm number))
 is_out_of_range h (Shift vm number hart) = not (has_vcpu h (vcpu vm number) && has_hart h hart)
+is_out_of_range h (Inject vm number bit level) =
+    not (has_vcpu h (vcpu vm number) && is_major bit)
+is_out_of_range h (Hvictl vm number value) =
+    not (has_vcpu h (vcpu vm number) && is_hvictl value)
+is_out_of_range h (Hviprio vm number value) = not (has_vcpu h (vcpu vm number))
 is_out_of_range h line = false
 
 -- `full`: as many VMs stand as may, or the VM has more virtual harts than one may, or with it all
@@ -139,7 +146,8 @@ raises_virtual access = false
 
 -- What an access of a virtual hart reaches.
 abbrev pub guest_access : History → Vcpu → Csr → Op → Access
-guest_access h g csr op = access_of levels.Guest csr op (guest_select h g) false
+guest_access h g csr op =
+    access_of levels.Guest csr op (guest_select h g) (vti_of (majors_of h g).hvictl)
 
 abbrev pub is_illegal : History → Line → Bool
 is_illegal h (MachineCsr hart csr op) =

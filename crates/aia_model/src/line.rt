@@ -85,6 +85,26 @@ pub enum Line {
         vcpu: u64,
         hart: u64,
     },
+    /// `inject VM C BIT L`: the hypervisor gives a major interrupt of a virtual hart a level in
+    /// `hvip`.
+    Inject {
+        vm: u64,
+        vcpu: u64,
+        bit: u64,
+        level: bool,
+    },
+    /// `hvictl VM C V`: the hypervisor writes `hvictl` of a virtual hart.
+    Hvictl {
+        vm: u64,
+        vcpu: u64,
+        value: u64,
+    },
+    /// `hviprio VM C V`: the hypervisor writes `hviprio1` of a virtual hart.
+    Hviprio {
+        vm: u64,
+        vcpu: u64,
+        value: u64,
+    },
     /// `pins H`: which of a hart's interrupt signals are high.
     Pins {
         hart: u64,
