@@ -30,6 +30,9 @@ fn csr_names(level: Level) -> &'static [(&'static [u8], Csr)]
             (b"siselect", Csr::Select),
             (b"sireg", Csr::Reg),
             (b"stopei", Csr::Topei),
+            (b"stopi", Csr::Topi),
+            (b"sip", Csr::Sip),
+            (b"sie", Csr::Sie),
         ],
     }
 }

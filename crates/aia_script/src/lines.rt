@@ -1,7 +1,7 @@
 //! Lines: what follows each keyword.
 
 ghost use Rattle.std.specs.Prelude.{◌≡◌};
-ghost use Rattle.aia_model.specs.Reading.{machine_at, vm_at, wire_at, load_at, store_at, msi_at, machine_csr_at, host_at, ipi_at, guest_at, arrive_at, leave_at, shift_at, pins_at, entry_at, line_after, line_at};
+ghost use Rattle.aia_model.specs.Reading.{machine_at, vm_at, wire_at, load_at, store_at, msi_at, machine_csr_at, host_at, ipi_at, guest_at, arrive_at, leave_at, shift_at, inject_at, hvictl_at, hviprio_at, pins_at, entry_at, line_after, line_at};
 ghost use Rattle.aia_script.specs.Cursor.{left};
 
 use crate::instructions::{instruction_after, instruction_at};
@@ -171,6 +171,48 @@ fn shift_at(words: Words<'_>) -> Option<Line>
     at_end(words, Line::Shift { vm, vcpu, hart })
 }
 
+/// Reads the line that the words after `inject` spell; `None` where they spell none.
+#[tactic(auto, unfolding(aia_model::specs::Reading::inject_at))]
+fn inject_at(words: Words<'_>) -> Option<Line>
+    ensures { result ≡ inject_at (left words.entry) }
+{
+    let (vm, words) = number_at(words)?;
+    let (vcpu, words) = number_at(words)?;
+    let (bit, words) = number_at(words)?;
+    let (level, words) = bit_at(words)?;
+    at_end(
+        words,
+        Line::Inject {
+            vm,
+            vcpu,
+            bit,
+            level,
+        },
+    )
+}
+
+/// Reads the line that the words after `hvictl` spell; `None` where they spell none.
+#[tactic(auto, unfolding(aia_model::specs::Reading::hvictl_at))]
+fn hvictl_at(words: Words<'_>) -> Option<Line>
+    ensures { result ≡ hvictl_at (left words.entry) }
+{
+    let (vm, words) = number_at(words)?;
+    let (vcpu, words) = number_at(words)?;
+    let (value, words) = number_at(words)?;
+    at_end(words, Line::Hvictl { vm, vcpu, value })
+}
+
+/// Reads the line that the words after `hviprio` spell; `None` where they spell none.
+#[tactic(auto, unfolding(aia_model::specs::Reading::hviprio_at))]
+fn hviprio_at(words: Words<'_>) -> Option<Line>
+    ensures { result ≡ hviprio_at (left words.entry) }
+{
+    let (vm, words) = number_at(words)?;
+    let (vcpu, words) = number_at(words)?;
+    let (value, words) = number_at(words)?;
+    at_end(words, Line::Hviprio { vm, vcpu, value })
+}
+
 /// Reads the line that the words after `pins` spell; `None` where they spell none.
 #[tactic(auto, unfolding(aia_model::specs::Reading::pins_at))]
 fn pins_at(words: Words<'_>) -> Option<Line>
@@ -218,6 +260,12 @@ fn line_after(keyword: &[u8], words: Words<'_>) -> Option<Line>
         leave_at(words)
     } else if keyword == b"shift".as_slice() {
         shift_at(words)
+    } else if keyword == b"inject".as_slice() {
+        inject_at(words)
+    } else if keyword == b"hvictl".as_slice() {
+        hvictl_at(words)
+    } else if keyword == b"hviprio".as_slice() {
+        hviprio_at(words)
     } else if keyword == b"pins".as_slice() {
         pins_at(words)
     } else if keyword == b"entry".as_slice() {

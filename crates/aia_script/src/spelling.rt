@@ -236,6 +236,24 @@ fn push_line(line: &Line, out: &mut ArrayVec<u8, LINE_BYTES>)
             push_virtual(out, b"shift", vm, vcpu);
             push_decimal(out, hart);
         }
+        Line::Inject {
+            vm,
+            vcpu,
+            bit,
+            level,
+        } => {
+            push_virtual(out, b"inject", vm, vcpu);
+            push_decimal(out, bit);
+            push_decimal(out, level as u64);
+        }
+        Line::Hvictl { vm, vcpu, value } => {
+            push_virtual(out, b"hvictl", vm, vcpu);
+            push_hex(out, value);
+        }
+        Line::Hviprio { vm, vcpu, value } => {
+            push_virtual(out, b"hviprio", vm, vcpu);
+            push_hex(out, value);
+        }
         Line::Pins { hart } => push_pins(out, hart),
         Line::Entry { w0, w1 } => {
             push_text(out, b"entry");
