@@ -1,0 +1,4 @@
+pub mod FirstLemmas
+pub mod CandidateLemmas
+pub mod RegisterLemmas
+pub mod KeptLemmas
