@@ -1,5 +1,5 @@
 -- What an access to a CSR of the host reaches, what it answers, and what it leaves.
-use Rattle.std.proofs.Common.{◌≡◌, ◌≢◌, ℕ, ◌<◌, ◌≤◌, true, false, not, cond, Some, None, refl, sym, ap, subst, ◌∙◌, arith}
+use Rattle.std.proofs.Common.{◌≡◌, ◌≢◌, ℕ, ◌<◌, ◌≤◌, Bool, true, false, not, cond, Some, None, refl, sym, ap, subst, ◌∙◌, arith}
 use Rattle.std.proofs.lemmas.Bool.{cond-true, cond-false, lt-ltb, le-ltb}
 use Rattle.aia_regs.specs.declared.access.Csr.{Csr}
 use Rattle.aia_regs.specs.declared.access.Csr.TheVariants as csrs
@@ -9,6 +9,7 @@ use Rattle.aia_regs.specs.declared.access.Level.TheVariants as levels
 use Rattle.aia_regs.specs.declared.file_registers.FileReg.{FileReg}
 use Rattle.aia_regs.specs.declared.file_registers.FileReg.TheVariants.{Odd, Outside}
 use Rattle.aia_regs.specs.FileRegisters.{register_of, select_written}
+use Rattle.aia_regs.specs.Operations.{is_writing}
 use Rattle.aia_csr.specs.declared.access.Access.{Access}
 use Rattle.aia_csr.specs.declared.access.Access.TheVariants as reaches
 use Rattle.aia_csr.specs.Access.{access_of, register_access, IsFileCsr, IsInTable}
@@ -77,6 +78,38 @@ top_reached level csrs.Topei op select listed e = refl
 top_reached level csrs.Reg op select listed e = absurd (subst (IsFileOrFault (register_of select)) (sym e) (register_kind level (register_of select)))
 top_reached level csr op select listed e = absurd listed
 
+-- a guest's access by the CSR that reaches it, whatever VTI is
+abbrev pub IsReachedBy : Csr → Op → ℕ → Access → Type 0
+IsReachedBy csr op select reaches.Select = csr ≡ csrs.Select
+IsReachedBy csr op select (reaches.File reg) = (csr ≡ csrs.Reg) × (register_of select ≡ reg)
+IsReachedBy csr op select reaches.Top = csr ≡ csrs.Topei
+IsReachedBy csr op select reaches.Topi = (csr ≡ csrs.Topi) × (is_writing op ≡ false)
+IsReachedBy csr op select reaches.Sip = csr ≡ csrs.Sip
+IsReachedBy csr op select reaches.Sie = csr ≡ csrs.Sie
+IsReachedBy csr op select access = Unit {0}
+
+pub guest_reached_by : (csr : Csr) (op : Op) (select : ℕ) (vti : Bool) → IsReachedBy csr op select (access_of levels.Guest csr op select vti)
+guest_reached_by csrs.Select op select vti = refl
+guest_reached_by csrs.Topei op select vti = refl
+guest_reached_by csrs.Reg op select vti = by_register (register_of select) refl
+  where
+    by_register : (r : FileReg) → register_of select ≡ r → IsReachedBy csrs.Reg op select (register_access levels.Guest r)
+    by_register Odd e = tt
+    by_register Outside e = tt
+    by_register r e = (refl, e)
+guest_reached_by csrs.Topi op select vti = by_op (is_writing op) refl
+  where
+    by_op : (b : Bool) → is_writing op ≡ b → IsReachedBy csrs.Topi op select (cond b reaches.Illegal reaches.Topi)
+    by_op true e = tt
+    by_op false e = (refl, e)
+guest_reached_by csrs.Sip op select true = tt
+guest_reached_by csrs.Sip op select false = refl
+guest_reached_by csrs.Sie op select true = tt
+guest_reached_by csrs.Sie op select false = refl
+
+pub reached_by : (csr : Csr) (op : Op) (select : ℕ) (vti : Bool) (access : Access) → access ≡ access_of levels.Guest csr op select vti → IsReachedBy csr op select access
+reached_by csr op select vti access e = subst (IsReachedBy csr op select) (sym e) (guest_reached_by csr op select vti)
+
 -- ---- the line of an access
 
 csr_refusal : (level : Level) → IsHost level → (h : History) (hart : ℕ) (csr : Csr) (op : Op) → has_machine h ≡ true
@@ -102,8 +135,8 @@ other_access levels.Host host h hart g csr op ne = cond-false _ _ _ (is_file-oth
 other_access levels.Guest host h hart g csr op ne = absurd host
 
 is_hosts_line : (level : Level) → IsHost level → (h : History) (hart : ℕ) (csr : Csr) (op : Op) → IsHosts h (Accepted (csr_line level hart csr op))
-is_hosts_line levels.Machine host h hart csr op = hosts_line h (MachineCsr hart csr op) refl refl refl (λ g. refl)
-is_hosts_line levels.Host host h hart csr op = hosts_line h (HostCsr hart csr op) refl refl refl (λ g. refl)
+is_hosts_line levels.Machine host h hart csr op = hosts_line h (MachineCsr hart csr op) refl refl refl (λ g. refl) (λ g m. refl)
+is_hosts_line levels.Host host h hart csr op = hosts_line h (HostCsr hart csr op) refl refl refl (λ g. refl) (λ g m. refl)
 is_hosts_line levels.Guest host h hart csr op = absurd host
 
 no_move : (level : Level) → IsHost level → (hart : ℕ) (csr : Csr) (op : Op) → move_of (csr_line level hart csr op) ≡ None

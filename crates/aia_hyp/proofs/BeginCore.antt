@@ -97,6 +97,7 @@ module _ (x y : CoreState) (who : Who) (given : Answer) (h : History) (stands : 
     vcpus = p.vcpus;
     stay = refl;
     select = refl;
+    majors = refl;
     is_who = p.is_who;
     same = refl;
     phase = phase;

@@ -52,6 +52,7 @@ pub record Given (x y : CoreState) (h : History) (g : Vcpu) (who : Who) (plan : 
   pub vcpus : y.vcpus ≡ set x.vcpus (slot_of x.world.vms g) r
   pub stay : r.stay ≡ stays.Moving plan
   pub select : r.select ≡ (record_of x g).select
+  pub majors : r.majors ≡ (record_of x g).majors
   pub is_who : IsWho x.world who
   pub same : vcpu who.vm who.vcpu ≡ g
   pub phase : (words : ℕ) → IsInPhase words plan
@@ -106,6 +107,7 @@ leave_begun x y h g who plan r from b leases was begins =
       is_free = tt;
       stay = b.stay;
       select = b.select;
+      majors = b.majors;
       who = subst (IsWho x.world) (ap (λ (m : Moving). m.who) (sym begins)) b.is_who;
       same = ap (λ (m : Moving). vcpu m.who.vm m.who.vcpu) begins ∙ b.same;
       phase = b.phase (width x.world);
@@ -149,6 +151,7 @@ arrive_begun x y h g hart who plan r to kept b free leases was begins =
       is_free = (free.inside, free.none);
       stay = b.stay;
       select = b.select;
+      majors = b.majors;
       who = subst (IsWho x.world) (ap (λ (m : Moving). m.who) (sym begins)) b.is_who;
       same = ap (λ (m : Moving). vcpu m.who.vm m.who.vcpu) begins ∙ b.same;
       phase = b.phase (width x.world);
@@ -192,6 +195,7 @@ shift_begun x y h g hart who plan r from to b free leases was begins =
       is_free = (free.inside, free.none);
       stay = b.stay;
       select = b.select;
+      majors = b.majors;
       who = subst (IsWho x.world) (ap (λ (m : Moving). m.who) (sym begins)) b.is_who;
       same = ap (λ (m : Moving). vcpu m.who.vm m.who.vcpu) begins ∙ b.same;
       phase = b.phase (width x.world);

@@ -153,6 +153,7 @@ names_one x y h vm addr value c is there =
       quiet = quiet_line h (lines.Msi vm addr value) refl refl;
       there = there;
       leads = inl refl;
+      majors = λ other m. refl;
       deeds = λ other. refl;
       notices = refl;
       host = λ f. refl;

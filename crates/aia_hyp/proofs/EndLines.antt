@@ -32,6 +32,7 @@ use Rattle.aia_model.specs.Event.{History, greatest_identity_of}
 use Rattle.aia_model.specs.Event.Event.{Stepped}
 use Rattle.aia_model.specs.Vms.{vms_of, has_vcpu}
 use Rattle.aia_model.specs.GuestFile.{guest_file}
+use Rattle.aia_major.specs.Kept.{majors_shown}
 use Rattle.aia_model.specs.HomeOf.{home}
 use Rattle.aia_model.specs.Notice.{a_look_saw}
 use Rattle.aia_model.proofs.MoveLemmas.{same_vcpu}
@@ -39,7 +40,7 @@ use Rattle.aia_hyp.specs.declared.vcpu.VcpuRecord.{VcpuRecord}
 use Rattle.aia_hyp.specs.Core.{CoreState, record_of, home_in, hand_in}
 use Rattle.aia_hyp.specs.Moves.{stay_after, back_of, with_back}
 use Rattle.aia_hyp.specs.Stands.{PlanStands, VcpuStands, is_held, CoreStands}
-use Rattle.aia_hyp.proofs.VcpuLemmas.{IsHeld, same_place, is_itself_place}
+use Rattle.aia_hyp.proofs.VcpuLemmas.{IsHeld, majors_rest, same_place, is_itself_place}
 use Rattle.aia_hyp.proofs.EventLemmas.{guest_too}
 use Rattle.aia_pool.proofs.LeaseLemmas.{out_here, out_elsewhere}
 use Rattle.aia_hyp.proofs.LeaseLemmas.{in_pool}
@@ -221,6 +222,7 @@ module _ (x y : CoreState) (h : History) (g : Vcpu) (plan : Plan) (o : Outcome) 
       record {
         same_home = ap home_in stay ∙ ended_home o (moving_of plan).home hand b.ends.gives ∙ rest_home;
         select = ap (λ (r : VcpuRecord). r.select) kept ∙ s.select ∙ (s.stands.vcpus g s.there).select ∙ sym (select_rests h (Stepped g) g ((stepped_move h g).rests g));
+        majors = ap (λ (r : VcpuRecord). majors_shown r.majors) kept ∙ ap majors_shown s.majors ∙ (s.stands.vcpus g s.there).majors ∙ sym (majors_rest h (Stepped g) g ((stepped_move h g).majors g));
         two_files = subst AreApart (sym at_end) (ended_apart (home h g));
         plan = subst (PlanStands y.world g) (sym stay) (no_plan o);
         holds = subst IsHeld (λ k. record {

@@ -19,6 +19,7 @@ use Rattle.aia_imsic.specs.Imsic.{ImsicState, IsThere, file_at, with_file, place
 use Rattle.aia_imsic.proofs.PlaceLemmas.{kept_elsewhere}
 use Rattle.aia_mrif.specs.Mrif.{Mrif, mrif_in, pending_place, enable_place}
 use Rattle.aia_entry.specs.Tables.{TableState, table_of, entry_in_force}
+use Rattle.aia_major.specs.VsMajor.{new_majors}
 use Rattle.aia_home.specs.declared.vm.Vm.{Vm}
 use Rattle.std.proofs.lemmas.List.{length-replicate}
 use Rattle.aia_home.specs.declared.place.Place.{Place}
@@ -43,6 +44,7 @@ use Rattle.aia_model.specs.Vms.{vms_of, has_vm, has_vcpu}
 use Rattle.aia_model.specs.FileAfter.{FileDeed, select_after, file_after}
 use Rattle.aia_model.specs.FileAfter.FileDeed.{Rests}
 use Rattle.aia_model.specs.Move.{move_of}
+use Rattle.aia_model.specs.MajorOf.{majors_of}
 use Rattle.aia_model.specs.HomeOf.{home, moved}
 use Rattle.aia_model.specs.GuestFile.{guest_deed, guest_select, guest_file}
 use Rattle.aia_model.specs.Notice.{noticed, with_notice, notices_sent}
@@ -56,7 +58,7 @@ use Rattle.aia_hyp.specs.declared.vcpu.VcpuRecord.{VcpuRecord}
 use Rattle.aia_hyp.specs.Core.{CoreState, no_record}
 use Rattle.aia_hyp.specs.HostFiles.{FileDone, HasDone, host_spot, select_place, select_in}
 use Rattle.aia_hyp.specs.Stands.{StandsForSome, HostStands, VcpuStands, is_held, CoreStands, CoreTakes, line_served, signals_of}
-use Rattle.aia_hyp.proofs.VcpuLemmas.{IsQuiet, same_n, quiet_line, quiet_msi, select_is, guest_rests, files_alone, held_stays}
+use Rattle.aia_hyp.proofs.VcpuLemmas.{IsQuiet, same_n, quiet_line, quiet_msi, select_is, MajorsRest, majors_is, majors_rest, guest_rests, files_alone, held_stays}
 use Rattle.aia_hyp.proofs.NameLemmas.{no_guest, is_hosts, other_spot, there_too}
 
 -- ---- one event more
@@ -84,6 +86,7 @@ pub record Changes (x y : CoreState) (h : History) (event : Event) : Type 0 wher
   pub vcpus : (g : Vcpu) → has_vcpu h g ≡ true → VcpuStands x h g → VcpuStands y (event ∷ h) g
   pub free_files : (p : Place) → IsThere x.world.imsic (spot_of p) → is_held h p ≡ false → file_at y.world.imsic (spot_of p) ≡ file_at x.world.imsic (spot_of p)
   pub no_vcpu : (g : Vcpu) → has_vcpu h g ≡ false → guest_deed g h event ≡ Rests
+  pub no_majors : (g : Vcpu) → has_vcpu h g ≡ false → MajorsRest g event
   pub no_slot : (q : ℕ) → vcpus_in (vms_of h) ≤ q → q < VCPUS → mrif_in y.world.memory q ≡ mrif_in x.world.memory q
 
 pub host_more : (x y : CoreState) (h : History) (event : Event) (f : FileName) → FileDone x y f (deed_at f h event) → HostStands x h f → HostStands y (event ∷ h) f
@@ -135,6 +138,7 @@ one_more x y h event changes stands =
             file_by_step (guest_deed g) event h ∙ ap (λ deed. file_after (guest_select h g) deed (guest_file h g)) (changes.no_vcpu g before) ∙ was.0 ∙ ap empty_file n,
             select_is event h g ∙ ap (λ deed. select_after deed (guest_select h g)) (changes.no_vcpu g before) ∙ was.1,
             changes.quiet.homes g ∙ was.2,
+            majors_rest h event g (changes.no_majors g before) ∙ was.3,
           );
       no_entry = λ g inside outside.
           let there : has_vm h g.vm ≡ true = ap (λ (vms : List Vm). nat_lt g.vm (length vms)) (sym changes.quiet.vms) ∙ inside in
@@ -164,12 +168,13 @@ pub record IsHosts (h : History) (event : Event) : Type 0 where
   pub quiet : IsQuiet h event
   pub none : noticed h event ≡ None
   pub guests : (g : Vcpu) → guest_deed g h event ≡ Rests
+  pub majors : (g : Vcpu) → MajorsRest g event
 
-pub hosts_line : (h : History) (line : Line) → machine_of (Accepted line ∷ h) ≡ machine_of h → vms_of (Accepted line ∷ h) ≡ vms_of h → noticed h (Accepted line) ≡ None → ((g : Vcpu) → guest_deed g h (Accepted line) ≡ Rests) → IsHosts h (Accepted line)
-hosts_line h line machine vms none guests = record { quiet = quiet_line h line machine vms; none = none; guests = guests }
+pub hosts_line : (h : History) (line : Line) → machine_of (Accepted line ∷ h) ≡ machine_of h → vms_of (Accepted line ∷ h) ≡ vms_of h → noticed h (Accepted line) ≡ None → ((g : Vcpu) → guest_deed g h (Accepted line) ≡ Rests) → ((g : Vcpu) → MajorsRest g (Accepted line)) → IsHosts h (Accepted line)
+hosts_line h line machine vms none guests majors = record { quiet = quiet_line h line machine vms; none = none; guests = guests; majors = majors }
 
 pub hosts_msi : (h : History) (msi : Msi) → IsHosts h (Delivered msi)
-hosts_msi h msi = record { quiet = quiet_msi h msi; none = refl; guests = λ g. refl }
+hosts_msi h msi = record { quiet = quiet_msi h msi; none = refl; guests = λ g. refl; majors = λ g m. refl }
 
 -- nothing was done at a file
 pub as_it_was : (file : InterruptFile) → SameFile file file
@@ -195,10 +200,11 @@ host_alone x y h event hosts rest leases vcpus harts guests files guest_files he
       records = ap (λ (rs : List VcpuRecord). length rs) vcpus;
       count = ap (λ (w : World). w.notices) rest ∙ ap (λ who. count_after who x.world.notices) (sym hosts.none);
       host = files;
-      vcpus = λ g inside p. guest_rests x y h event g hosts.quiet (record { n = ap (λ (w : World). w.n) rest; vms = vms; harts = harts; guests = guests }) (hosts.guests g) (λ k. get_or (vcpus k) (slot_of (vms k) g) no_record)
+      vcpus = λ g inside p. guest_rests x y h event g hosts.quiet (record { n = ap (λ (w : World). w.n) rest; vms = vms; harts = harts; guests = guests }) (hosts.guests g) (hosts.majors g) (λ k. get_or (vcpus k) (slot_of (vms k) g) no_record)
           (files_alone x.world y.world g (home h g) rest (λ q holding. guest_files q (held g q inside holding))) p;
       free_files = λ p inside none. guest_files p inside;
       no_vcpu = λ g outside. hosts.guests g;
+      no_majors = λ g outside. hosts.majors g;
       no_slot = λ q past few. ap (λ (w : World). mrif_in w.memory q) rest;
     }
 
@@ -329,6 +335,10 @@ home_nowhere : (g : Vcpu) → home [] g ≡ Parked
 unfolding home
 home_nowhere g = refl
 
+no_majors_yet : (g : Vcpu) → majors_of [] g ≡ new_majors
+unfolding majors_of
+no_majors_yet g = refl
+
 pub begun : (x : CoreState) (harts guests n sources : ℕ) → IsNew x.world harts guests n → x.leases ≡ record { harts = harts; guests = guests; out = replicate (harts * guests) false } → x.vcpus ≡ [] → x.selects ≡ replicate 8 0 → CoreStands x (Accepted (Machine harts guests n sources) ∷ [])
 begun x harts guests n sources new leases vcpus selects =
     let event = Accepted (Machine harts guests n sources) in
@@ -349,7 +359,7 @@ begun x harts guests n sources new leases vcpus selects =
       held = λ g p inside holding. absurd (nobody g inside);
       apart = λ a b p ia ib ha hb. absurd (nobody a ia);
       free = λ p inside none. same_file _ _ (new.files.each (spot_of p) inside);
-      no_vcpu = λ g outside. (file_by_step (guest_deed g) event [], select_is event [] g, home_step event [] g ∙ home_nowhere g);
+      no_vcpu = λ g outside. (file_by_step (guest_deed g) event [], select_is event [] g, home_step event [] g ∙ home_nowhere g, majors_is event [] g ∙ no_majors_yet g);
       no_entry = λ g inside outside. absurd (none_below_0 g.vm inside);
       no_slot = λ q past few. (
         λ i. rw (new.memory) (no_bit (nat_le i 2047) 0xc00 (pending_place q (i / 64)) (i % 64)),

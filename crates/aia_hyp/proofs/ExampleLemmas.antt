@@ -45,6 +45,9 @@ use Rattle.aia_model.specs.Move.Move.{Arrives, Leaves}
 use Rattle.aia_model.specs.Event.{History, file_words}
 use Rattle.aia_model.specs.Event.Event.{Began, Stepped}
 use Rattle.aia_model.specs.Vms.{vms_of, has_vcpu}
+use Rattle.aia_major.specs.VsMajor.{new_majors}
+use Rattle.aia_major.proofs.KeptLemmas.{shown_at_first}
+use Rattle.aia_model.specs.MajorOf.{majors_of}
 use Rattle.aia_model.specs.HomeOf.{home, place}
 use Rattle.aia_model.specs.Notice.{a_look_saw, notices_sent, look_saw}
 use Rattle.aia_model.specs.FileAfter.{file_by, select_by}
@@ -130,6 +133,10 @@ leaver_select = refl
 rests_file : (g : Vcpu) → is_vcpu g leaver ≡ false → guest_file leaving_history g ≡ empty_file 63
 unfolding file_by select_by
 rests_file g e = rw e refl
+
+no_majors_written : (g : Vcpu) → majors_of leaving_history g ≡ new_majors
+unfolding majors_of home least_of look_saw
+no_majors_written g = refl
 
 rests_select : (g : Vcpu) → is_vcpu g leaver ≡ false → guest_select leaving_history g ≡ 0
 unfolding select_by
@@ -354,6 +361,7 @@ stayer_stands : VcpuStands leaving_core leaving_history stayer
 stayer_stands = record {
   same_home = sym stayer_home;
   select = sym stayer_select;
+  majors = shown_at_first ∙ sym (no_majors_written stayer);
   two_files = subst AreApart (sym stayer_home) tt;
   plan = tt;
   holds = subst IsHeld (λ k. record {
@@ -448,6 +456,7 @@ leaver_stands : VcpuStands leaving_core leaving_history leaver
 leaver_stands = record {
   same_home = sym leaver_home;
   select = sym leaver_select;
+  majors = shown_at_first ∙ sym (no_majors_written leaver);
   two_files = subst AreApart (sym leaver_home) tt;
   plan = (leave_fits, (omega arith, omega arith), refl, refl);
   holds = subst IsHeld (λ k. record {
@@ -482,7 +491,7 @@ leaving_stands = record {
   held = λ g p there holding. held_there g there p holding;
   apart = hold_apart;
   free = λ p inside none. free_by p.hart p.file inside.0 inside.1 inside.2 (sym (held_is p) ∙ none);
-  no_vcpu = λ g outside. (rests_file g (no_leaver g outside), rests_select g (no_leaver g outside), other_home g outside);
+  no_vcpu = λ g outside. (rests_file g (no_leaver g outside), rests_select g (no_leaver g outside), other_home g outside, no_majors_written g);
   no_entry = λ g inside outside. no_entry_by g.vm g.number inside outside;
   no_slot = λ q past few. (λ i. no_pending q i few, λ i. no_enabled q i few, no_stage_by q past);
 }

@@ -17,6 +17,7 @@ use Rattle.aia_move.proofs.MoveKept.{goes_kept}
 use Rattle.aia_model.specs.Event.{History}
 use Rattle.aia_model.specs.Event.Event.{Stepped}
 use Rattle.aia_model.specs.GuestFile.{guest_file}
+use Rattle.aia_major.specs.Kept.{majors_shown}
 use Rattle.aia_model.specs.HomeOf.{home}
 use Rattle.aia_model.specs.Notice.{a_look_saw}
 use Rattle.aia_model.proofs.MoveLemmas.{seen_stepped}
@@ -24,7 +25,7 @@ use Rattle.aia_hyp.specs.declared.vcpu.Stay.TheVariants as stays
 use Rattle.aia_hyp.specs.declared.vcpu.VcpuRecord.{VcpuRecord}
 use Rattle.aia_hyp.specs.Core.{CoreState, record_of, home_in, hand_in}
 use Rattle.aia_hyp.specs.Stands.{PlanStands, VcpuStands, CoreStands}
-use Rattle.aia_hyp.proofs.VcpuLemmas.{IsHeld}
+use Rattle.aia_hyp.proofs.VcpuLemmas.{IsHeld, majors_rest}
 use Rattle.aia_hyp.proofs.MoveChanges.{stepped_move, file_rests, select_rests, held_as, moved_on}
 use Rattle.aia_hyp.proofs.MoveSteps as steps
 use Rattle.aia_hyp.proofs.MoveSteps.{StepOf, stepped_home}
@@ -92,6 +93,7 @@ module _ (x y : CoreState) (h : History) (g : Vcpu) (plan later : Plan) (r : Vcp
       record {
         same_home = ap home_in stay ∙ later_home;
         select = ap (λ (r : VcpuRecord). r.select) kept ∙ s.select ∙ (s.stands.vcpus g s.there).select ∙ sym (select_rests h (Stepped g) g ((stepped_move h g).rests g));
+        majors = ap (λ (r : VcpuRecord). majors_shown r.majors) kept ∙ ap majors_shown s.majors ∙ (s.stands.vcpus g s.there).majors ∙ sym (majors_rest h (Stepped g) g ((stepped_move h g).majors g));
         two_files = subst AreApart (sym further) (one_more_apart (home h g) (s.stands.vcpus g s.there).two_files);
         plan = subst (PlanStands y.world g) (sym stay) (b.fits, b.phase, later_mover, later_moving);
         holds = subst IsHeld (λ k. record {

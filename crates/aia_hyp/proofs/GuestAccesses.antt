@@ -9,7 +9,7 @@ use Rattle.aia_regs.specs.declared.access.Level.TheVariants as levels
 use Rattle.aia_regs.specs.FileRegisters.{select_written}
 use Rattle.aia_csr.specs.declared.access.Access.{Access}
 use Rattle.aia_csr.specs.declared.access.Access.TheVariants as reaches
-use Rattle.aia_csr.specs.Access.{access_of}
+use Rattle.aia_csr.specs.Access.{access_of, IsFileCsr}
 use Rattle.aia_file.specs.InterruptFile.{InterruptFile, SameFile, is_greatest_identity}
 use Rattle.aia_file.specs.FileState.{FileState, shown}
 use Rattle.aia_file.proofs.FileLemmas.{same_file}
@@ -38,10 +38,13 @@ use Rattle.aia_model.specs.Vms.{vms_of, has_vcpu}
 use Rattle.aia_model.specs.FileAfter.{FileDeed, select_after, file_after}
 use Rattle.aia_model.specs.FileAfter.FileDeed.{Accesses, Rests}
 use Rattle.aia_model.specs.GuestFile.{guest_deed, guest_file, guest_select}
+use Rattle.aia_major.specs.VsMajor.{vti_of}
+use Rattle.aia_major.specs.Kept.{majors_shown}
+use Rattle.aia_model.specs.MajorOf.{majors_of}
 use Rattle.aia_model.specs.HomeOf.{home}
 use Rattle.aia_model.specs.Notice.{a_look_saw}
 use Rattle.aia_model.specs.Refusal.{refusal, raises_illegal, raises_virtual}
-use Rattle.aia_model.specs.Answer.{csr_shown}
+use Rattle.aia_model.specs.Answer.{csr_shown, guest_csr_value}
 use Rattle.aia_model.proofs.AnswerLemmas.{guest_refusal}
 use Rattle.aia_model.proofs.MoveLemmas.{same_vcpu, is_itself, is_another}
 use Rattle.aia_hyp.specs.declared.vcpu.Stay.{Stay}
@@ -52,7 +55,7 @@ use Rattle.aia_hyp.specs.HostFiles.{host_spot, select_place}
 use Rattle.aia_move.specs.Plan.{moving_of}
 use Rattle.aia_hyp.specs.Stands.{PlanStands, StandsForSome, VcpuStands, is_held, CoreStands, CoreTakes}
 use Rattle.aia_hyp.proofs.NameLemmas.{no_guest, is_hosts}
-use Rattle.aia_hyp.proofs.VcpuLemmas.{SameMachine, IsHeld, same_place, is_itself_place, quiet_line, guest_rests, guest_done, files_alone}
+use Rattle.aia_hyp.proofs.VcpuLemmas.{SameMachine, IsHeld, same_place, is_itself_place, quiet_line, MajorsRest, guest_rests, guest_done, files_alone}
 use Rattle.aia_hyp.proofs.EventLemmas.{Changes, as_it_was, accepted, refused}
 use Rattle.aia_hyp.proofs.GuestStores.{not_out, slots_apart, resident_seen}
 use Rattle.aia_hyp.proofs.WithinLemmas.{guest_within, guest_n, guest_sound, within_after}
@@ -72,7 +75,7 @@ resident_stay (stays.Moving plan) p e = let bad : ◌≡◌ {A = Option Place} N
 pub there_in : (x : CoreState) (h : History) (g : Vcpu) → CoreStands x h → is_vcpu_in x.world.vms g ≡ true → has_vcpu h g ≡ true
 there_in x h g stands there = subst (λ (vs : List Vm). is_vcpu_in vs g ≡ true) stands.vms there
 
-is_home_at : (x : CoreState) (h : History) (g : Vcpu) (p : Place) → CoreStands x h → has_vcpu h g ≡ true → resident_at (record_of x g).stay ≡ Some p → home h g ≡ Resident p
+pub is_home_at : (x : CoreState) (h : History) (g : Vcpu) (p : Place) → CoreStands x h → has_vcpu h g ≡ true → resident_at (record_of x g).stay ≡ Some p → home h g ≡ Resident p
 is_home_at x h g p stands there at = sym (stands.vcpus g there).same_home ∙ resident_home (record_of x g).stay p at
 
 holds_it : (there : Home) (p : Place) → there ≡ Resident p → holds p there ≡ true
@@ -95,12 +98,13 @@ pub record GuestHasDone (x y : CoreState) (g : Vcpu) (p : Place) (deed : FileDee
   pub records : length y.vcpus ≡ length x.vcpus
   pub stay : (record_of y g).stay ≡ (record_of x g).stay
   pub select : (record_of y g).select ≡ select_after deed (record_of x g).select
+  pub majors : (record_of y g).majors ≡ (record_of x g).majors
   pub others : (other : Vcpu) → slot_of x.world.vms other ≢ slot_of x.world.vms g → record_of y other ≡ record_of x other
   pub file : SameFile (shown (file_at y.world.imsic (spot_of p))) (file_after (record_of x g).select deed (shown (file_at x.world.imsic (spot_of p))))
   pub files : (spot : Spot) → IsThere x.world.imsic spot → spot ≢ spot_of p → file_at y.world.imsic spot ≡ file_at x.world.imsic spot
 
 -- the file that its home holds is the history's
-own_is : (x : CoreState) (h : History) (g : Vcpu) (p : Place) → CoreStands x h → IsWhole x.world → has_vcpu h g ≡ true → home h g ≡ Resident p → shown (file_at x.world.imsic (spot_of p)) ≡ guest_file h g
+pub own_is : (x : CoreState) (h : History) (g : Vcpu) (p : Place) → CoreStands x h → IsWhole x.world → has_vcpu h g ≡ true → home h g ≡ Resident p → shown (file_at x.world.imsic (spot_of p)) ≡ guest_file h g
 own_is x h g p stands whole there at =
     let greatest : is_greatest_identity (greatest_identity_of h) ≡ true = subst (λ n. is_greatest_identity n ≡ true) stands.greatest whole.greatest in
     let held = subst (λ (t : Home). Holds (file_words h) (slot_of (vms_of h) g) (notice_hart (vms_of h) g) (view x.world g t) t (hand_in (record_of x g).stay) (guest_file h g) (a_look_saw h g)) at (stands.vcpus g there).holds in
@@ -114,6 +118,7 @@ pub record IsAccess (x y : CoreState) (h : History) (vm number : ℕ) (csr : Csr
   pub there : has_vcpu h (vcpu vm number) ≡ true
   pub at : resident_at (record_of x (vcpu vm number)).stay ≡ Some p
   pub done : GuestHasDone x y (vcpu vm number) p (Accesses csr op)
+  pub majors : (other : Vcpu) → MajorsRest other (Accepted (GuestCsr vm number csr op))
 
 machine_stays : (x y : CoreState) (g : Vcpu) (p : Place) (deed : FileDeed) → GuestHasDone x y g p deed → SameMachine x.world y.world
 machine_stays x y g p deed done = record { n = ap (λ (w : World). w.n) done.rest; vms = ap (λ (w : World). w.vms) done.rest; harts = done.harts; guests = done.guests }
@@ -131,6 +136,7 @@ own_accessed x y h vm number csr op p c stood =
     let within = within_after (greatest_identity_of h) (guest_select h g) (Accesses csr op) (guest_file h g) (λ bad. bad) greatest (guest_n h g) (guest_sound h g) in
     guest_done x y h (Accepted (GuestCsr vm number csr op)) g (quiet_line h (GuestCsr vm number csr op) refl refl) (machine_stays x y g p (Accesses csr op) c.done) c.done.stay
     (c.done.select ∙ ap (λ d. select_after d (record_of x g).select) (sym deed))
+    (ap majors_shown c.done.majors ∙ sym (c.majors g (majors_shown (record_of x g).majors)))
     (λ held.
     let before = subst (λ (t : Home). Holds (file_words h) (slot_of (vms_of h) g) (notice_hart (vms_of h) g) (view x.world g t) t (hand_in (record_of x g).stay) (guest_file h g) (a_look_saw h g)) at held in
     let replaced = resident_replaced (greatest_identity_of h) (file_words h) (slot_of (vms_of h) g) (notice_hart (vms_of h) g) (view x.world g (Resident p)) p (hand_in (record_of x g).stay) (guest_file h g) after (a_look_saw h g) within before in
@@ -180,7 +186,7 @@ access_changes x y h vm number csr op p c =
         | inl e ↦
             let same = same_vcpu other g e in
             subst (VcpuStands y (event ∷ h)) (sym same) (own_accessed x y h vm number csr op p c (subst (VcpuStands x h) same stood))
-        | inr ne ↦ guest_rests x y h event other quiet machine (other_rests h vm number csr op other ne)
+        | inr ne ↦ guest_rests x y h event other quiet machine (other_rests h vm number csr op other ne) (c.majors other)
             (c.done.others other (slots_apart x h g other c.stands c.there inside (λ e. false≢true (sym ne ∙ ap (λ z. is_vcpu z g) e ∙ is_itself g))))
             (files_alone x.world y.world other (home h other) c.done.rest (λ q held.
             c.done.files (spot_of q) (c.stands.held other q inside held) (not_it p q (elim (cases_Bool (is_place q p)) [
@@ -193,6 +199,7 @@ access_changes x y h vm number csr op p c =
         | inr f ↦ f
       ]));
       no_vcpu = λ other outside. other_rests h vm number csr op other (is_another other g (λ e. false≢true (sym outside ∙ ap (has_vcpu h) e ∙ c.there)));
+      no_majors = λ other outside. c.majors other;
       no_slot = λ q past few. ap (λ (w : World). mrif_in w.memory q) c.done.rest;
     }
 
@@ -213,6 +220,7 @@ guest_select_done x y g p op world leases selects low vcpus =
       records = ap (λ (rs : List VcpuRecord). length rs) vcpus ∙ length-set x.vcpus (slot_of x.world.vms g) _;
       stay = ap (λ (r : VcpuRecord). r.stay) own;
       select = ap (λ (r : VcpuRecord). r.select) own;
+      majors = ap (λ (r : VcpuRecord). r.majors) own;
       others = λ other ne. (λ k. get_or (vcpus k) (slot other k) no_record) ∙ get_or-set_other x.vcpus (slot_of x.world.vms g) (slot_of x.world.vms other) _ no_record ne;
       file = subst (λ (w : World). SameFile (shown (file_at w.imsic (spot_of p))) (shown (file_at x.world.imsic (spot_of p)))) (sym world) (as_it_was (shown (file_at x.world.imsic (spot_of p))));
       files = λ spot inside ne. ap (λ (w : World). file_at w.imsic spot) world;
@@ -233,6 +241,7 @@ guest_file_done x y g p deed there world leases vcpus selects file select =
       records = ap (λ (rs : List VcpuRecord). length rs) vcpus;
       stay = ap (λ (r : VcpuRecord). r.stay) (same g);
       select = ap (λ (r : VcpuRecord). r.select) (same g) ∙ sym select;
+      majors = ap (λ (r : VcpuRecord). r.majors) (same g);
       others = λ other ne. same other;
       file = file;
       files = λ other inside ne. ap (λ (i : ImsicState). file_at i other) imsic ∙ kept_elsewhere x.world.imsic (spot_of p) other (file_at y.world.imsic (spot_of p)) there inside ne;
@@ -240,35 +249,57 @@ guest_file_done x y g p deed there world leases vcpus selects file select =
 
 -- ---- what the core promises of it
 
+-- an access to a CSR of the file is nothing to majors, and reads what the file shows
+file_access : (vm number : ℕ) (csr : Csr) (op : Op) (other : Vcpu) → IsFileCsr csr → MajorsRest other (Accepted (GuestCsr vm number csr op))
+file_access vm number csrs.Select op other of_file m = refl
+file_access vm number csrs.Reg op other of_file m = refl
+file_access vm number csrs.Topei op other of_file m = refl
+file_access vm number csr op other of_file m = absurd of_file
+
+file_read : (h : History) (g : Vcpu) (csr : Csr) → IsFileCsr csr → csr_shown (guest_select h g) (guest_file h g) csr ≡ guest_csr_value h g csr
+file_read h g csrs.Select of_file = refl
+file_read h g csrs.Reg of_file = refl
+file_read h g csrs.Topei of_file = refl
+file_read h g csr of_file = absurd of_file
+
 -- the refusal of an access of a resident virtual hart, by the select number that the core keeps
-refusal_there : (x : CoreState) (h : History) (vm number : ℕ) (csr : Csr) (op : Op) (p : Place) (access : Access) → CoreStands x h → has_vcpu h (vcpu vm number) ≡ true → resident_at (record_of x (vcpu vm number)).stay ≡ Some p
-    → access ≡ access_of levels.Guest csr op (record_of x (vcpu vm number)).select false
+-- what an access reaches, by the record that the core keeps
+abbrev pub access_by : VcpuRecord → Csr → Op → Access
+access_by r csr op = access_of levels.Guest csr op r.select (vti_of (majors_shown r.majors).hvictl)
+
+pub refusal_there : (x : CoreState) (h : History) (vm number : ℕ) (csr : Csr) (op : Op) (p : Place) (access : Access) → CoreStands x h → has_vcpu h (vcpu vm number) ≡ true → resident_at (record_of x (vcpu vm number)).stay ≡ Some p
+    → access ≡ access_by (record_of x (vcpu vm number)) csr op
     → refusal h (GuestCsr vm number csr op) ≡ cond (raises_illegal access) (Some (Refused Illegal)) (cond (raises_virtual access) (Some (Refused Virtual)) None)
 refusal_there x h vm number csr op p access stands there at table =
     let g = vcpu vm number in
     let resident : is_resident (home h g) ≡ true = ap is_resident (is_home_at x h g p stands there at) in
     guest_refusal h vm number csr op stands.there ∙ cond-false _ _ _ (ap not there) ∙ cond-false _ _ _ (ap not resident)
-    ∙ ap (λ s. by_access (access_of levels.Guest csr op s false)) (sym (stands.vcpus g there).select) ∙ ap by_access (sym table)
+    ∙ (λ k. by_access (access_of levels.Guest csr op (sym (stands.vcpus g there).select k) (vti_of (sym (stands.vcpus g there).majors k).hvictl))) ∙ ap by_access (sym table)
   where
     by_access : Access → Option Answer
     by_access a = cond (raises_illegal a) (Some (Refused Illegal)) (cond (raises_virtual a) (Some (Refused Virtual)) None)
 
 pub guest_accessed : (x y : CoreState) (vm number : ℕ) (csr kind : Csr) (op : Op) (p : Place) (access : Access) (value : ℕ) → IsWhole x.world → is_vcpu_in x.world.vms (vcpu vm number) ≡ true → resident_at (record_of x (vcpu vm number)).stay ≡ Some p
-    → access ≡ access_of levels.Guest csr op (record_of x (vcpu vm number)).select false → raises_illegal access ≡ false → raises_virtual access ≡ false → csr ≡ kind
-    → value ≡ csr_shown (record_of x (vcpu vm number)).select (shown (file_at x.world.imsic (spot_of p))) kind → GuestHasDone x y (vcpu vm number) p (Accesses kind op) → CoreTakes x y (GuestCsr vm number csr op) (Wide value)
-guest_accessed x y vm number csr kind op p access value whole inside at table legal kept named read done =
+    → access ≡ access_by (record_of x (vcpu vm number)) csr op → raises_illegal access ≡ false → raises_virtual access ≡ false → csr ≡ kind
+    → value ≡ csr_shown (record_of x (vcpu vm number)).select (shown (file_at x.world.imsic (spot_of p))) kind → GuestHasDone x y (vcpu vm number) p (Accesses kind op) → IsFileCsr kind → CoreTakes x y (GuestCsr vm number csr op) (Wide value)
+guest_accessed x y vm number csr kind op p access value whole inside at table legal kept named read done of_file =
     let g = vcpu vm number in
     accepted x y (GuestCsr vm number csr op) (Wide value) refl (λ h stands.
     let there = there_in x h g stands inside in (
       refusal_there x h vm number csr op p access stands there at table ∙ cond-false _ _ _ legal ∙ cond-false _ _ _ kept,
       ap Wide (read ∙ ap (λ (k : Csr). csr_shown (record_of x g).select (shown (file_at x.world.imsic (spot_of p))) k) (sym named)
-          ∙ ap (λ s. csr_shown s (shown (file_at x.world.imsic (spot_of p))) csr) (stands.vcpus g there).select ∙ ap (λ (i : InterruptFile). csr_shown (guest_select h g) i csr) (own_is x h g p stands whole there (is_home_at x h g p stands there at))),
-      access_changes x y h vm number csr op p (record { stands = stands; whole = whole; there = there; at = at; done = subst (λ (k : Csr). GuestHasDone x y g p (Accesses k op)) (sym named) done }),
+          ∙ ap (λ s. csr_shown s (shown (file_at x.world.imsic (spot_of p))) csr) (stands.vcpus g there).select ∙ ap (λ (i : InterruptFile). csr_shown (guest_select h g) i csr) (own_is x h g p stands whole there (is_home_at x h g p stands there at))
+          ∙ file_read h g csr (subst (λ (k : Csr). IsFileCsr k) (sym named) of_file)),
+      access_changes x y h vm number csr op p (record { stands = stands; whole = whole; there = there; at = at; done = subst (λ (k : Csr). GuestHasDone x y g p (Accesses k op)) (sym named) done; majors = λ other. file_access vm number csr op other (subst (λ (k : Csr). IsFileCsr k) (sym named) of_file) }),
     ))
 
 pub guest_virtual : (x : CoreState) (vm number : ℕ) (csr : Csr) (op : Op) (p : Place) → is_vcpu_in x.world.vms (vcpu vm number) ≡ true → resident_at (record_of x (vcpu vm number)).stay ≡ Some p
-    → reaches.Virtual ≡ access_of levels.Guest csr op (record_of x (vcpu vm number)).select false → CoreTakes x x (GuestCsr vm number csr op) (Refused Virtual)
+    → reaches.Virtual ≡ access_by (record_of x (vcpu vm number)) csr op → CoreTakes x x (GuestCsr vm number csr op) (Refused Virtual)
 guest_virtual x vm number csr op p inside at table = refused x (GuestCsr vm number csr op) (Refused Virtual) (λ h stands. refusal_there x h vm number csr op p reaches.Virtual stands (there_in x h (vcpu vm number) stands inside) at table)
+
+pub guest_illegal : (x : CoreState) (vm number : ℕ) (csr : Csr) (op : Op) (p : Place) → is_vcpu_in x.world.vms (vcpu vm number) ≡ true → resident_at (record_of x (vcpu vm number)).stay ≡ Some p
+    → reaches.Illegal ≡ access_by (record_of x (vcpu vm number)) csr op → CoreTakes x x (GuestCsr vm number csr op) (Refused Illegal)
+guest_illegal x vm number csr op p inside at table = refused x (GuestCsr vm number csr op) (Refused Illegal) (λ h stands. refusal_there x h vm number csr op p reaches.Illegal stands (there_in x h (vcpu vm number) stands inside) at table)
 
 pub no_such_guest : (x : CoreState) (vm number : ℕ) (csr : Csr) (op : Op) → is_vcpu_in x.world.vms (vcpu vm number) ≡ false → CoreTakes x x (GuestCsr vm number csr op) (Refused Range)
 no_such_guest x vm number csr op outside = refused x (GuestCsr vm number csr op) (Refused Range) (λ h stands.

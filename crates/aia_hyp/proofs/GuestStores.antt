@@ -47,6 +47,7 @@ use Rattle.aia_model.specs.Vms.{vms_of, has_vcpu}
 use Rattle.aia_model.specs.FileAfter.{select_after, file_after}
 use Rattle.aia_model.specs.FileAfter.FileDeed.{Stores, Rests}
 use Rattle.aia_model.specs.GuestFile.{guest_deed, guest_file, guest_select}
+use Rattle.aia_major.specs.Kept.{majors_shown}
 use Rattle.aia_model.specs.HomeOf.{home}
 use Rattle.aia_model.specs.Notice.{noticed, noticed_by_store, a_look_saw}
 use Rattle.aia_model.specs.FileOf.{FileName, SupervisorFile, deed_at, notice_deed}
@@ -57,7 +58,7 @@ use Rattle.aia_hyp.specs.Core.{CoreState, no_record, record_of, hand_in}
 use Rattle.aia_hyp.specs.HostFiles.{FileDone, host_spot, select_place}
 use Rattle.aia_hyp.specs.Stands.{VcpuStands, is_held, CoreStands}
 use Rattle.aia_hyp.proofs.NameLemmas.{no_guest, is_hosts, other_spot}
-use Rattle.aia_hyp.proofs.VcpuLemmas.{IsQuiet, SameMachine, SameFor, IsHeld, same_place, is_itself_place, own_held, next_held, guest_rests, guest_done, files_alone}
+use Rattle.aia_hyp.proofs.VcpuLemmas.{IsQuiet, SameMachine, SameFor, IsHeld, same_place, is_itself_place, own_held, next_held, MajorsRest, guest_rests, guest_done, files_alone}
 use Rattle.aia_hyp.proofs.EventLemmas.{Changes, count_after, as_it_was}
 use Rattle.aia_hyp.proofs.WithinLemmas.{guest_within}
 
@@ -253,6 +254,7 @@ pub record IsStoredFor (x y : CoreState) (h : History) (event : Event) (g : Vcpu
   pub quiet : IsQuiet h event
   pub there : has_vcpu h g ≡ true
   pub leads : (reach ≡ devices_reach (home h g)) ⊎ (reach ≡ peers_reach (home h g))
+  pub majors : (other : Vcpu) → MajorsRest other event
   pub deeds : (other : Vcpu) → guest_deed other h event ≡ cond (is_vcpu other g) (Stores offset value) Rests
   pub notices : noticed h event ≡ noticed_by_store h g reach offset value
   pub host : (f : FileName) → deed_at f h event ≡ notice_deed h f (noticed h event)
@@ -283,6 +285,7 @@ held_stored x y h event g reach offset value machine c shows p =
     let deed : guest_deed g h event ≡ Stores offset value = c.deeds g ∙ cond-true _ _ _ (is_itself g) in
     let same : record_of y g ≡ record_of x g = λ k. get_or (c.vcpus k) (slot_of (vms k) g) no_record in
     guest_done x y h event g c.quiet machine (ap (λ (r : VcpuRecord). r.stay) same) (ap (λ (r : VcpuRecord). r.select) same ∙ ap (λ d. select_after d (record_of x g).select) (sym deed))
+    (ap (λ (r : VcpuRecord). majors_shown r.majors) same ∙ sym (c.majors g (majors_shown (record_of x g).majors)))
     (λ held. subst IsHeld (λ k. record {
       words = file_words h;
       slot = slot_of (vms_of h) g;
@@ -367,7 +370,7 @@ in_a_file x y h event g p offset value c =
             let same = same_vcpu other g e in
             subst (VcpuStands y (event ∷ h)) (sym same) (held_stored x y h event g (Some p) offset value machine c
             (view_stored x.world y.world g (home h g) p offset value s (λ q held. c.stands.held g q c.there held) (c.stands.vcpus g c.there).two_files holding) (subst (VcpuStands x h) same stood))
-        | inr ne ↦ guest_rests x y h event other c.quiet machine (others_rest h event g other offset value (c.deeds other) ne) (λ k. get_or (c.vcpus k) (slot_of ((s.rest k).vms) other) no_record)
+        | inr ne ↦ guest_rests x y h event other c.quiet machine (others_rest h event g other offset value (c.deeds other) ne) (c.majors other) (λ k. get_or (c.vcpus k) (slot_of ((s.rest k).vms) other) no_record)
             (files_alone x.world y.world other (home h other) s.rest (λ q held.
             let there = c.stands.held other q inside held in
             other_file x.world y.world p q offset value s here there (elim (cases_Bool (is_place q p)) [
@@ -380,6 +383,7 @@ in_a_file x y h event g p offset value c =
         | inr f ↦ f
       ]);
       no_vcpu = λ other outside. missing_rests h event g other offset value (c.deeds other) c.there outside;
+      no_majors = λ other outside. c.majors other;
       no_slot = λ q past few. ap (λ (w : World). mrif_in w.memory q) s.rest;
     }
 
@@ -414,12 +418,13 @@ landed_changes x y h event g offset value c l =
             let same = same_vcpu other g e in
             subst (VcpuStands y (event ∷ h)) (sym same) (held_stored x y h event g None offset value machine c
             (slot_view x.world y.world g (home h g) offset value l.slot c.whole.memory few (λ q held. c.stands.held g q c.there held)) (subst (VcpuStands x h) same stood))
-        | inr ne ↦ guest_rests x y h event other c.quiet machine (others_rest h event g other offset value (c.deeds other) ne) (λ k. get_or (c.vcpus k) (slot_of (l.slot.vms k) other) no_record)
+        | inr ne ↦ guest_rests x y h event other c.quiet machine (others_rest h event g other offset value (c.deeds other) ne) (c.majors other) (λ k. get_or (c.vcpus k) (slot_of (l.slot.vms k) other) no_record)
             (slot_others x.world y.world g other (home h other) offset value l.slot few
             (slots_apart x h g other c.stands c.there inside (λ e. false≢true (sym ne ∙ ap (λ z. is_vcpu z g) e ∙ is_itself g))) (λ q held. c.stands.held other q inside held)) stood
       ];
       free_files = λ q inside none. l.slot.files q inside;
       no_vcpu = λ other outside. missing_rests h event g other offset value (c.deeds other) c.there outside;
+      no_majors = λ other outside. c.majors other;
       no_slot = λ q past less.
           let below = slot_below (vms_of h) g c.there in
           ap (λ ws. mrif_in ws q) l.slot.memory ∙ other_slot_stays x.world.memory (slot_of x.world.vms g) q offset value (λ e. omega (arith, below, past, e, slot_is x h g c.stands));

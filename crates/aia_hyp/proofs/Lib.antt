@@ -8,6 +8,7 @@ pub mod GuestLemmas
 pub mod WithinLemmas
 pub mod GuestStores
 pub mod GuestAccesses
+pub mod MajorLemmas
 pub mod DeviceLemmas
 pub mod VmLines
 pub mod MoveChanges

@@ -28,6 +28,7 @@ use Rattle.aia_model.specs.Event.{Event, History, file_words}
 use Rattle.aia_model.specs.Event.Event.{Began}
 use Rattle.aia_model.specs.Vms.{vms_of, has_vcpu}
 use Rattle.aia_model.specs.GuestFile.{guest_file}
+use Rattle.aia_major.specs.Kept.{majors_shown}
 use Rattle.aia_model.specs.HomeOf.{home}
 use Rattle.aia_model.specs.Notice.{a_look_saw}
 use Rattle.aia_model.proofs.MoveLemmas.{is_itself}
@@ -36,7 +37,7 @@ use Rattle.aia_hyp.specs.declared.vcpu.VcpuRecord.{VcpuRecord}
 use Rattle.aia_hyp.specs.Core.{CoreState, no_record, record_of, home_in, hand_in}
 use Rattle.aia_hyp.specs.HostFiles.{host_spot, select_place}
 use Rattle.aia_hyp.specs.Stands.{PlanStands, VcpuStands, is_held, CoreStands}
-use Rattle.aia_hyp.proofs.VcpuLemmas.{IsHeld, SameMachine, same_place, own_held, next_held}
+use Rattle.aia_hyp.proofs.VcpuLemmas.{IsHeld, SameMachine, majors_rest, same_place, own_held, next_held}
 use Rattle.aia_hyp.proofs.EventLemmas.{as_it_was}
 use Rattle.aia_pool.proofs.LeaseLemmas.{out_here, out_elsewhere}
 use Rattle.aia_hyp.proofs.LeaseLemmas.{in_pool}
@@ -86,6 +87,7 @@ pub record Begins (x y : CoreState) (h : History) (move : Move) (plan : Plan) (r
   pub is_free : IsFreeIn x h taken
   pub stay : r.stay ≡ stays.Moving plan
   pub select : r.select ≡ (record_of x (moves.mover move)).select
+  pub majors : r.majors ≡ (record_of x (moves.mover move)).majors
   pub who : IsWho x.world (moving_of plan).who
   pub same : mover (moving_of plan) ≡ moves.mover move
   pub phase : IsInPhase (width x.world) plan
@@ -191,6 +193,7 @@ module _ (x y : CoreState) (h : History) (move : Move) (plan : Plan) (r : VcpuRe
       record {
         same_home = ap home_in stay ∙ b.goes;
         select = ap (λ (r : VcpuRecord). r.select) kept ∙ b.select ∙ (b.stands.vcpus g b.there).select ∙ sym (select_rests h event g (moved.rests g));
+        majors = ap (λ (r : VcpuRecord). majors_shown r.majors) kept ∙ ap majors_shown b.majors ∙ (b.stands.vcpus g b.there).majors ∙ sym (majors_rest h event g (moved.majors g));
         two_files = b.two_files;
         plan = subst (PlanStands y.world g) (sym stay) (subst (λ (w : World). PlanStands w g (stays.Moving plan)) (sym b.world) (begun_fits taken b, b.phase, b.same, b.moving));
         holds = subst IsHeld (λ k. record {

@@ -152,6 +152,7 @@ module _ (x y : CoreState) (who : Who) (plan : Plan) where
       selects = c.swapped.selects;
       vcpus = put_at x y who (stays.Moving plan) (stays.Moving later) c.swapped;
       select = refl;
+      majors = refl;
     };
     leases = c.leases;
     stay = refl;
@@ -171,6 +172,7 @@ module _ (x y : CoreState) (who : Who) (plan : Plan) where
       selects = c.swapped.selects;
       vcpus = put_at x y who (stays.Moving plan) (stay_after o) c.swapped;
       select = refl;
+      majors = refl;
     };
     whole_then = c.whole_then;
     leases = c.leases;

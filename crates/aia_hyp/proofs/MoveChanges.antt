@@ -22,6 +22,7 @@ use Rattle.aia_fabric.specs.Changes.{spot_of, view}
 use Rattle.aia_model.specs.Move.{Move, mover}
 use Rattle.aia_model.specs.Move.Move.{Arrives, Leaves, Shifts}
 use Rattle.aia_model.specs.Event.{Event, History, Shape, machine_of, harts_of, guests_of, greatest_identity_of}
+use Rattle.aia_major.specs.Kept.{majors_shown}
 use Rattle.aia_model.specs.Event.Event.{Began, Stepped}
 use Rattle.aia_model.specs.Vms.{vms_of, has_vm, has_vcpu}
 use Rattle.aia_model.specs.FileAfter.{select_after, file_after}
@@ -36,7 +37,7 @@ use Rattle.aia_hyp.specs.declared.vcpu.VcpuRecord.{VcpuRecord}
 use Rattle.aia_hyp.specs.Core.{CoreState, record_of, home_in, hand_in}
 use Rattle.aia_hyp.specs.HostFiles.{FileDone, host_spot}
 use Rattle.aia_hyp.specs.Stands.{PlanStands, VcpuStands, is_held, CoreStands}
-use Rattle.aia_hyp.proofs.VcpuLemmas.{IsHeld, SameMachine, same_n, same_words, select_is, plan_stays}
+use Rattle.aia_hyp.proofs.VcpuLemmas.{IsHeld, SameMachine, same_n, same_words, select_is, MajorsRest, majors_rest, plan_stays}
 use Rattle.aia_hyp.proofs.NameLemmas.{there_too}
 use Rattle.aia_hyp.proofs.EventLemmas.{count_after, host_more, guest_too, counted_more, notices_step}
 
@@ -50,6 +51,7 @@ pub record IsMoveOf (h : History) (event : Event) (g : Vcpu) : Type 0 where
   pub homes : (other : Vcpu) → is_vcpu other g ≡ false → home (event ∷ h) other ≡ home h other
   pub seen : (other : Vcpu) → is_vcpu other g ≡ false → a_look_saw (event ∷ h) other ≡ a_look_saw h other
   pub rests : (other : Vcpu) → guest_deed other h event ≡ Rests
+  pub majors : (other : Vcpu) → MajorsRest other event
   pub host : (f : FileName) → deed_at f h event ≡ notice_deed h f (noticed h event)
 
 pub began_move : (h : History) (move : Move) → IsMoveOf h (Began move) (mover move)
@@ -59,6 +61,7 @@ began_move h (Leaves g) = record {
   homes = λ other ne. home_step (Began (Leaves g)) h other ∙ cond-false _ _ _ ne;
   seen = λ other ne. seen_stays (Began (Leaves g)) h other refl (λ w was. cond-false _ _ _ ne);
   rests = λ other. refl;
+  majors = λ other m. refl;
   host = λ f. refl;
 }
 began_move h (Arrives g hart) = record {
@@ -67,6 +70,7 @@ began_move h (Arrives g hart) = record {
   homes = λ other ne. home_step (Began (Arrives g hart)) h other ∙ cond-false _ _ _ ne;
   seen = λ other ne. seen_stays (Began (Arrives g hart)) h other refl (λ w was. refl);
   rests = λ other. refl;
+  majors = λ other m. refl;
   host = λ f. refl;
 }
 began_move h (Shifts g hart) = record {
@@ -75,6 +79,7 @@ began_move h (Shifts g hart) = record {
   homes = λ other ne. home_step (Began (Shifts g hart)) h other ∙ cond-false _ _ _ ne;
   seen = λ other ne. seen_stays (Began (Shifts g hart)) h other refl (λ w was. refl);
   rests = λ other. refl;
+  majors = λ other m. refl;
   host = λ f. refl;
 }
 
@@ -85,6 +90,7 @@ stepped_move h g = record {
   homes = λ other ne. home_step (Stepped g) h other ∙ cond-false _ _ _ ne;
   seen = λ other ne. seen_stays (Stepped g) h other refl (λ w was. cond-false _ _ _ ne);
   rests = λ other. refl;
+  majors = λ other m. refl;
   host = λ f. refl;
 }
 
@@ -108,6 +114,7 @@ other_stands x y h event g other moves machine ne kept shows p =
     record {
       same_home = ap home_in stay ∙ p.same_home ∙ sym homes;
       select = ap (λ (r : VcpuRecord). r.select) kept ∙ p.select ∙ sym (select_rests h event other (moves.rests other));
+      majors = ap (λ (r : VcpuRecord). majors_shown r.majors) kept ∙ p.majors ∙ sym (majors_rest h event other (moves.majors other));
       two_files = subst AreApart (sym homes) p.two_files;
       plan = subst (PlanStands y.world other) (sym stay) (plan_stays x.world y.world other (record_of x other).stay machine p.plan);
       holds = subst IsHeld (λ k. record {
@@ -200,7 +207,7 @@ moved_on x y h event g c stands =
           let before = was_missing other outside in
           let was = stands.no_vcpu other before in
           let rests = c.moves.rests other in
-          (file_rests h event other rests ∙ was.0 ∙ ap empty_file n, select_rests h event other rests ∙ was.1, c.moves.homes other (is_other other before) ∙ was.2);
+          (file_rests h event other rests ∙ was.0 ∙ ap empty_file n, select_rests h event other rests ∙ was.1, c.moves.homes other (is_other other before) ∙ was.2, majors_rest h event other (c.moves.majors other) ∙ was.3);
       no_entry = λ other inside outside.
           let there : has_vm h other.vm ≡ true = ap (λ (vms : List Vm). nat_lt other.vm (length vms)) (sym c.moves.vms) ∙ inside in
           let before = was_missing other outside in

@@ -53,6 +53,7 @@ pub record StepOf (x y : CoreState) (h : History) (g : Vcpu) (plan : Plan) (r : 
   pub selects : y.selects ≡ x.selects
   pub vcpus : y.vcpus ≡ set x.vcpus (slot_of x.world.vms g) r
   pub select : r.select ≡ (record_of x g).select
+  pub majors : r.majors ≡ (record_of x g).majors
 
 module _ (x y : CoreState) (h : History) (g : Vcpu) (plan : Plan) (r : VcpuRecord) (hand : Hand) (s : StepOf x y h g plan r hand) where
   abbrev m : Moving

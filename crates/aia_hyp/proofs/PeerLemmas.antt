@@ -105,6 +105,7 @@ ipi_taken x y vm number to value whole sender resident there relays leases vcpus
       quiet = quiet_line h (Ipi vm number to value) refl refl;
       there = inside;
       leads = inr refl;
+      majors = λ other m. refl;
       deeds = λ other. refl;
       notices = refl;
       host = λ f. refl;

@@ -199,7 +199,7 @@ pub hgeip_taken : (x : CoreState) (hart word : ℕ) → IsWhole x.world → hart
 hgeip_taken x hart word whole there bits = accepted x x (Hgeip hart) (Wide word) refl (λ h stands. (
   hgeip_refusal h hart stands.there ∙ cond-false _ _ _ (ap not (lt-ltb hart (harts_of h) (omega (arith, there, stands.harts)))),
   ap Wide (hgeip_is x h hart word stands whole there bits),
-  nothing_done x h (Accepted (Hgeip hart)) stands (hosts_line h (Hgeip hart) refl refl refl (λ g. refl)) (λ f inside. refl),
+  nothing_done x h (Accepted (Hgeip hart)) stands (hosts_line h (Hgeip hart) refl refl refl (λ g. refl) (λ g m. refl)) (λ f inside. refl),
 ))
 
 pub no_hart_for_it : (x : CoreState) (hart : ℕ) → x.world.imsic.harts ≤ hart → CoreTakes x x (Hgeip hart) (Refused Range)

@@ -71,14 +71,14 @@ pub loaded : (x : CoreState) (addr : ℕ) → domain_at addr ≡ None → None �
 loaded x addr outside is = accepted x x (Load addr) (Narrow 0) refl (λ h stands. (
   load_refusal h addr stands.there ∙ word_stands x h addr None outside is stands,
   sym (ap (λ (o : Option DomainName). Narrow (option_map_or (λ d. register_read (acts_of h) d (register_at addr)) o 0)) outside),
-  nothing_done x h (Accepted (Load addr)) stands (hosts_line h (Load addr) refl refl refl (λ g. refl)) (λ f inside. refl),
+  nothing_done x h (Accepted (Load addr)) stands (hosts_line h (Load addr) refl refl refl (λ g. refl) (λ g m. refl)) (λ f inside. refl),
 ))
 
 pub stored : (x y : CoreState) (addr value : ℕ) (spot : Spot) → domain_at addr ≡ None → None ≡ core_refusal (spot_at x.world.imsic.harts x.world.imsic.guests addr) addr → IsStored x y addr value spot → CoreTakes x y (Store addr value) Okay
 stored x y addr value spot outside is done = accepted x y (Store addr value) Okay refl (λ h stands. (
   store_refusal h addr value stands.there ∙ word_stands x h addr None outside is stands,
   refl,
-  stored_changes x y addr value spot h (Accepted (Store addr value)) (λ f. refl) (hosts_line h (Store addr value) refl refl refl (λ g. refl)) stands done,
+  stored_changes x y addr value spot h (Accepted (Store addr value)) (λ f. refl) (hosts_line h (Store addr value) refl refl refl (λ g. refl) (λ g m. refl)) stands done,
 ))
 
 -- ---- MSIs

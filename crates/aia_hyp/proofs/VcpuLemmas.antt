@@ -9,6 +9,8 @@ use Rattle.aia_file.specs.InterruptFile.{InterruptFile, empty_file}
 use Rattle.aia_file.specs.FileState.{shown}
 use Rattle.aia_imsic.specs.Imsic.{IsThere, file_at}
 use Rattle.aia_mrif.specs.Mrif.{mrif_in}
+use Rattle.aia_major.specs.VsMajor.{VsMajorState}
+use Rattle.aia_major.specs.Kept.{majors_shown}
 use Rattle.aia_entry.specs.Tables.{table_of, entry_in_force}
 use Rattle.aia_home.specs.declared.place.Place.{Place}
 use Rattle.aia_home.specs.declared.vm.Vm.{Vm}
@@ -34,6 +36,7 @@ use Rattle.aia_model.specs.Vms.{vms_of}
 use Rattle.aia_model.specs.FileAfter.{select_after, file_after, select_by}
 use Rattle.aia_model.specs.FileAfter.FileDeed.{Rests}
 use Rattle.aia_model.specs.GuestFile.{guest_deed, guest_select, guest_file}
+use Rattle.aia_model.specs.MajorOf.{majors_of, majors_after}
 use Rattle.aia_model.specs.HomeOf.{home}
 use Rattle.aia_model.specs.Notice.{a_look_saw}
 use Rattle.aia_model.proofs.FileLemmas.{file_by_step}
@@ -181,6 +184,17 @@ pub select_is : (event : Event) (h : History) (g : Vcpu) → guest_select (event
 unfolding select_by
 select_is event h g = refl
 
+pub majors_is : (event : Event) (h : History) (g : Vcpu) → majors_of (event ∷ h) g ≡ majors_after g event (majors_of h g)
+unfolding majors_of
+majors_is event h g = refl
+
+-- an event is nothing to the majors of a virtual hart
+abbrev pub MajorsRest : Vcpu → Event → Type 0
+MajorsRest g event = (m : VsMajorState) → majors_after g event m ≡ m
+
+pub majors_rest : (h : History) (event : Event) (g : Vcpu) → MajorsRest g event → majors_of (event ∷ h) g ≡ majors_of h g
+majors_rest h event g rest = majors_is event h g ∙ rest (majors_of h g)
+
 -- the plan of a move can go on where the machine's numbers and its VMs are the same
 pub record SameMachine (w u : World) : Type 0 where
   pub n : u.n ≡ w.n
@@ -209,15 +223,17 @@ plan_stays w u g (stays.Moving plan) same p = (fits_still w u (moving_of plan) s
 
 -- a deed was done at the file of a virtual hart, which its places hold then
 pub guest_done : (x y : CoreState) (h : History) (event : Event) (g : Vcpu) → IsQuiet h event → SameMachine x.world y.world → (record_of y g).stay ≡ (record_of x g).stay → (record_of y g).select ≡ select_after (guest_deed g h event) (record_of x g).select
+    → majors_shown (record_of y g).majors ≡ majors_after g event (majors_shown (record_of x g).majors)
     → (Holds (file_words h) (slot_of (vms_of h) g) (notice_hart (vms_of h) g) (view x.world g (home h g)) (home h g) (hand_in (record_of x g).stay) (guest_file h g) (a_look_saw h g)
     → Holds (file_words h) (slot_of (vms_of h) g) (notice_hart (vms_of h) g) (view y.world g (home h g)) (home h g) (hand_in (record_of x g).stay) (file_after (guest_select h g) (guest_deed g h event) (guest_file h g)) (a_look_saw h g))
     → VcpuStands x h g → VcpuStands y (event ∷ h) g
-guest_done x y h event g quiet same stay select keeps p =
+guest_done x y h event g quiet same stay select majors keeps p =
     let words = same_words event h quiet.machine in
     let file = file_by_step (guest_deed g) event h in
     record {
       same_home = ap home_in stay ∙ p.same_home ∙ sym (quiet.homes g);
       select = select ∙ ap (select_after (guest_deed g h event)) p.select ∙ sym (select_is event h g);
+      majors = majors ∙ ap (majors_after g event) p.majors ∙ sym (majors_is event h g);
       two_files = subst AreApart (sym (quiet.homes g)) p.two_files;
       plan = subst (PlanStands y.world g) (sym stay) (plan_stays x.world y.world g (record_of x g).stay same p.plan);
       holds = subst IsHeld (λ k. record {
@@ -233,9 +249,10 @@ guest_done x y h event g quiet same stay select keeps p =
     }
 
 -- nothing was done at it, and its places show what they showed
-pub guest_rests : (x y : CoreState) (h : History) (event : Event) (g : Vcpu) → IsQuiet h event → SameMachine x.world y.world → guest_deed g h event ≡ Rests → record_of y g ≡ record_of x g → SameFor x.world y.world g (home h g) → VcpuStands x h g → VcpuStands y (event ∷ h) g
-guest_rests x y h event g quiet machine rests same shows p =
+pub guest_rests : (x y : CoreState) (h : History) (event : Event) (g : Vcpu) → IsQuiet h event → SameMachine x.world y.world → guest_deed g h event ≡ Rests → MajorsRest g event → record_of y g ≡ record_of x g → SameFor x.world y.world g (home h g) → VcpuStands x h g → VcpuStands y (event ∷ h) g
+guest_rests x y h event g quiet machine rests nothing same shows p =
     guest_done x y h event g quiet machine (ap (λ (r : VcpuRecord). r.stay) same) (ap (λ (r : VcpuRecord). r.select) same ∙ ap (λ deed. select_after deed (record_of x g).select) (sym rests))
+    (ap (λ (r : VcpuRecord). majors_shown r.majors) same ∙ sym (nothing (majors_shown (record_of x g).majors)))
     (λ held. subst IsHeld (λ k. record {
       words = file_words h;
       slot = slot_of (vms_of h) g;

@@ -46,6 +46,8 @@ use Rattle.aia_model.specs.Event.{Event, History, has_hart, harts_of, file_words
 use Rattle.aia_model.specs.Event.Event.{Accepted}
 use Rattle.aia_model.specs.Vms.{vms_of, has_vcpu}
 use Rattle.aia_model.specs.GuestFile.{guest_deed, guest_file}
+use Rattle.aia_major.specs.Kept.{majors_shown}
+use Rattle.aia_major.proofs.KeptLemmas.{shown_at_first}
 use Rattle.aia_model.specs.HomeOf.{home}
 use Rattle.aia_model.specs.Notice.{a_look_saw}
 use Rattle.aia_model.specs.Refusal.{is_vm_size, lacks_room}
@@ -59,7 +61,7 @@ use Rattle.aia_hyp.specs.Core.{CoreState, no_kept, no_record, record_of, home_in
 use Rattle.aia_hyp.specs.HostFiles.{host_spot, select_place}
 use Rattle.aia_hyp.specs.Stands.{PlanStands, VcpuStands, StandsForSome, is_held, CoreStands, CoreTakes}
 use Rattle.aia_hyp.proofs.NameLemmas.{there_too}
-use Rattle.aia_hyp.proofs.VcpuLemmas.{SameFor, IsHeld, same_view, select_is}
+use Rattle.aia_hyp.proofs.VcpuLemmas.{SameFor, IsHeld, same_view, select_is, majors_is}
 use Rattle.aia_hyp.proofs.EventLemmas.{host_more, as_it_was, taken, refused, notices_step}
 
 -- ---- slots, whose words stay
@@ -215,6 +217,7 @@ old_stands x y h vm g c low there =
     record {
       same_home = ap (λ (r : VcpuRecord). home_in r.stay) same ∙ p.same_home ∙ sym (same_home h vm g);
       select = ap (λ (r : VcpuRecord). r.select) same ∙ p.select ∙ sym (select_is (made_line vm) h g);
+      majors = ap (λ (r : VcpuRecord). majors_shown r.majors) same ∙ p.majors ∙ sym (majors_is (made_line vm) h g);
       two_files = subst AreApart (sym (same_home h vm g)) p.two_files;
       plan = subst (λ (r : VcpuRecord). PlanStands y.world g r.stay) (sym same) (plan_grown x y h vm g (record_of x g).stay c low p.plan);
       holds = subst IsHeld (λ k. record {
@@ -282,6 +285,7 @@ new_stands x y h vm g c last low lacks =
     record {
       same_home = ap (λ (r : VcpuRecord). home_in r.stay) kept ∙ sym parked;
       select = ap (λ (r : VcpuRecord). r.select) kept ∙ sym (select_is (made_line vm) h g ∙ none.1);
+      majors = ap (λ (r : VcpuRecord). majors_shown r.majors) kept ∙ shown_at_first ∙ sym (majors_is (made_line vm) h g ∙ none.3);
       two_files = subst AreApart (sym parked) tt;
       plan = subst (λ (r : VcpuRecord). PlanStands y.world g r.stay) (sym kept) tt;
       holds = subst IsHeld (λ k. record {
@@ -356,7 +360,7 @@ made_stands x y h vm c =
       no_vcpu = λ g outside.
           let before = not_there_before (vms_of h) vm g outside in
           let was = c.stands.no_vcpu g before in
-          (same_file h vm g ∙ was.0, select_is (made_line vm) h g ∙ was.1, same_home h vm g ∙ was.2);
+          (same_file h vm g ∙ was.0, select_is (made_line vm) h g ∙ was.1, same_home h vm g ∙ was.2, majors_is (made_line vm) h g ∙ was.3);
       no_entry = λ g inside outside. no_entry_past g (ltb-true g.vm _ inside) outside table;
       no_slot = λ q past few.
           let before : vcpus_in (vms_of h) ≤ q = let more = vcpus_more (vms_of h) vm in omega (arith, past, more) in

@@ -1,9 +1,11 @@
 -- What the hypervisor's core keeps. Vocabulary.
-use Rattle.std.specs.Prelude.{ℕ, false, List, Option, Some, None, slice_index_or}
+use Rattle.std.specs.Prelude.{◌≡◌, ℕ, false, List, Option, Some, None, slice_index_or, slice_set}
 use Rattle.aia_home.specs.declared.place.Place.{Place}
 use Rattle.aia_home.specs.Vms.{Vcpu, slot_of}
 use Rattle.aia_home.specs.Home.{Home}
 use Rattle.aia_home.specs.Home.Home.{Parked, Resident}
+use Rattle.aia_major.specs.VsMajor.{VsMajorState}
+use Rattle.aia_major.specs.Kept.{majors_shown, kept_at_first}
 use Rattle.aia_places.specs.Holds.{Hand}
 use Rattle.aia_pool.specs.Leases.{Leases}
 use Rattle.aia_fabric.specs.World.{World}
@@ -28,11 +30,20 @@ abbrev pub no_kept : Kept
 no_kept = record { delivery = 0; threshold = 0 }
 
 abbrev pub no_record : VcpuRecord
-no_record = record { stay = stays.Parked no_kept; select = 0 }
+no_record = record { stay = stays.Parked no_kept; select = 0; majors = kept_at_first }
 
 -- The record of a virtual hart.
 abbrev pub record_of : CoreState → Vcpu → VcpuRecord
 record_of x g = slice_index_or x.vcpus (slot_of x.world.vms g) no_record
+
+-- Something was done about the majors of the record at a place, and nothing else to the records.
+pub record MajorsDone (old new : List VcpuRecord) (slot : ℕ) (done : VsMajorState → VsMajorState)
+    : Type 0 where
+  pub rest : new ≡ slice_set old slot (record (slice_index_or old slot no_record) {
+    majors = (slice_index_or new slot no_record).majors;
+  })
+  pub majors : majors_shown (slice_index_or new slot no_record).majors
+      ≡ done (majors_shown (slice_index_or old slot no_record).majors)
 
 -- Its home, as it is kept.
 abbrev pub home_in : Stay → Home

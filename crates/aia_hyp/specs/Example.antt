@@ -12,6 +12,7 @@ use Rattle.aia_entry.specs.Tables.{TableState}
 use Rattle.aia_home.specs.declared.place.Place.{Place}
 use Rattle.aia_home.specs.Vms.{Vcpu, vcpu}
 use Rattle.aia_home.specs.Home.Home.{Leaving}
+use Rattle.aia_major.specs.Kept.{kept_at_first}
 use Rattle.aia_places.specs.View.{leads_to, entry_word, second_word}
 use Rattle.aia_fabric.specs.declared.stage.Stage.{Stage}
 use Rattle.aia_fabric.specs.World.{World, no_stage}
@@ -149,7 +150,11 @@ abbrev pub leaving_core : CoreState
 leaving_core = record {
   world = example_world;
   leases = record { harts = 1; guests = 3; out = true ∷ true ∷ false ∷ [] };
-  vcpus = record { stay = stays.Resident stayer_file; select = 0 }
-      ∷ record { stay = stays.Moving (LeaveDrain leave_under_way); select = 0xc0 } ∷ [];
+  vcpus = record { stay = stays.Resident stayer_file; select = 0; majors = kept_at_first }
+      ∷ record {
+        stay = stays.Moving (LeaveDrain leave_under_way);
+        select = 0xc0;
+        majors = kept_at_first;
+      } ∷ [];
   selects = replicate 8 0;
 }

@@ -9,6 +9,8 @@ use Rattle.aia_imsic.specs.declared.spot.Spot.{Spot}
 use Rattle.aia_imsic.specs.Imsic.{IsThere, file_at}
 use Rattle.aia_imsic.specs.Map.{is_page}
 use Rattle.aia_mrif.specs.Mrif.{mrif_in}
+use Rattle.aia_major.specs.VsMajor.{new_majors}
+use Rattle.aia_major.specs.Kept.{majors_shown}
 use Rattle.aia_entry.specs.declared.entry.Entry.TheVariants.{NotValid}
 use Rattle.aia_entry.specs.declared.table.Route.{Route}
 use Rattle.aia_entry.specs.declared.table.Route.TheVariants.{Other, Fault, To}
@@ -34,6 +36,7 @@ use Rattle.aia_model.specs.Event.{History, has_machine, harts_of, guests_of, gre
 use Rattle.aia_model.specs.Event.Event.{Accepted}
 use Rattle.aia_model.specs.Vms.{vms_of, has_vm, has_vcpu}
 use Rattle.aia_model.specs.GuestFile.{guest_select, guest_file}
+use Rattle.aia_model.specs.MajorOf.{majors_of}
 use Rattle.aia_model.specs.HomeOf.{home}
 use Rattle.aia_model.specs.Notice.{a_look_saw, notices_sent}
 use Rattle.aia_model.specs.FileOf.{FileName, MachineFile, SupervisorFile, file_of, select_of}
@@ -59,11 +62,12 @@ PlanStands w g (stays.Moving plan) = Fits w (moving_of plan) × IsInPhase (width
     × (mover (moving_of plan) ≡ g) × (is_moving (moving_of plan).home ≡ true)
 PlanStands w g stay = Unit {0}
 
--- A virtual hart is where the history has it, with its select number, the files of a shift are two,
--- and its places hold its interrupt file.
+-- A virtual hart is where the history has it, with its select number and its majors, the files of a
+-- shift are two, and its places hold its interrupt file.
 pub record VcpuStands (x : CoreState) (h : History) (g : Vcpu) : Type 0 where
   pub same_home : home_in (record_of x g).stay ≡ home h g
   pub select : (record_of x g).select ≡ guest_select h g
+  pub majors : majors_shown (record_of x g).majors ≡ majors_of h g
   pub two_files : AreApart (home h g)
   pub plan : PlanStands x.world g (record_of x g).stay
   pub holds : Holds (file_words h) (slot_of (vms_of h) g) (notice_hart (vms_of h) g)
@@ -105,7 +109,7 @@ pub record CoreStands (x : CoreState) (h : History) : Type 0 where
       → shown (file_at x.world.imsic (spot_of p)) ≡ empty_file (greatest_identity_of h)
   pub no_vcpu : (g : Vcpu) → has_vcpu h g ≡ false
       → (guest_file h g ≡ empty_file (greatest_identity_of h)) × (guest_select h g ≡ 0)
-      × (home h g ≡ Parked)
+      × (home h g ≡ Parked) × (majors_of h g ≡ new_majors)
   pub no_entry : (g : Vcpu) → has_vm h g.vm ≡ true → has_vcpu h g ≡ false
       → entry_in_force (table_of x.world.tables g.vm) g.number ≡ NotValid
   pub no_slot : (q : ℕ) → vcpus_in (vms_of h) ≤ q → q < VCPUS

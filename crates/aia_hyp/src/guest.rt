@@ -1,7 +1,9 @@
 ghost use Rattle.std.specs.Prelude.{◌≡◌, ◌<◌, ◌≤◌, true, false, length, slice_index_or, slice_set, Some};
 ghost use Rattle.std.specs.Vec.{vec_capacity};
 ghost use Rattle.aia_regs.specs.FileRegisters.{select_written};
-ghost use Rattle.aia_csr.specs.Access.{IsFileCsr, ReachesUsable, access_of};
+ghost use Rattle.aia_csr.specs.Access.{ReachesUsable, access_of};
+ghost use Rattle.aia_major.specs.VsMajor.{vti_of};
+ghost use Rattle.aia_major.specs.Kept.{majors_shown};
 ghost use Rattle.aia_home.specs.Vms.{vcpu, is_vcpu_in};
 ghost use Rattle.aia_model.specs.declared.line.Line.TheVariants.{GuestCsr};
 ghost use Rattle.aia_model.specs.declared.answer.Answer.TheVariants.{Wide};
@@ -11,6 +13,7 @@ ghost use Rattle.aia_hyp.specs.Core.{no_record, record_of, resident_at};
 ghost use Rattle.aia_hyp.specs.Stands.{CoreTakes, answer_by};
 
 use crate::hyp::{Hyp, claim_or_read, select_after};
+use crate::majors::{access_sie_in, access_sip_in, stopi_in};
 use crate::vcpu::VcpuRecord;
 use aia_csr::{Access, decide};
 use aia_home::Place;
@@ -19,14 +22,13 @@ use aia_model::Refusal;
 use aia_regs::{Csr, Level, Op};
 
 impl Hyp {
-    /// Does a CSR instruction of a virtual hart with `siselect`, `sireg` or `stopei`, and answers
-    /// what the CSR read before it. `Err` is `Range` where the virtual hart isn't there, `Away`
-    /// where it is not resident, and `Virtual` where the access raises a virtual-instruction
+    /// Does a CSR instruction of a virtual hart, and answers what the CSR read before it. `Err` is
+    /// `Range` where the virtual hart isn't there, `Away` where it is not resident, and `Illegal`
+    /// or `Virtual` where the access raises an illegal-instruction or a virtual-instruction
     /// exception; nothing is changed then.
     ///
     /// AIA 1.0, Interrupts for Virtual Machines (VS Level).
     pub fn guest(&mut self, vm: u64, number: u64, csr: Csr, op: Op) -> Result<u64, Refusal>
-        requires listed { IsFileCsr csr }
         ensures { CoreTakes self.old self.new (GuestCsr vm number csr op)
             (answer_by Wide result) }
     {
@@ -57,7 +59,6 @@ impl Hyp {
         csr: Csr,
         op: Op,
     ) -> Result<u64, Refusal>
-        requires listed { IsFileCsr csr }
         requires there { is_vcpu_in self.old.world.vms (vcpu vm number) ≡ true }
         requires whole { IsWhole self.old.world }
         requires resident { resident_at (record_of self.old (vcpu vm number)).stay ≡ Some place }
@@ -65,29 +66,34 @@ impl Hyp {
             (answer_by Wide result) }
     {
         let spot = file_spot(place);
+        let slot = self.fabric.slot_of(vm, number);
         match self.guest_reached(vm, number, csr, op) {
-            Access::Select => {
-                let slot = self.fabric.slot_of(vm, number);
-                Ok(access_select_in(&mut self.vcpus, slot, op))
-            }
+            Access::Select => Ok(access_select_in(&mut self.vcpus, slot, op)),
             Access::File(reg) => Ok(self.fabric.reg(spot, reg, op)),
             Access::Top => Ok(claim_or_read(&mut self.fabric, spot, op)),
+            Access::Topi => Ok(stopi_in(&self.vcpus, slot, self.fabric.file(spot))),
+            Access::Sip => {
+                let signal = self.fabric.file(spot).signal();
+                Ok(access_sip_in(&mut self.vcpus, slot, op, signal))
+            }
+            Access::Sie => Ok(access_sie_in(&mut self.vcpus, slot, op)),
+            Access::Illegal => Err(Refusal::Illegal),
             Access::Virtual => Err(Refusal::Virtual),
-            Access::Topi | Access::Sip | Access::Sie | Access::Illegal => unreachable!(),
         }
     }
 
-    /// Tells what the access of a virtual hart that is there reaches, by its select number.
+    /// Tells what the access of a virtual hart that is there reaches, by its select number and
+    /// VTI.
     fn guest_reached(&self, vm: u32, number: u32, csr: Csr, op: Op) -> Access
-        requires listed { IsFileCsr csr }
         requires there { is_vcpu_in self.now.world.vms (vcpu vm number) ≡ true }
         ensures table { result ≡ access_of Level.Guest csr op
-            (record_of self.now (vcpu vm number)).select false }
+            (record_of self.now (vcpu vm number)).select
+            (vti_of (majors_shown (record_of self.now (vcpu vm number)).majors).hvictl) }
         ensures usable { ReachesUsable result }
     {
         let slot = self.fabric.slot_of(vm, number);
-        let select = self.vcpus[slot as usize].select;
-        decide(Level::Guest, csr, op, select, false)
+        let record = &self.vcpus[slot as usize];
+        decide(Level::Guest, csr, op, record.select, record.majors.vti())
     }
 }
 

@@ -5,6 +5,7 @@
 mod guest;
 mod hyp;
 pub mod laws;
+mod majors;
 mod moves;
 mod peers;
 mod signals;

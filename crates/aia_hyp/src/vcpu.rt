@@ -2,6 +2,7 @@ ghost use Rattle.std.specs.Prelude.{◌≡◌};
 ghost use Rattle.aia_hyp.specs.Core.{no_record, resident_at};
 
 use aia_home::Place;
+use aia_major::VsMajor;
 use aia_move::{Kept, Plan};
 use aia_pool::FileLease;
 
@@ -36,11 +37,13 @@ pub struct VcpuRecord {
     pub stay: Stay,
     /// Its select number: what `siselect` holds.
     pub select: u64,
+    /// Its major interrupts, which no move touches.
+    pub majors: VsMajor,
 }
 
 impl VcpuRecord {
-    /// Makes the record of a virtual hart that was never moved: it is parked, and all its numbers
-    /// are 0.
+    /// Makes the record of a virtual hart that was never moved: it is parked, all its numbers are 0,
+    /// and no major interrupt of it is injected or enabled.
     pub fn new() -> VcpuRecord
         ensures { result ≡ no_record }
     {
@@ -50,6 +53,7 @@ impl VcpuRecord {
                 threshold: 0,
             }),
             select: 0,
+            majors: VsMajor::new(),
         }
     }
 }

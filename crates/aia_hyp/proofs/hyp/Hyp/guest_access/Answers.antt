@@ -1,15 +1,13 @@
-use Rattle.std.proofs.Common.{◌≡◌, ◌<◌, length, get_or, set, true, false, refl, sym, ap, subst, ◌∙◌, Some, arith}
+use Rattle.std.proofs.Common.{◌≡◌, ℕ, ◌<◌, length, get_or, set, true, false, refl, sym, ap, subst, ◌∙◌, Some, arith}
 use Rattle.aia_regs.specs.declared.access.Csr.TheVariants as csrs
 use Rattle.aia_regs.specs.declared.access.Csr.{Csr}
 use Rattle.aia_regs.specs.declared.access.Op.{Op}
-use Rattle.aia_regs.specs.declared.access.Level.TheVariants as levels
 use Rattle.aia_regs.specs.declared.file_registers.FileReg.{FileReg}
 use Rattle.aia_regs.specs.FileRegisters.{select_written}
 use Rattle.aia_csr.specs.declared.access.Access.{Access}
 use Rattle.aia_csr.specs.declared.access.Access.TheVariants as reaches
-use Rattle.aia_csr.specs.Access.{access_of}
-use Rattle.aia_file.specs.InterruptFile.{SameFile, register_value, top_of, accessed}
-use Rattle.aia_file.specs.FileState.{shown}
+use Rattle.aia_file.specs.InterruptFile.{SameFile, register_value, top_of, accessed, signals}
+use Rattle.aia_file.specs.FileState.{FileState, shown}
 use Rattle.aia_imsic.specs.declared.spot.Spot.{Spot}
 use Rattle.aia_imsic.specs.Imsic.{IsThere, file_at, with_file}
 use Rattle.aia_home.specs.declared.place.Place.{Place}
@@ -19,14 +17,20 @@ use Rattle.aia_fabric.specs.Changes.{spot_of}
 use Rattle.aia_model.specs.declared.answer.Answer.TheVariants.{Wide}
 use Rattle.aia_model.specs.declared.line.Line.TheVariants.{GuestCsr}
 use Rattle.aia_word.specs.Top.{top_value}
+use Rattle.aia_regs.specs.Operations.{is_writing}
+use Rattle.aia_major.specs.VsMajor.{vti_of, with_sip, with_sie, stopi_value, sip_value, sie_value}
+use Rattle.aia_major.specs.Kept.{majors_shown}
+use Rattle.aia_model.specs.Event.Event.{Accepted}
+use Rattle.aia_model.specs.Answer.{guest_csr_value}
 use Rattle.aia_model.specs.FileAfter.{file_after}
 use Rattle.aia_model.specs.FileAfter.FileDeed.{Accesses}
-use Rattle.aia_hyp.specs.Core.{CoreState, no_record, record_of, resident_at}
-use Rattle.aia_hyp.specs.Stands.{CoreTakes}
+use Rattle.aia_hyp.specs.Core.{CoreState, no_record, record_of, resident_at, MajorsDone}
+use Rattle.aia_hyp.specs.Stands.{StandsForSome, CoreTakes}
 use Rattle.aia_hyp.proofs.EventLemmas.{still}
-use Rattle.aia_hyp.proofs.AccessLemmas.{file_reached, select_reached, top_reached}
-use Rattle.aia_hyp.proofs.GuestAccesses.{file_there, guest_select_done, guest_file_done, guest_accessed, guest_virtual}
-use Rattle.aia_hyp.proofs.hyp.Hyp.guest_access.Goals.{After-access_select_in, After-reg, After-claim_or_read}
+use Rattle.aia_hyp.proofs.AccessLemmas.{IsReachedBy, reached_by}
+use Rattle.aia_hyp.proofs.GuestAccesses.{access_by, file_there, guest_select_done, guest_file_done, guest_accessed, guest_virtual, guest_illegal}
+use Rattle.aia_hyp.proofs.MajorLemmas.{IsOfMajors, accesses_sip, accesses_sie, accesses_topi, majors_accessed, majors_stay, stopi_read, sip_read, sie_read}
+use Rattle.aia_hyp.proofs.hyp.Hyp.guest_access.Goals.{After-access_select_in, After-reg, After-claim_or_read, After-stopi_in, After-access_sip_in, After-access_sie_in}
 use Rattle.aia_hyp.proofs.hyp.Hyp.guest_access.Goals as goal
 
 -- what the call was asked, of the core before it
@@ -38,8 +42,14 @@ record IsAsked (x : CoreState) (g : Vcpu) (p : Place) : Type 0 where
 asked : (x y : CoreState) (g : Vcpu) (p : Place) → x ≡ y → IsAsked y g p → IsAsked x g p
 asked x y g p e a = subst (λ (z : CoreState). IsAsked z g p) (sym e) a
 
-reached : (x y : CoreState) (g : Vcpu) (access was : Access) (csr : Csr) (op : Op) → x ≡ y → was ≡ access → was ≡ access_of levels.Guest csr op (record_of y g).select false → access ≡ access_of levels.Guest csr op (record_of x g).select false
-reached x y g access was csr op e is table = sym is ∙ table ∙ ap (λ (z : CoreState). access_of levels.Guest csr op (record_of z g).select false) (sym e)
+reached : (x y : CoreState) (g : Vcpu) (access was : Access) (csr : Csr) (op : Op) → x ≡ y → was ≡ access → was ≡ access_by (record_of y g) csr op → access ≡ access_by (record_of x g) csr op
+reached x y g access was csr op e is table = sym is ∙ table ∙ ap (λ (z : CoreState). access_by (record_of z g) csr op) (sym e)
+
+names : (x : CoreState) (g : Vcpu) (access : Access) (csr : Csr) (op : Op) → access ≡ access_by (record_of x g) csr op → IsReachedBy csr op (record_of x g).select access
+names x g access csr op e = reached_by csr op (record_of x g).select (vti_of (majors_shown (record_of x g).majors).hvictl) access e
+
+slot_low : (x : CoreState) (g : Vcpu) (slot : ℕ) → StandsForSome x → slot ≡ slot_of x.world.vms g → slot < vcpus_in x.world.vms → slot_of x.world.vms g < length x.vcpus
+slot_low x g slot some e below = omega (arith, below, e, some.stands.records, ap vcpus_in some.stands.vms)
 
 select_taken : (c : After-access_select_in) → CoreTakes (record { world = c.self.inside.fabric; leases = c.self.inside.pool; vcpus = c.self.inside.vcpus.items; selects = c.self.inside.selects }) (record { world = c.self.inside.fabric; leases = c.self.inside.pool; vcpus = c.access_select_in.new.vcpus.items; selects = c.self.inside.selects }) (GuestCsr c.args.vm c.args.number c.args.csr c.args.op) (Wide c.access_select_in.result)
 select_taken c =
@@ -49,14 +59,12 @@ select_taken c =
     let a = asked x c.args.self.now g c.args.place c.self.view_is (record { there = c.requires.there; whole = c.requires.whole; at = c.requires.resident }) in
     let table = reached x c.args.self.now g reaches.Select c.guest_reached.result c.args.csr c.args.op c.self.view_is c.in-Select.is c.guest_reached.ensures.table in
     let slot = c.slot_of-slot.ensures.value in
-    let some = c.self.invariant.0 in
-    let below = c.slot_of-slot.ensures.below in
-    let low : slot_of x.world.vms g < length x.vcpus = omega (arith, below, slot, some.stands.records, ap vcpus_in some.stands.vms) in
-    let named = select_reached levels.Guest c.args.csr c.args.op (record_of x g).select c.requires.listed table in
+    let low = slot_low x g c.slot_of-slot.result c.self.invariant.0 slot c.slot_of-slot.ensures.below in
+    let named = names x g reaches.Select c.args.csr c.args.op table in
     guest_accessed x y c.args.vm c.args.number c.args.csr csrs.Select c.args.op c.args.place reaches.Select c.access_select_in.result a.whole a.there a.at table refl refl named
     (c.access_select_in.ensures.value ∙ ap (λ q. (get_or x.vcpus q no_record).select) slot)
     (guest_select_done x y g c.args.place c.args.op refl refl refl low
-    (subst (λ q. y.vcpus ≡ set x.vcpus q (record (get_or x.vcpus q no_record) { select = select_written c.args.op (get_or x.vcpus q no_record).select })) slot c.access_select_in.ensures.after))
+    (subst (λ q. y.vcpus ≡ set x.vcpus q (record (get_or x.vcpus q no_record) { select = select_written c.args.op (get_or x.vcpus q no_record).select })) slot c.access_select_in.ensures.after)) tt
 
 file_taken : (c : After-reg) → CoreTakes (record { world = c.self.inside.fabric; leases = c.self.inside.pool; vcpus = c.self.inside.vcpus.items; selects = c.self.inside.selects }) (record { world = c.reg.new.self; leases = c.self.inside.pool; vcpus = c.self.inside.vcpus.items; selects = c.self.inside.selects }) (GuestCsr c.args.vm c.args.number c.args.csr c.args.op) (Wide c.reg.result)
 file_taken c =
@@ -66,13 +74,13 @@ file_taken c =
     let g = vcpu c.args.vm c.args.number in
     let a = asked x c.args.self.now g c.args.place c.self.view_is (record { there = c.requires.there; whole = c.requires.whole; at = c.requires.resident }) in
     let table = reached x c.args.self.now g (reaches.File c.in-File.reg) c.guest_reached.result c.args.csr c.args.op c.self.view_is c.in-File.is c.guest_reached.ensures.table in
-    let named = file_reached levels.Guest c.args.csr c.args.op (record_of x g).select c.in-File.reg c.requires.listed table in
+    let named = names x g (reaches.File c.in-File.reg) c.args.csr c.args.op table in
     let there = file_there x g c.args.place c.self.invariant.0 a.there a.at in
     guest_accessed x y c.args.vm c.args.number c.args.csr csrs.Reg c.args.op c.args.place (reaches.File c.in-File.reg) c.reg.result a.whole a.there a.at table refl refl named.0
     (subst (λ (s : Spot). c.reg.result ≡ register_value (shown (file_at x.world.imsic s)) c.in-File.reg) spot c.reg.ensures.value ∙ ap (register_value (shown (file_at x.world.imsic (spot_of c.args.place)))) (sym named.1))
     (guest_file_done x y g c.args.place (Accesses csrs.Reg c.args.op) there (subst (λ (s : Spot). y.world ≡ record x.world { imsic = with_file x.world.imsic s (file_at y.world.imsic s) }) spot c.reg.ensures.others) refl refl refl
     (subst (λ (r : FileReg). SameFile (shown (file_at y.world.imsic (spot_of c.args.place))) (accessed r c.args.op (shown (file_at x.world.imsic (spot_of c.args.place))))) (sym named.1)
-    (subst (λ (s : Spot). SameFile (shown (file_at y.world.imsic s)) (accessed c.in-File.reg c.args.op (shown (file_at x.world.imsic s)))) spot c.reg.ensures.lands)) refl)
+    (subst (λ (s : Spot). SameFile (shown (file_at y.world.imsic s)) (accessed c.in-File.reg c.args.op (shown (file_at x.world.imsic s)))) spot c.reg.ensures.lands)) refl) tt
 
 top_taken : (c : After-claim_or_read) → CoreTakes (record { world = c.self.inside.fabric; leases = c.self.inside.pool; vcpus = c.self.inside.vcpus.items; selects = c.self.inside.selects }) (record { world = c.claim_or_read.new.fabric; leases = c.self.inside.pool; vcpus = c.self.inside.vcpus.items; selects = c.self.inside.selects }) (GuestCsr c.args.vm c.args.number c.args.csr c.args.op) (Wide c.claim_or_read.result)
 top_taken c =
@@ -82,12 +90,86 @@ top_taken c =
     let g = vcpu c.args.vm c.args.number in
     let a = asked x c.args.self.now g c.args.place c.self.view_is (record { there = c.requires.there; whole = c.requires.whole; at = c.requires.resident }) in
     let table = reached x c.args.self.now g reaches.Top c.guest_reached.result c.args.csr c.args.op c.self.view_is c.in-Top.is c.guest_reached.ensures.table in
-    let named = top_reached levels.Guest c.args.csr c.args.op (record_of x g).select c.requires.listed table in
+    let named = names x g reaches.Top c.args.csr c.args.op table in
     let there = file_there x g c.args.place c.self.invariant.0 a.there a.at in
     guest_accessed x y c.args.vm c.args.number c.args.csr csrs.Topei c.args.op c.args.place reaches.Top c.claim_or_read.result a.whole a.there a.at table refl refl named
     (subst (λ (s : Spot). c.claim_or_read.result ≡ top_value (top_of (shown (file_at x.world.imsic s)))) spot c.claim_or_read.ensures.value)
     (guest_file_done x y g c.args.place (Accesses csrs.Topei c.args.op) there (subst (λ (s : Spot). y.world ≡ record x.world { imsic = with_file x.world.imsic s (file_at y.world.imsic s) }) spot c.claim_or_read.ensures.others) refl refl refl
-    (subst (λ (s : Spot). SameFile (shown (file_at y.world.imsic s)) (file_after 0 (Accesses csrs.Topei c.args.op) (shown (file_at x.world.imsic s)))) spot c.claim_or_read.ensures.done) refl)
+    (subst (λ (s : Spot). SameFile (shown (file_at y.world.imsic s)) (file_after 0 (Accesses csrs.Topei c.args.op) (shown (file_at x.world.imsic s)))) spot c.claim_or_read.ensures.done) refl) tt
+
+sip_taken : (c : After-access_sip_in) → CoreTakes (record { world = c.self.inside.fabric; leases = c.self.inside.pool; vcpus = c.self.inside.vcpus.items; selects = c.self.inside.selects }) (record { world = c.self.inside.fabric; leases = c.self.inside.pool; vcpus = c.access_sip_in.new.vcpus.items; selects = c.self.inside.selects }) (GuestCsr c.args.vm c.args.number c.args.csr c.args.op) (Wide c.access_sip_in.result)
+sip_taken c =
+    let x : CoreState = record { world = c.self.inside.fabric; leases = c.self.inside.pool; vcpus = c.self.inside.vcpus.items; selects = c.self.inside.selects } in
+    let y : CoreState = record { world = c.self.inside.fabric; leases = c.self.inside.pool; vcpus = c.access_sip_in.new.vcpus.items; selects = c.self.inside.selects } in
+    let g = vcpu c.args.vm c.args.number in
+    let a = asked x c.args.self.now g c.args.place c.self.view_is (record { there = c.requires.there; whole = c.requires.whole; at = c.requires.resident }) in
+    let table = reached x c.args.self.now g reaches.Sip c.guest_reached.result c.args.csr c.args.op c.self.view_is c.in-Sip.is c.guest_reached.ensures.table in
+    let named : c.args.csr ≡ csrs.Sip = names x g reaches.Sip c.args.csr c.args.op table in
+    let slot = c.slot_of-slot.ensures.value in
+    let low = slot_low x g c.slot_of-slot.result c.self.invariant.0 slot c.slot_of-slot.ensures.below in
+    let signal : c.signal-signal.result ≡ signals (shown (file_at x.world.imsic (spot_of c.args.place))) =
+    c.signal-signal.ensures ∙ ap (λ (f : FileState). signals (shown f)) c.file-in-Sip.ensures ∙ ap (λ (s : Spot). signals (shown (file_at x.world.imsic s))) c.file_spot-spot.ensures in
+    majors_accessed x y c.args.vm c.args.number c.args.csr c.args.op c.args.place reaches.Sip c.access_sip_in.result (with_sip c.args.op) a.there a.at table refl refl
+    (λ h. subst (λ (k : Csr). IsOfMajors h (Accepted (GuestCsr c.args.vm c.args.number k c.args.op)) g (with_sip c.args.op)) (sym named) (accesses_sip h c.args.vm c.args.number c.args.op))
+    (λ h stands there. c.access_sip_in.ensures.value ∙ (λ k. sip_value (majors_shown (get_or x.vcpus (slot k) no_record).majors) (signal k)) ∙ sip_read x g c.args.place a.whole a.at h stands there ∙ ap (guest_csr_value h g) (sym named))
+    (record { world = refl; leases = refl; selects = refl; low = low; is_done = subst (λ q. MajorsDone x.vcpus y.vcpus q (with_sip c.args.op)) slot c.access_sip_in.ensures.done })
+
+sie_taken : (c : After-access_sie_in) → CoreTakes (record { world = c.self.inside.fabric; leases = c.self.inside.pool; vcpus = c.self.inside.vcpus.items; selects = c.self.inside.selects }) (record { world = c.self.inside.fabric; leases = c.self.inside.pool; vcpus = c.access_sie_in.new.vcpus.items; selects = c.self.inside.selects }) (GuestCsr c.args.vm c.args.number c.args.csr c.args.op) (Wide c.access_sie_in.result)
+sie_taken c =
+    let x : CoreState = record { world = c.self.inside.fabric; leases = c.self.inside.pool; vcpus = c.self.inside.vcpus.items; selects = c.self.inside.selects } in
+    let y : CoreState = record { world = c.self.inside.fabric; leases = c.self.inside.pool; vcpus = c.access_sie_in.new.vcpus.items; selects = c.self.inside.selects } in
+    let g = vcpu c.args.vm c.args.number in
+    let a = asked x c.args.self.now g c.args.place c.self.view_is (record { there = c.requires.there; whole = c.requires.whole; at = c.requires.resident }) in
+    let table = reached x c.args.self.now g reaches.Sie c.guest_reached.result c.args.csr c.args.op c.self.view_is c.in-Sie.is c.guest_reached.ensures.table in
+    let named : c.args.csr ≡ csrs.Sie = names x g reaches.Sie c.args.csr c.args.op table in
+    let slot = c.slot_of-slot.ensures.value in
+    let low = slot_low x g c.slot_of-slot.result c.self.invariant.0 slot c.slot_of-slot.ensures.below in
+    majors_accessed x y c.args.vm c.args.number c.args.csr c.args.op c.args.place reaches.Sie c.access_sie_in.result (with_sie c.args.op) a.there a.at table refl refl
+    (λ h. subst (λ (k : Csr). IsOfMajors h (Accepted (GuestCsr c.args.vm c.args.number k c.args.op)) g (with_sie c.args.op)) (sym named) (accesses_sie h c.args.vm c.args.number c.args.op))
+    (λ h stands there. c.access_sie_in.ensures.value ∙ (λ k. sie_value (majors_shown (get_or x.vcpus (slot k) no_record).majors)) ∙ sie_read x g c.args.place a.whole a.at h stands there ∙ ap (guest_csr_value h g) (sym named))
+    (record { world = refl; leases = refl; selects = refl; low = low; is_done = subst (λ q. MajorsDone x.vcpus y.vcpus q (with_sie c.args.op)) slot c.access_sie_in.ensures.done })
+
+topi_taken : (c : After-stopi_in) → CoreTakes (record { world = c.self.inside.fabric; leases = c.self.inside.pool; vcpus = c.self.inside.vcpus.items; selects = c.self.inside.selects }) (record { world = c.self.inside.fabric; leases = c.self.inside.pool; vcpus = c.self.inside.vcpus.items; selects = c.self.inside.selects }) (GuestCsr c.args.vm c.args.number c.args.csr c.args.op) (Wide c.stopi_in.result)
+topi_taken c =
+    let x : CoreState = record { world = c.self.inside.fabric; leases = c.self.inside.pool; vcpus = c.self.inside.vcpus.items; selects = c.self.inside.selects } in
+    let g = vcpu c.args.vm c.args.number in
+    let a = asked x c.args.self.now g c.args.place c.self.view_is (record { there = c.requires.there; whole = c.requires.whole; at = c.requires.resident }) in
+    let table = reached x c.args.self.now g reaches.Topi c.guest_reached.result c.args.csr c.args.op c.self.view_is c.in-Topi.is c.guest_reached.ensures.table in
+    let named : (c.args.csr ≡ csrs.Topi) × (is_writing c.args.op ≡ false) = names x g reaches.Topi c.args.csr c.args.op table in
+    let slot = c.slot_of-slot.ensures.value in
+    let low = slot_low x g c.slot_of-slot.result c.self.invariant.0 slot c.slot_of-slot.ensures.below in
+    let file : shown c.file.result.now ≡ shown (file_at x.world.imsic (spot_of c.args.place)) = ap shown c.file.ensures ∙ ap (λ (s : Spot). shown (file_at x.world.imsic s)) c.file_spot-spot.ensures in
+    majors_accessed x x c.args.vm c.args.number c.args.csr c.args.op c.args.place reaches.Topi c.stopi_in.result (λ m. m) a.there a.at table refl refl
+    (λ h. subst (λ (k : Csr). IsOfMajors h (Accepted (GuestCsr c.args.vm c.args.number k c.args.op)) g (λ m. m)) (sym named.0) (accesses_topi h c.args.vm c.args.number c.args.op))
+    (λ h stands there. c.stopi_in.ensures ∙ (λ k. stopi_value (majors_shown (get_or (c.deref.ensures.value k) (slot k) no_record).majors) (top_value (top_of (file k))) (signals (file k))) ∙ stopi_read x g c.args.place a.whole a.at h stands there ∙ ap (guest_csr_value h g) (sym named.0))
+    (majors_stay x g low)
+
+file_is_there : (x y : CoreState) (g : Vcpu) (p : Place) (spot : Spot) → x ≡ y → StandsForSome x → IsAsked y g p → spot ≡ spot_of p → IsThere x.world.imsic spot
+file_is_there x y g p spot e some a at = let b = asked x y g p e a in subst (λ (s : Spot). IsThere x.world.imsic s) (sym at) (file_there x g p some b.there b.at)
+
+pub file-requires : goal.file-requires
+file-requires c = file_is_there _ c.args.self.now (vcpu c.args.vm c.args.number) c.args.place _ c.self.view_is c.self.invariant.0 (record { there = c.requires.there; whole = c.requires.whole; at = c.requires.resident }) c.file_spot-spot.ensures
+
+pub file-requires-in-Sip : goal.file-requires-in-Sip
+file-requires-in-Sip c = file_is_there _ c.args.self.now (vcpu c.args.vm c.args.number) c.args.place _ c.self.view_is c.self.invariant.0 (record { there = c.requires.there; whole = c.requires.whole; at = c.requires.resident }) c.file_spot-spot.ensures
+
+pub invariant_of-self-in-Sip : goal.invariant_of-self-in-Sip
+invariant_of-self-in-Sip c = (still _ _ _ _ (sip_taken c) c.self.invariant.0, (let room = c.access_sip_in.ensures.room in let before = c.self.invariant.1 in omega (arith, room, before)))
+
+pub invariant_of-self-in-Sie : goal.invariant_of-self-in-Sie
+invariant_of-self-in-Sie c = (still _ _ _ _ (sie_taken c) c.self.invariant.0, (let room = c.access_sie_in.ensures.room in let before = c.self.invariant.1 in omega (arith, room, before)))
+
+pub returns-in-Topi : goal.returns-in-Topi
+returns-in-Topi c = rw (← c.self.view_is) (topi_taken c)
+
+pub returns-in-Sip : goal.returns-in-Sip
+returns-in-Sip c = rw (← c.self.view_is) (sip_taken c)
+
+pub returns-in-Sie : goal.returns-in-Sie
+returns-in-Sie c = rw (← c.self.view_is) (sie_taken c)
+
+pub returns-in-Illegal : goal.returns-in-Illegal
+returns-in-Illegal c = guest_illegal c.args.self.now c.args.vm c.args.number c.args.csr c.args.op c.args.place c.requires.there c.requires.resident (sym c.in-Illegal.is ∙ c.guest_reached.ensures.table)
 
 pub invariant_of-self : goal.invariant_of-self
 invariant_of-self c = (still _ _ _ _ (select_taken c) c.self.invariant.0, (let room = c.access_select_in.ensures.room in let before = c.self.invariant.1 in omega (arith, room, before)))
