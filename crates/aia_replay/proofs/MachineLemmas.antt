@@ -105,7 +105,7 @@ pub entry_read : (m : Machine) (w0 w1 : ℕ) (entry : Entry) → entry ≡ decod
 entry_read m w0 w1 entry is = aplic_line m m (lines.Entry w0 w1) (words.Entry entry) refl refl (λ h stands. (
   entry_refusal h w0 w1 stands.core.there,
   ap words.Entry is,
-  line_rests m.core h (Accepted (lines.Entry w0 w1)) (hosts_line h (lines.Entry w0 w1) refl refl refl (λ g. refl)) (λ f. refl) stands.core,
+  line_rests m.core h (Accepted (lines.Entry w0 w1)) (hosts_line h (lines.Entry w0 w1) refl refl refl (λ g. refl) (λ g m. refl)) (λ f. refl) stands.core,
   stands.aplic,
 ))
 
@@ -150,7 +150,7 @@ pub register_loaded : (m n : Machine) (addr domain value : ℕ) → addr % 4 ≡
 register_loaded m n addr domain value aligned there same reads stands_after = aplic_line m n (Load addr) (Narrow value) refl same (λ h stands. (
   load_refusal h addr stands.core.there ∙ ap refused_by (region_is_free (harts_of h) _ addr aligned (in_region addr (domain_name domain) there)),
   ap Narrow (reads (acts_of h) stands.aplic ∙ sym (ap (λ (o : Option DomainName). option_map_or (λ d. register_read (acts_of h) d (register_at addr)) o 0) there)),
-  line_rests m.core h (Accepted (Load addr)) (hosts_line h (Load addr) refl refl refl (λ g. refl)) (λ f. refl) stands.core,
+  line_rests m.core h (Accepted (Load addr)) (hosts_line h (Load addr) refl refl refl (λ g. refl) (λ g m. refl)) (λ f. refl) stands.core,
   subst (AplicStands n.aplic) (sym (ap (λ o. with_act (option_map (λ d. Loaded d (register_at addr)) o) (acts_of h)) there)) (stands_after (acts_of h) stands.aplic),
 ))
 
@@ -159,7 +159,7 @@ pub register_stored : (m n : Machine) (addr value domain : ℕ) → addr % 4 ≡
 register_stored m n addr value domain aligned there same writes = aplic_line m n (Store addr value) Okay refl same (λ h stands. (
   store_refusal h addr value stands.core.there ∙ ap refused_by (region_is_free (harts_of h) _ addr aligned (in_region addr (domain_name domain) there)),
   refl,
-  line_rests m.core h (Accepted (Store addr value)) (hosts_line h (Store addr value) refl refl refl (λ g. refl)) (λ f. cond-false _ _ _ (no_file_there addr f (in_region addr (domain_name domain) there))) stands.core,
+  line_rests m.core h (Accepted (Store addr value)) (hosts_line h (Store addr value) refl refl refl (λ g. refl) (λ g m. refl)) (λ f. cond-false _ _ _ (no_file_there addr f (in_region addr (domain_name domain) there))) stands.core,
   subst (AplicStands n.aplic) (sym (ap (λ o. with_act (option_map (λ d. Written d (register_at addr) value) o) (acts_of h)) there)) (writes (acts_of h) stands.aplic),
 ))
 
@@ -181,7 +181,7 @@ pins_shown m hart root child machine supervisor by_root by_child by_core = aplic
       pins_refusal h hart stands.core.there ∙ cond-false _ _ _ (ap not core.0),
       ap (λ x. words.Pins x child machine supervisor) (by_root (acts_of h) stands.aplic acts) ∙ ap (λ x. words.Pins (is_signalled (acts_of h) Root hart) x machine supervisor) (by_child (acts_of h) stands.aplic acts)
           ∙ ap (λ (p : Bool × Bool). words.Pins (is_signalled (acts_of h) Root hart) (is_signalled (acts_of h) Child hart) p.0 p.1) core.1,
-      line_rests m.core h (Accepted (Pins hart)) (hosts_line h (Pins hart) refl refl refl (λ g. refl)) (λ f. refl) stands.core,
+      line_rests m.core h (Accepted (Pins hart)) (hosts_line h (Pins hart) refl refl refl (λ g. refl) (λ g m. refl)) (λ f. refl) stands.core,
       stands.aplic,
     ))
   where
@@ -221,6 +221,6 @@ pub wire_driven : (m n : Machine) (source : ℕ) (level : Bool) → n.core ≡ m
 wire_driven m n source level same there drives = aplic_line m n (Wire source level) Okay refl same (λ h stands. (
   wire_by h source level true stands.core.there (there (acts_of h) stands.aplic),
   refl,
-  line_rests m.core h (Accepted (Wire source level)) (hosts_line h (Wire source level) refl refl refl (λ g. refl)) (λ f. refl) stands.core,
+  line_rests m.core h (Accepted (Wire source level)) (hosts_line h (Wire source level) refl refl refl (λ g. refl) (λ g m. refl)) (λ f. refl) stands.core,
   drives (acts_of h) stands.aplic,
 ))

@@ -1,7 +1,7 @@
 ghost use Rattle.std.specs.Prelude.{◌≡◌, ◌∷◌, ℕ, ◌≤◌, ◌%◌, [], true, None, Some, is_some, nat_eq, if◌then◌else◌, IfOk, OnErr, IfSome};
 ghost use Rattle.std.specs.Option.{option_map};
 ghost use Rattle.std.specs.Result.{result_err};
-ghost use Rattle.aia_csr.specs.Access.{IsFileCsr, IsInTable};
+ghost use Rattle.aia_csr.specs.Access.{IsInTable};
 ghost use Rattle.aia_file.specs.InterruptFile.{is_greatest_identity};
 ghost use Rattle.aia_model.specs.Grammar.{IsListed};
 ghost use Rattle.aia_model.specs.Event.Event.{Accepted};
@@ -90,6 +90,14 @@ impl Machine {
             Line::Arrive { vm, vcpu, hart } => self.whole_move(vm, vcpu, Want::Arrive(hart)),
             Line::Leave { vm, vcpu } => self.whole_move(vm, vcpu, Want::Leave),
             Line::Shift { vm, vcpu, hart } => self.whole_move(vm, vcpu, Want::Shift(hart)),
+            Line::Inject {
+                vm,
+                vcpu,
+                bit,
+                level,
+            } => self.inject(vm, vcpu, bit, level),
+            Line::Hvictl { vm, vcpu, value } => self.hvictl(vm, vcpu, value),
+            Line::Hviprio { vm, vcpu, value } => self.hviprio(vm, vcpu, value),
             Line::Pins { hart } => self.pins(hart),
             Line::Entry { w0, w1 } => self.entry(w0, w1),
         }
@@ -127,7 +135,6 @@ impl Machine {
 
     /// Does a CSR instruction of a virtual hart.
     fn guest(&mut self, vm: u64, vcpu: u64, csr: Csr, op: Op) -> Answer
-        requires listed { IsFileCsr csr }
         ensures { MachineTakes self.old self.new (Line.GuestCsr vm vcpu csr op) result }
     {
         wide(self.core.guest(vm, vcpu, csr, op))
@@ -145,6 +152,27 @@ impl Machine {
         ensures { MachineTakes self.old self.new (move_line vm vcpu want) result }
     {
         okay(self.core.whole(vm, vcpu, want))
+    }
+
+    /// Gives a major interrupt of a virtual hart a level in `hvip`, by the core.
+    fn inject(&mut self, vm: u64, vcpu: u64, bit: u64, level: bool) -> Answer
+        ensures { MachineTakes self.old self.new (Line.Inject vm vcpu bit level) result }
+    {
+        okay(self.core.inject(vm, vcpu, bit, level))
+    }
+
+    /// Writes `hvictl` of a virtual hart, by the core.
+    fn hvictl(&mut self, vm: u64, vcpu: u64, value: u64) -> Answer
+        ensures { MachineTakes self.old self.new (Line.Hvictl vm vcpu value) result }
+    {
+        okay(self.core.hvictl(vm, vcpu, value))
+    }
+
+    /// Writes `hviprio1` of a virtual hart, by the core.
+    fn hviprio(&mut self, vm: u64, vcpu: u64, value: u64) -> Answer
+        ensures { MachineTakes self.old self.new (Line.Hviprio vm vcpu value) result }
+    {
+        okay(self.core.hviprio(vm, vcpu, value))
     }
 
     /// Tells what an entry of an MSI page table says.
