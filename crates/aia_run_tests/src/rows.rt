@@ -4,8 +4,8 @@
 use crate::runs::replays;
 use aia_vectors::row::Row;
 use aia_vectors::rows::{
-    direct_delivery, entries, examples, examples_of_guests, files, lines, machines, msi_delivery,
-    registers, sources, virtual_machines, whole_moves,
+    direct_delivery, entries, examples, examples_of_guests, files, lines, machines, majors,
+    msi_delivery, registers, sources, virtual_machines, whole_moves,
 };
 use std::alloc::{AllocError, Global};
 use std::process::Abort;
@@ -129,6 +129,13 @@ fn rows_of_examples_of_guests_print_their_answers_whatever_the_pieces(
 ) -> Result<(), Fail> {
     let alloc = rt.alloc();
     replays_all(&rt, alloc, &examples_of_guests::ROWS)?;
+    Ok(())
+}
+
+#[test]
+fn rows_of_majors_print_their_answers_whatever_the_pieces(rt: HostRuntime) -> Result<(), Fail> {
+    let alloc = rt.alloc();
+    replays_all(&rt, alloc, &majors::ROWS)?;
     Ok(())
 }
 
