@@ -1,0 +1,3 @@
+pub mod VsMajor
+pub mod Kept
+pub mod First
