@@ -18,6 +18,10 @@ mod files;
 #[cfg(test)]
 mod hypervisor_core;
 #[cfg(test)]
+mod majors;
+#[cfg(test)]
+mod majors_table;
+#[cfg(test)]
 mod memory;
 #[cfg(test)]
 mod moves;
