@@ -20,6 +20,10 @@ mod hypervisor_core;
 #[cfg(test)]
 mod looks;
 #[cfg(test)]
+mod majors;
+#[cfg(test)]
+mod majors_table;
+#[cfg(test)]
 mod memory;
 #[cfg(test)]
 mod moves;
