@@ -4,8 +4,8 @@
 ghost use Rattle.std.specs.Prelude.{◌<◌};
 
 use crate::majors_table::{IPRIOS, NAMED, NAMES, PENDING, PRIORITIES, REGISTERS, TOPS};
-use aia_major::{Range, VsMajor};
 use crate::same;
+use aia_major::{Range, VsMajor};
 use std::process::Abort;
 
 /// The bits that are dropped of what is written to `hvictl`, to `hviprio1`, and by a guest.

@@ -368,8 +368,138 @@ pub fn the_example_of_a_moved_guest()
     ensures { answers (script_of MOVED_GUEST_EXAMPLE) ≡ answers_of MOVED_GUEST_EXAMPLE }
 {}
 
+/// A hypervisor gives a guest an interrupt of a priority by hvictl, beside those of its file.
+pub const INJECTED_PRIORITY_EXAMPLE: [(&str, &str); 71] = [
+    (
+        "# A hypervisor gives a guest an interrupt of a priority of its choice, by `hvictl`, \
+         beside what the",
+        "",
+    ),
+    (
+        "# guest's own interrupt file asks for. That hvictl, hviprio1 and hvip are set by lines, \
+         which",
+        "",
+    ),
+    (
+        "# majors there are, and what priority numbers of 0 mean are this project's choice.",
+        "",
+    ),
+    ("#", ""),
+    (
+        "# A machine of one hart with one guest file, the identities 1 to 63 and one wired source; \
+         a VM of",
+        "",
+    ),
+    ("# one virtual hart, which arrives.", ""),
+    ("machine 1 1 63 1", "ok"),
+    ("vm 1 0x8 0", "ok"),
+    ("arrive 0 0 0", "ok"),
+    (
+        "# The guest enables identity 5 of its file and the file's delivery,",
+        "",
+    ),
+    ("g 0 0 csrrw siselect 0xc0", "0x0000000000000000"),
+    ("g 0 0 csrrw sireg 0x20", "0x0000000000000000"),
+    ("g 0 0 csrrw siselect 0x70", "0x00000000000000c0"),
+    ("g 0 0 csrrw sireg 1", "0x0000000000000000"),
+    (
+        "# and its external interrupt, major 9, and that of an overflowing counter, major 13.",
+        "",
+    ),
+    ("g 0 0 csrrw sie 0x2200", "0x0000000000000000"),
+    (
+        "# A device asks for 5: the file signals, sip shows it at bit 9, and stopi shows major 9.",
+        "",
+    ),
+    ("msi 0 0x28000000 5", "ok"),
+    ("g 0 0 csrr sip", "0x0000000000000200"),
+    ("g 0 0 csrr stopi", "0x0000000000090001"),
+    ("", ""),
+    ("# ---- priorities are shown", ""),
+    (
+        "# IPRIOM, bit 8 of hvictl, lets stopi show the priority number: of the external interrupt \
+         it is the",
+        "",
+    ),
+    ("# identity on top.", ""),
+    ("hvictl 0 0 0x100", "ok"),
+    ("g 0 0 csrr stopi", "0x0000000000090005"),
+    (
+        "# The hypervisor injects an overflow. Its byte of hviprio1, bits 47:40, is 0, the lowest \
+         priority.",
+        "",
+    ),
+    ("inject 0 0 13 1", "ok"),
+    ("g 0 0 csrr stopi", "0x0000000000090005"),
+    ("# With 2 it comes first.", ""),
+    ("hviprio 0 0 0x020000000000", "ok"),
+    ("g 0 0 csrr stopi", "0x00000000000d0002"),
+    ("# The guest clears it, as its driver would.", ""),
+    ("g 0 0 csrrc sip 0x2000", "0x0000000000002200"),
+    ("g 0 0 csrr stopi", "0x0000000000090005"),
+    ("", ""),
+    ("# ---- an interrupt of the hypervisor's own", ""),
+    (
+        "# VTI, bit 30, says that hvictl names an interrupt: IID, bits 27:16, here 40, at the \
+         priority IPRIO,",
+        "",
+    ),
+    ("# bits 7:0, here 3. The guest sees that one first.", ""),
+    ("hvictl 0 0 0x40280103", "ok"),
+    ("g 0 0 csrr stopi", "0x0000000000280003"),
+    (
+        "# While VTI is 1 the guest's accesses to sip and sie are the hypervisor's to emulate, and \
+         a write of",
+        "",
+    ),
+    ("# stopi is illegal at any time.", ""),
+    ("g 0 0 csrr sip", "virtual"),
+    ("g 0 0 csrrw sie 0", "virtual"),
+    ("g 0 0 csrrw stopi 0", "illegal"),
+    (
+        "# At 9 it comes after the external interrupt. At 5 both have one number: DPR, bit 9, says \
+         which is",
+        "",
+    ),
+    ("# first.", ""),
+    ("hvictl 0 0 0x40280109", "ok"),
+    ("g 0 0 csrr stopi", "0x0000000000090005"),
+    ("hvictl 0 0 0x40280105", "ok"),
+    ("g 0 0 csrr stopi", "0x0000000000280005"),
+    ("hvictl 0 0 0x40280305", "ok"),
+    ("g 0 0 csrr stopi", "0x0000000000090005"),
+    (
+        "# The guest claims 5; then the hypervisor's own is the only one.",
+        "",
+    ),
+    ("g 0 0 csrrw stopei 0", "0x0000000000050005"),
+    ("g 0 0 csrr stopi", "0x0000000000280005"),
+    ("# An interrupt 0, or above 63, can't be named.", ""),
+    ("hvictl 0 0 0x40000105", "range"),
+    ("hvictl 0 0 0x40400105", "range"),
+    ("", ""),
+    ("# ---- it waits while the guest is away", ""),
+    (
+        "# All of this may be set while the virtual hart is parked, and stands when it arrives.",
+        "",
+    ),
+    ("leave 0 0", "ok"),
+    ("g 0 0 csrr stopi", "away"),
+    ("hvictl 0 0 0x40010107", "ok"),
+    ("arrive 0 0 0", "ok"),
+    ("g 0 0 csrr stopi", "0x0000000000010007"),
+    ("hvictl 0 0 0", "ok"),
+    ("g 0 0 csrr stopi", "0x0000000000000000"),
+    ("g 0 0 csrr sie", "0x0000000000002200"),
+];
+
+/// Proves that the model answers [`INJECTED_PRIORITY_EXAMPLE`] as it says.
+pub fn the_example_of_an_injected_priority()
+    ensures { answers (script_of INJECTED_PRIORITY_EXAMPLE) ≡ answers_of INJECTED_PRIORITY_EXAMPLE }
+{}
+
 /// All rows of this file, each with its name.
-pub const ROWS: [Row; 2] = [
+pub const ROWS: [Row; 3] = [
     Row {
         name: "VIRTUAL_MACHINES_EXAMPLE",
         pairs: &VIRTUAL_MACHINES_EXAMPLE,
@@ -377,5 +507,9 @@ pub const ROWS: [Row; 2] = [
     Row {
         name: "MOVED_GUEST_EXAMPLE",
         pairs: &MOVED_GUEST_EXAMPLE,
+    },
+    Row {
+        name: "INJECTED_PRIORITY_EXAMPLE",
+        pairs: &INJECTED_PRIORITY_EXAMPLE,
     },
 ];
