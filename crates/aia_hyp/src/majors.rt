@@ -80,12 +80,7 @@ impl Hyp {
 }
 
 /// Injects a level at a major interrupt of the virtual hart of a slot.
-fn inject_in(
-    vcpus: &mut Vec<VcpuRecord>,
-    slot: u32,
-    bit: u64,
-    level: bool,
-) -> Result<(), Refusal>
+fn inject_in(vcpus: &mut Vec<VcpuRecord>, slot: u32, bit: u64, level: bool) -> Result<(), Refusal>
     requires { slot < length vcpus.old.items }
     ensures range { result_err result ≡ (if is_major bit then None else Some Refusal.Range) }
     ensures ok { OnOk result (MajorsDone vcpus.old.items vcpus.new.items slot
@@ -136,12 +131,7 @@ pub(crate) fn stopi_in(vcpus: &[VcpuRecord], slot: u32, file: &File) -> u64
 
 /// Accesses `sip` of the virtual hart of a slot, given whether its interrupt file signals, and
 /// gives what it read.
-pub(crate) fn access_sip_in(
-    vcpus: &mut Vec<VcpuRecord>,
-    slot: u32,
-    op: Op,
-    signal: bool,
-) -> u64
+pub(crate) fn access_sip_in(vcpus: &mut Vec<VcpuRecord>, slot: u32, op: Op, signal: bool) -> u64
     requires { slot < length vcpus.old.items }
     ensures value { result ≡ sip_value
         (majors_shown (slice_index_or vcpus.old.items slot no_record).majors) signal }
