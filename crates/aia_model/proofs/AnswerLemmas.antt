@@ -8,13 +8,13 @@ use Rattle.aia_regs.specs.declared.access.Op.{Op}
 use Rattle.aia_regs.specs.declared.access.Level.TheVariants as levels
 use Rattle.aia_csr.specs.Access.{access_of}
 use Rattle.aia_model.specs.declared.line.Line.{Line}
-use Rattle.aia_model.specs.declared.line.Line.TheVariants.{Machine, Wire, Load, Store, MachineCsr, HostCsr, Hgeip, Pins, GuestCsr, Ipi, Arrive, Leave, Shift, Inject, Hvictl, Hviprio}
+use Rattle.aia_model.specs.declared.line.Line.TheVariants.{Machine, Wire, Load, Store, MachineCsr, HostCsr, Hgeip, Pins, GuestCsr, Ipi, Arrive, Leave, Shift, BeginArrive, BeginLeave, BeginShift, Step, Inject, Hvictl, Hviprio}
 use Rattle.aia_model.specs.declared.line.Line.TheVariants as lines
 use Rattle.aia_imsic.specs.declared.spot.Spot.{Spot}
 use Rattle.aia_model.specs.declared.answer.Answer.{Answer}
 use Rattle.aia_model.specs.declared.answer.Answer.TheVariants.{NoMachine, Again, Refused}
 use Rattle.aia_model.specs.declared.refusal.Refusal.{Refusal}
-use Rattle.aia_model.specs.declared.refusal.Refusal.TheVariants.{Range, Full, Busy, NoFile, Away, Illegal, Virtual, Fault, Guarded, Other, NotValid, GFault}
+use Rattle.aia_model.specs.declared.refusal.Refusal.TheVariants.{Range, Full, Busy, NoFile, Idle, Away, Illegal, Virtual, Fault, Guarded, Other, NotValid, GFault}
 use Rattle.aia_model.specs.declared.refusal.Refusal.TheVariants as words
 use Rattle.aia_model.specs.Event.{History, has_machine, has_hart, harts_of, sources_of}
 use Rattle.aia_entry.specs.Translation.{is_msi_address}
@@ -118,6 +118,20 @@ pub shift_refusal : (h : History) (vm number hart : ℕ) → has_machine h ≡ t
     → refusal h (Shift vm number hart) ≡ cond (not (has_vcpu h (vcpu vm number) && has_hart h hart)) (Some (Refused Range)) (cond (is_moving (home h (vcpu vm number))) (Some (Refused Busy))
     (cond (is_parked (home h (vcpu vm number))) (Some (Refused words.Parked)) (no_file_refusal h hart)))
 shift_refusal h vm number hart there = past_machine h _ there
+
+-- the line that begins a move is refused as the line of the whole move
+pub begin_arrive_refusal : (h : History) (vm number hart : ℕ) → refusal h (BeginArrive vm number hart) ≡ refusal h (Arrive vm number hart)
+begin_arrive_refusal h vm number hart = refl
+
+pub begin_leave_refusal : (h : History) (vm number : ℕ) → refusal h (BeginLeave vm number) ≡ refusal h (Leave vm number)
+begin_leave_refusal h vm number = refl
+
+pub begin_shift_refusal : (h : History) (vm number hart : ℕ) → refusal h (BeginShift vm number hart) ≡ refusal h (Shift vm number hart)
+begin_shift_refusal h vm number hart = refl
+
+pub step_refusal : (h : History) (vm number : ℕ) → has_machine h ≡ true
+    → refusal h (Step vm number) ≡ cond (not (has_vcpu h (vcpu vm number))) (Some (Refused Range)) (cond (not (is_moving (home h (vcpu vm number)))) (Some (Refused Idle)) None)
+step_refusal h vm number there = past_machine h _ there
 
 pub guest_refusal : (h : History) (vm number : ℕ) (csr : Csr) (op : Op) → has_machine h ≡ true
     → refusal h (GuestCsr vm number csr op) ≡ cond (not (has_vcpu h (vcpu vm number))) (Some (Refused Range)) (cond (not (is_resident (home h (vcpu vm number)))) (Some (Refused Away))

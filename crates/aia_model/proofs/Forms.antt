@@ -12,14 +12,14 @@ use Rattle.aia_regs.specs.declared.access.Op.{Op}
 use Rattle.aia_regs.specs.declared.access.Op.TheVariants as ops
 use Rattle.aia_regs.specs.Fields.{bit_number}
 use Rattle.aia_model.specs.declared.line.Line.{Line}
-use Rattle.aia_model.specs.declared.line.Line.TheVariants.{Machine, Wire, Load, Store, MachineCsr, HostCsr, Hgeip, Pins, GuestCsr, Ipi, Arrive, Leave, Shift, Inject, Hvictl, Hviprio}
+use Rattle.aia_model.specs.declared.line.Line.TheVariants.{Machine, Wire, Load, Store, MachineCsr, HostCsr, Hgeip, Pins, GuestCsr, Ipi, Arrive, Leave, Shift, BeginArrive, BeginLeave, BeginShift, Step, Inject, Hvictl, Hviprio}
 use Rattle.aia_model.specs.declared.line.Line.TheVariants as lines
 use Rattle.aia_model.specs.Text.{number_of, below, ◌>>=◌}
 use Rattle.aia_model.specs.Grammar.{Field, Fits, AllFit, csr_names, is_csr, field_among, csr_field, instruction, fields_of}
 use Rattle.aia_model.specs.Grammar.Field.{Keyword, Decimal, Decimal32, Hex, Hex32, Bit, Unspelled}
-use Rattle.aia_model.specs.Reading.{Words, row_of, number_at, n32_at, bit_of, bit_at, named, csr_at, read_at, write_at, mnemonics, instruction_at, forms, machine_at, vm_at, wire_at, store_at, load_at, msi_at, machine_csr_at, host_at, ipi_at, guest_at, arrive_at, leave_at, shift_at, inject_at, hvictl_at, hviprio_at, pins_at, entry_at, line_at, instruction_after, is_word, word_at}
+use Rattle.aia_model.specs.Reading.{Words, row_of, number_at, n32_at, bit_of, bit_at, named, csr_at, read_at, write_at, mnemonics, instruction_at, forms, machine_at, vm_at, wire_at, store_at, load_at, msi_at, machine_csr_at, host_at, ipi_at, guest_at, arrive_at, leave_at, shift_at, begin_forms, begin_arrive_at, begin_leave_at, begin_shift_at, begin_at, step_at, inject_at, hvictl_at, hviprio_at, pins_at, entry_at, line_at, instruction_after, is_word, word_at}
 use Rattle.std.proofs.lemmas.Slice.Eq.{bytes_eq-Decides}
-use Rattle.aia_model.proofs.Readers.{bind_some, chosen, ReadsWord, by_word, by_number, ReadsAll, the_end, ◌and_then◌, made_of, row_found, IsRow, reads_row, AreRows, spelled_by_rows}
+use Rattle.aia_model.proofs.Readers.{bind_some, chosen, ReadsWord, by_word, by_number, ReadsAll, the_end, ◌and_then◌, made_of, by_rows, row_found, IsRow, reads_row, AreRows, spelled_by_rows}
 
 infixr 4 ◌and_row◌
 -- what holds of each row of a table
@@ -281,6 +281,55 @@ shift : IsForm {A = ℕ × (ℕ × (ℕ × Unit {0}))} (codes "shift") shift_at 
 unfolding shift_at
 shift = a_form (decimal and_then decimal and_then decimal and_then the_end) _ _ refl (λ a. refl)
 
+step : IsForm {A = ℕ × (ℕ × Unit {0})} (codes "step") step_at (λ (vm, (number, end)). Step vm number)
+unfolding step_at
+step = a_form (decimal and_then decimal and_then the_end) _ _ refl (λ a. refl)
+
+-- ---- the beginnings of moves, each a form after `begin`
+
+abbrev begun_fields : Line → List Field
+begun_fields (BeginArrive vm number hart) = Keyword (codes "arrive") ∷ Decimal vm ∷ Decimal number ∷ Decimal hart ∷ []
+begun_fields (BeginLeave vm number) = Keyword (codes "leave") ∷ Decimal vm ∷ Decimal number ∷ []
+begun_fields (BeginShift vm number hart) = Keyword (codes "shift") ∷ Decimal vm ∷ Decimal number ∷ Decimal hart ∷ []
+begun_fields line = Unspelled ∷ []
+
+abbrev IsBeginning : {A : Type 0} → List ℕ → (Words → Option Line) → (A → Line) → Type 0
+IsBeginning name reader made = IsRow begin_forms begun_fields (name, reader) made
+
+begin_arrive : IsBeginning {A = ℕ × (ℕ × (ℕ × Unit {0}))} (codes "arrive") begin_arrive_at (λ (vm, (number, (hart, end))). BeginArrive vm number hart)
+unfolding begin_arrive_at
+begin_arrive = reads_row (decimal and_then decimal and_then decimal and_then the_end) begin_forms begun_fields _ _ refl (λ a. refl)
+
+begin_leave : IsBeginning {A = ℕ × (ℕ × Unit {0})} (codes "leave") begin_leave_at (λ (vm, (number, end)). BeginLeave vm number)
+unfolding begin_leave_at
+begin_leave = reads_row (decimal and_then decimal and_then the_end) begin_forms begun_fields _ _ refl (λ a. refl)
+
+begin_shift : IsBeginning {A = ℕ × (ℕ × (ℕ × Unit {0}))} (codes "shift") begin_shift_at (λ (vm, (number, (hart, end))). BeginShift vm number hart)
+unfolding begin_shift_at
+begin_shift = reads_row (decimal and_then decimal and_then decimal and_then the_end) begin_forms begun_fields _ _ refl (λ a. refl)
+
+all_beginnings : AreRows begun_fields begin_forms
+all_beginnings = begin_arrive.found and_row begin_leave.found and_row begin_shift.found and_row tt
+
+unspelled : (ws : Words) → AllFit ws (Unspelled ∷ []) → ⊥
+unspelled [] fits = fits
+unspelled (w ∷ ws) fits = fits.0
+
+with_begin : (ws : Words) (x : Line) → AllFit ws (begun_fields x) → AllFit (codes "begin" ∷ ws) (fields_of x)
+with_begin ws (BeginArrive vm number hart) fits = (refl, fits)
+with_begin ws (BeginLeave vm number) fits = (refl, fits)
+with_begin ws (BeginShift vm number hart) fits = (refl, fits)
+with_begin ws line fits = absurd (unspelled ws fits)
+
+begin_spelled : (ws : Words) (x : Line) → begin_at ws ≡ Some x → AllFit (codes "begin" ∷ ws) (fields_of x)
+unfolding begin_at
+begin_spelled ws x e = with_begin ws x (spelled_by_rows begun_fields begin_forms all_beginnings ws x e)
+
+begin_read : (x : Line) → ((ws : Words) → AllFit ws (begun_fields x) → by_rows begin_forms ws ≡ Some x) → (ws : Words) → AllFit ws (Keyword (codes "begin") ∷ begun_fields x) → line_at ws ≡ Some x
+unfolding line_at begin_at
+begin_read x reads [] fits = absurd fits
+begin_read x reads (w ∷ ws) fits = ap (λ k. row_of forms k >>= λ read. read ws) fits.0 ∙ reads ws fits.1
+
 inject : IsForm {A = ℕ × (ℕ × (ℕ × (Bool × Unit {0})))} (codes "inject") inject_at (λ (vm, (number, (bit, (level, end)))). Inject vm number bit level)
 unfolding inject_at
 inject = a_form (decimal and_then decimal and_then decimal and_then bit and_then the_end) _ _ refl (λ a. refl)
@@ -318,6 +367,10 @@ spelled_read ws (Ipi vm number to value) fits = guest.finds (vm, (number, inl (t
 spelled_read ws (Arrive vm number hart) fits = arrive.finds (vm, (number, (hart, tt))) ws fits
 spelled_read ws (Leave vm number) fits = leave.finds (vm, (number, tt)) ws fits
 spelled_read ws (Shift vm number hart) fits = shift.finds (vm, (number, (hart, tt))) ws fits
+spelled_read ws (BeginArrive vm number hart) fits = begin_read (BeginArrive vm number hart) (begin_arrive.finds (vm, (number, (hart, tt)))) ws fits
+spelled_read ws (BeginLeave vm number) fits = begin_read (BeginLeave vm number) (begin_leave.finds (vm, (number, tt))) ws fits
+spelled_read ws (BeginShift vm number hart) fits = begin_read (BeginShift vm number hart) (begin_shift.finds (vm, (number, (hart, tt)))) ws fits
+spelled_read ws (Step vm number) fits = step.finds (vm, (number, tt)) ws fits
 spelled_read ws (Inject vm number bit level) fits = inject.finds (vm, (number, (bit, (level, tt)))) ws fits
 spelled_read ws (Hvictl vm number value) fits = hvictl.finds (vm, (number, (value, tt))) ws fits
 spelled_read ws (Hviprio vm number value) fits = hviprio.finds (vm, (number, (value, tt))) ws fits
@@ -338,6 +391,8 @@ all_forms =
     and_row arrive.found
     and_row leave.found
     and_row shift.found
+    and_row begin_spelled
+    and_row step.found
     and_row inject.found
     and_row hvictl.found
     and_row hviprio.found

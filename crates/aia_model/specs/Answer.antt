@@ -1,6 +1,6 @@
 -- What a line answers after a history, and the history after it. Vocabulary, where no chapter is
 -- named.
-use Rattle.std.specs.Prelude.{ℕ, zero, suc, List, [], ◌∷◌, Option, Some, None, unwrap_or}
+use Rattle.std.specs.Prelude.{ℕ, zero, suc, if◌then◌else◌, List, [], ◌∷◌, Option, Some, None, unwrap_or}
 use Rattle.std.specs.Option.{option_map_or}
 use Rattle.aia_word.specs.Top.{top_value}
 use Rattle.aia_regs.specs.declared.access.Csr.{Csr}
@@ -9,15 +9,16 @@ use Rattle.aia_regs.specs.FileRegisters.{register_of}
 use Rattle.aia_file.specs.InterruptFile.{InterruptFile, register_value, top_of, signals}
 use Rattle.aia_entry.specs.Format.{decoded}
 use Rattle.aia_model.specs.declared.line.Line.{Line}
-use Rattle.aia_model.specs.declared.line.Line.TheVariants.{Load, MachineCsr, HostCsr, Hgeip, Pins, GuestCsr}
+use Rattle.aia_model.specs.declared.line.Line.TheVariants.{Load, MachineCsr, HostCsr, Hgeip, Pins, GuestCsr, Step}
 use Rattle.aia_model.specs.declared.line.Line.TheVariants as lines
 use Rattle.aia_model.specs.declared.answer.Answer.{Answer}
-use Rattle.aia_model.specs.declared.answer.Answer.TheVariants.{Okay, Narrow, Wide}
+use Rattle.aia_model.specs.declared.answer.Answer.TheVariants.{Okay, Narrow, Wide, Moving, Done}
 use Rattle.aia_model.specs.declared.answer.Answer.TheVariants as kinds
 use Rattle.aia_model.specs.declared.msi.Msi.{Msi}
 use Rattle.aia_home.specs.Vms.{Vcpu, vcpu}
-use Rattle.aia_home.specs.Home.{leave_steps, arrive_steps, shift_steps}
-use Rattle.aia_model.specs.Move.{Move, mover, move_of}
+use Rattle.aia_home.specs.Home.{is_at_last, leave_steps, arrive_steps, shift_steps}
+use Rattle.aia_model.specs.Move.{Move, mover, MoveDeed, move_deed}
+use Rattle.aia_model.specs.Move.MoveDeed.{NoMove, Whole, Begins, Steps}
 use Rattle.aia_model.specs.Move.Move.{Arrives, Leaves, Shifts}
 use Rattle.aia_model.specs.Event.{History, file_words}
 use Rattle.aia_model.specs.Event.Event.{Accepted, Began, Stepped, Delivered}
@@ -27,6 +28,7 @@ use Rattle.aia_model.specs.SourceOf.{register_read, is_signalled}
 use Rattle.aia_model.specs.Sent.{acts_of, msis_sent_by}
 use Rattle.aia_model.specs.FileOf.{FileName, MachineFile, SupervisorFile, select_of, file_of}
 use Rattle.aia_model.specs.GuestFile.{guest_select, guest_file}
+use Rattle.aia_model.specs.HomeOf.{home}
 use Rattle.aia_model.specs.MajorOf.{stopi_of, sip_of, sie_of}
 use Rattle.aia_model.specs.Gate.{hgeip_value}
 use Rattle.aia_model.specs.Refusal.{refusal}
@@ -58,15 +60,17 @@ load_value h addr =
     option_map_or (λ d. register_read (acts_of h) d (register_at addr)) (domain_at addr) 0
 
 -- What an accepted line answers: a load what it reads, a CSR instruction the value that the CSR
--- read before it, `hgeip` which guest files of a hart signal, `pins` the signals of a hart (of both
--- domains, of its machine-level file and of its supervisor file), `entry` what the two words say,
--- and every other line `ok`.
+-- read before it, a step of a move whether it was the last one, `hgeip` which guest files of a hart
+-- signal, `pins` the signals of a hart (of both domains, of its machine-level file and of its
+-- supervisor file), `entry` what the two words say, and every other line `ok`.
 abbrev pub accepted_answer : History → Line → Answer
 accepted_answer h (Load addr) = Narrow (load_value h addr)
 accepted_answer h (MachineCsr hart csr op) = Wide (csr_value h (MachineFile hart) csr)
 accepted_answer h (HostCsr hart csr op) = Wide (csr_value h (SupervisorFile hart) csr)
 accepted_answer h (Hgeip hart) = Wide (hgeip_value h hart)
 accepted_answer h (GuestCsr vm number csr op) = Wide (guest_csr_value h (vcpu vm number) csr)
+accepted_answer h (Step vm number) =
+    if is_at_last (file_words h) (home h (vcpu vm number)) then Done else Moving
 accepted_answer h (Pins hart) =
     kinds.Pins (is_signalled (acts_of h) Root hart) (is_signalled (acts_of h) Child hart)
     (signals (file_of h (MachineFile hart))) (signals (file_of h (SupervisorFile hart)))
@@ -106,9 +110,16 @@ steps_of words (Shifts g hart) = shift_steps words
 abbrev pub whole_move : History → Move → History
 whole_move h move = steps_taken (steps_of (file_words h) move) (mover move) (Began move ∷ h)
 
--- An accepted line itself: a move, or an event of its own.
+-- An accepted line itself, by what it does of moves; where that is nothing, it is an event of its
+-- own.
+abbrev pub deed_taken : History → Line → MoveDeed → History
+deed_taken h line NoMove = Accepted line ∷ h
+deed_taken h line (Whole move) = whole_move h move
+deed_taken h line (Begins move) = Began move ∷ h
+deed_taken h line (Steps g) = step_taken g h
+
 abbrev pub line_taken : History → Line → History
-line_taken h line = option_map_or (whole_move h) (move_of line) (Accepted line ∷ h)
+line_taken h line = deed_taken h line (move_deed line)
 
 -- What has happened after an accepted line: it, then the MSIs that it sends.
 abbrev pub after_accepted : History → Line → History

@@ -6,9 +6,9 @@ use Rattle.aia_entry.specs.declared.entry.Entry.TheVariants.{Basic, Mrif, Custom
 use Rattle.aia_entry.specs.declared.entry.Entry.TheVariants as entries
 use Rattle.aia_model.specs.declared.answer.Answer.{Answer}
 use Rattle.aia_model.specs.declared.answer.Answer.TheVariants as kinds
-use Rattle.aia_model.specs.declared.answer.Answer.TheVariants.{Okay, Narrow, Wide, Pins, Bad, NoMachine, Again, Refused}
+use Rattle.aia_model.specs.declared.answer.Answer.TheVariants.{Okay, Narrow, Wide, Moving, Done, Pins, Bad, NoMachine, Again, Refused}
 use Rattle.aia_model.specs.declared.refusal.Refusal.{Refusal}
-use Rattle.aia_model.specs.declared.refusal.Refusal.TheVariants.{Range, Full, Busy, NoFile, Away, Illegal, Virtual, Fault, Guarded, Other, NotValid, GFault}
+use Rattle.aia_model.specs.declared.refusal.Refusal.TheVariants.{Range, Full, Busy, NoFile, Idle, Away, Illegal, Virtual, Fault, Guarded, Other, NotValid, GFault}
 use Rattle.aia_model.specs.declared.refusal.Refusal.TheVariants as refusals
 use Rattle.aia_regs.specs.Fields.{bit_number}
 
@@ -52,6 +52,7 @@ refusal_word Busy = codes "busy"
 refusal_word refusals.Home = codes "home"
 refusal_word refusals.Parked = codes "parked"
 refusal_word NoFile = codes "nofile"
+refusal_word Idle = codes "idle"
 refusal_word Away = codes "away"
 refusal_word Illegal = codes "illegal"
 refusal_word Virtual = codes "virtual"
@@ -66,6 +67,8 @@ abbrev pub answer_word : Answer → List ℕ
 answer_word Okay = codes "ok"
 answer_word (Narrow v) = codes "0x" ++ hex_digits 8 v
 answer_word (Wide v) = codes "0x" ++ hex_digits 16 v
+answer_word Moving = codes "moving"
+answer_word Done = codes "done"
 answer_word (Pins root child machine supervisor) =
     codes "pins" ++ level_text root ++ level_text child ++ level_text machine
     ++ level_text supervisor

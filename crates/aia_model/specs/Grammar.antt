@@ -3,7 +3,7 @@ use Rattle.std.specs.Prelude.{◌≡◌, ℕ, ◌^◌, ◌<◌, ◌≤◌, Bool,
 use Rattle.std.specs.List.{AllByRecursion}
 use Rattle.aia_model.specs.declared.limits.TheConstants.{LINE_BYTES}
 use Rattle.aia_model.specs.declared.line.Line.{Line}
-use Rattle.aia_model.specs.declared.line.Line.TheVariants.{Machine, Wire, Load, Store, MachineCsr, HostCsr, Hgeip, Pins, GuestCsr, Ipi, Arrive, Leave, Shift, Inject, Hvictl, Hviprio}
+use Rattle.aia_model.specs.declared.line.Line.TheVariants.{Machine, Wire, Load, Store, MachineCsr, HostCsr, Hgeip, Pins, GuestCsr, Ipi, Arrive, Leave, Shift, BeginArrive, BeginLeave, BeginShift, Step, Inject, Hvictl, Hviprio}
 use Rattle.aia_model.specs.declared.line.Line.TheVariants as lines
 use Rattle.aia_regs.specs.declared.access.Csr.{Csr}
 use Rattle.aia_regs.specs.declared.access.Csr.TheVariants.{Select, Reg, Topei, Topi, Sip, Sie}
@@ -112,6 +112,15 @@ fields_of (Arrive vm number hart) =
 fields_of (Leave vm number) = Keyword (codes "leave") ∷ Decimal vm ∷ Decimal number ∷ []
 fields_of (Shift vm number hart) =
     Keyword (codes "shift") ∷ Decimal vm ∷ Decimal number ∷ Decimal hart ∷ []
+fields_of (BeginArrive vm number hart) =
+    Keyword (codes "begin") ∷ Keyword (codes "arrive")
+    ∷ Decimal vm ∷ Decimal number ∷ Decimal hart ∷ []
+fields_of (BeginLeave vm number) =
+    Keyword (codes "begin") ∷ Keyword (codes "leave") ∷ Decimal vm ∷ Decimal number ∷ []
+fields_of (BeginShift vm number hart) =
+    Keyword (codes "begin") ∷ Keyword (codes "shift")
+    ∷ Decimal vm ∷ Decimal number ∷ Decimal hart ∷ []
+fields_of (Step vm number) = Keyword (codes "step") ∷ Decimal vm ∷ Decimal number ∷ []
 fields_of (Inject vm number bit level) =
     Keyword (codes "inject") ∷ Decimal vm ∷ Decimal number ∷ Decimal bit ∷ Bit level ∷ []
 fields_of (Hvictl vm number value) =

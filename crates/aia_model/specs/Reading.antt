@@ -4,7 +4,7 @@ use Rattle.std.specs.Prelude.{ℕ, ◌^◌, Bool, true, false, nat_eq, nat_le, i
 use Rattle.std.specs.Str.{bytes_eq}
 use Rattle.aia_model.specs.declared.limits.TheConstants.{LINE_BYTES}
 use Rattle.aia_model.specs.declared.line.Line.{Line}
-use Rattle.aia_model.specs.declared.line.Line.TheVariants.{Machine, Wire, Load, Store, MachineCsr, HostCsr, Hgeip, Pins, GuestCsr, Ipi, Arrive, Leave, Shift, Inject, Hvictl, Hviprio}
+use Rattle.aia_model.specs.declared.line.Line.TheVariants.{Machine, Wire, Load, Store, MachineCsr, HostCsr, Hgeip, Pins, GuestCsr, Ipi, Arrive, Leave, Shift, BeginArrive, BeginLeave, BeginShift, Step, Inject, Hvictl, Hviprio}
 use Rattle.aia_model.specs.declared.line.Line.TheVariants as lines
 use Rattle.aia_model.specs.declared.parsed.Parsed.{Parsed}
 use Rattle.aia_model.specs.declared.parsed.Parsed.TheVariants as parsed
@@ -213,6 +213,49 @@ shift_at words = do
   hart ← number_at number.1
   at_end hart.1 (Shift vm.0 number.0 hart.0)
 
+-- The moves that may begin, each with the reader of what follows its name.
+unfoldable pub begin_arrive_at : Words → Option Line
+begin_arrive_at words = do
+  vm ← number_at words
+  number ← number_at vm.1
+  hart ← number_at number.1
+  at_end hart.1 (BeginArrive vm.0 number.0 hart.0)
+
+unfoldable pub begin_leave_at : Words → Option Line
+begin_leave_at words = do
+  vm ← number_at words
+  number ← number_at vm.1
+  at_end number.1 (BeginLeave vm.0 number.0)
+
+unfoldable pub begin_shift_at : Words → Option Line
+begin_shift_at words = do
+  vm ← number_at words
+  number ← number_at vm.1
+  hart ← number_at number.1
+  at_end hart.1 (BeginShift vm.0 number.0 hart.0)
+
+abbrev pub begin_forms : List (List ℕ × (Words → Option Line))
+begin_forms =
+    (codes "arrive", begin_arrive_at)
+    ∷ (codes "leave", begin_leave_at)
+    ∷ (codes "shift", begin_shift_at)
+    ∷ []
+
+-- What follows `begin`: the name of a move, and its numbers.
+abbrev pub begin_after : List ℕ → Words → Option Line
+begin_after name words = row_of begin_forms name >>= λ read. read words
+
+unfoldable pub begin_at : Words → Option Line
+begin_at words = do
+  name ← word_at words
+  begin_after name.0 name.1
+
+unfoldable pub step_at : Words → Option Line
+step_at words = do
+  vm ← number_at words
+  number ← number_at vm.1
+  at_end number.1 (Step vm.0 number.0)
+
 unfoldable pub inject_at : Words → Option Line
 inject_at words = do
   vm ← number_at words
@@ -255,6 +298,8 @@ forms =
     ∷ (codes "arrive", arrive_at)
     ∷ (codes "leave", leave_at)
     ∷ (codes "shift", shift_at)
+    ∷ (codes "begin", begin_at)
+    ∷ (codes "step", step_at)
     ∷ (codes "inject", inject_at)
     ∷ (codes "hvictl", hvictl_at)
     ∷ (codes "hviprio", hviprio_at)

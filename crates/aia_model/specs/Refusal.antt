@@ -1,7 +1,7 @@
 -- When a line is refused, and with which word.
 use Rattle.std.specs.Prelude.{ℕ, ◌+◌, ◌%◌, ◌^◌, Bool, true, false, ◌&&◌, ◌||◌, not, nat_eq, nat_lt, nat_le, is_some, is_none, List, [], ◌∷◌, length, if◌then◌else◌, Option, Some, None}
 use Rattle.std.specs.Int.{is_in_range}
-use Rattle.std.specs.Option.{option_map_or, option_or}
+use Rattle.std.specs.Option.{option_map_or}
 use Rattle.aia_regs.specs.declared.access.Csr.{Csr}
 use Rattle.aia_regs.specs.declared.access.Op.{Op}
 use Rattle.aia_regs.specs.declared.access.Level.TheVariants as levels
@@ -20,16 +20,16 @@ use Rattle.aia_home.specs.Home.{Home, is_parked, is_resident, is_moving}
 use Rattle.aia_imsic.specs.declared.spot.Spot.{Spot}
 use Rattle.aia_imsic.specs.Map.{is_page, is_guest_page}
 use Rattle.aia_model.specs.declared.line.Line.{Line}
-use Rattle.aia_model.specs.declared.line.Line.TheVariants.{Machine, Wire, Load, Store, MachineCsr, HostCsr, Hgeip, Pins, GuestCsr, Ipi, Arrive, Leave, Shift, Inject, Hvictl, Hviprio}
+use Rattle.aia_model.specs.declared.line.Line.TheVariants.{Machine, Wire, Load, Store, MachineCsr, HostCsr, Hgeip, Pins, GuestCsr, Ipi, Arrive, Leave, Shift, BeginArrive, BeginLeave, BeginShift, Step, Inject, Hvictl, Hviprio}
 use Rattle.aia_model.specs.declared.line.Line.TheVariants as lines
 use Rattle.aia_model.specs.declared.answer.Answer.{Answer}
 use Rattle.aia_model.specs.declared.answer.Answer.TheVariants.{NoMachine, Again, Refused}
-use Rattle.aia_model.specs.declared.refusal.Refusal.TheVariants.{Range, Full, Busy, NoFile, Away, Illegal, Virtual, Fault, Guarded, Other, NotValid, GFault}
+use Rattle.aia_model.specs.declared.refusal.Refusal.TheVariants.{Range, Full, Busy, NoFile, Idle, Away, Illegal, Virtual, Fault, Guarded, Other, NotValid, GFault}
 use Rattle.aia_model.specs.declared.refusal.Refusal.TheVariants as words
 use Rattle.aia_model.specs.Event.{History, has_machine, has_hart, sources_of}
 use Rattle.aia_model.specs.Act.{domain_at}
 use Rattle.aia_model.specs.Vms.{vms_of, has_vm, has_vcpu, mask_of}
-use Rattle.aia_model.specs.Move.{move_of, hart_wanted}
+use Rattle.aia_model.specs.Move.{Move, mover, hart_wanted, is_from_memory, move_of}
 use Rattle.aia_model.specs.GuestFile.{named_by, guest_select}
 use Rattle.aia_model.specs.MajorOf.{majors_of}
 use Rattle.aia_model.specs.HomeOf.{home, free_file}
@@ -76,6 +76,12 @@ is_out_of_range h (Ipi vm number to value) = not (has_vcpu h (vcpu vm number))
 is_out_of_range h (Arrive vm number hart) = not (has_vcpu h (vcpu vm number) && has_hart h hart)
 is_out_of_range h (Leave vm number) = not (has_vcpu h (vcpu vm number))
 is_out_of_range h (Shift vm number hart) = not (has_vcpu h (vcpu vm number) && has_hart h hart)
+is_out_of_range h (BeginArrive vm number hart) =
+    not (has_vcpu h (vcpu vm number) && has_hart h hart)
+is_out_of_range h (BeginLeave vm number) = not (has_vcpu h (vcpu vm number))
+is_out_of_range h (BeginShift vm number hart) =
+    not (has_vcpu h (vcpu vm number) && has_hart h hart)
+is_out_of_range h (Step vm number) = not (has_vcpu h (vcpu vm number))
 is_out_of_range h (Inject vm number bit level) =
     not (has_vcpu h (vcpu vm number) && is_major bit)
 is_out_of_range h (Hvictl vm number value) =
@@ -93,41 +99,30 @@ abbrev pub is_full : History → Line → Bool
 is_full h (lines.Vm vcpus mask hart) = lacks_room (vms_of h) vcpus
 is_full h line = false
 
--- The virtual hart that a line is to move: wanted parked, wanted resident, or either, but not on a
--- move already.
-abbrev pub wanted_parked : Line → Option Vcpu
-wanted_parked (Arrive vm number hart) = Some (vcpu vm number)
-wanted_parked line = None
+-- Whether a line begins a move of which something holds.
+abbrev pub begins : (Move → Bool) → Line → Bool
+begins is line = option_map_or is (move_of line) false
 
-abbrev pub wanted_resident : Line → Option Vcpu
-wanted_resident (Leave vm number) = Some (vcpu vm number)
-wanted_resident (Shift vm number hart) = Some (vcpu vm number)
-wanted_resident line = None
-
-abbrev pub wanted_still : Line → Option Vcpu
-wanted_still line = option_or (wanted_parked line) (wanted_resident line)
-
--- Whether the virtual hart that is wanted, where one is, has a home of a kind.
-abbrev pub has_home : (Home → Bool) → History → Option Vcpu → Bool
-has_home is h None = false
-has_home is h (Some g) = is (home h g)
-
--- `busy`: it is being moved. `home`: it is wanted parked, and is resident. `parked`: it is wanted
--- resident, and is parked.
+-- `busy`: the virtual hart that is to be moved is being moved. `home`: it is to be moved from
+-- memory, and is resident. `parked`: it is to be moved from a guest file, and is parked.
 abbrev pub is_busy : History → Line → Bool
-is_busy h line = has_home is_moving h (wanted_still line)
+is_busy h = begins (λ move. is_moving (home h (mover move)))
 
 abbrev pub is_resident_already : History → Line → Bool
-is_resident_already h line = has_home is_resident h (wanted_parked line)
+is_resident_already h = begins (λ move. is_from_memory move && is_resident (home h (mover move)))
 
 abbrev pub is_still_parked : History → Line → Bool
-is_still_parked h line = has_home is_parked h (wanted_resident line)
+is_still_parked h = begins (λ move. not (is_from_memory move) && is_parked (home h (mover move)))
 
 -- `nofile`: it is to be moved to a guest file of a hart that has none free.
 abbrev pub lacks_file : History → Line → Bool
-lacks_file h line =
-    option_map_or (λ move. option_map_or (λ hart. is_none (free_file h (home h) hart))
-    (hart_wanted move) false) (move_of line) false
+lacks_file h =
+    begins (λ move. option_map_or (λ hart. is_none (free_file h (home h) hart)) (hart_wanted move) false)
+
+-- `idle`: the virtual hart whose next step is to be done is not being moved.
+abbrev pub is_idle : History → Line → Bool
+is_idle h (Step vm number) = not (is_moving (home h (vcpu vm number)))
+is_idle h line = false
 
 -- `away`: the virtual hart that does something is not resident.
 abbrev pub is_away : History → Line → Bool
@@ -207,10 +202,10 @@ abbrev pub refusals : List (Answer × (History → Line → Bool))
 refusals =
     (NoMachine, lacks_machine) ∷ (Again, has_one_already) ∷ (Refused Range, is_out_of_range)
     ∷ (Refused Full, is_full) ∷ (Refused Busy, is_busy) ∷ (Refused words.Home, is_resident_already)
-    ∷ (Refused words.Parked, is_still_parked) ∷ (Refused NoFile, lacks_file) ∷ (Refused Away, is_away)
-    ∷ (Refused Illegal, is_illegal) ∷ (Refused Virtual, is_virtual) ∷ (Refused Fault, is_fault)
-    ∷ (Refused Guarded, is_guarded) ∷ (Refused Other, is_other) ∷ (Refused NotValid, names_none)
-    ∷ (Refused GFault, names_no_peer) ∷ []
+    ∷ (Refused words.Parked, is_still_parked) ∷ (Refused NoFile, lacks_file) ∷ (Refused Idle, is_idle)
+    ∷ (Refused Away, is_away) ∷ (Refused Illegal, is_illegal) ∷ (Refused Virtual, is_virtual)
+    ∷ (Refused Fault, is_fault) ∷ (Refused Guarded, is_guarded) ∷ (Refused Other, is_other)
+    ∷ (Refused NotValid, names_none) ∷ (Refused GFault, names_no_peer) ∷ []
 
 -- The first word whose cell holds, None where none does.
 abbrev pub first_refusal : History → Line → List (Answer × (History → Line → Bool)) → Option Answer

@@ -10,6 +10,10 @@ pub enum Answer {
     Narrow(u32),
     /// `0x` and sixteen digits: what a CSR read.
     Wide(u64),
+    /// `moving`: a step of a move was done, and it was not the last one.
+    Moving,
+    /// `done`: the last step of a move was done.
+    Done,
     /// `pins` and four digits: whether the hart is signalled by the APLIC's root domain, by its
     /// child, by the machine-level file, by the supervisor file.
     Pins(bool, bool, bool, bool),

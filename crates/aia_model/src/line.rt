@@ -85,6 +85,28 @@ pub enum Line {
         vcpu: u64,
         hart: u64,
     },
+    /// `begin arrive VM C H`: begins such a move of a virtual hart, and does no step of it.
+    BeginArrive {
+        vm: u64,
+        vcpu: u64,
+        hart: u64,
+    },
+    /// `begin leave VM C`: begins such a move of a virtual hart, and does no step of it.
+    BeginLeave {
+        vm: u64,
+        vcpu: u64,
+    },
+    /// `begin shift VM C H`: begins such a move of a virtual hart, and does no step of it.
+    BeginShift {
+        vm: u64,
+        vcpu: u64,
+        hart: u64,
+    },
+    /// `step VM C`: does the next step of the move of a virtual hart.
+    Step {
+        vm: u64,
+        vcpu: u64,
+    },
     /// `inject VM C BIT L`: the hypervisor gives a major interrupt of a virtual hart a level in
     /// `hvip`.
     Inject {

@@ -13,6 +13,8 @@ pub enum Refusal {
     Parked,
     /// `nofile`: no guest file of the hart is free.
     NoFile,
+    /// `idle`: the virtual hart is not being moved.
+    Idle,
     /// `away`: the virtual hart is not resident: it is parked, or is being moved.
     Away,
     /// `illegal`: the access raises an illegal-instruction exception.
