@@ -1,7 +1,7 @@
 //! Lines: what follows each keyword.
 
 ghost use Rattle.std.specs.Prelude.{◌≡◌};
-ghost use Rattle.aia_model.specs.Reading.{machine_at, vm_at, wire_at, load_at, store_at, msi_at, machine_csr_at, host_at, ipi_at, guest_at, arrive_at, leave_at, shift_at, inject_at, hvictl_at, hviprio_at, pins_at, entry_at, line_after, line_at};
+ghost use Rattle.aia_model.specs.Reading.{machine_at, vm_at, wire_at, load_at, store_at, msi_at, machine_csr_at, host_at, ipi_at, guest_at, arrive_at, leave_at, shift_at, begin_arrive_at, begin_leave_at, begin_shift_at, begin_after, begin_at, step_at, inject_at, hvictl_at, hviprio_at, pins_at, entry_at, line_after, line_at};
 ghost use Rattle.aia_script.specs.Cursor.{left};
 
 use crate::instructions::{instruction_after, instruction_at};
@@ -171,6 +171,72 @@ fn shift_at(words: Words<'_>) -> Option<Line>
     at_end(words, Line::Shift { vm, vcpu, hart })
 }
 
+/// Reads the line that the words after `begin arrive` spell; `None` where they spell none.
+#[tactic(auto, unfolding(aia_model::specs::Reading::begin_arrive_at))]
+fn begin_arrive_at(words: Words<'_>) -> Option<Line>
+    ensures { result ≡ begin_arrive_at (left words.entry) }
+{
+    let (vm, words) = number_at(words)?;
+    let (vcpu, words) = number_at(words)?;
+    let (hart, words) = number_at(words)?;
+    at_end(words, Line::BeginArrive { vm, vcpu, hart })
+}
+
+/// Reads the line that the words after `begin leave` spell; `None` where they spell none.
+#[tactic(auto, unfolding(aia_model::specs::Reading::begin_leave_at))]
+fn begin_leave_at(words: Words<'_>) -> Option<Line>
+    ensures { result ≡ begin_leave_at (left words.entry) }
+{
+    let (vm, words) = number_at(words)?;
+    let (vcpu, words) = number_at(words)?;
+    at_end(words, Line::BeginLeave { vm, vcpu })
+}
+
+/// Reads the line that the words after `begin shift` spell; `None` where they spell none.
+#[tactic(auto, unfolding(aia_model::specs::Reading::begin_shift_at))]
+fn begin_shift_at(words: Words<'_>) -> Option<Line>
+    ensures { result ≡ begin_shift_at (left words.entry) }
+{
+    let (vm, words) = number_at(words)?;
+    let (vcpu, words) = number_at(words)?;
+    let (hart, words) = number_at(words)?;
+    at_end(words, Line::BeginShift { vm, vcpu, hart })
+}
+
+/// Reads the line that the words after `begin` and a word spell; `None` where they spell none.
+fn begin_after(name: &[u8], words: Words<'_>) -> Option<Line>
+    ensures { result ≡ begin_after name.now (left words.entry) }
+{
+    if name == b"arrive".as_slice() {
+        begin_arrive_at(words)
+    } else if name == b"leave".as_slice() {
+        begin_leave_at(words)
+    } else if name == b"shift".as_slice() {
+        begin_shift_at(words)
+    } else {
+        None
+    }
+}
+
+/// Reads the line that the words after `begin` spell; `None` where they spell none.
+#[tactic(auto, unfolding(aia_model::specs::Reading::begin_at))]
+fn begin_at(words: Words<'_>) -> Option<Line>
+    ensures { result ≡ begin_at (left words.entry) }
+{
+    let (name, words) = word_at(words)?;
+    begin_after(name, words)
+}
+
+/// Reads the line that the words after `step` spell; `None` where they spell none.
+#[tactic(auto, unfolding(aia_model::specs::Reading::step_at))]
+fn step_at(words: Words<'_>) -> Option<Line>
+    ensures { result ≡ step_at (left words.entry) }
+{
+    let (vm, words) = number_at(words)?;
+    let (vcpu, words) = number_at(words)?;
+    at_end(words, Line::Step { vm, vcpu })
+}
+
 /// Reads the line that the words after `inject` spell; `None` where they spell none.
 #[tactic(auto, unfolding(aia_model::specs::Reading::inject_at))]
 fn inject_at(words: Words<'_>) -> Option<Line>
@@ -260,6 +326,10 @@ fn line_after(keyword: &[u8], words: Words<'_>) -> Option<Line>
         leave_at(words)
     } else if keyword == b"shift".as_slice() {
         shift_at(words)
+    } else if keyword == b"begin".as_slice() {
+        begin_at(words)
+    } else if keyword == b"step".as_slice() {
+        step_at(words)
     } else if keyword == b"inject".as_slice() {
         inject_at(words)
     } else if keyword == b"hvictl".as_slice() {

@@ -84,6 +84,7 @@ fn push_refusal(out: &mut ArrayVec<u8, 64>, word: Refusal)
         Refusal::Home => push_text(out, b"home"),
         Refusal::Parked => push_text(out, b"parked"),
         Refusal::NoFile => push_text(out, b"nofile"),
+        Refusal::Idle => push_text(out, b"idle"),
         Refusal::Away => push_text(out, b"away"),
         Refusal::Illegal => push_text(out, b"illegal"),
         Refusal::Virtual => push_text(out, b"virtual"),
@@ -112,6 +113,8 @@ pub fn print_answer(answer: &Answer, out: &mut ArrayVec<u8, 64>)
             push_text(out, b"0x");
             push_digits(out, 16, *value);
         }
+        Answer::Moving => push_text(out, b"moving"),
+        Answer::Done => push_text(out, b"done"),
         Answer::Pins(root, child, machine, supervisor) => {
             push_pins(out, *root, *child, *machine, *supervisor);
         }

@@ -140,13 +140,13 @@ fn push_hgeip(out: &mut ArrayVec<u8, LINE_BYTES>, hart: u64)
     push_text(out, b" hgeip");
 }
 
-/// Appends a keyword and two numbers, of a virtual hart, to `out`, which is empty.
+/// Appends one or two keywords and two numbers, of a virtual hart, to `out`, which is empty.
 fn push_virtual(out: &mut ArrayVec<u8, LINE_BYTES>, keyword: &[u8], vm: u64, vcpu: u64)
     requires empty { out.old.items ≡ [] }
-    requires short { length keyword.now ≤ 8 }
+    requires short { length keyword.now ≤ 12 }
     ensures text { out.new.items
         ≡ keyword.now ++ 32 ∷ (decimal_text vm ++ 32 ∷ decimal_text vcpu) }
-    ensures length { array_vec_len out.new ≤ 50 }
+    ensures length { array_vec_len out.new ≤ 54 }
 {
     push_text(out, keyword);
     push_decimal(out, vm);
@@ -236,6 +236,16 @@ fn push_line(line: &Line, out: &mut ArrayVec<u8, LINE_BYTES>)
             push_virtual(out, b"shift", vm, vcpu);
             push_decimal(out, hart);
         }
+        Line::BeginArrive { vm, vcpu, hart } => {
+            push_virtual(out, b"begin arrive", vm, vcpu);
+            push_decimal(out, hart);
+        }
+        Line::BeginLeave { vm, vcpu } => push_virtual(out, b"begin leave", vm, vcpu),
+        Line::BeginShift { vm, vcpu, hart } => {
+            push_virtual(out, b"begin shift", vm, vcpu);
+            push_decimal(out, hart);
+        }
+        Line::Step { vm, vcpu } => push_virtual(out, b"step", vm, vcpu),
         Line::Inject {
             vm,
             vcpu,
