@@ -43,14 +43,15 @@ use Rattle.aia_model.specs.Event.Event.{Accepted, Delivered}
 use Rattle.aia_model.specs.Vms.{vms_of, has_vm, has_vcpu}
 use Rattle.aia_model.specs.FileAfter.{FileDeed, select_after, file_after}
 use Rattle.aia_model.specs.FileAfter.FileDeed.{Rests}
-use Rattle.aia_model.specs.Move.{move_of}
+use Rattle.aia_model.specs.Move.{move_deed}
+use Rattle.aia_model.specs.Move.MoveDeed.{NoMove}
 use Rattle.aia_model.specs.MajorOf.{majors_of}
 use Rattle.aia_model.specs.HomeOf.{home, moved}
 use Rattle.aia_model.specs.GuestFile.{guest_deed, guest_select, guest_file}
 use Rattle.aia_model.specs.Notice.{noticed, with_notice, notices_sent}
 use Rattle.aia_model.specs.FileOf.{FileName, MachineFile, SupervisorFile, deed_at, select_of, file_of}
 use Rattle.aia_model.specs.Refusal.{refusal}
-use Rattle.aia_model.specs.Answer.{accepted_answer, whole_move}
+use Rattle.aia_model.specs.Answer.{accepted_answer, deed_taken}
 use Rattle.aia_model.proofs.AnswerLemmas.{answered}
 use Rattle.aia_model.proofs.FileLemmas.{file_step, select_step, file_by_step, same_or_other}
 use Rattle.aia_model.proofs.MoveLemmas.{home_step}
@@ -280,11 +281,11 @@ by_refusal x y line given by = record {
 }
 
 -- an accepted line that makes no move, whatever it makes of the core
-pub taken : (x y : CoreState) (line : Line) (given : Answer) → move_of line ≡ None
+pub taken : (x y : CoreState) (line : Line) (given : Answer) → move_deed line ≡ NoMove
     → ((h : History) → CoreStands x h → (refusal h line ≡ None) × (given ≡ accepted_answer h line) × CoreStands y (Accepted line ∷ h)) → CoreTakes x y line given
-taken x y line given still by = by_refusal x y line given (λ h stands. let r = by h stands in (None, r.0, r.1, subst (λ o. CoreStands y (option_map_or (whole_move h) o (Accepted line ∷ h))) (sym still) r.2, λ word e. absurd (none-some word e)))
+taken x y line given still by = by_refusal x y line given (λ h stands. let r = by h stands in (None, r.0, r.1, subst (λ d. CoreStands y (deed_taken h line d)) (sym still) r.2, λ word e. absurd (none-some word e)))
 
-pub accepted : (x y : CoreState) (line : Line) (given : Answer) → move_of line ≡ None
+pub accepted : (x y : CoreState) (line : Line) (given : Answer) → move_deed line ≡ NoMove
     → ((h : History) → CoreStands x h → (refusal h line ≡ None) × (given ≡ accepted_answer h line) × Changes x y h (Accepted line)) → CoreTakes x y line given
 accepted x y line given still by = taken x y line given still (λ h stands. let r = by h stands in (r.0, r.1, one_more x y h (Accepted line) r.2 stands))
 

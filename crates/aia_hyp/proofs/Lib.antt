@@ -24,4 +24,5 @@ pub mod EndLines
 pub mod BeginCore
 pub mod MoveCalls
 pub mod MoveWhole
+pub mod MoveLines
 pub mod ExampleLemmas

@@ -1,5 +1,5 @@
 -- What the hypervisor's core keeps. Vocabulary.
-use Rattle.std.specs.Prelude.{◌≡◌, ℕ, false, List, Option, Some, None, slice_index_or, slice_set}
+use Rattle.std.specs.Prelude.{◌≡◌, ℕ, Bool, true, false, List, Option, Some, None, slice_index_or, slice_set}
 use Rattle.aia_home.specs.declared.place.Place.{Place}
 use Rattle.aia_home.specs.Vms.{Vcpu, slot_of}
 use Rattle.aia_home.specs.Home.{Home}
@@ -55,6 +55,11 @@ home_in (stays.Moving plan) = (moving_of plan).home
 abbrev pub resident_at : Stay → Option Place
 resident_at (stays.Resident lease) = Some lease
 resident_at stay = None
+
+-- Whether it is being moved, as it is kept.
+abbrev pub has_plan : Stay → Bool
+has_plan (stays.Moving plan) = true
+has_plan stay = false
 
 -- What is carried or kept of its interrupt file: of a parked one the two numbers, of a resident one
 -- nothing, on a move what the move carries.

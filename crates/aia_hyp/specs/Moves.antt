@@ -1,5 +1,5 @@
 -- The moves of virtual harts in the core: what is wanted, and what each call makes of it.
-use Rattle.std.specs.Prelude.{◌≡◌, ℕ, ◌-◌, ◌<◌, ◌≤◌, Bool, true, false, ◌∷◌, Option, Some, None}
+use Rattle.std.specs.Prelude.{◌≡◌, ℕ, ◌-◌, ◌<◌, ◌≤◌, Bool, true, false, if◌then◌else◌, ◌∷◌, Option, Some, None}
 use Rattle.aia_home.specs.declared.place.Place.{Place}
 use Rattle.aia_home.specs.Vms.{Vcpu, vcpu}
 use Rattle.aia_home.specs.Home.{Home, at_first, is_moving, is_at_last, leave_steps, arrive_steps, shift_steps}
@@ -7,7 +7,8 @@ use Rattle.aia_home.specs.Home.Home.{Leaving, Arriving, Shifting}
 use Rattle.aia_places.specs.Holds.{Hand}
 use Rattle.aia_pool.specs.Leases.{Leases, IsFileThere, is_out, least_free, with_out}
 use Rattle.aia_model.specs.declared.answer.Answer.{Answer}
-use Rattle.aia_model.specs.declared.answer.Answer.TheVariants.{Okay, Refused}
+use Rattle.aia_model.specs.declared.answer.Answer.TheVariants.{Okay, Done, Refused}
+use Rattle.aia_model.specs.declared.answer.Answer.TheVariants as answers
 use Rattle.aia_model.specs.declared.refusal.Refusal.{Refusal}
 use Rattle.aia_model.specs.declared.refusal.Refusal.TheVariants as refusals
 use Rattle.aia_model.specs.declared.line.Line.{Line}
@@ -40,6 +41,12 @@ abbrev pub move_line : ℕ → ℕ → Want → Line
 move_line vm number wants.Leave = lines.Leave vm number
 move_line vm number (wants.Arrive hart) = lines.Arrive vm number hart
 move_line vm number (wants.Shift hart) = lines.Shift vm number hart
+
+-- The line that begins it.
+abbrev pub begin_line : ℕ → ℕ → Want → Line
+begin_line vm number wants.Leave = lines.BeginLeave vm number
+begin_line vm number (wants.Arrive hart) = lines.BeginArrive vm number hart
+begin_line vm number (wants.Shift hart) = lines.BeginShift vm number hart
 
 abbrev pub wanted_move : Vcpu → Want → Move
 wanted_move g wants.Leave = Leaves g
@@ -169,6 +176,10 @@ back_then (Finished outcome) = back_of outcome
 abbrev pub is_finished : Next → Bool
 is_finished (Again plan) = false
 is_finished (Finished outcome) = true
+
+-- What a step of a move is answered, by whether it was the last one.
+abbrev pub step_answer : Bool → Answer
+step_answer last = if last then Done else answers.Moving
 
 -- How many steps of its move are left.
 abbrev pub steps_left : ℕ → Home → ℕ

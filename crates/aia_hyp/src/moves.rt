@@ -3,11 +3,12 @@ ghost use Rattle.std.specs.Vec.{vec_capacity};
 ghost use Rattle.aia_home.specs.Vms.{vcpu, is_vcpu_in};
 ghost use Rattle.aia_home.specs.Home.{is_moving};
 ghost use Rattle.aia_pool.specs.Leases.{Leases};
+ghost use Rattle.aia_model.specs.declared.line.Line.TheVariants.{Step};
 ghost use Rattle.aia_model.specs.declared.answer.Answer.TheVariants.{Okay};
 ghost use Rattle.aia_move.specs.Move.{IsWho};
-ghost use Rattle.aia_hyp.specs.Core.{no_kept, no_record, record_of, home_in};
+ghost use Rattle.aia_hyp.specs.Core.{no_kept, no_record, record_of, home_in, has_plan};
 ghost use Rattle.aia_hyp.specs.Stands.{CoreTakes, answer_by};
-ghost use Rattle.aia_hyp.specs.Moves.{move_line, WantBegins, LeaveBegins, ArriveBegins, ShiftBegins, MoveBegins, MoveGoes, stay_after, back_of, with_back, IsOutThere, stay_then, back_then, is_finished};
+ghost use Rattle.aia_hyp.specs.Moves.{move_line, begin_line, step_answer, WantBegins, LeaveBegins, ArriveBegins, ShiftBegins, MoveBegins, MoveGoes, stay_after, back_of, with_back, IsOutThere, stay_then, back_then, is_finished};
 
 use crate::hyp::Hyp;
 use crate::vcpu::{Stay, VcpuRecord};
@@ -40,8 +41,45 @@ impl Hyp {
             return Err(Refusal::Range);
         };
         self.begin_of(who, want)?;
-        while !self.step(who) {}
+        while !self.step_of(who) {}
         Ok(())
+    }
+
+    /// Begins to move a virtual hart, and does no step of the move. `Err` is as of
+    /// [`Hyp::whole`]; nothing is changed then. Profile.
+    pub fn begin(&mut self, vm: u64, number: u64, want: Want) -> Result<(), Refusal>
+        ensures { CoreTakes self.old self.new (begin_line vm number want)
+            (answer_by (λ _. Okay) result) }
+    {
+        let Some(who) = who_at(&self.fabric, vm, number) else {
+            return Err(Refusal::Range);
+        };
+        self.begin_of(who, want)
+    }
+
+    /// Does the next step of the move of a virtual hart, which is one access of its plan. `true`
+    /// says that it was the last one, and that the move is at its end. `Err` is `Range` where the
+    /// virtual hart isn't there, `Idle` where it is not being moved; nothing is changed then.
+    /// Profile.
+    pub fn step(&mut self, vm: u64, number: u64) -> Result<bool, Refusal>
+        ensures { CoreTakes self.old self.new (Step vm number) (answer_by step_answer result) }
+    {
+        let Some(who) = who_at(&self.fabric, vm, number) else {
+            return Err(Refusal::Range);
+        };
+        if !self.is_moved(who.vm, who.vcpu) {
+            return Err(Refusal::Idle);
+        }
+        Ok(self.step_of(who))
+    }
+
+    /// Tells whether a virtual hart that is there is being moved.
+    fn is_moved(&self, vm: u32, number: u32) -> bool
+        requires { is_vcpu_in self.now.world.vms (vcpu vm number) ≡ true }
+        ensures { result ≡ has_plan (record_of self.now (vcpu vm number)).stay }
+    {
+        let slot = self.fabric.slot_of(vm, number);
+        self.vcpus[slot as usize].stay.has_plan()
     }
 
     /// Begins to move a virtual hart that is there, and does no step of the move.
@@ -60,7 +98,7 @@ impl Hyp {
 
     /// Makes the next step of the move of a virtual hart that is being moved, and tells whether it
     /// was the last one.
-    fn step(&mut self, who: Who) -> bool
+    fn step_of(&mut self, who: Who) -> bool
         requires who { IsWho self.old.world who }
         requires moving { is_moving (home_in (record_of self.old (vcpu who.vm who.vcpu)).stay)
             ≡ true }

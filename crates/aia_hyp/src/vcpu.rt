@@ -1,5 +1,5 @@
 ghost use Rattle.std.specs.Prelude.{◌≡◌};
-ghost use Rattle.aia_hyp.specs.Core.{no_record, resident_at};
+ghost use Rattle.aia_hyp.specs.Core.{no_record, resident_at, has_plan};
 
 use aia_home::Place;
 use aia_major::VsMajor;
@@ -27,6 +27,13 @@ impl Stay {
             Stay::Resident(lease) => Some(lease.place()),
             Stay::Parked(_) | Stay::Moving(_) => None,
         }
+    }
+
+    /// Tells whether it is being moved.
+    pub fn has_plan(&self) -> bool
+        ensures { result ≡ has_plan self.now }
+    {
+        matches!(self, Stay::Moving(_))
     }
 }
 

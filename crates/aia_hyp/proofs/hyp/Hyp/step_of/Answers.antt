@@ -6,8 +6,8 @@ use Rattle.aia_hyp.specs.Core.{CoreState, no_record}
 use Rattle.aia_hyp.specs.Moves.{MoveGoes, is_finished}
 use Rattle.aia_hyp.proofs.BeginCore.{at_stay}
 use Rattle.aia_hyp.proofs.MoveCalls.{plan_known, back_known, step_goes, goes_still, who_still}
-use Rattle.aia_hyp.proofs.hyp.Hyp.step.Goals.{After-swap_stay-2}
-use Rattle.aia_hyp.proofs.hyp.Hyp.step.Goals as goal
+use Rattle.aia_hyp.proofs.hyp.Hyp.step_of.Goals.{After-swap_stay-2}
+use Rattle.aia_hyp.proofs.hyp.Hyp.step_of.Goals as goal
 
 pub step-next-requires-clause-fits : goal.step-next-requires-clause-fits
 step-next-requires-clause-fits c =

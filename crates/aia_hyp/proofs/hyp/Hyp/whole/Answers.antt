@@ -23,11 +23,11 @@ pub loop-who-init : goal.loop-who-init
 loop-who-init c = first_step c.args.self.now c.begin_of.new.self c.in-Some.who c.args.want c.in_ok-begin_of.ensures.begins (subst (λ (x : CoreState). StandsForSome x) c.self.view_is c.self.invariant.0) c.in_ok-begin_of.ensures.who
 
 pub loop-who-preserved : goal.loop-who-preserved
-loop-who-preserved c = next_step c.args.self.now c.loop-who.self c.step.new.self c.in-Some.who c.args.want c.loop-who.invariant c.loop-who-test.ensures.goes c.loop-who-test.ensures.who
+loop-who-preserved c = next_step c.args.self.now c.loop-who.self c.step_of.new.self c.in-Some.who c.args.want c.loop-who.invariant c.loop-who-test.ensures.goes c.loop-who-test.ensures.who
 
 pub returns : goal.returns
 returns c =
     let named = c.in-Some.ensures.named in
-    subst (λ vm. CoreTakes c.args.self.now c.step.new.self (move_line vm c.args.number c.args.want) Okay) named.0
-    (subst (λ number. CoreTakes c.args.self.now c.step.new.self (move_line c.in-Some.who.vm number c.args.want) Okay) named.1
-    (all_steps c.args.self.now c.loop-who.self c.step.new.self c.in-Some.who c.args.want c.loop-who.invariant c.loop-who-test.ensures.goes))
+    subst (λ vm. CoreTakes c.args.self.now c.step_of.new.self (move_line vm c.args.number c.args.want) Okay) named.0
+    (subst (λ number. CoreTakes c.args.self.now c.step_of.new.self (move_line c.in-Some.who.vm number c.args.want) Okay) named.1
+    (all_steps c.args.self.now c.loop-who.self c.step_of.new.self c.in-Some.who c.args.want c.loop-who.invariant c.loop-who-test.ensures.goes))

@@ -1,0 +1,96 @@
+-- The lines that begin moves and do steps of them.
+use Rattle.std.proofs.Common.{◌≡◌, ℕ, Bool, true, false, not, cond, List, ◌∷◌, Option, Some, None, unwrap_or, refl, sym, ap, subst, ◌∙◌}
+use Rattle.std.proofs.lemmas.Bool.{cond-true, cond-false}
+use Rattle.std.proofs.lemmas.Option.{none-some}
+use Rattle.aia_home.specs.declared.vm.Vm.{Vm}
+use Rattle.aia_home.specs.Vms.{Vcpu, vcpu, is_vcpu_in}
+use Rattle.aia_home.specs.Home.{is_moving, is_at_last}
+use Rattle.aia_move.specs.declared.who.Who.{Who}
+use Rattle.aia_move.specs.Move.{IsWho}
+use Rattle.aia_model.specs.declared.answer.Answer.{Answer}
+use Rattle.aia_model.specs.declared.answer.Answer.TheVariants.{Okay, Refused}
+use Rattle.aia_model.specs.declared.refusal.Refusal.TheVariants.{Range, Idle}
+use Rattle.aia_model.specs.declared.line.Line.TheVariants.{Step}
+use Rattle.aia_model.specs.Event.{History, file_words}
+use Rattle.aia_model.specs.Vms.{has_vcpu}
+use Rattle.aia_model.specs.HomeOf.{home}
+use Rattle.aia_model.specs.Refusal.{refusal}
+use Rattle.aia_model.specs.Answer.{answer, accepted_answer}
+use Rattle.aia_model.proofs.AnswerLemmas.{answered, step_refusal}
+use Rattle.aia_hyp.specs.declared.moves.Want.{Want}
+use Rattle.aia_hyp.specs.declared.moves.Want.TheVariants as wants
+use Rattle.aia_hyp.specs.declared.vcpu.Stay.{Stay}
+use Rattle.aia_hyp.specs.declared.vcpu.Stay.TheVariants as stays
+use Rattle.aia_hyp.specs.Core.{CoreState, record_of, home_in, has_plan}
+use Rattle.aia_hyp.specs.Stands.{PlanStands, StandsForSome, CoreStands, CoreTakes, line_served}
+use Rattle.aia_hyp.specs.Moves.{move_line, begin_line, wanted_move, move_begun, MoveBegins, MoveGoes, step_answer}
+use Rattle.aia_hyp.proofs.EventLemmas.{by_refusal, refused}
+
+-- ---- a beginning
+
+same_refusal : (h : History) (vm number : ℕ) (want : Want) → refusal h (begin_line vm number want) ≡ refusal h (move_line vm number want)
+same_refusal h vm number wants.Leave = refl
+same_refusal h vm number (wants.Arrive hart) = refl
+same_refusal h vm number (wants.Shift hart) = refl
+
+okay : (h : History) (vm number : ℕ) (want : Want) → accepted_answer h (begin_line vm number want) ≡ accepted_answer h (move_line vm number want)
+okay h vm number wants.Leave = refl
+okay h vm number (wants.Arrive hart) = refl
+okay h vm number (wants.Shift hart) = refl
+
+served : (r : Option Answer) (h : History) (vm number : ℕ) (want : Want) → line_served r h (begin_line vm number want) ≡ move_begun r h (wanted_move (vcpu vm number) want)
+served (Some word) h vm number want = refl
+served None h vm number wants.Leave = refl
+served None h vm number (wants.Arrive hart) = refl
+served None h vm number (wants.Shift hart) = refl
+
+pub begin_taken : (x y : CoreState) (vm number : ℕ) (want : Want) (given : Answer) → MoveBegins x y vm number want given → CoreTakes x y (begin_line vm number want) given
+begin_taken x y vm number want given begins = record {
+  answers = λ h stands. begins.answers h stands ∙ answered h (move_line vm number want) (refusal h (move_line vm number want)) refl
+      ∙ (λ k. unwrap_or (sym (same_refusal h vm number want) k) (sym (okay h vm number want) k)) ∙ sym (answered h (begin_line vm number want) (refusal h (begin_line vm number want)) refl);
+  stands = λ h stands. subst (CoreStands y) (sym (ap (λ r. line_served r h (begin_line vm number want)) (same_refusal h vm number want) ∙ served (refusal h (move_line vm number want)) h vm number want)) (begins.begins h stands);
+  unchanged = λ h word stands is. begins.unchanged h word stands (sym (same_refusal h vm number want) ∙ is);
+}
+
+-- ---- a step
+
+-- whether it is being moved is kept as the history has it
+moved_as : (x : CoreState) (g : Vcpu) (stay : Stay) → PlanStands x.world g stay → is_moving (home_in stay) ≡ has_plan stay
+moved_as x g (stays.Parked kept) p = refl
+moved_as x g (stays.Resident place) p = refl
+moved_as x g (stays.Moving plan) p = p.3
+
+is_there : (x : CoreState) (h : History) (who : Who) → CoreStands x h → IsWho x.world who → has_vcpu h (vcpu who.vm who.vcpu) ≡ true
+is_there x h who stands is = subst (λ (vs : List Vm). is_vcpu_in vs (vcpu who.vm who.vcpu) ≡ true) stands.vms is.there
+
+moving_is : (x : CoreState) (h : History) (who : Who) → CoreStands x h → IsWho x.world who → is_moving (home h (vcpu who.vm who.vcpu)) ≡ has_plan (record_of x (vcpu who.vm who.vcpu)).stay
+moving_is x h who stands is =
+    let g = vcpu who.vm who.vcpu in
+    let stood = stands.vcpus g (is_there x h who stands is) in
+    ap is_moving (sym stood.same_home) ∙ moved_as x g (record_of x g).stay stood.plan
+
+by_home : (x : CoreState) (h : History) (who : Who) → CoreStands x h → IsWho x.world who → refusal h (Step who.vm who.vcpu) ≡ cond (not (has_plan (record_of x (vcpu who.vm who.vcpu)).stay)) (Some (Refused Idle)) None
+by_home x h who stands is =
+    step_refusal h who.vm who.vcpu stands.there ∙ cond-false _ _ _ (ap not (is_there x h who stands is)) ∙ ap (λ b. cond (not b) (Some (Refused Idle)) None) (moving_is x h who stands is)
+
+pub moved_now : (x : CoreState) (who : Who) → StandsForSome x → IsWho x.world who → has_plan (record_of x (vcpu who.vm who.vcpu)).stay ≡ true → is_moving (home_in (record_of x (vcpu who.vm who.vcpu)).stay) ≡ true
+moved_now x who some is planned =
+    let g = vcpu who.vm who.vcpu in
+    let stood = some.stands.vcpus g (is_there x some.past who some.stands is) in
+    moved_as x g (record_of x g).stay stood.plan ∙ planned
+
+pub step_taken : (x y : CoreState) (who : Who) (last : Bool) → IsWho x.world who → has_plan (record_of x (vcpu who.vm who.vcpu)).stay ≡ true → MoveGoes x y (vcpu who.vm who.vcpu) last → CoreTakes x y (Step who.vm who.vcpu) (step_answer last)
+step_taken x y who last is planned goes = by_refusal x y (Step who.vm who.vcpu) (step_answer last) (λ h stands. (
+  None,
+  by_home x h who stands is ∙ cond-false _ _ _ (ap not planned),
+  ap step_answer (goes.at_last h stands),
+  goes.stands h stands,
+  λ word e. absurd (none-some word e),
+))
+
+pub step_idle : (x : CoreState) (who : Who) → IsWho x.world who → has_plan (record_of x (vcpu who.vm who.vcpu)).stay ≡ false → CoreTakes x x (Step who.vm who.vcpu) (Refused Idle)
+step_idle x who is idle = refused x (Step who.vm who.vcpu) (Refused Idle) (λ h stands. by_home x h who stands is ∙ cond-true _ _ _ (ap not idle))
+
+pub no_step : (x : CoreState) (vm number : ℕ) → is_vcpu_in x.world.vms (vcpu vm number) ≡ false → CoreTakes x x (Step vm number) (Refused Range)
+no_step x vm number outside = refused x (Step vm number) (Refused Range) (λ h stands.
+    step_refusal h vm number stands.there ∙ cond-true _ _ _ (ap not (subst (λ (vs : List Vm). is_vcpu_in vs (vcpu vm number) ≡ false) stands.vms outside)))
