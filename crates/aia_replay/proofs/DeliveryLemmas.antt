@@ -51,10 +51,17 @@ acts_stepped (suc count) g h = acts_stepped count g (Stepped g ∷ h)
 acts_moved : (ms : List Msi) (h : History) (move : Move) → acts_of (delivered ms (whole_move h move)) ≡ with_all_sent (acts_of h)
 acts_moved ms h move = acts_delivered ms (whole_move h move) ∙ acts_stepped (steps_of (file_words h) move) (mover move) (Began move ∷ h) ∙ sym (none_sent (acts_of h) (none_between h))
 
+acts_begun : (ms : List Msi) (h : History) (move : Move) → acts_of (delivered ms (Began move ∷ h)) ≡ with_all_sent (acts_of h)
+acts_begun ms h move = acts_delivered ms (Began move ∷ h) ∙ sym (none_sent (acts_of h) (none_between h))
+
 acts_taken : (ms : List Msi) (h : History) (line : Line) → acts_of (delivered ms (line_taken h line)) ≡ with_all_sent (with_act (act_of line) (acts_of h))
 acts_taken ms h (lines.Arrive vm number hart) = acts_moved ms h (Arrives (vcpu vm number) hart)
 acts_taken ms h (lines.Leave vm number) = acts_moved ms h (Leaves (vcpu vm number))
 acts_taken ms h (lines.Shift vm number hart) = acts_moved ms h (Shifts (vcpu vm number) hart)
+acts_taken ms h (lines.BeginArrive vm number hart) = acts_begun ms h (Arrives (vcpu vm number) hart)
+acts_taken ms h (lines.BeginLeave vm number) = acts_begun ms h (Leaves (vcpu vm number))
+acts_taken ms h (lines.BeginShift vm number hart) = acts_begun ms h (Shifts (vcpu vm number) hart)
+acts_taken ms h (lines.Step vm number) = acts_delivered ms (Stepped (vcpu vm number) ∷ h) ∙ sym (none_sent (acts_of h) (none_between h))
 acts_taken ms h line = acts_delivered ms (Accepted line ∷ h)
 
 pub after_delivery : (n : Machine) (h : History) (line : Line) (r : Option Answer) → MachineHolds n (delivered (waiting_msis (act_taken r h line)) (line_served r h line)) (with_all_sent (act_taken r h line)) → MachineStands n (history_after r h line)

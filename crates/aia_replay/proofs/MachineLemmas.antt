@@ -26,8 +26,9 @@ use Rattle.aia_model.specs.Sent.{with_act, acts_of}
 use Rattle.aia_model.specs.SourceOf.{harts_in, sources_in, is_source, register_read, is_signalled}
 use Rattle.aia_model.specs.FileOf.{MachineFile, SupervisorFile, page_at, file_of}
 use Rattle.aia_model.specs.Refusal.{refusal}
-use Rattle.aia_model.specs.Move.{Move, move_of}
-use Rattle.aia_model.specs.Answer.{accepted_answer, whole_move}
+use Rattle.aia_model.specs.Move.{MoveDeed, move_deed}
+use Rattle.aia_model.specs.Move.MoveDeed.{NoMove}
+use Rattle.aia_model.specs.Answer.{accepted_answer, deed_taken}
 use Rattle.aia_model.proofs.AnswerLemmas.{answered, refused_by, wire_refusal, pins_refusal, load_refusal, store_refusal, entry_refusal}
 use Rattle.aia_regs.specs.declared.access.Csr.{Csr}
 use Rattle.aia_regs.specs.declared.access.Op.{Op}
@@ -35,7 +36,7 @@ use Rattle.aia_regs.specs.declared.access.Level.{Level}
 use Rattle.aia_regs.specs.declared.access.Level.TheVariants as levels
 use Rattle.aia_hyp.specs.declared.moves.Want.{Want}
 use Rattle.aia_hyp.specs.declared.moves.Want.TheVariants as wants
-use Rattle.aia_hyp.specs.Moves.{move_line}
+use Rattle.aia_hyp.specs.Moves.{move_line, begin_line}
 use Rattle.aia_hyp.specs.HostFiles.{IsHost, csr_line}
 use Rattle.aia_hyp.specs.Core.{CoreState}
 use Rattle.aia_hyp.specs.Stands.{CoreStands, CoreTakes, answer_by, line_served, signals_of}
@@ -75,13 +76,13 @@ core_line m n line given silent takes same = record {
     at h (Some word) = refl
 
 -- a line of the APLIC that is accepted, which is nothing to the core
-aplic_line : (m n : Machine) (line : Line) (given : Answer) → move_of line ≡ None → n.core ≡ m.core
+aplic_line : (m n : Machine) (line : Line) (given : Answer) → move_deed line ≡ NoMove → n.core ≡ m.core
     → ((h : History) → MachineStands m h → (refusal h line ≡ None) × (given ≡ accepted_answer h line) × CoreStands m.core (Accepted line ∷ h) × AplicStands n.aplic (act_taken None h line)) → MachineTakes m n line given
 aplic_line m n line given still same by = by_refusal m n line given (λ h stands. let r = by h stands in (
   None,
   r.0,
   r.1,
-  record { core = subst (λ (o : Option Move). CoreStands n.core (option_map_or (whole_move h) o (Accepted line ∷ h))) (sym still) (subst (λ (x : CoreState). CoreStands x (Accepted line ∷ h)) (sym same) r.2); aplic = r.3 },
+  record { core = subst (λ (d : MoveDeed). CoreStands n.core (deed_taken h line d)) (sym still) (subst (λ (x : CoreState). CoreStands x (Accepted line ∷ h)) (sym same) r.2); aplic = r.3 },
 ))
 
 -- the answer to a call of the core, by what it gives
@@ -98,6 +99,11 @@ pub move_silent : (vm number : ℕ) (want : Want) (past : Past) → with_act (ac
 move_silent vm number wants.Leave past = refl
 move_silent vm number (wants.Arrive hart) past = refl
 move_silent vm number (wants.Shift hart) past = refl
+
+pub begin_silent : (vm number : ℕ) (want : Want) (past : Past) → with_act (act_of (begin_line vm number want)) past ≡ past
+begin_silent vm number wants.Leave past = refl
+begin_silent vm number (wants.Arrive hart) past = refl
+begin_silent vm number (wants.Shift hart) past = refl
 
 -- ---- entries, which are nothing to the machine
 

@@ -10,7 +10,7 @@ ghost use Rattle.aia_model.specs.Act.Act.{Made};
 ghost use Rattle.aia_model.specs.Refusal.{is_machine_size};
 ghost use Rattle.aia_hyp.specs.HostFiles.{IsHost, csr_line};
 ghost use Rattle.aia_hyp.specs.Stands.{answer_by};
-ghost use Rattle.aia_hyp.specs.Moves.{move_line};
+ghost use Rattle.aia_hyp.specs.Moves.{move_line, begin_line};
 ghost use Rattle.aia_aplic.specs.Aplic.{domain_name};
 ghost use Rattle.aia_replay.specs.Stands.{MachineHolds, MachineTakes, MachineServes, Delivers};
 
@@ -90,6 +90,10 @@ impl Machine {
             Line::Arrive { vm, vcpu, hart } => self.whole_move(vm, vcpu, Want::Arrive(hart)),
             Line::Leave { vm, vcpu } => self.whole_move(vm, vcpu, Want::Leave),
             Line::Shift { vm, vcpu, hart } => self.whole_move(vm, vcpu, Want::Shift(hart)),
+            Line::BeginArrive { vm, vcpu, hart } => self.begin_move(vm, vcpu, Want::Arrive(hart)),
+            Line::BeginLeave { vm, vcpu } => self.begin_move(vm, vcpu, Want::Leave),
+            Line::BeginShift { vm, vcpu, hart } => self.begin_move(vm, vcpu, Want::Shift(hart)),
+            Line::Step { vm, vcpu } => self.step(vm, vcpu),
             Line::Inject {
                 vm,
                 vcpu,
@@ -152,6 +156,24 @@ impl Machine {
         ensures { MachineTakes self.old self.new (move_line vm vcpu want) result }
     {
         okay(self.core.whole(vm, vcpu, want))
+    }
+
+    /// Begins to move a virtual hart.
+    fn begin_move(&mut self, vm: u64, vcpu: u64, want: Want) -> Answer
+        ensures { MachineTakes self.old self.new (begin_line vm vcpu want) result }
+    {
+        okay(self.core.begin(vm, vcpu, want))
+    }
+
+    /// Does the next step of the move of a virtual hart.
+    fn step(&mut self, vm: u64, vcpu: u64) -> Answer
+        ensures { MachineTakes self.old self.new (Line.Step vm vcpu) result }
+    {
+        match self.core.step(vm, vcpu) {
+            Ok(true) => Answer::Done,
+            Ok(false) => Answer::Moving,
+            Err(word) => Answer::Refused(word),
+        }
     }
 
     /// Gives a major interrupt of a virtual hart a level in `hvip`, by the core.
