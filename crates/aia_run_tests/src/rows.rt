@@ -5,7 +5,7 @@ use crate::runs::replays;
 use aia_vectors::row::Row;
 use aia_vectors::rows::{
     direct_delivery, entries, examples, examples_of_guests, files, lines, machines, majors,
-    msi_delivery, registers, sources, virtual_machines, whole_moves,
+    msi_delivery, registers, sources, stepwise_moves, virtual_machines, whole_moves,
 };
 use std::alloc::{AllocError, Global};
 use std::process::Abort;
@@ -136,6 +136,15 @@ fn rows_of_examples_of_guests_print_their_answers_whatever_the_pieces(
 fn rows_of_majors_print_their_answers_whatever_the_pieces(rt: HostRuntime) -> Result<(), Fail> {
     let alloc = rt.alloc();
     replays_all(&rt, alloc, &majors::ROWS)?;
+    Ok(())
+}
+
+#[test]
+fn rows_of_stepwise_moves_print_their_answers_whatever_the_pieces(
+    rt: HostRuntime,
+) -> Result<(), Fail> {
+    let alloc = rt.alloc();
+    replays_all(&rt, alloc, &stepwise_moves::ROWS)?;
     Ok(())
 }
 
