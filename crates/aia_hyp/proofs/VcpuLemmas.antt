@@ -22,6 +22,8 @@ use Rattle.aia_places.specs.View.{View}
 use Rattle.aia_places.specs.Holds.{Hand, Holds}
 use Rattle.aia_move.specs.Move.{Moving, mover, Fits}
 use Rattle.aia_move.specs.Plan.{moving_of, IsInPhase}
+use Rattle.aia_move.specs.Touches.{SameMachine}
+use Rattle.aia_move.proofs.MachineLemmas.{fits_still, phase_still}
 use Rattle.aia_hyp.specs.declared.vcpu.Stay.{Stay}
 use Rattle.aia_hyp.specs.declared.vcpu.Stay.TheVariants as stays
 use Rattle.aia_places.specs.Stores.{AreApart}
@@ -196,30 +198,10 @@ pub majors_rest : (h : History) (event : Event) (g : Vcpu) → MajorsRest g even
 majors_rest h event g rest = majors_is event h g ∙ rest (majors_of h g)
 
 -- the plan of a move can go on where the machine's numbers and its VMs are the same
-pub record SameMachine (w u : World) : Type 0 where
-  pub n : u.n ≡ w.n
-  pub vms : u.vms ≡ w.vms
-  pub harts : u.imsic.harts ≡ w.imsic.harts
-  pub guests : u.imsic.guests ≡ w.imsic.guests
-
-place_too : (w u : World) (p : Place) → SameMachine w u → IsThere w.imsic (spot_of p) → IsThere u.imsic (spot_of p)
-place_too w u p same inside = (omega (arith, inside.0, same.harts), inside.1, omega (arith, inside.2, same.guests))
-
-pub fits_still : (w u : World) (m : Moving) → SameMachine w u → Fits w m → Fits u m
-fits_still w u m same fits = record {
-  there = subst (λ (vs : List Vm). is_vcpu_in vs (mover m) ≡ true) (sym same.vms) fits.there;
-  slot = fits.slot ∙ ap (λ vs. slot_of vs (mover m)) (sym same.vms);
-  notice = fits.notice ∙ ap (λ vs. notice_hart vs (mover m)) (sym same.vms);
-  own = λ p e. place_too w u p same (fits.own p e);
-  next = λ p e. place_too w u p same (fits.next p e);
-  no_pending_zero = fits.no_pending_zero;
-  no_enabled_zero = λ e. fits.no_enabled_zero (e ∙ ap (λ n. enables_step ((n + 1) / 64) m.home 0 + 1) same.n);
-}
-
 pub plan_stays : (w u : World) (g : Vcpu) (stay : Stay) → SameMachine w u → PlanStands w g stay → PlanStands u g stay
 plan_stays w u g (stays.Parked kept) same p = tt
 plan_stays w u g (stays.Resident lease) same p = tt
-plan_stays w u g (stays.Moving plan) same p = (fits_still w u (moving_of plan) same p.0, subst (λ n. IsInPhase ((n + 1) / 64) plan) (sym same.n) p.1, p.2, p.3)
+plan_stays w u g (stays.Moving plan) same p = (fits_still w u (moving_of plan) same p.0, phase_still w u plan same p.1, p.2, p.3)
 
 -- a deed was done at the file of a virtual hart, which its places hold then
 pub guest_done : (x y : CoreState) (h : History) (event : Event) (g : Vcpu) → IsQuiet h event → SameMachine x.world y.world → (record_of y g).stay ≡ (record_of x g).stay → (record_of y g).select ≡ select_after (guest_deed g h event) (record_of x g).select

@@ -3,3 +3,4 @@ mod StepLemmas
 pub mod MadeView
 pub mod TouchLemmas
 pub mod MoveKept
+pub mod MachineLemmas

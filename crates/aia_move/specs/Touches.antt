@@ -18,6 +18,14 @@ use Rattle.aia_fabric.specs.Stores.{Posts}
 use Rattle.aia_fabric.specs.Changes.{spot_of}
 use Rattle.aia_move.specs.Move.{Moving, mover}
 
+-- Two worlds are those of one machine: its greatest identity, its harts with their guest files, and
+-- its VMs are the same, as they are before and after each line but that of a new VM.
+pub record SameMachine (w u : World) : Type 0 where
+  pub n : u.n ≡ w.n
+  pub vms : u.vms ≡ w.vms
+  pub harts : u.imsic.harts ≡ w.imsic.harts
+  pub guests : u.imsic.guests ≡ w.imsic.guests
+
 -- Whether an access sends the notice.
 abbrev pub sends : Access → Hand → Bool
 sends Post hand = hand.seen

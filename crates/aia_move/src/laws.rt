@@ -16,7 +16,10 @@ ghost use Rattle.aia_fabric.specs.World.{World};
 ghost use Rattle.aia_fabric.specs.Whole.{IsWhole};
 ghost use Rattle.aia_fabric.specs.Changes.{spot_of, view};
 ghost use Rattle.aia_move.specs.Move.{Moving, mover, width, Fits, MakesNext, Goes, Ends};
-ghost use Rattle.aia_move.specs.Touches.{Touches, sends};
+ghost use Rattle.aia_move.specs.Plan.{IsInPhase};
+ghost use Rattle.aia_move.specs.Touches.{SameMachine, Touches, sends};
+
+use crate::plan::Plan;
 
 /// What a step makes of the world shows in the places of the virtual hart that is moved as the
 /// access of that step.
@@ -60,4 +63,15 @@ pub fn a_step_keeps_the_file_of_its_virtual_hart()
         → old_file m.home ≡ Some p
         → Holds (width w) m.who.slot m.who.notice (view w (mover m) m.home) m.home m.hand file saw
         → IsEmpty (shown (file_at u.imsic (spot_of p))) }
+{}
+
+/// What a plan knows of the world is of its own machine alone: it knows the same in every world of
+/// that machine. No step of another plan makes another machine, and no store and no access of the
+/// host, of a device or of a guest does.
+pub fn a_plan_knows_its_machine_alone()
+    ensures fits { (w u : World) (m : Moving) → SameMachine w u → Fits w m → Fits u m }
+    ensures phase { (w u : World) (plan : Plan) → SameMachine w u → IsInPhase (width w) plan
+        → IsInPhase (width u) plan }
+    ensures steps { (sent : Bool) (w u : World) (other : Moving) → Touches sent w u other
+        → SameMachine w u }
 {}
