@@ -34,8 +34,7 @@ use Rattle.aia_model.specs.Gate.{hgeip_value}
 use Rattle.aia_model.specs.Refusal.{refusal}
 
 -- What a CSR of a file reads: the select number, the selected register, or the identity on top.
--- AIA 1.0, IMSIC, "Top external interrupt CSRs" for the last. A file has no other CSR, and no line
--- names one.
+-- AIA 1.0, IMSIC, "Top external interrupt CSRs" for the last. A file has no other CSR.
 abbrev pub csr_shown : ℕ → InterruptFile → Csr → ℕ
 csr_shown select file Select = select
 csr_shown select file Reg = register_value file (register_of select)

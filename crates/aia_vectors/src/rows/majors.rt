@@ -129,32 +129,6 @@ pub fn ties_of_majors()
     ensures { answers (script_of TIES_OF_MAJORS) ≡ answers_of TIES_OF_MAJORS }
 {}
 
-/// A threshold and eidelivery go with a shift, and hgeip shows the new guest file.
-pub const NUMBERS_GO_WITH_A_SHIFT: [(&str, &str); 17] = [
-    ("machine 1 2 63 8", "ok"),
-    ("vm 1 0x8 0", "ok"),
-    ("arrive 0 0 0", "ok"),
-    ("g 0 0 csrrw siselect 0x72", "0x0000000000000000"),
-    ("g 0 0 csrrw sireg 6", "0x0000000000000000"),
-    ("g 0 0 csrrw siselect 0xc0", "0x0000000000000072"),
-    ("g 0 0 csrrw sireg 0x60", "0x0000000000000000"),
-    ("g 0 0 csrrw siselect 0x70", "0x00000000000000c0"),
-    ("g 0 0 csrrw sireg 1", "0x0000000000000000"),
-    ("msi 0 0x28000000 6", "ok"),
-    ("shift 0 0 0", "ok"),
-    ("g 0 0 csrr sireg", "0x0000000000000001"),
-    ("g 0 0 csrr stopei", "0x0000000000000000"),
-    ("h 0 hgeip", "0x0000000000000000"),
-    ("msi 0 0x28000000 5", "ok"),
-    ("g 0 0 csrr stopei", "0x0000000000050005"),
-    ("h 0 hgeip", "0x0000000000000004"),
-];
-
-/// Proves that the model answers [`NUMBERS_GO_WITH_A_SHIFT`] as it says.
-pub fn numbers_go_with_a_shift()
-    ensures { answers (script_of NUMBERS_GO_WITH_A_SHIFT) ≡ answers_of NUMBERS_GO_WITH_A_SHIFT }
-{}
-
 /// Each CSR instruction on sip and sie: which bits a guest sets and clears, and what it read
 /// before; csrrs and csrrc read the signal of the file at bit 9 of sip, and keep nothing of it.
 pub const SIP_AND_SIE_BY_EACH_INSTRUCTION: [(&str, &str); 25] = [
@@ -266,7 +240,7 @@ pub fn majors_of_parked_virtual_harts()
 {}
 
 /// All rows of this file, each with its name.
-pub const ROWS: [Row; 8] = [
+pub const ROWS: [Row; 7] = [
     Row {
         name: "MAJORS_OF_A_VIRTUAL_HART",
         pairs: &MAJORS_OF_A_VIRTUAL_HART,
@@ -282,10 +256,6 @@ pub const ROWS: [Row; 8] = [
     Row {
         name: "TIES_OF_MAJORS",
         pairs: &TIES_OF_MAJORS,
-    },
-    Row {
-        name: "NUMBERS_GO_WITH_A_SHIFT",
-        pairs: &NUMBERS_GO_WITH_A_SHIFT,
     },
     Row {
         name: "SIP_AND_SIE_BY_EACH_INSTRUCTION",

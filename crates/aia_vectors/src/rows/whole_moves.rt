@@ -186,8 +186,34 @@ pub fn leave_posts_what_its_looks_saw()
         ≡ answers_of LEAVE_POSTS_WHAT_ITS_LOOKS_SAW }
 {}
 
+/// A threshold and eidelivery go with a shift, and hgeip shows the new guest file.
+pub const NUMBERS_GO_WITH_A_SHIFT: [(&str, &str); 17] = [
+    ("machine 1 2 63 8", "ok"),
+    ("vm 1 0x8 0", "ok"),
+    ("arrive 0 0 0", "ok"),
+    ("g 0 0 csrrw siselect 0x72", "0x0000000000000000"),
+    ("g 0 0 csrrw sireg 6", "0x0000000000000000"),
+    ("g 0 0 csrrw siselect 0xc0", "0x0000000000000072"),
+    ("g 0 0 csrrw sireg 0x60", "0x0000000000000000"),
+    ("g 0 0 csrrw siselect 0x70", "0x00000000000000c0"),
+    ("g 0 0 csrrw sireg 1", "0x0000000000000000"),
+    ("msi 0 0x28000000 6", "ok"),
+    ("shift 0 0 0", "ok"),
+    ("g 0 0 csrr sireg", "0x0000000000000001"),
+    ("g 0 0 csrr stopei", "0x0000000000000000"),
+    ("h 0 hgeip", "0x0000000000000000"),
+    ("msi 0 0x28000000 5", "ok"),
+    ("g 0 0 csrr stopei", "0x0000000000050005"),
+    ("h 0 hgeip", "0x0000000000000004"),
+];
+
+/// Proves that the model answers [`NUMBERS_GO_WITH_A_SHIFT`] as it says.
+pub fn numbers_go_with_a_shift()
+    ensures { answers (script_of NUMBERS_GO_WITH_A_SHIFT) ≡ answers_of NUMBERS_GO_WITH_A_SHIFT }
+{}
+
 /// All rows of this file, each with its name.
-pub const ROWS: [Row; 7] = [
+pub const ROWS: [Row; 8] = [
     Row {
         name: "SELECT_NUMBERS_AND_THEIR_FAULTS",
         pairs: &SELECT_NUMBERS_AND_THEIR_FAULTS,
@@ -215,5 +241,9 @@ pub const ROWS: [Row; 7] = [
     Row {
         name: "LEAVE_POSTS_WHAT_ITS_LOOKS_SAW",
         pairs: &LEAVE_POSTS_WHAT_ITS_LOOKS_SAW,
+    },
+    Row {
+        name: "NUMBERS_GO_WITH_A_SHIFT",
+        pairs: &NUMBERS_GO_WITH_A_SHIFT,
     },
 ];
