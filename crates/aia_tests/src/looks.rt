@@ -5,12 +5,12 @@ use std::fmt::Debug;
 use std::process::Abort;
 
 /// Ends the test where it got another value than it wants.
-pub fn is_same<T: Copy + PartialEq + Debug>(rt: &impl Abort, got: T, want: T) {
+pub(crate) fn is_same<T: Copy + PartialEq + Debug>(rt: &impl Abort, got: T, want: T) {
     assert_eq!(rt; got, want);
 }
 
 /// Ends the test where it got another value than it wants in this case of a table.
-pub fn is_same_in<T: Copy + PartialEq + Debug, C: Copy + Debug>(
+pub(crate) fn is_same_in<T: Copy + PartialEq + Debug, C: Copy + Debug>(
     rt: &impl Abort,
     got: T,
     want: T,
@@ -20,7 +20,7 @@ pub fn is_same_in<T: Copy + PartialEq + Debug, C: Copy + Debug>(
 }
 
 /// Ends the test where a fact does not hold.
-pub fn holds(rt: &impl Abort, fact: bool) {
+pub(crate) fn holds(rt: &impl Abort, fact: bool) {
     assert!(rt; fact);
 }
 
