@@ -1,5 +1,6 @@
 # Reads the rows of one subject, and writes their theorems, scripts and answers; suite/make runs it.
-# Variables: `top`, the folder to write below, and `subject`, the name of the rows' file.
+# Variables: `top`, the folder to write below; `source`, the rows' file below it, and `subject`, its
+# name; `crate`, where the theorems go.
 
 function fail(why) {
   print FILENAME ":" FNR ": " why > "/dev/stderr"
@@ -160,14 +161,14 @@ END {
   if (failed) exit 1
   end_row()
   if (failed) exit 1
-  file = top "/crates/aia_vectors/src/rows/" subject ".rt"
+  file = top "/crates/" crate "/src/rows/" subject ".rt"
   printf "%s//!\n", head > file
-  print "//! Made of suite/rows/" subject ".rows by suite/make: edit the rows.\n" > file
+  print "//! Made of " source " by suite/make: edit the rows.\n" > file
   print "ghost use Rattle.std.specs.Prelude.{◌≡◌};" > file
   print "ghost use Rattle.aia_model.specs.Script.{answers};" > file
   others = uses_unended ? "unended_script_of, " : ""
   print "ghost use Rattle.aia_vectors.specs.Rows.{script_of, " others "answers_of};\n" > file
-  print "use crate::row::Row;" > file
+  print "use " (crate == "aia_vectors" ? "crate" : "aia_vectors") "::row::Row;" > file
   printf "%s\n", theorems > file
   print "/// All rows of this file, each with its name." > file
   printf "pub const ROWS: [Row; %d] = %s;\n", rows, row_list() > file

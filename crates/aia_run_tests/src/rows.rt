@@ -2,10 +2,12 @@
 //! rows that a test names.
 
 use crate::runs::replays;
+use aia_guest_vectors::rows::{
+    examples_of_guests, greatest_file, majors, stepwise_moves, virtual_machines, whole_moves,
+};
 use aia_vectors::row::Row;
 use aia_vectors::rows::{
-    direct_delivery, entries, examples, examples_of_guests, files, lines, machines, majors,
-    msi_delivery, registers, sources, stepwise_moves, virtual_machines, whole_moves,
+    direct_delivery, entries, examples, files, lines, machines, msi_delivery, registers, sources,
 };
 use std::alloc::{AllocError, Global};
 use std::process::Abort;
@@ -136,6 +138,15 @@ fn rows_of_examples_of_guests_print_their_answers_whatever_the_pieces(
 fn rows_of_majors_print_their_answers_whatever_the_pieces(rt: HostRuntime) -> Result<(), Fail> {
     let alloc = rt.alloc();
     replays_all(&rt, alloc, &majors::ROWS)?;
+    Ok(())
+}
+
+#[test]
+fn rows_of_the_greatest_file_print_their_answers_whatever_the_pieces(
+    rt: HostRuntime,
+) -> Result<(), Fail> {
+    let alloc = rt.alloc();
+    replays_all(&rt, alloc, &greatest_file::ROWS)?;
     Ok(())
 }
 

@@ -1,12 +1,12 @@
 //! The majors of virtual harts: what the hypervisor sets of them, and what guests read.
 //!
-//! Made of suite/rows/majors.rows by suite/make: edit the rows.
+//! Made of suite/rows/guests/majors.rows by suite/make: edit the rows.
 
 ghost use Rattle.std.specs.Prelude.{◌≡◌};
 ghost use Rattle.aia_model.specs.Script.{answers};
 ghost use Rattle.aia_vectors.specs.Rows.{script_of, answers_of};
 
-use crate::row::Row;
+use aia_vectors::row::Row;
 
 /// What stopi shows of the external interrupt and an injected one, by the bytes of hviprio1 and by
 /// the fields of hvictl; sip reads the external one by the signal of the file; VTI keeps sip away.

@@ -1,12 +1,12 @@
 //! The scripts of examples/, for a reader.
 //!
-//! Made of suite/rows/examples_of_guests.rows by suite/make: edit the rows.
+//! Made of suite/rows/guests/examples_of_guests.rows by suite/make: edit the rows.
 
 ghost use Rattle.std.specs.Prelude.{◌≡◌};
 ghost use Rattle.aia_model.specs.Script.{answers};
 ghost use Rattle.aia_vectors.specs.Rows.{script_of, answers_of};
 
-use crate::row::Row;
+use aia_vectors::row::Row;
 
 /// What an entry of an MSI page table means, and where an MSI of a VM's device goes.
 pub const VIRTUAL_MACHINES_EXAMPLE: [(&str, &str); 87] = [

@@ -1,12 +1,12 @@
 //! VMs: which may be made, and where the MSIs of their devices go.
 //!
-//! Made of suite/rows/virtual_machines.rows by suite/make: edit the rows.
+//! Made of suite/rows/guests/virtual_machines.rows by suite/make: edit the rows.
 
 ghost use Rattle.std.specs.Prelude.{◌≡◌};
 ghost use Rattle.aia_model.specs.Script.{answers};
 ghost use Rattle.aia_vectors.specs.Rows.{script_of, answers_of};
 
-use crate::row::Row;
+use aia_vectors::row::Row;
 
 /// A VM of two virtual harts: which MSIs of its device name a file, which name none and which are
 /// no MSIs of the VM; and VMs that may not be made.

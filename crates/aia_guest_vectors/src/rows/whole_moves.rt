@@ -1,12 +1,12 @@
 //! Whole moves of virtual harts, and what they do while they are resident.
 //!
-//! Made of suite/rows/whole_moves.rows by suite/make: edit the rows.
+//! Made of suite/rows/guests/whole_moves.rows by suite/make: edit the rows.
 
 ghost use Rattle.std.specs.Prelude.{◌≡◌};
 ghost use Rattle.aia_model.specs.Script.{answers};
 ghost use Rattle.aia_vectors.specs.Rows.{script_of, answers_of};
 
-use crate::row::Row;
+use aia_vectors::row::Row;
 
 /// A select number of the host and one of a virtual hart that is resident: which registers read 0,
 /// and which accesses are refused, for the host as illegal, for the guest as virtual.

@@ -1,0 +1,4 @@
+//! Worked scripts of VMs and guests, each line with its answer beside it, as theorems of the model.
+#![tactic(auto)]
+
+pub mod rows;
