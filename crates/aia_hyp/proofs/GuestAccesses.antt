@@ -55,7 +55,8 @@ use Rattle.aia_hyp.specs.HostFiles.{host_spot, select_place}
 use Rattle.aia_move.specs.Plan.{moving_of}
 use Rattle.aia_hyp.specs.Stands.{PlanStands, StandsForSome, VcpuStands, is_held, CoreStands, CoreTakes}
 use Rattle.aia_hyp.proofs.NameLemmas.{no_guest, is_hosts}
-use Rattle.aia_hyp.proofs.VcpuLemmas.{SameMachine, IsHeld, same_place, is_itself_place, quiet_line, MajorsRest, guest_rests, guest_done, files_alone}
+use Rattle.aia_move.specs.Touches.{SameMachine}
+use Rattle.aia_hyp.proofs.VcpuLemmas.{IsHeld, same_place, is_itself_place, quiet_line, MajorsRest, guest_rests, guest_done, files_alone}
 use Rattle.aia_hyp.proofs.EventLemmas.{Changes, as_it_was, accepted, refused}
 use Rattle.aia_hyp.proofs.GuestStores.{not_out, slots_apart, resident_seen}
 use Rattle.aia_hyp.proofs.WithinLemmas.{guest_within, guest_n, guest_sound, within_after}

@@ -58,7 +58,8 @@ use Rattle.aia_hyp.specs.Core.{CoreState, no_record, record_of, hand_in}
 use Rattle.aia_hyp.specs.HostFiles.{FileDone, host_spot, select_place}
 use Rattle.aia_hyp.specs.Stands.{VcpuStands, is_held, CoreStands}
 use Rattle.aia_hyp.proofs.NameLemmas.{no_guest, is_hosts, other_spot}
-use Rattle.aia_hyp.proofs.VcpuLemmas.{IsQuiet, SameMachine, SameFor, IsHeld, same_place, is_itself_place, own_held, next_held, MajorsRest, guest_rests, guest_done, files_alone}
+use Rattle.aia_move.specs.Touches.{SameMachine}
+use Rattle.aia_hyp.proofs.VcpuLemmas.{IsQuiet, SameFor, IsHeld, same_place, is_itself_place, own_held, next_held, MajorsRest, guest_rests, guest_done, files_alone}
 use Rattle.aia_hyp.proofs.EventLemmas.{Changes, count_after, as_it_was}
 use Rattle.aia_hyp.proofs.WithinLemmas.{guest_within}
 

@@ -49,7 +49,8 @@ use Rattle.aia_hyp.specs.declared.vcpu.VcpuRecord.{VcpuRecord}
 use Rattle.aia_hyp.specs.Core.{CoreState, no_record, record_of, hand_in, resident_at, MajorsDone}
 use Rattle.aia_hyp.specs.HostFiles.{FileDone, host_spot, select_place}
 use Rattle.aia_hyp.specs.Stands.{VcpuStands, CoreStands, CoreTakes, answer_by}
-use Rattle.aia_hyp.proofs.VcpuLemmas.{IsQuiet, SameMachine, SameFor, IsHeld, same_view, quiet_line, guest_done, guest_rests, MajorsRest}
+use Rattle.aia_move.specs.Touches.{SameMachine}
+use Rattle.aia_hyp.proofs.VcpuLemmas.{IsQuiet, SameFor, IsHeld, same_view, quiet_line, guest_done, guest_rests, MajorsRest}
 use Rattle.aia_hyp.proofs.EventLemmas.{Changes, count_after, as_it_was, accepted, refused}
 use Rattle.aia_hyp.proofs.GuestStores.{slots_apart}
 use Rattle.aia_hyp.proofs.GuestAccesses.{there_in, access_by, refusal_there, own_is, is_home_at}

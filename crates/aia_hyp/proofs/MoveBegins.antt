@@ -37,7 +37,8 @@ use Rattle.aia_hyp.specs.declared.vcpu.VcpuRecord.{VcpuRecord}
 use Rattle.aia_hyp.specs.Core.{CoreState, no_record, record_of, home_in, hand_in}
 use Rattle.aia_hyp.specs.HostFiles.{host_spot, select_place}
 use Rattle.aia_hyp.specs.Stands.{PlanStands, VcpuStands, is_held, CoreStands}
-use Rattle.aia_hyp.proofs.VcpuLemmas.{IsHeld, SameMachine, majors_rest, same_place, own_held, next_held}
+use Rattle.aia_move.specs.Touches.{SameMachine}
+use Rattle.aia_hyp.proofs.VcpuLemmas.{IsHeld, majors_rest, same_place, own_held, next_held}
 use Rattle.aia_hyp.proofs.EventLemmas.{as_it_was}
 use Rattle.aia_pool.proofs.LeaseLemmas.{out_here, out_elsewhere}
 use Rattle.aia_hyp.proofs.LeaseLemmas.{in_pool}

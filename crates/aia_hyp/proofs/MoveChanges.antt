@@ -37,7 +37,8 @@ use Rattle.aia_hyp.specs.declared.vcpu.VcpuRecord.{VcpuRecord}
 use Rattle.aia_hyp.specs.Core.{CoreState, record_of, home_in, hand_in}
 use Rattle.aia_hyp.specs.HostFiles.{FileDone, host_spot}
 use Rattle.aia_hyp.specs.Stands.{PlanStands, VcpuStands, is_held, CoreStands}
-use Rattle.aia_hyp.proofs.VcpuLemmas.{IsHeld, SameMachine, same_n, same_words, select_is, MajorsRest, majors_rest, plan_stays}
+use Rattle.aia_move.specs.Touches.{SameMachine}
+use Rattle.aia_hyp.proofs.VcpuLemmas.{IsHeld, same_n, same_words, select_is, MajorsRest, majors_rest, plan_stays}
 use Rattle.aia_hyp.proofs.NameLemmas.{there_too}
 use Rattle.aia_hyp.proofs.EventLemmas.{count_after, host_more, guest_too, counted_more, notices_step}
 

@@ -34,7 +34,8 @@ use Rattle.aia_hyp.specs.declared.vcpu.VcpuRecord.{VcpuRecord}
 use Rattle.aia_hyp.specs.Core.{CoreState, record_of, home_in, hand_in}
 use Rattle.aia_hyp.specs.HostFiles.{FileDone, host_spot}
 use Rattle.aia_hyp.specs.Stands.{PlanStands, VcpuStands, is_held, CoreStands}
-use Rattle.aia_hyp.proofs.VcpuLemmas.{IsHeld, SameMachine}
+use Rattle.aia_move.specs.Touches.{SameMachine}
+use Rattle.aia_hyp.proofs.VcpuLemmas.{IsHeld}
 use Rattle.aia_hyp.proofs.EventLemmas.{count_after}
 use Rattle.aia_hyp.proofs.WithinLemmas.{guest_within}
 use Rattle.aia_hyp.proofs.NoticeLemmas.{sent_where, count_sent, host_sent, step_stages}
