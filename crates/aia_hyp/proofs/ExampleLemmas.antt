@@ -57,7 +57,7 @@ use Rattle.aia_model.specs.Answer.{after, steps_taken, steps_of, whole_move}
 use Rattle.aia_model.proofs.MoveLemmas.{home_step, is_another}
 use Rattle.aia_hyp.specs.HostFiles.{host_spot}
 use Rattle.aia_hyp.specs.Stands.{HostStands, VcpuStands, HoldApart, is_held, CoreStands}
-use Rattle.aia_hyp.specs.Example.{stayer, leaver, stayer_file, leaver_file, made_history, stayer_arrived, both_arrived, before_leaving, after_lines, earlier_lines, leave_line, empty_state, drained_state, example_files, entry_words, example_memory, example_world, leave_under_way, leaving_core, leaving_history}
+use Rattle.aia_hyp.specs.Example.{stayer, leaver, stayer_file, leaver_file, made_history, stayer_arrived, both_arrived, before_leaving, after_lines, earlier_lines, leave_lines, empty_state, drained_state, example_files, entry_words, example_memory, example_world, leave_under_way, leaving_core, leaving_history}
 use Rattle.aia_hyp.proofs.VcpuLemmas.{IsHeld, same_place}
 
 -- ---- the history
@@ -547,10 +547,6 @@ leaving_whole = record {
 
 -- ---- the lines that lead there
 
-pub leaving_lines : after_lines [] earlier_lines ≡ before_leaving
+pub leaving_lines : after_lines [] (earlier_lines ++ leave_lines) ≡ leaving_history
 unfolding after home least_of look_saw file_by select_by ones all_senders genmsi_waits newest
 leaving_lines = refl
-
-pub leave_taken : refusal before_leaving leave_line ≡ None
-unfolding home least_of look_saw file_by select_by ones
-leave_taken = refl

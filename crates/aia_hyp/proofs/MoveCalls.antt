@@ -34,7 +34,7 @@ use Rattle.aia_hyp.specs.declared.vcpu.Stay.{Stay}
 use Rattle.aia_hyp.specs.declared.vcpu.Stay.TheVariants as stays
 use Rattle.aia_hyp.specs.declared.vcpu.VcpuRecord.{VcpuRecord}
 use Rattle.aia_hyp.specs.Core.{CoreState, no_record, record_of, home_in}
-use Rattle.aia_hyp.specs.Moves.{WantBegins, MoveBegins, stay_after, back_of, with_back, IsOutThere, stay_then, back_then, is_finished, steps_left, left_in, MoveGoes}
+use Rattle.aia_hyp.specs.Moves.{MakesOne, WantBegins, MoveBegins, stay_after, back_of, with_back, IsOutThere, stay_then, back_then, is_finished, steps_left, left_in, MoveGoes}
 use Rattle.aia_hyp.specs.Stands.{PlanStands, CoreStands, StandsForSome}
 use Rattle.aia_hyp.proofs.LeaseLemmas.{in_pool}
 use Rattle.aia_hyp.proofs.MoveSteps as steps
@@ -183,6 +183,10 @@ module _ (x y : CoreState) (who : Who) (plan : Plan) where
   at_last_by : (h : History) (r : VcpuRecord) (hand : Hand) (b : Bool) → StepOf x y h (vcpu who.vm who.vcpu) plan r hand → is_at_last (width x.world) (moving_of plan).home ≡ b → b ≡ is_at_last (file_words h) (home h (vcpu who.vm who.vcpu))
   at_last_by h r hand b s e = sym e ∙ (λ k. is_at_last (steps.same_words x y h its plan r hand s k) (steps.same_home x y h its plan r hand s k))
 
+  -- the plan of its record is the one that was taken out of it
+  same_plan : (other : Plan) → stays.Moving plan ≡ stays.Moving other → MakesOne x.world (moving_of plan) y.world → MakesOne x.world (moving_of other) y.world
+  same_plan other e one = let same : plan ≡ other = cc in subst (λ (p : Plan). MakesOne x.world (moving_of p) y.world) same one
+
   pub step_goes : (next : Next) → Made x y who plan next → MoveGoes x y (vcpu who.vm who.vcpu) (is_finished next)
   step_goes (Again later) c =
       let some = c.swapped.some in
@@ -196,6 +200,7 @@ module _ (x y : CoreState) (who : Who) (plan : Plan) where
         stands = λ h stands. goes_stands x y h its plan later (its_record (stays.Moving later)) (goes_on later h stands c);
         at_last = λ h stands. at_last_by h (its_record (stays.Moving later)) (moving_of later).hand false (goes_on later h stands c).step_of c.goes.more;
         moving = λ e. ap (λ (r : VcpuRecord). is_moving (home_in r.stay)) kept ∙ later_moving x y some.past its plan later (its_record (stays.Moving later)) now;
+        makes = λ other e. same_plan other (sym was ∙ e) ((moving_of later).hand, c.goes.step);
         fewer = λ e. subst (λ n. n < left_in x its) (sym same) (subst (λ s. steps_left (width x.world) (one_more (moving_of plan).home) < steps_left (width x.world) (home_in s)) (sym was) less);
       }
   step_goes (Finished o) c = record {
@@ -203,6 +208,7 @@ module _ (x y : CoreState) (who : Who) (plan : Plan) where
     at_last = λ h stands. at_last_by h (its_record (stay_after o)) (moving_of plan).hand true (ends_it o h stands c).step_of c.goes.ends.last;
     moving = λ e. absurd (true≢false e);
     fewer = λ e. absurd (true≢false e);
+    makes = λ other e. same_plan other (sym (ends_it o c.swapped.some.past c.swapped.some.stands c).step_of.was ∙ e) ((moving_of plan).hand, c.goes.ends.step);
   }
 
 -- it stands for some history still

@@ -3,7 +3,17 @@ use Rattle.std.proofs.Common.{◌≡◌, ℕ, Bool, true, false, not, cond, List
 use Rattle.std.proofs.lemmas.Bool.{cond-true, cond-false}
 use Rattle.std.proofs.lemmas.Option.{none-some}
 use Rattle.aia_home.specs.declared.vm.Vm.{Vm}
-use Rattle.aia_home.specs.Vms.{Vcpu, vcpu, is_vcpu_in}
+use Rattle.aia_home.specs.Vms.{Vcpu, vcpu, is_vcpu_in, slot_of, notice_hart}
+use Rattle.aia_home.specs.Routes.{devices_reach, peers_reach}
+use Rattle.aia_places.specs.View.{leads_to}
+use Rattle.aia_places.specs.Holds.{Holds}
+use Rattle.aia_entry.specs.Tables.{table_of, entry_in_force}
+use Rattle.aia_fabric.specs.World.{stage_of}
+use Rattle.aia_fabric.specs.Changes.{view}
+use Rattle.aia_move.specs.declared.plan.Plan.{Plan}
+use Rattle.aia_model.specs.declared.line.Line.{Line}
+use Rattle.aia_model.specs.GuestFile.{guest_file}
+use Rattle.aia_model.specs.Notice.{a_look_saw}
 use Rattle.aia_home.specs.Home.{is_moving, is_at_last}
 use Rattle.aia_move.specs.declared.who.Who.{Who}
 use Rattle.aia_move.specs.Move.{IsWho}
@@ -12,7 +22,7 @@ use Rattle.aia_model.specs.declared.answer.Answer.TheVariants.{Okay, Refused}
 use Rattle.aia_model.specs.declared.refusal.Refusal.TheVariants.{Range, Idle}
 use Rattle.aia_model.specs.declared.line.Line.TheVariants.{Step}
 use Rattle.aia_model.specs.Event.{History, file_words}
-use Rattle.aia_model.specs.Vms.{has_vcpu}
+use Rattle.aia_model.specs.Vms.{vms_of, has_vcpu}
 use Rattle.aia_model.specs.HomeOf.{home}
 use Rattle.aia_model.specs.Refusal.{refusal}
 use Rattle.aia_model.specs.Answer.{answer, accepted_answer}
@@ -21,9 +31,9 @@ use Rattle.aia_hyp.specs.declared.moves.Want.{Want}
 use Rattle.aia_hyp.specs.declared.moves.Want.TheVariants as wants
 use Rattle.aia_hyp.specs.declared.vcpu.Stay.{Stay}
 use Rattle.aia_hyp.specs.declared.vcpu.Stay.TheVariants as stays
-use Rattle.aia_hyp.specs.Core.{CoreState, record_of, home_in, has_plan}
+use Rattle.aia_hyp.specs.Core.{CoreState, record_of, home_in, hand_in, has_plan}
 use Rattle.aia_hyp.specs.Stands.{PlanStands, StandsForSome, CoreStands, CoreTakes, line_served}
-use Rattle.aia_hyp.specs.Moves.{move_line, begin_line, wanted_move, move_begun, MoveBegins, MoveGoes, step_answer}
+use Rattle.aia_hyp.specs.Moves.{move_line, begin_line, wanted_move, move_begun, MoveBegins, MoveGoes, step_answer, KnowsIts}
 use Rattle.aia_hyp.proofs.EventLemmas.{by_refusal, refused}
 
 -- ---- a beginning
@@ -94,3 +104,23 @@ step_idle x who is idle = refused x (Step who.vm who.vcpu) (Refused Idle) (λ h 
 pub no_step : (x : CoreState) (vm number : ℕ) → is_vcpu_in x.world.vms (vcpu vm number) ≡ false → CoreTakes x x (Step vm number) (Refused Range)
 no_step x vm number outside = refused x (Step vm number) (Refused Range) (λ h stands.
     step_refusal h vm number stands.there ∙ cond-true _ _ _ (ap not (subst (λ (vs : List Vm). is_vcpu_in vs (vcpu vm number) ≡ false) stands.vms outside)))
+
+-- ---- what a plan knows
+
+knows : (x : CoreState) (h : History) (g : Vcpu) (plan : Plan) → CoreStands x h → has_vcpu h g ≡ true → (record_of x g).stay ≡ stays.Moving plan → KnowsIts x h g plan
+knows x h g plan stands there is =
+    let stood = stands.vcpus g there in
+    let planned : PlanStands x.world g (stays.Moving plan) = subst (PlanStands x.world g) is stood.plan in
+    record {
+      own = planned.2;
+      same_home = ap home_in (sym is) ∙ stood.same_home;
+      fits = planned.0;
+      phase = planned.1;
+      holds = subst (λ s. Holds (file_words h) (slot_of (vms_of h) g) (notice_hart (vms_of h) g) (view x.world g (home h g)) (home h g) (hand_in s) (guest_file h g) (a_look_saw h g)) is stood.holds;
+    }
+
+pub knows_after : (x y : CoreState) (line : Line) (given : Answer) (h : History) (g : Vcpu) (plan : Plan) → CoreTakes x y line given → CoreStands x h → has_vcpu (line_served (refusal h line) h line) g ≡ true → (record_of y g).stay ≡ stays.Moving plan → KnowsIts y (line_served (refusal h line) h line) g plan
+knows_after x y line given h g plan takes stands there is = knows y (line_served (refusal h line) h line) g plan (takes.stands h stands) there is
+
+pub in_force : (x : CoreState) (h : History) (g : Vcpu) → CoreStands x h → has_vcpu h g ≡ true → (entry_in_force (table_of x.world.tables g.vm) g.number ≡ leads_to (slot_of (vms_of h) g) (notice_hart (vms_of h) g) (devices_reach (home h g))) × ((stage_of x.world g).in_force ≡ peers_reach (home h g))
+in_force x h g stands there = let routes = (stands.vcpus g there).holds.routes in (routes.in_force, routes.stage_in_force)

@@ -64,14 +64,14 @@ before_leaving = Accepted (lines.Ipi 0 0 1 1)
 abbrev pub leaving_history : History
 leaving_history = steps_taken 7 leaver (Began (Leaves leaver) ∷ before_leaving)
 
--- The lines that lead to it, up to the one whose move is under way, and that one.
+-- The lines that lead to it: up to the move that is under way, and those of that move.
 abbrev pub earlier_lines : List Line
 earlier_lines = lines.Machine 1 3 63 1 ∷ lines.Vm 2 8 0 ∷ lines.Arrive 0 0 0 ∷ lines.Arrive 0 1 0
     ∷ guest_write Select 0x70 ∷ guest_write Reg 1
     ∷ guest_write Select 0xc0 ∷ guest_write Reg 2 ∷ lines.Ipi 0 0 1 1 ∷ []
 
-abbrev pub leave_line : Line
-leave_line = lines.Leave 0 1
+abbrev pub leave_lines : List Line
+leave_lines = lines.BeginLeave 0 1 ∷ replicate 7 (lines.Step 0 1)
 
 -- The history after lines, the first of a list first.
 abbrev pub after_lines : History → List Line → History

@@ -1,10 +1,10 @@
 -- The moves of virtual harts in the core: what is wanted, and what each call makes of it.
 use Rattle.std.specs.Prelude.{◌≡◌, ℕ, ◌-◌, ◌<◌, ◌≤◌, Bool, true, false, if◌then◌else◌, ◌∷◌, Option, Some, None}
 use Rattle.aia_home.specs.declared.place.Place.{Place}
-use Rattle.aia_home.specs.Vms.{Vcpu, vcpu}
+use Rattle.aia_home.specs.Vms.{Vcpu, vcpu, slot_of, notice_hart}
 use Rattle.aia_home.specs.Home.{Home, at_first, is_moving, is_at_last, leave_steps, arrive_steps, shift_steps}
 use Rattle.aia_home.specs.Home.Home.{Leaving, Arriving, Shifting}
-use Rattle.aia_places.specs.Holds.{Hand}
+use Rattle.aia_places.specs.Holds.{Hand, Holds}
 use Rattle.aia_pool.specs.Leases.{Leases, IsFileThere, is_out, least_free, with_out}
 use Rattle.aia_model.specs.declared.answer.Answer.{Answer}
 use Rattle.aia_model.specs.declared.answer.Answer.TheVariants.{Okay, Done, Refused}
@@ -25,7 +25,13 @@ use Rattle.aia_move.specs.declared.plan.Next.{Next}
 use Rattle.aia_move.specs.declared.plan.Next.TheVariants.{Again, Finished}
 use Rattle.aia_move.specs.declared.turn.Outcome.{Outcome}
 use Rattle.aia_move.specs.declared.turn.Outcome.TheVariants.{Left, Arrived, Shifted}
-use Rattle.aia_move.specs.Move.{Moving, width}
+use Rattle.aia_move.specs.declared.plan.Plan.{Plan}
+use Rattle.aia_move.specs.Move.{Moving, mover, width, Fits, MakesNext}
+use Rattle.aia_fabric.specs.World.{World}
+use Rattle.aia_fabric.specs.Changes.{view}
+use Rattle.aia_model.specs.Vms.{vms_of}
+use Rattle.aia_model.specs.GuestFile.{guest_file}
+use Rattle.aia_model.specs.Notice.{a_look_saw}
 use Rattle.aia_move.specs.Plan.{moving_of, IsInPhase}
 use Rattle.aia_hyp.specs.declared.moves.Want.{Want}
 use Rattle.aia_hyp.specs.declared.moves.Want.TheVariants as wants
@@ -36,7 +42,7 @@ use Rattle.aia_hyp.specs.Stands.{CoreStands}
 
 -- ---- what is wanted
 
--- The line that makes the move, and the move.
+-- The line that makes the move whole.
 abbrev pub move_line : ℕ → ℕ → Want → Line
 move_line vm number wants.Leave = lines.Leave vm number
 move_line vm number (wants.Arrive hart) = lines.Arrive vm number hart
@@ -48,6 +54,7 @@ begin_line vm number wants.Leave = lines.BeginLeave vm number
 begin_line vm number (wants.Arrive hart) = lines.BeginArrive vm number hart
 begin_line vm number (wants.Shift hart) = lines.BeginShift vm number hart
 
+-- The move.
 abbrev pub wanted_move : Vcpu → Want → Move
 wanted_move g wants.Leave = Leaves g
 wanted_move g (wants.Arrive hart) = Arrives g hart
@@ -191,9 +198,28 @@ steps_left words there = 0
 abbrev pub left_in : CoreState → Vcpu → ℕ
 left_in x g = steps_left (width x.world) (home_in (record_of x g).stay)
 
+-- One access of a move is made, whatever the move then carries, and nothing else of the world is
+-- changed.
+abbrev pub MakesOne : World → Moving → World → Type 0
+MakesOne w m u = (hand : Hand) × MakesNext w m u hand
+
+-- What a plan knows of a virtual hart that is being moved: it is its own, fits the world, and is in
+-- its phase, and its places hold its interrupt file, for the home and the count of steps that the
+-- history gives.
+pub record KnowsIts (x : CoreState) (h : History) (g : Vcpu) (plan : Plan) : Type 0 where
+  pub own : mover (moving_of plan) ≡ g
+  pub same_home : (moving_of plan).home ≡ home h g
+  pub fits : Fits x.world (moving_of plan)
+  pub phase : IsInPhase (width x.world) plan
+  pub holds : Holds (file_words h) (slot_of (vms_of h) g) (notice_hart (vms_of h) g)
+      (view x.world g (home h g)) (home h g) (moving_of plan).hand (guest_file h g)
+      (a_look_saw h g)
+
 -- A step of the move of a virtual hart is done; whether it was the last one.
 pub record MoveGoes (old new : CoreState) (g : Vcpu) (last : Bool) : Type 0 where
   pub stands : (h : History) → CoreStands old h → CoreStands new (Stepped g ∷ h)
   pub at_last : (h : History) → CoreStands old h → last ≡ is_at_last (file_words h) (home h g)
   pub moving : last ≡ false → is_moving (home_in (record_of new g).stay) ≡ true
   pub fewer : last ≡ false → left_in new g < left_in old g
+  pub makes : (plan : Plan) → (record_of old g).stay ≡ stays.Moving plan
+      → MakesOne old.world (moving_of plan) new.world

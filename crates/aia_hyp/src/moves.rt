@@ -1,4 +1,4 @@
-ghost use Rattle.std.specs.Prelude.{◌≡◌, ◌<◌, ◌≤◌, true, false, length, slice_index_or, slice_set, Option, Some, None, IfSome, IfNone};
+ghost use Rattle.std.specs.Prelude.{◌≡◌, ◌<◌, ◌≤◌, true, false, length, slice_index_or, slice_set, Option, Some, None, IfSome, IfNone, OnOk};
 ghost use Rattle.std.specs.Vec.{vec_capacity};
 ghost use Rattle.aia_home.specs.Vms.{vcpu, is_vcpu_in};
 ghost use Rattle.aia_home.specs.Home.{is_moving};
@@ -6,9 +6,10 @@ ghost use Rattle.aia_pool.specs.Leases.{Leases};
 ghost use Rattle.aia_model.specs.declared.line.Line.TheVariants.{Step};
 ghost use Rattle.aia_model.specs.declared.answer.Answer.TheVariants.{Okay};
 ghost use Rattle.aia_move.specs.Move.{IsWho};
+ghost use Rattle.aia_move.specs.Plan.{moving_of};
 ghost use Rattle.aia_hyp.specs.Core.{no_kept, no_record, record_of, home_in, has_plan};
 ghost use Rattle.aia_hyp.specs.Stands.{CoreTakes, answer_by};
-ghost use Rattle.aia_hyp.specs.Moves.{move_line, begin_line, step_answer, WantBegins, LeaveBegins, ArriveBegins, ShiftBegins, MoveBegins, MoveGoes, stay_after, back_of, with_back, IsOutThere, stay_then, back_then, is_finished};
+ghost use Rattle.aia_hyp.specs.Moves.{move_line, begin_line, step_answer, MakesOne, WantBegins, LeaveBegins, ArriveBegins, ShiftBegins, MoveBegins, MoveGoes, stay_after, back_of, with_back, IsOutThere, stay_then, back_then, is_finished};
 
 use crate::hyp::Hyp;
 use crate::vcpu::{Stay, VcpuRecord};
@@ -62,7 +63,10 @@ impl Hyp {
     /// virtual hart isn't there, `Idle` where it is not being moved; nothing is changed then.
     /// Profile.
     pub fn step(&mut self, vm: u64, number: u64) -> Result<bool, Refusal>
-        ensures { CoreTakes self.old self.new (Step vm number) (answer_by step_answer result) }
+        ensures takes { CoreTakes self.old self.new (Step vm number)
+            (answer_by step_answer result) }
+        ensures one { (plan : Plan) → (record_of self.old (vcpu vm number)).stay ≡ Stay.Moving plan
+            → OnOk result (MakesOne self.old.world (moving_of plan) self.new.world) }
     {
         let Some(who) = who_at(&self.fabric, vm, number) else {
             return Err(Refusal::Range);

@@ -109,8 +109,8 @@ steps_of words (Shifts g hart) = shift_steps words
 abbrev pub whole_move : History → Move → History
 whole_move h move = steps_taken (steps_of (file_words h) move) (mover move) (Began move ∷ h)
 
--- An accepted line itself, by what it does of moves; where that is nothing, it is an event of its
--- own.
+-- An accepted line itself, by what it does about moves; where that is nothing, it is an event of
+-- its own.
 abbrev pub deed_taken : History → Line → MoveDeed → History
 deed_taken h line NoMove = Accepted line ∷ h
 deed_taken h line (Whole move) = whole_move h move

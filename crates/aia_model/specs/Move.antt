@@ -28,7 +28,7 @@ abbrev pub is_from_memory : Move → Bool
 is_from_memory (Arrives g hart) = true
 is_from_memory move = false
 
--- What a line does of moves: none, a whole one, the beginning of one, or a step of the one that a
+-- What a line does about moves: nothing, a whole one, the beginning of one, or a step of the one that a
 -- virtual hart is on.
 pub data MoveDeed : Type 0 where
   NoMove : MoveDeed
@@ -46,11 +46,12 @@ move_deed (BeginShift vm number hart) = Begins (Shifts (vcpu vm number) hart)
 move_deed (Step vm number) = Steps (vcpu vm number)
 move_deed line = NoMove
 
--- The move that a line begins, whether or not it does all its steps too.
+-- The move that such a deed begins, whether or not it does all its steps too.
 abbrev pub begun_by : MoveDeed → Option Move
 begun_by (Whole move) = Some move
 begun_by (Begins move) = Some move
-begun_by none = None
+begun_by deed = None
 
+-- The move that a line begins.
 abbrev pub move_of : Line → Option Move
 move_of line = begun_by (move_deed line)

@@ -1,11 +1,17 @@
 //! Laws of the definitions: what holds of every text, and of every file.
 
-ghost use Rattle.std.specs.Prelude.{◌≡◌, ℕ, ◌≤◌, ◌↔◌, List, length, IsTrue};
+ghost use Rattle.std.specs.Prelude.{◌≡◌, ℕ, ◌≤◌, ◌↔◌, List, ◌∷◌, length, IsTrue};
 ghost use Rattle.aia_model.specs.Text.{is_skipped};
 ghost use Rattle.aia_model.specs.Grammar.{Spells, IsListed};
 ghost use Rattle.aia_model.specs.Printing.{line_text, IsPrintable};
 ghost use Rattle.aia_model.specs.Reading.{reading};
 ghost use Rattle.aia_regs.specs.Word.{settle};
+ghost use Rattle.aia_home.specs.Vms.{Vcpu};
+ghost use Rattle.aia_model.specs.Move.{Move};
+ghost use Rattle.aia_model.specs.Event.{History};
+ghost use Rattle.aia_model.specs.Event.Event.{Began, Stepped};
+ghost use Rattle.aia_model.specs.GuestFile.{guest_file, guest_select};
+ghost use Rattle.aia_model.specs.MajorOf.{majors_of};
 ghost use Rattle.aia_file.specs.InterruptFile.{InterruptFile};
 ghost use Rattle.aia_model.specs.FileAfter.{FileDeed, IsMaking, file_after, pending_said, enabled_said};
 
@@ -69,6 +75,20 @@ pub fn newest_word_decides()
         → (¬ IsMaking deed)
         → (file_after select deed file).enabled i
         ≡ settle (enabled_said select file deed i) (file.enabled i) }
+{}
+
+/// No event of a move says anything to a virtual hart: its interrupt file, its select number and its
+/// majors are the same after a move begins and after each step, its own moves or others'. So what a
+/// virtual hart reads is read of one file, wherever that file is kept.
+pub fn moves_say_nothing_to_guests()
+    ensures begun { (move : Move) (h : History) (g : Vcpu)
+        → (guest_file (Began move ∷ h) g ≡ guest_file h g)
+        × (guest_select (Began move ∷ h) g ≡ guest_select h g)
+        × (majors_of (Began move ∷ h) g ≡ majors_of h g) }
+    ensures stepped { (x : Vcpu) (h : History) (g : Vcpu)
+        → (guest_file (Stepped x ∷ h) g ≡ guest_file h g)
+        × (guest_select (Stepped x ∷ h) g ≡ guest_select h g)
+        × (majors_of (Stepped x ∷ h) g ≡ majors_of h g) }
 {}
 
 /// A line has at most 128 bytes.

@@ -19,7 +19,7 @@ use Rattle.aia_fabric.specs.Changes.{spot_of}
 use Rattle.aia_move.specs.Move.{Moving, mover}
 
 -- Two worlds are those of one machine: its greatest identity, its harts with their guest files, and
--- its VMs are the same, as they are before and after each line but that of a new VM.
+-- its VMs are the same.
 pub record SameMachine (w u : World) : Type 0 where
   pub n : u.n ≡ w.n
   pub vms : u.vms ≡ w.vms

@@ -66,8 +66,8 @@ pub fn a_step_keeps_the_file_of_its_virtual_hart()
 {}
 
 /// What a plan knows of the world is of its own machine alone: it knows the same in every world of
-/// that machine. No step of another plan makes another machine, and no store and no access of the
-/// host, of a device or of a guest does.
+/// that machine. No step of another plan makes another machine. That no other call does, and what
+/// becomes of it with a new VM, is said of the hypervisor's core.
 pub fn a_plan_knows_its_machine_alone()
     ensures fits { (w u : World) (m : Moving) → SameMachine w u → Fits w m → Fits u m }
     ensures phase { (w u : World) (plan : Plan) → SameMachine w u → IsInPhase (width w) plan

@@ -493,7 +493,7 @@ pub fn the_signal_during_a_shift()
 
 /// Steps of virtual harts that aren't there or aren't moved, beginnings of moves that can't be, and
 /// words that spell neither.
-pub const STEPS_AND_BEGINNINGS_ARE_REFUSED: [(&str, &str); 45] = [
+pub const STEPS_AND_BEGINNINGS_ARE_REFUSED: [(&str, &str); 55] = [
     ("step 0 0", "nomachine"),
     ("begin leave 0 0", "nomachine"),
     ("machine 2 1 63 8", "ok"),
@@ -506,9 +506,19 @@ pub const STEPS_AND_BEGINNINGS_ARE_REFUSED: [(&str, &str); 45] = [
     ("begin shift 0 0 1", "parked"),
     ("begin arrive 0 0 2", "range"),
     ("begin arrive 1 0 0", "range"),
+    ("begin leave 1 0", "range"),
+    ("begin shift 1 0 0", "range"),
+    ("begin shift 0 0 9", "range"),
+    ("arrive 1 0 0", "range"),
+    ("leave 1 0", "range"),
+    ("shift 1 0 0", "range"),
+    ("g 1 0 ipi 0 1", "range"),
+    ("g 0 2 ipi 0 1", "range"),
     ("begin arrive 0 0 0", "ok"),
     ("begin arrive 0 0 0", "busy"),
     ("begin leave 0 0", "busy"),
+    ("begin shift 0 0 1", "busy"),
+    ("leave 0 0", "busy"),
     ("arrive 0 0 0", "busy"),
     ("shift 0 0 1", "busy"),
     ("shift 0 0 2", "range"),

@@ -1,4 +1,4 @@
-use Rattle.aia_hyp.proofs.ExampleLemmas.{leaving_stands, leaving_whole, stayer_home, leaver_home, leaving_lines, leave_taken}
+use Rattle.aia_hyp.proofs.ExampleLemmas.{leaving_stands, leaving_whole, stayer_home, leaver_home, leaving_lines}
 use Rattle.aia_hyp.proofs.laws.a_core_stands_in_the_middle_of_a_leave.Goals as goal
 
 pub returns-clause-stands : goal.returns-clause-stands
@@ -15,6 +15,3 @@ returns-clause-leaves c = leaver_home
 
 pub returns-clause-lines : goal.returns-clause-lines
 returns-clause-lines c = leaving_lines
-
-pub returns-clause-taken : goal.returns-clause-taken
-returns-clause-taken c = leave_taken
