@@ -762,8 +762,8 @@ pub const STEP_BY_STEP_EXAMPLE: [(&str, &str); 167] = [
     ("h 0 csrrw stopei 0", "0x0000000000010001"),
     ("step 0 0", "moving"),
     (
-        "# After it they reach the guest file, which nobody has put anything into yet: there 13 is \
-         first.",
+        "# After it they reach the guest file, into which no word has been put yet. 13 waits \
+         there.",
         "",
     ),
     ("msi 0 0x28000000 13", "ok"),
