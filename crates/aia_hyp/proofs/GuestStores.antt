@@ -25,7 +25,7 @@ use Rattle.aia_home.specs.Home.Home.{Parked, Resident, Leaving, Arriving, Shifti
 use Rattle.aia_home.specs.Routes.{devices_reach, peers_reach, is_noticed}
 use Rattle.aia_home.specs.BySteps.{own_file, next_file}
 use Rattle.aia_home.proofs.VmLemmas.{slot_below, same_slot}
-use Rattle.aia_home.proofs.AllLemmas.{any_vcpu}
+use Rattle.aia_home.proofs.AllLemmas.{any_vcpu, of_none}
 use Rattle.aia_places.specs.View.{View}
 use Rattle.aia_places.specs.Holds.{Holds, IsWithin}
 use Rattle.aia_places.specs.Stores.{view_landed, AreApart}
@@ -48,6 +48,7 @@ use Rattle.aia_model.specs.FileAfter.{select_after, file_after}
 use Rattle.aia_model.specs.FileAfter.FileDeed.{Stores, Rests}
 use Rattle.aia_model.specs.GuestFile.{guest_deed, guest_file, guest_select}
 use Rattle.aia_major.specs.Kept.{majors_shown}
+use Rattle.aia_pool.specs.Leases.{is_out}
 use Rattle.aia_model.specs.HomeOf.{home}
 use Rattle.aia_model.specs.Notice.{noticed, noticed_by_store, a_look_saw}
 use Rattle.aia_model.specs.FileOf.{FileName, SupervisorFile, deed_at, notice_deed}
@@ -506,3 +507,10 @@ in_the_slot x y h event g offset value c = landed_changes x y h event g offset v
 pub stored_for_guest : (x y : CoreState) (h : History) (event : Event) (g : Vcpu) (reach : Option Place) (offset value : ℕ) → IsStoredFor x y h event g reach offset value → Changes x y h event
 stored_for_guest x y h event g (Some p) offset value c = in_a_file x y h event g p offset value c
 stored_for_guest x y h event g None offset value c = in_the_slot x y h event g offset value c
+
+-- ---- files that nobody holds
+
+pub none_reaches : (x : CoreState) (h : History) (g : Vcpu) (p : Place) → CoreStands x h → has_vcpu h g ≡ true → IsThere x.world.imsic (spot_of p) → is_out x.leases p ≡ false → (devices_reach (home h g) ≢ Some p) × (peers_reach (home h g) ≢ Some p)
+none_reaches x h g p stands there inside free =
+    let none : holds p (home h g) ≡ false = of_none (vms_of h) (λ g. holds p (home h g)) g (sym (stands.leases p inside) ∙ free) there in
+    (λ e. false≢true (sym none ∙ devices_held (home h g) p e), λ e. false≢true (sym none ∙ peers_held (home h g) p e))
