@@ -498,8 +498,311 @@ pub fn the_example_of_an_injected_priority()
     ensures { answers (script_of INJECTED_PRIORITY_EXAMPLE) ≡ answers_of INJECTED_PRIORITY_EXAMPLE }
 {}
 
+/// Requests come at each delicate moment of a leave; none is lost, and the host is told.
+pub const STEP_BY_STEP_EXAMPLE: [(&str, &str); 167] = [
+    (
+        "# A virtual hart leaves its guest file for memory, one step a line, and requests come at \
+         each",
+        "",
+    ),
+    (
+        "# delicate moment between the steps. None is lost, and the host is told where it has to \
+         be. Which",
+        "",
+    ),
+    (
+        "# steps a leave has, and where it sends a notice, are this project's choice.",
+        "",
+    ),
+    ("#", ""),
+    (
+        "# A machine of one hart with two guest files, the identities 1 to 63 and one wired \
+         source. The host",
+        "",
+    ),
+    (
+        "# is told of notices in the supervisor file of hart 0, so it enables the identity of its \
+         first",
+        "",
+    ),
+    ("# virtual hart there: 1.", ""),
+    ("machine 1 2 63 1", "ok"),
+    ("h 0 csrrw siselect 0xc0", "0x0000000000000000"),
+    ("h 0 csrrw sireg 2", "0x0000000000000000"),
+    ("", ""),
+    ("# ---- two virtual harts run", ""),
+    (
+        "# Virtual hart 0 is the one that will leave. Virtual hart 1 goes on running, and asks it \
+         for things.",
+        "",
+    ),
+    ("vm 2 0x8 0", "ok"),
+    ("arrive 0 0 0", "ok"),
+    ("arrive 0 1 0", "ok"),
+    (
+        "# Virtual hart 0 enables the identities 1 to 15, and lets its file signal.",
+        "",
+    ),
+    ("g 0 0 csrrw siselect 0xc0", "0x0000000000000000"),
+    ("g 0 0 csrrw sireg 0xfffe", "0x0000000000000000"),
+    ("g 0 0 csrrw siselect 0x70", "0x00000000000000c0"),
+    ("g 0 0 csrrw sireg 1", "0x0000000000000000"),
+    (
+        "# 3 is pending when the hypervisor takes the virtual hart away.",
+        "",
+    ),
+    ("msi 0 0x28000000 3", "ok"),
+    ("h 0 hgeip", "0x0000000000000002"),
+    ("", ""),
+    ("# ---- the leave begins", ""),
+    (
+        "# `begin` does no step: nothing has been touched yet, and guest file 1 still signals. But \
+         the",
+        "",
+    ),
+    (
+        "# virtual hart runs no more, and no other move of it can begin.",
+        "",
+    ),
+    ("begin leave 0 0", "ok"),
+    ("h 0 hgeip", "0x0000000000000002"),
+    ("g 0 0 csrr stopei", "away"),
+    ("begin shift 0 0 0", "busy"),
+    ("", ""),
+    (
+        "# Step 1 takes eidelivery, so the guest file signals no more.",
+        "",
+    ),
+    ("step 0 0", "moving"),
+    ("h 0 hgeip", "0x0000000000000000"),
+    (
+        "# Steps 2 and 3 write the entry of the MSI page table: where notices go, and that MSIs of \
+         devices go",
+        "",
+    ),
+    ("# to memory.", ""),
+    ("step 0 0", "moving"),
+    ("step 0 0", "moving"),
+    ("", ""),
+    ("# ---- before the fence", ""),
+    (
+        "# What the entry says now is not in force yet: a device's 4 lands in the guest file. \
+         There it is",
+        "",
+    ),
+    ("# pending, and nobody has to be told.", ""),
+    ("msi 0 0x28000000 4", "ok"),
+    ("h 0 csrr stopei", "0x0000000000000000"),
+    ("", ""),
+    ("# ---- after the fence", ""),
+    (
+        "# Step 4 is the fence. From now on what devices ask for goes to memory, while the \
+         identities that",
+        "",
+    ),
+    (
+        "# are pending, and those that are enabled, stand in the guest file still.",
+        "",
+    ),
+    ("step 0 0", "moving"),
+    ("msi 0 0x28000000 5", "ok"),
+    (
+        "# A peer goes by the G stage, which still leads to the guest file: 6 lands there.",
+        "",
+    ),
+    ("g 0 1 ipi 0 6", "ok"),
+    (
+        "# Memory has no enable bit yet, so the request for 5 sends no notice. The leave will look \
+         for such",
+        "",
+    ),
+    ("# requests itself.", ""),
+    ("h 0 csrr stopei", "0x0000000000000000"),
+    (
+        "# Step 5 takes the guest file out of the G stage, and step 6 is the fence of that. From \
+         now on",
+        "",
+    ),
+    (
+        "# nobody reaches the guest file but the hypervisor, so its bits can be taken.",
+        "",
+    ),
+    ("step 0 0", "moving"),
+    ("step 0 0", "moving"),
+    ("g 0 1 ipi 0 7", "ok"),
+    ("", ""),
+    ("# ---- while the word is carried", ""),
+    (
+        "# Step 7 takes the pending word out of the guest file: 3, 4 and 6. It is in neither place \
+         now. A",
+        "",
+    ),
+    ("# device asks for 4 once more, and memory has that.", ""),
+    ("step 0 0", "moving"),
+    ("msi 0 0x28000000 4", "ok"),
+    (
+        "# Step 8 joins the word to that of memory. To write it there would lose 5 and 7, which \
+         came to",
+        "",
+    ),
+    ("# memory before it.", ""),
+    ("step 0 0", "moving"),
+    ("", ""),
+    ("# ---- while the enables are carried", ""),
+    (
+        "# Step 9 takes the enabled word. A request that comes now sends no notice either.",
+        "",
+    ),
+    ("step 0 0", "moving"),
+    ("msi 0 0x28000000 8", "ok"),
+    ("h 0 csrr stopei", "0x0000000000000000"),
+    ("", ""),
+    ("# ---- after the enables are put, and before the look", ""),
+    (
+        "# Step 10 puts the enabled word into memory. From now on a request for an identity that \
+         is enabled",
+        "",
+    ),
+    ("# sends its notice at once. The host claims it.", ""),
+    ("step 0 0", "moving"),
+    ("msi 0 0x28000000 9", "ok"),
+    ("h 0 csrrw stopei 0", "0x0000000000010001"),
+    ("", ""),
+    ("# ---- before the post", ""),
+    (
+        "# Step 11 is the look: it reads both words in memory, and sees that enabled identities \
+         are pending.",
+        "",
+    ),
+    (
+        "# It tells nobody yet. What comes after it sends its own notice.",
+        "",
+    ),
+    ("step 0 0", "moving"),
+    ("h 0 csrr stopei", "0x0000000000000000"),
+    ("msi 0 0x28000000 10", "ok"),
+    ("h 0 csrrw stopei 0", "0x0000000000010001"),
+    (
+        "# Step 12 takes eithreshold, which the hypervisor keeps.",
+        "",
+    ),
+    ("step 0 0", "moving"),
+    (
+        "# Step 13 is the last one, the post. Since the look saw something it sends a notice: of 3 \
+         to 8 no",
+        "",
+    ),
+    (
+        "# store has told the host. Of 9 the host hears twice, which does no harm.",
+        "",
+    ),
+    ("step 0 0", "done"),
+    ("h 0 csrrw stopei 0", "0x0000000000010001"),
+    (
+        "# The virtual hart is parked, and there is no step to be done.",
+        "",
+    ),
+    ("step 0 0", "idle"),
+    ("", ""),
+    ("# ---- what the guest sees", ""),
+    (
+        "# It arrives, and finds each request once, that for 4 too; 11 was not asked for, and is \
+         not there.",
+        "",
+    ),
+    ("arrive 0 0 0", "ok"),
+    ("h 0 hgeip", "0x0000000000000002"),
+    ("g 0 0 csrrw stopei 0", "0x0000000000030003"),
+    ("g 0 0 csrrw stopei 0", "0x0000000000040004"),
+    ("g 0 0 csrrw stopei 0", "0x0000000000050005"),
+    ("g 0 0 csrrw stopei 0", "0x0000000000060006"),
+    ("g 0 0 csrrw stopei 0", "0x0000000000070007"),
+    ("g 0 0 csrrw stopei 0", "0x0000000000080008"),
+    ("g 0 0 csrrw stopei 0", "0x0000000000090009"),
+    ("g 0 0 csrrw stopei 0", "0x00000000000a000a"),
+    ("g 0 0 csrrw stopei 0", "0x0000000000000000"),
+    ("h 0 hgeip", "0x0000000000000000"),
+    ("", ""),
+    ("# ---- a leave whose look sees nothing", ""),
+    (
+        "# With nothing pending the eleven steps up to the look find nothing to tell.",
+        "",
+    ),
+    ("begin leave 0 0", "ok"),
+    ("step 0 0", "moving"),
+    ("step 0 0", "moving"),
+    ("step 0 0", "moving"),
+    ("step 0 0", "moving"),
+    ("step 0 0", "moving"),
+    ("step 0 0", "moving"),
+    ("step 0 0", "moving"),
+    ("step 0 0", "moving"),
+    ("step 0 0", "moving"),
+    ("step 0 0", "moving"),
+    ("step 0 0", "moving"),
+    (
+        "# 11 comes just too late for the look, and sends its notice; the post then sends none.",
+        "",
+    ),
+    ("msi 0 0x28000000 11", "ok"),
+    ("h 0 csrrw stopei 0", "0x0000000000010001"),
+    ("step 0 0", "moving"),
+    ("step 0 0", "done"),
+    ("h 0 csrr stopei", "0x0000000000000000"),
+    ("", ""),
+    ("# ---- and back, with another guest beside it", ""),
+    (
+        "# An arrival has ten steps. Until its fence, step 2, devices reach memory, and the host \
+         is told.",
+        "",
+    ),
+    ("begin arrive 0 0 0", "ok"),
+    ("step 0 0", "moving"),
+    ("msi 0 0x28000000 12", "ok"),
+    ("h 0 csrrw stopei 0", "0x0000000000010001"),
+    ("step 0 0", "moving"),
+    (
+        "# After it they reach the guest file, into which no word has been put yet. 13 waits \
+         there.",
+        "",
+    ),
+    ("msi 0 0x28000000 13", "ok"),
+    ("h 0 csrr stopei", "0x0000000000000000"),
+    (
+        "# In between virtual hart 1 enables 2 of its own file, gets it and claims it.",
+        "",
+    ),
+    ("g 0 1 csrrw siselect 0xc0", "0x0000000000000000"),
+    ("g 0 1 csrrw sireg 4", "0x0000000000000000"),
+    ("msi 0 0x28008000 2", "ok"),
+    ("g 0 1 csrrw stopei 0", "0x0000000000020002"),
+    ("step 0 0", "moving"),
+    ("step 0 0", "moving"),
+    ("step 0 0", "moving"),
+    ("step 0 0", "moving"),
+    ("step 0 0", "moving"),
+    ("step 0 0", "moving"),
+    ("step 0 0", "moving"),
+    (
+        "# The last step puts eidelivery: not before does the guest file signal.",
+        "",
+    ),
+    ("h 0 hgeip", "0x0000000000000000"),
+    ("step 0 0", "done"),
+    ("h 0 hgeip", "0x0000000000000002"),
+    ("g 0 0 csrrw stopei 0", "0x00000000000b000b"),
+    ("g 0 0 csrrw stopei 0", "0x00000000000c000c"),
+    ("g 0 0 csrrw stopei 0", "0x00000000000d000d"),
+    ("g 0 0 csrrw stopei 0", "0x0000000000000000"),
+];
+
+/// Proves that the model answers [`STEP_BY_STEP_EXAMPLE`] as it says.
+pub fn the_example_of_a_leave_step_by_step()
+    ensures { answers (script_of STEP_BY_STEP_EXAMPLE) ≡ answers_of STEP_BY_STEP_EXAMPLE }
+{}
+
 /// All rows of this file, each with its name.
-pub const ROWS: [Row; 3] = [
+pub const ROWS: [Row; 4] = [
     Row {
         name: "VIRTUAL_MACHINES_EXAMPLE",
         pairs: &VIRTUAL_MACHINES_EXAMPLE,
@@ -511,5 +814,9 @@ pub const ROWS: [Row; 3] = [
     Row {
         name: "INJECTED_PRIORITY_EXAMPLE",
         pairs: &INJECTED_PRIORITY_EXAMPLE,
+    },
+    Row {
+        name: "STEP_BY_STEP_EXAMPLE",
+        pairs: &STEP_BY_STEP_EXAMPLE,
     },
 ];
