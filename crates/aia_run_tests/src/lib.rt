@@ -3,6 +3,10 @@
 #![tactic(auto)]
 
 #[cfg(test)]
+mod between_steps;
+#[cfg(test)]
+mod between_steps_table;
+#[cfg(test)]
 mod ends;
 #[cfg(test)]
 mod engine;

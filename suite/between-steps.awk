@@ -1,0 +1,522 @@
+# What suite/between-steps writes; the rules are there in words. `answer` takes a line and gives its
+# answer. A file is `guest VM VCPU`, or `host HART` for the supervisor file of a hart; 64 bits of a
+# set are a word of it.
+
+# ---- numbers
+
+function digit_at(text, place) {
+  return place < 1 ? 0 : index("0123456789abcdef", substr(text, place, 1)) - 1
+}
+
+# Bit b of a number in hexadecimal, without its `0x`; awk's own numbers have 53 bits.
+function bit_of(digits, b) {
+  return int(digit_at(digits, length(digits) - int(b / 4)) / 2 ^ (b % 4)) % 2
+}
+
+function number(text,    value, k) {
+  if (substr(text, 1, 2) != "0x") return text + 0
+  for (k = 3; k <= length(text); k++) value = value * 16 + digit_at(text, k)
+  return value + 0
+}
+
+function wide(value) {
+  return sprintf("x%x", value)
+}
+
+# ---- one file, which never moves
+
+# What a register of a set shows of the 64 identities from `from` on.
+function shown(set, file, from,    digit, b, digits, value) {
+  for (digit = 15; digit >= 0; digit--) {
+    value = 0
+    for (b = 3; b >= 0; b--) value = value * 2 + ((set, file, from + 4 * digit + b) in members)
+    if (digits != "" || value || !digit) digits = digits sprintf("%x", value)
+  }
+  return "x" digits
+}
+
+function set_from(set, file, from, digits,    b) {
+  for (b = 0; b < 64; b++) {
+    delete members[set, file, from + b]
+    if (from + b > 0 && from + b <= greatest && bit_of(digits, b)) members[set, file, from + b]
+  }
+}
+
+function asks(file, i) {
+  if (i >= 1 && i <= greatest) members["pending", file, i]
+}
+
+function is_deliverable_in(file, i) {
+  return ("pending", file, i) in members && ("enabled", file, i) in members
+}
+
+function least(file,    i) {
+  for (i = 1; i <= greatest; i++)
+    if (is_deliverable_in(file, i)) return threshold[file] && i >= threshold[file] ? 0 : i
+  return 0
+}
+
+function signals(file) {
+  return delivery[file] && least(file) ? 1 : 0
+}
+
+# A CSR instruction at a file: csrr, or csrrw with a value.
+function csr_answer(file, name, csr, text,    old, select, i) {
+  if (csr == "stopei") {
+    i = least(file)
+    if (name == "csrrw" && i) delete members["pending", file, i]
+    return wide(i * 65536 + i)
+  }
+  select = selected[file] + 0
+  if (csr == "siselect") {
+    if (name == "csrrw") selected[file] = number(text)
+    return wide(select)
+  }
+  if (select == 112) {
+    old = wide(delivery[file])
+    if (name == "csrrw") delivery[file] = number(text) % 2
+  } else if (select == 114) {
+    old = wide(threshold[file])
+    if (name == "csrrw") threshold[file] = number(text) % (greatest + 1)
+  } else if (select >= 192) {
+    old = shown("enabled", file, 32 * (select - 192))
+    if (name == "csrrw") set_from("enabled", file, 32 * (select - 192), substr(text, 3))
+  } else {
+    old = shown("pending", file, 32 * (select - 128))
+    if (name == "csrrw") set_from("pending", file, 32 * (select - 128), substr(text, 3))
+  }
+  return old
+}
+
+# ---- majors: VTI is 0 here, and 1, 5, 9 and 13 are all enabled
+
+function sip_bit(who, major) {
+  return ((who, major) in injected) || major == 9 && signals("guest " who)
+}
+
+function sip(who,    major, value) {
+  for (major = 1; major < 14; major += 4) value += sip_bit(who, major) * 2 ^ major
+  return value
+}
+
+function stopi(who,    order, k, major, at, best, top) {
+  split("9 1 5 13", order, " ")
+  for (k = 1; k <= 4; k++) {
+    major = order[k]
+    if (!sip_bit(who, major)) continue
+    at = major == 9 ? least("guest " who) : major == 1 ? byte_of_1[who] + 0 : 0
+    if (!at) at = 256
+    if (!top || at < best) {
+      top = major
+      best = at
+    }
+  }
+  return wide(top * 65536 + (top ? (ipriom[who] ? (best > 255 ? 255 : best) : 1) : 0))
+}
+
+# ---- where a virtual hart is
+
+function steps_of(kind) {
+  return kind == "leave" ? 8 + 5 * words : kind == "arrive" ? 6 + 4 * words : 8 + 4 * words
+}
+
+function is_in_memory(who, storer,    kind) {
+  kind = moving[who]
+  if (kind == "") return !(who in resident)
+  if (kind == "leave") return steps[who] >= (storer == "device" ? 4 : 6)
+  return kind == "arrive" && steps[who] < (storer == "device" ? 2 : 4)
+}
+
+function notices_word(who, w,    kind) {
+  kind = moving[who]
+  if (kind == "") return 1
+  return kind == "leave" ? steps[who] >= 8 + 2 * words + 2 * w : steps[who] <= 4 + 2 * words + 2 * w
+}
+
+function send_notice(who) {
+  asks("host " notice_hart[who], slot[who] + 1)
+}
+
+# A store of a number at a file of a virtual hart.
+function store(who, storer, i) {
+  asks("guest " who, i)
+  if (is_in_memory(who, storer) && ("enabled", "guest " who, i) in members \
+    && notices_word(who, int(i / 64))) send_notice(who)
+}
+
+function free_file(hart,    j, who, is_held) {
+  for (j = 1; j <= 3; j++) {
+    is_held = 0
+    for (who in slot)
+      if (coming[who] == hart " " j || (who in resident) && resident[who] == hart " " j) is_held = 1
+    if (!is_held) return hart " " j
+  }
+}
+
+function begin(kind, who, hart) {
+  moving[who] = kind
+  steps[who] = saw[who] = 0
+  coming[who] = kind == "leave" ? "" : free_file(hart)
+}
+
+function look(who, w,    i) {
+  for (i = 64 * w; i < 64 * w + 64; i++) if (is_deliverable_in("guest " who, i)) saw[who] = 1
+}
+
+function step(who,    kind, w) {
+  kind = moving[who]
+  w = steps[who] - 6 - 4 * words
+  if (kind == "leave" && w >= 0 && w < words) look(who, w)
+  if (++steps[who] < steps_of(kind)) return "moving"
+  if (kind == "leave") {
+    if (saw[who]) send_notice(who)
+    delete resident[who]
+  } else resident[who] = coming[who]
+  moving[who] = coming[who] = ""
+  return "done"
+}
+
+function hgeip(hart,    who, place, value) {
+  for (who in slot) {
+    if (!(who in resident) || moving[who] != "" && steps[who] > 0) continue
+    split(resident[who], place, " ")
+    if (place[1] == hart && signals("guest " who)) value += 2 ^ place[2]
+  }
+  return wide(value)
+}
+
+# ---- lines that are accepted, or are refused by `away` in one case and not in another
+
+function make_vm(count, hart,    c) {
+  for (c = 0; c < count; c++) {
+    notice_hart[vms " " c] = hart
+    slot[vms " " c] = vcpus++
+  }
+  vms++
+}
+
+# A store of a device: the file number is in bits 4 and 3 of the page number.
+function device_answer(vm, address, value,    offset, i) {
+  offset = address % 4096
+  if (offset == 4) i = value % 256 * 2 ^ 24 + int(value / 256) % 256 * 2 ^ 16 \
+    + int(value / 2 ^ 16) % 256 * 256 + int(value / 2 ^ 24)
+  else i = offset ? 0 : value
+  store(vm " " int(address / 32768) % 4, "device", i)
+  return "ok"
+}
+
+function guest_answer(who, name, a, b) {
+  if (!(who in resident) || moving[who] != "") return "away"
+  if (name == "ipi") {
+    store(substr(who, 1, 1) " " a, "peer", number(b))
+    return "ok"
+  }
+  if (a == "sip") return wide(sip(who))
+  if (a == "stopi") return stopi(who)
+  if (a == "sie") return "x0"
+  return csr_answer("guest " who, name, a, b)
+}
+
+function host_answer(hart, name, csr, value) {
+  return name == "hgeip" ? hgeip(hart) : csr_answer("host " hart, name, csr, value)
+}
+
+function move_answer(kind, who, hart) {
+  if (moving[who] != "") return "busy"
+  if (kind == "arrive" && who in resident) return "home"
+  begin(kind, who, hart)
+  while (step(who) != "done") continue
+  return "ok"
+}
+
+function answer(line,    field, who) {
+  split(line, field, " ")
+  who = field[2] " " field[3]
+  if (field[1] ~ /^(arrive|leave|shift)$/) return move_answer(field[1], who, field[4])
+  if (field[1] == "step") return moving[who] == "" ? "idle" : step(who)
+  if (field[1] == "msi") return device_answer(field[2], number(field[3]), number(field[4]))
+  if (field[1] == "g") return guest_answer(who, field[4], field[5], field[6])
+  if (field[1] == "h") return host_answer(field[2], field[3], field[4], field[5])
+  if (field[1] == "begin") begin(field[2], field[3] " " field[4], field[5])
+  if (field[1] == "vm") make_vm(field[2], field[4])
+  if (field[1] == "st") asks("host " int((number(field[2]) - 671088640) / 32768), number(field[3]))
+  if (field[1] == "inject" && field[5]) injected[who, field[4]]
+  if (field[1] == "inject" && !field[5]) delete injected[who, field[4]]
+  if (field[1] == "hvictl") ipriom[who] = int(number(field[4]) / 256) % 2
+  if (field[1] == "hviprio") byte_of_1[who] = int(number(field[4]) / 256) % 256
+  return "ok"
+}
+
+# ---- what a test does: what comes before the move begins, lines between two steps, and looks
+
+function say(list, line) {
+  text[list, ++count[list]] = line
+}
+
+function say_all(list, lines,    k, some, many) {
+  many = split(lines, some, ";")
+  for (k = 1; k <= many; k++) say(list, some[k])
+}
+
+function write_registers(who, pairs,    k, some, many) {
+  many = split(pairs, some, " ")
+  for (k = 1; k < many; k += 2) {
+    say("before", "g " who " csrrw siselect " some[k])
+    say("before", "g " who " csrrw sireg " some[k + 1])
+  }
+  say("before", "g " who " csrrw siselect 0x80")
+}
+
+# Enabled are 5, 7 and 40, and of the second word 70 and 100; pending are 12, which is not enabled,
+# and where an identity is to be deliverable 7, or 70.
+function say_before(is_deliverable,    hart) {
+  count["before"] = 0
+  say_all("before", "machine 2 3 " greatest " 8;vm 3 0x18 1;vm 1 0x8 0")
+  for (hart = 1; hart >= 0; hart--)
+    say_all("before", "h " hart " csrrw siselect 0xc0;h " hart " csrrw sireg 0x1e;h " hart \
+      " csrrw siselect 0x80")
+  say_all("before", "arrive 0 0 0;arrive 0 1 0;arrive 1 0 0;arrive 0 2 1")
+  write_registers("0 1", "0xc0 0x60 0x70 1")
+  write_registers("1 0", "0xc0 0x60 0x70 1")
+  write_registers("0 2", "0xc0 0x60 0x70 1")
+  say_all("before", "leave 0 2;g 0 0 csrrw sie 0x2222")
+  if (words == 2)
+    write_registers("0 0", "0xc2 0x1000000040 0x82 " (is_deliverable ? "0x40" : "0x0"))
+  write_registers("0 0", "0xc0 0x100000000a0 0x72 " (words == 2 ? 90 : 50) " 0x70 1 0x80 " \
+    (is_deliverable && words == 1 ? "0x1080" : "0x1000"))
+}
+
+function say_begin(kind) {
+  count["begin"] = 0
+  if (kind == "leave") say("begin", "begin leave 0 0")
+  if (kind == "arrive") say_all("begin", "leave 0 0;h 1 csrrw stopei 0;begin arrive 0 0 0")
+  if (kind == "shift") say("begin", "begin shift 0 0 1")
+}
+
+function say_after(kind,    k, some, many) {
+  count["after"] = 0
+  if (kind == "leave") say("after", "arrive 0 0 1")
+  say_all("after", "h 1 csrr sireg;h 0 csrr sireg;h 1 hgeip;h 0 hgeip;g 0 0 csrr stopei")
+  say_all("after", "g 0 0 csrr sireg;g 0 0 csrr sip;g 0 0 csrr stopi;g 0 0 csrrw stopei 0")
+  say("after", "g 0 0 csrr stopei")
+  many = split(words == 2 ? "0x82 0xc0 0xc2 0x72 0x70" : "0xc0 0x72 0x70", some, " ")
+  for (k = 1; k <= many; k++) say_all("after", "g 0 0 csrrw siselect " some[k] ";g 0 0 csrr sireg")
+  say_all("after", "g 0 1 csrr sireg;g 0 1 csrr stopei;step 1 0;g 1 0 csrr sireg;g 1 0 csrr stopei")
+  say_all("after", "arrive 0 2 1;g 0 2 csrr sireg;h 1 hgeip;step 0 0")
+}
+
+# An identity that is enabled: by a device and by another virtual hart, each in turn the first one.
+function say_both(i) {
+  say("lines", "msi 0 0x28000000 " i ";h 1 csrrw stopei 0;h 0 hgeip;h 1 hgeip;g 0 1 ipi 0 " i)
+  say("lines", "g 0 1 ipi 0 " i ";h 1 csrrw stopei 0;h 1 csrr stopei")
+}
+
+# Stores that ask for what is not enabled or pending already, or for nothing.
+function say_stores(    above) {
+  above = greatest + 1
+  say("lines", "msi 0 0x28000000 9;msi 0 0x28000004 0x0a000000;g 0 1 ipi 0 11;msi 0 0x28000000 12")
+  say("lines", "msi 0 0x28000000 " above ";msi 0 0x28000000 0;msi 0 0x28000000 0x05000000")
+  say("lines", sprintf("msi 0 0x28000004 0x%02x000000", above) ";msi 0 0x28000004 5")
+  say("lines", "msi 0 0x28000004 0;msi 0 0x28000008 5;msi 0 0x28000ffc 5")
+  say("lines", "msi 0 0x28000008 0x05000000;msi 0 0x28000ffc 0x05000000")
+  say("lines", "g 0 1 ipi 0 " above ";g 0 1 ipi 0 0;g 0 1 ipi 0 0x05000000")
+}
+
+# Lines of the host, of other virtual harts and of their moves.
+function say_others() {
+  say("lines", "h 1 csrrw stopei 0;h 1 csrr stopei;h 1 csrr sireg;h 0 hgeip;h 1 hgeip")
+  say("lines", "st 0x28008000 1;h 1 csrrw stopei 0")
+  say("lines", "msi 0 0x28008000 5;msi 0 0x28010000 5;g 0 1 ipi 2 6;h 1 csrrw stopei 0")
+  say("lines", "msi 1 0x28000000 5;g 0 1 ipi 1 6;g 1 0 ipi 0 6;h 0 hgeip")
+  say("lines", "begin leave 1 0;step 1 0;step 1 0;h 0 hgeip;msi 1 0x28000000 5")
+  say("lines", "msi 1 0x28000000 5;leave 1 0;h 0 csrr sireg;arrive 1 0 0;h 0 hgeip")
+  say("lines", "begin shift 1 0 1;step 1 0;msi 1 0x28000000 5;h 0 hgeip;h 1 hgeip")
+  say("lines", "msi 1 0x28000000 5;shift 1 0 1;h 0 hgeip;h 1 hgeip")
+  say("lines", "leave 0 1;msi 0 0x28008000 5;arrive 0 1 1;g 0 1 ipi 0 5")
+  say("lines", "begin arrive 0 2 1;msi 0 0x28010000 5;step 0 2;step 0 2;msi 0 0x28010000 6")
+  say("lines", "arrive 0 2 1;g 0 2 ipi 0 5")
+}
+
+function say_majors() {
+  say("lines", "inject 0 0 9 1;inject 0 0 5 1;inject 0 0 1 1;inject 0 0 1 0")
+  say("lines", "hvictl 0 0 0x100;hviprio 0 0 0x300;inject 0 0 1 1;msi 0 0x28000000 5")
+}
+
+function say_lines() {
+  count["lines"] = 0
+  say("lines", "msi 0 0x28000004 0x05000000;h 1 csrr sireg")
+  say_both(5)
+  if (words == 2) {
+    say_both(70)
+    say("lines", "msi 0 0x28000004 0x47000000;g 0 1 ipi 0 72;msi 0 0x28000000 127")
+    say("lines", "msi 0 0x28000000 100;h 1 csrrw stopei 0;h 1 csrr sireg")
+  }
+  say_stores()
+  say_others()
+  say_majors()
+}
+
+# Those of them that a test has also where an identity is deliverable.
+function say_few_lines() {
+  count["lines"] = 0
+  say_both(5)
+  say_both(words == 2 ? 70 : 7)
+  say("lines", "msi 0 0x28000000 9;g 0 1 ipi 0 10;h 0 hgeip;h 1 hgeip;h 1 csrrw stopei 0")
+}
+
+# Lines that change nothing, with the word that each answers.
+function state(word, lines) {
+  put(lines "|" word)
+}
+
+function state_words() {
+  state("bad", "step 0;step 0 0 0;begin;begin leave 0;begin 0 0;begin arrive 0 0;Step 0 0;wire 1 2")
+  state("again", "machine 2 3 63 8")
+  state("range", "step 0 3;step 2 0;begin leave 0 3")
+  state("range", "begin arrive 0 0 2;begin shift 0 0 2;arrive 0 3 0;leave 2 0;shift 0 0 2")
+  state("range", "msi 2 0x28000000 5;g 0 3 csrr stopei;h 2 hgeip;m 2 csrr mtopei;pins 2;wire 9 1")
+  state("range", "inject 0 0 2 1;inject 0 3 1 1;hvictl 0 0 0x40000000;hviprio 2 0 0;vm 5 0x18 0")
+  state("full", "vm 9 0x78 0")
+  state("busy", "arrive 0 0 0;leave 0 0;shift 0 0 1")
+  state("busy", "begin arrive 0 0 1;begin leave 0 0;begin shift 0 0 0")
+  state("home", "arrive 0 1 1;begin arrive 1 0 1")
+  state("parked", "leave 0 2;begin leave 0 2;shift 0 2 1;begin shift 0 2 1")
+  state("nofile", "arrive 0 2 0;begin arrive 0 2 0;shift 1 0 0;begin shift 0 1 0")
+  state("idle", "step 0 1;step 0 2;step 1 0")
+  state("away", "g 0 0 csrr stopei;g 0 0 csrrw stopei 0;g 0 0 csrrw sireg 0")
+  state("away", "g 0 0 csrrw siselect 0x70;g 0 0 csrr sip;g 0 2 csrr stopei")
+  state("away", "g 0 0 csrrw stopi 0;g 0 0 csrrw sie 0;g 0 0 ipi 1 5;g 0 0 ipi 3 5;g 0 2 ipi 0 5")
+  state("illegal", "g 0 1 csrrw stopi 0;m 0 csrr mireg")
+  state("fault", "st 0 0;ld 0x28000002;st 0x28007000 5;msi 0 0x28000001 5;msi 0 0x28000006 5")
+  state("guarded", "st 0x28001000 5;ld 0x28001000;st 0x28009000 5;st 0x80000000 5;ld 0x80002000")
+  state("other", "msi 0 0x24000000 5;msi 0 0x28020000 5;msi 1 0x28010000 5")
+  state("notvalid", "msi 0 0x28018000 5;entry 0 0")
+  state("gfault", "g 0 1 ipi 3 5")
+  state("0x00000000", "ld 0x28000000")
+}
+
+# ---- runs
+
+function forget(    name) {
+  split("", members); split("", delivery); split("", threshold); split("", selected)
+  split("", injected); split("", ipriom); split("", byte_of_1); split("", resident)
+  split("", moving); split("", coming); split("", steps); split("", saw)
+  split("", slot); split("", notice_hart)
+  vms = vcpus = 0
+}
+
+# Gives what a run answers, with lines between two steps, from the first of them on; of looks that
+# have their usual answers, how many. Keeps what comes before, and the usual answers where there are
+# none.
+function run(kind, lines, gap, is_usual,    k, some, many, got, said, same) {
+  forget()
+  for (k = 1; k <= count["before"]; k++) answers["before", k] = answer(text["before", k])
+  for (k = 1; k <= count["begin"]; k++) answers["begin", k] = answer(text["begin", k])
+  for (k = 0; k < gap; k++) step("0 0")
+  many = split(lines, some, ";")
+  for (k = 1; k <= many; k++) said = said (k > 1 ? " " : "") answer(some[k])
+  for (k = gap; k < steps_of(kind); k++) step("0 0")
+  for (k = 1; k <= count["after"]; k++) {
+    got = answer(text["after", k])
+    if (is_usual) answers["after", k] = got
+    if (got == answers["after", k]) same++
+    else {
+      said = said (same ? " " same : "") " " got
+      same = 0
+    }
+  }
+  return said
+}
+
+# ---- the table, as `rt fmt` lays it out
+
+function put(row) {
+  rows[++count_of_rows] = row
+}
+
+function constant(about, name,    k) {
+  printf "\n/// %s\npub const %s: [&str; %d] = [", about, name, count_of_rows
+  if (count_of_rows == 1 && length(name rows[1]) < 72) print "\"" rows[1] "\"];"
+  else {
+    print ""
+    for (k = 1; k <= count_of_rows; k++) print "    \"" rows[k] "\","
+    print "];"
+  }
+  count_of_rows = 0
+}
+
+# Puts lines with their answers, as many in a row as have room.
+function put_list(list,    k, lines, said) {
+  for (k = 1; k <= count[list]; k++) {
+    if (k > 1 && length(lines said text[list, k] answers[list, k]) > 89) {
+      put(lines "|" said)
+      lines = said = ""
+    }
+    lines = lines (lines == "" ? "" : ";") text[list, k]
+    said = said (said == "" ? "" : " ") answers[list, k]
+  }
+  put(lines "|" said)
+}
+
+# Puts a row of answers; where there is no room for its lines, they stand before it.
+function put_run(lines, said, from, to) {
+  said = "|" said "|" from "|" to
+  if (length(lines said) < 94) put(lines said)
+  else {
+    if (lines != lines_before) put(lines)
+    put(said)
+  }
+  lines_before = lines
+}
+
+function put_runs(kind, lines,    gap, from, said, last) {
+  for (gap = from = 0; gap < steps_of(kind); gap++) {
+    said = run(kind, lines, gap)
+    if (gap > 0 && said != last) {
+      put_run(lines, last, from, gap)
+      from = gap
+    }
+    last = said
+  }
+  put_run(lines, last, from, gap)
+}
+
+function tables(kind, is_deliverable,    k, name) {
+  say_begin(kind)
+  say_after(kind)
+  run(kind, "", 0, 1)
+  name = toupper(kind) "_" greatest (is_deliverable ? "_DELIVERABLE" : "")
+  if (kind == "leave") {
+    put_list("before")
+    constant("What comes before a move.", "BEFORE_" substr(name, 7))
+  }
+  put_list("begin")
+  constant("How the move begins.", name "_BEGIN")
+  put_list("after")
+  constant("What there is to see after it, where nothing came between.", name "_AFTER")
+  for (k = 1; k <= count["lines"]; k++) put_runs(kind, text["lines", k])
+  constant("What comes between two of its steps.", name)
+}
+
+BEGIN {
+  print "//! Lines between two steps of a move, and their answers, as `suite/between-steps` finds them."
+  print "//! Edit that, not this."
+  print "//!"
+  print "//! A row has lines, apart by `;`, and their answers. Of 16 hexadecimal digits an answer has `x`"
+  print "//! and those that count. Rows of what comes between have further answers, of the looks after"
+  print "//! the move: a number is of so many looks that have their usual answers, as have all that are"
+  print "//! left out. From one number of steps on, and below another one, the answers are so. A row"
+  print "//! without lines is of those before it."
+  state_words()
+  constant("What changes nothing between any two steps of any move.", "STATED")
+  split("leave arrive shift", kinds, " ")
+  for (greatest = 63; greatest <= 127; greatest += 64) {
+    words = (greatest + 1) / 64
+    for (is_deliverable = 0; is_deliverable < 2; is_deliverable++) {
+      say_before(is_deliverable)
+      if (is_deliverable) say_few_lines()
+      else say_lines()
+      for (kind = 1; kind <= 3; kind++) tables(kinds[kind], is_deliverable)
+    }
+  }
+}
