@@ -213,7 +213,6 @@ shift_at words = do
   hart ← number_at number.1
   at_end hart.1 (Shift vm.0 number.0 hart.0)
 
--- The moves that may begin, each with the reader of what follows its name.
 unfoldable pub begin_arrive_at : Words → Option Line
 begin_arrive_at words = do
   vm ← number_at words
@@ -234,6 +233,7 @@ begin_shift_at words = do
   hart ← number_at number.1
   at_end hart.1 (BeginShift vm.0 number.0 hart.0)
 
+-- The moves that may begin, each with the reader of what follows its name.
 abbrev pub begin_forms : List (List ℕ × (Words → Option Line))
 begin_forms =
     (codes "arrive", begin_arrive_at)
