@@ -7,8 +7,8 @@ use Rattle.aia_model.specs.declared.msi.Msi.{Msi}
 use Rattle.aia_home.specs.Vms.{Vcpu}
 use Rattle.aia_model.specs.Move.{Move}
 
--- What happens: a line that does nothing about moves is accepted; a move begins; one step more of a virtual
--- hart's move is done; an MSI of the APLIC is delivered, also where no file is to take it.
+-- What happens: a line that does nothing about moves is accepted; a move begins; one step more of a
+-- virtual hart's move is done; an MSI of the APLIC is delivered, also where no file is to take it.
 pub data Event : Type 0 where
   Accepted : (line : Line) → Event
   Began : (move : Move) → Event
