@@ -302,7 +302,9 @@ function say_after(kind,    k, some, many) {
   many = split(words == 2 ? "0x82 0xc0 0xc2 0x72 0x70" : "0xc0 0x72 0x70", some, " ")
   for (k = 1; k <= many; k++) say_all("after", "g 0 0 csrrw siselect " some[k] ";g 0 0 csrr sireg")
   say_all("after", "g 0 1 csrr sireg;g 0 1 csrr stopei;step 1 0;g 1 0 csrr sireg;g 1 0 csrr stopei")
-  say_all("after", "arrive 0 2 1;g 0 2 csrr sireg;h 1 hgeip;step 0 0")
+  # What was left behind: in the guest file, which is another's now, and in memory.
+  say_all("after", "arrive 0 2 " (kind == "arrive" ? 1 : 0) ";g 0 2 csrr sireg;h 0 hgeip;h 1 hgeip")
+  say_all("after", "leave 0 0;arrive 0 0 1;g 0 0 csrr stopei;step 0 0")
 }
 
 # An identity that is enabled: by a device and by another virtual hart, each in turn the first one.

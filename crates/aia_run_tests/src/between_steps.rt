@@ -82,15 +82,24 @@ fn say(talk: &mut Talk, line: &str, answer: &str) -> Result<(), AllocError> {
     push_answer(&mut talk.answers, answer)
 }
 
+/// Puts lines and their answers at the end.
+fn say_lines(talk: &mut Talk, lines: &str, answers: &str) -> Result<(), AllocError> {
+    let mut said = answers.split(' ');
+    for line in lines.split(';') {
+        match said.next() {
+            Some(answer) => say(talk, line, answer)?,
+            None => push_line(&mut talk.script, line)?,
+        }
+    }
+    Ok(())
+}
+
 /// Puts the lines of rows and their answers at the end.
 fn say_rows(talk: &mut Talk, rows: Rows) -> Result<(), AllocError> {
     for row in rows {
         let mut fields = row.split('|');
         let lines = fields.next().unwrap_or("");
-        let mut said = fields.next().unwrap_or("").split(' ');
-        for line in lines.split(';') {
-            say(talk, line, said.next().unwrap_or(""))?;
-        }
+        say_lines(talk, lines, fields.next().unwrap_or(""))?;
     }
     Ok(())
 }
@@ -141,12 +150,15 @@ fn number(field: Option<&str>) -> Option<u32> {
     field?.parse::<u32>().ok()
 }
 
-/// Puts the looks and their answers at the end: the usual ones, where `said` has no others.
-fn say_looks<'a>(
+/// Puts the looks and their answers at the end: the usual ones, where `answers` has no others after
+/// those of so many lines.
+fn say_looks(
     talk: &mut Talk,
     looks: &[Look],
-    said: &mut impl Iterator<Item = &'a str>,
+    answers: &str,
+    lines: usize,
 ) -> Result<(), AllocError> {
+    let mut said = answers.split(' ').skip(lines);
     let mut same = 0u32;
     for (line, usual) in looks {
         let mut answer: &str = usual;
@@ -189,13 +201,10 @@ fn stands_at(
     answers: &str,
 ) -> Result<(), AllocError> {
     let mut talk = talk_of(alloc, stage)?;
-    let mut said = answers.split(' ');
     say_steps(&mut talk, stage.steps, 0, gap)?;
-    for line in lines.split(';') {
-        say(&mut talk, line, said.next().unwrap_or(""))?;
-    }
+    say_lines(&mut talk, lines, answers)?;
     say_steps(&mut talk, stage.steps, gap, stage.steps)?;
-    say_looks(&mut talk, &stage.looks, &mut said)?;
+    say_looks(&mut talk, &stage.looks, answers, lines.split(';').count())?;
     talks(rt, alloc, talk, lines, gap)
 }
 
@@ -212,33 +221,45 @@ fn change_nothing(rt: &impl Abort, alloc: Global, stage: &Stage) -> Result<(), A
             }
             say_steps(&mut talk, stage.steps, gap, gap + 1)?;
         }
-        say_looks(&mut talk, &stage.looks, &mut "".split(' ').skip(1))?;
+        say_looks(&mut talk, &stage.looks, word, 1)?;
         talks(rt, alloc, talk, lines, 0)?;
     }
     Ok(())
 }
 
-/// Puts the lines of each row between the steps of the row. Each gap between two steps has a turn.
+/// Gives the lines of a row: its own, or those before it.
+fn lines_of(row: &'static str, before: &'static str) -> &'static str {
+    match row.split('|').next() {
+        Some("") | None => before,
+        Some(lines) => lines,
+    }
+}
+
+/// Puts lines between the steps of a row that has answers.
+fn stand_by_row(
+    rt: &impl Abort,
+    alloc: Global,
+    stage: &Stage,
+    lines: &str,
+    row: &str,
+) -> Result<(), AllocError> {
+    let mut fields = row.split('|').skip(1);
+    let answers = fields.next().unwrap_or("");
+    let from = number(fields.next()).unwrap_or(0);
+    let to = number(fields.next()).unwrap_or(0);
+    for gap in from..to {
+        stands_at(rt, alloc, stage, gap, lines, answers)?;
+    }
+    Ok(())
+}
+
+/// Puts the lines of each row between the steps of the row.
 fn stand(rt: &impl Abort, alloc: Global, stage: &Stage, rows: Rows) -> Result<(), AllocError> {
     let mut lines = "";
-    let mut next = 0;
     for row in rows {
-        let mut fields = row.split('|');
-        let named = fields.next().unwrap_or("");
-        if !named.is_empty() {
-            lines = named;
-        }
-        if let Some(answers) = fields.next() {
-            let from = number(fields.next()).unwrap_or(0);
-            let to = number(fields.next()).unwrap_or(0);
-            same!(rt; from, next; lines);
-            for gap in from..to {
-                stands_at(rt, alloc, stage, gap, lines, answers)?;
-            }
-            next = if to == stage.steps { 0 } else { to };
-        }
+        lines = lines_of(row, lines);
+        stand_by_row(rt, alloc, stage, lines, row)?;
     }
-    same!(rt; next, 0; lines);
     Ok(())
 }
 

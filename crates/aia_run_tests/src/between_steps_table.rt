@@ -61,8 +61,8 @@ pub const LEAVE_63_AFTER: [&str; 7] = [
     "g 0 0 csrrw stopei 0;g 0 0 csrr stopei;g 0 0 csrrw siselect 0xc0|x0 x0 x80",
     "g 0 0 csrr sireg;g 0 0 csrrw siselect 0x72;g 0 0 csrr sireg|x100000000a0 xc0 x32",
     "g 0 0 csrrw siselect 0x70;g 0 0 csrr sireg;g 0 1 csrr sireg;g 0 1 csrr stopei|x72 x1 x0 x0",
-    "step 1 0;g 1 0 csrr sireg;g 1 0 csrr stopei;arrive 0 2 1;g 0 2 csrr sireg|idle x0 x0 ok x0",
-    "h 1 hgeip;step 0 0|x0 idle",
+    "step 1 0;g 1 0 csrr sireg;g 1 0 csrr stopei;arrive 0 2 0;g 0 2 csrr sireg|idle x0 x0 ok x0",
+    "h 0 hgeip;h 1 hgeip;leave 0 0;arrive 0 0 1;g 0 0 csrr stopei;step 0 0|x0 x0 ok ok x0 idle",
 ];
 
 /// What comes between two of its steps.
@@ -88,18 +88,18 @@ pub const LEAVE_63: [&str; 39] = [
     "h 1 csrrw stopei 0;h 1 csrr stopei;h 1 csrr sireg;h 0 hgeip;h 1 hgeip|x0 x0 x0 x0 x0|0|13",
     "st 0x28008000 1;h 1 csrrw stopei 0|ok x10001|0|13",
     "msi 0 0x28008000 5;msi 0 0x28010000 5;g 0 1 ipi 2 6;h 1 csrrw stopei 0",
-    "|ok ok ok x30003 4 x4 12 x20 x50005 4 x60 x4|0|13",
+    "|ok ok ok x30003 4 x4 12 x20 x50005 4 x60 x6|0|13",
     "msi 1 0x28000000 5;g 0 1 ipi 1 6;g 1 0 ipi 0 6;h 0 hgeip",
-    "|ok ok ok xc 4 xc 12 x40 x60006 1 x60 x50005|0|13",
+    "|ok ok ok xc 4 xc 12 x40 x60006 1 x60 x50005 2 xc|0|13",
     "begin leave 1 0;step 1 0;step 1 0;h 0 hgeip;msi 1 0x28000000 5",
     "|ok moving moving x0 ok 19 moving away away|0|13",
     "msi 1 0x28000000 5;leave 1 0;h 0 csrr sireg;arrive 1 0 0;h 0 hgeip",
-    "|ok ok x10 ok x8 2 x10 1 x8 15 x20 x50005|0|13",
+    "|ok ok x10 ok x8 2 x10 1 x8 15 x20 x50005 2 x8|0|13",
     "begin shift 1 0 1;step 1 0;msi 1 0x28000000 5;h 0 hgeip;h 1 hgeip",
     "|ok moving ok x0 x0 19 moving away away|0|13",
-    "msi 1 0x28000000 5;shift 1 0 1;h 0 hgeip;h 1 hgeip|ok ok x0 x2 3 x2 16 x20 x50005 2 x2|0|13",
+    "msi 1 0x28000000 5;shift 1 0 1;h 0 hgeip;h 1 hgeip|ok ok x0 x2 3 x2 16 x20 x50005 3 x2|0|13",
     "leave 0 1;msi 0 0x28008000 5;arrive 0 1 1;g 0 1 ipi 0 5",
-    "|ok ok ok ok 1 x6 1 x6 1 x50005 x1020 x200 x90001 x50005 7 x20 x50005 5 x2|0|13",
+    "|ok ok ok ok 1 x6 1 x6 1 x50005 x1020 x200 x90001 x50005 7 x20 x50005 6 x2|0|13",
     "begin arrive 0 2 1;msi 0 0x28010000 5;step 0 2;step 0 2;msi 0 0x28010000 6",
     "|ok ok moving moving ok 1 x8 20 busy away|0|13",
     "arrive 0 2 1;g 0 2 ipi 0 5|ok ok 1 x2 1 x4 1 x50005 x1020 x200 x90001 x50005 12 home|0|13",
@@ -118,8 +118,8 @@ pub const ARRIVE_63_AFTER: [&str; 7] = [
     "g 0 0 csrr stopei;g 0 0 csrrw siselect 0xc0;g 0 0 csrr sireg|x0 x80 x100000000a0",
     "g 0 0 csrrw siselect 0x72;g 0 0 csrr sireg;g 0 0 csrrw siselect 0x70|xc0 x32 x72",
     "g 0 0 csrr sireg;g 0 1 csrr sireg;g 0 1 csrr stopei;step 1 0|x1 x0 x0 idle",
-    "g 1 0 csrr sireg;g 1 0 csrr stopei;arrive 0 2 1;g 0 2 csrr sireg;h 1 hgeip|x0 x0 ok x0 x0",
-    "step 0 0|idle",
+    "g 1 0 csrr sireg;g 1 0 csrr stopei;arrive 0 2 1;g 0 2 csrr sireg;h 0 hgeip|x0 x0 ok x0 x0",
+    "h 1 hgeip;leave 0 0;arrive 0 0 1;g 0 0 csrr stopei;step 0 0|x0 ok ok x0 idle",
 ];
 
 /// What comes between two of its steps.
@@ -143,19 +143,19 @@ pub const ARRIVE_63: [&str; 40] = [
     "h 1 csrrw stopei 0;h 1 csrr stopei;h 1 csrr sireg;h 0 hgeip;h 1 hgeip|x0 x0 x0 x0 x0|0|10",
     "st 0x28008000 1;h 1 csrrw stopei 0|ok x10001|0|10",
     "msi 0 0x28008000 5;msi 0 0x28010000 5;g 0 1 ipi 2 6;h 1 csrrw stopei 0",
-    "|ok ok ok x30003 3 x4 12 x20 x50005 4 x60 x2|0|10",
+    "|ok ok ok x30003 3 x4 12 x20 x50005 4 x60 x4 x2|0|10",
     "msi 1 0x28000000 5;g 0 1 ipi 1 6;g 1 0 ipi 0 6;h 0 hgeip",
-    "|ok ok ok xc 3 xc 12 x40 x60006 1 x60 x50005|0|10",
+    "|ok ok ok xc 3 xc 12 x40 x60006 1 x60 x50005 2 xc|0|10",
     "begin leave 1 0;step 1 0;step 1 0;h 0 hgeip;msi 1 0x28000000 5",
     "|ok moving moving x0 ok 18 moving away away|0|10",
     "msi 1 0x28000000 5;leave 1 0;h 0 csrr sireg;arrive 1 0 0;h 0 hgeip",
-    "|ok ok x10 ok x8 1 x10 1 x8 15 x20 x50005|0|10",
+    "|ok ok x10 ok x8 1 x10 1 x8 15 x20 x50005 2 x8|0|10",
     "begin shift 1 0 1;step 1 0;msi 1 0x28000000 5;h 0 hgeip;h 1 hgeip",
     "|ok moving ok x0 x0 18 moving away away|0|10",
-    "msi 1 0x28000000 5;shift 1 0 1;h 0 hgeip;h 1 hgeip|ok ok x0 x2 2 x2 16 x20 x50005 2 x2|0|10",
+    "msi 1 0x28000000 5;shift 1 0 1;h 0 hgeip;h 1 hgeip|ok ok x0 x2 2 x2 16 x20 x50005 3 x2|0|10",
     "leave 0 1;msi 0 0x28008000 5;arrive 0 1 1;g 0 1 ipi 0 5",
-    "|ok ok ok ok x6 1 x2 x2 x50005 x1020 x200 x90001 x50005 7 x20 x50005 5 x2|0|4",
-    "|ok ok ok ok x4 1 x2 x2 x50005 x1020 x200 x90001 x50005 7 x20 x50005 5 x2|4|10",
+    "|ok ok ok ok x6 1 x2 x2 x50005 x1020 x200 x90001 x50005 7 x20 x50005 6 x2|0|4",
+    "|ok ok ok ok x4 1 x2 x2 x50005 x1020 x200 x90001 x50005 7 x20 x50005 6 x2|4|10",
     "begin arrive 0 2 1;msi 0 0x28010000 5;step 0 2;step 0 2;msi 0 0x28010000 6",
     "|ok ok moving moving ok x8 20 busy away|0|10",
     "arrive 0 2 1;g 0 2 ipi 0 5|ok ok x2 2 x2 x50005 x1020 x200 x90001 x50005 12 home|0|4",
@@ -176,8 +176,8 @@ pub const SHIFT_63_AFTER: [&str; 7] = [
     "g 0 0 csrr stopei;g 0 0 csrrw siselect 0xc0;g 0 0 csrr sireg|x0 x80 x100000000a0",
     "g 0 0 csrrw siselect 0x72;g 0 0 csrr sireg;g 0 0 csrrw siselect 0x70|xc0 x32 x72",
     "g 0 0 csrr sireg;g 0 1 csrr sireg;g 0 1 csrr stopei;step 1 0|x1 x0 x0 idle",
-    "g 1 0 csrr sireg;g 1 0 csrr stopei;arrive 0 2 1;g 0 2 csrr sireg;h 1 hgeip|x0 x0 ok x0 x0",
-    "step 0 0|idle",
+    "g 1 0 csrr sireg;g 1 0 csrr stopei;arrive 0 2 0;g 0 2 csrr sireg;h 0 hgeip|x0 x0 ok x0 x0",
+    "h 1 hgeip;leave 0 0;arrive 0 0 1;g 0 0 csrr stopei;step 0 0|x0 ok ok x0 idle",
 ];
 
 /// What comes between two of its steps.
@@ -198,18 +198,18 @@ pub const SHIFT_63: [&str; 34] = [
     "h 1 csrrw stopei 0;h 1 csrr stopei;h 1 csrr sireg;h 0 hgeip;h 1 hgeip|x0 x0 x0 x0 x0|0|12",
     "st 0x28008000 1;h 1 csrrw stopei 0|ok x10001|0|12",
     "msi 0 0x28008000 5;msi 0 0x28010000 5;g 0 1 ipi 2 6;h 1 csrrw stopei 0",
-    "|ok ok ok x30003 3 x4 12 x20 x50005 4 x60 x4|0|12",
+    "|ok ok ok x30003 3 x4 12 x20 x50005 4 x60 x6|0|12",
     "msi 1 0x28000000 5;g 0 1 ipi 1 6;g 1 0 ipi 0 6;h 0 hgeip",
-    "|ok ok ok xc 3 xc 12 x40 x60006 1 x60 x50005|0|12",
+    "|ok ok ok xc 3 xc 12 x40 x60006 1 x60 x50005 2 xc|0|12",
     "begin leave 1 0;step 1 0;step 1 0;h 0 hgeip;msi 1 0x28000000 5",
     "|ok moving moving x0 ok 18 moving away away|0|12",
     "msi 1 0x28000000 5;leave 1 0;h 0 csrr sireg;arrive 1 0 0;h 0 hgeip",
-    "|ok ok x10 ok x8 1 x10 1 x8 15 x20 x50005|0|12",
+    "|ok ok x10 ok x8 1 x10 1 x8 15 x20 x50005 2 x8|0|12",
     "begin shift 1 0 1;step 1 0;msi 1 0x28000000 5;h 0 hgeip;h 1 hgeip",
     "|ok moving ok x0 x0 18 moving away away|0|12",
-    "msi 1 0x28000000 5;shift 1 0 1;h 0 hgeip;h 1 hgeip|ok ok x0 x4 2 x4 16 x20 x50005 2 x4|0|12",
+    "msi 1 0x28000000 5;shift 1 0 1;h 0 hgeip;h 1 hgeip|ok ok x0 x4 2 x4 16 x20 x50005 3 x4|0|12",
     "leave 0 1;msi 0 0x28008000 5;arrive 0 1 1;g 0 1 ipi 0 5",
-    "|ok ok ok ok x4 1 x6 1 x50005 x1020 x200 x90001 x50005 7 x20 x50005 5 x4|0|12",
+    "|ok ok ok ok x4 1 x6 1 x50005 x1020 x200 x90001 x50005 7 x20 x50005 6 x4|0|12",
     "begin arrive 0 2 1;msi 0 0x28010000 5;step 0 2;step 0 2;msi 0 0x28010000 6",
     "|ok ok moving moving ok x8 20 busy away|0|12",
     "arrive 0 2 1;g 0 2 ipi 0 5|ok ok 2 x2 1 x50005 x1020 x200 x90001 x50005 12 home|0|12",
@@ -245,19 +245,19 @@ pub const LEAVE_63_DELIVERABLE_AFTER: [&str; 7] = [
     "g 0 0 csrrw stopei 0;g 0 0 csrr stopei;g 0 0 csrrw siselect 0xc0|x70007 x0 x80",
     "g 0 0 csrr sireg;g 0 0 csrrw siselect 0x72;g 0 0 csrr sireg|x100000000a0 xc0 x32",
     "g 0 0 csrrw siselect 0x70;g 0 0 csrr sireg;g 0 1 csrr sireg;g 0 1 csrr stopei|x72 x1 x0 x0",
-    "step 1 0;g 1 0 csrr sireg;g 1 0 csrr stopei;arrive 0 2 1;g 0 2 csrr sireg|idle x0 x0 ok x0",
-    "h 1 hgeip;step 0 0|x0 idle",
+    "step 1 0;g 1 0 csrr sireg;g 1 0 csrr stopei;arrive 0 2 0;g 0 2 csrr sireg|idle x0 x0 ok x0",
+    "h 0 hgeip;h 1 hgeip;leave 0 0;arrive 0 0 1;g 0 0 csrr stopei;step 0 0|x0 x0 ok ok x0 idle",
 ];
 
 /// What comes between two of its steps.
 pub const LEAVE_63_DELIVERABLE: [&str; 15] = [
     "msi 0 0x28000000 5;h 1 csrrw stopei 0;h 0 hgeip;h 1 hgeip;g 0 1 ipi 0 5",
-    "|ok x0 x2 x0 ok 5 x50005 x10a0 2 x50005 x70007 13 x2|0|1",
-    "|ok x0 x0 x0 ok 5 x50005 x10a0 2 x50005 x70007 13 x2|1|10",
-    "|ok x10001 x0 x0 ok 5 x50005 x10a0 2 x50005 x70007 13 x2|10|13",
+    "|ok x0 x2 x0 ok 5 x50005 x10a0 2 x50005 x70007 14 x2 2 x70007|0|1",
+    "|ok x0 x0 x0 ok 5 x50005 x10a0 2 x50005 x70007 14 x2 2 x70007|1|10",
+    "|ok x10001 x0 x0 ok 5 x50005 x10a0 2 x50005 x70007 14 x2 2 x70007|10|13",
     "g 0 1 ipi 0 5;h 1 csrrw stopei 0;h 1 csrr stopei",
-    "|ok x0 x0 5 x50005 x10a0 2 x50005 x70007 13 x2|0|10",
-    "|ok x10001 x0 5 x50005 x10a0 2 x50005 x70007 13 x2|10|13",
+    "|ok x0 x0 5 x50005 x10a0 2 x50005 x70007 14 x2 2 x70007|0|10",
+    "|ok x10001 x0 5 x50005 x10a0 2 x50005 x70007 14 x2 2 x70007|10|13",
     "msi 0 0x28000000 7;h 1 csrrw stopei 0;h 0 hgeip;h 1 hgeip;g 0 1 ipi 0 7|ok x0 x2 x0 ok|0|1",
     "msi 0 0x28000000 7;h 1 csrrw stopei 0;h 0 hgeip;h 1 hgeip;g 0 1 ipi 0 7|ok x0 x0 x0 ok|1|10",
     "|ok x10001 x0 x0 ok|10|13",
@@ -281,18 +281,18 @@ pub const ARRIVE_63_DELIVERABLE_AFTER: [&str; 7] = [
     "g 0 0 csrr sireg;g 0 0 csrrw siselect 0x72;g 0 0 csrr sireg|x100000000a0 xc0 x32",
     "g 0 0 csrrw siselect 0x70;g 0 0 csrr sireg;g 0 1 csrr sireg;g 0 1 csrr stopei|x72 x1 x0 x0",
     "step 1 0;g 1 0 csrr sireg;g 1 0 csrr stopei;arrive 0 2 1;g 0 2 csrr sireg|idle x0 x0 ok x0",
-    "h 1 hgeip;step 0 0|x0 idle",
+    "h 0 hgeip;h 1 hgeip;leave 0 0;arrive 0 0 1;g 0 0 csrr stopei;step 0 0|x0 x0 ok ok x0 idle",
 ];
 
 /// What comes between two of its steps.
 pub const ARRIVE_63_DELIVERABLE: [&str; 15] = [
     "msi 0 0x28000000 5;h 1 csrrw stopei 0;h 0 hgeip;h 1 hgeip;g 0 1 ipi 0 5",
-    "|ok x10001 x0 x0 ok x2 3 x50005 x10a0 2 x50005 x70007|0|2",
-    "|ok x0 x0 x0 ok x2 3 x50005 x10a0 2 x50005 x70007|2|4",
-    "|ok x0 x0 x0 ok 4 x50005 x10a0 2 x50005 x70007|4|10",
+    "|ok x10001 x0 x0 ok x2 3 x50005 x10a0 2 x50005 x70007 13 x2 3 x70007|0|2",
+    "|ok x0 x0 x0 ok x2 3 x50005 x10a0 2 x50005 x70007 13 x2 3 x70007|2|4",
+    "|ok x0 x0 x0 ok 4 x50005 x10a0 2 x50005 x70007 13 x2 3 x70007|4|10",
     "g 0 1 ipi 0 5;h 1 csrrw stopei 0;h 1 csrr stopei",
-    "|ok x10001 x0 4 x50005 x10a0 2 x50005 x70007|0|4",
-    "g 0 1 ipi 0 5;h 1 csrrw stopei 0;h 1 csrr stopei|ok x0 x0 4 x50005 x10a0 2 x50005 x70007|4|10",
+    "|ok x10001 x0 4 x50005 x10a0 2 x50005 x70007 13 x2 3 x70007|0|4",
+    "|ok x0 x0 4 x50005 x10a0 2 x50005 x70007 13 x2 3 x70007|4|10",
     "msi 0 0x28000000 7;h 1 csrrw stopei 0;h 0 hgeip;h 1 hgeip;g 0 1 ipi 0 7",
     "|ok x10001 x0 x0 ok x2|0|2",
     "msi 0 0x28000000 7;h 1 csrrw stopei 0;h 0 hgeip;h 1 hgeip;g 0 1 ipi 0 7|ok x0 x0 x0 ok x2|2|4",
@@ -313,17 +313,17 @@ pub const SHIFT_63_DELIVERABLE_AFTER: [&str; 7] = [
     "g 0 0 csrrw stopei 0;g 0 0 csrr stopei;g 0 0 csrrw siselect 0xc0|x70007 x0 x80",
     "g 0 0 csrr sireg;g 0 0 csrrw siselect 0x72;g 0 0 csrr sireg|x100000000a0 xc0 x32",
     "g 0 0 csrrw siselect 0x70;g 0 0 csrr sireg;g 0 1 csrr sireg;g 0 1 csrr stopei|x72 x1 x0 x0",
-    "step 1 0;g 1 0 csrr sireg;g 1 0 csrr stopei;arrive 0 2 1;g 0 2 csrr sireg|idle x0 x0 ok x0",
-    "h 1 hgeip;step 0 0|x0 idle",
+    "step 1 0;g 1 0 csrr sireg;g 1 0 csrr stopei;arrive 0 2 0;g 0 2 csrr sireg|idle x0 x0 ok x0",
+    "h 0 hgeip;h 1 hgeip;leave 0 0;arrive 0 0 1;g 0 0 csrr stopei;step 0 0|x0 x0 ok ok x0 idle",
 ];
 
 /// What comes between two of its steps.
 pub const SHIFT_63_DELIVERABLE: [&str; 11] = [
     "msi 0 0x28000000 5;h 1 csrrw stopei 0;h 0 hgeip;h 1 hgeip;g 0 1 ipi 0 5",
-    "|ok x0 x2 x0 ok 4 x50005 x10a0 2 x50005 x70007 13 x2|0|1",
-    "|ok x0 x0 x0 ok 4 x50005 x10a0 2 x50005 x70007 13 x2|1|12",
+    "|ok x0 x2 x0 ok 4 x50005 x10a0 2 x50005 x70007 14 x2 2 x70007|0|1",
+    "|ok x0 x0 x0 ok 4 x50005 x10a0 2 x50005 x70007 14 x2 2 x70007|1|12",
     "g 0 1 ipi 0 5;h 1 csrrw stopei 0;h 1 csrr stopei",
-    "|ok x0 x0 4 x50005 x10a0 2 x50005 x70007 13 x2|0|12",
+    "|ok x0 x0 4 x50005 x10a0 2 x50005 x70007 14 x2 2 x70007|0|12",
     "msi 0 0x28000000 7;h 1 csrrw stopei 0;h 0 hgeip;h 1 hgeip;g 0 1 ipi 0 7|ok x0 x2 x0 ok|0|1",
     "msi 0 0x28000000 7;h 1 csrrw stopei 0;h 0 hgeip;h 1 hgeip;g 0 1 ipi 0 7|ok x0 x0 x0 ok|1|12",
     "g 0 1 ipi 0 7;h 1 csrrw stopei 0;h 1 csrr stopei|ok x0 x0|0|12",
@@ -354,15 +354,16 @@ pub const BEFORE_127: [&str; 14] = [
 pub const LEAVE_127_BEGIN: [&str; 1] = ["begin leave 0 0|ok"];
 
 /// What there is to see after it, where nothing came between.
-pub const LEAVE_127_AFTER: [&str; 8] = [
+pub const LEAVE_127_AFTER: [&str; 9] = [
     "arrive 0 0 1;h 1 csrr sireg;h 0 csrr sireg;h 1 hgeip;h 0 hgeip|ok x0 x0 x0 x0",
     "g 0 0 csrr stopei;g 0 0 csrr sireg;g 0 0 csrr sip;g 0 0 csrr stopi|x0 x1000 x0 x0",
     "g 0 0 csrrw stopei 0;g 0 0 csrr stopei;g 0 0 csrrw siselect 0x82|x0 x0 x80",
     "g 0 0 csrr sireg;g 0 0 csrrw siselect 0xc0;g 0 0 csrr sireg|x0 x82 x100000000a0",
     "g 0 0 csrrw siselect 0xc2;g 0 0 csrr sireg;g 0 0 csrrw siselect 0x72|xc0 x1000000040 xc2",
     "g 0 0 csrr sireg;g 0 0 csrrw siselect 0x70;g 0 0 csrr sireg;g 0 1 csrr sireg|x5a x72 x1 x0",
-    "g 0 1 csrr stopei;step 1 0;g 1 0 csrr sireg;g 1 0 csrr stopei;arrive 0 2 1|x0 idle x0 x0 ok",
-    "g 0 2 csrr sireg;h 1 hgeip;step 0 0|x0 x0 idle",
+    "g 0 1 csrr stopei;step 1 0;g 1 0 csrr sireg;g 1 0 csrr stopei;arrive 0 2 0|x0 idle x0 x0 ok",
+    "g 0 2 csrr sireg;h 0 hgeip;h 1 hgeip;leave 0 0;arrive 0 0 1|x0 x0 x0 ok ok",
+    "g 0 0 csrr stopei;step 0 0|x0 idle",
 ];
 
 /// What comes between two of its steps.
@@ -401,18 +402,18 @@ pub const LEAVE_127: [&str; 52] = [
     "h 1 csrrw stopei 0;h 1 csrr stopei;h 1 csrr sireg;h 0 hgeip;h 1 hgeip|x0 x0 x0 x0 x0|0|18",
     "st 0x28008000 1;h 1 csrrw stopei 0|ok x10001|0|18",
     "msi 0 0x28008000 5;msi 0 0x28010000 5;g 0 1 ipi 2 6;h 1 csrrw stopei 0",
-    "|ok ok ok x30003 4 x4 16 x20 x50005 4 x60 x4|0|18",
+    "|ok ok ok x30003 4 x4 16 x20 x50005 4 x60 x6|0|18",
     "msi 1 0x28000000 5;g 0 1 ipi 1 6;g 1 0 ipi 0 6;h 0 hgeip",
-    "|ok ok ok xc 4 xc 16 x40 x60006 1 x60 x50005|0|18",
+    "|ok ok ok xc 4 xc 16 x40 x60006 1 x60 x50005 2 xc|0|18",
     "begin leave 1 0;step 1 0;step 1 0;h 0 hgeip;msi 1 0x28000000 5",
     "|ok moving moving x0 ok 23 moving away away|0|18",
     "msi 1 0x28000000 5;leave 1 0;h 0 csrr sireg;arrive 1 0 0;h 0 hgeip",
-    "|ok ok x10 ok x8 2 x10 1 x8 19 x20 x50005|0|18",
+    "|ok ok x10 ok x8 2 x10 1 x8 19 x20 x50005 2 x8|0|18",
     "begin shift 1 0 1;step 1 0;msi 1 0x28000000 5;h 0 hgeip;h 1 hgeip",
     "|ok moving ok x0 x0 23 moving away away|0|18",
-    "msi 1 0x28000000 5;shift 1 0 1;h 0 hgeip;h 1 hgeip|ok ok x0 x2 3 x2 20 x20 x50005 2 x2|0|18",
+    "msi 1 0x28000000 5;shift 1 0 1;h 0 hgeip;h 1 hgeip|ok ok x0 x2 3 x2 20 x20 x50005 3 x2|0|18",
     "leave 0 1;msi 0 0x28008000 5;arrive 0 1 1;g 0 1 ipi 0 5",
-    "|ok ok ok ok 1 x6 1 x6 1 x50005 x1020 x200 x90001 x50005 11 x20 x50005 5 x2|0|18",
+    "|ok ok ok ok 1 x6 1 x6 1 x50005 x1020 x200 x90001 x50005 11 x20 x50005 6 x2|0|18",
     "begin arrive 0 2 1;msi 0 0x28010000 5;step 0 2;step 0 2;msi 0 0x28010000 6",
     "|ok ok moving moving ok 1 x8 24 busy away|0|18",
     "arrive 0 2 1;g 0 2 ipi 0 5|ok ok 1 x2 1 x4 1 x50005 x1020 x200 x90001 x50005 16 home|0|18",
@@ -435,7 +436,7 @@ pub const ARRIVE_127_AFTER: [&str; 8] = [
     "g 0 0 csrr sireg;g 0 0 csrrw siselect 0x72;g 0 0 csrr sireg|x1000000040 xc2 x5a",
     "g 0 0 csrrw siselect 0x70;g 0 0 csrr sireg;g 0 1 csrr sireg;g 0 1 csrr stopei|x72 x1 x0 x0",
     "step 1 0;g 1 0 csrr sireg;g 1 0 csrr stopei;arrive 0 2 1;g 0 2 csrr sireg|idle x0 x0 ok x0",
-    "h 1 hgeip;step 0 0|x0 idle",
+    "h 0 hgeip;h 1 hgeip;leave 0 0;arrive 0 0 1;g 0 0 csrr stopei;step 0 0|x0 x0 ok ok x0 idle",
 ];
 
 /// What comes between two of its steps.
@@ -470,19 +471,19 @@ pub const ARRIVE_127: [&str; 51] = [
     "h 1 csrrw stopei 0;h 1 csrr stopei;h 1 csrr sireg;h 0 hgeip;h 1 hgeip|x0 x0 x0 x0 x0|0|14",
     "st 0x28008000 1;h 1 csrrw stopei 0|ok x10001|0|14",
     "msi 0 0x28008000 5;msi 0 0x28010000 5;g 0 1 ipi 2 6;h 1 csrrw stopei 0",
-    "|ok ok ok x30003 3 x4 16 x20 x50005 4 x60 x2|0|14",
+    "|ok ok ok x30003 3 x4 16 x20 x50005 4 x60 x4 x2|0|14",
     "msi 1 0x28000000 5;g 0 1 ipi 1 6;g 1 0 ipi 0 6;h 0 hgeip",
-    "|ok ok ok xc 3 xc 16 x40 x60006 1 x60 x50005|0|14",
+    "|ok ok ok xc 3 xc 16 x40 x60006 1 x60 x50005 2 xc|0|14",
     "begin leave 1 0;step 1 0;step 1 0;h 0 hgeip;msi 1 0x28000000 5",
     "|ok moving moving x0 ok 22 moving away away|0|14",
     "msi 1 0x28000000 5;leave 1 0;h 0 csrr sireg;arrive 1 0 0;h 0 hgeip",
-    "|ok ok x10 ok x8 1 x10 1 x8 19 x20 x50005|0|14",
+    "|ok ok x10 ok x8 1 x10 1 x8 19 x20 x50005 2 x8|0|14",
     "begin shift 1 0 1;step 1 0;msi 1 0x28000000 5;h 0 hgeip;h 1 hgeip",
     "|ok moving ok x0 x0 22 moving away away|0|14",
-    "msi 1 0x28000000 5;shift 1 0 1;h 0 hgeip;h 1 hgeip|ok ok x0 x2 2 x2 20 x20 x50005 2 x2|0|14",
+    "msi 1 0x28000000 5;shift 1 0 1;h 0 hgeip;h 1 hgeip|ok ok x0 x2 2 x2 20 x20 x50005 3 x2|0|14",
     "leave 0 1;msi 0 0x28008000 5;arrive 0 1 1;g 0 1 ipi 0 5",
-    "|ok ok ok ok x6 1 x2 x2 x50005 x1020 x200 x90001 x50005 11 x20 x50005 5 x2|0|4",
-    "|ok ok ok ok x4 1 x2 x2 x50005 x1020 x200 x90001 x50005 11 x20 x50005 5 x2|4|14",
+    "|ok ok ok ok x6 1 x2 x2 x50005 x1020 x200 x90001 x50005 11 x20 x50005 6 x2|0|4",
+    "|ok ok ok ok x4 1 x2 x2 x50005 x1020 x200 x90001 x50005 11 x20 x50005 6 x2|4|14",
     "begin arrive 0 2 1;msi 0 0x28010000 5;step 0 2;step 0 2;msi 0 0x28010000 6",
     "|ok ok moving moving ok x8 24 busy away|0|14",
     "arrive 0 2 1;g 0 2 ipi 0 5|ok ok x2 2 x2 x50005 x1020 x200 x90001 x50005 16 home|0|4",
@@ -504,8 +505,8 @@ pub const SHIFT_127_AFTER: [&str; 8] = [
     "g 0 0 csrrw siselect 0xc0;g 0 0 csrr sireg;g 0 0 csrrw siselect 0xc2|x82 x100000000a0 xc0",
     "g 0 0 csrr sireg;g 0 0 csrrw siselect 0x72;g 0 0 csrr sireg|x1000000040 xc2 x5a",
     "g 0 0 csrrw siselect 0x70;g 0 0 csrr sireg;g 0 1 csrr sireg;g 0 1 csrr stopei|x72 x1 x0 x0",
-    "step 1 0;g 1 0 csrr sireg;g 1 0 csrr stopei;arrive 0 2 1;g 0 2 csrr sireg|idle x0 x0 ok x0",
-    "h 1 hgeip;step 0 0|x0 idle",
+    "step 1 0;g 1 0 csrr sireg;g 1 0 csrr stopei;arrive 0 2 0;g 0 2 csrr sireg|idle x0 x0 ok x0",
+    "h 0 hgeip;h 1 hgeip;leave 0 0;arrive 0 0 1;g 0 0 csrr stopei;step 0 0|x0 x0 ok ok x0 idle",
 ];
 
 /// What comes between two of its steps.
@@ -534,18 +535,18 @@ pub const SHIFT_127: [&str; 42] = [
     "h 1 csrrw stopei 0;h 1 csrr stopei;h 1 csrr sireg;h 0 hgeip;h 1 hgeip|x0 x0 x0 x0 x0|0|16",
     "st 0x28008000 1;h 1 csrrw stopei 0|ok x10001|0|16",
     "msi 0 0x28008000 5;msi 0 0x28010000 5;g 0 1 ipi 2 6;h 1 csrrw stopei 0",
-    "|ok ok ok x30003 3 x4 16 x20 x50005 4 x60 x4|0|16",
+    "|ok ok ok x30003 3 x4 16 x20 x50005 4 x60 x6|0|16",
     "msi 1 0x28000000 5;g 0 1 ipi 1 6;g 1 0 ipi 0 6;h 0 hgeip",
-    "|ok ok ok xc 3 xc 16 x40 x60006 1 x60 x50005|0|16",
+    "|ok ok ok xc 3 xc 16 x40 x60006 1 x60 x50005 2 xc|0|16",
     "begin leave 1 0;step 1 0;step 1 0;h 0 hgeip;msi 1 0x28000000 5",
     "|ok moving moving x0 ok 22 moving away away|0|16",
     "msi 1 0x28000000 5;leave 1 0;h 0 csrr sireg;arrive 1 0 0;h 0 hgeip",
-    "|ok ok x10 ok x8 1 x10 1 x8 19 x20 x50005|0|16",
+    "|ok ok x10 ok x8 1 x10 1 x8 19 x20 x50005 2 x8|0|16",
     "begin shift 1 0 1;step 1 0;msi 1 0x28000000 5;h 0 hgeip;h 1 hgeip",
     "|ok moving ok x0 x0 22 moving away away|0|16",
-    "msi 1 0x28000000 5;shift 1 0 1;h 0 hgeip;h 1 hgeip|ok ok x0 x4 2 x4 20 x20 x50005 2 x4|0|16",
+    "msi 1 0x28000000 5;shift 1 0 1;h 0 hgeip;h 1 hgeip|ok ok x0 x4 2 x4 20 x20 x50005 3 x4|0|16",
     "leave 0 1;msi 0 0x28008000 5;arrive 0 1 1;g 0 1 ipi 0 5",
-    "|ok ok ok ok x4 1 x6 1 x50005 x1020 x200 x90001 x50005 11 x20 x50005 5 x4|0|16",
+    "|ok ok ok ok x4 1 x6 1 x50005 x1020 x200 x90001 x50005 11 x20 x50005 6 x4|0|16",
     "begin arrive 0 2 1;msi 0 0x28010000 5;step 0 2;step 0 2;msi 0 0x28010000 6",
     "|ok ok moving moving ok x8 24 busy away|0|16",
     "arrive 0 2 1;g 0 2 ipi 0 5|ok ok 2 x2 1 x50005 x1020 x200 x90001 x50005 16 home|0|16",
@@ -576,26 +577,27 @@ pub const BEFORE_127_DELIVERABLE: [&str; 14] = [
 pub const LEAVE_127_DELIVERABLE_BEGIN: [&str; 1] = ["begin leave 0 0|ok"];
 
 /// What there is to see after it, where nothing came between.
-pub const LEAVE_127_DELIVERABLE_AFTER: [&str; 8] = [
+pub const LEAVE_127_DELIVERABLE_AFTER: [&str; 9] = [
     "arrive 0 0 1;h 1 csrr sireg;h 0 csrr sireg;h 1 hgeip;h 0 hgeip|ok x2 x0 x2 x0",
     "g 0 0 csrr stopei;g 0 0 csrr sireg;g 0 0 csrr sip;g 0 0 csrr stopi|x460046 x1000 x200 x90001",
     "g 0 0 csrrw stopei 0;g 0 0 csrr stopei;g 0 0 csrrw siselect 0x82|x460046 x0 x80",
     "g 0 0 csrr sireg;g 0 0 csrrw siselect 0xc0;g 0 0 csrr sireg|x0 x82 x100000000a0",
     "g 0 0 csrrw siselect 0xc2;g 0 0 csrr sireg;g 0 0 csrrw siselect 0x72|xc0 x1000000040 xc2",
     "g 0 0 csrr sireg;g 0 0 csrrw siselect 0x70;g 0 0 csrr sireg;g 0 1 csrr sireg|x5a x72 x1 x0",
-    "g 0 1 csrr stopei;step 1 0;g 1 0 csrr sireg;g 1 0 csrr stopei;arrive 0 2 1|x0 idle x0 x0 ok",
-    "g 0 2 csrr sireg;h 1 hgeip;step 0 0|x0 x0 idle",
+    "g 0 1 csrr stopei;step 1 0;g 1 0 csrr sireg;g 1 0 csrr stopei;arrive 0 2 0|x0 idle x0 x0 ok",
+    "g 0 2 csrr sireg;h 0 hgeip;h 1 hgeip;leave 0 0;arrive 0 0 1|x0 x0 x0 ok ok",
+    "g 0 0 csrr stopei;step 0 0|x0 idle",
 ];
 
 /// What comes between two of its steps.
 pub const LEAVE_127_DELIVERABLE: [&str; 15] = [
     "msi 0 0x28000000 5;h 1 csrrw stopei 0;h 0 hgeip;h 1 hgeip;g 0 1 ipi 0 5",
-    "|ok x0 x2 x0 ok 5 x50005 x1020 2 x50005 x460046 1 x40 15 x2|0|1",
-    "|ok x0 x0 x0 ok 5 x50005 x1020 2 x50005 x460046 1 x40 15 x2|1|12",
-    "|ok x10001 x0 x0 ok 5 x50005 x1020 2 x50005 x460046 1 x40 15 x2|12|18",
+    "|ok x0 x2 x0 ok 5 x50005 x1020 2 x50005 x460046 1 x40 16 x2 2 x460046|0|1",
+    "|ok x0 x0 x0 ok 5 x50005 x1020 2 x50005 x460046 1 x40 16 x2 2 x460046|1|12",
+    "|ok x10001 x0 x0 ok 5 x50005 x1020 2 x50005 x460046 1 x40 16 x2 2 x460046|12|18",
     "g 0 1 ipi 0 5;h 1 csrrw stopei 0;h 1 csrr stopei",
-    "|ok x0 x0 5 x50005 x1020 2 x50005 x460046 1 x40 15 x2|0|12",
-    "|ok x10001 x0 5 x50005 x1020 2 x50005 x460046 1 x40 15 x2|12|18",
+    "|ok x0 x0 5 x50005 x1020 2 x50005 x460046 1 x40 16 x2 2 x460046|0|12",
+    "|ok x10001 x0 5 x50005 x1020 2 x50005 x460046 1 x40 16 x2 2 x460046|12|18",
     "msi 0 0x28000000 70;h 1 csrrw stopei 0;h 0 hgeip;h 1 hgeip;g 0 1 ipi 0 70|ok x0 x2 x0 ok|0|1",
     "msi 0 0x28000000 70;h 1 csrrw stopei 0;h 0 hgeip;h 1 hgeip;g 0 1 ipi 0 70|ok x0 x0 x0 ok|1|14",
     "|ok x10001 x0 x0 ok|14|18",
@@ -612,7 +614,7 @@ pub const ARRIVE_127_DELIVERABLE_BEGIN: [&str; 1] = [
 ];
 
 /// What there is to see after it, where nothing came between.
-pub const ARRIVE_127_DELIVERABLE_AFTER: [&str; 8] = [
+pub const ARRIVE_127_DELIVERABLE_AFTER: [&str; 9] = [
     "h 1 csrr sireg;h 0 csrr sireg;h 1 hgeip;h 0 hgeip;g 0 0 csrr stopei|x0 x0 x0 x2 x460046",
     "g 0 0 csrr sireg;g 0 0 csrr sip;g 0 0 csrr stopi|x1000 x200 x90001",
     "g 0 0 csrrw stopei 0;g 0 0 csrr stopei;g 0 0 csrrw siselect 0x82|x460046 x0 x80",
@@ -620,18 +622,19 @@ pub const ARRIVE_127_DELIVERABLE_AFTER: [&str; 8] = [
     "g 0 0 csrrw siselect 0xc2;g 0 0 csrr sireg;g 0 0 csrrw siselect 0x72|xc0 x1000000040 xc2",
     "g 0 0 csrr sireg;g 0 0 csrrw siselect 0x70;g 0 0 csrr sireg;g 0 1 csrr sireg|x5a x72 x1 x0",
     "g 0 1 csrr stopei;step 1 0;g 1 0 csrr sireg;g 1 0 csrr stopei;arrive 0 2 1|x0 idle x0 x0 ok",
-    "g 0 2 csrr sireg;h 1 hgeip;step 0 0|x0 x0 idle",
+    "g 0 2 csrr sireg;h 0 hgeip;h 1 hgeip;leave 0 0;arrive 0 0 1|x0 x0 x0 ok ok",
+    "g 0 0 csrr stopei;step 0 0|x0 idle",
 ];
 
 /// What comes between two of its steps.
 pub const ARRIVE_127_DELIVERABLE: [&str; 15] = [
     "msi 0 0x28000000 5;h 1 csrrw stopei 0;h 0 hgeip;h 1 hgeip;g 0 1 ipi 0 5",
-    "|ok x10001 x0 x0 ok x2 3 x50005 x1020 2 x50005 x460046 1 x40|0|2",
-    "|ok x0 x0 x0 ok x2 3 x50005 x1020 2 x50005 x460046 1 x40|2|4",
-    "|ok x0 x0 x0 ok 4 x50005 x1020 2 x50005 x460046 1 x40|4|14",
+    "|ok x10001 x0 x0 ok x2 3 x50005 x1020 2 x50005 x460046 1 x40 15 x2 3 x460046|0|2",
+    "|ok x0 x0 x0 ok x2 3 x50005 x1020 2 x50005 x460046 1 x40 15 x2 3 x460046|2|4",
+    "|ok x0 x0 x0 ok 4 x50005 x1020 2 x50005 x460046 1 x40 15 x2 3 x460046|4|14",
     "g 0 1 ipi 0 5;h 1 csrrw stopei 0;h 1 csrr stopei",
-    "|ok x10001 x0 4 x50005 x1020 2 x50005 x460046 1 x40|0|4",
-    "|ok x0 x0 4 x50005 x1020 2 x50005 x460046 1 x40|4|14",
+    "|ok x10001 x0 4 x50005 x1020 2 x50005 x460046 1 x40 15 x2 3 x460046|0|4",
+    "|ok x0 x0 4 x50005 x1020 2 x50005 x460046 1 x40 15 x2 3 x460046|4|14",
     "msi 0 0x28000000 70;h 1 csrrw stopei 0;h 0 hgeip;h 1 hgeip;g 0 1 ipi 0 70",
     "|ok x10001 x0 x0 ok x2|0|2",
     "|ok x0 x0 x0 ok x2|2|4",
@@ -646,24 +649,25 @@ pub const ARRIVE_127_DELIVERABLE: [&str; 15] = [
 pub const SHIFT_127_DELIVERABLE_BEGIN: [&str; 1] = ["begin shift 0 0 1|ok"];
 
 /// What there is to see after it, where nothing came between.
-pub const SHIFT_127_DELIVERABLE_AFTER: [&str; 8] = [
+pub const SHIFT_127_DELIVERABLE_AFTER: [&str; 9] = [
     "h 1 csrr sireg;h 0 csrr sireg;h 1 hgeip;h 0 hgeip;g 0 0 csrr stopei|x0 x0 x2 x0 x460046",
     "g 0 0 csrr sireg;g 0 0 csrr sip;g 0 0 csrr stopi|x1000 x200 x90001",
     "g 0 0 csrrw stopei 0;g 0 0 csrr stopei;g 0 0 csrrw siselect 0x82|x460046 x0 x80",
     "g 0 0 csrr sireg;g 0 0 csrrw siselect 0xc0;g 0 0 csrr sireg|x0 x82 x100000000a0",
     "g 0 0 csrrw siselect 0xc2;g 0 0 csrr sireg;g 0 0 csrrw siselect 0x72|xc0 x1000000040 xc2",
     "g 0 0 csrr sireg;g 0 0 csrrw siselect 0x70;g 0 0 csrr sireg;g 0 1 csrr sireg|x5a x72 x1 x0",
-    "g 0 1 csrr stopei;step 1 0;g 1 0 csrr sireg;g 1 0 csrr stopei;arrive 0 2 1|x0 idle x0 x0 ok",
-    "g 0 2 csrr sireg;h 1 hgeip;step 0 0|x0 x0 idle",
+    "g 0 1 csrr stopei;step 1 0;g 1 0 csrr sireg;g 1 0 csrr stopei;arrive 0 2 0|x0 idle x0 x0 ok",
+    "g 0 2 csrr sireg;h 0 hgeip;h 1 hgeip;leave 0 0;arrive 0 0 1|x0 x0 x0 ok ok",
+    "g 0 0 csrr stopei;step 0 0|x0 idle",
 ];
 
 /// What comes between two of its steps.
 pub const SHIFT_127_DELIVERABLE: [&str; 11] = [
     "msi 0 0x28000000 5;h 1 csrrw stopei 0;h 0 hgeip;h 1 hgeip;g 0 1 ipi 0 5",
-    "|ok x0 x2 x0 ok 4 x50005 x1020 2 x50005 x460046 1 x40 15 x2|0|1",
-    "|ok x0 x0 x0 ok 4 x50005 x1020 2 x50005 x460046 1 x40 15 x2|1|16",
+    "|ok x0 x2 x0 ok 4 x50005 x1020 2 x50005 x460046 1 x40 16 x2 2 x460046|0|1",
+    "|ok x0 x0 x0 ok 4 x50005 x1020 2 x50005 x460046 1 x40 16 x2 2 x460046|1|16",
     "g 0 1 ipi 0 5;h 1 csrrw stopei 0;h 1 csrr stopei",
-    "|ok x0 x0 4 x50005 x1020 2 x50005 x460046 1 x40 15 x2|0|16",
+    "|ok x0 x0 4 x50005 x1020 2 x50005 x460046 1 x40 16 x2 2 x460046|0|16",
     "msi 0 0x28000000 70;h 1 csrrw stopei 0;h 0 hgeip;h 1 hgeip;g 0 1 ipi 0 70|ok x0 x2 x0 ok|0|1",
     "msi 0 0x28000000 70;h 1 csrrw stopei 0;h 0 hgeip;h 1 hgeip;g 0 1 ipi 0 70|ok x0 x0 x0 ok|1|16",
     "g 0 1 ipi 0 70;h 1 csrrw stopei 0;h 1 csrr stopei|ok x0 x0|0|16",
