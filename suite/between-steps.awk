@@ -284,6 +284,8 @@ function say_before(is_deliverable,    hart) {
     write_registers("0 0", "0xc2 0x1000000040 0x82 " (is_deliverable ? "0x40" : "0x0"))
   write_registers("0 0", "0xc0 0x100000000a0 0x72 " (words == 2 ? 90 : 50) " 0x70 1 0x80 " \
     (is_deliverable && words == 1 ? "0x1080" : "0x1000"))
+  # What an earlier move left behind in memory would send notices too early.
+  say_all("before", "leave 0 0;h 1 csrrw stopei 0;arrive 0 0 0")
 }
 
 function say_begin(kind) {

@@ -48,7 +48,7 @@ pub const BEFORE_63: [&str; 13] = [
     "g 0 0 csrrw siselect 0xc0;g 0 0 csrrw sireg 0x100000000a0|x0 x0",
     "g 0 0 csrrw siselect 0x72;g 0 0 csrrw sireg 50;g 0 0 csrrw siselect 0x70|xc0 x0 x72",
     "g 0 0 csrrw sireg 1;g 0 0 csrrw siselect 0x80;g 0 0 csrrw sireg 0x1000|x0 x70 x0",
-    "g 0 0 csrrw siselect 0x80|x80",
+    "g 0 0 csrrw siselect 0x80;leave 0 0;h 1 csrrw stopei 0;arrive 0 0 0|x80 ok x0 ok",
 ];
 
 /// How the move begins.
@@ -232,7 +232,7 @@ pub const BEFORE_63_DELIVERABLE: [&str; 13] = [
     "g 0 0 csrrw siselect 0xc0;g 0 0 csrrw sireg 0x100000000a0|x0 x0",
     "g 0 0 csrrw siselect 0x72;g 0 0 csrrw sireg 50;g 0 0 csrrw siselect 0x70|xc0 x0 x72",
     "g 0 0 csrrw sireg 1;g 0 0 csrrw siselect 0x80;g 0 0 csrrw sireg 0x1080|x0 x70 x0",
-    "g 0 0 csrrw siselect 0x80|x80",
+    "g 0 0 csrrw siselect 0x80;leave 0 0;h 1 csrrw stopei 0;arrive 0 0 0|x80 ok x10001 ok",
 ];
 
 /// How the move begins.
@@ -333,7 +333,7 @@ pub const SHIFT_63_DELIVERABLE: [&str; 11] = [
 ];
 
 /// What comes before a move.
-pub const BEFORE_127: [&str; 14] = [
+pub const BEFORE_127: [&str; 15] = [
     "machine 2 3 127 8;vm 3 0x18 1;vm 1 0x8 0;h 1 csrrw siselect 0xc0|ok ok ok x0",
     "h 1 csrrw sireg 0x1e;h 1 csrrw siselect 0x80;h 0 csrrw siselect 0xc0|x0 xc0 x0",
     "h 0 csrrw sireg 0x1e;h 0 csrrw siselect 0x80;arrive 0 0 0;arrive 0 1 0|x0 xc0 ok ok",
@@ -347,7 +347,8 @@ pub const BEFORE_127: [&str; 14] = [
     "g 0 0 csrrw sireg 0x0;g 0 0 csrrw siselect 0x80;g 0 0 csrrw siselect 0xc0|x0 x82 x80",
     "g 0 0 csrrw sireg 0x100000000a0;g 0 0 csrrw siselect 0x72;g 0 0 csrrw sireg 90|x0 xc0 x0",
     "g 0 0 csrrw siselect 0x70;g 0 0 csrrw sireg 1;g 0 0 csrrw siselect 0x80|x72 x0 x70",
-    "g 0 0 csrrw sireg 0x1000;g 0 0 csrrw siselect 0x80|x0 x80",
+    "g 0 0 csrrw sireg 0x1000;g 0 0 csrrw siselect 0x80;leave 0 0;h 1 csrrw stopei 0|x0 x80 ok x0",
+    "arrive 0 0 0|ok",
 ];
 
 /// How the move begins.
@@ -556,7 +557,7 @@ pub const SHIFT_127: [&str; 42] = [
 ];
 
 /// What comes before a move.
-pub const BEFORE_127_DELIVERABLE: [&str; 14] = [
+pub const BEFORE_127_DELIVERABLE: [&str; 15] = [
     "machine 2 3 127 8;vm 3 0x18 1;vm 1 0x8 0;h 1 csrrw siselect 0xc0|ok ok ok x0",
     "h 1 csrrw sireg 0x1e;h 1 csrrw siselect 0x80;h 0 csrrw siselect 0xc0|x0 xc0 x0",
     "h 0 csrrw sireg 0x1e;h 0 csrrw siselect 0x80;arrive 0 0 0;arrive 0 1 0|x0 xc0 ok ok",
@@ -570,7 +571,8 @@ pub const BEFORE_127_DELIVERABLE: [&str; 14] = [
     "g 0 0 csrrw sireg 0x40;g 0 0 csrrw siselect 0x80;g 0 0 csrrw siselect 0xc0|x0 x82 x80",
     "g 0 0 csrrw sireg 0x100000000a0;g 0 0 csrrw siselect 0x72;g 0 0 csrrw sireg 90|x0 xc0 x0",
     "g 0 0 csrrw siselect 0x70;g 0 0 csrrw sireg 1;g 0 0 csrrw siselect 0x80|x72 x0 x70",
-    "g 0 0 csrrw sireg 0x1000;g 0 0 csrrw siselect 0x80|x0 x80",
+    "g 0 0 csrrw sireg 0x1000;g 0 0 csrrw siselect 0x80;leave 0 0|x0 x80 ok",
+    "h 1 csrrw stopei 0;arrive 0 0 0|x10001 ok",
 ];
 
 /// How the move begins.
