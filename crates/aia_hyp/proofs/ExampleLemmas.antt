@@ -53,11 +53,11 @@ use Rattle.aia_model.specs.Notice.{a_look_saw, notices_sent, look_saw}
 use Rattle.aia_model.specs.FileAfter.{file_by, select_by}
 use Rattle.aia_model.specs.FileOf.{FileName, MachineFile, SupervisorFile, file_of, select_of}
 use Rattle.aia_model.specs.GuestFile.{guest_file, guest_select}
-use Rattle.aia_model.specs.Answer.{after, steps_taken, steps_of, whole_move}
+use Rattle.aia_model.specs.Answer.{after, after_lines, steps_taken, steps_of, whole_move}
 use Rattle.aia_model.proofs.MoveLemmas.{home_step, is_another}
 use Rattle.aia_hyp.specs.HostFiles.{host_spot}
 use Rattle.aia_hyp.specs.Stands.{HostStands, VcpuStands, HoldApart, is_held, CoreStands}
-use Rattle.aia_hyp.specs.Example.{stayer, leaver, stayer_file, leaver_file, made_history, stayer_arrived, both_arrived, before_leaving, after_lines, earlier_lines, leave_lines, empty_state, drained_state, example_files, entry_words, example_memory, example_world, leave_under_way, leaving_core, leaving_history}
+use Rattle.aia_hyp.specs.Example.{stayer, leaver, stayer_file, leaver_file, made_history, stayer_arrived, both_arrived, before_leaving, earlier_lines, leave_lines, empty_state, drained_state, example_files, entry_words, example_memory, example_world, leave_under_way, leaving_core, leaving_history}
 use Rattle.aia_hyp.proofs.VcpuLemmas.{IsHeld, same_place}
 
 -- ---- the history

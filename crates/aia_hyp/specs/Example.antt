@@ -25,7 +25,7 @@ use Rattle.aia_model.specs.Move.Move.{Arrives, Leaves}
 use Rattle.aia_model.specs.Event.{History}
 use Rattle.aia_model.specs.Event.Event.{Accepted, Began}
 use Rattle.aia_model.specs.HomeOf.{place}
-use Rattle.aia_model.specs.Answer.{after, steps_taken, whole_move}
+use Rattle.aia_model.specs.Answer.{steps_taken, whole_move}
 use Rattle.aia_hyp.specs.declared.vcpu.Stay.TheVariants as stays
 use Rattle.aia_hyp.specs.Core.{CoreState}
 
@@ -72,11 +72,6 @@ earlier_lines = lines.Machine 1 3 63 1 ∷ lines.Vm 2 8 0 ∷ lines.Arrive 0 0 0
 
 abbrev pub leave_lines : List Line
 leave_lines = lines.BeginLeave 0 1 ∷ replicate 7 (lines.Step 0 1)
-
--- The history after lines, the first of a list first.
-abbrev pub after_lines : History → List Line → History
-after_lines h [] = h
-after_lines h (line ∷ later) = after_lines (after h line) later
 
 -- ---- the core then
 

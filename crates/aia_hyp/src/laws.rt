@@ -19,9 +19,10 @@ ghost use Rattle.aia_model.specs.Vms.{vms_of, has_vcpu};
 ghost use Rattle.aia_model.specs.Refusal.{refusal};
 ghost use Rattle.aia_hyp.specs.Moves.{KnowsIts};
 ghost use Rattle.aia_model.specs.HomeOf.{home};
+ghost use Rattle.aia_model.specs.Answer.{after_lines};
 ghost use Rattle.aia_hyp.specs.Core.{CoreState, record_of};
 ghost use Rattle.aia_hyp.specs.Stands.{CoreStands, CoreTakes, line_served};
-ghost use Rattle.aia_hyp.specs.Example.{stayer, leaver, leaving_history, earlier_lines, leave_lines, after_lines, stayer_file, leaver_file, leaving_core};
+ghost use Rattle.aia_hyp.specs.Example.{stayer, leaver, leaving_history, earlier_lines, leave_lines, stayer_file, leaver_file, leaving_core};
 
 use crate::vcpu::Stay;
 use aia_model::{Answer, Line};

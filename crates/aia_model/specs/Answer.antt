@@ -132,3 +132,8 @@ history_after (Some word) h line = h
 -- The history after a line.
 unfoldable pub after : History → Line → History
 after h line = history_after (refusal h line) h line
+
+-- The history after lines, the first of a list first.
+abbrev pub after_lines : History → List Line → History
+after_lines h [] = h
+after_lines h (line ∷ lines) = after_lines (after h line) lines

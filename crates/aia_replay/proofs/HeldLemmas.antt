@@ -10,12 +10,12 @@ use Rattle.aia_model.specs.declared.parsed.Parsed.TheVariants.{Skip, Bad, Line}
 use Rattle.aia_model.specs.Event.{History}
 use Rattle.aia_model.specs.Text.{texts_of, words_of}
 use Rattle.aia_model.specs.Reading.{reading, parsed_of, line_at}
-use Rattle.aia_model.specs.Script.{answers, answers_from, printed, text_answer, after_text}
+use Rattle.aia_model.specs.Script.{answers, answers_from, printed, text_answer, after_text, after_texts, history_of}
 use Rattle.aia_replay.specs.declared.engine.Engine.{Engine}
 use Rattle.aia_replay.specs.declared.replayer.Replayer.{Replayer}
 use Rattle.aia_replay.specs.Buffered.{Gathers, CutOff}
 use Rattle.aia_replay.specs.Stands.{StandsFor, ReadsAsMachine}
-use Rattle.aia_replay.specs.Runs.{NoEnd, AsksMachine, after_texts, CutsLines}
+use Rattle.aia_replay.specs.Runs.{NoEnd, AsksMachine, CutsLines}
 use Rattle.aia_replay.specs.Streams.{WritesOut, WritesOutFront, Holds, HoldsStop, Begins, AnswersLine, LacksMemory}
 use Rattle.aia_replay.proofs.CutLemmas.{texts_front, texts_last, take_again}
 

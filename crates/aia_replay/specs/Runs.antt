@@ -7,9 +7,8 @@ use Rattle.aia_model.specs.declared.parsed.Parsed.{Parsed}
 use Rattle.aia_model.specs.declared.parsed.Parsed.TheVariants as parsed
 use Rattle.aia_model.specs.Event.{History}
 use Rattle.aia_model.specs.Refusal.{makes_machine}
-use Rattle.aia_model.specs.Text.{texts_of}
 use Rattle.aia_model.specs.Reading.{reading}
-use Rattle.aia_model.specs.Script.{answers, after_text}
+use Rattle.aia_model.specs.Script.{answers, history_of}
 use Rattle.aia_replay.specs.declared.program.Status.{Status}
 use Rattle.aia_replay.specs.declared.program.Status.TheVariants.{Done, ReadFault, WriteFault, Memory, TooLong}
 use Rattle.aia_replay.specs.declared.limits.TheConstants.{SCRIPT_BYTES}
@@ -91,11 +90,6 @@ pub record WritesFront (left rest before now : Option (List ℕ)) : Type 0 where
   pub consumed : Consumes left rest bytes
   pub cut : CutsLines before now bytes ⊎ (IsScript left bytes × CutOff before now (answers bytes))
 
--- The history that texts leave.
-abbrev pub after_texts : History → List (List ℕ) → History
-after_texts h [] = h
-after_texts h (text ∷ texts) = after_texts (after_text h (reading text)) texts
-
 -- What a text reads as is a `machine` line that is accepted.
 abbrev pub AsksMachine : History → Parsed → Type 0
 AsksMachine h (parsed.Line line) = makes_machine h line ≡ true
@@ -112,7 +106,7 @@ pub record StopsAtMachine (left rest before now : Option (List ℕ)) : Type 0 wh
   pub lines : IsWhole whole
   pub no_end : NoEnd text
   pub end : ((next : List ℕ) × (more ≡ 10 ∷ next)) ⊎ ((more ≡ []) × IsScript left (whole ++ text))
-  pub asks : AsksMachine (after_texts [] (texts_of whole)) (reading text)
+  pub asks : AsksMachine (history_of whole) (reading text)
   pub written : Appends before now (answers whole)
 
 -- ---- the whole promise

@@ -6,7 +6,7 @@ use Rattle.aia_io.specs.declared.source.Read.TheVariants as reads
 use Rattle.aia_model.specs.Event.{History}
 use Rattle.aia_model.specs.Text.{texts_of}
 use Rattle.aia_model.specs.Reading.{reading}
-use Rattle.aia_model.specs.Script.{answers, answers_from, printed, text_answer, after_text}
+use Rattle.aia_model.specs.Script.{answers, answers_from, printed, text_answer, after_text, after_texts, history_of}
 use Rattle.aia_model.specs.declared.limits.TheConstants.{LINE_BYTES}
 use Rattle.aia_replay.specs.declared.limits.TheConstants.{SCRIPT_BYTES}
 use Rattle.aia_replay.specs.declared.replayer.Replayer.{Replayer}
@@ -14,7 +14,7 @@ use Rattle.aia_replay.specs.declared.program.Status.{Status}
 use Rattle.aia_replay.specs.declared.program.Status.TheVariants.{Done, ReadFault, TooLong}
 use Rattle.aia_replay.specs.Buffered.{Gathers, CutOff}
 use Rattle.aia_replay.specs.Stands.{StandsFor, ReadsAsMachine}
-use Rattle.aia_replay.specs.Runs.{NoEnd, IsWhole, AnswersWhole, IsScript, TakesAtMost, CutsLines, WritesFront, AsksMachine, after_texts}
+use Rattle.aia_replay.specs.Runs.{NoEnd, IsWhole, AnswersWhole, IsScript, TakesAtMost, CutsLines, WritesFront, AsksMachine}
 
 -- The bytes read so far are whole lines, which are answered, and the tail of a line whose LF wasn't
 -- read; what was answered is written or waits in the buffer, and whatever follows is answered as
@@ -31,9 +31,9 @@ pub record Holds (r : Replayer) (before now : Option (List ℕ)) (bytes : List �
   pub completes : (more : List ℕ)
       → written ++ answers_from history (texts_of (tail ++ more)) ≡ answers (bytes ++ more)
   pub lines : IsWhole whole
-  pub told : history ≡ after_texts [] (texts_of whole)
+  pub told : history ≡ history_of whole
   pub tells : (more : List ℕ)
-      → after_texts history (texts_of (tail ++ more)) ≡ after_texts [] (texts_of (bytes ++ more))
+      → after_texts history (texts_of (tail ++ more)) ≡ history_of (bytes ++ more)
   pub no_end : NoEnd tail
   pub line : r.line.items ≡ take (LINE_BYTES + 1) tail
 
@@ -47,7 +47,7 @@ pub record HoldsStop (r : Replayer) (before now : Option (List ℕ)) (bytes more
   pub split : bytes ≡ whole ++ (text ++ more)
   pub lines : IsWhole whole
   pub no_end : NoEnd text
-  pub asks : AsksMachine (after_texts [] (texts_of whole)) (reading text)
+  pub asks : AsksMachine (history_of whole) (reading text)
 
 -- One read asked for `most` bytes at the front of a buffer.
 abbrev pub ReadsFront : ℕ → Option (List ℕ) → Option (List ℕ) → List ℕ → Read → Type 0

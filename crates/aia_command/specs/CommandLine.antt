@@ -1,0 +1,1 @@
+-- What the words of the command line ask for.

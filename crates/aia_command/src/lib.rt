@@ -1,0 +1,2 @@
+//! The words of the command line, and what they ask for.
+#![tactic(auto)]

@@ -1,0 +1,22 @@
+//! Notices: that the host is told of each interrupt of a virtual hart that is parked.
+
+/// No notice is lost. After every script, while a virtual hart is parked and an identity is pending
+/// and enabled at it, its notice identity was asked for at the supervisor file of its notice hart, no
+/// earlier than the newest request for that identity.
+pub fn no_notice_is_lost()
+    ensures { (script : List ℕ) (g : Vcpu) (i : ℕ) → home (history_of script) g ≡ Parked
+        → is_deliverable (history_of script) g i ≡ true
+        → told_since (history_of script) (notice_file (history_of script) g)
+        (notice_number (history_of script) g) g i ≡ true }
+{}
+
+/// The host sees it: the notice identity is then pending in that file, unless something the host did
+/// there cleared it, no earlier than the newest request.
+pub fn the_host_sees_a_notice_until_it_clears_it()
+    ensures { (script : List ℕ) (g : Vcpu) (i : ℕ) → home (history_of script) g ≡ Parked
+        → is_deliverable (history_of script) g i ≡ true
+        → cleared_since (history_of script) (notice_file (history_of script) g)
+        (notice_number (history_of script) g) g i ≡ false
+        → (file_of (history_of script) (notice_file (history_of script) g)).pending
+        (notice_number (history_of script) g) ≡ true }
+{}
