@@ -1,22 +1,24 @@
--- The words of the command line, and which of them are refused.
-use Rattle.std.specs.Prelude.{◌≡◌, ◌≢◌, ℕ, List, [], ◌∷◌, map, drop, codes, Vec, String, string_bytes, Result, Ok, Err}
+-- The words of the command line, and what they ask for.
+use Rattle.std.specs.Prelude.{◌≡◌, ◌≢◌, ℕ, List, [], ◌∷◌, map, drop, Vec, String, string_bytes, Option, None, Result, Ok, Err}
 use Rattle.std.specs.IoError.{error_kind}
 use Rattle.std.specs.declared.alloc.Global.{Global}
 use Rattle.std.specs.declared.io.Error.{Error}
 use Rattle.std.specs.declared.io.ErrorKind.TheVariants.{OutOfMemory}
+use Rattle.aia_command.specs.declared.subcommand.Subcommand.{Subcommand}
+use Rattle.aia_command.specs.CommandLine.{subcommand_of}
 
 -- The words without the program's name, which comes first.
 abbrev pub words_of : List (String Global) → List (List ℕ)
 words_of arguments = drop 1 (map string_bytes arguments)
 
--- They are taken: they are the one word `replay`.
-abbrev pub AreTaken : Result (Vec (String Global) Global) Error → Type 0
-AreTaken (Ok arguments) = words_of arguments.items ≡ codes "replay" ∷ []
-AreTaken (Err error) = ⊥
+-- What they ask for; None where they are no text, or are refused.
+abbrev pub asked_by : Result (Vec (String Global) Global) Error → Option Subcommand
+asked_by (Ok arguments) = subcommand_of (words_of arguments.items)
+asked_by (Err error) = None
 
--- They are refused: they are no text, or not the one word `replay`.
+-- They are refused: they are no text, or ask for nothing.
 abbrev pub AreRefused : Result (Vec (String Global) Global) Error → Type 0
-AreRefused (Ok arguments) = words_of arguments.items ≢ codes "replay" ∷ []
+AreRefused (Ok arguments) = subcommand_of (words_of arguments.items) ≡ None
 AreRefused (Err error) = error_kind error ≢ OutOfMemory
 
 -- The numbers that the program ends with.

@@ -1,13 +1,17 @@
-//! `aia replay`: reads a script from standard input and prints the answers of its lines.
+//! `aia replay` reads a script from standard input and prints the answers of its lines; `aia gen COUNT
+//! SEED` runs a generated script and prints its summary.
 #![tactic(auto)]
 
-ghost use Rattle.std.specs.Prelude.{◌≡◌, ◌≢◌, ◌+◌, ◌⊎◌, ◌↔◌, [], ◌∷◌, map, codes, Contains, IfOk, OnErr};
-ghost use Rattle.std.specs.Io.KnownBytes.{Appends, Consumes};
+ghost use Rattle.std.specs.Prelude.{◌≡◌, ◌≢◌, ◌+◌, ◌⊎◌, ◌↔◌, ℕ, map, Contains, Some, None, IfOk, OnErr};
+ghost use Rattle.std.specs.Io.KnownBytes.{Appends};
 ghost use Rattle.std.specs.IoError.{error_kind};
 ghost use Rattle.std.specs.Process.{exit_status};
+ghost use Rattle.aia_command.specs.declared.subcommand.Subcommand.TheVariants.{Replay, Generate};
+ghost use Rattle.aia_command.specs.CommandLine.{subcommand_of};
+ghost use Rattle.aia_generate.specs.Summary.{summary};
 ghost use Rattle.aia_io.specs.Ends.{Rose};
-ghost use Rattle.aia_replay.specs.Runs.{EndsWith, HasAtMost, IsDoneOrMemory, StopsAtMachine, Takes, TakesAll, WritesAnswers};
-ghost use Rattle.aia.specs.Command.{AreRefused, AreTaken, exit_numbers, words_of};
+ghost use Rattle.aia_replay.specs.Runs.{EndsWith, HasAtMost, IsDoneOrMemory, StopsAtMachine, Summarizes, Takes, TakesAll, TouchesNothing, WritesAnswers};
+ghost use Rattle.aia.specs.Command.{AreRefused, asked_by, exit_numbers, words_of};
 
 use aia_io::{Sink, Source, StdSink, StdSource};
 use aia_replay::{SCRIPT_BYTES, Status, run};
@@ -37,23 +41,29 @@ fn command<S: Source, K: Sink>(
     source: &mut S,
     sink: &mut K,
 ) -> ExitCode
-    ensures done { exit_status result ≡ 0
+    // The headline: at 0 what is written is the model's answers of the whole script.
+    ensures done { asked_by arguments ≡ Some Replay → exit_status result ≡ 0
         → WritesAnswers (S.left source.old) (K.taken sink.old) (K.taken sink.new) }
-    ensures all { exit_status result ≡ 0 → TakesAll (S.left source.old) (S.left source.new) }
+    ensures all { asked_by arguments ≡ Some Replay → exit_status result ≡ 0
+        → TakesAll (S.left source.old) (S.left source.new) }
+    ensures generates { (count seed : ℕ) → asked_by arguments ≡ Some (Generate count seed)
+        → (source.new ≡ source.old) × (exit_status result ≡ 0
+        → Appends (K.taken sink.old) (K.taken sink.new) (summary count seed)) }
 
     // Where there is memory for the words, they are refused exactly by 2.
     ensures usage { exit_status result ≢ 5 → ((exit_status result ≡ 2) ↔ AreRefused arguments) }
     ensures nothing { exit_status result ≡ 2
-        → Consumes (S.left source.old) (S.left source.new) []
-        × Appends (K.taken sink.old) (K.taken sink.new) [] }
+        → (source.new ≡ source.old) × (sink.new ≡ sink.old) }
 
     ensures read_fault { exit_status result ≡ 3
         → Rose (S.faults source.old) (S.faults source.new) }
     ensures write_fault { exit_status result ≡ 4 → Rose (K.faults sink.old) (K.faults sink.new) }
 
-    // No memory for the words, and nothing was touched, or none for the machine.
+    // No memory for the words or for a generated script, and nothing was touched, or none for a
+    // machine that the script asks for.
     ensures memory { exit_status result ≡ 5
-        → ((source.new ≡ source.old) × (sink.new ≡ sink.old))
+        → TouchesNothing (S.left source.old) (S.left source.new)
+        (K.taken sink.old) (K.taken sink.new)
         ⊎ StopsAtMachine (S.left source.old) (S.left source.new)
         (K.taken sink.old) (K.taken sink.new) }
     ensures too_long { exit_status result ≡ 6
@@ -61,10 +71,10 @@ fn command<S: Source, K: Sink>(
 
     // There is no other number, and where nothing is in the way, it is 0, or 5.
     ensures number { Contains exit_numbers (exit_status result) }
-    ensures complete { AreTaken arguments
+    ensures complete { asked_by arguments ≢ None
         → (¬ Rose (S.faults source.old) (S.faults source.new))
         → (¬ Rose (K.faults sink.old) (K.faults sink.new))
-        → HasAtMost SCRIPT_BYTES (S.left source.old)
+        → (asked_by arguments ≡ Some Replay → HasAtMost SCRIPT_BYTES (S.left source.old))
         → (exit_status result ≡ 0) ⊎ (exit_status result ≡ 5) }
 {
     let status = match arguments {
@@ -93,19 +103,25 @@ fn replay<S: Source, K: Sink>(
     source: &mut S,
     sink: &mut K,
 ) -> Result<Status, AllocError>
-    ensures usage { IfOk result (λ status.
-        (status ≡ Status.Usage) ↔ (words_of arguments.now ≢ codes "replay" ∷ [])) }
-    ensures nothing { IfOk result (λ status. status ≡ Status.Usage
-        → Consumes (S.left source.old) (S.left source.new) []
-        × Appends (K.taken sink.old) (K.taken sink.new) []) }
-    ensures ends { IfOk result (λ status. EndsWith status
+    ensures replays { subcommand_of (words_of arguments.now) ≡ Some Replay
+        → IfOk result (λ status. EndsWith status
         (S.left source.old) (S.left source.new) (K.taken sink.old) (K.taken sink.new)
         (S.faults source.old) (S.faults source.new)
         (K.faults sink.old) (K.faults sink.new)) }
-    ensures complete { words_of arguments.now ≡ codes "replay" ∷ []
+    ensures generates { (count seed : ℕ)
+        → subcommand_of (words_of arguments.now) ≡ Some (Generate count seed)
+        → IfOk result (λ status. (source.new ≡ source.old) × Summarizes status (summary count seed)
+        (K.taken sink.old) (K.taken sink.new) (K.faults sink.old) (K.faults sink.new)) }
+    ensures usage { IfOk result (λ status. status ≢ Status.Memory
+        → ((status ≡ Status.Usage) ↔ (subcommand_of (words_of arguments.now) ≡ None))) }
+    ensures nothing { subcommand_of (words_of arguments.now) ≡ None
+        → IfOk result (λ status. ((status ≡ Status.Usage) ⊎ (status ≡ Status.Memory))
+        × (source.new ≡ source.old) × (sink.new ≡ sink.old)) }
+    ensures complete { subcommand_of (words_of arguments.now) ≢ None
         → (¬ Rose (S.faults source.old) (S.faults source.new))
         → (¬ Rose (K.faults sink.old) (K.faults sink.new))
-        → HasAtMost SCRIPT_BYTES (S.left source.old)
+        → (subcommand_of (words_of arguments.now) ≡ Some Replay
+        → HasAtMost SCRIPT_BYTES (S.left source.old))
         → IfOk result IsDoneOrMemory }
     ensures err { OnErr result ((source.new ≡ source.old) × (sink.new ≡ sink.old)) }
 {

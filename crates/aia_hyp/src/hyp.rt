@@ -1,4 +1,4 @@
-ghost use Rattle.std.specs.Prelude.{◌≡◌, ◌≢◌, ◌+◌, ◌<◌, ◌≤◌, ◌%◌, ◌&&◌, ◌++◌, length, replicate, slice_index, nat_lt, true, false, None, Ok, Err, IsTrue, IfOk, OnOk};
+ghost use Rattle.std.specs.Prelude.{◌≡◌, ◌≢◌, ◌+◌, ◌-◌, ◌^◌, min, ◌<◌, ◌≤◌, ◌%◌, ◌&&◌, ◌++◌, length, replicate, slice_index, nat_lt, true, false, None, Ok, Err, IsTrue, IfOk, OnOk};
 ghost use Rattle.std.specs.Int.{is_in_range};
 ghost use Rattle.std.specs.Result.{result_err};
 ghost use Rattle.std.specs.Vec.{vec_capacity};
@@ -12,6 +12,7 @@ ghost use Rattle.aia_imsic.specs.Map.{spot_at};
 ghost use Rattle.aia_word.specs.Top.{top_value};
 ghost use Rattle.aia_model.specs.Event.{History};
 ghost use Rattle.aia_model.specs.Act.{domain_at};
+ghost use Rattle.aia_model.specs.Notice.{notices_sent};
 ghost use Rattle.aia_model.specs.FileAfter.{Accesses, file_after};
 ghost use Rattle.aia_model.specs.FileOf.{FileName};
 ghost use Rattle.aia_model.specs.declared.line.Line.TheVariants.{Load, Store, Vm};
@@ -288,6 +289,16 @@ impl Hyp {
             self.fabric.file(Spot::MachineFile(hart)).signal(),
             self.fabric.file(Spot::HostFile(hart)).signal(),
         ))
+    }
+
+    /// Tells how many notices were sent; the count stays at `2^64 - 1`.
+    ///
+    /// AIA 1.0, IOMMU Support for MSIs to Virtual Machines, "Memory-resident interrupt files".
+    pub fn notices(&self) -> u64
+        ensures { (h : History) → CoreStands self.now h
+            → result ≡ min (notices_sent h) (2 ^ 64 - 1) }
+    {
+        self.fabric.notices()
     }
 }
 

@@ -1,8 +1,10 @@
 -- What a run promises, by its status. Vocabulary.
-use Rattle.std.specs.Prelude.{◌≡◌, ◌≢◌, ℕ, ◌+◌, ◌≤◌, ◌⊎◌, true, false, nat_eq, List, [], ◌∷◌, ◌++◌, length, map, codes, All, Option, Some, None, IfSome}
+use Rattle.std.specs.Prelude.{◌≡◌, ◌≢◌, ℕ, ◌+◌, ◌≤◌, ◌⊎◌, true, false, nat_eq, List, [], ◌∷◌, ◌++◌, length, map, All, Option, Some, None, IfSome}
 use Rattle.std.specs.Borrow.{Bor}
 use Rattle.std.specs.Io.KnownBytes.{Appends, Consumes}
 use Rattle.aia_io.specs.Ends.{Rose}
+use Rattle.aia_command.specs.declared.subcommand.Subcommand.{Subcommand}
+use Rattle.aia_command.specs.CommandLine.{subcommand_of}
 use Rattle.aia_model.specs.declared.parsed.Parsed.{Parsed}
 use Rattle.aia_model.specs.declared.parsed.Parsed.TheVariants as parsed
 use Rattle.aia_model.specs.Event.{History}
@@ -14,13 +16,19 @@ use Rattle.aia_replay.specs.declared.program.Status.TheVariants.{Done, ReadFault
 use Rattle.aia_replay.specs.declared.limits.TheConstants.{SCRIPT_BYTES}
 use Rattle.aia_replay.specs.Buffered.{CutOff}
 
--- The command line that replays: the one word `replay`. Profile.
-abbrev pub IsReplay : List (Bor (List ℕ)) → Type 0
-IsReplay words = map (λ (w : Bor (List ℕ)). w.now) words ≡ codes "replay" ∷ []
+-- What the words of the command line ask for, without the program's name; None where they are
+-- refused.
+abbrev pub asked : List (Bor (List ℕ)) → Option Subcommand
+asked words = subcommand_of (map (λ (w : Bor (List ℕ)). w.now) words)
 
 -- What the sink took is the answers of all that the source had left.
 abbrev pub WritesAnswers : Option (List ℕ) → Option (List ℕ) → Option (List ℕ) → Type 0
 WritesAnswers left before now = IfSome left (λ script. Appends before now (answers script))
+
+-- Nothing was taken of the source, and nothing was written.
+abbrev pub TouchesNothing : Option (List ℕ) → Option (List ℕ) → Option (List ℕ)
+    → Option (List ℕ) → Type 0
+TouchesNothing left rest before now = Consumes left rest [] × Appends before now []
 
 -- The source had told its bytes, and all were taken.
 abbrev pub TakesAll : Option (List ℕ) → Option (List ℕ) → Type 0
@@ -111,9 +119,10 @@ pub record StopsAtMachine (left rest before now : Option (List ℕ)) : Type 0 wh
 
 -- ---- the whole promise
 
--- What a run promises by the status that it ends with: of what the source
--- had left before and after it, what the sink had taken before and after it, and the counts of
--- faults of the source and of the sink, each before and after it.
+-- What a run of `replay` promises by the status that it ends with: of what the source had left
+-- before and after it, what the sink had taken before and after it, and the counts of faults of the
+-- source and of the sink, each before and after it. Memory may lack for the words of the command
+-- line, and then nothing was touched, or for a machine.
 pub record EndsWith (status : Status) (left rest before now : Option (List ℕ))
     (source_old source_new sink_old sink_new : ℕ) : Type 0 where
   pub done : status ≡ Done → WritesAnswers left before now
@@ -121,11 +130,23 @@ pub record EndsWith (status : Status) (left rest before now : Option (List ℕ))
   pub read_fault : status ≡ ReadFault → Rose source_old source_new
   pub write_fault : status ≡ WriteFault → Rose sink_old sink_new
   pub too_long : status ≡ TooLong → Takes (SCRIPT_BYTES + 1) left rest
-  pub memory : status ≡ Memory → StopsAtMachine left rest before now
+  pub memory : status ≡ Memory
+      → TouchesNothing left rest before now ⊎ StopsAtMachine left rest before now
   pub read_fault_written : status ≡ ReadFault → WritesLines 0 left rest before now
   pub too_long_written : status ≡ TooLong → WritesLines 1 left rest before now
   pub write_fault_written : status ≡ WriteFault → WritesFront left rest before now
   pub bound : TakesAtMost (SCRIPT_BYTES + 1) left rest
   pub limit : status ≢ TooLong → TakesAtMost SCRIPT_BYTES left rest
   pub source_faults : source_old ≤ source_new
+  pub sink_faults : sink_old ≤ sink_new
+
+-- What a run of `gen` promises by the status that it ends with: of the text of the summary, what
+-- the sink had taken before and after it, and the count of faults of the sink, before and after it.
+pub record Summarizes (status : Status) (text : List ℕ) (before now : Option (List ℕ))
+    (sink_old sink_new : ℕ) : Type 0 where
+  pub ends : (status ≡ Done) ⊎ ((status ≡ WriteFault) ⊎ (status ≡ Memory))
+  pub done : status ≡ Done → Appends before now text
+  pub write_fault : status ≡ WriteFault → Rose sink_old sink_new
+  pub write_fault_written : status ≡ WriteFault → CutOff before now text
+  pub memory : status ≡ Memory → Appends before now []
   pub sink_faults : sink_old ≤ sink_new

@@ -76,7 +76,8 @@ impl Buffered {
     }
 }
 
-fn write_all<K: Sink>(sink: &mut K, bytes: &[u8]) -> Result<(), SinkFault>
+/// Writes all the bytes.
+pub fn write_all<K: Sink>(sink: &mut K, bytes: &[u8]) -> Result<(), SinkFault>
     ensures ok { OnOk result (Appends (K.taken sink.old) (K.taken sink.new) bytes.now) }
     ensures err { OnErr result (Rose (K.faults sink.old) (K.faults sink.new)) }
     ensures cut { OnErr result (CutOff (K.taken sink.old) (K.taken sink.new) bytes.now) }

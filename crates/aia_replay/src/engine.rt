@@ -1,6 +1,8 @@
-ghost use Rattle.std.specs.Prelude.{◌≡◌, ◌↔◌, [], IsTrue, IsNone, IfOk, OnErr};
+ghost use Rattle.std.specs.Prelude.{◌≡◌, ◌↔◌, ◌-◌, ◌^◌, min, [], IsTrue, IsNone, IfOk, OnErr};
 ghost use Rattle.aia_model.specs.Grammar.{IsListed};
 ghost use Rattle.aia_model.specs.Text.{is_skipped};
+ghost use Rattle.aia_model.specs.Event.{History};
+ghost use Rattle.aia_model.specs.Notice.{notices_sent};
 ghost use Rattle.aia_model.specs.Reading.{reading};
 ghost use Rattle.aia_replay.specs.Stands.{StandsFor, Serves, ServesText, WantsMachine, ReadsAsMachine};
 
@@ -50,6 +52,17 @@ impl Engine {
         };
         self.machine = Some(machine);
         Ok(Answer::Okay)
+    }
+
+    /// Tells how many notices were sent, 0 where no machine stands; the count stays at `2^64 - 1`.
+    pub fn notices(&self) -> u64
+        ensures { (h : History) → StandsFor self.now h
+            → result ≡ min (notices_sent h) (2 ^ 64 - 1) }
+    {
+        match &self.machine {
+            Some(machine) => machine.notices(),
+            None => 0,
+        }
     }
 
     /// Answers a text of a script, by what it reads as: `None` exactly for a skipped text, and

@@ -1,8 +1,10 @@
-//! The engine that answers lines, and the run from a source's bytes to a sink's.
+//! The engine that answers lines, and the runs: from a source's bytes to a sink's, and of a generated
+//! script to its summary.
 #![tactic(auto)]
 
 mod buffered;
 mod engine;
+mod generator;
 pub mod laws;
 mod limits;
 mod machine;

@@ -1,11 +1,13 @@
-ghost use Rattle.std.specs.Prelude.{◌≡◌, ◌∷◌, ℕ, ◌≤◌, ◌%◌, [], true, None, Some, is_some, nat_eq, if◌then◌else◌, IfOk, OnErr, IfSome};
+ghost use Rattle.std.specs.Prelude.{◌≡◌, ◌∷◌, ℕ, ◌≤◌, ◌-◌, ◌%◌, ◌^◌, min, [], true, None, Some, is_some, nat_eq, if◌then◌else◌, IfOk, OnErr, IfSome};
 ghost use Rattle.std.specs.Option.{option_map};
 ghost use Rattle.std.specs.Result.{result_err};
 ghost use Rattle.aia_csr.specs.Access.{IsInTable};
 ghost use Rattle.aia_file.specs.InterruptFile.{is_greatest_identity};
 ghost use Rattle.aia_model.specs.Grammar.{IsListed};
+ghost use Rattle.aia_model.specs.Event.{History};
 ghost use Rattle.aia_model.specs.Event.Event.{Accepted};
-ghost use Rattle.aia_model.specs.Act.{domain_at};
+ghost use Rattle.aia_model.specs.Act.{Past, domain_at};
+ghost use Rattle.aia_model.specs.Notice.{notices_sent};
 ghost use Rattle.aia_model.specs.Act.Act.{Made};
 ghost use Rattle.aia_model.specs.Refusal.{is_machine_size};
 ghost use Rattle.aia_hyp.specs.HostFiles.{IsHost, csr_line};
@@ -63,6 +65,14 @@ impl Machine {
         let answer = self.serve(line);
         self.deliver();
         answer
+    }
+
+    /// Tells how many notices were sent; the count stays at `2^64 - 1`.
+    pub fn notices(&self) -> u64
+        ensures { (h : History) (past : Past) → MachineHolds self.now h past
+            → result ≡ min (notices_sent h) (2 ^ 64 - 1) }
+    {
+        self.core.notices()
     }
 
     /// Answers it, and does what it does itself.

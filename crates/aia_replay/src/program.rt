@@ -1,18 +1,20 @@
-ghost use Rattle.std.specs.Prelude.{◌≡◌, ◌≢◌, ◌↔◌, List, [], IsTrue};
+ghost use Rattle.std.specs.Prelude.{◌≡◌, ◌≢◌, ◌↔◌, ◌⊎◌, ℕ, Some, None};
 ghost use Rattle.aia_io.specs.Ends.{Rose};
-ghost use Rattle.aia_replay.specs.Runs.{IsReplay, EndsWith, WritesAnswers, TakesAll, HasAtMost, IsDoneOrMemory};
-ghost use Rattle.std.specs.Io.KnownBytes.{Appends, Consumes};
+ghost use Rattle.aia_generate.specs.Summary.{summary};
+ghost use Rattle.aia_replay.specs.Runs.{asked, EndsWith, Summarizes, StopsAtMachine, WritesAnswers, TakesAll, TouchesNothing, HasAtMost, IsDoneOrMemory};
 
+use crate::generator::summarize;
 use crate::limits::SCRIPT_BYTES;
 use crate::replayer::Replayer;
 use crate::stop::Stop;
+use aia_command::{Subcommand, read_words};
 use aia_io::{Sink, Source};
 use std::alloc::Global;
 
 /// How a run ended.
 #[derive(Clone, Copy, Debug, PartialEq, Eq)]
 pub enum Status {
-    /// The script was read to its end, and all its answers were written.
+    /// The script was read to its end, and all its answers were written; or the summary was.
     Done,
     /// The words of the command line are refused.
     Usage,
@@ -20,62 +22,69 @@ pub enum Status {
     ReadFault,
     /// The sink failed.
     WriteFault,
-    /// There was no memory for the machine.
+    /// There was no memory for the words, or for the machine.
     Memory,
     /// The script has more than [`SCRIPT_BYTES`] bytes.
     TooLong,
 }
 
 /// Runs the command that `words` give, the command line without the program's name: `replay` reads
-/// a script from the source to its end and writes the answers of its lines to the sink. Every other
-/// list of words is refused.
+/// a script from the source to its end and writes the answers of its lines to the sink; `gen COUNT
+/// SEED` runs the script that the two numbers generate, reads nothing, and writes its summary. Every
+/// other list of words is refused, as clap refuses it.
 ///
 /// It returns always. Answers are written at the latest before the next read and before it returns.
-/// Memory is taken for the machine alone.
+/// Memory is taken for the words and for the machine alone.
 pub fn run<S: Source, K: Sink>(
     alloc: Global,
     words: &[&str],
     source: &mut S,
     sink: &mut K,
 ) -> Status
-    ensures usage { (result ≡ Status.Usage) ↔ (¬ IsReplay words.now) }
-    ensures nothing { result ≡ Status.Usage → Consumes (S.left source.old) (S.left source.new) []
-        × Appends (K.taken sink.old) (K.taken sink.new) [] }
-
     // The headline: what is written is the model's answers of the whole script.
-    ensures done { result ≡ Status.Done → WritesAnswers (S.left source.old)
-        (K.taken sink.old) (K.taken sink.new) }
-    ensures all { result ≡ Status.Done → TakesAll (S.left source.old) (S.left source.new) }
+    ensures done { asked words.now ≡ Some Subcommand.Replay → result ≡ Status.Done
+        → WritesAnswers (S.left source.old) (K.taken sink.old) (K.taken sink.new) }
+    ensures all { asked words.now ≡ Some Subcommand.Replay → result ≡ Status.Done
+        → TakesAll (S.left source.old) (S.left source.new) }
 
     // What every ending promises: its cause, what was then written, and how much was taken.
-    ensures ends { EndsWith result (S.left source.old) (S.left source.new) (K.taken sink.old)
+    ensures replays { asked words.now ≡ Some Subcommand.Replay
+        → EndsWith result (S.left source.old) (S.left source.new) (K.taken sink.old)
         (K.taken sink.new) (S.faults source.old) (S.faults source.new) (K.faults sink.old)
         (K.faults sink.new) }
+    ensures generates { (count seed : ℕ)
+        → asked words.now ≡ Some (Subcommand.Generate count seed)
+        → (source.new ≡ source.old) × Summarizes result (summary count seed) (K.taken sink.old)
+        (K.taken sink.new) (K.faults sink.old) (K.faults sink.new) }
+
+    // Where there is memory for them, words are refused exactly by `Usage`; nothing is touched then.
+    ensures usage { result ≢ Status.Memory
+        → ((result ≡ Status.Usage) ↔ (asked words.now ≡ None)) }
+    ensures nothing { asked words.now ≡ None
+        → ((result ≡ Status.Usage) ⊎ (result ≡ Status.Memory))
+        × (source.new ≡ source.old) × (sink.new ≡ sink.old) }
 
     // Completeness: with good words, no fault and a script that fits, nothing but want of memory is
     // in the way.
-    ensures complete { IsReplay words.now → (¬ Rose (S.faults source.old) (S.faults source.new))
+    ensures complete { asked words.now ≢ None
+        → (¬ Rose (S.faults source.old) (S.faults source.new))
         → (¬ Rose (K.faults sink.old) (K.faults sink.new))
-        → HasAtMost SCRIPT_BYTES (S.left source.old) → IsDoneOrMemory result }
+        → (asked words.now ≡ Some Subcommand.Replay → HasAtMost SCRIPT_BYTES (S.left source.old))
+        → IsDoneOrMemory result }
 {
-    if is_replay(words) {
-        replay(alloc, source, sink)
-    } else {
-        Status::Usage
+    match read_words(alloc, words) {
+        Ok(Some(Subcommand::Replay)) => replay(alloc, source, sink),
+        Ok(Some(Subcommand::Generate { count, seed })) => summarize(alloc, count, seed, sink),
+        Ok(None) => Status::Usage,
+        Err(_) => Status::Memory,
     }
 }
 
-fn is_replay(words: &[&str]) -> bool
-    ensures { IsTrue result ↔ IsReplay words.now }
-{
-    match words {
-        [word] => *word == "replay",
-        _ => false,
-    }
-}
-
+/// Answers the script that the source gives.
 fn replay<S: Source, K: Sink>(alloc: Global, source: &mut S, sink: &mut K) -> Status
     ensures usage { result ≢ Status.Usage }
+    ensures machine { result ≡ Status.Memory → StopsAtMachine (S.left source.old)
+        (S.left source.new) (K.taken sink.old) (K.taken sink.new) }
     ensures ends { EndsWith result (S.left source.old) (S.left source.new) (K.taken sink.old)
         (K.taken sink.new) (S.faults source.old) (S.faults source.new) (K.faults sink.old)
         (K.faults sink.new) }
