@@ -1,1 +1,78 @@
--- What the words of the command line ask for.
+-- What the words of the command line ask for, without the program's name: a subcommand with its
+-- arguments.
+--
+-- That they are taken, and which word is read for which argument, is what the library `clap` states
+-- of a command (its `Shape`s, their `Rule`s, `fault_of`, `subcommand_of`). The command is ours.
+use Rattle.std.specs.Prelude.{ℕ, ◌^◌, ◌-◌, Bool, true, false, List, [], ◌∷◌, Option, Some, None, if◌then◌else◌, codes, option_and_then}
+use Rattle.std.specs.Str.{bytes_eq}
+use Rattle.std.specs.Str.Parse.{digits_value, without_leading_plus}
+use Rattle.clap.specs.ValueTests.{is_unsigned_in}
+use Rattle.clap.specs.Walk.{Text, Row, Rule, one_of}
+use Rattle.clap.specs.Simple.{App, Shape, new_app, new_shape, new_rule, on_top, with_rule, with_subcommand}
+use Rattle.clap.specs.Simple.{subcommand_of as subcommand_met}
+use Rattle.clap.specs.Kinds.{Kinds}
+use Rattle.clap.specs.Faults.{fault_of}
+use Rattle.clap.specs.declared.builder.value_parser.ValueParser.{ValueParser}
+use Rattle.clap.specs.declared.builder.value_parser.ValueParser.TheVariants as parser
+use Rattle.aia_command.specs.declared.limits.TheConstants.{MOST_LINES}
+use Rattle.aia_command.specs.declared.subcommand.Subcommand.{Subcommand}
+use Rattle.aia_command.specs.declared.subcommand.Subcommand.TheVariants.{Replay, Generate}
+
+-- ---- the command. Profile
+
+-- An argument that must be there.
+abbrev pub required_rule : Text → ValueParser → Rule
+required_rule name takes = record (new_rule name) { parser = Some takes; required = true }
+
+-- `replay` has no arguments.
+abbrev pub replay_command : App
+replay_command = new_app (codes "replay")
+
+-- `gen` has two, one after the other: how many lines, and any number of 64 bits.
+abbrev pub generate_command : App
+generate_command = with_rule (with_rule (new_app (codes "gen"))
+    (required_rule (codes "COUNT") (parser.Unsigned 0 MOST_LINES)))
+    (required_rule (codes "SEED") (parser.Unsigned 0 (2 ^ 64 - 1)))
+
+-- The whole command is one of the two; it shows no help.
+abbrev pub bare_command : App
+bare_command = on_top (λ shape. record shape {
+  no_binary_name = true;
+  subcommand_required = true;
+  disable_help_flag = true;
+  disable_help_subcommand = true;
+}) (new_app (codes "aia"))
+
+unfoldable pub the_command : App
+the_command =
+    with_subcommand (with_subcommand bare_command replay_command.top) generate_command.top
+
+-- ---- what words ask for
+
+-- The number that a text spells in decimal digits, where it is below 2^64.
+abbrev pub number_of : Text → Option ℕ
+number_of text = if is_unsigned_in 0 (2 ^ 64 - 1) text
+    then Some (digits_value 10 (without_leading_plus text)) else None
+
+abbrev pub number_at : Text → List Row → Option ℕ
+number_at name rows = option_and_then number_of (one_of name rows)
+
+abbrev pub generate_of : List Row → Option Subcommand
+generate_of rows = option_and_then (λ count.
+    option_and_then (λ seed. Some (Generate count seed)) (number_at (codes "SEED") rows))
+    (number_at (codes "COUNT") rows)
+
+abbrev pub named : Option (Text × List Row) → Option Subcommand
+named None = None
+named (Some (name, rows)) = if bytes_eq name (codes "replay") then Some Replay
+    else if bytes_eq name (codes "gen") then generate_of rows else None
+
+-- The words are refused where `clap` has an error for them.
+abbrev pub unless_refused : Kinds → Option Subcommand → Option Subcommand
+unless_refused [] asked = asked
+unless_refused (error ∷ errors) asked = None
+
+-- The subcommand that the words ask for, or None where they are refused.
+unfoldable pub subcommand_of : List Text → Option Subcommand
+subcommand_of words =
+    unless_refused (fault_of the_command words) (named (subcommand_met the_command words))

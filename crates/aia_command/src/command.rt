@@ -1,0 +1,62 @@
+//! The command as `clap` is told of it.
+
+ghost use Rattle.std.specs.Prelude.{◌≡◌, false, IfOk};
+ghost use Rattle.clap.specs.Words.{app_of, rule_of};
+ghost use Rattle.clap.specs.declared.builder.command.Command.TheViews.{out-Command};
+ghost use Rattle.clap.specs.declared.builder.value_parser.ValueParser.TheVariants as parser;
+ghost use Rattle.aia_command.specs.CommandLine.{bare_command, generate_command, replay_command, required_rule, the_command};
+
+use crate::limits::MOST_LINES;
+use clap::builder::ValueParser;
+use clap::{Arg, Command};
+use std::alloc::{AllocError, Global};
+
+/// Makes the command of the words. `Err`: there is no memory for it.
+pub(crate) fn command<'a>(alloc: Global) -> Result<Command<'a>, AllocError>
+    ensures { IfOk result (λ made. app_of made ≡ the_command) }
+{
+    let generate = generate_command(alloc)?;
+    let replay = Command::new(alloc, "replay");
+    let first = bare_command(alloc).subcommand(replay)?;
+    let both = first.subcommand(generate)?;
+    Ok(both)
+}
+
+/// Makes the command with no subcommand yet: one is required, and it shows no help.
+fn bare_command<'a>(alloc: Global) -> Command<'a>
+    ensures shape { app_of result ≡ bare_command }
+    ensures local { (out-Command result).has_globals ≡ false }
+{
+    Command::new(alloc, "aia")
+        .no_binary_name(true)
+        .subcommand_required(true)
+        .disable_help_flag(true)
+        .disable_help_subcommand(true)
+}
+
+/// Makes the subcommand `gen`. `Err`: there is no memory for it.
+fn generate_command<'a>(alloc: Global) -> Result<Command<'a>, AllocError>
+    ensures shape { IfOk result (λ made. app_of made ≡ generate_command) }
+    ensures local { IfOk result (λ made. (out-Command made).has_globals ≡ false) }
+{
+    let count = number_argument(alloc, "COUNT", up_to_most_lines());
+    let seed = number_argument(alloc, "SEED", clap::value_parser!(u64));
+    let first = Command::new(alloc, "gen").arg(count)?;
+    let both = first.arg(seed)?;
+    Ok(both)
+}
+
+/// Makes an argument that must be there, of which `parser` says what it takes.
+fn number_argument<'a>(alloc: Global, name: &'a str, parser: ValueParser<'a>) -> Arg<'a>
+    ensures rule { rule_of result ≡ required_rule name.entry.now parser.entry }
+    ensures local { result.global ≡ false }
+{
+    Arg::new(alloc, name).required(true).value_parser(parser)
+}
+
+/// Makes the parser of numbers from 0 to [`MOST_LINES`].
+fn up_to_most_lines<'a>() -> ValueParser<'a>
+    ensures { result ≡ parser.Unsigned 0 MOST_LINES }
+{
+    clap::value_parser!(u64).range(..=MOST_LINES as i64)
+}
