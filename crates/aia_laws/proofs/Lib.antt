@@ -1,0 +1,7 @@
+pub mod FileLemmas
+pub mod AfterLemmas
+pub mod RequestLemmas
+pub mod ClaimLemmas
+pub mod HistoryLemmas
+pub mod NoticeLemmas
+pub mod ToldLemmas
