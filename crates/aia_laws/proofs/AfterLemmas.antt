@@ -1,6 +1,6 @@
 -- What a line makes of a virtual hart: a move changes nothing there, nor does an MSI that is
 -- delivered, and any other accepted line does what its one event does.
-use Rattle.std.proofs.Common.{◌≡◌, ◌≢◌, ℕ, zero, suc, Bool, true, false, not, ◌&&◌, ◌⊎◌, nat_eq, List, [], ◌∷◌, Option, Some, None, inl, inr, refl, sym, ap, subst, ◌∙◌}
+use Rattle.std.proofs.Common.{◌≡◌, ◌≢◌, ℕ, zero, suc, true, false, not, ◌⊎◌, nat_eq, List, [], ◌∷◌, Option, Some, None, inl, inr, refl, sym, ap, subst, ◌∙◌}
 use Rattle.std.proofs.lemmas.Bool.{cond-false, not-true, eqb-false, ne_eqb, and_left, false≢true}
 use Rattle.aia_regs.specs.Word.{settle}
 use Rattle.aia_file.specs.InterruptFile.{InterruptFile}
@@ -20,13 +20,13 @@ use Rattle.aia_model.specs.GuestFile.{named_by, guest_deed, guest_file, guest_se
 use Rattle.aia_model.specs.MajorOf.{majors_of}
 use Rattle.aia_model.specs.Refusal.{refusal}
 use Rattle.aia_model.specs.Sent.{msis_sent_by}
-use Rattle.aia_model.specs.Answer.{after, history_after, line_taken, deed_taken, whole_move, steps_of, steps_taken, delivered}
+use Rattle.aia_model.specs.Answer.{after, line_taken, deed_taken, steps_of, steps_taken, delivered}
 use Rattle.aia_model.proofs.AnswerLemmas.{after_by}
 use Rattle.aia_model.proofs.FileLemmas.{file_by_step, newest_word}
 use Rattle.aia_laws.specs.Requests.{speaks_to, names_other_vm}
 use Rattle.aia_laws.specs.Told.{guest_said}
 use Rattle.aia_laws.proofs.FileLemmas.{machine_with, guest_made, not_making}
-use Rattle.aia_laws.proofs.HistoryLemmas.{none_stood}
+use Rattle.aia_laws.proofs.RefusalLemmas.{machine_allowed}
 
 -- A virtual hart has the same file, select number and majors after one history as after another.
 abbrev pub IsSameGuest : History → History → Vcpu → Type 0
@@ -65,11 +65,11 @@ move_same h line (Steps x) g moves = stepped_same x h g
 
 -- ---- a line
 
-pub refused_after : (h : History) (line : Line) (word : Answer) → refusal h line ≡ Some word → after h line ≡ h
+refused_after : (h : History) (line : Line) (word : Answer) → refusal h line ≡ Some word → after h line ≡ h
 refused_after h line word e = after_by h line (Some word) e
 
 -- an accepted line's MSIs change nothing there
-pub taken_same : (h : History) (line : Line) (g : Vcpu) → refusal h line ≡ None → IsSameGuest (after h line) (line_taken h line) g
+taken_same : (h : History) (line : Line) (g : Vcpu) → refusal h line ≡ None → IsSameGuest (after h line) (line_taken h line) g
 taken_same h line g e = subst (λ x. IsSameGuest x (line_taken h line) g) (sym (after_by h line None e)) (msis_same (msis_sent_by h line) (line_taken h line) g)
 
 -- a refused line changes nothing, so that it is enough to look at an accepted one
@@ -118,7 +118,7 @@ select_after_line h line g e = elim (moved_or_not (move_deed line)) [
 -- ---- lines that do not speak to it
 
 quiet_rests : (line : Line) (h : History) (g : Vcpu) → has_machine h ≡ true → refusal h line ≡ None → speaks_to h line g ≡ false → guest_deed g h (Accepted line) ≡ Rests
-quiet_rests (Machine harts guests n sources) h g stands e quiet = absurd (false≢true (sym (none_stood h harts guests n sources e).0 ∙ stands))
+quiet_rests (Machine harts guests n sources) h g stands e quiet = absurd (false≢true (sym (machine_allowed h harts guests n sources e).0 ∙ stands))
 quiet_rests (lines.Msi vm addr value) h g stands e quiet = cond-false _ _ _ quiet
 quiet_rests (Ipi vm number to value) h g stands e quiet = cond-false _ _ _ quiet
 quiet_rests (GuestCsr vm number csr op) h g stands e quiet = cond-false _ _ _ quiet
@@ -141,7 +141,7 @@ other_is_quiet h line g e = refl
 -- ---- the word of a line on an identity decides
 
 making_is_machine : (h : History) (line : Line) (g : Vcpu) → has_machine h ≡ true → refusal h line ≡ None → machine_with (Accepted line) ≡ None
-making_is_machine h (Machine harts guests n sources) g stands e = absurd (false≢true (sym (none_stood h harts guests n sources e).0 ∙ stands))
+making_is_machine h (Machine harts guests n sources) g stands e = absurd (false≢true (sym (machine_allowed h harts guests n sources e).0 ∙ stands))
 making_is_machine h line g stands e = refl
 
 pub pending_after_line : (h : History) (line : Line) (g : Vcpu) (i : ℕ) → has_machine h ≡ true → refusal h line ≡ None

@@ -1,6 +1,6 @@
 -- Claims: the identity on top is the least that may be claimed, and it alone is cleared.
-use Rattle.std.proofs.Common.{◌≡◌, ℕ, ◌+◌, ◌*◌, ◌<◌, ◌≤◌, Bool, true, false, ◌&&◌, cond, if◌then◌else◌, nat_eq, Option, Some, None, inl, inr, refl, sym, ap, ◌∙◌, arith}
-use Rattle.std.proofs.lemmas.Bool.{cases_Bool, and_parts, and_from, cond-true, false_from_ne_true}
+use Rattle.std.proofs.Common.{◌≡◌, ℕ, ◌+◌, ◌*◌, ◌≤◌, Bool, true, false, ◌&&◌, cond, if◌then◌else◌, nat_eq, Option, Some, None, refl, ap, ◌∙◌, arith}
+use Rattle.std.proofs.lemmas.Bool.{and_parts, and_from, cond-true, false_from_ne_true}
 use Rattle.aia_word.specs.Top.{lets_through, top_value}
 use Rattle.aia_word.proofs.LeastLemmas.{least_of-found, least_of-none}
 use Rattle.aia_regs.specs.declared.access.Csr.TheVariants.{Topei}
@@ -10,12 +10,11 @@ use Rattle.aia_regs.specs.Word.{settle}
 use Rattle.aia_regs.specs.Word.Word.{Clear, Nothing}
 use Rattle.aia_file.specs.InterruptFile.{InterruptFile, top_of, claimed, claim_said}
 use Rattle.aia_file.proofs.FileLemmas.{same_file}
-use Rattle.aia_home.specs.Vms.{Vcpu, is_vcpu}
+use Rattle.aia_home.specs.Vms.{Vcpu}
 use Rattle.aia_model.specs.declared.answer.Answer.TheVariants.{Wide}
 use Rattle.aia_model.specs.declared.line.Line.TheVariants.{GuestCsr}
 use Rattle.aia_model.specs.Event.{History}
 use Rattle.aia_model.specs.FileAfter.{file_after}
-use Rattle.aia_model.specs.FileAfter.FileDeed.{Accesses}
 use Rattle.aia_model.specs.GuestFile.{guest_file, guest_select}
 use Rattle.aia_model.specs.Refusal.{refusal}
 use Rattle.aia_model.specs.Answer.{answer, after}
@@ -54,6 +53,7 @@ claimed_file file i top = same_file (claimed file) (without file i) (record { n 
     by_test : (b was : Bool) → settle (if b then Clear else Nothing) was ≡ (if b then false else was)
     by_test true was = refl
     by_test false was = refl
+
     cleared : (j : ℕ) → settle (claim_said (top_of file) j) (file.pending j) ≡ (if nat_eq i j then false else file.pending j)
     cleared j = ap (λ o. settle (claim_said o j) (file.pending j)) top ∙ by_test (nat_eq i j) (file.pending j)
 

@@ -1,5 +1,5 @@
 -- Files by their deeds: with which greatest identity they are made, and what they keep.
-use Rattle.std.proofs.Common.{◌≡◌, ℕ, Bool, true, false, ◌&&◌, cond, [], ◌∷◌, Option, Some, None, unwrap_or, inl, inr, refl, sym, ap, ◌∙◌}
+use Rattle.std.proofs.Common.{◌≡◌, ℕ, Bool, true, false, cond, [], ◌∷◌, Option, Some, None, unwrap_or, inl, inr, refl, sym, ap, ◌∙◌}
 use Rattle.std.specs.Int.{is_in_range}
 use Rattle.std.proofs.lemmas.Bool.{cases_Bool, false≢true}
 use Rattle.aia_regs.specs.declared.access.Csr.TheVariants.{Reg, Topei}
@@ -7,9 +7,7 @@ use Rattle.aia_regs.specs.declared.access.Op.{Op}
 use Rattle.aia_regs.specs.declared.access.Op.TheVariants as ops
 use Rattle.aia_regs.specs.declared.file_registers.FileReg.{FileReg}
 use Rattle.aia_regs.specs.declared.file_registers.FileReg.TheVariants.{Enable}
-use Rattle.aia_regs.specs.Operations.{bit_said}
 use Rattle.aia_regs.specs.Word.{settle}
-use Rattle.aia_regs.specs.Word.Word.{Nothing}
 use Rattle.aia_regs.specs.FileRegisters.{register_of, eie_said}
 use Rattle.aia_file.specs.InterruptFile.{InterruptFile}
 use Rattle.aia_home.specs.Vms.{Vcpu, vcpu, is_vcpu}
@@ -20,10 +18,10 @@ use Rattle.aia_model.specs.Event.Event.{Accepted, Began, Stepped, Delivered}
 use Rattle.aia_model.specs.FileAfter.{FileDeed, IsMaking, file_after, select_by, file_by}
 use Rattle.aia_model.specs.FileAfter.FileDeed.{Makes, Accesses, Stores, Rests}
 use Rattle.aia_model.specs.GuestFile.{named_by, guest_deed, guest_file}
-use Rattle.aia_model.specs.FileOf.{FileName, MachineFile, SupervisorFile, is_file, is_at, store_deed, notice_deed, deed_at, file_of}
+use Rattle.aia_model.specs.FileOf.{FileName, MachineFile, SupervisorFile, is_file, is_at, notice_deed, deed_at, file_of}
 use Rattle.aia_model.specs.Notice.{noticed}
 use Rattle.aia_model.specs.Vms.{vms_of}
-use Rattle.aia_home.specs.Vms.{notice_hart, notice_identity}
+use Rattle.aia_home.specs.Vms.{notice_hart}
 
 -- ---- what makes a file
 

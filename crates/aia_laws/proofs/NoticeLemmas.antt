@@ -1,12 +1,12 @@
 -- While a virtual hart is parked, the host was noticed of each identity that is deliverable there,
 -- no earlier than it was asked for: by induction over what happened, with what a leave's looks saw.
-use Rattle.std.proofs.Common.{◌≡◌, ℕ, zero, suc, ◌+◌, ◌*◌, ◌/◌, ◌%◌, ◌<◌, ◌≤◌, Bool, true, false, not, ◌&&◌, ◌||◌, cond, if◌then◌else◌, nat_eq, nat_lt, is_some, is_none, [], ◌∷◌, Option, Some, None, inl, inr, refl, sym, ap, subst, ◌∙◌, arith}
-use Rattle.std.proofs.lemmas.Bool.{cases_Bool, cases_eq, and_parts, and_from, or_cases, or_left, or_right, not-false, eqb-true, eq-eqb, ne_eqb, lt-ltb, le-ltb, le-leb, cond-true, cond-false, false≢true}
+use Rattle.std.proofs.Common.{◌≡◌, ℕ, zero, suc, ◌+◌, ◌*◌, ◌/◌, ◌%◌, ◌<◌, ◌≤◌, Bool, true, false, not, ◌&&◌, ◌||◌, if◌then◌else◌, nat_eq, is_some, is_none, [], ◌∷◌, Option, Some, None, inl, inr, refl, sym, ap, subst, ◌∙◌, arith}
+use Rattle.std.proofs.lemmas.Bool.{cases_Bool, cases_eq, and_from, or_cases, or_left, or_right, eqb-true, eq-eqb, ne_eqb, lt-ltb, le-ltb, le-leb, cond-true, cond-false, false≢true}
 use Rattle.std.specs.Option.{option_map_or}
 use Rattle.aia_word.specs.Sets.{least_of}
 use Rattle.aia_regs.specs.declared.access.Csr.{Csr}
 use Rattle.aia_regs.specs.declared.access.Op.{Op}
-use Rattle.aia_regs.specs.Word.{Word, settle, names}
+use Rattle.aia_regs.specs.Word.{settle, names}
 use Rattle.aia_regs.specs.Word.Word.{Ask, Nothing}
 use Rattle.aia_regs.specs.Request.{requested}
 use Rattle.aia_file.specs.InterruptFile.{InterruptFile, is_live}
@@ -16,11 +16,10 @@ use Rattle.aia_home.specs.Home.{Home, Progress, is_moving, is_resident, leaving,
 use Rattle.aia_home.specs.Home.Home.{Parked, Resident, Leaving, Arriving, Shifting}
 use Rattle.aia_home.specs.BySteps.{look_step}
 use Rattle.aia_home.specs.Routes.{devices_reach, peers_reach, is_watched, is_noticed}
-use Rattle.aia_model.specs.declared.line.Line.{Line}
 use Rattle.aia_model.specs.declared.line.Line.TheVariants.{Machine, GuestCsr, Ipi}
 use Rattle.aia_model.specs.declared.line.Line.TheVariants as lines
 use Rattle.aia_model.specs.Move.Move.{Arrives, Leaves, Shifts}
-use Rattle.aia_model.specs.Event.{Event, History, greatest_identity_of, file_words}
+use Rattle.aia_model.specs.Event.{History, greatest_identity_of, file_words}
 use Rattle.aia_model.specs.Event.Event.{Accepted, Began, Stepped, Delivered}
 use Rattle.aia_model.specs.FileAfter.{select_by, file_by, file_after, pending_said}
 use Rattle.aia_model.specs.FileAfter.FileDeed.{Stores, Rests}
@@ -30,7 +29,8 @@ use Rattle.aia_model.specs.Notice.{looks_at, look_saw, a_look_saw, ends_leave, n
 use Rattle.aia_model.proofs.MoveLemmas.{same_vcpu, is_itself}
 use Rattle.aia_laws.specs.Told.{is_deliverable, is_ask, guest_said}
 use Rattle.aia_laws.proofs.FileLemmas.{guest_n}
-use Rattle.aia_laws.proofs.HistoryLemmas.{IsHistory, resident_allowed}
+use Rattle.aia_laws.proofs.RefusalLemmas.{access_allowed}
+use Rattle.aia_laws.proofs.HistoryLemmas.{IsHistory}
 
 -- Whether a virtual hart, where there is one, is g.
 abbrev pub names_vcpu : Option Vcpu → Vcpu → Bool
@@ -77,7 +77,7 @@ noticed_too words there w live saw since false p = p
 -- ---- a store that asks for it
 
 -- a route leads to memory while parked, and in a leave before its first look
-pub record LeadsToMemory (reach : Home → Option Place) : Type 0 where
+record LeadsToMemory (reach : Home → Option Place) : Type 0 where
   parked : is_none (reach Parked) ≡ true
   leaving : (from : Place) (at : Progress) → 6 ≤ at.steps → is_none (reach (Leaving from at)) ≡ true
 
@@ -106,7 +106,7 @@ store_by : (words : ℕ) (there : Home) (o : Option ℕ) (i : ℕ) (g : Vcpu) (m
     → SafeAt words there (i / 64) (enabled i) saw (memory && (enabled i && is_watched words there (i / 64)))
     → SafeAt words there (i / 64) (pending && enabled i) saw since
     → SafeAt words there (i / 64) (settle (if names o i then Ask else Nothing) pending && enabled i) saw
-      (names_vcpu (if memory && is_noticed words there enabled o then Some g else None) g || (not (is_ask (if names o i then Ask else Nothing)) && since))
+    (names_vcpu (if memory && is_noticed words there enabled o then Some g else None) g || (not (is_ask (if names o i then Ask else Nothing)) && since))
 store_by words there None i g memory enabled pending saw since asked p = noticed_too words there (i / 64) (pending && enabled i) saw since _ p
 store_by words there (Some j) i g memory enabled pending saw since asked p = elim (cases_eq j i) [
   | inl e ↦ rw (eq-eqb j i e, e, chosen (memory && (enabled i && is_watched words there (i / 64))) g, or_false (memory && (enabled i && is_watched words there (i / 64)))) asked
@@ -132,7 +132,7 @@ another false g x e = refl
 own_store : (h : History) (g : Vcpu) (i : ℕ) (reach : Home → Option Place) (offset value : ℕ) → LeadsToMemory reach → i / 64 < file_words h → Safe h g i → SafeStore h g i reach offset value g
 own_store h g i reach offset value led low p =
     rw (is_itself g, guest_n h g) (store_by (file_words h) (home h g) (requested (greatest_identity_of h) offset value) i g (is_none (reach (home h g))) (guest_file h g).enabled ((guest_file h g).pending i) (look_saw h g (i / 64)) (noticed_since h g i)
-      (noticed_if_enabled reach led (file_words h) (home h g) (i / 64) ((guest_file h g).enabled i) (look_saw h g (i / 64)) low) p)
+    (noticed_if_enabled reach led (file_words h) (home h g) (i / 64) ((guest_file h g).enabled i) (look_saw h g (i / 64)) low) p)
 
 store_safe : (h : History) (g : Vcpu) (i : ℕ) (reach : Home → Option Place) (offset value : ℕ) → LeadsToMemory reach → i / 64 < file_words h → Safe h g i → (x : Vcpu) → SafeStore h g i reach offset value x
 store_safe h g i reach offset value led low p x = elim (cases_Bool (is_vcpu g x)) [
@@ -266,7 +266,7 @@ own_step : (h : History) (g : Vcpu) (i : ℕ) → i / 64 < file_words h → is_m
 unfolding select_by file_by home look_saw noticed_since
 own_step h g i low moves p =
     rw (is_itself g, chosen (ends_leave (file_words h) (home h g) && a_look_saw h g) g) (step_by (file_words h) (home h g) (i / 64) (is_deliverable h g i) (look_saw h g (i / 64)) (noticed_since h g i) (is_live (guest_file h g) (i / 64)) (a_look_saw h g) _ low
-      (live_word (guest_file h g) i) (some_look h g (i / 64) low) refl moves p)
+    (live_word (guest_file h g) i) (some_look h g (i / 64) low) refl moves p)
 
 other_step : (h : History) (x g : Vcpu) (i : ℕ) → is_vcpu g x ≡ false → Safe h g i → Safe (Stepped x ∷ h) g i
 unfolding select_by file_by home look_saw noticed_since
@@ -288,7 +288,7 @@ always_safe [] g i good low = λ e. e
 always_safe (Accepted (Machine harts guests n sources) ∷ h) g i good low = not_live _ (home h g) _ _ _
 always_safe (Accepted (lines.Msi vm addr value) ∷ h) g i good low = msi_safe h vm addr value g i low (always_safe h g i good.1 low)
 always_safe (Accepted (Ipi vm number to value) ∷ h) g i good low = ipi_safe h vm number to value g i low (always_safe h g i good.1 low)
-always_safe (Accepted (GuestCsr vm number csr op) ∷ h) g i good low = access_safe h vm number csr op g i (resident_allowed h vm number csr op good.0) (always_safe h g i good.1 low)
+always_safe (Accepted (GuestCsr vm number csr op) ∷ h) g i good low = access_safe h vm number csr op g i (access_allowed h vm number csr op good.0) (always_safe h g i good.1 low)
 always_safe (Accepted line ∷ h) g i good low = always_safe h g i good.1 low
 always_safe (Began (Leaves x) ∷ h) g i good low = leave_safe h x g i good.0.1 (always_safe h g i good.1 low)
 always_safe (Began (Arrives x hart) ∷ h) g i good low = arrive_safe h x g hart i (always_safe h g i good.1 low)

@@ -6,7 +6,6 @@ use Rattle.aia_regs.specs.declared.access.Csr.{Csr}
 use Rattle.aia_regs.specs.declared.access.Csr.TheVariants.{Reg, Topei}
 use Rattle.aia_regs.specs.declared.access.Op.{Op}
 use Rattle.aia_regs.specs.Operations.{is_writing}
-use Rattle.aia_regs.specs.FileRegisters.{register_of, eip_said}
 use Rattle.aia_regs.specs.Request.{requested, request_said}
 use Rattle.aia_regs.specs.Word.{Word, settle, names}
 use Rattle.aia_regs.specs.Word.Word.{Ask, Clear, Nothing}

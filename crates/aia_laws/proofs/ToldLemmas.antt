@@ -1,14 +1,14 @@
 -- What the host is told by a notice: the notice identity is asked for in its file, and stays pending
 -- there until it is cleared.
-use Rattle.std.proofs.Common.{◌≡◌, ℕ, ◌+◌, ◌<◌, ◌≤◌, Bool, true, false, not, ◌&&◌, ◌||◌, cond, if◌then◌else◌, nat_eq, nat_lt, List, [], ◌∷◌, length, Option, Some, None, inl, inr, refl, sym, ap, subst, ◌∙◌, arith}
+use Rattle.std.proofs.Common.{◌≡◌, ℕ, ◌+◌, ◌<◌, ◌≤◌, Bool, true, false, not, ◌&&◌, ◌||◌, if◌then◌else◌, nat_lt, List, [], ◌∷◌, length, Option, Some, None, inl, inr, refl, sym, ap, ◌∙◌, arith}
 use Rattle.std.specs.Int.{is_in_range}
-use Rattle.std.proofs.lemmas.Bool.{cases_Bool, cases_lt, and_parts, and_from, or_cases, or_parts, or_left, or_right, eq-eqb, cond-true, ltb-true, false≢true}
+use Rattle.std.proofs.lemmas.Bool.{cases_lt, and_parts, and_from, or_cases, or_left, or_right, eq-eqb, cond-true, ltb-true, false≢true}
 use Rattle.std.proofs.lemmas.Bool.Decides.{nat_tests}
 use Rattle.aia_regs.specs.Word.{Word, settle}
 use Rattle.aia_regs.specs.Word.Word.{Ask, Clear, Nothing}
 use Rattle.aia_file.specs.InterruptFile.{InterruptFile}
 use Rattle.aia_home.specs.declared.vm.Vm.{Vm}
-use Rattle.aia_home.specs.Vms.{Vcpu, vcpu, is_vcpu, vm_in, vcpus_in, slot_of, notice_hart, notice_identity, is_vcpu_in}
+use Rattle.aia_home.specs.Vms.{Vcpu, vcpu, vm_in, is_vcpu_in}
 use Rattle.aia_home.specs.Home.Home.{Parked}
 use Rattle.aia_home.proofs.VmLemmas.{slot_below, vm_stays, slot_stays, vm_past}
 use Rattle.aia_model.specs.declared.line.Line.TheVariants.{Machine, Ipi}
@@ -16,8 +16,8 @@ use Rattle.aia_model.specs.declared.line.Line.TheVariants as lines
 use Rattle.aia_model.specs.Event.{Event, History}
 use Rattle.aia_model.specs.Event.Event.{Accepted, Began, Stepped, Delivered}
 use Rattle.aia_model.specs.Vms.{vms_of, has_vcpu}
-use Rattle.aia_model.specs.FileAfter.{FileDeed, IsMaking, file_after, pending_said}
-use Rattle.aia_model.specs.FileAfter.FileDeed.{Stores, Rests}
+use Rattle.aia_model.specs.FileAfter.{IsMaking, pending_said}
+use Rattle.aia_model.specs.FileAfter.FileDeed.{Stores}
 use Rattle.aia_model.specs.FileOf.{FileName, SupervisorFile, notice_deed, deed_at, select_of, file_of}
 use Rattle.aia_model.specs.GuestFile.{guest_file, named_by}
 use Rattle.aia_model.specs.HomeOf.{home}
@@ -26,7 +26,9 @@ use Rattle.aia_model.proofs.FileLemmas.{file_step, newest_word, is_file-itself}
 use Rattle.aia_model.proofs.MoveLemmas.{same_vcpu}
 use Rattle.aia_laws.specs.Told.{is_deliverable, notice_file, notice_number, is_ask, is_clear, guest_said, host_said, told_since, cleared_since}
 use Rattle.aia_laws.proofs.FileLemmas.{made_with, not_making, host_made, host_n}
-use Rattle.aia_laws.proofs.HistoryLemmas.{MayHappen, IsHistory, named_allowed, peer_allowed, none_stood, machine_first, identities_for_all, enabled_in_words}
+use Rattle.aia_laws.proofs.RefusalLemmas.{machine_allowed, device_allowed, peer_allowed}
+use Rattle.aia_laws.proofs.HistoryLemmas.{MayHappen, IsHistory}
+use Rattle.aia_laws.proofs.MachineLemmas.{machine_first, identities_for_all, enabled_in_words}
 use Rattle.aia_laws.proofs.NoticeLemmas.{names_vcpu, noticed_since, noticed_while_parked}
 
 -- ---- a virtual hart keeps its file of the host and its identity
@@ -56,14 +58,14 @@ keeps_notices (Delivered msi) past g there = (there, refl, refl)
 
 -- ---- a notice asks for it
 
-chosen : (b : Bool) (x g : Vcpu) → names_vcpu (if b then Some x else None) g ≡ true → g ≡ x
-chosen true x g e = same_vcpu g x e
-chosen false x g e = absurd (cc)
+chosen_is : (b : Bool) (x g : Vcpu) → names_vcpu (if b then Some x else None) g ≡ true → g ≡ x
+chosen_is true x g e = same_vcpu g x e
+chosen_is false x g e = absurd (cc)
 
 noticed_is_there : (event : Event) (past : History) (g : Vcpu) → MayHappen past event → names_vcpu (noticed past event) g ≡ true → has_vcpu past g ≡ true
-noticed_is_there (Accepted (lines.Msi vm addr value)) past g may e = ap (has_vcpu past) (chosen _ (named_by past vm addr) g e) ∙ named_allowed past vm addr value may
-noticed_is_there (Accepted (Ipi vm number to value)) past g may e = ap (has_vcpu past) (chosen _ (vcpu vm to) g e) ∙ peer_allowed past vm number to value may
-noticed_is_there (Stepped x) past g may e = ap (has_vcpu past) (chosen _ x g e) ∙ may.0
+noticed_is_there (Accepted (lines.Msi vm addr value)) past g may e = ap (has_vcpu past) (chosen_is _ (named_by past vm addr) g e) ∙ device_allowed past vm addr value may
+noticed_is_there (Accepted (Ipi vm number to value)) past g may e = ap (has_vcpu past) (chosen_is _ (vcpu vm to) g e) ∙ peer_allowed past vm number to value may
+noticed_is_there (Stepped x) past g may e = ap (has_vcpu past) (chosen_is _ x g e) ∙ may.0
 noticed_is_there (Accepted line) past g may e = absurd (false≢true e)
 noticed_is_there (Began move) past g may e = absurd (false≢true e)
 noticed_is_there (Delivered msi) past g may e = absurd (false≢true e)
@@ -97,8 +99,8 @@ notice_asks event past g may good e =
     ap (λ d. pending_said (select_of past f) (file_of past f) d (notice_number past g)) deed
     ∙ store_asks (select_of past f) (file_of past f) (notice_number past g) (omega arith) (number_fits past g good (noticed_is_there event past g may e))
 
--- whom it was told of since, of that it was asked since, at the file and for the identity that it
--- has then and keeps
+-- a notice since the newest request is an ask in the host's file since then: at the file and for the
+-- identity that the virtual hart has at the end, which it had from its making on
 asked_since : (h : History) (f : FileName) (n : ℕ) (g : Vcpu) (i : ℕ) → IsHistory h → (has_vcpu h g ≡ true → (f ≡ notice_file h g) × (n ≡ notice_number h g)) → noticed_since h g i ≡ true → told_since h f n g i ≡ true
 unfolding noticed_since told_since
 asked_since [] f n g i good its e = absurd (false≢true e)
@@ -151,7 +153,7 @@ made_told harts guests m sources past f n g i first = ap (λ x. told_since x f n
 pub pending_until_cleared : (h : History) (f : FileName) (n : ℕ) (g : Vcpu) (i : ℕ) → IsHistory h → KeepsTold h f n g i
 pending_until_cleared [] f n g i good told cleared = absurd (false≢true (sym (none_told f n g i) ∙ told))
 pending_until_cleared (Accepted (Machine harts guests m sources) ∷ past) f n g i good told cleared =
-    absurd (false≢true (sym (made_told harts guests m sources past f n g i (machine_first past good.1 (none_stood past harts guests m sources good.0).0)) ∙ told))
+    absurd (false≢true (sym (made_told harts guests m sources past f n g i (machine_first past good.1 (machine_allowed past harts guests m sources good.0).0)) ∙ told))
 pending_until_cleared (Accepted line ∷ past) f n g i good told cleared = kept_by (Accepted line) past f n g i (host_made f past (Accepted line)) (pending_until_cleared past f n g i good.1) told cleared
 pending_until_cleared (Began move ∷ past) f n g i good told cleared = kept_by (Began move) past f n g i (host_made f past (Began move)) (pending_until_cleared past f n g i good.1) told cleared
 pending_until_cleared (Stepped x ∷ past) f n g i good told cleared = kept_by (Stepped x) past f n g i (host_made f past (Stepped x)) (pending_until_cleared past f n g i good.1) told cleared
