@@ -1,5 +1,5 @@
 -- Which identity of an interrupt file a claim takes.
-use Rattle.std.specs.Prelude.{◌≡◌, ℕ, ◌≤◌, Bool, true, false, nat_eq, if◌then◌else◌}
+use Rattle.std.specs.Prelude.{◌≡◌, ℕ, ◌≤◌, true, false, nat_eq, if◌then◌else◌}
 use Rattle.aia_word.specs.Top.{lets_through}
 use Rattle.aia_file.specs.InterruptFile.{InterruptFile}
 

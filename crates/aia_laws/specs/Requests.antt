@@ -1,5 +1,5 @@
 -- Which lines speak to a virtual hart, and what asks for an identity there or clears it.
-use Rattle.std.specs.Prelude.{◌≡◌, ℕ, ◌%◌, Bool, true, false, not, nat_eq, Option, Some}
+use Rattle.std.specs.Prelude.{◌≡◌, ℕ, ◌%◌, Bool, true, false, not, nat_eq, Some}
 use Rattle.aia_regs.specs.declared.address_map.TheConstants.{PAGE}
 use Rattle.aia_regs.specs.declared.access.Csr.TheVariants.{Reg, Topei}
 use Rattle.aia_regs.specs.Operations.{is_writing}

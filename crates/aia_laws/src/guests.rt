@@ -1,6 +1,24 @@
 //! The interrupt file of a virtual hart: what changes it, what asks for an identity and clears it, and
 //! what a claim takes.
 
+ghost use Rattle.std.specs.Prelude.{◌≡◌, ◌≢◌, ℕ, ◌+◌, ◌*◌, true, false, None};
+ghost use Rattle.aia_regs.specs.declared.access.Csr.TheVariants.{Topei};
+ghost use Rattle.aia_regs.specs.declared.access.Op.{Op};
+ghost use Rattle.aia_regs.specs.Operations.{is_writing};
+ghost use Rattle.aia_home.specs.Vms.{Vcpu};
+ghost use Rattle.aia_model.specs.declared.answer.Answer.TheVariants.{Wide};
+ghost use Rattle.aia_model.specs.declared.line.Line.{Line};
+ghost use Rattle.aia_model.specs.declared.line.Line.TheVariants.{GuestCsr};
+ghost use Rattle.aia_model.specs.Move.{move_deed};
+ghost use Rattle.aia_model.specs.Move.MoveDeed.{NoMove};
+ghost use Rattle.aia_model.specs.Event.{History, has_machine};
+ghost use Rattle.aia_model.specs.GuestFile.{guest_file, guest_select};
+ghost use Rattle.aia_model.specs.MajorOf.{majors_of};
+ghost use Rattle.aia_model.specs.Refusal.{refusal};
+ghost use Rattle.aia_model.specs.Answer.{answer, after};
+ghost use Rattle.aia_laws.specs.Requests.{speaks_to, names_other_vm, Asks, Clears};
+ghost use Rattle.aia_laws.specs.Claims.{MayBeClaimed, IsLeastToClaim, without};
+
 /// No line about moves changes a virtual hart's interrupt file, its select number or its majors: not
 /// the beginning of a move, nor a step, nor a whole move, of it or of another one.
 pub fn no_move_changes_a_guest()

@@ -1,5 +1,13 @@
 //! Notices: that the host is told of each interrupt of a virtual hart that is parked.
 
+ghost use Rattle.std.specs.Prelude.{◌≡◌, ℕ, true, false, List};
+ghost use Rattle.aia_home.specs.Vms.{Vcpu};
+ghost use Rattle.aia_home.specs.Home.Home.{Parked};
+ghost use Rattle.aia_model.specs.HomeOf.{home};
+ghost use Rattle.aia_model.specs.FileOf.{file_of};
+ghost use Rattle.aia_model.specs.Script.{history_of};
+ghost use Rattle.aia_laws.specs.Told.{is_deliverable, notice_file, notice_number, told_since, cleared_since};
+
 /// No notice is lost. After every script, while a virtual hart is parked and an identity is pending
 /// and enabled at it, its notice identity was asked for at the supervisor file of its notice hart, no
 /// earlier than the newest request for that identity.

@@ -1,0 +1,171 @@
+-- Histories whose every event may happen: that of each script is one.
+use Rattle.std.proofs.Common.{◌≡◌, ℕ, zero, suc, ◌+◌, ◌-◌, true, false, nat_eq, is_none, List, [], ◌∷◌, Option, Some, None, inl, inr, refl, sym, ap, subst, ◌∙◌, arith}
+use Rattle.std.specs.Option.{option_map_or}
+use Rattle.std.proofs.lemmas.Bool.{cases_Bool, not-false, eqb-true, cond-true}
+use Rattle.aia_home.specs.Vms.{Vcpu, vcpu}
+use Rattle.aia_home.specs.Home.{Home, is_moving, is_resident, is_parked, leave_steps, arrive_steps, shift_steps, leaving, arriving, shifting, stepped}
+use Rattle.aia_home.specs.Home.Home.{Parked, Resident, Leaving, Arriving, Shifting}
+use Rattle.aia_model.specs.declared.line.Line.{Line}
+use Rattle.aia_model.specs.declared.line.Line.TheVariants.{Machine, Arrive, Leave, Shift, BeginArrive, BeginLeave, BeginShift, Step}
+use Rattle.aia_model.specs.declared.answer.Answer.{Answer}
+use Rattle.aia_model.specs.declared.msi.Msi.{Msi}
+use Rattle.aia_model.specs.declared.parsed.Parsed.{Parsed}
+use Rattle.aia_model.specs.declared.parsed.Parsed.TheVariants as parsed
+use Rattle.aia_model.specs.Move.{mover}
+use Rattle.aia_model.specs.Move.Move.{Arrives, Leaves, Shifts}
+use Rattle.aia_model.specs.Event.{Event, History, has_machine, file_words}
+use Rattle.aia_model.specs.Event.Event.{Accepted, Began, Stepped, Delivered}
+use Rattle.aia_model.specs.Vms.{has_vcpu}
+use Rattle.aia_model.specs.HomeOf.{home, free_file, place}
+use Rattle.aia_model.specs.Refusal.{refusal}
+use Rattle.aia_model.specs.Sent.{msis_sent_by}
+use Rattle.aia_model.specs.Answer.{after, history_after, line_taken, whole_move, delivered, steps_taken}
+use Rattle.aia_model.specs.Reading.{reading}
+use Rattle.aia_model.specs.Text.{texts_of}
+use Rattle.aia_model.specs.Script.{after_text, after_texts, history_of}
+use Rattle.aia_model.proofs.AnswerLemmas.{after_by}
+use Rattle.aia_model.proofs.MoveLemmas.{is_itself, home_step}
+use Rattle.aia_laws.proofs.RefusalLemmas.{machine_stands, arrive_allowed, leave_allowed, shift_allowed, step_allowed}
+
+-- ---- what may happen
+
+-- Whether an event may happen after a history: a line that is not refused, the beginning of a move
+-- of a virtual hart that is there and is not being moved, a step of one that is, and an MSI once a
+-- machine stands.
+abbrev pub MayHappen : History → Event → Type 0
+MayHappen past (Accepted line) = refusal past line ≡ None
+MayHappen past (Began move) = (has_vcpu past (mover move) ≡ true) × (is_moving (home past (mover move)) ≡ false)
+MayHappen past (Stepped g) = (has_vcpu past g ≡ true) × (is_moving (home past g) ≡ true)
+MayHappen past (Delivered msi) = has_machine past ≡ true
+
+-- Whether each event of a history might happen.
+abbrev pub IsHistory : History → Type 0
+IsHistory [] = Unit {0}
+IsHistory (event ∷ past) = MayHappen past event × IsHistory past
+
+-- ---- a whole move: all its steps may happen
+
+-- how many steps of its move a home has left
+abbrev steps_left : ℕ → Home → ℕ
+steps_left words (Leaving from at) = leave_steps words - at.steps
+steps_left words (Arriving to at) = arrive_steps words - at.steps
+steps_left words (Shifting from to at) = shift_steps words - at.steps
+steps_left words there = 0
+
+one_less : (words count : ℕ) (there : Home) → steps_left words there ≡ suc count → (is_moving there ≡ true) × (steps_left words (stepped words there) ≡ count)
+one_less words count (Leaving from at) e = elim (cases_Bool (nat_eq (at.steps + 1) (leave_steps words))) [
+  | inl last ↦ let end = eqb-true (at.steps + 1) (leave_steps words) last in (refl, rw last (omega (arith, end, e)))
+  | inr on ↦ (refl, rw on (omega (arith, e)))
+]
+one_less words count (Arriving to at) e = elim (cases_Bool (nat_eq (at.steps + 1) (arrive_steps words))) [
+  | inl last ↦ let end = eqb-true (at.steps + 1) (arrive_steps words) last in (refl, rw last (omega (arith, end, e)))
+  | inr on ↦ (refl, rw on (omega (arith, e)))
+]
+one_less words count (Shifting from to at) e = elim (cases_Bool (nat_eq (at.steps + 1) (shift_steps words))) [
+  | inl last ↦ let end = eqb-true (at.steps + 1) (shift_steps words) last in (refl, rw last (omega (arith, end, e)))
+  | inr on ↦ (refl, rw on (omega (arith, e)))
+]
+one_less words count Parked e = absurd (omega (arith, e))
+one_less words count (Resident p) e = absurd (omega (arith, e))
+
+own_home : (h : History) (g : Vcpu) → home (Stepped g ∷ h) g ≡ stepped (file_words h) (home h g)
+own_home h g = home_step (Stepped g) h g ∙ cond-true _ _ _ (is_itself g)
+
+steps_happen : (count : ℕ) (g : Vcpu) (h : History) → has_vcpu h g ≡ true → steps_left (file_words h) (home h g) ≡ count → IsHistory h → IsHistory (steps_taken count g h)
+steps_happen zero g h there left good = good
+steps_happen (suc count) g h there left good =
+    let one = one_less (file_words h) count (home h g) left in
+    steps_happen count g (Stepped g ∷ h) there (ap (steps_left (file_words h)) (own_home h g) ∙ one.1) ((there, one.0), good)
+
+leave_left : (words : ℕ) (there : Home) → is_moving there ≡ false → is_parked there ≡ false → steps_left words (leaving there) ≡ leave_steps words
+leave_left words (Resident p) idle kept = omega arith
+leave_left words Parked idle kept = absurd (cc)
+leave_left words (Leaving from at) idle kept = absurd (cc)
+leave_left words (Arriving to at) idle kept = absurd (cc)
+leave_left words (Shifting from to at) idle kept = absurd (cc)
+
+arrive_left : (words hart : ℕ) (file : Option ℕ) (there : Home) → is_moving there ≡ false → is_resident there ≡ false → is_none file ≡ false
+    → steps_left words (option_map_or (λ f. arriving (place hart f) there) file there) ≡ arrive_steps words
+arrive_left words hart None there idle away free = absurd (cc)
+arrive_left words hart (Some f) Parked idle away free = omega arith
+arrive_left words hart (Some f) (Resident p) idle away free = absurd (cc)
+arrive_left words hart (Some f) (Leaving from at) idle away free = absurd (cc)
+arrive_left words hart (Some f) (Arriving to at) idle away free = absurd (cc)
+arrive_left words hart (Some f) (Shifting from to at) idle away free = absurd (cc)
+
+shift_left : (words hart : ℕ) (file : Option ℕ) (there : Home) → is_moving there ≡ false → is_parked there ≡ false → is_none file ≡ false
+    → steps_left words (option_map_or (λ f. shifting (place hart f) there) file there) ≡ shift_steps words
+shift_left words hart None there idle kept free = absurd (cc)
+shift_left words hart (Some f) (Resident p) idle kept free = omega arith
+shift_left words hart (Some f) Parked idle kept free = absurd (cc)
+shift_left words hart (Some f) (Leaving from at) idle kept free = absurd (cc)
+shift_left words hart (Some f) (Arriving to at) idle kept free = absurd (cc)
+shift_left words hart (Some f) (Shifting from to at) idle kept free = absurd (cc)
+
+arrive_happens : (h : History) (g : Vcpu) (hart : ℕ) → refusal h (Arrive g.vm g.number hart) ≡ None → IsHistory h → IsHistory (whole_move h (Arrives g hart))
+arrive_happens h g hart e good =
+    let may = arrive_allowed h g.vm g.number hart e in
+    steps_happen (arrive_steps (file_words h)) g (Began (Arrives g hart) ∷ h) may.0
+    (ap (steps_left (file_words h)) (home_step (Began (Arrives g hart)) h g ∙ cond-true _ _ _ (is_itself g)) ∙ arrive_left (file_words h) hart (free_file h (home h) hart) (home h g) may.1 may.2 may.3)
+    ((may.0, may.1), good)
+
+leave_happens : (h : History) (g : Vcpu) → refusal h (Leave g.vm g.number) ≡ None → IsHistory h → IsHistory (whole_move h (Leaves g))
+leave_happens h g e good =
+    let may = leave_allowed h g.vm g.number e in
+    steps_happen (leave_steps (file_words h)) g (Began (Leaves g) ∷ h) may.0
+    (ap (steps_left (file_words h)) (home_step (Began (Leaves g)) h g ∙ cond-true _ _ _ (is_itself g)) ∙ leave_left (file_words h) (home h g) may.1 may.2)
+    ((may.0, may.1), good)
+
+shift_happens : (h : History) (g : Vcpu) (hart : ℕ) → refusal h (Shift g.vm g.number hart) ≡ None → IsHistory h → IsHistory (whole_move h (Shifts g hart))
+shift_happens h g hart e good =
+    let may = shift_allowed h g.vm g.number hart e in
+    steps_happen (shift_steps (file_words h)) g (Began (Shifts g hart) ∷ h) may.0
+    (ap (steps_left (file_words h)) (home_step (Began (Shifts g hart)) h g ∙ cond-true _ _ _ (is_itself g)) ∙ shift_left (file_words h) hart (free_file h (home h) hart) (home h g) may.1 may.2 may.3)
+    ((may.0, may.1), good)
+
+-- ---- what a script does is such a history
+
+line_happens : (h : History) (line : Line) → refusal h line ≡ None → IsHistory h → IsHistory (line_taken h line)
+line_happens h (Arrive vm number hart) e good = arrive_happens h (vcpu vm number) hart e good
+line_happens h (Leave vm number) e good = leave_happens h (vcpu vm number) e good
+line_happens h (Shift vm number hart) e good = shift_happens h (vcpu vm number) hart e good
+line_happens h (BeginArrive vm number hart) e good = let may = arrive_allowed h vm number hart e in ((may.0, may.1), good)
+line_happens h (BeginLeave vm number) e good = let may = leave_allowed h vm number e in ((may.0, may.1), good)
+line_happens h (BeginShift vm number hart) e good = let may = shift_allowed h vm number hart e in ((may.0, may.1), good)
+line_happens h (Step vm number) e good = (step_allowed h vm number e, good)
+line_happens h line e good = (e, good)
+
+stands_stepped : (count : ℕ) (g : Vcpu) (h : History) → has_machine h ≡ true → has_machine (steps_taken count g h) ≡ true
+stands_stepped zero g h stands = stands
+stands_stepped (suc count) g h stands = stands_stepped count g (Stepped g ∷ h) stands
+
+-- after an accepted line a machine stands
+stands_then : (h : History) (line : Line) → refusal h line ≡ None → has_machine (line_taken h line) ≡ true
+stands_then h (Machine harts guests n sources) e = refl
+stands_then h (Arrive vm number hart) e = stands_stepped (arrive_steps (file_words h)) (vcpu vm number) _ (not-false _ (machine_stands h (Arrive vm number hart) e))
+stands_then h (Leave vm number) e = stands_stepped (leave_steps (file_words h)) (vcpu vm number) _ (not-false _ (machine_stands h (Leave vm number) e))
+stands_then h (Shift vm number hart) e = stands_stepped (shift_steps (file_words h)) (vcpu vm number) _ (not-false _ (machine_stands h (Shift vm number hart) e))
+stands_then h line e = not-false _ (machine_stands h line e)
+
+msis_happen : (sent : List Msi) (h : History) → has_machine h ≡ true → IsHistory h → IsHistory (delivered sent h)
+msis_happen [] h stands good = good
+msis_happen (msi ∷ later) h stands good = msis_happen later (Delivered msi ∷ h) stands (stands, good)
+
+after_happens : (h : History) (line : Line) → IsHistory h → IsHistory (after h line)
+after_happens h line good = subst IsHistory (sym (after_by h line (refusal h line) refl)) (by_refusal (refusal h line) refl)
+  where
+    by_refusal : (word : Option Answer) → refusal h line ≡ word → IsHistory (history_after word h line)
+    by_refusal None e = msis_happen (msis_sent_by h line) (line_taken h line) (stands_then h line e) (line_happens h line e good)
+    by_refusal (Some word) e = good
+
+text_happens : (h : History) (text : Parsed) → IsHistory h → IsHistory (after_text h text)
+text_happens h (parsed.Line line) good = after_happens h line good
+text_happens h parsed.Skip good = good
+text_happens h parsed.Bad good = good
+
+texts_happen : (h : History) (texts : List (List ℕ)) → IsHistory h → IsHistory (after_texts h texts)
+texts_happen h [] good = good
+texts_happen h (text ∷ texts) good = texts_happen (after_text h (reading text)) texts (text_happens h (reading text) good)
+
+pub script_happens : (script : List ℕ) → IsHistory (history_of script)
+script_happens script = texts_happen [] (texts_of script) tt

@@ -1,0 +1,87 @@
+-- What holds of all histories whose every event may happen: the machine comes first, and its files
+-- have more identities than there are virtual harts.
+use Rattle.std.proofs.Common.{◌≡◌, ℕ, ◌+◌, ◌/◌, ◌<◌, ◌≤◌, true, false, [], ◌∷◌, inl, inr, refl, sym, ap, ◌∙◌, arith}
+use Rattle.std.specs.Int.{is_in_range}
+use Rattle.std.proofs.lemmas.Bool.{cases_Bool, and_parts, not-false, le-ltb, false≢true}
+use Rattle.std.proofs.lemmas.Bool.Decides.{nat_tests}
+use Rattle.aia_regs.specs.declared.limits.TheConstants.{VCPUS}
+use Rattle.aia_file.specs.InterruptFile.{is_greatest_identity}
+use Rattle.aia_home.specs.Vms.{Vcpu, vcpus_in}
+use Rattle.aia_home.proofs.VmLemmas.{vcpus_more}
+use Rattle.aia_model.specs.declared.line.Line.TheVariants.{Machine, GuestCsr, Ipi, Arrive, Leave, Shift, BeginArrive, BeginLeave, BeginShift, Step}
+use Rattle.aia_model.specs.declared.line.Line.TheVariants as lines
+use Rattle.aia_model.specs.Move.{mover}
+use Rattle.aia_model.specs.Event.{History, has_machine, greatest_identity_of, file_words}
+use Rattle.aia_model.specs.Event.Event.{Accepted, Began, Stepped, Delivered}
+use Rattle.aia_model.specs.Vms.{vms_of, has_vcpu}
+use Rattle.aia_model.specs.FileAfter.{file_by}
+use Rattle.aia_model.specs.GuestFile.{guest_file}
+use Rattle.aia_model.specs.Refusal.{is_machine_size}
+use Rattle.aia_laws.proofs.FileLemmas.{enabled_fits}
+use Rattle.aia_laws.proofs.RefusalLemmas.{machine_stands, machine_allowed, vm_allowed}
+use Rattle.aia_laws.proofs.HistoryLemmas.{IsHistory}
+
+none_there : (g : Vcpu) → has_vcpu [] g ≡ false
+none_there g = le-ltb g.number 0 (omega arith)
+
+-- the machine comes first
+pub machine_first : (h : History) → IsHistory h → has_machine h ≡ false → h ≡ []
+machine_first [] good none = refl
+machine_first (Accepted (Machine harts guests n sources) ∷ h) good none = absurd (cc)
+machine_first (Accepted line ∷ h) good none = absurd (false≢true (sym none ∙ not-false _ (machine_stands h line good.0)))
+machine_first (Began move ∷ h) good none = absurd (false≢true (sym (none_there (mover move)) ∙ ap (λ x. has_vcpu x (mover move)) (sym (machine_first h good.1 none)) ∙ good.0.0))
+machine_first (Stepped g ∷ h) good none = absurd (false≢true (sym (none_there g) ∙ ap (λ x. has_vcpu x g) (sym (machine_first h good.1 none)) ∙ good.0.0))
+machine_first (Delivered msi ∷ h) good none = absurd (false≢true (sym none ∙ good.0))
+
+-- where a virtual hart is, a machine stands
+machine_of_vcpu : (h : History) (g : Vcpu) → IsHistory h → has_vcpu h g ≡ true → has_machine h ≡ true
+machine_of_vcpu h g good there = elim (cases_Bool (has_machine h)) [
+  | inl stands ↦ stands
+  | inr none ↦ absurd (false≢true (sym (none_there g) ∙ ap (λ x. has_vcpu x g) (sym (machine_first h good none)) ∙ there))
+]
+
+size_of_machine : (harts guests n sources : ℕ) → is_machine_size harts guests n sources ≡ true → is_greatest_identity n ≡ true
+size_of_machine harts guests n sources e = (and_parts _ _ (and_parts _ _ e).0).1
+
+greatest_of_machine : (h : History) → IsHistory h → has_machine h ≡ true → is_greatest_identity (greatest_identity_of h) ≡ true
+greatest_of_machine [] good stands = absurd (cc)
+greatest_of_machine (Accepted (Machine harts guests n sources) ∷ h) good stands = size_of_machine harts guests n sources (machine_allowed h harts guests n sources good.0).1
+greatest_of_machine (Accepted line ∷ h) good stands = greatest_of_machine h good.1 stands
+greatest_of_machine (Began move ∷ h) good stands = greatest_of_machine h good.1 stands
+greatest_of_machine (Stepped g ∷ h) good stands = greatest_of_machine h good.1 stands
+greatest_of_machine (Delivered msi ∷ h) good stands = greatest_of_machine h good.1 stands
+
+few_vcpus : (h : History) → IsHistory h → vcpus_in (vms_of h) ≤ VCPUS
+few_vcpus [] good = omega arith
+few_vcpus (Accepted (lines.Vm vcpus mask hart) ∷ h) good = rw (vcpus_more (vms_of h) (record { vcpus = vcpus; mask = mask; notice_hart = hart })) (vm_allowed h vcpus mask hart good.0)
+few_vcpus (Accepted line ∷ h) good = few_vcpus h good.1
+few_vcpus (Began move ∷ h) good = few_vcpus h good.1
+few_vcpus (Stepped g ∷ h) good = few_vcpus h good.1
+few_vcpus (Delivered msi ∷ h) good = few_vcpus h good.1
+
+-- so there are more identities than virtual harts
+at_least_63 : (n : ℕ) → is_greatest_identity n ≡ true → 63 ≤ n
+at_least_63 n e = grind (arith, nat_tests)
+
+pub identities_for_all : (h : History) (g : Vcpu) → IsHistory h → has_vcpu h g ≡ true → vcpus_in (vms_of h) ≤ greatest_identity_of h
+identities_for_all h g good there =
+    let enough = at_least_63 (greatest_identity_of h) (greatest_of_machine h good (machine_of_vcpu h g good there)) in
+    let few = few_vcpus h good in
+    omega (arith, enough, few)
+
+-- what is enabled lies in a word of the file
+word_below : (n i : ℕ) → is_greatest_identity n ≡ true → i ≤ n → i / 64 < (n + 1) / 64
+word_below n i e low = grind (arith, nat_tests)
+
+none_enabled : (g : Vcpu) (i : ℕ) → (guest_file [] g).enabled i ≡ false
+unfolding file_by
+none_enabled g i = refl
+
+pub enabled_in_words : (h : History) (g : Vcpu) (i : ℕ) → IsHistory h → (guest_file h g).enabled i ≡ true → i / 64 < file_words h
+enabled_in_words h g i good e = elim (cases_Bool (has_machine h)) [
+  | inl stands ↦ word_below (greatest_identity_of h) i (greatest_of_machine h good stands) (at_most (greatest_identity_of h) (enabled_fits h g i e))
+  | inr none ↦ absurd (false≢true (sym (none_enabled g i) ∙ ap (λ x. (guest_file x g).enabled i) (sym (machine_first h good none)) ∙ e))
+]
+  where
+    at_most : (n : ℕ) → is_in_range 1 n i ≡ true → i ≤ n
+    at_most n here = grind (arith, nat_tests)

@@ -1,0 +1,94 @@
+-- What holds where a line is not refused: the cells of all words are false.
+use Rattle.std.proofs.Common.{◌≡◌, ℕ, ◌+◌, ◌%◌, ◌≤◌, Bool, true, false, not, ◌&&◌, cond, nat_eq, is_none, Option, Some, None, refl}
+use Rattle.std.proofs.lemmas.Bool.{and_parts, or_parts, not-false, ltb-false}
+use Rattle.aia_regs.specs.declared.limits.TheConstants.{VCPUS}
+use Rattle.aia_regs.specs.declared.access.Csr.{Csr}
+use Rattle.aia_regs.specs.declared.access.Op.{Op}
+use Rattle.aia_home.specs.Vms.{vcpu, vcpus_in}
+use Rattle.aia_home.specs.Home.{is_moving, is_resident, is_parked}
+use Rattle.aia_model.specs.declared.line.Line.{Line}
+use Rattle.aia_model.specs.declared.line.Line.TheVariants.{Machine, GuestCsr, Ipi, Arrive, Leave, Shift, BeginArrive, BeginLeave, BeginShift, Step}
+use Rattle.aia_model.specs.declared.line.Line.TheVariants as lines
+use Rattle.aia_model.specs.declared.answer.Answer.{Answer}
+use Rattle.aia_model.specs.Event.{History, has_machine, has_hart}
+use Rattle.aia_model.specs.Vms.{vms_of, has_vm, has_vcpu}
+use Rattle.aia_model.specs.HomeOf.{home, free_file}
+use Rattle.aia_model.specs.GuestFile.{named_by}
+use Rattle.aia_model.specs.Refusal.{refusal, lacks_machine, is_machine_size, is_vm_size, lacks_room}
+
+-- a word that does not refuse is passed: its cell does not hold, and no later word refuses
+passed : (cell : Bool) (word : Answer) (later : Option Answer) → cond cell (Some word) later ≡ None → (cell ≡ false) × (later ≡ None)
+passed true word later e = absurd (cc)
+passed false word later e = (refl, e)
+
+pub machine_stands : (h : History) (line : Line) → refusal h line ≡ None → lacks_machine h line ≡ false
+machine_stands h line e = (passed (lacks_machine h line) _ _ e).0
+
+pub machine_allowed : (h : History) (harts guests n sources : ℕ) → refusal h (Machine harts guests n sources) ≡ None → (has_machine h ≡ false) × (is_machine_size harts guests n sources ≡ true)
+machine_allowed h harts guests n sources e =
+    let first = passed (has_machine h) _ _ e in
+    (first.0, not-false _ (passed (not (is_machine_size harts guests n sources)) _ _ first.1).0)
+
+pub vm_allowed : (h : History) (vcpus mask hart : ℕ) → refusal h (lines.Vm vcpus mask hart) ≡ None → vcpus_in (vms_of h) + vcpus ≤ VCPUS
+vm_allowed h vcpus mask hart e =
+    let stands = passed (not (has_machine h)) _ _ e in
+    let sized = passed (not (is_vm_size vcpus mask && has_hart h hart)) _ _ stands.1 in
+    let room = passed (lacks_room (vms_of h) vcpus) _ _ sized.1 in
+    ltb-false VCPUS (vcpus_in (vms_of h) + vcpus) (or_parts _ _ room.0).1
+
+pub arrive_allowed : (h : History) (vm number hart : ℕ) → refusal h (Arrive vm number hart) ≡ None
+    → (has_vcpu h (vcpu vm number) ≡ true) × (is_moving (home h (vcpu vm number)) ≡ false) × (is_resident (home h (vcpu vm number)) ≡ false) × (is_none (free_file h (home h) hart) ≡ false)
+arrive_allowed h vm number hart e =
+    let stands = passed (not (has_machine h)) _ _ e in
+    let there = passed (not (has_vcpu h (vcpu vm number) && has_hart h hart)) _ _ stands.1 in
+    let idle = passed (is_moving (home h (vcpu vm number))) _ _ there.1 in
+    let away = passed (is_resident (home h (vcpu vm number))) _ _ idle.1 in
+    let free = passed (is_none (free_file h (home h) hart)) _ _ away.1 in
+    ((and_parts (has_vcpu h (vcpu vm number)) (has_hart h hart) (not-false _ there.0)).0, idle.0, away.0, free.0)
+
+pub leave_allowed : (h : History) (vm number : ℕ) → refusal h (Leave vm number) ≡ None
+    → (has_vcpu h (vcpu vm number) ≡ true) × (is_moving (home h (vcpu vm number)) ≡ false) × (is_parked (home h (vcpu vm number)) ≡ false)
+leave_allowed h vm number e =
+    let stands = passed (not (has_machine h)) _ _ e in
+    let there = passed (not (has_vcpu h (vcpu vm number))) _ _ stands.1 in
+    let idle = passed (is_moving (home h (vcpu vm number))) _ _ there.1 in
+    let kept = passed (is_parked (home h (vcpu vm number))) _ _ idle.1 in
+    (not-false _ there.0, idle.0, kept.0)
+
+pub shift_allowed : (h : History) (vm number hart : ℕ) → refusal h (Shift vm number hart) ≡ None
+    → (has_vcpu h (vcpu vm number) ≡ true) × (is_moving (home h (vcpu vm number)) ≡ false) × (is_parked (home h (vcpu vm number)) ≡ false) × (is_none (free_file h (home h) hart) ≡ false)
+shift_allowed h vm number hart e =
+    let stands = passed (not (has_machine h)) _ _ e in
+    let there = passed (not (has_vcpu h (vcpu vm number) && has_hart h hart)) _ _ stands.1 in
+    let idle = passed (is_moving (home h (vcpu vm number))) _ _ there.1 in
+    let kept = passed (is_parked (home h (vcpu vm number))) _ _ idle.1 in
+    let free = passed (is_none (free_file h (home h) hart)) _ _ kept.1 in
+    ((and_parts (has_vcpu h (vcpu vm number)) (has_hart h hart) (not-false _ there.0)).0, idle.0, kept.0, free.0)
+
+pub step_allowed : (h : History) (vm number : ℕ) → refusal h (Step vm number) ≡ None → (has_vcpu h (vcpu vm number) ≡ true) × (is_moving (home h (vcpu vm number)) ≡ true)
+step_allowed h vm number e =
+    let stands = passed (not (has_machine h)) _ _ e in
+    let there = passed (not (has_vcpu h (vcpu vm number))) _ _ stands.1 in
+    (not-false _ there.0, not-false _ (passed (not (is_moving (home h (vcpu vm number)))) _ _ there.1).0)
+
+pub access_allowed : (h : History) (vm number : ℕ) (csr : Csr) (op : Op) → refusal h (GuestCsr vm number csr op) ≡ None → is_resident (home h (vcpu vm number)) ≡ true
+access_allowed h vm number csr op e =
+    let stands = passed (not (has_machine h)) _ _ e in
+    let there = passed (not (has_vcpu h (vcpu vm number))) _ _ stands.1 in
+    not-false _ (passed (not (is_resident (home h (vcpu vm number)))) _ _ there.1).0
+
+-- an MSI of a VM names a virtual hart that is there, and a store of a virtual hart is for one
+pub device_allowed : (h : History) (vm addr value : ℕ) → refusal h (lines.Msi vm addr value) ≡ None → has_vcpu h (named_by h vm addr) ≡ true
+device_allowed h vm addr value e =
+    let stands = passed (not (has_machine h)) _ _ e in
+    let there = passed (not (has_vm h vm)) _ _ stands.1 in
+    let whole = passed (not (nat_eq (addr % 4) 0)) _ _ there.1 in
+    let own = passed _ _ _ whole.1 in
+    not-false _ (passed (not (has_vcpu h (named_by h vm addr))) _ _ own.1).0
+
+pub peer_allowed : (h : History) (vm number to value : ℕ) → refusal h (Ipi vm number to value) ≡ None → has_vcpu h (vcpu vm to) ≡ true
+peer_allowed h vm number to value e =
+    let stands = passed (not (has_machine h)) _ _ e in
+    let there = passed (not (has_vcpu h (vcpu vm number))) _ _ stands.1 in
+    let away = passed (not (is_resident (home h (vcpu vm number)))) _ _ there.1 in
+    not-false _ (passed (not (has_vcpu h (vcpu vm to))) _ _ away.1).0

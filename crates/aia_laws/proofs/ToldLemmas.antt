@@ -1,0 +1,160 @@
+-- What the host is told by a notice: the notice identity is asked for in its file, and stays pending
+-- there until it is cleared.
+use Rattle.std.proofs.Common.{◌≡◌, ℕ, ◌+◌, ◌<◌, ◌≤◌, Bool, true, false, not, ◌&&◌, ◌||◌, if◌then◌else◌, nat_lt, List, [], ◌∷◌, length, Option, Some, None, inl, inr, refl, sym, ap, ◌∙◌, arith}
+use Rattle.std.specs.Int.{is_in_range}
+use Rattle.std.proofs.lemmas.Bool.{cases_lt, and_parts, and_from, or_cases, or_left, or_right, eq-eqb, cond-true, ltb-true, false≢true}
+use Rattle.std.proofs.lemmas.Bool.Decides.{nat_tests}
+use Rattle.aia_regs.specs.Word.{Word, settle}
+use Rattle.aia_regs.specs.Word.Word.{Ask, Clear, Nothing}
+use Rattle.aia_file.specs.InterruptFile.{InterruptFile}
+use Rattle.aia_home.specs.declared.vm.Vm.{Vm}
+use Rattle.aia_home.specs.Vms.{Vcpu, vcpu, vm_in, is_vcpu_in}
+use Rattle.aia_home.specs.Home.Home.{Parked}
+use Rattle.aia_home.proofs.VmLemmas.{slot_below, vm_stays, slot_stays, vm_past}
+use Rattle.aia_model.specs.declared.line.Line.TheVariants.{Machine, Ipi}
+use Rattle.aia_model.specs.declared.line.Line.TheVariants as lines
+use Rattle.aia_model.specs.Event.{Event, History}
+use Rattle.aia_model.specs.Event.Event.{Accepted, Began, Stepped, Delivered}
+use Rattle.aia_model.specs.Vms.{vms_of, has_vcpu}
+use Rattle.aia_model.specs.FileAfter.{IsMaking, pending_said}
+use Rattle.aia_model.specs.FileAfter.FileDeed.{Stores}
+use Rattle.aia_model.specs.FileOf.{FileName, SupervisorFile, notice_deed, deed_at, select_of, file_of}
+use Rattle.aia_model.specs.GuestFile.{guest_file, named_by}
+use Rattle.aia_model.specs.HomeOf.{home}
+use Rattle.aia_model.specs.Notice.{noticed}
+use Rattle.aia_model.proofs.FileLemmas.{file_step, newest_word, is_file-itself}
+use Rattle.aia_model.proofs.MoveLemmas.{same_vcpu}
+use Rattle.aia_laws.specs.Told.{is_deliverable, notice_file, notice_number, is_ask, is_clear, guest_said, host_said, told_since, cleared_since}
+use Rattle.aia_laws.proofs.FileLemmas.{made_with, not_making, host_made, host_n}
+use Rattle.aia_laws.proofs.RefusalLemmas.{machine_allowed, device_allowed, peer_allowed}
+use Rattle.aia_laws.proofs.HistoryLemmas.{MayHappen, IsHistory}
+use Rattle.aia_laws.proofs.MachineLemmas.{machine_first, identities_for_all, enabled_in_words}
+use Rattle.aia_laws.proofs.NoticeLemmas.{names_vcpu, noticed_since, noticed_while_parked}
+
+-- ---- a virtual hart keeps its file of the host and its identity
+
+vm_within : (vms : List Vm) (g : Vcpu) → is_vcpu_in vms g ≡ true → g.vm < length vms
+vm_within vms g there = elim (cases_lt g.vm (length vms)) [
+  | inl within ↦ within
+  | inr past ↦
+      let few : g.number < (vm_in vms g.vm).vcpus = ltb-true g.number (vm_in vms g.vm).vcpus there in
+      let none = vm_past vms g.vm past in absurd (omega (arith, few, none))
+]
+
+-- Whether after an event a virtual hart is there still, and has its file of the host and its identity.
+abbrev KeepsNotices : Event → History → Vcpu → Type 0
+KeepsNotices event past g = (has_vcpu (event ∷ past) g ≡ true) × (notice_file (event ∷ past) g ≡ notice_file past g) × (notice_number (event ∷ past) g ≡ notice_number past g)
+
+keeps_notices : (event : Event) (past : History) (g : Vcpu) → has_vcpu past g ≡ true → KeepsNotices event past g
+keeps_notices (Accepted (lines.Vm vcpus mask hart)) past g there =
+    let new : Vm = record { vcpus = vcpus; mask = mask; notice_hart = hart } in
+    let within = vm_within (vms_of past) g there in
+    let same = vm_stays (vms_of past) new g.vm within in
+    (ap (λ (vm : Vm). nat_lt g.number vm.vcpus) same ∙ there, ap (λ (vm : Vm). SupervisorFile vm.notice_hart) same, ap (λ q. q + 1) (slot_stays (vms_of past) new g within))
+keeps_notices (Accepted line) past g there = (there, refl, refl)
+keeps_notices (Began move) past g there = (there, refl, refl)
+keeps_notices (Stepped x) past g there = (there, refl, refl)
+keeps_notices (Delivered msi) past g there = (there, refl, refl)
+
+-- ---- a notice asks for it
+
+chosen_is : (b : Bool) (x g : Vcpu) → names_vcpu (if b then Some x else None) g ≡ true → g ≡ x
+chosen_is true x g e = same_vcpu g x e
+chosen_is false x g e = absurd (cc)
+
+noticed_is_there : (event : Event) (past : History) (g : Vcpu) → MayHappen past event → names_vcpu (noticed past event) g ≡ true → has_vcpu past g ≡ true
+noticed_is_there (Accepted (lines.Msi vm addr value)) past g may e = ap (has_vcpu past) (chosen_is _ (named_by past vm addr) g e) ∙ device_allowed past vm addr value may
+noticed_is_there (Accepted (Ipi vm number to value)) past g may e = ap (has_vcpu past) (chosen_is _ (vcpu vm to) g e) ∙ peer_allowed past vm number to value may
+noticed_is_there (Stepped x) past g may e = ap (has_vcpu past) (chosen_is _ x g e) ∙ may.0
+noticed_is_there (Accepted line) past g may e = absurd (false≢true e)
+noticed_is_there (Began move) past g may e = absurd (false≢true e)
+noticed_is_there (Delivered msi) past g may e = absurd (false≢true e)
+
+noticed_one : (told : Option Vcpu) (g : Vcpu) → names_vcpu told g ≡ true → told ≡ Some g
+noticed_one None g e = absurd (false≢true e)
+noticed_one (Some x) g e = ap Some (sym (same_vcpu g x e))
+
+-- an event that notices is to the host's files what its notice is
+notice_is_deed : (event : Event) (past : History) (f : FileName) (g : Vcpu) → names_vcpu (noticed past event) g ≡ true → deed_at f past event ≡ notice_deed past f (Some g)
+notice_is_deed (Accepted (lines.Msi vm addr value)) past f g e = ap (notice_deed past f) (noticed_one _ g e)
+notice_is_deed (Accepted (Ipi vm number to value)) past f g e = ap (notice_deed past f) (noticed_one _ g e)
+notice_is_deed (Stepped x) past f g e = ap (notice_deed past f) (noticed_one _ g e)
+notice_is_deed (Accepted line) past f g e = absurd (false≢true e)
+notice_is_deed (Began move) past f g e = absurd (false≢true e)
+notice_is_deed (Delivered msi) past f g e = absurd (false≢true e)
+
+store_asks : (select : ℕ) (file : InterruptFile) (i : ℕ) → 1 ≤ i → i ≤ file.n → pending_said select file (Stores 0 i) i ≡ Ask
+store_asks select file i low high = let r : is_in_range 1 file.n i ≡ true = grind (arith, nat_tests) in rw (r, eq-eqb i i refl) refl
+
+number_fits : (h : History) (g : Vcpu) → IsHistory h → has_vcpu h g ≡ true → notice_number h g ≤ (file_of h (notice_file h g)).n
+number_fits h g good there =
+    let slot = slot_below (vms_of h) g there in
+    let enough = identities_for_all h g good there in
+    rw (host_n h (notice_file h g)) (omega (arith, slot, enough))
+
+notice_asks : (event : Event) (past : History) (g : Vcpu) → MayHappen past event → IsHistory past → names_vcpu (noticed past event) g ≡ true → host_said past event (notice_file past g) (notice_number past g) ≡ Ask
+notice_asks event past g may good e =
+    let f : FileName = notice_file past g in
+    let deed : deed_at f past event ≡ Stores 0 (notice_number past g) = notice_is_deed event past f g e ∙ cond-true _ _ _ (is_file-itself f f refl) in
+    ap (λ d. pending_said (select_of past f) (file_of past f) d (notice_number past g)) deed
+    ∙ store_asks (select_of past f) (file_of past f) (notice_number past g) (omega arith) (number_fits past g good (noticed_is_there event past g may e))
+
+-- a notice since the newest request is an ask in the host's file since then: at the file and for the
+-- identity that the virtual hart has at the end, which it had from its making on
+asked_since : (h : History) (f : FileName) (n : ℕ) (g : Vcpu) (i : ℕ) → IsHistory h → (has_vcpu h g ≡ true → (f ≡ notice_file h g) × (n ≡ notice_number h g)) → noticed_since h g i ≡ true → told_since h f n g i ≡ true
+unfolding noticed_since told_since
+asked_since [] f n g i good its e = absurd (false≢true e)
+asked_since (event ∷ past) f n g i good its e = elim (or_cases (names_vcpu (noticed past event) g) (not (is_ask (guest_said past event g i)) && noticed_since past g i) e) [
+  | inl now ↦
+      let same = stays (noticed_is_there event past g good.0 now) in
+      or_left _ _ (ap is_ask (ap (λ x. host_said past event x n) same.0 ∙ ap (host_said past event (notice_file past g)) same.1 ∙ notice_asks event past g good.0 good.1 now))
+  | inr before ↦
+      let parts = and_parts (not (is_ask (guest_said past event g i))) (noticed_since past g i) before in
+      or_right _ _ (and_from _ _ parts.0 (asked_since past f n g i good.1 stays parts.1))
+]
+  where
+    stays : has_vcpu past g ≡ true → (f ≡ notice_file past g) × (n ≡ notice_number past g)
+    stays there = let kept = keeps_notices event past g there in let same = its kept.0 in (same.0 ∙ kept.1, same.1 ∙ kept.2)
+
+pub told_while_parked : (h : History) (g : Vcpu) (i : ℕ) → IsHistory h → home h g ≡ Parked → is_deliverable h g i ≡ true → told_since h (notice_file h g) (notice_number h g) g i ≡ true
+told_while_parked h g i good parked live =
+    let enabled = (and_parts ((guest_file h g).pending i) ((guest_file h g).enabled i) live).1 in
+    asked_since h (notice_file h g) (notice_number h g) g i good (λ there. (refl, refl)) (noticed_while_parked h g i good (enabled_in_words h g i good enabled) parked live)
+
+-- ---- what was asked for and not cleared is pending
+
+settled : (word : Word) (again told cleared was : Bool) → (is_ask word || (not again && told)) ≡ true → (is_clear word || (not again && cleared)) ≡ false → (told ≡ true → cleared ≡ false → was ≡ true) → settle word was ≡ true
+settled Ask again told cleared was asked kept before = refl
+settled Clear again told cleared was asked kept before = absurd (cc)
+settled Nothing false told cleared was asked kept before = before asked kept
+settled Nothing true told cleared was asked kept before = absurd (cc)
+
+pending_after : (event : Event) (past : History) (f : FileName) (n : ℕ) → (¬ IsMaking (deed_at f past event)) → (file_of (event ∷ past) f).pending n ≡ settle (host_said past event f n) ((file_of past f).pending n)
+pending_after event past f n other = ap (λ (file : InterruptFile). file.pending n) (file_step event past f) ∙ (newest_word (select_of past f) (deed_at f past event) (file_of past f) n other).0
+
+abbrev KeepsTold : History → FileName → ℕ → Vcpu → ℕ → Type 0
+KeepsTold h f n g i = told_since h f n g i ≡ true → cleared_since h f n g i ≡ false → (file_of h f).pending n ≡ true
+
+kept_by : (event : Event) (past : History) (f : FileName) (n : ℕ) (g : Vcpu) (i : ℕ) → made_with (deed_at f past event) ≡ None → KeepsTold past f n g i → KeepsTold (event ∷ past) f n g i
+unfolding told_since cleared_since
+kept_by event past f n g i made before told cleared =
+    pending_after event past f n (not_making (deed_at f past event) made)
+    ∙ settled (host_said past event f n) (is_ask (guest_said past event g i)) (told_since past f n g i) (cleared_since past f n g i) ((file_of past f).pending n) told cleared before
+
+none_told : (f : FileName) (n : ℕ) (g : Vcpu) (i : ℕ) → told_since [] f n g i ≡ false
+unfolding told_since
+none_told f n g i = refl
+
+-- the machine comes first, and before it nothing is told
+made_told : (harts guests m sources : ℕ) (past : History) (f : FileName) (n : ℕ) (g : Vcpu) (i : ℕ) → past ≡ [] → told_since (Accepted (Machine harts guests m sources) ∷ past) f n g i ≡ false
+unfolding told_since
+made_told harts guests m sources past f n g i first = ap (λ x. told_since x f n g i) first ∙ none_told f n g i
+
+pub pending_until_cleared : (h : History) (f : FileName) (n : ℕ) (g : Vcpu) (i : ℕ) → IsHistory h → KeepsTold h f n g i
+pending_until_cleared [] f n g i good told cleared = absurd (false≢true (sym (none_told f n g i) ∙ told))
+pending_until_cleared (Accepted (Machine harts guests m sources) ∷ past) f n g i good told cleared =
+    absurd (false≢true (sym (made_told harts guests m sources past f n g i (machine_first past good.1 (machine_allowed past harts guests m sources good.0).0)) ∙ told))
+pending_until_cleared (Accepted line ∷ past) f n g i good told cleared = kept_by (Accepted line) past f n g i (host_made f past (Accepted line)) (pending_until_cleared past f n g i good.1) told cleared
+pending_until_cleared (Began move ∷ past) f n g i good told cleared = kept_by (Began move) past f n g i (host_made f past (Began move)) (pending_until_cleared past f n g i good.1) told cleared
+pending_until_cleared (Stepped x ∷ past) f n g i good told cleared = kept_by (Stepped x) past f n g i (host_made f past (Stepped x)) (pending_until_cleared past f n g i good.1) told cleared
+pending_until_cleared (Delivered msi ∷ past) f n g i good told cleared = kept_by (Delivered msi) past f n g i (host_made f past (Delivered msi)) (pending_until_cleared past f n g i good.1) told cleared
