@@ -30,10 +30,13 @@ fn refuses(rt: &impl Abort, alloc: Global, words: &[&str]) -> Result<(), AllocEr
 #[test]
 fn other_words_are_refused_with_nothing_read_or_written(rt: HostRuntime) -> Result<(), Fail> {
     let alloc = rt.alloc();
-    let refused: [&[&str]; 5] = [
+    let refused: [&[&str]; 8] = [
         &[],
+        &["gen"],
+        &["gen", "1"],
         &["gen", "x", "1"],
         &["gen", "100001", "1"],
+        &["gen", "-1", "1"],
         &["--help"],
         &["replay", "replay"],
     ];

@@ -13,6 +13,8 @@ mod engine;
 #[cfg(test)]
 mod failing_ends;
 #[cfg(test)]
+mod generated;
+#[cfg(test)]
 mod looks;
 #[cfg(test)]
 mod rows;
