@@ -12,7 +12,7 @@ use Rattle.aia_regs.specs.Word.Word.{Ask, Clear, Nothing}
 use Rattle.aia_file.specs.InterruptFile.{InterruptFile, top_of, claim_said}
 use Rattle.aia_home.specs.Vms.{Vcpu, vcpu, is_vcpu}
 use Rattle.aia_model.specs.declared.line.Line.{Line}
-use Rattle.aia_model.specs.declared.line.Line.TheVariants.{Machine, GuestCsr, Ipi}
+use Rattle.aia_model.specs.declared.line.Line.TheVariants.{GuestCsr, Ipi}
 use Rattle.aia_model.specs.declared.line.Line.TheVariants as lines
 use Rattle.aia_model.specs.Event.{History, has_machine, greatest_identity_of}
 use Rattle.aia_model.specs.Event.Event.{Accepted}
