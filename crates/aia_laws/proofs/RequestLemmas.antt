@@ -1,5 +1,5 @@
--- Requests at a virtual hart: a line's word on an identity is an ask exactly where the line asks for
--- it, and a clear exactly where it clears it.
+-- Requests at a virtual hart: a line's word on an identity is an ask exactly where the line asks
+-- for it, and a clear exactly where it clears it.
 use Rattle.std.proofs.Common.{◌≡◌, ◌≢◌, ℕ, ◌%◌, Bool, true, false, cond, if◌then◌else◌, Option, Some, None, inl, inr, refl, sym, ap, ◌∙◌}
 use Rattle.std.proofs.lemmas.Bool.{cases_Bool, eqb-true, eq-eqb, cond-true, false≢true}
 use Rattle.aia_regs.specs.declared.access.Csr.{Csr}
