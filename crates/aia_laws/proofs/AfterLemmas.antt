@@ -98,7 +98,7 @@ move_rests (Ipi vm number to value) h g moves = absurd (moves refl)
 move_rests (GuestCsr vm number csr op) h g moves = absurd (moves refl)
 move_rests line h g moves = refl
 
--- any accepted line is one deed to it
+-- any accepted line is one deed to it, a move's too, which is none
 pub file_after_line : (h : History) (line : Line) (g : Vcpu) → refusal h line ≡ None → guest_file (after h line) g ≡ file_after (guest_select h g) (guest_deed g h (Accepted line)) (guest_file h g)
 file_after_line h line g e = elim (moved_or_not (move_deed line)) [
   | inl none ↦ (taken_same h line g e).0 ∙ ap (λ deed. guest_file (deed_taken h line deed) g) none ∙ file_by_step (guest_deed g) (Accepted line) h
@@ -140,12 +140,12 @@ other_is_quiet h line g e = refl
 
 -- ---- the word of a line on an identity decides
 
-making_is_machine : (h : History) (line : Line) (g : Vcpu) → has_machine h ≡ true → refusal h line ≡ None → machine_with (Accepted line) ≡ None
-making_is_machine h (Machine harts guests n sources) g stands e = absurd (false≢true (sym (machine_allowed h harts guests n sources e).0 ∙ stands))
-making_is_machine h line g stands e = refl
+none_made : (h : History) (line : Line) → has_machine h ≡ true → refusal h line ≡ None → machine_with (Accepted line) ≡ None
+none_made h (Machine harts guests n sources) stands e = absurd (false≢true (sym (machine_allowed h harts guests n sources e).0 ∙ stands))
+none_made h line stands e = refl
 
 pub pending_after_line : (h : History) (line : Line) (g : Vcpu) (i : ℕ) → has_machine h ≡ true → refusal h line ≡ None
     → (guest_file (after h line) g).pending i ≡ settle (guest_said h (Accepted line) g i) ((guest_file h g).pending i)
 pending_after_line h line g i stands e =
     ap (λ (file : InterruptFile). file.pending i) (file_after_line h line g e)
-    ∙ (newest_word (guest_select h g) (guest_deed g h (Accepted line)) (guest_file h g) i (not_making (guest_deed g h (Accepted line)) (guest_made g h (Accepted line) ∙ making_is_machine h line g stands e))).0
+    ∙ (newest_word (guest_select h g) (guest_deed g h (Accepted line)) (guest_file h g) i (not_making (guest_deed g h (Accepted line)) (guest_made g h (Accepted line) ∙ none_made h line stands e))).0

@@ -8,7 +8,7 @@ use Rattle.aia_regs.specs.declared.limits.TheConstants.{VCPUS}
 use Rattle.aia_file.specs.InterruptFile.{is_greatest_identity}
 use Rattle.aia_home.specs.Vms.{Vcpu, vcpus_in}
 use Rattle.aia_home.proofs.VmLemmas.{vcpus_more}
-use Rattle.aia_model.specs.declared.line.Line.TheVariants.{Machine, GuestCsr, Ipi, Arrive, Leave, Shift, BeginArrive, BeginLeave, BeginShift, Step}
+use Rattle.aia_model.specs.declared.line.Line.TheVariants.{Machine}
 use Rattle.aia_model.specs.declared.line.Line.TheVariants as lines
 use Rattle.aia_model.specs.Move.{mover}
 use Rattle.aia_model.specs.Event.{History, has_machine, greatest_identity_of, file_words}
@@ -40,12 +40,12 @@ machine_of_vcpu h g good there = elim (cases_Bool (has_machine h)) [
   | inr none ↦ absurd (false≢true (sym (none_there g) ∙ ap (λ x. has_vcpu x g) (sym (machine_first h good none)) ∙ there))
 ]
 
-size_of_machine : (harts guests n sources : ℕ) → is_machine_size harts guests n sources ≡ true → is_greatest_identity n ≡ true
-size_of_machine harts guests n sources e = (and_parts _ _ (and_parts _ _ e).0).1
+greatest_of_size : (harts guests n sources : ℕ) → is_machine_size harts guests n sources ≡ true → is_greatest_identity n ≡ true
+greatest_of_size harts guests n sources e = (and_parts _ _ (and_parts _ _ e).0).1
 
 greatest_of_machine : (h : History) → IsHistory h → has_machine h ≡ true → is_greatest_identity (greatest_identity_of h) ≡ true
 greatest_of_machine [] good stands = absurd (cc)
-greatest_of_machine (Accepted (Machine harts guests n sources) ∷ h) good stands = size_of_machine harts guests n sources (machine_allowed h harts guests n sources good.0).1
+greatest_of_machine (Accepted (Machine harts guests n sources) ∷ h) good stands = greatest_of_size harts guests n sources (machine_allowed h harts guests n sources good.0).1
 greatest_of_machine (Accepted line ∷ h) good stands = greatest_of_machine h good.1 stands
 greatest_of_machine (Began move ∷ h) good stands = greatest_of_machine h good.1 stands
 greatest_of_machine (Stepped g ∷ h) good stands = greatest_of_machine h good.1 stands
@@ -60,12 +60,12 @@ few_vcpus (Stepped g ∷ h) good = few_vcpus h good.1
 few_vcpus (Delivered msi ∷ h) good = few_vcpus h good.1
 
 -- so there are more identities than virtual harts
-at_least_63 : (n : ℕ) → is_greatest_identity n ≡ true → 63 ≤ n
-at_least_63 n e = grind (arith, nat_tests)
+enough_identities : (n : ℕ) → is_greatest_identity n ≡ true → 63 ≤ n
+enough_identities n e = grind (arith, nat_tests)
 
 pub identities_for_all : (h : History) (g : Vcpu) → IsHistory h → has_vcpu h g ≡ true → vcpus_in (vms_of h) ≤ greatest_identity_of h
 identities_for_all h g good there =
-    let enough = at_least_63 (greatest_identity_of h) (greatest_of_machine h good (machine_of_vcpu h g good there)) in
+    let enough = enough_identities (greatest_identity_of h) (greatest_of_machine h good (machine_of_vcpu h g good there)) in
     let few = few_vcpus h good in
     omega (arith, enough, few)
 

@@ -1,4 +1,4 @@
--- What holds where a line is not refused: the cells of all words are false.
+-- What holds where a line is not refused: no word's cell.
 use Rattle.std.proofs.Common.{◌≡◌, ℕ, ◌+◌, ◌%◌, ◌≤◌, Bool, true, false, not, ◌&&◌, cond, nat_eq, is_none, Option, Some, None, refl}
 use Rattle.std.proofs.lemmas.Bool.{and_parts, or_parts, not-false, ltb-false}
 use Rattle.aia_regs.specs.declared.limits.TheConstants.{VCPUS}
@@ -7,7 +7,7 @@ use Rattle.aia_regs.specs.declared.access.Op.{Op}
 use Rattle.aia_home.specs.Vms.{vcpu, vcpus_in}
 use Rattle.aia_home.specs.Home.{is_moving, is_resident, is_parked}
 use Rattle.aia_model.specs.declared.line.Line.{Line}
-use Rattle.aia_model.specs.declared.line.Line.TheVariants.{Machine, GuestCsr, Ipi, Arrive, Leave, Shift, BeginArrive, BeginLeave, BeginShift, Step}
+use Rattle.aia_model.specs.declared.line.Line.TheVariants.{Machine, GuestCsr, Ipi, Arrive, Leave, Shift, Step}
 use Rattle.aia_model.specs.declared.line.Line.TheVariants as lines
 use Rattle.aia_model.specs.declared.answer.Answer.{Answer}
 use Rattle.aia_model.specs.Event.{History, has_machine, has_hart}

@@ -1,5 +1,5 @@
--- Requests at a virtual hart: a line's word on an identity is an ask exactly where the line asks for
--- it, and a clear exactly where it clears it.
+-- Requests at a virtual hart: a line's word on an identity is an ask exactly where the line asks
+-- for it, and a clear exactly where it clears it.
 use Rattle.std.proofs.Common.{◌≡◌, ◌≢◌, ℕ, ◌%◌, Bool, true, false, cond, if◌then◌else◌, Option, Some, None, inl, inr, refl, sym, ap, ◌∙◌}
 use Rattle.std.proofs.lemmas.Bool.{cases_Bool, eqb-true, eq-eqb, cond-true, false≢true}
 use Rattle.aia_regs.specs.declared.access.Csr.{Csr}
@@ -12,7 +12,7 @@ use Rattle.aia_regs.specs.Word.Word.{Ask, Clear, Nothing}
 use Rattle.aia_file.specs.InterruptFile.{InterruptFile, top_of, claim_said}
 use Rattle.aia_home.specs.Vms.{Vcpu, vcpu, is_vcpu}
 use Rattle.aia_model.specs.declared.line.Line.{Line}
-use Rattle.aia_model.specs.declared.line.Line.TheVariants.{Machine, GuestCsr, Ipi}
+use Rattle.aia_model.specs.declared.line.Line.TheVariants.{GuestCsr, Ipi}
 use Rattle.aia_model.specs.declared.line.Line.TheVariants as lines
 use Rattle.aia_model.specs.Event.{History, has_machine, greatest_identity_of}
 use Rattle.aia_model.specs.Event.Event.{Accepted}

@@ -1,5 +1,5 @@
--- What the host is told by a notice: the notice identity is asked for in its file, and stays pending
--- there until it is cleared.
+-- What the host is told by a notice: the notice identity is asked for in its file, and stays
+-- pending there until it is cleared.
 use Rattle.std.proofs.Common.{◌≡◌, ℕ, ◌+◌, ◌<◌, ◌≤◌, Bool, true, false, not, ◌&&◌, ◌||◌, if◌then◌else◌, nat_lt, List, [], ◌∷◌, length, Option, Some, None, inl, inr, refl, sym, ap, ◌∙◌, arith}
 use Rattle.std.specs.Int.{is_in_range}
 use Rattle.std.proofs.lemmas.Bool.{cases_lt, and_parts, and_from, or_cases, or_left, or_right, eq-eqb, cond-true, ltb-true, false≢true}
@@ -41,7 +41,7 @@ vm_within vms g there = elim (cases_lt g.vm (length vms)) [
       let none = vm_past vms g.vm past in absurd (omega (arith, few, none))
 ]
 
--- Whether after an event a virtual hart is there still, and has its file of the host and its identity.
+-- Whether after an event a virtual hart is there still, with its file of the host and its identity.
 abbrev KeepsNotices : Event → History → Vcpu → Type 0
 KeepsNotices event past g = (has_vcpu (event ∷ past) g ≡ true) × (notice_file (event ∷ past) g ≡ notice_file past g) × (notice_number (event ∷ past) g ≡ notice_number past g)
 
@@ -99,8 +99,8 @@ notice_asks event past g may good e =
     ap (λ d. pending_said (select_of past f) (file_of past f) d (notice_number past g)) deed
     ∙ store_asks (select_of past f) (file_of past f) (notice_number past g) (omega arith) (number_fits past g good (noticed_is_there event past g may e))
 
--- a notice since the newest request is an ask in the host's file since then: at the file and for the
--- identity that the virtual hart has at the end, which it had from its making on
+-- a notice since the newest request is an ask in the host's file since then: at the file and for
+-- the identity that the virtual hart has at the end, which it had from its making on
 asked_since : (h : History) (f : FileName) (n : ℕ) (g : Vcpu) (i : ℕ) → IsHistory h → (has_vcpu h g ≡ true → (f ≡ notice_file h g) × (n ≡ notice_number h g)) → noticed_since h g i ≡ true → told_since h f n g i ≡ true
 unfolding noticed_since told_since
 asked_since [] f n g i good its e = absurd (false≢true e)

@@ -1,5 +1,5 @@
-//! The interrupt file of a virtual hart: what changes it, what asks for an identity and clears it, and
-//! what a claim takes.
+//! The interrupt file of a virtual hart: what changes it, what asks for an identity and clears it,
+//! and what a claim takes.
 
 ghost use Rattle.std.specs.Prelude.{◌≡◌, ◌≢◌, ℕ, ◌+◌, ◌*◌, true, false, None};
 ghost use Rattle.aia_regs.specs.declared.access.Csr.TheVariants.{Topei};
@@ -19,8 +19,8 @@ ghost use Rattle.aia_model.specs.Answer.{answer, after};
 ghost use Rattle.aia_laws.specs.Requests.{speaks_to, names_other_vm, Asks, Clears};
 ghost use Rattle.aia_laws.specs.Claims.{MayBeClaimed, IsLeastToClaim, without};
 
-/// No line about moves changes a virtual hart's interrupt file, its select number or its majors: not
-/// the beginning of a move, nor a step, nor a whole move, of it or of another one.
+/// No line about moves changes a virtual hart's interrupt file, its select number or its majors:
+/// not the beginning of a move, nor a step, nor a whole move, of it or of another one.
 pub fn no_move_changes_a_guest()
     ensures { (h : History) (line : Line) (g : Vcpu) → move_deed line ≢ NoMove
         → (guest_file (after h line) g ≡ guest_file h g)
@@ -28,9 +28,9 @@ pub fn no_move_changes_a_guest()
         × (majors_of (after h line) g ≡ majors_of h g) }
 {}
 
-/// While a machine stands, only lines that speak to a virtual hart change its interrupt file: stores
-/// for it, of devices and of virtual harts of its VM, and its own CSR instructions. So no line of
-/// another VM changes it.
+/// While a machine stands, only lines that speak to a virtual hart change its interrupt file:
+/// stores for it, of devices and of virtual harts of its VM, and its own CSR instructions. So no
+/// line of another VM changes it.
 pub fn only_what_speaks_to_a_guest_changes_its_file()
     ensures silent { (h : History) (line : Line) (g : Vcpu) → has_machine h ≡ true
         → speaks_to h line g ≡ false
@@ -42,9 +42,9 @@ pub fn only_what_speaks_to_a_guest_changes_its_file()
         × (guest_select (after h line) g ≡ guest_select h g) }
 {}
 
-/// While a machine stands: an identity that a line asks for is pending after it; one that is pending
-/// stays so until a line clears it; and none becomes pending unasked. A refused line asks for nothing
-/// and clears nothing.
+/// While a machine stands: an identity that a line asks for is pending after it; one that is
+/// pending stays so until a line clears it; and none becomes pending unasked. A refused line asks
+/// for nothing and clears nothing.
 pub fn a_request_stays_until_it_is_cleared()
     ensures asked { (h : History) (line : Line) (g : Vcpu) (i : ℕ) → has_machine h ≡ true
         → refusal h line ≡ None → Asks h line g i

@@ -9,8 +9,8 @@ ghost use Rattle.aia_model.specs.Script.{history_of};
 ghost use Rattle.aia_laws.specs.Told.{is_deliverable, notice_file, notice_number, told_since, cleared_since};
 
 /// No notice is lost. After every script, while a virtual hart is parked and an identity is pending
-/// and enabled at it, its notice identity was asked for at the supervisor file of its notice hart, no
-/// earlier than the newest request for that identity.
+/// and enabled at it, its notice identity was asked for at the supervisor file of its notice hart,
+/// no earlier than the newest request for that identity.
 pub fn no_notice_is_lost()
     ensures { (script : List ℕ) (g : Vcpu) (i : ℕ) → home (history_of script) g ≡ Parked
         → is_deliverable (history_of script) g i ≡ true
@@ -18,8 +18,8 @@ pub fn no_notice_is_lost()
         (notice_number (history_of script) g) g i ≡ true }
 {}
 
-/// The host sees it: the notice identity is then pending in that file, unless something the host did
-/// there cleared it, no earlier than the newest request.
+/// The host sees it: the notice identity is then pending in that file, unless something the host
+/// did there cleared it, no earlier than the newest request.
 pub fn the_host_sees_a_notice_until_it_clears_it()
     ensures { (script : List ℕ) (g : Vcpu) (i : ℕ) → home (history_of script) g ≡ Parked
         → is_deliverable (history_of script) g i ≡ true
