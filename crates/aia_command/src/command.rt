@@ -4,7 +4,7 @@ ghost use Rattle.std.specs.Prelude.{◌≡◌, false, IfOk};
 ghost use Rattle.clap.specs.Words.{app_of, rule_of};
 ghost use Rattle.clap.specs.declared.builder.command.Command.TheViews.{out-Command};
 ghost use Rattle.clap.specs.declared.builder.value_parser.ValueParser.TheVariants as parser;
-ghost use Rattle.aia_command.specs.CommandLine.{bare_command, generate_command, replay_command, required_rule, the_command};
+ghost use Rattle.aia_command.specs.CommandLine.{bare_command, generate_command, replay_command, number_rule, the_command};
 
 use crate::limits::MOST_LINES;
 use clap::builder::ValueParser;
@@ -48,7 +48,7 @@ fn generate_command<'a>(alloc: Global) -> Result<Command<'a>, AllocError>
 
 /// Makes an argument that must be there, of which `parser` says what it takes.
 fn number_argument<'a>(alloc: Global, name: &'a str, parser: ValueParser<'a>) -> Arg<'a>
-    ensures rule { rule_of result ≡ required_rule name.entry.now parser.entry }
+    ensures rule { rule_of result ≡ number_rule name.entry.now parser.entry }
     ensures local { result.global ≡ false }
 {
     Arg::new(alloc, name).required(true).value_parser(parser)

@@ -4,7 +4,7 @@ use Rattle.std.specs.Str.Parse.{ParsesUnsigned, ExplainsUnsignedError, HasUnsign
 use Rattle.clap.specs.Matches.{found_of}
 use Rattle.clap.proofs.WalkLemmas.{one_text-rows}
 use Rattle.aia_command.specs.CommandLine.{number_of}
-use Rattle.aia_command.proofs.WordLemmas.{number_read}
+use Rattle.aia_command.proofs.NumberLemmas.{number_read}
 use Rattle.aia_command.proofs.words.read_number.Goals as goal
 
 pub returns : goal.returns
