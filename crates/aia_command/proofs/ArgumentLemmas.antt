@@ -79,7 +79,7 @@ module _ (s : Shape) (read : List Row → Option Subcommand) where
     asked_from-spelled no_long no_short ends argues hyphen true [] = ends true
     asked_from-spelled no_long no_short ends argues hyphen false [] = ends false
     asked_from-spelled no_long no_short ends argues hyphen true (word ∷ words) =
-        let turned = turn-delimited s rows pending position word in
+        let turned = turn-delimited s [] rows pending position word in
         argues true word words turned.0 turned.1
     asked_from-spelled no_long no_short ends argues hyphen false (word ∷ words) = elim (turn s [] rows pending position no_long no_short word refl) [
       | Delimits is no_fault goes ↦

@@ -61,8 +61,8 @@ module _ (s : Shape) (names : Names) (rows : List Row) (pending : Option (Text �
   turn (x ∷ xs) none = turn-first x xs (x == 45) refl none
 
 -- After the delimiter each word is an argument.
-pub turn-delimited : (s : Shape) (rows : List Row) (pending : Option (Text × List Text)) (position : ℕ) (word : Text)
+pub turn-delimited : (s : Shape) (names : Names) (rows : List Row) (pending : Option (Text × List Text)) (position : ℕ) (word : Text)
     → let w = standing rows pending position true in
-    (turn_fault s [] w word ≡ step_fault s position w.held value) × (walked s.rules [] w word ≡ to_positional s.rules (arg_by_index s.rules position) word w w.held)
+    (turn_fault s names w word ≡ step_fault s position w.held value) × (walked s.rules names w word ≡ to_positional s.rules (arg_by_index s.rules position) word w w.held)
 unfolding walked
-turn-delimited s rows pending position word = (refl, refl)
+turn-delimited s names rows pending position word = (refl, refl)
