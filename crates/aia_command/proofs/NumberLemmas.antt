@@ -60,8 +60,14 @@ number_read {E} gives (Some t) read none some only = go (is_unsigned_in 0 (2 ^ 6
     go false is None h = rw is refl
 
 -- Digits have no plus before them.
-pub no_plus : (digits : Text) → IsNumeral 10 digits → without_leading_plus digits ≡ digits
+no_plus : (digits : Text) → IsNumeral 10 digits → without_leading_plus digits ≡ digits
 no_plus [] h = refl
 no_plus (d ∷ ds) h =
     let plus : (d == 43) ≡ false = ne_eqb _ _ (λ e. omega (arith, digit_from_value d h.1.0)) in
     ap (λ (b : Bool). drop (cond b 1 0) (d ∷ ds)) plus
+
+pub digits_are_number : (most : ℕ) (digits : Text) → IsNumeral 10 digits → digits_value 10 digits ≤ most → digits_value 10 digits < 2 ^ 64
+    → number_up_to most digits ≡ Some (digits_value 10 digits)
+digits_are_number most digits numeral within fits =
+    let same = no_plus digits numeral in
+    (number_up_to-some most (digits_value 10 digits) digits).1 (rw same numeral, ap (digits_value 10) same, within, fits)

@@ -1,8 +1,10 @@
 -- What words ask for is what they spell.
-use Rattle.std.proofs.Common.{◌≡◌, ◌∙◌, ◌≤◌, ◌<◌, ◌^◌, ◌-◌, ◌⊎◌, inl, inr, ℕ, Bool, true, false, List, [], ◌∷◌, ◌++◌, refl, sym, ap, ap₂, arith, Option, Some, None}
+use Rattle.std.proofs.Common.{◌≡◌, ◌∙◌, ◌≤◌, ◌<◌, ◌^◌, ◌-◌, ◌⊎◌, inl, inr, ℕ, Bool, true, false, List, [], ◌∷◌, ◌++◌, refl, sym, ap, ap₂, arith, cond, Option, Some, None}
 use Rattle.std.specs.Prelude.{codes, is_some, slice_get, option_and_then, fold}
 use Rattle.std.specs.Str.{bytes_eq}
 use Rattle.std.specs.Str.Parse.{IsNumeral, digits_value, without_leading_plus}
+use Rattle.std.specs.Fmt.{decimal}
+use Rattle.std.proofs.lemmas.Fmt.{decimal_is_IsNumeral}
 use Rattle.std.proofs.lemmas.Slice.Eq.{bytes_eq-Decides}
 use Rattle.clap.specs.Kinds.{Kinds, or_else}
 use Rattle.clap.specs.Walk.{Text, Walk, finished, idle, nothing_held, settled, subcommand_met, walk, walked}
@@ -16,7 +18,7 @@ use Rattle.aia_command.specs.declared.subcommand.Subcommand.{Subcommand}
 use Rattle.aia_command.specs.declared.subcommand.Subcommand.TheVariants.{Replay, Generate}
 use Rattle.aia_command.specs.CommandLine.{bare_command, generate_command, generate_of, named, number_of, number_up_to, replay_command, subcommand_of, the_command, unless_refused}
 use Rattle.aia_command.specs.Spelled.{generate_spelled, replay_spelled, subcommand_spelled, without_delimiter}
-use Rattle.aia_command.proofs.NumberLemmas.{number_up_to-some}
+use Rattle.aia_command.proofs.NumberLemmas.{digits_are_number, no_number, number_up_to-some}
 use Rattle.aia_command.proofs.TurnLemmas.{Delimits, IsArgument, IsRefused, Turn, standing, turn, turn-delimited}
 use Rattle.aia_command.proofs.ArgumentLemmas.{asked_from-generate, asked_from-replay, fault_from, found_from, generate_leaf, replay_leaf, replays}
 
@@ -115,3 +117,85 @@ asked_as_spelled (name ∷ words) = go (bytes_eq name (codes "replay")) (bytes_e
     go true d is second = rw is (ap (λ (word : Text). subcommand_of (word ∷ words)) ((bytes_eq-Decides name (codes "replay")).0 is) ∙ after_replay words)
     go false true not is = rw (not, is) (ap (λ (word : Text). subcommand_of (word ∷ words)) ((bytes_eq-Decides name (codes "gen")).0 is) ∙ after_generate words)
     go false false not neither = rw (not, neither) (refused_where_none name words (rw (differ name (codes "replay") not, differ name (codes "gen") neither) refl))
+
+-- ---- what follows for words that are taken
+
+not_both : {X : Type 0} (x : X) → None ≡ Some x → ⊥
+not_both x is = absurd (cc)
+
+pub first_word : (words : List Text) (asked : Subcommand) → subcommand_of words ≡ Some asked → (slice_get words 0 ≡ Some (codes "replay")) ⊎ (slice_get words 0 ≡ Some (codes "gen"))
+first_word [] asked is = absurd (not_both asked (sym (asked_as_spelled []) ∙ is))
+first_word (name ∷ words) asked is = go (bytes_eq name (codes "replay")) (bytes_eq name (codes "gen")) refl refl
+  where
+    go : (b d : Bool) → bytes_eq name (codes "replay") ≡ b → bytes_eq name (codes "gen") ≡ d
+        → (slice_get (name ∷ words) 0 ≡ Some (codes "replay")) ⊎ (slice_get (name ∷ words) 0 ≡ Some (codes "gen"))
+    go true d same second = inl (ap Some ((bytes_eq-Decides name (codes "replay")).0 same))
+    go false true not same = inr (ap Some ((bytes_eq-Decides name (codes "gen")).0 same))
+    go false false not neither =
+        let refused : ◌≡◌ {A = Option Subcommand} None (Some asked) = rw (not, neither) at (sym (asked_as_spelled (name ∷ words)) ∙ is) in
+        absurd (not_both asked refused)
+
+-- The numbers that are asked for are spelled by two words.
+abbrev AreSpelled : ℕ → ℕ → Type 0
+AreSpelled count seed = (first second : Text) × (number_up_to MOST_LINES first ≡ Some count) × (number_of second ≡ Some seed)
+
+generate_spelled-some : (arguments : List Text) (count seed : ℕ) → generate_spelled arguments ≡ Some (Generate count seed) → AreSpelled count seed
+generate_spelled-some [] count seed is = absurd (not_both _ is)
+generate_spelled-some (first ∷ []) count seed is = absurd (not_both _ is)
+generate_spelled-some (first ∷ second ∷ third ∷ more) count seed is = absurd (not_both _ is)
+generate_spelled-some (first ∷ second ∷ []) count seed is = go (number_up_to MOST_LINES first) (number_of second) refl refl is
+  where
+    go : (lines number : Option ℕ) → number_up_to MOST_LINES first ≡ lines → number_of second ≡ number
+        → option_and_then (λ x. option_and_then (λ y. Some (Generate x y)) number) lines ≡ Some (Generate count seed) → AreSpelled count seed
+    go None number e f is = absurd (not_both _ is)
+    go (Some x) None e f is = absurd (not_both _ is)
+    go (Some x) (Some y) e f is =
+        let same_count : x ≡ count = cc in
+        let same_seed : y ≡ seed = cc in
+        (first, second, e ∙ ap Some same_count, f ∙ ap Some same_seed)
+
+replay_spelled-some : (arguments : List Text) (count seed : ℕ) → replay_spelled arguments ≡ Some (Generate count seed) → ⊥
+replay_spelled-some [] count seed is = absurd (cc)
+replay_spelled-some (word ∷ words) count seed is = not_both _ is
+
+numbers_spelled : (words : List Text) (count seed : ℕ) → subcommand_of words ≡ Some (Generate count seed) → AreSpelled count seed
+numbers_spelled [] count seed is = absurd (not_both _ (sym (asked_as_spelled []) ∙ is))
+numbers_spelled (name ∷ words) count seed is = go (bytes_eq name (codes "replay")) (bytes_eq name (codes "gen")) (sym (asked_as_spelled (name ∷ words)) ∙ is)
+  where
+    go : (b d : Bool) → cond b (replay_spelled (without_delimiter words)) (cond d (generate_spelled (without_delimiter words)) None) ≡ Some (Generate count seed) → AreSpelled count seed
+    go true d is = absurd (replay_spelled-some (without_delimiter words) count seed is)
+    go false true is = generate_spelled-some (without_delimiter words) count seed is
+    go false false is = absurd (not_both _ is)
+
+pub count_in_range : (words : List Text) (count seed : ℕ) → subcommand_of words ≡ Some (Generate count seed) → count ≤ MOST_LINES
+count_in_range words count seed is =
+    let spelled = numbers_spelled words count seed is in
+    ((number_up_to-some MOST_LINES count spelled.0).0 spelled.2).2
+
+pub seed_in_range : (words : List Text) (count seed : ℕ) → subcommand_of words ≡ Some (Generate count seed) → seed < 2 ^ 64
+seed_in_range words count seed is =
+    let spelled = numbers_spelled words count seed is in
+    ((number_up_to-some (2 ^ 64 - 1) seed spelled.1).0 spelled.3).3
+
+-- ---- numbers are taken
+
+not_delimiter : (most n : ℕ) (text : Text) → number_up_to most text ≡ Some n → bytes_eq text (45 ∷ 45 ∷ []) ≡ false
+not_delimiter most n text is = go (bytes_eq text (45 ∷ 45 ∷ [])) refl
+  where
+    go : (b : Bool) → bytes_eq text (45 ∷ 45 ∷ []) ≡ b → b ≡ false
+    go true same = absurd (not_both n (sym (no_number most (45 ∷ [])) ∙ ap (number_up_to most) (sym ((bytes_eq-Decides text (45 ∷ 45 ∷ [])).0 same)) ∙ is))
+    go false other = refl
+
+numbers_asked : (first second : Text) (count seed : ℕ) → number_up_to MOST_LINES first ≡ Some count → number_of second ≡ Some seed
+    → subcommand_of (codes "gen" ∷ first ∷ second ∷ []) ≡ Some (Generate count seed)
+numbers_asked first second count seed is also = after_generate (first ∷ second ∷ []) ∙ rw (not_delimiter MOST_LINES count first is, not_delimiter (2 ^ 64 - 1) seed second also, is, also) refl
+
+pub digits_asked : (first second : Text) → IsNumeral 10 first → IsNumeral 10 second → digits_value 10 first ≤ MOST_LINES → digits_value 10 second < 2 ^ 64
+    → subcommand_of (codes "gen" ∷ first ∷ second ∷ []) ≡ Some (Generate (digits_value 10 first) (digits_value 10 second))
+digits_asked first second numeral also most fits = numbers_asked first second _ _ (digits_are_number MOST_LINES first numeral most (omega arith)) (digits_are_number (2 ^ 64 - 1) second also (omega arith) fits)
+
+pub printed_asked : (count seed : ℕ) → count ≤ MOST_LINES → seed < 2 ^ 64 → subcommand_of (codes "gen" ∷ decimal count ∷ decimal seed ∷ []) ≡ Some (Generate count seed)
+printed_asked count seed most fits =
+    let first = decimal_is_IsNumeral count (omega arith) in
+    let second = decimal_is_IsNumeral seed fits in
+    digits_asked (decimal count) (decimal seed) first.0 second.0 (rw first.1 most) (rw second.1 fits) ∙ ap₂ (λ x y. Some (Generate x y)) first.1 second.1
