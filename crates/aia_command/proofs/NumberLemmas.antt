@@ -1,5 +1,5 @@
 -- Which texts are numbers.
-use Rattle.std.proofs.Common.{◌≡◌, ◌≤◌, ◌<◌, ◌↔◌, ◌^◌, ◌-◌, ◌∙◌, ℕ, Bool, true, false, List, [], ◌∷◌, length, suc, refl, sym, ap, subst, arith, Option, Some, None, Result, Ok, Err}
+use Rattle.std.proofs.Common.{◌≡◌, ◌≤◌, ◌<◌, ◌↔◌, ◌^◌, ◌-◌, ℕ, Bool, true, false, [], ◌∷◌, length, suc, refl, ap, arith, Option, Some, None, Result, Ok, Err}
 use Rattle.std.specs.Prelude.{◌==◌, option_and_then, drop, cond}
 use Rattle.std.specs.Str.Parse.{IsNumeral, ParsesUnsigned, digits_value, without_leading_plus}
 use Rattle.std.proofs.lemmas.Bool.{lt-ltb, ne_eqb}

@@ -2,7 +2,7 @@
 use Rattle.std.proofs.Common.{◌≡◌, ◌∙◌, ◌≤◌, ◌<◌, ◌^◌, ◌-◌, ◌⊎◌, inl, inr, ℕ, Bool, true, false, List, [], ◌∷◌, ◌++◌, refl, sym, ap, ap₂, arith, cond, Option, Some, None}
 use Rattle.std.specs.Prelude.{codes, is_some, slice_get, option_and_then, fold}
 use Rattle.std.specs.Str.{bytes_eq}
-use Rattle.std.specs.Str.Parse.{IsNumeral, digits_value, without_leading_plus}
+use Rattle.std.specs.Str.Parse.{IsNumeral, digits_value}
 use Rattle.std.specs.Fmt.{decimal}
 use Rattle.std.proofs.lemmas.Fmt.{decimal_is_IsNumeral}
 use Rattle.std.proofs.lemmas.Slice.Eq.{bytes_eq-Decides}
@@ -19,8 +19,8 @@ use Rattle.aia_command.specs.declared.subcommand.Subcommand.TheVariants.{Replay,
 use Rattle.aia_command.specs.CommandLine.{bare_command, generate_command, generate_of, named, number_of, number_up_to, replay_command, subcommand_of, the_command, unless_refused}
 use Rattle.aia_command.specs.Spelled.{generate_spelled, replay_spelled, subcommand_spelled, without_delimiter}
 use Rattle.aia_command.proofs.NumberLemmas.{digits_are_number, no_number, number_up_to-some}
-use Rattle.aia_command.proofs.TurnLemmas.{Delimits, IsArgument, IsRefused, Turn, standing, turn, turn-delimited}
-use Rattle.aia_command.proofs.ArgumentLemmas.{asked_from-generate, asked_from-replay, fault_from, found_from, generate_leaf, replay_leaf, replays}
+use Rattle.aia_command.proofs.TurnLemmas.{Delimits, IsArgument, IsRefused, standing, turn, turn-delimited}
+use Rattle.aia_command.proofs.ArgumentLemmas.{asked_from-generate, asked_from-replay, fault_from, found_from, generate_leaf, replay_leaf}
 
 -- The command as building leaves it.
 abbrev whole : App

@@ -1,6 +1,6 @@
 -- The subcommand that words spell, said without a command and a walk over it: the laws tie it to
 -- what words ask for, so that it says which words are taken.
-use Rattle.std.specs.Prelude.{◌^◌, ◌-◌, List, [], ◌∷◌, Option, Some, None, if◌then◌else◌, codes, option_and_then}
+use Rattle.std.specs.Prelude.{List, [], ◌∷◌, Option, Some, None, if◌then◌else◌, codes, option_and_then}
 use Rattle.std.specs.Str.{bytes_eq}
 use Rattle.clap.specs.Walk.{Text}
 use Rattle.aia_command.specs.declared.limits.TheConstants.{MOST_LINES}

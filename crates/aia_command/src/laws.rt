@@ -1,5 +1,6 @@
 //! What the definitions of this crate mean, as laws: each function does nothing, and its clauses
 //! are what was proved.
+#![tactic(auto, unfolding(clap::proofs::OnLiterals::clap_on_literals, crate::specs::CommandLine::the_command, crate::specs::CommandLine::subcommand_of))]
 
 ghost use Rattle.std.specs.Prelude.{◌≡◌, ◌^◌, ◌<◌, ◌≤◌, ◌⊎◌, ◌↔◌, ℕ, List, [], ◌∷◌, Option, Some, None, codes, slice_get};
 ghost use Rattle.std.specs.Fmt.{decimal};
@@ -15,8 +16,9 @@ pub fn limits()
     ensures most_lines { MOST_LINES ≡ 100000 }
 {}
 
-/// What words ask for is what they spell: `replay` and nothing more, or `gen` and two numbers. A
-/// delimiter `--` may stand once behind the subcommand, and says nothing. All else is refused.
+/// What words ask for is what they spell: `replay` and nothing more, or `gen` and two numbers. The
+/// delimiter `--` may stand once, anywhere behind the subcommand, and says nothing. All else is
+/// refused.
 pub fn words_ask_for_what_they_spell()
     ensures { (words : List (List ℕ)) → subcommand_of words ≡ subcommand_spelled words }
 {}
@@ -42,17 +44,15 @@ pub fn numbers_are_in_range()
         → subcommand_of words ≡ Some (Subcommand.Generate count seed) → seed < 2 ^ 64 }
 {}
 
-/// The word `replay` is taken.
-#[tactic(auto, unfolding(clap::proofs::OnLiterals::clap_on_literals, crate::specs::CommandLine::the_command, crate::specs::CommandLine::subcommand_of))]
+/// The word `replay` is taken, with the delimiter behind it or not.
 pub fn replay_is_taken()
     ensures alone { subcommand_of (codes "replay" ∷ []) ≡ Some Subcommand.Replay }
     ensures delimiter { subcommand_of (codes "replay" ∷ codes "--" ∷ [])
         ≡ Some Subcommand.Replay }
 {}
 
-/// The word `gen` is taken with any two numbers in their ranges: as they are printed, with leading
-/// zeros, and with a plus before them.
-#[tactic(auto, unfolding(clap::proofs::OnLiterals::clap_on_literals, crate::specs::CommandLine::the_command, crate::specs::CommandLine::subcommand_of))]
+/// The word `gen` is taken with any two numbers in their ranges, as they are printed or in any
+/// other digits.
 pub fn numbers_are_taken()
     ensures printed { (count seed : ℕ) → count ≤ MOST_LINES → seed < 2 ^ 64
         → subcommand_of (codes "gen" ∷ decimal count ∷ decimal seed ∷ [])
@@ -61,9 +61,9 @@ pub fn numbers_are_taken()
         → digits_value 10 count ≤ MOST_LINES → digits_value 10 seed < 2 ^ 64
         → subcommand_of (codes "gen" ∷ count ∷ seed ∷ [])
         ≡ Some (Subcommand.Generate (digits_value 10 count) (digits_value 10 seed)) }
-    ensures zero_first { subcommand_of (codes "gen" ∷ codes "01" ∷ codes "1" ∷ [])
+    ensures zero_in_front { subcommand_of (codes "gen" ∷ codes "01" ∷ codes "1" ∷ [])
         ≡ Some (Subcommand.Generate 1 1) }
-    ensures plus_first { subcommand_of (codes "gen" ∷ codes "+1" ∷ codes "1" ∷ [])
+    ensures plus_in_front { subcommand_of (codes "gen" ∷ codes "+1" ∷ codes "1" ∷ [])
         ≡ Some (Subcommand.Generate 1 1) }
     ensures delimiter { subcommand_of (codes "gen" ∷ codes "--" ∷ codes "1" ∷ codes "1" ∷ [])
         ≡ Some (Subcommand.Generate 1 1) }
@@ -71,7 +71,6 @@ pub fn numbers_are_taken()
 
 /// Words that are no subcommand with its arguments are refused; so are requests for help and for
 /// the version.
-#[tactic(auto, unfolding(clap::proofs::OnLiterals::clap_on_literals, crate::specs::CommandLine::the_command, crate::specs::CommandLine::subcommand_of))]
 pub fn the_rest_is_refused()
     ensures no_word { subcommand_of [] ≡ None }
     ensures empty_word { subcommand_of (codes "" ∷ []) ≡ None }
@@ -91,6 +90,6 @@ pub fn the_rest_is_refused()
     ensures below_zero { subcommand_of (codes "gen" ∷ codes "-1" ∷ codes "1" ∷ []) ≡ None }
     ensures too_many_lines { subcommand_of (codes "gen" ∷ codes "100001" ∷ codes "0" ∷ [])
         ≡ None }
-    ensures too_great_a_seed {
-        subcommand_of (codes "gen" ∷ codes "1" ∷ codes "18446744073709551616" ∷ []) ≡ None }
+    ensures too_great_a_seed { subcommand_of (codes "gen" ∷ codes "1"
+        ∷ codes "18446744073709551616" ∷ []) ≡ None }
 {}
