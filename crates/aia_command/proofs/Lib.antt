@@ -1,1 +1,5 @@
+pub mod NumberLemmas
 pub mod WordLemmas
+pub mod TurnLemmas
+pub mod ArgumentLemmas
+pub mod SpelledLemmas

@@ -1,14 +1,15 @@
 -- What the words of the command line ask for, without the program's name: a subcommand with its
 -- arguments.
 --
--- That they are taken, and which word is read for which argument, is what the library `clap` states
--- of a command (its `Shape`s, their `Rule`s, `fault_of`, `subcommand_of`). The command is ours.
-use Rattle.std.specs.Prelude.{ℕ, ◌^◌, ◌-◌, Bool, true, false, List, [], ◌∷◌, Option, Some, None, if◌then◌else◌, codes, option_and_then}
+-- Which words are taken, and which word is whose argument, is what the library `clap` states of a
+-- command (`fault_of`, and its `subcommand_of`, which is the subcommand that is met). The command
+-- is ours.
+use Rattle.std.specs.Prelude.{ℕ, ◌^◌, ◌-◌, true, List, [], ◌∷◌, Option, Some, None, if◌then◌else◌, codes, option_and_then}
 use Rattle.std.specs.Str.{bytes_eq}
 use Rattle.std.specs.Str.Parse.{digits_value, without_leading_plus}
 use Rattle.clap.specs.ValueTests.{is_unsigned_in}
 use Rattle.clap.specs.Walk.{Text, Row, Rule, one_of}
-use Rattle.clap.specs.Simple.{App, Shape, new_app, new_shape, new_rule, on_top, with_rule, with_subcommand}
+use Rattle.clap.specs.Simple.{App, new_app, new_rule, on_top, with_rule, with_subcommand}
 use Rattle.clap.specs.Simple.{subcommand_of as subcommand_met}
 use Rattle.clap.specs.Kinds.{Kinds}
 use Rattle.clap.specs.Faults.{fault_of}
@@ -20,21 +21,21 @@ use Rattle.aia_command.specs.declared.subcommand.Subcommand.TheVariants.{Replay,
 
 -- ---- the command. Profile
 
--- An argument that must be there.
-abbrev pub required_rule : Text → ValueParser → Rule
-required_rule name takes = record (new_rule name) { parser = Some takes; required = true }
-
 -- `replay` has no arguments.
 abbrev pub replay_command : App
 replay_command = new_app (codes "replay")
 
--- `gen` has two, one after the other: how many lines, and any number of 64 bits.
+-- A number that must be there.
+abbrev pub number_rule : Text → ValueParser → Rule
+number_rule name numbers = record (new_rule name) { parser = Some numbers; required = true }
+
+-- `gen` has two: how many lines, and then any number of 64 bits.
 abbrev pub generate_command : App
 generate_command = with_rule (with_rule (new_app (codes "gen"))
-    (required_rule (codes "COUNT") (parser.Unsigned 0 MOST_LINES)))
-    (required_rule (codes "SEED") (parser.Unsigned 0 (2 ^ 64 - 1)))
+    (number_rule (codes "COUNT") (parser.Unsigned 0 MOST_LINES)))
+    (number_rule (codes "SEED") (parser.Unsigned 0 (2 ^ 64 - 1)))
 
--- The whole command is one of the two; it shows no help.
+-- The command, but for its subcommands: there must be one, and there is no help.
 abbrev pub bare_command : App
 bare_command = on_top (λ shape. record shape {
   no_binary_name = true;
@@ -49,11 +50,15 @@ the_command =
 
 -- ---- what words ask for
 
--- The number that a text spells in decimal digits, where it is below 2^64.
-abbrev pub number_of : Text → Option ℕ
-number_of text = if is_unsigned_in 0 (2 ^ 64 - 1) text
+-- The number that a text spells in decimal digits, where it is at most so great.
+abbrev pub number_up_to : ℕ → Text → Option ℕ
+number_up_to most text = if is_unsigned_in 0 most text
     then Some (digits_value 10 (without_leading_plus text)) else None
 
+abbrev pub number_of : Text → Option ℕ
+number_of = number_up_to (2 ^ 64 - 1)
+
+-- The number of an argument, by what was found of each.
 abbrev pub number_at : Text → List Row → Option ℕ
 number_at name rows = option_and_then number_of (one_of name rows)
 
@@ -67,7 +72,7 @@ named None = None
 named (Some (name, rows)) = if bytes_eq name (codes "replay") then Some Replay
     else if bytes_eq name (codes "gen") then generate_of rows else None
 
--- The words are refused where `clap` has an error for them.
+-- Words are refused where there is an error for them.
 abbrev pub unless_refused : Kinds → Option Subcommand → Option Subcommand
 unless_refused [] asked = asked
 unless_refused (error ∷ errors) asked = None

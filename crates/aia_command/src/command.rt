@@ -4,11 +4,11 @@ ghost use Rattle.std.specs.Prelude.{◌≡◌, false, IfOk};
 ghost use Rattle.clap.specs.Words.{app_of, rule_of};
 ghost use Rattle.clap.specs.declared.builder.command.Command.TheViews.{out-Command};
 ghost use Rattle.clap.specs.declared.builder.value_parser.ValueParser.TheVariants as parser;
-ghost use Rattle.aia_command.specs.CommandLine.{bare_command, generate_command, replay_command, required_rule, the_command};
+ghost use Rattle.aia_command.specs.CommandLine.{bare_command, generate_command, number_rule, replay_command, the_command};
 
 use crate::limits::MOST_LINES;
 use clap::builder::ValueParser;
-use clap::{Arg, Command};
+use clap::{Arg, Command, value_parser};
 use std::alloc::{AllocError, Global};
 
 /// Makes the command of the words. `Err`: there is no memory for it.
@@ -16,10 +16,10 @@ pub(crate) fn command<'a>(alloc: Global) -> Result<Command<'a>, AllocError>
     ensures { IfOk result (λ made. app_of made ≡ the_command) }
 {
     let generate = generate_command(alloc)?;
-    let replay = Command::new(alloc, "replay");
-    let first = bare_command(alloc).subcommand(replay)?;
-    let both = first.subcommand(generate)?;
-    Ok(both)
+    let whole = bare_command(alloc)
+        .subcommand(replay_command(alloc))?
+        .subcommand(generate)?;
+    Ok(whole)
 }
 
 /// Makes the command with no subcommand yet: one is required, and it shows no help.
@@ -34,21 +34,28 @@ fn bare_command<'a>(alloc: Global) -> Command<'a>
         .disable_help_subcommand(true)
 }
 
+/// Makes the subcommand `replay`.
+fn replay_command<'a>(alloc: Global) -> Command<'a>
+    ensures shape { app_of result ≡ replay_command }
+    ensures local { (out-Command result).has_globals ≡ false }
+{
+    Command::new(alloc, "replay")
+}
+
 /// Makes the subcommand `gen`. `Err`: there is no memory for it.
 fn generate_command<'a>(alloc: Global) -> Result<Command<'a>, AllocError>
     ensures shape { IfOk result (λ made. app_of made ≡ generate_command) }
     ensures local { IfOk result (λ made. (out-Command made).has_globals ≡ false) }
 {
     let count = number_argument(alloc, "COUNT", up_to_most_lines());
-    let seed = number_argument(alloc, "SEED", clap::value_parser!(u64));
-    let first = Command::new(alloc, "gen").arg(count)?;
-    let both = first.arg(seed)?;
-    Ok(both)
+    let seed = number_argument(alloc, "SEED", value_parser!(u64));
+    let generate = Command::new(alloc, "gen").arg(count)?.arg(seed)?;
+    Ok(generate)
 }
 
-/// Makes an argument that must be there, of which `parser` says what it takes.
+/// Makes an argument that must be there, with the numbers that `parser` takes.
 fn number_argument<'a>(alloc: Global, name: &'a str, parser: ValueParser<'a>) -> Arg<'a>
-    ensures rule { rule_of result ≡ required_rule name.entry.now parser.entry }
+    ensures rule { rule_of result ≡ number_rule name.entry.now parser.entry }
     ensures local { result.global ≡ false }
 {
     Arg::new(alloc, name).required(true).value_parser(parser)
@@ -58,5 +65,5 @@ fn number_argument<'a>(alloc: Global, name: &'a str, parser: ValueParser<'a>) ->
 fn up_to_most_lines<'a>() -> ValueParser<'a>
     ensures { result ≡ parser.Unsigned 0 MOST_LINES }
 {
-    clap::value_parser!(u64).range(..=MOST_LINES as i64)
+    value_parser!(u64).range(..=MOST_LINES as i64)
 }

@@ -8,8 +8,8 @@ use clap::ArgMatches;
 use clap::error::ErrorKind;
 use std::alloc::{AllocError, Global};
 
-/// Reads the words of the command line, without the program's name. `None`: they are refused.
-/// `Err`: there is no memory to read them.
+/// Reads what the words of the command line ask for, the program's name not among them. `None`: the
+/// words are refused. `Err`: there is no memory to read them.
 pub fn read_words(alloc: Global, words: &[&str]) -> Result<Option<Subcommand>, AllocError>
     ensures { IfOk result (λ given. given ≡ subcommand_of (map (λ word. word.now) words.now)) }
 {

@@ -1,10 +1,10 @@
-use Rattle.std.proofs.Common.{◌∙◌, ap, sym, ◌≡◌, List, ℕ}
+use Rattle.std.proofs.Common.{◌∙◌, ap}
 use Rattle.std.specs.Prelude.{option_and_then}
 use Rattle.std.specs.Str.Parse.{ParsesUnsigned, ExplainsUnsignedError, HasUnsignedDigitsIfOk}
 use Rattle.clap.specs.Matches.{found_of}
 use Rattle.clap.proofs.WalkLemmas.{one_text-rows}
 use Rattle.aia_command.specs.CommandLine.{number_of}
-use Rattle.aia_command.proofs.WordLemmas.{number_read}
+use Rattle.aia_command.proofs.NumberLemmas.{number_read}
 use Rattle.aia_command.proofs.words.read_number.Goals as goal
 
 pub returns : goal.returns

@@ -1,4 +1,4 @@
-use Rattle.std.proofs.Common.{◌∙◌, ◌≡◌}
+use Rattle.std.proofs.Common.{◌∙◌}
 use Rattle.aia_command.proofs.WordLemmas.{error_is_refusal, found_is_asked}
 use Rattle.aia_command.proofs.words.read_words.Goals as goal
 
