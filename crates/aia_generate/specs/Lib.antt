@@ -1,2 +1,5 @@
 pub mod Generated
+pub mod Sequence
+pub mod Lines
 pub mod Summary
+pub mod Tally

@@ -1,0 +1,40 @@
+//! What the definitions of this crate mean, as laws: each function does nothing, and its clauses
+//! are what was proved.
+
+ghost use Rattle.std.specs.Prelude.{◌≡◌, ℕ, ◌+◌, ◌*◌, ◌/◌, ◌^◌, ◌<◌, ◌≤◌, List, [], length, Some, slice_get, codes};
+ghost use Rattle.aia_model.specs.declared.line.Line.{Line};
+ghost use Rattle.aia_model.specs.Answer.{after_lines};
+ghost use Rattle.aia_model.specs.Notice.{notices_sent};
+ghost use Rattle.aia_generate.specs.Generated.{next_number, line_drawn, line_at, generated};
+ghost use Rattle.aia_generate.specs.Sequence.{drawing_number};
+ghost use Rattle.aia_generate.specs.Summary.{summary};
+
+/// A generated script has 31 lines and those of its body, and each is drawn by its own number.
+pub fn the_generator_draws_its_lines()
+    ensures line { (count seed k : ℕ) → k < 31 + count → slice_get (generated count seed) k
+        ≡ Some (line_at (drawing_number seed (k + 1)) (k + 1)) }
+    ensures length { (count seed : ℕ) → length (generated count seed) ≡ 31 + count }
+{}
+
+/// The first numbers after two seeds, as what lines are drawn by, and the first lines of the body
+/// that they draw.
+pub fn worked_numbers()
+    ensures seed_0 { next_number 0 / 2 ^ 33 ≡ 167951807 }
+    ensures line_0 { line_drawn (next_number 0) ≡ Line.Step 0 0 }
+    ensures seed_1 { next_number 1 / 2 ^ 33 ≡ 908834774 }
+    ensures line_1 { line_drawn (next_number 1) ≡ Line.BeginLeave 1 0 }
+{}
+
+/// So few notices are sent that their number is counted: no line causes more than 200.
+pub fn few_notices_are_sent()
+    ensures { (lines : List Line) → notices_sent (after_lines [] lines) ≤ 200 * length lines }
+{}
+
+/// The summaries of five generated scripts.
+pub fn worked_summaries()
+    ensures gen_0_7 { summary 0 7 ≡ codes "lines 31\nclaims 0\nnotices 0\nsum 0\n" }
+    ensures gen_1_0 { summary 1 0 ≡ codes "lines 32\nclaims 0\nnotices 0\nsum 0\n" }
+    ensures gen_1_1 { summary 1 1 ≡ codes "lines 32\nclaims 0\nnotices 0\nsum 0\n" }
+    ensures gen_200_1 { summary 200 1 ≡ codes "lines 231\nclaims 3\nnotices 9\nsum 7\n" }
+    ensures gen_1000_7 { summary 1000 7 ≡ codes "lines 1031\nclaims 48\nnotices 92\nsum 274\n" }
+{}
