@@ -1,5 +1,5 @@
 -- What the first lines make of an engine.
-use Rattle.std.proofs.Common.{◌≡◌, ℕ, true, false, not, [], ◌∷◌, Option, Some, None, MatchOption, refl, sym, ap, subst, ◌∙◌}
+use Rattle.std.proofs.Common.{◌≡◌, ℕ, ◌-◌, ◌^◌, min, true, false, not, [], ◌∷◌, Option, Some, None, MatchOption, refl, sym, ap, subst, ◌∙◌}
 use Rattle.std.proofs.lemmas.Bool.{cond-true, cond-false}
 use Rattle.aia_model.specs.declared.line.Line.{Line}
 use Rattle.aia_model.specs.declared.line.Line.TheVariants.{Machine as MachineLine}
@@ -7,6 +7,7 @@ use Rattle.aia_model.specs.declared.answer.Answer.{Answer}
 use Rattle.aia_model.specs.declared.answer.Answer.TheVariants.{Okay, NoMachine, Refused}
 use Rattle.aia_model.specs.declared.refusal.Refusal.TheVariants.{Range}
 use Rattle.aia_model.specs.Event.{History}
+use Rattle.aia_model.specs.Notice.{notices_sent}
 use Rattle.aia_model.specs.Event.Event.{Accepted}
 use Rattle.aia_model.specs.Refusal.{refusal, is_machine_size}
 use Rattle.aia_model.specs.Answer.{answer, after, history_after}
@@ -25,6 +26,11 @@ empty_history engine h none stands = subst (λ (o : Option Machine). MatchOption
 
 still_none : (engine : Engine) (h : History) → engine.machine ≡ None → h ≡ [] → StandsFor engine h
 still_none engine h none empty = subst (λ (o : Option Machine). MatchOption o (h ≡ []) (λ m. MachineStands m h)) (sym none) empty
+
+-- no notice was sent
+pub none_sent : (engine : Engine) (h : History) → engine.machine ≡ None → StandsFor engine h → 0 ≡ min (notices_sent h) (2 ^ 64 - 1)
+unfolding notices_sent
+none_sent engine h none stands = sym (ap (λ x. min (notices_sent x) (2 ^ 64 - 1)) (empty_history engine h none stands))
 
 -- a line that is refused where no machine stands
 pub refused_first : (old new : Engine) (line : Line) (word : Answer) → old.machine ≡ None → new.machine ≡ None → refusal [] line ≡ Some word → Serves old new line word

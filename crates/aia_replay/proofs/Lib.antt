@@ -8,3 +8,4 @@ pub mod ProgramLemmas
 pub mod SizeLemmas
 pub mod DeliveryLemmas
 pub mod EngineLemmas
+pub mod TallyLemmas

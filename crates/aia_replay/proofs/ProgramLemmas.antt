@@ -16,11 +16,6 @@ use Rattle.aia_replay.specs.declared.replayer.Replayer.{Replayer}
 use Rattle.aia_replay.specs.Streams.{Streams, StreamsFront, StreamsStop, WrittenFor, GoesPast}
 use Rattle.aia_replay.proofs.HeldLemmas.{all_written, cut_after}
 
-pub one_word : (ws : List (Bor (List ℕ))) (d : Bor (List ℕ)) (p : List ℕ) (r : Bool) → 1 ≤ length ws → length ws < 2 → r ≡ bytes_eq (get_or ws 0 d).now p → (r ≡ true → map (λ (w : Bor (List ℕ)). w.now) ws ≡ p ∷ []) × (map (λ (w : Bor (List ℕ)). w.now) ws ≡ p ∷ [] → r ≡ true)
-one_word [] d p r low high e = absurd (omega arith)
-one_word (w ∷ []) d p r low high e = (λ yes_it. ap (λ x. x ∷ []) ((bytes_eq-Decides w.now p).0 (sym e ∙ yes_it)), λ same. e ∙ (bytes_eq-Decides w.now p).1 (cc))
-one_word (w ∷ x ∷ ws) d p r low high e = absurd (omega arith)
-
 nothing_left : (bytes rest : List ℕ) → bytes ≡ bytes ++ rest → rest ≡ []
 nothing_left bytes [] e = refl
 nothing_left bytes (x ∷ rest) e = absurd (omega (arith, ap length e, length-append bytes (x ∷ rest)))
@@ -69,7 +64,7 @@ lines_at_limit left rest before now bytes took past = record {
 }
 
 -- what waits is written, and is all that was answered
-stopped : (r : Replayer) (left rest before mid now : Option (List ℕ)) → StreamsStop r left rest before mid → Appends mid now r.out.bytes.items → StopsAtMachine left rest before now
+pub stopped : (r : Replayer) (left rest before mid now : Option (List ℕ)) → StreamsStop r left rest before mid → Appends mid now r.out.bytes.items → StopsAtMachine left rest before now
 stopped r left rest before mid now stop wrote =
     let holds = stop.holds in
     record {
@@ -154,7 +149,7 @@ ends_stopped {r} {left} {rest} {before} {mid} {now} stop wrote source_later sink
       read_fault = λ e. absurd (cc);
       write_fault = λ e. absurd (cc);
       too_long = λ e. absurd (cc);
-      memory = λ e. stopped r left rest before mid now stop wrote;
+      memory = λ e. inr (stopped r left rest before mid now stop wrote);
       read_fault_written = λ e. absurd (cc);
       too_long_written = λ e. absurd (cc);
       write_fault_written = λ e. absurd (cc);

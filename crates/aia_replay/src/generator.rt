@@ -2,6 +2,7 @@ ghost use Rattle.std.specs.Prelude.{◌≡◌, ◌≤◌, [], IfOk, OnErr};
 ghost use Rattle.aia_model.specs.Answer.{after_lines};
 ghost use Rattle.aia_generate.specs.Generated.{generated};
 ghost use Rattle.aia_generate.specs.Summary.{summary};
+ghost use Rattle.aia_generate.specs.Tally.{Tallies};
 ghost use Rattle.aia_replay.specs.Runs.{Summarizes};
 ghost use Rattle.aia_replay.specs.Stands.{StandsFor};
 

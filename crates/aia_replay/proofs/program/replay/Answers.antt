@@ -1,5 +1,5 @@
 use Rattle.std.proofs.Common.{rules, arith}
-use Rattle.aia_replay.proofs.ProgramLemmas.{ends_read, ends_cut, ends_stopped, stopped_front}
+use Rattle.aia_replay.proofs.ProgramLemmas.{ends_read, ends_cut, ends_stopped, stopped, stopped_front}
 use Rattle.aia_replay.proofs.program.replay.Goals as goal
 
 pub returns-in-Ok-clause-ends : goal.returns-in-Ok-clause-ends
@@ -10,6 +10,9 @@ returns-in-Err-Sink-clause-ends g c = ends_cut (c.in-Err-Sink.ensures.cut (searc
 
 pub returns-in-Ok-write_out-clause-ends : goal.returns-in-Ok-write_out-clause-ends
 returns-in-Ok-write_out-clause-ends g c = ends_stopped (c.in-Err-Memory.ensures.memory (search rules)) c.in-Ok-write_out.ensures.ok (omega (arith, c.in-Err-Memory.ensures.later)) (omega (arith, c.in-Err-Memory.ensures.later, c.in-Ok-write_out.ensures.later))
+
+pub returns-in-Ok-write_out-clause-machine : goal.returns-in-Ok-write_out-clause-machine
+returns-in-Ok-write_out-clause-machine g c = λ is. stopped c.read_all.new.self _ _ _ _ _ (c.in-Err-Memory.ensures.memory (search rules)) c.in-Ok-write_out.ensures.ok
 
 pub returns-clause-ends : goal.returns-clause-ends
 returns-clause-ends g c = ends_cut (stopped_front c.read_all.new.self (g.S.Source.left c.args.source.now) (g.S.Source.left c.read_all.new.source) (g.K.Sink.taken c.args.sink.now) (g.K.Sink.taken c.read_all.new.sink) (g.K.Sink.taken c.write_out.new.sink) (c.in-Err-Memory.ensures.memory (search rules)) c.in-Err.ensures.cut) (search rules)

@@ -1,0 +1,5 @@
+use Rattle.aia_replay.proofs.EngineLemmas.{none_sent}
+use Rattle.aia_replay.proofs.engine.Engine.notices.Goals as goal
+
+pub returns-in-None : goal.returns-in-None
+returns-in-None c = λ h stands. none_sent c.args.self.now h c.in-None.is stands
