@@ -21,9 +21,11 @@ body_line (suc count) x (suc k) within =
     body_line count (next_number x) k (omega arith) ∙ ap (λ n. Some (line_drawn (number_after n x))) e
 
 pub generated-length : (count seed : ℕ) → length (generated count seed) ≡ 31 + count
+unfolding generated
 generated-length count seed = length-append head_lines (body_lines count seed) ∙ ap (λ n. 31 + n) (body_lines-length count seed)
 
 pub generated-line : (count seed k : ℕ) → k < 31 + count → slice_get (generated count seed) k ≡ Some (line_at (drawing_number seed (k + 1)) (k + 1))
+unfolding generated
 generated-line count seed k within =
     elim (cases_lt k 31) [
       | inl h ↦

@@ -7,7 +7,8 @@ use Rattle.aia_model.specs.Event.{History}
 use Rattle.aia_model.specs.Notice.{notices_sent}
 use Rattle.aia_model.specs.Answer.{answer, after, after_lines}
 use Rattle.aia_generate.specs.declared.tally.Tally.{Tally}
-use Rattle.aia_generate.specs.Summary.{claim_of, with_claim, claims_from, total, summary_text, summary_of}
+use Rattle.aia_generate.specs.Summary.{claim_of, with_claim, claims_from, total, summary_text, summary_of, summary}
+use Rattle.aia_generate.specs.Generated.{generated}
 use Rattle.aia_generate.specs.Tally.{counted, tally_after, Tallies}
 
 with_claim-append : (claim : Option ℕ) (xs ys : List ℕ) → with_claim claim (xs ++ ys) ≡ with_claim claim xs ++ ys
@@ -82,3 +83,7 @@ summary_told t lines notices of_lines few sent =
     ∙ ap (λ n. summary_text (length lines) n notices t.sum) (exact_claims t lines of_lines few)
     ∙ ap (λ n. summary_text (length lines) (length (claims_from [] lines)) n t.sum) sent
     ∙ ap (summary_text (length lines) (length (claims_from [] lines)) (notices_sent (after_lines [] lines))) of_lines.all_summed
+
+pub generated_told : (t : Tally) (count seed notices : ℕ) → Tallies t (generated count seed) → length (generated count seed) < 2 ^ 64 → notices ≡ notices_sent (after_lines [] (generated count seed)) → summary_text t.lines t.claims notices t.sum ≡ summary count seed
+unfolding summary
+generated_told t count seed notices = summary_told t (generated count seed) notices

@@ -61,7 +61,7 @@ body_lines (suc count) x = line_drawn (next_number x) ∷ body_lines count (next
 
 -- ---- all of it
 
-abbrev pub generated : ℕ → ℕ → List Line
+unfoldable pub generated : ℕ → ℕ → List Line
 generated count seed = head_lines ++ body_lines count seed
 
 -- Line k, counted from 1, given the number that draws it, on which the lines of the head do not

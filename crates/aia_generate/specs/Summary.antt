@@ -58,5 +58,5 @@ summary_of lines =
     (notices_sent (after_lines [] lines)) (total (claims_from [] lines) % 2 ^ 64)
 
 -- The summary of a generated script.
-abbrev pub summary : ℕ → ℕ → List ℕ
+unfoldable pub summary : ℕ → ℕ → List ℕ
 summary count seed = summary_of (generated count seed)

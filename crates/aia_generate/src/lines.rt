@@ -35,7 +35,7 @@ pub struct GeneratedLines {
 
 /// Makes the script that `count` and `seed` generate: 31 lines, which are always the same, and
 /// `count` lines that the numbers after `seed` draw.
-#[tactic(auto, unfolding(crate::specs::Lines::lines_left))]
+#[tactic(auto, unfolding(crate::specs::Generated::generated, crate::specs::Lines::lines_left))]
 pub fn generated_lines(count: u64, seed: u64) -> GeneratedLines
     ensures lines { lines_left result ≡ generated count seed }
     ensures listed { All IsListed (lines_left result) }

@@ -1,10 +1,23 @@
 -- The history after one line more, and the tally of lines that the engine answered.
-use Rattle.std.proofs.Common.{◌≡◌, List, [], ◌∷◌, ◌++◌, refl, sym, subst}
+use Rattle.std.proofs.Common.{◌≡◌, ℕ, ◌+◌, ◌-◌, ◌*◌, ◌^◌, ◌<◌, ◌≤◌, min, List, [], ◌∷◌, ◌++◌, length, Option, inl, inr, refl, sym, subst, ◌∙◌, arith}
+use Rattle.std.specs.Io.KnownBytes.{Appends}
+use Rattle.aia_io.specs.Ends.{Rose}
 use Rattle.aia_model.specs.declared.answer.Answer.{Answer}
 use Rattle.aia_model.specs.declared.line.Line.{Line}
 use Rattle.aia_model.specs.Event.{History}
 use Rattle.aia_model.specs.Answer.{after, after_lines}
+use Rattle.aia_model.specs.Notice.{notices_sent}
+use Rattle.aia_generate.specs.declared.tally.Tally.{Tally}
+use Rattle.aia_generate.specs.Generated.{generated}
+use Rattle.aia_generate.specs.Tally.{Tallies}
+use Rattle.aia_generate.specs.Summary.{summary_text, summary}
+use Rattle.aia_generate.proofs.DrawLemmas.{generated-length}
+use Rattle.aia_generate.proofs.NoticeLemmas.{few_notices}
+use Rattle.aia_generate.proofs.TallyLemmas.{generated_told}
 use Rattle.aia_replay.specs.declared.engine.Engine.{Engine}
+use Rattle.aia_replay.specs.declared.program.Status.TheVariants.{Done, WriteFault, Memory}
+use Rattle.aia_replay.specs.Buffered.{CutOff}
+use Rattle.aia_replay.specs.Runs.{Summarizes}
 use Rattle.aia_replay.specs.Stands.{StandsFor, Serves}
 
 after_one_more : (h : History) (lines : List Line) (line : Line) → after_lines h (lines ++ line ∷ []) ≡ after (after_lines h lines) line
@@ -13,3 +26,34 @@ after_one_more h (first ∷ lines) line = after_one_more (after h first) lines l
 
 pub stands_one_more : (old new : Engine) (lines : List Line) (line : Line) (given : Answer) → StandsFor old (after_lines [] lines) → Serves old new line given → StandsFor new (after_lines [] (lines ++ line ∷ []))
 stands_one_more old new lines line given stands serves = subst (StandsFor new) (sym (after_one_more [] lines line)) (serves.stands (after_lines [] lines) stands)
+
+-- ---- the summary
+
+-- what is printed of the tally of a generated script, and of its notices, is its summary
+pub is_summary : (t : Tally) (count seed notices : ℕ) → count ≤ 100000 → Tallies t (generated count seed) → notices ≡ min (notices_sent (after_lines [] (generated count seed))) (2 ^ 64 - 1)
+    → summary_text t.lines t.claims notices t.sum ≡ summary count seed
+is_summary t count seed notices few tallies counted =
+    let lines = generated-length count seed in
+    let sent = few_notices (generated count seed) in
+    let exact : min (notices_sent (after_lines [] (generated count seed))) (2 ^ 64 - 1) ≡ notices_sent (after_lines [] (generated count seed)) = omega (arith, lines, sent, few) in
+    generated_told t count seed notices tallies (omega (arith, lines, few)) (counted ∙ exact)
+
+pub summary_written : {text all : List ℕ} {before now : Option (List ℕ)} {a b : ℕ} → text ≡ all → Appends before now text → a ≤ b → Summarizes Done all before now a b
+summary_written {text} {all} {before} {now} told wrote later = record {
+  ends = inl refl;
+  done = λ e. subst (Appends before now) told wrote;
+  write_fault = λ e. absurd (cc);
+  write_fault_written = λ e. absurd (cc);
+  memory = λ e. absurd (cc);
+  sink_faults = later;
+}
+
+pub summary_cut : {text all : List ℕ} {before now : Option (List ℕ)} {a b : ℕ} → text ≡ all → CutOff before now text → Rose a b → a ≤ b → Summarizes WriteFault all before now a b
+summary_cut {text} {all} {before} {now} told cut rose later = record {
+  ends = inr (inl refl);
+  done = λ e. absurd (cc);
+  write_fault = λ e. rose;
+  write_fault_written = λ e. subst (CutOff before now) told cut;
+  memory = λ e. absurd (cc);
+  sink_faults = later;
+}

@@ -11,10 +11,10 @@ use Rattle.aia_model.specs.SourceOf.{wire_of, enabled, target, pending, genmsi_w
 use Rattle.aia_model.specs.AddressOf.{addresses_of}
 use Rattle.aia_model.specs.Sent.{all_senders}
 use Rattle.aia_model.specs.Answer.{answer, after}
-use Rattle.aia_generate.specs.Generated.{body_lines}
-use Rattle.aia_generate.specs.Summary.{claims_from}
+use Rattle.aia_generate.specs.Generated.{body_lines, generated}
+use Rattle.aia_generate.specs.Summary.{claims_from, summary}
 use Rattle.aia_generate.proofs.laws.worked_summaries.Goals as goal
 
 pub returns : goal.returns
-unfolding word_of least_of packed ones select_by file_by majors_of home look_saw notices_sent newest wire_of enabled target pending genmsi_waits addresses_of all_senders answer after body_lines claims_from
+unfolding word_of least_of packed ones select_by file_by majors_of home look_saw notices_sent newest wire_of enabled target pending genmsi_waits addresses_of all_senders answer after body_lines generated claims_from summary
 returns c = record { gen_0_7 = refl; gen_1_0 = refl; gen_1_1 = refl; gen_200_1 = refl; gen_1000_7 = refl }
