@@ -1,9 +1,9 @@
 -- What the words of the command line ask for, without the program's name: a subcommand with its
 -- arguments.
 --
--- Which words are taken, and which word is whose argument, is what the library `clap` states of a
--- command (`fault_of`, and its `subcommand_of`, which is the subcommand that is met). The command
--- is ours.
+-- Which words are taken, which word is whose argument and which texts are numbers is what the
+-- library `clap` states of a command: `fault_of`, its `subcommand_of`, by which a subcommand is met,
+-- `one_of` and `is_unsigned_in`. The command is ours.
 use Rattle.std.specs.Prelude.{ℕ, ◌^◌, ◌-◌, true, List, [], ◌∷◌, Option, Some, None, if◌then◌else◌, codes, option_and_then}
 use Rattle.std.specs.Str.{bytes_eq}
 use Rattle.std.specs.Str.Parse.{digits_value, without_leading_plus}
@@ -67,6 +67,7 @@ generate_of rows = option_and_then (λ count.
     option_and_then (λ seed. Some (Generate count seed)) (number_at (codes "SEED") rows))
     (number_at (codes "COUNT") rows)
 
+-- The subcommand of this name, by what was found of its arguments.
 abbrev pub named : Option (Text × List Row) → Option Subcommand
 named None = None
 named (Some (name, rows)) = if bytes_eq name (codes "replay") then Some Replay
