@@ -1,4 +1,4 @@
-use Rattle.std.proofs.Common.{rules, ◌∙◌}
+use Rattle.std.proofs.Common.{◌∙◌}
 use Rattle.aia_replay.proofs.TallyLemmas.{is_summary, summary_written, summary_cut}
 use Rattle.aia_replay.proofs.generator.summarize.Goals as goal
 
