@@ -2,7 +2,7 @@
 //! SEED` runs a generated script and prints its summary.
 #![tactic(auto)]
 
-ghost use Rattle.std.specs.Prelude.{◌≡◌, ◌≢◌, ◌+◌, ◌⊎◌, ◌↔◌, ℕ, map, Contains, Some, None, IfOk, OnErr};
+ghost use Rattle.std.specs.Prelude.{◌≡◌, ◌≢◌, ◌+◌, ◌⊎◌, ◌↔◌, ℕ, map, Contains, Some, None, IfOk};
 ghost use Rattle.std.specs.Io.KnownBytes.{Appends};
 ghost use Rattle.std.specs.IoError.{error_kind};
 ghost use Rattle.std.specs.Process.{exit_status};
@@ -10,7 +10,7 @@ ghost use Rattle.aia_command.specs.declared.subcommand.Subcommand.TheVariants.{R
 ghost use Rattle.aia_command.specs.CommandLine.{subcommand_of};
 ghost use Rattle.aia_generate.specs.Summary.{summary};
 ghost use Rattle.aia_io.specs.Ends.{Rose};
-ghost use Rattle.aia_replay.specs.Runs.{EndsWith, HasAtMost, IsDoneOrMemory, StopsAtMachine, Summarizes, Takes, TakesAll, TouchesNothing, WritesAnswers};
+ghost use Rattle.aia_replay.specs.Runs.{HasAtMost, IsDoneOrMemory, StopsAtMachine, Takes, TakesAll, TouchesNothing, WritesAnswers};
 ghost use Rattle.aia.specs.Command.{AreRefused, asked_by, exit_numbers, words_of};
 
 use aia_io::{Sink, Source, StdSink, StdSource};
@@ -78,7 +78,7 @@ fn command<S: Source, K: Sink>(
         → (exit_status result ≡ 0) ⊎ (exit_status result ≡ 5) }
 {
     let status = match arguments {
-        Ok(arguments) => replay(alloc, &arguments, source, sink).unwrap_or(Status::Memory),
+        Ok(arguments) => run_words(alloc, &arguments, source, sink),
         Err(error) => refusal(&error),
     };
     exit_code(status)
@@ -96,37 +96,45 @@ fn refusal(error: &io::Error) -> Status
     }
 }
 
-/// Runs the command on the words without the program's name. `Err`: there is no memory for them.
-fn replay<S: Source, K: Sink>(
+/// Runs the command on the words without the program's name.
+fn run_words<S: Source, K: Sink>(
     alloc: Global,
     arguments: &[String],
     source: &mut S,
     sink: &mut K,
-) -> Result<Status, AllocError>
-    ensures replays { subcommand_of (words_of arguments.now) ≡ Some Replay
-        → IfOk result (λ status. EndsWith status
-        (S.left source.old) (S.left source.new) (K.taken sink.old) (K.taken sink.new)
-        (S.faults source.old) (S.faults source.new)
-        (K.faults sink.old) (K.faults sink.new)) }
+) -> Status
+    ensures done { subcommand_of (words_of arguments.now) ≡ Some Replay → result ≡ Status.Done
+        → WritesAnswers (S.left source.old) (K.taken sink.old) (K.taken sink.new)
+        × TakesAll (S.left source.old) (S.left source.new) }
     ensures generates { (count seed : ℕ)
         → subcommand_of (words_of arguments.now) ≡ Some (Generate count seed)
-        → IfOk result (λ status. (source.new ≡ source.old) × Summarizes status (summary count seed)
-        (K.taken sink.old) (K.taken sink.new) (K.faults sink.old) (K.faults sink.new)) }
-    ensures usage { IfOk result (λ status. status ≢ Status.Memory
-        → ((status ≡ Status.Usage) ↔ (subcommand_of (words_of arguments.now) ≡ None))) }
-    ensures nothing { subcommand_of (words_of arguments.now) ≡ None
-        → IfOk result (λ status. ((status ≡ Status.Usage) ⊎ (status ≡ Status.Memory))
-        × (source.new ≡ source.old) × (sink.new ≡ sink.old)) }
+        → (source.new ≡ source.old) × (result ≡ Status.Done
+        → Appends (K.taken sink.old) (K.taken sink.new) (summary count seed)) }
+    ensures read_fault { result ≡ Status.ReadFault
+        → Rose (S.faults source.old) (S.faults source.new) }
+    ensures write_fault { result ≡ Status.WriteFault
+        → Rose (K.faults sink.old) (K.faults sink.new) }
+    ensures memory { result ≡ Status.Memory
+        → TouchesNothing (S.left source.old) (S.left source.new)
+        (K.taken sink.old) (K.taken sink.new)
+        ⊎ StopsAtMachine (S.left source.old) (S.left source.new)
+        (K.taken sink.old) (K.taken sink.new) }
+    ensures too_long { result ≡ Status.TooLong
+        → Takes (SCRIPT_BYTES + 1) (S.left source.old) (S.left source.new) }
+    ensures usage { result ≢ Status.Memory
+        → ((result ≡ Status.Usage) ↔ (subcommand_of (words_of arguments.now) ≡ None)) }
+    ensures nothing { result ≡ Status.Usage → (source.new ≡ source.old) × (sink.new ≡ sink.old) }
     ensures complete { subcommand_of (words_of arguments.now) ≢ None
         → (¬ Rose (S.faults source.old) (S.faults source.new))
         → (¬ Rose (K.faults sink.old) (K.faults sink.new))
         → (subcommand_of (words_of arguments.now) ≡ Some Replay
         → HasAtMost SCRIPT_BYTES (S.left source.old))
-        → IfOk result IsDoneOrMemory }
-    ensures err { OnErr result ((source.new ≡ source.old) × (sink.new ≡ sink.old)) }
+        → IsDoneOrMemory result }
 {
-    let words = words(alloc, arguments)?;
-    Ok(run(alloc, &words, source, sink))
+    match words(alloc, arguments) {
+        Ok(words) => run(alloc, &words, source, sink),
+        Err(_) => Status::Memory,
+    }
 }
 
 /// Gives the words without the program's name. `Err`: there is no memory for them.

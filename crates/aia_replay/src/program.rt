@@ -1,7 +1,7 @@
-ghost use Rattle.std.specs.Prelude.{◌≡◌, ◌≢◌, ◌↔◌, ◌⊎◌, ℕ, Some, None};
+ghost use Rattle.std.specs.Prelude.{◌≡◌, ◌≢◌, ◌↔◌, ◌⊎◌, ◌+◌, ℕ, Some, None};
 ghost use Rattle.aia_io.specs.Ends.{Rose};
 ghost use Rattle.aia_generate.specs.Summary.{summary};
-ghost use Rattle.aia_replay.specs.Runs.{asked, EndsWith, Summarizes, StopsAtMachine, WritesAnswers, TakesAll, TouchesNothing, HasAtMost, IsDoneOrMemory};
+ghost use Rattle.aia_replay.specs.Runs.{asked, EndsWith, Summarizes, StopsAtMachine, Takes, WritesAnswers, TakesAll, TouchesNothing, HasAtMost, IsDoneOrMemory};
 
 use crate::generator::summarize;
 use crate::limits::SCRIPT_BYTES;
@@ -56,6 +56,20 @@ pub fn run<S: Source, K: Sink>(
         → asked words.now ≡ Some (Subcommand.Generate count seed)
         → (source.new ≡ source.old) × Summarizes result (summary count seed) (K.taken sink.old)
         (K.taken sink.new) (K.faults sink.old) (K.faults sink.new) }
+
+    // Why it ends otherwise, whatever the words ask for. Memory may lack for the words, or for a
+    // generated script, and nothing was touched then; or for a machine that the script asks for.
+    ensures read_fault { result ≡ Status.ReadFault
+        → Rose (S.faults source.old) (S.faults source.new) }
+    ensures write_fault { result ≡ Status.WriteFault
+        → Rose (K.faults sink.old) (K.faults sink.new) }
+    ensures memory { result ≡ Status.Memory
+        → TouchesNothing (S.left source.old) (S.left source.new) (K.taken sink.old)
+        (K.taken sink.new)
+        ⊎ StopsAtMachine (S.left source.old) (S.left source.new) (K.taken sink.old)
+        (K.taken sink.new) }
+    ensures too_long { result ≡ Status.TooLong
+        → Takes (SCRIPT_BYTES + 1) (S.left source.old) (S.left source.new) }
 
     // Where there is memory for them, words are refused exactly by `Usage`; nothing is touched then.
     ensures usage { result ≢ Status.Memory

@@ -8,6 +8,8 @@ mod addresses;
 #[cfg(test)]
 mod aplic;
 #[cfg(test)]
+mod command_lines;
+#[cfg(test)]
 mod delivery_controls;
 #[cfg(test)]
 mod domains;
