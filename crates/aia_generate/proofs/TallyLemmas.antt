@@ -11,6 +11,11 @@ use Rattle.aia_generate.specs.Summary.{claim_of, with_claim, claims_from, total,
 use Rattle.aia_generate.specs.Generated.{generated}
 use Rattle.aia_generate.specs.Tally.{counted, tally_after, Tallies}
 
+-- the history after one line more
+pub after_lines-append : (h : History) (lines : List Line) (line : Line) → after_lines h (lines ++ line ∷ []) ≡ after (after_lines h lines) line
+after_lines-append h [] line = refl
+after_lines-append h (x ∷ lines) line = after_lines-append (after h x) lines line
+
 with_claim-append : (claim : Option ℕ) (xs ys : List ℕ) → with_claim claim (xs ++ ys) ≡ with_claim claim xs ++ ys
 with_claim-append None xs ys = refl
 with_claim-append (Some i) xs ys = refl

@@ -1,5 +1,5 @@
--- The script that is generated from two numbers: a head of 31 lines, which is always the same, and a
--- body of so many lines, drawn by a sequence of numbers that begins with a seed. Profile.
+-- The script that is generated from two numbers: a head of 31 lines, which is always the same, and
+-- a body of so many lines, drawn by a sequence of numbers that begins with a seed. Profile.
 use Rattle.std.specs.Prelude.{ℕ, zero, suc, ◌+◌, ◌-◌, ◌*◌, ◌/◌, ◌%◌, ◌^◌, nat_eq, nat_lt, nat_le, if◌then◌else◌, List, [], ◌∷◌, ◌++◌, length, slice_index_or}
 use Rattle.aia_regs.specs.declared.access.Csr.TheVariants.{Select, Reg, Topei}
 use Rattle.aia_regs.specs.declared.access.Op.{Op}

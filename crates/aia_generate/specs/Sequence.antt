@@ -7,7 +7,7 @@ abbrev pub number_after : ℕ → ℕ → ℕ
 number_after zero x = x
 number_after (suc places) x = number_after places (next_number x)
 
--- The number that draws line k, counted from 1: the first line after the head is drawn by the number
--- after the seed. Lines of the head are drawn by none.
+-- The number that draws line k, counted from 1: the first line after the head is drawn by the
+-- number after the seed. Lines of the head are drawn by none.
 abbrev pub drawing_number : ℕ → ℕ → ℕ
 drawing_number seed k = number_after (k - length head_lines) seed

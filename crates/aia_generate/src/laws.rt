@@ -25,7 +25,7 @@ pub fn worked_numbers()
     ensures line_1 { line_drawn (next_number 1) ≡ Line.BeginLeave 1 0 }
 {}
 
-/// So few notices are sent that their number is counted: no line causes more than 200.
+/// Lines send so few notices that 64 bits can count them: no more than 200 for each line.
 pub fn few_notices_are_sent()
     ensures { (lines : List Line) → notices_sent (after_lines [] lines) ≤ 200 * length lines }
 {}

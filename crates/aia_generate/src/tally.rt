@@ -23,8 +23,8 @@ fn identity_shown(answer: &Answer) -> Option<u64>
     }
 }
 
-/// Gives the identity that a line claimed, given its answer; `None` where it claimed none: the lines
-/// that claim write `stopei`.
+/// Gives the identity that a line claimed, given its answer; `None` where it claimed none: the
+/// lines that claim write `stopei`.
 fn claim_of(line: &Line, answer: &Answer) -> Option<u64>
     ensures { result ≡ claim_of line.now answer.now }
 {
@@ -43,8 +43,8 @@ fn claim_of(line: &Line, answer: &Answer) -> Option<u64>
     }
 }
 
-/// How many lines were answered, how many of them claimed an identity, and the sum of the identities
-/// claimed.
+/// How many lines were answered, how many of them claimed an identity, and the sum of the
+/// identities claimed.
 #[derive(Clone, Copy, Debug, PartialEq, Eq)]
 pub struct Tally {
     lines: u64,

@@ -18,6 +18,8 @@ mod fabric;
 #[cfg(test)]
 mod files;
 #[cfg(test)]
+mod generated_scripts;
+#[cfg(test)]
 mod hypervisor_core;
 #[cfg(test)]
 mod looks;
