@@ -1,4 +1,4 @@
--- The history after one line more, and the tally of lines that the engine answered.
+-- The engine after one line more, and the summary of the lines that it answered.
 use Rattle.std.proofs.Common.{◌≡◌, ℕ, ◌+◌, ◌-◌, ◌*◌, ◌^◌, ◌<◌, ◌≤◌, min, List, [], ◌∷◌, ◌++◌, length, Option, inl, inr, refl, sym, subst, ◌∙◌, arith}
 use Rattle.std.specs.Io.KnownBytes.{Appends}
 use Rattle.aia_io.specs.Ends.{Rose}
@@ -13,19 +13,15 @@ use Rattle.aia_generate.specs.Tally.{Tallies}
 use Rattle.aia_generate.specs.Summary.{summary_text, summary}
 use Rattle.aia_generate.proofs.DrawLemmas.{generated-length}
 use Rattle.aia_generate.proofs.NoticeLemmas.{few_notices}
-use Rattle.aia_generate.proofs.TallyLemmas.{generated_told}
+use Rattle.aia_generate.proofs.TallyLemmas.{after_lines-append, generated_told}
 use Rattle.aia_replay.specs.declared.engine.Engine.{Engine}
 use Rattle.aia_replay.specs.declared.program.Status.TheVariants.{Done, WriteFault, Memory}
 use Rattle.aia_replay.specs.Buffered.{CutOff}
 use Rattle.aia_replay.specs.Runs.{Summarizes}
 use Rattle.aia_replay.specs.Stands.{StandsFor, Serves}
 
-after_one_more : (h : History) (lines : List Line) (line : Line) → after_lines h (lines ++ line ∷ []) ≡ after (after_lines h lines) line
-after_one_more h [] line = refl
-after_one_more h (first ∷ lines) line = after_one_more (after h first) lines line
-
 pub stands_one_more : (old new : Engine) (lines : List Line) (line : Line) (given : Answer) → StandsFor old (after_lines [] lines) → Serves old new line given → StandsFor new (after_lines [] (lines ++ line ∷ []))
-stands_one_more old new lines line given stands serves = subst (StandsFor new) (sym (after_one_more [] lines line)) (serves.stands (after_lines [] lines) stands)
+stands_one_more old new lines line given stands serves = subst (StandsFor new) (sym (after_lines-append [] lines line)) (serves.stands (after_lines [] lines) stands)
 
 -- ---- the summary
 
