@@ -1,14 +1,12 @@
 -- The identity on top, found by a summary and by one word of both sets.
 use Rattle.std.proofs.Common.{◌≡◌, ℕ, ◌+◌, ◌-◌, ◌*◌, ◌/◌, ◌<◌, ◌≤◌, Bool, true, false, ◌&&◌, Option, Some, None, inl, inr, refl, sym, ap, ◌∙◌, arith}
-use Rattle.std.proofs.lemmas.Bool.{cases_lt, and_left, and_right, and_from, and_parts, false≢true}
-use Rattle.std.specs.Int.{w64, trailing_zeros}
-use Rattle.std.proofs.lemmas.Nat.Bits.{bit_at-trailing_zeros}
+use Rattle.std.proofs.lemmas.Bool.{cases_lt, and_left, and_right, and_from, and_parts}
 use Rattle.aia_word.specs.Sets.{has_bit, least_of}
 use Rattle.aia_word.specs.Top.{top_identity, lets_through}
 use Rattle.aia_word.proofs.LeastLemmas.{least_of-found, least_of-none}
 use Rattle.aia_file.specs.InterruptFile.{is_shared}
 use Rattle.aia_file.specs.Summary.{Summarizes, AreIdentities}
-use Rattle.aia_file.proofs.SummaryLemmas.{least_of-same, both_words, bit_of_both, both_least, not_shared}
+use Rattle.aia_file.proofs.SummaryLemmas.{both_words, bit_of_both, both_least, not_shared, told}
 use Rattle.aia_file.proofs.TopLemmas.{top_found, top_held_back, held_back_above}
 
 -- ---- the first identity of a word that the threshold lets through
@@ -36,7 +34,7 @@ first_none k live threshold none =
 
 pub none_below : (summary : ℕ) (p e : ℕ → Bool) (k : ℕ) → k < 64 → Summarizes summary p e → ((w : ℕ) → w < k → has_bit summary w ≡ false) → (i : ℕ) → i < 64 * k → (p i && e i) ≡ false
 none_below summary p e k small summarizes below i low =
-    not_shared p e (i / 64) i refl (sym (summarizes (i / 64) (omega arith)) ∙ below (i / 64) (omega arith))
+    not_shared p e (i / 64) i refl (sym (told summary p e summarizes (i / 64) (omega arith)) ∙ below (i / 64) (omega arith))
 
 pub first_is_top : (p e : ℕ → Bool) (words k threshold : ℕ) → AreIdentities words p → is_shared p e k ≡ true → ((i : ℕ) → i < 64 * k → (p i && e i) ≡ false) → first_through k (both_words p e k) threshold ≡ top_identity (64 * words - 1) p e threshold
 first_is_top p e words k threshold range shared none =

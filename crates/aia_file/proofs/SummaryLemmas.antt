@@ -1,8 +1,8 @@
 -- The summary of two sets, and what it keeps where one word of a set changes.
-use Rattle.std.proofs.Common.{◌≡◌, ◌≢◌, ℕ, zero, suc, ◌+◌, ◌-◌, ◌*◌, ◌/◌, ◌%◌, ◌^◌, ◌<◌, ◌≤◌, Bool, true, false, ◌&&◌, ◌||◌, not, cond, Option, Some, None, is_some, nat_eq, inl, inr, refl, sym, ap, ◌∙◌, arith}
-use Rattle.std.specs.Int.{bit_at, w64, trailing_zeros}
+use Rattle.std.proofs.Common.{◌≡◌, ℕ, zero, suc, ◌+◌, ◌-◌, ◌*◌, ◌/◌, ◌%◌, ◌^◌, ◌<◌, ◌≤◌, Bool, true, false, ◌&&◌, ◌||◌, not, cond, Option, Some, None, is_some, nat_eq, inl, inr, refl, sym, ap, ◌∙◌, arith}
+use Rattle.std.specs.Int.{w64, trailing_zeros}
 use Rattle.std.specs.Prelude.{bit_and, bit_or}
-use Rattle.std.proofs.lemmas.Bool.{cases_eq, cases_lt, eq-eqb, ne_eqb, cond-true, cond-false, false≢true}
+use Rattle.std.proofs.lemmas.Bool.{cases_eq, cases_lt, eq-eqb, ne_eqb, false≢true}
 use Rattle.std.proofs.lemmas.Nat.{and_le_l}
 use Rattle.std.proofs.lemmas.Nat.Bits.{bit_at-trailing_zeros}
 use Rattle.aia_word.specs.Sets.{has_bit, word_of, least_of}
@@ -60,10 +60,12 @@ some_shared p e w some =
 -- ---- what a change of word k leaves
 
 pub summary_elsewhere : (summary k : ℕ) (p e q f : ℕ → Bool) → Summarizes summary p e → ((i : ℕ) → (i / 64 ≡ k → ⊥) → (q i && f i) ≡ (p i && e i)) → SummarizesAllBut k summary q f
+unfolding Summarizes
 summary_elsewhere summary k p e q f summarizes same w low other =
     summarizes w low ∙ sym (ap is_some (least_of-same (λ i. q i && f i) (λ i. p i && e i) (64 * w) 64 (λ i a b. same i (λ at. other (omega arith)))))
 
 pub bit_cleared : (summary k : ℕ) (p e : ℕ → Bool) → k < 64 → both_words p e k ≡ 0 → SummarizesAllBut k summary p e → Summarizes (bit_and summary (2 ^ 64 - 1 - 1 * 2 ^ k % 2 ^ 64)) p e
+unfolding Summarizes
 bit_cleared summary k p e small none others w low =
     has_bit-clear summary k w small low ∙ elim (cases_eq w k) [
       | inl at ↦ ap (λ b. not b && has_bit summary w) (eq-eqb w k at) ∙ sym (ap (is_shared p e) at ∙ none_shared p e k none)
@@ -71,6 +73,7 @@ bit_cleared summary k p e small none others w low =
     ]
 
 pub bit_put : (summary k : ℕ) (p e : ℕ → Bool) → k < 64 → (both_words p e k ≡ 0 → ⊥) → SummarizesAllBut k summary p e → Summarizes (bit_or summary (1 * 2 ^ k % 2 ^ 64)) p e
+unfolding Summarizes
 bit_put summary k p e small some others w low =
     has_bit-set summary k w small ∙ elim (cases_eq w k) [
       | inl at ↦ ap (λ b. b || has_bit summary w) (eq-eqb w k at) ∙ sym (ap (is_shared p e) at ∙ some_shared p e k some)
@@ -78,6 +81,10 @@ bit_put summary k p e small some others w low =
     ]
 
 -- ---- what a bit of the summary tells
+
+pub told : (summary : ℕ) (p e : ℕ → Bool) → Summarizes summary p e → (w : ℕ) → w < 64 → has_bit summary w ≡ is_shared p e w
+unfolding Summarizes
+told summary p e summarizes = summarizes
 
 none_found : (found : Option ℕ) → is_some found ≡ false → found ≡ None
 none_found None none = refl
@@ -112,7 +119,7 @@ both_least p e w shared =
 pub no_members : (summary : ℕ) (p e : ℕ → Bool) (words : ℕ) → Summarizes summary p e → summary ≡ 0 → words ≤ 32 → AreIdentities words p → (i : ℕ) → (p i && e i) ≡ false
 no_members summary p e words summarizes none few range i =
     elim (cases_lt (i / 64) 64) [
-      | inl low ↦ not_shared p e (i / 64) i refl (sym (summarizes (i / 64) low) ∙ ap (λ x. has_bit x (i / 64)) none ∙ has_bit-zero (i / 64))
+      | inl low ↦ not_shared p e (i / 64) i refl (sym (told summary p e summarizes (i / 64) low) ∙ ap (λ x. has_bit x (i / 64)) none ∙ has_bit-zero (i / 64))
       | inr high ↦ outside (p i) refl high
     ]
   where
@@ -121,5 +128,6 @@ no_members summary p e words summarizes none few range i =
     outside true at high = let r = range i at in absurd (omega (arith, r.1))
 
 pub empty_summary : (p e : ℕ → Bool) → ((i : ℕ) → p i ≡ false) → Summarizes 0 p e
+unfolding Summarizes
 empty_summary p e none w low =
     has_bit-zero w ∙ sym (ap is_some (least_of-none (λ i. p i && e i) (64 * w) 64 (λ i a b. ap (λ x. x && e i) (none i))))

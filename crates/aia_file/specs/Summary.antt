@@ -5,7 +5,7 @@ use Rattle.aia_word.specs.Sets.{has_bit}
 use Rattle.aia_file.specs.InterruptFile.{is_shared}
 
 -- Bit w is a one exactly where an identity of word w is in both sets.
-abbrev pub Summarizes : ℕ → (ℕ → Bool) → (ℕ → Bool) → Type 0
+unfoldable pub Summarizes : ℕ → (ℕ → Bool) → (ℕ → Bool) → Type 0
 Summarizes summary pending enabled =
     (w : ℕ) → w < 64 → has_bit summary w ≡ is_shared pending enabled w
 

@@ -1,4 +1,4 @@
-ghost use Rattle.std.specs.Prelude.{◌≡◌, ℕ, ◌+◌, ◌-◌, ◌*◌, ◌/◌, ◌%◌, ◌<◌, ◌≤◌, ◌↔◌, false, ◌&&◌, ◌||◌, not, nat_eq, if◌then◌else◌, length, slice_index, slice_set, bit_or, IsTrue, IfOk, IfSome};
+ghost use Rattle.std.specs.Prelude.{◌≡◌, ℕ, ◌+◌, ◌-◌, ◌*◌, ◌/◌, ◌%◌, ◌<◌, ◌≤◌, ◌↔◌, false, ◌&&◌, ◌||◌, not, nat_eq, if◌then◌else◌, is_some, length, slice_index, slice_set, bit_or, IsTrue, IfOk, IfSome};
 ghost use Rattle.aia_word.specs.Sets.{has_bit, is_in, word_of};
 ghost use Rattle.aia_word.specs.Top.{top_value, lets_through};
 ghost use Rattle.aia_regs.specs.declared.limits.TheConstants.{IDENTITIES};
@@ -166,7 +166,7 @@ impl File {
         ensures after { SameFile (shown self.new) (claimed (shown self.old)) }
     {
         let top = self.top();
-        self.take(top);
+        self.remove_top(top);
         top
     }
 
@@ -178,7 +178,7 @@ impl File {
         ensures two_at_most { steps.new ≤ steps.old + 2 }
     {
         let top = self.top_counted(steps);
-        self.take(top);
+        self.remove_top(top);
         top
     }
 
@@ -186,7 +186,7 @@ impl File {
     pub fn signal(&self) -> bool
         ensures { result ≡ signals (shown self.now) }
     {
-        self.delivery == 1 && self.top() != 0
+        self.delivery == 1 && self.has_top()
     }
 
     /// Takes a 32-bit store of `value` at `offset` of the file's page: it makes the identity that
@@ -209,6 +209,14 @@ impl File {
             && sets::is_empty(&self.enabled)
             && self.threshold == 0
             && self.delivery == 0
+    }
+
+    /// Tells whether there is an identity on top.
+    #[tactic(auto, using(crate::proofs::TopLemmas::top_is_some))]
+    fn has_top(&self) -> bool
+        ensures { result ≡ is_some (top_of (shown self.now)) }
+    {
+        self.top() != 0
     }
 
     /// Gives the summary of both sets.
@@ -243,7 +251,7 @@ impl File {
     }
 
     /// Clears the pending bit of the identity on top, given what a topei register shows of it.
-    fn take(&mut self, top: u64)
+    fn remove_top(&mut self, top: u64)
         requires { top ≡ top_value (top_of (shown self.old)) }
         ensures { SameFile (shown self.new) (claimed (shown self.old)) }
     {

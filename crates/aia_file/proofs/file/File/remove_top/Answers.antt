@@ -1,11 +1,9 @@
-use Rattle.std.proofs.Common.{◌≡◌, ◌≤◌, ◌<◌, ◌/◌, ◌%◌, ◌&&◌, not, nat_eq, length, refl, sym, ap, ◌∙◌, arith}
+use Rattle.std.proofs.Common.{◌/◌, ◌%◌, ◌&&◌, not, nat_eq, length, refl, sym, ap, ◌∙◌, arith}
 use Rattle.std.proofs.lemmas.Bool.{ne_eqb, and_right}
 use Rattle.aia_word.specs.Sets.{is_in}
-use Rattle.aia_file.specs.InterruptFile.{top_of}
-use Rattle.aia_file.specs.FileState.{FileState, shown}
 use Rattle.aia_file.proofs.TopLemmas.{pending_claimed}
 use Rattle.aia_file.proofs.KeptLemmas.{pending_written, pending_elsewhere, items_written, top_named}
-use Rattle.aia_file.proofs.file.File.take.Goals as goal
+use Rattle.aia_file.proofs.file.File.remove_top.Goals as goal
 
 pub remove-requires : goal.remove-requires
 remove-requires c =
