@@ -1,5 +1,5 @@
--- A summary of two sets of identities: a word of 64 bits, bit w of which tells of word w of the sets.
--- Profile: the standard has none; it is how the top is found in two looks.
+-- A summary of two sets of identities: 64 bits, each of which tells of one word of the sets.
+-- Profile: the standard has none; by it the identity on top is found in two looks.
 use Rattle.std.specs.Prelude.{◌≡◌, ◌≢◌, ℕ, ◌*◌, ◌<◌, ◌≤◌, Bool, true}
 use Rattle.aia_word.specs.Sets.{has_bit}
 use Rattle.aia_file.specs.InterruptFile.{is_shared}
