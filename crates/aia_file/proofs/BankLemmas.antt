@@ -21,3 +21,7 @@ no_zero_joined words k v h bit none =
       | inl e ↦ cond-true _ _ _ (eq-eqb _ _ e) ∙ rw (none, bit (sym e)) refl
       | inr ne ↦ cond-false _ _ _ (ne_eqb _ _ ne) ∙ none
     ]
+
+-- every other word stays
+pub elsewhere_stays : (words : List ℕ) (k v i : ℕ) → k < length words → (i / 64 ≡ k → ⊥) → is_in (set words k v) i ≡ is_in words i
+elsewhere_stays words k v i h ne = is_in-set words k v i h ∙ cond-false _ _ _ (ne_eqb _ _ ne)

@@ -1,16 +1,22 @@
-ghost use Rattle.std.specs.Prelude.{◌≡◌, ℕ, ◌+◌, ◌-◌, ◌*◌, ◌/◌, ◌%◌, ◌<◌, ◌≤◌, ◌↔◌, false, ◌&&◌, ◌||◌, not, nat_eq, if◌then◌else◌, length, slice_index, slice_set, bit_or, IsTrue, IfOk, IfSome};
-ghost use Rattle.aia_word.specs.Sets.{has_bit, is_in};
+ghost use Rattle.std.specs.Prelude.{◌≡◌, ℕ, ◌+◌, ◌-◌, ◌*◌, ◌/◌, ◌%◌, ◌<◌, ◌≤◌, ◌↔◌, false, ◌&&◌, ◌||◌, not, nat_eq, if◌then◌else◌, is_some, length, slice_index, slice_set, bit_or, IsTrue, IfOk, IfSome};
+ghost use Rattle.aia_word.specs.Sets.{has_bit, is_in, word_of};
 ghost use Rattle.aia_word.specs.Top.{top_value, lets_through};
 ghost use Rattle.aia_regs.specs.declared.limits.TheConstants.{IDENTITIES};
 ghost use Rattle.aia_regs.specs.Word.{settle};
 ghost use Rattle.aia_regs.specs.FileRegisters.{IsUsable, set_said, number_after};
 ghost use Rattle.aia_file.specs.InterruptFile.{is_greatest_identity, SameFile, empty_file, register_value, top_of, signals, accessed, landed, claimed};
 ghost use Rattle.aia_file.specs.FileState.{shown};
+ghost use Rattle.aia_file.specs.Summary.{Summarizes, AreIdentities};
 
+use crate::looks::search;
+use crate::summary::refreshed;
+use crate::view::View;
 use aia_regs::{FileReg, Op, requested};
+use aia_steps::Steps;
 use aia_word::{Bank, sets};
 use std::alloc::{AllocError, Global};
-use std::marker::Model;
+use std::marker::{Brand, Model};
+use std::sync::ledger::{Blank, Ledger};
 
 /// An interrupt file with the identities 1 to `n`: which are pending, which are enabled,
 /// `eithreshold` and `eidelivery`.
@@ -23,6 +29,7 @@ pub struct File {
     enabled: Vec<u64>,
     threshold: u64,
     delivery: u64,
+    summary: u64,
 }
 
 impl Model for File {
@@ -53,6 +60,7 @@ impl File {
             enabled,
             threshold: 0,
             delivery: 0,
+            summary: 0,
         })
     }
 
@@ -83,8 +91,24 @@ impl File {
             FileReg::Threshold => {
                 self.threshold = access_number(self.threshold, u64::from(self.n) + 1, op);
             }
-            FileReg::Pending(k) => access_set(&mut self.pending, k, op),
-            FileReg::Enable(k) => access_set(&mut self.enabled, k, op),
+            FileReg::Pending(k) => {
+                access_set(&mut self.pending, k, op);
+                self.summary = refreshed(
+                    self.summary,
+                    &self.pending,
+                    &self.enabled,
+                    (k / 2) as usize,
+                );
+            }
+            FileReg::Enable(k) => {
+                access_set(&mut self.enabled, k, op);
+                self.summary = refreshed(
+                    self.summary,
+                    &self.pending,
+                    &self.enabled,
+                    (k / 2) as usize,
+                );
+            }
             FileReg::Reserved | FileReg::Odd | FileReg::Outside => {}
         }
         before
@@ -122,7 +146,17 @@ impl File {
     pub fn top(&self) -> u64
         ensures { result ≡ top_value (top_of (shown self.now)) }
     {
-        topei(self.on_top())
+        self.top_in::<Brand>(Blank::new(1))
+    }
+
+    /// Gives what `top` gives, and counts two steps at most, one for each look at the file.
+    pub fn top_counted<L: Ledger>(&self, steps: &mut Steps<L>) -> u64
+        ensures top { result ≡ top_value (top_of (shown self.now)) }
+        ensures no_less { steps.old ≤ steps.new }
+        ensures two_at_most { steps.new ≤ steps.old + 2 }
+    {
+        let mut view = View { file: self, steps };
+        search(&mut view, self.threshold)
     }
 
     /// Claims: clears the pending bit of the identity on top, and answers what a topei register
@@ -131,18 +165,28 @@ impl File {
         ensures top { result ≡ top_value (top_of (shown self.old)) }
         ensures after { SameFile (shown self.new) (claimed (shown self.old)) }
     {
-        let top = self.on_top();
-        if let Some(identity) = top {
-            sets::remove(&mut self.pending, identity);
-        }
-        topei(top)
+        let top = self.top();
+        self.remove_top(top);
+        top
+    }
+
+    /// Claims as `claim` does, and counts two steps at most, one for each look at the file.
+    pub fn claim_counted<L: Ledger>(&mut self, steps: &mut Steps<L>) -> u64
+        ensures top { result ≡ top_value (top_of (shown self.old)) }
+        ensures after { SameFile (shown self.new) (claimed (shown self.old)) }
+        ensures no_less { steps.old ≤ steps.new }
+        ensures two_at_most { steps.new ≤ steps.old + 2 }
+    {
+        let top = self.top_counted(steps);
+        self.remove_top(top);
+        top
     }
 
     /// Tells whether the file signals its hart.
     pub fn signal(&self) -> bool
         ensures { result ≡ signals (shown self.now) }
     {
-        self.delivery == 1 && self.on_top().is_some()
+        self.delivery == 1 && self.has_top()
     }
 
     /// Takes a 32-bit store of `value` at `offset` of the file's page: it makes the identity that
@@ -152,6 +196,8 @@ impl File {
     {
         if let Some(identity) = requested(self.n, offset, value) {
             sets::insert(&mut self.pending, identity);
+            let k = (identity / 64) as usize;
+            self.summary = refreshed(self.summary, &self.pending, &self.enabled, k);
         }
     }
 
@@ -165,17 +211,55 @@ impl File {
             && self.delivery == 0
     }
 
-    /// Gives the identity on top; `None` where there is none.
-    fn on_top(&self) -> Option<u32>
-        ensures top { result ≡ top_of (shown self.now) }
-        ensures small { IfSome result (λ identity. identity ≤ self.now.n) }
-        ensures fits { self.now.n ≤ IDENTITIES }
+    /// Tells whether there is an identity on top.
+    #[tactic(auto, using(crate::proofs::TopLemmas::top_is_some))]
+    fn has_top(&self) -> bool
+        ensures { result ≡ is_some (top_of (shown self.now)) }
     {
-        let least = sets::least_common(&self.pending, &self.enabled)?;
-        if lets_through(self.threshold, least) {
-            Some(least)
-        } else {
-            None
+        self.top() != 0
+    }
+
+    /// Gives the summary of both sets.
+    pub(crate) fn summary(&self) -> u64
+        ensures summary { Summarizes result (is_in self.now.pending) (is_in self.now.enabled) }
+        ensures some { 1 ≤ (self.now.n + 1) / 64 }
+        ensures few { (self.now.n + 1) / 64 ≤ 32 }
+        ensures pending { AreIdentities ((self.now.n + 1) / 64) (is_in self.now.pending) }
+        ensures enabled { AreIdentities ((self.now.n + 1) / 64) (is_in self.now.enabled) }
+    {
+        self.summary
+    }
+
+    /// Gives word `k`, one of its words, of the pending and of the enabled set.
+    pub(crate) fn pair(&self, k: u32) -> (u64, u64)
+        requires { k < (self.now.n + 1) / 64 }
+        ensures pending { result.0 ≡ word_of (is_in self.now.pending) (64 * k) 64 }
+        ensures enabled { result.1 ≡ word_of (is_in self.now.enabled) (64 * k) 64 }
+    {
+        let k = k as usize;
+        (sets::word(&self.pending, k), sets::word(&self.enabled, k))
+    }
+
+    /// Gives what a topei register shows, by looks that are counted in a new ledger.
+    fn top_in<L: Ledger>(&self, ledger: Blank) -> u64
+        requires name { ledger.name ≡ L.name }
+        requires parts { ledger.parts ≡ L.parts }
+        requires some { 0 < L.parts }
+        ensures { result ≡ top_value (top_of (shown self.now)) }
+    {
+        self.top_counted(&mut Steps::<L>::new(ledger))
+    }
+
+    /// Clears the pending bit of the identity on top, given what a topei register shows of it.
+    fn remove_top(&mut self, top: u64)
+        requires { top ≡ top_value (top_of (shown self.old)) }
+        ensures { SameFile (shown self.new) (claimed (shown self.old)) }
+    {
+        if top != 0 {
+            let identity = (top % 0x1_0000) as u32;
+            sets::remove(&mut self.pending, identity);
+            let k = (identity / 64) as usize;
+            self.summary = refreshed(self.summary, &self.pending, &self.enabled, k);
         }
     }
 }
@@ -210,7 +294,9 @@ impl Bank for File {
         ensures no_zero_stood { k ≡ 0 → has_bit result 0 ≡ false }
         ensures within { k < length self.old.pending }
     {
-        swap_word(&mut self.pending, k, v)
+        let stood = swap_word(&mut self.pending, k, v);
+        self.summary = refreshed(self.summary, &self.pending, &self.enabled, k);
+        stood
     }
 
     fn or_pending(&mut self, k: usize, v: u64)
@@ -227,6 +313,7 @@ impl Bank for File {
         ensures within { k < length self.old.pending }
     {
         join_word(&mut self.pending, k, v);
+        self.summary = refreshed(self.summary, &self.pending, &self.enabled, k);
     }
 
     fn swap_enable(&mut self, k: usize, v: u64) -> u64
@@ -243,7 +330,9 @@ impl Bank for File {
         ensures no_zero_stood { k ≡ 0 → has_bit result 0 ≡ false }
         ensures within { k < length self.old.enabled }
     {
-        swap_word(&mut self.enabled, k, v)
+        let stood = swap_word(&mut self.enabled, k, v);
+        self.summary = refreshed(self.summary, &self.pending, &self.enabled, k);
+        stood
     }
 }
 
@@ -271,24 +360,6 @@ fn join_word(words: &mut [u64], k: usize, v: u64)
     ensures length { length words.new ≡ length words.old }
 {
     words[k] |= v;
-}
-
-/// Tells whether the threshold lets the identity through.
-fn lets_through(threshold: u64, identity: u32) -> bool
-    ensures { result ≡ lets_through threshold identity }
-{
-    threshold == 0 || u64::from(identity) < threshold
-}
-
-/// Gives what a topei register reads, by the identity on top.
-fn topei(top: Option<u32>) -> u64
-    requires { IfSome top (λ identity. identity ≤ IDENTITIES) }
-    ensures { result ≡ top_value top }
-{
-    match top {
-        Some(identity) => u64::from(identity) * 0x1_0000 + u64::from(identity),
-        None => 0,
-    }
 }
 
 /// Gives what an access makes of a register that keeps a number modulo `modulus`.

@@ -3,5 +3,9 @@
 
 mod file;
 pub mod laws;
+mod looks;
+mod summary;
+mod view;
 
 pub use file::File;
+pub use looks::{Looks, search};

@@ -1,10 +1,16 @@
 //! One interrupt file, and the files of a machine.
 
-use crate::looks::holds;
+ghost use Rattle.std.specs.Prelude.{◌≡◌, ◌<◌};
+
+use crate::looks::{holds, is_same};
 use crate::same;
 use aia_file::File;
 use aia_imsic::{Imsic, Spot};
 use aia_regs::{FileReg, Op};
+use aia_steps::Steps;
+use std::marker::Brand;
+use std::process::Abort;
+use std::sync::ledger::{Blank, Ledger};
 use std::test::Fail;
 
 /// Addresses at the ends of pages, of a machine of two harts with one guest file each.
@@ -122,5 +128,38 @@ fn a_file_shows_and_claims_the_identity_on_top(rt: HostRuntime) -> Result<(), Fa
     same!(rt; claims(&mut file), 0x4_0004);
     same!(rt; claims(&mut file), 0x5_0005);
     same!(rt; claims(&mut file), 0);
+    Ok(())
+}
+
+/// Makes the identity, 1 to 2047, pending and enabled.
+fn asks(file: &mut File, identity: u32)
+    requires { identity < 2048 }
+{
+    file.land(0, identity);
+    file.set(FileReg::Enable(identity / 64 * 2), 1 << (identity % 64));
+}
+
+/// Looks at a file by counted calls. That each adds two steps at most, its clauses say: a count has
+/// no value while the program runs.
+fn looks_are_counted<L: Ledger>(rt: &impl Abort, file: &mut File, blank: Blank)
+    requires name { blank.name ≡ L.name }
+    requires parts { blank.parts ≡ L.parts }
+    requires some { 0 < L.parts }
+{
+    let mut steps = Steps::<L>::new(blank);
+    is_same(rt, file.top_counted(&mut steps), 0x82_0082);
+    threshold(file, Op::Write(130));
+    is_same(rt, file.top_counted(&mut steps), 0);
+    threshold(file, Op::Write(0));
+    is_same(rt, file.claim_counted(&mut steps), 0x82_0082);
+    is_same(rt, file.top(), 0x7ff_07ff);
+}
+
+#[test]
+fn the_top_of_the_largest_file_is_found_by_counted_looks(rt: HostRuntime) -> Result<(), Fail> {
+    let mut file = File::new(rt.alloc(), 2047)?;
+    asks(&mut file, 2047);
+    asks(&mut file, 130);
+    looks_are_counted::<Brand>(&rt, &mut file, Blank::new(1));
     Ok(())
 }
