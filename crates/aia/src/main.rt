@@ -1,5 +1,5 @@
-//! `aia replay` reads a script from standard input and prints the answers of its lines; `aia gen COUNT
-//! SEED` runs a generated script and prints its summary.
+//! `aia replay` reads a script from standard input and prints the answers of its lines; `aia gen
+//! COUNT SEED` runs a generated script and prints its summary.
 #![tactic(auto)]
 
 ghost use Rattle.std.specs.Prelude.{◌≡◌, ◌≢◌, ◌+◌, ◌⊎◌, ◌↔◌, ℕ, map, Contains, Some, None, IfOk};

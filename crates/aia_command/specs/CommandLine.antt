@@ -2,8 +2,8 @@
 -- arguments.
 --
 -- Which words are taken, which word is whose argument and which texts are numbers is what the
--- library `clap` states of a command: `fault_of`, its `subcommand_of`, by which a subcommand is met,
--- `one_of` and `is_unsigned_in`. The command is ours.
+-- library `clap` states of a command: `fault_of`, its `subcommand_of`, by which a subcommand is
+-- met, `one_of` and `is_unsigned_in`. The command is ours.
 use Rattle.std.specs.Prelude.{ℕ, ◌^◌, ◌-◌, true, List, [], ◌∷◌, Option, Some, None, if◌then◌else◌, codes, option_and_then}
 use Rattle.std.specs.Str.{bytes_eq}
 use Rattle.std.specs.Str.Parse.{digits_value, without_leading_plus}

@@ -114,8 +114,8 @@ named_spot i p =
     then GuestFile p.hart p.file
     else Nowhere
 
--- A store of a virtual hart for the file of virtual hart g goes to the guest file that g's record in
--- force names, at the register of its page that takes stores; where none is named it goes to g's
+-- A store of a virtual hart for the file of virtual hart g goes to the guest file that g's record
+-- in force names, at the register of its page that takes stores; where none is named it goes to g's
 -- slot of memory, with its notice. Profile: where no file is mapped, the hypervisor does the store.
 -- The hypervisor extension 1.0.
 abbrev pub Relays : Option Place → World → World → Vcpu → ℕ → Type 0

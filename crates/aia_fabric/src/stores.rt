@@ -40,9 +40,9 @@ impl Fabric {
     }
 
     /// Takes a 32-bit store of `value` of a guest for virtual hart `to` of VM `vm`, one that is
-    /// there: it goes to the guest file that the G-stage record in force names, and is dropped where
-    /// no such file is there; where none is named it goes to the virtual hart's slot, with a notice
-    /// where one is due. All but files, memory and the count of notices stays.
+    /// there: it goes to the guest file that the G-stage record in force names, and is dropped
+    /// where no such file is there; where none is named it goes to the virtual hart's slot, with a
+    /// notice where one is due. All but files, memory and the count of notices stays.
     ///
     /// The hypervisor extension 1.0; profile.
     #[tactic(auto, using(crate::proofs::FrameLemmas::relays_rest))]

@@ -35,8 +35,8 @@ is_watched words (Leaving from at) w = nat_le (8 + 2 * words + 2 * w) at.steps
 is_watched words (Arriving to at) w = nat_lt at.steps (5 + 2 * words + 2 * w)
 is_watched words (Shifting from to at) w = false
 
--- Whether a store to the slot of a virtual hart notices the host, given which identities are enabled
--- and the one that the store asks for: where that one is enabled, and its word is watched.
+-- Whether a store to the slot of a virtual hart notices the host, given which identities are
+-- enabled and the one that the store asks for: where that one is enabled, and its word is watched.
 -- AIA 1.0, IOMMU Support for MSIs to Virtual Machines, "Memory-resident interrupt files". Profile:
 -- also where the identity was pending already.
 abbrev pub is_noticed : ℕ → Home → (ℕ → Bool) → Option ℕ → Bool

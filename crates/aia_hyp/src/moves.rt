@@ -161,8 +161,8 @@ fn swap_stay(vcpus: &mut Vec<VcpuRecord>, slot: u32, stay: Stay) -> Stay
     std::mem::replace(&mut vcpus[slot as usize].stay, stay)
 }
 
-/// Begins the move that is wanted of a virtual hart, and tells where the virtual hart is then. `Err`
-/// as of [`Hyp::whole`]: it is where it was.
+/// Begins the move that is wanted of a virtual hart, and tells where the virtual hart is then.
+/// `Err` as of [`Hyp::whole`]: it is where it was.
 fn begun(
     old: Stay,
     who: Who,

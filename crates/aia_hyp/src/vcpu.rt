@@ -49,8 +49,8 @@ pub struct VcpuRecord {
 }
 
 impl VcpuRecord {
-    /// Makes the record of a virtual hart that was never moved: it is parked, all its numbers are 0,
-    /// and no major interrupt of it is injected or enabled.
+    /// Makes the record of a virtual hart that was never moved: it is parked, all its numbers are
+    /// 0, and no major interrupt of it is injected or enabled.
     pub fn new() -> VcpuRecord
         ensures { result ≡ no_record }
     {

@@ -135,7 +135,8 @@ impl VsMajor {
     #[tactic(auto, unfolding(crate::specs::Kept::majors_shown))]
     pub fn inject(&mut self, major: u32, level: bool) -> Result<(), Range>
         ensures range { is_ok result ≡ is_major major }
-        ensures ok { OnOk result (majors_shown self.new ≡ with_injection major level (majors_shown self.old)) }
+        ensures ok { OnOk result (majors_shown self.new
+            ≡ with_injection major level (majors_shown self.old)) }
         ensures err { OnErr result (self.new ≡ self.old) }
     {
         self.injected.set(major, level)

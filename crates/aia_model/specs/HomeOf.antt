@@ -19,8 +19,8 @@ place hart file = record { hart = hart; file = file }
 -- held. Profile.
 abbrev pub free_file : History → (Vcpu → Home) → ℕ → Option ℕ
 free_file past homes hart =
-    least_of (λ file. not (list_any (λ g. holds (place hart file) (homes g)) (all_vcpus (vms_of past))))
-    1 (guests_of past)
+    least_of (λ file. not (list_any (λ g. holds (place hart file) (homes g))
+    (all_vcpus (vms_of past)))) 1 (guests_of past)
 
 -- The homes after an event, given those before it: a move that needs a guest file of a hart gets
 -- the least free one.

@@ -28,8 +28,8 @@ abbrev pub is_from_memory : Move → Bool
 is_from_memory (Arrives g hart) = true
 is_from_memory move = false
 
--- What a line does about moves: nothing, a whole one, the beginning of one, or a step of the one that a
--- virtual hart is on.
+-- What a line does about moves: nothing, a whole one, the beginning of one, or a step of the one
+-- that a virtual hart is on.
 pub data MoveDeed : Type 0 where
   NoMove : MoveDeed
   Whole : (move : Move) → MoveDeed

@@ -117,7 +117,8 @@ is_still_parked h = begins (λ move. not (is_from_memory move) && is_parked (hom
 -- `nofile`: it is to be moved to a guest file of a hart that has none free.
 abbrev pub lacks_file : History → Line → Bool
 lacks_file h =
-    begins (λ move. option_map_or (λ hart. is_none (free_file h (home h) hart)) (hart_wanted move) false)
+    begins (λ move. option_map_or (λ hart. is_none (free_file h (home h) hart))
+    (hart_wanted move) false)
 
 -- `idle`: the virtual hart whose next step is to be done is not being moved.
 abbrev pub is_idle : History → Line → Bool
@@ -202,8 +203,9 @@ abbrev pub refusals : List (Answer × (History → Line → Bool))
 refusals =
     (NoMachine, lacks_machine) ∷ (Again, has_one_already) ∷ (Refused Range, is_out_of_range)
     ∷ (Refused Full, is_full) ∷ (Refused Busy, is_busy) ∷ (Refused words.Home, is_resident_already)
-    ∷ (Refused words.Parked, is_still_parked) ∷ (Refused NoFile, lacks_file) ∷ (Refused Idle, is_idle)
-    ∷ (Refused Away, is_away) ∷ (Refused Illegal, is_illegal) ∷ (Refused Virtual, is_virtual)
+    ∷ (Refused words.Parked, is_still_parked) ∷ (Refused NoFile, lacks_file)
+    ∷ (Refused Idle, is_idle) ∷ (Refused Away, is_away) ∷ (Refused Illegal, is_illegal)
+    ∷ (Refused Virtual, is_virtual)
     ∷ (Refused Fault, is_fault) ∷ (Refused Guarded, is_guarded) ∷ (Refused Other, is_other)
     ∷ (Refused NotValid, names_none) ∷ (Refused GFault, names_no_peer) ∷ []
 

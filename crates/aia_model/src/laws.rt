@@ -77,9 +77,9 @@ pub fn newest_word_decides()
         ≡ settle (enabled_said select file deed i) (file.enabled i) }
 {}
 
-/// No event of a move says anything to a virtual hart: its interrupt file, its select number and its
-/// majors are the same after a move begins and after each step, its own moves or others'. So what a
-/// virtual hart reads is read of one file, wherever that file is kept.
+/// No event of a move says anything to a virtual hart: its interrupt file, its select number and
+/// its majors are the same after a move begins and after each step, its own moves or others'. So
+/// what a virtual hart reads is read of one file, wherever that file is kept.
 pub fn moves_say_nothing_to_guests()
     ensures begun { (move : Move) (h : History) (g : Vcpu)
         → (guest_file (Began move ∷ h) g ≡ guest_file h g)

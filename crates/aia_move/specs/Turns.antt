@@ -41,8 +41,8 @@ pub record EndsAs (w : World) (m : Moving) (u : World) (outcome : Outcome) : Typ
   pub ends : Ends w m u m.hand
   pub gives : GivesBack outcome m.home m.hand
 
--- The file that the move leaves, where it leaves one, is empty after its last step, where the places
--- of the virtual hart held an interrupt file before it.
+-- The file that the move leaves, where it leaves one, is empty after its last step, where the
+-- places of the virtual hart held an interrupt file before it.
 abbrev pub LeavesEmpty : World → Moving → World → Type 0
 LeavesEmpty w m u = (file : InterruptFile) (saw : Bool) (p : Place) → old_file m.home ≡ Some p
     → Holds (width w) m.who.slot m.who.notice (view w (mover m) m.home) m.home m.hand file saw

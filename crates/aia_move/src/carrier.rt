@@ -19,8 +19,8 @@ use aia_pool::FileLease;
 use aia_regs::{FileReg, Op};
 use std::marker::Model;
 
-/// What a move has with it, wherever it leads. Its methods make the accesses of plans, and count the
-/// steps that are done; the last step of a move is not counted.
+/// What a move has with it, wherever it leads. Its methods make the accesses of plans, and count
+/// the steps that are done; the last step of a move is not counted.
 #[derive(Drop)]
 pub struct Carrier {
     /// Who is moved.

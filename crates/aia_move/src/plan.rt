@@ -118,8 +118,8 @@ impl Plan {
         Plan::ShiftFirst(Shift::new(old, new, who))
     }
 
-    /// Makes the next access of the plan. `Finished` exactly at the last one: the guest file that the
-    /// move leaves, where it leaves one, is then empty.
+    /// Makes the next access of the plan. `Finished` exactly at the last one: the guest file that
+    /// the move leaves, where it leaves one, is then empty.
     pub fn step(self, fabric: &mut Fabric) -> Next
         requires fits { Fits fabric.old (moving_of self) }
         requires phase { IsInPhase (width fabric.old) self }

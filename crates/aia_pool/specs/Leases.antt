@@ -24,7 +24,8 @@ is_out l p = slice_index_or l.out (lease_place l p) false
 
 -- The least guest file of a hart that is not out; None where all are. Profile.
 abbrev pub least_free : Leases → ℕ → Option ℕ
-least_free l hart = least_of (λ file. not (is_out l (record { hart = hart; file = file }))) 1 l.guests
+least_free l hart =
+    least_of (λ file. not (is_out l (record { hart = hart; file = file }))) 1 l.guests
 
 -- A guest file is handed out, or comes back.
 abbrev pub with_out : Leases → Place → Bool → Leases

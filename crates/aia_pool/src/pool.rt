@@ -63,8 +63,8 @@ impl Pool {
         Some(FileLease::new(Place { hart, file }))
     }
 
-    /// Takes back a guest file that is out, whichever pool handed out its lease. It can be handed out
-    /// again.
+    /// Takes back a guest file that is out, whichever pool handed out its lease. It can be handed
+    /// out again.
     pub fn give(&mut self, lease: FileLease)
         requires there { IsFileThere self.old lease }
         requires out { is_out self.old lease ≡ true }

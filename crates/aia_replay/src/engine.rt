@@ -26,8 +26,8 @@ impl Engine {
     }
 
     /// Answers a line. Only an accepted `machine` line takes memory; where there is none, no
-    /// machine stands and all is as before. After a refused line it stands for the same history. The
-    /// line's CSR is one that lines of its form name.
+    /// machine stands and all is as before. After a refused line it stands for the same history.
+    /// The line's CSR is one that lines of its form name.
     pub fn line(&mut self, alloc: Global, line: &Line) -> Result<Answer, AllocError>
         requires { IsListed line.now }
         ensures serves { IfOk result (Serves self.old self.new line.now) }

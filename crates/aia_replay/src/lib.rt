@@ -1,5 +1,5 @@
-//! The engine that answers lines, and the runs: from a source's bytes to a sink's, and of a generated
-//! script to its summary.
+//! The engine that answers lines, and the runs: from a source's bytes to a sink's, and of a
+//! generated script to its summary.
 #![tactic(auto)]
 
 mod buffered;

@@ -30,8 +30,8 @@ pub enum Status {
 
 /// Runs the command that `words` give, the command line without the program's name: `replay` reads
 /// a script from the source to its end and writes the answers of its lines to the sink; `gen COUNT
-/// SEED` runs the script that the two numbers generate, reads nothing, and writes its summary. Every
-/// other list of words is refused, as clap refuses it.
+/// SEED` runs the script that the two numbers generate, reads nothing, and writes its summary.
+/// Every other list of words is refused, as clap refuses it.
 ///
 /// It returns always. Answers are written at the latest before the next read and before it returns.
 /// Memory is taken for the words and for the machine alone.
@@ -71,7 +71,8 @@ pub fn run<S: Source, K: Sink>(
     ensures too_long { result ≡ Status.TooLong
         → Takes (SCRIPT_BYTES + 1) (S.left source.old) (S.left source.new) }
 
-    // Where there is memory for them, words are refused exactly by `Usage`; nothing is touched then.
+    // Where there is memory for them, words are refused exactly by `Usage`; nothing is touched
+    // then.
     ensures usage { result ≢ Status.Memory
         → ((result ≡ Status.Usage) ↔ (asked words.now ≡ None)) }
     ensures nothing { asked words.now ≡ None

@@ -1,5 +1,5 @@
-//! Generated scripts: their summaries, and the same lines read as a script. The numbers are those of
-//! a model that was written apart.
+//! Generated scripts: their summaries, and the same lines read as a script. The numbers are those
+//! of a model that was written apart.
 
 use crate::runs::replay;
 use crate::same;

@@ -208,8 +208,8 @@ fn a_plan_makes_one_access_a_step(rt: HostRuntime) -> Result<(), Fail> {
     Ok(())
 }
 
-/// Begins to move a virtual hart to a guest file, and tells whether the move goes on after its first
-/// step.
+/// Begins to move a virtual hart to a guest file, and tells whether the move goes on after its
+/// first step.
 fn goes_on(fabric: &mut Fabric, who: Who, to: FileLease) -> bool
     requires { IsWho fabric.old who }
 {
