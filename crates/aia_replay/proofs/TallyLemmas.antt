@@ -17,7 +17,7 @@ use Rattle.aia_generate.proofs.TallyLemmas.{after_lines-append, generated_told}
 use Rattle.aia_replay.specs.declared.engine.Engine.{Engine}
 use Rattle.aia_replay.specs.declared.program.Status.TheVariants.{Done, WriteFault, Memory}
 use Rattle.aia_replay.specs.Buffered.{CutOff}
-use Rattle.aia_replay.specs.Runs.{Summarizes}
+use Rattle.aia_replay.specs.Runs.{EndsWithSummary}
 use Rattle.aia_replay.specs.Stands.{StandsFor, Serves}
 
 pub stands_one_more : (old new : Engine) (lines : List Line) (line : Line) (given : Answer) → StandsFor old (after_lines [] lines) → Serves old new line given → StandsFor new (after_lines [] (lines ++ line ∷ []))
@@ -34,7 +34,7 @@ is_summary t count seed notices few tallies counted =
     let exact : min (notices_sent (after_lines [] (generated count seed))) (2 ^ 64 - 1) ≡ notices_sent (after_lines [] (generated count seed)) = omega (arith, lines, sent, few) in
     generated_told t count seed notices tallies (omega (arith, lines, few)) (counted ∙ exact)
 
-pub summary_written : {text all : List ℕ} {before now : Option (List ℕ)} {a b : ℕ} → text ≡ all → Appends before now text → a ≤ b → Summarizes Done all before now a b
+pub summary_written : {text all : List ℕ} {before now : Option (List ℕ)} {a b : ℕ} → text ≡ all → Appends before now text → a ≤ b → EndsWithSummary Done all before now a b
 summary_written {text} {all} {before} {now} told wrote later = record {
   ends = inl refl;
   done = λ e. subst (Appends before now) told wrote;
@@ -44,7 +44,7 @@ summary_written {text} {all} {before} {now} told wrote later = record {
   sink_faults = later;
 }
 
-pub summary_cut : {text all : List ℕ} {before now : Option (List ℕ)} {a b : ℕ} → text ≡ all → CutOff before now text → Rose a b → a ≤ b → Summarizes WriteFault all before now a b
+pub summary_cut : {text all : List ℕ} {before now : Option (List ℕ)} {a b : ℕ} → text ≡ all → CutOff before now text → Rose a b → a ≤ b → EndsWithSummary WriteFault all before now a b
 summary_cut {text} {all} {before} {now} told cut rose later = record {
   ends = inr (inl refl);
   done = λ e. absurd (cc);

@@ -142,7 +142,7 @@ pub record EndsWith (status : Status) (left rest before now : Option (List ℕ))
 
 -- What a run of `gen` promises by the status that it ends with: of the text of the summary, what
 -- the sink had taken before and after it, and the count of faults of the sink, before and after it.
-pub record Summarizes (status : Status) (text : List ℕ) (before now : Option (List ℕ))
+pub record EndsWithSummary (status : Status) (text : List ℕ) (before now : Option (List ℕ))
     (sink_old sink_new : ℕ) : Type 0 where
   pub ends : (status ≡ Done) ⊎ ((status ≡ WriteFault) ⊎ (status ≡ Memory))
   pub done : status ≡ Done → Appends before now text

@@ -3,7 +3,7 @@ ghost use Rattle.aia_model.specs.Answer.{after_lines};
 ghost use Rattle.aia_generate.specs.Generated.{generated};
 ghost use Rattle.aia_generate.specs.Summary.{summary};
 ghost use Rattle.aia_generate.specs.Tally.{Tallies};
-ghost use Rattle.aia_replay.specs.Runs.{Summarizes};
+ghost use Rattle.aia_replay.specs.Runs.{EndsWithSummary};
 ghost use Rattle.aia_replay.specs.Stands.{StandsFor};
 
 use crate::buffered::write_all;
@@ -18,7 +18,7 @@ use std::alloc::{AllocError, Global};
 /// Runs the script that two numbers generate, and writes its summary.
 pub fn summarize<K: Sink>(alloc: Global, count: u64, seed: u64, sink: &mut K) -> Status
     requires { count ≤ MOST_LINES }
-    ensures { Summarizes result (summary count seed) (K.taken sink.old) (K.taken sink.new)
+    ensures { EndsWithSummary result (summary count seed) (K.taken sink.old) (K.taken sink.new)
         (K.faults sink.old) (K.faults sink.new) }
 {
     let mut engine = Engine::new();

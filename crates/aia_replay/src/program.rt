@@ -1,7 +1,7 @@
 ghost use Rattle.std.specs.Prelude.{◌≡◌, ◌≢◌, ◌↔◌, ◌⊎◌, ◌+◌, ℕ, Some, None};
 ghost use Rattle.aia_io.specs.Ends.{Rose};
 ghost use Rattle.aia_generate.specs.Summary.{summary};
-ghost use Rattle.aia_replay.specs.Runs.{asked, EndsWith, Summarizes, StopsAtMachine, Takes, WritesAnswers, TakesAll, TouchesNothing, HasAtMost, IsDoneOrMemory};
+ghost use Rattle.aia_replay.specs.Runs.{asked, EndsWith, EndsWithSummary, StopsAtMachine, Takes, WritesAnswers, TakesAll, TouchesNothing, HasAtMost, IsDoneOrMemory};
 
 use crate::generator::summarize;
 use crate::limits::SCRIPT_BYTES;
@@ -54,7 +54,7 @@ pub fn run<S: Source, K: Sink>(
         (K.faults sink.new) }
     ensures generates { (count seed : ℕ)
         → asked words.now ≡ Some (Subcommand.Generate count seed)
-        → (source.new ≡ source.old) × Summarizes result (summary count seed) (K.taken sink.old)
+        → (source.new ≡ source.old) × EndsWithSummary result (summary count seed) (K.taken sink.old)
         (K.taken sink.new) (K.faults sink.old) (K.faults sink.new) }
 
     // Why it ends otherwise, whatever the words ask for. Memory may lack for the words, or for a
