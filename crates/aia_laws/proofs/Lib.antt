@@ -7,3 +7,4 @@ pub mod HistoryLemmas
 pub mod MachineLemmas
 pub mod NoticeLemmas
 pub mod ToldLemmas
+pub mod CauseLemmas

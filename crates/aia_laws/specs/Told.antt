@@ -1,13 +1,18 @@
 -- What the host was told of a virtual hart's interrupts, and since when. Vocabulary.
-use Rattle.std.specs.Prelude.{ℕ, Bool, true, false, not, ◌&&◌, ◌||◌, [], ◌∷◌}
+use Rattle.std.specs.Prelude.{◌≡◌, ℕ, Bool, true, false, not, ◌&&◌, ◌||◌, [], ◌∷◌}
 use Rattle.aia_regs.specs.Word.{Word}
 use Rattle.aia_regs.specs.Word.Word.{Ask, Clear}
 use Rattle.aia_home.specs.Vms.{Vcpu, notice_hart, notice_identity}
-use Rattle.aia_model.specs.Event.{Event, History}
+use Rattle.aia_model.specs.declared.line.Line.{Line}
+use Rattle.aia_model.specs.Event.{Event, History, file_words}
+use Rattle.aia_model.specs.Event.Event.{Accepted, Stepped}
+use Rattle.aia_model.specs.HomeOf.{home}
+use Rattle.aia_model.specs.Notice.{ends_leave, a_look_saw}
 use Rattle.aia_model.specs.Vms.{vms_of}
 use Rattle.aia_model.specs.FileAfter.{pending_said}
 use Rattle.aia_model.specs.FileOf.{FileName, SupervisorFile, deed_at, select_of, file_of}
 use Rattle.aia_model.specs.GuestFile.{guest_deed, guest_select, guest_file}
+use Rattle.aia_laws.specs.Requests.{Asks}
 
 -- Whether an identity is deliverable at a virtual hart: it is pending and enabled.
 abbrev pub is_deliverable : History → Vcpu → ℕ → Bool
@@ -53,3 +58,24 @@ unfoldable pub cleared_since : History → FileName → ℕ → Vcpu → ℕ →
 cleared_since [] f n g i = false
 cleared_since (event ∷ past) f n g i = is_clear (host_said past event f n)
     || (not (is_ask (guest_said past event g i)) && cleared_since past f n g i)
+
+-- ---- the cause of a notice
+
+-- A line asks at a virtual hart for an identity that is enabled there.
+pub record AsksForEnabled (past : History) (line : Line) (g : Vcpu) : Type 0 where
+  pub identity : ℕ
+  pub asks : Asks past line g identity
+  pub enabled : (guest_file past g).enabled identity ≡ true
+
+-- The step of a virtual hart is the last one of its own leave, one of whose looks saw an identity
+-- both pending and enabled.
+pub record EndsLeave (past : History) (x g : Vcpu) : Type 0 where
+  pub same : x ≡ g
+  pub last : ends_leave (file_words past) (home past g) ≡ true
+  pub saw : a_look_saw past g ≡ true
+
+-- An event is the cause of a notice for a virtual hart.
+abbrev pub IsCause : History → Event → Vcpu → Type 0
+IsCause past (Accepted line) g = AsksForEnabled past line g
+IsCause past (Stepped x) g = EndsLeave past x g
+IsCause past event g = ⊥

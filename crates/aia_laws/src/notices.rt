@@ -1,12 +1,14 @@
 //! Notices: that the host is told of each interrupt of a virtual hart that is parked.
 
-ghost use Rattle.std.specs.Prelude.{◌≡◌, ℕ, true, false, List};
+ghost use Rattle.std.specs.Prelude.{◌≡◌, ℕ, true, false, List, Some};
 ghost use Rattle.aia_home.specs.Vms.{Vcpu};
 ghost use Rattle.aia_home.specs.Home.Home.{Parked};
+ghost use Rattle.aia_model.specs.Event.{Event, History};
 ghost use Rattle.aia_model.specs.HomeOf.{home};
+ghost use Rattle.aia_model.specs.Notice.{noticed};
 ghost use Rattle.aia_model.specs.FileOf.{file_of};
 ghost use Rattle.aia_model.specs.Script.{history_of};
-ghost use Rattle.aia_laws.specs.Told.{is_deliverable, notice_file, notice_number, told_since, cleared_since};
+ghost use Rattle.aia_laws.specs.Told.{is_deliverable, notice_file, notice_number, told_since, cleared_since, IsCause};
 
 /// No notice is lost. After every script, while a virtual hart is parked and an identity is pending
 /// and enabled at it, its notice identity was asked for at the supervisor file of its notice hart,
@@ -27,4 +29,12 @@ pub fn the_host_sees_a_notice_until_it_clears_it()
         (notice_number (history_of script) g) g i ≡ false
         → (file_of (history_of script) (notice_file (history_of script) g)).pending
         (notice_number (history_of script) g) ≡ true }
+{}
+
+/// No notice comes for nothing: the line that it comes with asks at the virtual hart for an identity
+/// that is enabled there, or its step is the last one of a leave, one of whose looks saw an identity
+/// both pending and enabled.
+pub fn a_notice_has_a_cause()
+    ensures { (h : History) (event : Event) (g : Vcpu) → noticed h event ≡ Some g
+        → IsCause h event g }
 {}
