@@ -40,7 +40,7 @@ fn replays_all(rt: &impl Abort, alloc: Global, rows: &[Row]) -> Result<(), Alloc
     for row in rows {
         let mut script = script_of(alloc, row.pairs)?;
         let answers = answers_of(alloc, row.pairs)?;
-        for piece in [1, 7, 4096] {
+        for piece in [1, 7, 16_384] {
             replays(rt, alloc, row.name, &script, piece, &answers)?;
         }
         script.pop();
