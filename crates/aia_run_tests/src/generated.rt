@@ -86,7 +86,8 @@ fn claims_in(script: &[u8], answers: &[u8]) -> (u32, u32) {
     let lines = script.split(|byte| *byte == b'\n');
     let answers = answers.split(|byte| *byte == b'\n');
     for (line, answer) in lines.zip(answers) {
-        let shown = digit(answer, 16) * 16 + digit(answer, 17);
+        let high = digit(answer, 16).saturating_mul(16);
+        let shown = high.saturating_add(digit(answer, 17));
         if line.ends_with(b"csrrw stopei 0x0") && shown != 0 {
             claims = claims.saturating_add(1);
             sum = sum.saturating_add(shown);
