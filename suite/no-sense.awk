@@ -102,8 +102,8 @@ function make_lists() {
     "18446744073709551599")
   make_list("wrong", "18446744073709551616;18446744073709551620;0x10000000000000000;" \
     "0x00000000000000000;99999999999999999999;1111111111222222222233333333334444444444;" \
-    "0x1111111111222222222233333333334444444444;00;01;007;0x;0X1;0xA;0xaB;x1;-1;+1;1.0;1e3;1_0;0b1;" \
-    "0x 1;1h;;0x1g;'1';0x-1;36893488147419103233;18446744073709551617")
+    "0x1111111111222222222233333333334444444444;00;01;007;0x;0X1;0xA;0xaB;x1;-1;+1;1.0;1e3;1_0;" \
+    "0b1;0x 1;1h;;0x1g;'1';0x-1;36893488147419103233;18446744073709551617")
   make_list("words", "machine;vm;wire;st;ld;msi;arrive;leave;shift;begin;step;inject;hvictl;" \
     "hviprio;g;m;h;hgeip;pins;entry;csrr;csrrw;csrrs;csrrc;csrrwi;siselect;sireg;stopei;stopi;" \
     "sip;sie;miselect;mireg;mtopei;vstopei;ipi;#;gen;replay;ok;bad;Step;MSI;--help;0;1;0x1")
