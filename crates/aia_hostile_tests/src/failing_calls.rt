@@ -17,8 +17,8 @@ const PIECES: [usize; 3] = [1, 7, 4096];
 /// More calls than any run here makes.
 const MANY_CALLS: u64 = 1000;
 
-/// Ends that cut the row of a claimed store short, and what is written then. Its first two lines have
-/// 17 and 24 bytes with their LFs: 40 bytes are one whole line, and 41 bytes are two.
+/// Ends that cut the row of a claimed store short, and what is written then. Its first two lines
+/// have 17 and 24 bytes with their LFs: 40 bytes have one whole line, and 41 bytes have two.
 const CUT_SHORT: [(Ends, Status, &str); 3] = [
     (
         Ends {

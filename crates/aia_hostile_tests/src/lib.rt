@@ -1,5 +1,5 @@
-//! The tests of hostile use: ends that fail at every call, scripts that are cut anywhere, and stores
-//! and refused lines between any two steps of a move.
+//! The tests of hostile use: ends that fail at every call, scripts that are cut anywhere, and
+//! stores and refused lines between any two steps of a move.
 #![tactic(auto)]
 
 #[cfg(test)]

@@ -126,7 +126,8 @@ impl Talk {
         self.say("step 0 0", if is_last { "done" } else { "moving" })
     }
 
-    /// Replays it, and looks at all that is answered; `case` is what to name where it is something else.
+    /// Replays it, and looks at all that is answered; `case` is what to name where it is something
+    /// else.
     pub(crate) fn holds<C: Copy + Debug>(
         &self,
         rt: &impl Abort,

@@ -143,9 +143,9 @@ const REFUSED: [(&str, &str); 38] = [
     ("g 0 1 ipi 3 9;g 0 1 ipi 18446744073709551615 9", "gfault"),
 ];
 
-/// What comes before the move: of the virtual hart that moves 9 is enabled and 12 pending. Beside it
-/// two others are resident at hart 0, which so has no guest file left, and one is parked. The majors
-/// of one of them are the hypervisor's.
+/// What comes before the move: of the virtual hart that moves 9 is enabled and 12 pending. Beside
+/// it two others are resident at hart 0, which so has no guest file left, and one is parked. The
+/// majors of one of them are the hypervisor's.
 const BEFORE: [(&str, &str); 3] = [
     (
         "vm 3 0x18 1;vm 1 0x8 0;arrive 0 0 0;arrive 0 1 0;arrive 1 0 0;hvictl 1 0 0x40010000",

@@ -10,8 +10,8 @@ use std::process::Abort;
 /// More bytes than any script here prints.
 pub(crate) const ROOM: usize = 16_384;
 
-/// The ends of a run: how many bytes a read gives, at least 1, the calls that fail, numbered from 1,
-/// so that 0 is none, and how many bytes the sink has room for.
+/// The ends of a run: how many bytes a read gives, at least 1, the calls that fail, numbered from
+/// 1, so that 0 is none, and how many bytes the sink has room for.
 #[derive(Clone, Copy, Debug)]
 pub(crate) struct Ends {
     pub piece: usize,
