@@ -7,6 +7,8 @@ mod cut_scripts;
 #[cfg(test)]
 mod failing_calls;
 #[cfg(test)]
+mod longest_scripts;
+#[cfg(test)]
 mod looks;
 #[cfg(test)]
 mod plans;

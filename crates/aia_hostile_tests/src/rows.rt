@@ -18,7 +18,12 @@ pub(crate) fn script_of(alloc: Global, row: Pairs) -> Result<Vec<u8>, AllocError
 /// Gives the answers of the first lines of a row, so many of them, each with an LF.
 pub(crate) fn answers_of(alloc: Global, row: Pairs, lines: usize) -> Result<Vec<u8>, AllocError> {
     let mut answers = Vec::new(alloc);
-    for (_, answer) in row.iter().take(lines) {
+    let mut left = lines;
+    for (_, answer) in row {
+        if left == 0 {
+            break;
+        }
+        left -= 1;
         answers.extend_from_slice(answer.as_bytes())?;
         answers.push(b'\n')?;
     }
