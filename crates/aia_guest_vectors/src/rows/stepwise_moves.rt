@@ -91,6 +91,48 @@ pub fn stores_before_every_step_of_an_arrival()
         ≡ answers_of STORES_BEFORE_EVERY_STEP_OF_AN_ARRIVAL }
 {}
 
+/// A device stores values that name no identity before each step of an arrival: all are taken, and
+/// none of them makes an identity pending or sends a notice.
+pub const STORES_OF_ANY_VALUE_DURING_AN_ARRIVAL: [(&str, &str); 31] = [
+    ("machine 1 1 63 8", "ok"),
+    ("vm 1 0x8 0", "ok"),
+    ("arrive 0 0 0", "ok"),
+    ("g 0 0 csrrw siselect 0xc0", "0x0000000000000000"),
+    ("g 0 0 csrrw sireg 0xffffffffffffffff", "0x0000000000000000"),
+    ("leave 0 0", "ok"),
+    ("begin arrive 0 0 0", "ok"),
+    ("msi 0 0x28000000 0", "ok"),
+    ("step 0 0", "moving"),
+    ("msi 0 0x28000000 64", "ok"),
+    ("step 0 0", "moving"),
+    ("msi 0 0x28000000 2047", "ok"),
+    ("step 0 0", "moving"),
+    ("msi 0 0x28000000 2048", "ok"),
+    ("step 0 0", "moving"),
+    ("msi 0 0x28000000 4294967295", "ok"),
+    ("step 0 0", "moving"),
+    ("msi 0 0x28000000 0", "ok"),
+    ("step 0 0", "moving"),
+    ("msi 0 0x28000000 64", "ok"),
+    ("step 0 0", "moving"),
+    ("msi 0 0x28000000 2047", "ok"),
+    ("step 0 0", "moving"),
+    ("msi 0 0x28000000 2048", "ok"),
+    ("step 0 0", "moving"),
+    ("msi 0 0x28000000 4294967295", "ok"),
+    ("step 0 0", "done"),
+    ("g 0 0 csrr stopei", "0x0000000000000000"),
+    ("g 0 0 csrr sireg", "0xfffffffffffffffe"),
+    ("h 0 csrrw siselect 0x80", "0x0000000000000000"),
+    ("h 0 csrr sireg", "0x0000000000000000"),
+];
+
+/// Proves that the model answers [`STORES_OF_ANY_VALUE_DURING_AN_ARRIVAL`] as it says.
+pub fn stores_of_any_value_during_an_arrival()
+    ensures { answers (script_of STORES_OF_ANY_VALUE_DURING_AN_ARRIVAL)
+        ≡ answers_of STORES_OF_ANY_VALUE_DURING_AN_ARRIVAL }
+{}
+
 /// The one guest file of a hart is out until the last step of a leave; then the other virtual hart
 /// gets it, empty, and requests for the first one do not come there.
 pub const ONE_GUEST_FILE_FOR_TWO: [(&str, &str); 30] = [
@@ -607,7 +649,7 @@ pub fn two_moves_at_once()
 {}
 
 /// All rows of this file, each with its name.
-pub const ROWS: [Row; 16] = [
+pub const ROWS: [Row; 17] = [
     Row {
         name: "REQUEST_AGAIN_WHILE_IT_IS_CARRIED",
         pairs: &REQUEST_AGAIN_WHILE_IT_IS_CARRIED,
@@ -615,6 +657,10 @@ pub const ROWS: [Row; 16] = [
     Row {
         name: "STORES_BEFORE_EVERY_STEP_OF_AN_ARRIVAL",
         pairs: &STORES_BEFORE_EVERY_STEP_OF_AN_ARRIVAL,
+    },
+    Row {
+        name: "STORES_OF_ANY_VALUE_DURING_AN_ARRIVAL",
+        pairs: &STORES_OF_ANY_VALUE_DURING_AN_ARRIVAL,
     },
     Row {
         name: "ONE_GUEST_FILE_FOR_TWO",
