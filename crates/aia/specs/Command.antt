@@ -16,6 +16,11 @@ abbrev pub asked_by : Result (Vec (String Global) Global) Error → Option Subco
 asked_by (Ok arguments) = subcommand_of (words_of arguments.items)
 asked_by (Err error) = None
 
+-- They are no text, and not without memory for them.
+abbrev pub AreNoText : Result (Vec (String Global) Global) Error → Type 0
+AreNoText (Ok arguments) = ⊥
+AreNoText (Err error) = error_kind error ≢ OutOfMemory
+
 -- They are refused: they are no text, or ask for nothing.
 abbrev pub AreRefused : Result (Vec (String Global) Global) Error → Type 0
 AreRefused (Ok arguments) = subcommand_of (words_of arguments.items) ≡ None

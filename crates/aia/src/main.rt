@@ -11,7 +11,7 @@ ghost use Rattle.aia_command.specs.CommandLine.{subcommand_of};
 ghost use Rattle.aia_generate.specs.Summary.{summary};
 ghost use Rattle.aia_io.specs.Ends.{Rose};
 ghost use Rattle.aia_replay.specs.Runs.{HasAtMost, IsDoneOrMemory, StopsAtMachine, Takes, TakesAll, TouchesNothing, WritesAnswers};
-ghost use Rattle.aia.specs.Command.{AreRefused, asked_by, exit_numbers, words_of};
+ghost use Rattle.aia.specs.Command.{AreNoText, AreRefused, asked_by, exit_numbers, words_of};
 
 use aia_io::{Sink, Source, StdSink, StdSource};
 use aia_replay::{SCRIPT_BYTES, Status, run};
@@ -54,6 +54,8 @@ fn command<S: Source, K: Sink>(
     ensures usage { exit_status result ≢ 5 → ((exit_status result ≡ 2) ↔ AreRefused arguments) }
     ensures nothing { exit_status result ≡ 2
         → (source.new ≡ source.old) × (sink.new ≡ sink.old) }
+
+    ensures no_text { AreNoText arguments → exit_status result ≡ 2 }
 
     ensures read_fault { exit_status result ≡ 3
         → Rose (S.faults source.old) (S.faults source.new) }

@@ -12,7 +12,7 @@ ghost use Rattle.aia_command.specs.Spelled.{subcommand_spelled};
 use crate::limits::MOST_LINES;
 use crate::subcommand::Subcommand;
 
-/// The most lines are this number.
+/// A generated script has at most 100,000 lines after its head.
 pub fn limits()
     ensures most_lines { MOST_LINES ≡ 100000 }
 {}
@@ -70,9 +70,9 @@ pub fn numbers_are_taken()
         ≡ Some (Subcommand.Generate 1 1) }
 {}
 
-/// Words that are no subcommand with its arguments are refused; so are requests for help and for
-/// the version.
-pub fn the_rest_is_refused()
+/// These words, which are no subcommand with its arguments, are refused; so are requests for help
+/// and for the version.
+pub fn other_words_are_refused()
     ensures no_word { subcommand_of [] ≡ None }
     ensures empty_word { subcommand_of (codes "" ∷ []) ≡ None }
     ensures other_word { subcommand_of (codes "x" ∷ []) ≡ None }

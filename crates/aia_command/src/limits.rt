@@ -1,4 +1,4 @@
 //! How much may be asked for. Profile.
 
-/// The most lines that are generated.
+/// The most lines that a generated script has after its head.
 pub const MOST_LINES: u64 = 100_000;

@@ -27,7 +27,7 @@ use Rattle.aia_model.specs.GuestFile.{guest_file, guest_select, named_by}
 use Rattle.aia_model.specs.HomeOf.{home, free_file, place}
 use Rattle.aia_model.specs.Notice.{looks_at, look_saw, a_look_saw, ends_leave, noticed_by_store, noticed}
 use Rattle.aia_model.proofs.MoveLemmas.{same_vcpu, is_itself}
-use Rattle.aia_laws.specs.Told.{is_deliverable, is_ask, guest_said}
+use Rattle.aia_laws.specs.Told.{is_deliverable, is_ask, guest_said, begins_leave}
 use Rattle.aia_laws.proofs.FileLemmas.{guest_n}
 use Rattle.aia_laws.proofs.RefusalLemmas.{access_allowed}
 use Rattle.aia_laws.proofs.HistoryLemmas.{IsHistory}
@@ -41,7 +41,7 @@ names_vcpu (Some x) g = is_vcpu g x
 -- for last there.
 unfoldable pub noticed_since : History → Vcpu → ℕ → Bool
 noticed_since [] g i = false
-noticed_since (event ∷ past) g i = names_vcpu (noticed past event) g || (not (is_ask (guest_said past event g i)) && noticed_since past g i)
+noticed_since (event ∷ past) g i = names_vcpu (noticed past event) g || (not (begins_leave past event g || is_ask (guest_said past event g i)) && noticed_since past g i)
 
 -- ---- the invariant
 
@@ -166,7 +166,7 @@ access_safe h vm number csr op g i there p = elim (cases_Bool (is_vcpu g (vcpu v
 
 -- ---- a move begins
 
-leave_begins : (words : ℕ) (there : Home) (w : ℕ) (live saw since : Bool) → is_moving there ≡ false → SafeAt words there w live saw since → SafeAt words (leaving there) w live false since
+leave_begins : (words : ℕ) (there : Home) (w : ℕ) (live saw since : Bool) → is_moving there ≡ false → SafeAt words there w live saw since → SafeAt words (leaving there) w live false (not (is_resident there || false) && since)
 leave_begins words Parked w live saw since idle p = p
 leave_begins words (Resident p) w live saw since idle safe = λ looked e. absurd (omega (arith, looked))
 leave_begins words (Leaving from at) w live saw since idle p = absurd (cc)

@@ -24,7 +24,7 @@ use Rattle.aia_model.specs.HomeOf.{home}
 use Rattle.aia_model.specs.Notice.{noticed}
 use Rattle.aia_model.proofs.FileLemmas.{file_step, newest_word, is_file-itself}
 use Rattle.aia_model.proofs.MoveLemmas.{same_vcpu}
-use Rattle.aia_laws.specs.Told.{is_deliverable, notice_file, notice_number, is_ask, is_clear, guest_said, host_said, told_since, cleared_since}
+use Rattle.aia_laws.specs.Told.{is_deliverable, notice_file, notice_number, is_ask, is_clear, guest_said, host_said, begins_leave, told_since, cleared_since}
 use Rattle.aia_laws.proofs.FileLemmas.{made_with, not_making, host_made, host_n}
 use Rattle.aia_laws.proofs.RefusalLemmas.{machine_allowed, device_allowed, peer_allowed}
 use Rattle.aia_laws.proofs.HistoryLemmas.{MayHappen, IsHistory}
@@ -104,12 +104,12 @@ notice_asks event past g may good e =
 asked_since : (h : History) (f : FileName) (n : ℕ) (g : Vcpu) (i : ℕ) → IsHistory h → (has_vcpu h g ≡ true → (f ≡ notice_file h g) × (n ≡ notice_number h g)) → noticed_since h g i ≡ true → told_since h f n g i ≡ true
 unfolding noticed_since told_since
 asked_since [] f n g i good its e = absurd (false≢true e)
-asked_since (event ∷ past) f n g i good its e = elim (or_cases (names_vcpu (noticed past event) g) (not (is_ask (guest_said past event g i)) && noticed_since past g i) e) [
+asked_since (event ∷ past) f n g i good its e = elim (or_cases (names_vcpu (noticed past event) g) (not (begins_leave past event g || is_ask (guest_said past event g i)) && noticed_since past g i) e) [
   | inl now ↦
       let same = stays (noticed_is_there event past g good.0 now) in
       or_left _ _ (ap is_ask (ap (λ x. host_said past event x n) same.0 ∙ ap (host_said past event (notice_file past g)) same.1 ∙ notice_asks event past g good.0 good.1 now))
   | inr before ↦
-      let parts = and_parts (not (is_ask (guest_said past event g i))) (noticed_since past g i) before in
+      let parts = and_parts (not (begins_leave past event g || is_ask (guest_said past event g i))) (noticed_since past g i) before in
       or_right _ _ (and_from _ _ parts.0 (asked_since past f n g i good.1 stays parts.1))
 ]
   where
@@ -139,7 +139,7 @@ kept_by : (event : Event) (past : History) (f : FileName) (n : ℕ) (g : Vcpu) (
 unfolding told_since cleared_since
 kept_by event past f n g i made before told cleared =
     pending_after event past f n (not_making (deed_at f past event) made)
-    ∙ settled (host_said past event f n) (is_ask (guest_said past event g i)) (told_since past f n g i) (cleared_since past f n g i) ((file_of past f).pending n) told cleared before
+    ∙ settled (host_said past event f n) (begins_leave past event g || is_ask (guest_said past event g i)) (told_since past f n g i) (cleared_since past f n g i) ((file_of past f).pending n) told cleared before
 
 none_told : (f : FileName) (n : ℕ) (g : Vcpu) (i : ℕ) → told_since [] f n g i ≡ false
 unfolding told_since

@@ -2,10 +2,12 @@
 use Rattle.std.specs.Prelude.{◌≡◌, ℕ, Bool, true, false, not, ◌&&◌, ◌||◌, [], ◌∷◌}
 use Rattle.aia_regs.specs.Word.{Word}
 use Rattle.aia_regs.specs.Word.Word.{Ask, Clear}
-use Rattle.aia_home.specs.Vms.{Vcpu, notice_hart, notice_identity}
+use Rattle.aia_home.specs.Vms.{Vcpu, is_vcpu, notice_hart, notice_identity}
+use Rattle.aia_home.specs.Home.{is_resident}
+use Rattle.aia_model.specs.Move.Move.{Leaves}
 use Rattle.aia_model.specs.declared.line.Line.{Line}
 use Rattle.aia_model.specs.Event.{Event, History, file_words}
-use Rattle.aia_model.specs.Event.Event.{Accepted, Stepped}
+use Rattle.aia_model.specs.Event.Event.{Accepted, Began, Stepped}
 use Rattle.aia_model.specs.HomeOf.{home}
 use Rattle.aia_model.specs.Notice.{ends_leave, a_look_saw}
 use Rattle.aia_model.specs.Vms.{vms_of}
@@ -44,20 +46,30 @@ guest_said past event g i =
 abbrev pub host_said : History → Event → FileName → ℕ → Word
 host_said past event f n = pending_said (select_of past f) (file_of past f) (deed_at f past event) n
 
--- ---- since the newest request
+-- ---- since the newest request, and since the newest leave
 
--- Whether identity n was asked for in a file of the host no earlier than identity i was asked for
--- last at a virtual hart: by the same event, or by a later one.
+-- Whether an event begins a leave of a virtual hart, which is resident.
+abbrev pub begins_leave : History → Event → Vcpu → Bool
+begins_leave past (Began (Leaves x)) g = is_vcpu g x && is_resident (home past g)
+begins_leave past event g = false
+
+-- Whether the host is to be told anew, after an event, of identity i at a virtual hart: the event
+-- asks for it there, or begins a leave of the virtual hart.
+abbrev pub is_to_be_told : History → Event → Vcpu → ℕ → Bool
+is_to_be_told past event g i = begins_leave past event g || is_ask (guest_said past event g i)
+
+-- Whether identity n was asked for in a file of the host no earlier than that: by the newest such
+-- event, or by a later one.
 unfoldable pub told_since : History → FileName → ℕ → Vcpu → ℕ → Bool
 told_since [] f n g i = false
 told_since (event ∷ past) f n g i = is_ask (host_said past event f n)
-    || (not (is_ask (guest_said past event g i)) && told_since past f n g i)
+    || (not (is_to_be_told past event g i) && told_since past f n g i)
 
 -- Whether identity n was cleared there no earlier than that.
 unfoldable pub cleared_since : History → FileName → ℕ → Vcpu → ℕ → Bool
 cleared_since [] f n g i = false
 cleared_since (event ∷ past) f n g i = is_clear (host_said past event f n)
-    || (not (is_ask (guest_said past event g i)) && cleared_since past f n g i)
+    || (not (is_to_be_told past event g i) && cleared_since past f n g i)
 
 -- ---- the cause of a notice
 

@@ -2,6 +2,7 @@
 //! and what a claim takes.
 
 ghost use Rattle.std.specs.Prelude.{◌≡◌, ◌≢◌, ℕ, ◌+◌, ◌*◌, true, false, None};
+ghost use Rattle.aia_regs.specs.declared.access.Csr.{Csr};
 ghost use Rattle.aia_regs.specs.declared.access.Csr.TheVariants.{Topei};
 ghost use Rattle.aia_regs.specs.declared.access.Op.{Op};
 ghost use Rattle.aia_regs.specs.Operations.{is_writing};
@@ -15,7 +16,7 @@ ghost use Rattle.aia_model.specs.Event.{History, has_machine};
 ghost use Rattle.aia_model.specs.GuestFile.{guest_file, guest_select};
 ghost use Rattle.aia_model.specs.MajorOf.{majors_of};
 ghost use Rattle.aia_model.specs.Refusal.{refusal};
-ghost use Rattle.aia_model.specs.Answer.{answer, after};
+ghost use Rattle.aia_model.specs.Answer.{guest_csr_value, answer, after};
 ghost use Rattle.aia_laws.specs.Requests.{speaks_to, names_other_vm, Asks, Clears};
 ghost use Rattle.aia_laws.specs.Claims.{MayBeClaimed, IsLeastToClaim, without};
 
@@ -72,4 +73,12 @@ pub fn a_claim_takes_the_least_identity()
         → ((i : ℕ) → ¬ MayBeClaimed (guest_file h g) i)
         → (answer h (GuestCsr g.vm g.number Topei op) ≡ Wide 0)
         × (guest_file (after h (GuestCsr g.vm g.number Topei op)) g ≡ guest_file h g) }
+{}
+
+/// A virtual hart reads what is its own: a CSR instruction that is not refused answers what the CSR
+/// reads of its interrupt file, its select number or its majors.
+pub fn a_guest_reads_what_is_its_own()
+    ensures { (h : History) (g : Vcpu) (csr : Csr) (op : Op)
+        → refusal h (GuestCsr g.vm g.number csr op) ≡ None
+        → answer h (GuestCsr g.vm g.number csr op) ≡ Wide (guest_csr_value h g csr) }
 {}

@@ -12,7 +12,7 @@ ghost use Rattle.aia_laws.specs.Told.{is_deliverable, notice_file, notice_number
 
 /// No notice is lost. After every script, while a virtual hart is parked and an identity is pending
 /// and enabled at it, its notice identity was asked for at the supervisor file of its notice hart,
-/// no earlier than the newest request for that identity.
+/// no earlier than the newest request for that identity, nor than the beginning of its newest leave.
 pub fn no_notice_is_lost()
     ensures { (script : List ℕ) (g : Vcpu) (i : ℕ) → home (history_of script) g ≡ Parked
         → is_deliverable (history_of script) g i ≡ true
@@ -21,7 +21,7 @@ pub fn no_notice_is_lost()
 {}
 
 /// The host sees it: the notice identity is then pending in that file, unless something the host
-/// did there cleared it, no earlier than the newest request.
+/// did there cleared it, no earlier than that.
 pub fn the_host_sees_a_notice_until_it_clears_it()
     ensures { (script : List ℕ) (g : Vcpu) (i : ℕ) → home (history_of script) g ≡ Parked
         → is_deliverable (history_of script) g i ≡ true
