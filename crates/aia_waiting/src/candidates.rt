@@ -1,0 +1,98 @@
+ghost use Rattle.std.specs.Prelude.{◌≡◌, ◌<◌, ◌≤◌, [], length, slice_get, true, false, IfOk};
+ghost use Rattle.std.specs.List.Sorted.{IsPartitionPoint};
+ghost use Rattle.aia_waiting.specs.Order.{comes_before, IsRising, is_pair, put_in, taken_out};
+
+use std::alloc::{AllocError, Global};
+use std::marker::Model;
+
+/// The candidates of a hart: pairs of a priority and a source's number in rising order, by priority
+/// and then by number. Memory for them is taken when it is made, and not again.
+///
+/// AIA 1.0, APLIC, "Interrupt delivery directly by the APLIC".
+#[derive(Drop)]
+pub struct Candidates {
+    pairs: Vec<(u32, u32)>,
+    room: usize,
+}
+
+impl Model for Candidates {
+    ghost use Rattle.std.specs.Prelude.{◌≤◌, length};
+    ghost use Rattle.std.specs.Vec.{vec_capacity};
+    ghost use Rattle.aia_waiting.specs.Order.{CandidatesState, IsRising};
+
+    ghost Value = { CandidatesState };
+
+    ghost view = { λ c. record { room = c.room; pairs = c.pairs.items } };
+
+    ghost invariant = { λ c. (c.room ≤ vec_capacity c.pairs) × (length c.pairs.items ≤ c.room)
+        × IsRising c.pairs.items };
+}
+
+impl Candidates {
+    /// Makes a list of no pairs, with room for so many. `Err`: there is no memory for them.
+    pub fn new(alloc: Global, room: usize) -> Result<Candidates, AllocError>
+        ensures { IfOk result (λ c. c ≡ record { room = room; pairs = [] }) }
+    {
+        let pairs = Vec::with_capacity(alloc, room)?;
+        Ok(Candidates { pairs, room })
+    }
+
+    /// Gives the pair at a place, counted from 0: its priority and its number; `None` exactly past
+    /// the end.
+    pub fn at(&self, place: usize) -> Option<(u32, u32)>
+        ensures pair { result ≡ slice_get self.now.pairs place }
+        ensures rising { IsRising self.now.pairs }
+    {
+        self.pairs.get(place).copied()
+    }
+
+    /// Puts a pair at its place, behind those that come before it. There is room for it.
+    pub fn put(&mut self, pair: (u32, u32))
+        requires room { length self.old.pairs < self.old.room }
+        ensures { self.new ≡ record self.old { pairs = put_in pair self.old.pairs } }
+    {
+        let place = place_of(&self.pairs, pair);
+        match self.pairs.insert(place, pair) {
+            Ok(()) => {}
+            Err(_) => unreachable!(),
+        }
+    }
+
+    /// Takes a pair out, where it stands there.
+    pub fn take_out(&mut self, pair: (u32, u32))
+        ensures { self.new ≡ record self.old { pairs = taken_out pair self.old.pairs } }
+    {
+        let place = place_of(&self.pairs, pair);
+        if place < self.pairs.len() && pair == self.pairs[place] {
+            let _pair = self.pairs.remove(place);
+        }
+    }
+
+    /// Takes all pairs out.
+    pub fn clear(&mut self)
+        ensures { self.new ≡ record self.old { pairs = [] } }
+    {
+        self.pairs.clear();
+    }
+}
+
+/// Gives the place behind all pairs that come before this one.
+fn place_of(pairs: &[(u32, u32)], pair: (u32, u32)) -> usize
+    requires rising { IsRising pairs.now }
+    ensures within { result ≤ length pairs.now }
+    ensures point { IsPartitionPoint (λ q. comes_before q pair ≡ true)
+        (λ q. comes_before q pair ≡ false) pairs.now result }
+{
+    pairs.partition_point(
+        |other: &(u32, u32)| -> bool
+            ensures { result ≡ comes_before other.now pair }
+        { comes_before(*other, pair) },
+    )
+}
+
+/// Tells whether a pair comes before another: by priority, then by number.
+fn comes_before(first: (u32, u32), second: (u32, u32)) -> bool
+    ensures { result ≡ comes_before first second }
+{
+    first.0 < second.0 || (first.0 == second.0 && first.1 < second.1)
+}
