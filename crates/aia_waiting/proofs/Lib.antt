@@ -1,2 +1,3 @@
 pub mod OrderLemmas
+pub mod OrderedLemmas
 pub mod WordLemmas

@@ -45,47 +45,47 @@ pub not_before_is : (p q : Pair) → ComesFirst q p → comes_before p q ≡ fal
 not_before_is p q (inl a) = or_from _ _ (le-ltb p.0 q.0 (omega arith)) (and_left _ _ (ne_eqb p.0 q.0 (λ e. omega (arith, a, e))))
 not_before_is p q (inr b) = or_from _ _ (le-ltb p.0 q.0 (omega (arith, b.0))) (and_right _ _ (le-ltb p.1 q.1 b.1))
 
-first_before : (a b c : Pair) → ComesFirst a b → Before b c → Before a c
+pub first_before : (a b c : Pair) → ComesFirst a b → Before b c → Before a c
 first_before a b c (inl x) (inl y) = inl (omega arith)
 first_before a b c (inl x) (inr y) = inl (omega (arith, y.0))
 first_before a b c (inr x) (inl y) = inl (omega (arith, x.0))
 first_before a b c (inr x) (inr y) = inr (x.0 ∙ y.0, omega (arith, x.1, y.1))
 
-before_first : (a b c : Pair) → Before a b → ComesFirst b c → Before a c
+pub before_first : (a b c : Pair) → Before a b → ComesFirst b c → Before a c
 before_first a b c (inl x) (inl y) = inl (omega arith)
 before_first a b c (inl x) (inr y) = inl (omega (arith, y.0))
 before_first a b c (inr x) (inl y) = inl (omega (arith, x.0))
 before_first a b c (inr x) (inr y) = inr (x.0 ∙ y.0, omega (arith, x.1, y.1))
 
-first_first : (a b c : Pair) → ComesFirst a b → ComesFirst b c → ComesFirst a c
+pub first_first : (a b c : Pair) → ComesFirst a b → ComesFirst b c → ComesFirst a c
 first_first a b c (inl x) (inl y) = inl (omega arith)
 first_first a b c (inl x) (inr y) = inl (omega (arith, y.0))
 first_first a b c (inr x) (inl y) = inl (omega (arith, x.0))
 first_first a b c (inr x) (inr y) = inr (x.0 ∙ y.0, omega (arith, x.1, y.1))
 
-before_not_first : (p q : Pair) → Before p q → ComesFirst q p → ⊥
+pub before_not_first : (p q : Pair) → Before p q → ComesFirst q p → ⊥
 before_not_first p q (inl x) (inl y) = omega arith
 before_not_first p q (inl x) (inr y) = omega (arith, y.0)
 before_not_first p q (inr x) (inl y) = omega (arith, x.0)
 before_not_first p q (inr x) (inr y) = omega (arith, x.1, y.1)
 
-before_comes_first : (p q : Pair) → Before p q → ComesFirst p q
+pub before_comes_first : (p q : Pair) → Before p q → ComesFirst p q
 before_comes_first p q (inl x) = inl x
 before_comes_first p q (inr x) = inr (x.0, omega (arith, x.1))
 
 -- one that comes first and is another comes before
-first_other : (p q : Pair) → ComesFirst p q → is_pair p q ≡ false → Before p q
+pub first_other : (p q : Pair) → ComesFirst p q → is_pair p q ≡ false → Before p q
 first_other p q (inl x) other = inl x
 first_other p q (inr x) other = elim (cases_lt p.1 q.1) [
   | inl less ↦ inr (x.0, less)
   | inr more ↦ absurd (let bad : ◌≡◌ {A = Bool} true false = sym (and_from _ _ (eq-eqb p.0 q.0 x.0) (eq-eqb p.1 q.1 (omega (arith, x.1, more)))) ∙ other in cc)
 ]
 
-before_other : (p q : Pair) → Before p q → is_pair p q ≡ false
+pub before_other : (p q : Pair) → Before p q → is_pair p q ≡ false
 before_other p q (inl x) = and_left _ _ (ne_eqb p.0 q.0 (λ e. omega (arith, x, e)))
 before_other p q (inr x) = and_right _ _ (ne_eqb p.1 q.1 (λ e. omega (arith, x.1, e)))
 
-after_other : (p q : Pair) → Before q p → is_pair p q ≡ false
+pub after_other : (p q : Pair) → Before q p → is_pair p q ≡ false
 after_other p q (inl x) = and_left _ _ (ne_eqb p.0 q.0 (λ e. omega (arith, x, e)))
 after_other p q (inr x) = and_right _ _ (ne_eqb p.1 q.1 (λ e. omega (arith, x.1, e)))
 

@@ -29,6 +29,11 @@ abbrev pub put_if : Option Pair → List Pair → List Pair
 put_if None ps = ps
 put_if (Some p) ps = put_in p ps
 
+-- Pairs without one, where there is one.
+abbrev pub out_if : Option Pair → List Pair → List Pair
+out_if None ps = ps
+out_if (Some p) ps = taken_out p ps
+
 -- The pairs of the `count` numbers from `from` on that have one, in rising order.
 unfoldable pub ordered : (ℕ → Option Pair) → ℕ → ℕ → List Pair
 ordered candidate from zero = []
