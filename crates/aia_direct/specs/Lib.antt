@@ -1,1 +1,2 @@
 pub mod Idc
+pub mod Front

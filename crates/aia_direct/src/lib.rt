@@ -2,6 +2,8 @@
 //! signalled.
 #![tactic(auto)]
 
+mod front;
 mod idc;
 
+pub use front::{Front, front_search};
 pub use idc::{Idc, claimi, signal, topi};
