@@ -18,3 +18,4 @@ pub mod SendingLemmas
 pub mod FirstLemmas
 pub mod FewerLemmas
 pub mod OrderLaw
+pub mod BitsLemmas

@@ -3,4 +3,5 @@ pub mod Aplic
 pub mod Controls
 pub mod Tops
 pub mod Sending
+pub mod Bits
 pub mod Senders

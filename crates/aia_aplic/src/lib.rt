@@ -3,6 +3,7 @@
 #![tactic(auto)]
 
 mod aplic;
+mod bits;
 mod controls;
 pub mod laws;
 mod sender;
@@ -10,3 +11,4 @@ mod side;
 
 pub use aia_model::Msi;
 pub use aplic::Aplic;
+pub use bits::{Bits, bits_search};
