@@ -1,11 +1,12 @@
 //! One interrupt domain of an APLIC: its registers, its sources, and which of them are to be sent.
 #![tactic(auto)]
 
-mod domain;
+mod kept;
+mod sources;
 mod entries;
 mod entry;
-pub mod laws;
-mod ready;
 
-pub use domain::Domain;
-pub use ready::Ready;
+
+
+
+
