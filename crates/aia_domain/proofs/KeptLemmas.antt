@@ -1,15 +1,17 @@
 -- What is kept beside the sources, where one source changes.
-use Rattle.std.proofs.Common.{◌≡◌, ℕ, zero, suc, ◌+◌, ◌-◌, ◌<◌, ◌≤◌, Bool, true, false, cond, ◌&&◌, nat_eq, nat_lt, List, [], ◌∷◌, All, length, slice_get, get_or, Option, Some, None, is_some, unwrap_or, option_map, inl, inr, refl, sym, ap, subst, ◌∙◌, arith}
+use Rattle.std.proofs.Common.{◌≡◌, ℕ, zero, suc, ◌+◌, ◌-◌, ◌<◌, ◌≤◌, Bool, true, false, cond, ◌&&◌, nat_eq, nat_lt, nat_le, List, [], All, length, slice_get, get_or, Option, Some, None, is_some, unwrap_or, option_map, inl, inr, refl, sym, ap, subst, ◌∙◌, arith}
 use Rattle.std.specs.Option.{option_map_or}
-use Rattle.std.proofs.lemmas.Bool.{cond-true, cond-false, cases_eq, cases_lt, eq-eqb, ne_eqb, lt-ltb, le-ltb, and_right}
+use Rattle.std.proofs.lemmas.Bool.{cond-true, cond-false, cases_eq, cases_lt, eq-eqb, ne_eqb, lt-ltb, le-ltb, and_right, false≢true}
 use Rattle.std.proofs.lemmas.Option.{unwrap_or-slice_get, slice_get_past, none-some, same_Some}
 use Rattle.aia_word.specs.Sets.{is_in}
 use Rattle.aia_source.specs.Top.{Pair, hart_of, priority_of, pair_if}
-use Rattle.aia_waiting.specs.Order.{CandidatesState, ordered, put_if, out_if}
-use Rattle.aia_waiting.proofs.OrderedLemmas.{ordered-none, ordered-suc, ordered_same, ordered_changed, ordered_length, ordered_room}
+use Rattle.aia_regs.specs.declared.limits.TheConstants.{SOURCES}
+use Rattle.aia_waiting.specs.Order.{CandidatesState, IsRising, ordered, put_if, out_if}
+use Rattle.aia_waiting.proofs.OrderedLemmas.{ordered-none, ordered-suc, ordered_same, ordered_changed, ordered_length, ordered_room, ordered_rising, ordered_all}
 use Rattle.aia_domain.specs.declared.entry.Aim.{Aim}
-use Rattle.aia_domain.specs.Entry.{EntryState, new_entry, EachAt, EachSource, changed_at, waits, waits_at, waiting_pair, waiting_pair_at, pairs_for}
-use Rattle.aia_domain.specs.Kept.{KeptState, Keeps, HasRoom, aim_of, aim_at, aimed_pair, renewed, with_pair, AllHave, HaveRoom}
+use Rattle.aia_domain.specs.Entry.{EntryState, new_entry, EachAt, EachSource, changed_at, entry_at, waits, waits_at, waiting_pair, waiting_pair_at}
+use Rattle.aia_domain.specs.Kept.{SourcesState, list_of, KeptState, Keeps, HasRoom, aim_of, aim_at, aimed_pair, renewed, with_pair, AllHave, HaveRoom}
+use Rattle.aia_domain.specs.Domain.{IsPairOfSource}
 use Rattle.aia_domain.proofs.EachLemmas.{each-length}
 
 -- ---- one source
@@ -112,12 +114,12 @@ pub keeps_renewed : (old new : List EntryState) (kept after : KeptState) (s : �
 keeps_renewed old new kept after s change some within each lists bits keeps = record {
   lists = λ hart y found.
       let was = each_at kept.fronts after.fronts (renewed s (aim_at old s) (aim_at new s)) lists hart y found in (
-      ap (λ z. z.pairs) was.2 ∙ ap (λ ps. put_if (aimed_pair hart s (aim_at new s)) (out_if (aimed_pair hart s (aim_at old s)) ps)) (keeps.lists hart was.0 was.1).0
-      ∙ ap (λ o. put_if o (out_if (aimed_pair hart s (aim_at old s)) (ordered (waiting_pair_at old hart) 1 (length old - 1)))) (sym (pair_by_aim new hart s))
-      ∙ ap (λ o. put_if (waiting_pair_at new hart s) (out_if o (ordered (waiting_pair_at old hart) 1 (length old - 1)))) (sym (pair_by_aim old hart s))
-      ∙ ordered_changed (waiting_pair_at old hart) (waiting_pair_at new hart) s 1 (length old - 1) (omega arith) (omega arith) (pair_elsewhere old new s change each hart)
-      ∙ ap (λ n. ordered (waiting_pair_at new hart) 1 (n - 1)) (sym (same_count old new s change each)),
-      ap (λ z. z.room) was.2 ∙ (keeps.lists hart was.0 was.1).1 ∙ ap (λ n. n - 1) (sym (same_count old new s change each)),
+        ap (λ z. z.pairs) was.2 ∙ ap (λ ps. put_if (aimed_pair hart s (aim_at new s)) (out_if (aimed_pair hart s (aim_at old s)) ps)) (keeps.lists hart was.0 was.1).0
+            ∙ ap (λ o. put_if o (out_if (aimed_pair hart s (aim_at old s)) (ordered (waiting_pair_at old hart) 1 (length old - 1)))) (sym (pair_by_aim new hart s))
+            ∙ ap (λ o. put_if (waiting_pair_at new hart s) (out_if o (ordered (waiting_pair_at old hart) 1 (length old - 1)))) (sym (pair_by_aim old hart s))
+            ∙ ordered_changed (waiting_pair_at old hart) (waiting_pair_at new hart) s 1 (length old - 1) (omega arith) (omega arith) (pair_elsewhere old new s change each hart)
+            ∙ ap (λ n. ordered (waiting_pair_at new hart) 1 (n - 1)) (sym (same_count old new s change each)),
+        ap (λ z. z.room) was.2 ∙ (keeps.lists hart was.0 was.1).1 ∙ ap (λ n. n - 1) (sym (same_count old new s change each)),
       );
   bits = λ t. ap (λ b. is_in b t) bits ∙ keeps.bits t;
 }
@@ -150,8 +152,8 @@ put_first entries s room before after some within each have hart y found =
     let n : length entries - (s - 1) ≡ suc (length entries - s) = omega arith in
     let f : suc (s - 1) ≡ s = omega arith in (
       ap (λ z. z.pairs) was.2 ∙ ap (put_if (aimed_pair hart (s - 1) (aim_at entries (s - 1)))) (have hart was.0 was.1).0 ∙ ap (λ o. put_if o (ordered (waiting_pair_at entries hart) s (length entries - s))) (sym (pair_by_aim entries hart (s - 1)))
-      ∙ ap (λ k. put_if (waiting_pair_at entries hart (s - 1)) (ordered (waiting_pair_at entries hart) k (length entries - s))) (sym f) ∙ sym (ordered-suc (waiting_pair_at entries hart) (s - 1) (length entries - s))
-      ∙ ap (ordered (waiting_pair_at entries hart) (s - 1)) (sym n),
+          ∙ ap (λ k. put_if (waiting_pair_at entries hart (s - 1)) (ordered (waiting_pair_at entries hart) k (length entries - s))) (sym f) ∙ sym (ordered-suc (waiting_pair_at entries hart) (s - 1) (length entries - s))
+          ∙ ap (ordered (waiting_pair_at entries hart) (s - 1)) (sym n),
       ap (λ z. z.room) was.2 ∙ (have hart was.0 was.1).1,
     )
 
@@ -206,3 +208,41 @@ new_keeps entries kept room each size have none = record {
       | inl low ↦ each i new_entry low
       | inr past ↦ sym (unwrap_or-slice_get entries i new_entry) ∙ ap (λ o. unwrap_or o new_entry) (slice_get_past entries i past)
     ]
+
+-- ---- the list of a hart
+
+small_pair : (entries : List EntryState) (hart s : ℕ) (p : Pair) → s ≤ SOURCES → waiting_pair_at entries hart s ≡ Some p → IsPairOfSource p
+small_pair entries hart s p low is = at _ is
+  where
+    at : (b : Bool) → pair_if b (entry_at entries s).target s ≡ Some p → IsPairOfSource p
+    at false e = absurd (none-some p e)
+    at true e = let same = same_Some _ _ e in subst IsPairOfSource same (omega arith, low)
+
+pub list_rising : (x : SourcesState) (hart : ℕ) → IsRising (list_of x hart)
+list_rising x hart = at (nat_le x.harts hart) x.msi
+  where
+    at : (b m : Bool) → IsRising (cond b [] (cond m [] (ordered (waiting_pair_at x.entries hart) 1 (length x.entries - 1))))
+    at true m = λ i j d low within. absurd (omega arith)
+    at false true = λ i j d low within. absurd (omega arith)
+    at false false = ordered_rising (waiting_pair_at x.entries hart) 1 (length x.entries - 1)
+
+pub list_small : (x : SourcesState) (hart : ℕ) → length x.entries ≤ suc SOURCES → All IsPairOfSource (list_of x hart)
+list_small x hart few = at (nat_le x.harts hart) x.msi
+  where
+    at : (b m : Bool) → All IsPairOfSource (cond b [] (cond m [] (ordered (waiting_pair_at x.entries hart) 1 (length x.entries - 1))))
+    at true m = λ k d low. absurd (omega arith)
+    at false true = λ k d low. absurd (omega arith)
+    at false false = ordered_all IsPairOfSource (waiting_pair_at x.entries hart) 1 (length x.entries - 1) (λ s p a b is. small_pair x.entries hart s p (omega (arith, few)) is)
+
+-- ---- by MSIs
+
+-- a domain whose interrupts are enabled, or not, has what waits, or nothing, to be forwarded
+pub when_on : (msi on w : Bool) → on ≡ true → (msi && on && w) ≡ (msi && w)
+when_on true true w e = refl
+when_on false true w e = refl
+when_on msi false w e = absurd (false≢true e)
+
+pub when_off : (msi on w : Bool) → on ≡ false → (msi && on && w) ≡ false
+when_off msi true w e = absurd (false≢true (sym e))
+when_off true false w e = refl
+when_off false false w e = refl

@@ -134,6 +134,10 @@ EachSource old new change = EachAt old new change
 abbrev pub changed_at : ℕ → (EntryState → EntryState) → ℕ → EntryState → EntryState
 changed_at at change s x = if nat_eq at s then change x else x
 
+-- The same, where number 0 names no source.
+abbrev pub changed_if_named : ℕ → (EntryState → EntryState) → ℕ → EntryState → EntryState
+changed_if_named at change s x = if is_number_of at s then change x else x
+
 -- The sourcecfg of a source is written; number 0 names no source.
 abbrev pub written_at : ℕ → Bool → Bool → ℕ → ℕ → EntryState → EntryState
 written_at at leaf msi v s x = if is_number_of at s then sourcecfg_written leaf msi v x else x

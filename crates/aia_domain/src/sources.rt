@@ -1,12 +1,14 @@
 //! The sources of a domain, with what is kept beside them so that nothing is searched: of each hart
 //! its candidates in direct delivery, and by MSIs which sources wait.
 
-ghost use Rattle.std.specs.Prelude.{◌≡◌, ℕ, suc, ◌*◌, ◌<◌, ◌≤◌, ◌↔◌, ◌&&◌, nat_le, if◌then◌else◌, [], length, slice_get, IfOk, IsFalse, true, false};
+ghost use Rattle.std.specs.Prelude.{◌≡◌, ℕ, suc, ◌*◌, ◌<◌, ◌≤◌, ◌↔◌, ◌&&◌, length, slice_get, All, IfOk, IsFalse, true, false};
 ghost use Rattle.aia_word.specs.Sets.{word_of};
 ghost use Rattle.aia_regs.specs.declared.limits.TheConstants.{HARTS, SOURCES};
 ghost use Rattle.aia_source.specs.Registers.{in_word, touch_where};
-ghost use Rattle.aia_domain.specs.Entry.{EachSource, changed_at, changed_by, touched, all_switched, waits_at, pairs_for};
-ghost use Rattle.aia_domain.specs.Kept.{IsNewSources, with_entries, Keeps};
+ghost use Rattle.aia_domain.specs.Entry.{EachSource, changed_at, changed_if_named, changed_by, touched, all_switched, waits_at};
+ghost use Rattle.aia_domain.specs.Kept.{IsNewSources, with_entries, Keeps, list_of};
+ghost use Rattle.aia_domain.specs.Domain.{IsPairOfSource};
+ghost use Rattle.aia_waiting.specs.Order.{IsRising};
 
 use crate::entries::{aim_at, change_one, new_entries, switch_all};
 use crate::entry::{Aim, Change, Entry};
@@ -76,6 +78,7 @@ impl Sources {
     /// Gives what is kept of each source, by its number.
     pub(crate) fn entries(&self) -> &[Entry]
         ensures entries { result.now ≡ self.now.entries }
+        ensures some { 0 < length self.now.entries }
         ensures few { length self.now.entries ≤ suc SOURCES }
     {
         &self.entries
@@ -100,6 +103,17 @@ impl Sources {
         ensures { result ≡ self.now.leaf }
     {
         self.leaf
+    }
+
+    /// Does a change to one source, where it is there; number 0 names none.
+    pub(crate) fn change_named(&mut self, s: u32, change: Change)
+        ensures sources { EachSource self.old.entries self.new.entries (changed_if_named s
+            (changed_by change self.old.leaf self.old.harts self.old.msi)) }
+        ensures others { self.new ≡ with_entries self.old self.new.entries }
+    {
+        if s > 0 {
+            self.change(u64::from(s), change);
+        }
     }
 
     /// Touches the sources of word `k` whose bits are ones in `value`.
@@ -129,8 +143,9 @@ impl Sources {
 
     /// Gives the candidate of a hart at a place, in direct delivery.
     pub(crate) fn candidate(&self, hart: u32, place: usize) -> Option<(u32, u32)>
-        ensures { result ≡ slice_get (if nat_le self.now.harts hart then []
-            else pairs_for self.now.msi self.now.entries hart) place }
+        ensures pair { result ≡ slice_get (list_of self.now hart) place }
+        ensures rising { IsRising (list_of self.now hart) }
+        ensures small { All IsPairOfSource (list_of self.now hart) }
     {
         self.kept.candidate(hart, place)
     }
@@ -159,7 +174,15 @@ impl Sources {
         ensures others { self.new ≡ with_entries self.old self.new.entries }
     {
         let (leaf, harts, msi) = (self.leaf, self.harts, self.msi);
-        change_kept(&mut self.entries, &mut self.kept, s, change, leaf, harts, msi);
+        change_kept(
+            &mut self.entries,
+            &mut self.kept,
+            s,
+            change,
+            leaf,
+            harts,
+            msi,
+        );
     }
 }
 

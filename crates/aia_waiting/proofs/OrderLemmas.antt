@@ -151,7 +151,7 @@ put_length p (q ∷ qs) = at (comes_before q p) (put_length p qs)
     at true rest = ap suc rest
     at false rest = refl
 
-put_all : (P : Pair → Type 0) (p : Pair) (xs : List Pair) → P p → All P xs → All P (put_in p xs)
+pub put_all : (P : Pair → Type 0) (p : Pair) (xs : List Pair) → P p → All P xs → All P (put_in p xs)
 put_all P p [] own all = All-cons P p [] own all
 put_all P p (q ∷ qs) own all = at (comes_before q p) (put_all P p qs own (λ k d low. all (suc k) d (omega arith)))
   where

@@ -1,6 +1,5 @@
-use Rattle.std.proofs.Common.{◌≡◌, Bool, ◌-◌, ◌&&◌, length, sym, ap, subst, ◌∙◌}
-use Rattle.aia_word.specs.Sets.{is_in}
-use Rattle.aia_domain.specs.Entry.{pairs_for, waits_at}
+use Rattle.std.proofs.Common.{Bool, ◌-◌, length, sym, subst}
+use Rattle.aia_domain.specs.Entry.{pairs_for}
 use Rattle.aia_domain.specs.Kept.{AllHave}
 use Rattle.aia_domain.proofs.KeptLemmas.{cleared_have}
 use Rattle.aia_domain.proofs.kept.begin_all.Goals as goal

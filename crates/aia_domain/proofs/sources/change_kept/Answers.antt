@@ -1,4 +1,4 @@
-use Rattle.std.proofs.Common.{◌≡◌, Bool, true, false, cond, nat_eq, is_some, refl, sym, ap, subst, ◌∙◌, rules, arith}
+use Rattle.std.proofs.Common.{Bool, cond, nat_eq, is_some, sym, ap, subst, ◌∙◌, arith}
 use Rattle.aia_word.specs.Sets.{is_in}
 use Rattle.aia_domain.specs.Entry.{changed_by, EachAt}
 use Rattle.aia_domain.specs.Kept.{Keeps, HasRoom, aim_at, renewed}
@@ -13,7 +13,7 @@ returns-then-is_same-clause-keeps c =
 pub renew-requires : goal.renew-requires
 renew-requires c = record {
   room = subst (λ o. HasRoom c.args.s o c.aim_at-stands.result c.args.kept.now.fronts) (sym c.aim_at-stood.ensures) (subst (λ o. HasRoom c.args.s (aim_at c.args.entries.now c.args.s) o c.args.kept.now.fronts) (sym c.aim_at-stands.ensures)
-  (renewed_room c.args.entries.now c.change_one.new.entries c.args.kept.now c.args.s (changed_by c.args.change c.args.leaf c.args.harts c.args.msi) c.if-s-gt0.true (omega (arith, c.if-s-entries.false)) c.change_one.ensures (subst (λ (m : Bool). Keeps m c.args.entries.now c.args.kept.now) c.if-msi.false c.requires.keeps)));
+      (renewed_room c.args.entries.now c.change_one.new.entries c.args.kept.now c.args.s (changed_by c.args.change c.args.leaf c.args.harts c.args.msi) c.if-s-gt0.true (omega (arith, c.if-s-entries.false)) c.change_one.ensures (subst (λ (m : Bool). Keeps m c.args.entries.now c.args.kept.now) c.if-msi.false c.requires.keeps)));
 }
 
 pub returns-then-msi-clause-keeps : goal.returns-then-msi-clause-keeps
