@@ -1,4 +1,5 @@
 pub mod EachLemmas
 pub mod WordLemmas
 pub mod ReadyLemmas
+pub mod KeptLemmas
 pub mod Loops

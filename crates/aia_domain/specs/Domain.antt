@@ -1,13 +1,15 @@
 -- A domain as it is kept: what a store makes of it, and what a load reads.
 -- AIA 1.0, APLIC, where no comment names another source; a heading of that chapter is named alone.
-use Rattle.std.specs.Prelude.{◌≡◌, ℕ, suc, ◌-◌, ◌*◌, Bool, true, false, ◌&&◌, if◌then◌else◌, List, length, All, filter}
+use Rattle.std.specs.Prelude.{◌≡◌, ℕ, suc, ◌-◌, ◌*◌, ◌^◌, ◌<◌, ◌≤◌, Bool, true, false, ◌&&◌, nat_le, if◌then◌else◌, List, [], length, All, filter}
 use Rattle.std.specs.List.{range_with_len}
 use Rattle.aia_word.specs.Sets.{word_of}
 use Rattle.aia_regs.specs.declared.domain_registers.DomainReg.{DomainReg}
 use Rattle.aia_regs.specs.declared.domain_registers.DomainReg.TheVariants.{DomainCfg, SourceCfg, SetIp, InClrIp, SetIe, GenMsi, Target}
 use Rattle.aia_source.specs.Registers.{domaincfg_kept, domaincfg_read, enables, is_by_msi, touch, genmsi_kept, same_bool}
+use Rattle.aia_regs.specs.declared.limits.TheConstants.{SOURCES}
+use Rattle.aia_source.specs.Top.{Pair}
 use Rattle.aia_domain.specs.declared.entry.Look.TheVariants as looks
-use Rattle.aia_domain.specs.Entry.{EntryState, new_entry, changed_at, written_at, touched, switched, aimed, waits_at, sourcecfg_at, target_at, bit_at_source}
+use Rattle.aia_domain.specs.Entry.{EntryState, new_entry, changed_at, written_at, touched, switched, aimed, waits_at, pairs_for, sourcecfg_at, target_at, bit_at_source}
 
 -- Whether it is a leaf of the tree of domains, which has no child; how many harts there are; IE and
 -- DM; genmsi, and whether an MSI that it asked for is still to be sent; the sources.
@@ -97,3 +99,16 @@ is_ready d s = d.msi && d.on && waits_at d.sources s
 -- The sources that are to be forwarded, from a number on, rising.
 unfoldable pub ready_from : DomainState → ℕ → List ℕ
 ready_from d from = filter (is_ready d) (range_with_len from (length d.sources - from))
+
+-- ---- the candidates of a hart
+
+-- The pairs of priority and number of the sources that wait and are aimed at a hart, in rising
+-- order; none where the domain delivers by MSIs, and where the hart isn't there.
+-- "Interrupt delivery directly by the APLIC".
+abbrev pub candidates : DomainState → ℕ → List Pair
+candidates d hart = if nat_le d.harts hart then [] else pairs_for d.msi d.sources hart
+
+-- A pair that a register has room for: 8 bits of priority, and a number of a source that may be
+-- there.
+abbrev pub IsPairOfSource : Pair → Type 0
+IsPairOfSource p = (p.0 < 2 ^ 8) × (p.1 ≤ SOURCES)

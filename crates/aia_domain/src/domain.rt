@@ -1,16 +1,16 @@
-ghost use Rattle.std.specs.Prelude.{◌≡◌, suc, ◌≤◌, ◌<◌, Bool, length, slice_get, Some, None, IfOk, if◌then◌else◌};
+ghost use Rattle.std.specs.Prelude.{◌≡◌, ℕ, suc, ◌*◌, ◌≤◌, ◌<◌, ◌↔◌, Bool, false, length, slice_get, All, Some, None, IfOk, IsFalse, if◌then◌else◌};
+ghost use Rattle.aia_word.specs.Sets.{word_of};
 ghost use Rattle.aia_regs.specs.declared.limits.TheConstants.{HARTS, SOURCES};
+ghost use Rattle.aia_waiting.specs.Order.{IsRising};
 ghost use Rattle.aia_source.specs.Registers.{enables, is_by_msi, same_bool};
 ghost use Rattle.aia_source.specs.Wired.SourceDeed.{Claimed, Forwarded};
 ghost use Rattle.aia_domain.specs.Entry.{EachSource, changed_at, granted_at, wired, with_deed, entry_at, bit_at_source, target_at};
-ghost use Rattle.aia_domain.specs.Domain.{IsNewDomain, with_sources, configured_by, source_after, domain_after, domaincfg_written, domain_read, is_ready, ready_from};
+ghost use Rattle.aia_domain.specs.Domain.{IsNewDomain, with_sources, configured_by, source_after, domain_after, domaincfg_written, domain_read, is_ready, ready_from, candidates, IsPairOfSource};
 
-use crate::entries::{
-    aim_one, claim_one, configure_one, forward_one, grant_one, is_waiting, new_entries,
-    sourcecfg_at, switch_all, target_at, touch_one, touch_word, wire_one, word_shown,
-};
-use crate::entry::{Entry, Look};
+use crate::entries::{is_waiting, sourcecfg_at, target_at, word_shown};
+use crate::entry::{Change, Look};
 use crate::ready::Ready;
+use crate::sources::Sources;
 use aia_regs::{DomainReg, swap32};
 use aia_source::{Touch, Wired, domaincfg_kept, domaincfg_read, enables, genmsi_kept, is_by_msi};
 use std::alloc::{AllocError, Global};
@@ -22,35 +22,26 @@ use std::marker::Model;
 /// AIA 1.0, APLIC, "Interrupt domains".
 #[derive(Drop)]
 pub struct Domain {
-    leaf: bool,
-    harts: u32,
     on: bool,
-    msi: bool,
     genmsi: u32,
     genmsi_waits: bool,
-    /// By number; the one of number 0 is no source, and inactive for good.
-    sources: Vec<Entry>,
+    sources: Sources,
 }
 
 impl Model for Domain {
-    ghost use Rattle.std.specs.Prelude.{suc, ◌<◌, ◌≤◌, length};
-    ghost use Rattle.aia_regs.specs.declared.limits.TheConstants.{HARTS, SOURCES};
     ghost use Rattle.aia_domain.specs.Domain.{DomainState};
 
     ghost Value = { DomainState };
 
     ghost view = { λ d. record {
-      leaf = d.leaf;
-      harts = d.harts;
+      leaf = d.sources.leaf;
+      harts = d.sources.harts;
       on = d.on;
-      msi = d.msi;
+      msi = d.sources.msi;
       genmsi = d.genmsi;
       genmsi_waits = d.genmsi_waits;
-      sources = d.sources.items;
+      sources = d.sources.entries;
     } };
-
-    ghost invariant = { λ d. (d.harts ≤ HARTS) × (0 < length d.sources.items)
-        × (length d.sources.items ≤ suc SOURCES) };
 }
 
 impl Domain {
@@ -63,12 +54,9 @@ impl Domain {
         requires harts { harts ≤ HARTS }
         ensures { IfOk result (IsNewDomain sources harts leaf) }
     {
-        let sources = new_entries(alloc, sources + 1)?;
+        let sources = Sources::new(alloc, sources, harts, leaf)?;
         Ok(Domain {
-            leaf,
-            harts,
             on: false,
-            msi: false,
             genmsi: 0,
             genmsi_waits: false,
             sources,
@@ -80,7 +68,7 @@ impl Domain {
         ensures count { length self.now.sources ≡ suc result }
         ensures few { result ≤ SOURCES }
     {
-        self.sources.len() as u32 - 1
+        self.sources.entries().len() as u32 - 1
     }
 
     /// Gives what a register reads: 0 where none is there.
@@ -89,14 +77,15 @@ impl Domain {
     pub fn load(&self, reg: DomainReg) -> u32
         ensures { result ≡ domain_read self.now reg }
     {
+        let entries = self.sources.entries();
         match reg {
             DomainReg::DomainCfg => self.domaincfg(),
-            DomainReg::SourceCfg(i) => sourcecfg_at(&self.sources, i, self.leaf),
-            DomainReg::SetIp(k) => word_shown(&self.sources, k, Look::Pending),
-            DomainReg::InClrIp(k) => word_shown(&self.sources, k, Look::Input),
-            DomainReg::SetIe(k) => word_shown(&self.sources, k, Look::Enable),
+            DomainReg::SourceCfg(i) => sourcecfg_at(entries, i, self.sources.leaf()),
+            DomainReg::SetIp(k) => word_shown(entries, k, Look::Pending),
+            DomainReg::InClrIp(k) => word_shown(entries, k, Look::Input),
+            DomainReg::SetIe(k) => word_shown(entries, k, Look::Enable),
             DomainReg::GenMsi => self.genmsi,
-            DomainReg::Target(i) => target_at(&self.sources, i),
+            DomainReg::Target(i) => target_at(entries, i),
             _ => 0,
         }
     }
@@ -104,7 +93,7 @@ impl Domain {
     fn domaincfg(&self) -> u32
         ensures { result ≡ domain_read self.now DomainReg.DomainCfg }
     {
-        domaincfg_read(self.on, self.msi)
+        domaincfg_read(self.on, self.delivers_by_msi())
     }
 
     /// Writes a register; where none is there, nothing is done.
@@ -116,26 +105,25 @@ impl Domain {
         ensures domain { self.new
             ≡ with_sources (domain_after reg value self.old) self.new.sources }
     {
-        let msi = self.msi;
         let sources = &mut self.sources;
+        let number = u64::from(value);
+        let swapped = u64::from(swap32(value));
         match reg {
             DomainReg::DomainCfg => self.write_domaincfg(domaincfg_kept(value)),
-            DomainReg::SourceCfg(i) => configure_one(sources, i, self.leaf, msi, value),
-            DomainReg::SetIp(k) => touch_word(sources, k, value, Touch::SetPending, msi),
+            DomainReg::SourceCfg(i) => sources.change_named(i, Change::Configure(value)),
+            DomainReg::SetIp(k) => sources.touch_word(k, value, Touch::SetPending),
             DomainReg::SetIpNum | DomainReg::SetIpNumLe => {
-                touch_one(sources, u64::from(value), Touch::SetPending, msi);
+                sources.change(number, Change::Touch(Touch::SetPending));
             }
-            DomainReg::SetIpNumBe => {
-                touch_one(sources, u64::from(swap32(value)), Touch::SetPending, msi);
-            }
-            DomainReg::InClrIp(k) => touch_word(sources, k, value, Touch::ClearPending, msi),
-            DomainReg::ClrIpNum => touch_one(sources, u64::from(value), Touch::ClearPending, msi),
-            DomainReg::SetIe(k) => touch_word(sources, k, value, Touch::SetEnable, msi),
-            DomainReg::SetIeNum => touch_one(sources, u64::from(value), Touch::SetEnable, msi),
-            DomainReg::ClrIe(k) => touch_word(sources, k, value, Touch::ClearEnable, msi),
-            DomainReg::ClrIeNum => touch_one(sources, u64::from(value), Touch::ClearEnable, msi),
+            DomainReg::SetIpNumBe => sources.change(swapped, Change::Touch(Touch::SetPending)),
+            DomainReg::InClrIp(k) => sources.touch_word(k, value, Touch::ClearPending),
+            DomainReg::ClrIpNum => sources.change(number, Change::Touch(Touch::ClearPending)),
+            DomainReg::SetIe(k) => sources.touch_word(k, value, Touch::SetEnable),
+            DomainReg::SetIeNum => sources.change(number, Change::Touch(Touch::SetEnable)),
+            DomainReg::ClrIe(k) => sources.touch_word(k, value, Touch::ClearEnable),
+            DomainReg::ClrIeNum => sources.change(number, Change::Touch(Touch::ClearEnable)),
             DomainReg::GenMsi => self.write_genmsi(value),
-            DomainReg::Target(i) => aim_one(sources, i, self.harts, msi, value),
+            DomainReg::Target(i) => sources.change(u64::from(i), Change::Aim(value)),
             _ => {}
         }
     }
@@ -149,19 +137,18 @@ impl Domain {
     {
         let msi = is_by_msi(cfg);
         self.on = enables(cfg);
-        if msi != self.msi {
-            self.msi = msi;
+        if msi != self.delivers_by_msi() {
             self.genmsi = 0;
             self.genmsi_waits = false;
-            switch_all(&mut self.sources, msi);
+            self.sources.switch(msi);
         }
     }
 
     fn write_genmsi(&mut self, value: u32)
         ensures { self.new ≡ domain_after DomainReg.GenMsi value self.old }
     {
-        if self.msi {
-            self.genmsi = genmsi_kept(self.harts, value);
+        if self.delivers_by_msi() {
+            self.genmsi = genmsi_kept(self.sources.harts(), value);
             self.genmsi_waits = true;
         }
     }
@@ -172,7 +159,7 @@ impl Domain {
             (changed_at s (wired self.old.msi level)) }
         ensures domain { self.new ≡ with_sources self.old self.new.sources }
     {
-        wire_one(&mut self.sources, s, level, self.msi);
+        self.sources.change(u64::from(s), Change::Wire(level));
     }
 
     /// Gets a source that the root domain delegates to this one, its child: where that is new, the
@@ -182,7 +169,7 @@ impl Domain {
             (granted_at s Bool.true self.old.msi) }
         ensures domain { self.new ≡ with_sources self.old self.new.sources }
     {
-        grant_one(&mut self.sources, s, true, self.msi);
+        self.sources.change_named(s, Change::Grant(true));
     }
 
     /// Loses a source that the root domain does not delegate to this one, its child: where it did,
@@ -192,7 +179,7 @@ impl Domain {
             (granted_at s Bool.false self.old.msi) }
         ensures domain { self.new ≡ with_sources self.old self.new.sources }
     {
-        grant_one(&mut self.sources, s, false, self.msi);
+        self.sources.change_named(s, Change::Grant(false));
     }
 
     /// Claims a source, as `claimi` in direct delivery does: its pending bit falls, but for one at
@@ -202,7 +189,7 @@ impl Domain {
             (changed_at s (with_deed Bool.false Claimed)) }
         ensures domain { self.new ≡ with_sources self.old self.new.sources }
     {
-        claim_one(&mut self.sources, s);
+        self.sources.change(u64::from(s), Change::Claim);
     }
 
     /// Hears that the MSI of a source is sent: its pending bit falls.
@@ -211,7 +198,7 @@ impl Domain {
             (changed_at s (with_deed Bool.true Forwarded)) }
         ensures domain { self.new ≡ with_sources self.old self.new.sources }
     {
-        forward_one(&mut self.sources, s);
+        self.sources.change(u64::from(s), Change::Forward);
     }
 
     /// Takes what `genmsi` keeps, where an MSI that it asked for is still to be sent, which is then
@@ -249,21 +236,22 @@ impl Domain {
         requires there { s < length self.now.sources }
         ensures { result.now ≡ (entry_at self.now.sources s).source }
     {
-        self.sources[s as usize].wired()
+        self.sources.entries()[s as usize].wired()
     }
 
     /// Tells the enable bit of a source, false where the source isn't there.
     pub fn enabled(&self, s: u32) -> bool
         ensures { result ≡ (entry_at self.now.sources s).enabled }
     {
-        (s as usize) < self.sources.len() && self.sources[s as usize].enabled()
+        let entries = self.sources.entries();
+        (s as usize) < entries.len() && entries[s as usize].enabled()
     }
 
     /// Gives the `target` of a source, 0 where the source isn't there.
     pub fn target(&self, s: u32) -> u32
         ensures { result ≡ (entry_at self.now.sources s).target }
     {
-        match self.sources.get(s as usize) {
+        match self.sources.entries().get(s as usize) {
             Some(entry) => entry.target(),
             None => 0,
         }
@@ -280,20 +268,55 @@ impl Domain {
     pub fn delivers_by_msi(&self) -> bool
         ensures { result ≡ self.now.msi }
     {
-        self.msi
+        self.sources.delivers_by_msi()
+    }
+
+    /// Gives the candidate of a hart at a place, counted from 0: of its sources that are pending and
+    /// enabled, in rising order by priority and then by number, the priority and the number; `None`
+    /// exactly past the end. By MSIs there is none, nor for a hart that isn't there.
+    ///
+    /// AIA 1.0, APLIC, "Interrupt delivery directly by the APLIC".
+    pub fn candidate(&self, hart: u32, place: usize) -> Option<(u32, u32)>
+        ensures pair { result ≡ slice_get (candidates self.now hart) place }
+        ensures rising { IsRising (candidates self.now hart) }
+        ensures small { All IsPairOfSource (candidates self.now hart) }
+    {
+        self.sources.candidate(hart, place)
+    }
+
+    /// Gives word `k`, 0 to 15, of the sources that are to be forwarded: bit `b` is a one exactly
+    /// where `ready` gives source `64 * k + b`.
+    ///
+    /// AIA 1.0, APLIC, "Interrupt forwarding by MSIs".
+    pub fn ready_word(&self, k: u32) -> u64
+        requires { k < 16 }
+        ensures { result ≡ word_of (is_ready self.now) (64 * k) 64 }
+    {
+        if self.on {
+            self.sources.waiting_word(k)
+        } else {
+            0
+        }
+    }
+
+    /// Tells whether a source is to be forwarded.
+    pub fn has_ready(&self) -> bool
+        ensures { IsFalse result ↔ ((s : ℕ) → is_ready self.now s ≡ false) }
+    {
+        self.on && self.sources.has_waiting()
     }
 
     /// Gives the number after the greatest source's.
     pub(crate) fn places(&self) -> u32
         ensures { result ≡ length self.now.sources }
     {
-        self.sources.len() as u32
+        self.sources.entries().len() as u32
     }
 
     /// Tells whether a source is to be forwarded.
     pub(crate) fn is_ready(&self, s: u32) -> bool
         ensures { result ≡ is_ready self.now s }
     {
-        self.msi && self.on && is_waiting(&self.sources, s)
+        self.delivers_by_msi() && self.on && is_waiting(self.sources.entries(), s)
     }
 }

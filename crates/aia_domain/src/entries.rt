@@ -3,13 +3,10 @@
 
 ghost use Rattle.std.specs.Prelude.{◌≡◌, ◌*◌, ◌≤◌, Bool, nat_eq, slice_get, length, All, IfOk, if◌then◌else◌};
 ghost use Rattle.aia_word.specs.Sets.{word_of};
-ghost use Rattle.aia_source.specs.Wired.SourceDeed.{Claimed, Forwarded};
-ghost use Rattle.aia_source.specs.Registers.{in_word, touch_where};
-ghost use Rattle.aia_domain.specs.Entry.{EachSource, new_entry, changed_at, touched, written_at, all_switched, switched, aimed, sourcecfg_written, granted_at, wired, with_deed, sourcecfg_at, target_at, bit_at_source, waits_at};
+ghost use Rattle.aia_domain.specs.Entry.{EachSource, new_entry, changed_at, changed_by, all_switched, switched, sourcecfg_at, target_at, bit_at_source, waits_at};
+ghost use Rattle.aia_domain.specs.Kept.{aim_at};
 
-use crate::entry::{Entry, Look};
-use aia_regs::bit;
-use aia_source::Touch;
+use crate::entry::{Aim, Change, Entry, Look};
 use std::alloc::{AllocError, Global};
 
 /// The sources that a register has in one word.
@@ -27,47 +24,20 @@ pub(crate) fn new_entries(alloc: Global, count: u32) -> Result<Vec<Entry>, Alloc
     Ok(entries)
 }
 
-/// Touches one source, where it is there.
-pub(crate) fn touch_one(entries: &mut [Entry], s: u64, touch: Touch, msi: bool)
+/// Does a change to one source, where it is there.
+pub(crate) fn change_one(
+    entries: &mut [Entry],
+    s: u64,
+    change: Change,
+    leaf: bool,
+    harts: u32,
+    msi: bool,
+)
     ensures { EachSource entries.old entries.new
-        (λ i. touched msi (touch_where (nat_eq s) touch i)) }
+        (changed_at s (changed_by change leaf harts msi)) }
 {
     if s < entries.len() as u64 {
-        entries[s as usize].touch(touch, msi);
-    }
-}
-
-/// Touches the sources of word `k` whose bits are ones in `value`.
-pub(crate) fn touch_word(entries: &mut [Entry], k: u32, value: u32, touch: Touch, msi: bool)
-    ensures { EachSource entries.old entries.new
-        (λ s. touched msi (touch_where (in_word k value) touch s)) }
-{
-    for place in 0..WORD {
-        if bit(u64::from(value), place) {
-            let s = u64::from(WORD) * u64::from(k) + u64::from(place);
-            touch_one(entries, s, touch, msi);
-        }
-    }
-}
-
-/// Writes the `sourcecfg` of a source, where it is there.
-pub(crate) fn configure_one(entries: &mut [Entry], s: u32, leaf: bool, msi: bool, value: u32)
-    ensures { EachSource entries.old entries.new (written_at s leaf msi value) }
-{
-    if s == 0 {
-        return;
-    }
-    if (s as usize) < entries.len() {
-        entries[s as usize].write_sourcecfg(leaf, msi, value);
-    }
-}
-
-/// Writes the `target` of a source, where it is there.
-pub(crate) fn aim_one(entries: &mut [Entry], s: u32, harts: u32, msi: bool, value: u32)
-    ensures { EachSource entries.old entries.new (changed_at s (aimed harts msi value)) }
-{
-    if (s as usize) < entries.len() {
-        entries[s as usize].aim(harts, msi, value);
+        entries[s as usize].change(change, leaf, harts, msi);
     }
 }
 
@@ -85,45 +55,6 @@ fn switch_one(entries: &mut [Entry], s: usize, msi: bool)
 {
     if s < entries.len() {
         entries[s].switch(msi);
-    }
-}
-
-/// Has the child domain get a source, or lose it.
-pub(crate) fn grant_one(entries: &mut [Entry], s: u32, given: bool, msi: bool)
-    ensures { EachSource entries.old entries.new (granted_at s given msi) }
-{
-    if s == 0 {
-        return;
-    }
-    if (s as usize) < entries.len() {
-        entries[s as usize].grant(given, msi);
-    }
-}
-
-/// Gives the wire of a source a level, where it is there.
-pub(crate) fn wire_one(entries: &mut [Entry], s: u32, level: bool, msi: bool)
-    ensures { EachSource entries.old entries.new (changed_at s (wired msi level)) }
-{
-    if (s as usize) < entries.len() {
-        entries[s as usize].wire(level, msi);
-    }
-}
-
-/// Claims a source.
-pub(crate) fn claim_one(entries: &mut [Entry], s: u32)
-    ensures { EachSource entries.old entries.new (changed_at s (with_deed Bool.false Claimed)) }
-{
-    if (s as usize) < entries.len() {
-        entries[s as usize].claim();
-    }
-}
-
-/// Has a source hear that its MSI is sent.
-pub(crate) fn forward_one(entries: &mut [Entry], s: u32)
-    ensures { EachSource entries.old entries.new (changed_at s (with_deed Bool.true Forwarded)) }
-{
-    if (s as usize) < entries.len() {
-        entries[s as usize].forward();
     }
 }
 
@@ -153,6 +84,17 @@ fn bit_of(entries: &[Entry], s: u64, look: Look) -> u32
     ensures small { result ≤ 1 }
 {
     u32::from(s < entries.len() as u64 && entries[s as usize].bit(look))
+}
+
+/// Tells where a source is aimed, where it waits; one that isn't there does not.
+pub(crate) fn aim_at(entries: &[Entry], s: u64) -> Option<Aim>
+    ensures { result ≡ aim_at entries.now s }
+{
+    if s < entries.len() as u64 {
+        entries[s as usize].aim_of()
+    } else {
+        None
+    }
 }
 
 /// Tells whether a source is pending and enabled; one that isn't there is not.

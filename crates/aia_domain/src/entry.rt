@@ -1,11 +1,11 @@
-ghost use Rattle.std.specs.Prelude.{◌≡◌, ◌≤◌, Bool, Some};
+ghost use Rattle.std.specs.Prelude.{◌≡◌, Some};
 ghost use Rattle.aia_source.specs.Wired.{is_active};
-ghost use Rattle.aia_source.specs.Wired.SourceDeed.{Claimed, Forwarded};
-ghost use Rattle.aia_domain.specs.Entry.{EntryState, new_entry, with_deed, touched, configured, switched, aimed, sourcecfg_written, granted, wired, sourcecfg_shown, bit_shown, waits};
+ghost use Rattle.aia_domain.specs.Entry.{EntryState, new_entry, changed_by, touched, configured, switched, aimed, sourcecfg_written, granted, sourcecfg_shown, bit_shown, waits};
+ghost use Rattle.aia_domain.specs.Kept.{aim_of};
 
 use aia_source::{
-    DELEGATED, Mode, Touch, Wired, child_sourcecfg, delegates, first_target, mode_number, mode_of,
-    root_sourcecfg, target_kept,
+    DELEGATED, Mode, Touch, Wired, child_sourcecfg, delegates, first_target, hart_of, mode_number,
+    mode_of, priority_of, root_sourcecfg, target_kept,
 };
 use std::marker::Model;
 
@@ -18,6 +18,34 @@ pub enum Look {
     Input,
     /// `setie`: the enable bit.
     Enable,
+}
+
+/// What is done to one source of a domain.
+#[derive(Clone, Copy, Debug, PartialEq, Eq)]
+pub enum Change {
+    /// A register touches its pending or its enable bit.
+    Touch(Touch),
+    /// Its `sourcecfg` is written.
+    Configure(u32),
+    /// Its `target` is written.
+    Aim(u32),
+    /// The root domain delegates it to this one, its child, or does not.
+    Grant(bool),
+    /// Its wire gets a level.
+    Wire(bool),
+    /// A load of `claimi` shows it.
+    Claim,
+    /// Its MSI is sent.
+    Forward,
+}
+
+/// Where a source that is pending and enabled is aimed in direct delivery.
+#[derive(Clone, Copy, Debug)]
+pub struct Aim {
+    /// The hart index of its `target`.
+    pub hart: u32,
+    /// The priority of its `target`.
+    pub priority: u32,
 }
 
 /// What a domain keeps of one source.
@@ -106,7 +134,36 @@ impl Entry {
         self.wired.pending() && self.enabled
     }
 
-    pub(crate) fn touch(&mut self, touch: Touch, msi: bool)
+    /// Tells where it is aimed, where it waits.
+    pub(crate) fn aim_of(&self) -> Option<Aim>
+        ensures { result ≡ aim_of self.now }
+    {
+        if self.waits() {
+            Some(Aim {
+                hart: hart_of(self.target),
+                priority: priority_of(self.target),
+            })
+        } else {
+            None
+        }
+    }
+
+    /// Does a change to it.
+    pub(crate) fn change(&mut self, change: Change, leaf: bool, harts: u32, msi: bool)
+        ensures { self.new ≡ changed_by change leaf harts msi self.old }
+    {
+        match change {
+            Change::Touch(touch) => self.touch(touch, msi),
+            Change::Configure(value) => self.write_sourcecfg(leaf, msi, value),
+            Change::Aim(value) => self.aim(harts, msi, value),
+            Change::Grant(given) => self.grant(given, msi),
+            Change::Wire(level) => self.wired.wire(level, msi),
+            Change::Claim => self.wired.clear(false),
+            Change::Forward => self.wired.forwarded(),
+        }
+    }
+
+    fn touch(&mut self, touch: Touch, msi: bool)
         ensures { self.new ≡ touched msi (Some touch) self.old }
     {
         match touch {
@@ -132,7 +189,7 @@ impl Entry {
     }
 
     /// Writes its `sourcecfg`.
-    pub(crate) fn write_sourcecfg(&mut self, leaf: bool, msi: bool, value: u32)
+    fn write_sourcecfg(&mut self, leaf: bool, msi: bool, value: u32)
         ensures { self.new ≡ sourcecfg_written leaf msi value self.old }
     {
         if !leaf {
@@ -156,7 +213,7 @@ impl Entry {
     }
 
     /// Writes its `target`.
-    pub(crate) fn aim(&mut self, harts: u32, msi: bool, value: u32)
+    fn aim(&mut self, harts: u32, msi: bool, value: u32)
         ensures { self.new ≡ aimed harts msi value self.old }
     {
         self.target = if self.is_active() {
@@ -167,30 +224,12 @@ impl Entry {
     }
 
     /// Comes to the child domain, or leaves it.
-    pub(crate) fn grant(&mut self, given: bool, msi: bool)
+    fn grant(&mut self, given: bool, msi: bool)
         ensures { self.new ≡ granted given msi self.old }
     {
         if self.delegated != given {
             self.configure(Mode::Inactive, msi);
             self.delegated = given;
         }
-    }
-
-    pub(crate) fn wire(&mut self, level: bool, msi: bool)
-        ensures { self.new ≡ wired msi level self.old }
-    {
-        self.wired.wire(level, msi);
-    }
-
-    pub(crate) fn claim(&mut self)
-        ensures { self.new ≡ with_deed Bool.false Claimed self.old }
-    {
-        self.wired.clear(false);
-    }
-
-    pub(crate) fn forward(&mut self)
-        ensures { self.new ≡ with_deed Bool.true Forwarded self.old }
-    {
-        self.wired.forwarded();
     }
 }

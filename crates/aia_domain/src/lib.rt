@@ -4,8 +4,10 @@
 mod domain;
 mod entries;
 mod entry;
+mod kept;
 pub mod laws;
 mod ready;
+mod sources;
 
 pub use domain::Domain;
 pub use ready::Ready;

@@ -1,10 +1,10 @@
 -- The pairs of some numbers in rising order, and what becomes of them where one number changes.
 use Rattle.std.proofs.Common.{◌≡◌, ℕ, zero, suc, ◌+◌, ◌<◌, ◌≤◌, Bool, true, false, cond, nat_eq, List, [], ◌∷◌, length, Option, Some, None, inl, inr, refl, sym, ap, subst, ◌∙◌, arith}
-use Rattle.std.specs.List.{AllPairs}
+use Rattle.std.specs.List.{All}
 use Rattle.std.proofs.lemmas.Bool.{cond-true, cond-false, cases_eq, eq-eqb, ne_eqb}
 use Rattle.aia_source.specs.Top.{Pair, ComesFirst}
 use Rattle.aia_waiting.specs.Order.{comes_before, is_pair, IsRising, put_in, taken_out, put_if, out_if, ordered}
-use Rattle.aia_waiting.proofs.OrderLemmas.{Before, is_before, before_is, not_before, not_before_is, first_before, before_comes_first, after_other, same_pair, put_length, put_rising}
+use Rattle.aia_waiting.proofs.OrderLemmas.{Before, is_before, before_is, not_before, not_before_is, first_before, before_comes_first, after_other, same_pair, put_length, put_all, put_rising}
 
 -- ---- one pair more, and one less
 
@@ -127,3 +127,12 @@ ordered_room c d p s from count low high same is =
     let all = ordered_length d from count in
     let e = ap length (sym (ordered_changed c d s from count low high same) ∙ ap (λ o. put_if o (out_if (c s) (ordered c from count))) is) in
     let more = put_length p (out_if (c s) (ordered c from count)) in omega (arith, all, e, more)
+
+-- what holds of the pair of each number holds of all of them
+pub ordered_all : (P : Pair → Type 0) (c : ℕ → Option Pair) (from count : ℕ) → ((s : ℕ) (p : Pair) → from ≤ s → s < from + count → c s ≡ Some p → P p) → All P (ordered c from count)
+ordered_all P c from zero each = subst (All P) (sym (ordered-none c from)) (λ k d low. absurd (omega arith))
+ordered_all P c from (suc count) each = subst (All P) (sym (ordered-suc c from count)) (at (c from) refl (ordered_all P c (suc from) count (λ s p a b. each s p (omega arith) (omega arith))))
+  where
+    at : (o : Option Pair) → c from ≡ o → All P (ordered c (suc from) count) → All P (put_if o (ordered c (suc from) count))
+    at None e rest = rest
+    at (Some p) e rest = put_all P p (ordered c (suc from) count) (each from p (omega arith) (omega arith) e) rest

@@ -15,9 +15,11 @@ same_word a b k same = word_from_bits b (64 * k) (word_of a (64 * k) 64) (word_o
 pub same_some : (a b : ℕ → Bool) (k : ℕ) → ((i : ℕ) → i < 64 → a (64 * k + i) ≡ b (64 * k + i)) → has_some a k ≡ has_some b k
 same_some a b k same = ap (λ w. not (nat_eq w 0)) (same_word a b k same)
 
-pub none_some : (a : ℕ → Bool) (k : ℕ) → ((s : ℕ) → a s ≡ false) → has_some a k ≡ false
-none_some a k none =
-    ap (λ w. not (nat_eq w 0)) (sym (word_from_bits a (64 * k) 0 (omega arith) (λ i low. has_bit-zero i ∙ sym (none (64 * k + i)))))
+pub none_word : (a : ℕ → Bool) (from : ℕ) → ((s : ℕ) → a s ≡ false) → 0 ≡ word_of a from 64
+none_word a from none = word_from_bits a from 0 (omega arith) (λ i low. has_bit-zero i ∙ sym (none (from + i)))
+
+none_some : (a : ℕ → Bool) (k : ℕ) → ((s : ℕ) → a s ≡ false) → has_some a k ≡ false
+none_some a k none = ap (λ w. not (nat_eq w 0)) (sym (none_word a (64 * k) none))
 
 pub none_in_word : (a : ℕ → Bool) (s : ℕ) → has_some a (s / 64) ≡ false → a s ≡ false
 none_in_word a s none =

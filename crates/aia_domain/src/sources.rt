@@ -1,0 +1,231 @@
+//! The sources of a domain, with what is kept beside them so that nothing is searched: of each hart
+//! its candidates in direct delivery, and by MSIs which sources wait.
+
+ghost use Rattle.std.specs.Prelude.{◌≡◌, ℕ, suc, ◌*◌, ◌<◌, ◌≤◌, ◌↔◌, ◌&&◌, length, slice_get, All, IfOk, IsFalse, true, false};
+ghost use Rattle.aia_word.specs.Sets.{word_of};
+ghost use Rattle.aia_regs.specs.declared.limits.TheConstants.{HARTS, SOURCES};
+ghost use Rattle.aia_source.specs.Registers.{in_word, touch_where};
+ghost use Rattle.aia_domain.specs.Entry.{EachSource, changed_at, changed_if_named, changed_by, touched, all_switched, waits_at};
+ghost use Rattle.aia_domain.specs.Kept.{IsNewSources, with_entries, Keeps, list_of};
+ghost use Rattle.aia_domain.specs.Domain.{IsPairOfSource};
+ghost use Rattle.aia_waiting.specs.Order.{IsRising};
+
+use crate::entries::{aim_at, change_one, new_entries, switch_all};
+use crate::entry::{Aim, Change, Entry};
+use crate::kept::Kept;
+use aia_regs::bit;
+use aia_source::Touch;
+use std::alloc::{AllocError, Global};
+use std::marker::Model;
+
+/// The sources that a register has in one word.
+const WORD: u32 = 32;
+
+/// The sources of a domain, by their numbers, and what waits of them.
+#[derive(Drop)]
+pub(crate) struct Sources {
+    leaf: bool,
+    harts: u32,
+    msi: bool,
+    /// By number; the one of number 0 is no source, and inactive for good.
+    entries: Vec<Entry>,
+    kept: Kept,
+}
+
+impl Model for Sources {
+    ghost use Rattle.std.specs.Prelude.{◌≡◌, suc, ◌<◌, ◌≤◌, length};
+    ghost use Rattle.aia_regs.specs.declared.limits.TheConstants.{HARTS, SOURCES};
+    ghost use Rattle.aia_domain.specs.Kept.{SourcesState, Keeps};
+
+    ghost Value = { SourcesState };
+
+    ghost view = { λ x. record {
+      leaf = x.leaf;
+      harts = x.harts;
+      msi = x.msi;
+      entries = x.entries.items;
+    } };
+
+    ghost invariant = { λ x. (x.harts ≤ HARTS) × (0 < length x.entries.items)
+        × (length x.entries.items ≤ suc SOURCES) × (length x.kept.fronts ≡ x.harts)
+        × Keeps x.msi x.entries.items x.kept };
+}
+
+impl Sources {
+    /// Makes so many wired sources of a domain, which are all inactive, and that delivers directly.
+    pub(crate) fn new(
+        alloc: Global,
+        sources: u32,
+        harts: u32,
+        leaf: bool,
+    ) -> Result<Sources, AllocError>
+        requires some { 1 ≤ sources }
+        requires few { sources ≤ SOURCES }
+        requires harts { harts ≤ HARTS }
+        ensures { IfOk result (IsNewSources sources harts leaf) }
+    {
+        let entries = new_entries(alloc, sources + 1)?;
+        let kept = Kept::new(alloc, harts, sources)?;
+        Ok(Sources {
+            leaf,
+            harts,
+            msi: false,
+            entries,
+            kept,
+        })
+    }
+
+    /// Gives what is kept of each source, by its number.
+    pub(crate) fn entries(&self) -> &[Entry]
+        ensures entries { result.now ≡ self.now.entries }
+        ensures some { 0 < length self.now.entries }
+        ensures few { length self.now.entries ≤ suc SOURCES }
+    {
+        &self.entries
+    }
+
+    /// Tells whether the domain delivers by MSIs.
+    pub(crate) fn delivers_by_msi(&self) -> bool
+        ensures { result ≡ self.now.msi }
+    {
+        self.msi
+    }
+
+    /// Tells how many harts there are.
+    pub(crate) fn harts(&self) -> u32
+        ensures { result ≡ self.now.harts }
+    {
+        self.harts
+    }
+
+    /// Tells whether the domain is a leaf.
+    pub(crate) fn leaf(&self) -> bool
+        ensures { result ≡ self.now.leaf }
+    {
+        self.leaf
+    }
+
+    /// Does a change to one source, where it is there; number 0 names none.
+    pub(crate) fn change_named(&mut self, s: u32, change: Change)
+        ensures sources { EachSource self.old.entries self.new.entries (changed_if_named s
+            (changed_by change self.old.leaf self.old.harts self.old.msi)) }
+        ensures others { self.new ≡ with_entries self.old self.new.entries }
+    {
+        if s > 0 {
+            self.change(u64::from(s), change);
+        }
+    }
+
+    /// Touches the sources of word `k` whose bits are ones in `value`.
+    pub(crate) fn touch_word(&mut self, k: u32, value: u32, touch: Touch)
+        ensures sources { EachSource self.old.entries self.new.entries
+            (λ s. touched self.old.msi (touch_where (in_word k value) touch s)) }
+        ensures others { self.new ≡ with_entries self.old self.new.entries }
+    {
+        for place in 0..WORD {
+            if bit(u64::from(value), place) {
+                let s = u64::from(WORD) * u64::from(k) + u64::from(place);
+                self.change(s, Change::Touch(touch));
+            }
+        }
+    }
+
+    /// Has all sources hear how the domain delivers from now on.
+    pub(crate) fn switch(&mut self, msi: bool)
+        ensures sources { EachSource self.old.entries self.new.entries (all_switched msi) }
+        ensures others { self.new
+            ≡ record self.old { msi = msi; entries = self.new.entries } }
+    {
+        self.msi = msi;
+        switch_all(&mut self.entries, msi);
+        self.kept.begin(&self.entries, msi);
+    }
+
+    /// Gives the candidate of a hart at a place, in direct delivery.
+    pub(crate) fn candidate(&self, hart: u32, place: usize) -> Option<(u32, u32)>
+        ensures pair { result ≡ slice_get (list_of self.now hart) place }
+        ensures rising { IsRising (list_of self.now hart) }
+        ensures small { All IsPairOfSource (list_of self.now hart) }
+    {
+        self.kept.candidate(hart, place)
+    }
+
+    /// Gives word `k`, 0 to 15, of the sources that wait for an MSI.
+    pub(crate) fn waiting_word(&self, k: u32) -> u64
+        requires { k < 16 }
+        ensures { result
+            ≡ word_of (λ s. self.now.msi && waits_at self.now.entries s) (64 * k) 64 }
+    {
+        self.kept.word(k)
+    }
+
+    /// Tells whether a source waits for an MSI.
+    pub(crate) fn has_waiting(&self) -> bool
+        ensures { IsFalse result
+            ↔ ((s : ℕ) → (self.now.msi && waits_at self.now.entries s) ≡ false) }
+    {
+        self.kept.has_waiting()
+    }
+
+    /// Does a change to one source, where it is there.
+    pub(crate) fn change(&mut self, s: u64, change: Change)
+        ensures sources { EachSource self.old.entries self.new.entries
+            (changed_at s (changed_by change self.old.leaf self.old.harts self.old.msi)) }
+        ensures others { self.new ≡ with_entries self.old self.new.entries }
+    {
+        let (leaf, harts, msi) = (self.leaf, self.harts, self.msi);
+        change_kept(
+            &mut self.entries,
+            &mut self.kept,
+            s,
+            change,
+            leaf,
+            harts,
+            msi,
+        );
+    }
+}
+
+/// Does a change to one source, where it is there, and keeps what waits.
+fn change_kept(
+    entries: &mut [Entry],
+    kept: &mut Kept,
+    s: u64,
+    change: Change,
+    leaf: bool,
+    harts: u32,
+    msi: bool,
+)
+    requires few { length entries.old ≤ suc SOURCES }
+    requires keeps { Keeps msi entries.old kept.old }
+    ensures sources { EachSource entries.old entries.new
+        (changed_at s (changed_by change leaf harts msi)) }
+    ensures keeps { Keeps msi entries.new kept.new }
+    ensures lists { length kept.new.fronts ≡ length kept.old.fronts }
+{
+    if s >= entries.len() as u64 {
+        return;
+    }
+    let stood = aim_at(entries, s);
+    change_one(entries, s, change, leaf, harts, msi);
+    let stands = aim_at(entries, s);
+    if is_same(stood, stands) {
+        return;
+    }
+    if msi {
+        kept.tell(s as u32, stands.is_some());
+    } else if s > 0 {
+        kept.renew(s as u32, stood, stands);
+    }
+}
+
+/// Tells whether a source is aimed as it was.
+fn is_same(stood: Option<Aim>, stands: Option<Aim>) -> bool
+    ensures { result ≡ true → stood ≡ stands }
+{
+    match (stood, stands) {
+        (None, None) => true,
+        (Some(was), Some(is)) => was.hart == is.hart && was.priority == is.priority,
+        _ => false,
+    }
+}
