@@ -1,5 +1,5 @@
 -- The first pair of a rising list that a threshold lets through is the least of them.
-use Rattle.std.proofs.Common.{◌≡◌, ℕ, zero, suc, ◌-◌, ◌<◌, ◌≤◌, Bool, true, false, cond, ◌&&◌, nat_eq, List, [], ◌∷◌, length, slice_get, Option, Some, None, ◌⊎◌, inl, inr, refl, sym, ap, ◌∙◌, arith}
+use Rattle.std.proofs.Common.{◌≡◌, ℕ, zero, suc, ◌-◌, ◌<◌, ◌≤◌, Bool, true, false, cond, ◌&&◌, nat_eq, List, [], ◌∷◌, length, slice_get, Option, Some, None, IfSome, ◌⊎◌, inl, inr, refl, sym, ap, ◌∙◌, arith}
 use Rattle.std.specs.List.{All}
 use Rattle.std.proofs.lemmas.Bool.{cond-true, cond-false, or_parts, or_from, le-ltb, lt-ltb, ltb-false}
 use Rattle.std.proofs.lemmas.Option.{none-some, same_Some}
@@ -8,11 +8,8 @@ use Rattle.aia_source.proofs.ListLemmas.{pairs_tail}
 use Rattle.aia_source.proofs.TopLemmas.{lesser-none, least_pair-none, least_pair-suc}
 use Rattle.aia_word.specs.Top.{lets_through}
 use Rattle.aia_waiting.specs.Order.{comes_before, IsRising, put_in, put_if, ordered}
-use Rattle.aia_waiting.proofs.OrderLemmas.{is_before, not_before, put_all}
-use Rattle.aia_waiting.proofs.OrderedLemmas.{ordered_rising}
-use Rattle.aia_domain.specs.Entry.{EntryState, entry_at}
-use Rattle.aia_domain.specs.Domain.{DomainState}
-use Rattle.aia_direct.specs.Idc.{IdcState, candidate_at, top_shown}
+use Rattle.aia_waiting.proofs.OrderLemmas.{is_before, not_before}
+use Rattle.aia_waiting.proofs.OrderedLemmas.{ordered_all, ordered_rising}
 use Rattle.aia_direct.specs.Front.{if_through, through, first_through}
 
 -- ---- the first pair of a rising list
@@ -47,6 +44,14 @@ first_of_rising threshold p (q ∷ qs) rising found = ap (λ x. if_through thres
 pub first_of_none : (threshold : ℕ) (ps : List Pair) → ◌≡◌ {A = Option Pair} None (slice_get ps 0) → ◌≡◌ {A = Option Pair} None (first_through threshold ps)
 first_of_none threshold [] none = refl
 first_of_none threshold (q ∷ qs) none = absurd (none-some q none)
+
+pub first_all : (P : Pair → Type 0) (threshold : ℕ) (ps : List Pair) → All P ps → IfSome (first_through threshold ps) P
+first_all P threshold [] all = tt
+first_all P threshold (q ∷ qs) all = at (lets_through threshold q.0) (first_all P threshold qs (λ k d low. all (suc k) d (omega arith)))
+  where
+    at : (b : Bool) → IfSome (first_through threshold qs) P → IfSome (cond b (Some q) (first_through threshold qs)) P
+    at true rest = all 0 q (omega arith)
+    at false rest = rest
 
 -- ---- with one more
 
@@ -86,15 +91,9 @@ first_put threshold p (q ∷ qs) above rising = at (comes_before q p) refl (firs
 
 -- ---- all of a range
 
--- the pairs of a range have its numbers, and rise
+-- the pairs of a range have its numbers
 numbered : (candidate : ℕ → Option Pair) (from count : ℕ) → NamesItself candidate → All (λ (q : Pair). from ≤ q.1) (ordered candidate from count)
-unfolding ordered
-numbered candidate from zero own = λ k d low. absurd (omega arith)
-numbered candidate from (suc count) own = at (candidate from) refl (λ k d low. let high = numbered candidate (suc from) count own k d low in omega (arith, high))
-  where
-    at : (o : Option Pair) → candidate from ≡ o → All (λ (q : Pair). from ≤ q.1) (ordered candidate (suc from) count) → All (λ (q : Pair). from ≤ q.1) (put_if o (ordered candidate (suc from) count))
-    at None e rest = rest
-    at (Some p) e rest = put_all (λ (q : Pair). from ≤ q.1) p (ordered candidate (suc from) count) (omega (arith, own from p e)) rest
+numbered candidate from count own = ordered_all (λ (q : Pair). from ≤ q.1) candidate from count (λ s q low high is. omega (arith, own s q is))
 
 -- the first of the rising list that is let through is the least of those that are
 pub first_is_least : (threshold : ℕ) (candidate : ℕ → Option Pair) (from count : ℕ) → NamesItself candidate → first_through threshold (ordered candidate from count) ≡ least_pair (through threshold candidate) from count
@@ -109,36 +108,3 @@ first_is_least threshold candidate from (suc count) own =
         let at_from : p.1 ≡ from = own from p e in
         first_put threshold p (ordered candidate (suc from) count) (λ k d low. let high = numbered candidate (suc from) count own k d low in omega (arith, high, at_from)) (ordered_rising candidate (suc from) count)
 
--- ---- a hart's candidates in a domain
-
-abbrev pub waiting_pair : ℕ → ℕ → EntryState → Option Pair
-waiting_pair hart s x = pair_if (x.source.pending && x.enabled && nat_eq (hart_of x.target) hart) x.target s
-
-abbrev pub waiting_pair_at : List EntryState → ℕ → ℕ → Option Pair
-waiting_pair_at sources hart s = waiting_pair hart s (entry_at sources s)
-
-pair_names : (b : Bool) (t s : ℕ) (q : Pair) → pair_if b t s ≡ Some q → q.1 ≡ s
-pair_names true t s q e = ap (λ (p : Pair). p.1) (sym (same_Some (priority_of t, s) q e))
-pair_names false t s q e = absurd (none-some q e)
-
-held_pair : (a : Bool) (threshold t s : ℕ) → if_through threshold (pair_if a t s) ≡ pair_if (a && lets_through threshold (priority_of t)) t s
-held_pair true threshold t s = refl
-held_pair false threshold t s = refl
-
-regroup : (a b c d : Bool) → (a && b && c && d) ≡ ((a && b && c) && d)
-regroup true true c d = refl
-regroup true false c d = refl
-regroup false b c d = refl
-
-pub top_is_first : (c : IdcState) (d : DomainState) (hart : ℕ) → d.msi ≡ false → top_shown c d hart ≡ first_through c.ithreshold (ordered (waiting_pair_at d.sources hart) 1 (length d.sources - 1))
-top_is_first c d hart direct =
-    cond-false _ _ _ direct ∙ sym (first_is_least c.ithreshold (waiting_pair_at d.sources hart) 1 (length d.sources - 1) (λ s q. pair_names _ (entry_at d.sources s).target s q) ∙ ap (λ f. least_pair f 1 (length d.sources - 1)) same)
-  where
-    each : (s : ℕ) → through c.ithreshold (waiting_pair_at d.sources hart) s ≡ candidate_at d.sources hart c.ithreshold s
-    each s =
-        let x = entry_at d.sources s in
-        held_pair (x.source.pending && x.enabled && nat_eq (hart_of x.target) hart) c.ithreshold x.target s
-        ∙ ap (λ b. pair_if b x.target s) (sym (regroup x.source.pending x.enabled (nat_eq (hart_of x.target) hart) (lets_through c.ithreshold (priority_of x.target))))
-
-    same : through c.ithreshold (waiting_pair_at d.sources hart) ≡ candidate_at d.sources hart c.ithreshold
-    same = λ i s. each s i

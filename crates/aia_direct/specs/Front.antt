@@ -1,13 +1,8 @@
 -- A hart's candidates in rising order, and the first of them that a threshold lets through.
 -- AIA 1.0, APLIC, "Interrupt delivery directly by the APLIC".
-use Rattle.std.specs.Prelude.{ℕ, ◌^◌, ◌<◌, ◌≤◌, if◌then◌else◌, List, [], ◌∷◌, Option, Some, None}
-use Rattle.aia_regs.specs.declared.limits.TheConstants.{SOURCES}
+use Rattle.std.specs.Prelude.{ℕ, if◌then◌else◌, List, [], ◌∷◌, Option, Some, None}
 use Rattle.aia_source.specs.Top.{Pair}
 use Rattle.aia_word.specs.Top.{lets_through}
-
--- A pair that may be a source's: 8 bits of priority, and a number of a source that may be there.
-abbrev pub IsPairOfSource : Pair → Type 0
-IsPairOfSource p = (p.0 < 2 ^ 8) × (p.1 ≤ SOURCES)
 
 -- A pair, where there is one and the threshold lets its priority through.
 abbrev pub if_through : ℕ → Option Pair → Option Pair

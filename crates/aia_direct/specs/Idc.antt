@@ -1,9 +1,8 @@
 -- A hart's interrupt delivery control in a domain: what is on top for it, a claim, and its signal.
 -- AIA 1.0, APLIC, "Interrupt delivery directly by the APLIC".
-use Rattle.std.specs.Prelude.{ℕ, ◌-◌, ◌^◌, ◌<◌, ◌≤◌, Bool, false, not, ◌&&◌, ◌||◌, nat_eq, is_some, is_none, if◌then◌else◌, List, length, Option, Some, None}
+use Rattle.std.specs.Prelude.{ℕ, ◌-◌, Bool, false, not, ◌&&◌, ◌||◌, nat_eq, nat_le, is_some, is_none, if◌then◌else◌, List, length, Option, Some, None}
 use Rattle.aia_regs.specs.declared.domain_registers.DomainReg.{DomainReg}
 use Rattle.aia_regs.specs.declared.domain_registers.DomainReg.TheVariants.{IDelivery, IForce, IThreshold}
-use Rattle.aia_regs.specs.declared.limits.TheConstants.{SOURCES}
 use Rattle.aia_regs.specs.Fields.{field, bit_number}
 use Rattle.aia_regs.specs.Operations.{is_one}
 use Rattle.aia_source.specs.Wired.SourceDeed.{Claimed}
@@ -48,17 +47,13 @@ candidate hart threshold s x =
 abbrev pub candidate_at : List EntryState → ℕ → ℕ → ℕ → Option Pair
 candidate_at sources hart threshold s = candidate hart threshold s (entry_at sources s)
 
--- The least pair of the domain's sources; none where the domain delivers by MSIs.
+-- The least pair of the domain's sources; none where the domain delivers by MSIs, and for a hart
+-- that isn't there.
 -- Profile: none by MSIs.
 abbrev pub top_shown : IdcState → DomainState → ℕ → Option Pair
 top_shown c d hart =
-    if d.msi then None
+    if d.msi || nat_le d.harts hart then None
     else least_pair (candidate_at d.sources hart c.ithreshold) 1 (length d.sources - 1)
-
--- A pair that fits a register: 8 bits of priority, and a number of a source that may be there.
-abbrev pub IsSmall : Option Pair → Type 0
-IsSmall None = Unit {0}
-IsSmall (Some p) = (p.0 < 2 ^ 8) × (p.1 ≤ SOURCES)
 
 -- ---- a claim and the signal
 

@@ -1,9 +1,10 @@
-ghost use Rattle.std.specs.Prelude.{◌≡◌, ℕ, ◌+◌, ◌^◌, ◌<◌, ◌≤◌, List, All, slice_get, Option, Some};
+ghost use Rattle.std.specs.Prelude.{◌≡◌, ℕ, ◌+◌, ◌^◌, ◌<◌, ◌≤◌, List, All, slice_get, Option, Some, IfSome};
 ghost use Rattle.aia_regs.specs.declared.limits.TheConstants.{SOURCES};
 ghost use Rattle.aia_source.specs.Top.{Pair, topi_value};
 ghost use Rattle.aia_waiting.specs.Order.{IsRising};
 ghost use Rattle.aia_word.specs.Top.{lets_through};
-ghost use Rattle.aia_direct.specs.Front.{IsPairOfSource, if_through, first_through};
+ghost use Rattle.aia_domain.specs.Domain.{IsPairOfSource};
+ghost use Rattle.aia_direct.specs.Front.{if_through, first_through};
 
 use aia_regs::put_bits;
 
@@ -34,6 +35,7 @@ pub trait Front {
 /// takes one look at most, however many there are.
 pub fn front_search<T: Front>(front: &mut T, ithreshold: u32) -> u32
     ensures top { result ≡ topi_value (first_through ithreshold (T.pairs front.old)) }
+    ensures small { IfSome (first_through ithreshold (T.pairs front.old)) IsPairOfSource }
     ensures pairs { T.pairs front.new ≡ T.pairs front.old }
     ensures no_less { T.count front.old ≤ T.count front.new }
     ensures one_at_most { T.count front.new ≤ T.count front.old + 1 }

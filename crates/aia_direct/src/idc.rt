@@ -1,15 +1,18 @@
-ghost use Rattle.std.specs.Prelude.{◌≡◌, ◌<◌, ◌≤◌, ◌^◌, Bool, length, Some};
-ghost use Rattle.aia_regs.specs.declared.limits.TheConstants.{SOURCES};
-ghost use Rattle.aia_source.specs.Top.{lesser, topi_value};
-ghost use Rattle.aia_word.specs.Top.{lets_through};
-ghost use Rattle.aia_domain.specs.Entry.{EachSource};
-ghost use Rattle.aia_domain.specs.Domain.{with_sources};
-ghost use Rattle.aia_direct.specs.Idc.{new_idc, control_read, control_written, candidate_at, top_shown, IsSmall, claimed_top, control_claimed, signals_hart};
+ghost use Rattle.std.specs.Prelude.{◌≡◌, ◌+◌, ◌<◌, ◌≤◌, Bool, false, is_some, IfSome};
+ghost use Rattle.aia_regs.specs.Fields.{field};
+ghost use Rattle.aia_source.specs.Top.{topi_value};
+ghost use Rattle.aia_source.specs.Wired.SourceDeed.{Claimed};
+ghost use Rattle.aia_domain.specs.Entry.{EachSource, changed_at, with_deed};
+ghost use Rattle.aia_domain.specs.Domain.{with_sources, IsPairOfSource};
+ghost use Rattle.aia_direct.specs.Idc.{new_idc, control_read, control_written, top_shown, claimed_top, control_claimed, signals_hart};
 
+use crate::front::front_search;
+use crate::view::HartFront;
 use aia_domain::Domain;
-use aia_regs::{DomainReg, bit, bits, put_bits};
-use aia_source::{hart_of, priority_of};
-use std::marker::Model;
+use aia_regs::{DomainReg, bit, bits};
+use aia_steps::Steps;
+use std::marker::{Brand, Model};
+use std::sync::ledger::{Blank, Ledger};
 
 /// The interrupt delivery control of one hart in one domain: `idelivery`, `iforce` and
 /// `ithreshold`.
@@ -81,10 +84,27 @@ impl Idc {
 pub fn topi(idc: &Idc, domain: &Domain, hart: u32) -> u32
     ensures { result ≡ topi_value (top_shown idc.now domain.now hart) }
 {
-    match top(idc, domain, hart) {
-        Some((priority, s)) => topi_value(priority, s),
-        None => 0,
-    }
+    top(idc, domain, hart)
+}
+
+/// Gives what `topi` gives, and counts one step at most: the look at the hart's candidates.
+pub fn topi_counted<L: Ledger>(
+    idc: &Idc,
+    domain: &Domain,
+    hart: u32,
+    steps: &mut Steps<L>,
+) -> u32
+    ensures value { result ≡ topi_value (top_shown idc.now domain.now hart) }
+    ensures small { IfSome (top_shown idc.now domain.now hart) IsPairOfSource }
+    ensures no_less { steps.old ≤ steps.new }
+    ensures one_at_most { steps.new ≤ steps.old + 1 }
+{
+    let mut front = HartFront {
+        domain,
+        hart,
+        steps,
+    };
+    front_search(&mut front, idc.ithreshold)
 }
 
 /// Loads `claimi` of a hart: it reads what `topi` reads and claims the source that it shows,
@@ -103,16 +123,13 @@ pub fn claimi(idc: &mut Idc, domain: &mut Domain, hart: u32) -> u32
     if domain.delivers_by_msi() {
         return 0;
     }
-    match top(idc, domain, hart) {
-        Some((priority, s)) => {
-            domain.claimed(s);
-            topi_value(priority, s)
-        }
-        None => {
-            idc.iforce = false;
-            0
-        }
+    let top = top(idc, domain, hart);
+    if top != 0 {
+        claim_shown(domain, top);
+    } else {
+        idc.iforce = false;
     }
+    top
 }
 
 /// Tells whether the hart is signalled: the domain delivers directly and its interrupts are
@@ -125,66 +142,41 @@ pub fn signal(idc: &Idc, domain: &Domain, hart: u32) -> bool
     !domain.delivers_by_msi()
         && domain.is_enabled()
         && idc.idelivery
-        && (idc.iforce || top(idc, domain, hart).is_some())
+        && (idc.iforce || has_top(idc, domain, hart))
 }
 
-/// Gives the priority and the number of the source on top, `None` where none is.
-fn top(idc: &Idc, domain: &Domain, hart: u32) -> Option<(u32, u32)>
-    ensures value { result ≡ top_shown idc.now domain.now hart }
-    ensures small { IsSmall result }
+/// Claims the source whose number `topi` shows.
+fn claim_shown(domain: &mut Domain, top: u32)
+    ensures sources { EachSource domain.old.sources domain.new.sources
+        (changed_at (field top 25 16) (with_deed false Claimed)) }
+    ensures domain { domain.new ≡ with_sources domain.old domain.new.sources }
 {
-    if domain.delivers_by_msi() {
-        return None;
-    }
-    let threshold = idc.ithreshold;
-    let mut least = None;
-    for s in 1..domain.sources() + 1 {
-        least = lesser(least, candidate(domain, s, hart, threshold));
-    }
-    least
+    domain.claimed(bits(u64::from(top), 25, 16) as u32);
 }
 
-/// Gives the pair of a source, where it is to be shown to the hart.
-fn candidate(domain: &Domain, s: u32, hart: u32, threshold: u32) -> Option<(u32, u32)>
-    requires there { s < length domain.now.sources }
-    requires low { s ≤ SOURCES }
-    ensures value { result ≡ candidate_at domain.now.sources hart threshold s }
-    ensures small { IsSmall result }
+/// Tells whether a source is on top.
+#[tactic(auto, using(crate::proofs::TopLemmas::top_is_some))]
+fn has_top(idc: &Idc, domain: &Domain, hart: u32) -> bool
+    ensures { result ≡ is_some (top_shown idc.now domain.now hart) }
 {
-    let waits = domain.source(s).pending() && domain.enabled(s);
-    let target = domain.target(s);
-    let priority = priority_of(target);
-    if waits && hart_of(target) == hart && lets_through(threshold, priority) {
-        Some((priority, s))
-    } else {
-        None
-    }
+    top(idc, domain, hart) != 0
 }
 
-fn lets_through(threshold: u32, priority: u32) -> bool
-    ensures { result ≡ lets_through threshold priority }
+/// Gives what `topi` reads.
+fn top(idc: &Idc, domain: &Domain, hart: u32) -> u32
+    ensures value { result ≡ topi_value (top_shown idc.now domain.now hart) }
+    ensures small { IfSome (top_shown idc.now domain.now hart) IsPairOfSource }
 {
-    threshold == 0 || priority < threshold
+    top_in::<Brand>(idc, domain, hart, Blank::new(1))
 }
 
-/// Gives the lesser of two pairs, by priority; the first where they have the same one.
-fn lesser(first: Option<(u32, u32)>, second: Option<(u32, u32)>) -> Option<(u32, u32)>
-    requires first { IsSmall first }
-    requires second { IsSmall second }
-    ensures value { result ≡ lesser first second }
-    ensures small { IsSmall result }
+/// Gives what `topi` reads, by a look that is counted in a new ledger.
+fn top_in<L: Ledger>(idc: &Idc, domain: &Domain, hart: u32, ledger: Blank) -> u32
+    requires name { ledger.name ≡ L.name }
+    requires parts { ledger.parts ≡ L.parts }
+    requires some { 0 < L.parts }
+    ensures value { result ≡ topi_value (top_shown idc.now domain.now hart) }
+    ensures small { IfSome (top_shown idc.now domain.now hart) IsPairOfSource }
 {
-    match (first, second) {
-        (Some(p), Some(q)) => { if q.0 < p.0 { Some(q) } else { Some(p) } }
-        (Some(p), None) => Some(p),
-        (None, q) => q,
-    }
-}
-
-fn topi_value(priority: u32, s: u32) -> u32
-    requires priority { priority < 2 ^ 8 }
-    requires number { s ≤ SOURCES }
-    ensures { result ≡ topi_value (Some (priority, s)) }
-{
-    put_bits(put_bits(0, 25, 16, u64::from(s)), 7, 0, u64::from(priority)) as u32
+    topi_counted(idc, domain, hart, &mut Steps::<L>::new(ledger))
 }

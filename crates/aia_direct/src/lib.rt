@@ -4,6 +4,7 @@
 
 mod front;
 mod idc;
+mod view;
 
 pub use front::{Front, front_search};
-pub use idc::{Idc, claimi, signal, topi};
+pub use idc::{Idc, claimi, signal, topi, topi_counted};
