@@ -1,8 +1,11 @@
 //! What the definitions of this crate mean, as laws: each function does nothing, and its clauses
 //! are what was proved.
 
-ghost use Rattle.std.specs.Prelude.{◌≡◌, ℕ, ◌<◌, ◌≤◌, ◌↔◌, true, length, Contains, AllPairs};
-ghost use Rattle.aia_domain.specs.Domain.{DomainState, is_ready, ready_from};
+ghost use Rattle.std.specs.Prelude.{◌≡◌, ℕ, ◌<◌, ◌≤◌, ◌↔◌, true, false, length, Some, Contains, AllPairs};
+ghost use Rattle.aia_source.specs.Top.{Pair};
+ghost use Rattle.aia_waiting.specs.Order.{comes_before};
+ghost use Rattle.aia_domain.specs.Entry.{waiting_pair_at};
+ghost use Rattle.aia_domain.specs.Domain.{DomainState, is_ready, ready_from, candidates};
 
 /// The sources that `ready` gives are just those that are to be forwarded, each once, in rising
 /// order.
@@ -12,4 +15,17 @@ pub fn ready_sources_are_those_to_be_forwarded()
     ensures members { (d : DomainState) (from s : ℕ) → Contains (ready_from d from) s ↔
         ((from ≤ s) × (s < length d.sources) × (is_ready d s ≡ true)) }
     ensures rising { (d : DomainState) (from : ℕ) → AllPairs (λ x y. x < y) (ready_from d from) }
+{}
+
+/// The candidates of a hart are just the pairs of the sources that wait and are aimed at it, where
+/// the domain delivers directly and the hart is there; each comes before all that follow it, by
+/// priority and then by number.
+///
+/// AIA 1.0, APLIC, "Interrupt delivery directly by the APLIC".
+pub fn candidates_are_the_sources_that_wait_for_a_hart()
+    ensures members { (d : DomainState) (hart : ℕ) (p : Pair) → Contains (candidates d hart) p ↔
+        ((hart < d.harts) × (d.msi ≡ false) × (1 ≤ p.1) × (p.1 < length d.sources)
+        × (waiting_pair_at d.sources hart p.1 ≡ Some p)) }
+    ensures rising { (d : DomainState) (hart : ℕ)
+        → AllPairs (λ p q. comes_before p q ≡ true) (candidates d hart) }
 {}

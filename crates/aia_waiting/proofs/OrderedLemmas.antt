@@ -1,10 +1,13 @@
 -- The pairs of some numbers in rising order, and what becomes of them where one number changes.
-use Rattle.std.proofs.Common.{◌≡◌, ℕ, zero, suc, ◌+◌, ◌<◌, ◌≤◌, Bool, true, false, cond, nat_eq, List, [], ◌∷◌, length, Option, Some, None, inl, inr, refl, sym, ap, subst, ◌∙◌, arith}
-use Rattle.std.specs.List.{All}
-use Rattle.std.proofs.lemmas.Bool.{cond-true, cond-false, cases_eq, eq-eqb, ne_eqb}
-use Rattle.aia_source.specs.Top.{Pair, ComesFirst}
+use Rattle.std.proofs.Common.{◌≡◌, ℕ, zero, suc, ◌+◌, ◌<◌, ◌≤◌, Bool, true, false, cond, nat_eq, List, [], ◌∷◌, length, get_or, Option, Some, None, ◌⊎◌, inl, inr, refl, sym, ap, subst, ◌∙◌, arith}
+use Rattle.std.specs.List.{All, AllPairs, Contains}
+use Rattle.std.proofs.lemmas.List.Kept.{AllPairs-cons}
+use Rattle.std.proofs.lemmas.List.Elements.{All-cons}
+use Rattle.std.proofs.lemmas.Bool.{cond-true, cond-false, cases_eq, eq-eqb, ne_eqb, and_right}
+use Rattle.aia_source.specs.Top.{Pair, ComesFirst, NamesItself}
+use Rattle.aia_source.proofs.ListLemmas.{here, later, here_or_later, nowhere, pairs_tail}
 use Rattle.aia_waiting.specs.Order.{comes_before, is_pair, IsRising, put_in, taken_out, put_if, out_if, ordered}
-use Rattle.aia_waiting.proofs.OrderLemmas.{Before, is_before, before_is, not_before, not_before_is, first_before, before_comes_first, after_other, same_pair, put_length, put_all, put_rising}
+use Rattle.aia_waiting.proofs.OrderLemmas.{Before, is_before, before_is, not_before, not_before_is, first_before, before_first, before_comes_first, first_other, after_other, same_pair, put_length, put_all, put_rising}
 
 -- ---- one pair more, and one less
 
@@ -136,3 +139,88 @@ ordered_all P c from (suc count) each = subst (All P) (sym (ordered-suc c from c
     at : (o : Option Pair) → c from ≡ o → All P (ordered c (suc from) count) → All P (put_if o (ordered c (suc from) count))
     at None e rest = rest
     at (Some p) e rest = put_all P p (ordered c (suc from) count) (each from p (omega arith) (omega arith) e) rest
+
+-- ---- the list as a set
+
+pub in_put : (p q : Pair) (xs : List Pair) → Contains (put_in p xs) q → (p ≡ q) ⊎ Contains xs q
+in_put p q [] m = here_or_later p q [] m
+in_put p q (r ∷ rs) m = at (comes_before r p) m (in_put p q rs)
+  where
+    later_too : (p ≡ q) ⊎ Contains rs q → (p ≡ q) ⊎ Contains (r ∷ rs) q
+    later_too (inl e) = inl e
+    later_too (inr n) = inr (later r q rs n)
+
+    first : (r ≡ q) ⊎ Contains (put_in p rs) q → (Contains (put_in p rs) q → (p ≡ q) ⊎ Contains rs q) → (p ≡ q) ⊎ Contains (r ∷ rs) q
+    first (inl e) next = inr (subst (Contains (r ∷ rs)) e (here r rs))
+    first (inr n) next = later_too (next n)
+
+    at : (b : Bool) → Contains (cond b (r ∷ put_in p rs) (p ∷ r ∷ rs)) q → (Contains (put_in p rs) q → (p ≡ q) ⊎ Contains rs q) → (p ≡ q) ⊎ Contains (r ∷ rs) q
+    at true n next = first (here_or_later r q (put_in p rs) n) next
+    at false n next = here_or_later p q (r ∷ rs) n
+
+pub put_here : (p : Pair) (xs : List Pair) → Contains (put_in p xs) p
+put_here p [] = here p []
+put_here p (r ∷ rs) = at (comes_before r p) (put_here p rs)
+  where
+    at : (b : Bool) → Contains (put_in p rs) p → Contains (cond b (r ∷ put_in p rs) (p ∷ r ∷ rs)) p
+    at true next = later r p (put_in p rs) next
+    at false next = here p (r ∷ rs)
+
+pub put_keeps : (p q : Pair) (xs : List Pair) → Contains xs q → Contains (put_in p xs) q
+put_keeps p q [] m = nowhere q m
+put_keeps p q (r ∷ rs) m = at (comes_before r p) (here_or_later r q rs m) (put_keeps p q rs)
+  where
+    at : (b : Bool) → (r ≡ q) ⊎ Contains rs q → (Contains rs q → Contains (put_in p rs) q) → Contains (cond b (r ∷ put_in p rs) (p ∷ r ∷ rs)) q
+    at true (inl e) next = subst (Contains (r ∷ put_in p rs)) e (here r (put_in p rs))
+    at true (inr n) next = later r q (put_in p rs) (next n)
+    at false (inl e) next = later p q (r ∷ rs) (subst (Contains (r ∷ rs)) e (here r rs))
+    at false (inr n) next = later p q (r ∷ rs) (later r q rs n)
+
+-- a pair of the list is that of one of the numbers, and the other way round
+pub ordered_from : (c : ℕ → Option Pair) (from count : ℕ) (q : Pair) → Contains (ordered c from count) q → (s : ℕ) × (from ≤ s) × (s < from + count) × (c s ≡ Some q)
+ordered_from c from zero q m = nowhere q (subst (λ xs. Contains xs q) (ordered-none c from) m)
+ordered_from c from (suc count) q m = at (c from) refl (subst (λ xs. Contains xs q) (ordered-suc c from count) m) (ordered_from c (suc from) count q)
+  where
+    farther : (s : ℕ) × (suc from ≤ s) × (s < suc from + count) × (c s ≡ Some q) → (s : ℕ) × (from ≤ s) × (s < from + suc count) × (c s ≡ Some q)
+    farther f = (f.0, omega (arith, f.1), omega (arith, f.2), f.3)
+
+    either : (p : Pair) → c from ≡ Some p → (p ≡ q) ⊎ Contains (ordered c (suc from) count) q → (Contains (ordered c (suc from) count) q → (s : ℕ) × (suc from ≤ s) × (s < suc from + count) × (c s ≡ Some q)) → (s : ℕ) × (from ≤ s) × (s < from + suc count) × (c s ≡ Some q)
+    either p e (inl same) next = (from, omega arith, omega arith, e ∙ ap Some same)
+    either p e (inr n) next = farther (next n)
+
+    at : (o : Option Pair) → c from ≡ o → Contains (put_if o (ordered c (suc from) count)) q → (Contains (ordered c (suc from) count) q → (s : ℕ) × (suc from ≤ s) × (s < suc from + count) × (c s ≡ Some q)) → (s : ℕ) × (from ≤ s) × (s < from + suc count) × (c s ≡ Some q)
+    at None e n next = farther (next n)
+    at (Some p) e n next = either p e (in_put p q (ordered c (suc from) count) n) next
+
+pub ordered_has : (c : ℕ → Option Pair) (from count s : ℕ) (q : Pair) → from ≤ s → s < from + count → c s ≡ Some q → Contains (ordered c from count) q
+ordered_has c from count s q low high is =
+    subst (λ xs. Contains xs q) (sym (ordered_one c s from count low high ∙ ap (λ o. put_if o (ordered (except s c) from count)) is)) (put_here q (ordered (except s c) from count))
+
+-- ---- each pair comes before all that follow it, where each has its own number
+
+put_strict : (p : Pair) (xs : List Pair) → All (λ q. is_pair p q ≡ false) xs → AllPairs (λ p q. comes_before p q ≡ true) xs → AllPairs (λ p q. comes_before p q ≡ true) (put_in p xs)
+put_strict p [] others rising = λ i j d low within. absurd (omega arith)
+put_strict p (q ∷ qs) others rising = at (comes_before q p) refl (put_strict p qs (λ k d low. others (suc k) d (omega arith)) (pairs_tail (λ p q. comes_before p q ≡ true) q qs rising))
+  where
+    tail : All (λ r. comes_before q r ≡ true) qs
+    tail k d low = rising 0 (suc k) d (omega arith) (omega arith)
+
+    after : Before p q → All (λ r. comes_before p r ≡ true) qs
+    after first k d low = before_is p (get_or qs k d) (before_first p q (get_or qs k d) first (before_comes_first q (get_or qs k d) (is_before q (get_or qs k d) (tail k d low))))
+
+    at : (b : Bool) → comes_before q p ≡ b → AllPairs (λ p q. comes_before p q ≡ true) (put_in p qs) → AllPairs (λ p q. comes_before p q ≡ true) (cond b (q ∷ put_in p qs) (p ∷ q ∷ qs))
+    at true is rest = AllPairs-cons (λ p q. comes_before p q ≡ true) q (put_in p qs) (put_all (λ r. comes_before q r ≡ true) p qs is tail) rest
+    at false is rest =
+        let first = first_other p q (not_before q p is) (others 0 q (omega arith)) in
+        AllPairs-cons (λ p q. comes_before p q ≡ true) p (q ∷ qs) (All-cons (λ r. comes_before p r ≡ true) q qs (before_is p q first) (after first)) rising
+
+pub ordered_strict : (c : ℕ → Option Pair) (from count : ℕ) → NamesItself c → AllPairs (λ p q. comes_before p q ≡ true) (ordered c from count)
+ordered_strict c from zero own = subst (AllPairs (λ p q. comes_before p q ≡ true)) (sym (ordered-none c from)) (λ i j d low within. absurd (omega arith))
+ordered_strict c from (suc count) own = subst (AllPairs (λ p q. comes_before p q ≡ true)) (sym (ordered-suc c from count)) (at (c from) refl (ordered_strict c (suc from) count own))
+  where
+    other : (p : Pair) → c from ≡ Some p → All (λ q. is_pair p q ≡ false) (ordered c (suc from) count)
+    other p e = ordered_all (λ q. is_pair p q ≡ false) c (suc from) count (λ s q a b is. and_right (nat_eq p.0 q.0) (nat_eq p.1 q.1) (ne_eqb p.1 q.1 (λ same. omega (arith, same, own from p e, own s q is, a))))
+
+    at : (o : Option Pair) → c from ≡ o → AllPairs (λ p q. comes_before p q ≡ true) (ordered c (suc from) count) → AllPairs (λ p q. comes_before p q ≡ true) (put_if o (ordered c (suc from) count))
+    at None e rest = rest
+    at (Some p) e rest = put_strict p (ordered c (suc from) count) (other p e) rest

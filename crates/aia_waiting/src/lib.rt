@@ -3,6 +3,7 @@
 #![tactic(auto)]
 
 mod candidates;
+pub mod laws;
 mod ready_bits;
 
 pub use candidates::Candidates;

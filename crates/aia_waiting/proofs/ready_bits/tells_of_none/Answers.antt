@@ -1,5 +1,3 @@
-use Rattle.std.proofs.Common.{sym, subst}
-use Rattle.std.specs.Bool.{IsTrue}
 use Rattle.std.proofs.lemmas.Bool.{eqb-true, eq-eqb}
 use Rattle.aia_word.specs.Sets.{is_in}
 use Rattle.aia_waiting.proofs.WordLemmas.{empty_told, told_empty}

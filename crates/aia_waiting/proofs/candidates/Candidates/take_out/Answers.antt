@@ -1,7 +1,7 @@
-use Rattle.std.proofs.Common.{rules, ◌≡◌, ◌<◌, List, length, arith, true, false, subst, sym, ap, ◌∙◌}
+use Rattle.std.proofs.Common.{rules, ◌≡◌, List, arith, true, false, subst, sym, ap, ◌∙◌}
 use Rattle.std.specs.List.Sorted.{IsPartitionPoint}
 use Rattle.aia_source.specs.Top.{Pair}
-use Rattle.aia_waiting.specs.Order.{comes_before, is_pair, taken_out}
+use Rattle.aia_waiting.specs.Order.{comes_before, is_pair}
 use Rattle.aia_waiting.proofs.OrderLemmas.{out_there, out_nowhere}
 use Rattle.aia_waiting.proofs.candidates.Candidates.take_out.Goals.{else-place-len-via-then-place-len+else-eq, else-place-len-via-else-place-len}
 use Rattle.aia_waiting.proofs.candidates.Candidates.take_out.Goals as goal
