@@ -1,13 +1,12 @@
 -- What is kept tells what waits first.
-use Rattle.std.proofs.Common.{◌≡◌, ℕ, zero, suc, ◌<◌, ◌≤◌, Bool, true, false, ◌&&◌, List, [], ◌∷◌, length, slice_get, get_or, Option, Some, None, MatchOption, ◌⊎◌, inl, inr, refl, sym, ap, subst, ◌∙◌, arith}
+use Rattle.std.proofs.Common.{◌≡◌, ℕ, zero, suc, ◌<◌, ◌≤◌, Bool, true, false, ◌&&◌, ◌↔◌, List, [], ◌∷◌, length, slice_get, get_or, Option, Some, None, MatchOption, ◌⊎◌, inl, inr, refl, sym, ap, subst, ◌∙◌, arith}
 use Rattle.std.specs.List.{Contains, AllPairs}
 use Rattle.std.proofs.lemmas.Bool.{cases_lt, and_parts, and_right}
 use Rattle.std.specs.Option.{option_map_or}
 use Rattle.std.proofs.lemmas.Option.{slice_get_past, slice_get-get_or}
 use Rattle.aia_domain.specs.Entry.{EntryState, waits, waits_at}
-use Rattle.aia_domain.specs.Domain.{DomainState, ready_from}
+use Rattle.aia_domain.specs.Domain.{DomainState}
 use Rattle.aia_domain.specs.Domain as kept
-use Rattle.aia_domain.proofs.ReadyLemmas.{from_members, from_each, from_rising}
 use Rattle.aia_model.specs.declared.domain_name.DomainName.{DomainName}
 use Rattle.aia_model.specs.Act.{Past}
 use Rattle.aia_model.specs.declared.domain_name.DomainName.TheVariants.{Root, Child}
@@ -17,7 +16,7 @@ use Rattle.aia_model.specs.SourceOf.{sources_in, is_on, delivers_by_msis, enable
 use Rattle.aia_model.specs.Sent.{forwards, all_senders, has_msi}
 use Rattle.aia_aplic.specs.Side.{entry_of, DomainStands}
 use Rattle.aia_aplic.specs.Aplic.{AplicState, AplicStands, side}
-use Rattle.aia_aplic.specs.Sending.{IsLeastOf, IsFirstSource, IsFirst}
+use Rattle.aia_aplic.specs.Sending.{IsFirstSource, IsFirst}
 use Rattle.aia_aplic.proofs.Steps.{entry-idle}
 use Rattle.aia_aplic.proofs.Reading.{mode-zero}
 use Rattle.aia_aplic.specs.Senders.{SendsBefore}
@@ -57,39 +56,13 @@ not_zero : (past : Past) (name : DomainName) (s : ℕ) → forwards past name s 
 not_zero past name zero ready = let bad : false ≡ true = sym (ready_zero past name) ∙ ready in absurd (cc)
 not_zero past name (suc s) ready = omega arith
 
--- ---- the least source that a domain is to forward
+-- ---- whether one of two domains has a source that is ready
 
-none_ready : (d : DomainState) → ready_from d 0 ≡ [] → (s : ℕ) → kept.is_ready d s ≡ false
-none_ready d is s = at (kept.is_ready d s) refl
-  where
-    at : (b : Bool) → kept.is_ready d s ≡ b → kept.is_ready d s ≡ false
-    at false e = e
-    at true e = nowhere s (subst (λ xs. Contains xs s) is (from_each d 0 s (omega arith) (ready_within d s e) e))
+pub ready_in_first : (a : Bool) (X Y : Type 0) → a ≡ true → (a ≡ false) ↔ X → (a ≡ false) ↔ (X × Y)
+ready_in_first a X Y is first = (λ none. let bad : ◌≡◌ {A = Bool} true false = sym is ∙ none in absurd (cc), λ none. first.1 none.0)
 
-first_ready : (d : DomainState) (x : ℕ) (xs : List ℕ) → ready_from d 0 ≡ x ∷ xs → (kept.is_ready d x ≡ true) × ((t : ℕ) → t < x → kept.is_ready d t ≡ false)
-first_ready d x xs is = ((from_members d 0 x (subst (λ ys. Contains ys x) (sym is) (here x xs))).2, λ t low. at t low (kept.is_ready d t) refl)
-  where
-    above : (t : ℕ) → (x ≡ t) ⊎ Contains xs t → x ≤ t
-    above t (inl e) = omega (arith, e)
-    above t (inr m) = let low = pairs_head (λ a b. a < b) x t xs (subst (AllPairs (λ a b. a < b)) is (from_rising d 0)) m in omega (arith, low)
-
-    at : (t : ℕ) → t < x → (b : Bool) → kept.is_ready d t ≡ b → kept.is_ready d t ≡ false
-    at t low false e = e
-    at t low true e = let high = above t (here_or_later x t xs (subst (λ ys. Contains ys t) is (from_each d 0 t (omega arith) (ready_within d t e) e))) in absurd (omega (arith, high, low))
-
--- what an iterator over the sources that are ready gives first
-pub least_yielded : (d : DomainState) (old new : List ℕ) (r : Option ℕ) → MatchOption r ((old ≡ []) × (new ≡ [])) (λ x. old ≡ x ∷ new) → ready_from d 0 ≡ old → IsLeastOf (kept.is_ready d) r
-least_yielded d old new None gives is = none_ready d (is ∙ gives.0)
-least_yielded d old new (Some x) gives is = first_ready d x new (is ∙ gives)
-
--- a domain that does not deliver by MSIs, or is not enabled, forwards none
-pub none_by_mode : (d : DomainState) → (d.msi && d.on) ≡ false → (s : ℕ) → kept.is_ready d s ≡ false
-none_by_mode d off s = at d.msi d.on off
-  where
-    at : (m o : Bool) → (m && o) ≡ false → (m && o && waits_at d.sources s) ≡ false
-    at true true e = absurd (cc)
-    at true false e = refl
-    at false o e = refl
+pub ready_in_other : (a b : Bool) (X Y : Type 0) → a ≡ false → (a ≡ false) ↔ X → (b ≡ false) ↔ Y → (b ≡ false) ↔ (X × Y)
+ready_in_other a b X Y not_first first other = (λ none. (first.0 not_first, other.0 none), λ none. other.1 none.1)
 
 -- ---- what waits first
 

@@ -147,7 +147,7 @@ pub hart_away : (a : SideState) (past : Past) (name : DomainName) (hart : ℕ) �
 hart_away a past name hart past_all stands = le-ltb hart (harts_in past) (subst (λ n. n ≤ hart) stands.controls.count past_all)
 
 pub top_is : (a : SideState) (past : Past) (name : DomainName) (hart : ℕ) → hart < length a.controls → SideStands a past name → top_shown (control_at a.controls hart) a.domain hart ≡ top past name hart
-top_is a past name hart low stands = top-stands (control_at a.controls hart) a.domain past name hart stands.domain (ap (λ (c : IdcState). c.ithreshold) (control_is a past name hart low stands))
+top_is a past name hart low stands = top-stands (control_at a.controls hart) a.domain past name hart (subst (λ n. hart < n) stands.controls.count low) stands.domain (ap (λ (c : IdcState). c.ithreshold) (control_is a past name hart low stands))
 
 pub side-claimed : (hart : ℕ) (a : SideState) (e : DomainState) (controls : List IdcState) (past : Past) (name : DomainName) → hart < length a.controls
     → EachControl a.controls controls (claimed_at a.domain hart) → EachSource a.domain.sources e.sources (claimed_top (top_shown (control_at a.controls hart) a.domain hart)) → e ≡ with_sources a.domain e.sources

@@ -1,5 +1,6 @@
 -- What a hart is shown by a domain that stands for the past.
-use Rattle.std.proofs.Common.{◌≡◌, ℕ, zero, suc, ◌+◌, ◌-◌, ◌<◌, ◌≤◌, Bool, true, false, cond, ◌&&◌, nat_eq, length, Option, None, refl, sym, ap, ◌∙◌, arith}
+use Rattle.std.proofs.Common.{◌≡◌, ℕ, zero, suc, ◌+◌, ◌-◌, ◌<◌, ◌≤◌, Bool, true, false, cond, ◌&&◌, ◌||◌, nat_eq, nat_le, length, Option, None, refl, sym, ap, ◌∙◌, arith}
+use Rattle.std.proofs.lemmas.Bool.{lt-leb}
 use Rattle.std.proofs.lemmas.Option.{slice_get-get_or}
 use Rattle.aia_word.specs.Top.{lets_through}
 use Rattle.aia_source.specs.Top.{Pair, lesser, least_pair, priority_of, hart_of, pair_if}
@@ -9,7 +10,7 @@ use Rattle.aia_domain.specs.Domain.{DomainState}
 use Rattle.aia_direct.specs.Idc.{IdcState, candidate, candidate_at, top_shown}
 use Rattle.aia_model.specs.declared.domain_name.DomainName.{DomainName}
 use Rattle.aia_model.specs.Act.{Past}
-use Rattle.aia_model.specs.SourceOf.{sources_in, is_active_in, enabled, target, pending, delivers_by_msis, ithreshold_of, pair_in, top}
+use Rattle.aia_model.specs.SourceOf.{harts_in, sources_in, is_active_in, enabled, target, pending, delivers_by_msis, ithreshold_of, pair_in, top}
 use Rattle.aia_aplic.specs.Side.{entry_of, DomainStands}
 use Rattle.aia_aplic.proofs.Steps.{entry-idle}
 
@@ -33,8 +34,13 @@ same_pair true true h q false t s idle = absurd (cc (idle refl))
 same_pair true false h q false t s idle = refl
 same_pair false e h q false t s idle = refl
 
-pub top-stands : (c : IdcState) (d : DomainState) (past : Past) (name : DomainName) (hart : ℕ) → DomainStands d past name → c.ithreshold ≡ ithreshold_of past name hart → top_shown c d hart ≡ top past name hart
-top-stands c d past name hart stands limit = ap (λ (b : Bool). cond b None (least_pair (candidate_at d.sources hart c.ithreshold) 1 (length d.sources - 1))) stands.msi ∙ ap (cond (delivers_by_msis past name) None) least
+not_away : (msi away : Bool) → away ≡ false → (msi || away) ≡ msi
+not_away true away here = refl
+not_away false away here = here
+
+pub top-stands : (c : IdcState) (d : DomainState) (past : Past) (name : DomainName) (hart : ℕ) → hart < harts_in past → DomainStands d past name → c.ithreshold ≡ ithreshold_of past name hart → top_shown c d hart ≡ top past name hart
+top-stands c d past name hart there stands limit =
+    ap (λ (b : Bool). cond b None (least_pair (candidate_at d.sources hart c.ithreshold) 1 (length d.sources - 1))) (not_away d.msi (nat_le d.harts hart) (lt-leb d.harts hart (omega (arith, there, stands.harts))) ∙ stands.msi) ∙ ap (cond (delivers_by_msis past name) None) least
   where
     each : (s : ℕ) → 1 ≤ s → s < 1 + sources_in past → candidate_at d.sources hart c.ithreshold s ≡ pair_in (pending past name) past name hart s
     each s low high =

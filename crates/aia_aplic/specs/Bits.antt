@@ -1,6 +1,9 @@
 -- Which of two sets of sources has the least one. Vocabulary.
 use Rattle.std.specs.Prelude.{◌≡◌, ℕ, zero, suc, ◌<◌, ◌≤◌, Bool, true, false, Option, Some, None}
 use Rattle.aia_regs.specs.declared.limits.TheConstants.{SOURCES}
+use Rattle.aia_model.specs.declared.sender.Sender.{Sender}
+use Rattle.aia_model.specs.declared.sender.Sender.TheVariants.{BySource}
+use Rattle.aia_aplic.specs.Aplic.{domain_name}
 
 -- It is the domain, 0 or 1, and the number of the least source of two sets, that of domain 0 and
 -- that of domain 1; at the same number domain 0's; or both sets are empty.
@@ -15,3 +18,7 @@ IsFirstMember p q (Some (suc (suc domain), s)) = ⊥
 -- Each member of a set is the number of a source that may be there.
 abbrev pub AreSources : (ℕ → Bool) → Type 0
 AreSources members = (s : ℕ) → members s ≡ true → s ≤ SOURCES
+
+-- The sender of a domain's source.
+abbrev pub source_sender : ℕ × ℕ → Sender
+source_sender found = BySource (domain_name found.0) found.1

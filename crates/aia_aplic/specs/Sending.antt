@@ -12,11 +12,6 @@ use Rattle.aia_model.specs.Sent.{senders, domain_of_sender, msi_of}
 use Rattle.aia_aplic.specs.Side.{SideState}
 use Rattle.aia_aplic.specs.Aplic.{AplicState, AplicStands, side}
 
--- The least number that passes a test; None where none does.
-abbrev pub IsLeastOf : (ℕ → Bool) → Option ℕ → Type 0
-IsLeastOf test None = (s : ℕ) → test s ≡ false
-IsLeastOf test (Some s) = (test s ≡ true) × ((t : ℕ) → t < s → test t ≡ false)
-
 -- It is the least source that is to be forwarded, of two domains, in which sources p and q are; at
 -- the same number the root domain's; or none is.
 abbrev pub IsFirstSource : (ℕ → Bool) → (ℕ → Bool) → Option Sender → Type 0

@@ -1,4 +1,5 @@
-ghost use Rattle.std.specs.Prelude.{◌≡◌, ◌<◌, ◌≤◌, [], ◌∷◌, length, Bool, true, false, IfOk, IfSome};
+ghost use Rattle.std.specs.Prelude.{◌≡◌, ℕ, ◌+◌, ◌*◌, ◌<◌, ◌≤◌, ◌↔◌, [], ◌∷◌, length, Bool, true, false, IfOk, IfSome, IfNone, IsFalse, option_map};
+ghost use Rattle.aia_word.specs.Sets.{word_of};
 ghost use Rattle.aia_regs.specs.declared.limits.TheConstants.{HARTS, SOURCES};
 ghost use Rattle.aia_regs.specs.DomainRegisters.{domain_register_of};
 ghost use Rattle.aia_model.specs.Act.{Past};
@@ -8,16 +9,21 @@ ghost use Rattle.aia_model.specs.Sent.{msi_of};
 ghost use Rattle.aia_domain.specs.Domain.{is_ready};
 ghost use Rattle.aia_model.specs.SourceOf.{harts_in, sources_in, register_read, is_signalled};
 ghost use Rattle.aia_aplic.specs.Aplic.{AplicStands, IsNewAplic, side, domain_name};
-ghost use Rattle.aia_aplic.specs.Sending.{IsLeastOf, IsFirstSource, IsFirst, does_wait, waiting, Next};
+ghost use Rattle.aia_aplic.specs.Sending.{IsFirstSource, IsFirst, does_wait, waiting, Next};
+ghost use Rattle.aia_aplic.specs.Bits.{AreSources, source_sender};
 
+use crate::bits::bits_search;
 use crate::sender::{domain_of, msi_by};
 use crate::side::Side;
+use crate::view::ReadyView;
 use aia_model::{DomainName, Msi, Sender};
 use aia_msiaddr::Addresses;
 use aia_regs::{DomainReg, domain_reg};
 use aia_source::delegates;
+use aia_steps::Steps;
 use std::alloc::{AllocError, Global};
-use std::marker::Model;
+use std::marker::{Brand, Model};
+use std::sync::ledger::{Blank, Ledger};
 
 /// The APLIC of a machine: the root domain, at machine level, and its child, at supervisor level,
 /// which share the wired sources.
@@ -177,14 +183,42 @@ impl Aplic {
         ensures next { (past : Past) → AplicStands self.old past → Next self.new result past }
         ensures fewer { IfSome result (λ msi. waiting self.new < waiting self.old) }
     {
-        let first = self.first_waiting()?;
+        self.next_msi_in::<Brand>(Blank::new(1))
+    }
+
+    /// Sends the MSI that `next_msi` sends, and counts 32 steps at most, one for each look at 64
+    /// sources of a domain; no step where nothing waits.
+    ///
+    /// AIA 1.0, APLIC, "Interrupt forwarding by MSIs".
+    pub fn next_msi_counted<L: Ledger>(&mut self, steps: &mut Steps<L>) -> Option<Msi>
+        ensures next { (past : Past) → AplicStands self.old past → Next self.new result past }
+        ensures fewer { IfSome result (λ msi. waiting self.new < waiting self.old) }
+        ensures no_less { steps.old ≤ steps.new }
+        ensures few { steps.new ≤ steps.old + 32 }
+        ensures idle { IfNone result (steps.new ≡ steps.old) }
+    {
+        let first = self.first_waiting(steps)?;
         Some(self.send(first))
     }
 
+    /// Sends the MSI that `next_msi` sends, by looks that are counted in a new ledger.
+    fn next_msi_in<L: Ledger>(&mut self, ledger: Blank) -> Option<Msi>
+        requires name { ledger.name ≡ L.name }
+        requires parts { ledger.parts ≡ L.parts }
+        requires some { 0 < L.parts }
+        ensures next { (past : Past) → AplicStands self.old past → Next self.new result past }
+        ensures fewer { IfSome result (λ msi. waiting self.new < waiting self.old) }
+    {
+        self.next_msi_counted(&mut Steps::<L>::new(ledger))
+    }
+
     /// Tells what waits first, `None` where nothing waits.
-    fn first_waiting(&self) -> Option<Sender>
+    fn first_waiting<L: Ledger>(&self, steps: &mut Steps<L>) -> Option<Sender>
         ensures first { (past : Past) → AplicStands self.now past → IsFirst result past }
         ensures waits { IfSome result (λ sender. does_wait self.now sender ≡ true) }
+        ensures no_less { steps.old ≤ steps.new }
+        ensures few { steps.new ≤ steps.old + 32 }
+        ensures idle { IfNone result (steps.new ≡ steps.old) }
     {
         if self.root.genmsi_waits() {
             return Some(Sender::ByGenMsi(DomainName::Root));
@@ -192,26 +226,52 @@ impl Aplic {
         if self.child.genmsi_waits() {
             return Some(Sender::ByGenMsi(DomainName::Child));
         }
-        self.first_source()
+        self.first_source(steps)
     }
 
-    /// Gives the least source that is to be forwarded, `None` where none is.
-    fn first_source(&self) -> Option<Sender>
-        ensures { IsFirstSource (is_ready self.now.root.domain)
+    /// Gives the least source that is to be forwarded, `None` where none is: that it sees without a
+    /// look at a word.
+    fn first_source<L: Ledger>(&self, steps: &mut Steps<L>) -> Option<Sender>
+        ensures first { IsFirstSource (is_ready self.now.root.domain)
             (is_ready self.now.child.domain) result }
+        ensures no_less { steps.old ≤ steps.new }
+        ensures few { steps.new ≤ steps.old + 32 }
+        ensures idle { IfNone result (steps.new ≡ steps.old) }
     {
-        match (self.root.least_ready(), self.child.least_ready()) {
-            (None, None) => None,
-            (Some(s), None) => Some(Sender::BySource(DomainName::Root, s)),
-            (None, Some(t)) => Some(Sender::BySource(DomainName::Child, t)),
-            (Some(s), Some(t)) => {
-                if s <= t {
-                    Some(Sender::BySource(DomainName::Root, s))
-                } else {
-                    Some(Sender::BySource(DomainName::Child, t))
-                }
-            }
+        if !self.has_ready() {
+            return None;
         }
+        self.first_of_words(steps)
+    }
+
+    /// Tells whether a source of either domain is to be forwarded.
+    fn has_ready(&self) -> bool
+        ensures { IsFalse result ↔ (((s : ℕ) → is_ready self.now.root.domain s ≡ false)
+            × ((s : ℕ) → is_ready self.now.child.domain s ≡ false)) }
+    {
+        self.root.has_ready() || self.child.has_ready()
+    }
+
+    /// Gives the least source that is to be forwarded, by the words of both domains.
+    fn first_of_words<L: Ledger>(&self, steps: &mut Steps<L>) -> Option<Sender>
+        ensures first { IsFirstSource (is_ready self.now.root.domain)
+            (is_ready self.now.child.domain) result }
+        ensures no_less { steps.old ≤ steps.new }
+        ensures few { steps.new ≤ steps.old + 32 }
+    {
+        let mut bits = ReadyView { aplic: self, steps };
+        sender_of(bits_search(&mut bits))
+    }
+
+    /// Gives word `k`, 0 to 15, of the sources that a domain, 0 or 1, is to forward.
+    pub(crate) fn ready_word(&self, domain: u32, k: u32) -> u64
+        requires domain { domain < 2 }
+        requires word { k < 16 }
+        ensures word { result
+            ≡ word_of (is_ready (side self.now (domain_name domain)).domain) (64 * k) 64 }
+        ensures range { AreSources (is_ready (side self.now (domain_name domain)).domain) }
+    {
+        self.side(domain_name(domain)).ready_word(k)
     }
 
     /// Sends the MSI of a sender that waits.
@@ -245,4 +305,13 @@ fn domain_name(domain: u32) -> DomainName
     } else {
         DomainName::Child
     }
+}
+
+/// Gives the sender of a domain, 0 or 1, and a source's number.
+fn sender_of(found: Option<(u32, u32)>) -> Option<Sender>
+    requires { IfSome found (λ pair. pair.0 ≤ 1) }
+    ensures { result ≡ option_map source_sender found }
+{
+    let (domain, s) = found?;
+    Some(Sender::BySource(domain_name(domain), s))
 }

@@ -8,6 +8,7 @@ mod controls;
 pub mod laws;
 mod sender;
 mod side;
+mod view;
 
 pub use aia_model::Msi;
 pub use aplic::Aplic;

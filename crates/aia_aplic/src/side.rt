@@ -4,7 +4,8 @@ ghost use Rattle.aia_source.specs.Wired.SourceDeed.{Forwarded};
 ghost use Rattle.aia_domain.specs.Entry.{EachSource, changed_at, with_deed, entry_at};
 ghost use Rattle.aia_domain.specs.Domain.{with_sources, source_after, domain_after, is_ready};
 ghost use Rattle.aia_direct.specs.Idc.{top_shown, claimed_top};
-ghost use Rattle.std.specs.Prelude.{Some, length, ◌≡◌, ◌<◌, ◌≤◌, ◌∷◌, ℕ, Bool, true, false, IfOk};
+ghost use Rattle.std.specs.Prelude.{Some, length, ◌≡◌, ◌*◌, ◌<◌, ◌≤◌, ◌↔◌, ◌∷◌, ℕ, Bool, true, false, IfOk, IsFalse};
+ghost use Rattle.aia_word.specs.Sets.{word_of};
 ghost use Rattle.aia_regs.specs.declared.limits.TheConstants.{HARTS, SOURCES};
 ghost use Rattle.aia_source.specs.Registers.{delegates, root_sourcecfg};
 ghost use Rattle.aia_model.specs.declared.domain_name.DomainName.{DomainName};
@@ -14,8 +15,9 @@ ghost use Rattle.aia_model.specs.declared.sender.Sender.TheVariants.{ByGenMsi, B
 ghost use Rattle.aia_model.specs.Act.Act.{Driven, Written, Loaded, Sent};
 ghost use Rattle.aia_model.specs.SourceOf.{harts_in, sources_in, target, genmsi_of, own_read, is_signalled};
 ghost use Rattle.aia_model.specs.Sent.{domain_of_sender, register_of_sender};
+ghost use Rattle.aia_aplic.specs.Bits.{AreSources};
 ghost use Rattle.aia_aplic.specs.Side.{SideStands, IsNewSide};
-ghost use Rattle.aia_aplic.specs.Sending.{IsLeastOf, waits_in, waiting_in};
+ghost use Rattle.aia_aplic.specs.Sending.{waits_in, waiting_in};
 
 use crate::controls::{claim, load_control, new_controls, signal_of, store_control, topi_of};
 use aia_direct::Idc;
@@ -179,14 +181,20 @@ impl Side {
         self.domain.genmsi_waits()
     }
 
-    /// Gives the least source that is to be forwarded, `None` where none is.
-    pub(crate) fn least_ready(&self) -> Option<u32>
-        ensures { IsLeastOf (is_ready self.now.domain) result }
+    /// Tells whether a source is to be forwarded.
+    pub(crate) fn has_ready(&self) -> bool
+        ensures { IsFalse result ↔ ((s : ℕ) → is_ready self.now.domain s ≡ false) }
     {
-        if !(self.domain.delivers_by_msi() && self.domain.is_enabled()) {
-            return None;
-        }
-        self.domain.ready().next()
+        self.domain.has_ready()
+    }
+
+    /// Gives word `k`, 0 to 15, of the sources that are to be forwarded.
+    pub(crate) fn ready_word(&self, k: u32) -> u64
+        requires { k < 16 }
+        ensures word { result ≡ word_of (is_ready self.now.domain) (64 * k) 64 }
+        ensures range { AreSources (is_ready self.now.domain) }
+    {
+        self.domain.ready_word(k)
     }
 
     /// Sends the MSI of a sender of this domain, and gives what it is made of.

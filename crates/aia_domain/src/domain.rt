@@ -290,7 +290,8 @@ impl Domain {
     /// AIA 1.0, APLIC, "Interrupt forwarding by MSIs".
     pub fn ready_word(&self, k: u32) -> u64
         requires { k < 16 }
-        ensures { result ≡ word_of (is_ready self.now) (64 * k) 64 }
+        ensures word { result ≡ word_of (is_ready self.now) (64 * k) 64 }
+        ensures range { (s : ℕ) → is_ready self.now s ≡ Bool.true → s ≤ SOURCES }
     {
         if self.on {
             self.sources.waiting_word(k)

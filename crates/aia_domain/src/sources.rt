@@ -153,8 +153,9 @@ impl Sources {
     /// Gives word `k`, 0 to 15, of the sources that wait for an MSI.
     pub(crate) fn waiting_word(&self, k: u32) -> u64
         requires { k < 16 }
-        ensures { result
+        ensures word { result
             ≡ word_of (λ s. self.now.msi && waits_at self.now.entries s) (64 * k) 64 }
+        ensures range { (s : ℕ) → waits_at self.now.entries s ≡ true → s ≤ SOURCES }
     {
         self.kept.word(k)
     }

@@ -1,0 +1,40 @@
+ghost use Rattle.std.specs.Prelude.{◌≡◌, ℕ, ◌+◌, ◌*◌, ◌<◌};
+ghost use Rattle.aia_word.specs.Sets.{word_of};
+ghost use Rattle.aia_domain.specs.Domain.{is_ready};
+ghost use Rattle.aia_aplic.specs.Aplic.{side, domain_name};
+ghost use Rattle.aia_aplic.specs.Bits.{AreSources};
+
+use crate::aplic::Aplic;
+use crate::bits::Bits;
+use aia_steps::Steps;
+use std::sync::ledger::Ledger;
+
+/// The sources that the domains of an APLIC are to forward, with a count of the looks at them: each
+/// look is a step.
+#[derive(Drop)]
+pub(crate) struct ReadyView<'a, L: Ledger> {
+    pub(crate) aplic: &'a Aplic,
+    pub(crate) steps: &'a mut Steps<L>,
+}
+
+impl<L: Ledger> Bits for ReadyView<'_, L> {
+    ghost use Rattle.std.specs.Prelude.{◌≡◌, ◌+◌};
+    ghost use Rattle.std.proofs.Common.{◌∙◌, refl};
+    ghost use Rattle.aia_domain.specs.Domain.{is_ready};
+    ghost use Rattle.aia_aplic.specs.Aplic.{side, domain_name};
+
+    ghost members = { λ v domain. is_ready (side v.aplic.now (domain_name domain)).domain };
+
+    ghost count = { λ v. v.steps.now };
+
+    ghost IsSamePlace = { λ v w. w.steps.ghost_name ≡ v.steps.ghost_name };
+
+    fn word(&mut self, domain: u32, k: u32) -> u64 {
+        self.steps.count_one();
+        self.aplic.ready_word(domain, k)
+    }
+
+    ghost same_place_begins = { λ a. refl };
+
+    ghost same_place_follows = { λ a b c first second. second ∙ first };
+}
