@@ -137,8 +137,49 @@ fn a_domain_tells_what_it_keeps_and_what_it_sends(rt: HostRuntime) -> Result<(),
     same!(rt; root.take_genmsi(), Some(5));
     same!(rt; root.take_genmsi(), None);
     same!(rt; ready(&root), Some(1));
+    same!(rt; root.ready_word(0), 0b10);
+    holds(&rt, root.has_ready());
     root.forwarded(1);
     same!(rt; ready(&root), None);
+    same!(rt; root.ready_word(0), 0);
+    holds(&rt, !root.has_ready());
+    Ok(())
+}
+
+#[test]
+fn a_hart_has_its_candidates_in_order_while_msis_are_off(rt: HostRuntime) -> Result<(), Fail> {
+    let mut root = Domain::new(rt.alloc(), 70, 2, false)?;
+    stores(
+        &mut root,
+        &[
+            (DomainReg::SourceCfg(3), 1),
+            (DomainReg::SourceCfg(5), 1),
+            (DomainReg::SourceCfg(70), 1),
+            (DomainReg::Target(3), 2),
+            (DomainReg::Target(5), 0x0004_0001),
+            (DomainReg::SetIeNum, 3),
+            (DomainReg::SetIeNum, 5),
+            (DomainReg::SetIeNum, 70),
+            (DomainReg::SetIpNum, 3),
+            (DomainReg::SetIpNum, 5),
+            (DomainReg::SetIpNum, 70),
+        ],
+    );
+    same!(rt; root.candidate(0, 0), Some((1, 70)));
+    same!(rt; root.candidate(0, 1), Some((2, 3)));
+    same!(rt; root.candidate(0, 2), None);
+    same!(rt; root.candidate(1, 0), Some((1, 5)));
+    same!(rt; root.candidate(2, 0), None);
+    same!(rt; root.ready_word(1), 0);
+    stores(&mut root, &[(DomainReg::DomainCfg, 0x104)]);
+    same!(rt; root.candidate(0, 0), None);
+    same!(rt; root.ready_word(0), 0b10_1000);
+    same!(rt; root.ready_word(1), 0b100_0000);
+    stores(&mut root, &[(DomainReg::DomainCfg, 0x100)]);
+    // The first targets: hart 0, priority 1.
+    same!(rt; root.candidate(0, 0), Some((1, 3)));
+    same!(rt; root.candidate(0, 2), Some((1, 70)));
+    holds(&rt, !root.has_ready());
     Ok(())
 }
 

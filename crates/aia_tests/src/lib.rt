@@ -41,3 +41,5 @@ mod sources;
 mod spellings;
 #[cfg(test)]
 mod tables;
+#[cfg(test)]
+mod waiting;

@@ -292,8 +292,72 @@ pub fn a_claim_of_a_source_leaves_iforce()
         ≡ answers_of CLAIM_OF_A_SOURCE_LEAVES_IFORCE }
 {}
 
+/// Of the greatest and the least source of 1,023 the one with the lesser pair is on top, as pending
+/// bits, priorities and enable bits change.
+pub const PAIRS_BEFORE_NUMBERS_OF_1023_SOURCES: [(&str, &str); 14] = [
+    ("machine 1 0 63 1023", "ok"),
+    ("st 0x0c000000 0x100", "ok"),
+    ("st 0x0c000ffc 1", "ok"),
+    ("st 0x0c000004 1", "ok"),
+    ("st 0x0c001edc 1023", "ok"),
+    ("st 0x0c001edc 1", "ok"),
+    ("st 0x0c001cdc 1023", "ok"),
+    ("ld 0x0c004018", "0x03ff0001"),
+    ("st 0x0c001cdc 1", "ok"),
+    ("ld 0x0c004018", "0x00010001"),
+    ("st 0x0c003004 2", "ok"),
+    ("ld 0x0c004018", "0x03ff0001"),
+    ("st 0x0c001f7c 0x80000000", "ok"),
+    ("ld 0x0c004018", "0x00010002"),
+];
+
+/// Proves that the model answers [`PAIRS_BEFORE_NUMBERS_OF_1023_SOURCES`] as it says.
+pub fn pairs_before_numbers_of_1023_sources()
+    ensures { answers (script_of PAIRS_BEFORE_NUMBERS_OF_1023_SOURCES)
+        ≡ answers_of PAIRS_BEFORE_NUMBERS_OF_1023_SOURCES }
+{}
+
+/// A source is a hart's candidate no longer after its priority, its enable bit, its hart, its mode,
+/// its pending bit or its domain is another.
+pub const WHAT_ENDS_A_CANDIDATE: [(&str, &str); 29] = [
+    ("machine 2 0 63 70", "ok"),
+    ("st 0x0c000004 4", "ok"),
+    ("st 0x0c000008 4", "ok"),
+    ("st 0x0c000118 1", "ok"),
+    ("st 0x0c003004 5", "ok"),
+    ("st 0x0c003008 5", "ok"),
+    ("st 0x0c003118 5", "ok"),
+    ("st 0x0c001edc 1", "ok"),
+    ("st 0x0c001edc 2", "ok"),
+    ("st 0x0c001edc 70", "ok"),
+    ("st 0x0c001cdc 70", "ok"),
+    ("st 0x0c001cdc 2", "ok"),
+    ("st 0x0c001cdc 1", "ok"),
+    ("ld 0x0c004018", "0x00010005"),
+    ("st 0x0c003004 6", "ok"),
+    ("ld 0x0c004018", "0x00020005"),
+    ("st 0x0c001fdc 2", "ok"),
+    ("ld 0x0c004018", "0x00460005"),
+    ("st 0x0c003118 0x40005", "ok"),
+    ("ld 0x0c004018", "0x00010006"),
+    ("ld 0x0c004038", "0x00460005"),
+    ("st 0x0c000004 0", "ok"),
+    ("ld 0x0c004018", "0x00000000"),
+    ("st 0x0c001edc 2", "ok"),
+    ("ld 0x0c004018", "0x00020005"),
+    ("st 0x0c001ddc 2", "ok"),
+    ("ld 0x0c004018", "0x00000000"),
+    ("st 0x0c000118 0x400", "ok"),
+    ("ld 0x0c004038", "0x00000000"),
+];
+
+/// Proves that the model answers [`WHAT_ENDS_A_CANDIDATE`] as it says.
+pub fn what_ends_a_candidate()
+    ensures { answers (script_of WHAT_ENDS_A_CANDIDATE) ≡ answers_of WHAT_ENDS_A_CANDIDATE }
+{}
+
 /// All rows of this file, each with its name.
-pub const ROWS: [Row; 9] = [
+pub const ROWS: [Row; 11] = [
     Row {
         name: "TIES_AND_THRESHOLDS",
         pairs: &TIES_AND_THRESHOLDS,
@@ -329,5 +393,13 @@ pub const ROWS: [Row; 9] = [
     Row {
         name: "CLAIM_OF_A_SOURCE_LEAVES_IFORCE",
         pairs: &CLAIM_OF_A_SOURCE_LEAVES_IFORCE,
+    },
+    Row {
+        name: "PAIRS_BEFORE_NUMBERS_OF_1023_SOURCES",
+        pairs: &PAIRS_BEFORE_NUMBERS_OF_1023_SOURCES,
+    },
+    Row {
+        name: "WHAT_ENDS_A_CANDIDATE",
+        pairs: &WHAT_ENDS_A_CANDIDATE,
     },
 ];
