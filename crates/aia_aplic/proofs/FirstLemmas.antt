@@ -1,6 +1,6 @@
 -- What is kept tells what waits first.
-use Rattle.std.proofs.Common.{◌≡◌, ℕ, zero, suc, ◌<◌, ◌≤◌, Bool, true, false, ◌&&◌, ◌↔◌, List, [], ◌∷◌, length, slice_get, get_or, Option, Some, None, MatchOption, ◌⊎◌, inl, inr, refl, sym, ap, subst, ◌∙◌, arith}
-use Rattle.std.specs.List.{Contains, AllPairs}
+use Rattle.std.proofs.Common.{◌≡◌, ℕ, zero, suc, ◌<◌, ◌≤◌, Bool, true, false, ◌&&◌, ◌↔◌, length, slice_get, get_or, Option, Some, None, ◌⊎◌, inl, inr, refl, sym, ap, subst, ◌∙◌, arith}
+use Rattle.std.specs.List.{Contains}
 use Rattle.std.proofs.lemmas.Bool.{cases_lt, and_parts, and_right}
 use Rattle.std.specs.Option.{option_map_or}
 use Rattle.std.proofs.lemmas.Option.{slice_get_past, slice_get-get_or}
@@ -20,7 +20,7 @@ use Rattle.aia_aplic.specs.Sending.{IsFirstSource, IsFirst}
 use Rattle.aia_aplic.proofs.Steps.{entry-idle}
 use Rattle.aia_aplic.proofs.Reading.{mode-zero}
 use Rattle.aia_aplic.specs.Senders.{SendsBefore}
-use Rattle.aia_source.proofs.ListLemmas.{here, here_or_later, nowhere, pairs_head, filter_none, filter_first}
+use Rattle.aia_source.proofs.ListLemmas.{filter_none, filter_first}
 use Rattle.aia_aplic.proofs.OrderLaw.{all_in_order, all_genmsi, all_sources, source_there}
 
 -- ---- what is kept tells what is ready

@@ -1,9 +1,9 @@
 -- The first pair of a rising list that a threshold lets through is the least of them.
-use Rattle.std.proofs.Common.{◌≡◌, ℕ, zero, suc, ◌-◌, ◌<◌, ◌≤◌, Bool, true, false, cond, ◌&&◌, nat_eq, List, [], ◌∷◌, length, slice_get, Option, Some, None, IfSome, ◌⊎◌, inl, inr, refl, sym, ap, ◌∙◌, arith}
+use Rattle.std.proofs.Common.{◌≡◌, ℕ, zero, suc, ◌<◌, ◌≤◌, Bool, true, false, cond, List, [], ◌∷◌, slice_get, Option, Some, None, IfSome, ◌⊎◌, inl, inr, refl, sym, ap, ◌∙◌, arith}
 use Rattle.std.specs.List.{All}
 use Rattle.std.proofs.lemmas.Bool.{cond-true, cond-false, or_parts, or_from, le-ltb, lt-ltb, ltb-false}
 use Rattle.std.proofs.lemmas.Option.{none-some, same_Some}
-use Rattle.aia_source.specs.Top.{Pair, ComesFirst, NamesItself, lesser, least_pair, hart_of, priority_of, pair_if}
+use Rattle.aia_source.specs.Top.{Pair, ComesFirst, NamesItself, lesser, least_pair}
 use Rattle.aia_source.proofs.ListLemmas.{pairs_tail}
 use Rattle.aia_source.proofs.TopLemmas.{lesser-none, least_pair-none, least_pair-suc}
 use Rattle.aia_word.specs.Top.{lets_through}
@@ -107,4 +107,3 @@ first_is_least threshold candidate from (suc count) own =
     at (Some p) e =
         let at_from : p.1 ≡ from = own from p e in
         first_put threshold p (ordered candidate (suc from) count) (λ k d low. let high = numbered candidate (suc from) count own k d low in omega (arith, high, at_from)) (ordered_rising candidate (suc from) count)
-

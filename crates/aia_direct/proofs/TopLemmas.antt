@@ -1,18 +1,18 @@
 -- What is on top for a hart, by the first of its candidates, and what topi shows of it.
-use Rattle.std.proofs.Common.{◌≡◌, ℕ, ◌+◌, ◌-◌, ◌<◌, ◌≤◌, Bool, true, false, cond, not, ◌&&◌, ◌||◌, nat_eq, nat_le, List, [], ◌∷◌, length, slice_get, Option, Some, None, is_some, is_none, IfSome, inl, inr, refl, sym, ap, ◌∙◌, arith}
+use Rattle.std.proofs.Common.{◌≡◌, ℕ, ◌-◌, ◌≤◌, Bool, true, false, cond, not, ◌&&◌, ◌||◌, nat_eq, nat_le, List, [], length, slice_get, Option, Some, None, is_some, is_none, IfSome, inr, refl, sym, ap, ◌∙◌, arith}
 use Rattle.std.specs.Option.{option_map}
 use Rattle.std.proofs.lemmas.Bool.{eq-eqb, ne_eqb}
 use Rattle.std.proofs.lemmas.Option.{none-some, same_Some}
 use Rattle.aia_regs.specs.Fields.{field, with_field}
 use Rattle.aia_regs.proofs.FieldLemmas.{got, other_field}
-use Rattle.aia_source.specs.Top.{Pair, least_pair, NamesItself, hart_of, priority_of, pair_if, topi_value}
+use Rattle.aia_source.specs.Top.{Pair, least_pair, hart_of, priority_of, pair_if, topi_value}
 use Rattle.aia_source.specs.Wired.SourceDeed.{Claimed}
 use Rattle.aia_source.proofs.TopLemmas.{least_found}
 use Rattle.aia_word.specs.Top.{lets_through}
 use Rattle.aia_waiting.specs.Order.{ordered}
 use Rattle.aia_domain.specs.Entry.{EntryState, entry_at, waits, waiting_pair_at, EachSource, changed_at, with_deed}
 use Rattle.aia_domain.specs.Domain.{DomainState, candidates, IsPairOfSource}
-use Rattle.aia_direct.specs.Idc.{IdcState, candidate_at, top_shown, claimed_top, control_claimed}
+use Rattle.aia_direct.specs.Idc.{IdcState, candidate_at, top_shown, claimed_top}
 use Rattle.aia_direct.specs.Front.{if_through, through, first_through}
 use Rattle.aia_direct.proofs.FrontLemmas.{first_is_least}
 

@@ -88,12 +88,7 @@ pub fn topi(idc: &Idc, domain: &Domain, hart: u32) -> u32
 }
 
 /// Gives what `topi` gives, and counts one step at most: the look at the hart's candidates.
-pub fn topi_counted<L: Ledger>(
-    idc: &Idc,
-    domain: &Domain,
-    hart: u32,
-    steps: &mut Steps<L>,
-) -> u32
+pub fn topi_counted<L: Ledger>(idc: &Idc, domain: &Domain, hart: u32, steps: &mut Steps<L>) -> u32
     ensures value { result ≡ topi_value (top_shown idc.now domain.now hart) }
     ensures small { IfSome (top_shown idc.now domain.now hart) IsPairOfSource }
     ensures no_less { steps.old ≤ steps.new }

@@ -1,8 +1,6 @@
-use Rattle.std.proofs.Common.{◌≡◌, false, None, not, ◌&&◌, is_none, cond, List, Option, sym, ap, ◌∙◌, arith, refl}
-use Rattle.std.specs.Option.{option_map}
-use Rattle.std.specs.List.{slice_get}
+use Rattle.std.proofs.Common.{◌≡◌, false, None, Option, sym, ap, ◌∙◌, arith}
 use Rattle.aia_source.specs.Top.{Pair}
-use Rattle.aia_direct.specs.Idc.{IdcState, top_shown, claimed_top, control_claimed}
+use Rattle.aia_direct.specs.Idc.{IdcState, top_shown, control_claimed}
 use Rattle.aia_direct.proofs.TopLemmas.{none_on_top, none_claimed}
 use Rattle.aia_direct.proofs.idc.claimi.Goals as goal
 

@@ -1,4 +1,4 @@
-use Rattle.std.proofs.Common.{◌≡◌, ℕ, ◌↔◌, false, IsFalse, subst}
+use Rattle.std.proofs.Common.{◌≡◌, ℕ, ◌↔◌, false, subst}
 use Rattle.aia_domain.specs.Domain.{DomainState, is_ready}
 use Rattle.aia_aplic.specs.Aplic.{AplicState}
 use Rattle.aia_aplic.proofs.FirstLemmas.{ready_in_first, ready_in_other}
