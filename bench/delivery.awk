@@ -1,17 +1,16 @@
-# awk -v mode=msi|direct -f common.awk -f delivery.awk: a long script in which 1,023 wired sources
-# of the root domain rise and fall, the same one each time. All are rising edges and enabled, and
-# aim at the one hart: by an MSI of the source's own number to the machine-level file, or directly,
-# with priority 1. Of 16 lines of its body, on average, 15 change the level of a wire, so half of
-# those are rises, and 1 is a claim.
+# awk -v mode=msi|direct -v S=1023 -f common.awk -f delivery.awk: a long script in which S wired
+# sources of the root domain rise and fall, the same one each time. All are rising edges and
+# enabled, and aim at the one hart: by an MSI of the source's own number to the machine-level file,
+# or directly, with priority 1. Of 16 lines of its body, on average, 15 change the level of a wire,
+# so half of those are rises, and 1 is a claim.
 
 BEGIN {
   if (mode != "msi" && mode != "direct") {
     print "delivery.awk: -v mode=msi or -v mode=direct" > "/dev/stderr"
     exit 2
   }
-  bytes_wanted = 1550000  # a tenth of what the other scripts have, since a line by MSIs looks at every source
+  bytes_wanted = 15500000  # a script has at most 16,777,216
   seed = 1
-  S = 1023
   root = 201326592  # the first address of the root domain's control region
   put("machine 1 0 2047 " S)
   if (mode == "msi") {
