@@ -78,7 +78,8 @@ impl Idc {
 
 /// Gives what `topi` of a hart reads: the number and the priority of the pending enabled source
 /// aimed at the hart that has the least priority number, then the least number, among those that
-/// `ithreshold` lets through; 0 where there is none, and where the domain delivers by MSIs.
+/// `ithreshold` lets through; 0 where there is none, where the domain delivers by MSIs, and for a
+/// hart that isn't there.
 ///
 /// AIA 1.0, APLIC, "Interrupt delivery directly by the APLIC".
 pub fn topi(idc: &Idc, domain: &Domain, hart: u32) -> u32
