@@ -1,12 +1,13 @@
 -- Bytes that are cut at LF.
-use Rattle.std.proofs.Common.{◌≡◌, ℕ, suc, ◌+◌, ◌<◌, Bool, true, false, nat_eq, List, [], ◌∷◌, ◌++◌, length, take, drop, min, Some, None, inl, inr, refl, sym, ap, ◌∙◌, arith}
+use Rattle.std.proofs.Common.{◌≡◌, ℕ, suc, ◌+◌, ◌<◌, ◌≤◌, Bool, true, false, nat_eq, List, [], ◌∷◌, ◌++◌, length, take, drop, min, Option, Some, None, inl, inr, refl, sym, ap, ◌∙◌, arith}
 use Rattle.std.specs.Prelude.{position}
-use Rattle.std.specs.List.{before_first, after_first, onto_first}
+use Rattle.std.specs.List.{before_first, after_first, onto_first, position_or_len}
 use Rattle.std.proofs.lemmas.List.{take_all, get_or-take, length-take, length-append, take-append-le}
 use Rattle.std.proofs.Math.Seq.{take-length, take-append-add}
 use Rattle.std.proofs.lemmas.List.Elements.{All-from_get_or}
 use Rattle.std.proofs.lemmas.List.Sums.{fails_before_first, passes_at_first, split_at_first}
-use Rattle.std.proofs.lemmas.Bool.{cases_lt, cond-false}
+use Rattle.std.proofs.lemmas.Bool.{cases_lt, cond-true, cond-false, lt-ltb, le-ltb, false≢true}
+use Rattle.memchr.specs.Find.{IsFirstByte}
 use Rattle.aia_model.specs.Text.{texts_of}
 use Rattle.aia_script.proofs.WordLemmas.{position_some, none_found}
 use Rattle.aia_replay.specs.Runs.{NoEnd}
@@ -15,6 +16,26 @@ use Rattle.aia_replay.specs.Runs.{NoEnd}
 
 abbrev pub is_end : ℕ → Bool
 is_end b = nat_eq b 10
+
+-- the first place that a search finds
+pub first_place : (p : ℕ → Bool) (bytes : List ℕ) (r : Option ℕ) → IsFirstByte p bytes r → r ≡ position p bytes
+first_place p bytes None nowhere =
+    elim (cases_lt (position_or_len p bytes) (length bytes)) [
+      | inl there ↦ absurd (nowhere (position_or_len p bytes) (omega arith) there (passes_at_first p bytes 0 there))
+      | inr past ↦ sym (cond-false _ _ _ (le-ltb _ _ past))
+    ]
+first_place p bytes (Some k) found =
+    let before = found.0 in
+    elim (cases_lt (position_or_len p bytes) k) [
+      | inl sooner ↦ absurd (before.before (position_or_len p bytes) (omega arith) sooner (passes_at_first p bytes 0 (omega (arith, before.high))))
+      | inr late ↦ elim (cases_lt k (position_or_len p bytes)) [
+        | inl later ↦ absurd (false≢true (sym (fails_before_first p bytes k 0 later) ∙ found.1))
+        | inr same ↦
+            let is : k ≡ position_or_len p bytes = omega arith in
+            let there : position_or_len p bytes < length bytes = omega (arith, before.high) in
+            ap Some is ∙ sym (cond-true _ _ _ (lt-ltb _ _ there))
+      ]
+    ]
 
 -- with no LF
 pub no_end_at_all : (bytes : List ℕ) → position is_end bytes ≡ None → NoEnd bytes

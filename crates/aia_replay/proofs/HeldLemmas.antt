@@ -13,10 +13,11 @@ use Rattle.aia_model.specs.Reading.{reading, parsed_of, line_at}
 use Rattle.aia_model.specs.Script.{answers, answers_from, printed, text_answer, after_text, after_texts, history_of}
 use Rattle.aia_replay.specs.declared.engine.Engine.{Engine}
 use Rattle.aia_replay.specs.declared.replayer.Replayer.{Replayer}
+use Rattle.aia_replay.specs.declared.buffered.Buffered.{Buffered}
 use Rattle.aia_replay.specs.Buffered.{Gathers, CutOff}
 use Rattle.aia_replay.specs.Stands.{StandsFor, ReadsAsMachine}
 use Rattle.aia_replay.specs.Runs.{NoEnd, AsksMachine, CutsLines}
-use Rattle.aia_replay.specs.Streams.{WritesOut, WritesOutFront, Holds, HoldsStop, Begins, AnswersLine, LacksMemory}
+use Rattle.aia_replay.specs.Streams.{WritesOut, WritesOutFront, Holds, HoldsStop, Begins, AnswersText, LacksMemory}
 use Rattle.aia_replay.proofs.CutLemmas.{texts_front, texts_last, take_again}
 
 -- ---- what waits in the buffer
@@ -75,11 +76,58 @@ part_kept old new before now bytes part none line others holds = record {
   line = line ∙ ap (λ xs. take 129 (xs ++ part)) holds.line ∙ take_again holds.tail part 129;
 }
 
+-- ---- a line that is read where it stands, as if its parts were kept first
+
+abbrev pub with_part : Replayer → List ℕ → Replayer
+with_part r part = record r { line = record r.line { items = take 129 (r.line.items ++ part) } }
+
+pub as_kept : (old new : Replayer) (mid now : Option (List ℕ)) (part : List ℕ) → AnswersText old new mid now (old.line.items ++ part) → AnswersText (with_part old part) new mid now (with_part old part).line.items
+as_kept old new mid now part answered = record {
+  answers = λ h stands. subst (λ (p : Parsed). Gathers old.out.bytes.items new.out.bytes.items mid now (printed (text_answer h p))) (sym (reading_take (old.line.items ++ part))) (answered.answers h stands);
+  stands = λ h stands. subst (λ (p : Parsed). StandsFor new.engine (after_text h p)) (sym (reading_take (old.line.items ++ part))) (answered.stands h stands);
+  empty = answered.empty;
+}
+
+pub lacks_kept : (old new : Replayer) (mid now : Option (List ℕ)) (part : List ℕ) → LacksMemory old new mid now (old.line.items ++ part) → LacksMemory (with_part old part) new mid now (with_part old part).line.items
+lacks_kept old new mid now part lacks = record {
+  asks = subst (ReadsAsMachine old.engine) (sym (reading_take (old.line.items ++ part))) lacks.asks;
+  same = lacks.same;
+  kept = lacks.kept;
+}
+
+-- a part was kept, and the line answered then
+pub kept_answered : (old kept new : Replayer) (mid now : Option (List ℕ)) (part : List ℕ) → kept.line.items ≡ take 129 (old.line.items ++ part) → kept ≡ record old { line = kept.line } → AnswersText kept new mid now kept.line.items → AnswersText old new mid now (old.line.items ++ part)
+kept_answered old kept new mid now part line others answered =
+    let same : reading kept.line.items ≡ reading (old.line.items ++ part) = ap reading line ∙ reading_take (old.line.items ++ part) in
+    let engine : kept.engine ≡ old.engine = ap (λ (r : Replayer). r.engine) others in
+    let out : kept.out ≡ old.out = ap (λ (r : Replayer). r.out) others in
+    record {
+      answers = λ h stands. subst (λ (p : Parsed). Gathers old.out.bytes.items new.out.bytes.items mid now (printed (text_answer h p))) same
+          (subst (λ (o : Buffered). Gathers o.bytes.items new.out.bytes.items mid now (printed (text_answer h (reading kept.line.items)))) out (answered.answers h (subst (λ (e : Engine). StandsFor e h) (sym engine) stands)));
+      stands = λ h stands. subst (λ (p : Parsed). StandsFor new.engine (after_text h p)) same (answered.stands h (subst (λ (e : Engine). StandsFor e h) (sym engine) stands));
+      empty = answered.empty;
+    }
+
+pub kept_lacks : (old kept new : Replayer) (mid now : Option (List ℕ)) (part : List ℕ) → kept.line.items ≡ take 129 (old.line.items ++ part) → kept ≡ record old { line = kept.line } → LacksMemory kept new mid now kept.line.items → LacksMemory old new mid now (old.line.items ++ part)
+kept_lacks old kept new mid now part line others lacks =
+    let same : reading kept.line.items ≡ reading (old.line.items ++ part) = ap reading line ∙ reading_take (old.line.items ++ part) in
+    record {
+      asks = subst (λ (e : Engine). ReadsAsMachine e (reading (old.line.items ++ part))) (ap (λ (r : Replayer). r.engine) others) (subst (ReadsAsMachine kept.engine) same lacks.asks);
+      same = lacks.same ∙ ap (λ (r : Replayer). r.out) others;
+      kept = lacks.kept;
+    }
+
+-- nothing was kept
+pub in_place : (line part : List ℕ) → length line ≡ 0 → line ++ part ≡ part
+in_place line part empty = ap (λ xs. xs ++ part) (nil_from_length line empty)
+
+-- ---- what is read of a tail
+
 -- the line that is kept reads as the whole tail, and its answer passes after all that was answered
 tail_read : (r : Replayer) (before now : Option (List ℕ)) (bytes : List ℕ) → (holds : Holds r before now bytes) → reading r.line.items ≡ reading holds.tail
 tail_read r before now bytes holds = ap reading holds.line ∙ reading_take holds.tail
 
-reply_passes : (old new : Replayer) (before mid now : Option (List ℕ)) (bytes : List ℕ) → AnswersLine old new mid now → (holds : Holds old before mid bytes)
+reply_passes : (old new : Replayer) (before mid now : Option (List ℕ)) (bytes : List ℕ) → AnswersText old new mid now old.line.items → (holds : Holds old before mid bytes)
     → Gathers [] new.out.bytes.items before now (holds.written ++ printed (text_answer holds.history (reading holds.tail)))
 reply_passes old new before mid now bytes line holds =
     let h = holds.history in
@@ -87,7 +135,7 @@ reply_passes old new before mid now bytes line holds =
     passes_more old.out.bytes.items new.out.bytes.items before mid now holds.written (printed (text_answer h (reading holds.tail))) holds.gathered reply
 
 -- the line's LF is read, and the line answered
-pub line_ended : (old new : Replayer) (before mid now : Option (List ℕ)) (bytes : List ℕ) → AnswersLine old new mid now → Holds old before mid bytes → Holds new before now (bytes ++ 10 ∷ [])
+pub line_ended : (old new : Replayer) (before mid now : Option (List ℕ)) (bytes : List ℕ) → AnswersText old new mid now old.line.items → Holds old before mid bytes → Holds new before now (bytes ++ 10 ∷ [])
 line_ended old new before mid now bytes line holds =
     let h = holds.history in
     let reply = printed (text_answer h (reading holds.tail)) in
@@ -177,7 +225,7 @@ last_answered r bytes before mid some holds =
     ap (λ r. holds.written ++ r) (sym (append-nil reply)) ∙ sym (ap (λ ts. holds.written ++ answers_from h ts) (ap texts_of (append-nil holds.tail) ∙ one)) ∙ holds.completes [] ∙ ap answers (append-nil bytes)
 
 -- a last line is answered
-pub finished_line : (old new : Replayer) (before mid late now : Option (List ℕ)) (bytes : List ℕ) → 0 < length old.line.items → AnswersLine old new mid late → Appends late now new.out.bytes.items → Holds old before mid bytes → Appends before now (answers bytes)
+pub finished_line : (old new : Replayer) (before mid late now : Option (List ℕ)) (bytes : List ℕ) → 0 < length old.line.items → AnswersText old new mid late old.line.items → Appends late now new.out.bytes.items → Holds old before mid bytes → Appends before now (answers bytes)
 finished_line old new before mid late now bytes some line wrote holds =
     subst (Appends before now) (last_answered old bytes before mid some holds) (all_written new.out.bytes.items before late now _ (reply_passes old new before mid late bytes line holds) wrote)
 
@@ -216,12 +264,12 @@ asks_for old h Skip stands reads = absurd reads
 asks_for old h Bad stands reads = absurd reads
 
 -- there is no memory for the machine that the kept line asks for
-pub line_stopped : (old new : Replayer) (before mid now : Option (List ℕ)) (bytes more : List ℕ) → LacksMemory old new mid now → Holds old before mid bytes → HoldsStop new before now (bytes ++ more) more
+pub line_stopped : (old new : Replayer) (before mid now : Option (List ℕ)) (bytes more : List ℕ) → LacksMemory old new mid now old.line.items → Holds old before mid bytes → HoldsStop new before now (bytes ++ more) more
 line_stopped old new before mid now bytes more lacks holds =
     record {
       whole = holds.whole;
       text = holds.tail;
-      gathered = subst (λ (r : Replayer). Gathers [] r.out.bytes.items before now (answers holds.whole)) (sym lacks.same)
+      gathered = subst (λ (out : Buffered). Gathers [] out.bytes.items before now (answers holds.whole)) (sym lacks.same)
           (subst (λ k. Gathers [] old.out.bytes.items before k (answers holds.whole)) (sym lacks.kept) (subst (Gathers [] old.out.bytes.items before mid) holds.answered holds.gathered));
       split = ap (λ xs. xs ++ more) holds.split ∙ append_assoc holds.whole holds.tail more;
       lines = holds.lines;
@@ -230,11 +278,11 @@ line_stopped old new before mid now bytes more lacks holds =
           (subst (AsksMachine holds.history) (tail_read old before mid bytes holds) (asks_for old.engine holds.history (reading old.line.items) holds.stands lacks.asks));
     }
 
-pub last_stopped : (old new : Replayer) (before mid now : Option (List ℕ)) (bytes : List ℕ) → LacksMemory old new mid now → Holds old before mid bytes → HoldsStop new before now bytes []
+pub last_stopped : (old new : Replayer) (before mid now : Option (List ℕ)) (bytes : List ℕ) → LacksMemory old new mid now old.line.items → Holds old before mid bytes → HoldsStop new before now bytes []
 last_stopped old new before mid now bytes lacks holds = subst (λ xs. HoldsStop new before now xs []) (append-nil bytes) (line_stopped old new before mid now bytes [] lacks holds)
 
 -- the last answer does not go out
-pub finished_cut : (old new : Replayer) (before mid late now : Option (List ℕ)) (bytes : List ℕ) → 0 < length old.line.items → AnswersLine old new mid late → CutOff late now new.out.bytes.items → Holds old before mid bytes → CutOff before now (answers bytes)
+pub finished_cut : (old new : Replayer) (before mid late now : Option (List ℕ)) (bytes : List ℕ) → 0 < length old.line.items → AnswersText old new mid late old.line.items → CutOff late now new.out.bytes.items → Holds old before mid bytes → CutOff before now (answers bytes)
 finished_cut old new before mid late now bytes some line cut holds =
     let written = holds.written ++ printed (text_answer holds.history (reading holds.tail)) in
     cut_after new.out.bytes.items [] (answers bytes) before late now written (reply_passes old new before mid late bytes line holds) cut (append-nil written ∙ last_answered old bytes before mid some holds)

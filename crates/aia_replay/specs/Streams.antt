@@ -119,20 +119,21 @@ abbrev pub FinishesStop : Replayer → Replayer → Option (List ℕ) → Option
 FinishesStop old new mid now =
     WhateverWasRead old mid (λ before bytes. HoldsStop new before now bytes [])
 
--- The line that was kept asks for a machine, for which there is no memory, and nothing was done.
-pub record LacksMemory (old new : Replayer) (mid now : Option (List ℕ)) : Type 0 where
-  pub asks : ReadsAsMachine old.engine (reading old.line.items)
-  pub same : new ≡ old
+-- The text of a line asks for a machine, for which there is no memory, and nothing was answered.
+pub record LacksMemory (old new : Replayer) (mid now : Option (List ℕ)) (text : List ℕ)
+    : Type 0 where
+  pub asks : ReadsAsMachine old.engine (reading text)
+  pub same : new.out ≡ old.out
   pub kept : now ≡ mid
 
--- The line that was kept is answered, whatever history the engine stood for, and the next one
--- begins.
-pub record AnswersLine (old new : Replayer) (mid now : Option (List ℕ)) : Type 0 where
+-- The text of a line is answered, whatever history the engine stood for, and the next line begins.
+pub record AnswersText (old new : Replayer) (mid now : Option (List ℕ)) (text : List ℕ)
+    : Type 0 where
   pub answers : (h : History) → StandsFor old.engine h
       → Gathers old.out.bytes.items new.out.bytes.items mid now
-      (printed (text_answer h (reading old.line.items)))
+      (printed (text_answer h (reading text)))
   pub stands : (h : History) → StandsFor old.engine h
-      → StandsFor new.engine (after_text h (reading old.line.items))
+      → StandsFor new.engine (after_text h (reading text))
   pub empty : new.line.items ≡ []
 
 -- ---- a whole run

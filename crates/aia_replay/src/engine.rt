@@ -1,4 +1,4 @@
-ghost use Rattle.std.specs.Prelude.{◌≡◌, ◌↔◌, ◌-◌, ◌^◌, min, [], IsTrue, IsNone, IfOk, OnErr};
+ghost use Rattle.std.specs.Prelude.{◌≡◌, ◌↔◌, ◌-◌, ◌^◌, min, [], None, IsTrue, IsNone, IfOk, OnErr};
 ghost use Rattle.aia_model.specs.Grammar.{IsListed};
 ghost use Rattle.aia_model.specs.Text.{is_skipped};
 ghost use Rattle.aia_model.specs.Event.{History};
@@ -38,6 +38,19 @@ impl Engine {
         if let Some(machine) = &mut self.machine {
             return Ok(machine.line(line));
         }
+        self.first_line(alloc, line)
+    }
+
+    /// Answers a line where no machine stands.
+    #[cold]
+    #[inline(never)]
+    fn first_line(&mut self, alloc: Global, line: &Line) -> Result<Answer, AllocError>
+        requires { self.old.machine ≡ None }
+        ensures serves { IfOk result (Serves self.old self.new line.now) }
+        ensures err { OnErr result (self.new ≡ self.old) }
+        ensures none { OnErr result (StandsFor self.new []) }
+        ensures memory { OnErr result (WantsMachine self.old line.now) }
+    {
         let Line::Machine {
             harts,
             guests,

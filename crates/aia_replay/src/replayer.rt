@@ -11,6 +11,7 @@ use crate::stop::Stop;
 use aia_io::{Read, Sink, Source};
 use aia_model::limits::LINE_BYTES;
 use arrayvec::ArrayVec;
+use memchr::memchr;
 use std::alloc::Global;
 
 /// The byte that ends a line.
@@ -31,7 +32,7 @@ pub struct Replayer {
 impl Replayer {
     ghost use Rattle.aia_replay.specs.Buffered.{CutOff};
     ghost use Rattle.std.specs.Io.KnownBytes.{Appends};
-    ghost use Rattle.aia_replay.specs.Streams.{Begins, AnswersLine, LacksMemory, WritesOut, WritesOutFront};
+    ghost use Rattle.aia_replay.specs.Streams.{Begins, AnswersText, LacksMemory, WritesOut, WritesOutFront};
     ghost use Rattle.aia_replay.specs.Streams.{Feeds, FeedsFront, FeedsStop, Finishes, FinishesFront, FinishesStop, Streams, StreamsFront, StreamsStop};
 
     /// Makes a replayer that has read nothing.
@@ -54,21 +55,47 @@ impl Replayer {
         extend(&mut self.line, &part[..part.len().min(room)]);
     }
 
-    /// Answers the line that was read, and begins the next one.
-    fn end_line<K: Sink>(&mut self, alloc: Global, sink: &mut K) -> Result<(), Stop>
-        ensures ok { OnOk result
-            (AnswersLine self.old self.new (K.taken sink.old) (K.taken sink.new)) }
+    /// Answers the line that was kept, and begins the next one.
+    #[cold]
+    #[inline(never)]
+    fn end_kept<K: Sink>(&mut self, alloc: Global, sink: &mut K) -> Result<(), Stop>
+        ensures ok { OnOk result (AnswersText self.old self.new (K.taken sink.old)
+            (K.taken sink.new) self.old.line.items) }
         ensures sink { result ≡ Err Stop.Sink → Rose (K.faults sink.old) (K.faults sink.new) }
         ensures cut { result ≡ Err Stop.Sink
             → CutOff (K.taken sink.old) (K.taken sink.new) self.old.out.bytes.items }
         ensures memory { result ≡ Err Stop.Memory
-            → LacksMemory self.old self.new (K.taken sink.old) (K.taken sink.new) }
+            → LacksMemory self.old self.new (K.taken sink.old) (K.taken sink.new)
+            self.old.line.items }
         ensures later { K.faults sink.old ≤ K.faults sink.new }
     {
         if let Some(answer) = self.engine.text(alloc, self.line.as_slice())? {
             self.out.add_answer(sink, &answer)?;
         }
         self.line.clear();
+        Ok(())
+    }
+
+    /// Answers the line that ends with `part`, and begins the next one. A line that begins with it
+    /// too is read where it stands.
+    fn end_line<K: Sink>(&mut self, alloc: Global, sink: &mut K, part: &[u8]) -> Result<(), Stop>
+        ensures ok { OnOk result (AnswersText self.old self.new (K.taken sink.old)
+            (K.taken sink.new) (self.old.line.items ++ part.now)) }
+        ensures sink { result ≡ Err Stop.Sink → Rose (K.faults sink.old) (K.faults sink.new) }
+        ensures cut { result ≡ Err Stop.Sink
+            → CutOff (K.taken sink.old) (K.taken sink.new) self.old.out.bytes.items }
+        ensures memory { result ≡ Err Stop.Memory
+            → LacksMemory self.old self.new (K.taken sink.old) (K.taken sink.new)
+            (self.old.line.items ++ part.now) }
+        ensures later { K.faults sink.old ≤ K.faults sink.new }
+    {
+        if !self.line.is_empty() {
+            self.keep(part);
+            return self.end_kept(alloc, sink);
+        }
+        if let Some(answer) = self.engine.text(alloc, part)? {
+            self.out.add_answer(sink, &answer)?;
+        }
         Ok(())
     }
 
@@ -86,8 +113,7 @@ impl Replayer {
     {
         let mut rest = piece;
         while let Some(end) = line_end(rest) {
-            self.keep(&rest[..end]);
-            self.end_line(alloc, sink)?;
+            self.end_line(alloc, sink, &rest[..end])?;
             rest = &rest[end + 1..];
         }
         self.keep(rest);
@@ -105,7 +131,7 @@ impl Replayer {
         ensures later { K.faults sink.old ≤ K.faults sink.new }
     {
         if !self.line.is_empty() {
-            self.end_line(alloc, sink)?;
+            self.end_kept(alloc, sink)?;
         }
         self.write_out(sink)?;
         Ok(())
@@ -181,7 +207,7 @@ fn extend(line: &mut ArrayVec<u8, LINE>, bytes: &[u8])
 fn line_end(bytes: &[u8]) -> Option<usize>
     ensures { result ≡ position (λ b. nat_eq b LF) bytes.now }
 {
-    bytes.iter().position(|byte| *byte == LF)
+    memchr(LF, bytes)
 }
 
 /// Reads at most `most` bytes into the front of `piece`.

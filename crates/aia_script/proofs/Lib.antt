@@ -1,5 +1,5 @@
 pub mod WordLemmas
-pub mod NumberLemmas
 pub mod DigitLemmas
 pub mod PrintLemmas
 pub mod NameLemmas
+pub mod SpelledLemmas

@@ -12,7 +12,6 @@ use Rattle.aia_regs.specs.declared.access.Csr.{Csr}
 use Rattle.aia_regs.specs.Operations.{FitsOp}
 use Rattle.aia_model.specs.Grammar.{Field, instruction}
 use Rattle.aia_model.specs.Printing.{field_text, FitsField}
-use Rattle.aia_script.proofs.NumberLemmas.{two_digits}
 use Rattle.aia_regs.specs.declared.access.Level.{Level}
 use Rattle.aia_model.specs.Grammar.{csr_field}
 use Rattle.aia_model.proofs.Printed.{name_in_range}
@@ -31,6 +30,10 @@ joined_instruction word csr (ops.Clear v) = refl
 pub few_digits : (radix : Radix) (n : ℕ) → n < 2 ^ 64 → length (digits_of (base radix) n) ≤ 20
 few_digits Decimal n low = length-digits_of-le 10 20 n (omega arith) (omega arith)
 few_digits Hexadecimal n low = let few : length (digits_of 16 n) ≤ 16 = length-digits_of-le 16 16 n (omega arith) (omega arith) in omega arith
+
+two_digits : (radix : Radix) → 2 ≤ base radix
+two_digits Decimal = omega arith
+two_digits Hexadecimal = omega arith
 
 -- the digits above the last one, and the last one
 pub digits_above : (radix : Radix) (b n : ℕ) → b ≡ base radix → 0 < n → length (digits_of (base radix) n) ≡ length (digits_of (base radix) (n / b)) + 1

@@ -1,5 +1,5 @@
 -- The words that a cursor has left.
-use Rattle.std.specs.Prelude.{ℕ, List, [], Option, Some, None}
+use Rattle.std.specs.Prelude.{ℕ, nat_eq, if◌then◌else◌, List, [], ◌∷◌, Option, Some, None}
 use Rattle.std.specs.Borrow.{Bor}
 use Rattle.aia_model.specs.Text.{words_of}
 use Rattle.aia_script.specs.declared.words.Words.{Words}
@@ -10,3 +10,8 @@ words_of_rest (Some text) = words_of text.now
 
 abbrev pub left : Words → List (List ℕ)
 left words = words_of_rest words.rest
+
+-- The words after a word that ends where a text begins; None where it goes on there.
+abbrev pub words_after : List ℕ → Option (List (List ℕ))
+words_after [] = Some []
+words_after (c ∷ cs) = if nat_eq c 32 then Some (words_of cs) else None

@@ -8,7 +8,7 @@ ghost use Rattle.aia_model.specs.Reading.{named, csr_at, read_at, write_at, inst
 ghost use Rattle.aia_script.specs.Cursor.{left};
 
 use crate::number::number_at;
-use crate::words::{Words, at_end, word_at};
+use crate::words::{Words, at_end, is_word, word_at};
 use aia_regs::{Csr, Level, Op};
 
 /// Gives the names of a level's CSRs, each with the CSR that it names.
@@ -38,11 +38,12 @@ fn csr_names(level: Level) -> &'static [(&'static [u8], Csr)]
 }
 
 /// Gives the CSR that a word names at a level; `None` where it names none.
+#[inline(always)]
 fn named(level: Level, word: &[u8]) -> Option<Csr>
     ensures { result ≡ named level word.now }
 {
     for (name, csr) in csr_names(level) {
-        if word == *name {
+        if is_word(word, name) {
             return Some(*csr);
         }
     }
@@ -64,48 +65,52 @@ pub fn csr_name(level: Level, csr: Csr) -> &'static [u8]
 /// Reads the CSR that the next word names, and gives the words after it; `None` where it names
 /// none.
 #[tactic(auto, unfolding(aia_model::specs::Reading::csr_at))]
-fn csr_at(level: Level, words: Words<'_>) -> Option<(Csr, Words<'_>)>
-    ensures { option_map (λ p. (p.0, left p.1)) result ≡ csr_at (named level) (left words.entry) }
+#[inline(always)]
+fn csr_at(level: Level, words: &mut Words<'_>) -> Option<Csr>
+    ensures { option_map (λ csr. (csr, left words.new)) result
+        ≡ csr_at (named level) (left words.old) }
 {
-    let (word, words) = word_at(words)?;
-    Some((named(level, word)?, words))
+    named(level, word_at(words)?)
 }
 
 /// Reads the CSR that the words after `csrr` spell; `None` where they spell none.
 #[tactic(auto, unfolding(aia_model::specs::Reading::read_at))]
-fn read_at(level: Level, words: Words<'_>) -> Option<(Csr, Op)>
-    ensures { result ≡ read_at (named level) (left words.entry) }
+#[inline(always)]
+fn read_at(level: Level, words: &mut Words<'_>) -> Option<(Csr, Op)>
+    ensures { result ≡ read_at (named level) (left words.old) }
 {
-    let (csr, words) = csr_at(level, words)?;
+    let csr = csr_at(level, words)?;
     at_end(words, (csr, Op::Read))
 }
 
 /// Reads the CSR and the operand that the words after `csrrw`, `csrrs` or `csrrc` spell; `None`
 /// where they spell none.
 #[tactic(auto, unfolding(aia_model::specs::Reading::write_at))]
-fn operand_at(level: Level, words: Words<'_>) -> Option<(Csr, u64)>
+#[inline(always)]
+fn operand_at(level: Level, words: &mut Words<'_>) -> Option<(Csr, u64)>
     ensures { (op : ℕ → Op) → option_map (λ p. (p.0, op p.1)) result
-        ≡ write_at (named level) op (left words.entry) }
+        ≡ write_at (named level) op (left words.old) }
 {
-    let (csr, words) = csr_at(level, words)?;
-    let (value, words) = number_at(words)?;
+    let csr = csr_at(level, words)?;
+    let value = number_at(words)?;
     at_end(words, (csr, value))
 }
 
 /// Reads the CSR and the operation that a mnemonic and the words after it spell; `None` where they
 /// spell none.
-pub fn instruction_after(level: Level, mnemonic: &[u8], words: Words<'_>) -> Option<(Csr, Op)>
-    ensures { result ≡ instruction_after (named level) mnemonic.now (left words.entry) }
+#[inline(always)]
+pub fn instruction_after(level: Level, mnemonic: &[u8], words: &mut Words<'_>) -> Option<(Csr, Op)>
+    ensures { result ≡ instruction_after (named level) mnemonic.now (left words.old) }
 {
-    if mnemonic == b"csrr".as_slice() {
+    if is_word(mnemonic, b"csrr") {
         return read_at(level, words);
     }
     let (csr, operand) = operand_at(level, words)?;
-    if mnemonic == b"csrrw".as_slice() {
+    if is_word(mnemonic, b"csrrw") {
         Some((csr, Op::Write(operand)))
-    } else if mnemonic == b"csrrs".as_slice() {
+    } else if is_word(mnemonic, b"csrrs") {
         Some((csr, Op::Set(operand)))
-    } else if mnemonic == b"csrrc".as_slice() {
+    } else if is_word(mnemonic, b"csrrc") {
         Some((csr, Op::Clear(operand)))
     } else {
         None
@@ -115,9 +120,10 @@ pub fn instruction_after(level: Level, mnemonic: &[u8], words: Words<'_>) -> Opt
 /// Reads the CSR and the operation that words spell, by the level's names; `None` where they spell
 /// none.
 #[tactic(auto, unfolding(aia_model::specs::Reading::instruction_at))]
-pub fn instruction_at(level: Level, words: Words<'_>) -> Option<(Csr, Op)>
-    ensures { result ≡ instruction_at (named level) (left words.entry) }
+#[inline(always)]
+pub fn instruction_at(level: Level, words: &mut Words<'_>) -> Option<(Csr, Op)>
+    ensures { result ≡ instruction_at (named level) (left words.old) }
 {
-    let (mnemonic, words) = word_at(words)?;
+    let mnemonic = word_at(words)?;
     instruction_after(level, mnemonic, words)
 }

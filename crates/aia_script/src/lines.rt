@@ -6,19 +6,20 @@ ghost use Rattle.aia_script.specs.Cursor.{left};
 
 use crate::instructions::{instruction_after, instruction_at};
 use crate::number::{bit_at, n32_at, number_at};
-use crate::words::{Words, at_end, word_at};
+use crate::words::{Words, at_end, is_word, word_at};
 use aia_model::Line;
 use aia_regs::Level;
 
 /// Reads the line that the words after `machine` spell; `None` where they spell none.
 #[tactic(auto, unfolding(aia_model::specs::Reading::machine_at))]
-fn machine_at(words: Words<'_>) -> Option<Line>
-    ensures { result ≡ machine_at (left words.entry) }
+#[inline(always)]
+fn machine_at(words: &mut Words<'_>) -> Option<Line>
+    ensures { result ≡ machine_at (left words.old) }
 {
-    let (harts, words) = number_at(words)?;
-    let (guests, words) = number_at(words)?;
-    let (n, words) = number_at(words)?;
-    let (sources, words) = number_at(words)?;
+    let harts = number_at(words)?;
+    let guests = number_at(words)?;
+    let n = number_at(words)?;
+    let sources = number_at(words)?;
     at_end(
         words,
         Line::Machine {
@@ -32,73 +33,80 @@ fn machine_at(words: Words<'_>) -> Option<Line>
 
 /// Reads the line that the words after `vm` spell; `None` where they spell none.
 #[tactic(auto, unfolding(aia_model::specs::Reading::vm_at))]
-fn vm_at(words: Words<'_>) -> Option<Line>
-    ensures { result ≡ vm_at (left words.entry) }
+#[inline(always)]
+fn vm_at(words: &mut Words<'_>) -> Option<Line>
+    ensures { result ≡ vm_at (left words.old) }
 {
-    let (vcpus, words) = number_at(words)?;
-    let (mask, words) = number_at(words)?;
-    let (hart, words) = number_at(words)?;
+    let vcpus = number_at(words)?;
+    let mask = number_at(words)?;
+    let hart = number_at(words)?;
     at_end(words, Line::Vm { vcpus, mask, hart })
 }
 
 /// Reads the line that the words after `wire` spell; `None` where they spell none.
 #[tactic(auto, unfolding(aia_model::specs::Reading::wire_at))]
-fn wire_at(words: Words<'_>) -> Option<Line>
-    ensures { result ≡ wire_at (left words.entry) }
+#[inline(always)]
+fn wire_at(words: &mut Words<'_>) -> Option<Line>
+    ensures { result ≡ wire_at (left words.old) }
 {
-    let (source, words) = number_at(words)?;
-    let (level, words) = bit_at(words)?;
+    let source = number_at(words)?;
+    let level = bit_at(words)?;
     at_end(words, Line::Wire { source, level })
 }
 
 /// Reads the line that the words after `st` spell; `None` where they spell none.
 #[tactic(auto, unfolding(aia_model::specs::Reading::store_at))]
-fn store_at(words: Words<'_>) -> Option<Line>
-    ensures { result ≡ store_at (left words.entry) }
+#[inline(always)]
+fn store_at(words: &mut Words<'_>) -> Option<Line>
+    ensures { result ≡ store_at (left words.old) }
 {
-    let (addr, words) = number_at(words)?;
-    let (value, words) = n32_at(words)?;
+    let addr = number_at(words)?;
+    let value = n32_at(words)?;
     at_end(words, Line::Store { addr, value })
 }
 
 /// Reads the line that the words after `ld` spell; `None` where they spell none.
 #[tactic(auto, unfolding(aia_model::specs::Reading::load_at))]
-fn load_at(words: Words<'_>) -> Option<Line>
-    ensures { result ≡ load_at (left words.entry) }
+#[inline(always)]
+fn load_at(words: &mut Words<'_>) -> Option<Line>
+    ensures { result ≡ load_at (left words.old) }
 {
-    let (addr, words) = number_at(words)?;
+    let addr = number_at(words)?;
     at_end(words, Line::Load { addr })
 }
 
 /// Reads the line that the words after `msi` spell; `None` where they spell none.
 #[tactic(auto, unfolding(aia_model::specs::Reading::msi_at))]
-fn msi_at(words: Words<'_>) -> Option<Line>
-    ensures { result ≡ msi_at (left words.entry) }
+#[inline(always)]
+fn msi_at(words: &mut Words<'_>) -> Option<Line>
+    ensures { result ≡ msi_at (left words.old) }
 {
-    let (vm, words) = number_at(words)?;
-    let (addr, words) = number_at(words)?;
-    let (value, words) = n32_at(words)?;
+    let vm = number_at(words)?;
+    let addr = number_at(words)?;
+    let value = n32_at(words)?;
     at_end(words, Line::Msi { vm, addr, value })
 }
 
 /// Reads the line that the words after `m` spell; `None` where they spell none.
 #[tactic(auto, unfolding(aia_model::specs::Reading::machine_csr_at))]
-fn machine_csr_at(words: Words<'_>) -> Option<Line>
-    ensures { result ≡ machine_csr_at (left words.entry) }
+#[inline(always)]
+fn machine_csr_at(words: &mut Words<'_>) -> Option<Line>
+    ensures { result ≡ machine_csr_at (left words.old) }
 {
-    let (hart, words) = number_at(words)?;
+    let hart = number_at(words)?;
     let (csr, op) = instruction_at(Level::Machine, words)?;
     Some(Line::MachineCsr { hart, csr, op })
 }
 
 /// Reads the line that the words after `h` spell; `None` where they spell none.
 #[tactic(auto, unfolding(aia_model::specs::Reading::host_at))]
-fn host_at(words: Words<'_>) -> Option<Line>
-    ensures { result ≡ host_at (left words.entry) }
+#[inline(always)]
+fn host_at(words: &mut Words<'_>) -> Option<Line>
+    ensures { result ≡ host_at (left words.old) }
 {
-    let (hart, words) = number_at(words)?;
-    let (word, words) = word_at(words)?;
-    if word == b"hgeip".as_slice() {
+    let hart = number_at(words)?;
+    let word = word_at(words)?;
+    if is_word(word, b"hgeip") {
         return at_end(words, Line::Hgeip { hart });
     }
     let (csr, op) = instruction_after(Level::Host, word, words)?;
@@ -108,11 +116,12 @@ fn host_at(words: Words<'_>) -> Option<Line>
 /// Reads the line that the words after `g`, the numbers of a virtual hart and `ipi` spell; `None`
 /// where they spell none.
 #[tactic(auto, unfolding(aia_model::specs::Reading::ipi_at))]
-fn ipi_at(vm: u64, vcpu: u64, words: Words<'_>) -> Option<Line>
-    ensures { result ≡ ipi_at vm vcpu (left words.entry) }
+#[inline(always)]
+fn ipi_at(vm: u64, vcpu: u64, words: &mut Words<'_>) -> Option<Line>
+    ensures { result ≡ ipi_at vm vcpu (left words.old) }
 {
-    let (to, words) = number_at(words)?;
-    let (value, words) = n32_at(words)?;
+    let to = number_at(words)?;
+    let value = n32_at(words)?;
     at_end(
         words,
         Line::Ipi {
@@ -126,13 +135,14 @@ fn ipi_at(vm: u64, vcpu: u64, words: Words<'_>) -> Option<Line>
 
 /// Reads the line that the words after `g` spell; `None` where they spell none.
 #[tactic(auto, unfolding(aia_model::specs::Reading::guest_at))]
-fn guest_at(words: Words<'_>) -> Option<Line>
-    ensures { result ≡ guest_at (left words.entry) }
+#[inline(always)]
+fn guest_at(words: &mut Words<'_>) -> Option<Line>
+    ensures { result ≡ guest_at (left words.old) }
 {
-    let (vm, words) = number_at(words)?;
-    let (vcpu, words) = number_at(words)?;
-    let (word, words) = word_at(words)?;
-    if word == b"ipi".as_slice() {
+    let vm = number_at(words)?;
+    let vcpu = number_at(words)?;
+    let word = word_at(words)?;
+    if is_word(word, b"ipi") {
         return ipi_at(vm, vcpu, words);
     }
     let (csr, op) = instruction_after(Level::Guest, word, words)?;
@@ -141,77 +151,84 @@ fn guest_at(words: Words<'_>) -> Option<Line>
 
 /// Reads the line that the words after `arrive` spell; `None` where they spell none.
 #[tactic(auto, unfolding(aia_model::specs::Reading::arrive_at))]
-fn arrive_at(words: Words<'_>) -> Option<Line>
-    ensures { result ≡ arrive_at (left words.entry) }
+#[inline(always)]
+fn arrive_at(words: &mut Words<'_>) -> Option<Line>
+    ensures { result ≡ arrive_at (left words.old) }
 {
-    let (vm, words) = number_at(words)?;
-    let (vcpu, words) = number_at(words)?;
-    let (hart, words) = number_at(words)?;
+    let vm = number_at(words)?;
+    let vcpu = number_at(words)?;
+    let hart = number_at(words)?;
     at_end(words, Line::Arrive { vm, vcpu, hart })
 }
 
 /// Reads the line that the words after `leave` spell; `None` where they spell none.
 #[tactic(auto, unfolding(aia_model::specs::Reading::leave_at))]
-fn leave_at(words: Words<'_>) -> Option<Line>
-    ensures { result ≡ leave_at (left words.entry) }
+#[inline(always)]
+fn leave_at(words: &mut Words<'_>) -> Option<Line>
+    ensures { result ≡ leave_at (left words.old) }
 {
-    let (vm, words) = number_at(words)?;
-    let (vcpu, words) = number_at(words)?;
+    let vm = number_at(words)?;
+    let vcpu = number_at(words)?;
     at_end(words, Line::Leave { vm, vcpu })
 }
 
 /// Reads the line that the words after `shift` spell; `None` where they spell none.
 #[tactic(auto, unfolding(aia_model::specs::Reading::shift_at))]
-fn shift_at(words: Words<'_>) -> Option<Line>
-    ensures { result ≡ shift_at (left words.entry) }
+#[inline(always)]
+fn shift_at(words: &mut Words<'_>) -> Option<Line>
+    ensures { result ≡ shift_at (left words.old) }
 {
-    let (vm, words) = number_at(words)?;
-    let (vcpu, words) = number_at(words)?;
-    let (hart, words) = number_at(words)?;
+    let vm = number_at(words)?;
+    let vcpu = number_at(words)?;
+    let hart = number_at(words)?;
     at_end(words, Line::Shift { vm, vcpu, hart })
 }
 
 /// Reads the line that the words after `begin arrive` spell; `None` where they spell none.
 #[tactic(auto, unfolding(aia_model::specs::Reading::begin_arrive_at))]
-fn begin_arrive_at(words: Words<'_>) -> Option<Line>
-    ensures { result ≡ begin_arrive_at (left words.entry) }
+#[inline(always)]
+fn begin_arrive_at(words: &mut Words<'_>) -> Option<Line>
+    ensures { result ≡ begin_arrive_at (left words.old) }
 {
-    let (vm, words) = number_at(words)?;
-    let (vcpu, words) = number_at(words)?;
-    let (hart, words) = number_at(words)?;
+    let vm = number_at(words)?;
+    let vcpu = number_at(words)?;
+    let hart = number_at(words)?;
     at_end(words, Line::BeginArrive { vm, vcpu, hart })
 }
 
 /// Reads the line that the words after `begin leave` spell; `None` where they spell none.
 #[tactic(auto, unfolding(aia_model::specs::Reading::begin_leave_at))]
-fn begin_leave_at(words: Words<'_>) -> Option<Line>
-    ensures { result ≡ begin_leave_at (left words.entry) }
+#[inline(always)]
+fn begin_leave_at(words: &mut Words<'_>) -> Option<Line>
+    ensures { result ≡ begin_leave_at (left words.old) }
 {
-    let (vm, words) = number_at(words)?;
-    let (vcpu, words) = number_at(words)?;
+    let vm = number_at(words)?;
+    let vcpu = number_at(words)?;
     at_end(words, Line::BeginLeave { vm, vcpu })
 }
 
 /// Reads the line that the words after `begin shift` spell; `None` where they spell none.
 #[tactic(auto, unfolding(aia_model::specs::Reading::begin_shift_at))]
-fn begin_shift_at(words: Words<'_>) -> Option<Line>
-    ensures { result ≡ begin_shift_at (left words.entry) }
+#[inline(always)]
+fn begin_shift_at(words: &mut Words<'_>) -> Option<Line>
+    ensures { result ≡ begin_shift_at (left words.old) }
 {
-    let (vm, words) = number_at(words)?;
-    let (vcpu, words) = number_at(words)?;
-    let (hart, words) = number_at(words)?;
+    let vm = number_at(words)?;
+    let vcpu = number_at(words)?;
+    let hart = number_at(words)?;
     at_end(words, Line::BeginShift { vm, vcpu, hart })
 }
 
 /// Reads the line that the words after `begin` and a word spell; `None` where they spell none.
-fn begin_after(name: &[u8], words: Words<'_>) -> Option<Line>
-    ensures { result ≡ begin_after name.now (left words.entry) }
+#[inline(always)]
+fn begin_after(name: &[u8], words: &mut Words<'_>) -> Option<Line>
+    ensures { result ≡ begin_after name.now (left words.old) }
 {
-    if name == b"arrive".as_slice() {
+    if is_word(name, b"arrive") {
         begin_arrive_at(words)
-    } else if name == b"leave".as_slice() {
+    } else if is_word(name, b"leave") {
         begin_leave_at(words)
-    } else if name == b"shift".as_slice() {
+    } else if is_word(name, b"shift") {
         begin_shift_at(words)
     } else {
         None
@@ -220,32 +237,35 @@ fn begin_after(name: &[u8], words: Words<'_>) -> Option<Line>
 
 /// Reads the line that the words after `begin` spell; `None` where they spell none.
 #[tactic(auto, unfolding(aia_model::specs::Reading::begin_at))]
-fn begin_at(words: Words<'_>) -> Option<Line>
-    ensures { result ≡ begin_at (left words.entry) }
+#[inline(always)]
+fn begin_at(words: &mut Words<'_>) -> Option<Line>
+    ensures { result ≡ begin_at (left words.old) }
 {
-    let (name, words) = word_at(words)?;
+    let name = word_at(words)?;
     begin_after(name, words)
 }
 
 /// Reads the line that the words after `step` spell; `None` where they spell none.
 #[tactic(auto, unfolding(aia_model::specs::Reading::step_at))]
-fn step_at(words: Words<'_>) -> Option<Line>
-    ensures { result ≡ step_at (left words.entry) }
+#[inline(always)]
+fn step_at(words: &mut Words<'_>) -> Option<Line>
+    ensures { result ≡ step_at (left words.old) }
 {
-    let (vm, words) = number_at(words)?;
-    let (vcpu, words) = number_at(words)?;
+    let vm = number_at(words)?;
+    let vcpu = number_at(words)?;
     at_end(words, Line::Step { vm, vcpu })
 }
 
 /// Reads the line that the words after `inject` spell; `None` where they spell none.
 #[tactic(auto, unfolding(aia_model::specs::Reading::inject_at))]
-fn inject_at(words: Words<'_>) -> Option<Line>
-    ensures { result ≡ inject_at (left words.entry) }
+#[inline(always)]
+fn inject_at(words: &mut Words<'_>) -> Option<Line>
+    ensures { result ≡ inject_at (left words.old) }
 {
-    let (vm, words) = number_at(words)?;
-    let (vcpu, words) = number_at(words)?;
-    let (bit, words) = number_at(words)?;
-    let (level, words) = bit_at(words)?;
+    let vm = number_at(words)?;
+    let vcpu = number_at(words)?;
+    let bit = number_at(words)?;
+    let level = bit_at(words)?;
     at_end(
         words,
         Line::Inject {
@@ -259,86 +279,91 @@ fn inject_at(words: Words<'_>) -> Option<Line>
 
 /// Reads the line that the words after `hvictl` spell; `None` where they spell none.
 #[tactic(auto, unfolding(aia_model::specs::Reading::hvictl_at))]
-fn hvictl_at(words: Words<'_>) -> Option<Line>
-    ensures { result ≡ hvictl_at (left words.entry) }
+#[inline(always)]
+fn hvictl_at(words: &mut Words<'_>) -> Option<Line>
+    ensures { result ≡ hvictl_at (left words.old) }
 {
-    let (vm, words) = number_at(words)?;
-    let (vcpu, words) = number_at(words)?;
-    let (value, words) = number_at(words)?;
+    let vm = number_at(words)?;
+    let vcpu = number_at(words)?;
+    let value = number_at(words)?;
     at_end(words, Line::Hvictl { vm, vcpu, value })
 }
 
 /// Reads the line that the words after `hviprio` spell; `None` where they spell none.
 #[tactic(auto, unfolding(aia_model::specs::Reading::hviprio_at))]
-fn hviprio_at(words: Words<'_>) -> Option<Line>
-    ensures { result ≡ hviprio_at (left words.entry) }
+#[inline(always)]
+fn hviprio_at(words: &mut Words<'_>) -> Option<Line>
+    ensures { result ≡ hviprio_at (left words.old) }
 {
-    let (vm, words) = number_at(words)?;
-    let (vcpu, words) = number_at(words)?;
-    let (value, words) = number_at(words)?;
+    let vm = number_at(words)?;
+    let vcpu = number_at(words)?;
+    let value = number_at(words)?;
     at_end(words, Line::Hviprio { vm, vcpu, value })
 }
 
 /// Reads the line that the words after `pins` spell; `None` where they spell none.
 #[tactic(auto, unfolding(aia_model::specs::Reading::pins_at))]
-fn pins_at(words: Words<'_>) -> Option<Line>
-    ensures { result ≡ pins_at (left words.entry) }
+#[inline(always)]
+fn pins_at(words: &mut Words<'_>) -> Option<Line>
+    ensures { result ≡ pins_at (left words.old) }
 {
-    let (hart, words) = number_at(words)?;
+    let hart = number_at(words)?;
     at_end(words, Line::Pins { hart })
 }
 
 /// Reads the line that the words after `entry` spell; `None` where they spell none.
 #[tactic(auto, unfolding(aia_model::specs::Reading::entry_at))]
-fn entry_at(words: Words<'_>) -> Option<Line>
-    ensures { result ≡ entry_at (left words.entry) }
+#[inline(always)]
+fn entry_at(words: &mut Words<'_>) -> Option<Line>
+    ensures { result ≡ entry_at (left words.old) }
 {
-    let (w0, words) = number_at(words)?;
-    let (w1, words) = number_at(words)?;
+    let w0 = number_at(words)?;
+    let w1 = number_at(words)?;
     at_end(words, Line::Entry { w0, w1 })
 }
 
 /// Reads the line that the words after a keyword spell; `None` where they spell none.
-fn line_after(keyword: &[u8], words: Words<'_>) -> Option<Line>
-    ensures { result ≡ line_after keyword.now (left words.entry) }
+#[inline(always)]
+fn line_after(keyword: &[u8], words: &mut Words<'_>) -> Option<Line>
+    ensures { result ≡ line_after keyword.now (left words.old) }
 {
-    if keyword == b"machine".as_slice() {
+    if is_word(keyword, b"machine") {
         machine_at(words)
-    } else if keyword == b"vm".as_slice() {
+    } else if is_word(keyword, b"vm") {
         vm_at(words)
-    } else if keyword == b"wire".as_slice() {
+    } else if is_word(keyword, b"wire") {
         wire_at(words)
-    } else if keyword == b"ld".as_slice() {
+    } else if is_word(keyword, b"ld") {
         load_at(words)
-    } else if keyword == b"st".as_slice() {
+    } else if is_word(keyword, b"st") {
         store_at(words)
-    } else if keyword == b"msi".as_slice() {
+    } else if is_word(keyword, b"msi") {
         msi_at(words)
-    } else if keyword == b"m".as_slice() {
+    } else if is_word(keyword, b"m") {
         machine_csr_at(words)
-    } else if keyword == b"h".as_slice() {
+    } else if is_word(keyword, b"h") {
         host_at(words)
-    } else if keyword == b"g".as_slice() {
+    } else if is_word(keyword, b"g") {
         guest_at(words)
-    } else if keyword == b"arrive".as_slice() {
+    } else if is_word(keyword, b"arrive") {
         arrive_at(words)
-    } else if keyword == b"leave".as_slice() {
+    } else if is_word(keyword, b"leave") {
         leave_at(words)
-    } else if keyword == b"shift".as_slice() {
+    } else if is_word(keyword, b"shift") {
         shift_at(words)
-    } else if keyword == b"begin".as_slice() {
+    } else if is_word(keyword, b"begin") {
         begin_at(words)
-    } else if keyword == b"step".as_slice() {
+    } else if is_word(keyword, b"step") {
         step_at(words)
-    } else if keyword == b"inject".as_slice() {
+    } else if is_word(keyword, b"inject") {
         inject_at(words)
-    } else if keyword == b"hvictl".as_slice() {
+    } else if is_word(keyword, b"hvictl") {
         hvictl_at(words)
-    } else if keyword == b"hviprio".as_slice() {
+    } else if is_word(keyword, b"hviprio") {
         hviprio_at(words)
-    } else if keyword == b"pins".as_slice() {
+    } else if is_word(keyword, b"pins") {
         pins_at(words)
-    } else if keyword == b"entry".as_slice() {
+    } else if is_word(keyword, b"entry") {
         entry_at(words)
     } else {
         None
@@ -347,9 +372,10 @@ fn line_after(keyword: &[u8], words: Words<'_>) -> Option<Line>
 
 /// Reads the line that words spell; `None` where they spell none.
 #[tactic(auto, unfolding(aia_model::specs::Reading::line_at))]
-pub fn line_at(words: Words<'_>) -> Option<Line>
-    ensures { result ≡ line_at (left words.entry) }
+#[inline(always)]
+pub fn line_at(words: &mut Words<'_>) -> Option<Line>
+    ensures { result ≡ line_at (left words.old) }
 {
-    let (keyword, words) = word_at(words)?;
+    let keyword = word_at(words)?;
     line_after(keyword, words)
 }

@@ -3,8 +3,8 @@
 ghost use Rattle.std.specs.Prelude.{◌≡◌, nat_eq, position};
 ghost use Rattle.std.specs.Option.{option_map};
 ghost use Rattle.aia_model.specs.Text.{words_of};
-ghost use Rattle.aia_model.specs.Reading.{word_at, whole};
-ghost use Rattle.aia_script.specs.Cursor.{left};
+ghost use Rattle.aia_model.specs.Reading.{is_word, word_at, whole};
+ghost use Rattle.aia_script.specs.Cursor.{left, words_after};
 
 /// The words of a text that are still to be read: a single space stands between one word and the
 /// next.
@@ -21,6 +21,28 @@ pub fn all_words(text: &[u8]) -> Words<'_>
     Words { rest: Some(text) }
 }
 
+impl<'a> Words<'a> {
+    /// Gives the text from the next word on; `None` where no word is left.
+    #[inline(always)]
+    pub fn rest(&self) -> Option<&'a [u8]>
+        ensures { result ≡ self.now.rest }
+    {
+        self.rest
+    }
+}
+
+/// Gives the words after a word that ends where `rest` begins; `None` where it goes on there.
+#[inline(always)]
+pub fn words_after(rest: &[u8]) -> Option<Words<'_>>
+    ensures { option_map left result ≡ words_after rest.now }
+{
+    match rest {
+        [] => Some(Words { rest: None }),
+        [b' ', rest @ ..] => Some(Words { rest: Some(rest) }),
+        _ => None,
+    }
+}
+
 /// Finds the place of the first space of a text; `None` where it has none.
 fn first_space(text: &[u8]) -> Option<usize>
     ensures { result ≡ position (λ byte. nat_eq byte 32) text.now }
@@ -28,29 +50,48 @@ fn first_space(text: &[u8]) -> Option<usize>
     text.iter().position(|byte| *byte == b' ')
 }
 
-/// Gives the next word, and the words after it; `None` where no word is left.
-pub fn word_at(words: Words<'_>) -> Option<(&[u8], Words<'_>)>
-    ensures { option_map (λ p. (p.0.now, left p.1)) result ≡ word_at (left words.entry) }
+/// Reads the next word; `None` where no word is left.
+#[inline(always)]
+pub fn word_at<'a>(words: &mut Words<'a>) -> Option<&'a [u8]>
+    ensures { option_map (λ word. (word.now, left words.new)) result ≡ word_at (left words.old) }
 {
     let text = words.rest?;
     match first_space(text) {
-        Some(space) => Some((
-            &text[..space],
-            Words {
-                rest: Some(&text[space + 1..]),
-            },
-        )),
-        None => Some((text, Words { rest: None })),
+        Some(space) => {
+            words.rest = Some(&text[space + 1..]);
+            Some(&text[..space])
+        }
+        None => {
+            words.rest = None;
+            Some(text)
+        }
     }
 }
 
 /// Gives `found` where no word is left; `None` where one is.
+#[inline(always)]
 #[tactic(auto, using(crate::proofs::WordLemmas::words_left))]
-pub fn at_end<T: Copy>(words: Words<'_>, found: T) -> Option<T>
-    ensures { result ≡ whole (left words.entry) found }
+pub fn at_end<T: Copy>(words: &Words<'_>, found: T) -> Option<T>
+    ensures { result ≡ whole (left words.now) found }
 {
     match words.rest {
         None => Some(found),
         Some(_) => None,
     }
+}
+
+/// Tells whether a word is the other.
+#[inline(always)]
+pub fn is_word(word: &[u8], name: &[u8]) -> bool
+    ensures { result ≡ is_word word.now name.now }
+{
+    if word.len() != name.len() {
+        return false;
+    }
+    for at in 0..name.len() {
+        if word[at] != name[at] {
+            return false;
+        }
+    }
+    true
 }
