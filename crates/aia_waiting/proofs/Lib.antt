@@ -1,3 +1,4 @@
 pub mod OrderLemmas
 pub mod OrderedLemmas
+pub mod FallingLemmas
 pub mod WordLemmas

@@ -1,4 +1,4 @@
-ghost use Rattle.std.specs.Prelude.{◌≡◌, ◌<◌, ◌≤◌, [], length, slice_get, true, false, IfOk};
+ghost use Rattle.std.specs.Prelude.{◌≡◌, ◌<◌, ◌≤◌, [], length, reverse, not, slice_get, true, false, IfOk};
 ghost use Rattle.std.specs.List.Sorted.{IsPartitionPoint};
 ghost use Rattle.aia_waiting.specs.Order.{comes_before, IsRising, is_pair, put_in, taken_out};
 
@@ -11,21 +11,22 @@ use std::marker::Model;
 /// AIA 1.0, APLIC, "Interrupt delivery directly by the APLIC".
 #[derive(Drop)]
 pub struct Candidates {
-    pairs: Vec<(u32, u32)>,
+    /// In falling order, so that the least one, which a claim takes out, stands at the end.
+    falling: Vec<(u32, u32)>,
     room: usize,
 }
 
 impl Model for Candidates {
-    ghost use Rattle.std.specs.Prelude.{◌≤◌, length};
+    ghost use Rattle.std.specs.Prelude.{◌≤◌, length, reverse};
     ghost use Rattle.std.specs.Vec.{vec_capacity};
     ghost use Rattle.aia_waiting.specs.Order.{CandidatesState, IsRising};
 
     ghost Value = { CandidatesState };
 
-    ghost view = { λ c. record { room = c.room; pairs = c.pairs.items } };
+    ghost view = { λ c. record { room = c.room; pairs = reverse c.falling.items } };
 
-    ghost invariant = { λ c. (c.room ≤ vec_capacity c.pairs) × (length c.pairs.items ≤ c.room)
-        × IsRising c.pairs.items };
+    ghost invariant = { λ c. (c.room ≤ vec_capacity c.falling)
+        × (length c.falling.items ≤ c.room) × IsRising (reverse c.falling.items) };
 }
 
 impl Candidates {
@@ -33,8 +34,8 @@ impl Candidates {
     pub fn new(alloc: Global, room: usize) -> Result<Candidates, AllocError>
         ensures { IfOk result (λ c. c ≡ record { room = room; pairs = [] }) }
     {
-        let pairs = Vec::with_capacity(alloc, room)?;
-        Ok(Candidates { pairs, room })
+        let falling = Vec::with_capacity(alloc, room)?;
+        Ok(Candidates { falling, room })
     }
 
     /// Gives the pair at a place, counted from 0: its priority and its number; `None` exactly past
@@ -43,7 +44,12 @@ impl Candidates {
         ensures pair { result ≡ slice_get self.now.pairs place }
         ensures rising { IsRising self.now.pairs }
     {
-        self.pairs.get(place).copied()
+        let end = self.falling.len();
+        if place < end {
+            Some(self.falling[end - 1 - place])
+        } else {
+            None
+        }
     }
 
     /// Puts a pair at its place, behind those that come before it. There is room for it.
@@ -51,8 +57,8 @@ impl Candidates {
         requires room { length self.old.pairs < self.old.room }
         ensures { self.new ≡ record self.old { pairs = put_in pair self.old.pairs } }
     {
-        let place = place_of(&self.pairs, pair);
-        match self.pairs.insert(place, pair) {
+        let place = place_of(&self.falling, pair);
+        match self.falling.insert(place, pair) {
             Ok(()) => {}
             Err(_) => unreachable!(),
         }
@@ -62,9 +68,9 @@ impl Candidates {
     pub fn take_out(&mut self, pair: (u32, u32))
         ensures { self.new ≡ record self.old { pairs = taken_out pair self.old.pairs } }
     {
-        let place = place_of(&self.pairs, pair);
-        if place < self.pairs.len() && pair == self.pairs[place] {
-            let _pair = self.pairs.remove(place);
+        let place = place_of(&self.falling, pair);
+        if place > 0 && pair == self.falling[place - 1] {
+            let _pair = self.falling.remove(place - 1);
         }
     }
 
@@ -72,21 +78,21 @@ impl Candidates {
     pub fn clear(&mut self)
         ensures { self.new ≡ record self.old { pairs = [] } }
     {
-        self.pairs.clear();
+        self.falling.clear();
     }
 }
 
-/// Gives the place behind all pairs that come before this one.
-fn place_of(pairs: &[(u32, u32)], pair: (u32, u32)) -> usize
-    requires rising { IsRising pairs.now }
-    ensures within { result ≤ length pairs.now }
-    ensures point { IsPartitionPoint (λ q. comes_before q pair ≡ true)
-        (λ q. comes_before q pair ≡ false) pairs.now result }
+/// Gives the place behind all pairs that don't come before this one, in falling order.
+fn place_of(falling: &[(u32, u32)], pair: (u32, u32)) -> usize
+    requires rising { IsRising (reverse falling.now) }
+    ensures within { result ≤ length falling.now }
+    ensures point { IsPartitionPoint (λ q. comes_before q pair ≡ false)
+        (λ q. comes_before q pair ≡ true) falling.now result }
 {
-    pairs.partition_point(
+    falling.partition_point(
         |other: &(u32, u32)| -> bool
-            ensures { result ≡ comes_before other.now pair }
-        { comes_before(*other, pair) },
+            ensures { result ≡ not (comes_before other.now pair) }
+        { !comes_before(*other, pair) },
     )
 }
 
