@@ -10,7 +10,7 @@ use Rattle.aia_model.specs.declared.parsed.Parsed.TheVariants.{Skip, Bad, Line}
 use Rattle.aia_model.specs.Event.{History}
 use Rattle.aia_model.specs.Text.{texts_of, words_of}
 use Rattle.aia_model.specs.Reading.{reading, parsed_of, line_at}
-use Rattle.aia_model.specs.Script.{answers, answers_from, printed, text_answer, after_text, after_texts, history_of}
+use Rattle.aia_model.specs.Script.{answers, answers_from, printed, text_answer, after_text, after_texts}
 use Rattle.aia_replay.specs.declared.engine.Engine.{Engine}
 use Rattle.aia_replay.specs.declared.replayer.Replayer.{Replayer}
 use Rattle.aia_replay.specs.declared.buffered.Buffered.{Buffered}

@@ -1,11 +1,10 @@
 -- The engine after one line more, and the summary of the lines that it answered.
-use Rattle.std.proofs.Common.{◌≡◌, ℕ, ◌+◌, ◌-◌, ◌*◌, ◌^◌, ◌<◌, ◌≤◌, min, List, [], ◌∷◌, ◌++◌, length, Option, inl, inr, refl, sym, subst, ◌∙◌, arith}
+use Rattle.std.proofs.Common.{◌≡◌, ℕ, ◌-◌, ◌^◌, ◌≤◌, min, List, [], ◌∷◌, ◌++◌, Option, inl, inr, refl, sym, subst, ◌∙◌, arith}
 use Rattle.std.specs.Io.KnownBytes.{Appends}
 use Rattle.aia_io.specs.Ends.{Rose}
 use Rattle.aia_model.specs.declared.answer.Answer.{Answer}
 use Rattle.aia_model.specs.declared.line.Line.{Line}
-use Rattle.aia_model.specs.Event.{History}
-use Rattle.aia_model.specs.Answer.{after, after_lines}
+use Rattle.aia_model.specs.Answer.{after_lines}
 use Rattle.aia_model.specs.Notice.{notices_sent}
 use Rattle.aia_generate.specs.declared.tally.Tally.{Tally}
 use Rattle.aia_generate.specs.Generated.{generated}
@@ -15,7 +14,7 @@ use Rattle.aia_generate.proofs.DrawLemmas.{generated-length}
 use Rattle.aia_generate.proofs.NoticeLemmas.{few_notices}
 use Rattle.aia_generate.proofs.TallyLemmas.{after_lines-append, generated_told}
 use Rattle.aia_replay.specs.declared.engine.Engine.{Engine}
-use Rattle.aia_replay.specs.declared.program.Status.TheVariants.{Done, WriteFault, Memory}
+use Rattle.aia_replay.specs.declared.program.Status.TheVariants.{Done, WriteFault}
 use Rattle.aia_replay.specs.Buffered.{CutOff}
 use Rattle.aia_replay.specs.Runs.{EndsWithSummary}
 use Rattle.aia_replay.specs.Stands.{StandsFor, Serves}

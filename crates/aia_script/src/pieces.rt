@@ -1,6 +1,6 @@
 //! What printed lines and answers are made of: texts and numbers.
 
-ghost use Rattle.std.specs.Prelude.{◌≡◌, ◌+◌, ◌<◌, ◌≤◌, ◌++◌, length, map};
+ghost use Rattle.std.specs.Prelude.{◌≡◌, ◌+◌, ◌/◌, ◌%◌, ◌<◌, ◌≤◌, ◌++◌, length, map};
 ghost use Rattle.std.specs.Int.Digits.{digits_of};
 ghost use Rattle.arrayvec.specs.ArrayVec.{array_vec_len};
 ghost use Rattle.aia_model.specs.AnswerText.{digit_character, number_text};
@@ -17,6 +17,34 @@ pub fn push_text<const N: usize>(out: &mut ArrayVec<u8, N>, text: &[u8])
 {
     // There is room, so this never fails.
     let _ = out.try_extend_from_slice(text);
+}
+
+/// The two hexadecimal digits of each byte, from 0 on.
+const PAIRS: &[u8; 512] = b"000102030405060708090a0b0c0d0e0f\
+    101112131415161718191a1b1c1d1e1f\
+    202122232425262728292a2b2c2d2e2f\
+    303132333435363738393a3b3c3d3e3f\
+    404142434445464748494a4b4c4d4e4f\
+    505152535455565758595a5b5c5d5e5f\
+    606162636465666768696a6b6c6d6e6f\
+    707172737475767778797a7b7c7d7e7f\
+    808182838485868788898a8b8c8d8e8f\
+    909192939495969798999a9b9c9d9e9f\
+    a0a1a2a3a4a5a6a7a8a9aaabacadaeaf\
+    b0b1b2b3b4b5b6b7b8b9babbbcbdbebf\
+    c0c1c2c3c4c5c6c7c8c9cacbcccdcecf\
+    d0d1d2d3d4d5d6d7d8d9dadbdcdddedf\
+    e0e1e2e3e4e5e6e7e8e9eaebecedeeef\
+    f0f1f2f3f4f5f6f7f8f9fafbfcfdfeff";
+
+/// Gives the characters of the two hexadecimal digits of a byte, the higher one first.
+#[inline(always)]
+pub fn digit_pair(byte: u8) -> (u8, u8)
+    ensures high { result.0 ≡ digit_character (byte / 16) }
+    ensures low { result.1 ≡ digit_character (byte % 16) }
+{
+    let at = 2 * byte as usize;
+    (PAIRS[at], PAIRS[at + 1])
 }
 
 /// Gives the character of a digit, 0 to 15, a lower-case letter from 10 on.

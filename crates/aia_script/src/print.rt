@@ -1,24 +1,26 @@
 //! An answer is printed.
 
-ghost use Rattle.std.specs.Prelude.{◌≡◌, ◌+◌, ◌≤◌, [], ◌++◌};
+ghost use Rattle.std.specs.Prelude.{◌≡◌, ◌+◌, ◌*◌, ◌≤◌, [], ◌++◌};
 ghost use Rattle.arrayvec.specs.ArrayVec.{array_vec_len};
 ghost use Rattle.aia_model.specs.AnswerText.{hex_digits, level_text, entry_text, refusal_word, answer_word, answer_text};
 
 use crate::number::Radix;
-use crate::pieces::{digit_character, push_number, push_text};
+use crate::pieces::{digit_character, digit_pair, push_number, push_text};
 use aia_entry::Entry;
 use aia_model::{Answer, Refusal};
 use arrayvec::ArrayVec;
 
-/// Appends the lowest `count` hexadecimal digits of a value.
-fn push_digits(out: &mut ArrayVec<u8, 64>, count: u32, value: u64)
-    requires few { count ≤ 16 }
-    requires room { array_vec_len out.old + count ≤ 64 }
-    ensures text { out.new.items ≡ out.old.items ++ hex_digits count value }
-    ensures length { array_vec_len out.new ≡ array_vec_len out.old + count }
+/// Appends the lowest `count` bytes of a value, each by its two hexadecimal digits.
+fn push_bytes(out: &mut ArrayVec<u8, 64>, count: u32, value: u64)
+    requires few { count ≤ 8 }
+    requires room { array_vec_len out.old + 2 * count ≤ 64 }
+    ensures text { out.new.items ≡ out.old.items ++ hex_digits (2 * count) value }
+    ensures length { array_vec_len out.new ≡ array_vec_len out.old + 2 * count }
 {
     for place in (0..count).rev() {
-        out.push(digit_character((value >> (4 * place)) % 16));
+        let (high, low) = digit_pair(((value >> (8 * place)) % 256) as u8);
+        out.push(high);
+        out.push(low);
     }
 }
 
@@ -55,13 +57,13 @@ fn push_entry(out: &mut ArrayVec<u8, 64>, entry: Entry)
     match entry {
         Entry::Basic(page) => {
             push_text(out, b"basic 0x");
-            push_digits(out, 16, page);
+            push_bytes(out, 8, page);
         }
         Entry::Mrif(addr, page, identity) => {
             push_text(out, b"mrif 0x");
-            push_digits(out, 16, addr);
+            push_bytes(out, 8, addr);
             push_text(out, b" 0x");
-            push_digits(out, 16, page);
+            push_bytes(out, 8, page);
             push_text(out, b" ");
             push_number(out, Radix::Decimal, identity as u64);
         }
@@ -107,11 +109,11 @@ pub fn print_answer(answer: &Answer, out: &mut ArrayVec<u8, 64>)
         Answer::Okay => push_text(out, b"ok"),
         Answer::Narrow(value) => {
             push_text(out, b"0x");
-            push_digits(out, 8, *value as u64);
+            push_bytes(out, 4, *value as u64);
         }
         Answer::Wide(value) => {
             push_text(out, b"0x");
-            push_digits(out, 16, *value);
+            push_bytes(out, 8, *value);
         }
         Answer::Moving => push_text(out, b"moving"),
         Answer::Done => push_text(out, b"done"),

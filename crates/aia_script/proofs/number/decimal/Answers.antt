@@ -1,4 +1,4 @@
-use Rattle.std.proofs.Common.{◌≡◌, ◌+◌, ◌-◌, ◌*◌, ◌^◌, ◌<◌, ◌≤◌, length, drop, sym, ap, ◌∙◌, arith}
+use Rattle.std.proofs.Common.{◌≡◌, ◌+◌, ◌-◌, ◌*◌, length, drop, sym, ap, ◌∙◌, arith}
 use Rattle.aia_script.specs.declared.number.Radix.TheVariants.{Decimal}
 use Rattle.aia_script.specs.Digits.{ended, below_limit, number_from}
 use Rattle.aia_script.proofs.SpelledLemmas.{digit_taken, digits_end, text_ends, from_there, within_limit, stays_large, none_below, is_below}
