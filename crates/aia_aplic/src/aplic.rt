@@ -244,7 +244,7 @@ impl Aplic {
         self.first_of_words(steps)
     }
 
-    /// Tells whether a source of either domain is to be forwarded.
+    /// Tells whether any source of either domain is to be forwarded.
     fn has_ready(&self) -> bool
         ensures { IsFalse result ↔ (((s : ℕ) → is_ready self.now.root.domain s ≡ false)
             × ((s : ℕ) → is_ready self.now.child.domain s ≡ false)) }

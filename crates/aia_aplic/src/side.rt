@@ -181,7 +181,7 @@ impl Side {
         self.domain.genmsi_waits()
     }
 
-    /// Tells whether a source is to be forwarded.
+    /// Tells whether any source is to be forwarded.
     pub(crate) fn has_ready(&self) -> bool
         ensures { IsFalse result ↔ ((s : ℕ) → is_ready self.now.domain s ≡ false) }
     {

@@ -4,6 +4,7 @@
 
 mod front;
 mod idc;
+pub mod laws;
 mod view;
 
 pub use front::{Front, front_search};

@@ -95,7 +95,7 @@ wired msi level x = record x { source = done msi LevelGiven x.source.mode level 
 abbrev pub changed_by : Change → Bool → ℕ → Bool → EntryState → EntryState
 changed_by (changes.Touch touch) leaf harts msi x = touched msi (Some touch) x
 changed_by (changes.Configure v) leaf harts msi x = sourcecfg_written leaf msi v x
-changed_by (changes.Aim v) leaf harts msi x = aimed harts msi v x
+changed_by (changes.Target v) leaf harts msi x = aimed harts msi v x
 changed_by (changes.Grant given) leaf harts msi x = granted given msi x
 changed_by (changes.Wire level) leaf harts msi x = wired msi level x
 changed_by changes.Claim leaf harts msi x = with_deed false Claimed x
@@ -165,8 +165,8 @@ waits_at sources s = option_map_or waits (slice_get sources s) false
 abbrev pub waiting_pair_at : List EntryState → ℕ → ℕ → Option Pair
 waiting_pair_at sources hart s = waiting_pair hart s (entry_at sources s)
 
--- The pairs of a hart's list, in rising order: in direct delivery those of the sources that wait and
--- are aimed at it; by MSIs none.
+-- The pairs of a hart's list, in rising order: in direct delivery those of the sources that wait
+-- and are aimed at it; by MSIs none.
 -- "Interrupt delivery directly by the APLIC". Profile: none by MSIs.
 abbrev pub pairs_for : Bool → List EntryState → ℕ → List Pair
 pairs_for msi sources hart =

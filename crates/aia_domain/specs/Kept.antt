@@ -32,7 +32,7 @@ list_of x hart = if nat_le x.harts hart then [] else pairs_for x.msi x.entries h
 abbrev pub with_entries : SourcesState → List EntryState → SourcesState
 with_entries x entries = record x { entries = entries }
 
--- Where a source that waits is aimed.
+-- Where a source that waits is aimed, and with which priority.
 abbrev pub aim_of : EntryState → Option Aim
 aim_of x =
     if waits x then Some (record { hart = hart_of x.target; priority = priority_of x.target })
@@ -64,7 +64,7 @@ abbrev pub pairs_at : List CandidatesState → ℕ → List Pair
 pairs_at fronts hart =
     option_map_or (λ (x : CandidatesState). x.pairs) (slice_get fronts hart) []
 
--- Each list has room for so many pairs, and these alone.
+-- Each list has the pairs of its hart, and room for so many.
 abbrev pub AllHave : (ℕ → List Pair) → ℕ → List CandidatesState → Type 0
 AllHave pairs room fronts =
     (hart : ℕ) (x : CandidatesState) → slice_get fronts hart ≡ Some x

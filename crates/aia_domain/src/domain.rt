@@ -123,7 +123,7 @@ impl Domain {
             DomainReg::ClrIe(k) => sources.touch_word(k, value, Touch::ClearEnable),
             DomainReg::ClrIeNum => sources.change(number, Change::Touch(Touch::ClearEnable)),
             DomainReg::GenMsi => self.write_genmsi(value),
-            DomainReg::Target(i) => sources.change(u64::from(i), Change::Aim(value)),
+            DomainReg::Target(i) => sources.change(u64::from(i), Change::Target(value)),
             _ => {}
         }
     }
@@ -271,9 +271,9 @@ impl Domain {
         self.sources.delivers_by_msi()
     }
 
-    /// Gives the candidate of a hart at a place, counted from 0: of its sources that are pending and
-    /// enabled, in rising order by priority and then by number, the priority and the number; `None`
-    /// exactly past the end. By MSIs there is none, nor for a hart that isn't there.
+    /// Gives the candidate of a hart at a place, counted from 0: of its sources that are pending
+    /// and enabled, in rising order by priority and then by number, the priority and the number;
+    /// `None` exactly past the end. By MSIs there is none, nor for a hart that isn't there.
     ///
     /// AIA 1.0, APLIC, "Interrupt delivery directly by the APLIC".
     pub fn candidate(&self, hart: u32, place: usize) -> Option<(u32, u32)>
@@ -300,7 +300,7 @@ impl Domain {
         }
     }
 
-    /// Tells whether a source is to be forwarded.
+    /// Tells whether any source is to be forwarded.
     pub fn has_ready(&self) -> bool
         ensures { IsFalse result ↔ ((s : ℕ) → is_ready self.now s ≡ false) }
     {

@@ -28,7 +28,7 @@ pub enum Change {
     /// Its `sourcecfg` is written.
     Configure(u32),
     /// Its `target` is written.
-    Aim(u32),
+    Target(u32),
     /// The root domain delegates it to this one, its child, or does not.
     Grant(bool),
     /// Its wire gets a level.
@@ -155,7 +155,7 @@ impl Entry {
         match change {
             Change::Touch(touch) => self.touch(touch, msi),
             Change::Configure(value) => self.write_sourcecfg(leaf, msi, value),
-            Change::Aim(value) => self.aim(harts, msi, value),
+            Change::Target(value) => self.aim(harts, msi, value),
             Change::Grant(given) => self.grant(given, msi),
             Change::Wire(level) => self.wired.wire(level, msi),
             Change::Claim => self.wired.clear(false),

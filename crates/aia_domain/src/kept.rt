@@ -87,7 +87,7 @@ impl Kept {
         put_into(&mut self.fronts, s, stands);
     }
 
-    /// Tells by MSIs whether a source waits.
+    /// Notes by MSIs whether a source waits.
     pub(crate) fn tell(&mut self, s: u32, waits: bool)
         requires { s ≤ SOURCES }
         ensures ready { (t : ℕ) → is_in self.new.ready t

@@ -1,10 +1,14 @@
 //! Both domains of an APLIC, and the MSIs that they send.
 
-ghost use Rattle.std.specs.Prelude.{◌≤◌};
+ghost use Rattle.std.specs.Prelude.{◌≡◌, ◌<◌, ◌≤◌};
 
-use crate::looks::holds;
+use crate::looks::{holds, is_same};
 use crate::same;
 use aia_aplic::{Aplic, Msi};
+use aia_steps::Steps;
+use std::marker::Brand;
+use std::process::Abort;
+use std::sync::ledger::{Blank, Ledger};
 use std::test::Fail;
 
 /// Stores values at offsets of the root domain.
@@ -55,6 +59,40 @@ fn a_child_signals_the_hart_that_a_source_is_aimed_at(rt: HostRuntime) -> Result
     holds(&rt, signals(&aplic, 1, 1));
     holds(&rt, !signals(&aplic, 1, 0));
     holds(&rt, !signals(&aplic, 0, 1));
+    Ok(())
+}
+
+/// Sends by counted calls the MSI of the last source, and then none. That each adds 32 steps at
+/// most, its clauses say: a count has no value while the program runs.
+fn looks_are_counted<L: Ledger>(rt: &impl Abort, aplic: &mut Aplic, blank: Blank)
+    requires name { blank.name ≡ L.name }
+    requires parts { blank.parts ≡ L.parts }
+    requires some { 0 < L.parts }
+{
+    let mut steps = Steps::<L>::new(blank);
+    let msi = Msi {
+        address: 0x2400_0000,
+        value: 9,
+    };
+    is_same(rt, aplic.next_msi_counted(&mut steps), Some(msi));
+    is_same(rt, aplic.next_msi_counted(&mut steps), None);
+}
+
+#[test]
+fn the_last_source_is_found_by_counted_looks(rt: HostRuntime) -> Result<(), Fail> {
+    let mut aplic = Aplic::new(rt.alloc(), 1, 1023)?;
+    root_stores(
+        &mut aplic,
+        &[
+            (0x1bc0, 0x24000),
+            (0x0000, 0x104),
+            (0x0ffc, 4),
+            (0x3ffc, 9),
+            (0x1edc, 1023),
+        ],
+    );
+    aplic.wire(1023, true);
+    looks_are_counted::<Brand>(&rt, &mut aplic, Blank::new(1));
     Ok(())
 }
 

@@ -1,10 +1,16 @@
 //! What is on top for a hart, claims and signals.
 
-use crate::looks::holds;
+ghost use Rattle.std.specs.Prelude.{◌≡◌, ◌<◌};
+
+use crate::looks::{holds, is_same};
 use crate::same;
-use aia_direct::{Idc, claimi, signal, topi};
+use aia_direct::{Idc, claimi, signal, topi, topi_counted};
 use aia_domain::Domain;
 use aia_regs::DomainReg;
+use aia_steps::Steps;
+use std::marker::Brand;
+use std::process::Abort;
+use std::sync::ledger::{Blank, Ledger};
 use std::test::Fail;
 
 #[test]
@@ -22,6 +28,32 @@ fn the_least_priority_is_shown_and_claimed(rt: HostRuntime) -> Result<(), Fail> 
     same!(rt; claimi(&mut idc, &mut domain, 0), 0x0002_0003);
     same!(rt; claimi(&mut idc, &mut domain, 0), 0x0001_0007);
     same!(rt; topi(&idc, &domain, 1), 0);
+    Ok(())
+}
+
+/// Looks at what is on top by a counted call. That it adds one step at most, its clauses say: a
+/// count has no value while the program runs.
+fn a_look_is_counted<L: Ledger>(rt: &impl Abort, domain: &Domain, blank: Blank)
+    requires name { blank.name ≡ L.name }
+    requires parts { blank.parts ≡ L.parts }
+    requires some { 0 < L.parts }
+{
+    let mut idc = Idc::new();
+    let mut steps = Steps::<L>::new(blank);
+    is_same(rt, topi_counted(&idc, domain, 0, &mut steps), 0x0001_0003);
+    idc.store(DomainReg::IThreshold(0), 3);
+    is_same(rt, topi_counted(&idc, domain, 0, &mut steps), 0);
+    is_same(rt, topi(&idc, domain, 1), 0);
+}
+
+#[test]
+fn what_is_on_top_is_found_by_a_counted_look(rt: HostRuntime) -> Result<(), Fail> {
+    let mut domain = Domain::new(rt.alloc(), 1023, 1, false)?;
+    domain.store(DomainReg::SourceCfg(1), 1);
+    domain.store(DomainReg::Target(1), 3);
+    domain.store(DomainReg::SetIeNum, 1);
+    domain.store(DomainReg::SetIpNum, 1);
+    a_look_is_counted::<Brand>(&rt, &domain, Blank::new(1));
     Ok(())
 }
 

@@ -57,6 +57,8 @@ word_filled summary k a small some others w low =
       | inr ne ↦ ap (λ b. b || has_bit summary w) (ne_eqb w k ne) ∙ others w low ne
     ]
 
+pub ruleset word_lemmas = (word_emptied, word_filled)
+
 -- where one source changes, the other words stay
 pub other_words : (summary s : ℕ) (ready : Bool) (old new : ℕ → Bool) → Tells summary old → ((t : ℕ) → new t ≡ cond (nat_eq s t) ready (old t)) → TellsAllBut (s / 64) summary new
 other_words summary s ready old new told changed j low other =

@@ -96,7 +96,7 @@ fn put(words: &mut [u64], s: u32, ready: bool)
 }
 
 /// Gives the summary of the words, where all its bits but `k` tell of them already.
-#[tactic(auto, using(crate::proofs::WordLemmas::word_emptied, crate::proofs::WordLemmas::word_filled))]
+#[tactic(auto, using(crate::proofs::WordLemmas::word_lemmas))]
 fn told(summary: u64, words: &[u64], k: u32) -> u64
     requires word { k < 16 }
     requires others { TellsAllBut k summary (is_in words.now) }
