@@ -1,8 +1,8 @@
 use Rattle.std.proofs.Common.{◌≡◌, ap, sym, ◌∙◌}
 use Rattle.aia_command.specs.CommandLine.{subcommand_of}
 use Rattle.aia_replay.specs.Runs.{asked}
-use Rattle.aia.specs.Command.{words_of}
-use Rattle.aia.proofs.run_words.Goals as goal
+use Rattle.aia_program.specs.Command.{words_of}
+use Rattle.aia_program.proofs.run_words.Goals as goal
 
 pub returns-in-Ok-clause-done : goal.returns-in-Ok-clause-done
 returns-in-Ok-clause-done g c =

@@ -2,9 +2,9 @@ use Rattle.std.proofs.Common.{◌≡◌, ap, sym, ◌∙◌, Option, Some, None}
 use Rattle.aia_command.specs.declared.subcommand.Subcommand.{Subcommand}
 use Rattle.aia_command.specs.declared.subcommand.Subcommand.TheVariants.{Generate}
 use Rattle.aia_command.specs.CommandLine.{subcommand_of}
-use Rattle.aia.specs.Command.{asked_by, words_of}
-use Rattle.aia.proofs.command.Goals as goal
-use Rattle.aia.proofs.command.Goals.{in-Ok, in-Err}
+use Rattle.aia_program.specs.Command.{asked_by, words_of}
+use Rattle.aia_program.proofs.command.Goals as goal
+use Rattle.aia_program.proofs.command.Goals.{in-Ok, in-Err}
 
 pub returns-clause-generates : goal.returns-clause-generates
 returns-clause-generates g c = elim c.match-arguments.branch [
