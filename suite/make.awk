@@ -92,10 +92,17 @@ function row_list(    list) {
   return list
 }
 
-# The script's file: its lines, below a comment that says what the row shows.
-function write_files(    script, out, i) {
-  script = top "/" path ".script"
-  out = top "/" path ".out"
+# The script's file and that of its answers, for the program aia_rows, which the gate runs. One of
+# examples/ stands there too.
+function write_files() {
+  write_pair("crates/aia_rows/data/" path)
+  if (path ~ /^examples\//) write_pair(path)
+}
+
+# The lines stand below a comment that says what the row shows.
+function write_pair(where,    script, out, i) {
+  script = top "/" where ".script"
+  out = top "/" where ".out"
   printf "" > script
   printf "" > out
   if (path ~ /^suite\// && count > 0) printf "%s", wrapped(shows, "#") > script
