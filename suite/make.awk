@@ -78,18 +78,6 @@ function add_theorem(    script, clause) {
     "pub const " name ": [(&str, &str); " count "] = " pairs() ";\n\n" \
     "/// Proves that the model answers [`" name "`] as it says.\n" \
     "pub fn " theorem "()\n    ensures { " clause " }\n{}\n"
-  all_rows = all_rows "    Row {\n        name: \"" name "\",\n        pairs: &" name ",\n    },\n"
-  rows++
-}
-
-# The rows of a file as a list, laid out as `rt fmt` does: of one row the brackets stand with it.
-function row_list(    list) {
-  if (rows > 1) return "[\n" all_rows "]"
-  list = all_rows
-  gsub(/\n    /, "\n", list)
-  sub(/^    /, "[", list)
-  sub(/,\n$/, "]", list)
-  return list
 }
 
 # The script's file and that of its answers, for the program aia_rows, which the gate runs. One of
@@ -175,9 +163,7 @@ END {
   print "ghost use Rattle.aia_model.specs.Script.{answers};" > file
   others = uses_unended ? "unended_script_of, " : ""
   print "ghost use Rattle.aia_vectors.specs.Rows.{script_of, " others "answers_of};\n" > file
-  print "use " (crate == "aia_vectors" ? "crate" : "aia_vectors") "::row::Row;" > file
-  printf "%s\n", theorems > file
-  print "/// All rows of this file, each with its name." > file
-  printf "pub const ROWS: [Row; %d] = %s;\n", rows, row_list() > file
+  sub(/^\n/, "", theorems)
+  printf "%s", theorems > file
   close(file)
 }

@@ -1,6 +1,6 @@
 //! Scripts of the most bytes that one may have, and of one more, each byte an LF.
 
-use crate::runs::{Ends, ends_with};
+use crate::outcomes::{Ends, ends_with};
 use aia_replay::Status;
 use std::test::Fail;
 

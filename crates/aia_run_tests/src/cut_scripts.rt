@@ -1,7 +1,7 @@
 //! Each front of a script, cut after any of its bytes.
 
+use crate::outcomes::answers_with;
 use crate::rows::{Pairs, answers_of, lines_in, script_of};
-use crate::runs::answers_with;
 use aia_guest_vectors::rows::stepwise_moves::REQUEST_AGAIN_WHILE_IT_IS_CARRIED;
 use std::alloc::{AllocError, Global};
 use std::process::Abort;

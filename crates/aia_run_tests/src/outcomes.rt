@@ -1,14 +1,12 @@
 //! Runs between ends in memory that fail where a case says.
 
+use crate::runs::{ROOM, replay};
 use crate::same;
-use aia_io::{MemSink, MemSource, Sink, Source};
-use aia_replay::{Status, run};
+use aia_io::{MemSink, MemSource};
+use aia_replay::Status;
 use std::alloc::{AllocError, Global};
 use std::fmt::Debug;
 use std::process::Abort;
-
-/// More bytes than any script here prints.
-pub(crate) const ROOM: usize = 16_384;
 
 /// The ends of a run: how many bytes a read gives, at least 1, the calls that fail, numbered from
 /// 1, so that 0 is none, and how many bytes the sink has room for.
@@ -37,11 +35,6 @@ impl Ends {
 pub(crate) struct Outcome {
     pub status: Status,
     pub written: Vec<u8>,
-}
-
-/// Replays what the source gives. It has no clause, so that a test knows nothing of the run.
-fn replay<S: Source, K: Sink>(alloc: Global, source: &mut S, sink: &mut K) -> Status {
-    run(alloc, &["replay"], source, sink)
 }
 
 /// Replays a script between such ends, and looks that the end that failed, and no other, did so

@@ -1,8 +1,8 @@
 //! Ends that fail at each of their calls in turn, and sinks with each length of room.
 
 use crate::looks::holds;
+use crate::outcomes::{Ends, ends_with, outcome_of};
 use crate::rows::{Pairs, answers_of, lines_in, script_of};
-use crate::runs::{Ends, ROOM, ends_with, outcome_of};
 use crate::same;
 use aia_guest_vectors::rows::stepwise_moves::REQUEST_AGAIN_WHILE_IT_IS_CARRIED;
 use aia_replay::Status;
