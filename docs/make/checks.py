@@ -1,0 +1,351 @@
+"""Sees whether the documents' tables, examples, figures and links are in step with the tree."""
+
+import re
+import subprocess
+
+from antt import TOP, clauses, read_item
+from markdown import anchors, documents, read, rows, section, sentences, spoken, words
+from pictures import address
+from plans import KINDS, Move, Reader
+
+REFERENCE = "docs/REFERENCE.md"
+# The most words of a document; REFERENCE and DEFINITIONS have no limit.
+LIMITS = {"README.md": 1100, REFERENCE: None, "docs/DEFINITIONS.md": None}
+MOST_WORDS = 4000
+ALONE = ["README.md", REFERENCE, "docs/PROMISES.md"]
+
+
+def ticked(cell):
+    """Lists what stands in a cell as code."""
+    return re.findall(r"`([^`]+)`", cell)
+
+
+def differ(where, stands, wanted):
+    """Says what a table lacks, and what it has too much."""
+    for name in sorted(set(wanted) - set(stands)):
+        yield f"{where} lacks {name}"
+    for name in sorted(set(stands) - set(wanted)):
+        yield f"{where} has {name}, which the definitions do not have"
+
+
+def form(right):
+    """Gives a form of line as its words, `#` for a number and INS for a CSR instruction."""
+    found = []
+    for word, number, _ in re.findall(
+        r'Keyword \(codes "(\w+)"\)|\b(Decimal32|Decimal|Hex32|Hex|Bit) \w+|(instruction \()', right
+    ):
+        found.append(word or ("#" if number else "INS"))
+    return " ".join(found)
+
+
+def lines():
+    """Compares the forms of lines with the table `fields_of`, and the CSRs of each level."""
+    wanted = [form(right) for _, right in clauses("aia_model", "Grammar", "fields_of")]
+    stands, told = [], {}
+    for cells in rows(section(REFERENCE, "Lines")):
+        for text in ticked(cells[0]):
+            parts = ["#" if re.fullmatch(r"[A-Z][A-Z0-9]*", w) and w != "INS" else w for w in text.split()]
+            stands.append(" ".join(parts))
+            told[text] = ticked(cells[1])
+    yield from differ(f"{REFERENCE}, Lines,", stands, wanted)
+    levels = {"levels.Machine": "m H INS", "levels.Host": "h H INS", "levels.Guest": "g VM C INS"}
+    for level, right in clauses("aia_model", "Grammar", "csr_names"):
+        names = re.findall(r'codes "(\w+)"', right)
+        row = levels[level.strip()]
+        yield from differ(f"{REFERENCE}, Lines, {row},", told.get(row, []), names)
+    spelled = [form(right.replace("csr ∷", 'Keyword (codes "CSR") ∷'))
+               for _, right in clauses("aia_model", "Grammar", "instruction")]
+    said = re.search(r"(?s)^INS is (.*?)\. ", section(REFERENCE, "Lines"), re.M)
+    got = [text.replace(" V", " #") for text in ticked(said.group(1) if said else "")]
+    yield from differ(f"{REFERENCE}, INS,", got, spelled)
+
+
+def answers():
+    """Compares the answers with their spellings, and the refusals with their order."""
+    first = {}
+    for name in ("answer_word", "refusal_word", "entry_text"):
+        for pattern, right in clauses("aia_model", "AnswerText", name):
+            if match := re.match(r'codes "(\w+)', right):
+                key = pattern.strip("()").split()[0].split(".")[-1]
+                first[(name, key)] = match.group(1)
+    table = rows(section(REFERENCE, "Answers"))
+    stands = [text.split()[0] for cells in table for text in ticked(cells[0])]
+    yield from differ(f"{REFERENCE}, Answers,", stands, first.values())
+    order = []
+    for own, inner in re.findall(r"\((Refused [\w.]+|\w+), (\w+)\)", clauses("aia_model", "Refusal", "refusals")[0][1]):
+        kind, key = ("refusal_word", own[8:]) if own.startswith("Refused ") else ("answer_word", own)
+        order.append(first[(kind, key.split(".")[-1])])
+    got = [ticked(c[0])[0] for c in table if c[1].startswith("refused:") and ticked(c[0]) != ["bad"]]
+    if got != order:
+        yield f"{REFERENCE}, Answers: the refusals stand as {got}, and are looked for as {order}"
+
+
+def statuses():
+    """Compares the exit statuses with the numbers that the contract of `command` has."""
+    path = next(TOP.glob("crates/*/specs/Command.antt"))
+    wanted = re.findall(r"\d+", clauses(path.parts[-3], "Command", "exit_numbers")[0][1])
+    stands = [cells[0] for cells in rows(section(REFERENCE, "Exit statuses"))]
+    yield from differ(f"{REFERENCE}, Exit statuses,", [s for s in stands if s != "1"], wanted)
+
+
+def places():
+    """Compares the map with the address map, and the sizes of a machine with its limits."""
+    names = ["root_region", "child_region", "machine_page", "supervisor_page", "slot_address", "table_address"]
+    wanted = [address(name) for name in names]
+    stands = [text for cells in rows(section(REFERENCE, "The map")) for text in ticked(cells[0])]
+    yield from differ(f"{REFERENCE}, The map,", stands, wanted)
+    sizes = " ".join(" ".join(cells) for cells in rows(section(REFERENCE, "The machine")))
+    for name in ("HARTS", "GUEST_FILES", "IDENTITIES", "SOURCES", "VMS", "VM_VCPUS", "VCPUS"):
+        number = re.search(r"= (\d+);", read_item("aia_regs", "src/limits.rt", name)[-1])[1]
+        if number not in re.findall(r"\d+", sizes.replace(",", "")):
+            yield f"{REFERENCE}, The machine, lacks {number}, which is {name}"
+
+
+def formula(text, words_, w):
+    """Computes a formula of docs/MOVES.md in W and w."""
+    plain = re.sub(r"(\d)(W|w)", r"\1 * \2", text)
+    return Reader(plain, {"W": words_, "w": w}).value()
+
+
+def plans():
+    """Compares the tables of docs/MOVES.md with the plans."""
+    table = {cells[0]: cells[1:] for cells in rows(section("docs/MOVES.md", "The three plans"))}
+    for at, kind in enumerate(KINDS, 1):
+        for size in (1, 2, 5):
+            move = Move(kind, size)
+            wanted = {f"`{name} w`" if w is not None else f"`{name}`": set() for name, w in move.accesses()}
+            for name, w in move.accesses():
+                cell = table.get(f"`{name} w`" if w is not None else f"`{name}`", [""] * 4)[at]
+                if not cell or formula(cell, size, w or 0) != move.step(name, w) + 1:
+                    yield f"docs/MOVES.md: {name} of a {kind} is not at step '{cell}'"
+            for name, cells in table.items():
+                if cells[at] and name not in wanted:
+                    yield f"docs/MOVES.md: a {kind} has no {name}"
+    yield from stands_where()
+
+
+def stands_where():
+    """Compares the table of what stands where with the definitions that its last column names."""
+    for name, *cells, word in rows(section("docs/MOVES.md", "Why each step may be followed by anything")):
+        if len(cells) != 3:
+            continue
+        of = (ticked(word) or [""])[0]
+        for kind, cell in zip(KINDS, cells):
+            for size in (1, 3):
+                move = Move(kind, size)
+                for problem in compared(move, of, cell, size):
+                    yield f"docs/MOVES.md: {name}, of a {kind}: {problem}"
+
+
+def compared(move, of, cell, size):
+    """Says where one cell of that table differs from a definition."""
+    if of in ("devices_reach", "peers_reach"):
+        past = int(re.search(r"k < (\d+)", cell)[1])
+        got = ["old" if k < past else "new" for k in range(move.length() + 1)]
+        if got != [move.place("Routes", of, k) for k in range(move.length() + 1)]:
+            yield f"'{cell}' is not {of}"
+    elif of in ("pending_step", "enables_step"):
+        name = "TakePending" if of == "pending_step" else "TakeEnables"
+        if any(formula(cell, size, w) != move.step(name, w) + 1 for w in range(size)):
+            yield f"'{cell}' is not {of}"
+    elif of.endswith("_steps") and formula(cell, size, 0) != move.length():
+        yield f"'{cell}' is not how many steps there are"
+
+
+def libraries():
+    """Gives each crate of crates.txt with the libraries that it uses."""
+    found = {}
+    for line in (TOP / "crates.txt").read_text(encoding="utf-8").split("\n"):
+        if match := re.match(r"(\w+)[^:#]*:([^#]*)", line):
+            found[match.group(1)] = match.group(2).split()
+    return found
+
+
+def crates():
+    """Compares the crates of ARCHITECTURE and PROMISES with crates.txt."""
+    wanted = list(libraries())
+    table = rows(section("docs/ARCHITECTURE.md", "The crates"))
+    yield from differ("docs/ARCHITECTURE.md, The crates,", [ticked(c[0])[0] for c in table], wanted)
+    promises = " ".join(read(n) for n in documents() if "PROMISES" in n or "/promises/" in n)
+    for crate in wanted:
+        if not re.search(rf"\b{crate}\b", promises):
+            yield f"docs/PROMISES.md says nothing of {crate}"
+    said = re.search(r"These are (\d+) crates", read("docs/ARCHITECTURE.md"))
+    if not said or int(said.group(1)) != len(wanted):
+        yield f"docs/ARCHITECTURE.md does not say that there are {len(wanted)} crates"
+
+
+def promised():
+    """Sees that each function and clause that docs/promises names is there, and each law is named."""
+    for name in documents():
+        if not name.startswith("docs/promises/"):
+            continue
+        for heading, body in re.findall(r"(?ms)^## `(\w+)`.*?\n(.*?)(?=^## |\Z)", read(name)):
+            text = source(heading)
+            if text is None:
+                yield f"{name} speaks of {heading}, which is no crate"
+                continue
+            yield from named_there(name, heading, body, text)
+
+
+def source(crate):
+    """Gives the code of a crate, or None."""
+    files = sorted((TOP / "crates" / crate / "src").glob("**/*.rt"))
+    return "\n".join(f.read_text(encoding="utf-8") for f in files) if files else None
+
+
+def named_there(name, crate, body, text):
+    """Says which functions, clauses and laws of one crate a page has wrong or leaves out."""
+    functions = set(re.findall(r"\bfn (\w+)", text))
+    clauses_ = set(re.findall(r"\bensures\*? (\w+) \{", text))
+    for first, second, *_ in (cells for cells in rows(body) if len(cells) > 2):
+        for word in ticked(first):
+            last = re.sub(r"\(.*", "", word).split("::")[-1]
+            if re.fullmatch(r"[a-z_0-9]+", last) and last not in functions | clauses_:
+                yield f"{name}: {crate} has no function {last}"
+        for clause in ticked(second):
+            if re.fullmatch(r"[a-z_0-9]+", clause) and clause not in clauses_ | functions:
+                if not in_specs(crate, clause):
+                    yield f"{name}: {crate} has no clause {clause}"
+    laws = TOP / "crates" / crate / "src/laws.rt"
+    if laws.exists():
+        for law in re.findall(r"(?m)^pub fn (\w+)", laws.read_text(encoding="utf-8")):
+            if law not in body:
+                yield f"{name} does not name the law {law} of {crate}"
+
+
+def in_specs(crate, clause):
+    """Says whether a record of the crate's definitions, or of a library's, has a field so named."""
+    for of in [crate, *libraries().get(crate, [])]:
+        for path in (TOP / "crates" / of / "specs").glob("*.antt"):
+            if re.search(rf"(?m)^  pub {clause} :", path.read_text(encoding="utf-8")):
+                return True
+        if re.search(rf"\bensures\*? {clause} \{{", source(of) or ""):
+            return True
+    return False
+
+
+def replayed(name):
+    """Gives a script's lines beside their answers."""
+    answers_ = iter((TOP / f"{name}.out").read_text(encoding="utf-8").splitlines())
+    for line in (TOP / f"{name}.script").read_text(encoding="utf-8").splitlines():
+        if line and not line.startswith("#"):
+            yield line, next(answers_)
+
+
+def shown():
+    """Compares the example of README with the script that it is from."""
+    text = section("README.md", "An example")
+    block = re.search(r"(?ms)^```\n(.*?)^```", text)
+    of = re.search(r"\(examples/([\w-]+)\.script\)", text)
+    if not block or not of:
+        yield "README.md shows no example, or does not say of which script it is"
+        return
+    script, at = list(replayed(f"examples/{of.group(1)}")), 0
+    for line in block.group(1).rstrip("\n").split("\n"):
+        want = tuple(re.split(r"  +", line)[:2])
+        where = [k for k in range(at, len(script)) if script[k] == want]
+        if not where:
+            yield f"README.md shows '{want[0]}' with '{want[-1]}', which {of.group(1)} does not have there"
+            return
+        at = where[0] + 1
+
+
+def tried():
+    """Runs the first comparison of TRACES and the numbers of `gen`, where the program is built."""
+    program = TOP / "crates/aia/out/aia"
+    if not program.exists():
+        return
+    block = re.search(r"(?ms)^```sh\n(.*?)^```", section("docs/TRACES.md", "A first comparison")).group(1)
+    here = dict(re.findall(r"(?ms)^cat > (\S+) <<'END'\n(.*?)^END\n", block))
+    run = subprocess.run([program, "replay"], input=here["mine.script"], capture_output=True, text=True, timeout=60)
+    texts = [line for line in here["mine.script"].splitlines() if not line.startswith("#")]
+    mine, model = here["mine.out"].splitlines(), run.stdout.splitlines()
+    off = [(t, m, a) for t, m, a in zip(texts, model, mine) if a not in ("-", m)]
+    said = re.search(r"(?ms)^```\n(line \d+: (.*?)\n  model: (.*?)\n  mine:  (.*?)\n.*?)^```", read("docs/TRACES.md"))
+    if off != [said.group(2, 3, 4)] or len(texts) != len(mine):
+        yield f"docs/TRACES.md: its first comparison gives {off}"
+    count, seed = re.search(r"`gen (\d+) (\d+)` prints", spoken(read(REFERENCE))).groups()
+    run = subprocess.run([program, "gen", count, seed], capture_output=True, text=True, timeout=60)
+    told = " ".join(spoken(read(REFERENCE)).split())
+    for line in run.stdout.splitlines():
+        if f"`{line}`" not in told:
+            yield f"{REFERENCE}: gen {count} {seed} prints {line}"
+
+
+def below(crate):
+    """Gives the crates that a crate stands on, itself among them."""
+    found, open_ = set(), [crate]
+    while open_:
+        if (of := open_.pop()) not in found:
+            found.add(of)
+            open_ += [lib for lib in libraries().get(of, []) if lib in libraries()]
+    return found
+
+
+def newest(paths):
+    """Gives the day and the name of the newest commit that touches paths."""
+    found = subprocess.run(
+        ["git", "-C", str(TOP), "log", "-1", "--format=%cs %h", "--", *paths],
+        capture_output=True, text=True, check=True,
+    ).stdout.split()
+    return tuple(found) if found else ("", "")
+
+
+def dated():
+    """Compares the days of figures with the day on which what they measure last changed."""
+    code = [f"crates/{crate}/src" for crate in sorted(below("aia"))]
+    measured = section("docs/PERFORMANCE.md", "What was measured")
+    kinds = [
+        ("docs/PERFORMANCE.md, What was measured,", measured, code),
+        ("README.md, minutes,", section("README.md", "Build and run"), ["crates", "crates.txt"]),
+    ]
+    for where, text, paths in kinds:
+        days = re.findall(r"\d{4}-\d\d-\d\d", text)
+        day, commit = newest(paths)
+        if not days:
+            yield f"{where} has no day"
+        elif max(days) < day:
+            yield f"{where} is of {max(days)}, and what it measures changed on {day} ({commit})"
+
+
+def linked():
+    """Sees that links between documents lead somewhere."""
+    for name in documents():
+        folder = (TOP / name).parent
+        for link in re.findall(r"\]\(([^)\s]+)\)", spoken(read(name))):
+            if re.match(r"[a-z]+:", link):
+                continue
+            path, _, anchor = link.partition("#")
+            target = (folder / path).resolve() if path else TOP / name
+            if not target.exists():
+                yield f"{name} links to {link}, which is not there"
+            elif anchor and anchor not in anchors(str(target.relative_to(TOP))):
+                yield f"{name} links to {link}, and there is no such heading"
+
+
+def patient():
+    """Sees that no document is longer than its reader's patience."""
+    for name in documents():
+        limit = LIMITS.get(name, MOST_WORDS)
+        if limit and (count := words(name)) > limit:
+            yield f"{name} has {count} words, and may have {limit}"
+
+
+def alone():
+    """Sees that README, REFERENCE and PROMISES share no sentence."""
+    seen = {}
+    for name in ALONE + [n for n in documents() if n.startswith("docs/promises/")]:
+        for sentence in set(sentences(name)):
+            pages = "docs/promises"
+            of = seen.get(sentence)
+            if of and not (of.lower().startswith(pages) and name.lower().startswith(pages)):
+                yield f"{of} and {name} share: {sentence[:90]}"
+            seen.setdefault(sentence, name)
+
+
+def drifts():
+    """Says each place where a document is not in step."""
+    for check in (lines, answers, statuses, places, plans, crates, promised, shown, tried, dated,
+                  linked, patient, alone):
+        yield from check()
