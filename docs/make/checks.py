@@ -12,6 +12,16 @@ REFERENCE = "docs/REFERENCE.md"
 # The most words of a document; REFERENCE and DEFINITIONS have no limit.
 LIMITS = {"README.md": 1100, REFERENCE: None, "docs/DEFINITIONS.md": None}
 MOST_WORDS = 4000
+# The parts of a machine, with the limits that say how many there may be.
+SIZES = {
+    "harts": ["HARTS"],
+    "guest files of each hart": ["GUEST_FILES"],
+    "identities": ["IDENTITIES"],
+    "wired sources": ["SOURCES"],
+    "VMs": ["VMS"],
+    "virtual harts of a VM": ["VM_VCPUS", "VCPUS"],
+}
+CALLED = {"leave": "a leave", "arrive": "an arrival", "shift": "a shift"}
 ALONE = ["README.md", REFERENCE, "docs/PROMISES.md"]
 
 
@@ -25,7 +35,7 @@ def differ(where, stands, wanted):
     for name in sorted(set(wanted) - set(stands)):
         yield f"{where} lacks {name}"
     for name in sorted(set(stands) - set(wanted)):
-        yield f"{where} has {name}, which the definitions do not have"
+        yield f"{where} has {name}, which the tree does not have"
 
 
 def form(right):
@@ -94,11 +104,11 @@ def places():
     wanted = [address(name) for name in names]
     stands = [text for cells in rows(section(REFERENCE, "The map")) for text in ticked(cells[0])]
     yield from differ(f"{REFERENCE}, The map,", stands, wanted)
-    sizes = " ".join(" ".join(cells) for cells in rows(section(REFERENCE, "The machine")))
-    for name in ("HARTS", "GUEST_FILES", "IDENTITIES", "SOURCES", "VMS", "VM_VCPUS", "VCPUS"):
-        number = re.search(r"= (\d+);", read_item("aia_regs", "src/limits.rt", name)[-1])[1]
-        if number not in re.findall(r"\d+", sizes.replace(",", "")):
-            yield f"{REFERENCE}, The machine, lacks {number}, which is {name}"
+    sizes = {cells[0].split(",")[0]: cells[1] for cells in rows(section(REFERENCE, "The machine"))}
+    for part, names in SIZES.items():
+        limits = [re.search(r"= (\d+);", read_item("aia_regs", "src/limits.rt", name)[-1])[1] for name in names]
+        if re.findall(r"\d+", sizes.get(part, "").replace(",", ""))[-len(limits):] != limits:
+            yield f"{REFERENCE}, The machine: of {part} the most are {' and '.join(limits)}"
 
 
 def formula(text, words_, w):
@@ -117,10 +127,10 @@ def plans():
             for name, w in move.accesses():
                 cell = table.get(f"`{name} w`" if w is not None else f"`{name}`", [""] * 4)[at]
                 if not cell or formula(cell, size, w or 0) != move.step(name, w) + 1:
-                    yield f"docs/MOVES.md: {name} of a {kind} is not at step '{cell}'"
+                    yield f"docs/MOVES.md: {name} of {CALLED[kind]} is not at step '{cell}'"
             for name, cells in table.items():
                 if cells[at] and name not in wanted:
-                    yield f"docs/MOVES.md: a {kind} has no {name}"
+                    yield f"docs/MOVES.md: {CALLED[kind]} has no {name}"
     yield from stands_where()
 
 
@@ -134,7 +144,7 @@ def stands_where():
             for size in (1, 3):
                 move = Move(kind, size)
                 for problem in compared(move, of, cell, size):
-                    yield f"docs/MOVES.md: {name}, of a {kind}: {problem}"
+                    yield f"docs/MOVES.md: {name}, of {CALLED[kind]}: {problem}"
 
 
 def compared(move, of, cell, size):

@@ -13,7 +13,8 @@ def main():
         for maker in (definitions, pictures, strength):
             maker.make()
         return 0
-    found = [line for of in (definitions, pictures, strength, checks) for line in of.drifts()]
+    parts = (definitions, pictures, strength, checks)
+    found = list(dict.fromkeys(line for part in parts for line in part.drifts()))
     print("\n".join(found) if found else "in step")
     return 1 if found else 0
 
