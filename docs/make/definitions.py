@@ -35,7 +35,9 @@ def fenced(lang, lines):
 
 
 def whole_module(crate, module):
-    """Gives a module with all its text."""
+    """Gives a module with all its text, and nothing where it is not there."""
+    if not module_path(crate, module).exists():
+        return []
     head, groups, _ = read_module(crate, module)
     path = f"../crates/{crate}/specs/{module}.antt"
     out = [f"### {module} ([`{crate}`]({path}))", "", *head, ""]
@@ -50,11 +52,15 @@ def whole_module(crate, module):
 def cell(comment):
     """Gives a comment as one cell of a table."""
     lines = [line[2:].strip() for line in comment if not line.startswith("-- ----")]
+    if not lines:
+        lines = [line[8:].strip() for line in comment]
     return " ".join(lines).replace("|", "\\|")
 
 
 def module_table(crate, module):
-    """Gives a module as a table of its words and what their comments say."""
+    """Gives a module as a table of its words and what their comments say, likewise."""
+    if not module_path(crate, module).exists():
+        return []
     head, groups, _ = read_module(crate, module)
     path = f"../crates/{crate}/specs/{module}.antt"
     out = [f"### {module} ([`{crate}`]({path}))", "", *head, "", "| Word | Meaning |", "|---|---|"]
