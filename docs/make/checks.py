@@ -272,8 +272,8 @@ def tried():
     texts = [line for line in here["mine.script"].splitlines() if not line.startswith("#")]
     mine, model = here["mine.out"].splitlines(), run.stdout.splitlines()
     off = [(t, m, a) for t, m, a in zip(texts, model, mine) if a not in ("-", m)]
-    said = re.search(r"(?ms)^```\n(line \d+: (.*?)\n  model: (.*?)\n  mine:  (.*?)\n.*?)^```", read("docs/TRACES.md"))
-    if off != [said.group(2, 3, 4)] or len(texts) != len(mine):
+    said = re.search(r"(?m)^line \d+: (.*)\n  model: (.*)\n  mine:  (.*)$", read("docs/TRACES.md"))
+    if off != [said.group(1, 2, 3)] or len(texts) != len(mine):
         yield f"docs/TRACES.md: its first comparison gives {off}"
     count, seed = re.search(r"`gen (\d+) (\d+)` prints", spoken(read(REFERENCE))).groups()
     run = subprocess.run([program, "gen", count, seed], capture_output=True, text=True, timeout=60)

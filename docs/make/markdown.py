@@ -22,10 +22,16 @@ def read(name):
 
 def section(name, heading):
     """Gives the text under a heading of the second rank."""
-    match = re.search(rf"(?ms)^## {re.escape(heading)}\n(.*?)(?=^# |^## |\Z)", read(name))
-    if not match:
+    found, is_in, is_code = [], False, False
+    for line in read(name).split("\n"):
+        if not is_code and re.match(r"##? ", line):
+            is_in = line == f"## {heading}"
+        elif is_in:
+            found.append(line)
+        is_code ^= line.startswith("```")
+    if not found:
         raise SystemExit(f"{name} has no section '{heading}'")
-    return match.group(1)
+    return "\n".join(found) + "\n"
 
 
 def rows(text):
