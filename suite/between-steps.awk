@@ -368,9 +368,9 @@ function say_few_lines() {
   say("lines", "msi 0 0x28000000 9;g 0 1 ipi 0 10;h 0 hgeip;h 1 hgeip;h 1 csrrw stopei 0")
 }
 
-# Lines that change nothing, with the word that each answers.
+# Lines that change nothing between any two steps, with the word that each answers.
 function state(word, lines) {
-  put(lines "|" word)
+  print "everywhere " lines " => " word
 }
 
 function state_words() {
@@ -432,87 +432,50 @@ function run(kind, lines, gap, is_usual,    k, some, many, got, said, same) {
   return said
 }
 
-# ---- the table, as `rt fmt` lays it out
+# ---- the table
 
-function put(row) {
-  rows[++count_of_rows] = row
-}
-
-function constant(about, name,    k) {
-  printf "\n/// %s\npub const %s: [&str; %d] = [", about, name, count_of_rows
-  if (count_of_rows == 1 && length(name rows[1]) < 72) print "\"" rows[1] "\"];"
-  else {
-    print ""
-    for (k = 1; k <= count_of_rows; k++) print "    \"" rows[k] "\","
-    print "];"
-  }
-  count_of_rows = 0
-}
-
-# Puts lines with their answers, as many in a row as have room.
-function put_list(list,    k, lines, said) {
+# Prints lines with their answers, as many in a row as fit its width.
+function put_list(word, list,    k, lines, said) {
   for (k = 1; k <= count[list]; k++) {
-    if (k > 1 && length(lines said text[list, k] answers[list, k]) > 89) {
-      put(lines "|" said)
+    if (k > 1 && length(word lines said text[list, k] answers[list, k]) > 93) {
+      print word " " lines " => " said
       lines = said = ""
     }
     lines = lines (lines == "" ? "" : ";") text[list, k]
     said = said (said == "" ? "" : " ") answers[list, k]
   }
-  put(lines "|" said)
-}
-
-# Puts a row of answers; where there is no room for its lines, they stand before it.
-function put_run(lines, said, from, to) {
-  said = "|" said "|" from "|" to
-  if (length(lines said) < 94) put(lines said)
-  else {
-    if (lines != lines_before) put(lines)
-    put(said)
-  }
-  lines_before = lines
+  print word " " lines " => " said
 }
 
 function put_runs(kind, lines,    gap, from, said, last) {
   for (gap = from = 0; gap < steps_of(kind); gap++) {
     said = run(kind, lines, gap)
     if (gap > 0 && said != last) {
-      put_run(lines, last, from, gap)
+      print "at " from " " gap " " lines " => " last
       from = gap
     }
     last = said
   }
-  put_run(lines, last, from, gap)
+  print "at " from " " gap " " lines " => " last
 }
 
-function tables(kind, is_deliverable,    k, name) {
+function put_move(kind, is_deliverable,    k) {
   say_begin(kind)
   say_after(kind)
   run(kind, "", 0, 1)
-  name = toupper(kind) "_" greatest (is_deliverable ? "_DELIVERABLE" : "")
-  if (kind == "leave") {
-    put_list("before")
-    constant("What comes before a move.", "BEFORE_" substr(name, 7))
-  }
-  put_list("begin")
-  constant("How the move begins.", name "_BEGIN")
-  put_list("after")
-  constant("What there is to see after it, where nothing came between.", name "_AFTER")
+  print "\n== " kind " of " greatest " identities" (is_deliverable ? ", one deliverable" : "")
+  print "steps " steps_of(kind)
+  put_list("before", "before")
+  put_list("before", "begin")
+  put_list("after", "after")
+  if (!is_deliverable) print "rows"
   for (k = 1; k <= count["lines"]; k++) put_runs(kind, text["lines", k])
-  constant("What comes between two of its steps.", name)
 }
 
 BEGIN {
-  print "//! Lines between two steps of a move, and their answers, as `suite/between-steps` finds them."
-  print "//! Edit that, not this."
-  print "//!"
-  print "//! A row has lines, apart by `;`, and their answers. Of 16 hexadecimal digits an answer has `x`"
-  print "//! and those that count. Rows of what comes between have further answers, of the looks after"
-  print "//! the move: a number is of so many looks that have their usual answers, as have all that are"
-  print "//! left out. From one number of steps on, and below another one, the answers are so. A row"
-  print "//! without lines is of those before it."
+  print "# Lines between two steps of a move, and their answers: suite/between-steps finds them, so"
+  print "# edit that, not this. crates/aia_rows/src/table.rt says how a table is read.\n"
   state_words()
-  constant("What changes nothing between any two steps of any move.", "STATED")
   split("leave arrive shift", kinds, " ")
   for (greatest = 63; greatest <= 127; greatest += 64) {
     words = (greatest + 1) / 64
@@ -520,7 +483,7 @@ BEGIN {
       say_before(is_deliverable)
       if (is_deliverable) say_few_lines()
       else say_lines()
-      for (kind = 1; kind <= 3; kind++) tables(kinds[kind], is_deliverable)
+      for (kind = 1; kind <= 3; kind++) put_move(kinds[kind], is_deliverable)
     }
   }
 }

@@ -78,24 +78,19 @@ function add_theorem(    script, clause) {
     "pub const " name ": [(&str, &str); " count "] = " pairs() ";\n\n" \
     "/// Proves that the model answers [`" name "`] as it says.\n" \
     "pub fn " theorem "()\n    ensures { " clause " }\n{}\n"
-  all_rows = all_rows "    Row {\n        name: \"" name "\",\n        pairs: &" name ",\n    },\n"
-  rows++
 }
 
-# The rows of a file as a list, laid out as `rt fmt` does: of one row the brackets stand with it.
-function row_list(    list) {
-  if (rows > 1) return "[\n" all_rows "]"
-  list = all_rows
-  gsub(/\n    /, "\n", list)
-  sub(/^    /, "[", list)
-  sub(/,\n$/, "]", list)
-  return list
+# The script's file and that of its answers, for the program aia_rows, which the gate runs. One of
+# examples/ stands there too.
+function write_files() {
+  write_pair("crates/aia_rows/data/" path)
+  if (path ~ /^examples\//) write_pair(path)
 }
 
-# The script's file: its lines, below a comment that says what the row shows.
-function write_files(    script, out, i) {
-  script = top "/" path ".script"
-  out = top "/" path ".out"
+# The lines stand below a comment that says what the row shows.
+function write_pair(where,    script, out, i) {
+  script = top "/" where ".script"
+  out = top "/" where ".out"
   printf "" > script
   printf "" > out
   if (path ~ /^suite\// && count > 0) printf "%s", wrapped(shows, "#") > script
@@ -168,9 +163,7 @@ END {
   print "ghost use Rattle.aia_model.specs.Script.{answers};" > file
   others = uses_unended ? "unended_script_of, " : ""
   print "ghost use Rattle.aia_vectors.specs.Rows.{script_of, " others "answers_of};\n" > file
-  print "use " (crate == "aia_vectors" ? "crate" : "aia_vectors") "::row::Row;" > file
-  printf "%s\n", theorems > file
-  print "/// All rows of this file, each with its name." > file
-  printf "pub const ROWS: [Row; %d] = %s;\n", rows, row_list() > file
+  sub(/^\n/, "", theorems)
+  printf "%s", theorems > file
   close(file)
 }

@@ -169,7 +169,7 @@ fn has_a_front(rt: &impl Abort, alloc: Global, piece: usize, taken: &str) -> Res
     requires { 0 < piece }
 {
     let script = script_of(alloc, &STORE_IS_CLAIMED)?;
-    let all = answers_of(alloc, &STORE_IS_CLAIMED)?;
+    let all = answers_of(alloc, &STORE_IS_CLAIMED, STORE_IS_CLAIMED.len())?;
     let mut source = MemSource::new(script, piece, Vec::new(alloc));
     let mut sink = MemSink::new(alloc, 1000, vec![in alloc; 2]?)?;
     let status = replay(alloc, &mut source, &mut sink);
@@ -219,7 +219,7 @@ fn a_writer_that_takes_little_is_given_all(rt: HostRuntime) -> Result<(), Fail> 
     let mut sink = StdSink::new(TakesLittle { out: &mut out });
     let status = replay(alloc, &mut source, &mut sink);
     same!(rt; status, Status::Done);
-    let answers = answers_of(alloc, &STORE_IS_CLAIMED)?;
+    let answers = answers_of(alloc, &STORE_IS_CLAIMED, STORE_IS_CLAIMED.len())?;
     same!(rt; out.as_slice(), answers.as_slice());
     Ok(())
 }
@@ -232,7 +232,7 @@ fn a_run_between_quiet_ends_is_done(rt: HostRuntime) -> Result<(), Fail> {
     let mut sink = QuietSink::new();
     let status = replay(alloc, &mut source, &mut sink);
     same!(rt; status, Status::Done);
-    let answers = answers_of(alloc, &STORE_IS_CLAIMED)?;
+    let answers = answers_of(alloc, &STORE_IS_CLAIMED, STORE_IS_CLAIMED.len())?;
     same!(rt; sink.count(), answers.len() as u64);
     Ok(())
 }

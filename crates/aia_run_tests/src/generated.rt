@@ -1,7 +1,7 @@
 //! Generated scripts: their summaries, and the same lines read as a script. The numbers are those
 //! of a model that was written apart.
 
-use crate::runs::replay;
+use crate::runs::{ROOM, replay};
 use crate::same;
 use aia_generate::generated_lines;
 use aia_io::{MemSink, MemSource, Read, Source};
@@ -11,9 +11,6 @@ use arrayvec::ArrayVec;
 use std::alloc::{AllocError, Global};
 use std::process::Abort;
 use std::test::Fail;
-
-/// More bytes than any script here prints.
-const ROOM: usize = 16_384;
 
 /// Runs `gen` with a count and a seed beside a source that has bytes, and looks at what is printed,
 /// and that nothing was read.

@@ -1,21 +1,25 @@
-//! The tests of whole runs: the engine and the ends called by themselves, the worked rows, and ends
-//! that fail.
+//! The tests of whole runs: the engine and the ends called by themselves, scripts that are cut, and
+//! ends that fail.
 #![tactic(auto)]
 
 #[cfg(test)]
-mod between_steps;
-#[cfg(test)]
-mod between_steps_table;
+mod cut_scripts;
 #[cfg(test)]
 mod ends;
 #[cfg(test)]
 mod engine;
 #[cfg(test)]
+mod failing_calls;
+#[cfg(test)]
 mod failing_ends;
 #[cfg(test)]
 mod generated;
 #[cfg(test)]
+mod longest_scripts;
+#[cfg(test)]
 mod looks;
+#[cfg(test)]
+mod outcomes;
 #[cfg(test)]
 mod rows;
 #[cfg(test)]

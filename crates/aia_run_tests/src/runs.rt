@@ -10,7 +10,7 @@ use std::process::Abort;
 use std::test::Fail;
 
 /// More bytes than any script here prints.
-const ROOM: usize = 16_384;
+pub(crate) const ROOM: usize = 16_384;
 
 /// The most bytes that a script has.
 const LIMIT: usize = 16_777_216;

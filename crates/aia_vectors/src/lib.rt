@@ -1,5 +1,4 @@
 //! Worked scripts, each line with its answer beside it, as theorems of the model.
 #![tactic(auto)]
 
-pub mod row;
 pub mod rows;

@@ -6,8 +6,6 @@ ghost use Rattle.std.specs.Prelude.{◌≡◌};
 ghost use Rattle.aia_model.specs.Script.{answers};
 ghost use Rattle.aia_vectors.specs.Rows.{script_of, answers_of};
 
-use aia_vectors::row::Row;
-
 /// What an entry of an MSI page table means, and where an MSI of a VM's device goes.
 pub const VIRTUAL_MACHINES_EXAMPLE: [(&str, &str); 87] = [
     (
@@ -800,23 +798,3 @@ pub const STEP_BY_STEP_EXAMPLE: [(&str, &str); 167] = [
 pub fn the_example_of_a_leave_step_by_step()
     ensures { answers (script_of STEP_BY_STEP_EXAMPLE) ≡ answers_of STEP_BY_STEP_EXAMPLE }
 {}
-
-/// All rows of this file, each with its name.
-pub const ROWS: [Row; 4] = [
-    Row {
-        name: "VIRTUAL_MACHINES_EXAMPLE",
-        pairs: &VIRTUAL_MACHINES_EXAMPLE,
-    },
-    Row {
-        name: "MOVED_GUEST_EXAMPLE",
-        pairs: &MOVED_GUEST_EXAMPLE,
-    },
-    Row {
-        name: "INJECTED_PRIORITY_EXAMPLE",
-        pairs: &INJECTED_PRIORITY_EXAMPLE,
-    },
-    Row {
-        name: "STEP_BY_STEP_EXAMPLE",
-        pairs: &STEP_BY_STEP_EXAMPLE,
-    },
-];

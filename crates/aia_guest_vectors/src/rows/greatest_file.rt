@@ -6,8 +6,6 @@ ghost use Rattle.std.specs.Prelude.{◌≡◌};
 ghost use Rattle.aia_model.specs.Script.{answers};
 ghost use Rattle.aia_vectors.specs.Rows.{script_of, answers_of};
 
-use aia_vectors::row::Row;
-
 /// The last of 2047 identities goes through a leave, an arrival and a shift, step by step: how many
 /// steps each has, and that nothing is lost.
 pub const GREATEST_FILE_STEP_BY_STEP: [(&str, &str); 448] = [
@@ -466,9 +464,3 @@ pub fn the_greatest_file_step_by_step()
     ensures { answers (script_of GREATEST_FILE_STEP_BY_STEP)
         ≡ answers_of GREATEST_FILE_STEP_BY_STEP }
 {}
-
-/// All rows of this file, each with its name.
-pub const ROWS: [Row; 1] = [Row {
-    name: "GREATEST_FILE_STEP_BY_STEP",
-    pairs: &GREATEST_FILE_STEP_BY_STEP,
-}];

@@ -6,8 +6,6 @@ ghost use Rattle.std.specs.Prelude.{◌≡◌};
 ghost use Rattle.aia_model.specs.Script.{answers};
 ghost use Rattle.aia_vectors.specs.Rows.{script_of, answers_of};
 
-use aia_vectors::row::Row;
-
 /// What stopi shows of the external interrupt and an injected one, by the bytes of hviprio1 and by
 /// the fields of hvictl; sip reads the external one by the signal of the file; VTI keeps sip away.
 pub const MAJORS_OF_A_VIRTUAL_HART: [(&str, &str); 27] = [
@@ -238,35 +236,3 @@ pub fn majors_of_parked_virtual_harts()
     ensures { answers (script_of MAJORS_OF_PARKED_VIRTUAL_HARTS)
         ≡ answers_of MAJORS_OF_PARKED_VIRTUAL_HARTS }
 {}
-
-/// All rows of this file, each with its name.
-pub const ROWS: [Row; 7] = [
-    Row {
-        name: "MAJORS_OF_A_VIRTUAL_HART",
-        pairs: &MAJORS_OF_A_VIRTUAL_HART,
-    },
-    Row {
-        name: "IDENTITIES_ABOVE_255_IN_STOPI",
-        pairs: &IDENTITIES_ABOVE_255_IN_STOPI,
-    },
-    Row {
-        name: "MAJORS_THAT_A_GUEST_WRITES",
-        pairs: &MAJORS_THAT_A_GUEST_WRITES,
-    },
-    Row {
-        name: "TIES_OF_MAJORS",
-        pairs: &TIES_OF_MAJORS,
-    },
-    Row {
-        name: "SIP_AND_SIE_BY_EACH_INSTRUCTION",
-        pairs: &SIP_AND_SIE_BY_EACH_INSTRUCTION,
-    },
-    Row {
-        name: "MAJORS_ARE_REFUSED",
-        pairs: &MAJORS_ARE_REFUSED,
-    },
-    Row {
-        name: "MAJORS_OF_PARKED_VIRTUAL_HARTS",
-        pairs: &MAJORS_OF_PARKED_VIRTUAL_HARTS,
-    },
-];

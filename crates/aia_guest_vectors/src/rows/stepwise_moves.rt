@@ -6,8 +6,6 @@ ghost use Rattle.std.specs.Prelude.{◌≡◌};
 ghost use Rattle.aia_model.specs.Script.{answers};
 ghost use Rattle.aia_vectors.specs.Rows.{script_of, answers_of};
 
-use aia_vectors::row::Row;
-
 /// An identity is asked for again while the word that has it is carried, in a leave: after the next
 /// arrival it is pending once.
 pub const REQUEST_AGAIN_WHILE_IT_IS_CARRIED: [(&str, &str); 24] = [
@@ -647,75 +645,3 @@ pub const TWO_MOVES_AT_ONCE: [(&str, &str); 39] = [
 pub fn two_moves_at_once()
     ensures { answers (script_of TWO_MOVES_AT_ONCE) ≡ answers_of TWO_MOVES_AT_ONCE }
 {}
-
-/// All rows of this file, each with its name.
-pub const ROWS: [Row; 17] = [
-    Row {
-        name: "REQUEST_AGAIN_WHILE_IT_IS_CARRIED",
-        pairs: &REQUEST_AGAIN_WHILE_IT_IS_CARRIED,
-    },
-    Row {
-        name: "STORES_BEFORE_EVERY_STEP_OF_AN_ARRIVAL",
-        pairs: &STORES_BEFORE_EVERY_STEP_OF_AN_ARRIVAL,
-    },
-    Row {
-        name: "STORES_OF_ANY_VALUE_DURING_AN_ARRIVAL",
-        pairs: &STORES_OF_ANY_VALUE_DURING_AN_ARRIVAL,
-    },
-    Row {
-        name: "ONE_GUEST_FILE_FOR_TWO",
-        pairs: &ONE_GUEST_FILE_FOR_TWO,
-    },
-    Row {
-        name: "STORE_BEFORE_ENABLES_ARE_PUT",
-        pairs: &STORE_BEFORE_ENABLES_ARE_PUT,
-    },
-    Row {
-        name: "STORE_BEFORE_A_LOOK",
-        pairs: &STORE_BEFORE_A_LOOK,
-    },
-    Row {
-        name: "SIGNAL_DURING_A_LEAVE",
-        pairs: &SIGNAL_DURING_A_LEAVE,
-    },
-    Row {
-        name: "MAJORS_DURING_A_MOVE",
-        pairs: &MAJORS_DURING_A_MOVE,
-    },
-    Row {
-        name: "PEERS_REACH_MEMORY_UNTIL_THE_G_FENCE",
-        pairs: &PEERS_REACH_MEMORY_UNTIL_THE_G_FENCE,
-    },
-    Row {
-        name: "FILE_COMES_BACK_AT_THE_END",
-        pairs: &FILE_COMES_BACK_AT_THE_END,
-    },
-    Row {
-        name: "SHIFT_HOLDS_TWO_FILES",
-        pairs: &SHIFT_HOLDS_TWO_FILES,
-    },
-    Row {
-        name: "DEVICES_REACH_MEMORY_UNTIL_THE_FENCE",
-        pairs: &DEVICES_REACH_MEMORY_UNTIL_THE_FENCE,
-    },
-    Row {
-        name: "NOTICES_ONCE_ENABLES_ARE_PUT",
-        pairs: &NOTICES_ONCE_ENABLES_ARE_PUT,
-    },
-    Row {
-        name: "EACH_WORD_BY_ITSELF",
-        pairs: &EACH_WORD_BY_ITSELF,
-    },
-    Row {
-        name: "SIGNAL_DURING_A_SHIFT",
-        pairs: &SIGNAL_DURING_A_SHIFT,
-    },
-    Row {
-        name: "STEPS_AND_BEGINNINGS_ARE_REFUSED",
-        pairs: &STEPS_AND_BEGINNINGS_ARE_REFUSED,
-    },
-    Row {
-        name: "TWO_MOVES_AT_ONCE",
-        pairs: &TWO_MOVES_AT_ONCE,
-    },
-];

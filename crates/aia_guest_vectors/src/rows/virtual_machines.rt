@@ -6,8 +6,6 @@ ghost use Rattle.std.specs.Prelude.{◌≡◌};
 ghost use Rattle.aia_model.specs.Script.{answers};
 ghost use Rattle.aia_vectors.specs.Rows.{script_of, answers_of};
 
-use aia_vectors::row::Row;
-
 /// A VM of two virtual harts: which MSIs of its device name a file, which name none and which are
 /// no MSIs of the VM; and VMs that may not be made.
 pub const VMS_AND_THEIR_MSIS: [(&str, &str); 14] = [
@@ -432,63 +430,3 @@ pub const SPELLING_OF_VM_LINES: [(&str, &str); 30] = [
 pub fn spelling_of_vm_lines()
     ensures { answers (script_of SPELLING_OF_VM_LINES) ≡ answers_of SPELLING_OF_VM_LINES }
 {}
-
-/// All rows of this file, each with its name.
-pub const ROWS: [Row; 14] = [
-    Row {
-        name: "VMS_AND_THEIR_MSIS",
-        pairs: &VMS_AND_THEIR_MSIS,
-    },
-    Row {
-        name: "MASK_WITH_A_GAP",
-        pairs: &MASK_WITH_A_GAP,
-    },
-    Row {
-        name: "RANGE_COMES_BEFORE_FULL",
-        pairs: &RANGE_COMES_BEFORE_FULL,
-    },
-    Row {
-        name: "FILES_BY_PACKED_BITS",
-        pairs: &FILES_BY_PACKED_BITS,
-    },
-    Row {
-        name: "MASKS_OF_VMS",
-        pairs: &MASKS_OF_VMS,
-    },
-    Row {
-        name: "ROOM_FOR_VMS",
-        pairs: &ROOM_FOR_VMS,
-    },
-    Row {
-        name: "FOUR_VMS",
-        pairs: &FOUR_VMS,
-    },
-    Row {
-        name: "NUMBERS_OF_VMS_ARE_NOT_CUT",
-        pairs: &NUMBERS_OF_VMS_ARE_NOT_CUT,
-    },
-    Row {
-        name: "ORDER_OF_REFUSALS_OF_MSIS",
-        pairs: &ORDER_OF_REFUSALS_OF_MSIS,
-    },
-    Row {
-        name: "MSIS_AT_ALL_OFFSETS",
-        pairs: &MSIS_AT_ALL_OFFSETS,
-    },
-    Row {
-        name: "NO_NOTICE_OF_GREAT_IDENTITIES",
-        pairs: &NO_NOTICE_OF_GREAT_IDENTITIES,
-    },
-    Row {
-        name: "DEVICES_OF_A_VM_REACH_ITS_FILES_ALONE",
-        pairs: &DEVICES_OF_A_VM_REACH_ITS_FILES_ALONE,
-    },
-    Row {
-        name: "GUARDED_BESIDE_VMS",
-        pairs: &GUARDED_BESIDE_VMS,
-    },
-    Row {
-        name: "SPELLING_OF_VM_LINES",
-        pairs: &SPELLING_OF_VM_LINES,
-    },
-];

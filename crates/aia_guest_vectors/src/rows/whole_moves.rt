@@ -6,8 +6,6 @@ ghost use Rattle.std.specs.Prelude.{◌≡◌};
 ghost use Rattle.aia_model.specs.Script.{answers};
 ghost use Rattle.aia_vectors.specs.Rows.{script_of, answers_of};
 
-use aia_vectors::row::Row;
-
 /// A select number of the host and one of a virtual hart that is resident: which registers read 0,
 /// and which accesses are refused, for the host as illegal, for the guest as virtual.
 pub const SELECT_NUMBERS_AND_THEIR_FAULTS: [(&str, &str); 15] = [
@@ -211,39 +209,3 @@ pub const NUMBERS_GO_WITH_A_SHIFT: [(&str, &str); 17] = [
 pub fn numbers_go_with_a_shift()
     ensures { answers (script_of NUMBERS_GO_WITH_A_SHIFT) ≡ answers_of NUMBERS_GO_WITH_A_SHIFT }
 {}
-
-/// All rows of this file, each with its name.
-pub const ROWS: [Row; 8] = [
-    Row {
-        name: "SELECT_NUMBERS_AND_THEIR_FAULTS",
-        pairs: &SELECT_NUMBERS_AND_THEIR_FAULTS,
-    },
-    Row {
-        name: "MOVED_WITH_REQUESTS_PENDING",
-        pairs: &MOVED_WITH_REQUESTS_PENDING,
-    },
-    Row {
-        name: "IDENTITIES_OF_NO_FILE",
-        pairs: &IDENTITIES_OF_NO_FILE,
-    },
-    Row {
-        name: "PEERS_SIGNALS_AND_SHIFTS",
-        pairs: &PEERS_SIGNALS_AND_SHIFTS,
-    },
-    Row {
-        name: "NOTICES_GO_TO_THE_NOTICE_HART",
-        pairs: &NOTICES_GO_TO_THE_NOTICE_HART,
-    },
-    Row {
-        name: "NOTICES_ARE_NUMBERED_OVER_ALL_VMS",
-        pairs: &NOTICES_ARE_NUMBERED_OVER_ALL_VMS,
-    },
-    Row {
-        name: "LEAVE_POSTS_WHAT_ITS_LOOKS_SAW",
-        pairs: &LEAVE_POSTS_WHAT_ITS_LOOKS_SAW,
-    },
-    Row {
-        name: "NUMBERS_GO_WITH_A_SHIFT",
-        pairs: &NUMBERS_GO_WITH_A_SHIFT,
-    },
-];

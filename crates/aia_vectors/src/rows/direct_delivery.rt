@@ -6,8 +6,6 @@ ghost use Rattle.std.specs.Prelude.{◌≡◌};
 ghost use Rattle.aia_model.specs.Script.{answers};
 ghost use Rattle.aia_vectors.specs.Rows.{script_of, answers_of};
 
-use crate::row::Row;
-
 /// Two detached sources of one priority: the lower number is on top, and a threshold lets only
 /// lower priorities through.
 pub const TIES_AND_THRESHOLDS: [(&str, &str); 15] = [
@@ -355,51 +353,3 @@ pub const WHAT_ENDS_A_CANDIDATE: [(&str, &str); 29] = [
 pub fn what_ends_a_candidate()
     ensures { answers (script_of WHAT_ENDS_A_CANDIDATE) ≡ answers_of WHAT_ENDS_A_CANDIDATE }
 {}
-
-/// All rows of this file, each with its name.
-pub const ROWS: [Row; 11] = [
-    Row {
-        name: "TIES_AND_THRESHOLDS",
-        pairs: &TIES_AND_THRESHOLDS,
-    },
-    Row {
-        name: "CLAIMS_OF_LEVEL_AND_EDGE",
-        pairs: &CLAIMS_OF_LEVEL_AND_EDGE,
-    },
-    Row {
-        name: "ENABLES_AND_TARGETS_OF_MODES",
-        pairs: &ENABLES_AND_TARGETS_OF_MODES,
-    },
-    Row {
-        name: "MANY_SOURCES_AND_FORCE",
-        pairs: &MANY_SOURCES_AND_FORCE,
-    },
-    Row {
-        name: "CONTROLS_KEEP_THEIR_FIELDS",
-        pairs: &CONTROLS_KEEP_THEIR_FIELDS,
-    },
-    Row {
-        name: "FOUR_PINS_OF_A_HART",
-        pairs: &FOUR_PINS_OF_A_HART,
-    },
-    Row {
-        name: "CHILD_SHOWS_A_DELEGATED_SOURCE",
-        pairs: &CHILD_SHOWS_A_DELEGATED_SOURCE,
-    },
-    Row {
-        name: "LOWER_PRIORITY_NUMBERS_COME_FIRST",
-        pairs: &LOWER_PRIORITY_NUMBERS_COME_FIRST,
-    },
-    Row {
-        name: "CLAIM_OF_A_SOURCE_LEAVES_IFORCE",
-        pairs: &CLAIM_OF_A_SOURCE_LEAVES_IFORCE,
-    },
-    Row {
-        name: "PAIRS_BEFORE_NUMBERS_OF_1023_SOURCES",
-        pairs: &PAIRS_BEFORE_NUMBERS_OF_1023_SOURCES,
-    },
-    Row {
-        name: "WHAT_ENDS_A_CANDIDATE",
-        pairs: &WHAT_ENDS_A_CANDIDATE,
-    },
-];

@@ -6,8 +6,6 @@ ghost use Rattle.std.specs.Prelude.{◌≡◌};
 ghost use Rattle.aia_model.specs.Script.{answers};
 ghost use Rattle.aia_vectors.specs.Rows.{script_of, answers_of};
 
-use crate::row::Row;
-
 /// Entries of each kind: a basic one, memory-resident ones, and those that say nothing.
 pub const WHAT_ENTRIES_SAY: [(&str, &str); 8] = [
     ("machine 1 0 63 1", "ok"),
@@ -197,27 +195,3 @@ pub const GREATEST_ENTRIES: [(&str, &str); 10] = [
 pub fn greatest_entries()
     ensures { answers (script_of GREATEST_ENTRIES) ≡ answers_of GREATEST_ENTRIES }
 {}
-
-/// All rows of this file, each with its name.
-pub const ROWS: [Row; 5] = [
-    Row {
-        name: "WHAT_ENTRIES_SAY",
-        pairs: &WHAT_ENTRIES_SAY,
-    },
-    Row {
-        name: "ORDER_OF_LOOKS_AT_AN_ENTRY",
-        pairs: &ORDER_OF_LOOKS_AT_AN_ENTRY,
-    },
-    Row {
-        name: "RESERVED_BITS_OF_BASIC_ENTRIES",
-        pairs: &RESERVED_BITS_OF_BASIC_ENTRIES,
-    },
-    Row {
-        name: "RESERVED_BITS_OF_MRIF_ENTRIES",
-        pairs: &RESERVED_BITS_OF_MRIF_ENTRIES,
-    },
-    Row {
-        name: "GREATEST_ENTRIES",
-        pairs: &GREATEST_ENTRIES,
-    },
-];

@@ -6,8 +6,6 @@ ghost use Rattle.std.specs.Prelude.{◌≡◌};
 ghost use Rattle.aia_model.specs.Script.{answers};
 ghost use Rattle.aia_vectors.specs.Rows.{script_of, answers_of};
 
-use crate::row::Row;
-
 /// One interrupt, from a device's store to the hart's claim.
 pub const CLAIM_EXAMPLE: [(&str, &str); 34] = [
     (
@@ -831,31 +829,3 @@ pub const MSI_DELIVERY_EXAMPLE: [(&str, &str); 54] = [
 pub fn the_example_of_msi_delivery()
     ensures { answers (script_of MSI_DELIVERY_EXAMPLE) ≡ answers_of MSI_DELIVERY_EXAMPLE }
 {}
-
-/// All rows of this file, each with its name.
-pub const ROWS: [Row; 6] = [
-    Row {
-        name: "CLAIM_EXAMPLE",
-        pairs: &CLAIM_EXAMPLE,
-    },
-    Row {
-        name: "REFUSALS_EXAMPLE",
-        pairs: &REFUSALS_EXAMPLE,
-    },
-    Row {
-        name: "FILES_AND_BYTE_ORDERS_EXAMPLE",
-        pairs: &FILES_AND_BYTE_ORDERS_EXAMPLE,
-    },
-    Row {
-        name: "WIRES_MODES_AND_DELEGATION_EXAMPLE",
-        pairs: &WIRES_MODES_AND_DELEGATION_EXAMPLE,
-    },
-    Row {
-        name: "DIRECT_DELIVERY_EXAMPLE",
-        pairs: &DIRECT_DELIVERY_EXAMPLE,
-    },
-    Row {
-        name: "MSI_DELIVERY_EXAMPLE",
-        pairs: &MSI_DELIVERY_EXAMPLE,
-    },
-];

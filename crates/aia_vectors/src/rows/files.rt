@@ -6,8 +6,6 @@ ghost use Rattle.std.specs.Prelude.{◌≡◌};
 ghost use Rattle.aia_model.specs.Script.{answers};
 ghost use Rattle.aia_vectors.specs.Rows.{script_of, answers_of};
 
-use crate::row::Row;
-
 /// A store makes an identity pending; reading `stopei` leaves it there, and writing `stopei` claims
 /// it.
 pub const STORE_IS_CLAIMED: [(&str, &str); 8] = [
@@ -156,31 +154,3 @@ pub const EIDELIVERY_KEEPS_BIT_0: [(&str, &str); 24] = [
 pub fn eidelivery_keeps_bit_0()
     ensures { answers (script_of EIDELIVERY_KEEPS_BIT_0) ≡ answers_of EIDELIVERY_KEEPS_BIT_0 }
 {}
-
-/// All rows of this file, each with its name.
-pub const ROWS: [Row; 6] = [
-    Row {
-        name: "STORE_IS_CLAIMED",
-        pairs: &STORE_IS_CLAIMED,
-    },
-    Row {
-        name: "THRESHOLD_AND_LEAST_IDENTITY",
-        pairs: &THRESHOLD_AND_LEAST_IDENTITY,
-    },
-    Row {
-        name: "STORES_LOADS_AND_GUARDED_PAGES",
-        pairs: &STORES_LOADS_AND_GUARDED_PAGES,
-    },
-    Row {
-        name: "MACHINE_LEVEL_SETS_AND_CLEARS",
-        pairs: &MACHINE_LEVEL_SETS_AND_CLEARS,
-    },
-    Row {
-        name: "FILES_AND_DOMAINS_ARE_APART",
-        pairs: &FILES_AND_DOMAINS_ARE_APART,
-    },
-    Row {
-        name: "EIDELIVERY_KEEPS_BIT_0",
-        pairs: &EIDELIVERY_KEEPS_BIT_0,
-    },
-];

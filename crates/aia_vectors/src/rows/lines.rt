@@ -6,8 +6,6 @@ ghost use Rattle.std.specs.Prelude.{◌≡◌};
 ghost use Rattle.aia_model.specs.Script.{answers};
 ghost use Rattle.aia_vectors.specs.Rows.{script_of, unended_script_of, answers_of};
 
-use crate::row::Row;
-
 /// A script with no line.
 pub const NO_LINES: [(&str, &str); 0] = [];
 
@@ -295,55 +293,3 @@ pub fn spaces_tabs_and_carriage_returns()
     ensures { answers (script_of SPACES_TABS_AND_CARRIAGE_RETURNS)
         ≡ answers_of SPACES_TABS_AND_CARRIAGE_RETURNS }
 {}
-
-/// All rows of this file, each with its name.
-pub const ROWS: [Row; 12] = [
-    Row {
-        name: "NO_LINES",
-        pairs: &NO_LINES,
-    },
-    Row {
-        name: "MACHINE_IS_REFUSED",
-        pairs: &MACHINE_IS_REFUSED,
-    },
-    Row {
-        name: "NUMBERS_RANGES_AND_SPELLING",
-        pairs: &NUMBERS_RANGES_AND_SPELLING,
-    },
-    Row {
-        name: "LONGEST_TEXTS",
-        pairs: &LONGEST_TEXTS,
-    },
-    Row {
-        name: "WIRES_ARE_REFUSED",
-        pairs: &WIRES_ARE_REFUSED,
-    },
-    Row {
-        name: "NUMBERS_ARE_NOT_CUT",
-        pairs: &NUMBERS_ARE_NOT_CUT,
-    },
-    Row {
-        name: "MACHINE_NUMBERS_ARE_NOT_CUT",
-        pairs: &MACHINE_NUMBERS_ARE_NOT_CUT,
-    },
-    Row {
-        name: "MACHINES_OF_NO_SIZE",
-        pairs: &MACHINES_OF_NO_SIZE,
-    },
-    Row {
-        name: "VALUES_OF_STORES_HAVE_32_BITS",
-        pairs: &VALUES_OF_STORES_HAVE_32_BITS,
-    },
-    Row {
-        name: "NUMBERS_STAY_BELOW_2_TO_64",
-        pairs: &NUMBERS_STAY_BELOW_2_TO_64,
-    },
-    Row {
-        name: "HEXADECIMAL_SPELLING",
-        pairs: &HEXADECIMAL_SPELLING,
-    },
-    Row {
-        name: "SPACES_TABS_AND_CARRIAGE_RETURNS",
-        pairs: &SPACES_TABS_AND_CARRIAGE_RETURNS,
-    },
-];

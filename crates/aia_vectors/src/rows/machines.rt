@@ -6,8 +6,6 @@ ghost use Rattle.std.specs.Prelude.{◌≡◌};
 ghost use Rattle.aia_model.specs.Script.{answers};
 ghost use Rattle.aia_vectors.specs.Rows.{script_of, answers_of};
 
-use crate::row::Row;
-
 /// The greatest machine: the supervisor file of its last hart keeps its last identity, and beyond
 /// it, beyond the last guest file and beyond the last hart there is nothing.
 pub const GREATEST_MACHINE: [(&str, &str); 13] = [
@@ -255,51 +253,3 @@ pub const MEMORY_IS_GUARDED: [(&str, &str); 15] = [
 pub fn memory_is_guarded()
     ensures { answers (script_of MEMORY_IS_GUARDED) ≡ answers_of MEMORY_IS_GUARDED }
 {}
-
-/// All rows of this file, each with its name.
-pub const ROWS: [Row; 11] = [
-    Row {
-        name: "GREATEST_MACHINE",
-        pairs: &GREATEST_MACHINE,
-    },
-    Row {
-        name: "LAST_MACHINE_LEVEL_FILE",
-        pairs: &LAST_MACHINE_LEVEL_FILE,
-    },
-    Row {
-        name: "LAST_SOURCE_OF_THE_LAST_HART",
-        pairs: &LAST_SOURCE_OF_THE_LAST_HART,
-    },
-    Row {
-        name: "THREE_HARTS_WITH_THREE_GUEST_FILES",
-        pairs: &THREE_HARTS_WITH_THREE_GUEST_FILES,
-    },
-    Row {
-        name: "FOUR_GUEST_FILES",
-        pairs: &FOUR_GUEST_FILES,
-    },
-    Row {
-        name: "FIVE_GUEST_FILES",
-        pairs: &FIVE_GUEST_FILES,
-    },
-    Row {
-        name: "SIX_GUEST_FILES",
-        pairs: &SIX_GUEST_FILES,
-    },
-    Row {
-        name: "IDENTITIES_UP_TO_255",
-        pairs: &IDENTITIES_UP_TO_255,
-    },
-    Row {
-        name: "IDENTITIES_UP_TO_511",
-        pairs: &IDENTITIES_UP_TO_511,
-    },
-    Row {
-        name: "IDENTITIES_UP_TO_1023",
-        pairs: &IDENTITIES_UP_TO_1023,
-    },
-    Row {
-        name: "MEMORY_IS_GUARDED",
-        pairs: &MEMORY_IS_GUARDED,
-    },
-];

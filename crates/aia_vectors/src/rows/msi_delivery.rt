@@ -6,8 +6,6 @@ ghost use Rattle.std.specs.Prelude.{◌≡◌};
 ghost use Rattle.aia_model.specs.Script.{answers};
 ghost use Rattle.aia_vectors.specs.Rows.{script_of, answers_of};
 
-use crate::row::Row;
-
 /// A level source in a domain that delivers by MSIs: its rise is sent, and a register asks for it
 /// again only while its input is high.
 pub const LEVEL_SOURCE_BY_MSIS: [(&str, &str); 17] = [
@@ -573,79 +571,3 @@ pub const SHIFT_OF_A_HART: [(&str, &str); 24] = [
 pub fn the_shift_of_a_hart()
     ensures { answers (script_of SHIFT_OF_A_HART) ≡ answers_of SHIFT_OF_A_HART }
 {}
-
-/// All rows of this file, each with its name.
-pub const ROWS: [Row; 18] = [
-    Row {
-        name: "LEVEL_SOURCE_BY_MSIS",
-        pairs: &LEVEL_SOURCE_BY_MSIS,
-    },
-    Row {
-        name: "GENMSI_AND_THE_LOCK",
-        pairs: &GENMSI_AND_THE_LOCK,
-    },
-    Row {
-        name: "LEVEL_PENDED_AGAIN_BY_SOURCECFG",
-        pairs: &LEVEL_PENDED_AGAIN_BY_SOURCECFG,
-    },
-    Row {
-        name: "CHANGE_OF_DELIVERY",
-        pairs: &CHANGE_OF_DELIVERY,
-    },
-    Row {
-        name: "ADDRESS_REGISTERS_KEEP_THEIR_FIELDS",
-        pairs: &ADDRESS_REGISTERS_KEEP_THEIR_FIELDS,
-    },
-    Row {
-        name: "GROUPS_OF_HARTS",
-        pairs: &GROUPS_OF_HARTS,
-    },
-    Row {
-        name: "BOTH_DOMAINS_SEND_TO_THEIR_FILES",
-        pairs: &BOTH_DOMAINS_SEND_TO_THEIR_FILES,
-    },
-    Row {
-        name: "SENT_ONLY_WHERE_ENABLED",
-        pairs: &SENT_ONLY_WHERE_ENABLED,
-    },
-    Row {
-        name: "MSIS_ELSEWHERE_ARE_DROPPED",
-        pairs: &MSIS_ELSEWHERE_ARE_DROPPED,
-    },
-    Row {
-        name: "NO_DIRECT_DELIVERY_BY_MSIS",
-        pairs: &NO_DIRECT_DELIVERY_BY_MSIS,
-    },
-    Row {
-        name: "MSIS_OF_GREAT_IDENTITIES",
-        pairs: &MSIS_OF_GREAT_IDENTITIES,
-    },
-    Row {
-        name: "MSI_OF_THE_LAST_IDENTITY",
-        pairs: &MSI_OF_THE_LAST_IDENTITY,
-    },
-    Row {
-        name: "GENMSI_IN_DIRECT_DELIVERY",
-        pairs: &GENMSI_IN_DIRECT_DELIVERY,
-    },
-    Row {
-        name: "HIGH_HALF_OF_THE_PAGE_NUMBER",
-        pairs: &HIGH_HALF_OF_THE_PAGE_NUMBER,
-    },
-    Row {
-        name: "WIDTH_OF_A_GROUP",
-        pairs: &WIDTH_OF_A_GROUP,
-    },
-    Row {
-        name: "PLACE_OF_A_GROUP",
-        pairs: &PLACE_OF_A_GROUP,
-    },
-    Row {
-        name: "SHIFT_OF_A_GROUP",
-        pairs: &SHIFT_OF_A_GROUP,
-    },
-    Row {
-        name: "SHIFT_OF_A_HART",
-        pairs: &SHIFT_OF_A_HART,
-    },
-];

@@ -6,8 +6,6 @@ ghost use Rattle.std.specs.Prelude.{◌≡◌};
 ghost use Rattle.aia_model.specs.Script.{answers};
 ghost use Rattle.aia_vectors.specs.Rows.{script_of, answers_of};
 
-use crate::row::Row;
-
 /// What sourcecfg keeps: without D the mode alone, with D the child index alone. A reserved mode, a
 /// child that isn't there, and a source that isn't there are nothing.
 pub const RESERVED_MODES_AND_CHILD_INDEXES: [(&str, &str); 36] = [
@@ -381,47 +379,3 @@ pub const WHOLE_NUMBERS_OF_SOURCES: [(&str, &str); 23] = [
 pub fn sources_are_named_by_whole_numbers()
     ensures { answers (script_of WHOLE_NUMBERS_OF_SOURCES) ≡ answers_of WHOLE_NUMBERS_OF_SOURCES }
 {}
-
-/// All rows of this file, each with its name.
-pub const ROWS: [Row; 10] = [
-    Row {
-        name: "RESERVED_MODES_AND_CHILD_INDEXES",
-        pairs: &RESERVED_MODES_AND_CHILD_INDEXES,
-    },
-    Row {
-        name: "SOURCES_BY_NUMBER",
-        pairs: &SOURCES_BY_NUMBER,
-    },
-    Row {
-        name: "TARGETS_OF_HARTS_AND_PRIORITIES",
-        pairs: &TARGETS_OF_HARTS_AND_PRIORITIES,
-    },
-    Row {
-        name: "WORDS_OF_SOURCES",
-        pairs: &WORDS_OF_SOURCES,
-    },
-    Row {
-        name: "LAST_OF_ALL_SOURCES",
-        pairs: &LAST_OF_ALL_SOURCES,
-    },
-    Row {
-        name: "BITS_OF_NO_SOURCE",
-        pairs: &BITS_OF_NO_SOURCE,
-    },
-    Row {
-        name: "DOMAINCFG_KEEPS_ENABLE_AND_DELIVERY",
-        pairs: &DOMAINCFG_KEEPS_ENABLE_AND_DELIVERY,
-    },
-    Row {
-        name: "NOTHING_AT_OTHER_OFFSETS",
-        pairs: &NOTHING_AT_OTHER_OFFSETS,
-    },
-    Row {
-        name: "ADDRESSES_OF_DOMAINS",
-        pairs: &ADDRESSES_OF_DOMAINS,
-    },
-    Row {
-        name: "WHOLE_NUMBERS_OF_SOURCES",
-        pairs: &WHOLE_NUMBERS_OF_SOURCES,
-    },
-];

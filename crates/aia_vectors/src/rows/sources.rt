@@ -6,8 +6,6 @@ ghost use Rattle.std.specs.Prelude.{◌≡◌};
 ghost use Rattle.aia_model.specs.Script.{answers};
 ghost use Rattle.aia_vectors.specs.Rows.{script_of, answers_of};
 
-use crate::row::Row;
-
 /// A level source of a low wire is pending exactly while the wire is low, whatever is stored; one
 /// of falling edges becomes pending when its wire falls, and not when it rises.
 pub const LEVEL_LOW_AND_FALLING_EDGE: [(&str, &str); 13] = [
@@ -331,47 +329,3 @@ pub fn the_root_leaves_a_delegated_source()
     ensures { answers (script_of ROOT_LEAVES_DELEGATED_SOURCES)
         ≡ answers_of ROOT_LEAVES_DELEGATED_SOURCES }
 {}
-
-/// All rows of this file, each with its name.
-pub const ROWS: [Row; 10] = [
-    Row {
-        name: "LEVEL_LOW_AND_FALLING_EDGE",
-        pairs: &LEVEL_LOW_AND_FALLING_EDGE,
-    },
-    Row {
-        name: "EDGES_ARE_RISES_OF_A_WIRE",
-        pairs: &EDGES_ARE_RISES_OF_A_WIRE,
-    },
-    Row {
-        name: "LEVELS_HEAR_NO_STORE",
-        pairs: &LEVELS_HEAR_NO_STORE,
-    },
-    Row {
-        name: "MODES_CHANGE_WITH_NO_RISE",
-        pairs: &MODES_CHANGE_WITH_NO_RISE,
-    },
-    Row {
-        name: "SOURCES_BEGIN_ANEW",
-        pairs: &SOURCES_BEGIN_ANEW,
-    },
-    Row {
-        name: "DELEGATION_GIVEN_AND_TAKEN_BACK",
-        pairs: &DELEGATION_GIVEN_AND_TAKEN_BACK,
-    },
-    Row {
-        name: "DELEGATED_TWICE_AND_TAKEN_BACK_HIGH",
-        pairs: &DELEGATED_TWICE_AND_TAKEN_BACK_HIGH,
-    },
-    Row {
-        name: "TAKEN_BACK_WHILE_PENDING",
-        pairs: &TAKEN_BACK_WHILE_PENDING,
-    },
-    Row {
-        name: "CHILD_LEAVES_SOURCES_OF_THE_ROOT",
-        pairs: &CHILD_LEAVES_SOURCES_OF_THE_ROOT,
-    },
-    Row {
-        name: "ROOT_LEAVES_DELEGATED_SOURCES",
-        pairs: &ROOT_LEAVES_DELEGATED_SOURCES,
-    },
-];

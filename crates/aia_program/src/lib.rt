@@ -1,0 +1,165 @@
+//! What the program `aia` does: the words of the command line, the ends, the exit status.
+#![tactic(auto)]
+
+ghost use Rattle.std.specs.Prelude.{◌≡◌, ◌≢◌, ◌+◌, ◌⊎◌, ◌↔◌, ℕ, map, Contains, Some, None, IfOk};
+ghost use Rattle.std.specs.Io.KnownBytes.{Appends};
+ghost use Rattle.std.specs.IoError.{error_kind};
+ghost use Rattle.std.specs.Process.{exit_status};
+ghost use Rattle.aia_command.specs.declared.subcommand.Subcommand.TheVariants.{Replay, Generate};
+ghost use Rattle.aia_command.specs.CommandLine.{subcommand_of};
+ghost use Rattle.aia_generate.specs.Summary.{summary};
+ghost use Rattle.aia_io.specs.Ends.{Rose};
+ghost use Rattle.aia_replay.specs.Runs.{HasAtMost, IsDoneOrMemory, StopsAtMachine, Takes, TakesAll, TouchesNothing, WritesAnswers};
+ghost use Rattle.aia_program.specs.Command.{AreNoText, AreRefused, asked_by, exit_numbers, words_of};
+
+use aia_io::{Sink, Source};
+use aia_replay::{SCRIPT_BYTES, Status, run};
+use std::alloc::{AllocError, Global};
+use std::io::ErrorKind;
+use std::process::ExitCode;
+use std::{env, io};
+
+/// Reads the words of the command line, the program's name first. `Err`: one of them is no text,
+/// or there is no memory for them.
+pub fn arguments(rt: &HostRuntime) -> io::Result<Vec<String>> {
+    let arguments = env::args(rt)?.collect(rt.alloc())?;
+    Ok(arguments)
+}
+
+/// Runs the command that the words of the command line give, the program's name first, from the
+/// source to the sink, and gives the exit status of the program.
+pub fn command<S: Source, K: Sink>(
+    alloc: Global,
+    arguments: io::Result<Vec<String>>,
+    source: &mut S,
+    sink: &mut K,
+) -> ExitCode
+    // The headline: at 0 what is written is the model's answers of the whole script.
+    ensures done { asked_by arguments ≡ Some Replay → exit_status result ≡ 0
+        → WritesAnswers (S.left source.old) (K.taken sink.old) (K.taken sink.new) }
+    ensures all { asked_by arguments ≡ Some Replay → exit_status result ≡ 0
+        → TakesAll (S.left source.old) (S.left source.new) }
+    ensures generates { (count seed : ℕ) → asked_by arguments ≡ Some (Generate count seed)
+        → (source.new ≡ source.old) × (exit_status result ≡ 0
+        → Appends (K.taken sink.old) (K.taken sink.new) (summary count seed)) }
+
+    // Where there is memory for the words, they are refused exactly by 2.
+    ensures usage { exit_status result ≢ 5 → ((exit_status result ≡ 2) ↔ AreRefused arguments) }
+    ensures nothing { exit_status result ≡ 2
+        → (source.new ≡ source.old) × (sink.new ≡ sink.old) }
+
+    ensures no_text { AreNoText arguments → exit_status result ≡ 2 }
+
+    ensures read_fault { exit_status result ≡ 3
+        → Rose (S.faults source.old) (S.faults source.new) }
+    ensures write_fault { exit_status result ≡ 4 → Rose (K.faults sink.old) (K.faults sink.new) }
+
+    // No memory for the words or for a generated script, and nothing was touched, or none for a
+    // machine that the script asks for.
+    ensures memory { exit_status result ≡ 5
+        → TouchesNothing (S.left source.old) (S.left source.new)
+        (K.taken sink.old) (K.taken sink.new)
+        ⊎ StopsAtMachine (S.left source.old) (S.left source.new)
+        (K.taken sink.old) (K.taken sink.new) }
+    ensures too_long { exit_status result ≡ 6
+        → Takes (SCRIPT_BYTES + 1) (S.left source.old) (S.left source.new) }
+
+    // There is no other number, and where nothing is in the way, it is 0, or 5.
+    ensures number { Contains exit_numbers (exit_status result) }
+    ensures complete { asked_by arguments ≢ None
+        → (¬ Rose (S.faults source.old) (S.faults source.new))
+        → (¬ Rose (K.faults sink.old) (K.faults sink.new))
+        → (asked_by arguments ≡ Some Replay → HasAtMost SCRIPT_BYTES (S.left source.old))
+        → (exit_status result ≡ 0) ⊎ (exit_status result ≡ 5) }
+{
+    let status = match arguments {
+        Ok(arguments) => run_words(alloc, &arguments, source, sink),
+        Err(error) => refusal(&error),
+    };
+    exit_code(status)
+}
+
+/// Says what words that can't be read mean: they are no text, or there is no memory for them.
+fn refusal(error: &io::Error) -> Status
+    ensures memory { error_kind error.now ≡ ErrorKind.OutOfMemory → result ≡ Status.Memory }
+    ensures usage { error_kind error.now ≢ ErrorKind.OutOfMemory → result ≡ Status.Usage }
+{
+    if error.kind() == ErrorKind::OutOfMemory {
+        Status::Memory
+    } else {
+        Status::Usage
+    }
+}
+
+/// Runs the command on the words without the program's name.
+fn run_words<S: Source, K: Sink>(
+    alloc: Global,
+    arguments: &[String],
+    source: &mut S,
+    sink: &mut K,
+) -> Status
+    ensures done { subcommand_of (words_of arguments.now) ≡ Some Replay → result ≡ Status.Done
+        → WritesAnswers (S.left source.old) (K.taken sink.old) (K.taken sink.new)
+        × TakesAll (S.left source.old) (S.left source.new) }
+    ensures generates { (count seed : ℕ)
+        → subcommand_of (words_of arguments.now) ≡ Some (Generate count seed)
+        → (source.new ≡ source.old) × (result ≡ Status.Done
+        → Appends (K.taken sink.old) (K.taken sink.new) (summary count seed)) }
+    ensures read_fault { result ≡ Status.ReadFault
+        → Rose (S.faults source.old) (S.faults source.new) }
+    ensures write_fault { result ≡ Status.WriteFault
+        → Rose (K.faults sink.old) (K.faults sink.new) }
+    ensures memory { result ≡ Status.Memory
+        → TouchesNothing (S.left source.old) (S.left source.new)
+        (K.taken sink.old) (K.taken sink.new)
+        ⊎ StopsAtMachine (S.left source.old) (S.left source.new)
+        (K.taken sink.old) (K.taken sink.new) }
+    ensures too_long { result ≡ Status.TooLong
+        → Takes (SCRIPT_BYTES + 1) (S.left source.old) (S.left source.new) }
+    ensures usage { result ≢ Status.Memory
+        → ((result ≡ Status.Usage) ↔ (subcommand_of (words_of arguments.now) ≡ None)) }
+    ensures nothing { result ≡ Status.Usage → (source.new ≡ source.old) × (sink.new ≡ sink.old) }
+    ensures complete { subcommand_of (words_of arguments.now) ≢ None
+        → (¬ Rose (S.faults source.old) (S.faults source.new))
+        → (¬ Rose (K.faults sink.old) (K.faults sink.new))
+        → (subcommand_of (words_of arguments.now) ≡ Some Replay
+        → HasAtMost SCRIPT_BYTES (S.left source.old))
+        → IsDoneOrMemory result }
+{
+    match words(alloc, arguments) {
+        Ok(words) => run(alloc, &words, source, sink),
+        Err(_) => Status::Memory,
+    }
+}
+
+/// Gives the words without the program's name. `Err`: there is no memory for them.
+fn words(alloc: Global, arguments: &[String]) -> Result<Vec<&str>, AllocError>
+    ensures { IfOk result (λ words. map (λ word. word.now) words.items ≡ words_of arguments.now) }
+{
+    let mut words = Vec::new(alloc);
+    let rest = arguments.get(1..).unwrap_or_default();
+    for argument in rest {
+        words.push(argument.as_str())?;
+    }
+    Ok(words)
+}
+
+/// Gives each status its number, by which the program ends.
+fn exit_code(status: Status) -> ExitCode
+    ensures done { (exit_status result ≡ 0) ↔ (status ≡ Status.Done) }
+    ensures usage { (exit_status result ≡ 2) ↔ (status ≡ Status.Usage) }
+    ensures read_fault { (exit_status result ≡ 3) ↔ (status ≡ Status.ReadFault) }
+    ensures write_fault { (exit_status result ≡ 4) ↔ (status ≡ Status.WriteFault) }
+    ensures memory { (exit_status result ≡ 5) ↔ (status ≡ Status.Memory) }
+    ensures too_long { (exit_status result ≡ 6) ↔ (status ≡ Status.TooLong) }
+    ensures number { Contains exit_numbers (exit_status result) }
+{
+    ExitCode::from(match status {
+        Status::Done => 0,
+        Status::Usage => 2,
+        Status::ReadFault => 3,
+        Status::WriteFault => 4,
+        Status::Memory => 5,
+        Status::TooLong => 6,
+    })
+}
