@@ -4,9 +4,9 @@ import re
 import subprocess
 from functools import cache
 
-from antt import TOP, clauses, read_item
+from antt import TOP, clauses
 from markdown import anchors, documents, read, rows, section, sentences, spoken, words
-from pictures import address
+from pictures import address, limit
 from plans import KINDS, Move, Reader
 
 REFERENCE = "docs/REFERENCE.md"
@@ -22,6 +22,14 @@ SIZES = {
     "VMs": ["VMS"],
     "virtual harts of a VM": ["VM_VCPUS", "VCPUS"],
 }
+PLACES = [
+    "root_region",
+    "child_region",
+    "machine_page",
+    "supervisor_page",
+    "slot_address",
+    "table_address",
+]
 CALLED = {"leave": "a leave", "arrive": "an arrival", "shift": "a shift"}
 ALONE = ["README.md", REFERENCE, "docs/PROMISES.md"]
 
@@ -49,14 +57,18 @@ def form(right):
     return " ".join(found)
 
 
+def number_or(word):
+    """Gives a word of a form as it stands, but `#` for one in capitals, which is a number."""
+    return "#" if re.fullmatch(r"[A-Z][A-Z0-9]*", word) and word != "INS" else word
+
+
 def lines():
     """Compares the forms of lines with the table `fields_of`, and the CSRs of each level."""
     wanted = [form(right) for _, right in clauses("aia_model", "Grammar", "fields_of")]
     stands, told = [], {}
     for cells in rows(section(REFERENCE, "Lines")):
         for text in ticked(cells[0]):
-            parts = ["#" if re.fullmatch(r"[A-Z][A-Z0-9]*", w) and w != "INS" else w for w in text.split()]
-            stands.append(" ".join(parts))
+            stands.append(" ".join(number_or(word) for word in text.split()))
             told[text] = ticked(cells[1])
     yield from differ(f"{REFERENCE}, Lines,", stands, wanted)
     levels = {"levels.Machine": "m H INS", "levels.Host": "h H INS", "levels.Guest": "g VM C INS"}
@@ -83,10 +95,11 @@ def answers():
     stands = [text.split()[0] for cells in table for text in ticked(cells[0])]
     yield from differ(f"{REFERENCE}, Answers,", stands, first.values())
     order = []
-    for own, inner in re.findall(r"\((Refused [\w.]+|\w+), (\w+)\)", clauses("aia_model", "Refusal", "refusals")[0][1]):
-        kind, key = ("refusal_word", own[8:]) if own.startswith("Refused ") else ("answer_word", own)
+    looked_for = clauses("aia_model", "Refusal", "refusals")[0][1]
+    for refused, key in re.findall(r"\((Refused )?([\w.]+), \w+\)", looked_for):
+        kind = "refusal_word" if refused else "answer_word"
         order.append(first[(kind, key.split(".")[-1])])
-    got = [ticked(c[0])[0] for c in table if c[1].startswith("refused:") and ticked(c[0]) != ["bad"]]
+    got = [ticked(c[0])[0] for c in table if c[1].startswith("refused:") and c[0] != "`bad`"]
     if got != order:
         yield f"{REFERENCE}, Answers: the refusals stand as {got}, and are looked for as {order}"
 
@@ -101,13 +114,12 @@ def statuses():
 
 def places():
     """Compares the map with the address map, and the sizes of a machine with its limits."""
-    names = ["root_region", "child_region", "machine_page", "supervisor_page", "slot_address", "table_address"]
-    wanted = [address(name) for name in names]
+    wanted = [address(name) for name in PLACES]
     stands = [text for cells in rows(section(REFERENCE, "The map")) for text in ticked(cells[0])]
     yield from differ(f"{REFERENCE}, The map,", stands, wanted)
     sizes = {cells[0].split(",")[0]: cells[1] for cells in rows(section(REFERENCE, "The machine"))}
     for part, names in SIZES.items():
-        limits = [re.search(r"= (\d+);", read_item("aia_regs", "src/limits.rt", name)[-1])[1] for name in names]
+        limits = [limit(name) for name in names]
         if re.findall(r"\d+", sizes.get(part, "").replace(",", ""))[-len(limits):] != limits:
             yield f"{REFERENCE}, The machine: of {part} the most are {' and '.join(limits)}"
 
@@ -124,9 +136,11 @@ def plans():
     for at, kind in enumerate(KINDS, 1):
         for size in (1, 2, 5):
             move = Move(kind, size)
-            wanted = {f"`{name} w`" if w is not None else f"`{name}`": set() for name, w in move.accesses()}
+            wanted = set()
             for name, w in move.accesses():
-                cell = table.get(f"`{name} w`" if w is not None else f"`{name}`", [""] * 4)[at]
+                row = f"`{name}`" if w is None else f"`{name} w`"
+                wanted.add(row)
+                cell = table.get(row, [""] * 4)[at]
                 if not cell or formula(cell, size, w or 0) != move.step(name, w) + 1:
                     yield f"docs/MOVES.md: {name} of {CALLED[kind]} is not at step '{cell}'"
             for name, cells in table.items():
@@ -137,7 +151,8 @@ def plans():
 
 def stands_where():
     """Compares the table of what stands where with the definitions that its last column names."""
-    for name, *cells, word in rows(section("docs/MOVES.md", "Why each step may be followed by anything")):
+    text = section("docs/MOVES.md", "Why each step may be followed by anything")
+    for name, *cells, word in rows(text):
         if len(cells) != 3:
             continue
         of = (ticked(word) or [""])[0]
@@ -195,7 +210,7 @@ def crates():
 
 
 def promised():
-    """Sees that each function and clause that docs/promises names is there, and each law is named."""
+    """Sees that docs/promises names functions and clauses that are there, and each law."""
     for name in documents():
         if not name.startswith("docs/promises/"):
             continue
@@ -217,8 +232,8 @@ def named_there(name, crate, body, text):
     """Says which functions, clauses and laws of one crate a page has wrong or leaves out."""
     functions = set(re.findall(r"\bfn (\w+)", text))
     clauses_ = set(re.findall(r"\bensures\*? (\w+) \{", text))
-    pairs = [cells for cells in rows(body) if len(cells) == 2]
-    for first, second, *_ in [["", cells[0]] for cells in pairs] + [c for c in rows(body) if len(c) > 2]:
+    table = [cells if len(cells) > 2 else ["", cells[0]] for cells in rows(body)]
+    for first, second, *_ in table:
         for word in ticked(first):
             last = re.sub(r"\(.*", "", word).split("::")[-1]
             if re.fullmatch(r"[a-z_0-9]+", last) and last not in functions | clauses_:
@@ -266,9 +281,14 @@ def shown():
         want = tuple(re.split(r"  +", line)[:2])
         where = [k for k in range(at, len(script)) if script[k] == want]
         if not where:
-            yield f"README.md shows '{want[0]}' with '{want[-1]}', which {of.group(1)} does not have there"
+            yield f"README.md shows {want}, which examples/{of.group(1)} does not have there"
             return
         at = where[0] + 1
+
+
+def ran(command, text):
+    """Gives what a command prints, given a text."""
+    return subprocess.run(command, input=text, capture_output=True, text=True, timeout=60)
 
 
 def tried():
@@ -276,9 +296,9 @@ def tried():
     program = TOP / "crates/aia/out/aia"
     if not program.exists():
         return
-    block = re.search(r"(?ms)^```sh\n(.*?)^```", section("docs/TRACES.md", "A first comparison")).group(1)
-    here = dict(re.findall(r"(?ms)^cat > (\S+) <<'END'\n(.*?)^END\n", block))
-    run = subprocess.run([program, "replay"], input=here["mine.script"], capture_output=True, text=True, timeout=60)
+    text = section("docs/TRACES.md", "A first comparison")
+    here = dict(re.findall(r"(?ms)^cat > (\S+) <<'END'\n(.*?)^END\n", text))
+    run = ran([program, "replay"], here["mine.script"])
     texts = [line for line in here["mine.script"].splitlines() if not line.startswith("#")]
     mine, model = here["mine.out"].splitlines(), run.stdout.splitlines()
     off = [(t, m, a) for t, m, a in zip(texts, model, mine) if a not in ("-", m)]
@@ -286,7 +306,7 @@ def tried():
     if off != [said.group(1, 2, 3)] or len(texts) != len(mine):
         yield f"docs/TRACES.md: its first comparison gives {off}"
     count, seed = re.search(r"`gen (\d+) (\d+)` prints", spoken(read(REFERENCE))).groups()
-    run = subprocess.run([program, "gen", count, seed], capture_output=True, text=True, timeout=60)
+    run = ran([program, "gen", count, seed], "")
     told = " ".join(spoken(read(REFERENCE)).split())
     for line in run.stdout.splitlines():
         if f"`{line}`" not in told:

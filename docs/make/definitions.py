@@ -127,9 +127,9 @@ def missing(crate, module, named, full, shown, passed):
         wanted = names if last == "TheConstants" else [last]
         for name in wanted:
             if (of, place, name) not in shown and (of, place, name) not in passed:
-                yield f"part I shows {crate} {module}, and not {name} of {of}/{place}, which it names"
+                yield f"part I shows {crate} {module}, which names {name} of {of}, and not that"
     elif (of, place) not in full and (crate, module, of, place) not in passed:
-        yield f"part I shows {crate} {module}, and not {of} {place}, which it names"
+        yield f"part I shows {crate} {module}, which names {of} {place}, and not that"
 
 
 def drifts():
@@ -139,8 +139,8 @@ def drifts():
     stands = TARGET.read_text(encoding="utf-8").split("\n") if TARGET.exists() else []
     if wanted != stands:
         at = next((i for i, (a, b) in enumerate(zip(wanted, stands)) if a != b), len(stands))
-        near = next((w for w in reversed(wanted[: at + 1]) if w.startswith("### ")), "its head")
-        yield f"docs/DEFINITIONS.md, line {at + 1}, drifts from the definitions, at {near.strip('# ')}"
+        near = next((w[4:] for w in reversed(wanted[: at + 1]) if w.startswith("### ")), "its head")
+        yield f"docs/DEFINITIONS.md drifts from the definitions, first at line {at + 1}, in {near}"
 
 
 def make():

@@ -38,6 +38,10 @@ TITLES = {
     "arrive": "An arrival: from memory to a guest file",
     "shift": "A shift: from one guest file to another",
 }
+BELOW = (
+    "Between any two steps any line may come: stores, claims, other moves."
+    " Larger files have such columns for each word of 64 identities."
+)
 LEFT, TOP_EDGE, CELL, ROW = 212, 170, 49, 27
 WORDS = 1
 
@@ -100,7 +104,8 @@ def bar(picture, row, value, first, past):
         words = {"kept by the hypervisor": "kept"}.get(words, words)
     size = 11.5 if len(words) * 7.2 < room else 9.5
     if len(words) * 5.4 < room:
-        picture.text(x + (past - first) * CELL / 2, y + ROW / 2 + 4, words, size, "#ffffff", "middle")
+        middle = x + (past - first) * CELL / 2
+        picture.text(middle, y + ROW / 2 + 4, words, size, "#ffffff", "middle")
 
 
 def heads(picture, move, bottom):
@@ -136,7 +141,8 @@ def notices(picture, move, y):
     end = LEFT + (post + 1) * CELL
     picture.line([(x, row + ROW / 2), (end - 4, row + ROW / 2)], TOLD, 2, "4 3", True)
     picture.box(x - 236, row + 3, 232, ROW - 6, "#ffffff", None)
-    picture.text(x - 8, row + ROW / 2 + 4, "the look sees one pending and enabled", 11.5, TOLD, "end")
+    sees = "the look sees one pending and enabled"
+    picture.text(x - 8, row + ROW / 2 + 4, sees, 11.5, TOLD, "end")
     picture.text(end + 5, row + ROW / 2 + 4, "one", 11.5, TOLD)
     return row + ROW
 
@@ -165,8 +171,7 @@ def picture_of(kind):
             bar(picture, y, value, first, past)
         y += ROW
     y = notices(picture, move, y)
-    picture.text(14, y + 24, "Between any two steps any line may come: stores, claims, other moves. "
-                 "Larger files have such columns for each word of 64 identities.", 11.5, "#52606d")
+    picture.text(14, y + 24, BELOW, 11.5, "#52606d")
     return picture.done()
 
 

@@ -6,6 +6,7 @@ from antt import TOP
 
 TARGET = TOP / "docs/STRENGTH.md"
 REFUSALS = TOP / "docs/make/refusals.txt"
+HEAD = ["| Edit | Turns | Into | Refused by |", "|---|---|---|---|"]
 BEGIN, END = "<!-- edits, by `suite/documents make` -->", "<!-- /edits -->"
 
 
@@ -46,7 +47,7 @@ def differing(old, new):
     if len(old) <= 64 and len(new) <= 64:
         return old, new
     first = next((i for i, (a, b) in enumerate(zip(old, new)) if a != b), min(len(old), len(new)))
-    first = max(0, old.rfind(" ", 0, max(0, first - 12)) + 1)
+    first = max(0, old.rfind(" ", 0, max(0, first - 2)) + 1)
     return old[first:], new[first:]
 
 
@@ -56,13 +57,14 @@ def table():
     for of, name, file, pairs in edits():
         if of != crate:
             crate = of
-            out += ["", f"**`{crate}`**", "", "| Edit | Turns | Into | Refused by |", "|---|---|---|---|"]
+            out += ["", f"**`{crate}`**", "", *HEAD]
         olds, news = zip(*[differing(old, new) for old, new in pairs])
         turns = ", ".join(code(old) for old in olds)
         into = ", ".join(code(new) for new in news)
         words = name.replace("_", " ")
         path = f"../crates/{of}/must-fail/{name}.edit"
-        out.append(f"| [{words}]({path}) | {file}: {turns} | {into} | {told.get((of, name), '?')} |")
+        by = told.get((of, name), "?")
+        out.append(f"| [{words}]({path}) | {file}: {turns} | {into} | {by} |")
     crates = len({of for of, *_ in edits()})
     head = f"{len(edits())} edits stand today, in {crates} crates."
     return "\n".join([BEGIN, head, *out, END])

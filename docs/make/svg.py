@@ -4,6 +4,7 @@ from xml.sax.saxutils import escape
 
 GUEST, OTHER, MEMORY = "#4c78a8", "#2b8a93", "#4f9d5b"
 HAND, TOLD = "#e8913a", "#a05a9c"
+SANS, MONO = "DejaVu Sans, Helvetica, sans-serif", "DejaVu Sans Mono, Menlo, monospace"
 INK, PALE, LINE = "#1f2933", "#f4f6f8", "#9aa5b1"
 
 
@@ -23,9 +24,10 @@ class Picture:
             f' fill="{fill}"{edge}{dashed}/>'
         )
 
-    def text(self, x, y, words, size=13, fill=INK, anchor="start", bold=False, turn=None, mono=False):
-        family = "DejaVu Sans Mono, Menlo, monospace" if mono else "DejaVu Sans, Helvetica, sans-serif"
+    def text(self, x, y, words, size=13, fill=INK, anchor="start", bold=False, **how):
+        family = MONO if how.get("mono") else SANS
         more = ' font-weight="bold"' if bold else ""
+        turn = how.get("turn")
         more += f' transform="rotate({turn} {x:g} {y:g})"' if turn else ""
         self.shapes.append(
             f'<text x="{x:g}" y="{y:g}" font-family="{family}" font-size="{size}" fill="{fill}"'
@@ -36,9 +38,8 @@ class Picture:
         path = " ".join(f"{x:g},{y:g}" for x, y in points)
         more = f' stroke-dasharray="{dash}"' if dash else ""
         more += f' marker-end="url(#to-{stroke[1:]})"' if arrow else ""
-        self.shapes.append(
-            f'<polyline points="{path}" fill="none" stroke="{stroke}" stroke-width="{width}"{more}/>'
-        )
+        more = f'stroke="{stroke}" stroke-width="{width}"{more}'
+        self.shapes.append(f'<polyline points="{path}" fill="none" {more}/>')
 
     def done(self):
         """Gives the text of the file."""
