@@ -3,11 +3,13 @@
 import re
 
 from antt import TOP, all_modules, imports, module_path, read_item, read_module
+from markdown import anchor
 
 ORDER = TOP / "docs/make/definitions.order"
 TARGET = TOP / "docs/DEFINITIONS.md"
 # How a line of the order says which module or item comes next.
 FULL, TABLE, ITEM, PASSED = "@ ", "@table ", "@item ", "@passed "
+CONTENTS = "@contents"
 
 
 def order_lines():
@@ -82,6 +84,22 @@ def items(crate, file, *names):
     return [*out, *fenced("rust", text[:-1]), ""]
 
 
+def contents():
+    """Gives the chapters of the document with the modules of each."""
+    out = ["## Contents", ""]
+    lines = order_lines()
+    for line in lines[lines.index(CONTENTS) + 1 :]:
+        if line.startswith("# "):
+            out += ["", f"*{line[2:]}*", ""]
+        elif line.startswith("## "):
+            out.append(f"- [{line[3:]}](#{anchor(line[3:])}):")
+        elif line.startswith((FULL, TABLE)):
+            crate, module = line.removeprefix(TABLE).removeprefix(FULL).split()
+            comma = "" if out[-1].endswith(":") else ","
+            out[-1] += f"{comma} [{module}](#{anchor(f'{module} ({crate})')})"
+    return [*out, ""]
+
+
 def rendered():
     """Gives the whole document."""
     made = (
@@ -90,7 +108,9 @@ def rendered():
     )
     out = []
     for line in order_lines():
-        if line.startswith(FULL):
+        if line == CONTENTS:
+            out += contents()
+        elif line.startswith(FULL):
             out += whole_module(*line[len(FULL) :].split())
         elif line.startswith(TABLE):
             out += module_table(*line[len(TABLE) :].split())

@@ -71,11 +71,12 @@ def sentences(name):
             yield plain
 
 
+def anchor(heading):
+    """Gives the anchor of a heading."""
+    plain = re.sub(r"\[([^\]]*)\]\([^)]*\)", r"\1", heading).replace("`", "").lower()
+    return re.sub(r"[^\w\- ]", "", plain).strip().replace(" ", "-")
+
+
 def anchors(name):
     """Gives the anchors of a document's headings."""
-    found = set()
-    for line in re.findall(r"(?m)^#+ (.*)$", read(name)):
-        plain = re.sub(r"\[([^\]]*)\]\([^)]*\)", r"\1", line)
-        plain = re.sub(r"[^\w\- ]", "", plain.replace("`", "").lower()).strip().replace(" ", "-")
-        found.add(plain)
-    return found
+    return {anchor(heading) for heading in re.findall(r"(?m)^#+ (.*)$", read(name))}
