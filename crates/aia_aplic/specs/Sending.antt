@@ -1,5 +1,5 @@
 -- What the next MSI is, and what is left of those that wait. Vocabulary.
-use Rattle.std.specs.Prelude.{◌≡◌, ℕ, ◌+◌, ◌<◌, ◌≤◌, Bool, true, false, count_by, if◌then◌else◌, List, [], ◌∷◌, Option, Some, None}
+use Rattle.std.specs.Prelude.{◌≡◌, ℕ, ◌+◌, ◌<◌, ◌≤◌, Bool, true, false, ◌||◌, count_by, if◌then◌else◌, List, [], ◌∷◌, Option, Some, None}
 use Rattle.aia_domain.specs.Entry.{waits}
 use Rattle.aia_domain.specs.Domain.{DomainState, is_ready}
 use Rattle.aia_model.specs.declared.msi.Msi.{Msi}
@@ -34,6 +34,15 @@ waits_in d (BySource e s) = is_ready d s
 
 abbrev pub does_wait : AplicState → Sender → Bool
 does_wait a sender = waits_in (side a (domain_of_sender sender)).domain sender
+
+-- Whether an MSI that genmsi asked for waits, in either domain.
+abbrev pub asks_by_genmsi : AplicState → Bool
+asks_by_genmsi a = a.root.domain.genmsi_waits || a.child.domain.genmsi_waits
+
+-- It is a source, and not genmsi.
+abbrev pub IsBySource : Sender → Type 0
+IsBySource (BySource d s) = Unit {0}
+IsBySource (ByGenMsi d) = ⊥
 
 -- How many MSIs a domain may have to send: what was asked for by genmsi, and one for each source
 -- that is pending and enabled.

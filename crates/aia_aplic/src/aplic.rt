@@ -9,7 +9,7 @@ ghost use Rattle.aia_model.specs.Sent.{msi_of};
 ghost use Rattle.aia_domain.specs.Domain.{is_ready};
 ghost use Rattle.aia_model.specs.SourceOf.{harts_in, sources_in, register_read, is_signalled};
 ghost use Rattle.aia_aplic.specs.Aplic.{AplicStands, IsNewAplic, side, domain_name};
-ghost use Rattle.aia_aplic.specs.Sending.{IsFirstSource, IsFirst, does_wait, waiting, Next};
+ghost use Rattle.aia_aplic.specs.Sending.{IsFirstSource, IsFirst, IsBySource, asks_by_genmsi, does_wait, waiting, Next};
 ghost use Rattle.aia_aplic.specs.Bits.{AreSources, source_sender};
 
 use crate::bits::bits_search;
@@ -187,7 +187,8 @@ impl Aplic {
     }
 
     /// Sends the MSI that `next_msi` sends, and counts 32 steps at most, one for each look at 64
-    /// sources of a domain; no step where nothing waits.
+    /// sources of a domain: no step where nothing waits, and 2 at least where it sends that of a
+    /// source.
     ///
     /// AIA 1.0, APLIC, "Interrupt forwarding by MSIs".
     pub fn next_msi_counted<L: Ledger>(&mut self, steps: &mut Steps<L>) -> Option<Msi>
@@ -196,6 +197,8 @@ impl Aplic {
         ensures no_less { steps.old ≤ steps.new }
         ensures few { steps.new ≤ steps.old + 32 }
         ensures idle { IfNone result (steps.new ≡ steps.old) }
+        ensures looks { asks_by_genmsi self.old ≡ false
+            → IfSome result (λ msi. steps.old + 2 ≤ steps.new) }
     {
         let first = self.first_waiting(steps)?;
         Some(self.send(first))
@@ -219,6 +222,8 @@ impl Aplic {
         ensures no_less { steps.old ≤ steps.new }
         ensures few { steps.new ≤ steps.old + 32 }
         ensures idle { IfNone result (steps.new ≡ steps.old) }
+        ensures looks { IfSome result
+            (λ sender. IsBySource sender → steps.old + 2 ≤ steps.new) }
     {
         if self.root.genmsi_waits() {
             return Some(Sender::ByGenMsi(DomainName::Root));
@@ -237,6 +242,7 @@ impl Aplic {
         ensures no_less { steps.old ≤ steps.new }
         ensures few { steps.new ≤ steps.old + 32 }
         ensures idle { IfNone result (steps.new ≡ steps.old) }
+        ensures looks { IfSome result (λ sender. steps.old + 2 ≤ steps.new) }
     {
         if !self.has_ready() {
             return None;
@@ -256,7 +262,7 @@ impl Aplic {
     fn first_of_words<L: Ledger>(&self, steps: &mut Steps<L>) -> Option<Sender>
         ensures first { IsFirstSource (is_ready self.now.root.domain)
             (is_ready self.now.child.domain) result }
-        ensures no_less { steps.old ≤ steps.new }
+        ensures two_at_least { steps.old + 2 ≤ steps.new }
         ensures few { steps.new ≤ steps.old + 32 }
     {
         let mut bits = ReadyView { aplic: self, steps };

@@ -33,11 +33,11 @@ pub trait Bits {
 }
 
 /// Gives the domain and the number of the least source of the two sets, at the same number domain
-/// 0's; `None` exactly where both are empty. It takes 32 looks at most.
+/// 0's; `None` exactly where both are empty. It takes 2 to 32 looks.
 pub fn bits_search<T: Bits>(bits: &mut T) -> Option<(u32, u32)>
     ensures first { IsFirstMember (T.members bits.old 0) (T.members bits.old 1) result }
     ensures members { T.members bits.new ≡ T.members bits.old }
-    ensures no_less { T.count bits.old ≤ T.count bits.new }
+    ensures two_at_least { T.count bits.old + 2 ≤ T.count bits.new }
     ensures few { T.count bits.new ≤ T.count bits.old + 32 }
     ensures same_place { T.IsSamePlace bits.old bits.new }
 {

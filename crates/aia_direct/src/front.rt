@@ -32,13 +32,12 @@ pub trait Front {
 
 /// Gives what `topi` shows of a hart's candidates at a threshold: the number and the priority of
 /// the first that the threshold lets through; 0 where it lets none through. Since they rise, it
-/// takes one look at most, however many there are.
+/// takes just one look, however many there are.
 pub fn front_search<T: Front>(front: &mut T, ithreshold: u32) -> u32
     ensures top { result ≡ topi_value (first_through ithreshold (T.pairs front.old)) }
     ensures small { IfSome (first_through ithreshold (T.pairs front.old)) IsPairOfSource }
     ensures pairs { T.pairs front.new ≡ T.pairs front.old }
-    ensures no_less { T.count front.old ≤ T.count front.new }
-    ensures one_at_most { T.count front.new ≤ T.count front.old + 1 }
+    ensures one_look { T.count front.new ≡ T.count front.old + 1 }
     ensures same_place { T.IsSamePlace front.old front.new }
 {
     match front.at(0) {

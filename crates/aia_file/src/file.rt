@@ -149,10 +149,10 @@ impl File {
         self.top_in::<Brand>(Blank::new(1))
     }
 
-    /// Gives what `top` gives, and counts two steps at most, one for each look at the file.
+    /// Gives what `top` gives, and counts one step or two, one for each look at the file.
     pub fn top_counted<L: Ledger>(&self, steps: &mut Steps<L>) -> u64
         ensures top { result ≡ top_value (top_of (shown self.now)) }
-        ensures no_less { steps.old ≤ steps.new }
+        ensures one_at_least { steps.old + 1 ≤ steps.new }
         ensures two_at_most { steps.new ≤ steps.old + 2 }
     {
         let mut view = View { file: self, steps };
@@ -170,11 +170,11 @@ impl File {
         top
     }
 
-    /// Claims as `claim` does, and counts two steps at most, one for each look at the file.
+    /// Claims as `claim` does, and counts one step or two, one for each look at the file.
     pub fn claim_counted<L: Ledger>(&mut self, steps: &mut Steps<L>) -> u64
         ensures top { result ≡ top_value (top_of (shown self.old)) }
         ensures after { SameFile (shown self.new) (claimed (shown self.old)) }
-        ensures no_less { steps.old ≤ steps.new }
+        ensures one_at_least { steps.old + 1 ≤ steps.new }
         ensures two_at_most { steps.new ≤ steps.old + 2 }
     {
         let top = self.top_counted(steps);

@@ -49,15 +49,15 @@ pub trait Looks {
 }
 
 /// Gives what a topei register shows of the two sets at a threshold: the identity on top twice, in
-/// bits 26:16 and 10:0; 0 where there is none. It takes two looks at most, however many words
-/// there are.
+/// bits 26:16 and 10:0; 0 where there is none. It takes one look or two, however many words there
+/// are.
 pub fn search<T: Looks>(looks: &mut T, threshold: u64) -> u64
     ensures top { result ≡ top_value (top_identity (64 * T.width looks.old - 1)
         (T.pending looks.old) (T.enabled looks.old) threshold) }
     ensures width { T.width looks.new ≡ T.width looks.old }
     ensures pending { T.pending looks.new ≡ T.pending looks.old }
     ensures enabled { T.enabled looks.new ≡ T.enabled looks.old }
-    ensures no_less { T.count looks.old ≤ T.count looks.new }
+    ensures one_at_least { T.count looks.old + 1 ≤ T.count looks.new }
     ensures two_at_most { T.count looks.new ≤ T.count looks.old + 2 }
     ensures same_place { T.IsSamePlace looks.old looks.new }
 {

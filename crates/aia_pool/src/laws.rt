@@ -7,7 +7,7 @@ ghost use Rattle.aia_home.specs.Home.{is_place};
 ghost use Rattle.aia_pool.specs.Leases.{Leases, IsFileThere, is_out, with_out};
 
 /// A guest file that is handed out is out, one that came back is not, and every other file stays as
-/// it was: no two leases that are out name one file.
+/// it was.
 pub fn each_file_is_handed_out_by_itself()
     ensures own { (l : Leases) (p : Place) (out : Bool) → IsFileThere l p
         → length l.out ≡ l.harts * l.guests → is_out (with_out l p out) p ≡ out }
