@@ -228,20 +228,32 @@ def source(crate):
     return "\n".join(f.read_text(encoding="utf-8") for f in files) if files else None
 
 
+def contracts(text):
+    """Gives the names of the clauses of each function of some code, by its name."""
+    found = {}
+    for piece in re.split(r"\bfn (?=\w)", text)[1:]:
+        of = found.setdefault(re.match(r"\w+", piece)[0], set())
+        of |= set(re.findall(r"\bensures\*? (\w+) \{", piece))
+    return found
+
+
 def named_there(name, crate, body, text):
     """Says which functions, clauses and laws of one crate a page has wrong or leaves out."""
-    functions = set(re.findall(r"\bfn (\w+)", text))
-    clauses_ = set(re.findall(r"\bensures\*? (\w+) \{", text))
-    table = [cells if len(cells) > 2 else ["", cells[0]] for cells in rows(body)]
-    for first, second, *_ in table:
-        for word in ticked(first):
-            last = re.sub(r"\(.*", "", word).split("::")[-1]
-            if re.fullmatch(r"[a-z_0-9]+", last) and last not in functions | clauses_:
-                yield f"{name}: {crate} has no function {last}"
+    of_each = contracts(text)
+    anywhere = set().union(*of_each.values()) if of_each else set()
+    now = anywhere
+    for first, second, *_ in (c if len(c) > 2 else ["", c[0]] for c in rows(body)):
+        words_ = [re.sub(r"\(.*", "", word).split("::")[-1] for word in ticked(first)]
+        words_ = [word for word in words_ if re.fullmatch(r"[a-z_0-9]+", word)]
+        for word in words_:
+            if word not in of_each and word not in anywhere:
+                yield f"{name}: {crate} has no function {word}"
+        if words_:
+            now = set().union(*(of_each.get(word, anywhere) for word in words_))
         for clause in ticked(second):
-            if re.fullmatch(r"[a-z_0-9]+", clause) and clause not in clauses_ | functions:
+            if re.fullmatch(r"[a-z_0-9]+", clause) and clause not in now | set(of_each):
                 if not in_specs(crate, clause):
-                    yield f"{name}: {crate} has no clause {clause}"
+                    yield f"{name}: {crate}, {words_ or 'there'}, has no clause {clause}"
     laws = TOP / "crates" / crate / "src/laws.rt"
     if laws.exists():
         for law in re.findall(r"(?m)^pub fn (\w+)", laws.read_text(encoding="utf-8")):
@@ -250,12 +262,13 @@ def named_there(name, crate, body, text):
 
 
 def in_specs(crate, clause):
-    """Says whether a record of the crate's definitions, or of a library's, has a field so named."""
+    """Says whether a record of definitions, or a trait, of the crate or a library has the name."""
     for of in [crate, *libraries().get(crate, [])]:
         for path in (TOP / "crates" / of / "specs").glob("*.antt"):
             if re.search(rf"(?m)^  pub {clause} :", path.read_text(encoding="utf-8")):
                 return True
-        if re.search(rf"\bensures\*? {clause} \{{", source(of) or ""):
+        traits = re.findall(r"(?ms)^pub trait .*?^}", source(of) or "")
+        if re.search(rf"\bensures\*? {clause} \{{", "\n".join(traits)):
             return True
     return False
 
