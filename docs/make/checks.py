@@ -159,11 +159,11 @@ def stands_where():
         for kind, cell in zip(KINDS, cells):
             for size in (1, 3):
                 move = Move(kind, size)
-                for problem in compared(move, of, cell, size):
+                for problem in compared(move, name, of, cell, size):
                     yield f"docs/MOVES.md: {name}, of {CALLED[kind]}: {problem}"
 
 
-def compared(move, of, cell, size):
+def compared(move, name, of, cell, size):
     """Says where one cell of that table differs from a definition."""
     if of in ("devices_reach", "peers_reach"):
         past = int(re.search(r"k < (\d+)", cell)[1])
@@ -171,11 +171,36 @@ def compared(move, of, cell, size):
         if got != [move.place("Routes", of, k) for k in range(move.length() + 1)]:
             yield f"'{cell}' is not {of}"
     elif of in ("pending_step", "enables_step"):
-        name = "TakePending" if of == "pending_step" else "TakeEnables"
-        if any(formula(cell, size, w) != move.step(name, w) + 1 for w in range(size)):
+        take = "TakePending" if of == "pending_step" else "TakeEnables"
+        if any(formula(cell, size, w) != move.step(take, w) + 1 for w in range(size)):
             yield f"'{cell}' is not {of}"
     elif of.endswith("_steps") and formula(cell, size, 0) != move.length():
         yield f"'{cell}' is not how many steps there are"
+    elif of == "is_watched" or (cell and of.endswith(("in_own", "in_next"))):
+        for w in range(size if of == "is_watched" else 1):
+            for k in range(move.length() + 1):
+                if holds(cell, k, size, w) != is_so(move, of, name, k, w):
+                    yield f"'{cell}' is not {of}"
+
+
+def is_so(move, of, name, k, w):
+    """Says whether what a row of that table names stands so after k steps."""
+    if of == "is_watched":
+        return move.is_watched(w, k)
+    number = "delivery" if "delivery" in of else "threshold"
+    return move.number_at(number, k) == ("old" if "old file" in name else "new")
+
+
+def holds(cell, k, size, w):
+    """Computes whether a cell of that table says that something is so after k steps."""
+    for pattern, test in (
+        (r"while k < (.*)", lambda n: k < n),
+        (r"while k = (.*)", lambda n: k == n),
+        (r"from k = (.*) on", lambda n: k >= n),
+    ):
+        if match := re.fullmatch(pattern, cell):
+            return test(formula(match[1], size, w))
+    return False
 
 
 @cache
