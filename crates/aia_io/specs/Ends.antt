@@ -1,22 +1,43 @@
 -- What one read and one write do to the bytes that are known, and the cause of a failure.
-use Rattle.std.specs.Prelude.{◌≡◌, ℕ, ◌-◌, ◌^◌, ◌<◌, ◌≤◌, ◌⊎◌, List, ◌++◌, length, take, drop, Option}
+use Rattle.std.specs.Prelude.{◌≡◌, ℕ, ◌+◌, ◌-◌, ◌^◌, ◌<◌, ◌≤◌, ◌⊎◌, min, List, ◌++◌, length, take, drop, Option}
 use Rattle.std.specs.Io.KnownBytes.{Appends, Consumes, IsAtEnd, Keeps}
 use Rattle.aia_io.specs.declared.source.Read.{Read}
 use Rattle.aia_io.specs.declared.source.Read.TheVariants as reads
 use Rattle.aia_io.specs.declared.sink.Write.{Write}
 use Rattle.aia_io.specs.declared.sink.Write.TheVariants as writes
 
--- a count of faults rose, or stands at its last value, the greatest u64
+-- a count of faults, or of ends, rose, or stands at its last value, the greatest u64
 abbrev pub Rose : ℕ → ℕ → Type 0
 Rose before now = (before < now) ⊎ (now ≡ 2 ^ 64 - 1)
 
--- `Got n` gives the first n bytes left, at least one; `End` comes only where none is left; a
--- failure takes none
-abbrev pub Reads : Option (List ℕ) → Option (List ℕ) → List ℕ → Read → Type 0
+-- what a source tells of its bytes: those still to come, where it tells them; how many it gave; and
+-- how often it answered that none is left. Each count stays at the greatest u64
+pub record Supply : Type 0 where
+  pub to_come : Option (List ℕ)
+  pub given : ℕ
+  pub ends : ℕ
+
+-- a count rose by n, or by what is left up to the greatest u64, where it stays
+abbrev pub RoseBy : ℕ → ℕ → ℕ → Type 0
+RoseBy n before now = now ≡ before + min n (2 ^ 64 - 1 - before)
+
+-- the source gave these bytes, and counted them
+abbrev pub Gives : Supply → Supply → List ℕ → Type 0
+Gives old new bytes =
+    Consumes old.to_come new.to_come bytes × RoseBy (length bytes) old.given new.given
+
+-- the source gave no byte
+abbrev pub GivesNone : Supply → Supply → Type 0
+GivesNone old new = Keeps old.to_come new.to_come × (new.given ≡ old.given)
+
+-- `Got n` gives the first n bytes left, at least one; `End` comes only where none is left, and it
+-- alone counts as an end; a failure takes none
+abbrev pub Reads : Supply → Supply → List ℕ → Read → Type 0
 Reads old new buffer (reads.Got n) =
-    (0 < n) × (n ≤ length buffer) × Consumes old new (take n buffer)
-Reads old new buffer reads.End = IsAtEnd old × Keeps old new
-Reads old new buffer reads.Failed = Keeps old new
+    (0 < n) × (n ≤ length buffer) × Gives old new (take n buffer) × (new.ends ≡ old.ends)
+Reads old new buffer reads.End =
+    IsAtEnd old.to_come × GivesNone old new × Rose old.ends new.ends
+Reads old new buffer reads.Failed = GivesNone old new × (new.ends ≡ old.ends)
 
 -- the bytes that a read gave stand at the front of the buffer, and the rest of the buffer is as
 -- before

@@ -5,3 +5,4 @@ pub mod MemSource
 pub mod QuietSource
 pub mod StdSink
 pub mod StdSource
+pub mod Tape

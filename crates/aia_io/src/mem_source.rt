@@ -1,8 +1,9 @@
 //! A source in memory that fails at chosen calls.
-ghost use Rattle.std.specs.Prelude.{◌≡◌, ◌<◌, ◌↔◌, [], Some, length};
+ghost use Rattle.std.specs.Prelude.{◌≡◌, ◌<◌, ◌↔◌, [], length};
 ghost use Rattle.aia_io.specs.Calls.{FailsNext};
 ghost use Rattle.aia_io.specs.Ends.{Fills, Reads, ReadHasCause};
 ghost use Rattle.aia_io.specs.MemSource.{GivesMost, after_read};
+ghost use Rattle.aia_io.specs.Tape.{new_tape, told};
 
 use crate::source::{Read, Source};
 use crate::tape::Tape;
@@ -28,7 +29,7 @@ impl Model for MemSource {
     ghost Value = { SourceState };
 
     ghost view = { λ s. record {
-      left = s.tape;
+      tape = s.tape;
       piece = s.piece;
       fails = s.fails.items;
       calls = s.calls;
@@ -44,7 +45,7 @@ impl MemSource {
     pub fn new(bytes: Vec<u8>, piece: usize, fails: Vec<u64>) -> MemSource
         requires { 0 < piece }
         ensures { result ≡ record {
-          left = bytes.items;
+          tape = new_tape bytes.items;
           piece = piece;
           fails = fails.items;
           calls = 0;
@@ -69,7 +70,7 @@ impl MemSource {
 }
 
 impl Source for MemSource {
-    ghost left = { λ s. Some s.left };
+    ghost supply = { λ s. told s.tape };
 
     ghost faults = { λ s. s.faults };
 
@@ -78,12 +79,12 @@ impl Source for MemSource {
     /// others `End` comes exactly where nothing is left.
     fn read(&mut self, buf: &mut [u8]) -> Read
         requires { 0 < length buf.old }
-        ensures bytes { Reads (Some self.old.left) (Some self.new.left) buf.new result }
+        ensures bytes { Reads (told self.old.tape) (told self.new.tape) buf.new result }
         ensures cause { ReadHasCause self.old.faults self.new.faults result }
         ensures failed { (result ≡ Read.Failed) ↔ FailsNext self.old.fails self.old.calls }
         ensures end { (result ≡ Read.End)
-            ↔ ((self.old.left ≡ []) × (¬ FailsNext self.old.fails self.old.calls)) }
-        ensures buffer { Fills self.old.left buf.old buf.new result }
+            ↔ ((self.old.tape.left ≡ []) × (¬ FailsNext self.old.fails self.old.calls)) }
+        ensures buffer { Fills self.old.tape.left buf.old buf.new result }
         ensures most { GivesMost self.old (length buf.old) result }
         ensures after { self.new ≡ after_read self.old result }
     {

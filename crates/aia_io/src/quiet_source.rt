@@ -1,7 +1,8 @@
 //! A source in memory that never fails.
-ghost use Rattle.std.specs.Prelude.{◌≡◌, ◌<◌, Some, length};
+ghost use Rattle.std.specs.Prelude.{◌≡◌, ◌<◌, length};
 ghost use Rattle.aia_io.specs.Ends.{Fills, Reads, ReadHasCause};
 ghost use Rattle.aia_io.specs.QuietSource.{GivesFront};
+ghost use Rattle.aia_io.specs.Tape.{new_tape, told};
 
 use crate::source::{Read, Source};
 use crate::tape::Tape;
@@ -13,11 +14,10 @@ pub struct QuietSource {
     tape: Tape,
 }
 
-// Seen as the bytes that are left.
 impl Model for QuietSource {
-    ghost use Rattle.std.specs.Prelude.{ℕ, List};
+    ghost use Rattle.aia_io.specs.Tape.{TapeState};
 
-    ghost Value = { List ℕ };
+    ghost Value = { TapeState };
 
     ghost view = { λ s. s.tape };
 }
@@ -25,7 +25,7 @@ impl Model for QuietSource {
 impl QuietSource {
     /// Makes a source that gives `bytes`.
     pub fn new(bytes: Vec<u8>) -> QuietSource
-        ensures { result ≡ bytes.items }
+        ensures { result ≡ new_tape bytes.items }
     {
         QuietSource {
             tape: Tape::new(bytes),
@@ -34,7 +34,7 @@ impl QuietSource {
 }
 
 impl Source for QuietSource {
-    ghost left = { λ s. Some s };
+    ghost supply = { told };
 
     ghost faults = { λ _. 0 };
 
@@ -42,9 +42,9 @@ impl Source for QuietSource {
     /// where nothing is left, and `Failed` never.
     fn read(&mut self, buf: &mut [u8]) -> Read
         requires { 0 < length buf.old }
-        ensures bytes { Reads (Some self.old) (Some self.new) buf.new result }
+        ensures bytes { Reads (told self.old) (told self.new) buf.new result }
         ensures cause { ReadHasCause 0 0 result }
-        ensures buffer { Fills self.old buf.old buf.new result }
+        ensures buffer { Fills self.old.left buf.old buf.new result }
         ensures most { GivesFront self.old self.new (length buf.old) result }
     {
         match self.tape.give(buf, buf.len()) {

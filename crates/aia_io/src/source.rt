@@ -1,5 +1,6 @@
 //! Where the bytes of a run come from.
-ghost use Rattle.std.specs.Prelude.{ℕ, ◌<◌, List, Option, length};
+ghost use Rattle.std.specs.Prelude.{ℕ, ◌<◌, length};
+ghost use Rattle.aia_io.specs.Ends.{Supply};
 
 /// What one [`Source::read`] answers.
 #[derive(Clone, Copy, Debug, PartialEq, Eq)]
@@ -18,19 +19,21 @@ pub enum Read {
 pub trait Source {
     ghost use Rattle.aia_io.specs.Ends.{Reads, ReadHasCause};
 
-    // The bytes still to come, where the source tells them.
-    ghost left: { Self → Option (List ℕ) };
+    // The bytes still to come, where the source tells them, how many it gave, and how often it
+    // answered that none is left.
+    ghost supply: { Self → Supply };
 
     // How often the source itself failed. It never falls, and stays at the greatest u64.
     ghost faults: { Self → ℕ };
 
     /// Puts the next bytes at the front of `buf`, which isn't empty.
     ///
-    /// `Got(n)`: the first n of the bytes that were left, with n between 1 and `buf.len()`. `End`:
-    /// none was left. `Failed`: the count of faults rose (or stood at its last value), and nothing
-    /// was taken, so a later call may go on.
+    /// `Got(n)`: the first n of the bytes that were left, with n between 1 and `buf.len()`; the
+    /// count of bytes given rose by n (or to its last value). `End`: none was left, and the count
+    /// of ends rose (or stood at its last value). `Failed`: the count of faults rose (or stood at
+    /// its last value), and nothing was taken, so a later call may go on.
     fn read(&mut self, buf: &mut [u8]) -> Read
         requires { 0 < length buf.old }
-        ensures bytes { Reads (left self.old) (left self.new) buf.new result }
+        ensures bytes { Reads (supply self.old) (supply self.new) buf.new result }
         ensures cause { ReadHasCause (faults self.old) (faults self.new) result };
 }

@@ -9,7 +9,7 @@ ghost use Rattle.aia_command.specs.declared.subcommand.Subcommand.TheVariants.{R
 ghost use Rattle.aia_command.specs.CommandLine.{subcommand_of};
 ghost use Rattle.aia_generate.specs.Summary.{summary};
 ghost use Rattle.aia_io.specs.Ends.{Rose};
-ghost use Rattle.aia_replay.specs.Runs.{HasAtMost, IsDoneOrMemory, StopsAtMachine, Takes, TakesAll, TouchesNothing, WritesAnswers};
+ghost use Rattle.aia_replay.specs.Runs.{FitsIn, IsDoneOrMemory, StopsAtMachine, Takes, TakesAll, TouchesNothing, WritesAnswers};
 ghost use Rattle.aia_program.specs.Command.{AreNoText, AreRefused, asked_by, exit_numbers, words_of};
 
 use aia_io::{Sink, Source};
@@ -36,9 +36,9 @@ pub fn command<S: Source, K: Sink>(
 ) -> ExitCode
     // The headline: at 0 what is written is the model's answers of the whole script.
     ensures done { asked_by arguments ≡ Some Replay → exit_status result ≡ 0
-        → WritesAnswers (S.left source.old) (K.taken sink.old) (K.taken sink.new) }
+        → WritesAnswers (S.supply source.old) (K.taken sink.old) (K.taken sink.new) }
     ensures all { asked_by arguments ≡ Some Replay → exit_status result ≡ 0
-        → TakesAll (S.left source.old) (S.left source.new) }
+        → TakesAll (S.supply source.old) (S.supply source.new) }
     ensures generates { (count seed : ℕ) → asked_by arguments ≡ Some (Generate count seed)
         → (source.new ≡ source.old) × (exit_status result ≡ 0
         → Appends (K.taken sink.old) (K.taken sink.new) (summary count seed)) }
@@ -57,19 +57,20 @@ pub fn command<S: Source, K: Sink>(
     // No memory for the words or for a generated script, and nothing was touched, or none for a
     // machine that the script asks for.
     ensures memory { exit_status result ≡ 5
-        → TouchesNothing (S.left source.old) (S.left source.new)
+        → TouchesNothing (S.supply source.old) (S.supply source.new)
         (K.taken sink.old) (K.taken sink.new)
-        ⊎ StopsAtMachine (S.left source.old) (S.left source.new)
+        ⊎ StopsAtMachine (S.supply source.old) (S.supply source.new)
         (K.taken sink.old) (K.taken sink.new) }
     ensures too_long { exit_status result ≡ 6
-        → Takes (SCRIPT_BYTES + 1) (S.left source.old) (S.left source.new) }
+        → Takes (SCRIPT_BYTES + 1) (S.supply source.old) (S.supply source.new) }
 
     // There is no other number, and where nothing is in the way, it is 0, or 5.
     ensures number { Contains exit_numbers (exit_status result) }
     ensures complete { asked_by arguments ≢ None
         → (¬ Rose (S.faults source.old) (S.faults source.new))
         → (¬ Rose (K.faults sink.old) (K.faults sink.new))
-        → (asked_by arguments ≡ Some Replay → HasAtMost SCRIPT_BYTES (S.left source.old))
+        → (asked_by arguments ≡ Some Replay
+        → FitsIn SCRIPT_BYTES (S.supply source.old) (S.supply source.new))
         → (exit_status result ≡ 0) ⊎ (exit_status result ≡ 5) }
 {
     let status = match arguments {
@@ -99,8 +100,8 @@ fn run_words<S: Source, K: Sink>(
     sink: &mut K,
 ) -> Status
     ensures done { subcommand_of (words_of arguments.now) ≡ Some Replay → result ≡ Status.Done
-        → WritesAnswers (S.left source.old) (K.taken sink.old) (K.taken sink.new)
-        × TakesAll (S.left source.old) (S.left source.new) }
+        → WritesAnswers (S.supply source.old) (K.taken sink.old) (K.taken sink.new)
+        × TakesAll (S.supply source.old) (S.supply source.new) }
     ensures generates { (count seed : ℕ)
         → subcommand_of (words_of arguments.now) ≡ Some (Generate count seed)
         → (source.new ≡ source.old) × (result ≡ Status.Done
@@ -110,12 +111,12 @@ fn run_words<S: Source, K: Sink>(
     ensures write_fault { result ≡ Status.WriteFault
         → Rose (K.faults sink.old) (K.faults sink.new) }
     ensures memory { result ≡ Status.Memory
-        → TouchesNothing (S.left source.old) (S.left source.new)
+        → TouchesNothing (S.supply source.old) (S.supply source.new)
         (K.taken sink.old) (K.taken sink.new)
-        ⊎ StopsAtMachine (S.left source.old) (S.left source.new)
+        ⊎ StopsAtMachine (S.supply source.old) (S.supply source.new)
         (K.taken sink.old) (K.taken sink.new) }
     ensures too_long { result ≡ Status.TooLong
-        → Takes (SCRIPT_BYTES + 1) (S.left source.old) (S.left source.new) }
+        → Takes (SCRIPT_BYTES + 1) (S.supply source.old) (S.supply source.new) }
     ensures usage { result ≢ Status.Memory
         → ((result ≡ Status.Usage) ↔ (subcommand_of (words_of arguments.now) ≡ None)) }
     ensures nothing { result ≡ Status.Usage → (source.new ≡ source.old) × (sink.new ≡ sink.old) }
@@ -123,7 +124,7 @@ fn run_words<S: Source, K: Sink>(
         → (¬ Rose (S.faults source.old) (S.faults source.new))
         → (¬ Rose (K.faults sink.old) (K.faults sink.new))
         → (subcommand_of (words_of arguments.now) ≡ Some Replay
-        → HasAtMost SCRIPT_BYTES (S.left source.old))
+        → FitsIn SCRIPT_BYTES (S.supply source.old) (S.supply source.new))
         → IsDoneOrMemory result }
 {
     match words(alloc, arguments) {

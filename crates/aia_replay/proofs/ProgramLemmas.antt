@@ -7,7 +7,7 @@ use Rattle.aia_replay.specs.declared.program.Status.{Status}
 use Rattle.aia_replay.specs.declared.program.Status.TheVariants.{Done, Usage, ReadFault, WriteFault, Memory, TooLong}
 use Rattle.aia_replay.specs.declared.limits.TheConstants.{SCRIPT_BYTES}
 use Rattle.aia_replay.specs.Runs.{IsScript, TakesAll, TakesAtMost, WritesAnswers, AnswersWhole, WritesLines, CutsLines, StopsAtMachine, EndsWith}
-use Rattle.aia_io.specs.Ends.{Rose}
+use Rattle.aia_io.specs.Ends.{Supply, Gives, Rose}
 use Rattle.aia_replay.specs.Buffered.{CutOff}
 use Rattle.aia_replay.specs.declared.replayer.Replayer.{Replayer}
 use Rattle.aia_replay.specs.Streams.{Streams, StreamsFront, StreamsStop, WrittenFor, GoesPast}
@@ -17,7 +17,7 @@ nothing_left : (bytes rest : List ℕ) → bytes ≡ bytes ++ rest → rest ≡ 
 nothing_left bytes [] e = refl
 nothing_left bytes (x ∷ rest) e = absurd (omega (arith, ap length e, length-append bytes (x ∷ rest)))
 
-all_of : (left rest : Option (List ℕ)) (bytes : List ℕ) → Consumes left rest bytes → IfSome left (λ script. script ≡ bytes) → TakesAll left rest
+all_of : (left rest : Option (List ℕ)) (bytes : List ℕ) → Consumes left rest bytes → IfSome left (λ script. script ≡ bytes) → IfSome left (λ script. rest ≡ Some [])
 all_of None rest bytes took whole = tt
 all_of (Some script) None bytes took whole = absurd took
 all_of (Some script) (Some more) bytes took whole = ap Some (nothing_left bytes more (sym whole ∙ took))
@@ -33,42 +33,42 @@ few_or_past Usage before now bytes few written = absurd written
 few_or_past WriteFault before now bytes few written = absurd written
 few_or_past Memory before now bytes few written = absurd written
 
-one_more : (left rest : Option (List ℕ)) → TakesAtMost SCRIPT_BYTES left rest → TakesAtMost (SCRIPT_BYTES + 1) left rest
+one_more : (left rest : Supply) → TakesAtMost SCRIPT_BYTES left rest → TakesAtMost (SCRIPT_BYTES + 1) left rest
 one_more left rest few = (few.0, few.1, omega (arith, few.2))
 
 -- ---- what was written
 
-answers_written : (left before now : Option (List ℕ)) (bytes : List ℕ) → IsScript left bytes → Appends before now (answers bytes) → WritesAnswers left before now
+answers_written : (left before now : Option (List ℕ)) (bytes : List ℕ) → IfSome left (λ script. script ≡ bytes) → Appends before now (answers bytes) → IfSome left (λ script. Appends before now (answers script))
 answers_written None before now bytes whole wrote = tt
 answers_written (Some script) before now bytes whole wrote = subst (λ xs. Appends before now (answers xs)) (sym whole) wrote
 
-lines_at_fault : (left rest before now : Option (List ℕ)) (bytes : List ℕ) → Consumes left rest bytes → AnswersWhole before now bytes → WritesLines 0 left rest before now
+lines_at_fault : (left rest : Supply) (before now : Option (List ℕ)) (bytes : List ℕ) → Gives left rest bytes → AnswersWhole before now bytes → WritesLines 0 left rest before now
 lines_at_fault left rest before now bytes took read = record {
   bytes = bytes;
   beyond = [];
-  consumed = subst (Consumes left rest) (sym (append-nil bytes)) took;
+  taken = subst (Gives left rest) (sym (append-nil bytes)) took;
   past = refl;
   answered = read;
 }
 
-lines_at_limit : (left rest before now : Option (List ℕ)) (bytes : List ℕ) → Consumes left rest bytes → GoesPast before now bytes → WritesLines 1 left rest before now
+lines_at_limit : (left rest : Supply) (before now : Option (List ℕ)) (bytes : List ℕ) → Gives left rest bytes → GoesPast before now bytes → WritesLines 1 left rest before now
 lines_at_limit left rest before now bytes took past = record {
   bytes = past.within;
   beyond = past.beyond;
-  consumed = subst (Consumes left rest) past.split took;
+  taken = subst (Gives left rest) past.split took;
   past = past.one;
   answered = past.answered;
 }
 
 -- what waits is written, and is all that was answered
-pub stopped : (r : Replayer) (left rest before mid now : Option (List ℕ)) → StreamsStop r left rest before mid → Appends mid now r.out.bytes.items → StopsAtMachine left rest before now
+pub stopped : (r : Replayer) (left rest : Supply) (before mid now : Option (List ℕ)) → StreamsStop r left rest before mid → Appends mid now r.out.bytes.items → StopsAtMachine left rest before now
 stopped r left rest before mid now stop wrote =
     let holds = stop.holds in
     record {
       whole = holds.whole;
       text = holds.text;
       more = stop.more;
-      consumed = subst (Consumes left rest) holds.split stop.consumed;
+      taken = subst (Gives left rest) holds.split stop.taken;
       lines = holds.lines;
       no_end = holds.no_end;
       end = elim stop.end [
@@ -79,7 +79,7 @@ stopped r left rest before mid now stop wrote =
       written = all_written r.out.bytes.items before mid now _ holds.gathered wrote;
     }
 
-pub stopped_front : (r : Replayer) (left rest before mid now : Option (List ℕ)) → StreamsStop r left rest before mid → CutOff mid now r.out.bytes.items → StreamsFront left rest before now
+pub stopped_front : (r : Replayer) (left rest : Supply) (before mid now : Option (List ℕ)) → StreamsStop r left rest before mid → CutOff mid now r.out.bytes.items → StreamsFront left rest before now
 stopped_front r left rest before mid now stop cut =
     let holds = stop.holds in
     let lines : CutsLines before now stop.bytes = record {
@@ -90,21 +90,21 @@ stopped_front r left rest before mid now stop cut =
       cut = cut_after r.out.bytes.items [] (answers holds.whole) before mid now (answers holds.whole) holds.gathered cut (append-nil (answers holds.whole));
     } in
     record {
-      front = record { bytes = stop.bytes; consumed = stop.consumed; cut = inl lines };
-      limit = (stop.bytes, stop.consumed, stop.limit);
+      front = record { bytes = stop.bytes; taken = stop.taken; cut = inl lines };
+      limit = (stop.bytes, stop.taken, stop.limit);
     }
 
 -- ---- how a run ends
 
 -- where the reading ended
-pub ends_read : {status : Status} {left rest before now : Option (List ℕ)} {a b c d : ℕ} → Streams status left rest before now → (status ≡ ReadFault → Rose a b) → a ≤ b → c ≤ d → EndsWith status left rest before now a b c d
-ends_read {status} {left} {rest} {before} {now} streams rose source_later sink_later =
+pub ends_read : {status : Status} {left rest : Supply} {before now : Option (List ℕ)} {a b c d : ℕ} → Streams status left rest before now → (status ≡ Done → Rose left.ends rest.ends) → (status ≡ ReadFault → Rose a b) → a ≤ b → c ≤ d → EndsWith status left rest before now a b c d
+ends_read {status} {left} {rest} {before} {now} streams ended rose source_later sink_later =
     let bytes = streams.bytes in
-    let took = streams.consumed in
+    let took = streams.taken in
     let wrote = λ (s : Status) (is : status ≡ s). let w : WrittenFor s before now bytes = subst (λ s. WrittenFor s before now bytes) is streams.written in w in
     record {
-      done = λ is. answers_written left before now bytes (streams.whole is) (wrote Done is);
-      all = λ is. all_of left rest bytes took (streams.whole is);
+      done = λ is. answers_written left.to_come before now bytes (streams.whole is) (wrote Done is);
+      all = λ is. (ended is, all_of left.to_come rest.to_come bytes took.0 (streams.whole is));
       read_fault = rose;
       write_fault = λ is. absurd (wrote WriteFault is);
       too_long = λ is. (bytes, took, past_length before now bytes (wrote TooLong is));
@@ -119,7 +119,7 @@ ends_read {status} {left} {rest} {before} {now} streams rose source_later sink_l
     }
 
 -- where the sink failed
-pub ends_cut : {left rest before now : Option (List ℕ)} {a b c d : ℕ} → StreamsFront left rest before now → Rose c d → a ≤ b → c ≤ d → EndsWith WriteFault left rest before now a b c d
+pub ends_cut : {left rest : Supply} {before now : Option (List ℕ)} {a b c d : ℕ} → StreamsFront left rest before now → Rose c d → a ≤ b → c ≤ d → EndsWith WriteFault left rest before now a b c d
 ends_cut {left} {rest} cut rose source_later sink_later = record {
   done = λ e. absurd (cc);
   all = λ e. absurd (cc);
@@ -137,9 +137,9 @@ ends_cut {left} {rest} cut rose source_later sink_later = record {
 }
 
 -- where memory lacked, and what waited is written
-pub ends_stopped : {r : Replayer} {left rest before mid now : Option (List ℕ)} {a b c d : ℕ} → StreamsStop r left rest before mid → Appends mid now r.out.bytes.items → a ≤ b → c ≤ d → EndsWith Memory left rest before now a b c d
+pub ends_stopped : {r : Replayer} {left rest : Supply} {before mid now : Option (List ℕ)} {a b c d : ℕ} → StreamsStop r left rest before mid → Appends mid now r.out.bytes.items → a ≤ b → c ≤ d → EndsWith Memory left rest before now a b c d
 ends_stopped {r} {left} {rest} {before} {mid} {now} stop wrote source_later sink_later =
-    let few : TakesAtMost SCRIPT_BYTES left rest = (stop.bytes, stop.consumed, stop.limit) in
+    let few : TakesAtMost SCRIPT_BYTES left rest = (stop.bytes, stop.taken, stop.limit) in
     record {
       done = λ e. absurd (cc);
       all = λ e. absurd (cc);

@@ -1,8 +1,8 @@
 -- What a run promises, by its status. Vocabulary.
 use Rattle.std.specs.Prelude.{◌≡◌, ◌≢◌, ℕ, ◌+◌, ◌≤◌, ◌⊎◌, true, false, nat_eq, List, [], ◌∷◌, ◌++◌, length, map, All, Option, Some, None, IfSome}
 use Rattle.std.specs.Borrow.{Bor}
-use Rattle.std.specs.Io.KnownBytes.{Appends, Consumes}
-use Rattle.aia_io.specs.Ends.{Rose}
+use Rattle.std.specs.Io.KnownBytes.{Appends}
+use Rattle.aia_io.specs.Ends.{Supply, Gives, Rose, RoseBy}
 use Rattle.aia_command.specs.declared.subcommand.Subcommand.{Subcommand}
 use Rattle.aia_command.specs.CommandLine.{subcommand_of}
 use Rattle.aia_model.specs.declared.parsed.Parsed.{Parsed}
@@ -21,31 +21,37 @@ use Rattle.aia_replay.specs.Buffered.{CutOff}
 abbrev pub asked : List (Bor (List ℕ)) → Option Subcommand
 asked words = subcommand_of (map (λ (w : Bor (List ℕ)). w.now) words)
 
--- What the sink took is the answers of all that the source had left.
-abbrev pub WritesAnswers : Option (List ℕ) → Option (List ℕ) → Option (List ℕ) → Type 0
-WritesAnswers left before now = IfSome left (λ script. Appends before now (answers script))
+-- What the sink took is the answers of all that the source had left, where it tells that.
+abbrev pub WritesAnswers : Supply → Option (List ℕ) → Option (List ℕ) → Type 0
+WritesAnswers left before now = IfSome left.to_come (λ script. Appends before now (answers script))
 
 -- Nothing was taken of the source, and nothing was written.
-abbrev pub TouchesNothing : Option (List ℕ) → Option (List ℕ) → Option (List ℕ)
-    → Option (List ℕ) → Type 0
-TouchesNothing left rest before now = Consumes left rest [] × Appends before now []
+abbrev pub TouchesNothing : Supply → Supply → Option (List ℕ) → Option (List ℕ) → Type 0
+TouchesNothing left rest before now = Gives left rest [] × Appends before now []
 
--- The source had told its bytes, and all were taken.
-abbrev pub TakesAll : Option (List ℕ) → Option (List ℕ) → Type 0
-TakesAll left rest = IfSome left (λ script. rest ≡ Some [])
+-- All was taken: the source answered that none is left, and where it tells its bytes, none is.
+abbrev pub TakesAll : Supply → Supply → Type 0
+TakesAll left rest =
+    Rose left.ends rest.ends × IfSome left.to_come (λ script. rest.to_come ≡ Some [])
 
--- Just so many bytes were taken.
-abbrev pub Takes : ℕ → Option (List ℕ) → Option (List ℕ) → Type 0
-Takes count left rest = (bytes : List ℕ) × Consumes left rest bytes × (length bytes ≡ count)
+-- Just so many bytes were taken: the source's count of them says so, whether it tells them or not.
+abbrev pub Takes : ℕ → Supply → Supply → Type 0
+Takes count left rest = (bytes : List ℕ) × Gives left rest bytes × (length bytes ≡ count)
 
--- At most so many bytes were taken.
-abbrev pub TakesAtMost : ℕ → Option (List ℕ) → Option (List ℕ) → Type 0
-TakesAtMost count left rest = (bytes : List ℕ) × Consumes left rest bytes × (length bytes ≤ count)
+-- At most so many bytes were taken, by the same count.
+abbrev pub TakesAtMost : ℕ → Supply → Supply → Type 0
+TakesAtMost count left rest = (bytes : List ℕ) × Gives left rest bytes × (length bytes ≤ count)
 
 -- The source tells what it has left, and that is at most so many bytes.
 abbrev pub HasAtMost : ℕ → Option (List ℕ) → Type 0
 HasAtMost count None = ⊥
 HasAtMost count (Some script) = length script ≤ count
+
+-- The script has at most so many bytes: the source tells that; or, what a source that tells no
+-- bytes can say too, its count did not rise by one more.
+abbrev pub FitsIn : ℕ → Supply → Supply → Type 0
+FitsIn count left rest =
+    HasAtMost count left.to_come ⊎ (¬ RoseBy (count + 1) left.given rest.given)
 
 -- The run ended by Done or Memory.
 abbrev pub IsDoneOrMemory : Status → Type 0
@@ -61,9 +67,9 @@ NoEnd text = All (λ b. nat_eq b 10 ≡ false) text
 abbrev pub IsWhole : List ℕ → Type 0
 IsWhole bytes = (bytes ≡ []) ⊎ ((front : List ℕ) × (bytes ≡ front ++ 10 ∷ []))
 
--- The bytes are all of the script.
-abbrev pub IsScript : Option (List ℕ) → List ℕ → Type 0
-IsScript left bytes = IfSome left (λ script. script ≡ bytes)
+-- The bytes are all of the script, where the source tells it.
+abbrev pub IsScript : Supply → List ℕ → Type 0
+IsScript left bytes = IfSome left.to_come (λ script. script ≡ bytes)
 
 -- The answers of the whole lines that the bytes begin with are written, and no others; after them
 -- the bytes have no LF.
@@ -76,10 +82,11 @@ pub record AnswersWhole (before now : Option (List ℕ)) (bytes : List ℕ) : Ty
   pub written : Appends before now (answers whole)
 
 -- So of the bytes that were taken, so many at the end left out of account.
-pub record WritesLines (count : ℕ) (left rest before now : Option (List ℕ)) : Type 0 where
+pub record WritesLines (count : ℕ) (left rest : Supply) (before now : Option (List ℕ))
+    : Type 0 where
   pub bytes : List ℕ
   pub beyond : List ℕ
-  pub consumed : Consumes left rest (bytes ++ beyond)
+  pub taken : Gives left rest (bytes ++ beyond)
   pub past : length beyond ≡ count
   pub answered : AnswersWhole before now bytes
 
@@ -93,9 +100,9 @@ pub record CutsLines (before now : Option (List ℕ)) (bytes : List ℕ) : Type 
 
 -- The sink took a front of the answers of the lines that were taken: of whole lines, or of all the
 -- script's.
-pub record WritesFront (left rest before now : Option (List ℕ)) : Type 0 where
+pub record WritesFront (left rest : Supply) (before now : Option (List ℕ)) : Type 0 where
   pub bytes : List ℕ
-  pub consumed : Consumes left rest bytes
+  pub taken : Gives left rest bytes
   pub cut : CutsLines before now bytes ⊎ (IsScript left bytes × CutOff before now (answers bytes))
 
 -- What a text reads as is a `machine` line that is accepted.
@@ -106,11 +113,11 @@ AsksMachine h parsed.Bad = ⊥
 
 -- A line that was taken, ended by an LF or by the script's end, is a `machine` line and accepted;
 -- the answers of the lines before it, and no others, are written.
-pub record StopsAtMachine (left rest before now : Option (List ℕ)) : Type 0 where
+pub record StopsAtMachine (left rest : Supply) (before now : Option (List ℕ)) : Type 0 where
   pub whole : List ℕ
   pub text : List ℕ
   pub more : List ℕ
-  pub consumed : Consumes left rest (whole ++ (text ++ more))
+  pub taken : Gives left rest (whole ++ (text ++ more))
   pub lines : IsWhole whole
   pub no_end : NoEnd text
   pub end : ((next : List ℕ) × (more ≡ 10 ∷ next)) ⊎ ((more ≡ []) × IsScript left (whole ++ text))
@@ -123,7 +130,7 @@ pub record StopsAtMachine (left rest before now : Option (List ℕ)) : Type 0 wh
 -- before and after it, what the sink had taken before and after it, and the counts of faults of the
 -- source and of the sink, each before and after it. Memory may lack for the words of the command
 -- line, and then nothing was touched, or for a machine.
-pub record EndsWith (status : Status) (left rest before now : Option (List ℕ))
+pub record EndsWith (status : Status) (left rest : Supply) (before now : Option (List ℕ))
     (source_old source_new sink_old sink_new : ℕ) : Type 0 where
   pub done : status ≡ Done → WritesAnswers left before now
   pub all : status ≡ Done → TakesAll left rest

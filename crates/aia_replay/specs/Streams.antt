@@ -1,6 +1,7 @@
 -- What a replayer has read, answered and written. Vocabulary.
 use Rattle.std.specs.Prelude.{◌≡◌, ◌≢◌, ℕ, ◌+◌, ◌<◌, ◌≤◌, ◌⊎◌, List, [], ◌∷◌, ◌++◌, length, take, Option}
-use Rattle.std.specs.Io.KnownBytes.{Appends, Consumes, IsAtEnd, Keeps}
+use Rattle.std.specs.Io.KnownBytes.{Appends, IsAtEnd}
+use Rattle.aia_io.specs.Ends.{Supply, Gives, GivesNone, Rose}
 use Rattle.aia_io.specs.declared.source.Read.{Read}
 use Rattle.aia_io.specs.declared.source.Read.TheVariants as reads
 use Rattle.aia_model.specs.Event.{History}
@@ -50,23 +51,24 @@ pub record HoldsStop (r : Replayer) (before now : Option (List ℕ)) (bytes more
   pub asks : AsksMachine (history_of whole) (reading text)
 
 -- One read asked for `most` bytes at the front of a buffer.
-abbrev pub ReadsFront : ℕ → Option (List ℕ) → Option (List ℕ) → List ℕ → Read → Type 0
-ReadsFront most old new piece (reads.Got n) = (0 < n) × (n ≤ most) × Consumes old new (take n piece)
-ReadsFront most old new piece reads.End = IsAtEnd old × Keeps old new
-ReadsFront most old new piece reads.Failed = Keeps old new
+abbrev pub ReadsFront : ℕ → Supply → Supply → List ℕ → Read → Type 0
+ReadsFront most old new piece (reads.Got n) =
+    (0 < n) × (n ≤ most) × Gives old new (take n piece) × (new.ends ≡ old.ends)
+ReadsFront most old new piece reads.End =
+    IsAtEnd old.to_come × GivesNone old new × Rose old.ends new.ends
+ReadsFront most old new piece reads.Failed = GivesNone old new × (new.ends ≡ old.ends)
 
 -- Said of all that was taken of a source till now, whatever the source had left before.
-abbrev pub WhateverWasTaken : Option (List ℕ) → (Option (List ℕ) → List ℕ → Type 0) → Type 0
-WhateverWasTaken now P =
-    (left : Option (List ℕ)) (bytes : List ℕ) → Consumes left now bytes → P left bytes
+abbrev pub WhateverWasTaken : Supply → (Supply → List ℕ → Type 0) → Type 0
+WhateverWasTaken now P = (left : Supply) (bytes : List ℕ) → Gives left now bytes → P left bytes
 
 -- What one read took follows what was taken before; at the end that was all of the script.
-abbrev pub ReadsOn : Option (List ℕ) → Option (List ℕ) → List ℕ → Read → Type 0
+abbrev pub ReadsOn : Supply → Supply → List ℕ → Read → Type 0
 ReadsOn old new piece (reads.Got n) = (length (take n piece) ≡ n)
-    × WhateverWasTaken old (λ left bytes. Consumes left new (bytes ++ take n piece))
+    × WhateverWasTaken old (λ left bytes. Gives left new (bytes ++ take n piece))
 ReadsOn old new piece reads.End =
-    WhateverWasTaken old (λ left bytes. Consumes left new bytes × IsScript left bytes)
-ReadsOn old new piece reads.Failed = WhateverWasTaken old (λ left bytes. Consumes left new bytes)
+    WhateverWasTaken old (λ left bytes. Gives left new bytes × IsScript left bytes)
+ReadsOn old new piece reads.Failed = WhateverWasTaken old (λ left bytes. Gives left new bytes)
 
 -- Nothing was read yet.
 pub record Begins (r : Replayer) : Type 0 where
@@ -156,25 +158,27 @@ WrittenFor TooLong before now bytes = GoesPast before now bytes
 WrittenFor status before now bytes = ⊥
 
 -- A run took some bytes of the source, and wrote what its status says.
-pub record Streams (status : Status) (left rest before now : Option (List ℕ)) : Type 0 where
+pub record Streams (status : Status) (left rest : Supply) (before now : Option (List ℕ))
+    : Type 0 where
   pub bytes : List ℕ
-  pub consumed : Consumes left rest bytes
+  pub taken : Gives left rest bytes
   pub written : WrittenFor status before now bytes
   pub whole : status ≡ Done → IsScript left bytes
   pub limit : status ≢ TooLong → length bytes ≤ SCRIPT_BYTES
 
 -- A run took no more bytes of the source than a script has, and the sink failed after a front of
 -- their answers.
-pub record StreamsFront (left rest before now : Option (List ℕ)) : Type 0 where
+pub record StreamsFront (left rest : Supply) (before now : Option (List ℕ)) : Type 0 where
   pub front : WritesFront left rest before now
   pub limit : TakesAtMost SCRIPT_BYTES left rest
 
 -- A run took some bytes of the source, no more than a script has, and stopped at a line that asks
 -- for a machine, for which there is no memory.
-pub record StreamsStop (r : Replayer) (left rest before now : Option (List ℕ)) : Type 0 where
+pub record StreamsStop (r : Replayer) (left rest : Supply) (before now : Option (List ℕ))
+    : Type 0 where
   pub bytes : List ℕ
   pub more : List ℕ
-  pub consumed : Consumes left rest bytes
+  pub taken : Gives left rest bytes
   pub holds : HoldsStop r before now bytes more
   pub end : ((next : List ℕ) × (more ≡ 10 ∷ next)) ⊎ ((more ≡ []) × IsScript left bytes)
   pub limit : length bytes ≤ SCRIPT_BYTES

@@ -12,6 +12,8 @@ mod program;
 mod replayer;
 mod stop;
 
+// What `gen` runs, for callers that run it line by line through an engine of their own.
+pub use aia_generate::{generate, lcg};
 pub use engine::Engine;
 pub use limits::SCRIPT_BYTES;
 pub use program::{Status, run};

@@ -1,7 +1,7 @@
 ghost use Rattle.std.specs.Prelude.{◌≡◌, ◌≢◌, ◌↔◌, ◌⊎◌, ◌+◌, ℕ, Some, None};
 ghost use Rattle.aia_io.specs.Ends.{Rose};
 ghost use Rattle.aia_generate.specs.Summary.{summary};
-ghost use Rattle.aia_replay.specs.Runs.{asked, EndsWith, EndsWithSummary, StopsAtMachine, Takes, WritesAnswers, TakesAll, TouchesNothing, HasAtMost, IsDoneOrMemory};
+ghost use Rattle.aia_replay.specs.Runs.{asked, EndsWith, EndsWithSummary, StopsAtMachine, Takes, WritesAnswers, TakesAll, TouchesNothing, FitsIn, IsDoneOrMemory};
 
 use crate::generator::summarize;
 use crate::limits::SCRIPT_BYTES;
@@ -43,13 +43,13 @@ pub fn run<S: Source, K: Sink>(
 ) -> Status
     // The headline: what is written is the model's answers of the whole script.
     ensures done { asked words.now ≡ Some Subcommand.Replay → result ≡ Status.Done
-        → WritesAnswers (S.left source.old) (K.taken sink.old) (K.taken sink.new) }
+        → WritesAnswers (S.supply source.old) (K.taken sink.old) (K.taken sink.new) }
     ensures all { asked words.now ≡ Some Subcommand.Replay → result ≡ Status.Done
-        → TakesAll (S.left source.old) (S.left source.new) }
+        → TakesAll (S.supply source.old) (S.supply source.new) }
 
     // What every ending promises: its cause, what was then written, and how much was taken.
     ensures replays { asked words.now ≡ Some Subcommand.Replay
-        → EndsWith result (S.left source.old) (S.left source.new) (K.taken sink.old)
+        → EndsWith result (S.supply source.old) (S.supply source.new) (K.taken sink.old)
         (K.taken sink.new) (S.faults source.old) (S.faults source.new) (K.faults sink.old)
         (K.faults sink.new) }
     ensures generates { (count seed : ℕ)
@@ -64,12 +64,12 @@ pub fn run<S: Source, K: Sink>(
     ensures write_fault { result ≡ Status.WriteFault
         → Rose (K.faults sink.old) (K.faults sink.new) }
     ensures memory { result ≡ Status.Memory
-        → TouchesNothing (S.left source.old) (S.left source.new) (K.taken sink.old)
+        → TouchesNothing (S.supply source.old) (S.supply source.new) (K.taken sink.old)
         (K.taken sink.new)
-        ⊎ StopsAtMachine (S.left source.old) (S.left source.new) (K.taken sink.old)
+        ⊎ StopsAtMachine (S.supply source.old) (S.supply source.new) (K.taken sink.old)
         (K.taken sink.new) }
     ensures too_long { result ≡ Status.TooLong
-        → Takes (SCRIPT_BYTES + 1) (S.left source.old) (S.left source.new) }
+        → Takes (SCRIPT_BYTES + 1) (S.supply source.old) (S.supply source.new) }
 
     // Where there is memory for them, words are refused exactly by `Usage`; nothing is touched
     // then.
@@ -79,12 +79,13 @@ pub fn run<S: Source, K: Sink>(
         → ((result ≡ Status.Usage) ⊎ (result ≡ Status.Memory))
         × (source.new ≡ source.old) × (sink.new ≡ sink.old) }
 
-    // Completeness: with good words, no fault and a script that fits, nothing but want of memory is
-    // in the way.
+    // Completeness: with good words, no fault and a script that fits, by what the source told before
+    // or by its count of the bytes that it gave, nothing but want of memory is in the way.
     ensures complete { asked words.now ≢ None
         → (¬ Rose (S.faults source.old) (S.faults source.new))
         → (¬ Rose (K.faults sink.old) (K.faults sink.new))
-        → (asked words.now ≡ Some Subcommand.Replay → HasAtMost SCRIPT_BYTES (S.left source.old))
+        → (asked words.now ≡ Some Subcommand.Replay
+        → FitsIn SCRIPT_BYTES (S.supply source.old) (S.supply source.new))
         → IsDoneOrMemory result }
 {
     match read_words(alloc, words) {
@@ -98,9 +99,9 @@ pub fn run<S: Source, K: Sink>(
 /// Answers the script that the source gives.
 fn replay<S: Source, K: Sink>(alloc: Global, source: &mut S, sink: &mut K) -> Status
     ensures usage { result ≢ Status.Usage }
-    ensures machine { result ≡ Status.Memory → StopsAtMachine (S.left source.old)
-        (S.left source.new) (K.taken sink.old) (K.taken sink.new) }
-    ensures ends { EndsWith result (S.left source.old) (S.left source.new) (K.taken sink.old)
+    ensures machine { result ≡ Status.Memory → StopsAtMachine (S.supply source.old)
+        (S.supply source.new) (K.taken sink.old) (K.taken sink.new) }
+    ensures ends { EndsWith result (S.supply source.old) (S.supply source.new) (K.taken sink.old)
         (K.taken sink.new) (S.faults source.old) (S.faults source.new) (K.faults sink.old)
         (K.faults sink.new) }
 {

@@ -146,15 +146,17 @@ impl Replayer {
         sink: &mut K,
     ) -> Result<Status, Stop>
         requires { Begins self.old }
-        ensures ok { IfOk result (λ status. Streams status (S.left source.old)
-            (S.left source.new) (K.taken sink.old) (K.taken sink.new)) }
+        ensures ok { IfOk result (λ status. Streams status (S.supply source.old)
+            (S.supply source.new) (K.taken sink.old) (K.taken sink.new)) }
+        ensures ended { result ≡ Ok Status.Done
+            → Rose (S.supply source.old).ends (S.supply source.new).ends }
         ensures source { result ≡ Ok Status.ReadFault
             → Rose (S.faults source.old) (S.faults source.new) }
         ensures sink { result ≡ Err Stop.Sink → Rose (K.faults sink.old) (K.faults sink.new) }
-        ensures cut { result ≡ Err Stop.Sink → StreamsFront (S.left source.old) (S.left source.new)
-            (K.taken sink.old) (K.taken sink.new) }
-        ensures memory { result ≡ Err Stop.Memory → StreamsStop self.new (S.left source.old)
-            (S.left source.new) (K.taken sink.old) (K.taken sink.new) }
+        ensures cut { result ≡ Err Stop.Sink → StreamsFront (S.supply source.old)
+            (S.supply source.new) (K.taken sink.old) (K.taken sink.new) }
+        ensures memory { result ≡ Err Stop.Memory → StreamsStop self.new (S.supply source.old)
+            (S.supply source.new) (K.taken sink.old) (K.taken sink.new) }
         ensures later { (S.faults source.old ≤ S.faults source.new)
             × (K.faults sink.old ≤ K.faults sink.new) }
     {
@@ -214,8 +216,8 @@ fn line_end(bytes: &[u8]) -> Option<usize>
 fn read_front<S: Source>(source: &mut S, piece: &mut [u8], most: usize) -> Read
     requires some { 0 < most }
     requires room { most ≤ length piece.old }
-    ensures bytes { ReadsFront most (S.left source.old) (S.left source.new) piece.new result }
-    ensures taken { ReadsOn (S.left source.old) (S.left source.new) piece.new result }
+    ensures bytes { ReadsFront most (S.supply source.old) (S.supply source.new) piece.new result }
+    ensures taken { ReadsOn (S.supply source.old) (S.supply source.new) piece.new result }
     ensures cause { ReadHasCause (S.faults source.old) (S.faults source.new) result }
 {
     source.read(&mut piece[..most])

@@ -1,7 +1,7 @@
 //! Each end, called through its bound as the code above does.
 ghost use Rattle.std.specs.Prelude.{◌≡◌, ◌<◌, length, take, IfOk};
-ghost use Rattle.std.specs.Io.KnownBytes.{Appends, Consumes};
-ghost use Rattle.aia_io.specs.Ends.{Rose};
+ghost use Rattle.std.specs.Io.KnownBytes.{Appends};
+ghost use Rattle.aia_io.specs.Ends.{Gives, Rose};
 
 use crate::same;
 use aia_io::{
@@ -13,7 +13,7 @@ use std::test::Fail;
 
 // What so many reads gave, failures passed over.
 fn bytes_of<S: Source>(alloc: Global, source: &mut S, calls: u32) -> Result<Vec<u8>, AllocError>
-    ensures { IfOk result (λ v. Consumes (S.left source.old) (S.left source.new) v.items) }
+    ensures { IfOk result (λ v. Gives (S.supply source.old) (S.supply source.new) v.items) }
 {
     let mut bytes = Vec::new(alloc);
     let mut buf = [0; 4];

@@ -1,11 +1,12 @@
-use Rattle.std.proofs.Common.{◌≤◌, ◌-◌}
+use Rattle.std.proofs.Common.{◌≡◌, ◌≤◌, ◌-◌}
 use Rattle.aia_replay.specs.declared.limits.TheConstants.{SCRIPT_BYTES}
 use Rattle.aia_replay.proofs.StreamLemmas.{ReadSoFar}
 use Rattle.aia_replay.proofs.replayer.Replayer.read_all.Given as goal
 
 abbrev pub invariant-loop-asked : goal.invariant-loop-asked
 invariant-loop-asked g l = record {
-  so_far : ReadSoFar l.self (g.S.Source.left l.fn.source) (g.S.Source.left l.source) (g.K.Sink.taken l.fn.sink) (g.K.Sink.taken l.sink) l.taken;
+  so_far : ReadSoFar l.self (g.S.Source.supply l.fn.source) (g.S.Source.supply l.source) (g.K.Sink.taken l.fn.sink) (g.K.Sink.taken l.sink) l.taken;
+  same_ends : (g.S.Source.supply l.source).ends ≡ (g.S.Source.supply l.fn.source).ends;
   within : l.taken ≤ SCRIPT_BYTES;
   source_later : g.S.Source.faults l.fn.source ≤ g.S.Source.faults l.source;
   sink_later : g.K.Sink.faults l.fn.sink ≤ g.K.Sink.faults l.sink;
