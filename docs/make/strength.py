@@ -55,7 +55,9 @@ def has_written_proof(crate, file, old):
     """Says whether the function in which a line stands has a proof written by hand."""
     text = (TOP / "crates" / crate / file).read_text(encoding="utf-8")
     before = re.findall(r"\bfn (\w+)", text[: text.find(old)])
-    folder = TOP / "crates" / crate / "proofs" / file.removeprefix("src/").removesuffix(".rt")
+    folder = TOP / "crates" / crate / "proofs"
+    if file not in ("src/lib.rt", "src/main.rt"):
+        folder /= file.removeprefix("src/").removesuffix(".rt")
     return bool(before) and any(folder.glob(f"**/{before[-1]}/*.antt"))
 
 
