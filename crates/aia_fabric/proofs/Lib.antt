@@ -5,3 +5,4 @@ pub mod LawLemmas
 pub mod FrameLemmas
 pub mod ViewLemmas
 pub mod StoreViews
+pub mod OwnLemmas

@@ -3,3 +3,4 @@ pub mod Stores
 pub mod Making
 pub mod Changes
 pub mod Whole
+pub mod Own

@@ -21,11 +21,13 @@ use Rattle.aia_model.specs.declared.refusal.Refusal.{Refusal}
 use Rattle.aia_model.specs.declared.refusal.Refusal.TheVariants as words
 use Rattle.aia_model.specs.declared.line.Line.TheVariants as lines
 use Rattle.aia_model.specs.Event.{History, has_machine, has_hart, harts_of}
+use Rattle.aia_model.specs.Histories.{IsHistory}
 use Rattle.aia_model.specs.Vms.{has_vcpu}
 use Rattle.aia_model.specs.HomeOf.{home, place, free_file}
 use Rattle.aia_model.specs.Refusal.{refusal}
 use Rattle.aia_model.specs.Answer.{accepted_answer}
 use Rattle.aia_model.proofs.AnswerLemmas.{answered, arrive_refusal, leave_refusal, shift_refusal}
+use Rattle.aia_model.proofs.RefusalLemmas.{leave_allowed, arrive_allowed, shift_allowed}
 use Rattle.aia_hyp.specs.declared.moves.Want.{Want}
 use Rattle.aia_hyp.specs.declared.moves.Want.TheVariants as wants
 use Rattle.aia_hyp.specs.declared.vcpu.Stay.{Stay}
@@ -240,5 +242,15 @@ no_move x vm number want none = move_answered x x vm number want (Refused words.
 ))
 
 -- it stands for some history still
+begun_happens : (word : Option Answer) (h : History) (vm number : ℕ) (want : Want) → refusal h (move_line vm number want) ≡ word → IsHistory h → IsHistory (move_begun word h (wanted_move (vcpu vm number) want))
+begun_happens None h vm number wants.Leave e good = let may = leave_allowed h vm number e in ((may.0, may.1), good)
+begun_happens None h vm number (wants.Arrive hart) e good = let may = arrive_allowed h vm number hart e in ((may.0, may.1), good)
+begun_happens None h vm number (wants.Shift hart) e good = let may = shift_allowed h vm number hart e in ((may.0, may.1), good)
+begun_happens (Some word) h vm number want e good = good
+
 pub begins_still : (x y : CoreState) (vm number : ℕ) (want : Want) (given : Answer) → MoveBegins x y vm number want given → StandsForSome x → StandsForSome y
-begins_still x y vm number want given begins some = record { past = move_begun (refusal some.past (move_line vm number want)) some.past (wanted_move (vcpu vm number) want); stands = begins.begins some.past some.stands }
+begins_still x y vm number want given begins some = record {
+  past = move_begun (refusal some.past (move_line vm number want)) some.past (wanted_move (vcpu vm number) want);
+  happens = begun_happens (refusal some.past (move_line vm number want)) some.past vm number want refl some.happens;
+  stands = begins.begins some.past some.stands;
+}

@@ -19,6 +19,7 @@ use Rattle.aia_places.specs.View.{leads_to}
 use Rattle.aia_fabric.specs.Stores.{StoresAt, StoresInSlot, Reaches, slot_at, page_spot}
 use Rattle.aia_fabric.specs.Whole.{IsWhole}
 use Rattle.aia_fabric.specs.Changes.{spot_of}
+use Rattle.aia_fabric.specs.Own.{LeadsToOwn}
 use Rattle.aia_fabric.proofs.PlaceLemmas.{slot_found, host_page}
 use Rattle.aia_fabric.proofs.WholeLemmas.{notice_hart_there}
 use Rattle.aia_model.specs.declared.answer.Answer.{Answer}
@@ -116,6 +117,15 @@ names_none x y h vm addr value c is none =
 entry_is : (x : CoreState) (h : History) (g : Vcpu) → CoreStands x h → has_vcpu h g ≡ true
     → entry_in_force (table_of x.world.tables g.vm) g.number ≡ leads_to (slot_of (vms_of h) g) (notice_hart (vms_of h) g) (devices_reach (home h g))
 entry_is x h g stands there = (stands.vcpus g there).holds.routes.in_force
+
+-- so all entries of a VM lead to its own
+pub leads_to_own : (x : CoreState) (h : History) (v : ℕ) → CoreStands x h → has_vm h v ≡ true → LeadsToOwn x.world v (λ g. devices_reach (home h g))
+leads_to_own x h v stands standing = record {
+  own = λ g its there. subst (λ (vs : List Vm). entry_in_force (table_of x.world.tables g.vm) g.number ≡ leads_to (slot_of vs g) (notice_hart vs g) (devices_reach (home h g))) (sym stands.vms)
+      (entry_is x h g stands (subst (λ (vs : List Vm). is_vcpu_in vs g ≡ true) stands.vms there));
+  there = λ g p its there e. stands.held g p (subst (λ (vs : List Vm). is_vcpu_in vs g ≡ true) stands.vms there) (devices_held (home h g) p e);
+  no_other = λ g its none. stands.no_entry g (subst (λ v. has_vm h v ≡ true) (sym its) standing) (subst (λ (vs : List Vm). is_vcpu_in vs g ≡ false) stands.vms none);
+}
 
 guest_spot : (i : ImsicState) (p : Place) → i.harts ≤ 4 → i.guests ≤ 7 → IsThere i (spot_of p) → page_spot i (guest_page p.hart p.file / 0x1000) ≡ spot_of p
 guest_spot i p few eight there =

@@ -40,6 +40,7 @@ use Rattle.aia_model.specs.declared.line.Line.TheVariants.{Machine}
 use Rattle.aia_model.specs.Event.{Event, History, Shape, machine_of, harts_of, guests_of, greatest_identity_of}
 use Rattle.aia_model.specs.declared.msi.Msi.{Msi}
 use Rattle.aia_model.specs.Event.Event.{Accepted, Delivered}
+use Rattle.aia_model.specs.Histories.{IsHistory}
 use Rattle.aia_model.specs.Vms.{vms_of, has_vm, has_vcpu}
 use Rattle.aia_model.specs.FileAfter.{FileDeed, select_after, file_after}
 use Rattle.aia_model.specs.FileAfter.FileDeed.{Rests}
@@ -55,6 +56,7 @@ use Rattle.aia_model.specs.Answer.{accepted_answer, deed_taken}
 use Rattle.aia_model.proofs.AnswerLemmas.{answered}
 use Rattle.aia_model.proofs.FileLemmas.{file_step, select_step, file_by_step, same_or_other}
 use Rattle.aia_model.proofs.MoveLemmas.{home_step}
+use Rattle.aia_model.proofs.HistoryLemmas.{line_happens}
 use Rattle.aia_hyp.specs.declared.vcpu.VcpuRecord.{VcpuRecord}
 use Rattle.aia_hyp.specs.Core.{CoreState, no_record}
 use Rattle.aia_hyp.specs.HostFiles.{FileDone, HasDone, host_spot, select_place, select_in}
@@ -380,5 +382,13 @@ signals_there x h hart machine supervisor inside by_machine by_supervisor stands
 
 -- ---- so it stands for some history still
 
+served_happens : (word : Option Answer) (h : History) (line : Line) → refusal h line ≡ word → IsHistory h → IsHistory (line_served word h line)
+served_happens None h line e good = line_happens h line e good
+served_happens (Some word) h line e good = good
+
 pub still : (x y : CoreState) (line : Line) (given : Answer) → CoreTakes x y line given → StandsForSome x → StandsForSome y
-still x y line given takes some = record { past = line_served (refusal some.past line) some.past line; stands = takes.stands some.past some.stands }
+still x y line given takes some = record {
+  past = line_served (refusal some.past line) some.past line;
+  happens = served_happens (refusal some.past line) some.past line refl some.happens;
+  stands = takes.stands some.past some.stands;
+}

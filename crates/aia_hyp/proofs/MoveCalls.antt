@@ -212,8 +212,16 @@ module _ (x y : CoreState) (who : Who) (plan : Plan) where
   }
 
 -- it stands for some history still
-pub goes_still : (x y : CoreState) (g : Vcpu) (last : Bool) → MoveGoes x y g last → StandsForSome x → StandsForSome y
-goes_still x y g last goes some = record { past = Stepped g ∷ some.past; stands = goes.stands some.past some.stands }
+pub goes_still : (x y : CoreState) (who : Who) (last : Bool) → MoveGoes x y (vcpu who.vm who.vcpu) last → StandsForSome x → IsWho x.world who
+    → is_moving (home_in (record_of x (vcpu who.vm who.vcpu)).stay) ≡ true → StandsForSome y
+goes_still x y who last goes some is moving =
+    let g = vcpu who.vm who.vcpu in
+    let there : has_vcpu some.past g ≡ true = subst (λ (vs : List Vm). is_vcpu_in vs g ≡ true) some.stands.vms is.there in
+    record {
+      past = Stepped g ∷ some.past;
+      happens = ((there, ap is_moving (sym (some.stands.vcpus g there).same_home) ∙ moving), some.happens);
+      stands = goes.stands some.past some.stands;
+    }
 
 -- ---- the file that comes back
 

@@ -34,6 +34,7 @@ use Rattle.aia_model.specs.declared.line.Line.TheVariants.{Machine}
 use Rattle.aia_model.specs.declared.msi.Msi.{Msi}
 use Rattle.aia_model.specs.Event.{History, has_machine, harts_of, guests_of, greatest_identity_of, file_words}
 use Rattle.aia_model.specs.Event.Event.{Accepted}
+use Rattle.aia_model.specs.Histories.{IsHistory}
 use Rattle.aia_model.specs.Vms.{vms_of, has_vm, has_vcpu}
 use Rattle.aia_model.specs.GuestFile.{guest_select, guest_file}
 use Rattle.aia_model.specs.MajorOf.{majors_of}
@@ -117,10 +118,11 @@ pub record CoreStands (x : CoreState) (h : History) : Type 0 where
       × ((i : ℕ) → (mrif_in x.world.memory q).enabled i ≡ false)
       × (slice_index_or x.world.stages q no_stage ≡ no_stage)
 
--- It stands for some history: what is true of a core at all times. Each guest file that is free is
--- empty, and none that is out is lost.
+-- It stands for some history, whose events may happen: what is true of a core at all times. Each
+-- guest file that is free is empty, and none that is out is lost.
 pub record StandsForSome (x : CoreState) : Type 0 where
   pub past : History
+  pub happens : IsHistory past
   pub stands : CoreStands x past
 
 -- ---- what calls promise

@@ -22,7 +22,7 @@ ghost use Rattle.aia_fabric.specs.Whole.{IsWhole};
 ghost use Rattle.aia_model.specs.declared.answer.Answer.TheVariants.{Okay, Narrow, Wide};
 ghost use Rattle.aia_hyp.specs.Core.{no_record};
 ghost use Rattle.aia_hyp.specs.HostFiles.{IsHost, HasDone, name_of, csr_line, host_spot, is_host_spot, file_in, select_place, select_in};
-ghost use Rattle.aia_hyp.specs.Stands.{CoreStands, CoreTakes, CoreBegins, CoreHears, answer_by, core_refusal, signals_of, route_answer};
+ghost use Rattle.aia_hyp.specs.Stands.{CoreStands, StandsForSome, CoreTakes, CoreBegins, CoreHears, answer_by, core_refusal, signals_of, route_answer};
 
 use crate::vcpu::VcpuRecord;
 use aia_csr::{Access, decide};
@@ -293,10 +293,15 @@ impl Hyp {
 
     /// Tells how many notices were sent; the count stays at `2^64 - 1`.
     ///
+    /// Its second clause is of every core, whatever was asked of it, and whenever an APLIC's MSIs
+    /// were delivered: it stands for some history whose events may happen. So the laws of such
+    /// histories are laws of cores, that no notice is lost among them.
+    ///
     /// AIA 1.0, IOMMU Support for MSIs to Virtual Machines, "Memory-resident interrupt files".
     pub fn notices(&self) -> u64
-        ensures { (h : History) → CoreStands self.now h
+        ensures count { (h : History) → CoreStands self.now h
             → result ≡ min (notices_sent h) (2 ^ 64 - 1) }
+        ensures stands { StandsForSome self.now }
     {
         self.fabric.notices()
     }

@@ -1,7 +1,7 @@
 //! What the definitions of this crate mean, as laws: each function does nothing, and its clauses
 //! are what was proved.
 
-ghost use Rattle.std.specs.Prelude.{◌≡◌, ◌≢◌, true, false, [], ◌++◌, Some};
+ghost use Rattle.std.specs.Prelude.{◌≡◌, ◌≢◌, ℕ, true, false, [], ◌++◌, Some};
 ghost use Rattle.aia_imsic.specs.Imsic.{IsThere};
 ghost use Rattle.aia_home.specs.declared.place.Place.{Place};
 ghost use Rattle.aia_home.specs.Vms.{Vcpu, slot_of, notice_hart};
@@ -14,8 +14,9 @@ ghost use Rattle.aia_entry.specs.Tables.{table_of, entry_in_force};
 ghost use Rattle.aia_fabric.specs.World.{stage_of};
 ghost use Rattle.aia_fabric.specs.Whole.{IsWhole};
 ghost use Rattle.aia_fabric.specs.Changes.{spot_of};
+ghost use Rattle.aia_fabric.specs.Own.{LeadsToOwn};
 ghost use Rattle.aia_model.specs.Event.{History};
-ghost use Rattle.aia_model.specs.Vms.{vms_of, has_vcpu};
+ghost use Rattle.aia_model.specs.Vms.{vms_of, has_vm, has_vcpu};
 ghost use Rattle.aia_model.specs.Refusal.{refusal};
 ghost use Rattle.aia_hyp.specs.Moves.{KnowsIts};
 ghost use Rattle.aia_model.specs.HomeOf.{home};
@@ -43,7 +44,8 @@ pub fn a_core_stands_in_the_middle_of_a_leave()
 /// A store of a device or of a peer, for a virtual hart, reaches a guest file only while that
 /// virtual hart holds it, and so none that is free: once a guest file is given back, no store
 /// reaches it but through the routes of the virtual hart that holds it next. In a core that stands
-/// for a history the entry and the record that are in force are these routes.
+/// for a history the entry and the record that are in force are these routes, and a VM has no other
+/// entries, so that a store of its devices touches its own alone.
 pub fn stores_reach_files_that_are_held()
     ensures devices { (h : History) (g : Vcpu) (p : Place) → devices_reach (home h g) ≡ Some p
         → holds p (home h g) ≡ true }
@@ -57,6 +59,8 @@ pub fn stores_reach_files_that_are_held()
         → (entry_in_force (table_of x.world.tables g.vm) g.number
         ≡ leads_to (slot_of (vms_of h) g) (notice_hart (vms_of h) g) (devices_reach (home h g)))
         × ((stage_of x.world g).in_force ≡ peers_reach (home h g)) }
+    ensures own { (x : CoreState) (h : History) (v : ℕ) → CoreStands x h → has_vm h v ≡ true
+        → LeadsToOwn x.world v (λ g. devices_reach (home h g)) }
 {}
 
 /// What a plan knows it knows after every call of the core, of whatever kind: the call's contract,

@@ -26,7 +26,7 @@ use Rattle.aia_model.proofs.FileLemmas.{file_by_step, newest_word}
 use Rattle.aia_laws.specs.Requests.{speaks_to, names_other_vm}
 use Rattle.aia_laws.specs.Told.{guest_said}
 use Rattle.aia_laws.proofs.FileLemmas.{machine_with, guest_made, not_making}
-use Rattle.aia_laws.proofs.RefusalLemmas.{machine_allowed}
+use Rattle.aia_model.proofs.RefusalLemmas.{machine_allowed}
 
 -- A virtual hart has the same file, select number and majors after one history as after another.
 abbrev pub IsSameGuest : History → History → Vcpu → Type 0

@@ -1,10 +1,9 @@
 pub mod FileLemmas
-pub mod RefusalLemmas
 pub mod AfterLemmas
 pub mod RequestLemmas
 pub mod ClaimLemmas
-pub mod HistoryLemmas
 pub mod MachineLemmas
 pub mod NoticeLemmas
 pub mod ToldLemmas
 pub mod CauseLemmas
+pub mod NewestLemmas

@@ -18,8 +18,8 @@ use Rattle.aia_model.specs.FileAfter.{file_by}
 use Rattle.aia_model.specs.GuestFile.{guest_file}
 use Rattle.aia_model.specs.Refusal.{is_machine_size}
 use Rattle.aia_laws.proofs.FileLemmas.{enabled_fits}
-use Rattle.aia_laws.proofs.RefusalLemmas.{machine_stands, machine_allowed, vm_allowed}
-use Rattle.aia_laws.proofs.HistoryLemmas.{IsHistory}
+use Rattle.aia_model.proofs.RefusalLemmas.{machine_stands, machine_allowed, vm_allowed}
+use Rattle.aia_model.specs.Histories.{IsHistory}
 
 none_there : (g : Vcpu) → has_vcpu [] g ≡ false
 none_there g = le-ltb g.number 0 (omega arith)

@@ -29,8 +29,8 @@ use Rattle.aia_model.specs.Notice.{looks_at, look_saw, a_look_saw, ends_leave, n
 use Rattle.aia_model.proofs.MoveLemmas.{same_vcpu, is_itself}
 use Rattle.aia_laws.specs.Told.{is_deliverable, is_ask, guest_said, begins_leave}
 use Rattle.aia_laws.proofs.FileLemmas.{guest_n}
-use Rattle.aia_laws.proofs.RefusalLemmas.{access_allowed}
-use Rattle.aia_laws.proofs.HistoryLemmas.{IsHistory}
+use Rattle.aia_model.proofs.RefusalLemmas.{access_allowed}
+use Rattle.aia_model.specs.Histories.{IsHistory}
 
 -- Whether a virtual hart, where there is one, is g.
 abbrev pub names_vcpu : Option Vcpu → Vcpu → Bool

@@ -26,8 +26,8 @@ use Rattle.aia_model.proofs.FileLemmas.{file_step, newest_word, is_file-itself}
 use Rattle.aia_model.proofs.MoveLemmas.{same_vcpu}
 use Rattle.aia_laws.specs.Told.{is_deliverable, notice_file, notice_number, is_ask, is_clear, guest_said, host_said, begins_leave, told_since, cleared_since}
 use Rattle.aia_laws.proofs.FileLemmas.{made_with, not_making, host_made, host_n}
-use Rattle.aia_laws.proofs.RefusalLemmas.{machine_allowed, device_allowed, peer_allowed}
-use Rattle.aia_laws.proofs.HistoryLemmas.{MayHappen, IsHistory}
+use Rattle.aia_model.proofs.RefusalLemmas.{machine_allowed, device_allowed, peer_allowed}
+use Rattle.aia_model.specs.Histories.{MayHappen, IsHistory}
 use Rattle.aia_laws.proofs.MachineLemmas.{machine_first, identities_for_all, enabled_in_words}
 use Rattle.aia_laws.proofs.NoticeLemmas.{names_vcpu, noticed_since, noticed_while_parked}
 

@@ -1,3 +1,4 @@
 pub mod Requests
 pub mod Claims
 pub mod Told
+pub mod Newest

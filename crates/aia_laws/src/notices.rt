@@ -1,34 +1,32 @@
 //! Notices: that the host is told of each interrupt of a virtual hart that is parked.
 
-ghost use Rattle.std.specs.Prelude.{◌≡◌, ℕ, true, false, List, Some};
+ghost use Rattle.std.specs.Prelude.{◌≡◌, ℕ, true, false, Some};
 ghost use Rattle.aia_home.specs.Vms.{Vcpu};
 ghost use Rattle.aia_home.specs.Home.Home.{Parked};
 ghost use Rattle.aia_model.specs.Event.{Event, History};
 ghost use Rattle.aia_model.specs.HomeOf.{home};
 ghost use Rattle.aia_model.specs.Notice.{noticed};
 ghost use Rattle.aia_model.specs.FileOf.{file_of};
-ghost use Rattle.aia_model.specs.Script.{history_of};
+ghost use Rattle.aia_model.specs.Histories.{IsHistory};
 ghost use Rattle.aia_laws.specs.Told.{is_deliverable, notice_file, notice_number, told_since, cleared_since, IsCause};
 
-/// No notice is lost. After every script, while a virtual hart is parked and an identity is pending
-/// and enabled at it, its notice identity was asked for at the supervisor file of its notice hart,
-/// no earlier than the newest request for that identity, nor than the beginning of its newest leave.
+/// No notice is lost. After every history whose events may happen, in whatever order lines and the
+/// steps of moves come, while a virtual hart is parked and an identity is pending and enabled at
+/// it, its notice identity was asked for at the supervisor file of its notice hart, no earlier than
+/// the newest request for that identity, nor than the beginning of its newest leave.
 pub fn no_notice_is_lost()
-    ensures { (script : List ℕ) (g : Vcpu) (i : ℕ) → home (history_of script) g ≡ Parked
-        → is_deliverable (history_of script) g i ≡ true
-        → told_since (history_of script) (notice_file (history_of script) g)
-        (notice_number (history_of script) g) g i ≡ true }
+    ensures { (h : History) (g : Vcpu) (i : ℕ) → IsHistory h → home h g ≡ Parked
+        → is_deliverable h g i ≡ true
+        → told_since h (notice_file h g) (notice_number h g) g i ≡ true }
 {}
 
 /// The host sees it: the notice identity is then pending in that file, unless something the host
 /// did there cleared it, no earlier than that.
 pub fn the_host_sees_a_notice_until_it_clears_it()
-    ensures { (script : List ℕ) (g : Vcpu) (i : ℕ) → home (history_of script) g ≡ Parked
-        → is_deliverable (history_of script) g i ≡ true
-        → cleared_since (history_of script) (notice_file (history_of script) g)
-        (notice_number (history_of script) g) g i ≡ false
-        → (file_of (history_of script) (notice_file (history_of script) g)).pending
-        (notice_number (history_of script) g) ≡ true }
+    ensures { (h : History) (g : Vcpu) (i : ℕ) → IsHistory h → home h g ≡ Parked
+        → is_deliverable h g i ≡ true
+        → cleared_since h (notice_file h g) (notice_number h g) g i ≡ false
+        → (file_of h (notice_file h g)).pending (notice_number h g) ≡ true }
 {}
 
 /// No notice comes for nothing: the line that it comes with asks at the virtual hart for an identity

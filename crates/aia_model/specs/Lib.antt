@@ -20,3 +20,4 @@ pub mod Refusal
 pub mod Answer
 pub mod AnswerText
 pub mod Script
+pub mod Histories

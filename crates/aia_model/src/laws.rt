@@ -1,6 +1,6 @@
 //! Laws of the definitions: what holds of every text, and of every file.
 
-ghost use Rattle.std.specs.Prelude.{◌≡◌, ℕ, ◌≤◌, ◌↔◌, List, ◌∷◌, length, IsTrue};
+ghost use Rattle.std.specs.Prelude.{◌≡◌, ℕ, ◌≤◌, ◌↔◌, true, List, ◌∷◌, length, None, IsTrue};
 ghost use Rattle.aia_model.specs.Text.{is_skipped};
 ghost use Rattle.aia_model.specs.Grammar.{Spells, IsListed};
 ghost use Rattle.aia_model.specs.Printing.{line_text, IsPrintable};
@@ -8,7 +8,11 @@ ghost use Rattle.aia_model.specs.Reading.{reading};
 ghost use Rattle.aia_regs.specs.Word.{settle};
 ghost use Rattle.aia_home.specs.Vms.{Vcpu};
 ghost use Rattle.aia_model.specs.Move.{Move};
-ghost use Rattle.aia_model.specs.Event.{History};
+ghost use Rattle.aia_model.specs.Event.{History, has_machine};
+ghost use Rattle.aia_model.specs.Histories.{IsHistory};
+ghost use Rattle.aia_model.specs.Refusal.{refusal};
+ghost use Rattle.aia_model.specs.Answer.{line_taken, msi_taken, after};
+ghost use Rattle.aia_model.specs.Script.{history_of};
 ghost use Rattle.aia_model.specs.Event.Event.{Began, Stepped};
 ghost use Rattle.aia_model.specs.GuestFile.{guest_file, guest_select};
 ghost use Rattle.aia_model.specs.MajorOf.{majors_of};
@@ -16,7 +20,7 @@ ghost use Rattle.aia_file.specs.InterruptFile.{InterruptFile};
 ghost use Rattle.aia_model.specs.FileAfter.{FileDeed, IsMaking, file_after, pending_said, enabled_said};
 
 use crate::limits::LINE_BYTES;
-use crate::{Line, Parsed};
+use crate::{Line, Msi, Parsed};
 
 /// A text spells at most one line.
 pub fn spells_one_line()
@@ -89,6 +93,19 @@ pub fn moves_say_nothing_to_guests()
         → (guest_file (Stepped x ∷ h) g ≡ guest_file h g)
         × (guest_select (Stepped x ∷ h) g ≡ guest_select h g)
         × (majors_of (Stepped x ∷ h) g ≡ majors_of h g) }
+{}
+
+/// The history of every script is one whose events may happen; and from such a history every line,
+/// refused or not, leads to another one, and so does an MSI once a machine stands. So what is said
+/// of all such histories is said of scripts, of each moment between two lines, and of a machine
+/// with another APLIC, whose MSIs come when they will.
+pub fn what_may_happen_makes_a_history()
+    ensures script { (script : List ℕ) → IsHistory (history_of script) }
+    ensures after { (h : History) (line : Line) → IsHistory h → IsHistory (after h line) }
+    ensures taken { (h : History) (line : Line) → refusal h line ≡ None → IsHistory h
+        → IsHistory (line_taken h line) }
+    ensures msi { (h : History) (msi : Msi) → has_machine h ≡ true → IsHistory h
+        → IsHistory (msi_taken msi h) }
 {}
 
 /// A line has at most 128 bytes.

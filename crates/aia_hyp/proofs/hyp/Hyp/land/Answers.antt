@@ -25,7 +25,7 @@ heard c =
     })
 
 pub invariant_of-self : goal.invariant_of-self
-invariant_of-self c = (record { past = msi_taken c.args.msi c.self.invariant.0.past; stands = heard c c.self.invariant.0.past c.self.invariant.0.stands }, c.self.invariant.1)
+invariant_of-self c = (record { past = msi_taken c.args.msi c.self.invariant.0.past; happens = (c.self.invariant.0.stands.there, c.self.invariant.0.happens); stands = heard c c.self.invariant.0.past c.self.invariant.0.stands }, c.self.invariant.1)
 
 pub returns-then-not-is_host : goal.returns-then-not-is_host
 returns-then-not-is_host c = rw (← c.self.view_is) (msi_dropped _ c.args.msi c.locate-spot.result c.locate-spot.ensures.few.0 c.locate-spot.ensures.spot (sym c.is_host.ensures ∙ c.if-not-is_host.true))

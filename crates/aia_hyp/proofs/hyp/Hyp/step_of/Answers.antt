@@ -1,8 +1,9 @@
-use Rattle.std.proofs.Common.{get_or, refl, sym, ap, ◌∙◌, subst, arith}
+use Rattle.std.proofs.Common.{◌≡◌, true, get_or, refl, sym, ap, ◌∙◌, subst, arith}
 use Rattle.std.proofs.Math.ListN.{set}
 use Rattle.aia_home.specs.Vms.{vcpu}
+use Rattle.aia_home.specs.Home.{is_moving}
 use Rattle.aia_move.specs.Move.{IsWho}
-use Rattle.aia_hyp.specs.Core.{CoreState, no_record}
+use Rattle.aia_hyp.specs.Core.{CoreState, no_record, record_of, home_in}
 use Rattle.aia_hyp.specs.Moves.{MoveGoes, is_finished}
 use Rattle.aia_hyp.proofs.BeginCore.{at_stay}
 use Rattle.aia_hyp.proofs.MoveCalls.{plan_known, back_known, step_goes, goes_still, who_still}
@@ -47,7 +48,11 @@ goes c = step_goes _ _ c.args.who c.in-Moving.plan c.step-next.result (record {
 })
 
 pub invariant_of-self : goal.invariant_of-self
-invariant_of-self c = (goes_still _ _ _ _ (goes c) c.self.invariant.0, (let first = c.swap_stay.ensures.room in let second = c.swap_stay-2.ensures.room in let room = c.self.invariant.1 in omega (arith, first, second, room)))
+invariant_of-self c = (
+  goes_still _ _ c.args.who _ (goes c) c.self.invariant.0 (subst (λ (x : CoreState). IsWho x.world c.args.who) (sym c.self.view_is) c.requires.who)
+      (subst (λ (x : CoreState). is_moving (home_in (record_of x (vcpu c.args.who.vm c.args.who.vcpu)).stay) ≡ true) (sym c.self.view_is) c.requires.moving),
+  (let first = c.swap_stay.ensures.room in let second = c.swap_stay-2.ensures.room in let room = c.self.invariant.1 in omega (arith, first, second, room)),
+)
 
 pub returns-clause-goes : goal.returns-clause-goes
 returns-clause-goes c = rw (← c.self.view_is, c.rest_of-new.ensures.last) (goes c)

@@ -11,10 +11,9 @@ use Rattle.aia_model.specs.declared.answer.Answer.{Answer}
 use Rattle.aia_model.specs.declared.msi.Msi.{Msi}
 use Rattle.aia_model.specs.declared.parsed.Parsed.{Parsed}
 use Rattle.aia_model.specs.declared.parsed.Parsed.TheVariants as parsed
-use Rattle.aia_model.specs.Move.{mover}
 use Rattle.aia_model.specs.Move.Move.{Arrives, Leaves, Shifts}
-use Rattle.aia_model.specs.Event.{Event, History, has_machine, file_words}
-use Rattle.aia_model.specs.Event.Event.{Accepted, Began, Stepped, Delivered}
+use Rattle.aia_model.specs.Event.{History, has_machine, file_words}
+use Rattle.aia_model.specs.Event.Event.{Began, Stepped, Delivered}
 use Rattle.aia_model.specs.Vms.{has_vcpu}
 use Rattle.aia_model.specs.HomeOf.{home, free_file, place}
 use Rattle.aia_model.specs.Refusal.{refusal}
@@ -25,23 +24,8 @@ use Rattle.aia_model.specs.Text.{texts_of}
 use Rattle.aia_model.specs.Script.{after_text, after_texts, history_of}
 use Rattle.aia_model.proofs.AnswerLemmas.{after_by}
 use Rattle.aia_model.proofs.MoveLemmas.{is_itself, home_step}
-use Rattle.aia_laws.proofs.RefusalLemmas.{machine_stands, arrive_allowed, leave_allowed, shift_allowed, step_allowed}
-
--- ---- what may happen
-
--- Whether an event may happen after a history: a line that is not refused, the beginning of a move
--- of a virtual hart that is there and is not being moved, a step of one that is, and an MSI once a
--- machine stands.
-abbrev pub MayHappen : History → Event → Type 0
-MayHappen past (Accepted line) = refusal past line ≡ None
-MayHappen past (Began move) = (has_vcpu past (mover move) ≡ true) × (is_moving (home past (mover move)) ≡ false)
-MayHappen past (Stepped g) = (has_vcpu past g ≡ true) × (is_moving (home past g) ≡ true)
-MayHappen past (Delivered msi) = has_machine past ≡ true
-
--- Whether each event of a history might happen.
-abbrev pub IsHistory : History → Type 0
-IsHistory [] = Unit {0}
-IsHistory (event ∷ past) = MayHappen past event × IsHistory past
+use Rattle.aia_model.specs.Histories.{IsHistory}
+use Rattle.aia_model.proofs.RefusalLemmas.{machine_stands, arrive_allowed, leave_allowed, shift_allowed, step_allowed}
 
 -- ---- a whole move: all its steps may happen
 
@@ -125,7 +109,7 @@ shift_happens h g hart e good =
 
 -- ---- what a script does is such a history
 
-line_happens : (h : History) (line : Line) → refusal h line ≡ None → IsHistory h → IsHistory (line_taken h line)
+pub line_happens : (h : History) (line : Line) → refusal h line ≡ None → IsHistory h → IsHistory (line_taken h line)
 line_happens h (Arrive vm number hart) e good = arrive_happens h (vcpu vm number) hart e good
 line_happens h (Leave vm number) e good = leave_happens h (vcpu vm number) e good
 line_happens h (Shift vm number hart) e good = shift_happens h (vcpu vm number) hart e good
@@ -140,7 +124,7 @@ stands_stepped zero g h stands = stands
 stands_stepped (suc count) g h stands = stands_stepped count g (Stepped g ∷ h) stands
 
 -- after an accepted line a machine stands
-stands_then : (h : History) (line : Line) → refusal h line ≡ None → has_machine (line_taken h line) ≡ true
+pub stands_then : (h : History) (line : Line) → refusal h line ≡ None → has_machine (line_taken h line) ≡ true
 stands_then h (Machine harts guests n sources) e = refl
 stands_then h (Arrive vm number hart) e = stands_stepped (arrive_steps (file_words h)) (vcpu vm number) _ (not-false _ (machine_stands h (Arrive vm number hart) e))
 stands_then h (Leave vm number) e = stands_stepped (leave_steps (file_words h)) (vcpu vm number) _ (not-false _ (machine_stands h (Leave vm number) e))
@@ -151,7 +135,7 @@ msis_happen : (sent : List Msi) (h : History) → has_machine h ≡ true → IsH
 msis_happen [] h stands good = good
 msis_happen (msi ∷ later) h stands good = msis_happen later (Delivered msi ∷ h) stands (stands, good)
 
-after_happens : (h : History) (line : Line) → IsHistory h → IsHistory (after h line)
+pub after_happens : (h : History) (line : Line) → IsHistory h → IsHistory (after h line)
 after_happens h line good = subst IsHistory (sym (after_by h line (refusal h line) refl)) (by_refusal (refusal h line) refl)
   where
     by_refusal : (word : Option Answer) → refusal h line ≡ word → IsHistory (history_after word h line)

@@ -1,0 +1,204 @@
+//! The laws at work: what they say of worked scripts, computed.
+//!
+//! Each function does nothing: its clauses are what was proved, by computing.
+#![tactic(auto, unfolding(aia_word::specs::Sets::word_of, aia_word::specs::Sets::least_of, aia_word::specs::Packed::packed, aia_word::specs::Packed::ones, aia_model::specs::Reading::number_at, aia_model::specs::Reading::n32_at, aia_model::specs::Reading::bit_at, aia_model::specs::Reading::machine_at, aia_model::specs::Reading::vm_at, aia_model::specs::Reading::wire_at, aia_model::specs::Reading::store_at, aia_model::specs::Reading::load_at, aia_model::specs::Reading::msi_at, aia_model::specs::Reading::csr_at, aia_model::specs::Reading::read_at, aia_model::specs::Reading::write_at, aia_model::specs::Reading::instruction_at, aia_model::specs::Reading::machine_csr_at, aia_model::specs::Reading::host_at, aia_model::specs::Reading::ipi_at, aia_model::specs::Reading::guest_at, aia_model::specs::Reading::arrive_at, aia_model::specs::Reading::leave_at, aia_model::specs::Reading::shift_at, aia_model::specs::Reading::begin_arrive_at, aia_model::specs::Reading::begin_leave_at, aia_model::specs::Reading::begin_shift_at, aia_model::specs::Reading::begin_at, aia_model::specs::Reading::step_at, aia_model::specs::Reading::inject_at, aia_model::specs::Reading::hvictl_at, aia_model::specs::Reading::hviprio_at, aia_model::specs::Reading::pins_at, aia_model::specs::Reading::entry_at, aia_model::specs::Reading::line_at, aia_model::specs::Reading::reading, aia_model::specs::FileAfter::select_by, aia_model::specs::FileAfter::file_by, aia_model::specs::MajorOf::majors_of, aia_model::specs::HomeOf::home, aia_model::specs::Notice::look_saw, aia_regs::specs::DomainRegisters::domain_register_of, aia_model::specs::Act::newest, aia_model::specs::SourceOf::wire_of, aia_model::specs::SourceOf::enabled, aia_model::specs::SourceOf::target, aia_model::specs::SourceOf::pending, aia_model::specs::AddressOf::addresses_of, aia_model::specs::SourceOf::genmsi_waits, aia_model::specs::Sent::all_senders, aia_model::specs::Answer::answer, aia_model::specs::Answer::after, aia_model::specs::AnswerText::hex_digits, aia_model::specs::AnswerText::answer_text, crate::specs::Said::said, crate::specs::Guest::guest_by, crate::specs::Replies::replies, crate::specs::Replies::replies_by, crate::specs::Replies::purged, crate::specs::Concerns::lines_for, crate::specs::Reach::deeds_of, crate::specs::Reach::host_by, aia_laws::specs::Newest::newest, aia_laws::specs::Told::told_since))]
+
+ghost use Rattle.std.specs.Prelude.{◌≡◌, true, [], ◌∷◌, length};
+ghost use Rattle.aia_regs.specs.declared.access.Csr.TheVariants.{Select, Reg, Topei, Sip};
+ghost use Rattle.aia_regs.specs.declared.access.Op.TheVariants.{Read, Write};
+ghost use Rattle.aia_regs.specs.Word.Word.{Ask, Clear};
+ghost use Rattle.aia_home.specs.Vms.{vcpu};
+ghost use Rattle.aia_home.specs.Home.Home.{Parked};
+ghost use Rattle.aia_model.specs.declared.answer.Answer.TheVariants.{Wide};
+ghost use Rattle.aia_model.specs.GuestFile.{guest_file};
+ghost use Rattle.aia_model.specs.HomeOf.{home};
+ghost use Rattle.aia_model.specs.FileAfter.FileDeed.{Makes, Accesses, Stores};
+ghost use Rattle.aia_model.specs.FileOf.{SupervisorFile, file_of};
+ghost use Rattle.aia_model.specs.Text.{texts_of};
+ghost use Rattle.aia_model.specs.Script.{history_of, answers};
+ghost use Rattle.aia_laws.specs.Told.{guest_said, host_said, is_deliverable, notice_file, notice_number, told_since};
+ghost use Rattle.aia_laws.specs.Newest.{newest};
+ghost use Rattle.aia_isolation.specs.Said.{said, without_reads};
+ghost use Rattle.aia_isolation.specs.Said.Said.{Made, Asked, Did, Injected, Controlled};
+ghost use Rattle.aia_isolation.specs.Replies.{replies_by, script_replies, purged};
+ghost use Rattle.aia_isolation.specs.Concerns.{concerns, is_of_machine_level, lines_for};
+ghost use Rattle.aia_isolation.specs.Parts.{part_of, answers_to};
+ghost use Rattle.aia_isolation.specs.Reach.{deeds_of};
+
+/// Virtual hart 0 of VM 0 enables 5 and 6, gets 5, is moved, claims 5, is parked, and gets 6, of
+/// which the host is told; beside it the machine level, the host and another VM do things.
+pub const BUSY: &str = "machine 1 3 63 1
+vm 1 0x8 0
+vm 1 0x8 0
+m 0 csrrw miselect 0x80
+arrive 1 0 0
+arrive 0 0 0
+g 0 0 csrrw siselect 0xc0
+st 0x24000000 3
+g 0 0 csrrw sireg 0x60
+hvictl 0 0 0x100
+inject 0 0 5 1
+msi 0 0x28000000 5
+msi 0 0x28000008 7
+h 0 csrrw siselect 0x80
+begin shift 0 0 0
+step 0 0
+step 0 0
+step 0 0
+msi 1 0x28000000 6
+step 0 0
+step 0 0
+step 0 0
+step 0 0
+step 0 0
+step 0 0
+step 0 0
+step 0 0
+step 0 0
+g 1 0 csrr stopei
+g 0 0 csrr sip
+g 0 0 csrrw stopei 0
+leave 0 0
+msi 0 0x28000000 6
+h 0 csrr sireg
+m 0 csrr mireg
+";
+
+/// The same with all left out that does not concern VM 0.
+pub const ALONE: &str = "machine 1 3 63 1
+vm 1 0x8 0
+vm 1 0x8 0
+arrive 1 0 0
+arrive 0 0 0
+g 0 0 csrrw siselect 0xc0
+g 0 0 csrrw sireg 0x60
+hvictl 0 0 0x100
+inject 0 0 5 1
+msi 0 0x28000000 5
+msi 0 0x28000008 7
+begin shift 0 0 0
+step 0 0
+step 0 0
+step 0 0
+step 0 0
+step 0 0
+step 0 0
+step 0 0
+step 0 0
+step 0 0
+step 0 0
+step 0 0
+step 0 0
+g 0 0 csrr sip
+g 0 0 csrrw stopei 0
+leave 0 0
+msi 0 0x28000000 6
+";
+
+/// The answers to it.
+pub const ALONE_ANSWERS: &str = "ok
+ok
+ok
+ok
+ok
+0x0000000000000000
+0x0000000000000000
+ok
+ok
+ok
+ok
+ok
+moving
+moving
+moving
+moving
+moving
+moving
+moving
+moving
+moving
+moving
+moving
+done
+0x0000000000000020
+0x0000000000050005
+ok
+ok
+";
+
+/// What the machine level is answered in it.
+pub const MACHINE_LEVEL_ANSWERS: &str = "ok
+0x0000000000000000
+ok
+0x0000000000000008
+";
+
+/// The same things are said to virtual hart 1 of VM 1 of another machine, by a store of virtual hart
+/// 0 and by a device, while it stands still but for its one arrival.
+pub const STILL: &str = "machine 2 1 63 9
+vm 1 0x8 1
+vm 2 0x18 0
+arrive 1 1 1
+arrive 1 0 0
+g 1 1 csrrw siselect 0xc0
+g 1 1 csrr stopei
+g 1 1 csrrw sireg 0x60
+hvictl 1 1 0x100
+inject 1 1 5 1
+g 1 0 ipi 1 5
+g 1 1 csrr sip
+g 1 1 csrrw stopei 0
+msi 1 0x28008000 6
+";
+
+/// What is said to a virtual hart is the same in two scripts that have nothing else in common, but
+/// for a read of its own in the second: so it is the same in both, and its replies are, but for that
+/// read's. A store that names no identity says nothing, and all that says nothing may be left out.
+pub fn two_scripts_say_the_same()
+    ensures busy { said (history_of BUSY.now) (vcpu 0 0)
+        ≡ Asked 6 ∷ Did Topei (Write 0) ∷ Did Sip Read ∷ Asked 5 ∷ Injected 5 true
+        ∷ Controlled 0x100 ∷ Did Reg (Write 0x60) ∷ Did Select (Write 0xc0) ∷ Made 63 ∷ [] }
+    ensures still { said (history_of STILL.now) (vcpu 1 1)
+        ≡ Asked 6 ∷ Did Topei (Write 0) ∷ Did Sip Read ∷ Asked 5 ∷ Injected 5 true
+        ∷ Controlled 0x100 ∷ Did Reg (Write 0x60) ∷ Did Topei Read ∷ Did Select (Write 0xc0)
+        ∷ Made 63 ∷ [] }
+    ensures without_reads { without_reads (said (history_of BUSY.now) (vcpu 0 0))
+        ≡ without_reads (said (history_of STILL.now) (vcpu 1 1)) }
+    ensures busy_replies { script_replies BUSY.now (vcpu 0 0)
+        ≡ Wide 0 ∷ Wide 0 ∷ Wide 0x20 ∷ Wide 0x50005 ∷ [] }
+    ensures still_replies { script_replies STILL.now (vcpu 1 1)
+        ≡ Wide 0 ∷ Wide 0 ∷ Wide 0 ∷ Wide 0x20 ∷ Wide 0x50005 ∷ [] }
+    ensures automaton { replies_by (said (history_of BUSY.now) (vcpu 0 0))
+        ≡ Wide 0x50005 ∷ Wide 0x20 ∷ Wide 0 ∷ Wide 0 ∷ [] }
+    ensures left_out { length (purged (history_of BUSY.now) (vcpu 0 0)) ≡ 11 }
+{}
+
+/// The lines that concern a VM are answered as in the script that has no others, and so are those
+/// of the machine level.
+pub fn a_vm_and_the_machine_level_are_answered_alone()
+    ensures part { texts_of ALONE.now ≡ part_of (concerns 0) BUSY.now }
+    ensures alone { answers ALONE.now ≡ ALONE_ANSWERS.now }
+    ensures busy { answers_to (concerns 0) BUSY.now ≡ ALONE_ANSWERS.now }
+    ensures machine_level { answers_to is_of_machine_level BUSY.now ≡ MACHINE_LEVEL_ANSWERS.now }
+    ensures same_lines { lines_for 0 (history_of BUSY.now) ≡ lines_for 0 (history_of ALONE.now) }
+{}
+
+/// The newest word decides: 6 was asked for last at the virtual hart, and 5 was cleared last, by the
+/// claim; and the host is told of 6, at the notice identity of the virtual hart, which is pending
+/// then. All that was done at the host's file are the host's own instructions, and that notice.
+pub fn the_host_is_told_of_what_is_pending()
+    ensures asked { newest (λ past event. guest_said past event (vcpu 0 0) 6)
+        (history_of BUSY.now) ≡ Ask }
+    ensures cleared { newest (λ past event. guest_said past event (vcpu 0 0) 5)
+        (history_of BUSY.now) ≡ Clear }
+    ensures pending { (guest_file (history_of BUSY.now) (vcpu 0 0)).pending 6 ≡ true }
+    ensures parked { home (history_of BUSY.now) (vcpu 0 0) ≡ Parked }
+    ensures deliverable { is_deliverable (history_of BUSY.now) (vcpu 0 0) 6 ≡ true }
+    ensures told { told_since (history_of BUSY.now) (notice_file (history_of BUSY.now) (vcpu 0 0))
+        (notice_number (history_of BUSY.now) (vcpu 0 0)) (vcpu 0 0) 6 ≡ true }
+    ensures seen { (file_of (history_of BUSY.now) (SupervisorFile 0)).pending 1 ≡ true }
+    ensures deeds { deeds_of (history_of BUSY.now) (SupervisorFile 0)
+        ≡ Accesses Reg Read ∷ Stores 0 1 ∷ Accesses Select (Write 0x80) ∷ Makes 63 ∷ [] }
+    ensures host { newest (λ past event. host_said past event (SupervisorFile 0) 1)
+        (history_of BUSY.now) ≡ Ask }
+{}
