@@ -1,5 +1,5 @@
 -- Two sets in which identity 9 alone is, and their summary.
-use Rattle.std.proofs.Common.{◌≡◌, ℕ, zero, suc, ◌*◌, ◌/◌, ◌<◌, ◌≤◌, Bool, true, false, ◌&&◌, nat_eq, refl, ap₂, arith}
+use Rattle.std.proofs.Common.{◌≡◌, ℕ, zero, suc, ◌*◌, ◌/◌, ◌<◌, Bool, false, ◌&&◌, nat_eq, refl, ap₂, arith}
 use Rattle.std.proofs.lemmas.Bool.{eqb-true, ne_eqb}
 use Rattle.aia_word.specs.Sets.{word_of}
 use Rattle.aia_file.specs.Summary.{Summarizes, AreIdentities}
