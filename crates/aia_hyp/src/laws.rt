@@ -1,7 +1,7 @@
 //! What the definitions of this crate mean, as laws: each function does nothing, and its clauses
 //! are what was proved.
 
-ghost use Rattle.std.specs.Prelude.{◌≡◌, ◌≢◌, ℕ, true, false, [], ◌++◌, Some};
+ghost use Rattle.std.specs.Prelude.{◌≡◌, ◌≢◌, ◌⊎◌, ℕ, ◌%◌, true, false, [], ◌++◌, Some};
 ghost use Rattle.aia_imsic.specs.Imsic.{IsThere};
 ghost use Rattle.aia_home.specs.declared.place.Place.{Place};
 ghost use Rattle.aia_home.specs.Vms.{Vcpu, slot_of, notice_hart};
@@ -10,11 +10,13 @@ ghost use Rattle.aia_home.specs.Home.Home.{Resident, Leaving};
 ghost use Rattle.aia_home.specs.Routes.{devices_reach, peers_reach};
 ghost use Rattle.aia_places.specs.View.{leads_to};
 ghost use Rattle.aia_pool.specs.Leases.{is_out};
-ghost use Rattle.aia_entry.specs.Tables.{table_of, entry_in_force};
-ghost use Rattle.aia_fabric.specs.World.{stage_of};
+ghost use Rattle.aia_regs.specs.declared.address_map.TheConstants.{PAGE};
+ghost use Rattle.aia_entry.specs.Tables.{table_of, entry_in_force, route_of};
+ghost use Rattle.aia_fabric.specs.World.{World, stage_of};
+ghost use Rattle.aia_fabric.specs.Stores.{Reaches, Relays};
 ghost use Rattle.aia_fabric.specs.Whole.{IsWhole};
-ghost use Rattle.aia_fabric.specs.Changes.{spot_of};
-ghost use Rattle.aia_fabric.specs.Own.{LeadsToOwn};
+ghost use Rattle.aia_fabric.specs.Changes.{spot_of, view};
+ghost use Rattle.aia_fabric.specs.Own.{LeadsToOwn, TouchesOwn, TouchesOneOf};
 ghost use Rattle.aia_model.specs.Event.{History};
 ghost use Rattle.aia_model.specs.Vms.{vms_of, has_vm, has_vcpu};
 ghost use Rattle.aia_model.specs.Refusal.{refusal};
@@ -61,6 +63,30 @@ pub fn stores_reach_files_that_are_held()
         × ((stage_of x.world g).in_force ≡ peers_reach (home h g)) }
     ensures own { (x : CoreState) (h : History) (v : ℕ) → CoreStands x h → has_vm h v ≡ true
         → LeadsToOwn x.world v (λ g. devices_reach (home h g)) }
+{}
+
+/// In a core that stands for a history, whatever is being moved, a store of a device of a VM, or of
+/// one virtual hart for another of its VM, changes nothing, or touches one virtual hart of that VM
+/// alone: where stores are to reach it, a guest file that it holds or its slot, and at the file of
+/// its notice hart its own notice identity. The places of every other virtual hart, of its VM or of
+/// another one, stay as they are.
+pub fn a_store_of_a_vm_touches_its_own_alone()
+    ensures devices { (x : CoreState) (h : History) (u : World) (v addr value : ℕ)
+        → CoreStands x h → IsWhole x.world → has_vm h v ≡ true
+        → Reaches (route_of (table_of x.world.tables v) addr) x.world u (addr % PAGE) value
+        → (u ≡ x.world) ⊎ TouchesOneOf x.world u v (λ g. devices_reach (home h g)) }
+    ensures peers { (x : CoreState) (h : History) (u : World) (g : Vcpu) (value : ℕ)
+        → CoreStands x h → IsWhole x.world → has_vcpu h g ≡ true
+        → Relays (stage_of x.world g).in_force x.world u g value
+        → TouchesOwn x.world u g (peers_reach (home h g)) }
+    ensures devices_others { (x : CoreState) (h : History) (u : World) (g other : Vcpu)
+        → CoreStands x h → has_vcpu h g ≡ true → has_vcpu h other ≡ true → other ≢ g
+        → TouchesOwn x.world u g (devices_reach (home h g))
+        → view u other (home h other) ≡ view x.world other (home h other) }
+    ensures peers_others { (x : CoreState) (h : History) (u : World) (g other : Vcpu)
+        → CoreStands x h → has_vcpu h g ≡ true → has_vcpu h other ≡ true → other ≢ g
+        → TouchesOwn x.world u g (peers_reach (home h g))
+        → view u other (home h other) ≡ view x.world other (home h other) }
 {}
 
 /// What a plan knows it knows after every call of the core, of whatever kind: the call's contract,

@@ -27,21 +27,10 @@ use Rattle.aia_model.specs.GuestFile.{guest_file, guest_select, named_by}
 use Rattle.aia_model.specs.HomeOf.{home, free_file, place}
 use Rattle.aia_model.specs.Notice.{looks_at, look_saw, a_look_saw, ends_leave, noticed_by_store, noticed}
 use Rattle.aia_model.proofs.MoveLemmas.{same_vcpu, is_itself}
-use Rattle.aia_laws.specs.Told.{is_deliverable, is_ask, guest_said, begins_leave}
+use Rattle.aia_laws.specs.Told.{is_deliverable, is_ask, guest_said, begins_leave, names_vcpu, noticed_since}
 use Rattle.aia_laws.proofs.FileLemmas.{guest_n}
 use Rattle.aia_model.proofs.RefusalLemmas.{access_allowed}
 use Rattle.aia_model.specs.Histories.{IsHistory}
-
--- Whether a virtual hart, where there is one, is g.
-abbrev pub names_vcpu : Option Vcpu → Vcpu → Bool
-names_vcpu None g = false
-names_vcpu (Some x) g = is_vcpu g x
-
--- Whether the host was noticed of a virtual hart's interrupts no earlier than identity i was asked
--- for last there.
-unfoldable pub noticed_since : History → Vcpu → ℕ → Bool
-noticed_since [] g i = false
-noticed_since (event ∷ past) g i = names_vcpu (noticed past event) g || (not (begins_leave past event g || is_ask (guest_said past event g i)) && noticed_since past g i)
 
 -- ---- the invariant
 
