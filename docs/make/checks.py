@@ -1,0 +1,435 @@
+"""Sees whether the documents' tables, examples, figures and links are in step with the tree."""
+
+import re
+import subprocess
+from functools import cache
+
+from antt import TOP, clauses
+from markdown import anchors, documents, read, rows, section, sentences, spoken, words
+from pictures import address, limit
+from plans import KINDS, Move, Reader
+
+REFERENCE = "docs/REFERENCE.md"
+# The most words of a document; REFERENCE and DEFINITIONS have no limit.
+LIMITS = {"README.md": 1100, REFERENCE: None, "docs/DEFINITIONS.md": None}
+MOST_WORDS = 4000
+# The parts of a machine, with the limits that say how many there may be.
+SIZES = {
+    "harts": ["HARTS"],
+    "guest files of each hart": ["GUEST_FILES"],
+    "identities": ["IDENTITIES"],
+    "wired sources": ["SOURCES"],
+    "VMs": ["VMS"],
+    "virtual harts of a VM": ["VM_VCPUS", "VCPUS"],
+}
+PLACES = [
+    "root_region",
+    "child_region",
+    "machine_page",
+    "supervisor_page",
+    "slot_address",
+    "table_address",
+]
+CALLED = {"leave": "a leave", "arrive": "an arrival", "shift": "a shift"}
+ALONE = ["README.md", REFERENCE, "docs/PROMISES.md"]
+
+
+def ticked(cell):
+    """Lists what stands in a cell as code."""
+    return re.findall(r"`([^`]+)`", cell)
+
+
+def differ(where, stands, wanted):
+    """Says what a table lacks, and what it has too much."""
+    for name in sorted(set(wanted) - set(stands)):
+        yield f"{where} lacks {name}"
+    for name in sorted(set(stands) - set(wanted)):
+        yield f"{where} has {name}, which the tree does not have"
+
+
+def form(right):
+    """Gives a form of line as its words, `#` for a number and INS for a CSR instruction."""
+    found = []
+    for word, number, _ in re.findall(
+        r'Keyword \(codes "(\w+)"\)|\b(Decimal32|Decimal|Hex32|Hex|Bit) \w+|(instruction \()', right
+    ):
+        found.append(word or ("#" if number else "INS"))
+    return " ".join(found)
+
+
+def number_or(word):
+    """Gives a word of a form as it stands, but `#` for one in capitals, which is a number."""
+    return "#" if re.fullmatch(r"[A-Z][A-Z0-9]*", word) and word != "INS" else word
+
+
+def lines():
+    """Compares the forms of lines with the table `fields_of`, and the CSRs of each level."""
+    wanted = [form(right) for _, right in clauses("aia_model", "Grammar", "fields_of")]
+    stands, told = [], {}
+    for cells in rows(section(REFERENCE, "Lines")):
+        for text in ticked(cells[0]):
+            stands.append(" ".join(number_or(word) for word in text.split()))
+            told[text] = ticked(cells[1])
+    yield from differ(f"{REFERENCE}, Lines,", stands, wanted)
+    levels = {"levels.Machine": "m H INS", "levels.Host": "h H INS", "levels.Guest": "g VM C INS"}
+    for level, right in clauses("aia_model", "Grammar", "csr_names"):
+        names = re.findall(r'codes "(\w+)"', right)
+        row = levels[level.strip()]
+        yield from differ(f"{REFERENCE}, Lines, {row},", told.get(row, []), names)
+    spelled = [form(right.replace("csr ∷", 'Keyword (codes "CSR") ∷'))
+               for _, right in clauses("aia_model", "Grammar", "instruction")]
+    said = re.search(r"(?s)^INS is (.*?)\. ", section(REFERENCE, "Lines"), re.M)
+    got = [text.replace(" V", " #") for text in ticked(said.group(1) if said else "")]
+    yield from differ(f"{REFERENCE}, INS,", got, spelled)
+
+
+def answers():
+    """Compares the answers with their spellings, and the refusals with their order."""
+    first = {}
+    for name in ("answer_word", "refusal_word", "entry_text"):
+        for pattern, right in clauses("aia_model", "AnswerText", name):
+            if match := re.match(r'codes "(\w+)', right):
+                key = pattern.strip("()").split()[0].split(".")[-1]
+                first[(name, key)] = match.group(1)
+    table = rows(section(REFERENCE, "Answers"))
+    stands = [text.split()[0] for cells in table for text in ticked(cells[0])]
+    yield from differ(f"{REFERENCE}, Answers,", stands, first.values())
+    order = []
+    looked_for = clauses("aia_model", "Refusal", "refusals")[0][1]
+    for refused, key in re.findall(r"\((Refused )?([\w.]+), \w+\)", looked_for):
+        kind = "refusal_word" if refused else "answer_word"
+        order.append(first[(kind, key.split(".")[-1])])
+    got = [ticked(c[0])[0] for c in table if c[1].startswith("refused:") and c[0] != "`bad`"]
+    if got != order:
+        yield f"{REFERENCE}, Answers: the refusals stand as {got}, and are looked for as {order}"
+
+
+def statuses():
+    """Compares the exit statuses with the numbers that the contract of `command` has."""
+    path = next(TOP.glob("crates/*/specs/Command.antt"))
+    wanted = re.findall(r"\d+", clauses(path.parts[-3], "Command", "exit_numbers")[0][1])
+    stands = [cells[0] for cells in rows(section(REFERENCE, "Exit statuses"))]
+    yield from differ(f"{REFERENCE}, Exit statuses,", [s for s in stands if s != "1"], wanted)
+
+
+def places():
+    """Compares the map with the address map, and the sizes of a machine with its limits."""
+    wanted = [address(name) for name in PLACES]
+    stands = [text for cells in rows(section(REFERENCE, "The map")) for text in ticked(cells[0])]
+    yield from differ(f"{REFERENCE}, The map,", stands, wanted)
+    sizes = {cells[0].split(",")[0]: cells[1] for cells in rows(section(REFERENCE, "The machine"))}
+    for part, names in SIZES.items():
+        limits = [limit(name) for name in names]
+        if re.findall(r"\d+", sizes.get(part, "").replace(",", ""))[-len(limits):] != limits:
+            yield f"{REFERENCE}, The machine: of {part} the most are {' and '.join(limits)}"
+
+
+def formula(text, words_, w):
+    """Computes a formula of docs/MOVES.md in W and w."""
+    plain = re.sub(r"(\d)(W|w)", r"\1 * \2", text)
+    return Reader(plain, {"W": words_, "w": w}).value()
+
+
+def plans():
+    """Compares the tables of docs/MOVES.md with the plans."""
+    table = {cells[0]: cells[1:] for cells in rows(section("docs/MOVES.md", "The three plans"))}
+    for at, kind in enumerate(KINDS, 1):
+        for size in (1, 2, 5):
+            move = Move(kind, size)
+            wanted = set()
+            for name, w in move.accesses():
+                row = f"`{name}`" if w is None else f"`{name} w`"
+                wanted.add(row)
+                cell = table.get(row, [""] * 4)[at]
+                if not cell or formula(cell, size, w or 0) != move.step(name, w) + 1:
+                    yield f"docs/MOVES.md: {name} of {CALLED[kind]} is not at step '{cell}'"
+            for name, cells in table.items():
+                if cells[at] and name not in wanted:
+                    yield f"docs/MOVES.md: {CALLED[kind]} has no {name}"
+    yield from stands_where()
+
+
+def stands_where():
+    """Compares the table of what stands where with the definitions that its last column names."""
+    text = section("docs/MOVES.md", "Why each step may be followed by anything")
+    for name, *cells, word in rows(text):
+        if len(cells) != 3:
+            continue
+        of = (ticked(word) or [""])[0]
+        for kind, cell in zip(KINDS, cells):
+            for size in (1, 3):
+                move = Move(kind, size)
+                for problem in compared(move, name, of, cell, size):
+                    yield f"docs/MOVES.md: {name}, of {CALLED[kind]}: {problem}"
+
+
+def compared(move, name, of, cell, size):
+    """Says where one cell of that table differs from a definition."""
+    if of in ("devices_reach", "peers_reach"):
+        past = int(re.search(r"k < (\d+)", cell)[1])
+        got = ["old" if k < past else "new" for k in range(move.length() + 1)]
+        if got != [move.place("Routes", of, k) for k in range(move.length() + 1)]:
+            yield f"'{cell}' is not {of}"
+    elif of in ("pending_step", "enables_step"):
+        take = "TakePending" if of == "pending_step" else "TakeEnables"
+        if any(formula(cell, size, w) != move.step(take, w) + 1 for w in range(size)):
+            yield f"'{cell}' is not {of}"
+    elif of.endswith("_steps") and formula(cell, size, 0) != move.length():
+        yield f"'{cell}' is not how many steps there are"
+    elif of == "is_watched" or (cell and of.endswith(("in_own", "in_next"))):
+        for w in range(size if of == "is_watched" else 1):
+            for k in range(move.length() + 1):
+                if holds(cell, k, size, w) != is_so(move, of, name, k, w):
+                    yield f"'{cell}' is not {of}"
+
+
+def is_so(move, of, name, k, w):
+    """Says whether what a row of that table names stands so after k steps."""
+    if of == "is_watched":
+        return move.is_watched(w, k)
+    number = "delivery" if "delivery" in of else "threshold"
+    return move.number_at(number, k) == ("old" if "old file" in name else "new")
+
+
+def holds(cell, k, size, w):
+    """Computes whether a cell of that table says that something is so after k steps."""
+    for pattern, test in (
+        (r"while k < (.*)", lambda n: k < n),
+        (r"while k = (.*)", lambda n: k == n),
+        (r"from k = (.*) on", lambda n: k >= n),
+    ):
+        if match := re.fullmatch(pattern, cell):
+            return test(formula(match[1], size, w))
+    return False
+
+
+@cache
+def libraries():
+    """Gives each crate of crates.txt with the libraries that it uses."""
+    found = {}
+    for line in (TOP / "crates.txt").read_text(encoding="utf-8").split("\n"):
+        if match := re.match(r"(\w+)[^:#]*:([^#]*)", line):
+            found[match.group(1)] = match.group(2).split()
+    return found
+
+
+def crates():
+    """Compares the crates of ARCHITECTURE and PROMISES with crates.txt."""
+    wanted = list(libraries())
+    table = rows(section("docs/ARCHITECTURE.md", "The crates"))
+    stands = [name for cells in table for name in ticked(cells[0])]
+    yield from differ("docs/ARCHITECTURE.md, The crates,", stands, wanted)
+    promises = " ".join(read(n) for n in documents() if "PROMISES" in n or "/promises/" in n)
+    for crate in wanted:
+        if not re.search(rf"\b{crate}\b", promises):
+            yield f"docs/PROMISES.md says nothing of {crate}"
+    told = " ".join(section("docs/ARCHITECTURE.md", "The crates").split())
+    under = len(below("aia")) - 1
+    for part in (
+        f"These are {len(wanted)} crates: `aia` and the {under} that it stands on",
+        f"and {len(wanted) - 1 - under} that only look at them",
+        f"The longest chain of crates has {max(map(depth, wanted))}.",
+    ):
+        if part not in told:
+            yield f"docs/ARCHITECTURE.md, The crates, does not say: {part}"
+
+
+def promised():
+    """Sees that docs/promises names functions and clauses that are there, and each law."""
+    for name in documents():
+        if not name.startswith("docs/promises/"):
+            continue
+        for heading, body in re.findall(r"(?ms)^## `(\w+)`.*?\n(.*?)(?=^## |\Z)", read(name)):
+            text = source(heading)
+            if text is None:
+                yield f"{name} speaks of {heading}, which is no crate"
+                continue
+            yield from named_there(name, heading, body, text)
+
+
+def source(crate):
+    """Gives the code of a crate, or None."""
+    files = sorted((TOP / "crates" / crate / "src").glob("**/*.rt"))
+    return "\n".join(f.read_text(encoding="utf-8") for f in files) if files else None
+
+
+def contracts(text):
+    """Gives the names of the clauses of each function of some code, by its name."""
+    found = {}
+    for piece in re.split(r"\bfn (?=\w)", text)[1:]:
+        of = found.setdefault(re.match(r"\w+", piece)[0], set())
+        of |= set(re.findall(r"\bensures\*? (\w+) \{", piece))
+    return found
+
+
+def named_there(name, crate, body, text):
+    """Says which functions, clauses and laws of one crate a page has wrong or leaves out."""
+    of_each = contracts(text)
+    anywhere = set().union(*of_each.values()) if of_each else set()
+    now = anywhere
+    for first, second, *_ in (c if len(c) > 2 else ["", c[0]] for c in rows(body)):
+        words_ = [re.sub(r"\(.*", "", word).split("::")[-1] for word in ticked(first)]
+        words_ = [word for word in words_ if re.fullmatch(r"[a-z_0-9]+", word)]
+        for word in words_:
+            if word not in of_each and word not in anywhere:
+                yield f"{name}: {crate} has no function {word}"
+        if words_:
+            now = set().union(*(of_each.get(word, anywhere) for word in words_))
+        for clause in ticked(second):
+            if re.fullmatch(r"[a-z_0-9]+", clause) and clause not in now | set(of_each):
+                if not in_specs(crate, clause):
+                    yield f"{name}: {crate}, {words_ or 'there'}, has no clause {clause}"
+    laws = TOP / "crates" / crate / "src/laws.rt"
+    if laws.exists():
+        for law in re.findall(r"(?m)^pub fn (\w+)", laws.read_text(encoding="utf-8")):
+            if law not in body:
+                yield f"{name} does not name the law {law} of {crate}"
+
+
+def in_specs(crate, clause):
+    """Says whether a record of definitions, or a trait, of the crate or a library has the name."""
+    for of in [crate, *libraries().get(crate, [])]:
+        for path in (TOP / "crates" / of / "specs").glob("*.antt"):
+            if re.search(rf"(?m)^  pub {clause} :", path.read_text(encoding="utf-8")):
+                return True
+        traits = re.findall(r"(?ms)^pub trait .*?^}", source(of) or "")
+        if re.search(rf"\bensures\*? {clause} \{{", "\n".join(traits)):
+            return True
+    return False
+
+
+def replayed(name):
+    """Gives a script's lines beside their answers."""
+    answers_ = iter((TOP / f"{name}.out").read_text(encoding="utf-8").splitlines())
+    for line in (TOP / f"{name}.script").read_text(encoding="utf-8").splitlines():
+        if line and not line.startswith("#"):
+            yield line, next(answers_)
+
+
+def shown():
+    """Compares the example of README with the script that it is from."""
+    text = section("README.md", "An example")
+    block = re.search(r"(?ms)^```\n(.*?)^```", text)
+    of = re.search(r"\(examples/([\w-]+)\.script\)", text)
+    if not block or not of:
+        yield "README.md shows no example, or does not say of which script it is"
+        return
+    script, at = list(replayed(f"examples/{of.group(1)}")), 0
+    for line in block.group(1).rstrip("\n").split("\n"):
+        want = tuple(re.split(r"  +", line)[:2])
+        where = [k for k in range(at, len(script)) if script[k] == want]
+        if not where:
+            yield f"README.md shows {want}, which examples/{of.group(1)} does not have there"
+            return
+        at = where[0] + 1
+
+
+def ran(command, text):
+    """Gives what a command prints, given a text."""
+    return subprocess.run(command, input=text, capture_output=True, text=True, timeout=60)
+
+
+def tried():
+    """Runs the first comparison of TRACES and the numbers of `gen`, where the program is built."""
+    program = TOP / "crates/aia/out/aia"
+    if not program.exists():
+        return
+    text = section("docs/TRACES.md", "A first comparison")
+    here = dict(re.findall(r"(?ms)^cat > (\S+) <<'END'\n(.*?)^END\n", text))
+    run = ran([program, "replay"], here["mine.script"])
+    texts = [line for line in here["mine.script"].splitlines() if not line.startswith("#")]
+    mine, model = here["mine.out"].splitlines(), run.stdout.splitlines()
+    off = [(t, m, a) for t, m, a in zip(texts, model, mine) if a not in ("-", m)]
+    said = re.search(r"(?m)^line \d+: (.*)\n  model: (.*)\n  mine:  (.*)$", read("docs/TRACES.md"))
+    if off != [said.group(1, 2, 3)] or len(texts) != len(mine):
+        yield f"docs/TRACES.md: its first comparison gives {off}"
+    count, seed = re.search(r"`gen (\d+) (\d+)` prints", spoken(read(REFERENCE))).groups()
+    run = ran([program, "gen", count, seed], "")
+    told = " ".join(spoken(read(REFERENCE)).split())
+    for line in run.stdout.splitlines():
+        if f"`{line}`" not in told:
+            yield f"{REFERENCE}: gen {count} {seed} prints {line}"
+
+
+def below(crate):
+    """Gives the crates that a crate stands on, itself among them."""
+    found, open_ = set(), [crate]
+    while open_:
+        if (of := open_.pop()) not in found:
+            found.add(of)
+            open_ += [lib for lib in libraries().get(of, []) if lib in libraries()]
+    return found
+
+
+@cache
+def depth(crate):
+    """Gives how many crates the longest chain below a crate has, itself among them."""
+    return 1 + max((depth(lib) for lib in libraries()[crate] if lib in libraries()), default=0)
+
+
+def newest(paths):
+    """Gives the day and the name of the newest commit that touches paths."""
+    found = subprocess.run(
+        ["git", "-C", str(TOP), "log", "-1", "--format=%cs %h", "--", *paths],
+        capture_output=True, text=True, check=True,
+    ).stdout.split()
+    return tuple(found) if found else ("", "")
+
+
+def dated():
+    """Compares the days of figures with the day on which what they measure last changed."""
+    code = [f"crates/{crate}/src" for crate in sorted(below("aia"))]
+    measured = section("docs/PERFORMANCE.md", "What was measured")
+    kinds = [
+        ("docs/PERFORMANCE.md, What was measured,", measured, code),
+        ("README.md, minutes,", section("README.md", "Build and run"), ["crates", "crates.txt"]),
+    ]
+    for where, text, paths in kinds:
+        days = re.findall(r"\d{4}-\d\d-\d\d", text)
+        day, commit = newest(paths)
+        if not days:
+            yield f"{where} has no day"
+        elif max(days) < day:
+            yield f"{where} is of {max(days)}, and what it measures changed on {day} ({commit})"
+
+
+def linked():
+    """Sees that links between documents lead somewhere."""
+    for name in documents():
+        folder = (TOP / name).parent
+        for link in re.findall(r"\]\(([^)\s]+)\)", spoken(read(name))):
+            if re.match(r"[a-z]+:", link):
+                continue
+            path, _, anchor = link.partition("#")
+            target = (folder / path).resolve() if path else TOP / name
+            if not target.exists():
+                yield f"{name} links to {link}, which is not there"
+            elif anchor and anchor not in anchors(str(target.relative_to(TOP))):
+                yield f"{name} links to {link}, and there is no such heading"
+
+
+def patient():
+    """Sees that no document is longer than its reader's patience."""
+    for name in documents():
+        limit = LIMITS.get(name, MOST_WORDS)
+        if limit and (count := words(name)) > limit:
+            yield f"{name} has {count} words, and may have {limit}"
+
+
+def alone():
+    """Sees that README, REFERENCE and PROMISES share no sentence."""
+    seen = {}
+    for name in ALONE + [n for n in documents() if n.startswith("docs/promises/")]:
+        for sentence in set(sentences(name)):
+            pages = "docs/promises"
+            of = seen.get(sentence)
+            if of and not (of.lower().startswith(pages) and name.lower().startswith(pages)):
+                yield f"{of} and {name} share: {sentence[:90]}"
+            seen.setdefault(sentence, name)
+
+
+def drifts():
+    """Says each place where a document is not in step."""
+    for check in (lines, answers, statuses, places, plans, crates, promised, shown, tried, dated,
+                  linked, patient, alone):
+        yield from check()

@@ -1,0 +1,95 @@
+"""Makes the tables of docs/STRENGTH.md of the edits in must-fail/, and of refusals.txt."""
+
+import re
+
+from antt import TOP
+
+TARGET = TOP / "docs/STRENGTH.md"
+REFUSALS = TOP / "docs/make/refusals.txt"
+HEAD = ["| Edit | Turns | Into | Refused by |", "|---|---|---|---|"]
+BEGIN, END = "<!-- edits, by `suite/documents make` -->", "<!-- /edits -->"
+
+
+def edits():
+    """Lists the edits as (crate, name, file, pairs of old and new)."""
+    found = []
+    for path in sorted(TOP.glob("crates/*/must-fail/*.edit")):
+        lines = path.read_text(encoding="utf-8").split("\n")
+        file = next(line[6:] for line in lines if line.startswith("file: "))
+        old = [line[5:] for line in lines if line.startswith("old: ")]
+        new = [line[5:] for line in lines if line.startswith("new: ")]
+        found.append((path.parts[-3], path.stem, file, list(zip(old, new))))
+    return found
+
+
+def refusals():
+    """Gives what each edit's refusal names, as the table kept by hand says."""
+    found = {}
+    for line in REFUSALS.read_text(encoding="utf-8").split("\n"):
+        match = re.match(r"(\w+) (\w+): (.+)", line)
+        if match:
+            found[match.group(1), match.group(2)] = match.group(3)
+        elif line and not line.startswith("#"):
+            raise SystemExit(f"docs/make/refusals.txt has a line of no edit: {line}")
+    return found
+
+
+def code(text):
+    """Gives code as a cell of a table, cut where it is long."""
+    text = text.strip()
+    if len(text) > 64:
+        text = text[:61].rstrip() + ".."
+    return f"`{text}`".replace("|", "\\|") if text else "nothing"
+
+
+def differing(old, new):
+    """Gives the parts of two lines of code that differ, with the words around them."""
+    if len(old) <= 64 and len(new) <= 64:
+        return old, new
+    first = next((i for i, (a, b) in enumerate(zip(old, new)) if a != b), min(len(old), len(new)))
+    first = max(0, old.rfind(" ", 0, max(0, first - 2)) + 1)
+    return old[first:], new[first:]
+
+
+def table():
+    """Gives the tables of all edits, by crate."""
+    told, out, crate = refusals(), [], None
+    for of, name, file, pairs in edits():
+        if of != crate:
+            crate = of
+            out += ["", f"**`{crate}`**", "", *HEAD]
+        olds, news = zip(*[differing(old, new) for old, new in pairs])
+        turns = ", ".join(code(old) for old in olds)
+        into = ", ".join(code(new) for new in news)
+        words = name.replace("_", " ")
+        path = f"../crates/{of}/must-fail/{name}.edit"
+        by = told.get((of, name), "?")
+        out.append(f"| [{words}]({path}) | {file}: {turns} | {into} | {by} |")
+    crates = len({of for of, *_ in edits()})
+    head = f"{len(edits())} edits stand today, in {crates} crates."
+    return "\n".join([BEGIN, head, *out, END])
+
+
+def rendered():
+    """Gives the document with its tables made anew."""
+    text = TARGET.read_text(encoding="utf-8")
+    if BEGIN not in text or END not in text:
+        raise SystemExit("docs/STRENGTH.md has no place for the tables of edits")
+    before, rest = text.split(BEGIN, 1)
+    return before + table() + rest.split(END, 1)[1]
+
+
+def drifts():
+    """Says where the tables differ from the edits, and which edits nothing is said of."""
+    there = {(of, name) for of, name, _, _ in edits()}
+    for of, name in sorted(there - set(refusals())):
+        yield f"docs/make/refusals.txt does not say what refuses {of} {name}"
+    for of, name in sorted(set(refusals()) - there):
+        yield f"docs/make/refusals.txt speaks of {of} {name}, which is no edit"
+    if rendered() != TARGET.read_text(encoding="utf-8"):
+        yield "docs/STRENGTH.md: its tables drift from must-fail/ or docs/make/refusals.txt"
+
+
+def make():
+    """Writes the tables into the document."""
+    TARGET.write_text(rendered(), encoding="utf-8")
