@@ -134,7 +134,7 @@ module _ (w u : World) (g : Vcpu) (offset value : ℕ) (whole : IsWhole w) (ther
 
 -- ---- a device's store
 
-guest_spot : (i : ImsicState) (p : Place) → i.harts ≤ 4 → i.guests ≤ 7 → IsThere i (spot_of p) → page_spot i (guest_page p.hart p.file / 0x1000) ≡ spot_of p
+pub guest_spot : (i : ImsicState) (p : Place) → i.harts ≤ 4 → i.guests ≤ 7 → IsThere i (spot_of p) → page_spot i (guest_page p.hart p.file / 0x1000) ≡ spot_of p
 guest_spot i p few eight there =
     let page : guest_page p.hart p.file / 0x1000 * 0x1000 ≡ guest_page p.hart p.file = omega arith in
     spot_of_guest i.harts i.guests (guest_page p.hart p.file / 0x1000 * 0x1000) p.hart p.file few eight there.0 there.1 there.2
@@ -180,7 +180,7 @@ peer_touches w u g (Some p) value whole there relays = elim (cases_Bool (nat_lt 
 
 -- ---- the places of another virtual hart
 
-own_is_held : (there : Home) (p : Place) → own_file there ≡ Some p → holds p there ≡ true
+pub own_is_held : (there : Home) (p : Place) → own_file there ≡ Some p → holds p there ≡ true
 own_is_held Parked p e = absurd (cc)
 own_is_held (Resident q) p e = let same : p ≡ q = cc in subst (λ x. is_place p x ≡ true) same (is_place-refl p)
 own_is_held (Leaving from at) p e = let same : p ≡ from = cc in subst (λ x. is_place p x ≡ true) same (is_place-refl p)
@@ -191,7 +191,7 @@ or_right : (a b : Bool) → b ≡ true → (a || b) ≡ true
 or_right true b e = refl
 or_right false b e = e
 
-next_is_held : (there : Home) (p : Place) → next_file there ≡ Some p → holds p there ≡ true
+pub next_is_held : (there : Home) (p : Place) → next_file there ≡ Some p → holds p there ≡ true
 next_is_held (Shifting from to at) p e = let same : p ≡ to = cc in let held : is_place p to ≡ true = subst (λ x. is_place p x ≡ true) same (is_place-refl p) in or_right (is_place p from) (is_place p to) held
 next_is_held there p e = absurd (cc)
 
