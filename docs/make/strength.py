@@ -51,6 +51,23 @@ def differing(old, new):
     return old[first:], new[first:]
 
 
+def has_written_proof(crate, file, old):
+    """Says whether the function in which a line stands has a proof written by hand."""
+    text = (TOP / "crates" / crate / file).read_text(encoding="utf-8")
+    before = re.findall(r"\bfn (\w+)", text[: text.find(old)])
+    folder = TOP / "crates" / crate / "proofs"
+    if file not in ("src/lib.rt", "src/main.rt"):
+        folder /= file.removeprefix("src/").removesuffix(".rt")
+    return bool(before) and any(folder.glob(f"**/{before[-1]}/*.antt"))
+
+
+def star(crate, file, pairs):
+    """Gives the mark of an edit of a definition, or in a function with a hand-written proof."""
+    if not file.startswith("src/"):
+        return "\\*"
+    return "\\*" if any(has_written_proof(crate, file, old) for old, _ in pairs) else ""
+
+
 def table():
     """Gives the tables of all edits, by crate."""
     told, out, crate = refusals(), [], None
@@ -63,7 +80,7 @@ def table():
         into = ", ".join(code(new) for new in news)
         words = name.replace("_", " ")
         path = f"../crates/{of}/must-fail/{name}.edit"
-        by = told.get((of, name), "?")
+        by = told.get((of, name), "?") + star(of, file, pairs)
         out.append(f"| [{words}]({path}) | {file}: {turns} | {into} | {by} |")
     crates = len({of for of, *_ in edits()})
     head = f"{len(edits())} edits stand today, in {crates} crates."

@@ -12,16 +12,24 @@ ghost use Rattle.aia_io.specs.Ends.{Rose};
 ghost use Rattle.aia_replay.specs.Runs.{FitsIn, IsDoneOrMemory, StopsAtMachine, Takes, TakesAll, TouchesNothing, WritesAnswers};
 ghost use Rattle.aia_program.specs.Command.{AreNoText, AreRefused, asked_by, exit_numbers, words_of};
 
-use aia_io::{Sink, Source};
+use aia_io::{Sink, Source, StdSink, StdSource};
 use aia_replay::{SCRIPT_BYTES, Status, run};
 use std::alloc::{AllocError, Global};
 use std::io::ErrorKind;
 use std::process::ExitCode;
 use std::{env, io};
 
+/// Runs the program over the standard streams by the words of its command line, and gives its exit
+/// status, which `command` speaks of.
+pub fn start(rt: &HostRuntime) -> ExitCode {
+    let mut source = StdSource::new(rt.stdin());
+    let mut sink = StdSink::new(rt.stdout());
+    command(rt.alloc(), arguments(rt), &mut source, &mut sink)
+}
+
 /// Reads the words of the command line, the program's name first. `Err`: one of them is no text,
 /// or there is no memory for them.
-pub fn arguments(rt: &HostRuntime) -> io::Result<Vec<String>> {
+fn arguments(rt: &HostRuntime) -> io::Result<Vec<String>> {
     let arguments = env::args(rt)?.collect(rt.alloc())?;
     Ok(arguments)
 }

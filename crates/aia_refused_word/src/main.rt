@@ -1,12 +1,9 @@
 //! The program `aia` with a word that is refused: it ends with status 2 and prints nothing.
 #![tactic(auto)]
 
-use aia_io::{StdSink, StdSource};
-use aia_program::{arguments, command};
+use aia_program::start;
 use std::process::ExitCode;
 
 fn main(rt: HostRuntime) -> ExitCode {
-    let mut source = StdSource::new(rt.stdin());
-    let mut sink = StdSink::new(rt.stdout());
-    command(rt.alloc(), arguments(&rt), &mut source, &mut sink)
+    start(&rt)
 }

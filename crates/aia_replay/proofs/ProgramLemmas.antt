@@ -6,7 +6,7 @@ use Rattle.aia_model.specs.Script.{answers}
 use Rattle.aia_replay.specs.declared.program.Status.{Status}
 use Rattle.aia_replay.specs.declared.program.Status.TheVariants.{Done, Usage, ReadFault, WriteFault, Memory, TooLong}
 use Rattle.aia_replay.specs.declared.limits.TheConstants.{SCRIPT_BYTES}
-use Rattle.aia_replay.specs.Runs.{IsScript, TakesAll, TakesAtMost, WritesAnswers, AnswersWhole, WritesLines, CutsLines, StopsAtMachine, EndsWith}
+use Rattle.aia_replay.specs.Runs.{IsScript, TakesAtMost, AnswersWhole, WritesLines, CutsLines, StopsAtMachine, EndsWith}
 use Rattle.aia_io.specs.Ends.{Supply, Gives, Rose}
 use Rattle.aia_replay.specs.Buffered.{CutOff}
 use Rattle.aia_replay.specs.declared.replayer.Replayer.{Replayer}

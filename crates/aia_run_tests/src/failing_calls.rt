@@ -3,6 +3,7 @@
 use crate::looks::holds;
 use crate::outcomes::{Ends, ends_with, outcome_of};
 use crate::rows::{Pairs, answers_of, lines_in, script_of};
+use crate::runs::ROOM;
 use crate::same;
 use aia_guest_vectors::rows::stepwise_moves::REQUEST_AGAIN_WHILE_IT_IS_CARRIED;
 use aia_replay::Status;

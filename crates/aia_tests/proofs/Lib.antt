@@ -1,1 +1,2 @@
+pub mod NineFacts
 pub mod TableFacts

@@ -4,7 +4,7 @@ ghost use Rattle.std.specs.Prelude.{◌≡◌, ◌<◌};
 
 use crate::looks::{holds, is_same};
 use crate::same;
-use aia_file::File;
+use aia_file::{File, Looks, search};
 use aia_imsic::{Imsic, Spot};
 use aia_regs::{FileReg, Op};
 use aia_steps::Steps;
@@ -139,8 +139,40 @@ fn asks(file: &mut File, identity: u32)
     file.set(FileReg::Enable(identity / 64 * 2), 1 << (identity % 64));
 }
 
-/// Looks at a file by counted calls. That each adds two steps at most, its clauses say: a count has
-/// no value while the program runs.
+/// Two sets of one word, in which identity 9 alone is, with a count of the looks at them.
+#[derive(Drop)]
+struct OnlyNine<L: Ledger> {
+    steps: Steps<L>,
+}
+
+impl<L: Ledger> Looks for OnlyNine<L> {
+    ghost use Rattle.std.specs.Prelude.{nat_eq, ⊤};
+
+    ghost width = { λ _. 1 };
+
+    ghost pending = { λ _ i. nat_eq i 9 };
+
+    ghost enabled = { λ _ i. nat_eq i 9 };
+
+    ghost count = { λ v. v.steps };
+
+    ghost IsSamePlace = { λ _ _. ⊤ };
+
+    fn summary(&mut self) -> u64 {
+        self.steps.count_one();
+        1
+    }
+
+    fn pair(&mut self, _k: u32) -> (u64, u64) {
+        self.steps.count_one();
+        (0x200, 0x200)
+    }
+
+    ghost same_place_follows = { λ a b c first second. tt };
+}
+
+/// Looks at a file by counted calls, and searches two sets by the search itself. That each adds one
+/// step or two, its clauses say: a count has no value while the program runs.
 fn looks_are_counted<L: Ledger>(rt: &impl Abort, file: &mut File, blank: Blank)
     requires name { blank.name ≡ L.name }
     requires parts { blank.parts ≡ L.parts }
@@ -153,6 +185,9 @@ fn looks_are_counted<L: Ledger>(rt: &impl Abort, file: &mut File, blank: Blank)
     threshold(file, Op::Write(0));
     is_same(rt, file.claim_counted(&mut steps), 0x82_0082);
     is_same(rt, file.top(), 0x7ff_07ff);
+    let mut nine = OnlyNine { steps };
+    is_same(rt, search(&mut nine, 0), 0x9_0009);
+    is_same(rt, search(&mut nine, 9), 0);
 }
 
 #[test]

@@ -1,18 +1,11 @@
-//! The tests of the parts: each public call of a crate below `aia_replay`, with ample memory.
+//! The tests of the parts: each public call of a crate below `aia_replay`, with ample memory, but for
+//! those of wired sources, which `aia_wired_tests` calls.
 #![tactic(auto)]
 
 #[cfg(test)]
 mod accesses;
 #[cfg(test)]
-mod addresses;
-#[cfg(test)]
-mod aplic;
-#[cfg(test)]
 mod command_lines;
-#[cfg(test)]
-mod delivery_controls;
-#[cfg(test)]
-mod domains;
 #[cfg(test)]
 mod fabric;
 #[cfg(test)]
@@ -36,10 +29,6 @@ mod registers;
 #[cfg(test)]
 mod sets;
 #[cfg(test)]
-mod sources;
-#[cfg(test)]
 mod spellings;
 #[cfg(test)]
 mod tables;
-#[cfg(test)]
-mod waiting;

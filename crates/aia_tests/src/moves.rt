@@ -208,6 +208,94 @@ fn a_plan_makes_one_access_a_step(rt: HostRuntime) -> Result<(), Fail> {
     Ok(())
 }
 
+/// Writes word 0 of the entry of virtual hart 1, and puts it in force.
+fn enter(fabric: &mut Fabric, word: u64) {
+    if fabric.has_vcpu(0, 1) {
+        fabric.put_word(0, 1, 0, word);
+        fabric.fence(0, 1);
+    }
+}
+
+/// The first three steps of a leave take eidelivery and write both words of the entry, and put
+/// nothing in force.
+#[test]
+fn a_leave_writes_the_entry_in_its_third_step(rt: HostRuntime) -> Result<(), Fail> {
+    let mut fabric = one_vm(rt.alloc())?;
+    let mut pool = Pool::new(rt.alloc(), 2, 1)?;
+    enter(&mut fabric, 0x0a00_2407);
+    let (Some(who), Some(from)) = (who_is(&fabric, 0, 1), pool.take(1)) else {
+        holds(&rt, false);
+        return Ok(());
+    };
+    holds(&rt, leaves(&mut fabric, who, from));
+    let in_file = Route::To(Entry::Basic(0x28009));
+    same!(rt; stores(&mut fabric, 0, 0x2800_8000, 5), Some(in_file));
+    put_in_force(&mut fabric);
+    let in_memory = Route::To(Entry::Mrif(0x8000_0200, 0x28008, 2));
+    same!(rt; stores(&mut fabric, 0, 0x2800_8000, 6), Some(in_memory));
+    Ok(())
+}
+
+/// Begins to move a virtual hart from a guest file to memory, and tells whether the move goes on
+/// after its third step.
+fn leaves(fabric: &mut Fabric, who: Who, from: FileLease) -> bool
+    requires { IsWho fabric.old who }
+{
+    if from.hart() >= fabric.harts() || from.file() == 0 || from.file() > fabric.guests() {
+        return false;
+    }
+    let plan = Plan::leave(from, who);
+    let _words = fabric.words();
+    let Next::Again(plan) = plan.step(fabric) else {
+        return false;
+    };
+    let Next::Again(plan) = plan.step(fabric) else {
+        return false;
+    };
+    matches!(plan.step(fabric), Next::Again(_))
+}
+
+/// The first two steps of a shift take eidelivery and write the entry, and put nothing in force.
+#[test]
+fn a_shift_writes_the_entry_in_its_second_step(rt: HostRuntime) -> Result<(), Fail> {
+    let mut fabric = one_vm(rt.alloc())?;
+    let mut pool = Pool::new(rt.alloc(), 2, 1)?;
+    enter(&mut fabric, 0x0a00_0407);
+    let Some(who) = who_is(&fabric, 0, 1) else {
+        holds(&rt, false);
+        return Ok(());
+    };
+    holds(&rt, shifts(&mut fabric, who, pool.take(0), pool.take(1)));
+    let in_old_file = Route::To(Entry::Basic(0x28001));
+    same!(rt; stores(&mut fabric, 0, 0x2800_8000, 5), Some(in_old_file));
+    put_in_force(&mut fabric);
+    let in_new_file = Route::To(Entry::Basic(0x28009));
+    same!(rt; stores(&mut fabric, 0, 0x2800_8000, 6), Some(in_new_file));
+    Ok(())
+}
+
+/// Begins to move a virtual hart from a guest file to another, and tells whether the move goes on
+/// after its second step.
+fn shifts(fabric: &mut Fabric, who: Who, old: Option<FileLease>, new: Option<FileLease>) -> bool
+    requires { IsWho fabric.old who }
+{
+    let (Some(old), Some(new)) = (old, new) else {
+        return false;
+    };
+    if old.hart() >= fabric.harts() || old.file() == 0 || old.file() > fabric.guests() {
+        return false;
+    }
+    if new.hart() >= fabric.harts() || new.file() == 0 || new.file() > fabric.guests() {
+        return false;
+    }
+    let plan = Plan::shift(old, new, who);
+    let _words = fabric.words();
+    let Next::Again(plan) = plan.step(fabric) else {
+        return false;
+    };
+    matches!(plan.step(fabric), Next::Again(_))
+}
+
 /// Begins to move a virtual hart to a guest file, and tells whether the move goes on after its
 /// first step.
 fn goes_on(fabric: &mut Fabric, who: Who, to: FileLease) -> bool

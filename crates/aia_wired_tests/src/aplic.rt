@@ -4,8 +4,11 @@ ghost use Rattle.std.specs.Prelude.{◌≡◌, ◌<◌, ◌≤◌};
 
 use crate::looks::{holds, is_same};
 use crate::same;
-use aia_aplic::{Aplic, Msi};
+use aia_aplic::{Aplic, Bits, Msi, bits_search};
+use aia_domain::Domain;
+use aia_regs::DomainReg;
 use aia_steps::Steps;
+use std::alloc::{AllocError, Global};
 use std::marker::Brand;
 use std::process::Abort;
 use std::sync::ledger::{Blank, Ledger};
@@ -62,8 +65,96 @@ fn a_child_signals_the_hart_that_a_source_is_aimed_at(rt: HostRuntime) -> Result
     Ok(())
 }
 
-/// Sends by counted calls the MSI of the last source, and then none. That each adds 32 steps at
-/// most, its clauses say: a count has no value while the program runs.
+/// The sources that two domains are to forward, looked at from outside.
+#[derive(Drop)]
+struct SourcesOf<'a, L: Ledger> {
+    first: &'a Domain,
+    second: &'a Domain,
+    steps: &'a mut Steps<L>,
+}
+
+impl<L: Ledger> Bits for SourcesOf<'_, L> {
+    ghost use Rattle.std.specs.Prelude.{◌≡◌, ◌+◌, if◌then◌else◌, nat_eq};
+    ghost use Rattle.std.proofs.Common.{◌∙◌, refl};
+    ghost use Rattle.aia_domain.specs.Domain.{is_ready};
+
+    ghost members = { λ v domain.
+        is_ready (if nat_eq domain 0 then v.first.now else v.second.now) };
+
+    ghost count = { λ v. v.steps.now };
+
+    ghost IsSamePlace = { λ v w. w.steps.ghost_name ≡ v.steps.ghost_name };
+
+    fn word(&mut self, domain: u32, k: u32) -> u64 {
+        self.steps.count_one();
+        if domain == 0 {
+            self.first.ready_word(k)
+        } else {
+            self.second.ready_word(k)
+        }
+    }
+
+    ghost same_place_begins = { λ a. refl };
+
+    ghost same_place_follows = { λ a b c first second. second ∙ first };
+}
+
+/// Makes a domain that is to forward a source.
+fn forwards(alloc: Global, s: u32) -> Result<Domain, AllocError>
+    requires some { 1 ≤ s }
+    requires few { s ≤ 1023 }
+{
+    let mut domain = Domain::new(alloc, 1023, 1, false)?;
+    domain.store(DomainReg::DomainCfg, 0x104);
+    domain.store(DomainReg::SourceCfg(s), 1);
+    domain.store(DomainReg::SetIeNum, s);
+    domain.store(DomainReg::SetIpNum, s);
+    Ok(domain)
+}
+
+/// Searches the sources of two domains.
+fn first_of<L: Ledger>(
+    first: &Domain,
+    second: &Domain,
+    steps: &mut Steps<L>,
+) -> Option<(u32, u32)> {
+    let mut bits = SourcesOf {
+        first,
+        second,
+        steps,
+    };
+    bits_search(&mut bits)
+}
+
+/// Searches where one domain has a lesser source, where both have the same, and where none has one.
+fn searches<L: Ledger>(
+    rt: &impl Abort,
+    of_70: &Domain,
+    of_1023: &Domain,
+    none: &Domain,
+    blank: Blank,
+)
+    requires name { blank.name ≡ L.name }
+    requires parts { blank.parts ≡ L.parts }
+    requires some { 0 < L.parts }
+{
+    let mut steps = Steps::<L>::new(blank);
+    is_same(rt, first_of(of_1023, of_70, &mut steps), Some((1, 70)));
+    is_same(rt, first_of(of_1023, of_1023, &mut steps), Some((0, 1023)));
+    is_same(rt, first_of(none, none, &mut steps), None);
+}
+
+#[test]
+fn the_least_source_of_two_domains_is_found(rt: HostRuntime) -> Result<(), Fail> {
+    let of_70 = forwards(rt.alloc(), 70)?;
+    let of_1023 = forwards(rt.alloc(), 1023)?;
+    let none = Domain::new(rt.alloc(), 8, 1, false)?;
+    searches::<Brand>(&rt, &of_70, &of_1023, &none, Blank::new(1));
+    Ok(())
+}
+
+/// Sends by counted calls the MSI of the last source, and then none. That the one adds 2 to 32
+/// steps and the other none, its clauses say: a count has no value while the program runs.
 fn looks_are_counted<L: Ledger>(rt: &impl Abort, aplic: &mut Aplic, blank: Blank)
     requires name { blank.name ≡ L.name }
     requires parts { blank.parts ≡ L.parts }

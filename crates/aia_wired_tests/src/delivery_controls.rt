@@ -4,7 +4,7 @@ ghost use Rattle.std.specs.Prelude.{◌≡◌, ◌<◌};
 
 use crate::looks::{holds, is_same};
 use crate::same;
-use aia_direct::{Idc, claimi, signal, topi, topi_counted};
+use aia_direct::{Front, Idc, claimi, front_search, signal, topi, topi_counted};
 use aia_domain::Domain;
 use aia_regs::DomainReg;
 use aia_steps::Steps;
@@ -31,8 +31,34 @@ fn the_least_priority_is_shown_and_claimed(rt: HostRuntime) -> Result<(), Fail> 
     Ok(())
 }
 
-/// Looks at what is on top by a counted call. That it adds one step at most, its clauses say: a
-/// count has no value while the program runs.
+/// The candidates of hart 0 in a domain, looked at from outside.
+#[derive(Drop)]
+struct CandidatesOf<'a, L: Ledger> {
+    domain: &'a Domain,
+    steps: &'a mut Steps<L>,
+}
+
+impl<L: Ledger> Front for CandidatesOf<'_, L> {
+    ghost use Rattle.std.specs.Prelude.{◌≡◌, ◌+◌};
+    ghost use Rattle.std.proofs.Common.{◌∙◌};
+    ghost use Rattle.aia_domain.specs.Domain.{candidates};
+
+    ghost pairs = { λ v. candidates v.domain.now 0 };
+
+    ghost count = { λ v. v.steps.now };
+
+    ghost IsSamePlace = { λ v w. w.steps.ghost_name ≡ v.steps.ghost_name };
+
+    fn at(&mut self, place: usize) -> Option<(u32, u32)> {
+        self.steps.count_one();
+        self.domain.candidate(0, place)
+    }
+
+    ghost same_place_follows = { λ a b c first second. second ∙ first };
+}
+
+/// Looks at what is on top by a counted call, and by the search itself. That each adds one step,
+/// its clauses say: a count has no value while the program runs.
 fn a_look_is_counted<L: Ledger>(rt: &impl Abort, domain: &Domain, blank: Blank)
     requires name { blank.name ≡ L.name }
     requires parts { blank.parts ≡ L.parts }
@@ -44,6 +70,12 @@ fn a_look_is_counted<L: Ledger>(rt: &impl Abort, domain: &Domain, blank: Blank)
     idc.store(DomainReg::IThreshold(0), 3);
     is_same(rt, topi_counted(&idc, domain, 0, &mut steps), 0);
     is_same(rt, topi(&idc, domain, 1), 0);
+    let mut front = CandidatesOf {
+        domain,
+        steps: &mut steps,
+    };
+    is_same(rt, front_search(&mut front, 0), 0x0001_0003);
+    is_same(rt, front_search(&mut front, 3), 0);
 }
 
 #[test]
