@@ -11,7 +11,7 @@ from plans import KINDS, Move, Reader
 
 REFERENCE = "docs/REFERENCE.md"
 # The most words of a document; REFERENCE and DEFINITIONS have no limit.
-LIMITS = {"README.md": 1100, REFERENCE: None, "docs/DEFINITIONS.md": None}
+LIMITS = {"README.md": 1150, REFERENCE: None, "docs/DEFINITIONS.md": None}
 MOST_WORDS = 4000
 # The parts of a machine, with the limits that say how many there may be.
 SIZES = {
@@ -306,21 +306,30 @@ def replayed(name):
 
 
 def shown():
-    """Compares the example of README with the script that it is from."""
+    """Compares the example of README with the script that it is from, gaps and all."""
     text = section("README.md", "An example")
     block = re.search(r"(?ms)^```\n(.*?)^```", text)
     of = re.search(r"\(examples/([\w-]+)\.script\)", text)
     if not block or not of:
         yield "README.md shows no example, or does not say of which script it is"
         return
-    script, at = list(replayed(f"examples/{of.group(1)}")), 0
+    script = list(replayed(f"examples/{of.group(1)}"))
+    # The lines of the script at which the part that is read so far may end; None: nothing is read.
+    ends, is_gap = None, False
     for line in block.group(1).rstrip("\n").split("\n"):
+        if line == "..":
+            is_gap = True
+            continue
         want = tuple(re.split(r"  +", line)[:2])
-        where = [k for k in range(at, len(script)) if script[k] == want]
-        if not where:
+        after = {k for k in range(len(script)) if script[k] == want}
+        if ends and is_gap:
+            after = {k for k in after if k > min(ends) + 1}
+        elif ends:
+            after = {k for k in after if k - 1 in ends}
+        if not after:
             yield f"README.md shows {want}, which examples/{of.group(1)} does not have there"
             return
-        at = where[0] + 1
+        ends, is_gap = after, False
 
 
 def ran(command, text):
@@ -329,7 +338,7 @@ def ran(command, text):
 
 
 def tried():
-    """Runs the first comparison of TRACES and the numbers of `gen`, where the program is built."""
+    """Runs what TRACES, MOVES and REFERENCE say to run, where the program is built."""
     program = TOP / "crates/aia/out/aia"
     if not program.exists():
         return
@@ -342,12 +351,28 @@ def tried():
     said = re.search(r"(?m)^line \d+: (.*)\n  model: (.*)\n  mine:  (.*)$", read("docs/TRACES.md"))
     if off != [said.group(1, 2, 3)] or len(texts) != len(mine):
         yield f"docs/TRACES.md: its first comparison gives {off}"
+    yield from printed(program)
     count, seed = re.search(r"`gen (\d+) (\d+)` prints", spoken(read(REFERENCE))).groups()
     run = ran([program, "gen", count, seed], "")
     told = " ".join(spoken(read(REFERENCE)).split())
     for line in run.stdout.splitlines():
         if f"`{line}`" not in told:
             yield f"{REFERENCE}: gen {count} {seed} prints {line}"
+
+
+def printed(program):
+    """Runs the two programs of TRACES in lockstep and the script of MOVES."""
+    for name, heading, shell, wanted in (
+        ("docs/TRACES.md", "In lockstep", ["python3", "-B", "-c"], r"(?s)This ends with `([^`]*)`"),
+        ("docs/MOVES.md", "Try it", ["bash", "-c"], r"(?ms)^It prints .*?^```\n(.*?)^```"),
+    ):
+        text = section(name, heading)
+        code = re.search(r"(?ms)^```(?:python|sh)\n(.*?)^```", text).group(1)
+        run = ran([*shell, code.replace("./aia", str(program))], "")
+        want = " ".join(re.search(wanted, text).group(1).split())
+        got = {" ".join(line.split()) for line in (run.stdout + run.stderr).splitlines()}
+        if got != {want}:
+            yield f"{name}, {heading}, prints {sorted(got)}"
 
 
 def below(crate):

@@ -26,3 +26,4 @@ pub mod MoveCalls
 pub mod MoveWhole
 pub mod MoveLines
 pub mod ExampleLemmas
+pub mod OwnStores

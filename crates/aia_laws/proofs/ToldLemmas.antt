@@ -2,7 +2,7 @@
 -- pending there until it is cleared.
 use Rattle.std.proofs.Common.{◌≡◌, ℕ, ◌+◌, ◌<◌, ◌≤◌, Bool, true, false, not, ◌&&◌, ◌||◌, if◌then◌else◌, nat_lt, List, [], ◌∷◌, length, Option, Some, None, inl, inr, refl, sym, ap, ◌∙◌, arith}
 use Rattle.std.specs.Int.{is_in_range}
-use Rattle.std.proofs.lemmas.Bool.{cases_lt, and_parts, and_from, or_cases, or_left, or_right, eq-eqb, cond-true, ltb-true, false≢true}
+use Rattle.std.proofs.lemmas.Bool.{cases_Bool, cases_lt, and_parts, and_from, or_cases, or_left, or_right, eq-eqb, cond-true, ltb-true, false≢true}
 use Rattle.std.proofs.lemmas.Bool.Decides.{nat_tests}
 use Rattle.aia_regs.specs.Word.{Word, settle}
 use Rattle.aia_regs.specs.Word.Word.{Ask, Clear, Nothing}
@@ -24,12 +24,12 @@ use Rattle.aia_model.specs.HomeOf.{home}
 use Rattle.aia_model.specs.Notice.{noticed}
 use Rattle.aia_model.proofs.FileLemmas.{file_step, newest_word, is_file-itself}
 use Rattle.aia_model.proofs.MoveLemmas.{same_vcpu}
-use Rattle.aia_laws.specs.Told.{is_deliverable, notice_file, notice_number, is_ask, is_clear, guest_said, host_said, begins_leave, told_since, cleared_since}
+use Rattle.aia_laws.specs.Told.{is_deliverable, notice_file, notice_number, is_ask, is_clear, guest_said, host_said, begins_leave, names_vcpu, noticed_since, told_since, cleared_since, cleared_since_notice}
 use Rattle.aia_laws.proofs.FileLemmas.{made_with, not_making, host_made, host_n}
 use Rattle.aia_model.proofs.RefusalLemmas.{machine_allowed, device_allowed, peer_allowed}
 use Rattle.aia_model.specs.Histories.{MayHappen, IsHistory}
 use Rattle.aia_laws.proofs.MachineLemmas.{machine_first, identities_for_all, enabled_in_words}
-use Rattle.aia_laws.proofs.NoticeLemmas.{names_vcpu, noticed_since, noticed_while_parked}
+use Rattle.aia_laws.proofs.NoticeLemmas.{noticed_while_parked}
 
 -- ---- a virtual hart keeps its file of the host and its identity
 
@@ -116,6 +116,11 @@ asked_since (event ∷ past) f n g i good its e = elim (or_cases (names_vcpu (no
     stays : has_vcpu past g ≡ true → (f ≡ notice_file past g) × (n ≡ notice_number past g)
     stays there = let kept = keeps_notices event past g there in let same = its kept.0 in (same.0 ∙ kept.1, same.1 ∙ kept.2)
 
+pub sent_while_parked : (h : History) (g : Vcpu) (i : ℕ) → IsHistory h → home h g ≡ Parked → is_deliverable h g i ≡ true → noticed_since h g i ≡ true
+sent_while_parked h g i good parked live =
+    let enabled = (and_parts ((guest_file h g).pending i) ((guest_file h g).enabled i) live).1 in
+    noticed_while_parked h g i good (enabled_in_words h g i good enabled) parked live
+
 pub told_while_parked : (h : History) (g : Vcpu) (i : ℕ) → IsHistory h → home h g ≡ Parked → is_deliverable h g i ≡ true → told_since h (notice_file h g) (notice_number h g) g i ≡ true
 told_while_parked h g i good parked live =
     let enabled = (and_parts ((guest_file h g).pending i) ((guest_file h g).enabled i) live).1 in
@@ -145,6 +150,14 @@ none_told : (f : FileName) (n : ℕ) (g : Vcpu) (i : ℕ) → told_since [] f n 
 unfolding told_since
 none_told f n g i = refl
 
+none_sent : (g : Vcpu) (i : ℕ) → noticed_since [] g i ≡ false
+unfolding noticed_since
+none_sent g i = refl
+
+made_sent : (harts guests m sources : ℕ) (past : History) (g : Vcpu) (i : ℕ) → past ≡ [] → noticed_since (Accepted (Machine harts guests m sources) ∷ past) g i ≡ false
+unfolding noticed_since
+made_sent harts guests m sources past g i first = ap (λ x. noticed_since x g i) first ∙ none_sent g i
+
 -- the machine comes first, and before it nothing is told
 made_told : (harts guests m sources : ℕ) (past : History) (f : FileName) (n : ℕ) (g : Vcpu) (i : ℕ) → past ≡ [] → told_since (Accepted (Machine harts guests m sources) ∷ past) f n g i ≡ false
 unfolding told_since
@@ -158,3 +171,55 @@ pending_until_cleared (Accepted line ∷ past) f n g i good told cleared = kept_
 pending_until_cleared (Began move ∷ past) f n g i good told cleared = kept_by (Began move) past f n g i (host_made f past (Began move)) (pending_until_cleared past f n g i good.1) told cleared
 pending_until_cleared (Stepped x ∷ past) f n g i good told cleared = kept_by (Stepped x) past f n g i (host_made f past (Stepped x)) (pending_until_cleared past f n g i good.1) told cleared
 pending_until_cleared (Delivered msi ∷ past) f n g i good told cleared = kept_by (Delivered msi) past f n g i (host_made f past (Delivered msi)) (pending_until_cleared past f n g i good.1) told cleared
+
+-- ---- what the newest notice asked for and was not cleared since is pending
+
+abbrev KeepsSent : History → FileName → ℕ → Vcpu → ℕ → Type 0
+KeepsSent h f n g i = noticed_since h g i ≡ true → cleared_since_notice h f n g ≡ false → (file_of h f).pending n ≡ true
+
+kept_settled : (word : Word) (cleared was : Bool) → (is_clear word || cleared) ≡ false → (cleared ≡ false → was ≡ true) → settle word was ≡ true
+kept_settled Ask cleared was kept before = refl
+kept_settled Clear cleared was kept before = absurd (cc)
+kept_settled Nothing cleared was kept before = before kept
+
+-- an event that sends no notice for it
+sent_before : (event : Event) (past : History) (f : FileName) (n : ℕ) (g : Vcpu) (i : ℕ) → made_with (deed_at f past event) ≡ None → names_vcpu (noticed past event) g ≡ false → KeepsSent past f n g i → KeepsSent (event ∷ past) f n g i
+unfolding noticed_since cleared_since_notice
+sent_before event past f n g i made none before sent kept =
+    let again = begins_leave past event g || is_ask (guest_said past event g i) in
+    let earlier : (not again && noticed_since past g i) ≡ true = ap (λ (b : Bool). b || (not again && noticed_since past g i)) (sym none) ∙ sent in
+    let uncleared : (is_clear (host_said past event f n) || cleared_since_notice past f n g) ≡ false = ap (λ (b : Bool). not b && (is_clear (host_said past event f n) || cleared_since_notice past f n g)) (sym none) ∙ kept in
+    pending_after event past f n (not_making (deed_at f past event) made)
+    ∙ kept_settled (host_said past event f n) (cleared_since_notice past f n g) ((file_of past f).pending n) uncleared (λ e. before (and_parts (not again) (noticed_since past g i) earlier).1 e)
+
+-- an event, whether it sends one or not
+sent_by : (event : Event) (past : History) (g : Vcpu) (i : ℕ) (f : FileName) (n : ℕ) → MayHappen past event → IsHistory past → (has_vcpu past g ≡ true → (f ≡ notice_file past g) × (n ≡ notice_number past g)) → made_with (deed_at f past event) ≡ None
+    → KeepsSent past f n g i → KeepsSent (event ∷ past) f n g i
+sent_by event past g i f n may good its made before = elim (cases_Bool (names_vcpu (noticed past event) g)) [
+  | inl now ↦
+      let same = its (noticed_is_there event past g may now) in
+      let asks : host_said past event f n ≡ Ask = ap (λ x. host_said past event x n) same.0 ∙ ap (host_said past event (notice_file past g)) same.1 ∙ notice_asks event past g may good now in
+      λ sent kept. pending_after event past f n (not_making (deed_at f past event) made) ∙ ap (λ word. settle word ((file_of past f).pending n)) asks
+  | inr none ↦ sent_before event past f n g i made none before
+]
+
+-- the file and the identity were its own before the event, too
+its_before : (event : Event) (past : History) (f : FileName) (n : ℕ) (g : Vcpu) → (has_vcpu (event ∷ past) g ≡ true → (f ≡ notice_file (event ∷ past) g) × (n ≡ notice_number (event ∷ past) g)) → has_vcpu past g ≡ true → (f ≡ notice_file past g) × (n ≡ notice_number past g)
+its_before event past f n g its there = let kept = keeps_notices event past g there in let same = its kept.0 in (same.0 ∙ kept.1, same.1 ∙ kept.2)
+
+pub pending_since_notice : (h : History) (f : FileName) (n : ℕ) (g : Vcpu) (i : ℕ) → IsHistory h → (has_vcpu h g ≡ true → (f ≡ notice_file h g) × (n ≡ notice_number h g)) → KeepsSent h f n g i
+pending_since_notice [] f n g i good its = λ sent kept. absurd (false≢true (sym (none_sent g i) ∙ sent))
+pending_since_notice (Accepted (Machine harts guests m sources) ∷ past) f n g i good its = λ sent kept.
+    absurd (false≢true (sym (made_sent harts guests m sources past g i (machine_first past good.1 (machine_allowed past harts guests m sources good.0).0)) ∙ sent))
+pending_since_notice (Accepted line ∷ past) f n g i good its =
+    let earlier = its_before (Accepted line) past f n g its in
+    sent_by (Accepted line) past g i f n good.0 good.1 earlier (host_made f past (Accepted line)) (pending_since_notice past f n g i good.1 earlier)
+pending_since_notice (Began move ∷ past) f n g i good its =
+    let earlier = its_before (Began move) past f n g its in
+    sent_by (Began move) past g i f n good.0 good.1 earlier (host_made f past (Began move)) (pending_since_notice past f n g i good.1 earlier)
+pending_since_notice (Stepped x ∷ past) f n g i good its =
+    let earlier = its_before (Stepped x) past f n g its in
+    sent_by (Stepped x) past g i f n good.0 good.1 earlier (host_made f past (Stepped x)) (pending_since_notice past f n g i good.1 earlier)
+pending_since_notice (Delivered msi ∷ past) f n g i good its =
+    let earlier = its_before (Delivered msi) past f n g its in
+    sent_by (Delivered msi) past g i f n good.0 good.1 earlier (host_made f past (Delivered msi)) (pending_since_notice past f n g i good.1 earlier)

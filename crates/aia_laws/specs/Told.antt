@@ -1,5 +1,5 @@
 -- What the host was told of a virtual hart's interrupts, and since when. Vocabulary.
-use Rattle.std.specs.Prelude.{◌≡◌, ℕ, Bool, true, false, not, ◌&&◌, ◌||◌, [], ◌∷◌}
+use Rattle.std.specs.Prelude.{◌≡◌, ℕ, Bool, true, false, not, ◌&&◌, ◌||◌, [], ◌∷◌, Option, Some, None}
 use Rattle.aia_regs.specs.Word.{Word}
 use Rattle.aia_regs.specs.Word.Word.{Ask, Clear}
 use Rattle.aia_home.specs.Vms.{Vcpu, is_vcpu, notice_hart, notice_identity}
@@ -9,7 +9,7 @@ use Rattle.aia_model.specs.declared.line.Line.{Line}
 use Rattle.aia_model.specs.Event.{Event, History, file_words}
 use Rattle.aia_model.specs.Event.Event.{Accepted, Began, Stepped}
 use Rattle.aia_model.specs.HomeOf.{home}
-use Rattle.aia_model.specs.Notice.{ends_leave, a_look_saw}
+use Rattle.aia_model.specs.Notice.{noticed, ends_leave, a_look_saw}
 use Rattle.aia_model.specs.Vms.{vms_of}
 use Rattle.aia_model.specs.FileAfter.{pending_said}
 use Rattle.aia_model.specs.FileOf.{FileName, SupervisorFile, deed_at, select_of, file_of}
@@ -58,6 +58,18 @@ begins_leave past event g = false
 abbrev pub is_to_be_told : History → Event → Vcpu → ℕ → Bool
 is_to_be_told past event g i = begins_leave past event g || is_ask (guest_said past event g i)
 
+-- Whether a virtual hart, where there is one, is g.
+abbrev pub names_vcpu : Option Vcpu → Vcpu → Bool
+names_vcpu None g = false
+names_vcpu (Some x) g = is_vcpu g x
+
+-- Whether a notice for a virtual hart was sent no earlier than that: by the newest such event, or by
+-- a later one.
+unfoldable pub noticed_since : History → Vcpu → ℕ → Bool
+noticed_since [] g i = false
+noticed_since (event ∷ past) g i = names_vcpu (noticed past event) g
+    || (not (is_to_be_told past event g i) && noticed_since past g i)
+
 -- Whether identity n was asked for in a file of the host no earlier than that: by the newest such
 -- event, or by a later one.
 unfoldable pub told_since : History → FileName → ℕ → Vcpu → ℕ → Bool
@@ -70,6 +82,12 @@ unfoldable pub cleared_since : History → FileName → ℕ → Vcpu → ℕ →
 cleared_since [] f n g i = false
 cleared_since (event ∷ past) f n g i = is_clear (host_said past event f n)
     || (not (is_to_be_told past event g i) && cleared_since past f n g i)
+
+-- Whether identity n was cleared there after the newest notice for a virtual hart.
+unfoldable pub cleared_since_notice : History → FileName → ℕ → Vcpu → Bool
+cleared_since_notice [] f n g = false
+cleared_since_notice (event ∷ past) f n g = not (names_vcpu (noticed past event) g)
+    && (is_clear (host_said past event f n) || cleared_since_notice past f n g)
 
 -- ---- the cause of a notice
 

@@ -8,22 +8,31 @@ ghost use Rattle.aia_model.specs.HomeOf.{home};
 ghost use Rattle.aia_model.specs.Notice.{noticed};
 ghost use Rattle.aia_model.specs.FileOf.{file_of};
 ghost use Rattle.aia_model.specs.Histories.{IsHistory};
-ghost use Rattle.aia_laws.specs.Told.{is_deliverable, notice_file, notice_number, told_since, cleared_since, IsCause};
+ghost use Rattle.aia_laws.specs.Told.{is_deliverable, notice_file, notice_number, noticed_since, told_since, cleared_since, cleared_since_notice, IsCause};
 
 /// No notice is lost. After every history whose events may happen, in whatever order lines and the
 /// steps of moves come, while a virtual hart is parked and an identity is pending and enabled at
-/// it, its notice identity was asked for at the supervisor file of its notice hart, no earlier than
-/// the newest request for that identity, nor than the beginning of its newest leave.
+/// it, a notice for it was sent no earlier than the newest request for that identity, nor than the
+/// beginning of its newest leave; and so its notice identity was asked for at the supervisor file of
+/// its notice hart.
 pub fn no_notice_is_lost()
-    ensures { (h : History) (g : Vcpu) (i : ℕ) → IsHistory h → home h g ≡ Parked
+    ensures sent { (h : History) (g : Vcpu) (i : ℕ) → IsHistory h → home h g ≡ Parked
+        → is_deliverable h g i ≡ true → noticed_since h g i ≡ true }
+    ensures told { (h : History) (g : Vcpu) (i : ℕ) → IsHistory h → home h g ≡ Parked
         → is_deliverable h g i ≡ true
         → told_since h (notice_file h g) (notice_number h g) g i ≡ true }
 {}
 
 /// The host sees it: the notice identity is then pending in that file, unless something the host
-/// did there cleared it, no earlier than that.
+/// did there cleared it after the newest notice; or, where other requests for the identity count as
+/// much, no earlier than the newest request at the virtual hart and the beginning of its newest
+/// leave.
 pub fn the_host_sees_a_notice_until_it_clears_it()
-    ensures { (h : History) (g : Vcpu) (i : ℕ) → IsHistory h → home h g ≡ Parked
+    ensures newest { (h : History) (g : Vcpu) (i : ℕ) → IsHistory h → home h g ≡ Parked
+        → is_deliverable h g i ≡ true
+        → cleared_since_notice h (notice_file h g) (notice_number h g) g ≡ false
+        → (file_of h (notice_file h g)).pending (notice_number h g) ≡ true }
+    ensures since { (h : History) (g : Vcpu) (i : ℕ) → IsHistory h → home h g ≡ Parked
         → is_deliverable h g i ≡ true
         → cleared_since h (notice_file h g) (notice_number h g) g i ≡ false
         → (file_of h (notice_file h g)).pending (notice_number h g) ≡ true }
