@@ -133,8 +133,8 @@ ok
 0x0000000000000008
 ";
 
-/// The same things are said to virtual hart 1 of VM 1 of another machine, by a store of virtual hart
-/// 0 and by a device, while it stands still but for its one arrival.
+/// The same things are said to virtual hart 1 of VM 1 of another machine, by a store of virtual
+/// hart 0 and by a device, while it stands still but for its one arrival.
 pub const STILL: &str = "machine 2 1 63 9
 vm 1 0x8 1
 vm 2 0x18 0
@@ -152,8 +152,9 @@ msi 1 0x28008000 6
 ";
 
 /// What is said to a virtual hart is the same in two scripts that have nothing else in common, but
-/// for a read of its own in the second: so it is the same in both, and its replies are, but for that
-/// read's. A store that names no identity says nothing, and all that says nothing may be left out.
+/// for a read of its own in the second: so it is the same in both, and its replies are, but for
+/// that read's. A store that names no identity says nothing, and all that says nothing may be left
+/// out.
 pub fn two_scripts_say_the_same()
     ensures busy { said (history_of BUSY.now) (vcpu 0 0)
         ≡ Asked 6 ∷ Did Topei (Write 0) ∷ Did Sip Read ∷ Asked 5 ∷ Injected 5 true
@@ -183,9 +184,10 @@ pub fn a_vm_and_the_machine_level_are_answered_alone()
     ensures same_lines { lines_for 0 (history_of BUSY.now) ≡ lines_for 0 (history_of ALONE.now) }
 {}
 
-/// The newest word decides: 6 was asked for last at the virtual hart, and 5 was cleared last, by the
-/// claim; and the host is told of 6, at the notice identity of the virtual hart, which is pending
-/// then. All that was done at the host's file are the host's own instructions, and that notice.
+/// The newest word decides: 6 was asked for last at the virtual hart, and 5 was cleared last, by
+/// the claim; and the host is told of 6, at the notice identity of the virtual hart, which is
+/// pending then. All that was done at the host's file are the host's own instructions, and that
+/// notice.
 pub fn the_host_is_told_of_what_is_pending()
     ensures asked { newest (λ past event. guest_said past event (vcpu 0 0) 6)
         (history_of BUSY.now) ≡ Ask }
