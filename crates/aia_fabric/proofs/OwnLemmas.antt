@@ -1,16 +1,16 @@
 -- A store for a virtual hart touches its own places and its own notice identity alone.
-use Rattle.std.proofs.Common.{◌≡◌, ◌≢◌, ℕ, ◌+◌, ◌*◌, ◌/◌, ◌%◌, ◌<◌, ◌≤◌, Bool, true, false, not, cond, ◌&&◌, ◌||◌, nat_lt, List, get_or, Option, Some, None, inl, inr, ◌⊎◌, refl, sym, ap, ◌∙◌, subst, arith}
+use Rattle.std.proofs.Common.{◌≡◌, ◌≢◌, ℕ, ◌+◌, ◌*◌, ◌/◌, ◌%◌, ◌<◌, ◌≤◌, Bool, true, false, ◌&&◌, ◌||◌, nat_lt, List, get_or, Option, Some, None, inl, inr, ◌⊎◌, refl, sym, ap, ◌∙◌, subst, arith}
 use Rattle.std.specs.Int.{is_in_range}
 use Rattle.std.proofs.lemmas.Bool.{cases_Bool, cond-true, cond-false}
 use Rattle.std.proofs.lemmas.Bool.Decides.{nat_tests}
 use Rattle.aia_regs.specs.declared.address_map.TheConstants.{PAGE}
 use Rattle.aia_regs.specs.declared.limits.TheConstants.{IDENTITIES, VCPUS}
-use Rattle.aia_regs.specs.AddressMap.{slot_address, supervisor_page, guest_page}
+use Rattle.aia_regs.specs.AddressMap.{supervisor_page, guest_page}
 use Rattle.aia_regs.specs.Request.{requested}
-use Rattle.aia_file.specs.InterruptFile.{InterruptFile, SameFile, landed, empty_file}
-use Rattle.aia_file.specs.FileState.{FileState, shown}
+use Rattle.aia_file.specs.InterruptFile.{empty_file}
+use Rattle.aia_file.specs.FileState.{shown}
 use Rattle.aia_imsic.specs.declared.spot.Spot.{Spot}
-use Rattle.aia_imsic.specs.declared.spot.Spot.TheVariants.{MachineFile, HostFile, GuestFile, Nowhere}
+use Rattle.aia_imsic.specs.declared.spot.Spot.TheVariants.{MachineFile, HostFile}
 use Rattle.aia_imsic.specs.Imsic.{ImsicState, IsThere, file_at}
 use Rattle.aia_imsic.proofs.MapLemmas.{in_page, spot_of_guest}
 use Rattle.aia_imsic.proofs.PlaceLemmas.{kept_elsewhere}
@@ -18,24 +18,20 @@ use Rattle.aia_mrif.specs.declared.slot.Stored.{Stored}
 use Rattle.aia_mrif.specs.declared.slot.Stored.TheVariants.{Discarded, Quiet, Notice}
 use Rattle.aia_mrif.specs.Mrif.{mrif_in, stored}
 use Rattle.aia_entry.specs.declared.entry.Entry.{Entry}
-use Rattle.aia_entry.specs.declared.entry.Entry.TheVariants.{NotValid}
 use Rattle.aia_entry.specs.declared.table.Route.{Route}
-use Rattle.aia_entry.specs.declared.table.Route.TheVariants.{Other, Fault}
-use Rattle.aia_entry.specs.Tables.{TableState, table_of, entry_in_force, leads_by, route_of}
+use Rattle.aia_entry.specs.Tables.{table_of, entry_in_force, leads_by, route_of}
 use Rattle.aia_entry.specs.Translation.{is_msi_address, file_number}
 use Rattle.aia_home.specs.declared.place.Place.{Place}
-use Rattle.aia_home.specs.declared.vm.Vm.{Vm}
 use Rattle.aia_home.specs.Vms.{Vcpu, vcpu, is_vcpu_in, slot_of, notice_identity, notice_hart}
 use Rattle.aia_home.specs.Home.{Home, is_place, holds}
 use Rattle.aia_home.specs.Home.Home.{Parked, Resident, Leaving, Arriving, Shifting}
 use Rattle.aia_home.specs.BySteps.{own_file, next_file}
 use Rattle.aia_home.proofs.VmLemmas.{same_slot}
 use Rattle.aia_places.specs.View.{leads_to}
-use Rattle.aia_fabric.specs.declared.stage.Stage.{Stage}
-use Rattle.aia_fabric.specs.World.{World, stage_of, no_stage}
+use Rattle.aia_fabric.specs.World.{World, stage_of}
 use Rattle.aia_fabric.specs.Whole.{IsWhole}
 use Rattle.aia_fabric.specs.Making.{entry_word_place}
-use Rattle.aia_fabric.specs.Stores.{StoresIn, StoresAt, Posts, NoticedBy, StoresInSlot, Reaches, Relays, with_store, slot_at, page_spot, named_spot}
+use Rattle.aia_fabric.specs.Stores.{StoresIn, StoresAt, Posts, NoticedBy, StoresInSlot, Reaches, Relays, with_store, page_spot}
 use Rattle.aia_fabric.specs.Changes.{spot_of, file_in, view}
 use Rattle.aia_fabric.specs.Own.{TouchesOwn, LeadsToOwn, TouchesOneOf}
 use Rattle.aia_fabric.proofs.FrameLemmas.{stores_rest, posts_rest}
@@ -134,7 +130,7 @@ module _ (w u : World) (g : Vcpu) (offset value : ℕ) (whole : IsWhole w) (ther
 
 -- ---- a device's store
 
-guest_spot : (i : ImsicState) (p : Place) → i.harts ≤ 4 → i.guests ≤ 7 → IsThere i (spot_of p) → page_spot i (guest_page p.hart p.file / 0x1000) ≡ spot_of p
+pub guest_spot : (i : ImsicState) (p : Place) → i.harts ≤ 4 → i.guests ≤ 7 → IsThere i (spot_of p) → page_spot i (guest_page p.hart p.file / 0x1000) ≡ spot_of p
 guest_spot i p few eight there =
     let page : guest_page p.hart p.file / 0x1000 * 0x1000 ≡ guest_page p.hart p.file = omega arith in
     spot_of_guest i.harts i.guests (guest_page p.hart p.file / 0x1000 * 0x1000) p.hart p.file few eight there.0 there.1 there.2
@@ -180,7 +176,7 @@ peer_touches w u g (Some p) value whole there relays = elim (cases_Bool (nat_lt 
 
 -- ---- the places of another virtual hart
 
-own_is_held : (there : Home) (p : Place) → own_file there ≡ Some p → holds p there ≡ true
+pub own_is_held : (there : Home) (p : Place) → own_file there ≡ Some p → holds p there ≡ true
 own_is_held Parked p e = absurd (cc)
 own_is_held (Resident q) p e = let same : p ≡ q = cc in subst (λ x. is_place p x ≡ true) same (is_place-refl p)
 own_is_held (Leaving from at) p e = let same : p ≡ from = cc in subst (λ x. is_place p x ≡ true) same (is_place-refl p)
@@ -191,7 +187,7 @@ or_right : (a b : Bool) → b ≡ true → (a || b) ≡ true
 or_right true b e = refl
 or_right false b e = e
 
-next_is_held : (there : Home) (p : Place) → next_file there ≡ Some p → holds p there ≡ true
+pub next_is_held : (there : Home) (p : Place) → next_file there ≡ Some p → holds p there ≡ true
 next_is_held (Shifting from to at) p e = let same : p ≡ to = cc in let held : is_place p to ≡ true = subst (λ x. is_place p x ≡ true) same (is_place-refl p) in or_right (is_place p from) (is_place p to) held
 next_is_held there p e = absurd (cc)
 

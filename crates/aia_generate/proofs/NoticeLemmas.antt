@@ -2,7 +2,7 @@
 use Rattle.std.proofs.Common.{◌≡◌, ℕ, zero, suc, ◌+◌, ◌*◌, ◌≤◌, Bool, true, false, not, cond, List, [], ◌∷◌, length, Option, Some, None, refl, sym, subst, ◌∙◌, arith}
 use Rattle.std.proofs.lemmas.Bool.Decides.{nat_tests}
 use Rattle.aia_home.specs.Vms.{Vcpu, vcpu}
-use Rattle.aia_home.specs.Home.{leave_steps, arrive_steps, shift_steps}
+use Rattle.aia_home.specs.Plans.{leave_steps, arrive_steps, shift_steps}
 use Rattle.std.specs.Option.{option_map_or}
 use Rattle.aia_model.specs.declared.line.Line.{Line}
 use Rattle.aia_model.specs.declared.line.Line.TheVariants.{Machine, Arrive, Leave, Shift}

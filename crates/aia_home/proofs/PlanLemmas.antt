@@ -2,9 +2,9 @@
 use Rattle.std.proofs.Common.{◌≡◌, ℕ, zero, suc, ◌+◌, ◌*◌, ◌<◌, true, List, [], ◌∷◌, ◌++◌, length, Some, refl, sym, ap, ◌∙◌, arith, length-append}
 use Rattle.std.specs.Prelude.{slice_get, nat_lt}
 use Rattle.std.proofs.lemmas.Bool.{ltb-true}
-use Rattle.aia_home.specs.Home.{Home, leave_steps, arrive_steps, shift_steps}
+use Rattle.aia_home.specs.Home.{Home}
+use Rattle.aia_home.specs.Plans.{leave_steps, arrive_steps, shift_steps, Access, each_word, all_words, leave_plan, arrive_plan, shift_plan, plan_of, is_in_leave, is_in_arrive, is_in_shift, leave_step, arrive_step, shift_step, has_access, step_of, next_access, IsNext}
 use Rattle.aia_home.specs.Home.Home.{Parked, Resident, Leaving, Arriving, Shifting}
-use Rattle.aia_home.specs.Plans.{Access, each_word, all_words, leave_plan, arrive_plan, shift_plan, plan_of, is_in_leave, is_in_arrive, is_in_shift, leave_step, arrive_step, shift_step, has_access, step_of, next_access, IsNext}
 use Rattle.aia_home.specs.Plans.Access.{TakeDelivery, PutDelivery, WriteNotice, WriteEntry, Fence, WriteStage, FenceStage, TakePending, PutPending, TakeEnables, PutEnables, Look, TakeThreshold, PutThreshold, Post}
 
 -- ---- what stands at a place of a list

@@ -2,4 +2,5 @@ pub mod Vms
 pub mod Home
 pub mod Routes
 pub mod Plans
+pub mod Phases
 pub mod BySteps

@@ -1,6 +1,7 @@
--- The plans of moves: which accesses each makes, in order. Profile: all plans.
-use Rattle.std.specs.Prelude.{◌≡◌, ℕ, zero, suc, ◌+◌, ◌*◌, Bool, true, false, nat_lt, List, [], ◌∷◌, ◌++◌, slice_get, Option}
-use Rattle.aia_home.specs.Home.{Home}
+-- The plans of moves: which accesses each makes, in order; and what a move has made so far, by how
+-- many of its steps are done. The numbers of steps stand here and nowhere else. Profile: all plans.
+use Rattle.std.specs.Prelude.{◌≡◌, ℕ, zero, suc, ◌+◌, ◌*◌, Bool, true, false, ◌&&◌, nat_eq, nat_lt, if◌then◌else◌, List, [], ◌∷◌, ◌++◌, slice_get, Option}
+use Rattle.aia_home.specs.Home.{Home, ended, one_more}
 use Rattle.aia_home.specs.Home.Home.{Leaving, Arriving, Shifting}
 
 -- One access of a plan. The old place is the one that the move leaves, the new place the one to
@@ -56,6 +57,16 @@ abbrev pub shift_plan : ℕ → List Access
 shift_plan words =
     (TakeDelivery ∷ WriteEntry ∷ Fence ∷ WriteStage ∷ FenceStage ∷ [])
     ++ all_words words ++ TakeThreshold ∷ PutThreshold ∷ PutDelivery ∷ []
+
+-- How many steps each has.
+abbrev pub leave_steps : ℕ → ℕ
+leave_steps words = 8 + 5 * words
+
+abbrev pub arrive_steps : ℕ → ℕ
+arrive_steps words = 6 + 4 * words
+
+abbrev pub shift_steps : ℕ → ℕ
+shift_steps words = 8 + 4 * words
 
 -- The plan of a move, of files of so many words.
 abbrev pub plan_of : ℕ → Home → List Access
@@ -167,11 +178,57 @@ step_of words (Arriving to at) access = arrive_step words access
 step_of words (Shifting from to at) access = shift_step words access
 step_of words there access = 0
 
--- Whether an access of the plan of a move is made already.
+-- ---- what a move has made so far
+
+-- Whether a step of it is done.
+abbrev pub is_begun : Home → Bool
+is_begun there = nat_lt 0 (steps_done there)
+
+-- Whether an access of its plan is made already.
 abbrev pub is_made : ℕ → Home → Access → Bool
 is_made words there access = nat_lt (step_of words there access) (steps_done there)
 
--- An access is the one that the next step of a move makes.
+-- Whether it is the last one made, so that what it took is carried still.
+abbrev pub is_carried : ℕ → Home → Access → Bool
+is_carried words there access = nat_eq (steps_done there) (step_of words there access + 1)
+
+-- Whether it is the one that the next step makes; the same as a fact.
+abbrev pub is_next : ℕ → Home → Access → Bool
+is_next words there access =
+    has_access words there access && nat_eq (steps_done there) (step_of words there access)
+
 pub record IsNext (words : ℕ) (there : Home) (access : Access) : Type 0 where
   pub has : has_access words there access ≡ true
   pub step : steps_done there ≡ step_of words there access
+
+-- Whether it is made already, is the next one: of the accesses that come before those which carry
+-- words, to which it is nothing how many words a file has.
+abbrev pub is_early_made : Home → Access → Bool
+is_early_made there access = is_made 0 there access
+
+abbrev pub is_early_next : Home → Access → Bool
+is_early_next there access = is_next 0 there access
+
+-- Whether the next step of its move is the last one.
+abbrev pub is_at_last : ℕ → Home → Bool
+is_at_last words (Leaving from at) = nat_eq (at.steps + 1) (leave_steps words)
+is_at_last words (Arriving to at) = nat_eq (at.steps + 1) (arrive_steps words)
+is_at_last words (Shifting from to at) = nat_eq (at.steps + 1) (shift_steps words)
+is_at_last words there = false
+
+-- A step is done.
+abbrev pub stepped : ℕ → Home → Home
+stepped words there = if is_at_last words there then ended there else one_more there
+
+-- ---- the steps that take words, at any home
+
+-- How many steps come before the first take of a word; the step that takes word w of the pending
+-- set, of the enabled set; the next step puts it.
+abbrev pub first_take : Home → ℕ
+first_take there = step_of 0 there (TakePending 0)
+
+abbrev pub pending_step : Home → ℕ → ℕ
+pending_step there w = first_take there + 2 * w
+
+abbrev pub enables_step : ℕ → Home → ℕ → ℕ
+enables_step words there w = first_take there + 2 * words + 2 * w

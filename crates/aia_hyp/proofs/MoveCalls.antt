@@ -7,9 +7,9 @@ use Rattle.std.proofs.lemmas.Option.{slice_get_within}
 use Rattle.aia_home.specs.declared.place.Place.{Place}
 use Rattle.aia_home.specs.declared.vm.Vm.{Vm}
 use Rattle.aia_home.specs.Vms.{Vcpu, vcpu, is_vcpu_in, slot_of, notice_hart}
-use Rattle.aia_home.specs.Home.{Home, holds, is_moving, is_at_last, one_more}
+use Rattle.aia_home.specs.Home.{Home, holds, is_moving, one_more}
+use Rattle.aia_home.specs.Plans.{is_at_last, Access, leave_plan, arrive_plan, shift_plan, IsNext}
 use Rattle.aia_home.specs.Home.Home.{Parked, Resident, Leaving, Arriving, Shifting}
-use Rattle.aia_home.specs.Plans.{Access, leave_plan, arrive_plan, shift_plan, IsNext}
 use Rattle.aia_home.proofs.PlanLemmas.{leave_plan-length, arrive_plan-length, shift_plan-length, next_in_plan}
 use Rattle.aia_home.proofs.VmLemmas.{slot_below}
 use Rattle.aia_home.proofs.AllLemmas.{any_vcpu}

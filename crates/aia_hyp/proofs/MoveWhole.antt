@@ -5,7 +5,8 @@ use Rattle.std.proofs.lemmas.Bool.{cond-true, cond-false, eqb-true, true≢false
 use Rattle.std.proofs.lemmas.Option.{none-some}
 use Rattle.aia_home.specs.declared.vm.Vm.{Vm}
 use Rattle.aia_home.specs.Vms.{Vcpu, vcpu, is_vcpu_in}
-use Rattle.aia_home.specs.Home.{Home, is_parked, is_resident, is_moving, is_at_last, leaving, arriving, shifting, one_more}
+use Rattle.aia_home.specs.Home.{Home, is_parked, is_resident, is_moving, leaving, arriving, shifting, one_more}
+use Rattle.aia_home.specs.Plans.{is_at_last}
 use Rattle.aia_home.specs.Home.Home.{Parked, Resident, Leaving, Arriving, Shifting}
 use Rattle.aia_move.specs.declared.who.Who.{Who}
 use Rattle.aia_move.specs.Move.{IsWho}

@@ -1,5 +1,5 @@
 -- The notice of a move's step, and what the step leaves of the records of stages that is nobody's.
-use Rattle.std.proofs.Common.{◌≡◌, ◌≢◌, ℕ, ◌+◌, ◌*◌, ◌<◌, Bool, true, false, ◌&&◌, cond, nat_eq, get_or, Some, None, inl, inr, refl, sym, ap, subst, ◌∙◌, arith}
+use Rattle.std.proofs.Common.{◌≡◌, ◌≢◌, ℕ, ◌+◌, ◌<◌, Bool, true, false, ◌&&◌, cond, nat_eq, get_or, Some, None, inl, inr, refl, sym, ap, subst, ◌∙◌, arith}
 use Rattle.std.proofs.lemmas.Bool.{cond-true, cond-false, eq-eqb, ne_eqb, ltb-true}
 use Rattle.std.proofs.lemmas.List.{get_or-set_other}
 use Rattle.aia_file.specs.InterruptFile.{SameFile, landed}
@@ -12,7 +12,7 @@ use Rattle.aia_home.specs.Vms.{Vcpu, slot_of, notice_hart}
 use Rattle.aia_home.specs.Home.{Home, Progress}
 use Rattle.aia_home.specs.Home.Home.{Parked, Resident, Leaving, Arriving, Shifting}
 use Rattle.aia_home.specs.BySteps.{is_leaving}
-use Rattle.aia_home.specs.Plans.{Access, IsNext}
+use Rattle.aia_home.specs.Plans.{Access, IsNext, leave_step, leave_steps}
 use Rattle.aia_home.specs.Plans.Access.{TakeDelivery, PutDelivery, WriteNotice, WriteEntry, Fence, WriteStage, FenceStage, TakePending, PutPending, TakeEnables, PutEnables, Look, TakeThreshold, PutThreshold, Post}
 use Rattle.aia_places.specs.Holds.{Hand}
 use Rattle.aia_fabric.specs.declared.at.At.{At}
@@ -33,35 +33,35 @@ use Rattle.aia_hyp.proofs.EventLemmas.{count_after, as_it_was}
 
 -- ---- when it is sent
 
-not_last : (steps words : ℕ) (saw : Bool) → steps ≢ 7 + 5 * words → false ≡ (nat_eq (steps + 1) (8 + 5 * words) && saw)
-not_last steps words saw ne = sym (ap (λ b. b && saw) (ne_eqb (steps + 1) (8 + 5 * words) (λ e. ne (omega (arith, e)))))
+not_last : (steps words : ℕ) (saw : Bool) → steps ≢ leave_step words Post → false ≡ (nat_eq (steps + 1) (leave_steps words) && saw)
+not_last steps words saw ne = sym (ap (λ b. b && saw) (ne_eqb (steps + 1) (leave_steps words) (λ e. ne (omega (arith, e)))))
 
-leave_sent : (words : ℕ) (access : Access) (from : Place) (at : Progress) (hand : Hand) (saw : Bool) → IsNext words (Leaving from at) access → hand.seen ≡ saw → sends access hand ≡ (nat_eq (at.steps + 1) (8 + 5 * words) && saw)
+leave_sent : (words : ℕ) (access : Access) (from : Place) (at : Progress) (hand : Hand) (saw : Bool) → IsNext words (Leaving from at) access → hand.seen ≡ saw → sends access hand ≡ (nat_eq (at.steps + 1) (leave_steps words) && saw)
 leave_sent words Post from at hand saw next seen =
-    let step : at.steps ≡ 7 + 5 * words = next.step in
-    seen ∙ sym (ap (λ b. b && saw) (eq-eqb (at.steps + 1) (8 + 5 * words) (omega (arith, step))))
-leave_sent words TakeDelivery from at hand saw next seen = let step : at.steps ≡ 0 = next.step in not_last at.steps words saw (λ e. omega (arith, step, e))
-leave_sent words WriteNotice from at hand saw next seen = let step : at.steps ≡ 1 = next.step in not_last at.steps words saw (λ e. omega (arith, step, e))
-leave_sent words WriteEntry from at hand saw next seen = let step : at.steps ≡ 2 = next.step in not_last at.steps words saw (λ e. omega (arith, step, e))
-leave_sent words Fence from at hand saw next seen = let step : at.steps ≡ 3 = next.step in not_last at.steps words saw (λ e. omega (arith, step, e))
-leave_sent words WriteStage from at hand saw next seen = let step : at.steps ≡ 4 = next.step in not_last at.steps words saw (λ e. omega (arith, step, e))
-leave_sent words FenceStage from at hand saw next seen = let step : at.steps ≡ 5 = next.step in not_last at.steps words saw (λ e. omega (arith, step, e))
+    let step : at.steps ≡ leave_step words Post = next.step in
+    seen ∙ sym (ap (λ b. b && saw) (eq-eqb (at.steps + 1) (leave_steps words) (omega (arith, step))))
+leave_sent words TakeDelivery from at hand saw next seen = let step : at.steps ≡ leave_step words TakeDelivery = next.step in not_last at.steps words saw (λ e. omega (arith, step, e))
+leave_sent words WriteNotice from at hand saw next seen = let step : at.steps ≡ leave_step words WriteNotice = next.step in not_last at.steps words saw (λ e. omega (arith, step, e))
+leave_sent words WriteEntry from at hand saw next seen = let step : at.steps ≡ leave_step words WriteEntry = next.step in not_last at.steps words saw (λ e. omega (arith, step, e))
+leave_sent words Fence from at hand saw next seen = let step : at.steps ≡ leave_step words Fence = next.step in not_last at.steps words saw (λ e. omega (arith, step, e))
+leave_sent words WriteStage from at hand saw next seen = let step : at.steps ≡ leave_step words WriteStage = next.step in not_last at.steps words saw (λ e. omega (arith, step, e))
+leave_sent words FenceStage from at hand saw next seen = let step : at.steps ≡ leave_step words FenceStage = next.step in not_last at.steps words saw (λ e. omega (arith, step, e))
 leave_sent words (TakePending k) from at hand saw next seen =
-    let step : at.steps ≡ 6 + 2 * k = next.step in
+    let step : at.steps ≡ leave_step 0 (TakePending k) = next.step in
     let low : k < words = ltb-true k words next.has in not_last at.steps words saw (λ e. omega (arith, step, low, e))
 leave_sent words (PutPending k) from at hand saw next seen =
-    let step : at.steps ≡ 7 + 2 * k = next.step in
+    let step : at.steps ≡ leave_step 0 (PutPending k) = next.step in
     let low : k < words = ltb-true k words next.has in not_last at.steps words saw (λ e. omega (arith, step, low, e))
 leave_sent words (TakeEnables k) from at hand saw next seen =
-    let step : at.steps ≡ 6 + 2 * words + 2 * k = next.step in
+    let step : at.steps ≡ leave_step words (TakeEnables k) = next.step in
     let low : k < words = ltb-true k words next.has in not_last at.steps words saw (λ e. omega (arith, step, low, e))
 leave_sent words (PutEnables k) from at hand saw next seen =
-    let step : at.steps ≡ 7 + 2 * words + 2 * k = next.step in
+    let step : at.steps ≡ leave_step words (PutEnables k) = next.step in
     let low : k < words = ltb-true k words next.has in not_last at.steps words saw (λ e. omega (arith, step, low, e))
 leave_sent words (Look k) from at hand saw next seen =
-    let step : at.steps ≡ 6 + 4 * words + k = next.step in
+    let step : at.steps ≡ leave_step words (Look k) = next.step in
     let low : k < words = ltb-true k words next.has in not_last at.steps words saw (λ e. omega (arith, step, low, e))
-leave_sent words TakeThreshold from at hand saw next seen = let step : at.steps ≡ 6 + 5 * words = next.step in not_last at.steps words saw (λ e. omega (arith, step, e))
+leave_sent words TakeThreshold from at hand saw next seen = let step : at.steps ≡ leave_step words TakeThreshold = next.step in not_last at.steps words saw (λ e. omega (arith, step, e))
 leave_sent words PutThreshold from at hand saw next seen = let no : false ≡ true = next.has in absurd (cc)
 leave_sent words PutDelivery from at hand saw next seen = let no : false ≡ true = next.has in absurd (cc)
 

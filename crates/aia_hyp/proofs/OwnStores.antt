@@ -1,22 +1,22 @@
 -- A store of a VM touches its own places alone, in a core that stands for a history.
-use Rattle.std.proofs.Common.{◌≡◌, ◌≢◌, ℕ, ◌%◌, true, List, Option, Some, ◌⊎◌, sym, ap, subst, ◌∙◌}
+use Rattle.std.proofs.Common.{◌≡◌, ◌≢◌, ℕ, ◌%◌, true, List, Option, Some, ◌⊎◌, sym, subst}
 use Rattle.aia_regs.specs.declared.address_map.TheConstants.{PAGE}
-use Rattle.aia_imsic.specs.Imsic.{IsThere}
 use Rattle.aia_entry.specs.Tables.{table_of, route_of}
 use Rattle.aia_home.specs.declared.place.Place.{Place}
 use Rattle.aia_home.specs.declared.vm.Vm.{Vm}
 use Rattle.aia_home.specs.Vms.{Vcpu, is_vcpu_in}
 use Rattle.aia_home.specs.Home.{holds}
-use Rattle.aia_home.specs.Routes.{devices_reach, peers_reach}
+use Rattle.aia_home.specs.Routes.{peers_reach}
 use Rattle.aia_fabric.specs.World.{World, stage_of}
 use Rattle.aia_fabric.specs.Whole.{IsWhole}
 use Rattle.aia_fabric.specs.Stores.{Reaches, Relays}
-use Rattle.aia_fabric.specs.Changes.{spot_of, view}
+use Rattle.aia_fabric.specs.Changes.{view}
 use Rattle.aia_fabric.specs.Own.{TouchesOwn, TouchesOneOf}
 use Rattle.aia_fabric.proofs.OwnLemmas.{device_touches, peer_touches, others_stay}
 use Rattle.aia_model.specs.Event.{History}
 use Rattle.aia_model.specs.Vms.{has_vm, has_vcpu}
 use Rattle.aia_model.specs.HomeOf.{home}
+use Rattle.aia_model.specs.ReachOf.{in_force_of}
 use Rattle.aia_hyp.specs.Core.{CoreState}
 use Rattle.aia_hyp.specs.Stands.{CoreStands}
 use Rattle.aia_hyp.proofs.DeviceLemmas.{leads_to_own}
@@ -28,8 +28,8 @@ in_world : (x : CoreState) (h : History) (g : Vcpu) → CoreStands x h → has_v
 in_world x h g stands there = subst (λ (vs : List Vm). is_vcpu_in vs g ≡ true) (sym stands.vms) there
 
 pub device_own : (x : CoreState) (h : History) (u : World) (v addr value : ℕ) → CoreStands x h → IsWhole x.world → has_vm h v ≡ true → Reaches (route_of (table_of x.world.tables v) addr) x.world u (addr % PAGE) value
-    → (u ≡ x.world) ⊎ TouchesOneOf x.world u v (λ g. devices_reach (home h g))
-device_own x h u v addr value stands whole standing reaches = device_touches x.world u v addr value (λ g. devices_reach (home h g)) whole (leads_to_own x h v stands standing) reaches
+    → (u ≡ x.world) ⊎ TouchesOneOf x.world u v (λ g. in_force_of h g)
+device_own x h u v addr value stands whole standing reaches = device_touches x.world u v addr value (λ g. in_force_of h g) whole (leads_to_own x h v stands standing) reaches
 
 pub peer_own : (x : CoreState) (h : History) (u : World) (g : Vcpu) (value : ℕ) → CoreStands x h → IsWhole x.world → has_vcpu h g ≡ true → Relays (stage_of x.world g).in_force x.world u g value → TouchesOwn x.world u g (peers_reach (home h g))
 peer_own x h u g value stands whole there relays =
@@ -42,8 +42,8 @@ others_own x h u g other reach stands there inside ne held touches =
     others_stay x.world u g other reach (home h other) (in_world x h g stands there) (in_world x h other stands inside) ne touches
     (λ p holding. (stands.held other p inside holding, λ e. ne (stands.apart other g p inside there holding (held p e))))
 
-pub device_others : (x : CoreState) (h : History) (u : World) (g other : Vcpu) → CoreStands x h → has_vcpu h g ≡ true → has_vcpu h other ≡ true → other ≢ g → TouchesOwn x.world u g (devices_reach (home h g)) → view u other (home h other) ≡ view x.world other (home h other)
-device_others x h u g other stands there inside ne touches = others_own x h u g other (devices_reach (home h g)) stands there inside ne (devices_held (home h g)) touches
+pub device_others : (x : CoreState) (h : History) (u : World) (g other : Vcpu) → CoreStands x h → has_vcpu h g ≡ true → has_vcpu h other ≡ true → other ≢ g → TouchesOwn x.world u g (in_force_of h g) → view u other (home h other) ≡ view x.world other (home h other)
+device_others x h u g other stands there inside ne touches = others_own x h u g other (in_force_of h g) stands there inside ne (devices_held h g) touches
 
 pub peer_others : (x : CoreState) (h : History) (u : World) (g other : Vcpu) → CoreStands x h → has_vcpu h g ≡ true → has_vcpu h other ≡ true → other ≢ g → TouchesOwn x.world u g (peers_reach (home h g)) → view u other (home h other) ≡ view x.world other (home h other)
-peer_others x h u g other stands there inside ne touches = others_own x h u g other (peers_reach (home h g)) stands there inside ne (peers_held (home h g)) touches
+peer_others x h u g other stands there inside ne touches = others_own x h u g other (peers_reach (home h g)) stands there inside ne (peers_held h g) touches

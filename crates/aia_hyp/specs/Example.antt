@@ -1,6 +1,8 @@
 -- A history in which one virtual hart is resident in a guest file and another one is leaving its
 -- own, and the core that stands for it.
 use Rattle.std.specs.Prelude.{ℕ, ◌-◌, true, false, List, [], ◌∷◌, ◌++◌, replicate, Some, None}
+use Rattle.aia_home.specs.Plans.Access.{PutPending}
+use Rattle.aia_home.specs.Plans.{leave_step}
 use Rattle.aia_regs.specs.declared.limits.TheConstants.{VCPUS, ENTRIES}
 use Rattle.aia_regs.specs.declared.access.Csr.{Csr}
 use Rattle.aia_regs.specs.declared.access.Csr.TheVariants.{Select, Reg}
@@ -59,10 +61,13 @@ before_leaving = Accepted (lines.Ipi 0 0 1 1)
     ∷ Accepted (guest_write Reg 2) ∷ Accepted (guest_write Select 0xc0)
     ∷ Accepted (guest_write Reg 1) ∷ Accepted (guest_write Select 0x70) ∷ both_arrived
 
--- It begins to leave, and does seven steps of that: eidelivery is taken, all routes lead to its
--- slot of memory, and the one word of the pending set is taken, but not put there yet.
+-- It begins to leave, and is to put there the one word of the pending set next: eidelivery is
+-- taken, all routes lead to its slot of memory, and that word is taken.
+abbrev pub so_far : ℕ
+so_far = leave_step 1 (PutPending 0)
+
 abbrev pub leaving_history : History
-leaving_history = steps_taken 7 leaver (Began (Leaves leaver) ∷ before_leaving)
+leaving_history = steps_taken so_far leaver (Began (Leaves leaver) ∷ before_leaving)
 
 -- The lines that lead to it: up to the move that is under way, and those of that move.
 abbrev pub earlier_lines : List Line
@@ -71,7 +76,7 @@ earlier_lines = lines.Machine 1 3 63 1 ∷ lines.Vm 2 8 0 ∷ lines.Arrive 0 0 0
     ∷ guest_write Select 0xc0 ∷ guest_write Reg 2 ∷ lines.Ipi 0 0 1 1 ∷ []
 
 abbrev pub leave_lines : List Line
-leave_lines = lines.BeginLeave 0 1 ∷ replicate 7 (lines.Step 0 1)
+leave_lines = lines.BeginLeave 0 1 ∷ replicate so_far (lines.Step 0 1)
 
 -- ---- the core then
 
@@ -132,11 +137,11 @@ example_world = record {
   notices = 0;
 }
 
--- The leave, with seven steps done: it carries eidelivery and the word with identity 1.
+-- The leave so far: it carries eidelivery and the word with identity 1.
 abbrev pub leave_under_way : Moving
 leave_under_way = record {
   who = record { vm = 0; vcpu = 1; slot = 1; notice = 0 };
-  home = Leaving leaver_file (record { steps = 7 });
+  home = Leaving leaver_file (record { steps = so_far });
   hand = record { word = 2; delivery = 1; threshold = 0; seen = false };
 }
 

@@ -1,7 +1,7 @@
 //! The laws at work: what they say of worked scripts, computed.
 //!
 //! Each function does nothing: its clauses are what was proved, by computing.
-#![tactic(auto, unfolding(aia_word::specs::Sets::word_of, aia_word::specs::Sets::least_of, aia_word::specs::Packed::packed, aia_word::specs::Packed::ones, aia_model::specs::Reading::number_at, aia_model::specs::Reading::n32_at, aia_model::specs::Reading::bit_at, aia_model::specs::Reading::machine_at, aia_model::specs::Reading::vm_at, aia_model::specs::Reading::wire_at, aia_model::specs::Reading::store_at, aia_model::specs::Reading::load_at, aia_model::specs::Reading::msi_at, aia_model::specs::Reading::csr_at, aia_model::specs::Reading::read_at, aia_model::specs::Reading::write_at, aia_model::specs::Reading::instruction_at, aia_model::specs::Reading::machine_csr_at, aia_model::specs::Reading::host_at, aia_model::specs::Reading::ipi_at, aia_model::specs::Reading::guest_at, aia_model::specs::Reading::arrive_at, aia_model::specs::Reading::leave_at, aia_model::specs::Reading::shift_at, aia_model::specs::Reading::begin_arrive_at, aia_model::specs::Reading::begin_leave_at, aia_model::specs::Reading::begin_shift_at, aia_model::specs::Reading::begin_at, aia_model::specs::Reading::step_at, aia_model::specs::Reading::inject_at, aia_model::specs::Reading::hvictl_at, aia_model::specs::Reading::hviprio_at, aia_model::specs::Reading::pins_at, aia_model::specs::Reading::entry_at, aia_model::specs::Reading::line_at, aia_model::specs::Reading::reading, aia_model::specs::FileAfter::select_by, aia_model::specs::FileAfter::file_by, aia_model::specs::MajorOf::majors_of, aia_model::specs::HomeOf::home, aia_model::specs::Notice::look_saw, aia_regs::specs::DomainRegisters::domain_register_of, aia_model::specs::Act::newest, aia_model::specs::SourceOf::wire_of, aia_model::specs::SourceOf::enabled, aia_model::specs::SourceOf::target, aia_model::specs::SourceOf::pending, aia_model::specs::AddressOf::addresses_of, aia_model::specs::SourceOf::genmsi_waits, aia_model::specs::Sent::all_senders, aia_model::specs::Answer::answer, aia_model::specs::Answer::after, aia_model::specs::AnswerText::hex_digits, aia_model::specs::AnswerText::answer_text, crate::specs::Said::said, crate::specs::Guest::guest_by, crate::specs::Replies::replies, crate::specs::Replies::replies_by, crate::specs::Replies::purged, crate::specs::Concerns::lines_for, crate::specs::Reach::deeds_of, crate::specs::Reach::host_by, aia_laws::specs::Newest::newest, aia_laws::specs::Told::told_since))]
+#![tactic(auto, unfolding(aia_word::specs::Sets::word_of, aia_word::specs::Sets::least_of, aia_word::specs::Packed::packed, aia_word::specs::Packed::ones, aia_model::specs::Reading::number_at, aia_model::specs::Reading::n32_at, aia_model::specs::Reading::bit_at, aia_model::specs::Reading::machine_at, aia_model::specs::Reading::vm_at, aia_model::specs::Reading::wire_at, aia_model::specs::Reading::store_at, aia_model::specs::Reading::load_at, aia_model::specs::Reading::msi_at, aia_model::specs::Reading::csr_at, aia_model::specs::Reading::read_at, aia_model::specs::Reading::write_at, aia_model::specs::Reading::instruction_at, aia_model::specs::Reading::machine_csr_at, aia_model::specs::Reading::host_at, aia_model::specs::Reading::ipi_at, aia_model::specs::Reading::guest_at, aia_model::specs::Reading::arrive_at, aia_model::specs::Reading::leave_at, aia_model::specs::Reading::shift_at, aia_model::specs::Reading::begin_arrive_at, aia_model::specs::Reading::begin_leave_at, aia_model::specs::Reading::begin_shift_at, aia_model::specs::Reading::begin_at, aia_model::specs::Reading::step_at, aia_model::specs::Reading::inject_at, aia_model::specs::Reading::hvictl_at, aia_model::specs::Reading::hviprio_at, aia_model::specs::Reading::pins_at, aia_model::specs::Reading::entry_at, aia_model::specs::Reading::line_at, aia_model::specs::Reading::reading, aia_model::specs::FileAfter::select_by, aia_model::specs::FileAfter::file_by, aia_model::specs::MajorOf::majors_of, aia_model::specs::HomeOf::home, aia_model::specs::ReachOf::in_force_of, aia_model::specs::ReachOf::stage_in_force_of, aia_model::specs::Notice::look_saw, aia_regs::specs::DomainRegisters::domain_register_of, aia_model::specs::Act::newest, aia_model::specs::SourceOf::wire_of, aia_model::specs::SourceOf::enabled, aia_model::specs::SourceOf::target, aia_model::specs::SourceOf::pending, aia_model::specs::AddressOf::addresses_of, aia_model::specs::SourceOf::genmsi_waits, aia_model::specs::Sent::all_senders, aia_model::specs::Answer::answer, aia_model::specs::Answer::after, aia_model::specs::AnswerText::hex_digits, aia_model::specs::AnswerText::answer_text, crate::specs::Said::said, crate::specs::Guest::guest_by, crate::specs::Replies::replies, crate::specs::Replies::replies_by, crate::specs::Replies::purged, crate::specs::Concerns::lines_for, crate::specs::Reach::deeds_of, crate::specs::Reach::host_by, aia_laws::specs::Newest::newest, aia_laws::specs::Told::told_since))]
 
 ghost use Rattle.std.specs.Prelude.{◌≡◌, true, [], ◌∷◌, length};
 ghost use Rattle.aia_regs.specs.declared.access.Csr.TheVariants.{Select, Reg, Topei, Sip};
@@ -133,8 +133,8 @@ ok
 0x0000000000000008
 ";
 
-/// The same things are said to virtual hart 1 of VM 1 of another machine, by a store of virtual hart
-/// 0 and by a device, while it stands still but for its one arrival.
+/// The same things are said to virtual hart 1 of VM 1 of another machine, by a store of virtual
+/// hart 0 and by a device, while it stands still but for its one arrival.
 pub const STILL: &str = "machine 2 1 63 9
 vm 1 0x8 1
 vm 2 0x18 0
@@ -152,8 +152,9 @@ msi 1 0x28008000 6
 ";
 
 /// What is said to a virtual hart is the same in two scripts that have nothing else in common, but
-/// for a read of its own in the second: so it is the same in both, and its replies are, but for that
-/// read's. A store that names no identity says nothing, and all that says nothing may be left out.
+/// for a read of its own in the second: so it is the same in both, and its replies are, but for
+/// that read's. A store that names no identity says nothing, and all that says nothing may be left
+/// out.
 pub fn two_scripts_say_the_same()
     ensures busy { said (history_of BUSY.now) (vcpu 0 0)
         ≡ Asked 6 ∷ Did Topei (Write 0) ∷ Did Sip Read ∷ Asked 5 ∷ Injected 5 true
@@ -183,9 +184,10 @@ pub fn a_vm_and_the_machine_level_are_answered_alone()
     ensures same_lines { lines_for 0 (history_of BUSY.now) ≡ lines_for 0 (history_of ALONE.now) }
 {}
 
-/// The newest word decides: 6 was asked for last at the virtual hart, and 5 was cleared last, by the
-/// claim; and the host is told of 6, at the notice identity of the virtual hart, which is pending
-/// then. All that was done at the host's file are the host's own instructions, and that notice.
+/// The newest word decides: 6 was asked for last at the virtual hart, and 5 was cleared last, by
+/// the claim; and the host is told of 6, at the notice identity of the virtual hart, which is
+/// pending then. All that was done at the host's file are the host's own instructions, and that
+/// notice.
 pub fn the_host_is_told_of_what_is_pending()
     ensures asked { newest (λ past event. guest_said past event (vcpu 0 0) 6)
         (history_of BUSY.now) ≡ Ask }

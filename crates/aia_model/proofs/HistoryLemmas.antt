@@ -3,7 +3,8 @@ use Rattle.std.proofs.Common.{◌≡◌, ℕ, zero, suc, ◌+◌, ◌-◌, true,
 use Rattle.std.specs.Option.{option_map_or}
 use Rattle.std.proofs.lemmas.Bool.{cases_Bool, not-false, eqb-true, cond-true}
 use Rattle.aia_home.specs.Vms.{Vcpu, vcpu}
-use Rattle.aia_home.specs.Home.{Home, is_moving, is_resident, is_parked, leave_steps, arrive_steps, shift_steps, leaving, arriving, shifting, stepped}
+use Rattle.aia_home.specs.Home.{Home, is_moving, is_resident, is_parked, leaving, arriving, shifting}
+use Rattle.aia_home.specs.Plans.{leave_steps, arrive_steps, shift_steps, stepped}
 use Rattle.aia_home.specs.Home.Home.{Parked, Resident, Leaving, Arriving, Shifting}
 use Rattle.aia_model.specs.declared.line.Line.{Line}
 use Rattle.aia_model.specs.declared.line.Line.TheVariants.{Machine, Arrive, Leave, Shift, BeginArrive, BeginLeave, BeginShift, Step}

@@ -1,5 +1,5 @@
 -- What one event more makes of the homes of virtual harts, and of what the looks of a leave saw.
-use Rattle.std.proofs.Common.{◌≡◌, ◌≢◌, ℕ, zero, suc, ◌+◌, ◌-◌, ◌*◌, Bool, true, false, ◌&&◌, ◌||◌, nat_eq, nat_lt, nat_le, is_some, ◌∷◌, inl, inr, refl, sym, ap, ◌∙◌, arith}
+use Rattle.std.proofs.Common.{◌≡◌, ◌≢◌, ℕ, zero, suc, ◌+◌, ◌-◌, Bool, true, false, ◌&&◌, ◌||◌, nat_eq, nat_lt, nat_le, is_some, ◌∷◌, inl, inr, refl, sym, ap, ◌∙◌, arith}
 use Rattle.std.proofs.lemmas.Bool.{cases_Bool, cases_eq, cond-true, eq-eqb, ne_eqb, eqb-true, and_parts}
 use Rattle.std.proofs.lemmas.Bool.Decides.{nat_tests}
 use Rattle.aia_word.specs.Sets.{least_of}
@@ -94,10 +94,12 @@ some_or A C from (suc count) =
 
 looks_see : (words : ℕ) (there : Home) (live : ℕ → Bool) → some_of (λ w. looks_at words there w && live w) 0 words ≡ look_sees words there live
 looks_see words (Leaving from at) live =
-    one_of live (6 + 4 * words) at.steps 0 words
-    ∙ ap (λ n. nat_le n at.steps && (nat_lt at.steps (6 + 4 * words + 0 + words) && live (at.steps - (6 + 4 * words)))) (omega arith)
-    ∙ ap (λ n. nat_le (look_step words 0) at.steps && (nat_lt at.steps n && live (at.steps - (6 + 4 * words)))) (omega arith)
-    ∙ ap (λ n. nat_le (look_step words 0) at.steps && (nat_lt at.steps (look_step words words) && live (at.steps - n))) (omega arith)
+    ap (λ f. some_of f 0 words) along ∙ one_of live (look_step words 0) at.steps 0 words
+    ∙ ap (λ n. nat_le n at.steps && (nat_lt at.steps (look_step words 0 + 0 + words) && live (at.steps - look_step words 0))) (omega arith)
+    ∙ ap (λ n. nat_le (look_step words 0) at.steps && (nat_lt at.steps n && live (at.steps - look_step words 0))) (omega arith)
+  where
+    along : ◌≡◌ {A = ℕ → Bool} (λ w. nat_eq at.steps (look_step words w) && live w) (λ w. nat_eq at.steps (look_step words 0 + w) && live w)
+    along = λ i w. ap (λ n. nat_eq at.steps n && live w) (let same : look_step words w ≡ look_step words 0 + w = omega arith in same) i
 looks_see words Parked live = none_of_none 0 words
   where
     none_of_none : (from count : ℕ) → some_of (λ w. false) from count ≡ false

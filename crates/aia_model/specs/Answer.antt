@@ -16,7 +16,7 @@ use Rattle.aia_model.specs.declared.answer.Answer.TheVariants.{Okay, Narrow, Wid
 use Rattle.aia_model.specs.declared.answer.Answer.TheVariants as kinds
 use Rattle.aia_model.specs.declared.msi.Msi.{Msi}
 use Rattle.aia_home.specs.Vms.{Vcpu, vcpu}
-use Rattle.aia_home.specs.Home.{is_at_last, leave_steps, arrive_steps, shift_steps}
+use Rattle.aia_home.specs.Plans.{is_at_last, leave_steps, arrive_steps, shift_steps}
 use Rattle.aia_model.specs.Move.{Move, mover, MoveDeed, move_deed}
 use Rattle.aia_model.specs.Move.MoveDeed.{NoMove, Whole, Begins, Steps}
 use Rattle.aia_model.specs.Move.Move.{Arrives, Leaves, Shifts}

@@ -5,7 +5,8 @@ use Rattle.std.specs.Option.{option_map_or}
 use Rattle.aia_word.specs.Sets.{least_of}
 use Rattle.aia_home.specs.declared.place.Place.{Place}
 use Rattle.aia_home.specs.Vms.{Vcpu, is_vcpu, all_vcpus}
-use Rattle.aia_home.specs.Home.{Home, holds, leaving, arriving, shifting, stepped}
+use Rattle.aia_home.specs.Home.{Home, holds, leaving, arriving, shifting}
+use Rattle.aia_home.specs.Plans.{stepped}
 use Rattle.aia_home.specs.Home.Home.{Parked}
 use Rattle.aia_model.specs.Move.Move.{Arrives, Leaves, Shifts}
 use Rattle.aia_model.specs.Event.{Event, History, guests_of, file_words}

@@ -4,3 +4,4 @@ pub mod MadeView
 pub mod TouchLemmas
 pub mod MoveKept
 pub mod MachineLemmas
+pub mod KnowsLemmas

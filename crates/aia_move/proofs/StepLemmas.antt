@@ -2,16 +2,17 @@
 -- phases of all moves make.
 use Rattle.std.proofs.Common.{◌≡◌, ℕ, ◌+◌, ◌-◌, ◌*◌, ◌/◌, ◌%◌, ◌<◌, ◌≤◌, Bool, true, false, inl, inr, refl, sym, ap, ◌∙◌, subst, arith}
 use Rattle.std.proofs.lemmas.Bool.{cases_eq, lt-ltb, eq-eqb, ne_eqb}
+use Rattle.aia_home.proofs.PhaseLemmas.{carried_pending, carried_enables}
 use Rattle.aia_word.specs.Sets.{has_bit}
 use Rattle.aia_regs.specs.declared.file_registers.FileReg.{FileReg}
 use Rattle.aia_imsic.specs.declared.spot.Spot.{Spot}
 use Rattle.aia_imsic.specs.Imsic.{ImsicState, IsThere}
 use Rattle.aia_home.specs.declared.place.Place.{Place}
-use Rattle.aia_home.specs.Home.{Home, Progress, is_moving, is_at_last, one_more, one_further}
+use Rattle.aia_home.specs.Home.{Home, Progress, is_moving, one_more, one_further}
+use Rattle.aia_home.specs.Plans.{is_at_last, Access, steps_done, has_access, IsNext, first_take, pending_step, enables_step}
 use Rattle.aia_home.specs.Home.Home.{Parked, Resident, Leaving, Arriving, Shifting}
-use Rattle.aia_home.specs.Plans.{Access, steps_done, has_access, IsNext}
 use Rattle.aia_home.specs.Plans.Access.{TakeDelivery, PutDelivery, WriteNotice, WriteEntry, Fence, WriteStage, FenceStage, TakePending, PutPending, TakeEnables, PutEnables, Look, TakeThreshold, PutThreshold, Post}
-use Rattle.aia_home.specs.BySteps.{own_file, next_file, first_take, pending_step, enables_step}
+use Rattle.aia_home.specs.BySteps.{own_file, next_file}
 use Rattle.aia_home.proofs.PlanLemmas.{next_in_plan}
 use Rattle.aia_places.specs.Holds.{Hand}
 use Rattle.aia_fabric.specs.declared.at.At.{At}
@@ -110,8 +111,8 @@ one_step w u m t access fits next made is more zero = record {
     notice = rw (who, kept.vms) fits.notice;
     own = λ p e. file_stays w u p kept (fits.own p (sym (ap own_file home ∙ same.own) ∙ e));
     next = λ p e. file_stays w u p kept (fits.next p (sym (ap next_file home ∙ same.next) ∙ e));
-    no_pending_zero = λ e. zero.pending (omega (arith, steps, first, e));
-    no_enabled_zero = λ e. zero.enabled (omega (arith, steps, first, e, wide));
+    no_pending_zero = λ e. zero.pending (omega (arith, steps, first, carried_pending (width u) 0 t.home e));
+    no_enabled_zero = λ e. zero.enabled (omega (arith, steps, first, carried_enables (width u) 0 t.home e, wide));
   };
   width = wide;
   steps = steps;
@@ -146,7 +147,7 @@ seen_so w u m s t access seen fits next made is more zero =
     subst (λ x. GoesOn w x u t) seen (one_step w u m t access (subst (λ x. Fits w x) (sym seen) fits) next made is more zero)
 
 -- not the last one
-not_last : (words : ℕ) (there : Home) → steps_done there < first_take there + 4 * words → is_at_last words there ≡ false
+not_last : (words : ℕ) (there : Home) → steps_done there < enables_step words there words → is_at_last words there ≡ false
 not_last words Parked low = refl
 not_last words (Resident p) low = refl
 not_last words (Leaving from at) low = ne_eqb _ _ (λ e. omega (arith, e, low))
@@ -165,7 +166,7 @@ step_before w u m s there now access seen fits more next does low =
     seen_so w u m s (moving there now) access seen fits next does.makes (loaded m there now _ more does.load) (not_last (width w) m.home (omega (arith, low))) (record { pending = λ e. absurd (omega (arith, e, low)); enabled = λ e. absurd (omega (arith, e, low)) })
 
 pub step_after : (w u : World) (m s : Moving) (there : Progress → Home) (now : Load) (access : Access) → m ≡ s → Fits w s → there (one_further (record { steps = steps_done m.home })) ≡ one_more m.home
-    → IsNext (width w) m.home access → Does access m w u now → is_at_last (width w) m.home ≡ false → 1 ≤ width w → first_take m.home + 4 * width w ≤ steps_done m.home → GoesOn w s u (moving there now)
+    → IsNext (width w) m.home access → Does access m w u now → is_at_last (width w) m.home ≡ false → 1 ≤ width w → enables_step (width w) m.home (width w) ≤ steps_done m.home → GoesOn w s u (moving there now)
 step_after w u m s there now access seen fits more next does unfinished some past =
     seen_so w u m s (moving there now) access seen fits next does.makes (loaded m there now _ more does.load) unfinished (record { pending = λ e. absurd (omega (arith, e, past, some)); enabled = λ e. absurd (omega (arith, e, past, some)) })
 
@@ -182,10 +183,10 @@ step_last w u m s access seen next made same last =
 
 -- the accesses that carry the sets, by their steps
 record CarriesSets (words : ℕ) (there : Home) : Type 0 where
-  pub take_pending : (w : ℕ) → w < words → steps_done there ≡ first_take there + 2 * w → IsNext words there (TakePending w)
-  pub put_pending : (w : ℕ) → w < words → steps_done there ≡ first_take there + 2 * w + 1 → IsNext words there (PutPending w)
-  pub take_enables : (w : ℕ) → w < words → steps_done there ≡ first_take there + 2 * words + 2 * w → IsNext words there (TakeEnables w)
-  pub put_enables : (w : ℕ) → w < words → steps_done there ≡ first_take there + 2 * words + 2 * w + 1 → IsNext words there (PutEnables w)
+  pub take_pending : (w : ℕ) → w < words → steps_done there ≡ pending_step there w → IsNext words there (TakePending w)
+  pub put_pending : (w : ℕ) → w < words → steps_done there ≡ pending_step there w + 1 → IsNext words there (PutPending w)
+  pub take_enables : (w : ℕ) → w < words → steps_done there ≡ enables_step words there w → IsNext words there (TakeEnables w)
+  pub put_enables : (w : ℕ) → w < words → steps_done there ≡ enables_step words there w + 1 → IsNext words there (PutEnables w)
 
 carries_sets : (words : ℕ) (there : Home) → is_moving there ≡ true → CarriesSets words there
 carries_sets words Parked moves = absurd (cc)
@@ -220,7 +221,7 @@ pending_next words first there moves is from below =
       | inr odd ↦ rw (ne_eqb ((steps_done there - first) % 2) 0 odd) (all.put_pending w low (omega (arith, odd)))
     ]
 
-enables_next : (words first : ℕ) (there : Home) → is_moving there ≡ true → first ≡ first_take there + 2 * words → first ≤ steps_done there → steps_done there < first + 2 * words
+enables_next : (words first : ℕ) (there : Home) → is_moving there ≡ true → first ≡ enables_step words there 0 → first ≤ steps_done there → steps_done there < first + 2 * words
     → IsNext words there (enables_access first (steps_done there))
 enables_next words first there moves is from below =
     let all = carries_sets words there moves in
@@ -241,7 +242,7 @@ carries_pending w u m s there first now seen fits moves next is between does zer
     (not_last (width w) m.home (omega (arith, same, between, is))) (record { pending = λ e. zero (omega (arith, e, is)); enabled = λ e. absurd (omega (arith, e, same, between, is)) })
 
 pub carries_enables : (w u : World) (m s : Moving) (there : Progress → Home) (first : ℕ) (now : Load) → m ≡ s → Fits w s → is_moving m.home ≡ true → there (one_further (record { steps = steps_done m.home })) ≡ one_more m.home
-    → first ≡ first_take m.home + 2 * width w → 1 ≤ width w → IsBetween first (first + 2 * width w) s → Does (enables_access first (steps_done m.home)) m w u now → (steps_done m.home ≡ first → has_bit now.hand.word 0 ≡ false) → GoesOn w s u (moving there now)
+    → first ≡ enables_step (width w) m.home 0 → 1 ≤ width w → IsBetween first (first + 2 * width w) s → Does (enables_access first (steps_done m.home)) m w u now → (steps_done m.home ≡ first → has_bit now.hand.word 0 ≡ false) → GoesOn w s u (moving there now)
 carries_enables w u m s there first now seen fits moves next is some between does zero =
     let same : steps_done m.home ≡ steps_done s.home = ap (λ (x : Moving). steps_done x.home) seen in
     seen_so w u m s (moving there now) (enables_access first (steps_done m.home)) seen fits

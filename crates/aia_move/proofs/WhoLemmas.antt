@@ -1,12 +1,13 @@
 -- Who is moved, and the files of a move, are within the limits of a machine.
 use Rattle.std.proofs.Common.{◌≡◌, ◌+◌, ◌<◌, ◌≤◌, Bool, true, Option, Some, None, IfSome, refl, sym, ap, ◌∙◌, subst, arith}
+use Rattle.std.proofs.lemmas.Bool.{eqb-true}
 use Rattle.aia_regs.specs.declared.limits.TheConstants.{HARTS, GUEST_FILES, VCPUS}
 use Rattle.aia_imsic.specs.declared.spot.Spot.TheVariants.{HostFile}
 use Rattle.aia_imsic.specs.Imsic.{IsThere}
 use Rattle.aia_home.specs.declared.place.Place.{Place}
 use Rattle.aia_home.specs.Home.{at_first}
 use Rattle.aia_home.specs.Home.Home.{Leaving, Arriving, Shifting}
-use Rattle.aia_home.specs.BySteps.{own_file, next_file, first_take}
+use Rattle.aia_home.specs.BySteps.{own_file, next_file}
 use Rattle.aia_home.specs.Plans.{steps_done}
 use Rattle.aia_home.specs.Vms.{Vcpu, vcpu, vcpus_in, is_vcpu_in, slot_of, notice_hart}
 use Rattle.aia_home.proofs.VmLemmas.{slot_below}
@@ -56,8 +57,8 @@ leave_fits w m file home who there = record {
   notice = who.notice;
   own = λ p e. one_file w file p (sym (ap own_file home) ∙ e) there;
   next = λ p e. let none : ◌≡◌ {A = Option Place} None (Some p) = sym (ap next_file home) ∙ e in absurd (cc);
-  no_pending_zero = λ e. absurd (omega (arith, e, ap steps_done home, ap first_take home));
-  no_enabled_zero = λ e. absurd (omega (arith, e, ap steps_done home, ap first_take home));
+  no_pending_zero = λ e. absurd (omega (arith, eqb-true _ _ e, ap steps_done home));
+  no_enabled_zero = λ e. absurd (omega (arith, eqb-true _ _ e, ap steps_done home));
 }
 
 pub arrive_fits : (w : World) (m : Moving) (file : Place) → m.home ≡ Arriving file at_first → IsWho w m.who → IsThere w.imsic (spot_of file) → Fits w m
@@ -67,8 +68,8 @@ arrive_fits w m file home who there = record {
   notice = who.notice;
   own = λ p e. one_file w file p (sym (ap own_file home) ∙ e) there;
   next = λ p e. let none : ◌≡◌ {A = Option Place} None (Some p) = sym (ap next_file home) ∙ e in absurd (cc);
-  no_pending_zero = λ e. absurd (omega (arith, e, ap steps_done home, ap first_take home));
-  no_enabled_zero = λ e. absurd (omega (arith, e, ap steps_done home, ap first_take home));
+  no_pending_zero = λ e. absurd (omega (arith, eqb-true _ _ e, ap steps_done home));
+  no_enabled_zero = λ e. absurd (omega (arith, eqb-true _ _ e, ap steps_done home));
 }
 
 pub shift_fits : (w : World) (m : Moving) (old new : Place) → m.home ≡ Shifting old new at_first → IsWho w m.who → IsThere w.imsic (spot_of old) → IsThere w.imsic (spot_of new) → Fits w m
@@ -78,6 +79,6 @@ shift_fits w m old new home who there too = record {
   notice = who.notice;
   own = λ p e. one_file w old p (sym (ap own_file home) ∙ e) there;
   next = λ p e. one_file w new p (sym (ap next_file home) ∙ e) too;
-  no_pending_zero = λ e. absurd (omega (arith, e, ap steps_done home, ap first_take home));
-  no_enabled_zero = λ e. absurd (omega (arith, e, ap steps_done home, ap first_take home));
+  no_pending_zero = λ e. absurd (omega (arith, eqb-true _ _ e, ap steps_done home));
+  no_enabled_zero = λ e. absurd (omega (arith, eqb-true _ _ e, ap steps_done home));
 }

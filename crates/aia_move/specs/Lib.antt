@@ -3,3 +3,4 @@ pub mod Load
 pub mod Turns
 pub mod Touches
 pub mod Plan
+pub mod Knows

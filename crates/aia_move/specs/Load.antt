@@ -31,7 +31,7 @@ pub record Does (access : Access) (m : Moving) (w u : World) (now : Load) : Type
   pub makes : Makes access m w u
   pub load : now ≡ one_done (load_of m) (hand_after access m w)
 
--- ---- the access of a phase, by the number of its first step
+-- ---- the access of a phase, by how many steps are done, now and as the phase began
 
 -- The G-stage record is written, then put in force.
 abbrev pub closing_access : ℕ → ℕ → Access

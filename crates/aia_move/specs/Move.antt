@@ -7,10 +7,10 @@ use Rattle.aia_imsic.specs.declared.spot.Spot.TheVariants.{HostFile, Nowhere}
 use Rattle.aia_imsic.specs.Imsic.{IsThere, file_at}
 use Rattle.aia_home.specs.declared.place.Place.{Place}
 use Rattle.aia_home.specs.Vms.{Vcpu, vcpu, is_vcpu_in, slot_of, notice_hart}
-use Rattle.aia_home.specs.Home.{Home, is_at_last, one_more}
+use Rattle.aia_home.specs.Home.{Home, one_more}
+use Rattle.aia_home.specs.Plans.{is_at_last, Access, IsNext, next_access, is_carried}
 use Rattle.aia_home.specs.Home.Home.{Leaving, Arriving}
-use Rattle.aia_home.specs.BySteps.{own_file, next_file, old_file, new_file, pending_step, enables_step}
-use Rattle.aia_home.specs.Plans.{Access, IsNext, next_access, steps_done}
+use Rattle.aia_home.specs.BySteps.{own_file, next_file, old_file, new_file}
 use Rattle.aia_home.specs.Plans.Access.{TakeDelivery, PutDelivery, WriteNotice, WriteEntry, Fence, WriteStage, FenceStage, TakePending, PutPending, TakeEnables, PutEnables, Look, TakeThreshold, PutThreshold, Post}
 use Rattle.aia_places.specs.View.{entry_word, second_word}
 use Rattle.aia_places.specs.Holds.{Hand, meets}
@@ -21,8 +21,7 @@ use Rattle.aia_fabric.specs.Stores.{Posts}
 use Rattle.aia_fabric.specs.Changes.{PutsRegister, spot_of, pending_words, enable_words, pending_at, with_pending, enable_at, with_enable, with_entry_word, with_fence, with_map, with_stage_fence}
 use Rattle.aia_move.specs.declared.who.Who.{Who}
 
--- Who is moved, its home (which move it is, and how many of its steps are done), and what the move
--- carries.
+-- Who is moved, its home (which move it is, and how far it has come), and what the move carries.
 pub record Moving : Type 0 where
   pub who : Who
   pub home : Home
@@ -125,9 +124,9 @@ pub record Fits (w : World) (m : Moving) : Type 0 where
   pub own : (p : Place) → own_file m.home ≡ Some p → IsThere w.imsic (spot_of p)
   pub next : (p : Place) → next_file m.home ≡ Some p → IsThere w.imsic (spot_of p)
   -- a word 0 that is carried has no identity 0
-  pub no_pending_zero : steps_done m.home ≡ pending_step m.home 0 + 1
+  pub no_pending_zero : is_carried (width w) m.home (TakePending 0) ≡ true
       → has_bit m.hand.word 0 ≡ false
-  pub no_enabled_zero : steps_done m.home ≡ enables_step (width w) m.home 0 + 1
+  pub no_enabled_zero : is_carried (width w) m.home (TakeEnables 0) ≡ true
       → has_bit m.hand.word 0 ≡ false
 
 -- The next step is that of the plan's table: it makes its access, and carries what that one takes.

@@ -1,12 +1,13 @@
 -- A move in any of its phases, and what a step makes of it.
-use Rattle.std.specs.Prelude.{ℕ, ◌+◌, ◌*◌}
+use Rattle.std.specs.Prelude.{ℕ}
+use Rattle.aia_home.specs.Phases.Phase.{FirstPhase, ClosingPhase, DrainPhase, EnablePhase, LookPhase, LastPhase}
 use Rattle.aia_move.specs.declared.plan.Plan.{Plan}
 use Rattle.aia_move.specs.declared.plan.Plan.TheVariants.{LeaveFirst, LeaveClosing, LeaveDrain, LeaveEnable, LeaveLook, LeaveLast, ArriveFirst, ArriveClosing, ArriveDrain, ArriveEnable, ArriveLast, ShiftFirst, ShiftClosing, ShiftDrain, ShiftEnable, ShiftLast}
 use Rattle.aia_move.specs.declared.plan.Next.{Next}
 use Rattle.aia_move.specs.declared.plan.Next.TheVariants.{Again, Finished}
 use Rattle.aia_move.specs.declared.turn.Outcome.{Outcome}
 use Rattle.aia_move.specs.Move.{Moving}
-use Rattle.aia_move.specs.Turns.{IsBetween}
+use Rattle.aia_move.specs.Turns.{IsInLeave, IsInArrive, IsInShift}
 
 -- The move.
 abbrev pub moving_of : Plan → Moving
@@ -27,24 +28,24 @@ moving_of (ShiftDrain m) = m
 moving_of (ShiftEnable m) = m
 moving_of (ShiftLast m) = m
 
--- Its next step is one of its phase's, of files of so many words.
+-- Its next step is one of its phase, of files of so many words.
 abbrev pub IsInPhase : ℕ → Plan → Type 0
-IsInPhase words (LeaveFirst m) = IsBetween 0 4 m
-IsInPhase words (LeaveClosing m) = IsBetween 4 6 m
-IsInPhase words (LeaveDrain m) = IsBetween 6 (6 + 2 * words) m
-IsInPhase words (LeaveEnable m) = IsBetween (6 + 2 * words) (6 + 4 * words) m
-IsInPhase words (LeaveLook m) = IsBetween (6 + 4 * words) (6 + 5 * words) m
-IsInPhase words (LeaveLast m) = IsBetween (6 + 5 * words) (8 + 5 * words) m
-IsInPhase words (ArriveFirst m) = IsBetween 0 2 m
-IsInPhase words (ArriveClosing m) = IsBetween 2 4 m
-IsInPhase words (ArriveDrain m) = IsBetween 4 (4 + 2 * words) m
-IsInPhase words (ArriveEnable m) = IsBetween (4 + 2 * words) (4 + 4 * words) m
-IsInPhase words (ArriveLast m) = IsBetween (4 + 4 * words) (6 + 4 * words) m
-IsInPhase words (ShiftFirst m) = IsBetween 0 3 m
-IsInPhase words (ShiftClosing m) = IsBetween 3 5 m
-IsInPhase words (ShiftDrain m) = IsBetween 5 (5 + 2 * words) m
-IsInPhase words (ShiftEnable m) = IsBetween (5 + 2 * words) (5 + 4 * words) m
-IsInPhase words (ShiftLast m) = IsBetween (5 + 4 * words) (8 + 4 * words) m
+IsInPhase words (LeaveFirst m) = IsInLeave FirstPhase words m
+IsInPhase words (LeaveClosing m) = IsInLeave ClosingPhase words m
+IsInPhase words (LeaveDrain m) = IsInLeave DrainPhase words m
+IsInPhase words (LeaveEnable m) = IsInLeave EnablePhase words m
+IsInPhase words (LeaveLook m) = IsInLeave LookPhase words m
+IsInPhase words (LeaveLast m) = IsInLeave LastPhase words m
+IsInPhase words (ArriveFirst m) = IsInArrive FirstPhase words m
+IsInPhase words (ArriveClosing m) = IsInArrive ClosingPhase words m
+IsInPhase words (ArriveDrain m) = IsInArrive DrainPhase words m
+IsInPhase words (ArriveEnable m) = IsInArrive EnablePhase words m
+IsInPhase words (ArriveLast m) = IsInArrive LastPhase words m
+IsInPhase words (ShiftFirst m) = IsInShift FirstPhase words m
+IsInPhase words (ShiftClosing m) = IsInShift ClosingPhase words m
+IsInPhase words (ShiftDrain m) = IsInShift DrainPhase words m
+IsInPhase words (ShiftEnable m) = IsInShift EnablePhase words m
+IsInPhase words (ShiftLast m) = IsInShift LastPhase words m
 
 -- What is said of a plan that goes on, and of what one that is finished gives back.
 abbrev pub MatchNext : Next → (Plan → Type 0) → (Outcome → Type 0) → Type 0

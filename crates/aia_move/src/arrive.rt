@@ -1,9 +1,11 @@
-ghost use Rattle.std.specs.Prelude.{◌≡◌, ◌+◌, ◌*◌, false, ⊤};
+ghost use Rattle.std.specs.Prelude.{◌≡◌, false, ⊤};
 ghost use Rattle.aia_home.specs.Home.{at_first};
 ghost use Rattle.aia_home.specs.Home.Home.{Arriving};
-ghost use Rattle.aia_home.specs.Plans.{steps_done};
+ghost use Rattle.aia_home.specs.Plans.{arrive_step, steps_done};
+ghost use Rattle.aia_home.specs.Plans.Access.{PutThreshold, PutDelivery};
+ghost use Rattle.aia_home.specs.Phases.Phase.{FirstPhase, ClosingPhase, DrainPhase, EnablePhase, LastPhase};
 ghost use Rattle.aia_move.specs.Move.{Fits, Ends, new_spot, width};
-ghost use Rattle.aia_move.specs.Turns.{IsBetween, GoesOn, EndsAs, GivesBack, MatchTurn};
+ghost use Rattle.aia_move.specs.Turns.{IsInArrive, GoesOn, EndsAs, GivesBack, MatchTurn};
 
 use crate::carrier::Carrier;
 use crate::phase::{Closing, Drain, Enable, First, Last};
@@ -53,14 +55,16 @@ impl Arrive<First> {
         }
     }
 
-    /// Writes word 0 of the entry, so that it leads to the file, and puts it in force: steps 0 and
-    /// 1.
+    /// Writes word 0 of the entry, so that it leads to the file, and puts it in force. Why here:
+    /// the entry is in force before the first word is taken from the slot, so that no store of a
+    /// device comes after its word.
     pub fn step(mut self, fabric: &mut Fabric) -> Turn<Self, Arrive<Closing>>
         requires fits { Fits fabric.old self }
-        requires phase { IsBetween 0 2 self }
+        requires phase { IsInArrive FirstPhase (width fabric.old) self }
         ensures goes { MatchTurn result (GoesOn fabric.old self fabric.new)
             (GoesOn fabric.old self fabric.new) }
-        ensures phase { MatchTurn result (IsBetween 0 2) (IsBetween 2 4) }
+        ensures phase { MatchTurn result (IsInArrive FirstPhase (width fabric.new))
+            (IsInArrive ClosingPhase (width fabric.new)) }
     {
         self.begin(fabric);
         if self.carrier.done() < 2 {
@@ -72,14 +76,15 @@ impl Arrive<First> {
 }
 
 impl Arrive<Closing> {
-    /// Makes the G-stage record name the file, and puts it in force: steps 2 and 3.
+    /// Makes the G-stage record name the file, and puts it in force. Why here: so is the record, so
+    /// that no store of a virtual hart comes after its word.
     pub fn step(mut self, fabric: &mut Fabric) -> Turn<Self, Arrive<Drain>>
         requires fits { Fits fabric.old self }
-        requires phase { IsBetween 2 4 self }
+        requires phase { IsInArrive ClosingPhase (width fabric.old) self }
         ensures goes { MatchTurn result (GoesOn fabric.old self fabric.new)
             (GoesOn fabric.old self fabric.new) }
-        ensures phase { MatchTurn result (IsBetween 2 4)
-            (IsBetween 4 (4 + 2 * width fabric.new)) }
+        ensures phase { MatchTurn result (IsInArrive ClosingPhase (width fabric.new))
+            (IsInArrive DrainPhase (width fabric.new)) }
     {
         let _words = fabric.words();
         self.close(fabric);
@@ -92,14 +97,15 @@ impl Arrive<Closing> {
 }
 
 impl Arrive<Drain> {
-    /// Takes a word of the pending set from the slot, or puts it in the file.
+    /// Takes a word of the pending set from the slot, or puts it in the file. Why here: no store
+    /// reaches the slot any more, so that a word which is taken stays empty.
     pub fn step(mut self, fabric: &mut Fabric) -> Turn<Self, Arrive<Enable>>
         requires fits { Fits fabric.old self }
-        requires phase { IsBetween 4 (4 + 2 * width fabric.old) self }
+        requires phase { IsInArrive DrainPhase (width fabric.old) self }
         ensures goes { MatchTurn result (GoesOn fabric.old self fabric.new)
             (GoesOn fabric.old self fabric.new) }
-        ensures phase { MatchTurn result (IsBetween 4 (4 + 2 * width fabric.new))
-            (IsBetween (4 + 2 * width fabric.new) (4 + 4 * width fabric.new)) }
+        ensures phase { MatchTurn result (IsInArrive DrainPhase (width fabric.new))
+            (IsInArrive EnablePhase (width fabric.new)) }
     {
         let words = fabric.words();
         self.carry_pending(fabric);
@@ -112,15 +118,15 @@ impl Arrive<Drain> {
 }
 
 impl Arrive<Enable> {
-    /// Takes a word of the enabled set from the slot, or puts it in the file.
+    /// Takes a word of the enabled set from the slot, or puts it in the file. Why here: the file
+    /// has all that was pending before anything in it is enabled.
     pub fn step(mut self, fabric: &mut Fabric) -> Turn<Self, Arrive<Last>>
         requires fits { Fits fabric.old self }
-        requires phase { IsBetween (4 + 2 * width fabric.old) (4 + 4 * width fabric.old) self }
+        requires phase { IsInArrive EnablePhase (width fabric.old) self }
         ensures goes { MatchTurn result (GoesOn fabric.old self fabric.new)
             (GoesOn fabric.old self fabric.new) }
-        ensures phase { MatchTurn result
-            (IsBetween (4 + 2 * width fabric.new) (4 + 4 * width fabric.new))
-            (IsBetween (4 + 4 * width fabric.new) (6 + 4 * width fabric.new)) }
+        ensures phase { MatchTurn result (IsInArrive EnablePhase (width fabric.new))
+            (IsInArrive LastPhase (width fabric.new)) }
     {
         let words = fabric.words();
         self.carry_enables(fabric);
@@ -133,14 +139,15 @@ impl Arrive<Enable> {
 }
 
 impl Arrive<Last> {
-    /// Puts eithreshold, then eidelivery, so that the file may signal.
+    /// Puts eithreshold, then eidelivery. Why here: the file may signal only once it has both sets
+    /// and the threshold.
     pub fn step(mut self, fabric: &mut Fabric) -> Turn<Self, Outcome>
         requires fits { Fits fabric.old self }
-        requires phase { IsBetween (4 + 4 * width fabric.old) (6 + 4 * width fabric.old) self }
+        requires phase { IsInArrive LastPhase (width fabric.old) self }
         ensures goes { MatchTurn result (GoesOn fabric.old self fabric.new)
             (EndsAs fabric.old self fabric.new) }
         ensures phase { MatchTurn result
-            (IsBetween (4 + 4 * width fabric.new) (6 + 4 * width fabric.new)) (λ o. ⊤) }
+            (IsInArrive LastPhase (width fabric.new)) (λ o. ⊤) }
     {
         let words = fabric.words();
         if self.carrier.done() < 5 + 4 * words {
@@ -153,12 +160,12 @@ impl Arrive<Last> {
     }
 }
 
-/// The accesses of its phases.
+/// The accesses of its
 impl<P> Arrive<P> {
     /// Makes the next access of the first phase.
     fn begin(&mut self, fabric: &mut Fabric)
         requires fits { Fits fabric.old self.old }
-        requires phase { IsBetween 0 2 self.old }
+        requires phase { IsInArrive FirstPhase (width fabric.old) self.old }
         ensures { GoesOn fabric.old self.old fabric.new self.new }
     {
         let _words = fabric.words();
@@ -171,7 +178,7 @@ impl<P> Arrive<P> {
     /// Makes the next access of the phase of the G-stage record.
     fn close(&mut self, fabric: &mut Fabric)
         requires fits { Fits fabric.old self.old }
-        requires phase { IsBetween 2 4 self.old }
+        requires phase { IsInArrive ClosingPhase (width fabric.old) self.old }
         ensures { GoesOn fabric.old self.old fabric.new self.new }
     {
         let _words = fabric.words();
@@ -181,7 +188,7 @@ impl<P> Arrive<P> {
     /// Makes the next access of the phase of the pending set.
     fn carry_pending(&mut self, fabric: &mut Fabric)
         requires fits { Fits fabric.old self.old }
-        requires phase { IsBetween 4 (4 + 2 * width fabric.old) self.old }
+        requires phase { IsInArrive DrainPhase (width fabric.old) self.old }
         ensures { GoesOn fabric.old self.old fabric.new self.new }
     {
         let _words = fabric.words();
@@ -193,7 +200,7 @@ impl<P> Arrive<P> {
     /// Makes the next access of the phase of the enabled set.
     fn carry_enables(&mut self, fabric: &mut Fabric)
         requires fits { Fits fabric.old self.old }
-        requires phase { IsBetween (4 + 2 * width fabric.old) (4 + 4 * width fabric.old) self.old }
+        requires phase { IsInArrive EnablePhase (width fabric.old) self.old }
         ensures { GoesOn fabric.old self.old fabric.new self.new }
     {
         let words = fabric.words();
@@ -206,7 +213,8 @@ impl<P> Arrive<P> {
     /// Puts eithreshold.
     fn put_threshold(&mut self, fabric: &mut Fabric)
         requires fits { Fits fabric.old self.old }
-        requires phase { steps_done self.old.home ≡ 4 + 4 * width fabric.old }
+        requires phase { steps_done self.old.home
+            ≡ arrive_step (width fabric.old) PutThreshold }
         ensures { GoesOn fabric.old self.old fabric.new self.new }
     {
         let _words = fabric.words();
@@ -217,7 +225,8 @@ impl<P> Arrive<P> {
     /// Puts eidelivery, the last access.
     fn put_delivery(&self, fabric: &mut Fabric)
         requires fits { Fits fabric.old self.now }
-        requires phase { steps_done self.now.home ≡ 5 + 4 * width fabric.old }
+        requires phase { steps_done self.now.home
+            ≡ arrive_step (width fabric.old) PutDelivery }
         ensures { Ends fabric.old self.now fabric.new self.now.hand }
     {
         let spot = self.spot();

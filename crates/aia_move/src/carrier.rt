@@ -4,7 +4,7 @@ ghost use Rattle.aia_word.specs.Sets.{has_bit};
 ghost use Rattle.aia_regs.specs.declared.limits.TheConstants.{VCPUS};
 ghost use Rattle.aia_imsic.specs.Imsic.{IsThere};
 ghost use Rattle.aia_home.specs.declared.place.Place.{Place};
-ghost use Rattle.aia_home.specs.Home.{leave_steps};
+ghost use Rattle.aia_home.specs.Plans.{leave_steps};
 ghost use Rattle.aia_home.specs.BySteps.{new_file};
 ghost use Rattle.aia_home.specs.Plans.Access.{TakeDelivery, PutDelivery, WriteNotice, WriteEntry, Fence, WriteStage, FenceStage, TakePending, PutPending, TakeEnables, PutEnables, Look, TakeThreshold, PutThreshold};
 ghost use Rattle.aia_fabric.specs.Changes.{IsPlaceThere, spot_of, words_at};

@@ -1,9 +1,11 @@
-ghost use Rattle.std.specs.Prelude.{◌≡◌, ◌+◌, ◌*◌, false, ⊤};
+ghost use Rattle.std.specs.Prelude.{◌≡◌, false, ⊤};
 ghost use Rattle.aia_home.specs.Home.{at_first};
 ghost use Rattle.aia_home.specs.Home.Home.{Leaving};
-ghost use Rattle.aia_home.specs.Plans.{steps_done};
+ghost use Rattle.aia_home.specs.Plans.{leave_step, steps_done};
+ghost use Rattle.aia_home.specs.Plans.Access.{TakeThreshold, Post};
+ghost use Rattle.aia_home.specs.Phases.Phase.{FirstPhase, ClosingPhase, DrainPhase, EnablePhase, LookPhase, LastPhase};
 ghost use Rattle.aia_move.specs.Move.{Fits, Ends, old_spot, width};
-ghost use Rattle.aia_move.specs.Turns.{IsBetween, GoesOn, EndsAs, GivesBack, MatchTurn};
+ghost use Rattle.aia_move.specs.Turns.{IsInLeave, GoesOn, EndsAs, GivesBack, MatchTurn};
 
 use crate::carrier::Carrier;
 use crate::phase::{Closing, Drain, Enable, First, Last, Look};
@@ -49,13 +51,15 @@ impl Leave<First> {
     }
 
     /// Takes eidelivery, writes both words of the entry, so that it leads to the slot, and puts it
-    /// in force: steps 0 to 3.
+    /// in force. Why here: the file is silent before anything moves, and word 1 says where notices
+    /// go before word 0 leads to the slot, so that no store there lacks its notice hart.
     pub fn step(mut self, fabric: &mut Fabric) -> Turn<Self, Leave<Closing>>
         requires fits { Fits fabric.old self }
-        requires phase { IsBetween 0 4 self }
+        requires phase { IsInLeave FirstPhase (width fabric.old) self }
         ensures goes { MatchTurn result (GoesOn fabric.old self fabric.new)
             (GoesOn fabric.old self fabric.new) }
-        ensures phase { MatchTurn result (IsBetween 0 4) (IsBetween 4 6) }
+        ensures phase { MatchTurn result (IsInLeave FirstPhase (width fabric.new))
+            (IsInLeave ClosingPhase (width fabric.new)) }
     {
         self.begin(fabric);
         if self.carrier.done() < 4 {
@@ -67,14 +71,15 @@ impl Leave<First> {
 }
 
 impl Leave<Closing> {
-    /// Empties the G-stage record, and puts it in force: steps 4 and 5.
+    /// Empties the G-stage record, and puts it in force. Why here: both routes are closed before
+    /// the first word is taken from the file, so that no store comes after its word.
     pub fn step(mut self, fabric: &mut Fabric) -> Turn<Self, Leave<Drain>>
         requires fits { Fits fabric.old self }
-        requires phase { IsBetween 4 6 self }
+        requires phase { IsInLeave ClosingPhase (width fabric.old) self }
         ensures goes { MatchTurn result (GoesOn fabric.old self fabric.new)
             (GoesOn fabric.old self fabric.new) }
-        ensures phase { MatchTurn result (IsBetween 4 6)
-            (IsBetween 6 (6 + 2 * width fabric.new)) }
+        ensures phase { MatchTurn result (IsInLeave ClosingPhase (width fabric.new))
+            (IsInLeave DrainPhase (width fabric.new)) }
     {
         let _words = fabric.words();
         self.close(fabric);
@@ -87,14 +92,15 @@ impl Leave<Closing> {
 }
 
 impl Leave<Drain> {
-    /// Takes a word of the pending set from the file, or puts it in the slot.
+    /// Takes a word of the pending set from the file, or puts it in the slot. Why here: no store
+    /// reaches the file any more, so that a word which is taken stays empty.
     pub fn step(mut self, fabric: &mut Fabric) -> Turn<Self, Leave<Enable>>
         requires fits { Fits fabric.old self }
-        requires phase { IsBetween 6 (6 + 2 * width fabric.old) self }
+        requires phase { IsInLeave DrainPhase (width fabric.old) self }
         ensures goes { MatchTurn result (GoesOn fabric.old self fabric.new)
             (GoesOn fabric.old self fabric.new) }
-        ensures phase { MatchTurn result (IsBetween 6 (6 + 2 * width fabric.new))
-            (IsBetween (6 + 2 * width fabric.new) (6 + 4 * width fabric.new)) }
+        ensures phase { MatchTurn result (IsInLeave DrainPhase (width fabric.new))
+            (IsInLeave EnablePhase (width fabric.new)) }
     {
         let words = fabric.words();
         self.carry_pending(fabric);
@@ -107,15 +113,15 @@ impl Leave<Drain> {
 }
 
 impl Leave<Enable> {
-    /// Takes a word of the enabled set from the file, or puts it in the slot.
+    /// Takes a word of the enabled set from the file, or puts it in the slot. Why here: the slot
+    /// has all that was pending; from its enables on, a store to a word is told to the host.
     pub fn step(mut self, fabric: &mut Fabric) -> Turn<Self, Leave<Look>>
         requires fits { Fits fabric.old self }
-        requires phase { IsBetween (6 + 2 * width fabric.old) (6 + 4 * width fabric.old) self }
+        requires phase { IsInLeave EnablePhase (width fabric.old) self }
         ensures goes { MatchTurn result (GoesOn fabric.old self fabric.new)
             (GoesOn fabric.old self fabric.new) }
-        ensures phase { MatchTurn result
-            (IsBetween (6 + 2 * width fabric.new) (6 + 4 * width fabric.new))
-            (IsBetween (6 + 4 * width fabric.new) (6 + 5 * width fabric.new)) }
+        ensures phase { MatchTurn result (IsInLeave EnablePhase (width fabric.new))
+            (IsInLeave LookPhase (width fabric.new)) }
     {
         let words = fabric.words();
         self.carry_enables(fabric);
@@ -128,15 +134,15 @@ impl Leave<Enable> {
 }
 
 impl Leave<Look> {
-    /// Looks at a word of both sets of the slot.
+    /// Looks at a word of both sets of the slot. Why here: each word is watched, so that a look
+    /// misses only what the host is told of; it finds what had come before.
     pub fn step(mut self, fabric: &mut Fabric) -> Turn<Self, Leave<Last>>
         requires fits { Fits fabric.old self }
-        requires phase { IsBetween (6 + 4 * width fabric.old) (6 + 5 * width fabric.old) self }
+        requires phase { IsInLeave LookPhase (width fabric.old) self }
         ensures goes { MatchTurn result (GoesOn fabric.old self fabric.new)
             (GoesOn fabric.old self fabric.new) }
-        ensures phase { MatchTurn result
-            (IsBetween (6 + 4 * width fabric.new) (6 + 5 * width fabric.new))
-            (IsBetween (6 + 5 * width fabric.new) (8 + 5 * width fabric.new)) }
+        ensures phase { MatchTurn result (IsInLeave LookPhase (width fabric.new))
+            (IsInLeave LastPhase (width fabric.new)) }
     {
         let words = fabric.words();
         self.look(fabric);
@@ -149,14 +155,15 @@ impl Leave<Look> {
 }
 
 impl Leave<Last> {
-    /// Takes eithreshold, then sends the notice where a look saw something.
+    /// Takes eithreshold, then sends the notice where a look saw something. Why here: all looks are
+    /// done, so that one notice stands for what they saw.
     pub fn step(mut self, fabric: &mut Fabric) -> Turn<Self, Outcome>
         requires fits { Fits fabric.old self }
-        requires phase { IsBetween (6 + 5 * width fabric.old) (8 + 5 * width fabric.old) self }
+        requires phase { IsInLeave LastPhase (width fabric.old) self }
         ensures goes { MatchTurn result (GoesOn fabric.old self fabric.new)
             (EndsAs fabric.old self fabric.new) }
         ensures phase { MatchTurn result
-            (IsBetween (6 + 5 * width fabric.new) (8 + 5 * width fabric.new)) (λ o. ⊤) }
+            (IsInLeave LastPhase (width fabric.new)) (λ o. ⊤) }
     {
         let words = fabric.words();
         if self.carrier.done() < 7 + 5 * words {
@@ -169,12 +176,12 @@ impl Leave<Last> {
     }
 }
 
-/// The accesses of its phases.
+/// The accesses of its
 impl<P> Leave<P> {
     /// Makes the next access of the first phase.
     fn begin(&mut self, fabric: &mut Fabric)
         requires fits { Fits fabric.old self.old }
-        requires phase { IsBetween 0 4 self.old }
+        requires phase { IsInLeave FirstPhase (width fabric.old) self.old }
         ensures { GoesOn fabric.old self.old fabric.new self.new }
     {
         let _words = fabric.words();
@@ -190,7 +197,7 @@ impl<P> Leave<P> {
     /// Makes the next access of the phase of the G-stage record.
     fn close(&mut self, fabric: &mut Fabric)
         requires fits { Fits fabric.old self.old }
-        requires phase { IsBetween 4 6 self.old }
+        requires phase { IsInLeave ClosingPhase (width fabric.old) self.old }
         ensures { GoesOn fabric.old self.old fabric.new self.new }
     {
         let _words = fabric.words();
@@ -200,7 +207,7 @@ impl<P> Leave<P> {
     /// Makes the next access of the phase of the pending set.
     fn carry_pending(&mut self, fabric: &mut Fabric)
         requires fits { Fits fabric.old self.old }
-        requires phase { IsBetween 6 (6 + 2 * width fabric.old) self.old }
+        requires phase { IsInLeave DrainPhase (width fabric.old) self.old }
         ensures { GoesOn fabric.old self.old fabric.new self.new }
     {
         let _words = fabric.words();
@@ -212,7 +219,7 @@ impl<P> Leave<P> {
     /// Makes the next access of the phase of the enabled set.
     fn carry_enables(&mut self, fabric: &mut Fabric)
         requires fits { Fits fabric.old self.old }
-        requires phase { IsBetween (6 + 2 * width fabric.old) (6 + 4 * width fabric.old) self.old }
+        requires phase { IsInLeave EnablePhase (width fabric.old) self.old }
         ensures { GoesOn fabric.old self.old fabric.new self.new }
     {
         let words = fabric.words();
@@ -225,7 +232,7 @@ impl<P> Leave<P> {
     /// Makes the next look.
     fn look(&mut self, fabric: &Fabric)
         requires fits { Fits fabric.now self.old }
-        requires phase { IsBetween (6 + 4 * width fabric.now) (6 + 5 * width fabric.now) self.old }
+        requires phase { IsInLeave LookPhase (width fabric.now) self.old }
         ensures { GoesOn fabric.now self.old fabric.now self.new }
     {
         let words = fabric.words();
@@ -236,7 +243,8 @@ impl<P> Leave<P> {
     /// Takes eithreshold.
     fn take_threshold(&mut self, fabric: &mut Fabric)
         requires fits { Fits fabric.old self.old }
-        requires phase { steps_done self.old.home ≡ 6 + 5 * width fabric.old }
+        requires phase { steps_done self.old.home
+            ≡ leave_step (width fabric.old) TakeThreshold }
         ensures { GoesOn fabric.old self.old fabric.new self.new }
     {
         let _words = fabric.words();
@@ -247,7 +255,8 @@ impl<P> Leave<P> {
     /// Sends the notice, the last access.
     fn post(&self, fabric: &mut Fabric)
         requires fits { Fits fabric.old self.now }
-        requires phase { steps_done self.now.home ≡ 7 + 5 * width fabric.old }
+        requires phase { steps_done self.now.home
+            ≡ leave_step (width fabric.old) Post }
         ensures { Ends fabric.old self.now fabric.new self.now.hand }
     {
         self.carrier.post(fabric);

@@ -1,9 +1,11 @@
-ghost use Rattle.std.specs.Prelude.{◌≡◌, ◌+◌, ◌*◌, false, ⊤};
+ghost use Rattle.std.specs.Prelude.{◌≡◌, false, ⊤};
 ghost use Rattle.aia_home.specs.Home.{at_first};
 ghost use Rattle.aia_home.specs.Home.Home.{Shifting};
-ghost use Rattle.aia_home.specs.Plans.{steps_done};
+ghost use Rattle.aia_home.specs.Plans.{shift_step, steps_done};
+ghost use Rattle.aia_home.specs.Plans.Access.{TakeThreshold, PutDelivery};
+ghost use Rattle.aia_home.specs.Phases.Phase.{FirstPhase, ClosingPhase, DrainPhase, EnablePhase, LastPhase};
 ghost use Rattle.aia_move.specs.Move.{Fits, Ends, old_spot, new_spot, width};
-ghost use Rattle.aia_move.specs.Turns.{IsBetween, GoesOn, EndsAs, GivesBack, MatchTurn};
+ghost use Rattle.aia_move.specs.Turns.{IsBetween, IsInShift, GoesOn, EndsAs, GivesBack, MatchTurn};
 
 use crate::carrier::Carrier;
 use crate::phase::{Closing, Drain, Enable, First, Last};
@@ -51,13 +53,15 @@ impl Shift<First> {
     }
 
     /// Takes eidelivery, writes word 0 of the entry, so that it leads to the new file, and puts it
-    /// in force: steps 0 to 2.
+    /// in force. Why here: the old file is silent before anything moves, and the entry is in force
+    /// before the first word is taken, so that no store of a device comes after its word.
     pub fn step(mut self, fabric: &mut Fabric) -> Turn<Self, Shift<Closing>>
         requires fits { Fits fabric.old self }
-        requires phase { IsBetween 0 3 self }
+        requires phase { IsInShift FirstPhase (width fabric.old) self }
         ensures goes { MatchTurn result (GoesOn fabric.old self fabric.new)
             (GoesOn fabric.old self fabric.new) }
-        ensures phase { MatchTurn result (IsBetween 0 3) (IsBetween 3 5) }
+        ensures phase { MatchTurn result (IsInShift FirstPhase (width fabric.new))
+            (IsInShift ClosingPhase (width fabric.new)) }
     {
         self.begin(fabric);
         if self.carrier.done() < 3 {
@@ -69,14 +73,15 @@ impl Shift<First> {
 }
 
 impl Shift<Closing> {
-    /// Makes the G-stage record name the new file, and puts it in force: steps 3 and 4.
+    /// Makes the G-stage record name the new file, and puts it in force. Why here: so is the
+    /// record, so that no store of a virtual hart comes after its word.
     pub fn step(mut self, fabric: &mut Fabric) -> Turn<Self, Shift<Drain>>
         requires fits { Fits fabric.old self }
-        requires phase { IsBetween 3 5 self }
+        requires phase { IsInShift ClosingPhase (width fabric.old) self }
         ensures goes { MatchTurn result (GoesOn fabric.old self fabric.new)
             (GoesOn fabric.old self fabric.new) }
-        ensures phase { MatchTurn result (IsBetween 3 5)
-            (IsBetween 5 (5 + 2 * width fabric.new)) }
+        ensures phase { MatchTurn result (IsInShift ClosingPhase (width fabric.new))
+            (IsInShift DrainPhase (width fabric.new)) }
     {
         let _words = fabric.words();
         self.close(fabric);
@@ -89,14 +94,15 @@ impl Shift<Closing> {
 }
 
 impl Shift<Drain> {
-    /// Takes a word of the pending set from the old file, or puts it in the new one.
+    /// Takes a word of the pending set from the old file, or puts it in the new one. Why here: no
+    /// store reaches the old file any more, so that a word which is taken stays empty.
     pub fn step(mut self, fabric: &mut Fabric) -> Turn<Self, Shift<Enable>>
         requires fits { Fits fabric.old self }
-        requires phase { IsBetween 5 (5 + 2 * width fabric.old) self }
+        requires phase { IsInShift DrainPhase (width fabric.old) self }
         ensures goes { MatchTurn result (GoesOn fabric.old self fabric.new)
             (GoesOn fabric.old self fabric.new) }
-        ensures phase { MatchTurn result (IsBetween 5 (5 + 2 * width fabric.new))
-            (IsBetween (5 + 2 * width fabric.new) (5 + 4 * width fabric.new)) }
+        ensures phase { MatchTurn result (IsInShift DrainPhase (width fabric.new))
+            (IsInShift EnablePhase (width fabric.new)) }
     {
         let words = fabric.words();
         self.carry_pending(fabric);
@@ -109,15 +115,15 @@ impl Shift<Drain> {
 }
 
 impl Shift<Enable> {
-    /// Takes a word of the enabled set from the old file, or puts it in the new one.
+    /// Takes a word of the enabled set from the old file, or puts it in the new one. Why here: the
+    /// new file has all that was pending before anything in it is enabled.
     pub fn step(mut self, fabric: &mut Fabric) -> Turn<Self, Shift<Last>>
         requires fits { Fits fabric.old self }
-        requires phase { IsBetween (5 + 2 * width fabric.old) (5 + 4 * width fabric.old) self }
+        requires phase { IsInShift EnablePhase (width fabric.old) self }
         ensures goes { MatchTurn result (GoesOn fabric.old self fabric.new)
             (GoesOn fabric.old self fabric.new) }
-        ensures phase { MatchTurn result
-            (IsBetween (5 + 2 * width fabric.new) (5 + 4 * width fabric.new))
-            (IsBetween (5 + 4 * width fabric.new) (8 + 4 * width fabric.new)) }
+        ensures phase { MatchTurn result (IsInShift EnablePhase (width fabric.new))
+            (IsInShift LastPhase (width fabric.new)) }
     {
         let words = fabric.words();
         self.carry_enables(fabric);
@@ -130,14 +136,15 @@ impl Shift<Enable> {
 }
 
 impl Shift<Last> {
-    /// Takes eithreshold and puts it, then puts eidelivery, so that the new file may signal.
+    /// Takes eithreshold and puts it, then puts eidelivery. Why here: the new file may signal only
+    /// once it has both sets and the threshold.
     pub fn step(mut self, fabric: &mut Fabric) -> Turn<Self, Outcome>
         requires fits { Fits fabric.old self }
-        requires phase { IsBetween (5 + 4 * width fabric.old) (8 + 4 * width fabric.old) self }
+        requires phase { IsInShift LastPhase (width fabric.old) self }
         ensures goes { MatchTurn result (GoesOn fabric.old self fabric.new)
             (EndsAs fabric.old self fabric.new) }
         ensures phase { MatchTurn result
-            (IsBetween (5 + 4 * width fabric.new) (8 + 4 * width fabric.new)) (λ o. ⊤) }
+            (IsInShift LastPhase (width fabric.new)) (λ o. ⊤) }
     {
         let words = fabric.words();
         if self.carrier.done() < 7 + 4 * words {
@@ -150,12 +157,12 @@ impl Shift<Last> {
     }
 }
 
-/// The accesses of its phases.
+/// The accesses of its
 impl<P> Shift<P> {
     /// Makes the next access of the first phase.
     fn begin(&mut self, fabric: &mut Fabric)
         requires fits { Fits fabric.old self.old }
-        requires phase { IsBetween 0 3 self.old }
+        requires phase { IsInShift FirstPhase (width fabric.old) self.old }
         ensures { GoesOn fabric.old self.old fabric.new self.new }
     {
         let _words = fabric.words();
@@ -170,7 +177,7 @@ impl<P> Shift<P> {
     /// Makes the next access of the phase of the G-stage record.
     fn close(&mut self, fabric: &mut Fabric)
         requires fits { Fits fabric.old self.old }
-        requires phase { IsBetween 3 5 self.old }
+        requires phase { IsInShift ClosingPhase (width fabric.old) self.old }
         ensures { GoesOn fabric.old self.old fabric.new self.new }
     {
         let _words = fabric.words();
@@ -180,7 +187,7 @@ impl<P> Shift<P> {
     /// Makes the next access of the phase of the pending set.
     fn carry_pending(&mut self, fabric: &mut Fabric)
         requires fits { Fits fabric.old self.old }
-        requires phase { IsBetween 5 (5 + 2 * width fabric.old) self.old }
+        requires phase { IsInShift DrainPhase (width fabric.old) self.old }
         ensures { GoesOn fabric.old self.old fabric.new self.new }
     {
         let _words = fabric.words();
@@ -192,7 +199,7 @@ impl<P> Shift<P> {
     /// Makes the next access of the phase of the enabled set.
     fn carry_enables(&mut self, fabric: &mut Fabric)
         requires fits { Fits fabric.old self.old }
-        requires phase { IsBetween (5 + 2 * width fabric.old) (5 + 4 * width fabric.old) self.old }
+        requires phase { IsInShift EnablePhase (width fabric.old) self.old }
         ensures { GoesOn fabric.old self.old fabric.new self.new }
     {
         let words = fabric.words();
@@ -204,7 +211,8 @@ impl<P> Shift<P> {
     /// Takes eithreshold, or puts it.
     fn carry_threshold(&mut self, fabric: &mut Fabric)
         requires fits { Fits fabric.old self.old }
-        requires phase { IsBetween (5 + 4 * width fabric.old) (7 + 4 * width fabric.old) self.old }
+        requires phase { IsBetween (shift_step (width fabric.old) TakeThreshold)
+            (shift_step (width fabric.old) PutDelivery) self.old }
         ensures { GoesOn fabric.old self.old fabric.new self.new }
     {
         let words = fabric.words();
@@ -220,7 +228,8 @@ impl<P> Shift<P> {
     /// Puts eidelivery, the last access.
     fn put_delivery(&self, fabric: &mut Fabric)
         requires fits { Fits fabric.old self.now }
-        requires phase { steps_done self.now.home ≡ 7 + 4 * width fabric.old }
+        requires phase { steps_done self.now.home
+            ≡ shift_step (width fabric.old) PutDelivery }
         ensures { Ends fabric.old self.now fabric.new self.now.hand }
     {
         let new = self.new_spot();

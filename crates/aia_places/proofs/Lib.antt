@@ -11,3 +11,4 @@ pub mod MoveEnds
 pub mod FileLemmas
 pub mod StoreLemmas
 pub mod WatchLemmas
+pub mod PhaseLemmas

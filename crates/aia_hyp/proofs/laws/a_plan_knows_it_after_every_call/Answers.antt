@@ -1,5 +1,8 @@
-use Rattle.aia_hyp.proofs.MoveLines.{knows_after}
+use Rattle.aia_hyp.proofs.MoveLines.{knows_after, knows_heard}
 use Rattle.aia_hyp.proofs.laws.a_plan_knows_it_after_every_call.Goals as goal
 
-pub returns : goal.returns
-returns c = knows_after
+pub returns-clause-takes : goal.returns-clause-takes
+returns-clause-takes c = knows_after
+
+pub returns-clause-hears : goal.returns-clause-hears
+returns-clause-hears c = knows_heard

@@ -1,4 +1,8 @@
-use Rattle.std.proofs.Common.{refl, sym, ap, ◌∙◌}
+use Rattle.std.proofs.Common.{refl, sym, ap, ◌∙◌, arith, subst}
+use Rattle.aia_move.proofs.WhoLemmas.{slot_there}
+use Rattle.aia_fabric.specs.Changes.{IsPlaceThere}
+use Rattle.aia_home.specs.Plans.Access.{TakePending}
+use Rattle.aia_home.specs.Plans.{leave_step}
 use Rattle.aia_home.specs.Home.Home.{Leaving}
 use Rattle.aia_fabric.specs.declared.at.At.TheVariants.{File}
 use Rattle.aia_move.specs.Move.{old_spot}
@@ -6,10 +10,16 @@ use Rattle.aia_move.specs.Load.{moving}
 use Rattle.aia_move.proofs.StepLemmas.{carries_pending}
 use Rattle.aia_move.proofs.leave.Leave.carry_pending.Goals as goal
 
+pub carry_pending-requires-clause-to : goal.carry_pending-requires-clause-to
+carry_pending-requires-clause-to g c =
+    let l = c.self.inside in
+    let w = c.args.fabric.now in
+    subst (λ at. IsPlaceThere w at) (sym c.slot-slot.ensures) (slot_there w (moving (Leaving l.file) l.carrier) c.args.self.now c.self.view_is c.words-words.ensures.whole c.requires.fits)
+
 pub returns : goal.returns
 returns g c =
     let l = c.self.inside in
     let m = moving (Leaving l.file) l.carrier in
     let from = ap (λ x. File x) (ap old_spot c.self.view_is ∙ sym c.spot.ensures) in
-    carries_pending c.args.fabric.now c.carry_pending.new.fabric m c.args.self.now (Leaving l.file) 6 c.carry_pending.new.self c.self.view_is c.requires.fits refl refl refl c.requires.phase
+    carries_pending c.args.fabric.now c.carry_pending.new.fabric m c.args.self.now (Leaving l.file) (leave_step 0 (TakePending 0)) c.carry_pending.new.self c.self.view_is c.requires.fits refl refl refl (omega (arith, c.requires.phase))
     (c.carry_pending.ensures.does m refl from (sym c.slot-slot.ensures)) c.carry_pending.ensures.no_zero

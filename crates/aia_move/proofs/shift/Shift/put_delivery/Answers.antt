@@ -1,7 +1,7 @@
-use Rattle.std.proofs.Common.{◌≡◌, ◌+◌, ◌*◌, refl, sym, ap, ◌∙◌, arith}
+use Rattle.std.proofs.Common.{◌≡◌, refl, sym, ap, ◌∙◌, arith}
 use Rattle.std.proofs.lemmas.Bool.{eq-eqb}
 use Rattle.aia_home.specs.Home.Home.{Shifting}
-use Rattle.aia_home.specs.Plans.{steps_done}
+use Rattle.aia_home.specs.Plans.{steps_done, shift_step}
 use Rattle.aia_home.specs.Plans.Access.{PutDelivery}
 use Rattle.aia_move.specs.Move.{Moving, width, new_spot}
 use Rattle.aia_move.specs.Load.{moving}
@@ -13,6 +13,6 @@ returns g c =
     let l = c.self.inside in
     let m = moving (Shifting l.from l.to) l.carrier in
     let w = c.args.fabric.now in
-    let here : l.carrier.steps ≡ 7 + 4 * width w = ap (λ (x : Moving). steps_done x.home) c.self.view_is ∙ c.requires.phase in
+    let here : l.carrier.steps ≡ shift_step (width w) PutDelivery = ap (λ (x : Moving). steps_done x.home) c.self.view_is ∙ c.requires.phase in
     step_last w c.put_delivery.new.fabric m c.args.self.now PutDelivery c.self.view_is (record { has = refl; step = here })
     (c.put_delivery.ensures m refl (ap new_spot c.self.view_is ∙ sym c.new_spot-new.ensures)) refl (eq-eqb _ _ (omega (arith, here)))

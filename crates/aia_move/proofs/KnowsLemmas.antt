@@ -1,0 +1,219 @@
+-- A store on a fabric keeps what a plan knows.
+use Rattle.std.proofs.Common.{◌≡◌, ◌≢◌, ℕ, ◌+◌, ◌/◌, Bool, true, ◌&&◌, ◌||◌, nat_lt, Option, Some, None, inl, inr, refl, sym, ap, ◌∙◌, subst, arith}
+use Rattle.std.specs.Int.{is_in_range}
+use Rattle.std.proofs.lemmas.Bool.{cases_Bool, cond-true}
+use Rattle.std.proofs.lemmas.Bool.Decides.{nat_tests}
+use Rattle.aia_regs.specs.declared.limits.TheConstants.{IDENTITIES}
+use Rattle.aia_regs.specs.AddressMap.{supervisor_page}
+use Rattle.aia_regs.specs.Request.{requested}
+use Rattle.aia_file.specs.InterruptFile.{InterruptFile, landed}
+use Rattle.aia_file.specs.FileState.{shown}
+use Rattle.aia_imsic.specs.declared.spot.Spot.{Spot}
+use Rattle.aia_imsic.specs.declared.spot.Spot.TheVariants.{HostFile}
+use Rattle.aia_imsic.specs.Imsic.{ImsicState, IsThere, file_at}
+use Rattle.aia_imsic.proofs.PlaceLemmas.{kept_elsewhere}
+use Rattle.aia_mrif.specs.declared.slot.Stored.{Stored}
+use Rattle.aia_mrif.specs.declared.slot.Stored.TheVariants.{Discarded, Quiet, Notice}
+use Rattle.aia_mrif.specs.Mrif.{mrif_in, stored}
+use Rattle.aia_entry.specs.declared.table.Route.{Route}
+use Rattle.aia_entry.specs.Tables.{table_of, entry_in_force, leads_by, route_of}
+use Rattle.aia_entry.specs.Translation.{is_msi_address, file_number}
+use Rattle.aia_home.specs.declared.place.Place.{Place}
+use Rattle.aia_home.specs.Vms.{Vcpu, is_vcpu_in, slot_of, notice_identity, notice_hart}
+use Rattle.aia_home.specs.Home.{Home, is_place, holds}
+use Rattle.aia_home.specs.Home.Home.{Parked, Resident, Leaving, Arriving, Shifting}
+use Rattle.aia_home.specs.BySteps.{own_file, next_file, new_file}
+use Rattle.aia_home.specs.Routes.{origin, peers_reach, MayLand}
+use Rattle.aia_home.proofs.RouteLemmas.{reach_lands, peers_may}
+use Rattle.aia_places.specs.View.{View, leads_to}
+use Rattle.aia_places.specs.Holds.{Holds, IsWithin}
+use Rattle.aia_places.specs.Stores.{view_landed, AreApart}
+use Rattle.aia_places.proofs.StoreLemmas.{lands}
+use Rattle.aia_fabric.specs.World.{World, stage_of}
+use Rattle.aia_fabric.specs.Whole.{IsWhole}
+use Rattle.aia_fabric.specs.Stores.{StoresIn, StoresAt, NoticedBy, StoresInSlot, Reaches, Relays, with_store, page_spot, named_spot}
+use Rattle.aia_fabric.specs.Changes.{spot_of, file_in, view}
+use Rattle.aia_fabric.specs.Own.{TouchesOwn}
+use Rattle.aia_fabric.proofs.OwnLemmas.{guest_spot, own_is_held, next_is_held, touches_file, touches_slot, others_stay}
+use Rattle.aia_fabric.proofs.PlaceLemmas.{slot_found, host_page}
+use Rattle.aia_fabric.proofs.StoreViews.{file_store-view, slot_store-view}
+use Rattle.aia_fabric.proofs.ViewLemmas.{posts-view, slot_low}
+use Rattle.aia_fabric.proofs.WholeLemmas.{notice_hart_there}
+use Rattle.aia_move.specs.declared.plan.Plan.{Plan}
+use Rattle.aia_move.specs.Move.{Moving, mover, width, Fits}
+use Rattle.aia_move.specs.Plan.{moving_of}
+use Rattle.aia_move.specs.Touches.{SameMachine}
+use Rattle.aia_move.specs.Knows.{Knows}
+use Rattle.aia_move.proofs.MachineLemmas.{fits_still, phase_still}
+use Rattle.aia_move.proofs.MadeView.{few_words}
+use Rattle.aia_move.proofs.MoveKept.{file_in-size}
+
+-- ---- in a world of the same machine with other places
+
+own_machine : (w u : World) (g : Vcpu) (place : Option Place) → TouchesOwn w u g place → SameMachine w u
+own_machine w u g place t = record {
+  n = ap (λ (x : World). x.n) t.rest;
+  vms = ap (λ (x : World). x.vms) t.rest;
+  harts = ap (λ (x : World). x.imsic.harts) t.rest;
+  guests = ap (λ (x : World). x.imsic.guests) t.rest;
+}
+
+module _ (w u : World) (plan : Plan) (reach : Option Place) (saw : Bool) (same : SameMachine w u) where
+  abbrev m : Moving
+  m = moving_of plan
+
+  knows_by : (file after : InterruptFile) → Knows w plan reach file saw → (v : View) → view u (mover m) m.home ≡ v
+      → Holds (width w) m.who.slot m.who.notice reach v m.home m.hand after saw → Knows u plan reach after saw
+  knows_by file after knows v seen held = record {
+    fits = fits_still w u m same knows.fits;
+    phase = phase_still w u plan same knows.phase;
+    holds = subst (λ n. Holds ((n + 1) / 64) m.who.slot m.who.notice reach (view u (mover m) m.home) m.home m.hand after saw) (sym same.n)
+        (subst (λ (z : View). Holds (width w) m.who.slot m.who.notice reach z m.home m.hand after saw) (sym seen) held);
+  }
+
+-- ---- a store for the virtual hart that is moved
+
+-- where it lands: in a guest file, or in the slot
+abbrev Lands : World → World → Vcpu → Option Place → ℕ → ℕ → Type 0
+Lands w u g (Some p) offset value = StoresIn w u (spot_of p) offset value
+Lands w u g None offset value = StoresInSlot w u (Some (slot_of w.vms g)) (HostFile (notice_hart w.vms g)) (notice_identity w.vms g) offset value
+
+place_held : (words : ℕ) (place : Option Place) (there : Home) (p : Place) → MayLand words there place → place ≡ Some p → holds p there ≡ true
+place_held words place there p may some = either may
+  where
+    origin_held : (z : Home) → origin z ≡ Some p → holds p z ≡ true
+    origin_held (Resident q) e = own_is_held (Resident q) p e
+    origin_held (Leaving from at) e = own_is_held (Leaving from at) p e
+    origin_held (Shifting from to at) e = own_is_held (Shifting from to at) p e
+    origin_held Parked e = absurd (cc)
+    origin_held (Arriving to at) e = absurd (cc)
+
+    new_held : (z : Home) → new_file z ≡ Some p → holds p z ≡ true
+    new_held (Arriving to at) e = own_is_held (Arriving to at) p e
+    new_held (Shifting from to at) e = next_is_held (Shifting from to at) p e
+    new_held Parked e = absurd (cc)
+    new_held (Resident q) e = absurd (cc)
+    new_held (Leaving from at) e = absurd (cc)
+
+    either : MayLand words there place → holds p there ≡ true
+    either (inl a) = origin_held there (sym a.0 ∙ some)
+    either (inr a) = new_held there (sym a.0 ∙ some)
+
+held_there : (w : World) (m : Moving) → Fits w m → (p : Place) → holds p m.home ≡ true → IsThere w.imsic (spot_of p)
+held_there w m fits p held = by_home m.home fits.own fits.next held
+  where
+    one : (a b : Place) → is_place a b ≡ true → a ≡ b
+    one a b e = let hart : a.hart ≡ b.hart = grind (arith, nat_tests) in let file : a.file ≡ b.file = grind (arith, nat_tests) in λ k. record { hart = hart k; file = file k }
+
+    at : (q : Place) → is_place p q ≡ true → IsThere w.imsic (spot_of q) → IsThere w.imsic (spot_of p)
+    at q e inside = subst (λ (r : Place). IsThere w.imsic (spot_of r)) (sym (one p q e)) inside
+
+    by_home : (z : Home) → ((r : Place) → own_file z ≡ Some r → IsThere w.imsic (spot_of r)) → ((r : Place) → next_file z ≡ Some r → IsThere w.imsic (spot_of r)) → holds p z ≡ true → IsThere w.imsic (spot_of p)
+    by_home Parked own next e = absurd (cc)
+    by_home (Resident q) own next e = at q e (own q refl)
+    by_home (Leaving from at_) own next e = at from e (own from refl)
+    by_home (Arriving to at_) own next e = at to e (own to refl)
+    by_home (Shifting from to at_) own next e = elim (cases_Bool (is_place p from)) [
+      | inl first ↦ at from first (own from refl)
+      | inr other ↦ at to (sym (ap (λ b. b || is_place p to) other) ∙ e) (next to refl)
+    ]
+
+module _ (w u : World) (plan : Plan) (reach : Option Place) (file : InterruptFile) (saw : Bool) (offset value : ℕ) (whole : IsWhole w) (apart : AreApart (moving_of plan).home) (within : IsWithin w.n (width w) file) (knows : Knows w plan reach file saw) where
+  abbrev mv : Moving
+  mv = moving_of plan
+
+  -- it shows in its places
+  by_outcome : (became : Stored) → NoticedBy became (with_store w (slot_of w.vms (mover mv)) offset value) u (HostFile (notice_hart w.vms (mover mv))) (notice_identity w.vms (mover mv))
+      → view u (mover mv) mv.home ≡ view (with_store w (slot_of w.vms (mover mv)) offset value) (mover mv) mv.home
+  by_outcome Notice posts = posts-view (with_store w (slot_of w.vms (mover mv)) offset value) u (mover mv) mv.home (notice_hart w.vms (mover mv)) (notice_identity w.vms (mover mv))
+      (notice_hart_there w (mover mv) whole knows.fits.there) knows.fits.own knows.fits.next posts
+  by_outcome Quiet same = ap (λ (x : World). view x (mover mv) mv.home) same
+  by_outcome Discarded same = ap (λ (x : World). view x (mover mv) mv.home) same
+
+  shows : (place : Option Place) → MayLand (width w) mv.home place → Lands w u (mover mv) place offset value
+      → (view u (mover mv) mv.home ≡ view_landed place mv.home offset value (view w (mover mv) mv.home)) × SameMachine w u
+  shows (Some p) may stores =
+      let held = place_held (width w) (Some p) mv.home p may refl in
+      let here = held_there w mv knows.fits p held in
+      (file_store-view w u (mover mv) p offset value whole here stores mv.home held apart knows.fits.own knows.fits.next,
+      own_machine w u (mover mv) (Some p) (touches_file w u (mover mv) p offset value whole knows.fits.there here stores))
+  shows None may stores =
+      (by_outcome (stored (mrif_in w.memory (slot_of w.vms (mover mv))) (requested IDENTITIES offset value)) stores
+      ∙ slot_store-view w (mover mv) mv.home (slot_of w.vms (mover mv)) offset value whole (slot_low w (mover mv) whole knows.fits.there) refl,
+      own_machine w u (mover mv) None (touches_slot w u (mover mv) offset value whole knows.fits.there stores))
+
+  lands_knows : (place : Option Place) → MayLand (width w) mv.home place → Lands w u (mover mv) place offset value → Knows u plan reach (landed offset value file) saw
+  lands_knows place may stores =
+      let both = shows place may stores in
+      knows_by w u plan reach saw both.1 file (landed offset value file) knows (view_landed place mv.home offset value (view w (mover mv) mv.home)) both.0
+      (lands w.n (width w) mv.who.slot mv.who.notice offset value reach (view w (mover mv) mv.home) mv.hand file saw within (few_words w.n whole.greatest) mv.home
+      (file_in-size w (own_file mv.home) whole knows.fits.own) (file_in-size w (next_file mv.home) whole knows.fits.next) apart place may knows.holds)
+
+  -- a device's, where its entry in force leads
+  entry_lands : (place : Option Place) → MayLand (width w) mv.home place → Reaches (leads_by (leads_to (slot_of w.vms (mover mv)) (notice_hart w.vms (mover mv)) place)) w u offset value
+      → Lands w u (mover mv) place offset value
+  entry_lands (Some p) may reaches = subst (λ (s : Spot). StoresAt w u s offset value) (guest_spot w.imsic p whole.harts whole.guests (held_there w mv knows.fits p (place_held (width w) (Some p) mv.home p may refl))) reaches
+  entry_lands None may reaches =
+      let hart = notice_hart_there w (mover mv) whole knows.fits.there in
+      subst (λ (s : Spot). StoresInSlot w u (Some (slot_of w.vms (mover mv))) s (slot_of w.vms (mover mv) + 1) offset value) (host_page w.imsic (notice_hart w.vms (mover mv)) hart whole.harts)
+      (subst (λ (o : Option ℕ). StoresInSlot w u o (page_spot w.imsic (supervisor_page (notice_hart w.vms (mover mv)) / 0x1000)) (slot_of w.vms (mover mv) + 1) offset value) (slot_found (slot_of w.vms (mover mv)) (slot_low w (mover mv) whole knows.fits.there)) reaches)
+
+  entry_is : entry_in_force (table_of w.tables mv.who.vm) mv.who.vcpu ≡ leads_to (slot_of w.vms (mover mv)) (notice_hart w.vms (mover mv)) reach
+  entry_is = knows.holds.routes.in_force ∙ ap (λ q. leads_to q mv.who.notice reach) knows.fits.slot ∙ ap (λ hart. leads_to (slot_of w.vms (mover mv)) hart reach) knows.fits.notice
+
+  pub device_knows : (addr : ℕ) → is_msi_address (table_of w.tables mv.who.vm).mask addr ≡ true → file_number (table_of w.tables mv.who.vm).mask addr ≡ mv.who.vcpu
+      → Reaches (route_of (table_of w.tables mv.who.vm) addr) w u offset value → Knows u plan reach (landed offset value file) saw
+  device_knows addr is names reaches =
+      let may = reach_lands (width w) mv.home reach knows.holds.routes.may in
+      let route : route_of (table_of w.tables mv.who.vm) addr ≡ leads_by (leads_to (slot_of w.vms (mover mv)) (notice_hart w.vms (mover mv)) reach) =
+      cond-true _ _ _ is ∙ ap (λ k. leads_by (entry_in_force (table_of w.tables mv.who.vm) k)) names ∙ ap leads_by entry_is in
+      lands_knows reach may (entry_lands reach may (subst (λ (r : Route). Reaches r w u offset value) route reaches))
+
+-- a peer's, where its G-stage record in force leads
+named_guest : (i : ImsicState) (p : Place) → IsThere i (spot_of p) → named_spot i p ≡ spot_of p
+named_guest i p inside = let named : (nat_lt p.hart i.harts && is_in_range 1 i.guests p.file) ≡ true = grind (arith, nat_tests, inside.0, inside.1, inside.2) in cond-true _ _ _ named
+
+pub peer_knows : (w u : World) (plan : Plan) (reach : Option Place) (file : InterruptFile) (saw : Bool) (value : ℕ) → IsWhole w → AreApart (moving_of plan).home → IsWithin w.n (width w) file → Knows w plan reach file saw
+    → Relays (stage_of w (mover (moving_of plan))).in_force w u (mover (moving_of plan)) value → Knows u plan reach (landed 0 value file) saw
+peer_knows w u plan reach file saw value whole apart within knows relays =
+    let m = moving_of plan in
+    let may = peers_may (width w) m.home in
+    lands_knows w u plan reach file saw 0 value whole apart within knows (peers_reach m.home) may
+    (relayed (peers_reach m.home) may (subst (λ (o : Option Place). Relays o w u (mover m) value) knows.holds.routes.stage_in_force relays))
+  where
+    relayed : (place : Option Place) → MayLand (width w) (moving_of plan).home place → Relays place w u (mover (moving_of plan)) value → Lands w u (mover (moving_of plan)) place 0 value
+    relayed (Some p) may relays = subst (λ (s : Spot). StoresAt w u s 0 value) (named_guest w.imsic p (held_there w (moving_of plan) knows.fits p (place_held (width w) (Some p) (moving_of plan).home p may refl))) relays
+    relayed None may relays = relays
+
+-- ---- a store for another virtual hart, and one of the host
+
+pub others_know : (w u : World) (plan : Plan) (reach : Option Place) (file : InterruptFile) (saw : Bool) (g : Vcpu) (place : Option Place) → Knows w plan reach file saw
+    → is_vcpu_in w.vms g ≡ true → g ≢ mover (moving_of plan) → TouchesOwn w u g place → ((p : Place) → holds p (moving_of plan).home ≡ true → place ≢ Some p) → Knows u plan reach file saw
+others_know w u plan reach file saw g place knows there other t elsewhere =
+    let m = moving_of plan in
+    knows_by w u plan reach saw (own_machine w u g place t) file file knows (view w (mover m) m.home)
+    (others_stay w u g (mover m) place m.home there knows.fits.there (λ e. other (sym e)) t (λ p held. (held_there w m knows.fits p held, elsewhere p held))) knows.holds
+
+pub host_knows : (w u : World) (plan : Plan) (reach : Option Place) (file : InterruptFile) (saw : Bool) (spot : Spot) (offset value : ℕ) → Knows w plan reach file saw
+    → IsThere w.imsic spot → ((p : Place) → spot ≢ spot_of p) → StoresIn w u spot offset value → Knows u plan reach file saw
+host_knows w u plan reach file saw spot offset value knows here no_guest s =
+    knows_by w u plan reach saw machine file file knows (view w (mover (moving_of plan)) (moving_of plan).home) seen knows.holds
+  where
+    machine : SameMachine w u
+    machine = record {
+      n = ap (λ (x : World). x.n) s.rest;
+      vms = ap (λ (x : World). x.vms) s.rest;
+      harts = ap (λ (i : ImsicState). i.harts) s.lands.others;
+      guests = ap (λ (i : ImsicState). i.guests) s.lands.others;
+    }
+
+    kept : (o : Option Place) → ((p : Place) → o ≡ Some p → IsThere w.imsic (spot_of p)) → file_in u o ≡ file_in w o
+    kept None inside = ap (λ (x : World). file_in x None) s.rest
+    kept (Some p) inside = ap (λ (i : ImsicState). file_in (record w { imsic = i }) (Some p)) s.lands.others ∙ ap shown (kept_elsewhere w.imsic spot (spot_of p) (file_at u.imsic spot) here (inside p refl) (λ e. no_guest p (sym e)))
+
+    seen : view u (mover (moving_of plan)) (moving_of plan).home ≡ view w (mover (moving_of plan)) (moving_of plan).home
+    seen =
+        let own = kept (own_file (moving_of plan).home) knows.fits.own in
+        let next = kept (next_file (moving_of plan).home) knows.fits.next in
+        (λ k. record (view (s.rest k) (mover (moving_of plan)) (moving_of plan).home) { own = file_in u (own_file (moving_of plan).home); next = file_in u (next_file (moving_of plan).home) })
+        ∙ (λ k. record (view w (mover (moving_of plan)) (moving_of plan).home) { own = own k; next = next k })

@@ -1,0 +1,46 @@
+# Finds the numbers of steps of moves in definitions, contracts, lemmas and comments: see
+# step-numbers. A line that has one is printed with its file and number. `plan` is a pattern of the
+# files whose bodies are the plans: there only contracts and comments are looked at.
+
+function found() { printf "%s:%d: %s\n", FILENAME, FNR, $0; bad = 1 }
+
+{ line = $0; comment = line ~ /^ *(--|\/\/)/ }
+
+# imports have no numbers, and texts of scripts say `step VM VCPU`
+line ~ /^ *(pub )?(ghost )?use / { next }
+FILENAME ~ plan && !comment && line !~ /[^\t -~]/ && line !~ /(requires|ensures)/ { next }
+
+# ---- comments: a number before or after the word, also from one line to the next
+
+function says(text) {
+  text = tolower(text)
+  return text ~ /(^|[^a-z0-9])steps? [0-9]/ \
+    || text ~ /(^|[^a-z0-9])([0-9]+|two|three|four|five|six|seven|eight|nine|ten) (more )?steps/ \
+    || text ~ /(^|[^a-z])(first|second|third|fourth|fifth|sixth|seventh|eighth) (of its )?steps?([^a-z]|$)/
+}
+
+!comment { tail = "" }
+
+comment {
+  text = line
+  sub(/^ *(--|\/\/[\/!]?) */, "", text)
+  if (says(tail text)) found()
+  n = split(text, words, " ")
+  tail = (n > 1 ? words[n - 1] " " : "") words[n] " "
+  next
+}
+
+# ---- a number of steps by the words of a file: 6 + 4 * words
+line ~ /(^|\(|[^+ ] +)[1-9][0-9]* \+ ([0-9]+ \+ )?[0-9]+ \* (words|\(?width|c\.words)/ { found(); next }
+
+# ---- the progress of a move beside a number; with 0 no step is done
+line ~ /(at|\.carrier)\.steps (\+ 1 )?(<|≤|≡|≢) [1-9]/ { found(); next }
+line ~ /(^|[^a-z0-9_.])[1-9][0-9]* (<|≤|≡|≢) [a-z.]*\.steps/ { found(); next }
+line ~ /nat_(lt|le|eq) \(?(at\.steps|\(?steps_done [a-z.]+)( \+ 1\))?\)? \(?[1-9]/ { found(); next }
+line ~ /nat_(lt|le|eq) \(?[1-9][0-9]*( \+ [^()]*)?\)? \(?(at\.steps|steps_done)/ { found(); next }
+line ~ /steps_done [a-z.]+ (<|≤|≡|≢) [1-9]/ { found(); next }
+line ~ /[^a-z]steps = [1-9]/ { found(); next }
+line ~ /IsBetween \(?[0-9]/ { found(); next }
+line ~ /steps_(taken|of_another) [1-9]/ { found(); next }
+
+END { exit bad }
