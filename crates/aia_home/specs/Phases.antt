@@ -64,6 +64,6 @@ begins words (Arriving to at) phase = arrive_begins words phase
 begins words (Shifting from to at) phase = shift_begins words phase
 begins words there phase = 0
 
--- Whether a move has come to a phase: it is in it, or past it.
+-- Whether a move has come to a phase: it is in it, or past it. Of a home at rest it says nothing.
 abbrev pub has_come : ℕ → Home → Phase → Bool
 has_come words there phase = nat_le (begins words there phase) (steps_done there)

@@ -1,5 +1,5 @@
 -- The plans of moves: which accesses each makes, in order; and what a move has made so far, by how
--- many of its steps are done. The numbers of steps stand here and nowhere else. Profile: all plans.
+-- many of its steps are done. The numbers of steps stand in no other definition. Profile: all plans.
 use Rattle.std.specs.Prelude.{◌≡◌, ℕ, zero, suc, ◌+◌, ◌*◌, Bool, true, false, ◌&&◌, nat_eq, nat_lt, if◌then◌else◌, List, [], ◌∷◌, ◌++◌, slice_get, Option}
 use Rattle.aia_home.specs.Home.{Home, ended, one_more}
 use Rattle.aia_home.specs.Home.Home.{Leaving, Arriving, Shifting}
@@ -32,7 +32,7 @@ pub data Access : Type 0 where
   -- the notice is sent, where a look saw an identity both pending and enabled
   Post : Access
 
--- The accesses of so many words from one on, each word's in order.
+-- The accesses of so many words from a given word on, each word's in order.
 abbrev pub each_word : (ℕ → List Access) → ℕ → ℕ → List Access
 each_word of_word from zero = []
 each_word of_word from (suc count) = of_word from ++ each_word of_word (suc from) count
@@ -184,7 +184,8 @@ step_of words there access = 0
 abbrev pub is_begun : Home → Bool
 is_begun there = nat_lt 0 (steps_done there)
 
--- Whether an access of its plan is made already.
+-- Whether an access of its plan is made already. Of an access that the plan does not have, or of a
+-- word that a file does not have, it says nothing.
 abbrev pub is_made : ℕ → Home → Access → Bool
 is_made words there access = nat_lt (step_of words there access) (steps_done there)
 
@@ -201,8 +202,8 @@ pub record IsNext (words : ℕ) (there : Home) (access : Access) : Type 0 where
   pub has : has_access words there access ≡ true
   pub step : steps_done there ≡ step_of words there access
 
--- Whether it is made already, is the next one: of the accesses that come before those which carry
--- words, to which it is nothing how many words a file has.
+-- The same of an access before the first that carries a word: whether it is made already, is the next
+-- one. How many words a file has does not matter to it.
 abbrev pub is_early_made : Home → Access → Bool
 is_early_made there access = is_made 0 there access
 

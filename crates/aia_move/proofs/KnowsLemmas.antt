@@ -134,13 +134,15 @@ module _ (w u : World) (plan : Plan) (reach : Option Place) (file : InterruptFil
       → (view u (mover mv) mv.home ≡ view_landed place mv.home offset value (view w (mover mv) mv.home)) × SameMachine w u
   shows (Some p) may stores =
       let held = place_held (width w) (Some p) mv.home p may refl in
-      let here = held_there w mv knows.fits p held in
-      (file_store-view w u (mover mv) p offset value whole here stores mv.home held apart knows.fits.own knows.fits.next,
-      own_machine w u (mover mv) (Some p) (touches_file w u (mover mv) p offset value whole knows.fits.there here stores))
-  shows None may stores =
-      (by_outcome (stored (mrif_in w.memory (slot_of w.vms (mover mv))) (requested IDENTITIES offset value)) stores
-      ∙ slot_store-view w (mover mv) mv.home (slot_of w.vms (mover mv)) offset value whole (slot_low w (mover mv) whole knows.fits.there) refl,
-      own_machine w u (mover mv) None (touches_slot w u (mover mv) offset value whole knows.fits.there stores))
+      let here = held_there w mv knows.fits p held in (
+        file_store-view w u (mover mv) p offset value whole here stores mv.home held apart knows.fits.own knows.fits.next,
+        own_machine w u (mover mv) (Some p) (touches_file w u (mover mv) p offset value whole knows.fits.there here stores),
+      )
+  shows None may stores = (
+    by_outcome (stored (mrif_in w.memory (slot_of w.vms (mover mv))) (requested IDENTITIES offset value)) stores
+        ∙ slot_store-view w (mover mv) mv.home (slot_of w.vms (mover mv)) offset value whole (slot_low w (mover mv) whole knows.fits.there) refl,
+    own_machine w u (mover mv) None (touches_slot w u (mover mv) offset value whole knows.fits.there stores),
+  )
 
   lands_knows : (place : Option Place) → MayLand (width w) mv.home place → Lands w u (mover mv) place offset value → Knows u plan reach (landed offset value file) saw
   lands_knows place may stores =

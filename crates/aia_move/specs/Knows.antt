@@ -9,7 +9,7 @@ use Rattle.aia_move.specs.declared.plan.Plan.{Plan}
 use Rattle.aia_move.specs.Move.{mover, width, Fits}
 use Rattle.aia_move.specs.Plan.{moving_of, IsInPhase}
 
--- Its next step can be made, and is one of its phase; and the places of the virtual hart that is
+-- Its next step can be made, and is a step of its phase; and the places of the virtual hart that is
 -- moved hold an interrupt file. `reach`: where its entry in force leads; `saw`: a look of the leave
 -- under way saw something.
 pub record Knows (w : World) (plan : Plan) (reach : Option Place) (file : InterruptFile)

@@ -28,7 +28,7 @@ moving_of (ShiftDrain m) = m
 moving_of (ShiftEnable m) = m
 moving_of (ShiftLast m) = m
 
--- Its next step is one of its phase, of files of so many words.
+-- Its next step is a step of its phase, of files of so many words.
 abbrev pub IsInPhase : ℕ → Plan → Type 0
 IsInPhase words (LeaveFirst m) = IsInLeave FirstPhase words m
 IsInPhase words (LeaveClosing m) = IsInLeave ClosingPhase words m

@@ -76,8 +76,8 @@ impl Arrive<First> {
 }
 
 impl Arrive<Closing> {
-    /// Makes the G-stage record name the file, and puts it in force. Why here: so is the record, so
-    /// that no store of a virtual hart comes after its word.
+    /// Makes the G-stage record name the file, and puts it in force. Why here: the record, too, is in
+    /// force before the first word is taken, so that no store of a virtual hart comes after its word.
     pub fn step(mut self, fabric: &mut Fabric) -> Turn<Self, Arrive<Drain>>
         requires fits { Fits fabric.old self }
         requires phase { IsInArrive ClosingPhase (width fabric.old) self }
@@ -160,7 +160,7 @@ impl Arrive<Last> {
     }
 }
 
-/// The accesses of its
+/// The accesses of its phases.
 impl<P> Arrive<P> {
     /// Makes the next access of the first phase.
     fn begin(&mut self, fabric: &mut Fabric)

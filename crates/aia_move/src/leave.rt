@@ -52,7 +52,7 @@ impl Leave<First> {
 
     /// Takes eidelivery, writes both words of the entry, so that it leads to the slot, and puts it
     /// in force. Why here: the file is silent before anything moves, and word 1 says where notices
-    /// go before word 0 leads to the slot, so that no store there lacks its notice hart.
+    /// go before word 0 leads to the slot; it has said so from the VM's making on.
     pub fn step(mut self, fabric: &mut Fabric) -> Turn<Self, Leave<Closing>>
         requires fits { Fits fabric.old self }
         requires phase { IsInLeave FirstPhase (width fabric.old) self }
@@ -176,7 +176,7 @@ impl Leave<Last> {
     }
 }
 
-/// The accesses of its
+/// The accesses of its phases.
 impl<P> Leave<P> {
     /// Makes the next access of the first phase.
     fn begin(&mut self, fabric: &mut Fabric)

@@ -73,8 +73,9 @@ impl Shift<First> {
 }
 
 impl Shift<Closing> {
-    /// Makes the G-stage record name the new file, and puts it in force. Why here: so is the
-    /// record, so that no store of a virtual hart comes after its word.
+    /// Makes the G-stage record name the new file, and puts it in force. Why here: the record, too,
+    /// is in force before the first word is taken, so that no store of a virtual hart comes after
+    /// its word.
     pub fn step(mut self, fabric: &mut Fabric) -> Turn<Self, Shift<Drain>>
         requires fits { Fits fabric.old self }
         requires phase { IsInShift ClosingPhase (width fabric.old) self }
@@ -157,7 +158,7 @@ impl Shift<Last> {
     }
 }
 
-/// The accesses of its
+/// The accesses of its phases.
 impl<P> Shift<P> {
     /// Makes the next access of the first phase.
     fn begin(&mut self, fabric: &mut Fabric)
