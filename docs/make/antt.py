@@ -1,6 +1,7 @@
 """Reads definitions: modules of specs/ in antt, and items of src/ in Rattle."""
 
 import re
+from functools import cache
 from pathlib import Path
 
 TOP = Path(__file__).resolve().parents[2]
@@ -103,13 +104,22 @@ def read_item(crate, file, name):
     return [line for line in text if not line.startswith("#[")]
 
 
+@cache
+def joined(crate, module):
+    """Gives a module without its comments, each clause in one line."""
+    text = module_path(crate, module).read_text(encoding="utf-8")
+    return re.sub(r"\n[ \t]+", " ", re.sub(r"(?m)--.*$", "", text))
+
+
+def has_clauses(crate, module, name):
+    """Says whether a module defines a name by clauses."""
+    return bool(re.search(rf"(?m)^{re.escape(name)}(?: [^=\n]*?)? = ", joined(crate, module)))
+
+
 def clauses(crate, module, name):
     """Gives the clauses of a definition by patterns, as (patterns as text, right side as text)."""
-    text = module_path(crate, module).read_text(encoding="utf-8")
-    text = re.sub(r"(?m)--.*$", "", text)
-    text = re.sub(r"\n[ \t]+", " ", text)
     found = []
-    for line in text.split("\n"):
+    for line in joined(crate, module).split("\n"):
         match = re.match(rf"{re.escape(name)}((?: [^=]*?)?) = (.*)", line)
         if match:
             found.append((match.group(1).strip(), match.group(2).strip()))

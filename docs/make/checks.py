@@ -133,9 +133,12 @@ def formula(text, words_, w):
 def plans():
     """Compares the tables of docs/MOVES.md with the plans."""
     table = {cells[0]: cells[1:] for cells in rows(section("docs/MOVES.md", "The three plans"))}
+    steps = table.pop("how many steps there are", [""] * 4)
     for at, kind in enumerate(KINDS, 1):
         for size in (1, 2, 5):
             move = Move(kind, size)
+            if not steps[at] or formula(steps[at], size, 0) != move.length():
+                yield f"docs/MOVES.md: {CALLED[kind]} has not '{steps[at]}' steps"
             wanted = set()
             for name, w in move.accesses():
                 row = f"`{name}`" if w is None else f"`{name} w`"
@@ -149,58 +152,49 @@ def plans():
     yield from stands_where()
 
 
+# What the table of what stands where has, by the word of its last column: whether it is so of a
+# move, of word w after k steps.
+STANDS = {
+    "entry_names": lambda move, w, k: move.place("entry_names", k) == "old",
+    "in_force_of": lambda move, w, k: move.in_force("reach_stepped", k) == "old",
+    "stage_names": lambda move, w, k: move.place("stage_names", k) == "old",
+    "stage_in_force_of": lambda move, w, k: move.in_force("stage_stepped", k) == "old",
+    "is_drained": lambda move, w, k: not move.of_word("is_drained", w, k),
+    "is_disabled": lambda move, w, k: not move.of_word("is_disabled", w, k),
+    "is_enabled_moved": lambda move, w, k: move.of_word("is_enabled_moved", w, k),
+    "is_watched": lambda move, w, k: move.of_word("is_watched", w, k),
+    "delivery_in_own": lambda move, w, k: move.number_at("delivery", k) == "old",
+    "threshold_in_own": lambda move, w, k: move.number_at("threshold", k) == "old",
+    "threshold_in_next": lambda move, w, k: move.number_at("threshold", k) == "new",
+}
+
+
 def stands_where():
     """Compares the table of what stands where with the definitions that its last column names."""
     text = section("docs/MOVES.md", "Why each step may be followed by anything")
-    for name, *cells, word in rows(text):
-        if len(cells) != 3:
-            continue
-        of = (ticked(word) or [""])[0]
+    table = {ticked(cells[4])[0]: cells for cells in rows(text) if len(cells) == 5}
+    yield from differ("docs/MOVES.md, where things are,", table, STANDS)
+    for of in [of for of in STANDS if of in table]:
+        name, *cells = table[of][:4]
         for kind, cell in zip(KINDS, cells):
             for size in (1, 3):
                 move = Move(kind, size)
-                for problem in compared(move, name, of, cell, size):
-                    yield f"docs/MOVES.md: {name}, of {CALLED[kind]}: {problem}"
+                states = [(w, k) for w in range(size) for k in range(move.length() + 1)]
+                if any(says(cell, move, w, k) != STANDS[of](move, w, k) for w, k in states):
+                    yield f"docs/MOVES.md: {name}, of {CALLED[kind]}: '{cell}' is not {of}"
 
 
-def compared(move, name, of, cell, size):
-    """Says where one cell of that table differs from a definition."""
-    if of in ("devices_reach", "peers_reach"):
-        past = int(re.search(r"k < (\d+)", cell)[1])
-        got = ["old" if k < past else "new" for k in range(move.length() + 1)]
-        if got != [move.place("Routes", of, k) for k in range(move.length() + 1)]:
-            yield f"'{cell}' is not {of}"
-    elif of in ("pending_step", "enables_step"):
-        take = "TakePending" if of == "pending_step" else "TakeEnables"
-        if any(formula(cell, size, w) != move.step(take, w) + 1 for w in range(size)):
-            yield f"'{cell}' is not {of}"
-    elif of.endswith("_steps") and formula(cell, size, 0) != move.length():
-        yield f"'{cell}' is not how many steps there are"
-    elif of == "is_watched" or (cell and of.endswith(("in_own", "in_next"))):
-        for w in range(size if of == "is_watched" else 1):
-            for k in range(move.length() + 1):
-                if holds(cell, k, size, w) != is_so(move, of, name, k, w):
-                    yield f"'{cell}' is not {of}"
-
-
-def is_so(move, of, name, k, w):
-    """Says whether what a row of that table names stands so after k steps."""
-    if of == "is_watched":
-        return move.is_watched(w, k)
-    number = "delivery" if "delivery" in of else "threshold"
-    return move.number_at(number, k) == ("old" if "old file" in name else "new")
-
-
-def holds(cell, k, size, w):
-    """Computes whether a cell of that table says that something is so after k steps."""
-    for pattern, test in (
-        (r"while k < (.*)", lambda n: k < n),
-        (r"while k = (.*)", lambda n: k == n),
-        (r"from k = (.*) on", lambda n: k >= n),
-    ):
-        if match := re.fullmatch(pattern, cell):
-            return test(formula(match[1], size, w))
-    return False
+def says(cell, move, w, k):
+    """Computes whether a cell of that table says that something is so of word w after k steps."""
+    if cell == "never":
+        return False
+    match = re.fullmatch(r"(until|from) `(\w+)( w)?`( on)?", cell)
+    if not match or (match[1] == "from") != bool(match[4]):
+        return None
+    of_word = w if match[3] else None
+    if not move.has(match[2], of_word):
+        return None
+    return move.is_made(match[2], of_word, k) == (match[1] == "from")
 
 
 @cache

@@ -64,22 +64,24 @@ def lanes(move):
     kept = "kept by the hypervisor"
     named = {"old": old, "new": new, "hand": kept}
     routes = [
-        ("What is written", "entry of the MSI page table", "BySteps", "entry_names"),
-        (None, "record of the G stage", "BySteps", "stage_names"),
-        ("What is in force", "MSIs of devices go to", "Routes", "devices_reach"),
-        (None, "stores of its peers go to", "Routes", "peers_reach"),
+        ("What is written", "entry of the MSI page table",
+         [move.place("entry_names", k) for k in states]),
+        (None, "record of the G stage", [move.place("stage_names", k) for k in states]),
+        ("What is in force", "MSIs of devices go to",
+         [move.in_force("reach_stepped", k) for k in states]),
+        (None, "stores of its peers go to", [move.in_force("stage_stepped", k) for k in states]),
     ]
     found = []
-    for heading, name, module, of in routes:
-        values = [named[move.place(module, of, k)] for k in states]
-        if of == "stage_names":
+    for heading, name, places in routes:
+        values = [named[place] for place in places]
+        if name.startswith("record"):
             values = ["no guest file" if v == "memory" else v for v in values]
         found.append((heading, name, values))
-    for heading, name, of in (
-        ("Which sets are where", "pending identities", "pending_step"),
-        (None, "enabled identities", "enables_step"),
+    for heading, name, take in (
+        ("Which sets are where", "pending identities", "TakePending"),
+        (None, "enabled identities", "TakeEnables"),
     ):
-        values = [move.word_at(of, 0, k) for k in states]
+        values = [move.word_at(take, 0, k) for k in states]
         found.append((heading, name, [v if v == "hand" else named[v] for v in values]))
     for name, of in (("eithreshold", "threshold"), ("eidelivery", "delivery")):
         values = [move.number_at(of, k) for k in states]
@@ -90,7 +92,8 @@ def lanes(move):
 def told(move):
     """Gives the row of notices: in which states a store to memory sends one, looks and the post."""
     states = range(move.length() + 1)
-    return ["each store of an enabled identity" if move.is_watched(0, k) else None for k in states]
+    said = "each store of an enabled identity"
+    return [said if move.of_word("is_watched", 0, k) else None for k in states]
 
 
 def bar(picture, row, value, first, past):

@@ -2,16 +2,57 @@
 
 import re
 from dataclasses import dataclass
+from functools import cache
 
-from antt import clauses, module_path
+from antt import clauses, has_clauses, module_path
 
 TOKEN = re.compile(r"\s*(\d+|[A-Za-z_][\w.]*|&&|\|\||[()+*\-])")
-# A kind of move: its constructor of Home, the names of its definitions, and its two places.
+# The modules in which moves are defined.
+MODULES = ("Home", "Plans", "Routes", "BySteps")
+# A kind of move: its constructor of Home, and its two places.
 KINDS = {
     "leave": ("Leaving", "guest file", "memory"),
     "arrive": ("Arriving", "memory", "guest file"),
     "shift": ("Shifting", "old guest file", "new guest file"),
 }
+# What std has of numbers and truth values.
+STD = {
+    "true": True,
+    "false": False,
+    "not": lambda a: not a,
+    "nat_lt": lambda a: lambda b: a < b,
+    "nat_le": lambda a: lambda b: a <= b,
+    "nat_eq": lambda a: lambda b: a == b,
+}
+
+
+@cache
+def definition(name):
+    """Gives the clauses of a definition of aia_home, each as (patterns, right side)."""
+    for module in MODULES:
+        if has_clauses("aia_home", module, name):
+            found = clauses("aia_home", module, name)
+            return [([one or two for one, two in re.findall(r"\(([^()]*)\)|(\S+)", patterns)], right)
+                    for patterns, right in found]
+    raise SystemExit(f"the plans name {name}, which docs/make/plans.py does not find")
+
+
+def bound(pattern, value):
+    """Gives what the names of a pattern stand for, or None where the value is none of it."""
+    head, *names = pattern.split()
+    if head[0].isupper():
+        return dict(zip(names, value[1:])) if value[0] == head else None
+    return {head: value}
+
+
+def computed(name, values):
+    """Computes a definition of aia_home of some values."""
+    for patterns, right in definition(name):
+        found = [bound(pattern, value) for pattern, value in zip(patterns, values)]
+        if None not in found:
+            names = {key: value for names in found for key, value in names.items()}
+            return Reader(right, names).value()
+    raise SystemExit(f"no clause of {name} fits {values}")
 
 
 class Reader:
@@ -63,10 +104,14 @@ class Reader:
         return found
 
     def applied(self):
-        found = self.atom()
-        while callable(found):
-            found = found(self.atom())
-        return found
+        """Gives a word applied to what stands behind it: a name, a constructor or a definition."""
+        token = self.peek()
+        if token == "(" or token.isdigit():
+            return self.atom()
+        head, values = self.take(), []
+        while self.peek() is not None and re.match(r"(?!then\b|else\b)[\w(]", self.peek()):
+            values.append(self.atom())
+        return self.named(head, values)
 
     def atom(self):
         token = self.take()
@@ -74,11 +119,21 @@ class Reader:
             found = self.value()
             self.take(")")
             return found
-        if token.isdigit():
-            return int(token)
-        if token not in self.names:
-            raise SystemExit(f"the plans name {token}, which docs/make/plans.py does not know")
-        return self.names[token]
+        return int(token) if token.isdigit() else self.named(token, [])
+
+    def named(self, head, values):
+        """Gives what a name stands for, applied to some values."""
+        name, _, part = head.partition(".")
+        found = self.names.get(name, STD.get(name))
+        if found is None and name[0].isupper():
+            return (name, *values)
+        if found is None:
+            return computed(name, values)
+        if part:
+            found = found[part]
+        for value in values:
+            found = found(value)
+        return found
 
 
 @dataclass
@@ -88,41 +143,32 @@ class Move:
     kind: str
     words: int
 
-    def names(self, steps, more=None):
-        """Gives what the names in a clause stand for, after so many steps."""
-        known = {
-            "words": self.words,
-            "at.steps": steps,
-            "from": "old",
-            "to": "new",
-            "None": "slot",
-            "Some": lambda place: place,
-            "true": True,
-            "false": False,
-            "nat_lt": lambda a: lambda b: a < b,
-            "nat_le": lambda a: lambda b: a <= b,
-            "nat_eq": lambda a: lambda b: a == b,
-        }
-        return known | (more or {})
+    def home(self, steps=0):
+        """Gives the home of a virtual hart that is moved so, after so many steps."""
+        at = {"steps": steps}
+        places = {"leave": ["old"], "arrive": ["new"], "shift": ["old", "new"]}
+        return (KINDS[self.kind][0], *places[self.kind], at)
 
-    def ask(self, module, name, steps=0, **more):
-        """Computes a definition of aia_home for this kind of move."""
-        for patterns, right in clauses("aia_home", module, name):
-            if f"({KINDS[self.kind][0]} " in patterns or "there" in patterns.split():
-                return Reader(right, self.names(steps, more)).value()
-        raise SystemExit(f"{module} has no clause of {name} for a {self.kind}")
-
-    def place(self, module, name, steps):
-        """Gives `old` or `new`: the place that a route names."""
-        found = self.ask(module, name, steps)
-        if found == "slot":
+    def named_place(self, place):
+        """Gives `old` or `new` for a guest file or, by None, for the slot."""
+        if place == ("None",):
             return "new" if self.kind == "leave" else "old"
-        return found
+        return place[1]
+
+    def place(self, name, steps):
+        """Gives the place that a definition of homes names: `old` or `new`."""
+        return self.named_place(computed(name, [self.home(steps)]))
+
+    def in_force(self, stepped, steps):
+        """Gives the place that is in force, by the newest fence: `old` or `new`."""
+        found = computed("origin", [self.home()])
+        for k in range(steps):
+            found = computed(stepped, [self.home(k), found])
+        return self.named_place(found)
 
     def length(self):
         """Gives how many steps it has."""
-        right = clauses("aia_home", "Home", f"{self.kind}_steps")[0][1]
-        return Reader(right, self.names(0)).value()
+        return computed(f"{self.kind}_steps", [self.words])
 
     def accesses(self):
         """Lists its accesses in order, as (constructor, number of the word or None)."""
@@ -136,41 +182,40 @@ class Move:
             raise SystemExit(f"the steps of a {self.kind} are not those of its plan")
         return [found[k] for k in sorted(found)]
 
-    def row(self, name, access):
-        """Gives the right side of a table's row for an access."""
-        rows = clauses("aia_home", "Plans", name)
-        for patterns, right in rows:
-            if re.search(rf"\b{access}\b", patterns):
-                return right
-        return next(right for patterns, right in rows if patterns.endswith("access"))
+    def ask(self, name, access, w=None, steps=0):
+        """Computes a definition of an access of this move."""
+        made = (access,) if w is None else (access, w)
+        return computed(name, [self.words, self.home(steps), made])
 
-    def has(self, access, w):
-        right = self.row(f"is_in_{self.kind}", access)
-        return Reader(right, self.names(0, {"w": w})).value()
+    def has(self, access, w=None):
+        """Says whether its plan has an access."""
+        return self.ask("has_access", access, w)
 
     def step(self, access, w=None):
         """Gives the number of the step that makes an access, counted from 0."""
-        right = self.row(f"{self.kind}_step", access)
-        return Reader(right, self.names(0, {"w": w})).value()
+        return self.ask("step_of", access, w)
 
-    def word_at(self, step_of, w, steps):
-        """Gives where a word stands: `old`, `hand` or `new`."""
-        first = self.ask("BySteps", "first_take")
-        names = {"there": None, "first_take": lambda there: first, "w": w}
-        right = clauses("aia_home", "BySteps", step_of)[0][1]
-        taken = Reader(right, self.names(0, names)).value()
-        return "old" if steps <= taken else ("hand" if steps == taken + 1 else "new")
+    def is_made(self, access, w, steps):
+        """Says whether an access is made after so many steps."""
+        return self.ask("is_made", access, w, steps)
+
+    def word_at(self, take, w, steps):
+        """Gives where a word stands that an access takes: `old`, `hand` or `new`."""
+        if not self.is_made(take, w, steps):
+            return "old"
+        return "hand" if self.ask("is_carried", take, w, steps) else "new"
 
     def number_at(self, number, steps):
         """Gives where eidelivery or eithreshold stands: `old`, `new` or `hand`, which keeps it."""
-        own = self.ask("BySteps", f"{number}_in_own", steps)
-        if own:
+        of_words = [] if number == "delivery" else [self.words]
+        if computed(f"{number}_in_own", [*of_words, self.home(steps)]):
             return "new" if self.kind == "arrive" else "old"
         if number == "threshold":
-            return "new" if self.ask("BySteps", "threshold_in_next", steps) else "hand"
-        put = self.has("PutDelivery", None) and steps > self.step("PutDelivery")
-        return "new" if put else "hand"
+            is_next = computed("threshold_in_next", [self.words, self.home(steps)])
+            return "new" if is_next else "hand"
+        is_put = self.has("PutDelivery") and self.is_made("PutDelivery", None, steps)
+        return "new" if is_put else "hand"
 
-    def is_watched(self, w, steps):
-        """Says whether a store to the slot of an enabled identity of word w sends a notice."""
-        return self.ask("Routes", "is_watched", steps, w=w)
+    def of_word(self, name, w, steps):
+        """Computes a test of word w of this move, as whether it is watched."""
+        return computed(name, [self.words, self.home(steps), w])
