@@ -1,5 +1,6 @@
 -- What one event more makes of a core that stands for a history, and what a line answers by its
 -- refusal.
+use Rattle.aia_model.proofs.FlightLemmas.{flights_on, none_flies}
 use Rattle.std.proofs.Common.{◌≡◌, ◌≢◌, ℕ, zero, suc, ◌+◌, ◌-◌, ◌*◌, ◌/◌, ◌%◌, ◌^◌, ◌<◌, ◌≤◌, Bool, true, false, ◌&&◌, nat_eq, nat_lt, nat_le, get_or, List, length, replicate, is_some, [], ◌∷◌, Option, Some, None, unwrap_or, inl, inr, refl, sym, ap, subst, ◌∙◌, arith}
 use Rattle.std.specs.Prelude.{Result, Ok, min}
 use Rattle.std.specs.Option.{option_map_or}
@@ -61,7 +62,7 @@ use Rattle.aia_hyp.specs.declared.vcpu.VcpuRecord.{VcpuRecord}
 use Rattle.aia_hyp.specs.Core.{CoreState, no_record}
 use Rattle.aia_hyp.specs.HostFiles.{FileDone, HasDone, host_spot, select_place, select_in}
 use Rattle.aia_hyp.specs.Stands.{StandsForSome, HostStands, VcpuStands, is_held, CoreStands, CoreTakes, line_served, signals_of}
-use Rattle.aia_hyp.proofs.VcpuLemmas.{IsQuiet, same_n, quiet_line, quiet_msi, select_is, MajorsRest, majors_is, majors_rest, guest_rests, files_alone, held_stays}
+use Rattle.aia_hyp.proofs.VcpuLemmas.{IsQuiet, same_n, quiet_line, quiet_msi, select_is, MajorsRest, majors_is, majors_rest, guest_rests, files_alone, held_stays, refetches}
 use Rattle.aia_hyp.proofs.NameLemmas.{no_guest, is_hosts, other_spot, there_too}
 
 -- ---- one event more
@@ -123,6 +124,7 @@ one_more x y h event changes stands =
       vms = changes.same_vms ∙ stands.vms ∙ sym changes.quiet.vms;
       notices = changes.count ∙ ap (count_after (noticed h event)) stands.notices ∙ counted_more (noticed h event) (notices_sent h) ∙ ap (λ count. min count (2 ^ 64 - 1)) (sym (notices_step event h));
       host = λ f inside. let before = there_too y.world.imsic x.world.imsic f changes.harts inside in host_more x y h event f (changes.host f before) (stands.host f before);
+      go = flights_on h event changes.quiet.first stands.go;
       records = changes.records ∙ stands.records ∙ ap vcpus_in (sym changes.quiet.vms);
       vcpus = λ g inside. let before = was_there g inside in changes.vcpus g before (stands.vcpus g before);
       lease_harts = ap (λ (l : Leases). l.harts) changes.leases ∙ stands.lease_harts ∙ harts;
@@ -173,8 +175,8 @@ pub record IsHosts (h : History) (event : Event) : Type 0 where
   pub guests : (g : Vcpu) → guest_deed g h event ≡ Rests
   pub majors : (g : Vcpu) → MajorsRest g event
 
-pub hosts_line : (h : History) (line : Line) → machine_of (Accepted line ∷ h) ≡ machine_of h → vms_of (Accepted line ∷ h) ≡ vms_of h → noticed h (Accepted line) ≡ None → ((g : Vcpu) → guest_deed g h (Accepted line) ≡ Rests) → ((g : Vcpu) → MajorsRest g (Accepted line)) → IsHosts h (Accepted line)
-hosts_line h line machine vms none guests majors = record { quiet = quiet_line h line machine vms; none = none; guests = guests; majors = majors }
+pub hosts_line : (h : History) (line : Line) → refetches line ≡ false → machine_of (Accepted line ∷ h) ≡ machine_of h → vms_of (Accepted line ∷ h) ≡ vms_of h → noticed h (Accepted line) ≡ None → ((g : Vcpu) → guest_deed g h (Accepted line) ≡ Rests) → ((g : Vcpu) → MajorsRest g (Accepted line)) → IsHosts h (Accepted line)
+hosts_line h line still machine vms none guests majors = record { quiet = quiet_line h line machine vms still; none = none; guests = guests; majors = majors }
 
 pub hosts_msi : (h : History) (msi : Msi) → IsHosts h (Delivered msi)
 hosts_msi h msi = record { quiet = quiet_msi h msi; none = refl; guests = λ g. refl; majors = λ g m. refl }
@@ -347,6 +349,7 @@ begun x harts guests n sources new leases vcpus selects =
     let event = Accepted (Machine harts guests n sources) in
     record {
       there = refl;
+      go = flights_on [] (Accepted (Machine harts guests n sources)) tt none_flies;
       harts = new.hart_count;
       guests = new.guest_count;
       greatest = new.greatest;

@@ -27,3 +27,4 @@ pub mod MoveWhole
 pub mod MoveLines
 pub mod ExampleLemmas
 pub mod OwnStores
+pub mod LandingLemmas

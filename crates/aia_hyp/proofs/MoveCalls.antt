@@ -1,4 +1,5 @@
 -- What the calls of a move say, of the fields that they change.
+use Rattle.aia_model.specs.ReachOf.{LandsFirst}
 use Rattle.std.proofs.Common.{◌≡◌, ℕ, ◌+◌, ◌/◌, ◌<◌, Bool, true, false, get_or, List, length, ◌∷◌, Option, Some, None, refl, sym, ap, subst, ◌∙◌, arith}
 use Rattle.std.proofs.Math.ListN.{set}
 use Rattle.std.proofs.lemmas.Bool.{true≢false}
@@ -124,6 +125,7 @@ plan_known x who plan some is was =
 -- What a step's calls say.
 pub record Made (x y : CoreState) (who : Who) (plan : Plan) (next : Next) : Type 0 where
   pub swapped : Swapped x y who (stays.Moving plan) (stay_then next)
+  pub clear : (h : History) → CoreStands x h → LandsFirst h (Stepped (vcpu who.vm who.vcpu))
   pub whole : IsWhole x.world
   pub whole_then : IsWhole y.world
   pub leases : y.leases ≡ with_back (back_then next) x.leases
@@ -144,6 +146,7 @@ module _ (x y : CoreState) (who : Who) (plan : Plan) where
   goes_on : (later : Plan) (h : History) → CoreStands x h → Made x y who plan (Again later) → GoesOf x y h (vcpu who.vm who.vcpu) plan later (its_record (stays.Moving later))
   goes_on later h stands c = record {
     step_of = record {
+      first = c.clear h stands;
       stands = stands;
       whole = c.whole;
       there = its_there h stands c.swapped.is_who;
@@ -164,6 +167,7 @@ module _ (x y : CoreState) (who : Who) (plan : Plan) where
   ends_it : (o : Outcome) (h : History) → CoreStands x h → Made x y who plan (Finished o) → EndsOf x y h (vcpu who.vm who.vcpu) plan o (its_record (stay_after o))
   ends_it o h stands c = record {
     step_of = record {
+      first = c.clear h stands;
       stands = stands;
       whole = c.whole;
       there = its_there h stands c.swapped.is_who;

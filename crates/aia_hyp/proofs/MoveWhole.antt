@@ -1,4 +1,6 @@
 -- A whole move: it begins, and all its steps are done.
+use Rattle.aia_hyp.proofs.LandingLemmas.{LandsFirstTo, step_follows}
+use Rattle.aia_model.proofs.FlightLemmas.{words_first, home_stepped}
 use Rattle.std.proofs.Common.{◌≡◌, ℕ, zero, suc, ◌+◌, Bool, true, false, ◌&&◌, not, cond, nat_eq, List, is_none, ◌∷◌, Option, Some, None, unwrap_or, refl, sym, ap, subst, ◌∙◌, arith}
 use Rattle.std.specs.Option.{option_map_or}
 use Rattle.std.proofs.lemmas.Bool.{cond-true, cond-false, eqb-true, true≢false}
@@ -21,7 +23,7 @@ use Rattle.aia_model.specs.Move.Move.{Arrives, Leaves, Shifts}
 use Rattle.aia_model.specs.Vms.{has_vcpu}
 use Rattle.aia_model.specs.HomeOf.{home, place, free_file}
 use Rattle.aia_model.specs.Refusal.{refusal}
-use Rattle.aia_model.specs.Answer.{answer, steps_taken, steps_of, line_taken}
+use Rattle.aia_model.specs.Answer.{answer, steps_taken, steps_of, line_taken, step_taken}
 use Rattle.aia_model.proofs.AnswerLemmas.{answered, arrive_refusal, leave_refusal, shift_refusal}
 use Rattle.aia_model.proofs.MoveLemmas.{home_step, is_itself}
 use Rattle.aia_hyp.specs.declared.moves.Want.{Want}
@@ -34,14 +36,14 @@ use Rattle.aia_hyp.proofs.MoveSteps.{stepped_home}
 -- ---- histories
 
 -- one step more is the newest event
-pub one_step_more : (i : ℕ) (g : Vcpu) (h : History) → steps_taken (suc i) g h ≡ Stepped g ∷ steps_taken i g h
+pub one_step_more : (i : ℕ) (g : Vcpu) (h : History) → steps_taken (suc i) g h ≡ step_taken g (steps_taken i g h)
 one_step_more zero g h = refl
-one_step_more (suc i) g h = one_step_more i g (Stepped g ∷ h)
+one_step_more (suc i) g h = one_step_more i g (step_taken g h)
 
 -- steps leave the machine
 pub same_width : (i : ℕ) (g : Vcpu) (h : History) → file_words (steps_taken i g h) ≡ file_words h
 same_width zero g h = refl
-same_width (suc i) g h = same_width i g (Stepped g ∷ h)
+same_width (suc i) g h = same_width i g (step_taken g h) ∙ words_first g h
 
 -- ---- how far a move has come
 
@@ -191,8 +193,8 @@ first_step old now who want begins some is =
       under = way;
     }
 
-pub next_step : (old now later : CoreState) (who : Who) (want : Want) → SoFar old now who want → MoveGoes now later (vcpu who.vm who.vcpu) false → IsWho later.world who → SoFar old later who want
-next_step old now later who want so_far goes is =
+pub next_step : (old now mid later : CoreState) (who : Who) (want : Want) → SoFar old now who want → LandsFirstTo now mid (vcpu who.vm who.vcpu) → MoveGoes mid later (vcpu who.vm who.vcpu) false → IsWho later.world who → SoFar old later who want
+next_step old now mid later who want so_far lands goes is =
     let g = vcpu who.vm who.vcpu in
     record {
       is_who = is;
@@ -200,11 +202,11 @@ next_step old now later who want so_far goes is =
       under = λ h stands.
           let u = so_far.under h stands in
           let past = steps_taken u.steps g (Began (wanted_move g want) ∷ h) in
-          let more : home (Stepped g ∷ past) g ≡ one_more (home past g) = stepped_home past g ∙ cond-false _ _ _ (sym (goes.at_last past u.stands)) in
+          let more : home (step_taken g past) g ≡ one_more (home past g) = home_stepped g past ∙ cond-false _ _ _ (sym (step_follows now mid later g false lands goes past u.stands).1) in
           record {
             accepted = u.accepted;
             steps = suc u.steps;
-            stands = subst (CoreStands later) (sym (one_step_more u.steps g (Began (wanted_move g want) ∷ h))) (goes.stands past u.stands);
+            stands = subst (CoreStands later) (sym (one_step_more u.steps g (Began (wanted_move g want) ∷ h))) (step_follows now mid later g false lands goes past u.stands).0;
             is_at = subst (λ (x : History). IsAt (wanted_move g want) (suc u.steps) (home x g)) (sym (one_step_more u.steps g (Began (wanted_move g want) ∷ h)))
                 (subst (IsAt (wanted_move g want) (suc u.steps)) (sym more) (next_at (wanted_move g want) u.steps (home past g) u.is_at));
           };
@@ -217,8 +219,8 @@ whole_line h vm number wants.Leave = refl
 whole_line h vm number (wants.Arrive hart) = refl
 whole_line h vm number (wants.Shift hart) = refl
 
-pub all_steps : (old now later : CoreState) (who : Who) (want : Want) → SoFar old now who want → MoveGoes now later (vcpu who.vm who.vcpu) true → CoreTakes old later (move_line who.vm who.vcpu want) Okay
-all_steps old now later who want so_far goes =
+pub all_steps : (old now mid later : CoreState) (who : Who) (want : Want) → SoFar old now who want → LandsFirstTo now mid (vcpu who.vm who.vcpu) → MoveGoes mid later (vcpu who.vm who.vcpu) true → CoreTakes old later (move_line who.vm who.vcpu want) Okay
+all_steps old now mid later who want so_far lands goes =
     let g = vcpu who.vm who.vcpu in
     let line = move_line who.vm who.vcpu want in
     let move = wanted_move g want in
@@ -228,10 +230,10 @@ all_steps old now later who want so_far goes =
           let u = so_far.under h stands in
           let past = steps_taken u.steps g (Began move ∷ h) in
           let full : u.steps + 1 ≡ steps_of (file_words h) move =
-          eqb-true _ _ (sym (goes.at_last past u.stands ∙ last_at move u.steps (home past g) (file_words past) u.is_at ∙ ap (λ w. nat_eq (u.steps + 1) (steps_of w move)) (same_width u.steps g (Began move ∷ h)))) in
+          eqb-true _ _ (sym ((step_follows now mid later g true lands goes past u.stands).1 ∙ last_at move u.steps (home past g) (file_words past) u.is_at ∙ ap (λ w. nat_eq (u.steps + 1) (steps_of w move)) (same_width u.steps g (Began move ∷ h)))) in
           let count : suc u.steps ≡ steps_of (file_words h) move = omega (arith, full) in
-          let whole : Stepped g ∷ past ≡ line_taken h line = sym (one_step_more u.steps g (Began move ∷ h)) ∙ ap (λ n. steps_taken n g (Began move ∷ h)) count ∙ sym (whole_line h who.vm who.vcpu want) in
-          subst (λ (o : Option Answer). CoreStands later (line_served o h line)) (sym u.accepted) (subst (CoreStands later) whole (goes.stands past u.stands));
+          let whole : step_taken g past ≡ line_taken h line = sym (one_step_more u.steps g (Began move ∷ h)) ∙ ap (λ n. steps_taken n g (Began move ∷ h)) count ∙ sym (whole_line h who.vm who.vcpu want) in
+          subst (λ (o : Option Answer). CoreStands later (line_served o h line)) (sym u.accepted) (subst (CoreStands later) whole ((step_follows now mid later g true lands goes past u.stands).0));
       unchanged = λ h word stands is. let u = so_far.under h stands in absurd (none-some word (sym u.accepted ∙ is));
     }
 

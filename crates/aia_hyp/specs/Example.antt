@@ -1,6 +1,6 @@
 -- A history in which one virtual hart is resident in a guest file and another one is leaving its
 -- own, and the core that stands for it.
-use Rattle.std.specs.Prelude.{ℕ, ◌-◌, true, false, List, [], ◌∷◌, ◌++◌, replicate, Some, None}
+use Rattle.std.specs.Prelude.{ℕ, ◌-◌, true, false, List, [], ◌∷◌, ◌++◌, replicate, Some, None, zero, suc}
 use Rattle.aia_home.specs.Plans.Access.{PutPending}
 use Rattle.aia_home.specs.Plans.{leave_step}
 use Rattle.aia_regs.specs.declared.limits.TheConstants.{VCPUS, ENTRIES}
@@ -24,12 +24,21 @@ use Rattle.aia_move.specs.Move.{Moving}
 use Rattle.aia_model.specs.declared.line.Line.{Line}
 use Rattle.aia_model.specs.declared.line.Line.TheVariants as lines
 use Rattle.aia_model.specs.Move.Move.{Arrives, Leaves}
-use Rattle.aia_model.specs.Event.{History}
-use Rattle.aia_model.specs.Event.Event.{Accepted, Began}
+use Rattle.aia_model.specs.Move.{Move, mover}
+use Rattle.aia_model.specs.Event.{History, file_words}
+use Rattle.aia_model.specs.Event.Event.{Accepted, Began, Stepped}
 use Rattle.aia_model.specs.HomeOf.{place}
-use Rattle.aia_model.specs.Answer.{steps_taken, whole_move}
+use Rattle.aia_model.specs.Answer.{steps_of}
 use Rattle.aia_hyp.specs.declared.vcpu.Stay.TheVariants as stays
 use Rattle.aia_hyp.specs.Core.{CoreState}
+
+-- So many steps of a virtual hart's move, and a whole move, with nothing in flight.
+abbrev pub stepped_on : ℕ → Vcpu → History → History
+stepped_on zero g h = h
+stepped_on (suc count) g h = stepped_on count g (Stepped g ∷ h)
+
+abbrev pub moved_whole : History → Move → History
+moved_whole h move = stepped_on (steps_of (file_words h) move) (mover move) (Began move ∷ h)
 
 -- ---- what has happened
 
@@ -46,10 +55,10 @@ made_history = Accepted (lines.Vm 2 8 0) ∷ Accepted (lines.Machine 1 3 63 1) �
 
 -- Both virtual harts arrive.
 abbrev pub stayer_arrived : History
-stayer_arrived = whole_move made_history (Arrives stayer 0)
+stayer_arrived = moved_whole made_history (Arrives stayer 0)
 
 abbrev pub both_arrived : History
-both_arrived = whole_move stayer_arrived (Arrives leaver 0)
+both_arrived = moved_whole stayer_arrived (Arrives leaver 0)
 
 -- A write of the one that leaves to a CSR of its file.
 abbrev pub guest_write : Csr → ℕ → Line
@@ -67,7 +76,7 @@ abbrev pub so_far : ℕ
 so_far = leave_step 1 (PutPending 0)
 
 abbrev pub leaving_history : History
-leaving_history = steps_taken so_far leaver (Began (Leaves leaver) ∷ before_leaving)
+leaving_history = stepped_on so_far leaver (Began (Leaves leaver) ∷ before_leaving)
 
 -- The lines that lead to it: up to the move that is under way, and those of that move.
 abbrev pub earlier_lines : List Line

@@ -7,3 +7,4 @@ pub mod NoticeLemmas
 pub mod ToldLemmas
 pub mod CauseLemmas
 pub mod NewestLemmas
+pub mod FlightRequests

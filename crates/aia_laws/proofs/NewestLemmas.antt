@@ -6,7 +6,7 @@ use Rattle.aia_file.specs.InterruptFile.{InterruptFile}
 use Rattle.aia_home.specs.Vms.{Vcpu}
 use Rattle.aia_model.specs.declared.line.Line.TheVariants.{Machine}
 use Rattle.aia_model.specs.Event.{Event, History}
-use Rattle.aia_model.specs.Event.Event.{Accepted, Began, Stepped, Delivered}
+use Rattle.aia_model.specs.Event.Event.{Accepted, Began, Stepped, Delivered, Landed}
 use Rattle.aia_model.specs.FileAfter.{FileDeed, select_by, file_by, file_after, pending_said, enabled_said}
 use Rattle.aia_model.specs.FileAfter.FileDeed.{Makes}
 use Rattle.aia_model.specs.FileOf.{FileName, deed_at, file_of}
@@ -77,6 +77,7 @@ is_by_newest deed made makes (Accepted (Machine harts guests n sources) ∷ past
 is_by_newest deed made makes (Accepted line ∷ past) i good = by_word deed (Accepted line) past i (made past (Accepted line)) (is_by_newest deed made makes past i good.1)
 is_by_newest deed made makes (Began move ∷ past) i good = by_word deed (Began move) past i (made past (Began move)) (is_by_newest deed made makes past i good.1)
 is_by_newest deed made makes (Stepped x ∷ past) i good = by_word deed (Stepped x) past i (made past (Stepped x)) (is_by_newest deed made makes past i good.1)
+is_by_newest deed made makes (Landed vm k ∷ past) i good = by_word deed (Landed vm k) past i (made past (Landed vm k)) (is_by_newest deed made makes past i good.1)
 is_by_newest deed made makes (Delivered msi ∷ past) i good = by_word deed (Delivered msi) past i (made past (Delivered msi)) (is_by_newest deed made makes past i good.1)
 
 pub guest_newest : (h : History) (g : Vcpu) (i : ℕ) → IsHistory h

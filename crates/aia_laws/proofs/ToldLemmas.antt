@@ -1,8 +1,8 @@
 -- What the host is told by a notice: the notice identity is asked for in its file, and stays
 -- pending there until it is cleared.
-use Rattle.std.proofs.Common.{◌≡◌, ℕ, ◌+◌, ◌<◌, ◌≤◌, Bool, true, false, not, ◌&&◌, ◌||◌, if◌then◌else◌, nat_lt, List, [], ◌∷◌, length, Option, Some, None, inl, inr, refl, sym, ap, ◌∙◌, arith}
+use Rattle.std.proofs.Common.{◌≡◌, ℕ, ◌+◌, ◌<◌, ◌≤◌, Bool, true, false, not, ◌&&◌, ◌||◌, if◌then◌else◌, nat_eq, nat_lt, List, [], ◌∷◌, length, Option, Some, None, inl, inr, refl, sym, ap, subst, ◌∙◌, arith}
 use Rattle.std.specs.Int.{is_in_range}
-use Rattle.std.proofs.lemmas.Bool.{cases_Bool, cases_lt, and_parts, and_from, or_cases, or_left, or_right, eq-eqb, cond-true, ltb-true, false≢true}
+use Rattle.std.proofs.lemmas.Bool.{cases_Bool, cases_lt, and_parts, and_from, or_cases, or_left, or_right, eq-eqb, cond-true, ltb-true, false≢true, eqb-true}
 use Rattle.std.proofs.lemmas.Bool.Decides.{nat_tests}
 use Rattle.aia_regs.specs.Word.{Word, settle}
 use Rattle.aia_regs.specs.Word.Word.{Ask, Clear, Nothing}
@@ -11,22 +11,25 @@ use Rattle.aia_home.specs.declared.vm.Vm.{Vm}
 use Rattle.aia_home.specs.Vms.{Vcpu, vcpu, vm_in, is_vcpu_in}
 use Rattle.aia_home.specs.Home.Home.{Parked}
 use Rattle.aia_home.proofs.VmLemmas.{slot_below, vm_stays, slot_stays, vm_past}
-use Rattle.aia_model.specs.declared.line.Line.TheVariants.{Machine, Ipi}
+use Rattle.aia_model.specs.declared.line.Line.TheVariants.{Machine, Ipi, Send}
 use Rattle.aia_model.specs.declared.line.Line.TheVariants as lines
 use Rattle.aia_model.specs.Event.{Event, History}
-use Rattle.aia_model.specs.Event.Event.{Accepted, Began, Stepped, Delivered}
+use Rattle.aia_model.specs.Event.Event.{Accepted, Began, Stepped, Delivered, Landed}
 use Rattle.aia_model.specs.Vms.{vms_of, has_vcpu}
 use Rattle.aia_model.specs.FileAfter.{IsMaking, pending_said}
 use Rattle.aia_model.specs.FileAfter.FileDeed.{Stores}
 use Rattle.aia_model.specs.FileOf.{FileName, SupervisorFile, notice_deed, deed_at, select_of, file_of}
-use Rattle.aia_model.specs.GuestFile.{guest_file, named_by}
+use Rattle.aia_model.specs.GuestFile.{guest_file, named_by, sent_to}
+use Rattle.aia_model.specs.Flight.{Sending, flight, flying}
+use Rattle.aia_model.proofs.FlightLemmas.{all_on, all_append, all_without, all_at}
+use Rattle.std.specs.List.{AllByRecursion}
 use Rattle.aia_model.specs.HomeOf.{home}
-use Rattle.aia_model.specs.Notice.{noticed}
+use Rattle.aia_model.specs.Notice.{noticed, noticed_by_landing}
 use Rattle.aia_model.proofs.FileLemmas.{file_step, newest_word, is_file-itself}
 use Rattle.aia_model.proofs.MoveLemmas.{same_vcpu}
 use Rattle.aia_laws.specs.Told.{is_deliverable, notice_file, notice_number, is_ask, is_clear, guest_said, host_said, begins_leave, names_vcpu, noticed_since, told_since, cleared_since, cleared_since_notice}
 use Rattle.aia_laws.proofs.FileLemmas.{made_with, not_making, host_made, host_n}
-use Rattle.aia_model.proofs.RefusalLemmas.{machine_allowed, device_allowed, peer_allowed}
+use Rattle.aia_model.proofs.RefusalLemmas.{machine_allowed, device_allowed, peer_allowed, send_allowed}
 use Rattle.aia_model.specs.Histories.{MayHappen, IsHistory}
 use Rattle.aia_laws.proofs.MachineLemmas.{machine_first, identities_for_all, enabled_in_words}
 use Rattle.aia_laws.proofs.NoticeLemmas.{noticed_while_parked}
@@ -55,6 +58,35 @@ keeps_notices (Accepted line) past g there = (there, refl, refl)
 keeps_notices (Began move) past g there = (there, refl, refl)
 keeps_notices (Stepped x) past g there = (there, refl, refl)
 keeps_notices (Delivered msi) past g there = (there, refl, refl)
+keeps_notices (Landed vm k) past g there = (there, refl, refl)
+
+-- each store in flight is for a virtual hart that is there
+abbrev AllThere : History → Type 0
+AllThere h = (vm : ℕ) → AllByRecursion (λ s. has_vcpu h (sent_to vm s) ≡ true) (flight h vm)
+
+abbrev IsThere : History → ℕ → Sending → Type 0
+IsThere h vm s = has_vcpu h (sent_to vm s) ≡ true
+
+there_on : (event : Event) (past : History) (vm : ℕ) → flight (event ∷ past) vm ≡ flight past vm → AllByRecursion (IsThere past vm) (flight past vm) → AllByRecursion (IsThere (event ∷ past) vm) (flight (event ∷ past) vm)
+there_on event past vm same all =
+    subst (AllByRecursion (IsThere (event ∷ past) vm)) (sym same) (all_on (IsThere past vm) (IsThere (event ∷ past) vm) (λ s there. (keeps_notices event past (sent_to vm s) there).0) (flight past vm) all)
+
+all_there : (h : History) → IsHistory h → AllThere h
+unfolding flight
+all_there [] good vm = tt
+all_there (Accepted (Send v addr value) ∷ past) good vm = elim (cases_Bool (nat_eq v vm)) [
+  | inl own ↦ rw own (all_append (λ s. has_vcpu past (sent_to vm s) ≡ true) (flight past vm) (record { before = past; addr = addr; value = value }) (all_there past good.1 vm)
+      (subst (λ m. has_vcpu past (named_by past m addr) ≡ true) (eqb-true v vm own) (send_allowed past v addr value good.0)))
+  | inr other ↦ rw other (all_there past good.1 vm)
+]
+all_there (Landed v k ∷ past) good vm = elim (cases_Bool (nat_eq v vm)) [
+  | inl own ↦ rw own (all_without (λ s. has_vcpu past (sent_to vm s) ≡ true) k (flight past vm) (all_there past good.1 vm))
+  | inr other ↦ rw other (all_there past good.1 vm)
+]
+all_there (Accepted line ∷ past) good vm = there_on (Accepted line) past vm refl (all_there past good.1 vm)
+all_there (Began move ∷ past) good vm = there_on (Began move) past vm refl (all_there past good.1 vm)
+all_there (Stepped x ∷ past) good vm = there_on (Stepped x) past vm refl (all_there past good.1 vm)
+all_there (Delivered msi ∷ past) good vm = there_on (Delivered msi) past vm refl (all_there past good.1 vm)
 
 -- ---- a notice asks for it
 
@@ -62,13 +94,18 @@ chosen_is : (b : Bool) (x g : Vcpu) → names_vcpu (if b then Some x else None) 
 chosen_is true x g e = same_vcpu g x e
 chosen_is false x g e = absurd (cc)
 
-noticed_is_there : (event : Event) (past : History) (g : Vcpu) → MayHappen past event → names_vcpu (noticed past event) g ≡ true → has_vcpu past g ≡ true
-noticed_is_there (Accepted (lines.Msi vm addr value)) past g may e = ap (has_vcpu past) (chosen_is _ (named_by past vm addr) g e) ∙ device_allowed past vm addr value may
-noticed_is_there (Accepted (Ipi vm number to value)) past g may e = ap (has_vcpu past) (chosen_is _ (vcpu vm to) g e) ∙ peer_allowed past vm number to value may
-noticed_is_there (Stepped x) past g may e = ap (has_vcpu past) (chosen_is _ x g e) ∙ may.0
-noticed_is_there (Accepted line) past g may e = absurd (false≢true e)
-noticed_is_there (Began move) past g may e = absurd (false≢true e)
-noticed_is_there (Delivered msi) past g may e = absurd (false≢true e)
+noticed_is_there : (event : Event) (past : History) (g : Vcpu) → MayHappen past event → IsHistory past → names_vcpu (noticed past event) g ≡ true → has_vcpu past g ≡ true
+noticed_is_there (Accepted (lines.Msi vm addr value)) past g may good e = ap (has_vcpu past) (chosen_is _ (named_by past vm addr) g e) ∙ device_allowed past vm addr value may
+noticed_is_there (Accepted (Ipi vm number to value)) past g may good e = ap (has_vcpu past) (chosen_is _ (vcpu vm to) g e) ∙ peer_allowed past vm number to value may
+noticed_is_there (Stepped x) past g may good e = ap (has_vcpu past) (chosen_is _ x g e) ∙ may.0
+noticed_is_there (Accepted line) past g may good e = absurd (false≢true e)
+noticed_is_there (Began move) past g may good e = absurd (false≢true e)
+noticed_is_there (Delivered msi) past g may good e = absurd (false≢true e)
+noticed_is_there (Landed vm k) past g may good e = by_store (flying past vm k) refl e
+  where
+    by_store : (o : Option Sending) → flying past vm k ≡ o → names_vcpu (noticed_by_landing past vm o) g ≡ true → has_vcpu past g ≡ true
+    by_store None is e = absurd (false≢true e)
+    by_store (Some s) is e = ap (has_vcpu past) (chosen_is _ (sent_to vm s) g e) ∙ all_at (λ s. has_vcpu past (sent_to vm s) ≡ true) k (flight past vm) s is (all_there past good vm)
 
 noticed_one : (told : Option Vcpu) (g : Vcpu) → names_vcpu told g ≡ true → told ≡ Some g
 noticed_one None g e = absurd (false≢true e)
@@ -81,6 +118,7 @@ notice_is_deed (Accepted (Ipi vm number to value)) past f g e = ap (notice_deed 
 notice_is_deed (Stepped x) past f g e = ap (notice_deed past f) (noticed_one _ g e)
 notice_is_deed (Accepted line) past f g e = absurd (false≢true e)
 notice_is_deed (Began move) past f g e = absurd (false≢true e)
+notice_is_deed (Landed vm k) past f g e = ap (notice_deed past f) (noticed_one _ g e)
 notice_is_deed (Delivered msi) past f g e = absurd (false≢true e)
 
 store_asks : (select : ℕ) (file : InterruptFile) (i : ℕ) → 1 ≤ i → i ≤ file.n → pending_said select file (Stores 0 i) i ≡ Ask
@@ -97,7 +135,7 @@ notice_asks event past g may good e =
     let f : FileName = notice_file past g in
     let deed : deed_at f past event ≡ Stores 0 (notice_number past g) = notice_is_deed event past f g e ∙ cond-true _ _ _ (is_file-itself f f refl) in
     ap (λ d. pending_said (select_of past f) (file_of past f) d (notice_number past g)) deed
-    ∙ store_asks (select_of past f) (file_of past f) (notice_number past g) (omega arith) (number_fits past g good (noticed_is_there event past g may e))
+    ∙ store_asks (select_of past f) (file_of past f) (notice_number past g) (omega arith) (number_fits past g good (noticed_is_there event past g may good e))
 
 -- a notice since the newest request is an ask in the host's file since then: at the file and for
 -- the identity that the virtual hart has at the end, which it had from its making on
@@ -106,7 +144,7 @@ unfolding noticed_since told_since
 asked_since [] f n g i good its e = absurd (false≢true e)
 asked_since (event ∷ past) f n g i good its e = elim (or_cases (names_vcpu (noticed past event) g) (not (begins_leave past event g || is_ask (guest_said past event g i)) && noticed_since past g i) e) [
   | inl now ↦
-      let same = stays (noticed_is_there event past g good.0 now) in
+      let same = stays (noticed_is_there event past g good.0 good.1 now) in
       or_left _ _ (ap is_ask (ap (λ x. host_said past event x n) same.0 ∙ ap (host_said past event (notice_file past g)) same.1 ∙ notice_asks event past g good.0 good.1 now))
   | inr before ↦
       let parts = and_parts (not (begins_leave past event g || is_ask (guest_said past event g i))) (noticed_since past g i) before in
@@ -170,6 +208,7 @@ pending_until_cleared (Accepted (Machine harts guests m sources) ∷ past) f n g
 pending_until_cleared (Accepted line ∷ past) f n g i good told cleared = kept_by (Accepted line) past f n g i (host_made f past (Accepted line)) (pending_until_cleared past f n g i good.1) told cleared
 pending_until_cleared (Began move ∷ past) f n g i good told cleared = kept_by (Began move) past f n g i (host_made f past (Began move)) (pending_until_cleared past f n g i good.1) told cleared
 pending_until_cleared (Stepped x ∷ past) f n g i good told cleared = kept_by (Stepped x) past f n g i (host_made f past (Stepped x)) (pending_until_cleared past f n g i good.1) told cleared
+pending_until_cleared (Landed vm k ∷ past) f n g i good told cleared = kept_by (Landed vm k) past f n g i (host_made f past (Landed vm k)) (pending_until_cleared past f n g i good.1) told cleared
 pending_until_cleared (Delivered msi ∷ past) f n g i good told cleared = kept_by (Delivered msi) past f n g i (host_made f past (Delivered msi)) (pending_until_cleared past f n g i good.1) told cleared
 
 -- ---- what the newest notice asked for and was not cleared since is pending
@@ -197,7 +236,7 @@ sent_by : (event : Event) (past : History) (g : Vcpu) (i : ℕ) (f : FileName) (
     → KeepsSent past f n g i → KeepsSent (event ∷ past) f n g i
 sent_by event past g i f n may good its made before = elim (cases_Bool (names_vcpu (noticed past event) g)) [
   | inl now ↦
-      let same = its (noticed_is_there event past g may now) in
+      let same = its (noticed_is_there event past g may good now) in
       let asks : host_said past event f n ≡ Ask = ap (λ x. host_said past event x n) same.0 ∙ ap (host_said past event (notice_file past g)) same.1 ∙ notice_asks event past g may good now in
       λ sent kept. pending_after event past f n (not_making (deed_at f past event) made) ∙ ap (λ word. settle word ((file_of past f).pending n)) asks
   | inr none ↦ sent_before event past f n g i made none before
@@ -220,6 +259,9 @@ pending_since_notice (Began move ∷ past) f n g i good its =
 pending_since_notice (Stepped x ∷ past) f n g i good its =
     let earlier = its_before (Stepped x) past f n g its in
     sent_by (Stepped x) past g i f n good.0 good.1 earlier (host_made f past (Stepped x)) (pending_since_notice past f n g i good.1 earlier)
+pending_since_notice (Landed vm k ∷ past) f n g i good its =
+    let earlier = its_before (Landed vm k) past f n g its in
+    sent_by (Landed vm k) past g i f n good.0 good.1 earlier (host_made f past (Landed vm k)) (pending_since_notice past f n g i good.1 earlier)
 pending_since_notice (Delivered msi ∷ past) f n g i good its =
     let earlier = its_before (Delivered msi) past f n g its in
     sent_by (Delivered msi) past g i f n good.0 good.1 earlier (host_made f past (Delivered msi)) (pending_since_notice past f n g i good.1 earlier)

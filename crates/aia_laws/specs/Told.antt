@@ -1,19 +1,22 @@
 -- What the host was told of a virtual hart's interrupts, and since when. Vocabulary.
-use Rattle.std.specs.Prelude.{◌≡◌, ℕ, Bool, true, false, not, ◌&&◌, ◌||◌, [], ◌∷◌, Option, Some, None}
+use Rattle.std.specs.Prelude.{◌≡◌, ℕ, Bool, true, false, not, ◌&&◌, ◌||◌, [], ◌∷◌, Option, Some, None, ◌%◌}
 use Rattle.aia_regs.specs.Word.{Word}
 use Rattle.aia_regs.specs.Word.Word.{Ask, Clear}
 use Rattle.aia_home.specs.Vms.{Vcpu, is_vcpu, notice_hart, notice_identity}
 use Rattle.aia_home.specs.Home.{is_resident}
 use Rattle.aia_model.specs.Move.Move.{Leaves}
 use Rattle.aia_model.specs.declared.line.Line.{Line}
-use Rattle.aia_model.specs.Event.{Event, History, file_words}
-use Rattle.aia_model.specs.Event.Event.{Accepted, Began, Stepped}
+use Rattle.aia_model.specs.Event.{Event, History, greatest_identity_of, file_words}
+use Rattle.aia_model.specs.Event.Event.{Accepted, Began, Stepped, Landed}
+use Rattle.aia_regs.specs.declared.address_map.TheConstants.{PAGE}
+use Rattle.aia_regs.specs.Request.{requested}
+use Rattle.aia_model.specs.Flight.{Sending, flying}
 use Rattle.aia_model.specs.HomeOf.{home}
 use Rattle.aia_model.specs.Notice.{noticed, ends_leave, a_look_saw}
 use Rattle.aia_model.specs.Vms.{vms_of}
 use Rattle.aia_model.specs.FileAfter.{pending_said}
 use Rattle.aia_model.specs.FileOf.{FileName, SupervisorFile, deed_at, select_of, file_of}
-use Rattle.aia_model.specs.GuestFile.{guest_deed, guest_select, guest_file}
+use Rattle.aia_model.specs.GuestFile.{sent_to, guest_deed, guest_select, guest_file}
 use Rattle.aia_laws.specs.Requests.{Asks}
 
 -- Whether an identity is deliverable at a virtual hart: it is pending and enabled.
@@ -104,8 +107,18 @@ pub record EndsLeave (past : History) (x g : Vcpu) : Type 0 where
   pub last : ends_leave (file_words past) (home past g) ≡ true
   pub saw : a_look_saw past g ≡ true
 
+-- A store that lands asks at a virtual hart for an identity that is enabled there.
+pub record LandsForEnabled (past : History) (vm k : ℕ) (g : Vcpu) : Type 0 where
+  pub store : Sending
+  pub is : flying past vm k ≡ Some store
+  pub same : sent_to vm store ≡ g
+  pub identity : ℕ
+  pub asks : requested (greatest_identity_of past) (store.addr % PAGE) store.value ≡ Some identity
+  pub enabled : (guest_file past g).enabled identity ≡ true
+
 -- An event is the cause of a notice for a virtual hart.
 abbrev pub IsCause : History → Event → Vcpu → Type 0
 IsCause past (Accepted line) g = AsksForEnabled past line g
 IsCause past (Stepped x) g = EndsLeave past x g
+IsCause past (Landed vm k) g = LandsForEnabled past vm k g
 IsCause past event g = ⊥

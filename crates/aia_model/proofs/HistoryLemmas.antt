@@ -1,5 +1,5 @@
 -- Histories whose every event may happen: that of each script is one.
-use Rattle.std.proofs.Common.{◌≡◌, ℕ, zero, suc, ◌+◌, ◌-◌, true, false, nat_eq, is_none, List, [], ◌∷◌, Option, Some, None, inl, inr, refl, sym, ap, subst, ◌∙◌, arith}
+use Rattle.std.proofs.Common.{◌≡◌, ℕ, zero, suc, ◌+◌, ◌-◌, ◌<◌, Bool, true, false, nat_eq, is_none, is_some, length, List, [], ◌∷◌, Option, Some, None, inl, inr, refl, sym, ap, subst, ◌∙◌, arith}
 use Rattle.std.specs.Option.{option_map_or}
 use Rattle.std.proofs.lemmas.Bool.{cases_Bool, not-false, eqb-true, cond-true}
 use Rattle.aia_home.specs.Vms.{Vcpu, vcpu}
@@ -7,26 +7,30 @@ use Rattle.aia_home.specs.Home.{Home, is_moving, is_resident, is_parked, leaving
 use Rattle.aia_home.specs.Plans.{leave_steps, arrive_steps, shift_steps, stepped}
 use Rattle.aia_home.specs.Home.Home.{Parked, Resident, Leaving, Arriving, Shifting}
 use Rattle.aia_model.specs.declared.line.Line.{Line}
-use Rattle.aia_model.specs.declared.line.Line.TheVariants.{Machine, Arrive, Leave, Shift, BeginArrive, BeginLeave, BeginShift, Step}
+use Rattle.aia_model.specs.declared.line.Line.TheVariants.{Machine, Arrive, Leave, Shift, BeginArrive, BeginLeave, BeginShift, Step, Land}
 use Rattle.aia_model.specs.declared.answer.Answer.{Answer}
 use Rattle.aia_model.specs.declared.msi.Msi.{Msi}
 use Rattle.aia_model.specs.declared.parsed.Parsed.{Parsed}
 use Rattle.aia_model.specs.declared.parsed.Parsed.TheVariants as parsed
 use Rattle.aia_model.specs.Move.Move.{Arrives, Leaves, Shifts}
 use Rattle.aia_model.specs.Event.{History, has_machine, file_words}
-use Rattle.aia_model.specs.Event.Event.{Began, Stepped, Delivered}
+use Rattle.aia_model.specs.Event.Event.{Began, Delivered, Landed}
 use Rattle.aia_model.specs.Vms.{has_vcpu}
 use Rattle.aia_model.specs.HomeOf.{home, free_file, place}
 use Rattle.aia_model.specs.Refusal.{refusal}
 use Rattle.aia_model.specs.Sent.{msis_sent_by}
-use Rattle.aia_model.specs.Answer.{after, history_after, line_taken, whole_move, delivered, steps_taken}
+use Rattle.aia_model.specs.Answer.{after, history_after, line_taken, whole_move, delivered, step_taken, steps_taken, oldest_landed, landed_first}
 use Rattle.aia_model.specs.Reading.{reading}
 use Rattle.aia_model.specs.Text.{texts_of}
 use Rattle.aia_model.specs.Script.{after_text, after_texts, history_of}
 use Rattle.aia_model.proofs.AnswerLemmas.{after_by}
 use Rattle.aia_model.proofs.MoveLemmas.{is_itself, home_step}
+use Rattle.aia_home.specs.Vms.{is_vcpu_in}
+use Rattle.aia_home.specs.Routes.{is_at_fence}
+use Rattle.aia_model.specs.Flight.{Sending, flight}
+use Rattle.aia_model.proofs.FlightLemmas.{first_gone, lands_first, home_landed_first, same_first, words_first, home_stepped}
 use Rattle.aia_model.specs.Histories.{IsHistory}
-use Rattle.aia_model.proofs.RefusalLemmas.{machine_stands, arrive_allowed, leave_allowed, shift_allowed, step_allowed}
+use Rattle.aia_model.proofs.RefusalLemmas.{machine_stands, arrive_allowed, leave_allowed, shift_allowed, step_allowed, land_allowed}
 
 -- ---- a whole move: all its steps may happen
 
@@ -53,14 +57,34 @@ one_less words count (Shifting from to at) e = elim (cases_Bool (nat_eq (at.step
 one_less words count Parked e = absurd (omega (arith, e))
 one_less words count (Resident p) e = absurd (omega (arith, e))
 
-own_home : (h : History) (g : Vcpu) → home (Stepped g ∷ h) g ≡ stepped (file_words h) (home h g)
-own_home h g = home_step (Stepped g) h g ∙ cond-true _ _ _ (is_itself g)
+-- landings may happen, as many as there are stores in flight
+landings_happen : (count vm : ℕ) (h : History) (xs : List Sending) → flight h vm ≡ xs → length xs ≡ count → IsHistory h → IsHistory (oldest_landed count vm h)
+landings_happen zero vm h xs is e good = good
+landings_happen (suc count) vm h [] is e good = absurd (cc)
+landings_happen (suc count) vm h (x ∷ xs) is e good =
+    let same : length xs ≡ count = let more : suc (length xs) ≡ suc count = e in cc in
+    let low : 0 < length (flight h vm) = rw is (omega (arith, e)) in
+    landings_happen count vm (Landed vm 0 ∷ h) xs (first_gone vm h x xs is) same (low, good)
+
+first_happens : (g : Vcpu) (h : History) → IsHistory h → IsHistory (landed_first g h)
+first_happens g h good = by_fence (is_at_fence (home h g)) refl
+  where
+    by_fence : (b : Bool) → is_at_fence (home h g) ≡ b → IsHistory (landed_first g h)
+    by_fence true e = rw e (landings_happen (length (flight h g.vm)) g.vm h (flight h g.vm) refl refl good)
+    by_fence false e = rw e good
+
+-- a step with the landings before it
+there_still : (g x : Vcpu) (h : History) → has_vcpu h x ≡ true → has_vcpu (landed_first g h) x ≡ true
+there_still g x h there = ap (λ vms. is_vcpu_in vms x) (same_first g h).0 ∙ there
+
+step_happens : (g : Vcpu) (h : History) → has_vcpu h g ≡ true → is_moving (home h g) ≡ true → IsHistory h → IsHistory (step_taken g h)
+step_happens g h there moves good = ((there_still g g h there, ap is_moving (home_landed_first g g h) ∙ moves, lands_first g h), first_happens g h good)
 
 steps_happen : (count : ℕ) (g : Vcpu) (h : History) → has_vcpu h g ≡ true → steps_left (file_words h) (home h g) ≡ count → IsHistory h → IsHistory (steps_taken count g h)
 steps_happen zero g h there left good = good
 steps_happen (suc count) g h there left good =
     let one = one_less (file_words h) count (home h g) left in
-    steps_happen count g (Stepped g ∷ h) there (ap (steps_left (file_words h)) (own_home h g) ∙ one.1) ((there, one.0), good)
+    steps_happen count g (step_taken g h) (there_still g g h there) (ap (λ w. steps_left w (home (step_taken g h) g)) (words_first g h) ∙ ap (steps_left (file_words h)) (home_stepped g h) ∙ one.1) (step_happens g h there one.0 good)
 
 leave_left : (words : ℕ) (there : Home) → is_moving there ≡ false → is_parked there ≡ false → steps_left words (leaving there) ≡ leave_steps words
 leave_left words (Resident p) idle kept = omega arith
@@ -117,12 +141,16 @@ line_happens h (Shift vm number hart) e good = shift_happens h (vcpu vm number) 
 line_happens h (BeginArrive vm number hart) e good = let may = arrive_allowed h vm number hart e in ((may.0, may.1), good)
 line_happens h (BeginLeave vm number) e good = let may = leave_allowed h vm number e in ((may.0, may.1), good)
 line_happens h (BeginShift vm number hart) e good = let may = shift_allowed h vm number hart e in ((may.0, may.1), good)
-line_happens h (Step vm number) e good = (step_allowed h vm number e, good)
+line_happens h (Step vm number) e good = let may = step_allowed h vm number e in step_happens (vcpu vm number) h may.0 may.1 good
+line_happens h (Land vm k) e good = (land_allowed h vm k e, good)
 line_happens h line e good = (e, good)
+
+stands_first : (g : Vcpu) (h : History) → has_machine h ≡ true → has_machine (landed_first g h) ≡ true
+stands_first g h stands = ap (λ o. is_some o) (same_first g h).1 ∙ stands
 
 stands_stepped : (count : ℕ) (g : Vcpu) (h : History) → has_machine h ≡ true → has_machine (steps_taken count g h) ≡ true
 stands_stepped zero g h stands = stands
-stands_stepped (suc count) g h stands = stands_stepped count g (Stepped g ∷ h) stands
+stands_stepped (suc count) g h stands = stands_stepped count g (step_taken g h) (stands_first g h stands)
 
 -- after an accepted line a machine stands
 pub stands_then : (h : History) (line : Line) → refusal h line ≡ None → has_machine (line_taken h line) ≡ true
@@ -130,6 +158,7 @@ stands_then h (Machine harts guests n sources) e = refl
 stands_then h (Arrive vm number hart) e = stands_stepped (arrive_steps (file_words h)) (vcpu vm number) _ (not-false _ (machine_stands h (Arrive vm number hart) e))
 stands_then h (Leave vm number) e = stands_stepped (leave_steps (file_words h)) (vcpu vm number) _ (not-false _ (machine_stands h (Leave vm number) e))
 stands_then h (Shift vm number hart) e = stands_stepped (shift_steps (file_words h)) (vcpu vm number) _ (not-false _ (machine_stands h (Shift vm number hart) e))
+stands_then h (Step vm number) e = stands_first (vcpu vm number) h (not-false _ (machine_stands h (Step vm number) e))
 stands_then h line e = not-false _ (machine_stands h line e)
 
 msis_happen : (sent : List Msi) (h : History) → has_machine h ≡ true → IsHistory h → IsHistory (delivered sent h)

@@ -1,19 +1,20 @@
 -- What holds where a line is not refused: no word's cell.
-use Rattle.std.proofs.Common.{◌≡◌, ℕ, ◌+◌, ◌%◌, ◌≤◌, Bool, true, false, not, ◌&&◌, cond, nat_eq, is_none, Option, Some, None, refl}
-use Rattle.std.proofs.lemmas.Bool.{and_parts, or_parts, not-false, ltb-false}
+use Rattle.std.proofs.Common.{length, nat_lt, ◌≡◌, ℕ, ◌+◌, ◌%◌, ◌<◌, ◌≤◌, Bool, true, false, not, ◌&&◌, cond, nat_eq, is_none, Option, Some, None, refl}
+use Rattle.std.proofs.lemmas.Bool.{and_parts, or_parts, not-false, ltb-false, ltb-true}
 use Rattle.aia_regs.specs.declared.limits.TheConstants.{VCPUS}
 use Rattle.aia_regs.specs.declared.access.Csr.{Csr}
 use Rattle.aia_regs.specs.declared.access.Op.{Op}
 use Rattle.aia_home.specs.Vms.{vcpu, vcpus_in}
 use Rattle.aia_home.specs.Home.{is_moving, is_resident, is_parked}
 use Rattle.aia_model.specs.declared.line.Line.{Line}
-use Rattle.aia_model.specs.declared.line.Line.TheVariants.{Machine, GuestCsr, Ipi, Arrive, Leave, Shift, Step}
+use Rattle.aia_model.specs.declared.line.Line.TheVariants.{Send, Land, Machine, GuestCsr, Ipi, Arrive, Leave, Shift, Step}
 use Rattle.aia_model.specs.declared.line.Line.TheVariants as lines
 use Rattle.aia_model.specs.declared.answer.Answer.{Answer}
 use Rattle.aia_model.specs.Event.{History, has_machine, has_hart}
 use Rattle.aia_model.specs.Vms.{vms_of, has_vm, has_vcpu}
 use Rattle.aia_model.specs.HomeOf.{home, free_file}
 use Rattle.aia_model.specs.GuestFile.{named_by}
+use Rattle.aia_model.specs.Flight.{flight}
 use Rattle.aia_model.specs.Refusal.{refusal, lacks_machine, is_machine_size, is_vm_size, lacks_room}
 
 -- a word that does not refuse is passed: its cell does not hold, and no later word refuses
@@ -76,6 +77,21 @@ access_allowed h vm number csr op e =
     let stands = passed (not (has_machine h)) _ _ e in
     let there = passed (not (has_vcpu h (vcpu vm number))) _ _ stands.1 in
     not-false _ (passed (not (is_resident (home h (vcpu vm number)))) _ _ there.1).0
+
+-- a store that lands is in flight, and one that is sent is for a virtual hart that is there
+pub land_allowed : (h : History) (vm k : ℕ) → refusal h (Land vm k) ≡ None → k < length (flight h vm)
+land_allowed h vm k e =
+    let stands = passed (not (has_machine h)) _ _ e in
+    ltb-true k (length (flight h vm)) (not-false _ (passed (not (nat_lt k (length (flight h vm)))) _ _ stands.1).0)
+
+pub send_allowed : (h : History) (vm addr value : ℕ) → refusal h (Send vm addr value) ≡ None → has_vcpu h (named_by h vm addr) ≡ true
+send_allowed h vm addr value e =
+    let stands = passed (not (has_machine h)) _ _ e in
+    let there = passed (not (has_vm h vm)) _ _ stands.1 in
+    let room = passed _ _ _ there.1 in
+    let whole = passed (not (nat_eq (addr % 4) 0)) _ _ room.1 in
+    let own = passed _ _ _ whole.1 in
+    not-false _ (passed (not (has_vcpu h (named_by h vm addr))) _ _ own.1).0
 
 -- an MSI of a VM names a virtual hart that is there, and a store of a virtual hart is for one
 pub device_allowed : (h : History) (vm addr value : ℕ) → refusal h (lines.Msi vm addr value) ≡ None → has_vcpu h (named_by h vm addr) ≡ true

@@ -1,6 +1,6 @@
 -- What a line answers after a history, and the history after it. Vocabulary, where no chapter is
 -- named.
-use Rattle.std.specs.Prelude.{ℕ, zero, suc, if◌then◌else◌, List, [], ◌∷◌, Option, Some, None, unwrap_or}
+use Rattle.std.specs.Prelude.{ℕ, zero, suc, if◌then◌else◌, List, [], ◌∷◌, length, Option, Some, None, unwrap_or}
 use Rattle.std.specs.Option.{option_map_or}
 use Rattle.aia_word.specs.Top.{top_value}
 use Rattle.aia_regs.specs.declared.access.Csr.{Csr}
@@ -18,16 +18,18 @@ use Rattle.aia_model.specs.declared.msi.Msi.{Msi}
 use Rattle.aia_home.specs.Vms.{Vcpu, vcpu}
 use Rattle.aia_home.specs.Plans.{is_at_last, leave_steps, arrive_steps, shift_steps}
 use Rattle.aia_model.specs.Move.{Move, mover, MoveDeed, move_deed}
-use Rattle.aia_model.specs.Move.MoveDeed.{NoMove, Whole, Begins, Steps}
+use Rattle.aia_model.specs.Move.MoveDeed.{NoMove, Whole, Begins, Steps, Lands}
 use Rattle.aia_model.specs.Move.Move.{Arrives, Leaves, Shifts}
 use Rattle.aia_model.specs.Event.{History, file_words}
-use Rattle.aia_model.specs.Event.Event.{Accepted, Began, Stepped, Delivered}
+use Rattle.aia_model.specs.Event.Event.{Accepted, Began, Stepped, Delivered, Landed}
 use Rattle.aia_model.specs.Act.{domain_at, register_at}
 use Rattle.aia_model.specs.declared.domain_name.DomainName.TheVariants.{Root, Child}
 use Rattle.aia_model.specs.SourceOf.{register_read, is_signalled}
 use Rattle.aia_model.specs.Sent.{acts_of, msis_sent_by}
 use Rattle.aia_model.specs.FileOf.{FileName, MachineFile, SupervisorFile, select_of, file_of}
 use Rattle.aia_model.specs.GuestFile.{guest_select, guest_file}
+use Rattle.aia_home.specs.Routes.{is_at_fence}
+use Rattle.aia_model.specs.Flight.{flight}
 use Rattle.aia_model.specs.HomeOf.{home}
 use Rattle.aia_model.specs.MajorOf.{stopi_of, sip_of, sie_of}
 use Rattle.aia_model.specs.Gate.{hgeip_value}
@@ -82,12 +84,24 @@ answer h line = unwrap_or (refusal h line) (accepted_answer h line)
 
 -- ---- what has happened after a line
 
--- An MSI is delivered; a step of a virtual hart's move is done.
+-- An MSI is delivered.
 abbrev pub msi_taken : Msi → History → History
 msi_taken msi h = Delivered msi ∷ h
 
+-- So many stores of a VM land, the oldest first.
+abbrev pub oldest_landed : ℕ → ℕ → History → History
+oldest_landed zero vm h = h
+oldest_landed (suc count) vm h = oldest_landed count vm (Landed vm 0 ∷ h)
+
+-- All stores of a VM that are on their way land, where the next step of a virtual hart's move is
+-- the fence. Profile.
+abbrev pub landed_first : Vcpu → History → History
+landed_first g h =
+    if is_at_fence (home h g) then oldest_landed (length (flight h g.vm)) g.vm h else h
+
+-- A step of a virtual hart's move is done.
 abbrev pub step_taken : Vcpu → History → History
-step_taken g h = Stepped g ∷ h
+step_taken g h = Stepped g ∷ landed_first g h
 
 -- MSIs are delivered, the first of a list first.
 abbrev pub delivered : List Msi → History → History
@@ -116,6 +130,7 @@ deed_taken h line NoMove = Accepted line ∷ h
 deed_taken h line (Whole move) = whole_move h move
 deed_taken h line (Begins move) = Began move ∷ h
 deed_taken h line (Steps g) = step_taken g h
+deed_taken h line (Lands vm k) = Landed vm k ∷ h
 
 abbrev pub line_taken : History → Line → History
 line_taken h line = deed_taken h line (move_deed line)

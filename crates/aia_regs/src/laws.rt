@@ -13,7 +13,8 @@ use crate::address_map::{
     SUPERVISOR_FILES, TABLE, TABLES,
 };
 use crate::limits::{
-    ENTRIES, GUEST_FILES, HARTS, IDENTITIES, MASK_BITS, MASK_ONES, SOURCES, VCPUS, VM_VCPUS, VMS,
+    ENTRIES, GUEST_FILES, HARTS, IDENTITIES, MASK_BITS, MASK_ONES, SOURCES, STORES_IN_FLIGHT, VCPUS,
+    VM_VCPUS, VMS,
 };
 use crate::{DomainReg, FileReg};
 
@@ -112,4 +113,5 @@ pub fn limits()
     ensures mask_bits { MASK_BITS ≡ 15 }
     ensures entries { ENTRIES ≡ 16 }
     ensures enough { ENTRIES ≡ 2 ^ MASK_ONES }
+    ensures stores_in_flight { STORES_IN_FLIGHT ≡ 8 }
 {}

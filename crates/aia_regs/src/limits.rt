@@ -29,3 +29,6 @@ pub const MASK_BITS: u32 = 15;
 
 /// The entries of a VM's MSI page table: as many as [`MASK_ONES`] bits number.
 pub const ENTRIES: usize = 16;
+
+/// The most stores of devices of a VM that are in flight.
+pub const STORES_IN_FLIGHT: usize = 8;
