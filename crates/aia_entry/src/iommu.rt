@@ -74,12 +74,27 @@ impl Iommu {
         requires word1 { Fits ram.now (entry_place (table_of self.old vm) file + 8) }
         ensures { self.new ≡ fenced_at self.old vm file ram.now }
     {
-        fence_at(&mut self.tables, vm as usize, file, ram);
+        fetch_at(&mut self.tables, vm as usize, file, ram);
+    }
+
+    /// Reads the entry of a file of a VM that stands again, as an IOMMU may at any time: what its
+    /// two words in memory say is in force then. The file and memory are as of [`Iommu::fence`].
+    /// All other entries in force stay.
+    ///
+    /// AIA 1.0, IOMMU Support for MSIs to Virtual Machines, "MSI page tables".
+    pub fn refetch(&mut self, vm: u32, file: u32, ram: &Ram)
+        requires vm { vm < length self.old }
+        requires file { file < 2 ^ ones 64 (table_of self.old vm).mask }
+        requires word0 { Fits ram.now (entry_place (table_of self.old vm) file) }
+        requires word1 { Fits ram.now (entry_place (table_of self.old vm) file + 8) }
+        ensures { self.new ≡ fenced_at self.old vm file ram.now }
+    {
+        fetch_at(&mut self.tables, vm as usize, file, ram);
     }
 }
 
-/// Puts the entry of a file in force in table `vm`.
-fn fence_at(tables: &mut [Table], vm: usize, file: u32, ram: &Ram)
+/// Puts the entry of a file in force in table `vm`, as it is read.
+fn fetch_at(tables: &mut [Table], vm: usize, file: u32, ram: &Ram)
     requires vm { vm < length tables.old }
     requires file { file < 2 ^ ones 64 (table_of tables.old vm).mask }
     requires word0 { Fits ram.now (entry_place (table_of tables.old vm) file) }

@@ -3,7 +3,7 @@
 use Rattle.aia_model.specs.Move.Move.{Arrives, Leaves, Shifts}
 use Rattle.aia_home.specs.Routes.{is_at_fence}
 use Rattle.aia_model.specs.HomeOf.{home}
-use Rattle.aia_model.proofs.FlightLemmas.{all_at, all_without}
+use Rattle.aia_model.proofs.FlightLemmas.{all_at, all_remove}
 use Rattle.aia_model.specs.Flight.{Sending, flight, flying}
 use Rattle.std.specs.Option.{option_map_or}
 use Rattle.std.specs.List.{AllByRecursion, list_any}
@@ -81,7 +81,7 @@ landing_same vm k h g all = by_store (flying h vm k) refl
 
 still_landed : (vm k : ℕ) (h : History) (g : Vcpu) → Still h vm g → Still (Landed vm k ∷ h) vm g
 unfolding flight
-still_landed vm k h g all = rw (eq-eqb vm vm refl) (all_without (λ s. is_vcpu g (sent_to vm s) ≡ false) k (flight h vm) all)
+still_landed vm k h g all = rw (eq-eqb vm vm refl) (all_remove (λ s. is_vcpu g (sent_to vm s) ≡ false) k (flight h vm) all)
 
 still_stepped : (vm : ℕ) (x : Vcpu) (h : History) (g : Vcpu) → Still h vm g → Still (Stepped x ∷ h) vm g
 unfolding flight

@@ -21,7 +21,7 @@ use Rattle.aia_model.specs.FileAfter.FileDeed.{Stores}
 use Rattle.aia_model.specs.FileOf.{FileName, SupervisorFile, notice_deed, deed_at, select_of, file_of}
 use Rattle.aia_model.specs.GuestFile.{guest_file, named_by, sent_to}
 use Rattle.aia_model.specs.Flight.{Sending, flight, flying}
-use Rattle.aia_model.proofs.FlightLemmas.{all_on, all_append, all_without, all_at}
+use Rattle.aia_model.proofs.FlightLemmas.{all_on, all_append, all_remove, all_at}
 use Rattle.std.specs.List.{AllByRecursion}
 use Rattle.aia_model.specs.HomeOf.{home}
 use Rattle.aia_model.specs.Notice.{noticed, noticed_by_landing}
@@ -80,7 +80,7 @@ all_there (Accepted (Send v addr value) ∷ past) good vm = elim (cases_Bool (na
   | inr other ↦ rw other (all_there past good.1 vm)
 ]
 all_there (Landed v k ∷ past) good vm = elim (cases_Bool (nat_eq v vm)) [
-  | inl own ↦ rw own (all_without (λ s. has_vcpu past (sent_to vm s) ≡ true) k (flight past vm) (all_there past good.1 vm))
+  | inl own ↦ rw own (all_remove (λ s. has_vcpu past (sent_to vm s) ≡ true) k (flight past vm) (all_there past good.1 vm))
   | inr other ↦ rw other (all_there past good.1 vm)
 ]
 all_there (Accepted line ∷ past) good vm = there_on (Accepted line) past vm refl (all_there past good.1 vm)

@@ -1,25 +1,28 @@
 -- Where stores in flight lead: where the entry in force may lead, as long as each fence lands all
 -- stores of its VM first.
-use Rattle.std.proofs.Common.{◌≡◌, ℕ, zero, suc, ◌+◌, ◌/◌, Bool, true, false, nat_eq, List, [], ◌∷◌, ◌++◌, length, slice_get, Option, Some, inl, inr, refl, sym, ap, subst, ◌∙◌}
+use Rattle.std.proofs.Common.{◌≡◌, ℕ, zero, suc, ◌+◌, ◌/◌, ◌<◌, Bool, true, false, nat_eq, nat_lt, arith, List, [], ◌∷◌, ◌++◌, length, slice_get, Option, Some, inl, inr, refl, sym, ap, subst, ◌∙◌}
 use Rattle.std.specs.Option.{option_map_or}
-use Rattle.std.specs.List.{AllByRecursion}
-use Rattle.std.proofs.lemmas.Bool.{cases_Bool, and_parts, eqb-true, eq-eqb, cond-true, cond-false, false≢true}
+use Rattle.std.specs.List.{AllByRecursion, remove}
+use Rattle.std.proofs.lemmas.Bool.{cases_Bool, cases_lt, ltb-true, and_parts, eqb-true, eq-eqb, cond-true, cond-false, false≢true}
 use Rattle.aia_home.specs.declared.place.Place.{Place}
-use Rattle.aia_home.specs.Vms.{Vcpu, is_vcpu}
+use Rattle.aia_home.specs.declared.vm.Vm.{Vm}
+use Rattle.aia_home.specs.Vms.{Vcpu, is_vcpu, vm_in, is_vcpu_in, slot_of, notice_hart}
+use Rattle.aia_home.proofs.VmLemmas.{vm_stays, slot_stays, vm_past}
 use Rattle.aia_home.specs.Home.{Home}
 use Rattle.aia_home.specs.Plans.{stepped}
 use Rattle.aia_home.specs.Routes.{is_at_fence, MayReach}
 use Rattle.aia_home.proofs.RouteLemmas.{reach_kept}
 use Rattle.aia_model.specs.declared.line.Line.TheVariants.{Send}
+use Rattle.aia_model.specs.declared.line.Line.TheVariants as lines
 use Rattle.aia_model.specs.Move.Move.{Arrives, Leaves, Shifts}
 use Rattle.aia_model.specs.Event.{Event, History, Shape, machine_of, file_words}
 use Rattle.aia_model.specs.Event.Event.{Accepted, Began, Stepped, Delivered, Landed}
-use Rattle.aia_model.specs.Flight.{Sending, without, flight}
+use Rattle.aia_model.specs.Flight.{Sending, flight}
 use Rattle.aia_model.specs.GuestFile.{named_by, sent_to}
 use Rattle.aia_model.specs.HomeOf.{home}
-use Rattle.aia_model.specs.ReachOf.{sent_into, LandsFirst, MayFly, AllMayFly}
+use Rattle.aia_model.specs.ReachOf.{sent_into, LandsFirst, MayFly, AllMayFly, IsForOne, AllAreForOne, SendsToOne}
 use Rattle.aia_model.specs.Answer.{oldest_landed, landed_first, step_taken}
-use Rattle.aia_model.specs.Vms.{vms_of}
+use Rattle.aia_model.specs.Vms.{vms_of, has_vcpu}
 use Rattle.aia_model.proofs.MoveLemmas.{home_step, same_vcpu, is_itself}
 use Rattle.aia_model.proofs.ReachLemmas.{in_force_may, begun_reach}
 
@@ -33,10 +36,11 @@ pub all_append : {A : Type 0} (P : A → Type 0) (xs : List A) (y : A) → AllBy
 all_append P [] y all one = (one, tt)
 all_append P (x ∷ xs) y all one = (all.0, all_append P xs y all.1 one)
 
-pub all_without : {A : Type 0} (P : A → Type 0) (k : ℕ) (xs : List A) → AllByRecursion P xs → AllByRecursion P (without k xs)
-all_without P k [] all = tt
-all_without P zero (x ∷ xs) all = all.1
-all_without P (suc k) (x ∷ xs) all = (all.0, all_without P k xs all.1)
+pub all_remove : {A : Type 0} (P : A → Type 0) (k : ℕ) (xs : List A) → AllByRecursion P xs → AllByRecursion P (remove xs k)
+all_remove P zero [] all = tt
+all_remove P (suc k) [] all = tt
+all_remove P zero (x ∷ xs) all = all.1
+all_remove P (suc k) (x ∷ xs) all = (all.0, all_remove P k xs all.1)
 
 pub all_at : {A : Type 0} (P : A → Type 0) (k : ℕ) (xs : List A) (x : A) → slice_get xs k ≡ Some x → AllByRecursion P xs → P x
 all_at P k [] x e all = absurd (cc)
@@ -67,7 +71,7 @@ flights_on past (Accepted (Send v addr value)) first all vm = elim (cases_Bool (
 flights_on past (Accepted line) first all vm = all vm
 flights_on past (Delivered msi) first all vm = all vm
 flights_on past (Landed v k) first all vm = elim (cases_Bool (nat_eq v vm)) [
-  | inl own ↦ rw own (all_without (MayFly past vm) k (flight past vm) (all vm))
+  | inl own ↦ rw own (all_remove (MayFly past vm) k (flight past vm) (all vm))
   | inr other ↦ rw other (all vm)
 ]
 flights_on past (Began (Leaves x)) first all vm = all_on (MayFly past vm) (MayFly (Began (Leaves x) ∷ past) vm) (λ s m. (begun_reach past (sent_to vm s) x 0 (sent_into vm s) m).0) (flight past vm) (all vm)
@@ -87,6 +91,61 @@ pub none_flies : AllMayFly []
 unfolding flight
 none_flies vm = tt
 
+-- ---- each is for a virtual hart that is there
+
+-- after an event a virtual hart is there still, with its slot and its notice hart
+abbrev StaysThere : Event → History → Vcpu → Type 0
+StaysThere event past g = (has_vcpu (event ∷ past) g ≡ true) × (slot_of (vms_of (event ∷ past)) g ≡ slot_of (vms_of past) g) × (notice_hart (vms_of (event ∷ past)) g ≡ notice_hart (vms_of past) g)
+
+vm_within : (vms : List Vm) (g : Vcpu) → is_vcpu_in vms g ≡ true → g.vm < length vms
+vm_within vms g there = elim (cases_lt g.vm (length vms)) [
+  | inl within ↦ within
+  | inr past ↦
+      let few : g.number < (vm_in vms g.vm).vcpus = ltb-true g.number (vm_in vms g.vm).vcpus there in
+      let none = vm_past vms g.vm past in absurd (omega (arith, few, none))
+]
+
+pub stays_there : (event : Event) (past : History) (g : Vcpu) → has_vcpu past g ≡ true → StaysThere event past g
+stays_there (Accepted (lines.Vm vcpus mask hart)) past g there =
+    let new : Vm = record { vcpus = vcpus; mask = mask; notice_hart = hart } in
+    let within = vm_within (vms_of past) g there in
+    let same = vm_stays (vms_of past) new g.vm within in
+    (ap (λ (vm : Vm). nat_lt g.number vm.vcpus) same ∙ there, slot_stays (vms_of past) new g within, ap (λ (vm : Vm). vm.notice_hart) same)
+stays_there (Accepted line) past g there = (there, refl, refl)
+stays_there (Began move) past g there = (there, refl, refl)
+stays_there (Stepped x) past g there = (there, refl, refl)
+stays_there (Landed vm k) past g there = (there, refl, refl)
+stays_there (Delivered msi) past g there = (there, refl, refl)
+
+one_on : (event : Event) (past : History) (vm : ℕ) (s : Sending) → IsForOne past vm s → IsForOne (event ∷ past) vm s
+one_on event past vm s one =
+    let stays = stays_there event past (sent_to vm s) one.there in
+    record { there = stays.0; slot = stays.1 ∙ one.slot; notice = stays.2 ∙ one.notice }
+
+ones_on : (event : Event) (past : History) (vm : ℕ) → AllByRecursion (IsForOne past vm) (flight past vm) → AllByRecursion (IsForOne (event ∷ past) vm) (flight past vm)
+ones_on event past vm all = all_on (IsForOne past vm) (IsForOne (event ∷ past) vm) (one_on event past vm) (flight past vm) all
+
+pub sent_on : (past : History) (event : Event) → SendsToOne past event → AllAreForOne past → AllAreForOne (event ∷ past)
+unfolding flight
+sent_on past (Accepted (Send v addr value)) one all vm = elim (cases_Bool (nat_eq v vm)) [
+  | inl own ↦
+      let to : has_vcpu past (named_by past vm addr) ≡ true = subst (λ m. has_vcpu past (named_by past m addr) ≡ true) (eqb-true v vm own) one in
+      rw own (all_append (IsForOne (Accepted (Send v addr value) ∷ past) vm) (flight past vm) (record { before = past; addr = addr; value = value }) (ones_on (Accepted (Send v addr value)) past vm (all vm)) (record { there = to; slot = refl; notice = refl }))
+  | inr other ↦ rw other (ones_on (Accepted (Send v addr value)) past vm (all vm))
+]
+sent_on past (Landed v k) one all vm = elim (cases_Bool (nat_eq v vm)) [
+  | inl own ↦ rw own (all_remove (IsForOne (Landed v k ∷ past) vm) k (flight past vm) (ones_on (Landed v k) past vm (all vm)))
+  | inr other ↦ rw other (ones_on (Landed v k) past vm (all vm))
+]
+sent_on past (Accepted line) one all vm = ones_on (Accepted line) past vm (all vm)
+sent_on past (Began move) one all vm = ones_on (Began move) past vm (all vm)
+sent_on past (Stepped x) one all vm = ones_on (Stepped x) past vm (all vm)
+sent_on past (Delivered msi) one all vm = ones_on (Delivered msi) past vm (all vm)
+
+pub none_sent : AllAreForOne []
+unfolding flight
+none_sent vm = tt
+
 -- ---- before a fence all land
 
 pub home_landed : (count vm : ℕ) (h : History) (g : Vcpu) → home (oldest_landed count vm h) g ≡ home h g
@@ -95,7 +154,7 @@ home_landed (suc count) vm h g = home_landed count vm (Landed vm 0 ∷ h) g ∙ 
 
 pub first_gone : (vm : ℕ) (h : History) (s : Sending) (later : List Sending) → flight h vm ≡ s ∷ later → flight (Landed vm 0 ∷ h) vm ≡ later
 unfolding flight
-first_gone vm h s later e = cond-true _ _ _ (eq-eqb vm vm refl) ∙ ap (without 0) e
+first_gone vm h s later e = cond-true _ _ _ (eq-eqb vm vm refl) ∙ ap (λ xs. remove xs 0) e
 
 pub none_left : (vm : ℕ) (count : ℕ) (h : History) → length (flight h vm) ≡ count → flight (oldest_landed count vm h) vm ≡ []
 none_left vm count h e = by_list count (flight h vm) h refl e
