@@ -1,5 +1,5 @@
 -- A store for a virtual hart touches its own places and its own notice identity alone.
-use Rattle.std.proofs.Common.{◌≡◌, ◌≢◌, ℕ, ◌+◌, ◌*◌, ◌/◌, ◌%◌, ◌<◌, ◌≤◌, Bool, true, false, ◌&&◌, ◌||◌, nat_lt, List, get_or, Option, Some, None, inl, inr, ◌⊎◌, refl, sym, ap, ◌∙◌, subst, arith}
+use Rattle.std.proofs.Common.{◌≡◌, ◌≢◌, ℕ, ◌+◌, ◌*◌, ◌/◌, ◌%◌, ◌<◌, ◌≤◌, true, ◌&&◌, nat_lt, List, get_or, Option, Some, None, inl, inr, ◌⊎◌, refl, sym, ap, ◌∙◌, subst, arith}
 use Rattle.std.specs.Int.{is_in_range}
 use Rattle.std.proofs.lemmas.Bool.{cases_Bool, cond-true, cond-false}
 use Rattle.std.proofs.lemmas.Bool.Decides.{nat_tests}
@@ -23,9 +23,10 @@ use Rattle.aia_entry.specs.Tables.{table_of, entry_in_force, leads_by, route_of}
 use Rattle.aia_entry.specs.Translation.{is_msi_address, file_number}
 use Rattle.aia_home.specs.declared.place.Place.{Place}
 use Rattle.aia_home.specs.Vms.{Vcpu, vcpu, is_vcpu_in, slot_of, notice_identity, notice_hart}
-use Rattle.aia_home.specs.Home.{Home, is_place, holds}
-use Rattle.aia_home.specs.Home.Home.{Parked, Resident, Leaving, Arriving, Shifting}
+use Rattle.aia_home.specs.Home.{Home, holds}
+use Rattle.aia_home.specs.Home.Home.{Parked}
 use Rattle.aia_home.specs.BySteps.{own_file, next_file}
+use Rattle.aia_home.proofs.HomeLemmas.{own_is_held, next_is_held}
 use Rattle.aia_home.proofs.VmLemmas.{same_slot}
 use Rattle.aia_places.specs.View.{leads_to}
 use Rattle.aia_fabric.specs.World.{World, stage_of}
@@ -34,17 +35,17 @@ use Rattle.aia_fabric.specs.Making.{entry_word_place}
 use Rattle.aia_fabric.specs.Stores.{StoresIn, StoresAt, Posts, NoticedBy, StoresInSlot, Reaches, Relays, with_store, page_spot}
 use Rattle.aia_fabric.specs.Changes.{spot_of, file_in, view}
 use Rattle.aia_fabric.specs.Own.{TouchesOwn, LeadsToOwn, TouchesOneOf}
-use Rattle.aia_fabric.proofs.FrameLemmas.{stores_rest, posts_rest}
+use Rattle.aia_fabric.proofs.FrameLemmas.{by_parts, none_rest, stores_rest, posts_rest}
 use Rattle.aia_fabric.proofs.PlaceLemmas.{slot_found, host_page, other_slot_stays}
 use Rattle.aia_fabric.proofs.StoreViews.{entry_words_kept}
-use Rattle.aia_fabric.proofs.ViewLemmas.{same_place, slot_low, is_place-refl}
+use Rattle.aia_fabric.proofs.ViewLemmas.{same_place, slot_low}
 use Rattle.aia_fabric.proofs.WholeLemmas.{notice_hart_there}
 
 -- ---- a world as it was
 
 pub touches_none : (w u : World) (g : Vcpu) (reach : Option Place) → u ≡ w → TouchesOwn w u g reach
 touches_none w u g reach e = record {
-  rest = e ∙ ap (λ (x : World). record w { imsic = record w.imsic { files = x.imsic.files }; memory = x.memory; notices = x.notices }) (sym e);
+  rest = none_rest w u e;
   guest_files = λ p there other. ap (λ (x : World). file_at x.imsic (spot_of p)) e;
   machine_files = λ hart there. ap (λ (x : World). file_at x.imsic (MachineFile hart)) e;
   host_files = λ hart there other. ap (λ (x : World). file_at x.imsic (HostFile hart)) e;
@@ -93,7 +94,7 @@ module _ (w u : World) (g : Vcpu) (offset value : ℕ) (whole : IsWhole w) (ther
   -- with no notice
   quiet : u ≡ between → TouchesOwn w u g None
   quiet e = record {
-    rest = e ∙ ap (λ (x : World). record w { imsic = record w.imsic { files = x.imsic.files }; memory = x.memory; notices = x.notices }) (sym e);
+    rest = by_parts w u w.imsic.files between.memory w.notices e;
     guest_files = λ p inside other. ap (λ (x : World). file_at x.imsic (spot_of p)) e;
     machine_files = λ hart inside. ap (λ (x : World). file_at x.imsic (MachineFile hart)) e;
     host_files = λ hart inside other. ap (λ (x : World). file_at x.imsic (HostFile hart)) e;
@@ -175,21 +176,6 @@ peer_touches w u g (Some p) value whole there relays = elim (cases_Bool (nat_lt 
 ]
 
 -- ---- the places of another virtual hart
-
-pub own_is_held : (there : Home) (p : Place) → own_file there ≡ Some p → holds p there ≡ true
-own_is_held Parked p e = absurd (cc)
-own_is_held (Resident q) p e = let same : p ≡ q = cc in subst (λ x. is_place p x ≡ true) same (is_place-refl p)
-own_is_held (Leaving from at) p e = let same : p ≡ from = cc in subst (λ x. is_place p x ≡ true) same (is_place-refl p)
-own_is_held (Arriving to at) p e = let same : p ≡ to = cc in subst (λ x. is_place p x ≡ true) same (is_place-refl p)
-own_is_held (Shifting from to at) p e = let same : p ≡ from = cc in let held : is_place p from ≡ true = subst (λ x. is_place p x ≡ true) same (is_place-refl p) in ap (λ (b : Bool). b || is_place p to) held
-
-or_right : (a b : Bool) → b ≡ true → (a || b) ≡ true
-or_right true b e = refl
-or_right false b e = e
-
-pub next_is_held : (there : Home) (p : Place) → next_file there ≡ Some p → holds p there ≡ true
-next_is_held (Shifting from to at) p e = let same : p ≡ to = cc in let held : is_place p to ≡ true = subst (λ x. is_place p x ≡ true) same (is_place-refl p) in or_right (is_place p from) (is_place p to) held
-next_is_held there p e = absurd (cc)
 
 file_stays : (w u : World) (g : Vcpu) (reach o : Option Place) → TouchesOwn w u g reach → ((p : Place) → o ≡ Some p → IsThere w.imsic (spot_of p) × (reach ≢ Some p)) → file_in u o ≡ file_in w o
 file_stays w u g reach None t kept = ap (λ (x : World). empty_file x.n) t.rest

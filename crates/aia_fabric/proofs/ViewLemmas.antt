@@ -30,6 +30,7 @@ use Rattle.aia_home.specs.declared.place.Place.{Place}
 use Rattle.aia_home.specs.Vms.{Vcpu, is_vcpu_in, slot_of}
 use Rattle.aia_home.specs.Home.{Home, is_place}
 use Rattle.aia_home.specs.BySteps.{own_file, next_file}
+use Rattle.aia_home.proofs.HomeLemmas.{is_itself_place}
 use Rattle.aia_home.proofs.VmLemmas.{slot_below}
 use Rattle.aia_places.specs.Steps.{without_word, joined_by, replaced_by}
 use Rattle.aia_fabric.specs.declared.stage.Stage.{Stage}
@@ -45,11 +46,8 @@ use Rattle.aia_fabric.proofs.WholeLemmas.{vcpu_entry, entry_at}
 pub same_place : (a b : Place) → spot_of a ≡ spot_of b → a ≡ b
 same_place a b e = let hart : a.hart ≡ b.hart = cc in let file : a.file ≡ b.file = cc in λ k. record { hart = hart k; file = file k }
 
-pub is_place-refl : (p : Place) → is_place p p ≡ true
-is_place-refl p = grind (arith, nat_tests)
-
 pub spots_apart : (a b : Place) → is_place a b ≡ false → spot_of a ≢ spot_of b
-spots_apart a b apart e = let no : true ≡ false = sym (is_place-refl a) ∙ ap (λ (p : Place). is_place a p) (same_place a b e) ∙ apart in absurd (cc)
+spots_apart a b apart e = let no : true ≡ false = sym (is_itself_place a) ∙ ap (λ (p : Place). is_place a p) (same_place a b e) ∙ apart in absurd (cc)
 
 pub within_files : (w : World) (spot : Spot) → IsWhole w → IsThere w.imsic spot → place_of w.imsic spot < length w.imsic.files
 within_files w spot whole there = let low = place_within w.imsic spot there in omega (arith, low, whole.files)

@@ -4,7 +4,7 @@ use Rattle.std.specs.Prelude.{◌≡◌, ℕ, ◌+◌, ◌-◌, ◌*◌, ◌/◌
 use Rattle.aia_regs.specs.declared.address_map.TheConstants.{MEMORY, MEMORY_END, PAGE}
 use Rattle.aia_regs.specs.declared.limits.TheConstants.{VCPUS}
 use Rattle.aia_regs.specs.AddressMap.{supervisor_page, slot_address, table_address}
-use Rattle.aia_imsic.specs.Imsic.{AreEmpty}
+use Rattle.aia_imsic.specs.Imsic.{ImsicState, AreEmpty}
 use Rattle.aia_entry.specs.declared.entry.Entry.{Entry}
 use Rattle.aia_entry.specs.declared.entry.Entry.TheVariants.{Mrif, NotValid}
 use Rattle.aia_entry.specs.Format.{mrif_word, notice_word}
@@ -15,18 +15,25 @@ use Rattle.aia_fabric.specs.World.{World, no_stage}
 
 -- ---- a new machine
 
--- Of so many harts, guest files a hart and identities: all files are empty, memory is 0, no VM
--- stands, no G-stage record names a file, and no notice was sent.
+-- With these files, which have the identities 1 to n: memory is 0, no VM stands, no G-stage record
+-- names a file, and no notice was sent.
+abbrev pub new_world : ImsicState → ℕ → World
+new_world files n = record {
+  n = n;
+  imsic = files;
+  memory = replicate ((MEMORY_END - MEMORY) / 8) 0;
+  vms = [];
+  tables = [];
+  stages = replicate VCPUS no_stage;
+  notices = 0;
+}
+
+-- Of so many harts, guest files a hart and identities: all files are empty.
 pub record IsNew (w : World) (harts guests n : ℕ) : Type 0 where
-  pub greatest : w.n ≡ n
+  pub world : w ≡ new_world w.imsic n
   pub hart_count : w.imsic.harts ≡ harts
   pub guest_count : w.imsic.guests ≡ guests
   pub files : AreEmpty w.imsic n
-  pub memory : w.memory ≡ replicate ((MEMORY_END - MEMORY) / 8) 0
-  pub vms : w.vms ≡ []
-  pub tables : w.tables ≡ []
-  pub stages : w.stages ≡ replicate VCPUS no_stage
-  pub notices : w.notices ≡ 0
 
 -- ---- a new VM
 

@@ -11,7 +11,7 @@ use Rattle.aia_entry.specs.Tables.{table_of, entry_in_force}
 use Rattle.aia_home.specs.declared.place.Place.{Place}
 use Rattle.aia_home.specs.Vms.{Vcpu, is_vcpu_in, slot_of, notice_identity, notice_hart}
 use Rattle.aia_places.specs.View.{leads_to}
-use Rattle.aia_fabric.specs.World.{World}
+use Rattle.aia_fabric.specs.World.{World, OnlyStores}
 use Rattle.aia_fabric.specs.Making.{entry_word_place}
 use Rattle.aia_fabric.specs.Changes.{spot_of}
 
@@ -19,11 +19,7 @@ use Rattle.aia_fabric.specs.Changes.{spot_of}
 -- virtual hart's own alone.
 pub record TouchesOwn (w u : World) (g : Vcpu) (reach : Option Place) : Type 0 where
   -- the machine, its VMs, all that is in force in their tables, and the G-stage records stay
-  pub rest : u ≡ record w {
-    imsic = record w.imsic { files = u.imsic.files };
-    memory = u.memory;
-    notices = u.notices;
-  }
+  pub rest : OnlyStores w u
   -- guest files: the one to which it is led is all that it touches
   pub guest_files : (p : Place) → IsThere w.imsic (spot_of p) → reach ≢ Some p
       → file_at u.imsic (spot_of p) ≡ file_at w.imsic (spot_of p)

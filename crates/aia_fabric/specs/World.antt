@@ -1,6 +1,6 @@
 -- All that stores reach: the interrupt files, memory, the MSI page tables and the G-stage records.
 -- Vocabulary.
-use Rattle.std.specs.Prelude.{ℕ, List, slice_index_or, None}
+use Rattle.std.specs.Prelude.{◌≡◌, ℕ, List, slice_index_or, None}
 use Rattle.aia_imsic.specs.Imsic.{ImsicState}
 use Rattle.aia_entry.specs.Tables.{TableState}
 use Rattle.aia_home.specs.declared.vm.Vm.{Vm}
@@ -18,6 +18,14 @@ pub record World : Type 0 where
   pub tables : List TableState
   pub stages : List Stage
   pub notices : ℕ
+
+-- Nothing changes but what stores change: what the files hold, memory, and the count of notices.
+abbrev pub OnlyStores : World → World → Type 0
+OnlyStores w u = u ≡ record w {
+  imsic = record w.imsic { files = u.imsic.files };
+  memory = u.memory;
+  notices = u.notices;
+}
 
 -- A record that names nothing.
 abbrev pub no_stage : Stage

@@ -4,7 +4,7 @@ ghost use Rattle.aia_regs.specs.declared.limits.TheConstants.{VCPUS};
 ghost use Rattle.aia_imsic.specs.Imsic.{IsThere};
 ghost use Rattle.aia_entry.specs.Tables.{table_of, route_of};
 ghost use Rattle.aia_home.specs.Vms.{vcpu, is_vcpu_in};
-ghost use Rattle.aia_fabric.specs.World.{stage_of};
+ghost use Rattle.aia_fabric.specs.World.{OnlyStores, stage_of};
 ghost use Rattle.aia_fabric.specs.Stores.{Relays, Reaches, ReachesBy, StoresAt, StoresInSlot, NoticedAt, page_spot};
 
 use crate::Fabric;
@@ -25,11 +25,7 @@ impl Fabric {
         requires { vm < length self.old.vms }
         ensures route { result ≡ route_of (table_of self.old.tables vm) addr }
         ensures reaches { Reaches result self.old self.new (addr % PAGE) value }
-        ensures rest { self.new ≡ record self.old {
-          imsic = record self.old.imsic { files = self.new.imsic.files };
-          memory = self.new.memory;
-          notices = self.new.notices;
-        } }
+        ensures rest { OnlyStores self.old self.new }
     {
         let route = self.translate(vm, addr);
         match route {
@@ -50,11 +46,7 @@ impl Fabric {
         requires { is_vcpu_in self.old.vms (vcpu vm to) ≡ true }
         ensures relays { Relays (stage_of self.old (vcpu vm to)).in_force self.old self.new
             (vcpu vm to) value }
-        ensures rest { self.new ≡ record self.old {
-          imsic = record self.old.imsic { files = self.new.imsic.files };
-          memory = self.new.memory;
-          notices = self.new.notices;
-        } }
+        ensures rest { OnlyStores self.old self.new }
     {
         let slot = self.slot_of(vm, to);
         let hart = self.notice_hart(vm, to);

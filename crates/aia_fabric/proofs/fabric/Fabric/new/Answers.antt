@@ -19,3 +19,11 @@ invariant_of-result c = record {
   vms = search rules;
   stages = refl;
 }
+
+pub returns : goal.returns
+returns c = record {
+  world = rw (c.in_ok-ram.ensures, c.in_ok-vms.ensures, c.in_ok-iommu.ensures, c.new-5.ensures) refl;
+  hart_count = search rules;
+  guest_count = search rules;
+  files = c.in_ok-imsic.ensures.empty;
+}

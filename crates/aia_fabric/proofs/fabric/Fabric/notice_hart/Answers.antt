@@ -1,6 +1,5 @@
 use Rattle.std.proofs.Common.{sym, arith}
 use Rattle.aia_home.specs.Vms.{vcpu}
-use Rattle.aia_fabric.specs.World.{World}
 use Rattle.aia_fabric.proofs.WholeLemmas.{notice_hart_there}
 use Rattle.aia_fabric.proofs.fabric.Fabric.notice_hart.Goals as goal
 
@@ -11,9 +10,7 @@ returns-clause-value c =
 
 pub returns-clause-there : goal.returns-clause-there
 returns-clause-there c =
-    let f = c.self.inside in
-    let w : World = record { n = f.n; imsic = f.imsic; memory = f.ram; vms = f.vms; tables = f.iommu; stages = f.stages; notices = f.notices } in
     let there = rw (← c.self.view_is) at c.requires in
     let value = c.notice_hart.ensures (vcpu c.args.vm c.args.number) there (sym c.slot_of.ensures.value) in
-    let low = notice_hart_there w (vcpu c.args.vm c.args.number) c.self.invariant there in
+    let low = notice_hart_there _ (vcpu c.args.vm c.args.number) c.self.invariant there in
     rw (← c.self.view_is) (omega (arith, value, low))
