@@ -61,7 +61,7 @@ slot_rest : (w u : World) (slot : Option ℕ) (spot : Spot) (identity offset val
 slot_rest w u None spot identity offset value s = none_rest w u s
 slot_rest w u (Some q) spot identity offset value s = by_rest (stored (mrif_in w.memory q) (requested IDENTITIES offset value)) (with_store w q offset value) u spot identity s
 
-entry_rest : (entry : Entry) (w u : World) (offset value : ℕ) → ReachesBy entry w u offset value → OnlyStores w u
+pub entry_rest : (entry : Entry) (w u : World) (offset value : ℕ) → ReachesBy entry w u offset value → OnlyStores w u
 entry_rest (Basic page) w u offset value s = at_rest w u (page_spot w.imsic page) offset value s
 entry_rest (Mrif addr page identity) w u offset value s = slot_rest w u (slot_at addr) (page_spot w.imsic page) identity offset value s
 entry_rest NotValid w u offset value s = none_rest w u s

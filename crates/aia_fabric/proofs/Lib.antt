@@ -3,6 +3,7 @@ pub mod WholeLemmas
 pub mod MakingLemmas
 pub mod LawLemmas
 pub mod FrameLemmas
+pub mod FlightLemmas
 pub mod ViewLemmas
 pub mod StoreViews
 pub mod OwnLemmas

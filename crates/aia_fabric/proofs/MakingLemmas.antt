@@ -36,7 +36,8 @@ pub record HasMade (w u : World) (vm : Vm) (made : ℕ) : Type 0 where
   pub word0 : (file : ℕ) → file < made → slice_index u.memory (entry_word_place (length w.tables) file) ≡ mrif_word (slot_address (vcpus_in w.vms + file))
   pub word1 : (file : ℕ) → file < made → slice_index u.memory (entry_word_place (length w.tables) file + 1) ≡ notice_word (notice_page vm) (vcpus_in w.vms + file + 1)
   pub elsewhere : (place : ℕ) → (place < entry_word_place (length w.tables) 0) ⊎ (entry_word_place (length w.tables) made ≤ place) → slice_index u.memory place ≡ slice_index w.memory place
-  pub rest : u ≡ record w { vms = u.vms; tables = u.tables; memory = u.memory }
+  pub flights : u.flights ≡ w.flights ++ [] ∷ []
+  pub rest : u ≡ record w { vms = u.vms; tables = u.tables; flights = u.flights; memory = u.memory }
 
 below : (a b : ℕ) → a < b → nat_lt a b ≡ true
 below a b low = grind (arith, nat_tests)
@@ -71,6 +72,7 @@ none_made w vm size =
       word0 = λ file low. absurd (omega arith);
       word1 = λ file low. absurd (omega arith);
       elsewhere = λ place apart. refl;
+      flights = refl;
       rest = refl;
     }
 
@@ -148,6 +150,7 @@ one_more_made w u vm made page so_far vms few slots is there =
         | inl before ↦ other_word u.memory new made slot page place (λ e. omega arith) (λ e. omega arith) ∙ so_far.elsewhere place (inl before)
         | inr past ↦ other_word u.memory new made slot page place (λ e. omega arith) (λ e. omega arith) ∙ so_far.elsewhere place (inr (omega arith))
       ];
+      flights = so_far.flights;
       rest = ap (λ (x : World). record x { vms = u.vms; tables = fenced_at u.tables new made words; memory = words }) so_far.rest;
     }
 
@@ -164,5 +167,6 @@ all_made w u vm made = record {
   word0 = made.word0;
   word1 = made.word1;
   elsewhere = made.elsewhere;
+  flights = made.flights;
   rest = made.rest;
 }

@@ -79,6 +79,7 @@ vm_whole w vm whole few mask numbers vcpus hart = record {
   no_enabled_zero = whole.no_enabled_zero;
   few = omega (arith, length-append w.vms (vm ∷ []));
   tables = omega (arith, length-append w.vms (vm ∷ []), length-append w.tables (new_table vm.mask (table_place (length w.tables)) ∷ []), whole.tables);
+  flights = omega (arith, length-append w.vms (vm ∷ []), length-append w.flights ([] ∷ []), whole.flights);
   vcpus = omega (arith, vcpus_more w.vms vm);
   vms = λ v low. elim (cases_lt v (length w.vms)) [
     | inl old ↦ stays v old
@@ -164,6 +165,7 @@ joined_whole w q k v whole there low zero = record {
   no_enabled_zero = λ p lt. ap (λ x. has_bit x 0) (get_or-set_other w.memory (pending_place q k) (enable_place p 0) _ 0 (λ e. omega (arith, e))) ∙ whole.no_enabled_zero p lt;
   few = whole.few;
   tables = whole.tables;
+  flights = whole.flights;
   vcpus = whole.vcpus;
   vms = λ v low. let is = whole.vms v low in record { mask = is.mask; numbers = is.numbers; notice_hart = is.notice_hart; same_mask = is.same_mask; start = is.start; entries = is.entries };
   stages = whole.stages;

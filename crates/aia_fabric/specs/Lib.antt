@@ -3,4 +3,5 @@ pub mod Stores
 pub mod Making
 pub mod Changes
 pub mod Whole
+pub mod Flights
 pub mod Own

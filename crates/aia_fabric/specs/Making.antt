@@ -15,8 +15,8 @@ use Rattle.aia_fabric.specs.World.{World, no_stage}
 
 -- ---- a new machine
 
--- With these files, which have the identities 1 to n: memory is 0, no VM stands, no G-stage record
--- names a file, and no notice was sent.
+-- With these files, which have the identities 1 to n: memory is 0, no VM stands, no store is in
+-- flight, no G-stage record names a file, and no notice was sent.
 abbrev pub new_world : ImsicState → ℕ → World
 new_world files n = record {
   n = n;
@@ -24,6 +24,7 @@ new_world files n = record {
   memory = replicate ((MEMORY_END - MEMORY) / 8) 0;
   vms = [];
   tables = [];
+  flights = [];
   stages = replicate VCPUS no_stage;
   notices = 0;
 }
@@ -58,7 +59,8 @@ abbrev pub entry_word_place : ℕ → ℕ → ℕ
 entry_word_place vm file = (table_place vm + 16 * file) / 8
 
 -- The next VM is made: it stands last, its table is the next in memory, each virtual hart's entry
--- is written and in force; all other words of memory, all other tables and all files stay.
+-- is written and in force, and no store of its devices is in flight; all other words of memory, all
+-- other tables and all files stay.
 pub record MakesVm (w u : World) (vm : Vm) : Type 0 where
   pub vms : u.vms ≡ w.vms ++ vm ∷ []
   pub count : length u.tables ≡ length w.tables + 1
@@ -77,7 +79,13 @@ pub record MakesVm (w u : World) (vm : Vm) : Type 0 where
       → (place < entry_word_place (length w.tables) 0)
       ⊎ (entry_word_place (length w.tables) vm.vcpus ≤ place)
       → slice_index u.memory place ≡ slice_index w.memory place
-  pub rest : u ≡ record w { vms = u.vms; tables = u.tables; memory = u.memory }
+  pub flights : u.flights ≡ w.flights ++ [] ∷ []
+  pub rest : u ≡ record w {
+    vms = u.vms;
+    tables = u.tables;
+    flights = u.flights;
+    memory = u.memory;
+  }
 
 -- ---- one entry
 
@@ -95,9 +103,11 @@ with_entry w vm file slot page = record w {
   tables = fenced_at w.tables vm file (words_with_entry w.memory vm file slot page);
 }
 
--- A VM stands last, its table, where no entry in force is valid, is the next in memory.
+-- A VM stands last, its table, where no entry in force is valid, is the next in memory, and no store
+-- of its devices is in flight.
 abbrev pub with_vm : World → Vm → World
 with_vm w vm = record w {
   vms = w.vms ++ vm ∷ [];
   tables = w.tables ++ new_table vm.mask (table_place (length w.tables)) ∷ [];
+  flights = w.flights ++ [] ∷ [];
 }

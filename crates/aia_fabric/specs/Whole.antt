@@ -22,7 +22,7 @@ pub record IsVm (w : World) (v : ℕ) : Type 0 where
   pub entries : length (table_of w.tables v).in_force ≡ ENTRIES
 
 -- Every file has the world's identities, memory has its slots, of which none has identity 0, and
--- its tables, each VM has its table, and each virtual hart its record.
+-- its tables, each VM has its table and its stores in flight, and each virtual hart its record.
 pub record IsWhole (w : World) : Type 0 where
   pub harts : w.imsic.harts ≤ HARTS
   pub guests : w.imsic.guests ≤ GUEST_FILES
@@ -36,6 +36,7 @@ pub record IsWhole (w : World) : Type 0 where
       → has_bit (slice_index w.memory (enable_place q 0)) 0 ≡ false
   pub few : length w.vms ≤ VMS
   pub tables : length w.tables ≡ length w.vms
+  pub flights : length w.flights ≡ length w.vms
   pub vcpus : vcpus_in w.vms ≤ VCPUS
   pub vms : (v : ℕ) → v < length w.vms → IsVm w v
   pub stages : length w.stages ≡ VCPUS

@@ -1,21 +1,24 @@
--- All that stores reach: the interrupt files, memory, the MSI page tables and the G-stage records.
+-- All that stores reach: the interrupt files, memory, the MSI page tables and the G-stage records;
+-- and the stores that are in flight.
 -- Vocabulary.
-use Rattle.std.specs.Prelude.{◌≡◌, ℕ, List, slice_index_or, None}
+use Rattle.std.specs.Prelude.{◌≡◌, ℕ, List, [], slice_index_or, None}
 use Rattle.aia_imsic.specs.Imsic.{ImsicState}
 use Rattle.aia_entry.specs.Tables.{TableState}
 use Rattle.aia_home.specs.declared.vm.Vm.{Vm}
 use Rattle.aia_home.specs.Vms.{Vcpu, slot_of}
+use Rattle.aia_fabric.specs.declared.flights.Flying.{Flying}
 use Rattle.aia_fabric.specs.declared.stage.Stage.{Stage}
 
 -- The greatest identity of each file, the files, the words of memory, the VMs with their tables,
--- the G-stage record of each virtual hart, by its number over all VMs, and how many notices were
--- sent.
+-- the stores in flight of each VM, the oldest first, the G-stage record of each virtual hart, by its
+-- number over all VMs, and how many notices were sent.
 pub record World : Type 0 where
   pub n : ℕ
   pub imsic : ImsicState
   pub memory : List ℕ
   pub vms : List Vm
   pub tables : List TableState
+  pub flights : List (List Flying)
   pub stages : List Stage
   pub notices : ℕ
 
@@ -26,6 +29,10 @@ OnlyStores w u = u ≡ record w {
   memory = u.memory;
   notices = u.notices;
 }
+
+-- The stores in flight of a VM, the oldest first.
+abbrev pub flight_of : World → ℕ → List Flying
+flight_of w vm = slice_index_or w.flights vm []
 
 -- A record that names nothing.
 abbrev pub no_stage : Stage

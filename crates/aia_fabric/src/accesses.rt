@@ -4,6 +4,7 @@ ghost use Rattle.aia_word.specs.Sets.{has_bit};
 ghost use Rattle.aia_regs.specs.declared.limits.TheConstants.{VCPUS};
 ghost use Rattle.aia_home.specs.declared.place.Place.{Place};
 ghost use Rattle.aia_home.specs.Vms.{vcpu, is_vcpu_in};
+ghost use Rattle.aia_fabric.specs.Flights.{Fences};
 ghost use Rattle.aia_fabric.specs.Changes.{IsPlaceThere, words_at, pending_words, enable_words, pending_at, with_pending, enable_at, with_enable, with_entry_word, with_fence, with_map, with_stage_fence};
 
 use crate::{At, Fabric, map};
@@ -122,14 +123,37 @@ impl Fabric {
         ram.store(at, v);
     }
 
-    /// Puts the entry of a virtual hart that is there in force, as its two words say it.
+    /// Lands all stores in flight of the VM, the oldest first, then puts the entry of a virtual hart
+    /// that is there in force, as its two words say it.
     ///
-    /// AIA 1.0, IOMMU Support for MSIs to Virtual Machines, "MSI page tables".
+    /// AIA 1.0, IOMMU Support for MSIs to Virtual Machines, "MSI page tables". Profile: an IOMMU
+    /// answers a fence once the stores that it led before have landed.
     pub fn fence(&mut self, vm: u32, file: u32)
+        requires { is_vcpu_in self.old.vms (vcpu vm file) ≡ true }
+        ensures { Fences self.old self.new vm file }
+    {
+        self.land_all(vm);
+        let _whole = self.words();
+        self.put_in_force(vm, file);
+    }
+
+    /// Puts the entry of a virtual hart that is there in force, as its two words say it.
+    fn put_in_force(&mut self, vm: u32, file: u32)
         requires { is_vcpu_in self.old.vms (vcpu vm file) ≡ true }
         ensures { self.new ≡ with_fence self.old vm file }
     {
         self.iommu.fence(vm, file, &self.ram);
+    }
+
+    /// Reads the entry of a virtual hart that is there again, as an IOMMU may at any time: it is in
+    /// force as its two words say it, and no store lands.
+    ///
+    /// AIA 1.0, IOMMU Support for MSIs to Virtual Machines, "MSI page tables".
+    pub fn refetch(&mut self, vm: u32, file: u32)
+        requires { is_vcpu_in self.old.vms (vcpu vm file) ≡ true }
+        ensures { self.new ≡ with_fence self.old vm file }
+    {
+        self.iommu.refetch(vm, file, &self.ram);
     }
 
     /// Writes the G-stage record of a virtual hart that is there: the guest file that it names, or

@@ -19,6 +19,7 @@ ghost use Rattle.aia_fabric.specs.Making.{IsNew, with_vm, with_entry};
 ghost use Rattle.aia_fabric.specs.Stores.{StoresIn, Posts, counted, page_spot, named_spot, with_store};
 ghost use Rattle.aia_fabric.specs.Whole.{IsWhole};
 
+use crate::flights::Flights;
 use crate::vms::Vms;
 use crate::{Stage, map};
 use aia_entry::{Iommu, Route};
@@ -33,8 +34,8 @@ use aia_regs::{FileReg, Op};
 use std::alloc::{AllocError, Global};
 use std::marker::Model;
 
-/// The interrupt files, memory, the VMs with their MSI page tables, the G-stage records of virtual
-/// harts, and the count of notices.
+/// The interrupt files, memory, the VMs with their MSI page tables, the stores in flight of their
+/// devices, the G-stage records of virtual harts, and the count of notices.
 #[derive(Drop)]
 pub struct Fabric {
     n: u32,
@@ -42,6 +43,7 @@ pub struct Fabric {
     pub(crate) ram: Ram,
     pub(crate) vms: Vms,
     pub(crate) iommu: Iommu,
+    pub(crate) flights: Flights,
     pub(crate) stages: [Stage; VCPUS as usize],
     notices: u64,
 }
@@ -58,6 +60,7 @@ impl Model for Fabric {
       memory = f.ram;
       vms = f.vms;
       tables = f.iommu;
+      flights = f.flights;
       stages = f.stages;
       notices = f.notices;
     } };
@@ -68,6 +71,7 @@ impl Model for Fabric {
       memory = f.ram;
       vms = f.vms;
       tables = f.iommu;
+      flights = f.flights;
       stages = f.stages;
       notices = f.notices;
     }) };
@@ -75,8 +79,8 @@ impl Model for Fabric {
 
 #[tactic(auto, using(crate::proofs::WholeLemmas::width_at))]
 impl Fabric {
-    /// Makes the machine's empty files, memory of zeros, the room for all VMs, and an empty G-stage
-    /// record for each of 16 virtual harts: of `harts` harts, 1 to 4, each with `guests` guest
+    /// Makes the machine's empty files, memory of zeros, the room for all VMs and their stores in
+    /// flight, and an empty G-stage record for each of 16 virtual harts: of `harts` harts, 1 to 4, each with `guests` guest
     /// files, 0 to 7; every file has the identities 1 to `n`, which is 63, 127, 255, 511, 1023 or
     /// 2047. `Err`: there is no memory for it.
     pub fn new(alloc: Global, harts: u32, guests: u32, n: u32) -> Result<Fabric, AllocError>
@@ -90,12 +94,14 @@ impl Fabric {
         let ram = Ram::new(alloc, (MEMORY_END - MEMORY) as usize)?;
         let vms = Vms::new(alloc)?;
         let iommu = Iommu::new(alloc)?;
+        let flights = Flights::new(alloc)?;
         Ok(Fabric {
             n,
             imsic,
             ram,
             vms,
             iommu,
+            flights,
             stages: [Stage::new(); VCPUS as usize],
             notices: 0,
         })
@@ -333,7 +339,7 @@ impl Fabric {
     }
 
     /// Takes a 32-bit store of `value` at `offset` of a slot, and tells whether a notice is due.
-    pub(crate) fn land(&mut self, q: u32, offset: u32, value: u32) -> Stored
+    pub(crate) fn store_slot(&mut self, q: u32, offset: u32, value: u32) -> Stored
         requires { q < VCPUS }
         ensures stored { result
             ≡ stored (mrif_in self.old.memory q) (requested IDENTITIES offset value) }
@@ -348,7 +354,7 @@ impl Fabric {
 
     // ---- what the making of a VM is made of
 
-    /// Makes the next VM and its table, with no entry.
+    /// Makes the next VM and its table, with no entry and no store in flight.
     pub(crate) fn add_vm(&mut self, vm: Vm)
         requires few { length self.old.vms < VMS }
         requires mask { IsMask vm.mask }
@@ -359,6 +365,7 @@ impl Fabric {
     {
         let number = self.vms.count();
         self.iommu.vm(vm.mask, map::table_place(number));
+        self.flights.add();
         self.vms.push(vm);
     }
 

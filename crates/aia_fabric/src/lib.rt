@@ -7,6 +7,8 @@
 mod accesses;
 mod at;
 mod fabric;
+mod flights;
+mod in_flight;
 pub mod laws;
 mod making;
 mod map;
@@ -16,4 +18,5 @@ mod vms;
 
 pub use at::At;
 pub use fabric::Fabric;
+pub use flights::Flying;
 pub use stage::Stage;

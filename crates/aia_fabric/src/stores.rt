@@ -60,7 +60,7 @@ impl Fabric {
     }
 
     /// Takes a store that an entry leads to its place.
-    fn store_by(&mut self, entry: Entry, offset: u32, value: u32)
+    pub(crate) fn store_by(&mut self, entry: Entry, offset: u32, value: u32)
         ensures { ReachesBy entry self.old self.new offset value }
     {
         match entry {
@@ -101,7 +101,7 @@ impl Fabric {
         requires there { spot ≢ Spot.Nowhere → IsThere self.old.imsic spot }
         ensures { StoresInSlot self.old self.new (Some q) spot identity offset value }
     {
-        match self.land(q, offset, value) {
+        match self.store_slot(q, offset, value) {
             Stored::Notice => self.notice_at(spot, identity),
             Stored::Quiet | Stored::Discarded => {}
         }

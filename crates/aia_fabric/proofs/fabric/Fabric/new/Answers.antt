@@ -15,6 +15,7 @@ invariant_of-result c = record {
   no_enabled_zero = λ q low. zero_bit c.in_ok-ram.ram 0xc00 (enable_place q 0) c.in_ok-ram.ensures (omega arith);
   few = search rules;
   tables = search rules;
+  flights = search rules;
   vcpus = search rules;
   vms = search rules;
   stages = refl;
@@ -22,7 +23,7 @@ invariant_of-result c = record {
 
 pub returns : goal.returns
 returns c = record {
-  world = rw (c.in_ok-ram.ensures, c.in_ok-vms.ensures, c.in_ok-iommu.ensures, c.new-5.ensures) refl;
+  world = rw (c.in_ok-ram.ensures, c.in_ok-vms.ensures, c.in_ok-iommu.ensures, c.in_ok-flights.ensures, c.new-6.ensures) refl;
   hart_count = search rules;
   guest_count = search rules;
   files = c.in_ok-imsic.ensures.empty;

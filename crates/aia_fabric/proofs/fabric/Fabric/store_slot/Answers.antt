@@ -1,5 +1,5 @@
 use Rattle.aia_fabric.proofs.WholeLemmas.{store_whole}
-use Rattle.aia_fabric.proofs.fabric.Fabric.land.Goals as goal
+use Rattle.aia_fabric.proofs.fabric.Fabric.store_slot.Goals as goal
 
 pub invariant_of-self : goal.invariant_of-self
 invariant_of-self c =

@@ -1,0 +1,5 @@
+use Rattle.aia_fabric.proofs.FlightLemmas.{HaveLanded}
+use Rattle.aia_fabric.proofs.fabric.Fabric.land_all.Given as goal
+
+abbrev pub invariant-loop : goal.invariant-loop
+invariant-loop l = HaveLanded l.fn.self l.self l.vm l.counter

@@ -1,0 +1,148 @@
+ghost use Rattle.std.specs.Prelude.{◌≡◌, ◌<◌, ◌≤◌, Some, [], ◌∷◌, ◌++◌, length, remove, slice_get, slice_index_or, slice_set, IfOk};
+ghost use Rattle.aia_regs.specs.declared.limits.TheConstants.{VMS, STORES_IN_FLIGHT};
+
+use aia_entry::Entry;
+use aia_regs::limits::{STORES_IN_FLIGHT, VMS};
+use arrayvec::ArrayVec;
+use std::alloc::{AllocError, Global};
+use std::marker::Model;
+
+/// A store of a device that is in flight.
+#[derive(Clone, Copy, Debug, PartialEq, Eq)]
+pub struct Flying {
+    /// The entry that was in force for it as it was sent.
+    pub entry: Entry,
+    /// Its offset in the page of its file, in bytes.
+    pub offset: u32,
+    /// What it stores.
+    pub value: u32,
+}
+
+/// A store that goes nowhere; lists that take stores out need one.
+impl Default for Flying {
+    fn default() -> Flying {
+        Flying {
+            entry: Entry::NotValid,
+            offset: 0,
+            value: 0,
+        }
+    }
+}
+
+/// The stores in flight of the devices of a VM, the oldest first.
+#[derive(Drop)]
+struct Flight {
+    stores: ArrayVec<Flying, STORES_IN_FLIGHT>,
+}
+
+impl Model for Flight {
+    ghost use Rattle.std.specs.Prelude.{List};
+    ghost use Rattle.aia_fabric.specs.declared.flights.Flying.{Flying};
+
+    ghost Value = { List Flying };
+
+    ghost view = { λ f. f.stores.items };
+}
+
+impl Flight {
+    /// Makes a list of none.
+    fn new() -> Flight
+        ensures { result ≡ [] }
+    {
+        Flight {
+            stores: ArrayVec::new(),
+        }
+    }
+
+    /// Tells how many there are.
+    fn count(&self) -> usize
+        ensures value { result ≡ length self.now }
+        ensures few { result ≤ STORES_IN_FLIGHT }
+    {
+        self.stores.len()
+    }
+
+    /// Puts one at the end, where there is room.
+    fn push(&mut self, store: Flying)
+        requires { length self.old < STORES_IN_FLIGHT }
+        ensures { self.new ≡ self.old ++ store ∷ [] }
+    {
+        self.stores.push(store);
+    }
+
+    /// Takes the `k`-th one out, counted from 0.
+    fn take(&mut self, k: usize) -> Flying
+        requires { k < length self.old }
+        ensures store { slice_get self.old k ≡ Some result }
+        ensures rest { self.new ≡ remove self.old k }
+    {
+        self.stores.remove(k)
+    }
+}
+
+/// The stores in flight of the devices of each VM.
+#[derive(Drop)]
+pub struct Flights {
+    kept: Vec<Flight>,
+}
+
+impl Model for Flights {
+    ghost use Rattle.std.specs.Prelude.{◌≡◌, List};
+    ghost use Rattle.std.specs.Vec.{vec_capacity};
+    ghost use Rattle.aia_regs.specs.declared.limits.TheConstants.{VMS};
+    ghost use Rattle.aia_fabric.specs.declared.flights.Flying.{Flying};
+
+    ghost Value = { List (List Flying) };
+
+    ghost view = { λ f. f.kept.items };
+
+    ghost invariant = { λ f. vec_capacity f.kept ≡ VMS };
+}
+
+impl Flights {
+    /// Makes the room for those of all VMs; no VM stands. `Err`: there is no memory for it.
+    pub fn new(alloc: Global) -> Result<Flights, AllocError>
+        ensures { IfOk result (λ f. f ≡ []) }
+    {
+        let kept = Vec::with_capacity(alloc, VMS as usize)?;
+        Ok(Flights { kept })
+    }
+
+    /// Makes the list of the next VM, while fewer than four stand: none is in flight.
+    pub fn add(&mut self)
+        requires { length self.old < VMS }
+        ensures { self.new ≡ self.old ++ [] ∷ [] }
+    {
+        self.kept.push_reserved(Flight::new());
+    }
+
+    /// Tells how many there are of a VM that stands, 0 to 8.
+    pub fn count(&self, vm: u32) -> usize
+        requires { vm < length self.now }
+        ensures value { result ≡ length (slice_index_or self.now vm []) }
+        ensures few { result ≤ STORES_IN_FLIGHT }
+    {
+        self.kept[vm as usize].count()
+    }
+
+    /// Puts a store behind those of a VM that stands and has fewer than 8.
+    pub fn push(&mut self, vm: u32, store: Flying)
+        requires there { vm < length self.old }
+        requires room { length (slice_index_or self.old vm []) < STORES_IN_FLIGHT }
+        ensures { self.new
+            ≡ slice_set self.old vm (slice_index_or self.old vm [] ++ store ∷ []) }
+    {
+        self.kept[vm as usize].push(store);
+    }
+
+    /// Takes the `k`-th store of a VM that stands out, counted from 0, the oldest first.
+    pub fn take(&mut self, vm: u32, k: usize) -> Flying
+        requires there { vm < length self.old }
+        requires flies { k < length (slice_index_or self.old vm []) }
+        ensures store { slice_get (slice_index_or self.old vm []) k ≡ Some result }
+        ensures rest { self.new
+            ≡ slice_set self.old vm (remove (slice_index_or self.old vm []) k) }
+    {
+        self.kept[vm as usize].take(k)
+    }
+}
