@@ -1,7 +1,7 @@
 //! Lines: what follows each keyword.
 
 ghost use Rattle.std.specs.Prelude.{◌≡◌};
-ghost use Rattle.aia_model.specs.Reading.{machine_at, vm_at, wire_at, load_at, store_at, msi_at, machine_csr_at, host_at, ipi_at, guest_at, arrive_at, leave_at, shift_at, begin_arrive_at, begin_leave_at, begin_shift_at, begin_after, begin_at, step_at, inject_at, hvictl_at, hviprio_at, pins_at, entry_at, line_after, line_at};
+ghost use Rattle.aia_model.specs.Reading.{machine_at, vm_at, wire_at, load_at, store_at, msi_at, send_at, land_at, refetch_at, machine_csr_at, host_at, ipi_at, guest_at, arrive_at, leave_at, shift_at, begin_arrive_at, begin_leave_at, begin_shift_at, begin_after, begin_at, step_at, inject_at, hvictl_at, hviprio_at, pins_at, entry_at, line_after, line_at};
 ghost use Rattle.aia_script.specs.Cursor.{left};
 
 use crate::instructions::{instruction_after, instruction_at};
@@ -85,6 +85,40 @@ fn msi_at(words: &mut Words<'_>) -> Option<Line>
     let addr = number_at(words)?;
     let value = n32_at(words)?;
     at_end(words, Line::Msi { vm, addr, value })
+}
+
+/// Reads the line that the words after `send` spell; `None` where they spell none.
+#[tactic(auto, unfolding(aia_model::specs::Reading::send_at))]
+#[inline(always)]
+fn send_at(words: &mut Words<'_>) -> Option<Line>
+    ensures { result ≡ send_at (left words.old) }
+{
+    let vm = number_at(words)?;
+    let addr = number_at(words)?;
+    let value = n32_at(words)?;
+    at_end(words, Line::Send { vm, addr, value })
+}
+
+/// Reads the line that the words after `land` spell; `None` where they spell none.
+#[tactic(auto, unfolding(aia_model::specs::Reading::land_at))]
+#[inline(always)]
+fn land_at(words: &mut Words<'_>) -> Option<Line>
+    ensures { result ≡ land_at (left words.old) }
+{
+    let vm = number_at(words)?;
+    let k = number_at(words)?;
+    at_end(words, Line::Land { vm, k })
+}
+
+/// Reads the line that the words after `refetch` spell; `None` where they spell none.
+#[tactic(auto, unfolding(aia_model::specs::Reading::refetch_at))]
+#[inline(always)]
+fn refetch_at(words: &mut Words<'_>) -> Option<Line>
+    ensures { result ≡ refetch_at (left words.old) }
+{
+    let vm = number_at(words)?;
+    let vcpu = number_at(words)?;
+    at_end(words, Line::Refetch { vm, vcpu })
 }
 
 /// Reads the line that the words after `m` spell; `None` where they spell none.
@@ -339,6 +373,12 @@ fn line_after(keyword: &[u8], words: &mut Words<'_>) -> Option<Line>
         store_at(words)
     } else if is_word(keyword, b"msi") {
         msi_at(words)
+    } else if is_word(keyword, b"send") {
+        send_at(words)
+    } else if is_word(keyword, b"land") {
+        land_at(words)
+    } else if is_word(keyword, b"refetch") {
+        refetch_at(words)
     } else if is_word(keyword, b"m") {
         machine_csr_at(words)
     } else if is_word(keyword, b"h") {

@@ -129,6 +129,17 @@ fn push_msi(out: &mut ArrayVec<u8, LINE_BYTES>, vm: u64, addr: u64, value: u32)
     push_decimal(out, value as u64);
 }
 
+/// Appends the printing spelling of a `send` line to `out`, which is empty.
+fn push_send(out: &mut ArrayVec<u8, LINE_BYTES>, vm: u64, addr: u64, value: u32)
+    requires { out.old.items ≡ [] }
+    ensures { out.new.items ≡ line_text (Line.Send vm addr value) }
+{
+    push_text(out, b"send");
+    push_decimal(out, vm);
+    push_hex(out, addr);
+    push_decimal(out, value as u64);
+}
+
 /// Appends the printing spelling of an `hgeip` line to `out`, which is empty.
 #[tactic(auto, unfolding(aia_model::specs::Printing::line_text))]
 fn push_hgeip(out: &mut ArrayVec<u8, LINE_BYTES>, hart: u64)
@@ -217,6 +228,9 @@ fn push_line(line: &Line, out: &mut ArrayVec<u8, LINE_BYTES>)
             push_hex(out, value as u64);
         }
         Line::Msi { vm, addr, value } => push_msi(out, vm, addr, value),
+        Line::Send { vm, addr, value } => push_send(out, vm, addr, value),
+        Line::Land { vm, k } => push_virtual(out, b"land", vm, k),
+        Line::Refetch { vm, vcpu } => push_virtual(out, b"refetch", vm, vcpu),
         Line::MachineCsr { hart, csr, op } => push_access(out, b"m", hart, Level::Machine, csr, op),
         Line::HostCsr { hart, csr, op } => push_access(out, b"h", hart, Level::Host, csr, op),
         Line::Hgeip { hart } => push_hgeip(out, hart),
