@@ -6,39 +6,28 @@ use Rattle.std.specs.Prelude.{Result, Ok, min}
 use Rattle.std.specs.Option.{option_map_or}
 use Rattle.std.proofs.lemmas.Bool.{cond-true, lt-ltb, ltb-true}
 use Rattle.std.proofs.lemmas.List.{set-get_or}
-use Rattle.std.proofs.lemmas.Nat.Bits.{bit_at-zero}
-use Rattle.aia_word.specs.Sets.{has_bit}
-use Rattle.aia_home.proofs.VmLemmas.{numbered}
 use Rattle.std.proofs.lemmas.Option.{none-some}
 use Rattle.aia_regs.specs.declared.limits.TheConstants.{VCPUS}
-use Rattle.aia_file.specs.InterruptFile.{InterruptFile, SameFile, empty_file, signals}
+use Rattle.aia_file.specs.InterruptFile.{InterruptFile, SameFile, signals}
 use Rattle.aia_file.specs.FileState.{FileState, shown}
-use Rattle.aia_file.proofs.FileLemmas.{same_file}
 use Rattle.aia_imsic.specs.declared.spot.Spot.{Spot}
 use Rattle.aia_imsic.specs.declared.spot.Spot.TheVariants as spots
 use Rattle.aia_imsic.specs.Imsic.{ImsicState, IsThere, file_at, with_file, place_of, no_file}
 use Rattle.aia_imsic.proofs.PlaceLemmas.{kept_elsewhere}
-use Rattle.aia_mrif.specs.Mrif.{Mrif, mrif_in, pending_place, enable_place}
-use Rattle.aia_entry.specs.Tables.{TableState, table_of, entry_in_force}
-use Rattle.aia_major.specs.VsMajor.{new_majors}
+use Rattle.aia_mrif.specs.Mrif.{mrif_in}
+use Rattle.aia_entry.specs.Tables.{table_of, entry_in_force}
 use Rattle.aia_home.specs.declared.vm.Vm.{Vm}
-use Rattle.std.proofs.lemmas.List.{length-replicate}
 use Rattle.aia_home.specs.declared.place.Place.{Place}
 use Rattle.aia_home.specs.Vms.{Vcpu, vcpus_in, is_vcpu_in, slot_of}
 use Rattle.aia_home.specs.Home.{holds}
-use Rattle.aia_home.specs.Home.Home.{Parked}
 use Rattle.aia_pool.specs.Leases.{Leases, is_out}
-use Rattle.aia_fabric.specs.declared.stage.Stage.{Stage}
 use Rattle.aia_fabric.specs.World.{no_stage}
 use Rattle.aia_fabric.specs.Changes.{spot_of}
 use Rattle.aia_fabric.specs.World.{World}
-use Rattle.aia_fabric.specs.Stores.{counted}
-use Rattle.aia_fabric.specs.Making.{IsNew}
 use Rattle.aia_model.specs.declared.answer.Answer.{Answer}
 use Rattle.aia_model.specs.declared.refusal.Refusal.{Refusal}
 use Rattle.aia_model.specs.declared.line.Line.{Line}
-use Rattle.aia_model.specs.declared.line.Line.TheVariants.{Machine}
-use Rattle.aia_model.specs.Event.{Event, History, Shape, machine_of, harts_of, guests_of, greatest_identity_of}
+use Rattle.aia_model.specs.Event.{Event, History, harts_of}
 use Rattle.aia_model.specs.declared.msi.Msi.{Msi}
 use Rattle.aia_model.specs.Event.Event.{Accepted, Delivered}
 use Rattle.aia_model.specs.Histories.{IsHistory}
@@ -47,42 +36,33 @@ use Rattle.aia_model.specs.FileAfter.{FileDeed, select_after, file_after}
 use Rattle.aia_model.specs.FileAfter.FileDeed.{Rests}
 use Rattle.aia_model.specs.Move.{move_deed}
 use Rattle.aia_model.specs.Move.MoveDeed.{NoMove}
-use Rattle.aia_model.specs.MajorOf.{majors_of}
-use Rattle.aia_model.specs.HomeOf.{home, moved}
-use Rattle.aia_model.specs.GuestFile.{guest_deed, guest_select, guest_file}
-use Rattle.aia_model.specs.Notice.{noticed, with_notice, notices_sent}
-use Rattle.aia_model.specs.FileOf.{FileName, MachineFile, SupervisorFile, deed_at, select_of, file_of}
+use Rattle.aia_model.specs.HomeOf.{home}
+use Rattle.aia_model.specs.GuestFile.{guest_deed}
+use Rattle.aia_model.specs.Notice.{noticed}
+use Rattle.aia_model.specs.FileOf.{FileName, MachineFile, SupervisorFile, deed_at, file_of}
 use Rattle.aia_model.specs.Refusal.{refusal}
 use Rattle.aia_model.specs.Answer.{accepted_answer, deed_taken}
 use Rattle.aia_model.proofs.AnswerLemmas.{answered}
-use Rattle.aia_model.proofs.FileLemmas.{file_step, select_step, file_by_step, same_or_other}
-use Rattle.aia_model.proofs.MoveLemmas.{home_step}
+use Rattle.aia_model.proofs.FileLemmas.{same_or_other}
 use Rattle.aia_model.proofs.HistoryLemmas.{line_happens}
 use Rattle.aia_hyp.specs.declared.vcpu.VcpuRecord.{VcpuRecord}
 use Rattle.aia_hyp.specs.Core.{CoreState, no_record}
 use Rattle.aia_hyp.specs.HostFiles.{FileDone, HasDone, host_spot, select_place, select_in}
 use Rattle.aia_hyp.specs.Stands.{StandsForSome, HostStands, VcpuStands, is_held, CoreStands, CoreTakes, line_served, signals_of}
-use Rattle.aia_hyp.proofs.VcpuLemmas.{IsQuiet, same_n, quiet_line, quiet_msi, select_is, MajorsRest, majors_is, majors_rest, guest_rests, files_alone, held_stays, refetches}
+use Rattle.aia_hyp.proofs.VcpuLemmas.{IsQuiet, same_n, quiet_line, quiet_msi, select_is, MajorsRest, majors_is, majors_rest, guest_rests, files_alone, held_stays, refetches, makes_nothing}
 use Rattle.aia_hyp.proofs.NameLemmas.{no_guest, is_hosts, other_spot, there_too}
+use Rattle.aia_hyp.proofs.StandsLemmas.{count_after, Becomes, stands_after, built_as}
+use Rattle.aia_fabric.proofs.FrameLemmas.{files_rest}
+use Rattle.aia_fabric.specs.World.{OnlyStores}
 
 -- ---- one event more
 
--- the count of notices, by whom an event notices
-abbrev pub count_after : Option Vcpu → ℕ → ℕ
-count_after None count = count
-count_after (Some g) count = counted count
-
--- What an event changes that is nothing to any home: it leaves the machine's numbers, the VMs with
--- their tables and records, the leases and what nobody has, and is to each file that is there the
--- deed that was done at it.
+-- What an event changes that is nothing to any home: it leaves the machine, the VMs with their
+-- tables and records, the leases and what nobody has, and is to each file that is there the deed
+-- that was done at it.
 pub record Changes (x y : CoreState) (h : History) (event : Event) : Type 0 where
   pub quiet : IsQuiet h event
-  pub harts : y.world.imsic.harts ≡ x.world.imsic.harts
-  pub guests : y.world.imsic.guests ≡ x.world.imsic.guests
-  pub greatest : y.world.n ≡ x.world.n
-  pub same_vms : y.world.vms ≡ x.world.vms
-  pub tables : y.world.tables ≡ x.world.tables
-  pub stages : y.world.stages ≡ x.world.stages
+  pub rest : OnlyStores x.world y.world
   pub leases : y.leases ≡ x.leases
   pub records : length y.vcpus ≡ length x.vcpus
   pub count : y.world.notices ≡ count_after (noticed h event) x.world.notices
@@ -93,79 +73,44 @@ pub record Changes (x y : CoreState) (h : History) (event : Event) : Type 0 wher
   pub no_majors : (g : Vcpu) → has_vcpu h g ≡ false → MajorsRest g event
   pub no_slot : (q : ℕ) → vcpus_in (vms_of h) ≤ q → q < VCPUS → mrif_in y.world.memory q ≡ mrif_in x.world.memory q
 
-pub host_more : (x y : CoreState) (h : History) (event : Event) (f : FileName) → FileDone x y f (deed_at f h event) → HostStands x h f → HostStands y (event ∷ h) f
-host_more x y h event f done stands = record {
-  file = same_file _ _ done.file ∙ ap (λ s. file_after s (deed_at f h event) (shown (file_at x.world.imsic (host_spot f)))) stands.select
-      ∙ ap (file_after (select_of h f) (deed_at f h event)) stands.file ∙ sym (file_step event h f);
-  select = done.select ∙ ap (select_after (deed_at f h event)) stands.select ∙ sym (select_step event h f);
+changed : (x y : CoreState) (h : History) (event : Event) → Changes x y h event → CoreStands x h → Becomes x y h event
+changed x y h event c stands = record {
+  machine = c.quiet.machine;
+  rest = built_as x.world y.world y.world.imsic.files y.world.memory x.world.vms x.world.tables x.world.stages y.world.notices c.rest;
+  vms = ap (λ (w : World). w.vms) c.rest ∙ stands.vms ∙ sym c.quiet.vms;
+  count = c.count;
+  host = c.host;
+  records = c.records ∙ stands.records ∙ ap vcpus_in (sym c.quiet.vms);
+  vcpus = λ g inside. let before = was_there g inside in c.vcpus g before (stands.vcpus g before);
+  lease_harts = ap (λ (l : Leases). l.harts) c.leases;
+  lease_guests = ap (λ (l : Leases). l.guests) c.leases;
+  lease_count = ap (λ (l : Leases). length l.out) c.leases;
+  leases = λ p inside. ap (λ l. is_out l p) c.leases ∙ stands.leases p inside ∙ sym (held_stays h event c.quiet p);
+  held = λ g p inside holding. stands.held g p (was_there g inside) (still_held g p holding);
+  apart = λ a b p ia ib ha hb. stands.apart a b p (was_there a ia) (was_there b ib) (still_held a p ha) (still_held b p hb);
+  free = λ p inside none.
+      let was : is_held h p ≡ false = sym (held_stays h event c.quiet p) ∙ none in
+      ap shown (c.free_files p inside was) ∙ stands.free p inside was;
+  no_vcpu = λ g outside. let before = was_missing g outside in (before, c.no_vcpu g before, c.quiet.homes g, c.no_majors g before);
+  no_entry = λ g inside outside.
+      let there : has_vm h g.vm ≡ true = ap (λ (vms : List Vm). nat_lt g.vm (length vms)) (sym c.quiet.vms) ∙ inside in
+      ap (λ (w : World). entry_in_force (table_of w.tables g.vm) g.number) c.rest ∙ stands.no_entry g there (was_missing g outside);
+  no_slot = λ q past few.
+      let before : vcpus_in (vms_of h) ≤ q = subst (λ (vms : List Vm). vcpus_in vms ≤ q) c.quiet.vms past in
+      (before, c.no_slot q before few, ap (λ (w : World). get_or w.stages q no_stage) c.rest);
 }
-
-pub guest_too : (a b : ImsicState) (p : Place) → a.harts ≡ b.harts → a.guests ≡ b.guests → IsThere a (spot_of p) → IsThere b (spot_of p)
-guest_too a b p harts guests inside = (omega (arith, inside.0, harts), inside.1, omega (arith, inside.2, guests))
-
-pub counted_more : (who : Option Vcpu) (count : ℕ) → count_after who (min count (2 ^ 64 - 1)) ≡ min (with_notice who count) (2 ^ 64 - 1)
-counted_more None count = refl
-counted_more (Some g) count = omega arith
-
-pub notices_step : (event : Event) (h : History) → notices_sent (event ∷ h) ≡ with_notice (noticed h event) (notices_sent h)
-unfolding notices_sent
-notices_step event h = refl
-
-pub one_more : (x y : CoreState) (h : History) (event : Event) → Changes x y h event → CoreStands x h → CoreStands y (event ∷ h)
-one_more x y h event changes stands =
-    let n : greatest_identity_of h ≡ greatest_identity_of (event ∷ h) = sym (same_n _ _ changes.quiet.machine) in
-    let harts : harts_of h ≡ harts_of (event ∷ h) = sym (ap (λ (o : Option Shape). option_map_or (λ (m : Shape). m.harts) o 0) changes.quiet.machine) in
-    let guests : guests_of h ≡ guests_of (event ∷ h) = sym (ap (λ (o : Option Shape). option_map_or (λ (m : Shape). m.guests) o 0) changes.quiet.machine) in
-    record {
-      there = ap (λ (o : Option Shape). is_some o) changes.quiet.machine ∙ stands.there;
-      harts = changes.harts ∙ stands.harts ∙ harts;
-      guests = changes.guests ∙ stands.guests ∙ guests;
-      greatest = changes.greatest ∙ stands.greatest ∙ n;
-      vms = changes.same_vms ∙ stands.vms ∙ sym changes.quiet.vms;
-      notices = changes.count ∙ ap (count_after (noticed h event)) stands.notices ∙ counted_more (noticed h event) (notices_sent h) ∙ ap (λ count. min count (2 ^ 64 - 1)) (sym (notices_step event h));
-      host = λ f inside. let before = there_too y.world.imsic x.world.imsic f changes.harts inside in host_more x y h event f (changes.host f before) (stands.host f before);
-      go = flights_on h event changes.quiet.first stands.go;
-      records = changes.records ∙ stands.records ∙ ap vcpus_in (sym changes.quiet.vms);
-      vcpus = λ g inside. let before = was_there g inside in changes.vcpus g before (stands.vcpus g before);
-      lease_harts = ap (λ (l : Leases). l.harts) changes.leases ∙ stands.lease_harts ∙ harts;
-      lease_guests = ap (λ (l : Leases). l.guests) changes.leases ∙ stands.lease_guests ∙ guests;
-      lease_count = ap (λ (l : Leases). length l.out) changes.leases ∙ stands.lease_count ∙ (λ k. harts k * guests k);
-      leases = λ p inside. ap (λ l. is_out l p) changes.leases ∙ stands.leases p (place_before p inside) ∙ sym (held_stays h event changes.quiet p);
-      held = λ g p inside holding. place_after p (stands.held g p (was_there g inside) (ap (holds p) (sym (changes.quiet.homes g)) ∙ holding));
-      apart = λ a b p ia ib ha hb. stands.apart a b p (was_there a ia) (was_there b ib) (ap (holds p) (sym (changes.quiet.homes a)) ∙ ha) (ap (holds p) (sym (changes.quiet.homes b)) ∙ hb);
-      free = λ p inside none.
-          let before = place_before p inside in
-          let was : is_held h p ≡ false = sym (held_stays h event changes.quiet p) ∙ none in
-          ap shown (changes.free_files p before was) ∙ stands.free p before was ∙ ap empty_file n;
-      no_vcpu = λ g outside.
-          let before = was_missing g outside in
-          let was = stands.no_vcpu g before in (
-            file_by_step (guest_deed g) event h ∙ ap (λ deed. file_after (guest_select h g) deed (guest_file h g)) (changes.no_vcpu g before) ∙ was.0 ∙ ap empty_file n,
-            select_is event h g ∙ ap (λ deed. select_after deed (guest_select h g)) (changes.no_vcpu g before) ∙ was.1,
-            changes.quiet.homes g ∙ was.2,
-            majors_rest h event g (changes.no_majors g before) ∙ was.3,
-          );
-      no_entry = λ g inside outside.
-          let there : has_vm h g.vm ≡ true = ap (λ (vms : List Vm). nat_lt g.vm (length vms)) (sym changes.quiet.vms) ∙ inside in
-          ap (λ (ts : List TableState). entry_in_force (table_of ts g.vm) g.number) changes.tables ∙ stands.no_entry g there (was_missing g outside);
-      no_slot = λ q past few.
-          let before : vcpus_in (vms_of h) ≤ q = subst (λ (vms : List Vm). vcpus_in vms ≤ q) changes.quiet.vms past in
-          let same = changes.no_slot q before few in
-          let empty = stands.no_slot q before few in
-          (λ i. ap (λ (m : Mrif). m.pending i) same ∙ empty.0 i, λ i. ap (λ (m : Mrif). m.enabled i) same ∙ empty.1 i, ap (λ (ss : List Stage). get_or ss q no_stage) changes.stages ∙ empty.2);
-    }
   where
     was_there : (g : Vcpu) → has_vcpu (event ∷ h) g ≡ true → has_vcpu h g ≡ true
-    was_there g inside = ap (λ vms. is_vcpu_in vms g) (sym changes.quiet.vms) ∙ inside
+    was_there g inside = ap (λ vms. is_vcpu_in vms g) (sym c.quiet.vms) ∙ inside
 
     was_missing : (g : Vcpu) → has_vcpu (event ∷ h) g ≡ false → has_vcpu h g ≡ false
-    was_missing g outside = ap (λ vms. is_vcpu_in vms g) (sym changes.quiet.vms) ∙ outside
+    was_missing g outside = ap (λ vms. is_vcpu_in vms g) (sym c.quiet.vms) ∙ outside
 
-    place_before : (p : Place) → IsThere y.world.imsic (spot_of p) → IsThere x.world.imsic (spot_of p)
-    place_before p inside = guest_too y.world.imsic x.world.imsic p changes.harts changes.guests inside
+    still_held : (g : Vcpu) (p : Place) → holds p (home (event ∷ h) g) ≡ true → holds p (home h g) ≡ true
+    still_held g p holding = ap (holds p) (sym (c.quiet.homes g)) ∙ holding
 
-    place_after : (p : Place) → IsThere x.world.imsic (spot_of p) → IsThere y.world.imsic (spot_of p)
-    place_after p inside = guest_too x.world.imsic y.world.imsic p (sym changes.harts) (sym changes.guests) inside
+pub one_more : (x y : CoreState) (h : History) (event : Event) → Changes x y h event → CoreStands x h → CoreStands y (event ∷ h)
+one_more x y h event changes stands = stands_after x y h event (changed x y h event changes stands) stands
 
 -- ---- events of the host, which are nothing to guests
 
@@ -175,8 +120,8 @@ pub record IsHosts (h : History) (event : Event) : Type 0 where
   pub guests : (g : Vcpu) → guest_deed g h event ≡ Rests
   pub majors : (g : Vcpu) → MajorsRest g event
 
-pub hosts_line : (h : History) (line : Line) → refetches line ≡ false → machine_of (Accepted line ∷ h) ≡ machine_of h → vms_of (Accepted line ∷ h) ≡ vms_of h → noticed h (Accepted line) ≡ None → ((g : Vcpu) → guest_deed g h (Accepted line) ≡ Rests) → ((g : Vcpu) → MajorsRest g (Accepted line)) → IsHosts h (Accepted line)
-hosts_line h line still machine vms none guests majors = record { quiet = quiet_line h line machine vms still; none = none; guests = guests; majors = majors }
+pub hosts_line : (h : History) (line : Line) → makes_nothing line ≡ true → noticed h (Accepted line) ≡ None → ((g : Vcpu) → guest_deed g h (Accepted line) ≡ Rests) → ((g : Vcpu) → MajorsRest g (Accepted line)) → IsHosts h (Accepted line)
+hosts_line h line plain none guests majors = record { quiet = quiet_line h line plain; none = none; guests = guests; majors = majors }
 
 pub hosts_msi : (h : History) (msi : Msi) → IsHosts h (Delivered msi)
 hosts_msi h msi = record { quiet = quiet_msi h msi; none = refl; guests = λ g. refl; majors = λ g m. refl }
@@ -195,12 +140,7 @@ host_alone x y h event hosts rest leases vcpus harts guests files guest_files he
     let vms = ap (λ (w : World). w.vms) rest in
     record {
       quiet = hosts.quiet;
-      harts = harts;
-      guests = guests;
-      greatest = ap (λ (w : World). w.n) rest;
-      same_vms = vms;
-      tables = ap (λ (w : World). w.tables) rest;
-      stages = ap (λ (w : World). w.stages) rest;
+      rest = files_rest x.world y.world rest harts guests;
       leases = leases;
       records = ap (λ (rs : List VcpuRecord). length rs) vcpus;
       count = ap (λ (w : World). w.notices) rest ∙ ap (λ who. count_after who x.world.notices) (sym hosts.none);
@@ -295,84 +235,6 @@ accepted x y line given still by = taken x y line given still (λ h stands. let 
 
 pub refused : (x : CoreState) (line : Line) (word : Answer) → ((h : History) → CoreStands x h → refusal h line ≡ Some word) → CoreTakes x x line word
 refused x line word is = by_refusal x x line word (λ h stands. (Some word, is h stands, refl, stands, λ w e. refl))
-
--- ---- where it begins
-
-zero_at : (n p : ℕ) → get_or (replicate n zero) p zero ≡ zero
-zero_at zero p = refl
-zero_at (suc n) zero = refl
-zero_at (suc n) (suc p) = zero_at n p
-
-no_selects : (x : CoreState) (f : FileName) → x.selects ≡ replicate 8 0 → select_in x f ≡ 0
-no_selects x f zeros = ap (λ xs. get_or xs (select_place f) 0) zeros ∙ zero_at 8 (select_place f)
-
-no_bit : (b : Bool) (n p k : ℕ) → (b && has_bit (get_or (replicate n 0) p 0) k) ≡ false
-no_bit false n p k = refl
-no_bit true n p k = ap (λ word. has_bit word k) (zero_at n p) ∙ ap (λ bit. nat_eq bit 1) (bit_at-zero k)
-
-none_sent : notices_sent [] ≡ 0
-unfolding notices_sent
-none_sent = refl
-
-nobody : (g : Vcpu) → is_vcpu_in [] g ≡ true → ⊥
-nobody g there = let low = numbered [] g.vm g.number there in omega (arith, low)
-
-none_below_0 : (n : ℕ) → nat_lt n 0 ≡ true → ⊥
-none_below_0 n low = let bad = ltb-true n 0 low in omega (arith, bad)
-
-no_held : (p : Place) → is_held [] p ≡ false
-no_held p = refl
-
-no_out : (n p : ℕ) → get_or (replicate n false) p false ≡ false
-no_out zero p = refl
-no_out (suc n) zero = refl
-no_out (suc n) (suc p) = no_out n p
-
-no_stage_at : (n p : ℕ) → get_or (replicate n no_stage) p no_stage ≡ no_stage
-no_stage_at zero p = refl
-no_stage_at (suc n) zero = refl
-no_stage_at (suc n) (suc p) = no_stage_at n p
-
-parked_at_first : (event : Event) (g : Vcpu) → moved [] (home []) event g ≡ Parked → home (event ∷ []) g ≡ Parked
-parked_at_first event g e = home_step event [] g ∙ e
-
-home_nowhere : (g : Vcpu) → home [] g ≡ Parked
-unfolding home
-home_nowhere g = refl
-
-no_majors_yet : (g : Vcpu) → majors_of [] g ≡ new_majors
-unfolding majors_of
-no_majors_yet g = refl
-
-pub begun : (x : CoreState) (harts guests n sources : ℕ) → IsNew x.world harts guests n → x.leases ≡ record { harts = harts; guests = guests; out = replicate (harts * guests) false } → x.vcpus ≡ [] → x.selects ≡ replicate 8 0 → CoreStands x (Accepted (Machine harts guests n sources) ∷ [])
-begun x harts guests n sources new leases vcpus selects =
-    let event = Accepted (Machine harts guests n sources) in
-    record {
-      there = refl;
-      go = flights_on [] (Accepted (Machine harts guests n sources)) tt none_flies;
-      harts = new.hart_count;
-      guests = new.guest_count;
-      greatest = new.greatest;
-      vms = new.vms;
-      notices = new.notices ∙ sym (ap (λ count. min count (2 ^ 64 - 1)) (notices_step event [] ∙ none_sent));
-      host = λ f inside. record { file = same_file _ _ (new.files.each (host_spot f) inside) ∙ sym (file_step event [] f); select = no_selects x f selects ∙ sym (select_step event [] f) };
-      records = ap (λ (rs : List VcpuRecord). length rs) vcpus;
-      vcpus = λ g inside. absurd (nobody g inside);
-      lease_harts = ap (λ (l : Leases). l.harts) leases;
-      lease_guests = ap (λ (l : Leases). l.guests) leases;
-      lease_count = ap (λ (l : Leases). length l.out) leases ∙ length-replicate (harts * guests) false;
-      leases = λ p inside. ap (λ l. is_out l p) leases ∙ no_out (harts * guests) (p.hart * guests + p.file - 1);
-      held = λ g p inside holding. absurd (nobody g inside);
-      apart = λ a b p ia ib ha hb. absurd (nobody a ia);
-      free = λ p inside none. same_file _ _ (new.files.each (spot_of p) inside);
-      no_vcpu = λ g outside. (file_by_step (guest_deed g) event [], select_is event [] g, home_step event [] g ∙ home_nowhere g, majors_is event [] g ∙ no_majors_yet g);
-      no_entry = λ g inside outside. absurd (none_below_0 g.vm inside);
-      no_slot = λ q past few. (
-        λ i. rw (new.memory) (no_bit (nat_le i 2047) 0xc00 (pending_place q (i / 64)) (i % 64)),
-        λ i. rw (new.memory) (no_bit (nat_le i 2047) 0xc00 (enable_place q (i / 64)) (i % 64)),
-        ap (λ ss. get_or ss q no_stage) new.stages ∙ no_stage_at 16 q,
-      );
-    }
 
 -- ---- signals
 

@@ -1,5 +1,6 @@
 pub mod VcpuLemmas
 pub mod NameLemmas
+pub mod StandsLemmas
 pub mod EventLemmas
 pub mod PageLemmas
 pub mod AccessLemmas

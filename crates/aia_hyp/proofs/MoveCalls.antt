@@ -197,8 +197,8 @@ module _ (x y : CoreState) (who : Who) (plan : Plan) where
       let now = goes_on later some.past some.stands c in
       let kept : record_of y its ≡ its_record (stays.Moving later) = steps.step_record x y some.past its plan (its_record (stays.Moving later)) (moving_of later).hand now.step_of in
       let was : (record_of x its).stay ≡ stays.Moving plan = now.step_of.was in
-      let touches = steps.touches x y some.past its plan (its_record (stays.Moving later)) (moving_of later).hand now.step_of in
-      let same : left_in y its ≡ steps_left (width x.world) (one_more (moving_of plan).home) = (λ k. steps_left ((touches.identities k + 1) / 64) (home_in (kept k).stay)) ∙ ap (steps_left (width x.world)) c.goes.home in
+      let machine = steps.machine x y some.past its plan (its_record (stays.Moving later)) (moving_of later).hand now.step_of in
+      let same : left_in y its ≡ steps_left (width x.world) (one_more (moving_of plan).home) = (λ k. steps_left ((machine.n k + 1) / 64) (home_in (kept k).stay)) ∙ ap (steps_left (width x.world)) c.goes.home in
       let less = left_fewer (width x.world) (moving_of plan).home c.goes.step.access c.goes.step.is_next in
       record {
         stands = λ h stands. goes_stands x y h its plan later (its_record (stays.Moving later)) (goes_on later h stands c);

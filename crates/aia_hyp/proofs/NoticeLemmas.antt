@@ -29,7 +29,8 @@ use Rattle.aia_model.specs.FileOf.{FileName, MachineFile, SupervisorFile, notice
 use Rattle.aia_model.proofs.FileLemmas.{same_or_other, is_file-itself, is_file-other}
 use Rattle.aia_hyp.specs.Core.{CoreState}
 use Rattle.aia_hyp.specs.HostFiles.{FileDone, host_spot, select_place}
-use Rattle.aia_hyp.proofs.EventLemmas.{count_after, as_it_was}
+use Rattle.aia_hyp.proofs.StandsLemmas.{count_after}
+use Rattle.aia_hyp.proofs.EventLemmas.{as_it_was}
 
 -- ---- when it is sent
 

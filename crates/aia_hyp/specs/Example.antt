@@ -18,7 +18,7 @@ use Rattle.aia_major.specs.Kept.{kept_at_first}
 use Rattle.aia_places.specs.View.{leads_to, entry_word, second_word}
 use Rattle.aia_fabric.specs.declared.stage.Stage.{Stage}
 use Rattle.aia_fabric.specs.World.{World, no_stage}
-use Rattle.aia_fabric.specs.Making.{table_place}
+use Rattle.aia_fabric.specs.Making.{new_world, table_place}
 use Rattle.aia_move.specs.declared.plan.Plan.TheVariants.{LeaveDrain}
 use Rattle.aia_move.specs.Move.{Moving}
 use Rattle.aia_model.specs.declared.line.Line.{Line}
@@ -136,14 +136,11 @@ abbrev pub stage_to : Place → Stage
 stage_to p = record { written = Some p; in_force = Some p }
 
 abbrev pub example_world : World
-example_world = record {
-  n = 63;
-  imsic = example_files;
+example_world = record (new_world example_files 63) {
   memory = example_memory;
   vms = record { vcpus = 2; mask = 8; notice_hart = 0 } ∷ [];
   tables = example_table ∷ [];
   stages = stage_to stayer_file ∷ replicate (VCPUS - 1) no_stage;
-  notices = 0;
 }
 
 -- The leave so far: it carries eidelivery and the word with identity 1.

@@ -34,7 +34,8 @@ use Rattle.aia_fabric.specs.Whole.{IsWhole}
 use Rattle.aia_fabric.specs.Stores.{StoresIn, StoresAt, NoticedBy, StoresInSlot, Reaches, Relays, with_store, page_spot, named_spot}
 use Rattle.aia_fabric.specs.Changes.{spot_of, file_in, view}
 use Rattle.aia_fabric.specs.Own.{TouchesOwn}
-use Rattle.aia_fabric.proofs.OwnLemmas.{guest_spot, own_is_held, next_is_held, touches_file, touches_slot, others_stay}
+use Rattle.aia_home.proofs.HomeLemmas.{own_is_held, next_is_held}
+use Rattle.aia_fabric.proofs.OwnLemmas.{guest_spot, touches_file, touches_slot, others_stay}
 use Rattle.aia_fabric.proofs.PlaceLemmas.{slot_found, host_page}
 use Rattle.aia_fabric.proofs.StoreViews.{file_store-view, slot_store-view}
 use Rattle.aia_fabric.proofs.ViewLemmas.{posts-view, slot_low}

@@ -20,6 +20,7 @@ use Rattle.aia_home.specs.Home.Home.{Parked, Resident, Leaving, Arriving, Shifti
 use Rattle.aia_home.specs.BySteps.{own_file, next_file, new_file}
 use Rattle.aia_home.specs.Plans.{Access, IsNext}
 use Rattle.aia_home.specs.Plans.Access.{TakeDelivery, PutDelivery, WriteNotice, WriteEntry, Fence, WriteStage, FenceStage, TakePending, PutPending, TakeEnables, PutEnables, Look, TakeThreshold, PutThreshold, Post}
+use Rattle.aia_home.proofs.HomeLemmas.{is_itself_place, own_is_held, next_is_held}
 use Rattle.aia_home.proofs.VmLemmas.{same_slot}
 use Rattle.aia_places.specs.View.{entry_word, second_word}
 use Rattle.aia_places.specs.Holds.{Hand}
@@ -29,11 +30,12 @@ use Rattle.aia_fabric.specs.Whole.{IsWhole}
 use Rattle.aia_fabric.specs.Making.{entry_word_place}
 use Rattle.aia_fabric.specs.Stores.{Posts}
 use Rattle.aia_fabric.specs.Changes.{spot_of, file_in, view, with_word, with_state, with_entry_word, with_fence, with_stage}
+use Rattle.aia_fabric.proofs.FrameLemmas.{posts_rest}
 use Rattle.aia_fabric.proofs.WholeLemmas.{vcpu_entry, notice_hart_there}
 use Rattle.aia_move.specs.declared.who.Who.{Who}
 use Rattle.aia_move.specs.Move.{Moving, mover, width, PostsIf, Makes, Fits, MakesNext}
 use Rattle.aia_move.specs.Touches.{Touches, sends}
-use Rattle.aia_fabric.proofs.ViewLemmas.{same_place, is_place-refl, slot_low}
+use Rattle.aia_fabric.proofs.ViewLemmas.{same_place, slot_low}
 use Rattle.aia_move.proofs.MadeView.{few_words}
 
 -- ---- what the changes leave
@@ -44,10 +46,7 @@ module _ (w u : World) (m : Moving) where
 
   pub touches_nothing : u ≡ w → Touches false w u m
   touches_nothing e = subst TouchesOwn (sym e) (record {
-    identities = refl;
-    vms = refl;
-    harts = refl;
-    guests = refl;
+    rest = refl;
     tables = refl;
     masks = λ v. refl;
     starts = λ v. refl;
@@ -67,10 +66,7 @@ module _ (w u : World) (m : Moving) where
 
   pub touches_file : (p : Place) (f : FileState) → IsThere w.imsic (spot_of p) → holds p m.home ≡ true → u ≡ with_state w (spot_of p) f → Touches false w u m
   touches_file p f stands held e = subst TouchesOwn (sym e) (record {
-    identities = refl;
-    vms = refl;
-    harts = refl;
-    guests = refl;
+    rest = refl;
     tables = refl;
     masks = λ v. refl;
     starts = λ v. refl;
@@ -90,10 +86,7 @@ module _ (w u : World) (m : Moving) where
       → ((g : Vcpu) → is_vcpu_in w.vms g ≡ true → g ≢ mover m → (entry_word_place g.vm g.number ≢ place) × (entry_word_place g.vm g.number + 1 ≢ place))
       → u ≡ with_word w place v → Touches false w u m
   touches_word place v apart past e = subst TouchesOwn (sym e) (record {
-    identities = refl;
-    vms = refl;
-    harts = refl;
-    guests = refl;
+    rest = refl;
     tables = refl;
     masks = λ x. refl;
     starts = λ x. refl;
@@ -134,10 +127,7 @@ module _ (w u : World) (m : Moving) where
 
     pub touches_fence : u ≡ with_fence w m.who.vm m.who.vcpu → Touches false w u m
     touches_fence e = subst TouchesOwn (sym e) (record {
-      identities = refl;
-      vms = refl;
-      harts = refl;
-      guests = refl;
+      rest = refl;
       tables = fenced_count w.tables m.who.vm m.who.vcpu w.memory;
       masks = λ v. fenced_mask w.tables m.who.vm m.who.vcpu w.memory v;
       starts = λ v. fenced_start w.tables m.who.vm m.who.vcpu w.memory v;
@@ -160,10 +150,7 @@ module _ (w u : World) (m : Moving) where
 
     pub touches_stage : (s : Stage) → u ≡ with_stage w (mover m) s → Touches false w u m
     touches_stage s e = subst TouchesOwn (sym e) (record {
-      identities = refl;
-      vms = refl;
-      harts = refl;
-      guests = refl;
+      rest = refl;
       tables = refl;
       masks = λ v. refl;
       starts = λ v. refl;
@@ -180,10 +167,7 @@ module _ (w u : World) (m : Moving) where
 
   pub touches_notice : m.who.notice < w.imsic.harts → Posts w u (HostFile m.who.notice) (m.who.slot + 1) → Touches true w u m
   touches_notice low p = record {
-    identities = ap (λ (x : World). x.n) p.rest;
-    vms = ap (λ (x : World). x.vms) p.rest;
-    harts = ap (λ (j : ImsicState). j.harts) p.lands.others;
-    guests = ap (λ (j : ImsicState). j.guests) p.lands.others;
+    rest = (posts_rest w u (HostFile m.who.notice) (m.who.slot + 1) p) ∙ (λ k. record w { imsic = record w.imsic { files = u.imsic.files }; memory = u.memory; tables = sym (ap (λ (x : World). x.tables) p.rest) k; stages = sym (ap (λ (x : World). x.stages) p.rest) k; notices = u.notices });
     tables = ap (λ (x : World). length x.tables) p.rest;
     masks = λ v. ap (λ (x : World). (table_of x.tables v).mask) p.rest;
     starts = λ v. ap (λ (x : World). (table_of x.tables v).start) p.rest;
@@ -217,10 +201,10 @@ leave_touches WriteEntry w u who from at hand whole fits next makes = touches_en
 leave_touches Fence w u who from at hand whole fits next makes = touches_fence w u (record { who = who; home = (Leaving from at); hand = hand }) whole fits.there makes
 leave_touches WriteStage w u who from at hand whole fits next makes = touches_stage w u (record { who = who; home = (Leaving from at); hand = hand }) whole fits.there (record (stage_of w (vcpu who.vm who.vcpu)) { written = new_file (Leaving from at) }) makes
 leave_touches FenceStage w u who from at hand whole fits next makes = touches_stage w u (record { who = who; home = (Leaving from at); hand = hand }) whole fits.there (record (stage_of w (vcpu who.vm who.vcpu)) { in_force = (stage_of w (vcpu who.vm who.vcpu)).written }) makes
-leave_touches TakeDelivery w u who from at hand whole fits next makes = touches_file w u (record { who = who; home = (Leaving from at); hand = hand }) from (file_at u.imsic (spot_of from)) (fits.own from refl) (is_place-refl from) makes.others
-leave_touches TakeThreshold w u who from at hand whole fits next makes = touches_file w u (record { who = who; home = (Leaving from at); hand = hand }) from (file_at u.imsic (spot_of from)) (fits.own from refl) (is_place-refl from) makes.others
-leave_touches (TakePending k) w u who from at hand whole fits next makes = touches_file w u (record { who = who; home = (Leaving from at); hand = hand }) from (record (file_at w.imsic (spot_of from)) { pending = set (file_at w.imsic (spot_of from)).pending k 0 }) (fits.own from refl) (is_place-refl from) makes
-leave_touches (TakeEnables k) w u who from at hand whole fits next makes = touches_file w u (record { who = who; home = (Leaving from at); hand = hand }) from (record (file_at w.imsic (spot_of from)) { enabled = set (file_at w.imsic (spot_of from)).enabled k 0 }) (fits.own from refl) (is_place-refl from) makes
+leave_touches TakeDelivery w u who from at hand whole fits next makes = touches_file w u (record { who = who; home = (Leaving from at); hand = hand }) from (file_at u.imsic (spot_of from)) (fits.own from refl) (is_itself_place from) makes.others
+leave_touches TakeThreshold w u who from at hand whole fits next makes = touches_file w u (record { who = who; home = (Leaving from at); hand = hand }) from (file_at u.imsic (spot_of from)) (fits.own from refl) (is_itself_place from) makes.others
+leave_touches (TakePending k) w u who from at hand whole fits next makes = touches_file w u (record { who = who; home = (Leaving from at); hand = hand }) from (record (file_at w.imsic (spot_of from)) { pending = set (file_at w.imsic (spot_of from)).pending k 0 }) (fits.own from refl) (is_itself_place from) makes
+leave_touches (TakeEnables k) w u who from at hand whole fits next makes = touches_file w u (record { who = who; home = (Leaving from at); hand = hand }) from (record (file_at w.imsic (spot_of from)) { enabled = set (file_at w.imsic (spot_of from)).enabled k 0 }) (fits.own from refl) (is_itself_place from) makes
 leave_touches (PutPending k) w u who from at hand whole fits next makes =
     let few : k < 32 = of_width w k whole next.has in
     let low : who.slot < 16 = let small = slot_low w (vcpu who.vm who.vcpu) whole fits.there in omega (arith, small, fits.slot) in
@@ -242,8 +226,8 @@ arrive_touches WriteEntry w u who to at hand whole fits next makes = touches_ent
 arrive_touches Fence w u who to at hand whole fits next makes = touches_fence w u (record { who = who; home = (Arriving to at); hand = hand }) whole fits.there makes
 arrive_touches WriteStage w u who to at hand whole fits next makes = touches_stage w u (record { who = who; home = (Arriving to at); hand = hand }) whole fits.there (record (stage_of w (vcpu who.vm who.vcpu)) { written = new_file (Arriving to at) }) makes
 arrive_touches FenceStage w u who to at hand whole fits next makes = touches_stage w u (record { who = who; home = (Arriving to at); hand = hand }) whole fits.there (record (stage_of w (vcpu who.vm who.vcpu)) { in_force = (stage_of w (vcpu who.vm who.vcpu)).written }) makes
-arrive_touches PutDelivery w u who to at hand whole fits next makes = touches_file w u (record { who = who; home = (Arriving to at); hand = hand }) to (file_at u.imsic (spot_of to)) (fits.own to refl) (is_place-refl to) makes.others
-arrive_touches PutThreshold w u who to at hand whole fits next makes = touches_file w u (record { who = who; home = (Arriving to at); hand = hand }) to (file_at u.imsic (spot_of to)) (fits.own to refl) (is_place-refl to) makes.others
+arrive_touches PutDelivery w u who to at hand whole fits next makes = touches_file w u (record { who = who; home = (Arriving to at); hand = hand }) to (file_at u.imsic (spot_of to)) (fits.own to refl) (is_itself_place to) makes.others
+arrive_touches PutThreshold w u who to at hand whole fits next makes = touches_file w u (record { who = who; home = (Arriving to at); hand = hand }) to (file_at u.imsic (spot_of to)) (fits.own to refl) (is_itself_place to) makes.others
 arrive_touches (TakePending k) w u who to at hand whole fits next makes =
     let few : k < 32 = of_width w k whole next.has in
     let low : who.slot < 16 = let small = slot_low w (vcpu who.vm who.vcpu) whole fits.there in omega (arith, small, fits.slot) in
@@ -252,8 +236,8 @@ arrive_touches (TakeEnables k) w u who to at hand whole fits next makes =
     let few : k < 32 = of_width w k whole next.has in
     let low : who.slot < 16 = let small = slot_low w (vcpu who.vm who.vcpu) whole fits.there in omega (arith, small, fits.slot) in
     touches_slot w u (record { who = who; home = (Arriving to at); hand = hand }) whole fits.there (enable_place who.slot k) (2 * k + 1) 0 (omega arith) low (omega arith) makes
-arrive_touches (PutPending k) w u who to at hand whole fits next makes = touches_file w u (record { who = who; home = (Arriving to at); hand = hand }) to (record (file_at w.imsic (spot_of to)) { pending = set (file_at w.imsic (spot_of to)).pending k (bit_or (get_or (file_at w.imsic (spot_of to)).pending k 0) hand.word) }) (fits.own to refl) (is_place-refl to) makes.1
-arrive_touches (PutEnables k) w u who to at hand whole fits next makes = touches_file w u (record { who = who; home = (Arriving to at); hand = hand }) to (record (file_at w.imsic (spot_of to)) { enabled = set (file_at w.imsic (spot_of to)).enabled k hand.word }) (fits.own to refl) (is_place-refl to) makes.1
+arrive_touches (PutPending k) w u who to at hand whole fits next makes = touches_file w u (record { who = who; home = (Arriving to at); hand = hand }) to (record (file_at w.imsic (spot_of to)) { pending = set (file_at w.imsic (spot_of to)).pending k (bit_or (get_or (file_at w.imsic (spot_of to)).pending k 0) hand.word) }) (fits.own to refl) (is_itself_place to) makes.1
+arrive_touches (PutEnables k) w u who to at hand whole fits next makes = touches_file w u (record { who = who; home = (Arriving to at); hand = hand }) to (record (file_at w.imsic (spot_of to)) { enabled = set (file_at w.imsic (spot_of to)).enabled k hand.word }) (fits.own to refl) (is_itself_place to) makes.1
 arrive_touches TakeDelivery w u who to at hand whole fits next makes = let no : false ≡ true = next.has in absurd (cc)
 arrive_touches TakeThreshold w u who to at hand whole fits next makes = let no : false ≡ true = next.has in absurd (cc)
 arrive_touches WriteNotice w u who to at hand whole fits next makes = let no : false ≡ true = next.has in absurd (cc)
@@ -266,14 +250,14 @@ shift_touches WriteEntry w u who from to at hand whole fits next makes = touches
 shift_touches Fence w u who from to at hand whole fits next makes = touches_fence w u (record { who = who; home = (Shifting from to at); hand = hand }) whole fits.there makes
 shift_touches WriteStage w u who from to at hand whole fits next makes = touches_stage w u (record { who = who; home = (Shifting from to at); hand = hand }) whole fits.there (record (stage_of w (vcpu who.vm who.vcpu)) { written = new_file (Shifting from to at) }) makes
 shift_touches FenceStage w u who from to at hand whole fits next makes = touches_stage w u (record { who = who; home = (Shifting from to at); hand = hand }) whole fits.there (record (stage_of w (vcpu who.vm who.vcpu)) { in_force = (stage_of w (vcpu who.vm who.vcpu)).written }) makes
-shift_touches TakeDelivery w u who from to at hand whole fits next makes = touches_file w u (record { who = who; home = (Shifting from to at); hand = hand }) from (file_at u.imsic (spot_of from)) (fits.own from refl) (or_left (is_place from from) (is_place from to) (is_place-refl from)) makes.others
-shift_touches TakeThreshold w u who from to at hand whole fits next makes = touches_file w u (record { who = who; home = (Shifting from to at); hand = hand }) from (file_at u.imsic (spot_of from)) (fits.own from refl) (or_left (is_place from from) (is_place from to) (is_place-refl from)) makes.others
-shift_touches PutDelivery w u who from to at hand whole fits next makes = touches_file w u (record { who = who; home = (Shifting from to at); hand = hand }) to (file_at u.imsic (spot_of to)) (fits.next to refl) (or_right (is_place to from) (is_place to to) (is_place-refl to)) makes.others
-shift_touches PutThreshold w u who from to at hand whole fits next makes = touches_file w u (record { who = who; home = (Shifting from to at); hand = hand }) to (file_at u.imsic (spot_of to)) (fits.next to refl) (or_right (is_place to from) (is_place to to) (is_place-refl to)) makes.others
-shift_touches (TakePending k) w u who from to at hand whole fits next makes = touches_file w u (record { who = who; home = (Shifting from to at); hand = hand }) from (record (file_at w.imsic (spot_of from)) { pending = set (file_at w.imsic (spot_of from)).pending k 0 }) (fits.own from refl) (or_left (is_place from from) (is_place from to) (is_place-refl from)) makes
-shift_touches (TakeEnables k) w u who from to at hand whole fits next makes = touches_file w u (record { who = who; home = (Shifting from to at); hand = hand }) from (record (file_at w.imsic (spot_of from)) { enabled = set (file_at w.imsic (spot_of from)).enabled k 0 }) (fits.own from refl) (or_left (is_place from from) (is_place from to) (is_place-refl from)) makes
-shift_touches (PutPending k) w u who from to at hand whole fits next makes = touches_file w u (record { who = who; home = (Shifting from to at); hand = hand }) to (record (file_at w.imsic (spot_of to)) { pending = set (file_at w.imsic (spot_of to)).pending k (bit_or (get_or (file_at w.imsic (spot_of to)).pending k 0) hand.word) }) (fits.next to refl) (or_right (is_place to from) (is_place to to) (is_place-refl to)) makes.1
-shift_touches (PutEnables k) w u who from to at hand whole fits next makes = touches_file w u (record { who = who; home = (Shifting from to at); hand = hand }) to (record (file_at w.imsic (spot_of to)) { enabled = set (file_at w.imsic (spot_of to)).enabled k hand.word }) (fits.next to refl) (or_right (is_place to from) (is_place to to) (is_place-refl to)) makes.1
+shift_touches TakeDelivery w u who from to at hand whole fits next makes = touches_file w u (record { who = who; home = (Shifting from to at); hand = hand }) from (file_at u.imsic (spot_of from)) (fits.own from refl) (or_left (is_place from from) (is_place from to) (is_itself_place from)) makes.others
+shift_touches TakeThreshold w u who from to at hand whole fits next makes = touches_file w u (record { who = who; home = (Shifting from to at); hand = hand }) from (file_at u.imsic (spot_of from)) (fits.own from refl) (or_left (is_place from from) (is_place from to) (is_itself_place from)) makes.others
+shift_touches PutDelivery w u who from to at hand whole fits next makes = touches_file w u (record { who = who; home = (Shifting from to at); hand = hand }) to (file_at u.imsic (spot_of to)) (fits.next to refl) (or_right (is_place to from) (is_place to to) (is_itself_place to)) makes.others
+shift_touches PutThreshold w u who from to at hand whole fits next makes = touches_file w u (record { who = who; home = (Shifting from to at); hand = hand }) to (file_at u.imsic (spot_of to)) (fits.next to refl) (or_right (is_place to from) (is_place to to) (is_itself_place to)) makes.others
+shift_touches (TakePending k) w u who from to at hand whole fits next makes = touches_file w u (record { who = who; home = (Shifting from to at); hand = hand }) from (record (file_at w.imsic (spot_of from)) { pending = set (file_at w.imsic (spot_of from)).pending k 0 }) (fits.own from refl) (or_left (is_place from from) (is_place from to) (is_itself_place from)) makes
+shift_touches (TakeEnables k) w u who from to at hand whole fits next makes = touches_file w u (record { who = who; home = (Shifting from to at); hand = hand }) from (record (file_at w.imsic (spot_of from)) { enabled = set (file_at w.imsic (spot_of from)).enabled k 0 }) (fits.own from refl) (or_left (is_place from from) (is_place from to) (is_itself_place from)) makes
+shift_touches (PutPending k) w u who from to at hand whole fits next makes = touches_file w u (record { who = who; home = (Shifting from to at); hand = hand }) to (record (file_at w.imsic (spot_of to)) { pending = set (file_at w.imsic (spot_of to)).pending k (bit_or (get_or (file_at w.imsic (spot_of to)).pending k 0) hand.word) }) (fits.next to refl) (or_right (is_place to from) (is_place to to) (is_itself_place to)) makes.1
+shift_touches (PutEnables k) w u who from to at hand whole fits next makes = touches_file w u (record { who = who; home = (Shifting from to at); hand = hand }) to (record (file_at w.imsic (spot_of to)) { enabled = set (file_at w.imsic (spot_of to)).enabled k hand.word }) (fits.next to refl) (or_right (is_place to from) (is_place to to) (is_itself_place to)) makes.1
 shift_touches WriteNotice w u who from to at hand whole fits next makes = let no : false ≡ true = next.has in absurd (cc)
 shift_touches (Look k) w u who from to at hand whole fits next makes = let no : false ≡ true = next.has in absurd (cc)
 shift_touches Post w u who from to at hand whole fits next makes = let no : false ≡ true = next.has in absurd (cc)
@@ -292,22 +276,8 @@ step_touches w u m hand whole fits step = touches_by step.access w u m.who m.hom
 
 -- ---- so the places of others stay
 
-own_is_held : (there : Home) (p : Place) → own_file there ≡ Some p → holds p there ≡ true
-own_is_held Parked p e = absurd (cc)
-own_is_held (Resident q) p e = let same : q ≡ p = cc in ap (λ (x : Place). is_place p x) same ∙ is_place-refl p
-own_is_held (Leaving from at) p e = let same : from ≡ p = cc in ap (λ (x : Place). is_place p x) same ∙ is_place-refl p
-own_is_held (Arriving to at) p e = let same : to ≡ p = cc in ap (λ (x : Place). is_place p x) same ∙ is_place-refl p
-own_is_held (Shifting from to at) p e = let same : from ≡ p = cc in or_left (is_place p from) (is_place p to) (ap (λ (x : Place). is_place p x) same ∙ is_place-refl p)
-
-next_is_held : (there : Home) (p : Place) → next_file there ≡ Some p → holds p there ≡ true
-next_is_held Parked p e = absurd (cc)
-next_is_held (Resident q) p e = absurd (cc)
-next_is_held (Leaving from at) p e = absurd (cc)
-next_is_held (Arriving to at) p e = absurd (cc)
-next_is_held (Shifting from to at) p e = let same : to ≡ p = cc in or_right (is_place p from) (is_place p to) (ap (λ (x : Place). is_place p x) same ∙ is_place-refl p)
-
 file_stays : (sent : Bool) (w u : World) (m : Moving) (o : Option Place) → Touches sent w u m → ((p : Place) → o ≡ Some p → IsThere w.imsic (spot_of p) × (holds p m.home ≡ false)) → file_in u o ≡ file_in w o
-file_stays sent w u m None t others = ap (λ n. empty_file n) t.identities
+file_stays sent w u m None t others = ap (λ n. empty_file n) (ap (λ (x : World). x.n) t.rest)
 file_stays sent w u m (Some p) t others = let other = others p refl in ap shown (t.guest_files p other.0 other.1)
 
 pub view_stays : (sent : Bool) (w u : World) (m : Moving) (g : Vcpu) (there : Home) → IsWhole w → Fits w m → Touches sent w u m → is_vcpu_in w.vms g ≡ true → g ≢ mover m
@@ -315,7 +285,7 @@ pub view_stays : (sent : Bool) (w u : World) (m : Moving) (g : Vcpu) (there : Ho
 view_stays sent w u m g there whole fits t stands other apart =
     let own = file_stays sent w u m (own_file there) t (λ p e. apart p (own_is_held there p e)) in
     let next = file_stays sent w u m (next_file there) t (λ p e. apart p (next_is_held there p e)) in
-    let slot = ap (λ vms. mrif_in u.memory (slot_of vms g)) t.vms
+    let slot = ap (λ (x : World). mrif_in u.memory (slot_of x.vms g)) t.rest
     ∙ t.slots (slot_of w.vms g) (slot_low w g whole stands) (λ e. other (same_slot w.vms g (mover m) stands fits.there (e ∙ fits.slot))) in
     let words = t.entry_words g stands other in
     let entry = t.in_force g other in
@@ -324,4 +294,4 @@ view_stays sent w u m g there whole fits t stands other apart =
 
 -- the virtual hart that is moved has its slot and notice hart still, and its files are there
 pub there_still : (sent : Bool) (w u : World) (m : Moving) (p : Place) → Touches sent w u m → IsThere w.imsic (spot_of p) → IsThere u.imsic (spot_of p)
-there_still sent w u m p t stands = (omega (arith, stands.0, t.harts), stands.1, omega (arith, stands.2, t.guests))
+there_still sent w u m p t stands = (omega (arith, stands.0, ap (λ (x : World). x.imsic.harts) t.rest), stands.1, omega (arith, stands.2, ap (λ (x : World). x.imsic.guests) t.rest))

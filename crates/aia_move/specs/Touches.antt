@@ -26,6 +26,17 @@ pub record SameMachine (w u : World) : Type 0 where
   pub harts : u.imsic.harts ≡ w.imsic.harts
   pub guests : u.imsic.guests ≡ w.imsic.guests
 
+-- Nothing changes but what accesses of moves change: what the files hold, memory, the tables, the
+-- G-stage records, and the count of notices.
+abbrev pub OnlyAccesses : World → World → Type 0
+OnlyAccesses w u = u ≡ record w {
+  imsic = record w.imsic { files = u.imsic.files };
+  memory = u.memory;
+  tables = u.tables;
+  stages = u.stages;
+  notices = u.notices;
+}
+
 -- Whether an access sends the notice.
 abbrev pub sends : Access → Hand → Bool
 sends Post hand = hand.seen
@@ -33,11 +44,8 @@ sends access hand = false
 
 -- A step of a move, which sends the notice or not, touches only its own.
 pub record Touches (sent : Bool) (w u : World) (m : Moving) : Type 0 where
-  -- what is made once
-  pub identities : u.n ≡ w.n
-  pub vms : u.vms ≡ w.vms
-  pub harts : u.imsic.harts ≡ w.imsic.harts
-  pub guests : u.imsic.guests ≡ w.imsic.guests
+  -- the machine and its VMs stay
+  pub rest : OnlyAccesses w u
   pub tables : length u.tables ≡ length w.tables
   pub masks : (v : ℕ) → (table_of u.tables v).mask ≡ (table_of w.tables v).mask
   pub starts : (v : ℕ) → (table_of u.tables v).start ≡ (table_of w.tables v).start
