@@ -3,16 +3,19 @@ use Rattle.std.proofs.Common.{◌≡◌, ℕ, zero, suc, ◌+◌, ◌<◌, [], l
 use Rattle.std.specs.Prelude.{remove, slice_set, slice_index_or}
 use Rattle.std.proofs.lemmas.List.{length-set}
 use Rattle.std.proofs.lemmas.List.Edits.{length-remove}
-use Rattle.aia_fabric.specs.World.{World, flight_of}
-use Rattle.aia_fabric.specs.Flights.{with_flight, Lands, LandsOldest, LandsAll}
+use Rattle.aia_fabric.specs.World.{World, OnlyStores, flight_of}
+use Rattle.aia_fabric.specs.Flights.{Lands, LandsOldest, LandsAll}
 use Rattle.aia_fabric.proofs.FrameLemmas.{entry_rest}
 
 -- a store lands: it is in flight no more, and the VMs are the same
+stored_rest : (w u : World) (vm k : ℕ) (l : Lands w u vm k) → OnlyStores w l.stored
+stored_rest w u vm k l = entry_rest l.store.entry w l.stored l.store.offset l.store.value l.reaches
+
 landed_flights : (w u : World) (vm k : ℕ) → Lands w u vm k → u.flights ≡ slice_set w.flights vm (remove (flight_of w vm) k)
-landed_flights w u vm k l = ap (λ (x : World). x.flights) (entry_rest l.store.entry (with_flight w vm (remove (flight_of w vm) k)) u l.store.offset l.store.value l.reaches)
+landed_flights w u vm k l = ap (λ (x : World). x.flights) l.taken ∙ ap (λ (x : World). slice_set x.flights vm (remove (flight_of x vm) k)) (stored_rest w u vm k l)
 
 pub landed_vms : (w u : World) (vm k : ℕ) → Lands w u vm k → u.vms ≡ w.vms
-landed_vms w u vm k l = ap (λ (x : World). x.vms) (entry_rest l.store.entry (with_flight w vm (remove (flight_of w vm) k)) u l.store.offset l.store.value l.reaches)
+landed_vms w u vm k l = ap (λ (x : World). x.vms) l.taken ∙ ap (λ (x : World). x.vms) (stored_rest w u vm k l)
 
 pub landed_flight : (w u : World) (vm k : ℕ) → vm < length w.flights → Lands w u vm k → flight_of u vm ≡ remove (flight_of w vm) k
 landed_flight w u vm k there l =

@@ -21,12 +21,14 @@ Sends (To entry) w u vm offset value = u ≡ with_flight w vm (flight_of w vm
     ++ record { entry = entry; offset = offset; value = value } ∷ [])
 Sends route w u vm offset value = u ≡ w
 
--- The k-th store in flight of a VM lands, where the entry led it as it was sent.
+-- The k-th store in flight of a VM lands, where the entry led it as it was sent, and is in flight no
+-- more.
 pub record Lands (w u : World) (vm k : ℕ) : Type 0 where
   pub store : Flying
   pub is : slice_get (flight_of w vm) k ≡ Some store
-  pub reaches : ReachesBy store.entry (with_flight w vm (remove (flight_of w vm) k)) u
-      store.offset store.value
+  pub stored : World
+  pub reaches : ReachesBy store.entry w stored store.offset store.value
+  pub taken : u ≡ with_flight stored vm (remove (flight_of stored vm) k)
 
 -- So many stores in flight of a VM land, one after another, each time the oldest that is left.
 abbrev pub LandsOldest : ℕ → World → World → ℕ → Type 0

@@ -70,13 +70,20 @@ impl Flight {
         self.stores.push(store);
     }
 
-    /// Takes the `k`-th one out, counted from 0.
-    fn take(&mut self, k: usize) -> Flying
-        requires { k < length self.old }
-        ensures store { slice_get self.old k ≡ Some result }
-        ensures rest { self.new ≡ remove self.old k }
+    /// Gives the `k`-th one, counted from 0.
+    fn at(&self, k: usize) -> Flying
+        requires { k < length self.now }
+        ensures { slice_get self.now k ≡ Some result }
     {
-        self.stores.remove(k)
+        self.stores[k]
+    }
+
+    /// Takes the `k`-th one out, counted from 0.
+    fn remove(&mut self, k: usize)
+        requires { k < length self.old }
+        ensures { self.new ≡ remove self.old k }
+    {
+        self.stores.remove(k);
     }
 }
 
@@ -135,14 +142,22 @@ impl Flights {
         self.kept[vm as usize].push(store);
     }
 
+    /// Gives the `k`-th store of a VM that stands, counted from 0, the oldest first.
+    pub fn at(&self, vm: u32, k: usize) -> Flying
+        requires there { vm < length self.now }
+        requires flies { k < length (slice_index_or self.now vm []) }
+        ensures { slice_get (slice_index_or self.now vm []) k ≡ Some result }
+    {
+        self.kept[vm as usize].at(k)
+    }
+
     /// Takes the `k`-th store of a VM that stands out, counted from 0, the oldest first.
-    pub fn take(&mut self, vm: u32, k: usize) -> Flying
+    pub fn remove(&mut self, vm: u32, k: usize)
         requires there { vm < length self.old }
         requires flies { k < length (slice_index_or self.old vm []) }
-        ensures store { slice_get (slice_index_or self.old vm []) k ≡ Some result }
-        ensures rest { self.new
+        ensures { self.new
             ≡ slice_set self.old vm (remove (slice_index_or self.old vm []) k) }
     {
-        self.kept[vm as usize].take(k)
+        self.kept[vm as usize].remove(k);
     }
 }

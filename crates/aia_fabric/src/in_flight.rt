@@ -1,4 +1,4 @@
-ghost use Rattle.std.specs.Prelude.{◌≡◌, ◌%◌, ◌<◌, ◌≤◌, length, remove, slice_get, Some};
+ghost use Rattle.std.specs.Prelude.{◌≡◌, ◌%◌, ◌<◌, ◌≤◌, length, remove};
 ghost use Rattle.aia_regs.specs.declared.address_map.TheConstants.{PAGE};
 ghost use Rattle.aia_regs.specs.declared.limits.TheConstants.{STORES_IN_FLIGHT};
 ghost use Rattle.aia_entry.specs.Tables.{table_of, route_of};
@@ -50,18 +50,18 @@ impl Fabric {
         requires flies { k < length (flight_of self.old vm) }
         ensures { Lands self.old self.new vm k }
     {
-        let store = self.take_flying(vm, k);
+        let store = self.flights.at(vm, k);
         self.store_by(store.entry, store.offset, store.value);
+        self.take_out(vm, k);
     }
 
-    /// Takes the `k`-th store in flight of a VM out.
-    fn take_flying(&mut self, vm: u32, k: usize) -> Flying
+    /// Takes the `k`-th store in flight of a VM that stands out.
+    fn take_out(&mut self, vm: u32, k: usize)
         requires there { vm < length self.old.vms }
         requires flies { k < length (flight_of self.old vm) }
-        ensures store { slice_get (flight_of self.old vm) k ≡ Some result }
-        ensures rest { self.new ≡ with_flight self.old vm (remove (flight_of self.old vm) k) }
+        ensures { self.new ≡ with_flight self.old vm (remove (flight_of self.old vm) k) }
     {
-        self.flights.take(vm, k)
+        self.flights.remove(vm, k);
     }
 
     /// Lands all stores in flight of a VM that stands, the oldest first.
