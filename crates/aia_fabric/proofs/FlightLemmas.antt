@@ -1,8 +1,10 @@
 -- What becomes of the stores in flight of a VM as one lands, and as all do.
-use Rattle.std.proofs.Common.{◌≡◌, ℕ, zero, suc, ◌+◌, ◌<◌, [], length, get_or-set_same, refl, ap, subst, ◌∙◌, arith}
+use Rattle.std.proofs.Common.{◌≡◌, ℕ, zero, suc, ◌+◌, ◌<◌, List, [], length, get_or-set_same, refl, sym, ap, subst, ◌∙◌, arith}
 use Rattle.std.specs.Prelude.{remove, slice_set, slice_index_or}
 use Rattle.std.proofs.lemmas.List.{length-set}
 use Rattle.std.proofs.lemmas.List.Edits.{length-remove}
+use Rattle.aia_file.specs.FileState.{FileState}
+use Rattle.aia_fabric.specs.declared.flights.Flying.{Flying}
 use Rattle.aia_fabric.specs.World.{World, OnlyStores, flight_of}
 use Rattle.aia_fabric.specs.Flights.{Lands, LandsOldest, LandsAll}
 use Rattle.aia_fabric.proofs.FrameLemmas.{entry_rest}
@@ -43,9 +45,29 @@ one_landed w u x vm count there some so_far l =
       lists = ap length (landed_flights u x vm 0 l) ∙ length-set u.flights vm (remove (flight_of u vm) 0) ∙ so_far.lists;
     }
 
-pub all_landed_vms : (count : ℕ) (w u : World) (vm : ℕ) → LandsOldest count w u vm → u.vms ≡ w.vms
-all_landed_vms zero w u vm same = ap (λ (x : World). x.vms) same
-all_landed_vms (suc count) w u vm (mid, before, l) = landed_vms mid u vm 0 l ∙ all_landed_vms count w mid vm before
+-- ---- what landings leave as it was
+
+-- the world with other files, another memory, another count of notices and other stores in flight
+abbrev with_landed : World → List FileState → List ℕ → ℕ → List (List Flying) → World
+with_landed w files memory notices flights = record w { imsic = record w.imsic { files = files }; memory = memory; notices = notices; flights = flights }
+
+abbrev pub OnlyLandings : World → World → Type 0
+OnlyLandings w u = u ≡ record w { imsic = record w.imsic { files = u.imsic.files }; memory = u.memory; notices = u.notices; flights = u.flights }
+
+by_landed : (w u : World) (files : List FileState) (memory : List ℕ) (notices : ℕ) (flights : List (List Flying)) → u ≡ with_landed w files memory notices flights → OnlyLandings w u
+by_landed w u files memory notices flights e = e ∙ ap (λ (x : World). with_landed w x.imsic.files x.memory x.notices x.flights) (sym e)
+
+landed_rest : (w u : World) (vm k : ℕ) → Lands w u vm k → OnlyLandings w u
+landed_rest w u vm k l =
+    by_landed w u l.stored.imsic.files l.stored.memory l.stored.notices (slice_set w.flights vm (remove (flight_of w vm) k))
+    (l.taken ∙ ap (λ (x : World). record x { flights = slice_set x.flights vm (remove (flight_of x vm) k) }) (stored_rest w u vm k l))
+
+landed_then : (w x u : World) → OnlyLandings w x → OnlyLandings x u → OnlyLandings w u
+landed_then w x u first later = later ∙ ap (λ (y : World). with_landed y u.imsic.files u.memory u.notices u.flights) first
+
+pub all_landed_rest : (count : ℕ) (w u : World) (vm : ℕ) → LandsOldest count w u vm → OnlyLandings w u
+all_landed_rest zero w u vm same = by_landed w u w.imsic.files w.memory w.notices w.flights same
+all_landed_rest (suc count) w u vm (mid, before, l) = landed_then w mid u (all_landed_rest count w mid vm before) (landed_rest mid u vm 0 l)
 
 pub all_landed : (w u : World) (vm count : ℕ) → count ≡ length (flight_of w vm) → HaveLanded w u vm count → LandsAll w u vm
 all_landed w u vm count all landed = subst (λ n. LandsOldest n w u vm) all landed.lands

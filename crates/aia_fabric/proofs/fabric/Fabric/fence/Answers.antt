@@ -1,9 +1,10 @@
 use Rattle.std.proofs.Common.{◌≡◌, true, ap, ◌∙◌, length}
 use Rattle.aia_home.specs.Vms.{vcpu, is_vcpu_in}
-use Rattle.aia_fabric.specs.World.{flight_of}
-use Rattle.aia_fabric.proofs.FlightLemmas.{all_landed_vms}
+use Rattle.aia_fabric.specs.World.{World, flight_of}
+use Rattle.aia_fabric.proofs.FlightLemmas.{all_landed_rest}
 use Rattle.aia_fabric.proofs.fabric.Fabric.fence.Goals as goal
 
 pub put_in_force-requires : goal.put_in_force-requires
 put_in_force-requires c =
-    ap (λ vms. is_vcpu_in vms (vcpu c.args.vm c.args.file)) (all_landed_vms (length (flight_of c.args.self.now c.args.vm)) c.args.self.now c.land_all.new.self c.args.vm c.land_all.ensures) ∙ c.requires
+    let rest = all_landed_rest (length (flight_of c.args.self.now c.args.vm)) c.args.self.now c.land_all.new.self c.args.vm c.land_all.ensures in
+    ap (λ (w : World). is_vcpu_in w.vms (vcpu c.args.vm c.args.file)) rest ∙ c.requires
