@@ -6,6 +6,7 @@ use Rattle.std.proofs.lemmas.List.Edits.{length-remove}
 use Rattle.aia_file.specs.FileState.{FileState}
 use Rattle.aia_fabric.specs.declared.flights.Flying.{Flying}
 use Rattle.aia_fabric.specs.World.{World, OnlyStores, flight_of}
+use Rattle.aia_fabric.specs.Whole.{IsWhole}
 use Rattle.aia_fabric.specs.Flights.{Lands, LandsOldest, LandsAll}
 use Rattle.aia_fabric.proofs.FrameLemmas.{entry_rest}
 
@@ -33,11 +34,11 @@ pub record HaveLanded (w u : World) (vm count : ℕ) : Type 0 where
 pub none_landed : (w : World) (vm : ℕ) → HaveLanded w w vm 0
 none_landed w vm = record { lands = refl; left = omega arith; vms = refl; lists = refl }
 
-pub one_landed : (w u x : World) (vm count : ℕ) → vm < length w.flights → 0 < length (flight_of u vm) → HaveLanded w u vm count → Lands u x vm 0 → HaveLanded w x vm (count + 1)
-one_landed w u x vm count there some so_far l =
+pub one_landed : (w u x : World) (vm count : ℕ) → vm < length w.flights → 0 < length (flight_of u vm) → HaveLanded w u vm count → IsWhole u → Lands u x vm 0 → HaveLanded w x vm (count + 1)
+one_landed w u x vm count there some so_far whole l =
     let one : length (flight_of x vm) ≡ length (remove (flight_of u vm) 0) = ap length (landed_flight u x vm 0 (omega (arith, so_far.lists)) l) in
     let more : suc count ≡ count + 1 = omega arith in
-    let lands : LandsOldest (suc count) w x vm = (u, so_far.lands, l) in
+    let lands : LandsOldest (suc count) w x vm = (u, so_far.lands, whole, l) in
     record {
       lands = subst (λ n. LandsOldest n w x vm) more lands;
       left = omega (arith, one, length-remove (flight_of u vm) 0 some, so_far.left);
@@ -67,7 +68,7 @@ landed_then w x u first later = later ∙ ap (λ (y : World). with_landed y u.im
 
 pub all_landed_rest : (count : ℕ) (w u : World) (vm : ℕ) → LandsOldest count w u vm → OnlyLandings w u
 all_landed_rest zero w u vm same = by_landed w u w.imsic.files w.memory w.notices w.flights same
-all_landed_rest (suc count) w u vm (mid, before, l) = landed_then w mid u (all_landed_rest count w mid vm before) (landed_rest mid u vm 0 l)
+all_landed_rest (suc count) w u vm (mid, before, whole, l) = landed_then w mid u (all_landed_rest count w mid vm before) (landed_rest mid u vm 0 l)
 
 pub all_landed : (w u : World) (vm count : ℕ) → count ≡ length (flight_of w vm) → HaveLanded w u vm count → LandsAll w u vm
 all_landed w u vm count all landed = subst (λ n. LandsOldest n w u vm) all landed.lands

@@ -30,10 +30,12 @@ pub record Lands (w u : World) (vm k : ℕ) : Type 0 where
   pub reaches : ReachesBy store.entry w stored store.offset store.value
   pub taken : u ≡ with_flight stored vm (remove (flight_of stored vm) k)
 
--- So many stores in flight of a VM land, one after another, each time the oldest that is left.
+-- So many stores in flight of a VM land, one after another, each time the oldest that is left; the
+-- world is whole before each.
 abbrev pub LandsOldest : ℕ → World → World → ℕ → Type 0
 LandsOldest zero w u vm = u ≡ w
-LandsOldest (suc count) w u vm = (mid : World) × LandsOldest count w mid vm × Lands mid u vm 0
+LandsOldest (suc count) w u vm =
+    (mid : World) × LandsOldest count w mid vm × IsWhole mid × Lands mid u vm 0
 
 -- All of them do.
 abbrev pub LandsAll : World → World → ℕ → Type 0

@@ -71,6 +71,7 @@ impl Fabric {
     {
         let _whole = self.words();
         for _ in 0..self.flying(vm) {
+            let _whole = self.words();
             self.land(vm, 0);
         }
     }

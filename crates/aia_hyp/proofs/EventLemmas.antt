@@ -49,9 +49,9 @@ use Rattle.aia_hyp.specs.declared.vcpu.VcpuRecord.{VcpuRecord}
 use Rattle.aia_hyp.specs.Core.{CoreState, no_record}
 use Rattle.aia_hyp.specs.HostFiles.{FileDone, HasDone, host_spot, select_place, select_in}
 use Rattle.aia_hyp.specs.Stands.{StandsForSome, HostStands, VcpuStands, is_held, CoreStands, CoreTakes, line_served, signals_of}
-use Rattle.aia_hyp.proofs.VcpuLemmas.{IsQuiet, same_n, quiet_line, quiet_msi, select_is, MajorsRest, majors_is, majors_rest, guest_rests, files_alone, held_stays, refetches, makes_nothing}
+use Rattle.aia_hyp.proofs.VcpuLemmas.{IsQuiet, same_n, quiet_line, quiet_msi, select_is, MajorsRest, majors_is, majors_rest, guest_rests, files_alone, held_stays, is_plain, IsStill, still_line}
 use Rattle.aia_hyp.proofs.NameLemmas.{no_guest, is_hosts, other_spot, there_too}
-use Rattle.aia_hyp.proofs.StandsLemmas.{count_after, Becomes, stands_after, built_as}
+use Rattle.aia_hyp.proofs.StandsLemmas.{count_after, Becomes, stands_after, built_as, flights_stay}
 use Rattle.aia_fabric.proofs.FrameLemmas.{files_rest}
 use Rattle.aia_fabric.specs.World.{OnlyStores}
 
@@ -73,10 +73,10 @@ pub record Changes (x y : CoreState) (h : History) (event : Event) : Type 0 wher
   pub no_majors : (g : Vcpu) → has_vcpu h g ≡ false → MajorsRest g event
   pub no_slot : (q : ℕ) → vcpus_in (vms_of h) ≤ q → q < VCPUS → mrif_in y.world.memory q ≡ mrif_in x.world.memory q
 
-changed : (x y : CoreState) (h : History) (event : Event) → Changes x y h event → CoreStands x h → Becomes x y h event
+pub changed : (x y : CoreState) (h : History) (event : Event) → Changes x y h event → CoreStands x h → Becomes x y h event
 changed x y h event c stands = record {
   machine = c.quiet.machine;
-  rest = built_as x.world y.world y.world.imsic.files y.world.memory x.world.vms x.world.tables x.world.stages y.world.notices c.rest;
+  rest = built_as x.world y.world y.world.imsic.files y.world.memory x.world.vms x.world.tables x.world.flights x.world.stages y.world.notices c.rest;
   vms = ap (λ (w : World). w.vms) c.rest ∙ stands.vms ∙ sym c.quiet.vms;
   count = c.count;
   host = c.host;
@@ -109,8 +109,8 @@ changed x y h event c stands = record {
     still_held : (g : Vcpu) (p : Place) → holds p (home (event ∷ h) g) ≡ true → holds p (home h g) ≡ true
     still_held g p holding = ap (holds p) (sym (c.quiet.homes g)) ∙ holding
 
-pub one_more : (x y : CoreState) (h : History) (event : Event) → Changes x y h event → CoreStands x h → CoreStands y (event ∷ h)
-one_more x y h event changes stands = stands_after x y h event (changed x y h event changes stands) stands
+pub one_more : (x y : CoreState) (h : History) (event : Event) → Changes x y h event → IsStill h event → CoreStands x h → CoreStands y (event ∷ h)
+one_more x y h event changes still stands = stands_after x y h event (changed x y h event changes stands) (flights_stay x y h event still (ap (λ (w : World). w.flights) changes.rest) stands) stands
 
 -- ---- events of the host, which are nothing to guests
 
@@ -120,7 +120,7 @@ pub record IsHosts (h : History) (event : Event) : Type 0 where
   pub guests : (g : Vcpu) → guest_deed g h event ≡ Rests
   pub majors : (g : Vcpu) → MajorsRest g event
 
-pub hosts_line : (h : History) (line : Line) → makes_nothing line ≡ true → noticed h (Accepted line) ≡ None → ((g : Vcpu) → guest_deed g h (Accepted line) ≡ Rests) → ((g : Vcpu) → MajorsRest g (Accepted line)) → IsHosts h (Accepted line)
+pub hosts_line : (h : History) (line : Line) → is_plain line ≡ true → noticed h (Accepted line) ≡ None → ((g : Vcpu) → guest_deed g h (Accepted line) ≡ Rests) → ((g : Vcpu) → MajorsRest g (Accepted line)) → IsHosts h (Accepted line)
 hosts_line h line plain none guests majors = record { quiet = quiet_line h line plain; none = none; guests = guests; majors = majors }
 
 pub hosts_msi : (h : History) (msi : Msi) → IsHosts h (Delivered msi)
@@ -229,9 +229,9 @@ pub taken : (x y : CoreState) (line : Line) (given : Answer) → move_deed line 
     → ((h : History) → CoreStands x h → (refusal h line ≡ None) × (given ≡ accepted_answer h line) × CoreStands y (Accepted line ∷ h)) → CoreTakes x y line given
 taken x y line given still by = by_refusal x y line given (λ h stands. let r = by h stands in (None, r.0, r.1, subst (λ d. CoreStands y (deed_taken h line d)) (sym still) r.2, λ word e. absurd (none-some word e)))
 
-pub accepted : (x y : CoreState) (line : Line) (given : Answer) → move_deed line ≡ NoMove
+pub accepted : (x y : CoreState) (line : Line) (given : Answer) → is_plain line ≡ true → move_deed line ≡ NoMove
     → ((h : History) → CoreStands x h → (refusal h line ≡ None) × (given ≡ accepted_answer h line) × Changes x y h (Accepted line)) → CoreTakes x y line given
-accepted x y line given still by = taken x y line given still (λ h stands. let r = by h stands in (r.0, r.1, one_more x y h (Accepted line) r.2 stands))
+accepted x y line given plain still by = taken x y line given still (λ h stands. let r = by h stands in (r.0, r.1, one_more x y h (Accepted line) r.2 (still_line h line plain) stands))
 
 pub refused : (x : CoreState) (line : Line) (word : Answer) → ((h : History) → CoreStands x h → refusal h line ≡ Some word) → CoreTakes x x line word
 refused x line word is = by_refusal x x line word (λ h stands. (Some word, is h stands, refl, stands, λ w e. refl))

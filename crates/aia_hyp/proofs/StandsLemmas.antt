@@ -1,5 +1,5 @@
 -- What makes a core stand for a history: the line that makes its machine, and one event more.
-use Rattle.std.proofs.Common.{◌≡◌, ℕ, zero, suc, ◌+◌, ◌-◌, ◌*◌, ◌/◌, ◌%◌, ◌^◌, ◌<◌, ◌≤◌, Bool, true, false, ◌&&◌, nat_eq, nat_lt, nat_le, get_or, List, length, replicate, is_some, [], ◌∷◌, Option, Some, None, refl, sym, ap, ◌∙◌, arith}
+use Rattle.std.proofs.Common.{◌≡◌, ℕ, zero, suc, ◌+◌, ◌-◌, ◌*◌, ◌/◌, ◌%◌, ◌^◌, ◌<◌, ◌≤◌, Bool, true, false, ◌&&◌, nat_eq, nat_lt, nat_le, get_or, List, length, map, replicate, is_some, [], ◌∷◌, Option, Some, None, refl, sym, ap, ◌∙◌, arith}
 use Rattle.std.specs.Prelude.{min}
 use Rattle.std.specs.Option.{option_map_or}
 use Rattle.std.proofs.lemmas.Bool.{ltb-true}
@@ -25,7 +25,8 @@ use Rattle.aia_pool.specs.Leases.{Leases, is_out}
 use Rattle.aia_fabric.specs.declared.stage.Stage.{Stage}
 use Rattle.aia_fabric.specs.World.{no_stage}
 use Rattle.aia_fabric.specs.Changes.{spot_of}
-use Rattle.aia_fabric.specs.World.{World}
+use Rattle.aia_fabric.specs.declared.flights.Flying.{Flying}
+use Rattle.aia_fabric.specs.World.{World, flight_of}
 use Rattle.aia_fabric.specs.Stores.{counted}
 use Rattle.aia_fabric.specs.Making.{IsNew}
 use Rattle.aia_model.specs.declared.line.Line.TheVariants.{Machine}
@@ -35,6 +36,9 @@ use Rattle.aia_model.specs.Vms.{vms_of, has_vm, has_vcpu}
 use Rattle.aia_model.specs.FileAfter.{select_after, file_after}
 use Rattle.aia_model.specs.FileAfter.FileDeed.{Rests}
 use Rattle.aia_model.specs.MajorOf.{majors_of}
+use Rattle.aia_model.specs.Flight.{flight}
+use Rattle.aia_model.specs.ReachOf.{LandsFirst, SendsToOne}
+use Rattle.aia_model.proofs.FlightLemmas.{flights_on, sent_on, none_flies, none_for_one}
 use Rattle.aia_model.specs.HomeOf.{home, moved}
 use Rattle.aia_model.specs.GuestFile.{guest_deed, guest_select, guest_file}
 use Rattle.aia_model.specs.Notice.{noticed, with_notice, notices_sent}
@@ -42,10 +46,14 @@ use Rattle.aia_model.specs.FileOf.{FileName, deed_at, select_of}
 use Rattle.aia_model.proofs.FileLemmas.{file_step, select_step, file_by_step}
 use Rattle.aia_model.proofs.MoveLemmas.{home_step}
 use Rattle.aia_hyp.specs.declared.vcpu.VcpuRecord.{VcpuRecord}
-use Rattle.aia_hyp.specs.Core.{CoreState}
+use Rattle.aia_hyp.specs.declared.vcpu.Stay.{Stay}
+use Rattle.aia_hyp.specs.declared.vcpu.Stay.TheVariants as stays
+use Rattle.aia_move.specs.Plan.{moving_of}
+use Rattle.aia_move.proofs.MachineLemmas.{fits_still}
+use Rattle.aia_hyp.specs.Core.{CoreState, record_of}
 use Rattle.aia_hyp.specs.HostFiles.{FileDone, host_spot, select_place, select_in}
-use Rattle.aia_hyp.specs.Stands.{HostStands, VcpuStands, HoldApart, is_held, CoreStands}
-use Rattle.aia_hyp.proofs.VcpuLemmas.{same_n, select_is, MajorsRest, majors_is, majors_rest}
+use Rattle.aia_hyp.specs.Stands.{HostStands, PlanStands, VcpuStands, HoldApart, is_held, flying_of, CoreStands}
+use Rattle.aia_hyp.proofs.VcpuLemmas.{IsStill, same_n, select_is, MajorsRest, majors_is, majors_rest}
 use Rattle.aia_hyp.proofs.NameLemmas.{there_too}
 
 -- ---- what an event makes of numbers, files of the host and notices
@@ -76,13 +84,13 @@ notices_step event h = refl
 -- ---- one event more
 
 -- Nothing changes of a world but what is not made with the machine: what the files hold, memory, the
--- VMs with their tables and records, and the count of notices.
+-- VMs with their tables, stores in flight and records, and the count of notices.
 abbrev pub IsBuiltAs : World → World → Type 0
-IsBuiltAs w u = u ≡ record w { imsic = record w.imsic { files = u.imsic.files }; memory = u.memory; vms = u.vms; tables = u.tables; stages = u.stages; notices = u.notices }
+IsBuiltAs w u = u ≡ record w { imsic = record w.imsic { files = u.imsic.files }; memory = u.memory; vms = u.vms; tables = u.tables; flights = u.flights; stages = u.stages; notices = u.notices }
 
-pub built_as : (w u : World) (files : List FileState) (memory : List ℕ) (vms : List Vm) (tables : List TableState) (stages : List Stage) (notices : ℕ)
-    → u ≡ record w { imsic = record w.imsic { files = files }; memory = memory; vms = vms; tables = tables; stages = stages; notices = notices } → IsBuiltAs w u
-built_as w u files memory vms tables stages notices e = e ∙ ap (λ (x : World). record w { imsic = record w.imsic { files = x.imsic.files }; memory = x.memory; vms = x.vms; tables = x.tables; stages = x.stages; notices = x.notices }) (sym e)
+pub built_as : (w u : World) (files : List FileState) (memory : List ℕ) (vms : List Vm) (tables : List TableState) (flights : List (List Flying)) (stages : List Stage) (notices : ℕ)
+    → u ≡ record w { imsic = record w.imsic { files = files }; memory = memory; vms = vms; tables = tables; flights = flights; stages = stages; notices = notices } → IsBuiltAs w u
+built_as w u files memory vms tables flights stages notices e = e ∙ ap (λ (x : World). record w { imsic = record w.imsic { files = x.imsic.files }; memory = x.memory; vms = x.vms; tables = x.tables; flights = x.flights; stages = x.stages; notices = x.notices }) (sym e)
 
 -- What an event makes of a core, other than the line that makes the machine: the one way by which a
 -- core stands for one event more. Who isn't there then was not there before, and the event is
@@ -106,8 +114,48 @@ pub record Becomes (x y : CoreState) (h : History) (event : Event) : Type 0 wher
   pub no_entry : (g : Vcpu) → has_vm (event ∷ h) g.vm ≡ true → has_vcpu (event ∷ h) g ≡ false → entry_in_force (table_of y.world.tables g.vm) g.number ≡ NotValid
   pub no_slot : (q : ℕ) → vcpus_in (vms_of (event ∷ h)) ≤ q → q < VCPUS → (vcpus_in (vms_of h) ≤ q) × (mrif_in y.world.memory q ≡ mrif_in x.world.memory q) × (get_or y.world.stages q no_stage ≡ get_or x.world.stages q no_stage)
 
-pub stands_after : (x y : CoreState) (h : History) (event : Event) → Becomes x y h event → CoreStands x h → CoreStands y (event ∷ h)
-stands_after x y h event b stands =
+-- Other stores in flight are nothing to all that.
+pub with_flights : (x y : CoreState) (h : History) (event : Event) (flights : List (List Flying)) → Becomes x y h event → Becomes x (record y { world = record y.world { flights = flights } }) h event
+with_flights x y h event flights b = record {
+  machine = b.machine;
+  rest = ap (λ (w : World). record w { flights = flights }) b.rest;
+  vms = b.vms;
+  count = b.count;
+  host = b.host;
+  records = b.records;
+  vcpus = λ g inside. let v = b.vcpus g inside in record { same_home = v.same_home; select = v.select; majors = v.majors; two_files = v.two_files; plan = plan_with y.world flights g (record_of y g).stay v.plan; holds = v.holds };
+  lease_harts = b.lease_harts;
+  lease_guests = b.lease_guests;
+  lease_count = b.lease_count;
+  leases = b.leases;
+  held = b.held;
+  apart = b.apart;
+  free = b.free;
+  no_vcpu = b.no_vcpu;
+  no_entry = b.no_entry;
+  no_slot = b.no_slot;
+}
+  where
+    plan_with : (w : World) (flights : List (List Flying)) (g : Vcpu) (stay : Stay) → PlanStands w g stay → PlanStands (record w { flights = flights }) g stay
+    plan_with w flights g (stays.Parked kept) p = tt
+    plan_with w flights g (stays.Resident lease) p = tt
+    plan_with w flights g (stays.Moving plan) p = (fits_still w (record w { flights = flights }) (moving_of plan) (record { n = refl; vms = refl; harts = refl; guests = refl }) p.0, p.1)
+
+-- What it makes of the stores in flight.
+pub record FlightsBecome (y : CoreState) (h : History) (event : Event) : Type 0 where
+  pub first : LandsFirst h event
+  pub one : SendsToOne h event
+  pub flights : (v : ℕ) → flight_of y.world v ≡ map (flying_of v) (flight (event ∷ h) v)
+
+pub flights_stay : (x y : CoreState) (h : History) (event : Event) → IsStill h event → y.world.flights ≡ x.world.flights → CoreStands x h → FlightsBecome y h event
+flights_stay x y h event still same stands = record {
+  first = still.first;
+  one = still.one;
+  flights = λ v. ap (λ flights. get_or flights v []) same ∙ stands.flights v ∙ ap (map (flying_of v)) (sym (still.flights v));
+}
+
+pub stands_after : (x y : CoreState) (h : History) (event : Event) → Becomes x y h event → FlightsBecome y h event → CoreStands x h → CoreStands y (event ∷ h)
+stands_after x y h event b flights stands =
     let n : greatest_identity_of h ≡ greatest_identity_of (event ∷ h) = sym (same_n _ _ b.machine) in
     let harts : harts_of h ≡ harts_of (event ∷ h) = sym (ap (λ (o : Option Shape). option_map_or (λ (m : Shape). m.harts) o 0) b.machine) in
     let guests : guests_of h ≡ guests_of (event ∷ h) = sym (ap (λ (o : Option Shape). option_map_or (λ (m : Shape). m.guests) o 0) b.machine) in
@@ -122,6 +170,9 @@ stands_after x y h event b stands =
       vms = b.vms;
       notices = b.count ∙ ap (count_after (noticed h event)) stands.notices ∙ counted_more (noticed h event) (notices_sent h) ∙ ap (λ count. min count (2 ^ 64 - 1)) (sym (notices_step event h));
       host = λ f inside. let was = there_too y.world.imsic x.world.imsic f same_harts inside in host_more x y h event f (b.host f was) (stands.host f was);
+      flights = flights.flights;
+      may_fly = flights_on h event flights.first stands.may_fly;
+      for_one = sent_on h event flights.one stands.for_one;
       records = b.records;
       vcpus = b.vcpus;
       lease_harts = b.lease_harts ∙ stands.lease_harts ∙ harts;
@@ -186,6 +237,10 @@ no_stage_at (suc n) (suc p) = no_stage_at n p
 parked_at_first : (event : Event) (g : Vcpu) → moved [] (home []) event g ≡ Parked → home (event ∷ []) g ≡ Parked
 parked_at_first event g e = home_step event [] g ∙ e
 
+none_flying : (harts guests n sources v : ℕ) → flight (Accepted (Machine harts guests n sources) ∷ []) v ≡ []
+unfolding flight
+none_flying harts guests n sources v = refl
+
 home_nowhere : (g : Vcpu) → home [] g ≡ Parked
 unfolding home
 home_nowhere g = refl
@@ -206,6 +261,9 @@ begun x harts guests n sources new leases vcpus selects =
       vms = ap (λ (w : World). w.vms) new.world;
       notices = ap (λ (w : World). w.notices) new.world ∙ sym (ap (λ count. min count (2 ^ 64 - 1)) (notices_step event [] ∙ none_sent));
       host = λ f inside. record { file = same_file _ _ (new.files.each (host_spot f) inside) ∙ sym (file_step event [] f); select = no_selects x f selects ∙ sym (select_step event [] f) };
+      flights = λ v. ap (λ (w : World). flight_of w v) new.world ∙ ap (map (flying_of v)) (sym (none_flying harts guests n sources v));
+      may_fly = flights_on [] event tt none_flies;
+      for_one = sent_on [] event tt none_for_one;
       records = ap (λ (rs : List VcpuRecord). length rs) vcpus;
       vcpus = λ g inside. absurd (nobody g inside);
       lease_harts = ap (λ (l : Leases). l.harts) leases;

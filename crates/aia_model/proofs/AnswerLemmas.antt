@@ -1,5 +1,5 @@
 -- Answers and histories by the refusal of a line.
-use Rattle.std.proofs.Common.{◌≡◌, ℕ, ◌%◌, Bool, true, false, ◌&&◌, not, cond, nat_eq, nat_lt, is_none, Option, Some, None, unwrap_or, refl, sym, ap, ◌∙◌}
+use Rattle.std.proofs.Common.{◌≡◌, ℕ, ◌%◌, Bool, true, false, ◌&&◌, not, cond, nat_eq, nat_lt, nat_le, length, is_none, Option, Some, None, unwrap_or, refl, sym, ap, ◌∙◌}
 use Rattle.std.proofs.lemmas.Bool.{cond-true}
 use Rattle.std.specs.Option.{option_map}
 use Rattle.std.specs.Int.{is_in_range}
@@ -8,7 +8,9 @@ use Rattle.aia_regs.specs.declared.access.Op.{Op}
 use Rattle.aia_regs.specs.declared.access.Level.TheVariants as levels
 use Rattle.aia_csr.specs.Access.{access_of}
 use Rattle.aia_model.specs.declared.line.Line.{Line}
-use Rattle.aia_model.specs.declared.line.Line.TheVariants.{Machine, Wire, Load, Store, MachineCsr, HostCsr, Hgeip, Pins, GuestCsr, Ipi, Arrive, Leave, Shift, BeginArrive, BeginLeave, BeginShift, Step, Inject, Hvictl, Hviprio}
+use Rattle.aia_model.specs.declared.line.Line.TheVariants.{Machine, Wire, Load, Store, Send, Land, Refetch, MachineCsr, HostCsr, Hgeip, Pins, GuestCsr, Ipi, Arrive, Leave, Shift, BeginArrive, BeginLeave, BeginShift, Step, Inject, Hvictl, Hviprio}
+use Rattle.aia_regs.specs.declared.limits.TheConstants.{STORES_IN_FLIGHT}
+use Rattle.aia_model.specs.Flight.{flight}
 use Rattle.aia_model.specs.declared.line.Line.TheVariants as lines
 use Rattle.aia_imsic.specs.declared.spot.Spot.{Spot}
 use Rattle.aia_model.specs.declared.answer.Answer.{Answer}
@@ -93,6 +95,17 @@ pub msi_refusal : (h : History) (vm addr value : ℕ) → has_machine h ≡ true
     → refusal h (lines.Msi vm addr value) ≡ cond (not (has_vm h vm)) (Some (Refused Range)) (cond (not (nat_eq (addr % 4) 0)) (Some (Refused Fault))
     (cond (not (is_msi_address (mask_of h vm) addr)) (Some (Refused Other)) (cond (not (has_vcpu h (named_by h vm addr))) (Some (Refused NotValid)) None)))
 msi_refusal h vm addr value there = past_machine h _ there
+
+pub send_refusal : (h : History) (vm addr value : ℕ) → has_machine h ≡ true
+    → refusal h (Send vm addr value) ≡ cond (not (has_vm h vm)) (Some (Refused Range)) (cond (nat_le STORES_IN_FLIGHT (length (flight h vm))) (Some (Refused Full)) (cond (not (nat_eq (addr % 4) 0)) (Some (Refused Fault))
+    (cond (not (is_msi_address (mask_of h vm) addr)) (Some (Refused Other)) (cond (not (has_vcpu h (named_by h vm addr))) (Some (Refused NotValid)) None))))
+send_refusal h vm addr value there = past_machine h _ there
+
+pub land_refusal : (h : History) (vm k : ℕ) → has_machine h ≡ true → refusal h (Land vm k) ≡ cond (not (nat_lt k (length (flight h vm)))) (Some (Refused Range)) None
+land_refusal h vm k there = past_machine h _ there
+
+pub refetch_refusal : (h : History) (vm number : ℕ) → has_machine h ≡ true → refusal h (Refetch vm number) ≡ cond (not (has_vcpu h (vcpu vm number))) (Some (Refused Range)) None
+refetch_refusal h vm number there = past_machine h _ there
 
 pub entry_refusal : (h : History) (w0 w1 : ℕ) → has_machine h ≡ true → refusal h (lines.Entry w0 w1) ≡ None
 entry_refusal h w0 w1 there = past_machine h _ there

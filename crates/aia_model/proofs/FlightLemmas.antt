@@ -142,9 +142,9 @@ sent_on past (Began move) one all vm = ones_on (Began move) past vm (all vm)
 sent_on past (Stepped x) one all vm = ones_on (Stepped x) past vm (all vm)
 sent_on past (Delivered msi) one all vm = ones_on (Delivered msi) past vm (all vm)
 
-pub none_sent : AllAreForOne []
+pub none_for_one : AllAreForOne []
 unfolding flight
-none_sent vm = tt
+none_for_one vm = tt
 
 -- ---- before a fence all land
 

@@ -130,6 +130,7 @@ fn push_msi(out: &mut ArrayVec<u8, LINE_BYTES>, vm: u64, addr: u64, value: u32)
 }
 
 /// Appends the printing spelling of a `send` line to `out`, which is empty.
+#[tactic(auto, unfolding(aia_model::specs::Printing::line_text))]
 fn push_send(out: &mut ArrayVec<u8, LINE_BYTES>, vm: u64, addr: u64, value: u32)
     requires { out.old.items ≡ [] }
     ensures { out.new.items ≡ line_text (Line.Send vm addr value) }
