@@ -5,4 +5,5 @@ pub mod MadeView
 pub mod TouchLemmas
 pub mod MoveKept
 pub mod MachineLemmas
+pub mod LandingLemmas
 pub mod KnowsLemmas

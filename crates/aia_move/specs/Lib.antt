@@ -2,5 +2,6 @@ pub mod Move
 pub mod Load
 pub mod Turns
 pub mod Touches
+pub mod Landings
 pub mod Plan
 pub mod Knows

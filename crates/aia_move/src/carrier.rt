@@ -7,9 +7,10 @@ ghost use Rattle.aia_home.specs.declared.place.Place.{Place};
 ghost use Rattle.aia_home.specs.Plans.{leave_steps};
 ghost use Rattle.aia_home.specs.BySteps.{new_file};
 ghost use Rattle.aia_home.specs.Plans.Access.{TakeDelivery, PutDelivery, WriteNotice, WriteEntry, Fence, WriteStage, FenceStage, TakePending, PutPending, TakeEnables, PutEnables, Look, TakeThreshold, PutThreshold};
+ghost use Rattle.aia_fabric.specs.Flights.{Fences};
 ghost use Rattle.aia_fabric.specs.Changes.{IsPlaceThere, spot_of, words_at};
 ghost use Rattle.aia_move.specs.Move.{Moving, IsWho, Makes, PostsIf, old_at, new_at, old_spot, new_spot, width};
-ghost use Rattle.aia_move.specs.Load.{Does, load_of, closing_access, pending_access, enables_access};
+ghost use Rattle.aia_move.specs.Load.{Does, load_of, one_done, closing_access, pending_access, enables_access};
 
 use crate::{Who, words};
 use aia_fabric::{At, Fabric};
@@ -161,12 +162,12 @@ impl Carrier {
         self.done += 1;
     }
 
-    /// Puts the entry in force.
+    /// Lands all stores in flight of the VM, then puts the entry in force.
     pub fn fence(&mut self, fabric: &mut Fabric)
         requires who { IsWho fabric.old self.old.who }
         requires more { self.old.steps < leave_steps 32 }
-        ensures { (m : Moving) → load_of m ≡ self.old
-            → Does Fence m fabric.old fabric.new self.new }
+        ensures fences { Fences fabric.old fabric.new self.old.who.vm self.old.who.vcpu }
+        ensures load { self.new ≡ one_done self.old self.old.hand }
     {
         fabric.fence(self.who.vm, self.who.vcpu);
         self.done += 1;

@@ -6,6 +6,7 @@ ghost use Rattle.aia_home.specs.Plans.Access.{TakeThreshold, Post};
 ghost use Rattle.aia_home.specs.Phases.Phase.{FirstPhase, ClosingPhase, LookPhase, LastPhase};
 ghost use Rattle.aia_home.specs.BySteps.{is_leaving};
 ghost use Rattle.aia_move.specs.Move.{Fits, Ends, old_spot, width};
+ghost use Rattle.aia_move.specs.Landings.{OnceLanded};
 ghost use Rattle.aia_move.specs.Turns.{IsIn, GoesOn, EndsAs, GivesBack, MatchTurn};
 
 use crate::carrier::Carrier;
@@ -39,13 +40,13 @@ impl Leave<First> {
     }
 
     /// Takes eidelivery, writes both words of the entry, so that it leads to the slot, and puts it
-    /// in force. Why here: the file is silent before anything moves, and word 1 says where notices
+    /// in force, once all stores in flight of the VM have landed. Why here: the file is silent before anything moves, and word 1 says where notices
     /// go before word 0 leads to the slot; it has said so from the VM's making on.
     pub fn step(mut self, fabric: &mut Fabric) -> Turn<Self, Leave<Closing>>
         requires fits { Fits fabric.old self }
         requires phase { IsIn FirstPhase (width fabric.old) self }
-        ensures goes { MatchTurn result (GoesOn fabric.old self fabric.new)
-            (GoesOn fabric.old self fabric.new) }
+        ensures goes { OnceLanded fabric.old self (λ landed. MatchTurn result
+            (GoesOn landed self fabric.new) (GoesOn landed self fabric.new)) }
         ensures phase { MatchTurn result (IsIn FirstPhase (width fabric.new))
             (IsIn ClosingPhase (width fabric.new)) }
     {
@@ -100,7 +101,8 @@ impl<P> Leave<P> {
     fn begin(&mut self, fabric: &mut Fabric)
         requires fits { Fits fabric.old self.old }
         requires phase { IsIn FirstPhase (width fabric.old) self.old }
-        ensures { GoesOn fabric.old self.old fabric.new self.new }
+        ensures { OnceLanded fabric.old self.old
+            (λ landed. GoesOn landed self.old fabric.new self.new) }
     {
         let _words = fabric.words();
         let spot = self.spot();

@@ -6,6 +6,7 @@ ghost use Rattle.aia_places.specs.Stores.{AreApart};
 ghost use Rattle.aia_fabric.specs.World.{World};
 ghost use Rattle.aia_fabric.specs.Changes.{spot_of};
 ghost use Rattle.aia_move.specs.Move.{IsWho, Fits, Goes, width};
+ghost use Rattle.aia_move.specs.Landings.{OnceLanded};
 ghost use Rattle.aia_move.specs.Turns.{EndsAs, LeavesEmpty};
 ghost use Rattle.aia_move.specs.Plan.{moving_of, IsInPhase, MatchNext};
 
@@ -118,14 +119,15 @@ impl Plan {
         Plan::ShiftFirst(Shift::new(old, new, who))
     }
 
-    /// Makes the next access of the plan. `Finished` exactly at the last one: the guest file that
-    /// the move leaves, where it leaves one, is then empty.
+    /// Makes the next access of the plan; before that of the entry's fence all stores in flight of
+    /// the VM land, the oldest first. `Finished` exactly at the last one: the guest file that the
+    /// move leaves, where it leaves one, is then empty.
     pub fn step(self, fabric: &mut Fabric) -> Next
         requires fits { Fits fabric.old (moving_of self) }
         requires phase { IsInPhase (width fabric.old) self }
-        ensures goes { MatchNext result
-            (λ p. Goes fabric.old (moving_of self) fabric.new (moving_of p))
-            (λ o. EndsAs fabric.old (moving_of self) fabric.new o) }
+        ensures goes { OnceLanded fabric.old (moving_of self) (λ landed. MatchNext result
+            (λ p. Goes landed (moving_of self) fabric.new (moving_of p))
+            (λ o. EndsAs landed (moving_of self) fabric.new o)) }
         ensures fits { MatchNext result (λ p. Fits fabric.new (moving_of p)) (λ o. ⊤) }
         ensures phase { MatchNext result (λ p. IsInPhase (width fabric.new) p) (λ o. ⊤) }
         ensures empty { AreApart (moving_of self).home → MatchNext result (λ p. ⊤)
@@ -139,9 +141,9 @@ impl Plan {
     fn next(self, fabric: &mut Fabric) -> Next
         requires fits { Fits fabric.old (moving_of self) }
         requires phase { IsInPhase (width fabric.old) self }
-        ensures goes { MatchNext result
-            (λ p. Goes fabric.old (moving_of self) fabric.new (moving_of p))
-            (λ o. EndsAs fabric.old (moving_of self) fabric.new o) }
+        ensures goes { OnceLanded fabric.old (moving_of self) (λ landed. MatchNext result
+            (λ p. Goes landed (moving_of self) fabric.new (moving_of p))
+            (λ o. EndsAs landed (moving_of self) fabric.new o)) }
         ensures fits { MatchNext result (λ p. Fits fabric.new (moving_of p)) (λ o. ⊤) }
         ensures phase { MatchNext result (λ p. IsInPhase (width fabric.new) p) (λ o. ⊤) }
     {

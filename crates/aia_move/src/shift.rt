@@ -5,6 +5,7 @@ ghost use Rattle.aia_home.specs.Plans.{shift_step, steps_done};
 ghost use Rattle.aia_home.specs.Plans.Access.{TakeThreshold, PutDelivery};
 ghost use Rattle.aia_home.specs.Phases.Phase.{FirstPhase, ClosingPhase, LastPhase};
 ghost use Rattle.aia_move.specs.Move.{Fits, Ends, old_spot, new_spot, width};
+ghost use Rattle.aia_move.specs.Landings.{OnceLanded};
 ghost use Rattle.aia_move.specs.Turns.{IsBetween, IsIn, GoesOn, EndsAs, GivesBack, MatchTurn};
 
 use crate::carrier::Carrier;
@@ -43,8 +44,8 @@ impl Shift<First> {
     pub fn step(mut self, fabric: &mut Fabric) -> Turn<Self, Shift<Closing>>
         requires fits { Fits fabric.old self }
         requires phase { IsIn FirstPhase (width fabric.old) self }
-        ensures goes { MatchTurn result (GoesOn fabric.old self fabric.new)
-            (GoesOn fabric.old self fabric.new) }
+        ensures goes { OnceLanded fabric.old self (λ landed. MatchTurn result
+            (GoesOn landed self fabric.new) (GoesOn landed self fabric.new)) }
         ensures phase { MatchTurn result (IsIn FirstPhase (width fabric.new))
             (IsIn ClosingPhase (width fabric.new)) }
     {
@@ -82,7 +83,8 @@ impl<P> Shift<P> {
     fn begin(&mut self, fabric: &mut Fabric)
         requires fits { Fits fabric.old self.old }
         requires phase { IsIn FirstPhase (width fabric.old) self.old }
-        ensures { GoesOn fabric.old self.old fabric.new self.new }
+        ensures { OnceLanded fabric.old self.old
+            (λ landed. GoesOn landed self.old fabric.new self.new) }
     {
         let _words = fabric.words();
         let old = self.old_spot();
