@@ -13,6 +13,7 @@ pub mod MajorLemmas
 pub mod DeviceLemmas
 pub mod VmLines
 pub mod MoveChanges
+pub mod LandingLemmas
 pub mod LeaseLemmas
 pub mod MoveBegins
 pub mod BeginLines
@@ -28,4 +29,4 @@ pub mod MoveWhole
 pub mod MoveLines
 pub mod ExampleLemmas
 pub mod OwnStores
-pub mod LandingLemmas
+pub mod RefetchLemmas

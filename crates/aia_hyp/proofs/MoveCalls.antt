@@ -17,12 +17,13 @@ use Rattle.aia_home.proofs.AllLemmas.{any_vcpu}
 use Rattle.aia_places.specs.Holds.{Hand}
 use Rattle.aia_fabric.specs.World.{World}
 use Rattle.aia_fabric.specs.Whole.{IsWhole}
+use Rattle.aia_fabric.proofs.WholeLemmas.{vcpu_entry}
 use Rattle.aia_move.specs.declared.who.Who.{Who}
 use Rattle.aia_move.specs.declared.plan.Plan.{Plan}
 use Rattle.aia_move.specs.declared.plan.Next.{Next}
 use Rattle.aia_move.specs.declared.plan.Next.TheVariants.{Again, Finished}
 use Rattle.aia_move.specs.declared.turn.Outcome.{Outcome}
-use Rattle.aia_move.specs.Move.{width, Fits, Goes, IsWho}
+use Rattle.aia_move.specs.Move.{Moving, mover, width, Fits, MakesNext, Goes, IsWho}
 use Rattle.aia_move.specs.Plan.{moving_of, IsInPhase, MatchNext}
 use Rattle.aia_move.specs.Turns.{EndsAs}
 use Rattle.aia_model.specs.declared.answer.Answer.{Answer}
@@ -35,7 +36,13 @@ use Rattle.aia_hyp.specs.declared.vcpu.Stay.{Stay}
 use Rattle.aia_hyp.specs.declared.vcpu.Stay.TheVariants as stays
 use Rattle.aia_hyp.specs.declared.vcpu.VcpuRecord.{VcpuRecord}
 use Rattle.aia_hyp.specs.Core.{CoreState, no_record, record_of, home_in}
-use Rattle.aia_hyp.specs.Moves.{MakesOne, WantBegins, MoveBegins, stay_after, back_of, with_back, IsOutThere, stay_then, back_then, is_finished, steps_left, left_in, MoveGoes}
+use Rattle.aia_model.specs.Answer.{landed_first, step_taken}
+use Rattle.aia_model.proofs.HistoryLemmas.{first_happens, step_happens}
+use Rattle.aia_model.proofs.FlightLemmas.{lands_first, words_first, same_first, home_landed_first}
+use Rattle.aia_move.specs.Landings.{OnceLanded}
+use Rattle.aia_move.specs.Landings as moves
+use Rattle.aia_hyp.proofs.LandingLemmas.{once_landed, first_stands}
+use Rattle.aia_hyp.specs.Moves.{WantBegins, MoveBegins, stay_after, back_of, with_back, IsOutThere, stay_then, back_then, is_finished, steps_left, left_in, MoveGoes}
 use Rattle.aia_hyp.specs.Stands.{PlanStands, CoreStands, StandsForSome}
 use Rattle.aia_hyp.proofs.LeaseLemmas.{in_pool}
 use Rattle.aia_hyp.proofs.MoveSteps as steps
@@ -122,10 +129,23 @@ plan_known x who plan some is was =
     let planned : PlanStands x.world g (stays.Moving plan) = subst (PlanStands x.world g) (sym at) (some.stands.vcpus g inside).plan in
     (planned.0, planned.1)
 
--- What a step's calls say.
+-- One access of a move is made, whatever the move then carries.
+abbrev pub OneMade : World → Moving → World → Type 0
+OneMade w m u = (hand : Hand) × MakesNext w m u hand
+
+-- A step of the move of a virtual hart is done, once what lands before it has landed; whether it was
+-- the last one.
+pub record AccessGoes (old new : CoreState) (g : Vcpu) (last : Bool) : Type 0 where
+  pub stands : (h : History) → LandsFirst h (Stepped g) → CoreStands old h → CoreStands new (Stepped g ∷ h)
+  pub at_last : (h : History) → LandsFirst h (Stepped g) → CoreStands old h → last ≡ is_at_last (file_words h) (home h g)
+  pub moving : last ≡ false → is_moving (home_in (record_of new g).stay) ≡ true
+  pub fewer : last ≡ false → left_in new g < left_in old g
+  pub makes : (plan : Plan) → (record_of old g).stay ≡ stays.Moving plan → OneMade old.world (moving_of plan) new.world
+
+-- What a step's calls say, once what lands before it has landed.
 pub record Made (x y : CoreState) (who : Who) (plan : Plan) (next : Next) : Type 0 where
   pub swapped : Swapped x y who (stays.Moving plan) (stay_then next)
-  pub clear : (h : History) → CoreStands x h → LandsFirst h (Stepped (vcpu who.vm who.vcpu))
+  pub first : LandsFirst swapped.some.past (Stepped (vcpu who.vm who.vcpu))
   pub whole : IsWhole x.world
   pub whole_then : IsWhole y.world
   pub leases : y.leases ≡ with_back (back_then next) x.leases
@@ -143,10 +163,10 @@ module _ (x y : CoreState) (who : Who) (plan : Plan) where
   its_there : (h : History) → CoreStands x h → IsWho x.world who → has_vcpu h (vcpu who.vm who.vcpu) ≡ true
   its_there h stands is = subst (λ (vs : List Vm). is_vcpu_in vs its ≡ true) stands.vms is.there
 
-  goes_on : (later : Plan) (h : History) → CoreStands x h → Made x y who plan (Again later) → GoesOf x y h (vcpu who.vm who.vcpu) plan later (its_record (stays.Moving later))
-  goes_on later h stands c = record {
+  goes_on : (later : Plan) (h : History) → LandsFirst h (Stepped (vcpu who.vm who.vcpu)) → CoreStands x h → Made x y who plan (Again later) → GoesOf x y h (vcpu who.vm who.vcpu) plan later (its_record (stays.Moving later))
+  goes_on later h first stands c = record {
     step_of = record {
-      first = c.clear h stands;
+      first = first;
       stands = stands;
       whole = c.whole;
       there = its_there h stands c.swapped.is_who;
@@ -164,10 +184,10 @@ module _ (x y : CoreState) (who : Who) (plan : Plan) where
     phase = c.phase;
   }
 
-  ends_it : (o : Outcome) (h : History) → CoreStands x h → Made x y who plan (Finished o) → EndsOf x y h (vcpu who.vm who.vcpu) plan o (its_record (stay_after o))
-  ends_it o h stands c = record {
+  ends_it : (o : Outcome) (h : History) → LandsFirst h (Stepped (vcpu who.vm who.vcpu)) → CoreStands x h → Made x y who plan (Finished o) → EndsOf x y h (vcpu who.vm who.vcpu) plan o (its_record (stay_after o))
+  ends_it o h first stands c = record {
     step_of = record {
-      first = c.clear h stands;
+      first = first;
       stands = stands;
       whole = c.whole;
       there = its_there h stands c.swapped.is_who;
@@ -188,32 +208,97 @@ module _ (x y : CoreState) (who : Who) (plan : Plan) where
   at_last_by h r hand b s e = sym e ∙ (λ k. is_at_last (steps.same_words x y h its plan r hand s k) (steps.same_home x y h its plan r hand s k))
 
   -- the plan of its record is the one that was taken out of it
-  same_plan : (other : Plan) → stays.Moving plan ≡ stays.Moving other → MakesOne x.world (moving_of plan) y.world → MakesOne x.world (moving_of other) y.world
-  same_plan other e one = let same : plan ≡ other = cc in subst (λ (p : Plan). MakesOne x.world (moving_of p) y.world) same one
+  same_plan : (other : Plan) → stays.Moving plan ≡ stays.Moving other → OneMade x.world (moving_of plan) y.world → OneMade x.world (moving_of other) y.world
+  same_plan other e one = let same : plan ≡ other = cc in subst (λ (p : Plan). OneMade x.world (moving_of p) y.world) same one
 
-  pub step_goes : (next : Next) → Made x y who plan next → MoveGoes x y (vcpu who.vm who.vcpu) (is_finished next)
+  pub step_goes : (next : Next) → Made x y who plan next → AccessGoes x y (vcpu who.vm who.vcpu) (is_finished next)
   step_goes (Again later) c =
       let some = c.swapped.some in
-      let now = goes_on later some.past some.stands c in
+      let now = goes_on later some.past c.first some.stands c in
       let kept : record_of y its ≡ its_record (stays.Moving later) = steps.step_record x y some.past its plan (its_record (stays.Moving later)) (moving_of later).hand now.step_of in
       let was : (record_of x its).stay ≡ stays.Moving plan = now.step_of.was in
       let machine = steps.machine x y some.past its plan (its_record (stays.Moving later)) (moving_of later).hand now.step_of in
       let same : left_in y its ≡ steps_left (width x.world) (one_more (moving_of plan).home) = (λ k. steps_left ((machine.n k + 1) / 64) (home_in (kept k).stay)) ∙ ap (steps_left (width x.world)) c.goes.home in
       let less = left_fewer (width x.world) (moving_of plan).home c.goes.step.access c.goes.step.is_next in
       record {
-        stands = λ h stands. goes_stands x y h its plan later (its_record (stays.Moving later)) (goes_on later h stands c);
-        at_last = λ h stands. at_last_by h (its_record (stays.Moving later)) (moving_of later).hand false (goes_on later h stands c).step_of c.goes.more;
+        stands = λ h first stands. goes_stands x y h its plan later (its_record (stays.Moving later)) (goes_on later h first stands c);
+        at_last = λ h first stands. at_last_by h (its_record (stays.Moving later)) (moving_of later).hand false (goes_on later h first stands c).step_of c.goes.more;
         moving = λ e. ap (λ (r : VcpuRecord). is_moving (home_in r.stay)) kept ∙ later_moving x y some.past its plan later (its_record (stays.Moving later)) now;
         makes = λ other e. same_plan other (sym was ∙ e) ((moving_of later).hand, c.goes.step);
         fewer = λ e. subst (λ n. n < left_in x its) (sym same) (subst (λ s. steps_left (width x.world) (one_more (moving_of plan).home) < steps_left (width x.world) (home_in s)) (sym was) less);
       }
   step_goes (Finished o) c = record {
-    stands = λ h stands. ends_stands x y h its plan o (its_record (stay_after o)) (ends_it o h stands c);
-    at_last = λ h stands. at_last_by h (its_record (stay_after o)) (moving_of plan).hand true (ends_it o h stands c).step_of c.goes.ends.last;
+    stands = λ h first stands. ends_stands x y h its plan o (its_record (stay_after o)) (ends_it o h first stands c);
+    at_last = λ h first stands. at_last_by h (its_record (stay_after o)) (moving_of plan).hand true (ends_it o h first stands c).step_of c.goes.ends.last;
     moving = λ e. absurd (true≢false e);
     fewer = λ e. absurd (true≢false e);
-    makes = λ other e. same_plan other (sym (ends_it o c.swapped.some.past c.swapped.some.stands c).step_of.was ∙ e) ((moving_of plan).hand, c.goes.ends.step);
+    makes = λ other e. same_plan other (sym (ends_it o c.swapped.some.past c.first c.swapped.some.stands c).step_of.was ∙ e) ((moving_of plan).hand, c.goes.ends.step);
   }
+
+-- ---- before that, what lands first
+
+-- the plan of a virtual hart that is there is its own, and is where the history has it
+its_own : (x : CoreState) (h : History) (g : Vcpu) (plan : Plan) → CoreStands x h → has_vcpu h g ≡ true → (record_of x g).stay ≡ stays.Moving plan → (mover (moving_of plan) ≡ g) × ((moving_of plan).home ≡ home h g)
+its_own x h g plan stands there was =
+    let stood = stands.vcpus g there in
+    let planned : PlanStands x.world g (stays.Moving plan) = subst (PlanStands x.world g) was stood.plan in
+    (planned.2, sym (ap home_in was) ∙ stood.same_home)
+
+-- What stands before the calls of a step: whose plan it is, and what lands first.
+pub record IsFirst (x : CoreState) (landed : World) (who : Who) (plan : Plan) : Type 0 where
+  pub is_who : IsWho x.world who
+  pub was : (record_of x (vcpu who.vm who.vcpu)).stay ≡ stays.Moving plan
+  pub low : who.vm < length x.world.vms
+  pub first : moves.LandsFirst x.world (moving_of plan) landed
+
+pub vm_low : (x : CoreState) (who : Who) → IsWhole x.world → IsWho x.world who → who.vm < length x.world.vms
+vm_low x who whole is = (vcpu_entry x.world who.vm who.vcpu whole is.there).0
+
+pub landed_stands : (x : CoreState) (landed : World) (who : Who) (plan : Plan) → IsFirst x landed who plan → (h : History) → CoreStands x h → CoreStands (once_landed x landed) (landed_first (vcpu who.vm who.vcpu) h)
+landed_stands x landed who plan c h stands =
+    let g = vcpu who.vm who.vcpu in
+    let there : has_vcpu h g ≡ true = subst (λ (vs : List Vm). is_vcpu_in vs g ≡ true) stands.vms c.is_who.there in
+    let own = its_own x h g plan stands there c.was in
+    let low : (moving_of plan).who.vm < length x.world.vms = subst (λ (z : Vcpu). z.vm < length x.world.vms) (sym own.0) c.low in
+    subst (λ (z : Vcpu). CoreStands (once_landed x landed) (landed_first z h)) own.0
+    (first_stands x landed (moving_of plan) h low (own.1 ∙ ap (home h) (sym own.0)) c.first stands)
+
+pub landed_some : (x : CoreState) (landed : World) (who : Who) (plan : Plan) → IsFirst x landed who plan → StandsForSome x → StandsForSome (once_landed x landed)
+landed_some x landed who plan c some = record {
+  past = landed_first (vcpu who.vm who.vcpu) some.past;
+  happens = first_happens (vcpu who.vm who.vcpu) some.past some.happens;
+  stands = landed_stands x landed who plan c some.past some.stands;
+}
+
+pub landed_who : (x : CoreState) (landed : World) (who : Who) (plan : Plan) → IsFirst x landed who plan → IsWho landed who
+landed_who x landed who plan c =
+    let vms = c.first.same.vms in
+    record {
+      there = subst (λ (vs : List Vm). is_vcpu_in vs (vcpu who.vm who.vcpu) ≡ true) (sym vms) c.is_who.there;
+      slot = c.is_who.slot ∙ ap (λ vs. slot_of vs (vcpu who.vm who.vcpu)) (sym vms);
+      notice = c.is_who.notice ∙ ap (λ vs. notice_hart vs (vcpu who.vm who.vcpu)) (sym vms);
+    }
+
+pub landed_goes : (x : CoreState) (landed : World) (y : CoreState) (who : Who) (plan : Plan) (last : Bool) → IsFirst x landed who plan → AccessGoes (once_landed x landed) y (vcpu who.vm who.vcpu) last → MoveGoes x y (vcpu who.vm who.vcpu) last
+landed_goes x landed y who plan last c a =
+    let g = vcpu who.vm who.vcpu in
+    let same : record_of (once_landed x landed) g ≡ record_of x g = ap (λ vs. get_or x.vcpus (slot_of vs g) no_record) c.first.same.vms in
+    let left : left_in (once_landed x landed) g ≡ left_in x g = (λ k. steps_left ((c.first.same.n k + 1) / 64) (home_in (same k).stay)) in
+    record {
+      stands = λ h stands. a.stands (landed_first g h) (lands_first g h) (landed_stands x landed who plan c h stands);
+      at_last = λ h stands.
+          a.at_last (landed_first g h) (lands_first g h) (landed_stands x landed who plan c h stands)
+          ∙ ap (λ w. is_at_last w (home (landed_first g h) g)) (words_first g h) ∙ ap (is_at_last (file_words h)) (home_landed_first g g h);
+      moving = a.moving;
+      makes = λ other e.
+          let is : plan ≡ other = let both : stays.Moving plan ≡ stays.Moving other = sym c.was ∙ e in cc in
+          record {
+            landed = landed;
+            first = subst (λ (p : Plan). moves.LandsFirst x.world (moving_of p) landed) is c.first;
+            then = a.makes other (ap (λ (r : VcpuRecord). r.stay) same ∙ e);
+          };
+      fewer = λ e. subst (λ n. left_in y g < n) left (a.fewer e);
+    }
 
 -- it stands for some history still
 pub goes_still : (x y : CoreState) (who : Who) (last : Bool) → MoveGoes x y (vcpu who.vm who.vcpu) last → StandsForSome x → IsWho x.world who
@@ -222,8 +307,8 @@ goes_still x y who last goes some is moving =
     let g = vcpu who.vm who.vcpu in
     let there : has_vcpu some.past g ≡ true = subst (λ (vs : List Vm). is_vcpu_in vs g ≡ true) some.stands.vms is.there in
     record {
-      past = Stepped g ∷ some.past;
-      happens = ((there, ap is_moving (sym (some.stands.vcpus g there).same_home) ∙ moving), some.happens);
+      past = step_taken g some.past;
+      happens = step_happens g some.past there (ap is_moving (sym (some.stands.vcpus g there).same_home) ∙ moving) some.happens;
       stands = goes.stands some.past some.stands;
     }
 
@@ -231,7 +316,7 @@ goes_still x y who last goes some is moving =
 
 -- it is one that is there, and out
 pub back_known : (x : CoreState) (u : World) (who : Who) (plan : Plan) (next : Next) → StandsForSome x → IsWho x.world who → stays.Moving plan ≡ (get_or x.vcpus who.slot no_record).stay
-    → MatchNext next (λ p. Goes x.world (moving_of plan) u (moving_of p)) (λ o. EndsAs x.world (moving_of plan) u o) → IsOutThere x.leases (back_then next)
+    → OnceLanded x.world (moving_of plan) (λ landed. MatchNext next (λ p. Goes landed (moving_of plan) u (moving_of p)) (λ o. EndsAs landed (moving_of plan) u o)) → IsOutThere x.leases (back_then next)
 back_known x u who plan (Again later) some is was c = tt
 back_known x u who plan (Finished o) some is was c = by_file (back_of o) refl
   where
@@ -244,7 +329,7 @@ back_known x u who plan (Finished o) some is was c = by_file (back_of o) refl
     by_file : (back : Option Place) → back_of o ≡ back → IsOutThere x.leases back
     by_file None e = tt
     by_file (Some p) e =
-        let mine : holds p (home some.past (vcpu who.vm who.vcpu)) ≡ true = ap (holds p) (sym same) ∙ ended_held p (moving_of plan).home (sym (ended_back o (moving_of plan).home (moving_of plan).hand c.gives) ∙ e) in
+        let mine : holds p (home some.past (vcpu who.vm who.vcpu)) ≡ true = ap (holds p) (sym same) ∙ ended_held p (moving_of plan).home (sym (ended_back o (moving_of plan).home (moving_of plan).hand c.then.gives) ∙ e) in
         let there = some.stands.held (vcpu who.vm who.vcpu) p inside mine in
         (in_pool x some.past p some.stands there, some.stands.leases p there ∙ any_vcpu (vms_of some.past) (λ z. holds p (home some.past z)) (vcpu who.vm who.vcpu) inside mine)
 
@@ -252,7 +337,7 @@ back_known x u who plan (Finished o) some is was c = by_file (back_of o) refl
 
 pub who_still : (x y : CoreState) (who : Who) (last : Bool) → MoveGoes x y (vcpu who.vm who.vcpu) last → StandsForSome x → IsWho x.world who → IsWho y.world who
 who_still x y who last goes some is =
-    let vms : x.world.vms ≡ y.world.vms = some.stands.vms ∙ sym (goes.stands some.past some.stands).vms in
+    let vms : x.world.vms ≡ y.world.vms = some.stands.vms ∙ sym ((goes.stands some.past some.stands).vms ∙ (same_first (vcpu who.vm who.vcpu) some.past).0) in
     record {
       there = subst (λ (vs : List Vm). is_vcpu_in vs (vcpu who.vm who.vcpu) ≡ true) vms is.there;
       slot = is.slot ∙ ap (λ vs. slot_of vs (vcpu who.vm who.vcpu)) vms;

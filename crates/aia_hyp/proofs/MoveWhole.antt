@@ -1,6 +1,4 @@
 -- A whole move: it begins, and all its steps are done.
-use Rattle.aia_hyp.proofs.LandingLemmas.{LandsFirstTo, step_follows}
-use Rattle.aia_model.proofs.FlightLemmas.{words_first, home_stepped}
 use Rattle.std.proofs.Common.{◌≡◌, ℕ, zero, suc, ◌+◌, Bool, true, false, ◌&&◌, not, cond, nat_eq, List, is_none, ◌∷◌, Option, Some, None, unwrap_or, refl, sym, ap, subst, ◌∙◌, arith}
 use Rattle.std.specs.Option.{option_map_or}
 use Rattle.std.proofs.lemmas.Bool.{cond-true, cond-false, eqb-true, true≢false}
@@ -23,6 +21,7 @@ use Rattle.aia_model.specs.Move.Move.{Arrives, Leaves, Shifts}
 use Rattle.aia_model.specs.Vms.{has_vcpu}
 use Rattle.aia_model.specs.HomeOf.{home, place, free_file}
 use Rattle.aia_model.specs.Refusal.{refusal}
+use Rattle.aia_model.proofs.FlightLemmas.{words_first, home_stepped}
 use Rattle.aia_model.specs.Answer.{answer, steps_taken, steps_of, line_taken, step_taken}
 use Rattle.aia_model.proofs.AnswerLemmas.{answered, arrive_refusal, leave_refusal, shift_refusal}
 use Rattle.aia_model.proofs.MoveLemmas.{home_step, is_itself}
@@ -31,7 +30,6 @@ use Rattle.aia_hyp.specs.declared.moves.Want.TheVariants as wants
 use Rattle.aia_hyp.specs.Core.{CoreState, record_of, home_in}
 use Rattle.aia_hyp.specs.Moves.{move_line, wanted_move, move_begun, MoveBegins, MoveGoes}
 use Rattle.aia_hyp.specs.Stands.{CoreStands, CoreTakes, StandsForSome, line_served}
-use Rattle.aia_hyp.proofs.MoveSteps.{stepped_home}
 
 -- ---- histories
 
@@ -193,8 +191,8 @@ first_step old now who want begins some is =
       under = way;
     }
 
-pub next_step : (old now mid later : CoreState) (who : Who) (want : Want) → SoFar old now who want → LandsFirstTo now mid (vcpu who.vm who.vcpu) → MoveGoes mid later (vcpu who.vm who.vcpu) false → IsWho later.world who → SoFar old later who want
-next_step old now mid later who want so_far lands goes is =
+pub next_step : (old now later : CoreState) (who : Who) (want : Want) → SoFar old now who want → MoveGoes now later (vcpu who.vm who.vcpu) false → IsWho later.world who → SoFar old later who want
+next_step old now later who want so_far goes is =
     let g = vcpu who.vm who.vcpu in
     record {
       is_who = is;
@@ -202,11 +200,11 @@ next_step old now mid later who want so_far lands goes is =
       under = λ h stands.
           let u = so_far.under h stands in
           let past = steps_taken u.steps g (Began (wanted_move g want) ∷ h) in
-          let more : home (step_taken g past) g ≡ one_more (home past g) = home_stepped g past ∙ cond-false _ _ _ (sym (step_follows now mid later g false lands goes past u.stands).1) in
+          let more : home (step_taken g past) g ≡ one_more (home past g) = home_stepped g past ∙ cond-false _ _ _ (sym (goes.at_last past u.stands)) in
           record {
             accepted = u.accepted;
             steps = suc u.steps;
-            stands = subst (CoreStands later) (sym (one_step_more u.steps g (Began (wanted_move g want) ∷ h))) (step_follows now mid later g false lands goes past u.stands).0;
+            stands = subst (CoreStands later) (sym (one_step_more u.steps g (Began (wanted_move g want) ∷ h))) (goes.stands past u.stands);
             is_at = subst (λ (x : History). IsAt (wanted_move g want) (suc u.steps) (home x g)) (sym (one_step_more u.steps g (Began (wanted_move g want) ∷ h)))
                 (subst (IsAt (wanted_move g want) (suc u.steps)) (sym more) (next_at (wanted_move g want) u.steps (home past g) u.is_at));
           };
@@ -219,8 +217,8 @@ whole_line h vm number wants.Leave = refl
 whole_line h vm number (wants.Arrive hart) = refl
 whole_line h vm number (wants.Shift hart) = refl
 
-pub all_steps : (old now mid later : CoreState) (who : Who) (want : Want) → SoFar old now who want → LandsFirstTo now mid (vcpu who.vm who.vcpu) → MoveGoes mid later (vcpu who.vm who.vcpu) true → CoreTakes old later (move_line who.vm who.vcpu want) Okay
-all_steps old now mid later who want so_far lands goes =
+pub all_steps : (old now later : CoreState) (who : Who) (want : Want) → SoFar old now who want → MoveGoes now later (vcpu who.vm who.vcpu) true → CoreTakes old later (move_line who.vm who.vcpu want) Okay
+all_steps old now later who want so_far goes =
     let g = vcpu who.vm who.vcpu in
     let line = move_line who.vm who.vcpu want in
     let move = wanted_move g want in
@@ -230,10 +228,10 @@ all_steps old now mid later who want so_far lands goes =
           let u = so_far.under h stands in
           let past = steps_taken u.steps g (Began move ∷ h) in
           let full : u.steps + 1 ≡ steps_of (file_words h) move =
-          eqb-true _ _ (sym ((step_follows now mid later g true lands goes past u.stands).1 ∙ last_at move u.steps (home past g) (file_words past) u.is_at ∙ ap (λ w. nat_eq (u.steps + 1) (steps_of w move)) (same_width u.steps g (Began move ∷ h)))) in
+          eqb-true _ _ (sym (goes.at_last past u.stands ∙ last_at move u.steps (home past g) (file_words past) u.is_at ∙ ap (λ w. nat_eq (u.steps + 1) (steps_of w move)) (same_width u.steps g (Began move ∷ h)))) in
           let count : suc u.steps ≡ steps_of (file_words h) move = omega (arith, full) in
           let whole : step_taken g past ≡ line_taken h line = sym (one_step_more u.steps g (Began move ∷ h)) ∙ ap (λ n. steps_taken n g (Began move ∷ h)) count ∙ sym (whole_line h who.vm who.vcpu want) in
-          subst (λ (o : Option Answer). CoreStands later (line_served o h line)) (sym u.accepted) (subst (CoreStands later) whole ((step_follows now mid later g true lands goes past u.stands).0));
+          subst (λ (o : Option Answer). CoreStands later (line_served o h line)) (sym u.accepted) (subst (CoreStands later) whole (goes.stands past u.stands));
       unchanged = λ h word stands is. let u = so_far.under h stands in absurd (none-some word (sym u.accepted ∙ is));
     }
 

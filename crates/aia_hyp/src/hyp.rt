@@ -200,9 +200,9 @@ impl Hyp {
         }
     }
 
-    /// Lands an MSI in the file in whose page its address lies, a machine-level or a supervisor
+    /// Delivers an MSI to the file in whose page its address lies, a machine-level or a supervisor
     /// file that is there; elsewhere it is dropped (our profile).
-    pub fn land(&mut self, msi: Msi)
+    pub fn deliver(&mut self, msi: Msi)
         ensures { CoreHears self.old self.new msi }
     {
         let spot = self.fabric.locate(msi.address);
@@ -333,7 +333,7 @@ fn is_from_one(n: u64, most: u64) -> bool
 }
 
 /// Tells what becomes of a store of a device of a VM, by where its address goes.
-fn taken_by(route: Route) -> Result<(), Refusal>
+pub(crate) fn taken_by(route: Route) -> Result<(), Refusal>
     ensures { answer_by (λ _. Okay) result ≡ route_answer route }
 {
     match route {

@@ -2,6 +2,7 @@
 //! and each MSI makes of them.
 #![tactic(auto)]
 
+mod flights;
 mod guest;
 mod hyp;
 pub mod laws;

@@ -66,7 +66,7 @@ landings_happen (suc count) vm h (x ∷ xs) is e good =
     let low : 0 < length (flight h vm) = rw is (omega (arith, e)) in
     landings_happen count vm (Landed vm 0 ∷ h) xs (first_gone vm h x xs is) same (low, good)
 
-first_happens : (g : Vcpu) (h : History) → IsHistory h → IsHistory (landed_first g h)
+pub first_happens : (g : Vcpu) (h : History) → IsHistory h → IsHistory (landed_first g h)
 first_happens g h good = by_fence (is_at_fence (home h g)) refl
   where
     by_fence : (b : Bool) → is_at_fence (home h g) ≡ b → IsHistory (landed_first g h)
@@ -77,7 +77,7 @@ first_happens g h good = by_fence (is_at_fence (home h g)) refl
 there_still : (g x : Vcpu) (h : History) → has_vcpu h x ≡ true → has_vcpu (landed_first g h) x ≡ true
 there_still g x h there = ap (λ vms. is_vcpu_in vms x) (same_first g h).0 ∙ there
 
-step_happens : (g : Vcpu) (h : History) → has_vcpu h g ≡ true → is_moving (home h g) ≡ true → IsHistory h → IsHistory (step_taken g h)
+pub step_happens : (g : Vcpu) (h : History) → has_vcpu h g ≡ true → is_moving (home h g) ≡ true → IsHistory h → IsHistory (step_taken g h)
 step_happens g h there moves good = ((there_still g g h there, ap is_moving (home_landed_first g g h) ∙ moves, lands_first g h), first_happens g h good)
 
 steps_happen : (count : ℕ) (g : Vcpu) (h : History) → has_vcpu h g ≡ true → steps_left (file_words h) (home h g) ≡ count → IsHistory h → IsHistory (steps_taken count g h)

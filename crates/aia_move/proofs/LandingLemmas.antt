@@ -1,5 +1,5 @@
 -- What lands before a step of a move: all stores in flight of its VM at its fence, none elsewhere.
-use Rattle.std.proofs.Common.{◌≡◌, ℕ, ◌+◌, ◌<◌, ◌≤◌, Bool, true, false, length, refl, sym, ap, ◌∙◌, arith}
+use Rattle.std.proofs.Common.{◌≡◌, ℕ, ◌+◌, ◌<◌, ◌≤◌, Bool, true, false, length, refl, sym, ap, subst, ◌∙◌, arith}
 use Rattle.std.proofs.lemmas.Bool.{ne_eqb, false≢true}
 use Rattle.aia_home.specs.Home.{Home, is_moving}
 use Rattle.aia_home.specs.Home.Home.{Parked, Resident, Leaving, Arriving, Shifting}
@@ -9,6 +9,7 @@ use Rattle.aia_home.specs.Phases.{begins}
 use Rattle.aia_home.specs.Phases.Phase.{ClosingPhase}
 use Rattle.aia_home.specs.Routes.{is_at_fence}
 use Rattle.aia_fabric.specs.World.{World, flight_of}
+use Rattle.aia_fabric.specs.Whole.{IsWhole}
 use Rattle.aia_fabric.specs.Flights.{Fences, LandsAll}
 use Rattle.aia_fabric.proofs.FlightLemmas.{all_landed_rest}
 use Rattle.aia_move.specs.Move.{Moving}
@@ -43,6 +44,14 @@ none_first w m other = record {
 
 pub none_lands : (w : World) (m : Moving) (P : World → Type 0) → is_at_fence m.home ≡ false → P w → OnceLanded w m P
 none_lands w m P other then = record { landed = w; first = none_first w m other; then = then }
+
+-- a whole world is whole still
+pub landed_whole : (w : World) (m : Moving) (landed : World) → IsWhole w → LandsFirst w m landed → IsWhole landed
+landed_whole w m landed whole first = by_fence (is_at_fence m.home) refl
+  where
+    by_fence : (b : Bool) → is_at_fence m.home ≡ b → IsWhole landed
+    by_fence true at = (first.fence at).1
+    by_fence false other = subst IsWhole (sym (first.other other)) whole
 
 -- the last step is none
 pub none_at_last : (w : World) (m : Moving) (landed : World) (words : ℕ) → LandsFirst w m landed → is_at_last words m.home ≡ true → landed ≡ w

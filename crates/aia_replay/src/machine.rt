@@ -122,7 +122,7 @@ impl Machine {
         ensures { Delivers self.old self.new }
     {
         while let Some(msi) = self.aplic.next_msi() {
-            self.core.land(msi);
+            self.core.deliver(msi);
         }
     }
 

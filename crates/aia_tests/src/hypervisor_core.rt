@@ -21,16 +21,16 @@ fn the_core_serves_the_files_of_the_host(rt: HostRuntime) -> Result<(), Fail> {
     }
     same!(rt; core.signals(0), Ok((false, false)));
     same!(rt; core.store(0x2800_0000, 5), Ok(()));
-    core.land(Msi {
+    core.deliver(Msi {
         address: 0x2800_0000,
         value: 3,
     });
     // An MSI to a guest's page, and one to no page, are dropped.
-    core.land(Msi {
+    core.deliver(Msi {
         address: 0x2800_1000,
         value: 5,
     });
-    core.land(Msi {
+    core.deliver(Msi {
         address: 0x0c00_0000,
         value: 5,
     });

@@ -6,7 +6,11 @@ use Rattle.aia_move.specs.Move.{IsWho}
 use Rattle.aia_hyp.specs.Core.{CoreState, no_record, record_of, home_in}
 use Rattle.aia_hyp.specs.Moves.{MoveGoes, is_finished}
 use Rattle.aia_hyp.proofs.BeginCore.{at_stay}
-use Rattle.aia_hyp.proofs.MoveCalls.{plan_known, back_known, step_goes, goes_still, who_still}
+use Rattle.aia_move.specs.Plan.{moving_of}
+use Rattle.aia_move.proofs.LandingLemmas.{landed_whole}
+use Rattle.aia_model.proofs.FlightLemmas.{lands_first}
+use Rattle.aia_hyp.proofs.LandingLemmas.{once_landed}
+use Rattle.aia_hyp.proofs.MoveCalls.{IsFirst, vm_low, landed_who, landed_some, landed_goes, plan_known, back_known, step_goes, goes_still, who_still}
 use Rattle.aia_hyp.proofs.hyp.Hyp.step_of.Goals.{After-swap_stay-2}
 use Rattle.aia_hyp.proofs.hyp.Hyp.step_of.Goals as goal
 
@@ -26,26 +30,45 @@ rest_of-new-requires c =
     back_known (record { world = c.self.inside.fabric; leases = c.self.inside.pool; vcpus = c.self.inside.vcpus.items; selects = c.self.inside.selects }) c.step-next.new.fabric c.args.who c.in-Moving.plan c.step-next.result c.self.invariant.0 who
     (sym c.in-Moving.is ∙ c.swap_stay.ensures.before) c.step-next.ensures.goes
 
-goes : (c : After-swap_stay-2) → MoveGoes (record { world = c.self.inside.fabric; leases = c.self.inside.pool; vcpus = c.self.inside.vcpus.items; selects = c.self.inside.selects })
+-- the core before
+abbrev before : After-swap_stay-2 → CoreState
+before c = record { world = c.self.inside.fabric; leases = c.self.inside.pool; vcpus = c.self.inside.vcpus.items; selects = c.self.inside.selects }
+
+is_first : (c : After-swap_stay-2) → IsFirst (before c) c.step-next.ensures.goes.landed c.args.who c.in-Moving.plan
+is_first c =
+    let who = subst (λ (x : CoreState). IsWho x.world c.args.who) (sym c.self.view_is) c.requires.who in
+    record {
+      is_who = who;
+      was = sym (sym c.in-Moving.is ∙ c.swap_stay.ensures.before ∙ ap (λ q. (get_or c.self.inside.vcpus.items q no_record).stay) who.slot);
+      low = vm_low (before c) c.args.who c.words-whole.ensures.whole who;
+      first = c.step-next.ensures.goes.first;
+    }
+
+goes : (c : After-swap_stay-2) → MoveGoes (before c)
     (record { world = c.step-next.new.fabric; leases = c.rest_of-new.new.pool; vcpus = c.swap_stay-2.new.vcpus.items; selects = c.self.inside.selects }) (vcpu c.args.who.vm c.args.who.vcpu) (is_finished c.step-next.result)
-goes c = step_goes _ _ c.args.who c.in-Moving.plan c.step-next.result (record {
-  swapped = record {
-    is_who = subst (λ (x : CoreState). IsWho x.world c.args.who) (sym c.self.view_is) c.requires.who;
-    some = c.self.invariant.0;
-    between = c.swap_stay.new.vcpus.items;
-    other = c.nowhere.result;
-    before = sym c.in-Moving.is ∙ c.swap_stay.ensures.before;
-    out = c.swap_stay.ensures.after;
-    back = c.swap_stay-2.ensures.after ∙ ap (λ s. set c.swap_stay.new.vcpus.items c.args.who.slot (at_stay (get_or c.swap_stay.new.vcpus.items c.args.who.slot no_record) s)) c.rest_of-new.ensures.stay;
-    selects = refl;
-  };
-  whole = c.words-whole.ensures.whole;
-  whole_then = c.words-whole-2.ensures.whole;
-  leases = c.rest_of-new.ensures.back;
-  goes = c.step-next.ensures.goes;
-  fits = c.step-next.ensures.fits;
-  phase = c.step-next.ensures.phase;
-})
+goes c =
+    let landed = c.step-next.ensures.goes.landed in
+    let first = is_first c in
+    landed_goes (before c) landed _ c.args.who c.in-Moving.plan (is_finished c.step-next.result) first
+    (step_goes (once_landed (before c) landed) _ c.args.who c.in-Moving.plan c.step-next.result (record {
+      swapped = record {
+        is_who = landed_who (before c) landed c.args.who c.in-Moving.plan first;
+        some = landed_some (before c) landed c.args.who c.in-Moving.plan first c.self.invariant.0;
+        between = c.swap_stay.new.vcpus.items;
+        other = c.nowhere.result;
+        before = sym c.in-Moving.is ∙ c.swap_stay.ensures.before;
+        out = c.swap_stay.ensures.after;
+        back = c.swap_stay-2.ensures.after ∙ ap (λ s. set c.swap_stay.new.vcpus.items c.args.who.slot (at_stay (get_or c.swap_stay.new.vcpus.items c.args.who.slot no_record) s)) c.rest_of-new.ensures.stay;
+        selects = refl;
+      };
+      first = lands_first (vcpu c.args.who.vm c.args.who.vcpu) c.self.invariant.0.past;
+      whole = landed_whole c.self.inside.fabric (moving_of c.in-Moving.plan) landed c.words-whole.ensures.whole first.first;
+      whole_then = c.words-whole-2.ensures.whole;
+      leases = c.rest_of-new.ensures.back;
+      goes = c.step-next.ensures.goes.then;
+      fits = c.step-next.ensures.fits;
+      phase = c.step-next.ensures.phase;
+    }))
 
 pub invariant_of-self : goal.invariant_of-self
 invariant_of-self c = (

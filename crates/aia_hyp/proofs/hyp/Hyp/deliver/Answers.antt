@@ -5,8 +5,8 @@ use Rattle.aia_hyp.specs.HostFiles.{is_host_spot}
 use Rattle.aia_hyp.specs.Stands.{CoreHears}
 use Rattle.aia_hyp.proofs.NameLemmas.{not_nowhere}
 use Rattle.aia_hyp.proofs.StoreLemmas.{msi_landed, msi_dropped}
-use Rattle.aia_hyp.proofs.hyp.Hyp.land.Goals.{After-host_store}
-use Rattle.aia_hyp.proofs.hyp.Hyp.land.Goals as goal
+use Rattle.aia_hyp.proofs.hyp.Hyp.deliver.Goals.{After-host_store}
+use Rattle.aia_hyp.proofs.hyp.Hyp.deliver.Goals as goal
 
 heard : (c : After-host_store) → CoreHears (record { world = c.self.inside.fabric; leases = c.self.inside.pool; vcpus = c.self.inside.vcpus.items; selects = c.self.inside.selects }) (record { world = c.host_store.new.self; leases = c.self.inside.pool; vcpus = c.self.inside.vcpus.items; selects = c.self.inside.selects }) c.args.msi
 heard c =
