@@ -263,7 +263,7 @@ landed_stands x landed who plan c h stands =
     subst (λ (z : Vcpu). CoreStands (once_landed x landed) (landed_first z h)) own.0
     (first_stands x landed (moving_of plan) h low (own.1 ∙ ap (home h) (sym own.0)) c.first stands)
 
-pub landed_some : (x : CoreState) (landed : World) (who : Who) (plan : Plan) → IsFirst x landed who plan → StandsForSome x → StandsForSome (once_landed x landed)
+abbrev pub landed_some : (x : CoreState) (landed : World) (who : Who) (plan : Plan) → IsFirst x landed who plan → StandsForSome x → StandsForSome (once_landed x landed)
 landed_some x landed who plan c some = record {
   past = landed_first (vcpu who.vm who.vcpu) some.past;
   happens = first_happens (vcpu who.vm who.vcpu) some.past some.happens;

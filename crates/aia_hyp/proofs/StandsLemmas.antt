@@ -121,7 +121,7 @@ with_flights x y h event flights b = record {
   rest = ap (λ (w : World). record w { flights = flights }) b.rest;
   vms = b.vms;
   count = b.count;
-  host = b.host;
+  host = λ f inside. let d = b.host f inside in record { file = d.file; select = d.select };
   records = b.records;
   vcpus = λ g inside. let v = b.vcpus g inside in record { same_home = v.same_home; select = v.select; majors = v.majors; two_files = v.two_files; plan = plan_with y.world flights g (record_of y g).stay v.plan; holds = v.holds };
   lease_harts = b.lease_harts;
@@ -139,7 +139,7 @@ with_flights x y h event flights b = record {
     plan_with : (w : World) (flights : List (List Flying)) (g : Vcpu) (stay : Stay) → PlanStands w g stay → PlanStands (record w { flights = flights }) g stay
     plan_with w flights g (stays.Parked kept) p = tt
     plan_with w flights g (stays.Resident lease) p = tt
-    plan_with w flights g (stays.Moving plan) p = (fits_still w (record w { flights = flights }) (moving_of plan) (record { n = refl; vms = refl; harts = refl; guests = refl }) p.0, p.1)
+    plan_with w flights g (stays.Moving plan) p = (fits_still w (record w { flights = flights }) (moving_of plan) (record { n = refl; vms = refl; harts = refl; guests = refl }) p.0, p.1, p.2, p.3)
 
 -- What it makes of the stores in flight.
 pub record FlightsBecome (y : CoreState) (h : History) (event : Event) : Type 0 where

@@ -140,6 +140,7 @@ example_world = record (new_world example_files 63) {
   memory = example_memory;
   vms = record { vcpus = 2; mask = 8; notice_hart = 0 } ∷ [];
   tables = example_table ∷ [];
+  flights = [] ∷ [];
   stages = stage_to stayer_file ∷ replicate (VCPUS - 1) no_stage;
 }
 
