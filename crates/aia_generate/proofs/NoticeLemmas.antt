@@ -87,15 +87,19 @@ steps-send (suc count) g h =
     let later : notices_sent (steps_taken count g (Stepped g ∷ h)) ≤ notices_sent (Stepped g ∷ h) + count = steps-send count g (Stepped g ∷ h) in
     omega arith
 
-few_steps : (words : ℕ) (move : Move) → words ≤ 32 → steps_of words move ≤ 168
+-- no move has more than a leave of the greatest files
+abbrev most_steps : ℕ
+most_steps = leave_steps 32
+
+few_steps : (words : ℕ) (move : Move) → words ≤ 32 → steps_of words move ≤ most_steps
 few_steps words (Arrives g hart) small = omega arith
 few_steps words (Leaves g) small = omega arith
 few_steps words (Shifts g hart) small = omega arith
 
-deed-sends : (h : History) (line : Line) (deed : MoveDeed) → IsSmall h → notices_sent (deed_taken h line deed) ≤ notices_sent h + 169
+deed-sends : (h : History) (line : Line) (deed : MoveDeed) → IsSmall h → notices_sent (deed_taken h line deed) ≤ notices_sent h + (most_steps + 1)
 deed-sends h line NoMove small = let one : notices_sent (Accepted line ∷ h) ≤ notices_sent h + 1 = event-sends (Accepted line) h in omega arith
 deed-sends h line (Whole move) small =
-    let few : steps_of (file_words h) move ≤ 168 = few_steps (file_words h) move (omega arith) in
+    let few : steps_of (file_words h) move ≤ most_steps = few_steps (file_words h) move (omega arith) in
     let first : notices_sent (Began move ∷ h) ≤ notices_sent h + 1 = event-sends (Began move) h in
     let later : notices_sent (steps_taken (steps_of (file_words h) move) (mover move) (Began move ∷ h)) ≤ notices_sent (Began move ∷ h) + steps_of (file_words h) move = steps-send (steps_of (file_words h) move) (mover move) (Began move ∷ h) in
     omega arith
@@ -105,7 +109,7 @@ deed-sends h line (Steps g) small = let one : notices_sent (Stepped g ∷ h) ≤
 answer-sends : (h : History) (line : Line) (o : Option Answer) → IsSmall h → notices_sent (history_after o h line) ≤ notices_sent h + 200
 answer-sends h line None small =
     let same : notices_sent (delivered (msis_sent_by h line) (line_taken h line)) ≡ notices_sent (line_taken h line) = delivery-sends (msis_sent_by h line) (line_taken h line) in
-    let few : notices_sent (line_taken h line) ≤ notices_sent h + 169 = deed-sends h line (move_deed line) small in
+    let few : notices_sent (line_taken h line) ≤ notices_sent h + (most_steps + 1) = deed-sends h line (move_deed line) small in
     omega arith
 answer-sends h line (Some word) small = omega arith
 

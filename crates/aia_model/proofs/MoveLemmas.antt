@@ -1,12 +1,12 @@
 -- What one event more makes of the homes of virtual harts, and of what the looks of a leave saw.
-use Rattle.std.proofs.Common.{◌≡◌, ◌≢◌, ℕ, zero, suc, ◌+◌, ◌-◌, Bool, true, false, ◌&&◌, ◌||◌, nat_eq, nat_lt, nat_le, is_some, ◌∷◌, inl, inr, refl, sym, ap, ◌∙◌, arith}
-use Rattle.std.proofs.lemmas.Bool.{cases_Bool, cases_eq, cond-true, eq-eqb, ne_eqb, eqb-true, and_parts}
+use Rattle.std.proofs.Common.{◌≡◌, ◌≢◌, ℕ, zero, suc, ◌+◌, ◌<◌, ◌≤◌, Bool, true, false, ◌&&◌, ◌||◌, nat_eq, is_some, ◌∷◌, inl, inr, refl, sym, ap, ◌∙◌, arith}
+use Rattle.std.proofs.lemmas.Bool.{cases_Bool, cases_eq, cond-true, eq-eqb, eqb-true, and_parts, or_right}
 use Rattle.std.proofs.lemmas.Bool.Decides.{nat_tests}
 use Rattle.aia_word.specs.Sets.{least_of}
 use Rattle.aia_home.specs.Vms.{Vcpu, vcpu, is_vcpu}
 use Rattle.aia_home.specs.Home.{Home}
 use Rattle.aia_home.specs.Home.Home.{Parked, Resident, Leaving, Arriving, Shifting}
-use Rattle.aia_home.specs.BySteps.{look_step, look_sees}
+use Rattle.aia_home.specs.BySteps.{look_word, look_sees}
 use Rattle.aia_model.specs.Event.{Event, History, file_words}
 use Rattle.aia_model.specs.Event.Event.{Began, Stepped}
 use Rattle.aia_model.specs.Move.Move.{Leaves}
@@ -58,32 +58,30 @@ four false true true d = refl
 four false true false d = refl
 four false false c d = refl
 
--- one number more than those of A: that at which k is L on
-one_of : (B : ℕ → Bool) (L k from count : ℕ) → some_of (λ w. nat_eq k (L + w) && B w) from count ≡ (nat_le (L + from) k && (nat_lt k (L + from + count) && B (k - L)))
-one_of B L k from zero = some_none (λ w. nat_eq k (L + w) && B w) from ∙ sym (none (nat_le (L + from) k) (nat_lt k (L + from + 0)) (B (k - L)) (λ t. grind (arith, nat_tests)))
-  where
-    none : (a b c : Bool) → (a ≡ true → b ≡ false) → (a && (b && c)) ≡ false
-    none true b c f = ap (λ b. b && c) (f refl)
-    none false b c f = refl
-one_of B L k from (suc count) = some_step (λ w. nat_eq k (L + w) && B w) from count ∙ ap (λ b. (nat_eq k (L + from) && B from) || b) (one_of B L k (suc from) count) ∙ elim (cases_eq k (L + from)) [
-  | inl e ↦
-      let at : k - L ≡ from = omega (arith, e) in
-      let low : nat_le (L + suc from) k ≡ false = grind (arith, nat_tests) in
-      let here : nat_le (L + from) k ≡ true = grind (arith, nat_tests) in
-      let under : nat_lt k (L + from + suc count) ≡ true = grind (arith, nat_tests) in
-      ap (λ b. (b && B from) || (nat_le (L + suc from) k && (nat_lt k (L + suc from + count) && B (k - L)))) (eq-eqb k (L + from) e)
-      ∙ ap (λ b. B from || (b && (nat_lt k (L + suc from + count) && B (k - L)))) low ∙ or_false (B from)
-      ∙ sym (ap (λ b. b && (nat_lt k (L + from + suc count) && B (k - L))) here ∙ ap (λ b. b && B (k - L)) under ∙ ap B at)
-  | inr ne ↦
-      let low : nat_le (L + suc from) k ≡ nat_le (L + from) k = grind (arith, nat_tests) in
-      let high : nat_lt k (L + suc from + count) ≡ nat_lt k (L + from + suc count) = ap (nat_lt k) (omega arith) in
-      ap (λ b. (b && B from) || (nat_le (L + suc from) k && (nat_lt k (L + suc from + count) && B (k - L)))) (ne_eqb k (L + from) ne)
-      ∙ ap (λ b. b && (nat_lt k (L + suc from + count) && B (k - L))) low ∙ ap (λ b. nat_le (L + from) k && (b && B (k - L))) high
+-- a member makes some, and no member makes none
+some_member : (A : ℕ → Bool) (from count v : ℕ) → from ≤ v → v < from + count → A v ≡ true → some_of A from count ≡ true
+some_member A from zero v low high here = absurd (omega (arith, low, high))
+some_member A from (suc count) v low high here = some_step A from count ∙ elim (cases_eq from v) [
+  | inl e ↦ ap (λ b. b || some_of A (suc from) count) (ap A e ∙ here)
+  | inr ne ↦ or_right (A from) (some_of A (suc from) count) (some_member A (suc from) count v (omega (arith, low, ne)) (omega (arith, high)) here)
+]
+
+no_member : (from count : ℕ) → some_of (λ w. false) from count ≡ false
+no_member from zero = some_none (λ w. false) from
+no_member from (suc count) = some_step (λ w. false) from count ∙ no_member (suc from) count
+
+-- where A holds of v alone, some has A and B just where v does
+some_one : (A B : ℕ → Bool) (v count : ℕ) → ((w : ℕ) → A w ≡ true → w ≡ v) → (A v ≡ true → v < count) → some_of (λ w. A w && B w) 0 count ≡ (A v && B v)
+some_one A B v count alone low = elim (cases_Bool (A v && B v)) [
+  | inl t ↦ some_member (λ w. A w && B w) 0 count v (omega arith) (let below = low (and_parts (A v) (B v) t).0 in omega (arith, below)) t ∙ sym t
+  | inr f ↦ same_some (λ w. A w && B w) (λ w. false) 0 count (λ w. none w f) ∙ no_member 0 count ∙ sym f
 ]
   where
-    or_false : (b : Bool) → (b || false) ≡ b
-    or_false true = refl
-    or_false false = refl
+    none : (w : ℕ) → (A v && B v) ≡ false → (A w && B w) ≡ false
+    none w f = elim (cases_Bool (A w)) [
+      | inl here ↦ ap (λ k. A k && B k) (alone w here) ∙ f
+      | inr not_here ↦ ap (λ b. b && B w) not_here
+    ]
 
 some_or : (A C : ℕ → Bool) (from count : ℕ) → some_of (λ w. A w || C w) from count ≡ (some_of A from count || some_of C from count)
 some_or A C from zero = some_none (λ w. A w || C w) from ∙ sym (ap (λ b. b || some_of C from 0) (some_none A from) ∙ some_none C from)
@@ -92,34 +90,23 @@ some_or A C from (suc count) =
     ∙ four (A from) (C from) (some_of A (suc from) count) (some_of C (suc from) count)
     ∙ sym (ap (λ b. b || some_of C from (suc count)) (some_step A from count) ∙ ap (λ b. (A from || some_of A (suc from) count) || b) (some_step C from count))
 
+-- the next look is at one word
+look_at : (words : ℕ) (there : Home) (w : ℕ) → looks_at words there w ≡ true → w ≡ look_word words there
+look_at words (Leaving from at) w e = grind (arith, nat_tests)
+look_at words Parked w e = absurd (cc)
+look_at words (Resident p) w e = absurd (cc)
+look_at words (Arriving to at) w e = absurd (cc)
+look_at words (Shifting from to at) w e = absurd (cc)
+
+look_low : (words : ℕ) (there : Home) (w : ℕ) → looks_at words there w ≡ true → w < words
+look_low words (Leaving from at) w e = grind (arith, nat_tests)
+look_low words Parked w e = absurd (cc)
+look_low words (Resident p) w e = absurd (cc)
+look_low words (Arriving to at) w e = absurd (cc)
+look_low words (Shifting from to at) w e = absurd (cc)
+
 looks_see : (words : ℕ) (there : Home) (live : ℕ → Bool) → some_of (λ w. looks_at words there w && live w) 0 words ≡ look_sees words there live
-looks_see words (Leaving from at) live =
-    ap (λ f. some_of f 0 words) along ∙ one_of live (look_step words 0) at.steps 0 words
-    ∙ ap (λ n. nat_le n at.steps && (nat_lt at.steps (look_step words 0 + 0 + words) && live (at.steps - look_step words 0))) (omega arith)
-    ∙ ap (λ n. nat_le (look_step words 0) at.steps && (nat_lt at.steps n && live (at.steps - look_step words 0))) (omega arith)
-  where
-    along : ◌≡◌ {A = ℕ → Bool} (λ w. nat_eq at.steps (look_step words w) && live w) (λ w. nat_eq at.steps (look_step words 0 + w) && live w)
-    along = λ i w. ap (λ n. nat_eq at.steps n && live w) (let same : look_step words w ≡ look_step words 0 + w = omega arith in same) i
-looks_see words Parked live = none_of_none 0 words
-  where
-    none_of_none : (from count : ℕ) → some_of (λ w. false) from count ≡ false
-    none_of_none from zero = some_none (λ w. false) from
-    none_of_none from (suc count) = some_step (λ w. false) from count ∙ none_of_none (suc from) count
-looks_see words (Resident p) live = none_of_none 0 words
-  where
-    none_of_none : (from count : ℕ) → some_of (λ w. false) from count ≡ false
-    none_of_none from zero = some_none (λ w. false) from
-    none_of_none from (suc count) = some_step (λ w. false) from count ∙ none_of_none (suc from) count
-looks_see words (Arriving to at) live = none_of_none 0 words
-  where
-    none_of_none : (from count : ℕ) → some_of (λ w. false) from count ≡ false
-    none_of_none from zero = some_none (λ w. false) from
-    none_of_none from (suc count) = some_step (λ w. false) from count ∙ none_of_none (suc from) count
-looks_see words (Shifting from to at) live = none_of_none 0 words
-  where
-    none_of_none : (from count : ℕ) → some_of (λ w. false) from count ≡ false
-    none_of_none from zero = some_none (λ w. false) from
-    none_of_none from (suc count) = some_step (λ w. false) from count ∙ none_of_none (suc from) count
+looks_see words there live = some_one (looks_at words there) live (look_word words there) words (look_at words there) (look_low words there (look_word words there))
 
 seen_is : (h : History) (g : Vcpu) → a_look_saw h g ≡ some_of (look_saw h g) 0 (file_words h)
 unfolding some_of
@@ -140,11 +127,7 @@ seen_stepped h g =
 
 -- a leave begins: nothing was seen
 pub seen_begun : (h : History) (g : Vcpu) → a_look_saw (Began (Leaves g) ∷ h) g ≡ false
-seen_begun h g = seen_is (Began (Leaves g) ∷ h) g ∙ same_some (look_saw (Began (Leaves g) ∷ h) g) (λ w. false) 0 (file_words h) (λ w. saw_step (Began (Leaves g)) h g w ∙ cond-true _ _ _ (is_itself g)) ∙ nothing 0 (file_words h)
-  where
-    nothing : (from count : ℕ) → some_of (λ w. false) from count ≡ false
-    nothing from zero = some_none (λ w. false) from
-    nothing from (suc count) = some_step (λ w. false) from count ∙ nothing (suc from) count
+seen_begun h g = seen_is (Began (Leaves g) ∷ h) g ∙ same_some (look_saw (Began (Leaves g) ∷ h) g) (λ w. false) 0 (file_words h) (λ w. saw_step (Began (Leaves g)) h g w ∙ cond-true _ _ _ (is_itself g)) ∙ no_member 0 (file_words h)
 
 -- an event that says nothing of what looks saw, and leaves the machine
 pub seen_stays : (event : Event) (h : History) (g : Vcpu) → file_words (event ∷ h) ≡ file_words h → ((w : ℕ) (was : Bool) → look_saw_after h g w event was ≡ was) → a_look_saw (event ∷ h) g ≡ a_look_saw h g

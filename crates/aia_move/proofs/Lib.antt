@@ -1,4 +1,5 @@
 mod WhoLemmas
+mod PhaseSteps
 mod StepLemmas
 pub mod MadeView
 pub mod TouchLemmas

@@ -1,6 +1,6 @@
 -- A step of a move: what its access leaves, that the next step can be made, and which access the
 -- phases of all moves make.
-use Rattle.std.proofs.Common.{◌≡◌, ℕ, ◌+◌, ◌-◌, ◌*◌, ◌/◌, ◌%◌, ◌<◌, ◌≤◌, Bool, true, false, inl, inr, refl, sym, ap, ◌∙◌, subst, arith}
+use Rattle.std.proofs.Common.{◌≡◌, ℕ, ◌+◌, ◌-◌, ◌/◌, ◌%◌, ◌<◌, ◌≤◌, Bool, true, false, inl, inr, refl, sym, ap, ◌∙◌, subst, arith}
 use Rattle.std.proofs.lemmas.Bool.{cases_eq, lt-ltb, eq-eqb, ne_eqb}
 use Rattle.aia_home.proofs.PhaseLemmas.{carried_pending, carried_enables}
 use Rattle.aia_word.specs.Sets.{has_bit}
@@ -12,6 +12,8 @@ use Rattle.aia_home.specs.Home.{Home, Progress, is_moving, one_more, one_further
 use Rattle.aia_home.specs.Plans.{is_at_last, Access, steps_done, has_access, IsNext, first_take, pending_step, enables_step}
 use Rattle.aia_home.specs.Home.Home.{Parked, Resident, Leaving, Arriving, Shifting}
 use Rattle.aia_home.specs.Plans.Access.{TakeDelivery, PutDelivery, WriteNotice, WriteEntry, Fence, WriteStage, FenceStage, TakePending, PutPending, TakeEnables, PutEnables, Look, TakeThreshold, PutThreshold, Post}
+use Rattle.aia_home.specs.Phases.{begins}
+use Rattle.aia_home.specs.Phases.Phase.{ClosingPhase, DrainPhase, EnablePhase, LookPhase}
 use Rattle.aia_home.specs.BySteps.{own_file, next_file}
 use Rattle.aia_home.proofs.PlanLemmas.{next_in_plan}
 use Rattle.aia_places.specs.Holds.{Hand}
@@ -20,8 +22,9 @@ use Rattle.aia_fabric.specs.declared.at.At.TheVariants.{File, Slot}
 use Rattle.aia_fabric.specs.World.{World}
 use Rattle.aia_fabric.specs.Changes.{PutsRegister, spot_of, with_pending, with_enable}
 use Rattle.aia_move.specs.Move.{Moving, width, old_at, new_at, PostsIf, Makes, hand_after, Fits, Ends}
-use Rattle.aia_move.specs.Load.{Load, load_of, moving, one_done, Does, pending_access, enables_access}
-use Rattle.aia_move.specs.Turns.{IsBetween, GoesOn}
+use Rattle.aia_move.specs.Load.{Load, load_of, moving, one_done, Does, closing_access, pending_access, enables_access}
+use Rattle.aia_move.specs.Turns.{IsIn, IsMove, GoesOn}
+use Rattle.aia_move.proofs.PhaseSteps.{middle}
 
 -- ---- what an access leaves
 
@@ -210,41 +213,96 @@ carries_sets words (Shifting from to at) moves = record {
   put_enables = λ w low e. record { has = lt-ltb w words low; step = omega (arith, e) };
 }
 
-pending_next : (words first : ℕ) (there : Home) → is_moving there ≡ true → first ≡ first_take there → first ≤ steps_done there → steps_done there < first + 2 * words
+pending_next : (words first : ℕ) (there : Home) → is_moving there ≡ true → first ≡ begins words there DrainPhase → first ≤ steps_done there → steps_done there < begins words there EnablePhase
     → IsNext words there (pending_access first (steps_done there))
 pending_next words first there moves is from below =
     let all = carries_sets words there moves in
+    let mid = middle words there moves in
     let w = (steps_done there - first) / 2 in
-    let low : w < words = omega arith in
+    let low : w < words = omega (arith, mid.drain, mid.enable, mid.looks) in
     elim (cases_eq ((steps_done there - first) % 2) 0) [
-      | inl even ↦ rw (eq-eqb ((steps_done there - first) % 2) 0 even) (all.take_pending w low (omega arith))
-      | inr odd ↦ rw (ne_eqb ((steps_done there - first) % 2) 0 odd) (all.put_pending w low (omega (arith, odd)))
+      | inl even ↦ rw (eq-eqb ((steps_done there - first) % 2) 0 even) (all.take_pending w low (omega (arith, even, mid.take, mid.drain, mid.enable)))
+      | inr odd ↦ rw (ne_eqb ((steps_done there - first) % 2) 0 odd) (all.put_pending w low (omega (arith, odd, mid.take, mid.drain, mid.enable)))
     ]
 
-enables_next : (words first : ℕ) (there : Home) → is_moving there ≡ true → first ≡ enables_step words there 0 → first ≤ steps_done there → steps_done there < first + 2 * words
+enables_next : (words first : ℕ) (there : Home) → is_moving there ≡ true → first ≡ begins words there EnablePhase → first ≤ steps_done there → steps_done there < begins words there LookPhase
     → IsNext words there (enables_access first (steps_done there))
 enables_next words first there moves is from below =
     let all = carries_sets words there moves in
+    let mid = middle words there moves in
     let w = (steps_done there - first) / 2 in
-    let low : w < words = omega arith in
+    let low : w < words = omega (arith, mid.drain, mid.enable, mid.looks) in
     elim (cases_eq ((steps_done there - first) % 2) 0) [
-      | inl even ↦ rw (eq-eqb ((steps_done there - first) % 2) 0 even) (all.take_enables w low (omega arith))
-      | inr odd ↦ rw (ne_eqb ((steps_done there - first) % 2) 0 odd) (all.put_enables w low (omega (arith, odd)))
+      | inl even ↦ rw (eq-eqb ((steps_done there - first) % 2) 0 even) (all.take_enables w low (omega (arith, even, mid.take, mid.drain, mid.enable)))
+      | inr odd ↦ rw (ne_eqb ((steps_done there - first) % 2) 0 odd) (all.put_enables w low (omega (arith, odd, mid.take, mid.drain, mid.enable)))
     ]
 
--- a step of these phases, of a load
-pub carries_pending : (w u : World) (m s : Moving) (there : Progress → Home) (first : ℕ) (now : Load) → m ≡ s → Fits w s → is_moving m.home ≡ true → there (one_further (record { steps = steps_done m.home })) ≡ one_more m.home
-    → first ≡ first_take m.home → IsBetween first (first + 2 * width w) s → Does (pending_access first (steps_done m.home)) m w u now → (steps_done m.home ≡ first → has_bit now.hand.word 0 ≡ false) → GoesOn w s u (moving there now)
-carries_pending w u m s there first now seen fits moves next is between does zero =
-    let same : steps_done m.home ≡ steps_done s.home = ap (λ (x : Moving). steps_done x.home) seen in
-    seen_so w u m s (moving there now) (pending_access first (steps_done m.home)) seen fits
-    (pending_next (width w) first m.home moves is (omega (arith, same, between)) (omega (arith, same, between))) does.makes (loaded m there now _ next does.load)
-    (not_last (width w) m.home (omega (arith, same, between, is))) (record { pending = λ e. zero (omega (arith, e, is)); enabled = λ e. absurd (omega (arith, e, same, between, is)) })
+-- ---- a step of these phases, of a move by its home at each progress
 
-pub carries_enables : (w u : World) (m s : Moving) (there : Progress → Home) (first : ℕ) (now : Load) → m ≡ s → Fits w s → is_moving m.home ≡ true → there (one_further (record { steps = steps_done m.home })) ≡ one_more m.home
-    → first ≡ enables_step (width w) m.home 0 → 1 ≤ width w → IsBetween first (first + 2 * width w) s → Does (enables_access first (steps_done m.home)) m w u now → (steps_done m.home ≡ first → has_bit now.hand.word 0 ≡ false) → GoesOn w s u (moving there now)
-carries_enables w u m s there first now seen fits moves next is some between does zero =
-    let same : steps_done m.home ≡ steps_done s.home = ap (λ (x : Moving). steps_done x.home) seen in
-    seen_so w u m s (moving there now) (enables_access first (steps_done m.home)) seen fits
-    (enables_next (width w) first m.home moves is (omega (arith, same, between)) (omega (arith, same, between))) does.makes (loaded m there now _ next does.load)
-    (not_last (width w) m.home (omega (arith, same, between, is))) (record { pending = λ e. absurd (omega (arith, e, same, between, is, some)); enabled = λ e. zero (omega (arith, e, is)) })
+closing_next : (words first n : ℕ) (there : Home) → is_moving there ≡ true → n ≡ steps_done there → first ≡ begins words there ClosingPhase → first ≤ n → n < begins words there DrainPhase → IsNext words there (closing_access first n)
+closing_next words first n Parked moves at is from below = absurd (cc)
+closing_next words first n (Resident p) moves at is from below = absurd (cc)
+closing_next words first n (Leaving p progress) moves at is from below = elim (cases_eq n first) [
+  | inl e ↦ rw (eq-eqb n first e) (record { has = refl; step = omega (arith, at, is, e) })
+  | inr ne ↦ rw (ne_eqb n first ne) (record { has = refl; step = omega (arith, at, is, ne, from, below) })
+]
+closing_next words first n (Arriving p progress) moves at is from below = elim (cases_eq n first) [
+  | inl e ↦ rw (eq-eqb n first e) (record { has = refl; step = omega (arith, at, is, e) })
+  | inr ne ↦ rw (ne_eqb n first ne) (record { has = refl; step = omega (arith, at, is, ne, from, below) })
+]
+closing_next words first n (Shifting p q progress) moves at is from below = elim (cases_eq n first) [
+  | inl e ↦ rw (eq-eqb n first e) (record { has = refl; step = omega (arith, at, is, e) })
+  | inr ne ↦ rw (ne_eqb n first ne) (record { has = refl; step = omega (arith, at, is, ne, from, below) })
+]
+
+module _ (there : Progress → Home) (is : IsMove there) where
+  pub load_is : (l : Load) → load_of (moving there l) ≡ l
+  load_is l = ap (λ n. record l { steps = n }) (is.steps (record { steps = l.steps }))
+
+  pub steps_are : (l : Load) (s : Moving) → moving there l ≡ s → l.steps ≡ steps_done s.home
+  steps_are l s seen = sym (is.steps (record { steps = l.steps })) ∙ ap (λ (x : Moving). steps_done x.home) seen
+
+  goes_on : (l : Load) → there (one_further (record { steps = steps_done (moving there l).home })) ≡ one_more (moving there l).home
+  goes_on l = ap (λ n. there (one_further (record { steps = n }))) (is.steps (record { steps = l.steps })) ∙ is.more (record { steps = l.steps })
+
+  pub move_closes : (w u : World) (l now : Load) (s : Moving) (first : ℕ) → moving there l ≡ s → Fits w s → IsIn ClosingPhase (width w) s → first ≡ begins (width w) s.home ClosingPhase
+      → Does (closing_access first l.steps) (moving there l) w u now → GoesOn w s u (moving there now)
+  move_closes w u l now s first seen fits phase begin does =
+      let moves = is.moves (record { steps = l.steps }) in
+      let steps = is.steps (record { steps = l.steps }) in
+      let here : IsIn ClosingPhase (width w) (moving there l) = subst (λ x. IsIn ClosingPhase (width w) x) (sym seen) phase in
+      let from : first ≡ begins (width w) (moving there l).home ClosingPhase = begin ∙ ap (λ (x : Moving). begins (width w) x.home ClosingPhase) (sym seen) in
+      let mid = middle (width w) (moving there l).home moves in
+      step_before w u (moving there l) s there now (closing_access first l.steps) seen fits (goes_on l)
+      (closing_next (width w) first l.steps (moving there l).home moves (sym steps) from (omega (arith, steps, from, here)) (omega (arith, steps, from, here, mid.drain))) does
+      (omega (arith, here, mid.drain, mid.take))
+
+  pub move_carries_pending : (w u : World) (l now : Load) (s : Moving) (first : ℕ) → moving there l ≡ s → Fits w s → IsIn DrainPhase (width w) s → first ≡ begins (width w) s.home DrainPhase
+      → Does (pending_access first l.steps) (moving there l) w u now → (l.steps ≡ first → has_bit now.hand.word 0 ≡ false) → GoesOn w s u (moving there now)
+  move_carries_pending w u l now s first seen fits phase begin does zero =
+      let m = moving there l in
+      let moves = is.moves (record { steps = l.steps }) in
+      let steps = is.steps (record { steps = l.steps }) in
+      let here : IsIn DrainPhase (width w) m = subst (λ x. IsIn DrainPhase (width w) x) (sym seen) phase in
+      let from : first ≡ begins (width w) m.home DrainPhase = begin ∙ ap (λ (x : Moving). begins (width w) x.home DrainPhase) (sym seen) in
+      let mid = middle (width w) m.home moves in
+      seen_so w u m s (moving there now) (pending_access first (steps_done m.home)) seen fits
+      (pending_next (width w) first m.home moves from (omega (arith, from, here)) here.1) (subst (λ n. Does (pending_access first n) m w u now) (sym steps) does).makes
+      (loaded m there now _ (goes_on l) (subst (λ n. Does (pending_access first n) m w u now) (sym steps) does).load)
+      (not_last (width w) m.home (omega (arith, here, mid.take, mid.drain, mid.enable)))
+      (record { pending = λ e. zero (omega (arith, e, steps, from, mid.take, mid.drain)); enabled = λ e. absurd (omega (arith, e, here, mid.take, mid.drain, mid.enable)) })
+
+  pub move_carries_enables : (w u : World) (l now : Load) (s : Moving) (first : ℕ) → moving there l ≡ s → Fits w s → IsIn EnablePhase (width w) s → 1 ≤ width w → first ≡ begins (width w) s.home EnablePhase
+      → Does (enables_access first l.steps) (moving there l) w u now → (l.steps ≡ first → has_bit now.hand.word 0 ≡ false) → GoesOn w s u (moving there now)
+  move_carries_enables w u l now s first seen fits phase some begin does zero =
+      let m = moving there l in
+      let moves = is.moves (record { steps = l.steps }) in
+      let steps = is.steps (record { steps = l.steps }) in
+      let here : IsIn EnablePhase (width w) m = subst (λ x. IsIn EnablePhase (width w) x) (sym seen) phase in
+      let from : first ≡ begins (width w) m.home EnablePhase = begin ∙ ap (λ (x : Moving). begins (width w) x.home EnablePhase) (sym seen) in
+      let mid = middle (width w) m.home moves in
+      seen_so w u m s (moving there now) (enables_access first (steps_done m.home)) seen fits
+      (enables_next (width w) first m.home moves from (omega (arith, from, here)) here.1) (subst (λ n. Does (enables_access first n) m w u now) (sym steps) does).makes
+      (loaded m there now _ (goes_on l) (subst (λ n. Does (enables_access first n) m w u now) (sym steps) does).load)
+      (not_last (width w) m.home (omega (arith, here, mid.take, mid.enable, mid.looks)))
+      (record { pending = λ e. absurd (omega (arith, e, here, mid.take, mid.enable, some)); enabled = λ e. zero (omega (arith, e, steps, from, mid.take, mid.enable)) })

@@ -5,8 +5,8 @@ use Rattle.aia_regs.specs.declared.limits.TheConstants.{HARTS, GUEST_FILES, VCPU
 use Rattle.aia_imsic.specs.declared.spot.Spot.TheVariants.{HostFile}
 use Rattle.aia_imsic.specs.Imsic.{IsThere}
 use Rattle.aia_home.specs.declared.place.Place.{Place}
-use Rattle.aia_home.specs.Home.{at_first}
-use Rattle.aia_home.specs.Home.Home.{Leaving, Arriving, Shifting}
+use Rattle.aia_home.specs.Home.{Home, is_moving, at_first}
+use Rattle.aia_home.specs.Home.Home.{Parked, Resident, Leaving, Arriving, Shifting}
 use Rattle.aia_home.specs.BySteps.{own_file, next_file}
 use Rattle.aia_home.specs.Plans.{steps_done}
 use Rattle.aia_home.specs.Vms.{Vcpu, vcpu, vcpus_in, is_vcpu_in, slot_of, notice_hart}
@@ -14,10 +14,10 @@ use Rattle.aia_home.proofs.VmLemmas.{slot_below}
 use Rattle.aia_fabric.specs.World.{World}
 use Rattle.aia_fabric.specs.Whole.{IsWhole}
 use Rattle.aia_fabric.specs.Stores.{Posts}
-use Rattle.aia_fabric.specs.Changes.{spot_of}
+use Rattle.aia_fabric.specs.Changes.{spot_of, IsPlaceThere}
 use Rattle.aia_fabric.proofs.WholeLemmas.{notice_hart_there}
 use Rattle.aia_move.specs.declared.who.Who.{Who}
-use Rattle.aia_move.specs.Move.{Moving, IsWho, Fits, PostsIf}
+use Rattle.aia_move.specs.Move.{Moving, IsWho, Fits, PostsIf, old_by, new_by, old_at, new_at}
 
 pub small_who : (w : World) (who : Who) → IsWhole w → IsWho w who → (who.slot < vcpus_in w.vms) × (who.slot < VCPUS) × (who.notice < HARTS)
 small_who w who whole is =
@@ -44,6 +44,28 @@ pub slot_there : (w : World) (m s : Moving) → m ≡ s → IsWhole w → Fits w
 slot_there w m s seen whole fits =
     let is : IsWho w s.who = record { there = fits.there; slot = fits.slot; notice = fits.notice } in
     omega (arith, ap (λ (x : Moving). x.who.slot) seen, (small_who w s.who whole is).1)
+
+-- ---- the places of a move are there
+
+pub old_there : (w : World) (m : Moving) → IsWhole w → Fits w m → is_moving m.home ≡ true → IsPlaceThere w (old_at m)
+old_there w m whole fits moves = by_home m.home fits.own moves
+  where
+    by_home : (there : Home) → ((p : Place) → own_file there ≡ Some p → IsThere w.imsic (spot_of p)) → is_moving there ≡ true → IsPlaceThere w (old_by there m.who.slot)
+    by_home Parked own moves = absurd (cc)
+    by_home (Resident p) own moves = absurd (cc)
+    by_home (Leaving from at) own moves = own from refl
+    by_home (Arriving to at) own moves = slot_there w m m refl whole fits
+    by_home (Shifting from to at) own moves = own from refl
+
+pub new_there : (w : World) (m : Moving) → IsWhole w → Fits w m → is_moving m.home ≡ true → IsPlaceThere w (new_at m)
+new_there w m whole fits moves = by_home m.home fits.own fits.next moves
+  where
+    by_home : (there : Home) → ((p : Place) → own_file there ≡ Some p → IsThere w.imsic (spot_of p)) → ((p : Place) → next_file there ≡ Some p → IsThere w.imsic (spot_of p)) → is_moving there ≡ true → IsPlaceThere w (new_by there m.who.slot)
+    by_home Parked own next moves = absurd (cc)
+    by_home (Resident p) own next moves = absurd (cc)
+    by_home (Leaving from at) own next moves = slot_there w m m refl whole fits
+    by_home (Arriving to at) own next moves = own to refl
+    by_home (Shifting from to at) own next moves = next to refl
 
 -- ---- a move begins
 

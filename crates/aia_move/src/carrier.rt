@@ -25,7 +25,7 @@ use std::marker::Model;
 pub struct Carrier {
     /// Who is moved.
     pub who: Who,
-    /// How many steps are done, up to 167.
+    /// How many steps are done: fewer than a leave of the greatest files has.
     pub done: u32,
     /// The word of a set that was taken last.
     pub word: u64,

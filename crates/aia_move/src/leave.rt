@@ -1,38 +1,26 @@
-ghost use Rattle.std.specs.Prelude.{◌≡◌, false, ⊤};
+ghost use Rattle.std.specs.Prelude.{◌≡◌, true, false, ⊤};
 ghost use Rattle.aia_home.specs.Home.{at_first};
 ghost use Rattle.aia_home.specs.Home.Home.{Leaving};
 ghost use Rattle.aia_home.specs.Plans.{leave_step, steps_done};
 ghost use Rattle.aia_home.specs.Plans.Access.{TakeThreshold, Post};
-ghost use Rattle.aia_home.specs.Phases.Phase.{FirstPhase, ClosingPhase, DrainPhase, EnablePhase, LookPhase, LastPhase};
+ghost use Rattle.aia_home.specs.Phases.Phase.{FirstPhase, ClosingPhase, LookPhase, LastPhase};
+ghost use Rattle.aia_home.specs.BySteps.{is_leaving};
 ghost use Rattle.aia_move.specs.Move.{Fits, Ends, old_spot, width};
-ghost use Rattle.aia_move.specs.Turns.{IsInLeave, GoesOn, EndsAs, GivesBack, MatchTurn};
+ghost use Rattle.aia_move.specs.Turns.{IsIn, GoesOn, EndsAs, GivesBack, MatchTurn};
 
 use crate::carrier::Carrier;
-use crate::phase::{Closing, Drain, Enable, First, Last, Look};
+use crate::kind::{ToMemory, spot};
+use crate::moves::Move;
+use crate::phase::{Closing, First, Last, Look};
 use crate::{Kept, Outcome, Turn, Who};
-use aia_fabric::{At, Fabric};
+use aia_fabric::Fabric;
 use aia_imsic::Spot;
 use aia_pool::FileLease;
-use std::marker::{Model, PhantomData};
+use std::marker::PhantomData;
 
 /// A virtual hart that leaves its guest file: its interrupts go to its slot of memory. A step is
 /// one access, and says which phase comes next.
-#[derive(Drop)]
-pub struct Leave<P> {
-    file: FileLease,
-    carrier: Carrier,
-    phase: PhantomData<P>,
-}
-
-impl<P> Model for Leave<P> {
-    ghost use Rattle.aia_home.specs.Home.Home.{Leaving};
-    ghost use Rattle.aia_move.specs.Move.{Moving};
-    ghost use Rattle.aia_move.specs.Load.{moving};
-
-    ghost Value = { Moving };
-
-    ghost view = { λ l. moving (Leaving l.file) l.carrier };
-}
+pub type Leave<P> = Move<ToMemory, P>;
 
 impl Leave<First> {
     /// Begins: no step is done.
@@ -43,8 +31,8 @@ impl Leave<First> {
           hand = record { word = 0; delivery = 0; threshold = 0; seen = false };
         } }
     {
-        Leave {
-            file,
+        Move {
+            kind: ToMemory { file },
             carrier: Carrier::new(who, 0, 0),
             phase: PhantomData,
         }
@@ -55,81 +43,15 @@ impl Leave<First> {
     /// go before word 0 leads to the slot; it has said so from the VM's making on.
     pub fn step(mut self, fabric: &mut Fabric) -> Turn<Self, Leave<Closing>>
         requires fits { Fits fabric.old self }
-        requires phase { IsInLeave FirstPhase (width fabric.old) self }
+        requires phase { IsIn FirstPhase (width fabric.old) self }
         ensures goes { MatchTurn result (GoesOn fabric.old self fabric.new)
             (GoesOn fabric.old self fabric.new) }
-        ensures phase { MatchTurn result (IsInLeave FirstPhase (width fabric.new))
-            (IsInLeave ClosingPhase (width fabric.new)) }
+        ensures phase { MatchTurn result (IsIn FirstPhase (width fabric.new))
+            (IsIn ClosingPhase (width fabric.new)) }
     {
+        let past = self.first_steps();
         self.begin(fabric);
-        if self.carrier.done() < 4 {
-            Turn::Stay(self)
-        } else {
-            Turn::On(self.on())
-        }
-    }
-}
-
-impl Leave<Closing> {
-    /// Empties the G-stage record, and puts it in force. Why here: both routes are closed before
-    /// the first word is taken from the file, so that no store comes after its word.
-    pub fn step(mut self, fabric: &mut Fabric) -> Turn<Self, Leave<Drain>>
-        requires fits { Fits fabric.old self }
-        requires phase { IsInLeave ClosingPhase (width fabric.old) self }
-        ensures goes { MatchTurn result (GoesOn fabric.old self fabric.new)
-            (GoesOn fabric.old self fabric.new) }
-        ensures phase { MatchTurn result (IsInLeave ClosingPhase (width fabric.new))
-            (IsInLeave DrainPhase (width fabric.new)) }
-    {
-        let _words = fabric.words();
-        self.close(fabric);
-        if self.carrier.done() < 6 {
-            Turn::Stay(self)
-        } else {
-            Turn::On(self.on())
-        }
-    }
-}
-
-impl Leave<Drain> {
-    /// Takes a word of the pending set from the file, or puts it in the slot. Why here: no store
-    /// reaches the file any more, so that a word which is taken stays empty.
-    pub fn step(mut self, fabric: &mut Fabric) -> Turn<Self, Leave<Enable>>
-        requires fits { Fits fabric.old self }
-        requires phase { IsInLeave DrainPhase (width fabric.old) self }
-        ensures goes { MatchTurn result (GoesOn fabric.old self fabric.new)
-            (GoesOn fabric.old self fabric.new) }
-        ensures phase { MatchTurn result (IsInLeave DrainPhase (width fabric.new))
-            (IsInLeave EnablePhase (width fabric.new)) }
-    {
-        let words = fabric.words();
-        self.carry_pending(fabric);
-        if self.carrier.done() < 6 + 2 * words {
-            Turn::Stay(self)
-        } else {
-            Turn::On(self.on())
-        }
-    }
-}
-
-impl Leave<Enable> {
-    /// Takes a word of the enabled set from the file, or puts it in the slot. Why here: the slot
-    /// has all that was pending; from its enables on, a store to a word is told to the host.
-    pub fn step(mut self, fabric: &mut Fabric) -> Turn<Self, Leave<Look>>
-        requires fits { Fits fabric.old self }
-        requires phase { IsInLeave EnablePhase (width fabric.old) self }
-        ensures goes { MatchTurn result (GoesOn fabric.old self fabric.new)
-            (GoesOn fabric.old self fabric.new) }
-        ensures phase { MatchTurn result (IsInLeave EnablePhase (width fabric.new))
-            (IsInLeave LookPhase (width fabric.new)) }
-    {
-        let words = fabric.words();
-        self.carry_enables(fabric);
-        if self.carrier.done() < 6 + 4 * words {
-            Turn::Stay(self)
-        } else {
-            Turn::On(self.on())
-        }
+        self.turn(past)
     }
 }
 
@@ -138,19 +60,15 @@ impl Leave<Look> {
     /// misses only what the host is told of; it finds what had come before.
     pub fn step(mut self, fabric: &mut Fabric) -> Turn<Self, Leave<Last>>
         requires fits { Fits fabric.old self }
-        requires phase { IsInLeave LookPhase (width fabric.old) self }
+        requires phase { IsIn LookPhase (width fabric.old) self }
         ensures goes { MatchTurn result (GoesOn fabric.old self fabric.new)
             (GoesOn fabric.old self fabric.new) }
-        ensures phase { MatchTurn result (IsInLeave LookPhase (width fabric.new))
-            (IsInLeave LastPhase (width fabric.new)) }
+        ensures phase { MatchTurn result (IsIn LookPhase (width fabric.new))
+            (IsIn LastPhase (width fabric.new)) }
     {
         let words = fabric.words();
         self.look(fabric);
-        if self.carrier.done() < 6 + 5 * words {
-            Turn::Stay(self)
-        } else {
-            Turn::On(self.on())
-        }
+        self.turn(6 + 5 * words)
     }
 }
 
@@ -159,11 +77,11 @@ impl Leave<Last> {
     /// done, so that one notice stands for what they saw.
     pub fn step(mut self, fabric: &mut Fabric) -> Turn<Self, Outcome>
         requires fits { Fits fabric.old self }
-        requires phase { IsInLeave LastPhase (width fabric.old) self }
+        requires phase { IsIn LastPhase (width fabric.old) self }
         ensures goes { MatchTurn result (GoesOn fabric.old self fabric.new)
             (EndsAs fabric.old self fabric.new) }
         ensures phase { MatchTurn result
-            (IsInLeave LastPhase (width fabric.new)) (λ o. ⊤) }
+            (IsIn LastPhase (width fabric.new)) (λ o. ⊤) }
     {
         let words = fabric.words();
         if self.carrier.done() < 7 + 5 * words {
@@ -181,7 +99,7 @@ impl<P> Leave<P> {
     /// Makes the next access of the first phase.
     fn begin(&mut self, fabric: &mut Fabric)
         requires fits { Fits fabric.old self.old }
-        requires phase { IsInLeave FirstPhase (width fabric.old) self.old }
+        requires phase { IsIn FirstPhase (width fabric.old) self.old }
         ensures { GoesOn fabric.old self.old fabric.new self.new }
     {
         let _words = fabric.words();
@@ -194,46 +112,12 @@ impl<P> Leave<P> {
         }
     }
 
-    /// Makes the next access of the phase of the G-stage record.
-    fn close(&mut self, fabric: &mut Fabric)
-        requires fits { Fits fabric.old self.old }
-        requires phase { IsInLeave ClosingPhase (width fabric.old) self.old }
-        ensures { GoesOn fabric.old self.old fabric.new self.new }
-    {
-        let _words = fabric.words();
-        self.carrier.close(fabric, 4, None);
-    }
-
-    /// Makes the next access of the phase of the pending set.
-    fn carry_pending(&mut self, fabric: &mut Fabric)
-        requires fits { Fits fabric.old self.old }
-        requires phase { IsInLeave DrainPhase (width fabric.old) self.old }
-        ensures { GoesOn fabric.old self.old fabric.new self.new }
-    {
-        let _words = fabric.words();
-        let file = At::File(self.spot());
-        let slot = self.carrier.slot();
-        self.carrier.carry_pending(fabric, 6, file, slot);
-    }
-
-    /// Makes the next access of the phase of the enabled set.
-    fn carry_enables(&mut self, fabric: &mut Fabric)
-        requires fits { Fits fabric.old self.old }
-        requires phase { IsInLeave EnablePhase (width fabric.old) self.old }
-        ensures { GoesOn fabric.old self.old fabric.new self.new }
-    {
-        let words = fabric.words();
-        let file = At::File(self.spot());
-        let slot = self.carrier.slot();
-        self.carrier
-            .carry_enables(fabric, 6 + 2 * words, file, slot);
-    }
-
     /// Makes the next look.
     fn look(&mut self, fabric: &Fabric)
         requires fits { Fits fabric.now self.old }
-        requires phase { IsInLeave LookPhase (width fabric.now) self.old }
-        ensures { GoesOn fabric.now self.old fabric.now self.new }
+        requires phase { IsIn LookPhase (width fabric.now) self.old }
+        ensures goes { GoesOn fabric.now self.old fabric.now self.new }
+        ensures leaves { is_leaving self.old.home ≡ true }
     {
         let words = fabric.words();
         let word = (self.carrier.done() - (6 + 4 * words)) as usize;
@@ -267,7 +151,7 @@ impl<P> Leave<P> {
         ensures { GivesBack result self.home self.hand }
     {
         Outcome::Left(
-            self.file,
+            self.kind.file,
             Kept {
                 delivery: self.carrier.delivery,
                 threshold: self.carrier.threshold,
@@ -279,17 +163,6 @@ impl<P> Leave<P> {
     fn spot(&self) -> Spot
         ensures { result ≡ old_spot self.now }
     {
-        Spot::GuestFile(self.file.hart(), self.file.file())
-    }
-
-    /// Goes on to another phase.
-    fn on<Q>(self) -> Leave<Q>
-        ensures { result ≡ self }
-    {
-        Leave {
-            file: self.file,
-            carrier: self.carrier,
-            phase: PhantomData,
-        }
+        spot(&self.kind.file)
     }
 }

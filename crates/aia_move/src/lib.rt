@@ -4,8 +4,10 @@
 
 mod arrive;
 mod carrier;
+mod kind;
 pub mod laws;
 mod leave;
+mod moves;
 mod phase;
 mod plan;
 mod shift;

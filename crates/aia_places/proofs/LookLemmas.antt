@@ -1,18 +1,18 @@
 -- A look sees what it is to see: whether two words of the slot have a one in common, whether some
 -- identity of a word is pending and enabled.
-use Rattle.std.proofs.Common.{◌≡◌, ℕ, zero, suc, ◌+◌, ◌-◌, ◌*◌, ◌/◌, ◌%◌, ◌^◌, ◌<◌, ◌≤◌, Bool, true, false, not, ◌&&◌, cond, nat_eq, nat_le, nat_lt, Some, is_some, bit_and, w64, refl, sym, ap, ◌∙◌, inl, inr, arith}
+use Rattle.std.proofs.Common.{◌≡◌, ℕ, zero, suc, ◌+◌, ◌*◌, ◌/◌, ◌%◌, ◌^◌, ◌<◌, ◌≤◌, Bool, true, false, not, ◌&&◌, cond, nat_eq, Some, is_some, bit_and, w64, refl, sym, ap, ◌∙◌, inl, inr, arith}
 use Rattle.std.proofs.lemmas.Bool.{cases_eq, eq-eqb, ne_eqb, false≢true}
 use Rattle.std.proofs.lemmas.Bool.Decides.{nat_tests}
 use Rattle.std.proofs.lemmas.Nat.{and_le_l}
 use Rattle.std.proofs.lemmas.Nat.Bits.{bit_at-trailing_zeros}
 use Rattle.std.specs.Int.{trailing_zeros}
-use Rattle.aia_home.specs.BySteps.{look_step}
+use Rattle.aia_home.specs.BySteps.{look_word}
 use Rattle.aia_word.specs.Sets.{has_bit, least_of}
 use Rattle.aia_word.proofs.BitLemmas.{has_bit-and, has_bit-zero}
 use Rattle.aia_word.proofs.LeastLemmas.{least_of-none}
 use Rattle.aia_file.specs.InterruptFile.{InterruptFile, is_live}
 use Rattle.aia_home.specs.Plans.Access.{Look, TakePending}
-use Rattle.aia_home.specs.Plans.{leave_step}
+use Rattle.aia_home.specs.Plans.{leave_step, is_next}
 use Rattle.aia_home.specs.declared.place.Place.{Place}
 use Rattle.aia_home.specs.Home.{Progress}
 use Rattle.aia_home.specs.Home.Home.{Leaving}
@@ -63,16 +63,13 @@ meets-and p e small = elim (cases_eq (bit_and p e) 0) [
 pub look_meets : (words w word p e : ℕ) (from : Place) (at : Progress) (old new : TwoSets) (file : InterruptFile) → HoldsAt words (leave_step 0 (TakePending 0)) at.steps word old new file → at.steps ≡ leave_step words (Look w) → w < words
     → Shows p w new.pending → Shows e w new.enabled → meets p e ≡ sees words (Leaving from at) file
 look_meets words w word p e from at old new file h step low pending enabled =
-    some_same (λ b. has_bit p b && has_bit e b) (λ i. file.pending i && file.enabled i) 0 (64 * w) 64 same ∙ ap (is_live file) here ∙ sym (rw (after, before) refl)
+    some_same (λ b. has_bit p b && has_bit e b) (λ i. file.pending i && file.enabled i) 0 (64 * w) 64 same ∙ ap (is_live file) here ∙ sym (rw next refl)
   where
-    here : w ≡ at.steps - look_step words 0
+    here : w ≡ look_word words (Leaving from at)
     here = omega arith
 
-    after : nat_le (look_step words 0) at.steps ≡ true
-    after = grind (arith, nat_tests)
-
-    before : nat_lt at.steps (look_step words words) ≡ true
-    before = grind (arith, nat_tests)
+    next : is_next words (Leaving from at) (Look (look_word words (Leaving from at))) ≡ true
+    next = grind (arith, nat_tests)
 
     all : (i : ℕ) → i / 64 ≡ w → (file.pending i ≡ new.pending i) × (new.enabled i ≡ file.enabled i)
     all i q = new_has_all words (leave_step 0 (TakePending 0)) old new file at.steps word h (omega arith) i (omega (arith, q))

@@ -1,0 +1,28 @@
+use Rattle.std.proofs.Common.{◌≡◌, Some, refl, sym, ap, ◌∙◌, subst, arith}
+use Rattle.aia_home.specs.Home.Home.{Arriving}
+use Rattle.aia_home.specs.Plans.{steps_done, arrive_step}
+use Rattle.aia_home.specs.Plans.Access.{WriteEntry, Fence}
+use Rattle.aia_move.specs.Move.{Moving, width}
+use Rattle.aia_home.specs.Phases.Phase.{FirstPhase}
+use Rattle.aia_move.specs.Turns.{IsIn}
+use Rattle.aia_move.specs.Load.{moving}
+use Rattle.aia_move.proofs.StepLemmas.{step_before}
+use Rattle.aia_move.proofs.arrive.Arrive+P.begin.Goals as goal
+
+pub returns-in-0 : goal.returns-in-0
+returns-in-0 g c =
+    let l = c.self.inside in
+    let m = moving (Arriving l.kind.file) l.carrier in
+    let here : l.carrier.steps ≡ arrive_step 0 WriteEntry = sym c.done.ensures ∙ c.in-0.is in
+    step_before c.args.fabric.now c.write_entry.new.fabric m c.args.self.now (Arriving l.kind.file) c.write_entry.new.self WriteEntry c.self.view_is c.requires.fits refl (record { has = refl; step = here })
+    (c.write_entry.ensures m refl (ap (λ x. Some x) (sym c.place.ensures))) (omega (arith, here))
+
+pub returns-in_default : goal.returns-in_default
+returns-in_default g c =
+    let l = c.self.inside in
+    let m = moving (Arriving l.kind.file) l.carrier in
+    let phase : IsIn FirstPhase (width c.args.fabric.now) m = subst (λ x. IsIn FirstPhase (width c.args.fabric.now) x) (sym c.self.view_is) c.requires.phase in
+    let steps : l.carrier.steps ≡ steps_done c.args.self.now.home = ap (λ (x : Moving). steps_done x.home) c.self.view_is in
+    let here : l.carrier.steps ≡ arrive_step 0 Fence = omega (arith, steps, c.done.ensures, phase) in
+    step_before c.args.fabric.now c.fence.new.fabric m c.args.self.now (Arriving l.kind.file) c.fence.new.self Fence c.self.view_is c.requires.fits refl (record { has = refl; step = here })
+    (c.fence.ensures m refl) (omega (arith, here))

@@ -1,0 +1,173 @@
+ghost use Rattle.std.specs.Prelude.{◌≡◌, ℕ, ◌<◌, ◌≤◌, true};
+ghost use Rattle.aia_home.specs.Home.{is_moving};
+ghost use Rattle.aia_home.specs.Plans.{steps_done, leave_step};
+ghost use Rattle.aia_home.specs.Plans.Access.{WriteStage};
+ghost use Rattle.aia_home.specs.Phases.{begins};
+ghost use Rattle.aia_home.specs.Phases.Phase.{ClosingPhase, DrainPhase, EnablePhase};
+ghost use Rattle.aia_move.specs.Move.{Fits, old_at, new_at, width};
+ghost use Rattle.aia_move.specs.Turns.{IsIn, GoesOn, MatchTurn, after_enable};
+
+use crate::Turn;
+use crate::carrier::Carrier;
+use crate::kind::Kind;
+use crate::phase::{Closing, Drain, Enable};
+use aia_fabric::{At, Fabric};
+use std::marker::{Model, PhantomData};
+
+/// A virtual hart that is moved, by a plan of a kind, in one of its phases. A step is one access,
+/// and says which phase comes next.
+#[derive(Drop)]
+pub struct Move<K: Kind, P> {
+    /// What it leaves, and where it leads.
+    pub(crate) kind: K,
+    /// What it has with it.
+    pub(crate) carrier: Carrier,
+    /// The phase.
+    pub(crate) phase: PhantomData<P>,
+}
+
+impl<K: Kind, P> Model for Move<K, P> {
+    ghost use Rattle.aia_move.specs.Move.{Moving};
+    ghost use Rattle.aia_move.specs.Load.{moving};
+
+    ghost Value = { Moving };
+
+    ghost view = { λ l. moving (K.home l.kind) l.carrier };
+}
+
+impl<K: Kind> Move<K, Closing> {
+    /// Makes the G-stage record name the new file, or nothing where the move leads to memory, and
+    /// puts it in force. Why here: both routes are closed before the first word is taken from the
+    /// old place, which is the slot in an arrival and else a guest file, so that no store comes
+    /// after its word.
+    pub fn step(mut self, fabric: &mut Fabric) -> Turn<Self, Move<K, Drain>>
+        requires fits { Fits fabric.old self }
+        requires phase { IsIn ClosingPhase (width fabric.old) self }
+        ensures goes { MatchTurn result (GoesOn fabric.old self fabric.new)
+            (GoesOn fabric.old self fabric.new) }
+        ensures phase { MatchTurn result (IsIn ClosingPhase (width fabric.new))
+            (IsIn DrainPhase (width fabric.new)) }
+    {
+        let _words = fabric.words();
+        let past = self.first_steps() + 2;
+        self.close(fabric);
+        self.turn(past)
+    }
+}
+
+impl<K: Kind> Move<K, Drain> {
+    /// Takes a word of the pending set from the old place, or puts it in the new one. Why here: no
+    /// store reaches the old place any more, so that a word which is taken stays empty.
+    pub fn step(mut self, fabric: &mut Fabric) -> Turn<Self, Move<K, Enable>>
+        requires fits { Fits fabric.old self }
+        requires phase { IsIn DrainPhase (width fabric.old) self }
+        ensures goes { MatchTurn result (GoesOn fabric.old self fabric.new)
+            (GoesOn fabric.old self fabric.new) }
+        ensures phase { MatchTurn result (IsIn DrainPhase (width fabric.new))
+            (IsIn EnablePhase (width fabric.new)) }
+    {
+        let words = fabric.words();
+        let past = self.first_steps() + 2 + 2 * words;
+        self.carry_pending(fabric);
+        self.turn(past)
+    }
+}
+
+impl<K: Kind> Move<K, Enable> {
+    /// Takes a word of the enabled set from the old place, or puts it in the new one. Why here: the
+    /// new place has all that was pending before anything in it is enabled; where it is the slot,
+    /// in a leave, a store to a word is told to the host from the word's enables on.
+    pub fn step(mut self, fabric: &mut Fabric) -> Turn<Self, Move<K, K::After>>
+        requires fits { Fits fabric.old self }
+        requires phase { IsIn EnablePhase (width fabric.old) self }
+        ensures goes { MatchTurn result (GoesOn fabric.old self fabric.new)
+            (GoesOn fabric.old self fabric.new) }
+        ensures phase { MatchTurn result (IsIn EnablePhase (width fabric.new))
+            (IsIn K.after (width fabric.new)) }
+    {
+        let words = fabric.words();
+        let past = self.first_steps() + 2 + 4 * words;
+        self.carry_enables(fabric);
+        self.turn(past)
+    }
+}
+
+/// What the phases share.
+impl<K: Kind, P> Move<K, P> {
+    /// Makes the next access of the phase of the G-stage record.
+    fn close(&mut self, fabric: &mut Fabric)
+        requires fits { Fits fabric.old self.old }
+        requires phase { IsIn ClosingPhase (width fabric.old) self.old }
+        ensures { GoesOn fabric.old self.old fabric.new self.new }
+    {
+        let _words = fabric.words();
+        let first = self.first_steps();
+        self.carrier.close(fabric, first, self.kind.new_file());
+    }
+
+    /// Makes the next access of the phase of the pending set.
+    fn carry_pending(&mut self, fabric: &mut Fabric)
+        requires fits { Fits fabric.old self.old }
+        requires phase { IsIn DrainPhase (width fabric.old) self.old }
+        ensures { GoesOn fabric.old self.old fabric.new self.new }
+    {
+        let _words = fabric.words();
+        let first = self.first_steps() + 2;
+        let from = self.old_place();
+        let to = self.new_place();
+        self.carrier.carry_pending(fabric, first, from, to);
+    }
+
+    /// Makes the next access of the phase of the enabled set.
+    fn carry_enables(&mut self, fabric: &mut Fabric)
+        requires fits { Fits fabric.old self.old }
+        requires phase { IsIn EnablePhase (width fabric.old) self.old }
+        ensures { GoesOn fabric.old self.old fabric.new self.new }
+    {
+        let words = fabric.words();
+        let first = self.first_steps() + 2 + 2 * words;
+        let from = self.old_place();
+        let to = self.new_place();
+        self.carrier.carry_enables(fabric, first, from, to);
+    }
+
+    /// Tells how many steps the first phase has, no more than that of a leave.
+    pub(crate) fn first_steps(&self) -> u32
+        ensures few { result ≤ leave_step 0 WriteStage }
+        ensures moves { is_moving self.now.home ≡ true }
+        ensures after { K.after ≡ after_enable self.now.home }
+        ensures value { (words : ℕ) → result ≡ begins words self.now.home ClosingPhase }
+    {
+        self.kind.first_steps()
+    }
+
+    /// Gives the place that the move leaves.
+    fn old_place(&self) -> At
+        ensures { result ≡ old_at self.now }
+    {
+        self.kind.old_place(self.carrier.slot())
+    }
+
+    /// Gives the place to which the move leads.
+    fn new_place(&self) -> At
+        ensures { result ≡ new_at self.now }
+    {
+        self.kind.new_place(self.carrier.slot())
+    }
+
+    /// Stays in its phase while fewer than `past` steps are done, and else goes on to another.
+    pub(crate) fn turn<Q>(self, past: u32) -> Turn<Self, Move<K, Q>>
+        ensures { MatchTurn result (λ t. (t ≡ self) × (steps_done t.home < past))
+            (λ t. (t ≡ self) × (past ≤ steps_done t.home)) }
+    {
+        if self.carrier.done() < past {
+            Turn::Stay(self)
+        } else {
+            Turn::On(Move {
+                kind: self.kind,
+                carrier: self.carrier,
+                phase: PhantomData,
+            })
+        }
+    }
+}
