@@ -49,9 +49,9 @@ use Rattle.aia_hyp.specs.declared.vcpu.VcpuRecord.{VcpuRecord}
 use Rattle.aia_hyp.specs.Core.{CoreState, no_record}
 use Rattle.aia_hyp.specs.HostFiles.{FileDone, HasDone, host_spot, select_place, select_in}
 use Rattle.aia_hyp.specs.Stands.{StandsForSome, HostStands, VcpuStands, is_held, CoreStands, CoreTakes, line_served, signals_of}
-use Rattle.aia_hyp.proofs.VcpuLemmas.{IsQuiet, same_n, quiet_line, quiet_msi, select_is, MajorsRest, majors_is, majors_rest, guest_rests, files_alone, held_stays, is_plain, IsStill, still_line}
+use Rattle.aia_hyp.proofs.VcpuLemmas.{IsQuiet, same_n, quiet_line, quiet_msi, select_is, MajorsRest, majors_is, majors_rest, guest_rests, files_alone, held_stays, is_quiet_line, IsStill, still_line, is_quiet_line}
 use Rattle.aia_hyp.proofs.NameLemmas.{no_guest, is_hosts, other_spot, there_too}
-use Rattle.aia_hyp.proofs.StandsLemmas.{count_after, Becomes, stands_after, built_as, flights_stay}
+use Rattle.aia_hyp.proofs.StandsLemmas.{count_after, Becomes, stands_after, built_as, flights_stay, keeps_by}
 use Rattle.aia_fabric.proofs.FrameLemmas.{files_rest}
 use Rattle.aia_fabric.specs.World.{OnlyStores}
 
@@ -75,39 +75,38 @@ pub record Changes (x y : CoreState) (h : History) (event : Event) : Type 0 wher
 
 pub changed : (x y : CoreState) (h : History) (event : Event) → Changes x y h event → CoreStands x h → Becomes x y h event
 changed x y h event c stands = record {
-  machine = c.quiet.machine;
-  rest = built_as x.world y.world y.world.imsic.files y.world.memory x.world.vms x.world.tables x.world.flights x.world.stages y.world.notices c.rest;
-  vms = ap (λ (w : World). w.vms) c.rest ∙ stands.vms ∙ sym c.quiet.vms;
+  keeps = keeps_by x y h event c.quiet.plain (built_as x.world y.world y.world.imsic.files y.world.memory x.world.vms x.world.tables x.world.flights x.world.stages y.world.notices c.rest);
+  vms = ap (λ (w : World). w.vms) c.rest ∙ stands.vms ∙ sym c.quiet.stays.vms;
   count = c.count;
   host = c.host;
-  records = c.records ∙ stands.records ∙ ap vcpus_in (sym c.quiet.vms);
+  records = c.records ∙ stands.records ∙ ap vcpus_in (sym c.quiet.stays.vms);
   vcpus = λ g inside. let before = was_there g inside in c.vcpus g before (stands.vcpus g before);
   lease_harts = ap (λ (l : Leases). l.harts) c.leases;
   lease_guests = ap (λ (l : Leases). l.guests) c.leases;
   lease_count = ap (λ (l : Leases). length l.out) c.leases;
-  leases = λ p inside. ap (λ l. is_out l p) c.leases ∙ stands.leases p inside ∙ sym (held_stays h event c.quiet p);
+  leases = λ p inside. ap (λ l. is_out l p) c.leases ∙ stands.leases p inside ∙ sym (held_stays h event c.quiet.stays p);
   held = λ g p inside holding. stands.held g p (was_there g inside) (still_held g p holding);
   apart = λ a b p ia ib ha hb. stands.apart a b p (was_there a ia) (was_there b ib) (still_held a p ha) (still_held b p hb);
   free = λ p inside none.
-      let was : is_held h p ≡ false = sym (held_stays h event c.quiet p) ∙ none in
+      let was : is_held h p ≡ false = sym (held_stays h event c.quiet.stays p) ∙ none in
       ap shown (c.free_files p inside was) ∙ stands.free p inside was;
-  no_vcpu = λ g outside. let before = was_missing g outside in (before, c.no_vcpu g before, c.quiet.homes g, c.no_majors g before);
+  no_vcpu = λ g outside. let before = was_missing g outside in (before, c.no_vcpu g before, c.quiet.stays.homes g, c.no_majors g before);
   no_entry = λ g inside outside.
-      let there : has_vm h g.vm ≡ true = ap (λ (vms : List Vm). nat_lt g.vm (length vms)) (sym c.quiet.vms) ∙ inside in
+      let there : has_vm h g.vm ≡ true = ap (λ (vms : List Vm). nat_lt g.vm (length vms)) (sym c.quiet.stays.vms) ∙ inside in
       ap (λ (w : World). entry_in_force (table_of w.tables g.vm) g.number) c.rest ∙ stands.no_entry g there (was_missing g outside);
   no_slot = λ q past few.
-      let before : vcpus_in (vms_of h) ≤ q = subst (λ (vms : List Vm). vcpus_in vms ≤ q) c.quiet.vms past in
+      let before : vcpus_in (vms_of h) ≤ q = subst (λ (vms : List Vm). vcpus_in vms ≤ q) c.quiet.stays.vms past in
       (before, c.no_slot q before few, ap (λ (w : World). get_or w.stages q no_stage) c.rest);
 }
   where
     was_there : (g : Vcpu) → has_vcpu (event ∷ h) g ≡ true → has_vcpu h g ≡ true
-    was_there g inside = ap (λ vms. is_vcpu_in vms g) (sym c.quiet.vms) ∙ inside
+    was_there g inside = ap (λ vms. is_vcpu_in vms g) (sym c.quiet.stays.vms) ∙ inside
 
     was_missing : (g : Vcpu) → has_vcpu (event ∷ h) g ≡ false → has_vcpu h g ≡ false
-    was_missing g outside = ap (λ vms. is_vcpu_in vms g) (sym c.quiet.vms) ∙ outside
+    was_missing g outside = ap (λ vms. is_vcpu_in vms g) (sym c.quiet.stays.vms) ∙ outside
 
     still_held : (g : Vcpu) (p : Place) → holds p (home (event ∷ h) g) ≡ true → holds p (home h g) ≡ true
-    still_held g p holding = ap (holds p) (sym (c.quiet.homes g)) ∙ holding
+    still_held g p holding = ap (holds p) (sym (c.quiet.stays.homes g)) ∙ holding
 
 pub one_more : (x y : CoreState) (h : History) (event : Event) → Changes x y h event → IsStill h event → CoreStands x h → CoreStands y (event ∷ h)
 one_more x y h event changes still stands = stands_after x y h event (changed x y h event changes stands) (flights_stay x y h event still (ap (λ (w : World). w.flights) changes.rest) stands) stands
@@ -120,7 +119,7 @@ pub record IsHosts (h : History) (event : Event) : Type 0 where
   pub guests : (g : Vcpu) → guest_deed g h event ≡ Rests
   pub majors : (g : Vcpu) → MajorsRest g event
 
-pub hosts_line : (h : History) (line : Line) → is_plain line ≡ true → noticed h (Accepted line) ≡ None → ((g : Vcpu) → guest_deed g h (Accepted line) ≡ Rests) → ((g : Vcpu) → MajorsRest g (Accepted line)) → IsHosts h (Accepted line)
+pub hosts_line : (h : History) (line : Line) → is_quiet_line line ≡ true → noticed h (Accepted line) ≡ None → ((g : Vcpu) → guest_deed g h (Accepted line) ≡ Rests) → ((g : Vcpu) → MajorsRest g (Accepted line)) → IsHosts h (Accepted line)
 hosts_line h line plain none guests majors = record { quiet = quiet_line h line plain; none = none; guests = guests; majors = majors }
 
 pub hosts_msi : (h : History) (msi : Msi) → IsHosts h (Delivered msi)
@@ -145,7 +144,7 @@ host_alone x y h event hosts rest leases vcpus harts guests files guest_files he
       records = ap (λ (rs : List VcpuRecord). length rs) vcpus;
       count = ap (λ (w : World). w.notices) rest ∙ ap (λ who. count_after who x.world.notices) (sym hosts.none);
       host = files;
-      vcpus = λ g inside p. guest_rests x y h event g hosts.quiet (record { n = ap (λ (w : World). w.n) rest; vms = vms; harts = harts; guests = guests }) (hosts.guests g) (hosts.majors g) (λ k. get_or (vcpus k) (slot_of (vms k) g) no_record)
+      vcpus = λ g inside p. guest_rests x y h event g hosts.quiet.stays (record { n = ap (λ (w : World). w.n) rest; vms = vms; harts = harts; guests = guests }) (hosts.guests g) (hosts.majors g) (λ k. get_or (vcpus k) (slot_of (vms k) g) no_record)
           (files_alone x.world y.world g (home h g) rest (λ q holding. guest_files q (held g q inside holding))) p;
       free_files = λ p inside none. guest_files p inside;
       no_vcpu = λ g outside. hosts.guests g;
@@ -229,7 +228,7 @@ pub taken : (x y : CoreState) (line : Line) (given : Answer) → move_deed line 
     → ((h : History) → CoreStands x h → (refusal h line ≡ None) × (given ≡ accepted_answer h line) × CoreStands y (Accepted line ∷ h)) → CoreTakes x y line given
 taken x y line given still by = by_refusal x y line given (λ h stands. let r = by h stands in (None, r.0, r.1, subst (λ d. CoreStands y (deed_taken h line d)) (sym still) r.2, λ word e. absurd (none-some word e)))
 
-pub accepted : (x y : CoreState) (line : Line) (given : Answer) → is_plain line ≡ true → move_deed line ≡ NoMove
+pub accepted : (x y : CoreState) (line : Line) (given : Answer) → is_quiet_line line ≡ true → move_deed line ≡ NoMove
     → ((h : History) → CoreStands x h → (refusal h line ≡ None) × (given ≡ accepted_answer h line) × Changes x y h (Accepted line)) → CoreTakes x y line given
 accepted x y line given plain still by = taken x y line given still (λ h stands. let r = by h stands in (r.0, r.1, one_more x y h (Accepted line) r.2 (still_line h line plain) stands))
 

@@ -1,7 +1,6 @@
--- The notice of a move's step, and what the step leaves of the records of stages that is nobody's.
-use Rattle.std.proofs.Common.{◌≡◌, ◌≢◌, ℕ, ◌+◌, ◌<◌, Bool, true, false, ◌&&◌, cond, nat_eq, get_or, Some, None, inl, inr, refl, sym, ap, subst, ◌∙◌, arith}
-use Rattle.std.proofs.lemmas.Bool.{cond-true, cond-false, eq-eqb, ne_eqb, ltb-true}
-use Rattle.std.proofs.lemmas.List.{get_or-set_other}
+-- The notice of a move's step.
+use Rattle.std.proofs.Common.{◌≡◌, ◌≢◌, ℕ, ◌+◌, Bool, true, false, ◌&&◌, cond, nat_eq, get_or, Some, None, inl, inr, refl, sym, ap, subst, ◌∙◌, arith}
+use Rattle.std.proofs.lemmas.Bool.{cases_eq, cond-true, cond-false, eq-eqb, ne_eqb}
 use Rattle.aia_file.specs.InterruptFile.{SameFile, landed}
 use Rattle.aia_file.specs.FileState.{FileState, shown}
 use Rattle.aia_imsic.specs.declared.spot.Spot.{Spot}
@@ -13,13 +12,11 @@ use Rattle.aia_home.specs.Home.{Home, Progress}
 use Rattle.aia_home.specs.Home.Home.{Parked, Resident, Leaving, Arriving, Shifting}
 use Rattle.aia_home.specs.BySteps.{is_leaving}
 use Rattle.aia_home.specs.Plans.{Access, IsNext, leave_step, leave_steps}
-use Rattle.aia_home.specs.Plans.Access.{TakeDelivery, PutDelivery, WriteNotice, WriteEntry, Fence, WriteStage, FenceStage, TakePending, PutPending, TakeEnables, PutEnables, Look, TakeThreshold, PutThreshold, Post}
+use Rattle.aia_home.specs.Plans.Access.{Post}
+use Rattle.aia_home.proofs.PlanLemmas.{one_a_step}
 use Rattle.aia_places.specs.Holds.{Hand}
-use Rattle.aia_fabric.specs.declared.at.At.{At}
-use Rattle.aia_fabric.specs.declared.at.At.TheVariants.{File, Slot}
-use Rattle.aia_fabric.specs.World.{World, no_stage}
-use Rattle.aia_fabric.specs.Changes.{with_pending, with_enable}
-use Rattle.aia_move.specs.Move.{Moving, mover, old_at, new_at, PostsIf, Makes, MakesNext}
+use Rattle.aia_fabric.specs.World.{World}
+use Rattle.aia_move.specs.Move.{Moving}
 use Rattle.aia_move.specs.Touches.{Touches, sends}
 use Rattle.aia_model.specs.Event.{History}
 use Rattle.aia_model.specs.Vms.{vms_of}
@@ -38,33 +35,16 @@ not_last : (steps words : ℕ) (saw : Bool) → steps ≢ leave_step words Post 
 not_last steps words saw ne = sym (ap (λ b. b && saw) (ne_eqb (steps + 1) (leave_steps words) (λ e. ne (omega (arith, e)))))
 
 leave_sent : (words : ℕ) (access : Access) (from : Place) (at : Progress) (hand : Hand) (saw : Bool) → IsNext words (Leaving from at) access → hand.seen ≡ saw → sends access hand ≡ (nat_eq (at.steps + 1) (leave_steps words) && saw)
-leave_sent words Post from at hand saw next seen =
-    let step : at.steps ≡ leave_step words Post = next.step in
-    seen ∙ sym (ap (λ b. b && saw) (eq-eqb (at.steps + 1) (leave_steps words) (omega (arith, step))))
-leave_sent words TakeDelivery from at hand saw next seen = let step : at.steps ≡ leave_step words TakeDelivery = next.step in not_last at.steps words saw (λ e. omega (arith, step, e))
-leave_sent words WriteNotice from at hand saw next seen = let step : at.steps ≡ leave_step words WriteNotice = next.step in not_last at.steps words saw (λ e. omega (arith, step, e))
-leave_sent words WriteEntry from at hand saw next seen = let step : at.steps ≡ leave_step words WriteEntry = next.step in not_last at.steps words saw (λ e. omega (arith, step, e))
-leave_sent words Fence from at hand saw next seen = let step : at.steps ≡ leave_step words Fence = next.step in not_last at.steps words saw (λ e. omega (arith, step, e))
-leave_sent words WriteStage from at hand saw next seen = let step : at.steps ≡ leave_step words WriteStage = next.step in not_last at.steps words saw (λ e. omega (arith, step, e))
-leave_sent words FenceStage from at hand saw next seen = let step : at.steps ≡ leave_step words FenceStage = next.step in not_last at.steps words saw (λ e. omega (arith, step, e))
-leave_sent words (TakePending k) from at hand saw next seen =
-    let step : at.steps ≡ leave_step 0 (TakePending k) = next.step in
-    let low : k < words = ltb-true k words next.has in not_last at.steps words saw (λ e. omega (arith, step, low, e))
-leave_sent words (PutPending k) from at hand saw next seen =
-    let step : at.steps ≡ leave_step 0 (PutPending k) = next.step in
-    let low : k < words = ltb-true k words next.has in not_last at.steps words saw (λ e. omega (arith, step, low, e))
-leave_sent words (TakeEnables k) from at hand saw next seen =
-    let step : at.steps ≡ leave_step words (TakeEnables k) = next.step in
-    let low : k < words = ltb-true k words next.has in not_last at.steps words saw (λ e. omega (arith, step, low, e))
-leave_sent words (PutEnables k) from at hand saw next seen =
-    let step : at.steps ≡ leave_step words (PutEnables k) = next.step in
-    let low : k < words = ltb-true k words next.has in not_last at.steps words saw (λ e. omega (arith, step, low, e))
-leave_sent words (Look k) from at hand saw next seen =
-    let step : at.steps ≡ leave_step words (Look k) = next.step in
-    let low : k < words = ltb-true k words next.has in not_last at.steps words saw (λ e. omega (arith, step, low, e))
-leave_sent words TakeThreshold from at hand saw next seen = let step : at.steps ≡ leave_step words TakeThreshold = next.step in not_last at.steps words saw (λ e. omega (arith, step, e))
-leave_sent words PutThreshold from at hand saw next seen = let no : false ≡ true = next.has in absurd (cc)
-leave_sent words PutDelivery from at hand saw next seen = let no : false ≡ true = next.has in absurd (cc)
+leave_sent words access from at hand saw next seen = elim (cases_eq at.steps (leave_step words Post)) [
+  | inl last ↦
+      let post : access ≡ Post = one_a_step words (Leaving from at) access Post next.has refl (sym next.step ∙ last) in
+      ap (λ (a : Access). sends a hand) post ∙ seen ∙ sym (ap (λ b. b && saw) (eq-eqb (at.steps + 1) (leave_steps words) (omega (arith, last))))
+  | inr more ↦ silent access next more ∙ not_last at.steps words saw more
+]
+  where
+    silent : (access : Access) → IsNext words (Leaving from at) access → at.steps ≢ leave_step words Post → sends access hand ≡ false
+    silent Post next more = absurd (more next.step)
+    silent access next more = refl
 
 arrive_sent : (words : ℕ) (access : Access) (to : Place) (at : Progress) (hand : Hand) → IsNext words (Arriving to at) access → sends access hand ≡ false
 arrive_sent words Post to at hand next = let no : false ≡ true = next.has in absurd (cc)
@@ -113,37 +93,3 @@ module _ (x y : CoreState) (h : History) (m : Moving) (g : Vcpu) (notice : m.who
     })
     | inr ne ↦ subst (FileDone x y f) (sym (cond-false _ _ _ (is_file-other f (SupervisorFile (notice_hart (vms_of h) g)) ne))) (rests f (elsewhere f t inside ne))
   ]
-
--- ---- records of stages
-
-pending_stages : (w : World) (at : At) (k v q : ℕ) → get_or (with_pending w at k v).stages q no_stage ≡ get_or w.stages q no_stage
-pending_stages w (File spot) k v q = refl
-pending_stages w (Slot slot) k v q = refl
-
-enable_stages : (w : World) (at : At) (k v q : ℕ) → get_or (with_enable w at k v).stages q no_stage ≡ get_or w.stages q no_stage
-enable_stages w (File spot) k v q = refl
-enable_stages w (Slot slot) k v q = refl
-
-posts_stages : (sent : Bool) (w u : World) (hart identity q : ℕ) → PostsIf sent w u hart identity → get_or u.stages q no_stage ≡ get_or w.stages q no_stage
-posts_stages true w u hart identity q p = ap (λ (x : World). get_or x.stages q no_stage) p.rest
-posts_stages false w u hart identity q e = ap (λ (x : World). get_or x.stages q no_stage) e
-
-made_stages : (access : Access) (w u : World) (m : Moving) → Makes access m w u → (q : ℕ) → q ≢ slot_of w.vms (mover m) → get_or u.stages q no_stage ≡ get_or w.stages q no_stage
-made_stages TakeDelivery w u m makes q apart = ap (λ (x : World). get_or x.stages q no_stage) makes.others
-made_stages PutDelivery w u m makes q apart = ap (λ (x : World). get_or x.stages q no_stage) makes.others
-made_stages WriteNotice w u m makes q apart = ap (λ (x : World). get_or x.stages q no_stage) makes
-made_stages WriteEntry w u m makes q apart = ap (λ (x : World). get_or x.stages q no_stage) makes
-made_stages Fence w u m makes q apart = ap (λ (x : World). get_or x.stages q no_stage) makes
-made_stages WriteStage w u m makes q apart = ap (λ (x : World). get_or x.stages q no_stage) makes ∙ get_or-set_other w.stages (slot_of w.vms (mover m)) q _ no_stage apart
-made_stages FenceStage w u m makes q apart = ap (λ (x : World). get_or x.stages q no_stage) makes ∙ get_or-set_other w.stages (slot_of w.vms (mover m)) q _ no_stage apart
-made_stages (TakePending k) w u m makes q apart = ap (λ (x : World). get_or x.stages q no_stage) makes ∙ pending_stages w (old_at m) k 0 q
-made_stages (PutPending k) w u m makes q apart = ap (λ (x : World). get_or x.stages q no_stage) makes.1 ∙ pending_stages w (new_at m) k _ q
-made_stages (TakeEnables k) w u m makes q apart = ap (λ (x : World). get_or x.stages q no_stage) makes ∙ enable_stages w (old_at m) k 0 q
-made_stages (PutEnables k) w u m makes q apart = ap (λ (x : World). get_or x.stages q no_stage) makes.1 ∙ enable_stages w (new_at m) k _ q
-made_stages (Look k) w u m makes q apart = ap (λ (x : World). get_or x.stages q no_stage) makes
-made_stages TakeThreshold w u m makes q apart = ap (λ (x : World). get_or x.stages q no_stage) makes.others
-made_stages PutThreshold w u m makes q apart = ap (λ (x : World). get_or x.stages q no_stage) makes.others
-made_stages Post w u m makes q apart = posts_stages m.hand.seen w u m.who.notice (m.who.slot + 1) q makes
-
-pub step_stages : (w u : World) (m : Moving) (hand : Hand) → (step : MakesNext w m u hand) → (q : ℕ) → q ≢ slot_of w.vms (mover m) → get_or u.stages q no_stage ≡ get_or w.stages q no_stage
-step_stages w u m hand step q apart = made_stages step.access w u m step.makes q apart

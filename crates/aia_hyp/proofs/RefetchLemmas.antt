@@ -55,7 +55,7 @@ use Rattle.aia_hyp.proofs.MoveChanges.{IsMoveOf, MoveChanges, file_rests, select
 -- It is one virtual hart's alone, as an event of its move is.
 refetch_of : (h : History) (vm number : ℕ) → IsMoveOf h (Accepted (Refetch vm number)) (vcpu vm number)
 refetch_of h vm number = record {
-  machine = refl;
+  plain = refl;
   vms = refl;
   homes = λ other ne. home_step (Accepted (Refetch vm number)) h other;
   reach = λ other ne. reach_step (Accepted (Refetch vm number)) h other ∙ cond-false _ _ _ ne;

@@ -4,6 +4,7 @@ use Rattle.std.specs.Prelude.{min}
 use Rattle.std.specs.Option.{option_map_or}
 use Rattle.std.proofs.lemmas.Bool.{ltb-true}
 use Rattle.std.proofs.lemmas.Nat.Bits.{bit_at-zero}
+use Rattle.std.proofs.lemmas.List.{length-replicate}
 use Rattle.aia_word.specs.Sets.{has_bit}
 use Rattle.aia_home.proofs.VmLemmas.{numbered}
 use Rattle.aia_regs.specs.declared.limits.TheConstants.{VCPUS}
@@ -16,14 +17,13 @@ use Rattle.aia_entry.specs.declared.entry.Entry.TheVariants.{NotValid}
 use Rattle.aia_entry.specs.Tables.{TableState, table_of, entry_in_force}
 use Rattle.aia_major.specs.VsMajor.{new_majors}
 use Rattle.aia_home.specs.declared.vm.Vm.{Vm}
-use Rattle.std.proofs.lemmas.List.{length-replicate}
 use Rattle.aia_home.specs.declared.place.Place.{Place}
 use Rattle.aia_home.specs.Vms.{Vcpu, vcpus_in, is_vcpu_in}
 use Rattle.aia_home.specs.Home.{holds}
 use Rattle.aia_home.specs.Home.Home.{Parked}
 use Rattle.aia_pool.specs.Leases.{Leases, is_out}
 use Rattle.aia_fabric.specs.declared.stage.Stage.{Stage}
-use Rattle.aia_fabric.specs.World.{no_stage}
+use Rattle.aia_fabric.specs.World.{World, no_stage}
 use Rattle.aia_fabric.specs.Changes.{spot_of}
 use Rattle.aia_fabric.specs.declared.flights.Flying.{Flying}
 use Rattle.aia_fabric.specs.World.{World, flight_of}
@@ -53,7 +53,7 @@ use Rattle.aia_move.proofs.MachineLemmas.{fits_still}
 use Rattle.aia_hyp.specs.Core.{CoreState, record_of}
 use Rattle.aia_hyp.specs.HostFiles.{FileDone, host_spot, select_place, select_in}
 use Rattle.aia_hyp.specs.Stands.{HostStands, PlanStands, VcpuStands, HoldApart, is_held, flying_of, CoreStands}
-use Rattle.aia_hyp.proofs.VcpuLemmas.{IsStill, same_n, select_is, MajorsRest, majors_is, majors_rest}
+use Rattle.aia_hyp.proofs.VcpuLemmas.{IsStill, same_n, select_is, MajorsRest, majors_is, majors_rest, is_plain, machine_kept}
 use Rattle.aia_hyp.proofs.NameLemmas.{there_too}
 
 -- ---- what an event makes of numbers, files of the host and notices
@@ -92,12 +92,26 @@ pub built_as : (w u : World) (files : List FileState) (memory : List ℕ) (vms :
     → u ≡ record w { imsic = record w.imsic { files = files }; memory = memory; vms = vms; tables = tables; flights = flights; stages = stages; notices = notices } → IsBuiltAs w u
 built_as w u files memory vms tables flights stages notices e = e ∙ ap (λ (x : World). record w { imsic = record w.imsic { files = x.imsic.files }; memory = x.memory; vms = x.vms; tables = x.tables; flights = x.flights; stages = x.stages; notices = x.notices }) (sym e)
 
+-- What is made with the machine stays, in the history and in the core.
+pub record Keeps (x y : CoreState) (h : History) (event : Event) : Type 0 where
+  pub machine : machine_of (event ∷ h) ≡ machine_of h
+  pub n : y.world.n ≡ x.world.n
+  pub harts : y.world.imsic.harts ≡ x.world.imsic.harts
+  pub guests : y.world.imsic.guests ≡ x.world.imsic.guests
+
+pub keeps_by : (x y : CoreState) (h : History) (event : Event) → is_plain event ≡ true → IsBuiltAs x.world y.world → Keeps x y h event
+keeps_by x y h event plain rest = record {
+  machine = machine_kept event h plain;
+  n = ap (λ (w : World). w.n) rest;
+  harts = ap (λ (w : World). w.imsic.harts) rest;
+  guests = ap (λ (w : World). w.imsic.guests) rest;
+}
+
 -- What an event makes of a core, other than the line that makes the machine: the one way by which a
 -- core stands for one event more. Who isn't there then was not there before, and the event is
 -- nothing to it; what is past the last slot then was so before, and stays.
 pub record Becomes (x y : CoreState) (h : History) (event : Event) : Type 0 where
-  pub machine : machine_of (event ∷ h) ≡ machine_of h
-  pub rest : IsBuiltAs x.world y.world
+  pub keeps : Keeps x y h event
   pub vms : y.world.vms ≡ vms_of (event ∷ h)
   pub count : y.world.notices ≡ count_after (noticed h event) x.world.notices
   pub host : (f : FileName) → IsThere x.world.imsic (host_spot f) → FileDone x y f (deed_at f h event)
@@ -117,8 +131,7 @@ pub record Becomes (x y : CoreState) (h : History) (event : Event) : Type 0 wher
 -- Other stores in flight are nothing to all that.
 pub with_flights : (x y : CoreState) (h : History) (event : Event) (flights : List (List Flying)) → Becomes x y h event → Becomes x (record y { world = record y.world { flights = flights } }) h event
 with_flights x y h event flights b = record {
-  machine = b.machine;
-  rest = ap (λ (w : World). record w { flights = flights }) b.rest;
+  keeps = record { machine = b.keeps.machine; n = b.keeps.n; harts = b.keeps.harts; guests = b.keeps.guests };
   vms = b.vms;
   count = b.count;
   host = λ f inside. let d = b.host f inside in record { file = d.file; select = d.select };
@@ -156,17 +169,17 @@ flights_stay x y h event still same stands = record {
 
 pub stands_after : (x y : CoreState) (h : History) (event : Event) → Becomes x y h event → FlightsBecome y h event → CoreStands x h → CoreStands y (event ∷ h)
 stands_after x y h event b flights stands =
-    let n : greatest_identity_of h ≡ greatest_identity_of (event ∷ h) = sym (same_n _ _ b.machine) in
-    let harts : harts_of h ≡ harts_of (event ∷ h) = sym (ap (λ (o : Option Shape). option_map_or (λ (m : Shape). m.harts) o 0) b.machine) in
-    let guests : guests_of h ≡ guests_of (event ∷ h) = sym (ap (λ (o : Option Shape). option_map_or (λ (m : Shape). m.guests) o 0) b.machine) in
-    let same_harts : y.world.imsic.harts ≡ x.world.imsic.harts = ap (λ (w : World). w.imsic.harts) b.rest in
-    let same_guests : y.world.imsic.guests ≡ x.world.imsic.guests = ap (λ (w : World). w.imsic.guests) b.rest in
+    let n : greatest_identity_of h ≡ greatest_identity_of (event ∷ h) = sym (same_n _ _ b.keeps.machine) in
+    let harts : harts_of h ≡ harts_of (event ∷ h) = sym (ap (λ (o : Option Shape). option_map_or (λ (m : Shape). m.harts) o 0) b.keeps.machine) in
+    let guests : guests_of h ≡ guests_of (event ∷ h) = sym (ap (λ (o : Option Shape). option_map_or (λ (m : Shape). m.guests) o 0) b.keeps.machine) in
+    let same_harts = b.keeps.harts in
+    let same_guests = b.keeps.guests in
     let before : (p : Place) → IsThere y.world.imsic (spot_of p) → IsThere x.world.imsic (spot_of p) = λ p inside. guest_too y.world.imsic x.world.imsic p same_harts same_guests inside in
     record {
-      there = ap (λ (o : Option Shape). is_some o) b.machine ∙ stands.there;
+      there = ap (λ (o : Option Shape). is_some o) b.keeps.machine ∙ stands.there;
       harts = same_harts ∙ stands.harts ∙ harts;
       guests = same_guests ∙ stands.guests ∙ guests;
-      greatest = ap (λ (w : World). w.n) b.rest ∙ stands.greatest ∙ n;
+      greatest = b.keeps.n ∙ stands.greatest ∙ n;
       vms = b.vms;
       notices = b.count ∙ ap (count_after (noticed h event)) stands.notices ∙ counted_more (noticed h event) (notices_sent h) ∙ ap (λ count. min count (2 ^ 64 - 1)) (sym (notices_step event h));
       host = λ f inside. let was = there_too y.world.imsic x.world.imsic f same_harts inside in host_more x y h event f (b.host f was) (stands.host f was);

@@ -37,17 +37,17 @@ begins_on words (Arriving to at) phase = refl
 begins_on words (Shifting from to at) phase = refl
 
 -- the move stays in its phase, or comes to the next one
-pub turned : (phase next : Phase) (w u : World) (m t : Moving) (past : ℕ) (turn : Turn Moving Moving) → IsIn phase (width w) m → GoesOn w m u t → past ≡ begins (width w) m.home (following phase) → begins (width w) m.home next ≡ past
-    → begins (width w) m.home next < begins (width w) m.home (following next) → MatchTurn turn (λ x. (x ≡ t) × (steps_done x.home < past)) (λ x. (x ≡ t) × (past ≤ steps_done x.home))
+pub turned : (phase next : Phase) (w u : World) (m t : Moving) (past : ℕ) (turn : Turn Moving Moving) → IsIn phase (width w) m → GoesOn w m u t
+    → MatchTurn turn (λ x. (x ≡ t) × (steps_done x.home < past)) (λ x. (x ≡ t) × (past ≤ steps_done x.home)) → past ≡ begins (width w) m.home (following phase) → begins (width w) m.home next ≡ past → begins (width w) m.home next < begins (width w) m.home (following next)
     → MatchTurn turn (IsIn phase (width u)) (IsIn next (width u))
-turned phase next w u m t past (Stay x) is goes ends begin more r = (omega (arith, same phase, steps, is), omega (arith, same (following phase), r.1, ends))
+turned phase next w u m t past (Stay x) is goes r ends begin more = (omega (arith, same phase, steps, is), omega (arith, same (following phase), r.1, ends))
   where
     same : (p : Phase) → begins (width u) x.home p ≡ begins (width w) m.home p
     same p = ap (λ n. begins n x.home p) goes.width ∙ ap (λ (y : Moving). begins (width w) y.home p) r.0 ∙ ap (λ h. begins (width w) h p) goes.goes.home ∙ begins_on (width w) m.home p
 
     steps : steps_done x.home ≡ steps_done m.home + 1
     steps = ap (λ (y : Moving). steps_done y.home) r.0 ∙ goes.steps
-turned phase next w u m t past (On x) is goes ends begin more r = (omega (arith, same next, r.1, begin), omega (arith, same (following next), steps, is, ends, begin, more))
+turned phase next w u m t past (On x) is goes r ends begin more = (omega (arith, same next, r.1, begin), omega (arith, same (following next), steps, is, ends, begin, more))
   where
     same : (p : Phase) → begins (width u) x.home p ≡ begins (width w) m.home p
     same p = ap (λ n. begins n x.home p) goes.width ∙ ap (λ (y : Moving). begins (width w) y.home p) r.0 ∙ ap (λ h. begins (width w) h p) goes.goes.home ∙ begins_on (width w) m.home p

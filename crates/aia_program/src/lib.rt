@@ -21,7 +21,9 @@ use std::{env, io};
 
 /// Runs the program over the standard streams by the words of its command line, and gives its exit
 /// status, which `command` speaks of.
-pub fn start(rt: &HostRuntime) -> ExitCode {
+pub fn start(rt: &HostRuntime) -> ExitCode
+    ensures number { Contains exit_numbers (exit_status result) }
+{
     let mut source = StdSource::new(rt.stdin());
     let mut sink = StdSink::new(rt.stdout());
     command(rt.alloc(), arguments(rt), &mut source, &mut sink)

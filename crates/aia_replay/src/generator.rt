@@ -22,7 +22,24 @@ pub fn summarize<K: Sink>(alloc: Global, count: u64, seed: u64, sink: &mut K) ->
         (K.faults sink.old) (K.faults sink.new) }
 {
     let mut engine = Engine::new();
-    let Ok(tally) = tally_lines(alloc, count, seed, &mut engine) else {
+    summarize_by(&mut engine, alloc, count, seed, sink)
+}
+
+/// Runs the script that two numbers generate by an engine with no machine, which is lent as in
+/// `replay_by`, and writes its summary.
+fn summarize_by<K: Sink>(
+    engine: &mut Engine,
+    alloc: Global,
+    count: u64,
+    seed: u64,
+    sink: &mut K,
+) -> Status
+    requires few { count ≤ MOST_LINES }
+    requires stands { StandsFor engine.old [] }
+    ensures { EndsWithSummary result (summary count seed) (K.taken sink.old) (K.taken sink.new)
+        (K.faults sink.old) (K.faults sink.new) }
+{
+    let Ok(tally) = tally_lines(alloc, count, seed, engine) else {
         return Status::Memory;
     };
     let mut text = ArrayVec::new();

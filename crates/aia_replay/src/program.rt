@@ -2,6 +2,7 @@ ghost use Rattle.std.specs.Prelude.{◌≡◌, ◌≢◌, ◌↔◌, ◌⊎◌, 
 ghost use Rattle.aia_io.specs.Ends.{Rose};
 ghost use Rattle.aia_generate.specs.Summary.{summary};
 ghost use Rattle.aia_replay.specs.Runs.{asked, EndsWith, EndsWithSummary, StopsAtMachine, Takes, WritesAnswers, TakesAll, TouchesNothing, FitsIn, IsDoneOrMemory};
+ghost use Rattle.aia_replay.specs.Streams.{Begins};
 
 use crate::generator::summarize;
 use crate::limits::SCRIPT_BYTES;
@@ -106,6 +107,25 @@ fn replay<S: Source, K: Sink>(alloc: Global, source: &mut S, sink: &mut K) -> St
         (K.faults sink.new) }
 {
     let mut replayer = Replayer::new();
+    replay_by(&mut replayer, alloc, source, sink)
+}
+
+/// Answers the script that the source gives, by a replayer that has read nothing. It is lent: a
+/// function that lets a machine go is dear to prove, the more so the more it does.
+fn replay_by<S: Source, K: Sink>(
+    replayer: &mut Replayer,
+    alloc: Global,
+    source: &mut S,
+    sink: &mut K,
+) -> Status
+    requires { Begins replayer.old }
+    ensures usage { result ≢ Status.Usage }
+    ensures machine { result ≡ Status.Memory → StopsAtMachine (S.supply source.old)
+        (S.supply source.new) (K.taken sink.old) (K.taken sink.new) }
+    ensures ends { EndsWith result (S.supply source.old) (S.supply source.new) (K.taken sink.old)
+        (K.taken sink.new) (S.faults source.old) (S.faults source.new) (K.faults sink.old)
+        (K.faults sink.new) }
+{
     match replayer.read_all(alloc, source, sink) {
         Ok(status) => status,
         Err(Stop::Sink) => Status::WriteFault,

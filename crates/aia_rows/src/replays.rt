@@ -1,5 +1,7 @@
 //! A script that is replayed, and what is looked at.
 
+ghost use Rattle.std.specs.Prelude.{◌≡◌, ◌↔◌, ◌+◌, ◌^◌, ◌-◌, min, IsTrue, IsFalse};
+
 use aia_io::{MemSink, MemSource};
 use aia_replay::{Status, run};
 use std::alloc::{AllocError, Global};
@@ -11,7 +13,7 @@ const PIECES: [usize; 3] = [1, 7, 16_384];
 /// More bytes than any script here prints.
 const ROOM: usize = 65_536;
 
-/// How many scripts are answered as they have to be, and how many are not.
+/// How many scripts or command lines are answered as they have to be, and how many are not.
 #[derive(Clone, Copy)]
 pub(crate) struct Tally {
     same: u32,
@@ -19,13 +21,20 @@ pub(crate) struct Tally {
 }
 
 impl Tally {
-    /// Makes one of no scripts.
-    pub(crate) fn new() -> Tally {
+    /// Makes one of none.
+    pub(crate) fn new() -> Tally
+        ensures { (result.same ≡ 0) × (result.differ ≡ 0) }
+    {
         Tally { same: 0, differ: 0 }
     }
 
-    /// Counts a script.
-    pub(crate) fn count(&mut self, is_same: bool) {
+    /// Counts one more.
+    pub(crate) fn count(&mut self, is_same: bool)
+        ensures same { IsTrue is_same → (self.new.differ ≡ self.old.differ)
+            × (self.new.same ≡ min (self.old.same + 1) (2 ^ 32 - 1)) }
+        ensures differ { IsFalse is_same → (self.new.same ≡ self.old.same)
+            × (self.new.differ ≡ min (self.old.differ + 1) (2 ^ 32 - 1)) }
+    {
         if is_same {
             self.same = self.same.saturating_add(1);
         } else {
@@ -34,23 +43,28 @@ impl Tally {
     }
 
     /// Counts those of another one.
-    pub(crate) fn add(&mut self, other: Tally) {
+    pub(crate) fn add(&mut self, other: Tally)
+        ensures same { self.new.same ≡ min (self.old.same + other.same) (2 ^ 32 - 1) }
+        ensures differ { self.new.differ ≡ min (self.old.differ + other.differ) (2 ^ 32 - 1) }
+    {
         self.same = self.same.saturating_add(other.same);
         self.differ = self.differ.saturating_add(other.differ);
     }
 
-    /// Tells whether no script is answered otherwise.
-    pub(crate) fn is_all_same(self) -> bool {
+    /// Tells whether none is answered otherwise.
+    pub(crate) fn is_all_same(self) -> bool
+        ensures { IsTrue result ↔ (self.differ ≡ 0) }
+    {
         self.differ == 0
     }
 
-    /// Prints the numbers, after the name of the group.
-    pub(crate) fn tell(self, rt: &HostRuntime, group: &str) -> io::Result<()> {
+    /// Prints the numbers, after the name of the group and before what they count.
+    pub(crate) fn tell(self, rt: &HostRuntime, group: &str, kind: &str) -> io::Result<()> {
         let Tally { same, differ } = self;
         if differ == 0 {
-            println!(rt; "{group}: {same} scripts same")
+            println!(rt; "{group}: {same} {kind} same")
         } else {
-            println!(rt; "{group}: {same} scripts same, {differ} differ")
+            println!(rt; "{group}: {same} {kind} same, {differ} differ")
         }
     }
 }

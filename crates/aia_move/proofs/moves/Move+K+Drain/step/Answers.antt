@@ -1,4 +1,4 @@
-use Rattle.std.proofs.Common.{◌≡◌, ◌+◌, ◌*◌, arith}
+use Rattle.std.proofs.Common.{◌≡◌, arith}
 use Rattle.aia_home.specs.Phases.Phase.{DrainPhase, EnablePhase}
 use Rattle.aia_move.specs.Move.{width}
 use Rattle.aia_move.proofs.PhaseSteps.{middle, turned}
@@ -10,5 +10,5 @@ returns-clause-phase g c =
     let words : c.words-words.result ≡ width w = c.words-words.ensures.value in
     let mid = middle (width w) c.args.self.home c.first_steps.ensures.moves in
     let first = c.first_steps.ensures.value (width w) in
-    turned DrainPhase EnablePhase w c.carry_pending.new.fabric c.args.self c.carry_pending.new.self (c.first_steps.result + 2 + 2 * c.words-words.result) c.turn.result c.requires.phase c.carry_pending.ensures
-    (omega (arith, words, first, mid.enable)) (omega (arith, words, first, mid.enable)) (omega (arith, words, c.words-words.ensures.some, mid.enable, mid.looks)) c.turn.ensures
+    turned DrainPhase EnablePhase w c.carry_pending.new.fabric c.args.self c.carry_pending.new.self _ c.turn.result c.requires.phase c.carry_pending.ensures c.turn.ensures
+    (omega (arith, words, first, mid.enable)) (omega (arith, words, first, mid.enable)) (omega (arith, words, c.words-words.ensures.some, mid.enable, mid.looks))

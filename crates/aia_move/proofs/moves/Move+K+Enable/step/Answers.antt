@@ -1,4 +1,4 @@
-use Rattle.std.proofs.Common.{◌≡◌, ◌+◌, ◌*◌, sym, subst, arith}
+use Rattle.std.proofs.Common.{◌≡◌, sym, subst, arith}
 use Rattle.aia_home.specs.Phases.Phase.{EnablePhase}
 use Rattle.aia_move.specs.Move.{width}
 use Rattle.aia_move.specs.Turns.{IsIn, MatchTurn, after_enable}
@@ -13,5 +13,5 @@ returns-clause-phase g c =
     let mid = middle (width w) c.args.self.home c.first_steps.ensures.moves in
     let first = c.first_steps.ensures.value (width w) in
     subst (λ next. MatchTurn c.turn.result (IsIn EnablePhase (width u)) (IsIn next (width u))) (sym c.first_steps.ensures.after)
-    (turned EnablePhase (after_enable c.args.self.home) w u c.args.self c.carry_enables.new.self (c.first_steps.result + 2 + 4 * c.words-words.result) c.turn.result c.requires.phase c.carry_enables.ensures
-    (omega (arith, words, first, mid.looks)) (omega (arith, words, first, mid.looks, mid.after)) (mid.more (omega (arith, words, c.words-words.ensures.some))) c.turn.ensures)
+    (turned EnablePhase (after_enable c.args.self.home) w u c.args.self c.carry_enables.new.self _ c.turn.result c.requires.phase c.carry_enables.ensures c.turn.ensures
+    (omega (arith, words, first, mid.looks)) (omega (arith, words, first, mid.looks, mid.after)) (mid.more (omega (arith, words, c.words-words.ensures.some))))
