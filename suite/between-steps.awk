@@ -123,8 +123,18 @@ function steps_of(kind) {
 function is_in_memory(who, storer,    kind) {
   kind = moving[who]
   if (kind == "") return !(who in resident)
-  if (kind == "leave") return steps[who] >= (storer == "device" ? 4 : 6)
-  return kind == "arrive" && steps[who] < (storer == "device" ? 2 : 4)
+  if (kind == "leave") return storer == "device" ? is_at_new(who) : steps[who] >= 6
+  return kind == "arrive" && (storer == "device" ? !is_at_new(who) : steps[who] < 4)
+}
+
+# How many steps are done after the fence of the entry.
+function fence_of(kind) {
+  return kind == "leave" ? 4 : kind == "arrive" ? 2 : 3
+}
+
+# Whether devices reach the place to which a move leads.
+function is_at_new(who) {
+  return steps[who] + (who in refetched) >= fence_of(moving[who])
 }
 
 function notices_word(who, w,    kind) {
@@ -137,11 +147,41 @@ function send_notice(who) {
   asks("host " notice_hart[who], slot[who] + 1)
 }
 
-# A store of a number at a file of a virtual hart.
-function store(who, storer, i) {
+# A store of a number at a file of a virtual hart, in memory or in a guest file.
+function store(who, is_to_memory, i) {
   asks("guest " who, i)
-  if (is_in_memory(who, storer) && ("enabled", "guest " who, i) in members \
-    && notices_word(who, int(i / 64))) send_notice(who)
+  if (is_to_memory && ("enabled", "guest " who, i) in members && notices_word(who, int(i / 64)))
+    send_notice(who)
+}
+
+# ---- stores in flight: of each the file, where it lands and its number
+
+# The k-th one of a VM lands, and those after it move up.
+function land(vm, k,    who, is_to_memory, i) {
+  who = flight_to[vm, k]
+  is_to_memory = flight_memory[vm, k]
+  i = flight_number[vm, k]
+  for (flying[vm]--; k < flying[vm]; k++) {
+    flight_to[vm, k] = flight_to[vm, k + 1]
+    flight_memory[vm, k] = flight_memory[vm, k + 1]
+    flight_number[vm, k] = flight_number[vm, k + 1]
+  }
+  store(who, is_to_memory, i)
+}
+
+function land_answer(vm, k) {
+  if (k >= flying[vm] + 0) return "range"
+  land(vm, k)
+  return "ok"
+}
+
+function send(vm, who, i,    k) {
+  if (flying[vm] + 0 == 8) return "full"
+  k = flying[vm]++
+  flight_to[vm, k] = who
+  flight_memory[vm, k] = is_in_memory(who, "device")
+  flight_number[vm, k] = i
+  return "ok"
 }
 
 function free_file(hart,    j, who, is_held) {
@@ -156,6 +196,7 @@ function free_file(hart,    j, who, is_held) {
 function begin(kind, who, hart) {
   moving[who] = kind
   steps[who] = saw[who] = 0
+  delete refetched[who]
   coming[who] = kind == "leave" ? "" : free_file(hart)
 }
 
@@ -163,8 +204,11 @@ function look(who, w,    i) {
   for (i = 64 * w; i < 64 * w + 64; i++) if (is_deliverable_in("guest " who, i)) saw[who] = 1
 }
 
-function step(who,    kind, w) {
+function step(who,    kind, w, vm) {
   kind = moving[who]
+  vm = substr(who, 1, 1)
+  if (steps[who] + 1 == fence_of(kind)) while (flying[vm] > 0) land(vm, 0)
+  delete refetched[who]
   w = steps[who] - 6 - 4 * words
   if (kind == "leave" && w >= 0 && w < words) look(who, w)
   if (++steps[who] < steps_of(kind)) return "moving"
@@ -195,20 +239,23 @@ function make_vm(count, hart,    c) {
   vms++
 }
 
-# A store of a device: the file number is in bits 4 and 3 of the page number.
-function device_answer(vm, address, value,    offset, i) {
+# A store of a device, or one that is sent: the file number is in bits 4 and 3 of the page number.
+function device_answer(name, vm, address, value,    offset, i, who) {
   offset = address % 4096
   if (offset == 4) i = value % 256 * 2 ^ 24 + int(value / 256) % 256 * 2 ^ 16 \
     + int(value / 2 ^ 16) % 256 * 256 + int(value / 2 ^ 24)
   else i = offset ? 0 : value
-  store(vm " " int(address / 32768) % 4, "device", i)
+  who = vm " " int(address / 32768) % 4
+  if (name == "send") return send(vm, who, i)
+  store(who, is_in_memory(who, "device"), i)
   return "ok"
 }
 
 function guest_answer(who, name, a, b) {
   if (!(who in resident) || moving[who] != "") return "away"
   if (name == "ipi") {
-    store(substr(who, 1, 1) " " a, "peer", number(b))
+    who = substr(who, 1, 1) " " a
+    store(who, is_in_memory(who, "peer"), number(b))
     return "ok"
   }
   if (a == "sip") return wide(sip(who))
@@ -234,10 +281,13 @@ function answer(line,    field, who) {
   who = field[2] " " field[3]
   if (field[1] ~ /^(arrive|leave|shift)$/) return move_answer(field[1], who, field[4])
   if (field[1] == "step") return moving[who] == "" ? "idle" : step(who)
-  if (field[1] == "msi") return device_answer(field[2], number(field[3]), number(field[4]))
+  if (field[1] == "msi" || field[1] == "send")
+    return device_answer(field[1], field[2], number(field[3]), number(field[4]))
+  if (field[1] == "land") return land_answer(field[2], field[3])
   if (field[1] == "g") return guest_answer(who, field[4], field[5], field[6])
   if (field[1] == "h") return host_answer(field[2], field[3], field[4], field[5])
   if (field[1] == "begin") begin(field[2], field[3] " " field[4], field[5])
+  if (field[1] == "refetch" && moving[who] != "") refetched[who]
   if (field[1] == "vm") make_vm(field[2], field[4])
   if (field[1] == "st") asks("host " int((number(field[2]) - 671088640) / 32768), number(field[3]))
   if (field[1] == "inject" && field[5]) injected[who, field[4]]
@@ -288,15 +338,23 @@ function say_before(is_deliverable,    hart) {
   say_all("before", "leave 0 0;h 1 csrrw stopei 0;arrive 0 0 0")
 }
 
-function say_begin(kind) {
+# The beginning of a move; and where stores are to be in flight, its first steps, up to the fence or
+# none, and then the stores.
+function say_begin(kind, flight,    k) {
   count["begin"] = 0
   if (kind == "leave") say("begin", "begin leave 0 0")
   if (kind == "arrive") say_all("begin", "leave 0 0;h 1 csrrw stopei 0;begin arrive 0 0 0")
   if (kind == "shift") say("begin", "begin shift 0 0 1")
+  done = flight == "past" ? fence_of(kind) : 0
+  for (k = 0; k < done; k++) say("begin", "step 0 0")
+  if (flight == "") return
+  say_all("begin", "send 0 0x28000000 5;send 0 0x28008000 6;send 1 0x28000000 6")
+  say("begin", sprintf("send 0 0x28000004 0x%02x000000", words == 2 ? 70 : 7))
 }
 
 function say_after(kind,    k, some, many) {
   count["after"] = 0
+  say("after", "land 0 0")
   if (kind == "leave") say("after", "arrive 0 0 1")
   say_all("after", "h 1 csrr sireg;h 0 csrr sireg;h 1 hgeip;h 0 hgeip;g 0 0 csrr stopei")
   say_all("after", "g 0 0 csrr sireg;g 0 0 csrr sip;g 0 0 csrr stopi;g 0 0 csrrw stopei 0")
@@ -341,6 +399,41 @@ function say_others() {
   say("lines", "arrive 0 2 1;g 0 2 ipi 0 5")
 }
 
+# Stores that are sent, which land at once, at a later fence or after the move, and entries that are
+# read again.
+function say_flights() {
+  say("lines", "send 0 0x28000000 5;h 1 csrrw stopei 0;land 0 0;h 1 csrrw stopei 0")
+  say("lines", "send 0 0x28000000 5")
+  say("lines", "send 0 0x28000000 9;send 0 0x28000000 7;land 0 1;h 1 csrrw stopei 0")
+  say("lines", "refetch 0 0;msi 0 0x28000000 5;h 1 csrrw stopei 0;g 0 1 ipi 0 7;h 1 csrr sireg")
+  say("lines", "refetch 0 0;send 0 0x28000000 5;land 0 0;h 1 csrrw stopei 0")
+  say("lines", "send 0 0x28000000 5;refetch 0 0;land 0 0;h 1 csrrw stopei 0;msi 0 0x28000000 7")
+  say("lines", "refetch 0 0;send 0 0x28000000 5")
+  say("lines", "refetch 0 1;refetch 0 2;refetch 1 0;msi 0 0x28000000 5;h 1 csrrw stopei 0")
+  say("lines", "send 0 0x28008000 5;send 0 0x28010000 5;send 1 0x28000000 5;land 0 1;land 1 0")
+  say("lines", "send 0 0x28000000 5;send 1 0x28000000 6;leave 1 0;land 1 0;land 0 0;h 1 csrr sireg")
+  say("lines", "send 0 0x28000000 5;leave 0 1;land 0 0;h 1 csrr sireg;arrive 0 1 1")
+  say("lines", "send 0 0x28000000 5;begin arrive 0 2 1;step 0 2;h 1 csrr sireg;step 0 2;land 0 0")
+}
+
+# Lines where stores are in flight already: of VM 0 three, the second for virtual hart 1, and of
+# VM 1 one.
+function say_landings(    k) {
+  count["lines"] = 0
+  for (k = 0; k < 3; k++) {
+    say("lines", "land 0 " k ";h 1 csrrw stopei 0;h 0 csrr sireg")
+    say("lines", "refetch 0 0;land 0 " k ";h 1 csrrw stopei 0;land 0 1")
+  }
+  say("lines", "land 0 3;land 0 2;land 0 1;h 1 csrrw stopei 0;land 0 0;h 1 csrrw stopei 0;land 0 0")
+  say("lines", "land 1 1;land 1 0;land 1 0;h 0 hgeip")
+  say("lines", "refetch 0 0;refetch 0 1;msi 0 0x28000000 9;send 0 0x28000000 12;land 0 0")
+  say("lines", "refetch 0 0;send 0 0x28000000 5;land 0 3;h 1 csrrw stopei 0;send 0 0x28000000 7")
+  say("lines", "leave 1 0;land 1 0;land 0 0;h 1 csrr sireg;arrive 1 0 0")
+  say("lines", "leave 0 1;land 0 0;h 1 csrr sireg")
+  say("lines", "send 0 0x28000000 1;send 0 0x28000000 2;send 0 0x28000000 3;send 0 0x28000000 4" \
+    ";send 0 0x28000000 8;send 0 0x28000000 9;send 1 0x28000000 5;land 0 7;land 0 5")
+}
+
 function say_majors() {
   say("lines", "inject 0 0 9 1;inject 0 0 5 1;inject 0 0 1 1;inject 0 0 1 0")
   say("lines", "hvictl 0 0 0x100;hviprio 0 0 0x300;inject 0 0 1 1;msi 0 0x28000000 5")
@@ -357,6 +450,7 @@ function say_lines() {
   }
   say_stores()
   say_others()
+  say_flights()
   say_majors()
 }
 
@@ -395,6 +489,13 @@ function state_words() {
   state("guarded", "st 0x28001000 5;ld 0x28001000;st 0x28009000 5;st 0x80000000 5;ld 0x80002000")
   state("other", "msi 0 0x24000000 5;msi 0 0x28020000 5;msi 1 0x28010000 5")
   state("notvalid", "msi 0 0x28018000 5;entry 0 0")
+  state("bad", "send 0 0x28000000;send 0 0x28000000 5 5;land 0;land 0 0 0;refetch 0;refetch 0 0 0")
+  state("range", "send 2 0x28000000 5;land 0 0;land 1 0;land 2 0;refetch 0 3;refetch 2 0")
+  state("fault", "send 0 0x28000001 5")
+  state("other", "send 0 0x24000000 5;send 1 0x28010000 5")
+  state("notvalid", "send 0 0x28018000 5")
+  # Where no store of a device follows, it does not show which entry is in force.
+  state("ok", "refetch 0 0;refetch 0 1;refetch 0 2;refetch 1 0")
   state("gfault", "g 0 1 ipi 3 5")
   state("0x00000000", "ld 0x28000000")
 }
@@ -405,8 +506,14 @@ function forget(    name) {
   split("", members); split("", delivery); split("", threshold); split("", selected)
   split("", injected); split("", ipriom); split("", byte_of_1); split("", resident)
   split("", moving); split("", coming); split("", steps); split("", saw)
-  split("", slot); split("", notice_hart)
+  split("", slot); split("", notice_hart); split("", refetched)
+  split("", flying); split("", flight_to); split("", flight_memory); split("", flight_number)
   vms = vcpus = 0
+}
+
+# How many steps are to come after the beginning.
+function steps_left(kind) {
+  return steps_of(kind) - done
 }
 
 # Gives what a run answers, with lines between two steps, from the first of them on; of looks that
@@ -419,7 +526,7 @@ function run(kind, lines, gap, is_usual,    k, some, many, got, said, same) {
   for (k = 0; k < gap; k++) step("0 0")
   many = split(lines, some, ";")
   for (k = 1; k <= many; k++) said = said (k > 1 ? " " : "") answer(some[k])
-  for (k = gap; k < steps_of(kind); k++) step("0 0")
+  for (k = gap; k < steps_left(kind); k++) step("0 0")
   for (k = 1; k <= count["after"]; k++) {
     got = answer(text["after", k])
     if (is_usual) answers["after", k] = got
@@ -448,7 +555,7 @@ function put_list(word, list,    k, lines, said) {
 }
 
 function put_runs(kind, lines,    gap, from, said, last) {
-  for (gap = from = 0; gap < steps_of(kind); gap++) {
+  for (gap = from = 0; gap < steps_left(kind); gap++) {
     said = run(kind, lines, gap)
     if (gap > 0 && said != last) {
       print "at " from " " gap " " lines " => " last
@@ -459,16 +566,17 @@ function put_runs(kind, lines,    gap, from, said, last) {
   print "at " from " " gap " " lines " => " last
 }
 
-function put_move(kind, is_deliverable,    k) {
-  say_begin(kind)
+function put_move(kind, is_deliverable, flight,    k) {
+  say_begin(kind, flight)
   say_after(kind)
   run(kind, "", 0, 1)
-  print "\n== " kind " of " greatest " identities" (is_deliverable ? ", one deliverable" : "")
-  print "steps " steps_of(kind)
+  print "\n== " kind " of " greatest " identities" (is_deliverable ? ", one deliverable" : "") \
+    (flight == "" ? "" : flight == "past" ? ", stores sent past its fence" : ", stores sent before")
+  print "steps " steps_left(kind)
   put_list("before", "before")
   put_list("before", "begin")
   put_list("after", "after")
-  if (!is_deliverable) print "rows"
+  if (!is_deliverable && flight == "") print "rows"
   for (k = 1; k <= count["lines"]; k++) put_runs(kind, text["lines", k])
 }
 
@@ -484,6 +592,12 @@ BEGIN {
       if (is_deliverable) say_few_lines()
       else say_lines()
       for (kind = 1; kind <= 3; kind++) put_move(kinds[kind], is_deliverable)
+    }
+    say_before(0)
+    say_landings()
+    for (kind = 1; kind <= 3; kind++) {
+      put_move(kinds[kind], 0, "before")
+      put_move(kinds[kind], 0, "past")
     }
   }
 }
