@@ -87,6 +87,9 @@ impl Machine {
             Line::Load { addr } => self.load(addr),
             Line::Store { addr, value } => self.store(addr, value),
             Line::Msi { vm, addr, value } => self.msi(vm, addr, value),
+            Line::Send { vm, addr, value } => self.send(vm, addr, value),
+            Line::Land { vm, k } => self.land(vm, k),
+            Line::Refetch { vm, vcpu } => self.refetch(vm, vcpu),
             Line::MachineCsr { hart, csr, op } => self.access(Level::Machine, hart, csr, op),
             Line::HostCsr { hart, csr, op } => self.access(Level::Host, hart, csr, op),
             Line::Hgeip { hart } => self.hgeip(hart),
@@ -138,6 +141,27 @@ impl Machine {
         ensures { MachineTakes self.old self.new (Line.Msi vm addr value) result }
     {
         okay(self.core.msi(vm, addr, value))
+    }
+
+    /// Sends a store of a device of a VM, by the core.
+    fn send(&mut self, vm: u64, addr: u64, value: u32) -> Answer
+        ensures { MachineTakes self.old self.new (Line.Send vm addr value) result }
+    {
+        okay(self.core.send(vm, addr, value))
+    }
+
+    /// Lands a store in flight, by the core.
+    fn land(&mut self, vm: u64, k: u64) -> Answer
+        ensures { MachineTakes self.old self.new (Line.Land vm k) result }
+    {
+        okay(self.core.land(vm, k))
+    }
+
+    /// Has the entry of a virtual hart read again, by the core.
+    fn refetch(&mut self, vm: u64, vcpu: u64) -> Answer
+        ensures { MachineTakes self.old self.new (Line.Refetch vm vcpu) result }
+    {
+        okay(self.core.refetch(vm, vcpu))
     }
 
     /// Tells which guest files of a hart signal.
