@@ -152,3 +152,80 @@ fn the_core_serves_resident_virtual_harts(rt: HostRuntime) -> Result<(), Fail> {
     drop(core);
     Ok(())
 }
+
+#[test]
+fn the_core_has_stores_in_flight(rt: HostRuntime) -> Result<(), Fail> {
+    let mut core = Hyp::new(rt.alloc(), 1, 1, 63)?;
+    same!(rt; core.vm(3, 0x18, 0), Ok(()));
+    same!(rt; core.whole(0, 0, Want::Arrive(0)), Ok(()));
+    // Enable 5 and 6.
+    same!(rt; core.guest(0, 0, Csr::Select, Op::Write(0xc0)), Ok(0));
+    same!(rt; core.guest(0, 0, Csr::Reg, Op::Write(0x60)), Ok(0));
+    let sends = [
+        (1, 0x2800_0000, Err(Refusal::Range)),
+        (0, 0x2800_0002, Err(Refusal::Fault)),
+        (0, 0x2802_0000, Err(Refusal::Other)),
+        (0, 0x2801_8000, Err(Refusal::NotValid)),
+        (0, 0x2800_0000, Ok(())),
+    ];
+    for (vm, addr, given) in sends {
+        same!(rt; core.send(vm, addr, 5), given; addr);
+    }
+    same!(rt; core.guest(0, 0, Csr::Topei, Op::Read), Ok(0));
+    let lands = [
+        (0, 1, Err(Refusal::Range)),
+        (1, 0, Err(Refusal::Range)),
+        (0, 0, Ok(())),
+        (0, 0, Err(Refusal::Range)),
+    ];
+    for (vm, k, given) in lands {
+        same!(rt; core.land(vm, k), given; (vm, k));
+    }
+    same!(rt; core.guest(0, 0, Csr::Topei, Op::Write(0)), Ok(0x5_0005));
+    drop(core);
+    Ok(())
+}
+
+#[test]
+fn the_core_has_eight_stores_of_a_vm_in_flight_at_most(rt: HostRuntime) -> Result<(), Fail> {
+    let mut core = Hyp::new(rt.alloc(), 1, 1, 63)?;
+    same!(rt; core.vm(1, 0x8, 0), Ok(()));
+    same!(rt; core.vm(1, 0x8, 0), Ok(()));
+    for value in 1..9u32 {
+        same!(rt; core.send(0, 0x2800_0000, value), Ok(()); value);
+    }
+    same!(rt; core.send(0, 0x2800_0000, 9), Err(Refusal::Full));
+    same!(rt; core.send(1, 0x2800_0000, 9), Ok(()));
+    // An arrival lands those of its own VM, and all are carried into the guest file.
+    same!(rt; core.whole(0, 0, Want::Arrive(0)), Ok(()));
+    same!(rt; core.land(0, 0), Err(Refusal::Range));
+    same!(rt; core.land(1, 0), Ok(()));
+    same!(rt; core.guest(0, 0, Csr::Select, Op::Write(0x80)), Ok(0));
+    same!(rt; core.guest(0, 0, Csr::Reg, Op::Read), Ok(0x1fe));
+    drop(core);
+    Ok(())
+}
+
+#[test]
+fn the_core_reads_an_entry_again(rt: HostRuntime) -> Result<(), Fail> {
+    let mut core = Hyp::new(rt.alloc(), 1, 1, 63)?;
+    same!(rt; core.vm(1, 0x8, 0), Ok(()));
+    same!(rt; core.whole(0, 0, Want::Arrive(0)), Ok(()));
+    // Enable 5 and 6, and be told of notices in the supervisor file.
+    same!(rt; core.guest(0, 0, Csr::Select, Op::Write(0xc0)), Ok(0));
+    same!(rt; core.guest(0, 0, Csr::Reg, Op::Write(0x60)), Ok(0));
+    same!(rt; core.whole(0, 0, Want::Leave), Ok(()));
+    same!(rt; core.host(Level::Host, 0, Csr::Select, Op::Write(0x80)), Ok(0));
+    // An arrival has written the entry, but not fenced it.
+    same!(rt; core.begin(0, 0, Want::Arrive(0)), Ok(()));
+    same!(rt; core.step(0, 0), Ok(false));
+    same!(rt; core.msi(0, 0x2800_0000, 5), Ok(()));
+    same!(rt; core.host(Level::Host, 0, Csr::Reg, Op::Write(0)), Ok(2));
+    same!(rt; core.refetch(0, 0), Ok(()));
+    same!(rt; core.msi(0, 0x2800_0000, 6), Ok(()));
+    same!(rt; core.host(Level::Host, 0, Csr::Reg, Op::Read), Ok(0));
+    same!(rt; core.refetch(0, 1), Err(Refusal::Range));
+    same!(rt; core.refetch(1, 0), Err(Refusal::Range));
+    drop(core);
+    Ok(())
+}

@@ -31,4 +31,6 @@ mod sets;
 #[cfg(test)]
 mod spellings;
 #[cfg(test)]
+mod stores_in_flight;
+#[cfg(test)]
 mod tables;

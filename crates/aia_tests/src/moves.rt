@@ -21,7 +21,7 @@ use std::test::Fail;
 
 /// Makes two harts with one guest file each, and a VM of two virtual harts.
 #[tactic(auto, unfolding(aia_word::specs::Packed::ones))]
-fn one_vm(alloc: Global) -> Result<Fabric, AllocError> {
+pub(crate) fn one_vm(alloc: Global) -> Result<Fabric, AllocError> {
     let mut fabric = Fabric::new(alloc, 2, 1, 63)?;
     fabric.vm(2, 0x8, 1);
     Ok(fabric)
@@ -133,7 +133,7 @@ fn topei(fabric: &Fabric) -> Option<u64> {
 }
 
 /// Finds a virtual hart.
-fn who_is(fabric: &Fabric, vm: u32, vcpu: u32) -> Option<Who>
+pub(crate) fn who_is(fabric: &Fabric, vm: u32, vcpu: u32) -> Option<Who>
     ensures there { IfSome result (IsWho fabric.now) }
     ensures named { IfSome result (λ who. (who.vm ≡ vm) × (who.vcpu ≡ vcpu)) }
 {
@@ -173,7 +173,7 @@ fn routes_change_when_they_are_put_in_force(rt: HostRuntime) -> Result<(), Fail>
 }
 
 /// Puts the entry of virtual hart 1 in force.
-fn put_in_force(fabric: &mut Fabric) {
+pub(crate) fn put_in_force(fabric: &mut Fabric) {
     if fabric.has_vcpu(0, 1) {
         fabric.fence(0, 1);
     }
