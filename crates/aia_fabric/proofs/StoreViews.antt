@@ -15,6 +15,7 @@ use Rattle.aia_mrif.specs.Mrif.{mrif_in, pending_place, after_store}
 use Rattle.aia_mrif.specs.Words.{words_after_store}
 use Rattle.aia_home.specs.declared.place.Place.{Place}
 use Rattle.aia_home.specs.Vms.{Vcpu, slot_of}
+use Rattle.aia_home.proofs.HomeLemmas.{same_place}
 use Rattle.aia_home.specs.Home.{Home, is_place, holds}
 use Rattle.aia_home.specs.Home.Home.{Parked, Resident, Leaving, Arriving, Shifting}
 use Rattle.aia_home.specs.BySteps.{own_file, next_file}
@@ -51,9 +52,6 @@ module _ (w u : World) (g : Vcpu) (p : Place) (offset value : ℕ) (whole : IsWh
   one_file : (q r : Place) → IsThere w.imsic (spot_of q) → is_place q p ≡ false → q ≡ r → IsThere w.imsic (spot_of r) × (is_place r p ≡ false)
   one_file q r there apart same = subst (λ (x : Place). IsThere w.imsic (spot_of x) × (is_place x p ≡ false)) same (there, apart)
 
-  same_one : (a b : Place) → is_place a b ≡ true → a ≡ b
-  same_one a b e = let hart : a.hart ≡ b.hart = grind (arith, nat_tests) in let file : a.file ≡ b.file = grind (arith, nat_tests) in λ k. record { hart = hart k; file = file k }
-
   other_way : (a b : Place) → is_place a b ≡ false → is_place b a ≡ false
   other_way a b apart = grind (arith, nat_tests)
 
@@ -61,16 +59,16 @@ module _ (w u : World) (g : Vcpu) (p : Place) (offset value : ℕ) (whole : IsWh
   pub file_store-view : (there : Home) → holds p there ≡ true → AreApart there → ((r : Place) → own_file there ≡ Some r → IsThere w.imsic (spot_of r)) → ((r : Place) → next_file there ≡ Some r → IsThere w.imsic (spot_of r))
       → view u g there ≡ view_landed (Some p) there offset value (view w g there)
   file_store-view Parked held apart own next = absurd (cc)
-  file_store-view (Resident q) held apart own next = own-landed (Resident q) (ap Some (sym (same_one p q held))) no_next
-  file_store-view (Leaving from at) held apart own next = own-landed (Leaving from at) (ap Some (sym (same_one p from held))) no_next
-  file_store-view (Arriving to at) held apart own next = own-landed (Arriving to at) (ap Some (sym (same_one p to held))) no_next
+  file_store-view (Resident q) held apart own next = own-landed (Resident q) (ap Some (sym (same_place p q held))) no_next
+  file_store-view (Leaving from at) held apart own next = own-landed (Leaving from at) (ap Some (sym (same_place p from held))) no_next
+  file_store-view (Arriving to at) held apart own next = own-landed (Arriving to at) (ap Some (sym (same_place p to held))) no_next
   file_store-view (Shifting from to at) held apart own next = elim (cases_Bool (is_place p to)) [
     | inl second ↦
-        let same : p ≡ to = same_one p to second in
+        let same : p ≡ to = same_place p to second in
         let not_from : is_place from p ≡ false = ap (λ (x : Place). is_place from x) same ∙ apart in
         next-landed (Shifting from to at) (ap Some (sym same)) (λ r e. let is : from ≡ r = cc in one_file from r (own from refl) not_from is) ∙ sym (rw second refl)
     | inr first ↦
-        let same : p ≡ from = same_one p from (either (is_place p from) (is_place p to) held first) in
+        let same : p ≡ from = same_place p from (either (is_place p from) (is_place p to) held first) in
         let not_to : is_place to p ≡ false = other_way p to first in
         own-landed (Shifting from to at) (ap Some (sym same)) (λ r e. let is : to ≡ r = cc in one_file to r (next to refl) not_to is) ∙ sym (rw first refl)
   ]

@@ -22,8 +22,8 @@ use Rattle.aia_home.specs.declared.place.Place.{Place}
 use Rattle.aia_home.specs.Vms.{Vcpu, is_vcpu_in, slot_of, notice_identity, notice_hart}
 use Rattle.aia_home.specs.Home.{Home, is_place, holds}
 use Rattle.aia_home.specs.Home.Home.{Parked, Resident, Leaving, Arriving, Shifting}
-use Rattle.aia_home.specs.BySteps.{own_file, next_file, new_file}
-use Rattle.aia_home.specs.Routes.{origin, peers_reach, MayLand}
+use Rattle.aia_home.specs.BySteps.{own_file, next_file}
+use Rattle.aia_home.specs.Routes.{peers_reach, MayLand}
 use Rattle.aia_home.proofs.RouteLemmas.{reach_lands, peers_may}
 use Rattle.aia_places.specs.View.{View, leads_to}
 use Rattle.aia_places.specs.Holds.{Holds, IsWithin}
@@ -34,7 +34,7 @@ use Rattle.aia_fabric.specs.Whole.{IsWhole}
 use Rattle.aia_fabric.specs.Stores.{StoresIn, StoresAt, NoticedBy, StoresInSlot, Reaches, Relays, with_store, page_spot, named_spot}
 use Rattle.aia_fabric.specs.Changes.{spot_of, file_in, view}
 use Rattle.aia_fabric.specs.Own.{TouchesOwn}
-use Rattle.aia_home.proofs.HomeLemmas.{own_is_held, next_is_held}
+use Rattle.aia_home.proofs.HomeLemmas.{same_place, landing_is_held}
 use Rattle.aia_fabric.proofs.OwnLemmas.{guest_spot, touches_file, touches_slot, others_stay}
 use Rattle.aia_fabric.proofs.PlaceLemmas.{slot_found, host_page}
 use Rattle.aia_fabric.proofs.StoreViews.{file_store-view, slot_store-view}
@@ -79,35 +79,11 @@ abbrev Lands : World → World → Vcpu → Option Place → ℕ → ℕ → Typ
 Lands w u g (Some p) offset value = StoresIn w u (spot_of p) offset value
 Lands w u g None offset value = StoresInSlot w u (Some (slot_of w.vms g)) (HostFile (notice_hart w.vms g)) (notice_identity w.vms g) offset value
 
-place_held : (words : ℕ) (place : Option Place) (there : Home) (p : Place) → MayLand words there place → place ≡ Some p → holds p there ≡ true
-place_held words place there p may some = either may
-  where
-    origin_held : (z : Home) → origin z ≡ Some p → holds p z ≡ true
-    origin_held (Resident q) e = own_is_held (Resident q) p e
-    origin_held (Leaving from at) e = own_is_held (Leaving from at) p e
-    origin_held (Shifting from to at) e = own_is_held (Shifting from to at) p e
-    origin_held Parked e = absurd (cc)
-    origin_held (Arriving to at) e = absurd (cc)
-
-    new_held : (z : Home) → new_file z ≡ Some p → holds p z ≡ true
-    new_held (Arriving to at) e = own_is_held (Arriving to at) p e
-    new_held (Shifting from to at) e = next_is_held (Shifting from to at) p e
-    new_held Parked e = absurd (cc)
-    new_held (Resident q) e = absurd (cc)
-    new_held (Leaving from at) e = absurd (cc)
-
-    either : MayLand words there place → holds p there ≡ true
-    either (inl a) = origin_held there (sym a.0 ∙ some)
-    either (inr a) = new_held there (sym a.0 ∙ some)
-
 held_there : (w : World) (m : Moving) → Fits w m → (p : Place) → holds p m.home ≡ true → IsThere w.imsic (spot_of p)
 held_there w m fits p held = by_home m.home fits.own fits.next held
   where
-    one : (a b : Place) → is_place a b ≡ true → a ≡ b
-    one a b e = let hart : a.hart ≡ b.hart = grind (arith, nat_tests) in let file : a.file ≡ b.file = grind (arith, nat_tests) in λ k. record { hart = hart k; file = file k }
-
     at : (q : Place) → is_place p q ≡ true → IsThere w.imsic (spot_of q) → IsThere w.imsic (spot_of p)
-    at q e inside = subst (λ (r : Place). IsThere w.imsic (spot_of r)) (sym (one p q e)) inside
+    at q e inside = subst (λ (r : Place). IsThere w.imsic (spot_of r)) (sym (same_place p q e)) inside
 
     by_home : (z : Home) → ((r : Place) → own_file z ≡ Some r → IsThere w.imsic (spot_of r)) → ((r : Place) → next_file z ≡ Some r → IsThere w.imsic (spot_of r)) → holds p z ≡ true → IsThere w.imsic (spot_of p)
     by_home Parked own next e = absurd (cc)
@@ -134,7 +110,7 @@ module _ (w u : World) (plan : Plan) (reach : Option Place) (file : InterruptFil
   shows : (place : Option Place) → MayLand (width w) mv.home place → Lands w u (mover mv) place offset value
       → (view u (mover mv) mv.home ≡ view_landed place mv.home offset value (view w (mover mv) mv.home)) × SameMachine w u
   shows (Some p) may stores =
-      let held = place_held (width w) (Some p) mv.home p may refl in
+      let held = landing_is_held (width w) mv.home (Some p) p may refl in
       let here = held_there w mv knows.fits p held in (
         file_store-view w u (mover mv) p offset value whole here stores mv.home held apart knows.fits.own knows.fits.next,
         own_machine w u (mover mv) (Some p) (touches_file w u (mover mv) p offset value whole knows.fits.there here stores),
@@ -155,7 +131,7 @@ module _ (w u : World) (plan : Plan) (reach : Option Place) (file : InterruptFil
   -- a device's, where its entry in force leads
   entry_lands : (place : Option Place) → MayLand (width w) mv.home place → Reaches (leads_by (leads_to (slot_of w.vms (mover mv)) (notice_hart w.vms (mover mv)) place)) w u offset value
       → Lands w u (mover mv) place offset value
-  entry_lands (Some p) may reaches = subst (λ (s : Spot). StoresAt w u s offset value) (guest_spot w.imsic p whole.harts whole.guests (held_there w mv knows.fits p (place_held (width w) (Some p) mv.home p may refl))) reaches
+  entry_lands (Some p) may reaches = subst (λ (s : Spot). StoresAt w u s offset value) (guest_spot w.imsic p whole.harts whole.guests (held_there w mv knows.fits p (landing_is_held (width w) mv.home (Some p) p may refl))) reaches
   entry_lands None may reaches =
       let hart = notice_hart_there w (mover mv) whole knows.fits.there in
       subst (λ (s : Spot). StoresInSlot w u (Some (slot_of w.vms (mover mv))) s (slot_of w.vms (mover mv) + 1) offset value) (host_page w.imsic (notice_hart w.vms (mover mv)) hart whole.harts)
@@ -185,7 +161,7 @@ peer_knows w u plan reach file saw value whole apart within knows relays =
     (relayed (peers_reach m.home) may (subst (λ (o : Option Place). Relays o w u (mover m) value) knows.holds.routes.stage_in_force relays))
   where
     relayed : (place : Option Place) → MayLand (width w) (moving_of plan).home place → Relays place w u (mover (moving_of plan)) value → Lands w u (mover (moving_of plan)) place 0 value
-    relayed (Some p) may relays = subst (λ (s : Spot). StoresAt w u s 0 value) (named_guest w.imsic p (held_there w (moving_of plan) knows.fits p (place_held (width w) (Some p) (moving_of plan).home p may refl))) relays
+    relayed (Some p) may relays = subst (λ (s : Spot). StoresAt w u s 0 value) (named_guest w.imsic p (held_there w (moving_of plan) knows.fits p (landing_is_held (width w) (moving_of plan).home (Some p) p may refl))) relays
     relayed None may relays = relays
 
 -- ---- a store for another virtual hart, and one of the host

@@ -58,7 +58,7 @@ module _ (w u : World) (m : Moving) where
     slots = λ r low other. refl;
     entry_words = λ g there other. (refl, refl);
     in_force = λ g other. refl;
-    stages = λ g there other. refl;
+    stages = λ q other. refl;
   })
 
   held_apart : (there : Home) (r p : Place) → holds r there ≡ false → holds p there ≡ true → spot_of r ≢ spot_of p
@@ -78,7 +78,7 @@ module _ (w u : World) (m : Moving) where
     slots = λ r low other. refl;
     entry_words = λ g there other. (refl, refl);
     in_force = λ g other. refl;
-    stages = λ g there other. refl;
+    stages = λ q other. refl;
   })
 
   -- a word of memory: one of the slot, or one of the entry
@@ -98,7 +98,7 @@ module _ (w u : World) (m : Moving) where
     slots = λ r low other. other_words w.memory r place v (apart r low other);
     entry_words = λ g there other. (get_or-set_other w.memory place (entry_word_place g.vm g.number) v 0 (past g there other).0, get_or-set_other w.memory place (entry_word_place g.vm g.number + 1) v 0 (past g there other).1);
     in_force = λ g other. refl;
-    stages = λ g there other. refl;
+    stages = λ q other. refl;
   })
 
   module _ (whole : IsWhole w) (stands : is_vcpu_in w.vms (mover m) ≡ true) where
@@ -139,7 +139,7 @@ module _ (w u : World) (m : Moving) where
       slots = λ r low other. refl;
       entry_words = λ g there other. (refl, refl);
       in_force = λ g other. fenced_elsewhere w.tables m.who.vm m.who.vcpu w.memory g.vm g.number (elsewhere g other);
-      stages = λ g there other. refl;
+      stages = λ q other. refl;
     })
       where
         elsewhere : (g : Vcpu) → g ≢ mover m → (g.vm ≢ m.who.vm) ⊎ (g.number ≢ m.who.vcpu)
@@ -162,7 +162,7 @@ module _ (w u : World) (m : Moving) where
       slots = λ r low other. refl;
       entry_words = λ g there other. (refl, refl);
       in_force = λ g other. refl;
-      stages = λ g there other. get_or-set_other w.stages (slot_of w.vms (mover m)) (slot_of w.vms g) s no_stage (λ same. other (same_slot w.vms g (mover m) there stands same));
+      stages = λ q other. get_or-set_other w.stages (slot_of w.vms (mover m)) q s no_stage other;
     })
 
   pub touches_notice : m.who.notice < w.imsic.harts → Posts w u (HostFile m.who.notice) (m.who.slot + 1) → Touches true w u m
@@ -182,7 +182,7 @@ module _ (w u : World) (m : Moving) where
     slots = λ r small other. ap (λ (x : World). mrif_in x.memory r) p.rest;
     entry_words = λ g there other. (ap (λ (x : World). get_or x.memory (entry_word_place g.vm g.number) 0) p.rest, ap (λ (x : World). get_or x.memory (entry_word_place g.vm g.number + 1) 0) p.rest);
     in_force = λ g other. ap (λ (x : World). entry_in_force (table_of x.tables g.vm) g.number) p.rest;
-    stages = λ g there other. ap (λ (x : World). stage_of x g) p.rest;
+    stages = λ q other. ap (λ (x : World). get_or x.stages q no_stage) p.rest;
   }
 
   pub touches_notice_if : (seen : Bool) → m.who.notice < w.imsic.harts → PostsIf seen w u m.who.notice (m.who.slot + 1) → Touches seen w u m
@@ -282,14 +282,15 @@ file_stays sent w u m (Some p) t others = let other = others p refl in ap shown 
 
 pub view_stays : (sent : Bool) (w u : World) (m : Moving) (g : Vcpu) (there : Home) → IsWhole w → Fits w m → Touches sent w u m → is_vcpu_in w.vms g ≡ true → g ≢ mover m
     → ((p : Place) → holds p there ≡ true → IsThere w.imsic (spot_of p) × (holds p m.home ≡ false)) → view u g there ≡ view w g there
-view_stays sent w u m g there whole fits t stands other apart =
-    let own = file_stays sent w u m (own_file there) t (λ p e. apart p (own_is_held there p e)) in
-    let next = file_stays sent w u m (next_file there) t (λ p e. apart p (next_is_held there p e)) in
+view_stays sent w u m g there whole fits t stands other theirs =
+    let own = file_stays sent w u m (own_file there) t (λ p e. theirs p (own_is_held there p e)) in
+    let next = file_stays sent w u m (next_file there) t (λ p e. theirs p (next_is_held there p e)) in
+    let apart : slot_of w.vms g ≢ slot_of w.vms (mover m) = λ e. other (same_slot w.vms g (mover m) stands fits.there e) in
     let slot = ap (λ (x : World). mrif_in u.memory (slot_of x.vms g)) t.rest
-    ∙ t.slots (slot_of w.vms g) (slot_low w g whole stands) (λ e. other (same_slot w.vms g (mover m) stands fits.there (e ∙ fits.slot))) in
+    ∙ t.slots (slot_of w.vms g) (slot_low w g whole stands) (λ e. apart (e ∙ fits.slot)) in
     let words = t.entry_words g stands other in
     let entry = t.in_force g other in
-    let stage = t.stages g stands other in
+    let stage : stage_of u g ≡ stage_of w g = ap (λ (x : World). get_or u.stages (slot_of x.vms g) no_stage) t.rest ∙ t.stages (slot_of w.vms g) apart in
     λ k. record { own = own k; next = next k; slot = slot k; word0 = words.0 k; word1 = words.1 k; in_force = entry k; stage = (stage k).written; stage_in_force = (stage k).in_force }
 
 -- the virtual hart that is moved has its slot and notice hart still, and its files are there

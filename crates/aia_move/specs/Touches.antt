@@ -1,18 +1,18 @@
 -- What a step of a move leaves as it is: all but the places of the virtual hart that is moved, and
 -- the file to which its notice goes.
-use Rattle.std.specs.Prelude.{◌≡◌, ◌≢◌, ℕ, ◌+◌, ◌<◌, ◌⊎◌, Bool, true, false, length, slice_index}
+use Rattle.std.specs.Prelude.{◌≡◌, ◌≢◌, ℕ, ◌+◌, ◌<◌, ◌⊎◌, Bool, true, false, length, slice_index, slice_index_or}
 use Rattle.aia_regs.specs.declared.limits.TheConstants.{VCPUS}
 use Rattle.aia_imsic.specs.declared.spot.Spot.TheVariants.{MachineFile, HostFile}
 use Rattle.aia_imsic.specs.Imsic.{IsThere, file_at}
 use Rattle.aia_mrif.specs.Mrif.{mrif_in}
 use Rattle.aia_entry.specs.Tables.{table_of, entry_in_force}
 use Rattle.aia_home.specs.declared.place.Place.{Place}
-use Rattle.aia_home.specs.Vms.{Vcpu, is_vcpu_in}
+use Rattle.aia_home.specs.Vms.{Vcpu, is_vcpu_in, slot_of}
 use Rattle.aia_home.specs.Home.{holds}
 use Rattle.aia_home.specs.Plans.{Access}
 use Rattle.aia_home.specs.Plans.Access.{Post}
 use Rattle.aia_places.specs.Holds.{Hand}
-use Rattle.aia_fabric.specs.World.{World, stage_of}
+use Rattle.aia_fabric.specs.World.{World, no_stage}
 use Rattle.aia_fabric.specs.Making.{entry_word_place}
 use Rattle.aia_fabric.specs.Stores.{Posts}
 use Rattle.aia_fabric.specs.Changes.{spot_of}
@@ -69,5 +69,5 @@ pub record Touches (sent : Bool) (w u : World) (m : Moving) : Type 0 where
       ≡ slice_index w.memory (entry_word_place g.vm g.number + 1))
   pub in_force : (g : Vcpu) → g ≢ mover m → entry_in_force (table_of u.tables g.vm) g.number
       ≡ entry_in_force (table_of w.tables g.vm) g.number
-  pub stages : (g : Vcpu) → is_vcpu_in w.vms g ≡ true → g ≢ mover m
-      → stage_of u g ≡ stage_of w g
+  pub stages : (q : ℕ) → q ≢ slot_of w.vms (mover m)
+      → slice_index_or u.stages q no_stage ≡ slice_index_or w.stages q no_stage

@@ -4,6 +4,7 @@ use Rattle.std.proofs.lemmas.Bool.{cases_lt}
 use Rattle.std.proofs.lemmas.Bool.Decides.{nat_tests}
 use Rattle.aia_file.specs.InterruptFile.{InterruptFile}
 use Rattle.aia_home.specs.declared.place.Place.{Place}
+use Rattle.aia_home.proofs.HomeLemmas.{is_itself_place}
 use Rattle.aia_home.specs.Home.{Home, is_moving, is_place}
 use Rattle.aia_home.specs.Home.Home.{Parked, Resident, Leaving, Arriving, Shifting}
 use Rattle.aia_home.specs.Plans.{is_made, is_carried}
@@ -24,10 +25,7 @@ two_ends Parked moves apart = absurd (cc)
 two_ends (Resident p) moves apart = absurd (cc)
 two_ends (Leaving from at) moves apart = λ e. absurd (cc)
 two_ends (Arriving to at) moves apart = λ e. absurd (cc)
-two_ends (Shifting from to at) moves apart = λ e. let same : to ≡ from = cc in let itself : is_place from to ≡ true = rw same (own from) in let no : true ≡ false = sym itself ∙ apart in absurd (cc)
-  where
-    own : (p : Place) → is_place p p ≡ true
-    own p = grind (arith, nat_tests)
+two_ends (Shifting from to at) moves apart = λ e. let same : to ≡ from = cc in let itself : is_place from to ≡ true = rw same (is_itself_place from) in let no : true ≡ false = sym itself ∙ apart in absurd (cc)
 
 module _ (words q hart : ℕ) (reach : Option Place) (v : View) (there : Home) (hand : Hand) (file : InterruptFile) (saw : Bool) (moves : is_moving there ≡ true) (h : Holds words q hart reach v there hand file saw) where
   pub closing_knows : has_come words there ClosingPhase ≡ true → v.in_force ≡ leads_to q hart (new_file there)
