@@ -60,34 +60,6 @@ keeps_notices (Stepped x) past g there = (there, refl, refl)
 keeps_notices (Delivered msi) past g there = (there, refl, refl)
 keeps_notices (Landed vm k) past g there = (there, refl, refl)
 
--- each store in flight is for a virtual hart that is there
-abbrev AllThere : History → Type 0
-AllThere h = (vm : ℕ) → AllByRecursion (λ s. has_vcpu h (sent_to vm s) ≡ true) (flight h vm)
-
-abbrev IsThere : History → ℕ → Sending → Type 0
-IsThere h vm s = has_vcpu h (sent_to vm s) ≡ true
-
-there_on : (event : Event) (past : History) (vm : ℕ) → flight (event ∷ past) vm ≡ flight past vm → AllByRecursion (IsThere past vm) (flight past vm) → AllByRecursion (IsThere (event ∷ past) vm) (flight (event ∷ past) vm)
-there_on event past vm same all =
-    subst (AllByRecursion (IsThere (event ∷ past) vm)) (sym same) (all_on (IsThere past vm) (IsThere (event ∷ past) vm) (λ s there. (keeps_notices event past (sent_to vm s) there).0) (flight past vm) all)
-
-all_there : (h : History) → IsHistory h → AllThere h
-unfolding flight
-all_there [] good vm = tt
-all_there (Accepted (Send v addr value) ∷ past) good vm = elim (cases_Bool (nat_eq v vm)) [
-  | inl own ↦ rw own (all_append (λ s. has_vcpu past (sent_to vm s) ≡ true) (flight past vm) (record { before = past; addr = addr; value = value }) (all_there past good.1 vm)
-      (subst (λ m. has_vcpu past (named_by past m addr) ≡ true) (eqb-true v vm own) (send_allowed past v addr value good.0)))
-  | inr other ↦ rw other (all_there past good.1 vm)
-]
-all_there (Landed v k ∷ past) good vm = elim (cases_Bool (nat_eq v vm)) [
-  | inl own ↦ rw own (all_remove (λ s. has_vcpu past (sent_to vm s) ≡ true) k (flight past vm) (all_there past good.1 vm))
-  | inr other ↦ rw other (all_there past good.1 vm)
-]
-all_there (Accepted line ∷ past) good vm = there_on (Accepted line) past vm refl (all_there past good.1 vm)
-all_there (Began move ∷ past) good vm = there_on (Began move) past vm refl (all_there past good.1 vm)
-all_there (Stepped x ∷ past) good vm = there_on (Stepped x) past vm refl (all_there past good.1 vm)
-all_there (Delivered msi ∷ past) good vm = there_on (Delivered msi) past vm refl (all_there past good.1 vm)
-
 -- ---- a notice asks for it
 
 chosen_is : (b : Bool) (x g : Vcpu) → names_vcpu (if b then Some x else None) g ≡ true → g ≡ x
@@ -105,7 +77,7 @@ noticed_is_there (Landed vm k) past g may good e = by_store (flying past vm k) r
   where
     by_store : (o : Option Sending) → flying past vm k ≡ o → names_vcpu (noticed_by_landing past vm o) g ≡ true → has_vcpu past g ≡ true
     by_store None is e = absurd (false≢true e)
-    by_store (Some s) is e = ap (has_vcpu past) (chosen_is _ (sent_to vm s) g e) ∙ all_at (λ s. has_vcpu past (sent_to vm s) ≡ true) k (flight past vm) s is (all_there past good vm)
+    by_store (Some s) is e = ap (has_vcpu past) (chosen_is _ (sent_to vm s) g e) ∙ flying_there past vm k s good is
 
 noticed_one : (told : Option Vcpu) (g : Vcpu) → names_vcpu told g ≡ true → told ≡ Some g
 noticed_one None g e = absurd (false≢true e)
