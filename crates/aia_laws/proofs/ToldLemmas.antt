@@ -21,8 +21,8 @@ use Rattle.aia_model.specs.FileAfter.FileDeed.{Stores}
 use Rattle.aia_model.specs.FileOf.{FileName, SupervisorFile, notice_deed, deed_at, select_of, file_of}
 use Rattle.aia_model.specs.GuestFile.{guest_file, named_by, sent_to}
 use Rattle.aia_model.specs.Flight.{Sending, flight, flying}
-use Rattle.aia_model.proofs.FlightLemmas.{all_on, all_append, all_remove, all_at}
-use Rattle.std.specs.List.{AllByRecursion}
+use Rattle.aia_model.proofs.FlightLemmas.{stays_there}
+use Rattle.aia_model.proofs.HistoryLemmas.{flying_there}
 use Rattle.aia_model.specs.HomeOf.{home}
 use Rattle.aia_model.specs.Notice.{noticed, noticed_by_landing}
 use Rattle.aia_model.proofs.FileLemmas.{file_step, newest_word, is_file-itself}
@@ -36,29 +36,14 @@ use Rattle.aia_laws.proofs.NoticeLemmas.{noticed_while_parked}
 
 -- ---- a virtual hart keeps its file of the host and its identity
 
-vm_within : (vms : List Vm) (g : Vcpu) → is_vcpu_in vms g ≡ true → g.vm < length vms
-vm_within vms g there = elim (cases_lt g.vm (length vms)) [
-  | inl within ↦ within
-  | inr past ↦
-      let few : g.number < (vm_in vms g.vm).vcpus = ltb-true g.number (vm_in vms g.vm).vcpus there in
-      let none = vm_past vms g.vm past in absurd (omega (arith, few, none))
-]
-
 -- Whether after an event a virtual hart is there still, with its file of the host and its identity.
 abbrev KeepsNotices : Event → History → Vcpu → Type 0
 KeepsNotices event past g = (has_vcpu (event ∷ past) g ≡ true) × (notice_file (event ∷ past) g ≡ notice_file past g) × (notice_number (event ∷ past) g ≡ notice_number past g)
 
 keeps_notices : (event : Event) (past : History) (g : Vcpu) → has_vcpu past g ≡ true → KeepsNotices event past g
-keeps_notices (Accepted (lines.Vm vcpus mask hart)) past g there =
-    let new : Vm = record { vcpus = vcpus; mask = mask; notice_hart = hart } in
-    let within = vm_within (vms_of past) g there in
-    let same = vm_stays (vms_of past) new g.vm within in
-    (ap (λ (vm : Vm). nat_lt g.number vm.vcpus) same ∙ there, ap (λ (vm : Vm). SupervisorFile vm.notice_hart) same, ap (λ q. q + 1) (slot_stays (vms_of past) new g within))
-keeps_notices (Accepted line) past g there = (there, refl, refl)
-keeps_notices (Began move) past g there = (there, refl, refl)
-keeps_notices (Stepped x) past g there = (there, refl, refl)
-keeps_notices (Delivered msi) past g there = (there, refl, refl)
-keeps_notices (Landed vm k) past g there = (there, refl, refl)
+keeps_notices event past g there =
+    let stays = stays_there event past g there in
+    (stays.0, ap SupervisorFile stays.2, ap (λ q. q + 1) stays.1)
 
 -- ---- a notice asks for it
 
