@@ -151,6 +151,52 @@ g 1 1 csrrw stopei 0
 msi 1 0x28008000 6
 ";
 
+/// Virtual hart 0 of VM 0 leaves while two stores are in flight to it. The entry is read again
+/// before its fence, the later store lands, and the fence lands the other one; then it comes back
+/// and claims both.
+pub const FLYING: &str = "machine 1 1 63 1
+vm 1 0x8 0
+arrive 0 0 0
+g 0 0 csrrw siselect 0xc0
+g 0 0 csrrw sireg 0x60
+send 0 0x28000000 5
+send 0 0x28000000 6
+begin leave 0 0
+step 0 0
+step 0 0
+step 0 0
+refetch 0 0
+land 0 1
+step 0 0
+step 0 0
+step 0 0
+step 0 0
+step 0 0
+step 0 0
+step 0 0
+step 0 0
+step 0 0
+step 0 0
+arrive 0 0 0
+g 0 0 csrrw stopei 0
+g 0 0 csrrw stopei 0
+";
+
+/// The same stores land while it stays where it is.
+pub const STAYING: &str = "machine 1 1 63 1
+vm 1 0x8 0
+arrive 0 0 0
+g 0 0 csrrw siselect 0xc0
+g 0 0 csrrw sireg 0x60
+send 0 0x28000000 5
+send 0 0x28000000 6
+refetch 0 0
+land 0 1
+land 0 0
+g 0 0 csrrw stopei 0
+g 0 0 csrrw stopei 0
+";
+
 /// What is said to a virtual hart is the same in two scripts that have nothing else in common, but
 /// for a read of its own in the second: so it is the same in both, and its replies are, but for
 /// that read's. A store that names no identity says nothing, and all that says nothing may be left
@@ -203,4 +249,23 @@ pub fn the_host_is_told_of_what_is_pending()
         ≡ Accesses Reg Read ∷ Stores 0 1 ∷ Accesses Select (Write 0x80) ∷ Makes 63 ∷ [] }
     ensures host { newest (λ past event. host_said past event (SupervisorFile 0) 1)
         (history_of BUSY.now) ≡ Ask }
+{}
+
+/// A virtual hart that leaves while stores are in flight to it is told what it would be told where
+/// it is: the same concerns its VM in both scripts, the landing that the fence does among that. So
+/// it was said the same, and was answered the same. The host is told of it by one notice, since the
+/// leave saw it pending; and of what may be left out nothing is a send or a landing.
+pub fn a_guest_leaves_while_stores_are_in_flight()
+    ensures same_events { events_for 0 (history_of FLYING.now)
+        ≡ events_for 0 (history_of STAYING.now) }
+    ensures said { said (history_of FLYING.now) (vcpu 0 0)
+        ≡ Did Topei (Write 0) ∷ Did Topei (Write 0) ∷ Asked 5 ∷ Asked 6 ∷ Did Reg (Write 0x60)
+        ∷ Did Select (Write 0xc0) ∷ Made 63 ∷ [] }
+    ensures flying { script_replies FLYING.now (vcpu 0 0)
+        ≡ Wide 0 ∷ Wide 0 ∷ Wide 0x50005 ∷ Wide 0x60006 ∷ [] }
+    ensures staying { script_replies STAYING.now (vcpu 0 0)
+        ≡ Wide 0 ∷ Wide 0 ∷ Wide 0x50005 ∷ Wide 0x60006 ∷ [] }
+    ensures deeds { deeds_of (history_of FLYING.now) (SupervisorFile 0)
+        ≡ Stores 0 1 ∷ Makes 63 ∷ [] }
+    ensures left_out { length (purged (history_of FLYING.now) (vcpu 0 0)) ≡ 10 }
 {}
