@@ -94,8 +94,8 @@ both_flight v (Delivered msi) h k setup same = same
 
 left_flight : (v : ℕ) (event : Event) (h : History) → is_of_flight v event ≡ false → SameFlight v h (event ∷ h)
 unfolding flight
-left_flight v (Accepted (Send vm addr value)) h e = rw e refl
-left_flight v (Landed vm n) h e = rw e refl
+left_flight v (Accepted (Send vm addr value)) h e = ap (map (seen_of v)) (sym (cond-false (nat_eq vm v) _ _ e))
+left_flight v (Landed vm n) h e = ap (map (seen_of v)) (sym (cond-false (nat_eq vm v) _ _ e))
 left_flight v (Accepted line) h e = refl
 left_flight v (Began move) h e = refl
 left_flight v (Stepped x) h e = refl
@@ -168,4 +168,3 @@ same_said (Landed vm n) h k g same = elim (cases_Bool (nat_eq vm g.vm)) [
   | inl own ↦ subst (λ v. landing_said g h v (flying h v n) ≡ landing_said g k v (flying k v n)) (sym (eqb-true vm g.vm own)) (own_landing n h k g same)
   | inr other ↦ other_landing g.vm vm h g (flying h vm n) other refl ∙ sym (other_landing g.vm vm k g (flying k vm n) other refl)
 ]
-

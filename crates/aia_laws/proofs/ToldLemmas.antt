@@ -1,16 +1,15 @@
 -- What the host is told by a notice: the notice identity is asked for in its file, and stays
 -- pending there until it is cleared.
-use Rattle.std.proofs.Common.{◌≡◌, ℕ, ◌+◌, ◌<◌, ◌≤◌, Bool, true, false, not, ◌&&◌, ◌||◌, if◌then◌else◌, nat_eq, nat_lt, List, [], ◌∷◌, length, Option, Some, None, inl, inr, refl, sym, ap, subst, ◌∙◌, arith}
+use Rattle.std.proofs.Common.{◌≡◌, ℕ, ◌+◌, ◌≤◌, Bool, true, false, not, ◌&&◌, ◌||◌, if◌then◌else◌, [], ◌∷◌, Option, Some, None, inl, inr, refl, sym, ap, ◌∙◌, arith}
 use Rattle.std.specs.Int.{is_in_range}
-use Rattle.std.proofs.lemmas.Bool.{cases_Bool, cases_lt, and_parts, and_from, or_cases, or_left, or_right, eq-eqb, cond-true, ltb-true, false≢true, eqb-true}
+use Rattle.std.proofs.lemmas.Bool.{cases_Bool, and_parts, and_from, or_cases, or_left, or_right, eq-eqb, cond-true, false≢true}
 use Rattle.std.proofs.lemmas.Bool.Decides.{nat_tests}
 use Rattle.aia_regs.specs.Word.{Word, settle}
 use Rattle.aia_regs.specs.Word.Word.{Ask, Clear, Nothing}
 use Rattle.aia_file.specs.InterruptFile.{InterruptFile}
-use Rattle.aia_home.specs.declared.vm.Vm.{Vm}
-use Rattle.aia_home.specs.Vms.{Vcpu, vcpu, vm_in, is_vcpu_in}
+use Rattle.aia_home.specs.Vms.{Vcpu, vcpu}
 use Rattle.aia_home.specs.Home.Home.{Parked}
-use Rattle.aia_home.proofs.VmLemmas.{slot_below, vm_stays, slot_stays, vm_past}
+use Rattle.aia_home.proofs.VmLemmas.{slot_below}
 use Rattle.aia_model.specs.declared.line.Line.TheVariants.{Machine, Ipi, Send}
 use Rattle.aia_model.specs.declared.line.Line.TheVariants as lines
 use Rattle.aia_model.specs.Event.{Event, History}
@@ -20,7 +19,7 @@ use Rattle.aia_model.specs.FileAfter.{IsMaking, pending_said}
 use Rattle.aia_model.specs.FileAfter.FileDeed.{Stores}
 use Rattle.aia_model.specs.FileOf.{FileName, SupervisorFile, notice_deed, deed_at, select_of, file_of}
 use Rattle.aia_model.specs.GuestFile.{guest_file, named_by, sent_to}
-use Rattle.aia_model.specs.Flight.{Sending, flight, flying}
+use Rattle.aia_model.specs.Flight.{Sending, flying}
 use Rattle.aia_model.proofs.FlightLemmas.{stays_there}
 use Rattle.aia_model.proofs.HistoryLemmas.{flying_there}
 use Rattle.aia_model.specs.HomeOf.{home}
@@ -29,7 +28,7 @@ use Rattle.aia_model.proofs.FileLemmas.{file_step, newest_word, is_file-itself}
 use Rattle.aia_model.proofs.MoveLemmas.{same_vcpu}
 use Rattle.aia_laws.specs.Told.{is_deliverable, notice_file, notice_number, is_ask, is_clear, guest_said, host_said, begins_leave, names_vcpu, noticed_since, told_since, cleared_since, cleared_since_notice}
 use Rattle.aia_laws.proofs.FileLemmas.{made_with, not_making, host_made, host_n}
-use Rattle.aia_model.proofs.RefusalLemmas.{machine_allowed, device_allowed, peer_allowed, send_allowed}
+use Rattle.aia_model.proofs.RefusalLemmas.{machine_allowed, device_allowed, peer_allowed}
 use Rattle.aia_model.specs.Histories.{MayHappen, IsHistory}
 use Rattle.aia_laws.proofs.MachineLemmas.{machine_first, identities_for_all, enabled_in_words}
 use Rattle.aia_laws.proofs.NoticeLemmas.{noticed_while_parked}
