@@ -15,7 +15,7 @@ use Rattle.aia_model.specs.Act.Act.{Made, Sent}
 use Rattle.aia_model.specs.SourceOf.{harts_in, sources_in, mode, input, is_on, delivers_by_msis, is_active_in, target, pending, genmsi_of, genmsi_waits}
 use Rattle.aia_model.specs.Sent.{forwards, all_senders, has_msi, senders, msi_by, msi_of, waiting_msis, sent_by, with_all_sent, with_act, acts_of}
 use Rattle.aia_model.specs.Event.{History}
-use Rattle.aia_model.specs.Event.Event.{Accepted, Began, Stepped, Delivered}
+use Rattle.aia_model.specs.Event.Event.{Accepted, Began, Stepped, Delivered, Landed}
 use Rattle.aia_model.specs.AddressOf.{addresses_of}
 use Rattle.aia_aplic.specs.Side.{entry_of}
 use Rattle.aia_aplic.proofs.Steps.{entry-idle, same_target}
@@ -179,6 +179,7 @@ none_between (Accepted line ∷ h) = none_wait (with_act (act_of line) (acts_of 
 none_between (Delivered msi ∷ h) = none_between h
 none_between (Began move ∷ h) = none_between h
 none_between (Stepped g ∷ h) = none_between h
+none_between (Landed vm k ∷ h) = none_between h
 
 -- the harts and the sources stay
 sizes_sent : (sender : Sender) (past : Past) → ◌≡◌ {A = ℕ × ℕ} (harts_in (Sent sender ∷ past), sources_in (Sent sender ∷ past)) (harts_in past, sources_in past)

@@ -4,16 +4,20 @@ use Rattle.std.proofs.lemmas.Bool.{cases_Bool, cond-true, cond-false, eqb-true}
 use Rattle.aia_home.specs.Vms.{Vcpu, vcpu}
 use Rattle.aia_home.proofs.VmLemmas.{same_slot}
 use Rattle.aia_model.specs.declared.line.Line.{Line}
-use Rattle.aia_model.specs.declared.line.Line.TheVariants.{GuestCsr, Ipi}
+use Rattle.aia_model.specs.declared.line.Line.TheVariants.{Send, Land, GuestCsr, Ipi}
 use Rattle.aia_model.specs.declared.line.Line.TheVariants as lines
 use Rattle.aia_model.specs.Act.{Act, act_of}
 use Rattle.aia_model.specs.Event.{History}
-use Rattle.aia_model.specs.Event.Event.{Accepted, Stepped}
+use Rattle.aia_model.specs.Event.Event.{Accepted, Stepped, Landed}
 use Rattle.aia_model.specs.Vms.{vms_of, has_vcpu}
 use Rattle.aia_model.specs.FileAfter.{FileDeed, select_after, file_after, select_by, file_by}
 use Rattle.aia_model.specs.FileAfter.FileDeed.{Makes, Accesses, Stores, Rests}
 use Rattle.aia_model.specs.FileOf.{FileName, is_file, notice_deed, deed_at}
-use Rattle.aia_model.specs.GuestFile.{named_by}
+use Rattle.aia_model.specs.Flight.{Sending, flying}
+use Rattle.aia_model.specs.GuestFile.{named_by, sent_to}
+use Rattle.aia_model.specs.Notice.{noticed_by_landing}
+use Rattle.aia_model.specs.Histories.{IsHistory}
+use Rattle.aia_model.proofs.HistoryLemmas.{flying_there}
 use Rattle.aia_model.specs.Refusal.{refusal}
 use Rattle.aia_model.proofs.FileLemmas.{is_file-same}
 use Rattle.aia_laws.specs.Told.{notice_file, notice_number}
@@ -39,15 +43,26 @@ pub by_notices : (past : History) (line : Line) (v : ℕ) (f : FileName) → ref
     → (deed_at f past (Accepted line) ≡ Rests) ⊎ IsNoticeOf past v f (deed_at f past (Accepted line))
 by_notices past (lines.Msi vm addr value) v f e its = either_notice _ past v f (named_by past vm addr) (eqb-true vm v its) (device_allowed past vm addr value e)
 by_notices past (Ipi vm number to value) v f e its = either_notice _ past v f (vcpu vm to) (eqb-true vm v its) (peer_allowed past vm number to value e)
+by_notices past (Send vm addr value) v f e its = inl refl
+by_notices past (Land vm k) v f e its = inl refl
 by_notices past (GuestCsr vm number csr op) v f e its = inl refl
 by_notices past line v f e its = absurd (cc)
 
 pub steps_by_notices : (past : History) (g : Vcpu) (f : FileName) → has_vcpu past g ≡ true → (deed_at f past (Stepped g) ≡ Rests) ⊎ IsNoticeOf past g.vm f (deed_at f past (Stepped g))
 steps_by_notices past g f there = either_notice _ past g.vm f g refl there
 
+pub landings_by_notices : (past : History) (v k : ℕ) (f : FileName) → IsHistory past → (deed_at f past (Landed v k) ≡ Rests) ⊎ IsNoticeOf past v f (deed_at f past (Landed v k))
+landings_by_notices past v k f good = by_store (flying past v k) refl
+  where
+    by_store : (o : Option Sending) → flying past v k ≡ o → RestsOrNotices past v f (notice_deed past f (noticed_by_landing past v (flying past v k)))
+    by_store None e = rw e (inl refl)
+    by_store (Some s) e = rw e (either_notice _ past v f (sent_to v s) refl (flying_there past v k s good e))
+
 pub no_act : (line : Line) (v : ℕ) → is_doing_of v line ≡ true → ◌≡◌ {A = Option Act} (act_of line) None
 no_act (lines.Msi vm addr value) v its = refl
 no_act (Ipi vm number to value) v its = refl
+no_act (Send vm addr value) v its = refl
+no_act (Land vm k) v its = refl
 no_act (GuestCsr vm number csr op) v its = refl
 no_act line v its = absurd (cc)
 

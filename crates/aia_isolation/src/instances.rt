@@ -1,7 +1,7 @@
 //! The laws at work: what they say of worked scripts, computed.
 //!
 //! Each function does nothing: its clauses are what was proved, by computing.
-#![tactic(auto, unfolding(aia_word::specs::Sets::word_of, aia_word::specs::Sets::least_of, aia_word::specs::Packed::packed, aia_word::specs::Packed::ones, aia_model::specs::Reading::number_at, aia_model::specs::Reading::n32_at, aia_model::specs::Reading::bit_at, aia_model::specs::Reading::machine_at, aia_model::specs::Reading::vm_at, aia_model::specs::Reading::wire_at, aia_model::specs::Reading::store_at, aia_model::specs::Reading::load_at, aia_model::specs::Reading::msi_at, aia_model::specs::Reading::csr_at, aia_model::specs::Reading::read_at, aia_model::specs::Reading::write_at, aia_model::specs::Reading::instruction_at, aia_model::specs::Reading::machine_csr_at, aia_model::specs::Reading::host_at, aia_model::specs::Reading::ipi_at, aia_model::specs::Reading::guest_at, aia_model::specs::Reading::arrive_at, aia_model::specs::Reading::leave_at, aia_model::specs::Reading::shift_at, aia_model::specs::Reading::begin_arrive_at, aia_model::specs::Reading::begin_leave_at, aia_model::specs::Reading::begin_shift_at, aia_model::specs::Reading::begin_at, aia_model::specs::Reading::step_at, aia_model::specs::Reading::inject_at, aia_model::specs::Reading::hvictl_at, aia_model::specs::Reading::hviprio_at, aia_model::specs::Reading::pins_at, aia_model::specs::Reading::entry_at, aia_model::specs::Reading::line_at, aia_model::specs::Reading::reading, aia_model::specs::FileAfter::select_by, aia_model::specs::FileAfter::file_by, aia_model::specs::MajorOf::majors_of, aia_model::specs::HomeOf::home, aia_model::specs::ReachOf::in_force_of, aia_model::specs::ReachOf::stage_in_force_of, aia_model::specs::Notice::look_saw, aia_regs::specs::DomainRegisters::domain_register_of, aia_model::specs::Act::newest, aia_model::specs::SourceOf::wire_of, aia_model::specs::SourceOf::enabled, aia_model::specs::SourceOf::target, aia_model::specs::SourceOf::pending, aia_model::specs::AddressOf::addresses_of, aia_model::specs::SourceOf::genmsi_waits, aia_model::specs::Sent::all_senders, aia_model::specs::Answer::answer, aia_model::specs::Answer::after, aia_model::specs::AnswerText::hex_digits, aia_model::specs::AnswerText::answer_text, crate::specs::Said::said, crate::specs::Guest::guest_by, crate::specs::Replies::replies, crate::specs::Replies::replies_by, crate::specs::Replies::purged, crate::specs::Concerns::lines_for, crate::specs::Reach::deeds_of, crate::specs::Reach::host_by, aia_laws::specs::Newest::newest, aia_laws::specs::Told::told_since))]
+#![tactic(auto, unfolding(aia_word::specs::Sets::word_of, aia_word::specs::Sets::least_of, aia_word::specs::Packed::packed, aia_word::specs::Packed::ones, aia_model::specs::Reading::number_at, aia_model::specs::Reading::n32_at, aia_model::specs::Reading::bit_at, aia_model::specs::Reading::machine_at, aia_model::specs::Reading::vm_at, aia_model::specs::Reading::wire_at, aia_model::specs::Reading::store_at, aia_model::specs::Reading::load_at, aia_model::specs::Reading::msi_at, aia_model::specs::Reading::send_at, aia_model::specs::Reading::land_at, aia_model::specs::Reading::refetch_at, aia_model::specs::Reading::csr_at, aia_model::specs::Reading::read_at, aia_model::specs::Reading::write_at, aia_model::specs::Reading::instruction_at, aia_model::specs::Reading::machine_csr_at, aia_model::specs::Reading::host_at, aia_model::specs::Reading::ipi_at, aia_model::specs::Reading::guest_at, aia_model::specs::Reading::arrive_at, aia_model::specs::Reading::leave_at, aia_model::specs::Reading::shift_at, aia_model::specs::Reading::begin_arrive_at, aia_model::specs::Reading::begin_leave_at, aia_model::specs::Reading::begin_shift_at, aia_model::specs::Reading::begin_at, aia_model::specs::Reading::step_at, aia_model::specs::Reading::inject_at, aia_model::specs::Reading::hvictl_at, aia_model::specs::Reading::hviprio_at, aia_model::specs::Reading::pins_at, aia_model::specs::Reading::entry_at, aia_model::specs::Reading::line_at, aia_model::specs::Reading::reading, aia_model::specs::FileAfter::select_by, aia_model::specs::FileAfter::file_by, aia_model::specs::MajorOf::majors_of, aia_model::specs::HomeOf::home, aia_model::specs::Flight::flight, aia_model::specs::ReachOf::in_force_of, aia_model::specs::ReachOf::stage_in_force_of, aia_model::specs::Notice::look_saw, aia_regs::specs::DomainRegisters::domain_register_of, aia_model::specs::Act::newest, aia_model::specs::SourceOf::wire_of, aia_model::specs::SourceOf::enabled, aia_model::specs::SourceOf::target, aia_model::specs::SourceOf::pending, aia_model::specs::AddressOf::addresses_of, aia_model::specs::SourceOf::genmsi_waits, aia_model::specs::Sent::all_senders, aia_model::specs::Answer::answer, aia_model::specs::Answer::after, aia_model::specs::AnswerText::hex_digits, aia_model::specs::AnswerText::answer_text, crate::specs::Said::said, crate::specs::Guest::guest_by, crate::specs::Replies::replies, crate::specs::Replies::replies_by, crate::specs::Replies::purged, crate::specs::Concerns::events_for, crate::specs::Reach::deeds_of, crate::specs::Reach::host_by, aia_laws::specs::Newest::newest, aia_laws::specs::Told::told_since))]
 
 ghost use Rattle.std.specs.Prelude.{◌≡◌, true, [], ◌∷◌, length};
 ghost use Rattle.aia_regs.specs.declared.access.Csr.TheVariants.{Select, Reg, Topei, Sip};
@@ -21,7 +21,7 @@ ghost use Rattle.aia_laws.specs.Newest.{newest};
 ghost use Rattle.aia_isolation.specs.Said.{said, without_reads};
 ghost use Rattle.aia_isolation.specs.Said.Said.{Made, Asked, Did, Injected, Controlled};
 ghost use Rattle.aia_isolation.specs.Replies.{replies_by, script_replies, purged};
-ghost use Rattle.aia_isolation.specs.Concerns.{concerns, is_of_machine_level, lines_for};
+ghost use Rattle.aia_isolation.specs.Concerns.{concerns, is_of_machine_level, events_for};
 ghost use Rattle.aia_isolation.specs.Parts.{part_of, answers_to};
 ghost use Rattle.aia_isolation.specs.Reach.{deeds_of};
 
@@ -151,6 +151,52 @@ g 1 1 csrrw stopei 0
 msi 1 0x28008000 6
 ";
 
+/// Virtual hart 0 of VM 0 leaves while two stores are in flight to it. The entry is read again
+/// before its fence, the later store lands, and the fence lands the other one; then it comes back
+/// and claims both.
+pub const FLYING: &str = "machine 1 1 63 1
+vm 1 0x8 0
+arrive 0 0 0
+g 0 0 csrrw siselect 0xc0
+g 0 0 csrrw sireg 0x60
+send 0 0x28000000 5
+send 0 0x28000000 6
+begin leave 0 0
+step 0 0
+step 0 0
+step 0 0
+refetch 0 0
+land 0 1
+step 0 0
+step 0 0
+step 0 0
+step 0 0
+step 0 0
+step 0 0
+step 0 0
+step 0 0
+step 0 0
+step 0 0
+arrive 0 0 0
+g 0 0 csrrw stopei 0
+g 0 0 csrrw stopei 0
+";
+
+/// The same stores land while it stays where it is.
+pub const STAYING: &str = "machine 1 1 63 1
+vm 1 0x8 0
+arrive 0 0 0
+g 0 0 csrrw siselect 0xc0
+g 0 0 csrrw sireg 0x60
+send 0 0x28000000 5
+send 0 0x28000000 6
+refetch 0 0
+land 0 1
+land 0 0
+g 0 0 csrrw stopei 0
+g 0 0 csrrw stopei 0
+";
+
 /// What is said to a virtual hart is the same in two scripts that have nothing else in common, but
 /// for a read of its own in the second: so it is the same in both, and its replies are, but for
 /// that read's. A store that names no identity says nothing, and all that says nothing may be left
@@ -181,7 +227,7 @@ pub fn a_vm_and_the_machine_level_are_answered_alone()
     ensures alone { answers ALONE.now ≡ ALONE_ANSWERS.now }
     ensures busy { answers_to (concerns 0) BUSY.now ≡ ALONE_ANSWERS.now }
     ensures machine_level { answers_to is_of_machine_level BUSY.now ≡ MACHINE_LEVEL_ANSWERS.now }
-    ensures same_lines { lines_for 0 (history_of BUSY.now) ≡ lines_for 0 (history_of ALONE.now) }
+    ensures same_events { events_for 0 (history_of BUSY.now) ≡ events_for 0 (history_of ALONE.now) }
 {}
 
 /// The newest word decides: 6 was asked for last at the virtual hart, and 5 was cleared last, by
@@ -203,4 +249,23 @@ pub fn the_host_is_told_of_what_is_pending()
         ≡ Accesses Reg Read ∷ Stores 0 1 ∷ Accesses Select (Write 0x80) ∷ Makes 63 ∷ [] }
     ensures host { newest (λ past event. host_said past event (SupervisorFile 0) 1)
         (history_of BUSY.now) ≡ Ask }
+{}
+
+/// A virtual hart that leaves while stores are in flight to it is told what it would be told where
+/// it is: the same concerns its VM in both scripts, the landing that the fence does among that. So
+/// it was said the same, and was answered the same. The host is told of it by one notice, since the
+/// leave saw it pending; and of what may be left out nothing is a send or a landing.
+pub fn a_guest_leaves_while_stores_are_in_flight()
+    ensures same_events { events_for 0 (history_of FLYING.now)
+        ≡ events_for 0 (history_of STAYING.now) }
+    ensures said { said (history_of FLYING.now) (vcpu 0 0)
+        ≡ Did Topei (Write 0) ∷ Did Topei (Write 0) ∷ Asked 5 ∷ Asked 6 ∷ Did Reg (Write 0x60)
+        ∷ Did Select (Write 0xc0) ∷ Made 63 ∷ [] }
+    ensures flying { script_replies FLYING.now (vcpu 0 0)
+        ≡ Wide 0 ∷ Wide 0 ∷ Wide 0x50005 ∷ Wide 0x60006 ∷ [] }
+    ensures staying { script_replies STAYING.now (vcpu 0 0)
+        ≡ Wide 0 ∷ Wide 0 ∷ Wide 0x50005 ∷ Wide 0x60006 ∷ [] }
+    ensures deeds { deeds_of (history_of FLYING.now) (SupervisorFile 0)
+        ≡ Stores 0 1 ∷ Makes 63 ∷ [] }
+    ensures left_out { length (purged (history_of FLYING.now) (vcpu 0 0)) ≡ 10 }
 {}

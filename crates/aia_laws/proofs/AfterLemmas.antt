@@ -7,8 +7,8 @@ use Rattle.aia_model.proofs.FlightLemmas.{all_at, all_remove}
 use Rattle.aia_model.specs.Flight.{Sending, flight, flying}
 use Rattle.std.specs.Option.{option_map_or}
 use Rattle.std.specs.List.{AllByRecursion, list_any}
-use Rattle.std.proofs.Common.{◌≡◌, ◌≢◌, ℕ, zero, suc, true, false, not, ◌⊎◌, nat_eq, List, [], ◌∷◌, Option, Some, None, inl, inr, refl, sym, ap, subst, ◌∙◌, Bool, ◌||◌, length}
-use Rattle.std.proofs.lemmas.Bool.{cond-false, not-true, eqb-false, ne_eqb, and_left, false≢true, eq-eqb}
+use Rattle.std.proofs.Common.{◌≡◌, ◌≢◌, ℕ, zero, suc, true, false, not, ◌⊎◌, nat_eq, List, [], ◌∷◌, Option, Some, None, inl, inr, refl, sym, ap, subst, ◌∙◌, Bool, ◌&&◌, ◌||◌, length}
+use Rattle.std.proofs.lemmas.Bool.{cond-false, not-true, eqb-false, ne_eqb, and_left, and_right, false≢true, eq-eqb}
 use Rattle.aia_regs.specs.Word.{settle}
 use Rattle.aia_file.specs.InterruptFile.{InterruptFile}
 use Rattle.aia_home.specs.Vms.{Vcpu, vcpu, is_vcpu}
@@ -120,7 +120,7 @@ msis_same (msi ∷ later) h g = and_same _ (Delivered msi ∷ h) h g (msis_same 
 -- the VM of a move of which a line does steps, or of the store that lands
 abbrev still_deed : History → MoveDeed → Vcpu → Type 0
 still_deed h (Whole move) g = Still h (mover move).vm g
-still_deed h (Steps x) g = Still h x.vm g
+still_deed h (Steps x) g = is_at_fence (home h x) ≡ true → Still h x.vm g
 still_deed h (Lands vm k) g = option_map_or (λ s. is_vcpu g (sent_to vm s)) (flying h vm k) false ≡ false
 still_deed h deed g = Unit {0}
 
@@ -132,18 +132,26 @@ one_same vm k h g quiet = by_store (flying h vm k) refl quiet
     by_store None e none = rw e (refl, refl, refl)
     by_store (Some s) e none = rw (e, none) (refl, refl, refl)
 
-move_same : (h : History) (line : Line) (deed : MoveDeed) (g : Vcpu) → deed ≢ NoMove → still_deed h deed g → IsSameGuest (deed_taken h line deed) h g
+-- one step, which lands stores where it is the fence
+one_step_same : (x : Vcpu) (h : History) (g : Vcpu) → (is_at_fence (home h x) ≡ true → Still h x.vm g) → IsSameGuest (step_taken x h) h g
+one_step_same x h g quiet = and_same _ (landed_first x h) h g (stepped_same x (landed_first x h) g) (by_fence (is_at_fence (home h x)) refl)
+  where
+    by_fence : (b : Bool) → is_at_fence (home h x) ≡ b → IsSameGuest (landed_first x h) h g
+    by_fence true e = (first_same x h g (quiet e)).0
+    by_fence false e = rw e (refl, refl, refl)
+
+pub move_same : (h : History) (line : Line) (deed : MoveDeed) (g : Vcpu) → deed ≢ NoMove → still_deed h deed g → IsSameGuest (deed_taken h line deed) h g
 move_same h line NoMove g moves all = absurd (moves refl)
 move_same h line (Whole move) g moves all = and_same _ (Began move ∷ h) h g (steps_same (steps_of (file_words h) move) (mover move) (Began move ∷ h) g (still_begun (mover move).vm move h g all)) (begun_same move h g)
 move_same h line (Begins move) g moves all = begun_same move h g
-move_same h line (Steps x) g moves all = (step_same x h g all).0
+move_same h line (Steps x) g moves all = one_step_same x h g all
 move_same h line (Lands vm k) g moves all = one_same vm k h g all
 
 silent_deed : (h : History) (line : Line) (g : Vcpu) → speaks_to h line g ≡ false → still_deed h (move_deed line) g
 silent_deed h (Arrive vm number hart) g e = still h vm g e
 silent_deed h (Leave vm number) g e = still h vm g e
 silent_deed h (Shift vm number hart) g e = still h vm g e
-silent_deed h (Step vm number) g e = still h vm g e
+silent_deed h (Step vm number) g e = λ fence. still h vm g (sym (ap (λ b. b && flies_to h vm g) fence) ∙ e)
 silent_deed h (Land vm k) g e = e
 silent_deed h line g e = tt
 
@@ -241,7 +249,7 @@ other_is_quiet h (Land vm k) g e = by_store (flying h vm k)
 other_is_quiet h (Arrive vm number hart) g e = none_flies_to h vm g e
 other_is_quiet h (Leave vm number) g e = none_flies_to h vm g e
 other_is_quiet h (Shift vm number hart) g e = none_flies_to h vm g e
-other_is_quiet h (Step vm number) g e = none_flies_to h vm g e
+other_is_quiet h (Step vm number) g e = and_right (is_at_fence (home h (vcpu vm number))) (flies_to h vm g) (none_flies_to h vm g e)
 other_is_quiet h line g e = refl
 
 -- ---- the word of a line on an identity decides

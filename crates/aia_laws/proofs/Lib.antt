@@ -8,3 +8,4 @@ pub mod ToldLemmas
 pub mod CauseLemmas
 pub mod NewestLemmas
 pub mod FlightRequests
+pub mod FenceLemmas

@@ -1,16 +1,15 @@
 -- What the host is told by a notice: the notice identity is asked for in its file, and stays
 -- pending there until it is cleared.
-use Rattle.std.proofs.Common.{◌≡◌, ℕ, ◌+◌, ◌<◌, ◌≤◌, Bool, true, false, not, ◌&&◌, ◌||◌, if◌then◌else◌, nat_eq, nat_lt, List, [], ◌∷◌, length, Option, Some, None, inl, inr, refl, sym, ap, subst, ◌∙◌, arith}
+use Rattle.std.proofs.Common.{◌≡◌, ℕ, ◌+◌, ◌≤◌, Bool, true, false, not, ◌&&◌, ◌||◌, if◌then◌else◌, [], ◌∷◌, Option, Some, None, inl, inr, refl, sym, ap, ◌∙◌, arith}
 use Rattle.std.specs.Int.{is_in_range}
-use Rattle.std.proofs.lemmas.Bool.{cases_Bool, cases_lt, and_parts, and_from, or_cases, or_left, or_right, eq-eqb, cond-true, ltb-true, false≢true, eqb-true}
+use Rattle.std.proofs.lemmas.Bool.{cases_Bool, and_parts, and_from, or_cases, or_left, or_right, eq-eqb, cond-true, false≢true}
 use Rattle.std.proofs.lemmas.Bool.Decides.{nat_tests}
 use Rattle.aia_regs.specs.Word.{Word, settle}
 use Rattle.aia_regs.specs.Word.Word.{Ask, Clear, Nothing}
 use Rattle.aia_file.specs.InterruptFile.{InterruptFile}
-use Rattle.aia_home.specs.declared.vm.Vm.{Vm}
-use Rattle.aia_home.specs.Vms.{Vcpu, vcpu, vm_in, is_vcpu_in}
+use Rattle.aia_home.specs.Vms.{Vcpu, vcpu}
 use Rattle.aia_home.specs.Home.Home.{Parked}
-use Rattle.aia_home.proofs.VmLemmas.{slot_below, vm_stays, slot_stays, vm_past}
+use Rattle.aia_home.proofs.VmLemmas.{slot_below}
 use Rattle.aia_model.specs.declared.line.Line.TheVariants.{Machine, Ipi, Send}
 use Rattle.aia_model.specs.declared.line.Line.TheVariants as lines
 use Rattle.aia_model.specs.Event.{Event, History}
@@ -20,73 +19,30 @@ use Rattle.aia_model.specs.FileAfter.{IsMaking, pending_said}
 use Rattle.aia_model.specs.FileAfter.FileDeed.{Stores}
 use Rattle.aia_model.specs.FileOf.{FileName, SupervisorFile, notice_deed, deed_at, select_of, file_of}
 use Rattle.aia_model.specs.GuestFile.{guest_file, named_by, sent_to}
-use Rattle.aia_model.specs.Flight.{Sending, flight, flying}
-use Rattle.aia_model.proofs.FlightLemmas.{all_on, all_append, all_remove, all_at}
-use Rattle.std.specs.List.{AllByRecursion}
+use Rattle.aia_model.specs.Flight.{Sending, flying}
+use Rattle.aia_model.proofs.FlightLemmas.{stays_there}
+use Rattle.aia_model.proofs.HistoryLemmas.{flying_there}
 use Rattle.aia_model.specs.HomeOf.{home}
 use Rattle.aia_model.specs.Notice.{noticed, noticed_by_landing}
 use Rattle.aia_model.proofs.FileLemmas.{file_step, newest_word, is_file-itself}
 use Rattle.aia_model.proofs.MoveLemmas.{same_vcpu}
 use Rattle.aia_laws.specs.Told.{is_deliverable, notice_file, notice_number, is_ask, is_clear, guest_said, host_said, begins_leave, names_vcpu, noticed_since, told_since, cleared_since, cleared_since_notice}
 use Rattle.aia_laws.proofs.FileLemmas.{made_with, not_making, host_made, host_n}
-use Rattle.aia_model.proofs.RefusalLemmas.{machine_allowed, device_allowed, peer_allowed, send_allowed}
+use Rattle.aia_model.proofs.RefusalLemmas.{machine_allowed, device_allowed, peer_allowed}
 use Rattle.aia_model.specs.Histories.{MayHappen, IsHistory}
 use Rattle.aia_laws.proofs.MachineLemmas.{machine_first, identities_for_all, enabled_in_words}
 use Rattle.aia_laws.proofs.NoticeLemmas.{noticed_while_parked}
 
 -- ---- a virtual hart keeps its file of the host and its identity
 
-vm_within : (vms : List Vm) (g : Vcpu) → is_vcpu_in vms g ≡ true → g.vm < length vms
-vm_within vms g there = elim (cases_lt g.vm (length vms)) [
-  | inl within ↦ within
-  | inr past ↦
-      let few : g.number < (vm_in vms g.vm).vcpus = ltb-true g.number (vm_in vms g.vm).vcpus there in
-      let none = vm_past vms g.vm past in absurd (omega (arith, few, none))
-]
-
 -- Whether after an event a virtual hart is there still, with its file of the host and its identity.
 abbrev KeepsNotices : Event → History → Vcpu → Type 0
 KeepsNotices event past g = (has_vcpu (event ∷ past) g ≡ true) × (notice_file (event ∷ past) g ≡ notice_file past g) × (notice_number (event ∷ past) g ≡ notice_number past g)
 
 keeps_notices : (event : Event) (past : History) (g : Vcpu) → has_vcpu past g ≡ true → KeepsNotices event past g
-keeps_notices (Accepted (lines.Vm vcpus mask hart)) past g there =
-    let new : Vm = record { vcpus = vcpus; mask = mask; notice_hart = hart } in
-    let within = vm_within (vms_of past) g there in
-    let same = vm_stays (vms_of past) new g.vm within in
-    (ap (λ (vm : Vm). nat_lt g.number vm.vcpus) same ∙ there, ap (λ (vm : Vm). SupervisorFile vm.notice_hart) same, ap (λ q. q + 1) (slot_stays (vms_of past) new g within))
-keeps_notices (Accepted line) past g there = (there, refl, refl)
-keeps_notices (Began move) past g there = (there, refl, refl)
-keeps_notices (Stepped x) past g there = (there, refl, refl)
-keeps_notices (Delivered msi) past g there = (there, refl, refl)
-keeps_notices (Landed vm k) past g there = (there, refl, refl)
-
--- each store in flight is for a virtual hart that is there
-abbrev AllThere : History → Type 0
-AllThere h = (vm : ℕ) → AllByRecursion (λ s. has_vcpu h (sent_to vm s) ≡ true) (flight h vm)
-
-abbrev IsThere : History → ℕ → Sending → Type 0
-IsThere h vm s = has_vcpu h (sent_to vm s) ≡ true
-
-there_on : (event : Event) (past : History) (vm : ℕ) → flight (event ∷ past) vm ≡ flight past vm → AllByRecursion (IsThere past vm) (flight past vm) → AllByRecursion (IsThere (event ∷ past) vm) (flight (event ∷ past) vm)
-there_on event past vm same all =
-    subst (AllByRecursion (IsThere (event ∷ past) vm)) (sym same) (all_on (IsThere past vm) (IsThere (event ∷ past) vm) (λ s there. (keeps_notices event past (sent_to vm s) there).0) (flight past vm) all)
-
-all_there : (h : History) → IsHistory h → AllThere h
-unfolding flight
-all_there [] good vm = tt
-all_there (Accepted (Send v addr value) ∷ past) good vm = elim (cases_Bool (nat_eq v vm)) [
-  | inl own ↦ rw own (all_append (λ s. has_vcpu past (sent_to vm s) ≡ true) (flight past vm) (record { before = past; addr = addr; value = value }) (all_there past good.1 vm)
-      (subst (λ m. has_vcpu past (named_by past m addr) ≡ true) (eqb-true v vm own) (send_allowed past v addr value good.0)))
-  | inr other ↦ rw other (all_there past good.1 vm)
-]
-all_there (Landed v k ∷ past) good vm = elim (cases_Bool (nat_eq v vm)) [
-  | inl own ↦ rw own (all_remove (λ s. has_vcpu past (sent_to vm s) ≡ true) k (flight past vm) (all_there past good.1 vm))
-  | inr other ↦ rw other (all_there past good.1 vm)
-]
-all_there (Accepted line ∷ past) good vm = there_on (Accepted line) past vm refl (all_there past good.1 vm)
-all_there (Began move ∷ past) good vm = there_on (Began move) past vm refl (all_there past good.1 vm)
-all_there (Stepped x ∷ past) good vm = there_on (Stepped x) past vm refl (all_there past good.1 vm)
-all_there (Delivered msi ∷ past) good vm = there_on (Delivered msi) past vm refl (all_there past good.1 vm)
+keeps_notices event past g there =
+    let stays = stays_there event past g there in
+    (stays.0, ap SupervisorFile stays.2, ap (λ q. q + 1) stays.1)
 
 -- ---- a notice asks for it
 
@@ -105,7 +61,7 @@ noticed_is_there (Landed vm k) past g may good e = by_store (flying past vm k) r
   where
     by_store : (o : Option Sending) → flying past vm k ≡ o → names_vcpu (noticed_by_landing past vm o) g ≡ true → has_vcpu past g ≡ true
     by_store None is e = absurd (false≢true e)
-    by_store (Some s) is e = ap (has_vcpu past) (chosen_is _ (sent_to vm s) g e) ∙ all_at (λ s. has_vcpu past (sent_to vm s) ≡ true) k (flight past vm) s is (all_there past good vm)
+    by_store (Some s) is e = ap (has_vcpu past) (chosen_is _ (sent_to vm s) g e) ∙ flying_there past vm k s good is
 
 noticed_one : (told : Option Vcpu) (g : Vcpu) → names_vcpu told g ≡ true → told ≡ Some g
 noticed_one None g e = absurd (false≢true e)

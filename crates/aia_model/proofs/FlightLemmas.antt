@@ -199,3 +199,8 @@ words_first g h = ap (λ m. (option_map_or (λ (shape : Shape). shape.n) m 0 + 1
 pub home_stepped : (g : Vcpu) (h : History) → home (step_taken g h) g ≡ stepped (file_words h) (home h g)
 home_stepped g h =
     home_step (Stepped g) (landed_first g h) g ∙ cond-true _ _ _ (is_itself g) ∙ ap (λ w. stepped w (home (landed_first g h) g)) (words_first g h) ∙ ap (stepped (file_words h)) (home_landed_first g g h)
+
+-- a step that is the fence leaves none of its VM in flight
+pub none_after_fence : (g : Vcpu) (h : History) → is_at_fence (home h g) ≡ true → flight (step_taken g h) g.vm ≡ []
+unfolding flight
+none_after_fence g h fence = lands_first g h (ap is_at_fence (home_landed_first g g h) ∙ fence)

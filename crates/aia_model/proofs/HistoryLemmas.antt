@@ -1,20 +1,20 @@
 -- Histories whose every event may happen: that of each script is one.
 use Rattle.std.proofs.Common.{◌≡◌, ℕ, zero, suc, ◌+◌, ◌-◌, ◌<◌, Bool, true, false, nat_eq, is_none, is_some, length, List, [], ◌∷◌, Option, Some, None, inl, inr, refl, sym, ap, subst, ◌∙◌, arith}
 use Rattle.std.specs.Option.{option_map_or}
-use Rattle.std.proofs.lemmas.Bool.{cases_Bool, not-false, eqb-true, cond-true}
+use Rattle.std.proofs.lemmas.Bool.{cases_Bool, not-false, eqb-true, cond-true, false≢true}
 use Rattle.aia_home.specs.Vms.{Vcpu, vcpu}
 use Rattle.aia_home.specs.Home.{Home, is_moving, is_resident, is_parked, leaving, arriving, shifting}
 use Rattle.aia_home.specs.Plans.{leave_steps, arrive_steps, shift_steps, stepped}
 use Rattle.aia_home.specs.Home.Home.{Parked, Resident, Leaving, Arriving, Shifting}
 use Rattle.aia_model.specs.declared.line.Line.{Line}
-use Rattle.aia_model.specs.declared.line.Line.TheVariants.{Machine, Arrive, Leave, Shift, BeginArrive, BeginLeave, BeginShift, Step, Land}
+use Rattle.aia_model.specs.declared.line.Line.TheVariants.{Machine, Arrive, Leave, Shift, BeginArrive, BeginLeave, BeginShift, Step, Send, Land}
 use Rattle.aia_model.specs.declared.answer.Answer.{Answer}
 use Rattle.aia_model.specs.declared.msi.Msi.{Msi}
 use Rattle.aia_model.specs.declared.parsed.Parsed.{Parsed}
 use Rattle.aia_model.specs.declared.parsed.Parsed.TheVariants as parsed
 use Rattle.aia_model.specs.Move.Move.{Arrives, Leaves, Shifts}
 use Rattle.aia_model.specs.Event.{History, has_machine, file_words}
-use Rattle.aia_model.specs.Event.Event.{Began, Delivered, Landed}
+use Rattle.aia_model.specs.Event.Event.{Accepted, Began, Stepped, Delivered, Landed}
 use Rattle.aia_model.specs.Vms.{has_vcpu}
 use Rattle.aia_model.specs.HomeOf.{home, free_file, place}
 use Rattle.aia_model.specs.Refusal.{refusal}
@@ -26,11 +26,14 @@ use Rattle.aia_model.specs.Script.{after_text, after_texts, history_of}
 use Rattle.aia_model.proofs.AnswerLemmas.{after_by}
 use Rattle.aia_model.proofs.MoveLemmas.{is_itself, home_step}
 use Rattle.aia_home.specs.Vms.{is_vcpu_in}
-use Rattle.aia_home.specs.Routes.{is_at_fence}
-use Rattle.aia_model.specs.Flight.{Sending, flight}
-use Rattle.aia_model.proofs.FlightLemmas.{first_gone, lands_first, home_landed_first, same_first, words_first, home_stepped}
+use Rattle.aia_home.specs.BySteps.{new_file}
+use Rattle.aia_home.specs.Routes.{is_at_fence, is_closed}
+use Rattle.aia_model.specs.Flight.{Sending, flight, flying}
+use Rattle.aia_model.specs.GuestFile.{sent_to}
+use Rattle.aia_model.specs.ReachOf.{sent_into, MayFly, AllMayFly, IsForOne, AllAreForOne}
+use Rattle.aia_model.proofs.FlightLemmas.{all_at, none_flies, flights_on, none_for_one, sent_on, first_gone, lands_first, home_landed_first, same_first, words_first, home_stepped}
 use Rattle.aia_model.specs.Histories.{IsHistory}
-use Rattle.aia_model.proofs.RefusalLemmas.{machine_stands, arrive_allowed, leave_allowed, shift_allowed, step_allowed, land_allowed}
+use Rattle.aia_model.proofs.RefusalLemmas.{machine_stands, arrive_allowed, leave_allowed, shift_allowed, step_allowed, land_allowed, send_allowed}
 
 -- ---- a whole move: all its steps may happen
 
@@ -183,3 +186,32 @@ texts_happen h (text ∷ texts) good = texts_happen (after_text h (reading text)
 
 pub script_happens : (script : List ℕ) → IsHistory (history_of script)
 script_happens script = texts_happen [] (texts_of script) tt
+
+-- ---- where the stores in flight of such a history go, and for whom
+
+pub flights_may : (h : History) → IsHistory h → AllMayFly h
+flights_may [] good = none_flies
+flights_may (Stepped x ∷ h) good = flights_on h (Stepped x) good.0.2 (flights_may h good.1)
+flights_may (Accepted line ∷ h) good = flights_on h (Accepted line) tt (flights_may h good.1)
+flights_may (Began move ∷ h) good = flights_on h (Began move) tt (flights_may h good.1)
+flights_may (Delivered msi ∷ h) good = flights_on h (Delivered msi) tt (flights_may h good.1)
+flights_may (Landed vm k ∷ h) good = flights_on h (Landed vm k) tt (flights_may h good.1)
+
+pub flights_for_one : (h : History) → IsHistory h → AllAreForOne h
+flights_for_one [] good = none_for_one
+flights_for_one (Accepted (Send vm addr value) ∷ h) good = sent_on h (Accepted (Send vm addr value)) (send_allowed h vm addr value good.0) (flights_for_one h good.1)
+flights_for_one (Accepted line ∷ h) good = sent_on h (Accepted line) tt (flights_for_one h good.1)
+flights_for_one (Began move ∷ h) good = sent_on h (Began move) tt (flights_for_one h good.1)
+flights_for_one (Stepped x ∷ h) good = sent_on h (Stepped x) tt (flights_for_one h good.1)
+flights_for_one (Delivered msi ∷ h) good = sent_on h (Delivered msi) tt (flights_for_one h good.1)
+flights_for_one (Landed vm k ∷ h) good = sent_on h (Landed vm k) tt (flights_for_one h good.1)
+
+pub flying_there : (h : History) (vm k : ℕ) (s : Sending) → IsHistory h → flying h vm k ≡ Some s → has_vcpu h (sent_to vm s) ≡ true
+flying_there h vm k s good e = (all_at (IsForOne h vm) k (flight h vm) s e (flights_for_one h good vm)).there
+
+-- once the entry is fenced, the old place is reached by none
+pub flying_closed : (h : History) (vm k : ℕ) (s : Sending) → IsHistory h → flying h vm k ≡ Some s → is_closed (home h (sent_to vm s)) ≡ true → sent_into vm s ≡ new_file (home h (sent_to vm s))
+flying_closed h vm k s good e closed = elim (all_at (MayFly h vm) k (flight h vm) s e (flights_may h good vm)) [
+  | inl old ↦ absurd (false≢true (sym old.1 ∙ closed))
+  | inr new ↦ new.0
+]

@@ -1,11 +1,12 @@
 -- After a line all MSIs that wait are delivered, and then the machine stands for the history after
 -- the line.
-use Rattle.std.proofs.Common.{◌≡◌, ℕ, zero, suc, List, [], ◌∷◌, Option, Some, None, map, refl, sym, ap, subst, ◌∙◌}
+use Rattle.std.proofs.Common.{◌≡◌, ℕ, zero, suc, List, [], ◌∷◌, Option, Some, None, inl, inr, length, map, refl, sym, ap, subst, ◌∙◌}
+use Rattle.std.proofs.lemmas.Bool.{cases_Bool}
 use Rattle.aia_model.specs.declared.line.Line.{Line}
 use Rattle.aia_model.specs.declared.msi.Msi.{Msi}
 use Rattle.aia_model.specs.declared.answer.Answer.{Answer}
 use Rattle.aia_model.specs.Event.{History, file_words}
-use Rattle.aia_model.specs.Event.Event.{Accepted, Began, Stepped, Delivered}
+use Rattle.aia_model.specs.Event.Event.{Accepted, Began, Stepped, Delivered, Landed}
 use Rattle.aia_model.specs.Act.{Past, act_of}
 use Rattle.aia_model.specs.Act.Act.{Sent}
 use Rattle.aia_model.specs.Sent.{senders, msi_of, waiting_msis, sent_by, with_all_sent, with_act, acts_of}
@@ -14,7 +15,10 @@ use Rattle.aia_model.specs.declared.line.Line.TheVariants as lines
 use Rattle.aia_home.specs.Vms.{Vcpu, vcpu}
 use Rattle.aia_model.specs.Move.{Move, mover}
 use Rattle.aia_model.specs.Move.Move.{Arrives, Leaves, Shifts}
-use Rattle.aia_model.specs.Answer.{delivered, steps_taken, steps_of, whole_move, line_taken, history_after}
+use Rattle.aia_home.specs.Routes.{is_at_fence}
+use Rattle.aia_model.specs.HomeOf.{home}
+use Rattle.aia_model.specs.Flight.{flight}
+use Rattle.aia_model.specs.Answer.{delivered, oldest_landed, landed_first, step_taken, steps_taken, steps_of, whole_move, line_taken, history_after}
 use Rattle.aia_model.proofs.AnswerLemmas.{after_by}
 use Rattle.aia_aplic.specs.Aplic.{AplicStands}
 use Rattle.aia_aplic.specs.Sending.{Next}
@@ -43,10 +47,20 @@ all_sent m h past none holds = subst (λ p. MachineHolds m (delivered (waiting_m
 
 -- ---- a line, then its MSIs
 
--- steps of moves say nothing to the wired sources, and nothing waits when a move begins
+-- landings and steps of moves say nothing to the wired sources, and nothing waits when a move begins
+acts_landed : (count vm : ℕ) (h : History) → acts_of (oldest_landed count vm h) ≡ acts_of h
+acts_landed zero vm h = refl
+acts_landed (suc count) vm h = acts_landed count vm (Landed vm 0 ∷ h)
+
+acts_first : (g : Vcpu) (h : History) → acts_of (landed_first g h) ≡ acts_of h
+acts_first g h = elim (cases_Bool (is_at_fence (home h g))) [
+  | inl fence ↦ rw fence (acts_landed (length (flight h g.vm)) g.vm h)
+  | inr other ↦ rw other refl
+]
+
 acts_stepped : (count : ℕ) (g : Vcpu) (h : History) → acts_of (steps_taken count g h) ≡ acts_of h
 acts_stepped zero g h = refl
-acts_stepped (suc count) g h = acts_stepped count g (Stepped g ∷ h)
+acts_stepped (suc count) g h = acts_stepped count g (step_taken g h) ∙ acts_first g h
 
 acts_moved : (ms : List Msi) (h : History) (move : Move) → acts_of (delivered ms (whole_move h move)) ≡ with_all_sent (acts_of h)
 acts_moved ms h move = acts_delivered ms (whole_move h move) ∙ acts_stepped (steps_of (file_words h) move) (mover move) (Began move ∷ h) ∙ sym (none_sent (acts_of h) (none_between h))
@@ -61,7 +75,8 @@ acts_taken ms h (lines.Shift vm number hart) = acts_moved ms h (Shifts (vcpu vm 
 acts_taken ms h (lines.BeginArrive vm number hart) = acts_begun ms h (Arrives (vcpu vm number) hart)
 acts_taken ms h (lines.BeginLeave vm number) = acts_begun ms h (Leaves (vcpu vm number))
 acts_taken ms h (lines.BeginShift vm number hart) = acts_begun ms h (Shifts (vcpu vm number) hart)
-acts_taken ms h (lines.Step vm number) = acts_delivered ms (Stepped (vcpu vm number) ∷ h) ∙ sym (none_sent (acts_of h) (none_between h))
+acts_taken ms h (lines.Step vm number) = acts_delivered ms (step_taken (vcpu vm number) h) ∙ acts_first (vcpu vm number) h ∙ sym (none_sent (acts_of h) (none_between h))
+acts_taken ms h (lines.Land vm k) = acts_delivered ms (Landed vm k ∷ h) ∙ sym (none_sent (acts_of h) (none_between h))
 acts_taken ms h line = acts_delivered ms (Accepted line ∷ h)
 
 pub after_delivery : (n : Machine) (h : History) (line : Line) (r : Option Answer) → MachineHolds n (delivered (waiting_msis (act_taken r h line)) (line_served r h line)) (with_all_sent (act_taken r h line)) → MachineStands n (history_after r h line)

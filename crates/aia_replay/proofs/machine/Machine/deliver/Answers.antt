@@ -6,7 +6,7 @@ pub loop-msi-init : goal.loop-msi-init
 loop-msi-init c = begin c.args.self.now
 
 pub loop-msi-preserved : goal.loop-msi-preserved
-loop-msi-preserved c = one_more c.args.self.now c.loop-msi.self _ c.in-Some.msi c.loop-msi.invariant c.in-Some.ensures.next c.land.ensures
+loop-msi-preserved c = one_more c.args.self.now c.loop-msi.self _ c.in-Some.msi c.loop-msi.invariant c.in-Some.ensures.next c.deliver.ensures
 
 pub returns : goal.returns
 returns c = all_delivered c.args.self.now c.loop-msi.self _ c.loop-msi.invariant c.in_default.ensures.next refl
