@@ -1,6 +1,5 @@
--- Stores of devices that are in flight: each was sent where the entry in force led, and lands there.
--- Profile.
--- AIA 1.0, IOMMU Support for MSIs to Virtual Machines.
+-- Stores of devices that are in flight: each was sent where the entry in force led, and lands
+-- there. Profile. AIA 1.0, IOMMU Support for MSIs to Virtual Machines.
 use Rattle.std.specs.Prelude.{◌≡◌, ℕ, zero, suc, List, [], ◌∷◌, ◌++◌, length, remove, slice_get, slice_set, Option, Some}
 use Rattle.aia_entry.specs.declared.table.Route.{Route}
 use Rattle.aia_entry.specs.declared.table.Route.TheVariants.{To}
@@ -21,8 +20,8 @@ Sends (To entry) w u vm offset value = u ≡ with_flight w vm (flight_of w vm
     ++ record { entry = entry; offset = offset; value = value } ∷ [])
 Sends route w u vm offset value = u ≡ w
 
--- The k-th store in flight of a VM lands, where the entry led it as it was sent, and is in flight no
--- more.
+-- The k-th store in flight of a VM lands, where the entry led it as it was sent, and is in flight
+-- no more.
 pub record Lands (w u : World) (vm k : ℕ) : Type 0 where
   pub store : Flying
   pub is : slice_get (flight_of w vm) k ≡ Some store

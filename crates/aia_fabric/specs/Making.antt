@@ -103,8 +103,8 @@ with_entry w vm file slot page = record w {
   tables = fenced_at w.tables vm file (words_with_entry w.memory vm file slot page);
 }
 
--- A VM stands last, its table, where no entry in force is valid, is the next in memory, and no store
--- of its devices is in flight.
+-- A VM stands last, its table, where no entry in force is valid, is the next in memory, and no
+-- store of its devices is in flight.
 abbrev pub with_vm : World → Vm → World
 with_vm w vm = record w {
   vms = w.vms ++ vm ∷ [];

@@ -41,9 +41,9 @@ pub record TouchesOwn (w u : World) (g : Vcpu) (reach : Option Place) : Type 0 w
       × (slice_index u.memory (entry_word_place x.vm x.number + 1)
       ≡ slice_index w.memory (entry_word_place x.vm x.number + 1))
 
--- The entries of a VM that are in force lead to its own: that of each virtual hart to the guest file
--- at which stores are to reach it, which is there, or to its slot, with its notice; and there is no
--- other entry.
+-- The entries of a VM that are in force lead to its own: that of each virtual hart to the guest
+-- file at which stores are to reach it, which is there, or to its slot, with its notice; and there
+-- is no other entry.
 pub record LeadsToOwn (w : World) (v : ℕ) (reach : Vcpu → Option Place) : Type 0 where
   pub own : (g : Vcpu) → g.vm ≡ v → is_vcpu_in w.vms g ≡ true
       → entry_in_force (table_of w.tables g.vm) g.number

@@ -10,8 +10,8 @@ use Rattle.aia_fabric.specs.declared.flights.Flying.{Flying}
 use Rattle.aia_fabric.specs.declared.stage.Stage.{Stage}
 
 -- The greatest identity of each file, the files, the words of memory, the VMs with their tables,
--- the stores in flight of each VM, the oldest first, the G-stage record of each virtual hart, by its
--- number over all VMs, and how many notices were sent.
+-- the stores in flight of each VM, the oldest first, the G-stage record of each virtual hart, by
+-- its number over all VMs, and how many notices were sent.
 pub record World : Type 0 where
   pub n : ℕ
   pub imsic : ImsicState

@@ -123,8 +123,8 @@ impl Fabric {
         ram.store(at, v);
     }
 
-    /// Lands all stores in flight of the VM, the oldest first, then puts the entry of a virtual hart
-    /// that is there in force, as its two words say it.
+    /// Lands all stores in flight of the VM, the oldest first, then puts the entry of a virtual
+    /// hart that is there in force, as its two words say it.
     ///
     /// AIA 1.0, IOMMU Support for MSIs to Virtual Machines, "MSI page tables". Profile: an IOMMU
     /// answers a fence once the stores that it led before have landed.

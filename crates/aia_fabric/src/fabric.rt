@@ -80,9 +80,9 @@ impl Model for Fabric {
 #[tactic(auto, using(crate::proofs::WholeLemmas::width_at))]
 impl Fabric {
     /// Makes the machine's empty files, memory of zeros, the room for all VMs and their stores in
-    /// flight, and an empty G-stage record for each of 16 virtual harts: of `harts` harts, 1 to 4, each with `guests` guest
-    /// files, 0 to 7; every file has the identities 1 to `n`, which is 63, 127, 255, 511, 1023 or
-    /// 2047. `Err`: there is no memory for it.
+    /// flight, and an empty G-stage record for each of 16 virtual harts: of `harts` harts, 1 to 4,
+    /// each with `guests` guest files, 0 to 7; every file has the identities 1 to `n`, which is 63,
+    /// 127, 255, 511, 1023 or 2047. `Err`: there is no memory for it.
     pub fn new(alloc: Global, harts: u32, guests: u32, n: u32) -> Result<Fabric, AllocError>
         requires some { 1 ≤ harts }
         requires few { harts ≤ HARTS }

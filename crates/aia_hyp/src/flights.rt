@@ -32,8 +32,8 @@ impl Hyp {
     }
 
     /// Lands the `k`-th store in flight of a VM, counted from 0, the oldest first: it asks at the
-    /// virtual hart that it names, wherever that one's file is by now. `Err` is `Range` where the VM
-    /// doesn't stand or has no such store in flight; nothing is changed then.
+    /// virtual hart that it names, wherever that one's file is by now. `Err` is `Range` where the
+    /// VM doesn't stand or has no such store in flight; nothing is changed then.
     ///
     /// AIA 1.0, IOMMU Support for MSIs to Virtual Machines. Profile: they land in any order.
     pub fn land(&mut self, vm: u64, k: u64) -> Result<(), Refusal>
