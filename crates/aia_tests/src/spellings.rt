@@ -234,7 +234,7 @@ fn prints(rt: &impl Abort, text: &str, printed: &str) {
 
 /// Texts that spell a line, and how the line is printed: addresses, values and operands in
 /// hexadecimal, all else in decimal.
-const PRINTED: [(&str, &str); 16] = [
+const PRINTED: [(&str, &str); 19] = [
     ("machine 0x4 0x0 0x7ff 1023", "machine 4 0 2047 1023"),
     (
         "machine 10 16 7 0xffffffffffffffff",
@@ -260,6 +260,12 @@ const PRINTED: [(&str, &str); 16] = [
         "msi 1 0x28008000 4294967295",
     ),
     ("entry 536870915 9", "entry 0x20000003 0x9"),
+    (
+        "send 0x1 671121408 0xffffffff",
+        "send 1 0x28008000 4294967295",
+    ),
+    ("land 0x1 0x7", "land 1 7"),
+    ("refetch 0x0 16", "refetch 0 16"),
 ];
 
 /// Texts that lines are printed as, one for each instruction of both levels and for each CSR.
