@@ -1,5 +1,5 @@
 -- What becomes of the stores in flight of a VM as one lands, and as all do.
-use Rattle.std.proofs.Common.{◌≡◌, ℕ, zero, suc, ◌+◌, ◌<◌, List, [], length, get_or-set_same, refl, sym, ap, subst, ◌∙◌, arith}
+use Rattle.std.proofs.Common.{◌≡◌, ◌≢◌, ℕ, zero, suc, ◌+◌, ◌<◌, ◌≤◌, List, [], ◌∷◌, length, get_or-set_same, get_or-set_other, refl, sym, ap, subst, ◌∙◌, arith}
 use Rattle.std.specs.Prelude.{remove, slice_set, slice_index_or}
 use Rattle.std.proofs.lemmas.List.{length-set}
 use Rattle.std.proofs.lemmas.List.Edits.{length-remove}
@@ -7,7 +7,7 @@ use Rattle.aia_file.specs.FileState.{FileState}
 use Rattle.aia_fabric.specs.declared.flights.Flying.{Flying}
 use Rattle.aia_fabric.specs.World.{World, OnlyStores, flight_of}
 use Rattle.aia_fabric.specs.Whole.{IsWhole}
-use Rattle.aia_fabric.specs.Flights.{Lands, LandsOldest, LandsAll}
+use Rattle.aia_fabric.specs.Flights.{Lands, LandsOldest, LandsAll, Fences}
 use Rattle.aia_fabric.proofs.FrameLemmas.{entry_rest}
 
 -- a store lands: it is in flight no more, and the VMs are the same
@@ -45,6 +45,32 @@ one_landed w u x vm count there some so_far whole l =
       vms = landed_vms u x vm 0 l ∙ so_far.vms;
       lists = ap length (landed_flights u x vm 0 l) ∙ length-set u.flights vm (remove (flight_of u vm) 0) ∙ so_far.lists;
     }
+
+-- ---- a fence leaves none of its VM in flight, and those of other VMs as they were
+
+have_landed : (count : ℕ) (w u : World) (vm : ℕ) → vm < length w.flights → count ≤ length (flight_of w vm) → LandsOldest count w u vm → HaveLanded w u vm count
+have_landed zero w u vm there enough same = subst (λ (x : World). HaveLanded w x vm 0) (sym same) (none_landed w vm)
+have_landed (suc count) w u vm there enough (mid, before, whole, l) =
+    let so_far = have_landed count w mid vm there (omega (arith, enough)) before in
+    let more : count + 1 ≡ suc count = omega arith in
+    subst (λ n. HaveLanded w u vm n) more (one_landed w mid u vm count there (omega (arith, so_far.left, enough)) so_far whole l)
+
+none_left : (stores : List Flying) → length stores ≡ 0 → stores ≡ []
+none_left [] none = refl
+none_left (x ∷ stores) none = absurd (omega (arith, none))
+
+pub fence_leaves_none : (w u : World) (vm file : ℕ) → IsWhole w → vm < length w.vms → Fences w u vm file → flight_of u vm ≡ []
+fence_leaves_none w u vm file whole there f =
+    let landed = have_landed (length (flight_of w vm)) w f.landed vm (omega (arith, there, whole.flights)) (omega arith) f.lands in
+    ap (λ (x : World). flight_of x vm) f.fenced ∙ none_left (flight_of f.landed vm) (omega (arith, landed.left))
+
+others_fly : (count : ℕ) (w u : World) (vm other : ℕ) → other ≢ vm → LandsOldest count w u vm → flight_of u other ≡ flight_of w other
+others_fly zero w u vm other ne same = ap (λ (x : World). flight_of x other) same
+others_fly (suc count) w u vm other ne (mid, before, whole, l) =
+    ap (λ flights. slice_index_or flights other []) (landed_flights mid u vm 0 l) ∙ get_or-set_other mid.flights vm other (remove (flight_of mid vm) 0) [] ne ∙ others_fly count w mid vm other ne before
+
+pub fence_leaves_others : (w u : World) (vm file other : ℕ) → Fences w u vm file → other ≢ vm → flight_of u other ≡ flight_of w other
+fence_leaves_others w u vm file other f ne = ap (λ (x : World). flight_of x other) f.fenced ∙ others_fly (length (flight_of w vm)) w f.landed vm other ne f.lands
 
 -- ---- what landings leave as it was
 

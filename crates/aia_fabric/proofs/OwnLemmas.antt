@@ -32,7 +32,7 @@ use Rattle.aia_places.specs.View.{leads_to}
 use Rattle.aia_fabric.specs.World.{World, stage_of}
 use Rattle.aia_fabric.specs.Whole.{IsWhole}
 use Rattle.aia_fabric.specs.Making.{entry_word_place}
-use Rattle.aia_fabric.specs.Stores.{StoresIn, StoresAt, Posts, NoticedBy, StoresInSlot, Reaches, Relays, with_store, page_spot}
+use Rattle.aia_fabric.specs.Stores.{StoresIn, StoresAt, Posts, NoticedBy, StoresInSlot, Reaches, ReachesBy, Relays, with_store, page_spot}
 use Rattle.aia_fabric.specs.Changes.{spot_of, file_in, view}
 use Rattle.aia_fabric.specs.Own.{TouchesOwn, LeadsToOwn, TouchesOneOf}
 use Rattle.aia_fabric.proofs.FrameLemmas.{by_parts, none_rest, stores_rest, posts_rest}
@@ -137,8 +137,13 @@ guest_spot i p few eight there =
     spot_of_guest i.harts i.guests (guest_page p.hart p.file / 0x1000 * 0x1000) p.hart p.file few eight there.0 there.1 there.2
     (in_page (guest_page p.hart p.file) (guest_page p.hart p.file / 0x1000 * 0x1000) (omega arith) (omega arith))
 
+-- an entry leads a store, and is the route of one
+pub by_entry : (place : Option Place) (q hart : ℕ) (w u : World) (offset value : ℕ) → ReachesBy (leads_to q hart place) w u offset value → Reaches (leads_by (leads_to q hart place)) w u offset value
+by_entry None q hart w u offset value reaches = reaches
+by_entry (Some p) q hart w u offset value reaches = reaches
+
 -- an entry that leads a virtual hart's stores to its own
-own_entry : (w u : World) (g : Vcpu) (reach : Option Place) (offset value : ℕ) → IsWhole w → is_vcpu_in w.vms g ≡ true → ((p : Place) → reach ≡ Some p → IsThere w.imsic (spot_of p))
+pub own_entry : (w u : World) (g : Vcpu) (reach : Option Place) (offset value : ℕ) → IsWhole w → is_vcpu_in w.vms g ≡ true → ((p : Place) → reach ≡ Some p → IsThere w.imsic (spot_of p))
     → Reaches (leads_by (leads_to (slot_of w.vms g) (notice_hart w.vms g) reach)) w u offset value → TouchesOwn w u g reach
 own_entry w u g (Some p) offset value whole there inside reaches =
     touches_file w u g p offset value whole there (inside p refl) (subst (λ (s : Spot). StoresAt w u s offset value) (guest_spot w.imsic p whole.harts whole.guests (inside p refl)) reaches)

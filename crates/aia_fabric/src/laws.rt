@@ -1,7 +1,7 @@
 //! What the definitions of this crate mean, as laws: each function does nothing, and its clauses
 //! are what was proved.
 
-ghost use Rattle.std.specs.Prelude.{◌≡◌, ◌≢◌, ◌⊎◌, ℕ, ◌+◌, ◌*◌, ◌/◌, ◌%◌, ◌<◌, ◌≤◌, ◌↔◌, true, List, length, Option, Some};
+ghost use Rattle.std.specs.Prelude.{◌≡◌, ◌≢◌, ◌⊎◌, ℕ, ◌+◌, ◌*◌, ◌/◌, ◌%◌, ◌<◌, ◌≤◌, ◌↔◌, true, List, [], length, Option, Some};
 ghost use Rattle.aia_regs.specs.declared.address_map.TheConstants.{PAGE};
 ghost use Rattle.aia_regs.specs.declared.limits.TheConstants.{HARTS, IDENTITIES, VCPUS};
 ghost use Rattle.aia_regs.specs.AddressMap.{slot_address, supervisor_page};
@@ -16,7 +16,8 @@ ghost use Rattle.aia_home.specs.declared.place.Place.{Place};
 ghost use Rattle.aia_home.specs.declared.vm.Vm.{Vm};
 ghost use Rattle.aia_home.specs.Home.{Home, holds};
 ghost use Rattle.aia_home.specs.Vms.{Vcpu, vcpu, is_vcpu_in, slot_of, notice_identity, notice_hart};
-ghost use Rattle.aia_fabric.specs.World.{World, stage_of};
+ghost use Rattle.aia_fabric.specs.World.{World, stage_of, flight_of};
+ghost use Rattle.aia_fabric.specs.Flights.{Fences};
 ghost use Rattle.aia_fabric.specs.Whole.{IsWhole};
 ghost use Rattle.aia_fabric.specs.Making.{MakesVm};
 ghost use Rattle.aia_fabric.specs.Changes.{spot_of, view};
@@ -85,4 +86,13 @@ pub fn a_store_touches_one_virtual_hart_alone()
         → TouchesOwn w u g reach
         → ((p : Place) → holds p there ≡ true → IsThere w.imsic (spot_of p) × (reach ≢ Some p))
         → view u x there ≡ view w x there }
+{}
+
+/// After the fence of an entry no store of its VM is in flight. Those of every other VM are as they
+/// were.
+pub fn a_fence_leaves_none_in_flight()
+    ensures none { (w u : World) (vm file : ℕ) → IsWhole w → vm < length w.vms
+        → Fences w u vm file → flight_of u vm ≡ [] }
+    ensures others { (w u : World) (vm file other : ℕ) → Fences w u vm file → other ≢ vm
+        → flight_of u other ≡ flight_of w other }
 {}

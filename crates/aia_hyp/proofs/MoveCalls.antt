@@ -1,5 +1,5 @@
 -- What the calls of a move say, of the fields that they change.
-use Rattle.aia_model.specs.ReachOf.{LandsFirst}
+use Rattle.aia_model.specs.ReachOf.{NoneAtFence}
 use Rattle.std.proofs.Common.{◌≡◌, ℕ, ◌+◌, ◌/◌, ◌<◌, Bool, true, false, get_or, List, length, ◌∷◌, Option, Some, None, refl, sym, ap, subst, ◌∙◌, arith}
 use Rattle.std.proofs.Math.ListN.{set}
 use Rattle.std.proofs.lemmas.Bool.{true≢false}
@@ -136,8 +136,8 @@ OneMade w m u = (hand : Hand) × MakesNext w m u hand
 -- A step of the move of a virtual hart is done, once what lands before it has landed; whether it was
 -- the last one.
 pub record AccessGoes (old new : CoreState) (g : Vcpu) (last : Bool) : Type 0 where
-  pub stands : (h : History) → LandsFirst h (Stepped g) → CoreStands old h → CoreStands new (Stepped g ∷ h)
-  pub at_last : (h : History) → LandsFirst h (Stepped g) → CoreStands old h → last ≡ is_at_last (file_words h) (home h g)
+  pub stands : (h : History) → NoneAtFence h (Stepped g) → CoreStands old h → CoreStands new (Stepped g ∷ h)
+  pub at_last : (h : History) → NoneAtFence h (Stepped g) → CoreStands old h → last ≡ is_at_last (file_words h) (home h g)
   pub moving : last ≡ false → is_moving (home_in (record_of new g).stay) ≡ true
   pub fewer : last ≡ false → left_in new g < left_in old g
   pub makes : (plan : Plan) → (record_of old g).stay ≡ stays.Moving plan → OneMade old.world (moving_of plan) new.world
@@ -145,7 +145,7 @@ pub record AccessGoes (old new : CoreState) (g : Vcpu) (last : Bool) : Type 0 wh
 -- What a step's calls say, once what lands before it has landed.
 pub record Made (x y : CoreState) (who : Who) (plan : Plan) (next : Next) : Type 0 where
   pub swapped : Swapped x y who (stays.Moving plan) (stay_then next)
-  pub first : LandsFirst swapped.some.past (Stepped (vcpu who.vm who.vcpu))
+  pub first : NoneAtFence swapped.some.past (Stepped (vcpu who.vm who.vcpu))
   pub whole : IsWhole x.world
   pub whole_then : IsWhole y.world
   pub leases : y.leases ≡ with_back (back_then next) x.leases
@@ -163,7 +163,7 @@ module _ (x y : CoreState) (who : Who) (plan : Plan) where
   its_there : (h : History) → CoreStands x h → IsWho x.world who → has_vcpu h (vcpu who.vm who.vcpu) ≡ true
   its_there h stands is = subst (λ (vs : List Vm). is_vcpu_in vs its ≡ true) stands.vms is.there
 
-  goes_on : (later : Plan) (h : History) → LandsFirst h (Stepped (vcpu who.vm who.vcpu)) → CoreStands x h → Made x y who plan (Again later) → GoesOf x y h (vcpu who.vm who.vcpu) plan later (its_record (stays.Moving later))
+  goes_on : (later : Plan) (h : History) → NoneAtFence h (Stepped (vcpu who.vm who.vcpu)) → CoreStands x h → Made x y who plan (Again later) → GoesOf x y h (vcpu who.vm who.vcpu) plan later (its_record (stays.Moving later))
   goes_on later h first stands c = record {
     step_of = record {
       first = first;
@@ -184,7 +184,7 @@ module _ (x y : CoreState) (who : Who) (plan : Plan) where
     phase = c.phase;
   }
 
-  ends_it : (o : Outcome) (h : History) → LandsFirst h (Stepped (vcpu who.vm who.vcpu)) → CoreStands x h → Made x y who plan (Finished o) → EndsOf x y h (vcpu who.vm who.vcpu) plan o (its_record (stay_after o))
+  ends_it : (o : Outcome) (h : History) → NoneAtFence h (Stepped (vcpu who.vm who.vcpu)) → CoreStands x h → Made x y who plan (Finished o) → EndsOf x y h (vcpu who.vm who.vcpu) plan o (its_record (stay_after o))
   ends_it o h first stands c = record {
     step_of = record {
       first = first;

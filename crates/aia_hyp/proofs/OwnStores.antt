@@ -1,26 +1,34 @@
 -- A store of a VM touches its own places alone, in a core that stands for a history.
-use Rattle.std.proofs.Common.{◌≡◌, ◌≢◌, ℕ, ◌%◌, true, List, Option, Some, ◌⊎◌, sym, subst}
+use Rattle.std.proofs.Common.{◌≡◌, ◌≢◌, ℕ, ◌%◌, true, List, map, slice_get, Option, Some, ◌⊎◌, sym, ap, subst, ◌∙◌}
+use Rattle.std.specs.Option.{option_map}
+use Rattle.std.proofs.lemmas.Option.{slice_get-map}
 use Rattle.aia_regs.specs.declared.address_map.TheConstants.{PAGE}
 use Rattle.aia_entry.specs.Tables.{table_of, route_of}
 use Rattle.aia_home.specs.declared.place.Place.{Place}
 use Rattle.aia_home.specs.declared.vm.Vm.{Vm}
-use Rattle.aia_home.specs.Vms.{Vcpu, is_vcpu_in}
+use Rattle.aia_home.specs.Vms.{Vcpu, is_vcpu_in, slot_of, notice_hart}
+use Rattle.aia_places.specs.View.{leads_to}
 use Rattle.aia_home.specs.Home.{holds}
 use Rattle.aia_home.specs.Routes.{peers_reach}
 use Rattle.aia_fabric.specs.World.{World, stage_of}
 use Rattle.aia_fabric.specs.Whole.{IsWhole}
-use Rattle.aia_fabric.specs.Stores.{Reaches, Relays}
+use Rattle.aia_fabric.specs.declared.flights.Flying.{Flying}
+use Rattle.aia_fabric.specs.Stores.{Reaches, ReachesBy, Relays}
+use Rattle.aia_fabric.specs.Flights.{Lands}
 use Rattle.aia_fabric.specs.Changes.{view}
 use Rattle.aia_fabric.specs.Own.{TouchesOwn, TouchesOneOf}
-use Rattle.aia_fabric.proofs.OwnLemmas.{device_touches, peer_touches, others_stay}
+use Rattle.aia_fabric.proofs.OwnLemmas.{by_entry, own_entry, device_touches, peer_touches, others_stay}
 use Rattle.aia_model.specs.Event.{History}
-use Rattle.aia_model.specs.Vms.{has_vm, has_vcpu}
+use Rattle.aia_model.specs.Flight.{Sending, flight, flying}
+use Rattle.aia_model.specs.GuestFile.{sent_to}
+use Rattle.aia_model.specs.Vms.{vms_of, has_vm, has_vcpu}
 use Rattle.aia_model.specs.HomeOf.{home}
-use Rattle.aia_model.specs.ReachOf.{in_force_of}
+use Rattle.aia_model.specs.ReachOf.{in_force_of, sent_into, IsForOne}
+use Rattle.aia_model.proofs.FlightLemmas.{all_at}
 use Rattle.aia_hyp.specs.Core.{CoreState}
-use Rattle.aia_hyp.specs.Stands.{CoreStands}
+use Rattle.aia_hyp.specs.Stands.{CoreStands, flying_of}
 use Rattle.aia_hyp.proofs.DeviceLemmas.{leads_to_own}
-use Rattle.aia_hyp.proofs.GuestStores.{devices_held, peers_held}
+use Rattle.aia_hyp.proofs.GuestStores.{devices_held, flying_held, peers_held}
 use Rattle.aia_hyp.proofs.MoveLines.{in_force}
 
 -- a virtual hart of the history is one of the world
@@ -47,3 +55,38 @@ device_others x h u g other stands there inside ne touches = others_own x h u g 
 
 pub peer_others : (x : CoreState) (h : History) (u : World) (g other : Vcpu) → CoreStands x h → has_vcpu h g ≡ true → has_vcpu h other ≡ true → other ≢ g → TouchesOwn x.world u g (peers_reach (home h g)) → view u other (home h other) ≡ view x.world other (home h other)
 peer_others x h u g other stands there inside ne touches = others_own x h u g other (peers_reach (home h g)) stands there inside ne (peers_held h g) touches
+
+-- ---- one that was in flight
+
+module _ (x : CoreState) (h : History) (u : World) (v k : ℕ) (s : Sending) (stands : CoreStands x h) (whole : IsWhole x.world) (is : flying h v k ≡ Some s) (landing : Lands x.world u v k) where
+  one : IsForOne h v s
+  one = all_at (IsForOne h v) k (flight h v) s is (stands.for_one v)
+
+  found : option_map (flying_of v) (flying h v k) ≡ Some landing.store
+  found = sym (slice_get-map (flying_of v) (flight h v) k) ∙ ap (λ stores. slice_get stores k) (sym (stands.flights v)) ∙ landing.is
+
+  kept : flying_of v s ≡ landing.store
+  kept = let both : Some (flying_of v s) ≡ Some landing.store = ap (option_map (flying_of v)) (sym is) ∙ found in cc
+
+  as_sent : ReachesBy (leads_to (slot_of (vms_of s.before) (sent_to v s)) (notice_hart (vms_of s.before) (sent_to v s)) (sent_into v s)) x.world landing.stored (s.addr % PAGE) s.value
+  as_sent = subst (λ (f : Flying). ReachesBy f.entry x.world landing.stored f.offset f.value) (sym kept) landing.reaches
+
+  leads : ReachesBy (leads_to (slot_of x.world.vms (sent_to v s)) (notice_hart x.world.vms (sent_to v s)) (sent_into v s)) x.world landing.stored (s.addr % PAGE) s.value
+  leads = subst (λ (vs : List Vm). ReachesBy (leads_to (slot_of vs (sent_to v s)) (notice_hart vs (sent_to v s)) (sent_into v s)) x.world landing.stored (s.addr % PAGE) s.value) (sym stands.vms)
+      (subst (λ q. ReachesBy (leads_to q (notice_hart (vms_of h) (sent_to v s)) (sent_into v s)) x.world landing.stored (s.addr % PAGE) s.value) (sym one.slot)
+      (subst (λ hart. ReachesBy (leads_to (slot_of (vms_of s.before) (sent_to v s)) hart (sent_into v s)) x.world landing.stored (s.addr % PAGE) s.value) (sym one.notice) as_sent))
+
+  holding : (p : Place) → sent_into v s ≡ Some p → holds p (home h (sent_to v s)) ≡ true
+  holding p e = flying_held h v k s p stands.may_fly is e
+
+  touches : TouchesOwn x.world landing.stored (sent_to v s) (sent_into v s)
+  touches = own_entry x.world landing.stored (sent_to v s) (sent_into v s) (s.addr % PAGE) s.value whole (in_world x h (sent_to v s) stands one.there) (λ p e. stands.held (sent_to v s) p one.there (holding p e))
+      (by_entry (sent_into v s) (slot_of x.world.vms (sent_to v s)) (notice_hart x.world.vms (sent_to v s)) x.world landing.stored (s.addr % PAGE) s.value leads)
+
+  others : (g : Vcpu) → has_vcpu h g ≡ true → g ≢ sent_to v s → view u g (home h g) ≡ view x.world g (home h g)
+  others g inside ne = subst (λ (w : World). view w g (home h g) ≡ view x.world g (home h g)) (sym landing.taken)
+      (others_own x h landing.stored (sent_to v s) g (sent_into v s) stands one.there inside ne holding touches)
+
+pub landing_own : (x : CoreState) (h : History) (u : World) (v k : ℕ) (s : Sending) → CoreStands x h → IsWhole x.world → flying h v k ≡ Some s → (landing : Lands x.world u v k)
+    → TouchesOwn x.world landing.stored (sent_to v s) (sent_into v s) × ((g : Vcpu) → has_vcpu h g ≡ true → g ≢ sent_to v s → view u g (home h g) ≡ view x.world g (home h g))
+landing_own x h u v k s stands whole is landing = (touches x h u v k s stands whole is landing, others x h u v k s stands whole is landing)

@@ -37,7 +37,7 @@ use Rattle.aia_model.specs.FileAfter.{select_after, file_after}
 use Rattle.aia_model.specs.FileAfter.FileDeed.{Rests}
 use Rattle.aia_model.specs.MajorOf.{majors_of}
 use Rattle.aia_model.specs.Flight.{flight}
-use Rattle.aia_model.specs.ReachOf.{LandsFirst, SendsToOne}
+use Rattle.aia_model.specs.ReachOf.{NoneAtFence, SendsToOne}
 use Rattle.aia_model.proofs.FlightLemmas.{flights_on, sent_on, none_flies, none_for_one}
 use Rattle.aia_model.specs.HomeOf.{home, moved}
 use Rattle.aia_model.specs.GuestFile.{guest_deed, guest_select, guest_file}
@@ -156,7 +156,7 @@ with_flights x y h event flights b = record {
 
 -- What it makes of the stores in flight.
 pub record FlightsBecome (y : CoreState) (h : History) (event : Event) : Type 0 where
-  pub first : LandsFirst h event
+  pub first : NoneAtFence h event
   pub one : SendsToOne h event
   pub flights : (v : ℕ) → flight_of y.world v ≡ map (flying_of v) (flight (event ∷ h) v)
 

@@ -38,9 +38,9 @@ pub fn the_host_sees_a_notice_until_it_clears_it()
         → (file_of h (notice_file h g)).pending (notice_number h g) ≡ true }
 {}
 
-/// No notice comes for nothing: the line that it comes with asks at the virtual hart for an identity
-/// that is enabled there, or its step is the last one of a leave, one of whose looks saw an identity
-/// both pending and enabled.
+/// No notice comes for nothing: the line that it comes with, or the store that lands, asks at the
+/// virtual hart for an identity that is enabled there, or its step is the last one of a leave, one
+/// of whose looks saw an identity both pending and enabled.
 pub fn a_notice_has_a_cause()
     ensures { (h : History) (event : Event) (g : Vcpu) → noticed h event ≡ Some g
         → IsCause h event g }

@@ -20,7 +20,7 @@ use Rattle.aia_model.specs.Event.Event.{Accepted, Began, Stepped, Delivered, Lan
 use Rattle.aia_model.specs.Flight.{Sending, flight}
 use Rattle.aia_model.specs.GuestFile.{named_by, sent_to}
 use Rattle.aia_model.specs.HomeOf.{home}
-use Rattle.aia_model.specs.ReachOf.{sent_into, LandsFirst, MayFly, AllMayFly, IsForOne, AllAreForOne, SendsToOne}
+use Rattle.aia_model.specs.ReachOf.{sent_into, NoneAtFence, MayFly, AllMayFly, IsForOne, AllAreForOne, SendsToOne}
 use Rattle.aia_model.specs.Answer.{oldest_landed, landed_first, step_taken}
 use Rattle.aia_model.specs.Vms.{vms_of, has_vcpu}
 use Rattle.aia_model.proofs.MoveLemmas.{home_step, same_vcpu, is_itself}
@@ -62,7 +62,7 @@ step_on past vm s x other m = rw (home_step (Stepped x) past (sent_to vm s)) (el
     by_fence : (there : Home) (place : Option Place) → is_at_fence there ≡ false → MayReach there place → MayReach (stepped (file_words past) there) place
     by_fence there place e m = subst (MayReach (stepped (file_words past) there)) (cond-false _ _ _ e) (reach_kept (file_words past) there place m)
 
-pub flights_on : (past : History) (event : Event) → LandsFirst past event → AllMayFly past → AllMayFly (event ∷ past)
+pub flights_on : (past : History) (event : Event) → NoneAtFence past event → AllMayFly past → AllMayFly (event ∷ past)
 unfolding flight home
 flights_on past (Accepted (Send v addr value)) first all vm = elim (cases_Bool (nat_eq v vm)) [
   | inl own ↦ rw own (all_append (MayFly past vm) (flight past vm) (record { before = past; addr = addr; value = value }) (all vm) (in_force_may past (named_by past vm addr)))
@@ -166,10 +166,10 @@ none_left vm count h e = by_list count (flight h vm) h refl e
     by_list (suc count) (x ∷ xs) h is e = by_list count xs (Landed vm 0 ∷ h) (first_gone vm h x xs is) (let same : suc (length xs) ≡ suc count = e in cc)
 
 -- so a step comes when none is in flight, if it is a fence
-pub lands_first : (g : Vcpu) (h : History) → LandsFirst (landed_first g h) (Stepped g)
+pub lands_first : (g : Vcpu) (h : History) → NoneAtFence (landed_first g h) (Stepped g)
 lands_first g h = by_fence (is_at_fence (home h g)) refl
   where
-    by_fence : (b : Bool) → is_at_fence (home h g) ≡ b → LandsFirst (landed_first g h) (Stepped g)
+    by_fence : (b : Bool) → is_at_fence (home h g) ≡ b → NoneAtFence (landed_first g h) (Stepped g)
     by_fence true e = rw e (λ fence. none_left g.vm (length (flight h g.vm)) h refl)
     by_fence false e = rw e (λ fence. absurd (false≢true (sym e ∙ fence)))
 

@@ -93,8 +93,8 @@ abbrev pub oldest_landed : ℕ → ℕ → History → History
 oldest_landed zero vm h = h
 oldest_landed (suc count) vm h = oldest_landed count vm (Landed vm 0 ∷ h)
 
--- All stores of a VM that are on their way land, where the next step of a virtual hart's move is
--- the fence. Profile.
+-- All stores of a VM that are in flight land, where the next step of a virtual hart's move is the
+-- fence. Profile.
 abbrev pub landed_first : Vcpu → History → History
 landed_first g h =
     if is_at_fence (home h g) then oldest_landed (length (flight h g.vm)) g.vm h else h
@@ -123,8 +123,7 @@ steps_of words (Shifts g hart) = shift_steps words
 abbrev pub whole_move : History → Move → History
 whole_move h move = steps_taken (steps_of (file_words h) move) (mover move) (Began move ∷ h)
 
--- An accepted line itself, by what it does about moves; where that is nothing, it is an event of
--- its own.
+-- An accepted line itself: what it is of moves, or a landing; else an event `Accepted`.
 abbrev pub deed_taken : History → Line → MoveDeed → History
 deed_taken h line NoMove = Accepted line ∷ h
 deed_taken h line (Whole move) = whole_move h move

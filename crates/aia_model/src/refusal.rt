@@ -3,7 +3,7 @@
 pub enum Refusal {
     /// `range`: a number names nothing, or is past its limit.
     Range,
-    /// `full`: there is no room for a VM of so many virtual harts.
+    /// `full`: there is no room for a VM of so many virtual harts, or for one more store in flight.
     Full,
     /// `busy`: the virtual hart is being moved.
     Busy,

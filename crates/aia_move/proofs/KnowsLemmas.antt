@@ -23,7 +23,7 @@ use Rattle.aia_home.specs.Vms.{Vcpu, is_vcpu_in, slot_of, notice_identity, notic
 use Rattle.aia_home.specs.Home.{Home, is_place, holds}
 use Rattle.aia_home.specs.Home.Home.{Parked, Resident, Leaving, Arriving, Shifting}
 use Rattle.aia_home.specs.BySteps.{own_file, next_file}
-use Rattle.aia_home.specs.Routes.{peers_reach, MayLand}
+use Rattle.aia_home.specs.Routes.{peers_reach, MayReach, MayLand}
 use Rattle.aia_home.proofs.RouteLemmas.{reach_lands, peers_may}
 use Rattle.aia_places.specs.View.{View, leads_to}
 use Rattle.aia_places.specs.Holds.{Holds, IsWithin}
@@ -31,11 +31,11 @@ use Rattle.aia_places.specs.Stores.{view_landed, AreApart}
 use Rattle.aia_places.proofs.StoreLemmas.{lands}
 use Rattle.aia_fabric.specs.World.{World, stage_of}
 use Rattle.aia_fabric.specs.Whole.{IsWhole}
-use Rattle.aia_fabric.specs.Stores.{StoresIn, StoresAt, NoticedBy, StoresInSlot, Reaches, Relays, with_store, page_spot, named_spot}
+use Rattle.aia_fabric.specs.Stores.{StoresIn, StoresAt, NoticedBy, StoresInSlot, Reaches, ReachesBy, Relays, with_store, page_spot, named_spot}
 use Rattle.aia_fabric.specs.Changes.{spot_of, file_in, view}
 use Rattle.aia_fabric.specs.Own.{TouchesOwn}
 use Rattle.aia_home.proofs.HomeLemmas.{same_place, landing_is_held}
-use Rattle.aia_fabric.proofs.OwnLemmas.{guest_spot, touches_file, touches_slot, others_stay}
+use Rattle.aia_fabric.proofs.OwnLemmas.{by_entry, guest_spot, touches_file, touches_slot, others_stay}
 use Rattle.aia_fabric.proofs.PlaceLemmas.{slot_found, host_page}
 use Rattle.aia_fabric.proofs.StoreViews.{file_store-view, slot_store-view}
 use Rattle.aia_fabric.proofs.ViewLemmas.{posts-view, slot_low}
@@ -147,6 +147,17 @@ module _ (w u : World) (plan : Plan) (reach : Option Place) (file : InterruptFil
       let route : route_of (table_of w.tables mv.who.vm) addr ≡ leads_by (leads_to (slot_of w.vms (mover mv)) (notice_hart w.vms (mover mv)) reach) =
       cond-true _ _ _ is ∙ ap (λ k. leads_by (entry_in_force (table_of w.tables mv.who.vm) k)) names ∙ ap leads_by entry_is in
       lands_knows reach may (entry_lands reach may (subst (λ (r : Route). Reaches r w u offset value) route reaches))
+
+-- one that was in flight, where the entry led as it was sent
+pub flight_knows : (w u : World) (plan : Plan) (reach place : Option Place) (file : InterruptFile) (saw : Bool) (offset value : ℕ) → IsWhole w → AreApart (moving_of plan).home → IsWithin w.n (width w) file → Knows w plan reach file saw
+    → MayReach (moving_of plan).home place → ReachesBy (leads_to (moving_of plan).who.slot (moving_of plan).who.notice place) w u offset value → Knows u plan reach (landed offset value file) saw
+flight_knows w u plan reach place file saw offset value whole apart within knows may reaches =
+    let m = moving_of plan in
+    let land = reach_lands (width w) m.home place may in
+    let own : ReachesBy (leads_to (slot_of w.vms (mover m)) (notice_hart w.vms (mover m)) place) w u offset value =
+    subst (λ q. ReachesBy (leads_to q (notice_hart w.vms (mover m)) place) w u offset value) knows.fits.slot (subst (λ hart. ReachesBy (leads_to m.who.slot hart place) w u offset value) knows.fits.notice reaches) in
+    lands_knows w u plan reach file saw offset value whole apart within knows place land
+    (entry_lands w u plan reach file saw offset value whole apart within knows place land (by_entry place (slot_of w.vms (mover m)) (notice_hart w.vms (mover m)) w u offset value own))
 
 -- a peer's, where its G-stage record in force leads
 named_guest : (i : ImsicState) (p : Place) → IsThere i (spot_of p) → named_spot i p ≡ spot_of p

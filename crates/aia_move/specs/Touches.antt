@@ -1,5 +1,5 @@
--- What a step of a move leaves as it is: all but the places of the virtual hart that is moved, and
--- the file to which its notice goes.
+-- What a step of a move leaves as it is, once what lands before it has landed: all but the places
+-- of the virtual hart that is moved, and the file to which its notice goes.
 use Rattle.std.specs.Prelude.{◌≡◌, ◌≢◌, ℕ, ◌+◌, ◌<◌, ◌⊎◌, Bool, true, false, length, slice_index, slice_index_or}
 use Rattle.aia_regs.specs.declared.limits.TheConstants.{VCPUS}
 use Rattle.aia_imsic.specs.declared.spot.Spot.TheVariants.{MachineFile, HostFile}

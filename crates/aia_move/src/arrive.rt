@@ -43,7 +43,8 @@ impl Arrive<First> {
         }
     }
 
-    /// Writes word 0 of the entry, so that it leads to the file, and puts it in force. Why here:
+    /// Writes word 0 of the entry, so that it leads to the file, and puts it in force, once all
+    /// stores in flight of the VM have landed, so that none comes to the old place later. Why here:
     /// the entry is in force before the first word is taken from the slot, so that no store of a
     /// device comes after its word.
     pub fn step(mut self, fabric: &mut Fabric) -> Turn<Self, Arrive<Closing>>

@@ -40,9 +40,9 @@ impl Leave<First> {
     }
 
     /// Takes eidelivery, writes both words of the entry, so that it leads to the slot, and puts it
-    /// in force, once all stores in flight of the VM have landed. Why here: the file is silent
-    /// before anything moves, and word 1 says where notices go before word 0 leads to the slot; it
-    /// has said so from the VM's making on.
+    /// in force, once all stores in flight of the VM have landed, so that none comes to the old
+    /// place later. Why here: the file is silent before anything moves, and word 1 says where
+    /// notices go before word 0 leads to the slot; it has said so from the VM's making on.
     pub fn step(mut self, fabric: &mut Fabric) -> Turn<Self, Leave<Closing>>
         requires fits { Fits fabric.old self }
         requires phase { IsIn FirstPhase (width fabric.old) self }

@@ -39,8 +39,9 @@ impl Shift<First> {
     }
 
     /// Takes eidelivery, writes word 0 of the entry, so that it leads to the new file, and puts it
-    /// in force. Why here: the old file is silent before anything moves, and the entry is in force
-    /// before the first word is taken, so that no store of a device comes after its word.
+    /// in force, once all stores in flight of the VM have landed, so that none comes to the old
+    /// place later. Why here: the old file is silent before anything moves, and the entry is in
+    /// force before the first word is taken, so that no store of a device comes after its word.
     pub fn step(mut self, fabric: &mut Fabric) -> Turn<Self, Shift<Closing>>
         requires fits { Fits fabric.old self }
         requires phase { IsIn FirstPhase (width fabric.old) self }
