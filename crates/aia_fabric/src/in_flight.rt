@@ -35,7 +35,14 @@ impl Fabric {
         let route = self.translate(vm, addr);
         if let Route::To(entry) = route {
             let offset = (addr % PAGE) as u32;
-            self.flights.push(vm, Flying { entry, offset, value });
+            self.flights.push(
+                vm,
+                Flying {
+                    entry,
+                    offset,
+                    value,
+                },
+            );
         }
         route
     }
