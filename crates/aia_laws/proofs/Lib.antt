@@ -9,3 +9,4 @@ pub mod CauseLemmas
 pub mod NewestLemmas
 pub mod FlightRequests
 pub mod FenceLemmas
+pub mod MoveLemmas

@@ -27,7 +27,8 @@ use Rattle.aia_model.proofs.AnswerLemmas.{after_by}
 use Rattle.aia_model.proofs.MoveLemmas.{is_itself, home_step}
 use Rattle.aia_home.specs.Vms.{is_vcpu_in}
 use Rattle.aia_home.specs.BySteps.{new_file}
-use Rattle.aia_home.specs.Routes.{is_at_fence, is_closed}
+use Rattle.aia_home.specs.declared.place.Place.{Place}
+use Rattle.aia_home.specs.Routes.{is_at_fence, is_closed, origin, MayReach}
 use Rattle.aia_model.specs.Flight.{Sending, flight, flying}
 use Rattle.aia_model.specs.GuestFile.{sent_to}
 use Rattle.aia_model.specs.ReachOf.{sent_into, MayFly, AllMayFly, IsForOne, AllAreForOne}
@@ -215,3 +216,15 @@ flying_closed h vm k s good e closed = elim (all_at (MayFly h vm) k (flight h vm
   | inl old ↦ absurd (false≢true (sym old.1 ∙ closed))
   | inr new ↦ new.0
 ]
+
+-- at rest each goes where it is
+rest_reach : (there : Home) (into : Option Place) → is_moving there ≡ false → MayReach there into → into ≡ origin there
+rest_reach there into rests (inl old) = old.0
+rest_reach Parked into rests (inr new) = absurd (cc)
+rest_reach (Resident p) into rests (inr new) = absurd (cc)
+rest_reach (Leaving from at) into rests (inr new) = absurd (cc)
+rest_reach (Arriving to at) into rests (inr new) = absurd (cc)
+rest_reach (Shifting from to at) into rests (inr new) = absurd (cc)
+
+pub flying_rests : (h : History) (vm k : ℕ) (s : Sending) → IsHistory h → flying h vm k ≡ Some s → is_moving (home h (sent_to vm s)) ≡ false → sent_into vm s ≡ origin (home h (sent_to vm s))
+flying_rests h vm k s good e rests = rest_reach (home h (sent_to vm s)) (sent_into vm s) rests (all_at (MayFly h vm) k (flight h vm) s e (flights_may h good vm))
