@@ -1,6 +1,6 @@
 -- Stores of devices that are in flight: each was sent where the entry in force led, and lands
 -- there. Profile. AIA 1.0, IOMMU Support for MSIs to Virtual Machines.
-use Rattle.std.specs.Prelude.{◌≡◌, ℕ, zero, suc, List, [], ◌∷◌, ◌++◌, length, remove, slice_get, slice_set, Option, Some}
+use Rattle.std.specs.Prelude.{◌≡◌, ℕ, zero, suc, List, [], ◌∷◌, ◌++◌, length, remove, slice_get, slice_set, Some}
 use Rattle.aia_entry.specs.declared.table.Route.{Route}
 use Rattle.aia_entry.specs.declared.table.Route.TheVariants.{To}
 use Rattle.aia_fabric.specs.declared.flights.Flying.{Flying}

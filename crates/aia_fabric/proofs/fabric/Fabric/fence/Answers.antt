@@ -1,4 +1,4 @@
-use Rattle.std.proofs.Common.{◌≡◌, true, ap, ◌∙◌, length}
+use Rattle.std.proofs.Common.{ap, ◌∙◌, length}
 use Rattle.aia_home.specs.Vms.{vcpu, is_vcpu_in}
 use Rattle.aia_fabric.specs.World.{World, flight_of}
 use Rattle.aia_fabric.proofs.FlightLemmas.{all_landed_rest}
