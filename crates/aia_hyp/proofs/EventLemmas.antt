@@ -1,10 +1,8 @@
 -- What one event more makes of a core that stands for a history, and what a line answers by its
 -- refusal.
-use Rattle.aia_model.proofs.FlightLemmas.{flights_on, none_flies}
-use Rattle.std.proofs.Common.{◌≡◌, ◌≢◌, ℕ, zero, suc, ◌+◌, ◌-◌, ◌*◌, ◌/◌, ◌%◌, ◌^◌, ◌<◌, ◌≤◌, Bool, true, false, ◌&&◌, nat_eq, nat_lt, nat_le, get_or, List, length, replicate, is_some, [], ◌∷◌, Option, Some, None, unwrap_or, inl, inr, refl, sym, ap, subst, ◌∙◌, arith}
-use Rattle.std.specs.Prelude.{Result, Ok, min}
-use Rattle.std.specs.Option.{option_map_or}
-use Rattle.std.proofs.lemmas.Bool.{cond-true, lt-ltb, ltb-true}
+use Rattle.std.proofs.Common.{◌≡◌, ◌≢◌, ℕ, ◌<◌, ◌≤◌, Bool, true, false, nat_lt, get_or, List, length, ◌∷◌, Option, Some, None, unwrap_or, inl, inr, refl, sym, ap, subst, ◌∙◌, arith}
+use Rattle.std.specs.Prelude.{Result, Ok}
+use Rattle.std.proofs.lemmas.Bool.{cond-true, lt-ltb}
 use Rattle.std.proofs.lemmas.List.{set-get_or}
 use Rattle.std.proofs.lemmas.Option.{none-some}
 use Rattle.aia_regs.specs.declared.limits.TheConstants.{VCPUS}
@@ -48,9 +46,9 @@ use Rattle.aia_model.proofs.HistoryLemmas.{line_happens}
 use Rattle.aia_hyp.specs.declared.vcpu.VcpuRecord.{VcpuRecord}
 use Rattle.aia_hyp.specs.Core.{CoreState, no_record}
 use Rattle.aia_hyp.specs.HostFiles.{FileDone, HasDone, host_spot, select_place, select_in}
-use Rattle.aia_hyp.specs.Stands.{StandsForSome, HostStands, VcpuStands, is_held, CoreStands, CoreTakes, line_served, signals_of}
-use Rattle.aia_hyp.proofs.VcpuLemmas.{IsQuiet, same_n, quiet_line, quiet_msi, select_is, MajorsRest, majors_is, majors_rest, guest_rests, files_alone, held_stays, is_quiet_line, IsStill, still_line, is_quiet_line}
-use Rattle.aia_hyp.proofs.NameLemmas.{no_guest, is_hosts, other_spot, there_too}
+use Rattle.aia_hyp.specs.Stands.{StandsForSome, VcpuStands, is_held, CoreStands, CoreTakes, line_served, signals_of}
+use Rattle.aia_hyp.proofs.VcpuLemmas.{IsQuiet, quiet_line, quiet_msi, MajorsRest, guest_rests, files_alone, held_stays, is_quiet_line, IsStill, still_line, is_quiet_line}
+use Rattle.aia_hyp.proofs.NameLemmas.{no_guest, is_hosts, other_spot}
 use Rattle.aia_hyp.proofs.StandsLemmas.{count_after, Becomes, stands_after, built_as, flights_stay, keeps_by}
 use Rattle.aia_fabric.proofs.FrameLemmas.{files_rest}
 use Rattle.aia_fabric.specs.World.{OnlyStores}

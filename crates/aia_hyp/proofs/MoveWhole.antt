@@ -15,7 +15,7 @@ use Rattle.aia_model.specs.declared.answer.Answer.TheVariants.{Okay, Refused}
 use Rattle.aia_model.specs.declared.refusal.Refusal.{Refusal}
 use Rattle.aia_model.specs.declared.refusal.Refusal.TheVariants as words
 use Rattle.aia_model.specs.Event.{History, has_machine, has_hart, file_words}
-use Rattle.aia_model.specs.Event.Event.{Began, Stepped}
+use Rattle.aia_model.specs.Event.Event.{Began}
 use Rattle.aia_model.specs.Move.{Move}
 use Rattle.aia_model.specs.Move.Move.{Arrives, Leaves, Shifts}
 use Rattle.aia_model.specs.Vms.{has_vcpu}

@@ -1,5 +1,5 @@
 -- A store of a VM touches its own places alone, in a core that stands for a history.
-use Rattle.std.proofs.Common.{◌≡◌, ◌≢◌, ℕ, ◌%◌, true, List, map, slice_get, Option, Some, ◌⊎◌, sym, ap, subst, ◌∙◌}
+use Rattle.std.proofs.Common.{◌≡◌, ◌≢◌, ℕ, ◌%◌, true, List, slice_get, Option, Some, ◌⊎◌, sym, ap, subst, ◌∙◌}
 use Rattle.std.specs.Option.{option_map}
 use Rattle.std.proofs.lemmas.Option.{slice_get-map}
 use Rattle.aia_regs.specs.declared.address_map.TheConstants.{PAGE}

@@ -1,22 +1,19 @@
 -- What it makes of a core that stands for a history that the IOMMU reads an entry again.
-use Rattle.std.proofs.Common.{◌≡◌, ◌≢◌, ℕ, ◌+◌, ◌<◌, Bool, true, false, not, nat_eq, List, ◌∷◌, length, get_or, Option, Some, None, ◌⊎◌, inl, inr, refl, sym, ap, subst, ◌∙◌, arith}
+use Rattle.std.proofs.Common.{◌≡◌, ◌≢◌, ℕ, ◌<◌, true, false, not, List, ◌∷◌, length, get_or, ◌⊎◌, inl, inr, refl, sym, ap, subst, ◌∙◌, arith}
 use Rattle.std.proofs.lemmas.Bool.{cases_Bool, cases_eq, cond-true, cond-false, false≢true}
-use Rattle.std.proofs.lemmas.Option.{none-some}
-use Rattle.aia_file.specs.FileState.{FileState, shown}
+use Rattle.aia_file.specs.FileState.{shown}
 use Rattle.aia_file.specs.InterruptFile.{SameFile}
-use Rattle.aia_imsic.specs.Imsic.{IsThere, file_at}
+use Rattle.aia_imsic.specs.Imsic.{file_at}
 use Rattle.aia_entry.specs.Format.{decoded}
-use Rattle.aia_entry.specs.Tables.{TableState, table_of, entry_in_force, fenced_at}
+use Rattle.aia_entry.specs.Tables.{table_of, entry_in_force, fenced_at}
 use Rattle.aia_entry.proofs.TableLemmas.{fenced_elsewhere}
 use Rattle.aia_home.specs.declared.place.Place.{Place}
 use Rattle.aia_home.specs.declared.vm.Vm.{Vm}
 use Rattle.aia_home.specs.Vms.{Vcpu, vcpu, is_vcpu, is_vcpu_in, slot_of, notice_hart}
-use Rattle.aia_home.specs.Home.{Home, holds}
-use Rattle.aia_home.specs.BySteps.{own_file, next_file}
+use Rattle.aia_home.specs.Home.{holds}
 use Rattle.aia_home.specs.Routes.{entry_names}
 use Rattle.aia_home.proofs.HomeLemmas.{own_is_held, next_is_held}
-use Rattle.aia_places.specs.View.{View, FilesFit}
-use Rattle.aia_places.specs.Holds.{Holds}
+use Rattle.aia_places.specs.View.{FilesFit}
 use Rattle.aia_places.proofs.StoreLemmas.{refetch_kept}
 use Rattle.aia_fabric.specs.World.{World, no_stage}
 use Rattle.aia_fabric.specs.Whole.{IsWhole}
@@ -41,13 +38,13 @@ use Rattle.aia_model.specs.ReachOf.{in_force_of}
 use Rattle.aia_model.specs.GuestFile.{guest_file}
 use Rattle.aia_model.specs.Notice.{a_look_saw}
 use Rattle.aia_model.proofs.AnswerLemmas.{refetch_refusal}
-use Rattle.aia_model.proofs.MoveLemmas.{home_step, seen_stays, same_vcpu, is_itself, is_another}
+use Rattle.aia_model.proofs.MoveLemmas.{home_step, seen_stays, is_itself}
 use Rattle.aia_model.proofs.ReachLemmas.{reach_step}
 use Rattle.aia_hyp.specs.declared.vcpu.VcpuRecord.{VcpuRecord}
 use Rattle.aia_hyp.specs.Core.{CoreState, no_record, record_of, home_in, hand_in}
-use Rattle.aia_hyp.specs.HostFiles.{FileDone, host_spot, select_place}
+use Rattle.aia_hyp.specs.HostFiles.{host_spot, select_place}
 use Rattle.aia_hyp.specs.Stands.{VcpuStands, PlanStands, is_held, CoreStands, CoreTakes}
-use Rattle.aia_hyp.proofs.VcpuLemmas.{IsHeld, IsStill, plan_stays, select_is, majors_rest}
+use Rattle.aia_hyp.proofs.VcpuLemmas.{IsHeld, IsStill, plan_stays, majors_rest}
 use Rattle.aia_hyp.proofs.EventLemmas.{as_it_was, taken, refused}
 use Rattle.aia_hyp.proofs.GuestStores.{slot_few}
 use Rattle.aia_hyp.proofs.MoveChanges.{IsMoveOf, MoveChanges, file_rests, select_rests, held_as, moved_on}

@@ -1,6 +1,4 @@
-use Rattle.std.proofs.Common.{◌≡◌, ◌<◌, true, refl, sym, ap, ◌∙◌, arith}
-use Rattle.std.proofs.lemmas.Bool.{not-false}
-use Rattle.aia_home.specs.Vms.{vcpu, is_vcpu_in}
+use Rattle.std.proofs.Common.{refl, sym, ◌∙◌, arith}
 use Rattle.aia_fabric.proofs.WholeLemmas.{vcpu_entry}
 use Rattle.aia_model.specs.declared.line.Line.TheVariants.{Refetch}
 use Rattle.aia_model.specs.declared.answer.Answer.TheVariants.{Okay}

@@ -1,4 +1,4 @@
-use Rattle.std.proofs.Common.{◌≡◌, ◌≤◌, ◌<◌, length, refl, arith}
+use Rattle.std.proofs.Common.{◌≤◌, ◌<◌, length, refl, arith}
 use Rattle.aia_fabric.specs.World.{flight_of}
 use Rattle.aia_model.specs.declared.line.Line.TheVariants.{Send}
 use Rattle.aia_hyp.specs.Stands.{CoreTakes, route_answer}
