@@ -167,9 +167,10 @@ function any_one(  k, who) {
 
 # ---- lines between
 
-function beside(who,  other, kind, parts) {
+function beside(who,  other, kind, parts, name) {
   other = any_one()
   split(other, parts, " ")
+  split(who, name, " ")
   kind = random(20)
   if (kind < 6) move(random(3) ? other : who, random(2))
   else if (kind == 6) put("h " random(harts) " csrrw siselect " selects[1 + random(9)])
@@ -181,12 +182,20 @@ function beside(who,  other, kind, parts) {
   else if (kind == 12) put(random(2) ? "pins " random(harts) : "h " random(harts) " hgeip")
   else if (kind == 13) put(random(2) ? "step " any_idle() : "of no sense")
   else if (kind == 14) add_vm()
-  else if (other == who) put("ld " (201326592 + 4 * random(9000)))
+  else if (other == who) put(random(2) ? "refetch " who : "ld " (201326592 + 4 * random(9000)))
+  else if (kind == 15 && parts[1] != name[1] && random(2)) fly(parts[1], parts[2])
   else if (kind == 15) put("msi " parts[1] " " address(parts[1], parts[2], 0) " " random(greatest))
   else if (kind == 16) put("inject " other " " bits[1 + random(4)] " " random(2))
   else if (kind == 17) put("hviprio " other " " word())
   else if (kind == 18) put("hvictl " other " " controls[1 + random(8)])
   else put("g " other " " instruction())
+}
+
+# A store in flight of a device of another VM, which lands at some time; or the VM's entry is read.
+function fly(vm, number,  kind) {
+  kind = random(4)
+  if (kind < 2) put("send " vm " " address(vm, number, 0) " " random(greatest))
+  else put(kind == 2 ? "land " vm " " random(3) : "refetch " vm " " number)
 }
 
 function any_idle(  who) {
@@ -195,6 +204,17 @@ function any_idle(  who) {
 }
 
 # ---- both scripts of a pair
+
+# A device of the virtual hart's VM asks it for something by a store that is in flight for a while,
+# the only one of its VM, and lands by a line or before the fence of a leave.
+function ask_in_flight(who, vm, number, identity,  k) {
+  put("send " vm " " address(vm, number, 0) " " identity)
+  for (k = random(3); k > 0; k--) put(random(2) ? "refetch " who : "h " random(harts) " hgeip")
+  if (who in left || home[who] == "parked" || random(2)) { put("land " vm " 0"); return }
+  begin_move(who, "leave")
+  put("leave " who)
+  end_move(who)
+}
 
 # An identity that no file has is nothing, so in one script it may be missing.
 function say(who, what,  parts, name) {
@@ -206,6 +226,7 @@ function say(who, what,  parts, name) {
   } else if (parts[1] == "ask") {
     if ((parts[2] == 0 || parts[2] > greatest) && random(2)) return
     if (random(3) == 0) { peer = name[1] " " random(vcpus[name[1]]); settle(peer); put("g " peer " ipi " name[2] " " parts[2]) }
+    else if (random(3) == 0) ask_in_flight(who, name[1], name[2], parts[2])
     else if (random(2)) put("msi " name[1] " " address(name[1], name[2], 4) " " swapped(parts[2]))
     else put("msi " name[1] " " address(name[1], name[2], 0) " " parts[2])
   } else put(parts[1] " " who " " substr(what, length(parts[1]) + 2))
@@ -255,6 +276,7 @@ function one(  k, who, name) {
 }
 
 function say_one(who, name) {
-  if (random(3) == 0) put("msi " name[1] " " address(name[1], name[2], 0) " " random(greatest))
+  if (random(4) == 0) put("msi " name[1] " " address(name[1], name[2], 0) " " random(greatest))
+  else if (random(4) == 0) fly(name[1], name[2])
   else put("g " who " " instruction())
 }
