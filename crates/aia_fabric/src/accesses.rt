@@ -12,8 +12,9 @@ use aia_mrif::{SlotMut, look};
 use aia_pool::FileLease;
 use aia_word::Bank;
 
-/// What the steps of moves do. Each touches one word of a place, one word or entry of a table, or
-/// one record; all else stays.
+/// What the steps of moves do, and an IOMMU that reads an entry again. Each touches one word of a
+/// place, one word or entry of a table, or one record, and all else stays; but the fence of an entry
+/// lands the stores in flight of its VM first.
 #[tactic(auto, using(crate::proofs::WholeLemmas::width_at, crate::proofs::WholeLemmas::vcpu_entry, crate::proofs::WholeLemmas::vcpu_words))]
 impl Fabric {
     // ---- the sets of a place

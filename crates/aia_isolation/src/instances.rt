@@ -253,8 +253,9 @@ pub fn the_host_is_told_of_what_is_pending()
 
 /// A virtual hart that leaves while stores are in flight to it is told what it would be told where
 /// it is: the same concerns its VM in both scripts, the landing that the fence does among that. So
-/// it was said the same, and was answered the same. The host is told of it by one notice, since the
-/// leave saw it pending; and of what may be left out nothing is a send or a landing.
+/// it was said the same, and was answered the same. The host is told by one notice,
+/// since a look of the leave saw what was pending and enabled; and of what may be left out nothing
+/// is a send or a landing.
 pub fn a_guest_leaves_while_stores_are_in_flight()
     ensures same_events { events_for 0 (history_of FLYING.now)
         ≡ events_for 0 (history_of STAYING.now) }

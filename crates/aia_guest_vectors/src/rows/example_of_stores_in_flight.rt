@@ -140,7 +140,10 @@ pub const STORES_IN_FLIGHT_EXAMPLE: [(&str, &str); 102] = [
          pending",
         "",
     ),
-    ("# word and the enabled one, and one looks at them.", ""),
+    (
+        "# word and the enabled one, one looks at them, and the twelfth takes the threshold.",
+        "",
+    ),
     ("step 0 0", "moving"),
     ("step 0 0", "moving"),
     ("step 0 0", "moving"),
