@@ -1,19 +1,16 @@
 //! What the definitions of this crate mean, as laws: each function does nothing, and its clauses
 //! are what was proved.
 
-ghost use Rattle.std.specs.Prelude.{◌≡◌, ◌≢◌, ℕ, ◌+◌, ◌-◌, ◌*◌, ◌%◌, ◌^◌, ◌<◌, ◌≤◌, ◌↔◌, ◌⊎◌, true, Option, Some};
+ghost use Rattle.std.specs.Prelude.{◌≡◌, ◌≢◌, ℕ, ◌+◌, ◌-◌, ◌*◌, ◌%◌, ◌^◌, ◌<◌, ◌≤◌, ◌↔◌, ◌⊎◌, ◌/◌, true, Option, Some};
 ghost use Rattle.std.specs.Int.{bit_at, swap_bytes, w32};
 ghost use Rattle.aia_regs.specs.FileRegisters.{register_of};
 ghost use Rattle.aia_regs.specs.DomainRegisters.{domain_register_of, domain_offset_of};
 ghost use Rattle.aia_regs.specs.Fields.{field, with_field, IsOutside};
-ghost use Rattle.aia_regs.specs.AddressMap.{machine_page, supervisor_page, guest_page, is_in_page, is_in_region, root_region, child_region, is_in_memory, slot_address, table_address};
+ghost use Rattle.aia_regs.specs.AddressMap.{machine_page, supervisor_page, guest_page, slot_address, table_address};
 
-use crate::address_map::{
-    HART_STRIDE, MACHINE_FILES, MEMORY, MEMORY_END, PAGE, PATTERN, REGION, ROOT_DOMAIN, SLOT,
-    SUPERVISOR_FILES, TABLE, TABLES,
-};
+use crate::address_map::{MEMORY, MEMORY_END, PAGE, PATTERN, REGION, ROOT_DOMAIN, SLOT, TABLE};
 use crate::limits::{
-    ENTRIES, GUEST_FILES, HARTS, IDENTITIES, MASK_BITS, MASK_ONES, SOURCES, STORES_IN_FLIGHT,
+    ENTRIES, GUEST_FILES, HARTS, IDENTITIES, MASK_BITS, MASK_ONES, MEMORY_WORDS, SLOTS, SOURCES,
     VCPUS, VM_VCPUS, VMS,
 };
 use crate::{DomainReg, FileReg};
@@ -72,46 +69,39 @@ pub fn byte_order()
     ensures twice { (x : ℕ) → x < 2 ^ 32 → swap_bytes w32 (swap_bytes w32 x) ≡ x }
 {}
 
-/// The constants of the map of addresses are the numbers of its definitions.
-pub fn address_map()
-    ensures machine { (hart : ℕ) → machine_page hart ≡ MACHINE_FILES + hart * PAGE }
-    ensures supervisor { (hart : ℕ) → supervisor_page hart ≡ SUPERVISOR_FILES + hart * HART_STRIDE }
-    ensures guest { (hart file : ℕ) → guest_page hart file
-        ≡ SUPERVISOR_FILES + hart * HART_STRIDE + file * PAGE }
-    ensures page { (page addr : ℕ) → (is_in_page page addr ≡ true)
-        ↔ ((page ≤ addr) × (addr < page + PAGE)) }
-    ensures root { root_region ≡ ROOT_DOMAIN }
-    ensures child { child_region ≡ ROOT_DOMAIN + REGION }
-    ensures region { (base addr : ℕ) → (is_in_region base addr ≡ true)
-        ↔ ((base ≤ addr) × (addr < base + REGION)) }
-    ensures memory { (addr : ℕ) → (is_in_memory addr ≡ true)
-        ↔ ((MEMORY ≤ addr) × (addr < MEMORY_END)) }
-    ensures slot { (q : ℕ) → slot_address q ≡ MEMORY + q * SLOT }
-    ensures table { (vm : ℕ) → table_address vm ≡ TABLES + vm * TABLE }
-{}
-
-/// Memory has the slots of all virtual harts, then the tables of all VMs, each with all its
-/// entries, and no more; the MSI addresses of VMs begin where the supervisor files do.
-pub fn memory_is_full()
-    ensures slots { slot_address VCPUS ≡ TABLES }
+/// The map of addresses has no overlap: each kind of page, slot and table ends before the next
+/// kind begins, for as many harts, guest files and VMs as a machine may have.
+///
+/// A hart's guest files fill what lies between its supervisor file and the next hart's, the slots
+/// what lies between the beginning of memory and the tables, and the tables the rest of memory.
+pub fn map_of_addresses()
+    ensures domains { ROOT_DOMAIN + 2 * REGION ≤ machine_page 0 }
+    ensures machine { machine_page HARTS ≤ supervisor_page 0 }
+    ensures guests { (hart : ℕ) → guest_page hart (GUEST_FILES + 1) ≡ supervisor_page (hart + 1) }
+    ensures supervisor { supervisor_page HARTS ≤ MEMORY }
+    ensures first_slot { slot_address 0 ≡ MEMORY }
+    ensures slots { slot_address SLOTS ≡ table_address 0 }
     ensures tables { table_address VMS ≡ MEMORY_END }
-    ensures entries { 16 * ENTRIES ≤ TABLE }
-    ensures pattern { PATTERN * PAGE ≡ SUPERVISOR_FILES }
+    ensures words { MEMORY + 8 * MEMORY_WORDS ≡ MEMORY_END }
+    ensures pattern { PATTERN * PAGE ≡ supervisor_page 0 }
 {}
 
-/// The limits of a machine are these numbers, and a table has as many entries as the most ones of
-/// a mask number.
-pub fn limits()
-    ensures harts { HARTS ≡ 4 }
-    ensures guest_files { GUEST_FILES ≡ 7 }
-    ensures identities { IDENTITIES ≡ 2047 }
-    ensures sources { SOURCES ≡ 1023 }
-    ensures vms { VMS ≡ 4 }
-    ensures vcpus_of_a_vm { VM_VCPUS ≡ 8 }
-    ensures vcpus { VCPUS ≡ 16 }
-    ensures mask_ones { MASK_ONES ≡ 4 }
-    ensures mask_bits { MASK_BITS ≡ 15 }
-    ensures entries { ENTRIES ≡ 16 }
-    ensures enough { ENTRIES ≡ 2 ^ MASK_ONES }
-    ensures stores_in_flight { STORES_IN_FLIGHT ≡ 8 }
+/// What bounds each limit of the machine: it may be raised as far as these hold.
+///
+/// A domain's region has 32 bytes of controls for each hart. A CSR names a guest file by 6 bits, of
+/// which 0 is none. A slot has two words for each 64 identities, and a table one entry of 16 bytes
+/// for each number that the ones of a mask spell; a virtual hart of a VM has an entry of its own.
+/// The notices of virtual harts are identities that each hart's supervisor file has, which are 63
+/// at least, 1 for the first slot. A domain's region has registers of 1,023 sources.
+pub fn bounds_of_the_limits()
+    ensures harts { 0x4000 + 32 * HARTS ≤ REGION }
+    ensures guest_files { GUEST_FILES < 2 ^ 6 }
+    ensures identities { 2 * ((IDENTITIES + 1) / 64) * 8 ≡ SLOT }
+    ensures sources { SOURCES < 1024 }
+    ensures entries { ENTRIES ≡ 2 ^ MASK_ONES }
+    ensures mask { MASK_ONES ≤ MASK_BITS }
+    ensures table { 16 * ENTRIES ≤ TABLE }
+    ensures vcpus_of_a_vm { VM_VCPUS ≤ ENTRIES }
+    ensures slots { SLOTS ≡ VCPUS }
+    ensures notices { VCPUS ≤ 63 }
 {}
