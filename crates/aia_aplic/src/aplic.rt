@@ -1,6 +1,6 @@
 ghost use Rattle.std.specs.Prelude.{◌≡◌, ℕ, ◌+◌, ◌*◌, ◌<◌, ◌≤◌, ◌↔◌, [], ◌∷◌, length, Bool, true, false, IfOk, IfSome, IfNone, IsFalse, option_map};
 ghost use Rattle.aia_word.specs.Sets.{word_of};
-ghost use Rattle.aia_regs.specs.declared.limits.TheConstants.{HARTS, SOURCES};
+ghost use Rattle.aia_regs.specs.declared.limits.TheConstants.{HARTS, SOURCES, SOURCE_WORDS};
 ghost use Rattle.aia_regs.specs.DomainRegisters.{domain_register_of};
 ghost use Rattle.aia_model.specs.Act.{Past};
 ghost use Rattle.aia_model.specs.declared.domain_name.DomainName.TheVariants.{Root};
@@ -45,7 +45,8 @@ impl Model for Aplic {
 }
 
 impl Aplic {
-    /// Makes the APLIC of `harts` harts, up to 4, and `sources` wired sources, 1 to 1023: every
+    /// Makes the APLIC of `harts` harts, up to `HARTS`, and `sources` wired sources, 1 to
+    /// `SOURCES`: every
     /// source is inactive, and every register 0 but `domaincfg`.
     pub fn new(alloc: Global, harts: u32, sources: u32) -> Result<Aplic, AllocError>
         requires some { 1 ≤ sources }
@@ -63,7 +64,7 @@ impl Aplic {
         })
     }
 
-    /// Tells how many wired sources there are, up to 1023.
+    /// Tells how many wired sources there are, up to `SOURCES`.
     pub fn sources(&self) -> u32
         ensures count { (past : Past) → AplicStands self.now past → result ≡ sources_in past }
         ensures few { result ≤ SOURCES }
@@ -269,10 +270,10 @@ impl Aplic {
         sender_of(bits_search(&mut bits))
     }
 
-    /// Gives word `k`, 0 to 15, of the sources that a domain, 0 or 1, is to forward.
+    /// Gives word `k`, below `SOURCE_WORDS`, of the sources that a domain, 0 or 1, is to forward.
     pub(crate) fn ready_word(&self, domain: u32, k: u32) -> u64
         requires domain { domain < 2 }
-        requires word { k < 16 }
+        requires word { k < SOURCE_WORDS }
         ensures word { result
             ≡ word_of (is_ready (side self.now (domain_name domain)).domain) (64 * k) 64 }
         ensures range { AreSources (is_ready (side self.now (domain_name domain)).domain) }

@@ -1,6 +1,7 @@
 ghost use Rattle.std.specs.Prelude.{◌≡◌, ℕ, ◌+◌, ◌*◌, ◌<◌, ◌≤◌, Bool, Option, IfSome};
 ghost use Rattle.aia_word.specs.Sets.{has_bit, word_of};
 ghost use Rattle.aia_aplic.specs.Bits.{IsFirstMember, AreSources};
+ghost use Rattle.aia_regs.specs.declared.limits.TheConstants.{SOURCE_WORDS};
 
 use aia_word::least_one;
 
@@ -19,7 +20,7 @@ pub trait Bits {
     /// Looks at word `k` of a domain's set, which has the sources `64 * k` to `64 * k + 63`.
     fn word(&mut self, domain: u32, k: u32) -> u64
         requires domain { domain < 2 }
-        requires word { k < 16 }
+        requires word { k < SOURCE_WORDS }
         ensures word { result ≡ word_of (members self.old domain) (64 * k) 64 }
         ensures range { AreSources (members self.old domain) }
         ensures members { members self.new ≡ members self.old }
@@ -52,7 +53,7 @@ pub fn bits_search<T: Bits>(bits: &mut T) -> Option<(u32, u32)>
 
 /// Looks at word `k` of both sets, domain 0's first.
 fn both_words<T: Bits>(bits: &mut T, k: u32) -> (u64, u64)
-    requires { k < 16 }
+    requires { k < SOURCE_WORDS }
     ensures first { result.0 ≡ word_of (T.members bits.old 0) (64 * k) 64 }
     ensures second { result.1 ≡ word_of (T.members bits.old 1) (64 * k) 64 }
     ensures first_range { AreSources (T.members bits.old 0) }

@@ -6,7 +6,7 @@ ghost use Rattle.aia_domain.specs.Domain.{with_sources, source_after, domain_aft
 ghost use Rattle.aia_direct.specs.Idc.{top_shown, claimed_top};
 ghost use Rattle.std.specs.Prelude.{Some, length, ◌≡◌, ◌*◌, ◌<◌, ◌≤◌, ◌↔◌, ◌∷◌, ℕ, Bool, true, false, IfOk, IsFalse};
 ghost use Rattle.aia_word.specs.Sets.{word_of};
-ghost use Rattle.aia_regs.specs.declared.limits.TheConstants.{HARTS, SOURCES};
+ghost use Rattle.aia_regs.specs.declared.limits.TheConstants.{HARTS, SOURCES, SOURCE_WORDS};
 ghost use Rattle.aia_source.specs.Registers.{delegates, root_sourcecfg};
 ghost use Rattle.aia_model.specs.declared.domain_name.DomainName.{DomainName};
 ghost use Rattle.aia_model.specs.Act.{Past};
@@ -188,9 +188,9 @@ impl Side {
         self.domain.has_ready()
     }
 
-    /// Gives word `k`, 0 to 15, of the sources that are to be forwarded.
+    /// Gives word `k`, below `SOURCE_WORDS`, of the sources that are to be forwarded.
     pub(crate) fn ready_word(&self, k: u32) -> u64
-        requires { k < 16 }
+        requires { k < SOURCE_WORDS }
         ensures word { result ≡ word_of (is_ready self.now.domain) (64 * k) 64 }
         ensures range { AreSources (is_ready self.now.domain) }
     {

@@ -1,6 +1,6 @@
 ghost use Rattle.std.specs.Prelude.{◌≡◌, ℕ, suc, ◌*◌, ◌≤◌, ◌<◌, ◌↔◌, Bool, false, length, slice_get, All, Some, None, IfOk, IsFalse, if◌then◌else◌};
 ghost use Rattle.aia_word.specs.Sets.{word_of};
-ghost use Rattle.aia_regs.specs.declared.limits.TheConstants.{HARTS, SOURCES};
+ghost use Rattle.aia_regs.specs.declared.limits.TheConstants.{HARTS, SOURCES, SOURCE_WORDS};
 ghost use Rattle.aia_waiting.specs.Order.{IsRising};
 ghost use Rattle.aia_source.specs.Registers.{enables, is_by_msi, same_bool};
 ghost use Rattle.aia_source.specs.Wired.SourceDeed.{Claimed, Forwarded};
@@ -45,9 +45,9 @@ impl Model for Domain {
 }
 
 impl Domain {
-    /// Makes a domain of `sources` wired sources, 1 to 1023, and `harts` harts, 1 to 4: the root
-    /// domain, or, as a `leaf`, its child. Every source is inactive, and every register 0 but
-    /// `domaincfg`.
+    /// Makes a domain of `sources` wired sources, 1 to `SOURCES`, and `harts` harts, 1 to `HARTS`:
+    /// the root domain, or, as a `leaf`, its child. Every source is inactive, and every register 0
+    /// but `domaincfg`.
     pub fn new(alloc: Global, sources: u32, harts: u32, leaf: bool) -> Result<Domain, AllocError>
         requires some { 1 ≤ sources }
         requires few { sources ≤ SOURCES }
@@ -63,7 +63,7 @@ impl Domain {
         })
     }
 
-    /// Tells how many wired sources there are, 1 to 1023.
+    /// Tells how many wired sources there are, 1 to `SOURCES`.
     pub fn sources(&self) -> u32
         ensures count { length self.now.sources ≡ suc result }
         ensures few { result ≤ SOURCES }
@@ -284,12 +284,12 @@ impl Domain {
         self.sources.candidate(hart, place)
     }
 
-    /// Gives word `k`, 0 to 15, of the sources that are to be forwarded: bit `b` is a one exactly
-    /// where `ready` gives source `64 * k + b`.
+    /// Gives word `k`, below `SOURCE_WORDS`, of the sources that are to be forwarded: bit `b` is a
+    /// one exactly where `ready` gives source `64 * k + b`.
     ///
     /// AIA 1.0, APLIC, "Interrupt forwarding by MSIs".
     pub fn ready_word(&self, k: u32) -> u64
-        requires { k < 16 }
+        requires { k < SOURCE_WORDS }
         ensures word { result ≡ word_of (is_ready self.now) (64 * k) 64 }
         ensures range { (s : ℕ) → is_ready self.now s ≡ Bool.true → s ≤ SOURCES }
     {

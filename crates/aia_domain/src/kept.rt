@@ -3,7 +3,7 @@
 
 ghost use Rattle.std.specs.Prelude.{◌≡◌, ℕ, suc, ◌-◌, ◌*◌, ◌<◌, ◌≤◌, ◌↔◌, ◌&&◌, nat_eq, length, slice_get, All, Some, [], IfOk, IsFalse, is_some, true, false, if◌then◌else◌};
 ghost use Rattle.aia_word.specs.Sets.{is_in, word_of};
-ghost use Rattle.aia_regs.specs.declared.limits.TheConstants.{SOURCES};
+ghost use Rattle.aia_regs.specs.declared.limits.TheConstants.{SOURCES, SOURCE_WORDS};
 ghost use Rattle.aia_waiting.specs.Order.{CandidatesState, ordered};
 ghost use Rattle.aia_domain.specs.Entry.{EachAt, waits_at, waiting_pair_at, pairs_for};
 ghost use Rattle.aia_domain.specs.Kept.{Keeps, AllHave, HaveRoom, HasRoom, pairs_at, aimed_pair, with_pair, without_pair, renewed};
@@ -62,9 +62,9 @@ impl Kept {
         self.fronts.get(hart as usize)?.at(place)
     }
 
-    /// Gives word `k`, 0 to 15, of the sources that wait for an MSI.
+    /// Gives word `k`, below `SOURCE_WORDS`, of the sources that wait for an MSI.
     pub(crate) fn word(&self, k: u32) -> u64
-        requires { k < 16 }
+        requires { k < SOURCE_WORDS }
         ensures { result ≡ word_of (is_in self.now.ready) (64 * k) 64 }
     {
         self.ready.word(k)

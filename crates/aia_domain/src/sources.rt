@@ -3,7 +3,7 @@
 
 ghost use Rattle.std.specs.Prelude.{◌≡◌, ℕ, suc, ◌*◌, ◌<◌, ◌≤◌, ◌↔◌, ◌&&◌, length, slice_get, All, IfOk, IsFalse, true, false};
 ghost use Rattle.aia_word.specs.Sets.{word_of};
-ghost use Rattle.aia_regs.specs.declared.limits.TheConstants.{HARTS, SOURCES};
+ghost use Rattle.aia_regs.specs.declared.limits.TheConstants.{HARTS, SOURCES, SOURCE_WORDS};
 ghost use Rattle.aia_source.specs.Registers.{in_word, touch_where};
 ghost use Rattle.aia_domain.specs.Entry.{EachSource, changed_at, changed_if_named, changed_by, touched, all_switched, waits_at};
 ghost use Rattle.aia_domain.specs.Kept.{IsNewSources, with_entries, Keeps, list_of};
@@ -150,9 +150,9 @@ impl Sources {
         self.kept.candidate(hart, place)
     }
 
-    /// Gives word `k`, 0 to 15, of the sources that wait for an MSI.
+    /// Gives word `k`, below `SOURCE_WORDS`, of the sources that wait for an MSI.
     pub(crate) fn waiting_word(&self, k: u32) -> u64
-        requires { k < 16 }
+        requires { k < SOURCE_WORDS }
         ensures word { result
             ≡ word_of (λ s. self.now.msi && waits_at self.now.entries s) (64 * k) 64 }
         ensures range { (s : ℕ) → waits_at self.now.entries s ≡ true → s ≤ SOURCES }

@@ -19,6 +19,7 @@ use Rattle.aia_entry.specs.declared.entry.Entry.{Entry}
 use Rattle.aia_entry.specs.declared.entry.Entry.TheVariants.{Basic, NotValid}
 use Rattle.aia_entry.specs.Translation.{is_mask, page_number, is_msi_address}
 use Rattle.aia_entry.specs.Tables.{TableState, no_table, table_of, entry_in_force, written_entry, fenced, fenced_at}
+use Rattle.aia_regs.specs.declared.limits.TheConstants.{MASK_ONES, MASK_BITS, ENTRIES}
 
 -- ---- masks
 
@@ -39,13 +40,13 @@ pub ones_counted : (mask : ℕ) → mask < 2 ^ 64 → count_ones mask ≡ ones 6
 ones_counted mask low = ones_below 64 mask low
 
 pub mask_by_ones : (mask : ℕ) → mask < 2 ^ 64 → is_mask mask ≡ (is_in_range 1 4 (count_ones mask) && nat_lt mask 32768)
-mask_by_ones mask low = ap (λ n. is_in_range 1 4 n && nat_lt mask 32768) (sym (ones_counted mask low))
+mask_by_ones mask low = ap (λ n. is_in_range 1 MASK_ONES n && nat_lt mask (2 ^ MASK_BITS)) (sym (ones_counted mask low))
 
 -- what a mask has
-pub mask_parts : (mask : ℕ) → is_mask mask ≡ true → (1 ≤ ones 64 mask) × (ones 64 mask ≤ 4) × (mask < 2 ^ 15)
+pub mask_parts : (mask : ℕ) → is_mask mask ≡ true → (1 ≤ ones 64 mask) × (ones 64 mask ≤ MASK_ONES) × (mask < 2 ^ MASK_BITS)
 mask_parts mask is = grind (arith, nat_tests)
 
-few_files : (n : ℕ) → n ≤ 4 → 2 ^ n ≤ 16
+few_files : (n : ℕ) → n ≤ MASK_ONES → 2 ^ n ≤ ENTRIES
 few_files zero h = omega arith
 few_files (suc zero) h = omega arith
 few_files (suc (suc zero)) h = omega arith
@@ -53,15 +54,15 @@ few_files (suc (suc (suc zero))) h = omega arith
 few_files (suc (suc (suc (suc zero)))) h = omega arith
 few_files (suc (suc (suc (suc (suc n))))) h = absurd (omega arith)
 
-pub has_entry : (mask file : ℕ) → ones 64 mask ≤ 4 → file < 2 ^ ones 64 mask → file < 16
+pub has_entry : (mask file : ℕ) → ones 64 mask ≤ MASK_ONES → file < 2 ^ ones 64 mask → file < ENTRIES
 has_entry mask file few low =
     let most = few_files (ones 64 mask) few in
     omega (arith, most, low)
 
-pub named_has_entry : (x mask : ℕ) → ones 64 mask ≤ 4 → extract x mask < 16
+pub named_has_entry : (x mask : ℕ) → ones 64 mask ≤ MASK_ONES → extract x mask < ENTRIES
 named_has_entry x mask few = has_entry mask (extract x mask) few (packed-lt 64 x mask)
 
-pub entry_read : (in_force : List Entry) (file x mask : ℕ) → ones 64 mask ≤ 4 → length in_force ≡ 16 → file ≡ extract x mask → get_or in_force file (Basic 0) ≡ get_or in_force (extract x mask) NotValid
+pub entry_read : (in_force : List Entry) (file x mask : ℕ) → ones 64 mask ≤ MASK_ONES → length in_force ≡ ENTRIES → file ≡ extract x mask → get_or in_force file (Basic 0) ≡ get_or in_force (extract x mask) NotValid
 entry_read in_force file x mask few long is =
     let low = named_has_entry x mask few in
     rw (is) (get_or_default in_force (extract x mask) (Basic 0) NotValid (omega (arith, low, long)))

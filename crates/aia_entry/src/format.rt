@@ -41,7 +41,7 @@ fn is_plain_mrif(w0: u64, w1: u64) -> bool
     bits(w0, 6, 3) == 0 && bits(w0, 62, 54) == 0 && bits(w1, 59, 54) == 0 && bits(w1, 63, 61) == 0
 }
 
-/// Gives the identity of the notices of an MRIF entry, 0 to 2047.
+/// Gives the identity of the notices of an MRIF entry, 0 to `IDENTITIES`.
 fn named_identity(w1: u64) -> u32
     ensures { result ≡ named_identity w1 }
 {

@@ -40,8 +40,8 @@ impl Iommu {
     }
 
     /// Makes the next VM, while fewer than four stand: its table is at byte `table` of memory, its
-    /// mask has 1 to 4 ones, all below bit 15, and no entry in force is valid. All other tables
-    /// stay.
+    /// mask has 1 to `MASK_ONES` ones, all below bit `MASK_BITS`, and no entry in force is valid.
+    /// All other tables stay.
     pub fn vm(&mut self, mask: u64, table: usize)
         requires few { length self.old < VMS }
         requires mask { IsMask mask }

@@ -95,7 +95,8 @@ impl Table {
     }
 }
 
-/// Tells whether `mask` may be the mask of a VM: it has 1 to 4 ones, all below bit 15.
+/// Tells whether `mask` may be the mask of a VM: it has 1 to `MASK_ONES` ones, all below bit
+/// `MASK_BITS`.
 #[tactic(auto, using(crate::proofs::TableLemmas::mask_by_ones))]
 pub fn is_mask(mask: u64) -> bool
     ensures { result ≡ is_mask mask }

@@ -20,6 +20,7 @@ use Rattle.aia_fabric.specs.Whole.{IsWhole}
 use Rattle.aia_fabric.specs.Making.{MakesVm, notice_page}
 use Rattle.aia_fabric.specs.Stores.{Reaches, StoresInSlot, page_spot}
 use Rattle.aia_fabric.proofs.PlaceLemmas.{slot_found, host_page}
+use Rattle.aia_regs.specs.declared.limits.TheConstants.{SLOTS}
 
 below : (a b : ℕ) → a < b → nat_lt a b ≡ true
 below a b low = grind (arith, nat_tests)
@@ -47,7 +48,7 @@ made_reaches w u x vm addr value before after made is low stored =
     let led = subst (λ (r : Route). Reaches r u x (addr % PAGE) value) route stored in
     let vcpus : vcpus_in u.vms ≡ vcpus_in w.vms + vm.vcpus = ap vcpus_in made.vms ∙ vcpus_more w.vms vm in
     let all = after.vcpus in
-    let few : q < 16 = omega arith in
+    let few : q < SLOTS = omega arith in
     let hart : notice_hart u.vms (vcpu (length w.vms) number) ≡ vm.notice_hart = ap (λ vs. notice_hart vs (vcpu (length w.vms) number)) made.vms ∙ ap (λ (v : Vm). v.notice_hart) (vm_new w.vms vm) in
     let slot : slot_of u.vms (vcpu (length w.vms) number) ≡ q = ap (λ vs. slot_of vs (vcpu (length w.vms) number)) made.vms ∙ slot_new w.vms vm number in
     let count : length u.vms ≡ length w.vms + 1 = ap length made.vms ∙ length-append w.vms (vm ∷ []) in

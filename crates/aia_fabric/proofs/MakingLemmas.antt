@@ -17,6 +17,7 @@ use Rattle.aia_home.specs.declared.vm.Vm.{Vm}
 use Rattle.aia_home.specs.Vms.{vcpus_in}
 use Rattle.aia_fabric.specs.World.{World}
 use Rattle.aia_fabric.specs.Making.{MakesVm, table_place, notice_page, entry_word_place, words_with_entry, with_entry, with_vm}
+use Rattle.aia_regs.specs.declared.limits.TheConstants.{VMS, SLOTS, ENTRIES, MEMORY_WORDS}
 
 -- the entry in force of a file, once those of so many files are made
 abbrev pub entry_so_far : Vm → ℕ → ℕ → ℕ → Entry
@@ -30,8 +31,8 @@ pub record HasMade (w u : World) (vm : Vm) (made : ℕ) : Type 0 where
   pub others : (v : ℕ) → v < length w.tables → table_of u.tables v ≡ table_of w.tables v
   pub mask : (table_of u.tables (length w.tables)).mask ≡ vm.mask
   pub start : (table_of u.tables (length w.tables)).start ≡ table_place (length w.tables)
-  pub room : length (table_of u.tables (length w.tables)).in_force ≡ 16
-  pub size : length u.memory ≡ 0xc00
+  pub room : length (table_of u.tables (length w.tables)).in_force ≡ ENTRIES
+  pub size : length u.memory ≡ MEMORY_WORDS
   pub in_force : (file : ℕ) → entry_in_force (table_of u.tables (length w.tables)) file ≡ entry_so_far vm (vcpus_in w.vms) made file
   pub word0 : (file : ℕ) → file < made → slice_index u.memory (entry_word_place (length w.tables) file) ≡ mrif_word (slot_address (vcpus_in w.vms + file))
   pub word1 : (file : ℕ) → file < made → slice_index u.memory (entry_word_place (length w.tables) file + 1) ≡ notice_word (notice_page vm) (vcpus_in w.vms + file + 1)
@@ -50,13 +51,13 @@ one_more a b other = grind (arith, nat_tests)
 
 -- ---- none
 
-none_valid : (file : ℕ) → get_or (replicate 16 NotValid) file NotValid ≡ NotValid
-none_valid file = elim (cases_lt file 16) [
-  | inl low ↦ get_or-replicate 16 file NotValid NotValid low
-  | inr past ↦ get_or_past (replicate 16 NotValid) file NotValid (omega (arith, past, length-replicate 16 NotValid))
+none_valid : (file : ℕ) → get_or (replicate ENTRIES NotValid) file NotValid ≡ NotValid
+none_valid file = elim (cases_lt file ENTRIES) [
+  | inl low ↦ get_or-replicate ENTRIES file NotValid NotValid low
+  | inr past ↦ get_or_past (replicate ENTRIES NotValid) file NotValid (omega (arith, past, length-replicate ENTRIES NotValid))
 ]
 
-pub none_made : (w : World) (vm : Vm) → length w.memory ≡ 0xc00 → HasMade w (with_vm w vm) vm 0
+pub none_made : (w : World) (vm : Vm) → length w.memory ≡ MEMORY_WORDS → HasMade w (with_vm w vm) vm 0
 none_made w vm size =
     let t = new_table vm.mask (table_place (length w.tables)) in
     let new : table_of (w.tables ++ t ∷ []) (length w.tables) ≡ t = get_or-append_seam w.tables t [] no_table in
@@ -66,7 +67,7 @@ none_made w vm size =
       others = λ v low. get_or-append w.tables (t ∷ []) no_table v low;
       mask = ap (λ (x : TableState). x.mask) new;
       start = ap (λ (x : TableState). x.start) new;
-      room = ap (λ (x : TableState). length x.in_force) new ∙ length-replicate 16 NotValid;
+      room = ap (λ (x : TableState). length x.in_force) new ∙ length-replicate ENTRIES NotValid;
       size = size;
       in_force = λ file. ap (λ (x : TableState). entry_in_force x file) new ∙ none_valid file ∙ sym (cond-false _ _ _ (not_below file 0 (omega arith)));
       word0 = λ file low. absurd (omega arith);
@@ -82,12 +83,12 @@ table_here : (tables : List TableState) (vm file : ℕ) (words : List ℕ) → v
 table_here tables vm file words there = get_or-set_same tables vm (fenced words file (table_of tables vm)) no_table there
 
 -- the words of an entry that is written
-first_word : (words : List ℕ) (vm file slot page : ℕ) → entry_word_place vm file < 0xbff → length words ≡ 0xc00 → slice_index (words_with_entry words vm file slot page) (entry_word_place vm file) ≡ mrif_word (slot_address slot)
+first_word : (words : List ℕ) (vm file slot page : ℕ) → entry_word_place vm file < MEMORY_WORDS - 1 → length words ≡ MEMORY_WORDS → slice_index (words_with_entry words vm file slot page) (entry_word_place vm file) ≡ mrif_word (slot_address slot)
 first_word words vm file slot page low size =
     get_or-set_other (set words (entry_word_place vm file) (mrif_word (slot_address slot))) (entry_word_place vm file + 1) (entry_word_place vm file) (notice_word page (slot + 1)) 0 (λ e. omega arith)
     ∙ get_or-set_same words (entry_word_place vm file) (mrif_word (slot_address slot)) 0 (omega arith)
 
-second_word : (words : List ℕ) (vm file slot page : ℕ) → entry_word_place vm file < 0xbff → length words ≡ 0xc00 → slice_index (words_with_entry words vm file slot page) (entry_word_place vm file + 1) ≡ notice_word page (slot + 1)
+second_word : (words : List ℕ) (vm file slot page : ℕ) → entry_word_place vm file < MEMORY_WORDS - 1 → length words ≡ MEMORY_WORDS → slice_index (words_with_entry words vm file slot page) (entry_word_place vm file + 1) ≡ notice_word page (slot + 1)
 second_word words vm file slot page low size =
     get_or-set_same (set words (entry_word_place vm file) (mrif_word (slot_address slot))) (entry_word_place vm file + 1) (notice_word page (slot + 1)) 0 (omega (arith, length-set words (entry_word_place vm file) (mrif_word (slot_address slot))))
 
@@ -100,7 +101,7 @@ size_kept : (words : List ℕ) (vm file slot page : ℕ) → length (words_with_
 size_kept words vm file slot page = length-set (set words (entry_word_place vm file) (mrif_word (slot_address slot))) (entry_word_place vm file + 1) (notice_word page (slot + 1)) ∙ length-set words (entry_word_place vm file) (mrif_word (slot_address slot))
 
 -- what they say
-said : (words : List ℕ) (t : TableState) (vm file slot page : ℕ) → t.start ≡ table_place vm → entry_word_place vm file < 0xbff → length words ≡ 0xc00 → slot < 16 → page < 2 ^ 44
+said : (words : List ℕ) (t : TableState) (vm file slot page : ℕ) → t.start ≡ table_place vm → entry_word_place vm file < MEMORY_WORDS - 1 → length words ≡ MEMORY_WORDS → slot < SLOTS → page < 2 ^ 44
     → written_entry (words_with_entry words vm file slot page) t file ≡ Mrif (slot_address slot) page (slot + 1)
 said words t vm file slot page start low size few there =
     let first : (t.start + 16 * file) / 8 ≡ entry_word_place vm file = ap (λ n. (n + 16 * file) / 8) start in
@@ -112,7 +113,7 @@ said words t vm file slot page start low size few there =
     ∙ ap (λ x. decoded (mrif_word (slot_address slot)) x) (second_word words vm file slot page low size)
     ∙ mrif_back (slot_address slot) page (slot + 1) (omega arith) (omega arith) there (omega arith)
 
-pub one_more_made : (w u : World) (vm : Vm) (made page : ℕ) → HasMade w u vm made → length w.tables < 4 → made < 16 → vcpus_in w.vms + made < 16 → page ≡ notice_page vm → page < 2 ^ 44
+pub one_more_made : (w u : World) (vm : Vm) (made page : ℕ) → HasMade w u vm made → length w.tables < VMS → made < ENTRIES → vcpus_in w.vms + made < ENTRIES → page ≡ notice_page vm → page < 2 ^ 44
     → HasMade w (with_entry u (length w.tables) made (vcpus_in w.vms + made) page) vm (made + 1)
 one_more_made w u vm made page so_far vms few slots is there =
     let new = length w.tables in
@@ -122,7 +123,7 @@ one_more_made w u vm made page so_far vms few slots is there =
     let count = so_far.count in
     let stands : new < length u.tables = omega arith in
     let room = so_far.room in
-    let low : entry_word_place new made < 0xbff = omega arith in
+    let low : entry_word_place new made < MEMORY_WORDS - 1 = omega arith in
     let here = table_here u.tables new made words stands in
     let entry : entry_in_force (table_of (fenced_at u.tables new made words) new) made ≡ Mrif (slot_address slot) (notice_page vm) (slot + 1) =
     fenced_here u.tables new made words stands (omega arith) ∙ said u.memory t new made slot page so_far.start low so_far.size slots there ∙ ap (λ p. Mrif (slot_address slot) p (slot + 1)) is in

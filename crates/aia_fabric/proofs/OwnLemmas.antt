@@ -4,7 +4,7 @@ use Rattle.std.specs.Int.{is_in_range}
 use Rattle.std.proofs.lemmas.Bool.{cases_Bool, cond-true, cond-false}
 use Rattle.std.proofs.lemmas.Bool.Decides.{nat_tests}
 use Rattle.aia_regs.specs.declared.address_map.TheConstants.{PAGE}
-use Rattle.aia_regs.specs.declared.limits.TheConstants.{IDENTITIES, VCPUS}
+use Rattle.aia_regs.specs.declared.limits.TheConstants.{HARTS, GUEST_FILES, IDENTITIES, VCPUS}
 use Rattle.aia_regs.specs.AddressMap.{supervisor_page, guest_page}
 use Rattle.aia_regs.specs.Request.{requested}
 use Rattle.aia_file.specs.InterruptFile.{empty_file}
@@ -131,11 +131,11 @@ module _ (w u : World) (g : Vcpu) (offset value : ℕ) (whole : IsWhole w) (ther
 
 -- ---- a device's store
 
-pub guest_spot : (i : ImsicState) (p : Place) → i.harts ≤ 4 → i.guests ≤ 7 → IsThere i (spot_of p) → page_spot i (guest_page p.hart p.file / 0x1000) ≡ spot_of p
+pub guest_spot : (i : ImsicState) (p : Place) → i.harts ≤ HARTS → i.guests ≤ GUEST_FILES → IsThere i (spot_of p) → page_spot i (guest_page p.hart p.file / PAGE) ≡ spot_of p
 guest_spot i p few eight there =
-    let page : guest_page p.hart p.file / 0x1000 * 0x1000 ≡ guest_page p.hart p.file = omega arith in
-    spot_of_guest i.harts i.guests (guest_page p.hart p.file / 0x1000 * 0x1000) p.hart p.file few eight there.0 there.1 there.2
-    (in_page (guest_page p.hart p.file) (guest_page p.hart p.file / 0x1000 * 0x1000) (omega arith) (omega arith))
+    let page : guest_page p.hart p.file / PAGE * PAGE ≡ guest_page p.hart p.file = omega arith in
+    spot_of_guest i.harts i.guests (guest_page p.hart p.file / PAGE * PAGE) p.hart p.file few eight there.0 there.1 there.2
+    (in_page (guest_page p.hart p.file) (guest_page p.hart p.file / PAGE * PAGE) (omega arith) (omega arith))
 
 -- an entry leads a store, and is the route of one
 pub by_entry : (place : Option Place) (q hart : ℕ) (w u : World) (offset value : ℕ) → ReachesBy (leads_to q hart place) w u offset value → Reaches (leads_by (leads_to q hart place)) w u offset value
@@ -150,7 +150,7 @@ own_entry w u g (Some p) offset value whole there inside reaches =
 own_entry w u g None offset value whole there inside reaches =
     let hart = notice_hart_there w g whole there in
     touches_slot w u g offset value whole there (subst (λ (s : Spot). StoresInSlot w u (Some (slot_of w.vms g)) s (slot_of w.vms g + 1) offset value) (host_page w.imsic (notice_hart w.vms g) hart whole.harts)
-    (subst (λ (o : Option ℕ). StoresInSlot w u o (page_spot w.imsic (supervisor_page (notice_hart w.vms g) / 0x1000)) (slot_of w.vms g + 1) offset value) (slot_found (slot_of w.vms g) (slot_low w g whole there)) reaches))
+    (subst (λ (o : Option ℕ). StoresInSlot w u o (page_spot w.imsic (supervisor_page (notice_hart w.vms g) / PAGE)) (slot_of w.vms g + 1) offset value) (slot_found (slot_of w.vms g) (slot_low w g whole there)) reaches))
 
 one_of : (w u : World) (g : Vcpu) (offset value : ℕ) (reach : Vcpu → Option Place) → IsWhole w → LeadsToOwn w g.vm reach → Reaches (leads_by (entry_in_force (table_of w.tables g.vm) g.number)) w u offset value → (u ≡ w) ⊎ TouchesOneOf w u g.vm reach
 one_of w u g offset value reach whole leads at = elim (cases_Bool (is_vcpu_in w.vms g)) [

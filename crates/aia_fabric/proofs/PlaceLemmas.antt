@@ -3,8 +3,8 @@ use Rattle.std.proofs.Common.{◌≡◌, ◌≢◌, ℕ, ◌+◌, ◌-◌, ◌*�
 use Rattle.std.proofs.lemmas.List.{length-set}
 use Rattle.std.proofs.lemmas.Bool.{eqb-true, eq-eqb, ne_eqb, cases_lt}
 use Rattle.aia_word.proofs.LeastLemmas.{least_of-found, least_of-none, least_of_is}
-use Rattle.aia_regs.specs.declared.address_map.TheConstants.{PAGE}
-use Rattle.aia_regs.specs.declared.limits.TheConstants.{IDENTITIES}
+use Rattle.aia_regs.specs.declared.address_map.TheConstants.{SUPERVISOR_FILES, HART_STRIDE, PAGE}
+use Rattle.aia_regs.specs.declared.limits.TheConstants.{HARTS, GUEST_FILES, IDENTITIES, SLOTS}
 use Rattle.aia_regs.specs.AddressMap.{supervisor_page, slot_address}
 use Rattle.aia_regs.specs.Request.{requested}
 use Rattle.aia_regs.proofs.RequestLemmas.{requested_in_range}
@@ -18,32 +18,32 @@ use Rattle.aia_fabric.specs.Stores.{page_spot, slot_at}
 
 -- ---- slots by address
 
-pub slot_found : (q : ℕ) → q < 16 → slot_at (slot_address q) ≡ Some q
+pub slot_found : (q : ℕ) → q < SLOTS → slot_at (slot_address q) ≡ Some q
 slot_found q low =
-    least_of-found (λ x. nat_eq (slot_address x) (slot_address q)) 0 16 q (omega arith) (omega arith) (eq-eqb (slot_address q) (slot_address q) refl)
+    least_of-found (λ x. nat_eq (slot_address x) (slot_address q)) 0 SLOTS q (omega arith) (omega arith) (eq-eqb (slot_address q) (slot_address q) refl)
     (λ j a b. ne_eqb (slot_address j) (slot_address q) (λ e. omega arith))
 
-pub slot_begins : (addr q : ℕ) → slot_at addr ≡ Some q → (q < 16) × (addr ≡ slot_address q)
+pub slot_begins : (addr q : ℕ) → slot_at addr ≡ Some q → (q < SLOTS) × (addr ≡ slot_address q)
 slot_begins addr q found =
-    let least = least_of_is (λ x. nat_eq (slot_address x) addr) 0 16 q found in
+    let least = least_of_is (λ x. nat_eq (slot_address x) addr) 0 SLOTS q found in
     (omega (arith, least.1), sym (eqb-true (slot_address q) addr least.2))
 
-pub slot_by_number : (addr q : ℕ) → q < 16 → addr ≡ slot_address q → slot_at addr ≡ Some q
+pub slot_by_number : (addr q : ℕ) → q < SLOTS → addr ≡ slot_address q → slot_at addr ≡ Some q
 slot_by_number addr q low is = ap slot_at is ∙ slot_found q low
 
-pub no_slot : (addr : ℕ) → ((q : ℕ) → q < 16 → addr ≢ slot_address q) → slot_at addr ≡ None
-no_slot addr none = least_of-none (λ x. nat_eq (slot_address x) addr) 0 16 (λ j a b. ne_eqb (slot_address j) addr (λ e. none j (omega arith) (sym e)))
+pub no_slot : (addr : ℕ) → ((q : ℕ) → q < SLOTS → addr ≢ slot_address q) → slot_at addr ≡ None
+no_slot addr none = least_of-none (λ x. nat_eq (slot_address x) addr) 0 SLOTS (λ j a b. ne_eqb (slot_address j) addr (λ e. none j (omega arith) (sym e)))
 
 -- ---- files by page
 
-pub host_page : (i : ImsicState) (hart : ℕ) → hart < i.harts → i.harts ≤ 4 → page_spot i (supervisor_page hart / 0x1000) ≡ HostFile hart
+pub host_page : (i : ImsicState) (hart : ℕ) → hart < i.harts → i.harts ≤ HARTS → page_spot i (supervisor_page hart / PAGE) ≡ HostFile hart
 host_page i hart there few =
-    let page : supervisor_page hart / 0x1000 * 0x1000 ≡ supervisor_page hart = omega arith in
-    spot_of_host i.harts i.guests (supervisor_page hart / 0x1000 * PAGE) hart few there (in_page (supervisor_page hart) (supervisor_page hart / 0x1000 * PAGE) (omega arith) (omega arith))
+    let page : supervisor_page hart / PAGE * PAGE ≡ supervisor_page hart = omega arith in
+    spot_of_host i.harts i.guests (supervisor_page hart / PAGE * PAGE) hart few there (in_page (supervisor_page hart) (supervisor_page hart / PAGE * PAGE) (omega arith) (omega arith))
 
 -- past the pages of all files there is none
-pub page_past : (i : ImsicState) (page : ℕ) → i.harts ≤ 4 → i.guests ≤ 7 → 0x28020 ≤ page → page_spot i page ≡ Nowhere
-page_past i page few eight past = past_hosts i.harts i.guests (page * PAGE) ((page * PAGE - 0x28000000) / 0x8000) few eight refl (omega arith) (omega arith)
+pub page_past : (i : ImsicState) (page : ℕ) → i.harts ≤ HARTS → i.guests ≤ GUEST_FILES → supervisor_page HARTS / PAGE ≤ page → page_spot i page ≡ Nowhere
+page_past i page few fewer past = past_hosts i.harts i.guests (page * PAGE) ((page * PAGE - SUPERVISOR_FILES) / HART_STRIDE) few fewer refl (omega arith) (omega arith)
 
 -- ---- a store to a slot
 
@@ -62,7 +62,7 @@ other_slot_stays words q r offset value other = by_request (requested IDENTITIES
       | inr more ↦ inr (omega (arith, other))
     ]
 
-    by_request : (o : Option ℕ) → ((i : ℕ) → o ≡ Some i → i ≤ 2047) → mrif_in (words_after_store words q o) r ≡ mrif_in words r
+    by_request : (o : Option ℕ) → ((i : ℕ) → o ≡ Some i → i ≤ IDENTITIES) → mrif_in (words_after_store words q o) r ≡ mrif_in words r
     by_request None small = refl
     by_request (Some i) small =
         let few = small i refl in

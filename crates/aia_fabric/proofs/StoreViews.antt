@@ -4,7 +4,7 @@ use Rattle.std.proofs.Common.{◌≡◌, ◌≢◌, ℕ, ◌+◌, ◌/◌, ◌<�
 use Rattle.std.proofs.lemmas.Bool.{cases_Bool}
 use Rattle.std.proofs.lemmas.Bool.Decides.{nat_tests}
 use Rattle.std.proofs.lemmas.List.{get_or-set_other}
-use Rattle.aia_regs.specs.declared.limits.TheConstants.{VCPUS, IDENTITIES}
+use Rattle.aia_regs.specs.declared.limits.TheConstants.{IDENTITIES, VCPUS, SLOTS, WORDS_OF_SLOTS}
 use Rattle.aia_regs.specs.Request.{requested}
 use Rattle.aia_regs.proofs.RequestLemmas.{requested_in_range}
 use Rattle.aia_file.specs.InterruptFile.{InterruptFile, landed}
@@ -89,7 +89,7 @@ module _ (w u : World) (g : Vcpu) (p : Place) (offset value : ℕ) (whole : IsWh
 
 -- ---- in a slot
 
-entry_kept : (words : List ℕ) (q place : ℕ) (o : Option ℕ) → q < 16 → 0x400 ≤ place → ((i : ℕ) → o ≡ Some i → i ≤ 2047) → get_or (words_after_store words q o) place 0 ≡ get_or words place 0
+entry_kept : (words : List ℕ) (q place : ℕ) (o : Option ℕ) → q < SLOTS → WORDS_OF_SLOTS ≤ place → ((i : ℕ) → o ≡ Some i → i ≤ IDENTITIES) → get_or (words_after_store words q o) place 0 ≡ get_or words place 0
 entry_kept words q place None low high small = refl
 entry_kept words q place (Some i) low high small = let few = small i refl in get_or-set_other words (pending_place q (i / 64)) place _ 0 (λ e. omega arith)
 
@@ -97,7 +97,7 @@ module _ (w : World) (g : Vcpu) (there : Home) (q offset value : ℕ) (whole : I
   pub entry_words_kept : (get_or (with_store w q offset value).memory (entry_word_place g.vm g.number) 0 ≡ get_or w.memory (entry_word_place g.vm g.number) 0)
       × (get_or (with_store w q offset value).memory (entry_word_place g.vm g.number + 1) 0 ≡ get_or w.memory (entry_word_place g.vm g.number + 1) 0)
   entry_words_kept =
-      let small : (i : ℕ) → requested IDENTITIES offset value ≡ Some i → i ≤ 2047 = λ i e. (requested_in_range IDENTITIES offset value i e).1 in (
+      let small : (i : ℕ) → requested IDENTITIES offset value ≡ Some i → i ≤ IDENTITIES = λ i e. (requested_in_range IDENTITIES offset value i e).1 in (
         entry_kept w.memory q (entry_word_place g.vm g.number) (requested IDENTITIES offset value) low (omega arith) small,
         entry_kept w.memory q (entry_word_place g.vm g.number + 1) (requested IDENTITIES offset value) low (omega arith) small,
       )

@@ -9,7 +9,7 @@ use Rattle.std.proofs.lemmas.List.{get_or-set_same, get_or-set_other, set_past}
 use Rattle.aia_word.specs.Sets.{has_bit, is_in}
 use Rattle.aia_word.proofs.SetLemmas.{is_in-set, is_in-past}
 use Rattle.aia_word.proofs.BitLemmas.{has_bit-zero}
-use Rattle.aia_regs.specs.declared.limits.TheConstants.{VCPUS}
+use Rattle.aia_regs.specs.declared.limits.TheConstants.{IDENTITIES, VCPUS, WORDS_OF_SLOTS, MEMORY_WORDS, FILE_WORDS}
 use Rattle.aia_regs.specs.declared.access.Op.TheVariants as ops
 use Rattle.aia_regs.specs.declared.file_registers.FileReg.{FileReg}
 use Rattle.aia_file.specs.InterruptFile.{InterruptFile, accessed}
@@ -119,7 +119,7 @@ word_replaced words k v low = same_sets _ _ (λ i. is_in-set words k v i low)
 
 -- ---- a word of a slot
 
-module _ (words : List ℕ) (q k v : ℕ) (whole : HasSlot words q) (low : k < 32) where
+module _ (words : List ℕ) (q k v : ℕ) (whole : HasSlot words q) (low : k < FILE_WORDS) where
   pending_written : set_at (pending_place q) (set words (pending_place q k) v) ≡ replaced_by k v (set_at (pending_place q) words)
   pending_written = same_sets _ _ (λ i. written (pending_place q) words k v i (λ j e. omega (arith, e)) (omega (arith, whole)) low)
 
@@ -148,10 +148,10 @@ pub nothing_replaced : (k : ℕ) (members : ℕ → Bool) → replaced_by k 0 me
 nothing_replaced k members = same_sets _ _ (λ i. ap (λ b. cond (nat_eq (i / 64) k) b (members i)) (has_bit-zero (i % 64)) ∙ neither (nat_eq (i / 64) k) (members i))
 
 -- what a word of it shows
-low_identity : (i k : ℕ) → i / 64 ≡ k → k < 32 → nat_le i 2047 ≡ true
+low_identity : (i k : ℕ) → i / 64 ≡ k → k < FILE_WORDS → nat_le i IDENTITIES ≡ true
 low_identity i k e low = grind (arith, nat_tests)
 
-pub place_shows : (place : ℕ → ℕ) (words : List ℕ) (k i : ℕ) → k < 32 → i / 64 ≡ k → has_bit (get_or words (place k) 0) (i % 64) ≡ set_at place words i
+pub place_shows : (place : ℕ → ℕ) (words : List ℕ) (k i : ℕ) → k < FILE_WORDS → i / 64 ≡ k → has_bit (get_or words (place k) 0) (i % 64) ≡ set_at place words i
 place_shows place words k i low e = ap (λ x. has_bit (get_or words (place x) 0) (i % 64)) (sym e) ∙ ap (λ b. b && has_bit (get_or words (place (i / 64)) 0) (i % 64)) (sym (low_identity i k e low))
 
 -- ---- a word of memory
@@ -162,21 +162,21 @@ slot_low w g whole there = let below = slot_below w.vms g there in omega (arith,
 pub has_slot : (w : World) (q : ℕ) → IsWhole w → q < VCPUS → HasSlot w.memory q
 has_slot w q whole low = omega (arith, low, whole.memory)
 
-entries_past : (vm file place : ℕ) → place < 0x400 → (entry_word_place vm file ≢ place) × (entry_word_place vm file + 1 ≢ place)
+entries_past : (vm file place : ℕ) → place < WORDS_OF_SLOTS → (entry_word_place vm file ≢ place) × (entry_word_place vm file + 1 ≢ place)
 entries_past vm file place low = (λ e. omega arith, λ e. omega arith)
 
 module _ (w : World) (g : Vcpu) (there : Home) (whole : IsWhole w) (stands : is_vcpu_in w.vms g ≡ true) where
-  pub in_slot-view : (place v : ℕ) → place < 0x400 → view (with_word w place v) g there ≡ record (view w g there) { slot = mrif_in (set w.memory place v) (slot_of w.vms g) }
+  pub in_slot-view : (place v : ℕ) → place < WORDS_OF_SLOTS → view (with_word w place v) g there ≡ record (view w g there) { slot = mrif_in (set w.memory place v) (slot_of w.vms g) }
   in_slot-view place v low =
       let past = entries_past g.vm g.number place low in
       let first = get_or-set_other w.memory place (entry_word_place g.vm g.number) v 0 past.0 in
       let second = get_or-set_other w.memory place (entry_word_place g.vm g.number + 1) v 0 past.1 in
       λ t. record (view w g there) { slot = mrif_in (set w.memory place v) (slot_of w.vms g); word0 = first t; word1 = second t }
 
-  entry_low : entry_word_place g.vm g.number < 0xbff
+  entry_low : entry_word_place g.vm g.number < MEMORY_WORDS - 1
   entry_low = let entry = vcpu_entry w g.vm g.number whole stands in (entry_at w g.vm g.number whole entry.0 entry.3).3
 
-  in_table : (place v : ℕ) → 0x400 ≤ place → mrif_in (set w.memory place v) (slot_of w.vms g) ≡ mrif_in w.memory (slot_of w.vms g)
+  in_table : (place v : ℕ) → WORDS_OF_SLOTS ≤ place → mrif_in (set w.memory place v) (slot_of w.vms g) ≡ mrif_in w.memory (slot_of w.vms g)
   in_table place v high = let low = slot_low w g whole stands in other_words w.memory (slot_of w.vms g) place v (inr (omega (arith, low, high)))
 
   pub word0-view : (v : ℕ) → view (with_word w (entry_word_place g.vm g.number + 0) v) g there ≡ record (view w g there) { word0 = v }

@@ -13,7 +13,7 @@ use Rattle.std.proofs.lemmas.List.Elements.{All-get_or}
 use Rattle.aia_word.specs.Packed.{ones}
 use Rattle.aia_word.specs.Sets.{has_bit}
 use Rattle.aia_word.proofs.BitLemmas.{has_bit-or, has_bit-set}
-use Rattle.aia_regs.specs.declared.limits.TheConstants.{VMS, VCPUS, IDENTITIES}
+use Rattle.aia_regs.specs.declared.limits.TheConstants.{IDENTITIES, VMS, VCPUS, ENTRIES, MEMORY_WORDS, FILE_WORDS}
 use Rattle.aia_regs.specs.Request.{requested}
 use Rattle.aia_regs.proofs.RequestLemmas.{requested_in_range}
 use Rattle.aia_file.specs.FileState.{FileState}
@@ -112,13 +112,13 @@ vm_whole w vm whole few mask numbers vcpus hart = record {
           notice_hart = rw (same) hart;
           same_mask = rw (same, there) refl;
           start = rw (there) (ap table_place whole.tables);
-          entries = rw (there) (length-replicate 16 NotValid);
+          entries = rw (there) (length-replicate ENTRIES NotValid);
         }
 
 -- ---- where an entry lies
 
 pub entry_at : (w : World) (vm file : ℕ) → IsWhole w → vm < length w.vms → file < 2 ^ ones 64 (table_of w.tables vm).mask
-    → (file < 16) × (entry_place (table_of w.tables vm) file ≡ table_place vm + 16 * file) × (entry_word_place vm file * 8 ≡ table_place vm + 16 * file) × (entry_word_place vm file < 0xbff)
+    → (file < ENTRIES) × (entry_place (table_of w.tables vm) file ≡ table_place vm + 16 * file) × (entry_word_place vm file * 8 ≡ table_place vm + 16 * file) × (entry_word_place vm file < MEMORY_WORDS - 1)
 entry_at w vm file whole there low =
     let is = whole.vms vm there in
     let few = has_entry (table_of w.tables vm).mask file (mask_parts (table_of w.tables vm).mask (rw (is.same_mask) is.mask)).1 low in
@@ -126,7 +126,7 @@ entry_at w vm file whole there low =
     (few, ap (λ n. n + 16 * file) is.start, omega arith, omega (arith, few, there, vms))
 
 -- so has a virtual hart that is there its entry
-pub vcpu_entry : (w : World) (vm file : ℕ) → IsWhole w → is_vcpu_in w.vms (vcpu vm file) ≡ true → (vm < length w.vms) × (vm < VMS) × (file < 16) × (file < 2 ^ ones 64 (table_of w.tables vm).mask)
+pub vcpu_entry : (w : World) (vm file : ℕ) → IsWhole w → is_vcpu_in w.vms (vcpu vm file) ≡ true → (vm < length w.vms) × (vm < VMS) × (file < ENTRIES) × (file < 2 ^ ones 64 (table_of w.tables vm).mask)
 vcpu_entry w vm file whole there =
     let low = numbered w.vms vm file there in
     elim (cases_lt vm (length w.vms)) [
@@ -149,7 +149,7 @@ vcpu_words w vm file whole there =
 -- ---- the words of slots are written
 
 -- word k of the pending set of a slot is joined with another
-pub joined_whole : (w : World) (q k v : ℕ) → IsWhole w → q < VCPUS → k < 32 → (k ≡ 0 → has_bit v 0 ≡ false)
+pub joined_whole : (w : World) (q k v : ℕ) → IsWhole w → q < VCPUS → k < FILE_WORDS → (k ≡ 0 → has_bit v 0 ≡ false)
     → IsWhole (record w { memory = set w.memory (pending_place q k) (bit_or (get_or w.memory (pending_place q k) 0) v) })
 joined_whole w q k v whole there low zero = record {
   harts = whole.harts;

@@ -2,7 +2,7 @@
 -- memory.
 use Rattle.std.specs.Prelude.{◌≡◌, ℕ, ◌+◌, ◌-◌, ◌*◌, ◌/◌, ◌<◌, ◌⊎◌, ◌≤◌, nat_lt, if◌then◌else◌, List, [], ◌∷◌, ◌++◌, length, replicate, slice_index, slice_set}
 use Rattle.aia_regs.specs.declared.address_map.TheConstants.{MEMORY, MEMORY_END, PAGE}
-use Rattle.aia_regs.specs.declared.limits.TheConstants.{VCPUS}
+use Rattle.aia_regs.specs.declared.limits.TheConstants.{VCPUS, MEMORY_WORDS}
 use Rattle.aia_regs.specs.AddressMap.{supervisor_page, slot_address, table_address}
 use Rattle.aia_imsic.specs.Imsic.{ImsicState, AreEmpty}
 use Rattle.aia_entry.specs.declared.entry.Entry.{Entry}
@@ -21,7 +21,7 @@ abbrev pub new_world : ImsicState → ℕ → World
 new_world files n = record {
   n = n;
   imsic = files;
-  memory = replicate ((MEMORY_END - MEMORY) / 8) 0;
+  memory = replicate MEMORY_WORDS 0;
   vms = [];
   tables = [];
   flights = [];

@@ -2,7 +2,7 @@
 use Rattle.std.specs.Prelude.{◌≡◌, ℕ, ◌+◌, ◌*◌, ◌^◌, ◌<◌, ◌≤◌, true, false, length, slice_index, All}
 use Rattle.aia_word.specs.Packed.{ones}
 use Rattle.aia_word.specs.Sets.{has_bit}
-use Rattle.aia_regs.specs.declared.limits.TheConstants.{HARTS, GUEST_FILES, VMS, VCPUS, ENTRIES}
+use Rattle.aia_regs.specs.declared.limits.TheConstants.{HARTS, GUEST_FILES, VMS, VCPUS, ENTRIES, MEMORY_WORDS}
 use Rattle.aia_file.specs.InterruptFile.{is_greatest_identity}
 use Rattle.aia_file.specs.FileState.{FileState}
 use Rattle.aia_mrif.specs.Mrif.{pending_place, enable_place}
@@ -29,7 +29,7 @@ pub record IsWhole (w : World) : Type 0 where
   pub files : length w.imsic.files ≡ w.imsic.harts * (w.imsic.guests + 2)
   pub greatest : is_greatest_identity w.n ≡ true
   pub width : All (λ (f : FileState). f.n ≡ w.n) w.imsic.files
-  pub memory : length w.memory ≡ 0xc00
+  pub memory : length w.memory ≡ MEMORY_WORDS
   pub no_pending_zero : (q : ℕ) → q < VCPUS
       → has_bit (slice_index w.memory (pending_place q 0)) 0 ≡ false
   pub no_enabled_zero : (q : ℕ) → q < VCPUS

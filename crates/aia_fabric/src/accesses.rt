@@ -1,7 +1,7 @@
 ghost use Rattle.std.specs.Prelude.{◌≡◌, ◌^◌, ◌<◌, ◌≤◌, true, false, bit_or, option_map};
 ghost use Rattle.std.specs.Borrow.{Bor};
 ghost use Rattle.aia_word.specs.Sets.{has_bit};
-ghost use Rattle.aia_regs.specs.declared.limits.TheConstants.{VCPUS};
+ghost use Rattle.aia_regs.specs.declared.limits.TheConstants.{VCPUS, FILE_WORDS};
 ghost use Rattle.aia_home.specs.declared.place.Place.{Place};
 ghost use Rattle.aia_home.specs.Vms.{vcpu, is_vcpu_in};
 ghost use Rattle.aia_fabric.specs.Flights.{Fences};
@@ -13,15 +13,15 @@ use aia_pool::FileLease;
 use aia_word::Bank;
 
 /// What the steps of moves do, and an IOMMU that reads an entry again. Each touches one word of a
-/// place, one word or entry of a table, or one record, and all else stays; but the fence of an entry
-/// lands the stores in flight of its VM first.
+/// place, one word or entry of a table, or one record, and all else stays; but the fence of an
+/// entry lands the stores in flight of its VM first.
 #[tactic(auto, using(crate::proofs::WholeLemmas::width_at, crate::proofs::WholeLemmas::vcpu_entry, crate::proofs::WholeLemmas::vcpu_words))]
 impl Fabric {
     // ---- the sets of a place
 
-    /// Makes `v` word `k` of the pending set of a place that is there, 0 to 31 of a slot and those
-    /// of its identities of a file, and gives what stood there: word 0 has no identity 0, before
-    /// and after.
+    /// Makes `v` word `k` of the pending set of a place that is there, below `FILE_WORDS` of a slot
+    /// and those of its identities of a file, and gives what stood there: word 0 has no identity 0,
+    /// before and after.
     pub fn swap_pending(&mut self, at: At, k: usize, v: u64) -> u64
         requires place { IsPlaceThere self.old at }
         requires word { k < words_at self.old at }
@@ -59,10 +59,11 @@ impl Fabric {
         }
     }
 
-    /// Puts the identities that `v` shows as word `k`, 0 to 31, into the pending set of a slot.
+    /// Puts the identities that `v` shows as word `k`, below `FILE_WORDS`, into the pending set of
+    /// a slot.
     fn or_slot(&mut self, q: u32, k: usize, v: u64)
         requires slot { q < VCPUS }
-        requires word { k < 32 }
+        requires word { k < FILE_WORDS }
         requires no_zero { k ≡ 0 → has_bit v 0 ≡ false }
         ensures { self.new ≡ with_pending self.old (At.Slot q) k
             (bit_or (pending_at self.old (At.Slot q) k) v) }
@@ -97,10 +98,10 @@ impl Fabric {
         }
     }
 
-    /// Gives both words `k`, 0 to 31, of slot `q`, 0 to 15: pending, enabled.
+    /// Gives both words `k`, below `FILE_WORDS`, of slot `q`, below `SLOTS`: pending, enabled.
     pub fn look(&self, q: u32, k: usize) -> (u64, u64)
         requires slot { q < VCPUS }
-        requires word { k < 32 }
+        requires word { k < FILE_WORDS }
         ensures pending { result.0 ≡ pending_at self.now (At.Slot q) k }
         ensures enabled { result.1 ≡ enable_at self.now (At.Slot q) k }
         ensures pending_fits { result.0 < 2 ^ 64 }
@@ -135,15 +136,7 @@ impl Fabric {
     {
         self.land_all(vm);
         let _whole = self.words();
-        self.put_in_force(vm, file);
-    }
-
-    /// Puts the entry of a virtual hart that is there in force, as its two words say it.
-    fn put_in_force(&mut self, vm: u32, file: u32)
-        requires { is_vcpu_in self.old.vms (vcpu vm file) ≡ true }
-        ensures { self.new ≡ with_fence self.old vm file }
-    {
-        self.iommu.fence(vm, file, &self.ram);
+        self.refetch(vm, file);
     }
 
     /// Reads the entry of a virtual hart that is there again, as an IOMMU may at any time: it is in

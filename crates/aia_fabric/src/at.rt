@@ -5,6 +5,6 @@ use aia_imsic::Spot;
 pub enum At {
     /// An interrupt file.
     File(Spot),
-    /// A slot of memory, 0 to 15.
+    /// A slot of memory, below `SLOTS`.
     Slot(u32),
 }

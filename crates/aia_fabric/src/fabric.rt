@@ -3,7 +3,7 @@ ghost use Rattle.std.specs.Int.{is_in_range};
 ghost use Rattle.aia_word.specs.Packed.{ones};
 ghost use Rattle.aia_word.specs.Sets.{has_bit};
 ghost use Rattle.aia_word.specs.Top.{top_value};
-ghost use Rattle.aia_regs.specs.declared.limits.TheConstants.{IDENTITIES, HARTS, GUEST_FILES, VMS, VCPUS};
+ghost use Rattle.aia_regs.specs.declared.limits.TheConstants.{HARTS, GUEST_FILES, IDENTITIES, VMS, VCPUS, FILE_WORDS};
 ghost use Rattle.aia_regs.specs.FileRegisters.{IsUsable};
 ghost use Rattle.aia_regs.specs.Request.{requested};
 ghost use Rattle.aia_file.specs.FileState.{shown};
@@ -28,8 +28,8 @@ use aia_home::{Place, Vm};
 use aia_imsic::{Imsic, Spot};
 use aia_mrif::{SlotMut, Stored};
 use aia_ram::Ram;
-use aia_regs::address_map::{MEMORY, MEMORY_END, PAGE};
-use aia_regs::limits::VCPUS;
+use aia_regs::address_map::PAGE;
+use aia_regs::limits::{MEMORY_WORDS, VCPUS};
 use aia_regs::{FileReg, Op};
 use std::alloc::{AllocError, Global};
 use std::marker::Model;
@@ -80,9 +80,10 @@ impl Model for Fabric {
 #[tactic(auto, using(crate::proofs::WholeLemmas::width_at))]
 impl Fabric {
     /// Makes the machine's empty files, memory of zeros, the room for all VMs and their stores in
-    /// flight, and an empty G-stage record for each of 16 virtual harts: of `harts` harts, 1 to 4,
-    /// each with `guests` guest files, 0 to 7; every file has the identities 1 to `n`, which is 63,
-    /// 127, 255, 511, 1023 or 2047. `Err`: there is no memory for it.
+    /// flight, and an empty G-stage record for each of `VCPUS` virtual harts: of `harts` harts, 1
+    /// to `HARTS`, each with `guests` guest files, 0 to `GUEST_FILES`; every file has the
+    /// identities 1 to `n`, which is 63, 127, 255, 511, 1023 or 2047. `Err`: there is no memory for
+    /// it.
     pub fn new(alloc: Global, harts: u32, guests: u32, n: u32) -> Result<Fabric, AllocError>
         requires some { 1 ≤ harts }
         requires few { harts ≤ HARTS }
@@ -91,7 +92,7 @@ impl Fabric {
         ensures { IfOk result (λ f. IsNew f harts guests n) }
     {
         let imsic = Imsic::new(alloc, harts, guests, n)?;
-        let ram = Ram::new(alloc, (MEMORY_END - MEMORY) as usize)?;
+        let ram = Ram::new(alloc, 8 * MEMORY_WORDS)?;
         let vms = Vms::new(alloc)?;
         let iommu = Iommu::new(alloc)?;
         let flights = Flights::new(alloc)?;
@@ -109,18 +110,18 @@ impl Fabric {
 
     // ---- what it shows
 
-    /// Tells how many words of 64 identities each set of a file has, 1 to 32.
+    /// Tells how many words of 64 identities each set of a file has, 1 to `FILE_WORDS`.
     pub fn words(&self) -> u32
         ensures value { result ≡ (self.now.n + 1) / 64 }
         ensures all { 64 * result ≡ self.now.n + 1 }
         ensures some { 1 ≤ result }
-        ensures few { result ≤ 32 }
+        ensures few { result ≤ FILE_WORDS }
         ensures whole { IsWhole self.now }
     {
         (self.n + 1) / 64
     }
 
-    /// Tells how many harts there are, 1 to 4.
+    /// Tells how many harts there are, 1 to `HARTS`.
     pub fn harts(&self) -> u32
         ensures value { result ≡ self.now.imsic.harts }
         ensures few { result ≤ HARTS }
@@ -128,7 +129,7 @@ impl Fabric {
         self.imsic.harts()
     }
 
-    /// Tells how many guest files each hart has, 0 to 7.
+    /// Tells how many guest files each hart has, 0 to `GUEST_FILES`.
     pub fn guests(&self) -> u32
         ensures value { result ≡ self.now.imsic.guests }
         ensures few { result ≤ GUEST_FILES }
@@ -169,7 +170,7 @@ impl Fabric {
         self.imsic.hgeip(hart)
     }
 
-    /// Tells how many VMs stand, 0 to 4. Its clause `whole` says what is true at all times.
+    /// Tells how many VMs stand, 0 to `VMS`. Its clause `whole` says what is true at all times.
     pub fn vms(&self) -> u32
         ensures value { result ≡ length self.now.vms }
         ensures few { result ≤ VMS }
@@ -178,7 +179,7 @@ impl Fabric {
         self.vms.count()
     }
 
-    /// Tells how many virtual harts the VMs have in all, 0 to 16.
+    /// Tells how many virtual harts the VMs have in all, 0 to `VCPUS`.
     pub fn vcpus(&self) -> u32
         ensures value { result ≡ vcpus_in self.now.vms }
         ensures few { result ≤ VCPUS }
@@ -202,7 +203,7 @@ impl Fabric {
         self.notices
     }
 
-    /// Gives the slot of a virtual hart that is there, 0 to 15.
+    /// Gives the slot of a virtual hart that is there, below `SLOTS`.
     pub fn slot_of(&self, vm: u32, number: u32) -> u32
         requires { is_vcpu_in self.now.vms (vcpu vm number) ≡ true }
         ensures value { result ≡ slot_of self.now.vms (vcpu vm number) }
@@ -270,8 +271,8 @@ impl Fabric {
 
     // ---- notices
 
-    /// Sends the notice of the virtual hart that has number `q`, 0 to 15, over all VMs: a store of
-    /// `q + 1` to the supervisor file of its VM's notice hart, which is counted.
+    /// Sends the notice of the virtual hart that has number `q`, below `VCPUS`, over all VMs: a
+    /// store of `q + 1` to the supervisor file of its VM's notice hart, which is counted.
     ///
     /// AIA 1.0, IOMMU Support for MSIs to Virtual Machines, "Memory-resident interrupt files".
     pub fn notice(&mut self, q: u32)
@@ -369,8 +370,8 @@ impl Fabric {
         self.vms.push(vm);
     }
 
-    /// Makes the entry of a file of a VM lead to slot `slot`, 0 to 15, and puts it in force; its
-    /// notices go to the page of number `page`, below `2^44`, with the identity `slot + 1`.
+    /// Makes the entry of a file of a VM lead to slot `slot`, below `SLOTS`, and puts it in force;
+    /// its notices go to the page of number `page`, below `2^44`, with the identity `slot + 1`.
     pub(crate) fn make_entry(&mut self, vm: u32, file: u32, slot: u32, page: u64)
         requires vm { vm < length self.old.vms }
         requires file { file < 2 ^ ones 64 (table_of self.old.tables vm).mask }

@@ -123,7 +123,7 @@ impl Flights {
         self.kept.push_reserved(Flight::new());
     }
 
-    /// Tells how many there are of a VM that stands, 0 to 8.
+    /// Tells how many there are of a VM that stands, 0 to `STORES_IN_FLIGHT`.
     pub fn count(&self, vm: u32) -> usize
         requires { vm < length self.now }
         ensures value { result ≡ length (slice_index_or self.now vm []) }
@@ -132,7 +132,7 @@ impl Flights {
         self.kept[vm as usize].count()
     }
 
-    /// Puts a store behind those of a VM that stands and has fewer than 8.
+    /// Puts a store behind those of a VM that stands and has fewer than `STORES_IN_FLIGHT`.
     pub fn push(&mut self, vm: u32, store: Flying)
         requires there { vm < length self.old }
         requires room { length (slice_index_or self.old vm []) < STORES_IN_FLIGHT }

@@ -12,7 +12,7 @@ use aia_regs::address_map::PAGE;
 
 /// Stores of devices that are in flight.
 impl Fabric {
-    /// Tells how many stores of a VM that stands are in flight, 0 to 8.
+    /// Tells how many stores of a VM that stands are in flight, 0 to `STORES_IN_FLIGHT`.
     pub fn flying(&self, vm: u32) -> usize
         requires { vm < length self.now.vms }
         ensures value { result ≡ length (flight_of self.now vm) }

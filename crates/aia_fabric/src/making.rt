@@ -10,10 +10,11 @@ use aia_home::Vm;
 
 impl Fabric {
     /// Makes the next VM, while fewer than four stand: of `vcpus` virtual harts, at most 2^k where
-    /// its mask has k ones, and 16 with those of the VMs that stand, and the mask `mask` of its MSI
-    /// addresses, over numbers of pages, which has 1 to 4 ones, all below bit 15. The supervisor
-    /// file of hart `hart`, one that is there, takes the notices of its virtual harts. The entry of
-    /// each virtual hart is written and in force, and leads to its slot of memory.
+    /// its mask has k ones, and `VCPUS` with those of the VMs that stand, and the mask `mask` of
+    /// its MSI addresses, over numbers of pages, which has 1 to `MASK_ONES` ones, all below bit
+    /// `MASK_BITS`. The supervisor file of hart `hart`, one that is there, takes the notices of its
+    /// virtual harts. The entry of each virtual hart is written and in force, and leads to its slot
+    /// of memory.
     ///
     /// AIA 1.0, IOMMU Support for MSIs to Virtual Machines, "MSI page tables".
     pub fn vm(&mut self, vcpus: u32, mask: u64, hart: u32)

@@ -3,7 +3,7 @@
 ghost use Rattle.std.specs.Prelude.{◌≡◌, ◌+◌, ◌*◌, ◌/◌, ◌%◌, ◌^◌, ◌<◌, IfSome, length, slice_index, slice_set};
 ghost use Rattle.aia_regs.specs.AddressMap.{slot_address, supervisor_page};
 ghost use Rattle.aia_regs.specs.declared.address_map.TheConstants.{PAGE};
-ghost use Rattle.aia_regs.specs.declared.limits.TheConstants.{HARTS, VMS, VCPUS};
+ghost use Rattle.aia_regs.specs.declared.limits.TheConstants.{HARTS, VMS, VCPUS, MEMORY_WORDS};
 ghost use Rattle.aia_entry.specs.Format.{mrif_word, notice_word};
 ghost use Rattle.aia_ram.specs.Words.{Fits};
 ghost use Rattle.aia_fabric.specs.Stores.{slot_at};
@@ -11,7 +11,7 @@ ghost use Rattle.aia_fabric.specs.Making.{table_place};
 
 use aia_entry::mrif;
 use aia_ram::Ram;
-use aia_regs::address_map::{HART_STRIDE, MEMORY, PAGE, SLOT, SUPERVISOR_FILES, TABLE, TABLES};
+use aia_regs::address_map::{slot_address, supervisor_page, table_address, MEMORY, PAGE, SLOT};
 use aia_regs::limits::VCPUS;
 
 /// Finds the slot of memory that begins at `addr`.
@@ -35,7 +35,7 @@ pub fn table_place(vm: u32) -> usize
     requires { vm < VMS }
     ensures { result ≡ table_place vm }
 {
-    (TABLES - MEMORY) as usize + vm as usize * TABLE as usize
+    (table_address(vm) - MEMORY) as usize
 }
 
 /// Gives the number of the page of a hart's supervisor file, to which notices go.
@@ -44,22 +44,22 @@ pub fn notice_page(hart: u32) -> u64
     ensures value { result ≡ supervisor_page hart / PAGE }
     ensures fits { result < 2 ^ 44 }
 {
-    (SUPERVISOR_FILES + u64::from(hart) * HART_STRIDE) / PAGE
+    supervisor_page(hart) / PAGE
 }
 
-/// Writes the entry at byte `at` of memory, whose two words are there: it leads to slot `slot`, 0
-/// to 15, and its notices go to the page of number `page`, below `2^44`, with the identity
+/// Writes the entry at byte `at` of memory, whose two words are there: it leads to slot `slot`,
+/// below `SLOTS`, and its notices go to the page of number `page`, below `2^44`, with the identity
 /// `slot + 1`.
 pub fn write_entry(ram: &mut Ram, at: usize, slot: u32, page: u64)
     requires word0 { Fits ram.old at }
     requires word1 { at / 8 + 1 < length ram.old }
-    requires few { length ram.old ≡ 0xc00 }
+    requires few { length ram.old ≡ MEMORY_WORDS }
     requires slot { slot < VCPUS }
     requires page { page < 2 ^ 44 }
     ensures { ram.new ≡ slice_set (slice_set ram.old (at / 8) (mrif_word (slot_address slot)))
         (at / 8 + 1) (notice_word page (slot + 1)) }
 {
-    let (word0, word1) = mrif(MEMORY + u64::from(slot) * SLOT, page, slot + 1);
+    let (word0, word1) = mrif(slot_address(slot), page, slot + 1);
     ram.store(at, word0);
     ram.store(at + 8, word1);
 }

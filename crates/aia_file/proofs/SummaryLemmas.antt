@@ -11,6 +11,7 @@ use Rattle.aia_word.proofs.SetLemmas.{has_bit-word_of, word_of-lt}
 use Rattle.aia_word.proofs.LeastLemmas.{least_of-found, least_of-none, least_of_is_none}
 use Rattle.aia_file.specs.InterruptFile.{is_shared}
 use Rattle.aia_file.specs.Summary.{Summarizes, SummarizesAllBut, AreIdentities}
+use Rattle.aia_regs.specs.declared.limits.TheConstants.{FILE_WORDS}
 
 pub least_of-same : (a b : ℕ → Bool) (from count : ℕ) → ((i : ℕ) → from ≤ i → i < from + count → a i ≡ b i) → least_of a from count ≡ least_of b from count
 unfolding least_of
@@ -116,7 +117,7 @@ both_least p e w shared =
 
 -- ---- no identity is in both sets
 
-pub no_members : (summary : ℕ) (p e : ℕ → Bool) (words : ℕ) → Summarizes summary p e → summary ≡ 0 → words ≤ 32 → AreIdentities words p → (i : ℕ) → (p i && e i) ≡ false
+pub no_members : (summary : ℕ) (p e : ℕ → Bool) (words : ℕ) → Summarizes summary p e → summary ≡ 0 → words ≤ FILE_WORDS → AreIdentities words p → (i : ℕ) → (p i && e i) ≡ false
 no_members summary p e words summarizes none few range i =
     elim (cases_lt (i / 64) 64) [
       | inl low ↦ not_shared p e (i / 64) i refl (sym (told summary p e summarizes (i / 64) low) ∙ ap (λ x. has_bit x (i / 64)) none ∙ has_bit-zero (i / 64))

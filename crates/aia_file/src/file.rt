@@ -1,7 +1,7 @@
 ghost use Rattle.std.specs.Prelude.{◌≡◌, ℕ, ◌+◌, ◌-◌, ◌*◌, ◌/◌, ◌%◌, ◌<◌, ◌≤◌, ◌↔◌, false, ◌&&◌, ◌||◌, not, nat_eq, if◌then◌else◌, is_some, length, slice_index, slice_set, bit_or, IsTrue, IfOk, IfSome};
 ghost use Rattle.aia_word.specs.Sets.{has_bit, is_in, word_of};
 ghost use Rattle.aia_word.specs.Top.{top_value, lets_through};
-ghost use Rattle.aia_regs.specs.declared.limits.TheConstants.{IDENTITIES};
+ghost use Rattle.aia_regs.specs.declared.limits.TheConstants.{IDENTITIES, FILE_WORDS};
 ghost use Rattle.aia_regs.specs.Word.{settle};
 ghost use Rattle.aia_regs.specs.FileRegisters.{IsUsable, set_said, number_after};
 ghost use Rattle.aia_file.specs.InterruptFile.{is_greatest_identity, SameFile, empty_file, register_value, top_of, signals, accessed, landed, claimed};
@@ -223,7 +223,7 @@ impl File {
     pub(crate) fn summary(&self) -> u64
         ensures summary { Summarizes result (is_in self.now.pending) (is_in self.now.enabled) }
         ensures some { 1 ≤ (self.now.n + 1) / 64 }
-        ensures few { (self.now.n + 1) / 64 ≤ 32 }
+        ensures few { (self.now.n + 1) / 64 ≤ FILE_WORDS }
         ensures pending { AreIdentities ((self.now.n + 1) / 64) (is_in self.now.pending) }
         ensures enabled { AreIdentities ((self.now.n + 1) / 64) (is_in self.now.enabled) }
     {

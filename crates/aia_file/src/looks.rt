@@ -1,13 +1,13 @@
 ghost use Rattle.std.specs.Prelude.{◌≡◌, ℕ, ◌+◌, ◌-◌, ◌*◌, ◌<◌, ◌≤◌, Bool, ◌&&◌, IfSome};
 ghost use Rattle.aia_word.specs.Sets.{has_bit, word_of, least_of};
 ghost use Rattle.aia_word.specs.Top.{top_identity, top_value, lets_through};
-ghost use Rattle.aia_regs.specs.declared.limits.TheConstants.{IDENTITIES};
+ghost use Rattle.aia_regs.specs.declared.limits.TheConstants.{IDENTITIES, FILE_WORDS};
 ghost use Rattle.aia_file.specs.Summary.{Summarizes, AreIdentities};
 
 use aia_word::least_one;
 
 /// Two sets of identities, pending and enabled, which can be read by counted looks alone. They have
-/// `width` words of 64 identities, 1 to 32, and so the identities 1 to 64 * `width` - 1.
+/// `width` words of 64 identities, 1 to `FILE_WORDS`, and so the identities 1 to 64 * `width` - 1.
 pub trait Looks {
     ghost width: { Self → ℕ };
 
@@ -24,7 +24,7 @@ pub trait Looks {
     fn summary(&mut self) -> u64
         ensures summary { Summarizes result (pending self.old) (enabled self.old) }
         ensures some { 1 ≤ width self.old }
-        ensures few { width self.old ≤ 32 }
+        ensures few { width self.old ≤ FILE_WORDS }
         ensures pending_range { AreIdentities (width self.old) (pending self.old) }
         ensures enabled_range { AreIdentities (width self.old) (enabled self.old) }
         ensures width { width self.new ≡ width self.old }
@@ -70,10 +70,10 @@ pub fn search<T: Looks>(looks: &mut T, threshold: u64) -> u64
     }
 }
 
-/// Gives the least of the identities of word `k`, 0 to 31, that `live` shows, where the threshold
+/// Gives the least of the identities of word `k`, below `FILE_WORDS`, that `live` shows, where the threshold
 /// lets it through; `None` where it holds that one back, or where there is none.
 fn first_in_word(k: u32, live: u64, threshold: u64) -> Option<u32>
-    requires { k < 32 }
+    requires { k < FILE_WORDS }
     ensures first { result ≡ least_of
         (λ i. has_bit live (i - 64 * k) && lets_through threshold i) (64 * k) 64 }
     ensures small { IfSome result (λ identity. identity ≤ IDENTITIES) }

@@ -1,13 +1,14 @@
 ghost use Rattle.std.specs.Prelude.{◌≡◌, ℕ, ◌<◌};
 ghost use Rattle.aia_word.specs.Sets.{is_in};
 ghost use Rattle.aia_file.specs.Summary.{Summarizes, SummarizesAllBut};
+ghost use Rattle.aia_regs.specs.declared.limits.TheConstants.{FILE_WORDS};
 
 use aia_word::sets;
 
-/// Gives the summary of two sets, where all its bits but `k`, 0 to 31, tell of them already.
+/// Gives the summary of two sets, where all its bits but `k`, below `FILE_WORDS`, tell of them already.
 #[tactic(auto, using(crate::proofs::SummaryLemmas::bit_cleared, crate::proofs::SummaryLemmas::bit_put))]
 pub(crate) fn refreshed(summary: u64, pending: &[u64], enabled: &[u64], k: usize) -> u64
-    requires word { k < 32 }
+    requires word { k < FILE_WORDS }
     requires others { SummarizesAllBut k summary (is_in pending.now) (is_in enabled.now) }
     ensures { Summarizes result (is_in pending.now) (is_in enabled.now) }
 {

@@ -26,22 +26,22 @@ use Rattle.aia_model.specs.Answer.{delivered, oldest_landed, landed_first, step_
 use Rattle.aia_model.specs.Flight.{Sending, flight}
 use Rattle.aia_model.specs.HomeOf.{home}
 use Rattle.aia_home.specs.Routes.{is_at_fence}
-use Rattle.aia_regs.specs.declared.limits.TheConstants.{STORES_IN_FLIGHT}
+use Rattle.aia_regs.specs.declared.limits.TheConstants.{IDENTITIES, STORES_IN_FLIGHT, FILE_WORDS}
 use Rattle.aia_model.proofs.AnswerLemmas.{machine_refusal}
 use Rattle.aia_model.proofs.FlightLemmas.{same_first}
 
 -- ---- the greatest identity of a machine
 
--- it is at most 2047
+-- it is at most IDENTITIES
 abbrev IsSmall : History → Type 0
-IsSmall h = greatest_identity_of h ≤ 2047
+IsSmall h = greatest_identity_of h ≤ IDENTITIES
 
 size_accepted : (stands size : Bool) → ◌≡◌ {A = Option Answer} (cond stands (Some Again) (cond (not size) (Some (Refused Range)) None)) None → size ≡ true
 size_accepted true size e = absurd (cc)
 size_accepted false true e = refl
 size_accepted false false e = absurd (cc)
 
-size-small : (harts guests n sources : ℕ) → is_machine_size harts guests n sources ≡ true → n ≤ 2047
+size-small : (harts guests n sources : ℕ) → is_machine_size harts guests n sources ≡ true → n ≤ IDENTITIES
 size-small harts guests n sources is = grind (arith, nat_tests)
 
 machine_delivered : (msis : List Msi) (h : History) → machine_of (delivered msis h) ≡ machine_of h
@@ -53,7 +53,7 @@ machine_stepped zero g h = refl
 machine_stepped (suc count) g h = machine_stepped count g (step_taken g h) ∙ (same_first g h).1
 
 same_small : (h k : History) → machine_of h ≡ machine_of k → IsSmall k → IsSmall h
-same_small h k same small = subst (λ (m : Option Shape). option_map_or (λ (s : Shape). s.n) m 0 ≤ 2047) (sym same) small
+same_small h k same small = subst (λ (m : Option Shape). option_map_or (λ (s : Shape). s.n) m 0 ≤ IDENTITIES) (sym same) small
 
 moved-small : (count : ℕ) (g : Vcpu) (move : Move) (h : History) → IsSmall h → IsSmall (steps_taken count g (Began move ∷ h))
 moved-small count g move h small = same_small (steps_taken count g (Began move ∷ h)) h (machine_stepped count g (Began move ∷ h)) small
@@ -216,7 +216,7 @@ steps-send (suc count) g h =
 abbrev most_steps : ℕ
 most_steps = leave_steps 32
 
-few_steps : (words : ℕ) (move : Move) → words ≤ 32 → steps_of words move ≤ most_steps
+few_steps : (words : ℕ) (move : Move) → words ≤ FILE_WORDS → steps_of words move ≤ most_steps
 few_steps words (Arrives g hart) small = omega arith
 few_steps words (Leaves g) small = omega arith
 few_steps words (Shifts g hart) small = omega arith

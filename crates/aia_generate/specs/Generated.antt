@@ -1,11 +1,13 @@
 -- The script that is generated from two numbers: a head of 31 lines, which is always the same, and
 -- a body of so many lines, drawn by a sequence of numbers that begins with a seed. Profile.
 use Rattle.std.specs.Prelude.{ℕ, zero, suc, ◌+◌, ◌-◌, ◌*◌, ◌/◌, ◌%◌, ◌^◌, nat_eq, nat_lt, nat_le, if◌then◌else◌, List, [], ◌∷◌, ◌++◌, length, slice_index_or}
+use Rattle.aia_generate.specs.declared.body.TheConstants.{OWN_STRIDE}
 use Rattle.aia_regs.specs.declared.access.Csr.TheVariants.{Select, Reg, Topei}
 use Rattle.aia_regs.specs.declared.access.Op.{Op}
 use Rattle.aia_regs.specs.declared.access.Op.TheVariants.{Write}
 use Rattle.aia_model.specs.declared.line.Line.{Line}
 use Rattle.aia_model.specs.declared.line.Line.TheVariants.{Machine, Vm, Arrive, GuestCsr, HostCsr, Msi, Ipi, BeginLeave, BeginArrive, Step}
+use Rattle.aia_regs.specs.declared.address_map.TheConstants.{PAGE, PATTERN}
 
 -- The number after a number of the sequence.
 abbrev pub next_number : ℕ → ℕ
@@ -35,11 +37,16 @@ head_lines = Machine 2 2 63 8 ∷ Vm 2 0x38 0 ∷ Vm 2 0x38 1 ∷ []
 
 -- ---- the body
 
+-- The MSI address of virtual hart c of a VM, in the VM's own space: by the mask of the head, 8 pages
+-- lie between one and the next one, whatever lies between the files of the machine.
+abbrev pub own_address : ℕ → ℕ
+own_address c = PATTERN * PAGE + c * OWN_STRIDE
+
 -- The line of a form, 0 to 9: of virtual hart c of VM v, of hart b, with identity i. Requests of
 -- devices are twice as likely as others, and steps three times.
 abbrev pub line_of_form : ℕ → ℕ → ℕ → ℕ → ℕ → Line
 line_of_form form v c b i =
-    if nat_lt form 2 then Msi v (0x28000000 + c * 0x8000) i
+    if nat_lt form 2 then Msi v (own_address c) i
     else (if nat_eq form 2 then GuestCsr v c Topei (Write 0)
     else (if nat_eq form 3 then Ipi v c (1 - c) i
     else (if nat_eq form 4 then BeginLeave v c

@@ -4,8 +4,12 @@ ghost use Rattle.std.specs.Prelude.{◌≡◌, ◌<◌};
 ghost use Rattle.aia_generate.specs.Generated.{next_number, line_of_form, line_drawn};
 
 use aia_model::Line;
-use aia_regs::address_map::{HART_STRIDE, SUPERVISOR_FILES};
+use aia_regs::address_map::{PAGE, PATTERN};
 use aia_regs::{Csr, Op};
+
+/// The bytes from the MSI address of one virtual hart of a generated VM to the next one's: the lowest
+/// one of the mask is at bit 3.
+const OWN_STRIDE: u64 = 8 * PAGE;
 
 /// Gives the number after `x` in the sequence: one turn of a linear congruential generator, modulo
 /// 2^64.
@@ -25,7 +29,7 @@ fn line_of_form(form: u64, vm: u64, vcpu: u64, hart: u64, identity: u32) -> Line
     match form {
         0 | 1 => Line::Msi {
             vm,
-            addr: SUPERVISOR_FILES + vcpu * HART_STRIDE,
+            addr: PATTERN * PAGE + vcpu * OWN_STRIDE,
             value: identity,
         },
         2 => Line::GuestCsr {

@@ -1,5 +1,6 @@
 -- The plans of moves: which accesses each makes, in order; and what a move has made so far, by how
--- many of its steps are done. The numbers of steps stand in no other definition. Profile: all plans.
+-- many of its steps are done. The numbers of steps stand in no other definition. Profile: all
+-- plans.
 use Rattle.std.specs.Prelude.{◌≡◌, ℕ, zero, suc, ◌+◌, ◌*◌, Bool, true, false, ◌&&◌, nat_eq, nat_lt, if◌then◌else◌, List, [], ◌∷◌, ◌++◌, slice_get, Option}
 use Rattle.aia_home.specs.Home.{Home, ended, one_more}
 use Rattle.aia_home.specs.Home.Home.{Leaving, Arriving, Shifting}
@@ -202,8 +203,8 @@ pub record IsNext (words : ℕ) (there : Home) (access : Access) : Type 0 where
   pub has : has_access words there access ≡ true
   pub step : steps_done there ≡ step_of words there access
 
--- The same of an access before the first that carries a word: whether it is made already, is the next
--- one. How many words a file has does not matter to it.
+-- The same of an access before the first that carries a word: whether it is made already, is the
+-- next one. How many words a file has does not matter to it.
 abbrev pub is_early_made : Home → Access → Bool
 is_early_made there access = is_made 0 there access
 

@@ -4,11 +4,11 @@ ghost use Rattle.aia_home.specs.Vms.{Vcpu, vcpus_in, is_vcpu_in, slot_of, notice
 /// A VM: what is said of it as it is made.
 #[derive(Clone, Copy, Debug, PartialEq, Eq)]
 pub struct Vm {
-    /// How many virtual harts it has, 1 to 8.
+    /// How many virtual harts it has, at least 1.
     pub vcpus: u32,
-    /// The mask of its MSI addresses, over numbers of pages: 1 to 4 ones, all below bit 15.
+    /// The mask of its MSI addresses, over numbers of pages: the bits at its ones name one of them.
     pub mask: u64,
-    /// The hart, 0 to 3, whose supervisor file takes the notices of its virtual harts.
+    /// The hart whose supervisor file takes the notices of its virtual harts.
     pub notice_hart: u32,
 }
 

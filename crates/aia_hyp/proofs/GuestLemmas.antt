@@ -10,15 +10,16 @@ use Rattle.aia_file.specs.InterruptFile.{is_greatest_identity}
 use Rattle.aia_mrif.specs.declared.slot.Stored.{Stored}
 use Rattle.aia_mrif.specs.declared.slot.Stored.TheVariants.{Discarded, Quiet, Notice}
 use Rattle.aia_mrif.specs.Mrif.{stored}
+use Rattle.aia_regs.specs.declared.limits.TheConstants.{IDENTITIES}
 
 -- ---- a store that asks of more identities says the same of those of the file
 
-said_within_by : (o : Option ℕ) (n i : ℕ) → n ≤ 2047 → i ≤ n → cond (names (implemented 2047 o) i) Ask Nothing ≡ cond (names (implemented n o) i) Ask Nothing
+said_within_by : (o : Option ℕ) (n i : ℕ) → n ≤ IDENTITIES → i ≤ n → cond (names (implemented IDENTITIES o) i) Ask Nothing ≡ cond (names (implemented n o) i) Ask Nothing
 said_within_by None n i few low = refl
 said_within_by (Some x) n i few low =
     elim (cases_eq x i) [
-      | inl e ↦ let same : is_in_range 1 2047 x ≡ is_in_range 1 n x = in_both x i n few low e in ap (λ b. cond (names (cond b (Some x) None) i) Ask Nothing) same
-      | inr ne ↦ ap (λ b. cond b Ask Nothing) (not_named (is_in_range 1 2047 x) x i ne ∙ sym (not_named (is_in_range 1 n x) x i ne))
+      | inl e ↦ let same : is_in_range 1 IDENTITIES x ≡ is_in_range 1 n x = in_both x i n few low e in ap (λ b. cond (names (cond b (Some x) None) i) Ask Nothing) same
+      | inr ne ↦ ap (λ b. cond b Ask Nothing) (not_named (is_in_range 1 IDENTITIES x) x i ne ∙ sym (not_named (is_in_range 1 n x) x i ne))
     ]
   where
     both : (a b : Bool) → (a ≡ true → b ≡ true) → (b ≡ true → a ≡ true) → a ≡ b
@@ -26,14 +27,14 @@ said_within_by (Some x) n i few low =
     both false true f g = g refl
     both false false f g = refl
 
-    in_both : (x i n : ℕ) → n ≤ 2047 → i ≤ n → x ≡ i → is_in_range 1 2047 x ≡ is_in_range 1 n x
+    in_both : (x i n : ℕ) → n ≤ IDENTITIES → i ≤ n → x ≡ i → is_in_range 1 IDENTITIES x ≡ is_in_range 1 n x
     in_both x i n few low e = both _ _ (λ t. grind (arith, nat_tests)) (λ t. grind (arith, nat_tests))
 
     not_named : (b : Bool) (x i : ℕ) → x ≢ i → names (cond b (Some x) None) i ≡ false
     not_named true x i ne = ne_eqb x i ne
     not_named false x i ne = refl
 
-pub said_within : (n offset value i : ℕ) → n ≤ 2047 → i ≤ n → request_said 2047 offset value i ≡ request_said n offset value i
+pub said_within : (n offset value i : ℕ) → n ≤ IDENTITIES → i ≤ n → request_said IDENTITIES offset value i ≡ request_said n offset value i
 said_within n offset value i few low = said_within_by (number_written offset value) n i few low
 
 -- ---- a notice of a slot is the model's
@@ -76,8 +77,8 @@ each_size P p63 p127 p255 p511 p1023 p2047 n greatest =
           ]
     ]
 
-pub few_identities : (n : ℕ) → is_greatest_identity n ≡ true → n ≤ 2047
-few_identities n greatest = each_size (λ n. n ≤ 2047) (omega arith) (omega arith) (omega arith) (omega arith) (omega arith) (omega arith) n greatest
+pub few_identities : (n : ℕ) → is_greatest_identity n ≡ true → n ≤ IDENTITIES
+few_identities n greatest = each_size (λ n. n ≤ IDENTITIES) (omega arith) (omega arith) (omega arith) (omega arith) (omega arith) (omega arith) n greatest
 
 pub word_below : (n i : ℕ) → is_greatest_identity n ≡ true → i ≤ n → i / 64 < (n + 1) / 64
 word_below n i greatest = each_size (λ n. i ≤ n → i / 64 < (n + 1) / 64) (λ low. omega (arith, low)) (λ low. omega (arith, low)) (λ low. omega (arith, low)) (λ low. omega (arith, low)) (λ low. omega (arith, low)) (λ low. omega (arith, low)) n greatest

@@ -18,10 +18,12 @@ use Rattle.aia_model.specs.Refusal.{guards}
 use Rattle.aia_model.proofs.AnswerLemmas.{place_refusal}
 use Rattle.aia_hyp.specs.HostFiles.{host_spot, is_host_spot}
 use Rattle.aia_hyp.specs.Stands.{core_refusal}
+use Rattle.aia_regs.specs.declared.limits.TheConstants.{HARTS}
+use Rattle.aia_regs.specs.declared.address_map.TheConstants.{REGION, MACHINE_FILES, MEMORY}
 
 -- ---- pages of the host's files
 
-pub page_of_name : (i : ImsicState) (addr : ℕ) (f : FileName) → i.harts ≤ 4 → IsThere i (host_spot f) → is_at f addr ≡ true → spot_at i.harts i.guests addr ≡ host_spot f
+pub page_of_name : (i : ImsicState) (addr : ℕ) (f : FileName) → i.harts ≤ HARTS → IsThere i (host_spot f) → is_at f addr ≡ true → spot_at i.harts i.guests addr ≡ host_spot f
 page_of_name i addr (MachineFile hart) few inside here = spot_of_machine i.harts i.guests addr hart inside here
 page_of_name i addr (SupervisorFile hart) few inside here = spot_of_host i.harts i.guests addr hart few inside here
 
@@ -30,7 +32,7 @@ name_at_page i addr (MachineFile hart) e = (machine_of_spot i.harts i.guests add
 name_at_page i addr (SupervisorFile hart) e = (host_of_spot i.harts i.guests addr hart e).1
 
 -- the address is in no page of another file that is there
-pub elsewhere : (i : ImsicState) (addr : ℕ) (spot : Spot) (g : FileName) → i.harts ≤ 4 → spot ≡ spot_at i.harts i.guests addr → IsThere i (host_spot g) → host_spot g ≢ spot → is_at g addr ≡ false
+pub elsewhere : (i : ImsicState) (addr : ℕ) (spot : Spot) (g : FileName) → i.harts ≤ HARTS → spot ≡ spot_at i.harts i.guests addr → IsThere i (host_spot g) → host_spot g ≢ spot → is_at g addr ≡ false
 elsewhere i addr spot g few at inside other = elim (cases_Bool (is_at g addr)) [
   | inl here ↦ absurd (other (sym (at ∙ page_of_name i addr g few inside here)))
   | inr e ↦ e
@@ -38,7 +40,7 @@ elsewhere i addr spot g few at inside other = elim (cases_Bool (is_at g addr)) [
 
 -- ---- control regions, which lie before all pages
 
-past_region : (base addr : ℕ) → base + 0x8000 ≤ addr → is_in_region base addr ≡ false
+past_region : (base addr : ℕ) → base + REGION ≤ addr → is_in_region base addr ≡ false
 past_region base addr past = grind (arith, nat_tests)
 
 past_regions : (addr : ℕ) → 0x0c010000 ≤ addr → domain_at addr ≡ None
@@ -49,7 +51,7 @@ past_regions addr past =
 region_below : (addr : ℕ) → domain_at addr ≢ None → addr < 0x0c010000
 region_below addr there = elim (cases_lt addr 0x0c010000) [ inl low ↦ low | inr past ↦ absurd (there (past_regions addr past)) ]
 
-page_past : (f : FileName) (addr : ℕ) → is_at f addr ≡ true → 0x24000000 ≤ addr
+page_past : (f : FileName) (addr : ℕ) → is_at f addr ≡ true → MACHINE_FILES ≤ addr
 page_past (MachineFile hart) addr here = let from = from_page (machine_page hart) addr here in omega arith
 page_past (SupervisorFile hart) addr here = let from = from_page (supervisor_page hart) addr here in omega arith
 
@@ -61,10 +63,10 @@ no_file_there addr f there = elim (cases_Bool (is_at f addr)) [
 
 -- ---- memory, which lies past all pages
 
-not_in_memory : (addr : ℕ) → addr < 0x80000000 → is_in_memory addr ≡ false
+not_in_memory : (addr : ℕ) → addr < MEMORY → is_in_memory addr ≡ false
 not_in_memory addr low = grind (arith, nat_tests)
 
-page_below : (i : ImsicState) (addr : ℕ) (spot : Spot) → i.harts ≤ 4 → spot ≡ spot_at i.harts i.guests addr → is_host_spot spot ≡ true → addr < 0x80000000
+page_below : (i : ImsicState) (addr : ℕ) (spot : Spot) → i.harts ≤ HARTS → spot ≡ spot_at i.harts i.guests addr → is_host_spot spot ≡ true → addr < MEMORY
 page_below i addr (spots.MachineFile hart) few at host =
     let there = machine_of_spot i.harts i.guests addr hart (sym at) in let below = to_page (machine_page hart) addr there.1 in omega (arith, there.0)
 page_below i addr (spots.HostFile hart) few at host =
@@ -98,7 +100,7 @@ is_outside i addr free = by_domain (domain_at addr) refl
         let bad : ◌≡◌ {A = Option Refusal} None (Some Fault) = free ∙ in_a_region i addr (λ n. let no : ◌≡◌ {A = Option DomainName} (Some d) None = sym e ∙ n in absurd (cc)) in absurd (cc)
 
 -- a file of the host may be loaded from and stored to at every aligned address of its page
-pub host_is_free : (i : ImsicState) (addr : ℕ) (spot : Spot) → i.harts ≤ 4 → spot ≡ spot_at i.harts i.guests addr → is_host_spot spot ≡ true → addr % 4 ≡ 0 → ◌≡◌ {A = Option Refusal} None (core_refusal (spot_at i.harts i.guests addr) addr)
+pub host_is_free : (i : ImsicState) (addr : ℕ) (spot : Spot) → i.harts ≤ HARTS → spot ≡ spot_at i.harts i.guests addr → is_host_spot spot ≡ true → addr % 4 ≡ 0 → ◌≡◌ {A = Option Refusal} None (core_refusal (spot_at i.harts i.guests addr) addr)
 host_is_free i addr spot few at host aligned =
     sym (ap (λ s. core_refusal s addr) (sym at) ∙ free spot host)
   where

@@ -48,6 +48,7 @@ use Rattle.aia_hyp.proofs.VcpuLemmas.{IsHeld, IsStill, plan_stays, majors_rest}
 use Rattle.aia_hyp.proofs.EventLemmas.{as_it_was, taken, refused}
 use Rattle.aia_hyp.proofs.GuestStores.{slot_few}
 use Rattle.aia_hyp.proofs.MoveChanges.{IsMoveOf, MoveChanges, file_rests, select_rests, held_as, moved_on}
+use Rattle.aia_regs.specs.declared.limits.TheConstants.{HARTS, SLOTS}
 
 -- It is one virtual hart's alone, as an event of its move is.
 refetch_of : (h : History) (vm number : ℕ) → IsMoveOf h (Accepted (Refetch vm number)) (vcpu vm number)
@@ -97,10 +98,10 @@ module _ (x y : CoreState) (h : History) (vm number : ℕ) (c : IsRefetch x y vm
     next = λ p e. let at = stands.held g p inside (next_is_held (home h g) p e) in (omega (arith, at.0, c.whole.harts), omega (arith, at.2, c.whole.guests), at.1);
   }
 
-  low_slot : slot_of (vms_of h) g < 16
-  low_slot = subst (λ (vs : List Vm). slot_of vs g < 16) stands.vms (slot_few x h g stands c.whole inside)
+  low_slot : slot_of (vms_of h) g < SLOTS
+  low_slot = subst (λ (vs : List Vm). slot_of vs g < SLOTS) stands.vms (slot_few x h g stands c.whole inside)
 
-  low_hart : notice_hart (vms_of h) g < 4
+  low_hart : notice_hart (vms_of h) g < HARTS
   low_hart =
       let at : notice_hart x.world.vms g < x.world.imsic.harts = notice_hart_there x.world g c.whole c.there in
       let here : notice_hart x.world.vms g ≡ notice_hart (vms_of h) g = ap (λ vms. notice_hart vms g) stands.vms in

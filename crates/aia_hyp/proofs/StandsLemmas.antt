@@ -7,7 +7,7 @@ use Rattle.std.proofs.lemmas.Nat.Bits.{bit_at-zero}
 use Rattle.std.proofs.lemmas.List.{length-replicate}
 use Rattle.aia_word.specs.Sets.{has_bit}
 use Rattle.aia_home.proofs.VmLemmas.{numbered}
-use Rattle.aia_regs.specs.declared.limits.TheConstants.{VCPUS}
+use Rattle.aia_regs.specs.declared.limits.TheConstants.{HARTS, IDENTITIES, VCPUS, MEMORY_WORDS}
 use Rattle.aia_file.specs.InterruptFile.{empty_file}
 use Rattle.aia_file.specs.FileState.{FileState, shown}
 use Rattle.aia_file.proofs.FileLemmas.{same_file}
@@ -37,8 +37,8 @@ use Rattle.aia_model.specs.FileAfter.{select_after, file_after}
 use Rattle.aia_model.specs.FileAfter.FileDeed.{Rests}
 use Rattle.aia_model.specs.MajorOf.{majors_of}
 use Rattle.aia_model.specs.Flight.{flight}
-use Rattle.aia_model.specs.ReachOf.{NoneAtFence, SendsToOne}
-use Rattle.aia_model.proofs.FlightLemmas.{flights_on, sent_on, none_flies, none_for_one}
+use Rattle.aia_model.specs.ReachOf.{NoneAtFence}
+use Rattle.aia_model.proofs.FlightLemmas.{SendsToOne, flights_on, sent_on, none_flies, none_for_one}
 use Rattle.aia_model.specs.HomeOf.{home, moved}
 use Rattle.aia_model.specs.GuestFile.{guest_deed, guest_select, guest_file}
 use Rattle.aia_model.specs.Notice.{noticed, with_notice, notices_sent}
@@ -217,8 +217,8 @@ zero_at zero p = refl
 zero_at (suc n) zero = refl
 zero_at (suc n) (suc p) = zero_at n p
 
-no_selects : (x : CoreState) (f : FileName) → x.selects ≡ replicate 8 0 → select_in x f ≡ 0
-no_selects x f zeros = ap (λ xs. get_or xs (select_place f) 0) zeros ∙ zero_at 8 (select_place f)
+no_selects : (x : CoreState) (f : FileName) → x.selects ≡ replicate (2 * HARTS) 0 → select_in x f ≡ 0
+no_selects x f zeros = ap (λ xs. get_or xs (select_place f) 0) zeros ∙ zero_at (2 * HARTS) (select_place f)
 
 no_bit : (b : Bool) (n p k : ℕ) → (b && has_bit (get_or (replicate n 0) p 0) k) ≡ false
 no_bit false n p k = refl
@@ -262,10 +262,10 @@ no_majors_yet : (g : Vcpu) → majors_of [] g ≡ new_majors
 unfolding majors_of
 no_majors_yet g = refl
 
-pub begun : (x : CoreState) (harts guests n sources : ℕ) → IsNew x.world harts guests n → x.leases ≡ record { harts = harts; guests = guests; out = replicate (harts * guests) false } → x.vcpus ≡ [] → x.selects ≡ replicate 8 0 → CoreStands x (Accepted (Machine harts guests n sources) ∷ [])
+pub begun : (x : CoreState) (harts guests n sources : ℕ) → IsNew x.world harts guests n → x.leases ≡ record { harts = harts; guests = guests; out = replicate (harts * guests) false } → x.vcpus ≡ [] → x.selects ≡ replicate (2 * HARTS) 0 → CoreStands x (Accepted (Machine harts guests n sources) ∷ [])
 begun x harts guests n sources new leases vcpus selects =
     let event = Accepted (Machine harts guests n sources) in
-    let memory : x.world.memory ≡ replicate 0xc00 0 = ap (λ (w : World). w.memory) new.world in
+    let memory : x.world.memory ≡ replicate MEMORY_WORDS 0 = ap (λ (w : World). w.memory) new.world in
     record {
       there = refl;
       harts = new.hart_count;
@@ -289,8 +289,8 @@ begun x harts guests n sources new leases vcpus selects =
       no_vcpu = λ g outside. (file_by_step (guest_deed g) event [], select_is event [] g, home_step event [] g ∙ home_nowhere g, majors_is event [] g ∙ no_majors_yet g);
       no_entry = λ g inside outside. absurd (none_below_0 g.vm inside);
       no_slot = λ q past few. (
-        λ i. rw (memory) (no_bit (nat_le i 2047) 0xc00 (pending_place q (i / 64)) (i % 64)),
-        λ i. rw (memory) (no_bit (nat_le i 2047) 0xc00 (enable_place q (i / 64)) (i % 64)),
-        ap (λ (w : World). get_or w.stages q no_stage) new.world ∙ no_stage_at 16 q,
+        λ i. rw (memory) (no_bit (nat_le i IDENTITIES) MEMORY_WORDS (pending_place q (i / 64)) (i % 64)),
+        λ i. rw (memory) (no_bit (nat_le i IDENTITIES) MEMORY_WORDS (enable_place q (i / 64)) (i % 64)),
+        ap (λ (w : World). get_or w.stages q no_stage) new.world ∙ no_stage_at VCPUS q,
       );
     }

@@ -3,7 +3,7 @@
 use Rattle.std.specs.Prelude.{ℕ, ◌-◌, true, false, List, [], ◌∷◌, ◌++◌, replicate, Some, None, zero, suc}
 use Rattle.aia_home.specs.Plans.Access.{PutPending}
 use Rattle.aia_home.specs.Plans.{leave_step}
-use Rattle.aia_regs.specs.declared.limits.TheConstants.{VCPUS, ENTRIES}
+use Rattle.aia_regs.specs.declared.limits.TheConstants.{HARTS, VCPUS, ENTRIES, WORDS_OF_SLOTS, MEMORY_WORDS}
 use Rattle.aia_regs.specs.declared.access.Csr.{Csr}
 use Rattle.aia_regs.specs.declared.access.Csr.TheVariants.{Select, Reg}
 use Rattle.aia_regs.specs.declared.access.Op.TheVariants.{Write}
@@ -120,7 +120,7 @@ entry_words = entry_word 0 (Some stayer_file) ∷ second_word 0 0
 
 -- Memory: the slots, which are empty, the two entries, and 0 after them.
 abbrev pub example_memory : List ℕ
-example_memory = replicate 1024 0 ++ entry_words ++ replicate 2044 0
+example_memory = replicate WORDS_OF_SLOTS 0 ++ entry_words ++ replicate (MEMORY_WORDS - WORDS_OF_SLOTS - length entry_words) 0
 
 -- The VM's table, with both entries in force as they are written.
 abbrev pub example_table : TableState
@@ -163,5 +163,5 @@ leaving_core = record {
         select = 0xc0;
         majors = kept_at_first;
       } ∷ [];
-  selects = replicate 8 0;
+  selects = replicate (2 * HARTS) 0;
 }

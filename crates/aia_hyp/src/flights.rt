@@ -11,9 +11,9 @@ use aia_regs::limits::STORES_IN_FLIGHT;
 impl Hyp {
     /// Sends a 32-bit store of a device of a VM at an address: it is in flight from now on, to the
     /// place to which the entry in force leads it, and asks for nothing until it lands. `Err` is
-    /// `Range` where the VM doesn't stand, `Full` where 8 stores of it are in flight, `Fault` where
-    /// the address is no multiple of 4, `Other` where it is no MSI address of the VM, `NotValid`
-    /// where it names no virtual hart; nothing is changed then.
+    /// `Range` where the VM doesn't stand, `Full` where `STORES_IN_FLIGHT` stores of it are in
+    /// flight, `Fault` where the address is no multiple of 4, `Other` where it is no MSI address of
+    /// the VM, `NotValid` where it names no virtual hart; nothing is changed then.
     ///
     /// AIA 1.0, IOMMU Support for MSIs to Virtual Machines. Profile: how many may be in flight.
     pub fn send(&mut self, vm: u64, addr: u64, value: u32) -> Result<(), Refusal>

@@ -31,7 +31,7 @@ use aia_fabric::Fabric;
 use aia_imsic::Spot;
 use aia_model::{Msi, Refusal};
 use aia_pool::Pool;
-use aia_regs::address_map::{MEMORY, MEMORY_END, PAGE};
+use aia_regs::address_map::{is_in_memory, PAGE};
 use aia_regs::limits::{GUEST_FILES, HARTS, VCPUS, VM_VCPUS, VMS};
 use aia_regs::{Csr, FileReg, Level, Op};
 use std::alloc::{AllocError, Global};
@@ -79,10 +79,10 @@ impl Model for Hyp {
 }
 
 impl Hyp {
-    /// Makes the core of a machine of `harts` harts, 1 to 4, with `guests` guest files each, 0 to
-    /// 7, and the identities 1 to `n`, which is 63, 127, 255, 511, 1023 or 2047: every file is
-    /// empty, memory and every select number are 0, and no VM stands. `Err` is want of memory; no
-    /// other call takes any.
+    /// Makes the core of a machine of `harts` harts, 1 to `HARTS`, with `guests` guest files each,
+    /// 0 to `GUEST_FILES`, and the identities 1 to `n`, which is 63, 127, 255, 511, 1023 or 2047:
+    /// every file is empty, memory and every select number are 0, and no VM stands. `Err` is want
+    /// of memory; no other call takes any.
     pub fn new(alloc: Global, harts: u32, guests: u32, n: u32) -> Result<Hyp, AllocError>
         requires some { 1 ≤ harts }
         requires few { harts ≤ HARTS }
@@ -215,10 +215,10 @@ impl Hyp {
 
     /// Makes the next VM, of `vcpus` virtual harts, with `mask` over the page numbers of its MSI
     /// addresses; its notices go to the supervisor file of hart `hart`. Its virtual harts are
-    /// parked, their interrupts in memory. `Err` is `Range` where the mask does not have 1 to 4
-    /// ones, all below bit 15, where `vcpus` is not from 1 to 2^k for a mask of k ones, or where
-    /// the hart isn't there; `Full` where 4 VMs stand, `vcpus` is above 8, or all VMs would have
-    /// more than 16 virtual harts; nothing is changed then.
+    /// parked, their interrupts in memory. `Err` is `Range` where the mask does not have 1 to
+    /// `MASK_ONES` ones, all below bit `MASK_BITS`, where `vcpus` is not from 1 to 2^k for a mask
+    /// of k ones, or where the hart isn't there; `Full` where `VMS` VMs stand, `vcpus` is above
+    /// `VM_VCPUS`, or all VMs would have more than `VCPUS` virtual harts; nothing is changed then.
     ///
     /// AIA 1.0, IOMMU Support for MSIs to Virtual Machines.
     pub fn vm(&mut self, vcpus: u64, mask: u64, hart: u64) -> Result<(), Refusal>
@@ -421,11 +421,4 @@ pub(crate) fn claim_or_read(fabric: &mut Fabric, spot: Spot, op: Op) -> u64
     } else {
         fabric.file(spot).top()
     }
-}
-
-/// Tells whether an address lies in memory.
-fn is_in_memory(addr: u64) -> bool
-    ensures { result ≡ is_in_memory addr }
-{
-    MEMORY <= addr && addr < MEMORY_END
 }

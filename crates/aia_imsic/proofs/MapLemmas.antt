@@ -8,30 +8,32 @@ use Rattle.aia_regs.specs.AddressMap.{machine_page, supervisor_page, guest_page,
 use Rattle.aia_imsic.specs.declared.spot.Spot.{Spot}
 use Rattle.aia_imsic.specs.declared.spot.Spot.TheVariants.{MachineFile, HostFile, GuestFile, Nowhere}
 use Rattle.aia_imsic.specs.Map.{machine_file_at, supervisor_file_at, guest_file_at, guest_hart_at, guest_spot_of, spot_at}
+use Rattle.aia_regs.specs.declared.limits.TheConstants.{HARTS, GUEST_FILES}
+use Rattle.aia_regs.specs.declared.address_map.TheConstants.{MACHINE_FILES, SUPERVISOR_FILES, HART_STRIDE, PAGE}
 
 -- ---- pages
 
-pub in_page : (page addr : ℕ) → page ≤ addr → addr < page + 0x1000 → is_in_page page addr ≡ true
+pub in_page : (page addr : ℕ) → page ≤ addr → addr < page + PAGE → is_in_page page addr ≡ true
 in_page page addr low high = grind (arith, nat_tests)
 
 pub before_page : (page addr : ℕ) → addr < page → is_in_page page addr ≡ false
 before_page page addr low = grind (arith, nat_tests)
 
-pub after_page : (page addr : ℕ) → page + 0x1000 ≤ addr → is_in_page page addr ≡ false
+pub after_page : (page addr : ℕ) → page + PAGE ≤ addr → is_in_page page addr ≡ false
 after_page page addr high = grind (arith, nat_tests)
 
 pub from_page : (page addr : ℕ) → is_in_page page addr ≡ true → page ≤ addr
 from_page page addr here = grind (arith, nat_tests)
 
-pub to_page : (page addr : ℕ) → is_in_page page addr ≡ true → addr < page + 0x1000
+pub to_page : (page addr : ℕ) → is_in_page page addr ≡ true → addr < page + PAGE
 to_page page addr here = grind (arith, nat_tests)
 
 -- ---- which harts and guest files
 
-no_machine : (harts addr : ℕ) → harts ≤ 4 → 0x24000000 + harts * 0x1000 ≤ addr → machine_file_at harts addr ≡ None
+no_machine : (harts addr : ℕ) → harts ≤ HARTS → MACHINE_FILES + harts * PAGE ≤ addr → machine_file_at harts addr ≡ None
 no_machine harts addr few high = least_of-none (λ hart. is_in_page (machine_page hart) addr) 0 harts (λ j a b. after_page (machine_page j) addr (omega arith))
 
-no_machine_below : (harts addr : ℕ) → addr < 0x24000000 → machine_file_at harts addr ≡ None
+no_machine_below : (harts addr : ℕ) → addr < MACHINE_FILES → machine_file_at harts addr ≡ None
 no_machine_below harts addr low = least_of-none (λ hart. is_in_page (machine_page hart) addr) 0 harts (λ j a b. before_page (machine_page j) addr (omega arith))
 
 the_machine : (harts addr hart : ℕ) → hart < harts → is_in_page (machine_page hart) addr ≡ true → machine_file_at harts addr ≡ Some hart
@@ -58,15 +60,15 @@ the_guest_file guests hart addr file some few here =
 no_guest_hart : (harts guests addr : ℕ) → ((hart file : ℕ) → hart < harts → 1 ≤ file → file ≤ guests → is_in_page (guest_page hart file) addr ≡ false) → guest_hart_at harts guests addr ≡ None
 no_guest_hart harts guests addr none = least_of-none (λ hart. is_some (guest_file_at guests hart addr)) 0 harts (λ j a b. ap is_some (no_guest_file guests j addr (λ file c d. none j file (omega arith) c d)))
 
-the_guest_hart : (harts guests addr hart file : ℕ) → guests ≤ 7 → hart < harts → 1 ≤ file → file ≤ guests → is_in_page (guest_page hart file) addr ≡ true → guest_hart_at harts guests addr ≡ Some hart
-the_guest_hart harts guests addr hart file eight there some few here =
+the_guest_hart : (harts guests addr hart file : ℕ) → guests ≤ GUEST_FILES → hart < harts → 1 ≤ file → file ≤ guests → is_in_page (guest_page hart file) addr ≡ true → guest_hart_at harts guests addr ≡ Some hart
+the_guest_hart harts guests addr hart file fewer there some few here =
     let low = from_page (guest_page hart file) addr here in
     least_of-found (λ x. is_some (guest_file_at guests x addr)) 0 harts hart (omega arith) (omega arith) (ap is_some (the_guest_file guests hart addr file some few here))
     (λ j a b. ap is_some (no_guest_file guests j addr (λ x c d. after_page (guest_page j x) addr (omega arith))))
 
 -- ---- which file
 
-guest_is_not_host : (hart file x addr : ℕ) → 1 ≤ file → file ≤ 7 → is_in_page (guest_page hart file) addr ≡ true → is_in_page (supervisor_page x) addr ≡ false
+guest_is_not_host : (hart file x addr : ℕ) → 1 ≤ file → file ≤ GUEST_FILES → is_in_page (guest_page hart file) addr ≡ true → is_in_page (supervisor_page x) addr ≡ false
 guest_is_not_host hart file x addr some few here =
     let low = from_page (guest_page hart file) addr here in
     let high = to_page (guest_page hart file) addr here in
@@ -87,16 +89,16 @@ by_parts harts guests addr machine host guest_hart m s g = rw (m, s, g)
 pub spot_of_machine : (harts guests addr hart : ℕ) → hart < harts → is_in_page (machine_page hart) addr ≡ true → spot_at harts guests addr ≡ MachineFile hart
 spot_of_machine harts guests addr hart there here = by_parts harts guests addr (Some hart) _ _ (the_machine harts addr hart there here) refl refl
 
-pub spot_of_host : (harts guests addr hart : ℕ) → harts ≤ 4 → hart < harts → is_in_page (supervisor_page hart) addr ≡ true → spot_at harts guests addr ≡ HostFile hart
+pub spot_of_host : (harts guests addr hart : ℕ) → harts ≤ HARTS → hart < harts → is_in_page (supervisor_page hart) addr ≡ true → spot_at harts guests addr ≡ HostFile hart
 spot_of_host harts guests addr hart few there here =
     let low = from_page (supervisor_page hart) addr here in
     by_parts harts guests addr None (Some hart) _ (no_machine harts addr few (omega arith)) (the_supervisor harts addr hart there here) refl
 
-pub spot_of_guest : (harts guests addr hart file : ℕ) → harts ≤ 4 → guests ≤ 7 → hart < harts → 1 ≤ file → file ≤ guests → is_in_page (guest_page hart file) addr ≡ true → spot_at harts guests addr ≡ GuestFile hart file
-spot_of_guest harts guests addr hart file few eight there some below here =
+pub spot_of_guest : (harts guests addr hart file : ℕ) → harts ≤ HARTS → guests ≤ GUEST_FILES → hart < harts → 1 ≤ file → file ≤ guests → is_in_page (guest_page hart file) addr ≡ true → spot_at harts guests addr ≡ GuestFile hart file
+spot_of_guest harts guests addr hart file few fewer there some below here =
     let low = from_page (guest_page hart file) addr here in
     by_parts harts guests addr None None (Some hart) (no_machine harts addr few (omega arith))
-    (no_supervisor harts addr (λ x c. guest_is_not_host hart file x addr some (omega arith) here)) (the_guest_hart harts guests addr hart file eight there some below here)
+    (no_supervisor harts addr (λ x c. guest_is_not_host hart file x addr some (omega arith) here)) (the_guest_hart harts guests addr hart file fewer there some below here)
     ∙ ap (λ file. option_map_or (GuestFile hart) file Nowhere) (the_guest_file guests hart addr file some below here)
 
 pub spot_of_none : (harts guests addr : ℕ) → machine_file_at harts addr ≡ None → ((hart : ℕ) → hart < harts → is_in_page (supervisor_page hart) addr ≡ false)
@@ -155,48 +157,48 @@ guest_of_spot harts guests addr hart file e =
 
 -- ---- by arithmetic, as `locate` has it
 
-pub below_all : (harts guests addr : ℕ) → addr < 0x24000000 → spot_at harts guests addr ≡ Nowhere
+pub below_all : (harts guests addr : ℕ) → addr < MACHINE_FILES → spot_at harts guests addr ≡ Nowhere
 below_all harts guests addr low = spot_of_none harts guests addr (no_machine_below harts addr low)
     (λ hart a. before_page (supervisor_page hart) addr (omega arith)) (λ hart file a b c. before_page (guest_page hart file) addr (omega arith))
 
-pub past_machines : (harts guests addr hart : ℕ) → hart ≡ (addr - 0x24000000) / 0x1000 → 0x24000000 ≤ addr → addr < 0x28000000 → harts ≤ hart → spot_at harts guests addr ≡ Nowhere
+pub past_machines : (harts guests addr hart : ℕ) → hart ≡ (addr - MACHINE_FILES) / PAGE → MACHINE_FILES ≤ addr → addr < SUPERVISOR_FILES → harts ≤ hart → spot_at harts guests addr ≡ Nowhere
 past_machines harts guests addr hart e low high past = spot_of_none harts guests addr
     (least_of-none (λ x. is_in_page (machine_page x) addr) 0 harts (λ j a b. after_page (machine_page j) addr (omega arith)))
     (λ x a. before_page (supervisor_page x) addr (omega arith)) (λ x file a b c. before_page (guest_page x file) addr (omega arith))
 
-pub at_machine : (harts guests addr hart : ℕ) → hart ≡ (addr - 0x24000000) / 0x1000 → 0x24000000 ≤ addr → hart < harts → spot_at harts guests addr ≡ MachineFile hart
+pub at_machine : (harts guests addr hart : ℕ) → hart ≡ (addr - MACHINE_FILES) / PAGE → MACHINE_FILES ≤ addr → hart < harts → spot_at harts guests addr ≡ MachineFile hart
 at_machine harts guests addr hart e low there = spot_of_machine harts guests addr hart there (in_page (machine_page hart) addr (omega arith) (omega arith))
 
-pub past_hosts : (harts guests addr hart : ℕ) → harts ≤ 4 → guests ≤ 7 → hart ≡ (addr - 0x28000000) / 0x8000 → 0x28000000 ≤ addr → harts ≤ hart → spot_at harts guests addr ≡ Nowhere
-past_hosts harts guests addr hart few eight e low past = spot_of_none harts guests addr (no_machine harts addr few (omega arith))
+pub past_hosts : (harts guests addr hart : ℕ) → harts ≤ HARTS → guests ≤ GUEST_FILES → hart ≡ (addr - SUPERVISOR_FILES) / HART_STRIDE → SUPERVISOR_FILES ≤ addr → harts ≤ hart → spot_at harts guests addr ≡ Nowhere
+past_hosts harts guests addr hart few fewer e low past = spot_of_none harts guests addr (no_machine harts addr few (omega arith))
     (λ x a. after_page (supervisor_page x) addr (omega arith)) (λ x file a b c. after_page (guest_page x file) addr (omega arith))
 
-pub at_host : (harts guests addr hart file : ℕ) → harts ≤ 4 → hart ≡ (addr - 0x28000000) / 0x8000 → file ≡ (addr - 0x28000000) % 0x8000 / 0x1000 → 0x28000000 ≤ addr → hart < harts → file ≡ 0 → spot_at harts guests addr ≡ HostFile hart
+pub at_host : (harts guests addr hart file : ℕ) → harts ≤ HARTS → hart ≡ (addr - SUPERVISOR_FILES) / HART_STRIDE → file ≡ (addr - SUPERVISOR_FILES) % HART_STRIDE / PAGE → SUPERVISOR_FILES ≤ addr → hart < harts → file ≡ 0 → spot_at harts guests addr ≡ HostFile hart
 at_host harts guests addr hart file few e f low there none = spot_of_host harts guests addr hart few there (in_page (supervisor_page hart) addr (omega arith) (omega arith))
 
-pub at_guest : (harts guests addr hart file : ℕ) → harts ≤ 4 → guests ≤ 7 → hart ≡ (addr - 0x28000000) / 0x8000 → file ≡ (addr - 0x28000000) % 0x8000 / 0x1000 → 0x28000000 ≤ addr → hart < harts → file ≢ 0 → file ≤ guests → spot_at harts guests addr ≡ GuestFile hart file
-at_guest harts guests addr hart file few eight e f low there some below =
-    spot_of_guest harts guests addr hart file few eight there (omega arith) below (in_page (guest_page hart file) addr (omega arith) (omega arith))
+pub at_guest : (harts guests addr hart file : ℕ) → harts ≤ HARTS → guests ≤ GUEST_FILES → hart ≡ (addr - SUPERVISOR_FILES) / HART_STRIDE → file ≡ (addr - SUPERVISOR_FILES) % HART_STRIDE / PAGE → SUPERVISOR_FILES ≤ addr → hart < harts → file ≢ 0 → file ≤ guests → spot_at harts guests addr ≡ GuestFile hart file
+at_guest harts guests addr hart file few fewer e f low there some below =
+    spot_of_guest harts guests addr hart file few fewer there (omega arith) below (in_page (guest_page hart file) addr (omega arith) (omega arith))
 
-pub past_guests : (harts guests addr hart file : ℕ) → harts ≤ 4 → guests ≤ 7 → hart ≡ (addr - 0x28000000) / 0x8000 → file ≡ (addr - 0x28000000) % 0x8000 / 0x1000 → 0x28000000 ≤ addr → file ≢ 0 → guests < file → spot_at harts guests addr ≡ Nowhere
-past_guests harts guests addr hart file few eight e f low some past = spot_of_none harts guests addr (no_machine harts addr few (omega arith))
+pub past_guests : (harts guests addr hart file : ℕ) → harts ≤ HARTS → guests ≤ GUEST_FILES → hart ≡ (addr - SUPERVISOR_FILES) / HART_STRIDE → file ≡ (addr - SUPERVISOR_FILES) % HART_STRIDE / PAGE → SUPERVISOR_FILES ≤ addr → file ≢ 0 → guests < file → spot_at harts guests addr ≡ Nowhere
+past_guests harts guests addr hart file few fewer e f low some past = spot_of_none harts guests addr (no_machine harts addr few (omega arith))
     (λ x a. other_host x)
     (λ x y a b c. other_guest x y c)
   where
-    lower : hart * 0x8000 + file * 0x1000 + 0x28000000 ≤ addr
+    lower : hart * HART_STRIDE + file * PAGE + SUPERVISOR_FILES ≤ addr
     lower = omega arith
 
-    upper : addr < hart * 0x8000 + file * 0x1000 + 0x28001000
+    upper : addr < hart * HART_STRIDE + file * PAGE + SUPERVISOR_FILES + PAGE
     upper = omega arith
 
-    seven : file ≤ 7
-    seven = omega arith
+    numbered : file ≤ GUEST_FILES
+    numbered = omega arith
 
     other_host : (x : ℕ) → is_in_page (supervisor_page x) addr ≡ false
-    other_host x = guest_is_not_host hart file x addr (omega arith) seven (in_page (guest_page hart file) addr (omega (arith, lower)) (omega (arith, upper)))
+    other_host x = guest_is_not_host hart file x addr (omega arith) numbered (in_page (guest_page hart file) addr (omega (arith, lower)) (omega (arith, upper)))
 
     other_guest : (x y : ℕ) → y ≤ guests → is_in_page (guest_page x y) addr ≡ false
     other_guest x y c = elim (cases_lt hart x) [
-      | inl less ↦ before_page (guest_page x y) addr (omega (arith, upper, seven))
+      | inl less ↦ before_page (guest_page x y) addr (omega (arith, upper, numbered))
       | inr more ↦ after_page (guest_page x y) addr (omega (arith, lower, past))
     ]

@@ -40,7 +40,8 @@ impl Model for Imsic {
 }
 
 impl Imsic {
-    /// Makes the empty files of `harts` harts, 1 to 4, each with `guests` guest files, 0 to 7;
+    /// Makes the empty files of `harts` harts, 1 to `HARTS`, each with `guests` guest files, up to
+    /// `GUEST_FILES`;
     /// every file has the identities 1 to `n`, which is 63, 127, 255, 511, 1023 or 2047. `Err`:
     /// there is no memory for them.
     pub fn new(alloc: Global, harts: u32, guests: u32, n: u32) -> Result<Imsic, AllocError>
@@ -61,7 +62,7 @@ impl Imsic {
         })
     }
 
-    /// Tells how many harts there are, 1 to 4.
+    /// Tells how many harts there are, 1 to `HARTS`.
     pub fn harts(&self) -> u32
         ensures value { result ≡ self.now.harts }
         ensures few { result ≤ HARTS }
@@ -69,7 +70,7 @@ impl Imsic {
         self.harts
     }
 
-    /// Tells how many guest files each hart has, 0 to 7.
+    /// Tells how many guest files each hart has, 0 to `GUEST_FILES`.
     pub fn guests(&self) -> u32
         ensures value { result ≡ self.now.guests }
         ensures few { result ≤ GUEST_FILES }

@@ -19,6 +19,7 @@ use Rattle.aia_model.specs.GuestFile.{sent_to}
 use Rattle.aia_isolation.specs.Said.{Said, said_by, landing_said}
 use Rattle.aia_isolation.specs.Said.Said.{Asked}
 use Rattle.aia_isolation.specs.Replies.{sets_up, is_of_flight}
+use Rattle.aia_regs.specs.declared.address_map.TheConstants.{PAGE}
 
 -- ---- the machine and the VMs
 
@@ -125,7 +126,7 @@ left_for v event h quiet still = (left_setup event h quiet, left_flight v event 
 
 abbrev said_of_msi : Vcpu → ℕ → ℕ → ℕ → Option Shape → List Vm → Option Said
 said_of_msi g vm addr value machine vms =
-    if is_vcpu g (vcpu vm (file_number (vm_in vms vm).mask addr)) then option_map Asked (requested (option_map_or (λ (m : Shape). m.n) machine 0) (addr % 0x1000) value) else None
+    if is_vcpu g (vcpu vm (file_number (vm_in vms vm).mask addr)) then option_map Asked (requested (option_map_or (λ (m : Shape). m.n) machine 0) (addr % PAGE) value) else None
 
 abbrev said_of_peer : Vcpu → ℕ → ℕ → ℕ → Option Shape → Option Said
 said_of_peer g vm to value machine =
@@ -134,7 +135,7 @@ said_of_peer g vm to value machine =
 abbrev said_of_landing : Vcpu → Option Shape → Option Seen → Option Said
 said_of_landing g machine None = None
 said_of_landing g machine (Some s) =
-    if is_vcpu g s.to then option_map Asked (requested (option_map_or (λ (m : Shape). m.n) machine 0) (s.addr % 0x1000) s.value) else None
+    if is_vcpu g s.to then option_map Asked (requested (option_map_or (λ (m : Shape). m.n) machine 0) (s.addr % PAGE) s.value) else None
 
 landing_by : (h : History) (g : Vcpu) (vm : ℕ) (o : Option Sending) → landing_said g h vm o ≡ said_of_landing g (machine_of h) (option_map (seen_of vm) o)
 landing_by h g vm None = refl

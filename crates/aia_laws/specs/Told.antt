@@ -66,8 +66,8 @@ abbrev pub names_vcpu : Option Vcpu → Vcpu → Bool
 names_vcpu None g = false
 names_vcpu (Some x) g = is_vcpu g x
 
--- Whether a notice for a virtual hart was sent no earlier than that: by the newest such event, or by
--- a later one.
+-- Whether a notice for a virtual hart was sent no earlier than that: by the newest such event, or
+-- by a later one.
 unfoldable pub noticed_since : History → Vcpu → ℕ → Bool
 noticed_since [] g i = false
 noticed_since (event ∷ past) g i = names_vcpu (noticed past event) g

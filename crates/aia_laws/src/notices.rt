@@ -13,8 +13,8 @@ ghost use Rattle.aia_laws.specs.Told.{is_deliverable, notice_file, notice_number
 /// No notice is lost. After every history whose events may happen, in whatever order lines and the
 /// steps of moves come, while a virtual hart is parked and an identity is pending and enabled at
 /// it, a notice for it was sent no earlier than the newest request for that identity, nor than the
-/// beginning of its newest leave; and so its notice identity was asked for at the supervisor file of
-/// its notice hart.
+/// beginning of its newest leave; and so its notice identity was asked for at the supervisor file
+/// of its notice hart.
 pub fn no_notice_is_lost()
     ensures sent { (h : History) (g : Vcpu) (i : ℕ) → IsHistory h → home h g ≡ Parked
         → is_deliverable h g i ≡ true → noticed_since h g i ≡ true }

@@ -20,7 +20,7 @@ use Rattle.aia_model.specs.Event.Event.{Accepted, Began, Stepped, Delivered, Lan
 use Rattle.aia_model.specs.Flight.{Sending, flight}
 use Rattle.aia_model.specs.GuestFile.{named_by, sent_to}
 use Rattle.aia_model.specs.HomeOf.{home}
-use Rattle.aia_model.specs.ReachOf.{sent_into, NoneAtFence, MayFly, AllMayFly, IsForOne, AllAreForOne, SendsToOne}
+use Rattle.aia_model.specs.ReachOf.{sent_into, NoneAtFence, MayFly, AllMayFly, IsForOne, AllAreForOne}
 use Rattle.aia_model.specs.Answer.{oldest_landed, landed_first, step_taken}
 use Rattle.aia_model.specs.Vms.{vms_of, has_vcpu}
 use Rattle.aia_model.proofs.MoveLemmas.{home_step, same_vcpu, is_itself}
@@ -124,6 +124,11 @@ one_on event past vm s one =
 
 ones_on : (event : Event) (past : History) (vm : ℕ) → AllByRecursion (IsForOne past vm) (flight past vm) → AllByRecursion (IsForOne (event ∷ past) vm) (flight past vm)
 ones_on event past vm all = all_on (IsForOne past vm) (IsForOne (event ∷ past) vm) (one_on event past vm) (flight past vm) all
+
+-- a store that is sent is for a virtual hart that is there
+abbrev pub SendsToOne : History → Event → Type 0
+SendsToOne past (Accepted (Send vm addr value)) = has_vcpu past (named_by past vm addr) ≡ true
+SendsToOne past event = Unit {0}
 
 pub sent_on : (past : History) (event : Event) → SendsToOne past event → AllAreForOne past → AllAreForOne (event ∷ past)
 unfolding flight

@@ -12,6 +12,7 @@ use Rattle.aia_model.specs.Vms.{vms_of}
 use Rattle.aia_model.specs.Notice.{noticed}
 use Rattle.aia_model.specs.FileAfter.{FileDeed, select_by, file_by}
 use Rattle.aia_model.specs.FileAfter.FileDeed.{Makes, Accesses, Stores, Rests}
+use Rattle.aia_regs.specs.declared.address_map.TheConstants.{PAGE}
 
 -- ---- which files there are
 
@@ -40,7 +41,7 @@ page_at h addr = spot_at (harts_of h) (guests_of h) addr
 
 -- A store, by a line or an MSI, reaches the file in whose page it lies.
 abbrev pub store_deed : FileName → ℕ → ℕ → FileDeed
-store_deed f addr value = if is_at f addr then Stores (addr % 0x1000) value else Rests
+store_deed f addr value = if is_at f addr then Stores (addr % PAGE) value else Rests
 
 -- A notice for a virtual hart is a store of its notice identity at the supervisor file of its
 -- notice hart.

@@ -48,6 +48,7 @@ use Rattle.aia_move.specs.Knows.{Knows}
 use Rattle.aia_move.proofs.MachineLemmas.{fits_still, phase_still}
 use Rattle.aia_move.proofs.MadeView.{few_words}
 use Rattle.aia_move.proofs.MoveKept.{file_in-size}
+use Rattle.aia_regs.specs.declared.address_map.TheConstants.{PAGE}
 
 -- ---- in a world of the same machine with other places
 
@@ -135,7 +136,7 @@ module _ (w u : World) (plan : Plan) (reach : Option Place) (file : InterruptFil
   entry_lands None may reaches =
       let hart = notice_hart_there w (mover mv) whole knows.fits.there in
       subst (λ (s : Spot). StoresInSlot w u (Some (slot_of w.vms (mover mv))) s (slot_of w.vms (mover mv) + 1) offset value) (host_page w.imsic (notice_hart w.vms (mover mv)) hart whole.harts)
-      (subst (λ (o : Option ℕ). StoresInSlot w u o (page_spot w.imsic (supervisor_page (notice_hart w.vms (mover mv)) / 0x1000)) (slot_of w.vms (mover mv) + 1) offset value) (slot_found (slot_of w.vms (mover mv)) (slot_low w (mover mv) whole knows.fits.there)) reaches)
+      (subst (λ (o : Option ℕ). StoresInSlot w u o (page_spot w.imsic (supervisor_page (notice_hart w.vms (mover mv)) / PAGE)) (slot_of w.vms (mover mv) + 1) offset value) (slot_found (slot_of w.vms (mover mv)) (slot_low w (mover mv) whole knows.fits.there)) reaches)
 
   entry_is : entry_in_force (table_of w.tables mv.who.vm) mv.who.vcpu ≡ leads_to (slot_of w.vms (mover mv)) (notice_hart w.vms (mover mv)) reach
   entry_is = knows.holds.routes.in_force ∙ ap (λ q. leads_to q mv.who.notice reach) knows.fits.slot ∙ ap (λ hart. leads_to (slot_of w.vms (mover mv)) hart reach) knows.fits.notice

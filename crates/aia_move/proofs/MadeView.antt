@@ -29,9 +29,10 @@ use Rattle.aia_fabric.proofs.WholeLemmas.{notice_hart_there}
 use Rattle.aia_move.specs.declared.who.Who.{Who}
 use Rattle.aia_move.specs.Move.{Moving, mover, width, PostsIf, Makes, hand_after, Fits, MakesNext}
 use Rattle.aia_fabric.proofs.ViewLemmas.{IsNoFile, own-replaced, next-replaced, own-put, next-put, word_taken, word_joined, word_replaced, slot_pending-written, slot_enabled-written, slot_pending-joined, nothing_replaced, place_shows, slot_low, has_slot, in_slot-view, word0-view, word1-view, fence-view, map-view, stage_fence-view, posts-view}
+use Rattle.aia_regs.specs.declared.limits.TheConstants.{IDENTITIES, WORDS_OF_SLOTS, FILE_WORDS}
 
-pub few_words : (n : ℕ) → is_greatest_identity n ≡ true → (n + 1) / 64 ≤ 32
-few_words n greatest = let few : n ≤ 2047 = grind (arith, nat_tests) in omega arith
+pub few_words : (n : ℕ) → is_greatest_identity n ≡ true → (n + 1) / 64 ≤ FILE_WORDS
+few_words n greatest = let few : n ≤ IDENTITIES = grind (arith, nat_tests) in omega arith
 
 other_way : (a b : Place) → is_place a b ≡ false → is_place b a ≡ false
 other_way a b apart = grind (arith, nat_tests)
@@ -98,11 +99,11 @@ module _ (w u : World) (g : Vcpu) (there : Home) (p : Place) (k v : ℕ) (whole 
       ∙ ap (λ members. record (view w g there) { next = record (shown was) { enabled = members } }) (word_replaced was.enabled k v low)
       ∙ ap (λ o. record (view w g there) { next = record (file_in w o) { enabled = replaced_by k v (file_in w o).enabled } }) (sym is)
 
-module _ (w u : World) (g : Vcpu) (there : Home) (q k v : ℕ) (whole : IsWhole w) (stands : is_vcpu_in w.vms g ≡ true) (is : q ≡ slot_of w.vms g) (few : k < 32) where
+module _ (w u : World) (g : Vcpu) (there : Home) (q k v : ℕ) (whole : IsWhole w) (stands : is_vcpu_in w.vms g ≡ true) (is : q ≡ slot_of w.vms g) (few : k < FILE_WORDS) where
   slot-pending_taken : u ≡ with_word w (pending_place q k) 0
       → view u g there ≡ record (view w g there) { slot = record (view w g there).slot { pending = without_word k (view w g there).slot.pending } }
   slot-pending_taken e =
-      let low : pending_place (slot_of w.vms g) k < 0x400 = let below = slot_low w g whole stands in omega arith in
+      let low : pending_place (slot_of w.vms g) k < WORDS_OF_SLOTS = let below = slot_low w g whole stands in omega arith in
       ap (λ (x : World). view x g there) (e ∙ ap (λ r. with_word w (pending_place r k) 0) is)
       ∙ in_slot-view w g there whole stands (pending_place (slot_of w.vms g) k) 0 low
       ∙ ap (λ (m : Mrif). record (view w g there) { slot = m }) (slot_pending-written w.memory (slot_of w.vms g) k 0 (has_slot w (slot_of w.vms g) whole (slot_low w g whole stands)) few)
@@ -111,7 +112,7 @@ module _ (w u : World) (g : Vcpu) (there : Home) (q k v : ℕ) (whole : IsWhole 
   slot-enables_taken : u ≡ with_word w (enable_place q k) 0
       → view u g there ≡ record (view w g there) { slot = record (view w g there).slot { enabled = without_word k (view w g there).slot.enabled } }
   slot-enables_taken e =
-      let low : enable_place (slot_of w.vms g) k < 0x400 = let below = slot_low w g whole stands in omega arith in
+      let low : enable_place (slot_of w.vms g) k < WORDS_OF_SLOTS = let below = slot_low w g whole stands in omega arith in
       ap (λ (x : World). view x g there) (e ∙ ap (λ r. with_word w (enable_place r k) 0) is)
       ∙ in_slot-view w g there whole stands (enable_place (slot_of w.vms g) k) 0 low
       ∙ ap (λ (m : Mrif). record (view w g there) { slot = m }) (slot_enabled-written w.memory (slot_of w.vms g) k 0 (has_slot w (slot_of w.vms g) whole (slot_low w g whole stands)) few)
@@ -120,7 +121,7 @@ module _ (w u : World) (g : Vcpu) (there : Home) (q k v : ℕ) (whole : IsWhole 
   slot-pending_joined : u ≡ with_word w (pending_place q k) (bit_or (get_or w.memory (pending_place q k) 0) v)
       → view u g there ≡ record (view w g there) { slot = record (view w g there).slot { pending = joined_by k v (view w g there).slot.pending } }
   slot-pending_joined e =
-      let low : pending_place (slot_of w.vms g) k < 0x400 = let below = slot_low w g whole stands in omega arith in
+      let low : pending_place (slot_of w.vms g) k < WORDS_OF_SLOTS = let below = slot_low w g whole stands in omega arith in
       ap (λ (x : World). view x g there) (e ∙ ap (λ r. with_word w (pending_place r k) (bit_or (get_or w.memory (pending_place r k) 0) v)) is)
       ∙ in_slot-view w g there whole stands (pending_place (slot_of w.vms g) k) (bit_or (get_or w.memory (pending_place (slot_of w.vms g) k) 0) v) low
       ∙ ap (λ (m : Mrif). record (view w g there) { slot = m }) (slot_pending-joined w.memory (slot_of w.vms g) k v (has_slot w (slot_of w.vms g) whole (slot_low w g whole stands)) few)
@@ -128,7 +129,7 @@ module _ (w u : World) (g : Vcpu) (there : Home) (q k v : ℕ) (whole : IsWhole 
   slot-enables_replaced : u ≡ with_word w (enable_place q k) v
       → view u g there ≡ record (view w g there) { slot = record (view w g there).slot { enabled = replaced_by k v (view w g there).slot.enabled } }
   slot-enables_replaced e =
-      let low : enable_place (slot_of w.vms g) k < 0x400 = let below = slot_low w g whole stands in omega arith in
+      let low : enable_place (slot_of w.vms g) k < WORDS_OF_SLOTS = let below = slot_low w g whole stands in omega arith in
       ap (λ (x : World). view x g there) (e ∙ ap (λ r. with_word w (enable_place r k) v) is)
       ∙ in_slot-view w g there whole stands (enable_place (slot_of w.vms g) k) v low
       ∙ ap (λ (m : Mrif). record (view w g there) { slot = m }) (slot_enabled-written w.memory (slot_of w.vms g) k v (has_slot w (slot_of w.vms g) whole (slot_low w g whole stands)) few)
@@ -178,7 +179,7 @@ module _ (w u : World) (who : Who) (there : Home) (hand now : Hand) (whole : IsW
   post-made true posts c = record { places = posts-view w u it there who.notice (who.slot + 1) notice_low fits.own fits.next posts; carried = c }
   post-made false e c = record { places = ap (λ (x : World). view x it there) e; carried = c }
 
-  look-made : (k : ℕ) → k < 32 → DoesMake (Look k) → now ≡ hand_after (Look k) (record { who = who; home = there; hand = hand }) w → Made (Look k)
+  look-made : (k : ℕ) → k < FILE_WORDS → DoesMake (Look k) → now ≡ hand_after (Look k) (record { who = who; home = there; hand = hand }) w → Made (Look k)
   look-made k few e c = record {
     places = ap (λ (x : World). view x it there) e;
     carried = (
@@ -190,7 +191,7 @@ module _ (w u : World) (who : Who) (there : Home) (hand now : Hand) (whole : IsW
     );
   }
 
-  of_width : (k : ℕ) → nat_lt k (width w) ≡ true → k < 32
+  of_width : (k : ℕ) → nat_lt k (width w) ≡ true → k < FILE_WORDS
   of_width k e = let low : k < width w = ltb-true _ _ e in let few = few_words w.n whole.greatest in omega (arith, low, few)
 
 -- ---- each move

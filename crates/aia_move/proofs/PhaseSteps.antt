@@ -10,6 +10,7 @@ use Rattle.aia_move.specs.declared.turn.Turn.{Turn}
 use Rattle.aia_move.specs.declared.turn.Turn.TheVariants.{Stay, On}
 use Rattle.aia_move.specs.Move.{Moving, width}
 use Rattle.aia_move.specs.Turns.{IsIn, GoesOn, MatchTurn, after_enable}
+use Rattle.aia_regs.specs.declared.limits.TheConstants.{FILE_WORDS}
 
 -- where they begin, counted from the beginning of the first of them
 pub record Middle (words : ℕ) (there : Home) : Type 0 where
@@ -19,7 +20,7 @@ pub record Middle (words : ℕ) (there : Home) : Type 0 where
   pub take : first_take there ≡ begins words there ClosingPhase + 2
   pub after : begins words there (after_enable there) ≡ begins words there LookPhase
   pub more : 1 ≤ words → begins words there (after_enable there) < begins words there (following (after_enable there))
-  pub few : words ≤ 32 → begins words there LookPhase ≤ leave_steps 32
+  pub few : words ≤ FILE_WORDS → begins words there LookPhase ≤ leave_steps FILE_WORDS
 
 pub middle : (words : ℕ) (there : Home) → is_moving there ≡ true → Middle words there
 middle words Parked moves = absurd (cc)

@@ -37,6 +37,7 @@ use Rattle.aia_move.specs.Move.{Moving, mover, width, PostsIf, Makes, Fits, Make
 use Rattle.aia_move.specs.Touches.{Touches, sends}
 use Rattle.aia_fabric.proofs.ViewLemmas.{same_place, slot_low}
 use Rattle.aia_move.proofs.MadeView.{few_words}
+use Rattle.aia_regs.specs.declared.limits.TheConstants.{SLOTS, ENTRIES, FILE_WORDS}
 
 -- ---- what the changes leave
 
@@ -82,7 +83,7 @@ module _ (w u : World) (m : Moving) where
   })
 
   -- a word of memory: one of the slot, or one of the entry
-  touches_word : (place v : ℕ) → ((r : ℕ) → r < 16 → r ≢ m.who.slot → (place < 64 * r) ⊎ (64 * (r + 1) ≤ place))
+  touches_word : (place v : ℕ) → ((r : ℕ) → r < SLOTS → r ≢ m.who.slot → (place < 64 * r) ⊎ (64 * (r + 1) ≤ place))
       → ((g : Vcpu) → is_vcpu_in w.vms g ≡ true → g ≢ mover m → (entry_word_place g.vm g.number ≢ place) × (entry_word_place g.vm g.number + 1 ≢ place))
       → u ≡ with_word w place v → Touches false w u m
   touches_word place v apart past e = subst TouchesOwn (sym e) (record {
@@ -102,7 +103,7 @@ module _ (w u : World) (m : Moving) where
   })
 
   module _ (whole : IsWhole w) (stands : is_vcpu_in w.vms (mover m) ≡ true) where
-    pub touches_slot : (place j v : ℕ) → place ≡ 64 * m.who.slot + j → m.who.slot < 16 → j < 64 → u ≡ with_word w place v → Touches false w u m
+    pub touches_slot : (place j v : ℕ) → place ≡ 64 * m.who.slot + j → m.who.slot < SLOTS → j < 64 → u ≡ with_word w place v → Touches false w u m
     touches_slot place j v at low few e = touches_word place v
         (λ r small other. elim (cases_lt r m.who.slot) [
           | inl less ↦ inr (omega arith)
@@ -110,7 +111,7 @@ module _ (w u : World) (m : Moving) where
         ])
         (λ g there other. (λ same. omega arith, λ same. omega arith)) e
 
-    one_entry : (a b c d x y : ℕ) → b < 16 → d < 16 → x ≤ 1 → y ≤ 1 → entry_word_place a b + x ≡ entry_word_place c d + y → (a ≡ c) × (b ≡ d)
+    one_entry : (a b c d x y : ℕ) → b < ENTRIES → d < ENTRIES → x ≤ 1 → y ≤ 1 → entry_word_place a b + x ≡ entry_word_place c d + y → (a ≡ c) × (b ≡ d)
     one_entry a b c d x y low small one two e = (omega arith, omega arith)
 
     pub touches_entry : (which v : ℕ) → which ≤ 1 → u ≡ with_entry_word w m.who.vm m.who.vcpu which v → Touches false w u m
@@ -191,7 +192,7 @@ module _ (w u : World) (m : Moving) where
 
 -- ---- each move
 
-of_width : (w : World) (k : ℕ) → IsWhole w → nat_lt k (width w) ≡ true → k < 32
+of_width : (w : World) (k : ℕ) → IsWhole w → nat_lt k (width w) ≡ true → k < FILE_WORDS
 of_width w k whole e = let low : k < width w = ltb-true _ _ e in let few = few_words w.n whole.greatest in omega (arith, low, few)
 
 leave_touches : (access : Access) (w u : World) (who : Who) (from : Place) (at : Progress) (hand : Hand) → IsWhole w → Fits w (record { who = who; home = (Leaving from at); hand = hand }) → IsNext (width w) (Leaving from at) access
@@ -206,12 +207,12 @@ leave_touches TakeThreshold w u who from at hand whole fits next makes = touches
 leave_touches (TakePending k) w u who from at hand whole fits next makes = touches_file w u (record { who = who; home = (Leaving from at); hand = hand }) from (record (file_at w.imsic (spot_of from)) { pending = set (file_at w.imsic (spot_of from)).pending k 0 }) (fits.own from refl) (is_itself_place from) makes
 leave_touches (TakeEnables k) w u who from at hand whole fits next makes = touches_file w u (record { who = who; home = (Leaving from at); hand = hand }) from (record (file_at w.imsic (spot_of from)) { enabled = set (file_at w.imsic (spot_of from)).enabled k 0 }) (fits.own from refl) (is_itself_place from) makes
 leave_touches (PutPending k) w u who from at hand whole fits next makes =
-    let few : k < 32 = of_width w k whole next.has in
-    let low : who.slot < 16 = let small = slot_low w (vcpu who.vm who.vcpu) whole fits.there in omega (arith, small, fits.slot) in
+    let few : k < FILE_WORDS = of_width w k whole next.has in
+    let low : who.slot < SLOTS = let small = slot_low w (vcpu who.vm who.vcpu) whole fits.there in omega (arith, small, fits.slot) in
     touches_slot w u (record { who = who; home = (Leaving from at); hand = hand }) whole fits.there (pending_place who.slot k) (2 * k) (bit_or (get_or w.memory (pending_place who.slot k) 0) hand.word) (omega arith) low (omega arith) makes.1
 leave_touches (PutEnables k) w u who from at hand whole fits next makes =
-    let few : k < 32 = of_width w k whole next.has in
-    let low : who.slot < 16 = let small = slot_low w (vcpu who.vm who.vcpu) whole fits.there in omega (arith, small, fits.slot) in
+    let few : k < FILE_WORDS = of_width w k whole next.has in
+    let low : who.slot < SLOTS = let small = slot_low w (vcpu who.vm who.vcpu) whole fits.there in omega (arith, small, fits.slot) in
     touches_slot w u (record { who = who; home = (Leaving from at); hand = hand }) whole fits.there (enable_place who.slot k) (2 * k + 1) hand.word (omega arith) low (omega arith) makes.1
 leave_touches (Look k) w u who from at hand whole fits next makes = touches_nothing w u (record { who = who; home = (Leaving from at); hand = hand }) makes
 leave_touches Post w u who from at hand whole fits next makes =
@@ -229,12 +230,12 @@ arrive_touches FenceStage w u who to at hand whole fits next makes = touches_sta
 arrive_touches PutDelivery w u who to at hand whole fits next makes = touches_file w u (record { who = who; home = (Arriving to at); hand = hand }) to (file_at u.imsic (spot_of to)) (fits.own to refl) (is_itself_place to) makes.others
 arrive_touches PutThreshold w u who to at hand whole fits next makes = touches_file w u (record { who = who; home = (Arriving to at); hand = hand }) to (file_at u.imsic (spot_of to)) (fits.own to refl) (is_itself_place to) makes.others
 arrive_touches (TakePending k) w u who to at hand whole fits next makes =
-    let few : k < 32 = of_width w k whole next.has in
-    let low : who.slot < 16 = let small = slot_low w (vcpu who.vm who.vcpu) whole fits.there in omega (arith, small, fits.slot) in
+    let few : k < FILE_WORDS = of_width w k whole next.has in
+    let low : who.slot < SLOTS = let small = slot_low w (vcpu who.vm who.vcpu) whole fits.there in omega (arith, small, fits.slot) in
     touches_slot w u (record { who = who; home = (Arriving to at); hand = hand }) whole fits.there (pending_place who.slot k) (2 * k) 0 (omega arith) low (omega arith) makes
 arrive_touches (TakeEnables k) w u who to at hand whole fits next makes =
-    let few : k < 32 = of_width w k whole next.has in
-    let low : who.slot < 16 = let small = slot_low w (vcpu who.vm who.vcpu) whole fits.there in omega (arith, small, fits.slot) in
+    let few : k < FILE_WORDS = of_width w k whole next.has in
+    let low : who.slot < SLOTS = let small = slot_low w (vcpu who.vm who.vcpu) whole fits.there in omega (arith, small, fits.slot) in
     touches_slot w u (record { who = who; home = (Arriving to at); hand = hand }) whole fits.there (enable_place who.slot k) (2 * k + 1) 0 (omega arith) low (omega arith) makes
 arrive_touches (PutPending k) w u who to at hand whole fits next makes = touches_file w u (record { who = who; home = (Arriving to at); hand = hand }) to (record (file_at w.imsic (spot_of to)) { pending = set (file_at w.imsic (spot_of to)).pending k (bit_or (get_or (file_at w.imsic (spot_of to)).pending k 0) hand.word) }) (fits.own to refl) (is_itself_place to) makes.1
 arrive_touches (PutEnables k) w u who to at hand whole fits next makes = touches_file w u (record { who = who; home = (Arriving to at); hand = hand }) to (record (file_at w.imsic (spot_of to)) { enabled = set (file_at w.imsic (spot_of to)).enabled k hand.word }) (fits.own to refl) (is_itself_place to) makes.1

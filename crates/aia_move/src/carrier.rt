@@ -1,7 +1,7 @@
 ghost use Rattle.std.specs.Prelude.{◌≡◌, ◌+◌, ◌-◌, ◌/◌, ◌<◌, ◌≤◌, false, option_map, Option, Some};
 ghost use Rattle.std.specs.Borrow.{Bor};
 ghost use Rattle.aia_word.specs.Sets.{has_bit};
-ghost use Rattle.aia_regs.specs.declared.limits.TheConstants.{VCPUS};
+ghost use Rattle.aia_regs.specs.declared.limits.TheConstants.{VCPUS, FILE_WORDS};
 ghost use Rattle.aia_imsic.specs.Imsic.{IsThere};
 ghost use Rattle.aia_home.specs.declared.place.Place.{Place};
 ghost use Rattle.aia_home.specs.Plans.{leave_steps};
@@ -312,10 +312,10 @@ impl Carrier {
 
     // ---- the looks
 
-    /// Reads word `word`, 0 to 31, of both sets of the slot, 0 to 15.
+    /// Reads word `word`, below `FILE_WORDS`, of both sets of the slot.
     pub fn look(&mut self, fabric: &Fabric, word: usize)
         requires slot { self.old.who.slot < VCPUS }
-        requires word { word < 32 }
+        requires word { word < FILE_WORDS }
         requires more { self.old.steps < leave_steps 32 }
         ensures { (m : Moving) → load_of m ≡ self.old
             → Does (Look word) m fabric.now fabric.now self.new }

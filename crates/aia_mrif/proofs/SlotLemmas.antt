@@ -11,7 +11,7 @@ use Rattle.std.proofs.lemmas.Nat.Bits.{bit_at-pow_same, bit_at-pow_other}
 use Rattle.std.specs.Int.{bit_at}
 use Rattle.aia_word.specs.Sets.{has_bit}
 use Rattle.aia_word.proofs.BitLemmas.{has_bit-or}
-use Rattle.aia_regs.specs.declared.limits.TheConstants.{IDENTITIES}
+use Rattle.aia_regs.specs.declared.limits.TheConstants.{IDENTITIES, FILE_WORDS}
 use Rattle.aia_regs.specs.Word.{settle, set_after, names}
 use Rattle.aia_regs.specs.Word.Word.{Ask, Nothing}
 use Rattle.aia_regs.specs.Request.{requested}
@@ -27,39 +27,39 @@ one_bit k low = shl_whole 1 1 k 64 (omega arith) (omega arith) ∙ once (2 ^ k)
 
 -- ---- a set whose words stand at places
 
-low_word : (i : ℕ) → nat_le i 2047 ≡ true → i / 64 < 32
-low_word i e = let f : i ≤ 2047 = grind (arith, nat_tests) in omega arith
+low_word : (i : ℕ) → nat_le i IDENTITIES ≡ true → i / 64 < FILE_WORDS
+low_word i e = let f : i ≤ IDENTITIES = grind (arith, nat_tests) in omega arith
 
 under : (b x y : Bool) → (b ≡ true → x ≡ y) → (b && x) ≡ (b && y)
 under true x y e = e refl
 under false x y e = refl
 
 -- word k of it is written
-pub written : (place : ℕ → ℕ) (words : List ℕ) (k v i : ℕ) → ((j : ℕ) → place j ≡ place k → j ≡ k) → place k < length words → k < 32 → set_at place (set words (place k) v) i ≡ cond (nat_eq (i / 64) k) (has_bit v (i % 64)) (set_at place words i)
+pub written : (place : ℕ → ℕ) (words : List ℕ) (k v i : ℕ) → ((j : ℕ) → place j ≡ place k → j ≡ k) → place k < length words → k < FILE_WORDS → set_at place (set words (place k) v) i ≡ cond (nat_eq (i / 64) k) (has_bit v (i % 64)) (set_at place words i)
 written place words k v i apart there low =
     elim (cases_eq (i / 64) k) [
       | inl e ↦
-          let is : nat_le i 2047 ≡ true = grind (arith, nat_tests) in
+          let is : nat_le i IDENTITIES ≡ true = grind (arith, nat_tests) in
           rw is (ap (λ w. has_bit w (i % 64)) (ap (λ x. get_or (set words (place k) v) (place x) 0) e ∙ get_or-set_at words (place k) (place k) v 0 refl there)) ∙ sym (cond-true _ _ _ (eq-eqb _ _ e))
-      | inr ne ↦ ap (λ w. nat_le i 2047 && has_bit w (i % 64)) (get_or-set_other words (place k) (place (i / 64)) v 0 (λ e. ne (apart (i / 64) e))) ∙ sym (cond-false _ _ _ (ne_eqb _ _ ne))
+      | inr ne ↦ ap (λ w. nat_le i IDENTITIES && has_bit w (i % 64)) (get_or-set_other words (place k) (place (i / 64)) v 0 (λ e. ne (apart (i / 64) e))) ∙ sym (cond-false _ _ _ (ne_eqb _ _ ne))
     ]
 
 -- a word that is none of its own is written
-pub kept : (place : ℕ → ℕ) (words : List ℕ) (p v i : ℕ) → ((j : ℕ) → j < 32 → place j ≢ p) → set_at place (set words p v) i ≡ set_at place words i
-kept place words p v i apart = under (nat_le i 2047) _ _ (λ b. ap (λ w. has_bit w (i % 64)) (get_or-set_other words p (place (i / 64)) v 0 (apart (i / 64) (low_word i b))))
+pub kept : (place : ℕ → ℕ) (words : List ℕ) (p v i : ℕ) → ((j : ℕ) → j < FILE_WORDS → place j ≢ p) → set_at place (set words p v) i ≡ set_at place words i
+kept place words p v i apart = under (nat_le i IDENTITIES) _ _ (λ b. ap (λ w. has_bit w (i % 64)) (get_or-set_other words p (place (i / 64)) v 0 (apart (i / 64) (low_word i b))))
 
 -- ---- a slot
 
-pending_joined : (words : List ℕ) (q k v i : ℕ) → pending_place q k < length words → k < 32 → set_at (pending_place q) (set words (pending_place q k) (bit_or (get_or words (pending_place q k) 0) v)) i ≡ cond (nat_eq (i / 64) k) (set_at (pending_place q) words i || has_bit v (i % 64)) (set_at (pending_place q) words i)
+pending_joined : (words : List ℕ) (q k v i : ℕ) → pending_place q k < length words → k < FILE_WORDS → set_at (pending_place q) (set words (pending_place q k) (bit_or (get_or words (pending_place q k) 0) v)) i ≡ cond (nat_eq (i / 64) k) (set_at (pending_place q) words i || has_bit v (i % 64)) (set_at (pending_place q) words i)
 pending_joined words q k v i there low =
     written (pending_place q) words k _ i (λ j e. omega (arith, e)) there low ∙ elim (cases_eq (i / 64) k) [
       | inl e ↦
-          let is : nat_le i 2047 ≡ true = grind (arith, nat_tests) in
+          let is : nat_le i IDENTITIES ≡ true = grind (arith, nat_tests) in
           cond-true _ _ _ (eq-eqb _ _ e) ∙ has_bit-or (get_or words (pending_place q k) 0) v (i % 64) ∙ ap (λ x. has_bit (get_or words (pending_place q x) 0) (i % 64) || has_bit v (i % 64)) (sym e) ∙ ap (λ b. b && has_bit (get_or words (pending_place q (i / 64)) 0) (i % 64) || has_bit v (i % 64)) (sym is) ∙ sym (cond-true _ _ _ (eq-eqb _ _ e))
       | inr ne ↦ cond-false _ _ _ (ne_eqb _ _ ne) ∙ sym (cond-false _ _ _ (ne_eqb _ _ ne))
     ]
 
-pub slot_joined : (words new : List ℕ) (q k v : ℕ) → HasSlot words q → k < 32 → new ≡ set words (pending_place q k) (bit_or (get_or words (pending_place q k) 0) v) → (i : ℕ) → set_at (pending_place q) new i ≡ cond (nat_eq (i / 64) k) (set_at (pending_place q) words i || has_bit v (i % 64)) (set_at (pending_place q) words i)
+pub slot_joined : (words new : List ℕ) (q k v : ℕ) → HasSlot words q → k < FILE_WORDS → new ≡ set words (pending_place q k) (bit_or (get_or words (pending_place q k) 0) v) → (i : ℕ) → set_at (pending_place q) new i ≡ cond (nat_eq (i / 64) k) (set_at (pending_place q) words i || has_bit v (i % 64)) (set_at (pending_place q) words i)
 slot_joined words new q k v there low e i = rw e (pending_joined words q k v i (omega (arith, there)) low)
 
 -- a store to it makes the identity pending that it names
@@ -77,9 +77,9 @@ bit_alone k b low =
       | inr ne ↦ ap (λ x. nat_eq x 1) (bit_at-pow_other k b ne) ∙ sym (ne_eqb b k ne)
     ]
 
-pub asked : (words : List ℕ) (q i j : ℕ) → HasSlot words q → i ≤ 2047 → set_at (pending_place q) (words_after_store words q (Some i)) j ≡ settle (cond (nat_eq i j) Ask Nothing) (set_at (pending_place q) words j)
+pub asked : (words : List ℕ) (q i j : ℕ) → HasSlot words q → i ≤ IDENTITIES → set_at (pending_place q) (words_after_store words q (Some i)) j ≡ settle (cond (nat_eq i j) Ask Nothing) (set_at (pending_place q) words j)
 asked words q i j there small =
-    let low : i / 64 < 32 = omega arith in
+    let low : i / 64 < FILE_WORDS = omega arith in
     pending_joined words q (i / 64) (2 ^ (i % 64)) j (omega (arith, there)) low ∙ elim (cases_eq (j / 64) (i / 64)) [
       | inl e ↦ cond-true _ _ _ (eq-eqb _ _ e) ∙ ap (λ b. set_at (pending_place q) words j || b) (bit_alone (i % 64) (j % 64) (omega arith) ∙ same_bits i j e) ∙ settled (nat_eq i j) (set_at (pending_place q) words j)
       | inr ne ↦ cond-false _ _ _ (ne_eqb _ _ ne) ∙ ap (λ b. settle (cond b Ask Nothing) (set_at (pending_place q) words j)) (sym (ne_eqb i j (λ p. ne (ap (λ x. x / 64) (sym p)))))

@@ -1,12 +1,12 @@
 ghost use Rattle.std.specs.Prelude.{◌≡◌, ℕ, ◌+◌, ◌*◌, ◌/◌, ◌%◌, ◌^◌, ◌<◌, ◌≤◌, ◌↔◌, Bool, false, ◌||◌, nat_eq, if◌then◌else◌, slice_index, slice_set, bit_or, length, Option, Some, None};
 ghost use Rattle.aia_word.specs.Sets.{has_bit};
-ghost use Rattle.aia_regs.specs.declared.limits.TheConstants.{IDENTITIES};
+ghost use Rattle.aia_regs.specs.declared.limits.TheConstants.{IDENTITIES, FILE_WORDS};
 ghost use Rattle.aia_regs.specs.Request.{requested};
 ghost use Rattle.aia_mrif.specs.Mrif.{mrif_in, pending_place, enable_place, after_store, stored};
 ghost use Rattle.aia_mrif.specs.Words.{HasSlot, SameMrif, words_after_store};
 
 use aia_ram::Ram;
-use aia_regs::limits::IDENTITIES;
+use aia_regs::limits::{FILE_WORDS, IDENTITIES};
 use aia_regs::requested;
 use aia_word::Bank;
 
@@ -32,11 +32,11 @@ pub enum Stored {
     Notice,
 }
 
-/// Gives both words `k`, 0 to 31, of slot `q`, one that memory has: which of the identities
-/// `64 * k` to `64 * k + 63` are pending, and which are enabled.
+/// Gives both words `k`, below `FILE_WORDS`, of slot `q`, one that memory has: which of the
+/// identities `64 * k` to `64 * k + 63` are pending, and which are enabled.
 pub fn look(ram: &Ram, q: u32, k: usize) -> (u64, u64)
     requires slot { HasSlot ram.now q }
-    requires word { k < 32 }
+    requires word { k < FILE_WORDS }
     ensures pending { (b : ℕ) → b < 64
         → has_bit result.0 b ≡ (mrif_in ram.now q).pending (64 * k + b) }
     ensures enabled { (b : ℕ) → b < 64
@@ -51,20 +51,22 @@ pub fn look(ram: &Ram, q: u32, k: usize) -> (u64, u64)
 }
 
 impl Bank for SlotMut<'_> {
+    ghost use Rattle.aia_regs.specs.declared.limits.TheConstants.{FILE_WORDS};
+
     ghost pending = { λ s. (mrif_in s.ram.now s.q).pending };
 
     ghost enabled = { λ s. (mrif_in s.ram.now s.q).enabled };
 
-    ghost width = { λ s. 32 };
+    ghost width = { λ s. FILE_WORDS };
 
     fn words(&self) -> usize
-        ensures { result ≡ 32 }
+        ensures { result ≡ FILE_WORDS }
     {
-        32
+        FILE_WORDS
     }
 
     fn swap_pending(&mut self, k: usize, v: u64) -> u64
-        requires word { k < 32 }
+        requires word { k < FILE_WORDS }
         requires no_zero { k ≡ 0 → has_bit v 0 ≡ false }
         ensures stood { (b : ℕ) → b < 64
             → has_bit result b ≡ (mrif_in self.old.ram.now self.old.q).pending (64 * k + b) }
@@ -85,7 +87,7 @@ impl Bank for SlotMut<'_> {
 
     #[tactic(auto, using(crate::proofs::SlotLemmas::slot_joined))]
     fn or_pending(&mut self, k: usize, v: u64)
-        requires word { k < 32 }
+        requires word { k < FILE_WORDS }
         requires no_zero { k ≡ 0 → has_bit v 0 ≡ false }
         ensures after { (i : ℕ) → (mrif_in self.new.ram.now self.new.q).pending i
             ≡ (if nat_eq (i / 64) k
@@ -103,7 +105,7 @@ impl Bank for SlotMut<'_> {
     }
 
     fn swap_enable(&mut self, k: usize, v: u64) -> u64
-        requires word { k < 32 }
+        requires word { k < FILE_WORDS }
         requires no_zero { k ≡ 0 → has_bit v 0 ≡ false }
         ensures stood { (b : ℕ) → b < 64
             → has_bit result b ≡ (mrif_in self.old.ram.now self.old.q).enabled (64 * k + b) }
@@ -126,7 +128,7 @@ impl Bank for SlotMut<'_> {
 impl SlotMut<'_> {
     /// Takes a 32-bit store of `value` at `offset` of the slot: it makes the identity pending that
     /// it names, and then reads whether that one is enabled. `Discarded` exactly where it names no
-    /// identity from 1 to 2047; `Notice` exactly where it names one that is enabled.
+    /// identity from 1 to `IDENTITIES`; `Notice` exactly where it names one that is enabled.
     #[tactic(auto, using(crate::proofs::SlotLemmas::landed))]
     pub fn land(&mut self, offset: u32, value: u32) -> Stored
         ensures stored { result
@@ -174,10 +176,10 @@ impl SlotMut<'_> {
     }
 }
 
-/// Gives the byte at which pending word `k`, 0 to 31, of slot `q` begins; enable word `k` begins 8
-/// bytes on.
+/// Gives the byte at which pending word `k`, below `FILE_WORDS`, of slot `q` begins; enable word
+/// `k` begins 8 bytes on.
 fn pair_at(q: u32, k: usize) -> usize
-    requires { k < 32 }
+    requires { k < FILE_WORDS }
     ensures { result ≡ 8 * pending_place q k }
 {
     512 * q as usize + 16 * k

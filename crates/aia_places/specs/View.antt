@@ -11,6 +11,7 @@ use Rattle.aia_home.specs.declared.place.Place.{Place}
 use Rattle.aia_home.specs.Home.{Home}
 use Rattle.aia_home.specs.Home.Home.{Parked, Resident, Leaving, Arriving, Shifting}
 use Rattle.aia_home.specs.BySteps.{own_file, next_file}
+use Rattle.aia_regs.specs.declared.limits.TheConstants.{HARTS, GUEST_FILES}
 
 -- Its own file, and the other one of a shift, each the empty file where it has none; its slot; its
 -- entry of the MSI page table, both words as they are written and what is in force; its G-stage
@@ -79,10 +80,10 @@ entry_word q (Some p) = basic_word (guest_page p.hart p.file / PAGE)
 abbrev pub second_word : ℕ → ℕ → ℕ
 second_word q notice_hart = notice_word (supervisor_page notice_hart / PAGE) (q + 1)
 
--- A guest file that a machine may have, of the harts 0 to 3, numbered 1 to 7; the files of a home
+-- A guest file that a machine may have, which are numbered from 1; the files of a home
 -- are such ones. Profile: how many harts and guest files there are.
 abbrev pub IsInMap : Place → Type 0
-IsInMap p = (p.hart < 4) × (p.file < 8) × (1 ≤ p.file)
+IsInMap p = (p.hart < HARTS) × (p.file ≤ GUEST_FILES) × (1 ≤ p.file)
 
 pub record FilesFit (there : Home) : Type 0 where
   pub own : (p : Place) → own_file there ≡ Some p → IsInMap p

@@ -30,8 +30,8 @@ impl Model for Pool {
 }
 
 impl Pool {
-    /// Makes the pool of the guest files of `harts` harts, at most 4, with `guests` guest files
-    /// each, at most 7; none is out. `Err`: there is no memory for it.
+    /// Makes the pool of the guest files of `harts` harts, at most `HARTS`, with `guests` guest
+    /// files each, at most `GUEST_FILES`; none is out. `Err`: there is no memory for it.
     pub fn new(alloc: Global, harts: u32, guests: u32) -> Result<Pool, AllocError>
         requires harts { harts ≤ HARTS }
         requires guests { guests ≤ GUEST_FILES }

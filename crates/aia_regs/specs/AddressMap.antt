@@ -1,9 +1,7 @@
 -- Where the interrupt files of harts, the domains of the APLIC and the memory lie. Profile: all
 -- addresses of the map.
 use Rattle.std.specs.Prelude.{ℕ, ◌+◌, ◌*◌, Bool, ◌&&◌, nat_le, nat_lt}
-use Rattle.aia_regs.specs.declared.address_map.TheConstants.{
-    ROOT_DOMAIN, REGION, MACHINE_FILES, SUPERVISOR_FILES, HART_STRIDE, PAGE, MEMORY, MEMORY_END, SLOT, TABLES, TABLE,
-}
+use Rattle.aia_regs.specs.declared.address_map.TheConstants.{ROOT_DOMAIN, REGION, MACHINE_FILES, SUPERVISOR_FILES, HART_STRIDE, PAGE, MEMORY, MEMORY_END, SLOT, TABLES, TABLE}
 
 -- The first address of the page of a hart's machine-level file.
 abbrev pub machine_page : ℕ → ℕ

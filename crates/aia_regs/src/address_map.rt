@@ -1,6 +1,10 @@
 //! Where the interrupt files of harts, the domains of the APLIC and the memory lie. Profile: each
 //! begins right after what comes before it, and the sizes follow from the limits.
 
+ghost use Rattle.std.specs.Prelude.{◌≡◌, ◌<◌, ◌≤◌};
+ghost use Rattle.aia_regs.specs.declared.limits.TheConstants.{HARTS};
+ghost use Rattle.aia_regs.specs.AddressMap.{supervisor_page, guest_page, slot_address, table_address, is_in_memory};
+
 use crate::limits::{GUEST_FILES, SLOTS, VMS};
 
 /// The control region of the APLIC's root domain; its child's is the next [`REGION`] bytes.
@@ -40,3 +44,43 @@ pub const MEMORY_END: u64 = TABLES + VMS as u64 * TABLE;
 /// The page of a VM's MSI addresses where its mask has a 0: the address pattern, the same for all
 /// VMs, which is the page of hart 0's supervisor file.
 pub const PATTERN: u64 = 0x28000;
+
+/// Gives the first address of the page of a hart's supervisor file, where its notices go.
+pub fn supervisor_page(hart: u32) -> u64
+    requires { hart < HARTS }
+    ensures { result ≡ supervisor_page hart }
+{
+    SUPERVISOR_FILES + u64::from(hart) * HART_STRIDE
+}
+
+/// Gives the first address of the page of a hart's guest file.
+pub fn guest_page(hart: u32, file: u32) -> u64
+    requires hart { hart < HARTS }
+    requires file { file ≤ GUEST_FILES }
+    ensures { result ≡ guest_page hart file }
+{
+    supervisor_page(hart) + u64::from(file) * PAGE
+}
+
+/// Gives the first address of a slot of memory.
+pub fn slot_address(q: u32) -> u64
+    requires { q < SLOTS }
+    ensures { result ≡ slot_address q }
+{
+    MEMORY + u64::from(q) * SLOT
+}
+
+/// Gives the first address of the MSI page table of a VM.
+pub fn table_address(vm: u32) -> u64
+    requires { vm < VMS }
+    ensures { result ≡ table_address vm }
+{
+    TABLES + u64::from(vm) * TABLE
+}
+
+/// Tells whether an address lies in memory.
+pub fn is_in_memory(addr: u64) -> bool
+    ensures { result ≡ is_in_memory addr }
+{
+    (MEMORY..MEMORY_END).contains(&addr)
+}

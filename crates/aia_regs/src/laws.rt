@@ -1,7 +1,7 @@
 //! What the definitions of this crate mean, as laws: each function does nothing, and its clauses
 //! are what was proved.
 
-ghost use Rattle.std.specs.Prelude.{◌≡◌, ◌≢◌, ℕ, ◌+◌, ◌-◌, ◌*◌, ◌%◌, ◌^◌, ◌<◌, ◌≤◌, ◌↔◌, ◌⊎◌, ◌/◌, true, Option, Some};
+ghost use Rattle.std.specs.Prelude.{◌≡◌, ◌≢◌, ℕ, ◌+◌, ◌-◌, ◌*◌, ◌%◌, ◌^◌, ◌<◌, ◌≤◌, ◌↔◌, ◌⊎◌, true, Option, Some};
 ghost use Rattle.std.specs.Int.{bit_at, swap_bytes, w32};
 ghost use Rattle.aia_regs.specs.FileRegisters.{register_of};
 ghost use Rattle.aia_regs.specs.DomainRegisters.{domain_register_of, domain_offset_of};
@@ -10,7 +10,7 @@ ghost use Rattle.aia_regs.specs.AddressMap.{machine_page, supervisor_page, guest
 
 use crate::address_map::{MEMORY, MEMORY_END, PAGE, PATTERN, REGION, ROOT_DOMAIN, SLOT, TABLE};
 use crate::limits::{
-    ENTRIES, GUEST_FILES, HARTS, IDENTITIES, MASK_BITS, MASK_ONES, MEMORY_WORDS, SLOTS, SOURCES,
+    ENTRIES, FILE_WORDS, GUEST_FILES, HARTS, MASK_BITS, MASK_ONES, MEMORY_WORDS, SLOTS, SOURCES,
     VCPUS, VM_VCPUS, VMS,
 };
 use crate::{DomainReg, FileReg};
@@ -96,7 +96,7 @@ pub fn map_of_addresses()
 pub fn bounds_of_the_limits()
     ensures harts { 0x4000 + 32 * HARTS ≤ REGION }
     ensures guest_files { GUEST_FILES < 2 ^ 6 }
-    ensures identities { 2 * ((IDENTITIES + 1) / 64) * 8 ≡ SLOT }
+    ensures identities { 8 * (2 * FILE_WORDS) ≡ SLOT }
     ensures sources { SOURCES < 1024 }
     ensures entries { ENTRIES ≡ 2 ^ MASK_ONES }
     ensures mask { MASK_ONES ≤ MASK_BITS }

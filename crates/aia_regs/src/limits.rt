@@ -12,8 +12,14 @@ pub const GUEST_FILES: u32 = 31;
 /// The greatest identity that an interrupt file may have.
 pub const IDENTITIES: u32 = 2047;
 
+/// The most words of 64 identities that each set of an interrupt file has.
+pub const FILE_WORDS: usize = (IDENTITIES as usize + 1) / 64;
+
 /// The most wired sources of a machine.
 pub const SOURCES: u32 = 1023;
+
+/// The words of 64 that have a bit for each source, bit 0 of the first one for none.
+pub const SOURCE_WORDS: usize = (SOURCES as usize + 1) / 64;
 
 /// The most VMs of a machine.
 pub const VMS: u32 = 8;
@@ -36,8 +42,11 @@ pub const MASK_BITS: u32 = 15;
 /// The entries of a VM's MSI page table: as many as [`MASK_ONES`] bits number.
 pub const ENTRIES: usize = 1 << MASK_ONES;
 
-/// The words of memory, 64 bits each: those of all slots, then those of the tables of all VMs.
-pub const MEMORY_WORDS: usize = (SLOTS as usize * SLOT as usize + VMS as usize * TABLE as usize) / 8;
+/// The words of memory, 64 bits each, that the slots fill; those of the tables come after them.
+pub const WORDS_OF_SLOTS: usize = SLOTS as usize * SLOT as usize / 8;
+
+/// The words of memory: those of all slots, then those of the tables of all VMs.
+pub const MEMORY_WORDS: usize = WORDS_OF_SLOTS + VMS as usize * TABLE as usize / 8;
 
 /// The most stores of devices of a VM that are in flight.
 pub const STORES_IN_FLIGHT: usize = 8;

@@ -33,9 +33,9 @@ pub struct Machine {
 }
 
 impl Machine {
-    /// Makes the machine of these numbers: 1 to 4 harts, up to 7 guest files a hart, identities 1
-    /// to `n` (63, 127, 255, 511, 1023 or 2047) and 1 to 1023 wired sources. `None` exactly where a
-    /// number is none of these; `Err` is want of memory.
+    /// Makes the machine of these numbers: 1 to `HARTS` harts, up to `GUEST_FILES` guest files a
+    /// hart, identities 1 to `n` (63, 127, 255, 511, 1023 or 2047) and 1 to `SOURCES` wired
+    /// sources. `None` exactly where a number is none of these; `Err` is want of memory.
     pub fn of_size(
         alloc: Global,
         harts: u64,

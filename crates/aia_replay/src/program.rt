@@ -80,8 +80,8 @@ pub fn run<S: Source, K: Sink>(
         → ((result ≡ Status.Usage) ⊎ (result ≡ Status.Memory))
         × (source.new ≡ source.old) × (sink.new ≡ sink.old) }
 
-    // Completeness: with good words, no fault and a script that fits, by what the source told before
-    // or by its count of the bytes that it gave, nothing but want of memory is in the way.
+    // Completeness: with good words, no fault and a script that fits, by what the source told
+    // before or by its count of the bytes that it gave, nothing but want of memory is in the way.
     ensures complete { asked words.now ≢ None
         → (¬ Rose (S.faults source.old) (S.faults source.new))
         → (¬ Rose (K.faults sink.old) (K.faults sink.new))

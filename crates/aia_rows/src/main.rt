@@ -1,8 +1,8 @@
 //! Replays all scripts of its folder in pieces of several lengths, and says of each group how many
 //! are answered as they have to be: those of `examples` and of `suite`, each beside its answers,
 //! and those that the tables of `moves` spell out. Of one that is not it says where. Then it runs
-//! the command lines of `words`; and where all was as it has to be, it does at last what the program
-//! `aia` does with the words that it was itself given.
+//! the command lines of `words`; and where all was as it has to be, it does at last what the
+//! program `aia` does with the words that it was itself given.
 #![tactic(auto)]
 
 mod folder;

@@ -6,6 +6,7 @@ use Rattle.aia_word.specs.Sets.{has_bit, is_in, word_of}
 use Rattle.aia_word.proofs.BitLemmas.{has_bit-set, has_bit-clear, has_bit-zero}
 use Rattle.aia_word.proofs.SetLemmas.{has_bit-word_of, word_of-lt, word_from_bits, is_in-past}
 use Rattle.aia_waiting.specs.Ready.{has_some, Tells, TellsAllBut}
+use Rattle.aia_regs.specs.declared.limits.TheConstants.{SOURCE_WORDS}
 
 -- ---- what a word shows
 
@@ -41,7 +42,7 @@ pub tells_none : (a : ℕ → Bool) → ((s : ℕ) → a s ≡ false) → Tells 
 unfolding Tells
 tells_none a none k low = has_bit-zero k ∙ sym (none_some a k none)
 
-pub word_emptied : (summary k : ℕ) (a : ℕ → Bool) → k < 16 → word_of a (64 * k) 64 ≡ 0 → TellsAllBut k summary a → Tells (bit_and summary (2 ^ 64 - 1 - 1 * 2 ^ k % 2 ^ 64)) a
+pub word_emptied : (summary k : ℕ) (a : ℕ → Bool) → k < SOURCE_WORDS → word_of a (64 * k) 64 ≡ 0 → TellsAllBut k summary a → Tells (bit_and summary (2 ^ 64 - 1 - 1 * 2 ^ k % 2 ^ 64)) a
 unfolding Tells
 word_emptied summary k a small none others w low =
     has_bit-clear summary k w (omega arith) low ∙ elim (cases_eq w k) [
@@ -49,7 +50,7 @@ word_emptied summary k a small none others w low =
       | inr ne ↦ ap (λ b. not b && has_bit summary w) (ne_eqb w k ne) ∙ others w low ne
     ]
 
-pub word_filled : (summary k : ℕ) (a : ℕ → Bool) → k < 16 → (word_of a (64 * k) 64 ≡ 0 → ⊥) → TellsAllBut k summary a → Tells (bit_or summary (1 * 2 ^ k % 2 ^ 64)) a
+pub word_filled : (summary k : ℕ) (a : ℕ → Bool) → k < SOURCE_WORDS → (word_of a (64 * k) 64 ≡ 0 → ⊥) → TellsAllBut k summary a → Tells (bit_or summary (1 * 2 ^ k % 2 ^ 64)) a
 unfolding Tells
 word_filled summary k a small some others w low =
     has_bit-set summary k w (omega arith) ∙ elim (cases_eq w k) [
@@ -69,7 +70,7 @@ no_bits x small none =
     word_from_bits (λ i. false) 0 x small none ∙ sym (word_from_bits (λ i. false) 0 0 (omega arith) (λ i low. has_bit-zero i))
 
 -- a summary of 0 tells that no source is in the set
-pub empty_told : (summary : ℕ) (words : List ℕ) → length words ≡ 16 → Tells summary (is_in words) → summary ≡ 0 → (s : ℕ) → is_in words s ≡ false
+pub empty_told : (summary : ℕ) (words : List ℕ) → length words ≡ SOURCE_WORDS → Tells summary (is_in words) → summary ≡ 0 → (s : ℕ) → is_in words s ≡ false
 empty_told summary words sixteen told zero_word s = elim (cases_lt (s / 64) 64) [
   | inl low ↦ none_in_word (is_in words) s (sym (tells summary (is_in words) told (s / 64) low) ∙ ap (λ x. has_bit x (s / 64)) zero_word ∙ has_bit-zero (s / 64))
   | inr past ↦ is_in-past words s (omega arith)

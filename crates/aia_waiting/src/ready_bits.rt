@@ -1,25 +1,24 @@
 ghost use Rattle.std.specs.Prelude.{◌≡◌, ℕ, ◌*◌, ◌<◌, ◌≤◌, ◌/◌, ◌↔◌, Bool, false, length, nat_eq, if◌then◌else◌, IsTrue};
 ghost use Rattle.aia_word.specs.Sets.{is_in, word_of};
-ghost use Rattle.aia_regs.specs.declared.limits.TheConstants.{SOURCES};
+ghost use Rattle.aia_regs.specs.declared.limits.TheConstants.{SOURCES, SOURCE_WORDS};
 ghost use Rattle.aia_waiting.specs.Ready.{Tells, TellsAllBut};
 
+use aia_regs::limits::SOURCE_WORDS;
 use aia_word::sets;
 use std::marker::Model;
 
-/// How many words the set has: one for each 64 sources, up to 1,023.
-const WORDS: usize = 16;
-
-/// A set of wired sources in words of 64 bits, by their numbers, 0 to 1023: source `s` is bit `s %
+/// A set of wired sources in words of 64 bits, by their numbers, up to `SOURCES`: source `s` is bit `s %
 /// 64` of word `s / 64`.
 #[derive(Drop)]
 pub struct ReadyBits {
-    words: [u64; WORDS],
+    words: [u64; SOURCE_WORDS],
     /// Which words are not 0.
     summary: u64,
 }
 
 impl Model for ReadyBits {
     ghost use Rattle.std.specs.Prelude.{◌≡◌, ℕ, List, length};
+    ghost use Rattle.aia_regs.specs.declared.limits.TheConstants.{SOURCE_WORDS};
     ghost use Rattle.aia_word.specs.Sets.{is_in};
     ghost use Rattle.aia_waiting.specs.Ready.{Tells};
 
@@ -27,7 +26,7 @@ impl Model for ReadyBits {
 
     ghost view = { λ r. r.words };
 
-    ghost invariant = { λ r. (length r.words ≡ 16) × Tells r.summary (is_in r.words) };
+    ghost invariant = { λ r. (length r.words ≡ SOURCE_WORDS) × Tells r.summary (is_in r.words) };
 }
 
 impl ReadyBits {
@@ -36,14 +35,14 @@ impl ReadyBits {
         ensures { (s : ℕ) → is_in result s ≡ false }
     {
         ReadyBits {
-            words: [0; WORDS],
+            words: [0; SOURCE_WORDS],
             summary: 0,
         }
     }
 
-    /// Gives word `k`, 0 to 15, which has the sources `64 * k` to `64 * k + 63`.
+    /// Gives word `k`, below `SOURCE_WORDS`, which has the sources `64 * k` to `64 * k + 63`.
     pub fn word(&self, k: u32) -> u64
-        requires { k < 16 }
+        requires { k < SOURCE_WORDS }
         ensures { result ≡ word_of (is_in self.now) (64 * k) 64 }
     {
         sets::word(&self.words, k as usize)
@@ -62,7 +61,7 @@ impl ReadyBits {
     pub fn clear(&mut self)
         ensures { (s : ℕ) → is_in self.new s ≡ false }
     {
-        self.words = [0; WORDS];
+        self.words = [0; SOURCE_WORDS];
         self.summary = 0;
     }
 
@@ -76,7 +75,7 @@ impl ReadyBits {
 
 /// Tells whether no source is in the set that words show, by their summary.
 fn tells_of_none(summary: u64, words: &[u64]) -> bool
-    requires words { length words.now ≡ 16 }
+    requires words { length words.now ≡ SOURCE_WORDS }
     requires tells { Tells summary (is_in words.now) }
     ensures { IsTrue result ↔ ((s : ℕ) → is_in words.now s ≡ false) }
 {
@@ -98,7 +97,7 @@ fn put(words: &mut [u64], s: u32, ready: bool)
 /// Gives the summary of the words, where all its bits but `k` tell of them already.
 #[tactic(auto, using(crate::proofs::WordLemmas::word_lemmas))]
 fn told(summary: u64, words: &[u64], k: u32) -> u64
-    requires word { k < 16 }
+    requires word { k < SOURCE_WORDS }
     requires others { TellsAllBut k summary (is_in words.now) }
     ensures { Tells result (is_in words.now) }
 {

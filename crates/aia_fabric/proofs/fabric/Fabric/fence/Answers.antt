@@ -4,7 +4,7 @@ use Rattle.aia_fabric.specs.World.{World, flight_of}
 use Rattle.aia_fabric.proofs.FlightLemmas.{all_landed_rest}
 use Rattle.aia_fabric.proofs.fabric.Fabric.fence.Goals as goal
 
-pub put_in_force-requires : goal.put_in_force-requires
-put_in_force-requires c =
+pub refetch-requires : goal.refetch-requires
+refetch-requires c =
     let rest = all_landed_rest (length (flight_of c.args.self.now c.args.vm)) c.args.self.now c.land_all.new.self c.args.vm c.land_all.ensures in
     ap (λ (w : World). is_vcpu_in w.vms (vcpu c.args.vm c.args.file)) rest ∙ c.requires

@@ -2,6 +2,7 @@ use Rattle.std.proofs.Common.{rules, refl, arith}
 use Rattle.aia_mrif.specs.Mrif.{pending_place, enable_place}
 use Rattle.aia_fabric.proofs.WholeLemmas.{zero_bit}
 use Rattle.aia_fabric.proofs.fabric.Fabric.new.Goals as goal
+use Rattle.aia_regs.specs.declared.limits.TheConstants.{MEMORY_WORDS}
 
 pub invariant_of-result : goal.invariant_of-result
 invariant_of-result c = record {
@@ -11,8 +12,8 @@ invariant_of-result c = record {
   greatest = search rules;
   width = search rules;
   memory = search rules;
-  no_pending_zero = λ q low. zero_bit c.in_ok-ram.ram 0xc00 (pending_place q 0) c.in_ok-ram.ensures (omega arith);
-  no_enabled_zero = λ q low. zero_bit c.in_ok-ram.ram 0xc00 (enable_place q 0) c.in_ok-ram.ensures (omega arith);
+  no_pending_zero = λ q low. zero_bit c.in_ok-ram.ram MEMORY_WORDS (pending_place q 0) c.in_ok-ram.ensures (omega arith);
+  no_enabled_zero = λ q low. zero_bit c.in_ok-ram.ram MEMORY_WORDS (enable_place q 0) c.in_ok-ram.ensures (omega arith);
   few = search rules;
   tables = search rules;
   flights = search rules;

@@ -13,6 +13,7 @@ use Rattle.aia_hyp.proofs.PageLemmas.{in_a_region, is_outside}
 use Rattle.aia_hyp.proofs.StoreLemmas.{store_refused, stored}
 use Rattle.aia_hyp.proofs.hyp.Hyp.store.Goals.{After-host_store}
 use Rattle.aia_hyp.proofs.hyp.Hyp.store.Goals as goal
+use Rattle.aia_regs.specs.declared.limits.TheConstants.{HARTS}
 
 taken : (c : After-host_store) → domain_at c.args.addr ≡ None → CoreTakes (record { world = c.self.inside.fabric; leases = c.self.inside.pool; vcpus = c.self.inside.vcpus.items; selects = c.self.inside.selects }) (record { world = c.host_store.new.self; leases = c.self.inside.pool; vcpus = c.self.inside.vcpus.items; selects = c.self.inside.selects }) (Store c.args.addr c.args.value) Okay
 taken c outside =
@@ -20,7 +21,7 @@ taken c outside =
     let x : CoreState = record { world = c.self.inside.fabric; leases = c.self.inside.pool; vcpus = c.self.inside.vcpus.items; selects = c.self.inside.selects } in
     let is : x ≡ c.args.self.now = c.self.view_is in
     let free = subst (λ (z : CoreState). ◌≡◌ {A = Option Refusal} None (core_refusal (spot_at z.world.imsic.harts z.world.imsic.guests c.args.addr) c.args.addr)) (sym is) c.in_ok-spot.ensures.refused in
-    let few = subst (λ (z : CoreState). z.world.imsic.harts ≤ 4) (sym is) c.in_ok-spot.ensures.few in
+    let few = subst (λ (z : CoreState). z.world.imsic.harts ≤ HARTS) (sym is) c.in_ok-spot.ensures.few in
     let at = subst (λ (z : CoreState). spot ≡ spot_at z.world.imsic.harts z.world.imsic.guests c.args.addr) (sym is) c.in_ok-spot.ensures.at in
     let there = subst (λ (z : CoreState). IsThere z.world.imsic spot) (sym is) c.in_ok-spot.ensures.there in
     stored _ _ c.args.addr c.args.value spot outside free (record {
