@@ -5,8 +5,9 @@ import subprocess
 from functools import cache
 
 from antt import TOP, clauses
+from constants import limit
 from markdown import anchors, documents, read, rows, section, sentences, spoken, words
-from pictures import address, limit
+from pictures import address
 from plans import KINDS, Move, Reader
 
 REFERENCE = "docs/REFERENCE.md"

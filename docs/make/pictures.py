@@ -2,7 +2,8 @@
 
 import re
 
-from antt import TOP, clauses, read_item
+from antt import TOP, clauses
+from constants import limit, shown
 from plans import KINDS, Move
 from svg import GUEST, HAND, INK, LINE, MEMORY, OTHER, PALE, TOLD, Picture
 
@@ -180,13 +181,8 @@ def picture_of(kind):
 
 def address(name):
     """Gives an address of the map, as the definitions have it."""
-    right = clauses("aia_regs", "AddressMap", name)[0][1]
+    right = shown(clauses("aia_regs", "AddressMap", name)[0][1])
     return re.sub(r"\b(hart|q|vm)\b", lambda m: {"hart": "h", "vm": "v"}.get(m[0], m[0]), right)
-
-
-def limit(name):
-    """Gives a limit of a machine."""
-    return re.search(r"= (\d+);", read_item("aia_regs", "src/limits.rt", name)[-1])[1]
 
 
 def part(picture, x, y, w, h, title, under, fill=PALE, stroke=LINE, dash=None):

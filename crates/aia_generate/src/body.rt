@@ -9,7 +9,7 @@ use aia_regs::{Csr, Op};
 
 /// The bytes from the MSI address of one virtual hart of a generated VM to the next one's: the lowest
 /// one of the mask is at bit 3.
-const OWN_STRIDE: u64 = 8 * PAGE;
+pub const OWN_STRIDE: u64 = 8 * PAGE;
 
 /// Gives the number after `x` in the sequence: one turn of a linear congruential generator, modulo
 /// 2^64.

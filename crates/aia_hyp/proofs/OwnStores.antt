@@ -1,7 +1,5 @@
 -- A store of a VM touches its own places alone, in a core that stands for a history.
 use Rattle.std.proofs.Common.{◌≡◌, ◌≢◌, ℕ, ◌%◌, true, List, slice_get, Option, Some, ◌⊎◌, sym, ap, subst, ◌∙◌}
-use Rattle.std.specs.Option.{option_map}
-use Rattle.std.proofs.lemmas.Option.{slice_get-map}
 use Rattle.aia_regs.specs.declared.address_map.TheConstants.{PAGE}
 use Rattle.aia_entry.specs.Tables.{table_of, route_of}
 use Rattle.aia_home.specs.declared.place.Place.{Place}
@@ -12,7 +10,6 @@ use Rattle.aia_home.specs.Home.{holds}
 use Rattle.aia_home.specs.Routes.{peers_reach}
 use Rattle.aia_fabric.specs.World.{World, stage_of}
 use Rattle.aia_fabric.specs.Whole.{IsWhole}
-use Rattle.aia_fabric.specs.declared.flights.Flying.{Flying}
 use Rattle.aia_fabric.specs.Stores.{Reaches, ReachesBy, Relays}
 use Rattle.aia_fabric.specs.Flights.{Lands}
 use Rattle.aia_fabric.specs.Changes.{view}
@@ -29,6 +26,7 @@ use Rattle.aia_hyp.specs.Core.{CoreState}
 use Rattle.aia_hyp.specs.Stands.{CoreStands, flying_of}
 use Rattle.aia_hyp.proofs.DeviceLemmas.{leads_to_own}
 use Rattle.aia_hyp.proofs.GuestStores.{devices_held, flying_held, peers_held}
+use Rattle.aia_hyp.proofs.LandingLemmas.{reaches_as_sent}
 use Rattle.aia_hyp.proofs.MoveLines.{in_force}
 
 -- a virtual hart of the history is one of the world
@@ -62,19 +60,9 @@ module _ (x : CoreState) (h : History) (u : World) (v k : ℕ) (s : Sending) (st
   one : IsForOne h v s
   one = all_at (IsForOne h v) k (flight h v) s is (stands.for_one v)
 
-  found : option_map (flying_of v) (flying h v k) ≡ Some landing.store
-  found = sym (slice_get-map (flying_of v) (flight h v) k) ∙ ap (λ stores. slice_get stores k) (sym (stands.flights v)) ∙ landing.is
-
-  kept : flying_of v s ≡ landing.store
-  kept = let both : Some (flying_of v s) ≡ Some landing.store = ap (option_map (flying_of v)) (sym is) ∙ found in cc
-
-  as_sent : ReachesBy (leads_to (slot_of (vms_of s.before) (sent_to v s)) (notice_hart (vms_of s.before) (sent_to v s)) (sent_into v s)) x.world landing.stored (s.addr % PAGE) s.value
-  as_sent = subst (λ (f : Flying). ReachesBy f.entry x.world landing.stored f.offset f.value) (sym kept) landing.reaches
-
   leads : ReachesBy (leads_to (slot_of x.world.vms (sent_to v s)) (notice_hart x.world.vms (sent_to v s)) (sent_into v s)) x.world landing.stored (s.addr % PAGE) s.value
   leads = subst (λ (vs : List Vm). ReachesBy (leads_to (slot_of vs (sent_to v s)) (notice_hart vs (sent_to v s)) (sent_into v s)) x.world landing.stored (s.addr % PAGE) s.value) (sym stands.vms)
-      (subst (λ q. ReachesBy (leads_to q (notice_hart (vms_of h) (sent_to v s)) (sent_into v s)) x.world landing.stored (s.addr % PAGE) s.value) (sym one.slot)
-      (subst (λ hart. ReachesBy (leads_to (slot_of (vms_of s.before) (sent_to v s)) hart (sent_into v s)) x.world landing.stored (s.addr % PAGE) s.value) (sym one.notice) as_sent))
+      (reaches_as_sent x h u v k stands landing s is)
 
   holding : (p : Place) → sent_into v s ≡ Some p → holds p (home h (sent_to v s)) ≡ true
   holding p e = flying_held h v k s p stands.may_fly is e
