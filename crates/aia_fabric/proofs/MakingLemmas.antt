@@ -17,7 +17,7 @@ use Rattle.aia_home.specs.declared.vm.Vm.{Vm}
 use Rattle.aia_home.specs.Vms.{vcpus_in}
 use Rattle.aia_fabric.specs.World.{World}
 use Rattle.aia_fabric.specs.Making.{MakesVm, table_place, notice_page, entry_word_place, words_with_entry, with_entry, with_vm}
-use Rattle.aia_regs.specs.declared.limits.TheConstants.{VMS, SLOTS, ENTRIES, MEMORY_WORDS}
+use Rattle.aia_regs.specs.declared.limits.TheConstants.{VMS, VCPUS, SLOTS, ENTRIES, MEMORY_WORDS}
 
 -- the entry in force of a file, once those of so many files are made
 abbrev pub entry_so_far : Vm → ℕ → ℕ → ℕ → Entry
@@ -83,12 +83,12 @@ table_here : (tables : List TableState) (vm file : ℕ) (words : List ℕ) → v
 table_here tables vm file words there = get_or-set_same tables vm (fenced words file (table_of tables vm)) no_table there
 
 -- the words of an entry that is written
-first_word : (words : List ℕ) (vm file slot page : ℕ) → entry_word_place vm file < MEMORY_WORDS - 1 → length words ≡ MEMORY_WORDS → slice_index (words_with_entry words vm file slot page) (entry_word_place vm file) ≡ mrif_word (slot_address slot)
+first_word : (words : List ℕ) (vm file slot page : ℕ) → entry_word_place vm file + 1 < MEMORY_WORDS → length words ≡ MEMORY_WORDS → slice_index (words_with_entry words vm file slot page) (entry_word_place vm file) ≡ mrif_word (slot_address slot)
 first_word words vm file slot page low size =
     get_or-set_other (set words (entry_word_place vm file) (mrif_word (slot_address slot))) (entry_word_place vm file + 1) (entry_word_place vm file) (notice_word page (slot + 1)) 0 (λ e. omega arith)
     ∙ get_or-set_same words (entry_word_place vm file) (mrif_word (slot_address slot)) 0 (omega arith)
 
-second_word : (words : List ℕ) (vm file slot page : ℕ) → entry_word_place vm file < MEMORY_WORDS - 1 → length words ≡ MEMORY_WORDS → slice_index (words_with_entry words vm file slot page) (entry_word_place vm file + 1) ≡ notice_word page (slot + 1)
+second_word : (words : List ℕ) (vm file slot page : ℕ) → entry_word_place vm file + 1 < MEMORY_WORDS → length words ≡ MEMORY_WORDS → slice_index (words_with_entry words vm file slot page) (entry_word_place vm file + 1) ≡ notice_word page (slot + 1)
 second_word words vm file slot page low size =
     get_or-set_same (set words (entry_word_place vm file) (mrif_word (slot_address slot))) (entry_word_place vm file + 1) (notice_word page (slot + 1)) 0 (omega (arith, length-set words (entry_word_place vm file) (mrif_word (slot_address slot))))
 
@@ -101,7 +101,7 @@ size_kept : (words : List ℕ) (vm file slot page : ℕ) → length (words_with_
 size_kept words vm file slot page = length-set (set words (entry_word_place vm file) (mrif_word (slot_address slot))) (entry_word_place vm file + 1) (notice_word page (slot + 1)) ∙ length-set words (entry_word_place vm file) (mrif_word (slot_address slot))
 
 -- what they say
-said : (words : List ℕ) (t : TableState) (vm file slot page : ℕ) → t.start ≡ table_place vm → entry_word_place vm file < MEMORY_WORDS - 1 → length words ≡ MEMORY_WORDS → slot < SLOTS → page < 2 ^ 44
+said : (words : List ℕ) (t : TableState) (vm file slot page : ℕ) → t.start ≡ table_place vm → entry_word_place vm file + 1 < MEMORY_WORDS → length words ≡ MEMORY_WORDS → slot < SLOTS → page < 2 ^ 44
     → written_entry (words_with_entry words vm file slot page) t file ≡ Mrif (slot_address slot) page (slot + 1)
 said words t vm file slot page start low size few there =
     let first : (t.start + 16 * file) / 8 ≡ entry_word_place vm file = ap (λ n. (n + 16 * file) / 8) start in
@@ -113,7 +113,7 @@ said words t vm file slot page start low size few there =
     ∙ ap (λ x. decoded (mrif_word (slot_address slot)) x) (second_word words vm file slot page low size)
     ∙ mrif_back (slot_address slot) page (slot + 1) (omega arith) (omega arith) there (omega arith)
 
-pub one_more_made : (w u : World) (vm : Vm) (made page : ℕ) → HasMade w u vm made → length w.tables < VMS → made < ENTRIES → vcpus_in w.vms + made < ENTRIES → page ≡ notice_page vm → page < 2 ^ 44
+pub one_more_made : (w u : World) (vm : Vm) (made page : ℕ) → HasMade w u vm made → length w.tables < VMS → made < ENTRIES → vcpus_in w.vms + made < VCPUS → page ≡ notice_page vm → page < 2 ^ 44
     → HasMade w (with_entry u (length w.tables) made (vcpus_in w.vms + made) page) vm (made + 1)
 one_more_made w u vm made page so_far vms few slots is there =
     let new = length w.tables in
@@ -123,7 +123,7 @@ one_more_made w u vm made page so_far vms few slots is there =
     let count = so_far.count in
     let stands : new < length u.tables = omega arith in
     let room = so_far.room in
-    let low : entry_word_place new made < MEMORY_WORDS - 1 = omega arith in
+    let low : entry_word_place new made + 1 < MEMORY_WORDS = omega arith in
     let here = table_here u.tables new made words stands in
     let entry : entry_in_force (table_of (fenced_at u.tables new made words) new) made ≡ Mrif (slot_address slot) (notice_page vm) (slot + 1) =
     fenced_here u.tables new made words stands (omega arith) ∙ said u.memory t new made slot page so_far.start low so_far.size slots there ∙ ap (λ p. Mrif (slot_address slot) p (slot + 1)) is in

@@ -173,7 +173,7 @@ module _ (w : World) (g : Vcpu) (there : Home) (whole : IsWhole w) (stands : is_
       let second = get_or-set_other w.memory place (entry_word_place g.vm g.number + 1) v 0 past.1 in
       λ t. record (view w g there) { slot = mrif_in (set w.memory place v) (slot_of w.vms g); word0 = first t; word1 = second t }
 
-  entry_low : entry_word_place g.vm g.number < MEMORY_WORDS - 1
+  entry_low : entry_word_place g.vm g.number + 1 < MEMORY_WORDS
   entry_low = let entry = vcpu_entry w g.vm g.number whole stands in (entry_at w g.vm g.number whole entry.0 entry.3).3
 
   in_table : (place v : ℕ) → WORDS_OF_SLOTS ≤ place → mrif_in (set w.memory place v) (slot_of w.vms g) ≡ mrif_in w.memory (slot_of w.vms g)

@@ -118,7 +118,7 @@ vm_whole w vm whole few mask numbers vcpus hart = record {
 -- ---- where an entry lies
 
 pub entry_at : (w : World) (vm file : ℕ) → IsWhole w → vm < length w.vms → file < 2 ^ ones 64 (table_of w.tables vm).mask
-    → (file < ENTRIES) × (entry_place (table_of w.tables vm) file ≡ table_place vm + 16 * file) × (entry_word_place vm file * 8 ≡ table_place vm + 16 * file) × (entry_word_place vm file < MEMORY_WORDS - 1)
+    → (file < ENTRIES) × (entry_place (table_of w.tables vm) file ≡ table_place vm + 16 * file) × (entry_word_place vm file * 8 ≡ table_place vm + 16 * file) × (entry_word_place vm file + 1 < MEMORY_WORDS)
 entry_at w vm file whole there low =
     let is = whole.vms vm there in
     let few = has_entry (table_of w.tables vm).mask file (mask_parts (table_of w.tables vm).mask (rw (is.same_mask) is.mask)).1 low in

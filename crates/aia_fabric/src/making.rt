@@ -9,7 +9,7 @@ use crate::{Fabric, map};
 use aia_home::Vm;
 
 impl Fabric {
-    /// Makes the next VM, while fewer than four stand: of `vcpus` virtual harts, at most 2^k where
+    /// Makes the next VM, while fewer than `VMS` stand: of `vcpus` virtual harts, at most 2^k where
     /// its mask has k ones, and `VCPUS` with those of the VMs that stand, and the mask `mask` of
     /// its MSI addresses, over numbers of pages, which has 1 to `MASK_ONES` ones, all below bit
     /// `MASK_BITS`. The supervisor file of hart `hart`, one that is there, takes the notices of its
