@@ -53,17 +53,17 @@ fn entries_in_force_lead_stores_to_slots(rt: HostRuntime) -> Result<(), Fail> {
         (
             1,
             0x2800_8000,
-            Some(Route::To(Entry::Mrif(0x8000_0800, 0x28010, 5))),
+            Some(Route::To(Entry::Mrif(0x8000_0800, 0x28040, 5))),
         ),
         (
             0,
             0x2800_0000,
-            Some(Route::To(Entry::Mrif(0x8000_0000, 0x28008, 1))),
+            Some(Route::To(Entry::Mrif(0x8000_0000, 0x28020, 1))),
         ),
         (
             0,
             0x2801_0000,
-            Some(Route::To(Entry::Mrif(0x8000_0400, 0x28008, 3))),
+            Some(Route::To(Entry::Mrif(0x8000_0400, 0x28020, 3))),
         ),
         (0, 0x2801_8000, Some(Route::Fault(Entry::NotValid))),
         (0, 0x2802_8000, Some(Route::Other)),
@@ -83,8 +83,8 @@ fn notices_reach_the_notice_hart(rt: HostRuntime) -> Result<(), Fail> {
     notices(&mut fabric, 4);
     notices(&mut fabric, 2);
     same!(rt; fabric.notices(), 2);
-    same!(rt; pending(&mut fabric, 0x2801_0000, Op::Read), Some(1 << 5));
-    same!(rt; pending(&mut fabric, 0x2800_8000, Op::Read), Some(1 << 3));
+    same!(rt; pending(&mut fabric, 0x2804_0000, Op::Read), Some(1 << 5));
+    same!(rt; pending(&mut fabric, 0x2802_0000, Op::Read), Some(1 << 3));
     same!(rt; pending(&mut fabric, 0x2800_0000, Op::Read), Some(0));
     drop(fabric);
     Ok(())
@@ -93,7 +93,7 @@ fn notices_reach_the_notice_hart(rt: HostRuntime) -> Result<(), Fail> {
 #[test]
 fn stores_of_the_host_land_in_one_file(rt: HostRuntime) -> Result<(), Fail> {
     let mut fabric = two_vms(rt.alloc())?;
-    let spot = fabric.locate(0x2801_a000);
+    let spot = fabric.locate(0x2806_2000);
     same!(rt; spot, Spot::GuestFile(3, 2));
     if spot == Spot::Nowhere {
         return Ok(());
@@ -102,8 +102,8 @@ fn stores_of_the_host_land_in_one_file(rt: HostRuntime) -> Result<(), Fail> {
     same!(rt; fabric.file(spot).top(), 0);
     same!(rt; fabric.reg(spot, FileReg::Enable(0), Op::Write(0x80)), 0);
     same!(rt; fabric.claim(spot), 0x7_0007);
-    same!(rt; pending(&mut fabric, 0x2801_a000, Op::Read), Some(0));
-    same!(rt; pending(&mut fabric, 0x2801_b000, Op::Read), None);
+    same!(rt; pending(&mut fabric, 0x2806_2000, Op::Read), Some(0));
+    same!(rt; pending(&mut fabric, 0x2806_3000, Op::Read), None);
     drop(fabric);
     Ok(())
 }
