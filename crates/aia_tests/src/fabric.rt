@@ -5,6 +5,7 @@ use aia_entry::{Entry, Route, is_mask};
 use aia_fabric::Fabric;
 use aia_home::{Vm, notice_hart_of, vcpus_in};
 use aia_imsic::Spot;
+use aia_regs::limits::{GUEST_FILES, HARTS, SLOTS, VCPUS, VM_VCPUS, VMS};
 use aia_regs::{FileReg, Op};
 use std::alloc::{AllocError, Global};
 use std::test::Fail;
@@ -73,6 +74,40 @@ fn entries_in_force_lead_stores_to_slots(rt: HostRuntime) -> Result<(), Fail> {
         same!(rt; stores(&mut fabric, vm, addr, 5), route; addr);
     }
     same!(rt; fabric.notices(), 0);
+    drop(fabric);
+    Ok(())
+}
+
+/// Makes a VM of the mask 0xf, where there is room for it.
+#[tactic(auto, unfolding(aia_word::specs::Packed::ones))]
+fn add_vm(fabric: &mut Fabric, vcpus: u32, hart: u32) {
+    let made = fabric.vcpus();
+    if fabric.vms() < VMS && vcpus <= VM_VCPUS && made <= VCPUS && vcpus <= VCPUS - made {
+        if hart < fabric.harts() {
+            fabric.vm(vcpus, 0xf, hart);
+        }
+    }
+}
+
+/// Of the greatest machine, with the most virtual harts of the most VMs.
+#[test]
+fn the_last_entry_leads_to_the_last_slot(rt: HostRuntime) -> Result<(), Fail> {
+    let mut fabric = Fabric::new(rt.alloc(), HARTS, GUEST_FILES, 63)?;
+    for vcpus in [2, 2, 2, 2, 2, 3, 3] {
+        add_vm(&mut fabric, vcpus, 0);
+    }
+    add_vm(&mut fabric, VM_VCPUS, HARTS - 1);
+    same!(rt; (fabric.vms(), fabric.vcpus()), (VMS, VCPUS));
+    let last = Route::To(Entry::Mrif(0x8000_3e00, 0x28060, 32));
+    same!(rt; stores(&mut fabric, VMS - 1, 0x2800_f000, 5), Some(last));
+    let next_to_last = Route::To(Entry::Mrif(0x8000_3c00, 0x28060, 31));
+    same!(rt; stores(&mut fabric, VMS - 1, 0x2800_e004, 0x0600_0000), Some(next_to_last));
+    same!(rt; stores(&mut fabric, VMS - 2, 0x2800_3000, 5), Some(Route::Fault(Entry::NotValid)));
+    same!(rt; stores(&mut fabric, VMS, 0x2800_0000, 5), None);
+    same!(rt; fabric.look(SLOTS - 1, 0), (0x20, 0));
+    same!(rt; fabric.look(SLOTS - 2, 0), (0x40, 0));
+    notices(&mut fabric, VCPUS - 1);
+    same!(rt; pending(&mut fabric, 0x2806_0000, Op::Read), Some(1 << VCPUS));
     drop(fabric);
     Ok(())
 }
