@@ -7,14 +7,14 @@ BEGIN {
   pairs = 300000  # a script has at most 16,777,216 bytes
   seed = 1
   put("machine 4 0 63 1")
-  for (vm = 0; vm < 4; vm++) put("vm 4 0x18 " vm)
+  for (vm = 0; vm < 4; vm++) put("vm 4 0x60 " vm)
   for (vm = 0; vm < 4; vm++) for (k = 1; k < count; k++) put("send " vm " " store())
   for (pair = 0; pair < pairs; pair++) put_pair(random(4), store())
 }
 
 # The address and the value of a store, in either byte order.
 function store(  page, order, identity) {
-  page = 163840 + random(4) * 8  # 0x28000 and on
+  page = 163840 + random(4) * 32  # 0x28000 and on
   order = random(2) * 4
   identity = 1 + random(63)
   return sprintf(order ? "0x%05x%03x 0x%02x000000" : "0x%05x%03x 0x%02x", page, order, identity)

@@ -1,13 +1,13 @@
 # awk -v N=n -v who=one -f common.awk -f moves.awk: 100,000 whole moves of a virtual hart of a machine
-# with the identities 1 to n, some of them pending and enabled; -v who=many: of 16 virtual harts of
-# four VMs, with the most harts and guest files.
+# with the identities 1 to n, some of them pending and enabled; -v who=many: of 32 virtual harts of
+# eight VMs, with the most harts and guest files.
 
 BEGIN {
   seed = 1
-  vms = who == "many" ? 4 : 1
+  vms = who == "many" ? 8 : 1
   vcpus = who == "many" ? 4 : 1
   harts = who == "many" ? 4 : 1
-  files = who == "many" ? 7 : 2
+  files = who == "many" ? 31 : 2
   put("machine " harts " " files " " N " 1")
   for (vm = 0; vm < vms; vm++) put("vm " vcpus " 0x18 0")
   for (vm = 0; vm < vms; vm++) for (vcpu = 0; vcpu < vcpus; vcpu++) {

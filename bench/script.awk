@@ -31,7 +31,7 @@ function body_line(    hart, at_machine, who, level, kind) {
   who = (at_machine ? "m " : "h ") hart
   level = at_machine ? "m" : "s"
   kind = random(16)
-  if (kind < 5) put(store(at_machine ? 603979776 + hart * 4096 : 671088640 + hart * 32768, 1 + random(N)))
+  if (kind < 5) put(store(at_machine ? 603979776 + hart * 4096 : 671088640 + hart * 131072, 1 + random(N)))
   else if (kind < 10) put(who " csrrw " level "topei 0")
   else if (kind < 13) put(who " csrr " level "topei")
   else if (kind < 14) put(who " csrrw " level "iselect " enable_register(random(words)))

@@ -289,7 +289,7 @@ function answer(line,    field, who) {
   if (field[1] == "begin") begin(field[2], field[3] " " field[4], field[5])
   if (field[1] == "refetch" && moving[who] != "") refetched[who]
   if (field[1] == "vm") make_vm(field[2], field[4])
-  if (field[1] == "st") asks("host " int((number(field[2]) - 671088640) / 32768), number(field[3]))
+  if (field[1] == "st") asks("host " int((number(field[2]) - 671088640) / 131072), number(field[3]))
   if (field[1] == "inject" && field[5]) injected[who, field[4]]
   if (field[1] == "inject" && !field[5]) delete injected[who, field[4]]
   if (field[1] == "hvictl") ipriom[who] = int(number(field[4]) / 256) % 2
@@ -321,7 +321,7 @@ function write_registers(who, pairs,    k, some, many) {
 # and where an identity is to be deliverable 7, or 70.
 function say_before(is_deliverable,    hart) {
   count["before"] = 0
-  say_all("before", "machine 2 3 " greatest " 8;vm 3 0x18 1;vm 1 0x8 0")
+  say_all("before", "machine 2 3 " greatest " 8;vm 3 0x18 1;vm 1 0x8 0;vm 16 0x78 0")
   for (hart = 1; hart >= 0; hart--)
     say_all("before", "h " hart " csrrw siselect 0xc0;h " hart " csrrw sireg 0x1e;h " hart \
       " csrrw siselect 0x80")
@@ -387,7 +387,7 @@ function say_stores(    above) {
 # Lines of the host, of other virtual harts and of their moves.
 function say_others() {
   say("lines", "h 1 csrrw stopei 0;h 1 csrr stopei;h 1 csrr sireg;h 0 hgeip;h 1 hgeip")
-  say("lines", "st 0x28008000 1;h 1 csrrw stopei 0")
+  say("lines", "st 0x28020000 1;h 1 csrrw stopei 0")
   say("lines", "msi 0 0x28008000 5;msi 0 0x28010000 5;g 0 1 ipi 2 6;h 1 csrrw stopei 0")
   say("lines", "msi 1 0x28000000 5;g 0 1 ipi 1 6;g 1 0 ipi 0 6;h 0 hgeip")
   say("lines", "begin leave 1 0;step 1 0;step 1 0;h 0 hgeip;msi 1 0x28000000 5")
@@ -470,11 +470,12 @@ function state(word, lines) {
 function state_words() {
   state("bad", "step 0;step 0 0 0;begin;begin leave 0;begin 0 0;begin arrive 0 0;Step 0 0;wire 1 2")
   state("again", "machine 2 3 63 8")
-  state("range", "step 0 3;step 2 0;begin leave 0 3")
-  state("range", "begin arrive 0 0 2;begin shift 0 0 2;arrive 0 3 0;leave 2 0;shift 0 0 2")
-  state("range", "msi 2 0x28000000 5;g 0 3 csrr stopei;h 2 hgeip;m 2 csrr mtopei;pins 2;wire 9 1")
-  state("range", "inject 0 0 2 1;inject 0 3 1 1;hvictl 0 0 0x40000000;hviprio 2 0 0;vm 5 0x18 0")
-  state("full", "vm 9 0x78 0")
+  state("range", "step 0 3;step 3 0;step 2 16;begin leave 0 3")
+  state("range", "begin arrive 0 0 2;begin shift 0 0 2;arrive 0 3 0;leave 3 0;shift 0 0 2")
+  state("range", "msi 3 0x28000000 5;g 0 3 csrr stopei;h 2 hgeip;m 2 csrr mtopei;pins 2;wire 9 1")
+  state("range", "inject 0 0 2 1;inject 0 3 1 1;hvictl 0 0 0x40000000;hviprio 3 0 0;vm 5 0x18 0")
+  state("range", "vm 17 0x78 0")
+  state("full", "vm 13 0x78 0")
   state("busy", "arrive 0 0 0;leave 0 0;shift 0 0 1")
   state("busy", "begin arrive 0 0 1;begin leave 0 0;begin shift 0 0 0")
   state("home", "arrive 0 1 1;begin arrive 1 0 1")
@@ -486,11 +487,11 @@ function state_words() {
   state("away", "g 0 0 csrrw stopi 0;g 0 0 csrrw sie 0;g 0 0 ipi 1 5;g 0 0 ipi 3 5;g 0 2 ipi 0 5")
   state("illegal", "g 0 1 csrrw stopi 0;m 0 csrr mireg")
   state("fault", "st 0 0;ld 0x28000002;st 0x28007000 5;msi 0 0x28000001 5;msi 0 0x28000006 5")
-  state("guarded", "st 0x28001000 5;ld 0x28001000;st 0x28009000 5;st 0x80000000 5;ld 0x80002000")
+  state("guarded", "st 0x28001000 5;ld 0x28001000;st 0x28021000 5;st 0x80000000 5;ld 0x80004000")
   state("other", "msi 0 0x24000000 5;msi 0 0x28020000 5;msi 1 0x28010000 5")
   state("notvalid", "msi 0 0x28018000 5;entry 0 0")
   state("bad", "send 0 0x28000000;send 0 0x28000000 5 5;land 0;land 0 0 0;refetch 0;refetch 0 0 0")
-  state("range", "send 2 0x28000000 5;land 0 0;land 1 0;land 2 0;refetch 0 3;refetch 2 0")
+  state("range", "send 3 0x28000000 5;land 0 0;land 1 0;land 3 0;refetch 0 3;refetch 3 0")
   state("fault", "send 0 0x28000001 5")
   state("other", "send 0 0x24000000 5;send 1 0x28010000 5")
   state("notvalid", "send 0 0x28018000 5")

@@ -31,9 +31,9 @@ leak == 10 && $1 == "g" && $5 == "sie" && NF == 6 { others($1, $2, $3 " " $4 " "
 function more(line) { print "+ " line }
 
 function others(keyword, vm, rest,  v) {
-  for (v = 0; v < 4; v++) if (v != vm) more(keyword " " v " " rest)
+  for (v = 0; v < 8; v++) if (v != vm) more(keyword " " v " " rest)
 }
 
 function all(keyword, rest,  v, c) {
-  for (v = 0; v < 4; v++) for (c = 0; c < 4; c++) more(keyword " " v " " c " " rest)
+  for (v = 0; v < 8; v++) for (c = 0; c < 16; c++) more(keyword " " v " " c " " rest)
 }

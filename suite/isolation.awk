@@ -64,16 +64,18 @@ function begin_machine(  k) {
   vms = 0
   all = 0
   harts = 1 + random(4)
-  files = 3 + random(5)
+  files = random(2) ? 3 + random(5) : 3 + random(29)
   put("machine " harts " " files " " greatest " " (1 + random(1023)))
-  for (k = 1 + random(4); k > 0; k--) add_vm()
+  for (k = 1 + random(8); k > 0; k--) add_vm()
 }
 
+# Makes a VM, of a virtual hart at least for each VM that there may be after it; or, where as many
+# stand as there may be, one that is refused.
 function add_vm(  ones, count, k) {
   ones = 1 + random(4)
   count = 1 + random(2 ^ ones)
-  if (count > 4) count = 4
-  if (vms == 4 || all + count > 16) return
+  if (vms == 8) { put("vm " count " " 2 ^ ones - 1 " " random(harts)); return }
+  if (all + count > 25 + vms) count = 25 + vms - all
   split("", taken)
   mask[vms] = 0
   for (k = 0; k < ones; k++) {
@@ -176,7 +178,7 @@ function beside(who,  other, kind, parts, name) {
   else if (kind == 6) put("h " random(harts) " csrrw siselect " selects[1 + random(9)])
   else if (kind == 7) put("h " random(harts) " csrrw " (random(2) ? "sireg " : "stopei ") word())
   else if (kind == 8) put("m " random(harts) " csrrw " (random(2) ? "mireg " : "miselect ") word())
-  else if (kind == 9) put("st " (671088640 + random(harts) * 32768 + 4 * random(2)) " " random(65536))
+  else if (kind == 9) put("st " (671088640 + random(harts) * 131072 + 4 * random(2)) " " random(65536))
   else if (kind == 10) put("wire " (1 + random(9)) " " random(2))
   else if (kind == 11) put("st " (201326592 + 4 * random(9000)) " " random(65536))
   else if (kind == 12) put(random(2) ? "pins " random(harts) : "h " random(harts) " hgeip")
@@ -261,7 +263,7 @@ function one(  k, who, name) {
   out = "/dev/stdout"
   greatest = widths[1 + random(3)]
   begin_machine()
-  while (vms < 4) add_vm()
+  while (vms < 8) add_vm()
   for (who in home) {
     settle(who)
     for (k = 1; k <= draw_said(5); k++) put("g " who substr(said[k], 4))
@@ -270,7 +272,7 @@ function one(  k, who, name) {
     who = any_one()
     split(who, name, " ")
     if (random(3)) beside(who)
-    else if (random(4) == 0) put("g " who " ipi " random(4) " " random(greatest))
+    else if (random(4) == 0) put("g " who " ipi " random(vcpus[name[1]] + 1) " " random(greatest))
     else say_one(who, name)
   }
 }

@@ -96,8 +96,9 @@ function make_list(list, text,    some, k) {
 
 function make_lists() {
   make_list("few", "0;1;2;3;4;0x0;0x1")
-  make_list("numbers", "5;8;9;31;63;64;127;255;511;1023;2047;2048;0x3f;0x28000000;0x28000004;" \
-    "0x2800;0x24000000;0x0c000000;0x80000000;0xc0;0x80;0x70;0xffffffff;4294967295;4294967296;" \
+  make_list("numbers", "5;7;8;9;15;16;17;31;32;33;63;64;127;255;511;1023;2047;2048;0x3f;" \
+    "0x28000000;0x28000004;0x28020000;0x2807f000;0x8000bffc;0x8000c000;0x2800;0x24000000;" \
+    "0x0c000000;0x80000000;0xc0;0x80;0x70;0xffffffff;4294967295;4294967296;" \
     "0x100000000;0xffffffffffffffff;18446744073709551615;0x0000000000000001;0x000000000000001;" \
     "0x00000000ffffffff;0x0000000100000000;9999999999999999999;10000000000000000000;" \
     "18446744073709551599")
@@ -207,7 +208,7 @@ function a_line(    kind) {
 
 # A `machine` line that may be accepted: none is written, for one would end the first part.
 function may_stand(line) {
-  return line ~ /^machine (0x0*)?[1-4] (0x0*)?[0-7] / && spells(line)
+  return line ~ /^machine (0x0*)?[1-4] ([0-9]|[12][0-9]|3[01]|0x0*1?[0-9a-f]) / && spells(line)
 }
 
 BEGIN {

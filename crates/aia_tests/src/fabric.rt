@@ -5,6 +5,7 @@ use aia_entry::{Entry, Route, is_mask};
 use aia_fabric::Fabric;
 use aia_home::{Vm, notice_hart_of, vcpus_in};
 use aia_imsic::Spot;
+use aia_regs::limits::{GUEST_FILES, HARTS, SLOTS, VCPUS, VM_VCPUS, VMS};
 use aia_regs::{FileReg, Op};
 use std::alloc::{AllocError, Global};
 use std::test::Fail;
@@ -53,17 +54,17 @@ fn entries_in_force_lead_stores_to_slots(rt: HostRuntime) -> Result<(), Fail> {
         (
             1,
             0x2800_8000,
-            Some(Route::To(Entry::Mrif(0x8000_0800, 0x28010, 5))),
+            Some(Route::To(Entry::Mrif(0x8000_0800, 0x28040, 5))),
         ),
         (
             0,
             0x2800_0000,
-            Some(Route::To(Entry::Mrif(0x8000_0000, 0x28008, 1))),
+            Some(Route::To(Entry::Mrif(0x8000_0000, 0x28020, 1))),
         ),
         (
             0,
             0x2801_0000,
-            Some(Route::To(Entry::Mrif(0x8000_0400, 0x28008, 3))),
+            Some(Route::To(Entry::Mrif(0x8000_0400, 0x28020, 3))),
         ),
         (0, 0x2801_8000, Some(Route::Fault(Entry::NotValid))),
         (0, 0x2802_8000, Some(Route::Other)),
@@ -77,14 +78,48 @@ fn entries_in_force_lead_stores_to_slots(rt: HostRuntime) -> Result<(), Fail> {
     Ok(())
 }
 
+/// Makes a VM of the mask 0xf, where there is room for it.
+#[tactic(auto, unfolding(aia_word::specs::Packed::ones))]
+fn add_vm(fabric: &mut Fabric, vcpus: u32, hart: u32) {
+    let made = fabric.vcpus();
+    if fabric.vms() < VMS && vcpus <= VM_VCPUS && made <= VCPUS && vcpus <= VCPUS - made {
+        if hart < fabric.harts() {
+            fabric.vm(vcpus, 0xf, hart);
+        }
+    }
+}
+
+/// Of the greatest machine, with the most virtual harts of the most VMs.
+#[test]
+fn the_last_entry_leads_to_the_last_slot(rt: HostRuntime) -> Result<(), Fail> {
+    let mut fabric = Fabric::new(rt.alloc(), HARTS, GUEST_FILES, 63)?;
+    for vcpus in [2, 2, 2, 2, 2, 3, 3] {
+        add_vm(&mut fabric, vcpus, 0);
+    }
+    add_vm(&mut fabric, VM_VCPUS, HARTS - 1);
+    same!(rt; (fabric.vms(), fabric.vcpus()), (VMS, VCPUS));
+    let last = Route::To(Entry::Mrif(0x8000_3e00, 0x28060, 32));
+    same!(rt; stores(&mut fabric, VMS - 1, 0x2800_f000, 5), Some(last));
+    let next_to_last = Route::To(Entry::Mrif(0x8000_3c00, 0x28060, 31));
+    same!(rt; stores(&mut fabric, VMS - 1, 0x2800_e004, 0x0600_0000), Some(next_to_last));
+    same!(rt; stores(&mut fabric, VMS - 2, 0x2800_3000, 5), Some(Route::Fault(Entry::NotValid)));
+    same!(rt; stores(&mut fabric, VMS, 0x2800_0000, 5), None);
+    same!(rt; fabric.look(SLOTS - 1, 0), (0x20, 0));
+    same!(rt; fabric.look(SLOTS - 2, 0), (0x40, 0));
+    notices(&mut fabric, VCPUS - 1);
+    same!(rt; pending(&mut fabric, 0x2806_0000, Op::Read), Some(1 << VCPUS));
+    drop(fabric);
+    Ok(())
+}
+
 #[test]
 fn notices_reach_the_notice_hart(rt: HostRuntime) -> Result<(), Fail> {
     let mut fabric = two_vms(rt.alloc())?;
     notices(&mut fabric, 4);
     notices(&mut fabric, 2);
     same!(rt; fabric.notices(), 2);
-    same!(rt; pending(&mut fabric, 0x2801_0000, Op::Read), Some(1 << 5));
-    same!(rt; pending(&mut fabric, 0x2800_8000, Op::Read), Some(1 << 3));
+    same!(rt; pending(&mut fabric, 0x2804_0000, Op::Read), Some(1 << 5));
+    same!(rt; pending(&mut fabric, 0x2802_0000, Op::Read), Some(1 << 3));
     same!(rt; pending(&mut fabric, 0x2800_0000, Op::Read), Some(0));
     drop(fabric);
     Ok(())
@@ -93,7 +128,7 @@ fn notices_reach_the_notice_hart(rt: HostRuntime) -> Result<(), Fail> {
 #[test]
 fn stores_of_the_host_land_in_one_file(rt: HostRuntime) -> Result<(), Fail> {
     let mut fabric = two_vms(rt.alloc())?;
-    let spot = fabric.locate(0x2801_a000);
+    let spot = fabric.locate(0x2806_2000);
     same!(rt; spot, Spot::GuestFile(3, 2));
     if spot == Spot::Nowhere {
         return Ok(());
@@ -102,8 +137,8 @@ fn stores_of_the_host_land_in_one_file(rt: HostRuntime) -> Result<(), Fail> {
     same!(rt; fabric.file(spot).top(), 0);
     same!(rt; fabric.reg(spot, FileReg::Enable(0), Op::Write(0x80)), 0);
     same!(rt; fabric.claim(spot), 0x7_0007);
-    same!(rt; pending(&mut fabric, 0x2801_a000, Op::Read), Some(0));
-    same!(rt; pending(&mut fabric, 0x2801_b000, Op::Read), None);
+    same!(rt; pending(&mut fabric, 0x2806_2000, Op::Read), Some(0));
+    same!(rt; pending(&mut fabric, 0x2806_3000, Op::Read), None);
     drop(fabric);
     Ok(())
 }

@@ -6,6 +6,7 @@ use crate::looks::{holds, is_same};
 use crate::same;
 use aia_file::{File, Looks, search};
 use aia_imsic::{Imsic, Spot};
+use aia_regs::limits::{GUEST_FILES, HARTS};
 use aia_regs::{FileReg, Op};
 use aia_steps::Steps;
 use std::marker::Brand;
@@ -14,7 +15,7 @@ use std::sync::ledger::{Blank, Ledger};
 use std::test::Fail;
 
 /// Addresses at the ends of pages, of a machine of two harts with one guest file each.
-const PLACES: [(u64, Spot); 17] = [
+const PLACES: [(u64, Spot); 20] = [
     (0, Spot::Nowhere),
     (0x0c00_0000, Spot::Nowhere),
     (0x23ff_ffff, Spot::Nowhere),
@@ -27,9 +28,12 @@ const PLACES: [(u64, Spot); 17] = [
     (0x2800_1000, Spot::GuestFile(0, 1)),
     (0x2800_1fff, Spot::GuestFile(0, 1)),
     (0x2800_2000, Spot::Nowhere),
-    (0x2800_8004, Spot::HostFile(1)),
-    (0x2800_9000, Spot::GuestFile(1, 1)),
-    (0x2801_0000, Spot::Nowhere),
+    (0x2800_8004, Spot::Nowhere),
+    (0x2801_ffff, Spot::Nowhere),
+    (0x2802_0004, Spot::HostFile(1)),
+    (0x2802_1000, Spot::GuestFile(1, 1)),
+    (0x2802_2000, Spot::Nowhere),
+    (0x2804_0000, Spot::Nowhere),
     (0x8000_0000, Spot::Nowhere),
     (u64::MAX, Spot::Nowhere),
 ];
@@ -42,6 +46,33 @@ fn an_address_lies_in_one_page(rt: HostRuntime) -> Result<(), Fail> {
     for (addr, spot) in PLACES {
         same!(rt; imsic.locate(addr), spot; addr);
     }
+    Ok(())
+}
+
+/// Addresses at the ends of pages, of the machine with the most harts and guest files.
+const LAST_PLACES: [(u64, Spot); 9] = [
+    (0x2400_3fff, Spot::MachineFile(3)),
+    (0x2400_4000, Spot::Nowhere),
+    (0x2801_ffff, Spot::GuestFile(0, 31)),
+    (0x2802_0000, Spot::HostFile(1)),
+    (0x2803_f000, Spot::GuestFile(1, 31)),
+    (0x2804_0000, Spot::HostFile(2)),
+    (0x2806_0000, Spot::HostFile(3)),
+    (0x2807_ffff, Spot::GuestFile(3, 31)),
+    (0x2808_0000, Spot::Nowhere),
+];
+
+#[test]
+fn the_last_guest_file_of_a_hart_lies_before_the_next_hart(rt: HostRuntime) -> Result<(), Fail> {
+    let mut imsic = Imsic::new(rt.alloc(), HARTS, GUEST_FILES, 63)?;
+    for (addr, spot) in LAST_PLACES {
+        same!(rt; imsic.locate(addr), spot; addr);
+    }
+    let last = Spot::GuestFile(HARTS - 1, GUEST_FILES);
+    listens(imsic.file_mut(last));
+    imsic.store(last, 0, 3);
+    same!(rt; imsic.hgeip(HARTS - 1), 1 << GUEST_FILES);
+    same!(rt; imsic.hgeip(0), 0);
     Ok(())
 }
 

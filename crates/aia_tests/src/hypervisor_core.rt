@@ -3,7 +3,9 @@
 use crate::same;
 use aia_hyp::{Hyp, Refusal, Want};
 use aia_model::Msi;
+use aia_regs::limits::{GUEST_FILES, STORES_IN_FLIGHT, VCPUS, VM_VCPUS, VMS};
 use aia_regs::{Csr, Level, Op};
+use std::process::Abort;
 use std::test::Fail;
 
 #[test]
@@ -52,7 +54,8 @@ fn the_core_refuses_with_its_words(rt: HostRuntime) -> Result<(), Fail> {
         (0x2800_1000, Refusal::Guarded),
         (0x2800_2000, Refusal::Fault),
         (0x8000_0000, Refusal::Guarded),
-        (0x8000_6000, Refusal::Fault),
+        (0x8000_bffc, Refusal::Guarded),
+        (0x8000_c000, Refusal::Fault),
         (0x0c00_0000, Refusal::Fault),
     ];
     for (addr, word) in stores {
@@ -69,17 +72,22 @@ fn the_core_refuses_with_its_words(rt: HostRuntime) -> Result<(), Fail> {
 #[test]
 fn the_core_makes_vms_and_takes_stores_of_their_devices(rt: HostRuntime) -> Result<(), Fail> {
     let mut core = Hyp::new(rt.alloc(), 2, 0, 63)?;
+    let (most, all) = (u64::from(VM_VCPUS), u64::from(VCPUS));
     let vms = [
         ((2, 0x8, 2), Err(Refusal::Range)),
         ((5, 0x18, 0), Err(Refusal::Range)),
-        ((9, 0x78, 0), Err(Refusal::Full)),
+        ((most + 1, 0x78, 0), Err(Refusal::Range)),
         ((3, 0x28, 1), Ok(())),
+        ((most, 0x78, 0), Ok(())),
+        ((all - most - 2, 0x78, 0), Err(Refusal::Full)),
+        ((all - most - 3, 0x78, 0), Ok(())),
+        ((1, 0x8, 0), Err(Refusal::Full)),
     ];
     for ((vcpus, mask, hart), given) in vms {
         same!(rt; core.vm(vcpus, mask, hart), given; (vcpus, mask));
     }
     let stores = [
-        (1, 0x2800_0000, Err(Refusal::Range)),
+        (3, 0x2800_0000, Err(Refusal::Range)),
         (0, 0x2800_0002, Err(Refusal::Fault)),
         (0, 0x2801_0000, Err(Refusal::Other)),
         (0, 0x2802_8000, Err(Refusal::NotValid)),
@@ -191,7 +199,7 @@ fn the_core_has_eight_stores_of_a_vm_in_flight_at_most(rt: HostRuntime) -> Resul
     let mut core = Hyp::new(rt.alloc(), 1, 1, 63)?;
     same!(rt; core.vm(1, 0x8, 0), Ok(()));
     same!(rt; core.vm(1, 0x8, 0), Ok(()));
-    for value in 1..9u32 {
+    for value in 1..1 + STORES_IN_FLIGHT as u32 {
         same!(rt; core.send(0, 0x2800_0000, value), Ok(()); value);
     }
     same!(rt; core.send(0, 0x2800_0000, 9), Err(Refusal::Full));
@@ -226,6 +234,94 @@ fn the_core_reads_an_entry_again(rt: HostRuntime) -> Result<(), Fail> {
     same!(rt; core.host(Level::Host, 0, Csr::Reg, Op::Read), Ok(0));
     same!(rt; core.refetch(0, 1), Err(Refusal::Range));
     same!(rt; core.refetch(1, 0), Err(Refusal::Range));
+    drop(core);
+    Ok(())
+}
+
+/// Makes VMs of this many virtual harts each.
+fn make_vms(rt: &impl Abort, core: &mut Hyp, sizes: &[u64]) {
+    for vcpus in sizes {
+        same!(*rt; core.vm(*vcpus, 0xf, 1), Ok(()); *vcpus);
+    }
+}
+
+/// Moves virtual harts of a VM to guest files of hart 1.
+fn arrive(rt: &impl Abort, core: &mut Hyp, vm: u64, vcpus: u64) {
+    for number in 0..vcpus {
+        same!(*rt; core.whole(vm, number, Want::Arrive(1)), Ok(()); (vm, number));
+    }
+}
+
+/// Has a resident virtual hart enable identity 5, and its file signal.
+fn listens(rt: &impl Abort, core: &mut Hyp, vm: u64, number: u64) {
+    let accesses = [
+        (Csr::Select, 0xc0, 0),
+        (Csr::Reg, 0x20, 0),
+        (Csr::Select, 0x70, 0xc0),
+        (Csr::Reg, 1, 0),
+    ];
+    for (csr, value, before) in accesses {
+        same!(*rt; core.guest(vm, number, csr, Op::Write(value)), Ok(before); value);
+    }
+}
+
+/// Virtual harts of two VMs fill the guest files of a hart; the last one signals.
+#[test]
+fn the_core_hands_out_the_last_guest_file(rt: HostRuntime) -> Result<(), Fail> {
+    let mut core = Hyp::new(rt.alloc(), 2, GUEST_FILES, 63)?;
+    let most = u64::from(VM_VCPUS);
+    make_vms(&rt, &mut core, &[most, most]);
+    arrive(&rt, &mut core, 0, most);
+    arrive(&rt, &mut core, 1, most - 1);
+    same!(rt; core.whole(1, most - 1, Want::Arrive(1)), Err(Refusal::NoFile));
+    listens(&rt, &mut core, 1, most - 2);
+    same!(rt; core.msi(1, 0x2800_e000, 5), Ok(()));
+    same!(rt; core.hgeip(1), Ok(1 << GUEST_FILES));
+    same!(rt; core.hgeip(0), Ok(0));
+    same!(rt; core.guest(1, most - 2, Csr::Topei, Op::Write(0)), Ok(0x5_0005));
+    same!(rt; core.whole(1, most - 2, Want::Shift(0)), Ok(()));
+    same!(rt; core.whole(1, most - 1, Want::Arrive(1)), Ok(()));
+    drop(core);
+    Ok(())
+}
+
+/// The last virtual hart of the last VM is parked in the last slot, and tells of it by the last
+/// notice identity.
+#[test]
+fn the_core_parks_the_last_virtual_hart_in_the_last_slot(rt: HostRuntime) -> Result<(), Fail> {
+    let mut core = Hyp::new(rt.alloc(), 2, 1, 63)?;
+    let (vm, number) = (u64::from(VMS) - 1, u64::from(VM_VCPUS) - 1);
+    make_vms(&rt, &mut core, &[2, 2, 2, 2, 2, 3, 3]);
+    same!(rt; core.msi(vm, 0x2800_f000, 5), Err(Refusal::Range));
+    make_vms(&rt, &mut core, &[number + 1]);
+    same!(rt; core.vm(1, 0xf, 1), Err(Refusal::Full));
+    same!(rt; core.whole(vm, number, Want::Arrive(0)), Ok(()));
+    listens(&rt, &mut core, vm, number);
+    same!(rt; core.whole(vm, number, Want::Leave), Ok(()));
+    same!(rt; core.host(Level::Host, 1, Csr::Select, Op::Write(0x80)), Ok(0));
+    same!(rt; core.msi(vm, 0x2800_e000, 5), Ok(()));
+    same!(rt; core.host(Level::Host, 1, Csr::Reg, Op::Write(0)), Ok(0));
+    same!(rt; core.msi(vm, 0x2800_f000, 5), Ok(()));
+    same!(rt; core.host(Level::Host, 1, Csr::Reg, Op::Write(0)), Ok(1 << VCPUS));
+    same!(rt; core.whole(vm, number, Want::Arrive(1)), Ok(()));
+    same!(rt; core.guest(vm, number, Csr::Topei, Op::Write(0)), Ok(0x5_0005));
+    same!(rt; core.whole(vm, number + 1, Want::Leave), Err(Refusal::Range));
+    same!(rt; core.whole(vm + 1, 0, Want::Leave), Err(Refusal::Range));
+    drop(core);
+    Ok(())
+}
+
+/// As many VMs stand as there may be, of one virtual hart each, and no more.
+#[test]
+fn the_core_makes_no_more_vms_than_there_is_room_for(rt: HostRuntime) -> Result<(), Fail> {
+    let mut core = Hyp::new(rt.alloc(), 2, 0, 63)?;
+    for vm in 0..u64::from(VMS) {
+        same!(rt; core.msi(vm, 0x2800_0000, 5), Err(Refusal::Range); vm);
+        same!(rt; core.vm(1, 0x1, 0), Ok(()); vm);
+        same!(rt; core.msi(vm, 0x2800_0000, 5), Ok(()); vm);
+    }
+    same!(rt; core.vm(1, 0x1, 0), Err(Refusal::Full));
+    same!(rt; core.msi(u64::from(VMS), 0x2800_0000, 5), Err(Refusal::Range));
     drop(core);
     Ok(())
 }

@@ -1,6 +1,7 @@
 //! Memory, and what it keeps of guests that no hart holds.
 
-ghost use Rattle.std.specs.Prelude.{◌≡◌, ◌<◌, false};
+ghost use Rattle.std.specs.Prelude.{◌≡◌, ◌-◌, ◌<◌, false};
+ghost use Rattle.aia_regs.specs.declared.limits.TheConstants.{SLOTS};
 ghost use Rattle.aia_word.specs.Sets.{has_bit};
 ghost use Rattle.aia_mrif.specs.Words.{HasSlot};
 
@@ -9,6 +10,7 @@ use aia_file::File;
 use aia_mrif::{SlotMut, Stored, look};
 use aia_ram::Ram;
 use aia_regs::FileReg;
+use aia_regs::limits::{MEMORY_WORDS, SLOTS};
 use aia_word::Bank;
 use std::test::Fail;
 
@@ -43,6 +45,46 @@ fn lands(ram: &mut Ram, offset: u32, value: u32) -> Stored
 {
     let mut slot = SlotMut { ram, q: 1 };
     slot.land(offset, value)
+}
+
+/// Stores to the last slot of memory.
+fn lands_last(ram: &mut Ram, value: u32) -> Stored
+    requires { HasSlot ram.old (SLOTS - 1) }
+    ensures { HasSlot ram.new (SLOTS - 1) }
+{
+    let mut slot = SlotMut { ram, q: SLOTS - 1 };
+    slot.land(0, value)
+}
+
+/// Reads a word of memory, where it is there.
+fn word_at(ram: &Ram, at: usize) -> Option<u64> {
+    if ram.fits(at) {
+        Some(ram.load(at))
+    } else {
+        None
+    }
+}
+
+#[test]
+fn the_last_slot_ends_where_tables_begin(rt: HostRuntime) -> Result<(), Fail> {
+    let mut ram = Ram::new(rt.alloc(), 8 * MEMORY_WORDS)?;
+    same!(rt; lands_last(&mut ram, 5), Stored::Quiet);
+    same!(rt; lands_last(&mut ram, 2047), Stored::Quiet);
+    same!(rt; look(&ram, SLOTS - 1, 0), (0x20, 0));
+    same!(rt; look(&ram, SLOTS - 1, 31), (1 << 63, 0));
+    let words = [
+        (0x3df8, Some(0)),
+        (0x3e00, Some(0x20)),
+        (0x3ff0, Some(1 << 63)),
+        (0x3ff8, Some(0)),
+        (0x4000, Some(0)),
+        (0xbff8, Some(0)),
+        (0xc000, None),
+    ];
+    for (at, word) in words {
+        same!(rt; word_at(&ram, at), word; at);
+    }
+    Ok(())
 }
 
 #[test]

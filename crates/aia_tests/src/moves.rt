@@ -15,6 +15,7 @@ use aia_imsic::Spot;
 use aia_move::{Kept, Next, Plan, Who};
 use aia_pool::{FileLease, Pool};
 use aia_regs::Op;
+use aia_regs::limits::{GUEST_FILES, HARTS};
 use std::alloc::{AllocError, Global};
 use std::process::Abort;
 use std::test::Fail;
@@ -51,6 +52,25 @@ fn the_least_file_of_a_hart_is_handed_out_while_one_is_left(rt: HostRuntime) -> 
     same!(rt; taken(&mut pool, 0), Some(Place { hart: 0, file: 2 }));
     same!(rt; taken(&mut pool, 0), None);
     Ok(())
+}
+
+#[test]
+fn the_last_file_of_a_hart_is_handed_out(rt: HostRuntime) -> Result<(), Fail> {
+    let mut pool = Pool::new(rt.alloc(), HARTS, GUEST_FILES)?;
+    let hart = HARTS - 1;
+    take_files(&rt, &mut pool, hart);
+    same!(rt; taken(&mut pool, hart), None);
+    Ok(())
+}
+
+/// Takes all guest files that a hart may have, the least one first.
+fn take_files(rt: &impl Abort, pool: &mut Pool, hart: u32)
+    requires { hart < pool.old.harts }
+    ensures { pool.new.harts ≡ pool.old.harts }
+{
+    for file in 1..=GUEST_FILES {
+        same!(*rt; taken(pool, hart), Some(Place { hart, file }); file);
+    }
 }
 
 /// Takes a guest file of a hart, which stays out.
@@ -96,7 +116,7 @@ fn files_take_words(rt: &impl Abort, fabric: &mut Fabric) {
 fn swapped(fabric: &mut Fabric, v: u64) -> Option<u64>
     requires { has_bit v 0 ≡ false }
 {
-    let spot = fabric.locate(0x2800_9000);
+    let spot = fabric.locate(0x2802_1000);
     if spot == Spot::Nowhere || fabric.words() == 0 {
         return None;
     }
@@ -107,7 +127,7 @@ fn swapped(fabric: &mut Fabric, v: u64) -> Option<u64>
 fn joined(fabric: &mut Fabric, v: u64)
     requires { has_bit v 0 ≡ false }
 {
-    let spot = fabric.locate(0x2800_9000);
+    let spot = fabric.locate(0x2802_1000);
     if spot != Spot::Nowhere && fabric.words() > 0 {
         fabric.or_pending(At::File(spot), 0, v);
     }
@@ -117,7 +137,7 @@ fn joined(fabric: &mut Fabric, v: u64)
 fn enabled(fabric: &mut Fabric, v: u64) -> Option<u64>
     requires { has_bit v 0 ≡ false }
 {
-    let spot = fabric.locate(0x2800_9000);
+    let spot = fabric.locate(0x2802_1000);
     if spot == Spot::Nowhere || fabric.words() == 0 {
         return None;
     }
@@ -126,7 +146,7 @@ fn enabled(fabric: &mut Fabric, v: u64) -> Option<u64>
 
 /// Tells what its topei register shows.
 fn topei(fabric: &Fabric) -> Option<u64> {
-    match fabric.locate(0x2800_9000) {
+    match fabric.locate(0x2802_1000) {
         Spot::Nowhere => None,
         spot => Some(fabric.file(spot).top()),
     }
@@ -159,15 +179,15 @@ fn routes_change_when_they_are_put_in_force(rt: HostRuntime) -> Result<(), Fail>
         return Ok(());
     };
     same!(rt; (who.slot, who.notice), (1, 1));
-    fabric.put_word(0, 1, 0, 0x0a00_2407);
-    let in_memory = Route::To(Entry::Mrif(0x8000_0200, 0x28008, 2));
+    fabric.put_word(0, 1, 0, 0x0a00_8407);
+    let in_memory = Route::To(Entry::Mrif(0x8000_0200, 0x28020, 2));
     same!(rt; stores(&mut fabric, 0, 0x2800_8000, 5), Some(in_memory));
     put_in_force(&mut fabric);
-    let in_file = Route::To(Entry::Basic(0x28009));
+    let in_file = Route::To(Entry::Basic(0x28021));
     same!(rt; stores(&mut fabric, 0, 0x2800_8000, 6), Some(in_file));
-    same!(rt; pending(&mut fabric, 0x2800_9000, Op::Read), Some(0x40));
+    same!(rt; pending(&mut fabric, 0x2802_1000, Op::Read), Some(0x40));
     peers_go_by_the_record(&mut fabric, pool.take(1));
-    same!(rt; pending(&mut fabric, 0x2800_9000, Op::Read), Some(0x140));
+    same!(rt; pending(&mut fabric, 0x2802_1000, Op::Read), Some(0x140));
     same!(rt; fabric.look(1, 0), (0xa0, 0));
     Ok(())
 }
@@ -200,10 +220,10 @@ fn a_plan_makes_one_access_a_step(rt: HostRuntime) -> Result<(), Fail> {
         return Ok(());
     };
     holds(&rt, goes_on(&mut fabric, who, to));
-    let in_memory = Route::To(Entry::Mrif(0x8000_0200, 0x28008, 2));
+    let in_memory = Route::To(Entry::Mrif(0x8000_0200, 0x28020, 2));
     same!(rt; stores(&mut fabric, 0, 0x2800_8000, 5), Some(in_memory));
     put_in_force(&mut fabric);
-    let in_file = Route::To(Entry::Basic(0x28009));
+    let in_file = Route::To(Entry::Basic(0x28021));
     same!(rt; stores(&mut fabric, 0, 0x2800_8000, 6), Some(in_file));
     Ok(())
 }
@@ -222,16 +242,16 @@ fn enter(fabric: &mut Fabric, word: u64) {
 fn a_leave_writes_the_entry_in_its_third_step(rt: HostRuntime) -> Result<(), Fail> {
     let mut fabric = one_vm(rt.alloc())?;
     let mut pool = Pool::new(rt.alloc(), 2, 1)?;
-    enter(&mut fabric, 0x0a00_2407);
+    enter(&mut fabric, 0x0a00_8407);
     let (Some(who), Some(from)) = (who_is(&fabric, 0, 1), pool.take(1)) else {
         holds(&rt, false);
         return Ok(());
     };
     holds(&rt, leaves(&mut fabric, who, from));
-    let in_file = Route::To(Entry::Basic(0x28009));
+    let in_file = Route::To(Entry::Basic(0x28021));
     same!(rt; stores(&mut fabric, 0, 0x2800_8000, 5), Some(in_file));
     put_in_force(&mut fabric);
-    let in_memory = Route::To(Entry::Mrif(0x8000_0200, 0x28008, 2));
+    let in_memory = Route::To(Entry::Mrif(0x8000_0200, 0x28020, 2));
     same!(rt; stores(&mut fabric, 0, 0x2800_8000, 6), Some(in_memory));
     Ok(())
 }
@@ -269,7 +289,7 @@ fn a_shift_writes_the_entry_in_its_second_step(rt: HostRuntime) -> Result<(), Fa
     let in_old_file = Route::To(Entry::Basic(0x28001));
     same!(rt; stores(&mut fabric, 0, 0x2800_8000, 5), Some(in_old_file));
     put_in_force(&mut fabric);
-    let in_new_file = Route::To(Entry::Basic(0x28009));
+    let in_new_file = Route::To(Entry::Basic(0x28021));
     same!(rt; stores(&mut fabric, 0, 0x2800_8000, 6), Some(in_new_file));
     Ok(())
 }

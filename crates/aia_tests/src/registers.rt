@@ -2,6 +2,10 @@
 
 use crate::looks::holds;
 use crate::same;
+use aia_regs::address_map::{
+    guest_page, is_in_memory, slot_address, supervisor_page, table_address,
+};
+use aia_regs::limits::{GUEST_FILES, HARTS, SLOTS, VMS};
 use aia_regs::{
     DomainReg, FileReg, Op, bit, bits, domain_reg, file_reg, put_bits, requested, swap32,
 };
@@ -160,4 +164,21 @@ fn writes_fields(rt: HostRuntime) {
 #[test]
 fn reverses_bytes(rt: HostRuntime) {
     same!(rt; swap32(0x0102_0304), 0x0403_0201);
+}
+
+#[test]
+fn the_map_says_where_pages_slots_and_tables_lie(rt: HostRuntime) {
+    same!(rt; supervisor_page(HARTS - 1), 0x2806_0000);
+    same!(rt; guest_page(1, GUEST_FILES), 0x2803_f000);
+    same!(rt; slot_address(SLOTS - 1), 0x8000_3e00);
+    same!(rt; table_address(VMS - 1), 0x8000_b000);
+    let bytes = [
+        (0x7fff_ffff, false),
+        (0x8000_0000, true),
+        (0x8000_bfff, true),
+        (0x8000_c000, false),
+    ];
+    for (addr, there) in bytes {
+        same!(rt; is_in_memory(addr), there; addr);
+    }
 }

@@ -13,12 +13,13 @@ use aia_fabric::{At, Fabric};
 use aia_move::{Kept, Next, Plan, Who};
 use aia_pool::{FileLease, Pool};
 use aia_regs::Op;
+use aia_regs::limits::STORES_IN_FLIGHT;
 use std::test::Fail;
 
 /// The slot of virtual hart 1, and guest file 1 of hart 1, as entries name them.
-const IN_MEMORY: Route = Route::To(Entry::Mrif(0x8000_0200, 0x28008, 2));
+const IN_MEMORY: Route = Route::To(Entry::Mrif(0x8000_0200, 0x28020, 2));
 
-const IN_FILE: Route = Route::To(Entry::Basic(0x28009));
+const IN_FILE: Route = Route::To(Entry::Basic(0x28021));
 
 /// Tells how many stores of a VM are in flight, where it stands.
 fn flying(fabric: &Fabric, vm: u32) -> Option<usize> {
@@ -30,7 +31,7 @@ fn flying(fabric: &Fabric, vm: u32) -> Option<usize> {
 
 /// Sends a store of a device, where the VM stands and there is room for it.
 fn sends(fabric: &mut Fabric, vm: u32, addr: u64, value: u32) -> Option<Route> {
-    if vm >= fabric.vms() || fabric.flying(vm) >= 8 {
+    if vm >= fabric.vms() || fabric.flying(vm) >= STORES_IN_FLIGHT {
         return None;
     }
     Some(fabric.send(vm, addr, value))
@@ -48,7 +49,7 @@ fn lands(fabric: &mut Fabric, vm: u32, k: usize) -> bool {
 /// Writes word 0 of the entry of virtual hart 1: it names guest file 1 of hart 1.
 fn name_the_file(fabric: &mut Fabric) {
     if fabric.has_vcpu(0, 1) {
-        fabric.put_word(0, 1, 0, 0x0a00_2407);
+        fabric.put_word(0, 1, 0, 0x0a00_8407);
     }
 }
 
@@ -82,10 +83,10 @@ fn a_store_lands_where_the_entry_led_as_it_was_sent(rt: HostRuntime) -> Result<(
     same!(rt; fabric.look(1, 0), (0x80, 0));
     same!(rt; lands(&mut fabric, 0, 0), true);
     same!(rt; fabric.look(1, 0), (0xa0, 0));
-    same!(rt; pending(&mut fabric, 0x2800_9000, Op::Read), Some(0));
+    same!(rt; pending(&mut fabric, 0x2802_1000, Op::Read), Some(0));
     same!(rt; lands(&mut fabric, 0, 1), false);
     same!(rt; lands(&mut fabric, 0, 0), true);
-    same!(rt; pending(&mut fabric, 0x2800_9000, Op::Read), Some(0x40));
+    same!(rt; pending(&mut fabric, 0x2802_1000, Op::Read), Some(0x40));
     same!(rt; flying(&fabric, 0), Some(0));
     Ok(())
 }
@@ -122,7 +123,7 @@ fn the_fence_of_a_plan_lands_what_is_in_flight(rt: HostRuntime) -> Result<(), Fa
     same!(rt; flying(&fabric, 0), Some(0));
     same!(rt; fabric.look(1, 0), (0x60, 0x20));
     same!(rt; fabric.notices(), 1);
-    same!(rt; pending(&mut fabric, 0x2800_8000, Op::Read), Some(4));
+    same!(rt; pending(&mut fabric, 0x2802_0000, Op::Read), Some(4));
     same!(rt; stores(&mut fabric, 0, 0x2800_8000, 7), Some(IN_FILE));
     Ok(())
 }

@@ -12,9 +12,10 @@ fn addresses_are_those_of_the_harts_pages(rt: HostRuntime) {
     same!(rt; machine_address(0x24000, 0x0101_1000, 3), 0x2600_1000);
     // The high half of the base.
     same!(rt; machine_address(0, 0xfff, 0), 0xfff_0000_0000_000);
-    // Supervisor files 8 pages apart, and a guest's file behind one.
-    same!(rt; supervisor_address(0x2000, 0x28000, 0x30_0000, 1, 0), 0x2800_8000);
-    same!(rt; supervisor_address(0x2000, 0x28000, 0x30_0000, 1, 5), 0x2800_d000);
+    // Supervisor files 32 pages apart, and guests' files behind one.
+    same!(rt; supervisor_address(0x2000, 0x28000, 0x50_0000, 1, 0), 0x2802_0000);
+    same!(rt; supervisor_address(0x2000, 0x28000, 0x50_0000, 1, 5), 0x2802_5000);
+    same!(rt; supervisor_address(0x2000, 0x28000, 0x50_0000, 3, 31), 0x2807_f000);
 }
 
 #[test]
@@ -46,8 +47,8 @@ fn addresses_go_by_the_registers_of_their_level(rt: HostRuntime) {
     addresses.store(DomainReg::MMsiAddrCfg, 0x24000);
     addresses.store(DomainReg::MMsiAddrCfgH, 0x2000);
     addresses.store(DomainReg::SMsiAddrCfg, 0x28000);
-    addresses.store(DomainReg::SMsiAddrCfgH, 0x30_0000);
+    addresses.store(DomainReg::SMsiAddrCfgH, 0x50_0000);
     same!(rt; addresses.machine_address(3), 0x2400_3000);
-    same!(rt; addresses.supervisor_address(1, 0), 0x2800_8000);
-    same!(rt; addresses.supervisor_address(1, 5), 0x2800_d000);
+    same!(rt; addresses.supervisor_address(1, 0), 0x2802_0000);
+    same!(rt; addresses.supervisor_address(1, 5), 0x2802_5000);
 }

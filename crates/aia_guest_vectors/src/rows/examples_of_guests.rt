@@ -206,7 +206,7 @@ pub const VIRTUAL_MACHINES_EXAMPLE: [(&str, &str); 87] = [
     ("# there, but not for the host.", ""),
     ("ld 0x28001000", "guarded"),
     ("ld 0x80000200", "guarded"),
-    ("ld 0x80002000", "guarded"),
+    ("ld 0x80004000", "guarded"),
 ];
 
 /// Proves that the model answers [`VIRTUAL_MACHINES_EXAMPLE`] as it says.

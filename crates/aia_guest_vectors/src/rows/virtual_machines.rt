@@ -7,8 +7,9 @@ ghost use Rattle.aia_model.specs.Script.{answers};
 ghost use Rattle.aia_vectors.specs.Rows.{script_of, answers_of};
 
 /// A VM of two virtual harts: which MSIs of its device name a file, which name none and which are
-/// no MSIs of the VM; and VMs that may not be made.
-pub const VMS_AND_THEIR_MSIS: [(&str, &str); 14] = [
+/// no MSIs of the VM; VMs that may not be made for their numbers; and more VMs, until 32 virtual
+/// harts stand in all.
+pub const VMS_AND_THEIR_MSIS: [(&str, &str); 17] = [
     ("machine 1 0 63 1", "ok"),
     ("vm 2 0x38 0", "ok"),
     ("msi 0 0x28000000 1", "ok"),
@@ -20,9 +21,12 @@ pub const VMS_AND_THEIR_MSIS: [(&str, &str); 14] = [
     ("msi 0 0x28000010 1", "ok"),
     ("vm 1 0x8000 0", "range"),
     ("vm 3 0x8 0", "range"),
-    ("vm 9 0x78 0", "full"),
+    ("vm 9 0x78 0", "ok"),
     ("vm 8 0x38 0", "ok"),
+    ("vm 7 0x38 0", "ok"),
     ("vm 7 0x38 0", "full"),
+    ("vm 6 0x38 0", "ok"),
+    ("vm 1 0x8 0", "full"),
 ];
 
 /// Proves that the model answers [`VMS_AND_THEIR_MSIS`] as it says.
@@ -52,9 +56,9 @@ pub fn a_mask_with_a_gap()
 /// is counted over all VMs, and a VM that is refused takes none.
 pub const RANGE_COMES_BEFORE_FULL: [(&str, &str); 9] = [
     ("machine 1 0 63 1", "ok"),
-    ("vm 9 0x8 0", "range"),
-    ("vm 5 0x78 0", "ok"),
-    ("vm 8 0x78 0", "ok"),
+    ("vm 17 0x8 0", "range"),
+    ("vm 16 0x78 0", "ok"),
+    ("vm 13 0x78 0", "ok"),
     ("vm 4 0x8 0", "range"),
     ("vm 4 0x18 0", "full"),
     ("vm 3 0x18 0", "ok"),
@@ -110,7 +114,7 @@ pub fn files_by_packed_bits()
 
 /// A mask has one to four ones, all below bit 15, and a VM has at least one virtual hart and at
 /// most as many as its mask gives numbers. Masks at both ends are taken.
-pub const MASKS_OF_VMS: [(&str, &str); 25] = [
+pub const MASKS_OF_VMS: [(&str, &str); 29] = [
     ("machine 1 0 63 1", "ok"),
     ("vm 1 0 0", "range"),
     ("vm 1 0x1f 0", "range"),
@@ -129,13 +133,17 @@ pub const MASKS_OF_VMS: [(&str, &str); 25] = [
     ("msi 0 0x28000000 1", "range"),
     ("vm 2 0x4000 0", "ok"),
     ("vm 4 0x4001 0", "ok"),
-    ("vm 8 0x7800 0", "ok"),
+    ("vm 16 0x7800 0", "ok"),
     ("vm 2 0x1 0", "ok"),
+    ("vm 8 0x7800 0", "ok"),
     ("msi 0 0x2c000000 1", "ok"),
     ("msi 1 0x2c001000 1", "ok"),
     ("msi 2 0x2b800000 1", "ok"),
-    ("msi 2 0x2c000000 1", "notvalid"),
+    ("msi 2 0x2c000000 1", "ok"),
+    ("msi 2 0x2f800000 1", "ok"),
     ("msi 3 0x28001000 1", "ok"),
+    ("msi 4 0x2b800000 1", "ok"),
+    ("msi 4 0x2c000000 1", "notvalid"),
 ];
 
 /// Proves that the model answers [`MASKS_OF_VMS`] as it says.
@@ -143,18 +151,20 @@ pub fn masks_of_vms()
     ensures { answers (script_of MASKS_OF_VMS) ≡ answers_of MASKS_OF_VMS }
 {}
 
-/// A VM has at most 8 virtual harts, and all VMs have at most 16; a hart that isn't there and a
-/// number out of range come first.
-pub const ROOM_FOR_VMS: [(&str, &str); 19] = [
+/// A VM has at most 16 virtual harts, as many as four ones of a mask give numbers, and all VMs have
+/// at most 32; a hart that isn't there and a number out of range come first.
+pub const ROOM_FOR_VMS: [(&str, &str); 22] = [
     ("machine 2 0 63 1", "ok"),
-    ("vm 9 0xf 0", "full"),
-    ("vm 16 0xf 0", "full"),
     ("vm 17 0xf 0", "range"),
-    ("vm 9 0xf 2", "range"),
-    ("vm 9 0xf 1", "full"),
+    ("vm 17 0x1f 0", "range"),
+    ("vm 33 0xf 0", "range"),
+    ("vm 16 0xf 2", "range"),
     ("msi 0 0x28000000 1", "range"),
+    ("vm 16 0xf 1", "ok"),
+    ("vm 17 0xf 0", "range"),
     ("vm 8 0xf 1", "ok"),
     ("vm 9 0xf 0", "full"),
+    ("vm 16 0xf 0", "full"),
     ("vm 4 0x3 0", "ok"),
     ("vm 5 0x7 0", "full"),
     ("vm 4 0x3 1", "ok"),
@@ -163,8 +173,9 @@ pub const ROOM_FOR_VMS: [(&str, &str); 19] = [
     ("vm 3 0x1 0", "range"),
     ("vm 0 0x1 0", "range"),
     ("vm 1 0 0", "range"),
-    ("msi 2 0x28003000 1", "ok"),
-    ("msi 3 0x28000000 1", "range"),
+    ("msi 0 0x2800f000 1", "ok"),
+    ("msi 3 0x28003000 1", "ok"),
+    ("msi 4 0x28000000 1", "range"),
 ];
 
 /// Proves that the model answers [`ROOM_FOR_VMS`] as it says.
@@ -172,27 +183,31 @@ pub fn room_for_vms()
     ensures { answers (script_of ROOM_FOR_VMS) ≡ answers_of ROOM_FOR_VMS }
 {}
 
-/// Four VMs stand at most, however few virtual harts they have.
-pub const FOUR_VMS: [(&str, &str); 14] = [
+/// Eight VMs stand at most, however few virtual harts they have.
+pub const EIGHT_VMS: [(&str, &str); 18] = [
     ("machine 4 0 63 1", "ok"),
     ("vm 1 0x1 0", "ok"),
     ("vm 1 0x1 1", "ok"),
     ("vm 1 0x1 2", "ok"),
-    ("msi 3 0x28000000 1", "range"),
+    ("vm 1 0x1 3", "ok"),
+    ("vm 1 0x1 2", "ok"),
+    ("vm 1 0x1 1", "ok"),
+    ("vm 1 0x1 0", "ok"),
+    ("msi 7 0x28000000 1", "range"),
     ("vm 1 0x1 4", "range"),
     ("vm 1 0x1 3", "ok"),
     ("vm 1 0x1 0", "full"),
-    ("vm 9 0xf 0", "full"),
+    ("vm 16 0xf 0", "full"),
     ("vm 1 0x1 4", "range"),
     ("vm 3 0x1 0", "range"),
-    ("msi 3 0x28000000 1", "ok"),
-    ("msi 3 0x28001000 1", "notvalid"),
-    ("msi 4 0x28000000 1", "range"),
+    ("msi 7 0x28000000 1", "ok"),
+    ("msi 7 0x28001000 1", "notvalid"),
+    ("msi 8 0x28000000 1", "range"),
 ];
 
-/// Proves that the model answers [`FOUR_VMS`] as it says.
-pub fn four_vms()
-    ensures { answers (script_of FOUR_VMS) ≡ answers_of FOUR_VMS }
+/// Proves that the model answers [`EIGHT_VMS`] as it says.
+pub fn eight_vms()
+    ensures { answers (script_of EIGHT_VMS) ≡ answers_of EIGHT_VMS }
 {}
 
 /// A number above 2^32 - 1 is no number of virtual harts, no mask, no hart and no VM, though its
@@ -329,7 +344,7 @@ pub fn no_notice_of_great_identities()
 pub const DEVICES_OF_A_VM_REACH_ITS_FILES_ALONE: [(&str, &str); 27] = [
     ("machine 2 1 63 1", "ok"),
     ("vm 2 0x1 0", "ok"),
-    ("vm 2 0x8 1", "ok"),
+    ("vm 2 0x20 1", "ok"),
     ("h 0 csrrw siselect 0xc0", "0x0000000000000000"),
     ("h 0 csrrw sireg 0xfffffffffffffffe", "0x0000000000000000"),
     ("h 1 csrrw siselect 0xc0", "0x0000000000000000"),
@@ -338,8 +353,8 @@ pub const DEVICES_OF_A_VM_REACH_ITS_FILES_ALONE: [(&str, &str); 27] = [
     ("m 0 csrrw mireg 0xfffffffffffffffe", "0x0000000000000000"),
     ("msi 0 0x28000000 5", "ok"),
     ("msi 0 0x28001000 5", "ok"),
-    ("msi 0 0x28008000 5", "other"),
-    ("msi 1 0x28008000 5", "ok"),
+    ("msi 0 0x28020000 5", "other"),
+    ("msi 1 0x28020000 5", "ok"),
     ("msi 1 0x28001000 5", "other"),
     ("msi 0 0x24000000 5", "other"),
     ("msi 0 0x0c000000 0x104", "other"),
@@ -348,10 +363,10 @@ pub const DEVICES_OF_A_VM_REACH_ITS_FILES_ALONE: [(&str, &str); 27] = [
     ("h 1 csrr stopei", "0x0000000000000000"),
     ("m 0 csrr mtopei", "0x0000000000000000"),
     ("ld 0x0c000000", "0x80000000"),
-    ("st 0x28008000 7", "ok"),
+    ("st 0x28020000 7", "ok"),
     ("h 0 csrr stopei", "0x0000000000000000"),
     ("h 1 csrrw stopei 0", "0x0000000000070007"),
-    ("msi 1 0x28008000 7", "ok"),
+    ("msi 1 0x28020000 7", "ok"),
     ("h 1 csrr stopei", "0x0000000000000000"),
     ("pins 1", "pins 0 0 0 0"),
 ];
@@ -364,7 +379,7 @@ pub fn devices_of_a_vm_reach_its_files_alone()
 
 /// Pages of guest files, and the memory where VMs keep files and page tables, stay out of the
 /// host's reach; and an address where nothing is to the host may be an MSI address of a VM.
-pub const GUARDED_BESIDE_VMS: [(&str, &str); 20] = [
+pub const GUARDED_BESIDE_VMS: [(&str, &str); 21] = [
     ("machine 2 2 63 1", "ok"),
     ("vm 8 0x7 0", "ok"),
     ("vm 2 0x1 1", "ok"),
@@ -372,17 +387,18 @@ pub const GUARDED_BESIDE_VMS: [(&str, &str); 20] = [
     ("st 0x28002000 5", "guarded"),
     ("ld 0x28003000", "fault"),
     ("msi 0 0x28003000 5", "ok"),
-    ("st 0x28009000 5", "guarded"),
-    ("ld 0x2800b000", "fault"),
+    ("st 0x28021000 5", "guarded"),
+    ("ld 0x28023000", "fault"),
     ("ld 0x80000000", "guarded"),
     ("st 0x80000000 1", "guarded"),
     ("ld 0x80000008", "guarded"),
     ("st 0x80000e00 1", "guarded"),
     ("ld 0x80002000", "guarded"),
-    ("st 0x80002008 1", "guarded"),
-    ("ld 0x80003010", "guarded"),
-    ("ld 0x80005ffc", "guarded"),
-    ("ld 0x80006000", "fault"),
+    ("ld 0x80004000", "guarded"),
+    ("st 0x80004008 1", "guarded"),
+    ("ld 0x80005010", "guarded"),
+    ("ld 0x8000bffc", "guarded"),
+    ("ld 0x8000c000", "fault"),
     ("st 0x80000002 1", "fault"),
     ("ld 0x28000000", "0x00000000"),
 ];

@@ -185,7 +185,7 @@ pub const FOUR_PINS_OF_A_HART: [(&str, &str); 30] = [
     ("h 1 csrrw sireg 1", "0x0000000000000000"),
     ("h 1 csrrw siselect 0xc0", "0x0000000000000070"),
     ("h 1 csrrw sireg 2", "0x0000000000000000"),
-    ("st 0x28008000 1", "ok"),
+    ("st 0x28020000 1", "ok"),
     ("pins 1", "pins 0 1 1 1"),
     ("pins 0", "pins 0 0 0 0"),
 ];

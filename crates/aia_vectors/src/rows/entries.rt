@@ -161,6 +161,30 @@ pub fn reserved_bits_of_mrif_entries()
         ≡ answers_of RESERVED_BITS_OF_MRIF_ENTRIES }
 {}
 
+/// Entries of the greatest machine's last places: slot 31, whose notice has the identity 32, with
+/// the supervisor file of hart 3 for its notices, and of hart 0; the last guest files of the harts
+/// 0 and 1, and that of hart 3.
+pub const ENTRIES_OF_THE_LAST_PLACES: [(&str, &str); 6] = [
+    ("machine 4 31 63 1", "ok"),
+    (
+        "entry 0x20000f83 0x0a018020",
+        "mrif 0x0000000080003e00 0x0000000000028060 32",
+    ),
+    (
+        "entry 0x20000f83 0x0a000020",
+        "mrif 0x0000000080003e00 0x0000000000028000 32",
+    ),
+    ("entry 0x0a007c07 0", "basic 0x000000000002801f"),
+    ("entry 0x0a00fc07 0", "basic 0x000000000002803f"),
+    ("entry 0x0a01fc07 0", "basic 0x000000000002807f"),
+];
+
+/// Proves that the model answers [`ENTRIES_OF_THE_LAST_PLACES`] as it says.
+pub fn entries_of_the_last_places()
+    ensures { answers (script_of ENTRIES_OF_THE_LAST_PLACES)
+        ≡ answers_of ENTRIES_OF_THE_LAST_PLACES }
+{}
+
 /// The greatest page, address and identity that an entry says, and the least identity whose bit 10
 /// stands apart.
 pub const GREATEST_ENTRIES: [(&str, &str); 10] = [

@@ -82,7 +82,7 @@ pub fn the_example_of_a_claim()
 {}
 
 /// What each refusal looks like.
-pub const REFUSALS_EXAMPLE: [(&str, &str); 55] = [
+pub const REFUSALS_EXAMPLE: [(&str, &str); 57] = [
     (
         "# What each refusal looks like. A refused line changes nothing, and the script goes on.",
         "",
@@ -107,20 +107,23 @@ pub const REFUSALS_EXAMPLE: [(&str, &str); 55] = [
     ("machine  1 0 63 1", "bad"),
     ("", ""),
     (
-        "# range: 5 harts are too many, 64 is no file size, 1024 wired sources are too many.",
+        "# range: 5 harts are too many, 32 guest files of a hart too, 64 is no file size, 1024 \
+         wired sources",
         "",
     ),
+    ("# are too many.", ""),
     ("machine 5 0 63 1", "range"),
+    ("machine 1 32 63 1", "range"),
     ("machine 1 0 64 1", "range"),
     ("machine 1 0 63 1024", "range"),
     ("", ""),
     (
-        "# This one is accepted: two harts, seven guest files each, the identities 1 to 127, eight \
+        "# This one is accepted: two harts, 31 guest files each, the identities 1 to 127, eight \
          wired",
         "",
     ),
     ("# sources.", ""),
-    ("machine 2 7 127 8", "ok"),
+    ("machine 2 31 127 8", "ok"),
     ("", ""),
     (
         "# again: a machine stands. Of two refusals that both apply the first is printed: again \
@@ -160,8 +163,8 @@ pub const REFUSALS_EXAMPLE: [(&str, &str); 55] = [
         "",
     ),
     ("# address 0).", ""),
-    ("st 0x28008002 1", "fault"),
-    ("st 0x28010000 1", "fault"),
+    ("st 0x28020002 1", "fault"),
+    ("st 0x28040000 1", "fault"),
     ("st 0 1", "fault"),
     ("", ""),
     (
@@ -170,8 +173,8 @@ pub const REFUSALS_EXAMPLE: [(&str, &str); 55] = [
         "",
     ),
     ("# here.", ""),
-    ("st 0x28008008 1", "ok"),
-    ("st 0x28008000 128", "ok"),
+    ("st 0x28020008 1", "ok"),
+    ("st 0x28020000 128", "ok"),
     ("h 1 csrrw siselect 0x80", "0x0000000000000071"),
     ("h 1 csrr sireg", "0x0000000000000000"),
     ("", ""),
@@ -215,7 +218,7 @@ pub const FILES_AND_BYTE_ORDERS_EXAMPLE: [(&str, &str); 121] = [
         "",
     ),
     (
-        "# 0x28000000 + h * 0x8000. Offset 0 of a page takes an identity little-endian: this asks \
+        "# 0x28000000 + h * 0x20000. Offset 0 of a page takes an identity little-endian: this asks \
          for 5 in",
         "",
     ),
@@ -242,8 +245,8 @@ pub const FILES_AND_BYTE_ORDERS_EXAMPLE: [(&str, &str); 121] = [
         "",
     ),
     ("# little-endian.", ""),
-    ("st 0x28008004 0x05000000", "ok"),
-    ("st 0x28008000 12", "ok"),
+    ("st 0x28020004 0x05000000", "ok"),
+    ("st 0x28020000 12", "ok"),
     ("", ""),
     (
         "# Machine level reads its file through miselect and mireg. eip0, the pending bits up to \
@@ -337,23 +340,23 @@ pub const FILES_AND_BYTE_ORDERS_EXAMPLE: [(&str, &str); 121] = [
     ("# All loads of a page give 0, and claim nothing.", ""),
     ("ld 0x24001000", "0x00000000"),
     ("ld 0x24001004", "0x00000000"),
-    ("ld 0x28008ffc", "0x00000000"),
+    ("ld 0x28020ffc", "0x00000000"),
     ("m 1 csrr mtopei", "0x0000000000090009"),
     ("# A guest file's page is out of the host's reach.", ""),
-    ("st 0x28009000 5", "guarded"),
+    ("st 0x28021000 5", "guarded"),
     ("ld 0x28001000", "guarded"),
     (
         "# Nothing lies where guest file 2 of hart 1 or a machine-level file of hart 2 would be.",
         "",
     ),
-    ("ld 0x2800a000", "fault"),
+    ("ld 0x28022000", "fault"),
     ("st 0x24002000 5", "fault"),
     (
         "# An address that is no multiple of 4 is a fault everywhere, in a guest file's page too.",
         "",
     ),
     ("ld 0x24001002", "fault"),
-    ("st 0x28009001 5", "fault"),
+    ("st 0x28021001 5", "fault"),
     ("", ""),
     (
         "# The odd select numbers from 0x81 on have no register behind them, and so have all below \
@@ -748,11 +751,11 @@ pub const MSI_DELIVERY_EXAMPLE: [(&str, &str); 54] = [
          level,",
         "",
     ),
-    ("# shifted by 3 for the child.", ""),
+    ("# shifted by 5 for the child.", ""),
     ("st 0x0c001bc0 0x24000", "ok"),
     ("st 0x0c001bc4 0x1000", "ok"),
     ("st 0x0c001bc8 0x28000", "ok"),
-    ("st 0x0c001bcc 0x300000", "ok"),
+    ("st 0x0c001bcc 0x500000", "ok"),
     ("", ""),
     (
         "# Both domains deliver by MSIs (DM, bit 2), and their interrupts are enabled (IE, bit 8).",

@@ -156,7 +156,7 @@ pub fn machine_numbers_are_not_cut()
 pub const MACHINES_OF_NO_SIZE: [(&str, &str); 13] = [
     ("machine 0 0 63 8", "range"),
     ("machine 5 0 63 8", "range"),
-    ("machine 1 8 63 8", "range"),
+    ("machine 1 32 63 8", "range"),
     ("machine 1 0 0 8", "range"),
     ("machine 1 0 31 8", "range"),
     ("machine 1 0 62 8", "range"),
@@ -166,7 +166,7 @@ pub const MACHINES_OF_NO_SIZE: [(&str, &str); 13] = [
     ("machine 1 0 4095 8", "range"),
     ("machine 1 0 63 0", "range"),
     ("machine 1 0 63 1024", "range"),
-    ("machine 4 7 1023 1", "ok"),
+    ("machine 4 31 1023 1", "ok"),
 ];
 
 /// Proves that the model answers [`MACHINES_OF_NO_SIZE`] as it says.

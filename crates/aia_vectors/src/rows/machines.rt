@@ -9,16 +9,16 @@ ghost use Rattle.aia_vectors.specs.Rows.{script_of, answers_of};
 /// The greatest machine: the supervisor file of its last hart keeps its last identity, and beyond
 /// it, beyond the last guest file and beyond the last hart there is nothing.
 pub const GREATEST_MACHINE: [(&str, &str); 13] = [
-    ("machine 4 7 2047 1023", "ok"),
-    ("st 0x2801f000 1", "guarded"),
-    ("st 0x28020000 1", "fault"),
+    ("machine 4 31 2047 1023", "ok"),
+    ("st 0x2807f000 1", "guarded"),
+    ("st 0x28080000 1", "fault"),
     ("st 0x24004000 1", "fault"),
     ("h 4 csrr stopei", "range"),
     ("pins 4", "range"),
     ("h 3 csrrw siselect 0xfe", "0x0000000000000000"),
     ("h 3 csrrw sireg 0x8000000000000000", "0x0000000000000000"),
-    ("st 0x28018000 2048", "ok"),
-    ("st 0x28018000 2047", "ok"),
+    ("st 0x28060000 2048", "ok"),
+    ("st 0x28060000 2047", "ok"),
     ("h 3 csrr stopei", "0x0000000007ff07ff"),
     ("h 3 csrrw siselect 0xbe", "0x00000000000000fe"),
     ("h 3 csrr sireg", "0x8000000000000000"),
@@ -31,7 +31,7 @@ pub fn the_greatest_machine()
 
 /// The machine-level file of the last hart of the greatest machine claims its last identity.
 pub const LAST_MACHINE_LEVEL_FILE: [(&str, &str); 7] = [
-    ("machine 4 7 2047 1023", "ok"),
+    ("machine 4 31 2047 1023", "ok"),
     ("m 3 csrrw miselect 0xfe", "0x0000000000000000"),
     ("m 3 csrrw mireg 0x8000000000000000", "0x0000000000000000"),
     ("st 0x24003004 0xff070000", "ok"),
@@ -47,7 +47,7 @@ pub fn the_last_machine_level_file()
 
 /// The last source of the greatest machine, aimed at the last hart, is on top for it.
 pub const LAST_SOURCE_OF_THE_LAST_HART: [(&str, &str); 9] = [
-    ("machine 4 7 2047 1023", "ok"),
+    ("machine 4 31 2047 1023", "ok"),
     ("wire 1023 1", "ok"),
     ("wire 1024 1", "range"),
     ("st 0x0c000ffc 6", "ok"),
@@ -70,13 +70,13 @@ pub const THREE_HARTS_WITH_THREE_GUEST_FILES: [(&str, &str); 25] = [
     ("machine 3 3 63 8", "ok"),
     ("pins 2", "pins 0 0 0 0"),
     ("pins 3", "range"),
-    ("ld 0x28013000", "guarded"),
-    ("ld 0x28014000", "fault"),
-    ("ld 0x28018000", "fault"),
+    ("ld 0x28043000", "guarded"),
+    ("ld 0x28044000", "fault"),
+    ("ld 0x28060000", "fault"),
     ("ld 0x24003000", "fault"),
     ("h 2 csrrw siselect 0xc0", "0x0000000000000000"),
     ("h 2 csrrw sireg 0x20", "0x0000000000000000"),
-    ("st 0x28010000 5", "ok"),
+    ("st 0x28040000 5", "ok"),
     ("h 2 csrr stopei", "0x0000000000050005"),
     ("h 0 csrr stopei", "0x0000000000000000"),
     ("h 3 csrr stopei", "range"),
@@ -105,9 +105,9 @@ pub const FOUR_GUEST_FILES: [(&str, &str); 6] = [
     ("machine 2 4 63 1", "ok"),
     ("st 0x28004000 1", "guarded"),
     ("st 0x28005000 1", "fault"),
-    ("st 0x2800c000 1", "guarded"),
-    ("st 0x2800d000 1", "fault"),
-    ("ld 0x28008000", "0x00000000"),
+    ("st 0x28024000 1", "guarded"),
+    ("st 0x28025000 1", "fault"),
+    ("ld 0x28020000", "0x00000000"),
 ];
 
 /// Proves that the model answers [`FOUR_GUEST_FILES`] as it says.
@@ -115,34 +115,59 @@ pub fn four_guest_files()
     ensures { answers (script_of FOUR_GUEST_FILES) ≡ answers_of FOUR_GUEST_FILES }
 {}
 
-/// The pages of five guest files lie above the supervisor file of their hart.
-pub const FIVE_GUEST_FILES: [(&str, &str); 6] = [
-    ("machine 2 5 63 1", "ok"),
-    ("st 0x28005000 1", "guarded"),
-    ("st 0x28006000 1", "fault"),
-    ("st 0x2800d000 1", "guarded"),
-    ("st 0x2800e000 1", "fault"),
-    ("ld 0x28008000", "0x00000000"),
+/// The pages of seventeen guest files lie above the supervisor file of their hart.
+pub const SEVENTEEN_GUEST_FILES: [(&str, &str); 6] = [
+    ("machine 2 17 63 1", "ok"),
+    ("st 0x28011000 1", "guarded"),
+    ("st 0x28012000 1", "fault"),
+    ("st 0x28031000 1", "guarded"),
+    ("st 0x28032000 1", "fault"),
+    ("ld 0x28020000", "0x00000000"),
 ];
 
-/// Proves that the model answers [`FIVE_GUEST_FILES`] as it says.
-pub fn five_guest_files()
-    ensures { answers (script_of FIVE_GUEST_FILES) ≡ answers_of FIVE_GUEST_FILES }
+/// Proves that the model answers [`SEVENTEEN_GUEST_FILES`] as it says.
+pub fn seventeen_guest_files()
+    ensures { answers (script_of SEVENTEEN_GUEST_FILES) ≡ answers_of SEVENTEEN_GUEST_FILES }
 {}
 
-/// The pages of six guest files lie above the supervisor file of their hart.
-pub const SIX_GUEST_FILES: [(&str, &str); 6] = [
-    ("machine 2 6 63 1", "ok"),
-    ("st 0x28006000 1", "guarded"),
-    ("st 0x28007000 1", "fault"),
-    ("st 0x2800e000 1", "guarded"),
-    ("st 0x2800f000 1", "fault"),
-    ("ld 0x28008000", "0x00000000"),
+/// The pages of thirty guest files lie above the supervisor file of their hart, and the last page
+/// before the next hart's is no file's.
+pub const THIRTY_GUEST_FILES: [(&str, &str); 6] = [
+    ("machine 2 30 63 1", "ok"),
+    ("st 0x2801e000 1", "guarded"),
+    ("st 0x2801f000 1", "fault"),
+    ("st 0x2803e000 1", "guarded"),
+    ("st 0x2803f000 1", "fault"),
+    ("ld 0x28020000", "0x00000000"),
 ];
 
-/// Proves that the model answers [`SIX_GUEST_FILES`] as it says.
-pub fn six_guest_files()
-    ensures { answers (script_of SIX_GUEST_FILES) ≡ answers_of SIX_GUEST_FILES }
+/// Proves that the model answers [`THIRTY_GUEST_FILES`] as it says.
+pub fn thirty_guest_files()
+    ensures { answers (script_of THIRTY_GUEST_FILES) ≡ answers_of THIRTY_GUEST_FILES }
+{}
+
+/// A hart has at most 31 guest files. Their pages fill what lies between its supervisor file and
+/// the next hart's, which keeps what is stored to it; and memory ends right before 0x8000c000.
+pub const THIRTY_ONE_GUEST_FILES: [(&str, &str); 14] = [
+    ("machine 1 32 63 8", "range"),
+    ("machine 2 31 63 8", "ok"),
+    ("st 0x28020000 5", "ok"),
+    ("h 1 csrrw siselect 0x80", "0x0000000000000000"),
+    ("h 1 csrr sireg", "0x0000000000000020"),
+    ("st 0x28008000 5", "guarded"),
+    ("st 0x2801f000 1", "guarded"),
+    ("st 0x28021000 1", "guarded"),
+    ("st 0x2803f000 1", "guarded"),
+    ("st 0x2803f002 1", "fault"),
+    ("st 0x28040000 1", "fault"),
+    ("h 1 csrr sireg", "0x0000000000000020"),
+    ("ld 0x8000bffc", "guarded"),
+    ("ld 0x8000c000", "fault"),
+];
+
+/// Proves that the model answers [`THIRTY_ONE_GUEST_FILES`] as it says.
+pub fn thirty_one_guest_files()
+    ensures { answers (script_of THIRTY_ONE_GUEST_FILES) ≡ answers_of THIRTY_ONE_GUEST_FILES }
 {}
 
 /// A file with the identities 1 to 255 keeps the last of them, and none above; its threshold is
@@ -229,23 +254,25 @@ pub fn identities_up_to_1023()
     ensures { answers (script_of IDENTITIES_UP_TO_1023) ≡ answers_of IDENTITIES_UP_TO_1023 }
 {}
 
-/// Memory has six pages from 0x80000000 on: what is there is guarded, and before it, behind it and
-/// at its copies above 2^32 there is no place.
-pub const MEMORY_IS_GUARDED: [(&str, &str); 15] = [
+/// Memory has twelve pages from 0x80000000 on: what is there is guarded, and before it, behind it
+/// and at its copies above 2^32 there is no place.
+pub const MEMORY_IS_GUARDED: [(&str, &str); 17] = [
     ("ld 0x80000000", "nomachine"),
     ("machine 1 0 63 8", "ok"),
     ("ld 0x80000000", "guarded"),
     ("st 0x80000000 1", "guarded"),
-    ("ld 0x80003000", "guarded"),
-    ("ld 0x80005ffc", "guarded"),
-    ("st 0x80005ffc 1", "guarded"),
+    ("ld 0x80003ffc", "guarded"),
+    ("ld 0x80004000", "guarded"),
+    ("ld 0x80006000", "guarded"),
+    ("ld 0x8000bffc", "guarded"),
+    ("st 0x8000bffc 1", "guarded"),
     ("ld 0x80000002", "fault"),
-    ("st 0x80005ffe 1", "fault"),
+    ("st 0x8000bffe 1", "fault"),
     ("ld 0x7ffffffc", "fault"),
     ("st 0x7ffffffc 1", "fault"),
-    ("ld 0x80006000", "fault"),
-    ("st 0x80006000 1", "fault"),
-    ("ld 0x80007ffc", "fault"),
+    ("ld 0x8000c000", "fault"),
+    ("st 0x8000c000 1", "fault"),
+    ("ld 0x8000dffc", "fault"),
     ("ld 0x180000000", "fault"),
 ];
 

@@ -184,7 +184,7 @@ pub const BOTH_DOMAINS_SEND_TO_THEIR_FILES: [(&str, &str); 27] = [
     ("st 0x0c001bc0 0x24000", "ok"),
     ("st 0x0c001bc4 0x1000", "ok"),
     ("st 0x0c001bc8 0x28000", "ok"),
-    ("st 0x0c001bcc 0x300000", "ok"),
+    ("st 0x0c001bcc 0x500000", "ok"),
     ("st 0x0c000000 0x104", "ok"),
     ("st 0x0c008000 0x104", "ok"),
     ("st 0x0c000004 5", "ok"),
@@ -538,24 +538,24 @@ pub fn the_shift_of_a_group()
     ensures { answers (script_of SHIFT_OF_A_GROUP) ≡ answers_of SHIFT_OF_A_GROUP }
 {}
 
-/// A hart's number in its group is shifted by LHXS, 0 to 7, each domain by its own: at 4 hart 1 has
-/// the page where hart 2's supervisor file is, at 3 that of its own, at 7 no file's.
+/// A hart's number in its group is shifted by LHXS, 0 to 7, each domain by its own: at 6 hart 1 has
+/// the page where hart 2's supervisor file is, at 5 that of its own, at 7 no file's.
 pub const SHIFT_OF_A_HART: [(&str, &str); 24] = [
     ("machine 3 0 63 8", "ok"),
     ("st 0x0c000000 4", "ok"),
     ("st 0x0c008000 4", "ok"),
     ("st 0x0c001bc0 0x28000", "ok"),
-    ("st 0x0c001bc4 0x00402000", "ok"),
-    ("ld 0x0c001bc4", "0x00402000"),
+    ("st 0x0c001bc4 0x00602000", "ok"),
+    ("ld 0x0c001bc4", "0x00602000"),
     ("st 0x0c003000 0x40005", "ok"),
     ("st 0x0c001bc4 0x00702000", "ok"),
     ("ld 0x0c001bc4", "0x00702000"),
     ("st 0x0c003000 0x40006", "ok"),
-    ("st 0x0c001bc4 0x00302000", "ok"),
+    ("st 0x0c001bc4 0x00502000", "ok"),
     ("st 0x0c003000 0x40007", "ok"),
     ("st 0x0c001bc8 0x28000", "ok"),
-    ("st 0x0c001bcc 0x00400000", "ok"),
-    ("ld 0x0c001bcc", "0x00400000"),
+    ("st 0x0c001bcc 0x00600000", "ok"),
+    ("ld 0x0c001bcc", "0x00600000"),
     ("st 0x0c00b000 0x40009", "ok"),
     ("st 0x0c001bcc 0x00700000", "ok"),
     ("st 0x0c00b000 0x4000a", "ok"),
