@@ -214,7 +214,7 @@ steps-send (suc count) g h =
 
 -- no move has more than a leave of the greatest files
 abbrev most_steps : ℕ
-most_steps = leave_steps 32
+most_steps = leave_steps FILE_WORDS
 
 few_steps : (words : ℕ) (move : Move) → words ≤ FILE_WORDS → steps_of words move ≤ most_steps
 few_steps words (Arrives g hart) small = omega arith

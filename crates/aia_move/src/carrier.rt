@@ -94,7 +94,7 @@ impl Carrier {
     /// Takes eidelivery of the file at a place that is there, so that it signals no more.
     pub fn take_delivery(&mut self, fabric: &mut Fabric, spot: Spot)
         requires there { IsThere fabric.old.imsic spot }
-        requires more { self.old.steps < leave_steps 32 }
+        requires more { self.old.steps < leave_steps FILE_WORDS }
         ensures { (m : Moving) → load_of m ≡ self.old → old_spot m ≡ spot
             → Does TakeDelivery m fabric.old fabric.new self.new }
     {
@@ -114,7 +114,7 @@ impl Carrier {
     /// Takes eithreshold of the file at a place that is there.
     pub fn take_threshold(&mut self, fabric: &mut Fabric, spot: Spot)
         requires there { IsThere fabric.old.imsic spot }
-        requires more { self.old.steps < leave_steps 32 }
+        requires more { self.old.steps < leave_steps FILE_WORDS }
         ensures { (m : Moving) → load_of m ≡ self.old → old_spot m ≡ spot
             → Does TakeThreshold m fabric.old fabric.new self.new }
     {
@@ -125,7 +125,7 @@ impl Carrier {
     /// Puts eithreshold in the file at a place that is there.
     pub fn put_threshold(&mut self, fabric: &mut Fabric, spot: Spot)
         requires there { IsThere fabric.old.imsic spot }
-        requires more { self.old.steps < leave_steps 32 }
+        requires more { self.old.steps < leave_steps FILE_WORDS }
         ensures { (m : Moving) → load_of m ≡ self.old → new_spot m ≡ spot
             → Does PutThreshold m fabric.old fabric.new self.new }
     {
@@ -138,7 +138,7 @@ impl Carrier {
     /// Writes word 1 of the entry: where notices go.
     pub fn write_notice(&mut self, fabric: &mut Fabric)
         requires who { IsWho fabric.old self.old.who }
-        requires more { self.old.steps < leave_steps 32 }
+        requires more { self.old.steps < leave_steps FILE_WORDS }
         ensures { (m : Moving) → load_of m ≡ self.old
             → Does WriteNotice m fabric.old fabric.new self.new }
     {
@@ -152,7 +152,7 @@ impl Carrier {
     pub fn write_entry(&mut self, fabric: &mut Fabric, to: Option<Place>)
         requires who { IsWho fabric.old self.old.who }
         requires file { (p : Place) → to ≡ Some p → IsThere fabric.old.imsic (spot_of p) }
-        requires more { self.old.steps < leave_steps 32 }
+        requires more { self.old.steps < leave_steps FILE_WORDS }
         ensures { (m : Moving) → load_of m ≡ self.old → new_file m.home ≡ to
             → Does WriteEntry m fabric.old fabric.new self.new }
     {
@@ -165,7 +165,7 @@ impl Carrier {
     /// Lands all stores in flight of the VM, then puts the entry in force.
     pub fn fence(&mut self, fabric: &mut Fabric)
         requires who { IsWho fabric.old self.old.who }
-        requires more { self.old.steps < leave_steps 32 }
+        requires more { self.old.steps < leave_steps FILE_WORDS }
         ensures fences { Fences fabric.old fabric.new self.old.who.vm self.old.who.vcpu }
         ensures load { self.new ≡ one_done self.old self.old.hand }
     {
@@ -176,7 +176,7 @@ impl Carrier {
     /// Writes the G-stage record: the guest file that it names, or none.
     fn write_stage(&mut self, fabric: &mut Fabric, to: Option<&FileLease>)
         requires who { IsWho fabric.old self.old.who }
-        requires more { self.old.steps < leave_steps 32 }
+        requires more { self.old.steps < leave_steps FILE_WORDS }
         ensures { (m : Moving) → load_of m ≡ self.old
             → new_file m.home ≡ option_map (λ (lease : Bor Place). lease.now) to.entry
             → Does WriteStage m fabric.old fabric.new self.new }
@@ -188,7 +188,7 @@ impl Carrier {
     /// Puts the G-stage record in force.
     fn fence_stage(&mut self, fabric: &mut Fabric)
         requires who { IsWho fabric.old self.old.who }
-        requires more { self.old.steps < leave_steps 32 }
+        requires more { self.old.steps < leave_steps FILE_WORDS }
         ensures { (m : Moving) → load_of m ≡ self.old
             → Does FenceStage m fabric.old fabric.new self.new }
     {
@@ -200,7 +200,7 @@ impl Carrier {
     /// record, then puts it in force.
     pub fn close(&mut self, fabric: &mut Fabric, first: u32, to: Option<&FileLease>)
         requires who { IsWho fabric.old self.old.who }
-        requires more { self.old.steps < leave_steps 32 }
+        requires more { self.old.steps < leave_steps FILE_WORDS }
         ensures { (m : Moving) → load_of m ≡ self.old
             → new_file m.home ≡ option_map (λ (lease : Bor Place). lease.now) to.entry
             → Does (closing_access first self.old.steps) m fabric.old fabric.new self.new }
@@ -218,7 +218,7 @@ impl Carrier {
     fn take_pending(&mut self, fabric: &mut Fabric, from: At, word: usize)
         requires place { IsPlaceThere fabric.old from }
         requires word { word < words_at fabric.old from }
-        requires more { self.old.steps < leave_steps 32 }
+        requires more { self.old.steps < leave_steps FILE_WORDS }
         ensures does { (m : Moving) → load_of m ≡ self.old → old_at m ≡ from
             → Does (TakePending word) m fabric.old fabric.new self.new }
         ensures no_zero { word ≡ 0 → has_bit self.new.hand.word 0 ≡ false }
@@ -232,7 +232,7 @@ impl Carrier {
         requires place { IsPlaceThere fabric.old to }
         requires word { word < words_at fabric.old to }
         requires no_zero { word ≡ 0 → has_bit self.old.hand.word 0 ≡ false }
-        requires more { self.old.steps < leave_steps 32 }
+        requires more { self.old.steps < leave_steps FILE_WORDS }
         ensures { (m : Moving) → load_of m ≡ self.old → new_at m ≡ to
             → Does (PutPending word) m fabric.old fabric.new self.new }
     {
@@ -248,7 +248,7 @@ impl Carrier {
         requires first { first ≤ self.old.steps }
         requires word { (self.old.steps - first) / 2 < width fabric.old }
         requires no_zero { self.old.steps ≡ first + 1 → has_bit self.old.hand.word 0 ≡ false }
-        requires more { self.old.steps < leave_steps 32 }
+        requires more { self.old.steps < leave_steps FILE_WORDS }
         ensures does { (m : Moving) → load_of m ≡ self.old → old_at m ≡ from → new_at m ≡ to
             → Does (pending_access first self.old.steps) m fabric.old fabric.new self.new }
         ensures no_zero { self.old.steps ≡ first → has_bit self.new.hand.word 0 ≡ false }
@@ -266,7 +266,7 @@ impl Carrier {
     fn take_enables(&mut self, fabric: &mut Fabric, from: At, word: usize)
         requires place { IsPlaceThere fabric.old from }
         requires word { word < words_at fabric.old from }
-        requires more { self.old.steps < leave_steps 32 }
+        requires more { self.old.steps < leave_steps FILE_WORDS }
         ensures does { (m : Moving) → load_of m ≡ self.old → old_at m ≡ from
             → Does (TakeEnables word) m fabric.old fabric.new self.new }
         ensures no_zero { word ≡ 0 → has_bit self.new.hand.word 0 ≡ false }
@@ -280,7 +280,7 @@ impl Carrier {
         requires place { IsPlaceThere fabric.old to }
         requires word { word < words_at fabric.old to }
         requires no_zero { word ≡ 0 → has_bit self.old.hand.word 0 ≡ false }
-        requires more { self.old.steps < leave_steps 32 }
+        requires more { self.old.steps < leave_steps FILE_WORDS }
         ensures { (m : Moving) → load_of m ≡ self.old → new_at m ≡ to
             → Does (PutEnables word) m fabric.old fabric.new self.new }
     {
@@ -296,7 +296,7 @@ impl Carrier {
         requires first { first ≤ self.old.steps }
         requires word { (self.old.steps - first) / 2 < width fabric.old }
         requires no_zero { self.old.steps ≡ first + 1 → has_bit self.old.hand.word 0 ≡ false }
-        requires more { self.old.steps < leave_steps 32 }
+        requires more { self.old.steps < leave_steps FILE_WORDS }
         ensures does { (m : Moving) → load_of m ≡ self.old → old_at m ≡ from → new_at m ≡ to
             → Does (enables_access first self.old.steps) m fabric.old fabric.new self.new }
         ensures no_zero { self.old.steps ≡ first → has_bit self.new.hand.word 0 ≡ false }
@@ -316,7 +316,7 @@ impl Carrier {
     pub fn look(&mut self, fabric: &Fabric, word: usize)
         requires slot { self.old.who.slot < VCPUS }
         requires word { word < FILE_WORDS }
-        requires more { self.old.steps < leave_steps 32 }
+        requires more { self.old.steps < leave_steps FILE_WORDS }
         ensures { (m : Moving) → load_of m ≡ self.old
             → Does (Look word) m fabric.now fabric.now self.new }
     {
