@@ -1,6 +1,6 @@
 -- A history in which one virtual hart is resident in a guest file and another one is leaving its
 -- own, and the core that stands for it.
-use Rattle.std.specs.Prelude.{ℕ, ◌-◌, true, false, List, [], ◌∷◌, ◌++◌, replicate, Some, None, zero, suc}
+use Rattle.std.specs.Prelude.{ℕ, ◌-◌, ◌*◌, length, true, false, List, [], ◌∷◌, ◌++◌, replicate, Some, None, zero, suc}
 use Rattle.aia_home.specs.Plans.Access.{PutPending}
 use Rattle.aia_home.specs.Plans.{leave_step}
 use Rattle.aia_regs.specs.declared.limits.TheConstants.{HARTS, VCPUS, ENTRIES, WORDS_OF_SLOTS, MEMORY_WORDS}
