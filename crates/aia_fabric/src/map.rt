@@ -11,7 +11,7 @@ ghost use Rattle.aia_fabric.specs.Making.{table_place};
 
 use aia_entry::mrif;
 use aia_ram::Ram;
-use aia_regs::address_map::{slot_address, supervisor_page, table_address, MEMORY, PAGE, SLOT};
+use aia_regs::address_map::{MEMORY, PAGE, SLOT, slot_address, supervisor_page, table_address};
 use aia_regs::limits::VCPUS;
 
 /// Finds the slot of memory that begins at `addr`.

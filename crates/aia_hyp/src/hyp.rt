@@ -31,7 +31,7 @@ use aia_fabric::Fabric;
 use aia_imsic::Spot;
 use aia_model::{Msi, Refusal};
 use aia_pool::Pool;
-use aia_regs::address_map::{is_in_memory, PAGE};
+use aia_regs::address_map::{PAGE, is_in_memory};
 use aia_regs::limits::{GUEST_FILES, HARTS, VCPUS, VM_VCPUS, VMS};
 use aia_regs::{Csr, FileReg, Level, Op};
 use std::alloc::{AllocError, Global};

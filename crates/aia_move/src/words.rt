@@ -5,7 +5,7 @@ ghost use Rattle.aia_places.specs.Holds.{meets};
 
 use aia_entry::{basic, mrif};
 use aia_home::Place;
-use aia_regs::address_map::{guest_page, slot_address, supervisor_page, PAGE};
+use aia_regs::address_map::{PAGE, guest_page, slot_address, supervisor_page};
 
 /// Gives word 0 of the entry that leads to guest file `to`, one that a machine may have; `None`: to
 /// slot `slot`, below `SLOTS`.
