@@ -68,7 +68,7 @@ fn take_files(rt: &impl Abort, pool: &mut Pool, hart: u32)
     requires { hart < pool.old.harts }
     ensures { pool.new.harts ≡ pool.old.harts }
 {
-    for file in 1..=GUEST_FILES {
+    for file in 1..GUEST_FILES + 1 {
         same!(*rt; taken(pool, hart), Some(Place { hart, file }); file);
     }
 }
