@@ -39,7 +39,7 @@ impl Iommu {
         Ok(Iommu { tables })
     }
 
-    /// Makes the next VM, while fewer than four stand: its table is at byte `table` of memory, its
+    /// Makes the next VM, while fewer than `VMS` stand: its table is at byte `table` of memory, its
     /// mask has 1 to `MASK_ONES` ones, all below bit `MASK_BITS`, and no entry in force is valid.
     /// All other tables stay.
     pub fn vm(&mut self, mask: u64, table: usize)

@@ -115,7 +115,7 @@ impl Flights {
         Ok(Flights { kept })
     }
 
-    /// Makes the list of the next VM, while fewer than four stand: none is in flight.
+    /// Makes the list of the next VM, while fewer than `VMS` stand: none is in flight.
     pub fn add(&mut self)
         requires { length self.old < VMS }
         ensures { self.new ≡ self.old ++ [] ∷ [] }

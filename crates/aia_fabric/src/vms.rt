@@ -35,7 +35,7 @@ impl Vms {
         Ok(Vms { kept })
     }
 
-    /// Makes the next VM, while fewer than four stand.
+    /// Makes the next VM, while fewer than `VMS` stand.
     pub fn push(&mut self, vm: Vm)
         requires { length self.old < VMS }
         ensures { self.new ≡ self.old ++ vm ∷ [] }
