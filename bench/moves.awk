@@ -1,6 +1,6 @@
-# awk -v N=n -v who=one -f common.awk -f moves.awk: 100,000 whole moves of a virtual hart of a machine
-# with the identities 1 to n, some of them pending and enabled; -v who=many: of 32 virtual harts of
-# eight VMs, with the most harts and guest files.
+# awk -v N=n -v who=one -f common.awk -f moves.awk: 100,000 whole moves of a virtual hart of a
+# machine with the identities 1 to n, some of them pending and enabled; -v who=many: of 32 virtual
+# harts of eight VMs, with the most harts and guest files.
 
 BEGIN {
   seed = 1
