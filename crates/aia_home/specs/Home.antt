@@ -6,12 +6,14 @@ use Rattle.aia_home.specs.declared.place.Place.{Place}
 abbrev pub is_place : Place → Place → Bool
 is_place p q = nat_eq p.hart q.hart && nat_eq p.file q.file
 
--- How far a move has come: so many of its steps are done.
+-- How far a move has come: so many of its steps are done, those that aim a passed source aside, and
+-- so many that aim one.
 pub record Progress : Type 0 where
   pub steps : ℕ
+  pub aims : ℕ
 
 abbrev pub at_first : Progress
-at_first = record { steps = 0 }
+at_first = record { steps = 0; aims = 0 }
 
 -- It is parked, its interrupts in memory; or resident in a guest file; or it is moved, from a guest
 -- file to memory, from memory to a guest file, or from one guest file to another.
@@ -69,7 +71,7 @@ ended (Shifting from to at) = Resident to
 ended there = there
 
 abbrev pub one_further : Progress → Progress
-one_further at = record { steps = at.steps + 1 }
+one_further at = record at { steps = at.steps + 1 }
 
 abbrev pub one_more : Home → Home
 one_more (Leaving from at) = Leaving from (one_further at)

@@ -50,3 +50,10 @@ pub const MEMORY_WORDS: usize = WORDS_OF_SLOTS + VMS as usize * TABLE as usize /
 
 /// The most stores of devices of a VM that are in flight.
 pub const STORES_IN_FLIGHT: usize = 8;
+
+/// The most wired sources of a machine that are passed to virtual harts.
+pub const PASSES: usize = 16;
+
+/// The identity of the first pass at the supervisor file of its notice hart, those of the others
+/// after it: the first one that no notice has.
+pub const FIRST_PASS_IDENTITY: u32 = VCPUS + 1;
