@@ -1,5 +1,5 @@
 -- Answers and histories by the refusal of a line.
-use Rattle.std.proofs.Common.{◌≡◌, ℕ, ◌%◌, Bool, true, false, ◌&&◌, not, cond, nat_eq, nat_lt, nat_le, length, is_none, Option, Some, None, unwrap_or, refl, sym, ap, ◌∙◌}
+use Rattle.std.proofs.Common.{◌≡◌, ℕ, ◌%◌, Bool, true, false, ◌&&◌, not, cond, nat_eq, nat_lt, nat_le, length, is_none, Option, Some, None, unwrap_or, refl, sym, ap, ◌∙◌, ◌||◌}
 use Rattle.std.proofs.lemmas.Bool.{cond-true}
 use Rattle.std.specs.Option.{option_map}
 use Rattle.std.specs.Int.{is_in_range}
@@ -16,18 +16,23 @@ use Rattle.aia_imsic.specs.declared.spot.Spot.{Spot}
 use Rattle.aia_model.specs.declared.answer.Answer.{Answer}
 use Rattle.aia_model.specs.declared.answer.Answer.TheVariants.{NoMachine, Again, Refused}
 use Rattle.aia_model.specs.declared.refusal.Refusal.{Refusal}
-use Rattle.aia_model.specs.declared.refusal.Refusal.TheVariants.{Range, Full, Busy, NoFile, Idle, Away, Illegal, Virtual, Fault, Guarded, Other, NotValid, GFault}
+use Rattle.aia_model.specs.declared.refusal.Refusal.TheVariants.{Range, Full, Busy, NoFile, Idle, Away, Illegal, Virtual, Fault, Guarded, Other, NotValid, GFault, Passed, Unready}
 use Rattle.aia_model.specs.declared.refusal.Refusal.TheVariants as words
-use Rattle.aia_model.specs.Event.{History, has_machine, has_hart, harts_of, sources_of}
+use Rattle.aia_model.specs.Event.{History, has_machine, has_hart, harts_of, sources_of, greatest_identity_of}
 use Rattle.aia_entry.specs.Translation.{is_msi_address}
 use Rattle.aia_model.specs.Vms.{has_vm, has_vcpu, mask_of}
 use Rattle.aia_major.specs.VsMajor.{is_major, is_hvictl}
 use Rattle.aia_home.specs.Vms.{vcpu}
 use Rattle.aia_home.specs.Home.{is_moving, is_resident, is_parked}
+use Rattle.aia_regs.specs.declared.limits.TheConstants.{PASSES}
+use Rattle.aia_model.specs.Act.{domain_at, register_at}
+use Rattle.aia_model.specs.Sent.{acts_of}
+use Rattle.aia_model.specs.Passes.{passes_of, has_passes, is_passed}
 use Rattle.aia_model.specs.HomeOf.{home, free_file}
 use Rattle.aia_model.specs.GuestFile.{named_by}
 use Rattle.aia_model.specs.FileOf.{MachineFile, SupervisorFile, page_at, select_of}
 use Rattle.aia_model.specs.Refusal.{refusal, raises_illegal, raises_virtual, guest_access, faults, guards, is_machine_size, lacks_machine, is_vm_size, is_full}
+use Rattle.aia_model.specs.Passable.{redirects, redirects_by, is_passable}
 use Rattle.aia_model.specs.Answer.{answer, after, accepted_answer, history_after}
 
 pub answered : (h : History) (line : Line) (r : Option Answer) → refusal h line ≡ r → answer h line ≡ unwrap_or r (accepted_answer h line)
@@ -72,8 +77,37 @@ pins_refusal h hart there = past_machine h _ there
 pub load_refusal : (h : History) (addr : ℕ) → has_machine h ≡ true → refusal h (Load addr) ≡ refused_by (place_refusal (page_at h addr) addr)
 load_refusal h addr there = past_machine h _ there ∙ place_word (page_at h addr) addr
 
-pub store_refusal : (h : History) (addr value : ℕ) → has_machine h ≡ true → refusal h (Store addr value) ≡ refused_by (place_refusal (page_at h addr) addr)
-store_refusal h addr value there = past_machine h _ there ∙ place_word (page_at h addr) addr
+-- a store, by whether it is to a register that is the hypervisor's while sources are passed
+pub store_refusal : (h : History) (addr value : ℕ) → has_machine h ≡ true → redirects h addr value ≡ false → refusal h (Store addr value) ≡ refused_by (place_refusal (page_at h addr) addr)
+store_refusal h addr value there free =
+    past_machine h _ there ∙ ap (λ b. cond (faults (page_at h addr) addr) (Some (Refused Fault)) (cond (guards (page_at h addr) addr || b) (Some (Refused Guarded)) None)) free
+        ∙ ap (λ b. cond (faults (page_at h addr) addr) (Some (Refused Fault)) (cond b (Some (Refused Guarded)) None)) (or_none (guards (page_at h addr) addr)) ∙ place_word (page_at h addr) addr
+  where
+    or_none : (b : Bool) → (b || false) ≡ b
+    or_none true = refl
+    or_none false = refl
+
+pub passes_refusal : (h : History) (addr value : ℕ) → has_machine h ≡ true → faults (page_at h addr) addr ≡ false → redirects h addr value ≡ true → refusal h (Store addr value) ≡ Some (Refused Guarded)
+passes_refusal h addr value there sound mine =
+    past_machine h _ there ∙ ap (λ b. cond b (Some (Refused Fault)) (cond (guards (page_at h addr) addr || redirects h addr value) (Some (Refused Guarded)) None)) sound
+        ∙ ap (λ b. cond (guards (page_at h addr) addr || b) (Some (Refused Guarded)) None) mine ∙ ap (λ b. cond b (Some (Refused Guarded)) None) (or_all (guards (page_at h addr) addr))
+  where
+    or_all : (b : Bool) → (b || true) ≡ true
+    or_all true = refl
+    or_all false = refl
+
+pub outside_is_free : (h : History) (addr value : ℕ) → domain_at addr ≡ None → redirects h addr value ≡ false
+outside_is_free h addr value outside = ap (λ d. has_passes h && redirects_by h d (register_at addr) value) outside ∙ and_none (has_passes h)
+  where
+    and_none : (b : Bool) → (b && false) ≡ false
+    and_none true = refl
+    and_none false = refl
+
+pub pass_refusal : (h : History) (source vm number identity : ℕ) → has_machine h ≡ true
+    → refusal h (lines.Pass source vm number identity) ≡ cond (not (is_in_range 1 (sources_of h) source && has_vcpu h (vcpu vm number) && is_in_range 1 (greatest_identity_of h) identity)) (Some (Refused Range))
+    (cond (nat_le PASSES (length (passes_of h))) (Some (Refused Full)) (cond (is_moving (home h (vcpu vm number))) (Some (Refused Busy))
+    (cond (is_passed h source) (Some (Refused Passed)) (cond (not (is_passable (acts_of h) source)) (Some (Refused Unready)) None))))
+pass_refusal h source vm number identity there = past_machine h _ there
 
 -- the refusal of an access of a hart, given whether it raises an illegal-instruction fault
 abbrev pub access_refusal : History → ℕ → Bool → Option Answer

@@ -9,16 +9,17 @@ use Rattle.aia_home.specs.declared.vm.Vm.{Vm}
 use Rattle.aia_home.specs.Vms.{Vcpu, is_vcpu, vm_in, is_vcpu_in, slot_of, notice_hart}
 use Rattle.aia_home.proofs.VmLemmas.{vm_stays, slot_stays, vm_past}
 use Rattle.aia_home.specs.Home.{Home}
-use Rattle.aia_home.specs.Plans.{stepped}
 use Rattle.aia_home.specs.Routes.{is_at_fence, MayReach}
-use Rattle.aia_home.proofs.RouteLemmas.{reach_kept}
 use Rattle.aia_model.specs.declared.line.Line.TheVariants.{Send}
 use Rattle.aia_model.specs.declared.line.Line.TheVariants as lines
 use Rattle.aia_model.specs.Move.Move.{Arrives, Leaves, Shifts}
 use Rattle.aia_model.specs.Event.{Event, History, Shape, machine_of, file_words}
-use Rattle.aia_model.specs.Event.Event.{Accepted, Began, Stepped, Delivered, Landed}
+use Rattle.aia_model.specs.Event.Event.{Accepted, Began, Stepped, Delivered, Landed, Relayed}
 use Rattle.aia_model.specs.Flight.{Sending, flight}
 use Rattle.aia_model.specs.GuestFile.{named_by, sent_to}
+use Rattle.aia_home.specs.Aims.{further}
+use Rattle.aia_home.proofs.PassLemmas.{further_kept}
+use Rattle.aia_model.specs.Passes.{passes_of, passes_to, passes_for}
 use Rattle.aia_model.specs.HomeOf.{home}
 use Rattle.aia_model.specs.ReachOf.{sent_into, NoneAtFence, MayFly, AllMayFly, IsForOne, AllAreForOne}
 use Rattle.aia_model.specs.Answer.{oldest_landed, landed_first, step_taken}
@@ -59,8 +60,8 @@ step_on past vm s x other m = rw (home_step (Stepped x) past (sent_to vm s)) (el
   | inr another ↦ rw another m
 ])
   where
-    by_fence : (there : Home) (place : Option Place) → is_at_fence there ≡ false → MayReach there place → MayReach (stepped (file_words past) there) place
-    by_fence there place e m = subst (MayReach (stepped (file_words past) there)) (cond-false _ _ _ e) (reach_kept (file_words past) there place m)
+    by_fence : (there : Home) (place : Option Place) → is_at_fence there ≡ false → MayReach there place → MayReach (further (passes_for past (sent_to vm s)) (file_words past) there) place
+    by_fence there place e m = subst (MayReach (further (passes_for past (sent_to vm s)) (file_words past) there)) (cond-false _ _ _ e) (further_kept (passes_for past (sent_to vm s)) (file_words past) there place m)
 
 pub flights_on : (past : History) (event : Event) → NoneAtFence past event → AllMayFly past → AllMayFly (event ∷ past)
 unfolding flight home
@@ -70,6 +71,7 @@ flights_on past (Accepted (Send v addr value)) first all vm = elim (cases_Bool (
 ]
 flights_on past (Accepted line) first all vm = all vm
 flights_on past (Delivered msi) first all vm = all vm
+flights_on past (Relayed p) first all vm = all vm
 flights_on past (Landed v k) first all vm = elim (cases_Bool (nat_eq v vm)) [
   | inl own ↦ rw own (all_remove (MayFly past vm) k (flight past vm) (all vm))
   | inr other ↦ rw other (all vm)
@@ -116,6 +118,7 @@ stays_there (Began move) past g there = (there, refl, refl)
 stays_there (Stepped x) past g there = (there, refl, refl)
 stays_there (Landed vm k) past g there = (there, refl, refl)
 stays_there (Delivered msi) past g there = (there, refl, refl)
+stays_there (Relayed p) past g there = (there, refl, refl)
 
 one_on : (event : Event) (past : History) (vm : ℕ) (s : Sending) → IsForOne past vm s → IsForOne (event ∷ past) vm s
 one_on event past vm s one =
@@ -201,9 +204,26 @@ same_first g h = by_fence (is_at_fence (home h g)) refl
 pub words_first : (g : Vcpu) (h : History) → file_words (landed_first g h) ≡ file_words h
 words_first g h = ap (λ m. (option_map_or (λ (shape : Shape). shape.n) m 0 + 1) / 64) (same_first g h).1
 
-pub home_stepped : (g : Vcpu) (h : History) → home (step_taken g h) g ≡ stepped (file_words h) (home h g)
+passes_landed : (count vm : ℕ) (h : History) → passes_of (oldest_landed count vm h) ≡ passes_of h
+unfolding passes_of
+passes_landed zero vm h = refl
+passes_landed (suc count) vm h = passes_landed count vm (Landed vm 0 ∷ h)
+
+pub passes_first : (g x : Vcpu) (h : History) → passes_for (landed_first g h) x ≡ passes_for h x
+passes_first g x h = by_fence (is_at_fence (home h g)) refl
+  where
+    by_fence : (b : Bool) → is_at_fence (home h g) ≡ b → passes_for (landed_first g h) x ≡ passes_for h x
+    by_fence true e = rw e (ap (passes_to x) (passes_landed (length (flight h g.vm)) g.vm h))
+    by_fence false e = rw e refl
+
+pub passes_stepped : (g x : Vcpu) (h : History) → passes_for (step_taken g h) x ≡ passes_for h x
+unfolding passes_of
+passes_stepped g x h = passes_first g x h
+
+pub home_stepped : (g : Vcpu) (h : History) → home (step_taken g h) g ≡ further (passes_for h g) (file_words h) (home h g)
 home_stepped g h =
-    home_step (Stepped g) (landed_first g h) g ∙ cond-true _ _ _ (is_itself g) ∙ ap (λ w. stepped w (home (landed_first g h) g)) (words_first g h) ∙ ap (stepped (file_words h)) (home_landed_first g g h)
+    home_step (Stepped g) (landed_first g h) g ∙ cond-true _ _ _ (is_itself g) ∙ ap (λ n. further n (file_words (landed_first g h)) (home (landed_first g h) g)) (passes_first g g h)
+        ∙ ap (λ w. further (passes_for h g) w (home (landed_first g h) g)) (words_first g h) ∙ ap (further (passes_for h g) (file_words h)) (home_landed_first g g h)
 
 -- a step that is the fence leaves none of its VM in flight
 pub none_after_fence : (g : Vcpu) (h : History) → is_at_fence (home h g) ≡ true → flight (step_taken g h) g.vm ≡ []

@@ -1,6 +1,6 @@
 -- What a line answers after a history, and the history after it. Vocabulary, where no chapter is
 -- named.
-use Rattle.std.specs.Prelude.{ℕ, zero, suc, if◌then◌else◌, List, [], ◌∷◌, length, Option, Some, None, unwrap_or}
+use Rattle.std.specs.Prelude.{ℕ, zero, suc, ◌+◌, is_none, if◌then◌else◌, List, [], ◌∷◌, length, Option, Some, None, unwrap_or}
 use Rattle.std.specs.Option.{option_map_or}
 use Rattle.aia_word.specs.Top.{top_value}
 use Rattle.aia_regs.specs.declared.access.Csr.{Csr}
@@ -21,7 +21,7 @@ use Rattle.aia_model.specs.Move.{Move, mover, MoveDeed, move_deed}
 use Rattle.aia_model.specs.Move.MoveDeed.{NoMove, Whole, Begins, Steps, Lands}
 use Rattle.aia_model.specs.Move.Move.{Arrives, Leaves, Shifts}
 use Rattle.aia_model.specs.Event.{History, file_words}
-use Rattle.aia_model.specs.Event.Event.{Accepted, Began, Stepped, Delivered, Landed}
+use Rattle.aia_model.specs.Event.Event.{Accepted, Began, Stepped, Delivered, Landed, Relayed}
 use Rattle.aia_model.specs.Act.{domain_at, register_at}
 use Rattle.aia_model.specs.declared.domain_name.DomainName.TheVariants.{Root, Child}
 use Rattle.aia_model.specs.SourceOf.{register_read, is_signalled}
@@ -31,6 +31,8 @@ use Rattle.aia_model.specs.GuestFile.{guest_select, guest_file}
 use Rattle.aia_home.specs.Routes.{is_at_fence}
 use Rattle.aia_model.specs.Flight.{flight}
 use Rattle.aia_model.specs.HomeOf.{home}
+use Rattle.aia_model.specs.Passes.{passed_by, passes_for}
+use Rattle.aia_model.specs.Aim.{pass_reach}
 use Rattle.aia_model.specs.MajorOf.{stopi_of, sip_of, sie_of}
 use Rattle.aia_model.specs.Gate.{hgeip_value}
 use Rattle.aia_model.specs.Refusal.{refusal}
@@ -84,9 +86,14 @@ answer h line = unwrap_or (refusal h line) (accepted_answer h line)
 
 -- ---- what has happened after a line
 
--- An MSI is delivered.
+-- The MSI of a pass, if it is one's, is given on where the pass reaches memory.
+abbrev pub given_on : Option ℕ → History → History
+given_on None h = h
+given_on (Some p) h = if is_none (pass_reach h p) then Relayed p ∷ h else h
+
+-- An MSI is delivered, and given on if need be.
 abbrev pub msi_taken : Msi → History → History
-msi_taken msi h = Delivered msi ∷ h
+msi_taken msi h = given_on (passed_by h msi.source) (Delivered msi ∷ h)
 
 -- So many stores of a VM land, the oldest first.
 abbrev pub oldest_landed : ℕ → ℕ → History → History
@@ -113,15 +120,17 @@ abbrev pub steps_taken : ℕ → Vcpu → History → History
 steps_taken zero g h = h
 steps_taken (suc count) g h = steps_taken count g (step_taken g h)
 
--- How many steps a move has, of files of so many words.
+-- How many steps a move has, of files of so many words, those that aim aside.
 abbrev pub steps_of : ℕ → Move → ℕ
 steps_of words (Arrives g hart) = arrive_steps words
 steps_of words (Leaves g) = leave_steps words
 steps_of words (Shifts g hart) = shift_steps words
 
--- A whole move: it begins, and all its steps are done.
+-- A whole move: it begins, and all its steps are done, those that aim too.
 abbrev pub whole_move : History → Move → History
-whole_move h move = steps_taken (steps_of (file_words h) move) (mover move) (Began move ∷ h)
+whole_move h move =
+    steps_taken (steps_of (file_words h) move + passes_for h (mover move)) (mover move)
+    (Began move ∷ h)
 
 -- An accepted line itself: what it is of moves, or a landing; else an event `Accepted`.
 abbrev pub deed_taken : History → Line → MoveDeed → History

@@ -3,15 +3,18 @@ use Rattle.std.specs.Prelude.{ℕ, ◌%◌, Bool, false, nat_eq, if◌then◌els
 use Rattle.aia_regs.specs.AddressMap.{machine_page, supervisor_page, is_in_page}
 use Rattle.aia_file.specs.InterruptFile.{InterruptFile}
 use Rattle.aia_home.specs.Vms.{Vcpu, notice_identity, notice_hart}
+use Rattle.std.specs.Option.{option_map}
+use Rattle.aia_home.specs.Aims.{host_identity}
+use Rattle.aia_model.specs.Passes.{nth_pass}
 use Rattle.aia_imsic.specs.declared.spot.Spot.{Spot}
 use Rattle.aia_imsic.specs.Map.{spot_at}
 use Rattle.aia_model.specs.declared.line.Line.TheVariants.{Machine, Store, MachineCsr, HostCsr}
 use Rattle.aia_model.specs.Event.{Event, History, harts_of, guests_of}
-use Rattle.aia_model.specs.Event.Event.{Accepted, Delivered}
+use Rattle.aia_model.specs.Event.Event.{Accepted, Delivered, Relayed}
 use Rattle.aia_model.specs.Vms.{vms_of}
 use Rattle.aia_model.specs.Notice.{noticed}
 use Rattle.aia_model.specs.FileAfter.{FileDeed, select_by, file_by}
-use Rattle.aia_model.specs.FileAfter.FileDeed.{Makes, Accesses, Stores, Rests}
+use Rattle.aia_model.specs.FileAfter.FileDeed.{Makes, Accesses, Stores, Relays, Rests}
 use Rattle.aia_regs.specs.declared.address_map.TheConstants.{PAGE}
 
 -- ---- which files there are
@@ -52,6 +55,15 @@ notice_deed past f (Some g) =
     if is_file f (SupervisorFile (notice_hart (vms_of past) g))
     then Stores 0 (notice_identity (vms_of past) g) else Rests
 
+-- The host gives the MSI of a pass on: at its notice hart it takes the identity of the pass, and
+-- there the notice goes, if the virtual hart is to be told of.
+-- Profile.
+abbrev pub relay_deed : History → FileName → ℕ → FileDeed
+relay_deed past f p =
+    if is_file f (SupervisorFile (notice_hart (vms_of past) (nth_pass past p).to))
+    then Relays (host_identity p)
+    (option_map (notice_identity (vms_of past)) (noticed past (Relayed p))) else Rests
+
 -- The deed of an event at a file, after what was before; an access is its own hart's alone. It is
 -- said of files that aren't there too, which no line can name.
 abbrev pub deed_at : FileName → History → Event → FileDeed
@@ -62,6 +74,7 @@ deed_at f past (Accepted (MachineCsr hart csr op)) =
 deed_at f past (Accepted (HostCsr hart csr op)) =
     if is_file f (SupervisorFile hart) then Accesses csr op else Rests
 deed_at f past (Delivered msi) = store_deed f msi.address msi.value
+deed_at f past (Relayed p) = relay_deed past f p
 deed_at f past event = notice_deed past f (noticed past event)
 
 -- ---- the file after a history

@@ -13,6 +13,10 @@ pub enum Refusal {
     Parked,
     /// `nofile`: no guest file of the hart is free.
     NoFile,
+    /// `passed`: the source is passed to a virtual hart already.
+    Passed,
+    /// `unready`: the source is not one that MSIs to guests may be made of.
+    Unready,
     /// `idle`: the virtual hart is not being moved.
     Idle,
     /// `away`: the virtual hart is not resident: it is parked, or is being moved.

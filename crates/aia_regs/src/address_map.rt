@@ -23,6 +23,16 @@ pub const SUPERVISOR_FILES: u64 = 0x2800_0000;
 /// the hart's guest files, which lie in between.
 pub const HART_STRIDE: u64 = PAGE * (1 + GUEST_FILES as u64);
 
+/// The bits of a hart's number in the addresses of MSIs to supervisor level: [`HARTS`] is 2 to the
+/// power of it.
+///
+/// [`HARTS`]: crate::limits::HARTS
+pub const HART_BITS: u32 = 2;
+
+/// How far that number is shifted there, in numbers of pages: [`HART_STRIDE`] is [`PAGE`] times 2
+/// to the power of it.
+pub const HART_SHIFT: u32 = 5;
+
 /// The bytes of one interrupt file's page.
 pub const PAGE: u64 = 0x1000;
 
