@@ -57,7 +57,7 @@ by_rest Notice w u spot identity p = noticed_rest w u spot identity p
 by_rest Quiet w u spot identity p = none_rest w u p
 by_rest Discarded w u spot identity p = none_rest w u p
 
-slot_rest : (w u : World) (slot : Option ℕ) (spot : Spot) (identity offset value : ℕ) → StoresInSlot w u slot spot identity offset value → OnlyStores w u
+pub slot_rest : (w u : World) (slot : Option ℕ) (spot : Spot) (identity offset value : ℕ) → StoresInSlot w u slot spot identity offset value → OnlyStores w u
 slot_rest w u None spot identity offset value s = none_rest w u s
 slot_rest w u (Some q) spot identity offset value s = by_rest (stored (mrif_in w.memory q) (requested IDENTITIES offset value)) (with_store w q offset value) u spot identity s
 

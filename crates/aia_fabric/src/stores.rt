@@ -1,9 +1,9 @@
-ghost use Rattle.std.specs.Prelude.{◌≡◌, ◌≢◌, ◌%◌, ◌<◌, true, length, Some};
+ghost use Rattle.std.specs.Prelude.{◌≡◌, ◌≢◌, ◌%◌, ◌<◌, true, length, Some, None};
 ghost use Rattle.aia_regs.specs.declared.address_map.TheConstants.{PAGE};
 ghost use Rattle.aia_regs.specs.declared.limits.TheConstants.{VCPUS};
 ghost use Rattle.aia_imsic.specs.Imsic.{IsThere};
 ghost use Rattle.aia_entry.specs.Tables.{table_of, route_of};
-ghost use Rattle.aia_home.specs.Vms.{vcpu, is_vcpu_in};
+ghost use Rattle.aia_home.specs.Vms.{Vcpu, vcpu, vcpus_in, is_vcpu_in, slot_of};
 ghost use Rattle.aia_fabric.specs.World.{OnlyStores, stage_of};
 ghost use Rattle.aia_fabric.specs.Stores.{Relays, Reaches, ReachesBy, StoresAt, StoresInSlot, NoticedAt, page_spot};
 
@@ -57,6 +57,25 @@ impl Fabric {
             }
             None => self.store_in(slot, Spot::HostFile(hart), slot + 1, 0, value),
         }
+    }
+
+    /// Takes a 32-bit store of `value` for the virtual hart that has number `q`, below `VCPUS`,
+    /// over all VMs, at offset 0 of its slot of memory, whatever the routes in force are: a notice
+    /// is sent to its VM's notice hart where one is due. All but files, memory and the count of
+    /// notices stays.
+    ///
+    /// AIA 1.0, IOMMU Support for MSIs to Virtual Machines, "Memory-resident interrupt files".
+    /// Profile: passes.
+    #[tactic(auto, using(crate::proofs::FrameLemmas::slot_rest))]
+    pub fn slot_store(&mut self, q: u32, value: u32)
+        requires { q < vcpus_in self.old.vms }
+        ensures stores { (g : Vcpu) → is_vcpu_in self.old.vms g ≡ true → slot_of self.old.vms g ≡ q
+            → Relays None self.old self.new g value }
+        ensures rest { OnlyStores self.old self.new }
+    {
+        let _whole = self.words();
+        let hart = self.vms.notice_hart(q);
+        self.store_in(q, Spot::HostFile(hart), q + 1, 0, value);
     }
 
     /// Takes a store that an entry leads to its place.

@@ -12,3 +12,4 @@ pub mod FileLemmas
 pub mod StoreLemmas
 pub mod WatchLemmas
 pub mod PhaseLemmas
+pub mod AimKept
