@@ -120,8 +120,13 @@ pub record IsHosts (h : History) (event : Event) : Type 0 where
 pub hosts_line : (h : History) (line : Line) → is_quiet_line line ≡ true → noticed h (Accepted line) ≡ None → ((g : Vcpu) → guest_deed g h (Accepted line) ≡ Rests) → ((g : Vcpu) → MajorsRest g (Accepted line)) → IsHosts h (Accepted line)
 hosts_line h line plain none guests majors = record { quiet = quiet_line h line plain; none = none; guests = guests; majors = majors }
 
-pub hosts_msi : (h : History) (msi : Msi) → IsHosts h (Delivered msi)
-hosts_msi h msi = record { quiet = quiet_msi h msi; none = refl; guests = λ g. refl; majors = λ g m. refl }
+-- an MSI that is of no passed source
+pub hosts_msi : (h : History) (msi : Msi) → passed_by h msi.source ≡ None → IsHosts h (Delivered msi)
+hosts_msi h msi unpassed = record { quiet = quiet_msi h msi; none = refl; guests = λ g. ap (λ o. cond (goes_to_guest h msi) (passed_deed g h o) Rests) unpassed ∙ either (goes_to_guest h msi); majors = λ g m. refl }
+  where
+    either : (b : Bool) → ◌≡◌ {A = FileDeed} (cond b Rests Rests) Rests
+    either true = refl
+    either false = refl
 
 -- nothing was done at a file
 pub as_it_was : (file : InterruptFile) → SameFile file file

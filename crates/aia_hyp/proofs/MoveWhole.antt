@@ -19,6 +19,7 @@ use Rattle.aia_model.specs.Event.Event.{Began}
 use Rattle.aia_model.specs.Move.{Move}
 use Rattle.aia_model.specs.Move.Move.{Arrives, Leaves, Shifts}
 use Rattle.aia_model.specs.Vms.{has_vcpu}
+use Rattle.aia_model.specs.Passes.{passes_for}
 use Rattle.aia_model.specs.HomeOf.{home, place, free_file}
 use Rattle.aia_model.specs.Refusal.{refusal}
 use Rattle.aia_model.proofs.FlightLemmas.{words_first, home_stepped}
@@ -212,7 +213,7 @@ next_step old now later who want so_far goes is =
 
 -- ---- the end
 
-whole_line : (h : History) (vm number : ℕ) (want : Want) → line_taken h (move_line vm number want) ≡ steps_taken (steps_of (file_words h) (wanted_move (vcpu vm number) want)) (vcpu vm number) (Began (wanted_move (vcpu vm number) want) ∷ h)
+whole_line : (h : History) (vm number : ℕ) (want : Want) → line_taken h (move_line vm number want) ≡ steps_taken (steps_of (file_words h) (wanted_move (vcpu vm number) want) + passes_for h (vcpu vm number)) (vcpu vm number) (Began (wanted_move (vcpu vm number) want) ∷ h)
 whole_line h vm number wants.Leave = refl
 whole_line h vm number (wants.Arrive hart) = refl
 whole_line h vm number (wants.Shift hart) = refl
