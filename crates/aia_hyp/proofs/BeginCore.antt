@@ -70,6 +70,7 @@ pub record Put (x y : CoreState) (who : Who) (new : Stay) : Type 0 where
   pub is_who : IsWho x.world who
   pub world : y.world ≡ x.world
   pub selects : y.selects ≡ x.selects
+  pub passes : y.passes ≡ x.passes
   pub vcpus : y.vcpus ≡ set x.vcpus (slot_of x.world.vms (vcpu who.vm who.vcpu)) (at_stay (record_of x (vcpu who.vm who.vcpu)) new)
 
 module _ (x y : CoreState) (who : Who) (given : Answer) (h : History) (stands : CoreStands x h) where
@@ -96,6 +97,7 @@ module _ (x y : CoreState) (who : Who) (given : Answer) (h : History) (stands : 
     there = is_there (stays.Moving plan) p;
     world = p.world;
     selects = p.selects;
+    passes = p.passes;
     vcpus = p.vcpus;
     stay = refl;
     select = refl;

@@ -81,6 +81,7 @@ pub record Swapped (x y : CoreState) (who : Who) (old new : Stay) : Type 0 where
   pub out : between ≡ set x.vcpus who.slot (at_stay (get_or x.vcpus who.slot no_record) other)
   pub back : y.vcpus ≡ set between who.slot (at_stay (get_or between who.slot no_record) new)
   pub selects : y.selects ≡ x.selects
+  pub passes : y.passes ≡ x.passes
 
 module _ (x y : CoreState) (who : Who) (old new : Stay) (s : Swapped x y who old new) where
   abbrev g : Vcpu
@@ -173,6 +174,7 @@ module _ (x y : CoreState) (who : Who) (plan : Plan) where
       was = sym (was_at x y who (stays.Moving plan) (stays.Moving later) c.swapped);
       step = c.goes.step;
       selects = c.swapped.selects;
+      passes = c.swapped.passes;
       vcpus = put_at x y who (stays.Moving plan) (stays.Moving later) c.swapped;
       select = refl;
       majors = refl;
@@ -194,6 +196,7 @@ module _ (x y : CoreState) (who : Who) (plan : Plan) where
       was = sym (was_at x y who (stays.Moving plan) (stay_after o) c.swapped);
       step = c.goes.ends.step;
       selects = c.swapped.selects;
+      passes = c.swapped.passes;
       vcpus = put_at x y who (stays.Moving plan) (stay_after o) c.swapped;
       select = refl;
       majors = refl;

@@ -75,6 +75,7 @@ pub record IsRefetch (x y : CoreState) (vm number : ℕ) : Type 0 where
   pub leases : y.leases ≡ x.leases
   pub vcpus : y.vcpus ≡ x.vcpus
   pub selects : y.selects ≡ x.selects
+  pub passes : y.passes ≡ x.passes
 
 module _ (x y : CoreState) (h : History) (vm number : ℕ) (c : IsRefetch x y vm number) (stands : CoreStands x h) where
   abbrev g : Vcpu

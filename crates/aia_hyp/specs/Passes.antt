@@ -1,7 +1,8 @@
 -- The passes of wired sources as the core keeps them and its plans have them, and what calls make of
 -- the targets of sources. Profile: passes.
-use Rattle.std.specs.Prelude.{◌≡◌, ℕ, zero, suc, Bool, true, if◌then◌else◌, List, [], ◌∷◌, Option, Some, None}
+use Rattle.std.specs.Prelude.{◌≡◌, ℕ, zero, suc, true, nat_eq, length, slice_index_or, if◌then◌else◌, List, [], ◌∷◌, Option, Some, None}
 use Rattle.std.specs.Int.{is_in_range}
+use Rattle.aia_word.specs.Sets.{least_of}
 use Rattle.std.specs.List.{AllByRecursion}
 use Rattle.aia_home.specs.Vms.{Vcpu, vcpu, is_vcpu}
 use Rattle.aia_move.specs.declared.who.Pass as plans
@@ -18,7 +19,7 @@ use Rattle.aia_model.specs.Vms.{has_vcpu}
 use Rattle.aia_model.specs.Act.{Act}
 use Rattle.aia_model.specs.Act.Act.{Aimed}
 use Rattle.aia_model.specs.Sent.{acts_of}
-use Rattle.aia_model.specs.Passes.{Pass, passes_of}
+use Rattle.aia_model.specs.Passes.{Pass, no_pass, passes_of}
 use Rattle.aia_model.specs.Passable.{is_passable}
 use Rattle.aia_model.specs.Aim.{aimed_by, AllAreAimed}
 use Rattle.aia_model.specs.Answer.{step_taken, steps_taken}
@@ -32,6 +33,12 @@ use Rattle.aia_hyp.specs.Core.{CoreState}
 -- A pass as the core keeps it.
 abbrev pub pass_shown : Passed → Pass
 pass_shown p = record { source = p.source; to = vcpu p.vm p.vcpu; identity = p.identity }
+
+-- The number of the pass of a source, if there is one, among some passes.
+abbrev pub pass_in : List Pass → Option ℕ → Option ℕ
+pass_in passes None = None
+pass_in passes (Some s) =
+    least_of (λ p. nat_eq (slice_index_or passes p no_pass).source s) 0 (length passes)
 
 -- Those of some passes that are to a virtual hart, as its plan has them, if the first of all has
 -- this number.
@@ -63,9 +70,10 @@ pub record PassesKept (x : CoreState) (h : History) : Type 0 where
 
 -- ---- the targets of sources
 
--- The targets tell the ready sources of a history.
-abbrev pub TellsReady : TargetMap → History → Type 0
-TellsReady targets h = (s : ℕ) → targets.ready s ≡ is_passable (acts_of h) s
+-- A source is there after a history, and the targets tell whether MSIs to guests may be made of it.
+pub record TellsOf (targets : TargetMap) (h : History) (source : ℕ) : Type 0 where
+  pub there : is_in_range 1 (sources_of h) source ≡ true
+  pub ready : targets.ready source ≡ is_passable (acts_of h) source
 
 -- What is made of targets where an act aims a source, or none does. `aim`: what an aim of a source
 -- at a target makes of them.

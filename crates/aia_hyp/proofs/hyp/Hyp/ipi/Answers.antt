@@ -36,7 +36,7 @@ overflow_cast-to c =
     let low = (vcpu_entry c.self.inside.fabric c.args.vm c.args.to c.has_vcpu-2.ensures.whole (sym c.has_vcpu-2.ensures.value ∙ c.if-not-has_vcpu-2.false)).2 in
     omega (arith, low)
 
-taken : (c : After-guest_store) → CoreTakes (record { world = c.self.inside.fabric; leases = c.self.inside.pool; vcpus = c.self.inside.vcpus.items; selects = c.self.inside.selects }) (record { world = c.guest_store.new.self; leases = c.self.inside.pool; vcpus = c.self.inside.vcpus.items; selects = c.self.inside.selects }) (Ipi c.args.vm c.args.number c.args.to c.args.value) Okay
+taken : (c : After-guest_store) → CoreTakes (record { world = c.self.inside.fabric; leases = c.self.inside.pool; vcpus = c.self.inside.vcpus.items; selects = c.self.inside.selects; passes = c.self.inside.passes }) (record { world = c.guest_store.new.self; leases = c.self.inside.pool; vcpus = c.self.inside.vcpus.items; selects = c.self.inside.selects; passes = c.self.inside.passes }) (Ipi c.args.vm c.args.number c.args.to c.args.value) Okay
 taken c =
     let sender = sym c.has_vcpu.ensures.value ∙ c.if-not-has_vcpu.false in
     let there = sym c.has_vcpu-2.ensures.value ∙ c.if-not-has_vcpu-2.false in

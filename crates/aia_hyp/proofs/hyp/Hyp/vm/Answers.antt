@@ -11,7 +11,7 @@ use Rattle.aia_hyp.proofs.VmLines.{vm_made, vm_refused, vm_has_no_room, room_lef
 use Rattle.aia_hyp.proofs.hyp.Hyp.vm.Goals.{After-add_records}
 use Rattle.aia_hyp.proofs.hyp.Hyp.vm.Goals as goal
 
-taken : (c : After-add_records) → CoreTakes (record { world = c.self.inside.fabric; leases = c.self.inside.pool; vcpus = c.self.inside.vcpus.items; selects = c.self.inside.selects }) (record { world = c.vm.new.self; leases = c.self.inside.pool; vcpus = c.add_records.new.vcpus.items; selects = c.self.inside.selects }) (lines.Vm c.args.vcpus c.args.mask c.args.hart) Okay
+taken : (c : After-add_records) → CoreTakes (record { world = c.self.inside.fabric; leases = c.self.inside.pool; vcpus = c.self.inside.vcpus.items; selects = c.self.inside.selects; passes = c.self.inside.passes }) (record { world = c.vm.new.self; leases = c.self.inside.pool; vcpus = c.add_records.new.vcpus.items; selects = c.self.inside.selects; passes = c.self.inside.passes }) (lines.Vm c.args.vcpus c.args.mask c.args.hart) Okay
 taken c =
     let parts : (is_vm_size c.args.vcpus c.args.mask ≡ true) × (nat_lt c.args.hart c.args.self.now.world.imsic.harts ≡ true) = and_parts _ _ (sym c.is_in_range.ensures ∙ c.if-not-is_in_range.false) in
     let hart = subst (λ (x : CoreState). nat_lt c.args.hart x.world.imsic.harts ≡ true) (sym c.self.view_is) parts.1 in
