@@ -12,5 +12,5 @@ returns-clause-phase g c =
     let mid = middle (width w) c.args.self.home c.first_steps.ensures.moves in
     let first = c.first_steps.ensures.value (width w) in
     let phase = turned DrainPhase EnablePhase w c.carry_pending.new.fabric c.args.self c.carry_pending.new.self _ c.turn.result c.requires.phase.phase c.carry_pending.ensures c.turn.ensures
-        (omega (arith, words, first, mid.enable)) (omega (arith, words, first, mid.enable)) (omega (arith, words, c.words-words.ensures.some, mid.enable, mid.looks)) in
+    (omega (arith, words, first, mid.enable)) (omega (arith, words, first, mid.enable)) (omega (arith, words, c.words-words.ensures.some, mid.enable, mid.looks)) in
     drain_turned w c.carry_pending.new.fabric c.args.self c.carry_pending.new.self _ c.turn.result c.requires.phase.phase c.carry_pending.ensures c.turn.ensures phase
