@@ -1,6 +1,6 @@
 -- A move in any of its phases, and what a step makes of it.
 use Rattle.std.specs.Prelude.{◌≡◌, ℕ, Bool, true, false, Option, Some, None}
-use Rattle.aia_home.specs.Phases.Phase.{FirstPhase, ClosingPhase, DrainPhase, EnablePhase, LookPhase, LastPhase}
+use Rattle.aia_home.specs.Phases.Phase.{FirstPhase, ClosingPhase, EnablePhase, LookPhase, LastPhase}
 use Rattle.aia_move.specs.declared.plan.Plan.{Plan}
 use Rattle.aia_move.specs.declared.plan.Plan.TheVariants.{LeaveFirst, LeaveClosing, LeaveAim, LeaveDrain, LeaveEnable, LeaveLook, LeaveLast, ArriveFirst, ArriveClosing, ArriveAim, ArriveDrain, ArriveEnable, ArriveLast, ShiftFirst, ShiftClosing, ShiftAim, ShiftDrain, ShiftEnable, ShiftLast}
 use Rattle.aia_move.specs.declared.plan.Next.{Next}

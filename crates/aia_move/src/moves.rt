@@ -41,8 +41,7 @@ impl<K: Kind> Move<K, Closing> {
     /// puts it in force. Why here: both routes are closed before the first word is taken from the
     /// old place, which is the slot in an arrival and else a guest file, so that no store comes
     /// after its word. `Drain` exactly where no passed source is to be aimed.
-    pub fn step(mut self, fabric: &mut Fabric)
-        -> Turn<Self, Closed<Move<K, Aim>, Move<K, Drain>>>
+    pub fn step(mut self, fabric: &mut Fabric) -> Turn<Self, Closed<Move<K, Aim>, Move<K, Drain>>>
         requires fits { Fits fabric.old self }
         requires phase { IsIn ClosingPhase (width fabric.old) self }
         ensures goes { MatchTurn result (GoesOn fabric.old self fabric.new) (λ next. MatchClosed next
@@ -65,8 +64,11 @@ impl<K: Kind> Move<K, Aim> {
     /// there, or the notice hart, with the identity of the pass. It makes no access. Why here: the
     /// G-stage record leads to the new place, and no word is taken yet, so that no forward comes to
     /// the old place after its word.
-    pub fn step<T: Targets>(mut self, fabric: &Fabric, targets: &mut T)
-        -> Turn<Self, Move<K, Drain>>
+    pub fn step<T: Targets>(
+        mut self,
+        fabric: &Fabric,
+        targets: &mut T,
+    ) -> Turn<Self, Move<K, Drain>>
         requires fits { Fits fabric.now self }
         requires phase { IsAtAims self }
         requires harts { fabric.now.imsic.harts ≡ (T.map targets.old).harts }
