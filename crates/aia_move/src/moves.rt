@@ -44,8 +44,9 @@ impl<K: Kind> Move<K, Closing> {
     pub fn step(mut self, fabric: &mut Fabric) -> Turn<Self, Closed<Move<K, Aim>, Move<K, Drain>>>
         requires fits { Fits fabric.old self }
         requires phase { IsIn ClosingPhase (width fabric.old) self }
-        ensures goes { MatchTurn result (GoesOn fabric.old self fabric.new) (λ next. MatchClosed next
-            (GoesOn fabric.old self fabric.new) (GoesOn fabric.old self fabric.new)) }
+        ensures goes { MatchTurn result (GoesOn fabric.old self fabric.new)
+            (λ next. MatchClosed next (GoesOn fabric.old self fabric.new)
+            (GoesOn fabric.old self fabric.new)) }
         ensures phase { MatchTurn result (IsIn ClosingPhase (width fabric.new))
             (λ next. MatchClosed next IsAtAims (IsInDrain (width fabric.new))) }
     {

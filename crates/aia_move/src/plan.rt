@@ -58,8 +58,8 @@ macro_rules! again {
     };
 }
 
-/// The plan after a step of the phase of the G-stage record: it stays there, goes on to the aims, or
-/// to the pending set.
+/// The plan after a step of the phase of the G-stage record: it stays there, goes on to the aims,
+/// or to the pending set.
 macro_rules! close {
     ($turn:expr, $stay:ident, $aim:ident, $drain:ident) => {
         match $turn {
