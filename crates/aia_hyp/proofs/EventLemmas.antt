@@ -183,7 +183,7 @@ one_done x y h event f stands done hosts rests =
     stands.held
 
 -- a deed was done at one file, which stands now in the place of the old one
-pub file_done : (x y : CoreState) (f : FileName) (deed : FileDeed) (spot : Spot) → spot ≡ host_spot f → IsThere x.world.imsic spot → y.world ≡ record x.world { imsic = with_file x.world.imsic spot (file_at y.world.imsic spot) } → y.leases ≡ x.leases → y.vcpus ≡ x.vcpus → y.selects ≡ x.selects
+pub file_done : (x y : CoreState) (f : FileName) (deed : FileDeed) (spot : Spot) → spot ≡ host_spot f → IsThere x.world.imsic spot → y.world ≡ record x.world { imsic = with_file x.world.imsic spot (file_at y.world.imsic spot) } → y.leases ≡ x.leases → y.vcpus ≡ x.vcpus → y.selects ≡ x.selects → y.passes ≡ x.passes
     → SameFile (shown (file_at y.world.imsic spot)) (file_after (select_in x f) deed (shown (file_at x.world.imsic spot))) → select_after deed (select_in x f) ≡ select_in x f → HasDone x y f deed
 file_done x y f deed spot named there world leases vcpus selects passes done select =
     let imsic : y.world.imsic ≡ with_file x.world.imsic spot (file_at y.world.imsic spot) = ap (λ (w : World). w.imsic) world in

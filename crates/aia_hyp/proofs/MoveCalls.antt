@@ -18,12 +18,14 @@ use Rattle.aia_places.specs.Holds.{Hand}
 use Rattle.aia_fabric.specs.World.{World}
 use Rattle.aia_fabric.specs.Whole.{IsWhole}
 use Rattle.aia_fabric.proofs.WholeLemmas.{vcpu_entry}
+use Rattle.aia_hyp.specs.declared.moves.Found.{Found}
 use Rattle.aia_move.specs.declared.who.Who.{Who}
+use Rattle.aia_hyp.specs.Passes.{own_passes}
 use Rattle.aia_move.specs.declared.plan.Plan.{Plan}
 use Rattle.aia_move.specs.declared.plan.Next.{Next}
 use Rattle.aia_move.specs.declared.plan.Next.TheVariants.{Again, Finished}
 use Rattle.aia_move.specs.declared.turn.Outcome.{Outcome}
-use Rattle.aia_move.specs.Move.{Moving, mover, width, Fits, MakesNext, Goes, IsWho}
+use Rattle.aia_move.specs.Move.{Moving, mover, width, Fits, MakesNext, Goes}
 use Rattle.aia_move.specs.Plan.{moving_of, IsInPhase, MatchNext}
 use Rattle.aia_move.specs.Turns.{EndsAs}
 use Rattle.aia_model.specs.declared.answer.Answer.{Answer}
@@ -42,7 +44,7 @@ use Rattle.aia_model.proofs.FlightLemmas.{lands_first, words_first, same_first, 
 use Rattle.aia_move.specs.Landings.{OnceLanded}
 use Rattle.aia_move.specs.Landings as moves
 use Rattle.aia_hyp.proofs.LandingLemmas.{once_landed, first_stands}
-use Rattle.aia_hyp.specs.Moves.{WantBegins, MoveBegins, stay_after, back_of, with_back, IsOutThere, stay_then, back_then, is_finished, steps_left, left_in, MoveGoes}
+use Rattle.aia_hyp.specs.Moves.{IsFound, WantBegins, MoveBegins, stay_after, back_of, with_back, IsOutThere, stay_then, back_then, is_finished, steps_left, left_in, MoveGoes}
 use Rattle.aia_hyp.specs.Stands.{PlanStands, CoreStands, StandsForSome}
 use Rattle.aia_hyp.proofs.LeaseLemmas.{in_pool}
 use Rattle.aia_hyp.proofs.MoveSteps as steps
@@ -54,7 +56,7 @@ use Rattle.aia_hyp.proofs.BeginCore.{at_stay, want_begins}
 -- ---- the records
 
 -- the record of a virtual hart that is there
-pub who_low : (x : CoreState) (who : Who) → StandsForSome x → IsWho x.world who → who.slot < length x.vcpus
+pub who_low : (x : CoreState) (who : Found) → StandsForSome x → IsFound x.world who → who.slot < length x.vcpus
 who_low x who some is =
     let stands = some.stands in
     let g = vcpu who.vm who.vcpu in
@@ -72,8 +74,8 @@ put_twice xs ys zs slot a b low first second =
 
 -- What a call did with the record of a virtual hart: it took it out, for another, and put it
 -- elsewhere.
-pub record Swapped (x y : CoreState) (who : Who) (old new : Stay) : Type 0 where
-  pub is_who : IsWho x.world who
+pub record Swapped (x y : CoreState) (who : Found) (old new : Stay) : Type 0 where
+  pub is_who : IsFound x.world who
   pub some : StandsForSome x
   pub between : List VcpuRecord
   pub other : Stay
@@ -83,7 +85,7 @@ pub record Swapped (x y : CoreState) (who : Who) (old new : Stay) : Type 0 where
   pub selects : y.selects ≡ x.selects
   pub passes : y.passes ≡ x.passes
 
-module _ (x y : CoreState) (who : Who) (old new : Stay) (s : Swapped x y who old new) where
+module _ (x y : CoreState) (who : Found) (old new : Stay) (s : Swapped x y who old new) where
   abbrev g : Vcpu
   g = vcpu who.vm who.vcpu
 
@@ -97,10 +99,16 @@ module _ (x y : CoreState) (who : Who) (old new : Stay) (s : Swapped x y who old
 
 -- ---- a move begins
 
-pub begin_call : (x y : CoreState) (want : Want) (who : Who) (old new : Stay) (given : Answer) → y.world ≡ x.world → Swapped x y who old new → WantBegins want who old new x.leases y.leases given → MoveBegins x y who.vm who.vcpu want given
-begin_call x y want who old new given world s b =
-    want_begins x y want who new given (record { is_who = s.is_who; world = world; selects = s.selects; vcpus = put_at x y who old new s })
-    (subst (λ (o : Stay). WantBegins want who o new x.leases y.leases given) (was_at x y who old new s) b)
+-- who is moved, with its passes
+abbrev whole_who : Found → Who → Who
+whole_who found who = record { vm = found.vm; vcpu = found.vcpu; slot = found.slot; notice = found.notice; passes = who.passes }
+
+pub begin_call : (x y : CoreState) (want : Want) (found : Found) (who : Who) (old new : Stay) (given : Answer) → who ≡ whole_who found who → who.passes.items ≡ own_passes 0 (vcpu found.vm found.vcpu) x.passes → y.world ≡ x.world → Swapped x y found old new
+    → WantBegins want who old new x.leases y.leases given → MoveBegins x y found.vm found.vcpu want given
+begin_call x y want found who old new given named its world s b =
+    want_begins x y want (whole_who found who) new given
+    (record { is_who = record { there = s.is_who.there; slot = s.is_who.slot; notice = s.is_who.notice }; its = its; world = world; selects = s.selects; passes = s.passes; vcpus = put_at x y found old new s })
+    (subst (λ (w : Who). WantBegins want w (record_of x (vcpu found.vm found.vcpu)).stay new x.leases y.leases given) named (subst (λ (o : Stay). WantBegins want who o new x.leases y.leases given) (was_at x y found old new s) b))
 
 -- ---- a step
 
@@ -122,7 +130,7 @@ left_fewer words (Shifting from to at) access next =
     omega (arith, low, long)
 
 -- the plan that is kept can make its next step
-pub plan_known : (x : CoreState) (who : Who) (plan : Plan) → StandsForSome x → IsWho x.world who → stays.Moving plan ≡ (get_or x.vcpus who.slot no_record).stay → Fits x.world (moving_of plan) × IsInPhase (width x.world) plan
+pub plan_known : (x : CoreState) (who : Found) (plan : Plan) → StandsForSome x → IsFound x.world who → stays.Moving plan ≡ (get_or x.vcpus who.slot no_record).stay → Fits x.world (moving_of plan) × IsInPhase (width x.world) plan
 plan_known x who plan some is was =
     let g = vcpu who.vm who.vcpu in
     let inside : has_vcpu some.past g ≡ true = subst (λ (vs : List Vm). is_vcpu_in vs g ≡ true) some.stands.vms is.there in
@@ -144,7 +152,7 @@ pub record AccessGoes (old new : CoreState) (g : Vcpu) (last : Bool) : Type 0 wh
   pub makes : (plan : Plan) → (record_of old g).stay ≡ stays.Moving plan → OneMade old.world (moving_of plan) new.world
 
 -- What a step's calls say, once what lands before it has landed.
-pub record Made (x y : CoreState) (who : Who) (plan : Plan) (next : Next) : Type 0 where
+pub record Made (x y : CoreState) (who : Found) (plan : Plan) (next : Next) : Type 0 where
   pub swapped : Swapped x y who (stays.Moving plan) (stay_then next)
   pub first : NoneAtFence swapped.some.past (Stepped (vcpu who.vm who.vcpu))
   pub whole : IsWhole x.world
@@ -154,14 +162,14 @@ pub record Made (x y : CoreState) (who : Who) (plan : Plan) (next : Next) : Type
   pub fits : MatchNext next (λ p. Fits y.world (moving_of p)) (λ o. Unit {0})
   pub phase : MatchNext next (λ p. IsInPhase (width y.world) p) (λ o. Unit {0})
 
-module _ (x y : CoreState) (who : Who) (plan : Plan) where
+module _ (x y : CoreState) (who : Found) (plan : Plan) where
   abbrev its : Vcpu
   its = vcpu who.vm who.vcpu
 
   abbrev its_record : Stay → VcpuRecord
   its_record stay = at_stay (record_of x (vcpu who.vm who.vcpu)) stay
 
-  its_there : (h : History) → CoreStands x h → IsWho x.world who → has_vcpu h (vcpu who.vm who.vcpu) ≡ true
+  its_there : (h : History) → CoreStands x h → IsFound x.world who → has_vcpu h (vcpu who.vm who.vcpu) ≡ true
   its_there h stands is = subst (λ (vs : List Vm). is_vcpu_in vs its ≡ true) stands.vms is.there
 
   goes_on : (later : Plan) (h : History) → NoneAtFence h (Stepped (vcpu who.vm who.vcpu)) → CoreStands x h → Made x y who plan (Again later) → GoesOf x y h (vcpu who.vm who.vcpu) plan later (its_record (stays.Moving later))
@@ -248,16 +256,16 @@ its_own x h g plan stands there was =
     (planned.2, sym (ap home_in was) ∙ stood.same_home)
 
 -- What stands before the calls of a step: whose plan it is, and what lands first.
-pub record IsFirst (x : CoreState) (landed : World) (who : Who) (plan : Plan) : Type 0 where
-  pub is_who : IsWho x.world who
+pub record IsFirst (x : CoreState) (landed : World) (who : Found) (plan : Plan) : Type 0 where
+  pub is_who : IsFound x.world who
   pub was : (record_of x (vcpu who.vm who.vcpu)).stay ≡ stays.Moving plan
   pub low : who.vm < length x.world.vms
   pub first : moves.LandsFirst x.world (moving_of plan) landed
 
-pub vm_low : (x : CoreState) (who : Who) → IsWhole x.world → IsWho x.world who → who.vm < length x.world.vms
+pub vm_low : (x : CoreState) (who : Found) → IsWhole x.world → IsFound x.world who → who.vm < length x.world.vms
 vm_low x who whole is = (vcpu_entry x.world who.vm who.vcpu whole is.there).0
 
-pub landed_stands : (x : CoreState) (landed : World) (who : Who) (plan : Plan) → IsFirst x landed who plan → (h : History) → CoreStands x h → CoreStands (once_landed x landed) (landed_first (vcpu who.vm who.vcpu) h)
+pub landed_stands : (x : CoreState) (landed : World) (who : Found) (plan : Plan) → IsFirst x landed who plan → (h : History) → CoreStands x h → CoreStands (once_landed x landed) (landed_first (vcpu who.vm who.vcpu) h)
 landed_stands x landed who plan c h stands =
     let g = vcpu who.vm who.vcpu in
     let there : has_vcpu h g ≡ true = subst (λ (vs : List Vm). is_vcpu_in vs g ≡ true) stands.vms c.is_who.there in
@@ -266,14 +274,14 @@ landed_stands x landed who plan c h stands =
     subst (λ (z : Vcpu). CoreStands (once_landed x landed) (landed_first z h)) own.0
     (first_stands x landed (moving_of plan) h low (own.1 ∙ ap (home h) (sym own.0)) c.first stands)
 
-abbrev pub landed_some : (x : CoreState) (landed : World) (who : Who) (plan : Plan) → IsFirst x landed who plan → StandsForSome x → StandsForSome (once_landed x landed)
+abbrev pub landed_some : (x : CoreState) (landed : World) (who : Found) (plan : Plan) → IsFirst x landed who plan → StandsForSome x → StandsForSome (once_landed x landed)
 landed_some x landed who plan c some = record {
   past = landed_first (vcpu who.vm who.vcpu) some.past;
   happens = first_happens (vcpu who.vm who.vcpu) some.past some.happens;
   stands = landed_stands x landed who plan c some.past some.stands;
 }
 
-pub landed_who : (x : CoreState) (landed : World) (who : Who) (plan : Plan) → IsFirst x landed who plan → IsWho landed who
+pub landed_who : (x : CoreState) (landed : World) (who : Found) (plan : Plan) → IsFirst x landed who plan → IsFound landed who
 landed_who x landed who plan c =
     let vms = c.first.same.vms in
     record {
@@ -282,7 +290,7 @@ landed_who x landed who plan c =
       notice = c.is_who.notice ∙ ap (λ vs. notice_hart vs (vcpu who.vm who.vcpu)) (sym vms);
     }
 
-pub landed_goes : (x : CoreState) (landed : World) (y : CoreState) (who : Who) (plan : Plan) (last : Bool) → IsFirst x landed who plan → AccessGoes (once_landed x landed) y (vcpu who.vm who.vcpu) last → MoveGoes x y (vcpu who.vm who.vcpu) last
+pub landed_goes : (x : CoreState) (landed : World) (y : CoreState) (who : Found) (plan : Plan) (last : Bool) → IsFirst x landed who plan → AccessGoes (once_landed x landed) y (vcpu who.vm who.vcpu) last → MoveGoes x y (vcpu who.vm who.vcpu) last
 landed_goes x landed y who plan last c a =
     let g = vcpu who.vm who.vcpu in
     let same : record_of (once_landed x landed) g ≡ record_of x g = ap (λ vs. get_or x.vcpus (slot_of vs g) no_record) c.first.same.vms in
@@ -304,7 +312,7 @@ landed_goes x landed y who plan last c a =
     }
 
 -- it stands for some history still
-pub goes_still : (x y : CoreState) (who : Who) (last : Bool) → MoveGoes x y (vcpu who.vm who.vcpu) last → StandsForSome x → IsWho x.world who
+pub goes_still : (x y : CoreState) (who : Found) (last : Bool) → MoveGoes x y (vcpu who.vm who.vcpu) last → StandsForSome x → IsFound x.world who
     → is_moving (home_in (record_of x (vcpu who.vm who.vcpu)).stay) ≡ true → StandsForSome y
 goes_still x y who last goes some is moving =
     let g = vcpu who.vm who.vcpu in
@@ -318,7 +326,7 @@ goes_still x y who last goes some is moving =
 -- ---- the file that comes back
 
 -- it is one that is there, and out
-pub back_known : (x : CoreState) (u : World) (who : Who) (plan : Plan) (next : Next) → StandsForSome x → IsWho x.world who → stays.Moving plan ≡ (get_or x.vcpus who.slot no_record).stay
+pub back_known : (x : CoreState) (u : World) (who : Found) (plan : Plan) (next : Next) → StandsForSome x → IsFound x.world who → stays.Moving plan ≡ (get_or x.vcpus who.slot no_record).stay
     → OnceLanded x.world (moving_of plan) (λ landed. MatchNext next (λ p. Goes landed (moving_of plan) u (moving_of p)) (λ o. EndsAs landed (moving_of plan) u o)) → IsOutThere x.leases (back_then next)
 back_known x u who plan (Again later) some is was c = tt
 back_known x u who plan (Finished o) some is was c = by_file (back_of o) refl
@@ -338,7 +346,7 @@ back_known x u who plan (Finished o) some is was c = by_file (back_of o) refl
 
 -- ---- who is moved
 
-pub who_still : (x y : CoreState) (who : Who) (last : Bool) → MoveGoes x y (vcpu who.vm who.vcpu) last → StandsForSome x → IsWho x.world who → IsWho y.world who
+pub who_still : (x y : CoreState) (who : Found) (last : Bool) → MoveGoes x y (vcpu who.vm who.vcpu) last → StandsForSome x → IsFound x.world who → IsFound y.world who
 who_still x y who last goes some is =
     let vms : x.world.vms ≡ y.world.vms = some.stands.vms ∙ sym ((goes.stands some.past some.stands).vms ∙ (same_first (vcpu who.vm who.vcpu) some.past).0) in
     record {

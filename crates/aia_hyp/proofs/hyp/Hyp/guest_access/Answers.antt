@@ -63,7 +63,7 @@ select_taken c =
     let named = names x g reaches.Select c.args.csr c.args.op table in
     guest_accessed x y c.args.vm c.args.number c.args.csr csrs.Select c.args.op c.args.place reaches.Select c.access_select_in.result a.whole a.there a.at table refl refl named
     (c.access_select_in.ensures.value ∙ ap (λ q. (get_or x.vcpus q no_record).select) slot)
-    (guest_select_done x y g c.args.place c.args.op refl refl refl low
+    (guest_select_done x y g c.args.place c.args.op refl refl refl refl low
     (subst (λ q. y.vcpus ≡ set x.vcpus q (record (get_or x.vcpus q no_record) { select = select_written c.args.op (get_or x.vcpus q no_record).select })) slot c.access_select_in.ensures.after)) tt
 
 file_taken : (c : After-reg) → CoreTakes (record { world = c.self.inside.fabric; leases = c.self.inside.pool; vcpus = c.self.inside.vcpus.items; selects = c.self.inside.selects; passes = c.self.inside.passes }) (record { world = c.reg.new.self; leases = c.self.inside.pool; vcpus = c.self.inside.vcpus.items; selects = c.self.inside.selects; passes = c.self.inside.passes }) (GuestCsr c.args.vm c.args.number c.args.csr c.args.op) (Wide c.reg.result)
@@ -78,7 +78,7 @@ file_taken c =
     let there = file_there x g c.args.place c.self.invariant.0 a.there a.at in
     guest_accessed x y c.args.vm c.args.number c.args.csr csrs.Reg c.args.op c.args.place (reaches.File c.in-File.reg) c.reg.result a.whole a.there a.at table refl refl named.0
     (subst (λ (s : Spot). c.reg.result ≡ register_value (shown (file_at x.world.imsic s)) c.in-File.reg) spot c.reg.ensures.value ∙ ap (register_value (shown (file_at x.world.imsic (spot_of c.args.place)))) (sym named.1))
-    (guest_file_done x y g c.args.place (Accesses csrs.Reg c.args.op) there (subst (λ (s : Spot). y.world ≡ record x.world { imsic = with_file x.world.imsic s (file_at y.world.imsic s) }) spot c.reg.ensures.others) refl refl refl
+    (guest_file_done x y g c.args.place (Accesses csrs.Reg c.args.op) there (subst (λ (s : Spot). y.world ≡ record x.world { imsic = with_file x.world.imsic s (file_at y.world.imsic s) }) spot c.reg.ensures.others) refl refl refl refl
     (subst (λ (r : FileReg). SameFile (shown (file_at y.world.imsic (spot_of c.args.place))) (accessed r c.args.op (shown (file_at x.world.imsic (spot_of c.args.place))))) (sym named.1)
     (subst (λ (s : Spot). SameFile (shown (file_at y.world.imsic s)) (accessed c.in-File.reg c.args.op (shown (file_at x.world.imsic s)))) spot c.reg.ensures.lands)) refl) tt
 
@@ -94,7 +94,7 @@ top_taken c =
     let there = file_there x g c.args.place c.self.invariant.0 a.there a.at in
     guest_accessed x y c.args.vm c.args.number c.args.csr csrs.Topei c.args.op c.args.place reaches.Top c.claim_or_read.result a.whole a.there a.at table refl refl named
     (subst (λ (s : Spot). c.claim_or_read.result ≡ top_value (top_of (shown (file_at x.world.imsic s)))) spot c.claim_or_read.ensures.value)
-    (guest_file_done x y g c.args.place (Accesses csrs.Topei c.args.op) there (subst (λ (s : Spot). y.world ≡ record x.world { imsic = with_file x.world.imsic s (file_at y.world.imsic s) }) spot c.claim_or_read.ensures.others) refl refl refl
+    (guest_file_done x y g c.args.place (Accesses csrs.Topei c.args.op) there (subst (λ (s : Spot). y.world ≡ record x.world { imsic = with_file x.world.imsic s (file_at y.world.imsic s) }) spot c.claim_or_read.ensures.others) refl refl refl refl
     (subst (λ (s : Spot). SameFile (shown (file_at y.world.imsic s)) (file_after 0 (Accesses csrs.Topei c.args.op) (shown (file_at x.world.imsic s)))) spot c.claim_or_read.ensures.done) refl) tt
 
 sip_taken : (c : After-access_sip_in) → CoreTakes (record { world = c.self.inside.fabric; leases = c.self.inside.pool; vcpus = c.self.inside.vcpus.items; selects = c.self.inside.selects; passes = c.self.inside.passes }) (record { world = c.self.inside.fabric; leases = c.self.inside.pool; vcpus = c.access_sip_in.new.vcpus.items; selects = c.self.inside.selects; passes = c.self.inside.passes }) (GuestCsr c.args.vm c.args.number c.args.csr c.args.op) (Wide c.access_sip_in.result)

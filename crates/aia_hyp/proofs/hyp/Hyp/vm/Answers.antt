@@ -17,7 +17,7 @@ taken c =
     let hart = subst (λ (x : CoreState). nat_lt c.args.hart x.world.imsic.harts ≡ true) (sym c.self.view_is) parts.1 in
     let whole = subst (λ (x : CoreState). IsWhole x.world) (sym c.self.view_is) c.lacks_room.ensures.whole in
     let room = subst (λ (x : CoreState). lacks_room x.world.vms c.args.vcpus ≡ false) (sym c.self.view_is) (sym c.lacks_room.ensures.room ∙ c.if-lacks_room.false) in
-    vm_made _ _ c.args.vcpus c.args.mask c.args.hart whole parts.0 (ltb-true _ _ hart) room c.vm.ensures refl c.add_records.ensures.after refl
+    vm_made _ _ c.args.vcpus c.args.mask c.args.hart whole parts.0 (ltb-true _ _ hart) room c.vm.ensures refl c.add_records.ensures.after refl refl
 
 pub returns-then-not-is_in_range : goal.returns-then-not-is_in_range
 returns-then-not-is_in_range c = vm_refused c.args.self.now c.args.vcpus c.args.mask c.args.hart (sym c.is_in_range.ensures ∙ c.if-not-is_in_range.true)
