@@ -1,7 +1,7 @@
 mod WhoLemmas
 mod PhaseSteps
 mod StepLemmas
-mod AimLemmas
+pub mod AimLemmas
 pub mod MadeView
 pub mod TouchLemmas
 pub mod MoveKept
