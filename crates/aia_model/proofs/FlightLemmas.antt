@@ -149,6 +149,7 @@ sent_on past (Accepted line) one all vm = ones_on (Accepted line) past vm (all v
 sent_on past (Began move) one all vm = ones_on (Began move) past vm (all vm)
 sent_on past (Stepped x) one all vm = ones_on (Stepped x) past vm (all vm)
 sent_on past (Delivered msi) one all vm = ones_on (Delivered msi) past vm (all vm)
+sent_on past (Relayed p) one all vm = ones_on (Relayed p) past vm (all vm)
 
 pub none_for_one : AllAreForOne []
 unfolding flight
