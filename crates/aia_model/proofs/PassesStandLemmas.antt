@@ -13,6 +13,9 @@ use Rattle.aia_word.proofs.LeastLemmas.{least_of-found, least_of_is, least_of_is
 use Rattle.aia_home.specs.declared.place.Place.{Place}
 use Rattle.aia_home.specs.Vms.{Vcpu, vcpu, is_vcpu, notice_hart}
 use Rattle.aia_home.specs.Home.{Home, is_moving}
+use Rattle.aia_home.specs.Home.Home.{Parked, Resident, Leaving, Arriving, Shifting}
+use Rattle.aia_home.specs.BySteps.{new_file, is_drained}
+use Rattle.aia_home.proofs.PassLemmas.{pass_drained}
 use Rattle.aia_home.specs.Aims.{is_aiming, aims_done, aimed, further, pass_reaches, AreAimed, target_to}
 use Rattle.aia_model.specs.declared.line.Line.{Line}
 use Rattle.aia_model.specs.declared.line.Line.TheVariants.{Machine, Wire, Load, Store}
@@ -380,3 +383,16 @@ passes_stand (event ∷ h) good = let all = passes_stand h good.1 in record {
   aimed = aimed_on h event (passes_rest h event good.0) all.aimed;
   few = few_on event h good.0 all.few;
 }
+
+-- once a word is taken each leads to the new place
+drained_moves : (words w : ℕ) (there : Home) → is_drained words there w ≡ true → is_moving there ≡ true
+drained_moves words w Parked e = let no : false ≡ true = grind (arith, nat_tests) in absurd (false≢true no)
+drained_moves words w (Resident p) e = let no : false ≡ true = grind (arith, nat_tests) in absurd (false≢true no)
+drained_moves words w (Leaving from at) e = refl
+drained_moves words w (Arriving to at) e = refl
+drained_moves words w (Shifting from to at) e = refl
+
+pub pass_after_take : (h : History) (p w : ℕ) → IsHistory h → p < length (passes_of h) → is_drained (file_words h) (home h (nth_pass h p).to) w ≡ true → pass_reach h p ≡ new_file (home h (nth_pass h p).to)
+pass_after_take h p w good low drained =
+    let g = (nth_pass h p).to in
+    pass_drained (passes_for h g) (file_words h) w (rank_of h p) (home h g) (rank_below h p (lt-ltb p (length (passes_of h)) low)) (all_aimed_in h good g) (drained_moves (file_words h) w (home h g) drained) drained
