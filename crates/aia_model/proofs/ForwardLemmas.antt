@@ -1,24 +1,21 @@
 -- The MSI of a passed source goes to the page of the place that its target is for, with the identity
 -- of that target.
-use Rattle.std.proofs.Common.{◌≡◌, ℕ, ◌+◌, ◌*◌, ◌/◌, ◌%◌, ◌^◌, ◌<◌, ◌≤◌, Bool, true, false, ◌&&◌, nat_eq, List, [], ◌∷◌, map, cond, Option, Some, None, refl, sym, ap, subst, ◌∙◌, arith}
+use Rattle.std.proofs.Common.{◌≡◌, ℕ, ◌+◌, ◌*◌, ◌/◌, ◌%◌, ◌^◌, ◌<◌, ◌≤◌, true, nat_eq, Option, Some, None, refl, sym, ap, ◌∙◌, arith}
 use Rattle.std.specs.Prelude.{bit_or}
 use Rattle.std.specs.Int.Bits.{or_zero_r}
-use Rattle.std.specs.List.{AllByRecursion, filter}
 use Rattle.std.proofs.lemmas.Nat.{or_shifted}
 use Rattle.std.proofs.Math.Nat.{zero-mul}
-use Rattle.std.proofs.lemmas.Bool.{cases_Bool, and_parts, eqb-true, false≢true}
-use Rattle.std.proofs.lemmas.Bool.Decides.{nat_tests}
-use Rattle.std.specs.Int.{is_in_range}
+use Rattle.std.proofs.lemmas.Bool.{and_parts, eqb-true}
 use Rattle.aia_regs.specs.Fields.{field}
 use Rattle.aia_regs.specs.AddressMap.{supervisor_page, guest_page}
-use Rattle.aia_regs.specs.declared.limits.TheConstants.{HARTS, GUEST_FILES, IDENTITIES, PASSES, FIRST_PASS_IDENTITY}
-use Rattle.aia_regs.specs.declared.address_map.TheConstants.{PATTERN, PAGE, HART_BITS, HART_SHIFT}
+use Rattle.aia_regs.specs.declared.limits.TheConstants.{HARTS, GUEST_FILES, IDENTITIES, PASSES}
+use Rattle.aia_regs.specs.declared.address_map.TheConstants.{PATTERN, HART_BITS, HART_SHIFT}
 use Rattle.aia_source.specs.Top.{hart_of, guest_of, identity_of}
 use Rattle.aia_msiaddr.specs.Registers.{AddressRegisters}
-use Rattle.aia_msiaddr.specs.Addresses.{base_page, group_of, member_of, hart_page, page_address, supervisor_address}
+use Rattle.aia_msiaddr.specs.Addresses.{base_page, group_of, member_of, hart_page, page_address}
 use Rattle.aia_home.specs.declared.place.Place.{Place}
 use Rattle.aia_home.specs.Aims.{host_identity, target_of, target_to}
-use Rattle.aia_model.specs.declared.domain_name.DomainName.TheVariants.{Root, Child}
+use Rattle.aia_model.specs.declared.domain_name.DomainName.TheVariants.{Child}
 use Rattle.aia_model.specs.AddressOf.{address_by, are_for_guests}
 use Rattle.aia_model.specs.Aim.{page_to, value_to}
 use Rattle.aia_model.proofs.PlaceLemmas.{IsOfMap}

@@ -1,8 +1,8 @@
 -- The passes stand after every history: act by act what a pass is known by, and where it is aimed.
-use Rattle.std.proofs.Common.{◌≡◌, ◌≢◌, ℕ, zero, suc, ◌+◌, ◌<◌, ◌≤◌, Bool, true, false, cond, nat_eq, nat_lt, is_some, if◌then◌else◌, List, [], ◌∷◌, ◌++◌, length, take, slice_index_or, Option, Some, None, inl, inr, refl, sym, ap, subst, ◌∙◌, arith}
+use Rattle.std.proofs.Common.{◌≡◌, ◌≢◌, ℕ, ◌+◌, ◌<◌, ◌≤◌, Bool, true, false, nat_eq, nat_lt, is_some, if◌then◌else◌, List, [], ◌∷◌, ◌++◌, length, take, slice_index_or, Option, Some, None, inl, inr, refl, sym, ap, subst, ◌∙◌, arith}
 use Rattle.std.specs.Int.{is_in_range}
 use Rattle.std.specs.Option.{option_map, option_map_or}
-use Rattle.std.proofs.lemmas.Bool.{cases_Bool, cases_lt, cond-true, cond-false, eq-eqb, eqb-true, lt-ltb, ltb-true, not-false, false≢true, and_parts}
+use Rattle.std.proofs.lemmas.Bool.{cases_Bool, cases_lt, cond-true, cond-false, eq-eqb, eqb-true, lt-ltb, ltb-true, false≢true, and_parts}
 use Rattle.std.proofs.lemmas.Bool.Decides.{nat_tests}
 use Rattle.std.proofs.lemmas.List.{get_or_append_left}
 use Rattle.std.proofs.Math.Seq.{get_or-append_seam, take-append_seam}
@@ -10,13 +10,12 @@ use Rattle.std.proofs.lemmas.List.{take-append-le}
 use Rattle.aia_regs.specs.declared.limits.TheConstants.{PASSES}
 use Rattle.aia_word.specs.Sets.{least_of}
 use Rattle.aia_word.proofs.LeastLemmas.{least_of-found, least_of_is, least_of_is_none}
-use Rattle.aia_home.specs.declared.place.Place.{Place}
 use Rattle.aia_home.specs.Vms.{Vcpu, vcpu, is_vcpu, notice_hart}
 use Rattle.aia_home.specs.Home.{Home, is_moving}
 use Rattle.aia_home.specs.Home.Home.{Parked, Resident, Leaving, Arriving, Shifting}
 use Rattle.aia_home.specs.BySteps.{new_file, is_drained}
 use Rattle.aia_home.proofs.PassLemmas.{pass_drained}
-use Rattle.aia_home.specs.Aims.{is_aiming, aims_done, aimed, further, pass_reaches, AreAimed, target_to}
+use Rattle.aia_home.specs.Aims.{is_aiming, aims_done, aimed, further, pass_reaches, target_to}
 use Rattle.aia_model.specs.declared.line.Line.{Line}
 use Rattle.aia_model.specs.declared.line.Line.TheVariants.{Machine, Wire, Load, Store}
 use Rattle.aia_model.specs.declared.line.Line.TheVariants as lines
@@ -38,11 +37,11 @@ use Rattle.aia_model.specs.Refusal.{refusal}
 use Rattle.aia_model.specs.Histories.{MayHappen, IsHistory}
 use Rattle.aia_model.specs.PassesStand.{PassStands, AllPassesStand}
 use Rattle.aia_model.proofs.RefusalLemmas.{machine_allowed, pass_allowed, store_allowed, PassAllowed}
-use Rattle.aia_model.proofs.MoveLemmas.{same_vcpu, is_itself, home_step}
+use Rattle.aia_model.proofs.MoveLemmas.{same_vcpu, is_itself}
 use Rattle.aia_model.proofs.FlightLemmas.{stays_there}
 use Rattle.aia_model.proofs.PassLemmas.{none_passed, aimed_on, rank_below}
 use Rattle.aia_model.proofs.PassReachLemmas.{leaving_passes, arrives_passes, shifts_passes, further_passes, aimed_other}
-use Rattle.aia_model.proofs.OwnPassLemmas.{IsOwn, own_is, rank_is}
+use Rattle.aia_model.proofs.OwnPassLemmas.{own_is, rank_is}
 use Rattle.aia_model.proofs.TargetLemmas.{passed_stays, aim_gives, sent_stays, store_leaves, another}
 
 -- ---- nothing is passed to a virtual hart that is moved, so all are aimed in their turn
@@ -296,7 +295,7 @@ own_aimed h p aims turn low s =
     let rank = eqb-true (rank_of h p) (aims_done (home h g)) turn in
     let mine : own_pass h g (aims_done (home h g)) ≡ p = ap (own_pass h g) (sym rank) ∙ rank_is h p low in
     let there : pass_reaches (aims_done (home h g)) (aimed (home h g)) ≡ pass_reach (Stepped g ∷ h) p =
-        ap (λ r. pass_reaches r (aimed (home h g))) (sym rank) ∙ sym (own_reach h p ∙ ap (pass_reaches (rank_of h p)) (cond-true _ _ _ aims)) in
+    ap (λ r. pass_reaches r (aimed (home h g))) (sym rank) ∙ sym (own_reach h p ∙ ap (pass_reaches (rank_of h p)) (cond-true _ _ _ aims)) in
     subst (λ q. IsAimedIn (Stepped g ∷ h) p (aim_of h g q ∷ acts_of h)) (sym mine) (given_aim h p there s.passable)
 
 -- the aim of another one leaves it, where it leads as before

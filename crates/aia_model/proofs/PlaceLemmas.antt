@@ -1,13 +1,12 @@
 -- The harts and the guest files of a history are those of its machine: where notices go, and where
 -- virtual harts are kept.
-use Rattle.std.proofs.Common.{◌≡◌, ℕ, zero, suc, ◌+◌, ◌<◌, ◌≤◌, Bool, true, false, ◌||◌, if◌then◌else◌, List, [], ◌∷◌, ◌++◌, Option, Some, None, inl, inr, refl, sym, ap, subst, ◌∙◌, arith}
+use Rattle.std.proofs.Common.{◌≡◌, ℕ, zero, suc, ◌<◌, ◌≤◌, Bool, true, false, if◌then◌else◌, List, [], ◌∷◌, Option, Some, None, inl, inr, refl, sym, subst, arith}
 use Rattle.std.specs.Int.{is_in_range}
 use Rattle.std.specs.List.{AllByRecursion}
 use Rattle.std.specs.Option.{option_map_or}
 use Rattle.std.proofs.lemmas.Bool.{cases_Bool, and_parts, or_cases, or_right, ltb-true, false≢true}
 use Rattle.std.proofs.lemmas.Bool.Decides.{nat_tests}
 use Rattle.aia_regs.specs.declared.limits.TheConstants.{HARTS, GUEST_FILES, IDENTITIES}
-use Rattle.aia_word.specs.Sets.{least_of}
 use Rattle.aia_word.proofs.LeastLemmas.{least_of_is}
 use Rattle.aia_file.specs.InterruptFile.{is_greatest_identity}
 use Rattle.aia_home.specs.declared.place.Place.{Place}
@@ -15,7 +14,7 @@ use Rattle.aia_home.specs.declared.vm.Vm.{Vm}
 use Rattle.aia_home.specs.Vms.{Vcpu, vm_in, notice_hart, is_vcpu}
 use Rattle.aia_home.specs.Home.{Home, is_place, holds, ended, one_more, leaving, arriving, shifting}
 use Rattle.aia_home.specs.Home.Home.{Parked, Resident, Leaving, Arriving, Shifting}
-use Rattle.aia_home.specs.Plans.{is_at_last, stepped}
+use Rattle.aia_home.specs.Plans.{is_at_last}
 use Rattle.aia_home.specs.Aims.{is_aiming, aimed, further}
 use Rattle.aia_home.proofs.HomeLemmas.{same_place}
 use Rattle.aia_model.specs.declared.line.Line.TheVariants.{Machine}

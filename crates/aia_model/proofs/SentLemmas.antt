@@ -2,13 +2,10 @@
 use Rattle.std.proofs.Common.{◌≡◌, ℕ, ◌<◌, ◌≤◌, Bool, true, false, cond, ◌&&◌, nat_eq, List, [], ◌∷◌, length, map, Option, Some, None, refl, sym, ap, subst, ◌∙◌, arith}
 use Rattle.std.specs.List.{AllByRecursion, filter}
 use Rattle.std.specs.Int.{is_in_range}
-use Rattle.std.proofs.lemmas.Bool.{cases_Bool, and_parts, eqb-true, false≢true}
+use Rattle.std.proofs.lemmas.Bool.{and_parts, eqb-true, false≢true}
 use Rattle.std.proofs.lemmas.Bool.Decides.{nat_tests}
-use Rattle.aia_regs.specs.declared.limits.TheConstants.{PASSES, IDENTITIES}
 use Rattle.aia_source.specs.Top.{hart_of, guest_of, identity_of}
 use Rattle.aia_word.proofs.LeastLemmas.{least_of_is}
-use Rattle.aia_home.specs.declared.place.Place.{Place}
-use Rattle.aia_home.specs.Aims.{target_to}
 use Rattle.aia_model.specs.declared.line.Line.{Line}
 use Rattle.aia_model.specs.declared.line.Line.TheVariants.{Arrive, Leave, Shift, BeginArrive, BeginLeave, BeginShift, Step, Land}
 use Rattle.aia_model.specs.declared.msi.Msi.{Msi}
@@ -20,12 +17,12 @@ use Rattle.aia_model.specs.Event.{History, greatest_identity_of}
 use Rattle.aia_model.specs.Event.Event.{Accepted, Delivered, Relayed}
 use Rattle.aia_model.specs.Act.{Past}
 use Rattle.aia_model.specs.AddressOf.{addresses_of, are_for_guests, address_by}
-use Rattle.aia_model.specs.SourceOf.{sources_in, is_active_in, delivers_by_msis, enabled, target}
+use Rattle.aia_model.specs.SourceOf.{sources_in, is_active_in, delivers_by_msis, enabled}
 use Rattle.aia_model.specs.Sent.{all_senders, has_msi, source_of_sender, msi_of, waiting_msis, msis_sent_by, acts_of}
 use Rattle.aia_model.specs.Passes.{passes_of, nth_pass, pass_of, passed_by}
 use Rattle.aia_model.specs.Passable.{is_passable}
 use Rattle.aia_model.specs.HomeOf.{home}
-use Rattle.aia_model.specs.Aim.{pass_reach, pass_notice_hart, page_to, value_to, IsForward, IsForwardIf}
+use Rattle.aia_model.specs.Aim.{pass_reach, pass_notice_hart, IsForward, IsForwardIf}
 use Rattle.aia_model.specs.Refusal.{refusal}
 use Rattle.aia_model.specs.Answer.{line_taken}
 use Rattle.aia_model.specs.Histories.{IsHistory}
@@ -60,7 +57,7 @@ forward_by h p past good all low a =
     let fits = at_most (greatest_identity_of h) (nth_pass h p).identity s.identity in
     let size = (sized h good).identities in
     let goes = goes_to (addresses_of past) (pass_notice_hart h p) p (nth_pass h p).identity (pass_reach h p) (and_parts _ (are_for_guests (addresses_of past)) a.passable).1 (notice_fits h (nth_pass h p).to good)
-        (omega (arith, low, few)) (omega (arith, fits, size)) (λ q e. all_of_map h (nth_pass h p).to good q (reach_is_held _ (home h (nth_pass h p).to) q e)) in
+    (omega (arith, low, few)) (omega (arith, fits, size)) (λ q e. all_of_map h (nth_pass h p).to good q (reach_is_held _ (home h (nth_pass h p).to) q e)) in
     record {
       page = ap (λ t. address_by (addresses_of past) Child (hart_of t) (guest_of t)) a.target ∙ goes.page;
       value = ap identity_of a.target ∙ goes.value;

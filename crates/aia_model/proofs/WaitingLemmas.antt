@@ -1,9 +1,9 @@
 -- Nothing waits to be sent between lines: what waits after a line is sent within it, and no aim makes
 -- anything ready.
-use Rattle.std.proofs.Common.{◌≡◌, ℕ, Bool, true, false, cond, ◌&&◌, nat_eq, List, [], ◌∷◌, inl, inr, refl, sym, ap, subst, ◌∙◌, Option, Some, None, if◌then◌else◌}
-use Rattle.std.specs.List.{Contains, filter}
+use Rattle.std.proofs.Common.{◌≡◌, ℕ, Bool, true, false, cond, ◌&&◌, nat_eq, List, [], ◌∷◌, inl, inr, refl, sym, ap, subst, ◌∙◌, Some, None, if◌then◌else◌}
+use Rattle.std.specs.List.{Contains}
 use Rattle.std.proofs.lemmas.Bool.{cases_Bool, and_parts, and_from, eq-eqb, false≢true}
-use Rattle.aia_regs.specs.Word.{Word, settle}
+use Rattle.aia_regs.specs.Word.{settle}
 use Rattle.aia_source.specs.declared.mode.Mode.{Mode}
 use Rattle.aia_source.specs.declared.mode.Mode.TheVariants.{Inactive, Detached, RisingEdge, FallingEdge, LevelHigh, LevelLow}
 use Rattle.aia_source.specs.Wired.{says}
@@ -17,7 +17,7 @@ use Rattle.aia_model.specs.declared.sender.Sender.{Sender}
 use Rattle.aia_model.specs.declared.sender.Sender.TheVariants.{ByGenMsi, BySource}
 use Rattle.aia_model.specs.Event.{History}
 use Rattle.aia_model.specs.Event.Event.{Accepted, Began, Stepped, Delivered, Landed, Relayed}
-use Rattle.aia_model.specs.Act.{Act, Past, is_domain, newest, act_of}
+use Rattle.aia_model.specs.Act.{Past, is_domain, newest, act_of}
 use Rattle.aia_model.specs.Act.Act.{Sent, Aimed}
 use Rattle.aia_model.specs.SourceOf.{sources_in, is_active_in, wire_of, mode, input, is_on, delivers_by_msis, enabled, pending, genmsi_waits}
 use Rattle.aia_model.specs.Sent.{forwards, all_senders, has_msi, senders, sent_by, with_all_sent, with_act, acts_of}

@@ -1,5 +1,5 @@
 -- What holds of the passes after a history, and of the MSIs that a line sends. Profile: passes.
-use Rattle.std.specs.Prelude.{◌≡◌, ℕ, ◌<◌, ◌≤◌, true, List, length, Option, Some}
+use Rattle.std.specs.Prelude.{◌≡◌, ℕ, ◌<◌, ◌≤◌, true, List, length, Some}
 use Rattle.std.specs.Int.{is_in_range}
 use Rattle.std.specs.List.{AllByRecursion}
 use Rattle.aia_regs.specs.declared.limits.TheConstants.{PASSES}
@@ -13,8 +13,8 @@ use Rattle.aia_model.specs.Sent.{acts_of}
 use Rattle.aia_model.specs.Passable.{is_passable}
 use Rattle.aia_model.specs.Aim.{pass_reach, target_for, IsForwardIf, AllAreAimed}
 
--- A pass stands: its virtual hart is there, its identity is one of the files', the history knows its
--- source by its number, MSIs to guests may be made of the source, and its target is that of the
+-- A pass stands: its virtual hart is there, its identity is one of the files', the history knows
+-- its source by its number, MSIs to guests may be made of the source, and its target is that of the
 -- place where the pass leads.
 pub record PassStands (h : History) (p : ℕ) : Type 0 where
   pub there : has_vcpu h (nth_pass h p).to ≡ true
