@@ -18,7 +18,6 @@ use Rattle.aia_home.specs.Aims.{host_identity, target_of, target_to}
 use Rattle.aia_model.specs.declared.domain_name.DomainName.TheVariants.{Child}
 use Rattle.aia_model.specs.AddressOf.{address_by, are_for_guests}
 use Rattle.aia_model.specs.Aim.{page_to, value_to}
-use Rattle.aia_model.proofs.PlaceLemmas.{IsOfMap}
 
 -- ---- the parts of a target
 
@@ -72,6 +71,10 @@ host_page hart = omega arith
 pub record GoesTo (a : AddressRegisters) (notice p identity : ℕ) (place : Option Place) : Type 0 where
   pub page : address_by a Child (hart_of (target_to notice p identity place)) (guest_of (target_to notice p identity place)) ≡ page_to notice place
   pub value : identity_of (target_to notice p identity place) ≡ value_to p identity place
+
+pub record IsOfMap (q : Place) : Type 0 where
+  pub hart : q.hart < HARTS
+  pub file : q.file ≤ GUEST_FILES
 
 pub goes_to : (a : AddressRegisters) (notice p identity : ℕ) (place : Option Place) → are_for_guests a ≡ true → notice < HARTS → p < PASSES → identity ≤ IDENTITIES → ((q : Place) → place ≡ Some q → IsOfMap q) → GoesTo a notice p identity place
 goes_to a notice p identity None ready low few fits of_map =

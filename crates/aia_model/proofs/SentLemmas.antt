@@ -6,8 +6,10 @@ use Rattle.std.proofs.lemmas.Bool.{and_parts, eqb-true, false≢true}
 use Rattle.std.proofs.lemmas.Bool.Decides.{nat_tests}
 use Rattle.aia_source.specs.Top.{hart_of, guest_of, identity_of}
 use Rattle.aia_word.proofs.LeastLemmas.{least_of_is}
+use Rattle.aia_home.specs.declared.place.Place.{Place}
 use Rattle.aia_model.specs.declared.line.Line.{Line}
-use Rattle.aia_model.specs.declared.line.Line.TheVariants.{Arrive, Leave, Shift, BeginArrive, BeginLeave, BeginShift, Step, Land}
+use Rattle.aia_model.specs.declared.line.Line.TheVariants.{Machine, Wire, Load, Store, Arrive, Leave, Shift, BeginArrive, BeginLeave, BeginShift, Step, Land}
+use Rattle.aia_model.specs.declared.line.Line.TheVariants as lines
 use Rattle.aia_model.specs.declared.msi.Msi.{Msi}
 use Rattle.aia_model.specs.declared.domain_name.DomainName.{DomainName}
 use Rattle.aia_model.specs.declared.domain_name.DomainName.TheVariants.{Root, Child}
@@ -30,9 +32,9 @@ use Rattle.aia_model.specs.PassesStand.{AllPassesStand, AreForwards}
 use Rattle.aia_model.proofs.FlightLemmas.{all_on}
 use Rattle.aia_model.proofs.OwnerLemmas.{child_alone}
 use Rattle.aia_model.proofs.PassReachLemmas.{reach_is_held}
-use Rattle.aia_model.proofs.PlaceLemmas.{sized, notice_fits, all_of_map}
-use Rattle.aia_model.proofs.ForwardLemmas.{goes_to}
-use Rattle.aia_model.proofs.WaitingLemmas.{none_waits}
+use Rattle.aia_model.proofs.PlaceLemmas.{sized, notice_fits, all_held}
+use Rattle.aia_model.proofs.ForwardLemmas.{IsOfMap, goes_to}
+use Rattle.aia_model.proofs.WaitingLemmas.{none_waits, none_waits_aimed}
 use Rattle.aia_model.proofs.PassesStandLemmas.{IsAimedIn, acts_by, line_aimed, passes_stand}
 
 -- ---- each sender's MSI
@@ -55,9 +57,14 @@ forward_by h p past good all low a =
     let s = all.pass p low in
     let few = all.few in
     let fits = at_most (greatest_identity_of h) (nth_pass h p).identity s.identity in
-    let size = (sized h good).identities in
-    let goes = goes_to (addresses_of past) (pass_notice_hart h p) p (nth_pass h p).identity (pass_reach h p) (and_parts _ (are_for_guests (addresses_of past)) a.passable).1 (notice_fits h (nth_pass h p).to good)
-    (omega (arith, low, few)) (omega (arith, fits, size)) (λ q e. all_of_map h (nth_pass h p).to good q (reach_is_held _ (home h (nth_pass h p).to) q e)) in
+    let size = sized h good in
+    let notice = notice_fits h (nth_pass h p).to good s.there in
+    let harts = size.harts in let guests = size.guests in let identities = size.identities in
+    let of_map : (q : Place) → pass_reach h p ≡ Some q → IsOfMap q = λ q e.
+        let one = all_held h (nth_pass h p).to good q (reach_is_held _ (home h (nth_pass h p).to) q e) in
+        let hart = one.hart in let file = one.file in record { hart = omega (arith, hart, harts); file = omega (arith, file, guests) } in
+    let goes = goes_to (addresses_of past) (pass_notice_hart h p) p (nth_pass h p).identity (pass_reach h p) (and_parts _ (are_for_guests (addresses_of past)) a.passable).1
+        (omega (arith, notice, harts)) (omega (arith, low, few)) (omega (arith, fits, identities)) of_map in
     record {
       page = ap (λ t. address_by (addresses_of past) Child (hart_of t) (guest_of t)) a.target ∙ goes.page;
       value = ap identity_of a.target ∙ goes.value;
@@ -97,6 +104,22 @@ waiting_forwards h past good all aimed = all_filtered (has_msi past) (λ msi. Is
 
 pub none_waiting : (h : History) → waiting_msis (acts_of h) ≡ []
 none_waiting h = ap (map (msi_of (acts_of h))) (none_waits h)
+
+-- whether a line may send MSIs: it makes the machine, or is one for the wires and the registers of the APLIC
+abbrev pub may_send : Line → Bool
+may_send (Machine harts guests n sources) = true
+may_send (Wire source level) = true
+may_send (Load addr) = true
+may_send (Store addr value) = true
+may_send line = false
+
+pub none_sent_by : (h : History) (line : Line) → may_send line ≡ false → msis_sent_by h line ≡ []
+none_sent_by h (Machine harts guests n sources) e = absurd (false≢true (sym e))
+none_sent_by h (Wire source level) e = absurd (false≢true (sym e))
+none_sent_by h (Load addr) e = absurd (false≢true (sym e))
+none_sent_by h (Store addr value) e = absurd (false≢true (sym e))
+none_sent_by h (lines.Pass source vm number identity) e = ap (map (msi_of (acts_by h (lines.Pass source vm number identity)))) (none_waits_aimed _ _ (acts_of h) (none_waits h))
+none_sent_by h line e = none_waiting h
 
 none_sent : (h k : History) → AreForwards k (waiting_msis (acts_of h))
 none_sent h k = subst (AreForwards k) (sym (none_waiting h)) tt
