@@ -227,7 +227,7 @@ msi_by_pass P msi h file memory = by_pass (passed_by h msi.source) refl
     by_pass None e = file
     by_pass (Some p) e = by_reach p (pass_reach (Delivered msi ∷ h) p) e refl
 
-given_happens : (p : ℕ) (msi : Msi) (h : History) → passed_by h msi.source ≡ Some p → pass_reach (Delivered msi ∷ h) p ≡ None → IsHistory (Delivered msi ∷ h) → IsHistory (Relayed p ∷ Delivered msi ∷ h)
+pub given_happens : (p : ℕ) (msi : Msi) (h : History) → passed_by h msi.source ≡ Some p → pass_reach (Delivered msi ∷ h) p ≡ None → IsHistory (Delivered msi ∷ h) → IsHistory (Relayed p ∷ Delivered msi ∷ h)
 given_happens p msi h e r good = ((subst (λ xs. p < length xs) (sym (same_reach msi h p).1) (number_found h msi.source p e), r), good)
 
 pub msi_happens : (h : History) (msi : Msi) → MayHappen h (Delivered msi) → IsHistory h → IsHistory (msi_taken msi h)
