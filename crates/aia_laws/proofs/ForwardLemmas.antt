@@ -1,9 +1,9 @@
 -- The forward of a passed source: one store for its guest, and nothing else.
-use Rattle.std.proofs.Common.{◌≡◌, ℕ, ◌+◌, ◌%◌, ◌<◌, ◌≤◌, ◌&&◌, Bool, true, false, cond, nat_eq, is_some, is_none, List, [], ◌∷◌, length, Option, Some, None, inl, inr, refl, sym, ap, subst, ◌∙◌, arith}
+use Rattle.std.proofs.Common.{◌≡◌, ℕ, ◌%◌, ◌<◌, ◌≤◌, ◌&&◌, Bool, true, false, cond, nat_eq, is_some, is_none, List, [], ◌∷◌, length, Option, Some, None, inl, inr, refl, sym, ap, subst, ◌∙◌, arith}
 use Rattle.std.specs.Option.{option_map}
 use Rattle.std.specs.Int.{is_in_range}
 use Rattle.std.specs.List.{Contains}
-use Rattle.std.proofs.lemmas.Bool.{cases_Bool, cases_lt, cond-true, cond-false, eq-eqb, eqb-true, eqb-false, ltb-true, false≢true}
+use Rattle.std.proofs.lemmas.Bool.{cases_Bool, cases_lt, cond-true, cond-false, eq-eqb, eqb-true, eqb-false, ltb-true}
 use Rattle.aia_regs.specs.AddressMap.{machine_page, supervisor_page, guest_page, is_in_page}
 use Rattle.aia_regs.specs.declared.limits.TheConstants.{HARTS, GUEST_FILES}
 use Rattle.aia_regs.specs.declared.address_map.TheConstants.{SUPERVISOR_FILES, PAGE}
@@ -19,7 +19,7 @@ use Rattle.aia_home.specs.Vms.{Vcpu, notice_identity}
 use Rattle.aia_home.specs.Aims.{host_identity}
 use Rattle.aia_model.specs.declared.line.Line.{Line}
 use Rattle.aia_model.specs.declared.msi.Msi.{Msi}
-use Rattle.aia_model.specs.Event.{History, has_machine, harts_of, guests_of, has_hart, greatest_identity_of}
+use Rattle.aia_model.specs.Event.{History, has_machine, harts_of, guests_of}
 use Rattle.aia_model.specs.Event.Event.{Delivered, Relayed}
 use Rattle.aia_model.specs.Vms.{vms_of}
 use Rattle.aia_model.specs.Passes.{passes_of, nth_pass, passed_by}
@@ -29,7 +29,7 @@ use Rattle.aia_model.specs.GuestFile.{goes_to_guest, guest_deed, passed_deed, gu
 use Rattle.aia_model.specs.Notice.{noticed}
 use Rattle.aia_model.specs.FileAfter.{select_by, file_by, file_after, relay_said, notice_asked}
 use Rattle.aia_model.specs.FileAfter.FileDeed.{Stores, Rests}
-use Rattle.aia_model.specs.FileOf.{FileName, MachineFile, SupervisorFile, is_file, is_at, store_deed, file_of}
+use Rattle.aia_model.specs.FileOf.{FileName, MachineFile, SupervisorFile, is_file, store_deed, file_of}
 use Rattle.aia_model.specs.Sent.{msis_sent_by}
 use Rattle.aia_model.specs.Refusal.{refusal}
 use Rattle.aia_model.specs.Answer.{after, line_taken, msi_taken, given_on, delivered}
@@ -90,7 +90,8 @@ guest_no_host hart file x some few = elim (cases_lt hart x) [
 no_machine_page : (x addr : ℕ) → x < HARTS → SUPERVISOR_FILES ≤ addr → is_in_page (machine_page x) addr ≡ false
 no_machine_page x addr low high = after_page (machine_page x) addr (omega (arith, low, high))
 
--- at the file where it is known it is a store of the identity of the pass there; at no other file of the host is it a store
+-- at the file where it is known it is a store of the identity of the pass there; at no other file
+-- of the host is it a store
 stored_host : (f : FileName) (h : History) (notice p address value : ℕ) → IsSized h → has_file h f ≡ true → address ≡ supervisor_page notice → value ≡ host_identity p → store_deed f address value ≡ cond (is_file f (SupervisorFile notice)) (Stores 0 (host_identity p)) Rests
 stored_host (MachineFile x) h notice p address value size there at is =
     let low = ltb-true x (harts_of h) there in let few = size.harts in
@@ -112,8 +113,8 @@ guest_unstored (SupervisorFile x) h q address value size one there at =
     let some = one.some in let file = one.file in let few = size.guests in
     cond-false _ _ _ (ap (is_in_page (supervisor_page x)) at ∙ guest_no_host q.hart q.file x some (omega (arith, file, few)))
 
--- An MSI is that of a pass, and goes where the pass leads: to the page of a guest file, and of no file of the host; or to the
--- host, with the identity of the pass there.
+-- An MSI is that of a pass, and goes where the pass leads: to the page of a guest file, and of no
+-- file of the host; or to the host, with the identity of the pass there.
 record GoesAsAimed (h : History) (p : ℕ) (msi : Msi) : Type 0 where
   passed : passed_by h msi.source ≡ Some p
   page : goes_to_guest h msi ≡ is_some (pass_reach h p)
@@ -141,7 +142,8 @@ goes_as_aimed h p msi good passed forward = by_reach (pass_reach h p) refl
 
 -- ---- what it does
 
--- an MSI of a pass that leads to a guest file is delivered; one that leads to memory is given on too
+-- an MSI of a pass that leads to a guest file is delivered; one that leads to memory is given on
+-- too
 taken_at_file : (h : History) (p : ℕ) (msi : Msi) (q : Place) → passed_by h msi.source ≡ Some p → pass_reach h p ≡ Some q → msi_taken msi h ≡ Delivered msi ∷ h
 unfolding passes_of home
 taken_at_file h p msi q e r = ap (λ o. given_on o (Delivered msi ∷ h)) e ∙ ap (λ (o : Option Place). cond (is_none o) (Relayed p ∷ Delivered msi ∷ h) (Delivered msi ∷ h)) r
@@ -179,7 +181,8 @@ forwarded_asks h p msi goes range =
     stored : (select : ℕ) (file : InterruptFile) (i : ℕ) → is_in_range 1 file.n i ≡ true → (file_after select (Stores 0 i) file).pending i ≡ true
     stored select file i r = rw (r, eq-eqb i i refl) refl
 
--- in the host's files it clears the pass's own identity and asks for the notice, and says nothing else
+-- in the host's files it clears the pass's own identity and asks for the notice, and says nothing
+-- else
 own_first : (x n : ℕ) (notice : Option ℕ) (i : ℕ) (was : Bool) → settle (relay_said n x notice i) (settle (cond (names (requested n 0 x) i) Ask Nothing) was) ≡ settle (relay_said n x notice i) was
 own_first x n notice i was = elim (cases_Bool (names (notice_asked n notice) i)) [
   | inl told ↦ rw told refl

@@ -1,8 +1,8 @@
 -- What holds of all histories whose every event may happen: the machine comes first, and its files
 -- have more identities than there are virtual harts.
-use Rattle.std.proofs.Common.{◌≡◌, ℕ, ◌+◌, ◌/◌, ◌<◌, ◌≤◌, true, false, [], ◌∷◌, length, inl, inr, refl, sym, ap, ◌∙◌, arith}
+use Rattle.std.proofs.Common.{◌≡◌, ℕ, ◌+◌, ◌/◌, ◌<◌, ◌≤◌, true, false, [], ◌∷◌, inl, inr, refl, sym, ap, ◌∙◌, arith}
 use Rattle.std.specs.Int.{is_in_range}
-use Rattle.std.proofs.lemmas.Bool.{cases_Bool, and_parts, not-false, le-ltb, false≢true}
+use Rattle.std.proofs.lemmas.Bool.{cases_Bool, and_parts, le-ltb, false≢true}
 use Rattle.std.proofs.lemmas.Bool.Decides.{nat_tests}
 use Rattle.aia_regs.specs.declared.limits.TheConstants.{VCPUS}
 use Rattle.aia_file.specs.InterruptFile.{is_greatest_identity}
@@ -10,10 +10,8 @@ use Rattle.aia_home.specs.Vms.{Vcpu, vcpus_in}
 use Rattle.aia_home.proofs.VmLemmas.{vcpus_more}
 use Rattle.aia_model.specs.declared.line.Line.TheVariants.{Machine}
 use Rattle.aia_model.specs.declared.line.Line.TheVariants as lines
-use Rattle.aia_model.specs.Move.{mover}
 use Rattle.aia_model.specs.Event.{History, has_machine, greatest_identity_of, file_words}
 use Rattle.aia_model.specs.Event.Event.{Accepted, Began, Stepped, Delivered, Landed, Relayed}
-use Rattle.aia_model.specs.Flight.{flight}
 use Rattle.aia_model.specs.Vms.{vms_of, has_vcpu}
 use Rattle.aia_model.specs.FileAfter.{file_by}
 use Rattle.aia_model.specs.GuestFile.{guest_file}

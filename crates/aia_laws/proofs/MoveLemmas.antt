@@ -1,5 +1,5 @@
--- No line about moves changes more of a virtual hart than what is pending there, and that only where
--- stores land.
+-- No line about moves changes more of a virtual hart than what is pending there, and that only
+-- where stores land.
 use Rattle.std.proofs.Common.{◌≡◌, ◌≢◌, ℕ, false, ◌∷◌, Option, Some, None, inl, inr, refl, ap, ◌∙◌}
 use Rattle.std.proofs.lemmas.Bool.{cases_Bool}
 use Rattle.aia_file.specs.InterruptFile.{InterruptFile}

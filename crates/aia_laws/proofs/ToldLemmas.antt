@@ -111,8 +111,8 @@ relay_asks p past g may good e =
     let told : noticed past (Relayed p) ≡ Some g = noticed_one _ g e in
     let own : g ≡ (nth_pass past p).to = chosen_is _ (nth_pass past p).to g e in
     let deed : deed_at f past (Relayed p) ≡ Relays (host_identity p) (Some (notice_number past g)) =
-      ap (λ o. if is_file f (SupervisorFile (notice_hart (vms_of past) (nth_pass past p).to)) then Relays (host_identity p) (option_map (notice_identity (vms_of past)) o) else Rests) told
-      ∙ cond-true _ _ _ (is_file-itself f (SupervisorFile (notice_hart (vms_of past) (nth_pass past p).to)) (ap (notice_file past) own)) in
+    ap (λ o. if is_file f (SupervisorFile (notice_hart (vms_of past) (nth_pass past p).to)) then Relays (host_identity p) (option_map (notice_identity (vms_of past)) o) else Rests) told
+    ∙ cond-true _ _ _ (is_file-itself f (SupervisorFile (notice_hart (vms_of past) (nth_pass past p).to)) (ap (notice_file past) own)) in
     ap (λ d. pending_said (select_of past f) (file_of past f) d (notice_number past g)) deed ∙ relay_told (file_of past f).n (host_identity p) (notice_number past g) (omega arith) (number_fits past g good (noticed_is_there (Relayed p) past g may good e))
 
 store_asks_too : (event : Event) → ((past : History) (f : FileName) (g : Vcpu) → names_vcpu (noticed past event) g ≡ true → deed_at f past event ≡ notice_deed past f (Some g)) → NoticeAsks event

@@ -47,7 +47,8 @@ notice_hart_allowed h vcpus mask hart e =
     let stands = passed (not (has_machine h)) _ _ e in
     (and_parts (is_vm_size vcpus mask) (has_hart h hart) (not-false _ (passed (not (is_vm_size vcpus mask && has_hart h hart)) _ _ stands.1).0)).1
 
--- a source that is passed is there and was not passed, MSIs to guests may be made of it, and its virtual hart is there, at rest
+-- a source that is passed is there and was not passed, MSIs to guests may be made of it, and its
+-- virtual hart is there, at rest
 pub record PassAllowed (h : History) (source vm number identity : ℕ) : Type 0 where
   pub there : has_vcpu h (vcpu vm number) ≡ true
   pub identity_there : is_in_range 1 (greatest_identity_of h) identity ≡ true

@@ -61,10 +61,10 @@ forward_by h p past good all low a =
     let notice = notice_fits h (nth_pass h p).to good s.there in
     let harts = size.harts in let guests = size.guests in let identities = size.identities in
     let of_map : (q : Place) → pass_reach h p ≡ Some q → IsOfMap q = λ q e.
-        let one = all_held h (nth_pass h p).to good q (reach_is_held _ (home h (nth_pass h p).to) q e) in
-        let hart = one.hart in let file = one.file in record { hart = omega (arith, hart, harts); file = omega (arith, file, guests) } in
+    let one = all_held h (nth_pass h p).to good q (reach_is_held _ (home h (nth_pass h p).to) q e) in
+    let hart = one.hart in let file = one.file in record { hart = omega (arith, hart, harts); file = omega (arith, file, guests) } in
     let goes = goes_to (addresses_of past) (pass_notice_hart h p) p (nth_pass h p).identity (pass_reach h p) (and_parts _ (are_for_guests (addresses_of past)) a.passable).1
-        (omega (arith, notice, harts)) (omega (arith, low, few)) (omega (arith, fits, identities)) of_map in
+    (omega (arith, notice, harts)) (omega (arith, low, few)) (omega (arith, fits, identities)) of_map in
     record {
       page = ap (λ t. address_by (addresses_of past) Child (hart_of t) (guest_of t)) a.target ∙ goes.page;
       value = ap identity_of a.target ∙ goes.value;
@@ -105,7 +105,8 @@ waiting_forwards h past good all aimed = all_filtered (has_msi past) (λ msi. Is
 pub none_waiting : (h : History) → waiting_msis (acts_of h) ≡ []
 none_waiting h = ap (map (msi_of (acts_of h))) (none_waits h)
 
--- whether a line may send MSIs: it makes the machine, or is one for the wires and the registers of the APLIC
+-- whether a line may send MSIs: it makes the machine, or is one for the wires and the registers of
+-- the APLIC
 abbrev pub may_send : Line → Bool
 may_send (Machine harts guests n sources) = true
 may_send (Wire source level) = true

@@ -1,5 +1,5 @@
--- Nothing waits to be sent between lines: what waits after a line is sent within it, and no aim makes
--- anything ready.
+-- Nothing waits to be sent between lines: what waits after a line is sent within it, and no aim
+-- makes anything ready.
 use Rattle.std.proofs.Common.{◌≡◌, ℕ, Bool, true, false, cond, ◌&&◌, nat_eq, List, [], ◌∷◌, inl, inr, refl, sym, ap, subst, ◌∙◌, Some, None, if◌then◌else◌}
 use Rattle.std.specs.List.{Contains}
 use Rattle.std.proofs.lemmas.Bool.{cases_Bool, and_parts, and_from, eq-eqb, false≢true}
