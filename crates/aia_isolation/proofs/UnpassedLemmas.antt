@@ -64,7 +64,7 @@ unpassed_steps (suc count) x h e = unpassed_first x h (unpassed_event (Stepped x
 
 unpassed_given : (o : Option ℕ) (h : History) → IsUnpassed (given_on o h) → IsUnpassed h
 unpassed_given None h e = e
-unpassed_given (Some p) h = by_reach (is_none (pass_reach h p))
+unpassed_given (Some p) h e = by_reach (is_none (pass_reach h p)) e
   where
     by_reach : (b : Bool) → IsUnpassed (cond b (Relayed p ∷ h) h) → IsUnpassed h
     by_reach true e = unpassed_event (Relayed p) h e
