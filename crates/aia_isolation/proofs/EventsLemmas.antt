@@ -1,5 +1,5 @@
 -- What was said to a virtual hart is what the events that concern its VM say.
-use Rattle.std.proofs.Common.{◌≡◌, ℕ, Bool, true, false, nat_eq, cond, List, [], ◌∷◌, Option, Some, None, inl, inr, refl, sym, ap, subst, ◌∙◌}
+use Rattle.std.proofs.Common.{◌≡◌, ℕ, Bool, true, false, nat_eq, List, [], ◌∷◌, Option, Some, None, inl, inr, refl, sym, ap, subst, ◌∙◌}
 use Rattle.std.proofs.lemmas.Bool.{cases_Bool, cond-true, cond-false}
 use Rattle.aia_home.specs.Vms.{Vcpu}
 use Rattle.aia_model.specs.Event.{Event, History}
@@ -23,8 +23,8 @@ use Rattle.aia_isolation.proofs.SetupLemmas.{SameFor, itself_for, for_then, both
 use Rattle.aia_isolation.proofs.AlikeLemmas.{unsaid}
 use Rattle.aia_isolation.proofs.ScriptLemmas.{same_scripts}
 
--- Whether the events that concern a VM set up the machine as the history does, leave the same stores
--- of the VM in flight, and say what it says.
+-- Whether the events that concern a VM set up the machine as the history does, leave the same
+-- stores of the VM in flight, and say what it says.
 abbrev IsByEvents : (v : ℕ) (g : Vcpu) → History → Type 0
 IsByEvents v g h = SameFor v (events_for v h) h × (said (events_for v h) g ≡ said h g)
 

@@ -1,7 +1,7 @@
 -- Histories after which no source is passed: none was before, no MSI is given on, and no step of a
 -- move aims a source.
-use Rattle.std.proofs.Common.{◌≡◌, ℕ, zero, suc, Bool, true, false, ◌&&◌, cond, is_none, nat_eq, nat_lt, ◌+◌, slice_index_or, List, [], ◌∷◌, ◌++◌, length, Option, Some, None, refl, sym, ap, subst, ◌∙◌, arith}
-use Rattle.std.proofs.lemmas.Bool.{and_right, cond-true, cond-false}
+use Rattle.std.proofs.Common.{◌≡◌, ℕ, zero, suc, Bool, true, false, cond, is_none, nat_eq, nat_lt, ◌+◌, slice_index_or, List, [], ◌∷◌, ◌++◌, length, Option, Some, None, refl, ap, subst, ◌∙◌, arith}
+use Rattle.std.proofs.lemmas.Bool.{and_right}
 use Rattle.std.proofs.lemmas.Bool.Decides.{nat_tests}
 use Rattle.aia_word.specs.Sets.{least_of}
 use Rattle.aia_home.specs.Vms.{Vcpu}
@@ -13,17 +13,17 @@ use Rattle.aia_model.specs.declared.line.Line.TheVariants as lines
 use Rattle.aia_model.specs.declared.msi.Msi.{Msi}
 use Rattle.aia_model.specs.declared.parsed.Parsed.{Parsed}
 use Rattle.aia_model.specs.declared.parsed.Parsed.TheVariants as parsed
-use Rattle.aia_model.specs.Move.{Move, mover, MoveDeed, move_deed}
+use Rattle.aia_model.specs.Move.{mover, MoveDeed, move_deed}
 use Rattle.aia_model.specs.Move.MoveDeed.{NoMove, Whole, Begins, Steps, Lands}
 use Rattle.aia_model.specs.Event.{Event, History, file_words}
 use Rattle.aia_model.specs.Event.Event.{Accepted, Began, Stepped, Delivered, Landed, Relayed}
 use Rattle.aia_model.specs.Flight.{flight}
-use Rattle.aia_model.specs.Passes.{Pass, no_pass, passes_of, pass_of, passed_by, passes_to, passes_for}
+use Rattle.aia_model.specs.Passes.{Pass, no_pass, passes_of, passed_by, passes_to, passes_for}
 use Rattle.aia_model.specs.Aim.{pass_reach}
 use Rattle.aia_model.specs.HomeOf.{home}
 use Rattle.aia_model.specs.Refusal.{refusal}
 use Rattle.aia_model.specs.Sent.{msis_sent_by}
-use Rattle.aia_model.specs.Answer.{after, history_after, after_accepted, deed_taken, line_taken, steps_of, step_taken, steps_taken, oldest_landed, landed_first, delivered, given_on, msi_taken}
+use Rattle.aia_model.specs.Answer.{after, after_accepted, deed_taken, line_taken, steps_of, step_taken, steps_taken, oldest_landed, landed_first, delivered, given_on, msi_taken}
 use Rattle.aia_model.specs.Reading.{reading}
 use Rattle.aia_model.specs.Script.{after_text, after_texts}
 use Rattle.aia_model.proofs.AnswerLemmas.{after_by}
