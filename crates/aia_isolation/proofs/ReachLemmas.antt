@@ -11,7 +11,7 @@ use Rattle.aia_model.specs.Event.{History}
 use Rattle.aia_model.specs.Event.Event.{Accepted, Stepped, Landed}
 use Rattle.aia_model.specs.Vms.{vms_of, has_vcpu}
 use Rattle.aia_model.specs.FileAfter.{FileDeed, select_after, file_after, select_by, file_by}
-use Rattle.aia_model.specs.FileAfter.FileDeed.{Makes, Accesses, Stores, Rests}
+use Rattle.aia_model.specs.FileAfter.FileDeed.{Makes, Accesses, Stores, Relays, Rests}
 use Rattle.aia_model.specs.FileOf.{FileName, is_file, notice_deed, deed_at}
 use Rattle.aia_model.specs.Flight.{Sending, flying}
 use Rattle.aia_model.specs.GuestFile.{named_by, sent_to}
@@ -80,6 +80,7 @@ unfolding host_by
 by_one (Makes n) earlier = refl
 by_one (Accesses csr op) earlier = refl
 by_one (Stores offset value) earlier = refl
+by_one (Relays x notice) earlier = refl
 by_one Rests earlier = refl
 
 pub is_by_deeds : (h : History) (f : FileName) → host_of h f ≡ host_by (deeds_of h f)

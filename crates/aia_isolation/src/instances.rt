@@ -1,9 +1,9 @@
 //! The laws at work: what they say of worked scripts, computed.
 //!
 //! Each function does nothing: its clauses are what was proved, by computing.
-#![tactic(auto, unfolding(aia_word::specs::Sets::word_of, aia_word::specs::Sets::least_of, aia_word::specs::Packed::packed, aia_word::specs::Packed::ones, aia_model::specs::Reading::number_at, aia_model::specs::Reading::n32_at, aia_model::specs::Reading::bit_at, aia_model::specs::Reading::machine_at, aia_model::specs::Reading::vm_at, aia_model::specs::Reading::wire_at, aia_model::specs::Reading::store_at, aia_model::specs::Reading::load_at, aia_model::specs::Reading::msi_at, aia_model::specs::Reading::send_at, aia_model::specs::Reading::land_at, aia_model::specs::Reading::refetch_at, aia_model::specs::Reading::csr_at, aia_model::specs::Reading::read_at, aia_model::specs::Reading::write_at, aia_model::specs::Reading::instruction_at, aia_model::specs::Reading::machine_csr_at, aia_model::specs::Reading::host_at, aia_model::specs::Reading::ipi_at, aia_model::specs::Reading::guest_at, aia_model::specs::Reading::arrive_at, aia_model::specs::Reading::leave_at, aia_model::specs::Reading::shift_at, aia_model::specs::Reading::begin_arrive_at, aia_model::specs::Reading::begin_leave_at, aia_model::specs::Reading::begin_shift_at, aia_model::specs::Reading::begin_at, aia_model::specs::Reading::step_at, aia_model::specs::Reading::inject_at, aia_model::specs::Reading::hvictl_at, aia_model::specs::Reading::hviprio_at, aia_model::specs::Reading::pins_at, aia_model::specs::Reading::entry_at, aia_model::specs::Reading::line_at, aia_model::specs::Reading::reading, aia_model::specs::FileAfter::select_by, aia_model::specs::FileAfter::file_by, aia_model::specs::MajorOf::majors_of, aia_model::specs::HomeOf::home, aia_model::specs::Flight::flight, aia_model::specs::ReachOf::in_force_of, aia_model::specs::ReachOf::stage_in_force_of, aia_model::specs::Notice::look_saw, aia_regs::specs::DomainRegisters::domain_register_of, aia_model::specs::Act::newest, aia_model::specs::SourceOf::wire_of, aia_model::specs::SourceOf::enabled, aia_model::specs::SourceOf::target, aia_model::specs::SourceOf::pending, aia_model::specs::AddressOf::addresses_of, aia_model::specs::SourceOf::genmsi_waits, aia_model::specs::Sent::all_senders, aia_model::specs::Answer::answer, aia_model::specs::Answer::after, aia_model::specs::AnswerText::hex_digits, aia_model::specs::AnswerText::answer_text, crate::specs::Said::said, crate::specs::Guest::guest_by, crate::specs::Replies::replies, crate::specs::Replies::replies_by, crate::specs::Replies::purged, crate::specs::Concerns::events_for, crate::specs::Reach::deeds_of, crate::specs::Reach::host_by, aia_laws::specs::Newest::newest, aia_laws::specs::Told::told_since))]
+#![tactic(auto, unfolding(aia_word::specs::Sets::word_of, aia_word::specs::Sets::least_of, aia_word::specs::Packed::packed, aia_word::specs::Packed::ones, aia_model::specs::Reading::number_at, aia_model::specs::Reading::n32_at, aia_model::specs::Reading::bit_at, aia_model::specs::Reading::machine_at, aia_model::specs::Reading::vm_at, aia_model::specs::Reading::wire_at, aia_model::specs::Reading::store_at, aia_model::specs::Reading::load_at, aia_model::specs::Reading::msi_at, aia_model::specs::Reading::send_at, aia_model::specs::Reading::land_at, aia_model::specs::Reading::refetch_at, aia_model::specs::Reading::csr_at, aia_model::specs::Reading::read_at, aia_model::specs::Reading::write_at, aia_model::specs::Reading::instruction_at, aia_model::specs::Reading::machine_csr_at, aia_model::specs::Reading::host_at, aia_model::specs::Reading::ipi_at, aia_model::specs::Reading::guest_at, aia_model::specs::Reading::arrive_at, aia_model::specs::Reading::leave_at, aia_model::specs::Reading::shift_at, aia_model::specs::Reading::begin_arrive_at, aia_model::specs::Reading::begin_leave_at, aia_model::specs::Reading::begin_shift_at, aia_model::specs::Reading::begin_at, aia_model::specs::Reading::step_at, aia_model::specs::Reading::inject_at, aia_model::specs::Reading::hvictl_at, aia_model::specs::Reading::hviprio_at, aia_model::specs::Reading::pass_at, aia_model::specs::Reading::pins_at, aia_model::specs::Reading::entry_at, aia_model::specs::Reading::line_at, aia_model::specs::Reading::reading, aia_model::specs::FileAfter::select_by, aia_model::specs::FileAfter::file_by, aia_model::specs::MajorOf::majors_of, aia_model::specs::HomeOf::home, aia_model::specs::Flight::flight, aia_model::specs::Passes::passes_of, aia_model::specs::ReachOf::in_force_of, aia_model::specs::ReachOf::stage_in_force_of, aia_model::specs::Notice::look_saw, aia_regs::specs::DomainRegisters::domain_register_of, aia_model::specs::Act::newest, aia_model::specs::SourceOf::wire_of, aia_model::specs::SourceOf::enabled, aia_model::specs::SourceOf::target, aia_model::specs::SourceOf::pending, aia_model::specs::AddressOf::addresses_of, aia_model::specs::SourceOf::genmsi_waits, aia_model::specs::Sent::all_senders, aia_model::specs::Answer::answer, aia_model::specs::Answer::after, aia_model::specs::AnswerText::hex_digits, aia_model::specs::AnswerText::answer_text, crate::specs::Said::said, crate::specs::Guest::guest_by, crate::specs::Replies::replies, crate::specs::Replies::replies_by, crate::specs::Replies::purged, crate::specs::Concerns::events_for, crate::specs::Reach::deeds_of, crate::specs::Reach::host_by, aia_laws::specs::Newest::newest, aia_laws::specs::Told::told_since))]
 
-ghost use Rattle.std.specs.Prelude.{◌≡◌, true, [], ◌∷◌, length};
+ghost use Rattle.std.specs.Prelude.{◌≡◌, true, [], ◌∷◌, length, Some};
 ghost use Rattle.aia_regs.specs.declared.access.Csr.TheVariants.{Select, Reg, Topei, Sip};
 ghost use Rattle.aia_regs.specs.declared.access.Op.TheVariants.{Read, Write};
 ghost use Rattle.aia_regs.specs.Word.Word.{Ask, Clear};
@@ -12,7 +12,7 @@ ghost use Rattle.aia_home.specs.Home.Home.{Parked};
 ghost use Rattle.aia_model.specs.declared.answer.Answer.TheVariants.{Wide};
 ghost use Rattle.aia_model.specs.GuestFile.{guest_file};
 ghost use Rattle.aia_model.specs.HomeOf.{home};
-ghost use Rattle.aia_model.specs.FileAfter.FileDeed.{Makes, Accesses, Stores};
+ghost use Rattle.aia_model.specs.FileAfter.FileDeed.{Makes, Accesses, Stores, Relays};
 ghost use Rattle.aia_model.specs.FileOf.{SupervisorFile, file_of};
 ghost use Rattle.aia_model.specs.Text.{texts_of};
 ghost use Rattle.aia_model.specs.Script.{history_of, answers};
@@ -197,6 +197,108 @@ g 0 0 csrrw stopei 0
 g 0 0 csrrw stopei 0
 ";
 
+/// Source 1 is passed to virtual hart 0 of VM 0 and forwarded, as 5, to the guest file where it is.
+pub const PASSED: &str = "machine 1 1 63 8
+st 0x0c000004 0x400
+st 0x0c008004 4
+st 0x0c008000 0x104
+st 0x0c001bc4 0x2000
+st 0x0c001bc8 0x28000
+st 0x0c001bcc 0x500000
+st 0x0c009edc 1
+vm 1 0x8 0
+arrive 0 0 0
+g 0 0 csrrw siselect 0xc0
+g 0 0 csrrw sireg 0x20
+pass 1 0 0 5
+wire 1 1
+g 0 0 csrrw stopei 0
+ld 0x0c00b004
+";
+
+/// It is forwarded while the virtual hart is away, and given on by the host.
+pub const PASSED_AWAY: &str = "machine 1 1 63 8
+st 0x0c000004 0x400
+st 0x0c008004 4
+st 0x0c008000 0x104
+st 0x0c001bc4 0x2000
+st 0x0c001bc8 0x28000
+st 0x0c001bcc 0x500000
+st 0x0c009edc 1
+vm 1 0x8 0
+arrive 0 0 0
+g 0 0 csrrw siselect 0xc0
+g 0 0 csrrw sireg 0x20
+pass 1 0 0 5
+leave 0 0
+wire 1 1
+arrive 0 0 0
+g 0 0 csrrw stopei 0
+ld 0x0c00b004
+";
+
+/// What concerns VM 0 in the first of these alone, and the machine level.
+pub const UNPASSED: &str = "machine 1 1 63 8
+vm 1 0x8 0
+arrive 0 0 0
+g 0 0 csrrw siselect 0xc0
+g 0 0 csrrw sireg 0x20
+g 0 0 csrrw stopei 0
+";
+
+pub const UNAIMED: &str = "machine 1 1 63 8
+st 0x0c000004 0x400
+st 0x0c008004 4
+st 0x0c008000 0x104
+st 0x0c001bc4 0x2000
+st 0x0c001bc8 0x28000
+st 0x0c001bcc 0x500000
+st 0x0c009edc 1
+wire 1 1
+ld 0x0c00b004
+";
+
+/// What VM 0 and the machine level are answered there, alone and beside each other.
+pub const UNPASSED_ANSWERS: &str = "ok
+ok
+ok
+0x0000000000000000
+0x0000000000000000
+0x0000000000000000
+";
+
+pub const PASSED_ANSWERS: &str = "ok
+ok
+ok
+0x0000000000000000
+0x0000000000000000
+0x0000000000050005
+";
+
+pub const UNAIMED_ANSWERS: &str = "ok
+ok
+ok
+ok
+ok
+ok
+ok
+ok
+ok
+0x00000000
+";
+
+pub const AIMED_ANSWERS: &str = "ok
+ok
+ok
+ok
+ok
+ok
+ok
+ok
+ok
+0x00001005
+";
+
 /// What is said to a virtual hart is the same in two scripts that have nothing else in common, but
 /// for a read of its own in the second: so it is the same in both, and its replies are, but for
 /// that read's. A store that names no identity says nothing, and all that says nothing may be left
@@ -269,4 +371,31 @@ pub fn a_guest_leaves_while_stores_are_in_flight()
     ensures deeds { deeds_of (history_of FLYING.now) (SupervisorFile 0)
         ≡ Stores 0 1 ∷ Makes 63 ∷ [] }
     ensures left_out { length (purged (history_of FLYING.now) (vcpu 0 0)) ≡ 10 }
+{}
+
+/// A source that is passed is heard the same whether its virtual hart is in a guest file or away:
+/// the same concerns its VM in both scripts, and it is said the same and answered the same.
+pub fn a_passed_source_is_heard_the_same_wherever_its_guest_is()
+    ensures same_events { events_for 0 (history_of PASSED.now)
+        ≡ events_for 0 (history_of PASSED_AWAY.now) }
+    ensures said { said (history_of PASSED.now) (vcpu 0 0)
+        ≡ Did Topei (Write 0) ∷ Asked 5 ∷ Did Reg (Write 0x20) ∷ Did Select (Write 0xc0)
+        ∷ Made 63 ∷ [] }
+    ensures here { script_replies PASSED.now (vcpu 0 0)
+        ≡ Wide 0 ∷ Wide 0 ∷ Wide 0x50005 ∷ [] }
+    ensures away { script_replies PASSED_AWAY.now (vcpu 0 0)
+        ≡ Wide 0 ∷ Wide 0 ∷ Wide 0x50005 ∷ [] }
+    ensures deeds { deeds_of (history_of PASSED_AWAY.now) (SupervisorFile 0)
+        ≡ Relays 33 (Some 1) ∷ Stores 0 33 ∷ Makes 63 ∷ [] }
+{}
+
+/// Where a source is passed, neither its VM nor the machine level is answered as if it were alone:
+/// without the wire the virtual hart claims nothing, and without the pass the source has no target.
+pub fn with_a_source_passed_no_part_is_answered_alone()
+    ensures vm_part { texts_of UNPASSED.now ≡ part_of (concerns 0) PASSED.now }
+    ensures vm_alone { answers UNPASSED.now ≡ UNPASSED_ANSWERS.now }
+    ensures vm_beside { answers_to (concerns 0) PASSED.now ≡ PASSED_ANSWERS.now }
+    ensures machine_part { texts_of UNAIMED.now ≡ part_of is_of_machine_level PASSED.now }
+    ensures machine_alone { answers UNAIMED.now ≡ UNAIMED_ANSWERS.now }
+    ensures machine_beside { answers_to is_of_machine_level PASSED.now ≡ AIMED_ANSWERS.now }
 {}

@@ -1,11 +1,12 @@
 -- A whole move comes to its fence within its steps.
-use Rattle.std.proofs.Common.{◌≡◌, ℕ, suc, ◌+◌, true, false, is_none, Option, Some, None, refl, arith}
+use Rattle.std.proofs.Common.{◌≡◌, ℕ, suc, ◌+◌, true, false, nat_lt, is_none, Option, Some, None, refl, arith}
 use Rattle.std.specs.Option.{option_map_or}
-use Rattle.std.proofs.lemmas.Bool.{eq-eqb, ne_eqb}
+use Rattle.std.proofs.lemmas.Bool.{eq-eqb, ne_eqb, and_left}
 use Rattle.aia_home.specs.Home.{Home, is_moving, is_resident, is_parked, leaving, arriving, shifting}
 use Rattle.aia_home.specs.Home.Home.{Parked, Resident, Leaving, Arriving, Shifting}
-use Rattle.aia_home.specs.Plans.{leave_step, arrive_step, shift_step, leave_steps, arrive_steps, shift_steps, stepped}
-use Rattle.aia_home.specs.Plans.Access.{Fence}
+use Rattle.aia_home.specs.Plans.{leave_step, arrive_step, shift_step, leave_steps, arrive_steps, shift_steps}
+use Rattle.aia_home.specs.Plans.Access.{Fence, FenceStage}
+use Rattle.aia_home.specs.Aims.{is_aiming, further}
 use Rattle.aia_home.specs.Routes.{is_at_fence}
 use Rattle.aia_model.specs.HomeOf.{place}
 
@@ -30,12 +31,20 @@ fence_later count (Shifting from to at) e = ne_eqb at.steps (shift_step 0 Fence)
 fence_later count Parked e = absurd e
 fence_later count (Resident p) e = absurd e
 
-pub fence_nearer : (words count : ℕ) (there : Home) → FenceIn (suc count) there → FenceIn count (stepped words there)
-fence_nearer words count (Leaving from at) e = rw (ne_eqb (at.steps + 1) (leave_steps words) (λ last. absurd (omega (arith, e, last)))) (omega (arith, e))
-fence_nearer words count (Arriving to at) e = rw (ne_eqb (at.steps + 1) (arrive_steps words) (λ last. absurd (omega (arith, e, last)))) (omega (arith, e))
-fence_nearer words count (Shifting from to at) e = rw (ne_eqb (at.steps + 1) (shift_steps words) (λ last. absurd (omega (arith, e, last)))) (omega (arith, e))
-fence_nearer words count Parked e = absurd e
-fence_nearer words count (Resident p) e = absurd e
+-- no step before it aims a passed source
+aims_later : (passes count : ℕ) (there : Home) → FenceIn (suc count) there → is_aiming passes there ≡ false
+aims_later passes count (Leaving from at) e = and_left _ (nat_lt at.aims passes) (ne_eqb at.steps (leave_step 0 FenceStage + 1) (λ same. absurd (omega (arith, e, same))))
+aims_later passes count (Arriving to at) e = and_left _ (nat_lt at.aims passes) (ne_eqb at.steps (arrive_step 0 FenceStage + 1) (λ same. absurd (omega (arith, e, same))))
+aims_later passes count (Shifting from to at) e = and_left _ (nat_lt at.aims passes) (ne_eqb at.steps (shift_step 0 FenceStage + 1) (λ same. absurd (omega (arith, e, same))))
+aims_later passes count Parked e = absurd e
+aims_later passes count (Resident p) e = absurd e
+
+pub fence_nearer : (passes words count : ℕ) (there : Home) → FenceIn (suc count) there → FenceIn count (further passes words there)
+fence_nearer passes words count (Leaving from at) e = rw (aims_later passes count (Leaving from at) e) (rw (ne_eqb (at.steps + 1) (leave_steps words) (λ last. absurd (omega (arith, e, last)))) (omega (arith, e)))
+fence_nearer passes words count (Arriving to at) e = rw (aims_later passes count (Arriving to at) e) (rw (ne_eqb (at.steps + 1) (arrive_steps words) (λ last. absurd (omega (arith, e, last)))) (omega (arith, e)))
+fence_nearer passes words count (Shifting from to at) e = rw (aims_later passes count (Shifting from to at) e) (rw (ne_eqb (at.steps + 1) (shift_steps words) (λ last. absurd (omega (arith, e, last)))) (omega (arith, e)))
+fence_nearer passes words count Parked e = absurd e
+fence_nearer passes words count (Resident p) e = absurd e
 
 -- ---- from where a move begins
 

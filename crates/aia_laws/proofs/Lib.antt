@@ -9,4 +9,5 @@ pub mod CauseLemmas
 pub mod NewestLemmas
 pub mod FlightRequests
 pub mod FenceLemmas
+pub mod ForwardLemmas
 pub mod MoveLemmas

@@ -1,8 +1,8 @@
 -- What holds of all histories whose every event may happen: the machine comes first, and its files
 -- have more identities than there are virtual harts.
-use Rattle.std.proofs.Common.{◌≡◌, ℕ, ◌+◌, ◌/◌, ◌<◌, ◌≤◌, true, false, [], ◌∷◌, length, inl, inr, refl, sym, ap, ◌∙◌, arith}
+use Rattle.std.proofs.Common.{◌≡◌, ℕ, ◌+◌, ◌/◌, ◌<◌, ◌≤◌, true, false, [], ◌∷◌, inl, inr, refl, sym, ap, ◌∙◌, arith}
 use Rattle.std.specs.Int.{is_in_range}
-use Rattle.std.proofs.lemmas.Bool.{cases_Bool, and_parts, not-false, le-ltb, false≢true}
+use Rattle.std.proofs.lemmas.Bool.{cases_Bool, and_parts, le-ltb, false≢true}
 use Rattle.std.proofs.lemmas.Bool.Decides.{nat_tests}
 use Rattle.aia_regs.specs.declared.limits.TheConstants.{VCPUS}
 use Rattle.aia_file.specs.InterruptFile.{is_greatest_identity}
@@ -10,34 +10,19 @@ use Rattle.aia_home.specs.Vms.{Vcpu, vcpus_in}
 use Rattle.aia_home.proofs.VmLemmas.{vcpus_more}
 use Rattle.aia_model.specs.declared.line.Line.TheVariants.{Machine}
 use Rattle.aia_model.specs.declared.line.Line.TheVariants as lines
-use Rattle.aia_model.specs.Move.{mover}
 use Rattle.aia_model.specs.Event.{History, has_machine, greatest_identity_of, file_words}
-use Rattle.aia_model.specs.Event.Event.{Accepted, Began, Stepped, Delivered, Landed}
-use Rattle.aia_model.specs.Flight.{flight}
+use Rattle.aia_model.specs.Event.Event.{Accepted, Began, Stepped, Delivered, Landed, Relayed}
 use Rattle.aia_model.specs.Vms.{vms_of, has_vcpu}
 use Rattle.aia_model.specs.FileAfter.{file_by}
 use Rattle.aia_model.specs.GuestFile.{guest_file}
 use Rattle.aia_model.specs.Refusal.{is_machine_size}
 use Rattle.aia_laws.proofs.FileLemmas.{enabled_fits}
-use Rattle.aia_model.proofs.RefusalLemmas.{machine_stands, machine_allowed, vm_allowed}
+use Rattle.aia_model.proofs.RefusalLemmas.{machine_allowed, vm_allowed}
+use Rattle.aia_model.proofs.PlaceLemmas.{machine_first}
 use Rattle.aia_model.specs.Histories.{IsHistory}
 
 none_there : (g : Vcpu) → has_vcpu [] g ≡ false
 none_there g = le-ltb g.number 0 (omega arith)
-
-none_flying : (vm : ℕ) → flight [] vm ≡ []
-unfolding flight
-none_flying vm = refl
-
--- the machine comes first
-pub machine_first : (h : History) → IsHistory h → has_machine h ≡ false → h ≡ []
-machine_first [] good none = refl
-machine_first (Accepted (Machine harts guests n sources) ∷ h) good none = absurd (cc)
-machine_first (Accepted line ∷ h) good none = absurd (false≢true (sym none ∙ not-false _ (machine_stands h line good.0)))
-machine_first (Began move ∷ h) good none = absurd (false≢true (sym (none_there (mover move)) ∙ ap (λ x. has_vcpu x (mover move)) (sym (machine_first h good.1 none)) ∙ good.0.0))
-machine_first (Stepped g ∷ h) good none = absurd (false≢true (sym (none_there g) ∙ ap (λ x. has_vcpu x g) (sym (machine_first h good.1 none)) ∙ good.0.0))
-machine_first (Landed vm k ∷ h) good none = let few : length (flight h vm) ≡ 0 = ap (λ x. length (flight x vm)) (machine_first h good.1 none) ∙ ap length (none_flying vm) in absurd (omega (arith, few, good.0))
-machine_first (Delivered msi ∷ h) good none = absurd (false≢true (sym none ∙ good.0))
 
 -- where a virtual hart is, a machine stands
 machine_of_vcpu : (h : History) (g : Vcpu) → IsHistory h → has_vcpu h g ≡ true → has_machine h ≡ true
@@ -57,6 +42,7 @@ greatest_of_machine (Began move ∷ h) good stands = greatest_of_machine h good.
 greatest_of_machine (Stepped g ∷ h) good stands = greatest_of_machine h good.1 stands
 greatest_of_machine (Landed vm k ∷ h) good stands = greatest_of_machine h good.1 stands
 greatest_of_machine (Delivered msi ∷ h) good stands = greatest_of_machine h good.1 stands
+greatest_of_machine (Relayed p ∷ h) good stands = greatest_of_machine h good.1 stands
 
 few_vcpus : (h : History) → IsHistory h → vcpus_in (vms_of h) ≤ VCPUS
 few_vcpus [] good = omega arith
@@ -66,6 +52,7 @@ few_vcpus (Began move ∷ h) good = few_vcpus h good.1
 few_vcpus (Stepped g ∷ h) good = few_vcpus h good.1
 few_vcpus (Landed vm k ∷ h) good = few_vcpus h good.1
 few_vcpus (Delivered msi ∷ h) good = few_vcpus h good.1
+few_vcpus (Relayed p ∷ h) good = few_vcpus h good.1
 
 -- so there are more identities than virtual harts
 enough_identities : (n : ℕ) → is_greatest_identity n ≡ true → 63 ≤ n

@@ -1,5 +1,5 @@
--- No line about moves changes more of a virtual hart than what is pending there, and that only where
--- stores land.
+-- No line about moves changes more of a virtual hart than what is pending there, and that only
+-- where stores land.
 use Rattle.std.proofs.Common.{◌≡◌, ◌≢◌, ℕ, false, ◌∷◌, Option, Some, None, inl, inr, refl, ap, ◌∙◌}
 use Rattle.std.proofs.lemmas.Bool.{cases_Bool}
 use Rattle.aia_file.specs.InterruptFile.{InterruptFile}
@@ -15,7 +15,7 @@ use Rattle.aia_model.specs.GuestFile.{sent_to, guest_file, guest_select}
 use Rattle.aia_model.specs.MajorOf.{majors_of}
 use Rattle.aia_model.specs.Answer.{after, deed_taken, line_taken}
 use Rattle.aia_laws.specs.Requests.{does_steps, steps_vm}
-use Rattle.aia_laws.proofs.AfterLemmas.{IsSameGuest, by_refusal, taken_same, begun_same, stepped_same}
+use Rattle.aia_laws.proofs.AfterLemmas.{IsSameGuest, by_refusal, taken_same, begun_same, stepped_same, none_forwarded, moves_send_none}
 use Rattle.aia_laws.proofs.FlightRequests.{IsKept, line_kept}
 
 -- A virtual hart has the same after one history as after another, but for what is pending.
@@ -72,4 +72,4 @@ line_rest h line g moves = elim (cases_Bool (does_steps (move_deed line))) [
 
 pub moved_rest : (h : History) (line : Line) (g : Vcpu) → move_deed line ≢ NoMove → IsSameButPending (after h line) h g
 moved_rest h line g moves = by_refusal (λ x. IsSameButPending x h g) h line (refl, refl, refl, refl, refl, refl) (λ e.
-    and_rest (after h line) (line_taken h line) h g (rest_of (after h line) (line_taken h line) g (taken_same h line g e)) (line_rest h line g moves))
+    and_rest (after h line) (line_taken h line) h g (rest_of (after h line) (line_taken h line) g (taken_same h line g (none_forwarded h line g (moves_send_none line moves)) e)) (line_rest h line g moves))

@@ -6,7 +6,7 @@ use Rattle.aia_file.specs.InterruptFile.{InterruptFile}
 use Rattle.aia_home.specs.Vms.{Vcpu}
 use Rattle.aia_model.specs.declared.line.Line.TheVariants.{Machine}
 use Rattle.aia_model.specs.Event.{Event, History}
-use Rattle.aia_model.specs.Event.Event.{Accepted, Began, Stepped, Delivered, Landed}
+use Rattle.aia_model.specs.Event.Event.{Accepted, Began, Stepped, Delivered, Landed, Relayed}
 use Rattle.aia_model.specs.FileAfter.{FileDeed, select_by, file_by, file_after, pending_said, enabled_said}
 use Rattle.aia_model.specs.FileAfter.FileDeed.{Makes}
 use Rattle.aia_model.specs.FileOf.{FileName, deed_at, file_of}
@@ -17,7 +17,7 @@ use Rattle.aia_laws.specs.Told.{is_ask, guest_said, host_said}
 use Rattle.aia_laws.specs.Newest.{or_before, newest, guest_enable_said, host_enable_said}
 use Rattle.aia_laws.proofs.FileLemmas.{made_with, machine_with, not_making, guest_made, host_made}
 use Rattle.aia_model.proofs.RefusalLemmas.{machine_allowed}
-use Rattle.aia_laws.proofs.MachineLemmas.{machine_first}
+use Rattle.aia_model.proofs.PlaceLemmas.{machine_first}
 
 -- What each event says of an identity's being pending, and enabled, at a file by its deeds.
 abbrev pending_by : (History → Event → FileDeed) → ℕ → History → Event → Word
@@ -77,6 +77,7 @@ is_by_newest deed made makes (Accepted (Machine harts guests n sources) ∷ past
 is_by_newest deed made makes (Accepted line ∷ past) i good = by_word deed (Accepted line) past i (made past (Accepted line)) (is_by_newest deed made makes past i good.1)
 is_by_newest deed made makes (Began move ∷ past) i good = by_word deed (Began move) past i (made past (Began move)) (is_by_newest deed made makes past i good.1)
 is_by_newest deed made makes (Stepped x ∷ past) i good = by_word deed (Stepped x) past i (made past (Stepped x)) (is_by_newest deed made makes past i good.1)
+is_by_newest deed made makes (Relayed p ∷ past) i good = by_word deed (Relayed p) past i (made past (Relayed p)) (is_by_newest deed made makes past i good.1)
 is_by_newest deed made makes (Landed vm k ∷ past) i good = by_word deed (Landed vm k) past i (made past (Landed vm k)) (is_by_newest deed made makes past i good.1)
 is_by_newest deed made makes (Delivered msi ∷ past) i good = by_word deed (Delivered msi) past i (made past (Delivered msi)) (is_by_newest deed made makes past i good.1)
 

@@ -13,11 +13,11 @@ use Rattle.aia_home.proofs.VmLemmas.{slot_below}
 use Rattle.aia_model.specs.declared.line.Line.TheVariants.{Machine, Ipi, Send}
 use Rattle.aia_model.specs.declared.line.Line.TheVariants as lines
 use Rattle.aia_model.specs.Event.{Event, History}
-use Rattle.aia_model.specs.Event.Event.{Accepted, Began, Stepped, Delivered, Landed}
+use Rattle.aia_model.specs.Event.Event.{Accepted, Began, Stepped, Delivered, Landed, Relayed}
 use Rattle.aia_model.specs.Vms.{vms_of, has_vcpu}
-use Rattle.aia_model.specs.FileAfter.{IsMaking, pending_said}
-use Rattle.aia_model.specs.FileAfter.FileDeed.{Stores}
-use Rattle.aia_model.specs.FileOf.{FileName, SupervisorFile, notice_deed, deed_at, select_of, file_of}
+use Rattle.aia_model.specs.FileAfter.{IsMaking, pending_said, relay_said}
+use Rattle.aia_model.specs.FileAfter.FileDeed.{Stores, Relays, Rests}
+use Rattle.aia_model.specs.FileOf.{FileName, SupervisorFile, notice_deed, deed_at, select_of, file_of, is_file}
 use Rattle.aia_model.specs.GuestFile.{guest_file, named_by, sent_to}
 use Rattle.aia_model.specs.Flight.{Sending, flying}
 use Rattle.aia_model.proofs.FlightLemmas.{stays_there}
@@ -30,7 +30,13 @@ use Rattle.aia_laws.specs.Told.{is_deliverable, notice_file, notice_number, is_a
 use Rattle.aia_laws.proofs.FileLemmas.{made_with, not_making, host_made, host_n}
 use Rattle.aia_model.proofs.RefusalLemmas.{machine_allowed, device_allowed, peer_allowed}
 use Rattle.aia_model.specs.Histories.{MayHappen, IsHistory}
-use Rattle.aia_laws.proofs.MachineLemmas.{machine_first, identities_for_all, enabled_in_words}
+use Rattle.aia_laws.proofs.MachineLemmas.{identities_for_all, enabled_in_words}
+use Rattle.aia_model.proofs.PlaceLemmas.{machine_first}
+use Rattle.aia_model.proofs.PassesStandLemmas.{passes_stand}
+use Rattle.std.specs.Option.{option_map}
+use Rattle.aia_home.specs.Vms.{notice_hart, notice_identity}
+use Rattle.aia_home.specs.Aims.{host_identity}
+use Rattle.aia_model.specs.Passes.{nth_pass}
 use Rattle.aia_laws.proofs.NoticeLemmas.{noticed_while_parked}
 
 -- ---- a virtual hart keeps its file of the host and its identity
@@ -57,6 +63,7 @@ noticed_is_there (Stepped x) past g may good e = ap (has_vcpu past) (chosen_is _
 noticed_is_there (Accepted line) past g may good e = absurd (false≢true e)
 noticed_is_there (Began move) past g may good e = absurd (false≢true e)
 noticed_is_there (Delivered msi) past g may good e = absurd (false≢true e)
+noticed_is_there (Relayed p) past g may good e = ap (has_vcpu past) (chosen_is _ (nth_pass past p).to g e) ∙ ((passes_stand past good).pass p may.0).there
 noticed_is_there (Landed vm k) past g may good e = by_store (flying past vm k) refl e
   where
     by_store : (o : Option Sending) → flying past vm k ≡ o → names_vcpu (noticed_by_landing past vm o) g ≡ true → has_vcpu past g ≡ true
@@ -68,14 +75,19 @@ noticed_one None g e = absurd (false≢true e)
 noticed_one (Some x) g e = ap Some (sym (same_vcpu g x e))
 
 -- an event that notices is to the host's files what its notice is
-notice_is_deed : (event : Event) (past : History) (f : FileName) (g : Vcpu) → names_vcpu (noticed past event) g ≡ true → deed_at f past event ≡ notice_deed past f (Some g)
-notice_is_deed (Accepted (lines.Msi vm addr value)) past f g e = ap (notice_deed past f) (noticed_one _ g e)
-notice_is_deed (Accepted (Ipi vm number to value)) past f g e = ap (notice_deed past f) (noticed_one _ g e)
-notice_is_deed (Stepped x) past f g e = ap (notice_deed past f) (noticed_one _ g e)
-notice_is_deed (Accepted line) past f g e = absurd (false≢true e)
-notice_is_deed (Began move) past f g e = absurd (false≢true e)
-notice_is_deed (Landed vm k) past f g e = ap (notice_deed past f) (noticed_one _ g e)
-notice_is_deed (Delivered msi) past f g e = absurd (false≢true e)
+abbrev IsNoRelay : Event → Type 0
+IsNoRelay (Relayed p) = ⊥
+IsNoRelay event = Unit {0}
+
+notice_is_deed : (event : Event) (past : History) (f : FileName) (g : Vcpu) → IsNoRelay event → names_vcpu (noticed past event) g ≡ true → deed_at f past event ≡ notice_deed past f (Some g)
+notice_is_deed (Accepted (lines.Msi vm addr value)) past f g other e = ap (notice_deed past f) (noticed_one _ g e)
+notice_is_deed (Accepted (Ipi vm number to value)) past f g other e = ap (notice_deed past f) (noticed_one _ g e)
+notice_is_deed (Stepped x) past f g other e = ap (notice_deed past f) (noticed_one _ g e)
+notice_is_deed (Accepted line) past f g other e = absurd (false≢true e)
+notice_is_deed (Began move) past f g other e = absurd (false≢true e)
+notice_is_deed (Landed vm k) past f g other e = ap (notice_deed past f) (noticed_one _ g e)
+notice_is_deed (Delivered msi) past f g other e = absurd (false≢true e)
+notice_is_deed (Relayed p) past f g other e = absurd other
 
 store_asks : (select : ℕ) (file : InterruptFile) (i : ℕ) → 1 ≤ i → i ≤ file.n → pending_said select file (Stores 0 i) i ≡ Ask
 store_asks select file i low high = let r : is_in_range 1 file.n i ≡ true = grind (arith, nat_tests) in rw (r, eq-eqb i i refl) refl
@@ -86,12 +98,37 @@ number_fits h g good there =
     let enough = identities_for_all h g good there in
     rw (host_n h (notice_file h g)) (omega (arith, slot, enough))
 
-notice_asks : (event : Event) (past : History) (g : Vcpu) → MayHappen past event → IsHistory past → names_vcpu (noticed past event) g ≡ true → host_said past event (notice_file past g) (notice_number past g) ≡ Ask
-notice_asks event past g may good e =
+abbrev NoticeAsks : Event → Type 0
+NoticeAsks event = (past : History) (g : Vcpu) → MayHappen past event → IsHistory past → names_vcpu (noticed past event) g ≡ true → host_said past event (notice_file past g) (notice_number past g) ≡ Ask
+
+relay_told : (n x i : ℕ) → 1 ≤ i → i ≤ n → relay_said n x (Some i) i ≡ Ask
+relay_told n x i low high = let r : is_in_range 1 n i ≡ true = grind (arith, nat_tests) in rw (r, eq-eqb i i refl) refl
+
+-- a relay's notice is part of its own deed
+relay_asks : (p : ℕ) → NoticeAsks (Relayed p)
+relay_asks p past g may good e =
     let f : FileName = notice_file past g in
-    let deed : deed_at f past event ≡ Stores 0 (notice_number past g) = notice_is_deed event past f g e ∙ cond-true _ _ _ (is_file-itself f f refl) in
+    let told : noticed past (Relayed p) ≡ Some g = noticed_one _ g e in
+    let own : g ≡ (nth_pass past p).to = chosen_is _ (nth_pass past p).to g e in
+    let deed : deed_at f past (Relayed p) ≡ Relays (host_identity p) (Some (notice_number past g)) =
+    ap (λ o. if is_file f (SupervisorFile (notice_hart (vms_of past) (nth_pass past p).to)) then Relays (host_identity p) (option_map (notice_identity (vms_of past)) o) else Rests) told
+    ∙ cond-true _ _ _ (is_file-itself f (SupervisorFile (notice_hart (vms_of past) (nth_pass past p).to)) (ap (notice_file past) own)) in
+    ap (λ d. pending_said (select_of past f) (file_of past f) d (notice_number past g)) deed ∙ relay_told (file_of past f).n (host_identity p) (notice_number past g) (omega arith) (number_fits past g good (noticed_is_there (Relayed p) past g may good e))
+
+store_asks_too : (event : Event) → ((past : History) (f : FileName) (g : Vcpu) → names_vcpu (noticed past event) g ≡ true → deed_at f past event ≡ notice_deed past f (Some g)) → NoticeAsks event
+store_asks_too event is past g may good e =
+    let f : FileName = notice_file past g in
+    let deed : deed_at f past event ≡ Stores 0 (notice_number past g) = is past f g e ∙ cond-true _ _ _ (is_file-itself f f refl) in
     ap (λ d. pending_said (select_of past f) (file_of past f) d (notice_number past g)) deed
     ∙ store_asks (select_of past f) (file_of past f) (notice_number past g) (omega arith) (number_fits past g good (noticed_is_there event past g may good e))
+
+notice_asks : (event : Event) → NoticeAsks event
+notice_asks (Relayed p) = relay_asks p
+notice_asks (Accepted line) = store_asks_too (Accepted line) (λ past f g e. notice_is_deed (Accepted line) past f g tt e)
+notice_asks (Began move) = store_asks_too (Began move) (λ past f g e. notice_is_deed (Began move) past f g tt e)
+notice_asks (Stepped x) = store_asks_too (Stepped x) (λ past f g e. notice_is_deed (Stepped x) past f g tt e)
+notice_asks (Landed vm k) = store_asks_too (Landed vm k) (λ past f g e. notice_is_deed (Landed vm k) past f g tt e)
+notice_asks (Delivered msi) = store_asks_too (Delivered msi) (λ past f g e. notice_is_deed (Delivered msi) past f g tt e)
 
 -- a notice since the newest request is an ask in the host's file since then: at the file and for
 -- the identity that the virtual hart has at the end, which it had from its making on
@@ -165,6 +202,7 @@ pending_until_cleared (Accepted line ∷ past) f n g i good told cleared = kept_
 pending_until_cleared (Began move ∷ past) f n g i good told cleared = kept_by (Began move) past f n g i (host_made f past (Began move)) (pending_until_cleared past f n g i good.1) told cleared
 pending_until_cleared (Stepped x ∷ past) f n g i good told cleared = kept_by (Stepped x) past f n g i (host_made f past (Stepped x)) (pending_until_cleared past f n g i good.1) told cleared
 pending_until_cleared (Landed vm k ∷ past) f n g i good told cleared = kept_by (Landed vm k) past f n g i (host_made f past (Landed vm k)) (pending_until_cleared past f n g i good.1) told cleared
+pending_until_cleared (Relayed p ∷ past) f n g i good told cleared = kept_by (Relayed p) past f n g i (host_made f past (Relayed p)) (pending_until_cleared past f n g i good.1) told cleared
 pending_until_cleared (Delivered msi ∷ past) f n g i good told cleared = kept_by (Delivered msi) past f n g i (host_made f past (Delivered msi)) (pending_until_cleared past f n g i good.1) told cleared
 
 -- ---- what the newest notice asked for and was not cleared since is pending
@@ -221,3 +259,6 @@ pending_since_notice (Landed vm k ∷ past) f n g i good its =
 pending_since_notice (Delivered msi ∷ past) f n g i good its =
     let earlier = its_before (Delivered msi) past f n g its in
     sent_by (Delivered msi) past g i f n good.0 good.1 earlier (host_made f past (Delivered msi)) (pending_since_notice past f n g i good.1 earlier)
+pending_since_notice (Relayed p ∷ past) f n g i good its =
+    let earlier = its_before (Relayed p) past f n g its in
+    sent_by (Relayed p) past g i f n good.0 good.1 earlier (host_made f past (Relayed p)) (pending_since_notice past f n g i good.1 earlier)

@@ -1,4 +1,5 @@
 pub mod Requests
 pub mod Claims
 pub mod Told
+pub mod Forwards
 pub mod Newest

@@ -7,10 +7,11 @@ use Rattle.aia_home.specs.Home.{is_resident}
 use Rattle.aia_model.specs.Move.Move.{Leaves}
 use Rattle.aia_model.specs.declared.line.Line.{Line}
 use Rattle.aia_model.specs.Event.{Event, History, greatest_identity_of, file_words}
-use Rattle.aia_model.specs.Event.Event.{Accepted, Began, Stepped, Landed}
+use Rattle.aia_model.specs.Event.Event.{Accepted, Began, Stepped, Landed, Relayed}
 use Rattle.aia_regs.specs.declared.address_map.TheConstants.{PAGE}
 use Rattle.aia_regs.specs.Request.{requested}
 use Rattle.aia_model.specs.Flight.{Sending, flying}
+use Rattle.aia_model.specs.Passes.{nth_pass}
 use Rattle.aia_model.specs.HomeOf.{home}
 use Rattle.aia_model.specs.Notice.{noticed, ends_leave, a_look_saw}
 use Rattle.aia_model.specs.Vms.{vms_of}
@@ -116,9 +117,17 @@ pub record LandsForEnabled (past : History) (vm k : ℕ) (g : Vcpu) : Type 0 whe
   pub asks : requested (greatest_identity_of past) (store.addr % PAGE) store.value ≡ Some identity
   pub enabled : (guest_file past g).enabled identity ≡ true
 
+-- The MSI of a pass that is given on asks at a virtual hart for an identity that is enabled there.
+pub record RelaysForEnabled (past : History) (p : ℕ) (g : Vcpu) : Type 0 where
+  pub same : (nth_pass past p).to ≡ g
+  pub identity : ℕ
+  pub asks : requested (greatest_identity_of past) 0 (nth_pass past p).identity ≡ Some identity
+  pub enabled : (guest_file past g).enabled identity ≡ true
+
 -- An event is the cause of a notice for a virtual hart.
 abbrev pub IsCause : History → Event → Vcpu → Type 0
 IsCause past (Accepted line) g = AsksForEnabled past line g
 IsCause past (Stepped x) g = EndsLeave past x g
 IsCause past (Landed vm k) g = LandsForEnabled past vm k g
+IsCause past (Relayed p) g = RelaysForEnabled past p g
 IsCause past event g = ⊥

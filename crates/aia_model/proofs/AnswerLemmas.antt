@@ -81,7 +81,7 @@ load_refusal h addr there = past_machine h _ there ∙ place_word (page_at h add
 pub store_refusal : (h : History) (addr value : ℕ) → has_machine h ≡ true → redirects h addr value ≡ false → refusal h (Store addr value) ≡ refused_by (place_refusal (page_at h addr) addr)
 store_refusal h addr value there free =
     past_machine h _ there ∙ ap (λ b. cond (faults (page_at h addr) addr) (Some (Refused Fault)) (cond (guards (page_at h addr) addr || b) (Some (Refused Guarded)) None)) free
-        ∙ ap (λ b. cond (faults (page_at h addr) addr) (Some (Refused Fault)) (cond b (Some (Refused Guarded)) None)) (or_none (guards (page_at h addr) addr)) ∙ place_word (page_at h addr) addr
+    ∙ ap (λ b. cond (faults (page_at h addr) addr) (Some (Refused Fault)) (cond b (Some (Refused Guarded)) None)) (or_none (guards (page_at h addr) addr)) ∙ place_word (page_at h addr) addr
   where
     or_none : (b : Bool) → (b || false) ≡ b
     or_none true = refl
@@ -90,7 +90,7 @@ store_refusal h addr value there free =
 pub passes_refusal : (h : History) (addr value : ℕ) → has_machine h ≡ true → faults (page_at h addr) addr ≡ false → redirects h addr value ≡ true → refusal h (Store addr value) ≡ Some (Refused Guarded)
 passes_refusal h addr value there sound mine =
     past_machine h _ there ∙ ap (λ b. cond b (Some (Refused Fault)) (cond (guards (page_at h addr) addr || redirects h addr value) (Some (Refused Guarded)) None)) sound
-        ∙ ap (λ b. cond (guards (page_at h addr) addr || b) (Some (Refused Guarded)) None) mine ∙ ap (λ b. cond b (Some (Refused Guarded)) None) (or_all (guards (page_at h addr) addr))
+    ∙ ap (λ b. cond (guards (page_at h addr) addr || b) (Some (Refused Guarded)) None) mine ∙ ap (λ b. cond b (Some (Refused Guarded)) None) (or_all (guards (page_at h addr) addr))
   where
     or_all : (b : Bool) → (b || true) ≡ true
     or_all true = refl

@@ -149,6 +149,7 @@ sent_on past (Accepted line) one all vm = ones_on (Accepted line) past vm (all v
 sent_on past (Began move) one all vm = ones_on (Began move) past vm (all vm)
 sent_on past (Stepped x) one all vm = ones_on (Stepped x) past vm (all vm)
 sent_on past (Delivered msi) one all vm = ones_on (Delivered msi) past vm (all vm)
+sent_on past (Relayed p) one all vm = ones_on (Relayed p) past vm (all vm)
 
 pub none_for_one : AllAreForOne []
 unfolding flight
@@ -223,7 +224,7 @@ passes_stepped g x h = passes_first g x h
 pub home_stepped : (g : Vcpu) (h : History) → home (step_taken g h) g ≡ further (passes_for h g) (file_words h) (home h g)
 home_stepped g h =
     home_step (Stepped g) (landed_first g h) g ∙ cond-true _ _ _ (is_itself g) ∙ ap (λ n. further n (file_words (landed_first g h)) (home (landed_first g h) g)) (passes_first g g h)
-        ∙ ap (λ w. further (passes_for h g) w (home (landed_first g h) g)) (words_first g h) ∙ ap (further (passes_for h g) (file_words h)) (home_landed_first g g h)
+    ∙ ap (λ w. further (passes_for h g) w (home (landed_first g h) g)) (words_first g h) ∙ ap (further (passes_for h g) (file_words h)) (home_landed_first g g h)
 
 -- a step that is the fence leaves none of its VM in flight
 pub none_after_fence : (g : Vcpu) (h : History) → is_at_fence (home h g) ≡ true → flight (step_taken g h) g.vm ≡ []

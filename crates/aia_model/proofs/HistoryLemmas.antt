@@ -1,10 +1,12 @@
 -- Histories whose every event may happen: that of each script is one.
-use Rattle.std.proofs.Common.{◌≡◌, ℕ, zero, suc, ◌+◌, ◌-◌, ◌<◌, Bool, true, false, nat_eq, is_none, is_some, length, List, [], ◌∷◌, Option, Some, None, inl, inr, refl, sym, ap, subst, ◌∙◌, arith}
+use Rattle.std.proofs.Common.{◌≡◌, ℕ, zero, suc, ◌+◌, ◌-◌, ◌<◌, ◌≤◌, Bool, true, false, ◌&&◌, if◌then◌else◌, nat_eq, nat_lt, is_none, is_some, length, List, [], ◌∷◌, Option, Some, None, inl, inr, refl, sym, ap, subst, ◌∙◌, arith}
 use Rattle.std.specs.Option.{option_map_or}
-use Rattle.std.proofs.lemmas.Bool.{cases_Bool, not-false, eqb-true, cond-true, false≢true}
+use Rattle.std.proofs.lemmas.Bool.{cases_Bool, cases_eq, cases_lt, not-false, eqb-true, eq-eqb, ltb-true, ltb-false, lt-ltb, and_parts, and_from, cond-true, false≢true}
 use Rattle.aia_home.specs.Vms.{Vcpu, vcpu}
 use Rattle.aia_home.specs.Home.{Home, is_moving, is_resident, is_parked, leaving, arriving, shifting}
-use Rattle.aia_home.specs.Plans.{leave_steps, arrive_steps, shift_steps, stepped}
+use Rattle.aia_home.specs.Plans.{leave_steps, arrive_steps, shift_steps, leave_step, arrive_step, shift_step}
+use Rattle.aia_home.specs.Plans.Access.{TakePending}
+use Rattle.aia_home.specs.Aims.{AreAimed, further}
 use Rattle.aia_home.specs.Home.Home.{Parked, Resident, Leaving, Arriving, Shifting}
 use Rattle.aia_model.specs.declared.line.Line.{Line}
 use Rattle.aia_model.specs.declared.line.Line.TheVariants.{Machine, Arrive, Leave, Shift, BeginArrive, BeginLeave, BeginShift, Step, Send, Land}
@@ -14,12 +16,15 @@ use Rattle.aia_model.specs.declared.parsed.Parsed.{Parsed}
 use Rattle.aia_model.specs.declared.parsed.Parsed.TheVariants as parsed
 use Rattle.aia_model.specs.Move.Move.{Arrives, Leaves, Shifts}
 use Rattle.aia_model.specs.Event.{History, has_machine, file_words}
-use Rattle.aia_model.specs.Event.Event.{Accepted, Began, Stepped, Delivered, Landed}
+use Rattle.aia_model.specs.Event.Event.{Accepted, Began, Stepped, Delivered, Landed, Relayed}
 use Rattle.aia_model.specs.Vms.{has_vcpu}
+use Rattle.aia_model.specs.Passes.{passes_of, passed_by, passes_for}
 use Rattle.aia_model.specs.HomeOf.{home, free_file, place}
+use Rattle.aia_model.specs.Aim.{pass_reach}
+use Rattle.aia_model.specs.PassesStand.{AreForwards}
 use Rattle.aia_model.specs.Refusal.{refusal}
 use Rattle.aia_model.specs.Sent.{msis_sent_by}
-use Rattle.aia_model.specs.Answer.{after, history_after, line_taken, whole_move, delivered, step_taken, steps_taken, oldest_landed, landed_first}
+use Rattle.aia_model.specs.Answer.{after, history_after, line_taken, whole_move, delivered, step_taken, steps_taken, oldest_landed, landed_first, given_on, msi_taken}
 use Rattle.aia_model.specs.Reading.{reading}
 use Rattle.aia_model.specs.Text.{texts_of}
 use Rattle.aia_model.specs.Script.{after_text, after_texts, history_of}
@@ -32,34 +37,71 @@ use Rattle.aia_home.specs.Routes.{is_at_fence, is_closed, origin, MayReach}
 use Rattle.aia_model.specs.Flight.{Sending, flight, flying}
 use Rattle.aia_model.specs.GuestFile.{sent_to}
 use Rattle.aia_model.specs.ReachOf.{sent_into, MayFly, AllMayFly, IsForOne, AllAreForOne}
-use Rattle.aia_model.proofs.FlightLemmas.{all_at, none_flies, flights_on, none_for_one, sent_on, first_gone, lands_first, home_landed_first, same_first, words_first, home_stepped}
-use Rattle.aia_model.specs.Histories.{IsHistory}
+use Rattle.aia_model.proofs.FlightLemmas.{all_at, none_flies, flights_on, none_for_one, sent_on, first_gone, lands_first, home_landed_first, same_first, words_first, home_stepped, passes_stepped}
+use Rattle.aia_model.proofs.PassesStandLemmas.{all_aimed_in}
+use Rattle.aia_model.proofs.SentLemmas.{line_forwards, forwards_then, forwards_given, number_found}
+use Rattle.aia_model.specs.Histories.{MayHappen, IsHistory}
 use Rattle.aia_model.proofs.RefusalLemmas.{machine_stands, arrive_allowed, leave_allowed, shift_allowed, step_allowed, land_allowed, send_allowed}
 
 -- ---- a whole move: all its steps may happen
 
 -- how many steps of its move a home has left
-abbrev steps_left : ℕ → Home → ℕ
-steps_left words (Leaving from at) = leave_steps words - at.steps
-steps_left words (Arriving to at) = arrive_steps words - at.steps
-steps_left words (Shifting from to at) = shift_steps words - at.steps
-steps_left words there = 0
+abbrev steps_left : ℕ → ℕ → Home → ℕ
+steps_left passes words (Leaving from at) = (leave_steps words - at.steps) + (passes - at.aims)
+steps_left passes words (Arriving to at) = (arrive_steps words - at.steps) + (passes - at.aims)
+steps_left passes words (Shifting from to at) = (shift_steps words - at.steps) + (passes - at.aims)
+steps_left passes words there = 0
 
-one_less : (words count : ℕ) (there : Home) → steps_left words there ≡ suc count → (is_moving there ≡ true) × (steps_left words (stepped words there) ≡ count)
-one_less words count (Leaving from at) e = elim (cases_Bool (nat_eq (at.steps + 1) (leave_steps words))) [
-  | inl last ↦ let end = eqb-true (at.steps + 1) (leave_steps words) last in (refl, rw last (omega (arith, end, e)))
-  | inr on ↦ (refl, rw on (omega (arith, e)))
+-- over plain numbers: t steps come before the first that aims, of `all`, k are done, a aims
+aim_less : (t all passes k a count : ℕ) → t < all → (nat_eq k t && nat_lt a passes) ≡ true → (all - k) + (passes - a) ≡ suc count → (all - k) + (passes - (a + 1)) ≡ count
+aim_less t all passes k a count low aiming e =
+    let parts = and_parts (nat_eq k t) (nat_lt a passes) aiming in
+    let here = eqb-true k t parts.0 in
+    let some = ltb-true a passes parts.1 in omega (arith, low, here, some, e)
+
+all_aimed : (t passes k a : ℕ) → t ≤ k → (nat_lt t k ≡ true → nat_lt a passes ≡ false) → (nat_eq k t && nat_lt a passes) ≡ false → passes ≤ a
+all_aimed t passes k a past aimed on = elim (cases_eq k t) [
+  | inl here ↦ by_here here (nat_lt a passes) refl
+  | inr other ↦ ltb-false a passes (aimed (lt-ltb t k (omega (arith, past, other))))
 ]
-one_less words count (Arriving to at) e = elim (cases_Bool (nat_eq (at.steps + 1) (arrive_steps words))) [
-  | inl last ↦ let end = eqb-true (at.steps + 1) (arrive_steps words) last in (refl, rw last (omega (arith, end, e)))
-  | inr on ↦ (refl, rw on (omega (arith, e)))
+  where
+    by_here : k ≡ t → (b : Bool) → nat_lt a passes ≡ b → passes ≤ a
+    by_here here false is = ltb-false a passes is
+    by_here here true is = absurd (false≢true (sym on ∙ and_from _ _ (eq-eqb k t here) is))
+
+last_less : (t all passes k a count : ℕ) → t < all → k + 1 ≡ all → (nat_lt t k ≡ true → nat_lt a passes ≡ false) → (nat_eq k t && nat_lt a passes) ≡ false → (all - k) + (passes - a) ≡ suc count → 0 ≡ count
+last_less t all passes k a count low last aimed on e = let none = all_aimed t passes k a (omega (arith, low, last)) aimed on in omega (arith, last, none, e)
+
+step_less : (t all passes k a count : ℕ) → t < all → (nat_lt t k ≡ true → nat_lt a passes ≡ false) → (nat_eq k t && nat_lt a passes) ≡ false → (all - k) + (passes - a) ≡ suc count → (all - (k + 1)) + (passes - a) ≡ count
+step_less t all passes k a count low aimed on e = elim (cases_lt k all) [
+  | inl within ↦ omega (arith, within, e)
+  | inr past ↦ let none = all_aimed t passes k a (omega (arith, low, past)) aimed on in absurd (omega (arith, past, none, e))
 ]
-one_less words count (Shifting from to at) e = elim (cases_Bool (nat_eq (at.steps + 1) (shift_steps words))) [
-  | inl last ↦ let end = eqb-true (at.steps + 1) (shift_steps words) last in (refl, rw last (omega (arith, end, e)))
-  | inr on ↦ (refl, rw on (omega (arith, e)))
+
+one_less : (passes words count : ℕ) (there : Home) → AreAimed passes there → steps_left passes words there ≡ suc count → (is_moving there ≡ true) × (steps_left passes words (further passes words there) ≡ count)
+one_less passes words count (Leaving from at) aimed e = elim (cases_Bool (nat_eq at.steps (leave_step 0 (TakePending 0)) && nat_lt at.aims passes)) [
+  | inl aims ↦ (refl, rw aims (aim_less (leave_step 0 (TakePending 0)) (leave_steps words) passes at.steps at.aims count (omega arith) aims e))
+  | inr on ↦ elim (cases_Bool (nat_eq (at.steps + 1) (leave_steps words))) [
+    | inl last ↦ (refl, rw (on, last) (last_less (leave_step 0 (TakePending 0)) (leave_steps words) passes at.steps at.aims count (omega arith) (eqb-true _ _ last) aimed.all on e))
+    | inr more ↦ (refl, rw (on, more) (step_less (leave_step 0 (TakePending 0)) (leave_steps words) passes at.steps at.aims count (omega arith) aimed.all on e))
+  ]
 ]
-one_less words count Parked e = absurd (omega (arith, e))
-one_less words count (Resident p) e = absurd (omega (arith, e))
+one_less passes words count (Arriving to at) aimed e = elim (cases_Bool (nat_eq at.steps (arrive_step 0 (TakePending 0)) && nat_lt at.aims passes)) [
+  | inl aims ↦ (refl, rw aims (aim_less (arrive_step 0 (TakePending 0)) (arrive_steps words) passes at.steps at.aims count (omega arith) aims e))
+  | inr on ↦ elim (cases_Bool (nat_eq (at.steps + 1) (arrive_steps words))) [
+    | inl last ↦ (refl, rw (on, last) (last_less (arrive_step 0 (TakePending 0)) (arrive_steps words) passes at.steps at.aims count (omega arith) (eqb-true _ _ last) aimed.all on e))
+    | inr more ↦ (refl, rw (on, more) (step_less (arrive_step 0 (TakePending 0)) (arrive_steps words) passes at.steps at.aims count (omega arith) aimed.all on e))
+  ]
+]
+one_less passes words count (Shifting from to at) aimed e = elim (cases_Bool (nat_eq at.steps (shift_step 0 (TakePending 0)) && nat_lt at.aims passes)) [
+  | inl aims ↦ (refl, rw aims (aim_less (shift_step 0 (TakePending 0)) (shift_steps words) passes at.steps at.aims count (omega arith) aims e))
+  | inr on ↦ elim (cases_Bool (nat_eq (at.steps + 1) (shift_steps words))) [
+    | inl last ↦ (refl, rw (on, last) (last_less (shift_step 0 (TakePending 0)) (shift_steps words) passes at.steps at.aims count (omega arith) (eqb-true _ _ last) aimed.all on e))
+    | inr more ↦ (refl, rw (on, more) (step_less (shift_step 0 (TakePending 0)) (shift_steps words) passes at.steps at.aims count (omega arith) aimed.all on e))
+  ]
+]
+one_less passes words count Parked aimed e = absurd (omega (arith, e))
+one_less passes words count (Resident p) aimed e = absurd (omega (arith, e))
 
 -- landings may happen, as many as there are stores in flight
 landings_happen : (count vm : ℕ) (h : History) (xs : List Sending) → flight h vm ≡ xs → length xs ≡ count → IsHistory h → IsHistory (oldest_landed count vm h)
@@ -84,57 +126,60 @@ there_still g x h there = ap (λ vms. is_vcpu_in vms x) (same_first g h).0 ∙ t
 pub step_happens : (g : Vcpu) (h : History) → has_vcpu h g ≡ true → is_moving (home h g) ≡ true → IsHistory h → IsHistory (step_taken g h)
 step_happens g h there moves good = ((there_still g g h there, ap is_moving (home_landed_first g g h) ∙ moves, lands_first g h), first_happens g h good)
 
-steps_happen : (count : ℕ) (g : Vcpu) (h : History) → has_vcpu h g ≡ true → steps_left (file_words h) (home h g) ≡ count → IsHistory h → IsHistory (steps_taken count g h)
+steps_happen : (count : ℕ) (g : Vcpu) (h : History) → has_vcpu h g ≡ true → steps_left (passes_for h g) (file_words h) (home h g) ≡ count → IsHistory h → IsHistory (steps_taken count g h)
 steps_happen zero g h there left good = good
 steps_happen (suc count) g h there left good =
-    let one = one_less (file_words h) count (home h g) left in
-    steps_happen count g (step_taken g h) (there_still g g h there) (ap (λ w. steps_left w (home (step_taken g h) g)) (words_first g h) ∙ ap (steps_left (file_words h)) (home_stepped g h) ∙ one.1) (step_happens g h there one.0 good)
+    let one = one_less (passes_for h g) (file_words h) count (home h g) (all_aimed_in h good g) left in
+    steps_happen count g (step_taken g h) (there_still g g h there) (ap (λ n. steps_left n (file_words (landed_first g h)) (home (step_taken g h) g)) (passes_stepped g g h) ∙ ap (λ w. steps_left (passes_for h g) w (home (step_taken g h) g)) (words_first g h) ∙ ap (steps_left (passes_for h g) (file_words h)) (home_stepped g h) ∙ one.1) (step_happens g h there one.0 good)
 
-leave_left : (words : ℕ) (there : Home) → is_moving there ≡ false → is_parked there ≡ false → steps_left words (leaving there) ≡ leave_steps words
-leave_left words (Resident p) idle kept = omega arith
-leave_left words Parked idle kept = absurd (cc)
-leave_left words (Leaving from at) idle kept = absurd (cc)
-leave_left words (Arriving to at) idle kept = absurd (cc)
-leave_left words (Shifting from to at) idle kept = absurd (cc)
+leave_left : (passes words : ℕ) (there : Home) → is_moving there ≡ false → is_parked there ≡ false → steps_left passes words (leaving there) ≡ leave_steps words + passes
+leave_left passes words (Resident p) idle kept = omega arith
+leave_left passes words Parked idle kept = absurd (cc)
+leave_left passes words (Leaving from at) idle kept = absurd (cc)
+leave_left passes words (Arriving to at) idle kept = absurd (cc)
+leave_left passes words (Shifting from to at) idle kept = absurd (cc)
 
-arrive_left : (words hart : ℕ) (file : Option ℕ) (there : Home) → is_moving there ≡ false → is_resident there ≡ false → is_none file ≡ false
-    → steps_left words (option_map_or (λ f. arriving (place hart f) there) file there) ≡ arrive_steps words
-arrive_left words hart None there idle away free = absurd (cc)
-arrive_left words hart (Some f) Parked idle away free = omega arith
-arrive_left words hart (Some f) (Resident p) idle away free = absurd (cc)
-arrive_left words hart (Some f) (Leaving from at) idle away free = absurd (cc)
-arrive_left words hart (Some f) (Arriving to at) idle away free = absurd (cc)
-arrive_left words hart (Some f) (Shifting from to at) idle away free = absurd (cc)
+arrive_left : (passes words hart : ℕ) (file : Option ℕ) (there : Home) → is_moving there ≡ false → is_resident there ≡ false → is_none file ≡ false
+    → steps_left passes words (option_map_or (λ f. arriving (place hart f) there) file there) ≡ arrive_steps words + passes
+arrive_left passes words hart None there idle away free = absurd (cc)
+arrive_left passes words hart (Some f) Parked idle away free = omega arith
+arrive_left passes words hart (Some f) (Resident p) idle away free = absurd (cc)
+arrive_left passes words hart (Some f) (Leaving from at) idle away free = absurd (cc)
+arrive_left passes words hart (Some f) (Arriving to at) idle away free = absurd (cc)
+arrive_left passes words hart (Some f) (Shifting from to at) idle away free = absurd (cc)
 
-shift_left : (words hart : ℕ) (file : Option ℕ) (there : Home) → is_moving there ≡ false → is_parked there ≡ false → is_none file ≡ false
-    → steps_left words (option_map_or (λ f. shifting (place hart f) there) file there) ≡ shift_steps words
-shift_left words hart None there idle kept free = absurd (cc)
-shift_left words hart (Some f) (Resident p) idle kept free = omega arith
-shift_left words hart (Some f) Parked idle kept free = absurd (cc)
-shift_left words hart (Some f) (Leaving from at) idle kept free = absurd (cc)
-shift_left words hart (Some f) (Arriving to at) idle kept free = absurd (cc)
-shift_left words hart (Some f) (Shifting from to at) idle kept free = absurd (cc)
+shift_left : (passes words hart : ℕ) (file : Option ℕ) (there : Home) → is_moving there ≡ false → is_parked there ≡ false → is_none file ≡ false
+    → steps_left passes words (option_map_or (λ f. shifting (place hart f) there) file there) ≡ shift_steps words + passes
+shift_left passes words hart None there idle kept free = absurd (cc)
+shift_left passes words hart (Some f) (Resident p) idle kept free = omega arith
+shift_left passes words hart (Some f) Parked idle kept free = absurd (cc)
+shift_left passes words hart (Some f) (Leaving from at) idle kept free = absurd (cc)
+shift_left passes words hart (Some f) (Arriving to at) idle kept free = absurd (cc)
+shift_left passes words hart (Some f) (Shifting from to at) idle kept free = absurd (cc)
 
 arrive_happens : (h : History) (g : Vcpu) (hart : ℕ) → refusal h (Arrive g.vm g.number hart) ≡ None → IsHistory h → IsHistory (whole_move h (Arrives g hart))
+unfolding passes_of
 arrive_happens h g hart e good =
     let may = arrive_allowed h g.vm g.number hart e in
-    steps_happen (arrive_steps (file_words h)) g (Began (Arrives g hart) ∷ h) may.0
-    (ap (steps_left (file_words h)) (home_step (Began (Arrives g hart)) h g ∙ cond-true _ _ _ (is_itself g)) ∙ arrive_left (file_words h) hart (free_file h (home h) hart) (home h g) may.1 may.2 may.3)
-    ((may.0, may.1), good)
+    steps_happen (arrive_steps (file_words h) + passes_for h g) g (Began (Arrives g hart) ∷ h) may.0
+    (ap (steps_left (passes_for h g) (file_words h)) (home_step (Began (Arrives g hart)) h g ∙ cond-true _ _ _ (is_itself g)) ∙ arrive_left (passes_for h g) (file_words h) hart (free_file h (home h) hart) (home h g) may.1 may.2 may.3)
+    ((may.0, may.1, may.4), good)
 
 leave_happens : (h : History) (g : Vcpu) → refusal h (Leave g.vm g.number) ≡ None → IsHistory h → IsHistory (whole_move h (Leaves g))
+unfolding passes_of
 leave_happens h g e good =
     let may = leave_allowed h g.vm g.number e in
-    steps_happen (leave_steps (file_words h)) g (Began (Leaves g) ∷ h) may.0
-    (ap (steps_left (file_words h)) (home_step (Began (Leaves g)) h g ∙ cond-true _ _ _ (is_itself g)) ∙ leave_left (file_words h) (home h g) may.1 may.2)
-    ((may.0, may.1), good)
+    steps_happen (leave_steps (file_words h) + passes_for h g) g (Began (Leaves g) ∷ h) may.0
+    (ap (steps_left (passes_for h g) (file_words h)) (home_step (Began (Leaves g)) h g ∙ cond-true _ _ _ (is_itself g)) ∙ leave_left (passes_for h g) (file_words h) (home h g) may.1 may.2)
+    ((may.0, may.1, refl), good)
 
 shift_happens : (h : History) (g : Vcpu) (hart : ℕ) → refusal h (Shift g.vm g.number hart) ≡ None → IsHistory h → IsHistory (whole_move h (Shifts g hart))
+unfolding passes_of
 shift_happens h g hart e good =
     let may = shift_allowed h g.vm g.number hart e in
-    steps_happen (shift_steps (file_words h)) g (Began (Shifts g hart) ∷ h) may.0
-    (ap (steps_left (file_words h)) (home_step (Began (Shifts g hart)) h g ∙ cond-true _ _ _ (is_itself g)) ∙ shift_left (file_words h) hart (free_file h (home h) hart) (home h g) may.1 may.2 may.3)
-    ((may.0, may.1), good)
+    steps_happen (shift_steps (file_words h) + passes_for h g) g (Began (Shifts g hart) ∷ h) may.0
+    (ap (steps_left (passes_for h g) (file_words h)) (home_step (Began (Shifts g hart)) h g ∙ cond-true _ _ _ (is_itself g)) ∙ shift_left (passes_for h g) (file_words h) hart (free_file h (home h) hart) (home h g) may.1 may.2 may.3)
+    ((may.0, may.1, may.4), good)
 
 -- ---- what a script does is such a history
 
@@ -142,9 +187,9 @@ pub line_happens : (h : History) (line : Line) → refusal h line ≡ None → I
 line_happens h (Arrive vm number hart) e good = arrive_happens h (vcpu vm number) hart e good
 line_happens h (Leave vm number) e good = leave_happens h (vcpu vm number) e good
 line_happens h (Shift vm number hart) e good = shift_happens h (vcpu vm number) hart e good
-line_happens h (BeginArrive vm number hart) e good = let may = arrive_allowed h vm number hart e in ((may.0, may.1), good)
-line_happens h (BeginLeave vm number) e good = let may = leave_allowed h vm number e in ((may.0, may.1), good)
-line_happens h (BeginShift vm number hart) e good = let may = shift_allowed h vm number hart e in ((may.0, may.1), good)
+line_happens h (BeginArrive vm number hart) e good = let may = arrive_allowed h vm number hart e in ((may.0, may.1, may.4), good)
+line_happens h (BeginLeave vm number) e good = let may = leave_allowed h vm number e in ((may.0, may.1, refl), good)
+line_happens h (BeginShift vm number hart) e good = let may = shift_allowed h vm number hart e in ((may.0, may.1, may.4), good)
 line_happens h (Step vm number) e good = let may = step_allowed h vm number e in step_happens (vcpu vm number) h may.0 may.1 good
 line_happens h (Land vm k) e good = (land_allowed h vm k e, good)
 line_happens h line e good = (e, good)
@@ -159,21 +204,46 @@ stands_stepped (suc count) g h stands = stands_stepped count g (step_taken g h) 
 -- after an accepted line a machine stands
 pub stands_then : (h : History) (line : Line) → refusal h line ≡ None → has_machine (line_taken h line) ≡ true
 stands_then h (Machine harts guests n sources) e = refl
-stands_then h (Arrive vm number hart) e = stands_stepped (arrive_steps (file_words h)) (vcpu vm number) _ (not-false _ (machine_stands h (Arrive vm number hart) e))
-stands_then h (Leave vm number) e = stands_stepped (leave_steps (file_words h)) (vcpu vm number) _ (not-false _ (machine_stands h (Leave vm number) e))
-stands_then h (Shift vm number hart) e = stands_stepped (shift_steps (file_words h)) (vcpu vm number) _ (not-false _ (machine_stands h (Shift vm number hart) e))
+stands_then h (Arrive vm number hart) e = stands_stepped (arrive_steps (file_words h) + passes_for h (vcpu vm number)) (vcpu vm number) _ (not-false _ (machine_stands h (Arrive vm number hart) e))
+stands_then h (Leave vm number) e = stands_stepped (leave_steps (file_words h) + passes_for h (vcpu vm number)) (vcpu vm number) _ (not-false _ (machine_stands h (Leave vm number) e))
+stands_then h (Shift vm number hart) e = stands_stepped (shift_steps (file_words h) + passes_for h (vcpu vm number)) (vcpu vm number) _ (not-false _ (machine_stands h (Shift vm number hart) e))
 stands_then h (Step vm number) e = stands_first (vcpu vm number) h (not-false _ (machine_stands h (Step vm number) e))
 stands_then h line e = not-false _ (machine_stands h line e)
 
-msis_happen : (sent : List Msi) (h : History) → has_machine h ≡ true → IsHistory h → IsHistory (delivered sent h)
-msis_happen [] h stands good = good
-msis_happen (msi ∷ later) h stands good = msis_happen later (Delivered msi ∷ h) stands (stands, good)
+same_reach : (msi : Msi) (h : History) (p : ℕ) → (pass_reach (Delivered msi ∷ h) p ≡ pass_reach h p) × (passes_of (Delivered msi ∷ h) ≡ passes_of h)
+unfolding passes_of home
+same_reach msi h p = (refl, refl)
+
+-- an MSI is delivered, and given on where its pass reaches memory
+pub msi_by_pass : (P : History → Type 0) (msi : Msi) (h : History) → P (Delivered msi ∷ h)
+    → ((p : ℕ) → passed_by h msi.source ≡ Some p → pass_reach (Delivered msi ∷ h) p ≡ None → P (Relayed p ∷ Delivered msi ∷ h)) → P (msi_taken msi h)
+msi_by_pass P msi h file memory = by_pass (passed_by h msi.source) refl
+  where
+    by_reach : (p : ℕ) (o : Option Place) → passed_by h msi.source ≡ Some p → pass_reach (Delivered msi ∷ h) p ≡ o → P (if is_none o then Relayed p ∷ Delivered msi ∷ h else Delivered msi ∷ h)
+    by_reach p None e r = memory p e r
+    by_reach p (Some q) e r = file
+
+    by_pass : (o : Option ℕ) → passed_by h msi.source ≡ o → P (given_on o (Delivered msi ∷ h))
+    by_pass None e = file
+    by_pass (Some p) e = by_reach p (pass_reach (Delivered msi ∷ h) p) e refl
+
+pub given_happens : (p : ℕ) (msi : Msi) (h : History) → passed_by h msi.source ≡ Some p → pass_reach (Delivered msi ∷ h) p ≡ None → IsHistory (Delivered msi ∷ h) → IsHistory (Relayed p ∷ Delivered msi ∷ h)
+given_happens p msi h e r good = ((subst (λ xs. p < length xs) (sym (same_reach msi h p).1) (number_found h msi.source p e), r), good)
+
+pub msi_happens : (h : History) (msi : Msi) → MayHappen h (Delivered msi) → IsHistory h → IsHistory (msi_taken msi h)
+msi_happens h msi may good = msi_by_pass IsHistory msi h (may, good) (λ p e r. given_happens p msi h e r (may, good))
+
+msis_happen : (sent : List Msi) (h : History) → has_machine h ≡ true → AreForwards h sent → IsHistory h → IsHistory (delivered sent h)
+msis_happen [] h stands all good = good
+msis_happen (msi ∷ later) h stands all good = msi_by_pass (λ k. IsHistory (delivered later k)) msi h
+    (msis_happen later (Delivered msi ∷ h) stands (forwards_then msi h later all.1) ((stands, all.0), good))
+    (λ p e r. msis_happen later (Relayed p ∷ Delivered msi ∷ h) stands (forwards_given p (Delivered msi ∷ h) later (forwards_then msi h later all.1)) (given_happens p msi h e r ((stands, all.0), good)))
 
 pub after_happens : (h : History) (line : Line) → IsHistory h → IsHistory (after h line)
 after_happens h line good = subst IsHistory (sym (after_by h line (refusal h line) refl)) (by_refusal (refusal h line) refl)
   where
     by_refusal : (word : Option Answer) → refusal h line ≡ word → IsHistory (history_after word h line)
-    by_refusal None e = msis_happen (msis_sent_by h line) (line_taken h line) (stands_then h line e) (line_happens h line e good)
+    by_refusal None e = msis_happen (msis_sent_by h line) (line_taken h line) (stands_then h line e) (line_forwards h line e good) (line_happens h line e good)
     by_refusal (Some word) e = good
 
 text_happens : (h : History) (text : Parsed) → IsHistory h → IsHistory (after_text h text)
@@ -196,6 +266,7 @@ flights_may (Stepped x ∷ h) good = flights_on h (Stepped x) good.0.2 (flights_
 flights_may (Accepted line ∷ h) good = flights_on h (Accepted line) tt (flights_may h good.1)
 flights_may (Began move ∷ h) good = flights_on h (Began move) tt (flights_may h good.1)
 flights_may (Delivered msi ∷ h) good = flights_on h (Delivered msi) tt (flights_may h good.1)
+flights_may (Relayed p ∷ h) good = flights_on h (Relayed p) tt (flights_may h good.1)
 flights_may (Landed vm k ∷ h) good = flights_on h (Landed vm k) tt (flights_may h good.1)
 
 pub flights_for_one : (h : History) → IsHistory h → AllAreForOne h
@@ -205,6 +276,7 @@ flights_for_one (Accepted line ∷ h) good = sent_on h (Accepted line) tt (fligh
 flights_for_one (Began move ∷ h) good = sent_on h (Began move) tt (flights_for_one h good.1)
 flights_for_one (Stepped x ∷ h) good = sent_on h (Stepped x) tt (flights_for_one h good.1)
 flights_for_one (Delivered msi ∷ h) good = sent_on h (Delivered msi) tt (flights_for_one h good.1)
+flights_for_one (Relayed p ∷ h) good = sent_on h (Relayed p) tt (flights_for_one h good.1)
 flights_for_one (Landed vm k ∷ h) good = sent_on h (Landed vm k) tt (flights_for_one h good.1)
 
 pub flying_there : (h : History) (vm k : ℕ) (s : Sending) → IsHistory h → flying h vm k ≡ Some s → has_vcpu h (sent_to vm s) ≡ true

@@ -1,7 +1,7 @@
 -- What holds where a line is not refused: no word's cell.
-use Rattle.std.proofs.Common.{length, nat_lt, ◌≡◌, ℕ, ◌+◌, ◌%◌, ◌<◌, ◌≤◌, Bool, true, false, not, ◌&&◌, cond, nat_eq, is_none, Option, Some, None, refl}
-use Rattle.std.proofs.lemmas.Bool.{and_parts, or_parts, not-false, ltb-false, ltb-true}
-use Rattle.aia_regs.specs.declared.limits.TheConstants.{VCPUS}
+use Rattle.std.proofs.Common.{length, nat_lt, nat_le, ◌||◌, ◌≡◌, ℕ, ◌+◌, ◌%◌, ◌<◌, ◌≤◌, Bool, true, false, not, ◌&&◌, cond, nat_eq, is_none, Option, Some, None, refl}
+use Rattle.std.proofs.lemmas.Bool.{and_parts, or_parts, not-false, ltb-false, ltb-true, leb-false}
+use Rattle.aia_regs.specs.declared.limits.TheConstants.{VCPUS, PASSES}
 use Rattle.aia_regs.specs.declared.access.Csr.{Csr}
 use Rattle.aia_regs.specs.declared.access.Op.{Op}
 use Rattle.aia_home.specs.Vms.{vcpu, vcpus_in}
@@ -10,12 +10,17 @@ use Rattle.aia_model.specs.declared.line.Line.{Line}
 use Rattle.aia_model.specs.declared.line.Line.TheVariants.{Send, Land, Machine, GuestCsr, Ipi, Arrive, Leave, Shift, Step}
 use Rattle.aia_model.specs.declared.line.Line.TheVariants as lines
 use Rattle.aia_model.specs.declared.answer.Answer.{Answer}
-use Rattle.aia_model.specs.Event.{History, has_machine, has_hart}
+use Rattle.aia_model.specs.Event.{History, has_machine, has_hart, greatest_identity_of, sources_of}
+use Rattle.std.specs.Int.{is_in_range}
+use Rattle.aia_model.specs.Passes.{passes_of, is_passed}
+use Rattle.aia_model.specs.Passable.{is_passable, redirects}
+use Rattle.aia_model.specs.Sent.{acts_of}
+use Rattle.aia_model.specs.FileOf.{page_at}
 use Rattle.aia_model.specs.Vms.{vms_of, has_vm, has_vcpu}
 use Rattle.aia_model.specs.HomeOf.{home, free_file}
 use Rattle.aia_model.specs.GuestFile.{named_by}
 use Rattle.aia_model.specs.Flight.{flight}
-use Rattle.aia_model.specs.Refusal.{refusal, lacks_machine, is_machine_size, is_vm_size, lacks_room}
+use Rattle.aia_model.specs.Refusal.{refusal, guards, is_fault, lacks_machine, is_machine_size, is_vm_size, lacks_room}
 
 -- a word that does not refuse is passed: its cell does not hold, and no later word refuses
 passed : (cell : Bool) (word : Answer) (later : Option Answer) → cond cell (Some word) later ≡ None → (cell ≡ false) × (later ≡ None)
@@ -37,15 +42,57 @@ vm_allowed h vcpus mask hart e =
     let room = passed (lacks_room (vms_of h) vcpus) _ _ sized.1 in
     ltb-false VCPUS (vcpus_in (vms_of h) + vcpus) (or_parts _ _ room.0).1
 
+pub notice_hart_allowed : (h : History) (vcpus mask hart : ℕ) → refusal h (lines.Vm vcpus mask hart) ≡ None → has_hart h hart ≡ true
+notice_hart_allowed h vcpus mask hart e =
+    let stands = passed (not (has_machine h)) _ _ e in
+    (and_parts (is_vm_size vcpus mask) (has_hart h hart) (not-false _ (passed (not (is_vm_size vcpus mask && has_hart h hart)) _ _ stands.1).0)).1
+
+-- a source that is passed is there and was not passed, MSIs to guests may be made of it, and its
+-- virtual hart is there, at rest
+pub record PassAllowed (h : History) (source vm number identity : ℕ) : Type 0 where
+  pub there : has_vcpu h (vcpu vm number) ≡ true
+  pub identity_there : is_in_range 1 (greatest_identity_of h) identity ≡ true
+  pub few : length (passes_of h) < PASSES
+  pub rests : is_moving (home h (vcpu vm number)) ≡ false
+  pub fresh : is_passed h source ≡ false
+  pub ready : is_passable (acts_of h) source ≡ true
+
+pub pass_allowed : (h : History) (source vm number identity : ℕ) → refusal h (lines.Pass source vm number identity) ≡ None → PassAllowed h source vm number identity
+pass_allowed h source vm number identity e =
+    let stands = passed (not (has_machine h)) _ _ e in
+    let there = passed _ _ _ stands.1 in
+    let room = passed (nat_le PASSES (length (passes_of h))) _ _ there.1 in
+    let idle = passed (is_moving (home h (vcpu vm number))) _ _ room.1 in
+    let fresh = passed (is_passed h source) _ _ idle.1 in
+    let ready = passed (not (is_passable (acts_of h) source)) _ _ fresh.1 in
+    let all = and_parts (is_in_range 1 (sources_of h) source && has_vcpu h (vcpu vm number)) _ (not-false _ there.0) in
+    record {
+      there = (and_parts (is_in_range 1 (sources_of h) source) (has_vcpu h (vcpu vm number)) all.0).1;
+      identity_there = all.1;
+      few = leb-false PASSES (length (passes_of h)) room.0;
+      rests = idle.0;
+      fresh = fresh.0;
+      ready = not-false _ ready.0;
+    }
+
+-- a store does not redirect the MSIs of passed sources
+pub store_allowed : (h : History) (addr value : ℕ) → refusal h (lines.Store addr value) ≡ None → redirects h addr value ≡ false
+store_allowed h addr value e =
+    let stands = passed (not (has_machine h)) _ _ e in
+    let sound = passed (is_fault h (lines.Store addr value)) _ _ stands.1 in
+    let free = passed (guards (page_at h addr) addr || redirects h addr value) _ _ sound.1 in
+    (or_parts (guards (page_at h addr) addr) (redirects h addr value) free.0).1
+
 pub arrive_allowed : (h : History) (vm number hart : ℕ) → refusal h (Arrive vm number hart) ≡ None
-    → (has_vcpu h (vcpu vm number) ≡ true) × (is_moving (home h (vcpu vm number)) ≡ false) × (is_resident (home h (vcpu vm number)) ≡ false) × (is_none (free_file h (home h) hart) ≡ false)
+    → (has_vcpu h (vcpu vm number) ≡ true) × (is_moving (home h (vcpu vm number)) ≡ false) × (is_resident (home h (vcpu vm number)) ≡ false) × (is_none (free_file h (home h) hart) ≡ false) × (has_hart h hart ≡ true)
 arrive_allowed h vm number hart e =
     let stands = passed (not (has_machine h)) _ _ e in
     let there = passed (not (has_vcpu h (vcpu vm number) && has_hart h hart)) _ _ stands.1 in
     let idle = passed (is_moving (home h (vcpu vm number))) _ _ there.1 in
     let away = passed (is_resident (home h (vcpu vm number))) _ _ idle.1 in
     let free = passed (is_none (free_file h (home h) hart)) _ _ away.1 in
-    ((and_parts (has_vcpu h (vcpu vm number)) (has_hart h hart) (not-false _ there.0)).0, idle.0, away.0, free.0)
+    let both = and_parts (has_vcpu h (vcpu vm number)) (has_hart h hart) (not-false _ there.0) in
+    (both.0, idle.0, away.0, free.0, both.1)
 
 pub leave_allowed : (h : History) (vm number : ℕ) → refusal h (Leave vm number) ≡ None
     → (has_vcpu h (vcpu vm number) ≡ true) × (is_moving (home h (vcpu vm number)) ≡ false) × (is_parked (home h (vcpu vm number)) ≡ false)
@@ -57,14 +104,15 @@ leave_allowed h vm number e =
     (not-false _ there.0, idle.0, kept.0)
 
 pub shift_allowed : (h : History) (vm number hart : ℕ) → refusal h (Shift vm number hart) ≡ None
-    → (has_vcpu h (vcpu vm number) ≡ true) × (is_moving (home h (vcpu vm number)) ≡ false) × (is_parked (home h (vcpu vm number)) ≡ false) × (is_none (free_file h (home h) hart) ≡ false)
+    → (has_vcpu h (vcpu vm number) ≡ true) × (is_moving (home h (vcpu vm number)) ≡ false) × (is_parked (home h (vcpu vm number)) ≡ false) × (is_none (free_file h (home h) hart) ≡ false) × (has_hart h hart ≡ true)
 shift_allowed h vm number hart e =
     let stands = passed (not (has_machine h)) _ _ e in
     let there = passed (not (has_vcpu h (vcpu vm number) && has_hart h hart)) _ _ stands.1 in
     let idle = passed (is_moving (home h (vcpu vm number))) _ _ there.1 in
     let kept = passed (is_parked (home h (vcpu vm number))) _ _ idle.1 in
     let free = passed (is_none (free_file h (home h) hart)) _ _ kept.1 in
-    ((and_parts (has_vcpu h (vcpu vm number)) (has_hart h hart) (not-false _ there.0)).0, idle.0, kept.0, free.0)
+    let both = and_parts (has_vcpu h (vcpu vm number)) (has_hart h hart) (not-false _ there.0) in
+    (both.0, idle.0, kept.0, free.0, both.1)
 
 pub step_allowed : (h : History) (vm number : ℕ) → refusal h (Step vm number) ≡ None → (has_vcpu h (vcpu vm number) ≡ true) × (is_moving (home h (vcpu vm number)) ≡ true)
 step_allowed h vm number e =

@@ -103,7 +103,7 @@ some_passes h s e = by_pass (pass_of h s) refl e
     by_pass None is e = absurd (cc)
     by_pass (Some p) is e = let found = least_of_is (λ q. nat_eq (nth_pass h q).source s) 0 (length (passes_of h)) p is in let high = found.1 in lt-ltb 0 (length (passes_of h)) (omega (arith, high))
 
-another : (h : History) (i s : ℕ) → is_passed h s ≡ true → is_passed h i ≡ false → nat_eq i s ≡ false
+pub another : (h : History) (i s : ℕ) → is_passed h s ≡ true → is_passed h i ≡ false → nat_eq i s ≡ false
 another h i s passed free = elim (cases_Bool (nat_eq i s)) [
   | inl same ↦ absurd (false≢true (sym free ∙ ap (is_passed h) (eqb-true i s same) ∙ passed))
   | inr other ↦ other

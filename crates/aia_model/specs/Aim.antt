@@ -3,14 +3,14 @@ use Rattle.std.specs.Prelude.{◌≡◌, ℕ, false, if◌then◌else◌, length
 use Rattle.aia_regs.specs.AddressMap.{supervisor_page, guest_page}
 use Rattle.aia_home.specs.declared.place.Place.{Place}
 use Rattle.aia_home.specs.Vms.{Vcpu, vcpu, notice_hart}
-use Rattle.aia_home.specs.Home.{Home, is_moving}
+use Rattle.aia_home.specs.Home.{is_moving}
 use Rattle.aia_home.specs.Aims.{is_aiming, aims_done, aimed, pass_reaches, target_to, host_identity, AreAimed}
 use Rattle.aia_model.specs.declared.line.Line.TheVariants as lines
 use Rattle.aia_model.specs.declared.msi.Msi.{Msi}
 use Rattle.aia_model.specs.Event.{Event, History}
 use Rattle.aia_model.specs.Event.Event.{Accepted, Stepped}
 use Rattle.aia_model.specs.Vms.{vms_of}
-use Rattle.aia_model.specs.Passes.{Pass, passes_of, nth_pass, passes_for, own_pass, rank_of}
+use Rattle.aia_model.specs.Passes.{passes_of, nth_pass, passes_for, own_pass, rank_of}
 use Rattle.aia_model.specs.HomeOf.{home}
 use Rattle.aia_model.specs.Act.{Act}
 use Rattle.aia_model.specs.Act.Act.{Aimed}
@@ -58,8 +58,8 @@ aim_of h g p =
     Aimed (nth_pass h p).source (target_for h p g (nth_pass h p).identity
     (pass_reaches (aims_done (home h g)) (aimed (home h g))))
 
--- What an event aims, if it aims a source: a pass the one that it passes, where its virtual hart is;
--- a step of a move the next one of its virtual hart's, where it is a step that aims.
+-- What an event aims, if it aims a source: a pass the one that it passes, where its virtual hart
+-- is; a step of a move the next one of its virtual hart's, where it is a step that aims.
 abbrev pub aimed_by : History → Event → Option Act
 aimed_by past (Accepted (lines.Pass source vm number identity)) =
     Some (Aimed source (target_for past (length (passes_of past)) (vcpu vm number) identity

@@ -8,4 +8,4 @@ pub returns-clause-stays : goal.returns-clause-stays
 returns-clause-stays c = stays_pending
 
 pub returns-clause-unasked : goal.returns-clause-unasked
-returns-clause-unasked c = none_unasked
+returns-clause-unasked c = λ h line g i stands one still. none_unasked h line g i stands still one

@@ -1,0 +1,110 @@
+-- Where a passed source leads, as its virtual hart is moved: only its own aim changes it.
+use Rattle.std.proofs.Common.{◌≡◌, ◌+◌, ◌||◌, ℕ, Bool, true, false, cond, if◌then◌else◌, nat_eq, nat_lt, Option, Some, None, inl, inr, refl, sym, ap, ◌∙◌, arith}
+use Rattle.std.specs.Option.{option_map_or}
+use Rattle.std.proofs.lemmas.Bool.{cases_Bool, or_right, cond-false}
+use Rattle.std.proofs.lemmas.Bool.Decides.{nat_tests}
+use Rattle.aia_home.specs.declared.place.Place.{Place}
+use Rattle.aia_home.specs.Home.{Home, is_place, holds, ended, one_more, leaving, arriving, shifting}
+use Rattle.aia_home.specs.Home.Home.{Parked, Resident, Leaving, Arriving, Shifting}
+use Rattle.aia_home.specs.Plans.{is_at_last, stepped}
+use Rattle.aia_home.specs.BySteps.{new_file}
+use Rattle.aia_home.specs.Routes.{origin}
+use Rattle.aia_home.specs.Aims.{aims_done, is_aiming, aimed, further, pass_reaches, AreAimed}
+use Rattle.aia_home.proofs.HomeLemmas.{some_same}
+use Rattle.aia_model.specs.HomeOf.{place}
+
+none_below : (r : ℕ) → nat_lt r 0 ≡ false
+none_below r = grind (arith, nat_tests)
+
+-- ---- a move begins
+
+pub leaving_passes : (r : ℕ) (there : Home) → pass_reaches r (leaving there) ≡ pass_reaches r there
+leaving_passes r Parked = refl
+leaving_passes r (Resident p) = refl
+leaving_passes r (Leaving from at) = refl
+leaving_passes r (Arriving to at) = refl
+leaving_passes r (Shifting from to at) = refl
+
+pub arriving_passes : (r : ℕ) (q : Place) (there : Home) → pass_reaches r (arriving q there) ≡ pass_reaches r there
+arriving_passes r q Parked = rw (none_below r) refl
+arriving_passes r q (Resident p) = refl
+arriving_passes r q (Leaving from at) = refl
+arriving_passes r q (Arriving to at) = refl
+arriving_passes r q (Shifting from to at) = refl
+
+pub shifting_passes : (r : ℕ) (q : Place) (there : Home) → pass_reaches r (shifting q there) ≡ pass_reaches r there
+shifting_passes r q Parked = refl
+shifting_passes r q (Resident p) = rw (none_below r) refl
+shifting_passes r q (Leaving from at) = refl
+shifting_passes r q (Arriving to at) = refl
+shifting_passes r q (Shifting from to at) = refl
+
+pub arrives_passes : (r hart : ℕ) (file : Option ℕ) (there : Home) → pass_reaches r (option_map_or (λ f. arriving (place hart f) there) file there) ≡ pass_reaches r there
+arrives_passes r hart None there = refl
+arrives_passes r hart (Some f) there = arriving_passes r (place hart f) there
+
+pub shifts_passes : (r hart : ℕ) (file : Option ℕ) (there : Home) → pass_reaches r (option_map_or (λ f. shifting (place hart f) there) file there) ≡ pass_reaches r there
+shifts_passes r hart None there = refl
+shifts_passes r hart (Some f) there = shifting_passes r (place hart f) there
+
+-- ---- a step that aims none
+
+one_more_passes : (r : ℕ) (there : Home) → pass_reaches r (one_more there) ≡ pass_reaches r there
+one_more_passes r Parked = refl
+one_more_passes r (Resident p) = refl
+one_more_passes r (Leaving from at) = refl
+one_more_passes r (Arriving to at) = refl
+one_more_passes r (Shifting from to at) = refl
+
+-- at the last step all are aimed
+ended_passes : (passes words r : ℕ) (there : Home) → nat_lt r passes ≡ true → AreAimed passes there → is_at_last words there ≡ true → pass_reaches r (ended there) ≡ pass_reaches r there
+ended_passes passes words r Parked below a last = absurd (cc)
+ended_passes passes words r (Resident p) below a last = absurd (cc)
+ended_passes passes words r (Leaving from at) below a last = let all = a.all (grind (arith, nat_tests)) in let e : nat_lt r at.aims ≡ true = grind (arith, nat_tests) in rw (e, none_below r) refl
+ended_passes passes words r (Arriving to at) below a last = let all = a.all (grind (arith, nat_tests)) in let e : nat_lt r at.aims ≡ true = grind (arith, nat_tests) in rw (e, none_below r) refl
+ended_passes passes words r (Shifting from to at) below a last = let all = a.all (grind (arith, nat_tests)) in let e : nat_lt r at.aims ≡ true = grind (arith, nat_tests) in rw (e, none_below r) refl
+
+pub stepped_passes : (passes words r : ℕ) (there : Home) → nat_lt r passes ≡ true → AreAimed passes there → pass_reaches r (stepped words there) ≡ pass_reaches r there
+stepped_passes passes words r there below a = by_last (is_at_last words there) refl
+  where
+    by_last : (b : Bool) → is_at_last words there ≡ b → pass_reaches r (stepped words there) ≡ pass_reaches r there
+    by_last true e = rw e (ended_passes passes words r there below a e)
+    by_last false e = rw e (one_more_passes r there)
+
+pub further_passes : (passes words r : ℕ) (there : Home) → nat_lt r passes ≡ true → AreAimed passes there → is_aiming passes there ≡ false → pass_reaches r (further passes words there) ≡ pass_reaches r there
+further_passes passes words r there below a other = ap (pass_reaches r) (cond-false _ _ _ other) ∙ stepped_passes passes words r there below a
+
+-- ---- a step that aims one
+
+aims_on : (r a : ℕ) → nat_eq r a ≡ false → nat_lt r (a + 1) ≡ nat_lt r a
+aims_on r a other = elim (cases_Bool (nat_lt r a)) [
+  | inl e ↦ let more : nat_lt r (a + 1) ≡ true = grind (arith, nat_tests) in more ∙ sym e
+  | inr e ↦ let more : nat_lt r (a + 1) ≡ false = grind (arith, nat_tests) in more ∙ sym e
+]
+
+pub aimed_other : (r : ℕ) (there : Home) → nat_eq r (aims_done there) ≡ false → pass_reaches r (aimed there) ≡ pass_reaches r there
+aimed_other r Parked other = refl
+aimed_other r (Resident p) other = refl
+aimed_other r (Leaving from at) other = ap (λ b. if b then None else Some from) (aims_on r at.aims other)
+aimed_other r (Arriving to at) other = ap (λ b. if b then Some to else None) (aims_on r at.aims other)
+aimed_other r (Shifting from to at) other = ap (λ b. if b then Some to else Some from) (aims_on r at.aims other)
+
+-- ---- it leads to no guest file that its virtual hart does not hold
+
+pub reach_is_held : (r : ℕ) (there : Home) (q : Place) → pass_reaches r there ≡ Some q → holds q there ≡ true
+reach_is_held r there q e = by_test (nat_lt r (aims_done there)) there e
+  where
+    from_or : (from to : Place) (b : Bool) → ◌≡◌ {A = Option Place} (cond b (Some to) (Some from)) (Some q) → (is_place q from || is_place q to) ≡ true
+    from_or from to true e = or_right (is_place q from) (is_place q to) (some_same to q e)
+    from_or from to false e = ap (λ b. b || is_place q to) (some_same from q e)
+
+    by_test : (b : Bool) (there : Home) → (if b then new_file there else origin there) ≡ Some q → holds q there ≡ true
+    by_test true Parked e = absurd (cc)
+    by_test false Parked e = absurd (cc)
+    by_test true (Resident p) e = absurd (cc)
+    by_test false (Resident p) e = some_same p q e
+    by_test true (Leaving from at) e = absurd (cc)
+    by_test false (Leaving from at) e = some_same from q e
+    by_test true (Arriving to at) e = some_same to q e
+    by_test false (Arriving to at) e = absurd (cc)
+    by_test b (Shifting from to at) e = from_or from to b e
