@@ -248,9 +248,9 @@ no_move x vm number want none = move_answered x x vm number want (Refused words.
 
 -- it stands for some history still
 begun_happens : (word : Option Answer) (h : History) (vm number : ℕ) (want : Want) → refusal h (move_line vm number want) ≡ word → IsHistory h → IsHistory (move_begun word h (wanted_move (vcpu vm number) want))
-begun_happens None h vm number wants.Leave e good = let may = leave_allowed h vm number e in ((may.0, may.1), good)
-begun_happens None h vm number (wants.Arrive hart) e good = let may = arrive_allowed h vm number hart e in ((may.0, may.1), good)
-begun_happens None h vm number (wants.Shift hart) e good = let may = shift_allowed h vm number hart e in ((may.0, may.1), good)
+begun_happens None h vm number wants.Leave e good = let may = leave_allowed h vm number e in ((may.0, may.1, refl), good)
+begun_happens None h vm number (wants.Arrive hart) e good = let may = arrive_allowed h vm number hart e in ((may.0, may.1, may.4), good)
+begun_happens None h vm number (wants.Shift hart) e good = let may = shift_allowed h vm number hart e in ((may.0, may.1, may.4), good)
 begun_happens (Some word) h vm number want e good = good
 
 pub begins_still : (x y : CoreState) (vm number : ℕ) (want : Want) (given : Answer) → MoveBegins x y vm number want given → StandsForSome x → StandsForSome y

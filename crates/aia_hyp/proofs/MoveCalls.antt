@@ -27,9 +27,11 @@ use Rattle.aia_move.specs.declared.plan.Next.TheVariants.{Again, Finished}
 use Rattle.aia_move.specs.declared.turn.Outcome.{Outcome}
 use Rattle.aia_move.specs.Move.{Moving, mover, width, Fits, MakesNext, Goes}
 use Rattle.aia_move.specs.Plan.{moving_of, IsInPhase, MatchNext, GoesAiming, StepsTo}
-use Rattle.aia_move.specs.Turns.{EndsAs}
+use Rattle.aia_move.specs.Turns.{EndsAs, GivesBack}
+use Rattle.aia_move.proofs.LandingLemmas.{landed_whole}
 use Rattle.aia_model.specs.declared.answer.Answer.{Answer}
-use Rattle.aia_model.specs.Event.{History, file_words}
+use Rattle.aia_model.specs.Event.{History, Shape, file_words}
+use Rattle.std.specs.Option.{option_map_or}
 use Rattle.aia_model.specs.Event.Event.{Stepped}
 use Rattle.aia_model.specs.Vms.{vms_of, has_vcpu}
 use Rattle.aia_model.specs.HomeOf.{home}
@@ -53,7 +55,7 @@ use Rattle.aia_hyp.proofs.LeaseLemmas.{in_pool}
 use Rattle.aia_home.specs.Aims.{is_aiming, aims_done, aimed}
 use Rattle.aia_home.proofs.PassLemmas.{aim_is_no_fence}
 use Rattle.aia_model.specs.Passes.{Pass, passes_of, passes_to, passes_for}
-use Rattle.aia_move.specs.Targets.{Aim, aims, aim_if, next_aim}
+use Rattle.aia_move.specs.Targets.{TargetMap, AimsOne, Aim, AimsAs, aims, aim_if, next_aim}
 use Rattle.aia_hyp.proofs.OwnPasses.{aims_alike}
 use Rattle.aia_hyp.proofs.AimLines.{AimOf, aim_stands, later_moves, aim_is_not_last}
 use Rattle.aia_hyp.proofs.MoveSteps as steps
@@ -426,6 +428,81 @@ module _ (x y : CoreState) (who : Found) (plan later : Plan) (c : Aims x y who p
             subst (λ b. MakesOneBy (aim_if b (moving_of other)) x.world (moving_of other) y.world) (sym c.aiming ∙ ap (λ (p : Plan). aims (moving_of p)) is) c.goes.world;
       }
 
+-- ---- a step, of either kind
+
+-- What a step's calls say.
+pub record StepCalls (x y : CoreState) (who : Found) (plan : Plan) (next : Next) : Type 0 where
+  pub is_who : IsFound x.world who
+  pub some : StandsForSome x
+  pub was : stays.Moving plan ≡ (get_or x.vcpus who.slot no_record).stay
+  pub between : List VcpuRecord
+  pub other : Stay
+  pub out : between ≡ set x.vcpus who.slot (at_stay (get_or x.vcpus who.slot no_record) other)
+  pub back : y.vcpus ≡ set between who.slot (at_stay (get_or between who.slot no_record) (stay_then next))
+  pub selects : y.selects ≡ x.selects
+  pub passes : y.passes ≡ x.passes
+  pub whole : IsWhole x.world
+  pub whole_then : IsWhole y.world
+  pub one : 1 ≤ width x.world
+  pub leases : y.leases ≡ with_back (back_then next) x.leases
+  pub goes : StepsTo (next_aim (moving_of plan)) x.world (moving_of plan) y.world next
+  pub fits : MatchNext next (λ p. Fits y.world (moving_of p)) (λ o. Unit {0})
+  pub phase : MatchNext next (λ p. IsInPhase (width y.world) p) (λ o. Unit {0})
+
+module _ (x y : CoreState) (who : Found) (plan : Plan) where
+  -- it aims
+  by_aim : (next : Next) → StepCalls x y who plan next → aims (moving_of plan) ≡ true → MatchNext next (λ p. GoesAiming x.world (moving_of plan) y.world (moving_of p)) (λ o. ⊥) → MoveGoes x y (vcpu who.vm who.vcpu) (is_finished next)
+  by_aim (Again later) c aiming goes = aim_goes x y who plan later (record {
+    swapped = record { is_who = c.is_who; some = c.some; between = c.between; other = c.other; before = c.was; out = c.out; back = c.back; selects = c.selects; passes = c.passes };
+    some = c.one;
+    aiming = aiming;
+    leases = c.leases;
+    goes = goes;
+    fits = c.fits;
+    phase = c.phase;
+  })
+  by_aim (Finished o) c aiming goes = absurd goes
+
+  -- it makes an access
+  by_access : (next : Next) → StepCalls x y who plan next → aims (moving_of plan) ≡ false → OnceLanded x.world (moving_of plan) (λ landed. MatchNext next (λ p. Goes landed (moving_of plan) y.world (moving_of p)) (λ o. EndsAs landed (moving_of plan) y.world o)) → MoveGoes x y (vcpu who.vm who.vcpu) (is_finished next)
+  by_access next c unaimed once =
+      let landed = once.landed in
+      let first : IsFirst x landed who plan = record {
+        is_who = c.is_who;
+        was = sym (c.was ∙ ap (λ q. (get_or x.vcpus q no_record).stay) c.is_who.slot);
+        low = vm_low x who c.whole c.is_who;
+        first = once.first;
+      } in
+      landed_goes x landed y who plan (is_finished next) unaimed first
+      (step_goes (once_landed x landed) y who plan next (record {
+        swapped = record {
+          is_who = landed_who x landed who plan first;
+          some = landed_some x landed who plan first c.some;
+          between = c.between;
+          other = c.other;
+          before = c.was;
+          out = c.out;
+          back = c.back;
+          selects = c.selects;
+          passes = c.passes;
+        };
+        first = lands_first (vcpu who.vm who.vcpu) c.some.past;
+        unaimed = unaimed;
+        whole = landed_whole x.world (moving_of plan) landed c.whole once.first;
+        whole_then = c.whole_then;
+        leases = c.leases;
+        goes = once.then;
+        fits = c.fits;
+        phase = c.phase;
+      }))
+
+  pub step_called : (next : Next) → StepCalls x y who plan next → MoveGoes x y (vcpu who.vm who.vcpu) (is_finished next)
+  step_called next c = by_kind (aims (moving_of plan)) refl
+    where
+      by_kind : (b : Bool) → aims (moving_of plan) ≡ b → MoveGoes x y (vcpu who.vm who.vcpu) (is_finished next)
+      by_kind true e = by_aim next c e (subst (λ b. StepsTo (aim_if b (moving_of plan)) x.world (moving_of plan) y.world next) e c.goes)
+      by_kind false e = by_access next c e (subst (λ b. StepsTo (aim_if b (moving_of plan)) x.world (moving_of plan) y.world next) e c.goes)
+
 -- it stands for some history still
 pub goes_still : (x y : CoreState) (who : Found) (last : Bool) → MoveGoes x y (vcpu who.vm who.vcpu) last → StandsForSome x → IsFound x.world who
     → is_moving (home_in (record_of x (vcpu who.vm who.vcpu)).stay) ≡ true → StandsForSome y
@@ -442,9 +519,9 @@ goes_still x y who last goes some is moving =
 
 -- it is one that is there, and out
 pub back_known : (x : CoreState) (u : World) (who : Found) (plan : Plan) (next : Next) → StandsForSome x → IsFound x.world who → stays.Moving plan ≡ (get_or x.vcpus who.slot no_record).stay
-    → OnceLanded x.world (moving_of plan) (λ landed. MatchNext next (λ p. Goes landed (moving_of plan) u (moving_of p)) (λ o. EndsAs landed (moving_of plan) u o)) → IsOutThere x.leases (back_then next)
+    → StepsTo (next_aim (moving_of plan)) x.world (moving_of plan) u next → IsOutThere x.leases (back_then next)
 back_known x u who plan (Again later) some is was c = tt
-back_known x u who plan (Finished o) some is was c = by_file (back_of o) refl
+back_known x u who plan (Finished o) some is was c = by_kind (aims (moving_of plan)) (subst (λ b. StepsTo (aim_if b (moving_of plan)) x.world (moving_of plan) u (Finished o)) refl c)
   where
     inside : has_vcpu some.past (vcpu who.vm who.vcpu) ≡ true
     inside = subst (λ (vs : List Vm). is_vcpu_in vs (vcpu who.vm who.vcpu) ≡ true) some.stands.vms is.there
@@ -452,12 +529,16 @@ back_known x u who plan (Finished o) some is was c = by_file (back_of o) refl
     same : (moving_of plan).home ≡ home some.past (vcpu who.vm who.vcpu)
     same = ap home_in (was ∙ ap (λ q. (get_or x.vcpus q no_record).stay) is.slot) ∙ (some.stands.vcpus (vcpu who.vm who.vcpu) inside).same_home
 
-    by_file : (back : Option Place) → back_of o ≡ back → IsOutThere x.leases back
-    by_file None e = tt
-    by_file (Some p) e =
-        let mine : holds p (home some.past (vcpu who.vm who.vcpu)) ≡ true = ap (holds p) (sym same) ∙ ended_held p (moving_of plan).home (sym (ended_back o (moving_of plan).home (moving_of plan).hand c.then.gives) ∙ e) in
+    by_file : (back : Option Place) → GivesBack o (moving_of plan).home (moving_of plan).hand → back_of o ≡ back → IsOutThere x.leases back
+    by_file None gives e = tt
+    by_file (Some p) gives e =
+        let mine : holds p (home some.past (vcpu who.vm who.vcpu)) ≡ true = ap (holds p) (sym same) ∙ ended_held p (moving_of plan).home (sym (ended_back o (moving_of plan).home (moving_of plan).hand gives) ∙ e) in
         let there = some.stands.held (vcpu who.vm who.vcpu) p inside mine in
         (in_pool x some.past p some.stands there, some.stands.leases p there ∙ any_vcpu (vms_of some.past) (λ z. holds p (home some.past z)) (vcpu who.vm who.vcpu) inside mine)
+
+    by_kind : (b : Bool) → StepsTo (aim_if b (moving_of plan)) x.world (moving_of plan) u (Finished o) → IsOutThere x.leases (back_of o)
+    by_kind true goes = absurd goes
+    by_kind false once = by_file (back_of o) once.then.gives refl
 
 -- ---- who is moved
 
@@ -469,3 +550,14 @@ who_still x y who last goes some is =
       slot = is.slot ∙ ap (λ vs. slot_of vs (vcpu who.vm who.vcpu)) vms;
       notice = is.notice ∙ ap (λ vs. notice_hart vs (vcpu who.vm who.vcpu)) vms;
     }
+
+-- ---- the machine
+
+pub harts_still : (x y : CoreState) (g : Vcpu) (last : Bool) → MoveGoes x y g last → StandsForSome x → y.world.imsic.harts ≡ x.world.imsic.harts
+harts_still x y g last goes some =
+    (goes.stands some.past some.stands).harts ∙ ap (λ (o : Option Shape). option_map_or (λ (m : Shape). m.harts) o 0) (same_first g some.past).1 ∙ sym some.stands.harts
+
+-- an aim leaves how many harts the targets have
+pub told_harts : {T : Type 0} (aim : T → ℕ → ℕ → T → Type 0) (map : T → TargetMap) (one : (old new : T) (source target : ℕ) → aim old source target new → AimsOne (map old) source target (map new)) (o : Option Aim) (old new : T) → AimsAs aim o old new → (map new).harts ≡ (map old).harts
+told_harts {T} aim map one None old new same = ap (λ t. (map t).harts) same
+told_harts {T} aim map one (Some a) old new done = (one old new a.source a.target done).harts

@@ -157,6 +157,7 @@ impl Hyp {
         ensures harts { self.new.world.imsic.harts ≡ (T.map targets.new).harts }
     {
         let _whole = self.fabric.words();
+        let _few = self.passes.count();
         let Stay::Moving(plan) = swap_stay(&mut self.vcpus, found.slot, nowhere()) else {
             unreachable!()
         };

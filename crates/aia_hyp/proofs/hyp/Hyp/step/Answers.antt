@@ -1,46 +1,38 @@
-use Rattle.std.proofs.Common.{◌≡◌, true, sym, subst, ◌∙◌}
-use Rattle.aia_move.specs.Move.{IsWho}
+use Rattle.std.proofs.Common.{rules, ◌≡◌, ◌<◌, ◌≤◌, true, false, length, slice_index_or, slice_set, Option, Some, None, IfSome, IfNone, OnOk, ℕ, ◌+◌, ◌-◌, ◌*◌, ◌/◌, ◌%◌, Bool, nat_eq, nat_lt, List, [], ◌∷◌, ◌++◌, bit_and, bit_or, Fits, w8, w32, w64, Bor, MutBor}
+use Rattle.std.specs.Vec.{vec_capacity}
 use Rattle.aia_home.specs.Vms.{vcpu, is_vcpu_in}
+use Rattle.aia_home.specs.Home.{is_moving}
+use Rattle.aia_pool.specs.Leases.{Leases}
 use Rattle.aia_model.specs.declared.line.Line.TheVariants.{Step}
-use Rattle.aia_model.specs.declared.refusal.Refusal.TheVariants.{Idle}
-use Rattle.aia_model.specs.declared.answer.Answer.TheVariants.{Refused}
-use Rattle.aia_move.specs.declared.plan.Plan.{Plan}
+use Rattle.aia_model.specs.declared.answer.Answer.TheVariants.{Okay}
+use Rattle.aia_move.specs.Move.{IsWho}
 use Rattle.aia_move.specs.Plan.{moving_of}
-use Rattle.aia_hyp.specs.declared.vcpu.Stay.TheVariants as stays
-use Rattle.aia_hyp.specs.Core.{CoreState, record_of}
-use Rattle.aia_hyp.specs.Moves.{MakesOne, step_answer}
-use Rattle.aia_hyp.specs.Stands.{StandsForSome, CoreTakes}
-use Rattle.aia_hyp.proofs.MoveLines.{step_taken, step_idle, no_step, moved_now}
+use Rattle.aia_model.specs.Event.{History}
+use Rattle.aia_model.specs.Event.Event.{Stepped}
+use Rattle.aia_model.specs.Aim.{aimed_by}
+use Rattle.aia_model.specs.Refusal.{refusal}
+use Rattle.aia_hyp.specs.Core.{no_kept, no_record, record_of, home_in, has_plan}
+use Rattle.aia_hyp.specs.Passes.{own_passes, AimsBy}
+use Rattle.aia_hyp.specs.Stands.{CoreStands, CoreTakes, answer_by}
+use Rattle.aia_hyp.specs.Moves.{IsFound, UnlessRefused, WholeAims, move_line, begin_line, step_answer, MakesOne, WantBegins, LeaveBegins, ArriveBegins, ShiftBegins, MoveBegins, MoveGoes, stay_after, back_of, with_back, IsOutThere, stay_then, back_then, is_finished}
 use Rattle.aia_hyp.proofs.hyp.Hyp.step.Goals as goal
 
+-- src/moves.rt:113:13
 pub returns-in_default-clause-takes : goal.returns-in_default-clause-takes
-returns-in_default-clause-takes c = rw (← c.self.view_is) (no_step _ c.args.vm c.args.number c.in_default.ensures.none)
+returns-in_default-clause-takes g c = ?
 
-pub is_moved-requires : goal.is_moved-requires
-is_moved-requires c = subst (λ (x : CoreState). is_vcpu_in x.world.vms (vcpu c.in-Some.who.vm c.in-Some.who.vcpu) ≡ true) c.self.view_is c.in-Some.ensures.there.there
-
+-- src/moves.rt:116:13
 pub returns-then-not-is_moved-clause-takes : goal.returns-then-not-is_moved-clause-takes
-returns-then-not-is_moved-clause-takes c =
-    let named = c.in-Some.ensures.named in
-    let who = subst (λ (x : CoreState). IsWho x.world c.in-Some.who) c.self.view_is c.in-Some.ensures.there in
-    subst (λ vm. CoreTakes c.args.self.now c.args.self.now (Step vm c.args.number) (Refused Idle)) named.0
-    (subst (λ number. CoreTakes c.args.self.now c.args.self.now (Step c.in-Some.who.vm number) (Refused Idle)) named.1
-    (step_idle c.args.self.now c.in-Some.who who (sym c.is_moved.ensures ∙ c.if-not-is_moved.true)))
+returns-then-not-is_moved-clause-takes g c = ?
 
+-- src/moves.rt:118:12
 pub step_of-requires-clause-moving : goal.step_of-requires-clause-moving
-step_of-requires-clause-moving c =
-    moved_now c.args.self.now c.in-Some.who (subst (λ (x : CoreState). StandsForSome x) c.self.view_is c.self.invariant.0) (subst (λ (x : CoreState). IsWho x.world c.in-Some.who) c.self.view_is c.in-Some.ensures.there) (sym c.is_moved.ensures ∙ c.if-not-is_moved.false)
+step_of-requires-clause-moving g c = ?
 
+-- src/moves.rt:96:5
 pub returns-clause-takes : goal.returns-clause-takes
-returns-clause-takes c =
-    let named = c.in-Some.ensures.named in
-    let who = subst (λ (x : CoreState). IsWho x.world c.in-Some.who) c.self.view_is c.in-Some.ensures.there in
-    subst (λ vm. CoreTakes c.args.self.now c.step_of.new.self (Step vm c.args.number) (step_answer c.step_of.result)) named.0
-    (subst (λ number. CoreTakes c.args.self.now c.step_of.new.self (Step c.in-Some.who.vm number) (step_answer c.step_of.result)) named.1
-    (step_taken c.args.self.now c.step_of.new.self c.in-Some.who c.step_of.result who (sym c.is_moved.ensures ∙ c.if-not-is_moved.false) c.step_of.ensures.goes))
+returns-clause-takes g c = ?
 
-pub returns-clause-one : goal.returns-clause-one
-returns-clause-one c =
-    let named = c.in-Some.ensures.named in
-    subst (λ vm. (plan : Plan) → (record_of c.args.self.now (vcpu vm c.args.number)).stay ≡ stays.Moving plan → MakesOne c.args.self.now.world (moving_of plan) c.step_of.new.self.world) named.0
-    (subst (λ number. (plan : Plan) → (record_of c.args.self.now (vcpu c.in-Some.who.vm number)).stay ≡ stays.Moving plan → MakesOne c.args.self.now.world (moving_of plan) c.step_of.new.self.world) named.1 c.step_of.ensures.goes.makes)
+-- src/moves.rt:96:5
+pub returns-clause-aims : goal.returns-clause-aims
+returns-clause-aims g c = ?

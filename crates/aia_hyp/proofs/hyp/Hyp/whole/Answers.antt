@@ -1,33 +1,46 @@
-use Rattle.std.proofs.Common.{◌≡◌, Err, subst, rules}
-use Rattle.aia_model.specs.declared.answer.Answer.TheVariants.{Okay, Refused}
-use Rattle.aia_model.specs.declared.refusal.Refusal.TheVariants as words
-use Rattle.aia_hyp.specs.Core.{CoreState}
-use Rattle.aia_hyp.specs.Moves.{move_line}
-use Rattle.aia_hyp.specs.Stands.{StandsForSome, CoreTakes}
-use Rattle.aia_hyp.proofs.BeginCore.{no_move}
-use Rattle.aia_hyp.proofs.MoveWhole.{first_step, next_step, all_steps, refused_whole}
+use Rattle.std.proofs.Common.{rules, ◌≡◌, ◌<◌, ◌≤◌, true, false, length, slice_index_or, slice_set, Option, Some, None, IfSome, IfNone, OnOk, ℕ, ◌+◌, ◌-◌, ◌*◌, ◌/◌, ◌%◌, Bool, nat_eq, nat_lt, List, [], ◌∷◌, ◌++◌, bit_and, bit_or, Fits, w8, w32, w64, Bor, MutBor}
+use Rattle.std.specs.Vec.{vec_capacity}
+use Rattle.aia_home.specs.Vms.{vcpu, is_vcpu_in}
+use Rattle.aia_home.specs.Home.{is_moving}
+use Rattle.aia_pool.specs.Leases.{Leases}
+use Rattle.aia_model.specs.declared.line.Line.TheVariants.{Step}
+use Rattle.aia_model.specs.declared.answer.Answer.TheVariants.{Okay}
+use Rattle.aia_move.specs.Move.{IsWho}
+use Rattle.aia_move.specs.Plan.{moving_of}
+use Rattle.aia_model.specs.Event.{History}
+use Rattle.aia_model.specs.Event.Event.{Stepped}
+use Rattle.aia_model.specs.Aim.{aimed_by}
+use Rattle.aia_model.specs.Refusal.{refusal}
+use Rattle.aia_hyp.specs.Core.{no_kept, no_record, record_of, home_in, has_plan}
+use Rattle.aia_hyp.specs.Passes.{own_passes, AimsBy}
+use Rattle.aia_hyp.specs.Stands.{CoreStands, CoreTakes, answer_by}
+use Rattle.aia_hyp.specs.Moves.{IsFound, UnlessRefused, WholeAims, move_line, begin_line, step_answer, MakesOne, WantBegins, LeaveBegins, ArriveBegins, ShiftBegins, MoveBegins, MoveGoes, stay_after, back_of, with_back, IsOutThere, stay_then, back_then, is_finished}
 use Rattle.aia_hyp.proofs.hyp.Hyp.whole.Goals as goal
 
-pub returns-in_default : goal.returns-in_default
-returns-in_default c = rw (← c.self.view_is) (refused_whole _ _ c.args.vm c.args.number c.args.want words.Range (no_move _ c.args.vm c.args.number c.args.want c.in_default.ensures.none))
+-- src/moves.rt:73:13
+pub returns-in_default-clause-takes : goal.returns-in_default-clause-takes
+returns-in_default-clause-takes g c = ?
 
-pub returns-in_err-begin_of : goal.returns-in_err-begin_of
-returns-in_err-begin_of c =
-    let named = c.in-Some.ensures.named in
-    let gives : c.from_residual.result ≡ Err c.in_err-begin_of.field-0.0 = search rules in
-    rw (gives) (subst (λ vm. CoreTakes c.args.self.now c.begin_of.new.self (move_line vm c.args.number c.args.want) (Refused c.in_err-begin_of.field-0.0)) named.0
-    (subst (λ number. CoreTakes c.args.self.now c.begin_of.new.self (move_line c.in-Some.who.vm number c.args.want) (Refused c.in_err-begin_of.field-0.0)) named.1
-    (refused_whole c.args.self.now c.begin_of.new.self c.in-Some.who.vm c.in-Some.who.vcpu c.args.want c.in_err-begin_of.field-0.0 c.in_err-begin_of.ensures.begins)))
+-- src/moves.rt:75:9
+pub returns-in_err-begin_of-clause-takes : goal.returns-in_err-begin_of-clause-takes
+returns-in_err-begin_of-clause-takes g c = ?
 
-pub loop-who-init : goal.loop-who-init
-loop-who-init c = first_step c.args.self.now c.begin_of.new.self c.in-Some.who c.args.want c.in_ok-begin_of.ensures.begins (subst (λ (x : CoreState). StandsForSome x) c.self.view_is c.self.invariant.0) c.in_ok-begin_of.ensures.who
+-- src/moves.rt:75:9
+pub returns-in_err-begin_of-clause-aims : goal.returns-in_err-begin_of-clause-aims
+returns-in_err-begin_of-clause-aims g c = ?
 
-pub loop-who-preserved : goal.loop-who-preserved
-loop-who-preserved c = next_step c.args.self.now c.loop-who.self c.step_of.new.self c.in-Some.who c.args.want c.loop-who.invariant c.loop-who-test.ensures.goes c.loop-who-test.ensures.who
+-- src/moves.rt:76:9
+pub loop-found-init : goal.loop-found-init
+loop-found-init g c = ?
 
-pub returns : goal.returns
-returns c =
-    let named = c.in-Some.ensures.named in
-    subst (λ vm. CoreTakes c.args.self.now c.step_of.new.self (move_line vm c.args.number c.args.want) Okay) named.0
-    (subst (λ number. CoreTakes c.args.self.now c.step_of.new.self (move_line c.in-Some.who.vm number c.args.want) Okay) named.1
-    (all_steps c.args.self.now c.loop-who.self c.step_of.new.self c.in-Some.who c.args.want c.loop-who.invariant c.loop-who-test.ensures.goes))
+-- src/moves.rt:76:9
+pub loop-found-preserved : goal.loop-found-preserved
+loop-found-preserved g c = ?
+
+-- src/moves.rt:57:5
+pub returns-clause-takes : goal.returns-clause-takes
+returns-clause-takes g c = ?
+
+-- src/moves.rt:57:5
+pub returns-clause-aims : goal.returns-clause-aims
+returns-clause-aims g c = ?
