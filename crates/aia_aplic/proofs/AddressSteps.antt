@@ -6,7 +6,7 @@ use Rattle.aia_model.specs.declared.domain_name.DomainName.{DomainName}
 use Rattle.aia_model.specs.declared.sender.Sender.{Sender}
 use Rattle.aia_model.specs.Act.{Act, Past}
 use Rattle.aia_model.specs.declared.domain_name.DomainName.TheVariants.{Root, Child}
-use Rattle.aia_model.specs.Act.Act.{Made, Driven, Written, Loaded, Sent}
+use Rattle.aia_model.specs.Act.Act.{Made, Driven, Written, Loaded, Sent, Aimed}
 use Rattle.aia_msiaddr.specs.Registers.{new_addresses, are_locked, address_written}
 use Rattle.aia_model.specs.AddressOf.{addresses_of}
 
@@ -26,6 +26,10 @@ pub addresses_sent : (sender : Sender) (past : Past) → addresses_of (Sent send
 unfolding addresses_of
 addresses_sent sender past = refl
 
+pub addresses_aimed : (t v : ℕ) (past : Past) → addresses_of (Aimed t v ∷ past) ≡ addresses_of past
+unfolding addresses_of
+addresses_aimed t v past = refl
+
 pub addresses_child : (reg : DomainReg) (v : ℕ) (past : Past) → addresses_of (Written Child reg v ∷ past) ≡ addresses_of past
 unfolding addresses_of
 addresses_child reg v past = refl
@@ -43,3 +47,4 @@ locked_stay past (Written Root reg v) locked = cond-true _ _ _ locked
 locked_stay past (Written Child reg v) locked = refl
 locked_stay past (Loaded d reg) locked = refl
 locked_stay past (Sent sender) locked = refl
+locked_stay past (Aimed t v) locked = refl

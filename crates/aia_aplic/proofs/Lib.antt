@@ -4,6 +4,7 @@ pub mod DrivenSteps
 pub mod LoadedSteps
 pub mod SentSteps
 pub mod AddressSteps
+pub mod AimSteps
 pub mod Standing
 pub mod SentStanding
 pub mod Reading

@@ -7,10 +7,10 @@ use Rattle.aia_source.specs.declared.mode.Mode.{Mode}
 use Rattle.aia_source.specs.declared.mode.Mode.TheVariants.{Inactive, Detached, RisingEdge, FallingEdge, LevelHigh, LevelLow}
 use Rattle.aia_source.specs.Wired.{SourceDeed, done, is_active, rectified, says}
 use Rattle.aia_source.specs.Wired.SourceDeed.{Untouched}
-use Rattle.aia_source.specs.Registers.{first_target, target_kept, same_bool}
-use Rattle.aia_domain.specs.Entry.{EntryState, with_deed, with_enable, aimed}
+use Rattle.aia_source.specs.Registers.{first_target, same_bool}
+use Rattle.aia_domain.specs.Entry.{EntryState, with_deed, with_enable, with_target}
 use Rattle.aia_model.specs.declared.domain_name.DomainName.{DomainName}
-use Rattle.aia_model.specs.Act.{Act, Past}
+use Rattle.aia_model.specs.Act.{Act, Past, when}
 use Rattle.aia_model.specs.SourceOf.{wire_of, is_delegated, mode, is_active_in, delivers_by_msis, enable_said, enabled, target_told, target, deed, pending, top_in}
 use Rattle.aia_aplic.specs.Side.{entry_of}
 
@@ -63,7 +63,7 @@ entry-idle (a ∷ past) d s = record {
 
 -- ---- acts that leave mode, wire and delivery mode
 
-same_mode_says : (m : Mode) (msi r : Bool) (was : Bool) → (is_active m ≡ false → was ≡ false) → settle (says m msi r r Untouched) was ≡ was
+pub same_mode_says : (m : Mode) (msi r : Bool) (was : Bool) → (is_active m ≡ false → was ≡ false) → settle (says m msi r r Untouched) was ≡ was
 same_mode_says Inactive msi r was idle = sym (idle refl)
 same_mode_says Detached msi r was idle = refl
 same_mode_says RisingEdge msi r was idle = refl
@@ -116,14 +116,18 @@ aimed_target true true new = refl
 aimed_target true false new = refl
 aimed_target false msi new = refl
 
-pub step-aim : (harts : ℕ) (msi : Bool) (v : ℕ) (x : EntryState) → IsIdle x → stepped x.source.mode x.source.wire msi msi x.delegated (Some (target_kept harts msi v)) Nothing Untouched x ≡ aimed harts msi v x
-step-aim harts msi v x idle = λ i. record {
+step-aim : (msi : Bool) (target : ℕ) (x : EntryState) → IsIdle x → stepped x.source.mode x.source.wire msi msi x.delegated (Some target) Nothing Untouched x ≡ with_target target x
+step-aim msi target x idle = λ i. record {
   source = record { mode = x.source.mode; wire = x.source.wire; pending = same_mode_says x.source.mode msi (rectified x.source.mode x.source.wire) x.source.pending idle.pending i };
   enabled = same_enable (is_active x.source.mode) x.enabled idle.enabled i;
-  target = aimed_target (is_active x.source.mode) msi (target_kept harts msi v) i;
+  target = aimed_target (is_active x.source.mode) msi target i;
   delegated = x.delegated;
 }
 
 pub done_if : (b msi : Bool) (does : SourceDeed) (x : EntryState) → IsIdle x → stepped x.source.mode x.source.wire msi msi x.delegated None Nothing (cond b does Untouched) x ≡ cond b (with_deed msi does x) x
 done_if true msi does x idle = step-deed msi x does idle
 done_if false msi does x idle = step-nothing msi x idle
+
+pub aimed_if : (b msi : Bool) (target : ℕ) (x : EntryState) → IsIdle x → stepped x.source.mode x.source.wire msi msi x.delegated (when b target) Nothing Untouched x ≡ cond b (with_target target x) x
+aimed_if true msi target x idle = step-aim msi target x idle
+aimed_if false msi target x idle = step-nothing msi x idle

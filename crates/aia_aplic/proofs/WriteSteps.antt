@@ -14,14 +14,14 @@ use Rattle.aia_source.specs.declared.kept.TheConstants.{DELEGATED}
 use Rattle.aia_source.specs.Registers.{domaincfg_kept, is_by_msi, root_sourcecfg, child_sourcecfg, delegates, mode_of, touch, deed_of_touch, enable_of_touch, first_target, target_kept, same_bool, is_number_of}
 use Rattle.aia_source.specs.declared.touch.Touch.{Touch}
 use Rattle.aia_source.specs.declared.touch.Touch.TheVariants.{SetPending, ClearPending, SetEnable, ClearEnable}
-use Rattle.aia_domain.specs.Entry.{EntryState, with_deed, touched, configured, switched, aimed, sourcecfg_written, granted, granted_at}
+use Rattle.aia_domain.specs.Entry.{EntryState, with_deed, touched, configured, switched, sourcecfg_written, granted, granted_at}
 use Rattle.aia_domain.specs.Domain.{source_changed}
 use Rattle.aia_model.specs.Act.{Past, newest, when}
 use Rattle.aia_model.specs.declared.domain_name.DomainName.TheVariants.{Root, Child}
 use Rattle.aia_model.specs.Act.Act.{Written}
 use Rattle.aia_model.specs.SourceOf.{harts_in, sources_in, is_register_of, wire_of, root_sourcecfg_of, is_delegated, child_told, delivers_by_msis}
 use Rattle.aia_aplic.specs.Side.{entry_of}
-use Rattle.aia_aplic.proofs.Steps.{stepped, target_after, entry-step, entry-idle, IsIdle, step-nothing, step-deed, step-enable, step-aim, said_nothing, same_enable}
+use Rattle.aia_aplic.proofs.Steps.{stepped, target_after, entry-step, entry-idle, IsIdle, step-nothing, step-deed, step-enable, aimed_if, said_nothing, same_enable}
 
 -- a store to a register that touches bits alone
 touch-step : (t : Option Touch) (msi : Bool) (x : EntryState) → IsIdle x → stepped x.source.mode x.source.wire msi msi x.delegated None (enable_of_touch t) (deed_of_touch t) x ≡ touched msi t x
@@ -30,10 +30,6 @@ touch-step (Some SetPending) msi x idle = step-deed msi x Set idle
 touch-step (Some ClearPending) msi x idle = step-deed msi x Cleared idle
 touch-step (Some SetEnable) msi x idle = step-enable true msi x idle
 touch-step (Some ClearEnable) msi x idle = step-enable false msi x idle
-
-touch-aim : (b : Bool) (harts : ℕ) (msi : Bool) (v : ℕ) (x : EntryState) → IsIdle x → stepped x.source.mode x.source.wire msi msi x.delegated (when b (target_kept harts msi v)) Nothing Untouched x ≡ cond b (aimed harts msi v x) x
-touch-aim true harts msi v x idle = step-aim harts msi v x idle
-touch-aim false harts msi v x idle = step-nothing msi x idle
 
 switched_says : (m : Mode) (msi msi' r was : Bool) → settle (says m msi r r Switched) was ≡ settle (says m msi' r r Switched) was
 switched_says Inactive msi msi' r was = refl
@@ -111,7 +107,7 @@ root_written (SourceCfg i) v past s there =
     entry-step (Written Root (SourceCfg i) v) past Root s
     ∙ root-config (is_register_of past i s) (delivers_by_msis past Root) v (root_sourcecfg_of past s) (entry_of past Root s) (entry-idle past Root s) refl refl
     ∙ ap (λ (b : Bool). cond b (sourcecfg_written false (delivers_by_msis past Root) v (entry_of past Root s)) (entry_of past Root s)) (named_there past i s there)
-root_written (Target i) v past s there = entry-step (Written Root (Target i) v) past Root s ∙ touch-aim (nat_eq i s) (harts_in past) (delivers_by_msis past Root) v (entry_of past Root s) (entry-idle past Root s)
+root_written (Target i) v past s there = entry-step (Written Root (Target i) v) past Root s ∙ aimed_if (nat_eq i s) (delivers_by_msis past Root) (target_kept (harts_in past) (delivers_by_msis past Root) v) (entry_of past Root s) (entry-idle past Root s)
 root_written reg v past s there = entry-step (Written Root reg v) past Root s ∙ touch-step (touch reg v s) (delivers_by_msis past Root) (entry_of past Root s) (entry-idle past Root s)
 
 -- ---- domain 1
@@ -163,7 +159,7 @@ child_written (SourceCfg i) v past s there =
     entry-step (Written Child (SourceCfg i) v) past Child s
     ∙ child-config (is_register_of past i s) (is_delegated past s) (delivers_by_msis past Child) v (newest (child_told s) past) (entry_of past Child s) (entry-idle past Child s) refl refl (child-none past s)
     ∙ ap (λ (b : Bool). cond b (sourcecfg_written true (delivers_by_msis past Child) v (entry_of past Child s)) (entry_of past Child s)) (named_there past i s there)
-child_written (Target i) v past s there = entry-step (Written Child (Target i) v) past Child s ∙ touch-aim (nat_eq i s) (harts_in past) (delivers_by_msis past Child) v (entry_of past Child s) (entry-idle past Child s)
+child_written (Target i) v past s there = entry-step (Written Child (Target i) v) past Child s ∙ aimed_if (nat_eq i s) (delivers_by_msis past Child) (target_kept (harts_in past) (delivers_by_msis past Child) v) (entry_of past Child s) (entry-idle past Child s)
 child_written reg v past s there = entry-step (Written Child reg v) past Child s ∙ touch-step (touch reg v s) (delivers_by_msis past Child) (entry_of past Child s) (entry-idle past Child s)
 
 -- ---- what a store to one domain makes of the other

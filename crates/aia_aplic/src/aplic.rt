@@ -1,19 +1,24 @@
-ghost use Rattle.std.specs.Prelude.{◌≡◌, ℕ, ◌+◌, ◌*◌, ◌<◌, ◌≤◌, ◌↔◌, [], ◌∷◌, length, Bool, true, false, IfOk, IfSome, IfNone, IsFalse, option_map};
+ghost use Rattle.std.specs.Prelude.{◌≡◌, ℕ, ◌+◌, ◌*◌, ◌<◌, ◌≤◌, ◌↔◌, ◌&&◌, [], ◌∷◌, length, Bool, true, false, IfOk, IfSome, IfNone, IsFalse, option_map};
 ghost use Rattle.aia_word.specs.Sets.{word_of};
-ghost use Rattle.aia_regs.specs.declared.limits.TheConstants.{HARTS, SOURCES, SOURCE_WORDS};
+ghost use Rattle.aia_regs.specs.declared.limits.TheConstants.{HARTS, IDENTITIES, SOURCES, SOURCE_WORDS};
 ghost use Rattle.aia_regs.specs.DomainRegisters.{domain_register_of};
 ghost use Rattle.aia_model.specs.Act.{Past};
 ghost use Rattle.aia_model.specs.declared.domain_name.DomainName.TheVariants.{Root};
-ghost use Rattle.aia_model.specs.Act.Act.{Made, Driven, Written, Loaded, Sent};
+ghost use Rattle.aia_model.specs.Act.Act.{Made, Driven, Written, Loaded, Sent, Aimed};
 ghost use Rattle.aia_model.specs.Sent.{msi_of};
 ghost use Rattle.aia_domain.specs.Domain.{is_ready};
+ghost use Rattle.aia_domain.specs.Entry.{is_active_at};
+ghost use Rattle.aia_home.specs.Aims.{target_of};
+ghost use Rattle.aia_model.specs.AddressOf.{are_for_guests};
 ghost use Rattle.aia_model.specs.SourceOf.{harts_in, sources_in, register_read, is_signalled};
 ghost use Rattle.aia_aplic.specs.Aplic.{AplicStands, IsNewAplic, side, domain_name};
+ghost use Rattle.aia_aplic.specs.Passing.{is_passable_source, with_aim};
 ghost use Rattle.aia_aplic.specs.Sending.{IsFirstSource, IsFirst, IsBySource, asks_by_genmsi, does_wait, waiting, Next};
 ghost use Rattle.aia_aplic.specs.Bits.{AreSources, source_sender};
 
 use crate::bits::bits_search;
-use crate::sender::{domain_of, msi_by};
+use crate::guests::{are_for_guests, target_of};
+use crate::sender::{domain_of, msi_by, source_of};
 use crate::side::Side;
 use crate::view::ReadyView;
 use aia_model::{DomainName, Msi, Sender};
@@ -144,6 +149,51 @@ impl Aplic {
         if let DomainReg::SourceCfg(s) = reg {
             self.child.delegate(s, delegates(value));
         }
+    }
+
+    /// Tells whether MSIs to guests may be made of a source: it is there and active in the child
+    /// domain, which delivers by MSIs, and the registers of MSI addresses make these reach the
+    /// supervisor files and the guest files of the map.
+    ///
+    /// AIA 1.0, APLIC, "Interrupt forwarding by MSIs". Profile: passes.
+    pub fn passable(&self, s: u32) -> bool
+        ensures { (past : Past) → AplicStands self.now past → result ≡ is_passable_source past s }
+    {
+        self.is_passable(s)
+    }
+
+    fn is_passable(&self, s: u32) -> bool
+        ensures { result ≡ (is_active_at self.now.child.domain.sources s
+            && self.now.child.domain.msi && are_for_guests self.now.addresses) }
+    {
+        self.child.is_active(s) && self.child.delivers_by_msi() && are_for_guests(&self.addresses)
+    }
+
+    /// Aims a source of the child domain, where MSIs to guests may be made of it: its MSIs go from
+    /// now on to a guest of a hart, with an identity, or, with the guest index 0, to the hart's own
+    /// supervisor file. Where none may be made of it, nothing is changed; and no MSI waits to be
+    /// sent that did not wait before.
+    ///
+    /// AIA 1.0, APLIC, "Interrupt forwarding by MSIs". Profile: passes.
+    pub fn aim(&mut self, s: u32, hart: u32, guest: u32, identity: u32)
+        requires hart { hart < HARTS }
+        requires guest { guest < 64 }
+        requires identity { identity ≤ IDENTITIES }
+        ensures stands { (past : Past) → AplicStands self.old past →
+            AplicStands self.new (with_aim past s (target_of hart guest identity)) }
+        ensures stays { (past : Past) → AplicStands self.old past
+            → is_passable_source past s ≡ false → self.new ≡ self.old }
+    {
+        if self.passable(s) {
+            self.put_target(s, target_of(hart, guest, identity));
+        }
+    }
+
+    fn put_target(&mut self, s: u32, target: u32)
+        ensures { (past : Past) → AplicStands self.old past →
+            AplicStands self.new (Aimed s target ∷ past) }
+    {
+        self.child.aim(s, target);
     }
 
     /// Tells whether a hart is signalled by a domain, 0 or 1: the domain delivers directly and its
@@ -289,14 +339,15 @@ impl Aplic {
             AplicStands self.new (Sent sender ∷ past) }
         ensures fewer { waiting self.new < waiting self.old }
     {
+        let source = source_of(sender);
         match domain_of(sender) {
             DomainName::Root => {
                 let register = self.root.send(sender);
-                msi_by(&self.addresses, DomainName::Root, register)
+                msi_by(&self.addresses, DomainName::Root, register, source)
             }
             DomainName::Child => {
                 let register = self.child.send(sender);
-                msi_by(&self.addresses, DomainName::Child, register)
+                msi_by(&self.addresses, DomainName::Child, register, source)
             }
         }
     }

@@ -20,7 +20,7 @@ ghost use Rattle.aia_model.specs.Act.{Act, Past};
 ghost use Rattle.aia_msiaddr.specs.Registers.{are_locked};
 ghost use Rattle.aia_model.specs.AddressOf.{addresses_of};
 ghost use Rattle.aia_model.specs.declared.domain_name.DomainName.TheVariants.{Root, Child};
-ghost use Rattle.aia_model.specs.Act.Act.{Written, Sent};
+ghost use Rattle.aia_model.specs.Act.Act.{Written, Sent, Aimed};
 ghost use Rattle.aia_model.specs.SourceOf.{is_delegated, sourcecfg_of, mode, is_active_in, input, delivers_by_msis, enabled, target, pending, sources_in, genmsi_waits, is_for, top};
 
 /// Whatever has happened, a source at a level mode, in a domain that delivers directly, is pending
@@ -141,6 +141,17 @@ pub fn msis_are_sent_one_after_another()
 pub fn nothing_waits_between_lines()
     ensures sent { (past : Past) → senders (with_all_sent past) ≡ [] }
     ensures between { (h : History) → senders (acts_of h) ≡ [] }
+{}
+
+/// An aim of a source makes nothing wait: what waits to be sent is what waited before, in the same
+/// order. The target of a source that is active in the child domain, which every source is that may
+/// be passed, is then the one that it was given.
+///
+/// AIA 1.0, APLIC, "Interrupt forwarding by MSIs". Our profile: passes.
+pub fn an_aim_makes_nothing_wait()
+    ensures senders { (past : Past) (s v : ℕ) → senders (Aimed s v ∷ past) ≡ senders past }
+    ensures target { (past : Past) (s v : ℕ) → is_active_in past Child s ≡ true
+        → target (Aimed s v ∷ past) Child s ≡ v }
 {}
 
 /// A source whose MSI is sent is no longer pending, at each mode, whatever its input is; no other

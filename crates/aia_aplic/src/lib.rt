@@ -5,6 +5,7 @@
 mod aplic;
 mod bits;
 mod controls;
+mod guests;
 pub mod laws;
 mod sender;
 mod side;

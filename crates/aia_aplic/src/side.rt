@@ -1,7 +1,7 @@
 ghost use Rattle.aia_aplic.specs.Controls.{EachControl, control_after, control_at, claimed_at, hart_of_register};
 ghost use Rattle.aia_source.specs.Top.{topi_value};
 ghost use Rattle.aia_source.specs.Wired.SourceDeed.{Forwarded};
-ghost use Rattle.aia_domain.specs.Entry.{EachSource, changed_at, with_deed, entry_at};
+ghost use Rattle.aia_domain.specs.Entry.{EachSource, changed_at, with_deed, entry_at, is_active_at};
 ghost use Rattle.aia_domain.specs.Domain.{with_sources, source_after, domain_after, is_ready};
 ghost use Rattle.aia_direct.specs.Idc.{top_shown, claimed_top};
 ghost use Rattle.std.specs.Prelude.{Some, length, ◌≡◌, ◌*◌, ◌<◌, ◌≤◌, ◌↔◌, ◌∷◌, ℕ, Bool, true, false, IfOk, IsFalse};
@@ -12,7 +12,7 @@ ghost use Rattle.aia_model.specs.declared.domain_name.DomainName.{DomainName};
 ghost use Rattle.aia_model.specs.Act.{Past};
 ghost use Rattle.aia_model.specs.declared.domain_name.DomainName.TheVariants.{Root, Child};
 ghost use Rattle.aia_model.specs.declared.sender.Sender.TheVariants.{ByGenMsi, BySource};
-ghost use Rattle.aia_model.specs.Act.Act.{Driven, Written, Loaded, Sent};
+ghost use Rattle.aia_model.specs.Act.Act.{Driven, Written, Loaded, Sent, Aimed};
 ghost use Rattle.aia_model.specs.SourceOf.{harts_in, sources_in, target, genmsi_of, own_read, is_signalled};
 ghost use Rattle.aia_model.specs.Sent.{domain_of_sender, register_of_sender};
 ghost use Rattle.aia_aplic.specs.Bits.{AreSources};
@@ -105,6 +105,28 @@ impl Side {
         } else {
             self.domain.withdraw(s);
         }
+    }
+
+    /// Tells whether a source is active here; one that isn't there is not.
+    pub(crate) fn is_active(&self, s: u32) -> bool
+        ensures { result ≡ is_active_at self.now.domain.sources s }
+    {
+        self.domain.is_active(s)
+    }
+
+    /// Tells whether the domain delivers by MSIs.
+    pub(crate) fn delivers_by_msi(&self) -> bool
+        ensures { result ≡ self.now.domain.msi }
+    {
+        self.domain.delivers_by_msi()
+    }
+
+    /// Gives a source a target; this is the child domain.
+    pub(crate) fn aim(&mut self, s: u32, target: u32)
+        ensures { (past : Past) → SideStands self.old past Child
+            → SideStands self.new (Aimed s target ∷ past) Child }
+    {
+        self.domain.aim(s, target);
     }
 
     /// Reads a register.

@@ -66,10 +66,13 @@ switched msi x = record x {
   target = if is_active x.source.mode then first_target msi else 0;
 }
 
--- Its target is written; that of an inactive source is read-only zero.
+-- It gets a target; that of an inactive source is read-only zero.
+abbrev pub with_target : ℕ → EntryState → EntryState
+with_target target x = record x { target = if is_active x.source.mode then target else 0 }
+
+-- Its target is written.
 abbrev pub aimed : ℕ → Bool → ℕ → EntryState → EntryState
-aimed harts msi v x =
-    record x { target = if is_active x.source.mode then target_kept harts msi v else 0 }
+aimed harts msi v x = with_target (target_kept harts msi v) x
 
 -- Its sourcecfg is written: in the root domain, which may delegate it; in the child domain, where
 -- it counts only for a delegated source.
@@ -96,6 +99,7 @@ abbrev pub changed_by : Change → Bool → ℕ → Bool → EntryState → Entr
 changed_by (changes.Touch touch) leaf harts msi x = touched msi (Some touch) x
 changed_by (changes.Configure v) leaf harts msi x = sourcecfg_written leaf msi v x
 changed_by (changes.Target v) leaf harts msi x = aimed harts msi v x
+changed_by (changes.Aim target) leaf harts msi x = with_target target x
 changed_by (changes.Grant given) leaf harts msi x = granted given msi x
 changed_by (changes.Wire level) leaf harts msi x = wired msi level x
 changed_by changes.Claim leaf harts msi x = with_deed false Claimed x
@@ -174,6 +178,10 @@ pairs_for msi sources hart =
 
 abbrev pub sourcecfg_at : List EntryState → Bool → ℕ → ℕ
 sourcecfg_at sources leaf s = option_map_or (sourcecfg_shown leaf) (slice_get sources s) 0
+
+abbrev pub is_active_at : List EntryState → ℕ → Bool
+is_active_at sources s =
+    option_map_or (λ (x : EntryState). is_active x.source.mode) (slice_get sources s) false
 
 abbrev pub target_at : List EntryState → ℕ → ℕ
 target_at sources s = option_map_or (λ (x : EntryState). x.target) (slice_get sources s) 0

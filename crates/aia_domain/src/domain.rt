@@ -4,10 +4,10 @@ ghost use Rattle.aia_regs.specs.declared.limits.TheConstants.{HARTS, SOURCES, SO
 ghost use Rattle.aia_waiting.specs.Order.{IsRising};
 ghost use Rattle.aia_source.specs.Registers.{enables, is_by_msi, same_bool};
 ghost use Rattle.aia_source.specs.Wired.SourceDeed.{Claimed, Forwarded};
-ghost use Rattle.aia_domain.specs.Entry.{EachSource, changed_at, granted_at, wired, with_deed, entry_at, bit_at_source, target_at};
+ghost use Rattle.aia_domain.specs.Entry.{EachSource, changed_at, granted_at, wired, with_deed, with_target, entry_at, bit_at_source, is_active_at, target_at};
 ghost use Rattle.aia_domain.specs.Domain.{IsNewDomain, with_sources, configured_by, source_after, domain_after, domaincfg_written, domain_read, is_ready, ready_from, candidates, IsPairOfSource};
 
-use crate::entries::{is_waiting, sourcecfg_at, target_at, word_shown};
+use crate::entries::{is_active_at, is_waiting, sourcecfg_at, target_at, word_shown};
 use crate::entry::{Change, Look};
 use crate::ready::Ready;
 use crate::sources::Sources;
@@ -201,6 +201,18 @@ impl Domain {
         self.sources.change(u64::from(s), Change::Forward);
     }
 
+    /// Gives a source exactly this target, its guest index too, which a store of its register does
+    /// not keep; an inactive source's stays 0, and a number that is no source's changes none.
+    ///
+    /// AIA 1.0, APLIC, "Interrupt forwarding by MSIs". Profile: passes.
+    pub fn aim(&mut self, s: u32, target: u32)
+        ensures sources { EachSource self.old.sources self.new.sources
+            (changed_at s (with_target target)) }
+        ensures domain { self.new ≡ with_sources self.old self.new.sources }
+    {
+        self.sources.change(u64::from(s), Change::Aim(target));
+    }
+
     /// Takes what `genmsi` keeps, where an MSI that it asked for is still to be sent, which is then
     /// done.
     pub fn take_genmsi(&mut self) -> Option<u32>
@@ -237,6 +249,13 @@ impl Domain {
         ensures { result.now ≡ (entry_at self.now.sources s).source }
     {
         self.sources.entries()[s as usize].wired()
+    }
+
+    /// Tells whether a source is active, false where the source isn't there.
+    pub fn is_active(&self, s: u32) -> bool
+        ensures { result ≡ is_active_at self.now.sources s }
+    {
+        is_active_at(self.sources.entries(), s)
     }
 
     /// Tells the enable bit of a source, false where the source isn't there.

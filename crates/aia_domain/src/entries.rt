@@ -3,7 +3,7 @@
 
 ghost use Rattle.std.specs.Prelude.{◌≡◌, ◌*◌, ◌≤◌, Bool, nat_eq, slice_get, length, All, IfOk, if◌then◌else◌};
 ghost use Rattle.aia_word.specs.Sets.{word_of};
-ghost use Rattle.aia_domain.specs.Entry.{EachSource, new_entry, changed_at, changed_by, all_switched, switched, sourcecfg_at, target_at, bit_at_source, waits_at};
+ghost use Rattle.aia_domain.specs.Entry.{EachSource, new_entry, changed_at, changed_by, all_switched, switched, sourcecfg_at, is_active_at, target_at, bit_at_source, waits_at};
 ghost use Rattle.aia_domain.specs.Kept.{aim_at};
 
 use crate::entry::{Aim, Change, Entry, Look};
@@ -65,6 +65,16 @@ pub(crate) fn sourcecfg_at(entries: &[Entry], s: u32, leaf: bool) -> u32
     match entries.get(s as usize) {
         Some(entry) => entry.sourcecfg(leaf),
         None => 0,
+    }
+}
+
+/// Tells whether a source is active; one that isn't there is not.
+pub(crate) fn is_active_at(entries: &[Entry], s: u32) -> bool
+    ensures { result ≡ is_active_at entries.now s }
+{
+    match entries.get(s as usize) {
+        Some(entry) => entry.is_active(),
+        None => false,
     }
 }
 

@@ -1,6 +1,6 @@
 ghost use Rattle.std.specs.Prelude.{◌≡◌, Some};
 ghost use Rattle.aia_source.specs.Wired.{is_active};
-ghost use Rattle.aia_domain.specs.Entry.{EntryState, new_entry, changed_by, touched, configured, switched, aimed, sourcecfg_written, granted, sourcecfg_shown, bit_shown, waits};
+ghost use Rattle.aia_domain.specs.Entry.{EntryState, new_entry, changed_by, touched, configured, switched, with_target, aimed, sourcecfg_written, granted, sourcecfg_shown, bit_shown, waits};
 ghost use Rattle.aia_domain.specs.Kept.{aim_of};
 
 use aia_source::{
@@ -29,6 +29,8 @@ pub enum Change {
     Configure(u32),
     /// Its `target` is written.
     Target(u32),
+    /// It gets a target, all bits of it.
+    Aim(u32),
     /// The root domain delegates it to this one, its child, or does not.
     Grant(bool),
     /// Its wire gets a level.
@@ -99,7 +101,7 @@ impl Entry {
         self.target
     }
 
-    fn is_active(&self) -> bool
+    pub(crate) fn is_active(&self) -> bool
         ensures { result ≡ is_active self.now.source.mode }
     {
         self.wired.mode() != Mode::Inactive
@@ -156,6 +158,7 @@ impl Entry {
             Change::Touch(touch) => self.touch(touch, msi),
             Change::Configure(value) => self.write_sourcecfg(leaf, msi, value),
             Change::Target(value) => self.aim(harts, msi, value),
+            Change::Aim(target) => self.put_target(target),
             Change::Grant(given) => self.grant(given, msi),
             Change::Wire(level) => self.wired.wire(level, msi),
             Change::Claim => self.wired.clear(false),
@@ -216,11 +219,14 @@ impl Entry {
     fn aim(&mut self, harts: u32, msi: bool, value: u32)
         ensures { self.new ≡ aimed harts msi value self.old }
     {
-        self.target = if self.is_active() {
-            target_kept(harts, msi, value)
-        } else {
-            0
-        };
+        self.put_target(target_kept(harts, msi, value));
+    }
+
+    /// Gets a target; that of an inactive source stays 0.
+    fn put_target(&mut self, target: u32)
+        ensures { self.new ≡ with_target target self.old }
+    {
+        self.target = if self.is_active() { target } else { 0 };
     }
 
     /// Comes to the child domain, or leaves it.

@@ -1,7 +1,7 @@
 -- What stands as the machine is made, and what the making of a VM changes. Profile: the layout of
 -- memory.
 use Rattle.std.specs.Prelude.{◌≡◌, ℕ, ◌+◌, ◌-◌, ◌*◌, ◌/◌, ◌<◌, ◌⊎◌, ◌≤◌, nat_lt, if◌then◌else◌, List, [], ◌∷◌, ◌++◌, length, replicate, slice_index, slice_set}
-use Rattle.aia_regs.specs.declared.address_map.TheConstants.{MEMORY, MEMORY_END, PAGE}
+use Rattle.aia_regs.specs.declared.address_map.TheConstants.{MEMORY, PAGE}
 use Rattle.aia_regs.specs.declared.limits.TheConstants.{VCPUS, MEMORY_WORDS}
 use Rattle.aia_regs.specs.AddressMap.{supervisor_page, slot_address, table_address}
 use Rattle.aia_imsic.specs.Imsic.{ImsicState, AreEmpty}

@@ -28,6 +28,7 @@ use Rattle.aia_model.specs.Refusal.{refusal}
 use Rattle.aia_model.specs.Answer.{accepted_answer}
 use Rattle.aia_model.proofs.AnswerLemmas.{answered, arrive_refusal, leave_refusal, shift_refusal}
 use Rattle.aia_model.proofs.RefusalLemmas.{leave_allowed, arrive_allowed, shift_allowed}
+use Rattle.aia_hyp.specs.Passes.{own_passes}
 use Rattle.aia_hyp.specs.declared.moves.Want.{Want}
 use Rattle.aia_hyp.specs.declared.moves.Want.TheVariants as wants
 use Rattle.aia_hyp.specs.declared.vcpu.Stay.{Stay}
@@ -68,8 +69,10 @@ at_stay r stay = record r { stay = stay }
 -- The call has put it elsewhere in its record, and may have taken a file; all else is as it was.
 pub record Put (x y : CoreState) (who : Who) (new : Stay) : Type 0 where
   pub is_who : IsWho x.world who
+  pub its : who.passes.items ≡ own_passes 0 (vcpu who.vm who.vcpu) x.passes
   pub world : y.world ≡ x.world
   pub selects : y.selects ≡ x.selects
+  pub passes : y.passes ≡ x.passes
   pub vcpus : y.vcpus ≡ set x.vcpus (slot_of x.world.vms (vcpu who.vm who.vcpu)) (at_stay (record_of x (vcpu who.vm who.vcpu)) new)
 
 module _ (x y : CoreState) (who : Who) (given : Answer) (h : History) (stands : CoreStands x h) where
@@ -81,7 +84,7 @@ module _ (x y : CoreState) (who : Who) (given : Answer) (h : History) (stands : 
 
   -- it is put where it was
   put_back : (new : Stay) → Put x y who new → new ≡ (record_of x (vcpu who.vm who.vcpu)).stay → y.leases ≡ x.leases → y ≡ x
-  put_back new p same leases = same_core x y p.world leases (p.vcpus ∙ ap (λ s. set x.vcpus (slot_of x.world.vms g) (at_stay (record_of x g) s)) same ∙ set-get_or x.vcpus (slot_of x.world.vms g) no_record) p.selects
+  put_back new p same leases = same_core x y p.world leases (p.vcpus ∙ ap (λ s. set x.vcpus (slot_of x.world.vms g) (at_stay (record_of x g) s)) same ∙ set-get_or x.vcpus (slot_of x.world.vms g) no_record) p.selects p.passes
 
   refused : (want : Want) (word : Refusal) (new old : Stay) → Put x y who new → (record_of x (vcpu who.vm who.vcpu)).stay ≡ old → Refuses word old new x.leases y.leases given → refusal h (move_line who.vm who.vcpu want) ≡ Some (Refused word)
       → Answered x y h who.vm who.vcpu want given
@@ -96,11 +99,13 @@ module _ (x y : CoreState) (who : Who) (given : Answer) (h : History) (stands : 
     there = is_there (stays.Moving plan) p;
     world = p.world;
     selects = p.selects;
+    passes = p.passes;
     vcpus = p.vcpus;
     stay = refl;
     select = refl;
     majors = refl;
     is_who = p.is_who;
+    its_passes = p.its;
     same = refl;
     phase = phase;
   }

@@ -1,6 +1,6 @@
 -- What one event more makes of a core that stands for a history, and what a line answers by its
 -- refusal.
-use Rattle.std.proofs.Common.{◌≡◌, ◌≢◌, ℕ, ◌<◌, ◌≤◌, Bool, true, false, nat_lt, get_or, List, length, ◌∷◌, Option, Some, None, unwrap_or, inl, inr, refl, sym, ap, subst, ◌∙◌, arith}
+use Rattle.std.proofs.Common.{◌≡◌, ◌≢◌, ℕ, ◌<◌, ◌≤◌, Bool, true, false, nat_lt, get_or, List, length, ◌∷◌, Option, Some, None, unwrap_or, inl, inr, refl, sym, ap, subst, ◌∙◌, arith, cond}
 use Rattle.std.specs.Prelude.{Result, Ok}
 use Rattle.std.proofs.lemmas.Bool.{cond-true, lt-ltb}
 use Rattle.std.proofs.lemmas.List.{set-get_or}
@@ -35,7 +35,8 @@ use Rattle.aia_model.specs.FileAfter.FileDeed.{Rests}
 use Rattle.aia_model.specs.Move.{move_deed}
 use Rattle.aia_model.specs.Move.MoveDeed.{NoMove}
 use Rattle.aia_model.specs.HomeOf.{home}
-use Rattle.aia_model.specs.GuestFile.{guest_deed}
+use Rattle.aia_model.specs.Passes.{passed_by}
+use Rattle.aia_model.specs.GuestFile.{guest_deed, goes_to_guest, passed_deed}
 use Rattle.aia_model.specs.Notice.{noticed}
 use Rattle.aia_model.specs.FileOf.{FileName, MachineFile, SupervisorFile, deed_at, file_of}
 use Rattle.aia_model.specs.Refusal.{refusal}
@@ -49,7 +50,7 @@ use Rattle.aia_hyp.specs.HostFiles.{FileDone, HasDone, host_spot, select_place, 
 use Rattle.aia_hyp.specs.Stands.{StandsForSome, VcpuStands, is_held, CoreStands, CoreTakes, line_served, signals_of}
 use Rattle.aia_hyp.proofs.VcpuLemmas.{IsQuiet, quiet_line, quiet_msi, MajorsRest, guest_rests, files_alone, held_stays, is_quiet_line, IsStill, still_line, is_quiet_line}
 use Rattle.aia_hyp.proofs.NameLemmas.{no_guest, is_hosts, other_spot}
-use Rattle.aia_hyp.proofs.StandsLemmas.{count_after, Becomes, stands_after, built_as, flights_stay, keeps_by}
+use Rattle.aia_hyp.proofs.StandsLemmas.{count_after, Becomes, stands_after, built_as, flights_stay, none_passes, keeps_by}
 use Rattle.aia_fabric.proofs.FrameLemmas.{files_rest}
 use Rattle.aia_fabric.specs.World.{OnlyStores}
 
@@ -62,6 +63,7 @@ pub record Changes (x y : CoreState) (h : History) (event : Event) : Type 0 wher
   pub quiet : IsQuiet h event
   pub rest : OnlyStores x.world y.world
   pub leases : y.leases ≡ x.leases
+  pub passes : y.passes ≡ x.passes
   pub records : length y.vcpus ≡ length x.vcpus
   pub count : y.world.notices ≡ count_after (noticed h event) x.world.notices
   pub host : (f : FileName) → IsThere x.world.imsic (host_spot f) → FileDone x y f (deed_at f h event)
@@ -107,7 +109,7 @@ changed x y h event c stands = record {
     still_held g p holding = ap (holds p) (sym (c.quiet.stays.homes g)) ∙ holding
 
 pub one_more : (x y : CoreState) (h : History) (event : Event) → Changes x y h event → IsStill h event → CoreStands x h → CoreStands y (event ∷ h)
-one_more x y h event changes still stands = stands_after x y h event (changed x y h event changes stands) (flights_stay x y h event still (ap (λ (w : World). w.flights) changes.rest) stands) stands
+one_more x y h event changes still stands = stands_after x y h event (changed x y h event changes stands) (flights_stay x y h event still (ap (λ (w : World). w.flights) changes.rest) stands) (none_passes x y h event still.passes still.rest changes.passes stands) stands
 
 -- ---- events of the host, which are nothing to guests
 
@@ -120,25 +122,31 @@ pub record IsHosts (h : History) (event : Event) : Type 0 where
 pub hosts_line : (h : History) (line : Line) → is_quiet_line line ≡ true → noticed h (Accepted line) ≡ None → ((g : Vcpu) → guest_deed g h (Accepted line) ≡ Rests) → ((g : Vcpu) → MajorsRest g (Accepted line)) → IsHosts h (Accepted line)
 hosts_line h line plain none guests majors = record { quiet = quiet_line h line plain; none = none; guests = guests; majors = majors }
 
-pub hosts_msi : (h : History) (msi : Msi) → IsHosts h (Delivered msi)
-hosts_msi h msi = record { quiet = quiet_msi h msi; none = refl; guests = λ g. refl; majors = λ g m. refl }
+-- an MSI that is of no passed source
+pub hosts_msi : (h : History) (msi : Msi) → passed_by h msi.source ≡ None → IsHosts h (Delivered msi)
+hosts_msi h msi unpassed = record { quiet = quiet_msi h msi; none = refl; guests = λ g. ap (λ o. cond (goes_to_guest h msi) (passed_deed g h o) Rests) unpassed ∙ either (goes_to_guest h msi); majors = λ g m. refl }
+  where
+    either : (b : Bool) → ◌≡◌ {A = FileDeed} (cond b Rests Rests) Rests
+    either true = refl
+    either false = refl
 
 -- nothing was done at a file
 pub as_it_was : (file : InterruptFile) → SameFile file file
 as_it_was file = record { n = refl; pending = λ i. refl; enabled = λ i. refl; threshold = refl; delivery = refl }
 
 -- an event of the host, where its files alone may have changed
-host_alone : (x y : CoreState) (h : History) (event : Event) → IsHosts h event → y.world ≡ record x.world { imsic = y.world.imsic } → y.leases ≡ x.leases → y.vcpus ≡ x.vcpus → y.world.imsic.harts ≡ x.world.imsic.harts → y.world.imsic.guests ≡ x.world.imsic.guests
+host_alone : (x y : CoreState) (h : History) (event : Event) → IsHosts h event → y.world ≡ record x.world { imsic = y.world.imsic } → y.leases ≡ x.leases → y.passes ≡ x.passes → y.vcpus ≡ x.vcpus → y.world.imsic.harts ≡ x.world.imsic.harts → y.world.imsic.guests ≡ x.world.imsic.guests
     → ((f : FileName) → IsThere x.world.imsic (host_spot f) → FileDone x y f (deed_at f h event))
     → ((p : Place) → IsThere x.world.imsic (spot_of p) → file_at y.world.imsic (spot_of p) ≡ file_at x.world.imsic (spot_of p))
     → ((g : Vcpu) (p : Place) → has_vcpu h g ≡ true → holds p (home h g) ≡ true → IsThere x.world.imsic (spot_of p))
     → Changes x y h event
-host_alone x y h event hosts rest leases vcpus harts guests files guest_files held =
+host_alone x y h event hosts rest leases passes vcpus harts guests files guest_files held =
     let vms = ap (λ (w : World). w.vms) rest in
     record {
       quiet = hosts.quiet;
       rest = files_rest x.world y.world rest harts guests;
       leases = leases;
+      passes = passes;
       records = ap (λ (rs : List VcpuRecord). length rs) vcpus;
       count = ap (λ (w : World). w.notices) rest ∙ ap (λ who. count_after who x.world.notices) (sym hosts.none);
       host = files;
@@ -153,7 +161,7 @@ host_alone x y h event hosts rest leases vcpus harts guests files guest_files he
 -- an event that is nothing to any file that is there
 pub nothing_done : (x : CoreState) (h : History) (event : Event) → CoreStands x h → IsHosts h event → ((f : FileName) → IsThere x.world.imsic (host_spot f) → deed_at f h event ≡ Rests) → Changes x x h event
 nothing_done x h event stands hosts rests =
-    host_alone x x h event hosts refl refl refl refl refl (λ f inside. subst (FileDone x x f) (sym (rests f inside)) (record { file = as_it_was (shown (file_at x.world.imsic (host_spot f))); select = refl })) (λ p inside. refl) stands.held
+    host_alone x x h event hosts refl refl refl refl refl refl (λ f inside. subst (FileDone x x f) (sym (rests f inside)) (record { file = as_it_was (shown (file_at x.world.imsic (host_spot f))); select = refl })) (λ p inside. refl) stands.held
 
 -- nothing was done at one file where something was done at another
 pub nothing_elsewhere : (x y : CoreState) (f g : FileName) (deed : FileDeed) → HasDone x y f deed → IsThere x.world.imsic (host_spot g) → g ≢ f → FileDone x y g Rests
@@ -166,7 +174,7 @@ nothing_elsewhere x y f g deed done inside ne = record {
 pub one_done : (x y : CoreState) (h : History) (event : Event) (f : FileName) → CoreStands x h → HasDone x y f (deed_at f h event) → IsHosts h event
     → ((g : FileName) → IsThere x.world.imsic (host_spot g) → g ≢ f → deed_at g h event ≡ Rests) → Changes x y h event
 one_done x y h event f stands done hosts rests =
-    host_alone x y h event hosts done.rest done.leases done.vcpus done.harts done.guests
+    host_alone x y h event hosts done.rest done.leases done.passes done.vcpus done.harts done.guests
     (λ g inside. elim (same_or_other g f) [
       | inl e ↦ subst (λ (n : FileName). FileDone x y n (deed_at n h event)) (sym e) done.done
       | inr ne ↦ subst (FileDone x y g) (sym (rests g inside ne)) (nothing_elsewhere x y f g (deed_at f h event) done inside ne)
@@ -175,15 +183,16 @@ one_done x y h event f stands done hosts rests =
     stands.held
 
 -- a deed was done at one file, which stands now in the place of the old one
-pub file_done : (x y : CoreState) (f : FileName) (deed : FileDeed) (spot : Spot) → spot ≡ host_spot f → IsThere x.world.imsic spot → y.world ≡ record x.world { imsic = with_file x.world.imsic spot (file_at y.world.imsic spot) } → y.leases ≡ x.leases → y.vcpus ≡ x.vcpus → y.selects ≡ x.selects
+pub file_done : (x y : CoreState) (f : FileName) (deed : FileDeed) (spot : Spot) → spot ≡ host_spot f → IsThere x.world.imsic spot → y.world ≡ record x.world { imsic = with_file x.world.imsic spot (file_at y.world.imsic spot) } → y.leases ≡ x.leases → y.vcpus ≡ x.vcpus → y.selects ≡ x.selects → y.passes ≡ x.passes
     → SameFile (shown (file_at y.world.imsic spot)) (file_after (select_in x f) deed (shown (file_at x.world.imsic spot))) → select_after deed (select_in x f) ≡ select_in x f → HasDone x y f deed
-file_done x y f deed spot named there world leases vcpus selects done select =
+file_done x y f deed spot named there world leases vcpus selects passes done select =
     let imsic : y.world.imsic ≡ with_file x.world.imsic spot (file_at y.world.imsic spot) = ap (λ (w : World). w.imsic) world in
     record {
       harts = ap (λ (i : ImsicState). i.harts) imsic;
       guests = ap (λ (i : ImsicState). i.guests) imsic;
       rest = world ∙ ap (λ (i : ImsicState). record x.world { imsic = i }) (sym imsic);
       leases = leases;
+      passes = passes;
       vcpus = vcpus;
       done = record {
         file = subst (λ (s : Spot). SameFile (shown (file_at y.world.imsic s)) (file_after (select_in x f) deed (shown (file_at x.world.imsic s)))) named done;
@@ -204,6 +213,7 @@ none_done x f deed file select = record {
   guests = refl;
   rest = refl;
   leases = refl;
+  passes = refl;
   vcpus = refl;
   done = record { file = subst (SameFile (shown (file_at x.world.imsic (host_spot f)))) (sym file) (as_it_was (shown (file_at x.world.imsic (host_spot f)))); select = sym select };
   files = λ spot inside ne. refl;

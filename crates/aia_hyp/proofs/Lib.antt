@@ -21,6 +21,8 @@ pub mod PeerLemmas
 pub mod SignalLemmas
 pub mod NoticeLemmas
 pub mod MoveSteps
+pub mod AimLines
+pub mod OwnPasses
 pub mod GoesLines
 pub mod EndLines
 pub mod BeginCore

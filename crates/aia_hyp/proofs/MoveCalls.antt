@@ -1,8 +1,8 @@
 -- What the calls of a move say, of the fields that they change.
 use Rattle.aia_model.specs.ReachOf.{NoneAtFence}
-use Rattle.std.proofs.Common.{◌≡◌, ℕ, ◌+◌, ◌/◌, ◌<◌, Bool, true, false, get_or, List, length, ◌∷◌, Option, Some, None, refl, sym, ap, subst, ◌∙◌, arith}
+use Rattle.std.proofs.Common.{suc, ◌-◌, ◌&&◌, cond, nat_lt, ◌≤◌, ◌≡◌, ℕ, ◌+◌, ◌/◌, ◌<◌, Bool, true, false, get_or, List, length, ◌∷◌, Option, Some, None, refl, sym, ap, subst, ◌∙◌, arith}
 use Rattle.std.proofs.Math.ListN.{set}
-use Rattle.std.proofs.lemmas.Bool.{true≢false}
+use Rattle.std.proofs.lemmas.Bool.{true≢false, and_parts, ltb-true}
 use Rattle.std.proofs.lemmas.List.{get_or-set_same, set-set}
 use Rattle.std.proofs.lemmas.Option.{slice_get_within}
 use Rattle.aia_home.specs.declared.place.Place.{Place}
@@ -18,13 +18,15 @@ use Rattle.aia_places.specs.Holds.{Hand}
 use Rattle.aia_fabric.specs.World.{World}
 use Rattle.aia_fabric.specs.Whole.{IsWhole}
 use Rattle.aia_fabric.proofs.WholeLemmas.{vcpu_entry}
+use Rattle.aia_hyp.specs.declared.moves.Found.{Found}
 use Rattle.aia_move.specs.declared.who.Who.{Who}
+use Rattle.aia_hyp.specs.Passes.{own_passes}
 use Rattle.aia_move.specs.declared.plan.Plan.{Plan}
 use Rattle.aia_move.specs.declared.plan.Next.{Next}
 use Rattle.aia_move.specs.declared.plan.Next.TheVariants.{Again, Finished}
 use Rattle.aia_move.specs.declared.turn.Outcome.{Outcome}
-use Rattle.aia_move.specs.Move.{Moving, mover, width, Fits, MakesNext, Goes, IsWho}
-use Rattle.aia_move.specs.Plan.{moving_of, IsInPhase, MatchNext}
+use Rattle.aia_move.specs.Move.{Moving, mover, width, Fits, MakesNext, Goes}
+use Rattle.aia_move.specs.Plan.{moving_of, IsInPhase, MatchNext, GoesAiming, StepsTo}
 use Rattle.aia_move.specs.Turns.{EndsAs}
 use Rattle.aia_model.specs.declared.answer.Answer.{Answer}
 use Rattle.aia_model.specs.Event.{History, file_words}
@@ -36,15 +38,24 @@ use Rattle.aia_hyp.specs.declared.vcpu.Stay.{Stay}
 use Rattle.aia_hyp.specs.declared.vcpu.Stay.TheVariants as stays
 use Rattle.aia_hyp.specs.declared.vcpu.VcpuRecord.{VcpuRecord}
 use Rattle.aia_hyp.specs.Core.{CoreState, no_record, record_of, home_in}
-use Rattle.aia_model.specs.Answer.{landed_first, step_taken}
+use Rattle.aia_model.specs.Answer.{landed_first, step_taken, oldest_landed}
+use Rattle.aia_model.specs.Flight.{flight}
+use Rattle.aia_home.specs.Routes.{is_at_fence}
+use Rattle.aia_hyp.proofs.MoveBegins.{own_record}
 use Rattle.aia_model.proofs.HistoryLemmas.{first_happens, step_happens}
 use Rattle.aia_model.proofs.FlightLemmas.{lands_first, words_first, same_first, home_landed_first}
 use Rattle.aia_move.specs.Landings.{OnceLanded}
 use Rattle.aia_move.specs.Landings as moves
 use Rattle.aia_hyp.proofs.LandingLemmas.{once_landed, first_stands}
-use Rattle.aia_hyp.specs.Moves.{WantBegins, MoveBegins, stay_after, back_of, with_back, IsOutThere, stay_then, back_then, is_finished, steps_left, left_in, MoveGoes}
+use Rattle.aia_hyp.specs.Moves.{IsFound, WantBegins, MoveBegins, stay_after, back_of, with_back, IsOutThere, stay_then, back_then, is_finished, steps_left, left_in, MakesOneBy, MoveGoes}
 use Rattle.aia_hyp.specs.Stands.{PlanStands, CoreStands, StandsForSome}
 use Rattle.aia_hyp.proofs.LeaseLemmas.{in_pool}
+use Rattle.aia_home.specs.Aims.{is_aiming, aims_done, aimed}
+use Rattle.aia_home.proofs.PassLemmas.{aim_is_no_fence}
+use Rattle.aia_model.specs.Passes.{Pass, passes_of, passes_to, passes_for}
+use Rattle.aia_move.specs.Targets.{Aim, aims, aim_if, next_aim}
+use Rattle.aia_hyp.proofs.OwnPasses.{aims_alike}
+use Rattle.aia_hyp.proofs.AimLines.{AimOf, aim_stands, later_moves, aim_is_not_last}
 use Rattle.aia_hyp.proofs.MoveSteps as steps
 use Rattle.aia_hyp.proofs.MoveSteps.{StepOf}
 use Rattle.aia_hyp.proofs.GoesLines.{GoesOf, goes_stands, later_moving}
@@ -54,7 +65,7 @@ use Rattle.aia_hyp.proofs.BeginCore.{at_stay, want_begins}
 -- ---- the records
 
 -- the record of a virtual hart that is there
-pub who_low : (x : CoreState) (who : Who) → StandsForSome x → IsWho x.world who → who.slot < length x.vcpus
+pub who_low : (x : CoreState) (who : Found) → StandsForSome x → IsFound x.world who → who.slot < length x.vcpus
 who_low x who some is =
     let stands = some.stands in
     let g = vcpu who.vm who.vcpu in
@@ -72,8 +83,8 @@ put_twice xs ys zs slot a b low first second =
 
 -- What a call did with the record of a virtual hart: it took it out, for another, and put it
 -- elsewhere.
-pub record Swapped (x y : CoreState) (who : Who) (old new : Stay) : Type 0 where
-  pub is_who : IsWho x.world who
+pub record Swapped (x y : CoreState) (who : Found) (old new : Stay) : Type 0 where
+  pub is_who : IsFound x.world who
   pub some : StandsForSome x
   pub between : List VcpuRecord
   pub other : Stay
@@ -81,8 +92,9 @@ pub record Swapped (x y : CoreState) (who : Who) (old new : Stay) : Type 0 where
   pub out : between ≡ set x.vcpus who.slot (at_stay (get_or x.vcpus who.slot no_record) other)
   pub back : y.vcpus ≡ set between who.slot (at_stay (get_or between who.slot no_record) new)
   pub selects : y.selects ≡ x.selects
+  pub passes : y.passes ≡ x.passes
 
-module _ (x y : CoreState) (who : Who) (old new : Stay) (s : Swapped x y who old new) where
+module _ (x y : CoreState) (who : Found) (old new : Stay) (s : Swapped x y who old new) where
   abbrev g : Vcpu
   g = vcpu who.vm who.vcpu
 
@@ -96,10 +108,16 @@ module _ (x y : CoreState) (who : Who) (old new : Stay) (s : Swapped x y who old
 
 -- ---- a move begins
 
-pub begin_call : (x y : CoreState) (want : Want) (who : Who) (old new : Stay) (given : Answer) → y.world ≡ x.world → Swapped x y who old new → WantBegins want who old new x.leases y.leases given → MoveBegins x y who.vm who.vcpu want given
-begin_call x y want who old new given world s b =
-    want_begins x y want who new given (record { is_who = s.is_who; world = world; selects = s.selects; vcpus = put_at x y who old new s })
-    (subst (λ (o : Stay). WantBegins want who o new x.leases y.leases given) (was_at x y who old new s) b)
+-- who is moved, with its passes
+abbrev whole_who : Found → Who → Who
+whole_who found who = record { vm = found.vm; vcpu = found.vcpu; slot = found.slot; notice = found.notice; passes = who.passes }
+
+pub begin_call : (x y : CoreState) (want : Want) (found : Found) (who : Who) (old new : Stay) (given : Answer) → who ≡ whole_who found who → who.passes.items ≡ own_passes 0 (vcpu found.vm found.vcpu) x.passes → y.world ≡ x.world → Swapped x y found old new
+    → WantBegins want who old new x.leases y.leases given → MoveBegins x y found.vm found.vcpu want given
+begin_call x y want found who old new given named its world s b =
+    want_begins x y want (whole_who found who) new given
+    (record { is_who = record { there = s.is_who.there; slot = s.is_who.slot; notice = s.is_who.notice }; its = its; world = world; selects = s.selects; passes = s.passes; vcpus = put_at x y found old new s })
+    (subst (λ (w : Who). WantBegins want w (record_of x (vcpu found.vm found.vcpu)).stay new x.leases y.leases given) named (subst (λ (o : Stay). WantBegins want who o new x.leases y.leases given) (was_at x y found old new s) b))
 
 -- ---- a step
 
@@ -120,8 +138,15 @@ left_fewer words (Shifting from to at) access next =
     let long = shift_plan-length words in
     omega (arith, low, long)
 
+aims_stay : (there : Home) → aims_done (one_more there) ≡ aims_done there
+aims_stay Parked = refl
+aims_stay (Resident p) = refl
+aims_stay (Leaving from at) = refl
+aims_stay (Arriving to at) = refl
+aims_stay (Shifting from to at) = refl
+
 -- the plan that is kept can make its next step
-pub plan_known : (x : CoreState) (who : Who) (plan : Plan) → StandsForSome x → IsWho x.world who → stays.Moving plan ≡ (get_or x.vcpus who.slot no_record).stay → Fits x.world (moving_of plan) × IsInPhase (width x.world) plan
+pub plan_known : (x : CoreState) (who : Found) (plan : Plan) → StandsForSome x → IsFound x.world who → stays.Moving plan ≡ (get_or x.vcpus who.slot no_record).stay → Fits x.world (moving_of plan) × IsInPhase (width x.world) plan
 plan_known x who plan some is was =
     let g = vcpu who.vm who.vcpu in
     let inside : has_vcpu some.past g ≡ true = subst (λ (vs : List Vm). is_vcpu_in vs g ≡ true) some.stands.vms is.there in
@@ -143,9 +168,10 @@ pub record AccessGoes (old new : CoreState) (g : Vcpu) (last : Bool) : Type 0 wh
   pub makes : (plan : Plan) → (record_of old g).stay ≡ stays.Moving plan → OneMade old.world (moving_of plan) new.world
 
 -- What a step's calls say, once what lands before it has landed.
-pub record Made (x y : CoreState) (who : Who) (plan : Plan) (next : Next) : Type 0 where
+pub record Made (x y : CoreState) (who : Found) (plan : Plan) (next : Next) : Type 0 where
   pub swapped : Swapped x y who (stays.Moving plan) (stay_then next)
   pub first : NoneAtFence swapped.some.past (Stepped (vcpu who.vm who.vcpu))
+  pub unaimed : aims (moving_of plan) ≡ false
   pub whole : IsWhole x.world
   pub whole_then : IsWhole y.world
   pub leases : y.leases ≡ with_back (back_then next) x.leases
@@ -153,26 +179,31 @@ pub record Made (x y : CoreState) (who : Who) (plan : Plan) (next : Next) : Type
   pub fits : MatchNext next (λ p. Fits y.world (moving_of p)) (λ o. Unit {0})
   pub phase : MatchNext next (λ p. IsInPhase (width y.world) p) (λ o. Unit {0})
 
-module _ (x y : CoreState) (who : Who) (plan : Plan) where
+module _ (x y : CoreState) (who : Found) (plan : Plan) where
   abbrev its : Vcpu
   its = vcpu who.vm who.vcpu
 
   abbrev its_record : Stay → VcpuRecord
   its_record stay = at_stay (record_of x (vcpu who.vm who.vcpu)) stay
 
-  its_there : (h : History) → CoreStands x h → IsWho x.world who → has_vcpu h (vcpu who.vm who.vcpu) ≡ true
+  its_there : (h : History) → CoreStands x h → IsFound x.world who → has_vcpu h (vcpu who.vm who.vcpu) ≡ true
   its_there h stands is = subst (λ (vs : List Vm). is_vcpu_in vs its ≡ true) stands.vms is.there
+
+  none_aimed : (next : Next) (h : History) → CoreStands x h → Made x y who plan next → is_aiming (passes_for h (vcpu who.vm who.vcpu)) (home h (vcpu who.vm who.vcpu)) ≡ false
+  none_aimed next h stands c = sym (aims_alike x h its plan stands (its_there h stands c.swapped.is_who) (sym (was_at x y who (stays.Moving plan) (stay_then next) c.swapped))) ∙ c.unaimed
 
   goes_on : (later : Plan) (h : History) → NoneAtFence h (Stepped (vcpu who.vm who.vcpu)) → CoreStands x h → Made x y who plan (Again later) → GoesOf x y h (vcpu who.vm who.vcpu) plan later (its_record (stays.Moving later))
   goes_on later h first stands c = record {
     step_of = record {
       first = first;
+      unaimed = none_aimed (Again later) h stands c;
       stands = stands;
       whole = c.whole;
       there = its_there h stands c.swapped.is_who;
       was = sym (was_at x y who (stays.Moving plan) (stays.Moving later) c.swapped);
       step = c.goes.step;
       selects = c.swapped.selects;
+      passes = c.swapped.passes;
       vcpus = put_at x y who (stays.Moving plan) (stays.Moving later) c.swapped;
       select = refl;
       majors = refl;
@@ -188,12 +219,14 @@ module _ (x y : CoreState) (who : Who) (plan : Plan) where
   ends_it o h first stands c = record {
     step_of = record {
       first = first;
+      unaimed = none_aimed (Finished o) h stands c;
       stands = stands;
       whole = c.whole;
       there = its_there h stands c.swapped.is_who;
       was = sym (was_at x y who (stays.Moving plan) (stay_after o) c.swapped);
       step = c.goes.ends.step;
       selects = c.swapped.selects;
+      passes = c.swapped.passes;
       vcpus = put_at x y who (stays.Moving plan) (stay_after o) c.swapped;
       select = refl;
       majors = refl;
@@ -218,14 +251,17 @@ module _ (x y : CoreState) (who : Who) (plan : Plan) where
       let kept : record_of y its ≡ its_record (stays.Moving later) = steps.step_record x y some.past its plan (its_record (stays.Moving later)) (moving_of later).hand now.step_of in
       let was : (record_of x its).stay ≡ stays.Moving plan = now.step_of.was in
       let machine = steps.machine x y some.past its plan (its_record (stays.Moving later)) (moving_of later).hand now.step_of in
-      let same : left_in y its ≡ steps_left (width x.world) (one_more (moving_of plan).home) = (λ k. steps_left ((machine.n k + 1) / 64) (home_in (kept k).stay)) ∙ ap (steps_left (width x.world)) c.goes.home in
+      let aimed : aims_done (one_more (moving_of plan).home) ≡ aims_done (moving_of plan).home = aims_stay (moving_of plan).home in
+      let same : left_in y its ≡ steps_left (width x.world) (one_more (moving_of plan).home) + (passes_to its x.passes - aims_done (moving_of plan).home) =
+      (λ k. steps_left ((machine.n k + 1) / 64) (home_in (kept k).stay) + (passes_to its (c.swapped.passes k) - aims_done (home_in (kept k).stay))) ∙ ap (λ t. steps_left (width x.world) t + (passes_to its x.passes - aims_done t)) c.goes.home
+      ∙ ap (λ a. steps_left (width x.world) (one_more (moving_of plan).home) + (passes_to its x.passes - a)) aimed in
       let less = left_fewer (width x.world) (moving_of plan).home c.goes.step.access c.goes.step.is_next in
       record {
         stands = λ h first stands. goes_stands x y h its plan later (its_record (stays.Moving later)) (goes_on later h first stands c);
         at_last = λ h first stands. at_last_by h (its_record (stays.Moving later)) (moving_of later).hand false (goes_on later h first stands c).step_of c.goes.more;
         moving = λ e. ap (λ (r : VcpuRecord). is_moving (home_in r.stay)) kept ∙ later_moving x y some.past its plan later (its_record (stays.Moving later)) now;
         makes = λ other e. same_plan other (sym was ∙ e) ((moving_of later).hand, c.goes.step);
-        fewer = λ e. subst (λ n. n < left_in x its) (sym same) (subst (λ s. steps_left (width x.world) (one_more (moving_of plan).home) < steps_left (width x.world) (home_in s)) (sym was) less);
+        fewer = λ e. subst (λ n. n < left_in x its) (sym same) (subst (λ s. steps_left (width x.world) (one_more (moving_of plan).home) + (passes_to its x.passes - aims_done (moving_of plan).home) < steps_left (width x.world) (home_in s) + (passes_to its x.passes - aims_done (home_in s))) (sym was) (omega (arith, less)));
       }
   step_goes (Finished o) c = record {
     stands = λ h first stands. ends_stands x y h its plan o (its_record (stay_after o)) (ends_it o h first stands c);
@@ -245,16 +281,16 @@ its_own x h g plan stands there was =
     (planned.2, sym (ap home_in was) ∙ stood.same_home)
 
 -- What stands before the calls of a step: whose plan it is, and what lands first.
-pub record IsFirst (x : CoreState) (landed : World) (who : Who) (plan : Plan) : Type 0 where
-  pub is_who : IsWho x.world who
+pub record IsFirst (x : CoreState) (landed : World) (who : Found) (plan : Plan) : Type 0 where
+  pub is_who : IsFound x.world who
   pub was : (record_of x (vcpu who.vm who.vcpu)).stay ≡ stays.Moving plan
   pub low : who.vm < length x.world.vms
   pub first : moves.LandsFirst x.world (moving_of plan) landed
 
-pub vm_low : (x : CoreState) (who : Who) → IsWhole x.world → IsWho x.world who → who.vm < length x.world.vms
+pub vm_low : (x : CoreState) (who : Found) → IsWhole x.world → IsFound x.world who → who.vm < length x.world.vms
 vm_low x who whole is = (vcpu_entry x.world who.vm who.vcpu whole is.there).0
 
-pub landed_stands : (x : CoreState) (landed : World) (who : Who) (plan : Plan) → IsFirst x landed who plan → (h : History) → CoreStands x h → CoreStands (once_landed x landed) (landed_first (vcpu who.vm who.vcpu) h)
+pub landed_stands : (x : CoreState) (landed : World) (who : Found) (plan : Plan) → IsFirst x landed who plan → (h : History) → CoreStands x h → CoreStands (once_landed x landed) (landed_first (vcpu who.vm who.vcpu) h)
 landed_stands x landed who plan c h stands =
     let g = vcpu who.vm who.vcpu in
     let there : has_vcpu h g ≡ true = subst (λ (vs : List Vm). is_vcpu_in vs g ≡ true) stands.vms c.is_who.there in
@@ -263,14 +299,14 @@ landed_stands x landed who plan c h stands =
     subst (λ (z : Vcpu). CoreStands (once_landed x landed) (landed_first z h)) own.0
     (first_stands x landed (moving_of plan) h low (own.1 ∙ ap (home h) (sym own.0)) c.first stands)
 
-abbrev pub landed_some : (x : CoreState) (landed : World) (who : Who) (plan : Plan) → IsFirst x landed who plan → StandsForSome x → StandsForSome (once_landed x landed)
+abbrev pub landed_some : (x : CoreState) (landed : World) (who : Found) (plan : Plan) → IsFirst x landed who plan → StandsForSome x → StandsForSome (once_landed x landed)
 landed_some x landed who plan c some = record {
   past = landed_first (vcpu who.vm who.vcpu) some.past;
   happens = first_happens (vcpu who.vm who.vcpu) some.past some.happens;
   stands = landed_stands x landed who plan c some.past some.stands;
 }
 
-pub landed_who : (x : CoreState) (landed : World) (who : Who) (plan : Plan) → IsFirst x landed who plan → IsWho landed who
+pub landed_who : (x : CoreState) (landed : World) (who : Found) (plan : Plan) → IsFirst x landed who plan → IsFound landed who
 landed_who x landed who plan c =
     let vms = c.first.same.vms in
     record {
@@ -279,11 +315,11 @@ landed_who x landed who plan c =
       notice = c.is_who.notice ∙ ap (λ vs. notice_hart vs (vcpu who.vm who.vcpu)) (sym vms);
     }
 
-pub landed_goes : (x : CoreState) (landed : World) (y : CoreState) (who : Who) (plan : Plan) (last : Bool) → IsFirst x landed who plan → AccessGoes (once_landed x landed) y (vcpu who.vm who.vcpu) last → MoveGoes x y (vcpu who.vm who.vcpu) last
-landed_goes x landed y who plan last c a =
+pub landed_goes : (x : CoreState) (landed : World) (y : CoreState) (who : Found) (plan : Plan) (last : Bool) → aims (moving_of plan) ≡ false → IsFirst x landed who plan → AccessGoes (once_landed x landed) y (vcpu who.vm who.vcpu) last → MoveGoes x y (vcpu who.vm who.vcpu) last
+landed_goes x landed y who plan last unaimed c a =
     let g = vcpu who.vm who.vcpu in
     let same : record_of (once_landed x landed) g ≡ record_of x g = ap (λ vs. get_or x.vcpus (slot_of vs g) no_record) c.first.same.vms in
-    let left : left_in (once_landed x landed) g ≡ left_in x g = (λ k. steps_left ((c.first.same.n k + 1) / 64) (home_in (same k).stay)) in
+    let left : left_in (once_landed x landed) g ≡ left_in x g = (λ k. steps_left ((c.first.same.n k + 1) / 64) (home_in (same k).stay) + (passes_to g x.passes - aims_done (home_in (same k).stay))) in
     record {
       stands = λ h stands. a.stands (landed_first g h) (lands_first g h) (landed_stands x landed who plan c h stands);
       at_last = λ h stands.
@@ -292,16 +328,106 @@ landed_goes x landed y who plan last c a =
       moving = a.moving;
       makes = λ other e.
           let is : plan ≡ other = let both : stays.Moving plan ≡ stays.Moving other = sym c.was ∙ e in cc in
-          record {
+          subst (λ b. MakesOneBy (aim_if b (moving_of other)) x.world (moving_of other) y.world) (sym unaimed ∙ ap (λ (p : Plan). aims (moving_of p)) is) (record {
             landed = landed;
             first = subst (λ (p : Plan). moves.LandsFirst x.world (moving_of p) landed) is c.first;
             then = a.makes other (ap (λ (r : VcpuRecord). r.stay) same ∙ e);
-          };
+          });
       fewer = λ e. subst (λ n. left_in y g < n) left (a.fewer e);
     }
 
+-- ---- a step that aims
+
+aims_once : (there : Home) → is_moving there ≡ true → aims_done (aimed there) ≡ suc (aims_done there)
+aims_once Parked moves = absurd (true≢false (sym moves))
+aims_once (Resident p) moves = absurd (true≢false (sym moves))
+aims_once (Leaving from at) moves = omega arith
+aims_once (Arriving to at) moves = omega arith
+aims_once (Shifting from to at) moves = omega arith
+
+left_aimed : (words : ℕ) (there : Home) → steps_left words (aimed there) ≡ steps_left words there
+left_aimed words Parked = refl
+left_aimed words (Resident p) = refl
+left_aimed words (Leaving from at) = refl
+left_aimed words (Arriving to at) = refl
+left_aimed words (Shifting from to at) = refl
+
+-- What a step's calls say that aims a passed source.
+pub record Aims (x y : CoreState) (who : Found) (plan later : Plan) : Type 0 where
+  pub swapped : Swapped x y who (stays.Moving plan) (stays.Moving later)
+  pub some : 1 ≤ width x.world
+  pub aiming : aims (moving_of plan) ≡ true
+  pub leases : y.leases ≡ x.leases
+  pub goes : GoesAiming x.world (moving_of plan) y.world (moving_of later)
+  pub fits : Fits y.world (moving_of later)
+  pub phase : IsInPhase (width y.world) later
+
+module _ (x y : CoreState) (who : Found) (plan later : Plan) (c : Aims x y who plan later) where
+  abbrev mine : Vcpu
+  mine = vcpu who.vm who.vcpu
+
+  abbrev then_kept : VcpuRecord
+  then_kept = at_stay (record_of x (vcpu who.vm who.vcpu)) (stays.Moving later)
+
+  inside : (h : History) → CoreStands x h → has_vcpu h (vcpu who.vm who.vcpu) ≡ true
+  inside h stands = subst (λ (vs : List Vm). is_vcpu_in vs mine ≡ true) stands.vms c.swapped.is_who.there
+
+  was_moving : (record_of x (vcpu who.vm who.vcpu)).stay ≡ stays.Moving plan
+  was_moving = sym (was_at x y who (stays.Moving plan) (stays.Moving later) c.swapped)
+
+  aiming_then : (h : History) → CoreStands x h → is_aiming (passes_for h (vcpu who.vm who.vcpu)) (home h (vcpu who.vm who.vcpu)) ≡ true
+  aiming_then h stands = sym (aims_alike x h mine plan stands (inside h stands) was_moving) ∙ c.aiming
+
+  no_fence : (h : History) → CoreStands x h → is_at_fence (home h (vcpu who.vm who.vcpu)) ≡ false
+  no_fence h stands = aim_is_no_fence (passes_for h mine) (home h mine) (aiming_then h stands)
+
+  aim_of_it : (h : History) → CoreStands x h → AimOf x y h (vcpu who.vm who.vcpu) plan later then_kept
+  aim_of_it h stands = record {
+    first = λ fence. absurd (true≢false (sym fence ∙ no_fence h stands));
+    stands = stands;
+    some = let words : width x.world ≡ file_words h = ap (λ n. (n + 1) / 64) stands.greatest in let one = c.some in omega (arith, words, one);
+    there = inside h stands;
+    was = was_moving;
+    aiming = aiming_then h stands;
+    goes = c.goes;
+    fits = c.fits;
+    phase = c.phase;
+    leases = c.leases;
+    selects = c.swapped.selects;
+    passes = c.swapped.passes;
+    vcpus = put_at x y who (stays.Moving plan) (stays.Moving later) c.swapped;
+    stay = refl;
+    select = refl;
+    majors = refl;
+  }
+
+  pub aim_goes : MoveGoes x y (vcpu who.vm who.vcpu) false
+  aim_goes =
+      let some = c.swapped.some in
+      let past = some.past in
+      let kept : record_of y mine ≡ then_kept = own_record x y past mine then_kept some.stands (inside past some.stands) (ap (λ (w : World). w.vms) c.goes.world) (put_at x y who (stays.Moving plan) (stays.Moving later) c.swapped) in
+      let moves : is_moving (moving_of plan).home ≡ true = let planned : PlanStands x.world mine (stays.Moving plan) = subst (PlanStands x.world mine) was_moving (some.stands.vcpus mine (inside past some.stands)).plan in planned.3 in
+      let same_home : (moving_of plan).home ≡ home past mine = ap home_in (sym was_moving) ∙ (some.stands.vcpus mine (inside past some.stands)).same_home in
+      let count : passes_to mine x.passes ≡ passes_for past mine = ap (passes_to mine) some.stands.passes.same in
+      let low : aims_done (home past mine) < passes_for past mine = ltb-true _ _ (and_parts _ (nat_lt (aims_done (home past mine)) (passes_for past mine)) (aiming_then past some.stands)).1 in
+      let below : aims_done (moving_of plan).home < passes_to mine x.passes = omega (arith, low, count, ap aims_done same_home) in
+      let later_home : (moving_of later).home ≡ aimed (moving_of plan).home = ap (λ (m : Moving). m.home) c.goes.moved in
+      let then_left : left_in y mine ≡ steps_left (width x.world) (moving_of plan).home + (passes_to mine x.passes - suc (aims_done (moving_of plan).home)) =
+      (λ k. steps_left (width (c.goes.world k)) (home_in (kept k).stay) + (passes_to mine (c.swapped.passes k) - aims_done (home_in (kept k).stay)))
+      ∙ (λ k. steps_left (width x.world) (later_home k) + (passes_to mine x.passes - aims_done (later_home k)))
+      ∙ (λ k. left_aimed (width x.world) (moving_of plan).home k + (passes_to mine x.passes - aims_once (moving_of plan).home moves k)) in
+      record {
+        stands = λ h stands. subst (λ b. CoreStands y (Stepped mine ∷ cond b (oldest_landed (length (flight h who.vm)) who.vm h) h)) (sym (no_fence h stands)) (aim_stands x y h mine plan later then_kept (aim_of_it h stands));
+        at_last = λ h stands. sym (aim_is_not_last (passes_for h mine) (file_words h) (home h mine) (aiming_then h stands));
+        moving = λ e. ap (λ (r : VcpuRecord). is_moving (home_in r.stay)) kept ∙ later_moves x y past mine plan later then_kept (aim_of_it past some.stands);
+        fewer = λ e. subst (λ n. n < left_in x mine) (sym then_left) (subst (λ s. steps_left (width x.world) (moving_of plan).home + (passes_to mine x.passes - suc (aims_done (moving_of plan).home)) < steps_left (width x.world) (home_in s) + (passes_to mine x.passes - aims_done (home_in s))) (sym was_moving) (omega (arith, below)));
+        makes = λ other e.
+            let is : plan ≡ other = let both : stays.Moving plan ≡ stays.Moving other = sym was_moving ∙ e in cc in
+            subst (λ b. MakesOneBy (aim_if b (moving_of other)) x.world (moving_of other) y.world) (sym c.aiming ∙ ap (λ (p : Plan). aims (moving_of p)) is) c.goes.world;
+      }
+
 -- it stands for some history still
-pub goes_still : (x y : CoreState) (who : Who) (last : Bool) → MoveGoes x y (vcpu who.vm who.vcpu) last → StandsForSome x → IsWho x.world who
+pub goes_still : (x y : CoreState) (who : Found) (last : Bool) → MoveGoes x y (vcpu who.vm who.vcpu) last → StandsForSome x → IsFound x.world who
     → is_moving (home_in (record_of x (vcpu who.vm who.vcpu)).stay) ≡ true → StandsForSome y
 goes_still x y who last goes some is moving =
     let g = vcpu who.vm who.vcpu in
@@ -315,7 +441,7 @@ goes_still x y who last goes some is moving =
 -- ---- the file that comes back
 
 -- it is one that is there, and out
-pub back_known : (x : CoreState) (u : World) (who : Who) (plan : Plan) (next : Next) → StandsForSome x → IsWho x.world who → stays.Moving plan ≡ (get_or x.vcpus who.slot no_record).stay
+pub back_known : (x : CoreState) (u : World) (who : Found) (plan : Plan) (next : Next) → StandsForSome x → IsFound x.world who → stays.Moving plan ≡ (get_or x.vcpus who.slot no_record).stay
     → OnceLanded x.world (moving_of plan) (λ landed. MatchNext next (λ p. Goes landed (moving_of plan) u (moving_of p)) (λ o. EndsAs landed (moving_of plan) u o)) → IsOutThere x.leases (back_then next)
 back_known x u who plan (Again later) some is was c = tt
 back_known x u who plan (Finished o) some is was c = by_file (back_of o) refl
@@ -335,7 +461,7 @@ back_known x u who plan (Finished o) some is was c = by_file (back_of o) refl
 
 -- ---- who is moved
 
-pub who_still : (x y : CoreState) (who : Who) (last : Bool) → MoveGoes x y (vcpu who.vm who.vcpu) last → StandsForSome x → IsWho x.world who → IsWho y.world who
+pub who_still : (x y : CoreState) (who : Found) (last : Bool) → MoveGoes x y (vcpu who.vm who.vcpu) last → StandsForSome x → IsFound x.world who → IsFound y.world who
 who_still x y who last goes some is =
     let vms : x.world.vms ≡ y.world.vms = some.stands.vms ∙ sym ((goes.stands some.past some.stands).vms ∙ (same_first (vcpu who.vm who.vcpu) some.past).0) in
     record {

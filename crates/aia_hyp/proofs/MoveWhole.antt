@@ -8,8 +8,8 @@ use Rattle.aia_home.specs.Vms.{Vcpu, vcpu, is_vcpu_in}
 use Rattle.aia_home.specs.Home.{Home, is_parked, is_resident, is_moving, leaving, arriving, shifting, one_more}
 use Rattle.aia_home.specs.Plans.{is_at_last}
 use Rattle.aia_home.specs.Home.Home.{Parked, Resident, Leaving, Arriving, Shifting}
-use Rattle.aia_move.specs.declared.who.Who.{Who}
-use Rattle.aia_move.specs.Move.{IsWho}
+use Rattle.aia_hyp.specs.declared.moves.Found.{Found}
+use Rattle.aia_move.specs.Move.{}
 use Rattle.aia_model.specs.declared.answer.Answer.{Answer}
 use Rattle.aia_model.specs.declared.answer.Answer.TheVariants.{Okay, Refused}
 use Rattle.aia_model.specs.declared.refusal.Refusal.{Refusal}
@@ -19,6 +19,7 @@ use Rattle.aia_model.specs.Event.Event.{Began}
 use Rattle.aia_model.specs.Move.{Move}
 use Rattle.aia_model.specs.Move.Move.{Arrives, Leaves, Shifts}
 use Rattle.aia_model.specs.Vms.{has_vcpu}
+use Rattle.aia_model.specs.Passes.{passes_for}
 use Rattle.aia_model.specs.HomeOf.{home, place, free_file}
 use Rattle.aia_model.specs.Refusal.{refusal}
 use Rattle.aia_model.proofs.FlightLemmas.{words_first, home_stepped}
@@ -28,7 +29,7 @@ use Rattle.aia_model.proofs.MoveLemmas.{home_step, is_itself}
 use Rattle.aia_hyp.specs.declared.moves.Want.{Want}
 use Rattle.aia_hyp.specs.declared.moves.Want.TheVariants as wants
 use Rattle.aia_hyp.specs.Core.{CoreState, record_of, home_in}
-use Rattle.aia_hyp.specs.Moves.{move_line, wanted_move, move_begun, MoveBegins, MoveGoes}
+use Rattle.aia_hyp.specs.Moves.{IsFound, move_line, wanted_move, move_begun, MoveBegins, MoveGoes}
 use Rattle.aia_hyp.specs.Stands.{CoreStands, CoreTakes, StandsForSome, line_served}
 
 -- ---- histories
@@ -169,12 +170,12 @@ pub record UnderWay (now : CoreState) (h : History) (vm number : ℕ) (want : Wa
   pub stands : CoreStands now (steps_taken steps (vcpu vm number) (Began (wanted_move (vcpu vm number) want) ∷ h))
   pub is_at : IsAt (wanted_move (vcpu vm number) want) steps (home (steps_taken steps (vcpu vm number) (Began (wanted_move (vcpu vm number) want) ∷ h)) (vcpu vm number))
 
-pub record SoFar (old now : CoreState) (who : Who) (want : Want) : Type 0 where
-  pub is_who : IsWho now.world who
+pub record SoFar (old now : CoreState) (who : Found) (want : Want) : Type 0 where
+  pub is_who : IsFound now.world who
   pub moving : is_moving (home_in (record_of now (vcpu who.vm who.vcpu)).stay) ≡ true
   pub under : (h : History) → CoreStands old h → UnderWay now h who.vm who.vcpu want
 
-pub first_step : (old now : CoreState) (who : Who) (want : Want) → MoveBegins old now who.vm who.vcpu want Okay → StandsForSome old → IsWho now.world who → SoFar old now who want
+pub first_step : (old now : CoreState) (who : Found) (want : Want) → MoveBegins old now who.vm who.vcpu want Okay → StandsForSome old → IsFound now.world who → SoFar old now who want
 first_step old now who want begins some is =
     let g = vcpu who.vm who.vcpu in
     let way = λ (h : History) (stands : CoreStands old h). (
@@ -191,7 +192,7 @@ first_step old now who want begins some is =
       under = way;
     }
 
-pub next_step : (old now later : CoreState) (who : Who) (want : Want) → SoFar old now who want → MoveGoes now later (vcpu who.vm who.vcpu) false → IsWho later.world who → SoFar old later who want
+pub next_step : (old now later : CoreState) (who : Found) (want : Want) → SoFar old now who want → MoveGoes now later (vcpu who.vm who.vcpu) false → IsFound later.world who → SoFar old later who want
 next_step old now later who want so_far goes is =
     let g = vcpu who.vm who.vcpu in
     record {
@@ -212,12 +213,12 @@ next_step old now later who want so_far goes is =
 
 -- ---- the end
 
-whole_line : (h : History) (vm number : ℕ) (want : Want) → line_taken h (move_line vm number want) ≡ steps_taken (steps_of (file_words h) (wanted_move (vcpu vm number) want)) (vcpu vm number) (Began (wanted_move (vcpu vm number) want) ∷ h)
+whole_line : (h : History) (vm number : ℕ) (want : Want) → line_taken h (move_line vm number want) ≡ steps_taken (steps_of (file_words h) (wanted_move (vcpu vm number) want) + passes_for h (vcpu vm number)) (vcpu vm number) (Began (wanted_move (vcpu vm number) want) ∷ h)
 whole_line h vm number wants.Leave = refl
 whole_line h vm number (wants.Arrive hart) = refl
 whole_line h vm number (wants.Shift hart) = refl
 
-pub all_steps : (old now later : CoreState) (who : Who) (want : Want) → SoFar old now who want → MoveGoes now later (vcpu who.vm who.vcpu) true → CoreTakes old later (move_line who.vm who.vcpu want) Okay
+pub all_steps : (old now later : CoreState) (who : Found) (want : Want) → SoFar old now who want → MoveGoes now later (vcpu who.vm who.vcpu) true → CoreTakes old later (move_line who.vm who.vcpu want) Okay
 all_steps old now later who want so_far goes =
     let g = vcpu who.vm who.vcpu in
     let line = move_line who.vm who.vcpu want in

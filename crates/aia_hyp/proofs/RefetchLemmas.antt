@@ -47,11 +47,14 @@ use Rattle.aia_hyp.specs.Stands.{VcpuStands, PlanStands, is_held, CoreStands, Co
 use Rattle.aia_hyp.proofs.VcpuLemmas.{IsHeld, IsStill, plan_stays, majors_rest}
 use Rattle.aia_hyp.proofs.EventLemmas.{as_it_was, taken, refused}
 use Rattle.aia_hyp.proofs.GuestStores.{slot_few}
+use Rattle.aia_model.specs.Passes.{passes_of}
+use Rattle.aia_hyp.specs.Passes.{HasItsPasses}
 use Rattle.aia_hyp.proofs.MoveChanges.{IsMoveOf, MoveChanges, file_rests, select_rests, held_as, moved_on}
 use Rattle.aia_regs.specs.declared.limits.TheConstants.{HARTS, SLOTS}
 
 -- It is one virtual hart's alone, as an event of its move is.
 refetch_of : (h : History) (vm number : ℕ) → IsMoveOf h (Accepted (Refetch vm number)) (vcpu vm number)
+unfolding passes_of
 refetch_of h vm number = record {
   plain = refl;
   vms = refl;
@@ -60,12 +63,13 @@ refetch_of h vm number = record {
   seen = λ other ne. seen_stays (Accepted (Refetch vm number)) h other refl (λ w was. refl);
   rests = λ other. refl;
   majors = λ other m. refl;
+  passes = refl;
   host = λ f. refl;
 }
 
 still_refetch : (h : History) (vm number : ℕ) → IsStill h (Accepted (Refetch vm number))
-unfolding flight
-still_refetch h vm number = record { first = tt; one = tt; flights = λ v. refl }
+unfolding flight passes_of
+still_refetch h vm number = record { first = tt; one = tt; flights = λ v. refl; passes = refl; rest = tt }
 
 -- what a call says that reads the entry of a virtual hart that is there again
 pub record IsRefetch (x y : CoreState) (vm number : ℕ) : Type 0 where
@@ -75,6 +79,7 @@ pub record IsRefetch (x y : CoreState) (vm number : ℕ) : Type 0 where
   pub leases : y.leases ≡ x.leases
   pub vcpus : y.vcpus ≡ x.vcpus
   pub selects : y.selects ≡ x.selects
+  pub passes : y.passes ≡ x.passes
 
 module _ (x y : CoreState) (h : History) (vm number : ℕ) (c : IsRefetch x y vm number) (stands : CoreStands x h) where
   abbrev g : Vcpu
@@ -124,6 +129,7 @@ module _ (x y : CoreState) (h : History) (vm number : ℕ) (c : IsRefetch x y vm
         majors = ap (λ (r : VcpuRecord). majors_shown r.majors) (same_record g) ∙ stood.majors ∙ sym (majors_rest h (Accepted (Refetch vm number)) g (λ m. refl));
         two_files = subst AreApart (sym home_is) stood.two_files;
         plan = subst (PlanStands y.world g) (sym stay) (plan_stays x.world y.world g (record_of x g).stay machine stood.plan);
+        passes = subst (HasItsPasses (passes_of (Accepted (Refetch vm number) ∷ h)) g) (sym stay) (subst (λ passes. HasItsPasses passes g (record_of x g).stay) (sym (refetch_of h vm number).passes) stood.passes);
         holds = subst IsHeld (λ k. record {
           words = file_words h;
           slot = slot_of (vms_of h) g;
@@ -167,6 +173,7 @@ module _ (x y : CoreState) (h : History) (vm number : ℕ) (c : IsRefetch x y vm
     still = still_refetch h vm number;
     there = inside;
     rest = rest;
+    passes = c.passes;
     count = ap (λ (w : World). w.notices) c.world;
     host = λ f at. record {
       file = subst (λ (w : World). SameFile (shown (file_at w.imsic (host_spot f))) (shown (file_at x.world.imsic (host_spot f)))) (sym c.world) (as_it_was (shown (file_at x.world.imsic (host_spot f))));

@@ -1,5 +1,5 @@
 -- What makes a core stand for a history: the line that makes its machine, and one event more.
-use Rattle.std.proofs.Common.{◌≡◌, ℕ, zero, suc, ◌+◌, ◌-◌, ◌*◌, ◌/◌, ◌%◌, ◌^◌, ◌<◌, ◌≤◌, Bool, true, false, ◌&&◌, nat_eq, nat_lt, nat_le, get_or, List, length, map, replicate, is_some, [], ◌∷◌, Option, Some, None, refl, sym, ap, ◌∙◌, arith}
+use Rattle.std.proofs.Common.{subst, ◌≡◌, ℕ, zero, suc, ◌+◌, ◌-◌, ◌*◌, ◌/◌, ◌%◌, ◌^◌, ◌<◌, ◌≤◌, Bool, true, false, ◌&&◌, nat_eq, nat_lt, nat_le, get_or, List, length, map, replicate, is_some, [], ◌∷◌, Option, Some, None, refl, sym, ap, ◌∙◌, arith}
 use Rattle.std.specs.Prelude.{min}
 use Rattle.std.specs.Option.{option_map_or}
 use Rattle.std.proofs.lemmas.Bool.{ltb-true}
@@ -38,7 +38,7 @@ use Rattle.aia_model.specs.FileAfter.FileDeed.{Rests}
 use Rattle.aia_model.specs.MajorOf.{majors_of}
 use Rattle.aia_model.specs.Flight.{flight}
 use Rattle.aia_model.specs.ReachOf.{NoneAtFence}
-use Rattle.aia_model.proofs.FlightLemmas.{SendsToOne, flights_on, sent_on, none_flies, none_for_one}
+use Rattle.aia_model.proofs.FlightLemmas.{SendsToOne, all_on, stays_there, flights_on, sent_on, none_flies, none_for_one}
 use Rattle.aia_model.specs.HomeOf.{home, moved}
 use Rattle.aia_model.specs.GuestFile.{guest_deed, guest_select, guest_file}
 use Rattle.aia_model.specs.Notice.{noticed, with_notice, notices_sent}
@@ -55,6 +55,12 @@ use Rattle.aia_hyp.specs.HostFiles.{FileDone, host_spot, select_place, select_in
 use Rattle.aia_hyp.specs.Stands.{HostStands, PlanStands, VcpuStands, HoldApart, is_held, flying_of, CoreStands}
 use Rattle.aia_hyp.proofs.VcpuLemmas.{IsStill, same_n, select_is, MajorsRest, majors_is, majors_rest, is_plain, machine_kept}
 use Rattle.aia_hyp.proofs.NameLemmas.{there_too}
+use Rattle.std.specs.List.{AllByRecursion}
+use Rattle.std.specs.Int.{is_in_range}
+use Rattle.aia_model.specs.Passes.{Pass, passes_of}
+use Rattle.aia_model.specs.Aim.{PassAtRest}
+use Rattle.aia_model.proofs.PassLemmas.{aimed_on, none_passed}
+use Rattle.aia_hyp.specs.Passes.{IsToOne, PassesKept}
 
 -- ---- what an event makes of numbers, files of the host and notices
 
@@ -136,7 +142,7 @@ with_flights x y h event flights b = record {
   count = b.count;
   host = λ f inside. let d = b.host f inside in record { file = d.file; select = d.select };
   records = b.records;
-  vcpus = λ g inside. let v = b.vcpus g inside in record { same_home = v.same_home; select = v.select; majors = v.majors; two_files = v.two_files; plan = plan_with y.world flights g (record_of y g).stay v.plan; holds = v.holds };
+  vcpus = λ g inside. let v = b.vcpus g inside in record { same_home = v.same_home; select = v.select; majors = v.majors; two_files = v.two_files; plan = plan_with y.world flights g (record_of y g).stay v.plan; passes = v.passes; holds = v.holds };
   lease_harts = b.lease_harts;
   lease_guests = b.lease_guests;
   lease_count = b.lease_count;
@@ -167,8 +173,24 @@ flights_stay x y h event still same stands = record {
   flights = λ v. ap (λ flights. get_or flights v []) same ∙ stands.flights v ∙ ap (map (flying_of v)) (sym (still.flights v));
 }
 
-pub stands_after : (x y : CoreState) (h : History) (event : Event) → Becomes x y h event → FlightsBecome y h event → CoreStands x h → CoreStands y (event ∷ h)
-stands_after x y h event b flights stands =
+-- What it makes of the passes.
+pub record PassesBecome (y : CoreState) (h : History) (event : Event) : Type 0 where
+  pub same : y.passes ≡ passes_of (event ∷ h)
+  pub to_one : AllByRecursion (IsToOne h) (passes_of (event ∷ h))
+  pub rest : PassAtRest h event
+
+pub none_passes : (x y : CoreState) (h : History) (event : Event) → passes_of (event ∷ h) ≡ passes_of h → PassAtRest h event → y.passes ≡ x.passes → CoreStands x h → PassesBecome y h event
+none_passes x y h event none rest same stands = record {
+  same = same ∙ stands.passes.same ∙ sym none;
+  to_one = subst (AllByRecursion (IsToOne h)) (sym none) stands.passes.to_one;
+  rest = rest;
+}
+
+to_one_still : (h : History) (event : Event) → greatest_identity_of h ≡ greatest_identity_of (event ∷ h) → (pass : Pass) → IsToOne h pass → IsToOne (event ∷ h) pass
+to_one_still h event n pass one = ((stays_there event h pass.to one.0).0, subst (λ most. is_in_range 1 most pass.identity ≡ true) n one.1)
+
+pub stands_after : (x y : CoreState) (h : History) (event : Event) → Becomes x y h event → FlightsBecome y h event → PassesBecome y h event → CoreStands x h → CoreStands y (event ∷ h)
+stands_after x y h event b flights passes stands =
     let n : greatest_identity_of h ≡ greatest_identity_of (event ∷ h) = sym (same_n _ _ b.keeps.machine) in
     let harts : harts_of h ≡ harts_of (event ∷ h) = sym (ap (λ (o : Option Shape). option_map_or (λ (m : Shape). m.harts) o 0) b.keeps.machine) in
     let guests : guests_of h ≡ guests_of (event ∷ h) = sym (ap (λ (o : Option Shape). option_map_or (λ (m : Shape). m.guests) o 0) b.keeps.machine) in
@@ -186,6 +208,11 @@ stands_after x y h event b flights stands =
       flights = flights.flights;
       may_fly = flights_on h event flights.first stands.may_fly;
       for_one = sent_on h event flights.one stands.for_one;
+      passes = record {
+        same = passes.same;
+        to_one = all_on (IsToOne h) (IsToOne (event ∷ h)) (to_one_still h event n) (passes_of (event ∷ h)) passes.to_one;
+        aimed = aimed_on h event passes.rest stands.passes.aimed;
+      };
       records = b.records;
       vcpus = b.vcpus;
       lease_harts = b.lease_harts ∙ stands.lease_harts ∙ harts;
@@ -262,8 +289,12 @@ no_majors_yet : (g : Vcpu) → majors_of [] g ≡ new_majors
 unfolding majors_of
 no_majors_yet g = refl
 
-pub begun : (x : CoreState) (harts guests n sources : ℕ) → IsNew x.world harts guests n → x.leases ≡ record { harts = harts; guests = guests; out = replicate (harts * guests) false } → x.vcpus ≡ [] → x.selects ≡ replicate (2 * HARTS) 0 → CoreStands x (Accepted (Machine harts guests n sources) ∷ [])
-begun x harts guests n sources new leases vcpus selects =
+none_kept : (x : CoreState) (harts guests n sources : ℕ) → x.passes ≡ [] → PassesKept x (Accepted (Machine harts guests n sources) ∷ [])
+unfolding passes_of
+none_kept x harts guests n sources e = record { same = e; to_one = tt; aimed = aimed_on [] (Accepted (Machine harts guests n sources)) tt none_passed }
+
+pub begun : (x : CoreState) (harts guests n sources : ℕ) → IsNew x.world harts guests n → x.leases ≡ record { harts = harts; guests = guests; out = replicate (harts * guests) false } → x.vcpus ≡ [] → x.selects ≡ replicate (2 * HARTS) 0 → x.passes ≡ [] → CoreStands x (Accepted (Machine harts guests n sources) ∷ [])
+begun x harts guests n sources new leases vcpus selects passes =
     let event = Accepted (Machine harts guests n sources) in
     let memory : x.world.memory ≡ replicate MEMORY_WORDS 0 = ap (λ (w : World). w.memory) new.world in
     record {
@@ -277,6 +308,7 @@ begun x harts guests n sources new leases vcpus selects =
       flights = λ v. ap (λ (w : World). flight_of w v) new.world ∙ ap (map (flying_of v)) (sym (none_flying harts guests n sources v));
       may_fly = flights_on [] event tt none_flies;
       for_one = sent_on [] event tt none_for_one;
+      passes = none_kept x harts guests n sources passes;
       records = ap (λ (rs : List VcpuRecord). length rs) vcpus;
       vcpus = λ g inside. absurd (nobody g inside);
       lease_harts = ap (λ (l : Leases). l.harts) leases;

@@ -8,6 +8,7 @@ use Rattle.aia_major.specs.VsMajor.{VsMajorState}
 use Rattle.aia_major.specs.Kept.{majors_shown, kept_at_first}
 use Rattle.aia_places.specs.Holds.{Hand}
 use Rattle.aia_pool.specs.Leases.{Leases}
+use Rattle.aia_model.specs.Passes.{Pass}
 use Rattle.aia_fabric.specs.World.{World}
 use Rattle.aia_move.specs.declared.who.Kept.{Kept}
 use Rattle.aia_move.specs.Plan.{moving_of}
@@ -16,12 +17,13 @@ use Rattle.aia_hyp.specs.declared.vcpu.Stay.TheVariants as stays
 use Rattle.aia_hyp.specs.declared.vcpu.VcpuRecord.{VcpuRecord}
 
 -- All that stores reach, which guest files are handed out, a record of each virtual hart by its
--- number over all VMs, and the select numbers of the host.
+-- number over all VMs, the select numbers of the host, and the passes of wired sources in order.
 pub record CoreState : Type 0 where
   pub world : World
   pub leases : Leases
   pub vcpus : List VcpuRecord
   pub selects : List ℕ
+  pub passes : List Pass
 
 -- ---- a virtual hart
 

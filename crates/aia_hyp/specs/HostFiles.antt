@@ -68,6 +68,7 @@ pub record HasDone (old new : CoreState) (f : FileName) (deed : FileDeed) : Type
   pub guests : new.world.imsic.guests ≡ old.world.imsic.guests
   pub rest : new.world ≡ record old.world { imsic = new.world.imsic }
   pub leases : new.leases ≡ old.leases
+  pub passes : new.passes ≡ old.passes
   pub vcpus : new.vcpus ≡ old.vcpus
   pub done : FileDone old new f deed
   pub files : (spot : Spot) → IsThere old.world.imsic spot → spot ≢ host_spot f

@@ -1,4 +1,5 @@
 pub mod Core
+pub mod Passes
 pub mod HostFiles
 pub mod Stands
 pub mod Moves

@@ -22,14 +22,15 @@ ghost use Rattle.aia_fabric.specs.Whole.{IsWhole};
 ghost use Rattle.aia_model.specs.declared.answer.Answer.TheVariants.{Okay, Narrow, Wide};
 ghost use Rattle.aia_hyp.specs.Core.{no_record};
 ghost use Rattle.aia_hyp.specs.HostFiles.{IsHost, HasDone, name_of, csr_line, host_spot, is_host_spot, file_in, select_place, select_in};
-ghost use Rattle.aia_hyp.specs.Stands.{CoreStands, StandsForSome, CoreTakes, CoreBegins, CoreHears, answer_by, core_refusal, signals_of, route_answer};
+ghost use Rattle.aia_hyp.specs.Stands.{CoreStands, StandsForSome, CoreTakes, CoreBegins, answer_by, core_refusal, signals_of, route_answer};
 
+use crate::passes::Passes;
 use crate::vcpu::VcpuRecord;
 use aia_csr::{Access, decide};
 use aia_entry::{Route, is_mask};
 use aia_fabric::Fabric;
 use aia_imsic::Spot;
-use aia_model::{Msi, Refusal};
+use aia_model::Refusal;
 use aia_pool::Pool;
 use aia_regs::address_map::{PAGE, is_in_memory};
 use aia_regs::limits::{GUEST_FILES, HARTS, VCPUS, VM_VCPUS, VMS};
@@ -44,14 +45,15 @@ const SELECT_NUMBERS: u64 = 0x1000;
 const SELECTS: usize = 2 * HARTS as usize;
 
 /// The hypervisor's core: all that stores reach, with the VMs that stand; which guest files are
-/// handed out; a record of each virtual hart, by its number over all VMs; and the select numbers of
-/// the host, of each hart `miselect`, then `siselect`.
+/// handed out; a record of each virtual hart, by its number over all VMs; the select numbers of the
+/// host, of each hart `miselect`, then `siselect`; and the passes of wired sources.
 #[derive(Drop)]
 pub struct Hyp {
     pub(crate) fabric: Fabric,
     pub(crate) pool: Pool,
     pub(crate) vcpus: Vec<VcpuRecord>,
     selects: [u64; SELECTS],
+    pub(crate) passes: Passes,
 }
 
 impl Model for Hyp {
@@ -68,6 +70,7 @@ impl Model for Hyp {
       leases = h.pool;
       vcpus = h.vcpus.items;
       selects = h.selects;
+      passes = h.passes;
     } };
 
     ghost invariant = { λ h. StandsForSome (record {
@@ -75,6 +78,7 @@ impl Model for Hyp {
       leases = h.pool;
       vcpus = h.vcpus.items;
       selects = h.selects;
+      passes = h.passes;
     }) × (vec_capacity h.vcpus ≡ VCPUS) };
 }
 
@@ -98,6 +102,7 @@ impl Hyp {
             pool,
             vcpus,
             selects: [0; SELECTS],
+            passes: Passes::new(),
         })
     }
 
@@ -198,19 +203,6 @@ impl Hyp {
             _ if is_in_memory(addr) => Err(Refusal::Guarded),
             _ => Err(Refusal::Fault),
         }
-    }
-
-    /// Delivers an MSI to the file in whose page its address lies, a machine-level or a supervisor
-    /// file that is there; elsewhere it is dropped (our profile).
-    pub fn deliver(&mut self, msi: Msi)
-        ensures { CoreHears self.old self.new msi }
-    {
-        let spot = self.fabric.locate(msi.address);
-        if !is_host(spot) {
-            return;
-        }
-        self.fabric
-            .host_store(spot, (msi.address % PAGE) as u32, msi.value);
     }
 
     /// Makes the next VM, of `vcpus` virtual harts, with `mask` over the page numbers of its MSI
@@ -356,7 +348,7 @@ fn spot(level: Level, hart: u32) -> Spot
 }
 
 /// Tells whether a place is that of a file of the host.
-fn is_host(spot: Spot) -> bool
+pub(crate) fn is_host(spot: Spot) -> bool
     ensures { result ≡ is_host_spot spot }
 {
     matches!(spot, Spot::MachineFile(_) | Spot::HostFile(_))

@@ -3,11 +3,13 @@
 #![tactic(auto)]
 
 mod flights;
+mod forwards;
 mod guest;
 mod hyp;
 pub mod laws;
 mod majors;
 mod moves;
+mod passes;
 mod peers;
 mod signals;
 mod vcpu;

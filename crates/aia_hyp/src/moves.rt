@@ -7,15 +7,21 @@ ghost use Rattle.aia_model.specs.declared.line.Line.TheVariants.{Step};
 ghost use Rattle.aia_model.specs.declared.answer.Answer.TheVariants.{Okay};
 ghost use Rattle.aia_move.specs.Move.{IsWho};
 ghost use Rattle.aia_move.specs.Plan.{moving_of};
+ghost use Rattle.aia_model.specs.Event.{History};
+ghost use Rattle.aia_model.specs.Event.Event.{Stepped};
+ghost use Rattle.aia_model.specs.Aim.{aimed_by};
+ghost use Rattle.aia_model.specs.Refusal.{refusal};
 ghost use Rattle.aia_hyp.specs.Core.{no_kept, no_record, record_of, home_in, has_plan};
-ghost use Rattle.aia_hyp.specs.Stands.{CoreTakes, answer_by};
-ghost use Rattle.aia_hyp.specs.Moves.{move_line, begin_line, step_answer, MakesOne, WantBegins, LeaveBegins, ArriveBegins, ShiftBegins, MoveBegins, MoveGoes, stay_after, back_of, with_back, IsOutThere, stay_then, back_then, is_finished};
+ghost use Rattle.aia_hyp.specs.Passes.{own_passes, AimsBy};
+ghost use Rattle.aia_hyp.specs.Stands.{CoreStands, CoreTakes, answer_by};
+ghost use Rattle.aia_hyp.specs.Moves.{IsFound, UnlessRefused, WholeAims, move_line, begin_line, step_answer, MakesOne, WantBegins, LeaveBegins, ArriveBegins, ShiftBegins, MoveBegins, MoveGoes, stay_after, back_of, with_back, IsOutThere, stay_then, back_then, is_finished};
 
 use crate::hyp::Hyp;
+use crate::passes::Passes;
 use crate::vcpu::{Stay, VcpuRecord};
 use aia_fabric::Fabric;
 use aia_model::Refusal;
-use aia_move::{Kept, Next, Outcome, Plan, Who};
+use aia_move::{Kept, Next, Outcome, Plan, Targets, Who};
 use aia_pool::Pool;
 
 /// A move that is wanted of a virtual hart.
@@ -29,20 +35,45 @@ pub enum Want {
     Shift(u64),
 }
 
+/// A virtual hart that is there.
+#[derive(Clone, Copy, Debug, PartialEq, Eq)]
+pub(crate) struct Found {
+    /// Its VM.
+    pub vm: u32,
+    /// Its number in the VM.
+    pub vcpu: u32,
+    /// Its number over all VMs: that of its slot of memory.
+    pub slot: u32,
+    /// The hart whose supervisor file takes its notices.
+    pub notice: u32,
+}
+
 impl Hyp {
     /// Moves a virtual hart, by all steps of its plan. `Err` is `Range` where the virtual hart or
     /// the hart isn't there, `Busy` where it is being moved, `Home` where it is to arrive and is
     /// resident, `Parked` where it is to leave or shift and is parked, `NoFile` where no guest file
-    /// of the hart is free; nothing is changed then. Profile.
-    pub fn whole(&mut self, vm: u64, number: u64, want: Want) -> Result<(), Refusal>
-        ensures { CoreTakes self.old self.new (move_line vm number want)
+    /// of the hart is free; nothing is changed then. Its passed sources are aimed at the new place,
+    /// each by its step, and the targets of all others stay. Profile.
+    pub fn whole<T: Targets>(
+        &mut self,
+        vm: u64,
+        number: u64,
+        want: Want,
+        targets: &mut T,
+    ) -> Result<(), Refusal>
+        requires { self.old.world.imsic.harts ≡ (T.map targets.old).harts }
+        ensures takes { CoreTakes self.old self.new (move_line vm number want)
             (answer_by (λ _. Okay) result) }
+        ensures aims { (h : History) → CoreStands self.old h
+            → UnlessRefused (refusal h (move_line vm number want))
+            (WholeAims T.aimed h vm number want targets.old targets.new)
+            (targets.new ≡ targets.old) }
     {
-        let Some(who) = who_at(&self.fabric, vm, number) else {
+        let Some(found) = find(&self.fabric, vm, number) else {
             return Err(Refusal::Range);
         };
-        self.begin_of(who, want)?;
-        while !self.step_of(who) {}
+        self.begin_of(found, want)?;
+        while !self.step_of(found, targets) {}
         Ok(())
     }
 
@@ -52,33 +83,43 @@ impl Hyp {
         ensures { CoreTakes self.old self.new (begin_line vm number want)
             (answer_by (λ _. Okay) result) }
     {
-        let Some(who) = who_at(&self.fabric, vm, number) else {
+        let Some(found) = find(&self.fabric, vm, number) else {
             return Err(Refusal::Range);
         };
-        self.begin_of(who, want)
+        self.begin_of(found, want)
     }
 
-    /// Does the next step of the move of a virtual hart, which is one access of its plan. `true`
-    /// says that it was the last one, and that the move is at its end. `Err` is `Range` where the
-    /// virtual hart isn't there, `Idle` where it is not being moved; nothing is changed then.
-    /// Profile.
-    pub fn step(&mut self, vm: u64, number: u64) -> Result<bool, Refusal>
+    /// Does the next step of the move of a virtual hart: one access of its plan, or the aim of one
+    /// passed source at the new place; other targets stay. `true` says that it was the last one, and
+    /// that the move is at its end. `Err` is `Range` where the virtual hart isn't there, `Idle`
+    /// where it is not being moved; nothing is changed then. Profile.
+    pub fn step<T: Targets>(
+        &mut self,
+        vm: u64,
+        number: u64,
+        targets: &mut T,
+    ) -> Result<bool, Refusal>
+        requires { self.old.world.imsic.harts ≡ (T.map targets.old).harts }
         ensures takes { CoreTakes self.old self.new (Step vm number)
             (answer_by step_answer result) }
         ensures one { (plan : Plan) → (record_of self.old (vcpu vm number)).stay ≡ Stay.Moving plan
             → OnOk result (MakesOne self.old.world (moving_of plan) self.new.world) }
+        ensures aims { (h : History) → CoreStands self.old h
+            → UnlessRefused (refusal h (Step vm number))
+            (AimsBy T.aimed (aimed_by h (Stepped (vcpu vm number))) targets.old targets.new)
+            (targets.new ≡ targets.old) }
     {
-        let Some(who) = who_at(&self.fabric, vm, number) else {
+        let Some(found) = find(&self.fabric, vm, number) else {
             return Err(Refusal::Range);
         };
-        if !self.is_moved(who.vm, who.vcpu) {
+        if !self.is_moved(found.vm, found.vcpu) {
             return Err(Refusal::Idle);
         }
-        Ok(self.step_of(who))
+        Ok(self.step_of(found, targets))
     }
 
     /// Tells whether a virtual hart that is there is being moved.
-    fn is_moved(&self, vm: u32, number: u32) -> bool
+    pub(crate) fn is_moved(&self, vm: u32, number: u32) -> bool
         requires { is_vcpu_in self.now.world.vms (vcpu vm number) ≡ true }
         ensures { result ≡ has_plan (record_of self.now (vcpu vm number)).stay }
     {
@@ -87,57 +128,83 @@ impl Hyp {
     }
 
     /// Begins to move a virtual hart that is there, and does no step of the move.
-    fn begin_of(&mut self, who: Who, want: Want) -> Result<(), Refusal>
-        requires { IsWho self.old.world who }
-        ensures begins { MoveBegins self.old self.new who.vm who.vcpu want
+    fn begin_of(&mut self, found: Found, want: Want) -> Result<(), Refusal>
+        requires { IsFound self.old.world found }
+        ensures begins { MoveBegins self.old self.new found.vm found.vcpu want
             (answer_by (λ _. Okay) result) }
-        ensures who { IsWho self.new.world who }
+        ensures world { self.new.world ≡ self.old.world }
     {
         let harts = self.fabric.harts();
-        let old = swap_stay(&mut self.vcpus, who.slot, nowhere());
+        let who = who_of(found, &self.passes);
+        let old = swap_stay(&mut self.vcpus, found.slot, nowhere());
         let (new, answer) = begun(old, who, want, harts, &mut self.pool);
-        swap_stay(&mut self.vcpus, who.slot, new);
+        swap_stay(&mut self.vcpus, found.slot, new);
         answer
     }
 
     /// Makes the next step of the move of a virtual hart that is being moved, and tells whether it
     /// was the last one.
-    fn step_of(&mut self, who: Who) -> bool
-        requires who { IsWho self.old.world who }
-        requires moving { is_moving (home_in (record_of self.old (vcpu who.vm who.vcpu)).stay)
+    fn step_of<T: Targets>(&mut self, found: Found, targets: &mut T) -> bool
+        requires found { IsFound self.old.world found }
+        requires moving { is_moving (home_in (record_of self.old (vcpu found.vm found.vcpu)).stay)
             ≡ true }
-        ensures goes { MoveGoes self.old self.new (vcpu who.vm who.vcpu) result }
-        ensures who { IsWho self.new.world who }
+        requires harts { self.old.world.imsic.harts ≡ (T.map targets.old).harts }
+        ensures goes { MoveGoes self.old self.new (vcpu found.vm found.vcpu) result }
+        ensures aims { (h : History) → CoreStands self.old h
+            → AimsBy T.aimed (aimed_by h (Stepped (vcpu found.vm found.vcpu))) targets.old
+            targets.new }
+        ensures found { IsFound self.new.world found }
+        ensures harts { self.new.world.imsic.harts ≡ (T.map targets.new).harts }
     {
         let _whole = self.fabric.words();
-        let Stay::Moving(plan) = swap_stay(&mut self.vcpus, who.slot, nowhere()) else {
+        let Stay::Moving(plan) = swap_stay(&mut self.vcpus, found.slot, nowhere()) else {
             unreachable!()
         };
-        let next = plan.step(&mut self.fabric);
+        let next = plan.step(&mut self.fabric, targets);
         let _whole = self.fabric.words();
         let (new, last) = rest_of(next, &mut self.pool);
-        swap_stay(&mut self.vcpus, who.slot, new);
+        swap_stay(&mut self.vcpus, found.slot, new);
         last
     }
 }
 
 /// Finds the virtual hart of this VM with this number, with its slot and its notice hart. `None`
 /// exactly where it isn't there.
-fn who_at(fabric: &Fabric, vm: u64, number: u64) -> Option<Who>
-    ensures there { IfSome result (λ who. IsWho fabric.now who) }
-    ensures named { IfSome result (λ who. (who.vm ≡ vm) × (who.vcpu ≡ number)) }
+pub(crate) fn find(fabric: &Fabric, vm: u64, number: u64) -> Option<Found>
+    ensures there { IfSome result (λ found. IsFound fabric.now found) }
+    ensures named { IfSome result (λ found. (found.vm ≡ vm) × (found.vcpu ≡ number)) }
     ensures none { IfNone result (is_vcpu_in fabric.now.vms (vcpu vm number) ≡ false) }
 {
     if !fabric.has_vcpu(vm, number) {
         return None;
     }
     let (vm, vcpu) = (vm as u32, number as u32);
-    Some(Who {
+    Some(Found {
         vm,
         vcpu,
         slot: fabric.slot_of(vm, vcpu),
         notice: fabric.notice_hart(vm, vcpu),
     })
+}
+
+/// Tells who is moved: the virtual hart with the passes to it.
+fn who_of(found: Found, passes: &Passes) -> Who
+    ensures named { result ≡ record {
+      vm = found.vm;
+      vcpu = found.vcpu;
+      slot = found.slot;
+      notice = found.notice;
+      passes = result.passes;
+    } }
+    ensures passes { result.passes.items ≡ own_passes 0 (vcpu found.vm found.vcpu) passes.now }
+{
+    Who {
+        vm: found.vm,
+        vcpu: found.vcpu,
+        slot: found.slot,
+        notice: found.notice,
+        passes: passes.to(found.vm, found.vcpu),
+    }
 }
 
 /// Makes what stands in a record while the virtual hart's own is out.

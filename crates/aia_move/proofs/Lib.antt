@@ -1,6 +1,7 @@
 mod WhoLemmas
 mod PhaseSteps
 mod StepLemmas
+pub mod AimLemmas
 pub mod MadeView
 pub mod TouchLemmas
 pub mod MoveKept

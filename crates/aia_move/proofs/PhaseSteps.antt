@@ -30,7 +30,7 @@ middle words (Arriving to at) moves = record { drain = refl; enable = omega arit
 middle words (Shifting from to at) moves = record { drain = refl; enable = omega arith; looks = omega arith; take = refl; after = refl; more = λ some. omega (arith, some); few = λ low. omega (arith, low) }
 
 -- a step changes no beginning
-begins_on : (words : ℕ) (there : Home) (phase : Phase) → begins words (one_more there) phase ≡ begins words there phase
+pub begins_on : (words : ℕ) (there : Home) (phase : Phase) → begins words (one_more there) phase ≡ begins words there phase
 begins_on words Parked phase = refl
 begins_on words (Resident p) phase = refl
 begins_on words (Leaving from at) phase = refl

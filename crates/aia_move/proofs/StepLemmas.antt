@@ -13,6 +13,7 @@ use Rattle.aia_home.specs.Plans.{is_at_last, Access, steps_done, has_access, IsN
 use Rattle.aia_home.specs.Home.Home.{Parked, Resident, Leaving, Arriving, Shifting}
 use Rattle.aia_home.specs.Plans.Access.{TakeDelivery, PutDelivery, WriteNotice, WriteEntry, Fence, WriteStage, FenceStage, TakePending, PutPending, TakeEnables, PutEnables, Look, TakeThreshold, PutThreshold, Post}
 use Rattle.aia_home.specs.Phases.{begins}
+use Rattle.aia_home.specs.Aims.{aims_done}
 use Rattle.aia_home.specs.Phases.Phase.{ClosingPhase, DrainPhase, EnablePhase, LookPhase}
 use Rattle.aia_home.specs.BySteps.{own_file, next_file}
 use Rattle.aia_home.proofs.PlanLemmas.{next_in_plan}
@@ -22,7 +23,7 @@ use Rattle.aia_fabric.specs.declared.at.At.TheVariants.{File, Slot}
 use Rattle.aia_fabric.specs.World.{World}
 use Rattle.aia_fabric.specs.Changes.{PutsRegister, spot_of, with_pending, with_enable}
 use Rattle.aia_move.specs.Move.{Moving, width, old_at, new_at, PostsIf, Makes, hand_after, Fits, Ends}
-use Rattle.aia_move.specs.Load.{Load, load_of, moving, one_done, Does, closing_access, pending_access, enables_access}
+use Rattle.aia_move.specs.Load.{Load, load_of, progress_of, moving, one_done, Does, closing_access, pending_access, enables_access}
 use Rattle.aia_move.specs.Turns.{IsIn, IsMove, GoesOn}
 use Rattle.aia_move.proofs.PhaseSteps.{middle}
 
@@ -158,17 +159,17 @@ not_last words (Arriving to at) low = ne_eqb _ _ (λ e. omega (arith, e, low))
 not_last words (Shifting from to at) low = ne_eqb _ _ (λ e. omega (arith, e, low))
 
 -- the state with a load
-loaded : (m : Moving) (there : Progress → Home) (now : Load) (hand : Hand) → there (one_further (record { steps = steps_done m.home })) ≡ one_more m.home → now ≡ one_done (load_of m) hand
+loaded : (m : Moving) (there : Progress → Home) (now : Load) (hand : Hand) → there (one_further (record { steps = steps_done m.home; aims = aims_done m.home })) ≡ one_more m.home → now ≡ one_done (load_of m) hand
     → moving there now ≡ record m { home = one_more m.home; hand = hand }
 loaded m there now hand next is = ap (λ (l : Load). moving there l) is ∙ ap (λ (h : Home). record m { home = h; hand = hand }) next
 
 -- before any word is carried, and after all are
-pub step_before : (w u : World) (m s : Moving) (there : Progress → Home) (now : Load) (access : Access) → m ≡ s → Fits w s → there (one_further (record { steps = steps_done m.home })) ≡ one_more m.home
+pub step_before : (w u : World) (m s : Moving) (there : Progress → Home) (now : Load) (access : Access) → m ≡ s → Fits w s → there (one_further (record { steps = steps_done m.home; aims = aims_done m.home })) ≡ one_more m.home
     → IsNext (width w) m.home access → Does access m w u now → steps_done m.home < first_take m.home → GoesOn w s u (moving there now)
 step_before w u m s there now access seen fits more next does low =
     seen_so w u m s (moving there now) access seen fits next does.makes (loaded m there now _ more does.load) (not_last (width w) m.home (omega (arith, low))) (record { pending = λ e. absurd (omega (arith, e, low)); enabled = λ e. absurd (omega (arith, e, low)) })
 
-pub step_after : (w u : World) (m s : Moving) (there : Progress → Home) (now : Load) (access : Access) → m ≡ s → Fits w s → there (one_further (record { steps = steps_done m.home })) ≡ one_more m.home
+pub step_after : (w u : World) (m s : Moving) (there : Progress → Home) (now : Load) (access : Access) → m ≡ s → Fits w s → there (one_further (record { steps = steps_done m.home; aims = aims_done m.home })) ≡ one_more m.home
     → IsNext (width w) m.home access → Does access m w u now → is_at_last (width w) m.home ≡ false → 1 ≤ width w → enables_step (width w) m.home (width w) ≤ steps_done m.home → GoesOn w s u (moving there now)
 step_after w u m s there now access seen fits more next does unfinished some past =
     seen_so w u m s (moving there now) access seen fits next does.makes (loaded m there now _ more does.load) unfinished (record { pending = λ e. absurd (omega (arith, e, past, some)); enabled = λ e. absurd (omega (arith, e, past, some)) })
@@ -257,19 +258,19 @@ closing_next words first n (Shifting p q progress) moves at is from below = elim
 
 module _ (there : Progress → Home) (is : IsMove there) where
   pub load_is : (l : Load) → load_of (moving there l) ≡ l
-  load_is l = ap (λ n. record l { steps = n }) (is.steps (record { steps = l.steps }))
+  load_is l = λ k. record l { steps = is.steps (progress_of l) k; aims = is.aims (progress_of l) k }
 
   pub steps_are : (l : Load) (s : Moving) → moving there l ≡ s → l.steps ≡ steps_done s.home
-  steps_are l s seen = sym (is.steps (record { steps = l.steps })) ∙ ap (λ (x : Moving). steps_done x.home) seen
+  steps_are l s seen = sym (is.steps (progress_of l)) ∙ ap (λ (x : Moving). steps_done x.home) seen
 
-  goes_on : (l : Load) → there (one_further (record { steps = steps_done (moving there l).home })) ≡ one_more (moving there l).home
-  goes_on l = ap (λ n. there (one_further (record { steps = n }))) (is.steps (record { steps = l.steps })) ∙ is.more (record { steps = l.steps })
+  goes_on : (l : Load) → there (one_further (record { steps = steps_done (moving there l).home; aims = aims_done (moving there l).home })) ≡ one_more (moving there l).home
+  goes_on l = (λ k. there (one_further (record { steps = is.steps (progress_of l) k; aims = is.aims (progress_of l) k }))) ∙ is.more (progress_of l)
 
   pub move_closes : (w u : World) (l now : Load) (s : Moving) (first : ℕ) → moving there l ≡ s → Fits w s → IsIn ClosingPhase (width w) s → first ≡ begins (width w) s.home ClosingPhase
       → Does (closing_access first l.steps) (moving there l) w u now → GoesOn w s u (moving there now)
   move_closes w u l now s first seen fits phase begin does =
-      let moves = is.moves (record { steps = l.steps }) in
-      let steps = is.steps (record { steps = l.steps }) in
+      let moves = is.moves (progress_of l) in
+      let steps = is.steps (progress_of l) in
       let here : IsIn ClosingPhase (width w) (moving there l) = subst (λ x. IsIn ClosingPhase (width w) x) (sym seen) phase in
       let from : first ≡ begins (width w) (moving there l).home ClosingPhase = begin ∙ ap (λ (x : Moving). begins (width w) x.home ClosingPhase) (sym seen) in
       let mid = middle (width w) (moving there l).home moves in
@@ -281,8 +282,8 @@ module _ (there : Progress → Home) (is : IsMove there) where
       → Does (pending_access first l.steps) (moving there l) w u now → (l.steps ≡ first → has_bit now.hand.word 0 ≡ false) → GoesOn w s u (moving there now)
   move_carries_pending w u l now s first seen fits phase begin does zero =
       let m = moving there l in
-      let moves = is.moves (record { steps = l.steps }) in
-      let steps = is.steps (record { steps = l.steps }) in
+      let moves = is.moves (progress_of l) in
+      let steps = is.steps (progress_of l) in
       let here : IsIn DrainPhase (width w) m = subst (λ x. IsIn DrainPhase (width w) x) (sym seen) phase in
       let from : first ≡ begins (width w) m.home DrainPhase = begin ∙ ap (λ (x : Moving). begins (width w) x.home DrainPhase) (sym seen) in
       let mid = middle (width w) m.home moves in
@@ -296,8 +297,8 @@ module _ (there : Progress → Home) (is : IsMove there) where
       → Does (enables_access first l.steps) (moving there l) w u now → (l.steps ≡ first → has_bit now.hand.word 0 ≡ false) → GoesOn w s u (moving there now)
   move_carries_enables w u l now s first seen fits phase some begin does zero =
       let m = moving there l in
-      let moves = is.moves (record { steps = l.steps }) in
-      let steps = is.steps (record { steps = l.steps }) in
+      let moves = is.moves (progress_of l) in
+      let steps = is.steps (progress_of l) in
       let here : IsIn EnablePhase (width w) m = subst (λ x. IsIn EnablePhase (width w) x) (sym seen) phase in
       let from : first ≡ begins (width w) m.home EnablePhase = begin ∙ ap (λ (x : Moving). begins (width w) x.home EnablePhase) (sym seen) in
       let mid = middle (width w) m.home moves in

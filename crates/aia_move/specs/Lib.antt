@@ -1,4 +1,5 @@
 pub mod Move
+pub mod Targets
 pub mod Load
 pub mod Turns
 pub mod Touches

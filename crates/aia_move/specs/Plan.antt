@@ -1,58 +1,82 @@
 -- A move in any of its phases, and what a step makes of it.
-use Rattle.std.specs.Prelude.{ℕ}
-use Rattle.aia_home.specs.Phases.{Phase}
-use Rattle.aia_home.specs.Phases.Phase.{FirstPhase, ClosingPhase, DrainPhase, EnablePhase, LookPhase, LastPhase}
+use Rattle.std.specs.Prelude.{◌≡◌, ℕ, Bool, true, false, Option, Some, None}
+use Rattle.aia_home.specs.Phases.Phase.{FirstPhase, ClosingPhase, EnablePhase, LookPhase, LastPhase}
 use Rattle.aia_move.specs.declared.plan.Plan.{Plan}
-use Rattle.aia_move.specs.declared.plan.Plan.TheVariants.{LeaveFirst, LeaveClosing, LeaveDrain, LeaveEnable, LeaveLook, LeaveLast, ArriveFirst, ArriveClosing, ArriveDrain, ArriveEnable, ArriveLast, ShiftFirst, ShiftClosing, ShiftDrain, ShiftEnable, ShiftLast}
+use Rattle.aia_move.specs.declared.plan.Plan.TheVariants.{LeaveFirst, LeaveClosing, LeaveAim, LeaveDrain, LeaveEnable, LeaveLook, LeaveLast, ArriveFirst, ArriveClosing, ArriveAim, ArriveDrain, ArriveEnable, ArriveLast, ShiftFirst, ShiftClosing, ShiftAim, ShiftDrain, ShiftEnable, ShiftLast}
 use Rattle.aia_move.specs.declared.plan.Next.{Next}
 use Rattle.aia_move.specs.declared.plan.Next.TheVariants.{Again, Finished}
 use Rattle.aia_move.specs.declared.turn.Outcome.{Outcome}
-use Rattle.aia_move.specs.Move.{Moving}
-use Rattle.aia_move.specs.Turns.{IsIn}
+use Rattle.aia_fabric.specs.World.{World}
+use Rattle.aia_move.specs.Move.{Moving, Goes}
+use Rattle.aia_move.specs.Targets.{Aim, one_aimed}
+use Rattle.aia_move.specs.Landings.{OnceLanded}
+use Rattle.aia_move.specs.Turns.{IsIn, IsAtAims, IsInDrain, EndsAs}
 
 -- The move.
 abbrev pub moving_of : Plan → Moving
 moving_of (LeaveFirst m) = m
 moving_of (LeaveClosing m) = m
+moving_of (LeaveAim m) = m
 moving_of (LeaveDrain m) = m
 moving_of (LeaveEnable m) = m
 moving_of (LeaveLook m) = m
 moving_of (LeaveLast m) = m
 moving_of (ArriveFirst m) = m
 moving_of (ArriveClosing m) = m
+moving_of (ArriveAim m) = m
 moving_of (ArriveDrain m) = m
 moving_of (ArriveEnable m) = m
 moving_of (ArriveLast m) = m
 moving_of (ShiftFirst m) = m
 moving_of (ShiftClosing m) = m
+moving_of (ShiftAim m) = m
 moving_of (ShiftDrain m) = m
 moving_of (ShiftEnable m) = m
 moving_of (ShiftLast m) = m
 
--- The phase that it is in.
-abbrev pub phase_of : Plan → Phase
-phase_of (LeaveFirst m) = FirstPhase
-phase_of (LeaveClosing m) = ClosingPhase
-phase_of (LeaveDrain m) = DrainPhase
-phase_of (LeaveEnable m) = EnablePhase
-phase_of (LeaveLook m) = LookPhase
-phase_of (LeaveLast m) = LastPhase
-phase_of (ArriveFirst m) = FirstPhase
-phase_of (ArriveClosing m) = ClosingPhase
-phase_of (ArriveDrain m) = DrainPhase
-phase_of (ArriveEnable m) = EnablePhase
-phase_of (ArriveLast m) = LastPhase
-phase_of (ShiftFirst m) = FirstPhase
-phase_of (ShiftClosing m) = ClosingPhase
-phase_of (ShiftDrain m) = DrainPhase
-phase_of (ShiftEnable m) = EnablePhase
-phase_of (ShiftLast m) = LastPhase
+-- Whether it is in the phase of aims.
+abbrev pub is_in_aim : Plan → Bool
+is_in_aim (LeaveAim m) = true
+is_in_aim (ArriveAim m) = true
+is_in_aim (ShiftAim m) = true
+is_in_aim plan = false
 
 -- Its next step is a step of its phase, of files of so many words.
 abbrev pub IsInPhase : ℕ → Plan → Type 0
-IsInPhase words plan = IsIn (phase_of plan) words (moving_of plan)
+IsInPhase words (LeaveFirst m) = IsIn FirstPhase words m
+IsInPhase words (LeaveClosing m) = IsIn ClosingPhase words m
+IsInPhase words (LeaveAim m) = IsAtAims m
+IsInPhase words (LeaveDrain m) = IsInDrain words m
+IsInPhase words (LeaveEnable m) = IsIn EnablePhase words m
+IsInPhase words (LeaveLook m) = IsIn LookPhase words m
+IsInPhase words (LeaveLast m) = IsIn LastPhase words m
+IsInPhase words (ArriveFirst m) = IsIn FirstPhase words m
+IsInPhase words (ArriveClosing m) = IsIn ClosingPhase words m
+IsInPhase words (ArriveAim m) = IsAtAims m
+IsInPhase words (ArriveDrain m) = IsInDrain words m
+IsInPhase words (ArriveEnable m) = IsIn EnablePhase words m
+IsInPhase words (ArriveLast m) = IsIn LastPhase words m
+IsInPhase words (ShiftFirst m) = IsIn FirstPhase words m
+IsInPhase words (ShiftClosing m) = IsIn ClosingPhase words m
+IsInPhase words (ShiftAim m) = IsAtAims m
+IsInPhase words (ShiftDrain m) = IsInDrain words m
+IsInPhase words (ShiftEnable m) = IsIn EnablePhase words m
+IsInPhase words (ShiftLast m) = IsIn LastPhase words m
 
 -- What is said of a plan that goes on, and of what one that is finished gives back.
 abbrev pub MatchNext : Next → (Plan → Type 0) → (Outcome → Type 0) → Type 0
 MatchNext (Again p) again finished = again p
 MatchNext (Finished o) again finished = finished o
+
+-- A passed source is aimed: the world stays, and of the move all but how many are.
+pub record GoesAiming (w : World) (m : Moving) (u : World) (t : Moving) : Type 0 where
+  pub world : u ≡ w
+  pub moved : t ≡ one_aimed m
+
+-- What a step makes of the world and of a move: where it aims, a passed source is aimed, and the
+-- move goes on; elsewhere it makes the next access of the plan, once what lands before it has.
+abbrev pub StepsTo : Option Aim → World → Moving → World → Next → Type 0
+StepsTo None w m u next = OnceLanded w m (λ landed. MatchNext next
+    (λ p. Goes landed m u (moving_of p))
+    (λ o. EndsAs landed m u o))
+StepsTo (Some aim) w m u next = MatchNext next (λ p. GoesAiming w m u (moving_of p)) (λ o. ⊥)

@@ -1,7 +1,7 @@
-ghost use Rattle.std.specs.Prelude.{◌≡◌, ◌+◌, ◌-◌, ◌/◌, ◌<◌, ◌≤◌, false, option_map, Option, Some};
+ghost use Rattle.std.specs.Prelude.{◌≡◌, ◌+◌, ◌-◌, ◌/◌, ◌<◌, ◌≤◌, false, nat_lt, option_map, Option, Some, IfSome};
 ghost use Rattle.std.specs.Borrow.{Bor};
 ghost use Rattle.aia_word.specs.Sets.{has_bit};
-ghost use Rattle.aia_regs.specs.declared.limits.TheConstants.{VCPUS, FILE_WORDS};
+ghost use Rattle.aia_regs.specs.declared.limits.TheConstants.{GUEST_FILES, VCPUS, FILE_WORDS};
 ghost use Rattle.aia_imsic.specs.Imsic.{IsThere};
 ghost use Rattle.aia_home.specs.declared.place.Place.{Place};
 ghost use Rattle.aia_home.specs.Plans.{leave_steps};
@@ -10,13 +10,15 @@ ghost use Rattle.aia_home.specs.Plans.Access.{TakeDelivery, PutDelivery, WriteNo
 ghost use Rattle.aia_fabric.specs.Flights.{Fences};
 ghost use Rattle.aia_fabric.specs.Changes.{IsPlaceThere, spot_of, words_at};
 ghost use Rattle.aia_move.specs.Move.{Moving, IsWho, Makes, PostsIf, old_at, new_at, old_spot, new_spot, width};
-ghost use Rattle.aia_move.specs.Load.{Does, load_of, one_done, closing_access, pending_access, enables_access};
+ghost use Rattle.aia_move.specs.Targets.{ArePasses, passes_of, aim_of};
+ghost use Rattle.aia_move.specs.Load.{Does, load_of, one_done, one_aim_done, closing_access, pending_access, enables_access};
 
-use crate::{Who, words};
+use crate::{Targets, Who, words};
 use aia_fabric::{At, Fabric};
 use aia_home::Place;
 use aia_imsic::Spot;
 use aia_pool::FileLease;
+use aia_regs::limits::FIRST_PASS_IDENTITY;
 use aia_regs::{FileReg, Op};
 use std::marker::Model;
 
@@ -28,6 +30,8 @@ pub struct Carrier {
     pub who: Who,
     /// How many steps are done: fewer than a leave of the greatest files has.
     pub done: u32,
+    /// How many passed sources are aimed.
+    pub aims: usize,
     /// The word of a set that was taken last.
     pub word: u64,
     /// eidelivery.
@@ -46,6 +50,7 @@ impl Model for Carrier {
     ghost view = { λ c. record {
       who = c.who;
       steps = c.done;
+      aims = c.aims;
       hand = record {
         word = c.word;
         delivery = c.delivery;
@@ -62,12 +67,14 @@ impl Carrier {
         ensures { result ≡ record {
           who = who;
           steps = 0;
+          aims = 0;
           hand = record { word = 0; delivery = delivery; threshold = threshold; seen = false };
         } }
     {
         Carrier {
             who,
             done: 0,
+            aims: 0,
             word: 0,
             delivery,
             threshold,
@@ -210,6 +217,39 @@ impl Carrier {
         } else {
             self.fence_stage(fabric);
         }
+    }
+
+    // ---- the passed sources
+
+    /// Tells whether a passed source is still to be aimed.
+    pub fn has_unaimed(&self) -> bool
+        ensures { result ≡ nat_lt self.now.aims (passes_of self.now.who) }
+    {
+        self.aims < self.who.passes.len()
+    }
+
+    /// Aims the next passed source at a guest file, `None`: at the slot, whose forwards the notice
+    /// hart makes.
+    pub fn aim<T: Targets>(&mut self, targets: &mut T, to: Option<&FileLease>)
+        requires more { self.old.aims < passes_of self.old.who }
+        requires passes { ArePasses self.old.who }
+        requires notice { self.old.who.notice < (T.map targets.old).harts }
+        requires hart { IfSome to (λ lease. lease.now.hart < (T.map targets.old).harts) }
+        requires guest { IfSome to (λ lease. lease.now.file ≤ GUEST_FILES) }
+        ensures aims { (m : Moving) → load_of m ≡ self.old
+            → new_file m.home ≡ option_map (λ (lease : Bor Place). lease.now) to.entry
+            → T.aimed targets.old (aim_of m).source (aim_of m).target targets.new }
+        ensures load { self.new ≡ one_aim_done self.old }
+    {
+        let pass = self.who.passes[self.aims];
+        match to {
+            Some(file) => targets.aim(pass.source, file.hart(), file.file(), pass.identity),
+            None => {
+                let identity = FIRST_PASS_IDENTITY + pass.number;
+                targets.aim(pass.source, self.who.notice, 0, identity);
+            }
+        }
+        self.aims += 1;
     }
 
     // ---- the sets

@@ -83,7 +83,13 @@ impl Kind for ToMemory {
         None
     }
 
-    ghost is_move = { λ k. record { moves = λ at. refl; steps = λ at. refl; more = λ at. refl } };
+    ghost is_move = { λ k. record {
+      moves = λ at. refl;
+      steps = λ at. refl;
+      aims = λ at. refl;
+      more = λ at. refl;
+      aimed = λ at. refl;
+    } };
 
     ghost follows = { λ k at. refl };
 }
@@ -118,7 +124,13 @@ impl Kind for ToFile {
         Some(&self.file)
     }
 
-    ghost is_move = { λ k. record { moves = λ at. refl; steps = λ at. refl; more = λ at. refl } };
+    ghost is_move = { λ k. record {
+      moves = λ at. refl;
+      steps = λ at. refl;
+      aims = λ at. refl;
+      more = λ at. refl;
+      aimed = λ at. refl;
+    } };
 
     ghost follows = { λ k at. refl };
 }
@@ -155,7 +167,13 @@ impl Kind for ToOtherFile {
         Some(&self.to)
     }
 
-    ghost is_move = { λ k. record { moves = λ at. refl; steps = λ at. refl; more = λ at. refl } };
+    ghost is_move = { λ k. record {
+      moves = λ at. refl;
+      steps = λ at. refl;
+      aims = λ at. refl;
+      more = λ at. refl;
+      aimed = λ at. refl;
+    } };
 
     ghost follows = { λ k at. refl };
 }

@@ -1,16 +1,17 @@
-ghost use Rattle.std.specs.Prelude.{◌≡◌, ℕ, ◌<◌, ◌≤◌, true};
+ghost use Rattle.std.specs.Prelude.{◌≡◌, ℕ, ◌<◌, ◌≤◌, true, false};
 ghost use Rattle.aia_home.specs.Home.{is_moving};
 ghost use Rattle.aia_home.specs.Plans.{steps_done, leave_step};
 ghost use Rattle.aia_home.specs.Plans.Access.{WriteStage};
 ghost use Rattle.aia_home.specs.Phases.{begins};
 ghost use Rattle.aia_home.specs.Phases.Phase.{ClosingPhase, DrainPhase, EnablePhase};
 ghost use Rattle.aia_move.specs.Move.{Fits, old_at, new_at, width};
-ghost use Rattle.aia_move.specs.Turns.{IsIn, GoesOn, MatchTurn, after_enable};
+ghost use Rattle.aia_move.specs.Targets.{ArePasses, aim_of, has_unaimed};
+ghost use Rattle.aia_move.specs.Turns.{IsIn, IsAtAims, IsInDrain, GoesOn, AimsOn, MatchTurn, MatchClosed, after_enable};
 
-use crate::Turn;
 use crate::carrier::Carrier;
 use crate::kind::Kind;
-use crate::phase::{Closing, Drain, Enable};
+use crate::phase::{Aim, Closing, Drain, Enable};
+use crate::{Closed, Targets, Turn};
 use aia_fabric::{At, Fabric};
 use std::marker::{Model, PhantomData};
 
@@ -39,19 +40,50 @@ impl<K: Kind> Move<K, Closing> {
     /// Makes the G-stage record name the new file, or nothing where the move leads to memory, and
     /// puts it in force. Why here: both routes are closed before the first word is taken from the
     /// old place, which is the slot in an arrival and else a guest file, so that no store comes
-    /// after its word.
-    pub fn step(mut self, fabric: &mut Fabric) -> Turn<Self, Move<K, Drain>>
+    /// after its word. `Drain` exactly where no passed source is to be aimed.
+    pub fn step(mut self, fabric: &mut Fabric) -> Turn<Self, Closed<Move<K, Aim>, Move<K, Drain>>>
         requires fits { Fits fabric.old self }
         requires phase { IsIn ClosingPhase (width fabric.old) self }
         ensures goes { MatchTurn result (GoesOn fabric.old self fabric.new)
-            (GoesOn fabric.old self fabric.new) }
+            (λ next. MatchClosed next (GoesOn fabric.old self fabric.new)
+            (GoesOn fabric.old self fabric.new)) }
         ensures phase { MatchTurn result (IsIn ClosingPhase (width fabric.new))
-            (IsIn DrainPhase (width fabric.new)) }
+            (λ next. MatchClosed next IsAtAims (IsInDrain (width fabric.new))) }
     {
         let _words = fabric.words();
         let past = self.first_steps() + 2;
         self.close(fabric);
-        self.turn(past)
+        match self.turn::<Drain>(past) {
+            Turn::Stay(state) => Turn::Stay(state),
+            Turn::On(state) => Turn::On(state.closed()),
+        }
+    }
+}
+
+impl<K: Kind> Move<K, Aim> {
+    /// Aims the next passed source at the new place: the guest file, with the identity that it has
+    /// there, or the notice hart, with the identity of the pass. It makes no access. Why here: the
+    /// G-stage record leads to the new place, and no word is taken yet, so that no forward comes to
+    /// the old place after its word.
+    pub fn step<T: Targets>(
+        mut self,
+        fabric: &Fabric,
+        targets: &mut T,
+    ) -> Turn<Self, Move<K, Drain>>
+        requires fits { Fits fabric.now self }
+        requires phase { IsAtAims self }
+        requires harts { fabric.now.imsic.harts ≡ (T.map targets.old).harts }
+        requires passes { ArePasses self.who }
+        ensures aims { T.aimed targets.old (aim_of self).source (aim_of self).target targets.new }
+        ensures goes { MatchTurn result (AimsOn fabric.now self) (AimsOn fabric.now self) }
+        ensures phase { MatchTurn result IsAtAims (IsInDrain (width fabric.now)) }
+    {
+        let _words = fabric.words();
+        self.aim(fabric, targets);
+        match self.closed() {
+            Closed::Aim(state) => Turn::Stay(state),
+            Closed::Drain(state) => Turn::On(state),
+        }
     }
 }
 
@@ -60,10 +92,10 @@ impl<K: Kind> Move<K, Drain> {
     /// store reaches the old place any more, so that a word which is taken stays empty.
     pub fn step(mut self, fabric: &mut Fabric) -> Turn<Self, Move<K, Enable>>
         requires fits { Fits fabric.old self }
-        requires phase { IsIn DrainPhase (width fabric.old) self }
+        requires phase { IsInDrain (width fabric.old) self }
         ensures goes { MatchTurn result (GoesOn fabric.old self fabric.new)
             (GoesOn fabric.old self fabric.new) }
-        ensures phase { MatchTurn result (IsIn DrainPhase (width fabric.new))
+        ensures phase { MatchTurn result (IsInDrain (width fabric.new))
             (IsIn EnablePhase (width fabric.new)) }
     {
         let words = fabric.words();
@@ -103,6 +135,20 @@ impl<K: Kind, P> Move<K, P> {
         let _words = fabric.words();
         let first = self.first_steps();
         self.carrier.close(fabric, first, self.kind.new_file());
+    }
+
+    /// Aims the next passed source.
+    fn aim<T: Targets>(&mut self, fabric: &Fabric, targets: &mut T)
+        requires fits { Fits fabric.now self.old }
+        requires phase { IsAtAims self.old }
+        requires harts { fabric.now.imsic.harts ≡ (T.map targets.old).harts }
+        requires passes { ArePasses self.old.who }
+        ensures aims { T.aimed targets.old (aim_of self.old).source (aim_of self.old).target
+            targets.new }
+        ensures goes { AimsOn fabric.now self.old self.new }
+    {
+        let _words = fabric.words();
+        self.carrier.aim(targets, self.kind.new_file());
     }
 
     /// Makes the next access of the phase of the pending set.
@@ -164,6 +210,26 @@ impl<K: Kind, P> Move<K, P> {
             Turn::Stay(self)
         } else {
             Turn::On(Move {
+                kind: self.kind,
+                carrier: self.carrier,
+                phase: PhantomData,
+            })
+        }
+    }
+
+    /// Goes on to the aims while a passed source is to be aimed, and else to the pending set.
+    fn closed(self) -> Closed<Move<K, Aim>, Move<K, Drain>>
+        ensures { MatchClosed result (λ t. (t ≡ self) × (has_unaimed t ≡ true))
+            (λ t. (t ≡ self) × (has_unaimed t ≡ false)) }
+    {
+        if self.carrier.has_unaimed() {
+            Closed::Aim(Move {
+                kind: self.kind,
+                carrier: self.carrier,
+                phase: PhantomData,
+            })
+        } else {
+            Closed::Drain(Move {
                 kind: self.kind,
                 carrier: self.carrier,
                 phase: PhantomData,

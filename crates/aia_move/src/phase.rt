@@ -6,6 +6,10 @@ pub struct First;
 #[derive(Drop)]
 pub struct Closing;
 
+/// The phase of the passed sources: each is aimed at the new place.
+#[derive(Drop)]
+pub struct Aim;
+
 /// The phase of the pending set: each word is taken, and put.
 #[derive(Drop)]
 pub struct Drain;

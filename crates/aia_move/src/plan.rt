@@ -5,13 +5,13 @@ ghost use Rattle.aia_home.specs.Home.Home.{Leaving, Arriving, Shifting};
 ghost use Rattle.aia_places.specs.Stores.{AreApart};
 ghost use Rattle.aia_fabric.specs.World.{World};
 ghost use Rattle.aia_fabric.specs.Changes.{spot_of};
-ghost use Rattle.aia_move.specs.Move.{IsWho, Fits, Goes, width};
-ghost use Rattle.aia_move.specs.Landings.{OnceLanded};
-ghost use Rattle.aia_move.specs.Turns.{EndsAs, LeavesEmpty};
-ghost use Rattle.aia_move.specs.Plan.{moving_of, IsInPhase, MatchNext};
+ghost use Rattle.aia_move.specs.Move.{IsWho, Fits, width};
+ghost use Rattle.aia_move.specs.Targets.{ArePasses, AimsAs, aim_if, next_aim};
+ghost use Rattle.aia_move.specs.Turns.{LeavesEmpty};
+ghost use Rattle.aia_move.specs.Plan.{moving_of, is_in_aim, IsInPhase, MatchNext, StepsTo};
 
-use crate::phase::{Closing, Drain, Enable, First, Last, Look};
-use crate::{Arrive, Kept, Leave, Outcome, Shift, Turn, Who};
+use crate::phase::{Aim, Closing, Drain, Enable, First, Last, Look};
+use crate::{Arrive, Closed, Kept, Leave, Outcome, Shift, Targets, Turn, Who};
 use aia_fabric::Fabric;
 use aia_pool::FileLease;
 
@@ -20,17 +20,20 @@ use aia_pool::FileLease;
 pub enum Plan {
     LeaveFirst(Leave<First>),
     LeaveClosing(Leave<Closing>),
+    LeaveAim(Leave<Aim>),
     LeaveDrain(Leave<Drain>),
     LeaveEnable(Leave<Enable>),
     LeaveLook(Leave<Look>),
     LeaveLast(Leave<Last>),
     ArriveFirst(Arrive<First>),
     ArriveClosing(Arrive<Closing>),
+    ArriveAim(Arrive<Aim>),
     ArriveDrain(Arrive<Drain>),
     ArriveEnable(Arrive<Enable>),
     ArriveLast(Arrive<Last>),
     ShiftFirst(Shift<First>),
     ShiftClosing(Shift<Closing>),
+    ShiftAim(Shift<Aim>),
     ShiftDrain(Shift<Drain>),
     ShiftEnable(Shift<Enable>),
     ShiftLast(Shift<Last>),
@@ -51,6 +54,18 @@ macro_rules! again {
         match $turn {
             Turn::Stay(state) => Next::Again(Plan::$stay(state)),
             Turn::On(state) => Next::Again(Plan::$on(state)),
+        }
+    };
+}
+
+/// The plan after a step of the phase of the G-stage record: it stays there, goes on to the aims,
+/// or to the pending set.
+macro_rules! close {
+    ($turn:expr, $stay:ident, $aim:ident, $drain:ident) => {
+        match $turn {
+            Turn::Stay(state) => Next::Again(Plan::$stay(state)),
+            Turn::On(Closed::Aim(state)) => Next::Again(Plan::$aim(state)),
+            Turn::On(Closed::Drain(state)) => Next::Again(Plan::$drain(state)),
         }
     };
 }
@@ -119,48 +134,64 @@ impl Plan {
         Plan::ShiftFirst(Shift::new(old, new, who))
     }
 
-    /// Makes the next access of the plan; before that of the entry's fence all stores in flight of
-    /// the VM land, the oldest first. `Finished` exactly at the last one: the guest file that the
-    /// move leaves, where it leaves one, is then empty.
-    pub fn step(self, fabric: &mut Fabric) -> Next
+    /// Makes the next step of the plan: its next access, or, after the fence of the G-stage record
+    /// and while a passed source is to be aimed, the aim of the next one at the new place, which
+    /// leaves the fabric as it is. Before the access of the entry's fence all stores in flight of
+    /// the VM land, the oldest first. `Finished` exactly at the last access: the guest file that
+    /// the move leaves, where it leaves one, is then empty.
+    pub fn step<T: Targets>(self, fabric: &mut Fabric, targets: &mut T) -> Next
         requires fits { Fits fabric.old (moving_of self) }
         requires phase { IsInPhase (width fabric.old) self }
-        ensures goes { OnceLanded fabric.old (moving_of self) (λ landed. MatchNext result
-            (λ p. Goes landed (moving_of self) fabric.new (moving_of p))
-            (λ o. EndsAs landed (moving_of self) fabric.new o)) }
+        requires harts { fabric.old.imsic.harts ≡ (T.map targets.old).harts }
+        requires passes { ArePasses (moving_of self).who }
+        ensures goes { StepsTo (next_aim (moving_of self)) fabric.old (moving_of self) fabric.new
+            result }
+        ensures aims { AimsAs T.aimed (next_aim (moving_of self)) targets.old targets.new }
         ensures fits { MatchNext result (λ p. Fits fabric.new (moving_of p)) (λ o. ⊤) }
         ensures phase { MatchNext result (λ p. IsInPhase (width fabric.new) p) (λ o. ⊤) }
         ensures empty { AreApart (moving_of self).home → MatchNext result (λ p. ⊤)
             (λ o. LeavesEmpty fabric.old (moving_of self) fabric.new) }
     {
         let _words = fabric.words();
-        self.next(fabric)
+        self.next(fabric, targets)
     }
 
     /// Makes it, by the phase that the move is in.
-    fn next(self, fabric: &mut Fabric) -> Next
+    fn next<T: Targets>(self, fabric: &mut Fabric, targets: &mut T) -> Next
         requires fits { Fits fabric.old (moving_of self) }
         requires phase { IsInPhase (width fabric.old) self }
-        ensures goes { OnceLanded fabric.old (moving_of self) (λ landed. MatchNext result
-            (λ p. Goes landed (moving_of self) fabric.new (moving_of p))
-            (λ o. EndsAs landed (moving_of self) fabric.new o)) }
+        requires harts { fabric.old.imsic.harts ≡ (T.map targets.old).harts }
+        requires passes { ArePasses (moving_of self).who }
+        ensures goes { StepsTo (aim_if (is_in_aim self) (moving_of self)) fabric.old
+            (moving_of self) fabric.new result }
+        ensures aims { AimsAs T.aimed (aim_if (is_in_aim self) (moving_of self)) targets.old
+            targets.new }
         ensures fits { MatchNext result (λ p. Fits fabric.new (moving_of p)) (λ o. ⊤) }
         ensures phase { MatchNext result (λ p. IsInPhase (width fabric.new) p) (λ o. ⊤) }
     {
         match self {
             Plan::LeaveFirst(state) => again!(state.step(fabric), LeaveFirst, LeaveClosing),
-            Plan::LeaveClosing(state) => again!(state.step(fabric), LeaveClosing, LeaveDrain),
+            Plan::LeaveClosing(state) => {
+                close!(state.step(fabric), LeaveClosing, LeaveAim, LeaveDrain)
+            }
+            Plan::LeaveAim(state) => again!(state.step(fabric, targets), LeaveAim, LeaveDrain),
             Plan::LeaveDrain(state) => again!(state.step(fabric), LeaveDrain, LeaveEnable),
             Plan::LeaveEnable(state) => again!(state.step(fabric), LeaveEnable, LeaveLook),
             Plan::LeaveLook(state) => again!(state.step(fabric), LeaveLook, LeaveLast),
             Plan::LeaveLast(state) => finish!(state.step(fabric), LeaveLast),
             Plan::ArriveFirst(state) => again!(state.step(fabric), ArriveFirst, ArriveClosing),
-            Plan::ArriveClosing(state) => again!(state.step(fabric), ArriveClosing, ArriveDrain),
+            Plan::ArriveClosing(state) => {
+                close!(state.step(fabric), ArriveClosing, ArriveAim, ArriveDrain)
+            }
+            Plan::ArriveAim(state) => again!(state.step(fabric, targets), ArriveAim, ArriveDrain),
             Plan::ArriveDrain(state) => again!(state.step(fabric), ArriveDrain, ArriveEnable),
             Plan::ArriveEnable(state) => again!(state.step(fabric), ArriveEnable, ArriveLast),
             Plan::ArriveLast(state) => finish!(state.step(fabric), ArriveLast),
             Plan::ShiftFirst(state) => again!(state.step(fabric), ShiftFirst, ShiftClosing),
-            Plan::ShiftClosing(state) => again!(state.step(fabric), ShiftClosing, ShiftDrain),
+            Plan::ShiftClosing(state) => {
+                close!(state.step(fabric), ShiftClosing, ShiftAim, ShiftDrain)
+            }
+            Plan::ShiftAim(state) => again!(state.step(fabric, targets), ShiftAim, ShiftDrain),
             Plan::ShiftDrain(state) => again!(state.step(fabric), ShiftDrain, ShiftEnable),
             Plan::ShiftEnable(state) => again!(state.step(fabric), ShiftEnable, ShiftLast),
             Plan::ShiftLast(state) => finish!(state.step(fabric), ShiftLast),

@@ -10,6 +10,15 @@ pub enum Turn<S, T> {
     On(T),
 }
 
+/// The phase of a move once its G-stage record is in force.
+#[derive(Drop)]
+pub enum Closed<A, D> {
+    /// Its next step aims a passed source.
+    Aim(A),
+    /// All are aimed: its next step takes a word of the pending set.
+    Drain(D),
+}
+
 /// What a move gives back at its end.
 #[derive(Drop)]
 pub enum Outcome {

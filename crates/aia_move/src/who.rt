@@ -1,5 +1,19 @@
+use aia_regs::limits::PASSES;
+use arrayvec::ArrayVec;
+
+/// A wired source that is passed to a virtual hart. Profile: passes.
+#[derive(Clone, Copy, Debug, Default, PartialEq, Eq)]
+pub struct Pass {
+    /// The source.
+    pub source: u32,
+    /// The identity that it has in the virtual hart's interrupt file, up to `IDENTITIES`.
+    pub identity: u32,
+    /// The number of the pass, below `PASSES`, by which it has its identity at the notice hart.
+    pub number: u32,
+}
+
 /// Who is moved: a virtual hart.
-#[derive(Clone, Copy, Debug, PartialEq, Eq)]
+#[derive(Debug, Drop, PartialEq, Eq)]
 pub struct Who {
     /// Its VM.
     pub vm: u32,
@@ -9,6 +23,8 @@ pub struct Who {
     pub slot: u32,
     /// The hart whose supervisor file takes its notices.
     pub notice: u32,
+    /// The wired sources that are passed to it, in the order of passing.
+    pub passes: ArrayVec<Pass, PASSES>,
 }
 
 /// What the hypervisor keeps of a parked virtual hart's interrupt file: its numbers, which its slot

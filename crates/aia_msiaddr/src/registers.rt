@@ -88,6 +88,27 @@ impl Addresses {
         bit(u64::from(self.mmsiaddrcfgh), L)
     }
 
+    /// Gives what `mmsiaddrcfgh` keeps.
+    pub fn mmsiaddrcfgh(&self) -> u32
+        ensures { result ≡ self.now.mmsiaddrcfgh }
+    {
+        self.mmsiaddrcfgh
+    }
+
+    /// Gives what `smsiaddrcfg` keeps.
+    pub fn smsiaddrcfg(&self) -> u32
+        ensures { result ≡ self.now.smsiaddrcfg }
+    {
+        self.smsiaddrcfg
+    }
+
+    /// Gives what `smsiaddrcfgh` keeps.
+    pub fn smsiaddrcfgh(&self) -> u32
+        ensures { result ≡ self.now.smsiaddrcfgh }
+    {
+        self.smsiaddrcfgh
+    }
+
     /// Gives the address of an MSI to a hart at machine level; the hart's index is below 16,384.
     pub fn machine_address(&self, hart: u32) -> u64
         requires { hart < 2 ^ 14 }

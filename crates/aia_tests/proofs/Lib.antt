@@ -1,2 +1,3 @@
 pub mod NineFacts
 pub mod TableFacts
+pub mod PlanFacts

@@ -1,9 +1,12 @@
 //! Guest files that are handed out, what the steps of moves do to all that stores reach, and plans,
 //! called by themselves.
 
-ghost use Rattle.std.specs.Prelude.{◌≡◌, ◌<◌, false, IfSome};
+ghost use Rattle.std.specs.Prelude.{◌≡◌, ◌<◌, false, [], IfSome, refl, ⊤};
 ghost use Rattle.aia_word.specs.Sets.{has_bit};
-ghost use Rattle.aia_move.specs.Move.{IsWho};
+ghost use Rattle.aia_move.specs.Move.{IsWho, Fits, width};
+ghost use Rattle.aia_move.specs.Plan.{moving_of, IsInPhase, MatchNext};
+ghost use Rattle.std.proofs.Common.{ap};
+ghost use Rattle.std.proofs.lemmas.Bool.{false≢true};
 
 use crate::fabric::{pending, stores};
 use crate::looks::holds;
@@ -12,10 +15,11 @@ use aia_entry::{Entry, Route};
 use aia_fabric::{At, Fabric};
 use aia_home::Place;
 use aia_imsic::Spot;
-use aia_move::{Kept, Next, Plan, Who};
+use aia_move::{Kept, Next, Plan, Targets, Who};
 use aia_pool::{FileLease, Pool};
 use aia_regs::Op;
 use aia_regs::limits::{GUEST_FILES, HARTS};
+use arrayvec::ArrayVec;
 use std::alloc::{AllocError, Global};
 use std::process::Abort;
 use std::test::Fail;
@@ -152,9 +156,10 @@ fn topei(fabric: &Fabric) -> Option<u64> {
     }
 }
 
-/// Finds a virtual hart.
+/// Finds a virtual hart, to which no source is passed.
 pub(crate) fn who_is(fabric: &Fabric, vm: u32, vcpu: u32) -> Option<Who>
     ensures there { IfSome result (IsWho fabric.now) }
+    ensures none_passed { IfSome result (λ who. who.passes.items ≡ []) }
     ensures named { IfSome result (λ who. (who.vm ≡ vm) × (who.vcpu ≡ vcpu)) }
 {
     if !fabric.has_vcpu(u64::from(vm), u64::from(vcpu)) {
@@ -165,7 +170,49 @@ pub(crate) fn who_is(fabric: &Fabric, vm: u32, vcpu: u32) -> Option<Who>
         vcpu,
         slot: fabric.slot_of(vm, vcpu),
         notice: fabric.notice_hart(vm, vcpu),
+        passes: ArrayVec::new(),
     })
+}
+
+/// Targets of a machine of so many harts that has no source which is active.
+#[derive(Drop)]
+struct NoTargets {
+    harts: u32,
+}
+
+impl Targets for NoTargets {
+    ghost map = { λ t. record { harts = t.harts; target = λ s. 0; ready = λ s. false } };
+
+    ghost aimed = { λ old source target new. new ≡ old };
+
+    fn ready(&self, _source: u32) -> bool {
+        false
+    }
+
+    fn aim(&mut self, _source: u32, _hart: u32, _guest: u32, _identity: u32) {}
+
+    ghost aims_one = { λ old new source target e. record {
+      harts = ap (λ t. t.harts) e;
+      ready = λ s. refl;
+      aimed = λ is. absurd (false≢true is);
+      unready = λ is. refl;
+      others = λ s other. refl;
+    } };
+}
+
+/// Makes the next step of a plan of a virtual hart to which no source is passed.
+pub(crate) fn steps(plan: Plan, fabric: &mut Fabric) -> Next
+    requires fits { Fits fabric.old (moving_of plan) }
+    requires phase { IsInPhase (width fabric.old) plan }
+    requires none_passed { (moving_of plan).who.passes.items ≡ [] }
+    ensures fits { MatchNext result (λ p. Fits fabric.new (moving_of p)) (λ o. ⊤) }
+    ensures phase { MatchNext result (λ p. IsInPhase (width fabric.new) p) (λ o. ⊤) }
+    ensures none_passed { MatchNext result (λ p. (moving_of p).who.passes.items ≡ []) (λ o. ⊤) }
+{
+    let mut targets = NoTargets {
+        harts: fabric.harts(),
+    };
+    plan.step(fabric, &mut targets)
 }
 
 /// Stores go by the entry and by the record in force, whatever is written.
@@ -259,20 +306,21 @@ fn a_leave_writes_the_entry_in_its_third_step(rt: HostRuntime) -> Result<(), Fai
 /// Begins to move a virtual hart from a guest file to memory, and tells whether the move goes on
 /// after its third step.
 fn leaves(fabric: &mut Fabric, who: Who, from: FileLease) -> bool
-    requires { IsWho fabric.old who }
+    requires who { IsWho fabric.old who }
+    requires none_passed { who.passes.items ≡ [] }
 {
     if from.hart() >= fabric.harts() || from.file() == 0 || from.file() > fabric.guests() {
         return false;
     }
     let plan = Plan::leave(from, who);
     let _words = fabric.words();
-    let Next::Again(plan) = plan.step(fabric) else {
+    let Next::Again(plan) = steps(plan, fabric) else {
         return false;
     };
-    let Next::Again(plan) = plan.step(fabric) else {
+    let Next::Again(plan) = steps(plan, fabric) else {
         return false;
     };
-    matches!(plan.step(fabric), Next::Again(_))
+    matches!(steps(plan, fabric), Next::Again(_))
 }
 
 /// The first two steps of a shift take eidelivery and write the entry, and put nothing in force.
@@ -297,7 +345,8 @@ fn a_shift_writes_the_entry_in_its_second_step(rt: HostRuntime) -> Result<(), Fa
 /// Begins to move a virtual hart from a guest file to another, and tells whether the move goes on
 /// after its second step.
 fn shifts(fabric: &mut Fabric, who: Who, old: Option<FileLease>, new: Option<FileLease>) -> bool
-    requires { IsWho fabric.old who }
+    requires who { IsWho fabric.old who }
+    requires none_passed { who.passes.items ≡ [] }
 {
     let (Some(old), Some(new)) = (old, new) else {
         return false;
@@ -310,16 +359,17 @@ fn shifts(fabric: &mut Fabric, who: Who, old: Option<FileLease>, new: Option<Fil
     }
     let plan = Plan::shift(old, new, who);
     let _words = fabric.words();
-    let Next::Again(plan) = plan.step(fabric) else {
+    let Next::Again(plan) = steps(plan, fabric) else {
         return false;
     };
-    matches!(plan.step(fabric), Next::Again(_))
+    matches!(steps(plan, fabric), Next::Again(_))
 }
 
 /// Begins to move a virtual hart to a guest file, and tells whether the move goes on after its
 /// first step.
 fn goes_on(fabric: &mut Fabric, who: Who, to: FileLease) -> bool
-    requires { IsWho fabric.old who }
+    requires who { IsWho fabric.old who }
+    requires none_passed { who.passes.items ≡ [] }
 {
     if to.hart() >= fabric.harts() || to.file() == 0 || to.file() > fabric.guests() {
         return false;
@@ -330,5 +380,5 @@ fn goes_on(fabric: &mut Fabric, who: Who, to: FileLease) -> bool
     };
     let plan = Plan::arrive(to, who, kept);
     let _words = fabric.words();
-    matches!(plan.step(fabric), Next::Again(_))
+    matches!(steps(plan, fabric), Next::Again(_))
 }

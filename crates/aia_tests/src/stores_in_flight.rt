@@ -1,12 +1,12 @@
 //! Stores of devices that are in flight, called by themselves, with a VM of two virtual harts.
 
-ghost use Rattle.std.specs.Prelude.{◌≡◌, false};
+ghost use Rattle.std.specs.Prelude.{◌≡◌, false, []};
 ghost use Rattle.aia_word.specs.Sets.{has_bit};
 ghost use Rattle.aia_move.specs.Move.{IsWho};
 
 use crate::fabric::{pending, stores};
 use crate::looks::holds;
-use crate::moves::{one_vm, put_in_force, who_is};
+use crate::moves::{one_vm, put_in_force, steps, who_is};
 use crate::same;
 use aia_entry::{Entry, Route};
 use aia_fabric::{At, Fabric};
@@ -131,7 +131,8 @@ fn the_fence_of_a_plan_lands_what_is_in_flight(rt: HostRuntime) -> Result<(), Fa
 /// Begins to move a virtual hart to a guest file, and tells whether the move goes on after its
 /// fence.
 fn fences(fabric: &mut Fabric, who: Who, to: FileLease) -> bool
-    requires { IsWho fabric.old who }
+    requires who { IsWho fabric.old who }
+    requires none_passed { who.passes.items ≡ [] }
 {
     if to.hart() >= fabric.harts() || to.file() == 0 || to.file() > fabric.guests() {
         return false;
@@ -142,8 +143,8 @@ fn fences(fabric: &mut Fabric, who: Who, to: FileLease) -> bool
     };
     let plan = Plan::arrive(to, who, kept);
     let _words = fabric.words();
-    let Next::Again(plan) = plan.step(fabric) else {
+    let Next::Again(plan) = steps(plan, fabric) else {
         return false;
     };
-    matches!(plan.step(fabric), Next::Again(_))
+    matches!(steps(plan, fabric), Next::Again(_))
 }

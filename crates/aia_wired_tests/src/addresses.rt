@@ -51,4 +51,7 @@ fn addresses_go_by_the_registers_of_their_level(rt: HostRuntime) {
     same!(rt; addresses.machine_address(3), 0x2400_3000);
     same!(rt; addresses.supervisor_address(1, 0), 0x2802_0000);
     same!(rt; addresses.supervisor_address(1, 5), 0x2802_5000);
+    same!(rt; addresses.mmsiaddrcfgh(), 0x2000);
+    same!(rt; addresses.smsiaddrcfg(), 0x28000);
+    same!(rt; addresses.smsiaddrcfgh(), 0x50_0000);
 }

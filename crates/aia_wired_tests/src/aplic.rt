@@ -1,6 +1,7 @@
 //! Both domains of an APLIC, and the MSIs that they send.
 
 ghost use Rattle.std.specs.Prelude.{◌≡◌, ◌<◌, ◌≤◌};
+ghost use Rattle.aia_regs.specs.declared.limits.TheConstants.{HARTS, IDENTITIES};
 
 use crate::looks::{holds, is_same};
 use crate::same;
@@ -164,6 +165,7 @@ fn looks_are_counted<L: Ledger>(rt: &impl Abort, aplic: &mut Aplic, blank: Blank
     let msi = Msi {
         address: 0x2400_0000,
         value: 9,
+        source: Some(1023),
     };
     is_same(rt, aplic.next_msi_counted(&mut steps), Some(msi));
     is_same(rt, aplic.next_msi_counted(&mut steps), None);
@@ -205,9 +207,72 @@ fn msis_are_sent_until_none_waits(rt: HostRuntime) -> Result<(), Fail> {
     let msi = Msi {
         address: 0x2400_0000,
         value: 5,
+        source: Some(1),
     };
     same!(rt; sends(&mut aplic), Some(msi));
     same!(rt; sends(&mut aplic), None);
     same!(rt; loads(&mut aplic, 0, 0x1c00), 0);
+    Ok(())
+}
+
+/// Aims a source, and gives the target that its register in the child domain then shows.
+fn aimed(aplic: &mut Aplic, s: u32, hart: u32, guest: u32, identity: u32) -> u32
+    requires hart { hart < HARTS }
+    requires guest { guest < 64 }
+    requires identity { identity ≤ IDENTITIES }
+{
+    aplic.aim(s, hart, guest, identity);
+    aplic.load(1, 0x3004)
+}
+
+#[test]
+fn a_source_may_be_passed_once_all_registers_are_for_guests(rt: HostRuntime) -> Result<(), Fail> {
+    let mut aplic = Aplic::new(rt.alloc(), 2, 8)?;
+    root_stores(&mut aplic, &[(0x0004, 0x400), (0x1bc4, 0x2000)]);
+    child_stores(&mut aplic, &[(0x0000, 0x104)]);
+    root_stores(&mut aplic, &[(0x1bc8, 0x28000), (0x1bcc, 0x50_0000)]);
+    // It is not active in the child domain.
+    holds(&rt, !aplic.passable(1));
+    child_stores(&mut aplic, &[(0x0004, 4)]);
+    holds(&rt, aplic.passable(1));
+    holds(&rt, !aplic.passable(0));
+    holds(&rt, !aplic.passable(2));
+    holds(&rt, !aplic.passable(9));
+    // The domain delivers directly; the addresses are those of another map.
+    child_stores(&mut aplic, &[(0x0000, 0x100)]);
+    holds(&rt, !aplic.passable(1));
+    same!(rt; aimed(&mut aplic, 1, 1, 1, 5), 1);
+    child_stores(&mut aplic, &[(0x0000, 0x104)]);
+    root_stores(&mut aplic, &[(0x1bcc, 0x30_0000)]);
+    holds(&rt, !aplic.passable(1));
+    same!(rt; aimed(&mut aplic, 1, 1, 1, 5), 0);
+    Ok(())
+}
+
+#[test]
+fn the_msi_of_a_source_that_is_aimed_goes_to_the_guest(rt: HostRuntime) -> Result<(), Fail> {
+    let mut aplic = Aplic::new(rt.alloc(), 2, 8)?;
+    root_stores(
+        &mut aplic,
+        &[
+            (0x0004, 0x400),
+            (0x1bc4, 0x2000),
+            (0x1bc8, 0x28000),
+            (0x1bcc, 0x50_0000),
+        ],
+    );
+    child_stores(&mut aplic, &[(0x0000, 0x104), (0x0004, 4), (0x1edc, 1)]);
+    same!(rt; aimed(&mut aplic, 1, 0, 1, 5), 0x0000_1005);
+    same!(rt; aimed(&mut aplic, 1, 0, 0, 33), 0x0000_0021);
+    same!(rt; aimed(&mut aplic, 1, 1, 1, 5), 0x0004_1005);
+    same!(rt; sends(&mut aplic), None);
+    aplic.wire(1, true);
+    let msi = Msi {
+        address: 0x2802_1000,
+        value: 5,
+        source: Some(1),
+    };
+    same!(rt; sends(&mut aplic), Some(msi));
+    same!(rt; sends(&mut aplic), None);
     Ok(())
 }

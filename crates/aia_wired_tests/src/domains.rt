@@ -215,6 +215,25 @@ fn a_child_has_a_source_while_it_is_delegated(rt: HostRuntime) -> Result<(), Fai
 }
 
 #[test]
+fn an_active_source_is_given_a_target_with_its_guest(rt: HostRuntime) -> Result<(), Fail> {
+    let mut child = Domain::new(rt.alloc(), 2, 2, true)?;
+    child.grant(1);
+    stores(
+        &mut child,
+        &[(DomainReg::DomainCfg, 4), (DomainReg::SourceCfg(1), 6)],
+    );
+    child.aim(1, 0x0004_1005);
+    child.aim(2, 0x0004_1005);
+    holds(&rt, child.is_active(1));
+    holds(&rt, !child.is_active(2));
+    same!(rt; child.target(1), 0x0004_1005);
+    same!(rt; child.target(2), 0);
+    stores(&mut child, &[(DomainReg::Target(1), 0x0004_1005)]);
+    same!(rt; child.target(1), 0x0004_0005);
+    Ok(())
+}
+
+#[test]
 fn bit_10_delegates_to_the_child_0_alone(rt: HostRuntime) {
     holds(&rt, delegates(0x400));
     holds(&rt, delegates(0xffff_fc00));

@@ -4,7 +4,7 @@ use crate::looks::holds;
 use crate::same;
 use aia_source::{
     Mode, Wired, child_sourcecfg, delegates, domaincfg_kept, domaincfg_read, enables, first_target,
-    genmsi_kept, hart_of, identity_of, is_by_msi, mode_number, mode_of, priority_of,
+    genmsi_kept, guest_of, hart_of, identity_of, is_by_msi, mode_number, mode_of, priority_of,
     root_sourcecfg, target_kept,
 };
 
@@ -149,6 +149,7 @@ fn targets_keep_a_hart_that_is_there_and_a_priority_or_an_identity(rt: HostRunti
     same!(rt; first_target(false), 1);
     same!(rt; first_target(true), 0);
     same!(rt; hart_of(0xfffb_ffff), 0x3ffe);
+    same!(rt; guest_of(0xffff_efff), 0x3e);
     same!(rt; priority_of(0xffff_ff7f), 0x7f);
     same!(rt; identity_of(0xffff_fdff), 0x5ff);
 }

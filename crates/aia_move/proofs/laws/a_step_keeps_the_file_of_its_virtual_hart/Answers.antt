@@ -1,4 +1,4 @@
-use Rattle.aia_move.proofs.MoveKept.{goes_kept, ends_kept, ends_empty}
+use Rattle.aia_move.proofs.MoveKept.{goes_kept, ends_kept, ends_empty, aims_kept}
 use Rattle.aia_move.proofs.laws.a_step_keeps_the_file_of_its_virtual_hart.Goals as goal
 
 pub returns-clause-goes : goal.returns-clause-goes
@@ -9,3 +9,6 @@ returns-clause-ends c = ends_kept
 
 pub returns-clause-left : goal.returns-clause-left
 returns-clause-left c = ends_empty
+
+pub returns-clause-aims : goal.returns-clause-aims
+returns-clause-aims c = aims_kept

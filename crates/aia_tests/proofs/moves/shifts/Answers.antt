@@ -1,4 +1,4 @@
 use Rattle.aia_tests.proofs.moves.shifts.Goals as goal
 
-pub step-requires-clause-phase : goal.step-requires-clause-phase
-step-requires-clause-phase c = c.shift-plan.ensures.phase _
+pub steps-requires-clause-phase : goal.steps-requires-clause-phase
+steps-requires-clause-phase c = c.shift-plan.ensures.phase _

@@ -1,4 +1,4 @@
 use Rattle.aia_tests.proofs.stores_in_flight.fences.Goals as goal
 
-pub step-requires-clause-phase : goal.step-requires-clause-phase
-step-requires-clause-phase c = c.arrive-plan.ensures.phase _
+pub steps-requires-clause-phase : goal.steps-requires-clause-phase
+steps-requires-clause-phase c = c.arrive-plan.ensures.phase _

@@ -11,8 +11,8 @@ use Rattle.aia_hyp.proofs.MoveCalls.{who_low, begin_call}
 use Rattle.aia_hyp.proofs.hyp.Hyp.begin_of.Goals.{After-swap_stay}
 use Rattle.aia_hyp.proofs.hyp.Hyp.begin_of.Goals as goal
 
-begins : (c : After-swap_stay) → MoveBegins (record { world = c.self.inside.fabric; leases = c.self.inside.pool; vcpus = c.self.inside.vcpus.items; selects = c.self.inside.selects })
-    (record { world = c.self.inside.fabric; leases = c.begun-new.new.pool; vcpus = c.swap_stay.new.vcpus.items; selects = c.self.inside.selects }) c.args.who.vm c.args.who.vcpu c.args.want (answer_by (λ _. Okay) c.begun-new.result.1)
+begins : (c : After-swap_stay) → MoveBegins (record { world = c.self.inside.fabric; leases = c.self.inside.pool; vcpus = c.self.inside.vcpus.items; selects = c.self.inside.selects; passes = c.self.inside.passes })
+    (record { world = c.self.inside.fabric; leases = c.begun-new.new.pool; vcpus = c.swap_stay.new.vcpus.items; selects = c.self.inside.selects; passes = c.self.inside.passes }) c.args.who.vm c.args.who.vcpu c.args.want (answer_by (λ _. Okay) c.begun-new.result.1)
 begins c = begin_call _ _ c.args.want c.args.who c.swap_stay-old.result c.begun-new.result.0 _ refl (record {
   is_who = subst (λ (x : CoreState). IsWho x.world c.args.who) (sym c.self.view_is) c.requires;
   some = c.self.invariant.0;
@@ -22,15 +22,16 @@ begins c = begin_call _ _ c.args.want c.args.who c.swap_stay-old.result c.begun-
   out = c.swap_stay-old.ensures.after;
   back = c.swap_stay.ensures.after;
   selects = refl;
+  passes = refl;
 }) c.begun-new.ensures
 
 pub swap_stay-old-requires : goal.swap_stay-old-requires
-swap_stay-old-requires c = who_low (record { world = c.self.inside.fabric; leases = c.self.inside.pool; vcpus = c.self.inside.vcpus.items; selects = c.self.inside.selects }) c.args.who c.self.invariant.0
+swap_stay-old-requires c = who_low (record { world = c.self.inside.fabric; leases = c.self.inside.pool; vcpus = c.self.inside.vcpus.items; selects = c.self.inside.selects; passes = c.self.inside.passes }) c.args.who c.self.invariant.0
     (subst (λ (x : CoreState). IsWho x.world c.args.who) (sym c.self.view_is) c.requires)
 
 pub swap_stay-requires : goal.swap_stay-requires
 swap_stay-requires c =
-    let room = who_low (record { world = c.self.inside.fabric; leases = c.self.inside.pool; vcpus = c.self.inside.vcpus.items; selects = c.self.inside.selects }) c.args.who c.self.invariant.0
+    let room = who_low (record { world = c.self.inside.fabric; leases = c.self.inside.pool; vcpus = c.self.inside.vcpus.items; selects = c.self.inside.selects; passes = c.self.inside.passes }) c.args.who c.self.invariant.0
     (subst (λ (x : CoreState). IsWho x.world c.args.who) (sym c.self.view_is) c.requires) in
     let same = ap (λ (xs : List VcpuRecord). length xs) c.swap_stay-old.ensures.after ∙ length-set c.self.inside.vcpus.items c.args.who.slot _ in
     omega (arith, room, same)

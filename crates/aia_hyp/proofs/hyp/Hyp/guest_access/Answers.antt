@@ -51,10 +51,10 @@ names x g access csr op e = reached_by csr op (record_of x g).select (vti_of (ma
 slot_low : (x : CoreState) (g : Vcpu) (slot : ℕ) → StandsForSome x → slot ≡ slot_of x.world.vms g → slot < vcpus_in x.world.vms → slot_of x.world.vms g < length x.vcpus
 slot_low x g slot some e below = omega (arith, below, e, some.stands.records, ap vcpus_in some.stands.vms)
 
-select_taken : (c : After-access_select_in) → CoreTakes (record { world = c.self.inside.fabric; leases = c.self.inside.pool; vcpus = c.self.inside.vcpus.items; selects = c.self.inside.selects }) (record { world = c.self.inside.fabric; leases = c.self.inside.pool; vcpus = c.access_select_in.new.vcpus.items; selects = c.self.inside.selects }) (GuestCsr c.args.vm c.args.number c.args.csr c.args.op) (Wide c.access_select_in.result)
+select_taken : (c : After-access_select_in) → CoreTakes (record { world = c.self.inside.fabric; leases = c.self.inside.pool; vcpus = c.self.inside.vcpus.items; selects = c.self.inside.selects; passes = c.self.inside.passes }) (record { world = c.self.inside.fabric; leases = c.self.inside.pool; vcpus = c.access_select_in.new.vcpus.items; selects = c.self.inside.selects; passes = c.self.inside.passes }) (GuestCsr c.args.vm c.args.number c.args.csr c.args.op) (Wide c.access_select_in.result)
 select_taken c =
-    let x : CoreState = record { world = c.self.inside.fabric; leases = c.self.inside.pool; vcpus = c.self.inside.vcpus.items; selects = c.self.inside.selects } in
-    let y : CoreState = record { world = c.self.inside.fabric; leases = c.self.inside.pool; vcpus = c.access_select_in.new.vcpus.items; selects = c.self.inside.selects } in
+    let x : CoreState = record { world = c.self.inside.fabric; leases = c.self.inside.pool; vcpus = c.self.inside.vcpus.items; selects = c.self.inside.selects; passes = c.self.inside.passes } in
+    let y : CoreState = record { world = c.self.inside.fabric; leases = c.self.inside.pool; vcpus = c.access_select_in.new.vcpus.items; selects = c.self.inside.selects; passes = c.self.inside.passes } in
     let g = vcpu c.args.vm c.args.number in
     let a = asked x c.args.self.now g c.args.place c.self.view_is (record { there = c.requires.there; whole = c.requires.whole; at = c.requires.resident }) in
     let table = reached x c.args.self.now g reaches.Select c.guest_reached.result c.args.csr c.args.op c.self.view_is c.in-Select.is c.guest_reached.ensures.table in
@@ -63,14 +63,14 @@ select_taken c =
     let named = names x g reaches.Select c.args.csr c.args.op table in
     guest_accessed x y c.args.vm c.args.number c.args.csr csrs.Select c.args.op c.args.place reaches.Select c.access_select_in.result a.whole a.there a.at table refl refl named
     (c.access_select_in.ensures.value ∙ ap (λ q. (get_or x.vcpus q no_record).select) slot)
-    (guest_select_done x y g c.args.place c.args.op refl refl refl low
+    (guest_select_done x y g c.args.place c.args.op refl refl refl refl low
     (subst (λ q. y.vcpus ≡ set x.vcpus q (record (get_or x.vcpus q no_record) { select = select_written c.args.op (get_or x.vcpus q no_record).select })) slot c.access_select_in.ensures.after)) tt
 
-file_taken : (c : After-reg) → CoreTakes (record { world = c.self.inside.fabric; leases = c.self.inside.pool; vcpus = c.self.inside.vcpus.items; selects = c.self.inside.selects }) (record { world = c.reg.new.self; leases = c.self.inside.pool; vcpus = c.self.inside.vcpus.items; selects = c.self.inside.selects }) (GuestCsr c.args.vm c.args.number c.args.csr c.args.op) (Wide c.reg.result)
+file_taken : (c : After-reg) → CoreTakes (record { world = c.self.inside.fabric; leases = c.self.inside.pool; vcpus = c.self.inside.vcpus.items; selects = c.self.inside.selects; passes = c.self.inside.passes }) (record { world = c.reg.new.self; leases = c.self.inside.pool; vcpus = c.self.inside.vcpus.items; selects = c.self.inside.selects; passes = c.self.inside.passes }) (GuestCsr c.args.vm c.args.number c.args.csr c.args.op) (Wide c.reg.result)
 file_taken c =
     let spot = c.file_spot-spot.ensures in
-    let x : CoreState = record { world = c.self.inside.fabric; leases = c.self.inside.pool; vcpus = c.self.inside.vcpus.items; selects = c.self.inside.selects } in
-    let y : CoreState = record { world = c.reg.new.self; leases = c.self.inside.pool; vcpus = c.self.inside.vcpus.items; selects = c.self.inside.selects } in
+    let x : CoreState = record { world = c.self.inside.fabric; leases = c.self.inside.pool; vcpus = c.self.inside.vcpus.items; selects = c.self.inside.selects; passes = c.self.inside.passes } in
+    let y : CoreState = record { world = c.reg.new.self; leases = c.self.inside.pool; vcpus = c.self.inside.vcpus.items; selects = c.self.inside.selects; passes = c.self.inside.passes } in
     let g = vcpu c.args.vm c.args.number in
     let a = asked x c.args.self.now g c.args.place c.self.view_is (record { there = c.requires.there; whole = c.requires.whole; at = c.requires.resident }) in
     let table = reached x c.args.self.now g (reaches.File c.in-File.reg) c.guest_reached.result c.args.csr c.args.op c.self.view_is c.in-File.is c.guest_reached.ensures.table in
@@ -78,15 +78,15 @@ file_taken c =
     let there = file_there x g c.args.place c.self.invariant.0 a.there a.at in
     guest_accessed x y c.args.vm c.args.number c.args.csr csrs.Reg c.args.op c.args.place (reaches.File c.in-File.reg) c.reg.result a.whole a.there a.at table refl refl named.0
     (subst (λ (s : Spot). c.reg.result ≡ register_value (shown (file_at x.world.imsic s)) c.in-File.reg) spot c.reg.ensures.value ∙ ap (register_value (shown (file_at x.world.imsic (spot_of c.args.place)))) (sym named.1))
-    (guest_file_done x y g c.args.place (Accesses csrs.Reg c.args.op) there (subst (λ (s : Spot). y.world ≡ record x.world { imsic = with_file x.world.imsic s (file_at y.world.imsic s) }) spot c.reg.ensures.others) refl refl refl
+    (guest_file_done x y g c.args.place (Accesses csrs.Reg c.args.op) there (subst (λ (s : Spot). y.world ≡ record x.world { imsic = with_file x.world.imsic s (file_at y.world.imsic s) }) spot c.reg.ensures.others) refl refl refl refl
     (subst (λ (r : FileReg). SameFile (shown (file_at y.world.imsic (spot_of c.args.place))) (accessed r c.args.op (shown (file_at x.world.imsic (spot_of c.args.place))))) (sym named.1)
     (subst (λ (s : Spot). SameFile (shown (file_at y.world.imsic s)) (accessed c.in-File.reg c.args.op (shown (file_at x.world.imsic s)))) spot c.reg.ensures.lands)) refl) tt
 
-top_taken : (c : After-claim_or_read) → CoreTakes (record { world = c.self.inside.fabric; leases = c.self.inside.pool; vcpus = c.self.inside.vcpus.items; selects = c.self.inside.selects }) (record { world = c.claim_or_read.new.fabric; leases = c.self.inside.pool; vcpus = c.self.inside.vcpus.items; selects = c.self.inside.selects }) (GuestCsr c.args.vm c.args.number c.args.csr c.args.op) (Wide c.claim_or_read.result)
+top_taken : (c : After-claim_or_read) → CoreTakes (record { world = c.self.inside.fabric; leases = c.self.inside.pool; vcpus = c.self.inside.vcpus.items; selects = c.self.inside.selects; passes = c.self.inside.passes }) (record { world = c.claim_or_read.new.fabric; leases = c.self.inside.pool; vcpus = c.self.inside.vcpus.items; selects = c.self.inside.selects; passes = c.self.inside.passes }) (GuestCsr c.args.vm c.args.number c.args.csr c.args.op) (Wide c.claim_or_read.result)
 top_taken c =
     let spot = c.file_spot-spot.ensures in
-    let x : CoreState = record { world = c.self.inside.fabric; leases = c.self.inside.pool; vcpus = c.self.inside.vcpus.items; selects = c.self.inside.selects } in
-    let y : CoreState = record { world = c.claim_or_read.new.fabric; leases = c.self.inside.pool; vcpus = c.self.inside.vcpus.items; selects = c.self.inside.selects } in
+    let x : CoreState = record { world = c.self.inside.fabric; leases = c.self.inside.pool; vcpus = c.self.inside.vcpus.items; selects = c.self.inside.selects; passes = c.self.inside.passes } in
+    let y : CoreState = record { world = c.claim_or_read.new.fabric; leases = c.self.inside.pool; vcpus = c.self.inside.vcpus.items; selects = c.self.inside.selects; passes = c.self.inside.passes } in
     let g = vcpu c.args.vm c.args.number in
     let a = asked x c.args.self.now g c.args.place c.self.view_is (record { there = c.requires.there; whole = c.requires.whole; at = c.requires.resident }) in
     let table = reached x c.args.self.now g reaches.Top c.guest_reached.result c.args.csr c.args.op c.self.view_is c.in-Top.is c.guest_reached.ensures.table in
@@ -94,13 +94,13 @@ top_taken c =
     let there = file_there x g c.args.place c.self.invariant.0 a.there a.at in
     guest_accessed x y c.args.vm c.args.number c.args.csr csrs.Topei c.args.op c.args.place reaches.Top c.claim_or_read.result a.whole a.there a.at table refl refl named
     (subst (λ (s : Spot). c.claim_or_read.result ≡ top_value (top_of (shown (file_at x.world.imsic s)))) spot c.claim_or_read.ensures.value)
-    (guest_file_done x y g c.args.place (Accesses csrs.Topei c.args.op) there (subst (λ (s : Spot). y.world ≡ record x.world { imsic = with_file x.world.imsic s (file_at y.world.imsic s) }) spot c.claim_or_read.ensures.others) refl refl refl
+    (guest_file_done x y g c.args.place (Accesses csrs.Topei c.args.op) there (subst (λ (s : Spot). y.world ≡ record x.world { imsic = with_file x.world.imsic s (file_at y.world.imsic s) }) spot c.claim_or_read.ensures.others) refl refl refl refl
     (subst (λ (s : Spot). SameFile (shown (file_at y.world.imsic s)) (file_after 0 (Accesses csrs.Topei c.args.op) (shown (file_at x.world.imsic s)))) spot c.claim_or_read.ensures.done) refl) tt
 
-sip_taken : (c : After-access_sip_in) → CoreTakes (record { world = c.self.inside.fabric; leases = c.self.inside.pool; vcpus = c.self.inside.vcpus.items; selects = c.self.inside.selects }) (record { world = c.self.inside.fabric; leases = c.self.inside.pool; vcpus = c.access_sip_in.new.vcpus.items; selects = c.self.inside.selects }) (GuestCsr c.args.vm c.args.number c.args.csr c.args.op) (Wide c.access_sip_in.result)
+sip_taken : (c : After-access_sip_in) → CoreTakes (record { world = c.self.inside.fabric; leases = c.self.inside.pool; vcpus = c.self.inside.vcpus.items; selects = c.self.inside.selects; passes = c.self.inside.passes }) (record { world = c.self.inside.fabric; leases = c.self.inside.pool; vcpus = c.access_sip_in.new.vcpus.items; selects = c.self.inside.selects; passes = c.self.inside.passes }) (GuestCsr c.args.vm c.args.number c.args.csr c.args.op) (Wide c.access_sip_in.result)
 sip_taken c =
-    let x : CoreState = record { world = c.self.inside.fabric; leases = c.self.inside.pool; vcpus = c.self.inside.vcpus.items; selects = c.self.inside.selects } in
-    let y : CoreState = record { world = c.self.inside.fabric; leases = c.self.inside.pool; vcpus = c.access_sip_in.new.vcpus.items; selects = c.self.inside.selects } in
+    let x : CoreState = record { world = c.self.inside.fabric; leases = c.self.inside.pool; vcpus = c.self.inside.vcpus.items; selects = c.self.inside.selects; passes = c.self.inside.passes } in
+    let y : CoreState = record { world = c.self.inside.fabric; leases = c.self.inside.pool; vcpus = c.access_sip_in.new.vcpus.items; selects = c.self.inside.selects; passes = c.self.inside.passes } in
     let g = vcpu c.args.vm c.args.number in
     let a = asked x c.args.self.now g c.args.place c.self.view_is (record { there = c.requires.there; whole = c.requires.whole; at = c.requires.resident }) in
     let table = reached x c.args.self.now g reaches.Sip c.guest_reached.result c.args.csr c.args.op c.self.view_is c.in-Sip.is c.guest_reached.ensures.table in
@@ -112,12 +112,12 @@ sip_taken c =
     majors_accessed x y c.args.vm c.args.number c.args.csr c.args.op c.args.place reaches.Sip c.access_sip_in.result (with_sip c.args.op) a.there a.at table refl refl
     (λ h. subst (λ (k : Csr). IsOfMajors h (Accepted (GuestCsr c.args.vm c.args.number k c.args.op)) g (with_sip c.args.op)) (sym named) (accesses_sip h c.args.vm c.args.number c.args.op))
     (λ h stands there. c.access_sip_in.ensures.value ∙ (λ k. sip_value (majors_shown (get_or x.vcpus (slot k) no_record).majors) (signal k)) ∙ sip_read x g c.args.place a.whole a.at h stands there ∙ ap (guest_csr_value h g) (sym named))
-    (record { world = refl; leases = refl; selects = refl; low = low; is_done = subst (λ q. MajorsDone x.vcpus y.vcpus q (with_sip c.args.op)) slot c.access_sip_in.ensures.done })
+    (record { world = refl; leases = refl; selects = refl; passes = refl; low = low; is_done = subst (λ q. MajorsDone x.vcpus y.vcpus q (with_sip c.args.op)) slot c.access_sip_in.ensures.done })
 
-sie_taken : (c : After-access_sie_in) → CoreTakes (record { world = c.self.inside.fabric; leases = c.self.inside.pool; vcpus = c.self.inside.vcpus.items; selects = c.self.inside.selects }) (record { world = c.self.inside.fabric; leases = c.self.inside.pool; vcpus = c.access_sie_in.new.vcpus.items; selects = c.self.inside.selects }) (GuestCsr c.args.vm c.args.number c.args.csr c.args.op) (Wide c.access_sie_in.result)
+sie_taken : (c : After-access_sie_in) → CoreTakes (record { world = c.self.inside.fabric; leases = c.self.inside.pool; vcpus = c.self.inside.vcpus.items; selects = c.self.inside.selects; passes = c.self.inside.passes }) (record { world = c.self.inside.fabric; leases = c.self.inside.pool; vcpus = c.access_sie_in.new.vcpus.items; selects = c.self.inside.selects; passes = c.self.inside.passes }) (GuestCsr c.args.vm c.args.number c.args.csr c.args.op) (Wide c.access_sie_in.result)
 sie_taken c =
-    let x : CoreState = record { world = c.self.inside.fabric; leases = c.self.inside.pool; vcpus = c.self.inside.vcpus.items; selects = c.self.inside.selects } in
-    let y : CoreState = record { world = c.self.inside.fabric; leases = c.self.inside.pool; vcpus = c.access_sie_in.new.vcpus.items; selects = c.self.inside.selects } in
+    let x : CoreState = record { world = c.self.inside.fabric; leases = c.self.inside.pool; vcpus = c.self.inside.vcpus.items; selects = c.self.inside.selects; passes = c.self.inside.passes } in
+    let y : CoreState = record { world = c.self.inside.fabric; leases = c.self.inside.pool; vcpus = c.access_sie_in.new.vcpus.items; selects = c.self.inside.selects; passes = c.self.inside.passes } in
     let g = vcpu c.args.vm c.args.number in
     let a = asked x c.args.self.now g c.args.place c.self.view_is (record { there = c.requires.there; whole = c.requires.whole; at = c.requires.resident }) in
     let table = reached x c.args.self.now g reaches.Sie c.guest_reached.result c.args.csr c.args.op c.self.view_is c.in-Sie.is c.guest_reached.ensures.table in
@@ -127,11 +127,11 @@ sie_taken c =
     majors_accessed x y c.args.vm c.args.number c.args.csr c.args.op c.args.place reaches.Sie c.access_sie_in.result (with_sie c.args.op) a.there a.at table refl refl
     (λ h. subst (λ (k : Csr). IsOfMajors h (Accepted (GuestCsr c.args.vm c.args.number k c.args.op)) g (with_sie c.args.op)) (sym named) (accesses_sie h c.args.vm c.args.number c.args.op))
     (λ h stands there. c.access_sie_in.ensures.value ∙ (λ k. sie_value (majors_shown (get_or x.vcpus (slot k) no_record).majors)) ∙ sie_read x g c.args.place a.whole a.at h stands there ∙ ap (guest_csr_value h g) (sym named))
-    (record { world = refl; leases = refl; selects = refl; low = low; is_done = subst (λ q. MajorsDone x.vcpus y.vcpus q (with_sie c.args.op)) slot c.access_sie_in.ensures.done })
+    (record { world = refl; leases = refl; selects = refl; passes = refl; low = low; is_done = subst (λ q. MajorsDone x.vcpus y.vcpus q (with_sie c.args.op)) slot c.access_sie_in.ensures.done })
 
-topi_taken : (c : After-stopi_in) → CoreTakes (record { world = c.self.inside.fabric; leases = c.self.inside.pool; vcpus = c.self.inside.vcpus.items; selects = c.self.inside.selects }) (record { world = c.self.inside.fabric; leases = c.self.inside.pool; vcpus = c.self.inside.vcpus.items; selects = c.self.inside.selects }) (GuestCsr c.args.vm c.args.number c.args.csr c.args.op) (Wide c.stopi_in.result)
+topi_taken : (c : After-stopi_in) → CoreTakes (record { world = c.self.inside.fabric; leases = c.self.inside.pool; vcpus = c.self.inside.vcpus.items; selects = c.self.inside.selects; passes = c.self.inside.passes }) (record { world = c.self.inside.fabric; leases = c.self.inside.pool; vcpus = c.self.inside.vcpus.items; selects = c.self.inside.selects; passes = c.self.inside.passes }) (GuestCsr c.args.vm c.args.number c.args.csr c.args.op) (Wide c.stopi_in.result)
 topi_taken c =
-    let x : CoreState = record { world = c.self.inside.fabric; leases = c.self.inside.pool; vcpus = c.self.inside.vcpus.items; selects = c.self.inside.selects } in
+    let x : CoreState = record { world = c.self.inside.fabric; leases = c.self.inside.pool; vcpus = c.self.inside.vcpus.items; selects = c.self.inside.selects; passes = c.self.inside.passes } in
     let g = vcpu c.args.vm c.args.number in
     let a = asked x c.args.self.now g c.args.place c.self.view_is (record { there = c.requires.there; whole = c.requires.whole; at = c.requires.resident }) in
     let table = reached x c.args.self.now g reaches.Topi c.guest_reached.result c.args.csr c.args.op c.self.view_is c.in-Topi.is c.guest_reached.ensures.table in
@@ -176,7 +176,7 @@ invariant_of-self c = (still _ _ _ _ (select_taken c) c.self.invariant.0, (let r
 
 pub reg-requires-clause-there : goal.reg-requires-clause-there
 reg-requires-clause-there c =
-    let x : CoreState = record { world = c.self.inside.fabric; leases = c.self.inside.pool; vcpus = c.self.inside.vcpus.items; selects = c.self.inside.selects } in
+    let x : CoreState = record { world = c.self.inside.fabric; leases = c.self.inside.pool; vcpus = c.self.inside.vcpus.items; selects = c.self.inside.selects; passes = c.self.inside.passes } in
     let a = asked x c.args.self.now (vcpu c.args.vm c.args.number) c.args.place c.self.view_is (record { there = c.requires.there; whole = c.requires.whole; at = c.requires.resident }) in
     subst (λ (s : Spot). IsThere x.world.imsic s) (sym c.file_spot-spot.ensures) (file_there x (vcpu c.args.vm c.args.number) c.args.place c.self.invariant.0 a.there a.at)
 
@@ -185,7 +185,7 @@ invariant_of-self-in-File c = (still _ _ _ _ (file_taken c) c.self.invariant.0, 
 
 pub claim_or_read-requires : goal.claim_or_read-requires
 claim_or_read-requires c =
-    let x : CoreState = record { world = c.self.inside.fabric; leases = c.self.inside.pool; vcpus = c.self.inside.vcpus.items; selects = c.self.inside.selects } in
+    let x : CoreState = record { world = c.self.inside.fabric; leases = c.self.inside.pool; vcpus = c.self.inside.vcpus.items; selects = c.self.inside.selects; passes = c.self.inside.passes } in
     let a = asked x c.args.self.now (vcpu c.args.vm c.args.number) c.args.place c.self.view_is (record { there = c.requires.there; whole = c.requires.whole; at = c.requires.resident }) in
     subst (λ (s : Spot). IsThere x.world.imsic s) (sym c.file_spot-spot.ensures) (file_there x (vcpu c.args.vm c.args.number) c.args.place c.self.invariant.0 a.there a.at)
 

@@ -36,12 +36,12 @@ overflow_cast-to c =
     let low = (vcpu_entry c.self.inside.fabric c.args.vm c.args.to c.has_vcpu-2.ensures.whole (sym c.has_vcpu-2.ensures.value ∙ c.if-not-has_vcpu-2.false)).2 in
     omega (arith, low)
 
-taken : (c : After-guest_store) → CoreTakes (record { world = c.self.inside.fabric; leases = c.self.inside.pool; vcpus = c.self.inside.vcpus.items; selects = c.self.inside.selects }) (record { world = c.guest_store.new.self; leases = c.self.inside.pool; vcpus = c.self.inside.vcpus.items; selects = c.self.inside.selects }) (Ipi c.args.vm c.args.number c.args.to c.args.value) Okay
+taken : (c : After-guest_store) → CoreTakes (record { world = c.self.inside.fabric; leases = c.self.inside.pool; vcpus = c.self.inside.vcpus.items; selects = c.self.inside.selects; passes = c.self.inside.passes }) (record { world = c.guest_store.new.self; leases = c.self.inside.pool; vcpus = c.self.inside.vcpus.items; selects = c.self.inside.selects; passes = c.self.inside.passes }) (Ipi c.args.vm c.args.number c.args.to c.args.value) Okay
 taken c =
     let sender = sym c.has_vcpu.ensures.value ∙ c.if-not-has_vcpu.false in
     let there = sym c.has_vcpu-2.ensures.value ∙ c.if-not-has_vcpu-2.false in
     let kept = subst (λ (x : CoreState). is_none (resident_at (record_of x (vcpu c.args.vm c.args.number)).stay) ≡ false) (sym c.self.view_is) (ap is_none (sym c.resident.ensures) ∙ ap not (c.is_none.ensures ∙ ap not c.if-is_none.false)) in
-    ipi_taken _ _ c.args.vm c.args.number c.args.to c.args.value c.has_vcpu.ensures.whole sender kept there c.guest_store.ensures.relays refl refl refl
+    ipi_taken _ _ c.args.vm c.args.number c.args.to c.args.value c.has_vcpu.ensures.whole sender kept there c.guest_store.ensures.relays refl refl refl refl
 
 pub invariant_of-self : goal.invariant_of-self
 invariant_of-self c = (still _ _ _ _ (taken c) c.self.invariant.0, c.self.invariant.1)

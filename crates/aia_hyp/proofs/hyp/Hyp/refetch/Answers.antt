@@ -11,14 +11,15 @@ use Rattle.aia_hyp.proofs.hyp.Hyp.refetch.Goals as goal
 pub returns-then-not-has_vcpu : goal.returns-then-not-has_vcpu
 returns-then-not-has_vcpu c = rw (← c.self.view_is) (no_entry_to_read _ c.args.vm c.args.number (sym c.has_vcpu.ensures.value ∙ c.if-not-has_vcpu.true))
 
-taken : (c : After-refetch) → CoreTakes (record { world = c.self.inside.fabric; leases = c.self.inside.pool; vcpus = c.self.inside.vcpus.items; selects = c.self.inside.selects }) (record { world = c.refetch.new.self; leases = c.self.inside.pool; vcpus = c.self.inside.vcpus.items; selects = c.self.inside.selects }) (Refetch c.args.vm c.args.number) Okay
-taken c = refetch_taken (record { world = c.self.inside.fabric; leases = c.self.inside.pool; vcpus = c.self.inside.vcpus.items; selects = c.self.inside.selects }) (record { world = c.refetch.new.self; leases = c.self.inside.pool; vcpus = c.self.inside.vcpus.items; selects = c.self.inside.selects }) c.args.vm c.args.number (record {
+taken : (c : After-refetch) → CoreTakes (record { world = c.self.inside.fabric; leases = c.self.inside.pool; vcpus = c.self.inside.vcpus.items; selects = c.self.inside.selects; passes = c.self.inside.passes }) (record { world = c.refetch.new.self; leases = c.self.inside.pool; vcpus = c.self.inside.vcpus.items; selects = c.self.inside.selects; passes = c.self.inside.passes }) (Refetch c.args.vm c.args.number) Okay
+taken c = refetch_taken (record { world = c.self.inside.fabric; leases = c.self.inside.pool; vcpus = c.self.inside.vcpus.items; selects = c.self.inside.selects; passes = c.self.inside.passes }) (record { world = c.refetch.new.self; leases = c.self.inside.pool; vcpus = c.self.inside.vcpus.items; selects = c.self.inside.selects; passes = c.self.inside.passes }) c.args.vm c.args.number (record {
   whole = c.has_vcpu.ensures.whole;
   there = sym c.has_vcpu.ensures.value ∙ c.if-not-has_vcpu.false;
   world = c.refetch.ensures;
   leases = refl;
   vcpus = refl;
   selects = refl;
+  passes = refl;
 })
 
 pub overflow_cast-number : goal.overflow_cast-number

@@ -17,22 +17,22 @@ use Rattle.aia_hyp.proofs.hyp.Hyp.step_of.Goals as goal
 pub step-next-requires-clause-fits : goal.step-next-requires-clause-fits
 step-next-requires-clause-fits c =
     let who = subst (λ (x : CoreState). IsWho x.world c.args.who) (sym c.self.view_is) c.requires.who in
-    (plan_known (record { world = c.self.inside.fabric; leases = c.self.inside.pool; vcpus = c.self.inside.vcpus.items; selects = c.self.inside.selects }) c.args.who c.in-Moving.plan c.self.invariant.0 who (sym c.in-Moving.is ∙ c.swap_stay.ensures.before)).0
+    (plan_known (record { world = c.self.inside.fabric; leases = c.self.inside.pool; vcpus = c.self.inside.vcpus.items; selects = c.self.inside.selects; passes = c.self.inside.passes }) c.args.who c.in-Moving.plan c.self.invariant.0 who (sym c.in-Moving.is ∙ c.swap_stay.ensures.before)).0
 
 pub step-next-requires-clause-phase : goal.step-next-requires-clause-phase
 step-next-requires-clause-phase c =
     let who = subst (λ (x : CoreState). IsWho x.world c.args.who) (sym c.self.view_is) c.requires.who in
-    (plan_known (record { world = c.self.inside.fabric; leases = c.self.inside.pool; vcpus = c.self.inside.vcpus.items; selects = c.self.inside.selects }) c.args.who c.in-Moving.plan c.self.invariant.0 who (sym c.in-Moving.is ∙ c.swap_stay.ensures.before)).1
+    (plan_known (record { world = c.self.inside.fabric; leases = c.self.inside.pool; vcpus = c.self.inside.vcpus.items; selects = c.self.inside.selects; passes = c.self.inside.passes }) c.args.who c.in-Moving.plan c.self.invariant.0 who (sym c.in-Moving.is ∙ c.swap_stay.ensures.before)).1
 
 pub rest_of-new-requires : goal.rest_of-new-requires
 rest_of-new-requires c =
     let who = subst (λ (x : CoreState). IsWho x.world c.args.who) (sym c.self.view_is) c.requires.who in
-    back_known (record { world = c.self.inside.fabric; leases = c.self.inside.pool; vcpus = c.self.inside.vcpus.items; selects = c.self.inside.selects }) c.step-next.new.fabric c.args.who c.in-Moving.plan c.step-next.result c.self.invariant.0 who
+    back_known (record { world = c.self.inside.fabric; leases = c.self.inside.pool; vcpus = c.self.inside.vcpus.items; selects = c.self.inside.selects; passes = c.self.inside.passes }) c.step-next.new.fabric c.args.who c.in-Moving.plan c.step-next.result c.self.invariant.0 who
     (sym c.in-Moving.is ∙ c.swap_stay.ensures.before) c.step-next.ensures.goes
 
 -- the core before
 abbrev before : After-swap_stay-2 → CoreState
-before c = record { world = c.self.inside.fabric; leases = c.self.inside.pool; vcpus = c.self.inside.vcpus.items; selects = c.self.inside.selects }
+before c = record { world = c.self.inside.fabric; leases = c.self.inside.pool; vcpus = c.self.inside.vcpus.items; selects = c.self.inside.selects; passes = c.self.inside.passes }
 
 is_first : (c : After-swap_stay-2) → IsFirst (before c) c.step-next.ensures.goes.landed c.args.who c.in-Moving.plan
 is_first c =
@@ -45,7 +45,7 @@ is_first c =
     }
 
 goes : (c : After-swap_stay-2) → MoveGoes (before c)
-    (record { world = c.step-next.new.fabric; leases = c.rest_of-new.new.pool; vcpus = c.swap_stay-2.new.vcpus.items; selects = c.self.inside.selects }) (vcpu c.args.who.vm c.args.who.vcpu) (is_finished c.step-next.result)
+    (record { world = c.step-next.new.fabric; leases = c.rest_of-new.new.pool; vcpus = c.swap_stay-2.new.vcpus.items; selects = c.self.inside.selects; passes = c.self.inside.passes }) (vcpu c.args.who.vm c.args.who.vcpu) (is_finished c.step-next.result)
 goes c =
     let landed = c.step-next.ensures.goes.landed in
     let first = is_first c in
@@ -60,6 +60,7 @@ goes c =
         out = c.swap_stay.ensures.after;
         back = c.swap_stay-2.ensures.after ∙ ap (λ s. set c.swap_stay.new.vcpus.items c.args.who.slot (at_stay (get_or c.swap_stay.new.vcpus.items c.args.who.slot no_record) s)) c.rest_of-new.ensures.stay;
         selects = refl;
+        passes = refl;
       };
       first = lands_first (vcpu c.args.who.vm c.args.who.vcpu) c.self.invariant.0.past;
       whole = landed_whole c.self.inside.fabric (moving_of c.in-Moving.plan) landed c.words-whole.ensures.whole first.first;

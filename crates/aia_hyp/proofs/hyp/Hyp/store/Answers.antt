@@ -15,10 +15,10 @@ use Rattle.aia_hyp.proofs.hyp.Hyp.store.Goals.{After-host_store}
 use Rattle.aia_hyp.proofs.hyp.Hyp.store.Goals as goal
 use Rattle.aia_regs.specs.declared.limits.TheConstants.{HARTS}
 
-taken : (c : After-host_store) → domain_at c.args.addr ≡ None → CoreTakes (record { world = c.self.inside.fabric; leases = c.self.inside.pool; vcpus = c.self.inside.vcpus.items; selects = c.self.inside.selects }) (record { world = c.host_store.new.self; leases = c.self.inside.pool; vcpus = c.self.inside.vcpus.items; selects = c.self.inside.selects }) (Store c.args.addr c.args.value) Okay
+taken : (c : After-host_store) → domain_at c.args.addr ≡ None → CoreTakes (record { world = c.self.inside.fabric; leases = c.self.inside.pool; vcpus = c.self.inside.vcpus.items; selects = c.self.inside.selects; passes = c.self.inside.passes }) (record { world = c.host_store.new.self; leases = c.self.inside.pool; vcpus = c.self.inside.vcpus.items; selects = c.self.inside.selects; passes = c.self.inside.passes }) (Store c.args.addr c.args.value) Okay
 taken c outside =
     let spot = c.in_ok-spot.spot in
-    let x : CoreState = record { world = c.self.inside.fabric; leases = c.self.inside.pool; vcpus = c.self.inside.vcpus.items; selects = c.self.inside.selects } in
+    let x : CoreState = record { world = c.self.inside.fabric; leases = c.self.inside.pool; vcpus = c.self.inside.vcpus.items; selects = c.self.inside.selects; passes = c.self.inside.passes } in
     let is : x ≡ c.args.self.now = c.self.view_is in
     let free = subst (λ (z : CoreState). ◌≡◌ {A = Option Refusal} None (core_refusal (spot_at z.world.imsic.harts z.world.imsic.guests c.args.addr) c.args.addr)) (sym is) c.in_ok-spot.ensures.refused in
     let few = subst (λ (z : CoreState). z.world.imsic.harts ≤ HARTS) (sym is) c.in_ok-spot.ensures.few in
@@ -34,6 +34,7 @@ taken c outside =
       leases = refl;
       vcpus = refl;
       selects = refl;
+      passes = refl;
     })
 
 -- a place that is a file's lies outside the regions of the APLIC

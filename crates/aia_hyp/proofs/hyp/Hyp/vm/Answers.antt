@@ -11,13 +11,13 @@ use Rattle.aia_hyp.proofs.VmLines.{vm_made, vm_refused, vm_has_no_room, room_lef
 use Rattle.aia_hyp.proofs.hyp.Hyp.vm.Goals.{After-add_records}
 use Rattle.aia_hyp.proofs.hyp.Hyp.vm.Goals as goal
 
-taken : (c : After-add_records) → CoreTakes (record { world = c.self.inside.fabric; leases = c.self.inside.pool; vcpus = c.self.inside.vcpus.items; selects = c.self.inside.selects }) (record { world = c.vm.new.self; leases = c.self.inside.pool; vcpus = c.add_records.new.vcpus.items; selects = c.self.inside.selects }) (lines.Vm c.args.vcpus c.args.mask c.args.hart) Okay
+taken : (c : After-add_records) → CoreTakes (record { world = c.self.inside.fabric; leases = c.self.inside.pool; vcpus = c.self.inside.vcpus.items; selects = c.self.inside.selects; passes = c.self.inside.passes }) (record { world = c.vm.new.self; leases = c.self.inside.pool; vcpus = c.add_records.new.vcpus.items; selects = c.self.inside.selects; passes = c.self.inside.passes }) (lines.Vm c.args.vcpus c.args.mask c.args.hart) Okay
 taken c =
     let parts : (is_vm_size c.args.vcpus c.args.mask ≡ true) × (nat_lt c.args.hart c.args.self.now.world.imsic.harts ≡ true) = and_parts _ _ (sym c.is_in_range.ensures ∙ c.if-not-is_in_range.false) in
     let hart = subst (λ (x : CoreState). nat_lt c.args.hart x.world.imsic.harts ≡ true) (sym c.self.view_is) parts.1 in
     let whole = subst (λ (x : CoreState). IsWhole x.world) (sym c.self.view_is) c.lacks_room.ensures.whole in
     let room = subst (λ (x : CoreState). lacks_room x.world.vms c.args.vcpus ≡ false) (sym c.self.view_is) (sym c.lacks_room.ensures.room ∙ c.if-lacks_room.false) in
-    vm_made _ _ c.args.vcpus c.args.mask c.args.hart whole parts.0 (ltb-true _ _ hart) room c.vm.ensures refl c.add_records.ensures.after refl
+    vm_made _ _ c.args.vcpus c.args.mask c.args.hart whole parts.0 (ltb-true _ _ hart) room c.vm.ensures refl c.add_records.ensures.after refl refl
 
 pub returns-then-not-is_in_range : goal.returns-then-not-is_in_range
 returns-then-not-is_in_range c = vm_refused c.args.self.now c.args.vcpus c.args.mask c.args.hart (sym c.is_in_range.ensures ∙ c.if-not-is_in_range.true)

@@ -1,6 +1,6 @@
 use Rattle.std.proofs.Common.{sym, ◌∙◌, arith}
 use Rattle.aia_fabric.proofs.WholeLemmas.{vcpu_entry}
-use Rattle.aia_hyp.proofs.moves.who_at.Goals as goal
+use Rattle.aia_hyp.proofs.moves.find.Goals as goal
 
 pub overflow_cast-vm : goal.overflow_cast-vm
 overflow_cast-vm c =

@@ -1,0 +1,105 @@
+ghost use Rattle.std.specs.Prelude.{◌≡◌, ◌<◌, ◌≤◌, ◌++◌, [], ◌∷◌, nat_eq, length, slice_index_or};
+ghost use Rattle.aia_regs.specs.declared.limits.TheConstants.{PASSES};
+ghost use Rattle.aia_word.specs.Sets.{least_of};
+ghost use Rattle.aia_home.specs.Vms.{vcpu};
+ghost use Rattle.aia_model.specs.Passes.{no_pass};
+ghost use Rattle.aia_hyp.specs.Passes.{pass_shown, own_passes};
+
+use aia_move::Pass;
+use aia_regs::limits::PASSES;
+use arrayvec::ArrayVec;
+use std::marker::Model;
+
+/// A wired source that is passed to a virtual hart.
+#[derive(Clone, Copy, Debug, Default, PartialEq, Eq)]
+pub struct Passed {
+    /// The source, from 1 on.
+    pub source: u32,
+    /// The virtual hart's VM.
+    pub vm: u32,
+    /// Its number in the VM.
+    pub vcpu: u32,
+    /// The identity for which the source asks there.
+    pub identity: u32,
+}
+
+/// The passes, in order: so they are numbered, from 0 on.
+#[derive(Drop)]
+pub struct Passes {
+    kept: ArrayVec<Passed, PASSES>,
+}
+
+impl Model for Passes {
+    ghost use Rattle.std.specs.Prelude.{List, map};
+    ghost use Rattle.aia_model.specs.Passes.{Pass};
+    ghost use Rattle.aia_hyp.specs.Passes.{pass_shown};
+
+    ghost Value = { List Pass };
+
+    ghost view = { λ p. map pass_shown p.kept.items };
+}
+
+impl Passes {
+    /// Makes the list of none.
+    pub fn new() -> Passes
+        ensures { result ≡ [] }
+    {
+        Passes {
+            kept: ArrayVec::new(),
+        }
+    }
+
+    /// Tells how many there are.
+    pub fn count(&self) -> usize
+        ensures value { result ≡ length self.now }
+        ensures few { result ≤ PASSES }
+    {
+        self.kept.len()
+    }
+
+    /// Gives the pass of a number below their count.
+    pub fn at(&self, number: u32) -> Passed
+        requires { number < length self.now }
+        ensures { pass_shown result ≡ slice_index_or self.now number no_pass }
+    {
+        self.kept[number as usize]
+    }
+
+    /// Finds the number of the pass of a source. `None` exactly where it is not passed.
+    pub fn number_of(&self, source: u32) -> Option<u32>
+        ensures { result ≡ least_of
+            (λ p. nat_eq (slice_index_or self.now p no_pass).source source) 0 (length self.now) }
+    {
+        for number in 0..self.kept.len() {
+            if self.kept[number].source == source {
+                return Some(number as u32);
+            }
+        }
+        None
+    }
+
+    /// Puts one behind the others, where there is room.
+    pub fn push(&mut self, pass: Passed)
+        requires { length self.old < PASSES }
+        ensures { self.new ≡ self.old ++ pass_shown pass ∷ [] }
+    {
+        self.kept.push(pass);
+    }
+
+    /// Gives those to a virtual hart, in order, with their numbers.
+    pub fn to(&self, vm: u32, number: u32) -> ArrayVec<Pass, PASSES>
+        ensures { result.items ≡ own_passes 0 (vcpu vm number) self.now }
+    {
+        let mut own = ArrayVec::new();
+        for (k, pass) in self.kept.iter().enumerate() {
+            if pass.vm == vm && pass.vcpu == number {
+                own.push(Pass {
+                    source: pass.source,
+                    identity: pass.identity,
+                    number: k as u32,
+                });
+            }
+        }
+        own
+    }
+}

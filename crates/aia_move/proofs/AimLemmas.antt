@@ -1,0 +1,170 @@
+-- The steps that aim passed sources: which phases they are in, and what they leave.
+use Rattle.std.proofs.Common.{◌≡◌, ◌≢◌, ℕ, ◌<◌, ◌≤◌, true, false, ◌&&◌, nat_lt, refl, sym, ap, ◌∙◌, subst, arith}
+use Rattle.std.proofs.lemmas.Bool.{eq-eqb, ne_eqb}
+use Rattle.aia_home.specs.Home.{Home, Progress, is_moving, one_more}
+use Rattle.aia_home.specs.Home.Home.{Parked, Resident, Leaving, Arriving, Shifting}
+use Rattle.aia_home.specs.Plans.{Access, steps_done, is_carried}
+use Rattle.aia_home.specs.Phases.{Phase, begins}
+use Rattle.aia_home.specs.Phases.Phase.{FirstPhase, ClosingPhase, DrainPhase, EnablePhase, LookPhase, LastPhase}
+use Rattle.aia_home.specs.BySteps.{own_file, next_file}
+use Rattle.aia_home.specs.Aims.{aims_done, is_aiming, aimed}
+use Rattle.aia_fabric.specs.World.{World}
+use Rattle.aia_move.specs.declared.plan.Plan.{Plan}
+use Rattle.aia_move.specs.declared.plan.Plan.TheVariants.{LeaveFirst, LeaveClosing, LeaveAim, LeaveDrain, LeaveEnable, LeaveLook, LeaveLast, ArriveFirst, ArriveClosing, ArriveAim, ArriveDrain, ArriveEnable, ArriveLast, ShiftFirst, ShiftClosing, ShiftAim, ShiftDrain, ShiftEnable, ShiftLast}
+use Rattle.aia_move.specs.declared.turn.Turn.{Turn}
+use Rattle.aia_move.specs.declared.turn.Turn.TheVariants.{Stay, On}
+use Rattle.aia_move.specs.declared.turn.Closed.{Closed}
+use Rattle.aia_move.specs.declared.turn.Closed.TheVariants as closed
+use Rattle.aia_move.specs.Move.{Moving, width, Fits}
+use Rattle.aia_move.specs.Targets.{aims, has_unaimed, one_aimed}
+use Rattle.aia_move.specs.Load.{Load, progress_of, moving, one_aim_done}
+use Rattle.aia_move.specs.Turns.{IsIn, IsAtAims, IsInDrain, IsMove, GoesOn, AimsOn, MatchTurn, MatchClosed}
+use Rattle.aia_move.specs.Plan.{moving_of, is_in_aim, IsInPhase}
+use Rattle.aia_move.proofs.PhaseSteps.{middle, begins_on}
+
+-- ---- when a step aims
+
+-- as many steps are done as before the first word is taken
+aims_at : (words passes : ℕ) (there : Home) → is_moving there ≡ true → steps_done there ≡ begins words there DrainPhase → is_aiming passes there ≡ nat_lt (aims_done there) passes
+aims_at words passes Parked moves e = absurd (cc)
+aims_at words passes (Resident p) moves e = absurd (cc)
+aims_at words passes (Leaving from at) moves e = ap (λ b. b && nat_lt at.aims passes) (eq-eqb _ _ e)
+aims_at words passes (Arriving to at) moves e = ap (λ b. b && nat_lt at.aims passes) (eq-eqb _ _ e)
+aims_at words passes (Shifting from to at) moves e = ap (λ b. b && nat_lt at.aims passes) (eq-eqb _ _ e)
+
+-- else none does
+none_aims : (words passes : ℕ) (there : Home) → (is_moving there ≡ true → steps_done there ≢ begins words there DrainPhase) → is_aiming passes there ≡ false
+none_aims words passes Parked other = refl
+none_aims words passes (Resident p) other = refl
+none_aims words passes (Leaving from at) other = ap (λ b. b && nat_lt at.aims passes) (ne_eqb _ _ (other refl))
+none_aims words passes (Arriving to at) other = ap (λ b. b && nat_lt at.aims passes) (ne_eqb _ _ (other refl))
+none_aims words passes (Shifting from to at) other = ap (λ b. b && nat_lt at.aims passes) (ne_eqb _ _ (other refl))
+
+-- ---- a step aims in its phase alone
+
+in_first : (words : ℕ) (m : Moving) → IsIn FirstPhase words m → aims m ≡ false
+in_first words m is = none_aims words _ m.home (λ moves e. omega (arith, e, is, (middle words m.home moves).drain))
+
+in_closing : (words : ℕ) (m : Moving) → IsIn ClosingPhase words m → aims m ≡ false
+in_closing words m is = none_aims words _ m.home (λ moves e. omega (arith, e, is))
+
+in_enable : (words : ℕ) (m : Moving) → 1 ≤ words → IsIn EnablePhase words m → aims m ≡ false
+in_enable words m some is = none_aims words _ m.home (λ moves e. let mid = middle words m.home moves in omega (arith, e, is, some, mid.drain, mid.enable))
+
+in_look : (words : ℕ) (m : Moving) → 1 ≤ words → IsIn LookPhase words m → aims m ≡ false
+in_look words m some is = none_aims words _ m.home (λ moves e. let mid = middle words m.home moves in omega (arith, e, is, some, mid.drain, mid.looks))
+
+last_late : (words : ℕ) (there : Home) → is_moving there ≡ true → 1 ≤ words → begins words there DrainPhase < begins words there LastPhase
+last_late words Parked moves some = absurd (cc)
+last_late words (Resident p) moves some = absurd (cc)
+last_late words (Leaving from at) moves some = omega (arith, some)
+last_late words (Arriving to at) moves some = omega (arith, some)
+last_late words (Shifting from to at) moves some = omega (arith, some)
+
+in_last : (words : ℕ) (m : Moving) → 1 ≤ words → IsIn LastPhase words m → aims m ≡ false
+in_last words m some is = none_aims words _ m.home (λ moves e. omega (arith, e, is, last_late words m.home moves some))
+
+pub phase_aims : (words : ℕ) (plan : Plan) → 1 ≤ words → IsInPhase words plan → aims (moving_of plan) ≡ is_in_aim plan
+phase_aims words (LeaveFirst m) some is = in_first words m is
+phase_aims words (LeaveClosing m) some is = in_closing words m is
+phase_aims words (LeaveAim m) some is = is
+phase_aims words (LeaveDrain m) some is = is.aimed
+phase_aims words (LeaveEnable m) some is = in_enable words m some is
+phase_aims words (LeaveLook m) some is = in_look words m some is
+phase_aims words (LeaveLast m) some is = in_last words m some is
+phase_aims words (ArriveFirst m) some is = in_first words m is
+phase_aims words (ArriveClosing m) some is = in_closing words m is
+phase_aims words (ArriveAim m) some is = is
+phase_aims words (ArriveDrain m) some is = is.aimed
+phase_aims words (ArriveEnable m) some is = in_enable words m some is
+phase_aims words (ArriveLast m) some is = in_last words m some is
+phase_aims words (ShiftFirst m) some is = in_first words m is
+phase_aims words (ShiftClosing m) some is = in_closing words m is
+phase_aims words (ShiftAim m) some is = is
+phase_aims words (ShiftDrain m) some is = is.aimed
+phase_aims words (ShiftEnable m) some is = in_enable words m some is
+phase_aims words (ShiftLast m) some is = in_last words m some is
+
+-- ---- what an aim leaves
+
+aimed_own : (there : Home) → own_file (aimed there) ≡ own_file there
+aimed_own Parked = refl
+aimed_own (Resident p) = refl
+aimed_own (Leaving from at) = refl
+aimed_own (Arriving to at) = refl
+aimed_own (Shifting from to at) = refl
+
+aimed_next : (there : Home) → next_file (aimed there) ≡ next_file there
+aimed_next Parked = refl
+aimed_next (Resident p) = refl
+aimed_next (Leaving from at) = refl
+aimed_next (Arriving to at) = refl
+aimed_next (Shifting from to at) = refl
+
+aimed_carried : (words : ℕ) (there : Home) (access : Access) → is_carried words (aimed there) access ≡ is_carried words there access
+aimed_carried words Parked access = refl
+aimed_carried words (Resident p) access = refl
+aimed_carried words (Leaving from at) access = refl
+aimed_carried words (Arriving to at) access = refl
+aimed_carried words (Shifting from to at) access = refl
+
+pub aim_fits : (w : World) (m : Moving) → Fits w m → Fits w (one_aimed m)
+aim_fits w m fits = record {
+  there = fits.there;
+  slot = fits.slot;
+  notice = fits.notice;
+  own = λ p e. fits.own p (sym (aimed_own m.home) ∙ e);
+  next = λ p e. fits.next p (sym (aimed_next m.home) ∙ e);
+  no_pending_zero = λ e. fits.no_pending_zero (sym (aimed_carried (width w) m.home _) ∙ e);
+  no_enabled_zero = λ e. fits.no_enabled_zero (sym (aimed_carried (width w) m.home _) ∙ e);
+}
+
+pub move_aims : (there : Progress → Home) → IsMove there → (w : World) (l now : Load) (s : Moving) → moving there l ≡ s → Fits w s → now ≡ one_aim_done l → AimsOn w s (moving there now)
+move_aims there is w l now s seen fits done =
+    let moved : moving there now ≡ one_aimed s = ap (λ x. moving there x) done ∙ (λ k. record (moving there l) { home = is.aimed (progress_of l) k }) ∙ ap one_aimed seen in
+    record { moved = moved; fits = subst (λ x. Fits w x) (sym moved) (aim_fits w s fits) }
+
+-- ---- from the fence of the G-stage record on
+
+at_aims : (words : ℕ) (x : Moving) → is_moving x.home ≡ true → steps_done x.home ≡ begins words x.home DrainPhase → has_unaimed x ≡ true → IsAtAims x
+at_aims words x moves at left = aims_at words _ x.home moves at ∙ left
+
+in_drain : (words : ℕ) (x : Moving) → is_moving x.home ≡ true → 1 ≤ words → steps_done x.home ≡ begins words x.home DrainPhase → has_unaimed x ≡ false → IsInDrain words x
+in_drain words x moves some at none =
+    let mid = middle words x.home moves in
+    record { phase = (omega (arith, at), omega (arith, at, some, mid.drain, mid.enable)); aimed = aims_at words _ x.home moves at ∙ none }
+
+still_moves : (there : Home) → is_moving there ≡ true → is_moving (one_more there) ≡ true
+still_moves Parked moves = moves
+still_moves (Resident p) moves = moves
+still_moves (Leaving from at) moves = refl
+still_moves (Arriving to at) moves = refl
+still_moves (Shifting from to at) moves = refl
+
+begins_still : (w u : World) (m t : Moving) (phase : Phase) → GoesOn w m u t → begins (width u) t.home phase ≡ begins (width w) m.home phase
+begins_still w u m t phase goes = ap (λ n. begins n t.home phase) goes.width ∙ ap (λ h. begins (width w) h phase) goes.goes.home ∙ begins_on (width w) m.home phase
+
+pub closed_phase : (w u : World) (m t : Moving) (past : ℕ) (next : Closed Moving Moving) → is_moving m.home ≡ true → 1 ≤ width w → IsIn ClosingPhase (width w) m → GoesOn w m u t
+    → past ≡ begins (width w) m.home DrainPhase → past ≤ steps_done t.home → MatchClosed next (λ x. (x ≡ t) × (has_unaimed x ≡ true)) (λ x. (x ≡ t) × (has_unaimed x ≡ false))
+    → MatchClosed next IsAtAims (IsInDrain (width u))
+closed_phase w u m t past next moves some is goes ends late r = by_next next r
+  where
+    at : steps_done t.home ≡ begins (width u) t.home DrainPhase
+    at = omega (arith, begins_still w u m t DrainPhase goes, ends, late, goes.steps, is)
+
+    here : is_moving t.home ≡ true
+    here = ap is_moving goes.goes.home ∙ still_moves m.home moves
+
+    by_next : (next : Closed Moving Moving) → MatchClosed next (λ x. (x ≡ t) × (has_unaimed x ≡ true)) (λ x. (x ≡ t) × (has_unaimed x ≡ false)) → MatchClosed next IsAtAims (IsInDrain (width u))
+    by_next (closed.Aim x) r = subst IsAtAims (sym r.0) (at_aims (width u) t here at (subst (λ y. has_unaimed y ≡ true) r.0 r.1))
+    by_next (closed.Drain x) r = subst (λ y. IsInDrain (width u) y) (sym r.0) (in_drain (width u) t here (omega (arith, goes.width, some)) at (subst (λ y. has_unaimed y ≡ false) r.0 r.1))
+
+-- once a word is taken, none is aimed
+pub drain_turned : (w u : World) (m t : Moving) (past : ℕ) (turn : Turn Moving Moving) → IsIn DrainPhase (width w) m → GoesOn w m u t
+    → MatchTurn turn (λ x. (x ≡ t) × (steps_done x.home < past)) (λ x. (x ≡ t) × (past ≤ steps_done x.home)) → MatchTurn turn (IsIn DrainPhase (width u)) (IsIn EnablePhase (width u))
+    → MatchTurn turn (IsInDrain (width u)) (IsIn EnablePhase (width u))
+drain_turned w u m t past (Stay x) is goes r turned = record {
+  phase = turned;
+  aimed = subst (λ y. aims y ≡ false) (sym r.0) (none_aims (width u) _ t.home (λ moves e. omega (arith, e, begins_still w u m t DrainPhase goes, goes.steps, is)));
+}
+drain_turned w u m t past (On x) is goes r turned = turned
