@@ -1,15 +1,17 @@
 -- How many notices lines send at most.
-use Rattle.std.proofs.Common.{◌≡◌, ℕ, zero, suc, ◌+◌, ◌*◌, ◌≤◌, Bool, true, false, not, cond, nat_eq, nat_le, List, [], ◌∷◌, ◌++◌, length, Option, Some, None, refl, sym, subst, ap, ◌∙◌, arith}
-use Rattle.std.proofs.lemmas.Bool.{eqb-true, eq-eqb}
+use Rattle.std.proofs.Common.{◌≡◌, ℕ, zero, suc, ◌+◌, ◌*◌, ◌<◌, ◌≤◌, Bool, true, false, not, ◌||◌, cond, if◌then◌else◌, nat_eq, nat_le, List, [], ◌∷◌, ◌++◌, length, map, slice_index_or, Option, Some, None, inl, inr, refl, sym, subst, ap, ◌∙◌, arith}
+use Rattle.std.proofs.lemmas.Bool.{eqb-true, eq-eqb, ne_eqb, cases_eq, or_right, false≢true}
 use Rattle.std.proofs.lemmas.Bool.Decides.{nat_tests}
 use Rattle.std.proofs.lemmas.List.{length-append}
 use Rattle.std.specs.Prelude.{slice_get}
-use Rattle.std.specs.List.{remove}
-use Rattle.aia_home.specs.Vms.{Vcpu, vcpu}
+use Rattle.std.specs.List.{remove, filter, list_any, range_with_len}
+use Rattle.std.specs.Prelude.{flat_map}
+use Rattle.aia_word.proofs.LeastLemmas.{least_of_is}
+use Rattle.aia_home.specs.Vms.{Vcpu, vcpu, is_vcpu}
 use Rattle.aia_home.specs.Plans.{leave_steps, arrive_steps, shift_steps}
 use Rattle.std.specs.Option.{option_map_or}
 use Rattle.aia_model.specs.declared.line.Line.{Line}
-use Rattle.aia_model.specs.declared.line.Line.TheVariants.{Machine, Send, Arrive, Leave, Shift, Step}
+use Rattle.aia_model.specs.declared.line.Line.TheVariants.{Machine, Wire, Load, Store, Send, Arrive, Leave, Shift, Step}
 use Rattle.aia_model.specs.declared.msi.Msi.{Msi}
 use Rattle.aia_model.specs.declared.answer.Answer.{Answer}
 use Rattle.aia_model.specs.declared.answer.Answer.TheVariants.{NoMachine, Again, Refused}
@@ -18,15 +20,25 @@ use Rattle.aia_model.specs.Move.{Move, mover, MoveDeed, move_deed}
 use Rattle.aia_model.specs.Move.Move.{Arrives, Leaves, Shifts}
 use Rattle.aia_model.specs.Move.MoveDeed.{NoMove, Whole, Begins, Steps, Lands}
 use Rattle.aia_model.specs.Event.{Event, History, machine_of, has_machine, greatest_identity_of, file_words, Shape}
-use Rattle.aia_model.specs.Event.Event.{Accepted, Began, Stepped, Delivered, Landed}
+use Rattle.aia_model.specs.Event.Event.{Accepted, Began, Stepped, Delivered, Landed, Relayed}
 use Rattle.aia_model.specs.Notice.{noticed, noticed_by_landing, with_notice, notices_sent}
 use Rattle.aia_model.specs.Refusal.{refusal, is_machine_size}
-use Rattle.aia_model.specs.Sent.{msis_sent_by}
-use Rattle.aia_model.specs.Answer.{delivered, oldest_landed, landed_first, step_taken, steps_taken, steps_of, deed_taken, line_taken, history_after, after, after_lines}
+use Rattle.aia_model.specs.declared.domain_name.DomainName.TheVariants.{Root, Child}
+use Rattle.aia_model.specs.declared.sender.Sender.{Sender}
+use Rattle.aia_model.specs.declared.sender.Sender.TheVariants.{ByGenMsi, BySource}
+use Rattle.aia_model.specs.Act.{Past}
+use Rattle.aia_model.specs.SourceOf.{sources_in}
+use Rattle.aia_model.specs.Passes.{Pass, no_pass, passes_of, nth_pass, passed_by, passes_to, passes_for}
+use Rattle.aia_model.specs.Histories.{IsHistory}
+use Rattle.aia_model.specs.Sent.{all_senders, has_msi, msi_of, msis_sent_by}
+use Rattle.aia_model.proofs.PassesStandLemmas.{acts_by, passes_stand}
+use Rattle.aia_model.proofs.SentLemmas.{may_send, none_sent_by}
+use Rattle.aia_model.proofs.HistoryLemmas.{msi_by_pass, line_happens, after_happens}
+use Rattle.aia_model.specs.Answer.{delivered, given_on, msi_taken, oldest_landed, landed_first, step_taken, steps_taken, steps_of, deed_taken, line_taken, history_after, after, after_lines}
 use Rattle.aia_model.specs.Flight.{Sending, flight}
 use Rattle.aia_model.specs.HomeOf.{home}
 use Rattle.aia_home.specs.Routes.{is_at_fence}
-use Rattle.aia_regs.specs.declared.limits.TheConstants.{IDENTITIES, STORES_IN_FLIGHT, FILE_WORDS}
+use Rattle.aia_regs.specs.declared.limits.TheConstants.{IDENTITIES, STORES_IN_FLIGHT, FILE_WORDS, PASSES}
 use Rattle.aia_model.proofs.AnswerLemmas.{machine_refusal}
 use Rattle.aia_model.proofs.FlightLemmas.{same_first}
 
@@ -46,7 +58,7 @@ size-small harts guests n sources is = grind (arith, nat_tests)
 
 machine_delivered : (msis : List Msi) (h : History) → machine_of (delivered msis h) ≡ machine_of h
 machine_delivered [] h = refl
-machine_delivered (msi ∷ later) h = machine_delivered later (Delivered msi ∷ h)
+machine_delivered (msi ∷ later) h = machine_delivered later (msi_taken msi h) ∙ msi_by_pass (λ k. machine_of k ≡ machine_of h) msi h refl (λ p e r. refl)
 
 machine_stepped : (count : ℕ) (g : Vcpu) (h : History) → machine_of (steps_taken count g h) ≡ machine_of h
 machine_stepped zero g h = refl
@@ -61,9 +73,9 @@ moved-small count g move h small = same_small (steps_taken count g (Began move �
 line-small : (h : History) (line : Line) → refusal h line ≡ None → IsSmall h → IsSmall (line_taken h line)
 line-small h (Machine harts guests n sources) good small =
     size-small harts guests n sources (size_accepted (has_machine h) (is_machine_size harts guests n sources) (sym (machine_refusal h harts guests n sources) ∙ good))
-line-small h (Arrive vm number hart) good small = moved-small (arrive_steps (file_words h)) (vcpu vm number) (Arrives (vcpu vm number) hart) h small
-line-small h (Leave vm number) good small = moved-small (leave_steps (file_words h)) (vcpu vm number) (Leaves (vcpu vm number)) h small
-line-small h (Shift vm number hart) good small = moved-small (shift_steps (file_words h)) (vcpu vm number) (Shifts (vcpu vm number) hart) h small
+line-small h (Arrive vm number hart) good small = moved-small (arrive_steps (file_words h) + passes_for h (vcpu vm number)) (vcpu vm number) (Arrives (vcpu vm number) hart) h small
+line-small h (Leave vm number) good small = moved-small (leave_steps (file_words h) + passes_for h (vcpu vm number)) (vcpu vm number) (Leaves (vcpu vm number)) h small
+line-small h (Shift vm number hart) good small = moved-small (shift_steps (file_words h) + passes_for h (vcpu vm number)) (vcpu vm number) (Shifts (vcpu vm number) hart) h small
 line-small h (Step vm number) good small = same_small (step_taken (vcpu vm number) h) h (same_first (vcpu vm number) h).1 small
 line-small h line good small = small
 
@@ -132,7 +144,7 @@ deed-few h (Send v addr value) good few NoMove vm = by_vm (nat_eq v vm) refl
     by_vm true own = one_more_flies (flight h vm) (record { before = h; addr = addr; value = value }) (subst (λ m. nat_le STORES_IN_FLIGHT (length (flight h m)) ≡ false) (eqb-true v vm own) (room_accepted _ _ _ _ good))
     by_vm false other = few vm
 deed-few h line good few NoMove vm = few vm
-deed-few h line good few (Whole move) vm = steps-few (steps_of (file_words h) move) (mover move) (Began move ∷ h) (began-few move h few) vm
+deed-few h line good few (Whole move) vm = steps-few (steps_of (file_words h) move + passes_for h (mover move)) (mover move) (Began move ∷ h) (began-few move h few) vm
 deed-few h line good few (Begins move) vm = began-few move h few vm
 deed-few h line good few (Steps g) vm = step-few g h few vm
 deed-few h line good few (Lands v k) vm = landing-few v k h few vm
@@ -140,7 +152,7 @@ deed-few h line good few (Lands v k) vm = landing-few v k h few vm
 delivered-few : (msis : List Msi) (h : History) → FewFly h → FewFly (delivered msis h)
 unfolding flight
 delivered-few [] h few = few
-delivered-few (msi ∷ later) h few = delivered-few later (Delivered msi ∷ h) few
+delivered-few (msi ∷ later) h few = delivered-few later (msi_taken msi h) (msi_by_pass FewFly msi h few (λ p e r. few))
 
 answer-few : (h : History) (line : Line) (o : Option Answer) → refusal h line ≡ o → FewFly h → FewFly (history_after o h line)
 answer-few h line None good few = delivered-few (msis_sent_by h line) (line_taken h line) (deed-few h line good few (move_deed line))
@@ -160,10 +172,136 @@ event-sends : (event : Event) (h : History) → notices_sent (event ∷ h) ≤ n
 unfolding notices_sent
 event-sends event h = one_at_most (noticed h event) (notices_sent h)
 
-delivery-sends : (msis : List Msi) (h : History) → notices_sent (delivered msis h) ≡ notices_sent h
+-- ---- what is given on within a line: each source once at most in each domain
+
+-- how many numbers of a list have a property
+abbrev count : (ℕ → Bool) → List ℕ → ℕ
+count P [] = 0
+count P (x ∷ xs) = if P x then suc (count P xs) else count P xs
+
+-- whether a source is one of some passes
+abbrev is_source_of : List Pass → ℕ → Bool
+is_source_of xs s = list_any (λ (x : Pass). nat_eq x.source s) xs
+
+count_either : (P Q : ℕ → Bool) (xs : List ℕ) → count (λ s. P s || Q s) xs ≤ count P xs + count Q xs
+count_either P Q [] = omega arith
+count_either P Q (x ∷ xs) = by_tests (P x) (Q x) (count_either P Q xs)
+  where
+    by_tests : (p q : Bool) → count (λ s. P s || Q s) xs ≤ count P xs + count Q xs
+        → cond (p || q) (suc (count (λ s. P s || Q s) xs)) (count (λ s. P s || Q s) xs) ≤ cond p (suc (count P xs)) (count P xs) + cond q (suc (count Q xs)) (count Q xs)
+    by_tests true true rest = omega (arith, rest)
+    by_tests true false rest = omega (arith, rest)
+    by_tests false true rest = omega (arith, rest)
+    by_tests false false rest = omega (arith, rest)
+
+-- a number is in a range once at most
+none_below : (k a n : ℕ) → k < a → count (nat_eq k) (range_with_len a n) ≤ 0
+none_below k a zero low = omega arith
+none_below k a (suc n) low = rw (ne_eqb k a (λ same. absurd (omega (arith, low, same)))) (none_below k (a + 1) n (omega (arith, low)))
+
+once_at_most : (k a n : ℕ) → count (nat_eq k) (range_with_len a n) ≤ 1
+once_at_most k a zero = omega arith
+once_at_most k a (suc n) = elim (cases_eq k a) [
+  | inl same ↦ rw (eq-eqb k a same) (let none = none_below k (a + 1) n (omega (arith, same)) in omega (arith, none))
+  | inr other ↦ rw (ne_eqb k a other) (once_at_most k (a + 1) n)
+]
+
+few_sources : (xs : List Pass) (a n : ℕ) → count (is_source_of xs) (range_with_len a n) ≤ length xs
+few_sources [] a n = none_at_all (range_with_len a n)
+  where
+    none_at_all : (ys : List ℕ) → count (λ s. false) ys ≤ 0
+    none_at_all [] = omega arith
+    none_at_all (y ∷ ys) = none_at_all ys
+few_sources (x ∷ xs) a n =
+    let both = count_either (nat_eq x.source) (is_source_of xs) (range_with_len a n) in
+    let one = once_at_most x.source a n in
+    let rest = few_sources xs a n in omega (arith, both, one, rest)
+
+-- one that is passed is a source of a pass
+source_at : (xs : List Pass) (p s : ℕ) → p < length xs → nat_eq (slice_index_or xs p no_pass).source s ≡ true → is_source_of xs s ≡ true
+source_at [] p s low e = absurd (omega (arith, low))
+source_at (x ∷ xs) zero s low e = ap (λ b. b || is_source_of xs s) e
+source_at (x ∷ xs) (suc p) s low e = or_right (nat_eq x.source s) (is_source_of xs s) (source_at xs p s (omega (arith, low)) e)
+
+is_source : (h : History) (s p : ℕ) → passed_by h (Some s) ≡ Some p → is_source_of (passes_of h) s ≡ true
+is_source h s p e = let least = least_of_is (λ q. nat_eq (nth_pass h q).source s) 0 (length (passes_of h)) p e in source_at (passes_of h) p s (let high = least.1 in omega (arith, high)) least.2
+
+-- how many of some senders forward a source of a pass
+abbrev given : List Pass → List Sender → ℕ
+given xs [] = 0
+given xs (ByGenMsi d ∷ senders) = given xs senders
+given xs (BySource d s ∷ senders) = if is_source_of xs s then suc (given xs senders) else given xs senders
+
+given_sources : (xs : List Pass) (numbers : List ℕ) → given xs (flat_map (λ s. BySource Root s ∷ BySource Child s ∷ []) numbers) ≡ count (is_source_of xs) numbers + count (is_source_of xs) numbers
+given_sources xs [] = refl
+given_sources xs (s ∷ later) = by_test (is_source_of xs s) (given_sources xs later)
+  where
+    by_test : (b : Bool) → given xs (flat_map (λ s. BySource Root s ∷ BySource Child s ∷ []) later) ≡ count (is_source_of xs) later + count (is_source_of xs) later
+        → cond b (suc (cond b (suc (given xs (flat_map (λ s. BySource Root s ∷ BySource Child s ∷ []) later))) (given xs (flat_map (λ s. BySource Root s ∷ BySource Child s ∷ []) later)))) (cond b (suc (given xs (flat_map (λ s. BySource Root s ∷ BySource Child s ∷ []) later))) (given xs (flat_map (λ s. BySource Root s ∷ BySource Child s ∷ []) later)))
+        ≡ cond b (suc (count (is_source_of xs) later)) (count (is_source_of xs) later) + cond b (suc (count (is_source_of xs) later)) (count (is_source_of xs) later)
+    by_test true e = omega (arith, e)
+    by_test false e = e
+
+few_given : (xs : List Pass) (n : ℕ) → given xs (all_senders n) ≤ 2 * length xs
+unfolding all_senders
+few_given xs n = let sum = given_sources xs (range_with_len 1 n) in let few = few_sources xs 1 n in omega (arith, sum, few)
+
+same_passes : (msi : Msi) (p : ℕ) (h : History) → (passes_of (Delivered msi ∷ h) ≡ passes_of h) × (passes_of (Relayed p ∷ Delivered msi ∷ h) ≡ passes_of h)
+unfolding passes_of
+same_passes msi p h = (refl, refl)
+
+taken_passes : (msi : Msi) (h : History) → passes_of (msi_taken msi h) ≡ passes_of h
+taken_passes msi h = msi_by_pass (λ k. passes_of k ≡ passes_of h) msi h (same_passes msi 0 h).0 (λ p e r. (same_passes msi p h).1)
+
+-- an MSI sends a notice where it is given on, and so is one of a passed source
+delivered_sends : (msi : Msi) (h : History) → notices_sent (Delivered msi ∷ h) ≡ notices_sent h
 unfolding notices_sent
-delivery-sends [] h = refl
-delivery-sends (msi ∷ later) h = delivery-sends later (Delivered msi ∷ h)
+delivered_sends msi h = refl
+
+silent_taken : (msi : Msi) (h : History) → passed_by h msi.source ≡ None → notices_sent (msi_taken msi h) ≡ notices_sent h
+silent_taken msi h none = ap (λ o. notices_sent (given_on o (Delivered msi ∷ h))) none ∙ delivered_sends msi h
+
+taken-sends : (msi : Msi) (h : History) → notices_sent (msi_taken msi h) ≤ notices_sent h + 1
+taken-sends msi h = msi_by_pass (λ k. notices_sent k ≤ notices_sent h + 1) msi h (let same = delivered_sends msi h in omega (arith, same))
+    (λ p e r. let one = event-sends (Relayed p) (Delivered msi ∷ h) in let same = delivered_sends msi h in omega (arith, one, same))
+
+-- of all that wait
+waiting-sends : (past : Past) (xs : List Sender) (h : History) (passes : List Pass) → passes_of h ≡ passes → notices_sent (delivered (map (msi_of past) (filter (has_msi past) xs)) h) ≤ notices_sent h + given passes xs
+waiting-sends past [] h passes same = omega arith
+waiting-sends past (x ∷ xs) h passes same = by_test (has_msi past x) (λ k e. waiting-sends past xs k passes e)
+  where
+    by_test : (b : Bool) → ((k : History) → passes_of k ≡ passes → notices_sent (delivered (map (msi_of past) (filter (has_msi past) xs)) k) ≤ notices_sent k + given passes xs) → notices_sent (delivered (map (msi_of past) (cond b (x ∷ filter (has_msi past) xs) (filter (has_msi past) xs))) h) ≤ notices_sent h + given passes (x ∷ xs)
+    by_test true rest =
+        let later = rest (msi_taken (msi_of past x) h) (taken_passes (msi_of past x) h ∙ same) in
+        let one = by_sender x in omega (arith, later, one)
+      where
+        by_sender : (x : Sender) → notices_sent (msi_taken (msi_of past x) h) + given passes xs ≤ notices_sent h + given passes (x ∷ xs)
+        by_sender (ByGenMsi d) = let same = silent_taken (msi_of past (ByGenMsi d)) h refl in omega (arith, same)
+        by_sender (BySource d s) = by_source (is_source_of passes s) refl
+          where
+            by_pass : (o : Option ℕ) → passed_by h (Some s) ≡ o → is_source_of passes s ≡ false → notices_sent (msi_taken (msi_of past (BySource d s)) h) ≡ notices_sent h
+            by_pass None e other = silent_taken (msi_of past (BySource d s)) h e
+            by_pass (Some p) e other = absurd (false≢true (sym other ∙ ap (λ ys. is_source_of ys s) (sym same) ∙ is_source h s p e))
+
+            by_source : (b : Bool) → is_source_of passes s ≡ b → notices_sent (msi_taken (msi_of past (BySource d s)) h) + given passes xs ≤ notices_sent h + cond b (suc (given passes xs)) (given passes xs)
+            by_source true e = let one = taken-sends (msi_of past (BySource d s)) h in omega (arith, one)
+            by_source false e = let none = by_pass (passed_by h (Some s)) refl e in omega (arith, none)
+    by_test false rest =
+        let later = rest h same in let more = given_more x in omega (arith, later, more)
+      where
+        given_more : (x : Sender) → given passes xs ≤ given passes (x ∷ xs)
+        given_more (ByGenMsi d) = omega arith
+        given_more (BySource d s) = by_source (is_source_of passes s)
+          where
+            by_source : (b : Bool) → given passes xs ≤ cond b (suc (given passes xs)) (given passes xs)
+            by_source true = omega arith
+            by_source false = omega arith
+
+line-delivers : (h k : History) (line : Line) → length (passes_of k) ≤ PASSES → notices_sent (delivered (msis_sent_by h line) k) ≤ notices_sent k + 2 * PASSES
+line-delivers h k line few =
+    let past = acts_by h line in
+    let sends = waiting-sends past (all_senders (sources_in past)) k (passes_of k) refl in
+    let most = few_given (passes_of k) (sources_in past) in omega (arith, sends, most, few)
 
 -- how many notices were sent, and stores of a VM are in flight
 abbrev sent_or_flying : History → ℕ → ℕ
@@ -221,37 +359,64 @@ few_steps words (Arrives g hart) small = omega arith
 few_steps words (Leaves g) small = omega arith
 few_steps words (Shifts g hart) small = omega arith
 
-deed-sends : (h : History) (line : Line) (deed : MoveDeed) → IsSmall h → FewFly h → notices_sent (deed_taken h line deed) ≤ notices_sent h + (most_steps + 1 + STORES_IN_FLIGHT)
-deed-sends h line NoMove small few = let one : notices_sent (Accepted line ∷ h) ≤ notices_sent h + 1 = event-sends (Accepted line) h in omega arith
-deed-sends h line (Whole move) small few =
+-- how many passes a virtual hart has
+own_passes : (g : Vcpu) (xs : List Pass) → passes_to g xs ≤ length xs
+own_passes g [] = omega arith
+own_passes g (x ∷ xs) = by_test (is_vcpu x.to g) (own_passes g xs)
+  where
+    by_test : (b : Bool) → passes_to g xs ≤ length xs → cond b (suc (passes_to g xs)) (passes_to g xs) ≤ suc (length xs)
+    by_test true rest = omega (arith, rest)
+    by_test false rest = omega (arith, rest)
+
+deed-sends : (h : History) (line : Line) (deed : MoveDeed) → IsSmall h → FewFly h → length (passes_of h) ≤ PASSES → notices_sent (deed_taken h line deed) ≤ notices_sent h + (most_steps + PASSES + 1 + STORES_IN_FLIGHT)
+deed-sends h line NoMove small few passes = let one : notices_sent (Accepted line ∷ h) ≤ notices_sent h + 1 = event-sends (Accepted line) h in omega arith
+deed-sends h line (Whole move) small few passes =
+    let count = steps_of (file_words h) move + passes_for h (mover move) in
     let steps : steps_of (file_words h) move ≤ most_steps = few_steps (file_words h) move (omega arith) in
+    let own : passes_for h (mover move) ≤ length (passes_of h) = own_passes (mover move) (passes_of h) in
     let first : notices_sent (Began move ∷ h) ≤ notices_sent h + 1 = event-sends (Began move) h in
     let flying : length (flight (Began move ∷ h) (mover move).vm) ≤ STORES_IN_FLIGHT = began-few move h few (mover move).vm in
-    let later : sent_or_flying (steps_taken (steps_of (file_words h) move) (mover move) (Began move ∷ h)) (mover move).vm ≤ sent_or_flying (Began move ∷ h) (mover move).vm + steps_of (file_words h) move = steps-send (steps_of (file_words h) move) (mover move) (Began move ∷ h) in
+    let later : sent_or_flying (steps_taken count (mover move) (Began move ∷ h)) (mover move).vm ≤ sent_or_flying (Began move ∷ h) (mover move).vm + count = steps-send count (mover move) (Began move ∷ h) in
     omega arith
-deed-sends h line (Begins move) small few = let one : notices_sent (Began move ∷ h) ≤ notices_sent h + 1 = event-sends (Began move) h in omega arith
-deed-sends h line (Steps g) small few =
+deed-sends h line (Begins move) small few passes = let one : notices_sent (Began move ∷ h) ≤ notices_sent h + 1 = event-sends (Began move) h in omega arith
+deed-sends h line (Steps g) small few passes =
     let flying : length (flight h g.vm) ≤ STORES_IN_FLIGHT = few g.vm in
     let one : sent_or_flying (step_taken g h) g.vm ≤ sent_or_flying h g.vm + 1 = step-sends g h in
     omega arith
-deed-sends h line (Lands vm k) small few = let one : notices_sent (Landed vm k ∷ h) ≤ notices_sent h + 1 = event-sends (Landed vm k) h in omega arith
+deed-sends h line (Lands vm k) small few passes = let one : notices_sent (Landed vm k ∷ h) ≤ notices_sent h + 1 = event-sends (Landed vm k) h in omega arith
 
-answer-sends : (h : History) (line : Line) (o : Option Answer) → IsSmall h → FewFly h → notices_sent (history_after o h line) ≤ notices_sent h + 200
-answer-sends h line None small few =
-    let same : notices_sent (delivered (msis_sent_by h line) (line_taken h line)) ≡ notices_sent (line_taken h line) = delivery-sends (msis_sent_by h line) (line_taken h line) in
-    let few : notices_sent (line_taken h line) ≤ notices_sent h + (most_steps + 1 + STORES_IN_FLIGHT) = deed-sends h line (move_deed line) small few in
-    omega arith
-answer-sends h line (Some word) small few = omega arith
+-- a line that may send MSIs is one event, which sends one notice at most, and the others send no MSI
+sending_line : (line : Line) → may_send line ≡ true → move_deed line ≡ NoMove
+sending_line (Machine harts guests n sources) e = refl
+sending_line (Wire source level) e = refl
+sending_line (Load addr) e = refl
+sending_line (Store addr value) e = refl
+sending_line line e = absurd (cc)
 
-after-sends : (h : History) (line : Line) → IsSmall h → FewFly h → notices_sent (after h line) ≤ notices_sent h + 200
+taken-notices : (h : History) (line : Line) → refusal h line ≡ None → IsHistory h → IsSmall h → FewFly h → (b : Bool) → may_send line ≡ b → notices_sent (delivered (msis_sent_by h line) (line_taken h line)) ≤ notices_sent h + 200
+taken-notices h line e good small few true sends =
+    let is : line_taken h line ≡ Accepted line ∷ h = ap (deed_taken h line) (sending_line line sends) in
+    let one : notices_sent (line_taken h line) ≤ notices_sent h + 1 = subst (λ k. notices_sent k ≤ notices_sent h + 1) (sym is) (event-sends (Accepted line) h) in
+    let passes = (passes_stand (line_taken h line) (line_happens h line e good)).few in
+    let msis = line-delivers h (line_taken h line) line passes in
+    omega (arith, one, msis)
+taken-notices h line e good small few false silent =
+    let one = deed-sends h line (move_deed line) small few (passes_stand h good).few in
+    subst (λ sent. notices_sent (delivered sent (line_taken h line)) ≤ notices_sent h + 200) (sym (none_sent_by h line silent)) (omega (arith, one))
+
+answer-sends : (h : History) (line : Line) (o : Option Answer) → refusal h line ≡ o → IsHistory h → IsSmall h → FewFly h → notices_sent (history_after o h line) ≤ notices_sent h + 200
+answer-sends h line None e good small few = taken-notices h line e good small few (may_send line) refl
+answer-sends h line (Some word) e good small few = omega arith
+
+after-sends : (h : History) (line : Line) → IsHistory h → IsSmall h → FewFly h → notices_sent (after h line) ≤ notices_sent h + 200
 unfolding after
-after-sends h line small few = answer-sends h line (refusal h line) small few
+after-sends h line good small few = answer-sends h line (refusal h line) refl good small few
 
-lines-send : (h : History) (lines : List Line) → IsSmall h → FewFly h → notices_sent (after_lines h lines) ≤ notices_sent h + 200 * length lines
-lines-send h [] small few = omega arith
-lines-send h (line ∷ lines) small few =
-    let first : notices_sent (after h line) ≤ notices_sent h + 200 = after-sends h line small few in
-    let later : notices_sent (after_lines (after h line) lines) ≤ notices_sent (after h line) + 200 * length lines = lines-send (after h line) lines (after-small h line small) (after-few h line few) in
+lines-send : (h : History) (lines : List Line) → IsHistory h → IsSmall h → FewFly h → notices_sent (after_lines h lines) ≤ notices_sent h + 200 * length lines
+lines-send h [] good small few = omega arith
+lines-send h (line ∷ lines) good small few =
+    let first : notices_sent (after h line) ≤ notices_sent h + 200 = after-sends h line good small few in
+    let later : notices_sent (after_lines (after h line) lines) ≤ notices_sent (after h line) + 200 * length lines = lines-send (after h line) lines (after_happens h line good) (after-small h line small) (after-few h line few) in
     omega arith
 
 none_fly : FewFly []
@@ -261,5 +426,5 @@ none_fly vm = omega arith
 pub few_notices : (lines : List Line) → notices_sent (after_lines [] lines) ≤ 200 * length lines
 unfolding notices_sent
 few_notices lines =
-    let most : notices_sent (after_lines [] lines) ≤ 0 + 200 * length lines = lines-send [] lines (omega arith) none_fly in
+    let most : notices_sent (after_lines [] lines) ≤ 0 + 200 * length lines = lines-send [] lines tt (omega arith) none_fly in
     omega arith

@@ -1,7 +1,7 @@
 //! Lines: what follows each keyword.
 
 ghost use Rattle.std.specs.Prelude.{◌≡◌};
-ghost use Rattle.aia_model.specs.Reading.{machine_at, vm_at, wire_at, load_at, store_at, msi_at, send_at, land_at, refetch_at, machine_csr_at, host_at, ipi_at, guest_at, arrive_at, leave_at, shift_at, begin_arrive_at, begin_leave_at, begin_shift_at, begin_after, begin_at, step_at, inject_at, hvictl_at, hviprio_at, pins_at, entry_at, line_after, line_at};
+ghost use Rattle.aia_model.specs.Reading.{machine_at, vm_at, wire_at, load_at, store_at, msi_at, send_at, land_at, refetch_at, pass_at, machine_csr_at, host_at, ipi_at, guest_at, arrive_at, leave_at, shift_at, begin_arrive_at, begin_leave_at, begin_shift_at, begin_after, begin_at, step_at, inject_at, hvictl_at, hviprio_at, pins_at, entry_at, line_after, line_at};
 ghost use Rattle.aia_script.specs.Cursor.{left};
 
 use crate::instructions::{instruction_after, instruction_at};
@@ -119,6 +119,27 @@ fn refetch_at(words: &mut Words<'_>) -> Option<Line>
     let vm = number_at(words)?;
     let vcpu = number_at(words)?;
     at_end(words, Line::Refetch { vm, vcpu })
+}
+
+/// Reads the line that the words after `pass` spell; `None` where they spell none.
+#[tactic(auto, unfolding(aia_model::specs::Reading::pass_at))]
+#[inline(always)]
+fn pass_at(words: &mut Words<'_>) -> Option<Line>
+    ensures { result ≡ pass_at (left words.old) }
+{
+    let source = number_at(words)?;
+    let vm = number_at(words)?;
+    let vcpu = number_at(words)?;
+    let identity = number_at(words)?;
+    at_end(
+        words,
+        Line::Pass {
+            source,
+            vm,
+            vcpu,
+            identity,
+        },
+    )
 }
 
 /// Reads the line that the words after `m` spell; `None` where they spell none.
@@ -379,6 +400,8 @@ fn line_after(keyword: &[u8], words: &mut Words<'_>) -> Option<Line>
         land_at(words)
     } else if is_word(keyword, b"refetch") {
         refetch_at(words)
+    } else if is_word(keyword, b"pass") {
+        pass_at(words)
     } else if is_word(keyword, b"m") {
         machine_csr_at(words)
     } else if is_word(keyword, b"h") {

@@ -86,6 +86,8 @@ fn push_refusal(out: &mut ArrayVec<u8, 64>, word: Refusal)
         Refusal::Home => push_text(out, b"home"),
         Refusal::Parked => push_text(out, b"parked"),
         Refusal::NoFile => push_text(out, b"nofile"),
+        Refusal::Passed => push_text(out, b"passed"),
+        Refusal::Unready => push_text(out, b"unready"),
         Refusal::Idle => push_text(out, b"idle"),
         Refusal::Away => push_text(out, b"away"),
         Refusal::Illegal => push_text(out, b"illegal"),

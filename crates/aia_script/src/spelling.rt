@@ -117,6 +117,19 @@ fn push_vm(out: &mut ArrayVec<u8, LINE_BYTES>, vcpus: u64, mask: u64, hart: u64)
     push_decimal(out, hart);
 }
 
+/// Appends the printing spelling of a `pass` line to `out`, which is empty.
+#[tactic(auto, unfolding(aia_model::specs::Printing::line_text))]
+fn push_pass(out: &mut ArrayVec<u8, LINE_BYTES>, source: u64, vm: u64, vcpu: u64, identity: u64)
+    requires { out.old.items ≡ [] }
+    ensures { out.new.items ≡ line_text (Line.Pass source vm vcpu identity) }
+{
+    push_text(out, b"pass");
+    push_decimal(out, source);
+    push_decimal(out, vm);
+    push_decimal(out, vcpu);
+    push_decimal(out, identity);
+}
+
 /// Appends the printing spelling of an `msi` line to `out`, which is empty.
 #[tactic(auto, unfolding(aia_model::specs::Printing::line_text))]
 fn push_msi(out: &mut ArrayVec<u8, LINE_BYTES>, vm: u64, addr: u64, value: u32)
@@ -232,6 +245,12 @@ fn push_line(line: &Line, out: &mut ArrayVec<u8, LINE_BYTES>)
         Line::Send { vm, addr, value } => push_send(out, vm, addr, value),
         Line::Land { vm, k } => push_virtual(out, b"land", vm, k),
         Line::Refetch { vm, vcpu } => push_virtual(out, b"refetch", vm, vcpu),
+        Line::Pass {
+            source,
+            vm,
+            vcpu,
+            identity,
+        } => push_pass(out, source, vm, vcpu, identity),
         Line::MachineCsr { hart, csr, op } => push_access(out, b"m", hart, Level::Machine, csr, op),
         Line::HostCsr { hart, csr, op } => push_access(out, b"h", hart, Level::Host, csr, op),
         Line::Hgeip { hart } => push_hgeip(out, hart),
