@@ -1,38 +1,51 @@
-use Rattle.std.proofs.Common.{rules, ◌≡◌, ◌<◌, ◌≤◌, true, false, length, slice_index_or, slice_set, Option, Some, None, IfSome, IfNone, OnOk, ℕ, ◌+◌, ◌-◌, ◌*◌, ◌/◌, ◌%◌, Bool, nat_eq, nat_lt, List, [], ◌∷◌, ◌++◌, bit_and, bit_or, Fits, w8, w32, w64, Bor, MutBor}
-use Rattle.std.specs.Vec.{vec_capacity}
+use Rattle.std.proofs.Common.{◌≡◌, true, sym, subst, ◌∙◌}
+use Rattle.aia_hyp.specs.Moves.{IsFound, UnlessRefused}
 use Rattle.aia_home.specs.Vms.{vcpu, is_vcpu_in}
-use Rattle.aia_home.specs.Home.{is_moving}
-use Rattle.aia_pool.specs.Leases.{Leases}
 use Rattle.aia_model.specs.declared.line.Line.TheVariants.{Step}
-use Rattle.aia_model.specs.declared.answer.Answer.TheVariants.{Okay}
-use Rattle.aia_move.specs.Move.{IsWho}
+use Rattle.aia_model.specs.declared.refusal.Refusal.TheVariants.{Idle}
+use Rattle.aia_model.specs.declared.answer.Answer.TheVariants.{Refused}
+use Rattle.aia_move.specs.declared.plan.Plan.{Plan}
 use Rattle.aia_move.specs.Plan.{moving_of}
+use Rattle.aia_hyp.specs.declared.vcpu.Stay.TheVariants as stays
+use Rattle.aia_hyp.specs.Core.{CoreState, record_of}
+use Rattle.aia_hyp.specs.Moves.{MakesOne, step_answer}
+use Rattle.aia_hyp.specs.Stands.{StandsForSome, CoreTakes}
+use Rattle.aia_hyp.proofs.MoveLines.{step_unrefused, step_refused, step_of_none, step_taken, step_idle, no_step, moved_now}
 use Rattle.aia_model.specs.Event.{History}
 use Rattle.aia_model.specs.Event.Event.{Stepped}
 use Rattle.aia_model.specs.Aim.{aimed_by}
 use Rattle.aia_model.specs.Refusal.{refusal}
-use Rattle.aia_hyp.specs.Core.{no_kept, no_record, record_of, home_in, has_plan}
-use Rattle.aia_hyp.specs.Passes.{own_passes, AimsBy}
-use Rattle.aia_hyp.specs.Stands.{CoreStands, CoreTakes, answer_by}
-use Rattle.aia_hyp.specs.Moves.{IsFound, UnlessRefused, WholeAims, move_line, begin_line, step_answer, MakesOne, WantBegins, LeaveBegins, ArriveBegins, ShiftBegins, MoveBegins, MoveGoes, stay_after, back_of, with_back, IsOutThere, stay_then, back_then, is_finished}
+use Rattle.aia_hyp.specs.Passes.{AimsBy}
+use Rattle.aia_hyp.specs.Stands.{CoreStands}
 use Rattle.aia_hyp.proofs.hyp.Hyp.step.Goals as goal
 
--- src/moves.rt:113:13
 pub returns-in_default-clause-takes : goal.returns-in_default-clause-takes
-returns-in_default-clause-takes g c = ?
+returns-in_default-clause-takes g c = rw (← c.self.view_is) (no_step _ c.args.vm c.args.number c.in_default.ensures.none)
 
--- src/moves.rt:116:13
 pub returns-then-not-is_moved-clause-takes : goal.returns-then-not-is_moved-clause-takes
-returns-then-not-is_moved-clause-takes g c = ?
+returns-then-not-is_moved-clause-takes g c =
+    let named = c.in-Some.ensures.named in
+    let who = subst (λ (x : CoreState). IsFound x.world c.in-Some.found) c.self.view_is c.in-Some.ensures.there in
+    subst (λ vm. CoreTakes c.args.self.now c.args.self.now (Step vm c.args.number) (Refused Idle)) named.0
+    (subst (λ number. CoreTakes c.args.self.now c.args.self.now (Step c.in-Some.found.vm number) (Refused Idle)) named.1
+    (step_idle c.args.self.now c.in-Some.found who (sym c.is_moved.ensures ∙ c.if-not-is_moved.true)))
 
--- src/moves.rt:118:12
 pub step_of-requires-clause-moving : goal.step_of-requires-clause-moving
-step_of-requires-clause-moving g c = ?
+step_of-requires-clause-moving g c =
+    moved_now c.args.self.now c.in-Some.found (subst (λ (x : CoreState). StandsForSome x) c.self.view_is c.self.invariant.0) (subst (λ (x : CoreState). IsFound x.world c.in-Some.found) c.self.view_is c.in-Some.ensures.there) (sym c.is_moved.ensures ∙ c.if-not-is_moved.false)
 
--- src/moves.rt:96:5
 pub returns-clause-takes : goal.returns-clause-takes
-returns-clause-takes g c = ?
+returns-clause-takes g c =
+    let named = c.in-Some.ensures.named in
+    let who = subst (λ (x : CoreState). IsFound x.world c.in-Some.found) c.self.view_is c.in-Some.ensures.there in
+    subst (λ vm. CoreTakes c.args.self.now c.step_of.new.self (Step vm c.args.number) (step_answer c.step_of.result)) named.0
+    (subst (λ number. CoreTakes c.args.self.now c.step_of.new.self (Step c.in-Some.found.vm number) (step_answer c.step_of.result)) named.1
+    (step_taken c.args.self.now c.step_of.new.self c.in-Some.found c.step_of.result who (sym c.is_moved.ensures ∙ c.if-not-is_moved.false) c.step_of.ensures.goes))
 
--- src/moves.rt:96:5
 pub returns-clause-aims : goal.returns-clause-aims
-returns-clause-aims g c = ?
+returns-clause-aims g c =
+    let named = c.in-Some.ensures.named in
+    let found = subst (λ (x : CoreState). IsFound x.world c.in-Some.found) c.self.view_is c.in-Some.ensures.there in
+    subst (λ vm. (h : History) → CoreStands c.args.self.now h → UnlessRefused (refusal h (Step vm c.args.number)) (AimsBy g.T.Targets.aimed (aimed_by h (Stepped (vcpu vm c.args.number))) c.args.targets.now c.step_of.new.targets) (c.step_of.new.targets ≡ c.args.targets.now)) named.0
+    (subst (λ number. (h : History) → CoreStands c.args.self.now h → UnlessRefused (refusal h (Step c.in-Some.found.vm number)) (AimsBy g.T.Targets.aimed (aimed_by h (Stepped (vcpu c.in-Some.found.vm number))) c.args.targets.now c.step_of.new.targets) (c.step_of.new.targets ≡ c.args.targets.now)) named.1
+    (λ h stands. step_unrefused c.args.self.now h c.in-Some.found _ _ stands found (sym c.is_moved.ensures ∙ c.if-not-is_moved.false) (c.step_of.ensures.aims h stands)))

@@ -1,46 +1,59 @@
-use Rattle.std.proofs.Common.{rules, ◌≡◌, ◌<◌, ◌≤◌, true, false, length, slice_index_or, slice_set, Option, Some, None, IfSome, IfNone, OnOk, ℕ, ◌+◌, ◌-◌, ◌*◌, ◌/◌, ◌%◌, Bool, nat_eq, nat_lt, List, [], ◌∷◌, ◌++◌, bit_and, bit_or, Fits, w8, w32, w64, Bor, MutBor}
-use Rattle.std.specs.Vec.{vec_capacity}
-use Rattle.aia_home.specs.Vms.{vcpu, is_vcpu_in}
-use Rattle.aia_home.specs.Home.{is_moving}
-use Rattle.aia_pool.specs.Leases.{Leases}
-use Rattle.aia_model.specs.declared.line.Line.TheVariants.{Step}
-use Rattle.aia_model.specs.declared.answer.Answer.TheVariants.{Okay}
-use Rattle.aia_move.specs.Move.{IsWho}
-use Rattle.aia_move.specs.Plan.{moving_of}
+use Rattle.std.proofs.Common.{◌≡◌, Err, sym, ap, ◌∙◌, subst, rules}
+use Rattle.aia_fabric.specs.World.{World}
+use Rattle.aia_model.specs.declared.answer.Answer.TheVariants.{Okay, Refused}
+use Rattle.aia_model.specs.declared.refusal.Refusal.TheVariants as words
 use Rattle.aia_model.specs.Event.{History}
-use Rattle.aia_model.specs.Event.Event.{Stepped}
-use Rattle.aia_model.specs.Aim.{aimed_by}
 use Rattle.aia_model.specs.Refusal.{refusal}
-use Rattle.aia_hyp.specs.Core.{no_kept, no_record, record_of, home_in, has_plan}
-use Rattle.aia_hyp.specs.Passes.{own_passes, AimsBy}
-use Rattle.aia_hyp.specs.Stands.{CoreStands, CoreTakes, answer_by}
-use Rattle.aia_hyp.specs.Moves.{IsFound, UnlessRefused, WholeAims, move_line, begin_line, step_answer, MakesOne, WantBegins, LeaveBegins, ArriveBegins, ShiftBegins, MoveBegins, MoveGoes, stay_after, back_of, with_back, IsOutThere, stay_then, back_then, is_finished}
+use Rattle.aia_hyp.specs.Core.{CoreState}
+use Rattle.aia_hyp.specs.Moves.{IsFound, UnlessRefused, WholeAims, move_line}
+use Rattle.aia_hyp.specs.Stands.{StandsForSome, CoreStands, CoreTakes}
+use Rattle.aia_hyp.proofs.BeginCore.{no_move}
+use Rattle.aia_hyp.proofs.MoveWhole.{first_step, next_step, all_steps, all_aims, none_aims, refused_whole}
 use Rattle.aia_hyp.proofs.hyp.Hyp.whole.Goals as goal
 
--- src/moves.rt:73:13
 pub returns-in_default-clause-takes : goal.returns-in_default-clause-takes
-returns-in_default-clause-takes g c = ?
+returns-in_default-clause-takes g c = rw (← c.self.view_is) (refused_whole _ _ c.args.vm c.args.number c.args.want words.Range (no_move _ c.args.vm c.args.number c.args.want c.in_default.ensures.none))
 
--- src/moves.rt:75:9
 pub returns-in_err-begin_of-clause-takes : goal.returns-in_err-begin_of-clause-takes
-returns-in_err-begin_of-clause-takes g c = ?
+returns-in_err-begin_of-clause-takes g c =
+    let named = c.in-Some.ensures.named in
+    let gives : c.from_residual.result ≡ Err c.in_err-begin_of.field-0.0 = search rules in
+    rw (gives) (subst (λ vm. CoreTakes c.args.self.now c.begin_of.new.self (move_line vm c.args.number c.args.want) (Refused c.in_err-begin_of.field-0.0)) named.0
+    (subst (λ number. CoreTakes c.args.self.now c.begin_of.new.self (move_line c.in-Some.found.vm number c.args.want) (Refused c.in_err-begin_of.field-0.0)) named.1
+    (refused_whole c.args.self.now c.begin_of.new.self c.in-Some.found.vm c.in-Some.found.vcpu c.args.want c.in_err-begin_of.field-0.0 c.in_err-begin_of.ensures.begins)))
 
--- src/moves.rt:75:9
 pub returns-in_err-begin_of-clause-aims : goal.returns-in_err-begin_of-clause-aims
-returns-in_err-begin_of-clause-aims g c = ?
+returns-in_err-begin_of-clause-aims g c =
+    let named = c.in-Some.ensures.named in
+    let told = c.args.targets.now in
+    subst (λ vm. (h : History) → CoreStands c.args.self.now h → UnlessRefused (refusal h (move_line vm c.args.number c.args.want)) (WholeAims g.T.Targets.aimed h vm c.args.number c.args.want told told) (told ≡ told)) named.0
+    (subst (λ number. (h : History) → CoreStands c.args.self.now h → UnlessRefused (refusal h (move_line c.in-Some.found.vm number c.args.want)) (WholeAims g.T.Targets.aimed h c.in-Some.found.vm number c.args.want told told) (told ≡ told)) named.1
+    (none_aims g.T.Targets.aimed told c.args.self.now c.begin_of.new.self c.in-Some.found.vm c.in-Some.found.vcpu c.args.want c.in_err-begin_of.field-0.0 c.in_err-begin_of.ensures.begins))
 
--- src/moves.rt:76:9
 pub loop-found-init : goal.loop-found-init
-loop-found-init g c = ?
+loop-found-init g c = (
+  first_step g.T.Targets.aimed c.args.targets.now c.args.self.now c.begin_of.new.self c.in-Some.found c.args.want c.in_ok-begin_of.ensures.begins (subst (λ (x : CoreState). StandsForSome x) c.self.view_is c.self.invariant.0)
+      (subst (λ (w : World). IsFound w c.in-Some.found) (sym c.in_ok-begin_of.ensures.world) (subst (λ (x : CoreState). IsFound x.world c.in-Some.found) c.self.view_is c.in-Some.ensures.there)),
+  ap (λ (w : World). w.imsic.harts) c.in_ok-begin_of.ensures.world ∙ c.requires,
+)
 
--- src/moves.rt:76:9
 pub loop-found-preserved : goal.loop-found-preserved
-loop-found-preserved g c = ?
+loop-found-preserved g c = (
+  next_step g.T.Targets.aimed c.args.targets.now c.loop-found.targets c.step_of.new.targets c.args.self.now c.loop-found.self c.step_of.new.self c.in-Some.found c.args.want c.loop-found.invariant.0 c.loop-found-test.ensures.goes c.loop-found-test.ensures.aims c.loop-found-test.ensures.found,
+  c.loop-found-test.ensures.harts,
+)
 
--- src/moves.rt:57:5
 pub returns-clause-takes : goal.returns-clause-takes
-returns-clause-takes g c = ?
+returns-clause-takes g c =
+    let named = c.in-Some.ensures.named in
+    subst (λ vm. CoreTakes c.args.self.now c.step_of.new.self (move_line vm c.args.number c.args.want) Okay) named.0
+    (subst (λ number. CoreTakes c.args.self.now c.step_of.new.self (move_line c.in-Some.found.vm number c.args.want) Okay) named.1
+    (all_steps g.T.Targets.aimed c.args.targets.now c.loop-found.targets c.args.self.now c.loop-found.self c.step_of.new.self c.in-Some.found c.args.want c.loop-found.invariant.0 c.loop-found-test.ensures.goes))
 
--- src/moves.rt:57:5
 pub returns-clause-aims : goal.returns-clause-aims
-returns-clause-aims g c = ?
+returns-clause-aims g c =
+    let named = c.in-Some.ensures.named in
+    let told = c.args.targets.now in
+    subst (λ vm. (h : History) → CoreStands c.args.self.now h → UnlessRefused (refusal h (move_line vm c.args.number c.args.want)) (WholeAims g.T.Targets.aimed h vm c.args.number c.args.want told c.step_of.new.targets) (c.step_of.new.targets ≡ told)) named.0
+    (subst (λ number. (h : History) → CoreStands c.args.self.now h → UnlessRefused (refusal h (move_line c.in-Some.found.vm number c.args.want)) (WholeAims g.T.Targets.aimed h c.in-Some.found.vm number c.args.want told c.step_of.new.targets) (c.step_of.new.targets ≡ told)) named.1
+    (all_aims g.T.Targets.aimed told c.loop-found.targets c.step_of.new.targets c.args.self.now c.loop-found.self c.step_of.new.self c.in-Some.found c.args.want c.loop-found.invariant.0 c.loop-found-test.ensures.goes c.loop-found-test.ensures.aims))
