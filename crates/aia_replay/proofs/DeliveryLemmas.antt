@@ -109,7 +109,7 @@ SoFar old now = (h : History) (past : Past) → MachineHolds old h past → Way 
 pub begin : (m : Machine) → SoFar m m
 begin m = λ h past holds. record { events = h; acts = past; holds = holds; same = refl; settles = refl }
 
-pub one_more : (old m n : Machine) (msi : Msi) → SoFar old m → ((past : Past) → AplicStands m.aplic past → Next n.aplic (Some msi) past) → CoreHears m.core n.core msi → SoFar old n
+pub one_more : (old m n : Machine) (msi : Msi) → SoFar old m → ((past : Past) → AplicStands m.wires.aplic past → Next n.wires.aplic (Some msi) past) → CoreHears m.core n.core msi → SoFar old n
 one_more old m n msi so_far nexts hears = λ h past holds.
     let way = so_far h past holds in
     let next = nexts way.acts way.holds.aplic in
@@ -122,7 +122,7 @@ one_more old m n msi so_far nexts hears = λ h past holds.
       settles = sym (settled_next way.acts next.sender next.later next.first) ∙ way.settles;
     }
 
-pub all_delivered : (old m n : Machine) → SoFar old m → ((past : Past) → AplicStands m.aplic past → Next n.aplic None past) → n.core ≡ m.core → Delivers old n
+pub all_delivered : (old m n : Machine) → SoFar old m → ((past : Past) → AplicStands m.wires.aplic past → Next n.wires.aplic None past) → n.core ≡ m.core → Delivers old n
 all_delivered old m n so_far nexts same = λ h past holds.
     let way = so_far h past holds in
     let next = nexts way.acts way.holds.aplic in

@@ -7,14 +7,19 @@ use Rattle.aia_model.specs.declared.parsed.Parsed.{Parsed}
 use Rattle.aia_model.specs.declared.parsed.Parsed.TheVariants as parsed
 use Rattle.aia_model.specs.Event.{History}
 use Rattle.aia_model.specs.Act.{Past, act_of}
+use Rattle.aia_model.specs.Move.{MoveDeed, move_deed}
+use Rattle.aia_model.specs.Move.MoveDeed.{NoMove}
+use Rattle.aia_model.specs.Event.Event.{Accepted}
+use Rattle.aia_model.specs.Aim.{aimed_by}
+use Rattle.aia_model.specs.Histories.{IsHistory}
+use Rattle.aia_model.specs.PassesStand.{AreForwards}
 use Rattle.aia_model.specs.Sent.{with_act, acts_of, with_all_sent, waiting_msis}
 use Rattle.aia_model.specs.Refusal.{refusal, makes_machine}
-use Rattle.aia_model.specs.Answer.{answer, after, delivered}
+use Rattle.aia_model.specs.Answer.{answer, after, line_taken, delivered}
 use Rattle.aia_model.specs.Script.{text_answer, after_text}
 use Rattle.aia_hyp.specs.Stands.{CoreStands, line_served}
 use Rattle.aia_aplic.specs.Aplic.{AplicStands}
 use Rattle.aia_replay.specs.declared.machine.Machine.{Machine}
-use Rattle.aia_replay.specs.declared.engine.Engine.{Engine}
 
 -- ---- a machine
 
@@ -22,15 +27,27 @@ use Rattle.aia_replay.specs.declared.engine.Engine.{Engine}
 -- same.
 pub record MachineHolds (m : Machine) (h : History) (past : Past) : Type 0 where
   pub core : CoreStands m.core h
-  pub aplic : AplicStands m.aplic past
+  pub aplic : AplicStands m.wires.aplic past
 
--- All of it stands for the history.
-abbrev pub MachineStands : Machine → History → Type 0
-MachineStands m h = MachineHolds m h (acts_of h)
+-- All of it stands for the history, each of whose events may happen.
+pub record MachineStands (m : Machine) (h : History) : Type 0 where
+  pub holds : MachineHolds m h (acts_of h)
+  pub happens : IsHistory h
 
--- What has happened to the APLIC when a line is served, and its MSIs are still to be sent.
+pub record StandsForSome (m : Machine) : Type 0 where
+  pub past : History
+  pub stands : MachineStands m past
+
+-- What has happened to the APLIC when a line is accepted, and its MSIs are still to be sent: of a
+-- line about moves and of a landing what they aim, of any other one what it is to the APLIC too.
+abbrev pub acts_by : MoveDeed → History → Line → Past
+acts_by NoMove h line =
+    with_act (act_of line) (with_act (aimed_by h (Accepted line)) (acts_of h))
+acts_by deed h line = acts_of (line_taken h line)
+
+-- The same of a line that is refused or not.
 abbrev pub act_taken : Option Answer → History → Line → Past
-act_taken None h line = with_act (act_of line) (acts_of h)
+act_taken None h line = acts_by (move_deed line) h line
 act_taken (Some word) h line = acts_of h
 
 -- A machine answers a line as the model does, and holds what the line itself makes of it.
@@ -39,10 +56,21 @@ pub record MachineTakes (old new : Machine) (line : Line) (given : Answer) : Typ
   pub takes : (h : History) → MachineStands old h
       → MachineHolds new (line_served (refusal h line) h line) (act_taken (refusal h line) h line)
 
+-- All MSIs that wait may be delivered: those of passed sources go as their passes lead.
+pub record CanDeliver (m : Machine) (h : History) (past : Past) : Type 0 where
+  pub holds : MachineHolds m h past
+  pub happens : IsHistory h
+  pub forwards : AreForwards h (waiting_msis past)
+
+pub record CanDeliverSome (m : Machine) : Type 0 where
+  pub events : History
+  pub acts : Past
+  pub can : CanDeliver m events acts
+
 -- All MSIs that wait are delivered.
 abbrev pub Delivers : Machine → Machine → Type 0
 Delivers old new =
-    (h : History) (past : Past) → MachineHolds old h past
+    (h : History) (past : Past) → CanDeliver old h past
     → MachineHolds new (delivered (waiting_msis past) h) (with_all_sent past)
 
 -- A machine answers a line as the model does, and stands for the history after it.
@@ -52,26 +80,35 @@ pub record MachineServes (old new : Machine) (line : Line) (given : Answer) : Ty
 
 -- ---- the engine
 
+-- What an engine keeps: a machine, where one stands.
+abbrev pub EngineState : Type 0
+EngineState = Option Machine
+
 -- With no machine it stands for the empty history alone.
-abbrev pub StandsFor : Engine → History → Type 0
-StandsFor engine h = MatchOption engine.machine (h ≡ []) (λ m. MachineStands m h)
+abbrev pub StandsFor : EngineState → History → Type 0
+StandsFor machine h = MatchOption machine (h ≡ []) (λ m. MachineStands m h)
+
+-- A machine that stands does so for some history.
+abbrev pub IsSound : EngineState → Type 0
+IsSound None = Unit {0}
+IsSound (Some m) = StandsForSome m
 
 -- The engine answers a line as the model does, and stands for the history after it.
-pub record Serves (old new : Engine) (line : Line) (given : Answer) : Type 0 where
+pub record Serves (old new : EngineState) (line : Line) (given : Answer) : Type 0 where
   pub answers : (h : History) → StandsFor old h → given ≡ answer h line
   pub stands : (h : History) → StandsFor old h → StandsFor new (after h line)
 
 -- The same of a text, by what it reads as.
-pub record ServesText (old new : Engine) (text : Parsed) (given : Option Answer) : Type 0 where
+pub record ServesText (old new : EngineState) (text : Parsed) (given : Option Answer) : Type 0 where
   pub answers : (h : History) → StandsFor old h → given ≡ text_answer h text
   pub stands : (h : History) → StandsFor old h → StandsFor new (after_text h text)
 
 -- The line is a `machine` line that is accepted: the one kind of line that takes memory.
-abbrev pub WantsMachine : Engine → Line → Type 0
+abbrev pub WantsMachine : EngineState → Line → Type 0
 WantsMachine engine line = (h : History) → StandsFor engine h → makes_machine h line ≡ true
 
 -- The text reads as such a line.
-abbrev pub ReadsAsMachine : Engine → Parsed → Type 0
+abbrev pub ReadsAsMachine : EngineState → Parsed → Type 0
 ReadsAsMachine engine (parsed.Line line) = WantsMachine engine line
 ReadsAsMachine engine parsed.Skip = ⊥
 ReadsAsMachine engine parsed.Bad = ⊥

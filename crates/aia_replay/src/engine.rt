@@ -10,11 +10,22 @@ use crate::machine::Machine;
 use aia_model::{Answer, Line, Parsed, Refusal};
 use aia_script::parse_line;
 use std::alloc::{AllocError, Global};
+use std::marker::Model;
 
 /// Answers lines, one after another, by the state that the lines before left.
 #[derive(Drop)]
 pub struct Engine {
     machine: Option<Machine>,
+}
+
+impl Model for Engine {
+    ghost use Rattle.aia_replay.specs.Stands.{EngineState, IsSound};
+
+    ghost Value = { EngineState };
+
+    ghost view = { λ e. e.machine };
+
+    ghost invariant = { λ e. IsSound e.machine };
 }
 
 impl Engine {
@@ -45,7 +56,7 @@ impl Engine {
     #[cold]
     #[inline(never)]
     fn first_line(&mut self, alloc: Global, line: &Line) -> Result<Answer, AllocError>
-        requires { self.old.machine ≡ None }
+        requires { self.old ≡ None }
         ensures serves { IfOk result (Serves self.old self.new line.now) }
         ensures err { OnErr result (self.new ≡ self.old) }
         ensures none { OnErr result (StandsFor self.new []) }

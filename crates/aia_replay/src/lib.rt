@@ -11,6 +11,7 @@ mod machine;
 mod program;
 mod replayer;
 mod stop;
+mod wires;
 
 // What `gen` runs, for callers that run it line by line through an engine of their own.
 pub use aia_generate::{generate, lcg};

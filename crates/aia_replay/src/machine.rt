@@ -14,22 +14,29 @@ ghost use Rattle.aia_hyp.specs.HostFiles.{IsHost, csr_line};
 ghost use Rattle.aia_hyp.specs.Stands.{answer_by};
 ghost use Rattle.aia_hyp.specs.Moves.{move_line, begin_line};
 ghost use Rattle.aia_aplic.specs.Aplic.{domain_name};
-ghost use Rattle.aia_replay.specs.Stands.{MachineHolds, MachineTakes, MachineServes, Delivers};
+ghost use Rattle.aia_replay.specs.Stands.{MachineHolds, MachineStands, StandsForSome, CanDeliverSome, MachineTakes, MachineServes, Delivers};
+ghost use Rattle.aia_aplic.specs.Aplic.{AplicStands};
+ghost use Rattle.aia_model.specs.SourceOf.{is_source};
+ghost use Rattle.aia_model.specs.Passes.{has_passes};
+ghost use Rattle.aia_model.specs.Passable.{redirects_by};
+ghost use Rattle.aia_regs.specs.declared.limits.TheConstants.{SOURCES};
 
+use crate::wires::Wires;
 use aia_aplic::Aplic;
 use aia_entry::decode;
 use aia_hyp::{Hyp, Want};
 use aia_model::{Answer, Line, Refusal};
 use aia_regs::address_map::{REGION, ROOT_DOMAIN};
 use aia_regs::limits::{GUEST_FILES, HARTS, IDENTITIES, SOURCES};
-use aia_regs::{Csr, Level, Op};
+use aia_regs::{Csr, DomainReg, Level, Op, domain_reg};
+use aia_source::{domaincfg_kept, is_by_msi};
 use std::alloc::{AllocError, Global};
 
 /// A machine: the hypervisor's core and the APLIC, to one of which each line is handed.
 #[derive(Drop)]
 pub struct Machine {
     core: Hyp,
-    aplic: Aplic,
+    wires: Wires,
 }
 
 impl Machine {
@@ -53,13 +60,15 @@ impl Machine {
         }
         let core = Hyp::new(alloc, harts as u32, guests as u32, n as u32)?;
         let aplic = Aplic::new(alloc, harts as u32, sources as u32)?;
-        Ok(Some(Machine { core, aplic }))
+        let wires = Wires { aplic };
+        Ok(Some(Machine { core, wires }))
     }
 
     /// Answers a line after the one that made this machine. All MSIs that wait then are sent and
     /// land before it returns.
     pub fn line(&mut self, line: &Line) -> Answer
-        requires { IsListed line.now }
+        requires listed { IsListed line.now }
+        requires stands { StandsForSome self.old }
         ensures { MachineServes self.old self.new line.now result }
     {
         let answer = self.serve(line);
@@ -77,7 +86,8 @@ impl Machine {
 
     /// Answers it, and does what it does itself.
     fn serve(&mut self, line: &Line) -> Answer
-        requires { IsListed line.now }
+        requires listed { IsListed line.now }
+        requires stands { StandsForSome self.old }
         ensures { MachineTakes self.old self.new line.now result }
     {
         match *line {
@@ -90,6 +100,12 @@ impl Machine {
             Line::Send { vm, addr, value } => self.send(vm, addr, value),
             Line::Land { vm, k } => self.land(vm, k),
             Line::Refetch { vm, vcpu } => self.refetch(vm, vcpu),
+            Line::Pass {
+                source,
+                vm,
+                vcpu,
+                identity,
+            } => self.pass(source, vm, vcpu, identity),
             Line::MachineCsr { hart, csr, op } => self.access(Level::Machine, hart, csr, op),
             Line::HostCsr { hart, csr, op } => self.access(Level::Host, hart, csr, op),
             Line::Hgeip { hart } => self.hgeip(hart),
@@ -122,9 +138,10 @@ impl Machine {
 
     /// Sends all MSIs that wait, each of which the core hears.
     fn deliver(&mut self)
+        requires { CanDeliverSome self.old }
         ensures { Delivers self.old self.new }
     {
-        while let Some(msi) = self.aplic.next_msi() {
+        while let Some(msi) = self.wires.aplic.next_msi() {
             self.core.deliver(msi);
         }
     }
@@ -164,6 +181,20 @@ impl Machine {
         okay(self.core.refetch(vm, vcpu))
     }
 
+    /// Passes a wired source to a virtual hart, by the core; `Range` where the source isn't there.
+    fn pass(&mut self, source: u64, vm: u64, vcpu: u64, identity: u64) -> Answer
+        requires { StandsForSome self.old }
+        ensures { MachineTakes self.old self.new (Line.Pass source vm vcpu identity) result }
+    {
+        if !self.has_source(source) {
+            return Answer::Refused(Refusal::Range);
+        }
+        okay(
+            self.core
+                .pass(source as u32, vm, vcpu, identity, &mut self.wires),
+        )
+    }
+
     /// Tells which guest files of a hart signal.
     fn hgeip(&self, hart: u64) -> Answer
         ensures { MachineTakes self.now self.now (Line.Hgeip hart) result }
@@ -187,9 +218,10 @@ impl Machine {
 
     /// Moves a virtual hart, by all steps of its move.
     fn whole_move(&mut self, vm: u64, vcpu: u64, want: Want) -> Answer
+        requires { StandsForSome self.old }
         ensures { MachineTakes self.old self.new (move_line vm vcpu want) result }
     {
-        okay(self.core.whole(vm, vcpu, want))
+        okay(self.core.whole(vm, vcpu, want, &mut self.wires))
     }
 
     /// Begins to move a virtual hart.
@@ -201,9 +233,10 @@ impl Machine {
 
     /// Does the next step of the move of a virtual hart.
     fn step(&mut self, vm: u64, vcpu: u64) -> Answer
+        requires { StandsForSome self.old }
         ensures { MachineTakes self.old self.new (Line.Step vm vcpu) result }
     {
-        match self.core.step(vm, vcpu) {
+        match self.core.step(vm, vcpu, &mut self.wires) {
             Ok(true) => Answer::Done,
             Ok(false) => Answer::Moving,
             Err(word) => Answer::Refused(word),
@@ -242,14 +275,20 @@ impl Machine {
     fn wire(&mut self, source: u64, level: bool) -> Answer
         ensures { MachineTakes self.old self.new (Line.Wire source level) result }
     {
-        if source == 0 {
+        if !self.has_source(source) {
             return Answer::Refused(Refusal::Range);
         }
-        if source > u64::from(self.aplic.sources()) {
-            return Answer::Refused(Refusal::Range);
-        }
-        self.aplic.wire(source as u32, level);
+        self.wires.aplic.wire(source as u32, level);
         Answer::Okay
+    }
+
+    /// Tells whether a wired source is there.
+    fn has_source(&self, source: u64) -> bool
+        ensures there { (past : Past) → AplicStands self.now.wires.aplic past
+            → result ≡ is_source past source }
+        ensures few { result ≡ true → source ≤ SOURCES }
+    {
+        (1..=u64::from(self.wires.aplic.sources())).contains(&source)
     }
 
     /// Loads from a register of the APLIC, or else by the core.
@@ -261,22 +300,53 @@ impl Machine {
                 let given = self.core.load(addr);
                 given.map_or_else(Answer::Refused, Answer::Narrow)
             }
-            Ok(Some(domain)) => Answer::Narrow(self.aplic.load(domain, (addr % REGION) as u32)),
+            Ok(Some(domain)) => Answer::Narrow(self.wires.aplic.load(domain, (addr % REGION) as u32)),
             Err(word) => Answer::Refused(word),
         }
     }
 
     /// Stores to a register of the APLIC, or else by the core.
     fn store(&mut self, addr: u64, value: u32) -> Answer
+        requires { StandsForSome self.old }
         ensures { MachineTakes self.old self.new (Line.Store addr value) result }
     {
         match register_domain(addr) {
             Ok(None) => okay(self.core.store(addr, value)),
-            Ok(Some(domain)) => {
-                self.aplic.store(domain, (addr % REGION) as u32, value);
-                Answer::Okay
-            }
+            Ok(Some(domain)) => self.store_register(domain, addr, value),
             Err(word) => Answer::Refused(word),
+        }
+    }
+
+    /// Stores to a register of a domain, 0 or 1, in whose control region the address lies; `Guarded`
+    /// where the store would redirect the MSIs of passed sources.
+    fn store_register(&mut self, domain: u32, addr: u64, value: u32) -> Answer
+        requires named { domain_at addr ≡ Some (domain_name domain) }
+        requires few { domain ≤ 1 }
+        requires aligned { addr % 4 ≡ 0 }
+        requires stands { StandsForSome self.old }
+        ensures { MachineTakes self.old self.new (Line.Store addr value) result }
+    {
+        let offset = (addr % REGION) as u32;
+        if self.core.passes() > 0 && self.redirects(domain, domain_reg(offset), value) {
+            return Answer::Refused(Refusal::Guarded);
+        }
+        self.wires.aplic.store(domain, offset, value);
+        Answer::Okay
+    }
+
+    /// Tells whether a store to a register of a domain would redirect the MSIs of passed sources,
+    /// while there are some.
+    fn redirects(&self, domain: u32, register: DomainReg, value: u32) -> bool
+        requires few { domain ≤ 1 }
+        ensures { (h : History) → MachineStands self.now h → has_passes h ≡ true
+            → result ≡ redirects_by h (Some (domain_name domain)) register value }
+    {
+        match (domain, register) {
+            (0, DomainReg::MMsiAddrCfgH | DomainReg::SMsiAddrCfg | DomainReg::SMsiAddrCfgH) => true,
+            (_, DomainReg::SourceCfg(source)) => self.core.passed(source),
+            (1, DomainReg::Target(source)) => self.core.passed(source),
+            (1, DomainReg::DomainCfg) => !is_by_msi(domaincfg_kept(value)),
+            _ => false,
         }
     }
 
@@ -295,8 +365,8 @@ impl Machine {
     {
         match self.core.signals(hart) {
             Ok((machine, supervisor)) => Answer::Pins(
-                self.aplic.pin(0, hart as u32),
-                self.aplic.pin(1, hart as u32),
+                self.wires.aplic.pin(0, hart as u32),
+                self.wires.aplic.pin(1, hart as u32),
                 machine,
                 supervisor,
             ),
