@@ -58,8 +58,8 @@ stayer = vcpu 0 0
 abbrev pub leaver : Vcpu
 leaver = vcpu 0 1
 
--- Stores that make a source passable: the child domain has it, as an edge, and delivers by MSIs; and
--- the registers of MSI addresses make these reach the files of the map.
+-- Stores that make a source passable: the child domain has it, as an edge, and delivers by MSIs;
+-- and the registers of MSI addresses make these reach the files of the map.
 abbrev pub passable_lines : List Line
 passable_lines = lines.Store 0x0c000004 0x400 ∷ lines.Store 0x0c008004 4
     ∷ lines.Store 0x0c008000 0x104 ∷ lines.Store 0x0c001bc4 0x2000
