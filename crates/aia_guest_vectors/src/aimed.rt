@@ -18,7 +18,7 @@ ghost use Rattle.aia_vectors.specs.Rows.{script_of, answers_of};
 
 /// Two sources are passed to a virtual hart, which begins to leave its guest file: the G-stage
 /// record is fenced, and the first source is aimed at memory, but not the second one.
-pub const STOPPED_BETWEEN_TWO_AIMS: [(&str, &str); 21] = [
+pub const STOPPED_BETWEEN_AIMS: [(&str, &str); 21] = [
     ("machine 1 1 63 2", "ok"),
     ("st 0x0c000004 0x400", "ok"),
     ("st 0x0c000008 0x400", "ok"),
@@ -43,20 +43,20 @@ pub const STOPPED_BETWEEN_TWO_AIMS: [(&str, &str); 21] = [
 ];
 
 /// What holds of the passes after every history holds of one that a script reaches, with passes, in
-/// the middle of a move: [`STOPPED_BETWEEN_TWO_AIMS`] is answered as it says, and the first source
+/// the middle of a move: [`STOPPED_BETWEEN_AIMS`] is answered as it says, and the first source
 /// is aimed at the file of its notice hart by then, the second one still at guest file 1.
 pub fn a_script_stops_between_two_aims()
-    ensures answers { answers (script_of STOPPED_BETWEEN_TWO_AIMS)
-        ≡ answers_of STOPPED_BETWEEN_TWO_AIMS }
-    ensures happens { IsHistory (history_of (script_of STOPPED_BETWEEN_TWO_AIMS)) }
-    ensures stand { AllPassesStand (history_of (script_of STOPPED_BETWEEN_TWO_AIMS)) }
-    ensures leaves { home (history_of (script_of STOPPED_BETWEEN_TWO_AIMS)) (vcpu 0 0)
+    ensures answers { answers (script_of STOPPED_BETWEEN_AIMS)
+        ≡ answers_of STOPPED_BETWEEN_AIMS }
+    ensures happens { IsHistory (history_of (script_of STOPPED_BETWEEN_AIMS)) }
+    ensures stand { AllPassesStand (history_of (script_of STOPPED_BETWEEN_AIMS)) }
+    ensures leaves { home (history_of (script_of STOPPED_BETWEEN_AIMS)) (vcpu 0 0)
         ≡ Leaving (place 0 1) (record { steps = leave_step 1 (TakePending 0); aims = 1 }) }
-    ensures first_leads { pass_reach (history_of (script_of STOPPED_BETWEEN_TWO_AIMS)) 0 ≡ None }
-    ensures first_target { target (acts_of (history_of (script_of STOPPED_BETWEEN_TWO_AIMS))) Child 1
+    ensures first_leads { pass_reach (history_of (script_of STOPPED_BETWEEN_AIMS)) 0 ≡ None }
+    ensures first_target { target (acts_of (history_of (script_of STOPPED_BETWEEN_AIMS))) Child 1
         ≡ target_of 0 0 (host_identity 0) }
-    ensures second_leads { pass_reach (history_of (script_of STOPPED_BETWEEN_TWO_AIMS)) 1
+    ensures second_leads { pass_reach (history_of (script_of STOPPED_BETWEEN_AIMS)) 1
         ≡ Some (place 0 1) }
-    ensures second_target { target (acts_of (history_of (script_of STOPPED_BETWEEN_TWO_AIMS))) Child 2
+    ensures second_target { target (acts_of (history_of (script_of STOPPED_BETWEEN_AIMS))) Child 2
         ≡ target_of 0 1 6 }
 {}

@@ -21,14 +21,14 @@ use Rattle.aia_model.specs.AnswerText.{hex_digits, answer_text}
 use Rattle.aia_vectors.specs.Rows.{script_of}
 use Rattle.aia_model.proofs.HistoryLemmas.{script_happens}
 use Rattle.aia_model.proofs.PassesStandLemmas.{passes_stand}
-use Rattle.aia_guest_vectors.specs.declared.aimed.TheConstants.{STOPPED_BETWEEN_TWO_AIMS}
+use Rattle.aia_guest_vectors.specs.declared.aimed.TheConstants.{STOPPED_BETWEEN_AIMS}
 use Rattle.aia_guest_vectors.proofs.aimed.a_script_stops_between_two_aims.Goals as goal
 
 pub returns-clause-happens : goal.returns-clause-happens
-returns-clause-happens c = script_happens (script_of STOPPED_BETWEEN_TWO_AIMS)
+returns-clause-happens c = script_happens (script_of STOPPED_BETWEEN_AIMS)
 
 pub returns-clause-stand : goal.returns-clause-stand
-returns-clause-stand c = passes_stand _ (script_happens (script_of STOPPED_BETWEEN_TWO_AIMS))
+returns-clause-stand c = passes_stand _ (script_happens (script_of STOPPED_BETWEEN_AIMS))
 
 pub returns-clause-answers : goal.returns-clause-answers
 unfolding word_of least_of packed ones number_at n32_at bit_at machine_at vm_at wire_at store_at load_at msi_at csr_at read_at write_at instruction_at send_at land_at refetch_at pass_at machine_csr_at host_at ipi_at guest_at arrive_at leave_at shift_at begin_arrive_at begin_leave_at begin_shift_at begin_at step_at inject_at hvictl_at hviprio_at pins_at entry_at line_at reading select_by file_by majors_of home in_force_of stage_in_force_of flight passes_of look_saw domain_register_of newest wire_of enabled target pending least_pair addresses_of genmsi_waits all_senders answer after hex_digits answer_text
