@@ -1,6 +1,6 @@
--- A history in which one virtual hart is resident in a guest file and another one is leaving its
--- own, and the core that stands for it.
-use Rattle.std.specs.Prelude.{ℕ, ◌-◌, ◌*◌, length, true, false, List, [], ◌∷◌, ◌++◌, replicate, Some, None, zero, suc}
+-- A history in which one virtual hart is resident in a guest file and another one, to which a wired
+-- source is passed, is leaving its own; and the core that stands for it.
+use Rattle.std.specs.Prelude.{ℕ, ◌+◌, ◌-◌, ◌*◌, length, true, false, List, [], ◌∷◌, ◌++◌, replicate, Some, None, zero, suc}
 use Rattle.aia_home.specs.Plans.Access.{PutPending}
 use Rattle.aia_home.specs.Plans.{leave_step}
 use Rattle.aia_regs.specs.declared.limits.TheConstants.{HARTS, VCPUS, ENTRIES, WORDS_OF_SLOTS, MEMORY_WORDS}
@@ -13,6 +13,7 @@ use Rattle.aia_entry.specs.declared.entry.Entry.TheVariants.{NotValid}
 use Rattle.aia_entry.specs.Tables.{TableState}
 use Rattle.aia_home.specs.declared.place.Place.{Place}
 use Rattle.aia_home.specs.Vms.{Vcpu, vcpu}
+use Rattle.aia_home.specs.Home.{Progress}
 use Rattle.aia_home.specs.Home.Home.{Leaving}
 use Rattle.aia_major.specs.Kept.{kept_at_first}
 use Rattle.aia_places.specs.View.{leads_to, entry_word, second_word}
@@ -27,18 +28,26 @@ use Rattle.aia_model.specs.Move.Move.{Arrives, Leaves}
 use Rattle.aia_model.specs.Move.{Move, mover}
 use Rattle.aia_model.specs.Event.{History, file_words}
 use Rattle.aia_model.specs.Event.Event.{Accepted, Began, Stepped}
+use Rattle.aia_model.specs.Passes.{Pass}
 use Rattle.aia_model.specs.HomeOf.{place}
 use Rattle.aia_model.specs.Answer.{steps_of}
 use Rattle.aia_hyp.specs.declared.vcpu.Stay.TheVariants as stays
 use Rattle.aia_hyp.specs.Core.{CoreState}
 
--- So many steps of a virtual hart's move, and a whole move, with nothing in flight.
+-- Lines are accepted, the first of a list first, that are no moves and send nothing.
+abbrev pub accepted : List Line → History → History
+accepted [] h = h
+accepted (line ∷ later) h = accepted later (Accepted line ∷ h)
+
+-- So many steps of a virtual hart's move, and a whole move of which so many steps aim, with nothing
+-- in flight.
 abbrev pub stepped_on : ℕ → Vcpu → History → History
 stepped_on zero g h = h
 stepped_on (suc count) g h = stepped_on count g (Stepped g ∷ h)
 
-abbrev pub moved_whole : History → Move → History
-moved_whole h move = stepped_on (steps_of (file_words h) move) (mover move) (Began move ∷ h)
+abbrev pub moved_whole : ℕ → History → Move → History
+moved_whole aims h move =
+    stepped_on (steps_of (file_words h) move + aims) (mover move) (Began move ∷ h)
 
 -- ---- what has happened
 
@@ -49,16 +58,31 @@ stayer = vcpu 0 0
 abbrev pub leaver : Vcpu
 leaver = vcpu 0 1
 
--- A machine of one hart with three guest files is made, and a VM of two virtual harts.
+-- Stores that make a source passable: the child domain has it, as an edge, and delivers by MSIs;
+-- and the registers of MSI addresses make these reach the files of the map.
+abbrev pub passable_lines : List Line
+passable_lines = lines.Store 0x0c000004 0x400 ∷ lines.Store 0x0c008004 4
+    ∷ lines.Store 0x0c008000 0x104 ∷ lines.Store 0x0c001bc4 0x2000
+    ∷ lines.Store 0x0c001bc8 0x28000 ∷ lines.Store 0x0c001bcc 0x500000 ∷ []
+
+-- A machine of one hart with three guest files and one source is made, which is made passable; then
+-- a VM of two virtual harts, and the source is passed to the one that leaves, as identity 5.
+abbrev pub made_lines : List Line
+made_lines = lines.Machine 1 3 63 1 ∷ passable_lines
+    ++ lines.Vm 2 8 0 ∷ lines.Pass 1 0 1 5 ∷ []
+
 abbrev pub made_history : History
-made_history = Accepted (lines.Vm 2 8 0) ∷ Accepted (lines.Machine 1 3 63 1) ∷ []
+made_history = accepted made_lines []
+
+abbrev pub the_pass : Pass
+the_pass = record { source = 1; to = leaver; identity = 5 }
 
 -- Both virtual harts arrive.
 abbrev pub stayer_arrived : History
-stayer_arrived = moved_whole made_history (Arrives stayer 0)
+stayer_arrived = moved_whole 0 made_history (Arrives stayer 0)
 
 abbrev pub both_arrived : History
-both_arrived = moved_whole stayer_arrived (Arrives leaver 0)
+both_arrived = moved_whole 1 stayer_arrived (Arrives leaver 0)
 
 -- A write of the one that leaves to a CSR of its file.
 abbrev pub guest_write : Csr → ℕ → Line
@@ -71,21 +95,25 @@ before_leaving = Accepted (lines.Ipi 0 0 1 1)
     ∷ Accepted (guest_write Reg 1) ∷ Accepted (guest_write Select 0x70) ∷ both_arrived
 
 -- It begins to leave, and is to put there the one word of the pending set next: eidelivery is
--- taken, all routes lead to its slot of memory, and that word is taken.
-abbrev pub so_far : ℕ
-so_far = leave_step 1 (PutPending 0)
+-- taken, all routes lead to its slot of memory, the source is aimed at its notice hart, and that
+-- word is taken.
+abbrev pub so_far : Progress
+so_far = record { steps = leave_step 1 (PutPending 0); aims = 1 }
+
+abbrev pub steps_so_far : ℕ
+steps_so_far = so_far.steps + so_far.aims
 
 abbrev pub leaving_history : History
-leaving_history = stepped_on so_far leaver (Began (Leaves leaver) ∷ before_leaving)
+leaving_history = stepped_on steps_so_far leaver (Began (Leaves leaver) ∷ before_leaving)
 
 -- The lines that lead to it: up to the move that is under way, and those of that move.
 abbrev pub earlier_lines : List Line
-earlier_lines = lines.Machine 1 3 63 1 ∷ lines.Vm 2 8 0 ∷ lines.Arrive 0 0 0 ∷ lines.Arrive 0 1 0
+earlier_lines = made_lines ++ lines.Arrive 0 0 0 ∷ lines.Arrive 0 1 0
     ∷ guest_write Select 0x70 ∷ guest_write Reg 1
     ∷ guest_write Select 0xc0 ∷ guest_write Reg 2 ∷ lines.Ipi 0 0 1 1 ∷ []
 
 abbrev pub leave_lines : List Line
-leave_lines = lines.BeginLeave 0 1 ∷ replicate so_far (lines.Step 0 1)
+leave_lines = lines.BeginLeave 0 1 ∷ replicate steps_so_far (lines.Step 0 1)
 
 -- ---- the core then
 
@@ -147,8 +175,14 @@ example_world = record (new_world example_files 63) {
 -- The leave so far: it carries eidelivery and the word with identity 1.
 abbrev pub leave_under_way : Moving
 leave_under_way = record {
-  who = record { vm = 0; vcpu = 1; slot = 1; notice = 0 };
-  home = Leaving leaver_file (record { steps = so_far });
+  who = record {
+    vm = 0;
+    vcpu = 1;
+    slot = 1;
+    notice = 0;
+    passes = record { items = record { source = 1; identity = 5; number = 0 } ∷ [] };
+  };
+  home = Leaving leaver_file so_far;
   hand = record { word = 2; delivery = 1; threshold = 0; seen = false };
 }
 
@@ -164,4 +198,5 @@ leaving_core = record {
         majors = kept_at_first;
       } ∷ [];
   selects = replicate (2 * HARTS) 0;
+  passes = the_pass ∷ [];
 }

@@ -1,4 +1,4 @@
-use Rattle.aia_hyp.proofs.ExampleLemmas.{leaving_stands, leaving_whole, stayer_home, leaver_home, leaving_lines}
+use Rattle.aia_hyp.proofs.ExampleLemmas.{leaving_stands, leaving_whole, stayer_home, leaver_home, passed_one, leaving_lines}
 use Rattle.aia_hyp.proofs.laws.a_core_stands_in_the_middle_of_a_leave.Goals as goal
 
 pub returns-clause-stands : goal.returns-clause-stands
@@ -12,6 +12,9 @@ returns-clause-stays c = stayer_home
 
 pub returns-clause-leaves : goal.returns-clause-leaves
 returns-clause-leaves c = leaver_home
+
+pub returns-clause-passed : goal.returns-clause-passed
+returns-clause-passed c = passed_one
 
 pub returns-clause-lines : goal.returns-clause-lines
 returns-clause-lines c = leaving_lines
