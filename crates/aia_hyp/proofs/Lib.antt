@@ -32,3 +32,6 @@ pub mod MoveLines
 pub mod ExampleLemmas
 pub mod OwnStores
 pub mod RefetchLemmas
+pub mod PassLemmas
+pub mod ForwardLemmas
+pub mod RelayLemmas

@@ -117,6 +117,7 @@ impl Hyp {
         requires { MayGo self.old (Delivered msi) }
         ensures { CoreHears self.old self.new msi }
     {
+        let _whole = self.fabric.words();
         let spot = self.fabric.locate(msi.address);
         match self.pass_of(msi.source) {
             None => self.hear(spot, msi),
@@ -172,7 +173,7 @@ impl Hyp {
         requires { MayGo self.old (Relayed number) }
         ensures { CoreGoes self.old self.new (Relayed number) }
     {
-        let _whole = self.fabric.words();
+        let (_whole, _few) = (self.fabric.words(), self.passes.count());
         let pass = self.passes.at(number);
         let notice = self.fabric.notice_hart(pass.vm, pass.vcpu);
         let slot = self.fabric.slot_of(pass.vm, pass.vcpu);

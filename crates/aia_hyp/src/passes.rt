@@ -70,9 +70,9 @@ impl Passes {
         ensures { result ≡ least_of
             (λ p. nat_eq (slice_index_or self.now p no_pass).source source) 0 (length self.now) }
     {
-        for number in 0..self.kept.len() {
-            if self.kept[number].source == source {
-                return Some(number as u32);
+        for number in 0..self.count() as u32 {
+            if self.at(number).source == source {
+                return Some(number);
             }
         }
         None
@@ -91,15 +91,24 @@ impl Passes {
         ensures { result.items ≡ own_passes 0 (vcpu vm number) self.now }
     {
         let mut own = ArrayVec::new();
-        for (k, pass) in self.kept.iter().enumerate() {
-            if pass.vm == vm && pass.vcpu == number {
-                own.push(Pass {
-                    source: pass.source,
-                    identity: pass.identity,
-                    number: k as u32,
-                });
-            }
+        for k in 0..self.kept.len() {
+            put_own(&mut own, vm, number, k as u32, self.kept[k]);
         }
         own
+    }
+}
+
+/// Puts pass k behind others where it is to a virtual hart.
+fn put_own(own: &mut ArrayVec<Pass, PASSES>, vm: u32, number: u32, k: u32, pass: Passed)
+    requires { length own.old.items < PASSES }
+    ensures { own.new.items
+        ≡ own.old.items ++ own_passes k (vcpu vm number) (pass_shown pass ∷ []) }
+{
+    if pass.vm == vm && pass.vcpu == number {
+        own.push(Pass {
+            source: pass.source,
+            identity: pass.identity,
+            number: k,
+        });
     }
 }

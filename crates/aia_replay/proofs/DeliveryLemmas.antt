@@ -30,10 +30,21 @@ use Rattle.aia_replay.specs.Stands.{MachineHolds, MachineStands, MachineTakes, M
 
 -- ---- histories
 
--- a delivery says nothing to the wired sources
+-- neither a delivery nor what is given on is anything to the APLIC
+acts_heard : (msi : Msi) (h : History) → acts_of (msi_taken msi h) ≡ acts_of h
+acts_heard msi h = by_pass (passed_by h msi.source)
+  where
+    by_pass : (o : Option ℕ) → acts_of (given_on o (Delivered msi ∷ h)) ≡ acts_of h
+    by_pass None = refl
+    by_pass (Some p) = by_reach (is_none (pass_reach (Delivered msi ∷ h) p))
+      where
+        by_reach : (b : Bool) → acts_of (cond b (Relayed p ∷ Delivered msi ∷ h) (Delivered msi ∷ h)) ≡ acts_of h
+        by_reach true = refl
+        by_reach false = refl
+
 acts_delivered : (ms : List Msi) (h : History) → acts_of (delivered ms h) ≡ acts_of h
 acts_delivered [] h = refl
-acts_delivered (m ∷ ms) h = acts_delivered ms (Delivered m ∷ h)
+acts_delivered (m ∷ ms) h = acts_delivered ms (msi_taken m h) ∙ acts_heard m h
 
 none_sent : (past : Past) → senders past ≡ [] → with_all_sent past ≡ past
 none_sent past none = ap (λ xs. sent_by xs past) none
@@ -47,49 +58,63 @@ all_sent m h past none holds = subst (λ p. MachineHolds m (delivered (waiting_m
 
 -- ---- a line, then its MSIs
 
--- landings and steps of moves say nothing to the wired sources, and nothing waits when a move begins
-acts_landed : (count vm : ℕ) (h : History) → acts_of (oldest_landed count vm h) ≡ acts_of h
-acts_landed zero vm h = refl
-acts_landed (suc count) vm h = acts_landed count vm (Landed vm 0 ∷ h)
+-- the MSIs that wait are those that the line sends
+waiting_are : (h : History) (line : Line) → waiting_msis (act_taken None h line) ≡ msis_sent_by h line
+waiting_are h (lines.Arrive vm number hart) = none_waiting _ ∙ sym (none_sent_by h (lines.Arrive vm number hart) refl)
+waiting_are h (lines.Leave vm number) = none_waiting _ ∙ sym (none_sent_by h (lines.Leave vm number) refl)
+waiting_are h (lines.Shift vm number hart) = none_waiting _ ∙ sym (none_sent_by h (lines.Shift vm number hart) refl)
+waiting_are h (lines.BeginArrive vm number hart) = none_waiting _ ∙ sym (none_sent_by h (lines.BeginArrive vm number hart) refl)
+waiting_are h (lines.BeginLeave vm number) = none_waiting _ ∙ sym (none_sent_by h (lines.BeginLeave vm number) refl)
+waiting_are h (lines.BeginShift vm number hart) = none_waiting _ ∙ sym (none_sent_by h (lines.BeginShift vm number hart) refl)
+waiting_are h (lines.Step vm number) = none_waiting _ ∙ sym (none_sent_by h (lines.Step vm number) refl)
+waiting_are h (lines.Land vm k) = none_waiting _ ∙ sym (none_sent_by h (lines.Land vm k) refl)
+waiting_are h line = refl
 
-acts_first : (g : Vcpu) (h : History) → acts_of (landed_first g h) ≡ acts_of h
-acts_first g h = elim (cases_Bool (is_at_fence (home h g))) [
-  | inl fence ↦ rw fence (acts_landed (length (flight h g.vm)) g.vm h)
-  | inr other ↦ rw other refl
-]
+-- and when all are sent, the APLIC is as the history makes it
+acts_are : (h : History) (line : Line) → with_all_sent (act_taken None h line) ≡ acts_of (line_taken h line)
+acts_are h (lines.Arrive vm number hart) = none_sent _ (none_waits _)
+acts_are h (lines.Leave vm number) = none_sent _ (none_waits _)
+acts_are h (lines.Shift vm number hart) = none_sent _ (none_waits _)
+acts_are h (lines.BeginArrive vm number hart) = none_sent _ (none_waits _)
+acts_are h (lines.BeginLeave vm number) = none_sent _ (none_waits _)
+acts_are h (lines.BeginShift vm number hart) = none_sent _ (none_waits _)
+acts_are h (lines.Step vm number) = none_sent _ (none_waits _)
+acts_are h (lines.Land vm k) = none_sent _ (none_waits _)
+acts_are h line = refl
 
-acts_stepped : (count : ℕ) (g : Vcpu) (h : History) → acts_of (steps_taken count g h) ≡ acts_of h
-acts_stepped zero g h = refl
-acts_stepped (suc count) g h = acts_stepped count g (step_taken g h) ∙ acts_first g h
-
-acts_moved : (ms : List Msi) (h : History) (move : Move) → acts_of (delivered ms (whole_move h move)) ≡ with_all_sent (acts_of h)
-acts_moved ms h move = acts_delivered ms (whole_move h move) ∙ acts_stepped (steps_of (file_words h) move) (mover move) (Began move ∷ h) ∙ sym (none_sent (acts_of h) (none_between h))
-
-acts_begun : (ms : List Msi) (h : History) (move : Move) → acts_of (delivered ms (Began move ∷ h)) ≡ with_all_sent (acts_of h)
-acts_begun ms h move = acts_delivered ms (Began move ∷ h) ∙ sym (none_sent (acts_of h) (none_between h))
-
-acts_taken : (ms : List Msi) (h : History) (line : Line) → acts_of (delivered ms (line_taken h line)) ≡ with_all_sent (with_act (act_of line) (acts_of h))
-acts_taken ms h (lines.Arrive vm number hart) = acts_moved ms h (Arrives (vcpu vm number) hart)
-acts_taken ms h (lines.Leave vm number) = acts_moved ms h (Leaves (vcpu vm number))
-acts_taken ms h (lines.Shift vm number hart) = acts_moved ms h (Shifts (vcpu vm number) hart)
-acts_taken ms h (lines.BeginArrive vm number hart) = acts_begun ms h (Arrives (vcpu vm number) hart)
-acts_taken ms h (lines.BeginLeave vm number) = acts_begun ms h (Leaves (vcpu vm number))
-acts_taken ms h (lines.BeginShift vm number hart) = acts_begun ms h (Shifts (vcpu vm number) hart)
-acts_taken ms h (lines.Step vm number) = acts_delivered ms (step_taken (vcpu vm number) h) ∙ acts_first (vcpu vm number) h ∙ sym (none_sent (acts_of h) (none_between h))
-acts_taken ms h (lines.Land vm k) = acts_delivered ms (Landed vm k ∷ h) ∙ sym (none_sent (acts_of h) (none_between h))
-acts_taken ms h line = acts_delivered ms (Accepted line ∷ h)
-
-pub after_delivery : (n : Machine) (h : History) (line : Line) (r : Option Answer) → MachineHolds n (delivered (waiting_msis (act_taken r h line)) (line_served r h line)) (with_all_sent (act_taken r h line)) → MachineStands n (history_after r h line)
+pub after_delivery : (n : Machine) (h : History) (line : Line) (r : Option Answer) → MachineHolds n (delivered (waiting_msis (act_taken r h line)) (line_served r h line)) (with_all_sent (act_taken r h line)) → MachineHolds n (history_after r h line) (acts_of (history_after r h line))
 after_delivery n h line None holds =
-    subst (λ p. MachineHolds n (delivered (waiting_msis (with_act (act_of line) (acts_of h))) (line_taken h line)) p) (sym (acts_taken (waiting_msis (with_act (act_of line) (acts_of h))) h line)) holds
+    subst (MachineHolds n (delivered (msis_sent_by h line) (line_taken h line))) (acts_are h line ∙ sym (acts_delivered (msis_sent_by h line) (line_taken h line)))
+    (subst (λ ms. MachineHolds n (delivered ms (line_taken h line)) (with_all_sent (act_taken None h line))) (waiting_are h line) holds)
 after_delivery n h line (Some word) holds =
-    subst (λ p. MachineHolds n h p) (none_sent (acts_of h) (none_between h))
-    (subst (λ ms. MachineHolds n (delivered ms h) (with_all_sent (acts_of h))) (no_msis (acts_of h) (none_between h)) holds)
+    subst (λ p. MachineHolds n h p) (none_sent (acts_of h) (none_waits h))
+    (subst (λ ms. MachineHolds n (delivered ms h) (with_all_sent (acts_of h))) (no_msis (acts_of h) (none_waits h)) holds)
+
+-- what a line sends may be delivered
+pub can_deliver : (n : Machine) (h : History) (line : Line) (r : Option Answer) → refusal h line ≡ r → IsHistory h → MachineHolds n (line_served r h line) (act_taken r h line) → CanDeliver n (line_served r h line) (act_taken r h line)
+can_deliver n h line None e good holds = record {
+  holds = holds;
+  happens = line_happens h line e good;
+  forwards = subst (AreForwards (line_taken h line)) (sym (waiting_are h line)) (line_forwards h line e good);
+}
+can_deliver n h line (Some word) e good holds = record {
+  holds = holds;
+  happens = good;
+  forwards = subst (AreForwards h) (sym (no_msis (acts_of h) (none_waits h))) tt;
+}
+
+pub can_deliver_some : (m n : Machine) (line : Line) (given : Answer) → StandsForSome m → MachineTakes m n line given → CanDeliverSome n
+can_deliver_some m n line given some takes =
+    let h = some.past in
+    record { events = line_served (refusal h line) h line; acts = act_taken (refusal h line) h line; can = can_deliver n h line (refusal h line) refl some.stands.happens (takes.takes h some.stands) }
 
 pub served : (m taken n : Machine) (line : Line) (given : Answer) → MachineTakes m taken line given → Delivers taken n → MachineServes m n line given
 served m taken n line given takes delivers = record {
   answers = takes.answers;
-  stands = λ h stands. subst (λ (x : History). MachineStands n x) (sym (after_by h line (refusal h line) refl)) (after_delivery n h line (refusal h line) (delivers _ _ (takes.takes h stands)));
+  stands = λ h stands. record {
+    holds = subst (λ (x : History). MachineHolds n x (acts_of x)) (sym (after_by h line (refusal h line) refl)) (after_delivery n h line (refusal h line) (delivers _ _ (can_deliver taken h line (refusal h line) refl stands.happens (takes.takes h stands))));
+    happens = after_happens h line stands.happens;
+  };
 }
 
 -- ---- the loop
@@ -99,33 +124,63 @@ served m taken n line given takes delivers = record {
 pub record Way (now : Machine) (h : History) (past : Past) : Type 0 where
   pub events : History
   pub acts : Past
-  pub holds : MachineHolds now events acts
+  pub can : CanDeliver now events acts
   pub same : delivered (waiting_msis acts) events ≡ delivered (waiting_msis past) h
   pub settles : with_all_sent acts ≡ with_all_sent past
 
 abbrev pub SoFar : Machine → Machine → Type 0
-SoFar old now = (h : History) (past : Past) → MachineHolds old h past → Way now h past
+SoFar old now = (h : History) (past : Past) → CanDeliver old h past → Way now h past
 
 pub begin : (m : Machine) → SoFar m m
-begin m = λ h past holds. record { events = h; acts = past; holds = holds; same = refl; settles = refl }
+begin m = λ h past can. record { events = h; acts = past; can = can; same = refl; settles = refl }
+
+may_be : (m : Machine) (msi : Msi) (h : History) (past : Past) → CanDeliver m h past → (sender : Sender) (later : List Sender) → senders past ≡ sender ∷ later → msi ≡ msi_of past sender → MayHappen h (Delivered msi)
+may_be m msi h past can sender later first is =
+    let forwards : AreForwards h (msi_of past sender ∷ waiting_msis (Sent sender ∷ past)) = subst (AreForwards h) (msis_next past sender later first) can.forwards in
+    (can.holds.core.there, subst (λ (x : Msi). IsForwardIf h x (passed_by h x.source)) (sym is) forwards.0)
+
+-- the others are forwards still
+forwards_on : (msi : Msi) (h : History) (sent : List Msi) → AreForwards h sent → AreForwards (msi_taken msi h) sent
+forwards_on msi h sent all = by_pass (passed_by h msi.source)
+  where
+    by_pass : (o : Option ℕ) → AreForwards (given_on o (Delivered msi ∷ h)) sent
+    by_pass None = forwards_then msi h sent all
+    by_pass (Some p) = by_reach (is_none (pass_reach (Delivered msi ∷ h) p))
+      where
+        by_reach : (b : Bool) → AreForwards (cond b (Relayed p ∷ Delivered msi ∷ h) (Delivered msi ∷ h)) sent
+        by_reach true = forwards_given p (Delivered msi ∷ h) sent (forwards_then msi h sent all)
+        by_reach false = forwards_then msi h sent all
+
+-- the next one may be delivered
+pub may_hear : (old m n : Machine) (msi : Msi) → SoFar old m → CanDeliverSome old → ((past : Past) → AplicStands m.wires.aplic past → Next n.wires.aplic (Some msi) past) → MayGo m.core (Delivered msi)
+may_hear old m n msi so_far some nexts =
+    let way = so_far some.events some.acts some.can in
+    let next = nexts way.acts way.can.holds.aplic in
+    record { past = way.events; happens = way.can.happens; stands = way.can.holds.core; may = may_be m msi way.events way.acts way.can next.sender next.later next.first next.msi }
 
 pub one_more : (old m n : Machine) (msi : Msi) → SoFar old m → ((past : Past) → AplicStands m.wires.aplic past → Next n.wires.aplic (Some msi) past) → CoreHears m.core n.core msi → SoFar old n
-one_more old m n msi so_far nexts hears = λ h past holds.
-    let way = so_far h past holds in
-    let next = nexts way.acts way.holds.aplic in
+one_more old m n msi so_far nexts hears = λ h past can.
+    let way = so_far h past can in
+    let next = nexts way.acts way.can.holds.aplic in
     let acts : Past = Sent next.sender ∷ way.acts in
+    let may = may_be m msi way.events way.acts way.can next.sender next.later next.first next.msi in
+    let list : waiting_msis way.acts ≡ msi_of way.acts next.sender ∷ waiting_msis acts = msis_next way.acts next.sender next.later next.first in
     record {
-      events = Delivered msi ∷ way.events;
+      events = msi_taken msi way.events;
       acts = acts;
-      holds = record { core = hears way.events way.holds.core; aplic = next.stands };
-      same = ap (λ (x : Msi). delivered (waiting_msis acts) (Delivered x ∷ way.events)) next.msi ∙ sym (ap (λ ms. delivered ms way.events) (msis_next way.acts next.sender next.later next.first)) ∙ way.same;
+      can = record {
+        holds = record { core = hears way.events way.can.holds.core may; aplic = next.stands };
+        happens = msi_happens way.events msi may way.can.happens;
+        forwards = forwards_on msi way.events (waiting_msis acts) (subst (AreForwards way.events) list way.can.forwards).1;
+      };
+      same = ap (λ (x : Msi). delivered (waiting_msis acts) (msi_taken x way.events)) next.msi ∙ sym (ap (λ ms. delivered ms way.events) list) ∙ way.same;
       settles = sym (settled_next way.acts next.sender next.later next.first) ∙ way.settles;
     }
 
 pub all_delivered : (old m n : Machine) → SoFar old m → ((past : Past) → AplicStands m.wires.aplic past → Next n.wires.aplic None past) → n.core ≡ m.core → Delivers old n
-all_delivered old m n so_far nexts same = λ h past holds.
-    let way = so_far h past holds in
-    let next = nexts way.acts way.holds.aplic in
-    let now : MachineHolds n way.events way.acts = record { core = subst (λ (x : CoreState). CoreStands x way.events) (sym same) way.holds.core; aplic = next.1 } in
+all_delivered old m n so_far nexts same = λ h past can.
+    let way = so_far h past can in
+    let next = nexts way.acts way.can.holds.aplic in
+    let now : MachineHolds n way.events way.acts = record { core = subst (λ (x : CoreState). CoreStands x way.events) (sym same) way.can.holds.core; aplic = next.1 } in
     subst (λ (x : History). MachineHolds n x (with_all_sent past)) way.same
     (subst (λ (p : Past). MachineHolds n (delivered (waiting_msis way.acts) way.events) p) way.settles (all_sent n way.events way.acts next.0 now))

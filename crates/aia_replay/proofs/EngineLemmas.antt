@@ -15,25 +15,24 @@ use Rattle.aia_model.proofs.AnswerLemmas.{answered, after_by, machine_refusal}
 use Rattle.aia_aplic.proofs.SendingLemmas.{none_begun}
 use Rattle.aia_model.specs.Act.Act.{Made}
 use Rattle.aia_replay.specs.declared.machine.Machine.{Machine}
-use Rattle.aia_replay.specs.declared.engine.Engine.{Engine}
-use Rattle.aia_replay.specs.Stands.{MachineHolds, MachineStands, StandsFor, Serves}
+use Rattle.aia_replay.specs.Stands.{EngineState, MachineHolds, MachineStands, StandsFor, Serves}
 use Rattle.aia_replay.proofs.DeliveryLemmas.{after_delivery, all_sent}
 
 -- ---- with no machine
 
-empty_history : (engine : Engine) (h : History) → engine.machine ≡ None → StandsFor engine h → h ≡ []
+empty_history : (engine : EngineState) (h : History) → engine ≡ None → StandsFor engine h → h ≡ []
 empty_history engine h none stands = subst (λ (o : Option Machine). MatchOption o (h ≡ []) (λ m. MachineStands m h)) none stands
 
-still_none : (engine : Engine) (h : History) → engine.machine ≡ None → h ≡ [] → StandsFor engine h
+still_none : (engine : EngineState) (h : History) → engine ≡ None → h ≡ [] → StandsFor engine h
 still_none engine h none empty = subst (λ (o : Option Machine). MatchOption o (h ≡ []) (λ m. MachineStands m h)) (sym none) empty
 
 -- no notice was sent
-pub none_sent : (engine : Engine) (h : History) → engine.machine ≡ None → StandsFor engine h → 0 ≡ min (notices_sent h) (2 ^ 64 - 1)
+pub none_sent : (engine : EngineState) (h : History) → engine ≡ None → StandsFor engine h → 0 ≡ min (notices_sent h) (2 ^ 64 - 1)
 unfolding notices_sent
 none_sent engine h none stands = sym (ap (λ x. min (notices_sent x) (2 ^ 64 - 1)) (empty_history engine h none stands))
 
 -- a line that is refused where no machine stands
-pub refused_first : (old new : Engine) (line : Line) (word : Answer) → old.machine ≡ None → new.machine ≡ None → refusal [] line ≡ Some word → Serves old new line word
+pub refused_first : (old new : EngineState) (line : Line) (word : Answer) → old ≡ None → new ≡ None → refusal [] line ≡ Some word → Serves old new line word
 refused_first old new line word was now is = record {
   answers = λ h stands. sym (ap (λ x. answer x line) (empty_history old h was stands) ∙ answered [] line (Some word) is);
   stands = λ h stands. still_none new (after h line) now (ap (λ x. after x line) (empty_history old h was stands) ∙ after_by [] line (Some word) is);
@@ -49,7 +48,7 @@ size_refused harts guests n sources out = machine_refusal [] harts guests n sour
 
 -- ---- the machine is made
 
-pub machine_made : (old new : Engine) (m : Machine) (harts guests n sources : ℕ) → old.machine ≡ None → new.machine ≡ Some m → is_machine_size harts guests n sources ≡ true
+pub machine_made : (old new : EngineState) (m : Machine) (harts guests n sources : ℕ) → old ≡ None → new ≡ Some m → is_machine_size harts guests n sources ≡ true
     → MachineHolds m (Accepted (MachineLine harts guests n sources) ∷ []) (Made harts sources ∷ []) → Serves old new (MachineLine harts guests n sources) Okay
 machine_made old new m harts guests n sources was now size holds =
     let line = MachineLine harts guests n sources in

@@ -11,11 +11,10 @@ use Rattle.aia_model.specs.Event.{History}
 use Rattle.aia_model.specs.Text.{texts_of, words_of}
 use Rattle.aia_model.specs.Reading.{reading, parsed_of, line_at}
 use Rattle.aia_model.specs.Script.{answers, answers_from, printed, text_answer, after_text, after_texts}
-use Rattle.aia_replay.specs.declared.engine.Engine.{Engine}
 use Rattle.aia_replay.specs.declared.replayer.Replayer.{Replayer}
 use Rattle.aia_replay.specs.declared.buffered.Buffered.{Buffered}
 use Rattle.aia_replay.specs.Buffered.{Gathers, CutOff}
-use Rattle.aia_replay.specs.Stands.{StandsFor, ReadsAsMachine}
+use Rattle.aia_replay.specs.Stands.{EngineState, StandsFor, ReadsAsMachine}
 use Rattle.aia_replay.specs.Runs.{NoEnd, AsksMachine, CutsLines}
 use Rattle.aia_replay.specs.Streams.{WritesOut, WritesOutFront, Holds, HoldsStop, Begins, AnswersText, LacksMemory}
 use Rattle.aia_replay.proofs.CutLemmas.{texts_front, texts_last, take_again}
@@ -103,8 +102,8 @@ kept_answered old kept new mid now part line others answered =
     let out : kept.out ≡ old.out = ap (λ (r : Replayer). r.out) others in
     record {
       answers = λ h stands. subst (λ (p : Parsed). Gathers old.out.bytes.items new.out.bytes.items mid now (printed (text_answer h p))) same
-          (subst (λ (o : Buffered). Gathers o.bytes.items new.out.bytes.items mid now (printed (text_answer h (reading kept.line.items)))) out (answered.answers h (subst (λ (e : Engine). StandsFor e h) (sym engine) stands)));
-      stands = λ h stands. subst (λ (p : Parsed). StandsFor new.engine (after_text h p)) same (answered.stands h (subst (λ (e : Engine). StandsFor e h) (sym engine) stands));
+          (subst (λ (o : Buffered). Gathers o.bytes.items new.out.bytes.items mid now (printed (text_answer h (reading kept.line.items)))) out (answered.answers h (subst (λ (e : EngineState). StandsFor e h) (sym engine) stands)));
+      stands = λ h stands. subst (λ (p : Parsed). StandsFor new.engine (after_text h p)) same (answered.stands h (subst (λ (e : EngineState). StandsFor e h) (sym engine) stands));
       empty = answered.empty;
     }
 
@@ -112,7 +111,7 @@ pub kept_lacks : (old kept new : Replayer) (mid now : Option (List ℕ)) (part :
 kept_lacks old kept new mid now part line others lacks =
     let same : reading kept.line.items ≡ reading (old.line.items ++ part) = ap reading line ∙ reading_take (old.line.items ++ part) in
     record {
-      asks = subst (λ (e : Engine). ReadsAsMachine e (reading (old.line.items ++ part))) (ap (λ (r : Replayer). r.engine) others) (subst (ReadsAsMachine kept.engine) same lacks.asks);
+      asks = subst (λ (e : EngineState). ReadsAsMachine e (reading (old.line.items ++ part))) (ap (λ (r : Replayer). r.engine) others) (subst (ReadsAsMachine kept.engine) same lacks.asks);
       same = lacks.same ∙ ap (λ (r : Replayer). r.out) others;
       kept = lacks.kept;
     }
@@ -258,7 +257,7 @@ writes_front r mid now cut = λ before bytes holds. subst (CutsLines before now)
 pub holds_cut_all : (r : Replayer) (before mid now : Option (List ℕ)) (bytes : List ℕ) → Holds r before mid bytes → CutOff mid now r.out.bytes.items → CutOff before now (answers bytes)
 holds_cut_all r before mid now bytes holds cut = subst (λ xs. CutOff before now (answers xs)) (append-nil bytes) (cut_after r.out.bytes.items _ _ before mid now holds.written holds.gathered cut (holds.completes []))
 
-asks_for : (old : Engine) (h : History) (text : Parsed) → StandsFor old h → ReadsAsMachine old text → AsksMachine h text
+asks_for : (old : EngineState) (h : History) (text : Parsed) → StandsFor old h → ReadsAsMachine old text → AsksMachine h text
 asks_for old h (Line line) stands reads = reads h stands
 asks_for old h Skip stands reads = absurd reads
 asks_for old h Bad stands reads = absurd reads

@@ -13,13 +13,12 @@ use Rattle.aia_generate.specs.Summary.{summary_text, summary}
 use Rattle.aia_generate.proofs.DrawLemmas.{generated-length}
 use Rattle.aia_generate.proofs.NoticeLemmas.{few_notices}
 use Rattle.aia_generate.proofs.TallyLemmas.{after_lines-append, generated_told}
-use Rattle.aia_replay.specs.declared.engine.Engine.{Engine}
 use Rattle.aia_replay.specs.declared.program.Status.TheVariants.{Done, WriteFault}
 use Rattle.aia_replay.specs.Buffered.{CutOff}
 use Rattle.aia_replay.specs.Runs.{EndsWithSummary}
-use Rattle.aia_replay.specs.Stands.{StandsFor, Serves}
+use Rattle.aia_replay.specs.Stands.{EngineState, StandsFor, Serves}
 
-pub stands_one_more : (old new : Engine) (lines : List Line) (line : Line) (given : Answer) → StandsFor old (after_lines [] lines) → Serves old new line given → StandsFor new (after_lines [] (lines ++ line ∷ []))
+pub stands_one_more : (old new : EngineState) (lines : List Line) (line : Line) (given : Answer) → StandsFor old (after_lines [] lines) → Serves old new line given → StandsFor new (after_lines [] (lines ++ line ∷ []))
 stands_one_more old new lines line given stands serves = subst (StandsFor new) (sym (after_lines-append [] lines line)) (serves.stands (after_lines [] lines) stands)
 
 -- ---- the summary

@@ -1,0 +1,204 @@
+-- What a line aims, in a machine that stands: the APLIC then has it.
+use Rattle.std.proofs.Common.{◌≡◌, ℕ, zero, suc, ◌<◌, Bool, true, false, ◌&&◌, cond, List, [], ◌∷◌, length, slice_index_or, Option, Some, None, inl, inr, refl, sym, ap, subst, ◌∙◌, arith}
+use Rattle.std.specs.List.{AllByRecursion}
+use Rattle.std.specs.Int.{is_in_range}
+use Rattle.std.proofs.lemmas.Bool.{cases_Bool, and_parts, and_from, ltb-true, false≢true, true≢false}
+use Rattle.aia_home.specs.Vms.{Vcpu, vcpu}
+use Rattle.aia_home.specs.Home.{Home}
+use Rattle.aia_home.specs.Routes.{is_at_fence}
+use Rattle.aia_home.specs.Aims.{is_aiming, aims_done}
+use Rattle.aia_home.proofs.PassLemmas.{aim_is_no_fence}
+use Rattle.aia_model.specs.declared.answer.Answer.{Answer}
+use Rattle.aia_model.specs.declared.line.Line.{Line}
+use Rattle.aia_model.specs.declared.line.Line.TheVariants as lines
+use Rattle.aia_model.specs.Move.{Move, mover}
+use Rattle.aia_model.specs.Event.{Event, History, sources_of, file_words}
+use Rattle.aia_model.specs.Event.Event.{Accepted, Began, Stepped, Delivered, Landed, Relayed}
+use Rattle.aia_model.specs.Act.{Act, Past, act_of}
+use Rattle.aia_model.specs.Act.Act.{Aimed}
+use Rattle.aia_model.specs.SourceOf.{is_source}
+use Rattle.aia_model.specs.Passable.{is_passable}
+use Rattle.aia_model.specs.Passes.{Pass, no_pass, passes_of, nth_pass, passes_for, own_pass}
+use Rattle.aia_model.specs.Aim.{aimed_by, aim_of}
+use Rattle.aia_model.specs.HomeOf.{home}
+use Rattle.aia_model.specs.Flight.{flight}
+use Rattle.aia_model.specs.Histories.{IsHistory}
+use Rattle.aia_model.specs.Refusal.{refusal}
+use Rattle.aia_model.specs.Sent.{with_act, acts_of}
+use Rattle.aia_model.specs.Answer.{oldest_landed, landed_first, step_taken, steps_taken, line_taken, answer}
+use Rattle.aia_model.proofs.FlightLemmas.{all_append, home_landed_first}
+use Rattle.aia_model.proofs.RefusalLemmas.{machine_allowed, pass_allowed}
+use Rattle.aia_model.proofs.PlaceLemmas.{machine_first}
+use Rattle.aia_model.proofs.PassesStandLemmas.{passes_stand}
+use Rattle.aia_model.proofs.OwnPassLemmas.{own_is}
+use Rattle.aia_model.proofs.HistoryLemmas.{line_happens}
+use Rattle.aia_aplic.specs.Aplic.{AplicState, AplicStands}
+use Rattle.aia_aplic.specs.Passing.{is_passable_source, with_aim}
+use Rattle.aia_hyp.specs.declared.moves.Want.{Want}
+use Rattle.aia_hyp.specs.declared.moves.Want.TheVariants as wants
+use Rattle.aia_hyp.specs.Moves.{UnlessRefused, WholeAims, move_line, wanted_move}
+use Rattle.aia_hyp.specs.Passes.{AimsBy, StepsAim, TellsOf}
+use Rattle.aia_hyp.specs.Stands.{CoreStands, CoreTakes, CorePasses, line_served}
+use Rattle.aia_hyp.proofs.MoveWhole.{one_step_more}
+use Rattle.aia_replay.specs.declared.machine.Machine.{Machine}
+use Rattle.aia_replay.specs.declared.wires.Wires.{Wires}
+use Rattle.aia_replay.specs.Wires.{WiresAim, targets_of}
+use Rattle.aia_replay.specs.Stands.{MachineHolds, MachineStands, MachineTakes, act_taken}
+use Rattle.aia_replay.proofs.SizeLemmas.{same_sources}
+
+-- ---- passed sources are there
+
+at_place : {A : Type 0} (P : A → Type 0) (xs : List A) (p : ℕ) (d : A) → p < length xs → AllByRecursion P xs → P (slice_index_or xs p d)
+at_place {A} P [] p d low all = absurd (omega (arith, low))
+at_place {A} P (x ∷ xs) zero d low all = all.0
+at_place {A} P (x ∷ xs) (suc p) d low all = at_place P xs p d (omega (arith, low)) all.1
+
+abbrev IsThere : History → Pass → Type 0
+IsThere h pass = is_in_range 1 (sources_of h) pass.source ≡ true
+
+sources_there : (h : History) → IsHistory h → AllByRecursion (IsThere h) (passes_of h)
+unfolding passes_of
+sources_there [] good = tt
+sources_there (Accepted (lines.Pass source vm number identity) ∷ h) good =
+    all_append (IsThere h) (passes_of h) (record { source = source; to = vcpu vm number; identity = identity }) (sources_there h good.1) (pass_allowed h source vm number identity good.0).source_there
+sources_there (Accepted (lines.Machine harts guests n sources) ∷ h) good =
+    subst (λ (x : History). AllByRecursion (IsThere (Accepted (lines.Machine harts guests n sources) ∷ h)) (passes_of x)) (sym (machine_first h good.1 (machine_allowed h harts guests n sources good.0).0)) tt
+sources_there (Accepted line ∷ h) good = sources_there h good.1
+sources_there (Began move ∷ h) good = sources_there h good.1
+sources_there (Stepped x ∷ h) good = sources_there h good.1
+sources_there (Delivered msi ∷ h) good = sources_there h good.1
+sources_there (Landed vm k ∷ h) good = sources_there h good.1
+sources_there (Relayed p ∷ h) good = sources_there h good.1
+
+-- a source that is there, by the APLIC
+source_in : (h : History) (source : ℕ) → is_in_range 1 (sources_of h) source ≡ true → is_source (acts_of h) source ≡ true
+source_in h source there = ap (λ k. is_in_range 1 k source) (same_sources h) ∙ there
+
+passed_ready : (h : History) (p : ℕ) → IsHistory h → p < length (passes_of h) → is_passable_source (acts_of h) (nth_pass h p).source ≡ true
+passed_ready h p good low =
+    and_from _ _ (source_in h (nth_pass h p).source (at_place (IsThere h) (passes_of h) p no_pass low (sources_there h good))) ((passes_stand h good).pass p low).passable
+
+-- ---- one aim
+
+-- what an aim makes of the APLIC
+abbrev pub wires_aim : Wires → ℕ → ℕ → Wires → Type 0
+wires_aim old source target new = WiresAim old.aplic source target new.aplic
+
+one_aim : (old new : Wires) (past : Past) (source target : ℕ) → is_passable_source past source ≡ true → AplicStands old.aplic past → wires_aim old source target new → AplicStands new.aplic (Aimed source target ∷ past)
+one_aim old new past source target ready stands aims = subst (λ b. AplicStands new.aplic (cond b (Aimed source target ∷ past) past)) ready (aims.stands past stands)
+
+aim_stands : (old new : Wires) (h : History) (g : Vcpu) → IsHistory h → AplicStands old.aplic (acts_of h) → AimsBy wires_aim (aimed_by h (Stepped g)) old new → AplicStands new.aplic (with_act (aimed_by h (Stepped g)) (acts_of h))
+aim_stands old new h g good stands aims = by_aim (is_aiming (passes_for h g) (home h g)) refl aims
+  where
+    by_aim : (b : Bool) → is_aiming (passes_for h g) (home h g) ≡ b → AimsBy wires_aim (cond b (Some (aim_of h g (own_pass h g (aims_done (home h g))))) None) old new → AplicStands new.aplic (with_act (aimed_by h (Stepped g)) (acts_of h))
+    by_aim true e aims =
+        let low = ltb-true _ _ (and_parts _ _ e).1 in
+        let own = own_is h g (aims_done (home h g)) low in
+        rw e (one_aim old new (acts_of h) _ _ (passed_ready h (own_pass h g (aims_done (home h g))) good own.low) stands aims)
+    by_aim false e same = rw e (subst (λ (w : Wires). AplicStands w.aplic (acts_of h)) (sym same) stands)
+
+-- ---- the steps of a move
+
+acts_landed : (count vm : ℕ) (h : History) → acts_of (oldest_landed count vm h) ≡ acts_of h
+acts_landed zero vm h = refl
+acts_landed (suc count) vm h = acts_landed count vm (Landed vm 0 ∷ h)
+
+-- the fence aims none
+fence_aims_none : (passes : ℕ) (there : Home) → is_at_fence there ≡ true → is_aiming passes there ≡ false
+fence_aims_none passes there fence = elim (cases_Bool (is_aiming passes there)) [
+  | inl aims ↦ absurd (true≢false (sym fence ∙ aim_is_no_fence passes there aims))
+  | inr none ↦ none
+]
+
+no_aim : (h : History) (g : Vcpu) → is_at_fence (home h g) ≡ true → ◌≡◌ {A = Option Act} (aimed_by h (Stepped g)) None
+no_aim h g fence = ap (λ b. cond b (Some (aim_of h g (own_pass h g (aims_done (home h g))))) None) (fence_aims_none (passes_for h g) (home h g) fence)
+
+acts_step : (g : Vcpu) (h : History) → acts_of (step_taken g h) ≡ with_act (aimed_by h (Stepped g)) (acts_of h)
+acts_step g h = by_fence (is_at_fence (home h g)) refl
+  where
+    by_fence : (b : Bool) → is_at_fence (home h g) ≡ b → acts_of (step_taken g h) ≡ with_act (aimed_by h (Stepped g)) (acts_of h)
+    by_fence true e =
+        ap (λ o. with_act o (acts_of (landed_first g h))) (no_aim (landed_first g h) g (ap is_at_fence (home_landed_first g g h) ∙ e))
+        ∙ ap (λ b. acts_of (cond b (oldest_landed (length (flight h g.vm)) g.vm h) h)) e ∙ acts_landed (length (flight h g.vm)) g.vm h
+        ∙ sym (ap (λ o. with_act o (acts_of h)) (no_aim h g e))
+    by_fence false e = ap (λ b. acts_of (Stepped g ∷ cond b (oldest_landed (length (flight h g.vm)) g.vm h) h)) e
+
+before_landings : (count vm : ℕ) (h : History) → IsHistory (oldest_landed count vm h) → IsHistory h
+before_landings zero vm h good = good
+before_landings (suc count) vm h good = (before_landings count vm (Landed vm 0 ∷ h) good).1
+
+before_step : (g : Vcpu) (h : History) → IsHistory (step_taken g h) → IsHistory h
+before_step g h good = by_fence (is_at_fence (home h g)) good.1
+  where
+    by_fence : (b : Bool) → IsHistory (cond b (oldest_landed (length (flight h g.vm)) g.vm h) h) → IsHistory h
+    by_fence true good = before_landings (length (flight h g.vm)) g.vm h good
+    by_fence false good = good
+
+steps_aim : (count : ℕ) (g : Vcpu) (h : History) (old new : Wires) → IsHistory (steps_taken count g h) → AplicStands old.aplic (acts_of h) → StepsAim wires_aim count g h old new → AplicStands new.aplic (acts_of (steps_taken count g h))
+steps_aim zero g h old new good stands same = subst (λ (w : Wires). AplicStands w.aplic (acts_of h)) (sym same) stands
+steps_aim (suc count) g h old new good stands (between, before, last) =
+    let past = steps_taken count g h in
+    let more = one_step_more count g h in
+    let earlier = before_step g past (subst IsHistory more good) in
+    let then = aim_stands between new past g earlier (steps_aim count g h old between earlier stands before) last in
+    subst (λ (x : History). AplicStands new.aplic (acts_of x)) (sym more) (subst (AplicStands new.aplic) (sym (acts_step g past)) then)
+
+-- ---- lines
+
+-- by the refusal
+taken_by : (m n : Machine) (line : Line) (given : Answer) → CoreTakes m.core n.core line given → ((h : History) → MachineStands m h → refusal h line ≡ None → AplicStands n.wires.aplic (act_taken None h line))
+    → ((h : History) (word : Answer) → MachineStands m h → refusal h line ≡ Some word → n.wires ≡ m.wires) → MachineTakes m n line given
+taken_by m n line given takes accepted refused = record {
+  answers = λ h stands. takes.answers h stands.holds.core;
+  takes = λ h stands. record { core = takes.stands h stands.holds.core; aplic = by_refusal h stands (refusal h line) refl };
+}
+  where
+    by_refusal : (h : History) → MachineStands m h → (r : Option Answer) → refusal h line ≡ r → AplicStands n.wires.aplic (act_taken r h line)
+    by_refusal h stands None e = accepted h stands e
+    by_refusal h stands (Some word) e = subst (λ (w : Wires). AplicStands w.aplic (acts_of h)) (sym (refused h word stands e)) stands.holds.aplic
+
+unless_accepted : (r : Option Answer) (taken refused : Type 0) → r ≡ None → UnlessRefused r taken refused → taken
+unless_accepted r taken refused e so = subst (λ (o : Option Answer). UnlessRefused o taken refused) e so
+
+unless_refused : (r : Option Answer) (word : Answer) (taken refused : Type 0) → r ≡ Some word → UnlessRefused r taken refused → refused
+unless_refused r word taken refused e so = subst (λ (o : Option Answer). UnlessRefused o taken refused) e so
+
+pub step_taken_by : (m n : Machine) (vm number : ℕ) (given : Answer) → CoreTakes m.core n.core (lines.Step vm number) given
+    → ((h : History) → CoreStands m.core h → UnlessRefused (refusal h (lines.Step vm number)) (AimsBy wires_aim (aimed_by h (Stepped (vcpu vm number))) m.wires n.wires) (n.wires ≡ m.wires)) → MachineTakes m n (lines.Step vm number) given
+step_taken_by m n vm number given takes aims = taken_by m n (lines.Step vm number) given takes
+    (λ h stands e. subst (AplicStands n.wires.aplic) (sym (acts_step (vcpu vm number) h)) (aim_stands m.wires n.wires h (vcpu vm number) stands.happens stands.holds.aplic (unless_accepted _ _ _ e (aims h stands.holds.core))))
+    (λ h word stands e. unless_refused _ word _ _ e (aims h stands.holds.core))
+
+-- the steps of a whole move
+whole_acts : (new : Wires) (h : History) (vm number : ℕ) (want : Want) → AplicStands new.aplic (acts_of (line_taken h (move_line vm number want))) → AplicStands new.aplic (act_taken None h (move_line vm number want))
+whole_acts new h vm number wants.Leave s = s
+whole_acts new h vm number (wants.Arrive hart) s = s
+whole_acts new h vm number (wants.Shift hart) s = s
+
+whole_aims : (old new : Wires) (h : History) (vm number : ℕ) (want : Want) → IsHistory (line_taken h (move_line vm number want)) → AplicStands old.aplic (acts_of h) → WholeAims wires_aim h vm number want old new → AplicStands new.aplic (acts_of (line_taken h (move_line vm number want)))
+whole_aims old new h vm number wants.Leave good stands aims = steps_aim _ (vcpu vm number) (Began (wanted_move (vcpu vm number) wants.Leave) ∷ h) old new good stands aims
+whole_aims old new h vm number (wants.Arrive hart) good stands aims = steps_aim _ (vcpu vm number) (Began (wanted_move (vcpu vm number) (wants.Arrive hart)) ∷ h) old new good stands aims
+whole_aims old new h vm number (wants.Shift hart) good stands aims = steps_aim _ (vcpu vm number) (Began (wanted_move (vcpu vm number) (wants.Shift hart)) ∷ h) old new good stands aims
+
+pub whole_taken_by : (m n : Machine) (vm number : ℕ) (want : Want) (given : Answer) → CoreTakes m.core n.core (move_line vm number want) given
+    → ((h : History) → CoreStands m.core h → UnlessRefused (refusal h (move_line vm number want)) (WholeAims wires_aim h vm number want m.wires n.wires) (n.wires ≡ m.wires)) → MachineTakes m n (move_line vm number want) given
+whole_taken_by m n vm number want given takes aims = taken_by m n (move_line vm number want) given takes
+    (λ h stands e. whole_acts n.wires h vm number want (whole_aims m.wires n.wires h vm number want (line_happens h (move_line vm number want) e stands.happens) stands.holds.aplic (unless_accepted _ _ _ e (aims h stands.holds.core))))
+    (λ h word stands e. unless_refused _ word _ _ e (aims h stands.holds.core))
+
+-- a source that is there is passed, or refused
+pub pass_taken_by : (m n : Machine) (source vm number identity : ℕ) (given : Answer) → ((h : History) → MachineStands m h → TellsOf (targets_of m.wires.aplic) h source)
+    → CorePasses m.core n.core (targets_of m.wires.aplic) source (lines.Pass source vm number identity) given
+    → ((h : History) → CoreStands m.core h → TellsOf (targets_of m.wires.aplic) h source → UnlessRefused (refusal h (lines.Pass source vm number identity)) (AimsBy wires_aim (aimed_by h (Accepted (lines.Pass source vm number identity))) m.wires n.wires) (n.wires ≡ m.wires))
+    → MachineTakes m n (lines.Pass source vm number identity) given
+pass_taken_by m n source vm number identity given tells passes aims = record {
+  answers = λ h stands. passes.answers h stands.holds.core (tells h stands);
+  takes = λ h stands. record { core = passes.stands h stands.holds.core (tells h stands); aplic = by_refusal h stands (refusal h (lines.Pass source vm number identity)) refl };
+}
+  where
+    by_refusal : (h : History) → MachineStands m h → (r : Option Answer) → refusal h (lines.Pass source vm number identity) ≡ r → AplicStands n.wires.aplic (act_taken r h (lines.Pass source vm number identity))
+    by_refusal h stands None e =
+        let may = pass_allowed h source vm number identity e in
+        let ready = and_from _ _ (source_in h source may.source_there) may.passable in
+        one_aim m.wires n.wires (acts_of h) source _ ready stands.holds.aplic (unless_accepted _ _ _ e (aims h stands.holds.core (tells h stands)))
+    by_refusal h stands (Some word) e = subst (λ (w : Wires). AplicStands w.aplic (acts_of h)) (sym (unless_refused _ word _ _ e (aims h stands.holds.core (tells h stands)))) stands.holds.aplic
