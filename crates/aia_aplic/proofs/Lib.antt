@@ -5,6 +5,7 @@ pub mod LoadedSteps
 pub mod SentSteps
 pub mod AddressSteps
 pub mod AimSteps
+pub mod PassingLemmas
 pub mod Standing
 pub mod SentStanding
 pub mod Reading

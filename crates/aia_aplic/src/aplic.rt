@@ -7,12 +7,10 @@ ghost use Rattle.aia_model.specs.declared.domain_name.DomainName.TheVariants.{Ro
 ghost use Rattle.aia_model.specs.Act.Act.{Made, Driven, Written, Loaded, Sent, Aimed};
 ghost use Rattle.aia_model.specs.Sent.{msi_of};
 ghost use Rattle.aia_domain.specs.Domain.{is_ready};
-ghost use Rattle.aia_domain.specs.Entry.{is_active_at};
 ghost use Rattle.aia_home.specs.Aims.{target_of};
-ghost use Rattle.aia_model.specs.AddressOf.{are_for_guests};
 ghost use Rattle.aia_model.specs.SourceOf.{harts_in, sources_in, register_read, is_signalled};
 ghost use Rattle.aia_aplic.specs.Aplic.{AplicStands, IsNewAplic, side, domain_name};
-ghost use Rattle.aia_aplic.specs.Passing.{is_passable_source, with_aim};
+ghost use Rattle.aia_aplic.specs.Passing.{is_passable_source, with_aim, hart_count, is_passable_in, AimsIn};
 ghost use Rattle.aia_aplic.specs.Sending.{IsFirstSource, IsFirst, IsBySource, asks_by_genmsi, does_wait, waiting, Next};
 ghost use Rattle.aia_aplic.specs.Bits.{AreSources, source_sender};
 
@@ -75,6 +73,15 @@ impl Aplic {
         ensures few { result ≤ SOURCES }
     {
         self.root.sources()
+    }
+
+    /// Tells how many harts there are, up to `HARTS`.
+    pub fn harts(&self) -> u32
+        ensures count { (past : Past) → AplicStands self.now past → result ≡ harts_in past }
+        ensures value { result ≡ hart_count self.now }
+        ensures few { result ≤ HARTS }
+    {
+        self.child.harts()
     }
 
     /// Gives the wire of a source a level; a number that is no source's changes none.
@@ -157,14 +164,15 @@ impl Aplic {
     ///
     /// AIA 1.0, APLIC, "Interrupt forwarding by MSIs". Profile: passes.
     pub fn passable(&self, s: u32) -> bool
-        ensures { (past : Past) → AplicStands self.now past → result ≡ is_passable_source past s }
+        ensures by_past { (past : Past) → AplicStands self.now past
+            → result ≡ is_passable_source past s }
+        ensures value { result ≡ is_passable_in self.now s }
     {
         self.is_passable(s)
     }
 
     fn is_passable(&self, s: u32) -> bool
-        ensures { result ≡ (is_active_at self.now.child.domain.sources s
-            && self.now.child.domain.msi && are_for_guests self.now.addresses) }
+        ensures { result ≡ is_passable_in self.now s }
     {
         self.child.is_active(s) && self.child.delivers_by_msi() && are_for_guests(&self.addresses)
     }
@@ -183,6 +191,7 @@ impl Aplic {
             AplicStands self.new (with_aim past s (target_of hart guest identity)) }
         ensures stays { (past : Past) → AplicStands self.old past
             → is_passable_source past s ≡ false → self.new ≡ self.old }
+        ensures targets { AimsIn self.old s (target_of hart guest identity) self.new }
     {
         if self.passable(s) {
             self.put_target(s, target_of(hart, guest, identity));
@@ -190,8 +199,10 @@ impl Aplic {
     }
 
     fn put_target(&mut self, s: u32, target: u32)
-        ensures { (past : Past) → AplicStands self.old past →
+        ensures stands { (past : Past) → AplicStands self.old past →
             AplicStands self.new (Aimed s target ∷ past) }
+        ensures targets { is_passable_in self.old s ≡ true
+            → AimsIn self.old s target self.new }
     {
         self.child.aim(s, target);
     }

@@ -8,6 +8,8 @@ ghost use Rattle.aia_model.specs.declared.sender.Sender.TheVariants.{ByGenMsi, B
 ghost use Rattle.aia_model.specs.Sent.{forwards, senders, msi_of, waiting_msis, with_all_sent, acts_of};
 ghost use Rattle.aia_aplic.specs.Senders.{SendsBefore};
 ghost use Rattle.aia_source.specs.Top.{Pair};
+ghost use Rattle.aia_aplic.specs.Aplic.{AplicState, AplicStands};
+ghost use Rattle.aia_aplic.specs.Passing.{is_passable_source, hart_count, target_in, is_passable_in};
 ghost use Rattle.aia_aplic.specs.Tops.{IsOnTop};
 ghost use Rattle.aia_aplic.specs.Side.{entry_of};
 ghost use Rattle.aia_regs.specs.declared.domain_registers.DomainReg.{DomainReg};
@@ -21,7 +23,7 @@ ghost use Rattle.aia_msiaddr.specs.Registers.{are_locked};
 ghost use Rattle.aia_model.specs.AddressOf.{addresses_of};
 ghost use Rattle.aia_model.specs.declared.domain_name.DomainName.TheVariants.{Root, Child};
 ghost use Rattle.aia_model.specs.Act.Act.{Written, Sent, Aimed};
-ghost use Rattle.aia_model.specs.SourceOf.{is_delegated, sourcecfg_of, mode, is_active_in, input, delivers_by_msis, enabled, target, pending, sources_in, genmsi_waits, is_for, top};
+ghost use Rattle.aia_model.specs.SourceOf.{harts_in, is_source, is_delegated, sourcecfg_of, mode, is_active_in, input, delivers_by_msis, enabled, target, pending, sources_in, genmsi_waits, is_for, top};
 
 /// Whatever has happened, a source at a level mode, in a domain that delivers directly, is pending
 /// exactly while its rectified input is high.
@@ -152,6 +154,19 @@ pub fn an_aim_makes_nothing_wait()
     ensures senders { (past : Past) (s v : ℕ) → senders (Aimed s v ∷ past) ≡ senders past }
     ensures target { (past : Past) (s v : ℕ) → is_active_in past Child s ≡ true
         → target (Aimed s v ∷ past) Child s ≡ v }
+{}
+
+/// What an APLIC keeps says how many harts there are, of which sources MSIs to guests may be made,
+/// and where those of each source that is there go, as what has happened says it.
+///
+/// AIA 1.0, APLIC, "Interrupt forwarding by MSIs". Our profile: passes.
+pub fn what_is_kept_is_what_may_be_passed()
+    ensures harts { (a : AplicState) (past : Past) → AplicStands a past
+        → hart_count a ≡ harts_in past }
+    ensures passable { (a : AplicState) (past : Past) (s : ℕ) → AplicStands a past
+        → is_passable_in a s ≡ is_passable_source past s }
+    ensures target { (a : AplicState) (past : Past) (s : ℕ) → AplicStands a past
+        → is_source past s ≡ true → target_in a s ≡ target past Child s }
 {}
 
 /// A source whose MSI is sent is no longer pending, at each mode, whatever its input is; no other

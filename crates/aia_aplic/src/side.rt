@@ -1,7 +1,7 @@
 ghost use Rattle.aia_aplic.specs.Controls.{EachControl, control_after, control_at, claimed_at, hart_of_register};
 ghost use Rattle.aia_source.specs.Top.{topi_value};
 ghost use Rattle.aia_source.specs.Wired.SourceDeed.{Forwarded};
-ghost use Rattle.aia_domain.specs.Entry.{EachSource, changed_at, with_deed, entry_at, is_active_at};
+ghost use Rattle.aia_domain.specs.Entry.{EachSource, changed_at, with_deed, with_target, entry_at, is_active_at};
 ghost use Rattle.aia_domain.specs.Domain.{with_sources, source_after, domain_after, is_ready};
 ghost use Rattle.aia_direct.specs.Idc.{top_shown, claimed_top};
 ghost use Rattle.std.specs.Prelude.{Some, length, ◌≡◌, ◌*◌, ◌<◌, ◌≤◌, ◌↔◌, ◌∷◌, ℕ, Bool, true, false, IfOk, IsFalse};
@@ -67,6 +67,14 @@ impl Side {
         self.domain.sources()
     }
 
+    /// Tells how many harts there are, up to `HARTS`.
+    pub(crate) fn harts(&self) -> u32
+        ensures value { result ≡ self.now.domain.harts }
+        ensures few { result ≤ HARTS }
+    {
+        self.domain.harts()
+    }
+
     pub(crate) fn wire(&mut self, s: u32, level: bool)
         ensures { (past : Past) (name : DomainName) → SideStands self.old past name
             → SideStands self.new (Driven s level ∷ past) name }
@@ -123,8 +131,11 @@ impl Side {
 
     /// Gives a source a target; this is the child domain.
     pub(crate) fn aim(&mut self, s: u32, target: u32)
-        ensures { (past : Past) → SideStands self.old past Child
+        ensures stands { (past : Past) → SideStands self.old past Child
             → SideStands self.new (Aimed s target ∷ past) Child }
+        ensures sources { EachSource self.old.domain.sources self.new.domain.sources
+            (changed_at s (with_target target)) }
+        ensures domain { self.new.domain ≡ with_sources self.old.domain self.new.domain.sources }
     {
         self.domain.aim(s, target);
     }

@@ -71,6 +71,14 @@ impl Domain {
         self.sources.entries().len() as u32 - 1
     }
 
+    /// Tells how many harts there are, up to `HARTS`.
+    pub fn harts(&self) -> u32
+        ensures value { result ≡ self.now.harts }
+        ensures few { result ≤ HARTS }
+    {
+        self.sources.harts()
+    }
+
     /// Gives what a register reads: 0 where none is there.
     ///
     /// AIA 1.0, APLIC, "Memory-mapped control region for an interrupt domain".

@@ -91,9 +91,10 @@ impl Sources {
         self.msi
     }
 
-    /// Tells how many harts there are.
+    /// Tells how many harts there are, up to `HARTS`.
     pub(crate) fn harts(&self) -> u32
-        ensures { result ≡ self.now.harts }
+        ensures value { result ≡ self.now.harts }
+        ensures few { result ≤ HARTS }
     {
         self.harts
     }

@@ -50,6 +50,7 @@ notice_hart_allowed h vcpus mask hart e =
 -- a source that is passed is there and was not passed, MSIs to guests may be made of it, and its
 -- virtual hart is there, at rest
 pub record PassAllowed (h : History) (source vm number identity : ℕ) : Type 0 where
+  pub source_there : is_in_range 1 (sources_of h) source ≡ true
   pub there : has_vcpu h (vcpu vm number) ≡ true
   pub identity_there : is_in_range 1 (greatest_identity_of h) identity ≡ true
   pub few : length (passes_of h) < PASSES
@@ -66,8 +67,10 @@ pass_allowed h source vm number identity e =
     let fresh = passed (is_passed h source) _ _ idle.1 in
     let ready = passed (not (is_passable (acts_of h) source)) _ _ fresh.1 in
     let all = and_parts (is_in_range 1 (sources_of h) source && has_vcpu h (vcpu vm number)) _ (not-false _ there.0) in
+    let both = and_parts (is_in_range 1 (sources_of h) source) (has_vcpu h (vcpu vm number)) all.0 in
     record {
-      there = (and_parts (is_in_range 1 (sources_of h) source) (has_vcpu h (vcpu vm number)) all.0).1;
+      source_there = both.0;
+      there = both.1;
       identity_there = all.1;
       few = leb-false PASSES (length (passes_of h)) room.0;
       rests = idle.0;

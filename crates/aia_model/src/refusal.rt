@@ -3,7 +3,8 @@
 pub enum Refusal {
     /// `range`: a number names nothing, or is past its limit.
     Range,
-    /// `full`: there is no room for a VM of so many virtual harts, or for one more store in flight.
+    /// `full`: there is no room for a VM of so many virtual harts, for one more store in flight, or
+    /// for one more passed source.
     Full,
     /// `busy`: the virtual hart is being moved.
     Busy,
@@ -27,7 +28,8 @@ pub enum Refusal {
     Virtual,
     /// `fault`: the address is in no place that is there, or isn't aligned.
     Fault,
-    /// `guarded`: the address is a guest's, or in memory.
+    /// `guarded`: the address is a guest's, or in memory, or the store would redirect the MSIs of
+    /// passed sources.
     Guarded,
     /// `other`: the address is no MSI address of the VM.
     Other,

@@ -13,9 +13,9 @@ pub trait Targets {
     /// What becomes of the whole as a source is aimed at a target.
     ghost aimed: { Self → ℕ → ℕ → Self → Type 0 };
 
-    /// Tells whether the target of a source can be written: whether the source is active.
+    /// Tells whether MSIs to guests may be made of a source.
     ///
-    /// AIA 1.0, APLIC, "Interrupt targets".
+    /// AIA 1.0, APLIC, "Interrupt forwarding by MSIs".
     fn ready(&self, source: u32) -> bool
         ensures { result ≡ (map self.now).ready source };
 

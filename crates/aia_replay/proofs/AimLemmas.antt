@@ -1,8 +1,8 @@
 -- What a line aims, in a machine that stands: the APLIC then has it.
-use Rattle.std.proofs.Common.{◌≡◌, ℕ, zero, suc, ◌<◌, Bool, true, false, ◌&&◌, cond, List, [], ◌∷◌, length, slice_index_or, Option, Some, None, inl, inr, refl, sym, ap, subst, ◌∙◌, arith}
+use Rattle.std.proofs.Common.{◌≡◌, ℕ, zero, suc, ◌<◌, Bool, true, false, cond, List, [], ◌∷◌, length, slice_index_or, Option, Some, None, inl, inr, refl, sym, ap, subst, ◌∙◌, arith, ◌&&◌}
 use Rattle.std.specs.List.{AllByRecursion}
 use Rattle.std.specs.Int.{is_in_range}
-use Rattle.std.proofs.lemmas.Bool.{cases_Bool, and_parts, and_from, ltb-true, false≢true, true≢false}
+use Rattle.std.proofs.lemmas.Bool.{cases_Bool, and_parts, and_from, ltb-true, true≢false}
 use Rattle.aia_home.specs.Vms.{Vcpu, vcpu}
 use Rattle.aia_home.specs.Home.{Home}
 use Rattle.aia_home.specs.Routes.{is_at_fence}
@@ -11,13 +11,11 @@ use Rattle.aia_home.proofs.PassLemmas.{aim_is_no_fence}
 use Rattle.aia_model.specs.declared.answer.Answer.{Answer}
 use Rattle.aia_model.specs.declared.line.Line.{Line}
 use Rattle.aia_model.specs.declared.line.Line.TheVariants as lines
-use Rattle.aia_model.specs.Move.{Move, mover}
-use Rattle.aia_model.specs.Event.{Event, History, sources_of, file_words}
+use Rattle.aia_model.specs.Event.{History, sources_of}
 use Rattle.aia_model.specs.Event.Event.{Accepted, Began, Stepped, Delivered, Landed, Relayed}
-use Rattle.aia_model.specs.Act.{Act, Past, act_of}
+use Rattle.aia_model.specs.Act.{Act, Past}
 use Rattle.aia_model.specs.Act.Act.{Aimed}
 use Rattle.aia_model.specs.SourceOf.{is_source}
-use Rattle.aia_model.specs.Passable.{is_passable}
 use Rattle.aia_model.specs.Passes.{Pass, no_pass, passes_of, nth_pass, passes_for, own_pass}
 use Rattle.aia_model.specs.Aim.{aimed_by, aim_of}
 use Rattle.aia_model.specs.HomeOf.{home}
@@ -25,26 +23,28 @@ use Rattle.aia_model.specs.Flight.{flight}
 use Rattle.aia_model.specs.Histories.{IsHistory}
 use Rattle.aia_model.specs.Refusal.{refusal}
 use Rattle.aia_model.specs.Sent.{with_act, acts_of}
-use Rattle.aia_model.specs.Answer.{oldest_landed, landed_first, step_taken, steps_taken, line_taken, answer}
+use Rattle.aia_model.specs.Answer.{oldest_landed, landed_first, step_taken, steps_taken, line_taken}
 use Rattle.aia_model.proofs.FlightLemmas.{all_append, home_landed_first}
 use Rattle.aia_model.proofs.RefusalLemmas.{machine_allowed, pass_allowed}
 use Rattle.aia_model.proofs.PlaceLemmas.{machine_first}
 use Rattle.aia_model.proofs.PassesStandLemmas.{passes_stand}
 use Rattle.aia_model.proofs.OwnPassLemmas.{own_is}
 use Rattle.aia_model.proofs.HistoryLemmas.{line_happens}
-use Rattle.aia_aplic.specs.Aplic.{AplicState, AplicStands}
-use Rattle.aia_aplic.specs.Passing.{is_passable_source, with_aim}
+use Rattle.aia_aplic.specs.Aplic.{AplicStands}
+use Rattle.aia_aplic.specs.Passing.{is_passable_source}
+use Rattle.aia_aplic.proofs.PassingLemmas.{harts-stand, passable_in-stands}
 use Rattle.aia_hyp.specs.declared.moves.Want.{Want}
 use Rattle.aia_hyp.specs.declared.moves.Want.TheVariants as wants
 use Rattle.aia_hyp.specs.Moves.{UnlessRefused, WholeAims, move_line, wanted_move}
 use Rattle.aia_hyp.specs.Passes.{AimsBy, StepsAim, TellsOf}
-use Rattle.aia_hyp.specs.Stands.{CoreStands, CoreTakes, CorePasses, line_served}
+use Rattle.aia_hyp.specs.Stands.{CoreStands, CoreTakes, CorePasses, MayPass}
 use Rattle.aia_hyp.proofs.MoveWhole.{one_step_more}
 use Rattle.aia_replay.specs.declared.machine.Machine.{Machine}
 use Rattle.aia_replay.specs.declared.wires.Wires.{Wires}
 use Rattle.aia_replay.specs.Wires.{WiresAim, targets_of}
-use Rattle.aia_replay.specs.Stands.{MachineHolds, MachineStands, MachineTakes, act_taken}
-use Rattle.aia_replay.proofs.SizeLemmas.{same_sources}
+use Rattle.aia_replay.specs.Stands.{MachineStands, MachineTakes, act_taken, StandsForSome}
+use Rattle.aia_replay.proofs.SizeLemmas.{same_sources, same_harts}
+use Rattle.aia_model.specs.Passable.{is_passable}
 
 -- ---- passed sources are there
 
@@ -199,6 +199,28 @@ pass_taken_by m n source vm number identity given tells passes aims = record {
     by_refusal : (h : History) → MachineStands m h → (r : Option Answer) → refusal h (lines.Pass source vm number identity) ≡ r → AplicStands n.wires.aplic (act_taken r h (lines.Pass source vm number identity))
     by_refusal h stands None e =
         let may = pass_allowed h source vm number identity e in
-        let ready = and_from _ _ (source_in h source may.source_there) may.passable in
+        let ready = and_from _ _ (source_in h source may.source_there) may.ready in
         one_aim m.wires n.wires (acts_of h) source _ ready stands.holds.aplic (unless_accepted _ _ _ e (aims h stands.holds.core (tells h stands)))
     by_refusal h stands (Some word) e = subst (λ (w : Wires). AplicStands w.aplic (acts_of h)) (sym (unless_refused _ word _ _ e (aims h stands.holds.core (tells h stands)))) stands.holds.aplic
+
+-- ---- what the core asks of the sources of a machine that stands
+
+pub same_harts_there : (m : Machine) → StandsForSome m → m.core.world.imsic.harts ≡ (targets_of m.wires.aplic).harts
+same_harts_there m some =
+    some.stands.holds.core.harts ∙ sym (same_harts some.past) ∙ sym (harts-stand m.wires.aplic (acts_of some.past) some.stands.holds.aplic)
+
+pub tells_of : (m : Machine) (h : History) (source : ℕ) → ((past : Past) → AplicStands m.wires.aplic past → is_source past source ≡ true) → MachineStands m h → TellsOf (targets_of m.wires.aplic) h source
+tells_of m h source there stands =
+    let is : is_source (acts_of h) source ≡ true = there (acts_of h) stands.holds.aplic in
+    record {
+      there = ap (λ k. is_in_range 1 k source) (sym (same_sources h)) ∙ is;
+      ready = passable_in-stands m.wires.aplic (acts_of h) source stands.holds.aplic ∙ ap (λ b. b && is_passable (acts_of h) source) is;
+    }
+
+pub may_pass : (m : Machine) (source : ℕ) → ((past : Past) → AplicStands m.wires.aplic past → is_source past source ≡ true) → StandsForSome m → MayPass m.core (targets_of m.wires.aplic) source
+may_pass m source there some = record {
+  past = some.past;
+  happens = some.stands.happens;
+  stands = some.stands.holds.core;
+  tells = tells_of m some.past source there some.stands;
+}

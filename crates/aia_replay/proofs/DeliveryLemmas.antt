@@ -1,32 +1,33 @@
 -- After a line all MSIs that wait are delivered, and then the machine stands for the history after
 -- the line.
-use Rattle.std.proofs.Common.{◌≡◌, ℕ, zero, suc, List, [], ◌∷◌, Option, Some, None, inl, inr, length, map, refl, sym, ap, subst, ◌∙◌}
-use Rattle.std.proofs.lemmas.Bool.{cases_Bool}
+use Rattle.std.proofs.Common.{◌≡◌, ℕ, List, [], ◌∷◌, Option, Some, None, map, refl, sym, ap, subst, ◌∙◌, Bool, true, false, cond, is_none}
 use Rattle.aia_model.specs.declared.line.Line.{Line}
 use Rattle.aia_model.specs.declared.msi.Msi.{Msi}
 use Rattle.aia_model.specs.declared.answer.Answer.{Answer}
-use Rattle.aia_model.specs.Event.{History, file_words}
-use Rattle.aia_model.specs.Event.Event.{Accepted, Began, Stepped, Delivered, Landed}
-use Rattle.aia_model.specs.Act.{Past, act_of}
+use Rattle.aia_model.specs.Event.{History}
+use Rattle.aia_model.specs.Event.Event.{Delivered, Relayed}
+use Rattle.aia_model.specs.Act.{Past}
 use Rattle.aia_model.specs.Act.Act.{Sent}
-use Rattle.aia_model.specs.Sent.{senders, msi_of, waiting_msis, sent_by, with_all_sent, with_act, acts_of}
+use Rattle.aia_model.specs.Sent.{senders, msi_of, waiting_msis, sent_by, with_all_sent, acts_of, msis_sent_by}
 use Rattle.aia_model.specs.Refusal.{refusal}
 use Rattle.aia_model.specs.declared.line.Line.TheVariants as lines
-use Rattle.aia_home.specs.Vms.{Vcpu, vcpu}
-use Rattle.aia_model.specs.Move.{Move, mover}
-use Rattle.aia_model.specs.Move.Move.{Arrives, Leaves, Shifts}
-use Rattle.aia_home.specs.Routes.{is_at_fence}
-use Rattle.aia_model.specs.HomeOf.{home}
-use Rattle.aia_model.specs.Flight.{flight}
-use Rattle.aia_model.specs.Answer.{delivered, oldest_landed, landed_first, step_taken, steps_taken, steps_of, whole_move, line_taken, history_after}
+use Rattle.aia_model.specs.Answer.{delivered, line_taken, history_after, given_on, msi_taken}
 use Rattle.aia_model.proofs.AnswerLemmas.{after_by}
 use Rattle.aia_aplic.specs.Aplic.{AplicStands}
 use Rattle.aia_aplic.specs.Sending.{Next}
-use Rattle.aia_aplic.proofs.SendingLemmas.{msis_next, settled_next, none_between}
+use Rattle.aia_aplic.proofs.SendingLemmas.{msis_next, settled_next}
 use Rattle.aia_replay.specs.declared.machine.Machine.{Machine}
 use Rattle.aia_hyp.specs.Core.{CoreState}
-use Rattle.aia_hyp.specs.Stands.{CoreStands, CoreHears, line_served}
-use Rattle.aia_replay.specs.Stands.{MachineHolds, MachineStands, MachineTakes, MachineServes, Delivers, act_taken}
+use Rattle.aia_hyp.specs.Stands.{CoreStands, CoreHears, line_served, MayGo}
+use Rattle.aia_replay.specs.Stands.{MachineHolds, MachineStands, MachineTakes, MachineServes, Delivers, act_taken, StandsForSome, CanDeliver, CanDeliverSome}
+use Rattle.aia_model.specs.Passes.{passed_by}
+use Rattle.aia_model.specs.Aim.{pass_reach, IsForwardIf}
+use Rattle.aia_model.specs.PassesStand.{AreForwards}
+use Rattle.aia_model.specs.Histories.{IsHistory, MayHappen}
+use Rattle.aia_model.specs.declared.sender.Sender.{Sender}
+use Rattle.aia_model.proofs.SentLemmas.{line_forwards, forwards_then, forwards_given, none_waiting, none_sent_by}
+use Rattle.aia_model.proofs.HistoryLemmas.{line_happens, msi_happens, after_happens}
+use Rattle.aia_model.proofs.WaitingLemmas.{none_waits}
 
 -- ---- histories
 

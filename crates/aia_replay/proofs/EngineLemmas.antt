@@ -17,6 +17,8 @@ use Rattle.aia_model.specs.Act.Act.{Made}
 use Rattle.aia_replay.specs.declared.machine.Machine.{Machine}
 use Rattle.aia_replay.specs.Stands.{EngineState, MachineHolds, MachineStands, StandsFor, Serves}
 use Rattle.aia_replay.proofs.DeliveryLemmas.{after_delivery, all_sent}
+use Rattle.aia_model.specs.Histories.{IsHistory}
+use Rattle.aia_model.proofs.HistoryLemmas.{after_happens}
 
 -- ---- with no machine
 
@@ -53,7 +55,10 @@ pub machine_made : (old new : EngineState) (m : Machine) (harts guests n sources
 machine_made old new m harts guests n sources was now size holds =
     let line = MachineLine harts guests n sources in
     let accepted : refusal [] line ≡ None = machine_refusal [] harts guests n sources ∙ cond-false _ _ _ (ap not size) in
-    let stands : MachineStands m (history_after None [] line) = after_delivery m [] line None (all_sent m (Accepted line ∷ []) (Made harts sources ∷ []) (none_begun harts sources) holds) in
+    let stands : MachineStands m (history_after None [] line) = record {
+      holds = after_delivery m [] line None (all_sent m (Accepted line ∷ []) (Made harts sources ∷ []) (none_begun harts sources) holds);
+      happens = subst IsHistory (after_by [] line None accepted) (after_happens [] line tt);
+    } in
     record {
       answers = λ h given. sym (ap (λ x. answer x line) (empty_history old h was given) ∙ answered [] line None accepted);
       stands = λ h given. subst (StandsFor new) (sym (ap (λ x. after x line) (empty_history old h was given) ∙ after_by [] line None accepted))

@@ -9,3 +9,4 @@ pub mod SizeLemmas
 pub mod DeliveryLemmas
 pub mod EngineLemmas
 pub mod TallyLemmas
+pub mod AimLemmas

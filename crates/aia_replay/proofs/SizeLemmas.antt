@@ -1,16 +1,20 @@
 -- The harts and the wired sources of the APLIC are those of the machine.
-use Rattle.std.proofs.Common.{◌≡◌, ℕ, [], ◌∷◌, Option, Some, None, refl, sym, ap, ◌∙◌}
+use Rattle.std.proofs.Common.{◌≡◌, ℕ, [], ◌∷◌, Option, Some, None, refl, sym, ap, ◌∙◌, Bool, true, false, cond}
 use Rattle.std.specs.Option.{option_map}
 use Rattle.aia_model.specs.declared.line.Line.{Line}
-use Rattle.aia_model.specs.declared.line.Line.TheVariants.{Machine, Load, Store}
+use Rattle.aia_model.specs.declared.line.Line.TheVariants.{Machine, Load, Store, Pass}
 use Rattle.aia_model.specs.declared.domain_name.DomainName.{DomainName}
-use Rattle.aia_model.specs.Event.{History, harts_of, sources_of}
-use Rattle.aia_model.specs.Event.Event.{Accepted}
+use Rattle.aia_model.specs.Event.{History, harts_of, sources_of, Event}
+use Rattle.aia_model.specs.Event.Event.{Accepted, Stepped}
 use Rattle.aia_model.specs.Act.{Past, newest, domain_at, register_at, act_of}
 use Rattle.aia_model.specs.Act.Act.{Written, Loaded}
 use Rattle.aia_model.specs.Sent.{with_act, acts_of}
 use Rattle.aia_model.specs.SourceOf.{harts_in, sources_in}
 use Rattle.aia_aplic.proofs.SendingLemmas.{sizes_settled}
+use Rattle.aia_model.specs.Aim.{aim_of, aimed_by}
+use Rattle.aia_home.specs.Aims.{aims_done, is_aiming}
+use Rattle.aia_model.specs.HomeOf.{home}
+use Rattle.aia_model.specs.Passes.{own_pass, passes_for}
 
 -- how many harts and sources there are
 abbrev Sizes : Type 0
@@ -49,10 +53,23 @@ none : sizes_in [] ≡ (0, 0)
 unfolding newest
 none = refl
 
+-- an aim makes no other
+aimed_sizes : (h : History) (event : Event) (p : Past) → sizes_in (with_act (aimed_by h event) p) ≡ sizes_in p
+unfolding newest
+aimed_sizes h (Accepted (Pass source vm number identity)) p = refl
+aimed_sizes h (Stepped g) p = by_aim (is_aiming (passes_for h g) (home h g))
+  where
+    by_aim : (b : Bool) → sizes_in (with_act (cond b (Some (aim_of h g (own_pass h g (aims_done (home h g))))) None) p) ≡ sizes_in p
+    by_aim true = refl
+    by_aim false = refl
+aimed_sizes h event p = refl
+
 same_sizes : (h : History) → sizes_in (acts_of h) ≡ sizes_of h
 same_sizes [] = none
-same_sizes (Accepted line ∷ h) = sizes_settled (with_act (act_of line) (acts_of h)) ∙ sizes_by line (acts_of h) ∙ ap (sizes_then line) (same_sizes h) ∙ sym (sizes_after line h)
-same_sizes (event ∷ h) = same_sizes h
+same_sizes (Accepted line ∷ h) =
+    let aims : Past = with_act (aimed_by h (Accepted line)) (acts_of h) in
+    sizes_settled (with_act (act_of line) aims) ∙ sizes_by line aims ∙ ap (sizes_then line) (aimed_sizes h (Accepted line) (acts_of h) ∙ same_sizes h) ∙ sym (sizes_after line h)
+same_sizes (event ∷ h) = aimed_sizes h event (acts_of h) ∙ same_sizes h
 
 pub same_harts : (h : History) → harts_in (acts_of h) ≡ harts_of h
 same_harts h = ap (λ (p : Sizes). p.0) (same_sizes h)

@@ -2,3 +2,4 @@ pub mod Buffered
 pub mod Stands
 pub mod Streams
 pub mod Runs
+pub mod Wires

@@ -1,0 +1,17 @@
+-- The APLIC of a machine as the targets that moves see, and what an aim makes of it. Vocabulary.
+use Rattle.std.specs.Prelude.{ℕ}
+use Rattle.aia_model.specs.Act.{Past}
+use Rattle.aia_aplic.specs.Aplic.{AplicState, AplicStands}
+use Rattle.aia_aplic.specs.Passing.{with_aim, hart_count, target_in, is_passable_in}
+use Rattle.aia_move.specs.Targets.{TargetMap, AimsOne}
+
+-- Each source leads where the child domain keeps it, and is ready where MSIs to guests may be made
+-- of it.
+abbrev pub targets_of : AplicState → TargetMap
+targets_of a = record { harts = hart_count a; target = target_in a; ready = is_passable_in a }
+
+-- A source is aimed at a target: the APLIC stands for the past with that aim, and moves see the
+-- source aimed.
+pub record WiresAim (old : AplicState) (source target : ℕ) (new : AplicState) : Type 0 where
+  pub stands : (past : Past) → AplicStands old past → AplicStands new (with_aim past source target)
+  pub one : AimsOne (targets_of old) source target (targets_of new)
