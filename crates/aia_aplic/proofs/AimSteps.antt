@@ -15,7 +15,7 @@ use Rattle.aia_model.specs.AddressOf.{addresses_of, are_for_guests}
 use Rattle.aia_model.specs.SourceOf.{harts_in, sources_in, is_source, wire_of, is_active_in, delivers_by_msis, target, genmsi_waits}
 use Rattle.aia_aplic.specs.Side.{entry_of, control, DomainStands, SideState, SideStands}
 use Rattle.aia_aplic.specs.Aplic.{AplicState, AplicStands}
-use Rattle.aia_aplic.specs.Passing.{is_passable_source}
+use Rattle.aia_aplic.specs.Passing.{is_passable_source, is_passable_in}
 use Rattle.aia_aplic.proofs.Steps.{entry-step, entry-idle, step-nothing, aimed_if}
 use Rattle.aia_aplic.proofs.Standing.{IsQuiet, keeps_quiet, stands-after, still-stands}
 use Rattle.aia_aplic.proofs.Reading.{place, mode-zero}
@@ -98,7 +98,7 @@ and_grouped : (a b c d : Bool) → (a && b && c && d) ≡ (a && (b && c && d))
 and_grouped true b c d = refl
 and_grouped false b c d = refl
 
-pub passable-stands : (a : AplicState) (past : Past) (s : ℕ) → AplicStands a past → (is_active_at a.child.domain.sources s && a.child.domain.msi && are_for_guests a.addresses) ≡ is_passable_source past s
+pub passable-stands : (a : AplicState) (past : Past) (s : ℕ) → AplicStands a past → is_passable_in a s ≡ is_passable_source past s
 passable-stands a past s stands =
     ap (λ b. b && a.child.domain.msi && are_for_guests a.addresses) (active-stands a.child.domain past Child s stands.child.domain)
     ∙ ap (λ m. is_source past s && is_active_in past Child s && m && are_for_guests a.addresses) stands.child.domain.msi

@@ -13,8 +13,7 @@ use Rattle.aia_model.specs.AddressOf.{are_for_guests}
 use Rattle.aia_model.specs.SourceOf.{harts_in, sources_in, is_source, target}
 use Rattle.aia_aplic.specs.Side.{SideState}
 use Rattle.aia_aplic.specs.Aplic.{AplicState, AplicStands}
-use Rattle.aia_aplic.specs.Passing.{is_passable_source, hart_count, target_in, is_passable_in, AimsIn}
-use Rattle.aia_aplic.proofs.AimSteps.{passable-stands}
+use Rattle.aia_aplic.specs.Passing.{hart_count, target_in, is_passable_in, AimsIn}
 use Rattle.aia_aplic.proofs.Reading.{place}
 
 -- ---- one source
@@ -54,23 +53,10 @@ aimed-aims t v a new each rest is = record {
   others = λ s other. ap (λ (o : Option EntryState). option_map_or (λ (x : EntryState). x.target) o 0) (each s) ∙ target_stays t v s other _;
 }
 
--- an aim of one that may not be
-pub idle-aims : (t v : ℕ) (a : AplicState) → is_passable_in a t ≡ false → AimsIn a t v a
-idle-aims t v a not = record {
-  harts = refl;
-  passable = λ s. refl;
-  aimed = λ is. absurd (false≢true (sym not ∙ is));
-  stays = λ unready. refl;
-  others = λ s other. refl;
-}
-
 -- ---- the past
 
 pub harts-stand : (a : AplicState) (past : Past) → AplicStands a past → hart_count a ≡ harts_in past
 harts-stand a past stands = stands.child.domain.harts
-
-pub passable_in-stands : (a : AplicState) (past : Past) (s : ℕ) → AplicStands a past → is_passable_in a s ≡ is_passable_source past s
-passable_in-stands = passable-stands
 
 low_source : (n s : ℕ) → is_in_range 1 n s ≡ true → suc n ≤ s → true ≡ false
 low_source n s there past = grind (arith, nat_tests)

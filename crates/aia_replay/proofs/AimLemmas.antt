@@ -32,7 +32,8 @@ use Rattle.aia_model.proofs.OwnPassLemmas.{own_is}
 use Rattle.aia_model.proofs.HistoryLemmas.{line_happens}
 use Rattle.aia_aplic.specs.Aplic.{AplicStands}
 use Rattle.aia_aplic.specs.Passing.{is_passable_source}
-use Rattle.aia_aplic.proofs.PassingLemmas.{harts-stand, passable_in-stands}
+use Rattle.aia_aplic.proofs.PassingLemmas.{harts-stand}
+use Rattle.aia_aplic.proofs.AimSteps.{passable-stands}
 use Rattle.aia_hyp.specs.declared.moves.Want.{Want}
 use Rattle.aia_hyp.specs.declared.moves.Want.TheVariants as wants
 use Rattle.aia_hyp.specs.Moves.{UnlessRefused, WholeAims, move_line, wanted_move}
@@ -214,7 +215,7 @@ tells_of m h source there stands =
     let is : is_source (acts_of h) source ≡ true = there (acts_of h) stands.holds.aplic in
     record {
       there = ap (λ k. is_in_range 1 k source) (sym (same_sources h)) ∙ is;
-      ready = passable_in-stands m.wires.aplic (acts_of h) source stands.holds.aplic ∙ ap (λ b. b && is_passable (acts_of h) source) is;
+      ready = passable-stands m.wires.aplic (acts_of h) source stands.holds.aplic ∙ ap (λ b. b && is_passable (acts_of h) source) is;
     }
 
 pub may_pass : (m : Machine) (source : ℕ) → ((past : Past) → AplicStands m.wires.aplic past → is_source past source ≡ true) → StandsForSome m → MayPass m.core (targets_of m.wires.aplic) source
