@@ -15,8 +15,8 @@ use Rattle.aia_model.specs.Event.{History, sources_of}
 use Rattle.aia_model.specs.Event.Event.{Accepted, Began, Stepped, Delivered, Landed, Relayed}
 use Rattle.aia_model.specs.Act.{Act, Past}
 use Rattle.aia_model.specs.Act.Act.{Aimed}
-use Rattle.aia_model.specs.SourceOf.{is_source}
-use Rattle.aia_model.specs.Passes.{Pass, no_pass, passes_of, nth_pass, passes_for, own_pass}
+use Rattle.aia_model.specs.SourceOf.{is_source, is_active_in, delivers_by_msis, keeps_delivery}
+use Rattle.aia_model.specs.Passes.{Pass, no_pass, passes_of, nth_pass, passes_for, own_pass, has_passes}
 use Rattle.aia_model.specs.Aim.{aimed_by, aim_of}
 use Rattle.aia_model.specs.HomeOf.{home}
 use Rattle.aia_model.specs.Flight.{flight}
@@ -46,6 +46,8 @@ use Rattle.aia_replay.specs.Wires.{WiresAim, targets_of}
 use Rattle.aia_replay.specs.Stands.{MachineStands, MachineTakes, act_taken, StandsForSome}
 use Rattle.aia_replay.proofs.SizeLemmas.{same_sources, same_harts}
 use Rattle.aia_model.specs.Passable.{is_passable}
+use Rattle.aia_source.specs.Registers.{is_by_msi, domaincfg_kept, same_bool}
+use Rattle.aia_model.specs.declared.domain_name.DomainName.TheVariants.{Child}
 
 -- ---- passed sources are there
 
@@ -225,3 +227,15 @@ may_pass m source there some = record {
   stands = some.stands.holds.core;
   tells = tells_of m some.past source there some.stands;
 }
+
+-- while some source is passed the child domain delivers by MSIs, so a write of its domaincfg keeps
+-- that exactly where it asks for it
+pub keeps_msis : (m : Machine) (h : History) (value : ℕ) → MachineStands m h → has_passes h ≡ true → keeps_delivery (acts_of h) Child value ≡ is_by_msi (domaincfg_kept value)
+keeps_msis m h value stands some =
+    let first = (passes_stand h stands.happens).pass 0 (ltb-true 0 (length (passes_of h)) some) in
+    let delivers = (and_parts (is_active_in (acts_of h) Child (nth_pass h 0).source) (delivers_by_msis (acts_of h) Child) (and_parts (is_active_in (acts_of h) Child (nth_pass h 0).source && delivers_by_msis (acts_of h) Child) _ first.passable).0).1 in
+    ap (λ b. same_bool b (is_by_msi (domaincfg_kept value))) delivers ∙ same (is_by_msi (domaincfg_kept value))
+  where
+    same : (b : Bool) → same_bool true b ≡ b
+    same true = refl
+    same false = refl

@@ -61,26 +61,26 @@ all_sent m h past none holds = subst (λ p. MachineHolds m (delivered (waiting_m
 
 -- the MSIs that wait are those that the line sends
 waiting_are : (h : History) (line : Line) → waiting_msis (act_taken None h line) ≡ msis_sent_by h line
-waiting_are h (lines.Arrive vm number hart) = none_waiting _ ∙ sym (none_sent_by h (lines.Arrive vm number hart) refl)
-waiting_are h (lines.Leave vm number) = none_waiting _ ∙ sym (none_sent_by h (lines.Leave vm number) refl)
-waiting_are h (lines.Shift vm number hart) = none_waiting _ ∙ sym (none_sent_by h (lines.Shift vm number hart) refl)
-waiting_are h (lines.BeginArrive vm number hart) = none_waiting _ ∙ sym (none_sent_by h (lines.BeginArrive vm number hart) refl)
-waiting_are h (lines.BeginLeave vm number) = none_waiting _ ∙ sym (none_sent_by h (lines.BeginLeave vm number) refl)
-waiting_are h (lines.BeginShift vm number hart) = none_waiting _ ∙ sym (none_sent_by h (lines.BeginShift vm number hart) refl)
-waiting_are h (lines.Step vm number) = none_waiting _ ∙ sym (none_sent_by h (lines.Step vm number) refl)
-waiting_are h (lines.Land vm k) = none_waiting _ ∙ sym (none_sent_by h (lines.Land vm k) refl)
+waiting_are h (lines.Arrive vm number hart) = none_waiting (line_taken h (lines.Arrive vm number hart)) ∙ sym (none_sent_by h (lines.Arrive vm number hart) refl)
+waiting_are h (lines.Leave vm number) = none_waiting (line_taken h (lines.Leave vm number)) ∙ sym (none_sent_by h (lines.Leave vm number) refl)
+waiting_are h (lines.Shift vm number hart) = none_waiting (line_taken h (lines.Shift vm number hart)) ∙ sym (none_sent_by h (lines.Shift vm number hart) refl)
+waiting_are h (lines.BeginArrive vm number hart) = none_waiting (line_taken h (lines.BeginArrive vm number hart)) ∙ sym (none_sent_by h (lines.BeginArrive vm number hart) refl)
+waiting_are h (lines.BeginLeave vm number) = none_waiting (line_taken h (lines.BeginLeave vm number)) ∙ sym (none_sent_by h (lines.BeginLeave vm number) refl)
+waiting_are h (lines.BeginShift vm number hart) = none_waiting (line_taken h (lines.BeginShift vm number hart)) ∙ sym (none_sent_by h (lines.BeginShift vm number hart) refl)
+waiting_are h (lines.Step vm number) = none_waiting (line_taken h (lines.Step vm number)) ∙ sym (none_sent_by h (lines.Step vm number) refl)
+waiting_are h (lines.Land vm k) = none_waiting (line_taken h (lines.Land vm k)) ∙ sym (none_sent_by h (lines.Land vm k) refl)
 waiting_are h line = refl
 
 -- and when all are sent, the APLIC is as the history makes it
 acts_are : (h : History) (line : Line) → with_all_sent (act_taken None h line) ≡ acts_of (line_taken h line)
-acts_are h (lines.Arrive vm number hart) = none_sent _ (none_waits _)
-acts_are h (lines.Leave vm number) = none_sent _ (none_waits _)
-acts_are h (lines.Shift vm number hart) = none_sent _ (none_waits _)
-acts_are h (lines.BeginArrive vm number hart) = none_sent _ (none_waits _)
-acts_are h (lines.BeginLeave vm number) = none_sent _ (none_waits _)
-acts_are h (lines.BeginShift vm number hart) = none_sent _ (none_waits _)
-acts_are h (lines.Step vm number) = none_sent _ (none_waits _)
-acts_are h (lines.Land vm k) = none_sent _ (none_waits _)
+acts_are h (lines.Arrive vm number hart) = none_sent (acts_of (line_taken h (lines.Arrive vm number hart))) (none_waits (line_taken h (lines.Arrive vm number hart)))
+acts_are h (lines.Leave vm number) = none_sent (acts_of (line_taken h (lines.Leave vm number))) (none_waits (line_taken h (lines.Leave vm number)))
+acts_are h (lines.Shift vm number hart) = none_sent (acts_of (line_taken h (lines.Shift vm number hart))) (none_waits (line_taken h (lines.Shift vm number hart)))
+acts_are h (lines.BeginArrive vm number hart) = none_sent (acts_of (line_taken h (lines.BeginArrive vm number hart))) (none_waits (line_taken h (lines.BeginArrive vm number hart)))
+acts_are h (lines.BeginLeave vm number) = none_sent (acts_of (line_taken h (lines.BeginLeave vm number))) (none_waits (line_taken h (lines.BeginLeave vm number)))
+acts_are h (lines.BeginShift vm number hart) = none_sent (acts_of (line_taken h (lines.BeginShift vm number hart))) (none_waits (line_taken h (lines.BeginShift vm number hart)))
+acts_are h (lines.Step vm number) = none_sent (acts_of (line_taken h (lines.Step vm number))) (none_waits (line_taken h (lines.Step vm number)))
+acts_are h (lines.Land vm k) = none_sent (acts_of (line_taken h (lines.Land vm k))) (none_waits (line_taken h (lines.Land vm k)))
 acts_are h line = refl
 
 pub after_delivery : (n : Machine) (h : History) (line : Line) (r : Option Answer) → MachineHolds n (delivered (waiting_msis (act_taken r h line)) (line_served r h line)) (with_all_sent (act_taken r h line)) → MachineHolds n (history_after r h line) (acts_of (history_after r h line))

@@ -341,11 +341,13 @@ impl Machine {
         ensures { (h : History) → MachineStands self.now h → has_passes h ≡ true
             → result ≡ redirects_by h (Some (domain_name domain)) register value }
     {
-        match (domain, register) {
-            (0, DomainReg::MMsiAddrCfgH | DomainReg::SMsiAddrCfg | DomainReg::SMsiAddrCfgH) => true,
-            (_, DomainReg::SourceCfg(source)) => self.core.passed(source),
-            (1, DomainReg::Target(source)) => self.core.passed(source),
-            (1, DomainReg::DomainCfg) => !is_by_msi(domaincfg_kept(value)),
+        match register {
+            DomainReg::MMsiAddrCfgH | DomainReg::SMsiAddrCfg | DomainReg::SMsiAddrCfgH => {
+                domain == 0
+            }
+            DomainReg::SourceCfg(source) => self.core.passed(source),
+            DomainReg::Target(source) => domain == 1 && self.core.passed(source),
+            DomainReg::DomainCfg => domain == 1 && !is_by_msi(domaincfg_kept(value)),
             _ => false,
         }
     }

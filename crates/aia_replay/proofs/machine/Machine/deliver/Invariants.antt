@@ -6,4 +6,4 @@ abbrev pub invariant-loop-msi : goal.invariant-loop-msi
 invariant-loop-msi l = SoFar l.fn.self l.self
 
 abbrev pub decreases-loop-msi : goal.decreases-loop-msi
-decreases-loop-msi l = waiting l.self.aplic
+decreases-loop-msi l = waiting l.self.wires.aplic
