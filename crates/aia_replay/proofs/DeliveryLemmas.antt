@@ -13,7 +13,7 @@ use Rattle.aia_model.specs.Refusal.{refusal}
 use Rattle.aia_model.specs.declared.line.Line.TheVariants as lines
 use Rattle.aia_model.specs.Answer.{delivered, line_taken, history_after, given_on, msi_taken}
 use Rattle.aia_model.proofs.AnswerLemmas.{after_by}
-use Rattle.aia_aplic.specs.Aplic.{AplicStands}
+use Rattle.aia_aplic.specs.Aplic.{AplicState, AplicStands}
 use Rattle.aia_aplic.specs.Sending.{Next}
 use Rattle.aia_aplic.proofs.SendingLemmas.{msis_next, settled_next}
 use Rattle.aia_replay.specs.declared.machine.Machine.{Machine}
@@ -153,8 +153,8 @@ forwards_on msi h sent all = by_pass (passed_by h msi.source)
         by_reach false = forwards_then msi h sent all
 
 -- the next one may be delivered
-pub may_hear : (old m n : Machine) (msi : Msi) → SoFar old m → CanDeliverSome old → ((past : Past) → AplicStands m.wires.aplic past → Next n.wires.aplic (Some msi) past) → MayGo m.core (Delivered msi)
-may_hear old m n msi so_far some nexts =
+pub may_hear : (old m : Machine) (rest : AplicState) (msi : Msi) → SoFar old m → CanDeliverSome old → ((past : Past) → AplicStands m.wires.aplic past → Next rest (Some msi) past) → MayGo m.core (Delivered msi)
+may_hear old m rest msi so_far some nexts =
     let way = so_far some.events some.acts some.can in
     let next = nexts way.acts way.can.holds.aplic in
     record { past = way.events; happens = way.can.happens; stands = way.can.holds.core; may = may_be m msi way.events way.acts way.can next.sender next.later next.first next.msi }

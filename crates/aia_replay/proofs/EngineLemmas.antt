@@ -15,7 +15,7 @@ use Rattle.aia_model.proofs.AnswerLemmas.{answered, after_by, machine_refusal}
 use Rattle.aia_aplic.proofs.SendingLemmas.{none_begun}
 use Rattle.aia_model.specs.Act.Act.{Made}
 use Rattle.aia_replay.specs.declared.machine.Machine.{Machine}
-use Rattle.aia_replay.specs.Stands.{EngineState, MachineHolds, MachineStands, StandsFor, Serves}
+use Rattle.aia_replay.specs.Stands.{StandsForSome, EngineState, MachineHolds, MachineStands, StandsFor, Serves}
 use Rattle.aia_replay.proofs.DeliveryLemmas.{after_delivery, all_sent}
 use Rattle.aia_model.specs.Histories.{IsHistory}
 use Rattle.aia_model.proofs.HistoryLemmas.{after_happens}
@@ -50,15 +50,27 @@ size_refused harts guests n sources out = machine_refusal [] harts guests n sour
 
 -- ---- the machine is made
 
+made_accepted : (harts guests n sources : ℕ) → is_machine_size harts guests n sources ≡ true → refusal [] (MachineLine harts guests n sources) ≡ None
+made_accepted harts guests n sources size = machine_refusal [] harts guests n sources ∙ cond-false _ _ _ (ap not size)
+
+made_stands : (m : Machine) (harts guests n sources : ℕ) → is_machine_size harts guests n sources ≡ true → MachineHolds m (Accepted (MachineLine harts guests n sources) ∷ []) (Made harts sources ∷ [])
+    → MachineStands m (history_after None [] (MachineLine harts guests n sources))
+made_stands m harts guests n sources size holds =
+    let line = MachineLine harts guests n sources in
+    record {
+      holds = after_delivery m [] line None (all_sent m (Accepted line ∷ []) (Made harts sources ∷ []) (none_begun harts sources) holds);
+      happens = subst IsHistory (after_by [] line None (made_accepted harts guests n sources size)) (after_happens [] line tt);
+    }
+
+pub made_stands_for_some : (m : Machine) (harts guests n sources : ℕ) → is_machine_size harts guests n sources ≡ true → MachineHolds m (Accepted (MachineLine harts guests n sources) ∷ []) (Made harts sources ∷ []) → StandsForSome m
+made_stands_for_some m harts guests n sources size holds = record { past = history_after None [] (MachineLine harts guests n sources); stands = made_stands m harts guests n sources size holds }
+
 pub machine_made : (old new : EngineState) (m : Machine) (harts guests n sources : ℕ) → old ≡ None → new ≡ Some m → is_machine_size harts guests n sources ≡ true
     → MachineHolds m (Accepted (MachineLine harts guests n sources) ∷ []) (Made harts sources ∷ []) → Serves old new (MachineLine harts guests n sources) Okay
 machine_made old new m harts guests n sources was now size holds =
     let line = MachineLine harts guests n sources in
-    let accepted : refusal [] line ≡ None = machine_refusal [] harts guests n sources ∙ cond-false _ _ _ (ap not size) in
-    let stands : MachineStands m (history_after None [] line) = record {
-      holds = after_delivery m [] line None (all_sent m (Accepted line ∷ []) (Made harts sources ∷ []) (none_begun harts sources) holds);
-      happens = subst IsHistory (after_by [] line None accepted) (after_happens [] line tt);
-    } in
+    let accepted = made_accepted harts guests n sources size in
+    let stands = made_stands m harts guests n sources size holds in
     record {
       answers = λ h given. sym (ap (λ x. answer x line) (empty_history old h was given) ∙ answered [] line None accepted);
       stands = λ h given. subst (StandsFor new) (sym (ap (λ x. after x line) (empty_history old h was given) ∙ after_by [] line None accepted))

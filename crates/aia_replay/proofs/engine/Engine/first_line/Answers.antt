@@ -1,6 +1,6 @@
 use Rattle.std.proofs.Common.{refl, sym, ap, is_some, Option, ◌∙◌}
 use Rattle.aia_replay.specs.declared.machine.Machine.{Machine}
-use Rattle.aia_replay.proofs.EngineLemmas.{refused_first, needs_machine, size_refused, machine_made}
+use Rattle.aia_replay.proofs.EngineLemmas.{refused_first, needs_machine, size_refused, machine_made, made_stands_for_some}
 use Rattle.aia_replay.proofs.engine.Engine.first_line.Goals as goal
 
 pub returns-in_default : goal.returns-in_default
@@ -21,3 +21,9 @@ returns-clause-serves c =
     let line = c.in-Machine in
     let fresh = rw c.in-Some.is at c.in_ok-machine.ensures.new in
     rw c.in-Machine.is (machine_made c.args.self.now _ c.in-Some.machine line.harts line.guests line.n line.sources c.requires refl (sym c.in_ok-machine.ensures.size ∙ ap (λ (o : Option Machine). is_some o) c.in-Some.is) fresh)
+
+pub invariant_of-self : goal.invariant_of-self
+invariant_of-self c =
+    let line = c.in-Machine in
+    let fresh = rw c.in-Some.is at c.in_ok-machine.ensures.new in
+    made_stands_for_some c.in-Some.machine line.harts line.guests line.n line.sources (sym c.in_ok-machine.ensures.size ∙ ap (λ (o : Option Machine). is_some o) c.in-Some.is) fresh
