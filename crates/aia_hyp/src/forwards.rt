@@ -1,11 +1,13 @@
-ghost use Rattle.std.specs.Prelude.{◌≡◌, ◌≢◌, ◌<◌, ◌≤◌, length, Option, Some, None};
+ghost use Rattle.std.specs.Prelude.{◌≡◌, ◌≢◌, ◌<◌, ◌≤◌, length, ◌∷◌, Option, Some, None, IfOk};
+ghost use Rattle.std.specs.Option.{option_map};
+ghost use Rattle.std.specs.Result.{result_err};
 ghost use Rattle.std.specs.Int.{is_in_range};
 ghost use Rattle.aia_regs.specs.declared.limits.TheConstants.{GUEST_FILES, IDENTITIES, PASSES};
 ghost use Rattle.aia_imsic.specs.Map.{spot_at};
 ghost use Rattle.aia_imsic.specs.Imsic.{IsThere};
 ghost use Rattle.aia_home.specs.declared.place.Place.{Place};
 ghost use Rattle.aia_home.specs.Aims.{target_to};
-ghost use Rattle.aia_model.specs.declared.answer.Answer.TheVariants.{Okay};
+ghost use Rattle.aia_model.specs.declared.answer.Answer.TheVariants.{Okay, Refused};
 ghost use Rattle.aia_model.specs.declared.line.Line.TheVariants as lines;
 ghost use Rattle.aia_model.specs.Event.{History};
 ghost use Rattle.aia_model.specs.Event.Event.{Accepted, Delivered, Relayed};
@@ -13,12 +15,12 @@ ghost use Rattle.aia_model.specs.Aim.{aimed_by};
 ghost use Rattle.aia_model.specs.Passes.{is_passed, passes_of};
 ghost use Rattle.aia_model.specs.Refusal.{refusal};
 ghost use Rattle.aia_hyp.specs.Core.{resident_at};
-ghost use Rattle.aia_hyp.specs.Moves.{UnlessRefused};
+ghost use Rattle.aia_hyp.specs.Moves.{IsFound, UnlessRefused};
 ghost use Rattle.aia_hyp.specs.Passes.{AimsBy, TellsOf, pass_in};
-ghost use Rattle.aia_hyp.specs.Stands.{CoreStands, CorePasses, CoreHears, CoreGoes, MayPass, MayGo, answer_by};
+ghost use Rattle.aia_hyp.specs.Stands.{CoreStands, CorePasses, CoreHears, CoreGoes, MayPass, RefusesPass, MayGo, answer_by};
 
 use crate::hyp::{Hyp, is_host};
-use crate::moves::find;
+use crate::moves::{Found, find};
 use crate::passes::Passed;
 use crate::vcpu::Stay;
 use aia_imsic::Spot;
@@ -34,9 +36,9 @@ impl Hyp {
     /// from now on it asks there, wherever the virtual hart's interrupts are kept. The source is
     /// aimed at the virtual hart's guest file where it is resident, and else at its notice hart.
     /// `Err` is `Range` where the virtual hart isn't there or its file has no such identity, `Full`
-    /// where `PASSES` passes stand, `Busy` where the virtual hart is being moved, `Passed` where the
-    /// source is passed already, `Unready` where no MSIs to guests may be made of it; nothing is
-    /// changed then. Profile: passes.
+    /// where `PASSES` passes stand, `Busy` where the virtual hart is being moved, `Passed` where
+    /// the source is passed already, `Unready` where no MSIs to guests may be made of it; nothing
+    /// is changed then. Profile: passes.
     pub fn pass<T: Targets>(
         &mut self,
         source: u32,
@@ -55,6 +57,31 @@ impl Hyp {
             (AimsBy T.aimed (aimed_by h (Accepted (lines.Pass source vm number identity)))
             targets.old targets.new) (targets.new ≡ targets.old) }
     {
+        match self.may_pass(source, vm, number, identity, targets) {
+            Ok(found) => {
+                self.pass_to(found, source, identity as u32, targets);
+                Ok(())
+            }
+            Err(word) => Err(word),
+        }
+    }
+
+    /// Finds the virtual hart to which a source is to be passed, or the word that refuses it.
+    fn may_pass<T: Targets>(
+        &self,
+        source: u32,
+        vm: u64,
+        number: u64,
+        identity: u64,
+        targets: &T,
+    ) -> Result<Found, Refusal>
+        ensures refusal { RefusesPass self.now (T.map targets.now) source vm number identity
+            (option_map Refused (result_err result)) }
+        ensures found { IfOk result (λ found. IsFound self.now.world found) }
+        ensures named { IfOk result (λ found. (found.vm ≡ vm) × (found.vcpu ≡ number)) }
+        ensures identity { IfOk result (λ _. identity ≤ IDENTITIES) }
+    {
+        let _whole = self.fabric.words();
         let Some(found) = find(&self.fabric, vm, number) else {
             return Err(Refusal::Range);
         };
@@ -73,7 +100,26 @@ impl Hyp {
         if !targets.ready(source) {
             return Err(Refusal::Unready);
         }
-        let identity = identity as u32;
+        Ok(found)
+    }
+
+    /// Passes a source to a virtual hart, where nothing refuses it.
+    fn pass_to<T: Targets>(&mut self, found: Found, source: u32, identity: u32, targets: &mut T)
+        requires harts { self.old.world.imsic.harts ≡ (T.map targets.old).harts }
+        requires may { MayPass self.old (T.map targets.old) source }
+        requires found { IsFound self.old.world found }
+        requires free { RefusesPass self.old (T.map targets.old) source found.vm found.vcpu identity
+            None }
+        ensures passes { (h : History) → CoreStands self.old h
+            → TellsOf (T.map targets.old) h source
+            → CoreStands self.new
+            (Accepted (lines.Pass source found.vm found.vcpu identity) ∷ h) }
+        ensures aims { (h : History) → CoreStands self.old h
+            → AimsBy T.aimed
+            (aimed_by h (Accepted (lines.Pass source found.vm found.vcpu identity)))
+            targets.old targets.new }
+    {
+        let _whole = self.fabric.words();
         let stay = &self.vcpus[found.slot as usize].stay;
         let number = self.passes.count() as u32;
         aim_first(source, stay, found.notice, number, identity, targets);
@@ -83,7 +129,6 @@ impl Hyp {
             vcpu: found.vcpu,
             identity,
         });
-        Ok(())
     }
 
     /// Tells whether the files have an identity.

@@ -1,8 +1,7 @@
-use Rattle.std.proofs.Common.{true, ◌≡◌, ◌<◌, ◌≤◌, length, refl, sym, ap, subst, ◌∙◌}
-use Rattle.std.specs.Prelude.{slice_index_or}
+use Rattle.std.proofs.Common.{◌≤◌, refl, sym, ap, subst, ◌∙◌}
 use Rattle.aia_regs.specs.declared.limits.TheConstants.{PASSES}
 use Rattle.aia_home.specs.Vms.{vcpu, is_vcpu_in}
-use Rattle.aia_model.specs.Passes.{Pass, no_pass}
+use Rattle.aia_model.specs.Passes.{Pass}
 use Rattle.aia_model.specs.Event.Event.{Relayed}
 use Rattle.aia_hyp.specs.Core.{CoreState}
 use Rattle.aia_hyp.specs.Stands.{CoreGoes, MayGo}
