@@ -22,6 +22,8 @@ SIZES = {
     "wired sources": ["SOURCES"],
     "VMs": ["VMS"],
     "virtual harts of a VM": ["VM_VCPUS", "VCPUS"],
+    "stores of a VM's devices in flight": ["STORES_IN_FLIGHT"],
+    "passes of wired sources": ["PASSES"],
 }
 PLACES = [
     "root_region",
@@ -125,10 +127,11 @@ def places():
             yield f"{REFERENCE}, The machine: of {part} the most are {' and '.join(limits)}"
 
 
-def formula(text, words_, w):
-    """Computes a formula of docs/MOVES.md in W and w."""
+def formula(text, move, number):
+    """Computes a formula of docs/MOVES.md in W, R and the number of a word, w, or of a pass, r."""
     plain = re.sub(r"(\d)(W|w)", r"\1 * \2", text)
-    return Reader(plain, {"W": words_, "w": w}).value()
+    names = {"W": move.words, "R": move.passes, "w": number, "r": number}
+    return Reader(plain, names).value()
 
 
 def plans():
@@ -136,16 +139,17 @@ def plans():
     table = {cells[0]: cells[1:] for cells in rows(section("docs/MOVES.md", "The three plans"))}
     steps = table.pop("how many steps there are", [""] * 4)
     for at, kind in enumerate(KINDS, 1):
-        for size in (1, 2, 5):
-            move = Move(kind, size)
-            if not steps[at] or formula(steps[at], size, 0) != move.length():
+        for move in (Move(kind, size, passes) for size in (1, 2, 5) for passes in (1, 3)):
+            turns = move.turns()
+            if not steps[at] or formula(steps[at], move, 0) != len(turns):
                 yield f"docs/MOVES.md: {CALLED[kind]} has not '{steps[at]}' steps"
             wanted = set()
-            for name, w in move.accesses():
-                row = f"`{name}`" if w is None else f"`{name} w`"
+            for step, (name, number) in enumerate(turns, 1):
+                of = "r" if name == "aim" else "w"
+                row = f"`{name}`" if number is None else f"`{name} {of}`"
                 wanted.add(row)
                 cell = table.get(row, [""] * 4)[at]
-                if not cell or formula(cell, size, w or 0) != move.step(name, w) + 1:
+                if not cell or formula(cell, move, number or 0) != step:
                     yield f"docs/MOVES.md: {name} of {CALLED[kind]} is not at step '{cell}'"
             for name, cells in table.items():
                 if cells[at] and name not in wanted:

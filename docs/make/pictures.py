@@ -25,6 +25,7 @@ ACCESSES = {
     "TakeThreshold": "take eithreshold",
     "PutThreshold": "put eithreshold",
     "Post": "post",
+    "aim": "aim the source",
 }
 COLORS = {
     "guest file": GUEST,
@@ -44,7 +45,8 @@ BELOW = (
     " Larger files have such columns for each word of 64 identities."
 )
 LEFT, TOP_EDGE, CELL, ROW = 212, 170, 49, 27
-WORDS = 1
+# Moves are drawn of files of one word, and of a virtual hart to which one source is passed.
+WORDS, PASSES = 1, 1
 
 
 def runs(values):
@@ -61,7 +63,7 @@ def runs(values):
 def lanes(move):
     """Lists the rows of a move's picture, as (heading or None, name, a value for each state)."""
     old, new = KINDS[move.kind][1:]
-    states = range(move.length() + 1)
+    states = [steps for steps, _ in move.states()]
     kept = "kept by the hypervisor"
     named = {"old": old, "new": new, "hand": kept}
     routes = [
@@ -71,6 +73,7 @@ def lanes(move):
         ("What is in force", "MSIs of devices go to",
          [move.in_force("reach_stepped", k) for k in states]),
         (None, "stores of its peers go to", [move.in_force("stage_stepped", k) for k in states]),
+        (None, "a passed source leads to", [move.pass_at(0, *state) for state in move.states()]),
     ]
     found = []
     for heading, name, places in routes:
@@ -92,7 +95,7 @@ def lanes(move):
 
 def told(move):
     """Gives the row of notices: in which states a store to memory sends one, looks and the post."""
-    states = range(move.length() + 1)
+    states = [steps for steps, _ in move.states()]
     said = "each store of an enabled identity"
     return [said if move.of_word("is_watched", 0, k) else None for k in states]
 
@@ -114,12 +117,16 @@ def bar(picture, row, value, first, past):
 
 def heads(picture, move, bottom):
     """Draws the accesses above the states that they divide, and the numbers of steps done."""
-    for k, (access, w) in enumerate(move.accesses()):
+    for k, ((access, _), state) in enumerate(zip(move.turns(), move.states())):
         x = LEFT + (k + 1) * CELL
+        number = "" if access == "aim" else f"{state[0] + 1} "
         picture.line([(x, TOP_EDGE - 24), (x, bottom)], LINE, 1, "2 3")
-        picture.text(x - 2, TOP_EDGE - 28, f"{k + 1} {ACCESSES[access]}", 12, INK, turn=-52)
-    for k in range(move.length() + 1):
-        picture.text(LEFT + (k + 0.5) * CELL, TOP_EDGE - 8, str(k), 11, "#52606d", "middle")
+        picture.text(x - 2, TOP_EDGE - 28, f"{number}{ACCESSES[access]}", 12, INK, turn=-52)
+    before = None
+    for k, (steps, _) in enumerate(move.states()):
+        done = f"{steps}, aimed" if steps == before else str(steps)
+        picture.text(LEFT + (k + 0.5) * CELL, TOP_EDGE - 8, done, 11, "#52606d", "middle")
+        before = steps
     picture.text(LEFT - 10, TOP_EDGE - 8, "steps done", 11, "#52606d", "end")
 
 
@@ -140,7 +147,7 @@ def notices(picture, move, y):
         return row + ROW
     row += ROW
     picture.text(LEFT - 10, row + ROW / 2 + 4, "by the move itself", 12, INK, "end")
-    look, post = move.step("Look", 0), move.step("Post")
+    look, post = (move.turns().index(of) for of in (("Look", 0), ("Post", None)))
     x = LEFT + (look + 1) * CELL
     end = LEFT + (post + 1) * CELL
     picture.line([(x, row + ROW / 2), (end - 4, row + ROW / 2)], TOLD, 2, "4 3", True)
@@ -153,16 +160,17 @@ def notices(picture, move, y):
 
 def picture_of(kind):
     """Gives the picture of a move, as the text of a file."""
-    move = Move(kind, WORDS)
+    move = Move(kind, WORDS, PASSES)
     rows = lanes(move)
     count = len(rows) + sum(1 for heading, _, _ in rows if heading) + (3 if kind == "leave" else 2)
     if kind == "shift":
         count -= 1
     height = TOP_EDGE + count * ROW + 52
-    width = LEFT + (move.length() + 1) * CELL + (30 if kind == "leave" else 46)
+    width = LEFT + len(move.states()) * CELL + (30 if kind == "leave" else 46)
     picture = Picture(width, height, TITLES[kind])
     picture.text(14, 28, TITLES[kind], 17, bold=True)
-    size = f"{move.length()} steps, of files with the identities 1 to {64 * WORDS - 1}"
+    size = (f"{move.length()} steps, of files with the identities 1 to {64 * WORDS - 1};"
+            " and one more, which aims it, for each source that is passed to the virtual hart")
     picture.text(14, 48, size, 12, "#52606d")
     heads(picture, move, TOP_EDGE + count * ROW)
     y = TOP_EDGE
@@ -222,6 +230,8 @@ def hart_part(picture):
     picture.text(276, 140, "MSIs", 11.5, anchor="middle")
     picture.line([(252, 254), (290, 254), (290, 214), (342, 214)], INK, 1.4, None, True)
     picture.text(268, 248, "MSIs", 11.5, anchor="middle")
+    picture.line([(252, 288), (342, 288)], GUEST, 1.8, None, True)
+    picture.text(290, 282, "of passes", 11.5, GUEST, "middle")
 
 
 def memory_part(picture):
@@ -264,7 +274,7 @@ def guests_part(picture):
 def host_part(picture):
     """Draws the host, whose lines reach the APLIC and the files of its own levels."""
     part(picture, 24, 384, 226, 92, "the host", ["loads, stores, CSR instructions,",
-         "and what the hypervisor does:", "VMs, moves, injected majors"])
+         "and what the hypervisor does:", "VMs, moves, passes, majors"])
     picture.line([(136, 384), (136, 302)], INK, 1.4, None, True)
     picture.line([(252, 400), (312, 400), (312, 170), (342, 170)], INK, 1.4, None, True)
     picture.line([(312, 236), (342, 236)], INK, 1.4, None, True)

@@ -8,7 +8,7 @@ from antt import clauses, has_clauses, module_path
 
 TOKEN = re.compile(r"\s*(\d+|[A-Za-z_][\w.]*|&&|\|\||[()+*\-])")
 # The modules in which moves are defined.
-MODULES = ("Home", "Plans", "Routes", "BySteps")
+MODULES = ("Home", "Plans", "Routes", "BySteps", "Aims")
 # A kind of move: its constructor of Home, and its two places.
 KINDS = {
     "leave": ("Leaving", "guest file", "memory"),
@@ -138,14 +138,15 @@ class Reader:
 
 @dataclass
 class Move:
-    """A move of one kind, of files of so many words."""
+    """A move of one kind, of files of so many words, with so many passes to its virtual hart."""
 
     kind: str
     words: int
+    passes: int = 0
 
-    def home(self, steps=0):
-        """Gives the home of a virtual hart that is moved so, after so many steps."""
-        at = {"steps": steps}
+    def home(self, steps=0, aims=0):
+        """Gives the home of a virtual hart that is moved so, after so many steps and aims."""
+        at = {"steps": steps, "aims": aims}
         places = {"leave": ["old"], "arrive": ["new"], "shift": ["old", "new"]}
         return (KINDS[self.kind][0], *places[self.kind], at)
 
@@ -166,8 +167,29 @@ class Move:
             found = computed(stepped, [self.home(k), found])
         return self.named_place(found)
 
+    def states(self):
+        """Lists how many steps and how many aims are done, from the beginning of it to its end."""
+        found, steps, aims = [(0, 0)], 0, 0
+        while steps < self.length():
+            if computed("is_aiming", [self.passes, self.home(steps, aims)]):
+                aims += 1
+            else:
+                steps += 1
+            found.append((steps, aims))
+        return found
+
+    def turns(self):
+        """Lists its accesses and aims in order, an aim as (`aim`, number of the pass)."""
+        made, states = self.accesses(), self.states()
+        return [made[k] if k < states[i + 1][0] else ("aim", a)
+                for i, (k, a) in enumerate(states[:-1])]
+
+    def pass_at(self, r, steps, aims):
+        """Gives the place that the r-th pass reaches: `old` or `new`."""
+        return self.named_place(computed("pass_reaches", [r, self.home(steps, aims)]))
+
     def length(self):
-        """Gives how many steps it has."""
+        """Gives how many steps it has, those that aim aside."""
         return computed(f"{self.kind}_steps", [self.words])
 
     def accesses(self):
