@@ -300,7 +300,9 @@ impl Machine {
                 let given = self.core.load(addr);
                 given.map_or_else(Answer::Refused, Answer::Narrow)
             }
-            Ok(Some(domain)) => Answer::Narrow(self.wires.aplic.load(domain, (addr % REGION) as u32)),
+            Ok(Some(domain)) => Answer::Narrow(
+                self.wires.aplic.load(domain, (addr % REGION) as u32),
+            ),
             Err(word) => Answer::Refused(word),
         }
     }
