@@ -1,4 +1,4 @@
-use Rattle.std.proofs.Common.{ℕ, Bool, not, Some, sym, ap, ◌∙◌}
+use Rattle.std.proofs.Common.{ℕ, not, Some, sym, ap, ◌∙◌}
 use Rattle.aia_regs.specs.declared.domain_registers.DomainReg.{DomainReg}
 use Rattle.aia_source.specs.Registers.{is_by_msi}
 use Rattle.aia_model.specs.Passable.{redirects_by}

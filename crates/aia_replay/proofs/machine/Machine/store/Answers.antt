@@ -1,4 +1,4 @@
-use Rattle.std.proofs.Common.{◌≡◌, ℕ, Option, None, Some, refl, sym, subst}
+use Rattle.std.proofs.Common.{◌≡◌, ℕ, Option, None, refl, sym, subst}
 use Rattle.std.specs.Option.{option_map}
 use Rattle.aia_model.specs.Act.{domain_at}
 use Rattle.aia_aplic.specs.Aplic.{domain_name}
