@@ -1,3 +1,4 @@
 pub mod NineFacts
 pub mod TableFacts
 pub mod PlanFacts
+pub mod CoreFacts

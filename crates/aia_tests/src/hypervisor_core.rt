@@ -234,6 +234,7 @@ fn the_core_reads_an_entry_again(rt: HostRuntime) -> Result<(), Fail> {
 
 /// Delivers an MSI that is of no source.
 fn heard(core: &mut Hyp, address: u64, value: u32) {
+    let _some = core.notices();
     core.deliver(Msi {
         address,
         value,
@@ -245,6 +246,7 @@ fn heard(core: &mut Hyp, address: u64, value: u32) {
 fn has_hart(core: &Hyp, hart: u64) -> bool
     ensures { result ≡ nat_lt hart core.now.world.imsic.harts }
 {
+    let _some = core.notices();
     core.signals(hart).is_ok()
 }
 
