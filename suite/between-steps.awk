@@ -223,8 +223,8 @@ function target(p,    place, part) {
   return sprintf("0x%08x", part[1] * 2 ^ 18 + part[2] * 2 ^ 12 + pass_identity[p])
 }
 
-# The wire of a source, all of which are rising edges, and all that are enabled are passed. By way of
-# memory nothing stays in the notice hart's file but a notice.
+# The wire of a source: all are rising edges, and all that are enabled are passed. By way of memory
+# nothing stays in the notice hart's file but a notice.
 function wire_answer(source, level,    p) {
   p = pass_of(source)
   if (level && !levels[source] && p < passes)
@@ -421,8 +421,8 @@ function say_before(is_deliverable,    hart) {
   if (passed) say_passes()
 }
 
-# Makes the sources 1 to 4 rising edges of domain 1, of which MSIs to guests may be made, and enables
-# them.
+# Makes the sources 1 to 4 rising edges of domain 1, of which MSIs to guests may be made, and
+# enables them.
 function say_sources(    s) {
   for (s = 1; s <= 4; s++) say_all("before", sprintf("st 0x%08x 0x400;st 0x%08x 4", \
     number("0x0c000000") + 4 * s, number("0x0c008000") + 4 * s))
@@ -710,7 +710,7 @@ function put_move(kind, is_deliverable, flight,    k) {
   say_after(kind)
   run(kind, "", 0, 1)
   print "\n== " kind " of " greatest " identities" (is_deliverable ? ", one deliverable" : "") \
-    (flight == "" ? "" : flight == "past" ? ", stores sent past its fence" : ", stores sent before") \
+    (flight == "" ? "" : ", stores sent " (flight == "past" ? "past its fence" : "before")) \
     (passed ? ", passed sources: " passed : "")
   print "steps " steps_left(kind)
   put_list("before", "before")
