@@ -2,3 +2,4 @@ pub mod NineFacts
 pub mod TableFacts
 pub mod PlanFacts
 pub mod CoreFacts
+pub mod PassFacts
