@@ -1,6 +1,7 @@
 -- What may be asked of a core of which sources are passed, and of the sources that stand in for an
 -- APLIC's.
-use Rattle.std.proofs.Common.{◌≡◌, ℕ, [], ◌∷◌, inl, inr, zero, suc, Bool, true, false, cond, nat_eq, Option, Some, None, refl, sym, ap, subst, ◌∙◌}
+use Rattle.std.proofs.Common.{◌≡◌, ℕ, [], ◌∷◌, inl, inr, zero, suc, Bool, true, false, cond, nat_eq, Option, Some, None, refl, sym, ap, subst, ◌∙◌, arith}
+use Rattle.std.proofs.lemmas.Bool.Decides.{nat_tests}
 use Rattle.std.proofs.lemmas.Bool.{cond-false, false≢true, cases_Bool, ne_eqb, eqb-true}
 use Rattle.std.specs.Int.{is_in_range}
 use Rattle.aia_word.specs.Sets.{least_of}
@@ -64,7 +65,7 @@ unfolding passes_of addresses_of domain_register_of wire_of enabled target pendi
 told t zero low = absurd (false≢true low)
 told t (suc zero) low = record { there = refl; ready = refl }
 told t (suc (suc zero)) low = record { there = refl; ready = refl }
-told t (suc (suc (suc source))) low = absurd (false≢true low)
+told t (suc (suc (suc source))) low = let none : is_in_range 1 2 (suc (suc (suc source))) ≡ false = grind (arith, nat_tests) in absurd (false≢true (sym none ∙ low))
 
 pub may_pass : (x : CoreState) (t source : ℕ) → CoreStands x made → is_in_range 1 2 source ≡ true → MayPass x (one_ready t) source
 may_pass x t source stands low = record { past = made; happens = made_happens; stands = stands; tells = told t source low }
