@@ -127,9 +127,19 @@ function is_in_memory(who, storer,    kind) {
   return kind == "arrive" && (storer == "device" ? !is_at_new(who) : steps[who] < 4)
 }
 
+# Whether it is no move, but where a virtual hart is at rest.
+function is_rest(kind) {
+  return kind == "parked" || kind == "resident"
+}
+
 # How many steps are done after the fence of the entry.
 function fence_of(kind) {
   return kind == "leave" ? 4 : kind == "arrive" ? 2 : 3
+}
+
+# How many are done after the fence of the G-stage record, but for those that aim.
+function stage_fence_of(kind) {
+  return fence_of(kind) + 2
 }
 
 # Whether devices reach the place to which a move leads.
@@ -184,6 +194,69 @@ function send(vm, who, i,    k) {
   return "ok"
 }
 
+# ---- passed sources: of each pass, by its number, the source, its virtual hart and its identity
+
+function passes_for(who,    p, count) {
+  for (p = 0; p < passes; p++) count += pass_to[p] == who
+  return count + 0
+}
+
+# The number of the pass of a source, or how many there are.
+function pass_of(source,    p) {
+  for (p = 0; p < passes && pass_source[p] != source; p++) continue
+  return p
+}
+
+# The guest file to which a pass leads, "": memory. It is the old place until the move has aimed it,
+# by as many aims as there are passes to its virtual hart up to it.
+function pass_place(p,    who, k, rank) {
+  who = pass_to[p]
+  for (k = 0; k < p; k++) rank += pass_to[k] == who
+  if (moving[who] != "" && aims[who] > rank) return coming[who]
+  return (who in resident) ? resident[who] : ""
+}
+
+function target(p,    place, part) {
+  place = pass_place(p)
+  if (place == "") return sprintf("0x%08x", notice_hart[pass_to[p]] * 2 ^ 18 + 33 + p)
+  split(place, part, " ")
+  return sprintf("0x%08x", part[1] * 2 ^ 18 + part[2] * 2 ^ 12 + pass_identity[p])
+}
+
+# The wire of a source: all are rising edges, and all that are enabled are passed. By way of memory
+# nothing stays in the notice hart's file but a notice.
+function wire_answer(source, level,    p) {
+  p = pass_of(source)
+  if (level && !levels[source] && p < passes)
+    store(pass_to[p], pass_place(p) == "", pass_identity[p])
+  levels[source] = level
+  return "ok"
+}
+
+# Those sources can be passed that are enabled, which are numbered up to this.
+function pass_answer(source, who, identity) {
+  if (moving[who] != "") return "busy"
+  if (pass_of(source) < passes) return "passed"
+  if (source > 4) return "unready"
+  pass_source[passes] = source
+  pass_to[passes] = who
+  pass_identity[passes++] = identity
+  return "ok"
+}
+
+# The targets of domain 1 stand from this address on; a source above 0 has one.
+function source_of_target(address) {
+  address = (address - number("0x0c00b000")) / 4
+  return address >= 1 && address <= 8 ? address : 0
+}
+
+function store_answer(address, value) {
+  if (address < number("0x28000000"))
+    return pass_of(source_of_target(address)) < passes ? "guarded" : "ok"
+  asks("host " int((address - number("0x28000000")) / 131072), value)
+  return "ok"
+}
+
 function free_file(hart,    j, who, is_held) {
   for (j = 1; j <= 3; j++) {
     is_held = 0
@@ -195,7 +268,7 @@ function free_file(hart,    j, who, is_held) {
 
 function begin(kind, who, hart) {
   moving[who] = kind
-  steps[who] = saw[who] = 0
+  steps[who] = aims[who] = saw[who] = 0
   delete refetched[who]
   coming[who] = kind == "leave" ? "" : free_file(hart)
 }
@@ -206,6 +279,10 @@ function look(who, w,    i) {
 
 function step(who,    kind, w, vm) {
   kind = moving[who]
+  if (steps[who] == stage_fence_of(kind) && aims[who] < passes_for(who)) {
+    aims[who]++
+    return "moving"
+  }
   vm = substr(who, 1, 1)
   if (steps[who] + 1 == fence_of(kind)) while (flying[vm] > 0) land(vm, 0)
   delete refetched[who]
@@ -289,7 +366,10 @@ function answer(line,    field, who) {
   if (field[1] == "begin") begin(field[2], field[3] " " field[4], field[5])
   if (field[1] == "refetch" && moving[who] != "") refetched[who]
   if (field[1] == "vm") make_vm(field[2], field[4])
-  if (field[1] == "st") asks("host " int((number(field[2]) - 671088640) / 131072), number(field[3]))
+  if (field[1] == "st") return store_answer(number(field[2]), number(field[3]))
+  if (field[1] == "ld") return target(pass_of(source_of_target(number(field[2]))))
+  if (field[1] == "wire") return wire_answer(field[2], field[3])
+  if (field[1] == "pass") return pass_answer(field[2], field[3] " " field[4], field[5])
   if (field[1] == "inject" && field[5]) injected[who, field[4]]
   if (field[1] == "inject" && !field[5]) delete injected[who, field[4]]
   if (field[1] == "hvictl") ipriom[who] = int(number(field[4]) / 256) % 2
@@ -321,7 +401,9 @@ function write_registers(who, pairs,    k, some, many) {
 # and where an identity is to be deliverable 7, or 70.
 function say_before(is_deliverable,    hart) {
   count["before"] = 0
-  say_all("before", "machine 2 3 " greatest " 8;vm 3 0x18 1;vm 1 0x8 0;vm 16 0x78 0")
+  say("before", "machine 2 3 " greatest " 8")
+  if (passed) say_sources()
+  say_all("before", "vm 3 0x18 1;vm 1 0x8 0;vm 16 0x78 0")
   for (hart = 1; hart >= 0; hart--)
     say_all("before", "h " hart " csrrw siselect 0xc0;h " hart " csrrw sireg 0x1e;h " hart \
       " csrrw siselect 0x80")
@@ -336,6 +418,27 @@ function say_before(is_deliverable,    hart) {
     (is_deliverable && words == 1 ? "0x1080" : "0x1000"))
   # What an earlier move left behind in memory would send notices too early.
   say_all("before", "leave 0 0;h 1 csrrw stopei 0;arrive 0 0 0")
+  if (passed) say_passes()
+}
+
+# Makes the sources 1 to 4 rising edges of domain 1, of which MSIs to guests may be made, and
+# enables them.
+function say_sources(    s) {
+  for (s = 1; s <= 4; s++) say_all("before", sprintf("st 0x%08x 0x400;st 0x%08x 4", \
+    number("0x0c000000") + 4 * s, number("0x0c008000") + 4 * s))
+  say_all("before", "st 0x0c008000 0x104;st 0x0c001bc4 0x2000;st 0x0c001bc8 0x28000")
+  say("before", "st 0x0c001bcc 0x500000")
+  for (s = 1; s <= 4; s++) say("before", "st 0x0c009edc " s)
+}
+
+# Passes one source to the virtual hart that is moved, or three; and one to another, so that the
+# numbers of all passes are not those of its own. Its identity 9 is not enabled.
+function say_passes() {
+  if (passed == 1) say_all("before", "pass 4 0 1 6;pass 1 0 0 5")
+  else {
+    say_all("before", "leave 0 0;pass 1 0 0 5;pass 4 0 1 6;arrive 0 0 0")
+    say_all("before", "pass 2 0 0 " (words == 2 ? 70 : 7) ";pass 3 0 0 9")
+  }
 }
 
 # The beginning of a move; and where stores are to be in flight, its first steps, up to the fence or
@@ -344,6 +447,8 @@ function say_begin(kind, flight,    k) {
   count["begin"] = 0
   if (kind == "leave") say("begin", "begin leave 0 0")
   if (kind == "arrive") say_all("begin", "leave 0 0;h 1 csrrw stopei 0;begin arrive 0 0 0")
+  if (kind == "parked") say_all("begin", "leave 0 0;h 1 csrrw stopei 0")
+  if (kind == "resident") say("begin", "h 1 csrrw stopei 0")
   if (kind == "shift") say("begin", "begin shift 0 0 1")
   done = flight == "past" ? fence_of(kind) : 0
   for (k = 0; k < done; k++) say("begin", "step 0 0")
@@ -352,10 +457,10 @@ function say_begin(kind, flight,    k) {
   say("begin", sprintf("send 0 0x28000004 0x%02x000000", words == 2 ? 70 : 7))
 }
 
-function say_after(kind,    k, some, many) {
+function say_after(kind,    k, some, many, hart) {
   count["after"] = 0
   say("after", "land 0 0")
-  if (kind == "leave") say("after", "arrive 0 0 1")
+  if (kind == "leave" || kind == "parked") say("after", "arrive 0 0 1")
   say_all("after", "h 1 csrr sireg;h 0 csrr sireg;h 1 hgeip;h 0 hgeip;g 0 0 csrr stopei")
   say_all("after", "g 0 0 csrr sireg;g 0 0 csrr sip;g 0 0 csrr stopi;g 0 0 csrrw stopei 0")
   say("after", "g 0 0 csrr stopei")
@@ -363,7 +468,8 @@ function say_after(kind,    k, some, many) {
   for (k = 1; k <= many; k++) say_all("after", "g 0 0 csrrw siselect " some[k] ";g 0 0 csrr sireg")
   say_all("after", "g 0 1 csrr sireg;g 0 1 csrr stopei;step 1 0;g 1 0 csrr sireg;g 1 0 csrr stopei")
   # What was left behind: in the guest file, which is another's now, and in memory.
-  say_all("after", "arrive 0 2 " (kind == "arrive" ? 1 : 0) ";g 0 2 csrr sireg;h 0 hgeip;h 1 hgeip")
+  hart = kind == "arrive" || kind == "resident" ? 1 : 0
+  say_all("after", "arrive 0 2 " hart ";g 0 2 csrr sireg;h 0 hgeip;h 1 hgeip")
   say_all("after", "leave 0 0;arrive 0 0 1;g 0 0 csrr stopei;step 0 0")
 }
 
@@ -434,6 +540,28 @@ function say_landings(    k) {
     ";send 0 0x28000000 8;send 0 0x28000000 9;send 1 0x28000000 5;land 0 7;land 0 5")
 }
 
+# The wire of a source that is passed to the virtual hart rises; then it does so twice.
+function say_wire(s,    load) {
+  load = sprintf("ld 0x%08x", number("0x0c00b000") + 4 * s)
+  say("lines", "wire " s " 1;" load ";h 1 csrrw stopei 0;h 1 csrr sireg;h 0 csrr sireg" \
+    ";h 0 hgeip;h 1 hgeip")
+  say("lines", "wire " s " 1;wire " s " 0;" load ";wire " s " 1;h 1 csrrw stopei 0;h 1 csrr sireg")
+}
+
+# Wires of passed sources, of each by itself, of all, and of another virtual hart's; and what is
+# refused of them.
+function say_wires(    s) {
+  count["lines"] = 0
+  for (s = 1; s <= passed; s++) say_wire(s)
+  if (passed == 3) {
+    say("lines", "wire 3 1;wire 2 1;wire 1 1;ld 0x0c00b004;ld 0x0c00b008;ld 0x0c00b00c" \
+      ";h 1 csrrw stopei 0;h 1 csrr sireg;h 0 hgeip;h 1 hgeip")
+    say("lines", "wire 1 1;h 1 csrrw stopei 0;wire 2 1;h 1 csrrw stopei 0;wire 3 1;h 1 csrr sireg")
+  }
+  say("lines", "wire 4 1;ld 0x0c00b010;g 0 1 csrr stopei;h 0 hgeip;h 1 csrr sireg")
+  say("lines", "pass 5 0 0 5;pass 1 0 1 5;pass 5 0 1 5;st 0x0c00b004 7;ld 0x0c00b004")
+}
+
 function say_majors() {
   say("lines", "inject 0 0 9 1;inject 0 0 5 1;inject 0 0 1 1;inject 0 0 1 0")
   say("lines", "hvictl 0 0 0x100;hviprio 0 0 0x300;inject 0 0 1 1;msi 0 0x28000000 5")
@@ -478,6 +606,10 @@ function state_words() {
   state("full", "vm 13 0x78 0")
   state("busy", "arrive 0 0 0;leave 0 0;shift 0 0 1")
   state("busy", "begin arrive 0 0 1;begin leave 0 0;begin shift 0 0 0")
+  state("bad", "pass 1 0 0;pass 1 0 0 5 0")
+  state("range", "pass 0 0 0 5;pass 9 0 0 5;pass 1 3 0 5;pass 1 0 3 5;pass 1 0 0 0;pass 1 0 0 128")
+  state("busy", "pass 1 0 0 5")
+  state("unready", "pass 1 0 1 5;pass 1 0 2 63;pass 8 1 0 1")
   state("home", "arrive 0 1 1;begin arrive 1 0 1")
   state("parked", "leave 0 2;begin leave 0 2;shift 0 2 1;begin shift 0 2 1")
   state("nofile", "arrive 0 2 0;begin arrive 0 2 0;shift 1 0 0;begin shift 0 1 0")
@@ -509,12 +641,13 @@ function forget(    name) {
   split("", moving); split("", coming); split("", steps); split("", saw)
   split("", slot); split("", notice_hart); split("", refetched)
   split("", flying); split("", flight_to); split("", flight_memory); split("", flight_number)
-  vms = vcpus = 0
+  split("", aims); split("", levels); split("", pass_to)
+  vms = vcpus = passes = 0
 }
 
 # How many steps are to come after the beginning.
 function steps_left(kind) {
-  return steps_of(kind) - done
+  return is_rest(kind) ? 0 : steps_of(kind) + passes_for("0 0") - done
 }
 
 # Gives what a run answers, with lines between two steps, from the first of them on; of looks that
@@ -540,6 +673,11 @@ function run(kind, lines, gap, is_usual,    k, some, many, got, said, same) {
   return said
 }
 
+# How many places lines have: before each step, and where sources are passed also after the last.
+function places(kind) {
+  return steps_left(kind) + (passed ? 1 : 0)
+}
+
 # ---- the table
 
 # Prints lines with their answers, as many in a row as fit its width.
@@ -556,7 +694,7 @@ function put_list(word, list,    k, lines, said) {
 }
 
 function put_runs(kind, lines,    gap, from, said, last) {
-  for (gap = from = 0; gap < steps_left(kind); gap++) {
+  for (gap = from = 0; gap < places(kind); gap++) {
     said = run(kind, lines, gap)
     if (gap > 0 && said != last) {
       print "at " from " " gap " " lines " => " last
@@ -572,12 +710,13 @@ function put_move(kind, is_deliverable, flight,    k) {
   say_after(kind)
   run(kind, "", 0, 1)
   print "\n== " kind " of " greatest " identities" (is_deliverable ? ", one deliverable" : "") \
-    (flight == "" ? "" : flight == "past" ? ", stores sent past its fence" : ", stores sent before")
+    (flight == "" ? "" : ", stores sent " (flight == "past" ? "past its fence" : "before")) \
+    (passed ? ", passed sources: " passed : "")
   print "steps " steps_left(kind)
   put_list("before", "before")
   put_list("before", "begin")
   put_list("after", "after")
-  if (!is_deliverable && flight == "") print "rows"
+  if (!is_deliverable && flight == "" && !passed) print "rows"
   for (k = 1; k <= count["lines"]; k++) put_runs(kind, text["lines", k])
 }
 
@@ -585,7 +724,7 @@ BEGIN {
   print "# Lines between two steps of a move, and their answers: suite/between-steps finds them, so"
   print "# edit that, not this. crates/aia_rows/src/table.rt says how a table is read.\n"
   state_words()
-  split("leave arrive shift", kinds, " ")
+  split("leave arrive shift parked resident", kinds, " ")
   for (greatest = 63; greatest <= 127; greatest += 64) {
     words = (greatest + 1) / 64
     for (is_deliverable = 0; is_deliverable < 2; is_deliverable++) {
@@ -600,5 +739,11 @@ BEGIN {
       put_move(kinds[kind], 0, "before")
       put_move(kinds[kind], 0, "past")
     }
+    for (passed = 1; passed <= 3; passed += 2) {
+      say_before(0)
+      say_wires()
+      for (kind = 1; kind <= 5; kind++) put_move(kinds[kind], 0)
+    }
+    passed = 0
   }
 }

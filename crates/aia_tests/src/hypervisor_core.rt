@@ -1,5 +1,8 @@
 //! The hypervisor's core, called by itself.
 
+ghost use Rattle.std.specs.Prelude.{◌≡◌, nat_lt, IfSome};
+
+use crate::moves::NoTargets;
 use crate::same;
 use aia_hyp::{Hyp, Refusal, Want};
 use aia_model::Msi;
@@ -23,19 +26,10 @@ fn the_core_serves_the_files_of_the_host(rt: HostRuntime) -> Result<(), Fail> {
     }
     same!(rt; core.signals(0), Ok((false, false)));
     same!(rt; core.store(0x2800_0000, 5), Ok(()));
-    core.deliver(Msi {
-        address: 0x2800_0000,
-        value: 3,
-    });
+    heard(&mut core, 0x2800_0000, 3);
     // An MSI to a guest's page, and one to no page, are dropped.
-    core.deliver(Msi {
-        address: 0x2800_1000,
-        value: 5,
-    });
-    core.deliver(Msi {
-        address: 0x0c00_0000,
-        value: 5,
-    });
+    heard(&mut core, 0x2800_1000, 5);
+    heard(&mut core, 0x0c00_0000, 5);
     same!(rt; core.signals(0), Ok((false, true)));
     same!(rt; core.load(0x2800_0000), Ok(0));
     same!(rt; core.host(Level::Machine, 0, Csr::Topei, Op::Read), Ok(0));
@@ -117,7 +111,7 @@ fn the_core_moves_virtual_harts(rt: HostRuntime) -> Result<(), Fail> {
         (0, 1, Want::Leave, Ok(())),
     ];
     for (vm, number, want, given) in moves {
-        same!(rt; core.whole(vm, number, want), given; (vm, number));
+        same!(rt; moved(&mut core, vm, number, want), given; (vm, number));
     }
     drop(core);
     Ok(())
@@ -127,7 +121,7 @@ fn the_core_moves_virtual_harts(rt: HostRuntime) -> Result<(), Fail> {
 fn the_core_serves_resident_virtual_harts(rt: HostRuntime) -> Result<(), Fail> {
     let mut core = Hyp::new(rt.alloc(), 1, 1, 63)?;
     same!(rt; core.vm(2, 0x8, 0), Ok(()));
-    same!(rt; core.whole(0, 0, Want::Arrive(0)), Ok(()));
+    same!(rt; moved(&mut core, 0, 0, Want::Arrive(0)), Ok(()));
     // Enable 5, and let the file signal.
     let accesses = [
         (0, Csr::Select, Op::Write(0xc0), Ok(0)),
@@ -165,7 +159,7 @@ fn the_core_serves_resident_virtual_harts(rt: HostRuntime) -> Result<(), Fail> {
 fn the_core_has_stores_in_flight(rt: HostRuntime) -> Result<(), Fail> {
     let mut core = Hyp::new(rt.alloc(), 1, 1, 63)?;
     same!(rt; core.vm(3, 0x18, 0), Ok(()));
-    same!(rt; core.whole(0, 0, Want::Arrive(0)), Ok(()));
+    same!(rt; moved(&mut core, 0, 0, Want::Arrive(0)), Ok(()));
     // Enable 5 and 6.
     same!(rt; core.guest(0, 0, Csr::Select, Op::Write(0xc0)), Ok(0));
     same!(rt; core.guest(0, 0, Csr::Reg, Op::Write(0x60)), Ok(0));
@@ -205,7 +199,7 @@ fn the_core_has_eight_stores_of_a_vm_in_flight_at_most(rt: HostRuntime) -> Resul
     same!(rt; core.send(0, 0x2800_0000, 9), Err(Refusal::Full));
     same!(rt; core.send(1, 0x2800_0000, 9), Ok(()));
     // An arrival lands those of its own VM, and all are carried into the guest file.
-    same!(rt; core.whole(0, 0, Want::Arrive(0)), Ok(()));
+    same!(rt; moved(&mut core, 0, 0, Want::Arrive(0)), Ok(()));
     same!(rt; core.land(0, 0), Err(Refusal::Range));
     same!(rt; core.land(1, 0), Ok(()));
     same!(rt; core.guest(0, 0, Csr::Select, Op::Write(0x80)), Ok(0));
@@ -218,15 +212,15 @@ fn the_core_has_eight_stores_of_a_vm_in_flight_at_most(rt: HostRuntime) -> Resul
 fn the_core_reads_an_entry_again(rt: HostRuntime) -> Result<(), Fail> {
     let mut core = Hyp::new(rt.alloc(), 1, 1, 63)?;
     same!(rt; core.vm(1, 0x8, 0), Ok(()));
-    same!(rt; core.whole(0, 0, Want::Arrive(0)), Ok(()));
+    same!(rt; moved(&mut core, 0, 0, Want::Arrive(0)), Ok(()));
     // Enable 5 and 6, and be told of notices in the supervisor file.
     same!(rt; core.guest(0, 0, Csr::Select, Op::Write(0xc0)), Ok(0));
     same!(rt; core.guest(0, 0, Csr::Reg, Op::Write(0x60)), Ok(0));
-    same!(rt; core.whole(0, 0, Want::Leave), Ok(()));
+    same!(rt; moved(&mut core, 0, 0, Want::Leave), Ok(()));
     same!(rt; core.host(Level::Host, 0, Csr::Select, Op::Write(0x80)), Ok(0));
     // An arrival has written the entry, but not fenced it.
     same!(rt; core.begin(0, 0, Want::Arrive(0)), Ok(()));
-    same!(rt; core.step(0, 0), Ok(false));
+    same!(rt; stepped(&mut core, 0, 0), Ok(false));
     same!(rt; core.msi(0, 0x2800_0000, 5), Ok(()));
     same!(rt; core.host(Level::Host, 0, Csr::Reg, Op::Write(0)), Ok(2));
     same!(rt; core.refetch(0, 0), Ok(()));
@@ -236,6 +230,51 @@ fn the_core_reads_an_entry_again(rt: HostRuntime) -> Result<(), Fail> {
     same!(rt; core.refetch(1, 0), Err(Refusal::Range));
     drop(core);
     Ok(())
+}
+
+/// Delivers an MSI that is of no source.
+fn heard(core: &mut Hyp, address: u64, value: u32) {
+    let _some = core.notices();
+    core.deliver(Msi {
+        address,
+        value,
+        source: None,
+    });
+}
+
+/// Tells whether a hart is there.
+fn has_hart(core: &Hyp, hart: u64) -> bool
+    ensures { result ≡ nat_lt hart core.now.world.imsic.harts }
+{
+    let _some = core.notices();
+    core.signals(hart).is_ok()
+}
+
+/// Makes targets for the harts of a machine of one or two, which has no source.
+fn no_targets(core: &Hyp) -> Option<NoTargets>
+    ensures { IfSome result (λ targets. core.now.world.imsic.harts ≡ targets.harts) }
+{
+    if !has_hart(core, 0) || has_hart(core, 2) {
+        return None;
+    }
+    let harts = if has_hart(core, 1) { 2 } else { 1 };
+    Some(NoTargets { harts })
+}
+
+/// Moves a virtual hart, to which no source is passed.
+fn moved(core: &mut Hyp, vm: u64, number: u64, want: Want) -> Result<(), Refusal> {
+    match no_targets(core) {
+        Some(mut targets) => core.whole(vm, number, want, &mut targets),
+        None => Err(Refusal::Fault),
+    }
+}
+
+/// Makes the next step of its move.
+fn stepped(core: &mut Hyp, vm: u64, number: u64) -> Result<bool, Refusal> {
+    match no_targets(core) {
+        Some(mut targets) => core.step(vm, number, &mut targets),
+        None => Err(Refusal::Fault),
+    }
 }
 
 /// Makes VMs of this many virtual harts each.
@@ -248,7 +287,7 @@ fn make_vms(rt: &impl Abort, core: &mut Hyp, sizes: &[u64]) {
 /// Moves virtual harts of a VM to guest files of hart 1.
 fn arrive(rt: &impl Abort, core: &mut Hyp, vm: u64, vcpus: u64) {
     for number in 0..vcpus {
-        same!(*rt; core.whole(vm, number, Want::Arrive(1)), Ok(()); (vm, number));
+        same!(*rt; moved(core, vm, number, Want::Arrive(1)), Ok(()); (vm, number));
     }
 }
 
@@ -273,14 +312,14 @@ fn the_core_hands_out_the_last_guest_file(rt: HostRuntime) -> Result<(), Fail> {
     make_vms(&rt, &mut core, &[most, most]);
     arrive(&rt, &mut core, 0, most);
     arrive(&rt, &mut core, 1, most - 1);
-    same!(rt; core.whole(1, most - 1, Want::Arrive(1)), Err(Refusal::NoFile));
+    same!(rt; moved(&mut core, 1, most - 1, Want::Arrive(1)), Err(Refusal::NoFile));
     listens(&rt, &mut core, 1, most - 2);
     same!(rt; core.msi(1, 0x2800_e000, 5), Ok(()));
     same!(rt; core.hgeip(1), Ok(1 << GUEST_FILES));
     same!(rt; core.hgeip(0), Ok(0));
     same!(rt; core.guest(1, most - 2, Csr::Topei, Op::Write(0)), Ok(0x5_0005));
-    same!(rt; core.whole(1, most - 2, Want::Shift(0)), Ok(()));
-    same!(rt; core.whole(1, most - 1, Want::Arrive(1)), Ok(()));
+    same!(rt; moved(&mut core, 1, most - 2, Want::Shift(0)), Ok(()));
+    same!(rt; moved(&mut core, 1, most - 1, Want::Arrive(1)), Ok(()));
     drop(core);
     Ok(())
 }
@@ -295,18 +334,18 @@ fn the_core_parks_the_last_virtual_hart_in_the_last_slot(rt: HostRuntime) -> Res
     same!(rt; core.msi(vm, 0x2800_f000, 5), Err(Refusal::Range));
     make_vms(&rt, &mut core, &[number + 1]);
     same!(rt; core.vm(1, 0xf, 1), Err(Refusal::Full));
-    same!(rt; core.whole(vm, number, Want::Arrive(0)), Ok(()));
+    same!(rt; moved(&mut core, vm, number, Want::Arrive(0)), Ok(()));
     listens(&rt, &mut core, vm, number);
-    same!(rt; core.whole(vm, number, Want::Leave), Ok(()));
+    same!(rt; moved(&mut core, vm, number, Want::Leave), Ok(()));
     same!(rt; core.host(Level::Host, 1, Csr::Select, Op::Write(0x80)), Ok(0));
     same!(rt; core.msi(vm, 0x2800_e000, 5), Ok(()));
     same!(rt; core.host(Level::Host, 1, Csr::Reg, Op::Write(0)), Ok(0));
     same!(rt; core.msi(vm, 0x2800_f000, 5), Ok(()));
     same!(rt; core.host(Level::Host, 1, Csr::Reg, Op::Write(0)), Ok(1 << VCPUS));
-    same!(rt; core.whole(vm, number, Want::Arrive(1)), Ok(()));
+    same!(rt; moved(&mut core, vm, number, Want::Arrive(1)), Ok(()));
     same!(rt; core.guest(vm, number, Csr::Topei, Op::Write(0)), Ok(0x5_0005));
-    same!(rt; core.whole(vm, number + 1, Want::Leave), Err(Refusal::Range));
-    same!(rt; core.whole(vm + 1, 0, Want::Leave), Err(Refusal::Range));
+    same!(rt; moved(&mut core, vm, number + 1, Want::Leave), Err(Refusal::Range));
+    same!(rt; moved(&mut core, vm + 1, 0, Want::Leave), Err(Refusal::Range));
     drop(core);
     Ok(())
 }

@@ -25,6 +25,8 @@ mod memory;
 #[cfg(test)]
 mod moves;
 #[cfg(test)]
+mod passes;
+#[cfg(test)]
 mod registers;
 #[cfg(test)]
 mod sets;

@@ -176,8 +176,8 @@ pub(crate) fn who_is(fabric: &Fabric, vm: u32, vcpu: u32) -> Option<Who>
 
 /// Targets of a machine of so many harts that has no source which is active.
 #[derive(Drop)]
-struct NoTargets {
-    harts: u32,
+pub(crate) struct NoTargets {
+    pub(crate) harts: u32,
 }
 
 impl Targets for NoTargets {

@@ -1,0 +1,22 @@
+-- What has happened as tests pass a source: a machine of one hart with one guest file and two wired
+-- sources, of which MSIs to guests may be made of the first, and a VM of one virtual hart.
+use Rattle.std.specs.Prelude.{ℕ, nat_eq, if◌then◌else◌, [], ◌∷◌, ◌++◌}
+use Rattle.aia_move.specs.Targets.{TargetMap}
+use Rattle.aia_model.specs.declared.line.Line.TheVariants as lines
+use Rattle.aia_model.specs.Event.{History}
+use Rattle.aia_model.specs.Event.Event.{Accepted}
+use Rattle.aia_hyp.specs.Example.{accepted, passable_lines}
+
+abbrev pub stored : History
+stored = accepted (lines.Machine 1 1 63 2 ∷ passable_lines) []
+
+abbrev pub made : History
+made = Accepted (lines.Vm 1 8 0) ∷ stored
+
+-- The first source is passed to the virtual hart, which is parked.
+abbrev pub passed : History
+passed = Accepted (lines.Pass 1 0 0 5) ∷ made
+
+-- Its sources, as moves see them, by the target of the first.
+abbrev pub one_ready : ℕ → TargetMap
+one_ready t = record { harts = 1; target = λ s. if nat_eq s 1 then t else 0; ready = λ s. nat_eq s 1 }
