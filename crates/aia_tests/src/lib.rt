@@ -1,17 +1,14 @@
 //! The tests of the parts: each public call of a crate below `aia_replay`, with ample memory, but
-//! for those of wired sources, which `aia_wired_tests` calls.
+//! for those of wired sources, which `aia_wired_tests` calls, and those of texts, which
+//! `aia_text_tests` calls.
 #![tactic(auto)]
 
 #[cfg(test)]
 mod accesses;
 #[cfg(test)]
-mod command_lines;
-#[cfg(test)]
 mod fabric;
 #[cfg(test)]
 mod files;
-#[cfg(test)]
-mod generated_scripts;
 #[cfg(test)]
 mod hypervisor_core;
 #[cfg(test)]
@@ -30,8 +27,6 @@ mod passes;
 mod registers;
 #[cfg(test)]
 mod sets;
-#[cfg(test)]
-mod spellings;
 #[cfg(test)]
 mod stores_in_flight;
 #[cfg(test)]
