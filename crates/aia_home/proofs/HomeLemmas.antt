@@ -3,8 +3,8 @@ use Rattle.std.proofs.Common.{◌≡◌, ℕ, true, nat_eq, Option, Some, inl, i
 use Rattle.std.proofs.lemmas.Bool.{and_parts, eqb-true, or_left, or_right}
 use Rattle.std.proofs.lemmas.Bool.Decides.{nat_tests}
 use Rattle.aia_home.specs.declared.place.Place.{Place}
-use Rattle.aia_home.specs.Home.{Home, is_place, holds}
-use Rattle.aia_home.specs.Home.Home.{Parked, Resident, Leaving, Arriving, Shifting}
+use Rattle.aia_home.specs.Home.{Home, is_place, holds, entering, exiting}
+use Rattle.aia_home.specs.Home.Home.{Parked, Entered, Resident, Leaving, Arriving, Shifting}
 use Rattle.aia_home.specs.BySteps.{own_file, next_file, new_file}
 use Rattle.aia_home.specs.Routes.{origin, MayLand}
 
@@ -25,6 +25,7 @@ some_same p q e = let same : p ≡ q = cc in subst (λ (r : Place). is_place r p
 
 pub own_is_held : (there : Home) (p : Place) → own_file there ≡ Some p → holds p there ≡ true
 own_is_held Parked p e = absurd (cc)
+own_is_held Entered p e = absurd (cc)
 own_is_held (Resident q) p e = some_same q p e
 own_is_held (Leaving from at) p e = some_same from p e
 own_is_held (Arriving to at) p e = some_same to p e
@@ -49,3 +50,21 @@ new_is_held there p e = absurd (cc)
 pub landing_is_held : (words : ℕ) (there : Home) (reach : Option Place) (p : Place) → MayLand words there reach → reach ≡ Some p → holds p there ≡ true
 landing_is_held words there reach p (inl m) e = origin_is_held there p (sym m.0 ∙ e)
 landing_is_held words there reach p (inr m) e = new_is_held there p (sym m.0 ∙ e)
+
+-- ---- it enters, or exits: what is so of the parked and the entered alike stays
+
+pub entering_keeps : (P : Home → Type 0) → (P Parked → P Entered) → (there : Home) → P there → P (entering there)
+entering_keeps P same Parked p = same p
+entering_keeps P same Entered p = p
+entering_keeps P same (Resident q) p = p
+entering_keeps P same (Leaving from at) p = p
+entering_keeps P same (Arriving to at) p = p
+entering_keeps P same (Shifting from to at) p = p
+
+pub exiting_keeps : (P : Home → Type 0) → (P Entered → P Parked) → (there : Home) → P there → P (exiting there)
+exiting_keeps P same Parked p = p
+exiting_keeps P same Entered p = same p
+exiting_keeps P same (Resident q) p = p
+exiting_keeps P same (Leaving from at) p = p
+exiting_keeps P same (Arriving to at) p = p
+exiting_keeps P same (Shifting from to at) p = p

@@ -15,10 +15,12 @@ pub record Progress : Type 0 where
 abbrev pub at_first : Progress
 at_first = record { steps = 0; aims = 0 }
 
--- It is parked, its interrupts in memory; or resident in a guest file; or it is moved, from a guest
--- file to memory, from memory to a guest file, or from one guest file to another.
+-- It is parked, its interrupts in memory; or entered: it runs, and its interrupts stay in memory;
+-- or resident in a guest file; or it is moved, from a guest file to memory, from memory to a guest
+-- file, or from one guest file to another.
 pub data Home : Type 0 where
   Parked : Home
+  Entered : Home
   Resident : (in_file : Place) → Home
   Leaving : (from : Place) (at : Progress) → Home
   Arriving : (to : Place) (at : Progress) → Home
@@ -30,6 +32,10 @@ abbrev pub is_parked : Home → Bool
 is_parked Parked = true
 is_parked there = false
 
+abbrev pub is_entered : Home → Bool
+is_entered Entered = true
+is_entered there = false
+
 abbrev pub is_resident : Home → Bool
 is_resident (Resident p) = true
 is_resident there = false
@@ -40,13 +46,33 @@ is_moving (Arriving to at) = true
 is_moving (Shifting from to at) = true
 is_moving there = false
 
+-- Whether it runs: in a guest file, or from memory.
+abbrev pub runs : Home → Bool
+runs there = is_resident there || is_entered there
+
+-- Whether its interrupts rest in memory, where no move carries them.
+abbrev pub rests_in_memory : Home → Bool
+rests_in_memory there = is_parked there || is_entered there
+
 -- Whether it holds a guest file: a shift holds both of its files until its last step is done.
 abbrev pub holds : Place → Home → Bool
 holds p Parked = false
+holds p Entered = false
 holds p (Resident q) = is_place p q
 holds p (Leaving from at) = is_place p from
 holds p (Arriving to at) = is_place p to
 holds p (Shifting from to at) = is_place p from || is_place p to
+
+-- ---- it runs from memory
+
+-- It begins to run from memory, and ceases to. Its interrupts stay where they are.
+abbrev pub entering : Home → Home
+entering Parked = Entered
+entering there = there
+
+abbrev pub exiting : Home → Home
+exiting Entered = Parked
+exiting there = there
 
 -- ---- its moves
 

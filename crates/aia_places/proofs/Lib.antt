@@ -13,3 +13,4 @@ pub mod StoreLemmas
 pub mod WatchLemmas
 pub mod PhaseLemmas
 pub mod AimKept
+pub mod MemoryKept

@@ -6,7 +6,7 @@ use Rattle.aia_file.specs.InterruptFile.{InterruptFile}
 use Rattle.aia_home.specs.declared.place.Place.{Place}
 use Rattle.aia_home.proofs.HomeLemmas.{is_itself_place}
 use Rattle.aia_home.specs.Home.{Home, is_moving, is_place}
-use Rattle.aia_home.specs.Home.Home.{Parked, Resident, Leaving, Arriving, Shifting}
+use Rattle.aia_home.specs.Home.Home.{Parked, Entered, Resident, Leaving, Arriving, Shifting}
 use Rattle.aia_home.specs.Plans.{is_made, is_carried}
 use Rattle.aia_home.specs.Plans.Access.{TakePending, TakeThreshold}
 use Rattle.aia_home.specs.Phases.{has_come}
@@ -22,6 +22,7 @@ use Rattle.aia_places.specs.Stores.{AreApart}
 -- the two ends of a move are two
 pub two_ends : (there : Home) → is_moving there ≡ true → AreApart there → new_file there ≢ origin there
 two_ends Parked moves apart = absurd (cc)
+two_ends Entered moves apart = absurd (cc)
 two_ends (Resident p) moves apart = absurd (cc)
 two_ends (Leaving from at) moves apart = λ e. absurd (cc)
 two_ends (Arriving to at) moves apart = λ e. absurd (cc)
@@ -90,6 +91,7 @@ last_knows words q hart reach v there hand file saw p old come h = either there 
     either : (z : Home) → old_file z ≡ Some p → has_come words z LastPhase ≡ true → Holds words q hart reach v z hand file saw
         → IsEmpty (record v.own { threshold = 0 }) × (v.own.threshold ≡ (if is_made words z TakeThreshold then 0 else file.threshold))
     either Parked old come h = absurd (cc)
+    either Entered old come h = absurd (cc)
     either (Resident r) old come h = absurd (cc)
     either (Arriving to at) old come h = absurd (cc)
     either (Leaving from at) old come h =
