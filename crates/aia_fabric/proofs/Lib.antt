@@ -7,3 +7,4 @@ pub mod FlightLemmas
 pub mod ViewLemmas
 pub mod StoreViews
 pub mod OwnLemmas
+pub mod SlotViews

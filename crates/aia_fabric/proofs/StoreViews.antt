@@ -17,7 +17,7 @@ use Rattle.aia_home.specs.declared.place.Place.{Place}
 use Rattle.aia_home.specs.Vms.{Vcpu, slot_of}
 use Rattle.aia_home.proofs.HomeLemmas.{same_place}
 use Rattle.aia_home.specs.Home.{Home, is_place, holds}
-use Rattle.aia_home.specs.Home.Home.{Parked, Resident, Leaving, Arriving, Shifting}
+use Rattle.aia_home.specs.Home.Home.{Parked, Entered, Resident, Leaving, Arriving, Shifting}
 use Rattle.aia_home.specs.BySteps.{own_file, next_file}
 use Rattle.aia_places.specs.Stores.{view_landed, AreApart}
 use Rattle.aia_fabric.specs.World.{World}
@@ -59,6 +59,7 @@ module _ (w u : World) (g : Vcpu) (p : Place) (offset value : ℕ) (whole : IsWh
   pub file_store-view : (there : Home) → holds p there ≡ true → AreApart there → ((r : Place) → own_file there ≡ Some r → IsThere w.imsic (spot_of r)) → ((r : Place) → next_file there ≡ Some r → IsThere w.imsic (spot_of r))
       → view u g there ≡ view_landed (Some p) there offset value (view w g there)
   file_store-view Parked held apart own next = absurd (cc)
+  file_store-view Entered held apart own next = absurd (cc)
   file_store-view (Resident q) held apart own next = own-landed (Resident q) (ap Some (sym (same_place p q held))) no_next
   file_store-view (Leaving from at) held apart own next = own-landed (Leaving from at) (ap Some (sym (same_place p from held))) no_next
   file_store-view (Arriving to at) held apart own next = own-landed (Arriving to at) (ap Some (sym (same_place p to held))) no_next

@@ -1,15 +1,14 @@
 -- How a change of the world shows in the places of a virtual hart: of a file, of a word of memory,
 -- of an entry in force, of a G-stage record.
-use Rattle.std.proofs.Common.{◌≡◌, ◌≢◌, ℕ, ◌+◌, ◌/◌, ◌%◌, ◌<◌, ◌≤◌, Bool, true, false, not, ◌&&◌, cond, nat_eq, nat_le, List, length, get_or, Option, Some, None, inl, inr, refl, sym, ap, ◌∙◌, arith}
+use Rattle.std.proofs.Common.{◌≡◌, ◌≢◌, ℕ, ◌+◌, ◌/◌, ◌%◌, ◌<◌, ◌≤◌, Bool, true, false, not, ◌&&◌, cond, nat_eq, List, length, get_or, Option, Some, None, inl, inr, refl, sym, ap, ◌∙◌, arith}
 use Rattle.std.specs.Prelude.{bit_or}
 use Rattle.std.proofs.Math.ListN.{set}
 use Rattle.std.proofs.lemmas.Bool.{cases_lt, cases_Bool, eqb-true}
-use Rattle.std.proofs.lemmas.Bool.Decides.{nat_tests}
 use Rattle.std.proofs.lemmas.List.{get_or-set_same, get_or-set_other, set_past}
-use Rattle.aia_word.specs.Sets.{has_bit, is_in}
+use Rattle.aia_word.specs.Sets.{is_in}
 use Rattle.aia_word.proofs.SetLemmas.{is_in-set, is_in-past}
 use Rattle.aia_word.proofs.BitLemmas.{has_bit-zero}
-use Rattle.aia_regs.specs.declared.limits.TheConstants.{IDENTITIES, VCPUS, WORDS_OF_SLOTS, MEMORY_WORDS, FILE_WORDS}
+use Rattle.aia_regs.specs.declared.limits.TheConstants.{VCPUS, WORDS_OF_SLOTS, MEMORY_WORDS, FILE_WORDS}
 use Rattle.aia_regs.specs.declared.access.Op.TheVariants as ops
 use Rattle.aia_regs.specs.declared.file_registers.FileReg.{FileReg}
 use Rattle.aia_file.specs.InterruptFile.{InterruptFile, accessed}
@@ -23,6 +22,7 @@ use Rattle.aia_imsic.proofs.PlaceLemmas.{place_within, replaced_here, kept_elsew
 use Rattle.aia_mrif.specs.Mrif.{mrif_in, set_at, pending_place, enable_place}
 use Rattle.aia_mrif.specs.Words.{HasSlot}
 use Rattle.aia_mrif.proofs.SlotLemmas.{written, kept, slot_joined, other_words}
+pub use Rattle.aia_mrif.proofs.SlotLemmas.{place_shows}
 use Rattle.aia_entry.specs.Format.{decoded}
 use Rattle.aia_entry.specs.Tables.{table_of, entry_place}
 use Rattle.aia_entry.proofs.TableLemmas.{fenced_here}
@@ -146,13 +146,6 @@ module _ (words : List ℕ) (q k v : ℕ) (whole : HasSlot words q) (low : k < F
 
 pub nothing_replaced : (k : ℕ) (members : ℕ → Bool) → replaced_by k 0 members ≡ without_word k members
 nothing_replaced k members = same_sets _ _ (λ i. ap (λ b. cond (nat_eq (i / 64) k) b (members i)) (has_bit-zero (i % 64)) ∙ neither (nat_eq (i / 64) k) (members i))
-
--- what a word of it shows
-low_identity : (i k : ℕ) → i / 64 ≡ k → k < FILE_WORDS → nat_le i IDENTITIES ≡ true
-low_identity i k e low = grind (arith, nat_tests)
-
-pub place_shows : (place : ℕ → ℕ) (words : List ℕ) (k i : ℕ) → k < FILE_WORDS → i / 64 ≡ k → has_bit (get_or words (place k) 0) (i % 64) ≡ set_at place words i
-place_shows place words k i low e = ap (λ x. has_bit (get_or words (place x) 0) (i % 64)) (sym e) ∙ ap (λ b. b && has_bit (get_or words (place (i / 64)) 0) (i % 64)) (sym (low_identity i k e low))
 
 -- ---- a word of memory
 

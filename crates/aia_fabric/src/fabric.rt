@@ -38,7 +38,7 @@ use std::marker::Model;
 /// devices, the G-stage records of virtual harts, and the count of notices.
 #[derive(Drop)]
 pub struct Fabric {
-    n: u32,
+    pub(crate) n: u32,
     pub(crate) imsic: Imsic,
     pub(crate) ram: Ram,
     pub(crate) vms: Vms,

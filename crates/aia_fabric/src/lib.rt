@@ -8,6 +8,7 @@ mod accesses;
 mod at;
 mod fabric;
 mod flights;
+mod from_memory;
 mod in_flight;
 pub mod laws;
 mod making;

@@ -1,1 +1,4 @@
 pub mod SlotLemmas
+pub mod AccessLemmas
+pub mod SummaryLemmas
+pub mod ClaimLemmas

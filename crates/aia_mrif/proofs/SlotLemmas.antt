@@ -30,6 +30,13 @@ one_bit k low = shl_whole 1 1 k 64 (omega arith) (omega arith) ∙ once (2 ^ k)
 low_word : (i : ℕ) → nat_le i IDENTITIES ≡ true → i / 64 < FILE_WORDS
 low_word i e = let f : i ≤ IDENTITIES = grind (arith, nat_tests) in omega arith
 
+low_identity : (i k : ℕ) → i / 64 ≡ k → k < FILE_WORDS → nat_le i IDENTITIES ≡ true
+low_identity i k e low = grind (arith, nat_tests)
+
+-- what word k of it shows
+pub place_shows : (place : ℕ → ℕ) (words : List ℕ) (k i : ℕ) → k < FILE_WORDS → i / 64 ≡ k → has_bit (get_or words (place k) 0) (i % 64) ≡ set_at place words i
+place_shows place words k i low e = ap (λ x. has_bit (get_or words (place x) 0) (i % 64)) (sym e) ∙ ap (λ b. b && has_bit (get_or words (place (i / 64)) 0) (i % 64)) (sym (low_identity i k e low))
+
 under : (b x y : Bool) → (b ≡ true → x ≡ y) → (b && x) ≡ (b && y)
 under true x y e = e refl
 under false x y e = refl
@@ -63,7 +70,7 @@ pub slot_joined : (words new : List ℕ) (q k v : ℕ) → HasSlot words q → k
 slot_joined words new q k v there low e i = rw e (pending_joined words q k v i (omega (arith, there)) low)
 
 -- a store to it makes the identity pending that it names
-same_bits : (i j : ℕ) → j / 64 ≡ i / 64 → nat_eq (j % 64) (i % 64) ≡ nat_eq i j
+pub same_bits : (i j : ℕ) → j / 64 ≡ i / 64 → nat_eq (j % 64) (i % 64) ≡ nat_eq i j
 same_bits i j e =
     elim (cases_eq i j) [
       | inl p ↦ eq-eqb (j % 64) (i % 64) (ap (λ x. x % 64) (sym p)) ∙ sym (eq-eqb i j p)
@@ -102,7 +109,14 @@ landed words new q offset value there e =
       enabled = λ j. kept (enable_place q) words (pending_place q (i / 64)) _ j (λ k low p. omega (arith, p));
     }
 
--- ---- a word elsewhere
+-- ---- words elsewhere
+
+-- the MRIF is made of the slot's own words
+pub own_words : (old new : List ℕ) (q : ℕ) → ((place : ℕ) → 64 * q ≤ place → place < 64 * (q + 1) → get_or new place 0 ≡ get_or old place 0) → mrif_in new q ≡ mrif_in old q
+own_words old new q same = λ t. record {
+  pending = λ i. under (nat_le i IDENTITIES) _ _ (λ b. let low = low_word i b in ap (λ w. has_bit w (i % 64)) (same (pending_place q (i / 64)) (omega arith) (omega (arith, low)))) t;
+  enabled = λ i. under (nat_le i IDENTITIES) _ _ (λ b. let low = low_word i b in ap (λ w. has_bit w (i % 64)) (same (enable_place q (i / 64)) (omega arith) (omega (arith, low)))) t;
+}
 
 pub other_words : (words : List ℕ) (q place v : ℕ) → (place < 64 * q) ⊎ (64 * (q + 1) ≤ place) → mrif_in (set words place v) q ≡ mrif_in words q
 other_words words q place v apart = λ t. record {

@@ -1,2 +1,3 @@
 pub mod Mrif
 pub mod Words
+pub mod SlotFile

@@ -4,7 +4,9 @@
 //! AIA 1.0, IOMMU Support for MSIs to Virtual Machines, "Memory-resident interrupt files".
 #![tactic(auto)]
 
+mod access;
 pub mod laws;
 mod slot;
+mod view;
 
 pub use slot::{SlotMut, Stored, look};

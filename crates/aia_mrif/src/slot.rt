@@ -178,7 +178,7 @@ impl SlotMut<'_> {
 
 /// Gives the byte at which pending word `k`, below `FILE_WORDS`, of slot `q` begins; enable word
 /// `k` begins 8 bytes on.
-fn pair_at(q: u32, k: usize) -> usize
+pub(crate) fn pair_at(q: u32, k: usize) -> usize
     requires { k < FILE_WORDS }
     ensures { result ≡ 8 * pending_place q k }
 {
