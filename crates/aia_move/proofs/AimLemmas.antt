@@ -2,7 +2,7 @@
 use Rattle.std.proofs.Common.{◌≡◌, ◌≢◌, ℕ, ◌<◌, ◌≤◌, true, false, ◌&&◌, nat_lt, refl, sym, ap, ◌∙◌, subst, arith}
 use Rattle.std.proofs.lemmas.Bool.{eq-eqb, ne_eqb}
 use Rattle.aia_home.specs.Home.{Home, Progress, is_moving, one_more}
-use Rattle.aia_home.specs.Home.Home.{Parked, Resident, Leaving, Arriving, Shifting}
+use Rattle.aia_home.specs.Home.Home.{Parked, Entered, Resident, Leaving, Arriving, Shifting}
 use Rattle.aia_home.specs.Plans.{Access, steps_done, is_carried}
 use Rattle.aia_home.specs.Phases.{Phase, begins}
 use Rattle.aia_home.specs.Phases.Phase.{FirstPhase, ClosingPhase, DrainPhase, EnablePhase, LookPhase, LastPhase}
@@ -27,6 +27,7 @@ use Rattle.aia_move.proofs.PhaseSteps.{middle, begins_on}
 -- as many steps are done as before the first word is taken
 aims_at : (words passes : ℕ) (there : Home) → is_moving there ≡ true → steps_done there ≡ begins words there DrainPhase → is_aiming passes there ≡ nat_lt (aims_done there) passes
 aims_at words passes Parked moves e = absurd (cc)
+aims_at words passes Entered moves e = absurd (cc)
 aims_at words passes (Resident p) moves e = absurd (cc)
 aims_at words passes (Leaving from at) moves e = ap (λ b. b && nat_lt at.aims passes) (eq-eqb _ _ e)
 aims_at words passes (Arriving to at) moves e = ap (λ b. b && nat_lt at.aims passes) (eq-eqb _ _ e)
@@ -35,6 +36,7 @@ aims_at words passes (Shifting from to at) moves e = ap (λ b. b && nat_lt at.ai
 -- else none does
 none_aims : (words passes : ℕ) (there : Home) → (is_moving there ≡ true → steps_done there ≢ begins words there DrainPhase) → is_aiming passes there ≡ false
 none_aims words passes Parked other = refl
+none_aims words passes Entered other = refl
 none_aims words passes (Resident p) other = refl
 none_aims words passes (Leaving from at) other = ap (λ b. b && nat_lt at.aims passes) (ne_eqb _ _ (other refl))
 none_aims words passes (Arriving to at) other = ap (λ b. b && nat_lt at.aims passes) (ne_eqb _ _ (other refl))
@@ -56,6 +58,7 @@ in_look words m some is = none_aims words _ m.home (λ moves e. let mid = middle
 
 last_late : (words : ℕ) (there : Home) → is_moving there ≡ true → 1 ≤ words → begins words there DrainPhase < begins words there LastPhase
 last_late words Parked moves some = absurd (cc)
+last_late words Entered moves some = absurd (cc)
 last_late words (Resident p) moves some = absurd (cc)
 last_late words (Leaving from at) moves some = omega (arith, some)
 last_late words (Arriving to at) moves some = omega (arith, some)
@@ -89,6 +92,7 @@ phase_aims words (ShiftLast m) some is = in_last words m some is
 
 aimed_own : (there : Home) → own_file (aimed there) ≡ own_file there
 aimed_own Parked = refl
+aimed_own Entered = refl
 aimed_own (Resident p) = refl
 aimed_own (Leaving from at) = refl
 aimed_own (Arriving to at) = refl
@@ -96,6 +100,7 @@ aimed_own (Shifting from to at) = refl
 
 aimed_next : (there : Home) → next_file (aimed there) ≡ next_file there
 aimed_next Parked = refl
+aimed_next Entered = refl
 aimed_next (Resident p) = refl
 aimed_next (Leaving from at) = refl
 aimed_next (Arriving to at) = refl
@@ -103,6 +108,7 @@ aimed_next (Shifting from to at) = refl
 
 aimed_carried : (words : ℕ) (there : Home) (access : Access) → is_carried words (aimed there) access ≡ is_carried words there access
 aimed_carried words Parked access = refl
+aimed_carried words Entered access = refl
 aimed_carried words (Resident p) access = refl
 aimed_carried words (Leaving from at) access = refl
 aimed_carried words (Arriving to at) access = refl
@@ -136,6 +142,7 @@ in_drain words x moves some at none =
 
 still_moves : (there : Home) → is_moving there ≡ true → is_moving (one_more there) ≡ true
 still_moves Parked moves = moves
+still_moves Entered moves = moves
 still_moves (Resident p) moves = moves
 still_moves (Leaving from at) moves = refl
 still_moves (Arriving to at) moves = refl

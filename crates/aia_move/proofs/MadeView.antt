@@ -14,7 +14,7 @@ use Rattle.aia_mrif.specs.Mrif.{Mrif, pending_place, enable_place}
 use Rattle.aia_home.specs.declared.place.Place.{Place}
 use Rattle.aia_home.specs.Vms.{Vcpu, vcpu, is_vcpu_in, slot_of}
 use Rattle.aia_home.specs.Home.{Home, Progress, is_place}
-use Rattle.aia_home.specs.Home.Home.{Parked, Resident, Leaving, Arriving, Shifting}
+use Rattle.aia_home.specs.Home.Home.{Parked, Entered, Resident, Leaving, Arriving, Shifting}
 use Rattle.aia_home.specs.BySteps.{own_file, next_file, new_file}
 use Rattle.aia_home.specs.Plans.{Access, IsNext}
 use Rattle.aia_home.specs.Plans.Access.{TakeDelivery, PutDelivery, WriteNotice, WriteEntry, Fence, WriteStage, FenceStage, TakePending, PutPending, TakeEnables, PutEnables, Look, TakeThreshold, PutThreshold, Post}
@@ -257,6 +257,7 @@ made_by : (access : Access) (w u : World) (who : Who) (there : Home) (hand now :
     → Makes access (record { who = who; home = there; hand = hand }) w u → now ≡ hand_after access (record { who = who; home = there; hand = hand }) w
     → StepMade who.slot who.notice access there (view w (vcpu who.vm who.vcpu) there) hand (view u (vcpu who.vm who.vcpu) there) now
 made_by access w u who Parked hand now whole fits apart next makes c = let no : false ≡ true = next.has in absurd (cc)
+made_by access w u who Entered hand now whole fits apart next makes c = let no : false ≡ true = next.has in absurd (cc)
 made_by access w u who (Resident p) hand now whole fits apart next makes c = let no : false ≡ true = next.has in absurd (cc)
 made_by access w u who (Leaving from at) hand now whole fits apart next makes c = leave_made access w u who from at hand now whole fits next makes c
 made_by access w u who (Arriving to at) hand now whole fits apart next makes c = arrive_made access w u who to at hand now whole fits next makes c

@@ -10,7 +10,7 @@ use Rattle.aia_imsic.specs.Imsic.{ImsicState, IsThere}
 use Rattle.aia_home.specs.declared.place.Place.{Place}
 use Rattle.aia_home.specs.Home.{Home, Progress, is_moving, one_more, one_further}
 use Rattle.aia_home.specs.Plans.{is_at_last, Access, steps_done, has_access, IsNext, first_take, pending_step, enables_step}
-use Rattle.aia_home.specs.Home.Home.{Parked, Resident, Leaving, Arriving, Shifting}
+use Rattle.aia_home.specs.Home.Home.{Parked, Entered, Resident, Leaving, Arriving, Shifting}
 use Rattle.aia_home.specs.Plans.Access.{TakeDelivery, PutDelivery, WriteNotice, WriteEntry, Fence, WriteStage, FenceStage, TakePending, PutPending, TakeEnables, PutEnables, Look, TakeThreshold, PutThreshold, Post}
 use Rattle.aia_home.specs.Phases.{begins}
 use Rattle.aia_home.specs.Aims.{aims_done}
@@ -87,6 +87,7 @@ record IsSame (there : Home) : Type 0 where
 
 same_move : (words : ℕ) (there : Home) (access : Access) → has_access words there access ≡ true → IsSame there
 same_move words Parked access has = absurd (cc)
+same_move words Entered access has = absurd (cc)
 same_move words (Resident p) access has = absurd (cc)
 same_move words (Leaving from at) access has = record { steps = refl; own = refl; next = refl; first = refl }
 same_move words (Arriving to at) access has = record { steps = refl; own = refl; next = refl; first = refl }
@@ -153,6 +154,7 @@ seen_so w u m s t access seen fits next made is more zero =
 -- not the last one
 not_last : (words : ℕ) (there : Home) → steps_done there < enables_step words there words → is_at_last words there ≡ false
 not_last words Parked low = refl
+not_last words Entered low = refl
 not_last words (Resident p) low = refl
 not_last words (Leaving from at) low = ne_eqb _ _ (λ e. omega (arith, e, low))
 not_last words (Arriving to at) low = ne_eqb _ _ (λ e. omega (arith, e, low))
@@ -194,6 +196,7 @@ record CarriesSets (words : ℕ) (there : Home) : Type 0 where
 
 carries_sets : (words : ℕ) (there : Home) → is_moving there ≡ true → CarriesSets words there
 carries_sets words Parked moves = absurd (cc)
+carries_sets words Entered moves = absurd (cc)
 carries_sets words (Resident p) moves = absurd (cc)
 carries_sets words (Leaving from at) moves = record {
   take_pending = λ w low e. record { has = lt-ltb w words low; step = e };
@@ -242,6 +245,7 @@ enables_next words first there moves is from below =
 
 closing_next : (words first n : ℕ) (there : Home) → is_moving there ≡ true → n ≡ steps_done there → first ≡ begins words there ClosingPhase → first ≤ n → n < begins words there DrainPhase → IsNext words there (closing_access first n)
 closing_next words first n Parked moves at is from below = absurd (cc)
+closing_next words first n Entered moves at is from below = absurd (cc)
 closing_next words first n (Resident p) moves at is from below = absurd (cc)
 closing_next words first n (Leaving p progress) moves at is from below = elim (cases_eq n first) [
   | inl e ↦ rw (eq-eqb n first e) (record { has = refl; step = omega (arith, at, is, e) })
