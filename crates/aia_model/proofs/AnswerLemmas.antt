@@ -8,7 +8,7 @@ use Rattle.aia_regs.specs.declared.access.Op.{Op}
 use Rattle.aia_regs.specs.declared.access.Level.TheVariants as levels
 use Rattle.aia_csr.specs.Access.{access_of}
 use Rattle.aia_model.specs.declared.line.Line.{Line}
-use Rattle.aia_model.specs.declared.line.Line.TheVariants.{Machine, Wire, Load, Store, Send, Land, Refetch, MachineCsr, HostCsr, Hgeip, Pins, GuestCsr, Ipi, Arrive, Leave, Shift, BeginArrive, BeginLeave, BeginShift, Step, Inject, Hvictl, Hviprio}
+use Rattle.aia_model.specs.declared.line.Line.TheVariants.{Machine, Wire, Load, Store, Send, Land, Refetch, MachineCsr, HostCsr, Hgeip, Pins, GuestCsr, Ipi, Arrive, Leave, Shift, BeginArrive, BeginLeave, BeginShift, Step, Enter, Exit, Inject, Hvictl, Hviprio}
 use Rattle.aia_regs.specs.declared.limits.TheConstants.{STORES_IN_FLIGHT}
 use Rattle.aia_model.specs.Flight.{flight}
 use Rattle.aia_model.specs.declared.line.Line.TheVariants as lines
@@ -23,7 +23,7 @@ use Rattle.aia_entry.specs.Translation.{is_msi_address}
 use Rattle.aia_model.specs.Vms.{has_vm, has_vcpu, mask_of}
 use Rattle.aia_major.specs.VsMajor.{is_major, is_hvictl}
 use Rattle.aia_home.specs.Vms.{vcpu}
-use Rattle.aia_home.specs.Home.{is_moving, is_resident, is_parked}
+use Rattle.aia_home.specs.Home.{is_moving, is_resident, is_parked, is_entered, rests_in_memory, runs}
 use Rattle.aia_regs.specs.declared.limits.TheConstants.{PASSES}
 use Rattle.aia_model.specs.Act.{domain_at, register_at}
 use Rattle.aia_model.specs.Sent.{acts_of}
@@ -31,7 +31,7 @@ use Rattle.aia_model.specs.Passes.{passes_of, has_passes, is_passed}
 use Rattle.aia_model.specs.HomeOf.{home, free_file}
 use Rattle.aia_model.specs.GuestFile.{named_by}
 use Rattle.aia_model.specs.FileOf.{MachineFile, SupervisorFile, page_at, select_of}
-use Rattle.aia_model.specs.Refusal.{refusal, raises_illegal, raises_virtual, guest_access, faults, guards, is_machine_size, lacks_machine, is_vm_size, is_full}
+use Rattle.aia_model.specs.Refusal.{refusal, raises_illegal, raises_virtual, guest_access, faults, guards, is_machine_size, lacks_machine, is_vm_size, is_full, serves}
 use Rattle.aia_model.specs.Passable.{redirects, redirects_by, is_passable}
 use Rattle.aia_model.specs.Answer.{answer, after, accepted_answer, history_after}
 
@@ -153,17 +153,17 @@ no_file_refusal h hart = cond (is_none (free_file h (home h) hart)) (Some (Refus
 
 pub arrive_refusal : (h : History) (vm number hart : ℕ) → has_machine h ≡ true
     → refusal h (Arrive vm number hart) ≡ cond (not (has_vcpu h (vcpu vm number) && has_hart h hart)) (Some (Refused Range)) (cond (is_moving (home h (vcpu vm number))) (Some (Refused Busy))
-    (cond (is_resident (home h (vcpu vm number))) (Some (Refused words.Home)) (no_file_refusal h hart)))
+    (cond (is_resident (home h (vcpu vm number))) (Some (Refused words.Home)) (cond (is_entered (home h (vcpu vm number))) (Some (Refused words.Entered)) (no_file_refusal h hart))))
 arrive_refusal h vm number hart there = past_machine h _ there
 
 pub leave_refusal : (h : History) (vm number : ℕ) → has_machine h ≡ true
     → refusal h (Leave vm number) ≡ cond (not (has_vcpu h (vcpu vm number))) (Some (Refused Range)) (cond (is_moving (home h (vcpu vm number))) (Some (Refused Busy))
-    (cond (is_parked (home h (vcpu vm number))) (Some (Refused words.Parked)) None))
+    (cond (rests_in_memory (home h (vcpu vm number))) (Some (Refused words.Parked)) None))
 leave_refusal h vm number there = past_machine h _ there
 
 pub shift_refusal : (h : History) (vm number hart : ℕ) → has_machine h ≡ true
     → refusal h (Shift vm number hart) ≡ cond (not (has_vcpu h (vcpu vm number) && has_hart h hart)) (Some (Refused Range)) (cond (is_moving (home h (vcpu vm number))) (Some (Refused Busy))
-    (cond (is_parked (home h (vcpu vm number))) (Some (Refused words.Parked)) (no_file_refusal h hart)))
+    (cond (rests_in_memory (home h (vcpu vm number))) (Some (Refused words.Parked)) (no_file_refusal h hart)))
 shift_refusal h vm number hart there = past_machine h _ there
 
 -- the line that begins a move is refused as the line of the whole move
@@ -180,13 +180,22 @@ pub step_refusal : (h : History) (vm number : ℕ) → has_machine h ≡ true
     → refusal h (Step vm number) ≡ cond (not (has_vcpu h (vcpu vm number))) (Some (Refused Range)) (cond (not (is_moving (home h (vcpu vm number)))) (Some (Refused Idle)) None)
 step_refusal h vm number there = past_machine h _ there
 
+pub enter_refusal : (h : History) (vm number : ℕ) → has_machine h ≡ true
+    → refusal h (Enter vm number) ≡ cond (not (has_vcpu h (vcpu vm number))) (Some (Refused Range)) (cond (is_moving (home h (vcpu vm number))) (Some (Refused Busy))
+    (cond (is_resident (home h (vcpu vm number))) (Some (Refused words.Home)) (cond (is_entered (home h (vcpu vm number))) (Some (Refused words.Entered)) None)))
+enter_refusal h vm number there = past_machine h _ there
+
+pub exit_refusal : (h : History) (vm number : ℕ) → has_machine h ≡ true
+    → refusal h (Exit vm number) ≡ cond (not (has_vcpu h (vcpu vm number))) (Some (Refused Range)) (cond (not (is_entered (home h (vcpu vm number)))) (Some (Refused Idle)) None)
+exit_refusal h vm number there = past_machine h _ there
+
 pub guest_refusal : (h : History) (vm number : ℕ) (csr : Csr) (op : Op) → has_machine h ≡ true
-    → refusal h (GuestCsr vm number csr op) ≡ cond (not (has_vcpu h (vcpu vm number))) (Some (Refused Range)) (cond (not (is_resident (home h (vcpu vm number)))) (Some (Refused Away))
+    → refusal h (GuestCsr vm number csr op) ≡ cond (not (has_vcpu h (vcpu vm number))) (Some (Refused Range)) (cond (not (serves (home h (vcpu vm number)) csr)) (Some (Refused Away))
     (cond (raises_illegal (guest_access h (vcpu vm number) csr op)) (Some (Refused Illegal)) (cond (raises_virtual (guest_access h (vcpu vm number) csr op)) (Some (Refused Virtual)) None)))
 guest_refusal h vm number csr op there = past_machine h _ there
 
 pub ipi_refusal : (h : History) (vm number to value : ℕ) → has_machine h ≡ true
-    → refusal h (Ipi vm number to value) ≡ cond (not (has_vcpu h (vcpu vm number))) (Some (Refused Range)) (cond (not (is_resident (home h (vcpu vm number)))) (Some (Refused Away))
+    → refusal h (Ipi vm number to value) ≡ cond (not (has_vcpu h (vcpu vm number))) (Some (Refused Range)) (cond (not (runs (home h (vcpu vm number)))) (Some (Refused Away))
     (cond (not (has_vcpu h (vcpu vm to))) (Some (Refused GFault)) None))
 ipi_refusal h vm number to value there = past_machine h _ there
 

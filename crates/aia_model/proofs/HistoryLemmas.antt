@@ -3,11 +3,11 @@ use Rattle.std.proofs.Common.{◌≡◌, ℕ, zero, suc, ◌+◌, ◌-◌, ◌<�
 use Rattle.std.specs.Option.{option_map_or}
 use Rattle.std.proofs.lemmas.Bool.{cases_Bool, cases_eq, cases_lt, not-false, eqb-true, eq-eqb, ltb-true, ltb-false, lt-ltb, and_parts, and_from, cond-true, false≢true}
 use Rattle.aia_home.specs.Vms.{Vcpu, vcpu}
-use Rattle.aia_home.specs.Home.{Home, is_moving, is_resident, is_parked, leaving, arriving, shifting}
+use Rattle.aia_home.specs.Home.{Home, is_moving, is_resident, is_entered, rests_in_memory, leaving, arriving, shifting}
 use Rattle.aia_home.specs.Plans.{leave_steps, arrive_steps, shift_steps, leave_step, arrive_step, shift_step}
 use Rattle.aia_home.specs.Plans.Access.{TakePending}
 use Rattle.aia_home.specs.Aims.{AreAimed, further}
-use Rattle.aia_home.specs.Home.Home.{Parked, Resident, Leaving, Arriving, Shifting}
+use Rattle.aia_home.specs.Home.Home.{Parked, Entered, Resident, Leaving, Arriving, Shifting}
 use Rattle.aia_model.specs.declared.line.Line.{Line}
 use Rattle.aia_model.specs.declared.line.Line.TheVariants.{Machine, Arrive, Leave, Shift, BeginArrive, BeginLeave, BeginShift, Step, Send, Land}
 use Rattle.aia_model.specs.declared.answer.Answer.{Answer}
@@ -101,6 +101,7 @@ one_less passes words count (Shifting from to at) aimed e = elim (cases_Bool (na
   ]
 ]
 one_less passes words count Parked aimed e = absurd (omega (arith, e))
+one_less passes words count Entered aimed e = absurd (omega (arith, e))
 one_less passes words count (Resident p) aimed e = absurd (omega (arith, e))
 
 -- landings may happen, as many as there are stores in flight
@@ -132,27 +133,30 @@ steps_happen (suc count) g h there left good =
     let one = one_less (passes_for h g) (file_words h) count (home h g) (all_aimed_in h good g) left in
     steps_happen count g (step_taken g h) (there_still g g h there) (ap (λ n. steps_left n (file_words (landed_first g h)) (home (step_taken g h) g)) (passes_stepped g g h) ∙ ap (λ w. steps_left (passes_for h g) w (home (step_taken g h) g)) (words_first g h) ∙ ap (steps_left (passes_for h g) (file_words h)) (home_stepped g h) ∙ one.1) (step_happens g h there one.0 good)
 
-leave_left : (passes words : ℕ) (there : Home) → is_moving there ≡ false → is_parked there ≡ false → steps_left passes words (leaving there) ≡ leave_steps words + passes
+leave_left : (passes words : ℕ) (there : Home) → is_moving there ≡ false → rests_in_memory there ≡ false → steps_left passes words (leaving there) ≡ leave_steps words + passes
 leave_left passes words (Resident p) idle kept = omega arith
 leave_left passes words Parked idle kept = absurd (cc)
+leave_left passes words Entered idle kept = absurd (cc)
 leave_left passes words (Leaving from at) idle kept = absurd (cc)
 leave_left passes words (Arriving to at) idle kept = absurd (cc)
 leave_left passes words (Shifting from to at) idle kept = absurd (cc)
 
-arrive_left : (passes words hart : ℕ) (file : Option ℕ) (there : Home) → is_moving there ≡ false → is_resident there ≡ false → is_none file ≡ false
+arrive_left : (passes words hart : ℕ) (file : Option ℕ) (there : Home) → is_moving there ≡ false → is_resident there ≡ false → is_entered there ≡ false → is_none file ≡ false
     → steps_left passes words (option_map_or (λ f. arriving (place hart f) there) file there) ≡ arrive_steps words + passes
-arrive_left passes words hart None there idle away free = absurd (cc)
-arrive_left passes words hart (Some f) Parked idle away free = omega arith
-arrive_left passes words hart (Some f) (Resident p) idle away free = absurd (cc)
-arrive_left passes words hart (Some f) (Leaving from at) idle away free = absurd (cc)
-arrive_left passes words hart (Some f) (Arriving to at) idle away free = absurd (cc)
-arrive_left passes words hart (Some f) (Shifting from to at) idle away free = absurd (cc)
+arrive_left passes words hart None there idle away waits free = absurd (cc)
+arrive_left passes words hart (Some f) Parked idle away waits free = omega arith
+arrive_left passes words hart (Some f) Entered idle away waits free = absurd (cc)
+arrive_left passes words hart (Some f) (Resident p) idle away waits free = absurd (cc)
+arrive_left passes words hart (Some f) (Leaving from at) idle away waits free = absurd (cc)
+arrive_left passes words hart (Some f) (Arriving to at) idle away waits free = absurd (cc)
+arrive_left passes words hart (Some f) (Shifting from to at) idle away waits free = absurd (cc)
 
-shift_left : (passes words hart : ℕ) (file : Option ℕ) (there : Home) → is_moving there ≡ false → is_parked there ≡ false → is_none file ≡ false
+shift_left : (passes words hart : ℕ) (file : Option ℕ) (there : Home) → is_moving there ≡ false → rests_in_memory there ≡ false → is_none file ≡ false
     → steps_left passes words (option_map_or (λ f. shifting (place hart f) there) file there) ≡ shift_steps words + passes
 shift_left passes words hart None there idle kept free = absurd (cc)
 shift_left passes words hart (Some f) (Resident p) idle kept free = omega arith
 shift_left passes words hart (Some f) Parked idle kept free = absurd (cc)
+shift_left passes words hart (Some f) Entered idle kept free = absurd (cc)
 shift_left passes words hart (Some f) (Leaving from at) idle kept free = absurd (cc)
 shift_left passes words hart (Some f) (Arriving to at) idle kept free = absurd (cc)
 shift_left passes words hart (Some f) (Shifting from to at) idle kept free = absurd (cc)
@@ -162,7 +166,7 @@ unfolding passes_of
 arrive_happens h g hart e good =
     let may = arrive_allowed h g.vm g.number hart e in
     steps_happen (arrive_steps (file_words h) + passes_for h g) g (Began (Arrives g hart) ∷ h) may.0
-    (ap (steps_left (passes_for h g) (file_words h)) (home_step (Began (Arrives g hart)) h g ∙ cond-true _ _ _ (is_itself g)) ∙ arrive_left (passes_for h g) (file_words h) hart (free_file h (home h) hart) (home h g) may.1 may.2 may.3)
+    (ap (steps_left (passes_for h g) (file_words h)) (home_step (Began (Arrives g hart)) h g ∙ cond-true _ _ _ (is_itself g)) ∙ arrive_left (passes_for h g) (file_words h) hart (free_file h (home h) hart) (home h g) may.1 may.2 may.5 may.3)
     ((may.0, may.1, may.4), good)
 
 leave_happens : (h : History) (g : Vcpu) → refusal h (Leave g.vm g.number) ≡ None → IsHistory h → IsHistory (whole_move h (Leaves g))
@@ -293,6 +297,7 @@ flying_closed h vm k s good e closed = elim (all_at (MayFly h vm) k (flight h vm
 rest_reach : (there : Home) (into : Option Place) → is_moving there ≡ false → MayReach there into → into ≡ origin there
 rest_reach there into rests (inl old) = old.0
 rest_reach Parked into rests (inr new) = absurd (cc)
+rest_reach Entered into rests (inr new) = absurd (cc)
 rest_reach (Resident p) into rests (inr new) = absurd (cc)
 rest_reach (Leaving from at) into rests (inr new) = absurd (cc)
 rest_reach (Arriving to at) into rests (inr new) = absurd (cc)

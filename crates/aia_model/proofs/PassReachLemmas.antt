@@ -5,7 +5,7 @@ use Rattle.std.proofs.lemmas.Bool.{cases_Bool, or_right, cond-false}
 use Rattle.std.proofs.lemmas.Bool.Decides.{nat_tests}
 use Rattle.aia_home.specs.declared.place.Place.{Place}
 use Rattle.aia_home.specs.Home.{Home, is_place, holds, ended, one_more, leaving, arriving, shifting}
-use Rattle.aia_home.specs.Home.Home.{Parked, Resident, Leaving, Arriving, Shifting}
+use Rattle.aia_home.specs.Home.Home.{Parked, Entered, Resident, Leaving, Arriving, Shifting}
 use Rattle.aia_home.specs.Plans.{is_at_last, stepped}
 use Rattle.aia_home.specs.BySteps.{new_file}
 use Rattle.aia_home.specs.Routes.{origin}
@@ -20,6 +20,7 @@ none_below r = grind (arith, nat_tests)
 
 pub leaving_passes : (r : ℕ) (there : Home) → pass_reaches r (leaving there) ≡ pass_reaches r there
 leaving_passes r Parked = refl
+leaving_passes r Entered = refl
 leaving_passes r (Resident p) = refl
 leaving_passes r (Leaving from at) = refl
 leaving_passes r (Arriving to at) = refl
@@ -27,6 +28,7 @@ leaving_passes r (Shifting from to at) = refl
 
 pub arriving_passes : (r : ℕ) (q : Place) (there : Home) → pass_reaches r (arriving q there) ≡ pass_reaches r there
 arriving_passes r q Parked = rw (none_below r) refl
+arriving_passes r q Entered = refl
 arriving_passes r q (Resident p) = refl
 arriving_passes r q (Leaving from at) = refl
 arriving_passes r q (Arriving to at) = refl
@@ -34,6 +36,7 @@ arriving_passes r q (Shifting from to at) = refl
 
 pub shifting_passes : (r : ℕ) (q : Place) (there : Home) → pass_reaches r (shifting q there) ≡ pass_reaches r there
 shifting_passes r q Parked = refl
+shifting_passes r q Entered = refl
 shifting_passes r q (Resident p) = rw (none_below r) refl
 shifting_passes r q (Leaving from at) = refl
 shifting_passes r q (Arriving to at) = refl
@@ -51,6 +54,7 @@ shifts_passes r hart (Some f) there = shifting_passes r (place hart f) there
 
 one_more_passes : (r : ℕ) (there : Home) → pass_reaches r (one_more there) ≡ pass_reaches r there
 one_more_passes r Parked = refl
+one_more_passes r Entered = refl
 one_more_passes r (Resident p) = refl
 one_more_passes r (Leaving from at) = refl
 one_more_passes r (Arriving to at) = refl
@@ -59,6 +63,7 @@ one_more_passes r (Shifting from to at) = refl
 -- at the last step all are aimed
 ended_passes : (passes words r : ℕ) (there : Home) → nat_lt r passes ≡ true → AreAimed passes there → is_at_last words there ≡ true → pass_reaches r (ended there) ≡ pass_reaches r there
 ended_passes passes words r Parked below a last = absurd (cc)
+ended_passes passes words r Entered below a last = absurd (cc)
 ended_passes passes words r (Resident p) below a last = absurd (cc)
 ended_passes passes words r (Leaving from at) below a last = let all = a.all (grind (arith, nat_tests)) in let e : nat_lt r at.aims ≡ true = grind (arith, nat_tests) in rw (e, none_below r) refl
 ended_passes passes words r (Arriving to at) below a last = let all = a.all (grind (arith, nat_tests)) in let e : nat_lt r at.aims ≡ true = grind (arith, nat_tests) in rw (e, none_below r) refl
@@ -84,6 +89,7 @@ aims_on r a other = elim (cases_Bool (nat_lt r a)) [
 
 pub aimed_other : (r : ℕ) (there : Home) → nat_eq r (aims_done there) ≡ false → pass_reaches r (aimed there) ≡ pass_reaches r there
 aimed_other r Parked other = refl
+aimed_other r Entered other = refl
 aimed_other r (Resident p) other = refl
 aimed_other r (Leaving from at) other = ap (λ b. if b then None else Some from) (aims_on r at.aims other)
 aimed_other r (Arriving to at) other = ap (λ b. if b then Some to else None) (aims_on r at.aims other)
@@ -100,7 +106,9 @@ reach_is_held r there q e = by_test (nat_lt r (aims_done there)) there e
 
     by_test : (b : Bool) (there : Home) → (if b then new_file there else origin there) ≡ Some q → holds q there ≡ true
     by_test true Parked e = absurd (cc)
+    by_test true Entered e = absurd (cc)
     by_test false Parked e = absurd (cc)
+    by_test false Entered e = absurd (cc)
     by_test true (Resident p) e = absurd (cc)
     by_test false (Resident p) e = some_same p q e
     by_test true (Leaving from at) e = absurd (cc)

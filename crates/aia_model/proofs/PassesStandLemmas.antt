@@ -12,12 +12,12 @@ use Rattle.aia_word.specs.Sets.{least_of}
 use Rattle.aia_word.proofs.LeastLemmas.{least_of-found, least_of_is, least_of_is_none}
 use Rattle.aia_home.specs.Vms.{Vcpu, vcpu, is_vcpu, notice_hart}
 use Rattle.aia_home.specs.Home.{Home, is_moving}
-use Rattle.aia_home.specs.Home.Home.{Parked, Resident, Leaving, Arriving, Shifting}
+use Rattle.aia_home.specs.Home.Home.{Parked, Entered, Resident, Leaving, Arriving, Shifting}
 use Rattle.aia_home.specs.BySteps.{new_file, is_drained}
 use Rattle.aia_home.proofs.PassLemmas.{pass_drained}
 use Rattle.aia_home.specs.Aims.{is_aiming, aims_done, aimed, further, pass_reaches, target_to}
 use Rattle.aia_model.specs.declared.line.Line.{Line}
-use Rattle.aia_model.specs.declared.line.Line.TheVariants.{Machine, Wire, Load, Store}
+use Rattle.aia_model.specs.declared.line.Line.TheVariants.{Machine, Wire, Load, Store, Enter, Exit}
 use Rattle.aia_model.specs.declared.line.Line.TheVariants as lines
 use Rattle.aia_model.specs.declared.domain_name.DomainName.{DomainName}
 use Rattle.aia_model.specs.declared.domain_name.DomainName.TheVariants.{Child}
@@ -40,6 +40,7 @@ use Rattle.aia_model.proofs.RefusalLemmas.{machine_allowed, pass_allowed, store_
 use Rattle.aia_model.proofs.MoveLemmas.{same_vcpu, is_itself}
 use Rattle.aia_model.proofs.FlightLemmas.{stays_there}
 use Rattle.aia_model.proofs.PassLemmas.{none_passed, aimed_on, rank_below}
+use Rattle.aia_model.proofs.ReachLemmas.{enter_keeps, exit_keeps}
 use Rattle.aia_model.proofs.PassReachLemmas.{leaving_passes, arrives_passes, shifts_passes, further_passes, aimed_other}
 use Rattle.aia_model.proofs.OwnPassLemmas.{own_is, rank_is}
 use Rattle.aia_model.proofs.TargetLemmas.{passed_stays, aim_gives, sent_stays, store_leaves, another}
@@ -223,25 +224,38 @@ stored_aimed h p addr value None at free passed a = a
 stored_aimed h p addr value (Some d) at free passed a = aimed_left h p (acts_of h) (Written d (register_at addr) value) (store_leaves h addr value (nth_pass h p).source d passed free at) a
 
 -- the history of an accepted line has the same passes, at the same places
-same_aimed : (h : History) (line : Line) (p : ℕ) (past : Past) → passes_of (Accepted line ∷ h) ≡ passes_of h → notice_hart (vms_of (Accepted line ∷ h)) (nth_pass h p).to ≡ notice_hart (vms_of h) (nth_pass h p).to → IsAimedIn h p past → IsAimedIn (Accepted line ∷ h) p past
-unfolding home
-same_aimed h line p past same notice a = record {
+same_aimed : (h : History) (line : Line) (p : ℕ) (past : Past) → passes_of (Accepted line ∷ h) ≡ passes_of h → notice_hart (vms_of (Accepted line ∷ h)) (nth_pass h p).to ≡ notice_hart (vms_of h) (nth_pass h p).to
+    → ((g : Vcpu) → home (Accepted line ∷ h) g ≡ home h g) → IsAimedIn h p past → IsAimedIn (Accepted line ∷ h) p past
+same_aimed h line p past same notice homes a = record {
   passable = subst (λ xs. is_passable past (slice_index_or xs p no_pass).source ≡ true) (sym same) a.passable;
-  target = subst (λ xs. IsTarget xs (notice_hart (vms_of (Accepted line ∷ h)) (slice_index_or xs p no_pass).to)) (sym same) (subst (IsTarget (passes_of h)) (sym notice) a.target);
+  target = subst (λ xs. IsTarget xs (notice_hart (vms_of (Accepted line ∷ h)) (slice_index_or xs p no_pass).to)) (sym same) (subst (IsTarget (passes_of h)) (sym notice) at);
 }
   where
+    at : target past Child (nth_pass h p).source ≡ target_for h p (nth_pass h p).to (nth_pass h p).identity (pass_reaches (rank_of h p) (home (Accepted line ∷ h) (nth_pass h p).to))
+    at = a.target ∙ ap (λ there. target_for h p (nth_pass h p).to (nth_pass h p).identity (pass_reaches (rank_of h p) there)) (sym (homes (nth_pass h p).to))
+
     IsTarget : List Pass → ℕ → Type 0
-    IsTarget xs hart = target past Child (slice_index_or xs p no_pass).source ≡ target_to hart p (slice_index_or xs p no_pass).identity (pass_reaches (passes_to (slice_index_or xs p no_pass).to (take p xs)) (home h (slice_index_or xs p no_pass).to))
+    IsTarget xs hart = target past Child (slice_index_or xs p no_pass).source ≡ target_to hart p (slice_index_or xs p no_pass).identity (pass_reaches (passes_to (slice_index_or xs p no_pass).to (take p xs)) (home (Accepted line ∷ h) (slice_index_or xs p no_pass).to))
+
+-- one that enters or exits leaves where its passes lead
+ran_passes : (h : History) (vm number p : ℕ) → (pass_reach (Accepted (Enter vm number) ∷ h) p ≡ pass_reach h p) × (pass_reach (Accepted (Exit vm number) ∷ h) p ≡ pass_reach h p)
+unfolding passes_of
+ran_passes h vm number p = (
+  enter_keeps (λ there. pass_reaches (rank_of h p) there ≡ pass_reach h p) (λ e. e) vm number h (nth_pass h p).to refl,
+  exit_keeps (λ there. pass_reaches (rank_of h p) there ≡ pass_reach h p) (λ e. e) vm number h (nth_pass h p).to refl,
+)
 
 pub line_aimed : (h : History) (line : Line) (p : ℕ) → refusal h line ≡ None → AllPassesStand h → p < length (passes_of (Accepted line ∷ h)) → IsAimedIn (Accepted line ∷ h) p (acts_by h line)
-unfolding passes_of
+unfolding passes_of home
 line_aimed h (lines.Pass source vm number identity) p may all low = more_aimed h source vm number identity p (pass_allowed h source vm number identity may) all low
 line_aimed h (Machine harts guests n sources) p may all low = absurd (none_without h p (machine_allowed h harts guests n sources may).0 (all.pass p low))
-line_aimed h (lines.Vm vcpus mask hart) p may all low = let s = all.pass p low in same_aimed h (lines.Vm vcpus mask hart) p (acts_of h) refl (stays_there (Accepted (lines.Vm vcpus mask hart)) h (nth_pass h p).to s.there).2 (aimed_of h p s)
-line_aimed h (Wire source level) p may all low = same_aimed h (Wire source level) p _ refl refl (aimed_left h p (acts_of h) (Driven source level) tt (aimed_of h p (all.pass p low)))
-line_aimed h (Load addr) p may all low = same_aimed h (Load addr) p _ refl refl (loaded_aimed h p (domain_at addr) addr (aimed_of h p (all.pass p low)))
-line_aimed h (Store addr value) p may all low = let s = all.pass p low in same_aimed h (Store addr value) p _ refl refl (stored_aimed h p addr value (domain_at addr) refl (store_allowed h addr value may) (passed_already h p s.known) (aimed_of h p s))
-line_aimed h line p may all low = same_aimed h line p (acts_of h) refl refl (aimed_of h p (all.pass p low))
+line_aimed h (lines.Vm vcpus mask hart) p may all low = let s = all.pass p low in same_aimed h (lines.Vm vcpus mask hart) p (acts_of h) refl (stays_there (Accepted (lines.Vm vcpus mask hart)) h (nth_pass h p).to s.there).2 (λ g. refl) (aimed_of h p s)
+line_aimed h (Wire source level) p may all low = same_aimed h (Wire source level) p _ refl refl (λ g. refl) (aimed_left h p (acts_of h) (Driven source level) tt (aimed_of h p (all.pass p low)))
+line_aimed h (Load addr) p may all low = same_aimed h (Load addr) p _ refl refl (λ g. refl) (loaded_aimed h p (domain_at addr) addr (aimed_of h p (all.pass p low)))
+line_aimed h (Store addr value) p may all low = let s = all.pass p low in same_aimed h (Store addr value) p _ refl refl (λ g. refl) (stored_aimed h p addr value (domain_at addr) refl (store_allowed h addr value may) (passed_already h p s.known) (aimed_of h p s))
+line_aimed h (Enter vm number) p may all low = let a = aimed_of h p (all.pass p low) in record { passable = a.passable; target = a.target ∙ ap (target_for h p (nth_pass h p).to (nth_pass h p).identity) (sym (ran_passes h vm number p).0) }
+line_aimed h (Exit vm number) p may all low = let a = aimed_of h p (all.pass p low) in record { passable = a.passable; target = a.target ∙ ap (target_for h p (nth_pass h p).to (nth_pass h p).identity) (sym (ran_passes h vm number p).1) }
+line_aimed h line p may all low = same_aimed h line p (acts_of h) refl refl (λ g. refl) (aimed_of h p (all.pass p low))
 
 -- ---- where it is aimed: by moves
 
@@ -386,6 +400,7 @@ passes_stand (event ∷ h) good = let all = passes_stand h good.1 in record {
 -- once a word is taken each leads to the new place
 drained_moves : (words w : ℕ) (there : Home) → is_drained words there w ≡ true → is_moving there ≡ true
 drained_moves words w Parked e = let no : false ≡ true = grind (arith, nat_tests) in absurd (false≢true no)
+drained_moves words w Entered e = let no : false ≡ true = grind (arith, nat_tests) in absurd (false≢true no)
 drained_moves words w (Resident p) e = let no : false ≡ true = grind (arith, nat_tests) in absurd (false≢true no)
 drained_moves words w (Leaving from at) e = refl
 drained_moves words w (Arriving to at) e = refl

@@ -13,11 +13,11 @@ use Rattle.aia_home.specs.declared.place.Place.{Place}
 use Rattle.aia_home.specs.declared.vm.Vm.{Vm}
 use Rattle.aia_home.specs.Vms.{Vcpu, vm_in, notice_hart, is_vcpu}
 use Rattle.aia_home.specs.Home.{Home, is_place, holds, ended, one_more, leaving, arriving, shifting}
-use Rattle.aia_home.specs.Home.Home.{Parked, Resident, Leaving, Arriving, Shifting}
+use Rattle.aia_home.specs.Home.Home.{Parked, Entered, Resident, Leaving, Arriving, Shifting}
 use Rattle.aia_home.specs.Plans.{is_at_last}
 use Rattle.aia_home.specs.Aims.{is_aiming, aimed, further}
 use Rattle.aia_home.proofs.HomeLemmas.{same_place}
-use Rattle.aia_model.specs.declared.line.Line.TheVariants.{Machine}
+use Rattle.aia_model.specs.declared.line.Line.TheVariants.{Machine, Enter, Exit}
 use Rattle.aia_model.specs.declared.line.Line.TheVariants as lines
 use Rattle.aia_model.specs.Move.Move.{Arrives, Leaves, Shifts}
 use Rattle.aia_model.specs.Event.{Event, History, has_machine, harts_of, guests_of, has_hart, greatest_identity_of, file_words}
@@ -29,6 +29,7 @@ use Rattle.aia_model.specs.Passes.{passes_of, passes_for}
 use Rattle.aia_model.specs.HomeOf.{home, free_file, place}
 use Rattle.aia_model.specs.Refusal.{is_machine_size}
 use Rattle.aia_model.specs.Histories.{IsHistory}
+use Rattle.aia_model.proofs.ReachLemmas.{enter_keeps, exit_keeps}
 use Rattle.aia_model.proofs.RefusalLemmas.{machine_stands, machine_allowed, notice_hart_allowed}
 use Rattle.aia_model.proofs.FlightLemmas.{all_append}
 
@@ -125,6 +126,7 @@ AllHeld h there = (q : Place) → holds q there ≡ true → IsPlaceOf h q
 
 leaving_held : (h : History) (there : Home) → AllHeld h there → AllHeld h (leaving there)
 leaving_held h Parked m = m
+leaving_held h Entered m = m
 leaving_held h (Resident p) m = m
 leaving_held h (Leaving from at) m = m
 leaving_held h (Arriving to at) m = m
@@ -132,6 +134,7 @@ leaving_held h (Shifting from to at) m = m
 
 arriving_held : (h : History) (to : Place) (there : Home) → IsPlaceOf h to → AllHeld h there → AllHeld h (arriving to there)
 arriving_held h to Parked one m = λ q e. subst (IsPlaceOf h) (sym (same_place q to e)) one
+arriving_held h to Entered one m = m
 arriving_held h to (Resident p) one m = m
 arriving_held h to (Leaving from at) one m = m
 arriving_held h to (Arriving p at) one m = m
@@ -139,6 +142,7 @@ arriving_held h to (Shifting from p at) one m = m
 
 shifting_held : (h : History) (to : Place) (there : Home) → IsPlaceOf h to → AllHeld h there → AllHeld h (shifting to there)
 shifting_held h to Parked one m = m
+shifting_held h to Entered one m = m
 shifting_held h to (Resident p) one m = λ q e. elim (or_cases (is_place q p) (is_place q to) e) [
   | inl old ↦ m q old
   | inr new ↦ subst (IsPlaceOf h) (sym (same_place q to new)) one
@@ -153,6 +157,7 @@ same_held event h there harts guests m = λ q e. let one = m q e in record { har
 -- a move holds no more from step to step
 aimed_holds : (q : Place) (there : Home) → holds q (aimed there) ≡ true → holds q there ≡ true
 aimed_holds q Parked e = e
+aimed_holds q Entered e = e
 aimed_holds q (Resident p) e = e
 aimed_holds q (Leaving from at) e = e
 aimed_holds q (Arriving to at) e = e
@@ -160,6 +165,7 @@ aimed_holds q (Shifting from to at) e = e
 
 one_more_holds : (q : Place) (there : Home) → holds q (one_more there) ≡ true → holds q there ≡ true
 one_more_holds q Parked e = e
+one_more_holds q Entered e = e
 one_more_holds q (Resident p) e = e
 one_more_holds q (Leaving from at) e = e
 one_more_holds q (Arriving to at) e = e
@@ -167,6 +173,7 @@ one_more_holds q (Shifting from to at) e = e
 
 ended_holds : (q : Place) (there : Home) → holds q (ended there) ≡ true → holds q there ≡ true
 ended_holds q Parked e = e
+ended_holds q Entered e = e
 ended_holds q (Resident p) e = e
 ended_holds q (Leaving from at) e = absurd (false≢true e)
 ended_holds q (Arriving to at) e = e
@@ -196,6 +203,8 @@ unfolding home
 all_held [] g good = λ q e. absurd (false≢true e)
 all_held (Accepted (Machine harts guests n sources) ∷ h) g good = λ q e.
     absurd (false≢true (sym (none_held g q) ∙ ap (λ x. holds q (home x g)) (sym (machine_first h good.1 (machine_allowed h harts guests n sources good.0).0)) ∙ e))
+all_held (Accepted (Enter vm number) ∷ h) g good = same_held (Accepted (Enter vm number)) h (home (Accepted (Enter vm number) ∷ h) g) refl refl (enter_keeps (AllHeld h) (λ m. m) vm number h g (all_held h g good.1))
+all_held (Accepted (Exit vm number) ∷ h) g good = same_held (Accepted (Exit vm number)) h (home (Accepted (Exit vm number) ∷ h) g) refl refl (exit_keeps (AllHeld h) (λ m. m) vm number h g (all_held h g good.1))
 all_held (Accepted line ∷ h) g good = same_held (Accepted line) h (home h g) refl refl (all_held h g good.1)
 all_held (Delivered msi ∷ h) g good = same_held (Delivered msi) h (home h g) refl refl (all_held h g good.1)
 all_held (Landed vm k ∷ h) g good = same_held (Landed vm k) h (home h g) refl refl (all_held h g good.1)

@@ -5,9 +5,9 @@ use Rattle.aia_regs.specs.declared.limits.TheConstants.{VCPUS, PASSES}
 use Rattle.aia_regs.specs.declared.access.Csr.{Csr}
 use Rattle.aia_regs.specs.declared.access.Op.{Op}
 use Rattle.aia_home.specs.Vms.{vcpu, vcpus_in}
-use Rattle.aia_home.specs.Home.{is_moving, is_resident, is_parked}
+use Rattle.aia_home.specs.Home.{is_moving, is_resident, is_entered, runs, rests_in_memory}
 use Rattle.aia_model.specs.declared.line.Line.{Line}
-use Rattle.aia_model.specs.declared.line.Line.TheVariants.{Send, Land, Machine, GuestCsr, Ipi, Arrive, Leave, Shift, Step}
+use Rattle.aia_model.specs.declared.line.Line.TheVariants.{Send, Land, Machine, GuestCsr, Ipi, Arrive, Leave, Shift, Step, Enter, Exit}
 use Rattle.aia_model.specs.declared.line.Line.TheVariants as lines
 use Rattle.aia_model.specs.declared.answer.Answer.{Answer}
 use Rattle.aia_model.specs.Event.{History, has_machine, has_hart, greatest_identity_of, sources_of}
@@ -20,7 +20,7 @@ use Rattle.aia_model.specs.Vms.{vms_of, has_vm, has_vcpu}
 use Rattle.aia_model.specs.HomeOf.{home, free_file}
 use Rattle.aia_model.specs.GuestFile.{named_by}
 use Rattle.aia_model.specs.Flight.{flight}
-use Rattle.aia_model.specs.Refusal.{refusal, guards, is_fault, lacks_machine, is_machine_size, is_vm_size, lacks_room}
+use Rattle.aia_model.specs.Refusal.{refusal, serves, guards, is_fault, lacks_machine, is_machine_size, is_vm_size, lacks_room}
 
 -- a word that does not refuse is passed: its cell does not hold, and no later word refuses
 passed : (cell : Bool) (word : Answer) (later : Option Answer) → cond cell (Some word) later ≡ None → (cell ≡ false) × (later ≡ None)
@@ -87,32 +87,33 @@ store_allowed h addr value e =
     (or_parts (guards (page_at h addr) addr) (redirects h addr value) free.0).1
 
 pub arrive_allowed : (h : History) (vm number hart : ℕ) → refusal h (Arrive vm number hart) ≡ None
-    → (has_vcpu h (vcpu vm number) ≡ true) × (is_moving (home h (vcpu vm number)) ≡ false) × (is_resident (home h (vcpu vm number)) ≡ false) × (is_none (free_file h (home h) hart) ≡ false) × (has_hart h hart ≡ true)
+    → (has_vcpu h (vcpu vm number) ≡ true) × (is_moving (home h (vcpu vm number)) ≡ false) × (is_resident (home h (vcpu vm number)) ≡ false) × (is_none (free_file h (home h) hart) ≡ false) × (has_hart h hart ≡ true) × (is_entered (home h (vcpu vm number)) ≡ false)
 arrive_allowed h vm number hart e =
     let stands = passed (not (has_machine h)) _ _ e in
     let there = passed (not (has_vcpu h (vcpu vm number) && has_hart h hart)) _ _ stands.1 in
     let idle = passed (is_moving (home h (vcpu vm number))) _ _ there.1 in
     let away = passed (is_resident (home h (vcpu vm number))) _ _ idle.1 in
-    let free = passed (is_none (free_file h (home h) hart)) _ _ away.1 in
+    let waits = passed (is_entered (home h (vcpu vm number))) _ _ away.1 in
+    let free = passed (is_none (free_file h (home h) hart)) _ _ waits.1 in
     let both = and_parts (has_vcpu h (vcpu vm number)) (has_hart h hart) (not-false _ there.0) in
-    (both.0, idle.0, away.0, free.0, both.1)
+    (both.0, idle.0, away.0, free.0, both.1, waits.0)
 
 pub leave_allowed : (h : History) (vm number : ℕ) → refusal h (Leave vm number) ≡ None
-    → (has_vcpu h (vcpu vm number) ≡ true) × (is_moving (home h (vcpu vm number)) ≡ false) × (is_parked (home h (vcpu vm number)) ≡ false)
+    → (has_vcpu h (vcpu vm number) ≡ true) × (is_moving (home h (vcpu vm number)) ≡ false) × (rests_in_memory (home h (vcpu vm number)) ≡ false)
 leave_allowed h vm number e =
     let stands = passed (not (has_machine h)) _ _ e in
     let there = passed (not (has_vcpu h (vcpu vm number))) _ _ stands.1 in
     let idle = passed (is_moving (home h (vcpu vm number))) _ _ there.1 in
-    let kept = passed (is_parked (home h (vcpu vm number))) _ _ idle.1 in
+    let kept = passed (rests_in_memory (home h (vcpu vm number))) _ _ idle.1 in
     (not-false _ there.0, idle.0, kept.0)
 
 pub shift_allowed : (h : History) (vm number hart : ℕ) → refusal h (Shift vm number hart) ≡ None
-    → (has_vcpu h (vcpu vm number) ≡ true) × (is_moving (home h (vcpu vm number)) ≡ false) × (is_parked (home h (vcpu vm number)) ≡ false) × (is_none (free_file h (home h) hart) ≡ false) × (has_hart h hart ≡ true)
+    → (has_vcpu h (vcpu vm number) ≡ true) × (is_moving (home h (vcpu vm number)) ≡ false) × (rests_in_memory (home h (vcpu vm number)) ≡ false) × (is_none (free_file h (home h) hart) ≡ false) × (has_hart h hart ≡ true)
 shift_allowed h vm number hart e =
     let stands = passed (not (has_machine h)) _ _ e in
     let there = passed (not (has_vcpu h (vcpu vm number) && has_hart h hart)) _ _ stands.1 in
     let idle = passed (is_moving (home h (vcpu vm number))) _ _ there.1 in
-    let kept = passed (is_parked (home h (vcpu vm number))) _ _ idle.1 in
+    let kept = passed (rests_in_memory (home h (vcpu vm number))) _ _ idle.1 in
     let free = passed (is_none (free_file h (home h) hart)) _ _ kept.1 in
     let both = and_parts (has_vcpu h (vcpu vm number)) (has_hart h hart) (not-false _ there.0) in
     (both.0, idle.0, kept.0, free.0, both.1)
@@ -123,11 +124,27 @@ step_allowed h vm number e =
     let there = passed (not (has_vcpu h (vcpu vm number))) _ _ stands.1 in
     (not-false _ there.0, not-false _ (passed (not (is_moving (home h (vcpu vm number)))) _ _ there.1).0)
 
-pub access_allowed : (h : History) (vm number : ℕ) (csr : Csr) (op : Op) → refusal h (GuestCsr vm number csr op) ≡ None → is_resident (home h (vcpu vm number)) ≡ true
+pub access_allowed : (h : History) (vm number : ℕ) (csr : Csr) (op : Op) → refusal h (GuestCsr vm number csr op) ≡ None → serves (home h (vcpu vm number)) csr ≡ true
 access_allowed h vm number csr op e =
     let stands = passed (not (has_machine h)) _ _ e in
     let there = passed (not (has_vcpu h (vcpu vm number))) _ _ stands.1 in
-    not-false _ (passed (not (is_resident (home h (vcpu vm number)))) _ _ there.1).0
+    not-false _ (passed (not (serves (home h (vcpu vm number)) csr)) _ _ there.1).0
+
+-- one that enters is parked, and one that exits has entered
+pub enter_allowed : (h : History) (vm number : ℕ) → refusal h (Enter vm number) ≡ None
+    → (has_vcpu h (vcpu vm number) ≡ true) × (is_moving (home h (vcpu vm number)) ≡ false) × (is_resident (home h (vcpu vm number)) ≡ false) × (is_entered (home h (vcpu vm number)) ≡ false)
+enter_allowed h vm number e =
+    let stands = passed (not (has_machine h)) _ _ e in
+    let there = passed (not (has_vcpu h (vcpu vm number))) _ _ stands.1 in
+    let idle = passed (is_moving (home h (vcpu vm number))) _ _ there.1 in
+    let away = passed (is_resident (home h (vcpu vm number))) _ _ idle.1 in
+    (not-false _ there.0, idle.0, away.0, (passed (is_entered (home h (vcpu vm number))) _ _ away.1).0)
+
+pub exit_allowed : (h : History) (vm number : ℕ) → refusal h (Exit vm number) ≡ None → (has_vcpu h (vcpu vm number) ≡ true) × (is_entered (home h (vcpu vm number)) ≡ true)
+exit_allowed h vm number e =
+    let stands = passed (not (has_machine h)) _ _ e in
+    let there = passed (not (has_vcpu h (vcpu vm number))) _ _ stands.1 in
+    (not-false _ there.0, not-false _ (passed (not (is_entered (home h (vcpu vm number)))) _ _ there.1).0)
 
 -- a store that lands is in flight, and one that is sent is for a virtual hart that is there
 pub land_allowed : (h : History) (vm k : ℕ) → refusal h (Land vm k) ≡ None → k < length (flight h vm)
@@ -157,5 +174,5 @@ pub peer_allowed : (h : History) (vm number to value : ℕ) → refusal h (Ipi v
 peer_allowed h vm number to value e =
     let stands = passed (not (has_machine h)) _ _ e in
     let there = passed (not (has_vcpu h (vcpu vm number))) _ _ stands.1 in
-    let away = passed (not (is_resident (home h (vcpu vm number)))) _ _ there.1 in
+    let away = passed (not (runs (home h (vcpu vm number)))) _ _ there.1 in
     not-false _ (passed (not (has_vcpu h (vcpu vm to))) _ _ away.1).0

@@ -10,7 +10,9 @@ pub enum Refusal {
     Busy,
     /// `home`: the virtual hart is resident already.
     Home,
-    /// `parked`: the virtual hart is parked, its interrupts in memory.
+    /// `entered`: the virtual hart runs from memory already.
+    Entered,
+    /// `parked`: the virtual hart's interrupts rest in memory, whether it runs from there or not.
     Parked,
     /// `nofile`: no guest file of the hart is free.
     NoFile,
@@ -18,9 +20,10 @@ pub enum Refusal {
     Passed,
     /// `unready`: the source is not one that MSIs to guests may be made of.
     Unready,
-    /// `idle`: the virtual hart is not being moved.
+    /// `idle`: the virtual hart is not being moved, or does not run from memory.
     Idle,
-    /// `away`: the virtual hart is not resident: it is parked, or is being moved.
+    /// `away`: the virtual hart does not run: it is parked, or is being moved; or it runs from
+    /// memory, where it has no such CSR.
     Away,
     /// `illegal`: the access raises an illegal-instruction exception.
     Illegal,
