@@ -51,6 +51,9 @@ by_notices past line v f e its = absurd (cc)
 pub steps_by_notices : (past : History) (g : Vcpu) (f : FileName) → has_vcpu past g ≡ true → (deed_at f past (Stepped g) ≡ Rests) ⊎ IsNoticeOf past g.vm f (deed_at f past (Stepped g))
 steps_by_notices past g f there = either_notice _ past g.vm f g refl there
 
+pub exits_by_notices : (past : History) (g : Vcpu) (f : FileName) → has_vcpu past g ≡ true → (deed_at f past (Accepted (lines.Exit g.vm g.number)) ≡ Rests) ⊎ IsNoticeOf past g.vm f (deed_at f past (Accepted (lines.Exit g.vm g.number)))
+exits_by_notices past g f there = either_notice _ past g.vm f g refl there
+
 pub landings_by_notices : (past : History) (v k : ℕ) (f : FileName) → IsHistory past → (deed_at f past (Landed v k) ≡ Rests) ⊎ IsNoticeOf past v f (deed_at f past (Landed v k))
 landings_by_notices past v k f good = by_store (flying past v k) refl
   where

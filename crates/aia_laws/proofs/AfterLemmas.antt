@@ -44,7 +44,7 @@ use Rattle.aia_model.proofs.SentLemmas.{may_send, none_sent_by}
 abbrev pub IsSameGuest : History → History → Vcpu → Type 0
 IsSameGuest new old g = (guest_file new g ≡ guest_file old g) × (guest_select new g ≡ guest_select old g) × (majors_of new g ≡ majors_of old g)
 
-and_same : (new mid old : History) (g : Vcpu) → IsSameGuest new mid g → IsSameGuest mid old g → IsSameGuest new old g
+pub and_same : (new mid old : History) (g : Vcpu) → IsSameGuest new mid g → IsSameGuest mid old g → IsSameGuest new old g
 and_same new mid old g late early = (late.0 ∙ early.0, late.1 ∙ early.1, late.2 ∙ early.2)
 
 -- ---- moves and MSIs
@@ -319,6 +319,9 @@ file_taken h line g one = elim (one_event h line one) [
 
 pub file_after_line : (h : History) (line : Line) (g : Vcpu) → forwards_to h line g ≡ false → does_steps (move_deed line) ≡ false → refusal h line ≡ None → guest_file (after h line) g ≡ file_after (guest_select h g) (guest_deed g h (event_of line)) (guest_file h g)
 file_after_line h line g still one e = (taken_same h line g still e).0 ∙ file_taken h line g one
+
+pub select_after_line : (h : History) (line : Line) (g : Vcpu) → forwards_to h line g ≡ false → move_deed line ≡ NoMove → refusal h line ≡ None → guest_select (after h line) g ≡ select_after (guest_deed g h (Accepted line)) (guest_select h g)
+select_after_line h line g still none e = (taken_same h line g still e).1 ∙ ap (λ deed. guest_select (deed_taken h line deed) g) none ∙ select_by_step g (Accepted line) h
 
 -- ---- lines that do not speak to it
 

@@ -2,8 +2,8 @@
 use Rattle.std.proofs.Common.{◌≡◌, ℕ, suc, ◌+◌, true, false, nat_lt, is_none, Option, Some, None, refl, arith}
 use Rattle.std.specs.Option.{option_map_or}
 use Rattle.std.proofs.lemmas.Bool.{eq-eqb, ne_eqb, and_left}
-use Rattle.aia_home.specs.Home.{Home, is_moving, is_resident, is_parked, leaving, arriving, shifting}
-use Rattle.aia_home.specs.Home.Home.{Parked, Resident, Leaving, Arriving, Shifting}
+use Rattle.aia_home.specs.Home.{Home, is_moving, is_resident, is_entered, rests_in_memory, leaving, arriving, shifting}
+use Rattle.aia_home.specs.Home.Home.{Parked, Entered, Resident, Leaving, Arriving, Shifting}
 use Rattle.aia_home.specs.Plans.{leave_step, arrive_step, shift_step, leave_steps, arrive_steps, shift_steps}
 use Rattle.aia_home.specs.Plans.Access.{Fence, FenceStage}
 use Rattle.aia_home.specs.Aims.{is_aiming, further}
@@ -22,6 +22,7 @@ fence_here (Leaving from at) e = eq-eqb at.steps (leave_step 0 Fence) (omega (ar
 fence_here (Arriving to at) e = eq-eqb at.steps (arrive_step 0 Fence) (omega (arith, e))
 fence_here (Shifting from to at) e = eq-eqb at.steps (shift_step 0 Fence) (omega (arith, e))
 fence_here Parked e = absurd e
+fence_here Entered e = absurd e
 fence_here (Resident p) e = absurd e
 
 pub fence_later : (count : ℕ) (there : Home) → FenceIn (suc count) there → is_at_fence there ≡ false
@@ -29,6 +30,7 @@ fence_later count (Leaving from at) e = ne_eqb at.steps (leave_step 0 Fence) (λ
 fence_later count (Arriving to at) e = ne_eqb at.steps (arrive_step 0 Fence) (λ same. absurd (omega (arith, e, same)))
 fence_later count (Shifting from to at) e = ne_eqb at.steps (shift_step 0 Fence) (λ same. absurd (omega (arith, e, same)))
 fence_later count Parked e = absurd e
+fence_later count Entered e = absurd e
 fence_later count (Resident p) e = absurd e
 
 -- no step before it aims a passed source
@@ -37,6 +39,7 @@ aims_later passes count (Leaving from at) e = and_left _ (nat_lt at.aims passes)
 aims_later passes count (Arriving to at) e = and_left _ (nat_lt at.aims passes) (ne_eqb at.steps (arrive_step 0 FenceStage + 1) (λ same. absurd (omega (arith, e, same))))
 aims_later passes count (Shifting from to at) e = and_left _ (nat_lt at.aims passes) (ne_eqb at.steps (shift_step 0 FenceStage + 1) (λ same. absurd (omega (arith, e, same))))
 aims_later passes count Parked e = absurd e
+aims_later passes count Entered e = absurd e
 aims_later passes count (Resident p) e = absurd e
 
 pub fence_nearer : (passes words count : ℕ) (there : Home) → FenceIn (suc count) there → FenceIn count (further passes words there)
@@ -44,31 +47,35 @@ fence_nearer passes words count (Leaving from at) e = rw (aims_later passes coun
 fence_nearer passes words count (Arriving to at) e = rw (aims_later passes count (Arriving to at) e) (rw (ne_eqb (at.steps + 1) (arrive_steps words) (λ last. absurd (omega (arith, e, last)))) (omega (arith, e)))
 fence_nearer passes words count (Shifting from to at) e = rw (aims_later passes count (Shifting from to at) e) (rw (ne_eqb (at.steps + 1) (shift_steps words) (λ last. absurd (omega (arith, e, last)))) (omega (arith, e)))
 fence_nearer passes words count Parked e = absurd e
+fence_nearer passes words count Entered e = absurd e
 fence_nearer passes words count (Resident p) e = absurd e
 
 -- ---- from where a move begins
 
-pub leave_to_fence : (there : Home) → is_moving there ≡ false → is_parked there ≡ false → FenceIn (leave_step 0 Fence) (leaving there)
+pub leave_to_fence : (there : Home) → is_moving there ≡ false → rests_in_memory there ≡ false → FenceIn (leave_step 0 Fence) (leaving there)
 leave_to_fence (Resident p) idle kept = refl
 leave_to_fence Parked idle kept = absurd (cc)
+leave_to_fence Entered idle kept = absurd (cc)
 leave_to_fence (Leaving from at) idle kept = absurd (cc)
 leave_to_fence (Arriving to at) idle kept = absurd (cc)
 leave_to_fence (Shifting from to at) idle kept = absurd (cc)
 
-pub arrive_to_fence : (hart : ℕ) (file : Option ℕ) (there : Home) → is_moving there ≡ false → is_resident there ≡ false → is_none file ≡ false
+pub arrive_to_fence : (hart : ℕ) (file : Option ℕ) (there : Home) → is_moving there ≡ false → is_resident there ≡ false → is_entered there ≡ false → is_none file ≡ false
     → FenceIn (arrive_step 0 Fence) (option_map_or (λ f. arriving (place hart f) there) file there)
-arrive_to_fence hart None there idle away free = absurd (cc)
-arrive_to_fence hart (Some f) Parked idle away free = refl
-arrive_to_fence hart (Some f) (Resident p) idle away free = absurd (cc)
-arrive_to_fence hart (Some f) (Leaving from at) idle away free = absurd (cc)
-arrive_to_fence hart (Some f) (Arriving to at) idle away free = absurd (cc)
-arrive_to_fence hart (Some f) (Shifting from to at) idle away free = absurd (cc)
+arrive_to_fence hart None there idle away waits free = absurd (cc)
+arrive_to_fence hart (Some f) Parked idle away waits free = refl
+arrive_to_fence hart (Some f) Entered idle away waits free = absurd (cc)
+arrive_to_fence hart (Some f) (Resident p) idle away waits free = absurd (cc)
+arrive_to_fence hart (Some f) (Leaving from at) idle away waits free = absurd (cc)
+arrive_to_fence hart (Some f) (Arriving to at) idle away waits free = absurd (cc)
+arrive_to_fence hart (Some f) (Shifting from to at) idle away waits free = absurd (cc)
 
-pub shift_to_fence : (hart : ℕ) (file : Option ℕ) (there : Home) → is_moving there ≡ false → is_parked there ≡ false → is_none file ≡ false
+pub shift_to_fence : (hart : ℕ) (file : Option ℕ) (there : Home) → is_moving there ≡ false → rests_in_memory there ≡ false → is_none file ≡ false
     → FenceIn (shift_step 0 Fence) (option_map_or (λ f. shifting (place hart f) there) file there)
 shift_to_fence hart None there idle kept free = absurd (cc)
 shift_to_fence hart (Some f) (Resident p) idle kept free = refl
 shift_to_fence hart (Some f) Parked idle kept free = absurd (cc)
+shift_to_fence hart (Some f) Entered idle kept free = absurd (cc)
 shift_to_fence hart (Some f) (Leaving from at) idle kept free = absurd (cc)
 shift_to_fence hart (Some f) (Arriving to at) idle kept free = absurd (cc)
 shift_to_fence hart (Some f) (Shifting from to at) idle kept free = absurd (cc)

@@ -11,3 +11,4 @@ pub mod FlightRequests
 pub mod FenceLemmas
 pub mod ForwardLemmas
 pub mod MoveLemmas
+pub mod RunLemmas

@@ -2,10 +2,11 @@
 use Rattle.std.specs.Prelude.{◌≡◌, ℕ, Bool, true, false, not, ◌&&◌, ◌||◌, [], ◌∷◌, Option, Some, None, ◌%◌}
 use Rattle.aia_regs.specs.Word.{Word}
 use Rattle.aia_regs.specs.Word.Word.{Ask, Clear}
-use Rattle.aia_home.specs.Vms.{Vcpu, is_vcpu, notice_hart, notice_identity}
+use Rattle.aia_home.specs.Vms.{Vcpu, vcpu, is_vcpu, notice_hart, notice_identity}
 use Rattle.aia_home.specs.Home.{is_resident}
 use Rattle.aia_model.specs.Move.Move.{Leaves}
 use Rattle.aia_model.specs.declared.line.Line.{Line}
+use Rattle.aia_model.specs.declared.line.Line.TheVariants.{Exit}
 use Rattle.aia_model.specs.Event.{Event, History, greatest_identity_of, file_words}
 use Rattle.aia_model.specs.Event.Event.{Accepted, Began, Stepped, Landed, Relayed}
 use Rattle.aia_regs.specs.declared.address_map.TheConstants.{PAGE}
@@ -124,8 +125,15 @@ pub record RelaysForEnabled (past : History) (p : ℕ) (g : Vcpu) : Type 0 where
   pub asks : requested (greatest_identity_of past) 0 (nth_pass past p).identity ≡ Some identity
   pub enabled : (guest_file past g).enabled identity ≡ true
 
+-- A virtual hart that ran from memory ceases to, while an identity is deliverable at it.
+pub record ExitsDeliverable (past : History) (x g : Vcpu) : Type 0 where
+  pub same : x ≡ g
+  pub identity : ℕ
+  pub deliverable : is_deliverable past g identity ≡ true
+
 -- An event is the cause of a notice for a virtual hart.
 abbrev pub IsCause : History → Event → Vcpu → Type 0
+IsCause past (Accepted (Exit vm number)) g = ExitsDeliverable past (vcpu vm number) g
 IsCause past (Accepted line) g = AsksForEnabled past line g
 IsCause past (Stepped x) g = EndsLeave past x g
 IsCause past (Landed vm k) g = LandsForEnabled past vm k g
