@@ -1,19 +1,17 @@
 -- A step of a move that aims a passed source, in a core that stands for a history.
-use Rattle.std.proofs.Common.{◌/◌, ◌*◌, ◌≡◌, ◌≢◌, ℕ, zero, suc, ◌+◌, ◌-◌, ◌<◌, ◌≤◌, Bool, true, false, ◌&&◌, ◌||◌, cond, nat_eq, nat_lt, get_or, List, [], ◌∷◌, length, Option, Some, None, inl, inr, refl, sym, ap, subst, ◌∙◌, arith}
+use Rattle.std.proofs.Common.{◌/◌, ◌≡◌, ℕ, ◌+◌, ◌≤◌, Bool, true, false, ◌&&◌, ◌||◌, cond, nat_eq, nat_lt, get_or, List, ◌∷◌, length, Some, None, inl, inr, refl, sym, ap, subst, ◌∙◌, arith}
 use Rattle.std.proofs.Math.ListN.{set}
-use Rattle.std.proofs.lemmas.Bool.{cases_Bool, cond-true, cond-false, and_parts, eqb-true, ne_eqb, lt-ltb, false≢true}
+use Rattle.std.proofs.lemmas.Bool.{cases_Bool, cond-true, and_parts, eqb-true, ne_eqb, lt-ltb, false≢true}
 use Rattle.std.proofs.lemmas.Bool.Decides.{nat_tests}
 use Rattle.std.proofs.lemmas.List.{length-set}
 use Rattle.aia_home.specs.declared.place.Place.{Place}
-use Rattle.aia_home.specs.declared.vm.Vm.{Vm}
 use Rattle.aia_home.specs.Vms.{Vcpu, vcpu, is_vcpu, slot_of, notice_hart}
 use Rattle.aia_home.specs.Home.{Home, holds, is_moving}
-use Rattle.aia_home.specs.Home.Home.{Parked, Resident, Leaving, Arriving, Shifting}
+use Rattle.aia_home.specs.Home.Home.{Parked, Entered, Resident, Leaving, Arriving, Shifting}
 use Rattle.aia_home.specs.Plans.{is_at_last, stepped, leave_step, arrive_step, shift_step}
 use Rattle.aia_home.specs.Plans.Access.{TakePending}
 use Rattle.aia_home.specs.BySteps.{new_file, look_sees, look_step, look_word}
-use Rattle.aia_home.specs.Routes.{is_at_fence, reach_stepped}
-use Rattle.aia_home.specs.Aims.{aims_done, is_aiming, aimed, further, pass_reaches}
+use Rattle.aia_home.specs.Aims.{aims_done, is_aiming, aimed, pass_reaches}
 use Rattle.aia_home.proofs.PassLemmas.{aim_is_no_fence}
 use Rattle.aia_places.specs.Stores.{AreApart}
 use Rattle.aia_model.specs.Event.{History, file_words}
@@ -63,6 +61,7 @@ use Rattle.aia_hyp.proofs.MoveSteps.{stepped_home}
 
 aimed_apart : (there : Home) → AreApart there → AreApart (aimed there)
 aimed_apart Parked a = a
+aimed_apart Entered a = a
 aimed_apart (Resident p) a = a
 aimed_apart (Leaving from at) a = a
 aimed_apart (Arriving to at) a = a
@@ -70,6 +69,7 @@ aimed_apart (Shifting from to at) a = a
 
 aimed_holds : (q : Place) (there : Home) → holds q (aimed there) ≡ holds q there
 aimed_holds q Parked = refl
+aimed_holds q Entered = refl
 aimed_holds q (Resident p) = refl
 aimed_holds q (Leaving from at) = refl
 aimed_holds q (Arriving to at) = refl
@@ -77,6 +77,7 @@ aimed_holds q (Shifting from to at) = refl
 
 aimed_moves : (there : Home) → is_moving (aimed there) ≡ is_moving there
 aimed_moves Parked = refl
+aimed_moves Entered = refl
 aimed_moves (Resident p) = refl
 aimed_moves (Leaving from at) = refl
 aimed_moves (Arriving to at) = refl
@@ -85,6 +86,7 @@ aimed_moves (Shifting from to at) = refl
 -- its next step is not the last one
 pub aim_is_not_last : (passes words : ℕ) (there : Home) → is_aiming passes there ≡ true → is_at_last words there ≡ false
 aim_is_not_last passes words Parked e = absurd (cc)
+aim_is_not_last passes words Entered e = absurd (cc)
 aim_is_not_last passes words (Resident p) e = absurd (cc)
 aim_is_not_last passes words (Leaving from at) e = let here : nat_eq at.steps (leave_step 0 (TakePending 0)) ≡ true = (and_parts _ _ e).0 in grind (arith, nat_tests)
 aim_is_not_last passes words (Arriving to at) e = let here : nat_eq at.steps (arrive_step 0 (TakePending 0)) ≡ true = (and_parts _ _ e).0 in grind (arith, nat_tests)
@@ -93,6 +95,7 @@ aim_is_not_last passes words (Shifting from to at) e = let here : nat_eq at.step
 aim_ends_none : (passes words : ℕ) (there : Home) → is_aiming passes there ≡ true → ends_leave words there ≡ false
 aim_ends_none passes words (Leaving from at) e = aim_is_not_last passes words (Leaving from at) e
 aim_ends_none passes words Parked e = refl
+aim_ends_none passes words Entered e = refl
 aim_ends_none passes words (Resident p) e = refl
 aim_ends_none passes words (Arriving to at) e = refl
 aim_ends_none passes words (Shifting from to at) e = refl
@@ -100,6 +103,7 @@ aim_ends_none passes words (Shifting from to at) e = refl
 -- and looks at no word
 aim_sees_none : (passes words : ℕ) (there : Home) (live : ℕ → Bool) → 1 ≤ words → is_aiming passes there ≡ true → look_sees words there live ≡ false
 aim_sees_none passes words Parked live some e = absurd (cc)
+aim_sees_none passes words Entered live some e = absurd (cc)
 aim_sees_none passes words (Resident p) live some e = absurd (cc)
 aim_sees_none passes words (Arriving to at) live some e = refl
 aim_sees_none passes words (Shifting from to at) live some e = refl
@@ -118,6 +122,7 @@ aim_sees_none passes words (Leaving from at) live some e =
 -- the next pass is aimed where the move leads
 pub aim_leads : (passes : ℕ) (there : Home) → is_aiming passes there ≡ true → pass_reaches (aims_done there) (aimed there) ≡ new_file there
 aim_leads passes Parked e = absurd (cc)
+aim_leads passes Entered e = absurd (cc)
 aim_leads passes (Resident p) e = absurd (cc)
 aim_leads passes (Leaving from at) e = ap (λ b. cond b None (Some from)) (lt-ltb at.aims (at.aims + 1) (omega arith))
 aim_leads passes (Arriving to at) e = ap (λ b. cond b (Some to) None) (lt-ltb at.aims (at.aims + 1) (omega arith))

@@ -7,7 +7,7 @@ use Rattle.std.proofs.lemmas.Option.{none-some}
 use Rattle.aia_home.specs.declared.place.Place.{Place}
 use Rattle.aia_home.specs.declared.vm.Vm.{Vm}
 use Rattle.aia_home.specs.Vms.{Vcpu, vcpu, is_vcpu_in, slot_of}
-use Rattle.aia_home.specs.Home.{at_first, is_parked, is_resident, is_moving}
+use Rattle.aia_home.specs.Home.{at_first, is_entered, rests_in_memory, is_resident, is_moving}
 use Rattle.aia_home.specs.Home.Home.{Arriving, Shifting}
 use Rattle.aia_pool.specs.Leases.{least_free}
 use Rattle.aia_move.specs.declared.who.Who.{Who}
@@ -113,12 +113,12 @@ module _ (x y : CoreState) (who : Who) (given : Answer) (h : History) (stands : 
   -- ---- a leave
 
   leave_refused : (new old : Stay) → Put x y who new → (record_of x (vcpu who.vm who.vcpu)).stay ≡ old
-      → refusal h (lines.Leave who.vm who.vcpu) ≡ cond (is_moving (home_in old)) (Some (Refused words.Busy)) (cond (is_parked (home_in old)) (Some (Refused words.Parked)) None)
+      → refusal h (lines.Leave who.vm who.vcpu) ≡ cond (is_moving (home_in old)) (Some (Refused words.Busy)) (cond (rests_in_memory (home_in old)) (Some (Refused words.Parked)) None)
   leave_refused new old p was =
       let inside = is_there new p in
       let there = home_at x h g old stands inside was in
       leave_refusal h who.vm who.vcpu stands.there
-      ∙ (λ k. cond (not (inside k)) (Some (Refused words.Range)) (cond (is_moving (there k)) (Some (Refused words.Busy)) (cond (is_parked (there k)) (Some (Refused words.Parked)) None)))
+      ∙ (λ k. cond (not (inside k)) (Some (Refused words.Range)) (cond (is_moving (there k)) (Some (Refused words.Busy)) (cond (rests_in_memory (there k)) (Some (Refused words.Parked)) None)))
 
   -- what is being moved has its home on the move
   on_the_move : (new : Stay) (plan : Plan) → Put x y who new → (record_of x (vcpu who.vm who.vcpu)).stay ≡ stays.Moving plan → is_moving (moving_of plan).home ≡ true
@@ -133,19 +133,20 @@ module _ (x y : CoreState) (who : Who) (given : Answer) (h : History) (stands : 
     λ word e. absurd (none-some word e),
   )
   leave_answered new (stays.Parked kept) p was b = refused wants.Leave words.Parked new (stays.Parked kept) p was b (leave_refused new (stays.Parked kept) p was)
+  leave_answered new (stays.Entered kept) p was b = refused wants.Leave words.Parked new (stays.Entered kept) p was b (leave_refused new (stays.Entered kept) p was)
   leave_answered new (stays.Moving plan) p was b = refused wants.Leave words.Busy new (stays.Moving plan) p was b
-      (leave_refused new (stays.Moving plan) p was ∙ ap (λ m. cond m (Some (Refused words.Busy)) (cond (is_parked (moving_of plan).home) (Some (Refused words.Parked)) None)) (on_the_move new plan p was))
+      (leave_refused new (stays.Moving plan) p was ∙ ap (λ m. cond m (Some (Refused words.Busy)) (cond (rests_in_memory (moving_of plan).home) (Some (Refused words.Parked)) None)) (on_the_move new plan p was))
   leave_answered new (stays.Resident from) p was b = absurd b.1
 
   -- ---- an arrival
 
   arrive_refused : (new old : Stay) (hart : ℕ) (b : Bool) (o : Option ℕ) → Put x y who new → (record_of x (vcpu who.vm who.vcpu)).stay ≡ old → has_hart h hart ≡ b → free_file h (home h) hart ≡ o
-      → refusal h (lines.Arrive who.vm who.vcpu hart) ≡ cond (not b) (Some (Refused words.Range)) (cond (is_moving (home_in old)) (Some (Refused words.Busy)) (cond (is_resident (home_in old)) (Some (Refused words.Home)) (cond (is_none o) (Some (Refused words.NoFile)) None)))
+      → refusal h (lines.Arrive who.vm who.vcpu hart) ≡ cond (not b) (Some (Refused words.Range)) (cond (is_moving (home_in old)) (Some (Refused words.Busy)) (cond (is_resident (home_in old)) (Some (Refused words.Home)) (cond (is_entered (home_in old)) (Some (Refused words.Entered)) (cond (is_none o) (Some (Refused words.NoFile)) None))))
   arrive_refused new old hart b o p was on free =
       let inside = is_there new p in
       let there = home_at x h g old stands inside was in
       arrive_refusal h who.vm who.vcpu hart stands.there
-      ∙ (λ k. cond (not (inside k && on k)) (Some (Refused words.Range)) (cond (is_moving (there k)) (Some (Refused words.Busy)) (cond (is_resident (there k)) (Some (Refused words.Home)) (cond (is_none (free k)) (Some (Refused words.NoFile)) None))))
+      ∙ (λ k. cond (not (inside k && on k)) (Some (Refused words.Range)) (cond (is_moving (there k)) (Some (Refused words.Busy)) (cond (is_resident (there k)) (Some (Refused words.Home)) (cond (is_entered (there k)) (Some (Refused words.Entered)) (cond (is_none (free k)) (Some (Refused words.NoFile)) None)))))
 
   hart_low : (hart : ℕ) → hart < x.leases.harts → has_hart h hart ≡ true
   hart_low hart low = lt-ltb hart (harts_of h) (omega (arith, low, stands.lease_harts))
@@ -177,19 +178,21 @@ module _ (x y : CoreState) (who : Who) (given : Answer) (h : History) (stands : 
   arrive_answered new (stays.Parked kept) hart p was low b = arrive_in new hart kept (least_free x.leases hart) p was low refl b
   arrive_answered new (stays.Resident from) hart p was low b = refused (wants.Arrive hart) words.Home new (stays.Resident from) p was b
       (arrive_refused new (stays.Resident from) hart true (free_file h (home h) hart) p was (hart_low hart low) refl)
+  arrive_answered new (stays.Entered kept) hart p was low b = refused (wants.Arrive hart) words.Entered new (stays.Entered kept) p was b
+      (arrive_refused new (stays.Entered kept) hart true (free_file h (home h) hart) p was (hart_low hart low) refl)
   arrive_answered new (stays.Moving plan) hart p was low b = refused (wants.Arrive hart) words.Busy new (stays.Moving plan) p was b
       (arrive_refused new (stays.Moving plan) hart true (free_file h (home h) hart) p was (hart_low hart low) refl
-      ∙ ap (λ m. cond m (Some (Refused words.Busy)) (cond (is_resident (moving_of plan).home) (Some (Refused words.Home)) (cond (is_none (free_file h (home h) hart)) (Some (Refused words.NoFile)) None))) (on_the_move new plan p was))
+      ∙ ap (λ m. cond m (Some (Refused words.Busy)) (cond (is_resident (moving_of plan).home) (Some (Refused words.Home)) (cond (is_entered (moving_of plan).home) (Some (Refused words.Entered)) (cond (is_none (free_file h (home h) hart)) (Some (Refused words.NoFile)) None)))) (on_the_move new plan p was))
 
   -- ---- a shift
 
   shift_refused : (new old : Stay) (hart : ℕ) (b : Bool) (o : Option ℕ) → Put x y who new → (record_of x (vcpu who.vm who.vcpu)).stay ≡ old → has_hart h hart ≡ b → free_file h (home h) hart ≡ o
-      → refusal h (lines.Shift who.vm who.vcpu hart) ≡ cond (not b) (Some (Refused words.Range)) (cond (is_moving (home_in old)) (Some (Refused words.Busy)) (cond (is_parked (home_in old)) (Some (Refused words.Parked)) (cond (is_none o) (Some (Refused words.NoFile)) None)))
+      → refusal h (lines.Shift who.vm who.vcpu hart) ≡ cond (not b) (Some (Refused words.Range)) (cond (is_moving (home_in old)) (Some (Refused words.Busy)) (cond (rests_in_memory (home_in old)) (Some (Refused words.Parked)) (cond (is_none o) (Some (Refused words.NoFile)) None)))
   shift_refused new old hart b o p was on free =
       let inside = is_there new p in
       let there = home_at x h g old stands inside was in
       shift_refusal h who.vm who.vcpu hart stands.there
-      ∙ (λ k. cond (not (inside k && on k)) (Some (Refused words.Range)) (cond (is_moving (there k)) (Some (Refused words.Busy)) (cond (is_parked (there k)) (Some (Refused words.Parked)) (cond (is_none (free k)) (Some (Refused words.NoFile)) None))))
+      ∙ (λ k. cond (not (inside k && on k)) (Some (Refused words.Range)) (cond (is_moving (there k)) (Some (Refused words.Busy)) (cond (rests_in_memory (there k)) (Some (Refused words.Parked)) (cond (is_none (free k)) (Some (Refused words.NoFile)) None))))
 
   shift_in : (new : Stay) (hart : ℕ) (from : Place) (o : Option ℕ) → Put x y who new → (record_of x (vcpu who.vm who.vcpu)).stay ≡ stays.Resident from → hart < x.leases.harts → least_free x.leases hart ≡ o
       → BeginsIn o hart (λ to. record { who = who; home = Shifting from to at_first; hand = empty_hand }) (stays.Resident from) new x.leases y.leases given
@@ -209,9 +212,11 @@ module _ (x y : CoreState) (who : Who) (given : Answer) (h : History) (stands : 
   shift_answered new (stays.Resident from) hart p was low b = shift_in new hart from (least_free x.leases hart) p was low refl b
   shift_answered new (stays.Parked kept) hart p was low b = refused (wants.Shift hart) words.Parked new (stays.Parked kept) p was b
       (shift_refused new (stays.Parked kept) hart true (free_file h (home h) hart) p was (hart_low hart low) refl)
+  shift_answered new (stays.Entered kept) hart p was low b = refused (wants.Shift hart) words.Parked new (stays.Entered kept) p was b
+      (shift_refused new (stays.Entered kept) hart true (free_file h (home h) hart) p was (hart_low hart low) refl)
   shift_answered new (stays.Moving plan) hart p was low b = refused (wants.Shift hart) words.Busy new (stays.Moving plan) p was b
       (shift_refused new (stays.Moving plan) hart true (free_file h (home h) hart) p was (hart_low hart low) refl
-      ∙ ap (λ m. cond m (Some (Refused words.Busy)) (cond (is_parked (moving_of plan).home) (Some (Refused words.Parked)) (cond (is_none (free_file h (home h) hart)) (Some (Refused words.NoFile)) None))) (on_the_move new plan p was))
+      ∙ ap (λ m. cond m (Some (Refused words.Busy)) (cond (rests_in_memory (moving_of plan).home) (Some (Refused words.Parked)) (cond (is_none (free_file h (home h) hart)) (Some (Refused words.NoFile)) None))) (on_the_move new plan p was))
 
   -- ---- any of the three
 

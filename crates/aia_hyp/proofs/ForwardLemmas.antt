@@ -3,13 +3,11 @@
 use Rattle.std.proofs.Common.{◌≡◌, ℕ, zero, suc, ◌%◌, ◌<◌, ◌≤◌, true, false, cond, nat_eq, List, [], ◌∷◌, length, slice_index_or, Option, Some, None, refl, sym, ap, subst, ◌∙◌, arith}
 use Rattle.std.specs.List.{AllByRecursion}
 use Rattle.std.specs.Prelude.{is_none}
-use Rattle.std.specs.Int.{is_in_range}
 use Rattle.std.proofs.lemmas.Bool.{cond-true, cond-false, lt-ltb}
 use Rattle.aia_regs.specs.declared.limits.TheConstants.{HARTS, GUEST_FILES}
 use Rattle.aia_regs.specs.declared.address_map.TheConstants.{PAGE}
 use Rattle.aia_regs.specs.AddressMap.{supervisor_page, guest_page}
 use Rattle.aia_word.proofs.LeastLemmas.{least_of_is}
-use Rattle.aia_file.specs.FileState.{shown}
 use Rattle.aia_imsic.specs.declared.spot.Spot.{Spot}
 use Rattle.aia_imsic.specs.declared.spot.Spot.TheVariants as spots
 use Rattle.aia_imsic.specs.Imsic.{ImsicState, IsThere}
@@ -20,7 +18,6 @@ use Rattle.aia_home.specs.declared.vm.Vm.{Vm}
 use Rattle.aia_home.specs.Vms.{Vcpu, is_vcpu_in, notice_hart}
 use Rattle.aia_home.specs.Routes.{MayLand}
 use Rattle.aia_home.proofs.HomeLemmas.{landing_is_held}
-use Rattle.aia_fabric.specs.World.{World}
 use Rattle.aia_fabric.specs.Whole.{IsWhole}
 use Rattle.aia_fabric.specs.Changes.{spot_of}
 use Rattle.aia_fabric.specs.Stores.{StoresIn}
@@ -28,12 +25,10 @@ use Rattle.aia_fabric.proofs.WholeLemmas.{notice_hart_there}
 use Rattle.aia_model.specs.declared.msi.Msi.{Msi}
 use Rattle.aia_model.specs.Event.{Event, History, file_words}
 use Rattle.aia_model.specs.Event.Event.{Delivered, Relayed}
-use Rattle.aia_model.specs.Vms.{vms_of, has_vcpu}
 use Rattle.aia_model.specs.Passes.{Pass, no_pass, passes_of, nth_pass, passed_by}
 use Rattle.aia_model.specs.Aim.{pass_reach, pass_notice_hart, page_to, value_to, IsForward, IsForwardIf}
 use Rattle.aia_model.specs.HomeOf.{home}
 use Rattle.aia_model.specs.FileAfter.FileDeed.{Rests}
-use Rattle.aia_model.specs.FileOf.{FileName, page_at}
 use Rattle.aia_model.specs.GuestFile.{goes_to_guest, passed_deed}
 use Rattle.aia_model.proofs.PassLemmas.{pass_may_land}
 use Rattle.aia_hyp.specs.Core.{CoreState}
@@ -45,7 +40,7 @@ use Rattle.aia_model.specs.Answer.{msi_taken, given_on}
 use Rattle.aia_hyp.proofs.NameLemmas.{no_guest, is_hosts}
 use Rattle.aia_hyp.proofs.PageLemmas.{elsewhere}
 use Rattle.aia_hyp.proofs.VcpuLemmas.{quiet_msi, still_msi}
-use Rattle.aia_hyp.proofs.EventLemmas.{Changes, IsHosts, one_more}
+use Rattle.aia_hyp.proofs.EventLemmas.{Changes, one_more}
 use Rattle.aia_hyp.proofs.StoreLemmas.{pass_is, stored_changes, page_stands}
 use Rattle.aia_hyp.proofs.GuestStores.{file_changes}
 

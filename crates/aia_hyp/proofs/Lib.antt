@@ -32,6 +32,10 @@ pub mod MoveLines
 pub mod ExampleLemmas
 pub mod OwnStores
 pub mod RefetchLemmas
+pub mod FilesInMemory
+pub mod RunLines
+pub mod GuestLookups
+pub mod MemoryAccesses
 pub mod PassLemmas
 pub mod ForwardLemmas
 pub mod RelayLemmas

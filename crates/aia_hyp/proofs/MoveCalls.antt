@@ -1,6 +1,6 @@
 -- What the calls of a move say, of the fields that they change.
 use Rattle.aia_model.specs.ReachOf.{NoneAtFence}
-use Rattle.std.proofs.Common.{suc, ◌-◌, ◌&&◌, cond, nat_lt, ◌≤◌, ◌≡◌, ℕ, ◌+◌, ◌/◌, ◌<◌, Bool, true, false, get_or, List, length, ◌∷◌, Option, Some, None, refl, sym, ap, subst, ◌∙◌, arith}
+use Rattle.std.proofs.Common.{suc, ◌-◌, cond, nat_lt, ◌≤◌, ◌≡◌, ℕ, ◌+◌, ◌/◌, ◌<◌, Bool, true, false, get_or, List, length, ◌∷◌, Option, Some, None, refl, sym, ap, subst, ◌∙◌, arith}
 use Rattle.std.proofs.Math.ListN.{set}
 use Rattle.std.proofs.lemmas.Bool.{true≢false, and_parts, ltb-true}
 use Rattle.std.proofs.lemmas.List.{get_or-set_same, set-set}
@@ -10,7 +10,7 @@ use Rattle.aia_home.specs.declared.vm.Vm.{Vm}
 use Rattle.aia_home.specs.Vms.{Vcpu, vcpu, is_vcpu_in, slot_of, notice_hart}
 use Rattle.aia_home.specs.Home.{Home, holds, is_moving, one_more}
 use Rattle.aia_home.specs.Plans.{is_at_last, Access, leave_plan, arrive_plan, shift_plan, IsNext}
-use Rattle.aia_home.specs.Home.Home.{Parked, Resident, Leaving, Arriving, Shifting}
+use Rattle.aia_home.specs.Home.Home.{Parked, Entered, Resident, Leaving, Arriving, Shifting}
 use Rattle.aia_home.proofs.PlanLemmas.{leave_plan-length, arrive_plan-length, shift_plan-length, next_in_plan}
 use Rattle.aia_home.proofs.VmLemmas.{slot_below}
 use Rattle.aia_home.proofs.AllLemmas.{any_vcpu}
@@ -54,7 +54,7 @@ use Rattle.aia_hyp.specs.Stands.{PlanStands, CoreStands, StandsForSome}
 use Rattle.aia_hyp.proofs.LeaseLemmas.{in_pool}
 use Rattle.aia_home.specs.Aims.{is_aiming, aims_done, aimed}
 use Rattle.aia_home.proofs.PassLemmas.{aim_is_no_fence}
-use Rattle.aia_model.specs.Passes.{Pass, passes_of, passes_to, passes_for}
+use Rattle.aia_model.specs.Passes.{passes_to, passes_for}
 use Rattle.aia_move.specs.Targets.{TargetMap, AimsOne, Aim, AimsAs, aims, aim_if, next_aim}
 use Rattle.aia_hyp.proofs.OwnPasses.{aims_alike}
 use Rattle.aia_hyp.proofs.AimLines.{AimOf, aim_stands, later_moves, aim_is_not_last}
@@ -126,6 +126,7 @@ begin_call x y want found who old new given named its world s b =
 -- how many steps are left
 pub left_fewer : (words : ℕ) (there : Home) (access : Access) → IsNext words there access → steps_left words (one_more there) < steps_left words there
 left_fewer words Parked access next = let no : false ≡ true = next.has in absurd (cc)
+left_fewer words Entered access next = let no : false ≡ true = next.has in absurd (cc)
 left_fewer words (Resident p) access next = let no : false ≡ true = next.has in absurd (cc)
 left_fewer words (Leaving from at) access next =
     let low : at.steps < length (leave_plan words) = slice_get_within (leave_plan words) at.steps access (next_in_plan words (Leaving from at) access next) in
@@ -142,6 +143,7 @@ left_fewer words (Shifting from to at) access next =
 
 aims_stay : (there : Home) → aims_done (one_more there) ≡ aims_done there
 aims_stay Parked = refl
+aims_stay Entered = refl
 aims_stay (Resident p) = refl
 aims_stay (Leaving from at) = refl
 aims_stay (Arriving to at) = refl
@@ -342,6 +344,7 @@ landed_goes x landed y who plan last unaimed c a =
 
 aims_once : (there : Home) → is_moving there ≡ true → aims_done (aimed there) ≡ suc (aims_done there)
 aims_once Parked moves = absurd (true≢false (sym moves))
+aims_once Entered moves = absurd (true≢false (sym moves))
 aims_once (Resident p) moves = absurd (true≢false (sym moves))
 aims_once (Leaving from at) moves = omega arith
 aims_once (Arriving to at) moves = omega arith
@@ -349,6 +352,7 @@ aims_once (Shifting from to at) moves = omega arith
 
 left_aimed : (words : ℕ) (there : Home) → steps_left words (aimed there) ≡ steps_left words there
 left_aimed words Parked = refl
+left_aimed words Entered = refl
 left_aimed words (Resident p) = refl
 left_aimed words (Leaving from at) = refl
 left_aimed words (Arriving to at) = refl

@@ -1,14 +1,14 @@
 -- A whole move: it begins, and all its steps are done.
-use Rattle.std.proofs.Common.{◌≡◌, ℕ, zero, suc, ◌+◌, ◌≤◌, Bool, true, false, ◌&&◌, not, cond, nat_eq, nat_lt, List, is_none, ◌∷◌, Option, Some, None, unwrap_or, refl, sym, ap, subst, ◌∙◌, arith}
+use Rattle.std.proofs.Common.{◌≡◌, ℕ, zero, suc, ◌+◌, ◌≤◌, Bool, true, false, ◌&&◌, not, cond, nat_lt, List, is_none, ◌∷◌, Option, Some, None, unwrap_or, refl, sym, ap, subst, ◌∙◌, arith}
 use Rattle.std.specs.Option.{option_map_or}
 use Rattle.std.proofs.lemmas.Bool.{cond-true, cond-false, and_parts, lt-ltb, ltb-true, eqb-true, true≢false}
 use Rattle.std.proofs.lemmas.Bool.Decides.{nat_tests}
 use Rattle.std.proofs.lemmas.Option.{none-some}
 use Rattle.aia_home.specs.declared.vm.Vm.{Vm}
 use Rattle.aia_home.specs.Vms.{Vcpu, vcpu, is_vcpu_in}
-use Rattle.aia_home.specs.Home.{Home, is_parked, is_resident, is_moving, leaving, arriving, shifting, one_more}
+use Rattle.aia_home.specs.Home.{Home, is_entered, rests_in_memory, is_resident, is_moving, leaving, arriving, shifting, one_more}
 use Rattle.aia_home.specs.Plans.{is_at_last}
-use Rattle.aia_home.specs.Home.Home.{Parked, Resident, Leaving, Arriving, Shifting}
+use Rattle.aia_home.specs.Home.Home.{Parked, Entered, Resident, Leaving, Arriving, Shifting}
 use Rattle.aia_hyp.specs.declared.moves.Found.{Found}
 use Rattle.aia_move.specs.Move.{}
 use Rattle.aia_model.specs.declared.answer.Answer.{Answer}
@@ -136,27 +136,30 @@ pub record Accepts (h : History) (line_refusal : Option Answer) (move : Move) (g
   pub accepted : line_refusal ≡ None
   pub begun : IsAt move (passes_for h g) 0 (home (Began move ∷ h) g)
 
-leave_begun_at : (h : History) (g : Vcpu) (there : Home) → home h g ≡ there → is_moving there ≡ false → is_parked there ≡ false → IsAt (Leaves g) (passes_for h g) 0 (home (Began (Leaves g) ∷ h) g)
+leave_begun_at : (h : History) (g : Vcpu) (there : Home) → home h g ≡ there → is_moving there ≡ false → rests_in_memory there ≡ false → IsAt (Leaves g) (passes_for h g) 0 (home (Began (Leaves g) ∷ h) g)
 leave_begun_at h g (Resident p) e still home_is = subst (IsAt (Leaves g) (passes_for h g) 0) (sym (home_step (Began (Leaves g)) h g ∙ cond-true _ _ _ (is_itself g) ∙ ap leaving e)) (record { on = tt; count = refl; few = omega arith })
 leave_begun_at h g Parked e still home_is = absurd (true≢false home_is)
+leave_begun_at h g Entered e still home_is = absurd (true≢false home_is)
 leave_begun_at h g (Leaving from at) e still home_is = absurd (true≢false still)
 leave_begun_at h g (Arriving to at) e still home_is = absurd (true≢false still)
 leave_begun_at h g (Shifting from to at) e still home_is = absurd (true≢false still)
 
-arrive_begun_at : (h : History) (g : Vcpu) (hart : ℕ) (there : Home) (o : Option ℕ) → home h g ≡ there → free_file h (home h) hart ≡ o → is_moving there ≡ false → is_resident there ≡ false → is_none o ≡ false → IsAt (Arrives g hart) (passes_for h g) 0 (home (Began (Arrives g hart) ∷ h) g)
-arrive_begun_at h g hart Parked (Some file) e free still away some =
+arrive_begun_at : (h : History) (g : Vcpu) (hart : ℕ) (there : Home) (o : Option ℕ) → home h g ≡ there → free_file h (home h) hart ≡ o → is_moving there ≡ false → is_resident there ≡ false → is_entered there ≡ false → is_none o ≡ false → IsAt (Arrives g hart) (passes_for h g) 0 (home (Began (Arrives g hart) ∷ h) g)
+arrive_begun_at h g hart Parked (Some file) e free still away waits some =
     subst (IsAt (Arrives g hart) (passes_for h g) 0) (sym (home_step (Began (Arrives g hart)) h g ∙ cond-true _ _ _ (is_itself g) ∙ ap (λ o. option_map_or (λ file. arriving (place hart file) (home h g)) o (home h g)) free ∙ ap (arriving (place hart file)) e)) (record { on = tt; count = refl; few = omega arith })
-arrive_begun_at h g hart Parked None e free still away some = absurd (true≢false some)
-arrive_begun_at h g hart (Resident p) o e free still away some = absurd (true≢false away)
-arrive_begun_at h g hart (Leaving from at) o e free still away some = absurd (true≢false still)
-arrive_begun_at h g hart (Arriving to at) o e free still away some = absurd (true≢false still)
-arrive_begun_at h g hart (Shifting from to at) o e free still away some = absurd (true≢false still)
+arrive_begun_at h g hart Parked None e free still away waits some = absurd (true≢false some)
+arrive_begun_at h g hart Entered o e free still away waits some = absurd (true≢false waits)
+arrive_begun_at h g hart (Resident p) o e free still away waits some = absurd (true≢false away)
+arrive_begun_at h g hart (Leaving from at) o e free still away waits some = absurd (true≢false still)
+arrive_begun_at h g hart (Arriving to at) o e free still away waits some = absurd (true≢false still)
+arrive_begun_at h g hart (Shifting from to at) o e free still away waits some = absurd (true≢false still)
 
-shift_begun_at : (h : History) (g : Vcpu) (hart : ℕ) (there : Home) (o : Option ℕ) → home h g ≡ there → free_file h (home h) hart ≡ o → is_moving there ≡ false → is_parked there ≡ false → is_none o ≡ false → IsAt (Shifts g hart) (passes_for h g) 0 (home (Began (Shifts g hart) ∷ h) g)
+shift_begun_at : (h : History) (g : Vcpu) (hart : ℕ) (there : Home) (o : Option ℕ) → home h g ≡ there → free_file h (home h) hart ≡ o → is_moving there ≡ false → rests_in_memory there ≡ false → is_none o ≡ false → IsAt (Shifts g hart) (passes_for h g) 0 (home (Began (Shifts g hart) ∷ h) g)
 shift_begun_at h g hart (Resident p) (Some file) e free still home_is some =
     subst (IsAt (Shifts g hart) (passes_for h g) 0) (sym (home_step (Began (Shifts g hart)) h g ∙ cond-true _ _ _ (is_itself g) ∙ ap (λ o. option_map_or (λ file. shifting (place hart file) (home h g)) o (home h g)) free ∙ ap (shifting (place hart file)) e)) (record { on = tt; count = refl; few = omega arith })
 shift_begun_at h g hart (Resident p) None e free still home_is some = absurd (true≢false some)
 shift_begun_at h g hart Parked o e free still home_is some = absurd (true≢false home_is)
+shift_begun_at h g hart Entered o e free still home_is some = absurd (true≢false home_is)
 shift_begun_at h g hart (Leaving from at) o e free still home_is some = absurd (true≢false still)
 shift_begun_at h g hart (Arriving to at) o e free still home_is some = absurd (true≢false still)
 shift_begun_at h g hart (Shifting from to at) o e free still home_is some = absurd (true≢false still)
@@ -170,7 +173,7 @@ module _ (h : History) (vm number : ℕ) (machine : has_machine h ≡ true) wher
       let is = leave_refusal h vm number machine in
       let range = passed (not (has_vcpu h (vcpu vm number))) words.Range _ (e ∙ ap (λ o. unwrap_or o Okay) is) in
       let busy = passed (is_moving its) words.Busy _ range.1 in
-      let parked = passed (is_parked its) words.Parked None busy.1 in
+      let parked = passed (rests_in_memory its) words.Parked None busy.1 in
       record {
         accepted = is ∙ cond-false _ _ _ range.0 ∙ cond-false _ _ _ busy.0 ∙ cond-false _ _ _ parked.0;
         begun = leave_begun_at h (vcpu vm number) its refl busy.0 parked.0;
@@ -182,10 +185,11 @@ module _ (h : History) (vm number : ℕ) (machine : has_machine h ≡ true) wher
       let range = passed (not (has_vcpu h (vcpu vm number) && has_hart h hart)) words.Range _ (e ∙ ap (λ o. unwrap_or o Okay) is) in
       let busy = passed (is_moving its) words.Busy _ range.1 in
       let resident = passed (is_resident its) words.Home _ busy.1 in
-      let full = passed (is_none (free_file h (home h) hart)) words.NoFile None resident.1 in
+      let waits = passed (is_entered its) words.Entered _ resident.1 in
+      let full = passed (is_none (free_file h (home h) hart)) words.NoFile None waits.1 in
       record {
-        accepted = is ∙ cond-false _ _ _ range.0 ∙ cond-false _ _ _ busy.0 ∙ cond-false _ _ _ resident.0 ∙ cond-false _ _ _ full.0;
-        begun = arrive_begun_at h (vcpu vm number) hart its (free_file h (home h) hart) refl refl busy.0 resident.0 full.0;
+        accepted = is ∙ cond-false _ _ _ range.0 ∙ cond-false _ _ _ busy.0 ∙ cond-false _ _ _ resident.0 ∙ cond-false _ _ _ waits.0 ∙ cond-false _ _ _ full.0;
+        begun = arrive_begun_at h (vcpu vm number) hart its (free_file h (home h) hart) refl refl busy.0 resident.0 waits.0 full.0;
       }
 
   shift_accepts : (hart : ℕ) → Okay ≡ unwrap_or (refusal h (move_line vm number (wants.Shift hart))) Okay → Accepts h (refusal h (move_line vm number (wants.Shift hart))) (Shifts (vcpu vm number) hart) (vcpu vm number)
@@ -193,7 +197,7 @@ module _ (h : History) (vm number : ℕ) (machine : has_machine h ≡ true) wher
       let is = shift_refusal h vm number hart machine in
       let range = passed (not (has_vcpu h (vcpu vm number) && has_hart h hart)) words.Range _ (e ∙ ap (λ o. unwrap_or o Okay) is) in
       let busy = passed (is_moving its) words.Busy _ range.1 in
-      let parked = passed (is_parked its) words.Parked _ busy.1 in
+      let parked = passed (rests_in_memory its) words.Parked _ busy.1 in
       let full = passed (is_none (free_file h (home h) hart)) words.NoFile None parked.1 in
       record {
         accepted = is ∙ cond-false _ _ _ range.0 ∙ cond-false _ _ _ busy.0 ∙ cond-false _ _ _ parked.0 ∙ cond-false _ _ _ full.0;

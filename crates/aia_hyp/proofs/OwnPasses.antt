@@ -1,18 +1,16 @@
 -- The passes to one virtual hart, as its plan has them; and what its plan aims.
-use Rattle.std.proofs.Common.{inl, inr, ◌≡◌, ℕ, zero, suc, ◌+◌, ◌<◌, ◌≤◌, Bool, true, false, ◌&&◌, cond, nat_lt, slice_index_or, List, [], ◌∷◌, length, Option, Some, None, refl, sym, ap, subst, ◌∙◌, arith}
+use Rattle.std.proofs.Common.{inl, inr, ◌≡◌, ℕ, zero, suc, ◌+◌, ◌<◌, ◌≤◌, Bool, true, false, cond, nat_lt, slice_index_or, List, [], ◌∷◌, length, Some, None, refl, sym, ap, subst, ◌∙◌, arith}
 use Rattle.std.specs.Prelude.{All}
 use Rattle.std.specs.List.{AllByRecursion}
 use Rattle.std.specs.Int.{is_in_range}
 use Rattle.std.proofs.lemmas.Bool.{cases_Bool, and_parts, ltb-true}
 use Rattle.std.proofs.lemmas.Bool.Decides.{nat_tests}
 use Rattle.aia_regs.specs.declared.limits.TheConstants.{IDENTITIES, PASSES}
-use Rattle.aia_home.specs.Vms.{Vcpu, vcpu, is_vcpu, notice_hart}
-use Rattle.aia_home.specs.Home.{Home}
+use Rattle.aia_home.specs.Vms.{Vcpu, is_vcpu, notice_hart}
 use Rattle.aia_home.specs.BySteps.{new_file}
 use Rattle.aia_home.specs.Aims.{aims_done, is_aiming, target_to}
 use Rattle.aia_move.specs.declared.plan.Plan.{Plan}
 use Rattle.aia_move.specs.declared.who.Pass as plans
-use Rattle.aia_move.specs.Move.{Moving, mover}
 use Rattle.aia_move.specs.Plan.{moving_of}
 use Rattle.aia_move.specs.Targets as targets
 use Rattle.aia_move.specs.Targets.{ArePasses, AimsAs, aims, aim_if, next_aim}

@@ -1,5 +1,5 @@
 -- A store of a VM touches its own places alone, in a core that stands for a history.
-use Rattle.std.proofs.Common.{◌≡◌, ◌≢◌, ℕ, ◌%◌, true, List, slice_get, Option, Some, ◌⊎◌, sym, ap, subst, ◌∙◌}
+use Rattle.std.proofs.Common.{◌≡◌, ◌≢◌, ℕ, ◌%◌, true, List, Option, Some, ◌⊎◌, sym, subst}
 use Rattle.aia_regs.specs.declared.address_map.TheConstants.{PAGE}
 use Rattle.aia_entry.specs.Tables.{table_of, route_of}
 use Rattle.aia_home.specs.declared.place.Place.{Place}
@@ -18,12 +18,12 @@ use Rattle.aia_fabric.proofs.OwnLemmas.{by_entry, own_entry, device_touches, pee
 use Rattle.aia_model.specs.Event.{History}
 use Rattle.aia_model.specs.Flight.{Sending, flight, flying}
 use Rattle.aia_model.specs.GuestFile.{sent_to}
-use Rattle.aia_model.specs.Vms.{vms_of, has_vm, has_vcpu}
+use Rattle.aia_model.specs.Vms.{has_vm, has_vcpu}
 use Rattle.aia_model.specs.HomeOf.{home}
 use Rattle.aia_model.specs.ReachOf.{in_force_of, sent_into, IsForOne}
 use Rattle.aia_model.proofs.FlightLemmas.{all_at}
 use Rattle.aia_hyp.specs.Core.{CoreState}
-use Rattle.aia_hyp.specs.Stands.{CoreStands, flying_of}
+use Rattle.aia_hyp.specs.Stands.{CoreStands}
 use Rattle.aia_hyp.proofs.DeviceLemmas.{leads_to_own}
 use Rattle.aia_hyp.proofs.GuestStores.{devices_held, flying_held, peers_held}
 use Rattle.aia_hyp.proofs.LandingLemmas.{reaches_as_sent}

@@ -5,7 +5,7 @@ use Rattle.std.specs.Int.{is_in_range}
 use Rattle.std.specs.List.{AllByRecursion}
 use Rattle.std.proofs.lemmas.Bool.{cases_Bool, cond-true, cond-false, eq-eqb, le-ltb, le-leb, lt-leb, leb-false, false≢true}
 use Rattle.std.proofs.lemmas.Bool.Decides.{nat_tests}
-use Rattle.std.proofs.lemmas.List.{append_assoc, length-append, get_or-map, get_or_default}
+use Rattle.std.proofs.lemmas.List.{append_assoc, length-append, get_or_default}
 use Rattle.std.proofs.lemmas.Option.{none-some}
 use Rattle.aia_regs.specs.declared.limits.TheConstants.{IDENTITIES, GUEST_FILES, PASSES}
 use Rattle.aia_word.proofs.LeastLemmas.{least_of-found, least_of-none}
@@ -120,6 +120,7 @@ each_and_one P (y ∷ ys) x all one = (all.0, each_and_one P ys x all.1 one)
 -- a plan of a move is of one that is being moved
 pub plan_moves : (w : World) (g : Vcpu) (stay : Stay) → PlanStands w g stay → is_moving (home_in stay) ≡ has_plan stay
 plan_moves w g (stays.Parked kept) p = refl
+plan_moves w g (stays.Entered kept) p = refl
 plan_moves w g (stays.Resident lease) p = refl
 plan_moves w g (stays.Moving plan) p = p.3
 
@@ -129,6 +130,7 @@ moves_as_kept x h g stands there = let v = stands.vcpus g there in ap is_moving 
 -- at rest a pass leads to the guest file where its virtual hart is resident
 rest_reaches : (r : ℕ) (stay : Stay) → has_plan stay ≡ false → resident_at stay ≡ pass_reaches r (home_in stay)
 rest_reaches r (stays.Parked kept) e = sym (cond-false _ _ _ (le-ltb r 0 (omega arith)))
+rest_reaches r (stays.Entered kept) e = sym (cond-false _ _ _ (le-ltb r 0 (omega arith)))
 rest_reaches r (stays.Resident lease) e = sym (cond-false _ _ _ (le-ltb r 0 (omega arith)))
 rest_reaches r (stays.Moving plan) e = absurd (cc)
 
@@ -219,7 +221,7 @@ module _ (x : CoreState) (targets : TargetMap) (source vm number identity : ℕ)
 pub pass_is_quiet : (h : History) (source vm number identity : ℕ) → is_moving (home h (vcpu vm number)) ≡ false → IsQuiet h (Accepted (lines.Pass source vm number identity))
 unfolding passes_of
 pass_is_quiet h source vm number identity rests = record {
-  stays = stays_line h (lines.Pass source vm number identity) refl refl (λ g. refl) (λ g moves. other_own 0 g (record { source = source; to = vcpu vm number; identity = identity }) (passes_of h)
+  stays = stays_line h (lines.Pass source vm number identity) refl refl (λ g. refl) (λ g. refl) (λ g moves. other_own 0 g (record { source = source; to = vcpu vm number; identity = identity }) (passes_of h)
       (is_another (vcpu vm number) g (λ e. false≢true (sym rests ∙ ap (λ z. is_moving (home h z)) e ∙ moves))));
   plain = refl;
 }
@@ -333,6 +335,7 @@ few_identities n identity greatest inside = grind (arith, nat_tests)
 resident_holds : (stay : Stay) (p : Place) → resident_at stay ≡ Some p → holds p (home_in stay) ≡ true
 resident_holds (stays.Resident lease) p e = some_same lease p e
 resident_holds (stays.Parked kept) p e = absurd (cc)
+resident_holds (stays.Entered kept) p e = absurd (cc)
 resident_holds (stays.Moving plan) p e = absurd (cc)
 
 -- where it is resident is a guest file that is there

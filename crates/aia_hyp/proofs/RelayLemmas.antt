@@ -1,5 +1,5 @@
 -- The interrupt of a pass, given on from its notice hart to the slot of its virtual hart.
-use Rattle.std.proofs.Common.{◌≡◌, ◌≢◌, ℕ, ◌+◌, ◌-◌, ◌*◌, ◌%◌, ◌^◌, ◌<◌, ◌≤◌, Bool, true, false, cond, get_or, nat_eq, ◌∷◌, length, slice_index_or, Option, Some, None, inl, inr, refl, sym, ap, subst, ◌∙◌, arith}
+use Rattle.std.proofs.Common.{◌≡◌, ◌≢◌, ℕ, ◌-◌, ◌*◌, ◌%◌, ◌^◌, ◌<◌, ◌≤◌, Bool, true, false, cond, get_or, nat_eq, ◌∷◌, length, slice_index_or, Option, Some, None, inl, inr, refl, sym, ap, subst, ◌∙◌, arith}
 use Rattle.std.specs.Option.{option_map}
 use Rattle.std.specs.Int.{bit_at}
 use Rattle.std.proofs.lemmas.Bool.{cases_eq, cond-true, cond-false, eq-eqb, ne_eqb}
@@ -14,7 +14,7 @@ use Rattle.aia_regs.specs.FileRegisters.{shows, eip_said}
 use Rattle.aia_regs.specs.Operations.{bit_said}
 use Rattle.aia_regs.specs.Request.{requested}
 use Rattle.aia_regs.specs.Word.{Word, settle, names}
-use Rattle.aia_regs.specs.Word.Word.{Ask, Clear, Nothing}
+use Rattle.aia_regs.specs.Word.Word.{Ask, Nothing}
 use Rattle.aia_file.specs.InterruptFile.{InterruptFile, SameFile, is_greatest_identity, accessed, landed}
 use Rattle.aia_file.specs.FileState.{FileState, shown}
 use Rattle.aia_file.proofs.FileLemmas.{same_file}
@@ -37,7 +37,7 @@ use Rattle.aia_fabric.proofs.FrameLemmas.{by_parts, posts_rest}
 use Rattle.aia_fabric.proofs.WholeLemmas.{width_at}
 use Rattle.aia_model.specs.Event.{History, file_words}
 use Rattle.aia_model.specs.Event.Event.{Relayed}
-use Rattle.aia_model.specs.Vms.{vms_of, has_vcpu}
+use Rattle.aia_model.specs.Vms.{vms_of}
 use Rattle.aia_model.specs.HomeOf.{home}
 use Rattle.aia_model.specs.Passes.{Pass, no_pass, passes_of, nth_pass}
 use Rattle.aia_model.specs.Aim.{pass_reach}

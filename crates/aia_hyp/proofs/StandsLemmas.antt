@@ -157,6 +157,7 @@ with_flights x y h event flights b = record {
   where
     plan_with : (w : World) (flights : List (List Flying)) (g : Vcpu) (stay : Stay) → PlanStands w g stay → PlanStands (record w { flights = flights }) g stay
     plan_with w flights g (stays.Parked kept) p = tt
+    plan_with w flights g (stays.Entered kept) p = tt
     plan_with w flights g (stays.Resident lease) p = tt
     plan_with w flights g (stays.Moving plan) p = (fits_still w (record w { flights = flights }) (moving_of plan) (record { n = refl; vms = refl; harts = refl; guests = refl }) p.0, p.1, p.2, p.3)
 

@@ -3,7 +3,7 @@ use Rattle.std.specs.Prelude.{◌≡◌, ℕ, Bool, true, false, List, Option, S
 use Rattle.aia_home.specs.declared.place.Place.{Place}
 use Rattle.aia_home.specs.Vms.{Vcpu, slot_of}
 use Rattle.aia_home.specs.Home.{Home}
-use Rattle.aia_home.specs.Home.Home.{Parked, Resident}
+use Rattle.aia_home.specs.Home.Home.{Parked, Entered, Resident}
 use Rattle.aia_major.specs.VsMajor.{VsMajorState}
 use Rattle.aia_major.specs.Kept.{majors_shown, kept_at_first}
 use Rattle.aia_places.specs.Holds.{Hand}
@@ -50,6 +50,7 @@ pub record MajorsDone (old new : List VcpuRecord) (slot : ℕ) (done : VsMajorSt
 -- Its home, as it is kept.
 abbrev pub home_in : Stay → Home
 home_in (stays.Parked kept) = Parked
+home_in (stays.Entered kept) = Entered
 home_in (stays.Resident lease) = Resident lease
 home_in (stays.Moving plan) = (moving_of plan).home
 
@@ -58,15 +59,30 @@ abbrev pub resident_at : Stay → Option Place
 resident_at (stays.Resident lease) = Some lease
 resident_at stay = None
 
+-- The numbers that are kept of one that runs from memory.
+abbrev pub entered_at : Stay → Option Kept
+entered_at (stays.Entered kept) = Some kept
+entered_at stay = None
+
+-- Whether it runs, as it is kept.
+abbrev pub runs_in : Stay → Bool
+runs_in (stays.Resident lease) = true
+runs_in (stays.Entered kept) = true
+runs_in stay = false
+
 -- Whether it is being moved, as it is kept.
 abbrev pub has_plan : Stay → Bool
 has_plan (stays.Moving plan) = true
 has_plan stay = false
 
--- What is carried or kept of its interrupt file: of a parked one the two numbers, of a resident one
--- nothing, on a move what the move carries.
-abbrev pub hand_in : Stay → Hand
-hand_in (stays.Parked kept) =
+-- What is carried or kept of its interrupt file: of one whose interrupts rest in memory the two
+-- numbers, of a resident one nothing, on a move what the move carries.
+abbrev pub hand_of : Kept → Hand
+hand_of kept =
     record { word = 0; delivery = kept.delivery; threshold = kept.threshold; seen = false }
+
+abbrev pub hand_in : Stay → Hand
+hand_in (stays.Parked kept) = hand_of kept
+hand_in (stays.Entered kept) = hand_of kept
 hand_in (stays.Resident lease) = record { word = 0; delivery = 0; threshold = 0; seen = false }
 hand_in (stays.Moving plan) = (moving_of plan).hand

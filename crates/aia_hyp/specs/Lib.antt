@@ -3,4 +3,5 @@ pub mod Passes
 pub mod HostFiles
 pub mod Stands
 pub mod Moves
+pub mod Memory
 pub mod Example

@@ -1,5 +1,5 @@
--- The passes of wired sources as the core keeps them and its plans have them, and what calls make of
--- the targets of sources. Profile: passes.
+-- The passes of wired sources as the core keeps them and its plans have them, and what calls make
+-- of the targets of sources. Profile: passes.
 use Rattle.std.specs.Prelude.{◌≡◌, ℕ, zero, suc, true, nat_eq, length, slice_index_or, if◌then◌else◌, List, [], ◌∷◌, Option, Some, None}
 use Rattle.std.specs.Int.{is_in_range}
 use Rattle.aia_word.specs.Sets.{least_of}
@@ -8,13 +8,8 @@ use Rattle.aia_home.specs.Vms.{Vcpu, vcpu, is_vcpu}
 use Rattle.aia_move.specs.declared.who.Pass as plans
 use Rattle.aia_move.specs.Targets.{TargetMap}
 use Rattle.aia_move.specs.Plan.{moving_of}
-use Rattle.aia_model.specs.declared.answer.Answer.{Answer}
-use Rattle.aia_model.specs.declared.line.Line.{Line}
-use Rattle.aia_model.specs.declared.msi.Msi.{Msi}
-use Rattle.aia_model.specs.declared.line.Line.TheVariants as lines
-use Rattle.aia_model.specs.Move.{Move}
-use Rattle.aia_model.specs.Event.{Event, History, sources_of, greatest_identity_of}
-use Rattle.aia_model.specs.Event.Event.{Accepted, Stepped}
+use Rattle.aia_model.specs.Event.{History, sources_of, greatest_identity_of}
+use Rattle.aia_model.specs.Event.Event.{Stepped}
 use Rattle.aia_model.specs.Vms.{has_vcpu}
 use Rattle.aia_model.specs.Act.{Act}
 use Rattle.aia_model.specs.Act.Act.{Aimed}
@@ -22,7 +17,7 @@ use Rattle.aia_model.specs.Sent.{acts_of}
 use Rattle.aia_model.specs.Passes.{Pass, no_pass, passes_of}
 use Rattle.aia_model.specs.Passable.{is_passable}
 use Rattle.aia_model.specs.Aim.{aimed_by, AllAreAimed}
-use Rattle.aia_model.specs.Answer.{step_taken, steps_taken}
+use Rattle.aia_model.specs.Answer.{steps_taken}
 use Rattle.aia_hyp.specs.declared.vcpu.Stay.{Stay}
 use Rattle.aia_hyp.specs.declared.vcpu.Stay.TheVariants as stays
 use Rattle.aia_hyp.specs.declared.passes.Passed.{Passed}

@@ -9,7 +9,7 @@ ghost use Rattle.aia_model.specs.declared.line.Line.TheVariants.{GuestCsr};
 ghost use Rattle.aia_model.specs.declared.answer.Answer.TheVariants.{Wide};
 ghost use Rattle.aia_fabric.specs.Changes.{spot_of};
 ghost use Rattle.aia_fabric.specs.Whole.{IsWhole};
-ghost use Rattle.aia_hyp.specs.Core.{no_record, record_of, resident_at};
+ghost use Rattle.aia_hyp.specs.Core.{no_record, record_of, resident_at, runs_in};
 ghost use Rattle.aia_hyp.specs.Stands.{CoreTakes, answer_by};
 
 use crate::hyp::{Hyp, claim_or_read, select_after};
@@ -23,9 +23,9 @@ use aia_regs::{Csr, Level, Op};
 
 impl Hyp {
     /// Does a CSR instruction of a virtual hart, and answers what the CSR read before it. `Err` is
-    /// `Range` where the virtual hart isn't there, `Away` where it is not resident, and `Illegal`
-    /// or `Virtual` where the access raises an illegal-instruction or a virtual-instruction
-    /// exception; nothing is changed then.
+    /// `Range` where the virtual hart isn't there, `Away` where it doesn't run, or runs from memory
+    /// and the CSR is none of its interrupt file, and `Illegal` or `Virtual` where the access
+    /// raises an illegal-instruction or a virtual-instruction exception; nothing is changed then.
     ///
     /// AIA 1.0, Interrupts for Virtual Machines (VS Level).
     pub fn guest(&mut self, vm: u64, number: u64, csr: Csr, op: Op) -> Result<u64, Refusal>
@@ -37,7 +37,7 @@ impl Hyp {
         }
         match self.resident(vm as u32, number as u32) {
             Some(place) => self.guest_access(vm as u32, number as u32, place, csr, op),
-            None => Err(Refusal::Away),
+            None => self.away_access(vm as u32, number as u32, csr, op),
         }
     }
 
@@ -48,6 +48,15 @@ impl Hyp {
     {
         let slot = self.fabric.slot_of(vm, number);
         self.vcpus[slot as usize].stay.resident()
+    }
+
+    /// Tells whether a virtual hart that is there runs.
+    pub(crate) fn runs(&self, vm: u32, number: u32) -> bool
+        requires { is_vcpu_in self.now.world.vms (vcpu vm number) ≡ true }
+        ensures { result ≡ runs_in (record_of self.now (vcpu vm number)).stay }
+    {
+        let slot = self.fabric.slot_of(vm, number);
+        self.vcpus[slot as usize].stay.runs()
     }
 
     /// Does the access of a virtual hart that is resident in a guest file.
@@ -84,7 +93,7 @@ impl Hyp {
 
     /// Tells what the access of a virtual hart that is there reaches, by its select number and
     /// VTI.
-    fn guest_reached(&self, vm: u32, number: u32, csr: Csr, op: Op) -> Access
+    pub(crate) fn guest_reached(&self, vm: u32, number: u32, csr: Csr, op: Op) -> Access
         requires there { is_vcpu_in self.now.world.vms (vcpu vm number) ≡ true }
         ensures table { result ≡ access_of Level.Guest csr op
             (record_of self.now (vcpu vm number)).select
@@ -105,7 +114,7 @@ fn file_spot(place: Place) -> Spot
 }
 
 /// Accesses the select CSR of the virtual hart of a slot, and gives the old select number.
-fn access_select_in(vcpus: &mut Vec<VcpuRecord>, slot: u32, op: Op) -> u64
+pub(crate) fn access_select_in(vcpus: &mut Vec<VcpuRecord>, slot: u32, op: Op) -> u64
     requires { slot < length vcpus.old.items }
     ensures value { result ≡ (slice_index_or vcpus.old.items slot no_record).select }
     ensures after { vcpus.new.items ≡ slice_set vcpus.old.items slot

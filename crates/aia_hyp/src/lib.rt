@@ -8,6 +8,7 @@ mod guest;
 mod hyp;
 pub mod laws;
 mod majors;
+mod memory;
 mod moves;
 mod passes;
 mod peers;

@@ -51,9 +51,10 @@ pub(crate) struct Found {
 impl Hyp {
     /// Moves a virtual hart, by all steps of its plan. `Err` is `Range` where the virtual hart or
     /// the hart isn't there, `Busy` where it is being moved, `Home` where it is to arrive and is
-    /// resident, `Parked` where it is to leave or shift and is parked, `NoFile` where no guest file
-    /// of the hart is free; nothing is changed then. Its passed sources are aimed at the new place,
-    /// each by its step, and the targets of all others stay. Profile.
+    /// resident, `Entered` where it is to arrive and runs from memory, `Parked` where it is to
+    /// leave or shift and its interrupts rest in memory, `NoFile` where no guest file of the hart
+    /// is free; nothing is changed then. Its passed sources are aimed at the new place, each by its
+    /// step, and the targets of all others stay. Profile.
     pub fn whole<T: Targets>(
         &mut self,
         vm: u64,
@@ -90,8 +91,8 @@ impl Hyp {
     }
 
     /// Does the next step of the move of a virtual hart: one access of its plan, or the aim of one
-    /// passed source at the new place; other targets stay. `true` says that it was the last one, and
-    /// that the move is at its end. `Err` is `Range` where the virtual hart isn't there, `Idle`
+    /// passed source at the new place; other targets stay. `true` says that it was the last one,
+    /// and that the move is at its end. `Err` is `Range` where the virtual hart isn't there, `Idle`
     /// where it is not being moved; nothing is changed then. Profile.
     pub fn step<T: Targets>(
         &mut self,
@@ -256,6 +257,7 @@ fn leave(old: Stay, who: Who) -> (Stay, Result<(), Refusal>)
     match old {
         Stay::Resident(from) => (Stay::Moving(Plan::leave(from, who)), Ok(())),
         Stay::Parked(kept) => (Stay::Parked(kept), Err(Refusal::Parked)),
+        Stay::Entered(kept) => (Stay::Entered(kept), Err(Refusal::Parked)),
         Stay::Moving(plan) => (Stay::Moving(plan), Err(Refusal::Busy)),
     }
 }
@@ -272,6 +274,7 @@ fn arrive(old: Stay, who: Who, hart: u32, pool: &mut Pool) -> (Stay, Result<(), 
             None => (Stay::Parked(kept), Err(Refusal::NoFile)),
         },
         Stay::Resident(from) => (Stay::Resident(from), Err(Refusal::Home)),
+        Stay::Entered(kept) => (Stay::Entered(kept), Err(Refusal::Entered)),
         Stay::Moving(plan) => (Stay::Moving(plan), Err(Refusal::Busy)),
     }
 }
@@ -288,6 +291,7 @@ fn shift(old: Stay, who: Who, hart: u32, pool: &mut Pool) -> (Stay, Result<(), R
             None => (Stay::Resident(from), Err(Refusal::NoFile)),
         },
         Stay::Parked(kept) => (Stay::Parked(kept), Err(Refusal::Parked)),
+        Stay::Entered(kept) => (Stay::Entered(kept), Err(Refusal::Parked)),
         Stay::Moving(plan) => (Stay::Moving(plan), Err(Refusal::Busy)),
     }
 }

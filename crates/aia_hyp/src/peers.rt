@@ -10,7 +10,7 @@ impl Hyp {
     /// space, of the interrupt file of virtual hart `to` of its VM, which may be itself: it asks
     /// there for the identity that the value names, and where the interrupts of `to` are in memory,
     /// a notice is sent if that one is enabled. `Err` is `Range` where the sender isn't there,
-    /// `Away` where it is not resident, `GFault` where there is no virtual hart `to`; nothing is
+    /// `Away` where it does not run, `GFault` where there is no virtual hart `to`; nothing is
     /// changed then.
     ///
     /// AIA 1.0, Interprocessor Interrupts (IPIs); the hypervisor extension 1.0.
@@ -21,7 +21,7 @@ impl Hyp {
         if !self.fabric.has_vcpu(vm, number) {
             return Err(Refusal::Range);
         }
-        if self.resident(vm as u32, number as u32).is_none() {
+        if !self.runs(vm as u32, number as u32) {
             return Err(Refusal::Away);
         }
         if !self.fabric.has_vcpu(vm, to) {

@@ -1,5 +1,5 @@
 ghost use Rattle.std.specs.Prelude.{◌≡◌};
-ghost use Rattle.aia_hyp.specs.Core.{no_record, resident_at, has_plan};
+ghost use Rattle.aia_hyp.specs.Core.{no_record, resident_at, entered_at, runs_in, has_plan};
 
 use aia_home::Place;
 use aia_major::VsMajor;
@@ -11,6 +11,9 @@ use aia_pool::FileLease;
 pub enum Stay {
     /// It is parked, its interrupts in its slot of memory.
     Parked(Kept),
+    /// It runs from memory: its interrupts are in its slot, and its instructions on the CSRs of its
+    /// interrupt file are answered from there.
+    Entered(Kept),
     /// It is resident in the guest file of this lease.
     Resident(FileLease),
     /// It is being moved.
@@ -18,15 +21,33 @@ pub enum Stay {
 }
 
 impl Stay {
-    /// Tells the guest file of a virtual hart that is resident, `None` for one that is parked or is
-    /// being moved.
+    /// Tells the guest file of a virtual hart that is resident, `None` for one that is parked, runs
+    /// from memory or is being moved.
     pub fn resident(&self) -> Option<Place>
         ensures { result ≡ resident_at self.now }
     {
         match self {
             Stay::Resident(lease) => Some(lease.place()),
-            Stay::Parked(_) | Stay::Moving(_) => None,
+            Stay::Parked(_) | Stay::Entered(_) | Stay::Moving(_) => None,
         }
+    }
+
+    /// Tells the numbers that are kept of a virtual hart that runs from memory, `None` for any
+    /// other.
+    pub fn entered(&self) -> Option<Kept>
+        ensures { result ≡ entered_at self.now }
+    {
+        match self {
+            Stay::Entered(kept) => Some(*kept),
+            Stay::Parked(_) | Stay::Resident(_) | Stay::Moving(_) => None,
+        }
+    }
+
+    /// Tells whether it runs, in a guest file or from memory.
+    pub fn runs(&self) -> bool
+        ensures { result ≡ runs_in self.now }
+    {
+        matches!(self, Stay::Resident(_) | Stay::Entered(_))
     }
 
     /// Tells whether it is being moved.

@@ -123,6 +123,8 @@ impl Machine {
             Line::BeginLeave { vm, vcpu } => self.begin_move(vm, vcpu, Want::Leave),
             Line::BeginShift { vm, vcpu, hart } => self.begin_move(vm, vcpu, Want::Shift(hart)),
             Line::Step { vm, vcpu } => self.step(vm, vcpu),
+            Line::Enter { vm, vcpu } => self.enter(vm, vcpu),
+            Line::Exit { vm, vcpu } => self.exit(vm, vcpu),
             Line::Inject {
                 vm,
                 vcpu,
@@ -243,6 +245,20 @@ impl Machine {
         }
     }
 
+    /// Has a virtual hart run from memory, by the core.
+    fn enter(&mut self, vm: u64, vcpu: u64) -> Answer
+        ensures { MachineTakes self.old self.new (Line.Enter vm vcpu) result }
+    {
+        okay(self.core.enter(vm, vcpu))
+    }
+
+    /// Has a virtual hart cease to run from memory, by the core.
+    fn exit(&mut self, vm: u64, vcpu: u64) -> Answer
+        ensures { MachineTakes self.old self.new (Line.Exit vm vcpu) result }
+    {
+        okay(self.core.exit(vm, vcpu))
+    }
+
     /// Gives a major interrupt of a virtual hart a level in `hvip`, by the core.
     fn inject(&mut self, vm: u64, vcpu: u64, bit: u64, level: bool) -> Answer
         ensures { MachineTakes self.old self.new (Line.Inject vm vcpu bit level) result }
@@ -319,8 +335,8 @@ impl Machine {
         }
     }
 
-    /// Stores to a register of a domain, 0 or 1, in whose control region the address lies; `Guarded`
-    /// where the store would redirect the MSIs of passed sources.
+    /// Stores to a register of a domain, 0 or 1, in whose control region the address lies;
+    /// `Guarded` where the store would redirect the MSIs of passed sources.
     fn store_register(&mut self, domain: u32, addr: u64, value: u32) -> Answer
         requires named { domain_at addr ≡ Some (domain_name domain) }
         requires few { domain ≤ 1 }

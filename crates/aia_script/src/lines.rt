@@ -1,7 +1,7 @@
 //! Lines: what follows each keyword.
 
 ghost use Rattle.std.specs.Prelude.{◌≡◌};
-ghost use Rattle.aia_model.specs.Reading.{machine_at, vm_at, wire_at, load_at, store_at, msi_at, send_at, land_at, refetch_at, pass_at, machine_csr_at, host_at, ipi_at, guest_at, arrive_at, leave_at, shift_at, begin_arrive_at, begin_leave_at, begin_shift_at, begin_after, begin_at, step_at, inject_at, hvictl_at, hviprio_at, pins_at, entry_at, line_after, line_at};
+ghost use Rattle.aia_model.specs.Reading.{machine_at, vm_at, wire_at, load_at, store_at, msi_at, send_at, land_at, refetch_at, pass_at, machine_csr_at, host_at, ipi_at, guest_at, arrive_at, leave_at, shift_at, begin_arrive_at, begin_leave_at, begin_shift_at, begin_after, begin_at, step_at, enter_at, exit_at, inject_at, hvictl_at, hviprio_at, pins_at, entry_at, line_after, line_at};
 ghost use Rattle.aia_script.specs.Cursor.{left};
 
 use crate::instructions::{instruction_after, instruction_at};
@@ -311,6 +311,28 @@ fn step_at(words: &mut Words<'_>) -> Option<Line>
     at_end(words, Line::Step { vm, vcpu })
 }
 
+/// Reads the line that the words after `enter` spell; `None` where they spell none.
+#[tactic(auto, unfolding(aia_model::specs::Reading::enter_at))]
+#[inline(always)]
+fn enter_at(words: &mut Words<'_>) -> Option<Line>
+    ensures { result ≡ enter_at (left words.old) }
+{
+    let vm = number_at(words)?;
+    let vcpu = number_at(words)?;
+    at_end(words, Line::Enter { vm, vcpu })
+}
+
+/// Reads the line that the words after `exit` spell; `None` where they spell none.
+#[tactic(auto, unfolding(aia_model::specs::Reading::exit_at))]
+#[inline(always)]
+fn exit_at(words: &mut Words<'_>) -> Option<Line>
+    ensures { result ≡ exit_at (left words.old) }
+{
+    let vm = number_at(words)?;
+    let vcpu = number_at(words)?;
+    at_end(words, Line::Exit { vm, vcpu })
+}
+
 /// Reads the line that the words after `inject` spell; `None` where they spell none.
 #[tactic(auto, unfolding(aia_model::specs::Reading::inject_at))]
 #[inline(always)]
@@ -418,6 +440,10 @@ fn line_after(keyword: &[u8], words: &mut Words<'_>) -> Option<Line>
         begin_at(words)
     } else if is_word(keyword, b"step") {
         step_at(words)
+    } else if is_word(keyword, b"enter") {
+        enter_at(words)
+    } else if is_word(keyword, b"exit") {
+        exit_at(words)
     } else if is_word(keyword, b"inject") {
         inject_at(words)
     } else if is_word(keyword, b"hvictl") {

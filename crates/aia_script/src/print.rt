@@ -84,6 +84,7 @@ fn push_refusal(out: &mut ArrayVec<u8, 64>, word: Refusal)
         Refusal::Full => push_text(out, b"full"),
         Refusal::Busy => push_text(out, b"busy"),
         Refusal::Home => push_text(out, b"home"),
+        Refusal::Entered => push_text(out, b"entered"),
         Refusal::Parked => push_text(out, b"parked"),
         Refusal::NoFile => push_text(out, b"nofile"),
         Refusal::Passed => push_text(out, b"passed"),

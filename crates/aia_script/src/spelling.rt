@@ -280,6 +280,8 @@ fn push_line(line: &Line, out: &mut ArrayVec<u8, LINE_BYTES>)
             push_decimal(out, hart);
         }
         Line::Step { vm, vcpu } => push_virtual(out, b"step", vm, vcpu),
+        Line::Enter { vm, vcpu } => push_virtual(out, b"enter", vm, vcpu),
+        Line::Exit { vm, vcpu } => push_virtual(out, b"exit", vm, vcpu),
         Line::Inject {
             vm,
             vcpu,

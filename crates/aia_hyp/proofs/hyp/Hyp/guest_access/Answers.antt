@@ -1,24 +1,22 @@
-use Rattle.std.proofs.Common.{◌≡◌, ℕ, ◌<◌, length, get_or, set, true, false, refl, sym, ap, subst, ◌∙◌, Some, arith}
+use Rattle.std.proofs.Common.{◌≡◌, get_or, set, true, false, refl, sym, ap, subst, ◌∙◌, Some, arith}
 use Rattle.aia_regs.specs.declared.access.Csr.TheVariants as csrs
 use Rattle.aia_regs.specs.declared.access.Csr.{Csr}
-use Rattle.aia_regs.specs.declared.access.Op.{Op}
 use Rattle.aia_regs.specs.declared.file_registers.FileReg.{FileReg}
 use Rattle.aia_regs.specs.FileRegisters.{select_written}
-use Rattle.aia_csr.specs.declared.access.Access.{Access}
 use Rattle.aia_csr.specs.declared.access.Access.TheVariants as reaches
 use Rattle.aia_file.specs.InterruptFile.{SameFile, register_value, top_of, accessed, signals}
 use Rattle.aia_file.specs.FileState.{FileState, shown}
 use Rattle.aia_imsic.specs.declared.spot.Spot.{Spot}
 use Rattle.aia_imsic.specs.Imsic.{IsThere, file_at, with_file}
 use Rattle.aia_home.specs.declared.place.Place.{Place}
-use Rattle.aia_home.specs.Vms.{Vcpu, vcpu, vcpus_in, is_vcpu_in, slot_of}
+use Rattle.aia_home.specs.Vms.{Vcpu, vcpu, is_vcpu_in}
 use Rattle.aia_fabric.specs.Whole.{IsWhole}
 use Rattle.aia_fabric.specs.Changes.{spot_of}
 use Rattle.aia_model.specs.declared.answer.Answer.TheVariants.{Wide}
 use Rattle.aia_model.specs.declared.line.Line.TheVariants.{GuestCsr}
 use Rattle.aia_word.specs.Top.{top_value}
 use Rattle.aia_regs.specs.Operations.{is_writing}
-use Rattle.aia_major.specs.VsMajor.{vti_of, with_sip, with_sie, stopi_value, sip_value, sie_value}
+use Rattle.aia_major.specs.VsMajor.{with_sip, with_sie, stopi_value, sip_value, sie_value}
 use Rattle.aia_major.specs.Kept.{majors_shown}
 use Rattle.aia_model.specs.Event.Event.{Accepted}
 use Rattle.aia_model.specs.Answer.{guest_csr_value}
@@ -27,8 +25,8 @@ use Rattle.aia_model.specs.FileAfter.FileDeed.{Accesses}
 use Rattle.aia_hyp.specs.Core.{CoreState, no_record, record_of, resident_at, MajorsDone}
 use Rattle.aia_hyp.specs.Stands.{StandsForSome, CoreTakes}
 use Rattle.aia_hyp.proofs.EventLemmas.{still}
-use Rattle.aia_hyp.proofs.AccessLemmas.{IsReachedBy, reached_by}
-use Rattle.aia_hyp.proofs.GuestAccesses.{access_by, file_there, guest_select_done, guest_file_done, guest_accessed, guest_virtual, guest_illegal}
+use Rattle.aia_hyp.proofs.GuestLookups.{reached, names, slot_low}
+use Rattle.aia_hyp.proofs.GuestAccesses.{file_there, guest_select_done, guest_file_done, guest_accessed, guest_virtual, guest_illegal}
 use Rattle.aia_hyp.proofs.MajorLemmas.{IsOfMajors, accesses_sip, accesses_sie, accesses_topi, majors_accessed, majors_stay, stopi_read, sip_read, sie_read}
 use Rattle.aia_hyp.proofs.hyp.Hyp.guest_access.Goals.{After-access_select_in, After-reg, After-claim_or_read, After-stopi_in, After-access_sip_in, After-access_sie_in}
 use Rattle.aia_hyp.proofs.hyp.Hyp.guest_access.Goals as goal
@@ -41,15 +39,6 @@ record IsAsked (x : CoreState) (g : Vcpu) (p : Place) : Type 0 where
 
 asked : (x y : CoreState) (g : Vcpu) (p : Place) → x ≡ y → IsAsked y g p → IsAsked x g p
 asked x y g p e a = subst (λ (z : CoreState). IsAsked z g p) (sym e) a
-
-reached : (x y : CoreState) (g : Vcpu) (access was : Access) (csr : Csr) (op : Op) → x ≡ y → was ≡ access → was ≡ access_by (record_of y g) csr op → access ≡ access_by (record_of x g) csr op
-reached x y g access was csr op e is table = sym is ∙ table ∙ ap (λ (z : CoreState). access_by (record_of z g) csr op) (sym e)
-
-names : (x : CoreState) (g : Vcpu) (access : Access) (csr : Csr) (op : Op) → access ≡ access_by (record_of x g) csr op → IsReachedBy csr op (record_of x g).select access
-names x g access csr op e = reached_by csr op (record_of x g).select (vti_of (majors_shown (record_of x g).majors).hvictl) access e
-
-slot_low : (x : CoreState) (g : Vcpu) (slot : ℕ) → StandsForSome x → slot ≡ slot_of x.world.vms g → slot < vcpus_in x.world.vms → slot_of x.world.vms g < length x.vcpus
-slot_low x g slot some e below = omega (arith, below, e, some.stands.records, ap vcpus_in some.stands.vms)
 
 select_taken : (c : After-access_select_in) → CoreTakes (record { world = c.self.inside.fabric; leases = c.self.inside.pool; vcpus = c.self.inside.vcpus.items; selects = c.self.inside.selects; passes = c.self.inside.passes }) (record { world = c.self.inside.fabric; leases = c.self.inside.pool; vcpus = c.access_select_in.new.vcpus.items; selects = c.self.inside.selects; passes = c.self.inside.passes }) (GuestCsr c.args.vm c.args.number c.args.csr c.args.op) (Wide c.access_select_in.result)
 select_taken c =

@@ -1,9 +1,9 @@
-use Rattle.std.proofs.Common.{◌≡◌, true, false, not, is_none, refl, sym, ap, subst, ◌∙◌, arith}
+use Rattle.std.proofs.Common.{◌≡◌, true, false, refl, sym, subst, ◌∙◌, arith}
 use Rattle.aia_home.specs.Vms.{vcpu, is_vcpu_in}
 use Rattle.aia_fabric.proofs.WholeLemmas.{vcpu_entry}
 use Rattle.aia_model.specs.declared.answer.Answer.TheVariants.{Okay}
 use Rattle.aia_model.specs.declared.line.Line.TheVariants.{Ipi}
-use Rattle.aia_hyp.specs.Core.{CoreState, record_of, resident_at}
+use Rattle.aia_hyp.specs.Core.{CoreState, record_of, runs_in}
 use Rattle.aia_hyp.specs.Stands.{CoreTakes}
 use Rattle.aia_hyp.proofs.EventLemmas.{still}
 use Rattle.aia_hyp.proofs.PeerLemmas.{no_sender, sender_away, no_peer, ipi_taken}
@@ -18,18 +18,16 @@ overflow_cast-number c =
     let low = (vcpu_entry c.self.inside.fabric c.args.vm c.args.number c.has_vcpu.ensures.whole (sym c.has_vcpu.ensures.value ∙ c.if-not-has_vcpu.false)).2 in
     omega (arith, low)
 
-pub returns-then-is_none : goal.returns-then-is_none
-returns-then-is_none c =
-    let away : is_none (resident_at (record_of c.args.self.now (vcpu c.args.vm c.args.number)).stay) ≡ true = ap is_none (sym c.resident.ensures) ∙ ap not (c.is_none.ensures ∙ ap not c.if-is_none.true) in
+pub returns-then-not-runs : goal.returns-then-not-runs
+returns-then-not-runs c =
     let there = subst (λ (x : CoreState). is_vcpu_in x.world.vms (vcpu c.args.vm c.args.number) ≡ true) c.self.view_is (sym c.has_vcpu.ensures.value ∙ c.if-not-has_vcpu.false) in
-    sender_away c.args.self.now c.args.vm c.args.number c.args.to c.args.value there away
+    sender_away c.args.self.now c.args.vm c.args.number c.args.to c.args.value there (sym c.runs.ensures ∙ c.if-not-runs.true)
 
 pub returns-then-not-has_vcpu-2 : goal.returns-then-not-has_vcpu-2
 returns-then-not-has_vcpu-2 c =
-    let resident : is_none (resident_at (record_of c.args.self.now (vcpu c.args.vm c.args.number)).stay) ≡ false = ap is_none (sym c.resident.ensures) ∙ ap not (c.is_none.ensures ∙ ap not c.if-is_none.false) in
     let there = subst (λ (x : CoreState). is_vcpu_in x.world.vms (vcpu c.args.vm c.args.number) ≡ true) c.self.view_is (sym c.has_vcpu.ensures.value ∙ c.if-not-has_vcpu.false) in
     let lacks = subst (λ (x : CoreState). is_vcpu_in x.world.vms (vcpu c.args.vm c.args.to) ≡ false) c.self.view_is (sym c.has_vcpu-2.ensures.value ∙ c.if-not-has_vcpu-2.true) in
-    no_peer c.args.self.now c.args.vm c.args.number c.args.to c.args.value there resident lacks
+    no_peer c.args.self.now c.args.vm c.args.number c.args.to c.args.value there (sym c.runs.ensures ∙ c.if-not-runs.false) lacks
 
 pub overflow_cast-to : goal.overflow_cast-to
 overflow_cast-to c =
@@ -40,7 +38,7 @@ taken : (c : After-guest_store) → CoreTakes (record { world = c.self.inside.fa
 taken c =
     let sender = sym c.has_vcpu.ensures.value ∙ c.if-not-has_vcpu.false in
     let there = sym c.has_vcpu-2.ensures.value ∙ c.if-not-has_vcpu-2.false in
-    let kept = subst (λ (x : CoreState). is_none (resident_at (record_of x (vcpu c.args.vm c.args.number)).stay) ≡ false) (sym c.self.view_is) (ap is_none (sym c.resident.ensures) ∙ ap not (c.is_none.ensures ∙ ap not c.if-is_none.false)) in
+    let kept = subst (λ (x : CoreState). runs_in (record_of x (vcpu c.args.vm c.args.number)).stay ≡ true) (sym c.self.view_is) (sym c.runs.ensures ∙ c.if-not-runs.false) in
     ipi_taken _ _ c.args.vm c.args.number c.args.to c.args.value c.has_vcpu.ensures.whole sender kept there c.guest_store.ensures.relays refl refl refl refl
 
 pub invariant_of-self : goal.invariant_of-self

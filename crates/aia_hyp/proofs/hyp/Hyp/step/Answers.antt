@@ -1,16 +1,13 @@
-use Rattle.std.proofs.Common.{◌≡◌, true, sym, subst, ◌∙◌}
+use Rattle.std.proofs.Common.{◌≡◌, sym, subst, ◌∙◌}
 use Rattle.aia_hyp.specs.Moves.{IsFound, UnlessRefused}
-use Rattle.aia_home.specs.Vms.{vcpu, is_vcpu_in}
+use Rattle.aia_home.specs.Vms.{vcpu}
 use Rattle.aia_model.specs.declared.line.Line.TheVariants.{Step}
 use Rattle.aia_model.specs.declared.refusal.Refusal.TheVariants.{Idle}
 use Rattle.aia_model.specs.declared.answer.Answer.TheVariants.{Refused}
-use Rattle.aia_move.specs.declared.plan.Plan.{Plan}
-use Rattle.aia_move.specs.Plan.{moving_of}
-use Rattle.aia_hyp.specs.declared.vcpu.Stay.TheVariants as stays
-use Rattle.aia_hyp.specs.Core.{CoreState, record_of}
-use Rattle.aia_hyp.specs.Moves.{MakesOne, step_answer}
+use Rattle.aia_hyp.specs.Core.{CoreState}
+use Rattle.aia_hyp.specs.Moves.{step_answer}
 use Rattle.aia_hyp.specs.Stands.{StandsForSome, CoreTakes}
-use Rattle.aia_hyp.proofs.MoveLines.{step_unrefused, step_refused, step_of_none, step_taken, step_idle, no_step, moved_now}
+use Rattle.aia_hyp.proofs.MoveLines.{step_unrefused, step_taken, step_idle, no_step, moved_now}
 use Rattle.aia_model.specs.Event.{History}
 use Rattle.aia_model.specs.Event.Event.{Stepped}
 use Rattle.aia_model.specs.Aim.{aimed_by}

@@ -1,22 +1,15 @@
-use Rattle.std.proofs.Common.{◌≡◌, ◌+◌, ◌≤◌, ◌/◌, true, get_or, sym, ap, ◌∙◌, subst, arith, refl, List}
+use Rattle.std.proofs.Common.{◌≡◌, true, get_or, sym, ap, ◌∙◌, subst, arith, refl, List}
 use Rattle.std.proofs.Math.ListN.{set}
-use Rattle.aia_home.specs.Vms.{Vcpu, vcpu, is_vcpu_in}
+use Rattle.aia_home.specs.Vms.{vcpu, is_vcpu_in}
 use Rattle.aia_home.specs.Home.{is_moving}
-use Rattle.aia_home.specs.Aims.{is_aiming}
 use Rattle.aia_home.specs.declared.vm.Vm.{Vm}
-use Rattle.aia_regs.specs.declared.limits.TheConstants.{IDENTITIES}
 use Rattle.aia_file.specs.InterruptFile.{is_greatest_identity}
 use Rattle.aia_move.specs.Plan.{moving_of}
-use Rattle.aia_move.specs.Targets.{ArePasses, next_aim}
-use Rattle.aia_model.specs.Event.{History, greatest_identity_of}
-use Rattle.aia_model.specs.Event.Event.{Stepped}
+use Rattle.aia_move.specs.Targets.{next_aim}
+use Rattle.aia_model.specs.Event.{greatest_identity_of}
 use Rattle.aia_model.specs.Vms.{has_vcpu}
-use Rattle.aia_model.specs.Aim.{aimed_by}
-use Rattle.aia_hyp.specs.declared.vcpu.Stay.TheVariants as stays
 use Rattle.aia_hyp.specs.Core.{CoreState, no_record, record_of, home_in}
 use Rattle.aia_hyp.specs.Moves.{IsFound, MoveGoes, is_finished}
-use Rattle.aia_hyp.specs.Passes.{AimsBy}
-use Rattle.aia_hyp.specs.Stands.{CoreStands}
 use Rattle.aia_hyp.proofs.BeginCore.{at_stay}
 use Rattle.aia_hyp.proofs.GuestLemmas.{few_identities}
 use Rattle.aia_hyp.proofs.OwnPasses.{are_passes, aims_so}
