@@ -172,3 +172,27 @@ fn slots_of_virtual_harts_follow_one_another(rt: HostRuntime) -> Result<(), Fail
     }
     Ok(())
 }
+
+/// Of the second virtual hart of the second VM: what it does in its slot itself sends no notice.
+#[test]
+fn slots_are_reached_as_files(rt: HostRuntime) -> Result<(), Fail> {
+    let mut fabric = two_vms(rt.alloc())?;
+    same!(rt; fabric.slot_reg(4, FileReg::Enable(0), Op::Write(0x60)), 0);
+    same!(rt; stores(&mut fabric, 1, 0x2800_8000, 6).is_some(), true);
+    same!(rt; stores(&mut fabric, 1, 0x2800_8004, 0x0500_0000).is_some(), true);
+    same!(rt; fabric.notices(), 2);
+    same!(rt; fabric.slot_reg(4, FileReg::Pending(0), Op::Set(0x80)), 0x60);
+    same!(rt; fabric.slot_reg(4, FileReg::Pending(0), Op::Read), 0xe0);
+    same!(rt; fabric.slot_top(4, 0), 0x5_0005);
+    same!(rt; fabric.slot_top(4, 5), 0);
+    same!(rt; fabric.slot_claim(4, 5), 0);
+    same!(rt; fabric.slot_claim(4, 6), 0x5_0005);
+    same!(rt; fabric.slot_claim(4, 0), 0x6_0006);
+    same!(rt; fabric.slot_claim(4, 0), 0);
+    same!(rt; fabric.slot_reg(4, FileReg::Enable(0), Op::Clear(0x20)), 0x60);
+    same!(rt; fabric.look(4, 0), (0x80, 0x40));
+    same!(rt; fabric.look(3, 0), (0, 0));
+    same!(rt; fabric.notices(), 2);
+    drop(fabric);
+    Ok(())
+}

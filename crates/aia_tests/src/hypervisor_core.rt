@@ -156,6 +156,74 @@ fn the_core_serves_resident_virtual_harts(rt: HostRuntime) -> Result<(), Fail> {
 }
 
 #[test]
+fn the_core_has_virtual_harts_run_from_memory(rt: HostRuntime) -> Result<(), Fail> {
+    let mut core = Hyp::new(rt.alloc(), 1, 1, 63)?;
+    same!(rt; core.vm(3, 0x18, 0), Ok(()));
+    same!(rt; moved(&mut core, 0, 0, Want::Arrive(0)), Ok(()));
+    let enters = [
+        (1, 0, Err(Refusal::Range)),
+        (0, 3, Err(Refusal::Range)),
+        (0, 0, Err(Refusal::Home)),
+        (0, 1, Ok(())),
+        (0, 1, Err(Refusal::Entered)),
+    ];
+    for (vm, number, given) in enters {
+        same!(rt; core.enter(vm, number), given; (vm, number));
+    }
+    same!(rt; moved(&mut core, 0, 1, Want::Arrive(0)), Err(Refusal::Entered));
+    same!(rt; moved(&mut core, 0, 1, Want::Leave), Err(Refusal::Parked));
+    listens(&rt, &mut core, 0, 1);
+    same!(rt; core.msi(0, 0x2800_8000, 5), Ok(()));
+    same!(rt; core.guest(0, 1, Csr::Topei, Op::Write(0)), Ok(0x5_0005));
+    same!(rt; core.guest(0, 1, Csr::Topei, Op::Read), Ok(0));
+    same!(rt; core.guest(0, 1, Csr::Sip, Op::Read), Err(Refusal::Away));
+    same!(rt; core.guest(0, 2, Csr::Topei, Op::Read), Err(Refusal::Away));
+    // It asks the resident one for 6, and is asked by it for 7.
+    same!(rt; core.ipi(0, 1, 0, 6), Ok(()));
+    same!(rt; core.ipi(0, 0, 1, 7), Ok(()));
+    let selects = [(0, 0, 0x40), (1, 0x70, 0x80)];
+    for (number, before, pending) in selects {
+        same!(rt; core.guest(0, number, Csr::Select, Op::Write(0x80)), Ok(before); number);
+        same!(rt; core.guest(0, number, Csr::Reg, Op::Read), Ok(pending); number);
+    }
+    drop(core);
+    Ok(())
+}
+
+/// Of the second virtual hart the host is told as identity 2, of hart 0.
+#[test]
+fn the_core_tells_of_what_is_pending_as_one_ceases_to_run(rt: HostRuntime) -> Result<(), Fail> {
+    let mut core = Hyp::new(rt.alloc(), 1, 1, 63)?;
+    same!(rt; core.vm(2, 0x8, 0), Ok(()));
+    same!(rt; core.host(Level::Host, 0, Csr::Select, Op::Write(0x80)), Ok(0));
+    same!(rt; core.enter(0, 1), Ok(()));
+    listens(&rt, &mut core, 0, 1);
+    // Nothing is pending; 6 is, which is not enabled; 5 is, which the host was told of already.
+    for (identity, told, at_exit) in [(0, 0, 0), (6, 0, 0), (5, 4, 4)] {
+        same!(rt; core.ipi(0, 1, 1, identity), Ok(()); identity);
+        same!(rt; core.host(Level::Host, 0, Csr::Reg, Op::Write(0)), Ok(told); identity);
+        same!(rt; core.exit(0, 1), Ok(()); identity);
+        same!(rt; core.host(Level::Host, 0, Csr::Reg, Op::Write(0)), Ok(at_exit); identity);
+        same!(rt; core.enter(0, 1), Ok(()); identity);
+    }
+    let exits = [
+        (1, 0, Err(Refusal::Range)),
+        (0, 2, Err(Refusal::Range)),
+        (0, 0, Err(Refusal::Idle)),
+        (0, 1, Ok(())),
+        (0, 1, Err(Refusal::Idle)),
+    ];
+    for (vm, number, given) in exits {
+        same!(rt; core.exit(vm, number), given; (vm, number));
+    }
+    same!(rt; core.guest(0, 1, Csr::Topei, Op::Read), Err(Refusal::Away));
+    same!(rt; moved(&mut core, 0, 1, Want::Arrive(0)), Ok(()));
+    same!(rt; core.guest(0, 1, Csr::Topei, Op::Write(0)), Ok(0x5_0005));
+    drop(core);
+    Ok(())
+}
+
+#[test]
 fn the_core_has_stores_in_flight(rt: HostRuntime) -> Result<(), Fail> {
     let mut core = Hyp::new(rt.alloc(), 1, 1, 63)?;
     same!(rt; core.vm(3, 0x18, 0), Ok(()));

@@ -157,3 +157,33 @@ fn a_slot_is_a_bank(rt: HostRuntime) -> Result<(), Fail> {
     same!(rt; slot.swap_pending(1, 0), 0b10);
     Ok(())
 }
+
+/// Of the identities 1 to 127; what the slot keeps above them stays, and is not seen.
+#[test]
+fn a_slot_is_read_and_claimed_as_a_file(rt: HostRuntime) -> Result<(), Fail> {
+    let mut ram = Ram::new(rt.alloc(), 512)?;
+    let mut slot = SlotMut {
+        ram: &mut ram,
+        q: 0,
+    };
+    same!(rt; slot.write_reg(FileReg::Enable(0), 127, u64::MAX), 0);
+    same!(rt; slot.read_reg(FileReg::Enable(0), 127), !1);
+    same!(rt; slot.land(0, 5), Stored::Notice);
+    same!(rt; slot.land(0, 70), Stored::Quiet);
+    same!(rt; slot.land(0, 130), Stored::Quiet);
+    same!(rt; slot.read_reg(FileReg::Pending(0), 127), 0x20);
+    same!(rt; slot.read_reg(FileReg::Pending(2), 127), 0x40);
+    same!(rt; slot.write_reg(FileReg::Pending(4), 127, 9), 0);
+    same!(rt; slot.read_reg(FileReg::Pending(4), 127), 0);
+    same!(rt; slot.read_reg(FileReg::Pending(4), 255), 4);
+    same!(rt; slot.top(127, 0), 0x5_0005);
+    same!(rt; slot.top(127, 5), 0);
+    same!(rt; slot.claim(127, 5), 0);
+    same!(rt; slot.claim(127, 6), 0x5_0005);
+    same!(rt; slot.claim(127, 0), 0);
+    same!(rt; slot.write_reg(FileReg::Enable(2), 127, 0xc0), 0);
+    same!(rt; slot.claim(127, 0), 0x46_0046);
+    same!(rt; slot.write_reg(FileReg::Pending(2), 127, 0x80), 0);
+    same!(rt; slot.top(127, 0), 0x47_0047);
+    Ok(())
+}

@@ -23,7 +23,7 @@ fn host(hart: u64, csr: Csr, op: Op) -> Parsed {
 }
 
 /// Texts that spell no line.
-const BAD: [&str; 30] = [
+const BAD: [&str; 32] = [
     "machine 04 1 63 8",
     "st 0 4294967296",
     "st 0x000000000000000ab 0",
@@ -53,6 +53,8 @@ const BAD: [&str; 30] = [
     "vm 2 56 1 0",
     "msi 0 0 4294967296",
     "msi 0 0",
+    "enter 1",
+    "exit 0 0 0",
     "entry 1",
 ];
 
@@ -164,6 +166,16 @@ fn texts_are_read_by_the_grammar(rt: HostRuntime) {
     );
     reads(
         &rt,
+        "enter 1 0x2",
+        Parsed::Line(Line::Enter { vm: 1, vcpu: 2 }),
+    );
+    reads(
+        &rt,
+        "exit 7 15",
+        Parsed::Line(Line::Exit { vm: 7, vcpu: 15 }),
+    );
+    reads(
+        &rt,
         "entry 0x20000003 9",
         Parsed::Line(Line::Entry {
             w0: 536870915,
@@ -173,7 +185,7 @@ fn texts_are_read_by_the_grammar(rt: HostRuntime) {
 }
 
 /// Answers, and how each is printed.
-const ANSWERS: [(Answer, &str); 24] = [
+const ANSWERS: [(Answer, &str); 25] = [
     (Answer::Okay, "ok\n"),
     (Answer::Narrow(0), "0x00000000\n"),
     (Answer::Narrow(0x89ab_cdef), "0x89abcdef\n"),
@@ -199,6 +211,7 @@ const ANSWERS: [(Answer, &str); 24] = [
     (Answer::Again, "again\n"),
     (Answer::Refused(Refusal::Range), "range\n"),
     (Answer::Refused(Refusal::Full), "full\n"),
+    (Answer::Refused(Refusal::Entered), "entered\n"),
     (Answer::Refused(Refusal::Illegal), "illegal\n"),
     (Answer::Refused(Refusal::Fault), "fault\n"),
     (Answer::Refused(Refusal::Guarded), "guarded\n"),
@@ -234,7 +247,7 @@ fn prints(rt: &impl Abort, text: &str, printed: &str) {
 
 /// Texts that spell a line, and how the line is printed: addresses, values and operands in
 /// hexadecimal, all else in decimal.
-const PRINTED: [(&str, &str); 19] = [
+const PRINTED: [(&str, &str); 21] = [
     ("machine 0x4 0x0 0x7ff 1023", "machine 4 0 2047 1023"),
     (
         "machine 10 16 7 0xffffffffffffffff",
@@ -254,6 +267,8 @@ const PRINTED: [(&str, &str); 19] = [
     ("m 3 csrrw miselect 112", "m 3 csrrw miselect 0x70"),
     ("h 2 csrrw stopei 0", "h 2 csrrw stopei 0x0"),
     ("h 1 csrrc sireg 3840", "h 1 csrrc sireg 0xf00"),
+    ("enter 0x0 0xf", "enter 0 15"),
+    ("exit 18446744073709551615 0", "exit 18446744073709551615 0"),
     ("vm 0x2 56 0x1", "vm 2 0x38 1"),
     (
         "msi 0x1 671121408 0xffffffff",
