@@ -329,7 +329,8 @@ function device_answer(name, vm, address, value,    offset, i, who) {
 }
 
 function guest_answer(who, name, a, b) {
-  if (!(who in resident) || moving[who] != "") return "away"
+  if (!(who in resident) && !(who in entered) || moving[who] != "") return "away"
+  if ((who in entered) && a ~ /^(sip|stopi|sie)$/) return "away"
   if (name == "ipi") {
     who = substr(who, 1, 1) " " a
     store(who, is_in_memory(who, "peer"), number(b))
@@ -348,8 +349,25 @@ function host_answer(hart, name, csr, value) {
 function move_answer(kind, who, hart) {
   if (moving[who] != "") return "busy"
   if (kind == "arrive" && who in resident) return "home"
+  if (kind == "arrive" && who in entered) return "entered"
   begin(kind, who, hart)
   while (step(who) != "done") continue
+  return "ok"
+}
+
+function enter_answer(who) {
+  if (moving[who] != "") return "busy"
+  if (who in resident) return "home"
+  if (who in entered) return "entered"
+  entered[who]
+  return "ok"
+}
+
+function exit_answer(who,    i) {
+  if (!(who in entered)) return "idle"
+  delete entered[who]
+  for (i = 1; i <= greatest; i++) if (is_deliverable_in("guest " who, i)) break
+  if (i <= greatest) send_notice(who)
   return "ok"
 }
 
@@ -357,6 +375,8 @@ function answer(line,    field, who) {
   split(line, field, " ")
   who = field[2] " " field[3]
   if (field[1] ~ /^(arrive|leave|shift)$/) return move_answer(field[1], who, field[4])
+  if (field[1] == "enter") return enter_answer(who)
+  if (field[1] == "exit") return exit_answer(who)
   if (field[1] == "step") return moving[who] == "" ? "idle" : step(who)
   if (field[1] == "msi" || field[1] == "send")
     return device_answer(field[1], field[2], number(field[3]), number(field[4]))
@@ -505,6 +525,19 @@ function say_others() {
   say("lines", "arrive 0 2 1;g 0 2 ipi 0 5")
 }
 
+# Another virtual hart runs from memory: what devices and peers ask it for, what it asks of the one
+# that is moved and changes of its own, and that it is parked again, or not.
+function say_entered() {
+  say("lines", "enter 0 2;msi 0 0x28010000 5;h 1 csrrw stopei 0;g 0 2 csrr stopei;g 0 2 ipi 0 5" \
+    ";h 1 csrrw stopei 0;h 0 hgeip")
+  say("lines", "enter 0 2;g 0 1 ipi 2 6;g 0 2 csrrw stopei 0;g 0 2 csrrw sireg 0x20;exit 0 2" \
+    ";h 1 csrrw stopei 0;h 1 csrr sireg")
+  say("lines", "enter 0 2;g 0 2 csrr sip;arrive 0 2 1;exit 0 2;h 1 csrr sireg;g 0 2 csrr stopei")
+  say("lines", "send 0 0x28010000 5;enter 0 2;g 0 2 csrr sireg;land 0 0;g 0 2 csrrw stopei 0")
+  say("lines", "leave 0 1;enter 0 1;g 0 1 ipi 0 7;h 1 csrrw stopei 0;exit 0 1;arrive 0 1 1")
+  say("lines", "enter 0 0;exit 0 0;enter 0 1;exit 0 1;exit 0 2;enter 0 2;enter 0 2")
+}
+
 # Stores that are sent, which land at once, at a later fence or after the move, and entries that are
 # read again.
 function say_flights() {
@@ -558,6 +591,7 @@ function say_wires(    s) {
       ";h 1 csrrw stopei 0;h 1 csrr sireg;h 0 hgeip;h 1 hgeip")
     say("lines", "wire 1 1;h 1 csrrw stopei 0;wire 2 1;h 1 csrrw stopei 0;wire 3 1;h 1 csrr sireg")
   }
+  say("lines", "enter 0 0;wire 1 1;h 1 csrrw stopei 0;g 0 0 csrr stopei;exit 0 0;h 1 csrr sireg")
   say("lines", "wire 4 1;ld 0x0c00b010;g 0 1 csrr stopei;h 0 hgeip;h 1 csrr sireg")
   say("lines", "pass 5 0 0 5;pass 1 0 1 5;pass 5 0 1 5;st 0x0c00b004 7;ld 0x0c00b004")
 }
@@ -578,6 +612,7 @@ function say_lines() {
   }
   say_stores()
   say_others()
+  say_entered()
   say_flights()
   say_majors()
 }
@@ -606,14 +641,17 @@ function state_words() {
   state("full", "vm 13 0x78 0")
   state("busy", "arrive 0 0 0;leave 0 0;shift 0 0 1")
   state("busy", "begin arrive 0 0 1;begin leave 0 0;begin shift 0 0 0")
+  state("bad", "enter;enter 0;enter 0 0 0;exit;exit 0;exit 0 0 0;begin enter 0 0;Exit 0 0")
+  state("range", "enter 0 3;enter 3 0;enter 2 16;exit 0 3;exit 3 0;exit 2 16")
+  state("busy", "enter 0 0")
   state("bad", "pass 1 0 0;pass 1 0 0 5 0")
   state("range", "pass 0 0 0 5;pass 9 0 0 5;pass 1 3 0 5;pass 1 0 3 5;pass 1 0 0 0;pass 1 0 0 128")
   state("busy", "pass 1 0 0 5")
   state("unready", "pass 1 0 1 5;pass 1 0 2 63;pass 8 1 0 1")
-  state("home", "arrive 0 1 1;begin arrive 1 0 1")
+  state("home", "arrive 0 1 1;begin arrive 1 0 1;enter 0 1;enter 1 0")
   state("parked", "leave 0 2;begin leave 0 2;shift 0 2 1;begin shift 0 2 1")
   state("nofile", "arrive 0 2 0;begin arrive 0 2 0;shift 1 0 0;begin shift 0 1 0")
-  state("idle", "step 0 1;step 0 2;step 1 0")
+  state("idle", "step 0 1;step 0 2;step 1 0;exit 0 0;exit 0 1;exit 0 2;exit 1 0")
   state("away", "g 0 0 csrr stopei;g 0 0 csrrw stopei 0;g 0 0 csrrw sireg 0")
   state("away", "g 0 0 csrrw siselect 0x70;g 0 0 csrr sip;g 0 2 csrr stopei")
   state("away", "g 0 0 csrrw stopi 0;g 0 0 csrrw sie 0;g 0 0 ipi 1 5;g 0 0 ipi 3 5;g 0 2 ipi 0 5")
@@ -638,6 +676,7 @@ function state_words() {
 function forget(    name) {
   split("", members); split("", delivery); split("", threshold); split("", selected)
   split("", injected); split("", ipriom); split("", byte_of_1); split("", resident)
+  split("", entered)
   split("", moving); split("", coming); split("", steps); split("", saw)
   split("", slot); split("", notice_hart); split("", refetched)
   split("", flying); split("", flight_to); split("", flight_memory); split("", flight_number)

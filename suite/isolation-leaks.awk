@@ -7,6 +7,8 @@ $0 == "" || /^#/ { next }
 # What comes before a line.
 # 5: a leave claims what is on top
 leak == 5 && $1 == "leave" { more("g " $2 " " $3 " csrrw stopei 0") }
+# 11: so does one that ceases to run from memory
+leak == 11 && $1 == "exit" { more("g " $2 " " $3 " csrrw stopei 0") }
 
 { print "= " $0 }
 

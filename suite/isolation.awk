@@ -105,6 +105,10 @@ function swapped(value) {
   return (value % 256) * 16777216 + (int(value / 256) % 256) * 65536
 }
 
+function is_in_file(who) {
+  return home[who] != "parked" && home[who] != "entered"
+}
+
 function free_at(hart,  k) {
   for (k = 1; k <= files; k++) if (!((hart, k) in used)) return k
   return 0
@@ -139,24 +143,35 @@ function step(who) {
   if (--left[who] == 0) end_move(who)
 }
 
+# A parked virtual hart begins to run from memory, and one that does ceases to.
+function run(who,  is_entered) {
+  is_entered = home[who] == "entered"
+  put((is_entered ? "exit " : "enter ") who)
+  home[who] = is_entered ? "parked" : "entered"
+}
+
 function move(who, whole,  kind) {
   if (who in left) { step(who); return }
+  if (home[who] == "entered" || home[who] == "parked" && random(3) == 0) { run(who); return }
   kind = home[who] == "parked" ? "arrive" : random(2) ? "leave" : "shift"
   if (!begin_move(who, kind)) return
   put((whole ? "" : "begin ") kind " " who (kind == "leave" ? "" : " " target_hart))
   if (whole) end_move(who)
 }
 
-# Makes a virtual hart resident, whatever it is doing; others leave where there is no room.
-function settle(who,  other) {
+# Has a virtual hart run, whatever it is doing: from memory where that may be, else in a guest file;
+# others leave where there is no room.
+function settle(who, may_be_entered,  other) {
   while (who in left) step(who)
-  while (home[who] == "parked") {
+  if (may_be_entered && home[who] == "parked" && random(2)) run(who)
+  if (may_be_entered && home[who] == "entered") return
+  while (!is_in_file(who)) {
     move(who, random(2))
     while (who in left) step(who)
-    if (home[who] != "parked") return
-    for (other in home) if (other != who && (other in left || home[other] != "parked")) {
+    if (home[who] != "parked") continue
+    for (other in home) if (other != who && (other in left || is_in_file(other))) {
       while (other in left) step(other)
-      if (home[other] != "parked") { begin_move(other, "leave"); put("leave " other); end_move(other) }
+      if (is_in_file(other)) { begin_move(other, "leave"); put("leave " other); end_move(other) }
       break
     }
   }
@@ -212,7 +227,7 @@ function any_idle(  who) {
 function ask_in_flight(who, vm, number, identity,  k) {
   put("send " vm " " address(vm, number, 0) " " identity)
   for (k = random(3); k > 0; k--) put(random(2) ? "refetch " who : "h " random(harts) " hgeip")
-  if (who in left || home[who] == "parked" || random(2)) { put("land " vm " 0"); return }
+  if (who in left || !is_in_file(who) || random(2)) { put("land " vm " 0"); return }
   begin_move(who, "leave")
   put("leave " who)
   end_move(who)
@@ -223,11 +238,11 @@ function say(who, what,  parts, name) {
   split(what, parts, " ")
   split(who, name, " ")
   if (parts[1] == "did") {
-    settle(who)
+    settle(who, what ~ / (siselect|sireg|stopei)/)
     put("g " who substr(what, 4))
   } else if (parts[1] == "ask") {
     if ((parts[2] == 0 || parts[2] > greatest) && random(2)) return
-    if (random(3) == 0) { peer = name[1] " " random(vcpus[name[1]]); settle(peer); put("g " peer " ipi " name[2] " " parts[2]) }
+    if (random(3) == 0) { peer = name[1] " " random(vcpus[name[1]]); settle(peer, 1); put("g " peer " ipi " name[2] " " parts[2]) }
     else if (random(3) == 0) ask_in_flight(who, name[1], name[2], parts[2])
     else if (random(2)) put("msi " name[1] " " address(name[1], name[2], 4) " " swapped(parts[2]))
     else put("msi " name[1] " " address(name[1], name[2], 0) " " parts[2])
