@@ -1,6 +1,6 @@
 -- What is kept as a virtual hart begins.
-use Rattle.std.proofs.Common.{◌≡◌, ℕ, Bool, true, false, cond, nat_eq, refl, ap, ◌∙◌}
-use Rattle.aia_major.specs.VsMajor.{VsMajorState, new_majors}
+use Rattle.std.proofs.Common.{◌≡◌, Bool, true, false, cond, nat_eq, refl}
+use Rattle.aia_major.specs.VsMajor.{new_majors}
 use Rattle.aia_major.specs.Kept.{members, no_members, kept_at_first, majors_shown}
 
 none_of : (a b c d : Bool) → cond a false (cond b false (cond c false (cond d false false))) ≡ false

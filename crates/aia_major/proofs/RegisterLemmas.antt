@@ -1,7 +1,7 @@
 -- The majors that sip and sie show, and what a guest's instruction makes of them.
 use Rattle.std.proofs.Common.{◌≡◌, ◌≢◌, lit<, ℕ, zero, suc, ◌+◌, ◌-◌, ◌*◌, ◌^◌, ◌<◌, ◌≤◌, inl, inr, Bool, true, false, not, ◌&&◌, ◌||◌, cond, nat_eq, refl, sym, ap, subst, ◌∙◌, arith}
 use Rattle.std.specs.Int.{bit_at, bit_not, w64}
-use Rattle.std.proofs.lemmas.Bool.{cases_lt, cases_eq, ne_eqb}
+use Rattle.std.proofs.lemmas.Bool.{cases_lt, cases_eq, ne_eqb, eqb-true}
 use Rattle.std.proofs.lemmas.Bool.Decides.{nat_tests}
 use Rattle.std.proofs.lemmas.Nat.Bits.{bit_at_not, bit_at-lt, bit_at-zero, bit_at_above, bit_at_cat_low, bit_at_cat_high}
 use Rattle.aia_word.proofs.BitLemmas.{has_bit-and, has_bit-or}
@@ -11,7 +11,7 @@ use Rattle.aia_regs.specs.Fields.{bit_number}
 use Rattle.aia_regs.specs.Operations.{is_one, written, bit_said, FitsOp}
 use Rattle.aia_regs.specs.Word.{settle}
 use Rattle.aia_regs.specs.Word.Word.{Ask, Clear, Nothing}
-use Rattle.aia_major.specs.VsMajor.{VsMajorState, is_major, is_guests_own, is_pending, majors_word, sip_value, sie_value, with_sip, with_sie}
+use Rattle.aia_major.specs.VsMajor.{VsMajorState, is_major, is_guests_own, fits_hvip, is_pending, majors_word, sip_value, sie_value, with_sip, with_sie}
 use Rattle.aia_major.specs.Kept.{sip_written, sie_written}
 
 -- ---- the bits of a register
@@ -147,3 +147,12 @@ sip_access op m signal fits = ap (λ f. record m { injected = f }) (λ i j. hear
 
 pub sie_access : (op : Op) (m : VsMajorState) → FitsOp op → sie_written (written op (sie_value m)) m ≡ with_sie op m
 sie_access op m fits = ap (λ f. record m { enabled = f }) (λ i j. heard op (sie_value m) j (is_major j) (m.enabled j) fits (major_is_low j) (λ is. majors_word-bit m.enabled j ∙ ap (λ b. b && m.enabled j) is) i)
+
+-- ---- what hvip and sie may hold
+
+pub held_at_majors : (v j : ℕ) → fits_hvip v ≡ true → is_one v j ≡ true → is_major j ≡ true
+held_at_majors v j fits is = at (is_major j) (sym (majors_word-bit (is_one v) j) ∙ ap (λ n. is_one n j) (eqb-true _ _ fits))
+  where
+    at : (m : Bool) → (m && is_one v j) ≡ is_one v j → m ≡ true
+    at true e = refl
+    at false e = e ∙ is

@@ -69,6 +69,13 @@ hviprio1_kept v =
 abbrev pub is_hvictl : ℕ → Bool
 is_hvictl v = not (vti_of v) || is_in_range 1 63 (iid_of v)
 
+-- Whether hviprio1 may hold a number, and hvictl: such as a write keeps whole.
+abbrev pub fits_hviprio1 : ℕ → Bool
+fits_hviprio1 v = nat_eq (hviprio1_kept v) v
+
+abbrev pub fits_hvictl : ℕ → Bool
+fits_hvictl v = nat_eq (hvictl_kept v) v && is_hvictl v
+
 -- What an injection of a level at a major says of major j's being injected.
 -- The hypervisor extension 1.0: hvip.
 abbrev pub injection_said : ℕ → Bool → ℕ → Word
@@ -101,6 +108,11 @@ with_hviprio1 v m = record m { hviprio1 = hviprio1_kept v }
 abbrev pub with_hvictl : ℕ → VsMajorState → VsMajorState
 with_hvictl v m = record m { hvictl = hvictl_kept v }
 
+-- hvip is written whole: the majors are injected whose bits of the value are ones.
+-- The hypervisor extension 1.0: hvip.
+abbrev pub with_hvip : ℕ → VsMajorState → VsMajorState
+with_hvip v m = record m { injected = λ j. if is_major j then is_one v j else m.injected j }
+
 -- ---- what sip and sie read
 
 -- Whether a major is pending, given whether the virtual hart's interrupt file signals: the external
@@ -114,6 +126,10 @@ abbrev pub majors_word : (ℕ → Bool) → ℕ
 majors_word members =
     bit_number (members 1) * 2 ^ 1 + bit_number (members 5) * 2 ^ 5
     + bit_number (members 9) * 2 ^ 9 + bit_number (members 13) * 2 ^ 13
+
+-- Whether hvip and sie may hold a number: its ones are majors alone.
+abbrev pub fits_hvip : ℕ → Bool
+fits_hvip v = nat_eq (majors_word (is_one v)) v
 
 abbrev pub sip_value : VsMajorState → Bool → ℕ
 sip_value m signal = majors_word (is_pending m signal)

@@ -7,7 +7,7 @@ ghost use Rattle.std.specs.List.{Contains};
 ghost use Rattle.aia_word.specs.Top.{top_value};
 ghost use Rattle.aia_regs.specs.Fields.{field};
 ghost use Rattle.aia_regs.specs.Operations.{is_one, written, FitsOp};
-ghost use Rattle.aia_major.specs.VsMajor.{VsMajorState, Candidate, new_majors, is_major, vti_of, iid_of, dpr_of, ipriom_of, iprio_of, is_hvictl, hvictl_kept, hviprio1_kept, is_pending, is_live, sip_value, sie_value, with_sip, with_sie, one_if, external, by_hvictl, candidates, first_of, priority_shown, stopi_value};
+ghost use Rattle.aia_major.specs.VsMajor.{VsMajorState, Candidate, new_majors, is_major, vti_of, iid_of, dpr_of, ipriom_of, iprio_of, is_hvictl, hvictl_kept, hviprio1_kept, fits_hvip, fits_hviprio1, fits_hvictl, is_pending, is_live, majors_word, sip_value, sie_value, with_sip, with_sie, with_hvip, one_if, external, by_hvictl, candidates, first_of, priority_shown, stopi_value};
 ghost use Rattle.aia_major.specs.Kept.{sip_written, sie_written};
 ghost use Rattle.aia_major.specs.First.{IsFirst};
 
@@ -107,6 +107,25 @@ pub fn registers_show_majors()
         → is_one (sip_value m signal) j ≡ (is_major j && is_pending m signal j) }
     ensures sie { (m : VsMajorState) (j : ℕ)
         → is_one (sie_value m) j ≡ (is_major j && m.enabled j) }
+{}
+
+/// A number that `hvip` and `sie` may hold has ones at majors alone; one that shows a set of majors
+/// is such a number, and written to `hvip` it makes the set anew.
+///
+/// The hypervisor extension 1.0: `hvip` and `vsie`.
+pub fn hvip_holds_majors()
+    ensures ones { (v j : ℕ) → fits_hvip v ≡ true → is_one v j ≡ true → is_major j ≡ true }
+    ensures shown { (members : ℕ → Bool) → fits_hvip (majors_word members) ≡ true }
+    ensures anew { (m : VsMajorState) (members : ℕ → Bool) (j : ℕ) → is_major j ≡ true
+        → (with_hvip (majors_word members) m).injected j ≡ members j }
+{}
+
+/// What a write of `hviprio1` or `hvictl` keeps may be held there.
+///
+/// AIA 1.0, Interrupts for Virtual Machines (VS Level).
+pub fn kept_numbers_may_be_held()
+    ensures hviprio1 { (v : ℕ) → fits_hviprio1 (hviprio1_kept v) ≡ true }
+    ensures hvictl { (v : ℕ) → is_hvictl v ≡ true → fits_hvictl (hvictl_kept v) ≡ true }
 {}
 
 /// To write the number that a guest's CSR instruction writes is to do its access: to `sip`, given

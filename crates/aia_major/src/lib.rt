@@ -13,4 +13,4 @@ mod range;
 mod vs_major;
 
 pub use range::Range;
-pub use vs_major::VsMajor;
+pub use vs_major::{VsMajor, fits_hvictl, fits_hvip, fits_hviprio};

@@ -1,7 +1,7 @@
 ghost use Rattle.std.specs.Prelude.{◌≡◌, ℕ, ◌+◌, ◌^◌, ◌<◌, not, ◌&&◌, nat_eq, if◌then◌else◌, OnOk, OnErr, is_ok};
 ghost use Rattle.std.specs.Option.{option_map};
 ghost use Rattle.aia_regs.specs.Fields.{field};
-ghost use Rattle.aia_major.specs.VsMajor.{new_majors, is_major, is_hvictl, vti_of, is_pending, or_256, one_if, by_hvictl, candidates, first_of, priority_shown, stopi_value, sip_value, sie_value, with_injection, with_hviprio1, with_hvictl, with_sip, with_sie};
+ghost use Rattle.aia_major.specs.VsMajor.{new_majors, is_major, is_hvictl, fits_hvip, fits_hviprio1, fits_hvictl, vti_of, is_pending, majors_word, or_256, one_if, by_hvictl, candidates, first_of, priority_shown, stopi_value, sip_value, sie_value, with_injection, with_hvip, with_hviprio1, with_hvictl, with_sip, with_sie};
 ghost use Rattle.aia_major.specs.Kept.{members, kept_at_first, majors_shown, sip_written, sie_written, seen, listed};
 
 use crate::candidate::Candidate;
@@ -81,6 +81,38 @@ impl VsMajor {
         self.enabled.word()
     }
 
+    /// Gives the majors that are injected, as `hvip` has them: of the bits 1, 5, 9 and 13 those of
+    /// the majors that are.
+    ///
+    /// The hypervisor extension 1.0: `hvip`.
+    #[tactic(auto, unfolding(crate::specs::Kept::majors_shown))]
+    pub fn injected(&self) -> u64
+        ensures { result ≡ majors_word (majors_shown self.now).injected }
+    {
+        self.injected.word()
+    }
+
+    /// Gives `hviprio1`: the priority numbers of the majors 1, 5 and 13, in bits 15:8, 31:24 and
+    /// 47:40.
+    ///
+    /// AIA 1.0, Interrupts for Virtual Machines (VS Level).
+    #[tactic(auto, unfolding(crate::specs::Kept::majors_shown))]
+    pub fn hviprio(&self) -> u64
+        ensures { result ≡ (majors_shown self.now).hviprio1 }
+    {
+        self.hviprio1
+    }
+
+    /// Gives `hvictl`: VTI, bit 30; IID, bits 27:16; DPR, bit 9; IPRIOM, bit 8; IPRIO, bits 7:0.
+    ///
+    /// AIA 1.0, Interrupts for Virtual Machines (VS Level).
+    #[tactic(auto, unfolding(crate::specs::Kept::majors_shown))]
+    pub fn hvictl(&self) -> u64
+        ensures { result ≡ (majors_shown self.now).hvictl }
+    {
+        self.hvictl
+    }
+
     /// Takes the number that a guest's instruction writes to `sip`: bits 1 and 13 say whether those
     /// majors are injected, and every other bit is ignored.
     ///
@@ -140,6 +172,17 @@ impl VsMajor {
         ensures err { OnErr result (self.new ≡ self.old) }
     {
         self.injected.set(major, level)
+    }
+
+    /// Writes `hvip`: bits 1, 5, 9 and 13 say whether those majors are injected, and every other
+    /// bit is ignored.
+    ///
+    /// The hypervisor extension 1.0: `hvip`.
+    #[tactic(auto, unfolding(crate::specs::Kept::majors_shown))]
+    pub fn set_hvip(&mut self, v: u64)
+        ensures { majors_shown self.new ≡ with_hvip v (majors_shown self.old) }
+    {
+        self.injected = Majors::of_word(v);
     }
 
     /// Writes `hviprio1`, of which the priority numbers of the majors 1, 5 and 13 are kept: bits
@@ -259,6 +302,34 @@ impl VsMajor {
             1
         }
     }
+}
+
+/// Tells whether `hvip` and `sie` may hold a number: its ones are at the bits 1, 5, 9 and 13 alone.
+///
+/// The hypervisor extension 1.0: `hvip` and `vsie`. Profile: the four majors.
+pub fn fits_hvip(v: u64) -> bool
+    ensures { result ≡ fits_hvip v }
+{
+    Majors::of_word(v).word() == v
+}
+
+/// Tells whether `hviprio1` may hold a number: it is zero but for bits 15:8, 31:24 and 47:40.
+///
+/// AIA 1.0, Interrupts for Virtual Machines (VS Level). Profile: no other bits are kept.
+pub fn fits_hviprio(v: u64) -> bool
+    ensures { result ≡ fits_hviprio1 v }
+{
+    kept::hviprio1_kept(v) == v
+}
+
+/// Tells whether `hvictl` may hold a number: it is zero but for bits 30, 27:16 and 9:0, and bits
+/// 27:16 are 1 to 63 where bit 30 is a one.
+///
+/// AIA 1.0, Interrupts for Virtual Machines (VS Level). Profile: the range of IID.
+pub fn fits_hvictl(v: u64) -> bool
+    ensures { result ≡ fits_hvictl v }
+{
+    kept::hvictl_kept(v) == v && kept::is_hvictl(v)
 }
 
 /// Gives the external interrupt, where it is live, by the identity that `stopei` shows.

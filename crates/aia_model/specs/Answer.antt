@@ -9,7 +9,7 @@ use Rattle.aia_regs.specs.FileRegisters.{register_of}
 use Rattle.aia_file.specs.InterruptFile.{InterruptFile, register_value, top_of, signals}
 use Rattle.aia_entry.specs.Format.{decoded}
 use Rattle.aia_model.specs.declared.line.Line.{Line}
-use Rattle.aia_model.specs.declared.line.Line.TheVariants.{Load, MachineCsr, HostCsr, Hgeip, Pins, GuestCsr, Step}
+use Rattle.aia_model.specs.declared.line.Line.TheVariants.{Load, MachineCsr, HostCsr, Hgeip, Pins, GuestCsr, Step, Save}
 use Rattle.aia_model.specs.declared.line.Line.TheVariants as lines
 use Rattle.aia_model.specs.declared.answer.Answer.{Answer}
 use Rattle.aia_model.specs.declared.answer.Answer.TheVariants.{Okay, Narrow, Wide, Moving, Done}
@@ -34,6 +34,8 @@ use Rattle.aia_model.specs.HomeOf.{home}
 use Rattle.aia_model.specs.Passes.{passed_by, passes_for}
 use Rattle.aia_model.specs.Aim.{pass_reach}
 use Rattle.aia_model.specs.MajorOf.{stopi_of, sip_of, sie_of}
+use Rattle.aia_model.specs.Image.{part_of}
+use Rattle.aia_model.specs.StateOf.{state_of}
 use Rattle.aia_model.specs.Gate.{hgeip_value}
 use Rattle.aia_model.specs.Refusal.{refusal}
 
@@ -65,7 +67,8 @@ load_value h addr =
 -- What an accepted line answers: a load what it reads, a CSR instruction the value that the CSR
 -- read before it, a step of a move whether it was the last one, `hgeip` which guest files of a hart
 -- signal, `pins` the signals of a hart (of both domains, of its machine-level file and of its
--- supervisor file), `entry` what the two words say, and every other line `ok`.
+-- supervisor file), `save` a part of an image, `entry` what the two words say, and every other line
+-- `ok`.
 abbrev pub accepted_answer : History → Line → Answer
 accepted_answer h (Load addr) = Narrow (load_value h addr)
 accepted_answer h (MachineCsr hart csr op) = Wide (csr_value h (MachineFile hart) csr)
@@ -74,6 +77,7 @@ accepted_answer h (Hgeip hart) = Wide (hgeip_value h hart)
 accepted_answer h (GuestCsr vm number csr op) = Wide (guest_csr_value h (vcpu vm number) csr)
 accepted_answer h (Step vm number) =
     if is_at_last (file_words h) (home h (vcpu vm number)) then Done else Moving
+accepted_answer h (Save vm number k) = kinds.Part (part_of (state_of h (vcpu vm number)) k)
 accepted_answer h (Pins hart) =
     kinds.Pins (is_signalled (acts_of h) Root hart) (is_signalled (acts_of h) Child hart)
     (signals (file_of h (MachineFile hart))) (signals (file_of h (SupervisorFile hart)))

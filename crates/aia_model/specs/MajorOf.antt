@@ -6,13 +6,14 @@ use Rattle.aia_regs.specs.declared.access.Csr.TheVariants.{Sip, Sie}
 use Rattle.aia_file.specs.InterruptFile.{top_of, signals}
 use Rattle.aia_major.specs.VsMajor.{VsMajorState, new_majors, with_injection, with_sip, with_sie, with_hviprio1, with_hvictl, stopi_value, sip_value, sie_value}
 use Rattle.aia_home.specs.Vms.{Vcpu, vcpu, is_vcpu}
-use Rattle.aia_model.specs.declared.line.Line.TheVariants.{GuestCsr, Inject, Hvictl, Hviprio}
+use Rattle.aia_model.specs.declared.line.Line.TheVariants.{GuestCsr, Inject, Hvictl, Hviprio, LoadPart}
+use Rattle.aia_model.specs.Image.{majors_loaded}
 use Rattle.aia_model.specs.Event.{Event, History}
 use Rattle.aia_model.specs.Event.Event.{Accepted}
 use Rattle.aia_model.specs.GuestFile.{guest_file}
 
--- What an event makes of them: the hypervisor injects a level, or writes hviprio1 or hvictl, and
--- the virtual hart accesses sip or sie. No event of a move is anything to them.
+-- What an event makes of them: the hypervisor injects a level, writes hviprio1 or hvictl, or loads a
+-- part of an image, and the virtual hart accesses sip or sie. No event of a move is anything to them.
 -- The hypervisor extension 1.0: hvip, vsip and vsie; AIA 1.0, Interrupts for Virtual Machines (VS
 -- Level).
 abbrev pub majors_after : Vcpu → Event → VsMajorState → VsMajorState
@@ -26,6 +27,8 @@ majors_after g (Accepted (GuestCsr vm number Sip op)) was =
     if is_vcpu g (vcpu vm number) then with_sip op was else was
 majors_after g (Accepted (GuestCsr vm number Sie op)) was =
     if is_vcpu g (vcpu vm number) then with_sie op was else was
+majors_after g (Accepted (LoadPart vm number part)) was =
+    if is_vcpu g (vcpu vm number) then majors_loaded part was else was
 majors_after g event was = was
 
 -- The majors.
