@@ -6,7 +6,7 @@ use Rattle.std.proofs.lemmas.List.{at_drop_more}
 use Rattle.aia_regs.specs.declared.access.Csr.{Csr}
 use Rattle.aia_regs.specs.declared.access.Csr.TheVariants.{Select, Reg, Topei, Topi, Sip, Sie}
 use Rattle.aia_model.specs.Grammar.{Field, is_csr, field_among}
-use Rattle.aia_model.specs.Printing.{field_text}
+use Rattle.aia_model.specs.AnswerText.{field_text}
 
 -- the row of a CSR has its name
 pub name_there : (rows : List (Bor (List ℕ) × Csr)) (i : ℕ) (first : Bor (List ℕ) × Csr) (field : Field) (csr : Csr) → i < length rows → (get_or rows i first).1 ≡ csr → field_among (map (λ row. (row.0.now, row.1)) (drop i rows)) csr ≡ field → (get_or rows i first).0.now ≡ field_text field

@@ -6,12 +6,17 @@ use Rattle.std.proofs.lemmas.List.{map-append}
 use Rattle.std.proofs.lemmas.Int.Digits.{digits_of_step, length-digits_of-le}
 use Rattle.aia_regs.specs.declared.access.Op.{Op}
 use Rattle.aia_regs.specs.declared.access.Op.TheVariants as ops
-use Rattle.aia_model.specs.AnswerText.{digit_character}
+use Rattle.aia_model.specs.AnswerText.{digit_character, number_text}
+use Rattle.aia_model.proofs.PrintedNumbers.{length-number_text}
 use Rattle.std.specs.List.{AllByRecursion}
 use Rattle.aia_regs.specs.declared.access.Csr.{Csr}
 use Rattle.aia_regs.specs.Operations.{FitsOp}
 use Rattle.aia_model.specs.Grammar.{Field, instruction}
-use Rattle.aia_model.specs.Printing.{field_text, FitsField}
+use Rattle.aia_model.specs.AnswerText.{field_text, part_text, decimal_text}
+use Rattle.aia_model.specs.declared.part.Part.{Part}
+use Rattle.aia_model.specs.declared.part.Part.TheVariants as parts
+use Rattle.aia_model.specs.Grammar.{part_fields}
+use Rattle.aia_model.specs.Printing.{FitsField}
 use Rattle.aia_regs.specs.declared.access.Level.{Level}
 use Rattle.aia_model.specs.Grammar.{csr_field}
 use Rattle.aia_model.proofs.Printed.{name_in_range}
@@ -26,10 +31,20 @@ joined_instruction word csr (ops.Write v) = refl
 joined_instruction word csr (ops.Set v) = refl
 joined_instruction word csr (ops.Clear v) = refl
 
+-- a part of an image after other words
+pub joined_part : (word : List ℕ) (part : Part) → join_with_byte 32 (word ∷ map field_text (part_fields part)) ≡ word ++ 32 ∷ part_text part
+joined_part word (parts.Image version n delivery threshold select) = refl
+joined_part word (parts.Majors injected enabled) = refl
+joined_part word (parts.Prio hviprio hvictl) = refl
+joined_part word (parts.Word w pending enable) = refl
+
 -- the digits of a number below 2^64
 pub few_digits : (radix : Radix) (n : ℕ) → n < 2 ^ 64 → length (digits_of (base radix) n) ≤ 20
 few_digits Decimal n low = length-digits_of-le 10 20 n (omega arith) (omega arith)
 few_digits Hexadecimal n low = let few : length (digits_of 16 n) ≤ 16 = length-digits_of-le 16 16 n (omega arith) (omega arith) in omega arith
+
+pub few_decimal_digits : (n : ℕ) → n < 2 ^ 32 → length (number_text 10 n) ≤ 10
+few_decimal_digits n low = length-number_text 10 10 n (omega arith) (omega arith) (omega arith)
 
 two_digits : (radix : Radix) → 2 ≤ base radix
 two_digits Decimal = omega arith

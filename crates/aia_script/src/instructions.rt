@@ -3,7 +3,7 @@
 ghost use Rattle.std.specs.Prelude.{◌≡◌, ℕ, map};
 ghost use Rattle.std.specs.Option.{option_map};
 ghost use Rattle.aia_model.specs.Grammar.{csr_names, csr_field};
-ghost use Rattle.aia_model.specs.Printing.{field_text};
+ghost use Rattle.aia_model.specs.AnswerText.{field_text};
 ghost use Rattle.aia_model.specs.Reading.{named, csr_at, read_at, write_at, instruction_after, instruction_at};
 ghost use Rattle.aia_script.specs.Cursor.{left};
 

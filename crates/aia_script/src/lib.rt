@@ -7,12 +7,13 @@ mod instructions;
 mod lines;
 mod number;
 mod parse;
+mod parts;
 mod pieces;
 mod print;
 mod spelling;
 mod words;
 
-pub use aia_model::{Answer, Line, Parsed, Refusal};
+pub use aia_model::{Answer, Line, Parsed, Part, Refusal};
 pub use aia_regs::{Csr, Op};
 pub use parse::parse_line;
 pub use print::print_answer;

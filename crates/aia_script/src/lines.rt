@@ -1,11 +1,12 @@
 //! Lines: what follows each keyword.
 
 ghost use Rattle.std.specs.Prelude.{◌≡◌};
-ghost use Rattle.aia_model.specs.Reading.{machine_at, vm_at, wire_at, load_at, store_at, msi_at, send_at, land_at, refetch_at, pass_at, machine_csr_at, host_at, ipi_at, guest_at, arrive_at, leave_at, shift_at, begin_arrive_at, begin_leave_at, begin_shift_at, begin_after, begin_at, step_at, enter_at, exit_at, inject_at, hvictl_at, hviprio_at, pins_at, entry_at, line_after, line_at};
+ghost use Rattle.aia_model.specs.Reading.{machine_at, vm_at, wire_at, load_at, store_at, msi_at, send_at, land_at, refetch_at, pass_at, machine_csr_at, host_at, ipi_at, guest_at, arrive_at, leave_at, shift_at, begin_arrive_at, begin_leave_at, begin_shift_at, begin_after, begin_at, step_at, enter_at, exit_at, save_at, load_part_at, inject_at, hvictl_at, hviprio_at, pins_at, entry_at, line_after, line_at};
 ghost use Rattle.aia_script.specs.Cursor.{left};
 
 use crate::instructions::{instruction_after, instruction_at};
 use crate::number::{bit_at, n32_at, number_at};
+use crate::parts::part_at;
 use crate::words::{Words, at_end, is_word, word_at};
 use aia_model::Line;
 use aia_regs::Level;
@@ -333,6 +334,30 @@ fn exit_at(words: &mut Words<'_>) -> Option<Line>
     at_end(words, Line::Exit { vm, vcpu })
 }
 
+/// Reads the line that the words after `save` spell; `None` where they spell none.
+#[tactic(auto, unfolding(aia_model::specs::Reading::save_at))]
+#[inline(always)]
+fn save_at(words: &mut Words<'_>) -> Option<Line>
+    ensures { result ≡ save_at (left words.old) }
+{
+    let vm = number_at(words)?;
+    let vcpu = number_at(words)?;
+    let k = number_at(words)?;
+    at_end(words, Line::Save { vm, vcpu, k })
+}
+
+/// Reads the line that the words after `load` spell; `None` where they spell none.
+#[tactic(auto, unfolding(aia_model::specs::Reading::load_part_at))]
+#[inline(always)]
+fn load_part_at(words: &mut Words<'_>) -> Option<Line>
+    ensures { result ≡ load_part_at (left words.old) }
+{
+    let vm = number_at(words)?;
+    let vcpu = number_at(words)?;
+    let part = part_at(words)?;
+    Some(Line::LoadPart { vm, vcpu, part })
+}
+
 /// Reads the line that the words after `inject` spell; `None` where they spell none.
 #[tactic(auto, unfolding(aia_model::specs::Reading::inject_at))]
 #[inline(always)]
@@ -444,6 +469,10 @@ fn line_after(keyword: &[u8], words: &mut Words<'_>) -> Option<Line>
         enter_at(words)
     } else if is_word(keyword, b"exit") {
         exit_at(words)
+    } else if is_word(keyword, b"save") {
+        save_at(words)
+    } else if is_word(keyword, b"load") {
+        load_part_at(words)
     } else if is_word(keyword, b"inject") {
         inject_at(words)
     } else if is_word(keyword, b"hvictl") {

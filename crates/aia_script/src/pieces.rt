@@ -1,9 +1,9 @@
 //! What printed lines and answers are made of: texts and numbers.
 
-ghost use Rattle.std.specs.Prelude.{◌≡◌, ◌+◌, ◌/◌, ◌%◌, ◌<◌, ◌≤◌, ◌++◌, length, map};
+ghost use Rattle.std.specs.Prelude.{◌≡◌, ◌+◌, ◌*◌, ◌/◌, ◌%◌, ◌<◌, ◌≤◌, ◌++◌, length, map};
 ghost use Rattle.std.specs.Int.Digits.{digits_of};
 ghost use Rattle.arrayvec.specs.ArrayVec.{array_vec_len};
-ghost use Rattle.aia_model.specs.AnswerText.{digit_character, number_text};
+ghost use Rattle.aia_model.specs.AnswerText.{digit_character, hex_digits, number_text};
 ghost use Rattle.aia_script.specs.Digits.{base};
 
 use crate::number::Radix;
@@ -86,5 +86,31 @@ pub fn push_number<const N: usize>(out: &mut ArrayVec<u8, N>, radix: Radix, valu
         let mut digits = ArrayVec::new();
         push_all_digits(&mut digits, radix, value);
         push_text(out, digits.as_slice());
+    }
+}
+
+/// Appends a number below 2^32 in decimal, without leading zeros.
+#[tactic(auto, using(crate::proofs::PrintLemmas::few_decimal_digits))]
+pub fn push_small<const N: usize>(out: &mut ArrayVec<u8, N>, value: u32)
+    requires { array_vec_len out.old + 10 ≤ N }
+    ensures text { out.new.items ≡ out.old.items ++ number_text 10 value }
+    ensures length { array_vec_len out.new ≤ array_vec_len out.old + 10 }
+{
+    let mut digits: ArrayVec<u8, 20> = ArrayVec::new();
+    push_number(&mut digits, Radix::Decimal, u64::from(value));
+    push_text(out, digits.as_slice());
+}
+
+/// Appends the lowest `count` bytes of a value, each by its two hexadecimal digits.
+pub fn push_bytes<const N: usize>(out: &mut ArrayVec<u8, N>, count: u32, value: u64)
+    requires few { count ≤ 8 }
+    requires room { array_vec_len out.old + 2 * count ≤ N }
+    ensures text { out.new.items ≡ out.old.items ++ hex_digits (2 * count) value }
+    ensures length { array_vec_len out.new ≡ array_vec_len out.old + 2 * count }
+{
+    for place in (0..count).rev() {
+        let (high, low) = digit_pair(((value >> (8 * place)) % 256) as u8);
+        out.push(high);
+        out.push(low);
     }
 }

@@ -1,28 +1,15 @@
 //! An answer is printed.
 
-ghost use Rattle.std.specs.Prelude.{◌≡◌, ◌+◌, ◌*◌, ◌≤◌, [], ◌++◌};
+ghost use Rattle.std.specs.Prelude.{◌≡◌, ◌+◌, ◌≤◌, [], ◌++◌};
 ghost use Rattle.arrayvec.specs.ArrayVec.{array_vec_len};
-ghost use Rattle.aia_model.specs.AnswerText.{hex_digits, level_text, entry_text, refusal_word, answer_word, answer_text};
+ghost use Rattle.aia_model.specs.AnswerText.{level_text, entry_text, refusal_word, answer_word, answer_text};
 
 use crate::number::Radix;
-use crate::pieces::{digit_character, digit_pair, push_number, push_text};
+use crate::parts::push_part;
+use crate::pieces::{digit_character, push_bytes, push_number, push_text};
 use aia_entry::Entry;
 use aia_model::{Answer, Refusal};
 use arrayvec::ArrayVec;
-
-/// Appends the lowest `count` bytes of a value, each by its two hexadecimal digits.
-fn push_bytes(out: &mut ArrayVec<u8, 64>, count: u32, value: u64)
-    requires few { count ≤ 8 }
-    requires room { array_vec_len out.old + 2 * count ≤ 64 }
-    ensures text { out.new.items ≡ out.old.items ++ hex_digits (2 * count) value }
-    ensures length { array_vec_len out.new ≡ array_vec_len out.old + 2 * count }
-{
-    for place in (0..count).rev() {
-        let (high, low) = digit_pair(((value >> (8 * place)) % 256) as u8);
-        out.push(high);
-        out.push(low);
-    }
-}
 
 /// Appends a space and the digit of a level.
 fn push_level(out: &mut ArrayVec<u8, 64>, level: bool)
@@ -124,6 +111,7 @@ pub fn print_answer(answer: &Answer, out: &mut ArrayVec<u8, 64>)
             push_pins(out, *root, *child, *machine, *supervisor);
         }
         Answer::Entry(entry) => push_entry(out, *entry),
+        Answer::Part(part) => push_part(out, *part),
         Answer::Bad => push_text(out, b"bad"),
         Answer::NoMachine => push_text(out, b"nomachine"),
         Answer::Again => push_text(out, b"again"),

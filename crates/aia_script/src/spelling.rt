@@ -1,21 +1,22 @@
 //! A line is printed: its keyword, and its other fields, each after a space.
 
 ghost use Rattle.std.specs.Prelude.{◌≡◌, ◌+◌, ◌≤◌, [], ◌∷◌, ◌++◌, length, map};
-ghost use Rattle.std.specs.List.{join_with_byte};
+ghost use Rattle.std.specs.List.{join_with_byte, AllByRecursion};
 ghost use Rattle.arrayvec.specs.ArrayVec.{array_vec_len};
 ghost use Rattle.aia_regs.specs.Operations.{FitsOp};
-ghost use Rattle.aia_model.specs.AnswerText.{decimal_text};
-ghost use Rattle.aia_model.specs.Grammar.{Spells, IsListed, csr_field, instruction};
+ghost use Rattle.aia_model.specs.AnswerText.{decimal_text, field_text, hex_text};
+ghost use Rattle.aia_model.specs.Grammar.{Spells, IsListed, csr_field, instruction, part_fields};
 ghost use Rattle.aia_model.specs.Grammar.Field.{Keyword, Decimal};
-ghost use Rattle.aia_model.specs.Printing.{hex_text, field_text, line_text, IsPrintable};
+ghost use Rattle.aia_model.specs.Printing.{line_text, FitsField, IsPrintable};
 ghost use Rattle.aia_model.specs.Reading.{reading};
 ghost use Rattle.aia_model.specs.declared.limits.TheConstants.{LINE_BYTES};
 
 use crate::instructions::csr_name;
 use crate::number::Radix;
+use crate::parts::push_part;
 use crate::pieces::{push_number, push_text};
 use aia_model::limits::LINE_BYTES;
-use aia_model::{Line, Parsed};
+use aia_model::{Line, Parsed, Part};
 use aia_regs::{Csr, Level, Op};
 use arrayvec::ArrayVec;
 
@@ -201,6 +202,19 @@ fn push_ipi(out: &mut ArrayVec<u8, LINE_BYTES>, vm: u64, vcpu: u64, to: u64, val
     push_decimal(out, u64::from(value));
 }
 
+/// Appends the printing spelling of a `load` line to `out`, which is empty. The numbers of its part
+/// are in range by their types.
+#[tactic(auto, unfolding(aia_model::specs::Printing::line_text), using(crate::proofs::PrintLemmas::joined_part))]
+fn push_load(out: &mut ArrayVec<u8, LINE_BYTES>, vm: u64, vcpu: u64, part: Part)
+    requires { out.old.items ≡ [] }
+    ensures text { out.new.items ≡ line_text (Line.LoadPart vm vcpu part) }
+    ensures range { AllByRecursion FitsField (part_fields part) }
+{
+    push_virtual(out, b"load", vm, vcpu);
+    push_text(out, b" ");
+    push_part(out, part);
+}
+
 /// Appends the printing spelling of a `pins` line to `out`, which is empty.
 #[tactic(auto, unfolding(aia_model::specs::Printing::line_text))]
 fn push_pins(out: &mut ArrayVec<u8, LINE_BYTES>, hart: u64)
@@ -282,6 +296,11 @@ fn push_line(line: &Line, out: &mut ArrayVec<u8, LINE_BYTES>)
         Line::Step { vm, vcpu } => push_virtual(out, b"step", vm, vcpu),
         Line::Enter { vm, vcpu } => push_virtual(out, b"enter", vm, vcpu),
         Line::Exit { vm, vcpu } => push_virtual(out, b"exit", vm, vcpu),
+        Line::Save { vm, vcpu, k } => {
+            push_virtual(out, b"save", vm, vcpu);
+            push_decimal(out, k);
+        }
+        Line::LoadPart { vm, vcpu, part } => push_load(out, vm, vcpu, part),
         Line::Inject {
             vm,
             vcpu,
