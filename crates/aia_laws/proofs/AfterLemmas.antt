@@ -17,7 +17,7 @@ use Rattle.aia_regs.specs.Word.{settle, names}
 use Rattle.aia_file.specs.InterruptFile.{InterruptFile}
 use Rattle.aia_home.specs.Vms.{Vcpu, vcpu, is_vcpu}
 use Rattle.aia_model.specs.declared.line.Line.{Line}
-use Rattle.aia_model.specs.declared.line.Line.TheVariants.{Machine, Wire, Load, Store, GuestCsr, Ipi, Arrive, Leave, Shift, BeginArrive, BeginLeave, BeginShift, Step, Land}
+use Rattle.aia_model.specs.declared.line.Line.TheVariants.{Machine, Wire, Load, Store, GuestCsr, Ipi, Arrive, Leave, Shift, BeginArrive, BeginLeave, BeginShift, Step, Land, LoadPart}
 use Rattle.aia_model.specs.declared.line.Line.TheVariants as lines
 use Rattle.aia_model.specs.declared.answer.Answer.{Answer}
 use Rattle.aia_model.specs.declared.msi.Msi.{Msi}
@@ -331,6 +331,7 @@ quiet_rests (Machine harts guests n sources) h g stands e none quiet = absurd (f
 quiet_rests (lines.Msi vm addr value) h g stands e none quiet = cond-false _ _ _ quiet
 quiet_rests (Ipi vm number to value) h g stands e none quiet = cond-false _ _ _ quiet
 quiet_rests (GuestCsr vm number csr op) h g stands e none quiet = cond-false _ _ _ quiet
+quiet_rests (LoadPart vm number part) h g stands e none quiet = cond-false _ _ _ quiet
 quiet_rests line h g stands e none quiet = refl
 
 moved_or_not : (deed : MoveDeed) → (deed ≡ NoMove) ⊎ (deed ≢ NoMove)
@@ -374,6 +375,7 @@ other_is_quiet h (Arrive vm number hart) g e = none_flies_to h vm g e
 other_is_quiet h (Leave vm number) g e = none_flies_to h vm g e
 other_is_quiet h (Shift vm number hart) g e = none_flies_to h vm g e
 other_is_quiet h (Step vm number) g e = and_right (is_at_fence (home h (vcpu vm number))) (flies_to h vm g) (none_flies_to h vm g e)
+other_is_quiet h (LoadPart vm number part) g e = other_vm vm number g e
 other_is_quiet h line g e = refl
 
 -- ---- the word of a line on an identity decides

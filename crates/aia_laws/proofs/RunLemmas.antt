@@ -12,13 +12,11 @@ use Rattle.aia_model.specs.declared.answer.Answer.TheVariants.{Wide, Refused}
 use Rattle.aia_model.specs.declared.refusal.Refusal.TheVariants.{Illegal, Virtual}
 use Rattle.aia_model.specs.declared.line.Line.{Line}
 use Rattle.aia_model.specs.declared.line.Line.TheVariants.{GuestCsr, Enter, Exit}
-use Rattle.aia_model.specs.Event.{History, has_machine}
+use Rattle.aia_model.specs.Event.{History}
 use Rattle.aia_model.specs.FileAfter.FileDeed.{Accesses}
 use Rattle.aia_model.specs.Event.Event.{Accepted}
 use Rattle.aia_model.specs.FileAfter.{file_after, select_after, select_by, file_by}
 use Rattle.aia_model.specs.MajorOf.{majors_of}
-use Rattle.aia_model.specs.Vms.{has_vcpu}
-use Rattle.aia_model.specs.HomeOf.{home}
 use Rattle.aia_model.specs.GuestFile.{guest_file, guest_select}
 use Rattle.aia_model.specs.Refusal.{refusal, raises_illegal, raises_virtual}
 use Rattle.aia_model.specs.Answer.{answer, after, line_taken, csr_shown}

@@ -10,7 +10,8 @@ use Rattle.aia_file.specs.InterruptFile.{InterruptFile}
 use Rattle.aia_home.specs.Vms.{Vcpu, vcpu}
 use Rattle.aia_home.specs.Home.Home.{Parked}
 use Rattle.aia_home.proofs.VmLemmas.{slot_below}
-use Rattle.aia_model.specs.declared.line.Line.TheVariants.{Machine, Ipi, Send, Exit}
+use Rattle.aia_model.specs.declared.line.Line.TheVariants.{Machine, Ipi, Send, Exit, LoadPart}
+use Rattle.aia_model.specs.declared.part.Part.TheVariants as parts
 use Rattle.aia_model.specs.declared.line.Line.TheVariants as lines
 use Rattle.aia_model.specs.Event.{Event, History}
 use Rattle.aia_model.specs.Event.Event.{Accepted, Began, Stepped, Delivered, Landed, Relayed}
@@ -28,7 +29,7 @@ use Rattle.aia_model.proofs.FileLemmas.{file_step, newest_word, is_file-itself}
 use Rattle.aia_model.proofs.MoveLemmas.{same_vcpu}
 use Rattle.aia_laws.specs.Told.{is_deliverable, notice_file, notice_number, is_ask, is_clear, guest_said, host_said, begins_leave, names_vcpu, noticed_since, told_since, cleared_since, cleared_since_notice}
 use Rattle.aia_laws.proofs.FileLemmas.{made_with, not_making, host_made, host_n}
-use Rattle.aia_model.proofs.RefusalLemmas.{machine_allowed, device_allowed, peer_allowed, exit_allowed}
+use Rattle.aia_model.proofs.RefusalLemmas.{machine_allowed, device_allowed, peer_allowed, exit_allowed, load_allowed}
 use Rattle.aia_model.specs.Histories.{MayHappen, IsHistory}
 use Rattle.aia_laws.proofs.MachineLemmas.{identities_for_all, enabled_in_words}
 use Rattle.aia_model.proofs.PlaceLemmas.{machine_first}
@@ -60,6 +61,7 @@ noticed_is_there : (event : Event) (past : History) (g : Vcpu) → MayHappen pas
 noticed_is_there (Accepted (lines.Msi vm addr value)) past g may good e = ap (has_vcpu past) (chosen_is _ (named_by past vm addr) g e) ∙ device_allowed past vm addr value may
 noticed_is_there (Accepted (Ipi vm number to value)) past g may good e = ap (has_vcpu past) (chosen_is _ (vcpu vm to) g e) ∙ peer_allowed past vm number to value may
 noticed_is_there (Accepted (Exit vm number)) past g may good e = ap (has_vcpu past) (chosen_is _ (vcpu vm number) g e) ∙ (exit_allowed past vm number may).0
+noticed_is_there (Accepted (LoadPart vm number (parts.Word w pending enable))) past g may good e = ap (has_vcpu past) (chosen_is _ (vcpu vm number) g e) ∙ (load_allowed past vm number (parts.Word w pending enable) may).there
 noticed_is_there (Stepped x) past g may good e = ap (has_vcpu past) (chosen_is _ x g e) ∙ may.0
 noticed_is_there (Accepted line) past g may good e = absurd (false≢true e)
 noticed_is_there (Began move) past g may good e = absurd (false≢true e)
@@ -84,6 +86,7 @@ notice_is_deed : (event : Event) (past : History) (f : FileName) (g : Vcpu) → 
 notice_is_deed (Accepted (lines.Msi vm addr value)) past f g other e = ap (notice_deed past f) (noticed_one _ g e)
 notice_is_deed (Accepted (Ipi vm number to value)) past f g other e = ap (notice_deed past f) (noticed_one _ g e)
 notice_is_deed (Accepted (Exit vm number)) past f g other e = ap (notice_deed past f) (noticed_one _ g e)
+notice_is_deed (Accepted (LoadPart vm number part)) past f g other e = ap (notice_deed past f) (noticed_one _ g e)
 notice_is_deed (Stepped x) past f g other e = ap (notice_deed past f) (noticed_one _ g e)
 notice_is_deed (Accepted line) past f g other e = absurd (false≢true e)
 notice_is_deed (Began move) past f g other e = absurd (false≢true e)

@@ -6,7 +6,8 @@ use Rattle.aia_home.specs.Vms.{Vcpu, vcpu, is_vcpu, notice_hart, notice_identity
 use Rattle.aia_home.specs.Home.{is_resident}
 use Rattle.aia_model.specs.Move.Move.{Leaves}
 use Rattle.aia_model.specs.declared.line.Line.{Line}
-use Rattle.aia_model.specs.declared.line.Line.TheVariants.{Exit}
+use Rattle.aia_model.specs.declared.line.Line.TheVariants.{Exit, LoadPart}
+use Rattle.aia_model.specs.declared.part.Part.{Part}
 use Rattle.aia_model.specs.Event.{Event, History, greatest_identity_of, file_words}
 use Rattle.aia_model.specs.Event.Event.{Accepted, Began, Stepped, Landed, Relayed}
 use Rattle.aia_regs.specs.declared.address_map.TheConstants.{PAGE}
@@ -14,6 +15,7 @@ use Rattle.aia_regs.specs.Request.{requested}
 use Rattle.aia_model.specs.Flight.{Sending, flying}
 use Rattle.aia_model.specs.Passes.{nth_pass}
 use Rattle.aia_model.specs.HomeOf.{home}
+use Rattle.aia_model.specs.Image.{file_loaded}
 use Rattle.aia_model.specs.Notice.{noticed, ends_leave, a_look_saw}
 use Rattle.aia_model.specs.Vms.{vms_of}
 use Rattle.aia_model.specs.FileAfter.{pending_said}
@@ -131,9 +133,18 @@ pub record ExitsDeliverable (past : History) (x g : Vcpu) : Type 0 where
   pub identity : ℕ
   pub deliverable : is_deliverable past g identity ≡ true
 
+-- A part of an image is loaded into a virtual hart, and leaves an identity deliverable at it.
+pub record LoadsDeliverable (past : History) (part : Part) (x g : Vcpu) : Type 0 where
+  pub same : x ≡ g
+  pub identity : ℕ
+  pub pending : (file_loaded part (guest_file past g)).pending identity ≡ true
+  pub enabled : (file_loaded part (guest_file past g)).enabled identity ≡ true
+
 -- An event is the cause of a notice for a virtual hart.
 abbrev pub IsCause : History → Event → Vcpu → Type 0
 IsCause past (Accepted (Exit vm number)) g = ExitsDeliverable past (vcpu vm number) g
+IsCause past (Accepted (LoadPart vm number part)) g =
+    LoadsDeliverable past part (vcpu vm number) g
 IsCause past (Accepted line) g = AsksForEnabled past line g
 IsCause past (Stepped x) g = EndsLeave past x g
 IsCause past (Landed vm k) g = LandsForEnabled past vm k g

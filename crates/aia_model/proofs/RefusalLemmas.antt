@@ -4,13 +4,16 @@ use Rattle.std.proofs.lemmas.Bool.{and_parts, or_parts, not-false, ltb-false, lt
 use Rattle.aia_regs.specs.declared.limits.TheConstants.{VCPUS, PASSES}
 use Rattle.aia_regs.specs.declared.access.Csr.{Csr}
 use Rattle.aia_regs.specs.declared.access.Op.{Op}
-use Rattle.aia_home.specs.Vms.{vcpu, vcpus_in}
-use Rattle.aia_home.specs.Home.{is_moving, is_resident, is_entered, runs, rests_in_memory}
+use Rattle.aia_home.specs.Vms.{Vcpu, vcpu, vcpus_in}
+use Rattle.aia_home.specs.Home.Home.{Parked, Entered, Resident, Leaving, Arriving, Shifting}
+use Rattle.aia_home.specs.Home.{Home, is_moving, is_resident, is_entered, runs, rests_in_memory}
 use Rattle.aia_model.specs.declared.line.Line.{Line}
-use Rattle.aia_model.specs.declared.line.Line.TheVariants.{Send, Land, Machine, GuestCsr, Ipi, Arrive, Leave, Shift, Step, Enter, Exit}
+use Rattle.aia_model.specs.declared.line.Line.TheVariants.{Send, Land, Machine, GuestCsr, Ipi, Arrive, Leave, Shift, Step, Enter, Exit, Save, LoadPart}
 use Rattle.aia_model.specs.declared.line.Line.TheVariants as lines
 use Rattle.aia_model.specs.declared.answer.Answer.{Answer}
-use Rattle.aia_model.specs.Event.{History, has_machine, has_hart, greatest_identity_of, sources_of}
+use Rattle.aia_model.specs.declared.part.Part.{Part}
+use Rattle.aia_model.specs.Image.{parts_in, is_loadable}
+use Rattle.aia_model.specs.Event.{History, has_machine, has_hart, greatest_identity_of, file_words, sources_of}
 use Rattle.std.specs.Int.{is_in_range}
 use Rattle.aia_model.specs.Passes.{passes_of, is_passed}
 use Rattle.aia_model.specs.Passable.{is_passable, redirects}
@@ -145,6 +148,40 @@ exit_allowed h vm number e =
     let stands = passed (not (has_machine h)) _ _ e in
     let there = passed (not (has_vcpu h (vcpu vm number))) _ _ stands.1 in
     (not-false _ there.0, not-false _ (passed (not (is_entered (home h (vcpu vm number)))) _ _ there.1).0)
+
+-- a part of an image is saved of, and loaded into, a virtual hart that is parked, and is there
+only_parked : (there : Home) → is_moving there ≡ false → is_resident there ≡ false → is_entered there ≡ false → there ≡ Parked
+only_parked Parked moves away rests = refl
+only_parked Entered moves away rests = absurd (cc)
+only_parked (Resident place) moves away rests = absurd (cc)
+only_parked (Leaving from at) moves away rests = absurd (cc)
+only_parked (Arriving to at) moves away rests = absurd (cc)
+only_parked (Shifting from to at) moves away rests = absurd (cc)
+
+pub record ImageAllowed (h : History) (g : Vcpu) (is_in_range : Bool) : Type 0 where
+  pub there : has_vcpu h g ≡ true
+  pub fits : is_in_range ≡ true
+  pub parked : home h g ≡ Parked
+
+pub save_allowed : (h : History) (vm number k : ℕ) → refusal h (Save vm number k) ≡ None → ImageAllowed h (vcpu vm number) (nat_lt k (parts_in (file_words h)))
+save_allowed h vm number k e =
+    let stands = passed (not (has_machine h)) _ _ e in
+    let there = passed (not (has_vcpu h (vcpu vm number) && nat_lt k (parts_in (file_words h)))) _ _ stands.1 in
+    let idle = passed (is_moving (home h (vcpu vm number))) _ _ there.1 in
+    let away = passed (is_resident (home h (vcpu vm number))) _ _ idle.1 in
+    let rests = passed (is_entered (home h (vcpu vm number))) _ _ away.1 in
+    let both = and_parts _ _ (not-false _ there.0) in
+    record { there = both.0; fits = both.1; parked = only_parked (home h (vcpu vm number)) idle.0 away.0 rests.0 }
+
+pub load_allowed : (h : History) (vm number : ℕ) (part : Part) → refusal h (LoadPart vm number part) ≡ None → ImageAllowed h (vcpu vm number) (is_loadable (greatest_identity_of h) part)
+load_allowed h vm number part e =
+    let stands = passed (not (has_machine h)) _ _ e in
+    let there = passed (not (has_vcpu h (vcpu vm number) && is_loadable (greatest_identity_of h) part)) _ _ stands.1 in
+    let idle = passed (is_moving (home h (vcpu vm number))) _ _ there.1 in
+    let away = passed (is_resident (home h (vcpu vm number))) _ _ idle.1 in
+    let rests = passed (is_entered (home h (vcpu vm number))) _ _ away.1 in
+    let both = and_parts _ _ (not-false _ there.0) in
+    record { there = both.0; fits = both.1; parked = only_parked (home h (vcpu vm number)) idle.0 away.0 rests.0 }
 
 -- a store that lands is in flight, and one that is sent is for a virtual hart that is there
 pub land_allowed : (h : History) (vm k : ℕ) → refusal h (Land vm k) ≡ None → k < length (flight h vm)
