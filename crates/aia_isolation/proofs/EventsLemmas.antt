@@ -7,14 +7,15 @@ use Rattle.aia_model.specs.Event.Event.{Accepted, Began, Stepped, Delivered, Lan
 use Rattle.aia_model.specs.Flight.{flight, flying}
 use Rattle.aia_home.specs.Vms.{is_vcpu}
 use Rattle.aia_model.specs.declared.line.Line.{Line}
-use Rattle.aia_model.specs.declared.line.Line.TheVariants.{Machine, Send, GuestCsr, Ipi, Inject, Hvictl, Hviprio}
+use Rattle.aia_model.specs.declared.line.Line.TheVariants.{Machine, Send, GuestCsr, Ipi, Inject, Hvictl, Hviprio, LoadPart}
 use Rattle.aia_model.specs.declared.line.Line.TheVariants as lines
 use Rattle.aia_model.specs.declared.msi.Msi.{Msi}
 use Rattle.aia_model.specs.Passes.{passes_of, nth_pass, passed_by}
 use Rattle.aia_model.specs.GuestFile.{goes_to_guest}
 use Rattle.aia_model.specs.Script.{history_of}
 use Rattle.aia_isolation.specs.Said.{Said, said_by, passed_said, with_one, said}
-use Rattle.aia_isolation.specs.Guest.{guest_of, guest_by}
+use Rattle.aia_isolation.specs.Guest.{guest_by}
+use Rattle.aia_model.specs.StateOf.{state_of}
 use Rattle.aia_isolation.specs.Replies.{replies, sets_up, is_of_flight, script_replies}
 use Rattle.aia_isolation.specs.Concerns.{is_event_for, forward_for, event_for, events_for}
 use Rattle.aia_isolation.proofs.GuestLemmas.{is_by_said, said_step}
@@ -74,6 +75,7 @@ other_said (GuestCsr vm number csr op) v past g e its = unsaid (GuestCsr vm numb
 other_said (Inject vm number bit level) v past g e its = unsaid (Inject vm number bit level) v past g e its
 other_said (Hviprio vm number value) v past g e its = unsaid (Hviprio vm number value) v past g e its
 other_said (Hvictl vm number value) v past g e its = unsaid (Hvictl vm number value) v past g e its
+other_said (LoadPart vm number part) v past g e its = unsaid (LoadPart vm number part) v past g e its
 other_said line v past g e its = refl
 
 line_event : (v : ℕ) (g : Vcpu) (line : Line) (past : History) → g.vm ≡ v → IsByEvents v g past → IsByEvents v g (Accepted line ∷ past)
@@ -129,7 +131,7 @@ is_by_events v g (Stepped x ∷ past) its = other_event v g (Stepped x) past ref
 events_said : (h k : History) (g : Vcpu) → events_for g.vm h ≡ events_for g.vm k → said h g ≡ said k g
 events_said h k g e = sym (is_by_events g.vm g h refl).1 ∙ ap (λ x. said x g) e ∙ (is_by_events g.vm g k refl).1
 
-pub events_guest : (h k : History) (g : Vcpu) → events_for g.vm h ≡ events_for g.vm k → guest_of h g ≡ guest_of k g
+pub events_guest : (h k : History) (g : Vcpu) → events_for g.vm h ≡ events_for g.vm k → state_of h g ≡ state_of k g
 events_guest h k g e = is_by_said h g ∙ ap guest_by (events_said h k g e) ∙ sym (is_by_said k g)
 
 pub events_replies : (h k : History) (g : Vcpu) → events_for g.vm h ≡ events_for g.vm k → replies h g ≡ replies k g

@@ -6,12 +6,14 @@ use Rattle.aia_home.proofs.VmLemmas.{same_slot}
 use Rattle.aia_model.specs.declared.line.Line.{Line}
 use Rattle.aia_model.specs.declared.line.Line.TheVariants.{Send, Land, GuestCsr, Ipi}
 use Rattle.aia_model.specs.declared.line.Line.TheVariants as lines
+use Rattle.aia_model.specs.declared.part.Part.{Part}
+use Rattle.aia_model.specs.declared.part.Part.TheVariants as parts
 use Rattle.aia_model.specs.Act.{Act, act_of}
 use Rattle.aia_model.specs.Event.{History}
 use Rattle.aia_model.specs.Event.Event.{Accepted, Stepped, Landed}
 use Rattle.aia_model.specs.Vms.{vms_of, has_vcpu}
 use Rattle.aia_model.specs.FileAfter.{FileDeed, select_after, file_after, select_by, file_by}
-use Rattle.aia_model.specs.FileAfter.FileDeed.{Makes, Accesses, Stores, Relays, Rests}
+use Rattle.aia_model.specs.FileAfter.FileDeed.{Makes, Accesses, Stores, Relays, Loads, Rests}
 use Rattle.aia_model.specs.FileOf.{FileName, is_file, notice_deed, deed_at}
 use Rattle.aia_model.specs.Flight.{Sending, flying}
 use Rattle.aia_model.specs.GuestFile.{named_by, sent_to}
@@ -54,6 +56,12 @@ steps_by_notices past g f there = either_notice _ past g.vm f g refl there
 pub exits_by_notices : (past : History) (g : Vcpu) (f : FileName) → has_vcpu past g ≡ true → (deed_at f past (Accepted (lines.Exit g.vm g.number)) ≡ Rests) ⊎ IsNoticeOf past g.vm f (deed_at f past (Accepted (lines.Exit g.vm g.number)))
 exits_by_notices past g f there = either_notice _ past g.vm f g refl there
 
+pub loads_by_notices : (past : History) (g : Vcpu) (part : Part) (f : FileName) → has_vcpu past g ≡ true → (deed_at f past (Accepted (lines.LoadPart g.vm g.number part)) ≡ Rests) ⊎ IsNoticeOf past g.vm f (deed_at f past (Accepted (lines.LoadPart g.vm g.number part)))
+loads_by_notices past g (parts.Word w pending enable) f there = either_notice _ past g.vm f g refl there
+loads_by_notices past g (parts.Image version n delivery threshold select) f there = inl refl
+loads_by_notices past g (parts.Majors injected enabled) f there = inl refl
+loads_by_notices past g (parts.Prio hviprio hvictl) f there = inl refl
+
 pub landings_by_notices : (past : History) (v k : ℕ) (f : FileName) → IsHistory past → (deed_at f past (Landed v k) ≡ Rests) ⊎ IsNoticeOf past v f (deed_at f past (Landed v k))
 landings_by_notices past v k f good = by_store (flying past v k) refl
   where
@@ -84,6 +92,7 @@ by_one (Makes n) earlier = refl
 by_one (Accesses csr op) earlier = refl
 by_one (Stores offset value) earlier = refl
 by_one (Relays x notice) earlier = refl
+by_one (Loads part) earlier = refl
 by_one Rests earlier = refl
 
 pub is_by_deeds : (h : History) (f : FileName) → host_of h f ≡ host_by (deeds_of h f)
