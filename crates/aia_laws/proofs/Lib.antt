@@ -12,3 +12,8 @@ pub mod FenceLemmas
 pub mod ForwardLemmas
 pub mod MoveLemmas
 pub mod RunLemmas
+pub mod StateLemmas
+pub mod ReachedLemmas
+pub mod ImageLemmas
+pub mod PartLemmas
+pub mod LoadLemmas

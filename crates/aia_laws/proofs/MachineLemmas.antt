@@ -25,7 +25,7 @@ none_there : (g : Vcpu) → has_vcpu [] g ≡ false
 none_there g = le-ltb g.number 0 (omega arith)
 
 -- where a virtual hart is, a machine stands
-machine_of_vcpu : (h : History) (g : Vcpu) → IsHistory h → has_vcpu h g ≡ true → has_machine h ≡ true
+pub machine_of_vcpu : (h : History) (g : Vcpu) → IsHistory h → has_vcpu h g ≡ true → has_machine h ≡ true
 machine_of_vcpu h g good there = elim (cases_Bool (has_machine h)) [
   | inl stands ↦ stands
   | inr none ↦ absurd (false≢true (sym (none_there g) ∙ ap (λ x. has_vcpu x g) (sym (machine_first h good none)) ∙ there))
@@ -34,7 +34,7 @@ machine_of_vcpu h g good there = elim (cases_Bool (has_machine h)) [
 greatest_of_size : (harts guests n sources : ℕ) → is_machine_size harts guests n sources ≡ true → is_greatest_identity n ≡ true
 greatest_of_size harts guests n sources e = (and_parts _ _ (and_parts _ _ e).0).1
 
-greatest_of_machine : (h : History) → IsHistory h → has_machine h ≡ true → is_greatest_identity (greatest_identity_of h) ≡ true
+pub greatest_of_machine : (h : History) → IsHistory h → has_machine h ≡ true → is_greatest_identity (greatest_identity_of h) ≡ true
 greatest_of_machine [] good stands = absurd (cc)
 greatest_of_machine (Accepted (Machine harts guests n sources) ∷ h) good stands = greatest_of_size harts guests n sources (machine_allowed h harts guests n sources good.0).1
 greatest_of_machine (Accepted line ∷ h) good stands = greatest_of_machine h good.1 stands

@@ -3,3 +3,4 @@ pub mod Claims
 pub mod Told
 pub mod Forwards
 pub mod Newest
+pub mod Images

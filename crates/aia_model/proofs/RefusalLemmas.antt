@@ -4,11 +4,12 @@ use Rattle.std.proofs.lemmas.Bool.{and_parts, or_parts, not-false, ltb-false, lt
 use Rattle.aia_regs.specs.declared.limits.TheConstants.{VCPUS, PASSES}
 use Rattle.aia_regs.specs.declared.access.Csr.{Csr}
 use Rattle.aia_regs.specs.declared.access.Op.{Op}
+use Rattle.aia_major.specs.VsMajor.{is_major, is_hvictl}
 use Rattle.aia_home.specs.Vms.{Vcpu, vcpu, vcpus_in}
 use Rattle.aia_home.specs.Home.Home.{Parked, Entered, Resident, Leaving, Arriving, Shifting}
 use Rattle.aia_home.specs.Home.{Home, is_moving, is_resident, is_entered, runs, rests_in_memory}
 use Rattle.aia_model.specs.declared.line.Line.{Line}
-use Rattle.aia_model.specs.declared.line.Line.TheVariants.{Send, Land, Machine, GuestCsr, Ipi, Arrive, Leave, Shift, Step, Enter, Exit, Save, LoadPart}
+use Rattle.aia_model.specs.declared.line.Line.TheVariants.{Send, Land, Machine, GuestCsr, Ipi, Arrive, Leave, Shift, Step, Enter, Exit, Save, LoadPart, Inject, Hvictl}
 use Rattle.aia_model.specs.declared.line.Line.TheVariants as lines
 use Rattle.aia_model.specs.declared.answer.Answer.{Answer}
 use Rattle.aia_model.specs.declared.part.Part.{Part}
@@ -182,6 +183,17 @@ load_allowed h vm number part e =
     let rests = passed (is_entered (home h (vcpu vm number))) _ _ away.1 in
     let both = and_parts _ _ (not-false _ there.0) in
     record { there = both.0; fits = both.1; parked = only_parked (home h (vcpu vm number)) idle.0 away.0 rests.0 }
+
+-- a major that is injected is one, and hvictl takes what is written to it
+pub inject_allowed : (h : History) (vm number bit : ℕ) (level : Bool) → refusal h (Inject vm number bit level) ≡ None → is_major bit ≡ true
+inject_allowed h vm number bit level e =
+    let stands = passed (not (has_machine h)) _ _ e in
+    (and_parts _ _ (not-false _ (passed (not (has_vcpu h (vcpu vm number) && is_major bit)) _ _ stands.1).0)).1
+
+pub hvictl_allowed : (h : History) (vm number value : ℕ) → refusal h (Hvictl vm number value) ≡ None → is_hvictl value ≡ true
+hvictl_allowed h vm number value e =
+    let stands = passed (not (has_machine h)) _ _ e in
+    (and_parts _ _ (not-false _ (passed (not (has_vcpu h (vcpu vm number) && is_hvictl value)) _ _ stands.1).0)).1
 
 -- a store that lands is in flight, and one that is sent is for a virtual hart that is there
 pub land_allowed : (h : History) (vm k : ℕ) → refusal h (Land vm k) ≡ None → k < length (flight h vm)
