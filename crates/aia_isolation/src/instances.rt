@@ -1,13 +1,17 @@
 //! The laws at work: what they say of worked scripts, computed.
 //!
 //! Each function does nothing: its clauses are what was proved, by computing.
-#![tactic(auto, unfolding(aia_word::specs::Sets::word_of, aia_word::specs::Sets::least_of, aia_word::specs::Packed::packed, aia_word::specs::Packed::ones, aia_model::specs::Reading::number_at, aia_model::specs::Reading::n32_at, aia_model::specs::Reading::bit_at, aia_model::specs::Reading::machine_at, aia_model::specs::Reading::vm_at, aia_model::specs::Reading::wire_at, aia_model::specs::Reading::store_at, aia_model::specs::Reading::load_at, aia_model::specs::Reading::msi_at, aia_model::specs::Reading::send_at, aia_model::specs::Reading::land_at, aia_model::specs::Reading::refetch_at, aia_model::specs::Reading::csr_at, aia_model::specs::Reading::read_at, aia_model::specs::Reading::write_at, aia_model::specs::Reading::instruction_at, aia_model::specs::Reading::machine_csr_at, aia_model::specs::Reading::host_at, aia_model::specs::Reading::ipi_at, aia_model::specs::Reading::guest_at, aia_model::specs::Reading::arrive_at, aia_model::specs::Reading::leave_at, aia_model::specs::Reading::shift_at, aia_model::specs::Reading::begin_arrive_at, aia_model::specs::Reading::begin_leave_at, aia_model::specs::Reading::begin_shift_at, aia_model::specs::Reading::begin_at, aia_model::specs::Reading::step_at, aia_model::specs::Reading::enter_at, aia_model::specs::Reading::exit_at, aia_model::specs::Reading::inject_at, aia_model::specs::Reading::hvictl_at, aia_model::specs::Reading::hviprio_at, aia_model::specs::Reading::pass_at, aia_model::specs::Reading::pins_at, aia_model::specs::Reading::entry_at, aia_model::specs::Reading::line_at, aia_model::specs::Reading::reading, aia_model::specs::FileAfter::select_by, aia_model::specs::FileAfter::file_by, aia_model::specs::MajorOf::majors_of, aia_model::specs::HomeOf::home, aia_model::specs::Flight::flight, aia_model::specs::Passes::passes_of, aia_model::specs::ReachOf::in_force_of, aia_model::specs::ReachOf::stage_in_force_of, aia_model::specs::Notice::look_saw, aia_regs::specs::DomainRegisters::domain_register_of, aia_model::specs::Act::newest, aia_model::specs::SourceOf::wire_of, aia_model::specs::SourceOf::enabled, aia_model::specs::SourceOf::target, aia_model::specs::SourceOf::pending, aia_model::specs::AddressOf::addresses_of, aia_model::specs::SourceOf::genmsi_waits, aia_model::specs::Sent::all_senders, aia_model::specs::Answer::answer, aia_model::specs::Answer::after, aia_model::specs::AnswerText::hex_digits, aia_model::specs::AnswerText::answer_text, crate::specs::Said::said, crate::specs::Guest::guest_by, crate::specs::Replies::replies, crate::specs::Replies::replies_by, crate::specs::Replies::purged, crate::specs::Concerns::events_for, crate::specs::Reach::deeds_of, crate::specs::Reach::host_by, aia_laws::specs::Newest::newest, aia_laws::specs::Told::told_since))]
+#![tactic(auto, unfolding(aia_word::specs::Sets::word_of, aia_word::specs::Sets::least_of, aia_word::specs::Packed::packed, aia_word::specs::Packed::ones, aia_model::specs::Reading::number_at, aia_model::specs::Reading::n32_at, aia_model::specs::Reading::bit_at, aia_model::specs::Reading::machine_at, aia_model::specs::Reading::vm_at, aia_model::specs::Reading::wire_at, aia_model::specs::Reading::store_at, aia_model::specs::Reading::load_at, aia_model::specs::Reading::msi_at, aia_model::specs::Reading::send_at, aia_model::specs::Reading::land_at, aia_model::specs::Reading::refetch_at, aia_model::specs::Reading::csr_at, aia_model::specs::Reading::read_at, aia_model::specs::Reading::write_at, aia_model::specs::Reading::instruction_at, aia_model::specs::Reading::machine_csr_at, aia_model::specs::Reading::host_at, aia_model::specs::Reading::ipi_at, aia_model::specs::Reading::guest_at, aia_model::specs::Reading::arrive_at, aia_model::specs::Reading::leave_at, aia_model::specs::Reading::shift_at, aia_model::specs::Reading::begin_arrive_at, aia_model::specs::Reading::begin_leave_at, aia_model::specs::Reading::begin_shift_at, aia_model::specs::Reading::begin_at, aia_model::specs::Reading::step_at, aia_model::specs::Reading::enter_at, aia_model::specs::Reading::exit_at, aia_model::specs::Reading::save_at, aia_model::specs::Reading::image_at, aia_model::specs::Reading::majors_at, aia_model::specs::Reading::prio_at, aia_model::specs::Reading::word_part_at, aia_model::specs::Reading::part_at, aia_model::specs::Reading::load_part_at, aia_model::specs::Reading::inject_at, aia_model::specs::Reading::hvictl_at, aia_model::specs::Reading::hviprio_at, aia_model::specs::Reading::pass_at, aia_model::specs::Reading::pins_at, aia_model::specs::Reading::entry_at, aia_model::specs::Reading::line_at, aia_model::specs::Reading::reading, aia_model::specs::FileAfter::select_by, aia_model::specs::FileAfter::file_by, aia_model::specs::MajorOf::majors_of, aia_model::specs::HomeOf::home, aia_model::specs::Flight::flight, aia_model::specs::Passes::passes_of, aia_model::specs::ReachOf::in_force_of, aia_model::specs::ReachOf::stage_in_force_of, aia_model::specs::Notice::look_saw, aia_regs::specs::DomainRegisters::domain_register_of, aia_model::specs::Act::newest, aia_model::specs::SourceOf::wire_of, aia_model::specs::SourceOf::enabled, aia_model::specs::SourceOf::target, aia_model::specs::SourceOf::pending, aia_model::specs::AddressOf::addresses_of, aia_model::specs::SourceOf::genmsi_waits, aia_model::specs::Sent::all_senders, aia_model::specs::Answer::answer, aia_model::specs::Answer::after, aia_model::specs::AnswerText::hex_digits, aia_model::specs::AnswerText::answer_text, crate::specs::Said::said, crate::specs::Guest::guest_by, crate::specs::Replies::replies, crate::specs::Replies::replies_by, crate::specs::Replies::purged, crate::specs::Images::said_after, crate::specs::Concerns::events_for, crate::specs::Reach::deeds_of, crate::specs::Reach::host_by, aia_laws::specs::Newest::newest, aia_laws::specs::Told::told_since))]
 
-ghost use Rattle.std.specs.Prelude.{◌≡◌, true, [], ◌∷◌, length, Some};
+ghost use Rattle.std.specs.Prelude.{◌≡◌, true, [], ◌∷◌, ◌++◌, length, Some};
 ghost use Rattle.aia_regs.specs.declared.access.Csr.TheVariants.{Select, Reg, Topei, Sip};
 ghost use Rattle.aia_regs.specs.declared.access.Op.TheVariants.{Read, Write};
 ghost use Rattle.aia_regs.specs.Word.Word.{Ask, Clear};
 ghost use Rattle.aia_home.specs.Vms.{vcpu};
+ghost use Rattle.aia_model.specs.Event.{has_machine};
+ghost use Rattle.aia_model.specs.Image.{GuestState};
+ghost use Rattle.aia_model.specs.StateOf.{state_of};
+ghost use Rattle.aia_isolation.specs.Images.{loads_of, IsWholeImage};
 ghost use Rattle.aia_home.specs.Home.Home.{Parked};
 ghost use Rattle.aia_model.specs.declared.answer.Answer.TheVariants.{Wide};
 ghost use Rattle.aia_model.specs.GuestFile.{guest_file};
@@ -299,6 +303,63 @@ ok
 0x00001005
 ";
 
+/// Virtual hart 0 of VM 0 enables 5 and 6 and its majors, gets 5, is parked, and each part of its
+/// image is saved.
+pub const SAVED: &str = "machine 1 1 63 8
+vm 1 0x8 0
+arrive 0 0 0
+g 0 0 csrrw siselect 0xc0
+g 0 0 csrrw sireg 0x60
+g 0 0 csrrw siselect 0x70
+g 0 0 csrrw sireg 1
+g 0 0 csrrw sie 0x220
+inject 0 0 5 1
+hviprio 0 0 0x500
+hvictl 0 0 0x100
+msi 0 0x28000000 5
+leave 0 0
+save 0 0 0
+save 0 0 1
+save 0 0 2
+save 0 0 3
+";
+
+/// The answers to it.
+pub const SAVED_ANSWERS: &str = "ok
+ok
+ok
+0x0000000000000000
+0x0000000000000000
+0x00000000000000c0
+0x0000000000000000
+0x0000000000000000
+ok
+ok
+ok
+ok
+ok
+image 1 63 1 0 0x0000000000000070
+majors 0x0000000000000020 0x0000000000000220
+prio 0x0000000000000500 0x0000000000000100
+word 0 0x0000000000000020 0x0000000000000060
+";
+
+/// The same parts are loaded into virtual hart 1 of VM 0 of another machine, in another order and
+/// one of them twice, while a store is for virtual hart 0; then it arrives, and claims.
+pub const LOADED: &str = "machine 2 1 63 1
+vm 2 0x8 1
+load 0 1 word 0 0x0000000000000020 0x0000000000000060
+load 0 1 majors 0x0000000000000020 0x0000000000000220
+msi 0 0x28000000 7
+load 0 1 image 1 63 1 0 0x0000000000000070
+load 0 1 word 0 0x0000000000000020 0x0000000000000060
+load 0 1 prio 0x0000000000000500 0x0000000000000100
+arrive 0 1 1
+g 0 1 csrr sip
+g 0 1 csrrw stopei 0
+g 0 1 csrr siselect
+";
+
 /// What is said to a virtual hart is the same in two scripts that have nothing else in common, but
 /// for a read of its own in the second: so it is the same in both, and its replies are, but for
 /// that read's. A store that names no identity says nothing, and all that says nothing may be left
@@ -398,4 +459,25 @@ pub fn with_a_source_passed_no_part_is_answered_alone()
     ensures machine_part { texts_of UNAIMED.now ≡ part_of is_of_machine_level PASSED.now }
     ensures machine_alone { answers UNAIMED.now ≡ UNAIMED_ANSWERS.now }
     ensures machine_beside { answers_to is_of_machine_level PASSED.now ≡ AIMED_ANSWERS.now }
+{}
+
+/// What is printed for the parts of an image is loaded into another virtual hart: what it was said
+/// is all parts of the image, and then its own instructions, which are answered as if they came
+/// after all that the first one was told. Any list of loads that has each part is a whole image.
+pub fn an_image_is_carried_from_one_script_to_another()
+    ensures saved { answers SAVED.now ≡ SAVED_ANSWERS.now }
+    ensures stands { has_machine (history_of SAVED.now) ≡ true }
+    ensures size { (state_of (history_of SAVED.now) (vcpu 0 0)).file.n ≡ 63 }
+    ensures said { said (history_of LOADED.now) (vcpu 0 1)
+        ≡ (Did Select Read ∷ Did Topei (Write 0) ∷ Did Sip Read ∷ [])
+        ++ (loads_of (state_of (history_of SAVED.now) (vcpu 0 0)) (2 ∷ 3 ∷ 0 ∷ 1 ∷ 3 ∷ [])
+        ++ Made 63 ∷ []) }
+    ensures whole { (image : GuestState) → image.file.n ≡ 63
+        → IsWholeImage image (loads_of image (2 ∷ 3 ∷ 0 ∷ 1 ∷ 3 ∷ []) ++ Made 63 ∷ []) }
+    ensures replies { script_replies LOADED.now (vcpu 0 1)
+        ≡ Wide 0x220 ∷ Wide 0x50005 ∷ Wide 0x70 ∷ [] }
+    ensures automaton { replies_by ((Did Select Read ∷ Did Topei (Write 0) ∷ Did Sip Read ∷ [])
+        ++ said (history_of SAVED.now) (vcpu 0 0))
+        ≡ Wide 0x70 ∷ Wide 0x50005 ∷ Wide 0x220 ∷ Wide 0 ∷ Wide 0 ∷ Wide 0xc0 ∷ Wide 0 ∷ Wide 0
+        ∷ [] }
 {}
