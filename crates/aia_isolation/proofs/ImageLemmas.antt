@@ -1,14 +1,18 @@
 -- An image carries a virtual hart: what was said after its load is heard as if it came after all
 -- that was said to the virtual hart that was saved.
-use Rattle.std.proofs.Common.{◌≡◌, ℕ, zero, suc, ◌<◌, true, List, [], ◌∷◌, ◌++◌, reverse, Option, Some, None, refl, sym, ap, ◌∙◌, arith}
+use Rattle.std.proofs.Common.{◌≡◌, ℕ, zero, suc, ◌<◌, true, is_none, List, [], ◌∷◌, ◌++◌, reverse, Option, Some, None, refl, sym, ap, ◌∙◌, arith}
 use Rattle.std.specs.List.{Contains}
 use Rattle.std.proofs.lemmas.List.{reverse-append}
 use Rattle.aia_regs.specs.declared.access.Csr.{Csr}
 use Rattle.aia_regs.specs.declared.access.Op.{Op}
 use Rattle.aia_home.specs.Vms.{Vcpu, vcpu}
-use Rattle.aia_model.specs.declared.line.Line.TheVariants.{GuestCsr, Save}
+use Rattle.aia_model.specs.declared.line.Line.TheVariants.{Machine, GuestCsr, Save}
 use Rattle.aia_model.specs.declared.answer.Answer.TheVariants as answers
-use Rattle.aia_model.specs.Event.{Event, History, has_machine}
+use Rattle.aia_model.specs.Event.{Event, History, has_machine, greatest_identity_of}
+use Rattle.aia_model.specs.Event.Event.{Accepted, Began, Stepped, Delivered, Landed, Relayed}
+use Rattle.aia_model.proofs.PlaceLemmas.{machine_first}
+use Rattle.aia_model.proofs.RefusalLemmas.{machine_allowed}
+use Rattle.std.proofs.lemmas.Bool.{false≢true}
 use Rattle.aia_model.specs.Histories.{IsHistory}
 use Rattle.aia_model.specs.Image.{GuestState, part_of, part_loaded}
 use Rattle.aia_model.specs.StateOf.{state_of}
@@ -25,7 +29,7 @@ use Rattle.aia_isolation.specs.Said.{Said, said_by, with_one, said}
 use Rattle.aia_isolation.specs.Said.Said.{Made}
 use Rattle.aia_isolation.specs.Guest.{hears, guest_by}
 use Rattle.aia_isolation.specs.Replies.{replies, reply, replies_by, script_replies}
-use Rattle.aia_isolation.specs.Images.{said_after, loads_of, IsWholeImage}
+use Rattle.aia_isolation.specs.Images.{said_after, HeardNothing, loads_of, IsWholeImage}
 use Rattle.aia_isolation.proofs.GuestLemmas.{said_step, is_by_said}
 use Rattle.aia_isolation.proofs.ReplyLemmas.{are_by_said, answers_next, next_by}
 use Rattle.aia_isolation.proofs.ScriptLemmas.{script_answered}
@@ -48,6 +52,26 @@ said_later h (event ∷ earlier) g =
 pub fresh : (n : ℕ) (h : History) (g : Vcpu) → said h g ≡ Made n ∷ [] → state_of h g ≡ fresh_state n
 unfolding guest_by
 fresh n h g e = is_by_said h g ∙ ap guest_by e
+
+-- where no event but the machine's making says anything
+unheard : (event : Event) (past : History) (g : Vcpu) → is_none (said_by g past event) ≡ true → said (event ∷ past) g ≡ said past g
+unheard event past g e = said_step event past g ∙ by_word (said_by g past event) e
+  where
+    by_word : (word : Option Said) → is_none word ≡ true → with_one word (said past g) ≡ said past g
+    by_word None e = refl
+    by_word (Some word) e = absurd (false≢true e)
+
+pub made_alone : (h : History) (g : Vcpu) → IsHistory h → has_machine h ≡ true → HeardNothing h g → said h g ≡ Made (greatest_identity_of h) ∷ []
+unfolding said
+made_alone [] g good stands none = absurd (false≢true stands)
+made_alone (Accepted (Machine harts guests n sources) ∷ past) g good stands none =
+    ap (λ (h : History). Made n ∷ said h g) (machine_first past good.1 (machine_allowed past harts guests n sources good.0).0)
+made_alone (Accepted line ∷ past) g good stands none = unheard (Accepted line) past g none.0 ∙ made_alone past g good.1 stands none.1
+made_alone (Began move ∷ past) g good stands none = unheard (Began move) past g none.0 ∙ made_alone past g good.1 stands none.1
+made_alone (Stepped x ∷ past) g good stands none = unheard (Stepped x) past g none.0 ∙ made_alone past g good.1 stands none.1
+made_alone (Delivered msi ∷ past) g good stands none = unheard (Delivered msi) past g none.0 ∙ made_alone past g good.1 stands none.1
+made_alone (Relayed p ∷ past) g good stands none = unheard (Relayed p) past g none.0 ∙ made_alone past g good.1 stands none.1
+made_alone (Landed vm k ∷ past) g good stands none = unheard (Landed vm k) past g none.0 ∙ made_alone past g good.1 stands none.1
 
 by_loads : (image : GuestState) (n : ℕ) (order : List ℕ) → guest_by (loads_of image order ++ Made n ∷ []) ≡ loaded_all image order (fresh_state n)
 unfolding guest_by

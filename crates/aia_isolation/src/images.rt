@@ -6,7 +6,7 @@ ghost use Rattle.aia_regs.specs.declared.access.Op.{Op};
 ghost use Rattle.aia_home.specs.Vms.{Vcpu, vcpu};
 ghost use Rattle.aia_model.specs.declared.answer.Answer.TheVariants as answers;
 ghost use Rattle.aia_model.specs.declared.line.Line.TheVariants.{GuestCsr, Save};
-ghost use Rattle.aia_model.specs.Event.{Event, History, has_machine};
+ghost use Rattle.aia_model.specs.Event.{Event, History, has_machine, greatest_identity_of};
 ghost use Rattle.aia_model.specs.Event.Event.{Accepted};
 ghost use Rattle.aia_model.specs.Histories.{IsHistory};
 ghost use Rattle.aia_model.specs.Image.{GuestState, part_of};
@@ -20,15 +20,17 @@ ghost use Rattle.aia_isolation.specs.Said.{Said, said_by, said};
 ghost use Rattle.aia_isolation.specs.Said.Said.{Made};
 ghost use Rattle.aia_isolation.specs.Guest.{guest_by};
 ghost use Rattle.aia_isolation.specs.Replies.{replies, replies_by, script_replies};
-ghost use Rattle.aia_isolation.specs.Images.{said_after, IsWholeImage};
+ghost use Rattle.aia_isolation.specs.Images.{said_after, HeardNothing, IsWholeImage};
 
 /// What was said to a virtual hart is what was said up to some point and then what was said since.
-/// Where nothing was said to it but that the machine was made, it is as at first; and where that,
-/// and then each part of the image of a state was loaded into it, in whatever order and however
+/// Where no event says anything to it but that the machine was made, it is as at first; and where,
+/// after that, each part of the image of a state was loaded into it, in whatever order and however
 /// often, it has that state. What says nothing to it may happen in between, since it is not said.
 pub fn a_virtual_hart_is_what_was_loaded_into_it()
     ensures later { (h : History) (since : List Event) (g : Vcpu)
         → said (since ++ h) g ≡ said_after h since g ++ said h g }
+    ensures unheard { (h : History) (g : Vcpu) → IsHistory h → has_machine h ≡ true
+        → HeardNothing h g → said h g ≡ Made (greatest_identity_of h) ∷ [] }
     ensures fresh { (n : ℕ) (h : History) (g : Vcpu) → said h g ≡ Made n ∷ []
         → state_of h g ≡ fresh_state n }
     ensures loaded { (image : GuestState) (h : History) (g : Vcpu) → IsState image

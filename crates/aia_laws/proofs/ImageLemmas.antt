@@ -139,8 +139,8 @@ images_same x y is_x is_y same =
         threshold = ap threshold_in first;
         delivery = same_delivery x.file.delivery y.file.delivery is_x.delivery is_y.delivery (ap delivery_in first);
       };
-      injected = same_majors x.majors.injected y.majors.injected is_x.injected is_y.injected (ap injected_in second);
-      enabled = same_majors x.majors.enabled y.majors.enabled is_x.majors is_y.majors (ap enabled_in second);
+      injected = same_majors x.majors.injected y.majors.injected is_x.injected_majors is_y.injected_majors (ap injected_in second);
+      enabled = same_majors x.majors.enabled y.majors.enabled is_x.enabled_majors is_y.enabled_majors (ap enabled_in second);
       hviprio1 = ap hviprio_in third;
       hvictl = ap hvictl_in third;
     })
@@ -314,8 +314,8 @@ one_loaded x z d (suc zero) is p = record {
   delivery = p.delivery;
   pending = p.pending;
   enabled = p.enabled;
-  injected = λ j. rw (p.injected j) (hvip_word x.majors.injected j d.majors (is.injected j));
-  majors = λ j. rw (p.majors j) (major_word x.majors.enabled j d.majors (is.majors j));
+  injected = λ j. rw (p.injected j) (hvip_word x.majors.injected j d.majors (is.injected_majors j));
+  majors = λ j. rw (p.majors j) (major_word x.majors.enabled j d.majors (is.enabled_majors j));
   hviprio1 = p.hviprio1;
   hvictl = p.hvictl;
 }

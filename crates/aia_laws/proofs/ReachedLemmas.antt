@@ -1,4 +1,4 @@
--- After a history whose every event may happen each virtual hart has a state, once a machine stands.
+-- After a history whose every event may happen, once a machine stands, each virtual hart has a state.
 use Rattle.std.proofs.Common.{◌≡◌, Bool, true, false, cond, [], ◌∷◌, ap, ◌∙◌}
 use Rattle.std.specs.Int.{is_in_range}
 use Rattle.aia_file.specs.InterruptFile.{is_greatest_identity}
@@ -49,8 +49,8 @@ is_state h g good stands =
       enabled = λ i e. ap (λ n. is_in_range 1 n i) (guest_n h g) ∙ enabled_fits h g i e;
       threshold = file.threshold;
       delivery = file.delivery;
-      injected = majors.injected;
-      majors = majors.enabled;
+      injected_majors = majors.injected;
+      enabled_majors = majors.enabled;
       hviprio1 = majors.hviprio1;
       hvictl = majors.hvictl;
     }

@@ -20,8 +20,8 @@ pub record IsState (x : GuestState) : Type 0 where
   pub enabled : (i : ℕ) → x.file.enabled i ≡ true → is_in_range 1 x.file.n i ≡ true
   pub threshold : x.file.threshold ≤ x.file.n
   pub delivery : x.file.delivery < 2
-  pub injected : (j : ℕ) → x.majors.injected j ≡ true → is_major j ≡ true
-  pub majors : (j : ℕ) → x.majors.enabled j ≡ true → is_major j ≡ true
+  pub injected_majors : (j : ℕ) → x.majors.injected j ≡ true → is_major j ≡ true
+  pub enabled_majors : (j : ℕ) → x.majors.enabled j ≡ true → is_major j ≡ true
   pub hviprio1 : fits_hviprio1 x.majors.hviprio1 ≡ true
   pub hvictl : fits_hvictl x.majors.hvictl ≡ true
 

@@ -16,6 +16,9 @@ ghost use Rattle.aia_model.specs.Printing.{line_text, FitsField};
 ghost use Rattle.aia_model.specs.Reading.{reading};
 ghost use Rattle.aia_model.specs.Image.{GuestState, part_of, is_loadable, part_loaded};
 ghost use Rattle.aia_model.specs.StateOf.{state_of};
+ghost use Rattle.aia_model.specs.Vms.{has_vcpu};
+ghost use Rattle.aia_home.specs.Home.Home.{Parked};
+ghost use Rattle.aia_model.specs.HomeOf.{home};
 ghost use Rattle.aia_model.specs.Refusal.{refusal};
 ghost use Rattle.aia_model.specs.Answer.{answer, after, guest_csr_value};
 ghost use Rattle.aia_laws.specs.Images.{IsState, SameImage, HasAllParts, parts_of, fresh_state, loaded_all, load_text};
@@ -56,7 +59,8 @@ pub fn a_line_loads_its_part()
 {}
 
 /// Each part of the image of a state may be loaded where files have as many identities. So may each
-/// part that a line saves: the line answers it, where it is not refused.
+/// part that a line saves, which answers it where it is not refused: a line that loads it is not
+/// refused on any machine whose files have as many identities, for a virtual hart that is parked.
 pub fn what_is_saved_may_be_loaded()
     ensures parts { (x : GuestState) (k : ℕ) → IsState x → k < parts_of x
         → is_loadable x.file.n (part_of x k) ≡ true }
@@ -65,6 +69,11 @@ pub fn what_is_saved_may_be_loaded()
     ensures saved { (h : History) (vm number k : ℕ) → IsHistory h
         → refusal h (Save vm number k) ≡ None
         → is_loadable (greatest_identity_of h) (part_of (state_of h (vcpu vm number)) k) ≡ true }
+    ensures accepted { (h other : History) (vm number k : ℕ) (x : Vcpu) → IsHistory h
+        → refusal h (Save vm number k) ≡ None → has_machine other ≡ true
+        → has_vcpu other x ≡ true → home other x ≡ Parked
+        → greatest_identity_of other ≡ greatest_identity_of h
+        → refusal other (LoadPart x.vm x.number (part_of (state_of h (vcpu vm number)) k)) ≡ None }
 {}
 
 /// What is printed for a part is what a line that loads it says of it: after `load` and the numbers
