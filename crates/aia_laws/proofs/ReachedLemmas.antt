@@ -1,4 +1,4 @@
--- After a history whose every event may happen, once a machine stands, each virtual hart has a state.
+-- After a history whose events may happen, once a machine stands, each virtual hart has a state.
 use Rattle.std.proofs.Common.{◌≡◌, Bool, true, false, cond, [], ◌∷◌, ap, ◌∙◌}
 use Rattle.std.specs.Int.{is_in_range}
 use Rattle.aia_file.specs.InterruptFile.{is_greatest_identity}

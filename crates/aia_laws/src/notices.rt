@@ -40,8 +40,8 @@ pub fn the_host_sees_a_notice_until_it_clears_it()
 
 /// No notice comes for nothing: the line that it comes with, or the store that lands, asks at the
 /// virtual hart for an identity that is enabled there, or its step is the last one of a leave, one
-/// of whose looks saw an identity both pending and enabled; or the line ends a run from memory while
-/// one is, or loads a part of an image, after which one is.
+/// of whose looks saw an identity both pending and enabled, or the line ends a run from memory
+/// while one is, or it loads a part of an image and leaves one that is.
 pub fn a_notice_has_a_cause()
     ensures { (h : History) (event : Event) (g : Vcpu) → noticed h event ≡ Some g
         → IsCause h event g }
