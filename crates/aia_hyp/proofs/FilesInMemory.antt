@@ -1,11 +1,11 @@
 -- The interrupt file of a virtual hart whose interrupts rest in memory: its slot shows it, with the
 -- two numbers that are kept beside the slot.
-use Rattle.std.proofs.Common.{◌≡◌, ℕ, ◌+◌, ◌*◌, ◌/◌, ◌<◌, ◌≤◌, Bool, true, false, ◌&&◌, not, nat_eq, is_some, Option, Some, None, inl, inr, refl, sym, ap, subst, ◌∙◌, arith}
+use Rattle.std.proofs.Common.{◌≡◌, ℕ, ◌+◌, ◌*◌, ◌/◌, ◌<◌, ◌≤◌, Bool, true, false, ◌&&◌, is_some, Option, Some, None, inl, inr, refl, sym, ap, subst, ◌∙◌, arith}
 use Rattle.std.specs.Int.{is_in_range}
 use Rattle.std.proofs.lemmas.Bool.{cases_Bool, cases_eq, false≢true}
 use Rattle.std.proofs.lemmas.Bool.Decides.{nat_tests}
 use Rattle.aia_word.specs.Sets.{least_of}
-use Rattle.aia_word.specs.Top.{top_identity, top_value, lets_through}
+use Rattle.aia_word.specs.Top.{top_identity, lets_through}
 use Rattle.aia_word.proofs.LeastLemmas.{least_of_is, least_of_is_none}
 use Rattle.aia_regs.specs.declared.limits.TheConstants.{VCPUS}
 use Rattle.aia_file.specs.InterruptFile.{InterruptFile, is_greatest_identity, is_shared, top_of}

@@ -35,7 +35,9 @@ pub mod RefetchLemmas
 pub mod FilesInMemory
 pub mod RunLines
 pub mod GuestLookups
+pub mod MemoryDeeds
 pub mod MemoryAccesses
+pub mod ImageLines
 pub mod PassLemmas
 pub mod ForwardLemmas
 pub mod RelayLemmas

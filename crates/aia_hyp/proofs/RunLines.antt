@@ -1,10 +1,9 @@
 -- A virtual hart runs from memory, and ceases to: its record says so, and its places hold what they
 -- held.
-use Rattle.std.proofs.Common.{◌≡◌, is_some, ℕ, ◌+◌, ◌<◌, Bool, true, false, not, nat_eq, cond, get_or, List, length, ◌∷◌, Option, Some, None, refl, sym, ap, subst, ◌∙◌, arith}
+use Rattle.std.proofs.Common.{◌≡◌, is_some, ℕ, ◌+◌, ◌<◌, Bool, true, false, not, cond, get_or, List, length, ◌∷◌, Option, Some, None, refl, sym, ap, subst, ◌∙◌, arith}
 use Rattle.std.specs.Prelude.{slice_index}
 use Rattle.std.proofs.lemmas.Bool.{cond-true, cond-false, false≢true}
 use Rattle.std.proofs.lemmas.List.{get_or-set_same, get_or-set_other, length-set}
-use Rattle.aia_word.specs.Top.{top_value}
 use Rattle.aia_file.specs.InterruptFile.{SameFile, top_of, InterruptFile}
 use Rattle.aia_file.specs.FileState.{shown}
 use Rattle.aia_imsic.specs.declared.spot.Spot.TheVariants as spots
@@ -127,7 +126,7 @@ same_for x y h event other there notifies held = record {
   stage = ap (λ (w : World). stage_of w other) notifies.rest;
 }
 
-nothing_told : (x y : CoreState) (h : History) (event : Event) → y.world ≡ x.world → y.selects ≡ x.selects → noticed h event ≡ None → ((f : FileName) → deed_at f h event ≡ notice_deed h f (noticed h event)) → OnlyNotifies x y h event
+pub nothing_told : (x y : CoreState) (h : History) (event : Event) → y.world ≡ x.world → y.selects ≡ x.selects → noticed h event ≡ None → ((f : FileName) → deed_at f h event ≡ notice_deed h f (noticed h event)) → OnlyNotifies x y h event
 nothing_told x y h event world selects quiet deeds = record {
   rest = world ∙ (λ k. record x.world { imsic = (sym world k).imsic; notices = (sym world k).notices });
   accesses = no_accesses x.world y.world world;
@@ -142,7 +141,7 @@ nothing_told x y h event world selects quiet deeds = record {
 stores_alone : (w u : World) → OnlyStores w u → OnlyAccesses w u
 stores_alone w u e = e ∙ ap (λ (x : World). record w { imsic = record w.imsic { files = x.imsic.files }; memory = x.memory; tables = x.tables; stages = x.stages; notices = x.notices }) (sym e)
 
-one_told : (x y : CoreState) (h : History) (event : Event) (g : Vcpu) → CoreStands x h → IsWhole x.world → has_vcpu h g ≡ true → y.selects ≡ x.selects → noticed h event ≡ Some g → ((f : FileName) → deed_at f h event ≡ notice_deed h f (noticed h event))
+pub one_told : (x y : CoreState) (h : History) (event : Event) (g : Vcpu) → CoreStands x h → IsWhole x.world → has_vcpu h g ≡ true → y.selects ≡ x.selects → noticed h event ≡ Some g → ((f : FileName) → deed_at f h event ≡ notice_deed h f (noticed h event))
     → Posts x.world y.world (spots.HostFile (notice_hart x.world.vms g)) (notice_identity x.world.vms g) → OnlyNotifies x y h event
 one_told x y h event g stands whole there selects loud deeds posts = record {
   rest = posts.rest;

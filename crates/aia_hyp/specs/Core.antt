@@ -1,5 +1,5 @@
 -- What the hypervisor's core keeps. Vocabulary.
-use Rattle.std.specs.Prelude.{◌≡◌, ℕ, Bool, true, false, List, Option, Some, None, slice_index_or, slice_set}
+use Rattle.std.specs.Prelude.{◌≡◌, ℕ, Bool, true, false, List, Option, Some, None, Result, Ok, Err, slice_index_or, slice_set}
 use Rattle.aia_home.specs.declared.place.Place.{Place}
 use Rattle.aia_home.specs.Vms.{Vcpu, slot_of}
 use Rattle.aia_home.specs.Home.{Home}
@@ -9,6 +9,8 @@ use Rattle.aia_major.specs.Kept.{majors_shown, kept_at_first}
 use Rattle.aia_places.specs.Holds.{Hand}
 use Rattle.aia_pool.specs.Leases.{Leases}
 use Rattle.aia_model.specs.Passes.{Pass}
+use Rattle.aia_model.specs.declared.refusal.Refusal.{Refusal}
+use Rattle.aia_model.specs.declared.refusal.Refusal.TheVariants as refusals
 use Rattle.aia_fabric.specs.World.{World}
 use Rattle.aia_move.specs.declared.who.Kept.{Kept}
 use Rattle.aia_move.specs.Plan.{moving_of}
@@ -63,6 +65,13 @@ resident_at stay = None
 abbrev pub entered_at : Stay → Option Kept
 entered_at (stays.Entered kept) = Some kept
 entered_at stay = None
+
+-- The numbers that are kept of one that is parked, or the word that refuses another.
+abbrev pub parked_at : Stay → Result Kept Refusal
+parked_at (stays.Parked kept) = Ok kept
+parked_at (stays.Entered kept) = Err refusals.Entered
+parked_at (stays.Resident lease) = Err refusals.Home
+parked_at (stays.Moving plan) = Err refusals.Busy
 
 -- Whether it runs, as it is kept.
 abbrev pub runs_in : Stay → Bool

@@ -4,4 +4,5 @@ pub mod HostFiles
 pub mod Stands
 pub mod Moves
 pub mod Memory
+pub mod Images
 pub mod Example

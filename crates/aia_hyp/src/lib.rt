@@ -6,6 +6,7 @@ mod flights;
 mod forwards;
 mod guest;
 mod hyp;
+mod images;
 pub mod laws;
 mod majors;
 mod memory;

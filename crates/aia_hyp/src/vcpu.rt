@@ -1,8 +1,9 @@
 ghost use Rattle.std.specs.Prelude.{◌≡◌};
-ghost use Rattle.aia_hyp.specs.Core.{no_record, resident_at, entered_at, runs_in, has_plan};
+ghost use Rattle.aia_hyp.specs.Core.{no_record, resident_at, entered_at, parked_at, runs_in, has_plan};
 
 use aia_home::Place;
 use aia_major::VsMajor;
+use aia_model::Refusal;
 use aia_move::{Kept, Plan};
 use aia_pool::FileLease;
 
@@ -40,6 +41,19 @@ impl Stay {
         match self {
             Stay::Entered(kept) => Some(*kept),
             Stay::Parked(_) | Stay::Resident(_) | Stay::Moving(_) => None,
+        }
+    }
+
+    /// Tells the numbers that are kept of a virtual hart that is parked. `Err` is `Entered` where it
+    /// runs from memory, `Home` where it is resident, `Busy` where it is being moved.
+    pub fn parked(&self) -> Result<Kept, Refusal>
+        ensures { result ≡ parked_at self.now }
+    {
+        match self {
+            Stay::Parked(kept) => Ok(*kept),
+            Stay::Entered(_) => Err(Refusal::Entered),
+            Stay::Resident(_) => Err(Refusal::Home),
+            Stay::Moving(_) => Err(Refusal::Busy),
         }
     }
 

@@ -8,7 +8,7 @@ use Rattle.aia_regs.specs.declared.access.Op.{Op}
 use Rattle.aia_regs.specs.declared.access.Level.TheVariants as levels
 use Rattle.aia_csr.specs.Access.{access_of}
 use Rattle.aia_model.specs.declared.line.Line.{Line}
-use Rattle.aia_model.specs.declared.line.Line.TheVariants.{Machine, Wire, Load, Store, Send, Land, Refetch, MachineCsr, HostCsr, Hgeip, Pins, GuestCsr, Ipi, Arrive, Leave, Shift, BeginArrive, BeginLeave, BeginShift, Step, Enter, Exit, Inject, Hvictl, Hviprio}
+use Rattle.aia_model.specs.declared.line.Line.TheVariants.{Machine, Wire, Load, Store, Send, Land, Refetch, MachineCsr, HostCsr, Hgeip, Pins, GuestCsr, Ipi, Arrive, Leave, Shift, BeginArrive, BeginLeave, BeginShift, Step, Enter, Exit, Save, LoadPart, Inject, Hvictl, Hviprio}
 use Rattle.aia_regs.specs.declared.limits.TheConstants.{STORES_IN_FLIGHT}
 use Rattle.aia_model.specs.Flight.{flight}
 use Rattle.aia_model.specs.declared.line.Line.TheVariants as lines
@@ -18,11 +18,13 @@ use Rattle.aia_model.specs.declared.answer.Answer.TheVariants.{NoMachine, Again,
 use Rattle.aia_model.specs.declared.refusal.Refusal.{Refusal}
 use Rattle.aia_model.specs.declared.refusal.Refusal.TheVariants.{Range, Full, Busy, NoFile, Idle, Away, Illegal, Virtual, Fault, Guarded, Other, NotValid, GFault, Passed, Unready}
 use Rattle.aia_model.specs.declared.refusal.Refusal.TheVariants as words
-use Rattle.aia_model.specs.Event.{History, has_machine, has_hart, harts_of, sources_of, greatest_identity_of}
+use Rattle.aia_model.specs.Event.{History, has_machine, has_hart, harts_of, sources_of, greatest_identity_of, file_words}
+use Rattle.aia_model.specs.declared.part.Part.{Part}
+use Rattle.aia_model.specs.Image.{parts_in, is_loadable}
 use Rattle.aia_entry.specs.Translation.{is_msi_address}
 use Rattle.aia_model.specs.Vms.{has_vm, has_vcpu, mask_of}
 use Rattle.aia_major.specs.VsMajor.{is_major, is_hvictl}
-use Rattle.aia_home.specs.Vms.{vcpu}
+use Rattle.aia_home.specs.Vms.{Vcpu, vcpu}
 use Rattle.aia_home.specs.Home.{is_moving, is_resident, is_entered, rests_in_memory, runs}
 use Rattle.aia_regs.specs.declared.limits.TheConstants.{PASSES}
 use Rattle.aia_model.specs.Act.{domain_at, register_at}
@@ -188,6 +190,18 @@ enter_refusal h vm number there = past_machine h _ there
 pub exit_refusal : (h : History) (vm number : ℕ) → has_machine h ≡ true
     → refusal h (Exit vm number) ≡ cond (not (has_vcpu h (vcpu vm number))) (Some (Refused Range)) (cond (not (is_entered (home h (vcpu vm number)))) (Some (Refused Idle)) None)
 exit_refusal h vm number there = past_machine h _ there
+
+-- of a line that wants a virtual hart parked, where what it names is in range
+abbrev pub unless_parked : History → Vcpu → Option Answer
+unless_parked h g = cond (is_moving (home h g)) (Some (Refused Busy)) (cond (is_resident (home h g)) (Some (Refused words.Home)) (cond (is_entered (home h g)) (Some (Refused words.Entered)) None))
+
+pub save_refusal : (h : History) (vm number k : ℕ) → has_machine h ≡ true
+    → refusal h (Save vm number k) ≡ cond (not (has_vcpu h (vcpu vm number) && nat_lt k (parts_in (file_words h)))) (Some (Refused Range)) (unless_parked h (vcpu vm number))
+save_refusal h vm number k there = past_machine h _ there
+
+pub load_part_refusal : (h : History) (vm number : ℕ) (part : Part) → has_machine h ≡ true
+    → refusal h (LoadPart vm number part) ≡ cond (not (has_vcpu h (vcpu vm number) && is_loadable (greatest_identity_of h) part)) (Some (Refused Range)) (unless_parked h (vcpu vm number))
+load_part_refusal h vm number part there = past_machine h _ there
 
 pub guest_refusal : (h : History) (vm number : ℕ) (csr : Csr) (op : Op) → has_machine h ≡ true
     → refusal h (GuestCsr vm number csr op) ≡ cond (not (has_vcpu h (vcpu vm number))) (Some (Refused Range)) (cond (not (serves (home h (vcpu vm number)) csr)) (Some (Refused Away))

@@ -2,8 +2,8 @@
 /// loads it.
 #[derive(Clone, Copy, Debug, PartialEq, Eq)]
 pub enum Part {
-    /// `image 1 N D T S`: the version of images, 1; the greatest identity of the interrupt file, its
-    /// `eidelivery` and `eithreshold`; and the select number.
+    /// `image 1 N D T S`: the version of images, 1; the greatest identity of the interrupt file,
+    /// its `eidelivery` and `eithreshold`; and the select number.
     Image {
         version: u32,
         n: u32,

@@ -25,7 +25,7 @@ use crate::wires::Wires;
 use aia_aplic::Aplic;
 use aia_entry::decode;
 use aia_hyp::{Hyp, Want};
-use aia_model::{Answer, Line, Refusal};
+use aia_model::{Answer, Line, Part, Refusal};
 use aia_regs::address_map::{REGION, ROOT_DOMAIN};
 use aia_regs::limits::{GUEST_FILES, HARTS, IDENTITIES, SOURCES};
 use aia_regs::{Csr, DomainReg, Level, Op, domain_reg};
@@ -125,6 +125,8 @@ impl Machine {
             Line::Step { vm, vcpu } => self.step(vm, vcpu),
             Line::Enter { vm, vcpu } => self.enter(vm, vcpu),
             Line::Exit { vm, vcpu } => self.exit(vm, vcpu),
+            Line::Save { vm, vcpu, k } => self.save(vm, vcpu, k),
+            Line::LoadPart { vm, vcpu, part } => self.load_part(vm, vcpu, &part),
             Line::Inject {
                 vm,
                 vcpu,
@@ -257,6 +259,20 @@ impl Machine {
         ensures { MachineTakes self.old self.new (Line.Exit vm vcpu) result }
     {
         okay(self.core.exit(vm, vcpu))
+    }
+
+    /// Gives a part of the image of a virtual hart, by the core.
+    fn save(&self, vm: u64, vcpu: u64, k: u64) -> Answer
+        ensures { MachineTakes self.now self.now (Line.Save vm vcpu k) result }
+    {
+        part(self.core.save(vm, vcpu, k))
+    }
+
+    /// Loads a part of an image into a virtual hart, by the core.
+    fn load_part(&mut self, vm: u64, vcpu: u64, part: &Part) -> Answer
+        ensures { MachineTakes self.old self.new (Line.LoadPart vm vcpu part.now) result }
+    {
+        okay(self.core.load_part(vm, vcpu, part))
     }
 
     /// Gives a major interrupt of a virtual hart a level in `hvip`, by the core.
@@ -401,6 +417,16 @@ fn okay(given: Result<(), Refusal>) -> Answer
 {
     match given {
         Ok(()) => Answer::Okay,
+        Err(word) => Answer::Refused(word),
+    }
+}
+
+/// Answers a call of the core that gives a part of an image.
+fn part(given: Result<Part, Refusal>) -> Answer
+    ensures { result ≡ answer_by Answer.Part given }
+{
+    match given {
+        Ok(part) => Answer::Part(part),
         Err(word) => Answer::Refused(word),
     }
 }

@@ -1,4 +1,4 @@
-use Rattle.std.proofs.Common.{◌≡◌, ◌+◌, true, not, refl, sym, ap, subst, ◌∙◌, arith}
+use Rattle.std.proofs.Common.{◌≡◌, ◌+◌, true, refl, sym, subst, ◌∙◌, arith}
 use Rattle.aia_imsic.specs.declared.spot.Spot.TheVariants as spots
 use Rattle.aia_home.specs.Vms.{Vcpu, vcpu, is_vcpu_in, slot_of, notice_hart, notice_identity}
 use Rattle.aia_fabric.specs.World.{World}

@@ -1,0 +1,11 @@
+use Rattle.std.proofs.Common.{◌≡◌, ◌+◌, ◌*◌, ◌/◌, arith}
+use Rattle.aia_hyp.proofs.ImageLines.{word_seen, live_word}
+use Rattle.aia_hyp.proofs.images.is_live.Goals as goal
+
+pub returns : goal.returns
+returns c =
+    let w = c.args.fabric.now in
+    let words = c.words-words.ensures in
+    let look = c.look-pending.ensures in
+    let all : w.n + 1 ≡ 64 * ((w.n + 1) / 64) = omega (arith, words.all, words.value) in
+    live_word w c.args.slot c.args.w c.look-pending.result.0 c.look-pending.result.1 (word_seen w c.args.slot c.args.w c.look-pending.result.0 c.look-pending.result.1 words.whole c.requires.slot all c.requires.word (omega (arith, words.few, words.value, c.requires.word)) look.pending look.enabled look.pending_fits look.enable_fits)
