@@ -204,8 +204,14 @@ function beside(who,  other, kind, parts, name) {
   else if (kind == 15) put("msi " parts[1] " " address(parts[1], parts[2], 0) " " random(greatest))
   else if (kind == 16) put("inject " other " " bits[1 + random(4)] " " random(2))
   else if (kind == 17) put("hviprio " other " " word())
-  else if (kind == 18) put("hvictl " other " " controls[1 + random(8)])
+  else if (kind == 18 && random(2)) put("hvictl " other " " controls[1 + random(8)])
+  else if (kind == 18) put(random(2) ? "save " other " " random(6) : "load " other part())
   else put("g " other " " instruction())
+}
+
+# A part of an image: its majors, or a word of its sets.
+function part() {
+  return random(3) ? " word " random(2) " " 2 * random(65536) " " word() : " majors 0x202 0x2222"
 }
 
 # A store in flight of a device of another VM, which lands at some time; or the VM's entry is read.

@@ -19,7 +19,9 @@ function make_fields(    number) {
 function make_forms(    all, k, many) {
   many = split("machine N N N N;vm N N N;wire N L;st N W;ld N;msi N N W;" \
     "send N N W;land N N;refetch N N;arrive N N N;leave N N;shift N N N;begin arrive N N N;" \
-    "begin leave N N;begin shift N N N;step N N;enter N N;exit N N;inject N N N L;" \
+    "pass N N N N;begin leave N N;begin shift N N N;step N N;enter N N;exit N N;save N N N;" \
+    "load N N image W W L W N;load N N majors N N;load N N prio N N;load N N word N N N;" \
+    "inject N N N L;" \
     "hvictl N N N;hviprio N N N;g N N csrr G;g N N O G N;g N N ipi N W;m N csrr M;m N O M N;" \
     "h N csrr H;h N O H N;h N hgeip;pins N;entry N N", all, ";")
   for (k = 1; k <= many; k++) {
@@ -107,7 +109,8 @@ function make_lists() {
     "0x1111111111222222222233333333334444444444;00;01;007;0x;0X1;0xA;0xaB;x1;-1;+1;1.0;1e3;1_0;" \
     "0b1;0x 1;1h;;0x1g;'1';0x-1;36893488147419103233;18446744073709551617")
   make_list("words", "machine;vm;wire;st;ld;msi;send;land;refetch;arrive;leave;shift;begin;" \
-    "step;enter;exit;inject;hvictl;hviprio;g;m;h;hgeip;pins;entry;csrr;csrrw;csrrs;csrrc;csrrwi;" \
+    "step;enter;exit;save;load;image;majors;prio;word;pass;inject;hvictl;hviprio;g;m;h;hgeip;" \
+    "pins;entry;csrr;csrrw;csrrs;csrrc;csrrwi;" \
     "siselect;sireg;stopei;stopi;sip;sie;miselect;mireg;mtopei;vstopei;ipi;#;gen;replay;ok;bad;" \
     "Step;MSI;--help;0;1;0x1")
   make_list("M", "miselect;mireg;mtopei")

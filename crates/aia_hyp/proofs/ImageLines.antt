@@ -1,29 +1,22 @@
 -- A part of the image of a virtual hart that is parked is given, or loaded.
-use Rattle.std.proofs.Common.{◌≡◌, ℕ, ◌+◌, ◌*◌, ◌/◌, ◌%◌, ◌^◌, ◌<◌, ◌≤◌, Bool, true, false, not, ◌&&◌, cond, nat_eq, nat_lt, nat_le, bit_and, get_or, List, length, set, ◌∷◌, Option, Some, None, refl, sym, ap, subst, ◌∙◌, arith}
-use Rattle.std.specs.Prelude.{Result, Ok, Err, is_some}
-use Rattle.std.specs.Int.{is_in_range}
+use Rattle.std.proofs.Common.{◌≡◌, ℕ, ◌+◌, ◌/◌, ◌%◌, ◌^◌, ◌<◌, ◌≤◌, Bool, true, false, not, ◌&&◌, cond, nat_eq, nat_lt, nat_le, get_or, List, length, set, ◌∷◌, Some, None, refl, sym, ap, subst, ◌∙◌, arith}
+use Rattle.std.specs.Prelude.{Result, Ok, Err}
 use Rattle.std.proofs.Math.Nat.{mod-eq_of_lt}
-use Rattle.std.proofs.lemmas.Bool.{cond-true, cond-false, false≢true, and_parts}
+use Rattle.std.proofs.lemmas.Bool.{cond-true, cond-false, and_parts}
 use Rattle.std.proofs.lemmas.Bool.Decides.{nat_tests}
 use Rattle.std.proofs.lemmas.List.{get_or-set_same, get_or-set_other, length-set}
-use Rattle.aia_word.specs.Sets.{has_bit, word_of, least_of}
-use Rattle.aia_word.proofs.SetLemmas.{word_from_bits}
-use Rattle.aia_word.proofs.LeastLemmas.{least_of_is, least_of_is_none}
-use Rattle.aia_regs.specs.declared.limits.TheConstants.{VCPUS, FILE_WORDS}
+use Rattle.aia_regs.specs.declared.limits.TheConstants.{VCPUS}
 use Rattle.aia_regs.specs.declared.access.Op.TheVariants as ops
 use Rattle.aia_regs.specs.FileRegisters.{select_written}
 use Rattle.aia_regs.specs.Fields.{bit_number}
 use Rattle.aia_file.specs.InterruptFile.{InterruptFile, SameFile, is_live}
 use Rattle.aia_file.proofs.FileLemmas.{same_file}
 use Rattle.aia_imsic.specs.declared.spot.Spot.TheVariants as spots
-use Rattle.aia_mrif.specs.Mrif.{set_at, pending_place, enable_place}
-use Rattle.aia_mrif.proofs.SlotLemmas.{place_shows}
 use Rattle.aia_major.specs.Kept.{majors_shown}
 use Rattle.aia_home.specs.Vms.{Vcpu, vcpu, is_vcpu_in, vcpus_in, slot_of, notice_hart, notice_identity}
 use Rattle.aia_home.specs.Home.{is_moving, is_resident, is_entered, rests_in_memory}
 use Rattle.aia_home.specs.Home.Home.{Parked}
 use Rattle.aia_home.specs.declared.vm.Vm.{Vm}
-use Rattle.aia_places.proofs.LookLemmas.{meets-and}
 use Rattle.aia_fabric.specs.World.{World}
 use Rattle.aia_fabric.specs.Whole.{IsWhole}
 use Rattle.aia_fabric.specs.Stores.{LandsIn, Posts, counted}
@@ -54,7 +47,8 @@ use Rattle.aia_hyp.specs.declared.vcpu.Stay.{Stay}
 use Rattle.aia_hyp.specs.declared.vcpu.Stay.TheVariants as stays
 use Rattle.aia_hyp.specs.declared.vcpu.VcpuRecord.{VcpuRecord}
 use Rattle.aia_hyp.specs.Core.{CoreState, no_record, record_of, home_in, hand_in, parked_at}
-use Rattle.aia_hyp.specs.Images.{state_in, sets_loaded}
+use Rattle.aia_image.specs.Loads.{sets_loaded}
+use Rattle.aia_hyp.specs.Images.{state_in}
 use Rattle.aia_hyp.specs.Memory.{file_in_memory}
 use Rattle.aia_hyp.specs.Passes.{HasItsPasses}
 use Rattle.aia_hyp.specs.declared.moves.Found.{Found}
@@ -64,63 +58,12 @@ use Rattle.aia_home.proofs.VmLemmas.{slot_below}
 use Rattle.aia_mrif.proofs.AccessLemmas.{few_identities}
 use Rattle.aia_hyp.proofs.VcpuLemmas.{quiet_line}
 use Rattle.aia_hyp.proofs.EventLemmas.{Changes, accepted, refused, hosts_line, nothing_done, as_it_was}
-use Rattle.aia_hyp.proofs.FilesInMemory.{no_zero, file_is}
+use Rattle.aia_hyp.proofs.FilesInMemory.{file_is}
 use Rattle.aia_hyp.proofs.GuestAccesses.{there_in}
 use Rattle.aia_hyp.proofs.MajorLemmas.{IsOfMajors, HasMajors, majors_change}
-use Rattle.aia_hyp.proofs.MemoryDeeds.{shown_alone, with_memory, but_memory, memory_deed}
+use Rattle.aia_hyp.proofs.MemoryDeeds.{with_memory, but_memory, memory_deed}
 use Rattle.aia_hyp.proofs.RunLines.{OnlyNotifies, nothing_told, one_told}
 use Rattle.aia_hyp.proofs.WithinLemmas.{guest_sound, guest_n}
-
--- ---- the words of a slot
-
--- both words k of slot q, as its file shows them
-pub record WordSeen (w : World) (q k p e : ℕ) : Type 0 where
-  pub pending : (b : ℕ) → b < 64 → has_bit p b ≡ (file_of_slot w q 0).pending (64 * k + b)
-  pub enabled : (b : ℕ) → b < 64 → has_bit e b ≡ (file_of_slot w q 0).enabled (64 * k + b)
-  pub pending_fits : p < 2 ^ 64
-  pub enable_fits : e < 2 ^ 64
-
-bit_seen : (words : List ℕ) (place : ℕ → ℕ) (n k v b : ℕ) → n + 1 ≡ 64 * ((n + 1) / 64) → k < (n + 1) / 64 → k < FILE_WORDS → set_at place words 0 ≡ false → v ≡ get_or words (place k) 0 → b < 64
-    → has_bit v b ≡ (is_in_range 1 n (64 * k + b) && set_at place words (64 * k + b))
-bit_seen words place n k v b all low few none is below =
-    let same : b ≡ (64 * k + b) % 64 = omega arith in
-    let at : (64 * k + b) / 64 ≡ k = omega arith in
-    (λ j. has_bit (is j) (same j)) ∙ place_shows place words k (64 * k + b) few at ∙ shown_alone (set_at place words) n ((n + 1) / 64) all none (64 * k + b) (omega (arith, at, low))
-
-pub word_seen : (w : World) (q k p e : ℕ) → IsWhole w → q < VCPUS → w.n + 1 ≡ 64 * ((w.n + 1) / 64) → k < (w.n + 1) / 64 → k < FILE_WORDS → p ≡ get_or w.memory (pending_place q k) 0 → e ≡ get_or w.memory (enable_place q k) 0 → p < 2 ^ 64 → e < 2 ^ 64 → WordSeen w q k p e
-word_seen w q k p e whole few all low word pending enabled pending_fits enable_fits =
-    let zero = no_zero w q whole few in
-    record {
-      pending = λ b below. bit_seen w.memory (pending_place q) w.n k p b all low word zero.0 pending below;
-      enabled = λ b below. bit_seen w.memory (enable_place q) w.n k e b all low word zero.1 enabled below;
-      pending_fits = pending_fits;
-      enable_fits = enable_fits;
-    }
-
-pub word_is_part : (w : World) (q k p e : ℕ) → WordSeen w q k p e → parts.Word k p e ≡ parts.Word k (word_of (file_of_slot w q 0).pending (64 * k) 64) (word_of (file_of_slot w q 0).enabled (64 * k) 64)
-word_is_part w q k p e seen =
-    let pending = word_from_bits (file_of_slot w q 0).pending (64 * k) p seen.pending_fits seen.pending in
-    let enabled = word_from_bits (file_of_slot w q 0).enabled (64 * k) e seen.enable_fits seen.enabled in
-    λ j. parts.Word k (pending j) (enabled j)
-
-pub live_word : (w : World) (q k p e : ℕ) → WordSeen w q k p e → not (nat_eq (bit_and p e) 0) ≡ is_live (file_of_slot w q 0) k
-live_word w q k p e seen = meets-and p e seen.pending_fits ∙ by_found (least_of (λ b. has_bit p b && has_bit e b) 0 64) (least_of (λ i. (file_of_slot w q 0).pending i && (file_of_slot w q 0).enabled i) (64 * k) 64) refl refl
-  where
-    both : (b : ℕ) → b < 64 → (has_bit p b && has_bit e b) ≡ ((file_of_slot w q 0).pending (64 * k + b) && (file_of_slot w q 0).enabled (64 * k + b))
-    both b low = λ j. seen.pending b low j && seen.enabled b low j
-
-    by_found : (x y : Option ℕ) → least_of (λ b. has_bit p b && has_bit e b) 0 64 ≡ x → least_of (λ i. (file_of_slot w q 0).pending i && (file_of_slot w q 0).enabled i) (64 * k) 64 ≡ y → is_some x ≡ is_some y
-    by_found (Some b) (Some i) f g = refl
-    by_found None None f g = refl
-    by_found (Some b) None f g =
-        let at = least_of_is (λ b. has_bit p b && has_bit e b) 0 64 b f in
-        let low : b < 64 = omega (arith, at.1) in
-        absurd (false≢true (sym (least_of_is_none (λ i. (file_of_slot w q 0).pending i && (file_of_slot w q 0).enabled i) (64 * k) 64 g (64 * k + b) (omega arith) (omega (arith, low))) ∙ sym (both b low) ∙ at.2))
-    by_found None (Some i) f g =
-        let at = least_of_is (λ i. (file_of_slot w q 0).pending i && (file_of_slot w q 0).enabled i) (64 * k) 64 i g in
-        let low : i % 64 < 64 = omega arith in
-        let same : 64 * k + i % 64 ≡ i = omega (arith, at.0, at.1) in
-        absurd (false≢true (sym (least_of_is_none (λ b. has_bit p b && has_bit e b) 0 64 f (i % 64) (omega arith) (omega arith)) ∙ both (i % 64) low ∙ ap (λ j. (file_of_slot w q 0).pending j && (file_of_slot w q 0).enabled j) same ∙ at.2))
 
 -- ---- a virtual hart that is parked
 

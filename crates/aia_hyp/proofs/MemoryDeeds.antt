@@ -1,8 +1,8 @@
 -- What is done about a virtual hart whose interrupts rest in memory: nothing changes but its slot, its
 -- record and what a notice does, and its places hold its file as the history has it then.
-use Rattle.std.proofs.Common.{◌≡◌, ◌≢◌, ℕ, ◌+◌, ◌*◌, ◌/◌, ◌<◌, ◌≤◌, Bool, true, false, ◌&&◌, length, ◌∷◌, inl, inr, refl, sym, ap, subst, ◌∙◌, arith}
+use Rattle.std.proofs.Common.{◌≡◌, ◌≢◌, ℕ, ◌+◌, ◌*◌, ◌/◌, ◌<◌, ◌≤◌, true, false, length, ◌∷◌, inl, inr, refl, sym, ap, subst, ◌∙◌, arith}
 use Rattle.std.specs.Int.{is_in_range}
-use Rattle.std.proofs.lemmas.Bool.{cases_Bool, cases_eq, false≢true}
+use Rattle.std.proofs.lemmas.Bool.{cases_Bool, false≢true}
 use Rattle.std.proofs.lemmas.Bool.Decides.{nat_tests}
 use Rattle.aia_regs.specs.declared.limits.TheConstants.{VCPUS}
 use Rattle.aia_file.specs.InterruptFile.{InterruptFile, SameFile, is_greatest_identity}
@@ -16,6 +16,7 @@ use Rattle.aia_home.specs.Vms.{Vcpu, is_vcpu, slot_of, notice_hart}
 use Rattle.aia_home.specs.Home.{Home, holds, rests_in_memory}
 use Rattle.aia_home.specs.Home.Home.{Parked, Entered, Resident, Leaving, Arriving, Shifting}
 use Rattle.aia_home.proofs.VmLemmas.{slot_below}
+use Rattle.aia_image.proofs.WordLemmas.{shown_alone}
 use Rattle.aia_places.specs.Holds.{HasSets}
 use Rattle.aia_places.specs.Stores.{AreApart}
 use Rattle.aia_places.proofs.MemoryKept.{memory_replaced}
@@ -84,18 +85,6 @@ pub record MemoryDeed (x y : CoreState) (h : History) (event : Event) (g : Vcpu)
   pub majors : majors_shown (record_of y g).majors ≡ majors_after g event (majors_shown (record_of x g).majors)
   pub others : (other : Vcpu) → slot_of x.world.vms other ≢ slot_of x.world.vms g → record_of y other ≡ record_of x other
   pub file : SameFile (file_in_memory y.world (slot_of x.world.vms g) now) (file_after (record_of x g).select deed (file_in_memory x.world (slot_of x.world.vms g) kept))
-
--- the words of a set that files have show no identity that they don't have
-pub shown_alone : (bits : ℕ → Bool) (n words : ℕ) → n + 1 ≡ 64 * words → bits 0 ≡ false → (i : ℕ) → i / 64 < words → bits i ≡ (is_in_range 1 n i && bits i)
-shown_alone bits n words all none i low = elim (cases_Bool (is_in_range 1 n i)) [
-  | inl e ↦ sym (ap (λ b. b && bits i) e)
-  | inr ne ↦ elim (cases_eq i 0) [
-    | inl z ↦ ap bits z ∙ none ∙ sym (ap (λ b. b && bits i) ne)
-    | inr some ↦
-        let past : n < i = grind (arith, nat_tests) in
-        absurd (omega (arith, past, low, all))
-  ]
-]
 
 -- what a slot has, where it shows no identity that files don't have
 slot_has : (w : World) (q words : ℕ) (kept : Kept) → w.n + 1 ≡ 64 * words → (mrif_in w.memory q).pending 0 ≡ false → (mrif_in w.memory q).enabled 0 ≡ false → ((i : ℕ) → words ≤ i / 64 → (mrif_in w.memory q).enabled i ≡ false) → HasSets words (mrif_in w.memory q) (file_in_memory w q kept)

@@ -1,8 +1,5 @@
 -- Images of virtual harts, in the core.
-use Rattle.std.specs.Prelude.{ℕ, ◌*◌, slice_index_or}
-use Rattle.aia_regs.specs.declared.access.Op.TheVariants as ops
-use Rattle.aia_regs.specs.declared.file_registers.FileReg.TheVariants.{Pending, Enable}
-use Rattle.aia_file.specs.InterruptFile.{InterruptFile, accessed}
+use Rattle.std.specs.Prelude.{ℕ, slice_index_or}
 use Rattle.aia_major.specs.Kept.{majors_shown}
 use Rattle.aia_move.specs.declared.who.Kept.{Kept}
 use Rattle.aia_model.specs.Image.{GuestState}
@@ -17,9 +14,3 @@ state_in x slot kept = record {
   file = file_in_memory x.world slot kept;
   majors = majors_shown (slice_index_or x.vcpus slot no_record).majors;
 }
-
--- What the load of a word makes of the sets.
-abbrev pub sets_loaded : ℕ → ℕ → ℕ → InterruptFile → InterruptFile
-sets_loaded w pending enable file =
-    accessed (Enable (2 * w)) (ops.Write enable)
-    (accessed (Pending (2 * w)) (ops.Set pending) file)

@@ -2,14 +2,11 @@
 
 ghost use Rattle.std.specs.Prelude.{◌≡◌, ◌+◌, ◌-◌, ◌*◌, ◌/◌, ◌^◌, ◌<◌, ◌≤◌, true, length, slice_index_or, slice_set};
 ghost use Rattle.std.specs.Vec.{vec_capacity};
-ghost use Rattle.aia_word.specs.Sets.{word_of};
-ghost use Rattle.aia_regs.specs.declared.limits.TheConstants.{VCPUS, FILE_WORDS};
+ghost use Rattle.aia_regs.specs.declared.limits.TheConstants.{VCPUS};
 ghost use Rattle.aia_regs.specs.declared.access.Op.TheVariants as ops;
 ghost use Rattle.aia_regs.specs.FileRegisters.{select_written};
-ghost use Rattle.aia_file.specs.InterruptFile.{is_live};
 ghost use Rattle.aia_major.specs.VsMajor.{is_hvictl};
 ghost use Rattle.aia_home.specs.Vms.{vcpu};
-ghost use Rattle.aia_fabric.specs.SlotAccess.{file_of_slot, DoneInSlot};
 ghost use Rattle.aia_fabric.specs.Whole.{IsWhole};
 ghost use Rattle.aia_model.specs.declared.line.Line.TheVariants.{Save, LoadPart};
 ghost use Rattle.aia_model.specs.declared.answer.Answer.TheVariants as kinds;
@@ -17,21 +14,17 @@ ghost use Rattle.aia_model.specs.declared.answer.Answer.TheVariants.{Okay};
 ghost use Rattle.aia_model.specs.declared.part.Part.TheVariants as parts;
 ghost use Rattle.aia_model.specs.Image.{part_of, is_loadable, majors_loaded};
 ghost use Rattle.aia_hyp.specs.Core.{no_record, record_of, parked_at, MajorsDone};
-ghost use Rattle.aia_hyp.specs.Images.{state_in, sets_loaded};
+ghost use Rattle.aia_hyp.specs.Images.{state_in};
 ghost use Rattle.aia_hyp.specs.Moves.{IsFound};
 ghost use Rattle.aia_hyp.specs.Stands.{CoreTakes, answer_by};
 
 use crate::hyp::{Hyp, select_after};
 use crate::moves::{Found, find};
 use crate::vcpu::{Stay, VcpuRecord};
-use aia_fabric::Fabric;
-use aia_major::{fits_hvictl, fits_hvip, fits_hviprio};
+use aia_image::{IMAGE_VERSION, is_live, is_loadable, load_word, save_word};
 use aia_model::{Part, Refusal};
 use aia_move::Kept;
-use aia_regs::{FileReg, Op, bit};
-
-/// The version of images that there is.
-const IMAGE_VERSION: u32 = 1;
+use aia_regs::Op;
 
 /// How many parts an image has beside the words of the sets.
 const FIRST_WORD: u64 = 3;
@@ -90,7 +83,7 @@ impl Hyp {
                 hviprio: record.majors.hviprio(),
                 hvictl: record.majors.hvictl(),
             },
-            k => word_part(&self.fabric, slot, k - 3),
+            k => save_word(&self.fabric, slot, k - 3),
         }
     }
 
@@ -154,47 +147,6 @@ impl Hyp {
     }
 }
 
-/// Gives the part of an image that has word `w` of both sets of a slot.
-fn word_part(fabric: &Fabric, slot: u32, w: u32) -> Part
-    requires slot { slot < VCPUS }
-    requires word { w < (fabric.now.n + 1) / 64 }
-    ensures { result ≡ parts.Word w (word_of (file_of_slot fabric.now slot 0).pending (64 * w) 64)
-        (word_of (file_of_slot fabric.now slot 0).enabled (64 * w) 64) }
-{
-    let _words = fabric.words();
-    let (pending, enable) = fabric.look(slot, w as usize);
-    Part::Word {
-        w: u64::from(w),
-        pending,
-        enable,
-    }
-}
-
-/// Tells whether a part may be loaded where the sets of files have so many words.
-fn is_loadable(part: &Part, words: u32) -> bool
-    requires some { 1 ≤ words }
-    requires few { words ≤ FILE_WORDS }
-    ensures { result ≡ is_loadable (64 * words - 1) part.now }
-{
-    let greatest = 64 * words - 1;
-    match *part {
-        Part::Image {
-            version,
-            n,
-            threshold,
-            select,
-            ..
-        } => {
-            version == IMAGE_VERSION && n == greatest && threshold <= greatest && select < 0x1000
-        }
-        Part::Majors { injected, enabled } => fits_hvip(injected) && fits_hvip(enabled),
-        Part::Prio { hviprio, hvictl } => fits_hviprio(hviprio) && fits_hvictl(hvictl),
-        Part::Word { w, pending, enable } => {
-            w < u64::from(words) && (w > 0 || !bit(pending, 0) && !bit(enable, 0))
-        }
-    }
-}
-
 /// Writes the numbers of the interrupt file of the virtual hart of a slot that is parked, and its
 /// select number.
 fn load_numbers_in(vcpus: &mut Vec<VcpuRecord>, slot: u32, kept: Kept, select: u64)
@@ -238,26 +190,4 @@ fn load_registers_in(vcpus: &mut Vec<VcpuRecord>, slot: u32, hviprio: u64, hvict
     // The number is legal, so this never fails.
     let _ = majors.set_hvictl(hvictl);
     vcpus[slot as usize].majors = majors;
-}
-
-/// Makes the ones of word `w` of the pending set of a slot pending, and writes word `w` of its
-/// enables; all else stays.
-fn load_word(fabric: &mut Fabric, slot: u32, w: u32, pending: u64, enable: u64)
-    requires slot { slot < VCPUS }
-    requires word { w < FILE_WORDS }
-    ensures { DoneInSlot fabric.old fabric.new slot 0 (sets_loaded w pending enable) }
-{
-    fabric.slot_reg(slot, FileReg::Pending(2 * w), Op::Set(pending));
-    fabric.slot_reg(slot, FileReg::Enable(2 * w), Op::Write(enable));
-}
-
-/// Tells whether an identity of word `w` of a slot is both pending and enabled.
-fn is_live(fabric: &Fabric, slot: u32, w: u32) -> bool
-    requires slot { slot < VCPUS }
-    requires word { w < (fabric.now.n + 1) / 64 }
-    ensures { result ≡ is_live (file_of_slot fabric.now slot 0) w }
-{
-    let _words = fabric.words();
-    let (pending, enabled) = fabric.look(slot, w as usize);
-    pending & enabled != 0
 }

@@ -5,7 +5,7 @@ ghost use Rattle.std.specs.Prelude.{◌≡◌, nat_lt, IfSome};
 use crate::moves::NoTargets;
 use crate::same;
 use aia_hyp::{Hyp, Refusal, Want};
-use aia_model::Msi;
+use aia_model::{Msi, Part};
 use aia_regs::limits::{GUEST_FILES, STORES_IN_FLIGHT, VCPUS, VM_VCPUS, VMS};
 use aia_regs::{Csr, Level, Op};
 use std::process::Abort;
@@ -222,6 +222,73 @@ fn the_core_tells_of_what_is_pending_as_one_ceases_to_run(rt: HostRuntime) -> Re
     drop(core);
     Ok(())
 }
+
+#[test]
+fn the_core_saves_and_loads_images(rt: HostRuntime) -> Result<(), Fail> {
+    let mut core = Hyp::new(rt.alloc(), 1, 1, 63)?;
+    same!(rt; core.vm(2, 0x8, 0), Ok(()));
+    same!(rt; core.host(Level::Host, 0, Csr::Select, Op::Write(0x80)), Ok(0));
+    let loads = [
+        (IMAGE[3], 4),
+        (IMAGE[2], 0),
+        (IMAGE[1], 0),
+        (IMAGE[0], 0),
+    ];
+    for (part, told) in loads {
+        same!(rt; core.load_part(0, 1, &part), Ok(()));
+        same!(rt; core.host(Level::Host, 0, Csr::Reg, Op::Write(0)), Ok(told));
+    }
+    let saves = [
+        (0, Ok(IMAGE[0])),
+        (1, Ok(IMAGE[1])),
+        (2, Ok(IMAGE[2])),
+        (3, Ok(IMAGE[3])),
+        (4, Err(Refusal::Range)),
+    ];
+    for (k, given) in saves {
+        same!(rt; core.save(0, 1, k), given; k);
+    }
+    same!(rt; core.save(0, 2, 0), Err(Refusal::Range));
+    same!(rt; core.load_part(1, 0, &IMAGE[0]), Err(Refusal::Range));
+    let word_1 = Part::Word {
+        w: 1,
+        pending: 0,
+        enable: 0,
+    };
+    same!(rt; core.load_part(0, 1, &word_1), Err(Refusal::Range));
+    same!(rt; core.enter(0, 1), Ok(()));
+    same!(rt; core.save(0, 1, 0), Err(Refusal::Entered));
+    same!(rt; core.load_part(0, 1, &IMAGE[0]), Err(Refusal::Entered));
+    same!(rt; core.guest(0, 1, Csr::Select, Op::Read), Ok(0xc0));
+    same!(rt; core.guest(0, 1, Csr::Topei, Op::Write(0)), Ok(0x5_0005));
+    drop(core);
+    Ok(())
+}
+
+/// The image of a virtual hart of files with the identities 1 to 63: 5 and 6 are pending, 5 and 7
+/// enabled.
+const IMAGE: [Part; 4] = [
+    Part::Image {
+        version: 1,
+        n: 63,
+        delivery: true,
+        threshold: 6,
+        select: 0xc0,
+    },
+    Part::Majors {
+        injected: 0x202,
+        enabled: 0x2222,
+    },
+    Part::Prio {
+        hviprio: 0x700,
+        hvictl: 0x103,
+    },
+    Part::Word {
+        w: 0,
+        pending: 0x60,
+        enable: 0xa0,
+    },
+];
 
 #[test]
 fn the_core_has_stores_in_flight(rt: HostRuntime) -> Result<(), Fail> {

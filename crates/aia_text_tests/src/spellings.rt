@@ -2,7 +2,7 @@
 
 use crate::same;
 use aia_entry::Entry;
-use aia_script::{Answer, Csr, Line, Op, Parsed, Refusal, parse_line, print_answer, print_line};
+use aia_script::{Answer, Csr, Line, Op, Parsed, Part, Refusal, parse_line, print_answer, print_line};
 use arrayvec::ArrayVec;
 use std::process::Abort;
 
@@ -23,7 +23,7 @@ fn host(hart: u64, csr: Csr, op: Op) -> Parsed {
 }
 
 /// Texts that spell no line.
-const BAD: [&str; 32] = [
+const BAD: [&str; 38] = [
     "machine 04 1 63 8",
     "st 0 4294967296",
     "st 0x000000000000000ab 0",
@@ -55,6 +55,12 @@ const BAD: [&str; 32] = [
     "msi 0 0",
     "enter 1",
     "exit 0 0 0",
+    "save 0 0",
+    "load 0 0",
+    "load 0 0 word 0 1",
+    "load 0 0 words 0 1 2",
+    "load 0 0 image 1 63 2 0 0",
+    "load 0 0 image 4294967296 63 0 0 0",
     "entry 1",
 ];
 
@@ -176,6 +182,28 @@ fn texts_are_read_by_the_grammar(rt: HostRuntime) {
     );
     reads(
         &rt,
+        "save 1 2 0x23",
+        Parsed::Line(Line::Save {
+            vm: 1,
+            vcpu: 2,
+            k: 35,
+        }),
+    );
+    reads(
+        &rt,
+        "load 0 1 word 0 0x20 96",
+        Parsed::Line(Line::LoadPart {
+            vm: 0,
+            vcpu: 1,
+            part: Part::Word {
+                w: 0,
+                pending: 0x20,
+                enable: 0x60,
+            },
+        }),
+    );
+    reads(
+        &rt,
         "entry 0x20000003 9",
         Parsed::Line(Line::Entry {
             w0: 536870915,
@@ -185,7 +213,7 @@ fn texts_are_read_by_the_grammar(rt: HostRuntime) {
 }
 
 /// Answers, and how each is printed.
-const ANSWERS: [(Answer, &str); 25] = [
+const ANSWERS: [(Answer, &str); 29] = [
     (Answer::Okay, "ok\n"),
     (Answer::Narrow(0), "0x00000000\n"),
     (Answer::Narrow(0x89ab_cdef), "0x89abcdef\n"),
@@ -206,6 +234,38 @@ const ANSWERS: [(Answer, &str); 25] = [
     (Answer::Entry(Entry::NotValid), "notvalid\n"),
     (Answer::Entry(Entry::Custom), "custom\n"),
     (Answer::Entry(Entry::Misconfigured), "misconfigured\n"),
+    (
+        Answer::Part(Part::Image {
+            version: 4294967295,
+            n: 4294967295,
+            delivery: true,
+            threshold: 4294967295,
+            select: 0xfff,
+        }),
+        "image 4294967295 4294967295 1 4294967295 0x0000000000000fff\n",
+    ),
+    (
+        Answer::Part(Part::Majors {
+            injected: 0x2222,
+            enabled: 0x202,
+        }),
+        "majors 0x0000000000002222 0x0000000000000202\n",
+    ),
+    (
+        Answer::Part(Part::Prio {
+            hviprio: 0xff00,
+            hvictl: 0x4001_0000,
+        }),
+        "prio 0x000000000000ff00 0x0000000040010000\n",
+    ),
+    (
+        Answer::Part(Part::Word {
+            w: 18446744073709551615,
+            pending: 0x8000_0000_0000_0000,
+            enable: 1,
+        }),
+        "word 18446744073709551615 0x8000000000000000 0x0000000000000001\n",
+    ),
     (Answer::Bad, "bad\n"),
     (Answer::NoMachine, "nomachine\n"),
     (Answer::Again, "again\n"),
@@ -247,7 +307,7 @@ fn prints(rt: &impl Abort, text: &str, printed: &str) {
 
 /// Texts that spell a line, and how the line is printed: addresses, values and operands in
 /// hexadecimal, all else in decimal.
-const PRINTED: [(&str, &str); 21] = [
+const PRINTED: [(&str, &str); 26] = [
     ("machine 0x4 0x0 0x7ff 1023", "machine 4 0 2047 1023"),
     (
         "machine 10 16 7 0xffffffffffffffff",
@@ -280,6 +340,23 @@ const PRINTED: [(&str, &str); 21] = [
         "send 1 0x28008000 4294967295",
     ),
     ("land 0x1 0x7", "land 1 7"),
+    ("save 0x0 1 0x3", "save 0 1 3"),
+    (
+        "load 0 0x1 image 0x1 63 0x0 0 192",
+        "load 0 1 image 1 63 0 0 0x00000000000000c0",
+    ),
+    (
+        "load 0 1 majors 2 0x202",
+        "load 0 1 majors 0x0000000000000002 0x0000000000000202",
+    ),
+    (
+        "load 0 1 prio 1792 0",
+        "load 0 1 prio 0x0000000000000700 0x0000000000000000",
+    ),
+    (
+        "load 0 1 word 0x1f 1 18446744073709551615",
+        "load 0 1 word 31 0x0000000000000001 0xffffffffffffffff",
+    ),
     ("refetch 0x0 16", "refetch 0 16"),
 ];
 

@@ -20,7 +20,7 @@ use Rattle.aia_hyp.specs.declared.moves.Found.{Found}
 use Rattle.aia_hyp.specs.declared.vcpu.Stay.TheVariants as stays
 use Rattle.std.specs.Prelude.{slice_index_or, slice_set}
 use Rattle.aia_hyp.specs.Core.{CoreState, no_record, record_of, MajorsDone}
-use Rattle.aia_hyp.specs.Images.{sets_loaded}
+use Rattle.aia_image.specs.Loads.{sets_loaded}
 use Rattle.aia_hyp.specs.Moves.{IsFound}
 use Rattle.aia_hyp.specs.Stands.{CoreTakes}
 use Rattle.aia_hyp.proofs.EventLemmas.{still}
