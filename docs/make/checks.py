@@ -51,18 +51,23 @@ def differ(where, stands, wanted):
 
 
 def form(right):
-    """Gives a form of line as its words, `#` for a number and INS for a CSR instruction."""
+    """Gives a form of line as its words, `#` for a number, INS for a CSR instruction, and PART for a
+    part of an image."""
     found = []
-    for word, number, _ in re.findall(
-        r'Keyword \(codes "(\w+)"\)|\b(Decimal32|Decimal|Hex32|Hex|Bit) \w+|(instruction \()', right
+    for word, number, part in re.findall(
+        r'Keyword \(codes "(\w+)"\)|\b(Decimal32|Decimal|Hex16|Hex32|Hex|Bit) \w+'
+        r"|(?:instruction \(|(part_fields) )",
+        right,
     ):
-        found.append(word or ("#" if number else "INS"))
+        found.append(word or ("#" if number else "PART" if part else "INS"))
     return " ".join(found)
 
 
 def number_or(word):
-    """Gives a word of a form as it stands, but `#` for one in capitals, which is a number."""
-    return "#" if re.fullmatch(r"[A-Z][A-Z0-9]*", word) and word != "INS" else word
+    """Gives a word of a form as it stands, but `#` for one that is a number or in capitals, which
+    stands for one."""
+    is_number = re.fullmatch(r"\d+|[A-Zw][A-Z0-9]*", word) and word not in ("INS", "PART")
+    return "#" if is_number else word
 
 
 def lines():
@@ -84,11 +89,17 @@ def lines():
     said = re.search(r"(?s)^INS is (.*?)\. ", section(REFERENCE, "Lines"), re.M)
     got = [text.replace(" V", " #") for text in ticked(said.group(1) if said else "")]
     yield from differ(f"{REFERENCE}, INS,", got, spelled)
+    parts = [form(right) for _, right in clauses("aia_model", "Grammar", "part_fields")]
+    shown_ = [ticked(cells[1])[0] for cells in rows(section(REFERENCE, "Images"))]
+    got = [" ".join(number_or(word) for word in text.split()) for text in shown_]
+    yield from differ(f"{REFERENCE}, Images, the parts,", got, parts)
 
 
 def answers():
     """Compares the answers with their spellings, and the refusals with their order."""
     first = {}
+    for pattern, right in clauses("aia_model", "Grammar", "part_fields"):
+        first[("part_fields", pattern)] = form(right).split()[0]
     for name in ("answer_word", "refusal_word", "entry_text"):
         for pattern, right in clauses("aia_model", "AnswerText", name):
             if match := re.match(r'codes "(\w+)', right):
