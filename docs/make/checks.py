@@ -51,8 +51,8 @@ def differ(where, stands, wanted):
 
 
 def form(right):
-    """Gives a form of line as its words, `#` for a number, INS for a CSR instruction, and PART for a
-    part of an image."""
+    """Gives a form of line as its words, `#` for a number, INS for a CSR instruction, PART for a part
+    of an image."""
     found = []
     for word, number, part in re.findall(
         r'Keyword \(codes "(\w+)"\)|\b(Decimal32|Decimal|Hex16|Hex32|Hex|Bit) \w+'
