@@ -44,8 +44,8 @@ impl Stay {
         }
     }
 
-    /// Tells the numbers that are kept of a virtual hart that is parked. `Err` is `Entered` where it
-    /// runs from memory, `Home` where it is resident, `Busy` where it is being moved.
+    /// Tells the numbers that are kept of a virtual hart that is parked. `Err` is `Entered` where
+    /// it runs from memory, `Home` where it is resident, `Busy` where it is being moved.
     pub fn parked(&self) -> Result<Kept, Refusal>
         ensures { result ≡ parked_at self.now }
     {

@@ -1,5 +1,6 @@
--- The image of a virtual hart: all that its interrupts are, in parts, each of which is one line; and
--- what the load of a part makes of a virtual hart's interrupts. Profile: images, and their parts.
+-- The image of a virtual hart: all that its interrupts are, in parts, each of which is one line;
+-- and what the load of a part makes of a virtual hart's interrupts. Profile: images, and their
+-- parts.
 use Rattle.std.specs.Prelude.{ℕ, zero, suc, ◌+◌, ◌*◌, ◌/◌, Bool, not, ◌&&◌, ◌||◌, nat_eq, nat_lt, nat_le}
 use Rattle.aia_word.specs.Sets.{word_of}
 use Rattle.aia_regs.specs.declared.access.Op.TheVariants as ops
@@ -25,8 +26,8 @@ abbrev pub image_version : ℕ
 image_version = 1
 
 -- Part k of the image of a state: its file's numbers with the select number; the majors that are
--- injected and those that are enabled; their registers hviprio1 and hvictl; and from 3 on word after
--- word of the pending set and of the enabled set.
+-- injected and those that are enabled; their registers hviprio1 and hvictl; and from 3 on word
+-- after word of the pending set and of the enabled set.
 abbrev pub part_of : GuestState → ℕ → Part
 part_of x zero =
     parts.Image image_version x.file.n (nat_eq x.file.delivery 1) x.file.threshold x.select
@@ -40,8 +41,8 @@ part_of x (suc (suc (suc w))) =
 abbrev pub parts_in : ℕ → ℕ
 parts_in words = words + 3
 
--- Whether a part may be loaded where files have the identities 1 to n: it says what an image of such
--- a file may say. Identity 0 is none, so bit 0 of word 0 is 0.
+-- Whether a part may be loaded where files have the identities 1 to n: it says what an image of
+-- such a file may say. Identity 0 is none, so bit 0 of word 0 is 0.
 abbrev pub is_loadable : ℕ → Part → Bool
 is_loadable n (parts.Image version greatest delivery threshold select) =
     nat_eq version image_version && nat_eq greatest n && nat_le threshold n
@@ -53,9 +54,9 @@ is_loadable n (parts.Word w pending enable) =
 
 -- ---- what the load of a part makes of them
 
--- Of the file, what writes of its registers make of it: eidelivery and eithreshold; or a word of the
--- pending set, whose ones ask, so that what is pending stays so, and the same word of the enables,
--- which is written whole.
+-- Of the file, what writes of its registers make of it: eidelivery and eithreshold; or a word of
+-- the pending set, whose ones ask, so that what is pending stays so, and the same word of the
+-- enables, which is written whole.
 abbrev pub file_loaded : Part → InterruptFile → InterruptFile
 file_loaded (parts.Image version greatest delivery threshold select) file =
     accessed Threshold (ops.Write threshold)

@@ -12,8 +12,9 @@ use Rattle.aia_model.specs.Event.{Event, History}
 use Rattle.aia_model.specs.Event.Event.{Accepted}
 use Rattle.aia_model.specs.GuestFile.{guest_file}
 
--- What an event makes of them: the hypervisor injects a level, writes hviprio1 or hvictl, or loads a
--- part of an image, and the virtual hart accesses sip or sie. No event of a move is anything to them.
+-- What an event makes of them: the hypervisor injects a level, writes hviprio1 or hvictl, or loads
+-- a part of an image, and the virtual hart accesses sip or sie. No event of a move is anything to
+-- them.
 -- The hypervisor extension 1.0: hvip, vsip and vsie; AIA 1.0, Interrupts for Virtual Machines (VS
 -- Level).
 abbrev pub majors_after : Vcpu → Event → VsMajorState → VsMajorState
