@@ -1,0 +1,4 @@
+pub mod Plan
+pub mod Rule
+pub mod Transit
+pub mod Safe
