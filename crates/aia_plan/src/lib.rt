@@ -3,6 +3,7 @@
 //! whatever devices and other virtual harts store between its steps. Profile.
 #![tactic(auto)]
 
+pub mod laws;
 mod step;
 
 pub use step::{Kind, Step};
