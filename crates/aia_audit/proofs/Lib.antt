@@ -1,0 +1,5 @@
+mod TakesLemmas
+mod RoutesLemmas
+mod LateLemmas
+mod BehindLemmas
+mod PlanLemmas

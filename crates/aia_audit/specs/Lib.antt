@@ -1,2 +1,3 @@
 pub mod Verdicts
 pub mod PlanText
+pub mod Behind

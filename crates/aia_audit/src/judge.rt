@@ -6,6 +6,7 @@ ghost use Rattle.aia_plan.specs.Plan.{IsWidth, IsInside};
 ghost use Rattle.aia_plan.specs.Safe.{IsSafe};
 ghost use Rattle.aia_audit.specs.Verdicts.{verdict_on};
 
+use crate::behind::Behind;
 use crate::verdict::Verdict;
 use aia_plan::{Kind, Step};
 
@@ -22,5 +23,9 @@ pub fn audit(kind: Kind, words: u32, plan: &[Step]) -> Verdict
     ensures verdict { result ≡ verdict_on kind words plan.now }
     ensures safe { result ≡ Verdict.Accepted → IsSafe words plan.now }
 {
-    Verdict::Accepted
+    let mut behind = Behind::none();
+    for at in (0..plan.len()).rev() {
+        behind = behind.with(kind, plan[at]);
+    }
+    behind.verdict(kind, words)
 }

@@ -2,9 +2,12 @@
 //! and other virtual harts store between its steps. Profile.
 #![tactic(auto)]
 
+mod behind;
 mod judge;
 pub mod limits;
 mod plans;
+mod routes;
+mod takes;
 mod verdict;
 
 pub use aia_script::{Kind, Step};

@@ -1,11 +1,11 @@
 -- What the rule says of the steps that are left at each moment of a run.
-use Rattle.std.proofs.Common.{◌≡◌, ℕ, ◌<◌, Bool, true, false, not, ◌&&◌, nat_eq, List, [], ◌∷◌, Option, Some, None, refl, sym, ap, ◌∙◌}
+use Rattle.std.proofs.Common.{◌≡◌, ℕ, ◌<◌, Bool, true, false, not, ◌&&◌, nat_eq, [], ◌∷◌, Option, Some, None, refl, ap}
 use Rattle.std.specs.List.{list_any, AllByRecursion}
 use Rattle.std.proofs.lemmas.Bool.{false≢true, eq-eqb, eqb-true, and_parts, not-true}
 use Rattle.aia_plan.specs.declared.step.Step.{Step}
 use Rattle.aia_plan.specs.declared.step.Step.TheVariants.{Quiet, Word1, Word0, Fence, Map, Unmap, Remap, GFence, TakeP, PutP, TakeE, PutE, Look, TakeT, PutT, Post, Wake}
 use Rattle.aia_plan.specs.Plan.{Plan, IsInside}
-use Rattle.aia_plan.specs.Rule.{is_step, stands, is_same, are_paired, takes_pending, puts_pending, takes_enables, puts_enables}
+use Rattle.aia_plan.specs.Rule.{is_step, is_same, are_paired, takes_pending, puts_pending, takes_enables, puts_enables}
 use Rattle.aia_plan.proofs.Invariant.{is_record}
 use Rattle.aia_plan.proofs.StepKept.{Guard}
 

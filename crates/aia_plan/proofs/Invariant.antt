@@ -1,6 +1,6 @@
 -- What holds between two steps of a plan that keeps the rule, told by the steps that are still to
 -- come; and that nothing which may happen between them breaks it.
-use Rattle.std.proofs.Common.{◌≡◌, ℕ, zero, suc, ◌+◌, ◌*◌, ◌/◌, ◌%◌, ◌<◌, Bool, true, false, not, ◌&&◌, ◌||◌, nat_eq, List, [], ◌∷◌, ◌++◌, Option, Some, None, ◌⊎◌, inl, inr, refl, sym, ap, ◌∙◌}
+use Rattle.std.proofs.Common.{◌≡◌, ℕ, zero, suc, ◌/◌, ◌%◌, ◌<◌, Bool, true, false, ◌&&◌, ◌||◌, nat_eq, List, [], ◌∷◌, ◌++◌, Option, Some, None, ◌⊎◌, inr, refl, sym, ap, ◌∙◌}
 use Rattle.std.specs.Prelude.{⊤, slice_get}
 use Rattle.std.specs.List.{list_any, AllByRecursion}
 use Rattle.std.proofs.lemmas.Bool.{false≢true}
@@ -8,7 +8,7 @@ use Rattle.aia_plan.specs.declared.step.Step.{Step}
 use Rattle.aia_plan.specs.declared.step.Step.TheVariants.{Word0, Fence, Map, Unmap, Remap, GFence, TakeP, TakeE}
 use Rattle.aia_plan.specs.Plan.{Plan}
 use Rattle.aia_plan.specs.Rule.{is_step, stands}
-use Rattle.aia_plan.specs.Transit.{Side, Flight, Transit, Happening, is_identity, with_one, landed, all_landed, without, one_landed, happened}
+use Rattle.aia_plan.specs.Transit.{Side, Flight, Transit, Happening, is_identity, landed, all_landed, without, one_landed, happened}
 use Rattle.aia_plan.specs.Transit.Side.{Old, New}
 use Rattle.aia_plan.specs.Transit.Happening.{Does, Stores, Sends, Lands, Refetches, PeerStores}
 use Rattle.aia_plan.proofs.BoolLaws.{or_together, land_law}

@@ -1,7 +1,8 @@
+pub mod Throughout
 mod BoolLaws
-mod Invariant
+pub mod Invariant
 mod StepKept
-mod Behind
+pub mod Behind
 mod RunKept
 pub mod RuleIsSafe
 pub mod CorePlans

@@ -1,18 +1,19 @@
 -- A plan that keeps the rule is safe.
-use Rattle.std.proofs.Common.{◌≡◌, ℕ, zero, suc, ◌<◌, Bool, true, false, not, ◌&&◌, ◌||◌, nat_eq, if◌then◌else◌, List, [], ◌∷◌, Option, Some, None, is_none, inl, inr, refl, sym, ap, ◌∙◌, arith}
+use Rattle.std.proofs.Common.{◌≡◌, ℕ, zero, suc, ◌<◌, Bool, true, false, not, ◌&&◌, ◌||◌, if◌then◌else◌, [], ◌∷◌, Option, Some, None, is_none, inl, inr, refl, sym, ap, ◌∙◌, arith}
 use Rattle.std.specs.List.{list_any, list_all, All}
-use Rattle.std.proofs.lemmas.Bool.{false≢true, and_parts, not-true, cases_eq}
+use Rattle.std.proofs.lemmas.Bool.{false≢true, and_parts, cases_eq}
 use Rattle.aia_plan.specs.declared.step.Kind.{Kind}
 use Rattle.aia_plan.specs.declared.step.Kind.TheVariants as kinds
 use Rattle.aia_plan.specs.declared.step.Step.{Step}
-use Rattle.aia_plan.specs.declared.step.Step.TheVariants.{Word1, Word0, Fence, Map, Unmap, Remap, GFence, TakeP, TakeE}
+use Rattle.aia_plan.specs.declared.step.Step.TheVariants.{Word0, Fence, Map, Unmap, Remap, GFence, TakeP, TakeE}
 use Rattle.aia_plan.specs.Plan.{Plan, IsInside}
-use Rattle.aia_plan.specs.Rule.{is_step, stands, is_never, is_once, comes_before, all_below, own_record, other_records, names_notice, turns_routes, takes_late, puts_at_once, moves_enables, are_paired, takes_pending, puts_pending, takes_enables, puts_enables, failing, first_failing}
+use Rattle.aia_plan.specs.Rule.{is_step, stands, is_never, is_once, comes_before, all_below, own_record, other_records, names_notice, turns_routes, takes_late, puts_at_once, moves_enables, are_paired, takes_enables, puts_enables, failing, first_failing}
 use Rattle.aia_plan.specs.Safe.{IsSafe}
-use Rattle.aia_plan.proofs.BoolLaws.{or_none, or_false, or_left_false, or_right_false}
+use Rattle.aia_plan.proofs.BoolLaws.{or_none, or_false, or_right_false}
 use Rattle.aia_plan.proofs.Invariant.{is_record}
-use Rattle.aia_plan.proofs.Behind.{before, Before, Left}
-use Rattle.aia_plan.proofs.RunKept.{by_recursion, HoldsAll, left_is_safe}
+use Rattle.aia_plan.proofs.Behind.{before, Before}
+use Rattle.aia_plan.proofs.RunKept.{left_is_safe}
+use Rattle.aia_plan.proofs.Throughout.{by_recursion}
 
 -- ---- once, and before
 
@@ -20,12 +21,17 @@ pub comes_before-before : (first second : Step) (plan : Plan) → comes_before f
 comes_before-before first second [] = refl
 comes_before-before first second (x ∷ later) = ap (λ b. not (is_step second x && stands first later) && b) (comes_before-before first second later)
 
--- where none stands, none stands before one
-pub none_before : (step : Step) (plan : Plan) → stands step plan ≡ false → comes_before step step plan ≡ true
-none_before step [] none = refl
-none_before step (x ∷ later) none =
-    ap (λ b. not (b && stands step later) && comes_before step step later) (or_left_false (is_step step x) (stands step later) none)
-    ∙ none_before step later (or_right_false (is_step step x) (stands step later) none)
+-- where a step never stands, it stands behind none
+pub none_before : (first second : Step) (plan : Plan) → stands first plan ≡ false → comes_before first second plan ≡ true
+none_before first second [] none = refl
+none_before first second (x ∷ later) none =
+    ap (λ b. not (is_step second x && b) && comes_before first second later) (or_right_false (is_step first x) (stands first later) none)
+    ∙ behind_none (is_step second x) (comes_before first second later)
+    ∙ none_before first second later (or_right_false (is_step first x) (stands first later) none)
+  where
+    behind_none : (here before : Bool) → (not (here && false) && before) ≡ before
+    behind_none true before = refl
+    behind_none false before = refl
 
 -- exactly once is: it stands, and not twice
 once_law : (is any once before : Bool) → once ≡ (any && before) → (any ≡ false → before ≡ true) → (if is then not any else once) ≡ ((is || any) && (not (is && any) && before))
@@ -35,15 +41,15 @@ once_law false any once before e none = e
 
 pub once_is : (step : Step) (plan : Plan) → is_once step plan ≡ (stands step plan && comes_before step step plan)
 once_is step [] = refl
-once_is step (x ∷ later) = once_law (is_step step x) (stands step later) (is_once step later) (comes_before step step later) (once_is step later) (none_before step later)
+once_is step (x ∷ later) = once_law (is_step step x) (stands step later) (is_once step later) (comes_before step step later) (once_is step later) (none_before step step later)
 
-once_stands : (step : Step) (plan : Plan) → is_once step plan ≡ true → stands step plan ≡ true
+pub once_stands : (step : Step) (plan : Plan) → is_once step plan ≡ true → stands step plan ≡ true
 once_stands step plan once = (and_parts (stands step plan) (comes_before step step plan) (sym (once_is step plan) ∙ once)).0
 
-once_before : (step : Step) (plan : Plan) → is_once step plan ≡ true → Before (is_step step) (is_step step) plan
+pub once_before : (step : Step) (plan : Plan) → is_once step plan ≡ true → Before (is_step step) (is_step step) plan
 once_before step plan once = sym (comes_before-before step step plan) ∙ (and_parts (stands step plan) (comes_before step step plan) (sym (once_is step plan) ∙ once)).1
 
-in_order : (first second : Step) (plan : Plan) → comes_before first second plan ≡ true → Before (is_step first) (is_step second) plan
+pub in_order : (first second : Step) (plan : Plan) → comes_before first second plan ≡ true → Before (is_step first) (is_step second) plan
 in_order first second plan e = sym (comes_before-before first second plan) ∙ e
 
 -- ---- all numbers below one
@@ -51,7 +57,7 @@ in_order first second plan e = sym (comes_before-before first second plan) ∙ e
 pub below_passes : (passes : ℕ → Bool) (count w : ℕ) → all_below passes count ≡ true → w < count → passes w ≡ true
 below_passes passes zero w e low = absurd (omega arith)
 below_passes passes (suc n) w e low = elim (cases_eq w n) [
-  inl same ↦ ap passes same ∙ (and_parts (passes n) (all_below passes n) e).0
+  | inl same ↦ ap passes same ∙ (and_parts (passes n) (all_below passes n) e).0
   | inr other ↦ below_passes passes n w (and_parts (passes n) (all_below passes n) e).1 (omega arith)
 ]
 
@@ -93,14 +99,14 @@ split kinds.Arrive x later none = split_law (is_step Unmap x) (is_step Remap x) 
 split kinds.Shift x later none = split_law (is_step Map x) (is_step Unmap x) (stands Map later) (stands Unmap later) none
 
 -- so the steps that write the record are the kind's own
-any_record : (kind : Kind) (plan : Plan) → NoOther kind (λ step. stands step plan) → list_any is_record plan ≡ stands (own_record kind) plan
+pub any_record : (kind : Kind) (plan : Plan) → NoOther kind (λ step. stands step plan) → list_any is_record plan ≡ stands (own_record kind) plan
 any_record kind [] none = refl
 any_record kind (x ∷ later) none =
     let both = split kind x later none in
     ap (λ b. b || list_any is_record later) (own_is kind (λ step. is_step step x) both.0)
     ∙ ap (λ b. is_step (own_record kind) x || b) (any_record kind later both.1)
 
-record_before_record : (kind : Kind) (plan : Plan) → NoOther kind (λ step. stands step plan) → before is_record is_record plan ≡ comes_before (own_record kind) (own_record kind) plan
+pub record_before_record : (kind : Kind) (plan : Plan) → NoOther kind (λ step. stands step plan) → before is_record is_record plan ≡ comes_before (own_record kind) (own_record kind) plan
 record_before_record kind [] none = refl
 record_before_record kind (x ∷ later) none =
     let both = split kind x later none in
@@ -108,7 +114,7 @@ record_before_record kind (x ∷ later) none =
     ∙ ap (λ b. not (is_step (own_record kind) x && b) && before is_record is_record later) (any_record kind later both.1)
     ∙ ap (λ b. not (is_step (own_record kind) x && stands (own_record kind) later) && b) (record_before_record kind later both.1)
 
-record_before : (kind : Kind) (second : Step) (plan : Plan) → NoOther kind (λ step. stands step plan) → before is_record (is_step second) plan ≡ comes_before (own_record kind) second plan
+pub record_before : (kind : Kind) (second : Step) (plan : Plan) → NoOther kind (λ step. stands step plan) → before is_record (is_step second) plan ≡ comes_before (own_record kind) second plan
 record_before kind second [] none = refl
 record_before kind second (x ∷ later) none =
     let both = split kind x later none in
@@ -127,7 +133,7 @@ pub record Turns (kind : Kind) (plan : Plan) : Type 0 where
   pub gfence : is_once GFence plan ≡ true
   pub own_first : comes_before (own_record kind) GFence plan ≡ true
 
-all_turns : (kind : Kind) (plan : Plan) → turns_routes kind plan ≡ true → Turns kind plan
+pub all_turns : (kind : Kind) (plan : Plan) → turns_routes kind plan ≡ true → Turns kind plan
 all_turns kind plan e =
     let s7 = (and_parts _ (names_notice kind plan) e).0 in
     let p6 = and_parts _ (comes_before (own_record kind) GFence plan) s7 in
@@ -180,25 +186,25 @@ rule_is_safe kind words plan inside e =
     let enables = and_parts (all_below (λ w. is_once (TakeE w) plan) words) (are_paired takes_enables puts_enables None plan) keeps.enables in
     let enables_once : (w : ℕ) → w < words → is_once (TakeE w) plan ≡ true = λ w low. below_passes (λ w. is_once (TakeE w) plan) words w enables.0 low in
     left_is_safe words plan
-      (record {
-        one_word0 = once_before Word0 plan turns.word0;
-        one_fence = once_before Fence plan turns.fence;
-        one_gfence = once_before GFence plan turns.gfence;
-        one_record = record_before_record kind plan turns.others ∙ comes_before-before (own_record kind) (own_record kind) plan ∙ once_before (own_record kind) plan turns.own;
-        word0_first = in_order Word0 Fence plan turns.word0_first;
-        record_first = record_before kind GFence plan turns.others ∙ turns.own_first;
-        fence_first = λ w low. in_order Fence (TakeP w) plan (late w low).fence;
-        gfence_first = λ w low. in_order GFence (TakeP w) plan (late w low).gfence;
-        one_enables = λ w low. once_before (TakeE w) plan (enables_once w low);
-        inside = by_recursion (IsInside words) plan inside;
-        pending_paired = keeps.pending;
-        enables_paired = enables.1;
-      })
-      (record {
-        word0 = once_stands Word0 plan turns.word0;
-        fence = once_stands Fence plan turns.fence;
-        record_step = any_record kind plan turns.others ∙ once_stands (own_record kind) plan turns.own;
-        gfence = once_stands GFence plan turns.gfence;
-        pending = λ w low. once_stands (TakeP w) plan (late w low).once;
-        enables = λ w low. once_stands (TakeE w) plan (enables_once w low);
-      })
+    (record {
+      one_word0 = once_before Word0 plan turns.word0;
+      one_fence = once_before Fence plan turns.fence;
+      one_gfence = once_before GFence plan turns.gfence;
+      one_record = record_before_record kind plan turns.others ∙ comes_before-before (own_record kind) (own_record kind) plan ∙ once_before (own_record kind) plan turns.own;
+      word0_first = in_order Word0 Fence plan turns.word0_first;
+      record_first = record_before kind GFence plan turns.others ∙ turns.own_first;
+      fence_first = λ w low. in_order Fence (TakeP w) plan (late w low).fence;
+      gfence_first = λ w low. in_order GFence (TakeP w) plan (late w low).gfence;
+      one_enables = λ w low. once_before (TakeE w) plan (enables_once w low);
+      inside = by_recursion (IsInside words) plan inside;
+      pending_paired = keeps.pending;
+      enables_paired = enables.1;
+    })
+    (record {
+      word0 = once_stands Word0 plan turns.word0;
+      fence = once_stands Fence plan turns.fence;
+      record_step = any_record kind plan turns.others ∙ once_stands (own_record kind) plan turns.own;
+      gfence = once_stands GFence plan turns.gfence;
+      pending = λ w low. once_stands (TakeP w) plan (late w low).once;
+      enables = λ w low. once_stands (TakeE w) plan (enables_once w low);
+    })

@@ -1,31 +1,20 @@
 -- A whole run: from how a move begins to how it has to end.
-use Rattle.std.proofs.Common.{◌≡◌, ℕ, zero, suc, ◌/◌, ◌<◌, Bool, true, false, ◌&&◌, ◌||◌, List, [], ◌∷◌, Option, Some, None, inl, refl, sym, ap, subst, ◌∙◌, arith, length}
-use Rattle.std.specs.List.{list_any, All, AllByRecursion}
-use Rattle.std.proofs.lemmas.List.Elements.{All-tail}
+use Rattle.std.proofs.Common.{◌≡◌, ℕ, ◌/◌, ◌<◌, Bool, true, false, ◌&&◌, ◌||◌, List, [], ◌∷◌, Option, None, inl, refl, sym, ap, subst, ◌∙◌}
+use Rattle.std.specs.List.{list_any, AllByRecursion}
 use Rattle.std.proofs.lemmas.Bool.{false≢true}
 use Rattle.aia_plan.specs.declared.step.Step.{Step}
 use Rattle.aia_plan.specs.declared.step.Step.TheVariants.{Word0, Fence, GFence, TakeP, TakeE}
 use Rattle.aia_plan.specs.Plan.{Plan}
-use Rattle.aia_plan.specs.Rule.{stands, takes_pending, puts_pending, takes_enables, puts_enables}
+use Rattle.aia_plan.specs.Rule.{stands, takes_pending, takes_enables, puts_enables}
 use Rattle.aia_plan.specs.Transit.{Side, Flight, Transit, Happening, is_identity, stepped, all_happened, steps_of}
 use Rattle.aia_plan.specs.Transit.Side.{Old, New}
 use Rattle.aia_plan.specs.Transit.Happening.{Does, Stores, Sends, Lands, Refetches, PeerStores}
-use Rattle.aia_plan.specs.Safe.{AllLeadTo, IsStart, IsMoved, IsSafe}
+use Rattle.aia_plan.specs.Safe.{IsStart, IsMoved, IsSafe}
+use Rattle.aia_plan.proofs.Throughout.{by_recursion, by_place}
 use Rattle.aia_plan.proofs.BoolLaws.{or_none, nothing_left}
 use Rattle.aia_plan.proofs.Invariant.{is_record, side_if, MayLead, Between, kept}
 use Rattle.aia_plan.proofs.StepKept.{step_kept}
 use Rattle.aia_plan.proofs.Behind.{Left, left_after, pending_carried, enables_carried, none_carried, guard_of}
-
--- ---- lists of which a fact holds throughout
-
-pub by_recursion : {X : Type 0} (P : X → Type 0) (xs : List X) → All P xs → AllByRecursion P xs
-by_recursion P [] all = tt
-by_recursion P (x ∷ xs) all = (all 0 x (omega arith), by_recursion P xs (All-tail P x xs all))
-
-pub by_place : {X : Type 0} (P : X → Type 0) (xs : List X) → AllByRecursion P xs → All P xs
-by_place P [] all k d inside = absurd (omega arith)
-by_place P (x ∷ xs) all zero d inside = all.0
-by_place P (x ∷ xs) all (suc k) d inside = by_place P xs all.1 k d (omega arith)
 
 -- ---- a run
 
@@ -95,7 +84,10 @@ begins words plan z has start = record {
 ends : (words : ℕ) (start z : Transit) → Between words start.old_enabled None None [] z → IsMoved words start z
 ends words start z v = record {
   routes = record {
-    entry_written = v.routed.entry_written; entry_in_force = v.routed.entry_in_force; record_written = v.routed.record_written; record_in_force = v.routed.record_in_force;
+    entry_written = v.routed.entry_written;
+    entry_in_force = v.routed.entry_in_force;
+    record_written = v.routed.record_written;
+    record_in_force = v.routed.record_in_force;
     flights = by_place (λ (f : Flight). f.side ≡ New) z.flights v.routed.flights;
   };
   pending = λ i inside. nothing_left (z.due i) (is_identity i) (z.old_pending i) (z.new_pending i) (v.pended.union i inside) (v.pended.drained i inside refl);
@@ -107,5 +99,5 @@ ends words start z v = record {
 pub left_is_safe : (words : ℕ) (plan : Plan) → Left words None None plan → HoldsAll words plan → IsSafe words plan
 left_is_safe words plan left has start run begun same =
     ends words start _ (runs words start.old_enabled None None run start
-      (subst (Left words None None) (sym same) left)
-      (subst (λ k. Between words start.old_enabled None None k start) (sym same) (begins words plan start has begun)))
+    (subst (Left words None None) (sym same) left)
+    (subst (λ k. Between words start.old_enabled None None k start) (sym same) (begins words plan start has begun)))

@@ -1,16 +1,16 @@
 -- A step that stands where the rule wants it keeps what holds between steps.
-use Rattle.std.proofs.Common.{◌≡◌, ℕ, ◌+◌, ◌*◌, ◌/◌, ◌%◌, ◌<◌, Bool, true, false, not, ◌&&◌, ◌||◌, nat_eq, List, [], ◌∷◌, Option, Some, None, inl, inr, refl, sym, ap, subst, ◌∙◌, arith}
+use Rattle.std.proofs.Common.{◌≡◌, ℕ, ◌+◌, ◌*◌, ◌/◌, ◌%◌, Bool, true, false, ◌||◌, nat_eq, List, ◌∷◌, Option, Some, None, inl, inr, sym, ap, subst, ◌∙◌, arith}
 use Rattle.std.specs.Prelude.{⊤}
-use Rattle.std.specs.List.{list_any, AllByRecursion}
+use Rattle.std.specs.List.{list_any}
 use Rattle.std.proofs.lemmas.Bool.{false≢true, eqb-true}
 use Rattle.aia_plan.specs.declared.step.Step.{Step}
 use Rattle.aia_plan.specs.declared.step.Step.TheVariants.{Quiet, Word1, Word0, Fence, Map, Unmap, Remap, GFence, TakeP, PutP, TakeE, PutE, Look, TakeT, PutT, Post, Wake}
 use Rattle.aia_plan.specs.Plan.{Plan}
 use Rattle.aia_plan.specs.Rule.{stands, takes_pending, puts_pending, takes_enables, puts_enables}
 use Rattle.aia_plan.specs.Transit.{Side, Flight, Transit, is_identity, all_landed, stepped, word_bits, without_word, of_word, no_bits}
-use Rattle.aia_plan.specs.Transit.Side.{Old, New}
+use Rattle.aia_plan.specs.Transit.Side.{New}
 use Rattle.aia_plan.proofs.BoolLaws.{take_law, put_law, replace_law, drain_law, fresh_law}
-use Rattle.aia_plan.proofs.Invariant.{is_record, side_if, MayLead, names, Routed, Pended, Enabled, Between, all_changed, all_land, flights_may_land}
+use Rattle.aia_plan.proofs.Invariant.{is_record, side_if, MayLead, Routed, Pended, Enabled, Between, all_changed, all_land, flights_may_land}
 
 -- What the rule says of the steps behind a step.
 abbrev pub Guard : Step → Plan → Type 0
@@ -43,8 +43,12 @@ word0_written word0 fence record_step gfence entry_as_written entry record_as_wr
 
 record_written : (word0 fence record_step gfence : Bool) (entry_as_written entry record_as_written stage : Side) (flying : List Flight) → record_step ≡ false → Routed word0 fence true gfence entry_as_written entry record_as_written stage flying → Routed word0 fence record_step gfence entry_as_written entry New stage flying
 record_written word0 fence record_step gfence entry_as_written entry record_as_written stage flying none r = record {
-  entry_written = r.entry_written; entry_in_force = r.entry_in_force; record_written = sym (ap side_if none);
-  record_in_force = r.record_in_force; flights = r.flights; order = r.order;
+  entry_written = r.entry_written;
+  entry_in_force = r.entry_in_force;
+  record_written = sym (ap side_if none);
+  record_in_force = r.record_in_force;
+  flights = r.flights;
+  order = r.order;
 }
 
 fence_leads : (fence word0 : Bool) (s : Side) → fence ≡ false → word0 ≡ false → s ≡ side_if word0 → MayLead fence word0 s
@@ -100,13 +104,15 @@ put_enables words w later first old new hand n = record {
 -- after a fence no word was taken before it: none could be
 fenced : (words : ℕ) (c : Option ℕ) (later : ℕ → Bool) (fence gfence : Bool) (due old new hand : ℕ → Bool) → Pended words c later true gfence due old new hand → Pended words c later fence gfence due old new hand
 fenced words c later fence gfence due old new hand p = record {
-  union = p.union; drained = p.drained;
+  union = p.union;
+  drained = p.drained;
   late = λ w inside taken. absurd (false≢true (sym (p.late w inside taken).0));
 }
 
 gfenced : (words : ℕ) (c : Option ℕ) (later : ℕ → Bool) (fence gfence : Bool) (due old new hand : ℕ → Bool) → Pended words c later fence true due old new hand → Pended words c later fence gfence due old new hand
 gfenced words c later fence gfence due old new hand p = record {
-  union = p.union; drained = p.drained;
+  union = p.union;
+  drained = p.drained;
   late = λ w inside taken. absurd (false≢true (sym (p.late w inside taken).1));
 }
 
@@ -135,8 +141,12 @@ step_kept words first Unmap rest z guard v = record { routed = record_written _ 
 step_kept words first Remap rest z guard v = record { routed = record_written _ _ _ _ _ _ _ _ z.flights guard v.routed; pended = v.pended; enabled = v.enabled }
 step_kept words first GFence rest z guard v = record {
   routed = record {
-    entry_written = v.routed.entry_written; entry_in_force = v.routed.entry_in_force; record_written = v.routed.record_written;
-    record_in_force = v.routed.record_written ∙ ap side_if guard.0 ∙ sym (ap side_if guard.1); flights = v.routed.flights; order = v.routed.order;
+    entry_written = v.routed.entry_written;
+    entry_in_force = v.routed.entry_in_force;
+    record_written = v.routed.record_written;
+    record_in_force = v.routed.record_written ∙ ap side_if guard.0 ∙ sym (ap side_if guard.1);
+    flights = v.routed.flights;
+    order = v.routed.order;
   };
   pended = gfenced words None (λ w. stands (TakeP w) rest) (stands Fence rest) (stands GFence rest) z.due z.old_pending z.new_pending z.carried_pending v.pended;
   enabled = v.enabled;

@@ -1,5 +1,5 @@
 -- The step of a plan that a text spells. Profile.
-use Rattle.std.specs.Prelude.{ℕ, nat_le, if◌then◌else◌, List, [], ◌∷◌, length, Option, Some, None, codes}
+use Rattle.std.specs.Prelude.{ℕ, nat_le, if◌then◌else◌, List, [], ◌∷◌, length, Option, None, codes}
 use Rattle.aia_model.specs.declared.limits.TheConstants.{LINE_BYTES}
 use Rattle.aia_model.specs.Text.{words_of, below, ◌>>=◌}
 use Rattle.aia_model.specs.Reading.{Words, row_of, word_at, number_at, whole}
