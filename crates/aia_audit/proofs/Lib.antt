@@ -3,3 +3,4 @@ mod RoutesLemmas
 mod LateLemmas
 mod BehindLemmas
 mod PlanLemmas
+mod AccessLemmas

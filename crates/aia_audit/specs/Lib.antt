@@ -1,3 +1,4 @@
 pub mod Verdicts
 pub mod PlanText
 pub mod Behind
+pub mod CoreAccesses
