@@ -18,10 +18,12 @@ pub fn the_rule_is_safe()
         → failing kind words plan ≡ None → IsSafe words plan }
 {}
 
-/// The plans of the hypervisor's core keep the rule.
-#[tactic(auto, using(crate::proofs::CorePlans::plans_keep))]
+/// The plans of the hypervisor's core keep the rule, and each word that they name is one of the
+/// file's.
+#[tactic(auto, using(crate::proofs::CorePlans::plans_keep, crate::proofs::CorePlans::core_is_inside))]
 pub fn the_plans_of_the_core_keep_the_rule()
-    ensures { (kind : Kind) (words : ℕ) → IsWidth words
+    ensures inside { (kind : Kind) (words : ℕ) → All (IsInside words) (core_plan kind words) }
+    ensures keep { (kind : Kind) (words : ℕ) → IsWidth words
         → failing kind words (core_plan kind words) ≡ None }
 {}
 
