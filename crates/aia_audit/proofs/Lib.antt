@@ -4,3 +4,4 @@ mod LateLemmas
 mod BehindLemmas
 mod PlanLemmas
 mod AccessLemmas
+mod TextLemmas
