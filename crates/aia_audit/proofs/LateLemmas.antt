@@ -4,7 +4,7 @@ use Rattle.std.specs.Prelude.{IfSome}
 use Rattle.std.specs.List.{AllByRecursion}
 use Rattle.std.proofs.lemmas.Bool.{cases_eq, eq-eqb, ne_eqb}
 use Rattle.aia_plan.specs.declared.step.Step.{Step}
-use Rattle.aia_plan.specs.declared.step.Step.TheVariants.{Quiet, Word1, Word0, Fence, Map, Unmap, Remap, GFence, TakeP, PutP, TakeE, PutE, Look, TakeT, PutT, Post, Wake}
+use Rattle.aia_plan.specs.declared.step.Step.TheVariants.{Fence, GFence, TakeP, PutP, TakeE, PutE, Look}
 use Rattle.aia_plan.specs.Plan.{Plan, IsInside}
 use Rattle.aia_plan.specs.Rule.{is_step, stands, is_once, comes_before, all_below, takes_late, takes_pending, takes_enables}
 use Rattle.aia_plan.proofs.RuleIsSafe.{once_is}

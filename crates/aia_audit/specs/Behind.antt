@@ -1,4 +1,5 @@
--- What the checker keeps of the steps behind a step, while it reads a plan from its end. Vocabulary.
+-- What the checker keeps of the steps behind a step, while it reads a plan from its end.
+-- Vocabulary.
 use Rattle.std.specs.Prelude.{ℕ, Bool, true, false, not, ◌&&◌, ◌||◌, nat_eq, List, [], ◌∷◌, Option, Some, None}
 use Rattle.std.specs.List.{list_any, list_all}
 use Rattle.aia_word.specs.Sets.{word_of}
@@ -65,8 +66,8 @@ names (Some v) w = nat_eq v w
 abbrev pub is_taken : (Step → Option ℕ) → ℕ → Plan → Bool
 is_taken takes w plan = list_any (λ x. names (takes x) w) plan
 
--- Whether a word that is taken may be taken before the steps behind it: by a test of them, and it is
--- not taken among them too.
+-- Whether a word that is taken may be taken before the steps behind it: by a test of them, and it
+-- is not taken among them too.
 abbrev pub may_take : Option ℕ → Bool → (ℕ → Bool) → Bool
 may_take None may again = true
 may_take (Some w) may again = may && not (again w)

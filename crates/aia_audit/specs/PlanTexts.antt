@@ -1,5 +1,5 @@
--- What it means that bytes are read as a plan, or that a text of them is bad. Vocabulary: a law says
--- that the reading of PlanText means this.
+-- What it means that bytes are read as a plan, or that a text of them is bad. Vocabulary: a law
+-- says that the reading of PlanText means this.
 use Rattle.std.specs.Prelude.{◌≡◌, ℕ, ◌+◌, ◌≤◌, ◌⊎◌, if◌then◌else◌, List, [], ◌∷◌, ◌++◌, length, map, Some, None}
 use Rattle.aia_model.specs.Text.{is_skipped}
 use Rattle.aia_plan.specs.Plan.{Plan}

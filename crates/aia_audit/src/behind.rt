@@ -1,5 +1,5 @@
-//! What stands behind a step of a plan, as far as the rule asks for it: a plan is read from its last
-//! step to its first, so that all of it is known when a step is met.
+//! What stands behind a step of a plan, as far as the rule asks for it: a plan is read from its
+//! last step to its first, so that all of it is known when a step is met.
 
 ghost use Rattle.std.specs.Prelude.{◌≡◌, ◌≤◌, [], ◌∷◌};
 ghost use Rattle.std.specs.List.{All};

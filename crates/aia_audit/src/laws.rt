@@ -11,8 +11,8 @@ ghost use Rattle.aia_audit.specs.PlanTexts.{counted, Means};
 use crate::limits::PLAN_STEPS;
 use aia_plan::Kind;
 
-/// The plans of the hypervisor's core, step by step, are the accesses that it makes, in order and for
-/// every number of words.
+/// The plans of the hypervisor's core, step by step, are the accesses that it makes, in order and
+/// for every number of words.
 #[tactic(auto, using(crate::proofs::AccessLemmas::core_is))]
 pub fn the_plans_of_the_core_are_its_accesses()
     ensures { (kind : Kind) (words : ℕ) → map access_of (core_plan kind words)

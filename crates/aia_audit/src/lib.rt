@@ -1,5 +1,5 @@
-//! A plan of a move is judged: whether it keeps the rule, and so loses no interrupt whatever devices
-//! and other virtual harts store between its steps. Profile.
+//! A plan of a move is judged: whether it keeps the rule, and so loses no interrupt, whatever
+//! devices and other virtual harts store between its steps. Profile.
 #![tactic(auto)]
 
 mod behind;

@@ -3,7 +3,7 @@
 ghost use Rattle.std.specs.Prelude.{◌≡◌, ◌≤◌, ◌+◌, ◌*◌, length, [], ◌∷◌, ◌++◌};
 ghost use Rattle.std.specs.List.{All};
 ghost use Rattle.arrayvec.specs.ArrayVec.{array_vec_len};
-ghost use Rattle.aia_plan.specs.Plan.{IsWidth, IsInside, each_word, core_plan};
+ghost use Rattle.aia_plan.specs.Plan.{IsWidth, IsInside, each_word, all_words, core_plan};
 ghost use Rattle.aia_plan.specs.declared.step.Step.TheVariants.{TakeP, PutP, TakeE, PutE, Look};
 ghost use Rattle.aia_audit.specs.declared.limits.TheConstants.{PLAN_STEPS};
 
@@ -55,46 +55,63 @@ fn push_looks(out: &mut ArrayVec<Step, PLAN_STEPS>, words: u32)
     }
 }
 
-/// Appends the plan of a move of a kind, of files of so many words.
+/// Appends the steps that move each word of both sets.
+fn push_words(out: &mut ArrayVec<Step, PLAN_STEPS>, words: u32)
+    requires { array_vec_len out.old + 4 * words ≤ PLAN_STEPS }
+    ensures plan { out.new.items ≡ out.old.items ++ all_words words }
+    ensures length { array_vec_len out.new ≡ array_vec_len out.old + 4 * words }
+{
+    push_pending(out, words);
+    push_enables(out, words);
+}
+
+/// Appends the plan of a leave to `out`, which is empty.
+fn push_leave(out: &mut ArrayVec<Step, PLAN_STEPS>, words: u32)
+    requires few { words ≤ 32 }
+    requires empty { out.old.items ≡ [] }
+    ensures { out.new.items ≡ core_plan Kind.Leave words }
+{
+    push_steps(out, &[Step::Quiet, Step::Word1, Step::Word0, Step::Fence]);
+    push_steps(out, &[Step::Unmap, Step::GFence]);
+    push_words(out, words);
+    push_looks(out, words);
+    push_steps(out, &[Step::TakeT, Step::Post]);
+}
+
+/// Appends the plan of an arrival to `out`, which is empty.
+fn push_arrive(out: &mut ArrayVec<Step, PLAN_STEPS>, words: u32)
+    requires few { words ≤ 32 }
+    requires empty { out.old.items ≡ [] }
+    ensures { out.new.items ≡ core_plan Kind.Arrive words }
+{
+    push_steps(out, &[Step::Word0, Step::Fence, Step::Map, Step::GFence]);
+    push_words(out, words);
+    push_steps(out, &[Step::PutT, Step::Wake]);
+}
+
+/// Appends the plan of a shift to `out`, which is empty.
+fn push_shift(out: &mut ArrayVec<Step, PLAN_STEPS>, words: u32)
+    requires few { words ≤ 32 }
+    requires empty { out.old.items ≡ [] }
+    ensures { out.new.items ≡ core_plan Kind.Shift words }
+{
+    push_steps(out, &[Step::Quiet, Step::Word0, Step::Fence]);
+    push_steps(out, &[Step::Remap, Step::GFence]);
+    push_words(out, words);
+    push_steps(out, &[Step::TakeT, Step::PutT, Step::Wake]);
+}
+
+/// Appends the plan of a move of a kind to `out`, which is empty.
 fn push_plan(kind: Kind, words: u32, out: &mut ArrayVec<Step, PLAN_STEPS>)
     requires few { words ≤ 32 }
     requires empty { out.old.items ≡ [] }
     ensures { out.new.items ≡ core_plan kind words }
 {
-    let (first, last): (&[Step], &[Step]) = match kind {
-        Kind::Leave => (
-            &[
-                Step::Quiet,
-                Step::Word1,
-                Step::Word0,
-                Step::Fence,
-                Step::Unmap,
-                Step::GFence,
-            ],
-            &[Step::TakeT, Step::Post],
-        ),
-        Kind::Arrive => (
-            &[Step::Word0, Step::Fence, Step::Map, Step::GFence],
-            &[Step::PutT, Step::Wake],
-        ),
-        Kind::Shift => (
-            &[
-                Step::Quiet,
-                Step::Word0,
-                Step::Fence,
-                Step::Remap,
-                Step::GFence,
-            ],
-            &[Step::TakeT, Step::PutT, Step::Wake],
-        ),
-    };
-    push_steps(out, first);
-    push_pending(out, words);
-    push_enables(out, words);
-    if kind == Kind::Leave {
-        push_looks(out, words);
+    match kind {
+        Kind::Leave => push_leave(out, words),
+        Kind::Arrive => push_arrive(out, words),
+        Kind::Shift => push_shift(out, words),
     }
-    push_steps(out, last);
 }
 
 /// Appends the plan that the hypervisor's core makes for a move of a kind to `out`, which is empty:

@@ -80,8 +80,8 @@ impl Takes {
         }
     }
 
-    /// Gives what stands behind the step before one that takes a word or puts one, or neither; where
-    /// it takes one, `may` tells whether a word may be taken before the steps behind it.
+    /// Gives what stands behind the step before one that takes a word or puts one, or neither;
+    /// where it takes one, `may` tells whether a word may be taken before the steps behind it.
     #[tactic(auto, using(crate::proofs::TakesLemmas::may_take_bits))]
     pub fn with(self, taken: Option<u32>, put: Option<u32>, may: bool) -> Takes
         requires { IfSome taken (λ w. w < 32) }

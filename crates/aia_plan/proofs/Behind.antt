@@ -3,7 +3,7 @@ use Rattle.std.proofs.Common.{◌≡◌, ℕ, ◌<◌, Bool, true, false, not, �
 use Rattle.std.specs.List.{list_any, AllByRecursion}
 use Rattle.std.proofs.lemmas.Bool.{false≢true, eq-eqb, eqb-true, and_parts, not-true}
 use Rattle.aia_plan.specs.declared.step.Step.{Step}
-use Rattle.aia_plan.specs.declared.step.Step.TheVariants.{Quiet, Word1, Word0, Fence, Map, Unmap, Remap, GFence, TakeP, PutP, TakeE, PutE, Look, TakeT, PutT, Post, Wake}
+use Rattle.aia_plan.specs.declared.step.Step.TheVariants.{Word0, Fence, Map, Unmap, Remap, GFence, TakeP, TakeE}
 use Rattle.aia_plan.specs.Plan.{Plan, IsInside}
 use Rattle.aia_plan.specs.Rule.{is_step, is_same, are_paired, takes_pending, puts_pending, takes_enables, puts_enables}
 use Rattle.aia_plan.proofs.Invariant.{is_record}

@@ -1,12 +1,19 @@
 -- Runs after which an interrupt is lost, or was never asked for, or an enable is lost; and plans
 -- that look right and have such runs. Vocabulary: the laws of this crate speak of them.
-use Rattle.std.specs.Prelude.{◌≡◌, ℕ, ◌/◌, ◌<◌, Bool, true, false, ◌&&◌, nat_eq, List, [], ◌∷◌, ◌++◌}
+use Rattle.std.specs.Prelude.{◌≡◌, ℕ, ◌/◌, ◌<◌, Bool, true, false, not, ◌&&◌, nat_eq, List, [], ◌∷◌, ◌++◌, map}
 use Rattle.aia_plan.specs.Plan.{Plan}
+use Rattle.aia_plan.specs.Rule.{parts_kept}
+use Rattle.aia_plan.specs.declared.step.Kind.{Kind}
 use Rattle.aia_plan.specs.Transit.{Transit, Happening, is_identity, no_bits, all_happened, steps_of}
 use Rattle.aia_plan.specs.Transit.Side.{Old}
 use Rattle.aia_plan.specs.Transit.Happening.{Does, Stores, PeerStores}
 use Rattle.aia_plan.specs.Safe.{IsStart}
 use Rattle.aia_plan.specs.declared.step.Step.TheVariants.{Quiet, Word1, Word0, Fence, Map, Unmap, Remap, GFence, TakeP, PutP, TakeE, PutE, TakeT, PutT, Post, Wake}
+
+-- A plan of a move fails one part of the rule alone.
+abbrev pub FailsAlone : ℕ → Kind → ℕ → Plan → Type 0
+FailsAlone part kind words plan =
+    parts_kept kind words plan ≡ map (λ p. not (nat_eq p part)) (1 ∷ 2 ∷ 3 ∷ 4 ∷ [])
 
 -- A run of a plan, and what is left at its end of an identity of a file of so many words.
 pub record RunOf (words : ℕ) (plan : Plan) (i : ℕ) : Type 0 where

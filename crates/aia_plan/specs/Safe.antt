@@ -1,5 +1,5 @@
--- When a plan is safe: it loses nothing, doubles nothing and leaves nothing behind, whatever devices
--- and other virtual harts do, and wherever between its steps. Profile.
+-- When a plan is safe: it loses nothing, doubles nothing and leaves nothing behind, whatever
+-- devices and other virtual harts do, and wherever between its steps. Profile.
 use Rattle.std.specs.Prelude.{◌≡◌, ℕ, ◌/◌, ◌<◌, false, ◌&&◌, List, All}
 use Rattle.aia_plan.specs.Plan.{Plan}
 use Rattle.aia_plan.specs.Transit.{Side, Flight, Transit, Happening, is_identity, all_happened, steps_of}

@@ -1,12 +1,12 @@
 //! What the definitions of this crate mean, as laws: each function does nothing, and its clauses
 //! are what was proved.
 
-ghost use Rattle.std.specs.Prelude.{◌≡◌, ℕ, true, false, [], ◌∷◌, Some, None};
+ghost use Rattle.std.specs.Prelude.{◌≡◌, ℕ, Some, None};
 ghost use Rattle.std.specs.List.{All};
 ghost use Rattle.aia_plan.specs.Plan.{Plan, IsWidth, IsInside, core_plan};
-ghost use Rattle.aia_plan.specs.Rule.{parts_kept, failing};
+ghost use Rattle.aia_plan.specs.Rule.{failing};
 ghost use Rattle.aia_plan.specs.Safe.{IsSafe};
-ghost use Rattle.aia_plan.specs.Losses.{Loses, Doubles, LosesEnable, fence_too_early, gfence_too_early, taken_before_fence, taken_before_gfence, taken_together, enables_put_twice, leave_without_notice, leave_by_remap, taken_again};
+ghost use Rattle.aia_plan.specs.Losses.{FailsAlone, Loses, Doubles, LosesEnable, fence_too_early, gfence_too_early, taken_before_fence, taken_before_gfence, taken_together, enables_put_twice, leave_without_notice, leave_by_remap, taken_again};
 
 use crate::Kind;
 
@@ -45,24 +45,24 @@ pub fn a_plan_that_loses_is_not_safe()
 /// up in its place. Part 4: enables that are put twice.
 #[tactic(auto, using(crate::proofs::LossLemmas::fence_too_early_loses, crate::proofs::LossLemmas::gfence_too_early_loses, crate::proofs::LossLemmas::taken_before_fence_loses, crate::proofs::LossLemmas::taken_before_gfence_loses, crate::proofs::LossLemmas::taken_together_loses, crate::proofs::LossLemmas::taken_together_doubles, crate::proofs::LossLemmas::enables_put_twice_loses))]
 pub fn each_part_of_the_rule_is_needed()
-    ensures part_1_fence { (parts_kept Kind.Arrive 1 fence_too_early ≡ false ∷ true ∷ true ∷ true ∷ [])
+    ensures part_1_fence { FailsAlone 1 Kind.Arrive 1 fence_too_early
         × Loses 1 fence_too_early 5 }
-    ensures part_1_gfence { (parts_kept Kind.Arrive 1 gfence_too_early ≡ false ∷ true ∷ true ∷ true ∷ [])
+    ensures part_1_gfence { FailsAlone 1 Kind.Arrive 1 gfence_too_early
         × Loses 1 gfence_too_early 5 }
-    ensures part_2_fence { (parts_kept Kind.Arrive 1 taken_before_fence ≡ true ∷ false ∷ true ∷ true ∷ [])
+    ensures part_2_fence { FailsAlone 2 Kind.Arrive 1 taken_before_fence
         × Loses 1 taken_before_fence 5 }
-    ensures part_2_gfence { (parts_kept Kind.Arrive 1 taken_before_gfence ≡ true ∷ false ∷ true ∷ true ∷ [])
+    ensures part_2_gfence { FailsAlone 2 Kind.Arrive 1 taken_before_gfence
         × Loses 1 taken_before_gfence 5 }
-    ensures part_3 { (parts_kept Kind.Arrive 2 taken_together ≡ true ∷ true ∷ false ∷ true ∷ [])
+    ensures part_3 { FailsAlone 3 Kind.Arrive 2 taken_together
         × Loses 2 taken_together 69 × Doubles 2 taken_together 5 }
-    ensures part_4 { (parts_kept Kind.Arrive 1 enables_put_twice ≡ true ∷ true ∷ true ∷ false ∷ [])
+    ensures part_4 { FailsAlone 4 Kind.Arrive 1 enables_put_twice
         × LosesEnable 1 enables_put_twice 5 }
 {}
 
 /// The rule asks for more than safety does. A leave that does not say where notices go is refused,
 /// since a notice may then be lost, of which safety does not speak; so is a plan that writes the
-/// record by the step of a move of another kind, since the step then says what the plan does not do;
-/// and one that takes a pending word again, when nothing can be left of it.
+/// record by the step of a move of another kind, since the step then says what the plan does not
+/// do; and one that takes a pending word again, when nothing can be left of it.
 #[tactic(auto, using(crate::proofs::LossLemmas::leave_without_notice_is_safe, crate::proofs::LossLemmas::leave_by_remap_is_safe, crate::proofs::LossLemmas::taken_again_is_safe))]
 pub fn the_rule_asks_for_more_than_safety()
     ensures notice { (failing Kind.Leave 1 leave_without_notice ≡ Some 1)
