@@ -1,2 +1,4 @@
 pub mod Cursor
 pub mod Digits
+pub mod StepText
+pub mod StepForm

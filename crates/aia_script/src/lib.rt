@@ -1,4 +1,5 @@
-//! A script's text: what line a text spells, and how an answer is printed.
+//! A script's text: what line a text spells, and how an answer is printed. A plan's text: what step
+//! a text spells.
 //!
 //! `aia_model` states the grammar as a table of fields.
 #![tactic(auto)]
@@ -11,10 +12,13 @@ mod parts;
 mod pieces;
 mod print;
 mod spelling;
+mod steps;
 mod words;
 
 pub use aia_model::{Answer, Line, Parsed, Part, Refusal};
+pub use aia_plan::{Kind, Step};
 pub use aia_regs::{Csr, Op};
 pub use parse::parse_line;
 pub use print::print_answer;
 pub use spelling::print_line;
+pub use steps::parse_step;

@@ -1,0 +1,7 @@
+mod TakesLemmas
+mod RoutesLemmas
+mod LateLemmas
+mod BehindLemmas
+mod PlanLemmas
+mod AccessLemmas
+mod TextLemmas

@@ -1,0 +1,121 @@
+-- What the checker keeps of the steps behind a step, while it reads a plan from its end.
+-- Vocabulary.
+use Rattle.std.specs.Prelude.{ℕ, Bool, true, false, not, ◌&&◌, ◌||◌, nat_eq, List, [], ◌∷◌, Option, Some, None}
+use Rattle.std.specs.List.{list_any, list_all}
+use Rattle.aia_word.specs.Sets.{word_of}
+use Rattle.aia_plan.specs.Plan.{Plan}
+use Rattle.aia_plan.specs.Rule.{is_step, stands, other_records, is_same, takes_pending, puts_pending, takes_enables, puts_enables}
+use Rattle.aia_plan.specs.declared.step.Kind.{Kind}
+use Rattle.aia_plan.specs.declared.step.Kind.TheVariants as kinds
+use Rattle.aia_plan.specs.declared.step.Step.{Step}
+use Rattle.aia_plan.specs.declared.step.Step.TheVariants.{Word1, Word0, Fence, Map, Unmap, Remap, GFence}
+use Rattle.aia_audit.specs.declared.behind.Behind.{Behind}
+use Rattle.aia_audit.specs.declared.routes.Routes.{Routes}
+use Rattle.aia_audit.specs.declared.takes.Takes.{Takes}
+
+-- ---- the steps that turn the routes
+
+-- Whether a step of a plan writes the G-stage record.
+abbrev pub is_record : Step → Bool
+is_record x = is_step Map x || (is_step Unmap x || is_step Remap x)
+
+abbrev pub has_record : Plan → Bool
+has_record plan = list_any is_record plan
+
+-- The pairs of tests of which the second step must not have the first behind it: what stands once,
+-- and what comes first.
+abbrev pub orders : List ((Step → Bool) × (Step → Bool))
+orders =
+    (is_step Word1, is_step Word1) ∷ (is_step Word1, is_step Word0)
+    ∷ (is_step Word0, is_step Word0) ∷ (is_step Word0, is_step Fence)
+    ∷ (is_step Fence, is_step Fence) ∷ (is_record, is_record)
+    ∷ (is_record, is_step GFence) ∷ (is_step GFence, is_step GFence) ∷ []
+
+-- Whether a step may stand before others; whether each step of a plan may.
+abbrev pub fits_before : Step → Plan → Bool
+fits_before x later = list_all (λ pair. not (pair.1 x && list_any pair.0 later)) orders
+
+abbrev pub are_in_order : Plan → Bool
+are_in_order [] = true
+are_in_order (x ∷ later) = are_in_order later && fits_before x later
+
+-- Whether a move of a kind says where notices go.
+abbrev pub is_leave : Kind → Bool
+is_leave kinds.Leave = true
+is_leave kind = false
+
+abbrev pub routes_behind : Kind → Plan → Routes
+routes_behind kind plan = record {
+  word1 = stands Word1 plan;
+  word0 = stands Word0 plan;
+  fence = stands Fence plan;
+  any_record = has_record plan;
+  other_record = list_any (λ step. stands step plan) (other_records kind);
+  gfence = stands GFence plan;
+  in_order = are_in_order plan;
+}
+
+-- ---- the steps that take and put words of a set
+
+-- Whether a word is the one that is there.
+abbrev pub names : Option ℕ → ℕ → Bool
+names None w = false
+names (Some v) w = nat_eq v w
+
+-- Whether a step takes word w.
+abbrev pub is_taken : (Step → Option ℕ) → ℕ → Plan → Bool
+is_taken takes w plan = list_any (λ x. names (takes x) w) plan
+
+-- Whether a word that is taken may be taken before the steps behind it: by a test of them, and it
+-- is not taken among them too.
+abbrev pub may_take : Option ℕ → Bool → (ℕ → Bool) → Bool
+may_take None may again = true
+may_take (Some w) may again = may && not (again w)
+
+-- Whether each word that is taken may be.
+abbrev pub all_may_take : (Step → Option ℕ) → (Plan → Bool) → Plan → Bool
+all_may_take takes may [] = true
+all_may_take takes may (x ∷ later) =
+    may_take (takes x) (may later) (λ w. is_taken takes w later) && all_may_take takes may later
+
+-- The word that the first step puts.
+abbrev pub first_put : (Step → Option ℕ) → Plan → Option ℕ
+first_put puts [] = None
+first_put puts (x ∷ later) = puts x
+
+-- Whether each step that takes a word has one that puts it right behind it, and no other step but
+-- the first puts one.
+abbrev pub are_paired_behind : (Step → Option ℕ) → (Step → Option ℕ) → Plan → Bool
+are_paired_behind takes puts [] = true
+are_paired_behind takes puts (x ∷ later) =
+    is_same (takes x) (first_put puts later) && are_paired_behind takes puts later
+
+abbrev pub takes_behind : (Step → Option ℕ) → (Step → Option ℕ) → (Plan → Bool) → Plan → Takes
+takes_behind takes puts may plan = record {
+  taken = word_of (λ w. is_taken takes w plan) 0 32;
+  in_order = all_may_take takes may plan;
+  put = first_put puts plan;
+  is_paired = are_paired_behind takes puts plan;
+}
+
+-- Pending words may be taken before no fence, enables before all steps.
+abbrev pub is_late : Plan → Bool
+is_late later = not (stands Fence later) && not (stands GFence later)
+
+abbrev pub is_any_time : Plan → Bool
+is_any_time later = true
+
+abbrev pub pending_behind : Plan → Takes
+pending_behind = takes_behind takes_pending puts_pending is_late
+
+abbrev pub enables_behind : Plan → Takes
+enables_behind = takes_behind takes_enables puts_enables is_any_time
+
+-- ---- all of it
+
+abbrev pub behind : Kind → Plan → Behind
+behind kind plan = record {
+  routes = routes_behind kind plan;
+  pending = pending_behind plan;
+  enables = enables_behind plan;
+}

@@ -1,0 +1,5 @@
+pub mod Plan
+pub mod Rule
+pub mod Transit
+pub mod Safe
+pub mod Losses

@@ -1,0 +1,8 @@
+use Rattle.std.proofs.Common.{◌≡◌, map, drop}
+use Rattle.aia_model.specs.Reading.{row_of}
+use Rattle.aia_script.specs.StepForm.{form_of}
+use Rattle.aia_script.specs.StepText.{step_forms}
+use Rattle.aia_script.proofs.steps.named.Given as goal
+
+abbrev pub invariant-loop-name : goal.invariant-loop-name
+invariant-loop-name l = row_of (map (λ row. (row.0.now, form_of row.1)) (drop l.name-index l.name-items)) l.word ≡ row_of step_forms l.fn.word

@@ -1,0 +1,13 @@
+-- What follows the name of a step, given a step of that name. Vocabulary.
+use Rattle.aia_plan.specs.declared.step.Step.{Step}
+use Rattle.aia_plan.specs.declared.step.Step.TheVariants.{TakeP, PutP, TakeE, PutE, Look}
+use Rattle.aia_script.specs.StepText.{Form}
+use Rattle.aia_script.specs.StepText.Form.{Alone, OfWord}
+
+abbrev pub form_of : Step → Form
+form_of (TakeP w) = OfWord TakeP
+form_of (PutP w) = OfWord PutP
+form_of (TakeE w) = OfWord TakeE
+form_of (PutE w) = OfWord PutE
+form_of (Look w) = OfWord Look
+form_of step = Alone step
