@@ -228,12 +228,7 @@ fn the_core_saves_and_loads_images(rt: HostRuntime) -> Result<(), Fail> {
     let mut core = Hyp::new(rt.alloc(), 1, 1, 63)?;
     same!(rt; core.vm(2, 0x8, 0), Ok(()));
     same!(rt; core.host(Level::Host, 0, Csr::Select, Op::Write(0x80)), Ok(0));
-    let loads = [
-        (IMAGE[3], 4),
-        (IMAGE[2], 0),
-        (IMAGE[1], 0),
-        (IMAGE[0], 0),
-    ];
+    let loads = [(IMAGE[3], 4), (IMAGE[2], 0), (IMAGE[1], 0), (IMAGE[0], 0)];
     for (part, told) in loads {
         same!(rt; core.load_part(0, 1, &part), Ok(()));
         same!(rt; core.host(Level::Host, 0, Csr::Reg, Op::Write(0)), Ok(told));

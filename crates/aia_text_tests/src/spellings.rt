@@ -2,7 +2,9 @@
 
 use crate::same;
 use aia_entry::Entry;
-use aia_script::{Answer, Csr, Line, Op, Parsed, Part, Refusal, parse_line, print_answer, print_line};
+use aia_script::{
+    Answer, Csr, Line, Op, Parsed, Part, Refusal, parse_line, print_answer, print_line,
+};
 use arrayvec::ArrayVec;
 use std::process::Abort;
 
