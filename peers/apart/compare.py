@@ -1,0 +1,156 @@
+#!/usr/bin/env python3
+"""Compares a program with the model, over the random scripts of some seeds.
+
+    compare.py PROGRAM FIRST_SEED LAST_SEED [--without-images] [--mood MOOD] [--lines N]
+               [--plant NAME] [--until-told] [--keep FOLDER] [--processes N]
+
+For each seed the script of it, of 300 to 400 lines or of N, is given to `PROGRAM replay` and to
+the model, and the answers are compared byte for byte. Of each script that differs the first
+difference is printed; at the end, how many scripts and answers there were, and of each form of line
+how many were accepted, refused (with which word), and differed. With `--plant` the model is changed
+by one rule (plants.py); `--until-told` ends with the first difference.
+"""
+
+import argparse
+import os
+import random
+import selectors
+import subprocess
+import sys
+import time
+from collections import Counter
+from multiprocessing import Pool
+from pathlib import Path
+
+import model
+import plants
+import reading
+from random_scripts import MOODS, random_script
+
+TIME_LIMIT = 20
+OUTPUT_LIMIT = 16 << 20
+REFUSALS = {"bad", "nomachine", "again", "range", "full", "busy", "home", "entered", "parked",
+            "nofile",
+            "passed", "unready", "idle", "away", "illegal", "virtual", "fault", "guarded", "other",
+            "notvalid", "gfault"}
+
+
+def script_of(seed, options):
+    """The script of a seed."""
+    count = options.lines or random.Random(f"length {seed}").randint(300, 400)
+    return random_script(seed, count, options.without_images, options.mood)
+
+
+def run(program, script):
+    """What the program prints for a script, within the limits, and how it ended."""
+    source = os.memfd_create("script")
+    os.write(source, script)
+    os.lseek(source, 0, os.SEEK_SET)
+    deadline, found = time.monotonic() + TIME_LIMIT, bytearray()
+    with subprocess.Popen([program, "replay"], stdin=source, stdout=subprocess.PIPE,
+                          stderr=subprocess.DEVNULL) as process:
+        os.close(source)
+        waits = selectors.DefaultSelector()
+        waits.register(process.stdout, selectors.EVENT_READ)
+        while len(found) <= OUTPUT_LIMIT:
+            if not waits.select(max(0, deadline - time.monotonic())):
+                process.kill()
+                return bytes(found), "too slow"
+            piece = os.read(process.stdout.fileno(), 65536)
+            if not piece:
+                status = process.wait(TIME_LIMIT)
+                return bytes(found), "status %d" % status if status else None
+            found += piece
+        process.kill()
+        return bytes(found), "too much output"
+
+
+def answered(script):
+    """The lines of a script that have an answer, with their forms."""
+    for place, text in enumerate(reading.texts(script), 1):
+        line = reading.read(text)
+        if line is not None:
+            yield place, text, line[0]
+
+
+def is_refused(form, answer):
+    """Whether an answer is a refusal: `notvalid` of `entry` is none."""
+    return answer in REFUSALS and (form != "entry" or answer in ("bad", "nomachine"))
+
+
+def first_difference(seed, script, wanted, found, ended):
+    """The first line whose answers differ."""
+    ours, theirs = wanted.split(b"\n"), found.split(b"\n")
+    for index, (place, text, form) in enumerate(answered(script)):
+        got = theirs[index] if index < len(theirs) else b"(no answer)"
+        if ours[index] != got:
+            line, got = (given.decode(errors="backslashreplace") for given in (text, got))
+            return form, (f"seed {seed} line {place}: {line}: wanted {ours[index].decode()}, "
+                          f"got {got}" + (f" ({ended})" if ended else ""))
+    return "end", f"seed {seed}: the end differs ({ended}, {len(wanted)} and {len(found)} bytes)"
+
+
+def compare(work):
+    """One seed: its counts and, where there is one, its difference."""
+    seed, options = work
+    script = script_of(seed, options)
+    wanted = model.answers(script)
+    found, ended = run(options.program, script)
+    counts = Counter()
+    for (_, _, form), answer in zip(answered(script), wanted.decode().split("\n")):
+        counts[form, answer if is_refused(form, answer) else ""] += 1
+    if wanted == found and not ended:
+        return seed, counts, None
+    if options.keep:
+        options.keep.mkdir(parents=True, exist_ok=True)
+        (options.keep / f"{seed}.script").write_bytes(script)
+    return seed, counts, first_difference(seed, script, wanted, found, ended)
+
+
+def show(counts, differing):
+    """The table by forms of line."""
+    forms = sorted({form for form, _ in counts})
+    for form in forms:
+        words = {word: count for (other, word), count in counts.items() if other == form}
+        refused = " ".join(f"{word} {count}" for word, count in sorted(words.items()) if word)
+        accepted = words.pop("", 0)
+        print(f"{form:13} accepted {accepted:8} refused {sum(words.values()):8}"
+              f" differ {differing[form]:5}  {refused}")
+
+
+def main():
+    words = argparse.ArgumentParser()
+    words.add_argument("program")
+    words.add_argument("first", type=int)
+    words.add_argument("last", type=int)
+    words.add_argument("--without-images", action="store_true")
+    words.add_argument("--mood", choices=MOODS)
+    words.add_argument("--lines", type=int)
+    words.add_argument("--plant", choices=plants.PLANTS)
+    words.add_argument("--until-told", action="store_true")
+    words.add_argument("--keep", type=Path)
+    words.add_argument("--processes", type=int, default=2, choices=range(1, 65), metavar="N")
+    options = words.parse_args()
+    if options.plant:
+        plants.plant(options.plant)
+    counts, differing, scripts, told = Counter(), Counter(), 0, 0
+    work = ((seed, options) for seed in range(options.first, options.last + 1))
+    with Pool(options.processes) as pool:
+        for seed, found, difference in pool.imap_unordered(compare, work, chunksize=8):
+            scripts += 1
+            counts += found
+            if difference:
+                told += 1
+                differing[difference[0]] += 1
+                print(difference[1], flush=True)
+                if options.until_told:
+                    break
+        pool.terminate()
+    print(f"scripts {scripts}, answers {sum(counts.values())}, scripts that differ {told}")
+    if not options.until_told:
+        show(counts, differing)
+    return 1 if told else 0
+
+
+if __name__ == "__main__":
+    sys.exit(main())
