@@ -1,7 +1,6 @@
 ghost use Rattle.std.specs.Prelude.{◌≡◌, ◌≢◌, ◌↔◌, ◌⊎◌, ◌+◌, ℕ, Some, None};
 ghost use Rattle.aia_io.specs.Ends.{Rose};
-ghost use Rattle.aia_generate.specs.Summary.{summary};
-ghost use Rattle.aia_replay.specs.Runs.{asked, EndsWith, EndsWithSummary, StopsAtMachine, Takes, WritesAnswers, TakesAll, TouchesNothing, FitsIn, IsDoneOrMemory};
+ghost use Rattle.aia_replay.specs.Runs.{asked, Ends, StopsAtMachine, WritesAnswers, TakesAll, FitsIn, IsDoneOrMemory};
 ghost use Rattle.aia_replay.specs.Streams.{Begins};
 
 use crate::generator::summarize;
@@ -48,29 +47,13 @@ pub fn run<S: Source, K: Sink>(
     ensures all { asked words.now ≡ Some Subcommand.Replay → result ≡ Status.Done
         → TakesAll (S.supply source.old) (S.supply source.new) }
 
-    // What every ending promises: its cause, what was then written, and how much was taken.
-    ensures replays { asked words.now ≡ Some Subcommand.Replay
-        → EndsWith result (S.supply source.old) (S.supply source.new) (K.taken sink.old)
-        (K.taken sink.new) (S.faults source.old) (S.faults source.new) (K.faults sink.old)
-        (K.faults sink.new) }
-    ensures generates { (count seed : ℕ)
-        → asked words.now ≡ Some (Subcommand.Generate count seed)
-        → (source.new ≡ source.old) × EndsWithSummary result (summary count seed) (K.taken sink.old)
-        (K.taken sink.new) (K.faults sink.old) (K.faults sink.new) }
-
-    // Why it ends otherwise, whatever the words ask for. Memory may lack for the words, or for a
-    // generated script, and nothing was touched then; or for a machine that the script asks for.
-    ensures read_fault { result ≡ Status.ReadFault
-        → Rose (S.faults source.old) (S.faults source.new) }
-    ensures write_fault { result ≡ Status.WriteFault
-        → Rose (K.faults sink.old) (K.faults sink.new) }
-    ensures memory { result ≡ Status.Memory
-        → TouchesNothing (S.supply source.old) (S.supply source.new) (K.taken sink.old)
-        (K.taken sink.new)
-        ⊎ StopsAtMachine (S.supply source.old) (S.supply source.new) (K.taken sink.old)
-        (K.taken sink.new) }
-    ensures too_long { result ≡ Status.TooLong
-        → Takes (SCRIPT_BYTES + 1) (S.supply source.old) (S.supply source.new) }
+    // What every ending promises, by what the words ask for: its cause, what was then written, and
+    // how much was taken.
+    ensures ends { Ends (asked words.now) result (S.supply source.old) (S.supply source.new)
+        (K.taken sink.old) (K.taken sink.new) (S.faults source.old) (S.faults source.new)
+        (K.faults sink.old) (K.faults sink.new) }
+    ensures unread { (count seed : ℕ) → asked words.now ≡ Some (Subcommand.Generate count seed)
+        → source.new ≡ source.old }
 
     // Where there is memory for them, words are refused exactly by `Usage`; nothing is touched
     // then.
@@ -102,9 +85,9 @@ fn replay<S: Source, K: Sink>(alloc: Global, source: &mut S, sink: &mut K) -> St
     ensures usage { result ≢ Status.Usage }
     ensures machine { result ≡ Status.Memory → StopsAtMachine (S.supply source.old)
         (S.supply source.new) (K.taken sink.old) (K.taken sink.new) }
-    ensures ends { EndsWith result (S.supply source.old) (S.supply source.new) (K.taken sink.old)
-        (K.taken sink.new) (S.faults source.old) (S.faults source.new) (K.faults sink.old)
-        (K.faults sink.new) }
+    ensures ends { Ends (Some Subcommand.Replay) result (S.supply source.old)
+        (S.supply source.new) (K.taken sink.old) (K.taken sink.new) (S.faults source.old)
+        (S.faults source.new) (K.faults sink.old) (K.faults sink.new) }
 {
     let mut replayer = Replayer::new();
     replay_by(&mut replayer, alloc, source, sink)
@@ -122,9 +105,9 @@ fn replay_by<S: Source, K: Sink>(
     ensures usage { result ≢ Status.Usage }
     ensures machine { result ≡ Status.Memory → StopsAtMachine (S.supply source.old)
         (S.supply source.new) (K.taken sink.old) (K.taken sink.new) }
-    ensures ends { EndsWith result (S.supply source.old) (S.supply source.new) (K.taken sink.old)
-        (K.taken sink.new) (S.faults source.old) (S.faults source.new) (K.faults sink.old)
-        (K.faults sink.new) }
+    ensures ends { Ends (Some Subcommand.Replay) result (S.supply source.old)
+        (S.supply source.new) (K.taken sink.old) (K.taken sink.new) (S.faults source.old)
+        (S.faults source.new) (K.faults sink.old) (K.faults sink.new) }
 {
     match replayer.read_all(alloc, source, sink) {
         Ok(status) => status,
