@@ -52,100 +52,29 @@ one_below bars passes u (suc n) low = elim (cases_eq u n) [
 -- ---- steps that take a word
 
 pending_named : (w : ℕ) (x : Step) → is_step (TakeP w) x ≡ names (takes_pending x) w
-pending_named w Quiet = refl
-pending_named w Word1 = refl
-pending_named w Word0 = refl
-pending_named w Fence = refl
-pending_named w Map = refl
-pending_named w Unmap = refl
-pending_named w Remap = refl
-pending_named w GFence = refl
 pending_named w (TakeP v) = refl
-pending_named w (PutP v) = refl
-pending_named w (TakeE v) = refl
-pending_named w (PutE v) = refl
-pending_named w (Look v) = refl
-pending_named w TakeT = refl
-pending_named w PutT = refl
-pending_named w Post = refl
-pending_named w Wake = refl
+pending_named w x = refl
 
 enables_named : (w : ℕ) (x : Step) → is_step (TakeE w) x ≡ names (takes_enables x) w
-enables_named w Quiet = refl
-enables_named w Word1 = refl
-enables_named w Word0 = refl
-enables_named w Fence = refl
-enables_named w Map = refl
-enables_named w Unmap = refl
-enables_named w Remap = refl
-enables_named w GFence = refl
-enables_named w (TakeP v) = refl
-enables_named w (PutP v) = refl
 enables_named w (TakeE v) = refl
-enables_named w (PutE v) = refl
-enables_named w (Look v) = refl
-enables_named w TakeT = refl
-enables_named w PutT = refl
-enables_named w Post = refl
-enables_named w Wake = refl
+enables_named w x = refl
 
 pending_inside : (words : ℕ) (x : Step) → IsInside words x → IfSome (takes_pending x) (λ w. w < words)
-pending_inside words Quiet inside = tt
-pending_inside words Word1 inside = tt
-pending_inside words Word0 inside = tt
-pending_inside words Fence inside = tt
-pending_inside words Map inside = tt
-pending_inside words Unmap inside = tt
-pending_inside words Remap inside = tt
-pending_inside words GFence inside = tt
 pending_inside words (TakeP v) inside = inside
-pending_inside words (PutP v) inside = tt
-pending_inside words (TakeE v) inside = tt
-pending_inside words (PutE v) inside = tt
-pending_inside words (Look v) inside = tt
-pending_inside words TakeT inside = tt
-pending_inside words PutT inside = tt
-pending_inside words Post inside = tt
-pending_inside words Wake inside = tt
+pending_inside words x inside = tt
 
 enables_inside : (words : ℕ) (x : Step) → IsInside words x → IfSome (takes_enables x) (λ w. w < words)
-enables_inside words Quiet inside = tt
-enables_inside words Word1 inside = tt
-enables_inside words Word0 inside = tt
-enables_inside words Fence inside = tt
-enables_inside words Map inside = tt
-enables_inside words Unmap inside = tt
-enables_inside words Remap inside = tt
-enables_inside words GFence inside = tt
-enables_inside words (TakeP v) inside = tt
-enables_inside words (PutP v) inside = tt
 enables_inside words (TakeE v) inside = inside
-enables_inside words (PutE v) inside = tt
-enables_inside words (Look v) inside = tt
-enables_inside words TakeT inside = tt
-enables_inside words PutT inside = tt
-enables_inside words Post inside = tt
-enables_inside words Wake inside = tt
+enables_inside words x inside = tt
 
 -- a step of a file with fewer words is one of a file with more
 pub inside_more : (words more : ℕ) → words ≤ more → (x : Step) → IsInside words x → IsInside more x
-inside_more words more most Quiet inside = tt
-inside_more words more most Word1 inside = tt
-inside_more words more most Word0 inside = tt
-inside_more words more most Fence inside = tt
-inside_more words more most Map inside = tt
-inside_more words more most Unmap inside = tt
-inside_more words more most Remap inside = tt
-inside_more words more most GFence inside = tt
 inside_more words more most (TakeP v) inside = omega arith
 inside_more words more most (PutP v) inside = omega arith
 inside_more words more most (TakeE v) inside = omega arith
 inside_more words more most (PutE v) inside = omega arith
 inside_more words more most (Look v) inside = omega arith
-inside_more words more most TakeT inside = tt
-inside_more words more most PutT inside = tt
-inside_more words more most Post inside = tt
-inside_more words more most Wake inside = tt
+inside_more words more most x inside = tt
 
 -- ---- each word by itself
 

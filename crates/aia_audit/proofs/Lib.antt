@@ -3,3 +3,5 @@ mod RoutesLemmas
 mod LateLemmas
 mod BehindLemmas
 mod PlanLemmas
+mod AccessLemmas
+mod TextLemmas

@@ -4,6 +4,7 @@
 
 mod behind;
 mod judge;
+pub mod laws;
 pub mod limits;
 mod plans;
 mod routes;

@@ -1,8 +1,9 @@
 //! The plans of the hypervisor's core, as steps.
 
 ghost use Rattle.std.specs.Prelude.{◌≡◌, ◌≤◌, ◌+◌, ◌*◌, length, [], ◌∷◌, ◌++◌};
+ghost use Rattle.std.specs.List.{All};
 ghost use Rattle.arrayvec.specs.ArrayVec.{array_vec_len};
-ghost use Rattle.aia_plan.specs.Plan.{IsWidth, each_word, all_words, core_plan};
+ghost use Rattle.aia_plan.specs.Plan.{IsWidth, IsInside, each_word, core_plan};
 ghost use Rattle.aia_plan.specs.declared.step.Step.TheVariants.{TakeP, PutP, TakeE, PutE, Look};
 ghost use Rattle.aia_audit.specs.declared.limits.TheConstants.{PLAN_STEPS};
 
@@ -54,13 +55,11 @@ fn push_looks(out: &mut ArrayVec<Step, PLAN_STEPS>, words: u32)
     }
 }
 
-/// Appends the plan that the hypervisor's core makes for a move of a kind to `out`, which is empty:
-/// for files whose sets have `words` words of 64 identities, which is 1, 2, 4, 8, 16 or 32. Nothing
-/// is allocated. Profile.
-pub fn names(kind: Kind, words: u32, out: &mut ArrayVec<Step, PLAN_STEPS>)
-    requires width { IsWidth words }
+/// Appends the plan of a move of a kind, of files of so many words.
+fn push_plan(kind: Kind, words: u32, out: &mut ArrayVec<Step, PLAN_STEPS>)
+    requires few { words ≤ 32 }
     requires empty { out.old.items ≡ [] }
-    ensures plan { out.new.items ≡ core_plan kind words }
+    ensures { out.new.items ≡ core_plan kind words }
 {
     let (first, last): (&[Step], &[Step]) = match kind {
         Kind::Leave => (
@@ -96,4 +95,16 @@ pub fn names(kind: Kind, words: u32, out: &mut ArrayVec<Step, PLAN_STEPS>)
         push_looks(out, words);
     }
     push_steps(out, last);
+}
+
+/// Appends the plan that the hypervisor's core makes for a move of a kind to `out`, which is empty:
+/// for files whose sets have `words` words of 64 identities, which is 1, 2, 4, 8, 16 or 32. Nothing
+/// is allocated. Profile.
+pub fn names(kind: Kind, words: u32, out: &mut ArrayVec<Step, PLAN_STEPS>)
+    requires width { IsWidth words }
+    requires empty { out.old.items ≡ [] }
+    ensures plan { out.new.items ≡ core_plan kind words }
+    ensures inside { All (IsInside words) out.new.items }
+{
+    push_plan(kind, words, out);
 }

@@ -1,9 +1,14 @@
--- The plans of the core keep the rule: for each kind and each number of words it is computed.
-use Rattle.std.proofs.Common.{◌≡◌, ℕ, None, inl, inr, refl, sym, subst}
+-- The plans of the core keep the rule: for each kind and each number of words it is computed. And
+-- they name words of the file alone.
+use Rattle.std.proofs.Common.{◌≡◌, ℕ, zero, suc, ◌+◌, ◌<◌, ◌≤◌, [], ◌∷◌, ◌++◌, None, inl, inr, refl, sym, subst, arith}
+use Rattle.std.specs.List.{All, AllByRecursion}
 use Rattle.aia_plan.specs.declared.step.Kind.{Kind}
 use Rattle.aia_plan.specs.declared.step.Kind.TheVariants.{Leave, Arrive, Shift}
-use Rattle.aia_plan.specs.Plan.{IsWidth, core_plan}
+use Rattle.aia_plan.specs.declared.step.Step.{Step}
+use Rattle.aia_plan.specs.declared.step.Step.TheVariants.{Quiet, Word1, Word0, Fence, Map, Unmap, Remap, GFence, TakeP, PutP, TakeE, PutE, Look, TakeT, PutT, Post, Wake}
+use Rattle.aia_plan.specs.Plan.{Plan, IsWidth, IsInside, each_word, all_words, core_plan}
 use Rattle.aia_plan.specs.Rule.{failing}
+use Rattle.aia_plan.proofs.Throughout.{by_place}
 
 -- what holds of the six numbers of words holds of each
 pub of_width : (P : ℕ → Type 0) → P 1 → P 2 → P 4 → P 8 → P 16 → P 32 → (words : ℕ) → IsWidth words → P words
@@ -18,3 +23,39 @@ pub plans_keep : (kind : Kind) (words : ℕ) → IsWidth words → failing kind 
 plans_keep Leave = of_width (λ words. failing Leave words (core_plan Leave words) ≡ None) refl refl refl refl refl refl
 plans_keep Arrive = of_width (λ words. failing Arrive words (core_plan Arrive words) ≡ None) refl refl refl refl refl refl
 plans_keep Shift = of_width (λ words. failing Shift words (core_plan Shift words) ≡ None) refl refl refl refl refl refl
+
+-- ---- the words that they name
+
+appended : (P : Step → Type 0) (xs ys : Plan) → AllByRecursion P xs → AllByRecursion P ys → AllByRecursion P (xs ++ ys)
+appended P [] ys all others = others
+appended P (x ∷ xs) ys all others = (all.0, appended P xs ys all.1 others)
+
+each_inside : (words : ℕ) (of_word : ℕ → Plan) → ((w : ℕ) → w < words → AllByRecursion (IsInside words) (of_word w)) → (from count : ℕ) → from + count ≤ words → AllByRecursion (IsInside words) (each_word of_word from count)
+each_inside words of_word each from zero most = tt
+each_inside words of_word each from (suc count) most = appended (IsInside words) (of_word from) (each_word of_word (suc from) count) (each from (omega arith)) (each_inside words of_word each (suc from) count (omega arith))
+
+all_inside : (words : ℕ) → AllByRecursion (IsInside words) (all_words words)
+all_inside words =
+    appended (IsInside words) (each_word (λ w. TakeP w ∷ PutP w ∷ []) 0 words) (each_word (λ w. TakeE w ∷ PutE w ∷ []) 0 words)
+    (each_inside words (λ w. TakeP w ∷ PutP w ∷ []) (λ w low. (low, (low, tt))) 0 words (omega arith))
+    (each_inside words (λ w. TakeE w ∷ PutE w ∷ []) (λ w low. (low, (low, tt))) 0 words (omega arith))
+
+looks_inside : (words : ℕ) → AllByRecursion (IsInside words) (each_word (λ w. Look w ∷ []) 0 words)
+looks_inside words = each_inside words (λ w. Look w ∷ []) (λ w low. (low, tt)) 0 words (omega arith)
+
+-- steps in front, all words, and steps at the end
+around : (words : ℕ) (front last : Plan) → AllByRecursion (IsInside words) front → AllByRecursion (IsInside words) last → AllByRecursion (IsInside words) (front ++ all_words words ++ last)
+around words front last first end = appended (IsInside words) (front ++ all_words words) last (appended (IsInside words) front (all_words words) first (all_inside words)) end
+
+core_inside : (kind : Kind) (words : ℕ) → AllByRecursion (IsInside words) (core_plan kind words)
+core_inside Leave words =
+    let front : Plan = Quiet ∷ Word1 ∷ Word0 ∷ Fence ∷ Unmap ∷ GFence ∷ [] in
+    let looks : Plan = each_word (λ w. Look w ∷ []) 0 words in
+    appended (IsInside words) (front ++ all_words words ++ looks) (TakeT ∷ Post ∷ [])
+    (around words front looks (tt, (tt, (tt, (tt, (tt, (tt, tt)))))) (looks_inside words))
+    (tt, (tt, tt))
+core_inside Arrive words = around words (Word0 ∷ Fence ∷ Map ∷ GFence ∷ []) (PutT ∷ Wake ∷ []) (tt, (tt, (tt, (tt, tt)))) (tt, (tt, tt))
+core_inside Shift words = around words (Quiet ∷ Word0 ∷ Fence ∷ Remap ∷ GFence ∷ []) (TakeT ∷ PutT ∷ Wake ∷ []) (tt, (tt, (tt, (tt, (tt, tt))))) (tt, (tt, (tt, tt)))
+
+pub core_is_inside : (kind : Kind) (words : ℕ) → All (IsInside words) (core_plan kind words)
+core_is_inside kind words = by_place (IsInside words) (core_plan kind words) (core_inside kind words)

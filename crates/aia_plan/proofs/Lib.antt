@@ -6,3 +6,4 @@ pub mod Behind
 mod RunKept
 pub mod RuleIsSafe
 pub mod CorePlans
+mod LossLemmas

@@ -155,10 +155,4 @@ step_kept words first (TakeP w) rest z guard v = record { routed = v.routed; pen
 step_kept words first (PutP w) rest z guard v = record { routed = v.routed; pended = put_pending words w (λ u. stands (TakeP u) rest) (stands Fence rest) (stands GFence rest) z.due z.old_pending z.new_pending z.carried_pending v.pended; enabled = v.enabled }
 step_kept words first (TakeE w) rest z guard v = record { routed = v.routed; pended = v.pended; enabled = take_enables words w (λ u. stands (TakeE u) rest) first z.old_enabled z.new_enabled z.carried_enables guard v.enabled }
 step_kept words first (PutE w) rest z guard v = record { routed = v.routed; pended = v.pended; enabled = put_enables words w (λ u. stands (TakeE u) rest) first z.old_enabled z.new_enabled z.carried_enables v.enabled }
-step_kept words first Quiet rest z guard v = record { routed = v.routed; pended = v.pended; enabled = v.enabled }
-step_kept words first Word1 rest z guard v = record { routed = v.routed; pended = v.pended; enabled = v.enabled }
-step_kept words first (Look w) rest z guard v = record { routed = v.routed; pended = v.pended; enabled = v.enabled }
-step_kept words first TakeT rest z guard v = record { routed = v.routed; pended = v.pended; enabled = v.enabled }
-step_kept words first PutT rest z guard v = record { routed = v.routed; pended = v.pended; enabled = v.enabled }
-step_kept words first Post rest z guard v = record { routed = v.routed; pended = v.pended; enabled = v.enabled }
-step_kept words first Wake rest z guard v = record { routed = v.routed; pended = v.pended; enabled = v.enabled }
+step_kept words first x rest z guard v = record { routed = v.routed; pended = v.pended; enabled = v.enabled }

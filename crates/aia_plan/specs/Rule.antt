@@ -138,9 +138,12 @@ abbrev pub first_failing : ℕ → List Bool → Option ℕ
 first_failing part [] = None
 first_failing part (holds ∷ later) = if holds then first_failing (suc part) later else Some part
 
--- The part that a plan fails, the least of them, of a move of a kind between files of so many
--- words; None where it keeps the rule.
+-- Of each part, whether the plan of a move of a kind between files of so many words keeps it.
+abbrev pub parts_kept : Kind → ℕ → Plan → List Bool
+parts_kept kind words plan =
+    turns_routes kind plan ∷ takes_late words plan ∷ puts_at_once plan
+    ∷ moves_enables words plan ∷ []
+
+-- The least part that it fails; None where it keeps the rule.
 abbrev pub failing : Kind → ℕ → Plan → Option ℕ
-failing kind words plan =
-    first_failing 1 (turns_routes kind plan ∷ takes_late words plan ∷ puts_at_once plan
-    ∷ moves_enables words plan ∷ [])
+failing kind words plan = first_failing 1 (parts_kept kind words plan)

@@ -59,3 +59,10 @@ pub enum Step {
     /// `wake`: puts eidelivery in the new place.
     Wake,
 }
+
+/// A step that changes nothing; arrays of a fixed capacity need one where none stands yet.
+impl Default for Step {
+    fn default() -> Step {
+        Step::Quiet
+    }
+}

@@ -1,5 +1,6 @@
-//! The tests of texts: the words of the command line, lines that are read, lines and answers that
-//! are printed, and generated scripts, each with ample memory.
+//! The tests of texts: the words of the command line, lines and steps of plans that are read, lines
+//! and answers that are printed, generated scripts, and plans that are judged, each with ample
+//! memory.
 #![tactic(auto)]
 
 #[cfg(test)]
@@ -8,5 +9,7 @@ mod command_lines;
 mod generated_scripts;
 #[cfg(test)]
 mod looks;
+#[cfg(test)]
+mod plans;
 #[cfg(test)]
 mod spellings;

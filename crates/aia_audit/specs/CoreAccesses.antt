@@ -1,0 +1,34 @@
+-- The steps of plans as the accesses of the hypervisor's core. Vocabulary.
+use Rattle.std.specs.Prelude.{ℕ, List}
+use Rattle.aia_plan.specs.declared.step.Kind.{Kind}
+use Rattle.aia_plan.specs.declared.step.Kind.TheVariants as kinds
+use Rattle.aia_plan.specs.declared.step.Step.{Step}
+use Rattle.aia_plan.specs.declared.step.Step.TheVariants as steps
+use Rattle.aia_home.specs.Plans.{Access, leave_plan, arrive_plan, shift_plan}
+use Rattle.aia_home.specs.Plans.Access.{TakeDelivery, PutDelivery, WriteNotice, WriteEntry, Fence, WriteStage, FenceStage, TakePending, PutPending, TakeEnables, PutEnables, Look, TakeThreshold, PutThreshold, Post}
+
+-- The access that a step is.
+abbrev pub access_of : Step → Access
+access_of steps.Quiet = TakeDelivery
+access_of steps.Word1 = WriteNotice
+access_of steps.Word0 = WriteEntry
+access_of steps.Fence = Fence
+access_of steps.Map = WriteStage
+access_of steps.Unmap = WriteStage
+access_of steps.Remap = WriteStage
+access_of steps.GFence = FenceStage
+access_of (steps.TakeP w) = TakePending w
+access_of (steps.PutP w) = PutPending w
+access_of (steps.TakeE w) = TakeEnables w
+access_of (steps.PutE w) = PutEnables w
+access_of (steps.Look w) = Look w
+access_of steps.TakeT = TakeThreshold
+access_of steps.PutT = PutThreshold
+access_of steps.Post = Post
+access_of steps.Wake = PutDelivery
+
+-- The accesses that the core makes for a move of each kind, of files of so many words, in order.
+abbrev pub core_accesses : Kind → ℕ → List Access
+core_accesses kinds.Leave words = leave_plan words
+core_accesses kinds.Arrive words = arrive_plan words
+core_accesses kinds.Shift words = shift_plan words
