@@ -1,13 +1,14 @@
 //! What the program `aia` does: the words of the command line, the ends, the exit status.
 #![tactic(auto)]
 
-ghost use Rattle.std.specs.Prelude.{◌≡◌, ◌≢◌, ◌+◌, ◌⊎◌, ◌↔◌, ℕ, map, Contains, Some, None, IfOk};
+ghost use Rattle.std.specs.Prelude.{◌≡◌, ◌≢◌, ◌+◌, ◌⊎◌, ◌↔◌, ℕ, true, map, Contains, Some, None, IfOk};
 ghost use Rattle.std.specs.IoError.{error_kind};
 ghost use Rattle.std.specs.Process.{exit_status};
-ghost use Rattle.aia_command.specs.declared.subcommand.Subcommand.TheVariants.{Replay, Generate};
+ghost use Rattle.aia_command.specs.declared.subcommand.Subcommand.TheVariants.{Replay, Generate, Audit};
+ghost use Rattle.aia_plan.specs.declared.step.Kind.{Kind};
 ghost use Rattle.aia_command.specs.CommandLine.{subcommand_of};
 ghost use Rattle.aia_io.specs.Ends.{Rose};
-ghost use Rattle.aia_replay.specs.Runs.{Ends, FitsIn, IsDoneOrMemory, TakesAll, WritesAnswers};
+ghost use Rattle.aia_replay.specs.Runs.{Ends, FitsIn, IsDoneOrMemory, TakesAll, WritesAnswers, WritesVerdict, reads_source};
 ghost use Rattle.aia_program.specs.Command.{AreNoText, AreRefused, asked_by, exit_number, exit_numbers, words_of};
 
 use aia_io::{Sink, Source, StdSink, StdSource};
@@ -48,6 +49,12 @@ pub fn command<S: Source, K: Sink>(
     ensures all { asked_by arguments ≡ Some Replay → exit_status result ≡ 0
         → TakesAll (S.supply source.old) (S.supply source.new) }
 
+    // Of `audit`: at 0 what is written is the verdict on the whole plan, or which of its texts is bad.
+    ensures audits { (kind : Kind) (width : ℕ) → asked_by arguments ≡ Some (Audit kind width)
+        → exit_status result ≡ 0
+        → WritesVerdict kind width (S.supply source.old) (K.taken sink.old) (K.taken sink.new)
+        × TakesAll (S.supply source.old) (S.supply source.new) }
+
     // What every number promises, by what the words ask for.
     ensures ends { (status : Status) → exit_status result ≡ exit_number status
         → Ends (asked_by arguments) status (S.supply source.old) (S.supply source.new)
@@ -67,7 +74,7 @@ pub fn command<S: Source, K: Sink>(
     ensures complete { asked_by arguments ≢ None
         → (¬ Rose (S.faults source.old) (S.faults source.new))
         → (¬ Rose (K.faults sink.old) (K.faults sink.new))
-        → (asked_by arguments ≡ Some Replay
+        → (reads_source (asked_by arguments) ≡ true
         → FitsIn SCRIPT_BYTES (S.supply source.old) (S.supply source.new))
         → (exit_status result ≡ 0) ⊎ (exit_status result ≡ 5) }
 {
@@ -109,7 +116,7 @@ fn run_words<S: Source, K: Sink>(
     ensures complete { subcommand_of (words_of arguments.now) ≢ None
         → (¬ Rose (S.faults source.old) (S.faults source.new))
         → (¬ Rose (K.faults sink.old) (K.faults sink.new))
-        → (subcommand_of (words_of arguments.now) ≡ Some Replay
+        → (reads_source (subcommand_of (words_of arguments.now)) ≡ true
         → FitsIn SCRIPT_BYTES (S.supply source.old) (S.supply source.new))
         → IsDoneOrMemory result }
 {

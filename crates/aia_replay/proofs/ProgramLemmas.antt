@@ -19,7 +19,7 @@ nothing_left : (bytes rest : List ℕ) → bytes ≡ bytes ++ rest → rest ≡ 
 nothing_left bytes [] e = refl
 nothing_left bytes (x ∷ rest) e = absurd (omega (arith, ap length e, length-append bytes (x ∷ rest)))
 
-all_of : (left rest : Option (List ℕ)) (bytes : List ℕ) → Consumes left rest bytes → IfSome left (λ script. script ≡ bytes) → IfSome left (λ script. rest ≡ Some [])
+pub all_of : (left rest : Option (List ℕ)) (bytes : List ℕ) → Consumes left rest bytes → IfSome left (λ script. script ≡ bytes) → IfSome left (λ script. rest ≡ Some [])
 all_of None rest bytes took whole = tt
 all_of (Some script) None bytes took whole = absurd took
 all_of (Some script) (Some more) bytes took whole = ap Some (nothing_left bytes more (sym whole ∙ took))

@@ -1,10 +1,10 @@
 -- What a run promises, by its status. Vocabulary.
-use Rattle.std.specs.Prelude.{◌≡◌, ◌≢◌, ℕ, ◌+◌, ◌≤◌, ◌⊎◌, true, false, nat_eq, List, [], ◌∷◌, ◌++◌, length, map, All, Option, Some, None, IfSome}
+use Rattle.std.specs.Prelude.{◌≡◌, ◌≢◌, ℕ, ◌+◌, ◌≤◌, ◌⊎◌, Bool, true, false, nat_eq, List, [], ◌∷◌, ◌++◌, length, map, All, Option, Some, None, IfSome}
 use Rattle.std.specs.Borrow.{Bor}
 use Rattle.std.specs.Io.KnownBytes.{Appends}
 use Rattle.aia_io.specs.Ends.{Supply, Gives, Rose, RoseBy}
 use Rattle.aia_command.specs.declared.subcommand.Subcommand.{Subcommand}
-use Rattle.aia_command.specs.declared.subcommand.Subcommand.TheVariants.{Replay, Generate}
+use Rattle.aia_command.specs.declared.subcommand.Subcommand.TheVariants.{Replay, Generate, Audit}
 use Rattle.aia_command.specs.CommandLine.{subcommand_of}
 use Rattle.aia_model.specs.declared.parsed.Parsed.{Parsed}
 use Rattle.aia_model.specs.declared.parsed.Parsed.TheVariants as parsed
@@ -13,6 +13,8 @@ use Rattle.aia_model.specs.Refusal.{makes_machine}
 use Rattle.aia_model.specs.Reading.{reading}
 use Rattle.aia_model.specs.Script.{answers, history_of}
 use Rattle.aia_generate.specs.Summary.{summary}
+use Rattle.aia_plan.specs.declared.step.Kind.{Kind}
+use Rattle.aia_audit.specs.PlanText.{audit_text}
 use Rattle.aia_replay.specs.declared.program.Status.{Status}
 use Rattle.aia_replay.specs.declared.program.Status.TheVariants.{Done, Usage, ReadFault, WriteFault, Memory, TooLong}
 use Rattle.aia_replay.specs.declared.limits.TheConstants.{SCRIPT_BYTES}
@@ -157,6 +159,29 @@ pub record EndsRefused (status : Status) (left rest : Supply) (before now : Opti
   pub unread : rest ≡ left
   pub unwritten : now ≡ before
 
+-- What the sink took is what is printed of all that the source had left, where it tells that: the
+-- verdict on the plan, or which of its texts is bad.
+abbrev pub WritesVerdict : Kind → ℕ → Supply → Option (List ℕ) → Option (List ℕ) → Type 0
+WritesVerdict kind words left before now =
+    IfSome left.to_come (λ plan. Appends before now (audit_text kind words plan))
+
+-- The sink failed, and took a front of that.
+abbrev pub CutsVerdict : Kind → ℕ → Supply → Option (List ℕ) → Option (List ℕ) → Type 0
+CutsVerdict kind words left before now =
+    IfSome left.to_come (λ plan. CutOff before now (audit_text kind words plan))
+
+-- A run of `audit`, of a plan of a move of a kind, of files of so many words: it writes once all is
+-- read, and nothing before. Memory may lack for the words of the command line alone.
+pub record EndsAudit (status : Status) (kind : Kind) (words : ℕ) (left rest : Supply)
+    (before now : Option (List ℕ)) : Type 0 where
+  pub done : status ≡ Done → WritesVerdict kind words left before now × TakesAll left rest
+  pub write_fault : status ≡ WriteFault
+      → CutsVerdict kind words left before now × TakesAll left rest
+  pub unwritten : status ≢ Done → status ≢ WriteFault → Appends before now []
+  pub memory : status ≡ Memory → TouchesNothing left rest before now
+  pub bound : TakesAtMost (SCRIPT_BYTES + 1) left rest
+  pub limit : status ≢ TooLong → TakesAtMost SCRIPT_BYTES left rest
+
 -- By what the words ask for.
 abbrev pub EndsAsAsked : Option Subcommand → Status → Supply → Supply → Option (List ℕ)
     → Option (List ℕ) → Type 0
@@ -164,6 +189,15 @@ EndsAsAsked None status left rest before now = EndsRefused status left rest befo
 EndsAsAsked (Some Replay) status left rest before now = EndsReplay status left rest before now
 EndsAsAsked (Some (Generate count seed)) status left rest before now =
     EndsGenerate status (summary count seed) left rest before now
+EndsAsAsked (Some (Audit kind words)) status left rest before now =
+    EndsAudit status kind words left rest before now
+
+-- Whether what is asked for reads the source.
+abbrev pub reads_source : Option Subcommand → Bool
+reads_source None = false
+reads_source (Some Replay) = true
+reads_source (Some (Generate count seed)) = false
+reads_source (Some (Audit kind words)) = true
 
 -- ---- the whole promise
 

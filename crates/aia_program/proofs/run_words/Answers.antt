@@ -22,4 +22,4 @@ returns-in-Ok-clause-usage g c =
 pub returns-in-Ok-clause-complete : goal.returns-in-Ok-clause-complete
 returns-in-Ok-clause-complete g c =
     let same : asked c.deref.result.now ≡ subcommand_of (words_of c.args.arguments.now) = rw c.deref.ensures.value (ap subcommand_of c.in-Ok.ensures) in
-    λ asks source sink fits. c.run.ensures.complete (λ none. asks (sym same ∙ none)) source sink (λ replays. fits (sym same ∙ replays))
+    λ asks source sink fits. c.run.ensures.complete (λ none. asks (sym same ∙ none)) source sink (λ reads. fits (rw (← same) reads))
