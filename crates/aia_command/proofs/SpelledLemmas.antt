@@ -1,5 +1,5 @@
 -- What words ask for is what they spell.
-use Rattle.std.proofs.Common.{◌≡◌, ◌∙◌, ◌≤◌, ◌<◌, ◌^◌, ◌-◌, ◌⊎◌, inl, inr, ℕ, Bool, true, false, nat_eq, subst, List, [], ◌∷◌, ◌++◌, refl, sym, ap, ap₂, arith, cond, Option, Some, None}
+use Rattle.std.proofs.Common.{◌≡◌, ◌∙◌, ◌≤◌, ◌<◌, ◌^◌, ◌-◌, ◌⊎◌, inl, inr, ℕ, Bool, true, false, nat_eq, List, [], ◌∷◌, ◌++◌, refl, sym, ap, ap₂, arith, cond, Option, Some, None}
 use Rattle.std.specs.Prelude.{codes, is_some, slice_get, option_and_then, fold}
 use Rattle.std.specs.Str.{bytes_eq}
 use Rattle.std.specs.Str.Parse.{IsNumeral, digits_value}
