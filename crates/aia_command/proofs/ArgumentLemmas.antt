@@ -12,11 +12,12 @@ use Rattle.clap.specs.declared.parser.matches.ValueSource.TheVariants.{CommandLi
 use Rattle.clap.specs.declared.builder.value_parser.Reading.TheVariants.{AsWritten}
 use Rattle.clap.specs.declared.error.kind.ErrorKind.{ErrorKind}
 use Rattle.clap.specs.declared.error.kind.ErrorKind.TheVariants as kind
+use Rattle.aia_plan.specs.declared.step.Kind.{Kind}
 use Rattle.aia_command.specs.declared.limits.TheConstants.{MOST_LINES}
 use Rattle.aia_command.specs.declared.subcommand.Subcommand.{Subcommand}
-use Rattle.aia_command.specs.declared.subcommand.Subcommand.TheVariants.{Replay, Generate}
-use Rattle.aia_command.specs.CommandLine.{bare_command, generate_command, generate_of, number_of, number_up_to, replay_command, unless_refused}
-use Rattle.aia_command.specs.Spelled.{generate_spelled, replay_spelled, without_delimiter}
+use Rattle.aia_command.specs.declared.subcommand.Subcommand.TheVariants.{Replay, Generate, Audit}
+use Rattle.aia_command.specs.CommandLine.{audit_command, audit_of, bare_command, generate_command, generate_of, kind_named, number_of, number_up_to, replay_command, unless_refused, width_of}
+use Rattle.aia_command.specs.Spelled.{audit_spelled, generate_spelled, replay_spelled, without_delimiter}
 use Rattle.aia_command.proofs.NumberLemmas.{no_number, widest}
 use Rattle.aia_command.proofs.TurnLemmas.{Delimits, IsArgument, IsRefused, standing, turn, turn-delimited}
 
@@ -192,3 +193,82 @@ asked_from-generate = asked_from-spelled generate_leaf generate_of [] None 1 gen
     (λ delimited word words fault goes.
     asked_from-further generate_leaf generate_of (standing [] None 1 delimited) (count_met word delimited) word words fault (goes ∙ ap (count_met word) (or-false delimited)) ∙ asked_from-count word delimited words)
     (λ rest words. no_count (45 ∷ rest) words (no_number MOST_LINES rest)) false
+
+-- ---- `audit`
+
+abbrev pub audit_leaf : Shape
+audit_leaf = leaf_of audit_command
+
+-- What is found of KIND; where the walk stands when KIND was met, and when W was met too.
+abbrev kind_found : Text → List Row
+kind_found name = record {
+  id = codes "KIND";
+  values = name ∷ [];
+  count = None;
+  source = Some CommandLine;
+  reading = AsWritten;
+} ∷ []
+
+abbrev kind_met : Text → Bool → Walk
+kind_met name = standing [] (Some (codes "KIND", name ∷ [])) 2
+
+abbrev width_met : Text → Text → Bool → Walk
+width_met name width = standing (kind_found name) (Some (codes "W", width ∷ [])) 3
+
+no_kind : (name : Text) (words : List Text) → kind_named name ≡ None → audit_spelled (name ∷ words) ≡ None
+no_kind name [] none = refl
+no_kind name (width ∷ []) none = rw none refl
+no_kind name (width ∷ word ∷ words) none = refl
+
+no_width : (name width : Text) (words : List Text) → number_of width ≡ None → audit_spelled (name ∷ width ∷ words) ≡ None
+no_width name width [] none = go (kind_named name)
+  where
+    go : (named : Option Kind) → option_and_then (λ x. option_and_then (λ words. Some (Audit x words)) (option_and_then width_of (number_of width))) named ≡ None
+    go None = refl
+    go (Some x) = rw none refl
+no_width name width (word ∷ words) none = refl
+
+module _ (name : Text) where
+  whole_end : (width : Text) (b delimited : Bool) → is_unsigned_in 0 (2 ^ 64 - 1) width ≡ b
+      → asked_from audit_leaf audit_of (width_met name width delimited) [] ≡ audit_spelled (name ∷ width ∷ [])
+  unfolding walk_fault defaults_fault
+  whole_end width true delimited is = simp is
+  whole_end width false delimited not =
+      let refused : asked_from audit_leaf audit_of (width_met name width delimited) [] ≡ None = simp not in
+      refused ∙ sym (no_width name width [] (rw not refl))
+
+  asked_from-width : (width : Text) (delimited : Bool) (words : List Text)
+      → asked_from audit_leaf audit_of (width_met name width delimited) words ≡ audit_spelled (name ∷ width ∷ arguments_in delimited words)
+  asked_from-width width = asked_from-spelled audit_leaf audit_of (kind_found name) (Some (codes "W", width ∷ [])) 3 (λ more. audit_spelled (name ∷ width ∷ more))
+      (λ name. refl) (λ x. refl) (λ delimited. whole_end width (is_unsigned_in 0 (2 ^ 64 - 1) width) delimited refl)
+      (λ delimited word words fault goes. asked_from-refused audit_leaf audit_of (width_met name width delimited) word words kind.UnknownArgument fault)
+      (λ rest words. refl)
+
+  kind_end : (delimited : Bool) → asked_from audit_leaf audit_of (kind_met name delimited) [] ≡ None
+  unfolding walk_fault defaults_fault
+  kind_end delimited = refl
+
+  kind_passes : (delimited : Bool) → step_fault audit_leaf 2 (kind_met name delimited).held value ≡ []
+  kind_passes delimited = refl
+
+  -- The word after KIND is W.
+  width_after : (delimited : Bool) (word : Text) (words : List Text)
+      → turn_fault audit_leaf [] (kind_met name delimited) word ≡ step_fault audit_leaf 2 (kind_met name delimited).held value
+      → walked audit_leaf.rules [] (kind_met name delimited) word ≡ width_met name word delimited
+      → asked_from audit_leaf audit_of (kind_met name delimited) (word ∷ words) ≡ audit_spelled (name ∷ word ∷ arguments_in delimited words)
+  width_after delimited word words fault goes =
+      asked_from-further audit_leaf audit_of (kind_met name delimited) (width_met name word delimited) word words (fault ∙ kind_passes delimited) goes
+      ∙ asked_from-width word delimited words
+
+  asked_from-kind : (delimited : Bool) (words : List Text) → asked_from audit_leaf audit_of (kind_met name delimited) words ≡ audit_spelled (name ∷ arguments_in delimited words)
+  asked_from-kind = asked_from-spelled audit_leaf audit_of [] (Some (codes "KIND", name ∷ [])) 2 (λ more. audit_spelled (name ∷ more)) (λ name. refl) (λ x. refl)
+      (λ delimited. kind_end delimited)
+      (λ delimited word words fault goes. width_after delimited word words fault (goes ∙ ap (width_met name word) (or-false delimited)))
+      (λ rest words. no_width name (45 ∷ rest) words (no_number (2 ^ 64 - 1) rest))
+
+pub asked_from-audit : (words : List Text) → asked_from audit_leaf audit_of (standing [] None 1 false) words ≡ audit_spelled (without_delimiter words)
+unfolding walk_fault defaults_fault
+asked_from-audit = asked_from-spelled audit_leaf audit_of [] None 1 audit_spelled (λ name. refl) (λ x. refl) (λ delimited. refl)
+    (λ delimited word words fault goes.
+    asked_from-further audit_leaf audit_of (standing [] None 1 delimited) (kind_met word delimited) word words fault (goes ∙ ap (kind_met word) (or-false delimited)) ∙ asked_from-kind word delimited words)
+    (λ rest words. no_kind (45 ∷ rest) words refl) false

@@ -1,5 +1,5 @@
 -- What is read of words, as the definitions say it.
-use Rattle.std.proofs.Common.{inl, inr, ◌≡◌, ◌≢◌, true, List, [], ◌∷◌, refl, ap, None}
+use Rattle.std.proofs.Common.{inl, inr, ◌≡◌, ◌≢◌, true, List, [], ◌∷◌, refl, sym, ap, Option, Some, None}
 use Rattle.clap.specs.Walk.{Text}
 use Rattle.clap.specs.Kinds.{HasKind, IsAmong, Kinds}
 use Rattle.clap.specs.Simple.{App, HasMatchesOf, subcommand_rows_of, subcommand_of as subcommand_met}
@@ -10,7 +10,10 @@ use Rattle.clap.specs.declared.parser.matches.ArgMatches.{ArgMatches}
 use Rattle.clap.specs.declared.error.kind.ErrorKind.TheVariants as kind
 use Rattle.clap.proofs.OnLiterals.{clap_on_literals}
 use Rattle.clap.proofs.WalkLemmas.{both}
-use Rattle.aia_command.specs.CommandLine.{named, subcommand_of, the_command, unless_refused}
+use Rattle.std.specs.Prelude.{option_and_then, option_map}
+use Rattle.clap.specs.Matches.{ReadsOne}
+use Rattle.aia_command.specs.declared.kind_word.KindWord.{KindWord}
+use Rattle.aia_command.specs.CommandLine.{NamesKind, kind_named, named, subcommand_of, the_command, unless_refused}
 
 the_command-simple : is_simple_and_free the_command ≡ true
 unfolding clap_on_literals the_command
@@ -37,3 +40,10 @@ error_is_refusal command words error is has other = elim (has (rw is the_command
     go : (kinds : Kinds) → IsAmong (kind_of error) kinds → None ≡ unless_refused kinds (named (subcommand_met the_command words))
     go [] h = absurd h
     go (k ∷ ks) h = refl
+
+-- Where the word of a kind is found, what is read of it is the kind that it names.
+pub kind_read : (text : Option Text) (read : Option KindWord) → (text ≡ None → read ≡ None) → ((t : Text) → text ≡ Some t → ReadsOne NamesKind t read)
+    → option_map (λ word. word.kind) read ≡ option_and_then kind_named text
+kind_read None read none some = ap (option_map (λ word. word.kind)) (none refl)
+kind_read (Some t) (Some word) none some = sym (some t refl)
+kind_read (Some t) None none some = let gave = some t refl in sym gave.1

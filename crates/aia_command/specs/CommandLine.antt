@@ -4,7 +4,8 @@
 -- Which words are taken, which word is whose argument and which texts are numbers is what the
 -- library `clap` states of a command: `fault_of`, its `subcommand_of`, by which a subcommand is
 -- met, `one_of` and `is_unsigned_in`. The command is ours.
-use Rattle.std.specs.Prelude.{ℕ, ◌^◌, ◌-◌, true, List, [], ◌∷◌, Option, Some, None, if◌then◌else◌, codes, option_and_then}
+use Rattle.std.specs.Prelude.{◌≡◌, ℕ, ◌^◌, ◌-◌, true, nat_eq, List, [], ◌∷◌, Option, Some, None, Result, Ok, Err, if◌then◌else◌, codes, option_and_then}
+use Rattle.std.specs.List.{list_any}
 use Rattle.std.specs.Str.{bytes_eq}
 use Rattle.std.specs.Str.Parse.{digits_value, without_leading_plus}
 use Rattle.clap.specs.ValueTests.{is_unsigned_in}
@@ -17,7 +18,11 @@ use Rattle.clap.specs.declared.builder.value_parser.ValueParser.{ValueParser}
 use Rattle.clap.specs.declared.builder.value_parser.ValueParser.TheVariants as parser
 use Rattle.aia_command.specs.declared.limits.TheConstants.{MOST_LINES}
 use Rattle.aia_command.specs.declared.subcommand.Subcommand.{Subcommand}
-use Rattle.aia_command.specs.declared.subcommand.Subcommand.TheVariants.{Replay, Generate}
+use Rattle.aia_command.specs.declared.subcommand.Subcommand.TheVariants.{Replay, Generate, Audit}
+use Rattle.aia_command.specs.declared.kind_word.KindWord.{KindWord}
+use Rattle.aia_command.specs.declared.kind_word.NoKind.{NoKind}
+use Rattle.aia_plan.specs.declared.step.Kind.{Kind}
+use Rattle.aia_plan.specs.declared.step.Kind.TheVariants.{Leave, Arrive, Shift}
 
 -- ---- the command. Profile
 
@@ -25,15 +30,21 @@ use Rattle.aia_command.specs.declared.subcommand.Subcommand.TheVariants.{Replay,
 abbrev pub replay_command : App
 replay_command = new_app (codes "replay")
 
--- A number that must be there.
-abbrev pub number_rule : Text → ValueParser → Rule
-number_rule name numbers = record (new_rule name) { parser = Some numbers; required = true }
+-- An argument that must be there, and what it may be.
+abbrev pub required_rule : Text → ValueParser → Rule
+required_rule name words = record (new_rule name) { parser = Some words; required = true }
 
 -- `gen` has two: how many lines, and then any number of 64 bits.
 abbrev pub generate_command : App
 generate_command = with_rule (with_rule (new_app (codes "gen"))
-    (number_rule (codes "COUNT") (parser.Unsigned 0 MOST_LINES)))
-    (number_rule (codes "SEED") (parser.Unsigned 0 (2 ^ 64 - 1)))
+    (required_rule (codes "COUNT") (parser.Unsigned 0 MOST_LINES)))
+    (required_rule (codes "SEED") (parser.Unsigned 0 (2 ^ 64 - 1)))
+
+-- `audit` has two: any text, and then any number of 64 bits.
+abbrev pub audit_command : App
+audit_command = with_rule (with_rule (new_app (codes "audit"))
+    (required_rule (codes "KIND") parser.String))
+    (required_rule (codes "W") (parser.Unsigned 0 (2 ^ 64 - 1)))
 
 -- The command, but for its subcommands: there must be one, and there is no help.
 abbrev pub bare_command : App
@@ -45,8 +56,9 @@ bare_command = on_top (λ shape. record shape {
 }) (new_app (codes "aia"))
 
 unfoldable pub the_command : App
-the_command =
-    with_subcommand (with_subcommand bare_command replay_command.top) generate_command.top
+the_command = with_subcommand
+    (with_subcommand (with_subcommand bare_command replay_command.top) generate_command.top)
+    audit_command.top
 
 -- ---- what words ask for
 
@@ -67,11 +79,39 @@ generate_of rows = option_and_then (λ count.
     option_and_then (λ seed. Some (Generate count seed)) (number_at (codes "SEED") rows))
     (number_at (codes "COUNT") rows)
 
+-- The kind of move that a word names.
+abbrev pub kind_named : Text → Option Kind
+kind_named word = if bytes_eq word (codes "leave") then Some Leave
+    else if bytes_eq word (codes "arrive") then Some Arrive
+    else if bytes_eq word (codes "shift") then Some Shift else None
+
+abbrev pub kind_at : List Row → Option Kind
+kind_at rows = option_and_then kind_named (one_of (codes "KIND") rows)
+
+-- What reading a kind's word may give.
+abbrev pub NamesKind : Text → Result KindWord NoKind → Type 0
+NamesKind text (Ok word) = kind_named text ≡ Some word.kind
+NamesKind text (Err none) = kind_named text ≡ None
+
+-- How many words of 64 identities the sets of an interrupt file have, where a number is that.
+abbrev pub width_of : ℕ → Option ℕ
+width_of number =
+    if list_any (λ width. nat_eq number width) (1 ∷ 2 ∷ 4 ∷ 8 ∷ 16 ∷ 32 ∷ []) then Some number
+    else None
+
+abbrev pub width_at : List Row → Option ℕ
+width_at rows = option_and_then width_of (number_at (codes "W") rows)
+
+abbrev pub audit_of : List Row → Option Subcommand
+audit_of rows = option_and_then (λ kind.
+    option_and_then (λ words. Some (Audit kind words)) (width_at rows)) (kind_at rows)
+
 -- The subcommand of this name, by what was found of its arguments.
 abbrev pub named : Option (Text × List Row) → Option Subcommand
 named None = None
 named (Some (name, rows)) = if bytes_eq name (codes "replay") then Some Replay
-    else if bytes_eq name (codes "gen") then generate_of rows else None
+    else if bytes_eq name (codes "gen") then generate_of rows
+    else if bytes_eq name (codes "audit") then audit_of rows else None
 
 -- Words are refused where there is an error for them.
 abbrev pub unless_refused : Kinds → Option Subcommand → Option Subcommand

@@ -4,7 +4,7 @@ ghost use Rattle.std.specs.Prelude.{◌≡◌, false, IfOk};
 ghost use Rattle.clap.specs.Words.{app_of, rule_of};
 ghost use Rattle.clap.specs.declared.builder.command.Command.TheViews.{out-Command};
 ghost use Rattle.clap.specs.declared.builder.value_parser.ValueParser.TheVariants as parser;
-ghost use Rattle.aia_command.specs.CommandLine.{bare_command, generate_command, number_rule, replay_command, the_command};
+ghost use Rattle.aia_command.specs.CommandLine.{audit_command, bare_command, generate_command, replay_command, required_rule, the_command};
 
 use crate::limits::MOST_LINES;
 use clap::builder::ValueParser;
@@ -16,9 +16,11 @@ pub(crate) fn command<'a>(alloc: Global) -> Result<Command<'a>, AllocError>
     ensures { IfOk result (λ made. app_of made ≡ the_command) }
 {
     let generate = generate_command(alloc)?;
+    let audit = audit_command(alloc)?;
     let whole = bare_command(alloc)
         .subcommand(replay_command(alloc))?
-        .subcommand(generate)?;
+        .subcommand(generate)?
+        .subcommand(audit)?;
     Ok(whole)
 }
 
@@ -47,15 +49,26 @@ fn generate_command<'a>(alloc: Global) -> Result<Command<'a>, AllocError>
     ensures shape { IfOk result (λ made. app_of made ≡ generate_command) }
     ensures local { IfOk result (λ made. (out-Command made).has_globals ≡ false) }
 {
-    let count = number_argument(alloc, "COUNT", up_to_most_lines());
-    let seed = number_argument(alloc, "SEED", value_parser!(u64));
+    let count = required_argument(alloc, "COUNT", up_to_most_lines());
+    let seed = required_argument(alloc, "SEED", value_parser!(u64));
     let generate = Command::new(alloc, "gen").arg(count)?.arg(seed)?;
     Ok(generate)
 }
 
-/// Makes an argument that must be there, with the numbers that `parser` takes.
-fn number_argument<'a>(alloc: Global, name: &'a str, parser: ValueParser<'a>) -> Arg<'a>
-    ensures rule { rule_of result ≡ number_rule name.entry.now parser.entry }
+/// Makes the subcommand `audit`. `Err`: there is no memory for it.
+fn audit_command<'a>(alloc: Global) -> Result<Command<'a>, AllocError>
+    ensures shape { IfOk result (λ made. app_of made ≡ audit_command) }
+    ensures local { IfOk result (λ made. (out-Command made).has_globals ≡ false) }
+{
+    let kind = required_argument(alloc, "KIND", ValueParser::String);
+    let words = required_argument(alloc, "W", value_parser!(u64));
+    let audit = Command::new(alloc, "audit").arg(kind)?.arg(words)?;
+    Ok(audit)
+}
+
+/// Makes an argument that must be there, with the words that `parser` takes.
+fn required_argument<'a>(alloc: Global, name: &'a str, parser: ValueParser<'a>) -> Arg<'a>
+    ensures rule { rule_of result ≡ required_rule name.entry.now parser.entry }
     ensures local { result.global ≡ false }
 {
     Arg::new(alloc, name).required(true).value_parser(parser)

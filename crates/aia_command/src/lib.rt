@@ -2,6 +2,7 @@
 #![tactic(auto)]
 
 mod command;
+mod kind_word;
 pub mod laws;
 mod limits;
 mod subcommand;

@@ -1,8 +1,9 @@
-ghost use Rattle.std.specs.Prelude.{◌≡◌, map, IfOk, option_and_then};
+ghost use Rattle.std.specs.Prelude.{◌≡◌, map, IfOk, option_and_then, option_map};
 ghost use Rattle.clap.specs.Words.{found_of, one_of, rows_of, subcommand_rows_of};
-ghost use Rattle.aia_command.specs.CommandLine.{generate_of, named, number_at, subcommand_of};
+ghost use Rattle.aia_command.specs.CommandLine.{audit_of, generate_of, kind_at, named, number_at, subcommand_of, width_of};
 
 use crate::command::command;
+use crate::kind_word::KindWord;
 use crate::subcommand::Subcommand;
 use clap::ArgMatches;
 use clap::error::ErrorKind;
@@ -22,7 +23,8 @@ pub fn read_words(alloc: Global, words: &[&str]) -> Result<Option<Subcommand>, A
     }
 }
 
-/// Reads the subcommand that was met. `None`: there is none, or an argument of it is no number.
+/// Reads the subcommand that was met. `None`: there is none, or an argument of it is no number, no
+/// kind of move or no width.
 fn read_matches(matches: &ArgMatches<'_>) -> Option<Subcommand>
     ensures { result ≡ named (subcommand_rows_of matches.now) }
 {
@@ -30,6 +32,7 @@ fn read_matches(matches: &ArgMatches<'_>) -> Option<Subcommand>
     match name {
         "replay" => Some(Subcommand::Replay),
         "gen" => read_generate(arguments),
+        "audit" => read_audit(arguments),
         _ => None,
     }
 }
@@ -41,6 +44,35 @@ fn read_generate(arguments: &ArgMatches<'_>) -> Option<Subcommand>
     let count = read_number(arguments, "COUNT")?;
     let seed = read_number(arguments, "SEED")?;
     Some(Subcommand::Generate { count, seed })
+}
+
+/// Reads the arguments of `audit`. `None`: one of them is not there, KIND is no kind of move, or W is
+/// no width.
+fn read_audit(arguments: &ArgMatches<'_>) -> Option<Subcommand>
+    ensures { result ≡ audit_of (rows_of (found_of arguments.now)) }
+{
+    let kind = read_kind(arguments)?.kind;
+    let number = read_number(arguments, "W")?;
+    let words = width(number)?;
+    Some(Subcommand::Audit { kind, words })
+}
+
+/// Reads the kind of move. `None`: it is not there, or its word names none.
+fn read_kind(arguments: &ArgMatches<'_>) -> Option<KindWord>
+    ensures { option_map (λ word. word.kind) result ≡ kind_at (rows_of (found_of arguments.now)) }
+{
+    arguments.get_one::<KindWord>("KIND")
+}
+
+/// Gives a number that is a width, how many words of 64 identities the sets of an interrupt file
+/// have. `None`: it is none.
+fn width(number: u64) -> Option<u32>
+    ensures { result ≡ width_of number }
+{
+    match number {
+        1 | 2 | 4 | 8 | 16 | 32 => Some(number as u32),
+        _ => None,
+    }
 }
 
 /// Reads the number of the argument `name`. `None`: it is not there, or is no number below 2^64.

@@ -1,16 +1,15 @@
 //! What the program `aia` does: the words of the command line, the ends, the exit status.
 #![tactic(auto)]
 
-ghost use Rattle.std.specs.Prelude.{◌≡◌, ◌≢◌, ◌+◌, ◌⊎◌, ◌↔◌, ℕ, map, Contains, Some, None, IfOk};
-ghost use Rattle.std.specs.Io.KnownBytes.{Appends};
+ghost use Rattle.std.specs.Prelude.{◌≡◌, ◌≢◌, ◌+◌, ◌⊎◌, ◌↔◌, ℕ, true, map, Contains, Some, None, IfOk};
 ghost use Rattle.std.specs.IoError.{error_kind};
 ghost use Rattle.std.specs.Process.{exit_status};
-ghost use Rattle.aia_command.specs.declared.subcommand.Subcommand.TheVariants.{Replay, Generate};
+ghost use Rattle.aia_command.specs.declared.subcommand.Subcommand.TheVariants.{Replay, Generate, Audit};
+ghost use Rattle.aia_plan.specs.declared.step.Kind.{Kind};
 ghost use Rattle.aia_command.specs.CommandLine.{subcommand_of};
-ghost use Rattle.aia_generate.specs.Summary.{summary};
 ghost use Rattle.aia_io.specs.Ends.{Rose};
-ghost use Rattle.aia_replay.specs.Runs.{FitsIn, IsDoneOrMemory, StopsAtMachine, Takes, TakesAll, TouchesNothing, WritesAnswers};
-ghost use Rattle.aia_program.specs.Command.{AreNoText, AreRefused, asked_by, exit_numbers, words_of};
+ghost use Rattle.aia_replay.specs.Runs.{Ends, FitsIn, IsDoneOrMemory, TakesAll, WritesAnswers, WritesVerdict, reads_source};
+ghost use Rattle.aia_program.specs.Command.{AreNoText, AreRefused, asked_by, exit_number, exit_numbers, words_of};
 
 use aia_io::{Sink, Source, StdSink, StdSource};
 use aia_replay::{SCRIPT_BYTES, Status, run};
@@ -49,37 +48,33 @@ pub fn command<S: Source, K: Sink>(
         → WritesAnswers (S.supply source.old) (K.taken sink.old) (K.taken sink.new) }
     ensures all { asked_by arguments ≡ Some Replay → exit_status result ≡ 0
         → TakesAll (S.supply source.old) (S.supply source.new) }
-    ensures generates { (count seed : ℕ) → asked_by arguments ≡ Some (Generate count seed)
-        → (source.new ≡ source.old) × (exit_status result ≡ 0
-        → Appends (K.taken sink.old) (K.taken sink.new) (summary count seed)) }
+
+    // Of `audit`: at 0 what is written is the verdict on the whole plan, or which of its texts is bad.
+    ensures audits { (kind : Kind) (width : ℕ) → asked_by arguments ≡ Some (Audit kind width)
+        → exit_status result ≡ 0
+        → WritesVerdict kind width (S.supply source.old) (K.taken sink.old) (K.taken sink.new)
+        × TakesAll (S.supply source.old) (S.supply source.new) }
+
+    // What every number promises, by what the words ask for.
+    ensures ends { (status : Status) → exit_status result ≡ exit_number status
+        → Ends (asked_by arguments) status (S.supply source.old) (S.supply source.new)
+        (K.taken sink.old) (K.taken sink.new) (S.faults source.old) (S.faults source.new)
+        (K.faults sink.old) (K.faults sink.new) }
+    ensures unread { (count seed : ℕ) → asked_by arguments ≡ Some (Generate count seed)
+        → source.new ≡ source.old }
 
     // Where there is memory for the words, they are refused exactly by 2.
     ensures usage { exit_status result ≢ 5 → ((exit_status result ≡ 2) ↔ AreRefused arguments) }
     ensures nothing { exit_status result ≡ 2
         → (source.new ≡ source.old) × (sink.new ≡ sink.old) }
-
     ensures no_text { AreNoText arguments → exit_status result ≡ 2 }
-
-    ensures read_fault { exit_status result ≡ 3
-        → Rose (S.faults source.old) (S.faults source.new) }
-    ensures write_fault { exit_status result ≡ 4 → Rose (K.faults sink.old) (K.faults sink.new) }
-
-    // No memory for the words or for a generated script, and nothing was touched, or none for a
-    // machine that the script asks for.
-    ensures memory { exit_status result ≡ 5
-        → TouchesNothing (S.supply source.old) (S.supply source.new)
-        (K.taken sink.old) (K.taken sink.new)
-        ⊎ StopsAtMachine (S.supply source.old) (S.supply source.new)
-        (K.taken sink.old) (K.taken sink.new) }
-    ensures too_long { exit_status result ≡ 6
-        → Takes (SCRIPT_BYTES + 1) (S.supply source.old) (S.supply source.new) }
 
     // There is no other number, and where nothing is in the way, it is 0, or 5.
     ensures number { Contains exit_numbers (exit_status result) }
     ensures complete { asked_by arguments ≢ None
         → (¬ Rose (S.faults source.old) (S.faults source.new))
         → (¬ Rose (K.faults sink.old) (K.faults sink.new))
-        → (asked_by arguments ≡ Some Replay
+        → (reads_source (asked_by arguments) ≡ true
         → FitsIn SCRIPT_BYTES (S.supply source.old) (S.supply source.new))
         → (exit_status result ≡ 0) ⊎ (exit_status result ≡ 5) }
 {
@@ -109,31 +104,19 @@ fn run_words<S: Source, K: Sink>(
     source: &mut S,
     sink: &mut K,
 ) -> Status
-    ensures done { subcommand_of (words_of arguments.now) ≡ Some Replay → result ≡ Status.Done
-        → WritesAnswers (S.supply source.old) (K.taken sink.old) (K.taken sink.new)
-        × TakesAll (S.supply source.old) (S.supply source.new) }
-    ensures generates { (count seed : ℕ)
+    ensures ends { Ends (subcommand_of (words_of arguments.now)) result (S.supply source.old)
+        (S.supply source.new) (K.taken sink.old) (K.taken sink.new) (S.faults source.old)
+        (S.faults source.new) (K.faults sink.old) (K.faults sink.new) }
+    ensures unread { (count seed : ℕ)
         → subcommand_of (words_of arguments.now) ≡ Some (Generate count seed)
-        → (source.new ≡ source.old) × (result ≡ Status.Done
-        → Appends (K.taken sink.old) (K.taken sink.new) (summary count seed)) }
-    ensures read_fault { result ≡ Status.ReadFault
-        → Rose (S.faults source.old) (S.faults source.new) }
-    ensures write_fault { result ≡ Status.WriteFault
-        → Rose (K.faults sink.old) (K.faults sink.new) }
-    ensures memory { result ≡ Status.Memory
-        → TouchesNothing (S.supply source.old) (S.supply source.new)
-        (K.taken sink.old) (K.taken sink.new)
-        ⊎ StopsAtMachine (S.supply source.old) (S.supply source.new)
-        (K.taken sink.old) (K.taken sink.new) }
-    ensures too_long { result ≡ Status.TooLong
-        → Takes (SCRIPT_BYTES + 1) (S.supply source.old) (S.supply source.new) }
+        → source.new ≡ source.old }
     ensures usage { result ≢ Status.Memory
         → ((result ≡ Status.Usage) ↔ (subcommand_of (words_of arguments.now) ≡ None)) }
     ensures nothing { result ≡ Status.Usage → (source.new ≡ source.old) × (sink.new ≡ sink.old) }
     ensures complete { subcommand_of (words_of arguments.now) ≢ None
         → (¬ Rose (S.faults source.old) (S.faults source.new))
         → (¬ Rose (K.faults sink.old) (K.faults sink.new))
-        → (subcommand_of (words_of arguments.now) ≡ Some Replay
+        → (reads_source (subcommand_of (words_of arguments.now)) ≡ true
         → FitsIn SCRIPT_BYTES (S.supply source.old) (S.supply source.new))
         → IsDoneOrMemory result }
 {
@@ -157,12 +140,7 @@ fn words(alloc: Global, arguments: &[String]) -> Result<Vec<&str>, AllocError>
 
 /// Gives each status its number, by which the program ends.
 fn exit_code(status: Status) -> ExitCode
-    ensures done { (exit_status result ≡ 0) ↔ (status ≡ Status.Done) }
-    ensures usage { (exit_status result ≡ 2) ↔ (status ≡ Status.Usage) }
-    ensures read_fault { (exit_status result ≡ 3) ↔ (status ≡ Status.ReadFault) }
-    ensures write_fault { (exit_status result ≡ 4) ↔ (status ≡ Status.WriteFault) }
-    ensures memory { (exit_status result ≡ 5) ↔ (status ≡ Status.Memory) }
-    ensures too_long { (exit_status result ≡ 6) ↔ (status ≡ Status.TooLong) }
+    ensures by_status { exit_status result ≡ exit_number status }
     ensures number { Contains exit_numbers (exit_status result) }
 {
     ExitCode::from(match status {

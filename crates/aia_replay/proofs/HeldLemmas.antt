@@ -212,7 +212,7 @@ finished_empty r before mid now bytes empty wrote holds =
     subst (Appends before now) (holds.answered ∙ ap answers (sym (append-nil holds.whole) ∙ ap (λ t. holds.whole ++ t) (sym tail_empty) ∙ sym holds.split))
     (all_written r.out.bytes.items before mid now holds.written holds.gathered wrote)
 
-one_text : (tail : List ℕ) → 0 < length tail → NoEnd tail → texts_of tail ≡ tail ∷ []
+pub one_text : (tail : List ℕ) → 0 < length tail → NoEnd tail → texts_of tail ≡ tail ∷ []
 one_text [] some none = absurd (omega arith)
 one_text (x ∷ xs) some none = texts_last x xs none
 

@@ -10,3 +10,4 @@ pub mod DeliveryLemmas
 pub mod EngineLemmas
 pub mod TallyLemmas
 pub mod AimLemmas
+pub mod PlanLemmas

@@ -1,12 +1,14 @@
 -- What the endings of a run mean for its source, and the one word that is taken.
-use Rattle.std.proofs.Common.{◌≡◌, ◌≢◌, ℕ, ◌+◌, ◌≤◌, List, [], ◌∷◌, ◌++◌, length, Option, Some, None, IfSome, inl, inr, refl, sym, ap, subst, ◌∙◌, arith}
+use Rattle.std.proofs.Common.{◌≡◌, ◌≢◌, ◌↔◌, ℕ, ◌+◌, ◌≤◌, List, [], ◌∷◌, ◌++◌, length, Option, Some, None, IfSome, inl, inr, refl, sym, ap, subst, ◌∙◌, arith}
 use Rattle.std.proofs.lemmas.List.{append-nil, length-append}
 use Rattle.std.specs.Io.KnownBytes.{Appends, Consumes}
+use Rattle.aia_command.specs.declared.subcommand.Subcommand.{Subcommand}
+use Rattle.aia_command.specs.declared.subcommand.Subcommand.TheVariants.{Replay, Generate}
 use Rattle.aia_model.specs.Script.{answers}
 use Rattle.aia_replay.specs.declared.program.Status.{Status}
 use Rattle.aia_replay.specs.declared.program.Status.TheVariants.{Done, Usage, ReadFault, WriteFault, Memory, TooLong}
 use Rattle.aia_replay.specs.declared.limits.TheConstants.{SCRIPT_BYTES}
-use Rattle.aia_replay.specs.Runs.{IsScript, TakesAtMost, AnswersWhole, WritesLines, CutsLines, StopsAtMachine, EndsWith}
+use Rattle.aia_replay.specs.Runs.{IsScript, TakesAtMost, AnswersWhole, WritesLines, CutsLines, StopsAtMachine, IsDoneOrMemory, Ends}
 use Rattle.aia_io.specs.Ends.{Supply, Gives, Rose}
 use Rattle.aia_replay.specs.Buffered.{CutOff}
 use Rattle.aia_replay.specs.declared.replayer.Replayer.{Replayer}
@@ -17,7 +19,7 @@ nothing_left : (bytes rest : List ℕ) → bytes ≡ bytes ++ rest → rest ≡ 
 nothing_left bytes [] e = refl
 nothing_left bytes (x ∷ rest) e = absurd (omega (arith, ap length e, length-append bytes (x ∷ rest)))
 
-all_of : (left rest : Option (List ℕ)) (bytes : List ℕ) → Consumes left rest bytes → IfSome left (λ script. script ≡ bytes) → IfSome left (λ script. rest ≡ Some [])
+pub all_of : (left rest : Option (List ℕ)) (bytes : List ℕ) → Consumes left rest bytes → IfSome left (λ script. script ≡ bytes) → IfSome left (λ script. rest ≡ Some [])
 all_of None rest bytes took whole = tt
 all_of (Some script) None bytes took whole = absurd took
 all_of (Some script) (Some more) bytes took whole = ap Some (nothing_left bytes more (sym whole ∙ took))
@@ -97,61 +99,91 @@ stopped_front r left rest before mid now stop cut =
 -- ---- how a run ends
 
 -- where the reading ended
-pub ends_read : {status : Status} {left rest : Supply} {before now : Option (List ℕ)} {a b c d : ℕ} → Streams status left rest before now → (status ≡ Done → Rose left.ends rest.ends) → (status ≡ ReadFault → Rose a b) → a ≤ b → c ≤ d → EndsWith status left rest before now a b c d
+pub ends_read : {status : Status} {left rest : Supply} {before now : Option (List ℕ)} {a b c d : ℕ} → Streams status left rest before now → (status ≡ Done → Rose left.ends rest.ends) → (status ≡ ReadFault → Rose a b) → a ≤ b → c ≤ d → Ends (Some Replay) status left rest before now a b c d
 ends_read {status} {left} {rest} {before} {now} streams ended rose source_later sink_later =
     let bytes = streams.bytes in
     let took = streams.taken in
     let wrote = λ (s : Status) (is : status ≡ s). let w : WrittenFor s before now bytes = subst (λ s. WrittenFor s before now bytes) is streams.written in w in
     record {
-      done = λ is. answers_written left.to_come before now bytes (streams.whole is) (wrote Done is);
-      all = λ is. (ended is, all_of left.to_come rest.to_come bytes took.0 (streams.whole is));
+      as_asked = record {
+        done = λ is. answers_written left.to_come before now bytes (streams.whole is) (wrote Done is);
+        all = λ is. (ended is, all_of left.to_come rest.to_come bytes took.0 (streams.whole is));
+        read_fault = λ is. lines_at_fault left rest before now bytes took (wrote ReadFault is);
+        too_long = λ is. lines_at_limit left rest before now bytes took (wrote TooLong is);
+        write_fault = λ is. absurd (wrote WriteFault is);
+        bound = (bytes, took, few_or_past status before now bytes streams.limit streams.written);
+        limit = λ other. (bytes, took, streams.limit other);
+      };
       read_fault = rose;
       write_fault = λ is. absurd (wrote WriteFault is);
       too_long = λ is. (bytes, took, past_length before now bytes (wrote TooLong is));
       memory = λ is. absurd (wrote Memory is);
-      read_fault_written = λ is. lines_at_fault left rest before now bytes took (wrote ReadFault is);
-      too_long_written = λ is. lines_at_limit left rest before now bytes took (wrote TooLong is);
-      write_fault_written = λ is. absurd (wrote WriteFault is);
-      bound = (bytes, took, few_or_past status before now bytes streams.limit streams.written);
-      limit = λ other. (bytes, took, streams.limit other);
       source_faults = source_later;
       sink_faults = sink_later;
     }
 
 -- where the sink failed
-pub ends_cut : {left rest : Supply} {before now : Option (List ℕ)} {a b c d : ℕ} → StreamsFront left rest before now → Rose c d → a ≤ b → c ≤ d → EndsWith WriteFault left rest before now a b c d
+pub ends_cut : {left rest : Supply} {before now : Option (List ℕ)} {a b c d : ℕ} → StreamsFront left rest before now → Rose c d → a ≤ b → c ≤ d → Ends (Some Replay) WriteFault left rest before now a b c d
 ends_cut {left} {rest} cut rose source_later sink_later = record {
-  done = λ e. absurd (cc);
-  all = λ e. absurd (cc);
+  as_asked = record {
+    done = λ e. absurd (cc);
+    all = λ e. absurd (cc);
+    read_fault = λ e. absurd (cc);
+    too_long = λ e. absurd (cc);
+    write_fault = λ e. cut.front;
+    bound = one_more left rest cut.limit;
+    limit = λ e. cut.limit;
+  };
   read_fault = λ e. absurd (cc);
   write_fault = λ e. rose;
   too_long = λ e. absurd (cc);
   memory = λ e. absurd (cc);
-  read_fault_written = λ e. absurd (cc);
-  too_long_written = λ e. absurd (cc);
-  write_fault_written = λ e. cut.front;
-  bound = one_more left rest cut.limit;
-  limit = λ e. cut.limit;
   source_faults = source_later;
   sink_faults = sink_later;
 }
 
 -- where memory lacked, and what waited is written
-pub ends_stopped : {r : Replayer} {left rest : Supply} {before mid now : Option (List ℕ)} {a b c d : ℕ} → StreamsStop r left rest before mid → Appends mid now r.out.bytes.items → a ≤ b → c ≤ d → EndsWith Memory left rest before now a b c d
+pub ends_stopped : {r : Replayer} {left rest : Supply} {before mid now : Option (List ℕ)} {a b c d : ℕ} → StreamsStop r left rest before mid → Appends mid now r.out.bytes.items → a ≤ b → c ≤ d → Ends (Some Replay) Memory left rest before now a b c d
 ends_stopped {r} {left} {rest} {before} {mid} {now} stop wrote source_later sink_later =
     let few : TakesAtMost SCRIPT_BYTES left rest = (stop.bytes, stop.taken, stop.limit) in
     record {
-      done = λ e. absurd (cc);
-      all = λ e. absurd (cc);
+      as_asked = record {
+        done = λ e. absurd (cc);
+        all = λ e. absurd (cc);
+        read_fault = λ e. absurd (cc);
+        too_long = λ e. absurd (cc);
+        write_fault = λ e. absurd (cc);
+        bound = one_more left rest few;
+        limit = λ e. few;
+      };
       read_fault = λ e. absurd (cc);
       write_fault = λ e. absurd (cc);
       too_long = λ e. absurd (cc);
       memory = λ e. inr (stopped r left rest before mid now stop wrote);
-      read_fault_written = λ e. absurd (cc);
-      too_long_written = λ e. absurd (cc);
-      write_fault_written = λ e. absurd (cc);
-      bound = one_more left rest few;
-      limit = λ e. few;
       source_faults = source_later;
       sink_faults = sink_later;
     }
+
+-- ---- a generated script
+
+pub generate_usage : {asked : Option Subcommand} {count seed : ℕ} {status : Status} {left rest : Supply} {before now : Option (List ℕ)} {a b c d : ℕ} → asked ≡ Some (Generate count seed) → Ends (Some (Generate count seed)) status left rest before now a b c d
+    → (status ≡ Usage) ↔ (asked ≡ None)
+generate_usage asks ends = (
+  λ is. elim ends.as_asked.ends [
+    | inl done ↦ absurd (cc)
+    | inr other ↦ elim other [
+      | inl fault ↦ absurd (cc)
+      | inr memory ↦ absurd (cc)
+    ]
+  ],
+  λ none. absurd (cc),
+)
+
+pub generate_complete : {count seed : ℕ} {status : Status} {left rest : Supply} {before now : Option (List ℕ)} {a b c d : ℕ} → Ends (Some (Generate count seed)) status left rest before now a b c d → (¬ Rose c d) → IsDoneOrMemory status
+generate_complete ends no_fault = elim ends.as_asked.ends [
+  | inl done ↦ inl done
+  | inr other ↦ elim other [
+    | inl fault ↦ absurd (no_fault (ends.write_fault fault))
+    | inr memory ↦ inr memory
+  ]
+]

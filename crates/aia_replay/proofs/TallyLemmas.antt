@@ -1,7 +1,8 @@
 -- The engine after one line more, and the summary of the lines that it answered.
-use Rattle.std.proofs.Common.{◌≡◌, ℕ, ◌-◌, ◌^◌, ◌≤◌, min, List, [], ◌∷◌, ◌++◌, Option, inl, inr, refl, sym, subst, ◌∙◌, arith}
+use Rattle.std.proofs.Common.{◌≡◌, ℕ, ◌-◌, ◌^◌, ◌≤◌, min, List, [], ◌∷◌, ◌++◌, Option, Some, inl, inr, refl, sym, subst, ◌∙◌, arith}
 use Rattle.std.specs.Io.KnownBytes.{Appends}
-use Rattle.aia_io.specs.Ends.{Rose}
+use Rattle.aia_io.specs.Ends.{Supply, Rose}
+use Rattle.aia_command.specs.declared.subcommand.Subcommand.TheVariants.{Generate}
 use Rattle.aia_model.specs.declared.answer.Answer.{Answer}
 use Rattle.aia_model.specs.declared.line.Line.{Line}
 use Rattle.aia_model.specs.Answer.{after_lines}
@@ -15,7 +16,7 @@ use Rattle.aia_generate.proofs.NoticeLemmas.{few_notices}
 use Rattle.aia_generate.proofs.TallyLemmas.{after_lines-append, generated_told}
 use Rattle.aia_replay.specs.declared.program.Status.TheVariants.{Done, WriteFault}
 use Rattle.aia_replay.specs.Buffered.{CutOff}
-use Rattle.aia_replay.specs.Runs.{EndsWithSummary}
+use Rattle.aia_replay.specs.Runs.{Ends}
 use Rattle.aia_replay.specs.Stands.{EngineState, StandsFor, Serves}
 
 pub stands_one_more : (old new : EngineState) (lines : List Line) (line : Line) (given : Answer) → StandsFor old (after_lines [] lines) → Serves old new line given → StandsFor new (after_lines [] (lines ++ line ∷ []))
@@ -32,22 +33,38 @@ is_summary t count seed notices few tallies counted =
     let exact : min (notices_sent (after_lines [] (generated count seed))) (2 ^ 64 - 1) ≡ notices_sent (after_lines [] (generated count seed)) = omega (arith, lines, sent, few) in
     generated_told t count seed notices tallies (omega (arith, lines, few)) (counted ∙ exact)
 
-pub summary_written : {text all : List ℕ} {before now : Option (List ℕ)} {a b : ℕ} → text ≡ all → Appends before now text → a ≤ b → EndsWithSummary Done all before now a b
-summary_written {text} {all} {before} {now} told wrote later = record {
-  ends = inl refl;
-  done = λ e. subst (Appends before now) told wrote;
+pub summary_written : {count seed : ℕ} {text : List ℕ} {before now : Option (List ℕ)} {a b : ℕ} (left : Supply) (faults : ℕ) → text ≡ summary count seed → Appends before now text → a ≤ b
+    → Ends (Some (Generate count seed)) Done left left before now faults faults a b
+summary_written {before = before} {now = now} left faults told wrote later = record {
+  as_asked = record {
+    ends = inl refl;
+    unread = refl;
+    done = λ e. subst (Appends before now) told wrote;
+    write_fault = λ e. absurd (cc);
+    memory = λ e. absurd (cc);
+  };
+  read_fault = λ e. absurd (cc);
   write_fault = λ e. absurd (cc);
-  write_fault_written = λ e. absurd (cc);
+  too_long = λ e. absurd (cc);
   memory = λ e. absurd (cc);
+  source_faults = omega arith;
   sink_faults = later;
 }
 
-pub summary_cut : {text all : List ℕ} {before now : Option (List ℕ)} {a b : ℕ} → text ≡ all → CutOff before now text → Rose a b → a ≤ b → EndsWithSummary WriteFault all before now a b
-summary_cut {text} {all} {before} {now} told cut rose later = record {
-  ends = inr (inl refl);
-  done = λ e. absurd (cc);
+pub summary_cut : {count seed : ℕ} {text : List ℕ} {before now : Option (List ℕ)} {a b : ℕ} (left : Supply) (faults : ℕ) → text ≡ summary count seed → CutOff before now text → Rose a b → a ≤ b
+    → Ends (Some (Generate count seed)) WriteFault left left before now faults faults a b
+summary_cut {before = before} {now = now} left faults told cut rose later = record {
+  as_asked = record {
+    ends = inr (inl refl);
+    unread = refl;
+    done = λ e. absurd (cc);
+    write_fault = λ e. subst (CutOff before now) told cut;
+    memory = λ e. absurd (cc);
+  };
+  read_fault = λ e. absurd (cc);
   write_fault = λ e. rose;
-  write_fault_written = λ e. subst (CutOff before now) told cut;
+  too_long = λ e. absurd (cc);
   memory = λ e. absurd (cc);
+  source_faults = omega arith;
   sink_faults = later;
 }

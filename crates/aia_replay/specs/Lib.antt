@@ -3,3 +3,4 @@ pub mod Stands
 pub mod Streams
 pub mod Runs
 pub mod Wires
+pub mod Plans

@@ -1,9 +1,10 @@
 -- What a run promises, by its status. Vocabulary.
-use Rattle.std.specs.Prelude.{◌≡◌, ◌≢◌, ℕ, ◌+◌, ◌≤◌, ◌⊎◌, true, false, nat_eq, List, [], ◌∷◌, ◌++◌, length, map, All, Option, Some, None, IfSome}
+use Rattle.std.specs.Prelude.{◌≡◌, ◌≢◌, ℕ, ◌+◌, ◌≤◌, ◌⊎◌, Bool, true, false, nat_eq, List, [], ◌∷◌, ◌++◌, length, map, All, Option, Some, None, IfSome}
 use Rattle.std.specs.Borrow.{Bor}
 use Rattle.std.specs.Io.KnownBytes.{Appends}
 use Rattle.aia_io.specs.Ends.{Supply, Gives, Rose, RoseBy}
 use Rattle.aia_command.specs.declared.subcommand.Subcommand.{Subcommand}
+use Rattle.aia_command.specs.declared.subcommand.Subcommand.TheVariants.{Replay, Generate, Audit}
 use Rattle.aia_command.specs.CommandLine.{subcommand_of}
 use Rattle.aia_model.specs.declared.parsed.Parsed.{Parsed}
 use Rattle.aia_model.specs.declared.parsed.Parsed.TheVariants as parsed
@@ -11,8 +12,11 @@ use Rattle.aia_model.specs.Event.{History}
 use Rattle.aia_model.specs.Refusal.{makes_machine}
 use Rattle.aia_model.specs.Reading.{reading}
 use Rattle.aia_model.specs.Script.{answers, history_of}
+use Rattle.aia_generate.specs.Summary.{summary}
+use Rattle.aia_plan.specs.declared.step.Kind.{Kind}
+use Rattle.aia_audit.specs.PlanText.{audit_text}
 use Rattle.aia_replay.specs.declared.program.Status.{Status}
-use Rattle.aia_replay.specs.declared.program.Status.TheVariants.{Done, ReadFault, WriteFault, Memory, TooLong}
+use Rattle.aia_replay.specs.declared.program.Status.TheVariants.{Done, Usage, ReadFault, WriteFault, Memory, TooLong}
 use Rattle.aia_replay.specs.declared.limits.TheConstants.{SCRIPT_BYTES}
 use Rattle.aia_replay.specs.Buffered.{CutOff}
 
@@ -124,36 +128,90 @@ pub record StopsAtMachine (left rest : Supply) (before now : Option (List ℕ)) 
   pub asks : AsksMachine (history_of whole) (reading text)
   pub written : Appends before now (answers whole)
 
--- ---- the whole promise
+-- ---- what each subcommand does, by the status that the run ends with
 
--- What a run of `replay` promises by the status that it ends with: of what the source had left
--- before and after it, what the sink had taken before and after it, and the counts of faults of the
--- source and of the sink, each before and after it. Memory may lack for the words of the command
--- line, and then nothing was touched, or for a machine.
-pub record EndsWith (status : Status) (left rest : Supply) (before now : Option (List ℕ))
-    (source_old source_new sink_old sink_new : ℕ) : Type 0 where
+-- A run of `replay`: what of the source's bytes is taken, and which answers are written. Memory may
+-- lack for the words of the command line, and then nothing was touched, or for a machine.
+pub record EndsReplay (status : Status) (left rest : Supply) (before now : Option (List ℕ))
+    : Type 0 where
   pub done : status ≡ Done → WritesAnswers left before now
   pub all : status ≡ Done → TakesAll left rest
+  pub read_fault : status ≡ ReadFault → WritesLines 0 left rest before now
+  pub too_long : status ≡ TooLong → WritesLines 1 left rest before now
+  pub write_fault : status ≡ WriteFault → WritesFront left rest before now
+  pub bound : TakesAtMost (SCRIPT_BYTES + 1) left rest
+  pub limit : status ≢ TooLong → TakesAtMost SCRIPT_BYTES left rest
+
+-- A run of `gen`, of the text of the summary: it reads nothing. Memory may lack for the words, or
+-- for the machine of the generated script.
+pub record EndsGenerate (status : Status) (text : List ℕ) (left rest : Supply)
+    (before now : Option (List ℕ)) : Type 0 where
+  pub ends : (status ≡ Done) ⊎ ((status ≡ WriteFault) ⊎ (status ≡ Memory))
+  pub unread : rest ≡ left
+  pub done : status ≡ Done → Appends before now text
+  pub write_fault : status ≡ WriteFault → CutOff before now text
+  pub memory : status ≡ Memory → Appends before now []
+
+-- A run of words that are refused: it touches nothing. Memory may lack for the words.
+pub record EndsRefused (status : Status) (left rest : Supply) (before now : Option (List ℕ))
+    : Type 0 where
+  pub ends : (status ≡ Usage) ⊎ (status ≡ Memory)
+  pub unread : rest ≡ left
+  pub unwritten : now ≡ before
+
+-- What the sink took is what is printed of all that the source had left, where it tells that: the
+-- verdict on the plan, or which of its texts is bad.
+abbrev pub WritesVerdict : Kind → ℕ → Supply → Option (List ℕ) → Option (List ℕ) → Type 0
+WritesVerdict kind words left before now =
+    IfSome left.to_come (λ plan. Appends before now (audit_text kind words plan))
+
+-- The sink failed, and took a front of that.
+abbrev pub CutsVerdict : Kind → ℕ → Supply → Option (List ℕ) → Option (List ℕ) → Type 0
+CutsVerdict kind words left before now =
+    IfSome left.to_come (λ plan. CutOff before now (audit_text kind words plan))
+
+-- A run of `audit`, of a plan of a move of a kind, of files of so many words: it writes once all is
+-- read, and nothing before. Memory may lack for the words of the command line alone.
+pub record EndsAudit (status : Status) (kind : Kind) (words : ℕ) (left rest : Supply)
+    (before now : Option (List ℕ)) : Type 0 where
+  pub done : status ≡ Done → WritesVerdict kind words left before now × TakesAll left rest
+  pub write_fault : status ≡ WriteFault
+      → CutsVerdict kind words left before now × TakesAll left rest
+  pub unwritten : status ≢ Done → status ≢ WriteFault → Appends before now []
+  pub memory : status ≡ Memory → TouchesNothing left rest before now
+  pub bound : TakesAtMost (SCRIPT_BYTES + 1) left rest
+  pub limit : status ≢ TooLong → TakesAtMost SCRIPT_BYTES left rest
+
+-- By what the words ask for.
+abbrev pub EndsAsAsked : Option Subcommand → Status → Supply → Supply → Option (List ℕ)
+    → Option (List ℕ) → Type 0
+EndsAsAsked None status left rest before now = EndsRefused status left rest before now
+EndsAsAsked (Some Replay) status left rest before now = EndsReplay status left rest before now
+EndsAsAsked (Some (Generate count seed)) status left rest before now =
+    EndsGenerate status (summary count seed) left rest before now
+EndsAsAsked (Some (Audit kind words)) status left rest before now =
+    EndsAudit status kind words left rest before now
+
+-- Whether what is asked for reads the source.
+abbrev pub reads_source : Option Subcommand → Bool
+reads_source None = false
+reads_source (Some Replay) = true
+reads_source (Some (Generate count seed)) = false
+reads_source (Some (Audit kind words)) = true
+
+-- ---- the whole promise
+
+-- What a run promises by what its words ask for and the status that it ends with: of what the
+-- source had left before and after it, what the sink had taken before and after it, and the counts
+-- of faults of the source and of the sink, each before and after it. Each fault has its cause, and
+-- memory lacks where nothing was touched, or for a machine that a script asks for.
+pub record Ends (asked : Option Subcommand) (status : Status) (left rest : Supply)
+    (before now : Option (List ℕ)) (source_old source_new sink_old sink_new : ℕ) : Type 0 where
+  pub as_asked : EndsAsAsked asked status left rest before now
   pub read_fault : status ≡ ReadFault → Rose source_old source_new
   pub write_fault : status ≡ WriteFault → Rose sink_old sink_new
   pub too_long : status ≡ TooLong → Takes (SCRIPT_BYTES + 1) left rest
   pub memory : status ≡ Memory
       → TouchesNothing left rest before now ⊎ StopsAtMachine left rest before now
-  pub read_fault_written : status ≡ ReadFault → WritesLines 0 left rest before now
-  pub too_long_written : status ≡ TooLong → WritesLines 1 left rest before now
-  pub write_fault_written : status ≡ WriteFault → WritesFront left rest before now
-  pub bound : TakesAtMost (SCRIPT_BYTES + 1) left rest
-  pub limit : status ≢ TooLong → TakesAtMost SCRIPT_BYTES left rest
   pub source_faults : source_old ≤ source_new
-  pub sink_faults : sink_old ≤ sink_new
-
--- What a run of `gen` promises by the status that it ends with: of the text of the summary, what
--- the sink had taken before and after it, and the count of faults of the sink, before and after it.
-pub record EndsWithSummary (status : Status) (text : List ℕ) (before now : Option (List ℕ))
-    (sink_old sink_new : ℕ) : Type 0 where
-  pub ends : (status ≡ Done) ⊎ ((status ≡ WriteFault) ⊎ (status ≡ Memory))
-  pub done : status ≡ Done → Appends before now text
-  pub write_fault : status ≡ WriteFault → Rose sink_old sink_new
-  pub write_fault_written : status ≡ WriteFault → CutOff before now text
-  pub memory : status ≡ Memory → Appends before now []
   pub sink_faults : sink_old ≤ sink_new

@@ -1,15 +1,15 @@
-ghost use Rattle.std.specs.Prelude.{◌≡◌, ◌≤◌, [], IfOk, OnErr};
+ghost use Rattle.std.specs.Prelude.{◌≡◌, ◌≤◌, ℕ, [], Some, IfOk, OnErr};
+ghost use Rattle.aia_io.specs.Ends.{Supply};
 ghost use Rattle.aia_model.specs.Answer.{after_lines};
 ghost use Rattle.aia_generate.specs.Generated.{generated};
-ghost use Rattle.aia_generate.specs.Summary.{summary};
 ghost use Rattle.aia_generate.specs.Tally.{Tallies};
-ghost use Rattle.aia_replay.specs.Runs.{EndsWithSummary};
+ghost use Rattle.aia_replay.specs.Runs.{Ends};
 ghost use Rattle.aia_replay.specs.Stands.{StandsFor};
 
 use crate::buffered::write_all;
 use crate::engine::Engine;
 use crate::program::Status;
-use aia_command::MOST_LINES;
+use aia_command::{MOST_LINES, Subcommand};
 use aia_generate::{Tally, generated_lines, summary};
 use aia_io::Sink;
 use arrayvec::ArrayVec;
@@ -18,8 +18,9 @@ use std::alloc::{AllocError, Global};
 /// Runs the script that two numbers generate, and writes its summary.
 pub fn summarize<K: Sink>(alloc: Global, count: u64, seed: u64, sink: &mut K) -> Status
     requires { count ≤ MOST_LINES }
-    ensures { EndsWithSummary result (summary count seed) (K.taken sink.old) (K.taken sink.new)
-        (K.faults sink.old) (K.faults sink.new) }
+    ensures { (left : Supply) (faults : ℕ) → Ends (Some (Subcommand.Generate count seed)) result
+        left left (K.taken sink.old) (K.taken sink.new) faults faults (K.faults sink.old)
+        (K.faults sink.new) }
 {
     let mut engine = Engine::new();
     summarize_by(&mut engine, alloc, count, seed, sink)
@@ -36,8 +37,9 @@ fn summarize_by<K: Sink>(
 ) -> Status
     requires few { count ≤ MOST_LINES }
     requires stands { StandsFor engine.old [] }
-    ensures { EndsWithSummary result (summary count seed) (K.taken sink.old) (K.taken sink.new)
-        (K.faults sink.old) (K.faults sink.new) }
+    ensures { (left : Supply) (faults : ℕ) → Ends (Some (Subcommand.Generate count seed)) result
+        left left (K.taken sink.old) (K.taken sink.new) faults faults (K.faults sink.old)
+        (K.faults sink.new) }
 {
     let Ok(tally) = tally_lines(alloc, count, seed, engine) else {
         return Status::Memory;

@@ -1,13 +1,14 @@
-ghost use Rattle.std.specs.Prelude.{◌≡◌, ◌≢◌, ◌↔◌, ◌⊎◌, ◌+◌, ℕ, Some, None};
+ghost use Rattle.std.specs.Prelude.{◌≡◌, ◌≢◌, ◌↔◌, ◌⊎◌, ◌+◌, ℕ, true, Some, None};
 ghost use Rattle.aia_io.specs.Ends.{Rose};
-ghost use Rattle.aia_generate.specs.Summary.{summary};
-ghost use Rattle.aia_replay.specs.Runs.{asked, EndsWith, EndsWithSummary, StopsAtMachine, Takes, WritesAnswers, TakesAll, TouchesNothing, FitsIn, IsDoneOrMemory};
+ghost use Rattle.aia_replay.specs.Runs.{asked, reads_source, Ends, StopsAtMachine, WritesAnswers, WritesVerdict, TakesAll, FitsIn, IsDoneOrMemory};
 ghost use Rattle.aia_replay.specs.Streams.{Begins};
 
 use crate::generator::summarize;
 use crate::limits::SCRIPT_BYTES;
+use crate::plan_reader::audit_plan;
 use crate::replayer::Replayer;
 use crate::stop::Stop;
+use aia_audit::Kind;
 use aia_command::{Subcommand, read_words};
 use aia_io::{Sink, Source};
 use std::alloc::Global;
@@ -15,7 +16,8 @@ use std::alloc::Global;
 /// How a run ended.
 #[derive(Clone, Copy, Debug, PartialEq, Eq)]
 pub enum Status {
-    /// The script was read to its end, and all its answers were written; or the summary was.
+    /// The script was read to its end, and all its answers were written; or the summary was; or the
+    /// plan was read to its end, and the answer written.
     Done,
     /// The words of the command line are refused.
     Usage,
@@ -25,14 +27,14 @@ pub enum Status {
     WriteFault,
     /// There was no memory for the words, or for the machine.
     Memory,
-    /// The script has more than [`SCRIPT_BYTES`] bytes.
+    /// The script or the plan has more than [`SCRIPT_BYTES`] bytes.
     TooLong,
 }
 
 /// Runs the command that `words` give, the command line without the program's name: `replay` reads
 /// a script from the source to its end and writes the answers of its lines to the sink; `gen COUNT
-/// SEED` runs the script that the two numbers generate, reads nothing, and writes its summary.
-/// Every other list of words is refused, as clap refuses it.
+/// SEED` runs the script that the two numbers generate, reads nothing, and writes its summary;
+/// `audit KIND W` reads a plan from the source to its end, and writes the verdict on it. Every other list of words is refused, as clap refuses it.
 ///
 /// It returns always. Answers are written at the latest before the next read and before it returns.
 /// Memory is taken for the words and for the machine alone.
@@ -48,29 +50,19 @@ pub fn run<S: Source, K: Sink>(
     ensures all { asked words.now ≡ Some Subcommand.Replay → result ≡ Status.Done
         → TakesAll (S.supply source.old) (S.supply source.new) }
 
-    // What every ending promises: its cause, what was then written, and how much was taken.
-    ensures replays { asked words.now ≡ Some Subcommand.Replay
-        → EndsWith result (S.supply source.old) (S.supply source.new) (K.taken sink.old)
-        (K.taken sink.new) (S.faults source.old) (S.faults source.new) (K.faults sink.old)
-        (K.faults sink.new) }
-    ensures generates { (count seed : ℕ)
-        → asked words.now ≡ Some (Subcommand.Generate count seed)
-        → (source.new ≡ source.old) × EndsWithSummary result (summary count seed) (K.taken sink.old)
-        (K.taken sink.new) (K.faults sink.old) (K.faults sink.new) }
+    // Of `audit`: what is written is the verdict on the whole plan, or which of its texts is bad.
+    ensures audits { (kind : Kind) (width : ℕ)
+        → asked words.now ≡ Some (Subcommand.Audit kind width) → result ≡ Status.Done
+        → WritesVerdict kind width (S.supply source.old) (K.taken sink.old) (K.taken sink.new)
+        × TakesAll (S.supply source.old) (S.supply source.new) }
 
-    // Why it ends otherwise, whatever the words ask for. Memory may lack for the words, or for a
-    // generated script, and nothing was touched then; or for a machine that the script asks for.
-    ensures read_fault { result ≡ Status.ReadFault
-        → Rose (S.faults source.old) (S.faults source.new) }
-    ensures write_fault { result ≡ Status.WriteFault
-        → Rose (K.faults sink.old) (K.faults sink.new) }
-    ensures memory { result ≡ Status.Memory
-        → TouchesNothing (S.supply source.old) (S.supply source.new) (K.taken sink.old)
-        (K.taken sink.new)
-        ⊎ StopsAtMachine (S.supply source.old) (S.supply source.new) (K.taken sink.old)
-        (K.taken sink.new) }
-    ensures too_long { result ≡ Status.TooLong
-        → Takes (SCRIPT_BYTES + 1) (S.supply source.old) (S.supply source.new) }
+    // What every ending promises, by what the words ask for: its cause, what was then written, and
+    // how much was taken.
+    ensures ends { Ends (asked words.now) result (S.supply source.old) (S.supply source.new)
+        (K.taken sink.old) (K.taken sink.new) (S.faults source.old) (S.faults source.new)
+        (K.faults sink.old) (K.faults sink.new) }
+    ensures unread { (count seed : ℕ) → asked words.now ≡ Some (Subcommand.Generate count seed)
+        → source.new ≡ source.old }
 
     // Where there is memory for them, words are refused exactly by `Usage`; nothing is touched
     // then.
@@ -80,18 +72,19 @@ pub fn run<S: Source, K: Sink>(
         → ((result ≡ Status.Usage) ⊎ (result ≡ Status.Memory))
         × (source.new ≡ source.old) × (sink.new ≡ sink.old) }
 
-    // Completeness: with good words, no fault and a script that fits, by what the source told
+    // Completeness: with good words, no fault and a script or plan that fits, by what the source told
     // before or by its count of the bytes that it gave, nothing but want of memory is in the way.
     ensures complete { asked words.now ≢ None
         → (¬ Rose (S.faults source.old) (S.faults source.new))
         → (¬ Rose (K.faults sink.old) (K.faults sink.new))
-        → (asked words.now ≡ Some Subcommand.Replay
+        → (reads_source (asked words.now) ≡ true
         → FitsIn SCRIPT_BYTES (S.supply source.old) (S.supply source.new))
         → IsDoneOrMemory result }
 {
     match read_words(alloc, words) {
         Ok(Some(Subcommand::Replay)) => replay(alloc, source, sink),
         Ok(Some(Subcommand::Generate { count, seed })) => summarize(alloc, count, seed, sink),
+        Ok(Some(Subcommand::Audit { kind, words })) => audit_plan(kind, words, source, sink),
         Ok(None) => Status::Usage,
         Err(_) => Status::Memory,
     }
@@ -102,9 +95,9 @@ fn replay<S: Source, K: Sink>(alloc: Global, source: &mut S, sink: &mut K) -> St
     ensures usage { result ≢ Status.Usage }
     ensures machine { result ≡ Status.Memory → StopsAtMachine (S.supply source.old)
         (S.supply source.new) (K.taken sink.old) (K.taken sink.new) }
-    ensures ends { EndsWith result (S.supply source.old) (S.supply source.new) (K.taken sink.old)
-        (K.taken sink.new) (S.faults source.old) (S.faults source.new) (K.faults sink.old)
-        (K.faults sink.new) }
+    ensures ends { Ends (Some Subcommand.Replay) result (S.supply source.old)
+        (S.supply source.new) (K.taken sink.old) (K.taken sink.new) (S.faults source.old)
+        (S.faults source.new) (K.faults sink.old) (K.faults sink.new) }
 {
     let mut replayer = Replayer::new();
     replay_by(&mut replayer, alloc, source, sink)
@@ -122,9 +115,9 @@ fn replay_by<S: Source, K: Sink>(
     ensures usage { result ≢ Status.Usage }
     ensures machine { result ≡ Status.Memory → StopsAtMachine (S.supply source.old)
         (S.supply source.new) (K.taken sink.old) (K.taken sink.new) }
-    ensures ends { EndsWith result (S.supply source.old) (S.supply source.new) (K.taken sink.old)
-        (K.taken sink.new) (S.faults source.old) (S.faults source.new) (K.faults sink.old)
-        (K.faults sink.new) }
+    ensures ends { Ends (Some Subcommand.Replay) result (S.supply source.old)
+        (S.supply source.new) (K.taken sink.old) (K.taken sink.new) (S.faults source.old)
+        (S.faults source.new) (K.faults sink.old) (K.faults sink.new) }
 {
     match replayer.read_all(alloc, source, sink) {
         Ok(status) => status,

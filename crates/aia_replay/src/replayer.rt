@@ -1,24 +1,15 @@
-ghost use Rattle.std.specs.Prelude.{◌≡◌, ◌≢◌, ℕ, ◌+◌, ◌*◌, ◌<◌, ◌≤◌, List, [], ◌∷◌, ◌++◌, length, take, position, nat_eq, Option, IfOk, OnOk, OnErr, Ok, Err};
-ghost use Rattle.arrayvec.specs.ArrayVec.{array_vec_len};
-ghost use Rattle.aia_io.specs.Ends.{Rose, ReadHasCause};
-ghost use Rattle.aia_replay.specs.Streams.{ReadsFront, ReadsOn};
+ghost use Rattle.std.specs.Prelude.{◌≡◌, ◌≢◌, ℕ, ◌+◌, ◌*◌, ◌<◌, ◌≤◌, List, [], ◌∷◌, ◌++◌, take, Option, IfOk, OnOk, OnErr, Ok, Err};
+ghost use Rattle.aia_io.specs.Ends.{Rose};
 
 use crate::buffered::{Buffered, SinkFault};
 use crate::engine::Engine;
 use crate::limits::{PIECE_BYTES, SCRIPT_BYTES};
+use crate::pieces::{LINE, keep, line_end, read_front};
 use crate::program::Status;
 use crate::stop::Stop;
 use aia_io::{Read, Sink, Source};
-use aia_model::limits::LINE_BYTES;
 use arrayvec::ArrayVec;
-use memchr::memchr;
 use std::alloc::Global;
-
-/// The byte that ends a line.
-const LF: u8 = b'\n';
-
-/// One byte more than the longest line has, so that a longer one shows.
-const LINE: usize = LINE_BYTES + 1;
 
 /// Answers a script that comes in pieces: the engine, the line that is being read, and the answers
 /// that wait.
@@ -51,8 +42,7 @@ impl Replayer {
         ensures line { self.new.line.items ≡ take LINE (self.old.line.items ++ part.now) }
         ensures others { self.new ≡ record self.old { line = self.new.line } }
     {
-        let room = self.line.remaining_capacity();
-        extend(&mut self.line, &part[..part.len().min(room)]);
+        keep(&mut self.line, part);
     }
 
     /// Answers the line that was kept, and begins the next one.
@@ -195,30 +185,4 @@ impl Replayer {
     {
         self.out.write_out(sink)
     }
-}
-
-/// Appends bytes for which there is room.
-fn extend(line: &mut ArrayVec<u8, LINE>, bytes: &[u8])
-    requires { array_vec_len line.old + length bytes.now ≤ LINE }
-    ensures { line.new.items ≡ line.old.items ++ bytes.now }
-{
-    let _ = line.try_extend_from_slice(bytes);
-}
-
-/// Tells where the first line of `bytes` ends, `None` where none does.
-fn line_end(bytes: &[u8]) -> Option<usize>
-    ensures { result ≡ position (λ b. nat_eq b LF) bytes.now }
-{
-    memchr(LF, bytes)
-}
-
-/// Reads at most `most` bytes into the front of `piece`.
-fn read_front<S: Source>(source: &mut S, piece: &mut [u8], most: usize) -> Read
-    requires some { 0 < most }
-    requires room { most ≤ length piece.old }
-    ensures bytes { ReadsFront most (S.supply source.old) (S.supply source.new) piece.new result }
-    ensures taken { ReadsOn (S.supply source.old) (S.supply source.new) piece.new result }
-    ensures cause { ReadHasCause (S.faults source.old) (S.faults source.new) result }
-{
-    source.read(&mut piece[..most])
 }

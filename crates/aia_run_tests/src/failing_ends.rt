@@ -30,7 +30,7 @@ fn refuses(rt: &impl Abort, alloc: Global, words: &[&str]) -> Result<(), AllocEr
 #[test]
 fn other_words_are_refused_with_nothing_read_or_written(rt: HostRuntime) -> Result<(), Fail> {
     let alloc = rt.alloc();
-    let refused: [&[&str]; 8] = [
+    let refused: [&[&str]; 14] = [
         &[],
         &["gen"],
         &["gen", "1"],
@@ -39,6 +39,12 @@ fn other_words_are_refused_with_nothing_read_or_written(rt: HostRuntime) -> Resu
         &["gen", "-1", "1"],
         &["--help"],
         &["replay", "replay"],
+        &["audit"],
+        &["audit", "leave"],
+        &["audit", "x", "1"],
+        &["audit", "shift", "3"],
+        &["audit", "1", "leave"],
+        &["audit", "leave", "1", "1"],
     ];
     for words in refused {
         refuses(&rt, alloc, words)?;

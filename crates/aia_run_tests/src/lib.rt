@@ -21,6 +21,8 @@ mod looks;
 #[cfg(test)]
 mod outcomes;
 #[cfg(test)]
+mod plans;
+#[cfg(test)]
 mod rows;
 #[cfg(test)]
 mod runs;

@@ -12,8 +12,8 @@ use std::test::Fail;
 /// More bytes than any script here prints.
 pub(crate) const ROOM: usize = 16_384;
 
-/// The most bytes that a script has.
-const LIMIT: usize = 16_777_216;
+/// The most bytes that a script has, and a plan.
+pub(crate) const LIMIT: usize = 16_777_216;
 
 /// Replays what the source gives. It has no clause, so that a test knows nothing of the run.
 pub(crate) fn replay<S: Source, K: Sink>(alloc: Global, source: &mut S, sink: &mut K) -> Status {

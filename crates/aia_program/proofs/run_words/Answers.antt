@@ -4,15 +4,15 @@ use Rattle.aia_replay.specs.Runs.{asked}
 use Rattle.aia_program.specs.Command.{words_of}
 use Rattle.aia_program.proofs.run_words.Goals as goal
 
-pub returns-in-Ok-clause-done : goal.returns-in-Ok-clause-done
-returns-in-Ok-clause-done g c =
+pub returns-in-Ok-clause-ends : goal.returns-in-Ok-clause-ends
+returns-in-Ok-clause-ends g c =
     let same : asked c.deref.result.now ≡ subcommand_of (words_of c.args.arguments.now) = rw c.deref.ensures.value (ap subcommand_of c.in-Ok.ensures) in
-    λ taken is. (c.run.ensures.done (same ∙ taken) is, c.run.ensures.all (same ∙ taken) is)
+    rw (← same) c.run.ensures.ends
 
-pub returns-in-Ok-clause-generates : goal.returns-in-Ok-clause-generates
-returns-in-Ok-clause-generates g c =
+pub returns-in-Ok-clause-unread : goal.returns-in-Ok-clause-unread
+returns-in-Ok-clause-unread g c =
     let same : asked c.deref.result.now ≡ subcommand_of (words_of c.args.arguments.now) = rw c.deref.ensures.value (ap subcommand_of c.in-Ok.ensures) in
-    λ count seed taken. let given = c.run.ensures.generates count seed (same ∙ taken) in (given.0, λ is. given.1.done is)
+    λ count seed taken. c.run.ensures.unread count seed (same ∙ taken)
 
 pub returns-in-Ok-clause-usage : goal.returns-in-Ok-clause-usage
 returns-in-Ok-clause-usage g c =
@@ -22,4 +22,4 @@ returns-in-Ok-clause-usage g c =
 pub returns-in-Ok-clause-complete : goal.returns-in-Ok-clause-complete
 returns-in-Ok-clause-complete g c =
     let same : asked c.deref.result.now ≡ subcommand_of (words_of c.args.arguments.now) = rw c.deref.ensures.value (ap subcommand_of c.in-Ok.ensures) in
-    λ asks source sink fits. c.run.ensures.complete (λ none. asks (sym same ∙ none)) source sink (λ replays. fits (sym same ∙ replays))
+    λ asks source sink fits. c.run.ensures.complete (λ none. asks (sym same ∙ none)) source sink (λ reads. fits (rw (← same) reads))

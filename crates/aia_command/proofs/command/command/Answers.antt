@@ -1,6 +1,6 @@
 use Rattle.std.proofs.Common.{rules, ap, ap₂, ◌≡◌, ◌∙◌}
 use Rattle.clap.specs.Words.{App, app_of, with_subcommand}
-use Rattle.aia_command.specs.CommandLine.{bare_command, replay_command, the_command}
+use Rattle.aia_command.specs.CommandLine.{bare_command, generate_command, replay_command, the_command}
 use Rattle.aia_command.proofs.command.command.Goals as goal
 
 pub returns : goal.returns
@@ -8,4 +8,6 @@ unfolding the_command
 returns c =
     let first : app_of c.in_ok-subcommand.field-0 ≡ with_subcommand bare_command replay_command.top = c.in_ok-subcommand.ensures.shape (search rules)
     ∙ ap₂ with_subcommand c.bare_command.ensures.shape (ap (λ (a : App). a.top) c.replay_command.ensures.shape) in
-    c.in_ok-whole.ensures.shape (search rules) ∙ ap₂ with_subcommand first (ap (λ (a : App). a.top) c.in_ok-generate.ensures.shape)
+    let second : app_of c.in_ok-subcommand-2.field-0 ≡ with_subcommand (with_subcommand bare_command replay_command.top) generate_command.top = c.in_ok-subcommand-2.ensures.shape (search rules)
+    ∙ ap₂ with_subcommand first (ap (λ (a : App). a.top) c.in_ok-generate.ensures.shape) in
+    c.in_ok-whole.ensures.shape (search rules) ∙ ap₂ with_subcommand second (ap (λ (a : App). a.top) c.in_ok-audit.ensures.shape)
