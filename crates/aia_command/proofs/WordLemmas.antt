@@ -13,7 +13,8 @@ use Rattle.clap.proofs.WalkLemmas.{both}
 use Rattle.std.specs.Prelude.{option_and_then, option_map}
 use Rattle.clap.specs.Matches.{ReadsOne}
 use Rattle.aia_command.specs.declared.kind_word.KindWord.{KindWord}
-use Rattle.aia_command.specs.CommandLine.{NamesKind, kind_named, named, subcommand_of, the_command, unless_refused}
+use Rattle.aia_command.specs.KindWords.{NamesKind}
+use Rattle.aia_command.specs.CommandLine.{kind_named, named, subcommand_of, the_command, unless_refused}
 
 the_command-simple : is_simple_and_free the_command ≡ true
 unfolding clap_on_literals the_command

@@ -4,7 +4,7 @@
 -- Which words are taken, which word is whose argument and which texts are numbers is what the
 -- library `clap` states of a command: `fault_of`, its `subcommand_of`, by which a subcommand is
 -- met, `one_of` and `is_unsigned_in`. The command is ours.
-use Rattle.std.specs.Prelude.{◌≡◌, ℕ, ◌^◌, ◌-◌, true, nat_eq, List, [], ◌∷◌, Option, Some, None, Result, Ok, Err, if◌then◌else◌, codes, option_and_then}
+use Rattle.std.specs.Prelude.{ℕ, ◌^◌, ◌-◌, true, nat_eq, List, [], ◌∷◌, Option, Some, None, if◌then◌else◌, codes, option_and_then}
 use Rattle.std.specs.List.{list_any}
 use Rattle.std.specs.Str.{bytes_eq}
 use Rattle.std.specs.Str.Parse.{digits_value, without_leading_plus}
@@ -19,8 +19,6 @@ use Rattle.clap.specs.declared.builder.value_parser.ValueParser.TheVariants as p
 use Rattle.aia_command.specs.declared.limits.TheConstants.{MOST_LINES}
 use Rattle.aia_command.specs.declared.subcommand.Subcommand.{Subcommand}
 use Rattle.aia_command.specs.declared.subcommand.Subcommand.TheVariants.{Replay, Generate, Audit}
-use Rattle.aia_command.specs.declared.kind_word.KindWord.{KindWord}
-use Rattle.aia_command.specs.declared.kind_word.NoKind.{NoKind}
 use Rattle.aia_plan.specs.declared.step.Kind.{Kind}
 use Rattle.aia_plan.specs.declared.step.Kind.TheVariants.{Leave, Arrive, Shift}
 
@@ -87,11 +85,6 @@ kind_named word = if bytes_eq word (codes "leave") then Some Leave
 
 abbrev pub kind_at : List Row → Option Kind
 kind_at rows = option_and_then kind_named (one_of (codes "KIND") rows)
-
--- What reading a kind's word may give.
-abbrev pub NamesKind : Text → Result KindWord NoKind → Type 0
-NamesKind text (Ok word) = kind_named text ≡ Some word.kind
-NamesKind text (Err none) = kind_named text ≡ None
 
 -- How many words of 64 identities the sets of an interrupt file have, where a number is that.
 abbrev pub width_of : ℕ → Option ℕ

@@ -17,7 +17,7 @@ pub(crate) struct KindWord {
 pub(crate) struct NoKind;
 
 impl FromStr for KindWord {
-    ghost use Rattle.aia_command.specs.CommandLine.{NamesKind};
+    ghost use Rattle.aia_command.specs.KindWords.{NamesKind};
 
     type Err = NoKind;
 

@@ -46,8 +46,8 @@ fn read_generate(arguments: &ArgMatches<'_>) -> Option<Subcommand>
     Some(Subcommand::Generate { count, seed })
 }
 
-/// Reads the arguments of `audit`. `None`: one of them is not there, KIND is no kind of move, or W is
-/// no width.
+/// Reads the arguments of `audit`. `None`: one of them is not there, KIND is no kind of move, or W
+/// is no width.
 fn read_audit(arguments: &ArgMatches<'_>) -> Option<Subcommand>
     ensures { result ≡ audit_of (rows_of (found_of arguments.now)) }
 {

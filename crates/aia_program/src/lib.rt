@@ -49,7 +49,8 @@ pub fn command<S: Source, K: Sink>(
     ensures all { asked_by arguments ≡ Some Replay → exit_status result ≡ 0
         → TakesAll (S.supply source.old) (S.supply source.new) }
 
-    // Of `audit`: at 0 what is written is the verdict on the whole plan, or which of its texts is bad.
+    // Of `audit`: at 0 what is written is the verdict on the whole plan, or which of its texts is
+    // bad.
     ensures audits { (kind : Kind) (width : ℕ) → asked_by arguments ≡ Some (Audit kind width)
         → exit_status result ≡ 0
         → WritesVerdict kind width (S.supply source.old) (K.taken sink.old) (K.taken sink.new)

@@ -21,7 +21,7 @@ use Rattle.aia_replay.specs.declared.program.Status.{Status}
 use Rattle.aia_replay.specs.declared.program.Status.TheVariants.{Done, ReadFault, WriteFault, Memory, TooLong}
 use Rattle.aia_replay.specs.Buffered.{CutOff}
 use Rattle.aia_replay.specs.Runs.{NoEnd, TakesAll, TakesAtMost, Ends}
-use Rattle.aia_replay.specs.Plans.{AreInside, BeginsPlan, FeedsPlan, FinishesPlan, HoldsPlan, StreamsPlan, plan_read}
+use Rattle.aia_replay.specs.Plans.{BeginsPlan, FeedsPlan, FinishesPlan, HoldsPlan, StreamsPlan, plan_read}
 use Rattle.aia_replay.specs.Streams.{ReadsOn}
 use Rattle.aia_replay.proofs.CutLemmas.{texts_front, take_again}
 use Rattle.aia_replay.proofs.HeldLemmas.{one_text}

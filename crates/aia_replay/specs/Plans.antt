@@ -40,8 +40,8 @@ pub record HoldsPlan (r : PlanReader) (words : ℕ) (bytes : List ℕ) : Type 0 
   pub width : r.plan.words ≡ words
   pub no_end : NoEnd tail
   pub line : r.line.items ≡ take (LINE_BYTES + 1) tail
-  pub completes : (more : List ℕ)
-      → with_texts words (plan_read r.plan) (texts_of (tail ++ more)) ≡ plan_of words (bytes ++ more)
+  pub completes : (more : List ℕ) → with_texts words (plan_read r.plan) (texts_of (tail ++ more))
+      ≡ plan_of words (bytes ++ more)
 
 -- A piece more was read, whatever was read before.
 abbrev pub FeedsPlan : PlanReader → PlanReader → List ℕ → Type 0

@@ -65,7 +65,7 @@ impl PlanReader {
         }
     }
 
-    /// Reads a piece of the plan: each line that ends in it, and keeps what is left of the last one.
+    /// Reads a piece of the plan: each line that ends in it; and keeps what is left of the last.
     fn feed(&mut self, piece: &[u8])
         requires { AreInside self.old.plan }
         ensures feeds { FeedsPlan self.old self.new piece.now }

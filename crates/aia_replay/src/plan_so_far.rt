@@ -75,8 +75,8 @@ impl PlanSoFar {
         self.bad = Some(place);
     }
 
-    /// Prints the answer, with its LF: the verdict on the plan of a move of a kind, or which text is
-    /// bad.
+    /// Prints the answer, with its LF: the verdict on the plan of a move of a kind, or which text
+    /// is bad.
     pub fn answer(&self, kind: Kind) -> ArrayVec<u8, ANSWER>
         requires width { IsWidth self.now.words }
         requires inside { AreInside self.now }

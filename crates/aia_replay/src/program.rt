@@ -34,7 +34,8 @@ pub enum Status {
 /// Runs the command that `words` give, the command line without the program's name: `replay` reads
 /// a script from the source to its end and writes the answers of its lines to the sink; `gen COUNT
 /// SEED` runs the script that the two numbers generate, reads nothing, and writes its summary;
-/// `audit KIND W` reads a plan from the source to its end, and writes the verdict on it. Every other list of words is refused, as clap refuses it.
+/// `audit KIND W` reads a plan from the source to its end, and writes the verdict on it. Every other
+/// list of words is refused, as clap refuses it.
 ///
 /// It returns always. Answers are written at the latest before the next read and before it returns.
 /// Memory is taken for the words and for the machine alone.
@@ -72,8 +73,9 @@ pub fn run<S: Source, K: Sink>(
         → ((result ≡ Status.Usage) ⊎ (result ≡ Status.Memory))
         × (source.new ≡ source.old) × (sink.new ≡ sink.old) }
 
-    // Completeness: with good words, no fault and a script or plan that fits, by what the source told
-    // before or by its count of the bytes that it gave, nothing but want of memory is in the way.
+    // Completeness: with good words, no fault and a script or plan that fits, by what the source
+    // told before or by its count of the bytes that it gave, nothing but want of memory is in the
+    // way.
     ensures complete { asked words.now ≢ None
         → (¬ Rose (S.faults source.old) (S.faults source.new))
         → (¬ Rose (K.faults sink.old) (K.faults sink.new))
