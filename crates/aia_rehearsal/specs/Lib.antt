@@ -1,0 +1,3 @@
+pub mod Rehearsed
+pub mod Steps
+pub mod Stands

@@ -1,0 +1,10 @@
+//! Plans of moves are rehearsed: the steps of a plan that was judged are made as accesses of the
+//! machine, one after another, on two places that need no home. Profile.
+#![tactic(auto)]
+
+mod place;
+mod rehearsal;
+
+pub use aia_plan::Step;
+pub use place::Place;
+pub use rehearsal::Rehearsal;
