@@ -34,7 +34,7 @@ first_word bits bit low = has_bit-clear bits 0 bit (omega arith) low ∙ ap (λ 
 
 identities_shown : (k bits bit : ℕ) → bit < 64 → has_bit (identities_in k bits) bit ≡ (is_identity (64 * k + bit) && has_bit bits bit)
 identities_shown zero bits bit low = let same : bit ≡ 64 * 0 + bit = omega arith in first_word bits bit low ∙ ap (λ n. is_identity n && has_bit bits bit) same
-identities_shown (suc k) bits bit low = let some : is_identity (64 * suc k + bit) ≡ true = grind (arith, nat_tests) in ap (λ b. b && has_bit bits bit) (sym some)
+identities_shown (suc k) bits bit low = let some : is_identity (64 * suc k + bit) ≡ true = grind (arith, nat_tests) in ap (λ n. has_bit n bit) (cond-false _ _ _ (ne_eqb (suc k) 0 (λ e. omega (arith, e)))) ∙ ap (λ b. b && has_bit bits bit) (sym some)
 
 -- ---- one word of a set
 

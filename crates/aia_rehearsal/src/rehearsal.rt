@@ -125,7 +125,7 @@ impl Rehearsal {
     /// `map`, `unmap` and `remap` each write the record of the new place, none of a slot, whatever
     /// their name; `quiet`, `taket`, `putt` and `wake` make their access at a file and none at a
     /// slot. A fence lands the stores in flight of the VM first.
-    #[tactic(auto, using(crate::proofs::Places::small_who, crate::proofs::StepStands::take_pending, crate::proofs::SetSteps::pending_put, crate::proofs::Carried::stand_on))]
+    #[tactic(auto, using(crate::proofs::Places::small_who, crate::proofs::StepStands::refetched, crate::proofs::FlightSteps::own_store_landed, crate::proofs::SetSteps::pending_put, crate::proofs::Carried::stand_on))]
     pub fn step(&mut self, fabric: &mut Fabric, step: Step)
         requires word { IsInside (width fabric.old) step }
         requires of { IsOf fabric.old self.old.passage }
