@@ -10,7 +10,11 @@ use Rattle.aia_fabric.specs.declared.flights.Flying.{Flying}
 use Rattle.aia_fabric.specs.World.{World, OnlyStores, flight_of}
 use Rattle.aia_fabric.specs.Whole.{IsWhole}
 use Rattle.aia_fabric.specs.Flights.{Lands, LandsOldest, LandsAll, Fences, with_flight}
+use Rattle.aia_fabric.specs.Changes.{with_fence}
 use Rattle.aia_fabric.proofs.FrameLemmas.{entry_rest}
+use Rattle.aia_fabric.proofs.FlightLemmas.{fence_leaves_none}
+use Rattle.aia_fabric.proofs.WholeLemmas.{vcpu_entry}
+use Rattle.aia_rehearsal.proofs.RouteSteps.{refetched}
 use Rattle.aia_move.specs.declared.who.Who.{Who}
 use Rattle.aia_plan.specs.declared.step.Step.TheVariants.{Fence}
 use Rattle.aia_plan.specs.Transit.{Side, Flight, Transit, landed, all_landed, one_landed, without, stepped, happened}
@@ -151,3 +155,73 @@ module _ (w u : World) (r : Rehearsed) (z : Transit) (vm k : ℕ) (whole : IsWho
           | inr apart ↦ ap (flights_in w.imsic p) (left_there v apart) ∙ s.flights.others v ne
         ];
       })
+
+-- ---- all land before a fence
+
+-- the oldest store in flight lands so many times
+abbrev landed_times : ℕ → Transit → Transit
+landed_times zero z = z
+landed_times (suc count) z = happened (lands 0) (landed_times count z)
+
+inner_first : (count : ℕ) (z : Transit) → landed_times (suc count) z ≡ landed_times count (happened (lands 0) z)
+inner_first zero z = refl
+inner_first (suc count) z = ap (happened (lands 0)) (inner_first count z)
+
+abbrev emptied : Transit → Transit
+emptied z = record z { flights = [] }
+
+-- what lands does not look at what is in flight
+same_landed : (stores : List Flight) (z y : Transit) → emptied z ≡ emptied y → emptied (all_landed stores z) ≡ emptied (all_landed stores y)
+same_landed [] z y e = e
+same_landed (store ∷ later) z y e = same_landed later (landed store.side store.identity z) (landed store.side store.identity y) (one store.side)
+  where
+    one : (side : Side) → emptied (landed side store.identity z) ≡ emptied (landed side store.identity y)
+    one Old = ap (landed Old store.identity) e
+    one New = ap (landed New store.identity) e
+
+-- once none is left all have landed, the oldest first
+all_have : (count : ℕ) (stores : List Flight) (z : Transit) → (landed_times count (record z { flights = stores })).flights ≡ [] → landed_times count (record z { flights = stores }) ≡ emptied (all_landed stores z)
+all_have zero stores z none = ap (λ l. record z { flights = l }) none ∙ sym (ap (λ l. emptied (all_landed l z)) none)
+all_have (suc count) [] z none = inner_first count (record z { flights = [] }) ∙ all_have count [] z (sym (ap (λ (y : Transit). y.flights) (inner_first count (record z { flights = [] }))) ∙ none)
+all_have (suc count) (store ∷ later) z none =
+    let first = inner_first count (record z { flights = store ∷ later }) in
+    let lands_first : happened (lands 0) (record z { flights = store ∷ later }) ≡ record (landed store.side store.identity z) { flights = later } = one store.side in
+    let step = first ∙ ap (landed_times count) lands_first in
+    step ∙ all_have count later (landed store.side store.identity z) (sym (ap (λ (y : Transit). y.flights) step) ∙ none)
+  where
+    one : (side : Side) → record (landed side store.identity (record z { flights = store ∷ later })) { flights = later } ≡ record (landed side store.identity z) { flights = later }
+    one Old = refl
+    one New = refl
+
+-- some of the VM have landed
+pub record HaveLanded (w u : World) (r : Rehearsed) (z : Transit) : Type 0 where
+  count : ℕ
+  stands : StandsFor u r (landed_times count z)
+
+oldest_landed : (count : ℕ) (w u : World) (r : Rehearsed) (z : Transit) → IsWhole w → StandsFor w r z → LandsOldest count w u r.passage.who.vm → HaveLanded w u r z
+oldest_landed zero w u r z whole s same = record { count = 0; stands = subst (λ (x : World). StandsFor x r z) (sym same) s }
+oldest_landed (suc more) w u r z whole s (mid, before, whole_mid, l) =
+    let so_far = oldest_landed more w mid r z whole s before in
+    one_more so_far.count (side_of mid.imsic r.passage l.store.entry) (own_store_landed mid u r (landed_times so_far.count z) r.passage.who.vm 0 whole_mid so_far.stands l refl)
+  where
+    one_more : (done : ℕ) (o : Option Side) → StandsFor u r (landed_state o 0 (landed_times done z)) → HaveLanded w u r z
+    one_more done None t = record { count = done; stands = t }
+    one_more done (Some side) t = record { count = suc done; stands = t }
+
+entry_stays : (stores : List Flight) (z : Transit) → (all_landed stores z).entry_written ≡ z.entry_written
+entry_stays [] z = refl
+entry_stays (store ∷ later) z = entry_stays later (landed store.side store.identity z) ∙ one store.side
+  where
+    one : (side : Side) → (landed side store.identity z).entry_written ≡ z.entry_written
+    one Old = refl
+    one New = refl
+
+pub fenced : (w u : World) (r : Rehearsed) (z : Transit) → IsWhole w → StandsFor w r z → Fences w u r.passage.who.vm r.passage.who.vcpu → StandsFor u r (stepped Fence z)
+fenced w u r z whole s f =
+    let vm = r.passage.who.vm in
+    let have = oldest_landed (length (flight_of w vm)) w f.landed r z whole s f.lands in
+    let low = (vcpu_entry w vm r.passage.who.vcpu whole s.of.who.there).0 in
+    let none : flight_of f.landed vm ≡ [] = sym (ap (λ (x : World). flight_of x vm) f.fenced) ∙ fence_leaves_none w u vm r.passage.who.vcpu whole low f in
+    let landed_all = all_have have.count z.flights z (have.stands.flights.own ∙ ap (flights_in f.landed.imsic r.passage) none) in
+    let last = refetched f.landed r (emptied (all_landed z.flights z)) f.whole (subst (λ y. StandsFor f.landed r y) landed_all have.stands) in
+    subst (λ (x : World). StandsFor x r (stepped Fence z)) (sym f.fenced) (subst (λ side. StandsFor (with_fence f.landed vm r.passage.who.vcpu) r (record (emptied (all_landed z.flights z)) { entry_in_force = side })) (entry_stays z.flights z) last)

@@ -2,7 +2,8 @@ pub mod Places
 pub mod SetSteps
 pub mod PlaceSteps
 pub mod Carried
-pub mod StepStands
+pub mod RouteSteps
 pub mod StoreSeen
 pub mod Landings
 pub mod FlightSteps
+pub mod StepStands

@@ -125,14 +125,25 @@ impl Rehearsal {
     /// `map`, `unmap` and `remap` each write the record of the new place, none of a slot, whatever
     /// their name; `quiet`, `taket`, `putt` and `wake` make their access at a file and none at a
     /// slot. A fence lands the stores in flight of the VM first.
-    #[tactic(auto, using(crate::proofs::Places::small_who, crate::proofs::StepStands::refetched, crate::proofs::FlightSteps::own_store_landed, crate::proofs::SetSteps::pending_put, crate::proofs::Carried::stand_on))]
     pub fn step(&mut self, fabric: &mut Fabric, step: Step)
         requires word { IsInside (width fabric.old) step }
         requires of { IsOf fabric.old self.old.passage }
         ensures makes { Makes step self.old fabric.old fabric.new }
         ensures after { self.new ≡ after step self.old fabric.old }
+        ensures stands { (z : Transit) → StandsFor fabric.old self.old z
+            → StandsFor fabric.new self.new (stepped step z) }
     {
-        let _words = fabric.words();
+        let _whole = fabric.words();
+        self.make(fabric, step);
+    }
+
+    /// Makes the access of a step.
+    fn make(&mut self, fabric: &mut Fabric, step: Step)
+        requires word { IsInside (width fabric.old) step }
+        requires of { IsOf fabric.old self.old.passage }
+        ensures makes { Makes step self.old fabric.old fabric.new }
+        ensures after { self.new ≡ after step self.old fabric.old }
+    {
         match step {
             Step::Quiet => self.take_delivery(fabric),
             Step::Word1 => self.write_notice(fabric),
