@@ -100,7 +100,7 @@ module _ (w u : World) (r : Rehearsed) (z : Transit) (hits : ends.Place → Bool
 -- ---- an entry leads to one place
 
 -- no spot is that of two files
-one_file_hit : (spot : Spot) (a b : ends.Place) → AreTwo a b → file_hit spot a ≡ true → file_hit spot b ≡ false
+pub one_file_hit : (spot : Spot) (a b : ends.Place) → AreTwo a b → file_hit spot a ≡ true → file_hit spot b ≡ false
 one_file_hit spot (File a) (File b) two led = by_spot spot led
   where
     by_spot : (spot : Spot) → is_file_at a spot ≡ true → is_file_at b spot ≡ false
@@ -165,7 +165,7 @@ module _ (w u : World) (r : Rehearsed) (z : Transit) (offset value : ℕ) (whole
       none (File b) = refl
       none Slot = refl
 
-  one_led : (entry : Entry) → leads w.imsic r.passage.who.slot r.passage.old entry ≡ true → leads w.imsic r.passage.who.slot r.passage.new entry ≡ false
+  pub one_led : (entry : Entry) → leads w.imsic r.passage.who.slot r.passage.old entry ≡ true → leads w.imsic r.passage.who.slot r.passage.new entry ≡ false
   one_led entry led = by_places entry r.passage.old r.passage.new s.two led
     where
       by_places : (entry : Entry) (a b : ends.Place) → AreTwo a b → leads w.imsic r.passage.who.slot a entry ≡ true → leads w.imsic r.passage.who.slot b entry ≡ false

@@ -7,3 +7,6 @@ pub mod StoreSeen
 pub mod Landings
 pub mod FlightSteps
 pub mod StepStands
+pub mod Between
+pub mod EventStands
+pub mod RunMoves

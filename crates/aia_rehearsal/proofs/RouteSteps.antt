@@ -136,7 +136,7 @@ module _ (w : World) (r : Rehearsed) (z : Transit) (whole : IsWhole w) (s : Stan
   -- ---- what leaves the state alone
 
   -- the same sets and routes
-  all_kept : (u : World) (hand : Carried) → SameMachine w u → u.flights ≡ w.flights → olds u ≡ olds w → news u ≡ news w → routes_of u (moved p) ≡ routes_of w (moved p) → hand.pending ≡ r.hand.pending → hand.enables ≡ r.hand.enables
+  pub all_kept : (u : World) (hand : Carried) → SameMachine w u → u.flights ≡ w.flights → olds u ≡ olds w → news u ≡ news w → routes_of u (moved p) ≡ routes_of w (moved p) → hand.pending ≡ r.hand.pending → hand.enables ≡ r.hand.enables
       → StandsFor u (record r { hand = hand }) z
   all_kept u hand same lists old new routes pending enables =
       stand_on w u r hand z z same lists refl (rw (old, new) (record {

@@ -2,6 +2,7 @@
 //! machine, one after another, on two places that need no home. Profile.
 #![tactic(auto)]
 
+pub mod laws;
 mod place;
 mod rehearsal;
 
