@@ -10,3 +10,4 @@ pub mod StepStands
 pub mod Between
 pub mod EventStands
 pub mod RunMoves
+pub mod Theorem

@@ -28,12 +28,28 @@ use Rattle.aia_rehearsal.specs.Stands.{sets_at, routes_of, leads, side_of, asked
 use Rattle.aia_rehearsal.specs.Events.{Event, Happens, KeepsAway, is_for_moved, landing_by, landing_seen, seen}
 use Rattle.aia_rehearsal.specs.Events.Event.{Steps, DeviceStores, PeerStores, DeviceSends, StoreLands, EntryRead}
 use Rattle.aia_rehearsal.specs.Runs.{Runs, steps_in, lands_for, asks, asked_in, LeadsTo, NoneLeads, IsBegun, IsOver}
+use Rattle.aia_regs.specs.declared.file_registers.FileReg.{FileReg}
+use Rattle.aia_regs.specs.declared.file_registers.FileReg.TheVariants.{Delivery, Threshold}
+use Rattle.aia_entry.specs.declared.table.Route.{Route}
+use Rattle.aia_entry.specs.declared.table.Route.TheVariants.{Other, Fault, To}
+use Rattle.aia_entry.specs.Tables.{table_of, route_of}
+use Rattle.aia_fabric.specs.declared.at.At.{At}
+use Rattle.aia_fabric.specs.declared.at.At.TheVariants as ats
+use Rattle.aia_fabric.specs.World.{stage_of}
+use Rattle.aia_fabric.specs.Flights.{Sends}
+use Rattle.aia_fabric.specs.Changes.{with_pending, with_enable}
+use Rattle.aia_fabric.proofs.FrameLemmas.{entry_rest, reaches_rest, relays_rest}
+use Rattle.aia_fabric.proofs.FlightLemmas.{all_landed_rest}
+use Rattle.aia_move.specs.Move.{PostsIf}
+use Rattle.aia_rehearsal.specs.declared.place.Place as ends
+use Rattle.aia_rehearsal.specs.declared.place.Place.TheVariants.{File, Slot}
+use Rattle.aia_rehearsal.specs.Steps.{Puts, Makes}
 use Rattle.aia_rehearsal.proofs.EventStands.{event_stands}
 use Rattle.aia_rehearsal.proofs.FlightSteps.{removed_one, place_among}
 
 -- ---- the run on the machine of the proof
 
-abbrev all_seen : (events : List Event) (w : World) (r : Rehearsed) (u : World) (t : Rehearsed) → Runs events w r u t → List Happening
+abbrev pub all_seen : (events : List Event) (w : World) (r : Rehearsed) (u : World) (t : Rehearsed) → Runs events w r u t → List Happening
 all_seen [] w r u t run = []
 all_seen (event ∷ later) w r u t (x, y, whole, away, happens, rest) = seen event w r.passage ++ all_seen later x y u t rest
 
@@ -41,7 +57,7 @@ all_in_turn : (first later : List Happening) (z : Transit) → all_happened (fir
 all_in_turn [] later z = refl
 all_in_turn (x ∷ first) later z = all_in_turn first later (happened x z)
 
-run_stands : (events : List Event) (w : World) (r : Rehearsed) (u : World) (t : Rehearsed) (run : Runs events w r u t) (z : Transit) → StandsFor w r z → StandsFor u t (all_happened (all_seen events w r u t run) z)
+pub run_stands : (events : List Event) (w : World) (r : Rehearsed) (u : World) (t : Rehearsed) (run : Runs events w r u t) (z : Transit) → StandsFor w r z → StandsFor u t (all_happened (all_seen events w r u t run) z)
 run_stands [] w r u t (world, same) z s = subst (λ (x : World). StandsFor x t z) (sym world) (subst (λ (x : Rehearsed). StandsFor w x z) (sym same) s)
 run_stands (event ∷ later) w r u t (x, y, whole, away, happens, rest) z s =
     subst (λ a. StandsFor u t a) (sym (all_in_turn (seen event w r.passage) (all_seen later x y u t rest) z)) (run_stands later x y u t rest (all_happened (seen event w r.passage) z) (event_stands w x r y event whole happens away z s))
@@ -61,7 +77,7 @@ no_landing_step true w p k (Some store) l = by_side (side_of w.imsic p store.ent
     by_side None = refl
     by_side (Some side) = refl
 
-run_steps : (events : List Event) (w : World) (r : Rehearsed) (u : World) (t : Rehearsed) (run : Runs events w r u t) → steps_of (all_seen events w r u t run) ≡ steps_in events
+pub run_steps : (events : List Event) (w : World) (r : Rehearsed) (u : World) (t : Rehearsed) (run : Runs events w r u t) → steps_of (all_seen events w r u t run) ≡ steps_in events
 run_steps [] w r u t run = refl
 run_steps (Steps step ∷ later) w r u t (x, y, whole, away, happens, rest) = ap (λ l. step ∷ l) (run_steps later x y u t rest)
 run_steps (DeviceStores vm addr value ∷ later) w r u t (x, y, whole, away, happens, rest) = no_steps (is_for_moved w r.passage vm addr) (happenings.Stores (asked (addr % PAGE) value)) (all_seen later x y u t rest) refl refl ∙ run_steps later x y u t rest
@@ -80,7 +96,7 @@ event_passage (DeviceSends vm addr value) w r u t happens = ap (λ (x : Rehearse
 event_passage (StoreLands vm k) w r u t happens = ap (λ (x : Rehearsed). x.passage) happens.2
 event_passage (EntryRead vm file) w r u t happens = ap (λ (x : Rehearsed). x.passage) happens.2
 
-run_passage : (events : List Event) (w : World) (r : Rehearsed) (u : World) (t : Rehearsed) → Runs events w r u t → t.passage ≡ r.passage
+pub run_passage : (events : List Event) (w : World) (r : Rehearsed) (u : World) (t : Rehearsed) → Runs events w r u t → t.passage ≡ r.passage
 run_passage [] w r u t (world, same) = ap (λ (x : Rehearsed). x.passage) same
 run_passage (event ∷ later) w r u t (x, y, whole, away, happens, rest) = run_passage later x y u t rest ∙ event_passage event w r x y happens
 
@@ -168,3 +184,53 @@ run_due (event ∷ later) w r u t (x, y, whole, away, happens, rest) z i s =
     ∙ run_due later x y u t rest (all_happened (seen event w r.passage) z) i (event_stands w x r y event whole happens away z s)
     ∙ ap (λ b. b || (is_identity i && asked_in later x y u t rest i)) (event_due event w r z i s)
     ∙ or_joined (z.due i) (is_identity i) (asks event w r.passage i) (asked_in later x y u t rest i)
+
+-- ---- the machine stays
+
+word_n : (w : World) (place : At) (k v : ℕ) → ((with_pending w place k v).n ≡ w.n) × ((with_enable w place k v).n ≡ w.n)
+word_n w (ats.File spot) k v = (refl, refl)
+word_n w (ats.Slot q) k v = (refl, refl)
+
+put_n : (w u : World) (place : ends.Place) (reg : FileReg) (v : ℕ) → Puts w u place reg v → u.n ≡ w.n
+put_n w u (File a) reg v puts = ap (λ (x : World). x.n) puts.others
+put_n w u Slot reg v e = ap (λ (x : World). x.n) e
+
+posts_n : (w u : World) (sent : Bool) (hart identity : ℕ) → PostsIf sent w u hart identity → u.n ≡ w.n
+posts_n w u true hart identity posts = ap (λ (x : World). x.n) posts.rest
+posts_n w u false hart identity e = ap (λ (x : World). x.n) e
+
+step_n : (step : Step) (w u : World) (r : Rehearsed) → Makes step r w u → u.n ≡ w.n
+step_n steps.Quiet w u r makes = put_n w u r.passage.old Delivery 0 makes
+step_n steps.Word1 w u r e = ap (λ (x : World). x.n) e
+step_n steps.Word0 w u r e = ap (λ (x : World). x.n) e
+step_n steps.Fence w u r f = ap (λ (x : World). x.n) f.fenced ∙ ap (λ (x : World). x.n) (all_landed_rest (length (flight_of w r.passage.who.vm)) w f.landed r.passage.who.vm f.lands)
+step_n steps.Map w u r e = ap (λ (x : World). x.n) e
+step_n steps.Unmap w u r e = ap (λ (x : World). x.n) e
+step_n steps.Remap w u r e = ap (λ (x : World). x.n) e
+step_n steps.GFence w u r e = ap (λ (x : World). x.n) e
+step_n (steps.TakeP k) w u r makes = ap (λ (x : World). x.n) makes.1 ∙ (word_n w (at Old r.passage) k 0).0
+step_n (steps.PutP k) w u r makes = ap (λ (x : World). x.n) makes.1 ∙ (word_n w (at New r.passage) k _).0
+step_n (steps.TakeE k) w u r makes = ap (λ (x : World). x.n) makes.1 ∙ (word_n w (at Old r.passage) k 0).1
+step_n (steps.PutE k) w u r makes = ap (λ (x : World). x.n) makes.1 ∙ (word_n w (at New r.passage) k _).1
+step_n (steps.Look k) w u r e = ap (λ (x : World). x.n) e
+step_n steps.TakeT w u r makes = put_n w u r.passage.old Threshold 0 makes
+step_n steps.PutT w u r makes = put_n w u r.passage.new Threshold r.hand.threshold makes
+step_n steps.Post w u r makes = posts_n w u r.hand.seen r.passage.who.notice (r.passage.who.slot + 1) makes
+step_n steps.Wake w u r makes = put_n w u r.passage.new Delivery r.hand.delivery makes
+
+sends_n : (route : Route) (w u : World) (vm offset value : ℕ) → Sends route w u vm offset value → u.n ≡ w.n
+sends_n (To entry) w u vm offset value e = ap (λ (x : World). x.n) e
+sends_n Other w u vm offset value e = ap (λ (x : World). x.n) e
+sends_n (Fault entry) w u vm offset value e = ap (λ (x : World). x.n) e
+
+event_n : (event : Event) (w : World) (r : Rehearsed) (u : World) (t : Rehearsed) → Happens event w r u t → u.n ≡ w.n
+event_n (Steps step) w r u t (inside, makes, e) = step_n step w u r makes
+event_n (DeviceStores vm addr value) w r u t (low, reaches, e) = ap (λ (x : World). x.n) (reaches_rest (route_of (table_of w.tables vm) addr) w u (addr % PAGE) value reaches)
+event_n (PeerStores vm to value) w r u t (there, relays, e) = ap (λ (x : World). x.n) (relays_rest (stage_of w (vcpu vm to)).in_force w u (vcpu vm to) value relays)
+event_n (DeviceSends vm addr value) w r u t (low, sends, e) = sends_n (route_of (table_of w.tables vm) addr) w u vm (addr % PAGE) value sends
+event_n (StoreLands vm k) w r u t (low, l, e) = ap (λ (x : World). x.n) l.taken ∙ ap (λ (x : World). x.n) (entry_rest l.store.entry w l.stored l.store.offset l.store.value l.reaches)
+event_n (EntryRead vm file) w r u t (there, is, e) = ap (λ (x : World). x.n) is
+
+pub run_width : (events : List Event) (w : World) (r : Rehearsed) (u : World) (t : Rehearsed) → Runs events w r u t → width u ≡ width w
+run_width [] w r u t (world, same) = ap width world
+run_width (event ∷ later) w r u t (x, y, whole, away, happens, rest) = run_width later x y u t rest ∙ ap (λ n. (n + 1) / 64) (event_n event w r x y happens)
