@@ -11,3 +11,4 @@ pub mod Between
 pub mod EventStands
 pub mod RunMoves
 pub mod Theorem
+pub mod Made

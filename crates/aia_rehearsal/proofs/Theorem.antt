@@ -20,30 +20,13 @@ use Rattle.aia_plan.specs.declared.step.Kind.{Kind}
 use Rattle.aia_plan.specs.Transit.{Side, Flight, Transit, is_identity, all_happened}
 use Rattle.aia_plan.specs.Transit.Side.{Old, New}
 use Rattle.aia_plan.proofs.RuleIsSafe.{rule_is_safe}
-use Rattle.aia_rehearsal.specs.Rehearsed.{Passage, Carried, Rehearsed, moved, on, at, names_on, empty_hand}
+use Rattle.aia_rehearsal.specs.Rehearsed.{Passage, Carried, Rehearsed, moved, on, at, names_on, empty_hand, AreTwo, IsOf}
 use Rattle.aia_rehearsal.specs.Stands.{sets_at, routes_of, leads, side_of, asked, onto_flights, flights_in, StandsFor}
 use Rattle.aia_rehearsal.specs.Events.{Event}
-use Rattle.aia_rehearsal.specs.Runs.{Runs, steps_in, asked_in, LeadsTo, NoneLeads, IsBegun, IsOver}
+use Rattle.aia_rehearsal.specs.Runs.{Runs, steps_in, asked_in, LeadsTo, NoneLeads, state_at, IsBegun, IsOver}
 use Rattle.aia_rehearsal.proofs.RunMoves.{all_seen, run_stands, run_steps, run_passage, run_due, run_width}
 
 -- ---- the start
-
--- the state for which a fabric stands as all leads to the old place
-abbrev pub start_of : World → Rehearsed → Transit
-start_of w r = record {
-  old_pending = (sets_at w (at Old r.passage)).pending;
-  old_enabled = (sets_at w (at Old r.passage)).enabled;
-  new_pending = (sets_at w (at New r.passage)).pending;
-  new_enabled = (sets_at w (at New r.passage)).enabled;
-  carried_pending = has_bit r.hand.pending;
-  carried_enables = has_bit r.hand.enables;
-  entry_written = Old;
-  entry_in_force = Old;
-  record_written = Old;
-  record_in_force = Old;
-  flights = flights_in w.imsic r.passage (flight_of w r.passage.who.vm);
-  due = λ i. is_identity i && (sets_at w (at Old r.passage)).pending i;
-}
 
 -- no store of a list leads to a place; the stores of a list lead to a side
 abbrev NoneTo : ImsicState → ℕ → ends.Place → List Flying → Type 0
@@ -75,17 +58,36 @@ none_old i p (store ∷ later) all = elim (cases_Bool (leads i p.who.slot p.old 
     rest None all = all
     rest (Some side) all = all.1
 
-module _ (w : World) (r : Rehearsed) (b : IsBegun w r) where
-  pub begun_stands : StandsFor w r (start_of w r)
-  begun_stands = record {
-    of = b.of;
-    two = b.two;
-    sets = record { old_pending = λ i low. refl; old_enabled = λ i low. refl; new_pending = λ i low. refl; new_enabled = λ i low. refl; carried_pending = λ bit low. refl; carried_enables = λ bit low. refl };
-    routes = record { entry_written = b.routes.word0; notice = b.routes.word1; entry_in_force = b.routes.in_force; record_written = b.routes.record_written; record_in_force = b.routes.record_in_force };
-    flights = record { own = refl; others = λ vm other. none_of w.imsic r.passage (flight_of w vm) (by_recursion _ (flight_of w vm) (b.others vm other)) (by_recursion _ (flight_of w vm) (b.flights vm)) };
-  }
+-- where none leads to a place, none leads to the old one or the new one
+neither_old : (i : ImsicState) (p : Passage) (stores : List Flying) → flights_in i p stores ≡ [] → NoneTo i p.who.slot p.old stores
+neither_old i p stores none = none_old i p stores (subst (AllOn New) (sym none) tt)
 
-  pub begun_starts : IsStart (width w) (start_of w r)
+neither_new : (i : ImsicState) (p : Passage) (stores : List Flying) → flights_in i p stores ≡ [] → NoneTo i p.who.slot p.new stores
+neither_new i p [] none = tt
+neither_new i p (store ∷ later) none = elim (cases_Bool (leads i p.who.slot p.old store.entry)) [
+  | inl led ↦ let no : record { side = Old; identity = asked store.offset store.value } ∷ flights_in i p later ≡ [] = subst (λ o. onto_flights o store (flights_in i p later) ≡ []) (cond-true _ _ _ led) none in absurd (cc)
+  | inr not ↦ elim (cases_Bool (leads i p.who.slot p.new store.entry)) [
+    | inl led ↦ let no : record { side = New; identity = asked store.offset store.value } ∷ flights_in i p later ≡ [] = subst (λ o. onto_flights o store (flights_in i p later) ≡ []) (cond-false _ _ _ not ∙ cond-true _ _ _ led) none in absurd (cc)
+    | inr neither ↦ (neither, neither_new i p later (subst (λ o. onto_flights o store (flights_in i p later) ≡ []) (cond-false _ _ _ not ∙ cond-false _ _ _ neither) none))
+  ]
+]
+
+-- a fabric whose routes all lead to one side
+pub led_stands : (w : World) (r : Rehearsed) (side : Side) → IsOf w r.passage → AreTwo r.passage.old r.passage.new → LeadsTo w r.passage side → ((vm : ℕ) → vm ≢ r.passage.who.vm → NoneLeads w r.passage Old vm) → ((vm : ℕ) → vm ≢ r.passage.who.vm → NoneLeads w r.passage New vm)
+    → StandsFor w r (state_at side w r)
+led_stands w r side of two routes old new = record {
+  of = of;
+  two = two;
+  sets = record { old_pending = λ i low. refl; old_enabled = λ i low. refl; new_pending = λ i low. refl; new_enabled = λ i low. refl; carried_pending = λ bit low. refl; carried_enables = λ bit low. refl };
+  routes = record { entry_written = routes.word0; notice = routes.word1; entry_in_force = routes.in_force; record_written = routes.record_written; record_in_force = routes.record_in_force };
+  flights = record { own = refl; others = λ vm other. none_of w.imsic r.passage (flight_of w vm) (by_recursion _ (flight_of w vm) (old vm other)) (by_recursion _ (flight_of w vm) (new vm other)) };
+}
+
+module _ (w : World) (r : Rehearsed) (b : IsBegun w r) where
+  pub begun_stands : StandsFor w r (state_at Old w r)
+  begun_stands = led_stands w r Old b.of b.two b.routes b.others (λ vm other. b.flights vm)
+
+  pub begun_starts : IsStart (width w) (state_at Old w r)
   begun_starts = record {
     routes = record { entry_written = refl; entry_in_force = refl; record_written = refl; record_in_force = refl; flights = by_place _ (flights_in w.imsic r.passage (flight_of w r.passage.who.vm)) (all_old w.imsic r.passage (flight_of w r.passage.who.vm) (by_recursion _ (flight_of w r.passage.who.vm) (b.flights r.passage.who.vm))) };
     no_pending = b.new_pending;
@@ -104,7 +106,7 @@ shared false a b = refl
 pub accepted_moves : (kind : Kind) (w u : World) (r t : Rehearsed) (events : List Event) (run : Runs events w r u t) → IsBegun w r → All (IsInside (width w)) (steps_in events) → failing kind (width w) (steps_in events) ≡ None
     → IsOver w r (asked_in events w r u t run) u
 accepted_moves kind w u r t events run b inside accepted =
-    let start = start_of w r in
+    let start = state_at Old w r in
     let z = all_happened (all_seen events w r u t run) start in
     let safe = rule_is_safe kind (width w) (steps_in events) inside accepted start (all_seen events w r u t run) (begun_starts w r b) (run_steps events w r u t run) in
     let s = run_stands events w r u t run start (begun_stands w r b) in
@@ -112,7 +114,7 @@ accepted_moves kind w u r t events run b inside accepted =
     let same : t ≡ record r { hand = t.hand } = (let p = run_passage events w r u t run in λ k. record { passage = p k; hand = t.hand }) in
     over z safe (run_width events w r u t run) (λ i. run_due events w r u t run start i (begun_stands w r b)) (subst (λ (x : Rehearsed). StandsFor u x z) same s)
   where
-    over : (z : Transit) → IsMoved (width w) (start_of w r) z → width u ≡ width w → ((i : ℕ) → z.due i ≡ ((start_of w r).due i || (is_identity i && asked_in events w r u t run i))) → StandsFor u (record r { hand = t.hand }) z
+    over : (z : Transit) → IsMoved (width w) (state_at Old w r) z → width u ≡ width w → ((i : ℕ) → z.due i ≡ ((state_at Old w r).due i || (is_identity i && asked_in events w r u t run i))) → StandsFor u (record r { hand = t.hand }) z
         → IsOver w r (asked_in events w r u t run) u
     over z m words due s = record {
       pending = λ i low. sym (s.sets.new_pending i (inner i low)) ∙ m.pending i low ∙ due i ∙ shared (is_identity i) ((sets_at w (at Old r.passage)).pending i) (asked_in events w r u t run i);
@@ -130,7 +132,24 @@ accepted_moves kind w u r t events run b inside accepted =
         | inl e ↦ subst (λ v. AllOn New (flights_in u.imsic r.passage (flight_of u v))) (sym e) (subst (AllOn New) s.flights.own (by_recursion _ z.flights m.routes.flights))
         | inr ne ↦ subst (AllOn New) (sym (s.flights.others vm ne)) tt
       ]));
+      others = λ vm other. by_place _ (flight_of u vm) (neither_new u.imsic r.passage (flight_of u vm) (s.flights.others vm other));
     }
       where
         inner : (i : ℕ) → i / 64 < width w → i / 64 < width u
         inner i low = subst (λ n. i / 64 < n) (sym words) low
+
+-- ---- the next move
+
+-- where one has ended the next may begin: from its new place to one that is empty
+pub next_begins : (w u : World) (r : Rehearsed) (asked_for : ℕ → Bool) (place : ends.Place) → IsOver w r asked_for u → (t : Rehearsed) → t ≡ record { passage = record r.passage { old = r.passage.new; new = place }; hand = empty_hand }
+    → IsOf u t.passage → AreTwo r.passage.new place → ((vm : ℕ) → NoneLeads u t.passage New vm) → ((i : ℕ) → i / 64 < width u → (sets_at u (at New t.passage)).pending i ≡ false) → ((i : ℕ) → i / 64 < width u → (sets_at u (at New t.passage)).enabled i ≡ false) → IsBegun u t
+next_begins w u r asked_for place o t e of two none pending enabled = record {
+  of = of;
+  two = subst (λ (x : Rehearsed). AreTwo x.passage.old x.passage.new) (sym e) two;
+  routes = subst (λ (x : Rehearsed). LeadsTo u x.passage Old) (sym e) (record { word0 = o.routes.word0; word1 = o.routes.word1; in_force = o.routes.in_force; record_written = o.routes.record_written; record_in_force = o.routes.record_in_force });
+  flights = none;
+  others = subst (λ (x : Rehearsed). (vm : ℕ) → vm ≢ x.passage.who.vm → NoneLeads u x.passage Old vm) (sym e) o.others;
+  new_pending = pending;
+  new_enabled = enabled;
+  hand = ap (λ (x : Rehearsed). x.hand) e;
+}

@@ -2,6 +2,7 @@
 -- an accepted plan comes to.
 use Rattle.std.specs.Prelude.{◌≡◌, ◌≢◌, ℕ, ◌+◌, ◌/◌, ◌%◌, ◌<◌, Bool, false, ◌&&◌, ◌||◌, nat_eq, is_some, List, [], ◌∷◌, All, slice_get, Option, Some, None}
 use Rattle.std.specs.List.{list_any}
+use Rattle.aia_word.specs.Sets.{has_bit}
 use Rattle.aia_regs.specs.declared.address_map.TheConstants.{PAGE}
 use Rattle.aia_home.specs.Vms.{vcpu, is_vcpu}
 use Rattle.aia_places.specs.View.{leads_to, entry_word, second_word}
@@ -11,7 +12,7 @@ use Rattle.aia_fabric.specs.Whole.{IsWhole}
 use Rattle.aia_move.specs.Move.{width}
 use Rattle.aia_plan.specs.Plan.{Plan}
 use Rattle.aia_plan.specs.declared.step.Step.TheVariants as steps
-use Rattle.aia_plan.specs.Transit.{Side, Flight, is_identity}
+use Rattle.aia_plan.specs.Transit.{Side, Flight, Transit, is_identity}
 use Rattle.aia_plan.specs.Transit.Side.{Old, New}
 use Rattle.aia_rehearsal.specs.Rehearsed.{Passage, Rehearsed, moved, on, at, names_on, AreTwo, IsOf, empty_hand}
 use Rattle.aia_rehearsal.specs.Stands.{sets_at, routes_of, leads, side_of, asked, flights_in}
@@ -77,6 +78,23 @@ abbrev pub NoneLeads : World → Passage → Side → ℕ → Type 0
 NoneLeads w p side vm = All (λ (store : Flying).
     leads w.imsic p.who.slot (on side p) store.entry ≡ false) (flight_of w vm)
 
+-- The state for which a fabric stands whose routes all lead to one side.
+abbrev pub state_at : Side → World → Rehearsed → Transit
+state_at side w r = record {
+  old_pending = (sets_at w (at Old r.passage)).pending;
+  old_enabled = (sets_at w (at Old r.passage)).enabled;
+  new_pending = (sets_at w (at New r.passage)).pending;
+  new_enabled = (sets_at w (at New r.passage)).enabled;
+  carried_pending = has_bit r.hand.pending;
+  carried_enables = has_bit r.hand.enables;
+  entry_written = side;
+  entry_in_force = side;
+  record_written = side;
+  record_in_force = side;
+  flights = flights_in w.imsic r.passage (flight_of w r.passage.who.vm);
+  due = λ i. is_identity i && (sets_at w (at Old r.passage)).pending i;
+}
+
 -- A move may begin: all leads to the old place, the new one is empty, and nothing is carried.
 pub record IsBegun (w : World) (r : Rehearsed) : Type 0 where
   pub of : IsOf w r.passage
@@ -104,3 +122,4 @@ pub record IsOver (w : World) (r : Rehearsed) (asked_for : ℕ → Bool) (u : Wo
       → (sets_at u (at Old r.passage)).enabled i ≡ false
   pub routes : LeadsTo u r.passage New
   pub flights : (vm : ℕ) → NoneLeads u r.passage Old vm
+  pub others : (vm : ℕ) → vm ≢ r.passage.who.vm → NoneLeads u r.passage New vm
