@@ -8,6 +8,7 @@ pub mod Landings
 pub mod FlightSteps
 pub mod StepStands
 pub mod Between
+pub mod SameMachine
 pub mod EventStands
 pub mod RunMoves
 pub mod Theorem

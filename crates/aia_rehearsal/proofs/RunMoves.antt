@@ -44,6 +44,7 @@ use Rattle.aia_move.specs.Move.{PostsIf}
 use Rattle.aia_rehearsal.specs.declared.place.Place as ends
 use Rattle.aia_rehearsal.specs.declared.place.Place.TheVariants.{File, Slot}
 use Rattle.aia_rehearsal.specs.Steps.{Puts, Makes}
+use Rattle.aia_rehearsal.proofs.SameMachine.{step_same}
 use Rattle.aia_rehearsal.proofs.EventStands.{event_stands}
 use Rattle.aia_rehearsal.proofs.FlightSteps.{removed_one, place_among}
 
@@ -187,44 +188,13 @@ run_due (event ∷ later) w r u t (x, y, whole, away, happens, rest) z i s =
 
 -- ---- the machine stays
 
-word_n : (w : World) (place : At) (k v : ℕ) → ((with_pending w place k v).n ≡ w.n) × ((with_enable w place k v).n ≡ w.n)
-word_n w (ats.File spot) k v = (refl, refl)
-word_n w (ats.Slot q) k v = (refl, refl)
-
-put_n : (w u : World) (place : ends.Place) (reg : FileReg) (v : ℕ) → Puts w u place reg v → u.n ≡ w.n
-put_n w u (File a) reg v puts = ap (λ (x : World). x.n) puts.others
-put_n w u Slot reg v e = ap (λ (x : World). x.n) e
-
-posts_n : (w u : World) (sent : Bool) (hart identity : ℕ) → PostsIf sent w u hart identity → u.n ≡ w.n
-posts_n w u true hart identity posts = ap (λ (x : World). x.n) posts.rest
-posts_n w u false hart identity e = ap (λ (x : World). x.n) e
-
-step_n : (step : Step) (w u : World) (r : Rehearsed) → Makes step r w u → u.n ≡ w.n
-step_n steps.Quiet w u r makes = put_n w u r.passage.old Delivery 0 makes
-step_n steps.Word1 w u r e = ap (λ (x : World). x.n) e
-step_n steps.Word0 w u r e = ap (λ (x : World). x.n) e
-step_n steps.Fence w u r f = ap (λ (x : World). x.n) f.fenced ∙ ap (λ (x : World). x.n) (all_landed_rest (length (flight_of w r.passage.who.vm)) w f.landed r.passage.who.vm f.lands)
-step_n steps.Map w u r e = ap (λ (x : World). x.n) e
-step_n steps.Unmap w u r e = ap (λ (x : World). x.n) e
-step_n steps.Remap w u r e = ap (λ (x : World). x.n) e
-step_n steps.GFence w u r e = ap (λ (x : World). x.n) e
-step_n (steps.TakeP k) w u r makes = ap (λ (x : World). x.n) makes.1 ∙ (word_n w (at Old r.passage) k 0).0
-step_n (steps.PutP k) w u r makes = ap (λ (x : World). x.n) makes.1 ∙ (word_n w (at New r.passage) k _).0
-step_n (steps.TakeE k) w u r makes = ap (λ (x : World). x.n) makes.1 ∙ (word_n w (at Old r.passage) k 0).1
-step_n (steps.PutE k) w u r makes = ap (λ (x : World). x.n) makes.1 ∙ (word_n w (at New r.passage) k _).1
-step_n (steps.Look k) w u r e = ap (λ (x : World). x.n) e
-step_n steps.TakeT w u r makes = put_n w u r.passage.old Threshold 0 makes
-step_n steps.PutT w u r makes = put_n w u r.passage.new Threshold r.hand.threshold makes
-step_n steps.Post w u r makes = posts_n w u r.hand.seen r.passage.who.notice (r.passage.who.slot + 1) makes
-step_n steps.Wake w u r makes = put_n w u r.passage.new Delivery r.hand.delivery makes
-
 sends_n : (route : Route) (w u : World) (vm offset value : ℕ) → Sends route w u vm offset value → u.n ≡ w.n
 sends_n (To entry) w u vm offset value e = ap (λ (x : World). x.n) e
 sends_n Other w u vm offset value e = ap (λ (x : World). x.n) e
 sends_n (Fault entry) w u vm offset value e = ap (λ (x : World). x.n) e
 
 event_n : (event : Event) (w : World) (r : Rehearsed) (u : World) (t : Rehearsed) → Happens event w r u t → u.n ≡ w.n
-event_n (Steps step) w r u t (inside, makes, e) = step_n step w u r makes
+event_n (Steps step) w r u t (inside, makes, e) = (step_same step w u r makes).n
 event_n (DeviceStores vm addr value) w r u t (low, reaches, e) = ap (λ (x : World). x.n) (reaches_rest (route_of (table_of w.tables vm) addr) w u (addr % PAGE) value reaches)
 event_n (PeerStores vm to value) w r u t (there, relays, e) = ap (λ (x : World). x.n) (relays_rest (stage_of w (vcpu vm to)).in_force w u (vcpu vm to) value relays)
 event_n (DeviceSends vm addr value) w r u t (low, sends, e) = sends_n (route_of (table_of w.tables vm) addr) w u vm (addr % PAGE) value sends

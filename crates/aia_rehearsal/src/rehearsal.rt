@@ -9,6 +9,7 @@ ghost use Rattle.aia_places.specs.View.{entry_word, second_word};
 ghost use Rattle.aia_places.specs.Holds.{meets};
 ghost use Rattle.aia_fabric.specs.Changes.{IsPlaceThere, spot_of};
 ghost use Rattle.aia_move.specs.Move.{width};
+ghost use Rattle.aia_move.specs.Touches.{SameMachine};
 ghost use Rattle.aia_rehearsal.specs.Rehearsed.{Rehearsed, NotBothSlots, IsOf, IsFileThere, at_of, empty_hand, moved, names_on};
 ghost use Rattle.aia_rehearsal.specs.Steps.{Makes, after, hand_after, identities_in, Puts};
 ghost use Rattle.aia_rehearsal.specs.Stands.{StandsFor};
@@ -132,6 +133,8 @@ impl Rehearsal {
         ensures after { self.new ≡ after step self.old fabric.old }
         ensures stands { (z : Transit) → StandsFor fabric.old self.old z
             → StandsFor fabric.new self.new (stepped step z) }
+        ensures machine { SameMachine fabric.old fabric.new }
+        ensures of { IsOf fabric.new self.new.passage }
     {
         let _whole = fabric.words();
         self.make(fabric, step);
