@@ -64,3 +64,7 @@ step_same steps.Wake w u r makes = put_same w u r.passage.new Delivery r.hand.de
 -- so who is moved and both places are of the fabric still
 pub step_of : (step : Step) (w u : World) (r t : Rehearsed) → IsOf w r.passage → Makes step r w u → t ≡ after step r w → IsOf u t.passage
 step_of step w u r t of makes e = subst (λ (x : Rehearsed). IsOf u x.passage) (sym e) (of_same w u r.passage (step_same step w u r makes) of)
+
+-- one after the other
+pub same_again : (w u x : World) → SameMachine w u → SameMachine u x → SameMachine w x
+same_again w u x first second = record { n = second.n ∙ first.n; vms = second.vms ∙ first.vms; harts = second.harts ∙ first.harts; guests = second.guests ∙ first.guests }

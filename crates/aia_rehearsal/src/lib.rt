@@ -6,6 +6,9 @@ pub mod laws;
 mod place;
 mod rehearsal;
 
+#[cfg(test)]
+mod tests;
+
 pub use aia_plan::Step;
 pub use place::Place;
 pub use rehearsal::Rehearsal;
