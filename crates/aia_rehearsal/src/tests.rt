@@ -250,3 +250,104 @@ fn the_plans_of_the_core_keep_all(rt: HostRuntime) -> Result<(), Fail> {
     }
     Ok(())
 }
+
+/// The fence of the IOMMU comes when the pending word was taken.
+const LATE_FENCE: [Step; 12] = [
+    Step::Quiet,
+    Step::Word1,
+    Step::Word0,
+    Step::Unmap,
+    Step::GFence,
+    Step::TakeP(0),
+    Step::PutP(0),
+    Step::Fence,
+    Step::TakeE(0),
+    Step::PutE(0),
+    Step::Look(0),
+    Step::TakeT,
+];
+
+/// The G fence does.
+const LATE_G_FENCE: [Step; 12] = [
+    Step::Quiet,
+    Step::Word0,
+    Step::Fence,
+    Step::Remap,
+    Step::TakeP(0),
+    Step::PutP(0),
+    Step::GFence,
+    Step::TakeE(0),
+    Step::PutE(0),
+    Step::TakeT,
+    Step::PutT,
+    Step::Wake,
+];
+
+/// The enables are moved twice.
+const ENABLES_TWICE: [Step; 12] = [
+    Step::Word0,
+    Step::Fence,
+    Step::Map,
+    Step::GFence,
+    Step::TakeP(0),
+    Step::PutP(0),
+    Step::TakeE(0),
+    Step::PutE(0),
+    Step::TakeE(0),
+    Step::PutE(0),
+    Step::PutT,
+    Step::Wake,
+];
+
+/// What refused plans lose: the enables; 9, which a device stores before the late fence; and 11,
+/// which another virtual hart stores before the late G fence. The lost ones stay in the old file.
+fn loses(rt: &impl Abort, fabric: &mut Fabric, files: (FileLease, FileLease))
+    requires first { IsFileThere fabric.old (places.File files.0) }
+    requires second { IsFileThere fabric.old (places.File files.1) }
+    requires width { width fabric.old ≡ 1 }
+{
+    fill(fabric);
+    let (slot, first) = moves(rt, fabric, Place::Slot, Place::File(files.0), (&ENABLES_TWICE, 0, 5));
+    file_shows(rt, fabric, 0x2802_1000, (0xa8, 0), 0);
+    let (first, slot) = moves(rt, fabric, first, slot, (&LATE_FENCE, 7, 9));
+    file_shows(rt, fabric, 0x2802_1000, (0x200, 0), 7);
+    is_same(rt, fabric.look(1, 0), (0x8a8, 0), 7);
+    drop(first);
+    let (slot, second) = moves(rt, fabric, slot, Place::File(files.1), (&ARRIVE, 20, 5));
+    drop(slot);
+    file_shows(rt, fabric, 0x2802_2000, (0x8a8, 0), 20);
+    drop(second);
+}
+
+/// The same of the late G fence.
+fn loses_a_peer(rt: &impl Abort, fabric: &mut Fabric, files: (FileLease, FileLease))
+    requires first { IsFileThere fabric.old (places.File files.0) }
+    requires second { IsFileThere fabric.old (places.File files.1) }
+    requires width { width fabric.old ≡ 1 }
+{
+    fill(fabric);
+    let (slot, first) = moves(rt, fabric, Place::Slot, Place::File(files.0), (&ARRIVE, 0, 5));
+    drop(slot);
+    let (first, second) = moves(rt, fabric, first, Place::File(files.1), (&LATE_G_FENCE, 6, 9));
+    file_shows(rt, fabric, 0x2802_1000, (0x800, 0), 6);
+    file_shows(rt, fabric, 0x2802_2000, (0x2a8, 0x28), 6);
+    drop(first);
+    drop(second);
+}
+
+#[test]
+fn refused_plans_lose_what_they_are_said_to(rt: HostRuntime) -> Result<(), Fail> {
+    let mut fabric = machine(rt.alloc())?;
+    match two_files(rt.alloc())? {
+        Some(files) => loses(&rt, &mut fabric, files),
+        None => holds(&rt, false),
+    }
+    drop(fabric);
+    let mut fabric = machine(rt.alloc())?;
+    match two_files(rt.alloc())? {
+        Some(files) => loses_a_peer(&rt, &mut fabric, files),
+        None => holds(&rt, false),
+    }
+    drop(fabric);
+    Ok(())
+}
