@@ -5,7 +5,6 @@
 pub mod laws;
 mod place;
 mod rehearsal;
-
 #[cfg(test)]
 mod tests;
 

@@ -199,7 +199,11 @@ impl Rehearsal {
         ensures same { self.new ≡ self.old }
     {
         let _words = fabric.words();
-        let (_, word) = mrif(slot_address(self.who.slot), supervisor_page(self.who.notice) / PAGE, self.who.slot + 1);
+        let (_, word) = mrif(
+            slot_address(self.who.slot),
+            supervisor_page(self.who.notice) / PAGE,
+            self.who.slot + 1,
+        );
         fabric.put_word(self.who.vm, self.who.vcpu, 1, word);
     }
 
@@ -223,7 +227,8 @@ impl Rehearsal {
         ensures makes { Makes steps.Map self.old fabric.old fabric.new }
         ensures same { self.new ≡ self.old }
     {
-        match &self.to {
+        let named = &self.to;
+        match named {
             Place::File(lease) => fabric.map(self.who.vm, self.who.vcpu, Some(lease)),
             Place::Slot => fabric.map(self.who.vm, self.who.vcpu, None),
         }

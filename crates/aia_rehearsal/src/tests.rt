@@ -117,13 +117,7 @@ fn stores(fabric: &mut Fabric, value: u32)
 }
 
 /// Makes the steps of a plan, with stores before the one with a number.
-fn rehearse(
-    fabric: &mut Fabric,
-    rehearsal: &mut Rehearsal,
-    plan: &[Step],
-    at: usize,
-    value: u32,
-)
+fn rehearse(fabric: &mut Fabric, rehearsal: &mut Rehearsal, plan: &[Step], at: usize, value: u32)
     requires few { value < 60 }
     requires inside { All (IsInside (width fabric.old)) plan.now }
     requires of { IsOf fabric.old rehearsal.old.passage }
@@ -213,18 +207,19 @@ fn two_files(alloc: Global) -> Result<Option<(FileLease, FileLease)>, AllocError
 
 /// An arrival, then a shift, then a leave, each with stores before its step of a number: all that
 /// was pending or asked for is pending at the end of each, and both enables are there.
-fn goes_round(
-    rt: &impl Abort,
-    fabric: &mut Fabric,
-    files: (FileLease, FileLease),
-    at: usize,
-)
+fn goes_round(rt: &impl Abort, fabric: &mut Fabric, files: (FileLease, FileLease), at: usize)
     requires first { IsFileThere fabric.old (places.File files.0) }
     requires second { IsFileThere fabric.old (places.File files.1) }
     requires width { width fabric.old ≡ 1 }
 {
     fill(fabric);
-    let (slot, first) = moves(rt, fabric, Place::Slot, Place::File(files.0), (&ARRIVE, at, 5));
+    let (slot, first) = moves(
+        rt,
+        fabric,
+        Place::Slot,
+        Place::File(files.0),
+        (&ARRIVE, at, 5),
+    );
     file_shows(rt, fabric, 0x2802_1000, (0xa8, 0x28), at);
     is_same(rt, fabric.look(1, 0), (0, 0), at);
     let (first, second) = moves(rt, fabric, first, Place::File(files.1), (&SHIFT, at, 9));
@@ -307,7 +302,13 @@ fn loses(rt: &impl Abort, fabric: &mut Fabric, files: (FileLease, FileLease))
     requires width { width fabric.old ≡ 1 }
 {
     fill(fabric);
-    let (slot, first) = moves(rt, fabric, Place::Slot, Place::File(files.0), (&ENABLES_TWICE, 0, 5));
+    let (slot, first) = moves(
+        rt,
+        fabric,
+        Place::Slot,
+        Place::File(files.0),
+        (&ENABLES_TWICE, 0, 5),
+    );
     file_shows(rt, fabric, 0x2802_1000, (0xa8, 0), 0);
     let (first, slot) = moves(rt, fabric, first, slot, (&LATE_FENCE, 7, 9));
     file_shows(rt, fabric, 0x2802_1000, (0x200, 0), 7);
@@ -326,9 +327,21 @@ fn loses_a_peer(rt: &impl Abort, fabric: &mut Fabric, files: (FileLease, FileLea
     requires width { width fabric.old ≡ 1 }
 {
     fill(fabric);
-    let (slot, first) = moves(rt, fabric, Place::Slot, Place::File(files.0), (&ARRIVE, 0, 5));
+    let (slot, first) = moves(
+        rt,
+        fabric,
+        Place::Slot,
+        Place::File(files.0),
+        (&ARRIVE, 0, 5),
+    );
     drop(slot);
-    let (first, second) = moves(rt, fabric, first, Place::File(files.1), (&LATE_G_FENCE, 6, 9));
+    let (first, second) = moves(
+        rt,
+        fabric,
+        first,
+        Place::File(files.1),
+        (&LATE_G_FENCE, 6, 9),
+    );
     file_shows(rt, fabric, 0x2802_1000, (0x800, 0), 6);
     file_shows(rt, fabric, 0x2802_2000, (0x2a8, 0x28), 6);
     drop(first);
