@@ -1,0 +1,83 @@
+-- Each event is what it is seen as.
+use Rattle.std.proofs.Common.{◌≡◌, ◌≢◌, ℕ, ◌%◌, ◌<◌, Bool, true, false, ◌&&◌, cond, nat_eq, List, [], ◌∷◌, Option, Some, None, inl, inr, ◌⊎◌, refl, sym, ap, ◌∙◌, subst}
+use Rattle.std.specs.Prelude.{slice_get}
+use Rattle.std.proofs.lemmas.Bool.{cases_Bool, cases_eq, cond-true, cond-false, eqb-true, eq-eqb, ne_eqb}
+use Rattle.std.proofs.lemmas.Bool.Decides.{nat_tests}
+use Rattle.std.proofs.Common.{arith}
+use Rattle.aia_regs.specs.declared.address_map.TheConstants.{PAGE}
+use Rattle.aia_entry.specs.Tables.{table_of, route_of}
+use Rattle.aia_home.specs.Vms.{Vcpu, vcpu, is_vcpu, is_vcpu_in}
+use Rattle.aia_fabric.specs.declared.flights.Flying.{Flying}
+use Rattle.aia_fabric.specs.World.{World, flight_of, stage_of}
+use Rattle.aia_fabric.specs.Whole.{IsWhole}
+use Rattle.aia_fabric.specs.Stores.{Reaches, Relays}
+use Rattle.aia_fabric.specs.Flights.{Lands}
+use Rattle.aia_fabric.specs.Changes.{with_fence}
+use Rattle.aia_plan.specs.Transit.{Side, Transit, Happening, happened, all_happened}
+use Rattle.aia_plan.specs.Transit.{Happening as happenings}
+use Rattle.aia_rehearsal.specs.Rehearsed.{Passage, Rehearsed, moved}
+use Rattle.aia_rehearsal.specs.Stands.{asked, side_of, StandsFor}
+use Rattle.aia_rehearsal.specs.Events.{Event, Happens, KeepsAway, is_for_moved, landing_by, landing_seen, seen}
+use Rattle.aia_rehearsal.specs.Events.Event.{Steps, DeviceStores, PeerStores, DeviceSends, StoreLands, EntryRead}
+use Rattle.aia_rehearsal.proofs.StepStands.{rehearsed}
+use Rattle.aia_rehearsal.proofs.RouteSteps.{refetched}
+use Rattle.aia_rehearsal.proofs.FlightSteps.{place_among, landed_state, own_store_landed, other_store_landed}
+use Rattle.aia_rehearsal.proofs.Between.{own_route, own_store, other_store, own_peer, other_peer, own_send, other_send, other_refetched}
+
+one_or_none : (w : World) (r : Rehearsed) (z : Transit) (is : Bool) (x : Happening) → (is ≡ true → StandsFor w r (happened x z)) → (is ≡ false → StandsFor w r z) → StandsFor w r (all_happened (cond is (x ∷ []) []) z)
+one_or_none w r z is x own other = elim (cases_Bool is) [
+  | inl mine ↦ subst (λ l. StandsFor w r (all_happened l z)) (sym (cond-true _ _ _ mine)) (own mine)
+  | inr not ↦ subst (λ l. StandsFor w r (all_happened l z)) (sym (cond-false _ _ _ not)) (other not)
+]
+
+same_vcpu : (a b : Vcpu) → is_vcpu a b ≡ true → a ≡ b
+same_vcpu a b e = let vm : a.vm ≡ b.vm = grind (arith, nat_tests) in let number : a.number ≡ b.number = grind (arith, nat_tests) in λ k. record { vm = vm k; number = number k }
+
+other_vcpu : (a b : Vcpu) → is_vcpu a b ≡ false → a ≢ b
+other_vcpu a b none e = let itself : is_vcpu b b ≡ true = grind (arith, nat_tests) in let no : true ≡ false = sym itself ∙ ap (λ (x : Vcpu). is_vcpu x b) (sym e) ∙ none in absurd (cc)
+
+module _ (w u : World) (r : Rehearsed) (z : Transit) (whole : IsWhole w) (s : StandsFor w r z) where
+  abbrev p : Passage
+  p = r.passage
+
+  land_seen : (vm k : ℕ) (l : Lands w u vm k) → StandsFor u r (all_happened (cond (nat_eq vm p.who.vm) (landing_seen w p k (slice_get (flight_of w vm) k)) []) z)
+  land_seen vm k l = elim (cases_eq vm p.who.vm) [
+    | inl e ↦ subst (λ x. StandsFor u r (all_happened x z)) (sym (cond-true _ _ _ (eq-eqb vm p.who.vm e) ∙ ap (landing_seen w p k) l.is)) (by_side (side_of w.imsic p l.store.entry) (own_store_landed w u r z vm k whole s l e))
+    | inr ne ↦ subst (λ x. StandsFor u r (all_happened x z)) (sym (cond-false _ _ _ (ne_eqb vm p.who.vm ne))) (other_store_landed w u r z vm k whole s l ne)
+  ]
+    where
+      by_side : (o : Option Side) → StandsFor u r (landed_state o (place_among w.imsic p (flight_of w p.who.vm) k) z) → StandsFor u r (all_happened (landing_by o (place_among w.imsic p (flight_of w p.who.vm) k)) z)
+      by_side None t = t
+      by_side (Some side) t = t
+
+  entry_read : (vm file : ℕ) → u ≡ with_fence w vm file → StandsFor u r (all_happened (cond (is_vcpu (vcpu vm file) (moved p)) (happenings.Refetches ∷ []) []) z)
+  entry_read vm file e = one_or_none u r z (is_vcpu (vcpu vm file) (moved p)) happenings.Refetches
+      (λ mine. let same = same_vcpu (vcpu vm file) (moved p) mine in
+      subst (λ (x : World). StandsFor x r (happened happenings.Refetches z)) (sym (e ∙ ap (λ (g : Vcpu). with_fence w g.vm g.number) same)) (refetched w r z whole s))
+      (λ not. subst (λ (x : World). StandsFor x r z) (sym e) (other_refetched w r z whole s vm file (apart vm file not)))
+    where
+      apart : (vm file : ℕ) → is_vcpu (vcpu vm file) (moved p) ≡ false → (vm ≢ p.who.vm) ⊎ (file ≢ p.who.vcpu)
+      apart vm file none = elim (cases_eq vm p.who.vm) [
+        | inl e ↦ inr (λ f. let no : is_vcpu (vcpu vm file) (moved p) ≡ true = grind (arith, nat_tests) in absurd (cc))
+        | inr ne ↦ inl ne
+      ]
+
+  between : (event : Event) (t : Rehearsed) → Happens event w r u t → KeepsAway event w p → StandsFor u t (all_happened (seen event w p) z)
+  between (Steps step) t (inside, makes, e) away = rehearsed w u r t step whole inside makes e z s
+  between (DeviceStores vm addr value) t (low, reaches, e) away = subst (λ (x : Rehearsed). StandsFor u x (all_happened (seen (DeviceStores vm addr value) w p) z)) (sym e)
+      (one_or_none u r z (is_for_moved w p vm addr) (happenings.Stores (asked (addr % PAGE) value))
+      (λ mine. own_store w r z whole s u (addr % PAGE) value (route_of (table_of w.tables vm) addr) (own_route w r z whole s vm addr mine) reaches)
+      (λ not. other_store w r z whole s u (addr % PAGE) value (route_of (table_of w.tables vm) addr) (away not) reaches))
+  between (PeerStores vm to value) t (there, relays, e) away = subst (λ (x : Rehearsed). StandsFor u x (all_happened (seen (PeerStores vm to value) w p) z)) (sym e)
+      (one_or_none u r z (is_vcpu (vcpu vm to) (moved p)) (happenings.PeerStores (asked 0 value))
+      (λ mine. own_peer w r z whole s u value (subst (λ (g : Vcpu). Relays (stage_of w g).in_force w u g value) (same_vcpu (vcpu vm to) (moved p) mine) relays))
+      (λ not. other_peer w r z whole s u value (vcpu vm to) (stage_of w (vcpu vm to)).in_force there (other_vcpu (vcpu vm to) (moved p) not) (away not) relays))
+  between (DeviceSends vm addr value) t (low, sends, e) away = subst (λ (x : Rehearsed). StandsFor u x (all_happened (seen (DeviceSends vm addr value) w p) z)) (sym e)
+      (one_or_none u r z (is_for_moved w p vm addr) (happenings.Sends (asked (addr % PAGE) value))
+      (λ mine. own_send w r z whole s u vm (addr % PAGE) value (route_of (table_of w.tables vm) addr) low (let same : vm ≡ p.who.vm = grind (arith, nat_tests) in same) (own_route w r z whole s vm addr mine) sends)
+      (λ not. other_send w r z whole s u vm (addr % PAGE) value (route_of (table_of w.tables vm) addr) low (away not) sends))
+  between (StoreLands vm k) t (low, l, e) away = subst (λ (x : Rehearsed). StandsFor u x (all_happened (seen (StoreLands vm k) w p) z)) (sym e) (land_seen vm k l)
+  between (EntryRead vm file) t (there, is, e) away = subst (λ (x : Rehearsed). StandsFor u x (all_happened (seen (EntryRead vm file) w p) z)) (sym e) (entry_read vm file is)
+
+pub event_stands : (w u : World) (r t : Rehearsed) (event : Event) → IsWhole w → Happens event w r u t → KeepsAway event w r.passage → (z : Transit) → StandsFor w r z → StandsFor u t (all_happened (seen event w r.passage) z)
+event_stands w u r t event whole happens away z s = between w u r z whole s event t happens away

@@ -1,0 +1,15 @@
+pub mod Places
+pub mod SetSteps
+pub mod PlaceSteps
+pub mod Carried
+pub mod RouteSteps
+pub mod StoreSeen
+pub mod Landings
+pub mod FlightSteps
+pub mod StepStands
+pub mod Between
+pub mod SameMachine
+pub mod EventStands
+pub mod RunMoves
+pub mod Theorem
+pub mod Made

@@ -1,0 +1,119 @@
+-- A fabric as it is made, with one VM, stands for a state.
+use Rattle.std.proofs.Common.{◌≡◌, ◌≢◌, ℕ, zero, suc, ◌+◌, ◌/◌, ◌<◌, Bool, true, false, List, [], ◌∷◌, get_or, None, refl, sym, ap, ◌∙◌, subst, arith}
+use Rattle.std.specs.Prelude.{replicate, slice_index_or}
+use Rattle.std.specs.List.{All}
+use Rattle.std.proofs.lemmas.Bool.{cond-true, ltb-true, lt-ltb}
+use Rattle.std.proofs.lemmas.Bool.Decides.{nat_tests}
+use Rattle.std.proofs.lemmas.List.{get_or-replicate}
+use Rattle.std.proofs.lemmas.List.Elements.{All-nil}
+use Rattle.aia_imsic.specs.Imsic.{ImsicState, IsThere, file_at}
+use Rattle.aia_entry.specs.Tables.{table_of, entry_in_force}
+use Rattle.aia_home.specs.declared.place.Place.{Place}
+use Rattle.aia_home.specs.declared.vm.Vm.{Vm}
+use Rattle.aia_home.specs.Vms.{Vcpu, vcpu, is_vcpu_in, slot_of, notice_hart, vcpus_in}
+use Rattle.aia_fabric.specs.declared.flights.Flying.{Flying}
+use Rattle.aia_fabric.specs.declared.stage.Stage.{Stage}
+use Rattle.aia_fabric.specs.World.{World, flight_of, stage_of, no_stage}
+use Rattle.aia_fabric.specs.Whole.{IsWhole}
+use Rattle.aia_fabric.specs.Making.{IsNew, MakesVm, new_world, made_entry, entry_word_place, notice_page}
+use Rattle.aia_fabric.proofs.ViewLemmas.{slot_low}
+use Rattle.aia_regs.specs.declared.limits.TheConstants.{VCPUS}
+use Rattle.aia_regs.specs.declared.address_map.TheConstants.{PAGE}
+use Rattle.aia_regs.specs.AddressMap.{supervisor_page, slot_address}
+use Rattle.aia_entry.specs.declared.entry.Entry.TheVariants.{Mrif}
+use Rattle.aia_entry.specs.Format.{mrif_word, notice_word}
+use Rattle.aia_places.specs.View.{leads_to, entry_word}
+use Rattle.aia_file.specs.FileState.{shown}
+use Rattle.aia_file.specs.InterruptFile.{SameFile, empty_file}
+use Rattle.aia_fabric.specs.Changes.{spot_of}
+use Rattle.aia_move.specs.declared.who.Who.{Who}
+use Rattle.aia_move.specs.Move.{IsWho, width}
+use Rattle.aia_plan.specs.Transit.{Side}
+use Rattle.aia_plan.specs.Transit.Side.{Old, New}
+use Rattle.aia_rehearsal.specs.declared.place.Place as ends
+use Rattle.aia_rehearsal.specs.declared.place.Place.TheVariants.{File, Slot}
+use Rattle.aia_rehearsal.specs.Rehearsed.{Passage, Carried, Rehearsed, moved, on, at, names_on, empty_hand, AreTwo, IsOf}
+use Rattle.aia_rehearsal.specs.Stands.{sets_at, routes_of, leads, flights_in, StandsFor}
+use Rattle.aia_rehearsal.specs.Runs.{LeadsTo, NoneLeads, state_at, IsBegun}
+use Rattle.aia_rehearsal.proofs.Theorem.{led_stands}
+
+module _ (files : ImsicState) (w : World) (n harts guests : ℕ) (vm : Vm) (who : Who) (new : IsNew (new_world files n) harts guests n) (whole : IsWhole w) (makes : MakesVm (new_world files n) w vm) (is : IsWho w who) (first : who.vm ≡ 0) where
+  abbrev g : Vcpu
+  g = vcpu who.vm who.vcpu
+
+  vcpu_low : who.vcpu < vm.vcpus
+  vcpu_low = ltb-true _ _ (sym (ap (λ vms. is_vcpu_in vms g) makes.vms ∙ ap (λ v. is_vcpu_in (vm ∷ []) (vcpu v who.vcpu)) first) ∙ is.there)
+
+  none_before : 0 + who.vcpu ≡ who.slot
+  none_before = sym (is.slot ∙ ap (λ vms. slot_of vms g) makes.vms ∙ ap (λ v. slot_of (vm ∷ []) (vcpu v who.vcpu)) first)
+
+  notice_is : vm.notice_hart ≡ who.notice
+  notice_is = sym (is.notice ∙ ap (λ vms. notice_hart vms g) makes.vms ∙ ap (λ v. notice_hart (vm ∷ []) (vcpu v who.vcpu)) first)
+
+  stage_is : stage_of w g ≡ no_stage
+  stage_is = let low = slot_low w g whole is.there in ap (λ (x : World). slice_index_or x.stages (slot_of w.vms g) no_stage) makes.rest ∙ get_or-replicate VCPUS (slot_of w.vms g) no_stage no_stage low
+
+  none_flies : (v : ℕ) → flight_of w v ≡ []
+  none_flies v = ap (λ lists. slice_index_or lists v []) makes.flights ∙ none v
+    where
+      no_stores : List Flying
+      no_stores = []
+
+      none : (v : ℕ) → flight_of (record w { flights = [] ∷ [] }) v ≡ []
+      none zero = refl
+      none (suc v) = refl
+
+  none_leads : (p : Passage) (side : Side) (v : ℕ) → NoneLeads w p side v
+  none_leads p side v = subst (λ l. All (λ (store : Flying). leads w.imsic p.who.slot (on side p) store.entry ≡ false) l) (sym (none_flies v)) (All-nil _)
+
+  -- all leads to the slot
+  module _ (old place : ends.Place) where
+    abbrev p : Passage
+    p = record { who = who; old = old; new = place }
+
+    led : (side : Side) → names_on side p ≡ None → LeadsTo w p side
+    led side none = record {
+      word0 = ap (λ v. get_or w.memory (entry_word_place v who.vcpu) 0) first ∙ makes.word0 who.vcpu vcpu_low ∙ ap (λ q. mrif_word (slot_address q)) none_before ∙ ap (entry_word who.slot) (sym none);
+      word1 = ap (λ v. get_or w.memory (entry_word_place v who.vcpu + 1) 0) first ∙ makes.word1 who.vcpu vcpu_low ∙ ap (λ q. notice_word (notice_page vm) (q + 1)) none_before ∙ ap (λ hart. notice_word (supervisor_page hart / PAGE) (who.slot + 1)) notice_is;
+      in_force = ap (λ v. entry_in_force (table_of w.tables v) who.vcpu) first ∙ makes.in_force who.vcpu ∙ cond-true _ _ _ (lt-ltb _ _ vcpu_low) ∙ ap (λ q. Mrif (slot_address q) (notice_page vm) (q + 1)) none_before
+          ∙ ap (λ hart. Mrif (slot_address who.slot) (supervisor_page hart / PAGE) (who.slot + 1)) notice_is ∙ ap (leads_to who.slot who.notice) (sym none);
+      record_written = ap (λ (x : Stage). x.written) stage_is ∙ sym none;
+      record_in_force = ap (λ (x : Stage). x.in_force) stage_is ∙ sym none;
+    }
+
+  file_empty : (a : Place) → IsThere w.imsic (spot_of a) → SameFile (shown (file_at w.imsic (spot_of a))) (empty_file n)
+  file_empty a there =
+      let same : w.imsic ≡ files = ap (λ (x : World). x.imsic) makes.rest in
+      subst (λ (i : ImsicState). SameFile (shown (file_at i (spot_of a))) (empty_file n)) (sym same) (new.files.each (spot_of a) (subst (λ (i : ImsicState). IsThere i (spot_of a)) same there))
+
+  arrives : (a : Place) → IsThere w.imsic (spot_of a) → IsBegun w (record { passage = record { who = who; old = Slot; new = File a }; hand = empty_hand })
+  arrives a there = record {
+    of = record { who = is; old = tt; new = there };
+    two = tt;
+    routes = led Slot (File a) Old refl;
+    flights = λ v. none_leads (record { who = who; old = Slot; new = File a }) New v;
+    others = λ v other. none_leads (record { who = who; old = Slot; new = File a }) Old v;
+    new_pending = λ i low. (file_empty a there).pending i;
+    new_enabled = λ i low. (file_empty a there).enabled i;
+    hand = refl;
+  }
+
+  -- as a leave has ended
+  leaves : (a : Place) → IsThere w.imsic (spot_of a) → StandsFor w (record { passage = record { who = who; old = File a; new = Slot }; hand = empty_hand }) (state_at New w (record { passage = record { who = who; old = File a; new = Slot }; hand = empty_hand }))
+  leaves a there =
+      let r : Rehearsed = record { passage = record { who = who; old = File a; new = Slot }; hand = empty_hand } in
+      led_stands w r New (record { who = is; old = there; new = tt }) tt (led (File a) Slot New refl) (λ v other. none_leads r.passage Old v) (λ v other. none_leads r.passage New v)
+
+-- the same of a fabric that is new
+module _ (before w : World) (n harts guests : ℕ) (vm : Vm) (who : Who) (new : IsNew before harts guests n) (whole : IsWhole w) (makes : MakesVm before w vm) (is : IsWho w who) (first : who.vm ≡ 0) where
+  new_here : IsNew (new_world before.imsic n) harts guests n
+  new_here = record { world = refl; hart_count = new.hart_count; guest_count = new.guest_count; files = new.files }
+
+  makes_here : MakesVm (new_world before.imsic n) w vm
+  makes_here = subst (λ (x : World). MakesVm x w vm) new.world makes
+
+  pub may_arrive : (a : Place) → IsThere w.imsic (spot_of a) → IsBegun w (record { passage = record { who = who; old = Slot; new = File a }; hand = empty_hand })
+  may_arrive a there = arrives before.imsic w n harts guests vm who new_here whole makes_here is first a there
+
+  pub has_left : (a : Place) → IsThere w.imsic (spot_of a) → StandsFor w (record { passage = record { who = who; old = File a; new = Slot }; hand = empty_hand }) (state_at New w (record { passage = record { who = who; old = File a; new = Slot }; hand = empty_hand }))
+  has_left a there = leaves before.imsic w n harts guests vm who new_here whole makes_here is first a there

@@ -1,0 +1,70 @@
+-- A step that is rehearsed leaves the machine as it is.
+use Rattle.std.proofs.Common.{◌≡◌, ℕ, ◌+◌, Bool, true, false, length, refl, sym, ap, ◌∙◌, subst}
+use Rattle.aia_regs.specs.declared.file_registers.FileReg.{FileReg}
+use Rattle.aia_regs.specs.declared.file_registers.FileReg.TheVariants.{Delivery, Threshold}
+use Rattle.aia_fabric.specs.declared.at.At.{At}
+use Rattle.aia_fabric.specs.declared.at.At.TheVariants as ats
+use Rattle.aia_fabric.specs.World.{World, OnlyStores, flight_of}
+use Rattle.aia_fabric.specs.Changes.{with_pending, with_enable}
+use Rattle.aia_fabric.proofs.FlightLemmas.{all_landed_rest}
+use Rattle.aia_fabric.proofs.FrameLemmas.{posts_rest}
+use Rattle.aia_imsic.specs.declared.spot.Spot.TheVariants.{HostFile}
+use Rattle.aia_imsic.specs.Imsic.{file_at, with_file}
+use Rattle.aia_move.specs.Move.{PostsIf}
+use Rattle.aia_move.specs.Touches.{SameMachine}
+use Rattle.aia_plan.specs.declared.step.Step.{Step}
+use Rattle.aia_plan.specs.declared.step.Step.TheVariants as steps
+use Rattle.aia_plan.specs.Transit.Side.{Old, New}
+use Rattle.aia_rehearsal.specs.declared.place.Place as ends
+use Rattle.aia_rehearsal.specs.declared.place.Place.TheVariants.{File, Slot}
+use Rattle.aia_rehearsal.specs.Rehearsed.{Rehearsed, at, IsOf}
+use Rattle.aia_rehearsal.specs.Steps.{Puts, Makes, after}
+use Rattle.aia_rehearsal.proofs.Carried.{of_same, same_machine}
+
+same_by : (w u x : World) → u ≡ x → SameMachine w x → SameMachine w u
+same_by w u x e same = subst (λ (y : World). SameMachine w y) (sym e) same
+
+word_same : (w : World) (place : At) (k v : ℕ) → SameMachine w (with_pending w place k v) × SameMachine w (with_enable w place k v)
+word_same w (ats.File spot) k v = (record { n = refl; vms = refl; harts = refl; guests = refl }, record { n = refl; vms = refl; harts = refl; guests = refl })
+word_same w (ats.Slot q) k v = (record { n = refl; vms = refl; harts = refl; guests = refl }, record { n = refl; vms = refl; harts = refl; guests = refl })
+
+put_same : (w u : World) (place : ends.Place) (reg : FileReg) (v : ℕ) → Puts w u place reg v → SameMachine w u
+put_same w u (File a) reg v puts = same_by w u _ puts.others (record { n = refl; vms = refl; harts = refl; guests = refl })
+put_same w u Slot reg v e = same_by w u w e (same_machine w)
+
+pub stored_same : (w u : World) → OnlyStores w u → SameMachine w u
+stored_same w u rest = same_by w u _ rest (record { n = refl; vms = refl; harts = refl; guests = refl })
+
+posts_same : (w u : World) (sent : Bool) (hart identity : ℕ) → PostsIf sent w u hart identity → SameMachine w u
+posts_same w u true hart identity posts = stored_same w u (posts_rest w u (HostFile hart) identity posts)
+posts_same w u false hart identity e = same_by w u w e (same_machine w)
+
+pub step_same : (step : Step) (w u : World) (r : Rehearsed) → Makes step r w u → SameMachine w u
+step_same steps.Quiet w u r makes = put_same w u r.passage.old Delivery 0 makes
+step_same steps.Word1 w u r e = same_by w u _ e (record { n = refl; vms = refl; harts = refl; guests = refl })
+step_same steps.Word0 w u r e = same_by w u _ e (record { n = refl; vms = refl; harts = refl; guests = refl })
+step_same steps.Fence w u r f =
+    let landed = all_landed_rest (length (flight_of w r.passage.who.vm)) w f.landed r.passage.who.vm f.lands in
+    let same : SameMachine w f.landed = same_by w f.landed _ landed (record { n = refl; vms = refl; harts = refl; guests = refl }) in
+    same_by w u _ f.fenced (record { n = same.n; vms = same.vms; harts = same.harts; guests = same.guests })
+step_same steps.Map w u r e = same_by w u _ e (record { n = refl; vms = refl; harts = refl; guests = refl })
+step_same steps.Unmap w u r e = same_by w u _ e (record { n = refl; vms = refl; harts = refl; guests = refl })
+step_same steps.Remap w u r e = same_by w u _ e (record { n = refl; vms = refl; harts = refl; guests = refl })
+step_same steps.GFence w u r e = same_by w u _ e (record { n = refl; vms = refl; harts = refl; guests = refl })
+step_same (steps.TakeP k) w u r makes = same_by w u _ makes.1 (word_same w (at Old r.passage) k 0).0
+step_same (steps.PutP k) w u r makes = same_by w u _ makes.1 (word_same w (at New r.passage) k _).0
+step_same (steps.TakeE k) w u r makes = same_by w u _ makes.1 (word_same w (at Old r.passage) k 0).1
+step_same (steps.PutE k) w u r makes = same_by w u _ makes.1 (word_same w (at New r.passage) k _).1
+step_same (steps.Look k) w u r e = same_by w u w e (same_machine w)
+step_same steps.TakeT w u r makes = put_same w u r.passage.old Threshold 0 makes
+step_same steps.PutT w u r makes = put_same w u r.passage.new Threshold r.hand.threshold makes
+step_same steps.Post w u r makes = posts_same w u r.hand.seen r.passage.who.notice (r.passage.who.slot + 1) makes
+step_same steps.Wake w u r makes = put_same w u r.passage.new Delivery r.hand.delivery makes
+
+-- so who is moved and both places are of the fabric still
+pub step_of : (step : Step) (w u : World) (r t : Rehearsed) → IsOf w r.passage → Makes step r w u → t ≡ after step r w → IsOf u t.passage
+step_of step w u r t of makes e = subst (λ (x : Rehearsed). IsOf u x.passage) (sym e) (of_same w u r.passage (step_same step w u r makes) of)
+
+-- one after the other
+pub same_again : (w u x : World) → SameMachine w u → SameMachine u x → SameMachine w x
+same_again w u x first second = record { n = second.n ∙ first.n; vms = second.vms ∙ first.vms; harts = second.harts ∙ first.harts; guests = second.guests ∙ first.guests }

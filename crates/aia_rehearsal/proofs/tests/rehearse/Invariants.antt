@@ -1,0 +1,9 @@
+use Rattle.std.proofs.Common.{◌≡◌}
+use Rattle.aia_move.specs.Touches.{SameMachine}
+use Rattle.aia_rehearsal.proofs.tests.rehearse.Given as goal
+
+abbrev pub invariant-loop-k : goal.invariant-loop-k
+invariant-loop-k l = record {
+  machine : SameMachine l.fn.fabric l.fabric;
+  places : l.rehearsal.passage ≡ l.fn.rehearsal.passage;
+}

@@ -1,0 +1,102 @@
+-- What may happen to a rehearsal and its fabric: a step, or what others do between two steps; and
+-- what it is on the machine on which plans were proved safe.
+use Rattle.std.specs.Prelude.{◌≡◌, ◌≢◌, ℕ, ◌%◌, ◌<◌, ⊤, Bool, true, false, ◌&&◌, nat_eq, if◌then◌else◌, List, [], ◌∷◌, length, take, slice_get, Option, Some, None}
+use Rattle.aia_regs.specs.declared.address_map.TheConstants.{PAGE}
+use Rattle.aia_entry.specs.declared.table.Route.{Route}
+use Rattle.aia_entry.specs.declared.table.Route.TheVariants.{To}
+use Rattle.aia_entry.specs.Tables.{table_of, route_of}
+use Rattle.aia_entry.specs.Translation.{is_msi_address, file_number}
+use Rattle.aia_home.specs.declared.place.Place.{Place}
+use Rattle.aia_home.specs.Vms.{vcpu, is_vcpu, is_vcpu_in}
+use Rattle.aia_fabric.specs.declared.flights.Flying.{Flying}
+use Rattle.aia_fabric.specs.World.{World, flight_of, stage_of}
+use Rattle.aia_fabric.specs.Stores.{Reaches, Relays}
+use Rattle.aia_fabric.specs.Flights.{Sends, Lands}
+use Rattle.aia_fabric.specs.Changes.{with_fence}
+use Rattle.aia_move.specs.Move.{width}
+use Rattle.aia_plan.specs.Plan.{IsInside}
+use Rattle.aia_plan.specs.declared.step.Step.{Step}
+use Rattle.aia_plan.specs.Transit.{Side, Happening}
+use Rattle.aia_plan.specs.Transit.{Happening as happenings}
+use Rattle.aia_rehearsal.specs.Rehearsed.{Passage, Rehearsed, moved, names_on}
+use Rattle.aia_rehearsal.specs.Steps.{Makes, after}
+use Rattle.aia_rehearsal.specs.Stands.{asked, side_of, flights_in}
+
+-- The rehearsal makes a step; a device of a VM stores a value at an address; a virtual hart of a VM
+-- stores one for another; a device of a VM sends a store; the K-th store in flight of a VM lands,
+-- counted from 0; the entry of a virtual hart is read again.
+pub data Event : Type 0 where
+  Steps : (step : Step) → Event
+  DeviceStores : (vm addr value : ℕ) → Event
+  PeerStores : (vm to value : ℕ) → Event
+  DeviceSends : (vm addr value : ℕ) → Event
+  StoreLands : (vm k : ℕ) → Event
+  EntryRead : (vm file : ℕ) → Event
+
+-- ---- what it does
+
+-- What the calls of the fabric and of the rehearsal make of both.
+abbrev pub Happens : Event → World → Rehearsed → World → Rehearsed → Type 0
+Happens (Steps step) w r u t =
+    IsInside (width w) step × Makes step r w u × (t ≡ after step r w)
+Happens (DeviceStores vm addr value) w r u t = (vm < length w.vms)
+    × Reaches (route_of (table_of w.tables vm) addr) w u (addr % PAGE) value × (t ≡ r)
+Happens (PeerStores vm to value) w r u t = (is_vcpu_in w.vms (vcpu vm to) ≡ true)
+    × Relays (stage_of w (vcpu vm to)).in_force w u (vcpu vm to) value × (t ≡ r)
+Happens (DeviceSends vm addr value) w r u t = (vm < length w.vms)
+    × Sends (route_of (table_of w.tables vm) addr) w u vm (addr % PAGE) value × (t ≡ r)
+Happens (StoreLands vm k) w r u t = (vm < length w.vms) × Lands w u vm k × (t ≡ r)
+Happens (EntryRead vm file) w r u t =
+    (is_vcpu_in w.vms (vcpu vm file) ≡ true) × (u ≡ with_fence w vm file) × (t ≡ r)
+
+-- ---- whom it concerns
+
+-- Whether a store of a device of a VM is for the virtual hart that is moved.
+abbrev pub is_for_moved : World → Passage → ℕ → ℕ → Bool
+is_for_moved w p vm addr =
+    nat_eq vm p.who.vm && (is_msi_address (table_of w.tables vm).mask addr
+    && nat_eq (file_number (table_of w.tables vm).mask addr) p.who.vcpu)
+
+-- A route leads to neither place; a record names neither.
+abbrev pub LeadsElsewhere : World → Passage → Route → Type 0
+LeadsElsewhere w p (To entry) = side_of w.imsic p entry ≡ None
+LeadsElsewhere w p route = ⊤
+
+abbrev pub NamesElsewhere : Passage → Option Place → Type 0
+NamesElsewhere p named = (side : Side) (a : Place) → names_on side p ≡ Some a → named ≢ Some a
+
+-- What is for another virtual hart does not come to its places: by then they are its own.
+abbrev pub KeepsAway : Event → World → Passage → Type 0
+KeepsAway (DeviceStores vm addr value) w p = is_for_moved w p vm addr ≡ false
+    → LeadsElsewhere w p (route_of (table_of w.tables vm) addr)
+KeepsAway (PeerStores vm to value) w p = is_vcpu (vcpu vm to) (moved p) ≡ false
+    → NamesElsewhere p (stage_of w (vcpu vm to)).in_force
+KeepsAway (DeviceSends vm addr value) w p = is_for_moved w p vm addr ≡ false
+    → LeadsElsewhere w p (route_of (table_of w.tables vm) addr)
+KeepsAway event w p = ⊤
+
+-- ---- what it is on the machine of the proof
+
+-- A landing of the K-th store of the VM, by where it leads: that of one of its own.
+abbrev pub landing_by : Option Side → ℕ → List Happening
+landing_by None k = []
+landing_by (Some side) k = happenings.Lands k ∷ []
+
+abbrev pub landing_seen : World → Passage → ℕ → Option Flying → List Happening
+landing_seen w p k None = []
+landing_seen w p k (Some store) = landing_by (side_of w.imsic p store.entry)
+    (length (flights_in w.imsic p (take k (flight_of w p.who.vm))))
+
+-- What is for the virtual hart that is moved is one happening; what is for others is none.
+abbrev pub seen : Event → World → Passage → List Happening
+seen (Steps step) w p = happenings.Does step ∷ []
+seen (DeviceStores vm addr value) w p =
+    if is_for_moved w p vm addr then happenings.Stores (asked (addr % PAGE) value) ∷ [] else []
+seen (PeerStores vm to value) w p =
+    if is_vcpu (vcpu vm to) (moved p) then happenings.PeerStores (asked 0 value) ∷ [] else []
+seen (DeviceSends vm addr value) w p =
+    if is_for_moved w p vm addr then happenings.Sends (asked (addr % PAGE) value) ∷ [] else []
+seen (StoreLands vm k) w p =
+    if nat_eq vm p.who.vm then landing_seen w p k (slice_get (flight_of w vm) k) else []
+seen (EntryRead vm file) w p =
+    if is_vcpu (vcpu vm file) (moved p) then happenings.Refetches ∷ [] else []

@@ -1,0 +1,125 @@
+-- A plan is rehearsed, and others do what they like between its steps: how that may begin, and what
+-- an accepted plan comes to.
+use Rattle.std.specs.Prelude.{◌≡◌, ◌≢◌, ℕ, ◌+◌, ◌/◌, ◌%◌, ◌<◌, Bool, false, ◌&&◌, ◌||◌, nat_eq, is_some, List, [], ◌∷◌, All, slice_get, Option, Some, None}
+use Rattle.std.specs.List.{list_any}
+use Rattle.aia_word.specs.Sets.{has_bit}
+use Rattle.aia_regs.specs.declared.address_map.TheConstants.{PAGE}
+use Rattle.aia_home.specs.Vms.{vcpu, is_vcpu}
+use Rattle.aia_places.specs.View.{leads_to, entry_word, second_word}
+use Rattle.aia_fabric.specs.declared.flights.Flying.{Flying}
+use Rattle.aia_fabric.specs.World.{World, flight_of}
+use Rattle.aia_fabric.specs.Whole.{IsWhole}
+use Rattle.aia_move.specs.Move.{width}
+use Rattle.aia_plan.specs.Plan.{Plan}
+use Rattle.aia_plan.specs.declared.step.Step.TheVariants as steps
+use Rattle.aia_plan.specs.Transit.{Side, Flight, Transit, is_identity}
+use Rattle.aia_plan.specs.Transit.Side.{Old, New}
+use Rattle.aia_rehearsal.specs.Rehearsed.{Passage, Rehearsed, moved, on, at, names_on, AreTwo, IsOf, empty_hand}
+use Rattle.aia_rehearsal.specs.Stands.{sets_at, routes_of, leads, side_of, asked, flights_in}
+use Rattle.aia_rehearsal.specs.Events.{Event, Happens, KeepsAway, is_for_moved}
+use Rattle.aia_rehearsal.specs.Events.Event.{Steps, DeviceStores, PeerStores, StoreLands}
+
+-- ---- a run
+
+-- Events come one after the other; each fabric between two of them is whole, as all are.
+abbrev pub Runs : List Event → World → Rehearsed → World → Rehearsed → Type 0
+Runs [] w r u t = (u ≡ w) × (t ≡ r)
+Runs (event ∷ later) w r u t = (x : World) × (y : Rehearsed) × IsWhole w
+    × KeepsAway event w r.passage × Happens event w r x y × Runs later x y u t
+
+-- The steps of the plan among them.
+abbrev pub steps_in : List Event → Plan
+steps_in [] = []
+steps_in (Steps step ∷ later) = step ∷ steps_in later
+steps_in (event ∷ later) = steps_in later
+
+-- ---- what is asked for
+
+-- Whether a store in flight that leads to one of the places asks for identity i.
+abbrev pub lands_for : World → Passage → ℕ → Option Flying → Bool
+lands_for w p i None = false
+lands_for w p i (Some store) =
+    is_some (side_of w.imsic p store.entry) && nat_eq (asked store.offset store.value) i
+
+-- Whether an event asks for identity i at the virtual hart that is moved, so that it is to be
+-- pending: a store of a device or of a peer, or one that lands, by itself or in a fence.
+abbrev pub asks : Event → World → Passage → ℕ → Bool
+asks (Steps steps.Fence) w p i =
+    list_any (λ (f : Flight). nat_eq f.identity i)
+    (flights_in w.imsic p (flight_of w p.who.vm))
+asks (DeviceStores vm addr value) w p i =
+    is_for_moved w p vm addr && nat_eq (asked (addr % PAGE) value) i
+asks (PeerStores vm to value) w p i =
+    is_vcpu (vcpu vm to) (moved p) && nat_eq (asked 0 value) i
+asks (StoreLands vm k) w p i =
+    nat_eq vm p.who.vm && lands_for w p i (slice_get (flight_of w vm) k)
+asks event w p i = false
+
+-- Whether one of the events of a run does.
+abbrev pub asked_in : (events : List Event) (w : World) (r : Rehearsed) (u : World) (t : Rehearsed)
+    → Runs events w r u t → ℕ → Bool
+asked_in [] w r u t run i = false
+asked_in (event ∷ later) w r u t (x, y, whole, away, happens, rest) i =
+    asks event w r.passage i || asked_in later x y u t rest i
+
+-- ---- how it begins, and how it ends
+
+-- All routes, as they are written and in force, lead to a side.
+pub record LeadsTo (w : World) (p : Passage) (side : Side) : Type 0 where
+  pub word0 : (routes_of w (moved p)).word0 ≡ entry_word p.who.slot (names_on side p)
+  pub word1 : (routes_of w (moved p)).word1 ≡ second_word p.who.slot p.who.notice
+  pub in_force : (routes_of w (moved p)).in_force
+      ≡ leads_to p.who.slot p.who.notice (names_on side p)
+  pub record_written : (routes_of w (moved p)).stage.written ≡ names_on side p
+  pub record_in_force : (routes_of w (moved p)).stage.in_force ≡ names_on side p
+
+-- No store in flight of a VM leads to a side.
+abbrev pub NoneLeads : World → Passage → Side → ℕ → Type 0
+NoneLeads w p side vm = All (λ (store : Flying).
+    leads w.imsic p.who.slot (on side p) store.entry ≡ false) (flight_of w vm)
+
+-- The state for which a fabric stands whose routes all lead to one side.
+abbrev pub state_at : Side → World → Rehearsed → Transit
+state_at side w r = record {
+  old_pending = (sets_at w (at Old r.passage)).pending;
+  old_enabled = (sets_at w (at Old r.passage)).enabled;
+  new_pending = (sets_at w (at New r.passage)).pending;
+  new_enabled = (sets_at w (at New r.passage)).enabled;
+  carried_pending = has_bit r.hand.pending;
+  carried_enables = has_bit r.hand.enables;
+  entry_written = side;
+  entry_in_force = side;
+  record_written = side;
+  record_in_force = side;
+  flights = flights_in w.imsic r.passage (flight_of w r.passage.who.vm);
+  due = λ i. is_identity i && (sets_at w (at Old r.passage)).pending i;
+}
+
+-- A move may begin: all leads to the old place, the new one is empty, and nothing is carried.
+pub record IsBegun (w : World) (r : Rehearsed) : Type 0 where
+  pub of : IsOf w r.passage
+  pub two : AreTwo r.passage.old r.passage.new
+  pub routes : LeadsTo w r.passage Old
+  pub flights : (vm : ℕ) → NoneLeads w r.passage New vm
+  pub others : (vm : ℕ) → vm ≢ r.passage.who.vm → NoneLeads w r.passage Old vm
+  pub new_pending : (i : ℕ) → i / 64 < width w
+      → (sets_at w (at New r.passage)).pending i ≡ false
+  pub new_enabled : (i : ℕ) → i / 64 < width w
+      → (sets_at w (at New r.passage)).enabled i ≡ false
+  pub hand : r.hand ≡ empty_hand
+
+-- It has ended well: pending in the new place is just what was pending in the old one as it began
+-- or was asked for since, enabled is just what was; the old place is empty, and nothing leads to
+-- it.
+pub record IsOver (w : World) (r : Rehearsed) (asked_for : ℕ → Bool) (u : World) : Type 0 where
+  pub pending : (i : ℕ) → i / 64 < width w → (sets_at u (at New r.passage)).pending i
+      ≡ (is_identity i && ((sets_at w (at Old r.passage)).pending i || asked_for i))
+  pub enabled : (i : ℕ) → i / 64 < width w → (sets_at u (at New r.passage)).enabled i
+      ≡ (is_identity i && (sets_at w (at Old r.passage)).enabled i)
+  pub old_pending : (i : ℕ) → i / 64 < width w
+      → (sets_at u (at Old r.passage)).pending i ≡ false
+  pub old_enabled : (i : ℕ) → i / 64 < width w
+      → (sets_at u (at Old r.passage)).enabled i ≡ false
+  pub routes : LeadsTo u r.passage New
+  pub flights : (vm : ℕ) → NoneLeads u r.passage Old vm
+  pub others : (vm : ℕ) → vm ≢ r.passage.who.vm → NoneLeads u r.passage New vm

@@ -1,0 +1,13 @@
+//! Plans of moves are rehearsed: the steps of a plan that was judged are made as accesses of the
+//! machine, one after another, on two places that need no home. Profile.
+#![tactic(auto)]
+
+pub mod laws;
+mod place;
+mod rehearsal;
+#[cfg(test)]
+mod tests;
+
+pub use aia_plan::Step;
+pub use place::Place;
+pub use rehearsal::Rehearsal;

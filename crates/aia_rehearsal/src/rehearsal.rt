@@ -1,0 +1,320 @@
+ghost use Rattle.std.specs.Prelude.{◌≡◌, ℕ, ◌/◌, ◌+◌, ◌<◌, ◌≤◌, false};
+ghost use Rattle.aia_word.specs.Sets.{has_bit};
+ghost use Rattle.aia_plan.specs.Plan.{IsInside};
+ghost use Rattle.aia_plan.specs.Transit.{Transit, stepped};
+ghost use Rattle.aia_plan.specs.Transit.Side.{Old, New};
+ghost use Rattle.aia_plan.specs.declared.step.Step.TheVariants as steps;
+ghost use Rattle.aia_regs.specs.FileRegisters.{IsUsable};
+ghost use Rattle.aia_places.specs.View.{entry_word, second_word};
+ghost use Rattle.aia_places.specs.Holds.{meets};
+ghost use Rattle.aia_fabric.specs.Changes.{IsPlaceThere, spot_of};
+ghost use Rattle.aia_move.specs.Move.{width};
+ghost use Rattle.aia_move.specs.Touches.{SameMachine};
+ghost use Rattle.aia_rehearsal.specs.Rehearsed.{Rehearsed, NotBothSlots, IsOf, IsFileThere, at_of, empty_hand, moved, names_on};
+ghost use Rattle.aia_rehearsal.specs.Steps.{Makes, after, hand_after, identities_in, Puts};
+ghost use Rattle.aia_rehearsal.specs.Stands.{StandsFor};
+
+use crate::{Place, Step};
+use aia_entry::{basic, mrif};
+use aia_fabric::{At, Fabric};
+use aia_imsic::Spot;
+use aia_move::Who;
+use aia_pool::FileLease;
+use aia_regs::address_map::{PAGE, guest_page, slot_address, supervisor_page};
+use aia_regs::{FileReg, Op};
+use std::marker::Model;
+
+/// A plan that is made step by step on a fabric: it has the two places and who is moved with it,
+/// and what is carried between two steps.
+#[derive(Drop)]
+pub struct Rehearsal {
+    from: Place,
+    to: Place,
+    who: Who,
+    pending: u64,
+    enables: u64,
+    delivery: u64,
+    threshold: u64,
+    seen: bool,
+}
+
+impl Model for Rehearsal {
+    ghost use Rattle.aia_rehearsal.specs.Rehearsed.{Rehearsed};
+
+    ghost Value = { Rehearsed };
+
+    ghost view = { λ r. record {
+      passage = record { who = r.who; old = r.from; new = r.to };
+      hand = record {
+        pending = r.pending;
+        enables = r.enables;
+        delivery = r.delivery;
+        threshold = r.threshold;
+        seen = r.seen;
+      };
+    } };
+}
+
+/// Gives the bits of word `word` of a set that are of identities: bit 0 of word 0 is of none.
+fn identities(word: usize, bits: u64) -> u64
+    ensures value { result ≡ identities_in word bits }
+    ensures no_zero { word ≡ 0 → has_bit result 0 ≡ false }
+{
+    if word == 0 { bits & !1 } else { bits }
+}
+
+/// Tells whether two words have a one in common.
+fn meets(pending: u64, enabled: u64) -> bool
+    ensures { result ≡ meets pending enabled }
+{
+    pending & enabled != 0
+}
+
+/// Gives the spot of a guest file.
+fn spot(lease: &FileLease) -> Spot
+    ensures { result ≡ spot_of lease.now }
+{
+    Spot::GuestFile(lease.hart(), lease.file())
+}
+
+/// Gives where a fabric has a place of the virtual hart of a slot.
+fn at(place: &Place, slot: u32) -> At
+    ensures { result ≡ at_of slot place.now }
+{
+    match place {
+        Place::File(lease) => At::File(spot(lease)),
+        Place::Slot => At::Slot(slot),
+    }
+}
+
+/// Writes a value to a register of a place that is a file.
+fn put(fabric: &mut Fabric, place: &Place, reg: FileReg, value: u64)
+    requires usable { IsUsable reg }
+    requires there { IsFileThere fabric.old place.now }
+    ensures { Puts fabric.old fabric.new place.now reg value }
+{
+    if let Place::File(lease) = place {
+        let _was = fabric.reg(spot(lease), reg, Op::Write(value));
+    }
+}
+
+#[tactic(auto, using(crate::proofs::Places::small_who, crate::proofs::Places::posts_if, crate::proofs::Places::place_there, crate::proofs::Places::words_there, crate::proofs::Places::word_in, crate::proofs::Places::file_in_map))]
+impl Rehearsal {
+    /// Begins: nothing is carried. Not both places are the slot.
+    pub fn new(old: Place, new: Place, who: Who) -> Rehearsal
+        requires { NotBothSlots old new }
+        ensures { result ≡ record {
+          passage = record { who = who; old = old; new = new };
+          hand = empty_hand;
+        } }
+    {
+        Rehearsal {
+            from: old,
+            to: new,
+            who,
+            pending: 0,
+            enables: 0,
+            delivery: 0,
+            threshold: 0,
+            seen: false,
+        }
+    }
+
+    /// Makes a step of a plan, one access of the fabric: `word` of a step is below the words of the
+    /// machine's files, and who is moved and both places are of the fabric.
+    ///
+    /// `map`, `unmap` and `remap` each write the record of the new place, none of a slot, whatever
+    /// their name; `quiet`, `taket`, `putt` and `wake` make their access at a file and none at a
+    /// slot. A fence lands the stores in flight of the VM first.
+    pub fn step(&mut self, fabric: &mut Fabric, step: Step)
+        requires word { IsInside (width fabric.old) step }
+        requires of { IsOf fabric.old self.old.passage }
+        ensures makes { Makes step self.old fabric.old fabric.new }
+        ensures after { self.new ≡ after step self.old fabric.old }
+        ensures stands { (z : Transit) → StandsFor fabric.old self.old z
+            → StandsFor fabric.new self.new (stepped step z) }
+        ensures machine { SameMachine fabric.old fabric.new }
+        ensures of { IsOf fabric.new self.new.passage }
+    {
+        let _whole = fabric.words();
+        self.make(fabric, step);
+    }
+
+    /// Makes the access of a step.
+    fn make(&mut self, fabric: &mut Fabric, step: Step)
+        requires word { IsInside (width fabric.old) step }
+        requires of { IsOf fabric.old self.old.passage }
+        ensures makes { Makes step self.old fabric.old fabric.new }
+        ensures after { self.new ≡ after step self.old fabric.old }
+    {
+        match step {
+            Step::Quiet => self.take_delivery(fabric),
+            Step::Word1 => self.write_notice(fabric),
+            Step::Word0 => self.write_entry(fabric),
+            Step::Fence => fabric.fence(self.who.vm, self.who.vcpu),
+            Step::Map | Step::Unmap | Step::Remap => self.write_record(fabric),
+            Step::GFence => fabric.gfence(self.who.vm, self.who.vcpu),
+            Step::TakeP(word) => self.take_pending(fabric, word as usize),
+            Step::PutP(word) => self.put_pending(fabric, word as usize),
+            Step::TakeE(word) => self.take_enables(fabric, word as usize),
+            Step::PutE(word) => self.put_enables(fabric, word as usize),
+            Step::Look(word) => self.look(fabric, word as usize),
+            Step::TakeT => self.take_threshold(fabric),
+            Step::PutT => put(fabric, &self.to, FileReg::Threshold, self.threshold),
+            Step::Post => self.post(fabric),
+            Step::Wake => put(fabric, &self.to, FileReg::Delivery, self.delivery),
+        }
+    }
+
+    // ---- the numbers
+
+    /// Takes eidelivery of the old place, where it is a file.
+    fn take_delivery(&mut self, fabric: &mut Fabric)
+        requires { IsOf fabric.old self.old.passage }
+        ensures makes { Makes steps.Quiet self.old fabric.old fabric.new }
+        ensures after { self.new ≡ after steps.Quiet self.old fabric.old }
+    {
+        if let Place::File(lease) = &self.from {
+            self.delivery = fabric.reg(spot(lease), FileReg::Delivery, Op::Write(0));
+        }
+    }
+
+    /// Takes eithreshold of the old place, where it is a file.
+    fn take_threshold(&mut self, fabric: &mut Fabric)
+        requires { IsOf fabric.old self.old.passage }
+        ensures makes { Makes steps.TakeT self.old fabric.old fabric.new }
+        ensures after { self.new ≡ after steps.TakeT self.old fabric.old }
+    {
+        if let Place::File(lease) = &self.from {
+            self.threshold = fabric.reg(spot(lease), FileReg::Threshold, Op::Write(0));
+        }
+    }
+
+    // ---- the routes
+
+    /// Writes word 1 of the entry: where notices go.
+    fn write_notice(&mut self, fabric: &mut Fabric)
+        requires { IsOf fabric.old self.old.passage }
+        ensures makes { Makes steps.Word1 self.old fabric.old fabric.new }
+        ensures same { self.new ≡ self.old }
+    {
+        let _words = fabric.words();
+        let (_, word) = mrif(
+            slot_address(self.who.slot),
+            supervisor_page(self.who.notice) / PAGE,
+            self.who.slot + 1,
+        );
+        fabric.put_word(self.who.vm, self.who.vcpu, 1, word);
+    }
+
+    /// Writes word 0 of the entry: it leads to the new place.
+    fn write_entry(&mut self, fabric: &mut Fabric)
+        requires { IsOf fabric.old self.old.passage }
+        ensures makes { Makes steps.Word0 self.old fabric.old fabric.new }
+        ensures same { self.new ≡ self.old }
+    {
+        let _words = fabric.words();
+        let word = match &self.to {
+            Place::File(lease) => basic(guest_page(lease.hart(), lease.file()) / PAGE),
+            Place::Slot => mrif(slot_address(self.who.slot), 0, 0).0,
+        };
+        fabric.put_word(self.who.vm, self.who.vcpu, 0, word);
+    }
+
+    /// Writes the G-stage record: it names the new place.
+    fn write_record(&mut self, fabric: &mut Fabric)
+        requires { IsOf fabric.old self.old.passage }
+        ensures makes { Makes steps.Map self.old fabric.old fabric.new }
+        ensures same { self.new ≡ self.old }
+    {
+        let named = &self.to;
+        match named {
+            Place::File(lease) => fabric.map(self.who.vm, self.who.vcpu, Some(lease)),
+            Place::Slot => fabric.map(self.who.vm, self.who.vcpu, None),
+        }
+    }
+
+    // ---- the sets
+
+    /// Takes word `word` of the pending set of the old place.
+    fn take_pending(&mut self, fabric: &mut Fabric, word: usize)
+        requires of { IsOf fabric.old self.old.passage }
+        requires word { word < width fabric.old }
+        ensures makes { Makes (steps.TakeP word) self.old fabric.old fabric.new }
+        ensures after { self.new ≡ after (steps.TakeP word) self.old fabric.old }
+    {
+        let _words = fabric.words();
+        self.pending = fabric.swap_pending(at(&self.from, self.who.slot), word, 0);
+    }
+
+    /// Adds what is carried to word `word` of the pending set of the new place.
+    fn put_pending(&mut self, fabric: &mut Fabric, word: usize)
+        requires of { IsOf fabric.old self.old.passage }
+        requires word { word < width fabric.old }
+        ensures makes { Makes (steps.PutP word) self.old fabric.old fabric.new }
+        ensures after { self.new ≡ after (steps.PutP word) self.old fabric.old }
+    {
+        let _words = fabric.words();
+        let bits = identities(word, self.pending);
+        fabric.or_pending(at(&self.to, self.who.slot), word, bits);
+        self.pending = 0;
+    }
+
+    /// Takes word `word` of the enabled set of the old place.
+    fn take_enables(&mut self, fabric: &mut Fabric, word: usize)
+        requires of { IsOf fabric.old self.old.passage }
+        requires word { word < width fabric.old }
+        ensures makes { Makes (steps.TakeE word) self.old fabric.old fabric.new }
+        ensures after { self.new ≡ after (steps.TakeE word) self.old fabric.old }
+    {
+        let _words = fabric.words();
+        self.enables = fabric.swap_enable(at(&self.from, self.who.slot), word, 0);
+    }
+
+    /// Makes word `word` of the enabled set of the new place what is carried.
+    fn put_enables(&mut self, fabric: &mut Fabric, word: usize)
+        requires of { IsOf fabric.old self.old.passage }
+        requires word { word < width fabric.old }
+        ensures makes { Makes (steps.PutE word) self.old fabric.old fabric.new }
+        ensures after { self.new ≡ after (steps.PutE word) self.old fabric.old }
+    {
+        let _words = fabric.words();
+        let bits = identities(word, self.enables);
+        let _was = fabric.swap_enable(at(&self.to, self.who.slot), word, bits);
+        self.enables = 0;
+    }
+
+    // ---- the looks
+
+    /// Reads word `word` of both sets of the slot.
+    fn look(&mut self, fabric: &mut Fabric, word: usize)
+        requires of { IsOf fabric.old self.old.passage }
+        requires word { word < width fabric.old }
+        ensures makes { Makes (steps.Look word) self.old fabric.old fabric.new }
+        ensures after { self.new ≡ after (steps.Look word) self.old fabric.old }
+    {
+        let _words = fabric.words();
+        let (pending, enabled) = fabric.look(self.who.slot, word);
+        self.seen = self.seen || meets(pending, enabled);
+    }
+
+    /// Sends the notice where a look saw something.
+    fn post(&mut self, fabric: &mut Fabric)
+        requires { IsOf fabric.old self.old.passage }
+        ensures makes { Makes steps.Post self.old fabric.old fabric.new }
+        ensures same { self.new ≡ self.old }
+    {
+        let _words = fabric.words();
+        if self.seen {
+            fabric.notice(self.who.slot);
+        }
+    }
+
+    /// Gives both places back, the old one first.
+    pub fn finish(self) -> (Place, Place)
+        ensures old { result.0 ≡ self.passage.old }
+        ensures new { result.1 ≡ self.passage.new }
+    {
+        (self.from, self.to)
+    }
+}

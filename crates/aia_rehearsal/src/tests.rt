@@ -1,0 +1,366 @@
+//! The plans of the core, and plans that lose something, rehearsed with stores between their steps.
+
+ghost use Rattle.std.specs.Prelude.{◌≡◌, ◌≢◌, ◌<◌, ◌≤◌, IfOk, IfSome};
+ghost use Rattle.std.specs.List.{All};
+ghost use Rattle.aia_plan.specs.Plan.{IsInside};
+ghost use Rattle.aia_move.specs.Move.{IsWho, width};
+ghost use Rattle.aia_move.specs.Touches.{SameMachine};
+ghost use Rattle.aia_rehearsal.specs.declared.place.Place.TheVariants as places;
+ghost use Rattle.aia_rehearsal.specs.Rehearsed.{Passage, IsOf, IsFileThere, NotBothSlots};
+
+use crate::{Place, Rehearsal, Step};
+use aia_fabric::{At, Fabric};
+use aia_imsic::Spot;
+use aia_move::Who;
+use aia_pool::{FileLease, Pool};
+use aia_regs::{FileReg, Op};
+use arrayvec::ArrayVec;
+use std::alloc::{AllocError, Global};
+use std::fmt::Debug;
+use std::process::Abort;
+use std::test::Fail;
+
+/// Ends the test where it got another value than it wants in a case.
+fn is_same<T: Copy + PartialEq + Debug>(rt: &impl Abort, got: T, want: T, case: usize) {
+    assert_eq!(rt; got, want, "in the case {case:?}");
+}
+
+/// Ends the test where a fact does not hold.
+fn holds(rt: &impl Abort, fact: bool) {
+    assert!(rt; fact);
+}
+
+/// The core's plans, of files of one word.
+const ARRIVE: [Step; 10] = [
+    Step::Word0,
+    Step::Fence,
+    Step::Map,
+    Step::GFence,
+    Step::TakeP(0),
+    Step::PutP(0),
+    Step::TakeE(0),
+    Step::PutE(0),
+    Step::PutT,
+    Step::Wake,
+];
+
+const SHIFT: [Step; 12] = [
+    Step::Quiet,
+    Step::Word0,
+    Step::Fence,
+    Step::Remap,
+    Step::GFence,
+    Step::TakeP(0),
+    Step::PutP(0),
+    Step::TakeE(0),
+    Step::PutE(0),
+    Step::TakeT,
+    Step::PutT,
+    Step::Wake,
+];
+
+const LEAVE: [Step; 13] = [
+    Step::Quiet,
+    Step::Word1,
+    Step::Word0,
+    Step::Fence,
+    Step::Unmap,
+    Step::GFence,
+    Step::TakeP(0),
+    Step::PutP(0),
+    Step::TakeE(0),
+    Step::PutE(0),
+    Step::Look(0),
+    Step::TakeT,
+    Step::Post,
+];
+
+/// Makes two harts with two guest files each, whose identities are 1 to 63, and a VM of two virtual
+/// harts.
+#[tactic(auto, unfolding(aia_word::specs::Packed::ones))]
+fn machine(alloc: Global) -> Result<Fabric, AllocError>
+    ensures { IfOk result (λ f. (f.imsic.harts ≡ 2) × (f.imsic.guests ≡ 2) × (width f ≡ 1)) }
+{
+    let mut fabric = Fabric::new(alloc, 2, 2, 63)?;
+    fabric.vm(2, 0x8, 1);
+    Ok(fabric)
+}
+
+/// Finds virtual hart 1.
+fn who_is(fabric: &Fabric) -> Option<Who>
+    ensures { IfSome result (IsWho fabric.now) }
+{
+    if !fabric.has_vcpu(0, 1) {
+        return None;
+    }
+    Some(Who {
+        vm: 0,
+        vcpu: 1,
+        slot: fabric.slot_of(0, 1),
+        notice: fabric.notice_hart(0, 1),
+        passes: ArrayVec::new(),
+    })
+}
+
+/// Stores a value for it by a device, and the one after the next by another virtual hart.
+#[tactic(auto, using(crate::proofs::SameMachine::stored_same, crate::proofs::SameMachine::same_again))]
+fn stores(fabric: &mut Fabric, value: u32)
+    requires { value < 60 }
+    ensures { SameMachine fabric.old fabric.new }
+{
+    if fabric.vms() > 0 {
+        fabric.device_store(0, 0x2800_8000, value);
+    }
+    if fabric.has_vcpu(0, 1) {
+        fabric.guest_store(0, 1, value + 2);
+    }
+}
+
+/// Makes the steps of a plan, with stores before the one with a number.
+fn rehearse(fabric: &mut Fabric, rehearsal: &mut Rehearsal, plan: &[Step], at: usize, value: u32)
+    requires few { value < 60 }
+    requires inside { All (IsInside (width fabric.old)) plan.now }
+    requires of { IsOf fabric.old rehearsal.old.passage }
+    ensures machine { SameMachine fabric.old fabric.new }
+    ensures places { rehearsal.new.passage ≡ rehearsal.old.passage }
+{
+    for k in 0..plan.len() {
+        if k == at {
+            stores(fabric, value);
+        }
+        rehearsal.step(fabric, plan[k]);
+    }
+    if plan.len() <= at {
+        stores(fabric, value);
+    }
+}
+
+/// Moves virtual hart 1 from a place to another one by a plan, with stores before the step with a
+/// number, of the value that is given last, and gives both places back.
+fn moves(
+    rt: &impl Abort,
+    fabric: &mut Fabric,
+    from: Place,
+    to: Place,
+    plan: (&[Step], usize, u32),
+) -> (Place, Place)
+    requires few { plan.2 < 60 }
+    requires from { IsFileThere fabric.old from }
+    requires to { IsFileThere fabric.old to }
+    requires both { NotBothSlots from to }
+    requires inside { All (IsInside (width fabric.old)) plan.0.now }
+    ensures machine { SameMachine fabric.old fabric.new }
+    ensures from { result.0 ≡ from }
+    ensures to { result.1 ≡ to }
+{
+    match who_is(fabric) {
+        None => {
+            holds(rt, false);
+            (from, to)
+        }
+        Some(who) => {
+            let mut rehearsal = Rehearsal::new(from, to, who);
+            rehearse(fabric, &mut rehearsal, plan.0, plan.1, plan.2);
+            rehearsal.finish()
+        }
+    }
+}
+
+/// Ends the test where a file, that in whose page an address lies, does not show these identities
+/// as pending and as enabled.
+fn file_shows(rt: &impl Abort, fabric: &mut Fabric, addr: u64, want: (u64, u64), case: usize)
+    ensures { SameMachine fabric.old fabric.new }
+{
+    let spot = fabric.locate(addr);
+    if spot == Spot::Nowhere {
+        holds(rt, false);
+    } else {
+        let pending = fabric.reg(spot, FileReg::Pending(0), Op::Read);
+        let enabled = fabric.reg(spot, FileReg::Enable(0), Op::Read);
+        is_same(rt, (pending, enabled), want, case);
+    }
+}
+
+/// Makes 3 pending, and 3 and 5 enabled, in the slot.
+fn fill(fabric: &mut Fabric)
+    requires { width fabric.old ≡ 1 }
+    ensures { SameMachine fabric.old fabric.new }
+{
+    fabric.or_pending(At::Slot(1), 0, 0x8);
+    let _was = fabric.swap_enable(At::Slot(1), 0, 0x28);
+}
+
+/// Two guest files of hart 1.
+fn two_files(alloc: Global) -> Result<Option<(FileLease, FileLease)>, AllocError>
+    ensures { IfOk result (λ files. IfSome files (λ f. (f.0.hart < 2) × (1 ≤ f.0.file)
+        × (f.0.file ≤ 2) × (f.1.hart < 2) × (1 ≤ f.1.file) × (f.1.file ≤ 2))) }
+{
+    let mut pool = Pool::new(alloc, 2, 2)?;
+    let Some(first) = pool.take(1) else {
+        return Ok(None);
+    };
+    let Some(second) = pool.take(1) else {
+        return Ok(None);
+    };
+    Ok(Some((first, second)))
+}
+
+/// An arrival, then a shift, then a leave, each with stores before its step of a number: all that
+/// was pending or asked for is pending at the end of each, and both enables are there.
+fn goes_round(rt: &impl Abort, fabric: &mut Fabric, files: (FileLease, FileLease), at: usize)
+    requires first { IsFileThere fabric.old (places.File files.0) }
+    requires second { IsFileThere fabric.old (places.File files.1) }
+    requires width { width fabric.old ≡ 1 }
+{
+    fill(fabric);
+    let (slot, first) = moves(
+        rt,
+        fabric,
+        Place::Slot,
+        Place::File(files.0),
+        (&ARRIVE, at, 5),
+    );
+    file_shows(rt, fabric, 0x2802_1000, (0xa8, 0x28), at);
+    is_same(rt, fabric.look(1, 0), (0, 0), at);
+    let (first, second) = moves(rt, fabric, first, Place::File(files.1), (&SHIFT, at, 9));
+    file_shows(rt, fabric, 0x2802_1000, (0, 0), at);
+    file_shows(rt, fabric, 0x2802_2000, (0xaa8, 0x28), at);
+    drop(first);
+    let (second, slot) = moves(rt, fabric, second, slot, (&LEAVE, at, 13));
+    file_shows(rt, fabric, 0x2802_2000, (0, 0), at);
+    is_same(rt, fabric.look(1, 0), (0xaaa8, 0x28), at);
+    drop(second);
+    drop(slot);
+}
+
+#[test]
+fn the_plans_of_the_core_keep_all(rt: HostRuntime) -> Result<(), Fail> {
+    for at in 0..14 {
+        let mut fabric = machine(rt.alloc())?;
+        match two_files(rt.alloc())? {
+            Some(files) => goes_round(&rt, &mut fabric, files, at),
+            None => holds(&rt, false),
+        }
+        drop(fabric);
+    }
+    Ok(())
+}
+
+/// The fence of the IOMMU comes when the pending word was taken.
+const LATE_FENCE: [Step; 12] = [
+    Step::Quiet,
+    Step::Word1,
+    Step::Word0,
+    Step::Unmap,
+    Step::GFence,
+    Step::TakeP(0),
+    Step::PutP(0),
+    Step::Fence,
+    Step::TakeE(0),
+    Step::PutE(0),
+    Step::Look(0),
+    Step::TakeT,
+];
+
+/// The G fence does.
+const LATE_G_FENCE: [Step; 12] = [
+    Step::Quiet,
+    Step::Word0,
+    Step::Fence,
+    Step::Remap,
+    Step::TakeP(0),
+    Step::PutP(0),
+    Step::GFence,
+    Step::TakeE(0),
+    Step::PutE(0),
+    Step::TakeT,
+    Step::PutT,
+    Step::Wake,
+];
+
+/// The enables are moved twice.
+const ENABLES_TWICE: [Step; 12] = [
+    Step::Word0,
+    Step::Fence,
+    Step::Map,
+    Step::GFence,
+    Step::TakeP(0),
+    Step::PutP(0),
+    Step::TakeE(0),
+    Step::PutE(0),
+    Step::TakeE(0),
+    Step::PutE(0),
+    Step::PutT,
+    Step::Wake,
+];
+
+/// What refused plans lose: the enables; 9, which a device stores before the late fence; and 11,
+/// which another virtual hart stores before the late G fence. The lost ones stay in the old file.
+fn loses(rt: &impl Abort, fabric: &mut Fabric, files: (FileLease, FileLease))
+    requires first { IsFileThere fabric.old (places.File files.0) }
+    requires second { IsFileThere fabric.old (places.File files.1) }
+    requires width { width fabric.old ≡ 1 }
+{
+    fill(fabric);
+    let (slot, first) = moves(
+        rt,
+        fabric,
+        Place::Slot,
+        Place::File(files.0),
+        (&ENABLES_TWICE, 0, 5),
+    );
+    file_shows(rt, fabric, 0x2802_1000, (0xa8, 0), 0);
+    let (first, slot) = moves(rt, fabric, first, slot, (&LATE_FENCE, 7, 9));
+    file_shows(rt, fabric, 0x2802_1000, (0x200, 0), 7);
+    is_same(rt, fabric.look(1, 0), (0x8a8, 0), 7);
+    drop(first);
+    let (slot, second) = moves(rt, fabric, slot, Place::File(files.1), (&ARRIVE, 20, 5));
+    drop(slot);
+    file_shows(rt, fabric, 0x2802_2000, (0x8a8, 0), 20);
+    drop(second);
+}
+
+/// The same of the late G fence.
+fn loses_a_peer(rt: &impl Abort, fabric: &mut Fabric, files: (FileLease, FileLease))
+    requires first { IsFileThere fabric.old (places.File files.0) }
+    requires second { IsFileThere fabric.old (places.File files.1) }
+    requires width { width fabric.old ≡ 1 }
+{
+    fill(fabric);
+    let (slot, first) = moves(
+        rt,
+        fabric,
+        Place::Slot,
+        Place::File(files.0),
+        (&ARRIVE, 0, 5),
+    );
+    drop(slot);
+    let (first, second) = moves(
+        rt,
+        fabric,
+        first,
+        Place::File(files.1),
+        (&LATE_G_FENCE, 6, 9),
+    );
+    file_shows(rt, fabric, 0x2802_1000, (0x800, 0), 6);
+    file_shows(rt, fabric, 0x2802_2000, (0x2a8, 0x28), 6);
+    drop(first);
+    drop(second);
+}
+
+#[test]
+fn refused_plans_lose_what_they_are_said_to(rt: HostRuntime) -> Result<(), Fail> {
+    let mut fabric = machine(rt.alloc())?;
+    match two_files(rt.alloc())? {
+        Some(files) => loses(&rt, &mut fabric, files),
+        None => holds(&rt, false),
+    }
+    drop(fabric);
+    let mut fabric = machine(rt.alloc())?;
+    match two_files(rt.alloc())? {
+        Some(files) => loses_a_peer(&rt, &mut fabric, files),
+        None => holds(&rt, false),
+    }
+    drop(fabric);
+    Ok(())
+}
