@@ -188,9 +188,6 @@ module _ (w : World) (r : Rehearsed) (z : Transit) (whole : IsWhole w) (s : Stan
       inside Slot there = there
 
   module _ (vm : ℕ) (store : Flying) (low : vm < length w.vms) where
-    more : List Flying
-    more = flight_of w vm ++ store ∷ []
-
     more_here : flight_of (with_flight w vm (flight_of w vm ++ store ∷ [])) vm ≡ flight_of w vm ++ store ∷ []
     more_here = get_or-set_same w.flights vm (flight_of w vm ++ store ∷ []) [] (omega (arith, low, whole.flights))
 
