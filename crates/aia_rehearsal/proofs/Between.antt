@@ -42,12 +42,17 @@ use Rattle.aia_rehearsal.specs.declared.place.Place as ends
 use Rattle.aia_rehearsal.specs.declared.place.Place.TheVariants.{File, Slot}
 use Rattle.aia_rehearsal.specs.Rehearsed.{Passage, Rehearsed, moved, on, at_of, file_of, names_on, AreTwo, IsFileThere}
 use Rattle.aia_rehearsal.specs.Stands.{sets_at, routes_of, is_file_at, leads, side_of, asked, onto_flights, flights_in, FlightsStand, StandsFor}
-use Rattle.aia_rehearsal.specs.Events.{is_for_moved, LeadsElsewhere, NamesElsewhere, landing_by, landing_seen}
+use Rattle.aia_rehearsal.specs.Events.{is_for_moved, NamesElsewhere, landing_by, landing_seen}
 use Rattle.aia_rehearsal.proofs.Places.{small_who}
 use Rattle.aia_rehearsal.proofs.RouteSteps.{all_kept, refetched}
 use Rattle.aia_rehearsal.proofs.StoreSeen.{Seen, file_hit, slot_hit, at_spot, at_slot}
-use Rattle.aia_rehearsal.proofs.Landings.{side_by, landed_on, store_lands, entry_lands, one_led, one_file_hit, one_slot_hit}
+use Rattle.aia_rehearsal.proofs.Landings.{side_by, landed_on, store_lands, entry_lands, one_led, one_file_hit, one_slot_hit, named_spot_there}
 use Rattle.aia_rehearsal.proofs.FlightSteps.{landed_state, own_store_landed, other_store_landed}
+
+-- a route leads to neither place
+abbrev pub LeadsElsewhere : World → Passage → Route → Type 0
+LeadsElsewhere w p (To entry) = side_of w.imsic p entry ≡ None
+LeadsElsewhere w p route = Unit {0}
 
 -- ---- on which side
 
@@ -134,16 +139,10 @@ module _ (w : World) (r : Rehearsed) (z : Transit) (whole : IsWhole w) (s : Stan
 
     pub other_peer : (g : Vcpu) (named : Option Place) → is_vcpu_in w.vms g ≡ true → g ≢ moved p → NamesElsewhere p named → Relays named w u g value → StandsFor u r z
     other_peer g (Some a) there other none relays =
-        let seen = at_spot w u p 0 value whole (named_spot w.imsic a) spot_there relays in
+        let seen = at_spot w u p 0 value whole (named_spot w.imsic a) (named_spot_there w a) relays in
         let one = one_file_hit (named_spot w.imsic a) p.old p.new s.two in
         subst (λ o. StandsFor u r (landed_on o (asked 0 value) z)) (side_none (file_hit (named_spot w.imsic a)) p (missed p.old (λ b e. none Old b (ap file_of e))) (missed p.new (λ b e. none New b (ap file_of e)))) (store_lands w u r z (file_hit (named_spot w.imsic a)) 0 value s seen one)
       where
-        spot_there : named_spot w.imsic a ≢ Nowhere → IsThere w.imsic (named_spot w.imsic a)
-        spot_there some = elim (cases_Bool (nat_lt a.hart w.imsic.harts && is_in_range 1 w.imsic.guests a.file)) [
-          | inl named ↦ let inside : IsThere w.imsic (spot_of a) = (grind (arith, nat_tests), grind (arith, nat_tests), grind (arith, nat_tests)) in subst (IsThere w.imsic) (sym (cond-true _ _ _ named)) inside
-          | inr past ↦ absurd (some (cond-false _ _ _ past))
-        ]
-
         missed : (x : ends.Place) → ((b : Place) → x ≡ File b → Some a ≢ Some b) → file_hit (named_spot w.imsic a) x ≡ false
         missed Slot apart = refl
         missed (File b) apart = elim (cases_Bool (nat_lt a.hart w.imsic.harts && is_in_range 1 w.imsic.guests a.file)) [

@@ -19,7 +19,9 @@ use Rattle.aia_home.proofs.HomeLemmas.{same_place, is_itself_place}
 use Rattle.aia_places.specs.View.{TwoSets}
 use Rattle.aia_fabric.specs.World.{World, OnlyStores}
 use Rattle.aia_fabric.specs.Whole.{IsWhole}
-use Rattle.aia_fabric.specs.Stores.{ReachesBy, page_spot, slot_at}
+use Rattle.std.specs.Int.{is_in_range}
+use Rattle.aia_fabric.specs.Stores.{ReachesBy, page_spot, named_spot, slot_at}
+use Rattle.aia_fabric.specs.Changes.{spot_of}
 use Rattle.aia_fabric.proofs.PlaceLemmas.{slot_begins}
 use Rattle.aia_move.specs.Move.{width}
 use Rattle.aia_move.specs.Touches.{SameMachine}
@@ -124,6 +126,12 @@ page_there w page some = by_spot (page_spot w.imsic page) refl
     by_spot (HostFile hart) is = subst (IsThere w.imsic) (sym is) (host_of_spot w.imsic.harts w.imsic.guests (page * PAGE) hart is).0
     by_spot (GuestFile hart file) is = let found = guest_of_spot w.imsic.harts w.imsic.guests (page * PAGE) hart file is in subst (IsThere w.imsic) (sym is) (found.0, found.1, found.2)
     by_spot Nowhere is = absurd (some is)
+
+pub named_spot_there : (w : World) (a : Place) → named_spot w.imsic a ≢ Nowhere → IsThere w.imsic (named_spot w.imsic a)
+named_spot_there w a some = elim (cases_Bool (nat_lt a.hart w.imsic.harts && is_in_range 1 w.imsic.guests a.file)) [
+  | inl named ↦ let inside : IsThere w.imsic (spot_of a) = (grind (arith, nat_tests), grind (arith, nat_tests), grind (arith, nat_tests)) in subst (IsThere w.imsic) (sym (cond-true _ _ _ named)) inside
+  | inr past ↦ absurd (some (cond-false _ _ _ past))
+]
 
 module _ (w u : World) (p : Passage) (offset value : ℕ) (whole : IsWhole w) where
   hit_same : (hits gates : ends.Place → Bool) → ((b : ends.Place) → hits b ≡ gates b) → Seen w u p hits offset value → Seen w u p gates offset value

@@ -35,6 +35,20 @@ use Rattle.aia_rehearsal.specs.declared.place.Place.TheVariants.{File, Slot}
 use Rattle.aia_rehearsal.specs.Rehearsed.{Passage, Carried, Rehearsed, moved, on, at, names_on, empty_hand, AreTwo, IsOf}
 use Rattle.aia_rehearsal.specs.Stands.{sets_at, routes_of, leads, flights_in, StandsFor}
 use Rattle.aia_rehearsal.specs.Runs.{LeadsTo, NoneLeads, state_at, IsBegun}
+use Rattle.std.proofs.lemmas.Bool.{cases_eq, cases_Bool, ne_eqb, cond-false}
+use Rattle.std.proofs.Common.{inl, inr, nat_lt, length, Option, Some, ◌≤◌}
+use Rattle.std.proofs.lemmas.List.{get_or_past}
+use Rattle.aia_regs.specs.Word.{names}
+use Rattle.aia_regs.specs.declared.limits.TheConstants.{HARTS}
+use Rattle.aia_entry.specs.declared.entry.Entry.TheVariants.{NotValid}
+use Rattle.aia_entry.specs.Format.{decoded}
+use Rattle.aia_entry.specs.Tables.{no_table}
+use Rattle.aia_places.specs.View.{second_word}
+use Rattle.aia_places.proofs.EntryLemmas.{entry_back}
+use Rattle.aia_fabric.proofs.PlaceLemmas.{slot_found}
+use Rattle.aia_fabric.proofs.WholeLemmas.{notice_hart_there}
+use Rattle.aia_rehearsal.specs.Stands.{side_of}
+use Rattle.aia_rehearsal.specs.Events.{IsAlone}
 use Rattle.aia_rehearsal.proofs.Theorem.{led_stands}
 
 module _ (files : ImsicState) (w : World) (n harts guests : ℕ) (vm : Vm) (who : Who) (new : IsNew (new_world files n) harts guests n) (whole : IsWhole w) (makes : MakesVm (new_world files n) w vm) (is : IsWho w who) (first : who.vm ≡ 0) where
@@ -81,6 +95,70 @@ module _ (files : ImsicState) (w : World) (n harts guests : ℕ) (vm : Vm) (who 
       record_in_force = ap (λ (x : Stage). x.in_force) stage_is ∙ sym none;
     }
 
+  -- the entries and records of the others lead to their own slots
+  module _ (a : Place) where
+    abbrev arrival : Passage
+    arrival = record { who = who; old = Slot; new = File a }
+
+    other_slot : (n page identity : ℕ) → n < VCPUS → n ≢ who.slot → side_of w.imsic arrival (Mrif (slot_address n) page identity) ≡ None
+    other_slot n page identity low other = cond-false _ _ _ (ap (λ o. names o who.slot) (slot_found n low) ∙ ne_eqb n who.slot other) ∙ refl
+
+    not_valid : side_of w.imsic arrival NotValid ≡ None
+    not_valid = refl
+
+    plus_none : (n : ℕ) → 0 + n ≡ n
+    plus_none n = omega arith
+
+    other_number : (n : ℕ) → g ≢ vcpu who.vm n → n ≢ who.slot
+    other_number n other e = other (let same : who.vcpu ≡ n = sym (plus_none who.vcpu) ∙ none_before ∙ sym e in λ k. vcpu who.vm (same k))
+
+    few_vcpus : vm.vcpus ≤ VCPUS
+    few_vcpus = let total : vcpus_in w.vms ≡ vm.vcpus + 0 = ap vcpus_in makes.vms in let most = whole.vcpus in omega (arith, total, most)
+
+    made_elsewhere : (n : ℕ) → g ≢ vcpu who.vm n → side_of w.imsic arrival (made_entry vm 0 n) ≡ None
+    made_elsewhere n other = elim (cases_Bool (nat_lt n vm.vcpus)) [
+      | inl inside ↦ ap (side_of w.imsic arrival) (cond-true _ _ _ inside) ∙ ap (λ q. side_of w.imsic arrival (Mrif (slot_address q) (notice_page vm) (q + 1))) (plus_none n)
+          ∙ other_slot n (notice_page vm) (n + 1) (let low : n < vm.vcpus = ltb-true _ _ inside in omega (arith, low, few_vcpus)) (other_number n other)
+      | inr past ↦ ap (side_of w.imsic arrival) (cond-false _ _ _ past) ∙ not_valid
+    ]
+
+    in_force_elsewhere : (x : Vcpu) → x ≢ g → side_of w.imsic arrival (entry_in_force (table_of w.tables x.vm) x.number) ≡ None
+    in_force_elsewhere x other = elim (cases_eq x.vm 0) [
+      | inl zero_vm ↦ ap (λ v. side_of w.imsic arrival (entry_in_force (table_of w.tables v) x.number)) zero_vm ∙ ap (side_of w.imsic arrival) (makes.in_force x.number)
+          ∙ made_elsewhere x.number (λ e. other (let number : who.vcpu ≡ x.number = ap (λ (y : Vcpu). y.number) e in λ k. vcpu ((zero_vm ∙ sym first) k) (sym number k)))
+      | inr some_vm ↦
+          let past : length w.tables ≤ x.vm = let one : length w.tables ≡ 0 + 1 = makes.count in omega (arith, one, some_vm) in
+          ap (λ t. side_of w.imsic arrival (entry_in_force t x.number)) (get_or_past w.tables x.vm no_table past) ∙ not_valid
+    ]
+
+    first_vm : (x : Vcpu) → is_vcpu_in w.vms x ≡ true → (x.vm ≡ 0) × (x.number < vm.vcpus)
+    first_vm x there = by_vm x.vm refl (ap (λ vms. is_vcpu_in vms x) (sym makes.vms) ∙ there)
+      where
+        by_vm : (v : ℕ) → x.vm ≡ v → is_vcpu_in (vm ∷ []) x ≡ true → (x.vm ≡ 0) × (x.number < vm.vcpus)
+        by_vm zero is inside = (is, ltb-true _ _ (sym (ap (λ n. is_vcpu_in (vm ∷ []) (vcpu n x.number)) is) ∙ inside))
+        by_vm (suc v) is inside = let none : is_vcpu_in (vm ∷ []) (vcpu (suc v) x.number) ≡ true = sym (ap (λ n. is_vcpu_in (vm ∷ []) (vcpu n x.number)) is) ∙ inside in absurd (omega (arith, ltb-true _ _ none))
+
+    written_elsewhere : (x : Vcpu) → is_vcpu_in w.vms x ≡ true → x ≢ g → side_of w.imsic arrival (decoded (routes_of w x).word0 (routes_of w x).word1) ≡ None
+    written_elsewhere x there other =
+        let at = first_vm x there in
+        let low : x.number < VCPUS = let small = at.1 in omega (arith, small, few_vcpus) in
+        let hart : vm.notice_hart < HARTS = let there_hart = notice_hart_there w g whole is.there in omega (arith, there_hart, is.notice, notice_is, whole.harts) in
+        let word0 : (routes_of w x).word0 ≡ entry_word x.number None = ap (λ v. get_or w.memory (entry_word_place v x.number) 0) at.0 ∙ makes.word0 x.number at.1 ∙ ap (λ q. mrif_word (slot_address q)) (plus_none x.number) in
+        let word1 : (routes_of w x).word1 ≡ second_word x.number vm.notice_hart = ap (λ v. get_or w.memory (entry_word_place v x.number + 1) 0) at.0 ∙ makes.word1 x.number at.1 ∙ ap (λ q. notice_word (notice_page vm) (q + 1)) (plus_none x.number) in
+        ap (λ n. side_of w.imsic arrival (decoded n (routes_of w x).word1)) word0 ∙ ap (λ n. side_of w.imsic arrival (decoded (entry_word x.number None) n)) word1
+        ∙ ap (side_of w.imsic arrival) (entry_back x.number vm.notice_hart None low hart (λ p e. absurd (cc)))
+        ∙ other_slot x.number (supervisor_page vm.notice_hart / PAGE) (x.number + 1) low (other_number x.number (λ e. other (let number : who.vcpu ≡ x.number = ap (λ (y : Vcpu). y.number) e in λ k. vcpu ((at.0 ∙ sym first) k) (sym number k))))
+
+    alone : IsAlone w arrival
+    alone = record {
+      in_force = in_force_elsewhere;
+      written = written_elsewhere;
+      records = λ x there other side b named e.
+          let low = slot_low w x whole there in
+          let none : stage_of w x ≡ no_stage = ap (λ (y : World). slice_index_or y.stages (slot_of w.vms x) no_stage) makes.rest ∙ get_or-replicate VCPUS (slot_of w.vms x) no_stage no_stage low in
+          let empty : None ≡ Some b = sym (ap (λ (y : Stage). y.in_force) none) ∙ e in absurd (cc);
+    }
+
   file_empty : (a : Place) → IsThere w.imsic (spot_of a) → SameFile (shown (file_at w.imsic (spot_of a))) (empty_file n)
   file_empty a there =
       let same : w.imsic ≡ files = ap (λ (x : World). x.imsic) makes.rest in
@@ -90,6 +168,7 @@ module _ (files : ImsicState) (w : World) (n harts guests : ℕ) (vm : Vm) (who 
   arrives a there = record {
     of = record { who = is; old = tt; new = there };
     two = tt;
+    alone = alone a;
     routes = led Slot (File a) Old refl;
     flights = λ v. none_leads (record { who = who; old = Slot; new = File a }) New v;
     others = λ v other. none_leads (record { who = who; old = Slot; new = File a }) Old v;

@@ -22,7 +22,7 @@ use Rattle.aia_plan.specs.Transit.Side.{Old, New}
 use Rattle.aia_plan.proofs.RuleIsSafe.{rule_is_safe}
 use Rattle.aia_rehearsal.specs.Rehearsed.{Passage, Carried, Rehearsed, moved, on, at, names_on, empty_hand, AreTwo, IsOf}
 use Rattle.aia_rehearsal.specs.Stands.{sets_at, routes_of, leads, side_of, asked, onto_flights, flights_in, StandsFor}
-use Rattle.aia_rehearsal.specs.Events.{Event}
+use Rattle.aia_rehearsal.specs.Events.{Event, IsAlone}
 use Rattle.aia_rehearsal.specs.Runs.{Runs, steps_in, asked_in, LeadsTo, NoneLeads, state_at, IsBegun, IsOver}
 use Rattle.aia_rehearsal.proofs.RunMoves.{all_seen, run_stands, run_steps, run_passage, run_due, run_width}
 
@@ -109,10 +109,10 @@ accepted_moves kind w u r t events run b inside accepted =
     let start = state_at Old w r in
     let z = all_happened (all_seen events w r u t run) start in
     let safe = rule_is_safe kind (width w) (steps_in events) inside accepted start (all_seen events w r u t run) (begun_starts w r b) (run_steps events w r u t run) in
-    let s = run_stands events w r u t run start (begun_stands w r b) in
+    let s = run_stands events w r u t run start b.alone (begun_stands w r b) in
     let hand = t.hand in
     let same : t ≡ record r { hand = t.hand } = (let p = run_passage events w r u t run in λ k. record { passage = p k; hand = t.hand }) in
-    over z safe (run_width events w r u t run) (λ i. run_due events w r u t run start i (begun_stands w r b)) (subst (λ (x : Rehearsed). StandsFor u x z) same s)
+    over z safe (run_width events w r u t run) (λ i. run_due events w r u t run start i b.alone (begun_stands w r b)) (subst (λ (x : Rehearsed). StandsFor u x z) same s)
   where
     over : (z : Transit) → IsMoved (width w) (state_at Old w r) z → width u ≡ width w → ((i : ℕ) → z.due i ≡ ((state_at Old w r).due i || (is_identity i && asked_in events w r u t run i))) → StandsFor u (record r { hand = t.hand }) z
         → IsOver w r (asked_in events w r u t run) u
@@ -142,9 +142,10 @@ accepted_moves kind w u r t events run b inside accepted =
 
 -- where one has ended the next may begin: from its new place to one that is empty
 pub next_begins : (w u : World) (r : Rehearsed) (asked_for : ℕ → Bool) (place : ends.Place) → IsOver w r asked_for u → (t : Rehearsed) → t ≡ record { passage = record r.passage { old = r.passage.new; new = place }; hand = empty_hand }
-    → IsOf u t.passage → AreTwo r.passage.new place → ((vm : ℕ) → NoneLeads u t.passage New vm) → ((i : ℕ) → i / 64 < width u → (sets_at u (at New t.passage)).pending i ≡ false) → ((i : ℕ) → i / 64 < width u → (sets_at u (at New t.passage)).enabled i ≡ false) → IsBegun u t
-next_begins w u r asked_for place o t e of two none pending enabled = record {
+    → IsOf u t.passage → IsAlone u t.passage → AreTwo r.passage.new place → ((vm : ℕ) → NoneLeads u t.passage New vm) → ((i : ℕ) → i / 64 < width u → (sets_at u (at New t.passage)).pending i ≡ false) → ((i : ℕ) → i / 64 < width u → (sets_at u (at New t.passage)).enabled i ≡ false) → IsBegun u t
+next_begins w u r asked_for place o t e of alone two none pending enabled = record {
   of = of;
+  alone = alone;
   two = subst (λ (x : Rehearsed). AreTwo x.passage.old x.passage.new) (sym e) two;
   routes = subst (λ (x : Rehearsed). LeadsTo u x.passage Old) (sym e) (record { word0 = o.routes.word0; word1 = o.routes.word1; in_force = o.routes.in_force; record_written = o.routes.record_written; record_in_force = o.routes.record_in_force });
   flights = none;

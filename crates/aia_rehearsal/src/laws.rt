@@ -20,7 +20,7 @@ ghost use Rattle.aia_rehearsal.specs.declared.place.Place as ends;
 ghost use Rattle.aia_rehearsal.specs.declared.place.Place.TheVariants as places;
 ghost use Rattle.aia_rehearsal.specs.Rehearsed.{Rehearsed, IsOf, AreTwo, at, empty_hand};
 ghost use Rattle.aia_rehearsal.specs.Stands.{StandsFor, sets_at};
-ghost use Rattle.aia_rehearsal.specs.Events.{Event, Happens, KeepsAway, seen};
+ghost use Rattle.aia_rehearsal.specs.Events.{Event, Happens, IsAlone, seen};
 ghost use Rattle.aia_rehearsal.specs.Runs.{Runs, steps_in, asked_in, IsBegun, IsOver, NoneLeads, state_at};
 
 use aia_plan::Kind;
@@ -30,10 +30,11 @@ use aia_plan::Kind;
 /// state after what that is on the machine of the proof: the same, for the virtual hart that is
 /// moved; nothing, for any other. Its own steps too are what they are there.
 pub fn what_happens_is_what_happens_there()
-    ensures { (w u : World) (r t : Rehearsed) (event : Event) → IsWhole w
-        → Happens event w r u t → KeepsAway event w r.passage
-        → (z : Transit) → StandsFor w r z
+    ensures stands { (w u : World) (r t : Rehearsed) (event : Event) → IsWhole w
+        → IsAlone w r.passage → Happens event w r u t → (z : Transit) → StandsFor w r z
         → StandsFor u t (all_happened (seen event w r.passage) z) }
+    ensures alone { (w u : World) (r t : Rehearsed) (event : Event) → IsWhole w
+        → IsOf w r.passage → Happens event w r u t → IsAlone w r.passage → IsAlone u r.passage }
 {}
 
 /// After all steps of an accepted plan were rehearsed, on any fabric and with any stores, sends,
@@ -77,7 +78,7 @@ pub fn rehearsals_stand_for_something()
           passage = record r.passage { old = r.passage.new; new = place };
           hand = empty_hand;
         }
-        → IsOf u t.passage → AreTwo r.passage.new place
+        → IsOf u t.passage → IsAlone u t.passage → AreTwo r.passage.new place
         → ((vm : ℕ) → NoneLeads u t.passage New vm)
         → ((i : ℕ) → i / 64 < width u → (sets_at u (at New t.passage)).pending i ≡ false)
         → ((i : ℕ) → i / 64 < width u → (sets_at u (at New t.passage)).enabled i ≡ false)
