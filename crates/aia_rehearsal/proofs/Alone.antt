@@ -1,18 +1,17 @@
 -- Both places stay the virtual hart's own, whatever happens.
-use Rattle.std.proofs.Common.{◌≡◌, ◌≢◌, ℕ, zero, suc, ◌+◌, ◌%◌, ◌<◌, ◌≤◌, Bool, true, false, List, [], ◌∷◌, length, get_or, Option, Some, None, inl, inr, ◌⊎◌, refl, sym, ap, ◌∙◌, subst, arith}
-use Rattle.std.proofs.lemmas.Bool.{cases_eq, eq-eqb}
+use Rattle.std.proofs.Common.{◌≡◌, ◌≢◌, ℕ, zero, suc, ◌+◌, ◌%◌, ◌<◌, ◌≤◌, Bool, true, false, length, Option, Some, None, inl, inr, ◌⊎◌, refl, sym, ap, ◌∙◌, subst, arith}
+use Rattle.std.proofs.lemmas.Bool.{cases_eq}
 use Rattle.std.proofs.lemmas.List.{get_or-set_other}
 use Rattle.aia_regs.specs.declared.limits.TheConstants.{VCPUS, ENTRIES}
 use Rattle.aia_regs.specs.declared.address_map.TheConstants.{PAGE}
 use Rattle.aia_regs.specs.declared.file_registers.FileReg.{FileReg}
 use Rattle.aia_regs.specs.declared.file_registers.FileReg.TheVariants.{Delivery, Threshold}
 use Rattle.aia_imsic.specs.declared.spot.Spot.TheVariants.{HostFile}
-use Rattle.aia_imsic.specs.Imsic.{ImsicState}
 use Rattle.aia_entry.specs.declared.entry.Entry.{Entry}
 use Rattle.aia_entry.specs.declared.table.Route.{Route}
 use Rattle.aia_entry.specs.declared.table.Route.TheVariants.{Other, Fault, To}
 use Rattle.aia_entry.specs.Format.{decoded}
-use Rattle.aia_entry.specs.Tables.{table_of, entry_in_force, route_of}
+use Rattle.aia_entry.specs.Tables.{table_of, route_of}
 use Rattle.aia_entry.proofs.TableLemmas.{fenced_elsewhere}
 use Rattle.aia_home.specs.declared.place.Place.{Place}
 use Rattle.aia_home.specs.Home.Home.{Parked}
@@ -24,18 +23,17 @@ use Rattle.aia_fabric.specs.World.{World, stage_of, flight_of, no_stage}
 use Rattle.aia_fabric.specs.Whole.{IsWhole}
 use Rattle.aia_fabric.specs.Making.{entry_word_place}
 use Rattle.aia_fabric.specs.Stores.{Reaches, ReachesBy, Relays, named_spot}
-use Rattle.aia_fabric.specs.Flights.{Sends, Lands, LandsOldest, Fences}
-use Rattle.aia_fabric.specs.Changes.{view, pending_words, enable_words, with_pending, with_enable, with_word, with_entry_word, with_fence, with_stage}
+use Rattle.aia_fabric.specs.Flights.{Sends, Lands, LandsOldest}
+use Rattle.aia_fabric.specs.Changes.{view, pending_words, enable_words, with_pending, with_enable, with_entry_word, with_fence, with_stage}
 use Rattle.aia_fabric.proofs.ViewLemmas.{fence-view, slot_low}
 use Rattle.aia_fabric.proofs.WholeLemmas.{vcpu_entry, notice_hart_there}
 use Rattle.aia_move.specs.Move.{PostsIf}
 use Rattle.aia_move.specs.Touches.{SameMachine}
 use Rattle.aia_plan.specs.declared.step.Step.{Step}
 use Rattle.aia_plan.specs.declared.step.Step.TheVariants as steps
-use Rattle.aia_plan.specs.Transit.Side.{Old, New}
 use Rattle.aia_rehearsal.specs.declared.place.Place as ends
 use Rattle.aia_rehearsal.specs.declared.place.Place.TheVariants.{File, Slot}
-use Rattle.aia_rehearsal.specs.Rehearsed.{Passage, Rehearsed, moved, at, at_of, IsOf}
+use Rattle.aia_rehearsal.specs.Rehearsed.{Passage, Rehearsed, moved, at_of, IsOf}
 use Rattle.aia_rehearsal.specs.Steps.{Puts, Makes}
 use Rattle.aia_rehearsal.specs.Stands.{Routes, routes_of, side_of}
 use Rattle.aia_rehearsal.specs.Events.{Event, Happens, IsAlone, NamesElsewhere}

@@ -1,38 +1,31 @@
 -- A store that goes along an entry lands in the state for which a rehearsal stands, on the side to
 -- which the entry leads; one that leads to neither place leaves that state alone.
-use Rattle.std.proofs.Common.{◌≡◌, ◌≢◌, ℕ, zero, suc, ◌+◌, ◌*◌, ◌/◌, ◌<◌, ◌≤◌, Bool, true, false, ◌&&◌, ◌||◌, cond, nat_eq, nat_lt, inl, inr, List, [], ◌∷◌, ◌++◌, length, get_or, Option, Some, None, refl, sym, ap, ◌∙◌, subst, arith}
-use Rattle.std.specs.Prelude.{remove, take, slice_get, slice_set, slice_index_or}
+use Rattle.std.proofs.Common.{◌≡◌, ◌≢◌, ℕ, ◌*◌, Bool, true, false, ◌&&◌, ◌||◌, cond, nat_eq, nat_lt, inl, inr, Option, Some, None, refl, sym, ap, ◌∙◌, subst, arith}
 use Rattle.std.proofs.lemmas.Bool.{cases_Bool, cond-true, cond-false}
-use Rattle.std.proofs.lemmas.List.{get_or-set_same, get_or-set_other}
 use Rattle.std.proofs.lemmas.Bool.Decides.{nat_tests}
-use Rattle.aia_regs.specs.declared.limits.TheConstants.{VCPUS}
 use Rattle.aia_imsic.specs.declared.spot.Spot.{Spot}
 use Rattle.aia_imsic.specs.declared.spot.Spot.TheVariants.{MachineFile, HostFile, GuestFile, Nowhere}
-use Rattle.aia_imsic.specs.Imsic.{ImsicState, IsThere}
+use Rattle.aia_imsic.specs.Imsic.{IsThere}
 use Rattle.aia_imsic.proofs.MapLemmas.{machine_of_spot, host_of_spot, guest_of_spot}
 use Rattle.aia_regs.specs.declared.address_map.TheConstants.{PAGE}
 use Rattle.aia_entry.specs.declared.entry.Entry.{Entry}
 use Rattle.aia_entry.specs.declared.entry.Entry.TheVariants.{Basic, Mrif, NotValid, Custom, Misconfigured}
 use Rattle.aia_home.specs.declared.place.Place.{Place}
-use Rattle.aia_home.specs.Home.{is_place}
-use Rattle.aia_home.proofs.HomeLemmas.{same_place, is_itself_place}
-use Rattle.aia_places.specs.View.{TwoSets}
 use Rattle.aia_fabric.specs.World.{World, OnlyStores}
 use Rattle.aia_fabric.specs.Whole.{IsWhole}
 use Rattle.std.specs.Int.{is_in_range}
 use Rattle.aia_fabric.specs.Stores.{ReachesBy, page_spot, named_spot, slot_at}
 use Rattle.aia_fabric.specs.Changes.{spot_of}
 use Rattle.aia_fabric.proofs.PlaceLemmas.{slot_begins}
-use Rattle.aia_move.specs.Move.{width}
 use Rattle.aia_move.specs.Touches.{SameMachine}
-use Rattle.aia_plan.specs.Transit.{Side, Flight, Transit, with_one, landed}
+use Rattle.aia_plan.specs.Transit.{Side, Transit, landed}
 use Rattle.aia_plan.specs.Transit.Side.{Old, New}
 use Rattle.aia_rehearsal.specs.declared.place.Place as ends
 use Rattle.aia_rehearsal.specs.declared.place.Place.TheVariants.{File, Slot}
-use Rattle.aia_rehearsal.specs.Rehearsed.{Passage, Carried, Rehearsed, moved, on, at_of, at, AreTwo, IsFileThere}
-use Rattle.aia_rehearsal.specs.Stands.{sets_at, routes_of, is_file_at, leads, side_of, asked, SetsStand, RoutesStand, StandsFor}
+use Rattle.aia_rehearsal.specs.Rehearsed.{Passage, Rehearsed, moved, AreTwo}
+use Rattle.aia_rehearsal.specs.Stands.{routes_of, is_file_at, leads, side_of, asked, RoutesStand, StandsFor}
 use Rattle.aia_rehearsal.proofs.Carried.{stand_on}
-use Rattle.aia_rehearsal.proofs.StoreSeen.{Adds, Seen, file_hit, slot_hit, seen_none, at_spot, at_slot}
+use Rattle.aia_rehearsal.proofs.StoreSeen.{Seen, file_hit, slot_hit, seen_none, at_spot, at_slot}
 
 -- ---- on which side
 

@@ -1,9 +1,8 @@
 -- A fabric as it is made, with one VM, stands for a state.
-use Rattle.std.proofs.Common.{◌≡◌, ◌≢◌, ℕ, zero, suc, ◌+◌, ◌/◌, ◌<◌, Bool, true, false, List, [], ◌∷◌, get_or, None, refl, sym, ap, ◌∙◌, subst, arith}
-use Rattle.std.specs.Prelude.{replicate, slice_index_or}
+use Rattle.std.proofs.Common.{◌≡◌, ◌≢◌, ℕ, zero, suc, ◌+◌, ◌/◌, ◌<◌, true, false, List, [], ◌∷◌, get_or, None, refl, sym, ap, ◌∙◌, subst, arith}
+use Rattle.std.specs.Prelude.{slice_index_or}
 use Rattle.std.specs.List.{All}
 use Rattle.std.proofs.lemmas.Bool.{cond-true, ltb-true, lt-ltb}
-use Rattle.std.proofs.lemmas.Bool.Decides.{nat_tests}
 use Rattle.std.proofs.lemmas.List.{get_or-replicate}
 use Rattle.std.proofs.lemmas.List.Elements.{All-nil}
 use Rattle.aia_imsic.specs.Imsic.{ImsicState, IsThere, file_at}
@@ -27,16 +26,16 @@ use Rattle.aia_file.specs.FileState.{shown}
 use Rattle.aia_file.specs.InterruptFile.{SameFile, empty_file}
 use Rattle.aia_fabric.specs.Changes.{spot_of}
 use Rattle.aia_move.specs.declared.who.Who.{Who}
-use Rattle.aia_move.specs.Move.{IsWho, width}
+use Rattle.aia_move.specs.Move.{IsWho}
 use Rattle.aia_plan.specs.Transit.{Side}
 use Rattle.aia_plan.specs.Transit.Side.{Old, New}
 use Rattle.aia_rehearsal.specs.declared.place.Place as ends
 use Rattle.aia_rehearsal.specs.declared.place.Place.TheVariants.{File, Slot}
-use Rattle.aia_rehearsal.specs.Rehearsed.{Passage, Carried, Rehearsed, moved, on, at, names_on, empty_hand, AreTwo, IsOf}
-use Rattle.aia_rehearsal.specs.Stands.{sets_at, routes_of, leads, flights_in, StandsFor}
+use Rattle.aia_rehearsal.specs.Rehearsed.{Passage, Rehearsed, on, names_on, empty_hand}
+use Rattle.aia_rehearsal.specs.Stands.{routes_of, leads, StandsFor}
 use Rattle.aia_rehearsal.specs.Runs.{LeadsTo, NoneLeads, state_at, IsBegun}
 use Rattle.std.proofs.lemmas.Bool.{cases_eq, cases_Bool, ne_eqb, cond-false}
-use Rattle.std.proofs.Common.{inl, inr, nat_lt, length, Option, Some, ◌≤◌}
+use Rattle.std.proofs.Common.{inl, inr, nat_lt, length, Some, ◌≤◌}
 use Rattle.std.proofs.lemmas.List.{get_or_past}
 use Rattle.aia_regs.specs.Word.{names}
 use Rattle.aia_regs.specs.declared.limits.TheConstants.{HARTS}
@@ -49,7 +48,13 @@ use Rattle.aia_fabric.proofs.PlaceLemmas.{slot_found}
 use Rattle.aia_fabric.proofs.WholeLemmas.{notice_hart_there}
 use Rattle.aia_rehearsal.specs.Stands.{side_of}
 use Rattle.aia_rehearsal.specs.Events.{IsAlone}
-use Rattle.aia_rehearsal.proofs.Theorem.{led_stands}
+use Rattle.aia_home.specs.Home.{is_place}
+use Rattle.aia_fabric.specs.Changes.{with_entry_word, with_fence, with_map, with_stage_fence}
+use Rattle.aia_plan.specs.declared.step.Step.TheVariants.{Word0, Map, GFence}
+use Rattle.aia_plan.specs.Transit.{stepped, happened}
+use Rattle.aia_plan.specs.Transit.{Happening as happenings}
+use Rattle.aia_rehearsal.proofs.RouteSteps.{write_entry, refetched, write_record, fence_record}
+use Rattle.aia_rehearsal.proofs.Theorem.{led_stands, begun_stands}
 
 module _ (files : ImsicState) (w : World) (n harts guests : ℕ) (vm : Vm) (who : Who) (new : IsNew (new_world files n) harts guests n) (whole : IsWhole w) (makes : MakesVm (new_world files n) w vm) (is : IsWho w who) (first : who.vm ≡ 0) where
   abbrev g : Vcpu
@@ -196,3 +201,28 @@ module _ (before w : World) (n harts guests : ℕ) (vm : Vm) (who : Who) (new : 
 
   pub has_left : (a : Place) → IsThere w.imsic (spot_of a) → StandsFor w (record { passage = record { who = who; old = File a; new = Slot }; hand = empty_hand }) (state_at New w (record { passage = record { who = who; old = File a; new = Slot }; hand = empty_hand }))
   has_left a there = leaves before.imsic w n harts guests vm who new_here whole makes_here is first a there
+
+  -- once the entry and the record were written for a file and put in force, it may shift to another one
+  pub may_shift : (a b : Place) → IsThere w.imsic (spot_of a) → IsThere w.imsic (spot_of b) → is_place a b ≡ false → (x y v u : World) → IsWhole x → IsWhole y → IsWhole v
+      → x ≡ with_entry_word w who.vm who.vcpu 0 (entry_word who.slot (Some a)) → y ≡ with_fence x who.vm who.vcpu → v ≡ with_map y (vcpu who.vm who.vcpu) (Some a) → u ≡ with_stage_fence v (vcpu who.vm who.vcpu)
+      → StandsFor u (record { passage = record { who = who; old = File a; new = File b }; hand = empty_hand }) (state_at Old u (record { passage = record { who = who; old = File a; new = File b }; hand = empty_hand }))
+  may_shift a b there too apart x y v u whole_x whole_y whole_v e1 e2 e3 e4 =
+      let r : Rehearsed = record { passage = record { who = who; old = Slot; new = File a }; hand = empty_hand } in
+      let p : Passage = record { who = who; old = File a; new = File b } in
+      let z = state_at Old w r in
+      let s1 = subst (λ (m : World). StandsFor m r (stepped Word0 z)) (sym e1) (write_entry w r z whole (begun_stands w r (may_arrive a there))) in
+      let s2 = subst (λ (m : World). StandsFor m r (happened happenings.Refetches (stepped Word0 z))) (sym e2) (refetched x r (stepped Word0 z) whole_x s1) in
+      let s3 = subst (λ (m : World). StandsFor m r (stepped Map (happened happenings.Refetches (stepped Word0 z)))) (sym e3) (write_record y r (happened happenings.Refetches (stepped Word0 z)) whole_y s2) in
+      let s4 = subst (λ (m : World). StandsFor m r (stepped GFence (stepped Map (happened happenings.Refetches (stepped Word0 z))))) (sym e4) (fence_record v r (stepped Map (happened happenings.Refetches (stepped Word0 z))) whole_v s3) in
+      let files : u.imsic ≡ w.imsic = ap (λ (m : World). m.imsic) e4 ∙ ap (λ (m : World). m.imsic) e3 ∙ ap (λ (m : World). m.imsic) e2 ∙ ap (λ (m : World). m.imsic) e1 in
+      let lists : u.flights ≡ w.flights = ap (λ (m : World). m.flights) e4 ∙ ap (λ (m : World). m.flights) e3 ∙ ap (λ (m : World). m.flights) e2 ∙ ap (λ (m : World). m.flights) e1 in
+      led_stands u (record { passage = p; hand = empty_hand }) Old
+      (record { who = s4.of.who; old = subst (λ (i : ImsicState). IsThere i (spot_of a)) (sym files) there; new = subst (λ (i : ImsicState). IsThere i (spot_of b)) (sym files) too })
+      apart
+      (record { word0 = s4.routes.entry_written; word1 = s4.routes.notice; in_force = s4.routes.entry_in_force; record_written = s4.routes.record_written; record_in_force = s4.routes.record_in_force })
+      (λ k other. none_in_flight u p Old k lists) (λ k other. none_in_flight u p New k lists)
+    where
+      none_in_flight : (u : World) (p : Passage) (side : Side) (k : ℕ) → u.flights ≡ w.flights → NoneLeads u p side k
+      none_in_flight u p side k lists =
+          let none : flight_of u k ≡ [] = ap (λ l. slice_index_or l k []) lists ∙ none_flies before.imsic w n harts guests vm who new_here whole makes_here is first k in
+          subst (λ l. All (λ (store : Flying). leads u.imsic p.who.slot (on side p) store.entry ≡ false) l) (sym none) (All-nil _)

@@ -1,48 +1,41 @@
 -- What each access of a rehearsal makes of the state for which it stands, the fence of the entry
 -- aside.
-use Rattle.std.proofs.Common.{◌≡◌, ◌≢◌, ℕ, ◌+◌, ◌*◌, ◌/◌, ◌<◌, ◌≤◌, Bool, true, false, inl, inr, List, Option, Some, None, IfSome, refl, sym, ap, ◌∙◌, subst, arith}
+use Rattle.std.proofs.Common.{◌≡◌, ℕ, ◌+◌, ◌<◌, Bool, true, false, inl, inr, Some, IfSome, refl, sym, ap, ◌∙◌, subst, arith}
 use Rattle.std.specs.Prelude.{bit_or}
 use Rattle.std.proofs.lemmas.Bool.{cases_Bool}
 use Rattle.std.proofs.lemmas.Bool.Decides.{nat_tests}
 use Rattle.aia_word.specs.Sets.{has_bit}
 use Rattle.aia_mrif.specs.Mrif.{mrif_in}
-use Rattle.aia_regs.specs.declared.limits.TheConstants.{HARTS, VCPUS}
+use Rattle.aia_regs.specs.declared.limits.TheConstants.{VCPUS}
 use Rattle.aia_regs.specs.declared.file_registers.FileReg.{FileReg}
-use Rattle.aia_regs.specs.declared.file_registers.FileReg.TheVariants.{Delivery, Threshold}
 use Rattle.aia_regs.specs.declared.access.Op.TheVariants as ops
 use Rattle.aia_file.specs.InterruptFile.{InterruptFile, accessed}
 use Rattle.aia_file.specs.FileState.{FileState, shown}
 use Rattle.aia_file.proofs.FileLemmas.{same_file}
-use Rattle.aia_imsic.specs.declared.spot.Spot.{Spot}
 use Rattle.aia_imsic.specs.declared.spot.Spot.TheVariants.{HostFile}
 use Rattle.aia_imsic.specs.Imsic.{ImsicState, IsThere, file_at, with_file}
 use Rattle.aia_imsic.proofs.PlaceLemmas.{kept_elsewhere}
 use Rattle.aia_entry.specs.Format.{decoded}
 use Rattle.aia_home.specs.declared.place.Place.{Place}
-use Rattle.aia_home.specs.Home.{Home, is_place}
+use Rattle.aia_home.specs.Home.{is_place}
 use Rattle.aia_home.specs.Home.Home.{Parked}
-use Rattle.aia_home.specs.Vms.{Vcpu, vcpu, is_vcpu_in, slot_of}
+use Rattle.aia_home.specs.Vms.{slot_of}
 use Rattle.aia_places.specs.View.{View, TwoSets, of_file, of_slot, leads_to, entry_word, second_word, IsInMap}
 use Rattle.aia_places.proofs.EntryLemmas.{entry_back}
 use Rattle.aia_fabric.specs.World.{World}
 use Rattle.aia_fabric.specs.Whole.{IsWhole}
-use Rattle.aia_fabric.specs.Stores.{Posts}
-use Rattle.aia_fabric.specs.Flights.{Fences}
-use Rattle.aia_fabric.specs.Changes.{PutsRegister, spot_of, view, pending_words, enable_words, pending_at, with_pending, enable_at, with_enable, with_state, with_entry_word, with_fence, with_map, with_stage_fence}
+use Rattle.aia_fabric.specs.Changes.{spot_of, pending_words, enable_words, pending_at, with_pending, enable_at, with_enable, with_state, with_entry_word, with_fence, with_map, with_stage_fence}
 use Rattle.aia_fabric.proofs.ViewLemmas.{here, spots_apart, word0-view, word1-view, fence-view, map-view, stage_fence-view}
 use Rattle.aia_fabric.proofs.WholeLemmas.{notice_hart_there}
-use Rattle.aia_move.specs.declared.who.Who.{Who}
-use Rattle.aia_move.specs.Move.{IsWho, PostsIf, width}
+use Rattle.aia_move.specs.Move.{PostsIf, width}
 use Rattle.aia_move.specs.Touches.{SameMachine}
-use Rattle.aia_plan.specs.Plan.{IsInside}
-use Rattle.aia_plan.specs.declared.step.Step.{Step}
-use Rattle.aia_plan.specs.declared.step.Step.TheVariants.{Quiet, Word1, Word0, Fence, Map, Unmap, Remap, GFence, TakeP, PutP, TakeE, PutE, Look, TakeT, PutT, Post, Wake}
-use Rattle.aia_plan.specs.Transit.{Side, Flight, Transit, stepped}
+use Rattle.aia_plan.specs.declared.step.Step.TheVariants.{Word0, Map, GFence, TakeP, PutP, TakeE, PutE}
+use Rattle.aia_plan.specs.Transit.{Side, Transit, stepped}
 use Rattle.aia_plan.specs.Transit.Side.{Old, New}
 use Rattle.aia_rehearsal.specs.declared.place.Place as ends
 use Rattle.aia_rehearsal.specs.declared.place.Place.TheVariants.{File, Slot}
-use Rattle.aia_rehearsal.specs.Rehearsed.{Passage, Carried, Rehearsed, moved, on, at_of, at, file_of, names_on, AreTwo, IsFileThere, IsOf}
-use Rattle.aia_rehearsal.specs.Steps.{identities_in, Puts, Makes, hand_after, after}
+use Rattle.aia_rehearsal.specs.Rehearsed.{Passage, Carried, Rehearsed, moved, on, at_of, at, file_of, names_on, IsFileThere}
+use Rattle.aia_rehearsal.specs.Steps.{identities_in, Puts}
 use Rattle.aia_rehearsal.specs.Stands.{sets_at, Routes, routes_of, SetsStand, RoutesStand, StandsFor}
 use Rattle.aia_rehearsal.proofs.Places.{small_who, file_in_map}
 use Rattle.aia_rehearsal.proofs.SetSteps.{pending_taken, enables_taken, pending_put, enables_put}

@@ -1,49 +1,24 @@
 -- A run of an accepted plan moves all: it is a run on the machine of the proof.
-use Rattle.std.proofs.Common.{◌≡◌, ◌≢◌, ℕ, zero, suc, ◌+◌, ◌/◌, ◌%◌, ◌<◌, Bool, true, false, ◌&&◌, ◌||◌, cond, nat_eq, List, [], ◌∷◌, ◌++◌, Option, Some, None, inl, inr, refl, sym, ap, ◌∙◌, subst}
-use Rattle.std.specs.Prelude.{All, slice_get, is_some, length, take}
+use Rattle.std.proofs.Common.{◌≡◌, ℕ, ◌+◌, ◌/◌, ◌%◌, Bool, true, false, ◌&&◌, ◌||◌, cond, nat_eq, List, [], ◌∷◌, ◌++◌, Option, Some, None, inl, inr, refl, sym, ap, ◌∙◌, subst}
+use Rattle.std.specs.Prelude.{slice_get, is_some, length, take}
 use Rattle.std.specs.List.{list_any}
-use Rattle.std.proofs.lemmas.Bool.{cases_Bool, cases_eq, ne_eqb, cond-true, cond-false}
-use Rattle.aia_word.specs.Sets.{has_bit}
-use Rattle.aia_word.proofs.BitLemmas.{has_bit-zero}
-use Rattle.aia_imsic.specs.Imsic.{ImsicState}
+use Rattle.std.proofs.lemmas.Bool.{cases_eq, ne_eqb}
 use Rattle.aia_regs.specs.declared.address_map.TheConstants.{PAGE}
 use Rattle.aia_home.specs.Vms.{vcpu, is_vcpu}
-use Rattle.aia_places.specs.View.{leads_to, entry_word}
 use Rattle.aia_fabric.specs.declared.flights.Flying.{Flying}
 use Rattle.aia_fabric.specs.World.{World, flight_of}
 use Rattle.aia_fabric.specs.Whole.{IsWhole}
 use Rattle.aia_move.specs.Move.{width}
-use Rattle.aia_plan.specs.Plan.{Plan, IsInside}
-use Rattle.aia_plan.specs.Rule.{failing}
-use Rattle.aia_plan.specs.Safe.{IsStart, IsMoved}
-use Rattle.aia_plan.specs.declared.step.Kind.{Kind}
 use Rattle.aia_plan.specs.declared.step.Step.{Step}
 use Rattle.aia_plan.specs.declared.step.Step.TheVariants as steps
-use Rattle.aia_plan.specs.Transit.{Side, Flight, Transit, Happening, is_identity, with_one, landed, all_landed, one_landed, stepped, happened, all_happened, steps_of}
+use Rattle.aia_plan.specs.Transit.{Side, Flight, Transit, Happening, is_identity, landed, all_landed, one_landed, stepped, happened, all_happened, steps_of}
 use Rattle.aia_plan.specs.Transit.Side.{Old, New}
 use Rattle.aia_plan.specs.Transit.{Happening as happenings}
-use Rattle.aia_plan.proofs.RuleIsSafe.{rule_is_safe}
-use Rattle.aia_rehearsal.specs.Rehearsed.{Passage, Rehearsed, moved, on, at, names_on, empty_hand, IsOf}
-use Rattle.aia_rehearsal.specs.Stands.{sets_at, routes_of, leads, side_of, asked, onto_flights, flights_in, StandsFor}
+use Rattle.aia_rehearsal.specs.Rehearsed.{Passage, Rehearsed, moved, IsOf}
+use Rattle.aia_rehearsal.specs.Stands.{side_of, asked, flights_in, StandsFor}
 use Rattle.aia_rehearsal.specs.Events.{Event, Happens, IsAlone, is_for_moved, landing_by, landing_seen, seen}
 use Rattle.aia_rehearsal.specs.Events.Event.{Steps, DeviceStores, PeerStores, DeviceSends, StoreLands, EntryRead}
-use Rattle.aia_rehearsal.specs.Runs.{Runs, steps_in, lands_for, asks, asked_in, LeadsTo, NoneLeads, IsBegun, IsOver}
-use Rattle.aia_regs.specs.declared.file_registers.FileReg.{FileReg}
-use Rattle.aia_regs.specs.declared.file_registers.FileReg.TheVariants.{Delivery, Threshold}
-use Rattle.aia_entry.specs.declared.table.Route.{Route}
-use Rattle.aia_entry.specs.declared.table.Route.TheVariants.{Other, Fault, To}
-use Rattle.aia_entry.specs.Tables.{table_of, route_of}
-use Rattle.aia_fabric.specs.declared.at.At.{At}
-use Rattle.aia_fabric.specs.declared.at.At.TheVariants as ats
-use Rattle.aia_fabric.specs.World.{stage_of}
-use Rattle.aia_fabric.specs.Flights.{Sends}
-use Rattle.aia_fabric.specs.Changes.{with_pending, with_enable}
-use Rattle.aia_fabric.proofs.FrameLemmas.{entry_rest, reaches_rest, relays_rest}
-use Rattle.aia_fabric.proofs.FlightLemmas.{all_landed_rest}
-use Rattle.aia_move.specs.Move.{PostsIf}
-use Rattle.aia_rehearsal.specs.declared.place.Place as ends
-use Rattle.aia_rehearsal.specs.declared.place.Place.TheVariants.{File, Slot}
-use Rattle.aia_rehearsal.specs.Steps.{Puts, Makes}
+use Rattle.aia_rehearsal.specs.Runs.{Runs, steps_in, lands_for, asks, asked_in}
 use Rattle.aia_rehearsal.proofs.SameMachine.{event_same}
 use Rattle.aia_rehearsal.proofs.Alone.{alone_stays}
 use Rattle.aia_rehearsal.proofs.EventStands.{event_stands}

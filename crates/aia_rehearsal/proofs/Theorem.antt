@@ -1,6 +1,6 @@
 -- A move that begins stands for a start of the machine of the proof, and one that is moved there
 -- has ended well.
-use Rattle.std.proofs.Common.{◌≡◌, ◌≢◌, ℕ, ◌+◌, ◌/◌, ◌<◌, Bool, true, false, ◌&&◌, ◌||◌, cond, List, [], ◌∷◌, Option, Some, None, inl, inr, refl, sym, ap, ◌∙◌, subst}
+use Rattle.std.proofs.Common.{◌≡◌, ◌≢◌, ℕ, ◌/◌, ◌<◌, Bool, true, false, ◌&&◌, ◌||◌, List, [], ◌∷◌, Option, Some, None, inl, inr, refl, sym, ap, ◌∙◌, subst}
 use Rattle.std.specs.List.{All, AllByRecursion}
 use Rattle.aia_plan.proofs.Throughout.{by_recursion, by_place}
 use Rattle.aia_rehearsal.specs.declared.place.Place as ends
@@ -11,17 +11,16 @@ use Rattle.aia_imsic.specs.Imsic.{ImsicState}
 use Rattle.aia_places.specs.View.{leads_to, entry_word}
 use Rattle.aia_fabric.specs.declared.flights.Flying.{Flying}
 use Rattle.aia_fabric.specs.World.{World, flight_of}
-use Rattle.aia_fabric.specs.Whole.{IsWhole}
 use Rattle.aia_move.specs.Move.{width}
-use Rattle.aia_plan.specs.Plan.{Plan, IsInside}
+use Rattle.aia_plan.specs.Plan.{IsInside}
 use Rattle.aia_plan.specs.Rule.{failing}
-use Rattle.aia_plan.specs.Safe.{AllLeadTo, IsStart, IsMoved}
+use Rattle.aia_plan.specs.Safe.{IsStart, IsMoved}
 use Rattle.aia_plan.specs.declared.step.Kind.{Kind}
 use Rattle.aia_plan.specs.Transit.{Side, Flight, Transit, is_identity, all_happened}
 use Rattle.aia_plan.specs.Transit.Side.{Old, New}
 use Rattle.aia_plan.proofs.RuleIsSafe.{rule_is_safe}
-use Rattle.aia_rehearsal.specs.Rehearsed.{Passage, Carried, Rehearsed, moved, on, at, names_on, empty_hand, AreTwo, IsOf}
-use Rattle.aia_rehearsal.specs.Stands.{sets_at, routes_of, leads, side_of, asked, onto_flights, flights_in, StandsFor}
+use Rattle.aia_rehearsal.specs.Rehearsed.{Passage, Carried, Rehearsed, at, names_on, empty_hand, AreTwo, IsOf}
+use Rattle.aia_rehearsal.specs.Stands.{sets_at, leads, side_of, asked, onto_flights, flights_in, StandsFor}
 use Rattle.aia_rehearsal.specs.Events.{Event, IsAlone}
 use Rattle.aia_rehearsal.specs.Runs.{Runs, steps_in, asked_in, LeadsTo, NoneLeads, state_at, IsBegun, IsOver}
 use Rattle.aia_rehearsal.proofs.RunMoves.{all_seen, run_stands, run_steps, run_passage, run_due, run_width}

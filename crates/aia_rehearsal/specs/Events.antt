@@ -1,9 +1,7 @@
 -- What may happen to a rehearsal and its fabric: a step, or what others do between two steps; and
 -- what it is on the machine on which plans were proved safe.
-use Rattle.std.specs.Prelude.{◌≡◌, ◌≢◌, ℕ, ◌%◌, ◌<◌, ⊤, Bool, true, false, ◌&&◌, nat_eq, if◌then◌else◌, List, [], ◌∷◌, length, take, slice_get, Option, Some, None}
+use Rattle.std.specs.Prelude.{◌≡◌, ◌≢◌, ℕ, ◌%◌, ◌<◌, Bool, true, ◌&&◌, nat_eq, if◌then◌else◌, List, [], ◌∷◌, length, take, slice_get, Option, Some, None}
 use Rattle.aia_regs.specs.declared.address_map.TheConstants.{PAGE}
-use Rattle.aia_entry.specs.declared.table.Route.{Route}
-use Rattle.aia_entry.specs.declared.table.Route.TheVariants.{To}
 use Rattle.aia_entry.specs.Tables.{table_of, route_of}
 use Rattle.aia_entry.specs.Translation.{is_msi_address, file_number}
 use Rattle.aia_home.specs.declared.place.Place.{Place}

@@ -1,4 +1,4 @@
-use Rattle.aia_rehearsal.proofs.Made.{may_arrive, has_left}
+use Rattle.aia_rehearsal.proofs.Made.{may_arrive, has_left, may_shift}
 use Rattle.aia_rehearsal.proofs.Theorem.{next_begins, begun_stands, begun_starts}
 use Rattle.aia_rehearsal.proofs.laws.rehearsals_stand_for_something.Goals as goal
 
@@ -13,3 +13,6 @@ returns-clause-next c w u r t asked_for place o e of alone two none pending enab
 
 pub returns-clause-begun : goal.returns-clause-begun
 returns-clause-begun c w r b = (begun_stands w r b, begun_starts w r b)
+
+pub returns-clause-shift : goal.returns-clause-shift
+returns-clause-shift c = may_shift
