@@ -1,18 +1,12 @@
 -- What happens between two steps is what happens on the machine of the proof.
-use Rattle.std.proofs.Common.{◌≡◌, ◌≢◌, ℕ, zero, suc, ◌+◌, ◌%◌, ◌<◌, ◌≤◌, Bool, true, false, ◌&&◌, cond, nat_eq, nat_lt, List, [], ◌∷◌, ◌++◌, length, Option, Some, None, inl, inr, ◌⊎◌, refl, sym, ap, ◌∙◌, subst, arith}
-use Rattle.std.specs.Prelude.{slice_get, slice_set, slice_index_or, take}
+use Rattle.std.proofs.Common.{◌≡◌, ◌≢◌, ℕ, ◌<◌, Bool, true, false, ◌&&◌, nat_lt, List, [], ◌∷◌, ◌++◌, length, Option, Some, None, inl, inr, ◌⊎◌, refl, sym, ap, ◌∙◌, subst, arith}
 use Rattle.std.specs.Int.{is_in_range}
-use Rattle.std.proofs.lemmas.Bool.{cases_Bool, cases_eq, cond-true, cond-false, eqb-true, eq-eqb, ne_eqb}
+use Rattle.std.proofs.lemmas.Bool.{cases_Bool, cases_eq, cond-true, cond-false, eq-eqb, ne_eqb}
 use Rattle.std.proofs.lemmas.Bool.Decides.{nat_tests}
 use Rattle.std.proofs.lemmas.List.{get_or-set_same, get_or-set_other}
-use Rattle.aia_regs.specs.declared.address_map.TheConstants.{PAGE}
-use Rattle.aia_regs.specs.declared.limits.TheConstants.{VCPUS}
-use Rattle.aia_regs.specs.AddressMap.{guest_page, slot_address}
 use Rattle.aia_regs.specs.Word.{names}
-use Rattle.aia_imsic.specs.declared.spot.Spot.{Spot}
-use Rattle.aia_imsic.specs.declared.spot.Spot.TheVariants.{HostFile, GuestFile, Nowhere}
+use Rattle.aia_imsic.specs.declared.spot.Spot.TheVariants.{HostFile}
 use Rattle.aia_imsic.specs.Imsic.{ImsicState, IsThere}
-use Rattle.aia_entry.specs.declared.entry.Entry.{Entry}
 use Rattle.aia_entry.specs.declared.table.Route.{Route}
 use Rattle.aia_entry.specs.declared.table.Route.TheVariants.{Other, Fault, To}
 use Rattle.aia_entry.specs.Tables.{table_of, entry_in_force, leads_by, route_of}
@@ -20,34 +14,37 @@ use Rattle.aia_entry.specs.Translation.{is_msi_address, file_number}
 use Rattle.aia_entry.proofs.TableLemmas.{fenced_elsewhere}
 use Rattle.aia_home.specs.declared.place.Place.{Place}
 use Rattle.aia_home.specs.Home.{is_place}
-use Rattle.aia_home.specs.Vms.{Vcpu, vcpu, is_vcpu, is_vcpu_in, slot_of, notice_identity, notice_hart}
+use Rattle.aia_home.specs.Vms.{Vcpu, is_vcpu_in, slot_of, notice_identity, notice_hart}
 use Rattle.aia_home.proofs.HomeLemmas.{same_place, is_itself_place}
 use Rattle.aia_home.proofs.VmLemmas.{same_slot}
 use Rattle.aia_places.specs.View.{leads_to}
 use Rattle.aia_fabric.specs.declared.flights.Flying.{Flying}
 use Rattle.aia_fabric.specs.World.{World, flight_of, stage_of}
 use Rattle.aia_fabric.specs.Whole.{IsWhole}
-use Rattle.aia_fabric.specs.Stores.{StoresAt, StoresInSlot, Reaches, ReachesBy, Relays, named_spot, page_spot, slot_at}
-use Rattle.aia_fabric.specs.Flights.{Sends, Lands, with_flight}
+use Rattle.aia_fabric.specs.Stores.{StoresAt, Reaches, Relays, named_spot}
+use Rattle.aia_fabric.specs.Flights.{Sends, with_flight}
 use Rattle.aia_fabric.specs.Changes.{spot_of, with_fence}
 use Rattle.aia_fabric.proofs.OwnLemmas.{guest_spot}
 use Rattle.aia_fabric.proofs.PlaceLemmas.{slot_found}
 use Rattle.aia_fabric.proofs.WholeLemmas.{notice_hart_there}
 use Rattle.aia_fabric.proofs.ViewLemmas.{slot_low}
-use Rattle.aia_move.specs.declared.who.Who.{Who}
 use Rattle.aia_plan.specs.Transit.{Side, Flight, Transit, landed, happened}
 use Rattle.aia_plan.specs.Transit.Side.{Old, New}
 use Rattle.aia_plan.specs.Transit.{Happening as happenings}
 use Rattle.aia_rehearsal.specs.declared.place.Place as ends
 use Rattle.aia_rehearsal.specs.declared.place.Place.TheVariants.{File, Slot}
-use Rattle.aia_rehearsal.specs.Rehearsed.{Passage, Rehearsed, moved, on, at_of, file_of, names_on, AreTwo, IsFileThere}
+use Rattle.aia_rehearsal.specs.Rehearsed.{Passage, Rehearsed, moved, on, at_of, file_of, names_on, IsFileThere}
 use Rattle.aia_rehearsal.specs.Stands.{sets_at, routes_of, is_file_at, leads, side_of, asked, onto_flights, flights_in, FlightsStand, StandsFor}
-use Rattle.aia_rehearsal.specs.Events.{is_for_moved, LeadsElsewhere, NamesElsewhere, landing_by, landing_seen}
+use Rattle.aia_rehearsal.specs.Events.{is_for_moved, NamesElsewhere}
 use Rattle.aia_rehearsal.proofs.Places.{small_who}
-use Rattle.aia_rehearsal.proofs.RouteSteps.{all_kept, refetched}
-use Rattle.aia_rehearsal.proofs.StoreSeen.{Seen, file_hit, slot_hit, at_spot, at_slot}
-use Rattle.aia_rehearsal.proofs.Landings.{side_by, landed_on, store_lands, entry_lands, one_led, one_file_hit, one_slot_hit}
-use Rattle.aia_rehearsal.proofs.FlightSteps.{landed_state, own_store_landed, other_store_landed}
+use Rattle.aia_rehearsal.proofs.RouteSteps.{all_kept}
+use Rattle.aia_rehearsal.proofs.StoreSeen.{file_hit, slot_hit, at_spot, at_slot}
+use Rattle.aia_rehearsal.proofs.Landings.{side_by, landed_on, store_lands, entry_lands, one_led, one_file_hit, one_slot_hit, named_spot_there}
+
+-- a route leads to neither place
+abbrev pub LeadsElsewhere : World → Passage → Route → Type 0
+LeadsElsewhere w p (To entry) = side_of w.imsic p entry ≡ None
+LeadsElsewhere w p route = Unit {0}
 
 -- ---- on which side
 
@@ -134,16 +131,10 @@ module _ (w : World) (r : Rehearsed) (z : Transit) (whole : IsWhole w) (s : Stan
 
     pub other_peer : (g : Vcpu) (named : Option Place) → is_vcpu_in w.vms g ≡ true → g ≢ moved p → NamesElsewhere p named → Relays named w u g value → StandsFor u r z
     other_peer g (Some a) there other none relays =
-        let seen = at_spot w u p 0 value whole (named_spot w.imsic a) spot_there relays in
+        let seen = at_spot w u p 0 value whole (named_spot w.imsic a) (named_spot_there w a) relays in
         let one = one_file_hit (named_spot w.imsic a) p.old p.new s.two in
         subst (λ o. StandsFor u r (landed_on o (asked 0 value) z)) (side_none (file_hit (named_spot w.imsic a)) p (missed p.old (λ b e. none Old b (ap file_of e))) (missed p.new (λ b e. none New b (ap file_of e)))) (store_lands w u r z (file_hit (named_spot w.imsic a)) 0 value s seen one)
       where
-        spot_there : named_spot w.imsic a ≢ Nowhere → IsThere w.imsic (named_spot w.imsic a)
-        spot_there some = elim (cases_Bool (nat_lt a.hart w.imsic.harts && is_in_range 1 w.imsic.guests a.file)) [
-          | inl named ↦ let inside : IsThere w.imsic (spot_of a) = (grind (arith, nat_tests), grind (arith, nat_tests), grind (arith, nat_tests)) in subst (IsThere w.imsic) (sym (cond-true _ _ _ named)) inside
-          | inr past ↦ absurd (some (cond-false _ _ _ past))
-        ]
-
         missed : (x : ends.Place) → ((b : Place) → x ≡ File b → Some a ≢ Some b) → file_hit (named_spot w.imsic a) x ≡ false
         missed Slot apart = refl
         missed (File b) apart = elim (cases_Bool (nat_lt a.hart w.imsic.harts && is_in_range 1 w.imsic.guests a.file)) [
@@ -188,9 +179,6 @@ module _ (w : World) (r : Rehearsed) (z : Transit) (whole : IsWhole w) (s : Stan
       inside Slot there = there
 
   module _ (vm : ℕ) (store : Flying) (low : vm < length w.vms) where
-    more : List Flying
-    more = flight_of w vm ++ store ∷ []
-
     more_here : flight_of (with_flight w vm (flight_of w vm ++ store ∷ [])) vm ≡ flight_of w vm ++ store ∷ []
     more_here = get_or-set_same w.flights vm (flight_of w vm ++ store ∷ []) [] (omega (arith, low, whole.flights))
 

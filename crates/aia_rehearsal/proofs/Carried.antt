@@ -1,14 +1,11 @@
 -- What stays of a rehearsal's standing where the machine and the stores in flight do.
-use Rattle.std.proofs.Common.{◌≡◌, ◌≢◌, ℕ, ◌+◌, ◌*◌, ◌/◌, ◌<◌, Bool, List, [], ◌∷◌, Option, Some, None, refl, sym, ap, ◌∙◌, subst}
+use Rattle.std.proofs.Common.{◌≡◌, ℕ, ◌+◌, ◌/◌, List, [], ◌∷◌, refl, sym, ap, ◌∙◌, subst}
 use Rattle.std.specs.Prelude.{slice_index_or}
 use Rattle.aia_imsic.specs.declared.spot.Spot.{Spot}
 use Rattle.aia_imsic.specs.Imsic.{ImsicState, IsThere}
 use Rattle.aia_entry.specs.declared.entry.Entry.{Entry}
 use Rattle.aia_entry.specs.declared.entry.Entry.TheVariants.{Basic, Mrif, NotValid, Custom, Misconfigured}
-use Rattle.aia_home.specs.declared.vm.Vm.{Vm}
-use Rattle.aia_home.specs.declared.place.Place.{Place}
 use Rattle.aia_home.specs.Vms.{vcpu, is_vcpu_in, slot_of, notice_hart}
-use Rattle.aia_places.specs.View.{TwoSets}
 use Rattle.aia_fabric.specs.declared.flights.Flying.{Flying}
 use Rattle.aia_fabric.specs.World.{World, flight_of}
 use Rattle.aia_fabric.specs.Stores.{page_spot}
@@ -16,12 +13,12 @@ use Rattle.aia_fabric.specs.Changes.{spot_of}
 use Rattle.aia_move.specs.declared.who.Who.{Who}
 use Rattle.aia_move.specs.Move.{IsWho, width}
 use Rattle.aia_move.specs.Touches.{SameMachine}
-use Rattle.aia_plan.specs.Transit.{Side, Flight, Transit}
+use Rattle.aia_plan.specs.Transit.{Transit}
 use Rattle.aia_plan.specs.Transit.Side.{Old, New}
 use Rattle.aia_rehearsal.specs.declared.place.Place as ends
 use Rattle.aia_rehearsal.specs.declared.place.Place.TheVariants.{File, Slot}
 use Rattle.aia_rehearsal.specs.Rehearsed.{Passage, Carried, Rehearsed, moved, at, IsFileThere, IsOf}
-use Rattle.aia_rehearsal.specs.Stands.{sets_at, routes_of, leads, is_file_at, side_of, onto_flights, flights_in, SetsStand, RoutesStand, FlightsStand, StandsFor}
+use Rattle.aia_rehearsal.specs.Stands.{sets_at, routes_of, leads, is_file_at, side_of, flights_in, SetsStand, RoutesStand, StandsFor}
 
 -- ---- the machine stays
 

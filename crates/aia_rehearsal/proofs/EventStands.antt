@@ -1,28 +1,37 @@
 -- Each event is what it is seen as.
-use Rattle.std.proofs.Common.{◌≡◌, ◌≢◌, ℕ, ◌%◌, ◌<◌, Bool, true, false, ◌&&◌, cond, nat_eq, List, [], ◌∷◌, Option, Some, None, inl, inr, ◌⊎◌, refl, sym, ap, ◌∙◌, subst}
+use Rattle.std.proofs.Common.{◌≡◌, ◌≢◌, ℕ, ◌%◌, Bool, true, false, cond, nat_eq, [], ◌∷◌, Option, Some, None, inl, inr, ◌⊎◌, sym, ap, ◌∙◌, subst}
 use Rattle.std.specs.Prelude.{slice_get}
-use Rattle.std.proofs.lemmas.Bool.{cases_Bool, cases_eq, cond-true, cond-false, eqb-true, eq-eqb, ne_eqb}
+use Rattle.std.proofs.lemmas.Bool.{cases_Bool, cases_eq, cond-true, cond-false, eq-eqb, ne_eqb}
 use Rattle.std.proofs.lemmas.Bool.Decides.{nat_tests}
 use Rattle.std.proofs.Common.{arith}
 use Rattle.aia_regs.specs.declared.address_map.TheConstants.{PAGE}
-use Rattle.aia_entry.specs.Tables.{table_of, route_of}
-use Rattle.aia_home.specs.Vms.{Vcpu, vcpu, is_vcpu, is_vcpu_in}
-use Rattle.aia_fabric.specs.declared.flights.Flying.{Flying}
+use Rattle.aia_entry.specs.declared.entry.Entry.{Entry}
+use Rattle.aia_entry.specs.declared.entry.Entry.TheVariants.{Basic, Mrif, NotValid, Custom, Misconfigured}
+use Rattle.aia_entry.specs.Tables.{table_of, entry_in_force, leads_by, route_of}
+use Rattle.aia_entry.specs.Translation.{is_msi_address, file_number}
+use Rattle.aia_home.specs.Vms.{Vcpu, vcpu, is_vcpu}
 use Rattle.aia_fabric.specs.World.{World, flight_of, stage_of}
 use Rattle.aia_fabric.specs.Whole.{IsWhole}
-use Rattle.aia_fabric.specs.Stores.{Reaches, Relays}
+use Rattle.aia_fabric.specs.Stores.{Relays}
 use Rattle.aia_fabric.specs.Flights.{Lands}
 use Rattle.aia_fabric.specs.Changes.{with_fence}
 use Rattle.aia_plan.specs.Transit.{Side, Transit, Happening, happened, all_happened}
 use Rattle.aia_plan.specs.Transit.{Happening as happenings}
 use Rattle.aia_rehearsal.specs.Rehearsed.{Passage, Rehearsed, moved}
 use Rattle.aia_rehearsal.specs.Stands.{asked, side_of, StandsFor}
-use Rattle.aia_rehearsal.specs.Events.{Event, Happens, KeepsAway, is_for_moved, landing_by, landing_seen, seen}
+use Rattle.aia_rehearsal.specs.Events.{Event, Happens, IsAlone, NamesElsewhere, is_for_moved, landing_by, landing_seen, seen}
 use Rattle.aia_rehearsal.specs.Events.Event.{Steps, DeviceStores, PeerStores, DeviceSends, StoreLands, EntryRead}
 use Rattle.aia_rehearsal.proofs.StepStands.{rehearsed}
 use Rattle.aia_rehearsal.proofs.RouteSteps.{refetched}
 use Rattle.aia_rehearsal.proofs.FlightSteps.{place_among, landed_state, own_store_landed, other_store_landed}
-use Rattle.aia_rehearsal.proofs.Between.{own_route, own_store, other_store, own_peer, other_peer, own_send, other_send, other_refetched}
+use Rattle.aia_rehearsal.proofs.Between.{LeadsElsewhere, own_route, own_store, other_store, own_peer, other_peer, own_send, other_send, other_refetched}
+
+-- what is for another virtual hart does not come to the places
+abbrev KeepsAway : Event → World → Passage → Type 0
+KeepsAway (DeviceStores vm addr value) w p = is_for_moved w p vm addr ≡ false → LeadsElsewhere w p (route_of (table_of w.tables vm) addr)
+KeepsAway (PeerStores vm to value) w p = is_vcpu (vcpu vm to) (moved p) ≡ false → NamesElsewhere p (stage_of w (vcpu vm to)).in_force
+KeepsAway (DeviceSends vm addr value) w p = is_for_moved w p vm addr ≡ false → LeadsElsewhere w p (route_of (table_of w.tables vm) addr)
+KeepsAway event w p = Unit {0}
 
 one_or_none : (w : World) (r : Rehearsed) (z : Transit) (is : Bool) (x : Happening) → (is ≡ true → StandsFor w r (happened x z)) → (is ≡ false → StandsFor w r z) → StandsFor w r (all_happened (cond is (x ∷ []) []) z)
 one_or_none w r z is x own other = elim (cases_Bool is) [
@@ -79,5 +88,30 @@ module _ (w u : World) (r : Rehearsed) (z : Transit) (whole : IsWhole w) (s : St
   between (StoreLands vm k) t (low, l, e) away = subst (λ (x : Rehearsed). StandsFor u x (all_happened (seen (StoreLands vm k) w p) z)) (sym e) (land_seen vm k l)
   between (EntryRead vm file) t (there, is, e) away = subst (λ (x : Rehearsed). StandsFor u x (all_happened (seen (EntryRead vm file) w p) z)) (sym e) (entry_read vm file is)
 
-pub event_stands : (w u : World) (r t : Rehearsed) (event : Event) → IsWhole w → Happens event w r u t → KeepsAway event w r.passage → (z : Transit) → StandsFor w r z → StandsFor u t (all_happened (seen event w r.passage) z)
-event_stands w u r t event whole happens away z s = between w u r z whole s event t happens away
+-- so it is where both places are its own
+led_elsewhere : (w : World) (p : Passage) (entry : Entry) → side_of w.imsic p entry ≡ None → LeadsElsewhere w p (leads_by entry)
+led_elsewhere w p (Basic page) none = none
+led_elsewhere w p (Mrif addr page identity) none = none
+led_elsewhere w p NotValid none = tt
+led_elsewhere w p Custom none = tt
+led_elsewhere w p Misconfigured none = tt
+
+route_elsewhere : (w : World) (p : Passage) (vm addr : ℕ) → IsAlone w p → is_for_moved w p vm addr ≡ false → LeadsElsewhere w p (route_of (table_of w.tables vm) addr)
+route_elsewhere w p vm addr alone not = elim (cases_Bool (is_msi_address (table_of w.tables vm).mask addr)) [
+  | inl msi ↦
+      let g = vcpu vm (file_number (table_of w.tables vm).mask addr) in
+      let other : g ≢ moved p = λ e. let here : vm ≡ p.who.vm = ap (λ (x : Vcpu). x.vm) e in let file : file_number (table_of w.tables vm).mask addr ≡ p.who.vcpu = ap (λ (x : Vcpu). x.number) e in let no : is_for_moved w p vm addr ≡ true = grind (arith, nat_tests) in absurd (cc) in
+      subst (LeadsElsewhere w p) (sym (cond-true _ _ _ msi)) (led_elsewhere w p (entry_in_force (table_of w.tables vm) (file_number (table_of w.tables vm).mask addr)) (alone.in_force g other))
+  | inr none ↦ subst (LeadsElsewhere w p) (sym (cond-false _ _ _ none)) tt
+]
+
+keeps_away : (event : Event) (w u : World) (r t : Rehearsed) → IsAlone w r.passage → Happens event w r u t → KeepsAway event w r.passage
+keeps_away (Steps step) w u r t alone happens = tt
+keeps_away (DeviceStores vm addr value) w u r t alone happens = route_elsewhere w r.passage vm addr alone
+keeps_away (PeerStores vm to value) w u r t alone happens = λ not. alone.records (vcpu vm to) happens.0 (other_vcpu (vcpu vm to) (moved r.passage) not)
+keeps_away (DeviceSends vm addr value) w u r t alone happens = route_elsewhere w r.passage vm addr alone
+keeps_away (StoreLands vm k) w u r t alone happens = tt
+keeps_away (EntryRead vm file) w u r t alone happens = tt
+
+pub event_stands : (w u : World) (r t : Rehearsed) (event : Event) → IsWhole w → IsAlone w r.passage → Happens event w r u t → (z : Transit) → StandsFor w r z → StandsFor u t (all_happened (seen event w r.passage) z)
+event_stands w u r t event whole alone happens z s = between w u r z whole s event t happens (keeps_away event w u r t alone happens)

@@ -1,26 +1,22 @@
 -- A store in flight lands, and all of a VM do before a fence.
-use Rattle.std.proofs.Common.{◌≡◌, ◌≢◌, ℕ, zero, suc, ◌+◌, ◌<◌, ◌≤◌, Bool, true, false, List, [], ◌∷◌, ◌++◌, length, Option, Some, None, inl, inr, refl, sym, ap, ◌∙◌, subst, arith}
-use Rattle.std.specs.Prelude.{remove, take, slice_get, slice_set, slice_index_or}
+use Rattle.std.proofs.Common.{◌≡◌, ◌≢◌, ℕ, zero, suc, ◌<◌, List, [], ◌∷◌, length, Option, Some, None, inl, inr, refl, sym, ap, ◌∙◌, subst, arith}
+use Rattle.std.specs.Prelude.{remove, take, slice_get, slice_index_or}
 use Rattle.std.proofs.lemmas.Bool.{cases_eq}
-use Rattle.std.proofs.lemmas.List.{get_or-set_same, get_or-set_other, length-set}
-use Rattle.std.proofs.lemmas.Option.{slice_get_within}
+use Rattle.std.proofs.lemmas.List.{get_or-set_same, get_or-set_other}
 use Rattle.aia_imsic.specs.Imsic.{ImsicState}
-use Rattle.aia_entry.specs.declared.entry.Entry.{Entry}
 use Rattle.aia_fabric.specs.declared.flights.Flying.{Flying}
 use Rattle.aia_fabric.specs.World.{World, OnlyStores, flight_of}
 use Rattle.aia_fabric.specs.Whole.{IsWhole}
-use Rattle.aia_fabric.specs.Flights.{Lands, LandsOldest, LandsAll, Fences, with_flight}
+use Rattle.aia_fabric.specs.Flights.{Lands, LandsOldest, Fences, with_flight}
 use Rattle.aia_fabric.specs.Changes.{with_fence}
 use Rattle.aia_fabric.proofs.FrameLemmas.{entry_rest}
 use Rattle.aia_fabric.proofs.FlightLemmas.{fence_leaves_none}
 use Rattle.aia_fabric.proofs.WholeLemmas.{vcpu_entry}
 use Rattle.aia_rehearsal.proofs.RouteSteps.{refetched}
-use Rattle.aia_move.specs.declared.who.Who.{Who}
 use Rattle.aia_plan.specs.declared.step.Step.TheVariants.{Fence}
 use Rattle.aia_plan.specs.Transit.{Side, Flight, Transit, landed, all_landed, one_landed, without, stepped, happened}
 use Rattle.aia_plan.specs.Transit.Side.{Old, New}
 use Rattle.aia_plan.specs.Transit.Happening.{Lands as lands}
-use Rattle.aia_imsic.specs.Imsic.{IsThere}
 use Rattle.aia_rehearsal.specs.declared.place.Place as ends
 use Rattle.aia_rehearsal.specs.declared.place.Place.TheVariants.{File, Slot}
 use Rattle.aia_rehearsal.specs.Rehearsed.{Passage, Rehearsed, IsFileThere}

@@ -1,36 +1,31 @@
 -- A store that goes along an entry lands in the state for which a rehearsal stands, on the side to
 -- which the entry leads; one that leads to neither place leaves that state alone.
-use Rattle.std.proofs.Common.{◌≡◌, ◌≢◌, ℕ, zero, suc, ◌+◌, ◌*◌, ◌/◌, ◌<◌, ◌≤◌, Bool, true, false, ◌&&◌, ◌||◌, cond, nat_eq, nat_lt, inl, inr, List, [], ◌∷◌, ◌++◌, length, get_or, Option, Some, None, refl, sym, ap, ◌∙◌, subst, arith}
-use Rattle.std.specs.Prelude.{remove, take, slice_get, slice_set, slice_index_or}
+use Rattle.std.proofs.Common.{◌≡◌, ◌≢◌, ℕ, ◌*◌, Bool, true, false, ◌&&◌, ◌||◌, cond, nat_eq, nat_lt, inl, inr, Option, Some, None, refl, sym, ap, ◌∙◌, subst, arith}
 use Rattle.std.proofs.lemmas.Bool.{cases_Bool, cond-true, cond-false}
-use Rattle.std.proofs.lemmas.List.{get_or-set_same, get_or-set_other}
 use Rattle.std.proofs.lemmas.Bool.Decides.{nat_tests}
-use Rattle.aia_regs.specs.declared.limits.TheConstants.{VCPUS}
 use Rattle.aia_imsic.specs.declared.spot.Spot.{Spot}
 use Rattle.aia_imsic.specs.declared.spot.Spot.TheVariants.{MachineFile, HostFile, GuestFile, Nowhere}
-use Rattle.aia_imsic.specs.Imsic.{ImsicState, IsThere}
+use Rattle.aia_imsic.specs.Imsic.{IsThere}
 use Rattle.aia_imsic.proofs.MapLemmas.{machine_of_spot, host_of_spot, guest_of_spot}
 use Rattle.aia_regs.specs.declared.address_map.TheConstants.{PAGE}
 use Rattle.aia_entry.specs.declared.entry.Entry.{Entry}
 use Rattle.aia_entry.specs.declared.entry.Entry.TheVariants.{Basic, Mrif, NotValid, Custom, Misconfigured}
 use Rattle.aia_home.specs.declared.place.Place.{Place}
-use Rattle.aia_home.specs.Home.{is_place}
-use Rattle.aia_home.proofs.HomeLemmas.{same_place, is_itself_place}
-use Rattle.aia_places.specs.View.{TwoSets}
 use Rattle.aia_fabric.specs.World.{World, OnlyStores}
 use Rattle.aia_fabric.specs.Whole.{IsWhole}
-use Rattle.aia_fabric.specs.Stores.{ReachesBy, page_spot, slot_at}
+use Rattle.std.specs.Int.{is_in_range}
+use Rattle.aia_fabric.specs.Stores.{ReachesBy, page_spot, named_spot, slot_at}
+use Rattle.aia_fabric.specs.Changes.{spot_of}
 use Rattle.aia_fabric.proofs.PlaceLemmas.{slot_begins}
-use Rattle.aia_move.specs.Move.{width}
 use Rattle.aia_move.specs.Touches.{SameMachine}
-use Rattle.aia_plan.specs.Transit.{Side, Flight, Transit, with_one, landed}
+use Rattle.aia_plan.specs.Transit.{Side, Transit, landed}
 use Rattle.aia_plan.specs.Transit.Side.{Old, New}
 use Rattle.aia_rehearsal.specs.declared.place.Place as ends
 use Rattle.aia_rehearsal.specs.declared.place.Place.TheVariants.{File, Slot}
-use Rattle.aia_rehearsal.specs.Rehearsed.{Passage, Carried, Rehearsed, moved, on, at_of, at, AreTwo, IsFileThere}
-use Rattle.aia_rehearsal.specs.Stands.{sets_at, routes_of, is_file_at, leads, side_of, asked, SetsStand, RoutesStand, StandsFor}
+use Rattle.aia_rehearsal.specs.Rehearsed.{Passage, Rehearsed, moved, AreTwo}
+use Rattle.aia_rehearsal.specs.Stands.{routes_of, is_file_at, leads, side_of, asked, RoutesStand, StandsFor}
 use Rattle.aia_rehearsal.proofs.Carried.{stand_on}
-use Rattle.aia_rehearsal.proofs.StoreSeen.{Adds, Seen, file_hit, slot_hit, seen_none, at_spot, at_slot}
+use Rattle.aia_rehearsal.proofs.StoreSeen.{Seen, file_hit, slot_hit, seen_none, at_spot, at_slot}
 
 -- ---- on which side
 
@@ -125,8 +120,14 @@ page_there w page some = by_spot (page_spot w.imsic page) refl
     by_spot (GuestFile hart file) is = let found = guest_of_spot w.imsic.harts w.imsic.guests (page * PAGE) hart file is in subst (IsThere w.imsic) (sym is) (found.0, found.1, found.2)
     by_spot Nowhere is = absurd (some is)
 
-module _ (w u : World) (r : Rehearsed) (z : Transit) (offset value : ℕ) (whole : IsWhole w) (s : StandsFor w r z) where
-  hit_same : (hits gates : ends.Place → Bool) → ((b : ends.Place) → hits b ≡ gates b) → Seen w u r.passage hits offset value → Seen w u r.passage gates offset value
+pub named_spot_there : (w : World) (a : Place) → named_spot w.imsic a ≢ Nowhere → IsThere w.imsic (named_spot w.imsic a)
+named_spot_there w a some = elim (cases_Bool (nat_lt a.hart w.imsic.harts && is_in_range 1 w.imsic.guests a.file)) [
+  | inl named ↦ let inside : IsThere w.imsic (spot_of a) = (grind (arith, nat_tests), grind (arith, nat_tests), grind (arith, nat_tests)) in subst (IsThere w.imsic) (sym (cond-true _ _ _ named)) inside
+  | inr past ↦ absurd (some (cond-false _ _ _ past))
+]
+
+module _ (w u : World) (p : Passage) (offset value : ℕ) (whole : IsWhole w) where
+  hit_same : (hits gates : ends.Place → Bool) → ((b : ends.Place) → hits b ≡ gates b) → Seen w u p hits offset value → Seen w u p gates offset value
   hit_same hits gates same seen = record {
     rest = seen.rest;
     routes = seen.routes;
@@ -134,37 +135,38 @@ module _ (w u : World) (r : Rehearsed) (z : Transit) (offset value : ℕ) (whole
     missed = λ b there none. seen.missed b there (same b ∙ none);
   }
 
-  nothing_led : (slot : ℕ) (entry : Entry) → ((b : ends.Place) → leads w.imsic slot b entry ≡ false) → u ≡ w → Seen w u r.passage (λ b. leads w.imsic slot b entry) offset value
-  nothing_led slot entry none e = seen_none w u r.passage offset value whole (λ b. leads w.imsic slot b entry) none e
+  nothing_led : (slot : ℕ) (entry : Entry) → ((b : ends.Place) → leads w.imsic slot b entry ≡ false) → u ≡ w → Seen w u p (λ b. leads w.imsic slot b entry) offset value
+  nothing_led slot entry none e = seen_none w u p offset value whole (λ b. leads w.imsic slot b entry) none e
 
-  pub entry_seen : (entry : Entry) → ReachesBy entry w u offset value → Seen w u r.passage (λ b. leads w.imsic r.passage.who.slot b entry) offset value
-  entry_seen (Basic page) reaches = hit_same (file_hit (page_spot w.imsic page)) (λ b. leads w.imsic r.passage.who.slot b (Basic page)) by_place (at_spot w u r.passage offset value whole (page_spot w.imsic page) (page_there w page) reaches)
+  pub entry_seen : (entry : Entry) → ReachesBy entry w u offset value → Seen w u p (λ b. leads w.imsic p.who.slot b entry) offset value
+  entry_seen (Basic page) reaches = hit_same (file_hit (page_spot w.imsic page)) (λ b. leads w.imsic p.who.slot b (Basic page)) by_place (at_spot w u p offset value whole (page_spot w.imsic page) (page_there w page) reaches)
     where
-      by_place : (b : ends.Place) → file_hit (page_spot w.imsic page) b ≡ leads w.imsic r.passage.who.slot b (Basic page)
+      by_place : (b : ends.Place) → file_hit (page_spot w.imsic page) b ≡ leads w.imsic p.who.slot b (Basic page)
       by_place (File b) = refl
       by_place Slot = refl
-  entry_seen (Mrif addr page identity) reaches = hit_same (slot_hit (slot_at addr) r.passage.who.slot) (λ b. leads w.imsic r.passage.who.slot b (Mrif addr page identity)) by_place
-      (at_slot w u r.passage offset value whole (slot_at addr) (page_spot w.imsic page) identity (λ n e. (slot_begins addr n e).0) (page_there w page) reaches)
+  entry_seen (Mrif addr page identity) reaches = hit_same (slot_hit (slot_at addr) p.who.slot) (λ b. leads w.imsic p.who.slot b (Mrif addr page identity)) by_place
+      (at_slot w u p offset value whole (slot_at addr) (page_spot w.imsic page) identity (λ n e. (slot_begins addr n e).0) (page_there w page) reaches)
     where
-      by_place : (b : ends.Place) → slot_hit (slot_at addr) r.passage.who.slot b ≡ leads w.imsic r.passage.who.slot b (Mrif addr page identity)
+      by_place : (b : ends.Place) → slot_hit (slot_at addr) p.who.slot b ≡ leads w.imsic p.who.slot b (Mrif addr page identity)
       by_place (File b) = refl
       by_place Slot = refl
-  entry_seen NotValid e = nothing_led r.passage.who.slot NotValid (λ b. none b) e
+  entry_seen NotValid e = nothing_led p.who.slot NotValid (λ b. none b) e
     where
-      none : (b : ends.Place) → leads w.imsic r.passage.who.slot b NotValid ≡ false
+      none : (b : ends.Place) → leads w.imsic p.who.slot b NotValid ≡ false
       none (File b) = refl
       none Slot = refl
-  entry_seen Custom e = nothing_led r.passage.who.slot Custom (λ b. none b) e
+  entry_seen Custom e = nothing_led p.who.slot Custom (λ b. none b) e
     where
-      none : (b : ends.Place) → leads w.imsic r.passage.who.slot b Custom ≡ false
+      none : (b : ends.Place) → leads w.imsic p.who.slot b Custom ≡ false
       none (File b) = refl
       none Slot = refl
-  entry_seen Misconfigured e = nothing_led r.passage.who.slot Misconfigured (λ b. none b) e
+  entry_seen Misconfigured e = nothing_led p.who.slot Misconfigured (λ b. none b) e
     where
-      none : (b : ends.Place) → leads w.imsic r.passage.who.slot b Misconfigured ≡ false
+      none : (b : ends.Place) → leads w.imsic p.who.slot b Misconfigured ≡ false
       none (File b) = refl
       none Slot = refl
 
+module _ (w u : World) (r : Rehearsed) (z : Transit) (offset value : ℕ) (whole : IsWhole w) (s : StandsFor w r z) where
   pub one_led : (entry : Entry) → leads w.imsic r.passage.who.slot r.passage.old entry ≡ true → leads w.imsic r.passage.who.slot r.passage.new entry ≡ false
   one_led entry led = by_places entry r.passage.old r.passage.new s.two led
     where
@@ -184,4 +186,4 @@ module _ (w u : World) (r : Rehearsed) (z : Transit) (offset value : ℕ) (whole
 
   -- a store goes along an entry
   pub entry_lands : (entry : Entry) → ReachesBy entry w u offset value → StandsFor u r (landed_on (side_of w.imsic r.passage entry) (asked offset value) z)
-  entry_lands entry reaches = store_lands w u r z (λ b. leads w.imsic r.passage.who.slot b entry) offset value s (entry_seen entry reaches) (one_led entry)
+  entry_lands entry reaches = store_lands w u r z (λ b. leads w.imsic r.passage.who.slot b entry) offset value s (entry_seen w u r.passage offset value whole entry reaches) (one_led entry)

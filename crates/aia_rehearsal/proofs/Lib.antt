@@ -10,6 +10,7 @@ pub mod StepStands
 pub mod Between
 pub mod SameMachine
 pub mod EventStands
+pub mod Alone
 pub mod RunMoves
 pub mod Theorem
 pub mod Made

@@ -1,9 +1,8 @@
 -- A fabric as it is made, with one VM, stands for a state.
-use Rattle.std.proofs.Common.{◌≡◌, ◌≢◌, ℕ, zero, suc, ◌+◌, ◌/◌, ◌<◌, Bool, true, false, List, [], ◌∷◌, get_or, None, refl, sym, ap, ◌∙◌, subst, arith}
-use Rattle.std.specs.Prelude.{replicate, slice_index_or}
+use Rattle.std.proofs.Common.{◌≡◌, ◌≢◌, ℕ, zero, suc, ◌+◌, ◌/◌, ◌<◌, true, false, List, [], ◌∷◌, get_or, None, refl, sym, ap, ◌∙◌, subst, arith}
+use Rattle.std.specs.Prelude.{slice_index_or}
 use Rattle.std.specs.List.{All}
 use Rattle.std.proofs.lemmas.Bool.{cond-true, ltb-true, lt-ltb}
-use Rattle.std.proofs.lemmas.Bool.Decides.{nat_tests}
 use Rattle.std.proofs.lemmas.List.{get_or-replicate}
 use Rattle.std.proofs.lemmas.List.Elements.{All-nil}
 use Rattle.aia_imsic.specs.Imsic.{ImsicState, IsThere, file_at}
@@ -27,15 +26,35 @@ use Rattle.aia_file.specs.FileState.{shown}
 use Rattle.aia_file.specs.InterruptFile.{SameFile, empty_file}
 use Rattle.aia_fabric.specs.Changes.{spot_of}
 use Rattle.aia_move.specs.declared.who.Who.{Who}
-use Rattle.aia_move.specs.Move.{IsWho, width}
+use Rattle.aia_move.specs.Move.{IsWho}
 use Rattle.aia_plan.specs.Transit.{Side}
 use Rattle.aia_plan.specs.Transit.Side.{Old, New}
 use Rattle.aia_rehearsal.specs.declared.place.Place as ends
 use Rattle.aia_rehearsal.specs.declared.place.Place.TheVariants.{File, Slot}
-use Rattle.aia_rehearsal.specs.Rehearsed.{Passage, Carried, Rehearsed, moved, on, at, names_on, empty_hand, AreTwo, IsOf}
-use Rattle.aia_rehearsal.specs.Stands.{sets_at, routes_of, leads, flights_in, StandsFor}
+use Rattle.aia_rehearsal.specs.Rehearsed.{Passage, Rehearsed, on, names_on, empty_hand}
+use Rattle.aia_rehearsal.specs.Stands.{routes_of, leads, StandsFor}
 use Rattle.aia_rehearsal.specs.Runs.{LeadsTo, NoneLeads, state_at, IsBegun}
-use Rattle.aia_rehearsal.proofs.Theorem.{led_stands}
+use Rattle.std.proofs.lemmas.Bool.{cases_eq, cases_Bool, ne_eqb, cond-false}
+use Rattle.std.proofs.Common.{inl, inr, nat_lt, length, Some, ◌≤◌}
+use Rattle.std.proofs.lemmas.List.{get_or_past}
+use Rattle.aia_regs.specs.Word.{names}
+use Rattle.aia_regs.specs.declared.limits.TheConstants.{HARTS}
+use Rattle.aia_entry.specs.declared.entry.Entry.TheVariants.{NotValid}
+use Rattle.aia_entry.specs.Format.{decoded}
+use Rattle.aia_entry.specs.Tables.{no_table}
+use Rattle.aia_places.specs.View.{second_word}
+use Rattle.aia_places.proofs.EntryLemmas.{entry_back}
+use Rattle.aia_fabric.proofs.PlaceLemmas.{slot_found}
+use Rattle.aia_fabric.proofs.WholeLemmas.{notice_hart_there}
+use Rattle.aia_rehearsal.specs.Stands.{side_of}
+use Rattle.aia_rehearsal.specs.Events.{IsAlone}
+use Rattle.aia_home.specs.Home.{is_place}
+use Rattle.aia_fabric.specs.Changes.{with_entry_word, with_fence, with_map, with_stage_fence}
+use Rattle.aia_plan.specs.declared.step.Step.TheVariants.{Word0, Map, GFence}
+use Rattle.aia_plan.specs.Transit.{stepped, happened}
+use Rattle.aia_plan.specs.Transit.{Happening as happenings}
+use Rattle.aia_rehearsal.proofs.RouteSteps.{write_entry, refetched, write_record, fence_record}
+use Rattle.aia_rehearsal.proofs.Theorem.{led_stands, begun_stands}
 
 module _ (files : ImsicState) (w : World) (n harts guests : ℕ) (vm : Vm) (who : Who) (new : IsNew (new_world files n) harts guests n) (whole : IsWhole w) (makes : MakesVm (new_world files n) w vm) (is : IsWho w who) (first : who.vm ≡ 0) where
   abbrev g : Vcpu
@@ -81,6 +100,70 @@ module _ (files : ImsicState) (w : World) (n harts guests : ℕ) (vm : Vm) (who 
       record_in_force = ap (λ (x : Stage). x.in_force) stage_is ∙ sym none;
     }
 
+  -- the entries and records of the others lead to their own slots
+  module _ (a : Place) where
+    abbrev arrival : Passage
+    arrival = record { who = who; old = Slot; new = File a }
+
+    other_slot : (n page identity : ℕ) → n < VCPUS → n ≢ who.slot → side_of w.imsic arrival (Mrif (slot_address n) page identity) ≡ None
+    other_slot n page identity low other = cond-false _ _ _ (ap (λ o. names o who.slot) (slot_found n low) ∙ ne_eqb n who.slot other) ∙ refl
+
+    not_valid : side_of w.imsic arrival NotValid ≡ None
+    not_valid = refl
+
+    plus_none : (n : ℕ) → 0 + n ≡ n
+    plus_none n = omega arith
+
+    other_number : (n : ℕ) → g ≢ vcpu who.vm n → n ≢ who.slot
+    other_number n other e = other (let same : who.vcpu ≡ n = sym (plus_none who.vcpu) ∙ none_before ∙ sym e in λ k. vcpu who.vm (same k))
+
+    few_vcpus : vm.vcpus ≤ VCPUS
+    few_vcpus = let total : vcpus_in w.vms ≡ vm.vcpus + 0 = ap vcpus_in makes.vms in let most = whole.vcpus in omega (arith, total, most)
+
+    made_elsewhere : (n : ℕ) → g ≢ vcpu who.vm n → side_of w.imsic arrival (made_entry vm 0 n) ≡ None
+    made_elsewhere n other = elim (cases_Bool (nat_lt n vm.vcpus)) [
+      | inl inside ↦ ap (side_of w.imsic arrival) (cond-true _ _ _ inside) ∙ ap (λ q. side_of w.imsic arrival (Mrif (slot_address q) (notice_page vm) (q + 1))) (plus_none n)
+          ∙ other_slot n (notice_page vm) (n + 1) (let low : n < vm.vcpus = ltb-true _ _ inside in omega (arith, low, few_vcpus)) (other_number n other)
+      | inr past ↦ ap (side_of w.imsic arrival) (cond-false _ _ _ past) ∙ not_valid
+    ]
+
+    in_force_elsewhere : (x : Vcpu) → x ≢ g → side_of w.imsic arrival (entry_in_force (table_of w.tables x.vm) x.number) ≡ None
+    in_force_elsewhere x other = elim (cases_eq x.vm 0) [
+      | inl zero_vm ↦ ap (λ v. side_of w.imsic arrival (entry_in_force (table_of w.tables v) x.number)) zero_vm ∙ ap (side_of w.imsic arrival) (makes.in_force x.number)
+          ∙ made_elsewhere x.number (λ e. other (let number : who.vcpu ≡ x.number = ap (λ (y : Vcpu). y.number) e in λ k. vcpu ((zero_vm ∙ sym first) k) (sym number k)))
+      | inr some_vm ↦
+          let past : length w.tables ≤ x.vm = let one : length w.tables ≡ 0 + 1 = makes.count in omega (arith, one, some_vm) in
+          ap (λ t. side_of w.imsic arrival (entry_in_force t x.number)) (get_or_past w.tables x.vm no_table past) ∙ not_valid
+    ]
+
+    first_vm : (x : Vcpu) → is_vcpu_in w.vms x ≡ true → (x.vm ≡ 0) × (x.number < vm.vcpus)
+    first_vm x there = by_vm x.vm refl (ap (λ vms. is_vcpu_in vms x) (sym makes.vms) ∙ there)
+      where
+        by_vm : (v : ℕ) → x.vm ≡ v → is_vcpu_in (vm ∷ []) x ≡ true → (x.vm ≡ 0) × (x.number < vm.vcpus)
+        by_vm zero is inside = (is, ltb-true _ _ (sym (ap (λ n. is_vcpu_in (vm ∷ []) (vcpu n x.number)) is) ∙ inside))
+        by_vm (suc v) is inside = let none : is_vcpu_in (vm ∷ []) (vcpu (suc v) x.number) ≡ true = sym (ap (λ n. is_vcpu_in (vm ∷ []) (vcpu n x.number)) is) ∙ inside in absurd (omega (arith, ltb-true _ _ none))
+
+    written_elsewhere : (x : Vcpu) → is_vcpu_in w.vms x ≡ true → x ≢ g → side_of w.imsic arrival (decoded (routes_of w x).word0 (routes_of w x).word1) ≡ None
+    written_elsewhere x there other =
+        let at = first_vm x there in
+        let low : x.number < VCPUS = let small = at.1 in omega (arith, small, few_vcpus) in
+        let hart : vm.notice_hart < HARTS = let there_hart = notice_hart_there w g whole is.there in omega (arith, there_hart, is.notice, notice_is, whole.harts) in
+        let word0 : (routes_of w x).word0 ≡ entry_word x.number None = ap (λ v. get_or w.memory (entry_word_place v x.number) 0) at.0 ∙ makes.word0 x.number at.1 ∙ ap (λ q. mrif_word (slot_address q)) (plus_none x.number) in
+        let word1 : (routes_of w x).word1 ≡ second_word x.number vm.notice_hart = ap (λ v. get_or w.memory (entry_word_place v x.number + 1) 0) at.0 ∙ makes.word1 x.number at.1 ∙ ap (λ q. notice_word (notice_page vm) (q + 1)) (plus_none x.number) in
+        ap (λ n. side_of w.imsic arrival (decoded n (routes_of w x).word1)) word0 ∙ ap (λ n. side_of w.imsic arrival (decoded (entry_word x.number None) n)) word1
+        ∙ ap (side_of w.imsic arrival) (entry_back x.number vm.notice_hart None low hart (λ p e. absurd (cc)))
+        ∙ other_slot x.number (supervisor_page vm.notice_hart / PAGE) (x.number + 1) low (other_number x.number (λ e. other (let number : who.vcpu ≡ x.number = ap (λ (y : Vcpu). y.number) e in λ k. vcpu ((at.0 ∙ sym first) k) (sym number k))))
+
+    alone : IsAlone w arrival
+    alone = record {
+      in_force = in_force_elsewhere;
+      written = written_elsewhere;
+      records = λ x there other side b named e.
+          let low = slot_low w x whole there in
+          let none : stage_of w x ≡ no_stage = ap (λ (y : World). slice_index_or y.stages (slot_of w.vms x) no_stage) makes.rest ∙ get_or-replicate VCPUS (slot_of w.vms x) no_stage no_stage low in
+          let empty : None ≡ Some b = sym (ap (λ (y : Stage). y.in_force) none) ∙ e in absurd (cc);
+    }
+
   file_empty : (a : Place) → IsThere w.imsic (spot_of a) → SameFile (shown (file_at w.imsic (spot_of a))) (empty_file n)
   file_empty a there =
       let same : w.imsic ≡ files = ap (λ (x : World). x.imsic) makes.rest in
@@ -90,6 +173,7 @@ module _ (files : ImsicState) (w : World) (n harts guests : ℕ) (vm : Vm) (who 
   arrives a there = record {
     of = record { who = is; old = tt; new = there };
     two = tt;
+    alone = alone a;
     routes = led Slot (File a) Old refl;
     flights = λ v. none_leads (record { who = who; old = Slot; new = File a }) New v;
     others = λ v other. none_leads (record { who = who; old = Slot; new = File a }) Old v;
@@ -117,3 +201,28 @@ module _ (before w : World) (n harts guests : ℕ) (vm : Vm) (who : Who) (new : 
 
   pub has_left : (a : Place) → IsThere w.imsic (spot_of a) → StandsFor w (record { passage = record { who = who; old = File a; new = Slot }; hand = empty_hand }) (state_at New w (record { passage = record { who = who; old = File a; new = Slot }; hand = empty_hand }))
   has_left a there = leaves before.imsic w n harts guests vm who new_here whole makes_here is first a there
+
+  -- once the entry and the record were written for a file and put in force, it may shift to another one
+  pub may_shift : (a b : Place) → IsThere w.imsic (spot_of a) → IsThere w.imsic (spot_of b) → is_place a b ≡ false → (x y v u : World) → IsWhole x → IsWhole y → IsWhole v
+      → x ≡ with_entry_word w who.vm who.vcpu 0 (entry_word who.slot (Some a)) → y ≡ with_fence x who.vm who.vcpu → v ≡ with_map y (vcpu who.vm who.vcpu) (Some a) → u ≡ with_stage_fence v (vcpu who.vm who.vcpu)
+      → StandsFor u (record { passage = record { who = who; old = File a; new = File b }; hand = empty_hand }) (state_at Old u (record { passage = record { who = who; old = File a; new = File b }; hand = empty_hand }))
+  may_shift a b there too apart x y v u whole_x whole_y whole_v e1 e2 e3 e4 =
+      let r : Rehearsed = record { passage = record { who = who; old = Slot; new = File a }; hand = empty_hand } in
+      let p : Passage = record { who = who; old = File a; new = File b } in
+      let z = state_at Old w r in
+      let s1 = subst (λ (m : World). StandsFor m r (stepped Word0 z)) (sym e1) (write_entry w r z whole (begun_stands w r (may_arrive a there))) in
+      let s2 = subst (λ (m : World). StandsFor m r (happened happenings.Refetches (stepped Word0 z))) (sym e2) (refetched x r (stepped Word0 z) whole_x s1) in
+      let s3 = subst (λ (m : World). StandsFor m r (stepped Map (happened happenings.Refetches (stepped Word0 z)))) (sym e3) (write_record y r (happened happenings.Refetches (stepped Word0 z)) whole_y s2) in
+      let s4 = subst (λ (m : World). StandsFor m r (stepped GFence (stepped Map (happened happenings.Refetches (stepped Word0 z))))) (sym e4) (fence_record v r (stepped Map (happened happenings.Refetches (stepped Word0 z))) whole_v s3) in
+      let files : u.imsic ≡ w.imsic = ap (λ (m : World). m.imsic) e4 ∙ ap (λ (m : World). m.imsic) e3 ∙ ap (λ (m : World). m.imsic) e2 ∙ ap (λ (m : World). m.imsic) e1 in
+      let lists : u.flights ≡ w.flights = ap (λ (m : World). m.flights) e4 ∙ ap (λ (m : World). m.flights) e3 ∙ ap (λ (m : World). m.flights) e2 ∙ ap (λ (m : World). m.flights) e1 in
+      led_stands u (record { passage = p; hand = empty_hand }) Old
+      (record { who = s4.of.who; old = subst (λ (i : ImsicState). IsThere i (spot_of a)) (sym files) there; new = subst (λ (i : ImsicState). IsThere i (spot_of b)) (sym files) too })
+      apart
+      (record { word0 = s4.routes.entry_written; word1 = s4.routes.notice; in_force = s4.routes.entry_in_force; record_written = s4.routes.record_written; record_in_force = s4.routes.record_in_force })
+      (λ k other. none_in_flight u p Old k lists) (λ k other. none_in_flight u p New k lists)
+    where
+      none_in_flight : (u : World) (p : Passage) (side : Side) (k : ℕ) → u.flights ≡ w.flights → NoneLeads u p side k
+      none_in_flight u p side k lists =
+          let none : flight_of u k ≡ [] = ap (λ l. slice_index_or l k []) lists ∙ none_flies before.imsic w n harts guests vm who new_here whole makes_here is first k in
+          subst (λ l. All (λ (store : Flying). leads u.imsic p.who.slot (on side p) store.entry ≡ false) l) (sym none) (All-nil _)

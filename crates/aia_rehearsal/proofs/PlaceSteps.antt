@@ -1,28 +1,28 @@
 -- A word of one place is written: the sets of that place have it, those of the other place stay,
 -- and so do the routes.
-use Rattle.std.proofs.Common.{◌≡◌, ◌≢◌, ℕ, ◌+◌, ◌*◌, ◌/◌, ◌%◌, ◌<◌, ◌≤◌, Bool, true, false, List, get_or, length, Some, None, refl, sym, ap, ◌∙◌, subst, arith}
+use Rattle.std.proofs.Common.{◌≡◌, ℕ, ◌+◌, ◌%◌, ◌<◌, false, get_or, refl, sym, ap, ◌∙◌, arith}
 use Rattle.std.proofs.Math.ListN.{set}
 use Rattle.std.proofs.lemmas.List.{get_or-set_other}
-use Rattle.aia_word.specs.Sets.{has_bit, is_in}
-use Rattle.aia_regs.specs.declared.limits.TheConstants.{VCPUS, WORDS_OF_SLOTS, FILE_WORDS}
-use Rattle.aia_file.specs.FileState.{FileState, shown}
-use Rattle.aia_imsic.specs.Imsic.{IsThere, file_at}
+use Rattle.aia_word.specs.Sets.{has_bit}
+use Rattle.aia_regs.specs.declared.limits.TheConstants.{VCPUS, WORDS_OF_SLOTS}
+use Rattle.aia_file.specs.FileState.{shown}
+use Rattle.aia_imsic.specs.Imsic.{file_at}
 use Rattle.aia_imsic.proofs.PlaceLemmas.{kept_elsewhere}
-use Rattle.aia_mrif.specs.Mrif.{Mrif, pending_place, enable_place}
+use Rattle.aia_mrif.specs.Mrif.{pending_place, enable_place}
 use Rattle.aia_home.specs.declared.place.Place.{Place}
 use Rattle.aia_home.specs.Home.{is_place}
 use Rattle.aia_home.specs.Vms.{Vcpu}
-use Rattle.aia_places.specs.View.{TwoSets, of_file, of_slot}
+use Rattle.aia_places.specs.View.{of_file, of_slot}
 use Rattle.aia_places.specs.Steps.{Shows, replaced_by}
 use Rattle.aia_fabric.specs.World.{World}
 use Rattle.aia_fabric.specs.Whole.{IsWhole}
 use Rattle.aia_fabric.specs.Making.{entry_word_place}
-use Rattle.aia_fabric.specs.Changes.{spot_of, with_word, with_state, pending_words, enable_words, pending_at, with_pending, enable_at, with_enable}
+use Rattle.aia_fabric.specs.Changes.{spot_of, with_word, pending_words, enable_words, pending_at, with_pending, enable_at, with_enable}
 use Rattle.aia_fabric.proofs.ViewLemmas.{here, spots_apart, word_replaced, slot_pending-written, slot_enabled-written, has_slot, place_shows}
 use Rattle.aia_rehearsal.specs.declared.place.Place as ends
 use Rattle.aia_rehearsal.specs.declared.place.Place.TheVariants.{File, Slot}
 use Rattle.aia_rehearsal.specs.Rehearsed.{at_of, AreTwo, IsFileThere}
-use Rattle.aia_rehearsal.specs.Stands.{sets_at, Routes, routes_of}
+use Rattle.aia_rehearsal.specs.Stands.{sets_at, routes_of}
 
 other_way : (p q : Place) → is_place p q ≡ false → is_place q p ≡ false
 other_way p q apart = grind (arith)

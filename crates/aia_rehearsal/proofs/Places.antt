@@ -1,12 +1,11 @@
 -- The places of a rehearsal are there, with all words of its machine's files.
-use Rattle.std.proofs.Common.{◌≡◌, ℕ, ◌+◌, ◌/◌, ◌<◌, ◌≤◌, Bool, true, false, ◌||◌, refl, sym, ap, subst, ◌∙◌, arith}
+use Rattle.std.proofs.Common.{◌≡◌, ℕ, ◌+◌, ◌<◌, ◌≤◌, Bool, true, sym, arith}
 use Rattle.std.proofs.lemmas.Bool.Decides.{nat_tests}
 use Rattle.aia_regs.specs.declared.limits.TheConstants.{HARTS, GUEST_FILES, VCPUS, IDENTITIES, FILE_WORDS}
-use Rattle.aia_file.specs.InterruptFile.{is_greatest_identity}
 use Rattle.aia_home.specs.declared.place.Place.{Place}
 use Rattle.aia_fabric.specs.World.{World}
 use Rattle.aia_fabric.specs.Whole.{IsWhole}
-use Rattle.aia_fabric.specs.Changes.{IsPlaceThere, spot_of, words_at}
+use Rattle.aia_fabric.specs.Changes.{IsPlaceThere, words_at}
 use Rattle.aia_move.specs.declared.who.Who.{Who}
 use Rattle.aia_move.specs.Move.{IsWho, PostsIf, width}
 use Rattle.aia_imsic.specs.declared.spot.Spot.TheVariants.{HostFile}

@@ -1,48 +1,41 @@
 -- What each access of a rehearsal makes of the state for which it stands, the fence of the entry
 -- aside.
-use Rattle.std.proofs.Common.{◌≡◌, ◌≢◌, ℕ, ◌+◌, ◌*◌, ◌/◌, ◌<◌, ◌≤◌, Bool, true, false, inl, inr, List, Option, Some, None, IfSome, refl, sym, ap, ◌∙◌, subst, arith}
+use Rattle.std.proofs.Common.{◌≡◌, ℕ, ◌+◌, ◌<◌, Bool, true, false, inl, inr, Some, IfSome, refl, sym, ap, ◌∙◌, subst, arith}
 use Rattle.std.specs.Prelude.{bit_or}
 use Rattle.std.proofs.lemmas.Bool.{cases_Bool}
 use Rattle.std.proofs.lemmas.Bool.Decides.{nat_tests}
 use Rattle.aia_word.specs.Sets.{has_bit}
 use Rattle.aia_mrif.specs.Mrif.{mrif_in}
-use Rattle.aia_regs.specs.declared.limits.TheConstants.{HARTS, VCPUS}
+use Rattle.aia_regs.specs.declared.limits.TheConstants.{VCPUS}
 use Rattle.aia_regs.specs.declared.file_registers.FileReg.{FileReg}
-use Rattle.aia_regs.specs.declared.file_registers.FileReg.TheVariants.{Delivery, Threshold}
 use Rattle.aia_regs.specs.declared.access.Op.TheVariants as ops
 use Rattle.aia_file.specs.InterruptFile.{InterruptFile, accessed}
 use Rattle.aia_file.specs.FileState.{FileState, shown}
 use Rattle.aia_file.proofs.FileLemmas.{same_file}
-use Rattle.aia_imsic.specs.declared.spot.Spot.{Spot}
 use Rattle.aia_imsic.specs.declared.spot.Spot.TheVariants.{HostFile}
 use Rattle.aia_imsic.specs.Imsic.{ImsicState, IsThere, file_at, with_file}
 use Rattle.aia_imsic.proofs.PlaceLemmas.{kept_elsewhere}
 use Rattle.aia_entry.specs.Format.{decoded}
 use Rattle.aia_home.specs.declared.place.Place.{Place}
-use Rattle.aia_home.specs.Home.{Home, is_place}
+use Rattle.aia_home.specs.Home.{is_place}
 use Rattle.aia_home.specs.Home.Home.{Parked}
-use Rattle.aia_home.specs.Vms.{Vcpu, vcpu, is_vcpu_in, slot_of}
+use Rattle.aia_home.specs.Vms.{slot_of}
 use Rattle.aia_places.specs.View.{View, TwoSets, of_file, of_slot, leads_to, entry_word, second_word, IsInMap}
 use Rattle.aia_places.proofs.EntryLemmas.{entry_back}
 use Rattle.aia_fabric.specs.World.{World}
 use Rattle.aia_fabric.specs.Whole.{IsWhole}
-use Rattle.aia_fabric.specs.Stores.{Posts}
-use Rattle.aia_fabric.specs.Flights.{Fences}
-use Rattle.aia_fabric.specs.Changes.{PutsRegister, spot_of, view, pending_words, enable_words, pending_at, with_pending, enable_at, with_enable, with_state, with_entry_word, with_fence, with_map, with_stage_fence}
+use Rattle.aia_fabric.specs.Changes.{spot_of, pending_words, enable_words, pending_at, with_pending, enable_at, with_enable, with_state, with_entry_word, with_fence, with_map, with_stage_fence}
 use Rattle.aia_fabric.proofs.ViewLemmas.{here, spots_apart, word0-view, word1-view, fence-view, map-view, stage_fence-view}
 use Rattle.aia_fabric.proofs.WholeLemmas.{notice_hart_there}
-use Rattle.aia_move.specs.declared.who.Who.{Who}
-use Rattle.aia_move.specs.Move.{IsWho, PostsIf, width}
+use Rattle.aia_move.specs.Move.{PostsIf, width}
 use Rattle.aia_move.specs.Touches.{SameMachine}
-use Rattle.aia_plan.specs.Plan.{IsInside}
-use Rattle.aia_plan.specs.declared.step.Step.{Step}
-use Rattle.aia_plan.specs.declared.step.Step.TheVariants.{Quiet, Word1, Word0, Fence, Map, Unmap, Remap, GFence, TakeP, PutP, TakeE, PutE, Look, TakeT, PutT, Post, Wake}
-use Rattle.aia_plan.specs.Transit.{Side, Flight, Transit, stepped}
+use Rattle.aia_plan.specs.declared.step.Step.TheVariants.{Word0, Map, GFence, TakeP, PutP, TakeE, PutE}
+use Rattle.aia_plan.specs.Transit.{Side, Transit, stepped}
 use Rattle.aia_plan.specs.Transit.Side.{Old, New}
 use Rattle.aia_rehearsal.specs.declared.place.Place as ends
 use Rattle.aia_rehearsal.specs.declared.place.Place.TheVariants.{File, Slot}
-use Rattle.aia_rehearsal.specs.Rehearsed.{Passage, Carried, Rehearsed, moved, on, at_of, at, file_of, names_on, AreTwo, IsFileThere, IsOf}
-use Rattle.aia_rehearsal.specs.Steps.{identities_in, Puts, Makes, hand_after, after}
+use Rattle.aia_rehearsal.specs.Rehearsed.{Passage, Carried, Rehearsed, moved, on, at_of, at, file_of, names_on, IsFileThere}
+use Rattle.aia_rehearsal.specs.Steps.{identities_in, Puts}
 use Rattle.aia_rehearsal.specs.Stands.{sets_at, Routes, routes_of, SetsStand, RoutesStand, StandsFor}
 use Rattle.aia_rehearsal.proofs.Places.{small_who, file_in_map}
 use Rattle.aia_rehearsal.proofs.SetSteps.{pending_taken, enables_taken, pending_put, enables_put}
@@ -89,6 +82,17 @@ module _ (w : World) (r : Rehearsed) (z : Transit) (whole : IsWhole w) (s : Stan
   word_lists_e : (k v : ℕ) (place : ends.Place) → (with_enable w (at_of q place) k v).flights ≡ w.flights
   word_lists_e k v (File a) = refl
   word_lists_e k v Slot = refl
+
+  -- the sets stay, and are those of a state with the same sets
+  sets_kept : (y : Transit) → y.old_pending ≡ z.old_pending → y.old_enabled ≡ z.old_enabled → y.new_pending ≡ z.new_pending → y.new_enabled ≡ z.new_enabled → y.carried_pending ≡ z.carried_pending → y.carried_enables ≡ z.carried_enables → SetsStand (width w) (olds w) (news w) r.hand y
+  sets_kept y old_pending old_enabled new_pending new_enabled carried_pending carried_enables = record {
+    old_pending = λ i few. ap (λ members. members i) old_pending ∙ s.sets.old_pending i few;
+    old_enabled = λ i few. ap (λ members. members i) old_enabled ∙ s.sets.old_enabled i few;
+    new_pending = λ i few. ap (λ members. members i) new_pending ∙ s.sets.new_pending i few;
+    new_enabled = λ i few. ap (λ members. members i) new_enabled ∙ s.sets.new_enabled i few;
+    carried_pending = λ bit few. ap (λ bits. bits bit) carried_pending ∙ s.sets.carried_pending bit few;
+    carried_enables = λ bit few. ap (λ bits. bits bit) carried_enables ∙ s.sets.carried_enables bit few;
+  }
 
   -- the routes stay, and are those of a state with the same routes
   routes_kept : (u : World) (y : Transit) → routes_of u (moved p) ≡ routes_of w (moved p) → y.entry_written ≡ z.entry_written → y.entry_in_force ≡ z.entry_in_force → y.record_written ≡ z.record_written → y.record_in_force ≡ z.record_in_force
@@ -206,22 +210,15 @@ module _ (w : World) (r : Rehearsed) (z : Transit) (whole : IsWhole w) (s : Stan
       let seen = word0-view w (moved p) Parked whole s.of.who.there (entry_word q (names_on New p)) in
       let slot : mrif_in u.memory (slot_of u.vms (moved p)) ≡ mrif_in w.memory (slot_of w.vms (moved p)) = ap (λ (v : View). v.slot) seen in
       stand_on w u r r.hand z (stepped Word0 z) (record { n = refl; vms = refl; harts = refl; guests = refl }) refl refl
-      (rw (table_kept u refl refl slot p.old, table_kept u refl refl slot p.new) (same_sets_stand (stepped Word0 z) refl))
+      (rw (table_kept u refl refl slot p.old, table_kept u refl refl slot p.new) (sets_kept (stepped Word0 z) refl refl refl refl refl refl))
       (subst (λ x. RoutesStand p x (stepped Word0 z)) (sym (ap routes_in seen)) (record { entry_written = refl; notice = s.routes.notice; entry_in_force = s.routes.entry_in_force; record_written = s.routes.record_written; record_in_force = s.routes.record_in_force })) s
-    where
-      same_sets_stand : (y : Transit) → y ≡ stepped Word0 z → SetsStand (width w) (olds w) (news w) r.hand (stepped Word0 z)
-      same_sets_stand y e = record { old_pending = s.sets.old_pending; old_enabled = s.sets.old_enabled; new_pending = s.sets.new_pending; new_enabled = s.sets.new_enabled; carried_pending = s.sets.carried_pending; carried_enables = s.sets.carried_enables }
-
-  -- the sets are those of every state with the same sets
-  abbrev sets_of : SetsStand (width w) (olds w) (news w) r.hand z
-  sets_of = s.sets
 
   pub write_record : StandsFor (with_map w (moved p) (names_on New p)) r (stepped Map z)
   write_record =
       let u = with_map w (moved p) (names_on New p) in
       let seen = map-view w (moved p) Parked whole s.of.who.there (names_on New p) in
       stand_on w u r r.hand z (stepped Map z) (record { n = refl; vms = refl; harts = refl; guests = refl }) refl refl
-      (rw (table_kept u refl refl refl p.old, table_kept u refl refl refl p.new) (record { old_pending = s.sets.old_pending; old_enabled = s.sets.old_enabled; new_pending = s.sets.new_pending; new_enabled = s.sets.new_enabled; carried_pending = s.sets.carried_pending; carried_enables = s.sets.carried_enables }))
+      (rw (table_kept u refl refl refl p.old, table_kept u refl refl refl p.new) (sets_kept (stepped Map z) refl refl refl refl refl refl))
       (subst (λ x. RoutesStand p x (stepped Map z)) (sym (ap routes_in seen)) (record { entry_written = s.routes.entry_written; notice = s.routes.notice; entry_in_force = s.routes.entry_in_force; record_written = refl; record_in_force = s.routes.record_in_force })) s
 
   pub fence_record : StandsFor (with_stage_fence w (moved p)) r (stepped GFence z)
@@ -229,7 +226,7 @@ module _ (w : World) (r : Rehearsed) (z : Transit) (whole : IsWhole w) (s : Stan
       let u = with_stage_fence w (moved p) in
       let seen = stage_fence-view w (moved p) Parked whole s.of.who.there in
       stand_on w u r r.hand z (stepped GFence z) (record { n = refl; vms = refl; harts = refl; guests = refl }) refl refl
-      (rw (table_kept u refl refl refl p.old, table_kept u refl refl refl p.new) (record { old_pending = s.sets.old_pending; old_enabled = s.sets.old_enabled; new_pending = s.sets.new_pending; new_enabled = s.sets.new_enabled; carried_pending = s.sets.carried_pending; carried_enables = s.sets.carried_enables }))
+      (rw (table_kept u refl refl refl p.old, table_kept u refl refl refl p.new) (sets_kept (stepped GFence z) refl refl refl refl refl refl))
       (subst (λ x. RoutesStand p x (stepped GFence z)) (sym (ap routes_in seen)) (record { entry_written = s.routes.entry_written; notice = s.routes.notice; entry_in_force = s.routes.entry_in_force; record_written = s.routes.record_written; record_in_force = s.routes.record_written })) s
 
   -- the entry is put in force
@@ -254,5 +251,5 @@ module _ (w : World) (r : Rehearsed) (z : Transit) (whole : IsWhole w) (s : Stan
       ap (λ x. decoded x (routes_of w (moved p)).word1) s.routes.entry_written ∙ ap (decoded (entry_word q (names_on z.entry_written p))) s.routes.notice
       ∙ entry_back q p.who.notice (names_on z.entry_written p) small.1 small.2 (named_in_map z.entry_written) in
       stand_on w u r r.hand z y (record { n = refl; vms = refl; harts = refl; guests = refl }) refl refl
-      (rw (table_kept u refl refl refl p.old, table_kept u refl refl refl p.new) (record { old_pending = s.sets.old_pending; old_enabled = s.sets.old_enabled; new_pending = s.sets.new_pending; new_enabled = s.sets.new_enabled; carried_pending = s.sets.carried_pending; carried_enables = s.sets.carried_enables }))
+      (rw (table_kept u refl refl refl p.old, table_kept u refl refl refl p.new) (sets_kept y refl refl refl refl refl refl))
       (subst (λ x. RoutesStand p x y) (sym (ap routes_in seen)) (record { entry_written = s.routes.entry_written; notice = s.routes.notice; entry_in_force = in_force; record_written = s.routes.record_written; record_in_force = s.routes.record_in_force })) s

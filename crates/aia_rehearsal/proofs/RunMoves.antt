@@ -1,50 +1,26 @@
 -- A run of an accepted plan moves all: it is a run on the machine of the proof.
-use Rattle.std.proofs.Common.{◌≡◌, ◌≢◌, ℕ, zero, suc, ◌+◌, ◌/◌, ◌%◌, ◌<◌, Bool, true, false, ◌&&◌, ◌||◌, cond, nat_eq, List, [], ◌∷◌, ◌++◌, Option, Some, None, inl, inr, refl, sym, ap, ◌∙◌, subst}
-use Rattle.std.specs.Prelude.{All, slice_get, is_some, length, take}
+use Rattle.std.proofs.Common.{◌≡◌, ℕ, ◌+◌, ◌/◌, ◌%◌, Bool, true, false, ◌&&◌, ◌||◌, cond, nat_eq, List, [], ◌∷◌, ◌++◌, Option, Some, None, inl, inr, refl, sym, ap, ◌∙◌, subst}
+use Rattle.std.specs.Prelude.{slice_get, is_some, length, take}
 use Rattle.std.specs.List.{list_any}
-use Rattle.std.proofs.lemmas.Bool.{cases_Bool, cases_eq, ne_eqb, cond-true, cond-false}
-use Rattle.aia_word.specs.Sets.{has_bit}
-use Rattle.aia_word.proofs.BitLemmas.{has_bit-zero}
-use Rattle.aia_imsic.specs.Imsic.{ImsicState}
+use Rattle.std.proofs.lemmas.Bool.{cases_eq, ne_eqb}
 use Rattle.aia_regs.specs.declared.address_map.TheConstants.{PAGE}
 use Rattle.aia_home.specs.Vms.{vcpu, is_vcpu}
-use Rattle.aia_places.specs.View.{leads_to, entry_word}
 use Rattle.aia_fabric.specs.declared.flights.Flying.{Flying}
 use Rattle.aia_fabric.specs.World.{World, flight_of}
 use Rattle.aia_fabric.specs.Whole.{IsWhole}
 use Rattle.aia_move.specs.Move.{width}
-use Rattle.aia_plan.specs.Plan.{Plan, IsInside}
-use Rattle.aia_plan.specs.Rule.{failing}
-use Rattle.aia_plan.specs.Safe.{IsStart, IsMoved}
-use Rattle.aia_plan.specs.declared.step.Kind.{Kind}
 use Rattle.aia_plan.specs.declared.step.Step.{Step}
 use Rattle.aia_plan.specs.declared.step.Step.TheVariants as steps
-use Rattle.aia_plan.specs.Transit.{Side, Flight, Transit, Happening, is_identity, with_one, landed, all_landed, one_landed, stepped, happened, all_happened, steps_of}
+use Rattle.aia_plan.specs.Transit.{Side, Flight, Transit, Happening, is_identity, landed, all_landed, one_landed, stepped, happened, all_happened, steps_of}
 use Rattle.aia_plan.specs.Transit.Side.{Old, New}
 use Rattle.aia_plan.specs.Transit.{Happening as happenings}
-use Rattle.aia_plan.proofs.RuleIsSafe.{rule_is_safe}
-use Rattle.aia_rehearsal.specs.Rehearsed.{Passage, Rehearsed, moved, on, at, names_on, empty_hand}
-use Rattle.aia_rehearsal.specs.Stands.{sets_at, routes_of, leads, side_of, asked, onto_flights, flights_in, StandsFor}
-use Rattle.aia_rehearsal.specs.Events.{Event, Happens, KeepsAway, is_for_moved, landing_by, landing_seen, seen}
+use Rattle.aia_rehearsal.specs.Rehearsed.{Passage, Rehearsed, moved, IsOf}
+use Rattle.aia_rehearsal.specs.Stands.{side_of, asked, flights_in, StandsFor}
+use Rattle.aia_rehearsal.specs.Events.{Event, Happens, IsAlone, is_for_moved, landing_by, landing_seen, seen}
 use Rattle.aia_rehearsal.specs.Events.Event.{Steps, DeviceStores, PeerStores, DeviceSends, StoreLands, EntryRead}
-use Rattle.aia_rehearsal.specs.Runs.{Runs, steps_in, lands_for, asks, asked_in, LeadsTo, NoneLeads, IsBegun, IsOver}
-use Rattle.aia_regs.specs.declared.file_registers.FileReg.{FileReg}
-use Rattle.aia_regs.specs.declared.file_registers.FileReg.TheVariants.{Delivery, Threshold}
-use Rattle.aia_entry.specs.declared.table.Route.{Route}
-use Rattle.aia_entry.specs.declared.table.Route.TheVariants.{Other, Fault, To}
-use Rattle.aia_entry.specs.Tables.{table_of, route_of}
-use Rattle.aia_fabric.specs.declared.at.At.{At}
-use Rattle.aia_fabric.specs.declared.at.At.TheVariants as ats
-use Rattle.aia_fabric.specs.World.{stage_of}
-use Rattle.aia_fabric.specs.Flights.{Sends}
-use Rattle.aia_fabric.specs.Changes.{with_pending, with_enable}
-use Rattle.aia_fabric.proofs.FrameLemmas.{entry_rest, reaches_rest, relays_rest}
-use Rattle.aia_fabric.proofs.FlightLemmas.{all_landed_rest}
-use Rattle.aia_move.specs.Move.{PostsIf}
-use Rattle.aia_rehearsal.specs.declared.place.Place as ends
-use Rattle.aia_rehearsal.specs.declared.place.Place.TheVariants.{File, Slot}
-use Rattle.aia_rehearsal.specs.Steps.{Puts, Makes}
-use Rattle.aia_rehearsal.proofs.SameMachine.{step_same}
+use Rattle.aia_rehearsal.specs.Runs.{Runs, steps_in, lands_for, asks, asked_in}
+use Rattle.aia_rehearsal.proofs.SameMachine.{event_same}
+use Rattle.aia_rehearsal.proofs.Alone.{alone_stays}
 use Rattle.aia_rehearsal.proofs.EventStands.{event_stands}
 use Rattle.aia_rehearsal.proofs.FlightSteps.{removed_one, place_among}
 
@@ -52,16 +28,29 @@ use Rattle.aia_rehearsal.proofs.FlightSteps.{removed_one, place_among}
 
 abbrev pub all_seen : (events : List Event) (w : World) (r : Rehearsed) (u : World) (t : Rehearsed) → Runs events w r u t → List Happening
 all_seen [] w r u t run = []
-all_seen (event ∷ later) w r u t (x, y, whole, away, happens, rest) = seen event w r.passage ++ all_seen later x y u t rest
+all_seen (event ∷ later) w r u t (x, y, whole, happens, rest) = seen event w r.passage ++ all_seen later x y u t rest
 
 all_in_turn : (first later : List Happening) (z : Transit) → all_happened (first ++ later) z ≡ all_happened later (all_happened first z)
 all_in_turn [] later z = refl
 all_in_turn (x ∷ first) later z = all_in_turn first later (happened x z)
 
-pub run_stands : (events : List Event) (w : World) (r : Rehearsed) (u : World) (t : Rehearsed) (run : Runs events w r u t) (z : Transit) → StandsFor w r z → StandsFor u t (all_happened (all_seen events w r u t run) z)
-run_stands [] w r u t (world, same) z s = subst (λ (x : World). StandsFor x t z) (sym world) (subst (λ (x : Rehearsed). StandsFor w x z) (sym same) s)
-run_stands (event ∷ later) w r u t (x, y, whole, away, happens, rest) z s =
-    subst (λ a. StandsFor u t a) (sym (all_in_turn (seen event w r.passage) (all_seen later x y u t rest) z)) (run_stands later x y u t rest (all_happened (seen event w r.passage) z) (event_stands w x r y event whole happens away z s))
+event_passage : (event : Event) (w : World) (r : Rehearsed) (u : World) (t : Rehearsed) → Happens event w r u t → t.passage ≡ r.passage
+event_passage (Steps step) w r u t happens = ap (λ (x : Rehearsed). x.passage) happens.2
+event_passage (DeviceStores vm addr value) w r u t happens = ap (λ (x : Rehearsed). x.passage) happens.2
+event_passage (PeerStores vm to value) w r u t happens = ap (λ (x : Rehearsed). x.passage) happens.2
+event_passage (DeviceSends vm addr value) w r u t happens = ap (λ (x : Rehearsed). x.passage) happens.2
+event_passage (StoreLands vm k) w r u t happens = ap (λ (x : Rehearsed). x.passage) happens.2
+event_passage (EntryRead vm file) w r u t happens = ap (λ (x : Rehearsed). x.passage) happens.2
+
+-- both places are its own still
+still_alone : (event : Event) (w u : World) (r t : Rehearsed) → IsWhole w → Happens event w r u t → IsAlone w r.passage → IsOf w r.passage → IsAlone u t.passage
+still_alone event w u r t whole happens alone of = subst (IsAlone u) (sym (event_passage event w r u t happens)) (alone_stays event w u r t whole of happens alone)
+
+pub run_stands : (events : List Event) (w : World) (r : Rehearsed) (u : World) (t : Rehearsed) (run : Runs events w r u t) (z : Transit) → IsAlone w r.passage → StandsFor w r z → StandsFor u t (all_happened (all_seen events w r u t run) z)
+run_stands [] w r u t (world, same) z alone s = subst (λ (x : World). StandsFor x t z) (sym world) (subst (λ (x : Rehearsed). StandsFor w x z) (sym same) s)
+run_stands (event ∷ later) w r u t (x, y, whole, happens, rest) z alone s =
+    subst (λ a. StandsFor u t a) (sym (all_in_turn (seen event w r.passage) (all_seen later x y u t rest) z))
+    (run_stands later x y u t rest (all_happened (seen event w r.passage) z) (still_alone event w x r y whole happens alone s.of) (event_stands w x r y event whole alone happens z s))
 
 -- ---- its steps are those of the plan
 
@@ -80,26 +69,18 @@ no_landing_step true w p k (Some store) l = by_side (side_of w.imsic p store.ent
 
 pub run_steps : (events : List Event) (w : World) (r : Rehearsed) (u : World) (t : Rehearsed) (run : Runs events w r u t) → steps_of (all_seen events w r u t run) ≡ steps_in events
 run_steps [] w r u t run = refl
-run_steps (Steps step ∷ later) w r u t (x, y, whole, away, happens, rest) = ap (λ l. step ∷ l) (run_steps later x y u t rest)
-run_steps (DeviceStores vm addr value ∷ later) w r u t (x, y, whole, away, happens, rest) = no_steps (is_for_moved w r.passage vm addr) (happenings.Stores (asked (addr % PAGE) value)) (all_seen later x y u t rest) refl refl ∙ run_steps later x y u t rest
-run_steps (PeerStores vm to value ∷ later) w r u t (x, y, whole, away, happens, rest) = no_steps (is_vcpu (vcpu vm to) (moved r.passage)) (happenings.PeerStores (asked 0 value)) (all_seen later x y u t rest) refl refl ∙ run_steps later x y u t rest
-run_steps (DeviceSends vm addr value ∷ later) w r u t (x, y, whole, away, happens, rest) = no_steps (is_for_moved w r.passage vm addr) (happenings.Sends (asked (addr % PAGE) value)) (all_seen later x y u t rest) refl refl ∙ run_steps later x y u t rest
-run_steps (StoreLands vm k ∷ later) w r u t (x, y, whole, away, happens, rest) = no_landing_step (nat_eq vm r.passage.who.vm) w r.passage k (slice_get (flight_of w vm) k) (all_seen later x y u t rest) ∙ run_steps later x y u t rest
-run_steps (EntryRead vm file ∷ later) w r u t (x, y, whole, away, happens, rest) = no_steps (is_vcpu (vcpu vm file) (moved r.passage)) happenings.Refetches (all_seen later x y u t rest) refl refl ∙ run_steps later x y u t rest
+run_steps (Steps step ∷ later) w r u t (x, y, whole, happens, rest) = ap (λ l. step ∷ l) (run_steps later x y u t rest)
+run_steps (DeviceStores vm addr value ∷ later) w r u t (x, y, whole, happens, rest) = no_steps (is_for_moved w r.passage vm addr) (happenings.Stores (asked (addr % PAGE) value)) (all_seen later x y u t rest) refl refl ∙ run_steps later x y u t rest
+run_steps (PeerStores vm to value ∷ later) w r u t (x, y, whole, happens, rest) = no_steps (is_vcpu (vcpu vm to) (moved r.passage)) (happenings.PeerStores (asked 0 value)) (all_seen later x y u t rest) refl refl ∙ run_steps later x y u t rest
+run_steps (DeviceSends vm addr value ∷ later) w r u t (x, y, whole, happens, rest) = no_steps (is_for_moved w r.passage vm addr) (happenings.Sends (asked (addr % PAGE) value)) (all_seen later x y u t rest) refl refl ∙ run_steps later x y u t rest
+run_steps (StoreLands vm k ∷ later) w r u t (x, y, whole, happens, rest) = no_landing_step (nat_eq vm r.passage.who.vm) w r.passage k (slice_get (flight_of w vm) k) (all_seen later x y u t rest) ∙ run_steps later x y u t rest
+run_steps (EntryRead vm file ∷ later) w r u t (x, y, whole, happens, rest) = no_steps (is_vcpu (vcpu vm file) (moved r.passage)) happenings.Refetches (all_seen later x y u t rest) refl refl ∙ run_steps later x y u t rest
 
 -- ---- the passage stays
 
-event_passage : (event : Event) (w : World) (r : Rehearsed) (u : World) (t : Rehearsed) → Happens event w r u t → t.passage ≡ r.passage
-event_passage (Steps step) w r u t happens = ap (λ (x : Rehearsed). x.passage) happens.2
-event_passage (DeviceStores vm addr value) w r u t happens = ap (λ (x : Rehearsed). x.passage) happens.2
-event_passage (PeerStores vm to value) w r u t happens = ap (λ (x : Rehearsed). x.passage) happens.2
-event_passage (DeviceSends vm addr value) w r u t happens = ap (λ (x : Rehearsed). x.passage) happens.2
-event_passage (StoreLands vm k) w r u t happens = ap (λ (x : Rehearsed). x.passage) happens.2
-event_passage (EntryRead vm file) w r u t happens = ap (λ (x : Rehearsed). x.passage) happens.2
-
 pub run_passage : (events : List Event) (w : World) (r : Rehearsed) (u : World) (t : Rehearsed) → Runs events w r u t → t.passage ≡ r.passage
 run_passage [] w r u t (world, same) = ap (λ (x : Rehearsed). x.passage) same
-run_passage (event ∷ later) w r u t (x, y, whole, away, happens, rest) = run_passage later x y u t rest ∙ event_passage event w r x y happens
+run_passage (event ∷ later) w r u t (x, y, whole, happens, rest) = run_passage later x y u t rest ∙ event_passage event w r x y happens
 
 -- ---- what is due
 
@@ -177,30 +158,17 @@ event_due (StoreLands vm k) w r z i s = elim (cases_eq vm r.passage.who.vm) [
 ]
 event_due (EntryRead vm file) w r z i s = none_due (is_vcpu (vcpu vm file) (moved r.passage)) i happenings.Refetches z refl
 
-pub run_due : (events : List Event) (w : World) (r : Rehearsed) (u : World) (t : Rehearsed) (run : Runs events w r u t) (z : Transit) (i : ℕ) → StandsFor w r z
+pub run_due : (events : List Event) (w : World) (r : Rehearsed) (u : World) (t : Rehearsed) (run : Runs events w r u t) (z : Transit) (i : ℕ) → IsAlone w r.passage → StandsFor w r z
     → (all_happened (all_seen events w r u t run) z).due i ≡ (z.due i || (is_identity i && asked_in events w r u t run i))
-run_due [] w r u t run z i s = or_false (z.due i) (is_identity i)
-run_due (event ∷ later) w r u t (x, y, whole, away, happens, rest) z i s =
+run_due [] w r u t run z i alone s = or_false (z.due i) (is_identity i)
+run_due (event ∷ later) w r u t (x, y, whole, happens, rest) z i alone s =
     ap (λ (a : Transit). a.due i) (all_in_turn (seen event w r.passage) (all_seen later x y u t rest) z)
-    ∙ run_due later x y u t rest (all_happened (seen event w r.passage) z) i (event_stands w x r y event whole happens away z s)
+    ∙ run_due later x y u t rest (all_happened (seen event w r.passage) z) i (still_alone event w x r y whole happens alone s.of) (event_stands w x r y event whole alone happens z s)
     ∙ ap (λ b. b || (is_identity i && asked_in later x y u t rest i)) (event_due event w r z i s)
     ∙ or_joined (z.due i) (is_identity i) (asks event w r.passage i) (asked_in later x y u t rest i)
 
 -- ---- the machine stays
 
-sends_n : (route : Route) (w u : World) (vm offset value : ℕ) → Sends route w u vm offset value → u.n ≡ w.n
-sends_n (To entry) w u vm offset value e = ap (λ (x : World). x.n) e
-sends_n Other w u vm offset value e = ap (λ (x : World). x.n) e
-sends_n (Fault entry) w u vm offset value e = ap (λ (x : World). x.n) e
-
-event_n : (event : Event) (w : World) (r : Rehearsed) (u : World) (t : Rehearsed) → Happens event w r u t → u.n ≡ w.n
-event_n (Steps step) w r u t (inside, makes, e) = (step_same step w u r makes).n
-event_n (DeviceStores vm addr value) w r u t (low, reaches, e) = ap (λ (x : World). x.n) (reaches_rest (route_of (table_of w.tables vm) addr) w u (addr % PAGE) value reaches)
-event_n (PeerStores vm to value) w r u t (there, relays, e) = ap (λ (x : World). x.n) (relays_rest (stage_of w (vcpu vm to)).in_force w u (vcpu vm to) value relays)
-event_n (DeviceSends vm addr value) w r u t (low, sends, e) = sends_n (route_of (table_of w.tables vm) addr) w u vm (addr % PAGE) value sends
-event_n (StoreLands vm k) w r u t (low, l, e) = ap (λ (x : World). x.n) l.taken ∙ ap (λ (x : World). x.n) (entry_rest l.store.entry w l.stored l.store.offset l.store.value l.reaches)
-event_n (EntryRead vm file) w r u t (there, is, e) = ap (λ (x : World). x.n) is
-
 pub run_width : (events : List Event) (w : World) (r : Rehearsed) (u : World) (t : Rehearsed) → Runs events w r u t → width u ≡ width w
 run_width [] w r u t (world, same) = ap width world
-run_width (event ∷ later) w r u t (x, y, whole, away, happens, rest) = run_width later x y u t rest ∙ ap (λ n. (n + 1) / 64) (event_n event w r x y happens)
+run_width (event ∷ later) w r u t (x, y, whole, happens, rest) = run_width later x y u t rest ∙ ap (λ n. (n + 1) / 64) (event_same event w r x y happens).n

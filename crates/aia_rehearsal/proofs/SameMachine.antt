@@ -1,5 +1,5 @@
 -- A step that is rehearsed leaves the machine as it is.
-use Rattle.std.proofs.Common.{◌≡◌, ℕ, ◌+◌, Bool, true, false, length, refl, sym, ap, ◌∙◌, subst}
+use Rattle.std.proofs.Common.{◌≡◌, ℕ, ◌+◌, Bool, true, false, length, refl, sym, ◌∙◌, subst}
 use Rattle.aia_regs.specs.declared.file_registers.FileReg.{FileReg}
 use Rattle.aia_regs.specs.declared.file_registers.FileReg.TheVariants.{Delivery, Threshold}
 use Rattle.aia_fabric.specs.declared.at.At.{At}
@@ -7,9 +7,18 @@ use Rattle.aia_fabric.specs.declared.at.At.TheVariants as ats
 use Rattle.aia_fabric.specs.World.{World, OnlyStores, flight_of}
 use Rattle.aia_fabric.specs.Changes.{with_pending, with_enable}
 use Rattle.aia_fabric.proofs.FlightLemmas.{all_landed_rest}
-use Rattle.aia_fabric.proofs.FrameLemmas.{posts_rest}
+use Rattle.aia_fabric.proofs.FrameLemmas.{posts_rest, entry_rest, reaches_rest, relays_rest}
+use Rattle.std.proofs.Common.{◌%◌}
+use Rattle.aia_regs.specs.declared.address_map.TheConstants.{PAGE}
+use Rattle.aia_entry.specs.declared.table.Route.{Route}
+use Rattle.aia_entry.specs.declared.table.Route.TheVariants.{Other, Fault, To}
+use Rattle.aia_entry.specs.Tables.{table_of, route_of}
+use Rattle.aia_home.specs.Vms.{vcpu}
+use Rattle.aia_fabric.specs.World.{stage_of}
+use Rattle.aia_fabric.specs.Flights.{Sends}
+use Rattle.aia_rehearsal.specs.Events.{Event, Happens}
+use Rattle.aia_rehearsal.specs.Events.Event.{Steps, DeviceStores, PeerStores, DeviceSends, StoreLands, EntryRead}
 use Rattle.aia_imsic.specs.declared.spot.Spot.TheVariants.{HostFile}
-use Rattle.aia_imsic.specs.Imsic.{file_at, with_file}
 use Rattle.aia_move.specs.Move.{PostsIf}
 use Rattle.aia_move.specs.Touches.{SameMachine}
 use Rattle.aia_plan.specs.declared.step.Step.{Step}
@@ -68,3 +77,20 @@ step_of step w u r t of makes e = subst (λ (x : Rehearsed). IsOf u x.passage) (
 -- one after the other
 pub same_again : (w u x : World) → SameMachine w u → SameMachine u x → SameMachine w x
 same_again w u x first second = record { n = second.n ∙ first.n; vms = second.vms ∙ first.vms; harts = second.harts ∙ first.harts; guests = second.guests ∙ first.guests }
+
+-- ---- so does all that happens
+
+sends_same : (route : Route) (w u : World) (vm offset value : ℕ) → Sends route w u vm offset value → SameMachine w u
+sends_same (To entry) w u vm offset value e = same_by w u _ e (record { n = refl; vms = refl; harts = refl; guests = refl })
+sends_same Other w u vm offset value e = same_by w u w e (same_machine w)
+sends_same (Fault entry) w u vm offset value e = same_by w u w e (same_machine w)
+
+pub event_same : (event : Event) (w : World) (r : Rehearsed) (u : World) (t : Rehearsed) → Happens event w r u t → SameMachine w u
+event_same (Steps step) w r u t (inside, makes, e) = step_same step w u r makes
+event_same (DeviceStores vm addr value) w r u t (low, reaches, e) = stored_same w u (reaches_rest (route_of (table_of w.tables vm) addr) w u (addr % PAGE) value reaches)
+event_same (PeerStores vm to value) w r u t (there, relays, e) = stored_same w u (relays_rest (stage_of w (vcpu vm to)).in_force w u (vcpu vm to) value relays)
+event_same (DeviceSends vm addr value) w r u t (low, sends, e) = sends_same (route_of (table_of w.tables vm) addr) w u vm (addr % PAGE) value sends
+event_same (StoreLands vm k) w r u t (low, l, e) =
+    let same = stored_same w l.stored (entry_rest l.store.entry w l.stored l.store.offset l.store.value l.reaches) in
+    same_by w u _ l.taken (record { n = same.n; vms = same.vms; harts = same.harts; guests = same.guests })
+event_same (EntryRead vm file) w r u t (there, is, e) = same_by w u _ is (record { n = refl; vms = refl; harts = refl; guests = refl })

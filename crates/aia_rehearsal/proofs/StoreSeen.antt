@@ -1,29 +1,26 @@
 -- What a store makes of the places of a rehearsal: it adds its identity where it leads, and changes
 -- nothing else of what the rehearsal shows.
-use Rattle.std.proofs.Common.{◌≡◌, ◌≢◌, ℕ, ◌+◌, ◌*◌, ◌/◌, ◌<◌, ◌≤◌, Bool, true, false, ◌&&◌, ◌||◌, cond, nat_eq, inl, inr, List, get_or, Option, Some, None, refl, sym, ap, ◌∙◌, subst, arith}
+use Rattle.std.proofs.Common.{◌≡◌, ◌≢◌, ℕ, ◌+◌, ◌*◌, ◌/◌, ◌<◌, ◌≤◌, Bool, true, false, ◌&&◌, ◌||◌, cond, nat_eq, inl, inr, get_or, Option, Some, None, refl, sym, ap, ◌∙◌, subst, arith}
 use Rattle.std.specs.Prelude.{unwrap_or}
 use Rattle.std.proofs.lemmas.Bool.{cases_Bool, eqb-true, eq-eqb}
 use Rattle.std.proofs.lemmas.Bool.Decides.{nat_tests}
 use Rattle.std.specs.Int.{is_in_range}
-use Rattle.aia_regs.specs.declared.limits.TheConstants.{VCPUS, IDENTITIES, SLOTS}
+use Rattle.aia_regs.specs.declared.limits.TheConstants.{VCPUS, IDENTITIES}
 use Rattle.aia_regs.specs.Word.{names, settle}
 use Rattle.aia_regs.specs.Word.Word.{Ask, Nothing}
 use Rattle.aia_regs.specs.Request.{number_written, implemented, requested, request_said}
-use Rattle.aia_file.specs.InterruptFile.{InterruptFile, SameFile, landed, is_greatest_identity}
-use Rattle.aia_file.specs.FileState.{FileState, shown}
+use Rattle.aia_file.specs.InterruptFile.{is_greatest_identity}
+use Rattle.aia_file.specs.FileState.{shown}
 use Rattle.aia_imsic.specs.declared.spot.Spot.{Spot}
 use Rattle.aia_imsic.specs.declared.spot.Spot.TheVariants.{MachineFile, HostFile, GuestFile, Nowhere}
-use Rattle.aia_imsic.specs.Imsic.{ImsicState, IsThere, file_at, with_file}
+use Rattle.aia_imsic.specs.Imsic.{ImsicState, IsThere, file_at}
 use Rattle.aia_imsic.proofs.PlaceLemmas.{kept_elsewhere}
 use Rattle.aia_mrif.specs.declared.slot.Stored.{Stored}
 use Rattle.aia_mrif.specs.declared.slot.Stored.TheVariants.{Discarded, Quiet, Notice}
-use Rattle.aia_mrif.specs.Mrif.{Mrif, mrif_in, stored, after_store}
-use Rattle.aia_mrif.specs.Words.{words_after_store}
+use Rattle.aia_mrif.specs.Mrif.{mrif_in, stored}
 use Rattle.aia_entry.specs.Tables.{table_of, entry_in_force}
 use Rattle.aia_home.specs.declared.place.Place.{Place}
-use Rattle.aia_home.specs.Home.{is_place}
 use Rattle.aia_home.specs.Home.Home.{Parked}
-use Rattle.aia_home.specs.Vms.{Vcpu}
 use Rattle.aia_home.proofs.HomeLemmas.{same_place}
 use Rattle.aia_places.specs.View.{TwoSets, of_file, of_slot}
 use Rattle.aia_fabric.specs.World.{World, OnlyStores, stage_of}
@@ -41,7 +38,7 @@ use Rattle.aia_plan.specs.Transit.{is_identity, with_one}
 use Rattle.aia_rehearsal.specs.declared.place.Place as ends
 use Rattle.aia_rehearsal.specs.declared.place.Place.TheVariants.{File, Slot}
 use Rattle.aia_rehearsal.specs.Rehearsed.{Passage, moved, at_of, IsFileThere}
-use Rattle.aia_rehearsal.specs.Stands.{sets_at, Routes, routes_of, is_file_at, asked}
+use Rattle.aia_rehearsal.specs.Stands.{sets_at, routes_of, is_file_at, asked}
 
 -- ---- the identity for which a store asks
 

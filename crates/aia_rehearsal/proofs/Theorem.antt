@@ -1,6 +1,6 @@
 -- A move that begins stands for a start of the machine of the proof, and one that is moved there
 -- has ended well.
-use Rattle.std.proofs.Common.{◌≡◌, ◌≢◌, ℕ, ◌+◌, ◌/◌, ◌<◌, Bool, true, false, ◌&&◌, ◌||◌, cond, List, [], ◌∷◌, Option, Some, None, inl, inr, refl, sym, ap, ◌∙◌, subst}
+use Rattle.std.proofs.Common.{◌≡◌, ◌≢◌, ℕ, ◌/◌, ◌<◌, Bool, true, false, ◌&&◌, ◌||◌, List, [], ◌∷◌, Option, Some, None, inl, inr, refl, sym, ap, ◌∙◌, subst}
 use Rattle.std.specs.List.{All, AllByRecursion}
 use Rattle.aia_plan.proofs.Throughout.{by_recursion, by_place}
 use Rattle.aia_rehearsal.specs.declared.place.Place as ends
@@ -11,18 +11,17 @@ use Rattle.aia_imsic.specs.Imsic.{ImsicState}
 use Rattle.aia_places.specs.View.{leads_to, entry_word}
 use Rattle.aia_fabric.specs.declared.flights.Flying.{Flying}
 use Rattle.aia_fabric.specs.World.{World, flight_of}
-use Rattle.aia_fabric.specs.Whole.{IsWhole}
 use Rattle.aia_move.specs.Move.{width}
-use Rattle.aia_plan.specs.Plan.{Plan, IsInside}
+use Rattle.aia_plan.specs.Plan.{IsInside}
 use Rattle.aia_plan.specs.Rule.{failing}
-use Rattle.aia_plan.specs.Safe.{AllLeadTo, IsStart, IsMoved}
+use Rattle.aia_plan.specs.Safe.{IsStart, IsMoved}
 use Rattle.aia_plan.specs.declared.step.Kind.{Kind}
 use Rattle.aia_plan.specs.Transit.{Side, Flight, Transit, is_identity, all_happened}
 use Rattle.aia_plan.specs.Transit.Side.{Old, New}
 use Rattle.aia_plan.proofs.RuleIsSafe.{rule_is_safe}
-use Rattle.aia_rehearsal.specs.Rehearsed.{Passage, Carried, Rehearsed, moved, on, at, names_on, empty_hand, AreTwo, IsOf}
-use Rattle.aia_rehearsal.specs.Stands.{sets_at, routes_of, leads, side_of, asked, onto_flights, flights_in, StandsFor}
-use Rattle.aia_rehearsal.specs.Events.{Event}
+use Rattle.aia_rehearsal.specs.Rehearsed.{Passage, Carried, Rehearsed, at, names_on, empty_hand, AreTwo, IsOf}
+use Rattle.aia_rehearsal.specs.Stands.{sets_at, leads, side_of, asked, onto_flights, flights_in, StandsFor}
+use Rattle.aia_rehearsal.specs.Events.{Event, IsAlone}
 use Rattle.aia_rehearsal.specs.Runs.{Runs, steps_in, asked_in, LeadsTo, NoneLeads, state_at, IsBegun, IsOver}
 use Rattle.aia_rehearsal.proofs.RunMoves.{all_seen, run_stands, run_steps, run_passage, run_due, run_width}
 
@@ -109,10 +108,10 @@ accepted_moves kind w u r t events run b inside accepted =
     let start = state_at Old w r in
     let z = all_happened (all_seen events w r u t run) start in
     let safe = rule_is_safe kind (width w) (steps_in events) inside accepted start (all_seen events w r u t run) (begun_starts w r b) (run_steps events w r u t run) in
-    let s = run_stands events w r u t run start (begun_stands w r b) in
+    let s = run_stands events w r u t run start b.alone (begun_stands w r b) in
     let hand = t.hand in
     let same : t ≡ record r { hand = t.hand } = (let p = run_passage events w r u t run in λ k. record { passage = p k; hand = t.hand }) in
-    over z safe (run_width events w r u t run) (λ i. run_due events w r u t run start i (begun_stands w r b)) (subst (λ (x : Rehearsed). StandsFor u x z) same s)
+    over z safe (run_width events w r u t run) (λ i. run_due events w r u t run start i b.alone (begun_stands w r b)) (subst (λ (x : Rehearsed). StandsFor u x z) same s)
   where
     over : (z : Transit) → IsMoved (width w) (state_at Old w r) z → width u ≡ width w → ((i : ℕ) → z.due i ≡ ((state_at Old w r).due i || (is_identity i && asked_in events w r u t run i))) → StandsFor u (record r { hand = t.hand }) z
         → IsOver w r (asked_in events w r u t run) u
@@ -142,9 +141,10 @@ accepted_moves kind w u r t events run b inside accepted =
 
 -- where one has ended the next may begin: from its new place to one that is empty
 pub next_begins : (w u : World) (r : Rehearsed) (asked_for : ℕ → Bool) (place : ends.Place) → IsOver w r asked_for u → (t : Rehearsed) → t ≡ record { passage = record r.passage { old = r.passage.new; new = place }; hand = empty_hand }
-    → IsOf u t.passage → AreTwo r.passage.new place → ((vm : ℕ) → NoneLeads u t.passage New vm) → ((i : ℕ) → i / 64 < width u → (sets_at u (at New t.passage)).pending i ≡ false) → ((i : ℕ) → i / 64 < width u → (sets_at u (at New t.passage)).enabled i ≡ false) → IsBegun u t
-next_begins w u r asked_for place o t e of two none pending enabled = record {
+    → IsOf u t.passage → IsAlone u t.passage → AreTwo r.passage.new place → ((vm : ℕ) → NoneLeads u t.passage New vm) → ((i : ℕ) → i / 64 < width u → (sets_at u (at New t.passage)).pending i ≡ false) → ((i : ℕ) → i / 64 < width u → (sets_at u (at New t.passage)).enabled i ≡ false) → IsBegun u t
+next_begins w u r asked_for place o t e of alone two none pending enabled = record {
   of = of;
+  alone = alone;
   two = subst (λ (x : Rehearsed). AreTwo x.passage.old x.passage.new) (sym e) two;
   routes = subst (λ (x : Rehearsed). LeadsTo u x.passage Old) (sym e) (record { word0 = o.routes.word0; word1 = o.routes.word1; in_force = o.routes.in_force; record_written = o.routes.record_written; record_in_force = o.routes.record_in_force });
   flights = none;

@@ -1,13 +1,12 @@
 -- What may happen to a rehearsal and its fabric: a step, or what others do between two steps; and
 -- what it is on the machine on which plans were proved safe.
-use Rattle.std.specs.Prelude.{◌≡◌, ◌≢◌, ℕ, ◌%◌, ◌<◌, ⊤, Bool, true, false, ◌&&◌, nat_eq, if◌then◌else◌, List, [], ◌∷◌, length, take, slice_get, Option, Some, None}
+use Rattle.std.specs.Prelude.{◌≡◌, ◌≢◌, ℕ, ◌%◌, ◌<◌, Bool, true, ◌&&◌, nat_eq, if◌then◌else◌, List, [], ◌∷◌, length, take, slice_get, Option, Some, None}
 use Rattle.aia_regs.specs.declared.address_map.TheConstants.{PAGE}
-use Rattle.aia_entry.specs.declared.table.Route.{Route}
-use Rattle.aia_entry.specs.declared.table.Route.TheVariants.{To}
 use Rattle.aia_entry.specs.Tables.{table_of, route_of}
 use Rattle.aia_entry.specs.Translation.{is_msi_address, file_number}
 use Rattle.aia_home.specs.declared.place.Place.{Place}
-use Rattle.aia_home.specs.Vms.{vcpu, is_vcpu, is_vcpu_in}
+use Rattle.aia_entry.specs.Format.{decoded}
+use Rattle.aia_home.specs.Vms.{Vcpu, vcpu, is_vcpu, is_vcpu_in}
 use Rattle.aia_fabric.specs.declared.flights.Flying.{Flying}
 use Rattle.aia_fabric.specs.World.{World, flight_of, stage_of}
 use Rattle.aia_fabric.specs.Stores.{Reaches, Relays}
@@ -20,7 +19,7 @@ use Rattle.aia_plan.specs.Transit.{Side, Happening}
 use Rattle.aia_plan.specs.Transit.{Happening as happenings}
 use Rattle.aia_rehearsal.specs.Rehearsed.{Passage, Rehearsed, moved, names_on}
 use Rattle.aia_rehearsal.specs.Steps.{Makes, after}
-use Rattle.aia_rehearsal.specs.Stands.{asked, side_of, flights_in}
+use Rattle.aia_rehearsal.specs.Stands.{routes_of, asked, side_of, flights_in}
 
 -- The rehearsal makes a step; a device of a VM stores a value at an address; a virtual hart of a VM
 -- stores one for another; a device of a VM sends a store; the K-th store in flight of a VM lands,
@@ -57,23 +56,20 @@ is_for_moved w p vm addr =
     nat_eq vm p.who.vm && (is_msi_address (table_of w.tables vm).mask addr
     && nat_eq (file_number (table_of w.tables vm).mask addr) p.who.vcpu)
 
--- A route leads to neither place; a record names neither.
-abbrev pub LeadsElsewhere : World → Passage → Route → Type 0
-LeadsElsewhere w p (To entry) = side_of w.imsic p entry ≡ None
-LeadsElsewhere w p route = ⊤
+-- ---- what is not its own
 
+-- A record names neither place.
 abbrev pub NamesElsewhere : Passage → Option Place → Type 0
 NamesElsewhere p named = (side : Side) (a : Place) → names_on side p ≡ Some a → named ≢ Some a
 
--- What is for another virtual hart does not come to its places: by then they are its own.
-abbrev pub KeepsAway : Event → World → Passage → Type 0
-KeepsAway (DeviceStores vm addr value) w p = is_for_moved w p vm addr ≡ false
-    → LeadsElsewhere w p (route_of (table_of w.tables vm) addr)
-KeepsAway (PeerStores vm to value) w p = is_vcpu (vcpu vm to) (moved p) ≡ false
-    → NamesElsewhere p (stage_of w (vcpu vm to)).in_force
-KeepsAway (DeviceSends vm addr value) w p = is_for_moved w p vm addr ≡ false
-    → LeadsElsewhere w p (route_of (table_of w.tables vm) addr)
-KeepsAway event w p = ⊤
+-- Both places are its own: no entry of another virtual hart, in force or as it is written, leads to
+-- one of them, and no record of another names one.
+pub record IsAlone (w : World) (p : Passage) : Type 0 where
+  pub in_force : (g : Vcpu) → g ≢ moved p → side_of w.imsic p (routes_of w g).in_force ≡ None
+  pub written : (g : Vcpu) → is_vcpu_in w.vms g ≡ true → g ≢ moved p
+      → side_of w.imsic p (decoded (routes_of w g).word0 (routes_of w g).word1) ≡ None
+  pub records : (g : Vcpu) → is_vcpu_in w.vms g ≡ true → g ≢ moved p
+      → NamesElsewhere p (routes_of w g).stage.in_force
 
 -- ---- what it is on the machine of the proof
 

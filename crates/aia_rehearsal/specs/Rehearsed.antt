@@ -41,6 +41,13 @@ abbrev pub empty_hand : Carried
 empty_hand =
     record { pending = 0; enables = 0; delivery = 0; threshold = 0; seen = false }
 
+-- One that begins: nothing is carried.
+abbrev pub from_to : Who → ends.Place → ends.Place → Rehearsed
+from_to who old new = record {
+  passage = record { who = who; old = old; new = new };
+  hand = empty_hand;
+}
+
 -- ---- its places
 
 -- The virtual hart that is moved.

@@ -1,6 +1,6 @@
 -- A plan is rehearsed, and others do what they like between its steps: how that may begin, and what
 -- an accepted plan comes to.
-use Rattle.std.specs.Prelude.{◌≡◌, ◌≢◌, ℕ, ◌+◌, ◌/◌, ◌%◌, ◌<◌, Bool, false, ◌&&◌, ◌||◌, nat_eq, is_some, List, [], ◌∷◌, All, slice_get, Option, Some, None}
+use Rattle.std.specs.Prelude.{◌≡◌, ◌≢◌, ℕ, ◌/◌, ◌%◌, ◌<◌, Bool, false, ◌&&◌, ◌||◌, nat_eq, is_some, List, [], ◌∷◌, All, slice_get, Option, Some, None}
 use Rattle.std.specs.List.{list_any}
 use Rattle.aia_word.specs.Sets.{has_bit}
 use Rattle.aia_regs.specs.declared.address_map.TheConstants.{PAGE}
@@ -16,7 +16,7 @@ use Rattle.aia_plan.specs.Transit.{Side, Flight, Transit, is_identity}
 use Rattle.aia_plan.specs.Transit.Side.{Old, New}
 use Rattle.aia_rehearsal.specs.Rehearsed.{Passage, Rehearsed, moved, on, at, names_on, AreTwo, IsOf, empty_hand}
 use Rattle.aia_rehearsal.specs.Stands.{sets_at, routes_of, leads, side_of, asked, flights_in}
-use Rattle.aia_rehearsal.specs.Events.{Event, Happens, KeepsAway, is_for_moved}
+use Rattle.aia_rehearsal.specs.Events.{Event, Happens, IsAlone, is_for_moved}
 use Rattle.aia_rehearsal.specs.Events.Event.{Steps, DeviceStores, PeerStores, StoreLands}
 
 -- ---- a run
@@ -25,7 +25,7 @@ use Rattle.aia_rehearsal.specs.Events.Event.{Steps, DeviceStores, PeerStores, St
 abbrev pub Runs : List Event → World → Rehearsed → World → Rehearsed → Type 0
 Runs [] w r u t = (u ≡ w) × (t ≡ r)
 Runs (event ∷ later) w r u t = (x : World) × (y : Rehearsed) × IsWhole w
-    × KeepsAway event w r.passage × Happens event w r x y × Runs later x y u t
+    × Happens event w r x y × Runs later x y u t
 
 -- The steps of the plan among them.
 abbrev pub steps_in : List Event → Plan
@@ -59,7 +59,7 @@ asks event w p i = false
 abbrev pub asked_in : (events : List Event) (w : World) (r : Rehearsed) (u : World) (t : Rehearsed)
     → Runs events w r u t → ℕ → Bool
 asked_in [] w r u t run i = false
-asked_in (event ∷ later) w r u t (x, y, whole, away, happens, rest) i =
+asked_in (event ∷ later) w r u t (x, y, whole, happens, rest) i =
     asks event w r.passage i || asked_in later x y u t rest i
 
 -- ---- how it begins, and how it ends
@@ -95,10 +95,12 @@ state_at side w r = record {
   due = λ i. is_identity i && (sets_at w (at Old r.passage)).pending i;
 }
 
--- A move may begin: all leads to the old place, the new one is empty, and nothing is carried.
+-- A move may begin: all leads to the old place, the new one is empty, nothing is carried, and both
+-- places are its own.
 pub record IsBegun (w : World) (r : Rehearsed) : Type 0 where
   pub of : IsOf w r.passage
   pub two : AreTwo r.passage.old r.passage.new
+  pub alone : IsAlone w r.passage
   pub routes : LeadsTo w r.passage Old
   pub flights : (vm : ℕ) → NoneLeads w r.passage New vm
   pub others : (vm : ℕ) → vm ≢ r.passage.who.vm → NoneLeads w r.passage Old vm

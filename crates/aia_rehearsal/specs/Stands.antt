@@ -1,7 +1,7 @@
 -- When a rehearsal and its fabric stand for a state of the machine on which plans were proved safe:
 -- the sets of both places, what is carried, the routes and the stores in flight are that state's.
 -- Nothing is said of what happened before.
-use Rattle.std.specs.Prelude.{◌≡◌, ◌≢◌, ℕ, ◌+◌, ◌/◌, ◌<◌, Bool, true, false, if◌then◌else◌, List, [], ◌∷◌, Option, Some, None, unwrap_or, slice_index}
+use Rattle.std.specs.Prelude.{◌≡◌, ◌≢◌, ℕ, ◌+◌, ◌/◌, ◌<◌, Bool, false, if◌then◌else◌, List, [], ◌∷◌, Option, Some, None, unwrap_or, slice_index}
 use Rattle.aia_word.specs.Sets.{has_bit}
 use Rattle.aia_regs.specs.declared.limits.TheConstants.{IDENTITIES}
 use Rattle.aia_regs.specs.Word.{names}
@@ -30,7 +30,7 @@ use Rattle.aia_plan.specs.Transit.{Side, Flight, Transit}
 use Rattle.aia_plan.specs.Transit.Side.{Old, New}
 use Rattle.aia_rehearsal.specs.declared.place.Place as ends
 use Rattle.aia_rehearsal.specs.declared.place.Place.TheVariants.{File, Slot}
-use Rattle.aia_rehearsal.specs.Rehearsed.{Passage, Carried, Rehearsed, moved, on, at, names_on, AreTwo, IsOf}
+use Rattle.aia_rehearsal.specs.Rehearsed.{Passage, Carried, Rehearsed, moved, at, names_on, AreTwo, IsOf}
 
 -- ---- the sets
 

@@ -17,7 +17,7 @@ use Rattle.aia_fabric.specs.Changes.{PutsRegister, spot_of, pending_words, enabl
 use Rattle.aia_move.specs.Move.{PostsIf}
 use Rattle.aia_rehearsal.specs.declared.place.Place as ends
 use Rattle.aia_rehearsal.specs.declared.place.Place.TheVariants.{File, Slot}
-use Rattle.aia_rehearsal.specs.Rehearsed.{Passage, Carried, Rehearsed, moved, at, names_on}
+use Rattle.aia_rehearsal.specs.Rehearsed.{Carried, Rehearsed, moved, at, names_on}
 
 -- The bits of a word that are of identities: bit 0 of the first word is of none.
 abbrev pub identities_in : ℕ → ℕ → ℕ

@@ -10,7 +10,7 @@ ghost use Rattle.aia_places.specs.Holds.{meets};
 ghost use Rattle.aia_fabric.specs.Changes.{IsPlaceThere, spot_of};
 ghost use Rattle.aia_move.specs.Move.{width};
 ghost use Rattle.aia_move.specs.Touches.{SameMachine};
-ghost use Rattle.aia_rehearsal.specs.Rehearsed.{Rehearsed, NotBothSlots, IsOf, IsFileThere, at_of, empty_hand, moved, names_on};
+ghost use Rattle.aia_rehearsal.specs.Rehearsed.{Rehearsed, NotBothSlots, IsOf, IsFileThere, at_of, from_to, moved, names_on};
 ghost use Rattle.aia_rehearsal.specs.Steps.{Makes, after, hand_after, identities_in, Puts};
 ghost use Rattle.aia_rehearsal.specs.Stands.{StandsFor};
 
@@ -103,10 +103,7 @@ impl Rehearsal {
     /// Begins: nothing is carried. Not both places are the slot.
     pub fn new(old: Place, new: Place, who: Who) -> Rehearsal
         requires { NotBothSlots old new }
-        ensures { result ≡ record {
-          passage = record { who = who; old = old; new = new };
-          hand = empty_hand;
-        } }
+        ensures { result ≡ from_to who old new }
     {
         Rehearsal {
             from: old,
