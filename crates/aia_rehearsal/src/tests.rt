@@ -1,6 +1,6 @@
 //! The plans of the core, and plans that lose something, rehearsed with stores between their steps.
 
-ghost use Rattle.std.specs.Prelude.{◌≡◌, ◌≢◌, ◌<◌, ◌≤◌, IfOk, IfSome};
+ghost use Rattle.std.specs.Prelude.{◌≡◌, ◌≢◌, ◌<◌, ◌≤◌, ◌⊎◌, IfOk, IfSome};
 ghost use Rattle.std.specs.List.{All};
 ghost use Rattle.aia_plan.specs.Plan.{IsInside};
 ghost use Rattle.aia_move.specs.Move.{IsWho, width};
@@ -75,13 +75,16 @@ const LEAVE: [Step; 13] = [
     Step::Post,
 ];
 
-/// Makes two harts with two guest files each, whose identities are 1 to 63, and a VM of two virtual
-/// harts.
+/// Makes two harts with two guest files each, whose identities are 1 to 63, or to 127, and a VM of
+/// two virtual harts.
 #[tactic(auto, unfolding(aia_word::specs::Packed::ones))]
-fn machine(alloc: Global) -> Result<Fabric, AllocError>
-    ensures { IfOk result (λ f. (f.imsic.harts ≡ 2) × (f.imsic.guests ≡ 2) × (width f ≡ 1)) }
+fn machine(alloc: Global, greatest: u32) -> Result<Fabric, AllocError>
+    requires { (greatest ≡ 63) ⊎ (greatest ≡ 127) }
+    ensures places { IfOk result (λ f. (f.imsic.harts ≡ 2) × (f.imsic.guests ≡ 2)) }
+    ensures one { greatest ≡ 63 → IfOk result (λ f. width f ≡ 1) }
+    ensures two { greatest ≡ 127 → IfOk result (λ f. width f ≡ 2) }
 {
-    let mut fabric = Fabric::new(alloc, 2, 2, 63)?;
+    let mut fabric = Fabric::new(alloc, 2, 2, greatest)?;
     fabric.vm(2, 0x8, 1);
     Ok(fabric)
 }
@@ -236,7 +239,7 @@ fn goes_round(rt: &impl Abort, fabric: &mut Fabric, files: (FileLease, FileLease
 #[test]
 fn the_plans_of_the_core_keep_all(rt: HostRuntime) -> Result<(), Fail> {
     for at in 0..14 {
-        let mut fabric = machine(rt.alloc())?;
+        let mut fabric = machine(rt.alloc(), 63)?;
         match two_files(rt.alloc())? {
             Some(files) => goes_round(&rt, &mut fabric, files, at),
             None => holds(&rt, false),
@@ -247,7 +250,7 @@ fn the_plans_of_the_core_keep_all(rt: HostRuntime) -> Result<(), Fail> {
 }
 
 /// The fence of the IOMMU comes when the pending word was taken.
-const LATE_FENCE: [Step; 12] = [
+const LATE_FENCE: [Step; 13] = [
     Step::Quiet,
     Step::Word1,
     Step::Word0,
@@ -260,6 +263,7 @@ const LATE_FENCE: [Step; 12] = [
     Step::PutE(0),
     Step::Look(0),
     Step::TakeT,
+    Step::Post,
 ];
 
 /// The G fence does.
@@ -290,6 +294,71 @@ const ENABLES_TWICE: [Step; 12] = [
     Step::PutE(0),
     Step::TakeE(0),
     Step::PutE(0),
+    Step::PutT,
+    Step::Wake,
+];
+
+/// The fence of the IOMMU comes before the entry is written.
+const FENCE_FIRST: [Step; 10] = [
+    Step::Fence,
+    Step::Word0,
+    Step::Map,
+    Step::GFence,
+    Step::TakeP(0),
+    Step::PutP(0),
+    Step::TakeE(0),
+    Step::PutE(0),
+    Step::PutT,
+    Step::Wake,
+];
+
+/// No entry is written.
+const NO_ENTRY: [Step; 11] = [
+    Step::Quiet,
+    Step::Word1,
+    Step::Unmap,
+    Step::GFence,
+    Step::TakeP(0),
+    Step::PutP(0),
+    Step::TakeE(0),
+    Step::PutE(0),
+    Step::Look(0),
+    Step::TakeT,
+    Step::Post,
+];
+
+/// It is not said where notices go.
+const NO_NOTICE: [Step; 12] = [
+    Step::Quiet,
+    Step::Word0,
+    Step::Fence,
+    Step::Unmap,
+    Step::GFence,
+    Step::TakeP(0),
+    Step::PutP(0),
+    Step::TakeE(0),
+    Step::PutE(0),
+    Step::Look(0),
+    Step::TakeT,
+    Step::Post,
+];
+
+/// Both pending words are taken before either is put.
+const TWO_IN_HAND: [Step; 16] = [
+    Step::Quiet,
+    Step::Word0,
+    Step::Fence,
+    Step::Remap,
+    Step::GFence,
+    Step::TakeP(0),
+    Step::TakeP(1),
+    Step::PutP(0),
+    Step::PutP(1),
+    Step::TakeE(0),
+    Step::PutE(0),
+    Step::TakeE(1),
+    Step::PutE(1),
+    Step::TakeT,
     Step::PutT,
     Step::Wake,
 ];
@@ -350,17 +419,124 @@ fn loses_a_peer(rt: &impl Abort, fabric: &mut Fabric, files: (FileLease, FileLea
 
 #[test]
 fn refused_plans_lose_what_they_are_said_to(rt: HostRuntime) -> Result<(), Fail> {
-    let mut fabric = machine(rt.alloc())?;
+    let mut fabric = machine(rt.alloc(), 63)?;
     match two_files(rt.alloc())? {
         Some(files) => loses(&rt, &mut fabric, files),
         None => holds(&rt, false),
     }
     drop(fabric);
-    let mut fabric = machine(rt.alloc())?;
+    let mut fabric = machine(rt.alloc(), 63)?;
     match two_files(rt.alloc())? {
         Some(files) => loses_a_peer(&rt, &mut fabric, files),
         None => holds(&rt, false),
     }
     drop(fabric);
+    Ok(())
+}
+
+/// An arrival whose fence comes first, with stores once the word was taken: 5, which a device
+/// stores, stays in the slot. Then a leave that writes no entry: 9 stays in the file.
+fn loses_by_the_entry(rt: &impl Abort, fabric: &mut Fabric, files: (FileLease, FileLease))
+    requires first { IsFileThere fabric.old (places.File files.0) }
+    requires second { IsFileThere fabric.old (places.File files.1) }
+    requires width { width fabric.old ≡ 1 }
+{
+    fill(fabric);
+    let (slot, first) = moves(
+        rt,
+        fabric,
+        Place::Slot,
+        Place::File(files.0),
+        (&FENCE_FIRST, 5, 5),
+    );
+    file_shows(rt, fabric, 0x2802_1000, (0x88, 0x28), 5);
+    is_same(rt, fabric.look(1, 0), (0x20, 0), 5);
+    drop(first);
+    // All of it again, in order, to the other file.
+    let (slot, second) = moves(rt, fabric, slot, Place::File(files.1), (&ARRIVE, 20, 13));
+    file_shows(rt, fabric, 0x2802_2000, (0xa020, 0), 20);
+    let (second, slot) = moves(rt, fabric, second, slot, (&NO_ENTRY, 5, 9));
+    file_shows(rt, fabric, 0x2802_2000, (0x200, 0), 5);
+    is_same(rt, fabric.look(1, 0), (0xa820, 0), 5);
+    drop(second);
+    drop(slot);
+}
+
+/// A leave that does not say where notices go loses nothing, wherever stores come.
+fn keeps_without_notice(
+    rt: &impl Abort,
+    fabric: &mut Fabric,
+    files: (FileLease, FileLease),
+    at: usize,
+)
+    requires first { IsFileThere fabric.old (places.File files.0) }
+    requires width { width fabric.old ≡ 1 }
+{
+    fill(fabric);
+    let (slot, first) = moves(
+        rt,
+        fabric,
+        Place::Slot,
+        Place::File(files.0),
+        (&ARRIVE, 0, 5),
+    );
+    let (first, slot) = moves(rt, fabric, first, slot, (&NO_NOTICE, at, 9));
+    file_shows(rt, fabric, 0x2802_1000, (0, 0), at);
+    is_same(rt, fabric.look(1, 0), (0xaa8, 0x28), at);
+    drop(first);
+    drop(slot);
+    drop(files.1);
+}
+
+/// A shift with two words in hand, of a file in which 3 and 69 are pending: both are lost, and 5 is
+/// pending in the new one, for which nobody asked.
+fn loses_in_the_hand(rt: &impl Abort, fabric: &mut Fabric, files: (FileLease, FileLease))
+    requires first { IsFileThere fabric.old (places.File files.0) }
+    requires second { IsFileThere fabric.old (places.File files.1) }
+    requires width { width fabric.old ≡ 2 }
+{
+    let old = At::File(Spot::GuestFile(files.0.hart(), files.0.file()));
+    fabric.or_pending(old, 0, 0x8);
+    fabric.or_pending(old, 1, 0x20);
+    let (first, second) = moves(
+        rt,
+        fabric,
+        Place::File(files.0),
+        Place::File(files.1),
+        (&TWO_IN_HAND, 20, 9),
+    );
+    file_shows(rt, fabric, 0x2802_1000, (0, 0), 20);
+    file_shows(rt, fabric, 0x2802_2000, (0xa20, 0), 20);
+    drop(first);
+    drop(second);
+}
+
+#[test]
+fn refused_plans_lose_by_the_entry_and_in_the_hand(rt: HostRuntime) -> Result<(), Fail> {
+    let mut fabric = machine(rt.alloc(), 63)?;
+    match two_files(rt.alloc())? {
+        Some(files) => loses_by_the_entry(&rt, &mut fabric, files),
+        None => holds(&rt, false),
+    }
+    drop(fabric);
+    let mut fabric = machine(rt.alloc(), 127)?;
+    match two_files(rt.alloc())? {
+        Some(files) => loses_in_the_hand(&rt, &mut fabric, files),
+        None => holds(&rt, false),
+    }
+    drop(fabric);
+    Ok(())
+}
+
+#[test]
+fn a_leave_without_notice_keeps_all(rt: HostRuntime) -> Result<(), Fail> {
+    for at in 0..14 {
+        let mut fabric = machine(rt.alloc(), 63)?;
+        match two_files(rt.alloc())? {
+            Some(files) => keeps_without_notice(&rt, &mut fabric, files, at),
+            None => holds(&rt, false),
+        }
+        drop(fabric);
+    }
     Ok(())
 }
