@@ -39,10 +39,10 @@ pub fn a_plan_that_loses_is_not_safe()
 {}
 
 /// No part of the rule can be left out: for each there is a plan of an arrival that fails it alone
-/// and loses an interrupt, or an enable. Part 1: a fence, or a G fence, that comes before what it is
-/// to put in force. Part 2: a word that is taken before the fence, or before the G fence. Part 3:
-/// two words that are taken before either is put; the first is lost, and what the second held comes
-/// up in its place. Part 4: enables that are put twice.
+/// and loses an interrupt, or an enable. Part 1: a fence, or a G fence, that comes before what it
+/// is to put in force. Part 2: a word that is taken before the fence, or before the G fence. Part
+/// 3: two words that are taken before either is put; what the second held is lost, and comes up in
+/// the first one's place. Part 4: enables that are put twice.
 #[tactic(auto, using(crate::proofs::LossLemmas::fence_too_early_loses, crate::proofs::LossLemmas::gfence_too_early_loses, crate::proofs::LossLemmas::taken_before_fence_loses, crate::proofs::LossLemmas::taken_before_gfence_loses, crate::proofs::LossLemmas::taken_together_loses, crate::proofs::LossLemmas::taken_together_doubles, crate::proofs::LossLemmas::enables_put_twice_loses))]
 pub fn each_part_of_the_rule_is_needed()
     ensures part_1_fence { FailsAlone 1 Kind.Arrive 1 fence_too_early

@@ -34,8 +34,8 @@ pub enum Status {
 /// Runs the command that `words` give, the command line without the program's name: `replay` reads
 /// a script from the source to its end and writes the answers of its lines to the sink; `gen COUNT
 /// SEED` runs the script that the two numbers generate, reads nothing, and writes its summary;
-/// `audit KIND W` reads a plan from the source to its end, and writes the verdict on it. Every other
-/// list of words is refused, as clap refuses it.
+/// `audit KIND W` reads a plan from the source to its end, and writes the verdict on it. Every
+/// other list of words is refused, as clap refuses it.
 ///
 /// It returns always. Answers are written at the latest before the next read and before it returns.
 /// Memory is taken for the words and for the machine alone.
