@@ -1,4 +1,4 @@
-mod WhoLemmas
+pub mod WhoLemmas
 mod PhaseSteps
 mod StepLemmas
 pub mod AimLemmas

@@ -14,9 +14,10 @@ mod shift;
 mod targets;
 mod turn;
 mod who;
-mod words;
+pub mod words;
 
 pub use arrive::Arrive;
+pub use kind::spot;
 pub use leave::Leave;
 pub use phase::{Aim, Closing, Drain, Enable, First, Last, Look};
 pub use plan::{Next, Plan};

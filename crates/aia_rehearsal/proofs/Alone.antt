@@ -38,7 +38,7 @@ use Rattle.aia_rehearsal.specs.Steps.{Puts, Makes}
 use Rattle.aia_rehearsal.specs.Stands.{Routes, routes_of, side_of}
 use Rattle.aia_rehearsal.specs.Events.{Event, Happens, IsAlone, NamesElsewhere}
 use Rattle.aia_rehearsal.specs.Events.Event.{Steps, DeviceStores, PeerStores, DeviceSends, StoreLands, EntryRead}
-use Rattle.aia_rehearsal.proofs.Places.{small_who}
+use Rattle.aia_move.proofs.WhoLemmas.{small_who}
 use Rattle.aia_rehearsal.proofs.PlaceSteps.{pending_routes, enabled_routes}
 use Rattle.aia_rehearsal.proofs.Carried.{side_same}
 use Rattle.aia_rehearsal.proofs.StoreSeen.{at_spot, at_slot}

@@ -1,36 +1,20 @@
 -- The places of a rehearsal are there, with all words of its machine's files.
-use Rattle.std.proofs.Common.{◌≡◌, ℕ, ◌+◌, ◌<◌, ◌≤◌, Bool, true, sym, arith}
+use Rattle.std.proofs.Common.{ℕ, ◌<◌, ◌≤◌, arith}
 use Rattle.std.proofs.lemmas.Bool.Decides.{nat_tests}
-use Rattle.aia_regs.specs.declared.limits.TheConstants.{HARTS, GUEST_FILES, VCPUS, IDENTITIES, FILE_WORDS}
+use Rattle.aia_regs.specs.declared.limits.TheConstants.{HARTS, GUEST_FILES, IDENTITIES, FILE_WORDS}
 use Rattle.aia_home.specs.declared.place.Place.{Place}
 use Rattle.aia_fabric.specs.World.{World}
 use Rattle.aia_fabric.specs.Whole.{IsWhole}
 use Rattle.aia_fabric.specs.Changes.{IsPlaceThere, words_at}
 use Rattle.aia_move.specs.declared.who.Who.{Who}
-use Rattle.aia_move.specs.Move.{IsWho, PostsIf, width}
-use Rattle.aia_imsic.specs.declared.spot.Spot.TheVariants.{HostFile}
-use Rattle.aia_home.specs.Vms.{Vcpu, vcpu, vcpus_in, is_vcpu_in, slot_of, notice_hart}
-use Rattle.aia_home.proofs.VmLemmas.{slot_below}
-use Rattle.aia_fabric.specs.Stores.{Posts}
-use Rattle.aia_fabric.proofs.WholeLemmas.{notice_hart_there}
+use Rattle.aia_move.specs.Move.{IsWho, width}
+use Rattle.aia_move.proofs.WhoLemmas.{small_who}
 use Rattle.aia_rehearsal.specs.declared.place.Place as ends
 use Rattle.aia_rehearsal.specs.declared.place.Place.TheVariants.{File, Slot}
 use Rattle.aia_rehearsal.specs.Rehearsed.{at_of, IsFileThere}
 
 pub few_words : (w : World) → IsWhole w → width w ≤ FILE_WORDS
 few_words w whole = let greatest = whole.greatest in let few : w.n ≤ IDENTITIES = grind (arith, nat_tests) in omega arith
-
-pub small_who : (w : World) (who : Who) → IsWhole w → IsWho w who → (who.slot < vcpus_in w.vms) × (who.slot < VCPUS) × (who.notice < HARTS)
-small_who w who whole is =
-    let slot = is.slot in
-    let below = slot_below w.vms (vcpu who.vm who.vcpu) is.there in
-    let hart = notice_hart_there w (vcpu who.vm who.vcpu) whole is.there in
-    (omega (arith, slot, below), omega (arith, slot, below, whole.vcpus), omega (arith, is.notice, hart, whole.harts))
-
--- the notice of the virtual hart of a slot is its own
-pub posts_if : (w u : World) (who : Who) (seen : Bool) → seen ≡ true → IsWho w who
-    → ((g : Vcpu) → is_vcpu_in w.vms g ≡ true → slot_of w.vms g ≡ who.slot → Posts w u (HostFile (notice_hart w.vms g)) (who.slot + 1)) → PostsIf seen w u who.notice (who.slot + 1)
-posts_if w u who seen on is posts = rw (on, is.notice) (posts (vcpu who.vm who.vcpu) is.there (sym is.slot))
 
 pub place_there : (w : World) (who : Who) (place : ends.Place) → IsWhole w → IsWho w who → IsFileThere w place → IsPlaceThere w (at_of who.slot place)
 place_there w who (File p) whole is there = there

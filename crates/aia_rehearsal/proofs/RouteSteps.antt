@@ -37,7 +37,8 @@ use Rattle.aia_rehearsal.specs.declared.place.Place.TheVariants.{File, Slot}
 use Rattle.aia_rehearsal.specs.Rehearsed.{Passage, Carried, Rehearsed, moved, on, at_of, at, file_of, names_on, IsFileThere}
 use Rattle.aia_rehearsal.specs.Steps.{identities_in, Puts}
 use Rattle.aia_rehearsal.specs.Stands.{sets_at, Routes, routes_of, SetsStand, RoutesStand, StandsFor}
-use Rattle.aia_rehearsal.proofs.Places.{small_who, file_in_map}
+use Rattle.aia_move.proofs.WhoLemmas.{small_who}
+use Rattle.aia_rehearsal.proofs.Places.{file_in_map}
 use Rattle.aia_rehearsal.proofs.SetSteps.{pending_taken, enables_taken, pending_put, enables_put}
 use Rattle.aia_rehearsal.proofs.PlaceSteps.{two_turned, pending_here, enabled_here, pending_shown, enabled_shown, pending_elsewhere, enabled_elsewhere, pending_routes, enabled_routes}
 use Rattle.aia_rehearsal.proofs.Carried.{stand_on, same_machine}

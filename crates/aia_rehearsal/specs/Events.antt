@@ -1,4 +1,4 @@
--- What may happen to a rehearsal and its fabric: a step, or what others do between two steps; and
+-- What may happen to a rehearsal and its fabric: a step, or what others do between its steps; and
 -- what it is on the machine on which plans were proved safe.
 use Rattle.std.specs.Prelude.{◌≡◌, ◌≢◌, ℕ, ◌%◌, ◌<◌, Bool, true, ◌&&◌, nat_eq, if◌then◌else◌, List, [], ◌∷◌, length, take, slice_get, Option, Some, None}
 use Rattle.aia_regs.specs.declared.address_map.TheConstants.{PAGE}

@@ -1,5 +1,5 @@
 -- What is rehearsed: whose interrupts go from which place to which, and what is carried between
--- two steps. Profile.
+-- steps. Profile.
 use Rattle.std.specs.Prelude.{◌≡◌, ℕ, ⊤, Bool, false, Option, Some, None}
 use Rattle.aia_home.specs.declared.place.Place.{Place}
 use Rattle.aia_home.specs.Vms.{Vcpu, vcpu}

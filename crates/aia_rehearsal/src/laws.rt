@@ -28,7 +28,7 @@ ghost use Rattle.aia_rehearsal.specs.Runs.{Runs, steps_in, asked_in, IsBegun, Is
 
 use aia_plan::Kind;
 
-/// Whatever happens between two steps of a rehearsal, a store of a device or of another virtual
+/// Whatever happens between the steps of a rehearsal, a store of a device or of another virtual
 /// hart, a store that is sent, one that lands, or an entry that is read again, it stands for its
 /// state after what that is on the machine of the proof: the same, for the virtual hart that is
 /// moved; nothing, for any other. Its own steps too are what they are there.

@@ -5,9 +5,7 @@ ghost use Rattle.aia_plan.specs.Transit.{Transit, stepped};
 ghost use Rattle.aia_plan.specs.Transit.Side.{Old, New};
 ghost use Rattle.aia_plan.specs.declared.step.Step.TheVariants as steps;
 ghost use Rattle.aia_regs.specs.FileRegisters.{IsUsable};
-ghost use Rattle.aia_places.specs.View.{entry_word, second_word};
-ghost use Rattle.aia_places.specs.Holds.{meets};
-ghost use Rattle.aia_fabric.specs.Changes.{IsPlaceThere, spot_of};
+ghost use Rattle.aia_fabric.specs.Changes.{IsPlaceThere};
 ghost use Rattle.aia_move.specs.Move.{width};
 ghost use Rattle.aia_move.specs.Touches.{SameMachine};
 ghost use Rattle.aia_rehearsal.specs.Rehearsed.{Rehearsed, NotBothSlots, IsOf, IsFileThere, at_of, from_to, moved, names_on};
@@ -15,17 +13,14 @@ ghost use Rattle.aia_rehearsal.specs.Steps.{Makes, after, hand_after, identities
 ghost use Rattle.aia_rehearsal.specs.Stands.{StandsFor};
 
 use crate::{Place, Step};
-use aia_entry::{basic, mrif};
 use aia_fabric::{At, Fabric};
-use aia_imsic::Spot;
-use aia_move::Who;
-use aia_pool::FileLease;
-use aia_regs::address_map::{PAGE, guest_page, slot_address, supervisor_page};
+use aia_move::words::{entry_word, meets, second_word};
+use aia_move::{Who, spot};
 use aia_regs::{FileReg, Op};
 use std::marker::Model;
 
 /// A plan that is made step by step on a fabric: it has the two places and who is moved with it,
-/// and what is carried between two steps.
+/// and what is carried from one step to the next.
 #[derive(Drop)]
 pub struct Rehearsal {
     from: Place,
@@ -63,20 +58,6 @@ fn identities(word: usize, bits: u64) -> u64
     if word == 0 { bits & !1 } else { bits }
 }
 
-/// Tells whether two words have a one in common.
-fn meets(pending: u64, enabled: u64) -> bool
-    ensures { result ≡ meets pending enabled }
-{
-    pending & enabled != 0
-}
-
-/// Gives the spot of a guest file.
-fn spot(lease: &FileLease) -> Spot
-    ensures { result ≡ spot_of lease.now }
-{
-    Spot::GuestFile(lease.hart(), lease.file())
-}
-
 /// Gives where a fabric has a place of the virtual hart of a slot.
 fn at(place: &Place, slot: u32) -> At
     ensures { result ≡ at_of slot place.now }
@@ -98,7 +79,7 @@ fn put(fabric: &mut Fabric, place: &Place, reg: FileReg, value: u64)
     }
 }
 
-#[tactic(auto, using(crate::proofs::Places::small_who, crate::proofs::Places::posts_if, crate::proofs::Places::place_there, crate::proofs::Places::words_there, crate::proofs::Places::word_in, crate::proofs::Places::file_in_map))]
+#[tactic(auto, using(aia_move::proofs::WhoLemmas::small_who, aia_move::proofs::WhoLemmas::posts_if, crate::proofs::Places::place_there, crate::proofs::Places::words_there, crate::proofs::Places::word_in, crate::proofs::Places::file_in_map))]
 impl Rehearsal {
     /// Begins: nothing is carried. Not both places are the slot.
     pub fn new(old: Place, new: Place, who: Who) -> Rehearsal
@@ -196,11 +177,7 @@ impl Rehearsal {
         ensures same { self.new ≡ self.old }
     {
         let _words = fabric.words();
-        let (_, word) = mrif(
-            slot_address(self.who.slot),
-            supervisor_page(self.who.notice) / PAGE,
-            self.who.slot + 1,
-        );
+        let word = second_word(self.who.slot, self.who.notice);
         fabric.put_word(self.who.vm, self.who.vcpu, 1, word);
     }
 
@@ -211,10 +188,11 @@ impl Rehearsal {
         ensures same { self.new ≡ self.old }
     {
         let _words = fabric.words();
-        let word = match &self.to {
-            Place::File(lease) => basic(guest_page(lease.hart(), lease.file()) / PAGE),
-            Place::Slot => mrif(slot_address(self.who.slot), 0, 0).0,
+        let file = match &self.to {
+            Place::File(lease) => Some(lease.place()),
+            Place::Slot => None,
         };
+        let word = entry_word(self.who.slot, file);
         fabric.put_word(self.who.vm, self.who.vcpu, 0, word);
     }
 

@@ -208,6 +208,26 @@ fn two_files(alloc: Global) -> Result<Option<(FileLease, FileLease)>, AllocError
     Ok(Some((first, second)))
 }
 
+/// Fills the slot, moves virtual hart 1 from it to a file by a plan that arrives, with stores
+/// before the step with a number, of the value that is given last, and gives both places back.
+fn arrives(
+    rt: &impl Abort,
+    fabric: &mut Fabric,
+    file: FileLease,
+    plan: (&[Step], usize, u32),
+) -> (Place, Place)
+    requires few { plan.2 < 60 }
+    requires width { width fabric.old ≡ 1 }
+    requires file { IsFileThere fabric.old (places.File file) }
+    requires inside { All (IsInside (width fabric.old)) plan.0.now }
+    ensures machine { SameMachine fabric.old fabric.new }
+    ensures slot { result.0 ≡ places.Slot }
+    ensures file { result.1 ≡ places.File file }
+{
+    fill(fabric);
+    moves(rt, fabric, Place::Slot, Place::File(file), plan)
+}
+
 /// An arrival, then a shift, then a leave, each with stores before its step of a number: all that
 /// was pending or asked for is pending at the end of each, and both enables are there.
 fn goes_round(rt: &impl Abort, fabric: &mut Fabric, files: (FileLease, FileLease), at: usize)
@@ -215,14 +235,7 @@ fn goes_round(rt: &impl Abort, fabric: &mut Fabric, files: (FileLease, FileLease
     requires second { IsFileThere fabric.old (places.File files.1) }
     requires width { width fabric.old ≡ 1 }
 {
-    fill(fabric);
-    let (slot, first) = moves(
-        rt,
-        fabric,
-        Place::Slot,
-        Place::File(files.0),
-        (&ARRIVE, at, 5),
-    );
+    let (slot, first) = arrives(rt, fabric, files.0, (&ARRIVE, at, 5));
     file_shows(rt, fabric, 0x2802_1000, (0xa8, 0x28), at);
     is_same(rt, fabric.look(1, 0), (0, 0), at);
     let (first, second) = moves(rt, fabric, first, Place::File(files.1), (&SHIFT, at, 9));
@@ -370,14 +383,7 @@ fn loses(rt: &impl Abort, fabric: &mut Fabric, files: (FileLease, FileLease))
     requires second { IsFileThere fabric.old (places.File files.1) }
     requires width { width fabric.old ≡ 1 }
 {
-    fill(fabric);
-    let (slot, first) = moves(
-        rt,
-        fabric,
-        Place::Slot,
-        Place::File(files.0),
-        (&ENABLES_TWICE, 0, 5),
-    );
+    let (slot, first) = arrives(rt, fabric, files.0, (&ENABLES_TWICE, 0, 5));
     file_shows(rt, fabric, 0x2802_1000, (0xa8, 0), 0);
     let (first, slot) = moves(rt, fabric, first, slot, (&LATE_FENCE, 7, 9));
     file_shows(rt, fabric, 0x2802_1000, (0x200, 0), 7);
@@ -395,14 +401,7 @@ fn loses_a_peer(rt: &impl Abort, fabric: &mut Fabric, files: (FileLease, FileLea
     requires second { IsFileThere fabric.old (places.File files.1) }
     requires width { width fabric.old ≡ 1 }
 {
-    fill(fabric);
-    let (slot, first) = moves(
-        rt,
-        fabric,
-        Place::Slot,
-        Place::File(files.0),
-        (&ARRIVE, 0, 5),
-    );
+    let (slot, first) = arrives(rt, fabric, files.0, (&ARRIVE, 0, 5));
     drop(slot);
     let (first, second) = moves(
         rt,
@@ -441,14 +440,7 @@ fn loses_by_the_entry(rt: &impl Abort, fabric: &mut Fabric, files: (FileLease, F
     requires second { IsFileThere fabric.old (places.File files.1) }
     requires width { width fabric.old ≡ 1 }
 {
-    fill(fabric);
-    let (slot, first) = moves(
-        rt,
-        fabric,
-        Place::Slot,
-        Place::File(files.0),
-        (&FENCE_FIRST, 5, 5),
-    );
+    let (slot, first) = arrives(rt, fabric, files.0, (&FENCE_FIRST, 5, 5));
     file_shows(rt, fabric, 0x2802_1000, (0x88, 0x28), 5);
     is_same(rt, fabric.look(1, 0), (0x20, 0), 5);
     drop(first);
@@ -472,14 +464,7 @@ fn keeps_without_notice(
     requires first { IsFileThere fabric.old (places.File files.0) }
     requires width { width fabric.old ≡ 1 }
 {
-    fill(fabric);
-    let (slot, first) = moves(
-        rt,
-        fabric,
-        Place::Slot,
-        Place::File(files.0),
-        (&ARRIVE, 0, 5),
-    );
+    let (slot, first) = arrives(rt, fabric, files.0, (&ARRIVE, 0, 5));
     let (first, slot) = moves(rt, fabric, first, slot, (&NO_NOTICE, at, 9));
     file_shows(rt, fabric, 0x2802_1000, (0, 0), at);
     is_same(rt, fabric.look(1, 0), (0xaa8, 0x28), at);

@@ -3,7 +3,6 @@
 ghost use Rattle.std.specs.Prelude.{◌≡◌, ◌+◌, ◌≤◌, ℕ, [], ◌∷◌, ◌++◌, length, Option, Some, None, IfSome};
 ghost use Rattle.std.specs.List.{All};
 ghost use Rattle.arrayvec.specs.ArrayVec.{array_vec_len};
-ghost use Rattle.aia_model.specs.Text.{is_skipped};
 ghost use Rattle.aia_model.specs.AnswerText.{decimal_text};
 ghost use Rattle.aia_plan.specs.Plan.{IsInside, IsWidth};
 ghost use Rattle.aia_audit.specs.PlanText.{read_word, with_step, with_text};
@@ -11,8 +10,7 @@ ghost use Rattle.aia_replay.specs.Plans.{AreInside, plan_read};
 
 use aia_audit::limits::PLAN_STEPS;
 use aia_audit::{Kind, Step, Verdict, audit};
-use aia_model::limits::LINE_BYTES;
-use aia_script::parse_step;
+use aia_script::{is_skipped, parse_step};
 use arrayvec::ArrayVec;
 use itoa::Buffer;
 
@@ -92,17 +90,6 @@ impl PlanSoFar {
         }
         text.push(b'\n');
         text
-    }
-}
-
-/// Tells whether a text is skipped, as one of a script is: it is empty, or begins with `#` and has
-/// at most 128 bytes.
-fn is_skipped(text: &[u8]) -> bool
-    ensures { result ≡ is_skipped text.now }
-{
-    match text.first() {
-        Some(&first) => text.len() <= LINE_BYTES && first == b'#',
-        None => true,
     }
 }
 

@@ -18,7 +18,7 @@ mod words;
 pub use aia_model::{Answer, Line, Parsed, Part, Refusal};
 pub use aia_plan::{Kind, Step};
 pub use aia_regs::{Csr, Op};
-pub use parse::parse_line;
+pub use parse::{is_skipped, parse_line};
 pub use print::print_answer;
 pub use spelling::print_line;
 pub use steps::parse_step;

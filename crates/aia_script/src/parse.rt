@@ -10,8 +10,9 @@ use crate::words::all_words;
 use aia_model::limits::LINE_BYTES;
 use aia_model::{Line, Parsed};
 
-/// Tells whether a text prints nothing: it is empty, or a comment.
-fn is_skipped(text: &[u8]) -> bool
+/// Tells whether a text of a script, or of a plan, is skipped: it is empty, or a comment, which
+/// begins with `#` and has at most 128 bytes.
+pub fn is_skipped(text: &[u8]) -> bool
     ensures { result ≡ is_skipped text.now }
 {
     match text {
