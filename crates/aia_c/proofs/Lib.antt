@@ -1,0 +1,4 @@
+mod HandleValues
+pub mod ServingLemmas
+pub mod JoinedLemmas
+pub mod TextLemmas

@@ -1,0 +1,154 @@
+-- What the calls answer and do. A handle is open, with an engine, or closed. Vocabulary.
+use Rattle.std.specs.Prelude.{◌≡◌, ◌⊎◌, ℕ, ◌+◌, ◌<◌, ◌≤◌, ℤ, true, List, [], ◌∷◌, ◌++◌, length, take, drop, Option, Some, None, Result, Ok, Err}
+use Rattle.aia_model.specs.declared.line.Line.{Line}
+use Rattle.aia_model.specs.declared.answer.Answer.{Answer}
+use Rattle.aia_model.specs.Event.{History}
+use Rattle.aia_model.specs.Text.{texts_of}
+use Rattle.aia_model.specs.Reading.{reading}
+use Rattle.aia_model.specs.Refusal.{makes_machine}
+use Rattle.aia_model.specs.Answer.{answer, after}
+use Rattle.aia_model.specs.Script.{printed, text_answer, after_text, answers_from, after_texts}
+use Rattle.aia_replay.specs.Stands.{EngineState, StandsFor, Serves, ReadsAsMachine}
+use Rattle.aia_replay.specs.Runs.{IsWhole}
+use Rattle.aia_c.specs.declared.code.Code.{Code}
+use Rattle.aia_c.specs.declared.code.Code.TheVariants.{Done, NoMemory, Closed, Open, NoRoom, NoLine}
+use Rattle.aia_c.specs.declared.limits.TheConstants.{ANSWER_BYTES}
+use Rattle.aia_c.specs.Codes.{number, number_of, code_of, wide_of}
+
+-- A closed handle is opened, with an engine that has no machine, or there is no memory; an open one
+-- stays as it is.
+abbrev pub Opens : Option EngineState → Option EngineState → ℤ → Type 0
+Opens None None code = code ≡ number NoMemory
+Opens None (Some new) code = (code ≡ number Done) × StandsFor new []
+Opens (Some old) new code = (code ≡ number Open) × (new ≡ Some old)
+
+-- ---- a text
+
+-- Whatever history the engine stood for, the bytes are what the text answers after it, and the
+-- engine then stands for the history after the text.
+pub record Gives (old new : EngineState) (text bytes : List ℕ) : Type 0 where
+  pub answers : (h : History) → StandsFor old h → bytes ≡ printed (text_answer h (reading text))
+  pub stands : (h : History) → StandsFor old h → StandsFor new (after_text h (reading text))
+
+-- A text makes a machine, for which there is no memory, and nothing changed.
+pub record Lacks (old new : EngineState) (text bytes : List ℕ) : Type 0 where
+  pub same : new ≡ old
+  pub none : StandsFor old []
+  pub asks : ReadsAsMachine old (reading text)
+  pub nothing : bytes ≡ []
+
+-- There is too little room for an answer, and nothing changed.
+pub record IsCramped (old new : Option EngineState) (bytes : List ℕ) (room : ℕ) (code : ℤ)
+    : Type 0 where
+  pub says : code ≡ number NoRoom
+  pub same : new ≡ old
+  pub nothing : bytes ≡ []
+  pub few : room < ANSWER_BYTES
+
+-- The handle is closed, and nothing changed.
+pub record IsClosed (new : Option EngineState) (code : ℤ) : Type 0 where
+  pub says : code ≡ number Closed
+  pub same : new ≡ None
+
+abbrev pub Reads : Option EngineState → Option EngineState → List ℕ → List ℕ → ℤ → Type 0
+Reads None new text bytes code = IsClosed new code × (bytes ≡ [])
+Reads (Some old) None text bytes code = ⊥
+Reads (Some old) (Some new) text bytes code =
+    ((code ≡ number Done) × Gives old new text bytes)
+    ⊎ ((code ≡ number NoMemory) × Lacks old new text bytes)
+
+-- A call with a text, which writes these bytes.
+abbrev pub Lines : Option EngineState → Option EngineState → List ℕ → List ℕ → ℕ → ℤ → Type 0
+Lines old new text bytes room code =
+    Reads old new text bytes code ⊎ IsCramped old new bytes room code
+
+-- ---- a script
+
+-- Whatever history the engine stood for, the bytes are the answers of the script's lines after it,
+-- and the engine then stands for the history after them all.
+pub record Answers (old new : EngineState) (script bytes : List ℕ) : Type 0 where
+  pub answers : (h : History) → StandsFor old h → bytes ≡ answers_from h (texts_of script)
+  pub stands : (h : History) → StandsFor old h → StandsFor new (after_texts h (texts_of script))
+
+-- The first text of the rest makes a machine, for which there is no memory.
+pub record WantsMemory (new : EngineState) (rest : List ℕ) : Type 0 where
+  pub none : StandsFor new []
+  pub text : List ℕ
+  pub more : List (List ℕ)
+  pub first : texts_of rest ≡ text ∷ more
+  pub asks : ReadsAsMachine new (reading text)
+
+-- Why a script was answered no further: nothing is left; or so little room that the next answer may
+-- not fit; or memory is wanted.
+abbrev pub Stops : EngineState → List ℕ → ℕ → ℤ → Type 0
+Stops new rest room code =
+    ((code ≡ number Done) × (rest ≡ []))
+    ⊎ (((code ≡ number NoRoom) × (room < ANSWER_BYTES))
+    ⊎ ((code ≡ number NoMemory) × WantsMemory new rest))
+
+-- A script was taken up to a rest: what was taken is answered, and is whole lines or all of it.
+pub record Takes (old new : EngineState) (taken rest bytes : List ℕ) (room : ℕ) (code : ℤ)
+    : Type 0 where
+  pub answers : Answers old new taken bytes
+  pub lines : IsWhole taken ⊎ (rest ≡ [])
+  pub stops : Stops new rest room code
+
+-- A call with a script, of which it takes the front and leaves the rest; it writes these bytes, and
+-- leaves so much room.
+abbrev pub Scripts : Option EngineState → Option EngineState → List ℕ → List ℕ → List ℕ → ℕ → ℤ
+    → Type 0
+Scripts None new taken rest bytes room code = IsClosed new code × (taken ≡ []) × (bytes ≡ [])
+Scripts (Some old) None taken rest bytes room code = ⊥
+Scripts (Some old) (Some new) taken rest bytes room code = Takes old new taken rest bytes room code
+
+-- ---- calls without text
+
+-- There is no memory for a machine, and nothing changed.
+pub record WantsRoom (old new : EngineState) (line : Line) : Type 0 where
+  pub same : new ≡ old
+  pub none : StandsFor old []
+  pub asks : makes_machine [] line ≡ true
+
+-- A line is served by a handle's engine, or a code says what stood in the way.
+abbrev pub Serving : Option EngineState → Option EngineState → Line → Result Answer Code → Type 0
+Serving None new line (Ok answer) = ⊥
+Serving None new line (Err code) = (code ≡ Closed) × (new ≡ None)
+Serving (Some old) None line given = ⊥
+Serving (Some old) (Some new) line (Ok answer) = Serves old new line answer
+Serving (Some old) (Some new) line (Err code) = (code ≡ NoMemory) × WantsRoom old new line
+
+-- Whatever history the engine stood for, the code is that of the line's answer after it, and the
+-- engine then stands for the history after the line.
+pub record Does (old new : EngineState) (line : Line) (code : ℤ) : Type 0 where
+  pub answers : (h : History) → StandsFor old h → code ≡ number (code_of (answer h line))
+  pub stands : (h : History) → StandsFor old h → StandsFor new (after h line)
+
+-- The same of a line that reads a value.
+pub record DoesRead (of : Answer → ℕ) (old new : EngineState) (line : Line) (code : ℤ) (value : ℕ)
+    : Type 0 where
+  pub does : Does old new line code
+  pub reads : (h : History) → StandsFor old h → value ≡ of (answer h line)
+
+-- A call that makes a machine: it alone can want memory.
+abbrev pub Makes : Option EngineState → Option EngineState → Line → ℤ → Type 0
+Makes None new line code = IsClosed new code
+Makes (Some old) None line code = ⊥
+Makes (Some old) (Some new) line code =
+    Does old new line code ⊎ ((code ≡ number NoMemory) × WantsRoom old new line)
+
+-- A call of any other line.
+abbrev pub Acts : Option EngineState → Option EngineState → Line → ℤ → Type 0
+Acts None new line code = IsClosed new code
+Acts (Some old) None line code = ⊥
+Acts (Some old) (Some new) line code = Does old new line code
+
+-- A call that gives a value, 0 where there is none.
+abbrev pub Fetches : (Answer → ℕ) → Option EngineState → Option EngineState → Line → ℤ → ℕ → Type 0
+Fetches of None new line code value = IsClosed new code × (value ≡ 0)
+Fetches of (Some old) None line code value = ⊥
+Fetches of (Some old) (Some new) line code value = DoesRead of old new line code value
+
+-- A call whose numbers may name no line: then nothing changed.
+abbrev pub Accesses : Option EngineState → Option EngineState → Option Line → ℤ → ℕ → Type 0
+Accesses old new None code value = (code ≡ number NoLine) × (new ≡ old) × (value ≡ 0)
+Accesses old new (Some line) code value = Fetches wide_of old new line code value

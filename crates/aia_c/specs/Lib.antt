@@ -1,0 +1,5 @@
+pub mod Ownership
+pub mod Codes
+pub mod Access
+pub mod Calls
+pub mod Joined

@@ -1,0 +1,114 @@
+//! The model as a library for C: the calls that `include/aia.h` declares.
+#![tactic(auto)]
+
+ghost use Rattle.std.specs.Prelude.{◌≡◌, ◌-◌, ◌≤◌, None, length, take, drop};
+ghost use Rattle.aia_c.specs.Calls.{Opens, Lines, Scripts};
+
+mod access;
+mod code;
+mod guests;
+mod handle;
+mod hosts;
+pub mod laws;
+mod limits;
+mod moves;
+mod serve;
+#[cfg(test)]
+mod tests;
+mod texts;
+
+use aia_replay::Engine;
+use code::Code;
+use handle::Handle;
+use limits::ANSWER_BYTES;
+use std::alloc::Global;
+use texts::{answer_script, write_answer};
+
+/// Opens a closed handle: its engine has no machine.
+#[unsafe(no_mangle)]
+pub extern "C" fn aia_open(handle: &mut Handle, alloc: Global) -> i32
+    ensures { Opens handle.old.engine handle.new.engine result }
+{
+    if let Some(engine) = handle.take(alloc) {
+        *handle = Handle::holding(engine);
+        return Code::Open.number();
+    }
+    match Box::new(alloc, Engine::new()) {
+        Ok(engine) => {
+            *handle = Handle::holding(engine);
+            Code::Done.number()
+        }
+        Err(_) => Code::NoMemory.number(),
+    }
+}
+
+/// Answers a text, which is a line without its LF, and says how many bytes of the answer it wrote:
+/// with an LF, or none of a skipped text.
+#[unsafe(no_mangle)]
+pub extern "C" fn aia_line(
+    handle: &mut Handle,
+    text: &[u8],
+    answer: &mut [u8],
+    written: &mut usize,
+    alloc: Global,
+) -> i32
+    ensures lines { Lines handle.old.engine handle.new.engine text.now
+        (take written.new answer.new) (length answer.old) result }
+    ensures room { written.new ≤ length answer.old }
+    ensures rest { drop written.new answer.new ≡ drop written.new answer.old }
+{
+    *written = 0;
+    if answer.len() < ANSWER_BYTES {
+        return Code::NoRoom.number();
+    }
+    let Some(mut engine) = handle.take(alloc) else {
+        return Code::Closed.number();
+    };
+    let given = engine.text(alloc, text);
+    *handle = Handle::holding(engine);
+    match given {
+        Ok(None) => Code::Done.number(),
+        Ok(Some(word)) => {
+            *written = write_answer(&word, answer);
+            Code::Done.number()
+        }
+        Err(_) => Code::NoMemory.number(),
+    }
+}
+
+/// Answers a script, as far as there is room for the longest answer and memory for a machine, and
+/// says how many bytes of it were taken, whole lines or all, and how many bytes of answers written.
+#[unsafe(no_mangle)]
+pub extern "C" fn aia_replay(
+    handle: &mut Handle,
+    script: &[u8],
+    taken: &mut usize,
+    answers: &mut [u8],
+    written: &mut usize,
+    alloc: Global,
+) -> i32
+    ensures scripts { Scripts handle.old.engine handle.new.engine (take taken.new script.now)
+        (drop taken.new script.now) (take written.new answers.new)
+        (length answers.old - written.new) result }
+    ensures within { (taken.new ≤ length script.now) × (written.new ≤ length answers.old) }
+    ensures rest { drop written.new answers.new ≡ drop written.new answers.old }
+{
+    *taken = 0;
+    *written = 0;
+    let Some(mut engine) = handle.take(alloc) else {
+        return Code::Closed.number();
+    };
+    let front = answer_script(&mut engine, script, answers, alloc);
+    *handle = Handle::holding(engine);
+    *taken = front.taken;
+    *written = front.written;
+    front.code.number()
+}
+
+/// Closes a handle, and frees its engine where it was open.
+#[unsafe(no_mangle)]
+pub extern "C" fn aia_close(handle: &mut Handle, alloc: Global)
+    ensures { handle.new.engine ≡ None }
+{
+    drop(handle.take(alloc));
+}

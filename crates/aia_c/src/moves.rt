@@ -1,0 +1,114 @@
+//! Calls without text about moves of virtual harts, and where these run.
+
+ghost use Rattle.aia_c.specs.Calls.{Acts};
+
+use crate::handle::Handle;
+use crate::serve::{number_of, serve};
+use aia_model::Line;
+use std::alloc::Global;
+
+/// Moves a virtual hart from memory to a guest file of a hart, as `arrive VM C H`.
+#[unsafe(no_mangle)]
+pub extern "C" fn aia_arrive(
+    handle: &mut Handle,
+    vm: u64,
+    vcpu: u64,
+    hart: u64,
+    alloc: Global,
+) -> i32
+    ensures { Acts handle.old.engine handle.new.engine (Line.Arrive vm vcpu hart) result }
+{
+    let line = Line::Arrive { vm, vcpu, hart };
+    number_of(serve(handle, &line, alloc))
+}
+
+/// Moves a virtual hart from its guest file to memory, as `leave VM C`.
+#[unsafe(no_mangle)]
+pub extern "C" fn aia_leave(handle: &mut Handle, vm: u64, vcpu: u64, alloc: Global) -> i32
+    ensures { Acts handle.old.engine handle.new.engine (Line.Leave vm vcpu) result }
+{
+    let line = Line::Leave { vm, vcpu };
+    number_of(serve(handle, &line, alloc))
+}
+
+/// Moves a virtual hart from its guest file to one of a hart, as `shift VM C H`.
+#[unsafe(no_mangle)]
+pub extern "C" fn aia_shift(
+    handle: &mut Handle,
+    vm: u64,
+    vcpu: u64,
+    hart: u64,
+    alloc: Global,
+) -> i32
+    ensures { Acts handle.old.engine handle.new.engine (Line.Shift vm vcpu hart) result }
+{
+    let line = Line::Shift { vm, vcpu, hart };
+    number_of(serve(handle, &line, alloc))
+}
+
+/// Begins such a move of a virtual hart, and does no step, as `begin arrive VM C H`.
+#[unsafe(no_mangle)]
+pub extern "C" fn aia_begin_arrive(
+    handle: &mut Handle,
+    vm: u64,
+    vcpu: u64,
+    hart: u64,
+    alloc: Global,
+) -> i32
+    ensures { Acts handle.old.engine handle.new.engine (Line.BeginArrive vm vcpu hart) result }
+{
+    let line = Line::BeginArrive { vm, vcpu, hart };
+    number_of(serve(handle, &line, alloc))
+}
+
+/// Begins such a move of a virtual hart, and does no step, as `begin leave VM C`.
+#[unsafe(no_mangle)]
+pub extern "C" fn aia_begin_leave(handle: &mut Handle, vm: u64, vcpu: u64, alloc: Global) -> i32
+    ensures { Acts handle.old.engine handle.new.engine (Line.BeginLeave vm vcpu) result }
+{
+    let line = Line::BeginLeave { vm, vcpu };
+    number_of(serve(handle, &line, alloc))
+}
+
+/// Begins such a move of a virtual hart, and does no step, as `begin shift VM C H`.
+#[unsafe(no_mangle)]
+pub extern "C" fn aia_begin_shift(
+    handle: &mut Handle,
+    vm: u64,
+    vcpu: u64,
+    hart: u64,
+    alloc: Global,
+) -> i32
+    ensures { Acts handle.old.engine handle.new.engine (Line.BeginShift vm vcpu hart) result }
+{
+    let line = Line::BeginShift { vm, vcpu, hart };
+    number_of(serve(handle, &line, alloc))
+}
+
+/// Does the next step of the move of a virtual hart, as `step VM C`: the code is `Moving` but for
+/// the last one.
+#[unsafe(no_mangle)]
+pub extern "C" fn aia_step(handle: &mut Handle, vm: u64, vcpu: u64, alloc: Global) -> i32
+    ensures { Acts handle.old.engine handle.new.engine (Line.Step vm vcpu) result }
+{
+    let line = Line::Step { vm, vcpu };
+    number_of(serve(handle, &line, alloc))
+}
+
+/// Has a virtual hart run from memory, as `enter VM C`.
+#[unsafe(no_mangle)]
+pub extern "C" fn aia_enter(handle: &mut Handle, vm: u64, vcpu: u64, alloc: Global) -> i32
+    ensures { Acts handle.old.engine handle.new.engine (Line.Enter vm vcpu) result }
+{
+    let line = Line::Enter { vm, vcpu };
+    number_of(serve(handle, &line, alloc))
+}
+
+/// Has a virtual hart cease to run from memory, as `exit VM C`.
+#[unsafe(no_mangle)]
+pub extern "C" fn aia_exit(handle: &mut Handle, vm: u64, vcpu: u64, alloc: Global) -> i32
+    ensures { Acts handle.old.engine handle.new.engine (Line.Exit vm vcpu) result }
+{
+    let line = Line::Exit { vm, vcpu };
+    number_of(serve(handle, &line, alloc))
+}

@@ -1,0 +1,65 @@
+#!/usr/bin/env python3
+"""The library from Python: the answers of a script, line by line, and calls without text.
+
+    library.py LIBRARY SCRIPT
+
+LIBRARY is the shared object that `examples/check-library` builds.
+"""
+
+import ctypes
+import sys
+
+DONE, ANSWER = 0, 64
+
+
+class Model:
+    """One model, which answers texts, and calls by their names in include/aia.h."""
+
+    def __init__(self, library):
+        self.calls = ctypes.CDLL(library)
+        self.calls.aia_close.restype = None
+        self.handle = ctypes.c_void_p()
+        if self.calls.aia_open(ctypes.byref(self.handle)) != DONE:
+            raise MemoryError
+
+    def __enter__(self):
+        return self
+
+    def __exit__(self, *failure):
+        self.calls.aia_close(ctypes.byref(self.handle))
+
+    def line(self, text):
+        """The answer to a line, with its LF; b"" of a comment or an empty line."""
+        answer, written = ctypes.create_string_buffer(ANSWER), ctypes.c_size_t()
+        code = self.calls.aia_line(ctypes.byref(self.handle), text, ctypes.c_size_t(len(text)),
+                                   answer, ctypes.c_size_t(ANSWER), ctypes.byref(written))
+        if code != DONE:
+            raise MemoryError if code == 1 else ValueError(code)
+        return answer.raw[:written.value]
+
+    def store(self, addr, value):
+        """The code of `st ADDR VALUE`."""
+        return self.calls.aia_store(ctypes.byref(self.handle), ctypes.c_uint64(addr),
+                                    ctypes.c_uint32(value))
+
+    def load(self, addr):
+        """The code and the value of `ld ADDR`."""
+        value = ctypes.c_uint32()
+        code = self.calls.aia_load(ctypes.byref(self.handle), ctypes.c_uint64(addr),
+                                   ctypes.byref(value))
+        return code, value.value
+
+
+def main():
+    library, script = sys.argv[1:]
+    with Model(library) as model, open(script, "rb") as lines:
+        for line in lines:
+            sys.stdout.buffer.write(model.line(line.removesuffix(b"\n")))
+    with Model(library) as model:
+        print(model.store(0x28000000, 5), model.load(0x28000000))  # nomachine is 16
+        model.line(b"machine 1 0 63 8")
+        print(model.store(0x0C000000, 0x100), model.load(0x0C000000))
+
+
+if __name__ == "__main__":
+    main()

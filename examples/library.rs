@@ -1,0 +1,87 @@
+//! The library from plain Rust: a model that closes its handle when it is dropped.
+//! `examples/check-library` builds it with rustc.
+
+use std::ptr;
+
+mod ffi {
+    #[repr(C)]
+    pub struct Aia {
+        _opaque: [u8; 0],
+    }
+
+    unsafe extern "C" {
+        pub fn aia_open(handle: *mut *mut Aia) -> i32;
+        pub fn aia_close(handle: *mut *mut Aia);
+        pub fn aia_line(
+            handle: *mut *mut Aia,
+            text: *const u8,
+            length: usize,
+            answer: *mut u8,
+            room: usize,
+            written: *mut usize,
+        ) -> i32;
+        pub fn aia_store(handle: *mut *mut Aia, addr: u64, value: u32) -> i32;
+    }
+}
+
+/// One model. It may go to another thread, and no two threads use it at once.
+pub struct Model {
+    handle: *mut ffi::Aia,
+}
+
+unsafe impl Send for Model {}
+
+impl Model {
+    /// Makes a model with no machine; `None` where there is no memory.
+    pub fn new() -> Option<Model> {
+        let mut model = Model { handle: ptr::null_mut() };
+        (unsafe { ffi::aia_open(&mut model.handle) } == 0).then_some(model)
+    }
+
+    /// Answers a line; `Err` has the code.
+    pub fn line(&mut self, text: &str) -> Result<String, i32> {
+        let (mut answer, mut written) = ([0; 64], 0);
+        let code = unsafe {
+            ffi::aia_line(
+                &mut self.handle,
+                text.as_ptr(),
+                text.len(),
+                answer.as_mut_ptr(),
+                answer.len(),
+                &mut written,
+            )
+        };
+        match code {
+            0 => Ok(String::from_utf8_lossy(&answer[..written]).into_owned()),
+            _ => Err(code),
+        }
+    }
+
+    /// Stores 32 bits at an address; the code of `st`.
+    pub fn store(&mut self, addr: u64, value: u32) -> i32 {
+        unsafe { ffi::aia_store(&mut self.handle, addr, value) }
+    }
+}
+
+impl Drop for Model {
+    fn drop(&mut self) {
+        unsafe { ffi::aia_close(&mut self.handle) }
+    }
+}
+
+fn main() {
+    let mut model = Model::new().expect("no memory");
+    let lines = [
+        "machine 1 0 63 1",
+        "h 0 csrrw siselect 0x70",
+        "h 0 csrrw sireg 1",
+        "h 0 csrrw siselect 0xc0",
+        "h 0 csrrw sireg 0x20",
+    ];
+    for line in lines {
+        print!("{}", model.line(line).expect("a code"));
+    }
+    println!("{}", model.store(0x2800_0000, 5));
+    let thread = std::thread::spawn(move || model.line("h 0 csrrw stopei 0"));
+    print!("{}", thread.join().expect("a thread").expect("a code"));
+}

@@ -1,0 +1,183 @@
+/* The proved model of a RISC-V machine's interrupts, as a library for C and C++.
+ *
+ * A handle is one model. Its calls answer what the program `aia` answers to the same lines: after
+ * whatever lines a handle was given, by whichever calls, each answer is the model's. What a line
+ * says, and what is answered, docs/REFERENCE.md tells; what is proved of the calls, docs/PROMISES.md.
+ *
+ *     struct aia *model = NULL;
+ *     if (aia_open(&model) == AIA_DONE && aia_machine(&model, 1, 0, 63, 1) == AIA_DONE)
+ *         aia_store(&model, 0x28000000, 5);
+ *     aia_close(&model);
+ *
+ * What the caller owes:
+ * - A handle is NULL before it is opened first, and nothing else writes it. There is one of each: it
+ *   may be moved, and never copied and used twice.
+ * - One call at a time on a handle. It may go from thread to thread, in an order that a lock, the
+ *   start or end of a thread, or a sequentially consistent atomic makes. Handles share nothing.
+ * - Pointers are not NULL, but those to handles' models; what they point to has the length that is
+ *   said, and no two of a call overlap.
+ * - No call from a signal handler, or from the child of a process that had threads, after fork.
+ * - malloc, realloc and free come from one allocator.
+ *
+ * Memory is taken by aia_open, and by the line that makes the machine, alone.
+ */
+#ifndef AIA_H
+#define AIA_H
+
+#include <stdbool.h>
+#include <stddef.h>
+#include <stdint.h>
+
+#ifdef __cplusplus
+extern "C" {
+#endif
+
+/* A model. A `struct aia *` is a handle; NULL is a closed one. */
+struct aia;
+
+/* What a call says. Below 16 it says how the call went: after codes 1 to 5 nothing changed, and no
+ * answer was written. From 16 on, and where it is AIA_DONE, it is the answer to the line. */
+enum aia_code {
+    AIA_DONE = 0,       /* the line did what it says, or the call did */
+    AIA_NO_MEMORY = 1,  /* there is no memory */
+    AIA_CLOSED = 2,     /* the handle is closed */
+    AIA_OPEN = 3,       /* the handle is open already */
+    AIA_NO_ROOM = 4,    /* there is less room than AIA_ANSWER bytes for an answer */
+    AIA_NO_LINE = 5,    /* the numbers name no CSR, or no instruction */
+    AIA_NO_MACHINE = 16, /* nomachine */
+    AIA_AGAIN = 17,      /* again */
+    AIA_MOVING = 18,     /* moving */
+    AIA_BAD = 19,        /* bad */
+    AIA_RANGE = 32,      /* range */
+    AIA_FULL = 33,       /* full */
+    AIA_BUSY = 34,       /* busy */
+    AIA_HOME = 35,       /* home */
+    AIA_ENTERED = 36,    /* entered */
+    AIA_PARKED = 37,     /* parked */
+    AIA_NO_FILE = 38,    /* nofile */
+    AIA_PASSED = 39,     /* passed */
+    AIA_UNREADY = 40,    /* unready */
+    AIA_IDLE = 41,       /* idle */
+    AIA_AWAY = 42,       /* away */
+    AIA_ILLEGAL = 43,    /* illegal */
+    AIA_VIRTUAL = 44,    /* virtual */
+    AIA_FAULT = 45,      /* fault */
+    AIA_GUARDED = 46,    /* guarded */
+    AIA_OTHER = 47,      /* other */
+    AIA_NOT_VALID = 48,  /* notvalid */
+    AIA_G_FAULT = 49     /* gfault */
+};
+
+/* The longest answer, in bytes, with its LF. */
+#define AIA_ANSWER 64
+
+/* CSR instructions, by their funct3: 0 is `csrr`, which reads alone. */
+enum aia_op { AIA_CSRR = 0, AIA_CSRRW = 1, AIA_CSRRS = 2, AIA_CSRRC = 3 };
+
+/* CSRs, by their addresses: a hart has the first six, a virtual hart the last six. */
+enum aia_csr_address {
+    AIA_MISELECT = 0x350,
+    AIA_MIREG = 0x351,
+    AIA_MTOPEI = 0x35c,
+    AIA_SISELECT = 0x150,
+    AIA_SIREG = 0x151,
+    AIA_STOPEI = 0x15c,
+    AIA_STOPI = 0xdb0,
+    AIA_SIP = 0x144,
+    AIA_SIE = 0x104
+};
+
+/* ---- the handle */
+
+/* Opens a closed handle; its model has no machine. AIA_DONE, AIA_NO_MEMORY or AIA_OPEN. */
+int32_t aia_open(struct aia **handle);
+
+/* Closes a handle and frees its model; a closed one stays closed. */
+void aia_close(struct aia **handle);
+
+/* ---- texts */
+
+/* Answers one line, of `length` bytes without its LF. Writes the answer, with its LF, and how many
+ * bytes that are: 0 of an empty line or a comment, and after any code but AIA_DONE. What is behind
+ * them stays as it was. AIA_DONE whatever the answer says, AIA_NO_MEMORY, AIA_CLOSED or AIA_NO_ROOM. */
+int32_t aia_line(struct aia **handle, const uint8_t *text, size_t length, uint8_t *answer,
+                 size_t room, size_t *written);
+
+/* Answers the lines of a script, of any length. Says how many bytes of it were taken: whole lines,
+ * or all of it, where a last line may have no LF; and how many bytes of answers were written. What
+ * is behind them stays as it was. AIA_DONE where all was taken. AIA_NO_ROOM where less room than
+ * AIA_ANSWER bytes was left before a line, AIA_NO_MEMORY at the line that makes the machine: call
+ * again with the rest. AIA_CLOSED. */
+int32_t aia_replay(struct aia **handle, const uint8_t *script, size_t length, size_t *taken,
+                   uint8_t *answers, size_t room, size_t *written);
+
+/* ---- lines without text: each answers as the line does that is named before it. All may answer
+ * AIA_CLOSED; aia_machine alone may answer AIA_NO_MEMORY. A value is 0 where nothing was read. */
+
+/* machine H G N S */
+int32_t aia_machine(struct aia **handle, uint64_t harts, uint64_t guests, uint64_t n,
+                    uint64_t sources);
+/* vm C MASK HART */
+int32_t aia_vm(struct aia **handle, uint64_t vcpus, uint64_t mask, uint64_t hart);
+/* wire S L */
+int32_t aia_wire(struct aia **handle, uint64_t source, bool level);
+/* st A V */
+int32_t aia_store(struct aia **handle, uint64_t addr, uint32_t value);
+/* ld A */
+int32_t aia_load(struct aia **handle, uint64_t addr, uint32_t *value);
+/* pins H: bit 0 is the first of the four digits, of the APLIC's root domain; bit 1 its child's, bit 2
+ * the machine-level file's, bit 3 the supervisor file's. */
+int32_t aia_pins(struct aia **handle, uint64_t hart, uint32_t *pins);
+/* h H hgeip */
+int32_t aia_hgeip(struct aia **handle, uint64_t hart, uint64_t *value);
+/* m H csrr CSR, h H csrr CSR and their kin. AIA_NO_LINE where a number names none. */
+int32_t aia_csr(struct aia **handle, uint64_t hart, uint32_t csr, uint32_t op, uint64_t operand,
+                uint64_t *value);
+
+/* msi VM A D */
+int32_t aia_msi(struct aia **handle, uint64_t vm, uint64_t addr, uint32_t value);
+/* send VM A D */
+int32_t aia_send(struct aia **handle, uint64_t vm, uint64_t addr, uint32_t value);
+/* land VM K */
+int32_t aia_land(struct aia **handle, uint64_t vm, uint64_t k);
+/* refetch VM C */
+int32_t aia_refetch(struct aia **handle, uint64_t vm, uint64_t vcpu);
+/* pass S VM C I */
+int32_t aia_pass(struct aia **handle, uint64_t source, uint64_t vm, uint64_t vcpu,
+                 uint64_t identity);
+/* g VM C csrr CSR and its kin. AIA_NO_LINE where a number names none. */
+int32_t aia_guest_csr(struct aia **handle, uint64_t vm, uint64_t vcpu, uint32_t csr, uint32_t op,
+                      uint64_t operand, uint64_t *value);
+/* g VM C ipi C2 D */
+int32_t aia_ipi(struct aia **handle, uint64_t vm, uint64_t vcpu, uint64_t to, uint32_t value);
+/* inject VM C BIT L */
+int32_t aia_inject(struct aia **handle, uint64_t vm, uint64_t vcpu, uint64_t bit, bool level);
+/* hvictl VM C V */
+int32_t aia_hvictl(struct aia **handle, uint64_t vm, uint64_t vcpu, uint64_t value);
+/* hviprio VM C V */
+int32_t aia_hviprio(struct aia **handle, uint64_t vm, uint64_t vcpu, uint64_t value);
+
+/* arrive VM C H */
+int32_t aia_arrive(struct aia **handle, uint64_t vm, uint64_t vcpu, uint64_t hart);
+/* leave VM C */
+int32_t aia_leave(struct aia **handle, uint64_t vm, uint64_t vcpu);
+/* shift VM C H */
+int32_t aia_shift(struct aia **handle, uint64_t vm, uint64_t vcpu, uint64_t hart);
+/* begin arrive VM C H */
+int32_t aia_begin_arrive(struct aia **handle, uint64_t vm, uint64_t vcpu, uint64_t hart);
+/* begin leave VM C */
+int32_t aia_begin_leave(struct aia **handle, uint64_t vm, uint64_t vcpu);
+/* begin shift VM C H */
+int32_t aia_begin_shift(struct aia **handle, uint64_t vm, uint64_t vcpu, uint64_t hart);
+/* step VM C: AIA_MOVING, and AIA_DONE of the last step. */
+int32_t aia_step(struct aia **handle, uint64_t vm, uint64_t vcpu);
+/* enter VM C */
+int32_t aia_enter(struct aia **handle, uint64_t vm, uint64_t vcpu);
+/* exit VM C */
+int32_t aia_exit(struct aia **handle, uint64_t vm, uint64_t vcpu);
+
+#ifdef __cplusplus
+}
+#endif
+
+#endif

@@ -1,0 +1,189 @@
+/* handles WHAT: tests of handles. WHAT is `edges`, what calls answer at the edges of their words;
+ * `many`, 1,000 handles at once, each asked in turn; `long`, 10,000,000 lines on one handle; or
+ * `threads`, one handle that goes through threads in order, and a handle each for four at once. */
+#include "checks.h"
+
+#include <pthread.h>
+
+/* A closed handle answers that it is closed, and stays so. */
+static void closed_ones(void)
+{
+    struct aia *handle = NULL;
+    struct said said;
+    uint64_t wide = 7;
+    uint32_t narrow = 7;
+    size_t taken = 7, written = 7;
+    uint8_t room[AIA_ANSWER];
+    CHECK(say(&handle, "machine 1 1 63 1", AIA_ANSWER, &said) == AIA_CLOSED && said.length == 0);
+    CHECK(aia_replay(&handle, room, 1, &taken, room + 1, 1, &written) == AIA_CLOSED);
+    CHECK(taken == 0 && written == 0);
+    CHECK(aia_machine(&handle, 1, 1, 63, 1) == AIA_CLOSED);
+    CHECK(aia_store(&handle, 0, 0) == AIA_CLOSED && aia_step(&handle, 0, 0) == AIA_CLOSED);
+    CHECK(aia_load(&handle, 0, &narrow) == AIA_CLOSED && narrow == 0);
+    CHECK(aia_csr(&handle, 0, AIA_STOPEI, AIA_CSRR, 0, &wide) == AIA_CLOSED && wide == 0);
+    CHECK(handle == NULL);
+    aia_close(&handle);
+    CHECK(handle == NULL);
+}
+
+/* Room of 64 bytes is enough, and of 63 too little: then nothing changed. */
+static void room_for_answers(struct aia **handle)
+{
+    struct said said;
+    CHECK(say(handle, "machine 1 1 63 1", AIA_ANSWER - 1, &said) == AIA_NO_ROOM);
+    CHECK(said.length == 0 && answers(handle, "ld 0", "nomachine"));
+    CHECK(say(handle, "machine 1 1 63 1", AIA_ANSWER, &said) == AIA_DONE && said.length == 3);
+    CHECK(answers(handle, "machine 1 1 63 1", "again"));
+    CHECK(answers(handle, "# a comment", "") && answers(handle, "", ""));
+    CHECK(answers(handle, "nonsense", "bad") && answers(handle, "ld 0 ", "bad"));
+}
+
+/* A script is taken up to the line for whose answer there may be no room. */
+static void scripts(struct aia **handle)
+{
+    const char *script = "pins 0\npins 0\n# nothing\npins 0";
+    const uint8_t *bytes = (const uint8_t *)script;
+    uint8_t room[AIA_ANSWER + 13];
+    size_t taken, written;
+    memset(room, UNTOUCHED, sizeof room);
+    CHECK(aia_replay(handle, bytes, strlen(script), &taken, room, AIA_ANSWER + 12, &written) ==
+          AIA_NO_ROOM);
+    CHECK(taken == 7 && written == 13 && memcmp(room, "pins 0 0 0 0\n", 13) == 0);
+    CHECK(room[13] == UNTOUCHED);
+    CHECK(aia_replay(handle, bytes + 7, strlen(script) - 7, &taken, room, AIA_ANSWER + 13,
+                     &written) == AIA_DONE);
+    CHECK(taken == strlen(script) - 7 && written == 26);
+    CHECK(aia_replay(handle, bytes, 0, &taken, room, 0, &written) == AIA_DONE);
+    CHECK(taken == 0 && written == 0);
+    CHECK(aia_replay(handle, bytes, 6, &taken, room, AIA_ANSWER - 1, &written) == AIA_NO_ROOM);
+    CHECK(taken == 0 && written == 0);
+}
+
+/* Numbers of CSRs and instructions that there are not. */
+static void numbers(struct aia **handle)
+{
+    uint64_t value = 7;
+    CHECK(aia_csr(handle, 0, AIA_STOPI, AIA_CSRR, 0, &value) == AIA_NO_LINE && value == 0);
+    CHECK(aia_csr(handle, 0, AIA_STOPEI, 4, 0, &value) == AIA_NO_LINE);
+    CHECK(aia_guest_csr(handle, 0, 0, AIA_MTOPEI, AIA_CSRR, 0, &value) == AIA_NO_LINE);
+    CHECK(aia_csr(handle, 1, AIA_STOPEI, AIA_CSRR, 0, &value) == AIA_RANGE && value == 0);
+    CHECK(aia_machine(handle, 1, 1, 63, 1) == AIA_AGAIN);
+}
+
+static void edges(void)
+{
+    struct aia *handle = NULL, *other = NULL, *moved;
+    closed_ones();
+    CHECK(aia_open(&handle) == AIA_DONE && handle);
+    moved = handle;
+    CHECK(aia_open(&handle) == AIA_OPEN && handle == moved);
+    room_for_answers(&handle);
+    scripts(&handle);
+    numbers(&handle);
+    CHECK(aia_open(&other) == AIA_DONE && other != handle);
+    CHECK(answers(&other, "ld 0", "nomachine"));
+    handle = NULL; /* moved is the handle from here on */
+    CHECK(answers(&moved, "machine 1 1 63 1", "again"));
+    aia_close(&moved);
+    aia_close(&moved);
+    aia_close(&other);
+    CHECK(!moved && !other);
+    CHECK(answers(&moved, "ld 0", "") == false);
+}
+
+/* Each handle has its own machine: identity I + 1 of handle I's file is pending in it alone. */
+static void many(void)
+{
+    enum { HANDLES = 1000, ROUNDS = 20 };
+    static struct aia *handles[HANDLES];
+    for (int at = 0; at < HANDLES; at++) {
+        CHECK(aia_open(&handles[at]) == AIA_DONE);
+        CHECK(aia_machine(&handles[at], 1, 0, 1023, 1) == AIA_DONE);
+    }
+    for (int round = 0; round < ROUNDS; round++) {
+        for (int at = 0; at < HANDLES; at++)
+            CHECK(aia_store(&handles[at], 0x28000000, at + 1) == AIA_DONE);
+        for (int at = HANDLES - 1; at >= 0; at--) {
+            uint64_t value, bit = (uint64_t)1 << (at + 1) % 64, number = 0x80 + (at + 1) / 64 * 2;
+            CHECK(aia_csr(&handles[at], 0, AIA_SISELECT, AIA_CSRRW, number, &value) == AIA_DONE);
+            CHECK(aia_csr(&handles[at], 0, AIA_SIREG, AIA_CSRRW, 0, &value) == AIA_DONE);
+            CHECK(value == bit);
+        }
+    }
+    for (int at = 0; at < HANDLES; at += 2)
+        aia_close(&handles[at]);
+    for (int at = 0; at < HANDLES; at++) {
+        CHECK((handles[at] == NULL) == (at % 2 == 0));
+        aia_close(&handles[at]);
+    }
+}
+
+/* Ten million lines: each store is claimed by the next line. */
+static void long_one(void)
+{
+    struct aia *handle = NULL;
+    uint64_t value;
+    CHECK(aia_open(&handle) == AIA_DONE && aia_machine(&handle, 1, 0, 63, 1) == AIA_DONE);
+    CHECK(answers(&handle, "h 0 csrrw siselect 0x70", "0x0000000000000000"));
+    CHECK(answers(&handle, "h 0 csrrw sireg 1", "0x0000000000000000"));
+    CHECK(answers(&handle, "h 0 csrrw siselect 0xc0", "0x0000000000000070"));
+    CHECK(answers(&handle, "h 0 csrrw sireg 0xfffffffffffffffe", "0x0000000000000000"));
+    for (uint32_t line = 0; line < 5000000; line++) {
+        uint64_t identity = 1 + line % 63;
+        CHECK(aia_store(&handle, 0x28000000, (uint32_t)identity) == AIA_DONE);
+        CHECK(aia_csr(&handle, 0, AIA_STOPEI, AIA_CSRRW, 0, &value) == AIA_DONE);
+        CHECK(value == (identity << 16 | identity));
+    }
+    aia_close(&handle);
+}
+
+static void *in_order(void *handle)
+{
+    for (int line = 0; line < 1000; line++)
+        CHECK(aia_store(handle, 0x28000000, 5) == AIA_DONE);
+    return NULL;
+}
+
+static void *at_once(void *handle)
+{
+    struct aia *own = NULL;
+    (void)handle;
+    CHECK(aia_open(&own) == AIA_DONE && aia_machine(&own, 4, 7, 2047, 1023) == AIA_DONE);
+    for (uint64_t line = 0; line < 100000; line++)
+        CHECK(aia_wire(&own, 1 + line % 1023, line & 1) == AIA_DONE);
+    aia_close(&own);
+    return NULL;
+}
+
+static void threads(void)
+{
+    struct aia *handle = NULL;
+    pthread_t four[4];
+    CHECK(aia_open(&handle) == AIA_DONE && aia_machine(&handle, 1, 0, 63, 1) == AIA_DONE);
+    for (int at = 0; at < 4; at++) {
+        CHECK(pthread_create(four, NULL, in_order, &handle) == 0);
+        CHECK(pthread_join(*four, NULL) == 0);
+    }
+    CHECK(answers(&handle, "h 0 csrrw siselect 0x80", "0x0000000000000000"));
+    CHECK(answers(&handle, "h 0 csrr sireg", "0x0000000000000020"));
+    aia_close(&handle);
+    for (int at = 0; at < 4; at++)
+        CHECK(pthread_create(&four[at], NULL, at_once, NULL) == 0);
+    for (int at = 0; at < 4; at++)
+        CHECK(pthread_join(four[at], NULL) == 0);
+}
+
+int main(int argc, char **argv)
+{
+    static const struct {
+        const char *name;
+        void (*test)(void);
+    } tests[] = {{"edges", edges}, {"many", many}, {"long", long_one}, {"threads", threads}};
+    for (size_t at = 0; argc == 2 && at < sizeof tests / sizeof *tests; at++) {
+        if (strcmp(argv[1], tests[at].name) == 0) {
+            tests[at].test();
+            return 0;
+        }
+    }
+    CHECK(!"the word is edges, many, long or threads");
+}

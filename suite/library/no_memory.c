@@ -1,0 +1,94 @@
+/* no_memory: each allocation fails in turn. The handle stays as it was, nothing is lost, and the same
+ * line goes well once there is memory. Linked with --wrap=malloc,--wrap=realloc,--wrap=free. */
+#include "checks.h"
+
+void *__real_malloc(size_t size);
+void *__real_realloc(void *block, size_t size);
+void __real_free(void *block);
+void *__wrap_malloc(size_t size);
+void *__wrap_realloc(void *block, size_t size);
+void __wrap_free(void *block);
+
+static long left = -1; /* how many allocations go well yet; below 0, all */
+static long blocks;    /* how many there are */
+
+static bool fails(void)
+{
+    if (left > 0)
+        left--;
+    else if (left == 0)
+        return true;
+    return false;
+}
+
+void *__wrap_malloc(size_t size)
+{
+    if (fails())
+        return NULL;
+    blocks++;
+    return __real_malloc(size);
+}
+
+void *__wrap_realloc(void *block, size_t size)
+{
+    if (fails())
+        return NULL;
+    blocks += block == NULL;
+    return __real_realloc(block, size);
+}
+
+void __wrap_free(void *block)
+{
+    blocks -= block != NULL;
+    __real_free(block);
+}
+
+/* Makes the greatest machine by one of the three kinds of call. */
+static int32_t make(struct aia **handle, int how)
+{
+    const char *script = "# the greatest\nmachine 4 31 2047 1023\npins 0\n";
+    uint8_t room[3 * AIA_ANSWER];
+    size_t taken, written;
+    struct said said;
+    if (how == 0)
+        return aia_machine(handle, 4, 31, 2047, 1023);
+    if (how == 1)
+        return say(handle, "machine 4 31 2047 1023", AIA_ANSWER, &said);
+    int32_t code = aia_replay(handle, (const uint8_t *)script, strlen(script), &taken, room,
+                              sizeof room, &written);
+    CHECK(code != AIA_NO_MEMORY || (taken == 15 && written == 0));
+    return code;
+}
+
+int main(void)
+{
+    long opens = 0, machines = 0, fine = 0;
+    for (int how = 0; how < 3; how++) {
+        for (long at = 0; fine <= how && at < 10000; at++) {
+            struct aia *handle = NULL;
+            left = at;
+            if (aia_open(&handle) != AIA_DONE) {
+                CHECK(!handle && !blocks);
+                opens++;
+                continue;
+            }
+            long before = blocks;
+            int32_t code = make(&handle, how);
+            if (code == AIA_NO_MEMORY) {
+                machines++;
+                CHECK(handle && blocks == before && answers(&handle, "ld 0", "nomachine"));
+                left = -1;
+                CHECK(make(&handle, how) == AIA_DONE && answers(&handle, "pins 3", "pins 0 0 0 0"));
+            } else {
+                CHECK(code == AIA_DONE);
+                fine++;
+            }
+            left = -1;
+            aia_close(&handle);
+            CHECK(!handle && !blocks);
+        }
+    }
+    CHECK(opens == 3 && fine == 3 && machines > 3);
+    printf("%ld opens and %ld machines had no memory\n", opens, machines);
+    return 0;
+}
