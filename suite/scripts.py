@@ -32,7 +32,7 @@ def draw_of(given):
     return Draw(
         answers.forms_of(given["only"]) if "only" in given else None,
         answers.sizes_of(given["machine"]) if "machine" in given else None, mood,
-        running.number(refused, "PERCENT", 0, 90) if refused is not None else None)
+        running.number(refused, "PERCENT", 0, 80) if refused is not None else None)
 
 
 class Filter:

@@ -1,0 +1,88 @@
+"""Shrinks a script that two programs answer differently to the fewest lines that still are."""
+
+import answers
+
+# The most runs of both programs that a shrinking takes.
+MOST_RUNS = 2000
+# Two lines at most so far apart are tried to be left out together.
+NEAR = 8
+SMALLER = ((1, 2, 3), (0, 1, 2), (63, 127, 255, 511, 1023), (1, 8, 32))
+
+
+class Shrinker:
+    """A script's lines, made fewer. `try_` runs both programs over a script, and gives the place of
+    the first difference among the lines that have an answer, None where there is none."""
+
+    def __init__(self, script, try_):
+        self.try_ = try_
+        self.runs = 0
+        self.texts = [text for text in answers.reading.texts(script)
+                      if not answers.reading.is_skipped(text)]
+
+    def script(self):
+        """Gives the lines that are left, as a script."""
+        return b"".join(text + b"\n" for text in self.texts)
+
+    def takes(self, texts):
+        """Takes these lines, up to the first difference, if there is one."""
+        if self.runs == MOST_RUNS:
+            return False
+        self.runs += 1
+        at = self.try_(b"".join(text + b"\n" for text in texts))
+        if at is None:
+            return False
+        self.texts = texts[:at + 1]
+        return True
+
+    def leave_out(self):
+        """Leaves out runs of lines, ever shorter ones, from the end on; then two near each other.
+        Says whether that made the script shorter."""
+        before = len(self.texts)
+        size = max(1, before // 2)
+        while size:
+            is_shorter = False
+            at = len(self.texts) - size
+            while at >= 0:
+                is_shorter |= self.takes(self.texts[:at] + self.texts[at + size:])
+                at = min(at, len(self.texts)) - size
+            size = 1 if is_shorter and size == 1 else size // 2
+        first = len(self.texts) - 2
+        while first >= 0:
+            for second in range(first + 1, min(first + NEAR, len(self.texts))):
+                if self.takes([text for at, text in enumerate(self.texts)
+                               if at not in (first, second)]):
+                    break
+            first = min(first, len(self.texts)) - 1
+        return len(self.texts) < before
+
+    def make_smaller(self, place):
+        """Gives the machine less of one of its numbers."""
+        for at, text in enumerate(self.texts):
+            name, sizes = answers.reading.read(text)
+            if name == "machine":
+                for size in SMALLER[place]:
+                    less = (*sizes[:place], size, *sizes[place + 1:])
+                    line = b"machine %d %d %d %d" % less
+                    if size < sizes[place] and self.takes(
+                            self.texts[:at] + [line] + self.texts[at + 1:]):
+                        return
+
+    def make_whole(self):
+        """Makes whole moves of those by steps. Says whether that made the script shorter."""
+        before = len(self.texts)
+        for at in range(before - 1, -1, -1):
+            words = self.texts[at].split(b" ") if at < len(self.texts) else []
+            if words[:1] == [b"begin"] and len(words) > 3:
+                step = b" ".join([b"step", *words[2:4]])
+                self.takes(self.texts[:at] + [b" ".join(words[1:])]
+                           + [text for text in self.texts[at + 1:] if text != step])
+        return len(self.texts) < before
+
+    def shrink(self):
+        """Makes the script as short as it gets."""
+        self.takes(self.texts)
+        self.make_smaller(2)
+        while self.leave_out() or self.make_whole():
+            pass
+        for place in range(4):
+            self.make_smaller(place)
