@@ -55,34 +55,38 @@ class Shrinker:
             first = min(first, len(self.texts)) - 1
         return len(self.texts) < before
 
-    def make_smaller(self, place):
-        """Gives the machine less of one of its numbers."""
-        for at, text in enumerate(self.texts):
-            name, sizes = answers.reading.read(text)
-            if name == "machine":
-                for size in SMALLER[place]:
-                    less = (*sizes[:place], size, *sizes[place + 1:])
-                    line = b"machine %d %d %d %d" % less
-                    if size < sizes[place] and self.takes(
-                            self.texts[:at] + [line] + self.texts[at + 1:]):
-                        return
+    def make_smaller(self):
+        """Gives the machine less of each of its numbers. Says whether it took less."""
+        at = next((at for at, text in enumerate(self.texts) if text.startswith(b"machine ")), None)
+        _, sizes = answers.reading.read(self.texts[at]) if at is not None else ("", ())
+        before = list(sizes)
+        for place in range(len(sizes)):
+            for size in SMALLER[place]:
+                less = (*sizes[:place], size, *sizes[place + 1:])
+                if size < sizes[place] and self.takes(
+                        [*self.texts[:at], b"machine %d %d %d %d" % less, *self.texts[at + 1:]]):
+                    sizes = less
+                    break
+        return list(sizes) != before
 
     def make_whole(self):
         """Makes whole moves of those by steps. Says whether that made the script shorter."""
         before = len(self.texts)
         for at in range(before - 1, -1, -1):
-            words = self.texts[at].split(b" ") if at < len(self.texts) else []
-            if words[:1] == [b"begin"] and len(words) > 3:
-                step = b" ".join([b"step", *words[2:4]])
-                self.takes(self.texts[:at] + [b" ".join(words[1:])]
-                           + [text for text in self.texts[at + 1:] if text != step])
+            name, fields = answers.reading.read(self.texts[at]) if at < len(self.texts) else ("", ())
+            if name.startswith("begin_"):
+                rest = [text for text in self.texts[at + 1:]
+                        if answers.reading.read(text) != ("step", fields[:2])]
+                whole = self.texts[at].split(b" ", 1)[1]
+                # What came between the steps comes after the whole move, or else before it.
+                last = rest[-1:]
+                self.takes([*self.texts[:at], whole, *rest]) or self.takes(
+                    [*self.texts[:at], *rest[:-1], whole, *last])
         return len(self.texts) < before
 
     def shrink(self):
         """Makes the script as short as it gets."""
         self.takes(self.texts)
-        self.make_smaller(2)
-        while self.leave_out() or self.make_whole():
+        self.make_smaller()
+        while self.leave_out() or self.make_whole() or self.make_smaller():
             pass
-        for place in range(4):
-            self.make_smaller(place)
