@@ -24,6 +24,9 @@ BUILDING = 7200
 # How much of what a command says to standard error is kept, in bytes.
 KEPT_ERRORS = 4096
 NOT_STARTED = (126, 127)
+STOPPING = (signal.SIGINT, signal.SIGTERM, signal.SIGHUP)
+# How long a command has to end once it is told to, in seconds.
+GRACE = 3
 
 
 class Ran(NamedTuple):
@@ -90,20 +93,32 @@ def contents(path):
         fail(f"{path} can't be read: {wrong.strerror}")
 
 
-def kill(process):
-    """Ends a command and all that it has started in its group."""
+def tell(process, signal_number):
+    """Sends a signal to a command and to all that it has started in its group."""
     try:
-        os.killpg(process.pid, signal.SIGKILL)
+        os.killpg(process.pid, signal_number)
     except ProcessLookupError:
         pass
 
 
+def kill(process):
+    """Ends a command and its group: it is told first, so that it may end what it has started."""
+    tell(process, signal.SIGTERM)
+    try:
+        process.wait(GRACE)
+    except subprocess.TimeoutExpired:
+        pass
+    tell(process, signal.SIGKILL)
+
+
 def stop(signal_number, _frame):
     """Ends all that runs, and the tool with the status that the signal has in a shell."""
-    for each in (signal.SIGINT, signal.SIGTERM, signal.SIGHUP):
+    for each in STOPPING:
         signal.signal(each, signal.SIG_IGN)
     with State.lock:
         State.is_stopping = True
+        for process in State.running:
+            tell(process, signal.SIGTERM)
         for process in State.running:
             kill(process)
     sys.exit(128 + signal_number)
@@ -111,7 +126,7 @@ def stop(signal_number, _frame):
 
 def main(tool):
     """Runs a tool, a function that gives its exit status, and ends with that."""
-    for each in (signal.SIGINT, signal.SIGTERM, signal.SIGHUP):
+    for each in STOPPING:
         signal.signal(each, stop)
     try:
         status = tool()
