@@ -265,9 +265,10 @@ def legend(picture, y):
                  " Numbers are identities.", 11.5, "#52606d")
 
 
-def in_svg(script, first, last, title):
+def in_svg(script, first, last, name):
     """Gives the picture as SVG."""
     found, names = watched(script, first, last), names_of(script)
+    title = f"{name}, lines {found[0].number} to {found[-1].number}"
     harts = harts_of(found)
     bottom = TOP_EDGE + (2 * len(harts) + 1) * ROW
     picture = svg.Picture(max(LEFT + len(found) * CELL + 50, 860), bottom + 56, title)

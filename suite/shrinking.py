@@ -23,6 +23,10 @@ class Shrinker:
         """Gives the lines that are left, as a script."""
         return b"".join(text + b"\n" for text in self.texts)
 
+    def read(self, at):
+        """Gives the form and the fields of a line."""
+        return answers.reading.read(self.texts[at])
+
     def takes(self, texts):
         """Takes these lines, up to the first difference, if there is one."""
         if self.runs == MOST_RUNS:
@@ -58,7 +62,7 @@ class Shrinker:
     def make_smaller(self):
         """Gives the machine less of each of its numbers. Says whether it took less."""
         at = next((at for at, text in enumerate(self.texts) if text.startswith(b"machine ")), None)
-        _, sizes = answers.reading.read(self.texts[at]) if at is not None else ("", ())
+        _, sizes = self.read(at) if at is not None else ("", ())
         before = list(sizes)
         for place in range(len(sizes)):
             for size in SMALLER[place]:
@@ -73,7 +77,8 @@ class Shrinker:
         """Makes whole moves of those by steps. Says whether that made the script shorter."""
         before = len(self.texts)
         for at in range(before - 1, -1, -1):
-            name, fields = answers.reading.read(self.texts[at]) if at < len(self.texts) else ("", ())
+            # Fewer lines may be left than there were.
+            name, fields = self.read(at) if at < len(self.texts) else ("", ())
             if name.startswith("begin_"):
                 rest = [text for text in self.texts[at + 1:]
                         if answers.reading.read(text) != ("step", fields[:2])]

@@ -53,15 +53,16 @@ def answered(script):
 
 
 def first_difference(seed, script, wanted, found, ended):
-    """The first line whose answers differ."""
-    ours, theirs = wanted.split(b"\n"), found.split(b"\n")
-    for index, (place, text, form) in enumerate(answered(script)):
-        got = theirs[index] if index < len(theirs) else b"(no answer)"
-        if ours[index] != got:
-            line, got = (given.decode(errors="backslashreplace") for given in (text, got))
-            return form, (f"seed {seed} line {place}: {line}: wanted {ours[index].decode()}, "
-                          f"got {got}" + (f" ({ended})" if ended else ""))
-    return "end", f"seed {seed}: the end differs ({ended}, {len(wanted)} and {len(found)} bytes)"
+    """The form of the first line whose answers differ, and what to say of it."""
+    at = answers.first_difference(script, wanted, found, answers.Known())
+    lines = answers.lines(script)
+    if at is None or at >= len(lines):
+        return "end", (f"seed {seed}: the end differs ({ended}, {len(wanted)} and {len(found)}"
+                       " bytes)")
+    ours, theirs = answers.answers(wanted), [*answers.answers(found), *["(no answer)"] * len(lines)]
+    form = [form for _, _, form in answered(script)][at]
+    return form, (f"seed {seed} line {lines[at].number}: {lines[at].text}: wanted {ours[at]}, got"
+                  f" {theirs[at]}" + (f" ({ended})" if ended else ""))
 
 
 def compare(work):
