@@ -11,7 +11,8 @@ from running import TOP, contents, fail
 
 sys.path.append(str(TOP / "peers/apart"))
 
-import reading  # noqa: E402: the way to it stands above
+import reading  # noqa: E402: the way to both stands above
+from model import is_machine_size  # noqa: E402
 
 # Answers that say that the script is wrong, and not the machine.
 MISTAKES = {"bad", "nomachine", "again", "range"}
@@ -21,8 +22,6 @@ REFUSALS = MISTAKES | {
 NOT_SHOWN = "-"
 # The most bytes that an answer has, with its LF.
 ANSWER_BYTES = 128
-# Where a machine's numbers end: harts, guest files, identities, sources.
-SIZES = (range(1, 5), range(32), (63, 127, 255, 511, 1023, 2047), range(1, 1024))
 FORMS = sorted({name.split("_")[0] for name, _ in reading.BY_KEYWORDS.values()}
                | {word.decode() for word in reading.READERS})
 
@@ -92,7 +91,7 @@ def sizes_of(text):
     """Reads the four numbers of a machine, as '1 7 255 96'."""
     found = text.split()
     if not (len(found) == 4 and all(re.fullmatch("[0-9]{1,4}", word) for word in found)
-            and all(int(word) in limits for word, limits in zip(found, SIZES))):
+            and is_machine_size(*map(int, found))):
         fail(f"no machine has the numbers {text!r}: they are 1 to 4 harts, 0 to 31 guest files, 63,"
              " 127, 255, 511, 1023 or 2047 identities, 1 to 1023 sources")
     return tuple(map(int, found))
@@ -103,7 +102,7 @@ def with_sizes(script, sizes):
     texts = script.split(b"\n")
     for at, text in enumerate(texts):
         name, fields = reading.read(text) or ("", ())
-        if name == "machine" and all(one in limits for one, limits in zip(fields, SIZES)):
+        if name == "machine" and is_machine_size(*fields):
             texts[at] = b"machine %d %d %d %d" % sizes
             break
     return b"\n".join(texts)
@@ -210,7 +209,7 @@ def hint(difference):
     _, _, model, mine = difference
     if model == mine:
         return " (--strict)"
-    if model in MISTAKES:
+    if model == "bad" or mine == NOT_SHOWN:
         return " (the script is no trace of a machine here)"
     if model == mine.strip().lower():
         return " (its spelling alone differs: capitals, CR, or spaces)"

@@ -65,7 +65,8 @@ def scripts(options):
 def wanted(path, script, options, model):
     """Gives what the model answers to a script."""
     if not options.sizes:
-        return path.with_suffix(".out").read_bytes()
+        stands = path.with_suffix(".out")
+        return stands.read_bytes() if stands.exists() else b""
     ran = running.run(model, script, options.each, answers.most_output(script))
     if ran.fault():
         running.fail(f"the model has no answers to {path.name}: {ran.fault()}")
