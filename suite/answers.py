@@ -217,12 +217,12 @@ def hint(difference):
 
 
 def first_difference(script, model, mine, known):
-    """Gives the place of the first difference among the lines that have an answer; None where there
-    is none. It is quick, and says no more."""
+    """Gives the place of the first difference among the lines that have an answer, and what the
+    model answers there; None where there is none."""
     for at, (line, want, got) in enumerate(zip_longest(lines(script), answers(model),
                                                        answers(mine), fillvalue="")):
         if want != got and not (got == NOT_SHOWN and want not in MISTAKES):
             text = line.text if line else ""
             if not known.has(text, want, got):
-                return at
+                return at, want
     return None

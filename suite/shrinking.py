@@ -6,16 +6,22 @@ import answers
 MOST_RUNS = 2000
 # Two lines at most so far apart are tried to be left out together.
 NEAR = 8
+# From here on a number is spelled in hexadecimal.
+GREAT = 1 << 16
+# What is tried for each number of a machine.
 SMALLER = ((1, 2, 3), (0, 1, 2), (63, 127, 255, 511, 1023), (1, 8, 32))
 
 
 class Shrinker:
     """A script's lines, made fewer. `try_` runs both programs over a script, and gives the place of
-    the first difference among the lines that have an answer, None where there is none."""
+    the first difference among the lines that have an answer, with the model's answer there, None
+    where there is none. A line that the model answered as a machine would is not made one by which
+    the script is wrong: that another machine takes it says nothing."""
 
-    def __init__(self, script, try_):
-        self.try_ = try_
+    def __init__(self, script, try_, is_machine_fixed=False):
+        self.try_, self.is_machine_fixed = try_, is_machine_fixed
         self.runs = 0
+        self.allowed = answers.MISTAKES
         self.texts = [text for text in answers.reading.texts(script)
                       if not answers.reading.is_skipped(text)]
 
@@ -32,10 +38,11 @@ class Shrinker:
         if self.runs == MOST_RUNS:
             return False
         self.runs += 1
-        at = self.try_(b"".join(text + b"\n" for text in texts))
-        if at is None:
+        found = self.try_(b"".join(text + b"\n" for text in texts))
+        if not found or found[1] in answers.MISTAKES - self.allowed:
             return False
-        self.texts = texts[:at + 1]
+        self.texts = texts[:found[0] + 1]
+        self.allowed = {found[1]} & self.allowed
         return True
 
     def leave_out(self):
@@ -60,7 +67,10 @@ class Shrinker:
         return len(self.texts) < before
 
     def make_smaller(self):
-        """Gives the machine less of each of its numbers. Says whether it took less."""
+        """Gives the machine less of each of its numbers, unless they are fixed. Says whether it
+        took less."""
+        if self.is_machine_fixed:
+            return False
         at = next((at for at, text in enumerate(self.texts) if text.startswith(b"machine ")), None)
         _, sizes = self.read(at) if at is not None else ("", ())
         before = list(sizes)
@@ -89,9 +99,19 @@ class Shrinker:
                     [*self.texts[:at], *rest[:-1], whole, *last])
         return len(self.texts) < before
 
+    def spell(self):
+        """Spells great numbers as addresses are, and others without zeros in front."""
+        def plain(word):
+            value = answers.reading.number(word)
+            if value is None or word.isdigit() and value < GREAT:
+                return word
+            return b"0x%x" % value
+        self.takes([b" ".join(map(plain, text.split(b" "))) for text in self.texts])
+
     def shrink(self):
         """Makes the script as short as it gets."""
         self.takes(self.texts)
         self.make_smaller()
         while self.leave_out() or self.make_whole() or self.make_smaller():
             pass
+        self.spell()

@@ -54,9 +54,10 @@ def answered(script):
 
 def first_difference(seed, script, wanted, found, ended):
     """The form of the first line whose answers differ, and what to say of it."""
-    at = answers.first_difference(script, wanted, found, answers.Known())
-    lines = answers.lines(script)
-    if at is None or at >= len(lines):
+    difference, lines = (answers.first_difference(script, wanted, found, answers.Known()),
+                         answers.lines(script))
+    at = difference[0] if difference else len(lines)
+    if at >= len(lines):
         return "end", (f"seed {seed}: the end differs ({ended}, {len(wanted)} and {len(found)}"
                        " bytes)")
     ours, theirs = answers.answers(wanted), [*answers.answers(found), *["(no answer)"] * len(lines)]
