@@ -26,7 +26,7 @@ HOMES = {"parked": "in memory", "entered": "runs from memory", "leaving": "moves
 COLORS = {"in memory": svg.MEMORY, "runs from memory": svg.OTHER, "moves": svg.HAND}
 MOVES = ("arrive", "leave", "shift")
 # Of the picture as SVG: its margins, and the width and height of a mark.
-LEFT, TOP_EDGE, CELL, ROW = 128, 120, 36, 26
+LEFT, TOP_EDGE, CELL, ROW = 128, 140, 36, 26
 
 
 class Store(NamedTuple):
@@ -257,7 +257,8 @@ def legend(picture, y):
     x = 14
     for color, words in ((svg.GUEST, "in a guest file, or a store that went there"),
                          (svg.MEMORY, "in memory, or a store that went there"),
-                         (svg.HAND, "moves"), (svg.TOLD, "the host is told")):
+                         (svg.OTHER, "runs from memory"), (svg.HAND, "moves"),
+                         (svg.TOLD, "the host is told")):
         picture.box(x, y + 6, 14, 14, color, None, 4)
         picture.text(x + 20, y + 17, words, 11.5, "#52606d")
         x += 34 + 6.3 * len(words)

@@ -131,9 +131,12 @@ def main(tool):
     try:
         status = tool()
         sys.stdout.flush()
-    except BrokenPipeError:
-        # Nobody reads on; the null device takes what Python would write at its end.
+    except OSError as wrong:
+        # The null device takes what Python would write at its end; where nobody reads on, no more
+        # is said.
         os.dup2(os.open(os.devnull, os.O_WRONLY), sys.stdout.fileno())
+        if not isinstance(wrong, BrokenPipeError):
+            print(f"{Path(sys.argv[0]).name}: {wrong}", file=sys.stderr)
         status = 2
     sys.exit(status)
 
