@@ -43,8 +43,15 @@ class Difference(NamedTuple):
 
 
 def shown(text):
-    """Gives bytes as text, with what is no text spelled out."""
-    return text.decode(errors="backslashreplace")
+    """Gives bytes as text; no two are the same."""
+    return text.decode(errors="surrogateescape")
+
+
+def printable(text):
+    """Spells out what a terminal would not show, as the CR at the end of a line."""
+    return text if text.isprintable() else "".join(
+        one if one.isprintable() else one.encode("unicode_escape", "surrogatepass").decode()
+        for one in text)
 
 
 def lines(script):
@@ -176,25 +183,29 @@ class Verdict:
 
     def told(self, most, margin=""):
         """Says each difference, so many at most, with the three lines before it."""
+        for text in self.said(most):
+            yield margin + printable(text)
+
+    def said(self, most):
+        """Says them as they are."""
         for text in self.head if self.count() else ():
-            yield f"{margin}{text}"
+            yield text
         told = 0
         for difference in self.differences[:most]:
             for before in range(max(told, difference.at - 3), difference.at):
                 line = self.script[before]
-                yield f"{margin}{line.number:6}  {line.text:30}  {self.model[before]}"
+                yield f"{line.number:6}  {line.text:30}  {self.model[before]}"
             told = difference.at + 1
-            yield f"{margin}line {difference.line.number}: {difference.line.text}"
-            yield f"{margin}  model: {difference.model}"
-            yield f"{margin}  mine:  {difference.mine}{hint(difference)}"
+            yield f"line {difference.line.number}: {difference.line.text}"
+            yield f"  model: {difference.model}"
+            yield f"  mine:  {difference.mine}{hint(difference)}"
         if len(self.differences) > most:
-            yield f"{margin}and {len(self.differences) - most} more that differ"
+            yield f"and {len(self.differences) - most} more that differ"
         if self.missing:
             line = self.script[len(self.mine)]
-            yield (f"{margin}{self.missing} answers are missing, from line {line.number} on:"
-                   f" {line.text}")
+            yield f"{self.missing} answers are missing, from line {line.number} on: {line.text}"
         if self.spare:
-            yield f"{margin}{len(self.spare)} answers are spare, the first: {self.spare[0]}"
+            yield f"{len(self.spare)} answers are spare, the first: {self.spare[0]}"
 
     def summary(self):
         """Says in one line how many answers are the same, and not."""

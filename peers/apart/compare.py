@@ -62,8 +62,9 @@ def first_difference(seed, script, wanted, found, ended):
                        " bytes)")
     ours, theirs = answers.answers(wanted), [*answers.answers(found), *["(no answer)"] * len(lines)]
     form = [form for _, _, form in answered(script)][at]
-    return form, (f"seed {seed} line {lines[at].number}: {lines[at].text}: wanted {ours[at]}, got"
-                  f" {theirs[at]}" + (f" ({ended})" if ended else ""))
+    return form, answers.printable(
+        f"seed {seed} line {lines[at].number}: {lines[at].text}: wanted {ours[at]}, got"
+        f" {theirs[at]}" + (f" ({ended})" if ended else ""))
 
 
 def compare(work):
