@@ -7,7 +7,7 @@ from fnmatch import fnmatchcase
 from itertools import zip_longest
 from typing import NamedTuple
 
-from running import TOP, contents, fail
+from running import TOP, contents, counted, fail
 
 sys.path.append(str(TOP / "peers/apart"))
 
@@ -148,7 +148,7 @@ class Known:
     def told(self):
         """Says of each row how often it was met."""
         for row, met in zip(self.rows, self.met):
-            yield f"known, {met} times: {row[3]} ({' | '.join(row[:3])})"
+            yield f"known, met {counted(met, 'time')}: {row[3]} ({' | '.join(row[:3])})"
 
 
 class Verdict:
@@ -203,9 +203,10 @@ class Verdict:
             yield f"and {len(self.differences) - most} more that differ"
         if self.missing:
             line = self.script[len(self.mine)]
-            yield f"{self.missing} answers are missing, from line {line.number} on: {line.text}"
+            yield (f"{counted(self.missing, 'answer')} missing, from line {line.number} on:"
+                   f" {line.text}")
         if self.spare:
-            yield f"{len(self.spare)} answers are spare, the first: {self.spare[0]}"
+            yield f"{counted(len(self.spare), 'answer')} spare, the first: {self.spare[0]}"
 
     def summary(self):
         """Says in one line how many answers are the same, and not."""

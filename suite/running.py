@@ -85,6 +85,11 @@ def number(text, what, least, most):
     return int(text)
 
 
+def counted(number_, word):
+    """Says how many there are of something, as 1 line, 2 lines."""
+    return f"{number_} {word}" + ("" if number_ == 1 else "s")
+
+
 def contents(path):
     """Gives the bytes of a file."""
     try:
