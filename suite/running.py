@@ -18,6 +18,10 @@ from concurrent.futures import ThreadPoolExecutor
 from pathlib import Path
 from typing import NamedTuple
 
+if sys.version_info < (3, 10):
+    print(f"{Path(sys.argv[0]).name}: Python 3.10 or later is wanted", file=sys.stderr)
+    sys.exit(2)
+
 TOP = Path(__file__).resolve().parent.parent
 # How long the program may take to be proved and built, in seconds.
 BUILDING = 7200
