@@ -371,15 +371,16 @@ def tried():
 
 
 def printed(program):
-    """Runs the two programs of TRACES in lockstep and the script of MOVES."""
-    for name, heading, shell, wanted in (
-        ("docs/TRACES.md", "In lockstep", ["python3", "-B", "-c"], r"(?s)This ends with `([^`]*)`"),
-        ("docs/MOVES.md", "Try it", ["bash", "-c"], r"(?ms)^It prints .*?^```\n(.*?)^```"),
+    """Runs what TRACES says of lockstep, and the script of MOVES."""
+    code = re.search(r"(?ms)^```sh\n(.*?)^```", section("docs/MOVES.md", "Try it")).group(1)
+    lockstep = ["python3", "-B", TOP / "examples/lockstep.py", program]
+    for name, heading, command, wanted in (
+        ("docs/TRACES.md", "In lockstep", lockstep, r"(?s)Each ends with `([^`]*)`"),
+        ("docs/MOVES.md", "Try it", ["bash", "-c", code.replace("./aia", str(program))],
+         r"(?ms)^It prints .*?^```\n(.*?)^```"),
     ):
-        text = section(name, heading)
-        code = re.search(r"(?ms)^```(?:python|sh)\n(.*?)^```", text).group(1)
-        run = ran([*shell, code.replace("./aia", str(program))], "")
-        want = " ".join(re.search(wanted, text).group(1).split())
+        run = ran(command, "")
+        want = " ".join(re.search(wanted, section(name, heading)).group(1).split())
         got = {" ".join(line.split()) for line in (run.stdout + run.stderr).splitlines()}
         if got != {want}:
             yield f"{name}, {heading}, prints {sorted(got)}"

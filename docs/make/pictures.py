@@ -1,13 +1,21 @@
-"""Makes docs/pictures of the plans' tables and of the map, both as the definitions have them."""
+"""Makes docs/pictures of the plans' tables and of the map, both as the definitions have them, and
+of a script."""
 
 import re
+import sys
 
 from antt import TOP, clauses
 from constants import limit, shown
 from plans import KINDS, Move
 from svg import GUEST, HAND, INK, LINE, MEMORY, OTHER, PALE, TOLD, Picture
 
+sys.path.append(str(TOP / "suite"))
+
+import drawing  # noqa: E402: the way to it stands above
+
 FOLDER = TOP / "docs/pictures"
+# The script that is drawn as examples/draw does, from one line to another.
+DRAWN, FIRST, LAST = TOP / "examples/stores-in-flight.script", 20, 76
 # How an access is called in a picture, w being the number of a word.
 ACCESSES = {
     "TakeDelivery": "take eidelivery",
@@ -294,7 +302,9 @@ def machine():
 
 def rendered():
     """Gives each picture by its file's name."""
-    return {"machine.svg": machine()} | {f"{kind}.svg": picture_of(kind) for kind in KINDS}
+    script = drawing.in_svg(DRAWN.read_bytes(), FIRST, LAST, DRAWN.name)
+    return {"machine.svg": machine(), f"{DRAWN.stem}.svg": script} | {
+        f"{kind}.svg": picture_of(kind) for kind in KINDS}
 
 
 def drifts():
@@ -302,7 +312,7 @@ def drifts():
     for name, text in rendered().items():
         path = FOLDER / name
         if not path.exists() or path.read_text(encoding="utf-8") != text:
-            yield f"docs/pictures/{name} drifts from the plans or the map"
+            yield f"docs/pictures/{name} drifts from the plans, the map or the script"
     for path in FOLDER.glob("*.svg"):
         if path.name not in rendered():
             yield f"docs/pictures/{path.name} is none that the scripts make"

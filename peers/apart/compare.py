@@ -12,12 +12,8 @@ by one rule (plants.py); `--until-told` ends with the first difference.
 """
 
 import argparse
-import os
 import random
-import selectors
-import subprocess
 import sys
-import time
 from collections import Counter
 from multiprocessing import Pool
 from pathlib import Path
@@ -27,12 +23,13 @@ import plants
 import reading
 from random_scripts import MOODS, random_script
 
+sys.path.append(str(Path(__file__).resolve().parents[2] / "suite"))
+
+import answers  # noqa: E402: the way to both stands above
+import running  # noqa: E402
+
 TIME_LIMIT = 20
 OUTPUT_LIMIT = 16 << 20
-REFUSALS = {"bad", "nomachine", "again", "range", "full", "busy", "home", "entered", "parked",
-            "nofile",
-            "passed", "unready", "idle", "away", "illegal", "virtual", "fault", "guarded", "other",
-            "notvalid", "gfault"}
 
 
 def script_of(seed, options):
@@ -43,26 +40,8 @@ def script_of(seed, options):
 
 def run(program, script):
     """What the program prints for a script, within the limits, and how it ended."""
-    source = os.memfd_create("script")
-    os.write(source, script)
-    os.lseek(source, 0, os.SEEK_SET)
-    deadline, found = time.monotonic() + TIME_LIMIT, bytearray()
-    with subprocess.Popen([program, "replay"], stdin=source, stdout=subprocess.PIPE,
-                          stderr=subprocess.DEVNULL) as process:
-        os.close(source)
-        waits = selectors.DefaultSelector()
-        waits.register(process.stdout, selectors.EVENT_READ)
-        while len(found) <= OUTPUT_LIMIT:
-            if not waits.select(max(0, deadline - time.monotonic())):
-                process.kill()
-                return bytes(found), "too slow"
-            piece = os.read(process.stdout.fileno(), 65536)
-            if not piece:
-                status = process.wait(TIME_LIMIT)
-                return bytes(found), "status %d" % status if status else None
-            found += piece
-        process.kill()
-        return bytes(found), "too much output"
+    ran = running.run([program, "replay"], script, TIME_LIMIT, OUTPUT_LIMIT)
+    return ran.output, ran.fault() or None
 
 
 def answered(script):
@@ -73,21 +52,19 @@ def answered(script):
             yield place, text, line[0]
 
 
-def is_refused(form, answer):
-    """Whether an answer is a refusal: `notvalid` of `entry` is none."""
-    return answer in REFUSALS and (form != "entry" or answer in ("bad", "nomachine"))
-
-
 def first_difference(seed, script, wanted, found, ended):
-    """The first line whose answers differ."""
-    ours, theirs = wanted.split(b"\n"), found.split(b"\n")
-    for index, (place, text, form) in enumerate(answered(script)):
-        got = theirs[index] if index < len(theirs) else b"(no answer)"
-        if ours[index] != got:
-            line, got = (given.decode(errors="backslashreplace") for given in (text, got))
-            return form, (f"seed {seed} line {place}: {line}: wanted {ours[index].decode()}, "
-                          f"got {got}" + (f" ({ended})" if ended else ""))
-    return "end", f"seed {seed}: the end differs ({ended}, {len(wanted)} and {len(found)} bytes)"
+    """The form of the first line whose answers differ, and what to say of it."""
+    difference, lines = (answers.first_difference(script, wanted, found, answers.Known()),
+                         answers.lines(script))
+    at = difference[0] if difference else len(lines)
+    if at >= len(lines):
+        return "end", (f"seed {seed}: the end differs ({ended}, {len(wanted)} and {len(found)}"
+                       " bytes)")
+    ours, theirs = answers.answers(wanted), [*answers.answers(found), *["(no answer)"] * len(lines)]
+    form = [form for _, _, form in answered(script)][at]
+    return form, answers.printable(
+        f"seed {seed} line {lines[at].number}: {lines[at].text}: wanted {ours[at]}, got"
+        f" {theirs[at]}" + (f" ({ended})" if ended else ""))
 
 
 def compare(work):
@@ -97,8 +74,8 @@ def compare(work):
     wanted = model.answers(script)
     found, ended = run(options.program, script)
     counts = Counter()
-    for (_, _, form), answer in zip(answered(script), wanted.decode().split("\n")):
-        counts[form, answer if is_refused(form, answer) else ""] += 1
+    for (_, text, form), answer in zip(answered(script), wanted.decode().split("\n")):
+        counts[form, answer if answers.is_refused(answers.shown(text), answer) else ""] += 1
     if wanted == found and not ended:
         return seed, counts, None
     if options.keep:

@@ -1,7 +1,15 @@
+#!/usr/bin/env python3
 """Errors that can be planted in the model, one at a time: a comparison has to tell each.
 
-Each is a function that changes one rule of the modules of the model; its name says the rule.
+    plants.py PLANT < script > answers
+
+answers a script as the model would with that error. Each is a function that changes one rule of the
+modules of the model; its name says the rule.
 """
+
+import inspect
+import sys
+import textwrap
 
 import aplic
 import interrupt_file
@@ -13,7 +21,6 @@ from interrupt_file import InterruptFile
 from majors import Majors
 from model import Machine, Vm
 from moves import ENTERED, LEAVING, SHIFTING, Pass, VirtualHart, word_mask
-from refusals import unless
 
 PLANTS = {}
 
@@ -42,11 +49,9 @@ def around(owner, name, wrapper):
 
 def in_source(owner, name, old, new):
     """A method made anew, with one piece of its text changed."""
-    import inspect
-    import textwrap
     text = textwrap.dedent(inspect.getsource(getattr(owner, name)))
     assert text.count(old) == 1, (name, old, text.count(old))
-    scope = vars(__import__("sys").modules[owner.__module__])
+    scope = vars(sys.modules[owner.__module__])
     made = {}
     exec(text.replace(old, new), scope, made)
     setattr(owner, name, made[name])
@@ -182,13 +187,9 @@ def a_fence_lands_the_first_store_alone():
 
 @planted
 def a_store_in_flight_lands_where_the_entry_leads_then():
-    def land(machine, vm, number):
-        flight = machine.vm_named(vm).flight
-        unless(number < len(flight), "range")
-        hart, _, offset, value = flight.pop(number)
-        machine.store_for(hart, hart.entry_in_force, offset, value)
-        return "ok"
-    Machine.land = land
+    in_source(Machine, "land", "self.store_for(*flight.pop(number))",
+              "hart, _, offset, value = flight.pop(number)\n"
+              "    self.store_for(hart, hart.entry_in_force, offset, value)")
 
 
 @planted
@@ -272,14 +273,9 @@ def a_look_is_kept_from_an_earlier_leave():
 
 @planted
 def no_notice_where_the_identity_was_pending():
-    def store_for(self, hart, place, offset, value):
-        identity = interrupt_file.requested(self.greatest, offset, value)
-        was = hart.file.pending >> identity & 1
-        hart.file.ask(identity)
-        is_told = (hart.file.enabled & hart.watched) >> identity & 1
-        if identity and not was and place is None and is_told:
-            self.notify(hart)
-    Machine.store_for = store_for
+    in_source(Machine, "store_for", "hart.file.ask(identity)\n        if place is None and",
+              "was = hart.file.pending >> identity & 1\n        hart.file.ask(identity)\n"
+              "        if not was and place is None and")
 
 
 @planted
@@ -290,11 +286,8 @@ def a_notice_heeds_the_threshold():
 
 @planted
 def a_notice_asks_by_the_number_in_the_vm():
-    def notify(self, hart):
-        for vm in self.vms:
-            if hart in vm.harts:
-                self.supervisor_files[hart.notice_hart].ask(vm.harts.index(hart) + 1)
-    Machine.notify = notify
+    in_source(Machine, "notify", "hart.slot + 1",
+              "next(vm.harts.index(hart) for vm in self.vms if hart in vm.harts) + 1")
 
 
 @planted
@@ -352,12 +345,8 @@ def a_leave_needs_no_word_1():
 
 @planted
 def a_pass_is_aimed_one_step_early():
-    def next_aim(self):
-        plan = moves.plan_of(self.home, self.words)
-        if plan[self.steps][0] == "FenceStage" and self.aims < len(self.passes):
-            return self.passes[self.aims]
-        return None
-    VirtualHart.next_aim = next_aim
+    in_source(VirtualHart, "next_aim", "self.steps and plan[self.steps - 1][0] ==",
+              "plan[self.steps][0] ==")
 
 
 @planted
@@ -519,17 +508,8 @@ def ithreshold_lets_itself_through():
 
 @planted
 def the_greatest_number_of_one_priority_is_on_top():
-    def top(self, hart):
-        if self.by_msi:
-            return 0
-        best = None
-        for source in aplic.members(self.pending & self.enabled):
-            target = self.targets[source]
-            if target >> 18 == hart and (not self.ithreshold[hart]
-                                         or target & 0xff < self.ithreshold[hart]):
-                best = min(best or (256, 0), (target & 0xff, -source))
-        return -best[1] << 16 | best[0] if best else 0
-    Domain.top = top
+    in_source(Domain, "top", "(priority, source))\n    return best[1] << 16",
+              "(priority, -source))\n    return -best[1] << 16")
 
 
 @planted
@@ -586,22 +566,12 @@ def a_forward_leaves_the_pending_bit():
 
 @planted
 def msis_to_guest_files_ask_without_a_pass():
-    def deliver(self):
-        for address, value, source in self.aplic.take_msis():
-            one = self.passed.get(source)
-            kind, hart, number = self.spot(address)
-            if kind == "guest" and one:
-                one.hart.file.ask(one.identity)
-            elif kind == "guest":
-                for other in self.virtual_harts:
-                    if other.origin == (hart, number):
-                        other.file.store(0, value)
-            elif kind != "nowhere":
-                files = self.machine_files if kind == "machine" else self.supervisor_files
-                files[hart].store(0, value)
-            if one and one.reach is None:
-                self.relay(one)
-    Machine.deliver_msis = deliver
+    in_source(Machine, "deliver_msis", "elif kind == \"machine\":",
+              "elif kind == \"guest\":\n"
+              "            for other in self.virtual_harts:\n"
+              "                if other.origin == self.spot(address)[1:]:\n"
+              "                    other.file.store(0, value)\n"
+              "        elif kind == \"machine\":")
 
 
 # Majors.
@@ -673,13 +643,10 @@ def high_bits_of_an_msi_address_are_dropped():
 
 @planted
 def full_comes_after_other():
-    def send(self, vm, address, value):
-        sender = self.vm_named(vm)
-        hart = self.device_target(sender, address)
-        unless(len(sender.flight) < 8, "full")
-        sender.flight.append((hart, hart.entry_in_force, address & 0xfff, value))
-        return "ok"
-    Machine.send = send
+    in_source(Machine, "send", "unless(len(sender.flight) < 8, \"full\")\n"
+              "    hart = self.device_target(sender, address)\n",
+              "hart = self.device_target(sender, address)\n"
+              "    unless(len(sender.flight) < 8, \"full\")\n")
 
 
 @planted
@@ -748,3 +715,11 @@ def save_shows_the_signal():
 @planted
 def load_takes_bit_0():
     in_source(Machine, "load_word", "(word or not (pending | enabled) & 1)", "True")
+
+
+if __name__ == "__main__":
+    if len(sys.argv) != 2 or sys.argv[1] not in PLANTS:
+        print(__doc__, file=sys.stderr)
+        sys.exit(2)
+    plant(sys.argv[1])
+    sys.stdout.buffer.write(model.answers(sys.stdin.buffer.read()))

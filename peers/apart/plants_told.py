@@ -7,8 +7,6 @@ Scripts and the model's own answers are made once; each error is planted in a pr
 """
 
 import argparse
-import os
-import sys
 from multiprocessing import Process, Queue
 
 import compare

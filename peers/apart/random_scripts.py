@@ -21,6 +21,10 @@ import vocabulary as say
 MOODS = {"moves": 20, "passes": 20, "running": 14, "majors": 10, "aplic": 20, "images": 14,
          "everything": 12}
 ONES = (1 << 64) - 1
+# After so many times in a row an action is given up of which the filter keeps nothing.
+FRUITLESS = 24
+# How often a line that is refused is tried after a line, at most.
+TRIES = 400
 
 
 class Guess:
@@ -38,8 +42,12 @@ class Guess:
 class Generator:
     """One script, line by line."""
 
-    def __init__(self, seed, count, without_images=False, mood=None):
+    def __init__(self, seed, count, without_images=False, mood=None, sizes=None, filter_=None):
+        """`sizes` are those of the machine, where they are not drawn. A filter says of each line
+        whether it is said (`keeps`), with its answer by a model, and whether one that is refused is
+        wanted now (`wants_refused`)."""
         self.random = random.Random(seed)
+        self.fixed, self.filter = sizes, filter_
         moods = {name: share for name, share in MOODS.items() if name != "images"
                  or not without_images}
         self.mood = mood or self.weighted(moods)
@@ -53,8 +61,9 @@ class Generator:
         self.supervisor_base = 0x28000  # the page that MSIs of the child are mostly meant for
         self.groups = False  # whether MSIs are meant for groups of harts
         self.flight = {}  # how many stores of a VM seem to be in flight
-        self.twin = model.Script() if self.mood == "images" else None
+        self.twin = model.Script() if self.mood == "images" or filter_ else None
         self.saved = []  # parts of images, as they were printed
+        self.fruitless = {}  # how often in a row an action said nothing that the filter keeps
 
     # Numbers and choices.
 
@@ -87,12 +96,23 @@ class Generator:
     # Emission.
 
     def say(self, *words):
-        """A line of words; an int is a number in decimal, a pair (value,) one in hexadecimal."""
+        """A line of words; an int is a number in decimal, a pair (value,) one in hexadecimal. Lines
+        that are refused follow where a filter wants them."""
         spelled = [self.number(*word, hexadecimal=True) if isinstance(word, tuple)
                    else self.number(word) if isinstance(word, int) else word for word in words]
         self.put(" ".join(spelled).encode())
+        tries = TRIES if self.filter else 0
+        while tries and self.filter.wants_refused():
+            say.wrong(self)
+            tries -= 1
 
     def put(self, text):
+        """A line, unless a filter leaves it out; gives its answer where there is a model."""
+        if self.filter:
+            is_kept, answer = self.filter.keeps(text)
+            if is_kept:
+                self.lines.append(text)
+            return answer
         self.lines.append(text)
         if self.twin:
             return self.twin.answer(text)
@@ -143,6 +163,8 @@ class Generator:
             self.guests = max(self.guests, 1)
         if self.mood == "aplic":
             self.harts = self.pick(1, 2, 3, 4)
+        if self.fixed:
+            self.harts, self.guests, self.greatest, self.sources = self.fixed
         words = (self.greatest + 1) // 64
         self.favourites = [self.pick(1, 2, 3, 5, 7), self.greatest - self.below(3)]
         for _ in range(4):
@@ -158,7 +180,7 @@ class Generator:
     def make(self):
         """The beginning of a script: the machine and its VMs."""
         self.set_sizes()
-        if self.chance(0.1):
+        if self.chance(0.1) and not self.fixed:
             say.before_the_machine(self)
         self.say("machine", self.harts, self.guests, self.greatest, self.sources)
         self.crowded = self.chance(0.08)
@@ -205,16 +227,25 @@ class Generator:
             self.say("h", hart, "hgeip")
             self.say("pins", hart)
 
+    def act(self, action, weights):
+        """An action; of a filtered script, one that says nothing again and again is given up."""
+        said = len(self.lines)
+        action(self)
+        if not self.filter:
+            return
+        self.fruitless[action] = self.fruitless.get(action, 0) + 1 if len(self.lines) == said else 0
+        if self.fruitless[action] == FRUITLESS:
+            weights.pop(action, None)
+
     def script(self):
         """The bytes of the whole script."""
         self.make()
         weights = say.weights_of(self.mood, self.without_images)
-        actions, shares = list(weights), list(weights.values())
         room = 5 * len(self.guesses) + 3 * self.harts
-        room = room if self.chance(0.7) and room < self.count // 3 else 0
-        while len(self.lines) < self.count - room:
-            for action in self.random.choices(actions, shares, k=16):
-                action(self)
+        room = room if self.chance(0.7) and room < self.count // 3 and not self.filter else 0
+        while len(self.lines) < self.count - room and weights:
+            for action in self.random.choices(list(weights), weights.values(), k=16):
+                self.act(action, weights)
         if room:
             self.finish()
         text = b"\n".join(self.lines[:max(self.count, 1)])

@@ -106,9 +106,14 @@ def read_load(words):
 READERS = {b"m": read_machine_csr, b"h": read_host, b"g": read_guest, b"load": read_load}
 
 
+def is_skipped(text):
+    """Whether a text is empty or a comment, which have no answer."""
+    return not text or text[0] == 35 and len(text) <= LINE_BYTES
+
+
 def read(text):
     """What a text is: None where it is skipped, else a form and its fields."""
-    if not text or text[0] == 35 and len(text) <= LINE_BYTES:
+    if is_skipped(text):
         return None
     if len(text) > LINE_BYTES:
         return BAD

@@ -806,6 +806,19 @@ def bad(script):
         script.put(script.random.choice(ways))
 
 
+def wrong(script):
+    """A line that is mostly refused: no line, one of another machine, or one with a wild number."""
+    way = script.below(3)
+    if way == 0:
+        bad(script)
+    elif way == 1:
+        script.put(script.random.choice(ONE_OF_EACH).encode())
+    else:
+        words = sample(script).split(b" ")
+        words[-1 if len(words) < 3 else script.pick(1, 2)] = b"%d" % script.pick(ONES, 99, 1 << 32)
+        script.put(b" ".join(words))
+
+
 def repeat(script):
     """A line that was said before, once more."""
     script.put(sample(script))

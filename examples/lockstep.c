@@ -1,0 +1,86 @@
+/* lockstep PROGRAM: holds a machine against the model access by access, in C.
+ *
+ *     cc -o lockstep lockstep.c && ./lockstep ../aia
+ *
+ * The model is PROGRAM with the word `replay`. Here the machine is a list of accesses and of what
+ * each of them read, of one that claims the wrong identity; yours calls `ask` for each access as it
+ * makes it. Ends with status 1 and a message at the first answer that differs, else with 0; and
+ * with 2 where the words are wrong, or the model can't be run or ends before its time. */
+
+#define _POSIX_C_SOURCE 200809L
+
+#include <signal.h>
+#include <stdio.h>
+#include <stdlib.h>
+#include <string.h>
+#include <unistd.h>
+
+static FILE *lines, *answers; /* to the model, and from it */
+
+static void end(int status, const char *line, const char *what, const char *mine)
+{
+    fprintf(stderr, "%s: %s%s%s\n", line, what, mine ? ", mine is " : "", mine ? mine : "");
+    exit(status);
+}
+
+/* Runs the model between two pipes. */
+static void start(const char *program)
+{
+    int to[2], from[2];
+    pid_t child;
+
+    signal(SIGPIPE, SIG_IGN); /* where the model has ended the read says so */
+    if (pipe(to) || pipe(from))
+        end(2, program, "there are no pipes", NULL);
+    child = fork();
+    if (child < 0)
+        end(2, program, "there are no processes", NULL);
+    if (!child) {
+        dup2(to[0], 0);
+        dup2(from[1], 1);
+        close(to[0]), close(to[1]), close(from[0]), close(from[1]);
+        execlp(program, program, "replay", (char *)NULL);
+        end(2, program, "it can't be run", NULL);
+    }
+    close(to[0]), close(from[1]);
+    lines = fdopen(to[1], "w");
+    answers = fdopen(from[0], "r");
+}
+
+/* Says whether the script is wrong there, whatever the machine does. */
+static int is_mistake(const char *answer)
+{
+    return !strcmp(answer, "bad") || !strcmp(answer, "nomachine") || !strcmp(answer, "again") ||
+           !strcmp(answer, "range");
+}
+
+/* Hands the model a line, and compares its answer with mine; any is right where mine is "-". */
+static void ask(const char *line, const char *mine)
+{
+    char answer[256], said[300];
+
+    fprintf(lines, "%s\n", line);
+    fflush(lines);
+    if (!fgets(answer, sizeof answer, answers))
+        end(2, line, "the model has ended", NULL);
+    answer[strcspn(answer, "\n")] = 0;
+    if (!is_mistake(answer) && (!strcmp(mine, "-") || !strcmp(mine, answer)))
+        return;
+    snprintf(said, sizeof said, "the model says %s", answer);
+    end(1, line, said, mine);
+}
+
+int main(int count, char **words)
+{
+    if (count != 2)
+        end(2, "lockstep", "one word is wanted, the model's program", NULL);
+    start(words[1]);
+    ask("machine 1 0 63 1", "ok");
+    ask("h 0 csrrw siselect 0xc0", "-");
+    ask("h 0 csrrw sireg 0x28", "0x0000000000000000");
+    ask("st 0x28000000 5", "ok");
+    ask("st 0x28000000 3", "ok");
+    ask("h 0 csrrw stopei 0", "0x0000000000030003");
+    ask("h 0 csrr stopei", "0x0000000000030003");
+    return 0;
+}

@@ -1,0 +1,240 @@
+"""Scripts, their lines and answers: which lines have an answer, what may stand for one, and where
+two tellings of the answers differ."""
+
+import re
+import sys
+from fnmatch import fnmatchcase
+from itertools import zip_longest
+from typing import NamedTuple
+
+from running import TOP, contents, counted, fail
+
+sys.path.append(str(TOP / "peers/apart"))
+
+import reading  # noqa: E402: the way to both stands above
+from model import is_machine_size  # noqa: E402
+
+# Answers that say that the script is wrong, and not the machine.
+MISTAKES = {"bad", "nomachine", "again", "range"}
+REFUSALS = MISTAKES | {
+    "full", "busy", "home", "entered", "parked", "nofile", "passed", "unready", "idle", "away",
+    "illegal", "virtual", "fault", "guarded", "other", "notvalid", "gfault"}
+NOT_SHOWN = "-"
+# The most bytes that an answer has, with its LF.
+ANSWER_BYTES = 128
+FORMS = sorted({name.split("_")[0] for name, _ in reading.BY_KEYWORDS.values()}
+               | {word.decode() for word in reading.READERS})
+
+
+class Line(NamedTuple):
+    """A line that has an answer."""
+
+    number: int
+    text: str
+
+
+class Difference(NamedTuple):
+    """A line that is answered otherwise, by its place among those that have an answer."""
+
+    at: int
+    line: Line
+    model: str
+    mine: str
+
+
+def shown(text):
+    """Gives bytes as text; no two are the same."""
+    return text.decode(errors="surrogateescape")
+
+
+def printable(text):
+    """Spells out what a terminal would not show, as the CR at the end of a line."""
+    return text if text.isprintable() else "".join(
+        one if one.isprintable() else one.encode("unicode_escape", "surrogatepass").decode()
+        for one in text)
+
+
+def lines(script):
+    """Lists the lines of a script that have an answer."""
+    return [Line(number, shown(text)) for number, text in enumerate(reading.texts(script), 1)
+            if not reading.is_skipped(text)]
+
+
+def head_comment(script):
+    """Lists the comments with which a script begins."""
+    found = []
+    for text in reading.texts(script):
+        if not text.startswith(b"#"):
+            break
+        found.append(shown(text))
+    return found
+
+
+def most_output(script):
+    """Gives how many bytes of answers a script may have, and some more."""
+    return ANSWER_BYTES * (script.count(b"\n") + 2)
+
+
+def form(text):
+    """Gives the form of a line: its first word."""
+    return text.split(" ")[0]
+
+
+def is_refused(text, answer):
+    """Says whether an answer is a refusal; `notvalid` of an `entry` is none."""
+    return answer in REFUSALS and (form(text) != "entry" or answer in MISTAKES)
+
+
+def forms_of(text):
+    """Reads a list of forms, as st,ld,h; a script always has `machine`."""
+    forms = text.split(",")
+    for one in forms:
+        if one not in FORMS:
+            fail(f"there is no form of line {one!r}; there are {', '.join(FORMS)}")
+    return {"machine", *forms}
+
+
+def sizes_of(text):
+    """Reads the four numbers of a machine, as '1 7 255 96'."""
+    found = text.split()
+    if not (len(found) == 4 and all(re.fullmatch("[0-9]{1,4}", word) for word in found)
+            and is_machine_size(*map(int, found))):
+        fail(f"no machine has the numbers {text!r}: they are 1 to 4 harts, 0 to 31 guest files, 63,"
+             " 127, 255, 511, 1023 or 2047 identities, 1 to 1023 sources")
+    return tuple(map(int, found))
+
+
+def with_sizes(script, sizes):
+    """Gives a script whose first machine that may be has other sizes."""
+    texts = script.split(b"\n")
+    for at, text in enumerate(texts):
+        name, fields = reading.read(text) or ("", ())
+        if name == "machine" and is_machine_size(*fields):
+            texts[at] = b"machine %d %d %d %d" % sizes
+            break
+    return b"\n".join(texts)
+
+
+def answers(text):
+    """Lists the answers of a text; the last one may lack its LF."""
+    return [shown(one) for one in reading.texts(text)]
+
+
+class Known:
+    """Differences that are known, each with a reason, and how often each was met."""
+
+    def __init__(self, path=None):
+        self.rows = [self.row(path, number, text)
+                     for number, text in enumerate(answers(contents(path)) if path else [], 1)
+                     if text and not text.startswith("#")]
+        self.met = [0] * len(self.rows)
+
+    @staticmethod
+    def row(path, number, text):
+        """Reads a row: patterns of the line, the model's answer and mine, and a reason."""
+        fields = [field.strip() for field in text.split("|")]
+        if len(fields) != 4 or not all(fields):
+            fail(f"{path}, line {number}: a row is LINE | MODEL | MINE | REASON")
+        return fields
+
+    def has(self, line, model, mine):
+        """Says whether a difference is known, and counts it."""
+        for at, row in enumerate(self.rows):
+            if all(fnmatchcase(text, pattern) for text, pattern in zip((line, model, mine), row)):
+                self.met[at] += 1
+                return True
+        return False
+
+    def told(self):
+        """Says of each row how often it was met."""
+        for row, met in zip(self.rows, self.met):
+            yield f"known, met {counted(met, 'time')}: {row[3]} ({' | '.join(row[:3])})"
+
+
+class Verdict:
+    """What came of holding answers against those of the model."""
+
+    def __init__(self, script, model, mine, known, is_strict=False):
+        self.script, self.model, self.mine = lines(script), answers(model), answers(mine)
+        self.head = head_comment(script)
+        self.same = self.known = self.not_shown = self.refused = self.bad = 0
+        self.differences = []
+        for at, (line, want, got) in enumerate(zip(self.script, self.model, self.mine)):
+            self.look(at, line, want, got, known, is_strict)
+        self.missing = max(0, len(self.model) - len(self.mine))
+        self.spare = self.mine[len(self.model):]
+
+    def look(self, at, line, want, got, known, is_strict):
+        """Looks at one answer of each."""
+        self.bad += want == "bad"
+        if got == NOT_SHOWN and want not in MISTAKES:
+            self.not_shown += 1
+            self.refused += is_refused(line.text, want)
+        elif want == got and not (is_strict and want == "bad"):
+            self.same += 1
+        elif known.has(line.text, want, got):
+            self.known += 1
+        else:
+            self.differences.append(Difference(at, line, want, got))
+
+    def count(self):
+        """Gives how many differences there are: answers that are missing, or spare, are one."""
+        return len(self.differences) + bool(self.missing) + bool(self.spare)
+
+    def told(self, most, margin=""):
+        """Says each difference, so many at most, with the three lines before it."""
+        for text in self.said(most):
+            yield margin + printable(text)
+
+    def said(self, most):
+        """Says them as they are."""
+        for text in self.head if self.count() else ():
+            yield text
+        told = 0
+        for difference in self.differences[:most]:
+            for before in range(max(told, difference.at - 3), difference.at):
+                line = self.script[before]
+                yield f"{line.number:6}  {line.text:30}  {self.model[before]}"
+            told = difference.at + 1
+            yield f"line {difference.line.number}: {difference.line.text}"
+            yield f"  model: {difference.model}"
+            yield f"  mine:  {difference.mine}{hint(difference)}"
+        if len(self.differences) > most:
+            yield f"and {len(self.differences) - most} more that differ"
+        if self.missing:
+            line = self.script[len(self.mine)]
+            yield (f"{counted(self.missing, 'answer')} missing, from line {line.number} on:"
+                   f" {line.text}")
+        if self.spare:
+            yield f"{counted(len(self.spare), 'answer')} spare, the first: {self.spare[0]}"
+
+    def summary(self):
+        """Says in one line how many answers are the same, and not."""
+        refused = f" ({self.refused} of them refused)" if self.refused else ""
+        known = f", {self.known} known" if self.known else ""
+        return (f"{self.same} answers same, {self.not_shown} not looked at{refused}{known},"
+                f" {self.count()} differ")
+
+
+def hint(difference):
+    """Says where the script or the spelling is wrong, and not the machine."""
+    _, _, model, mine = difference
+    if model == mine:
+        return " (--strict)"
+    if model == "bad" or mine == NOT_SHOWN:
+        return " (the script is no trace of a machine here)"
+    if model == mine.strip().lower():
+        return " (its spelling alone differs: capitals, CR, or spaces)"
+    return ""
+
+
+def first_difference(script, model, mine, known):
+    """Gives the place of the first difference among the lines that have an answer, and what the
+    model answers there; None where there is none."""
+    for at, (line, want, got) in enumerate(zip_longest(lines(script), answers(model),
+                                                       answers(mine), fillvalue="")):
+        if want != got and not (got == NOT_SHOWN and want not in MISTAKES):
+            text = line.text if line else ""
+            if not known.has(text, want, got):
+                return at, want
+    return None

@@ -1,0 +1,115 @@
+"""A command held against the answers of the model, over the scripts of the suite and of examples.
+
+What the model answers to these stands in a file beside each. Where a machine's sizes are replaced
+the model answers anew."""
+
+from fnmatch import fnmatchcase
+from typing import NamedTuple
+
+import answers
+import running
+from running import TOP
+
+# How long a command may take over one script, in seconds.
+EACH = 60
+# How many differences of a script are printed.
+MOST = 5
+# After so many scripts that a command had to be stopped over, no more are tried.
+STOPPED = 3
+HINT = ("each script ended with status 2: the command refuses its words, perhaps for want of"
+        " `replay`")
+
+
+class Options(NamedTuple):
+    """What a comparison over scripts is told."""
+
+    pattern: str = ""
+    only: set = None
+    sizes: tuple = None
+    each: int = EACH
+    most: int = MOST
+    known: answers.Known = None
+    is_strict: bool = False
+
+
+class Tally:
+    """How many scripts were answered the same, and not, and how those ended that differ."""
+
+    def __init__(self):
+        self.same = self.differ = self.known = self.stopped = 0
+        self.statuses = set()
+
+    def summary(self):
+        known = f", {self.known} by what is known alone" if self.known else ""
+        return f"{self.same} scripts same, {self.differ} differ{known}"
+
+
+def scripts(options):
+    """Lists the scripts whose names and forms of line are asked for, each with its text."""
+    found = []
+    for folder in ("crates/aia_rows/data/suite", "examples"):
+        for path in sorted((TOP / folder).glob("*.script")):
+            # The pattern is one of a shell's.
+            if fnmatchcase(path.stem, f"*{options.pattern}*"):
+                found.append((path, path.read_bytes()))
+    if not found:
+        running.fail(f"no script's name has {options.pattern} within it")
+    if options.only:
+        found = [(path, text) for path, text in found
+                 if {answers.form(line.text) for line in answers.lines(text)} <= options.only]
+        if not found:
+            running.fail(f"no script has the forms {','.join(sorted(options.only))} alone")
+    return found
+
+
+def wanted(path, script, options, model):
+    """Gives what the model answers to a script."""
+    if not options.sizes:
+        stands = path.with_suffix(".out")
+        return stands.read_bytes() if stands.exists() else b""
+    ran = running.run(model, script, options.each, answers.most_output(script))
+    if ran.fault():
+        running.fail(f"the model has no answers to {path.name}: {ran.fault()}")
+    return ran.output
+
+
+def held(path, script, command, options, model):
+    """Runs a command over one script; gives how it ended, and what came of it."""
+    if options.sizes:
+        script = answers.with_sizes(script, options.sizes)
+    ran = running.run(command, script, options.each, answers.most_output(script))
+    running.check_started(ran, command)
+    return ran, answers.Verdict(script, wanted(path, script, options, model), ran.output,
+                                options.known, options.is_strict)
+
+
+def tell(path, ran, verdict, options):
+    """Prints what is wrong with a script's answers."""
+    print(f"{path.relative_to(TOP)} differs")
+    if ran.fault():
+        print(f"  {ran.fault()}" + (f": {ran.errors.splitlines()[0]}" if ran.errors else ""))
+    for line in verdict.told(options.most, "  "):
+        print(line)
+
+
+def over_suite(command, options, workers, model=None):
+    """Holds a command against the model over the scripts; prints each that differs. Gives whether
+    none does."""
+    tally = Tally()
+    for path, script in scripts(options):
+        ran, verdict = workers.submit(held, path, script, command, options, model).result()
+        tally.statuses.add(ran.status)
+        tally.stopped += bool(ran.stopped)
+        if ran.fault() or verdict.count():
+            tally.differ += 1
+            tell(path, ran, verdict, options)
+        else:
+            tally.same += 1
+            tally.known += bool(verdict.known)
+        if tally.stopped == STOPPED:
+            print(f"the command had to be stopped {STOPPED} times: the rest is left out")
+            break
+    print(tally.summary())
+    if tally.statuses == {2}:
+        print(HINT)
+    return not tally.differ

@@ -1,0 +1,239 @@
+"""What the tools beside the program share: how they read their words, how they run a command within
+bounds, and that they leave no process behind where they are stopped.
+
+A command is run by a worker thread alone. So a signal, which comes to the main thread, never cuts
+the start of a process in two: it waits for that start, ends all that runs, and ends the tool.
+"""
+
+import getopt
+import os
+import selectors
+import signal
+import subprocess
+import sys
+import tempfile
+import threading
+import time
+from concurrent.futures import ThreadPoolExecutor
+from pathlib import Path
+from typing import NamedTuple
+
+if sys.version_info < (3, 10):
+    print(f"{Path(sys.argv[0]).name}: Python 3.10 or later is wanted", file=sys.stderr)
+    sys.exit(2)
+
+TOP = Path(__file__).resolve().parent.parent
+# How long the program may take to be proved and built, in seconds.
+BUILDING = 7200
+# How much of what a command says to standard error is kept, in bytes.
+KEPT_ERRORS = 4096
+NOT_STARTED = (126, 127)
+STOPPING = (signal.SIGINT, signal.SIGTERM, signal.SIGHUP)
+# How long a command has to end once it is told to, in seconds.
+GRACE = 3
+
+
+class Ran(NamedTuple):
+    """How a command ended: its answers, its status, why it was stopped if it was, what it said."""
+
+    output: bytes
+    status: int
+    stopped: str
+    errors: str
+
+    def fault(self):
+        """Says in words what is wrong with the end; nothing where it ended with status 0."""
+        return self.stopped or (f"the command ended with status {self.status}"
+                                if self.status else "")
+
+
+class State:
+    """What runs, and whether the tool is being stopped."""
+
+    lock = threading.Lock()
+    running = set()
+    is_stopping = False
+
+
+def fail(message):
+    """Ends the tool with status 2 and a message."""
+    print(f"{Path(sys.argv[0]).name}: {message}", file=sys.stderr)
+    sys.exit(2)
+
+
+def usage():
+    """Ends the tool with status 2 and its head comment."""
+    print(sys.modules["__main__"].__doc__.strip(), file=sys.stderr)
+    sys.exit(2)
+
+
+def words(short, *long):
+    """Reads the words of the command line: gives the options by their names, with the values of
+    those that have one, the other words, and whether `--` stands before these."""
+    given = sys.argv[1:]
+    try:
+        options, rest = getopt.getopt(given, short, long)
+    except getopt.GetoptError as wrong:
+        print(f"{Path(sys.argv[0]).name}: {wrong}", file=sys.stderr)
+        usage()
+    read = len(given) - len(rest)
+    is_divided = read > 0 and given[read - 1] == "--" and ("--" not in dict(options).values())
+    return {name.lstrip("-"): value for name, value in options}, rest, is_divided
+
+
+def number(text, what, least, most):
+    """Gives the number that a word spells in decimal, within bounds."""
+    if not (text.isascii() and text.isdigit() and len(text) <= 20
+            and least <= int(text) <= most):
+        fail(f"{what} is a number from {least} to {most}, and not {text!r}")
+    return int(text)
+
+
+def counted(number_, word):
+    """Says how many there are of something, as 1 line, 2 lines."""
+    return f"{number_} {word}" + ("" if number_ == 1 else "s")
+
+
+def contents(path):
+    """Gives the bytes of a file."""
+    try:
+        return Path(path).read_bytes()
+    except OSError as wrong:
+        fail(f"{path} can't be read: {wrong.strerror}")
+
+
+def tell(process, signal_number):
+    """Sends a signal to a command and to all that it has started in its group."""
+    try:
+        os.killpg(process.pid, signal_number)
+    except ProcessLookupError:
+        pass
+
+
+def kill(process):
+    """Ends a command and its group: it is told first, so that it may end what it has started."""
+    tell(process, signal.SIGTERM)
+    try:
+        process.wait(GRACE)
+    except subprocess.TimeoutExpired:
+        pass
+    tell(process, signal.SIGKILL)
+
+
+def stop(signal_number, _frame):
+    """Ends all that runs, and the tool with the status that the signal has in a shell."""
+    for each in STOPPING:
+        signal.signal(each, signal.SIG_IGN)
+    with State.lock:
+        State.is_stopping = True
+        for process in State.running:
+            tell(process, signal.SIGTERM)
+        for process in State.running:
+            kill(process)
+    sys.exit(128 + signal_number)
+
+
+def main(tool):
+    """Runs a tool, a function that gives its exit status, and ends with that."""
+    for each in STOPPING:
+        signal.signal(each, stop)
+    try:
+        status = tool()
+        sys.stdout.flush()
+    except OSError as wrong:
+        # The null device takes what Python would write at its end; where nobody reads on, no more
+        # is said.
+        os.dup2(os.open(os.devnull, os.O_WRONLY), sys.stdout.fileno())
+        if not isinstance(wrong, BrokenPipeError):
+            print(f"{Path(sys.argv[0]).name}: {wrong}", file=sys.stderr)
+        status = 2
+    sys.exit(status)
+
+
+class Workers(ThreadPoolExecutor):
+    """Threads that run commands, so many at a time; what has not begun by its end is left out."""
+
+    def __exit__(self, *_):
+        self.shutdown(wait=True, cancel_futures=True)
+        return False
+
+
+def start(command, text, errors):
+    """Starts a command with a text on its standard input, in a group of its own."""
+    with State.lock, tempfile.TemporaryFile() as source:
+        source.write(text)
+        source.seek(0)
+        if State.is_stopping:
+            sys.exit(2)
+        process = subprocess.Popen(command, stdin=source, stdout=subprocess.PIPE, stderr=errors,
+                                   start_new_session=True)
+        State.running.add(process)
+        return process
+
+
+def gather(process, deadline, most):
+    """Reads what a command writes until it ends; gives its answers, what it said, and why it has
+    to be stopped."""
+    found, said = bytearray(), bytearray()
+    with selectors.DefaultSelector() as waits:
+        for pipe, kept in ((process.stdout, found), (process.stderr, said)):
+            if pipe:
+                waits.register(pipe, selectors.EVENT_READ, kept)
+        while waits.get_map():
+            ready = waits.select(max(0, deadline - time.monotonic()))
+            if not ready:
+                return found, said, "it took too long, and was stopped"
+            for key, _ in ready:
+                piece = os.read(key.fd, 65536)
+                if not piece:
+                    waits.unregister(key.fileobj)
+                elif key.data is found or len(said) < KEPT_ERRORS:
+                    key.data.extend(piece)
+            if len(found) > most:
+                return found, said, "it wrote more than answers have, and was stopped"
+    return found, said, ""
+
+
+def run(command, text, seconds, most, are_errors_shown=False):
+    """Runs a command with a text on its standard input, for so many seconds and bytes of answers at
+    most; called by a worker. Errors that are shown go to the tool's own standard error."""
+    deadline = time.monotonic() + seconds
+    try:
+        process = start(command, text, None if are_errors_shown else subprocess.PIPE)
+    except OSError as wrong:
+        return Ran(b"", 127, "", wrong.strerror or str(wrong))
+    try:
+        found, said, stopped = gather(process, deadline, most)
+        if stopped:
+            kill(process)
+        status = process.wait(max(0, deadline - time.monotonic()) if not stopped else None)
+    except subprocess.TimeoutExpired:
+        kill(process)
+        status, stopped = process.wait(), "it took too long, and was stopped"
+    finally:
+        with State.lock:
+            State.running.discard(process)
+        for pipe in (process.stdout, process.stderr):
+            if pipe:
+                pipe.close()
+    return Ran(bytes(found), status, stopped,
+               said[:KEPT_ERRORS].decode(errors="backslashreplace").strip())
+
+
+def check_started(ran, command):
+    """Ends the tool where a command could not be started."""
+    if ran.status in NOT_STARTED and not ran.stopped:
+        why = ran.errors.splitlines()
+        fail(f"{command[0]} can't be started (status {ran.status})"
+             + (f": {why[0]}" if why else ""))
+
+
+def model_command(workers):
+    """Gives the command of the model: that of the variable PROGRAM, or the program of this
+    repository, which is built first where it has to be."""
+    if os.environ.get("PROGRAM"):
+        return [os.environ["PROGRAM"], "replay"]
+    built = workers.submit(run, [str(TOP / "aia"), "replay"], b"", BUILDING, 1 << 20, True).result()
+    if built.fault():
+        fail(f"./aia can't be built: {built.fault()}")
+    return [str(TOP / "crates/aia/out/aia"), "replay"]

@@ -1,0 +1,74 @@
+"""Random scripts as suite/random and suite/hunt draw them: those of peers/apart/random_scripts.py,
+with what is not wanted left out."""
+
+from typing import NamedTuple
+
+import answers
+import running
+
+# The way to these is in answers.
+import model
+import random_scripts
+
+LINES = ("only=", "machine=", "mood=", "refused=")
+SEEDS = (1 << 64) - 1
+MOST_LINES = 100_000
+
+
+class Draw(NamedTuple):
+    """What a random script is told."""
+
+    only: set = None
+    sizes: tuple = None
+    mood: str = None
+    refused: int = None
+
+
+def draw_of(given):
+    """Reads the options of a draw."""
+    mood, refused = given.get("mood"), given.get("refused")
+    if mood is not None and mood not in random_scripts.MOODS:
+        running.fail(f"there is no mood {mood!r}; there are {', '.join(random_scripts.MOODS)}")
+    return Draw(
+        answers.forms_of(given["only"]) if "only" in given else None,
+        answers.sizes_of(given["machine"]) if "machine" in given else None, mood,
+        running.number(refused, "PERCENT", 0, 80) if refused is not None else None)
+
+
+class Filter:
+    """Which lines of a random script are said: of some forms alone, and of those that are refused a
+    share. A line that is refused changes nothing, so any may be left out."""
+
+    def __init__(self, draw):
+        self.draw = draw
+        self.twin = model.Script()
+        self.said = self.refused = 0
+
+    def keeps(self, text):
+        """Says whether a line is said, and what a model answers."""
+        line = answers.shown(text)
+        if self.draw.only and answers.form(line) not in self.draw.only:
+            return False, None
+        answer = self.twin.answer(text)
+        if answer is None:
+            return not self.draw.only, None
+        is_refused = answers.is_refused(line, answer)
+        percent = self.draw.refused
+        if is_refused and percent is not None and (
+                100 * (self.refused + 1) > percent * (self.said + 1)):
+            return False, answer
+        self.said += 1
+        self.refused += is_refused
+        return True, answer
+
+    def wants_refused(self):
+        """Says whether a line that is refused is wanted now, so that the share is kept."""
+        percent = self.draw.refused
+        return percent is not None and 100 * (self.refused + 1) <= percent * (self.said + 1)
+
+
+def script_of(seed, count, draw):
+    """Gives the script of a seed, of so many lines, or of fewer where no more are wanted."""
+    is_filtered = draw.only or draw.refused is not None
+    return random_scripts.Generator(seed, count, mood=draw.mood, sizes=draw.sizes,
+                                    filter_=Filter(draw) if is_filtered else None).script()
