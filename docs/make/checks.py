@@ -11,8 +11,8 @@ from pictures import address
 from plans import KINDS, Move, Reader
 
 REFERENCE = "docs/REFERENCE.md"
-# The most words of a document; REFERENCE and DEFINITIONS have no limit.
-LIMITS = {"README.md": 1150, REFERENCE: None, "docs/DEFINITIONS.md": None}
+# The most words of a document; REFERENCE, DEFINITIONS and EDITS have no limit.
+LIMITS = {"README.md": 1150, REFERENCE: None, "docs/DEFINITIONS.md": None, "docs/EDITS.md": None}
 MOST_WORDS = 4000
 # The parts of a machine, with the limits that say how many there may be.
 SIZES = {
@@ -224,16 +224,16 @@ def libraries():
 
 
 def crates():
-    """Compares the crates of ARCHITECTURE and PROMISES with crates.txt."""
+    """Compares the crates of CRATES and PROMISES with crates.txt."""
     wanted = list(libraries())
-    table = rows(section("docs/ARCHITECTURE.md", "The crates"))
+    table = rows(section("docs/CRATES.md", "The crates"))
     stands = [name for cells in table for name in ticked(cells[0])]
-    yield from differ("docs/ARCHITECTURE.md, The crates,", stands, wanted)
+    yield from differ("docs/CRATES.md, The crates,", stands, wanted)
     promises = " ".join(read(n) for n in documents() if "PROMISES" in n or "/promises/" in n)
     for crate in wanted:
         if not re.search(rf"\b{crate}\b", promises):
             yield f"docs/PROMISES.md says nothing of {crate}"
-    told = " ".join(section("docs/ARCHITECTURE.md", "The crates").split())
+    told = " ".join(section("docs/CRATES.md", "The crates").split())
     under = len(below("aia")) - 1
     for part in (
         f"These are {len(wanted)} crates: `aia` and the {under} that it stands on",
@@ -241,7 +241,7 @@ def crates():
         f"The longest chain of crates has {max(map(depth, wanted))}.",
     ):
         if part not in told:
-            yield f"docs/ARCHITECTURE.md, The crates, does not say: {part}"
+            yield f"docs/CRATES.md, The crates, does not say: {part}"
 
 
 def promised():

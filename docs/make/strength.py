@@ -1,10 +1,10 @@
-"""Makes the tables of docs/STRENGTH.md of the edits in must-fail/, and of refusals.txt."""
+"""Makes the tables of docs/EDITS.md of the edits in must-fail/, and of refusals.txt."""
 
 import re
 
 from antt import TOP
 
-TARGET = TOP / "docs/STRENGTH.md"
+TARGET = TOP / "docs/EDITS.md"
 REFUSALS = TOP / "docs/make/refusals.txt"
 HEAD = ["| Edit | Turns | Into | Refused by |", "|---|---|---|---|"]
 BEGIN, END = "<!-- edits, by `suite/documents make` -->", "<!-- /edits -->"
@@ -91,7 +91,7 @@ def rendered():
     """Gives the document with its tables made anew."""
     text = TARGET.read_text(encoding="utf-8")
     if BEGIN not in text or END not in text:
-        raise SystemExit("docs/STRENGTH.md has no place for the tables of edits")
+        raise SystemExit("docs/EDITS.md has no place for the tables of edits")
     before, rest = text.split(BEGIN, 1)
     return before + table() + rest.split(END, 1)[1]
 
@@ -104,7 +104,7 @@ def drifts():
     for of, name in sorted(set(refusals()) - there):
         yield f"docs/make/refusals.txt speaks of {of} {name}, which is no edit"
     if rendered() != TARGET.read_text(encoding="utf-8"):
-        yield "docs/STRENGTH.md: its tables drift from must-fail/ or docs/make/refusals.txt"
+        yield "docs/EDITS.md: its tables drift from must-fail/ or docs/make/refusals.txt"
 
 
 def make():

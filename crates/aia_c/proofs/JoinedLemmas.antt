@@ -1,6 +1,6 @@
 -- Scripts one after another are answered as one.
 use Rattle.std.proofs.Common.{◌≡◌, ℕ, Bool, true, false, nat_eq, List, [], ◌∷◌, ◌++◌, inl, inr, refl, sym, ap, ◌∙◌, subst}
-use Rattle.std.specs.Prelude.{ℤ, ◌⊎◌}
+use Rattle.std.specs.Prelude.{ℤ}
 use Rattle.std.specs.List.{onto_first}
 use Rattle.std.proofs.lemmas.List.{append_assoc, append-nil}
 use Rattle.aia_model.specs.declared.line.Line.{Line}

@@ -1,14 +1,13 @@
 -- A script is answered text by text.
-use Rattle.std.proofs.Common.{◌≡◌, ℕ, ◌+◌, ◌<◌, ◌≤◌, List, [], ◌∷◌, ◌++◌, length, take, drop, Option, Some, None, inl, inr, refl, sym, ap, ◌∙◌, subst, arith}
-use Rattle.std.specs.Prelude.{◌⊎◌, ◌-◌, ℤ, Result, Ok, Err, OnErr}
+use Rattle.std.proofs.Common.{◌≡◌, ℕ, ◌+◌, ◌<◌, ◌≤◌, List, [], ◌∷◌, ◌++◌, length, take, drop, Option, inl, inr, refl, sym, ap, ◌∙◌, subst, arith}
+use Rattle.std.specs.Prelude.{◌⊎◌, ◌-◌, Result, Ok, Err, OnErr}
 use borrow.Rule.Slice.PartMut.{put_mid}
 use Rattle.std.proofs.lemmas.List.{append_assoc, append-nil, take-append-drop, take_all, drop_all, drop-drop, length-take, length-drop, length-append}
 use Rattle.std.proofs.Math.Seq.{take-add, take-append-add, drop-append-add}
 use Rattle.aia_model.specs.declared.answer.Answer.{Answer}
-use Rattle.aia_model.specs.Event.{History}
 use Rattle.aia_model.specs.Text.{texts_of}
 use Rattle.aia_model.specs.Reading.{reading}
-use Rattle.aia_model.specs.Script.{printed, text_answer, after_text, after_texts, answers_from}
+use Rattle.aia_model.specs.Script.{printed, text_answer, after_texts, answers_from}
 use Rattle.aia_replay.specs.Runs.{NoEnd, IsWhole}
 use Rattle.aia_replay.specs.Stands.{EngineState, StandsFor, ServesText, ReadsAsMachine}
 use Rattle.aia_replay.proofs.CutLemmas.{texts_front}

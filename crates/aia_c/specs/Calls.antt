@@ -1,5 +1,5 @@
 -- What the calls answer and do. A handle is open, with an engine, or closed. Vocabulary.
-use Rattle.std.specs.Prelude.{◌≡◌, ◌⊎◌, ℕ, ◌+◌, ◌<◌, ◌≤◌, ℤ, true, List, [], ◌∷◌, ◌++◌, length, take, drop, Option, Some, None, Result, Ok, Err}
+use Rattle.std.specs.Prelude.{◌≡◌, ◌⊎◌, ℕ, ◌<◌, ℤ, true, List, [], ◌∷◌, Option, Some, None, Result, Ok, Err}
 use Rattle.aia_model.specs.declared.line.Line.{Line}
 use Rattle.aia_model.specs.declared.answer.Answer.{Answer}
 use Rattle.aia_model.specs.Event.{History}
@@ -13,7 +13,7 @@ use Rattle.aia_replay.specs.Runs.{IsWhole}
 use Rattle.aia_c.specs.declared.code.Code.{Code}
 use Rattle.aia_c.specs.declared.code.Code.TheVariants.{Done, NoMemory, Closed, Open, NoRoom, NoLine}
 use Rattle.aia_c.specs.declared.limits.TheConstants.{ANSWER_BYTES}
-use Rattle.aia_c.specs.Codes.{number, number_of, code_of, wide_of}
+use Rattle.aia_c.specs.Codes.{number, code_of, wide_of}
 
 -- A closed handle is opened, with an engine that has no machine, or there is no memory; an open one
 -- stays as it is.

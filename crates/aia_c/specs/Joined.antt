@@ -1,10 +1,10 @@
 -- Calls one after another, and the script that their lines make.
-use Rattle.std.specs.Prelude.{◌≡◌, ℕ, ℤ, List, [], ◌∷◌, ◌++◌, Option, Some}
+use Rattle.std.specs.Prelude.{◌≡◌, ℕ, ℤ, List, [], ◌∷◌, ◌++◌, Some}
 use Rattle.aia_model.specs.declared.answer.Answer.{Answer}
 use Rattle.aia_model.specs.Event.{History}
 use Rattle.aia_model.specs.Text.{texts_of}
 use Rattle.aia_model.specs.Reading.{reading}
-use Rattle.aia_model.specs.Script.{text_answer, after_text, after_texts}
+use Rattle.aia_model.specs.Script.{text_answer, after_texts}
 use Rattle.aia_replay.specs.Stands.{EngineState, StandsFor}
 use Rattle.aia_replay.specs.Runs.{IsWhole}
 use Rattle.aia_c.specs.Codes.{number, code_of}

@@ -7,7 +7,7 @@ use denote.RawPtr.{Ptr, block_ptr, null_ptr, lies_at}
 use denote.Builtin.{RawPtr}
 use base.Fraction.{full_share}
 use denote.Exit.{Exit, unchanged, leaves, hidden, under}
-use denote.Param.Send.{IsSend, Quiet, part_keyless, owning_send, struct_send, recorded_send, sendable}
+use denote.Param.Send.{IsSend, Quiet, part_keyless, owning_send, struct_send, sendable}
 use denote.Struct.Struct.{exits_of}
 use denote.Struct.Owning.{shape, fields, to}
 use Rattle.std.specs.declared.option.Option.{Option}

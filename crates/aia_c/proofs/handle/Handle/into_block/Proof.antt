@@ -6,7 +6,7 @@ use mir.Raw.{raw as bare}
 use mir.Val.{Val, vptr, vcons, vnil}
 use base.Fraction.{full_share}
 use base.Logic.{SProp, ent, emp, never, id⊢, fst∗, snd∗, via, guard_i}
-use base.Fml.{Fml, ftrue}
+use base.Fml.{ftrue}
 use prog.Wp.{WpFn}
 use types.Logic.{sem}
 use types.Kit.{‵, raw, ◌⊛◌, given, at_ret, ◌$◌, ◌∵◌, !, qed, by, move, keep, drop, split, fsplit, fjoin, fpick, suffices, use0, use1, learn, rewrite}
