@@ -637,7 +637,7 @@ wipe_loses d s w done rest inside v e =
     (at_is d rest s (64 * w) true _ _ _ _ _ _ (wiped_old false (names s w s ((64 * w) / 64)) (named_itself s w)) refl refl
     (at_step d (Zero Old s w) rest s (64 * w) true true false false (v.old s (64 * w) (at_first (λ u. old_holds d s u done ≡ true) w e))))
 
-words_kept : (d : Setting) (x : Step) (done : Done) (rest : List Step) → IsInFile d x → Witness d done (x ∷ rest) → lets Words d x done ≡ true
+words_kept : (d : Setting) (x : Step) (done : Done) (rest : List Step) → IsInFile d.words x → Witness d done (x ∷ rest) → lets Words d x done ≡ true
 words_kept d (Take s w) done rest inside v = not_of _ (λ e. take_loses d s w done rest inside v e)
 words_kept d (Put s w) done rest inside v = not_of _ (λ e. over_loses d (Put s w) s w done rest inside (named_itself s w) v e)
 words_kept d (Zero Old s w) done rest inside v = not_of _ (λ e. wipe_loses d s w done rest inside v e)
@@ -665,7 +665,7 @@ join_loses d s w done rest inside v held e =
     (at_is d rest s (64 * w) false _ _ _ _ _ _ refl (keep_new (names s w s ((64 * w) / 64)) false refl) (no_hand false (names s w s ((64 * w) / 64)))
     (at_step d (Join s w) rest s (64 * w) false false true false (v.dirty s (64 * w) (at_first (λ u. is_blank d s u done ≡ false) w e))))
 
-blank_kept : (d : Setting) (x : Step) (done : Done) (rest : List Step) → IsInFile d x → Witness d done (x ∷ rest) → lets Blank d x done ≡ true
+blank_kept : (d : Setting) (x : Step) (done : Done) (rest : List Step) → IsInFile d.words x → Witness d done (x ∷ rest) → lets Blank d x done ≡ true
 blank_kept d (Join s w) done rest inside v = join_law (hand_holds d s w done) (is_blank d s w done) (join_loses d s w done rest inside v)
   where
     join_law : (h c : Bool) → (h ≡ true → c ≡ false → ⊥) → (not h || c) ≡ true
@@ -761,7 +761,7 @@ number_loses d done n v e =
     zero_one : ◌≡◌ {A = ℕ} 0 1 → ⊥
     zero_one e = omega (arith, e)
 
-step_kept : (rule : Rule) (d : Setting) (x : Step) (done : Done) (rest : List Step) → IsOfSafety rule → IsInFile d x → Witness d done (x ∷ rest) → lets rule d x done ≡ true
+step_kept : (rule : Rule) (d : Setting) (x : Step) (done : Done) (rest : List Step) → IsOfSafety rule → IsInFile d.words x → Witness d done (x ∷ rest) → lets rule d x done ≡ true
 step_kept Notice d x done rest of inside v = absurd of
 step_kept Words d x done rest of inside v = words_kept d x done rest inside v
 step_kept Blank d x done rest of inside v = blank_kept d x done rest inside v
@@ -777,7 +777,7 @@ end_kept Routes d done of v = and_of _ _ (true_of _ (unled_loses d done v)) (all
 end_kept Words d done of v = all_of _ d.words (λ w inside. and_of _ _ (not_of _ (hand_loses d Pending w done inside v)) (and_of _ _ (not_of _ (old_loses d Enabled w done inside v)) (not_of _ (hand_loses d Enabled w done inside v))))
 end_kept Numbers d done of v = and_of _ _ (true_of _ (number_loses d done Threshold v)) (true_of _ (number_loses d done Delivery v))
 
-rest_kept : (rule : Rule) (d : Setting) (done : Done) (rest : List Step) → IsOfSafety rule → AllByRecursion (IsInFile d) rest → Witness d done rest → lets_rest rule d done rest ≡ true
+rest_kept : (rule : Rule) (d : Setting) (done : Done) (rest : List Step) → IsOfSafety rule → AllByRecursion (IsInFile d.words) rest → Witness d done rest → lets_rest rule d done rest ≡ true
 rest_kept rule d done [] of inside v = end_kept rule d done of v
 rest_kept rule d done (x ∷ rest) of (here, later) v =
     and_of _ _ (step_kept rule d x done rest of here v) (rest_kept rule d (x ∷ done) rest of later (witness_step d x done rest (words_kept d x done rest here v) v))
@@ -878,5 +878,5 @@ begin d plan safe = record {
 }
 
 -- **A safe plan keeps each rule of safety.**
-pub safe_keeps : (rule : Rule) (d : Setting) (plan : List Step) → IsOfSafety rule → AllByRecursion (IsInFile d) plan → IsSafe d plan → lets_rest rule d [] plan ≡ true
+pub safe_keeps : (rule : Rule) (d : Setting) (plan : List Step) → IsOfSafety rule → AllByRecursion (IsInFile d.words) plan → IsSafe d plan → lets_rest rule d [] plan ≡ true
 safe_keeps rule d plan of inside safe = rest_kept rule d [] plan of inside (begin d plan safe)

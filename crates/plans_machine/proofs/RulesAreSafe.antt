@@ -13,7 +13,7 @@ use Rattle.plans_machine.proofs.Telling as telling
 use Rattle.plans_machine.proofs.Telling.{guarded_is_told}
 use Rattle.plans_machine.proofs.Exact.{safe_keeps}
 
-five_kept : (d : Setting) (plan : List Step) → moves d plan ≡ true → GuardRest d [] plan
+pub five_kept : (d : Setting) (plan : List Step) → moves d plan ≡ true → GuardRest d [] plan
 five_kept d plan e Routes of = and_left (keeps Routes d plan) _ e
 five_kept d plan e Words of = and_left (keeps Words d plan) _ (and_right (keeps Routes d plan) _ e)
 five_kept d plan e Blank of = and_left (keeps Blank d plan) _ (and_right (keeps Words d plan) _ (and_right (keeps Routes d plan) _ e))
@@ -34,9 +34,9 @@ pub rules_are_safe : (d : Setting) (plan : List Step) → moves d plan ≡ true 
 rules_are_safe d plan e = guarded_is_safe d plan (five_kept d plan e)
 
 -- **And no other is.**
-pub only_these : (d : Setting) (plan : List Step) → All (IsInFile d) plan → IsSafe d plan → moves d plan ≡ true
+pub only_these : (d : Setting) (plan : List Step) → All (IsInFile d.words) plan → IsSafe d plan → moves d plan ≡ true
 only_these d plan inside safe =
-    let each = recursively (IsInFile d) plan inside in
+    let each = recursively (IsInFile d.words) plan inside in
     and_of _ _ (safe_keeps Routes d plan tt each safe)
     (and_of _ _ (safe_keeps Words d plan tt each safe)
     (and_of _ _ (safe_keeps Blank d plan tt each safe) (and_of _ _ (safe_keeps Numbers d plan tt each safe) (safe_keeps Freeing d plan tt each safe))))

@@ -84,10 +84,10 @@ IsTold d plan =
     (start : Machine) (run : List Happening) → IsStart d start → IsRun d plan run
     → HostKnows d (all_happened d run start)
 
--- Where a step names a word of a set, it is one of the file's.
-abbrev pub IsInFile : Setting → Step → Type 0
-IsInFile d (Zero place s w) = w < d.words
-IsInFile d (Take s w) = w < d.words
-IsInFile d (Join s w) = w < d.words
-IsInFile d (Put s w) = w < d.words
-IsInFile d x = Unit {0}
+-- Where a step names a word of a set, it is one of so many.
+abbrev pub IsInFile : ℕ → Step → Type 0
+IsInFile words (Zero place s w) = w < words
+IsInFile words (Take s w) = w < words
+IsInFile words (Join s w) = w < words
+IsInFile words (Put s w) = w < words
+IsInFile words x = Unit {0}
