@@ -1,11 +1,12 @@
 //! A run of a plan with one store at most.
 
-ghost use Rattle.std.specs.Prelude.{◌≡◌, List, true};
+ghost use Rattle.std.specs.Prelude.{◌≡◌, ◌&&◌, List, length, true, IfSome};
 ghost use Rattle.std.specs.Option.{option_map};
 ghost use Rattle.plans_machine.specs.Setting.{setting_of};
 ghost use Rattle.plans_machine.specs.Machine.{all_happened};
 ghost use Rattle.plans_run.specs.Trace.{Follows};
 ghost use Rattle.plans_run.specs.Run.{Loses, can_be, differ, happenings, is_bad_bit, is_bad_end, is_bad_route, is_flying_old, is_routed, start_of, trace_begun, trace_extra, trace_number, trace_wanted};
+ghost use Rattle.plans_run.specs.Search.{tried, trace_end};
 
 use crate::trace::{Begin, Case, Route, Trace};
 use plans_machine::{Bank, Kind, Place, Step, Terms};
@@ -100,7 +101,7 @@ impl Run {
         ensures { result ≡ is_bad_end self terms producers trace }
     {
         self.is_bad_bit(trace)
-            || (self.case.producer as usize) < producers && is_bad_route(trace)
+            || self.case.producer < producers && is_bad_route(trace)
             || !trace.number(terms.number_to)
             || is_flying_old(trace.flight)
             || trace.strayed
@@ -110,18 +111,21 @@ impl Run {
     fn can_be(self, terms: Terms, producers: &[Kind]) -> bool
         ensures { result ≡ can_be self terms producers.now }
     {
-        self.case.identity / 64 < terms.words
+        self.case.identity / 64 < terms.words as u64
             && (self.begin != Begin::InNew || !terms.is_fresh)
             && match self.extra {
                 Extra::Nothing => true,
-                Extra::Stores { .. } => (self.case.producer as usize) < producers.len(),
-                Extra::Flies { .. } => is_routed(producers.get(self.case.producer as usize)),
+                Extra::Stores { .. } => self.case.producer < producers.len(),
+                Extra::Flies { .. } => is_routed(producers.get(self.case.producer)),
             }
     }
 
     /// Gives what is followed at the end of the run of a plan.
     fn end(self, terms: Terms, plan: &[Step]) -> Trace
-        ensures { (producers : List Kind) → Follows self.case result (all_happened (setting_of producers terms) (happenings plan.now self) (start_of (setting_of producers terms) self)) }
+        ensures exact { result ≡ trace_end self terms plan.now }
+        ensures follows { (producers : List Kind) → Follows self.case result
+            (all_happened (setting_of producers terms) (happenings plan.now self)
+            (start_of (setting_of producers terms) self)) }
     {
         let mut trace = self.begun(terms);
         for at in 0..plan.len() {
@@ -132,11 +136,27 @@ impl Run {
     }
 
     /// Tells whether a plan has this run, and it loses something.
-    pub(crate) fn loses(self, producers: &[Kind], terms: Terms, plan: &[Step]) -> bool
-        ensures { result ≡ true → Loses (setting_of producers.now terms) plan.now self }
+    fn loses(self, producers: &[Kind], terms: Terms, plan: &[Step]) -> bool
+        ensures exact { result ≡ (can_be self terms producers.now
+            && is_bad_end self terms (length producers.now) (trace_end self terms plan.now)) }
+        ensures loses { result ≡ true → Loses (setting_of producers.now terms) plan.now self }
     {
         self.can_be(terms, producers)
             && self.is_bad_end(terms, producers.len(), self.end(terms, plan))
+    }
+
+    /// Gives this run, if a plan has it and it loses something. `None`: it has it not, or the run
+    /// ends as it has to.
+    #[tactic(auto, unfolding(crate::specs::Search::tried))]
+    pub(crate) fn tried(self, producers: &[Kind], terms: Terms, plan: &[Step]) -> Option<Run>
+        ensures exact { result ≡ tried producers.now terms plan.now self }
+        ensures loses { IfSome result (λ run. Loses (setting_of producers.now terms) plan.now run) }
+    {
+        if self.loses(producers, terms, plan) {
+            Some(self)
+        } else {
+            None
+        }
     }
 }
 

@@ -10,9 +10,9 @@ use plans_machine::{Bank, Number, Place, Spot, Step, Terms};
 #[derive(Clone, Copy, Debug, PartialEq, Eq)]
 pub struct Case {
     pub bank: Bank,
-    pub identity: u32,
+    pub identity: u64,
     pub number: Number,
-    pub producer: u32,
+    pub producer: usize,
 }
 
 /// Where the bit that is followed stands at the start.
@@ -60,7 +60,7 @@ impl Case {
     fn names_bit(self, bank: Bank, word: u32) -> bool
         ensures { result ≡ names_bit self bank word }
     {
-        bank == self.bank && word == self.identity / 64
+        bank == self.bank && word as u64 == self.identity / 64
     }
 }
 
@@ -141,9 +141,9 @@ impl Trace {
         ensures { result ≡ trace_after case step self }
     {
         match step {
-            Step::Route(p) => self.turned(p == case.producer),
-            Step::Fence(p) => self.fenced(case, p == case.producer),
-            Step::Switch(p) => self.switched(p == case.producer),
+            Step::Route(p) => self.turned(p as usize == case.producer),
+            Step::Fence(p) => self.fenced(case, p as usize == case.producer),
+            Step::Switch(p) => self.switched(p as usize == case.producer),
             Step::Zero(place, s, w) => self.zeroed(place, case.names_bit(s, w)),
             Step::Take(s, w) => self.taken(case.names_bit(s, w)),
             Step::Join(s, w) => self.joined(case.names_bit(s, w)),

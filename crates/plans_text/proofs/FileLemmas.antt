@@ -1,8 +1,8 @@
 -- Bytes that are cut at LF, and read text by text.
-use Rattle.std.proofs.Common.{◌≡◌, ℕ, suc, ◌+◌, ◌-◌, ◌<◌, Bool, true, false, nat_eq, List, [], ◌∷◌, ◌++◌, length, take, drop, Option, Some, None, inl, inr, refl, sym, ap, ◌∙◌, arith}
+use Rattle.std.proofs.Common.{append_assoc, ◌≡◌, ℕ, suc, ◌+◌, ◌-◌, ◌<◌, Bool, true, false, nat_eq, List, [], ◌∷◌, ◌++◌, length, take, drop, Option, Some, None, inl, inr, refl, sym, ap, ◌∙◌, arith}
 use Rattle.std.specs.Prelude.{position}
 use Rattle.std.specs.List.{All, onto_first, before_first, after_first, position_or_len}
-use Rattle.std.proofs.lemmas.List.{get_or-take, length-take, length-drop}
+use Rattle.std.proofs.lemmas.List.{get_or-take, length-take, length-drop, length-map}
 use Rattle.std.proofs.Math.Seq.{take-length}
 use Rattle.std.proofs.lemmas.List.Elements.{All-from_get_or}
 use Rattle.std.proofs.lemmas.List.Sums.{fails_before_first, passes_at_first, split_at_first}
@@ -10,7 +10,7 @@ use Rattle.std.proofs.lemmas.Bool.{cases_lt, cond-true, cond-false, lt-ltb, le-l
 use Rattle.std.proofs.lemmas.Option.{slice_get-map}
 use Rattle.plans_text.specs.PlanFile.{Read, none_read, with_text, with_texts, all_answers, answers, texts_of}
 
-pub ruleset place_lemmas = (slice_get-map)
+pub ruleset place_lemmas = (slice_get-map, length-map)
 
 abbrev pub is_end : ℕ → Bool
 is_end b = nat_eq b 10
@@ -86,3 +86,7 @@ some_bytes (b ∷ bytes) e = omega arith
 pub whole : (bytes : List ℕ) (read : Read) → read ≡ with_texts none_read (texts_of bytes) → all_answers read ≡ answers bytes
 unfolding answers
 whole bytes read e = ap all_answers e
+
+pub three_parts : (a b c d first second third : List ℕ) → b ≡ a ++ first → c ≡ b ++ second → d ≡ c ++ third → d ≡ a ++ (first ++ (second ++ third))
+three_parts a b c d first second third e f g =
+    g ∙ ap (λ xs. xs ++ third) (f ∙ ap (λ xs. xs ++ second) e) ∙ append_assoc (a ++ first) second third ∙ append_assoc a first (second ++ third)

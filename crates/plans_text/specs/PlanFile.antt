@@ -1,5 +1,5 @@
 -- The plans of a file, and what is answered: a line for each plan, in their order. Profile.
-use Rattle.std.specs.Prelude.{ℕ, ◌+◌, Bool, true, false, ◌&&◌, nat_eq, nat_lt, nat_le, if◌then◌else◌, List, [], ◌∷◌, ◌++◌, length, map, Option, Some, None, codes, decimal, slice_get}
+use Rattle.std.specs.Prelude.{ℕ, ◌+◌, ◌-◌, Bool, true, false, ◌&&◌, nat_eq, nat_lt, nat_le, if◌then◌else◌, List, [], ◌∷◌, ◌++◌, length, map, Option, Some, None, codes, decimal, slice_get}
 use Rattle.std.specs.List.{All, onto_first}
 use Rattle.plans_machine.specs.declared.setting.Kind.{Kind}
 use Rattle.plans_machine.specs.declared.setting.Spot.TheVariants.{InOld, InNew}
@@ -13,6 +13,16 @@ use Rattle.plans_machine.specs.Safe.{IsInFile}
 use Rattle.plans_judge.specs.declared.verdict.Verdict.{Verdict}
 use Rattle.plans_judge.specs.declared.verdict.Verdict.TheVariants.{Accepted, Refused}
 use Rattle.plans_judge.specs.Verdicts.{verdict_on}
+use Rattle.plans_machine.specs.declared.step.Bank.{Bank}
+use Rattle.plans_machine.specs.declared.step.Bank.TheVariants.{Pending, Enabled}
+use Rattle.plans_run.specs.declared.trace.Begin.{Begin}
+use Rattle.plans_run.specs.declared.trace.Begin.TheVariants as begins
+use Rattle.plans_run.specs.declared.trace.Route.{Route}
+use Rattle.plans_run.specs.declared.trace.Route.TheVariants.{Written, InForce}
+use Rattle.plans_run.specs.declared.run.Extra.{Extra}
+use Rattle.plans_run.specs.declared.run.Extra.TheVariants as extras
+use Rattle.plans_run.specs.declared.run.Run.{Run}
+use Rattle.plans_run.specs.Search.{losing_run_of}
 use Rattle.plans_text.specs.declared.limits.TheConstants.{WORDS, PRODUCERS, STEPS}
 use Rattle.plans_text.specs.declared.draft.Mark.{Mark}
 use Rattle.plans_text.specs.declared.draft.Draft.{Draft}
@@ -139,15 +149,76 @@ place_text None = codes " in the end"
 place_text (Some place) =
     codes " at line " ++ (decimal place.line ++ (codes ": " ++ place.text))
 
-abbrev pub verdict_text : List Place → Verdict → Text
-verdict_text places Accepted = codes "accepted"
-verdict_text places (Refused rule before) =
-    codes "refused " ++ (rule_word rule ++ place_text (slice_get places before))
+-- ---- the run that is shown of a plan that loses something, in a line of its own
+
+abbrev pub bank_word : Bank → Text
+bank_word Pending = codes " is pending "
+bank_word Enabled = codes " is enabled "
+
+abbrev pub begin_word : Begin → Text
+begin_word begins.Nowhere = codes "nowhere at the start"
+begin_word begins.InOld = codes "in the old place at the start"
+begin_word begins.InNew = codes "in the new place at the start"
+
+abbrev pub route_word : Route → Text
+route_word Written = codes " by its written route"
+route_word InForce = codes " by its route in force"
+
+-- Between which lines a store comes that has so many steps before it.
+abbrev pub behind_text : Option Place → Text
+behind_text None = codes " before the first step"
+behind_text (Some place) = codes " behind line " ++ decimal place.line
+
+abbrev pub between_text : List Place → ℕ → Text
+between_text places before =
+    if nat_eq before 0 then behind_text None else behind_text (slice_get places (before - 1))
+
+-- A store that lands with more steps before it than there are lands at its fence alone.
+abbrev pub landing_text : List Place → ℕ → Text
+landing_text places before =
+    if nat_le before (length places) then codes ", and lands" ++ between_text places before
+    else codes ", and lands at its fence"
+
+abbrev pub extra_text : List Place → ℕ → Extra → Text
+extra_text places producer extras.Nothing = []
+extra_text places producer (extras.Stores before route) =
+    codes "; producer " ++ (decimal producer ++ (codes " stores it"
+    ++ (between_text places before ++ route_word route)))
+extra_text places producer (extras.Flies before) =
+    codes "; a store of producer " ++ (decimal producer ++ (codes " for it is in flight"
+    ++ landing_text places before))
+
+abbrev pub case_text : Run → Text
+case_text run =
+    decimal run.case.identity ++ (bank_word run.case.bank ++ begin_word run.begin)
+
+abbrev pub run_text : List Place → Option Run → Text
+run_text places None = []
+run_text places (Some run) =
+    (10 ∷ codes "  run: identity ")
+    ++ (case_text run ++ extra_text places run.case.producer run.extra)
+
+abbrev pub verdict_text : List Place → Option Run → Verdict → Text
+verdict_text places run Accepted = codes "accepted"
+verdict_text places run (Refused rule before) =
+    codes "refused " ++ (rule_word rule ++ (place_text (slice_get places before)
+    ++ run_text places run))
+
+-- The run of a plan that breaks a rule of safety; none of another one, since that loses nothing.
+abbrev pub run_shown : List Kind → Terms → List Step → Verdict → Option Run
+run_shown producers terms plan Accepted = None
+run_shown producers terms plan (Refused rules.Notice before) = None
+run_shown producers terms plan (Refused rule before) = losing_run_of producers terms plan
+
+abbrev pub found_text : List Place → List Kind → Terms → List Step → Verdict → Text
+found_text places producers terms plan verdict =
+    verdict_text places (run_shown producers terms plan verdict) verdict
 
 abbrev pub bad_or_verdict : Option ℕ → Plan → Text
 bad_or_verdict (Some line) plan = codes "bad line " ++ decimal line
 bad_or_verdict None plan =
-    verdict_text plan.places (verdict_on (setting_of plan.producers plan.terms) plan.steps)
+    found_text plan.places plan.producers plan.terms plan.steps
+    (verdict_on (setting_of plan.producers plan.terms) plan.steps)
 
 -- What is answered of a plan that ends, with its LF: nothing, where it did not begin.
 abbrev pub plan_answer : Plan → Text
