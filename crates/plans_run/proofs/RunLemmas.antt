@@ -31,7 +31,7 @@ use Rattle.plans_run.specs.declared.run.Run.{Run}
 use Rattle.plans_run.specs.declared.run.Extra.{Extra}
 use Rattle.plans_run.specs.declared.run.Extra.TheVariants as extras
 use Rattle.plans_run.specs.Trace.{Follows, begins_old, begins_new, flights_by, flight_landed, trace_after, trace_landed, trace_stored, worth}
-use Rattle.plans_run.specs.Run.{Loses, can_be, differ, extra_at, by_of, first_flight, happenings, is_bad_bit, is_bad_end, is_bad_route, is_flying_old, is_routed, one_bit, run_upto, start_of, step_at, trace_begun, trace_extra, trace_number, trace_wanted}
+use Rattle.plans_run.specs.Run.{Loses, can_be, differ, extra_at, by_of, first_flight, happenings, is_bad_bit, is_bad_end, is_bad_route, is_flying_old, is_quiet, is_routed, shows_route, one_bit, run_upto, start_of, step_at, trace_begun, trace_extra, trace_number, trace_wanted}
 use Rattle.plans_run.proofs.FollowLemmas.{follows_landed, follows_step}
 
 -- ---- lists of happenings
@@ -291,8 +291,9 @@ ends_badly producers terms run t z inside v bad m = elim (or_cases (is_bad_bit r
     | inl wrong ↦ not_same t.new (trace_wanted run t) wrong (right_bit producers terms run run.case.bank z t refl inside m v.new v.due)
     | inr left ↦ true_false t.old left (sym v.old ∙ m.none_left run.case.bank run.case.identity inside)
   ]
-  | inr others ↦ elim (or_cases (nat_lt run.case.producer (length producers) && is_bad_route t) _ others) [
-    | inl route ↦
+  | inr others ↦ elim (or_cases (shows_route run (length producers) t) _ others) [
+    | inl shown ↦
+        let route = and_right (is_quiet run.extra) _ shown in
         let p = below_is run.case.producer (length producers) (and_left _ _ route) in
         elim (or_cases (is_old t.written) (is_old t.in_force) (and_right (nat_lt run.case.producer (length producers)) _ route)) [
           | inl written ↦ old_new t.written written (sym v.written ∙ m.written run.case.producer p)

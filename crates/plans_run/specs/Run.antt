@@ -144,10 +144,20 @@ is_bad_bit run t = differ t.new (trace_wanted run t) || t.old
 abbrev pub is_bad_route : Trace → Bool
 is_bad_route t = is_old t.written || is_old t.in_force
 
+-- A run without a store shows where its producer's route leads in the end; one with a store shows
+-- what becomes of that.
+abbrev pub is_quiet : Extra → Bool
+is_quiet extras.Nothing = true
+is_quiet extra = false
+
+abbrev pub shows_route : Run → ℕ → Trace → Bool
+shows_route run producers t =
+    is_quiet run.extra && (nat_lt run.case.producer producers && is_bad_route t)
+
 abbrev pub is_bad_end : Run → Terms → ℕ → Trace → Bool
 is_bad_end run terms producers t =
     is_bad_bit run t
-    || ((nat_lt run.case.producer producers && is_bad_route t)
+    || (shows_route run producers t
     || (not (trace_number terms.number_to t) || (is_flying_old t.flight || t.strayed)))
 
 -- Whether there can be such a run.

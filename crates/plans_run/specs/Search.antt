@@ -44,7 +44,7 @@ unfoldable pub first_of : {A : Type 0} → (ℕ → Option A) → ℕ → ℕ �
 first_of found from zero = None
 first_of found from (suc count) = or_else (found from) (first_of found (suc from) count)
 
--- The second identity of a word, and a producer.
+-- The second identity of a word, and a producer; no plan has one of the greatest number.
 abbrev pub pending_case : ℕ → ℕ → Case
 pending_case word producer = record {
   bank = Pending;
@@ -58,7 +58,7 @@ enabled_case word = record {
   bank = Enabled;
   identity = 64 * word + 1;
   number = Delivery;
-  producer = 0;
+  producer = 2 ^ 64 - 1;
 }
 
 abbrev pub run_of : Case → Begin → Extra → Run
@@ -73,7 +73,7 @@ without_store producers terms plan case =
 
 unfoldable pub quiet_word : List Kind → Terms → List Step → ℕ → Option Run
 quiet_word producers terms plan word =
-    or_else (without_store producers terms plan (pending_case word 0))
+    or_else (without_store producers terms plan (pending_case word (2 ^ 64 - 1)))
     (without_store producers terms plan (enabled_case word))
 
 -- With a store that comes with so many steps before it.

@@ -5,7 +5,7 @@ ghost use Rattle.std.specs.Option.{option_map};
 ghost use Rattle.plans_machine.specs.Setting.{setting_of};
 ghost use Rattle.plans_machine.specs.Machine.{all_happened};
 ghost use Rattle.plans_run.specs.Trace.{Follows};
-ghost use Rattle.plans_run.specs.Run.{Loses, can_be, differ, happenings, is_bad_bit, is_bad_end, is_bad_route, is_flying_old, is_routed, start_of, trace_begun, trace_extra, trace_number, trace_wanted};
+ghost use Rattle.plans_run.specs.Run.{Loses, can_be, differ, happenings, is_bad_bit, is_bad_end, is_bad_route, is_flying_old, is_routed, shows_route, start_of, trace_begun, trace_extra, trace_number, trace_wanted};
 ghost use Rattle.plans_run.specs.Search.{tried, trace_end};
 
 use crate::trace::{Begin, Case, Route, Trace};
@@ -96,12 +96,23 @@ impl Run {
         differ(trace.new, self.wanted(trace)) || trace.old
     }
 
+    /// Tells whether a run without a store shows that its producer's route leads to the old place.
+    fn shows_route(self, producers: usize, trace: Trace) -> bool
+        ensures { result ≡ shows_route self producers trace }
+    {
+        let is_quiet = match self.extra {
+            Extra::Nothing => true,
+            _ => false,
+        };
+        is_quiet && self.case.producer < producers && is_bad_route(trace)
+    }
+
     /// Tells whether an end is not as it has to be, where there are so many producers.
     fn is_bad_end(self, terms: Terms, producers: usize, trace: Trace) -> bool
         ensures { result ≡ is_bad_end self terms producers trace }
     {
         self.is_bad_bit(trace)
-            || self.case.producer < producers && is_bad_route(trace)
+            || self.shows_route(producers, trace)
             || !trace.number(terms.number_to)
             || is_flying_old(trace.flight)
             || trace.strayed

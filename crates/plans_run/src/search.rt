@@ -23,7 +23,7 @@ fn pending_case(word: u32, producer: usize) -> Case
     }
 }
 
-/// Names the second identity of a word of the enables.
+/// Names the second identity of a word of the enables, and no producer.
 fn enabled_case(word: u32) -> Case
     ensures { result ≡ enabled_case word }
 {
@@ -31,7 +31,7 @@ fn enabled_case(word: u32) -> Case
         bank: Bank::Enabled,
         identity: 64 * word as u64 + 1,
         number: Number::Delivery,
-        producer: 0,
+        producer: usize::MAX,
     }
 }
 
@@ -73,7 +73,7 @@ fn quiet_word(
     ensures exact { result ≡ quiet_word producers.now terms plan.now word }
     ensures loses { IfSome result (λ run. Loses (setting_of producers.now terms) plan.now run) }
 {
-    if let Some(run) = without_store(producers, terms, plan, pending_case(word, 0)) {
+    if let Some(run) = without_store(producers, terms, plan, pending_case(word, usize::MAX)) {
         return Some(run);
     }
     without_store(producers, terms, plan, enabled_case(word))
