@@ -2,6 +2,7 @@
 //! which store comes between which steps. Profile.
 #![tactic(auto)]
 
+pub mod laws;
 mod run;
 mod search;
 mod trace;

@@ -2,6 +2,7 @@
 //! Profile.
 #![tactic(auto)]
 
+mod answer;
 mod draft;
 pub mod limits;
 mod line;
