@@ -3,14 +3,14 @@
 
 The machine, told a second time from docs/ANY-PLAN.md: two places, a hand, producers with routes. A
 plan is one of a hypervisor's with some edits. It is tried with one store, or one in flight, at every
-place, from several starts. Prints how many accepted plans had a bad run, and how many refused ones
-had none, and ends with 1 if any did.
+place, from several starts; and where the program shows a run, that run is made. Prints how many
+accepted plans had a bad run, how many refused ones had none, and how many runs that were shown were
+good or missing, and ends with 1 if any was.
 """
 import random
+import re
 import subprocess
 import sys
-
-IDENTITIES = 8  # of each word, of which the machine follows some
 
 
 class Setting:
@@ -220,7 +220,11 @@ class Machine:
 
 def is_bad_run(setting, plan, start, events):
     """Whether the run with these events, each with so many steps before it, is bad."""
-    machine = Machine(setting, *start)
+    return is_bad_end(Machine(setting, *start), plan, events)
+
+
+def is_bad_end(machine, plan, events):
+    """Whether a machine ends badly after the steps of a plan with these events between them."""
     for at, step in enumerate(list(plan) + [None]):
         for before, act in events:
             if before == at:
@@ -252,11 +256,60 @@ def has_bad_run(setting, plan):
     return any(is_bad_run(setting, plan, start, events) for start in starts for events in runs(setting, plan))
 
 
+SHOWN = re.compile(
+    r'  run: identity (\d+) is (pending|enabled) (nowhere|in the old place|in the new place) at the start'
+    r'(?:; producer (\d+) stores it (before the first step|behind line (\d+)) by its (written route|route in force)'
+    r'|; a store of producer (\d+) for it is in flight, and lands(?: before the first step| behind line (\d+)| (at its fence)))?')
+
+
+def is_bad_shown(setting, plan, first_line, text):
+    """Whether a run that a program shows, of a plan whose first step is on a line, is one and is bad."""
+    found = SHOWN.fullmatch(text)
+    identity, bank, begin, storer, _, behind, route, flier, landing, at_fence = found.groups()
+    what = (int(identity) // 64, int(identity) % 64)
+    machine = Machine(setting, (), ())
+    machine.new = {'pending': set(), 'enabled': set()}
+    if begin == 'in the old place':
+        machine.old[bank].add(what)
+        if bank == 'pending':
+            machine.due.add(what)
+        else:
+            machine.first_enabled.add(what)
+    if begin == 'in the new place':
+        if setting.fresh:
+            return False
+        machine.new[bank].add(what)
+    events = []
+    if storer:
+        before = int(behind) - first_line + 1 if behind else 0
+        events.append((before, lambda m: m.store(int(storer), route == 'written route', what)))
+    if flier:
+        if setting.producers[int(flier)] != 'routed':
+            return False
+        machine.send(int(flier), False, what)
+        if not at_fence:
+            before = int(landing) - first_line + 1 if landing else 0
+            events.append((before, lambda m: m.land_first()))
+    return is_bad_end(machine, plan, events)
+
+
 def verdicts(program, plans):
-    """What a program answers of plans: the first word of each answer."""
-    text = '\n'.join('\n'.join(s.lines() + [' '.join(map(str, step)) for step in p]) for s, p in plans)
-    done = subprocess.run([program, 'judge'], input=text + '\n', capture_output=True, text=True, check=True)
-    return [line.split()[0] for line in done.stdout.splitlines() if not line.startswith(' ')]
+    """What a program answers of each plan: the first two words, and whether a run is shown that is bad."""
+    text, firsts, line = [], [], 1
+    for setting, plan in plans:
+        text += setting.lines() + [' '.join(map(str, step)) for step in plan]
+        firsts.append(line + len(setting.lines()))
+        line = len(text) + 1
+    done = subprocess.run([program, 'judge'], input='\n'.join(text) + '\n', capture_output=True, text=True, check=True)
+    answers = []
+    for answer in done.stdout.splitlines():
+        if answer.startswith(' '):
+            setting, plan = plans[len(answers) - 1]
+            shown = is_bad_shown(setting, plan, firsts[len(answers) - 1], answer)
+            answers[-1] = (answers[-1][0], 'shown' if shown else 'wrongly shown')
+        else:
+            answers.append((' '.join(answer.split()[:2]), 'none shown'))
+    return answers
 
 
 def main():
@@ -268,16 +321,25 @@ def main():
         for _ in range(min(500, count - begin)):
             setting, plan = rng.choice(rng.choice(seeds))
             plans.append((setting, edited(setting, plan, rng)))
-        for (setting, plan), verdict in zip(plans, verdicts(program, plans), strict=True):
+        for (setting, plan), (verdict, shown) in zip(plans, verdicts(program, plans), strict=True):
             bad = has_bad_run(setting, plan)
-            key = (verdict, 'a bad run' if bad else 'no bad run')
+            key = (verdict, 'a bad run' if bad else 'no bad run', shown)
             tally[key] = tally.get(key, 0) + 1
-            if key in (('accepted', 'a bad run'), ('refused', 'no bad run'), ('bad', 'a bad run'), ('bad', 'no bad run')):
+            if not is_right(key):
                 print(key, setting.lines(), plan)
     for key in sorted(tally):
         print(*key, tally[key])
-    wrong = [k for k in tally if k not in (('accepted', 'no bad run'), ('refused', 'a bad run'))]
-    sys.exit(1 if wrong else 0)
+    sys.exit(0 if all(map(is_right, tally)) else 1)
+
+
+def is_right(key):
+    """Whether a verdict, what this machine found, and what was shown agree."""
+    verdict, found, shown = key
+    if verdict == 'accepted':
+        return (found, shown) == ('no bad run', 'none shown')
+    if verdict == 'refused notice':
+        return (found, shown) == ('a bad run', 'none shown')
+    return verdict.startswith('refused') and (found, shown) == ('a bad run', 'shown')
 
 
 if __name__ == '__main__':
