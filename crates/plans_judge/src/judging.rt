@@ -115,7 +115,8 @@ fn break_in(
 /// Gives the break in the end of a plan of so many steps. `None`: there is none.
 fn break_at_end(table: &Table, part: Part, before: usize) -> Option<Break>
     ensures { (producers : List Kind) (done : Done) → Stands table.now producers done
-        → result ≡ first_break (rules_of part) (setting_of producers table.now.terms) done before [] }
+        → result ≡ first_break (rules_of part) (setting_of producers table.now.terms) done
+        before [] }
 {
     let rule = table.refusing_end(part)?;
     Some(Break { rule, before })

@@ -1,5 +1,5 @@
-//! A plan by which a hypervisor moves a virtual hart's interrupt file is judged: whether it is safe,
-//! and whether it tells its host, whatever its producers store between its steps. Profile.
+//! A plan by which a hypervisor moves a virtual hart's interrupt file is judged: whether it is
+//! safe, and whether it tells its host, whatever its producers store between its steps. Profile.
 #![tactic(auto)]
 
 mod judging;

@@ -43,7 +43,8 @@ fn first_leads(alloc: Global, producers: &[Kind]) -> Result<Vec<Lead>, AllocErro
 
 /// Makes the words of a file before the first step. `Err`: there is no memory for them.
 fn first_words(alloc: Global, terms: Terms) -> Result<Vec<Word>, AllocError>
-    ensures { IfOk result (λ words. words.items ≡ replicate terms.words (word_first terms.is_fresh)) }
+    ensures { IfOk result (λ words. words.items
+        ≡ replicate terms.words (word_first terms.is_fresh)) }
 {
     let mut words = Vec::new(alloc);
     for _word in 0..terms.words {

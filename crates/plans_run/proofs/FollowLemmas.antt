@@ -1,7 +1,6 @@
 -- A trace follows the machine, happening by happening.
-use Rattle.std.proofs.Common.{◌≡◌, ℕ, ◌/◌, Bool, true, false, not, ◌&&◌, ◌||◌, nat_eq, if◌then◌else◌, List, [], ◌∷◌, Option, Some, None, refl, sym, ap, ap₂, subst, ◌∙◌}
+use Rattle.std.proofs.Common.{◌≡◌, ℕ, Bool, true, false, not, ◌&&◌, ◌||◌, nat_eq, if◌then◌else◌, List, [], Option, Some, None, refl, sym, ap, ap₂, subst, ◌∙◌}
 use Rattle.std.proofs.lemmas.Bool.{eq-eqb, eqb-true}
-use Rattle.plans_machine.specs.declared.step.Bank.{Bank}
 use Rattle.plans_machine.specs.declared.step.Number.{Number}
 use Rattle.plans_machine.specs.declared.step.Number.TheVariants.{Threshold, Delivery}
 use Rattle.plans_machine.specs.declared.step.Place.{Place}
@@ -12,7 +11,7 @@ use Rattle.plans_machine.specs.Setting.{Setting, is_old, is_pending, same_number
 use Rattle.plans_machine.specs.Machine.{Flight, Machine, landed, all_landed, flights_of, flights_beside, led_to, with_number, stepped}
 use Rattle.plans_run.specs.declared.trace.Case.{Case}
 use Rattle.plans_run.specs.declared.trace.Trace.{Trace}
-use Rattle.plans_run.specs.Trace.{Follows, names_bit, flights_by, flight_landed, trace_landed, trace_fenced, trace_after, worth}
+use Rattle.plans_run.specs.Trace.{Follows, names_bit, flights_by, trace_landed, trace_fenced, trace_after, worth}
 
 -- ---- a store lands
 

@@ -1,17 +1,16 @@
 -- What is found loses something.
-use Rattle.std.proofs.Common.{◌≡◌, ℕ, zero, suc, ◌+◌, ◌<◌, ◌≤◌, Bool, true, false, ◌&&◌, if◌then◌else◌, length, List, [], ◌∷◌, Option, Some, None, refl, sym, ap, subst, ◌∙◌, arith}
+use Rattle.std.proofs.Common.{◌≡◌, ℕ, zero, suc, ◌+◌, ◌<◌, ◌≤◌, Bool, true, false, ◌&&◌, if◌then◌else◌, length, List, [], ◌∷◌, Option, Some, None, refl, subst, arith}
 use Rattle.plans_machine.specs.declared.step.Step.{Step}
 use Rattle.plans_machine.specs.declared.setting.Kind.{Kind}
 use Rattle.plans_machine.specs.declared.setting.Terms.{Terms}
 use Rattle.plans_machine.specs.Setting.{setting_of}
 use Rattle.plans_machine.specs.Machine.{all_happened}
 use Rattle.plans_machine.proofs.BoolLaws.{and_left, and_right}
-use Rattle.plans_run.specs.declared.trace.Begin.TheVariants as begins
 use Rattle.plans_run.specs.declared.trace.Case.{Case}
 use Rattle.plans_run.specs.declared.run.Run.{Run}
 use Rattle.plans_run.specs.Trace.{Follows}
 use Rattle.plans_run.specs.Run.{Loses, can_be, is_bad_end, run_upto, start_of}
-use Rattle.plans_run.specs.Search.{by_producer, enabled_case, first_of, losing_run_of, or_else, pending_case, quiet_word, stored_word, trace_end, trace_upto, tried, with_store, without_store}
+use Rattle.plans_run.specs.Search.{by_producer, first_of, losing_run_of, or_else, quiet_word, stored_word, trace_end, trace_upto, tried, with_store, without_store}
 use Rattle.plans_run.proofs.RunLemmas.{follows_begun, follows_end, follows_more, it_loses}
 use Rattle.plans_run.proofs.SearchLemmas.{traced_more}
 

@@ -1,8 +1,8 @@
 -- A run of a plan, and what is followed in it.
-use Rattle.std.proofs.Common.{◌≡◌, ℕ, zero, suc, ◌+◌, ◌/◌, ◌<◌, ◌≤◌, Bool, true, false, not, ◌&&◌, ◌||◌, nat_eq, nat_lt, if◌then◌else◌, length, List, [], ◌∷◌, ◌++◌, Option, Some, None, ◌⊎◌, inl, inr, refl, sym, ap, ap₂, subst, ◌∙◌, arith}
+use Rattle.std.proofs.Common.{◌≡◌, ℕ, zero, suc, ◌+◌, ◌/◌, ◌<◌, ◌≤◌, Bool, true, false, not, ◌||◌, nat_eq, nat_lt, if◌then◌else◌, length, List, [], ◌∷◌, ◌++◌, Option, Some, None, inl, inr, refl, sym, ap, ap₂, subst, ◌∙◌, arith}
 use Rattle.std.specs.Prelude.{get_or, slice_get, take}
 use Rattle.std.specs.List.{AllByRecursion}
-use Rattle.std.proofs.lemmas.Bool.{eq-eqb, eqb-true, false≢true, ltb-true}
+use Rattle.std.proofs.lemmas.Bool.{eq-eqb, false≢true, ltb-true}
 use Rattle.std.proofs.lemmas.List.{append-nil, take_more, take_all}
 use Rattle.std.proofs.lemmas.Option.{slice_get-get_or, slice_get_within}
 use Rattle.plans_machine.specs.declared.step.Bank.{Bank}
@@ -15,14 +15,11 @@ use Rattle.plans_machine.specs.declared.setting.Kind.TheVariants.{Routed, Switch
 use Rattle.plans_machine.specs.declared.setting.Spot.{Spot}
 use Rattle.plans_machine.specs.declared.setting.Spot.TheVariants.{InOld, InHand, InNew}
 use Rattle.plans_machine.specs.declared.setting.Terms.{Terms}
-use Rattle.plans_machine.specs.Setting.{Setting, setting_of, is_old, same_bank, same_spot}
-use Rattle.plans_machine.specs.Machine.{By, Flight, Machine, Happening, landed, all_happened, happened, one_landed, all_but, route_of, steps_in, stepped}
-use Rattle.plans_machine.specs.Machine.By.{Written as AsWritten, InForce as AsInForce}
+use Rattle.plans_machine.specs.Setting.{Setting, setting_of, is_old, same_spot}
+use Rattle.plans_machine.specs.Machine.{Flight, Machine, Happening, landed, all_happened, happened, one_landed, all_but, steps_in, stepped}
 use Rattle.plans_machine.specs.Machine.Happening.{Does, Stores, Sends, Lands, Refetches}
-use Rattle.plans_machine.specs.Safe.{IsProducer, IsRouted, CanHappen, IsRun, IsStart, IsMoved, number_in}
+use Rattle.plans_machine.specs.Safe.{IsRouted, CanHappen, IsRun, IsStart, IsMoved, number_in}
 use Rattle.plans_machine.proofs.BoolLaws.{and_left, and_right, or_cases}
-use Rattle.plans_run.specs.declared.trace.Begin.{Begin}
-use Rattle.plans_run.specs.declared.trace.Begin.TheVariants as begins
 use Rattle.plans_run.specs.declared.trace.Case.{Case}
 use Rattle.plans_run.specs.declared.trace.Route.{Route}
 use Rattle.plans_run.specs.declared.trace.Route.TheVariants.{Written, InForce}
@@ -31,7 +28,7 @@ use Rattle.plans_run.specs.declared.run.Run.{Run}
 use Rattle.plans_run.specs.declared.run.Extra.{Extra}
 use Rattle.plans_run.specs.declared.run.Extra.TheVariants as extras
 use Rattle.plans_run.specs.Trace.{Follows, begins_old, begins_new, flights_by, flight_landed, trace_after, trace_landed, trace_stored, worth}
-use Rattle.plans_run.specs.Run.{Loses, can_be, differ, extra_at, by_of, first_flight, happenings, is_bad_bit, is_bad_end, is_bad_route, is_flying_old, is_quiet, is_routed, shows_route, one_bit, run_upto, start_of, step_at, trace_begun, trace_extra, trace_number, trace_wanted}
+use Rattle.plans_run.specs.Run.{Loses, can_be, differ, extra_at, by_of, first_flight, happenings, is_bad_bit, is_bad_end, is_flying_old, is_quiet, is_routed, shows_route, one_bit, run_upto, start_of, step_at, trace_begun, trace_extra, trace_number, trace_wanted}
 use Rattle.plans_run.proofs.FollowLemmas.{follows_landed, follows_step}
 
 -- ---- lists of happenings
@@ -198,7 +195,7 @@ steps_upto [] run (suc k) within = absurd (omega (arith, within))
 steps_upto (y ∷ ys) run (suc k) within =
     steps_in-append (run_upto (y ∷ ys) run k) (extra_at run k ++ step_at (y ∷ ys) k)
     ∙ ap₂ (λ a b. a ++ b) (steps_upto (y ∷ ys) run k (omega (arith, within)))
-        (steps_in-append (extra_at run k) (step_at (y ∷ ys) k) ∙ ap (λ a. a ++ steps_in (step_at (y ∷ ys) k)) (extra_steps run k) ∙ ap (λ o. steps_in (done_by o)) (slice_get-get_or (y ∷ ys) k y (omega (arith, within))))
+    (steps_in-append (extra_at run k) (step_at (y ∷ ys) k) ∙ ap (λ a. a ++ steps_in (step_at (y ∷ ys) k)) (extra_steps run k) ∙ ap (λ o. steps_in (done_by o)) (slice_get-get_or (y ∷ ys) k y (omega (arith, within))))
     ∙ sym (ap (λ n. take n (y ∷ ys)) (next k) ∙ take_more (y ∷ ys) k y (omega (arith, within)))
   where
     done_by : Option Step → List Happening

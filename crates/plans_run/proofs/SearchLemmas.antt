@@ -1,6 +1,6 @@
 -- What is followed step by step, and the first run that is found.
-use Rattle.std.proofs.Common.{◌≡◌, ℕ, zero, suc, ◌+◌, ◌-◌, ◌<◌, ◌≤◌, length, List, Option, Some, None, refl, sym, ap, subst, ◌∙◌, arith}
-use Rattle.std.specs.Prelude.{get_or, slice_get, IfSome}
+use Rattle.std.proofs.Common.{◌≡◌, ℕ, suc, ◌+◌, ◌-◌, ◌<◌, ◌≤◌, length, List, Option, Some, None, sym, ap, ◌∙◌, arith}
+use Rattle.std.specs.Prelude.{get_or}
 use Rattle.std.proofs.lemmas.Option.{slice_get-get_or}
 use Rattle.plans_machine.specs.declared.step.Step.{Step}
 use Rattle.plans_machine.specs.declared.setting.Terms.{Terms}

@@ -1,12 +1,12 @@
 -- A run of a plan with one store at most, and that it loses something. Profile.
-use Rattle.std.specs.Prelude.{◌≡◌, ℕ, zero, suc, ◌/◌, ◌<◌, Bool, true, false, not, ◌&&◌, ◌||◌, nat_eq, nat_lt, if◌then◌else◌, List, [], ◌∷◌, ◌++◌, length, Option, Some, None, slice_get}
+use Rattle.std.specs.Prelude.{ℕ, zero, suc, ◌/◌, Bool, true, false, not, ◌&&◌, ◌||◌, nat_eq, nat_lt, if◌then◌else◌, List, [], ◌∷◌, ◌++◌, length, Option, Some, None, slice_get}
 use Rattle.plans_machine.specs.declared.step.Bank.{Bank}
 use Rattle.plans_machine.specs.declared.step.Bank.TheVariants.{Pending, Enabled}
 use Rattle.plans_machine.specs.declared.step.Place.{Place}
-use Rattle.plans_machine.specs.declared.step.Place.TheVariants.{Old, New}
+use Rattle.plans_machine.specs.declared.step.Place.TheVariants.{Old}
 use Rattle.plans_machine.specs.declared.step.Step.{Step}
 use Rattle.plans_machine.specs.declared.setting.Kind.{Kind}
-use Rattle.plans_machine.specs.declared.setting.Kind.TheVariants.{Routed, Switched}
+use Rattle.plans_machine.specs.declared.setting.Kind.TheVariants.{Routed}
 use Rattle.plans_machine.specs.declared.setting.Spot.{Spot}
 use Rattle.plans_machine.specs.declared.setting.Spot.TheVariants.{InOld, InHand, InNew}
 use Rattle.plans_machine.specs.declared.setting.Terms.{Terms}
@@ -15,15 +15,13 @@ use Rattle.plans_machine.specs.Machine.{By, Machine, Sets, Happening, all_happen
 use Rattle.plans_machine.specs.Machine.By.{Written as AsWritten, InForce as AsInForce}
 use Rattle.plans_machine.specs.Machine.Happening.{Does, Stores, Lands}
 use Rattle.plans_machine.specs.Safe.{IsMoved, IsRun, IsStart}
-use Rattle.plans_run.specs.declared.trace.Begin.{Begin}
-use Rattle.plans_run.specs.declared.trace.Begin.TheVariants as begins
 use Rattle.plans_run.specs.declared.trace.Route.{Route}
 use Rattle.plans_run.specs.declared.trace.Route.TheVariants.{Written, InForce}
 use Rattle.plans_run.specs.declared.trace.Trace.{Trace}
 use Rattle.plans_run.specs.declared.run.Run.{Run}
 use Rattle.plans_run.specs.declared.run.Extra.{Extra}
 use Rattle.plans_run.specs.declared.run.Extra.TheVariants as extras
-use Rattle.plans_run.specs.Trace.{begins_old, begins_new, flights_by, trace_landed, trace_stored, flight_landed, worth}
+use Rattle.plans_run.specs.Trace.{begins_old, begins_new, flights_by, trace_stored, flight_landed, worth}
 
 -- ---- how a run begins
 

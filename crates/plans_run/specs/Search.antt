@@ -32,7 +32,8 @@ trace_end run terms plan = trace_extra run (length plan) (trace_upto run terms p
 -- A run, if a plan has it and it loses something.
 unfoldable pub tried : List Kind → Terms → List Step → Run → Option Run
 tried producers terms plan run =
-    if can_be run terms producers && is_bad_end run terms (length producers) (trace_end run terms plan)
+    if can_be run terms producers
+    && is_bad_end run terms (length producers) (trace_end run terms plan)
     then Some run else None
 
 abbrev pub or_else : {A : Type 0} → Option A → Option A → Option A
@@ -80,15 +81,16 @@ quiet_word producers terms plan word =
 unfoldable pub with_store : List Kind → Terms → List Step → Case → ℕ → Option Run
 with_store producers terms plan case before =
     or_else (tried producers terms plan
-        (run_of case begins.Nowhere (extras.Stores before InForce)))
+    (run_of case begins.Nowhere (extras.Stores before InForce)))
     (or_else (tried producers terms plan
-        (run_of case begins.Nowhere (extras.Stores before Written)))
+    (run_of case begins.Nowhere (extras.Stores before Written)))
     (tried producers terms plan (run_of case begins.Nowhere (extras.Flies before))))
 
 -- With a store of a producer, between any steps or in flight to the end.
 unfoldable pub by_producer : List Kind → Terms → List Step → ℕ → ℕ → Option Run
 by_producer producers terms plan word producer =
-    or_else (first_of (with_store producers terms plan (pending_case word producer)) 0 (length plan))
+    or_else
+    (first_of (with_store producers terms plan (pending_case word producer)) 0 (length plan))
     (or_else (with_store producers terms plan (pending_case word producer) (length plan))
     (or_else (with_store producers terms plan (pending_case word producer) (2 ^ 64 - 1))
     (without_store producers terms plan (pending_case word producer))))

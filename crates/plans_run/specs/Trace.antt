@@ -1,7 +1,6 @@
 -- What a run does to one bit of one set, one number and the routes of one producer. Profile.
 use Rattle.std.specs.Prelude.{◌≡◌, ℕ, ◌/◌, Bool, true, false, not, ◌&&◌, ◌||◌, nat_eq, List, [], ◌∷◌, Option, Some, None}
 use Rattle.plans_machine.specs.declared.step.Bank.{Bank}
-use Rattle.plans_machine.specs.declared.step.Bank.TheVariants.{Pending, Enabled}
 use Rattle.plans_machine.specs.declared.step.Place.{Place}
 use Rattle.plans_machine.specs.declared.step.Place.TheVariants.{Old, New}
 use Rattle.plans_machine.specs.declared.step.Step.{Step}

@@ -44,12 +44,7 @@ fn run_of(case: Case, begin: Begin, extra: Extra) -> Run
 
 /// Looks for a losing run without a store, from each begin. `None`: there is none.
 #[tactic(auto, unfolding(crate::specs::Search::without_store))]
-fn without_store(
-    producers: &[Kind],
-    terms: Terms,
-    plan: &[Step],
-    case: Case,
-) -> Option<Run>
+fn without_store(producers: &[Kind], terms: Terms, plan: &[Step], case: Case) -> Option<Run>
     ensures exact { result ≡ without_store producers.now terms plan.now case }
     ensures loses { IfSome result (λ run. Loses (setting_of producers.now terms) plan.now run) }
 {
@@ -64,12 +59,7 @@ fn without_store(
 
 /// Looks for one that shows what becomes of a word, or of a number. `None`: there is none.
 #[tactic(auto, unfolding(crate::specs::Search::quiet_word))]
-fn quiet_word(
-    producers: &[Kind],
-    terms: Terms,
-    plan: &[Step],
-    word: u32,
-) -> Option<Run>
+fn quiet_word(producers: &[Kind], terms: Terms, plan: &[Step], word: u32) -> Option<Run>
     ensures exact { result ≡ quiet_word producers.now terms plan.now word }
     ensures loses { IfSome result (λ run. Loses (setting_of producers.now terms) plan.now run) }
 {
@@ -92,10 +82,12 @@ fn with_store(
     ensures exact { result ≡ with_store producers.now terms plan.now case before }
     ensures loses { IfSome result (λ run. Loses (setting_of producers.now terms) plan.now run) }
 {
-    if let Some(run) = run_of(case, Begin::Nowhere, stores(before, Route::InForce)).tried(producers, terms, plan) {
+    let by_force = run_of(case, Begin::Nowhere, stores(before, Route::InForce));
+    if let Some(run) = by_force.tried(producers, terms, plan) {
         return Some(run);
     }
-    if let Some(run) = run_of(case, Begin::Nowhere, stores(before, Route::Written)).tried(producers, terms, plan) {
+    let by_written = run_of(case, Begin::Nowhere, stores(before, Route::Written));
+    if let Some(run) = by_written.tried(producers, terms, plan) {
         return Some(run);
     }
     run_of(case, Begin::Nowhere, Extra::Flies { before }).tried(producers, terms, plan)
@@ -109,13 +101,9 @@ fn stores(before: usize, route: Route) -> Extra
 }
 
 /// Looks for a losing run with a store between any two steps. `None`: there is none.
-fn between_steps(
-    producers: &[Kind],
-    terms: Terms,
-    plan: &[Step],
-    case: Case,
-) -> Option<Run>
-    ensures exact { result ≡ first_of (with_store producers.now terms plan.now case) 0 (length plan.now) }
+fn between_steps(producers: &[Kind], terms: Terms, plan: &[Step], case: Case) -> Option<Run>
+    ensures exact { result
+        ≡ first_of (with_store producers.now terms plan.now case) 0 (length plan.now) }
     ensures loses { IfSome result (λ run. Loses (setting_of producers.now terms) plan.now run) }
 {
     for before in 0..plan.len() {
@@ -154,12 +142,7 @@ fn by_producer(
 
 /// Looks for a losing run with a store into a word. `None`: there is none.
 #[tactic(auto, unfolding(crate::specs::Search::stored_word))]
-fn stored_word(
-    producers: &[Kind],
-    terms: Terms,
-    plan: &[Step],
-    word: u32,
-) -> Option<Run>
+fn stored_word(producers: &[Kind], terms: Terms, plan: &[Step], word: u32) -> Option<Run>
     ensures exact { result ≡ stored_word producers.now terms plan.now word }
     ensures loses { IfSome result (λ run. Loses (setting_of producers.now terms) plan.now run) }
 {
@@ -200,8 +183,8 @@ fn stored_words(producers: &[Kind], terms: Terms, plan: &[Step]) -> Option<Run>
     None
 }
 
-/// Looks for a run of a plan that loses something, doubles it, leaves it behind, or reaches what was
-/// given back. `None`: none was found.
+/// Looks for a run of a plan that loses something, doubles it, leaves it behind, or reaches what
+/// was given back. `None`: none was found.
 ///
 /// The runs are those with one store at most, of the second identity of a word. Nothing is
 /// allocated. It takes time of the order of three times the words, the producers and the square of

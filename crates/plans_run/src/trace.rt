@@ -154,7 +154,10 @@ impl Trace {
             Step::Look(_) => self,
             Step::Post => self,
             Step::Tell => self,
-            Step::Free => Trace { freed: true, ..self },
+            Step::Free => Trace {
+                freed: true,
+                ..self
+            },
         }
     }
 
@@ -163,13 +166,17 @@ impl Trace {
         ensures { result ≡ trace_turned is_this self }
     {
         if is_this {
-            Trace { written: Place::New, ..self }
+            Trace {
+                written: Place::New,
+                ..self
+            }
         } else {
             self
         }
     }
 
-    /// Gives what a step makes of it that puts the route of the producer in force, or of another one.
+    /// Gives what a step makes of it that puts the route of the producer in force, or of another
+    /// one.
     fn fenced(self, case: Case, is_this: bool) -> Trace
         ensures { result ≡ trace_fenced case is_this self }
     {

@@ -252,7 +252,8 @@ pub(crate) fn run_shown(
     match verdict {
         Verdict::Accepted => None,
         Verdict::Refused {
-            rule: Rule::Notice, ..
+            rule: Rule::Notice,
+            ..
         } => None,
         Verdict::Refused { .. } => losing_run(producers, terms, plan),
     }

@@ -175,8 +175,8 @@ impl Draft {
         Ok(())
     }
 
-    /// Adds a step, where it names what is declared and there is room. `Err`: there is no memory for
-    /// it.
+    /// Adds a step, where it names what is declared and there is room. `Err`: there is no memory
+    /// for it.
     fn add_step(
         &mut self,
         alloc: Global,

@@ -1,4 +1,4 @@
-use Rattle.std.proofs.Common.{sym, length, ◌∙◌}
+use Rattle.std.proofs.Common.{sym, ◌∙◌}
 use Rattle.plans_run.specs.Search.{quiet_word}
 use Rattle.plans_run.proofs.SearchLemmas.{first_none, first_some, first_end}
 use Rattle.plans_run.proofs.search.quiet_words.Goals as goal

@@ -1,4 +1,4 @@
-use Rattle.std.proofs.Common.{◌≡◌, ◌-◌, length}
+use Rattle.std.proofs.Common.{◌≡◌, ◌-◌}
 use Rattle.plans_run.specs.Search.{first_of, stored_word}
 use Rattle.plans_run.proofs.search.stored_words.Given as goal
 

@@ -1,7 +1,6 @@
 use Rattle.std.proofs.Common.{sym, ap, subst, ◌∙◌, ◌+◌, length, arith, ◌≡◌}
-use Rattle.std.specs.Prelude.{get_or}
 use Rattle.plans_machine.specs.Setting.{setting_of}
-use Rattle.plans_machine.specs.Machine.{Machine, all_happened}
+use Rattle.plans_machine.specs.Machine.{all_happened}
 use Rattle.plans_run.specs.Trace.{Follows, trace_after}
 use Rattle.plans_run.specs.Run.{happenings, run_upto, start_of, trace_extra}
 use Rattle.plans_run.specs.Search.{trace_upto}
@@ -16,9 +15,9 @@ pub loop-at-preserved : goal.loop-at-preserved
 loop-at-preserved c = record {
   exact = c.after-trace.ensures ∙ ap (trace_after c.args.self.case _) (c.extra-reached.ensures ∙ ap (trace_extra c.args.self c.loop-at.at) c.loop-at.invariant.exact) ∙ traced_more c.args.self c.args.terms c.args.plan.now c.loop-at.at _ c.loop-at-test.true;
   follows = λ producers.
-    subst (λ t. Follows c.args.self.case t (all_happened (setting_of producers c.args.terms) (run_upto c.args.plan.now c.args.self (c.loop-at.at + 1)) (start_of (setting_of producers c.args.terms) c.args.self)))
-    (sym (c.after-trace.ensures ∙ ap (trace_after c.args.self.case _) c.extra-reached.ensures))
-    (follows_more producers c.args.terms c.args.plan.now c.args.self c.loop-at.at _ c.loop-at.trace c.loop-at-test.true (c.loop-at.invariant.follows producers));
+      subst (λ t. Follows c.args.self.case t (all_happened (setting_of producers c.args.terms) (run_upto c.args.plan.now c.args.self (c.loop-at.at + 1)) (start_of (setting_of producers c.args.terms) c.args.self)))
+      (sym (c.after-trace.ensures ∙ ap (trace_after c.args.self.case _) c.extra-reached.ensures))
+      (follows_more producers c.args.terms c.args.plan.now c.args.self c.loop-at.at _ c.loop-at.trace c.loop-at-test.true (c.loop-at.invariant.follows producers));
 }
 
 pub returns-clause-exact : goal.returns-clause-exact
