@@ -23,14 +23,21 @@ fn a_plan_that_keeps_all_rules_is_accepted(rt: HostRuntime) -> Result<(), Fail> 
 #[test]
 fn one_without_its_fence_is_refused_and_loses_what_is_stored(rt: HostRuntime) -> Result<(), Fail> {
     let text = answers(rt.alloc(), UNFENCED)?;
-    assert!(rt; text.as_slice() == b"refused routes in the end\n  run: identity 1 is pending \
-nowhere at the start; producer 0 stores it behind line 5 by its route in force\n".as_slice());
+    assert!(rt;
+        text.as_slice()
+            == b"refused routes in the end\n  run: identity 1 is pending \
+nowhere at the start; producer 0 stores it behind line 5 by its route in force\n"
+                .as_slice()
+    );
     Ok(())
 }
 
 #[test]
 fn bad_lines_are_named_by_their_numbers(rt: HostRuntime) -> Result<(), Fail> {
-    let text = answers(rt.alloc(), b"# a plan\nwords 2\n\ntake pending 2\nplan\nroute 0")?;
+    let text = answers(
+        rt.alloc(),
+        b"# a plan\nwords 2\n\ntake pending 2\nplan\nroute 0",
+    )?;
     assert!(rt; text.as_slice() == b"bad line 4\nbad line 6\n".as_slice());
     Ok(())
 }

@@ -7,6 +7,7 @@ use std::test::Fail;
 
 /// A file of two plans, and what is answered of it.
 const FILE: &[u8] = b"words 1\nplan\nnonsense\n";
+
 const ANSWERS: &[u8] = b"refused routes in the end\n  run: identity 1 is pending in the old place \
 at the start\nbad line 3\n";
 
