@@ -259,13 +259,14 @@ def has_bad_run(setting, plan):
 SHOWN = re.compile(
     r'  run: identity (\d+) is (pending|enabled) (nowhere|in the old place|in the new place) at the start'
     r'(?:; producer (\d+) stores it (before the first step|behind line (\d+)) by its (written route|route in force)'
-    r'|; a store of producer (\d+) for it is in flight, and lands(?: before the first step| behind line (\d+)| (at its fence)))?')
+    r'|; a store of producer (\d+) for it is in flight, and lands(?: before the first step| behind line (\d+)| (at its fence))'
+    r'|; a store of producer (\d+) for it is sent(?: before the first step| behind line (\d+)), and lands no sooner than it is fenced)?')
 
 
 def is_bad_shown(setting, plan, first_line, text):
     """Whether a run that a program shows, of a plan whose first step is on a line, is one and is bad."""
     found = SHOWN.fullmatch(text)
-    identity, bank, begin, storer, _, behind, route, flier, landing, at_fence = found.groups()
+    identity, bank, begin, storer, _, behind, route, flier, landing, at_fence, sender, sent = found.groups()
     what = (int(identity) // 64, int(identity) % 64)
     machine = Machine(setting, (), ())
     machine.new = {'pending': set(), 'enabled': set()}
@@ -290,6 +291,11 @@ def is_bad_shown(setting, plan, first_line, text):
         if not at_fence:
             before = int(landing) - first_line + 1 if landing else 0
             events.append((before, lambda m: m.land_first()))
+    if sender:
+        if setting.producers[int(sender)] != 'routed':
+            return False
+        before = int(sent) - first_line + 1 if sent else 0
+        events.append((before, lambda m: m.send(int(sender), False, what)))
     return is_bad_end(machine, plan, events)
 
 
@@ -324,6 +330,8 @@ def main():
         for (setting, plan), (verdict, shown) in zip(plans, verdicts(program, plans), strict=True):
             bad = has_bad_run(setting, plan)
             key = (verdict, 'a bad run' if bad else 'no bad run', shown)
+            if setting.heeds and key == ('refused notice', 'no bad run', 'none shown'):
+                key = ('refused notice', 'no bad run, with numbers that are heeded', 'none shown')
             tally[key] = tally.get(key, 0) + 1
             if not is_right(key):
                 print(key, setting.lines(), plan)
@@ -338,7 +346,8 @@ def is_right(key):
     if verdict == 'accepted':
         return (found, shown) == ('no bad run', 'none shown')
     if verdict == 'refused notice':
-        return (found, shown) == ('a bad run', 'none shown')
+        # Where numbers are heeded the rule on notices asks for more than that the host is told.
+        return found != 'no bad run' and shown == 'none shown'
     return verdict.startswith('refused') and (found, shown) == ('a bad run', 'shown')
 
 

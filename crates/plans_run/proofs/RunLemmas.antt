@@ -17,6 +17,7 @@ use Rattle.plans_machine.specs.declared.setting.Spot.TheVariants.{InOld, InHand,
 use Rattle.plans_machine.specs.declared.setting.Terms.{Terms}
 use Rattle.plans_machine.specs.Setting.{Setting, setting_of, is_old, same_spot}
 use Rattle.plans_machine.specs.Machine.{Flight, Machine, Happening, landed, all_happened, happened, one_landed, all_but, steps_in, stepped}
+use Rattle.plans_machine.specs.Machine.By.{InForce as AsInForce}
 use Rattle.plans_machine.specs.Machine.Happening.{Does, Stores, Sends, Lands, Refetches}
 use Rattle.plans_machine.specs.Safe.{IsRouted, CanHappen, IsRun, IsStart, IsMoved, number_in}
 use Rattle.plans_machine.proofs.BoolLaws.{and_left, and_right, or_cases}
@@ -89,8 +90,28 @@ stored : (d : Setting) (c : Case) (route : Route) (t : Trace) (z : Machine) → 
 stored d c Written t z v = subst (λ place. Follows c (trace_landed c t.written t) (landed d place c.identity z)) (sym v.written) (follows_landed d c t.written t z v)
 stored d c InForce t z v = subst (λ place. Follows c (trace_landed c t.in_force t) (landed d place c.identity z)) (sym v.in_force) (follows_landed d c t.in_force t z v)
 
-pub follows_extra : (d : Setting) (run : Run) (k : ℕ) (t : Trace) (z : Machine) → Follows run.case t z → Follows run.case (trace_extra run k t) (all_happened d (extra_at run k) z)
-follows_extra d run k t z v = by_extra run.extra
+-- Where a store is sent, none is in flight yet.
+abbrev pub IsUnsent : Run → ℕ → Trace → Type 0
+IsUnsent run k t = (before : ℕ) → run.extra ≡ extras.Lingers before → nat_eq before k ≡ true → t.flight ≡ None
+
+sent : (d : Setting) (c : Case) (t : Trace) (z : Machine) → t.flight ≡ None → Follows c t z → Follows c (record t { flight = Some t.in_force }) (happened d (Sends c.producer AsInForce c.identity) z)
+sent d c t z none v = record {
+  old = v.old;
+  new = v.new;
+  hand = v.hand;
+  due = v.due;
+  old_number = v.old_number;
+  new_number = v.new_number;
+  hand_number = v.hand_number;
+  written = v.written;
+  in_force = v.in_force;
+  flights = ap₂ (λ place fs. record { producer = c.producer; place = place; identity = c.identity } ∷ fs) v.in_force (v.flights ∙ ap (flights_by c) none);
+  freed = v.freed;
+  strayed = v.strayed;
+}
+
+pub follows_extra : (d : Setting) (run : Run) (k : ℕ) (t : Trace) (z : Machine) → IsUnsent run k t → Follows run.case t z → Follows run.case (trace_extra run k t) (all_happened d (extra_at run k) z)
+follows_extra d run k t z unsent v = by_extra run.extra refl
   where
     stores_at : (b : Bool) (route : Route) → Follows run.case (elim b [ true ↦ trace_stored run.case route t | false ↦ t ]) (all_happened d (if b then Stores run.case.producer (by_of route) run.case.identity ∷ [] else []) z)
     stores_at true route = stored d run.case route t z v
@@ -100,17 +121,22 @@ follows_extra d run k t z v = by_extra run.extra
     flies_at true = flown d run.case t z v
     flies_at false = v
 
-    by_extra : (extra : Extra) → Follows run.case (trace_extra (record run { extra = extra }) k t) (all_happened d (extra_at (record run { extra = extra }) k) z)
-    by_extra extras.Nothing = v
-    by_extra (extras.Stores before route) = stores_at (nat_eq before k) route
-    by_extra (extras.Flies before) = flies_at (nat_eq before k)
+    lingers_at : (b : Bool) → (b ≡ true → t.flight ≡ None) → Follows run.case (elim b [ true ↦ record t { flight = Some t.in_force } | false ↦ t ]) (all_happened d (if b then Sends run.case.producer AsInForce run.case.identity ∷ [] else []) z)
+    lingers_at true none = sent d run.case t z (none refl) v
+    lingers_at false none = v
+
+    by_extra : (extra : Extra) → run.extra ≡ extra → Follows run.case (trace_extra (record run { extra = extra }) k t) (all_happened d (extra_at (record run { extra = extra }) k) z)
+    by_extra extras.Nothing is = v
+    by_extra (extras.Stores before route) is = stores_at (nat_eq before k) route
+    by_extra (extras.Flies before) is = flies_at (nat_eq before k)
+    by_extra (extras.Lingers before) is = lingers_at (nat_eq before k) (unsent before is)
 
 -- ---- the loop over the steps
 
-pub follows_more : (producers : List Kind) (terms : Terms) (plan : List Step) (run : Run) (k : ℕ) (x : Step) (t : Trace) → k < length plan
+pub follows_more : (producers : List Kind) (terms : Terms) (plan : List Step) (run : Run) (k : ℕ) (x : Step) (t : Trace) → k < length plan → IsUnsent run k t
     → Follows run.case t (all_happened (setting_of producers terms) (run_upto plan run k) (start_of (setting_of producers terms) run))
     → Follows run.case (trace_after run.case (get_or plan k x) (trace_extra run k t)) (all_happened (setting_of producers terms) (run_upto plan run (k + 1)) (start_of (setting_of producers terms) run))
-follows_more producers terms plan run k x t low v =
+follows_more producers terms plan run k x t low unsent v =
     let d : Setting = setting_of producers terms in
     let start : Machine = start_of d run in
     let here : Machine = all_happened d (extra_at run k) (all_happened d (run_upto plan run k) start) in
@@ -118,7 +144,7 @@ follows_more producers terms plan run k x t low v =
     all_happened-append d (run_upto plan run k) (extra_at run k ++ step_at plan k) start ∙ all_happened-append d (extra_at run k) (step_at plan k) (all_happened d (run_upto plan run k) start) in
     let step : all_happened d (step_at plan k) here ≡ stepped d (get_or plan k x) here = ap (λ o. all_happened d (done_by o) here) (slice_get-get_or plan k x low) in
     subst (Follows run.case (trace_after run.case (get_or plan k x) (trace_extra run k t))) (sym (ap (λ n. all_happened d (run_upto plan run n) start) (next k) ∙ split ∙ step))
-    (follows_step d run.case (get_or plan k x) (trace_extra run k t) here (follows_extra d run k t _ v))
+    (follows_step d run.case (get_or plan k x) (trace_extra run k t) here (follows_extra d run k t _ unsent v))
   where
     done_by : Option Step → List Happening
     done_by o = elim o [ None ↦ [] | Some y ↦ Does y ∷ [] ]
@@ -126,13 +152,13 @@ follows_more producers terms plan run k x t low v =
     next : (k : ℕ) → k + 1 ≡ suc k
     next k = omega arith
 
-pub follows_end : (producers : List Kind) (terms : Terms) (plan : List Step) (run : Run) (t : Trace)
+pub follows_end : (producers : List Kind) (terms : Terms) (plan : List Step) (run : Run) (t : Trace) → IsUnsent run (length plan) t
     → Follows run.case t (all_happened (setting_of producers terms) (run_upto plan run (length plan)) (start_of (setting_of producers terms) run))
     → Follows run.case (trace_extra run (length plan) t) (all_happened (setting_of producers terms) (happenings plan run) (start_of (setting_of producers terms) run))
-follows_end producers terms plan run t v =
+follows_end producers terms plan run t unsent v =
     let d : Setting = setting_of producers terms in
     subst (Follows run.case (trace_extra run (length plan) t)) (sym (all_happened-append d (run_upto plan run (length plan)) (extra_at run (length plan)) (start_of d run)))
-    (follows_extra d run (length plan) t _ v)
+    (follows_extra d run (length plan) t _ unsent v)
 
 -- ---- it is a run of the plan
 
@@ -150,12 +176,14 @@ MayStore producers run extra = elim extra [
   | extras.Nothing ↦ true
   | extras.Stores before route ↦ nat_lt run.case.producer (length producers)
   | extras.Flies before ↦ is_routed (slice_get producers run.case.producer)
+  | extras.Lingers before ↦ is_routed (slice_get producers run.case.producer)
 ]
 
 begin_flights : (producers : List Kind) (terms : Terms) (run : Run) (extra : Extra) → MayStore producers run extra ≡ true
     → AllByRecursion (λ (f : Flight). IsRouted (setting_of producers terms) f.producer × (f.place ≡ Old)) (flights_by run.case (first_flight extra))
 begin_flights producers terms run extras.Nothing e = tt
 begin_flights producers terms run (extras.Stores before route) e = tt
+begin_flights producers terms run (extras.Lingers before) e = tt
 begin_flights producers terms run (extras.Flies before) e =
     let is = routed_is (slice_get producers run.case.producer) e in
     (((slice_get_within producers run.case.producer Routed is, is), refl), tt)
@@ -188,6 +216,7 @@ extra_steps run k = by_extra run.extra
     by_extra extras.Nothing = refl
     by_extra (extras.Stores before route) = one_store (nat_eq before k) (Stores run.case.producer (by_of route) run.case.identity) refl
     by_extra (extras.Flies before) = one_store (nat_eq before k) (Lands 0) refl
+    by_extra (extras.Lingers before) = one_store (nat_eq before k) (Sends run.case.producer AsInForce run.case.identity) refl
 
 steps_upto : (plan : List Step) (run : Run) (k : ℕ) → k ≤ length plan → steps_in (run_upto plan run k) ≡ take k plan
 steps_upto plan run zero within = refl
@@ -215,6 +244,9 @@ extra_can producers terms run k may = by_extra run.extra may
     by_extra extras.Nothing e = tt
     by_extra (extras.Stores before route) e = one_store (nat_eq before k) (Stores run.case.producer (by_of route) run.case.identity) (below_is run.case.producer (length producers) e)
     by_extra (extras.Flies before) e = one_store (nat_eq before k) (Lands 0) tt
+    by_extra (extras.Lingers before) e =
+        let is = routed_is (slice_get producers run.case.producer) e in
+        one_store (nat_eq before k) (Sends run.case.producer AsInForce run.case.identity) (slice_get_within producers run.case.producer Routed is, is)
 
 step_can : (d : Setting) (o : Option Step) → AllByRecursion (CanHappen d) (elim o [ None ↦ [] | Some x ↦ Does x ∷ [] ])
 step_can d None = tt

@@ -13,7 +13,7 @@ use Rattle.plans_machine.specs.declared.setting.Terms.{Terms}
 use Rattle.plans_machine.specs.Setting.{Setting, is_old, same_bank, same_spot}
 use Rattle.plans_machine.specs.Machine.{By, Machine, Sets, Happening, all_happened}
 use Rattle.plans_machine.specs.Machine.By.{Written as AsWritten, InForce as AsInForce}
-use Rattle.plans_machine.specs.Machine.Happening.{Does, Stores, Lands}
+use Rattle.plans_machine.specs.Machine.Happening.{Does, Stores, Sends, Lands}
 use Rattle.plans_machine.specs.Safe.{IsMoved, IsRun, IsStart}
 use Rattle.plans_run.specs.declared.trace.Route.{Route}
 use Rattle.plans_run.specs.declared.trace.Route.TheVariants.{Written, InForce}
@@ -66,6 +66,8 @@ extra_at run k = elim run.extra [
   | extras.Stores before route ↦
       if nat_eq before k then Stores run.case.producer (by_of route) run.case.identity ∷ [] else []
   | extras.Flies before ↦ if nat_eq before k then Lands 0 ∷ [] else []
+  | extras.Lingers before ↦
+      if nat_eq before k then Sends run.case.producer AsInForce run.case.identity ∷ [] else []
 ]
 
 abbrev pub step_at : List Step → ℕ → List Happening
@@ -113,6 +115,10 @@ trace_extra run k t = elim run.extra [
   ]
   | extras.Flies before ↦ elim (nat_eq before k) [
     | true ↦ record (flight_landed run.case t.flight t) { flight = None }
+    | false ↦ t
+  ]
+  | extras.Lingers before ↦ elim (nat_eq before k) [
+    | true ↦ record t { flight = Some t.in_force }
     | false ↦ t
   ]
 ]
@@ -171,4 +177,5 @@ can_be run terms producers =
       | extras.Nothing ↦ true
       | extras.Stores before route ↦ nat_lt run.case.producer (length producers)
       | extras.Flies before ↦ is_routed (slice_get producers run.case.producer)
+      | extras.Lingers before ↦ is_routed (slice_get producers run.case.producer)
     ]))

@@ -86,6 +86,11 @@ with_store producers terms plan case before =
     (run_of case begins.Nowhere (extras.Stores before Written)))
     (tried producers terms plan (run_of case begins.Nowhere (extras.Flies before))))
 
+-- With a store that is sent with so many steps before it, and stays in flight.
+unfoldable pub with_flight : List Kind → Terms → List Step → Case → ℕ → Option Run
+with_flight producers terms plan case before =
+    tried producers terms plan (run_of case begins.Nowhere (extras.Lingers before))
+
 -- With a store of a producer, between any steps or in flight to the end.
 unfoldable pub by_producer : List Kind → Terms → List Step → ℕ → ℕ → Option Run
 by_producer producers terms plan word producer =
@@ -93,7 +98,9 @@ by_producer producers terms plan word producer =
     (first_of (with_store producers terms plan (pending_case word producer)) 0 (length plan))
     (or_else (with_store producers terms plan (pending_case word producer) (length plan))
     (or_else (with_store producers terms plan (pending_case word producer) (2 ^ 64 - 1))
-    (without_store producers terms plan (pending_case word producer))))
+    (or_else
+    (first_of (with_flight producers terms plan (pending_case word producer)) 0 (length plan))
+    (without_store producers terms plan (pending_case word producer)))))
 
 unfoldable pub stored_word : List Kind → Terms → List Step → ℕ → Option Run
 stored_word producers terms plan word =

@@ -24,6 +24,10 @@ pub enum Extra {
     /// It is in flight to the old place from the start on, and lands with so many steps before it,
     /// or sooner, at its producer's fence.
     Flies { before: usize },
+
+    /// It is sent with so many steps before it, by the route in force, and stays in flight up to its
+    /// producer's next fence, or to the end.
+    Lingers { before: usize },
 }
 
 /// A run of a plan: what is followed in it, where the bit stands at the start, and the store.
@@ -72,6 +76,13 @@ impl Run {
             Extra::Flies { before } => {
                 if before == before_it {
                     trace.flown(self.case)
+                } else {
+                    trace
+                }
+            }
+            Extra::Lingers { before } => {
+                if before == before_it {
+                    trace.sent()
                 } else {
                     trace
                 }
@@ -128,6 +139,7 @@ impl Run {
                 Extra::Nothing => true,
                 Extra::Stores { .. } => self.case.producer < producers.len(),
                 Extra::Flies { .. } => is_routed(producers.get(self.case.producer)),
+                Extra::Lingers { .. } => is_routed(producers.get(self.case.producer)),
             }
     }
 

@@ -5,7 +5,7 @@ ghost use Rattle.plans_machine.specs.Setting.{setting_of};
 ghost use Rattle.plans_run.specs.Run.{Loses};
 ghost use Rattle.plans_run.specs.declared.run.Extra.TheVariants as extras;
 ghost use Rattle.plans_run.specs.Search as search_;
-ghost use Rattle.plans_run.specs.Search.{by_producer, enabled_case, first_of, losing_run_of, pending_case, quiet_word, stored_word, with_store, without_store};
+ghost use Rattle.plans_run.specs.Search.{by_producer, enabled_case, first_of, losing_run_of, pending_case, quiet_word, stored_word, with_flight, with_store, without_store};
 
 use crate::run::{Extra, Run};
 use crate::trace::{Begin, Case, Route};
@@ -100,6 +100,13 @@ fn stores(before: usize, route: Route) -> Extra
     Extra::Stores { before, route }
 }
 
+/// Makes a store that stays in flight.
+fn lingers(before: usize) -> Extra
+    ensures { result ≡ extras.Lingers before }
+{
+    Extra::Lingers { before }
+}
+
 /// Looks for a losing run with a store between any two steps. `None`: there is none.
 fn between_steps(producers: &[Kind], terms: Terms, plan: &[Step], case: Case) -> Option<Run>
     ensures exact { result
@@ -108,6 +115,38 @@ fn between_steps(producers: &[Kind], terms: Terms, plan: &[Step], case: Case) ->
 {
     for before in 0..plan.len() {
         match with_store(producers, terms, plan, case, before) {
+            Some(run) => return Some(run),
+            None => {}
+        }
+    }
+    None
+}
+
+/// Looks for a losing run with a store that is sent with so many steps before it. `None`: there is
+/// none.
+#[tactic(auto, unfolding(crate::specs::Search::with_flight))]
+fn with_flight(
+    producers: &[Kind],
+    terms: Terms,
+    plan: &[Step],
+    case: Case,
+    before: usize,
+) -> Option<Run>
+    ensures exact { result ≡ with_flight producers.now terms plan.now case before }
+    ensures loses { IfSome result (λ run. Loses (setting_of producers.now terms) plan.now run) }
+{
+    run_of(case, Begin::Nowhere, lingers(before)).tried(producers, terms, plan)
+}
+
+/// Looks for a losing run with a store that is sent between any two steps, and stays in flight.
+/// `None`: there is none.
+fn in_flight(producers: &[Kind], terms: Terms, plan: &[Step], case: Case) -> Option<Run>
+    ensures exact { result
+        ≡ first_of (with_flight producers.now terms plan.now case) 0 (length plan.now) }
+    ensures loses { IfSome result (λ run. Loses (setting_of producers.now terms) plan.now run) }
+{
+    for before in 0..plan.len() {
+        match with_flight(producers, terms, plan, case, before) {
             Some(run) => return Some(run),
             None => {}
         }
@@ -135,6 +174,9 @@ fn by_producer(
         return Some(run);
     }
     if let Some(run) = with_store(producers, terms, plan, case, usize::MAX) {
+        return Some(run);
+    }
+    if let Some(run) = in_flight(producers, terms, plan, case) {
         return Some(run);
     }
     without_store(producers, terms, plan, case)

@@ -1,6 +1,6 @@
 //! What a run does to one bit, one number and one producer.
 
-ghost use Rattle.std.specs.Prelude.{◌≡◌, None};
+ghost use Rattle.std.specs.Prelude.{◌≡◌, Some, None};
 ghost use Rattle.plans_run.specs.Run.{trace_number};
 ghost use Rattle.plans_run.specs.Trace.{flight_landed, names_bit, trace_after, trace_fenced, trace_first, trace_joined, trace_landed, trace_put, trace_put_number, trace_stored, trace_switched, trace_taken, trace_taken_number, trace_turned, trace_zeroed, trace_zeroed_number};
 
@@ -122,6 +122,16 @@ impl Trace {
         Trace {
             flight: None,
             ..landed
+        }
+    }
+
+    /// Gives what it is once a store is in flight by the route in force, where none was.
+    pub(crate) fn sent(self) -> Trace
+        ensures { result ≡ record self { flight = Some self.in_force } }
+    {
+        Trace {
+            flight: Some(self.in_force),
+            ..self
         }
     }
 

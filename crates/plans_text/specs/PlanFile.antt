@@ -184,6 +184,9 @@ extra_text places producer extras.Nothing = []
 extra_text places producer (extras.Stores before route) =
     codes "; producer " ++ (decimal producer ++ (codes " stores it"
     ++ (between_text places before ++ route_word route)))
+extra_text places producer (extras.Lingers before) =
+    codes "; a store of producer " ++ (decimal producer ++ (codes " for it is sent"
+    ++ (between_text places before ++ codes ", and lands no sooner than it is fenced")))
 extra_text places producer (extras.Flies before) =
     codes "; a store of producer " ++ (decimal producer ++ (codes " for it is in flight"
     ++ landing_text places before))

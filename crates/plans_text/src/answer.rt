@@ -171,6 +171,23 @@ fn push_flight(
     push_landing(out, marks, before)
 }
 
+/// Appends a store that is sent. `Err`: there is no memory for it.
+fn push_sent(
+    out: &mut Vec<u8>,
+    marks: &[Mark],
+    producer: usize,
+    before: usize,
+) -> Result<(), AllocError>
+    ensures { OnOk result (out.new.items ≡ out.old.items
+        ++ file.extra_text (map place_of marks.now) producer (extras.Lingers before)) }
+{
+    out.extend_from_slice(b"; a store of producer ")?;
+    push_number(out, producer as u64)?;
+    out.extend_from_slice(b" for it is sent")?;
+    push_between(out, marks, before)?;
+    out.extend_from_slice(b", and lands no sooner than it is fenced")
+}
+
 /// Appends the store of a run, where it has one. `Err`: there is no memory for it.
 fn push_extra(
     out: &mut Vec<u8>,
@@ -185,6 +202,7 @@ fn push_extra(
         Extra::Nothing => Ok(()),
         Extra::Stores { before, route } => push_store(out, marks, producer, before, route),
         Extra::Flies { before } => push_flight(out, marks, producer, before),
+        Extra::Lingers { before } => push_sent(out, marks, producer, before),
     }
 }
 
