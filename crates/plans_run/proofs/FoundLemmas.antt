@@ -17,7 +17,7 @@ use Rattle.plans_run.specs.declared.trace.Case.{Case}
 use Rattle.plans_run.specs.declared.run.Run.{Run}
 use Rattle.plans_run.specs.Trace.{Follows, trace_after, trace_fenced, trace_switched, trace_turned}
 use Rattle.plans_run.specs.Run.{Loses, can_be, first_flight, happenings, is_bad_end, run_upto, start_of, trace_extra}
-use Rattle.plans_run.specs.Search.{by_producer, enabled_case, first_of, losing_run_of, or_else, pending_case, quiet_word, stored_word, trace_end, trace_stepped, trace_upto, tried, with_flight, with_store, without_store}
+use Rattle.plans_run.specs.Search.{by_producer, first_of, losing_run_of, or_else, quiet_word, stored_word, trace_end, trace_stepped, trace_upto, tried, with_flight, with_store, without_store}
 use Rattle.plans_run.proofs.RunLemmas.{IsUnsent, follows_begun, follows_end, follows_more, it_loses}
 use Rattle.plans_run.proofs.SearchLemmas.{traced_more}
 

@@ -25,8 +25,8 @@ pub enum Extra {
     /// or sooner, at its producer's fence.
     Flies { before: usize },
 
-    /// It is sent with so many steps before it, by the route in force, and stays in flight up to its
-    /// producer's next fence, or to the end.
+    /// It is sent with so many steps before it, by the route in force, and stays in flight up to
+    /// its producer's next fence, or to the end.
     Lingers { before: usize },
 }
 
