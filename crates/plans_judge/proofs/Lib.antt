@@ -1,0 +1,3 @@
+pub mod AfterLemmas
+pub mod StandsLemmas
+pub mod VerdictLemmas

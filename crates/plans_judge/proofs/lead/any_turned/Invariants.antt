@@ -1,0 +1,7 @@
+use Rattle.std.proofs.Common.{◌≡◌}
+use Rattle.plans_machine.specs.Setting.{any_below}
+use Rattle.plans_judge.specs.Table.{is_turned_at}
+use Rattle.plans_judge.proofs.lead.any_turned.Given as goal
+
+abbrev pub invariant-loop-place : goal.invariant-loop-place
+invariant-loop-place l = l.holds ≡ any_below (is_turned_at l.leads) l.place

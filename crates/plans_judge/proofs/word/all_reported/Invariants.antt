@@ -1,0 +1,7 @@
+use Rattle.std.proofs.Common.{◌≡◌}
+use Rattle.plans_machine.specs.Setting.{all_below}
+use Rattle.plans_judge.specs.Table.{is_reported_at}
+use Rattle.plans_judge.proofs.word.all_reported.Given as goal
+
+abbrev pub invariant-loop-word : goal.invariant-loop-word
+invariant-loop-word l = l.holds ≡ all_below (is_reported_at l.words) l.word

@@ -1,0 +1,14 @@
+//! A plan by which a hypervisor moves a virtual hart's interrupt file is judged: whether it is
+//! safe, and whether it tells its host, whatever its producers store between its steps. Profile.
+#![tactic(auto)]
+
+mod judging;
+mod lead;
+mod standing;
+mod table;
+mod verdict;
+mod word;
+
+pub use judging::judge;
+pub use plans_machine::{Bank, Kind, Number, Place, Rule, Spot, Step, Terms};
+pub use verdict::Verdict;

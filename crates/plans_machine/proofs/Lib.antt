@@ -1,0 +1,9 @@
+pub mod Throughout
+pub mod BoolLaws
+pub mod Reached
+pub mod Safety
+pub mod Telling
+pub mod Exact
+pub mod RulesAreSafe
+pub mod Untold
+pub mod RowLemmas

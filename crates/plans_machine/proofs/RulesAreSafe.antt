@@ -1,0 +1,46 @@
+-- The checker's yes implies that a plan is safe, and tells.
+use Rattle.std.proofs.Common.{◌≡◌, true, List, []}
+use Rattle.std.specs.List.{All}
+use Rattle.plans_machine.proofs.Throughout.{recursively}
+use Rattle.plans_machine.specs.declared.rule.Rule.TheVariants.{Routes, Blank, Words, Numbers, Freeing, Notice}
+use Rattle.plans_machine.specs.declared.step.Step.{Step}
+use Rattle.plans_machine.specs.Setting.{Setting}
+use Rattle.plans_machine.specs.Rules.{keeps, moves, accepts}
+use Rattle.plans_machine.specs.Safe.{IsInFile, IsSafe, IsTold}
+use Rattle.plans_machine.proofs.BoolLaws.{and_left, and_right, and_of}
+use Rattle.plans_machine.proofs.Safety.{GuardRest, guarded_is_safe}
+use Rattle.plans_machine.proofs.Telling as telling
+use Rattle.plans_machine.proofs.Telling.{guarded_is_told}
+use Rattle.plans_machine.proofs.Exact.{safe_keeps}
+
+pub five_kept : (d : Setting) (plan : List Step) → moves d plan ≡ true → GuardRest d [] plan
+five_kept d plan e Routes of = and_left (keeps Routes d plan) _ e
+five_kept d plan e Words of = and_left (keeps Words d plan) _ (and_right (keeps Routes d plan) _ e)
+five_kept d plan e Blank of = and_left (keeps Blank d plan) _ (and_right (keeps Words d plan) _ (and_right (keeps Routes d plan) _ e))
+five_kept d plan e Numbers of = and_left (keeps Numbers d plan) _ (and_right (keeps Blank d plan) _ (and_right (keeps Words d plan) _ (and_right (keeps Routes d plan) _ e)))
+five_kept d plan e Freeing of = and_right (keeps Numbers d plan) _ (and_right (keeps Blank d plan) _ (and_right (keeps Words d plan) _ (and_right (keeps Routes d plan) _ e)))
+five_kept d plan e Notice of = absurd of
+
+all_kept : (d : Setting) (plan : List Step) → accepts d plan ≡ true → telling.GuardRest d [] plan
+all_kept d plan e Notice = and_right (moves d plan) _ e
+all_kept d plan e Routes = five_kept d plan (and_left (moves d plan) _ e) Routes tt
+all_kept d plan e Words = five_kept d plan (and_left (moves d plan) _ e) Words tt
+all_kept d plan e Blank = five_kept d plan (and_left (moves d plan) _ e) Blank tt
+all_kept d plan e Numbers = five_kept d plan (and_left (moves d plan) _ e) Numbers tt
+all_kept d plan e Freeing = five_kept d plan (and_left (moves d plan) _ e) Freeing tt
+
+-- **For every number of words, every list of producers and every run: a plan that keeps the five rules is safe.**
+pub rules_are_safe : (d : Setting) (plan : List Step) → moves d plan ≡ true → IsSafe d plan
+rules_are_safe d plan e = guarded_is_safe d plan (five_kept d plan e)
+
+-- **And no other is.**
+pub only_these : (d : Setting) (plan : List Step) → All (IsInFile d.words) plan → IsSafe d plan → moves d plan ≡ true
+only_these d plan inside safe =
+    let each = recursively (IsInFile d.words) plan inside in
+    and_of _ _ (safe_keeps Routes d plan tt each safe)
+    (and_of _ _ (safe_keeps Words d plan tt each safe)
+    (and_of _ _ (safe_keeps Blank d plan tt each safe) (and_of _ _ (safe_keeps Numbers d plan tt each safe) (safe_keeps Freeing d plan tt each safe))))
+
+-- **A plan into memory that keeps the sixth too tells its host.**
+pub rules_are_told : (d : Setting) (plan : List Step) → d.in_memory ≡ true → accepts d plan ≡ true → IsTold d plan
+rules_are_told d plan memory e = guarded_is_told d plan memory (all_kept d plan e)

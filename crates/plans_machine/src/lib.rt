@@ -1,0 +1,13 @@
+//! Plans by which a hypervisor moves a virtual hart's interrupt file, in any order of accesses and
+//! with any producers: the machine on which a plan is tried, when it is safe, the rules that decide
+//! it, and that they do. Profile.
+#![tactic(auto)]
+
+pub mod laws;
+mod rule;
+mod setting;
+mod step;
+
+pub use rule::Rule;
+pub use setting::{Kind, Spot, Terms};
+pub use step::{Bank, Number, Place, Step};

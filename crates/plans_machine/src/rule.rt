@@ -1,0 +1,22 @@
+/// The rules that a plan has to keep. The first five decide whether it is safe.
+#[derive(Clone, Copy, Debug, PartialEq, Eq)]
+pub enum Rule {
+    /// Each producer's route leads to the new place, in force, and each pending word is taken
+    /// after that.
+    Routes,
+
+    /// What may hold something is not overwritten, and nothing is left in the hand.
+    Words,
+
+    /// What is taken is joined only to a word in which nothing is left over.
+    Blank,
+
+    /// Threshold and delivery come to where they have to be, as they were.
+    Numbers,
+
+    /// The old place is given back once nobody stores there, and not accessed after that.
+    Freeing,
+
+    /// In memory the host is told after all has come there that it has to be told of.
+    Notice,
+}

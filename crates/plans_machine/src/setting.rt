@@ -1,0 +1,40 @@
+/// How the route of a producer, which stores into the file, is changed.
+#[derive(Clone, Copy, Debug, PartialEq, Eq)]
+pub enum Kind {
+    /// It is written, and comes in force at its fence, or before; up to then stores may be in
+    /// flight.
+    Routed,
+
+    /// It is changed at once, under a lock that its stores take too: none is in flight.
+    Switched,
+}
+
+/// Where threshold and delivery are.
+#[derive(Clone, Copy, Debug, PartialEq, Eq)]
+pub enum Spot {
+    InOld,
+    InHand,
+    InNew,
+}
+
+/// What an author declares of a plan beside its producers.
+#[derive(Clone, Copy, Debug, PartialEq, Eq)]
+pub struct Terms {
+    /// How many words of 64 identities each set has.
+    pub words: u32,
+
+    /// Whether the new place is known to hold nothing at the start.
+    pub is_fresh: bool,
+
+    /// Whether the new place is memory, so that its host has to be told of what comes there.
+    pub in_memory: bool,
+
+    /// Whether a notice there heeds delivery and threshold.
+    pub heeds: bool,
+
+    /// Where the numbers are at the start.
+    pub number_from: Spot,
+
+    /// Where they have to be at the end.
+    pub number_to: Spot,
+}

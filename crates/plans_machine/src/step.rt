@@ -1,0 +1,75 @@
+/// The two places of a move, each a guest interrupt file or memory.
+#[derive(Clone, Copy, Debug, PartialEq, Eq)]
+pub enum Place {
+    /// The one that the virtual hart leaves.
+    Old,
+
+    /// The one to which it goes.
+    New,
+}
+
+/// The two sets of an interrupt file, which `eip` and `eie` show in words of 64 identities.
+#[derive(Clone, Copy, Debug, PartialEq, Eq)]
+pub enum Bank {
+    Pending,
+    Enabled,
+}
+
+/// The two numbers of an interrupt file.
+#[derive(Clone, Copy, Debug, PartialEq, Eq)]
+pub enum Number {
+    /// `eithreshold`.
+    Threshold,
+
+    /// `eidelivery`.
+    Delivery,
+}
+
+/// A step of a plan: one access of the hypervisor. Producers are counted from 0 in the order in
+/// which they are declared, and words of a set from 0.
+#[derive(Clone, Copy, Debug, PartialEq, Eq)]
+pub enum Step {
+    /// Writes the route of a producer: it leads to the new place, once it is in force.
+    Route(u32),
+
+    /// Puts a producer's route in force as it is written, and waits for the producer's stores that
+    /// are in flight: they have landed.
+    Fence(u32),
+
+    /// Writes a producer's route and puts it in force, both at once, as under a lock.
+    Switch(u32),
+
+    /// Overwrites a word of a place with zeros.
+    Zero(Place, Bank, u32),
+
+    /// Takes a word of the old place into the hand, over what the hand has of that word; the old
+    /// place keeps none of it.
+    Take(Bank, u32),
+
+    /// Adds what the hand has of a word to that word of the new place; the hand keeps none of it.
+    Join(Bank, u32),
+
+    /// Writes what the hand has of a word over that word of the new place; the hand keeps none.
+    Put(Bank, u32),
+
+    /// Overwrites a number of a place with 0.
+    ZeroNumber(Place, Number),
+
+    /// Takes a number of the old place into the hand; the old place keeps 0.
+    TakeNumber(Number),
+
+    /// Writes a number over that of the new place; the hand keeps it.
+    PutNumber(Number),
+
+    /// Reads a word of both sets of the new place, and remembers if something stands out there.
+    Look(u32),
+
+    /// Tells the host, if a look saw something.
+    Post,
+
+    /// Tells the host, if something stands out anywhere in the new place.
+    Tell,
+
+    /// Gives the old place back.
+    Free,
+}

@@ -1,0 +1,123 @@
+//! The program over the words of its command line, and its exit status.
+
+ghost use Rattle.std.specs.Prelude.{◌≡◌, ◌≢◌, ◌⊎◌, ◌↔◌, ℕ, map, Contains, Some, None, IfOk};
+ghost use Rattle.std.specs.IoError.{error_kind};
+ghost use Rattle.std.specs.Process.{exit_status};
+ghost use Rattle.plans_program.specs.CommandLine.{subcommand_of};
+ghost use Rattle.plans_program.specs.Command.{AreRefused, asked_by, exit_number, exit_numbers, words_of};
+ghost use Rattle.plans_program.specs.Runs.{EndsAsAsked, TakesAll, WritesAnswers};
+
+use crate::program::{Status, run};
+use aia_io::{Sink, Source, StdSink, StdSource};
+use std::alloc::{AllocError, Global};
+use std::io::ErrorKind;
+use std::process::ExitCode;
+use std::{env, io};
+
+/// Runs the program over the standard streams by the words of its command line, and gives its exit
+/// status, which `command` speaks of.
+pub fn start(rt: &HostRuntime) -> ExitCode
+    ensures number { Contains exit_numbers (exit_status result) }
+{
+    let mut source = StdSource::new(rt.stdin());
+    let mut sink = StdSink::new(rt.stdout());
+    command(rt.alloc(), arguments(rt), &mut source, &mut sink)
+}
+
+/// Reads the words of the command line, the program's name first. `Err`: one of them is no text,
+/// or there is no memory for them.
+fn arguments(rt: &HostRuntime) -> io::Result<Vec<String>> {
+    let arguments = env::args(rt)?.collect(rt.alloc())?;
+    Ok(arguments)
+}
+
+/// Runs the command that the words of the command line give, the program's name first, from the
+/// source to the sink, and gives the exit status of the program.
+pub fn command<S: Source, K: Sink>(
+    alloc: Global,
+    arguments: io::Result<Vec<String>>,
+    source: &mut S,
+    sink: &mut K,
+) -> ExitCode
+    // The headline: at 0 all was read, and what is written is what is answered of the whole file.
+    ensures done { exit_status result ≡ 0
+        → WritesAnswers (S.supply source.old) (K.taken sink.old) (K.taken sink.new)
+        × TakesAll (S.supply source.old) (S.supply source.new) }
+
+    // What every number promises.
+    ensures ends { (status : Status) → exit_status result ≡ exit_number status
+        → EndsAsAsked (asked_by arguments) status (S.supply source.old) (S.supply source.new)
+        (K.taken sink.old) (K.taken sink.new) (S.faults source.old) (S.faults source.new)
+        (K.faults sink.old) (K.faults sink.new) }
+
+    // Where there is memory for the words, they are refused exactly by 2.
+    ensures usage { exit_status result ≢ 5 → ((exit_status result ≡ 2) ↔ AreRefused arguments) }
+    ensures nothing { exit_status result ≡ 2
+        → (source.new ≡ source.old) × (sink.new ≡ sink.old) }
+    ensures number { Contains exit_numbers (exit_status result) }
+{
+    let status = match arguments {
+        Ok(arguments) => run_words(alloc, &arguments, source, sink),
+        Err(error) => refusal(&error),
+    };
+    exit_code(status)
+}
+
+/// Says what words that can't be read mean: they are no text, or there is no memory for them.
+fn refusal(error: &io::Error) -> Status
+    ensures memory { error_kind error.now ≡ ErrorKind.OutOfMemory → result ≡ Status.Memory }
+    ensures usage { error_kind error.now ≢ ErrorKind.OutOfMemory → result ≡ Status.Usage }
+{
+    if error.kind() == ErrorKind::OutOfMemory {
+        Status::Memory
+    } else {
+        Status::Usage
+    }
+}
+
+/// Runs the command on the words without the program's name.
+fn run_words<S: Source, K: Sink>(
+    alloc: Global,
+    arguments: &[String],
+    source: &mut S,
+    sink: &mut K,
+) -> Status
+    ensures ends { EndsAsAsked (subcommand_of (words_of arguments.now)) result
+        (S.supply source.old) (S.supply source.new) (K.taken sink.old) (K.taken sink.new)
+        (S.faults source.old) (S.faults source.new) (K.faults sink.old) (K.faults sink.new) }
+    ensures usage { result ≢ Status.Memory
+        → ((result ≡ Status.Usage) ↔ (subcommand_of (words_of arguments.now) ≡ None)) }
+    ensures nothing { result ≡ Status.Usage → (source.new ≡ source.old) × (sink.new ≡ sink.old) }
+{
+    match words(alloc, arguments) {
+        Ok(words) => run(alloc, &words, source, sink),
+        Err(_) => Status::Memory,
+    }
+}
+
+/// Gives the words without the program's name. `Err`: there is no memory for them.
+fn words(alloc: Global, arguments: &[String]) -> Result<Vec<&str>, AllocError>
+    ensures { IfOk result (λ words. map (λ word. word.now) words.items ≡ words_of arguments.now) }
+{
+    let mut words = Vec::new(alloc);
+    let rest = arguments.get(1..).unwrap_or_default();
+    for argument in rest {
+        words.push(argument.as_str())?;
+    }
+    Ok(words)
+}
+
+/// Gives each status its number, by which the program ends.
+fn exit_code(status: Status) -> ExitCode
+    ensures by_status { exit_status result ≡ exit_number status }
+    ensures number { Contains exit_numbers (exit_status result) }
+{
+    ExitCode::from(match status {
+        Status::Done => 0,
+        Status::Usage => 2,
+        Status::ReadFault => 3,
+        Status::WriteFault => 4,
+        Status::Memory => 5,
+        Status::TooLong => 6,
+    })
+}

@@ -1,0 +1,4 @@
+pub mod FollowLemmas
+pub mod RunLemmas
+pub mod SearchLemmas
+pub mod FoundLemmas

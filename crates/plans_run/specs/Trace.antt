@@ -1,0 +1,162 @@
+-- What a run does to one bit of one set, one number and the routes of one producer. Profile.
+use Rattle.std.specs.Prelude.{◌≡◌, ℕ, ◌/◌, Bool, true, false, not, ◌&&◌, ◌||◌, nat_eq, List, [], ◌∷◌, Option, Some, None}
+use Rattle.plans_machine.specs.declared.step.Bank.{Bank}
+use Rattle.plans_machine.specs.declared.step.Place.{Place}
+use Rattle.plans_machine.specs.declared.step.Place.TheVariants.{Old, New}
+use Rattle.plans_machine.specs.declared.step.Step.{Step}
+use Rattle.plans_machine.specs.declared.step.Step.TheVariants as steps
+use Rattle.plans_machine.specs.declared.setting.Spot.TheVariants.{InOld, InHand, InNew}
+use Rattle.plans_machine.specs.declared.setting.Terms.{Terms}
+use Rattle.plans_machine.specs.Setting.{is_old, is_pending, same_bank, same_number, same_spot}
+use Rattle.plans_machine.specs.Machine.{Flight, Machine}
+use Rattle.plans_run.specs.declared.trace.Begin.{Begin}
+use Rattle.plans_run.specs.declared.trace.Begin.TheVariants as begins
+use Rattle.plans_run.specs.declared.trace.Case.{Case}
+use Rattle.plans_run.specs.declared.trace.Route.{Route}
+use Rattle.plans_run.specs.declared.trace.Route.TheVariants.{Written, InForce}
+use Rattle.plans_run.specs.declared.trace.Trace.{Trace}
+
+-- A word of a set is that of the bit.
+abbrev pub names_bit : Case → Bank → ℕ → Bool
+names_bit c s w = same_bank s c.bank && nat_eq w (c.identity / 64)
+
+abbrev pub begins_old : Begin → Bool
+begins_old begins.InOld = true
+begins_old begin = false
+
+abbrev pub begins_new : Begin → Bool
+begins_new begins.InNew = true
+begins_new begin = false
+
+abbrev pub trace_first : Begin → Terms → Trace
+trace_first begin terms = record {
+  old = begins_old begin;
+  new = begins_new begin;
+  hand = false;
+  due = begins_old begin;
+  old_number = same_spot terms.number_from InOld;
+  new_number = same_spot terms.number_from InNew;
+  hand_number = same_spot terms.number_from InHand;
+  written = Old;
+  in_force = Old;
+  flight = None;
+  freed = false;
+  strayed = false;
+}
+
+abbrev pub trace_landed : Case → Place → Trace → Trace
+trace_landed c place t = record t {
+  old = (is_pending c.bank && is_old place) || t.old;
+  new = (is_pending c.bank && not (is_old place)) || t.new;
+  due = is_pending c.bank || t.due;
+  strayed = t.strayed || (is_old place && t.freed);
+}
+
+abbrev pub trace_stored : Case → Route → Trace → Trace
+trace_stored c Written t = trace_landed c t.written t
+trace_stored c InForce t = trace_landed c t.in_force t
+
+-- ---- a step, told whether it is about the word, the number or the producer that is followed
+
+abbrev pub trace_turned : Bool → Trace → Trace
+trace_turned is_this t = elim is_this [ true ↦ record t { written = New } | false ↦ t ]
+
+abbrev pub flight_landed : Case → Option Place → Trace → Trace
+flight_landed c None t = t
+flight_landed c (Some place) t = trace_landed c place t
+
+abbrev pub trace_fenced : Case → Bool → Trace → Trace
+trace_fenced c is_this t = elim is_this [
+  | true ↦ record (flight_landed c t.flight t) { in_force = t.written; flight = None }
+  | false ↦ t
+]
+
+abbrev pub trace_switched : Bool → Trace → Trace
+trace_switched is_this t = elim is_this [
+  | true ↦ record t { written = New; in_force = New }
+  | false ↦ t
+]
+
+abbrev pub trace_zeroed : Place → Bool → Trace → Trace
+trace_zeroed Old is_this t = record t {
+  old = not is_this && t.old;
+  strayed = t.strayed || t.freed;
+}
+trace_zeroed New is_this t = record t { new = not is_this && t.new }
+
+abbrev pub trace_taken : Bool → Trace → Trace
+trace_taken is_this t = record t {
+  hand = (is_this && t.old) || (not is_this && t.hand);
+  old = not is_this && t.old;
+  strayed = t.strayed || t.freed;
+}
+
+abbrev pub trace_joined : Bool → Trace → Trace
+trace_joined is_this t = record t {
+  new = (is_this && t.hand) || t.new;
+  hand = not is_this && t.hand;
+}
+
+abbrev pub trace_put : Bool → Trace → Trace
+trace_put is_this t = record t {
+  new = (is_this && t.hand) || (not is_this && t.new);
+  hand = not is_this && t.hand;
+}
+
+abbrev pub trace_zeroed_number : Place → Bool → Trace → Trace
+trace_zeroed_number Old is_this t = record t {
+  old_number = not is_this && t.old_number;
+  strayed = t.strayed || t.freed;
+}
+trace_zeroed_number New is_this t = record t { new_number = not is_this && t.new_number }
+
+abbrev pub trace_taken_number : Bool → Trace → Trace
+trace_taken_number is_this t = record t {
+  hand_number = (is_this && t.old_number) || (not is_this && t.hand_number);
+  old_number = not is_this && t.old_number;
+  strayed = t.strayed || t.freed;
+}
+
+abbrev pub trace_put_number : Bool → Trace → Trace
+trace_put_number is_this t = record t {
+  new_number = (is_this && t.hand_number) || (not is_this && t.new_number);
+}
+
+abbrev pub trace_after : Case → Step → Trace → Trace
+trace_after c (steps.Route p) t = trace_turned (nat_eq p c.producer) t
+trace_after c (steps.Fence p) t = trace_fenced c (nat_eq p c.producer) t
+trace_after c (steps.Switch p) t = trace_switched (nat_eq p c.producer) t
+trace_after c (steps.Zero place s w) t = trace_zeroed place (names_bit c s w) t
+trace_after c (steps.Take s w) t = trace_taken (names_bit c s w) t
+trace_after c (steps.Join s w) t = trace_joined (names_bit c s w) t
+trace_after c (steps.Put s w) t = trace_put (names_bit c s w) t
+trace_after c (steps.ZeroNumber place n) t = trace_zeroed_number place (same_number n c.number) t
+trace_after c (steps.TakeNumber n) t = trace_taken_number (same_number n c.number) t
+trace_after c (steps.PutNumber n) t = trace_put_number (same_number n c.number) t
+trace_after c steps.Free t = record t { freed = true }
+trace_after c step t = t
+
+-- ---- a trace follows the machine
+
+abbrev pub worth : Bool → ℕ
+worth true = 1
+worth false = 0
+
+abbrev pub flights_by : Case → Option Place → List Flight
+flights_by c None = []
+flights_by c (Some place) =
+    record { producer = c.producer; place = place; identity = c.identity } ∷ []
+
+pub record Follows (c : Case) (t : Trace) (z : Machine) : Type 0 where
+  pub old : z.old c.bank c.identity ≡ t.old
+  pub new : z.new c.bank c.identity ≡ t.new
+  pub hand : z.hand c.bank c.identity ≡ t.hand
+  pub due : z.due c.bank c.identity ≡ t.due
+  pub old_number : z.old_number c.number ≡ worth t.old_number
+  pub new_number : z.new_number c.number ≡ worth t.new_number
+  pub hand_number : z.hand_number c.number ≡ worth t.hand_number
+  pub written : z.written c.producer ≡ t.written
+  pub in_force : z.in_force c.producer ≡ t.in_force
+  pub flights : z.flights ≡ flights_by c t.flight
+  pub freed : z.freed ≡ t.freed
+  pub strayed : z.strayed ≡ t.strayed

@@ -1,0 +1,18 @@
+//! What the definitions of this crate mean, as laws: each function does nothing, and its clauses
+//! are what was proved.
+
+ghost use Rattle.std.specs.Prelude.{◌≡◌, List, Some};
+ghost use Rattle.plans_machine.specs.Setting.{setting_of};
+ghost use Rattle.plans_run.specs.Run.{Loses};
+ghost use Rattle.plans_run.specs.Search.{losing_run_of};
+
+use crate::run::Run;
+use plans_machine::{Kind, Step, Terms};
+
+/// A run that the definition of the search finds is a run of the machine, from a start, that does
+/// not end as it has to.
+pub fn what_is_found_loses()
+    ensures { (producers : List Kind) (terms : Terms) (plan : List Step) (run : Run)
+        → losing_run_of producers terms plan ≡ Some run
+        → Loses (setting_of producers terms) plan run }
+{}

@@ -1,0 +1,20 @@
+use Rattle.std.proofs.Common.{◌≡◌, ◌∙◌, ◌+◌, ap, subst, IfOk, length, arith, length-drop}
+use Rattle.plans_text.specs.Reading.{Text}
+use Rattle.plans_text.specs.PlanFile.{read_of, texts_of, with_texts}
+use Rattle.plans_text.proofs.FileLemmas.{all_of_rest, text_more, position_within, whole}
+use Rattle.plans_text.proofs.plan_file.answers.Goals as goal
+
+pub loop-end-preserved : goal.loop-end-preserved
+loop-end-preserved c =
+    let within = position_within c.loop-end.rest.now c.in-Some.end c.in-Some.ensures in
+    let left = ap length (all_of_rest c.loop-end.rest.now (c.in-Some.end + 1)) ∙ length-drop (c.in-Some.end + 1) c.loop-end.rest.now in
+    record {
+      read = ap (λ xs. with_texts (read_of c.add_text.new.self) (texts_of xs)) (all_of_rest c.loop-end.rest.now (c.in-Some.end + 1))
+          ∙ text_more (read_of c.loop-end.file) (read_of c.add_text.new.self) c.loop-end.rest.now c.in-Some.end _ c.in-Some.ensures c.in_ok-add_text.ensures.read c.loop-end.invariant.read;
+      inside = c.in_ok-add_text.ensures.inside;
+      lines = omega (arith, within, left, c.in_ok-add_text.ensures.lines, c.loop-end.invariant.lines);
+    }
+
+pub returns : goal.returns
+returns c =
+    subst (λ (x : Text). IfOk c.finish.result (λ out. out.items ≡ x)) (whole c.args.bytes.now _ (c.in_ok-add_last.ensures.read ∙ c.loop-end.invariant.read)) c.finish.ensures

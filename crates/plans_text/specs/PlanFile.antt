@@ -1,0 +1,309 @@
+-- The plans of a file, and what is answered: a line for each plan, in their order. Profile.
+use Rattle.std.specs.Prelude.{ℕ, ◌+◌, ◌-◌, Bool, true, false, ◌&&◌, nat_eq, nat_lt, nat_le, if◌then◌else◌, List, [], ◌∷◌, ◌++◌, length, map, Option, Some, None, codes, decimal, slice_get}
+use Rattle.std.specs.List.{All, onto_first}
+use Rattle.plans_machine.specs.declared.setting.Kind.{Kind}
+use Rattle.plans_machine.specs.declared.setting.Spot.TheVariants.{InOld, InNew}
+use Rattle.plans_machine.specs.declared.setting.Terms.{Terms}
+use Rattle.plans_machine.specs.declared.rule.Rule.{Rule}
+use Rattle.plans_machine.specs.declared.rule.Rule.TheVariants as rules
+use Rattle.plans_machine.specs.declared.step.Step.{Step}
+use Rattle.plans_machine.specs.declared.step.Step.TheVariants as steps
+use Rattle.plans_machine.specs.Setting.{setting_of}
+use Rattle.plans_machine.specs.Safe.{IsInFile}
+use Rattle.plans_judge.specs.declared.verdict.Verdict.{Verdict}
+use Rattle.plans_judge.specs.declared.verdict.Verdict.TheVariants.{Accepted, Refused}
+use Rattle.plans_judge.specs.Verdicts.{verdict_on}
+use Rattle.plans_machine.specs.declared.step.Bank.{Bank}
+use Rattle.plans_machine.specs.declared.step.Bank.TheVariants.{Pending, Enabled}
+use Rattle.plans_run.specs.declared.trace.Begin.{Begin}
+use Rattle.plans_run.specs.declared.trace.Begin.TheVariants as begins
+use Rattle.plans_run.specs.declared.trace.Route.{Route}
+use Rattle.plans_run.specs.declared.trace.Route.TheVariants.{Written, InForce}
+use Rattle.plans_run.specs.declared.run.Extra.{Extra}
+use Rattle.plans_run.specs.declared.run.Extra.TheVariants as extras
+use Rattle.plans_run.specs.declared.run.Run.{Run}
+use Rattle.plans_run.specs.Search.{losing_run_of}
+use Rattle.plans_text.specs.declared.limits.TheConstants.{WORDS, PRODUCERS, STEPS}
+use Rattle.plans_text.specs.declared.draft.Mark.{Mark}
+use Rattle.plans_text.specs.declared.draft.Draft.{Draft}
+use Rattle.plans_text.specs.declared.plan_file.PlanFile.{PlanFile}
+use Rattle.plans_text.specs.declared.line.Line.{Line}
+use Rattle.plans_text.specs.declared.line.Line.TheVariants as lines
+use Rattle.plans_text.specs.declared.line.Reading.{Reading}
+use Rattle.plans_text.specs.declared.line.Reading.TheVariants as readings
+use Rattle.plans_text.specs.Reading.{Text, reading}
+
+-- ---- a plan, as far as it is read
+
+-- Where a step was read: the number of its line in the file, from 1 on, and the line's text.
+pub record Place : Type 0 where
+  pub line : ℕ
+  pub text : Text
+
+pub record Plan : Type 0 where
+  -- whether any line of it was read
+  pub is_begun : Bool
+  -- the number of its first bad line, if it has one
+  pub bad : Option ℕ
+  pub producers : List Kind
+  pub terms : Terms
+  pub steps : List Step
+  -- where each step was read
+  pub places : List Place
+
+-- What is declared where nothing is: one word, a place that is no memory and may hold anything, and
+-- numbers that move from the old place to the new one.
+abbrev pub first_terms : Terms
+first_terms = record {
+  words = 1;
+  is_fresh = false;
+  in_memory = false;
+  heeds = false;
+  number_from = InOld;
+  number_to = InNew;
+}
+
+abbrev pub no_plan : Plan
+no_plan = record {
+  is_begun = false;
+  bad = None;
+  producers = [];
+  terms = first_terms;
+  steps = [];
+  places = [];
+}
+
+-- A plan with a bad line.
+abbrev pub bad_at : ℕ → Plan → Plan
+bad_at line plan = record plan { is_begun = true; bad = Some line }
+
+-- ---- declarations, which stand before the first step
+
+abbrev pub terms_with : Line → Terms → Option Terms
+terms_with (lines.Words n) terms =
+    if nat_lt 0 n && nat_le n WORDS then Some (record terms { words = n }) else None
+terms_with lines.Fresh terms = Some (record terms { is_fresh = true })
+terms_with lines.Memory terms = Some (record terms { in_memory = true })
+terms_with lines.Heeds terms = Some (record terms { heeds = true })
+terms_with (lines.Numbers from to) terms = Some (record terms {
+  number_from = from;
+  number_to = to;
+})
+terms_with line terms = None
+
+abbrev pub with_terms : ℕ → Option Terms → Plan → Plan
+with_terms line None plan = bad_at line plan
+with_terms line (Some terms) plan =
+    if nat_eq (length plan.steps) 0 then record plan { is_begun = true; terms = terms }
+    else bad_at line plan
+
+abbrev pub with_producer : ℕ → Kind → Plan → Plan
+with_producer line kind plan =
+    if nat_eq (length plan.steps) 0 && nat_lt (length plan.producers) PRODUCERS then record plan {
+      is_begun = true;
+      producers = plan.producers ++ kind ∷ [];
+    } else bad_at line plan
+
+-- ---- steps
+
+-- Whether a step names words of the file and producers that are declared.
+abbrev pub is_known : ℕ → ℕ → Step → Bool
+is_known words producers (steps.Route p) = nat_lt p producers
+is_known words producers (steps.Fence p) = nat_lt p producers
+is_known words producers (steps.Switch p) = nat_lt p producers
+is_known words producers (steps.Zero place s w) = nat_lt w words
+is_known words producers (steps.Take s w) = nat_lt w words
+is_known words producers (steps.Join s w) = nat_lt w words
+is_known words producers (steps.Put s w) = nat_lt w words
+is_known words producers (steps.Look w) = nat_lt w words
+is_known words producers step = true
+
+abbrev pub with_step : ℕ → Text → Step → Plan → Plan
+with_step line text step plan =
+    if is_known plan.terms.words (length plan.producers) step && nat_lt (length plan.steps) STEPS
+    then record plan {
+      is_begun = true;
+      steps = plan.steps ++ step ∷ [];
+      places = plan.places ++ record { line = line; text = text } ∷ [];
+    } else bad_at line plan
+
+-- A plan with one line more, of this number and this text.
+abbrev pub with_line : ℕ → Text → Line → Plan → Plan
+with_line line text (lines.Step step) plan = with_step line text step plan
+with_line line text (lines.Producer kind) plan = with_producer line kind plan
+with_line line text x plan = with_terms line (terms_with x plan.terms) plan
+
+-- ---- what is answered of a plan
+
+abbrev pub rule_word : Rule → Text
+rule_word rules.Routes = codes "routes"
+rule_word rules.Words = codes "words"
+rule_word rules.Blank = codes "blank"
+rule_word rules.Numbers = codes "numbers"
+rule_word rules.Freeing = codes "freeing"
+rule_word rules.Notice = codes "notice"
+
+-- Where a rule is broken: at a step, whose line is given as it was read, or in the end.
+abbrev pub place_text : Option Place → Text
+place_text None = codes " in the end"
+place_text (Some place) =
+    codes " at line " ++ (decimal place.line ++ (codes ": " ++ place.text))
+
+-- ---- the run that is shown of a plan that loses something, in a line of its own
+
+abbrev pub bank_word : Bank → Text
+bank_word Pending = codes " is pending "
+bank_word Enabled = codes " is enabled "
+
+abbrev pub begin_word : Begin → Text
+begin_word begins.Nowhere = codes "nowhere at the start"
+begin_word begins.InOld = codes "in the old place at the start"
+begin_word begins.InNew = codes "in the new place at the start"
+
+abbrev pub route_word : Route → Text
+route_word Written = codes " by its written route"
+route_word InForce = codes " by its route in force"
+
+-- Between which lines a store comes that has so many steps before it.
+abbrev pub behind_text : Option Place → Text
+behind_text None = codes " before the first step"
+behind_text (Some place) = codes " behind line " ++ decimal place.line
+
+abbrev pub between_text : List Place → ℕ → Text
+between_text places before =
+    if nat_eq before 0 then behind_text None else behind_text (slice_get places (before - 1))
+
+-- A store that lands with more steps before it than there are lands at its fence alone.
+abbrev pub landing_text : List Place → ℕ → Text
+landing_text places before =
+    if nat_le before (length places) then codes ", and lands" ++ between_text places before
+    else codes ", and lands at its fence"
+
+abbrev pub extra_text : List Place → ℕ → Extra → Text
+extra_text places producer extras.Nothing = []
+extra_text places producer (extras.Stores before route) =
+    codes "; producer " ++ (decimal producer ++ (codes " stores it"
+    ++ (between_text places before ++ route_word route)))
+extra_text places producer (extras.Lingers before) =
+    codes "; a store of producer " ++ (decimal producer ++ (codes " for it is sent"
+    ++ (between_text places before ++ codes ", and lands no sooner than it is fenced")))
+extra_text places producer (extras.Flies before) =
+    codes "; a store of producer " ++ (decimal producer ++ (codes " for it is in flight"
+    ++ landing_text places before))
+
+abbrev pub case_text : Run → Text
+case_text run =
+    decimal run.case.identity ++ (bank_word run.case.bank ++ begin_word run.begin)
+
+abbrev pub run_text : List Place → Option Run → Text
+run_text places None = []
+run_text places (Some run) =
+    (10 ∷ codes "  run: identity ")
+    ++ (case_text run ++ extra_text places run.case.producer run.extra)
+
+abbrev pub verdict_text : List Place → Option Run → Verdict → Text
+verdict_text places run Accepted = codes "accepted"
+verdict_text places run (Refused rule before) =
+    codes "refused " ++ (rule_word rule ++ (place_text (slice_get places before)
+    ++ run_text places run))
+
+-- The run of a plan that breaks a rule of safety; none of another one, since that loses nothing.
+abbrev pub run_shown : List Kind → Terms → List Step → Verdict → Option Run
+run_shown producers terms plan Accepted = None
+run_shown producers terms plan (Refused rules.Notice before) = None
+run_shown producers terms plan (Refused rule before) = losing_run_of producers terms plan
+
+abbrev pub found_text : List Place → List Kind → Terms → List Step → Verdict → Text
+found_text places producers terms plan verdict =
+    verdict_text places (run_shown producers terms plan verdict) verdict
+
+abbrev pub bad_or_verdict : Option ℕ → Plan → Text
+bad_or_verdict (Some line) plan = codes "bad line " ++ decimal line
+bad_or_verdict None plan =
+    found_text plan.places plan.producers plan.terms plan.steps
+    (verdict_on (setting_of plan.producers plan.terms) plan.steps)
+
+-- What is answered of a plan that ends, with its LF: nothing, where it did not begin.
+abbrev pub plan_answer : Plan → Text
+plan_answer plan =
+    if plan.is_begun then bad_or_verdict plan.bad plan ++ 10 ∷ [] else []
+
+-- ---- a file
+
+-- The plan that is being read, how many lines were read, and the answers of the plans before it.
+pub record Read : Type 0 where
+  pub plan : Plan
+  pub lines : ℕ
+  pub answers : Text
+
+abbrev pub none_read : Read
+none_read = record { plan = no_plan; lines = 0; answers = [] }
+
+-- A plan begins: the one before it ends.
+abbrev pub plan_begun : Read → Read
+plan_begun read = record {
+  plan = record no_plan { is_begun = true };
+  lines = read.lines;
+  answers = read.answers ++ plan_answer read.plan;
+}
+
+-- A line that is no `plan`; after a bad one nothing more is read of a plan.
+abbrev pub line_read : Text → Line → Read → Read
+line_read text line read = elim read.plan.bad [
+  | Some bad ↦ read
+  | None ↦ record read { plan = with_line read.lines text line read.plan }
+]
+
+abbrev pub as_read : Text → Reading → Read → Read
+as_read text readings.Skip read = read
+as_read text readings.Bad read = elim read.plan.bad [
+  | Some bad ↦ read
+  | None ↦ record read { plan = bad_at read.lines read.plan }
+]
+as_read text (readings.Line lines.Plan) read = plan_begun read
+as_read text (readings.Line line) read = line_read text line read
+
+abbrev pub with_text : Read → Text → Read
+with_text read text = as_read text (reading text) (record read { lines = read.lines + 1 })
+
+abbrev pub with_texts : Read → List Text → Read
+with_texts read [] = read
+with_texts read (text ∷ texts) = with_texts (with_text read text) texts
+
+abbrev pub all_answers : Read → Text
+all_answers read = read.answers ++ plan_answer read.plan
+
+-- The texts of a file: its bytes cut at LF, and a last text where bytes stand after the last LF.
+abbrev pub texts_of : Text → List Text
+texts_of [] = []
+texts_of (b ∷ bytes) = if nat_eq b 10 then [] ∷ texts_of bytes else onto_first b (texts_of bytes)
+
+-- What is answered of the bytes of a file.
+unfoldable pub answers : Text → Text
+answers bytes = all_answers (with_texts none_read (texts_of bytes))
+
+-- ---- what the program's values stand for
+
+abbrev pub place_of : Mark → Place
+place_of mark = record { line = mark.line; text = mark.text.items }
+
+abbrev pub plan_of : Draft → Plan
+plan_of draft = record {
+  is_begun = draft.is_begun;
+  bad = draft.bad;
+  producers = draft.producers.items;
+  terms = draft.terms;
+  steps = draft.steps.items;
+  places = map place_of draft.marks.items;
+}
+
+-- The words that the steps name are words of the file.
+abbrev pub AreInFile : Draft → Type 0
+AreInFile draft = All (IsInFile draft.terms.words) draft.steps.items
+
+abbrev pub read_of : PlanFile → Read
+read_of file = record {
+  plan = plan_of file.draft;
+  lines = file.lines;
+  answers = file.answers.items;
+}

@@ -1,0 +1,263 @@
+-- What a text of a plan file says: a declaration, a step, or the begin of a plan. Profile.
+use Rattle.std.specs.Prelude.{ℕ, ◌+◌, ◌-◌, ◌*◌, Bool, not, nat_eq, nat_le, if◌then◌else◌, List, [], ◌∷◌, length, take, drop, Option, Some, None, codes, position}
+use Rattle.std.specs.Int.{is_in_range}
+use Rattle.std.specs.Str.{bytes_eq}
+use Rattle.plans_machine.specs.declared.step.Place.{Place}
+use Rattle.plans_machine.specs.declared.step.Place.TheVariants.{Old, New}
+use Rattle.plans_machine.specs.declared.step.Bank.{Bank}
+use Rattle.plans_machine.specs.declared.step.Bank.TheVariants.{Pending, Enabled}
+use Rattle.plans_machine.specs.declared.step.Number.{Number}
+use Rattle.plans_machine.specs.declared.step.Number.TheVariants.{Threshold, Delivery}
+use Rattle.plans_machine.specs.declared.step.Step.{Step}
+use Rattle.plans_machine.specs.declared.step.Step.TheVariants as steps
+use Rattle.plans_machine.specs.declared.setting.Kind.{Kind}
+use Rattle.plans_machine.specs.declared.setting.Kind.TheVariants.{Routed, Switched}
+use Rattle.plans_machine.specs.declared.setting.Spot.{Spot}
+use Rattle.plans_machine.specs.declared.setting.Spot.TheVariants.{InOld, InHand, InNew}
+use Rattle.plans_text.specs.declared.limits.TheConstants.{LINE_BYTES}
+use Rattle.plans_text.specs.declared.line.Line.{Line}
+use Rattle.plans_text.specs.declared.line.Line.TheVariants as lines
+use Rattle.plans_text.specs.declared.line.Thing.{Thing}
+use Rattle.plans_text.specs.declared.line.Thing.TheVariants as things
+use Rattle.plans_text.specs.declared.line.Reading.{Reading}
+use Rattle.plans_text.specs.declared.line.Reading.TheVariants as readings
+
+abbrev pub Text : Type 0
+Text = List ℕ
+
+infixl 10 ◌>>=◌
+-- What comes of a value, where there is one.
+abbrev pub ◌>>=◌ : {A B : Type 0} → Option A → (A → Option B) → Option B
+None >>= f = None
+(Some x) >>= f = f x
+
+-- ---- words
+
+abbrev pub is_space : ℕ → Bool
+is_space byte = nat_eq byte 32
+
+-- A text without its comment, which begins with `#`.
+abbrev pub before_comment : Text → Text
+before_comment text = elim (position (λ byte. nat_eq byte 35) text) [
+  | None ↦ text
+  | Some at ↦ take at text
+]
+
+-- Where the word with which a text begins ends.
+abbrev pub word_end : Text → ℕ
+word_end text = elim (position (λ byte. nat_eq byte 32) text) [
+  | None ↦ length text
+  | Some at ↦ at
+]
+
+-- A text cut behind the word with which it begins.
+abbrev pub cut_word : Text → Text × Text
+cut_word text = (take (word_end text) text, drop (word_end text) text)
+
+-- The next word of a text, and the text behind it: any number of spaces stands before a word.
+unfoldable pub next_word : Text → Option (Text × Text)
+next_word text = elim (position (λ byte. not (nat_eq byte 32)) text) [
+  | None ↦ None
+  | Some at ↦ Some (cut_word (drop at text))
+]
+
+-- What was read, where no word is left.
+abbrev pub at_end : {A : Type 0} → Text → A → Option A
+at_end text read = elim (next_word text) [ None ↦ Some read | Some word ↦ None ]
+
+-- ---- numbers: one or two decimal digits
+
+abbrev pub is_digit : ℕ → Bool
+is_digit byte = is_in_range 48 57 byte
+
+abbrev pub number_of : Text → Option ℕ
+number_of (d ∷ []) = if is_digit d then Some (d - 48) else None
+number_of (d ∷ e ∷ []) =
+    if is_digit d then (if is_digit e then Some (10 * (d - 48) + (e - 48)) else None) else None
+number_of word = None
+
+unfoldable pub number_at : Text → Option (ℕ × Text)
+number_at text = do
+  word ← next_word text
+  n ← number_of word.0
+  Some (n, word.1)
+
+-- ---- names
+
+abbrev pub bank_named : Text → Option Bank
+bank_named word =
+    if bytes_eq word (codes "pending") then Some Pending
+    else if bytes_eq word (codes "enabled") then Some Enabled else None
+
+abbrev pub number_named : Text → Option Number
+number_named word =
+    if bytes_eq word (codes "threshold") then Some Threshold
+    else if bytes_eq word (codes "delivery") then Some Delivery else None
+
+abbrev pub place_named : Text → Option Place
+place_named word =
+    if bytes_eq word (codes "old") then Some Old
+    else if bytes_eq word (codes "new") then Some New else None
+
+abbrev pub spot_named : Text → Option Spot
+spot_named word =
+    if bytes_eq word (codes "old") then Some InOld
+    else if bytes_eq word (codes "hand") then Some InHand
+    else if bytes_eq word (codes "new") then Some InNew else None
+
+abbrev pub kind_named : Text → Option Kind
+kind_named word =
+    if bytes_eq word (codes "routed") then Some Routed
+    else if bytes_eq word (codes "switched") then Some Switched else None
+
+-- ---- what a step moves: a number, or a word of a set
+
+unfoldable pub word_at : Text → Option (Thing × Text)
+word_at text = do
+  word ← next_word text
+  bank ← bank_named word.0
+  number ← number_at word.1
+  Some (things.Word bank number.0, number.1)
+
+unfoldable pub number_thing_at : Text → Option (Thing × Text)
+number_thing_at text = do
+  word ← next_word text
+  number ← number_named word.0
+  Some (things.Number number, word.1)
+
+unfoldable pub thing_at : Text → Option (Thing × Text)
+thing_at text = elim (number_thing_at text) [ Some thing ↦ Some thing | None ↦ word_at text ]
+
+abbrev pub zero_of : Place → Thing → Step
+zero_of place (things.Word bank word) = steps.Zero place bank word
+zero_of place (things.Number number) = steps.ZeroNumber place number
+
+abbrev pub take_of : Thing → Step
+take_of (things.Word bank word) = steps.Take bank word
+take_of (things.Number number) = steps.TakeNumber number
+
+abbrev pub put_of : Thing → Step
+put_of (things.Word bank word) = steps.Put bank word
+put_of (things.Number number) = steps.PutNumber number
+
+abbrev pub join_of : Thing → Option Step
+join_of (things.Word bank word) = Some (steps.Join bank word)
+join_of (things.Number number) = None
+
+-- ---- steps, by their names
+
+unfoldable pub numbered_at : (ℕ → Step) → Text → Option Step
+numbered_at step text = do
+  number ← number_at text
+  at_end number.1 (step number.0)
+
+unfoldable pub zero_at : Text → Option Step
+zero_at text = do
+  word ← next_word text
+  place ← place_named word.0
+  thing ← thing_at word.1
+  at_end thing.1 (zero_of place thing.0)
+
+unfoldable pub take_at : Text → Option Step
+take_at text = do
+  thing ← thing_at text
+  at_end thing.1 (take_of thing.0)
+
+unfoldable pub put_at : Text → Option Step
+put_at text = do
+  thing ← thing_at text
+  at_end thing.1 (put_of thing.0)
+
+unfoldable pub join_at : Text → Option Step
+join_at text = do
+  thing ← thing_at text
+  step ← join_of thing.0
+  at_end thing.1 step
+
+abbrev pub routing_named : Text → Text → Option Step
+routing_named name text =
+    if bytes_eq name (codes "route") then numbered_at steps.Route text
+    else if bytes_eq name (codes "fence") then numbered_at steps.Fence text
+    else if bytes_eq name (codes "switch") then numbered_at steps.Switch text else None
+
+abbrev pub moving_named : Text → Text → Option Step
+moving_named name text =
+    if bytes_eq name (codes "zero") then zero_at text
+    else if bytes_eq name (codes "take") then take_at text
+    else if bytes_eq name (codes "join") then join_at text
+    else if bytes_eq name (codes "put") then put_at text else None
+
+abbrev pub telling_named : Text → Text → Option Step
+telling_named name text =
+    if bytes_eq name (codes "look") then numbered_at steps.Look text
+    else if bytes_eq name (codes "post") then at_end text steps.Post
+    else if bytes_eq name (codes "tell") then at_end text steps.Tell
+    else if bytes_eq name (codes "free") then at_end text steps.Free else None
+
+abbrev pub or_else : {A : Type 0} → Option A → Option A → Option A
+or_else None other = other
+or_else (Some x) other = Some x
+
+-- The step that a name spells with the text behind it.
+unfoldable pub step_named : Text → Text → Option Step
+step_named name text =
+    or_else (routing_named name text)
+    (or_else (moving_named name text) (telling_named name text))
+
+-- ---- declarations, by their names
+
+unfoldable pub words_at : Text → Option Line
+words_at text = do
+  number ← number_at text
+  at_end number.1 (lines.Words number.0)
+
+unfoldable pub producer_at : Text → Option Line
+producer_at text = do
+  word ← next_word text
+  kind ← kind_named word.0
+  at_end word.1 (lines.Producer kind)
+
+unfoldable pub numbers_at : Text → Option Line
+numbers_at text = do
+  first ← next_word text
+  from ← spot_named first.0
+  second ← next_word first.1
+  to ← spot_named second.0
+  at_end second.1 (lines.Numbers from to)
+
+abbrev pub flag_named : Text → Text → Option Line
+flag_named name text =
+    if bytes_eq name (codes "plan") then at_end text lines.Plan
+    else if bytes_eq name (codes "fresh") then at_end text lines.Fresh
+    else if bytes_eq name (codes "memory") then at_end text lines.Memory
+    else if bytes_eq name (codes "heeds") then at_end text lines.Heeds else None
+
+abbrev pub declaration_named : Text → Text → Option Line
+declaration_named name text =
+    if bytes_eq name (codes "words") then words_at text
+    else if bytes_eq name (codes "producer") then producer_at text
+    else if bytes_eq name (codes "numbers") then numbers_at text else flag_named name text
+
+abbrev pub step_line : Option Step → Option Line
+step_line None = None
+step_line (Some step) = Some (lines.Step step)
+
+abbrev pub line_named : Text → Text → Option Line
+line_named name text =
+    or_else (declaration_named name text) (step_line (step_named name text))
+
+-- ---- a text
+
+abbrev pub line_or_bad : Option Line → Reading
+line_or_bad None = readings.Bad
+line_or_bad (Some line) = readings.Line line
+
+abbrev pub words_read : Option (Text × Text) → Reading
+words_read None = readings.Skip
+words_read (Some word) = line_or_bad (line_named word.0 word.1)
+
+-- A text of no word says nothing; one that is too long is bad.
+unfoldable pub reading : Text → Reading
+reading text =
+    if nat_le (length text) LINE_BYTES then words_read (next_word (before_comment text))
+    else readings.Bad

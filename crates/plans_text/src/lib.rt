@@ -1,0 +1,15 @@
+//! The texts of plan files: what line a text spells, which plans lines make, and what is answered.
+//! Profile.
+#![tactic(auto)]
+
+mod answer;
+mod draft;
+pub mod limits;
+mod line;
+mod parse;
+mod plan_file;
+mod words;
+
+pub use line::{Line, Reading};
+pub use parse::parse_line;
+pub use plan_file::answers;

@@ -1,0 +1,52 @@
+use plans_machine::{Bank, Kind, Number, Spot, Step};
+
+/// What a line of a plan file says.
+#[derive(Clone, Copy, Debug, PartialEq, Eq)]
+pub enum Line {
+    /// `plan`: a plan begins here, and the one before it ends.
+    Plan,
+
+    /// `words N`: how many words of 64 identities each set has.
+    Words(u32),
+
+    /// `producer KIND`: one producer more.
+    Producer(Kind),
+
+    /// `fresh`: the new place is known to hold nothing.
+    Fresh,
+
+    /// `memory`: the new place is memory.
+    Memory,
+
+    /// `heeds`: a notice heeds delivery and threshold there.
+    Heeds,
+
+    /// `numbers FROM TO`: where threshold and delivery are, and have to be.
+    Numbers(Spot, Spot),
+
+    /// A step.
+    Step(Step),
+}
+
+/// What a text is read as.
+#[derive(Clone, Copy, Debug, PartialEq, Eq)]
+pub enum Reading {
+    /// It has no word: it is empty, or a comment.
+    Skip,
+
+    /// It spells a line.
+    Line(Line),
+
+    /// It spells none.
+    Bad,
+}
+
+/// What a step moves.
+#[derive(Clone, Copy)]
+pub(crate) enum Thing {
+    /// A word of a set.
+    Word(Bank, u32),
+
+    /// A number.
+    Number(Number),
+}
