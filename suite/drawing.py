@@ -27,6 +27,8 @@ COLORS = {"in memory": svg.MEMORY, "runs from memory": svg.OTHER, "moves": svg.H
 MOVES = ("arrive", "leave", "shift")
 # Of the picture as SVG: its margins, and the width and height of a mark.
 LEFT, TOP_EDGE, CELL, ROW = 128, 140, 36, 26
+# What the words of its legend take.
+LEAST_WIDTH = 930
 
 
 class Store(NamedTuple):
@@ -272,7 +274,8 @@ def in_svg(script, first, last, name):
     title = f"{name}, lines {found[0].number} to {found[-1].number}"
     harts = harts_of(found)
     bottom = TOP_EDGE + (2 * len(harts) + 1) * ROW
-    picture = svg.Picture(max(LEFT + len(found) * CELL + 50, 860), bottom + 56, title)
+    width = max(LEFT + len(found) * CELL + 50, LEAST_WIDTH)
+    picture = svg.Picture(width, bottom + 56, title)
     picture.text(14, 26, title, 16, bold=True)
     heads(picture, found, bottom)
     for row, hart in enumerate(harts):
