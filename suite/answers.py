@@ -56,6 +56,13 @@ def printable(text):
 
 def lines(script):
     """Lists the lines of a script that have an answer."""
+def cut(answer):
+    """Cuts an answer that is longer than any of the model's, for a terminal."""
+    if len(answer) <= ANSWER_BYTES:
+        return answer
+    return f"{answer[:ANSWER_BYTES]}.. ({len(answer)} characters)"
+
+
     return [Line(number, shown(text)) for number, text in enumerate(reading.texts(script), 1)
             if not reading.is_skipped(text)]
 
@@ -198,7 +205,7 @@ class Verdict:
             told = difference.at + 1
             yield f"line {difference.line.number}: {difference.line.text}"
             yield f"  model: {difference.model}"
-            yield f"  mine:  {difference.mine}{hint(difference)}"
+            yield f"  mine:  {cut(difference.mine)}{hint(difference)}"
         if len(self.differences) > most:
             yield f"and {len(self.differences) - most} more that differ"
         if self.missing:
@@ -206,7 +213,7 @@ class Verdict:
             yield (f"{counted(self.missing, 'answer')} missing, from line {line.number} on:"
                    f" {line.text}")
         if self.spare:
-            yield f"{counted(len(self.spare), 'answer')} spare, the first: {self.spare[0]}"
+            yield f"{counted(len(self.spare), 'answer')} spare, the first: {cut(self.spare[0])}"
 
     def summary(self):
         """Says in one line how many answers are the same, and not."""

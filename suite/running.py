@@ -42,9 +42,14 @@ class Ran(NamedTuple):
     errors: str
 
     def fault(self):
-        """Says in words what is wrong with the end; nothing where it ended with status 0."""
-        return self.stopped or (f"the command ended with status {self.status}"
-                                if self.status else "")
+        """Says in words what is wrong with the end, with the line of the command's own that says
+        why; nothing where it ended with status 0."""
+        if not (self.stopped or self.status):
+            return ""
+        said = self.errors.splitlines()
+        # Python says why in the last line, and most others in the first.
+        why = said[-1:] if said and said[0].startswith("Traceback") else said[:1]
+        return ": ".join([self.stopped or f"the command ended with status {self.status}", *why])
 
 
 class State:
