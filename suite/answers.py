@@ -20,6 +20,8 @@ REFUSALS = MISTAKES | {
     "full", "busy", "home", "entered", "parked", "nofile", "passed", "unready", "idle", "away",
     "illegal", "virtual", "fault", "guarded", "other", "notvalid", "gfault"}
 NOT_SHOWN = "-"
+# From here on a number is spelled in hexadecimal.
+GREAT = 1 << 16
 # The most bytes that an answer has, with its LF.
 ANSWER_BYTES = 128
 FORMS = sorted({name.split("_")[0] for name, _ in reading.BY_KEYWORDS.values()}
@@ -54,8 +56,6 @@ def printable(text):
         for one in text)
 
 
-def lines(script):
-    """Lists the lines of a script that have an answer."""
 def cut(answer):
     """Cuts an answer that is longer than any of the model's, for a terminal."""
     if len(answer) <= ANSWER_BYTES:
@@ -63,6 +63,8 @@ def cut(answer):
     return f"{answer[:ANSWER_BYTES]}.. ({len(answer)} characters)"
 
 
+def lines(script):
+    """Lists the lines of a script that have an answer."""
     return [Line(number, shown(text)) for number, text in enumerate(reading.texts(script), 1)
             if not reading.is_skipped(text)]
 
@@ -85,6 +87,21 @@ def most_output(script):
 def form(text):
     """Gives the form of a line: its first word."""
     return text.split(" ")[0]
+
+
+def spelled_plainly(text):
+    """Spells the great numbers of a line as addresses are, and others in decimal."""
+    def plain(word):
+        value = reading.number(word.encode(errors="surrogateescape"))
+        if value is None:
+            return word
+        return f"{value}" if value < GREAT else f"0x{value:x}"
+    return " ".join(map(plain, text.split(" ")))
+
+
+def fits(text, pattern):
+    """Says whether a line fits a pattern, as it stands or with its numbers spelled plainly."""
+    return fnmatchcase(text, pattern) or fnmatchcase(spelled_plainly(text), pattern)
 
 
 def is_refused(text, answer):
@@ -146,8 +163,8 @@ class Known:
 
     def has(self, line, model, mine):
         """Says whether a difference is known, and counts it."""
-        for at, row in enumerate(self.rows):
-            if all(fnmatchcase(text, pattern) for text, pattern in zip((line, model, mine), row)):
+        for at, (pattern, *patterns, _) in enumerate(self.rows):
+            if fits(line, pattern) and all(map(fnmatchcase, (model, mine), patterns)):
                 self.met[at] += 1
                 return True
         return False
