@@ -4,7 +4,7 @@
 The model is PROGRAM with the word `replay`, else ../aia. Here the machine is a list of accesses and
 of what each of them read, of one that claims the wrong identity; yours calls `ask` for each access
 as it makes it. Ends with status 1 and a message at the first answer that differs, else with 0; and
-with 2 where the model ends before its time.
+with 2 where the model can't be run, or ends before its time.
 """
 
 import subprocess
@@ -45,8 +45,12 @@ def ask(model, line, mine="-"):
 
 
 def main():
-    with subprocess.Popen([PROGRAM, "replay"], text=True, stdin=subprocess.PIPE,
-                          stdout=subprocess.PIPE) as model:
+    try:
+        model = subprocess.Popen([PROGRAM, "replay"], text=True, stdin=subprocess.PIPE,
+                                 stdout=subprocess.PIPE)
+    except OSError as wrong:
+        end(2, f"{PROGRAM} can't be run: {wrong.strerror}")
+    with model:
         for line, mine in MACHINE:
             ask(model, line, mine)
 

@@ -20,6 +20,8 @@ REFUSALS = MISTAKES | {
     "full", "busy", "home", "entered", "parked", "nofile", "passed", "unready", "idle", "away",
     "illegal", "virtual", "fault", "guarded", "other", "notvalid", "gfault"}
 NOT_SHOWN = "-"
+# From here on a number is spelled in hexadecimal.
+GREAT = 1 << 16
 # The most bytes that an answer has, with its LF.
 ANSWER_BYTES = 128
 FORMS = sorted({name.split("_")[0] for name, _ in reading.BY_KEYWORDS.values()}
@@ -54,6 +56,13 @@ def printable(text):
         for one in text)
 
 
+def cut(answer):
+    """Cuts an answer that is longer than any of the model's, for a terminal."""
+    if len(answer) <= ANSWER_BYTES:
+        return answer
+    return f"{answer[:ANSWER_BYTES]}.. ({len(answer)} characters)"
+
+
 def lines(script):
     """Lists the lines of a script that have an answer."""
     return [Line(number, shown(text)) for number, text in enumerate(reading.texts(script), 1)
@@ -78,6 +87,21 @@ def most_output(script):
 def form(text):
     """Gives the form of a line: its first word."""
     return text.split(" ")[0]
+
+
+def spelled_plainly(text):
+    """Spells the great numbers of a line as addresses are, and others in decimal."""
+    def plain(word):
+        value = reading.number(word.encode(errors="surrogateescape"))
+        if value is None:
+            return word
+        return f"{value}" if value < GREAT else f"0x{value:x}"
+    return " ".join(map(plain, text.split(" ")))
+
+
+def fits(text, pattern):
+    """Says whether a line fits a pattern, as it stands or with its numbers spelled plainly."""
+    return fnmatchcase(text, pattern) or fnmatchcase(spelled_plainly(text), pattern)
 
 
 def is_refused(text, answer):
@@ -139,8 +163,8 @@ class Known:
 
     def has(self, line, model, mine):
         """Says whether a difference is known, and counts it."""
-        for at, row in enumerate(self.rows):
-            if all(fnmatchcase(text, pattern) for text, pattern in zip((line, model, mine), row)):
+        for at, (pattern, *patterns, _) in enumerate(self.rows):
+            if fits(line, pattern) and all(map(fnmatchcase, (model, mine), patterns)):
                 self.met[at] += 1
                 return True
         return False
@@ -198,7 +222,7 @@ class Verdict:
             told = difference.at + 1
             yield f"line {difference.line.number}: {difference.line.text}"
             yield f"  model: {difference.model}"
-            yield f"  mine:  {difference.mine}{hint(difference)}"
+            yield f"  mine:  {cut(difference.mine)}{hint(difference)}"
         if len(self.differences) > most:
             yield f"and {len(self.differences) - most} more that differ"
         if self.missing:
@@ -206,7 +230,7 @@ class Verdict:
             yield (f"{counted(self.missing, 'answer')} missing, from line {line.number} on:"
                    f" {line.text}")
         if self.spare:
-            yield f"{counted(len(self.spare), 'answer')} spare, the first: {self.spare[0]}"
+            yield f"{counted(len(self.spare), 'answer')} spare, the first: {cut(self.spare[0])}"
 
     def summary(self):
         """Says in one line how many answers are the same, and not."""

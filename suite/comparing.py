@@ -87,7 +87,7 @@ def tell(path, ran, verdict, options):
     """Prints what is wrong with a script's answers."""
     print(f"{path.relative_to(TOP)} differs")
     if ran.fault():
-        print(f"  {ran.fault()}" + (f": {ran.errors.splitlines()[0]}" if ran.errors else ""))
+        print("  " + answers.printable(ran.fault()))
     for line in verdict.told(options.most, "  "):
         print(line)
 

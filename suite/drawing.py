@@ -27,6 +27,8 @@ COLORS = {"in memory": svg.MEMORY, "runs from memory": svg.OTHER, "moves": svg.H
 MOVES = ("arrive", "leave", "shift")
 # Of the picture as SVG: its margins, and the width and height of a mark.
 LEFT, TOP_EDGE, CELL, ROW = 128, 140, 36, 26
+# What the words of its legend take.
+LEAST_WIDTH = 930
 
 
 class Store(NamedTuple):
@@ -137,32 +139,23 @@ def step_name(hart):
 
 
 def watched(script, first, last):
-    """Lists what the lines of a script did that are drawn, of those from one number to another."""
+    """Lists what the lines of a script did that are drawn, of those from one number to another; and
+    names its virtual harts, as 0.1: 1 of VM 0."""
     one = Watching()
     found = [one.shown(number, text) for number, text in enumerate(reading.texts(script), 1)
              if not reading.is_skipped(text) and reading.read(text) is not reading.BAD]
-    return [shown for shown in found if shown and first <= shown.number <= last]
+    names = {hart: f"{number}.{place}"
+             for number, vm in enumerate(one.machine.vms if one.machine else [])
+             for place, hart in enumerate(vm.harts)}
+    return [shown for shown in found if shown and first <= shown.number <= last], names
 
 
 def harts_of(found):
-    """Lists the virtual harts of the lines that are drawn, with their names, as 0.1: 1 of VM 0."""
-    harts = list(dict.fromkeys(hart for shown in found for hart in shown.homes))
-    seen = {}
-    for shown in found:
-        for hart in [shown.hart, *shown.told, *(store.hart for store in shown.stores)]:
-            seen[hart] = True
+    """Lists the virtual harts that the lines that are drawn are about, in the order of slots."""
+    harts = dict.fromkeys(hart for shown in found for hart in shown.homes)
+    seen = {hart for shown in found for hart in
+            [shown.hart, *shown.told, *(store.hart for store in shown.stores)]}
     return [hart for hart in harts if hart in seen]
-
-
-def names_of(script):
-    """Names the virtual harts of a script by their slots: the number of the VM and their own."""
-    found, one = {}, Watching()
-    for text in reading.texts(script):
-        one.answer(text)
-    for number, vm in enumerate(one.machine.vms if one.machine else []):
-        for place, hart in enumerate(vm.harts):
-            found[hart.slot] = f"{number}.{place}"
-    return found
 
 
 def where(place):
@@ -190,11 +183,10 @@ def cell(hart, shown, before):
     return ", ".join(parts)
 
 
-def in_text(script, first, last):
-    """Gives the picture in text."""
-    found, names = watched(script, first, last), names_of(script)
+def in_text(found, names):
+    """Gives the picture of what was watched in text."""
     harts = harts_of(found)
-    rows = [["line", *(names[hart.slot] for hart in harts), "host"]]
+    rows = [["line", *(names[hart] for hart in harts), "host"]]
     for before, shown in zip([None, *found], found):
         told = ", ".join(f"told {hart.slot + 1}" for hart in shown.told)
         cells = [cell(hart, shown, before) for hart in harts]
@@ -266,18 +258,18 @@ def legend(picture, y):
                  " Numbers are identities.", 11.5, "#52606d")
 
 
-def in_svg(script, first, last, name):
-    """Gives the picture as SVG."""
-    found, names = watched(script, first, last), names_of(script)
+def in_svg(found, names, name):
+    """Gives the picture of what was watched as SVG, with the script's name."""
     title = f"{name}, lines {found[0].number} to {found[-1].number}"
     harts = harts_of(found)
     bottom = TOP_EDGE + (2 * len(harts) + 1) * ROW
-    picture = svg.Picture(max(LEFT + len(found) * CELL + 50, 860), bottom + 56, title)
+    width = max(LEFT + len(found) * CELL + 50, LEAST_WIDTH)
+    picture = svg.Picture(width, bottom + 56, title)
     picture.text(14, 26, title, 16, bold=True)
     heads(picture, found, bottom)
     for row, hart in enumerate(harts):
         y = TOP_EDGE + 2 * row * ROW
-        picture.text(LEFT - 10, y + ROW / 2 + 4, f"virtual hart {names[hart.slot]}", 12, svg.INK,
+        picture.text(LEFT - 10, y + ROW / 2 + 4, f"virtual hart {names[hart]}", 12, svg.INK,
                      "end")
         picture.text(LEFT - 10, y + ROW * 1.5 + 4, "asked for", 11.5, "#52606d", "end")
         bars(picture, hart, found, y)

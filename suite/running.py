@@ -42,9 +42,14 @@ class Ran(NamedTuple):
     errors: str
 
     def fault(self):
-        """Says in words what is wrong with the end; nothing where it ended with status 0."""
-        return self.stopped or (f"the command ended with status {self.status}"
-                                if self.status else "")
+        """Says in words what is wrong with the end, with the line of the command's own that says
+        why; nothing where it ended with status 0."""
+        if not (self.stopped or self.status):
+            return ""
+        said = self.errors.splitlines()
+        # Python says why in the last line, and most others in the first.
+        why = said[-1:] if said and said[0].startswith("Traceback") else said[:1]
+        return ": ".join([self.stopped or f"the command ended with status {self.status}", *why])
 
 
 class State:
@@ -110,14 +115,18 @@ def tell(process, signal_number):
         pass
 
 
-def kill(process):
-    """Ends a command and its group: it is told first, so that it may end what it has started."""
-    tell(process, signal.SIGTERM)
-    try:
-        process.wait(GRACE)
-    except subprocess.TimeoutExpired:
-        pass
-    tell(process, signal.SIGKILL)
+def kill(processes):
+    """Ends commands and their groups: they are told first, so that they may end what they have
+    started, and have one grace together."""
+    for process in processes:
+        tell(process, signal.SIGTERM)
+    deadline = time.monotonic() + GRACE
+    for process in processes:
+        try:
+            process.wait(max(0, deadline - time.monotonic()))
+        except subprocess.TimeoutExpired:
+            pass
+        tell(process, signal.SIGKILL)
 
 
 def stop(signal_number, _frame):
@@ -126,10 +135,7 @@ def stop(signal_number, _frame):
         signal.signal(each, signal.SIG_IGN)
     with State.lock:
         State.is_stopping = True
-        for process in State.running:
-            tell(process, signal.SIGTERM)
-        for process in State.running:
-            kill(process)
+        kill(State.running)
     sys.exit(128 + signal_number)
 
 
@@ -205,12 +211,14 @@ def run(command, text, seconds, most, are_errors_shown=False):
     try:
         found, said, stopped = gather(process, deadline, most)
         if stopped:
-            kill(process)
+            kill([process])
         status = process.wait(max(0, deadline - time.monotonic()) if not stopped else None)
     except subprocess.TimeoutExpired:
-        kill(process)
+        kill([process])
         status, stopped = process.wait(), "it took too long, and was stopped"
     finally:
+        # What it left behind, though it ended by itself.
+        tell(process, signal.SIGKILL)
         with State.lock:
             State.running.discard(process)
         for pipe in (process.stdout, process.stderr):

@@ -10,7 +10,7 @@ import running
 import model
 import random_scripts
 
-LINES = ("only=", "machine=", "mood=", "refused=")
+LINES = ("only=", "without=", "machine=", "mood=", "refused=")
 SEEDS = (1 << 64) - 1
 MOST_LINES = 100_000
 
@@ -22,6 +22,7 @@ class Draw(NamedTuple):
     sizes: tuple = None
     mood: str = None
     refused: int = None
+    without: tuple = ()
 
 
 def draw_of(given):
@@ -32,12 +33,14 @@ def draw_of(given):
     return Draw(
         answers.forms_of(given["only"]) if "only" in given else None,
         answers.sizes_of(given["machine"]) if "machine" in given else None, mood,
-        running.number(refused, "PERCENT", 0, 80) if refused is not None else None)
+        running.number(refused, "PERCENT", 0, 80) if refused is not None else None,
+        tuple(given["without"].split(",")) if "without" in given else ())
 
 
 class Filter:
-    """Which lines of a random script are said: of some forms alone, and of those that are refused a
-    share. A line that is refused changes nothing, so any may be left out."""
+    """Which lines of a random script are said: of some forms alone, without those that fit some
+    patterns, but for `machine`, and of those that are refused a share. A line that is refused
+    changes nothing, so any may be left out."""
 
     def __init__(self, draw):
         self.draw = draw
@@ -47,7 +50,10 @@ class Filter:
     def keeps(self, text):
         """Says whether a line is said, and what a model answers."""
         line = answers.shown(text)
-        if self.draw.only and answers.form(line) not in self.draw.only:
+        form = answers.form(line)
+        if self.draw.only and form not in self.draw.only:
+            return False, None
+        if form != "machine" and any(answers.fits(line, pattern) for pattern in self.draw.without):
             return False, None
         answer = self.twin.answer(text)
         if answer is None:
@@ -69,6 +75,6 @@ class Filter:
 
 def script_of(seed, count, draw):
     """Gives the script of a seed, of so many lines, or of fewer where no more are wanted."""
-    is_filtered = draw.only or draw.refused is not None
+    is_filtered = draw.only or draw.without or draw.refused is not None
     return random_scripts.Generator(seed, count, mood=draw.mood, sizes=draw.sizes,
                                     filter_=Filter(draw) if is_filtered else None).script()

@@ -6,8 +6,6 @@ import answers
 MOST_RUNS = 2000
 # Two lines at most so far apart are tried to be left out together.
 NEAR = 8
-# From here on a number is spelled in hexadecimal.
-GREAT = 1 << 16
 # What is tried for each number of a machine.
 SMALLER = ((1, 2, 3), (0, 1, 2), (63, 127, 255, 511, 1023), (1, 8, 32))
 
@@ -103,7 +101,7 @@ class Shrinker:
         """Spells great numbers as addresses are, and others without zeros in front."""
         def plain(word):
             value = answers.reading.number(word)
-            if value is None or word.isdigit() and value < GREAT:
+            if value is None or word.isdigit() and value < answers.GREAT:
                 return word
             return b"0x%x" % value
         self.takes([b" ".join(map(plain, text.split(b" "))) for text in self.texts])

@@ -302,7 +302,7 @@ def machine():
 
 def rendered():
     """Gives each picture by its file's name."""
-    script = drawing.in_svg(DRAWN.read_bytes(), FIRST, LAST, DRAWN.name)
+    script = drawing.in_svg(*drawing.watched(DRAWN.read_bytes(), FIRST, LAST), DRAWN.name)
     return {"machine.svg": machine(), f"{DRAWN.stem}.svg": script} | {
         f"{kind}.svg": picture_of(kind) for kind in KINDS}
 

@@ -494,5 +494,15 @@ def answers(script):
     return "".join(answer + "\n" for answer in found).encode()
 
 
+def replay():
+    """Answers each line of standard input before it reads the next one, as lockstep needs."""
+    one = Script()
+    for line in sys.stdin.buffer:
+        answer = one.answer(line.removesuffix(b"\n"))
+        if answer is not None:
+            sys.stdout.buffer.write(answer.encode() + b"\n")
+            sys.stdout.buffer.flush()
+
+
 if __name__ == "__main__":
-    sys.stdout.buffer.write(answers(sys.stdin.buffer.read()))
+    replay()

@@ -722,4 +722,4 @@ if __name__ == "__main__":
         print(__doc__, file=sys.stderr)
         sys.exit(2)
     plant(sys.argv[1])
-    sys.stdout.buffer.write(model.answers(sys.stdin.buffer.read()))
+    model.replay()
