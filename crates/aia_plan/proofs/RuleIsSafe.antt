@@ -150,7 +150,7 @@ pub record TakesLate (w : ℕ) (plan : Plan) : Type 0 where
   pub fence : comes_before Fence (TakeP w) plan ≡ true
   pub gfence : comes_before GFence (TakeP w) plan ≡ true
 
-all_late : (words : ℕ) (plan : Plan) → takes_late words plan ≡ true → (w : ℕ) → w < words → TakesLate w plan
+pub all_late : (words : ℕ) (plan : Plan) → takes_late words plan ≡ true → (w : ℕ) → w < words → TakesLate w plan
 all_late words plan e w low =
     let here = below_passes (λ w. is_once (TakeP w) plan && comes_before Fence (TakeP w) plan && comes_before GFence (TakeP w) plan) words w e low in
     let p2 = and_parts _ (comes_before GFence (TakeP w) plan) here in
@@ -168,7 +168,7 @@ pub record Keeps (kind : Kind) (words : ℕ) (plan : Plan) : Type 0 where
   pub pending : puts_at_once plan ≡ true
   pub enables : moves_enables words plan ≡ true
 
-keeps_all : (kind : Kind) (words : ℕ) (plan : Plan) → failing kind words plan ≡ None → Keeps kind words plan
+pub keeps_all : (kind : Kind) (words : ℕ) (plan : Plan) → failing kind words plan ≡ None → Keeps kind words plan
 keeps_all kind words plan e =
     let p1 = passed (turns_routes kind plan) 1 (first_failing 2 (takes_late words plan ∷ puts_at_once plan ∷ moves_enables words plan ∷ [])) e in
     let p2 = passed (takes_late words plan) 2 (first_failing 3 (puts_at_once plan ∷ moves_enables words plan ∷ [])) p1.1 in

@@ -1,0 +1,4 @@
+mod Onward
+mod RoutesKept
+mod WordsKept
+pub mod TieLemmas
