@@ -19,6 +19,8 @@ MACHINE_LEVEL, SUPERVISOR, GUEST = 3, 1, 5
 ENVIRONMENT_CALLS = {8, 9, 10, 11}
 WRITING = {"write": 1, "set": 2, "clear": 3}
 TIME_LIMIT = 20
+# Memory that QEMU gets is filled with 0x03, the complement of this number's byte.
+FILLED = "glibc.malloc.perturb=252:glibc.malloc.tcache_count=0"
 
 
 def instruction(csr, operation):
@@ -69,7 +71,7 @@ class Machine:
     """One machine: `aia` is aplic-imsic, where both domains deliver by MSIs, or aplic, where there
     are no interrupt files."""
 
-    def __init__(self, stub, harts, guests, aia):
+    def __init__(self, stub, harts, guests, aia, is_filled=False):
         self.process = None
         self.channels = []
         tests, tests_end = self.pair()
@@ -83,6 +85,7 @@ class Machine:
              "-chardev", f"socket,id=monitor,fd={monitor_end.fileno()}",
              "-mon", "chardev=monitor"],
             stdin=subprocess.DEVNULL, stdout=subprocess.DEVNULL, stderr=subprocess.DEVNULL,
+            env={**os.environ, **({"GLIBC_TUNABLES": FILLED} if is_filled else {})},
             pass_fds=(tests_end.fileno(), monitor_end.fileno()))
         tests_end.close()
         monitor_end.close()
