@@ -121,5 +121,5 @@ def hold(program, known, subjects, seeds, seconds, make, foresee, answer):
             script = make(subject, seed)
             wanted = program_answers(program, script)
             tally.script(f"{subject} {seed}", subject, script, wanted, foresee(subject, script),
-                         answer(subject, script))
+                         answer(subject, script, seed))
     return tally.show()

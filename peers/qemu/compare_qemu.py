@@ -35,7 +35,7 @@ def main(program, stub, scripts, seed):
             program, HERE / "known.txt", SUBJECTS, range(seed, seed + scripts), SECONDS,
             lambda subject, number: random_script(subject, number, LINES),
             lambda subject, script: rules.told(script, subject == "direct"),
-            lambda subject, script: answers(stub, subject, script))
+            lambda subject, script, _: answers(stub, subject, script))
     except (held.Stopped, Failed, Untold) as stopped:
         print(f"compare_qemu: {stopped}", file=sys.stderr)
         return 2

@@ -1,16 +1,17 @@
 """Random scripts that can be told to QEMU, by subject: those of the model written apart, with the
 sizes of QEMU's machine and without the lines of which it has nothing."""
 
-import re
 import sys
 from pathlib import Path
 
-sys.path.insert(0, str(Path(__file__).resolve().parents[1] / "apart"))
+HERE = Path(__file__).resolve().parent
+sys.path[:0] = [str(HERE.parent), str(HERE.parent / "apart")]
 
 import reading
 import vocabulary as say
 from bridge import CHILD, GREATEST, REGION_BYTES, ROOT, SOURCES
 from random_scripts import Generator
+from spelling import spelled_alike
 
 # What each subject is about, as a mood of the generator.
 SUBJECTS = {"files": "files", "msi": "aplic", "direct": "aplic", "moves": "moves",
@@ -23,15 +24,6 @@ SETUP = ((ROOT + 0x1bc0, 0x24000), (ROOT + 0x1bc4, 0x2000), (ROOT + 0x1bc8, 0x28
          (ROOT + 0x1bcc, 0x500000), (ROOT, DELIVERY_BY_MSI), (CHILD, DELIVERY_BY_MSI))
 say.MOOD_WEIGHTS["files"] = {say.host: 40, say.machine_level: 30, say.host_file_store: 30,
                              say.pins: 14, say.host_look: 8, say.elsewhere: 4}
-
-
-NUMBER = re.compile(rb"\b(0x[0-9a-f]+|[0-9]+)\b")
-
-
-def spelled(found):
-    """A number, spelled in one way, so that patterns of lines fit."""
-    value = int(found[0], 16) if found[0].startswith(b"0x") else int(found[0])
-    return b"%d" % value if value < 256 and not found[0].startswith(b"0x") else b"%#x" % value
 
 
 class Theirs(Generator):
@@ -57,7 +49,7 @@ class Theirs(Generator):
         line = reading.read(text)
         if line is None or line[0] in UNTOLD_FORMS:
             return None
-        text = NUMBER.sub(spelled, text)
+        text = spelled_alike(text)
         form, fields = line
         if form == "machine":
             if self.is_set_up or fields != [self.harts, self.guests, GREATEST, SOURCES]:
