@@ -14,7 +14,7 @@ from random_scripts import Generator
 from spelling import spelled_alike
 
 ROOT, CHILD, REGION_BYTES = 0x0c000000, 0x0c008000, 0x8000
-MACHINE_FILES, FILES = 0x24000000, 0x28000000
+FILES = 0x28000000
 DELIVERY_BY_MSI = 4
 MOST_GUESTS, MOST_SOURCES = 7, 60
 ADDRESSES = ((0x1bc0, 0x24000), (0x1bc4, 0x2000), (0x1bc8, 0x28000), (0x1bcc, 0x500000))
