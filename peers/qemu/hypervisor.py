@@ -98,13 +98,15 @@ class Hypervisor(Machine):
     # What a virtual hart does.
 
     def g(self, vm, number, csr, operation, operand):
+        """Its hart gets what is the virtual hart's, does the instruction at the guest's level, and
+        gives back what that may have changed."""
         hart = self.hart_named(vm, number)
         if hart.home != RESIDENT:
             return super().g(vm, number, csr, operation, operand)
         majors, place = hart.majors, hart.origin
         before = [(HSTATUS, place[1] << 12), (VSISELECT, hart.file.select),
-                  (HVIP, majors.injected << 1), (HVICTL, majors.hvictl), (HVIPRIO1, majors.hviprio1),
-                  (VSIE, majors.enabled)]
+                  (HVIP, majors.injected << 1), (HVICTL, majors.hvictl),
+                  (HVIPRIO1, majors.hviprio1), (VSIE, majors.enabled)]
         entries = [(MACHINE_LEVEL, instruction(name, "write"), value) for name, value in before]
         entries.append((GUEST, instruction(GUEST_CSRS[csr], operation), operand))
         entries += [(MACHINE_LEVEL, instruction(name, "read"), 0) for name in (VSISELECT, HVIP)]

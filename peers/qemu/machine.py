@@ -30,6 +30,18 @@ def instruction(csr, operation):
     return csr << 20 | 10 << 15 | WRITING[operation] << 12 | 11 << 7 | 0x73
 
 
+def command(stub, harts, guests, aia, tests, monitor):
+    """QEMU with its words; it ends with the process that started it. `tests` and `monitor` are the
+    descriptors on which it takes commands."""
+    machine = f"virt,aia={aia}" + (f",aia-guests={guests}" if guests else "")
+    return ["setpriv", "--pdeathsig", "KILL", QEMU, "-M", machine, "-smp", str(harts), "-m", "16M",
+            "-bios", "none", "-kernel", stub, "-accel", "tcg,thread=single", "-nodefaults",
+            "-display", "none", "-serial", "none",
+            "-chardev", f"socket,id=tests,fd={tests}",
+            "-object", "qtest,id=qtest,chardev=tests,log=none",
+            "-chardev", f"socket,id=monitor,fd={monitor}", "-mon", "chardev=monitor"]
+
+
 class Failed(Exception):
     """QEMU ended, or did not answer in time."""
 
@@ -76,17 +88,11 @@ class Machine:
         self.channels = []
         tests, tests_end = self.pair()
         monitor, monitor_end = self.pair()
-        options = f"virt,aia={aia}" + (f",aia-guests={guests}" if guests else "")
+        ends = tests_end.fileno(), monitor_end.fileno()
+        environment = {**os.environ, **({"GLIBC_TUNABLES": FILLED} if is_filled else {})}
         self.process = subprocess.Popen(
-            ["setpriv", "--pdeathsig", "KILL", QEMU, "-M", options, "-smp", str(harts), "-m", "16M", "-bios", "none", "-kernel", stub,
-             "-accel", "tcg,thread=single", "-display", "none", "-serial", "none", "-nodefaults",
-             "-chardev", f"socket,id=tests,fd={tests_end.fileno()}",
-             "-object", "qtest,id=qtest,chardev=tests,log=none",
-             "-chardev", f"socket,id=monitor,fd={monitor_end.fileno()}",
-             "-mon", "chardev=monitor"],
-            stdin=subprocess.DEVNULL, stdout=subprocess.DEVNULL, stderr=subprocess.DEVNULL,
-            env={**os.environ, **({"GLIBC_TUNABLES": FILLED} if is_filled else {})},
-            pass_fds=(tests_end.fileno(), monitor_end.fileno()))
+            command(stub, harts, guests, aia, *ends), env=environment, pass_fds=ends,
+            stdin=subprocess.DEVNULL, stdout=subprocess.DEVNULL, stderr=subprocess.DEVNULL)
         tests_end.close()
         monitor_end.close()
         self.tests = tests

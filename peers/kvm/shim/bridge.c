@@ -5,8 +5,8 @@
    guest files of the simulated CPUs, where KVM's own code moves them; while one runs from memory it
    has its software file. What comes of a line that KVM leaves to user space is `user`.
 
-   bridge [SEED]: with a SEED stores that follow a move in the script come within it, at moments that
-   the number says. */
+   bridge [SEED]: with a SEED stores that follow a move in the script come within it, at moments
+   that the number says. */
 #include <machine.h>
 
 #define MOST_LINES 100000
@@ -24,7 +24,7 @@
 static char lines[MOST_LINES][LINE_BYTES];
 static int line_count, next_line;
 static struct kvm *machine, *guests;
-static unsigned long selects[2][KVM_MAX_VCPUS];	/* siselect of each virtual CPU of both */
+static unsigned long selects[2][KVM_MAX_VCPUS];	/* siselect of the virtual CPUs of both */
 static int places[KVM_MAX_VCPUS][2];	/* CPU and file of a resident virtual CPU, else file 0 */
 static unsigned long mask;
 static unsigned long draw_state;

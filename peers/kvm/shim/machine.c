@@ -2,8 +2,9 @@
 #include <machine.h>
 
 #define SELECT_BITS 0xfff
-#define PLACE_OF_CPU 16		/* the place of file f of CPU c is PLACES + (c << 16) + (f << 12) */
+/* The place of file f of CPU c is PLACES + (c << PLACE_OF_CPU) + (f << 12). */
 #define PLACES 0x100000UL
+#define PLACE_OF_CPU 16
 
 int peer_cpu, peer_spinlocks, greatest_identity;
 static int file_count;		/* guest files of each CPU */
