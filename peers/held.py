@@ -6,7 +6,10 @@ with a TAB between: the pattern of the line, that of the program's answer, that 
 a regular expression for all of it, and the reason, a heading of docs/PEERS.md.
 """
 
+import os
 import re
+import selectors
+import subprocess
 import sys
 import time
 from collections import Counter
@@ -14,10 +17,10 @@ from pathlib import Path
 
 sys.path.insert(0, str(Path(__file__).resolve().parent / "apart"))
 
-import compare
 import reading
 
 ANY = "-"
+TIME_LIMIT, OUTPUT_LIMIT = 60, 16 << 20
 
 
 class Stopped(Exception):
@@ -46,17 +49,36 @@ def reason(known, line, wanted, got):
     return None
 
 
+def printed(command, script):
+    """What a command prints for a script, within limits of time and bytes."""
+    source = os.memfd_create("script")
+    os.write(source, script)
+    os.lseek(source, 0, os.SEEK_SET)
+    deadline, found = time.monotonic() + TIME_LIMIT, bytearray()
+    with subprocess.Popen(["setpriv", "--pdeathsig", "KILL", *command], stdin=source,
+                          stdout=subprocess.PIPE, stderr=subprocess.DEVNULL) as process:
+        os.close(source)
+        waits = selectors.DefaultSelector()
+        waits.register(process.stdout, selectors.EVENT_READ)
+        while waits.select(max(0, deadline - time.monotonic())) and len(found) <= OUTPUT_LIMIT:
+            piece = os.read(process.stdout.fileno(), 65536)
+            if not piece:
+                if process.wait(TIME_LIMIT):
+                    raise Stopped(f"{command[0]} ended with status {process.returncode}")
+                return bytes(found)
+            found += piece
+        process.kill()
+    raise Stopped(f"{command[0]} prints too much, or takes more than {TIME_LIMIT} seconds")
+
+
 def lines_of(script):
     """The lines of a script that have an answer."""
     return [text for text in reading.texts(script) if reading.read(text) is not None]
 
 
-def program_answers(program, script):
-    """What the program answers, line by line."""
-    found, ended = compare.run(program, script)
-    if ended:
-        raise Stopped(f"the program ended with {ended}")
-    return found.decode().split("\n")[:-1]
+def answers_of(command, script):
+    """What a command answers, line by line."""
+    return printed(command, script).decode(errors="backslashreplace").split("\n")[:-1]
 
 
 class Tally:
@@ -110,6 +132,14 @@ def counted(counts):
     return "; ".join(f"{counts[word]} {word}" for word in words)
 
 
+def words_of(arguments, usage):
+    """PROGRAM, WHAT, SCRIPTS and SEED, of the command line; else the usage is printed, and None."""
+    if len(arguments) == 4 and all(re.fullmatch("[0-9]{1,9}", word) for word in arguments[2:]):
+        return arguments[0], arguments[1], int(arguments[2]), int(arguments[3])
+    print(usage, file=sys.stderr)
+    return None
+
+
 def hold(program, known, subjects, seeds, seconds, make, foresee, answer):
     """Compares over scripts of each subject and seed: `make` gives a script, `foresee` what the
     peer's rules say, `answer` what the peer says."""
@@ -119,7 +149,7 @@ def hold(program, known, subjects, seeds, seconds, make, foresee, answer):
             if time.monotonic() > deadline:
                 raise Stopped(f"it took more than {seconds} seconds")
             script = make(subject, seed)
-            wanted = program_answers(program, script)
+            wanted = answers_of([program, "replay"], script)
             tally.script(f"{subject} {seed}", subject, script, wanted, foresee(subject, script),
                          answer(subject, script, seed))
     return tally.show()

@@ -5,7 +5,6 @@ SCRIPTS of each subject, from the number SEED on. Of moves the stores that follo
 come within it, on KVM's side.
 """
 
-import subprocess
 import sys
 from pathlib import Path
 
@@ -18,23 +17,19 @@ from scripts import SUBJECTS, random_script
 
 LINES = 600
 SECONDS = 1500
-TIME_LIMIT = 60
 
 
 def answers(bridge, subject, script, seed):
     """What KVM answers."""
     words = [str(seed)] if subject == "moves" else []
-    try:
-        done = subprocess.run(["qemu-riscv64", bridge, *words], input=script, check=False,
-                              stdout=subprocess.PIPE, timeout=TIME_LIMIT)
-    except subprocess.TimeoutExpired as late:
-        raise held.Stopped(f"{subject} {seed}: the bridge is too slow") from late
-    if done.returncode:
-        raise held.Stopped(f"{subject} {seed}: the bridge ended with {done.returncode}")
-    return done.stdout.decode().split("\n")[:-1]
+    return held.answers_of(["qemu-riscv64", bridge, *words], script)
 
 
-def main(program, bridge, scripts, seed):
+def main():
+    words = held.words_of(sys.argv[1:], __doc__)
+    if not words:
+        return 2
+    program, bridge, scripts, seed = words
     try:
         is_explained = held.hold(
             program, HERE / "known.txt", SUBJECTS, range(seed, seed + scripts), SECONDS,
@@ -48,4 +43,4 @@ def main(program, bridge, scripts, seed):
 
 
 if __name__ == "__main__":
-    sys.exit(main(*sys.argv[1:3], *map(int, sys.argv[3:])))
+    sys.exit(main())

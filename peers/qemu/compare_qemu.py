@@ -29,7 +29,11 @@ def answers(stub, subject, script):
         bridge.close()
 
 
-def main(program, stub, scripts, seed):
+def main():
+    words = held.words_of(sys.argv[1:], __doc__)
+    if not words:
+        return 2
+    program, stub, scripts, seed = words
     try:
         is_explained = held.hold(
             program, HERE / "known.txt", SUBJECTS, range(seed, seed + scripts), SECONDS,
@@ -43,4 +47,4 @@ def main(program, stub, scripts, seed):
 
 
 if __name__ == "__main__":
-    sys.exit(main(*sys.argv[1:3], *map(int, sys.argv[3:])))
+    sys.exit(main())
