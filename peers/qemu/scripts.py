@@ -1,6 +1,7 @@
 """Random scripts that can be told to QEMU, by subject: those of the model written apart, with the
 sizes of QEMU's machine and without the lines of which it has nothing."""
 
+import random
 import sys
 from pathlib import Path
 
@@ -13,13 +14,14 @@ from bridge import CHILD, GREATEST, REGION_BYTES, ROOT, SOURCES
 from random_scripts import Generator
 from spelling import spelled_alike
 
-# What each subject is about, as a mood of the generator.
+# What each subject is about, as a mood of the generator; `addresses` has scripts of its own.
 SUBJECTS = {"files": "files", "msi": "aplic", "direct": "aplic", "moves": "moves",
             "running": "running", "images": "images",
-            "majors": "majors", "everything": "everything"}
+            "majors": "majors", "addresses": None, "everything": "everything"}
 DIRECT_FORMS = {"machine", "st", "ld", "wire", "pins"}
 UNTOLD_FORMS = {"bad", "pass", "again"}
 DELIVERY_BY_MSI = 4
+ADDRESS_OFFSETS = (0x1bc0, 0x1bc4, 0x1bc8, 0x1bcc)
 SETUP = ((ROOT + 0x1bc0, 0x24000), (ROOT + 0x1bc4, 0x2000), (ROOT + 0x1bc8, 0x28000),
          (ROOT + 0x1bcc, 0x500000), (ROOT, DELIVERY_BY_MSI), (CHILD, DELIVERY_BY_MSI))
 say.MOOD_WEIGHTS["files"] = {say.host: 40, say.machine_level: 30, say.host_file_store: 30,
@@ -77,13 +79,32 @@ class Theirs(Generator):
     def put_register(self, address, value):
         """DM is what QEMU has, and the registers of MSI addresses stay."""
         offset = address % REGION_BYTES
-        if 0x1bc0 <= offset <= 0x1bcc:
+        if offset in ADDRESS_OFFSETS:
             return None
         if offset == 0:
             value = value & ~DELIVERY_BY_MSI if self.is_direct else value | DELIVERY_BY_MSI
         return super().put(f"st {address:#x} {value:#x}".encode())
 
 
+def addresses_script(seed, count):
+    """Stores to the registers of MSI addresses of both domains, now and then with the lock, and
+    loads; no MSI is sent. A distance that is QEMU's own would be told to it as it tells ours."""
+    draw = random.Random(f"addresses {seed}")
+    guests = draw.choice((1, 2, 3, 7))
+    lines = [f"machine 1 {guests} {GREATEST} {SOURCES}", f"st {ROOT:#x} 0x4", f"st {CHILD:#x} 0x4"]
+    while len(lines) < count:
+        offset = draw.choice(ADDRESS_OFFSETS)
+        address = draw.choice((ROOT, ROOT, ROOT, CHILD)) + offset
+        value = draw.getrandbits(32) & (0xffffffff if draw.random() < 0.02 else 0x7fffffff)
+        if value >> 20 & 7 == guests.bit_length():
+            value = value & ~0x700000 | 0x500000
+        lines += [f"st {address:#x} {value:#x}", f"ld {address:#x}",
+                  f"ld {ROOT + draw.choice(ADDRESS_OFFSETS):#x}"]
+    return "".join(line + "\n" for line in lines[:count]).encode()
+
+
 def random_script(subject, seed, count):
     """The script of a subject and a seed."""
+    if subject == "addresses":
+        return addresses_script(seed, count // 4)
     return Theirs(subject, seed, count).script()
