@@ -34,7 +34,6 @@ class Theirs(Generator):
     def __init__(self, subject, seed, count):
         self.is_direct = subject == "direct"
         self.is_set_up = False
-        self.model_domains = subject in ("msi", "direct")
         super().__init__(seed, count, mood=SUBJECTS[subject])
 
     def set_sizes(self):
@@ -54,14 +53,7 @@ class Theirs(Generator):
         text = spelled_alike(text)
         form, fields = line
         if form == "machine":
-            if self.is_set_up or fields != [self.harts, self.guests, GREATEST, SOURCES]:
-                return None
-            self.is_set_up = True
-            answer = super().put(text)
-            for address, value in SETUP:
-                if not self.is_direct:
-                    super().put(f"st {address:#x} {value:#x}".encode())
-            return answer
+            return self.put_machine(text, fields)
         if form == "inject" and fields[2] == 13 or form == "load_majors" and (
                 (fields[2] | fields[3]) & 1 << 13):
             return None
@@ -70,6 +62,16 @@ class Theirs(Generator):
         if form == "st" and ROOT <= fields[0] < CHILD + REGION_BYTES:
             return self.put_register(fields[0], fields[1])
         return super().put(text)
+
+    def put_machine(self, text, fields):
+        """The machine of this script, with what makes its domains deliver as QEMU's do."""
+        if self.is_set_up or fields != [self.harts, self.guests, GREATEST, SOURCES]:
+            return None
+        self.is_set_up = True
+        answer = super().put(text)
+        for address, value in () if self.is_direct else SETUP:
+            super().put(f"st {address:#x} {value:#x}".encode())
+        return answer
 
     def is_direct_line(self, form, fields):
         """Without interrupt files there are the APLIC's registers, wires and signals alone."""
