@@ -79,12 +79,15 @@ class Theirs(Generator):
                                          or ROOT <= fields[0] < CHILD + REGION_BYTES)
 
     def put_register(self, address, value):
-        """DM is what QEMU has, and the registers of MSI addresses stay."""
+        """DM is what QEMU has, the registers of MSI addresses stay, and no target of the child
+        leads to a guest file, since whoever is there would get what the model gives to nobody."""
         offset = address % REGION_BYTES
         if offset in ADDRESS_OFFSETS:
             return None
         if offset == 0:
             value = value & ~DELIVERY_BY_MSI if self.is_direct else value | DELIVERY_BY_MSI
+        if address > CHILD and 0x3000 < offset < 0x4000 and not self.is_direct:
+            value &= ~((1 << self.guests.bit_length()) - 1 << 12)
         return super().put(f"st {address:#x} {value:#x}".encode())
 
 

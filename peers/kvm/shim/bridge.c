@@ -41,6 +41,22 @@ static unsigned long draw(void)
 	return draw_state >> 33;
 }
 
+/* A line of which KVM has nothing, or that names what is not there, ends the run. */
+static void refuse(const char *line)
+{
+	fprintf(stderr, "bridge: KVM has nothing of %s\n", line);
+	exit(2);
+}
+
+static struct kvm_vcpu *vcpu_of(struct kvm *kvm, const char *word)
+{
+	unsigned long index = number(word);
+
+	if (!kvm || index >= (unsigned long)kvm->online_vcpus.counter)
+		refuse(word);
+	return kvm->vcpus[index];
+}
+
 static void wide(unsigned long value)
 {
 	printf("0x%016lx\n", value);
@@ -160,10 +176,15 @@ static void store_of_line(const char *line)
 	unsigned long vm, address, value;
 	int from, to;
 
+	if (!guests)
+		refuse(line);
 	if (sscanf(line, "msi %li %li %li", &vm, &address, &value) == 3)
 		device_store(address, value);
-	else if (sscanf(line, "g %li %i ipi %i %li", &vm, &from, &to, &value) == 4)
+	else if (sscanf(line, "g %li %i ipi %i %li", &vm, &from, &to, &value) == 4 &&
+		 kvm_get_vcpu(guests, (unsigned int)from) && kvm_get_vcpu(guests, (unsigned int)to))
 		peer_store(from, to, value);
+	else
+		refuse(line);
 	puts("ok");
 }
 
@@ -200,9 +221,9 @@ static void gather_stores(int moving)
 	}
 }
 
-static void move(int index, int cpu)
+static void move(struct kvm_vcpu *vcpu, int cpu)
 {
-	struct kvm_vcpu *vcpu = guests->vcpus[index];
+	int index = vcpu->vcpu_id;
 
 	puts("ok");
 	gather_stores(index);
@@ -249,7 +270,8 @@ static void load(unsigned long address)
 
 static void guest_access(char **words, int count)
 {
-	int index = number(words[2]), *place = places[index];
+	struct kvm_vcpu *vcpu = vcpu_of(guests, words[2]);
+	int index = vcpu->vcpu_id, *place = places[index];
 	enum peer_operation operation = operation_of(words[3]);
 	unsigned long value = count > 5 ? number(words[5]) : 0, *select = &selects[1][index];
 
@@ -257,28 +279,31 @@ static void guest_access(char **words, int count)
 		direct_access(&guest_files[place[0]][place[1]], select, words[4], operation,
 			      value);
 	else
-		software_access(guests->vcpus[index], select, words[4], operation, value);
+		software_access(vcpu, select, words[4], operation, value);
 }
 
 static void hart_line(char **words, int count)
 {
-	int index = number(words[1]);
+	struct kvm_vcpu *vcpu = vcpu_of(machine, words[1]);
+	int index = vcpu->vcpu_id;
 
 	if (!strcmp(words[0], "pins")) {
-		printf("pins 0 0 0 %lu\n",
-		       machine->vcpus[index]->arch.irqs_pending >> IRQ_VS_EXT & 1);
+		printf("pins 0 0 0 %lu\n", vcpu->arch.irqs_pending >> IRQ_VS_EXT & 1);
 	} else if (!strcmp(words[2], "hgeip")) {
 		peer_cpu = index;
 		wide(peer_csr(CSR_HGEIP, PEER_READ, 0));
 		peer_cpu = 0;
 	} else {
-		software_access(machine->vcpus[index], &selects[0][index], words[3],
-				operation_of(words[2]), count > 4 ? number(words[4]) : 0);
+		software_access(vcpu, &selects[0][index], words[3], operation_of(words[2]),
+				count > 4 ? number(words[4]) : 0);
 	}
 }
 
 static void begin(char **words)
 {
+	if (number(words[1]) - 1 >= PEER_CPUS || number(words[2]) > GUEST_FILES ||
+	    number(words[3]) >= 64 * FILE_WORDS)
+		refuse("such a machine");
 	machine_begins(number(words[3]), number(words[2]));
 	machine = make_vm(number(words[1]), number(words[4]), KVM_DEV_RISCV_AIA_MODE_EMUL,
 			  MACHINE_GUEST_BITS, CHILD_DOMAIN);
@@ -290,13 +315,15 @@ static bool guest_line(char **words, int count)
 	const char *form = words[0];
 
 	if (!strcmp(form, "vm")) {
+		if (guests || number(words[1]) - 1 >= KVM_MAX_VCPUS)
+			refuse("such a VM, or a second one");
 		mask = number(words[2]);
 		guests = make_vm(number(words[1]), 0, KVM_DEV_RISCV_AIA_MODE_AUTO, 0, 0);
 		puts("ok");
 	} else if (!strcmp(form, "arrive") || !strcmp(form, "shift")) {
-		move(number(words[2]), number(words[3]));
+		move(vcpu_of(guests, words[2]), number(words[3]) % PEER_CPUS);
 	} else if (!strcmp(form, "leave")) {
-		move(number(words[2]), -1);
+		move(vcpu_of(guests, words[2]), -1);
 	} else if (!strcmp(form, "enter") || !strcmp(form, "exit")) {
 		puts("ok");	/* KVM lets a parked one run from its software file always */
 	} else if (!strcmp(form, "g")) {
@@ -307,6 +334,21 @@ static bool guest_line(char **words, int count)
 	return true;
 }
 
+/* How many words a line of each form has at least; of others KVM has nothing. */
+static int least_words(const char *form)
+{
+	static const struct { const char *form; int words; } forms[] = {
+		{ "machine", 5 }, { "vm", 4 }, { "arrive", 4 }, { "shift", 4 }, { "leave", 3 },
+		{ "enter", 3 }, { "exit", 3 }, { "g", 5 }, { "msi", 4 }, { "wire", 3 },
+		{ "st", 3 }, { "ld", 2 }, { "pins", 2 }, { "h", 3 },
+	};
+
+	for (unsigned int at = 0; at < ARRAY_SIZE(forms); at++)
+		if (!strcmp(form, forms[at].form))
+			return forms[at].words;
+	return MOST_WORDS + 1;
+}
+
 static void answer(const char *line)
 {
 	char text[LINE_BYTES], *words[MOST_WORDS + 1] = { NULL };
@@ -315,6 +357,10 @@ static void answer(const char *line)
 	strcpy(text, line);
 	for (char *word = strtok(text, " "); word && count < MOST_WORDS; word = strtok(NULL, " "))
 		words[count++] = word;
+	if (!count || count < least_words(words[0]) ||
+	    !machine == !!strcmp(words[0], "machine") || (*line == 'h' && count == 3 &&
+							  strcmp(words[2], "hgeip")))
+		refuse(line);
 	if (is_store(line))
 		store_of_line(line);
 	else if (guest_line(words, count))
@@ -327,10 +373,8 @@ static void answer(const char *line)
 		store(number(words[1]), number(words[2]));
 	else if (!strcmp(words[0], "ld"))
 		load(number(words[1]));
-	else if (!strcmp(words[0], "pins") || !strcmp(words[0], "h"))
-		hart_line(words, count);
 	else
-		fprintf(stderr, "bridge: KVM has nothing of %s\n", line), exit(2);
+		hart_line(words, count);
 }
 
 int main(int count, char **arguments)
