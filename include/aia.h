@@ -75,7 +75,7 @@ enum aia_code {
     AIA_G_FAULT = 49     /* gfault */
 };
 
-/* The longest answer, in bytes, with its LF. */
+/* Room that is enough for any answer with its LF, in bytes. */
 #define AIA_ANSWER 64
 
 /* CSR instructions, by their funct3: 0 is `csrr`, which reads alone. */
