@@ -1,5 +1,6 @@
 /* The library from C: a device stores two identities, and the hart claims them by stopei.
- * `examples/check-library` builds it: cc -I include examples/library.c crates/aia_c/out/libaia_c.a ..
+ * `examples/check-library` builds it, with the folder that `library` fills: cc library.c -I FOLDER
+ * FOLDER/libaia.a
  */
 #include "aia.h"
 

@@ -3,7 +3,8 @@
 
     library.py LIBRARY SCRIPT
 
-LIBRARY is the shared object that `examples/check-library` builds.
+LIBRARY is the shared object, libaia.so, in the folder that `library` fills. A number without a type
+of ctypes goes as one of 32 bits.
 """
 
 import ctypes

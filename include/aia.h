@@ -2,7 +2,8 @@
  *
  * A handle is one model. Its calls answer what the program `aia` answers to the same lines: after
  * whatever lines a handle was given, by whichever calls, each answer is the model's. What a line
- * says, and what is answered, docs/REFERENCE.md tells; what is proved of the calls, docs/PROMISES.md.
+ * says, and what is answered, docs/REFERENCE.md tells; what is proved of the calls,
+ * docs/promises/library.md.
  *
  *     struct aia *model = NULL;
  *     if (aia_open(&model) == AIA_DONE && aia_machine(&model, 1, 0, 63, 1) == AIA_DONE)
@@ -10,16 +11,20 @@
  *     aia_close(&model);
  *
  * What the caller owes:
- * - A handle is NULL before it is opened first, and nothing else writes it. There is one of each: it
- *   may be moved, and never copied and used twice.
+ * - A handle is NULL before it is opened first, and nothing else writes it. There is one of each:
+ *   it may be moved, and never copied and used twice.
  * - One call at a time on a handle. It may go from thread to thread, in an order that a lock, the
  *   start or end of a thread, or a sequentially consistent atomic makes. Handles share nothing.
- * - Pointers are not NULL, but those to handles' models; what they point to has the length that is
- *   said, and no two of a call overlap.
+ * - No pointer that is given to a call is NULL, not even one to 0 bytes; a handle that it points to
+ *   may be. Each is aligned as its type is. What it points to has the length that is said, at most
+ *   PTRDIFF_MAX, and no two of a call overlap. What a call only writes need not be set before. None
+ *   is kept after the call.
+ * - A bool is 0 or 1, from other languages too; integers have the widths that are declared.
  * - No call from a signal handler, or from the child of a process that had threads, after fork.
  * - malloc, realloc and free come from one allocator.
  *
- * Memory is taken by aia_open, and by the line that makes the machine, alone.
+ * Memory is taken by aia_open, and by the line that makes the machine, alone. No call prints, calls
+ * back or ends the program. They need some 10 KiB of stack.
  */
 #ifndef AIA_H
 #define AIA_H
@@ -36,7 +41,9 @@ extern "C" {
 struct aia;
 
 /* What a call says. Below 16 it says how the call went: after codes 1 to 5 nothing changed, and no
- * answer was written. From 16 on, and where it is AIA_DONE, it is the answer to the line. */
+ * answer was written, but by aia_replay, which did the lines that it says were taken. From 16 on,
+ * and where it is AIA_DONE, it is the answer to the line. Where two of 1 to 5 fit, either may
+ * come. */
 enum aia_code {
     AIA_DONE = 0,       /* the line did what it says, or the call did */
     AIA_NO_MEMORY = 1,  /* there is no memory */
@@ -47,7 +54,7 @@ enum aia_code {
     AIA_NO_MACHINE = 16, /* nomachine */
     AIA_AGAIN = 17,      /* again */
     AIA_MOVING = 18,     /* moving */
-    AIA_BAD = 19,        /* bad */
+    AIA_BAD = 19,        /* bad: of texts alone, so that no call answers it */
     AIA_RANGE = 32,      /* range */
     AIA_FULL = 33,       /* full */
     AIA_BUSY = 34,       /* busy */
@@ -68,7 +75,7 @@ enum aia_code {
     AIA_G_FAULT = 49     /* gfault */
 };
 
-/* The longest answer, in bytes, with its LF. */
+/* Room that is enough for any answer with its LF, in bytes. */
 #define AIA_ANSWER 64
 
 /* CSR instructions, by their funct3: 0 is `csrr`, which reads alone. */
@@ -97,9 +104,10 @@ void aia_close(struct aia **handle);
 
 /* ---- texts */
 
-/* Answers one line, of `length` bytes without its LF. Writes the answer, with its LF, and how many
- * bytes that are: 0 of an empty line or a comment, and after any code but AIA_DONE. What is behind
- * them stays as it was. AIA_DONE whatever the answer says, AIA_NO_MEMORY, AIA_CLOSED or AIA_NO_ROOM. */
+/* Answers one line, of `length` bytes without its LF: an LF in it is a byte like others, which no
+ * line has but a comment. Writes the answer, with its LF, and how many bytes that are: 0 of an
+ * empty line or a comment, and after any code but AIA_DONE. What is behind them stays as it was.
+ * AIA_DONE whatever the answer says, AIA_NO_MEMORY, AIA_CLOSED or AIA_NO_ROOM. */
 int32_t aia_line(struct aia **handle, const uint8_t *text, size_t length, uint8_t *answer,
                  size_t room, size_t *written);
 
@@ -107,7 +115,8 @@ int32_t aia_line(struct aia **handle, const uint8_t *text, size_t length, uint8_
  * or all of it, where a last line may have no LF; and how many bytes of answers were written. What
  * is behind them stays as it was. AIA_DONE where all was taken. AIA_NO_ROOM where less room than
  * AIA_ANSWER bytes was left before a line, AIA_NO_MEMORY at the line that makes the machine: call
- * again with the rest. AIA_CLOSED. */
+ * again with the rest, and with AIA_ANSWER bytes of room at least: with less no line is taken. A
+ * script that comes in pieces has to be cut behind an LF each time. AIA_CLOSED. */
 int32_t aia_replay(struct aia **handle, const uint8_t *script, size_t length, size_t *taken,
                    uint8_t *answers, size_t room, size_t *written);
 
@@ -125,8 +134,8 @@ int32_t aia_wire(struct aia **handle, uint64_t source, bool level);
 int32_t aia_store(struct aia **handle, uint64_t addr, uint32_t value);
 /* ld A */
 int32_t aia_load(struct aia **handle, uint64_t addr, uint32_t *value);
-/* pins H: bit 0 is the first of the four digits, of the APLIC's root domain; bit 1 its child's, bit 2
- * the machine-level file's, bit 3 the supervisor file's. */
+/* pins H: bit 0 is the first of the four digits, of the APLIC's root domain; bit 1 its child's,
+ * bit 2 the machine-level file's, bit 3 the supervisor file's. */
 int32_t aia_pins(struct aia **handle, uint64_t hart, uint32_t *pins);
 /* h H hgeip */
 int32_t aia_hgeip(struct aia **handle, uint64_t hart, uint64_t *value);

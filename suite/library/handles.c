@@ -1,6 +1,7 @@
 /* handles WHAT: tests of handles. WHAT is `edges`, what calls answer at the edges of their words;
- * `many`, 1,000 handles at once, each asked in turn; `long`, 10,000,000 lines on one handle; or
- * `threads`, one handle that goes through threads in order, and a handle each for four at once. */
+ * `codes`, each code of the header that a call answers, by its name there; `many`, 1,000 handles at
+ * once, each asked in turn; `long`, 10,000,000 lines on one handle; or `threads`, one handle that
+ * goes through threads in order, and a handle each for four at once. */
 #include "checks.h"
 
 #include <pthread.h>
@@ -91,6 +92,55 @@ static void edges(void)
     CHECK(answers(&moved, "ld 0", "") == false);
 }
 
+/* Each code from AIA_NO_MACHINE on but AIA_BAD, which texts alone are answered. AIA_NO_MEMORY is in
+ * no_memory.c, and the others below 16 are among the edges. */
+static void codes(void)
+{
+    struct aia *handle = NULL;
+    uint64_t wide;
+    uint32_t narrow;
+    int steps = 0;
+    CHECK(aia_open(&handle) == AIA_DONE);
+    CHECK(aia_load(&handle, 0, &narrow) == AIA_NO_MACHINE && narrow == 0);
+    CHECK(aia_machine(&handle, 5, 0, 63, 1) == AIA_RANGE);
+    CHECK(aia_machine(&handle, 2, 2, 63, 8) == AIA_DONE);
+    CHECK(aia_machine(&handle, 9, 9, 9, 9) == AIA_AGAIN);
+    CHECK(aia_csr(&handle, 0, AIA_SIREG, AIA_CSRR, 0, &wide) == AIA_ILLEGAL && wide == 0);
+    CHECK(aia_store(&handle, 1, 1) == AIA_FAULT);
+    CHECK(aia_store(&handle, 0x28001000, 1) == AIA_GUARDED);
+
+    CHECK(aia_vm(&handle, 2, 0x8, 0) == AIA_DONE && aia_vm(&handle, 2, 0x18, 0) == AIA_DONE);
+    CHECK(aia_msi(&handle, 0, 0x28001000, 5) == AIA_OTHER);
+    CHECK(aia_msi(&handle, 1, 0x28010000, 5) == AIA_NOT_VALID);
+    CHECK(aia_guest_csr(&handle, 0, 0, AIA_STOPEI, AIA_CSRR, 0, &wide) == AIA_AWAY && wide == 0);
+    CHECK(aia_step(&handle, 0, 0) == AIA_IDLE && aia_leave(&handle, 0, 0) == AIA_PARKED);
+    CHECK(aia_arrive(&handle, 0, 0, 0) == AIA_DONE && aia_arrive(&handle, 0, 0, 0) == AIA_HOME);
+    CHECK(aia_guest_csr(&handle, 0, 0, AIA_SIREG, AIA_CSRR, 0, &wide) == AIA_VIRTUAL);
+    CHECK(aia_ipi(&handle, 0, 0, 2, 3) == AIA_G_FAULT);
+    CHECK(aia_enter(&handle, 0, 1) == AIA_DONE && aia_enter(&handle, 0, 1) == AIA_ENTERED);
+    CHECK(aia_arrive(&handle, 1, 0, 0) == AIA_DONE && aia_arrive(&handle, 1, 1, 0) == AIA_NO_FILE);
+    for (int store = 0; store < 8; store++)
+        CHECK(aia_send(&handle, 0, 0x28000000, 5) == AIA_DONE);
+    CHECK(aia_send(&handle, 0, 0x28000000, 5) == AIA_FULL);
+
+    /* A source that may be passed: delegated, active in the child, which sends MSIs. */
+    CHECK(aia_pass(&handle, 1, 0, 0, 5) == AIA_UNREADY);
+    CHECK(aia_store(&handle, 0x0c000004, 0x400) == AIA_DONE);
+    CHECK(aia_store(&handle, 0x0c008004, 6) == AIA_DONE);
+    CHECK(aia_store(&handle, 0x0c008000, 0x104) == AIA_DONE);
+    CHECK(aia_store(&handle, 0x0c001bc4, 0x2000) == AIA_DONE);
+    CHECK(aia_store(&handle, 0x0c001bc8, 0x28000) == AIA_DONE);
+    CHECK(aia_store(&handle, 0x0c001bcc, 0x500000) == AIA_DONE);
+    CHECK(aia_pass(&handle, 1, 0, 0, 5) == AIA_DONE);
+    CHECK(aia_pass(&handle, 1, 0, 0, 5) == AIA_PASSED);
+
+    CHECK(aia_begin_leave(&handle, 0, 0) == AIA_DONE && aia_leave(&handle, 0, 0) == AIA_BUSY);
+    while (aia_step(&handle, 0, 0) == AIA_MOVING)
+        CHECK(++steps < 100);
+    CHECK(steps > 0 && aia_step(&handle, 0, 0) == AIA_IDLE);
+    aia_close(&handle);
+}
+
 /* Each handle has its own machine: identity I + 1 of handle I's file is pending in it alone. */
 static void many(void)
 {
@@ -178,12 +228,13 @@ int main(int argc, char **argv)
     static const struct {
         const char *name;
         void (*test)(void);
-    } tests[] = {{"edges", edges}, {"many", many}, {"long", long_one}, {"threads", threads}};
+    } tests[] = {{"edges", edges}, {"codes", codes}, {"many", many}, {"long", long_one},
+                 {"threads", threads}};
     for (size_t at = 0; argc == 2 && at < sizeof tests / sizeof *tests; at++) {
         if (strcmp(argv[1], tests[at].name) == 0) {
             tests[at].test();
             return 0;
         }
     }
-    CHECK(!"the word is edges, many, long or threads");
+    CHECK(!"the word is edges, codes, many, long or threads");
 }

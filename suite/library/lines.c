@@ -52,24 +52,24 @@ static int words_of(char *line, char *words[MOST_WORDS])
 
 /* ---- answers, spelled again */
 
-static const char *const refusals[] = {
-    "range", "full", "busy", "home", "entered", "parked", "nofile", "passed", "unready",
-    "idle", "away", "illegal", "virtual", "fault", "guarded", "other", "notvalid", "gfault",
+/* By the header's names, so that each of them is held to the word that it stands for. */
+static const char *const words_of_codes[] = {
+    [AIA_NO_MACHINE] = "nomachine", [AIA_AGAIN] = "again",     [AIA_MOVING] = "moving",
+    [AIA_RANGE] = "range",          [AIA_FULL] = "full",       [AIA_BUSY] = "busy",
+    [AIA_HOME] = "home",            [AIA_ENTERED] = "entered", [AIA_PARKED] = "parked",
+    [AIA_NO_FILE] = "nofile",       [AIA_PASSED] = "passed",   [AIA_UNREADY] = "unready",
+    [AIA_IDLE] = "idle",            [AIA_AWAY] = "away",       [AIA_ILLEGAL] = "illegal",
+    [AIA_VIRTUAL] = "virtual",      [AIA_FAULT] = "fault",     [AIA_GUARDED] = "guarded",
+    [AIA_OTHER] = "other",          [AIA_NOT_VALID] = "notvalid", [AIA_G_FAULT] = "gfault",
 };
 
 static void spell_code(int32_t code, const char *done)
 {
-    int32_t refusal = code - AIA_RANGE;
+    const int32_t count = sizeof words_of_codes / sizeof *words_of_codes;
     if (code == AIA_DONE)
         puts(done);
-    else if (code == AIA_NO_MACHINE)
-        puts("nomachine");
-    else if (code == AIA_AGAIN)
-        puts("again");
-    else if (code == AIA_MOVING)
-        puts("moving");
-    else if (refusal >= 0 && refusal < (int32_t)(sizeof refusals / sizeof *refusals))
-        puts(refusals[refusal]);
+    else if (code > 0 && code < count && words_of_codes[code])
+        puts(words_of_codes[code]);
     else
         printf("code %" PRId32 "\n", code);
 }
@@ -194,8 +194,9 @@ static bool csr_of(const char *name, char level, uint32_t *csr)
 
 static bool op_of(const char *name, uint32_t *op)
 {
-    static const char *const ops[] = {"csrr", "csrrw", "csrrs", "csrrc"};
-    for (*op = 0; *op < 4; ++*op)
+    static const char *const ops[] = {
+        [AIA_CSRR] = "csrr", [AIA_CSRRW] = "csrrw", [AIA_CSRRS] = "csrrs", [AIA_CSRRC] = "csrrc"};
+    for (*op = 0; *op < sizeof ops / sizeof *ops; ++*op)
         if (strcmp(ops[*op], name) == 0)
             return true;
     return false;

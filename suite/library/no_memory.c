@@ -1,5 +1,7 @@
-/* no_memory: each allocation fails in turn. The handle stays as it was, nothing is lost, and the same
- * line goes well once there is memory. Linked with --wrap=malloc,--wrap=realloc,--wrap=free. */
+/* no_memory [SCRIPT..]: each allocation fails, with all after it. The handle stays as it was,
+ * nothing is lost, and the same line goes well once there is memory. And of each script no line
+ * asks for memory but that which makes the machine: the clauses only say that no other wants it.
+ * Linked with --wrap=malloc,--wrap=realloc,--wrap=free. */
 #include "checks.h"
 
 void *__real_malloc(size_t size);
@@ -11,9 +13,11 @@ void __wrap_free(void *block);
 
 static long left = -1; /* how many allocations go well yet; below 0, all */
 static long blocks;    /* how many there are */
+static long requests;  /* how often one was asked for */
 
 static bool fails(void)
 {
+    requests++;
     if (left > 0)
         left--;
     else if (left == 0)
@@ -60,9 +64,33 @@ static int32_t make(struct aia **handle, int how)
     return code;
 }
 
-int main(void)
+/* Gives a handle the lines of a script, each as a text, and tells how many there are. */
+static long ask_at_machines_alone(const char *name)
 {
-    long opens = 0, machines = 0, fine = 0;
+    static char line[1 << 16];
+    struct aia *handle = NULL;
+    struct said said;
+    long lines = 0;
+    FILE *script = fopen(name, "r");
+    CHECK(script && aia_open(&handle) == AIA_DONE);
+    while (fgets(line, sizeof line, script)) {
+        line[strcspn(line, "\n")] = '\0';
+        long before = requests;
+        CHECK(say(&handle, line, AIA_ANSWER, &said) == AIA_DONE);
+        CHECK(requests == before || strncmp(line, "machine ", 8) == 0);
+        lines++;
+    }
+    aia_close(&handle);
+    fclose(script);
+    return lines;
+}
+
+int main(int argc, char **argv)
+{
+    long opens = 0, machines = 0, fine = 0, lines = 0;
+    for (int at = 1; at < argc; at++)
+        lines += ask_at_machines_alone(argv[at]);
+    CHECK(argc == 1 || lines > 1000);
     for (int how = 0; how < 3; how++) {
         for (long at = 0; fine <= how && at < 10000; at++) {
             struct aia *handle = NULL;
