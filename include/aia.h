@@ -42,8 +42,8 @@ struct aia;
 
 /* What a call says. Below 16 it says how the call went: after codes 1 to 5 nothing changed, and no
  * answer was written, but by aia_replay, which did the lines that it says were taken. From 16 on,
- * and where it is AIA_DONE, it is the answer to the line. Where two of 1 to 5 fit, either may
- * come. */
+ * and where it is AIA_DONE, it is the answer to the line. Of two that fit, AIA_NO_ROOM of
+ * aia_line and AIA_NO_LINE come before AIA_CLOSED. */
 enum aia_code {
     AIA_DONE = 0,       /* the line did what it says, or the call did */
     AIA_NO_MEMORY = 1,  /* there is no memory */

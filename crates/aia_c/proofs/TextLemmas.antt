@@ -1,6 +1,6 @@
 -- A script is answered text by text.
 use Rattle.std.proofs.Common.{◌≡◌, ℕ, ◌+◌, ◌<◌, ◌≤◌, List, [], ◌∷◌, ◌++◌, length, take, drop, Option, inl, inr, refl, sym, ap, ◌∙◌, subst, arith}
-use Rattle.std.specs.Prelude.{◌⊎◌, ◌-◌, Result, Ok, Err, OnErr}
+use Rattle.std.specs.Prelude.{◌⊎◌, ◌-◌, Result, Ok, Err, OnErr, ℤ}
 use borrow.Rule.Slice.PartMut.{put_mid}
 use Rattle.std.proofs.lemmas.List.{append_assoc, append-nil, take-append-drop, take_all, drop_all, drop-drop, length-take, length-drop, length-append}
 use Rattle.std.proofs.Math.Seq.{take-add, take-append-add, drop-append-add}
@@ -12,7 +12,8 @@ use Rattle.aia_replay.specs.Runs.{NoEnd, IsWhole}
 use Rattle.aia_replay.specs.Stands.{EngineState, StandsFor, ServesText, ReadsAsMachine}
 use Rattle.aia_replay.proofs.CutLemmas.{texts_front}
 use Rattle.aia_replay.proofs.HeldLemmas.{one_text}
-use Rattle.aia_c.specs.Calls.{Gives, Answers, WantsMemory}
+use Rattle.aia_c.specs.declared.limits.TheConstants.{ANSWER_BYTES}
+use Rattle.aia_c.specs.Calls.{Gives, Answers, WantsMemory, IsCramped, Reads, Lines}
 use Rattle.aia_c.proofs.JoinedLemmas.{one_line, answered_more, whole_again}
 
 -- ---- the first text of a script
@@ -127,3 +128,14 @@ one_more old mid new script before a rest part room t w line x s low is place fe
           (subst (λ (taken : List ℕ). Answers old new taken (take w a ++ take x room)) script_front joined);
       rest = back ∙ kept ∙ ap (λ (xs : List ℕ). drop x xs) (place ∙ s.rest) ∙ drop-drop x w before;
     }
+
+-- ---- room, and what is left
+
+pub more_left : (script : List ℕ) (t : ℕ) → t < length script → drop t script ≡ [] → ⊥
+more_left script t low none = absurd (omega (arith, low, ap length none, length-drop t script))
+
+pub few_room : (old new : Option EngineState) (text bytes : List ℕ) (room : ℕ) (code : ℤ) → room < ANSWER_BYTES → IsCramped old new bytes code → Lines old new text bytes room code
+few_room old new text bytes room code low is = record { cramped = λ few. is; reads = λ enough. absurd (omega (arith, low, enough)) }
+
+pub enough_room : (old new : Option EngineState) (text bytes : List ℕ) (room : ℕ) (code : ℤ) → ANSWER_BYTES ≤ room → Reads old new text bytes code → Lines old new text bytes room code
+enough_room old new text bytes room code high is = record { cramped = λ few. absurd (omega (arith, few, high)); reads = λ enough. is }

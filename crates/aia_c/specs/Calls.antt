@@ -1,5 +1,5 @@
 -- What the calls answer and do. A handle is open, with an engine, or closed. Vocabulary.
-use Rattle.std.specs.Prelude.{◌≡◌, ◌⊎◌, ℕ, ◌<◌, ℤ, true, List, [], ◌∷◌, Option, Some, None, Result, Ok, Err}
+use Rattle.std.specs.Prelude.{◌≡◌, ◌⊎◌, ℕ, ◌<◌, ◌≤◌, ℤ, true, List, [], ◌∷◌, Option, Some, None, Result, Ok, Err}
 use Rattle.aia_model.specs.declared.line.Line.{Line}
 use Rattle.aia_model.specs.declared.answer.Answer.{Answer}
 use Rattle.aia_model.specs.Event.{History}
@@ -38,12 +38,10 @@ pub record Lacks (old new : EngineState) (text bytes : List ℕ) : Type 0 where
   pub nothing : bytes ≡ []
 
 -- There is too little room for an answer, and nothing changed.
-pub record IsCramped (old new : Option EngineState) (bytes : List ℕ) (room : ℕ) (code : ℤ)
-    : Type 0 where
+pub record IsCramped (old new : Option EngineState) (bytes : List ℕ) (code : ℤ) : Type 0 where
   pub says : code ≡ number NoRoom
   pub same : new ≡ old
   pub nothing : bytes ≡ []
-  pub few : room < ANSWER_BYTES
 
 -- The handle is closed, and nothing changed.
 pub record IsClosed (new : Option EngineState) (code : ℤ) : Type 0 where
@@ -57,10 +55,12 @@ Reads (Some old) (Some new) text bytes code =
     ((code ≡ number Done) × Gives old new text bytes)
     ⊎ ((code ≡ number NoMemory) × Lacks old new text bytes)
 
--- A call with a text, which writes these bytes.
-abbrev pub Lines : Option EngineState → Option EngineState → List ℕ → List ℕ → ℕ → ℤ → Type 0
-Lines old new text bytes room code =
-    Reads old new text bytes code ⊎ IsCramped old new bytes room code
+-- A call with a text, which writes these bytes: with less room than an answer may take, it looks at
+-- neither the handle nor the text.
+pub record Lines (old new : Option EngineState) (text bytes : List ℕ) (room : ℕ) (code : ℤ)
+    : Type 0 where
+  pub cramped : room < ANSWER_BYTES → IsCramped old new bytes code
+  pub reads : ANSWER_BYTES ≤ room → Reads old new text bytes code
 
 -- ---- a script
 
@@ -78,12 +78,12 @@ pub record WantsMemory (new : EngineState) (rest : List ℕ) : Type 0 where
   pub first : texts_of rest ≡ text ∷ more
   pub asks : ReadsAsMachine new (reading text)
 
--- Why a script was answered no further: nothing is left; or so little room that the next answer may
--- not fit; or memory is wanted.
+-- Why a script was answered no further: nothing is left of it; or something is, and so little room
+-- that the next answer may not fit; or memory is wanted.
 abbrev pub Stops : EngineState → List ℕ → ℕ → ℤ → Type 0
 Stops new rest room code =
     ((code ≡ number Done) × (rest ≡ []))
-    ⊎ (((code ≡ number NoRoom) × (room < ANSWER_BYTES))
+    ⊎ (((code ≡ number NoRoom) × (¬ (rest ≡ [])) × (room < ANSWER_BYTES))
     ⊎ ((code ≡ number NoMemory) × WantsMemory new rest))
 
 -- A script was taken up to a rest: what was taken is answered, and is whole lines or all of it.

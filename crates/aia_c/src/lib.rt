@@ -45,6 +45,7 @@ pub extern "C" fn aia_open(handle: &mut Handle, alloc: Global) -> i32
 /// Answers a text, which is a line without its LF, and says how many bytes of the answer it wrote:
 /// with an LF, or none of a skipped text.
 #[unsafe(no_mangle)]
+#[tactic(auto, using(crate::proofs::TextLemmas::few_room, crate::proofs::TextLemmas::enough_room))]
 pub extern "C" fn aia_line(
     handle: &mut Handle,
     text: &[u8],

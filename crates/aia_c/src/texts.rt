@@ -81,6 +81,7 @@ fn answer_first(
 }
 
 /// Answers a script, as far as there is room for the longest answer and memory for a machine.
+#[tactic(auto, using(crate::proofs::TextLemmas::more_left))]
 pub fn answer_script(engine: &mut Engine, script: &[u8], answers: &mut [u8], alloc: Global) -> Front
     ensures within { (result.taken ≤ length script.now) × (result.written ≤ length answers.old) }
     ensures rest { drop result.written answers.new ≡ drop result.written answers.old }
