@@ -8,6 +8,8 @@ pub mod limits;
 mod line;
 mod parse;
 mod plan_file;
+mod shown;
+mod untold;
 mod words;
 
 pub use line::{Line, Reading};
