@@ -52,8 +52,8 @@ fn with_delivery(
     untold_of(word, store, delivery, None).tried(producers, terms, plan)
 }
 
-/// Looks for an untold run with each start of the numbers, where they are heeded, and else with one.
-/// `None`: there is none.
+/// Looks for an untold run with each start of the numbers, where they are heeded, and else with
+/// one. `None`: there is none.
 #[tactic(auto, unfolding(crate::specs::UntoldSearch::with_numbers))]
 fn with_numbers(
     producers: &[Kind],
