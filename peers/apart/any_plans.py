@@ -3,9 +3,11 @@
 
 The machine, told a second time from docs/ANY-PLAN.md: two places, a hand, producers with routes. A
 plan is one of a hypervisor's with some edits. It is tried with one store, or one in flight, at every
-place, from several starts; and where the program shows a run, that run is made. Prints how many
-accepted plans had a bad run, how many refused ones had none, and how many runs that were shown were
-good or missing, and ends with 1 if any was.
+place, from several starts; and where the program shows a run, that run is made: one that loses
+something, or, of a plan that the rule on notices alone refuses, one that leaves the host untold.
+Prints how many accepted plans had a bad run, how many refused ones had none, and how many runs that
+were shown were good or missing, and ends with 1 if any was. A plan that heeds its numbers may be
+refused by the rule on notices though no run of it leaves the host untold: none is shown then.
 """
 import random
 import re
@@ -208,6 +210,10 @@ class Machine:
     def do_free(self):
         self.freed = True
 
+    def is_untold(self):
+        """Whether something stands out in the new place, and the host was not told."""
+        return not self.told and any(self.out(w) for w in range(self.s.words))
+
     def is_bad(self):
         """Whether a run that ends so loses, doubles, or leaves something behind, or untold."""
         return (self.new['pending'] != self.due or self.new['enabled'] != self.first_enabled
@@ -215,7 +221,7 @@ class Machine:
                 or self.number[self.s.end] != {'threshold': 9, 'delivery': 1}
                 or 'old' in self.written or 'old' in self.force
                 or any(place == 'old' for _, place, _ in self.flights)
-                or (self.s.memory and not self.told and any(self.out(w) for w in range(self.s.words))))
+                or (self.s.memory and self.is_untold()))
 
 
 def is_bad_run(setting, plan, start, events):
@@ -225,13 +231,18 @@ def is_bad_run(setting, plan, start, events):
 
 def is_bad_end(machine, plan, events):
     """Whether a machine ends badly after the steps of a plan with these events between them."""
+    run(machine, plan, events)
+    return machine.is_bad()
+
+
+def run(machine, plan, events):
+    """Makes the steps of a plan on a machine, with these events between them."""
     for at, step in enumerate(list(plan) + [None]):
         for before, act in events:
             if before == at:
                 act(machine)
         if step:
             machine.step(step)
-    return machine.is_bad()
 
 
 def runs(setting, plan):
@@ -299,8 +310,55 @@ def is_bad_shown(setting, plan, first_line, text):
     return is_bad_end(machine, plan, events)
 
 
+SPOT = r'in the (old place|hand|new place)'
+UNTOLD = re.compile(
+    r'  run: identity (\d+) is enabled in the old place at the start'
+    r'(?:(, and pending there)'
+    r'|; producer (\d+) stores it (?:before the first step|behind line (\d+)) by its (written route|route in force))'
+    r'(; at the start delivery is 1 ' + SPOT + r' and 0 elsewhere, and the threshold is '
+    r'(?:1 everywhere|0 ' + SPOT + r' and 1 elsewhere))?'
+    r'; in the end it is pending(?:, enabled and let through| and enabled) in the new place, and the host was not told')
+NONE = re.compile(r'  run: none was found with one store at most(; the rule asks for more than that the host is told)?')
+
+
+def is_untold_shown(setting, plan, first_line, text):
+    """Whether a run that a program shows, of a plan whose first step is on a line, is one, and leaves the host untold."""
+    found = UNTOLD.fullmatch(text)
+    identity, there, storer, behind, route, numbers, delivery, threshold = found.groups()
+    what = (int(identity) // 64, int(identity) % 64)
+    if bool(numbers) != setting.heeds or what[0] >= setting.words:
+        return False
+    machine = Machine(setting, (), ())
+    machine.new = {'pending': set(), 'enabled': set()}
+    machine.old['enabled'].add(what)
+    if there:
+        machine.old['pending'].add(what)
+        machine.due.add(what)
+    for name in ('old', 'hand', 'new'):
+        is_spot = lambda words: (words or '').startswith(name)
+        machine.number[name] = {'threshold': 0 if is_spot(threshold) else 1, 'delivery': int(is_spot(delivery))}
+    events = []
+    if storer:
+        if int(storer) >= len(setting.producers):
+            return False
+        before = int(behind) - first_line + 1 if behind else 0
+        events.append((before, lambda m: m.store(int(storer), route == 'written route', what)))
+    run(machine, plan, events)
+    return machine.is_untold() and all(what in machine.new[bank] for bank in ('pending', 'enabled'))
+
+
+def shown_of(setting, plan, first_line, verdict, text):
+    """What is shown of a plan: a run that is what its verdict asks for, or is not; or that none was found."""
+    is_notice = verdict == 'refused notice'
+    none = NONE.fullmatch(text)
+    if none:
+        return 'none found' if bool(none.group(1)) == is_notice else 'wrongly shown'
+    is_right_run = is_untold_shown if is_notice else is_bad_shown
+    return 'shown' if is_right_run(setting, plan, first_line, text) else 'wrongly shown'
+
+
 def verdicts(program, plans):
-    """What a program answers of each plan: the first two words, and whether a run is shown that is bad."""
+    """What a program answers of each plan: the first two words, and what is shown."""
     text, firsts, line = [], [], 1
     for setting, plan in plans:
         text += setting.lines() + [' '.join(map(str, step)) for step in plan]
@@ -311,8 +369,8 @@ def verdicts(program, plans):
     for answer in done.stdout.splitlines():
         if answer.startswith(' '):
             setting, plan = plans[len(answers) - 1]
-            shown = is_bad_shown(setting, plan, firsts[len(answers) - 1], answer)
-            answers[-1] = (answers[-1][0], 'shown' if shown else 'wrongly shown')
+            verdict = answers[-1][0]
+            answers[-1] = (verdict, shown_of(setting, plan, firsts[len(answers) - 1], verdict, answer))
         else:
             answers.append((' '.join(answer.split()[:2]), 'none shown'))
     return answers
@@ -330,8 +388,8 @@ def main():
         for (setting, plan), (verdict, shown) in zip(plans, verdicts(program, plans), strict=True):
             bad = has_bad_run(setting, plan)
             key = (verdict, 'a bad run' if bad else 'no bad run', shown)
-            if setting.heeds and key == ('refused notice', 'no bad run', 'none shown'):
-                key = ('refused notice', 'no bad run, with numbers that are heeded', 'none shown')
+            if setting.heeds and key == ('refused notice', 'no bad run', 'none found'):
+                key = ('refused notice', 'no bad run, with numbers that are heeded', 'none found')
             tally[key] = tally.get(key, 0) + 1
             if not is_right(key):
                 print(key, setting.lines(), plan)
@@ -346,8 +404,9 @@ def is_right(key):
     if verdict == 'accepted':
         return (found, shown) == ('no bad run', 'none shown')
     if verdict == 'refused notice':
-        # Where numbers are heeded the rule on notices asks for more than that the host is told.
-        return found != 'no bad run' and shown == 'none shown'
+        # Where numbers are heeded the rule on notices asks for more than that the host is told; and
+        # a run that is shown may begin with other numbers than those that are tried here.
+        return shown == 'shown' or (found.startswith('no bad run, with') and shown == 'none found')
     return verdict.startswith('refused') and (found, shown) == ('a bad run', 'shown')
 
 

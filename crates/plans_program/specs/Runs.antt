@@ -5,13 +5,15 @@ use Rattle.std.specs.Io.KnownBytes.{Appends, IsAtEnd}
 use Rattle.aia_io.specs.Ends.{Supply, Gives, GivesNone, Rose}
 use Rattle.aia_io.specs.declared.source.Read.{Read}
 use Rattle.aia_io.specs.declared.source.Read.TheVariants as reads
+use Rattle.plans_text.specs.declared.plan_reader.PlanReader.{PlanReader}
 use Rattle.plans_text.specs.PlanFile.{answers}
+use Rattle.plans_text.specs.Streaming.{AreWhole, HasRead, NoEnd, NoneWaits, ended_answers}
 use Rattle.plans_program.specs.declared.words.Subcommand.{Subcommand}
 use Rattle.plans_program.specs.declared.words.Subcommand.TheVariants.{Judge}
+use Rattle.plans_program.specs.declared.judging.Stop.{Stop}
+use Rattle.plans_program.specs.declared.judging.Stop.TheVariants.{Sink, Memory as LacksMemory}
 use Rattle.plans_program.specs.declared.program.Status.{Status}
 use Rattle.plans_program.specs.declared.program.Status.TheVariants.{Done, Usage, ReadFault, WriteFault, Memory, TooLong}
-use Rattle.plans_program.specs.declared.take.Taken.{Taken}
-use Rattle.plans_program.specs.declared.take.Taken.TheVariants.{All, Failed, Past}
 use Rattle.plans_program.specs.declared.limits.TheConstants.{FILE_BYTES}
 use Rattle.plans_program.specs.CommandLine.{subcommand_of}
 
@@ -46,16 +48,9 @@ ReadsFront most old new piece reads.End =
     IsAtEnd old.to_come × GivesNone old new × Rose old.ends new.ends
 ReadsFront most old new piece reads.Failed = GivesNone old new × (new.ends ≡ old.ends)
 
--- What was taken of the source, and kept, by how it ended.
-pub record TakesFile (taken : Taken) (left rest : Supply) (bytes : List ℕ) : Type 0 where
-  pub all : taken ≡ All → Gives left rest bytes × IsFile left bytes × TakesAll left rest
-  pub past : taken ≡ Past → Takes (FILE_BYTES + 1) left rest
-  pub bound : TakesAtMost (FILE_BYTES + 1) left rest
-  pub limit : taken ≡ All ⊎ taken ≡ Failed → TakesAtMost FILE_BYTES left rest
-
 -- ---- what is written
 
--- The sink failed, and took a front of some bytes.
+-- The sink took a front of some bytes.
 pub record CutOff (before now : Option (List ℕ)) (bytes : List ℕ) : Type 0 where
   pub part : List ℕ
   pub lost : List ℕ
@@ -70,17 +65,73 @@ WritesAnswers left before now = IfSome left.to_come (λ file. Appends before now
 abbrev pub CutsAnswers : Supply → Option (List ℕ) → Option (List ℕ) → Type 0
 CutsAnswers left before now = IfSome left.to_come (λ file. CutOff before now (answers file))
 
+-- It is a front of what is answered of the bytes that were taken, no more than a file has.
+pub record WritesFront (left rest : Supply) (before now : Option (List ℕ)) : Type 0 where
+  pub bytes : List ℕ
+  pub taken : Gives left rest bytes
+  pub within : length bytes ≤ FILE_BYTES
+  pub cut : CutOff before now (answers bytes)
+
+-- It is just what is answered of the plans that ended within the whole lines of some bytes; after
+-- them these have no LF.
+pub record AnswersEnded (before now : Option (List ℕ)) (bytes : List ℕ) : Type 0 where
+  pub whole : List ℕ
+  pub tail : List ℕ
+  pub split : bytes ≡ whole ++ tail
+  pub lines : AreWhole whole
+  pub no_end : NoEnd tail
+  pub written : Appends before now (ended_answers whole)
+
+-- So of the bytes that were taken, so many at the end left out of account.
+pub record WritesEnded (count : ℕ) (left rest : Supply) (before now : Option (List ℕ))
+    : Type 0 where
+  pub bytes : List ℕ
+  pub beyond : List ℕ
+  pub taken : Gives left rest (bytes ++ beyond)
+  pub within : length bytes ≤ FILE_BYTES
+  pub past : length beyond ≡ count
+  pub answered : AnswersEnded before now bytes
+
+-- ---- on the way
+
+-- A reader has read these bytes, and all that it gave was written: no answer waits.
+pub record Judged (reader : PlanReader) (before now : Option (List ℕ)) (bytes : List ℕ)
+    : Type 0 where
+  pub given : List ℕ
+  pub read : HasRead reader given bytes
+  pub none : NoneWaits reader
+  pub written : Appends before now given
+
+-- Said of all that was judged, whatever that is.
+abbrev pub WhateverWasJudged : PlanReader → Option (List ℕ)
+    → (Option (List ℕ) → List ℕ → Type 0) → Type 0
+WhateverWasJudged reader now P =
+    (before : Option (List ℕ)) (bytes : List ℕ) → Judged reader before now bytes → P before bytes
+
+-- The sink took a front of what is answered of these bytes, whatever follows them.
+abbrev pub IsFront : Option (List ℕ) → Option (List ℕ) → List ℕ → Type 0
+IsFront before now bytes = (more : List ℕ) → CutOff before now (answers (bytes ++ more))
+
 -- ---- a run
 
--- A run of `judge`: it writes once all is read, and nothing before.
+-- How it ends where it stops.
+abbrev pub stopped : Stop → Status
+stopped Sink = WriteFault
+stopped LacksMemory = Memory
+
+-- A run of `judge`, which answers each plan as it ends.
 pub record EndsJudge (status : Status) (left rest : Supply) (before now : Option (List ℕ))
     (source_old source_new sink_old sink_new : ℕ) : Type 0 where
   pub done : status ≡ Done → WritesAnswers left before now × TakesAll left rest
   pub write_fault : status ≡ WriteFault
-      → CutsAnswers left before now × TakesAll left rest × Rose sink_old sink_new
-  pub read_fault : status ≡ ReadFault → Rose source_old source_new
-  pub too_long : status ≡ TooLong → Takes (FILE_BYTES + 1) left rest
-  pub unwritten : status ≢ Done → status ≢ WriteFault → Appends before now []
+      → WritesFront left rest before now × Rose sink_old sink_new
+  pub memory : status ≡ Memory → WritesFront left rest before now
+  pub read_fault : status ≡ ReadFault
+      → WritesEnded 0 left rest before now × Rose source_old source_new
+  pub too_long : status ≡ TooLong
+      → WritesEnded 1 left rest before now × Takes (FILE_BYTES + 1) left rest
+  -- in each case it is a front of the answers of the whole file, where the source tells it
+  pub front : CutsAnswers left before now
   pub bound : TakesAtMost (FILE_BYTES + 1) left rest
   pub usage : status ≢ Usage
 

@@ -2,10 +2,11 @@
 #![tactic(auto)]
 
 mod give;
+mod judging;
 mod limits;
+mod pieces;
 mod program;
 mod starting;
-mod take;
 mod words;
 
 pub use limits::FILE_BYTES;

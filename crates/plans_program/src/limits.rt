@@ -4,4 +4,4 @@
 pub const FILE_BYTES: usize = 16_777_216;
 
 /// The most bytes that one read asks for.
-pub const PIECE_BYTES: usize = 65_536;
+pub const PIECE_BYTES: usize = 4_096;

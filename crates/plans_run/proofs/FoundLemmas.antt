@@ -85,17 +85,17 @@ follows_whole producers terms plan run =
     follows_end producers terms plan run (trace_upto run terms plan (length plan)) (unsent_upto run terms plan (length plan)) (follows_upto producers terms plan run (length plan) (omega arith))
 
 -- What is found, if anything is, has a property.
-abbrev Holds : {A : Type 0} → (A → Type 0) → Option A → Type 0
+abbrev pub Holds : {A : Type 0} → (A → Type 0) → Option A → Type 0
 Holds {A} P found = (x : A) → found ≡ Some x → P x
 
-some_inj : {A : Type 0} (a b : A) → Some a ≡ Some b → a ≡ b
+pub some_inj : {A : Type 0} (a b : A) → Some a ≡ Some b → a ≡ b
 some_inj a b e = cc
 
-either : {A : Type 0} (P : A → Type 0) (a b : Option A) → Holds P a → Holds P b → Holds P (or_else a b)
+pub either : {A : Type 0} (P : A → Type 0) (a b : Option A) → Holds P a → Holds P b → Holds P (or_else a b)
 either P None b h g = g
 either P (Some y) b h g = h
 
-first : {A : Type 0} (P : A → Type 0) (found : ℕ → Option A) (from count : ℕ) → ((k : ℕ) → Holds P (found k)) → Holds P (first_of found from count)
+pub first : {A : Type 0} (P : A → Type 0) (found : ℕ → Option A) (from count : ℕ) → ((k : ℕ) → Holds P (found k)) → Holds P (first_of found from count)
 unfolding first_of
 first P found from zero h = λ x e. absurd (cc)
 first P found from (suc count) h = either P (found from) (first_of found (suc from) count) (h from) (first P found (suc from) count h)

@@ -2,3 +2,5 @@ pub mod FollowLemmas
 pub mod RunLemmas
 pub mod SearchLemmas
 pub mod FoundLemmas
+pub mod OutLemmas
+pub mod UntoldLemmas

@@ -34,7 +34,7 @@ use Rattle.plans_run.proofs.FollowLemmas.{follows_landed, follows_step}
 
 -- ---- lists of happenings
 
-all_happened-append : (d : Setting) (a b : List Happening) (z : Machine) → all_happened d (a ++ b) z ≡ all_happened d b (all_happened d a z)
+pub all_happened-append : (d : Setting) (a b : List Happening) (z : Machine) → all_happened d (a ++ b) z ≡ all_happened d b (all_happened d a z)
 all_happened-append d [] b z = refl
 all_happened-append d (x ∷ a) b z = all_happened-append d a b (happened d x z)
 
@@ -167,11 +167,11 @@ routed_is None e = absurd (false≢true e)
 routed_is (Some Routed) e = refl
 routed_is (Some Switched) e = absurd (false≢true e)
 
-below_is : (a b : ℕ) → nat_lt a b ≡ true → a < b
+pub below_is : (a b : ℕ) → nat_lt a b ≡ true → a < b
 below_is a b e = ltb-true a b e
 
 -- What can_be says of the store.
-abbrev MayStore : List Kind → Run → Extra → Bool
+abbrev pub MayStore : List Kind → Run → Extra → Bool
 MayStore producers run extra = elim extra [
   | extras.Nothing ↦ true
   | extras.Stores before route ↦ nat_lt run.case.producer (length producers)
@@ -259,7 +259,7 @@ upto_can producers terms plan run (suc k) may =
     all-append (CanHappen d) (run_upto plan run k) (extra_at run k ++ step_at plan k) (upto_can producers terms plan run k may)
     (all-append (CanHappen d) (extra_at run k) (step_at plan k) (extra_can producers terms run k may) (step_can d (slice_get plan k)))
 
-happens_well : (producers : List Kind) (terms : Terms) (plan : List Step) (run : Run) → MayStore producers run run.extra ≡ true → IsRun (setting_of producers terms) plan (happenings plan run)
+pub happens_well : (producers : List Kind) (terms : Terms) (plan : List Step) (run : Run) → MayStore producers run run.extra ≡ true → IsRun (setting_of producers terms) plan (happenings plan run)
 happens_well producers terms plan run may = record {
   steps = steps_in-append (run_upto plan run (length plan)) (extra_at run (length plan))
       ∙ ap₂ (λ a b. a ++ b) (steps_upto plan run (length plan) (omega arith)) (extra_steps run (length plan)) ∙ append-nil (take (length plan) plan) ∙ take_all (length plan) plan (omega arith);
@@ -310,7 +310,7 @@ flies_old : (c : Case) (f : Option Place) → is_flying_old f ≡ true → AllBy
 flies_old c None e all = false≢true e
 flies_old c (Some place) e all = old_new place e all.0
 
-true_false : (b : Bool) → b ≡ true → b ≡ false → ⊥
+pub true_false : (b : Bool) → b ≡ true → b ≡ false → ⊥
 true_false b e f = false≢true (sym f ∙ e)
 
 ends_badly : (producers : List Kind) (terms : Terms) (run : Run) (t : Trace) (z : Machine) → run.case.identity / 64 < terms.words → Follows run.case t z → is_bad_end run terms (length producers) t ≡ true

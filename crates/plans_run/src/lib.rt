@@ -1,12 +1,17 @@
-//! A run of a plan that loses something: which bit or number, where it stands at the start, and
-//! which store comes between which steps. Profile.
+//! Runs of a plan that lose something, or leave the host untold: which bit or number, where it
+//! stands at the start, and which store comes between which steps. Profile.
 #![tactic(auto)]
 
 pub mod laws;
 mod run;
 mod search;
 mod trace;
+mod untold;
+mod untold_search;
+mod watch;
 
 pub use run::{Extra, Run};
 pub use search::losing_run;
 pub use trace::{Begin, Case, Route};
+pub use untold::{Store, UntoldRun};
+pub use untold_search::untold_run;

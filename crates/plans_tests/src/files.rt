@@ -1,7 +1,7 @@
 //! What is answered of files of plans, by the rows that are laws too.
 
 use plans_judge::{Kind, Rule, Spot, Step, Terms, Verdict, judge};
-use plans_run::losing_run;
+use plans_run::{losing_run, untold_run};
 use plans_text::{Line, Reading, answers, parse_line};
 use std::test::Fail;
 
@@ -27,6 +27,76 @@ fn one_without_its_fence_is_refused_and_loses_what_is_stored(rt: HostRuntime) ->
         text.as_slice()
             == b"refused routes in the end\n  run: identity 1 is pending \
 nowhere at the start; producer 0 stores it behind line 5 by its route in force\n"
+                .as_slice()
+    );
+    Ok(())
+}
+
+/// A plan into memory that looks before its enables are there.
+const LOOKED_EARLY: &[u8] = b"fresh\nmemory\nnumbers old old\ntake pending 0\njoin pending 0\n\
+look 0\ntake enabled 0\njoin enabled 0\npost\n";
+
+#[test]
+fn one_that_looks_early_leaves_what_is_pending_untold(rt: HostRuntime) -> Result<(), Fail> {
+    let text = answers(rt.alloc(), LOOKED_EARLY)?;
+    assert!(rt;
+        text.as_slice()
+            == b"refused notice in the end\n  run: identity 1 is enabled in the old place at the \
+start, and pending there; in the end it is pending and enabled in the new place, and the host was \
+not told\n"
+                .as_slice()
+    );
+    Ok(())
+}
+
+/// One that takes a word a second time, once its route is in force, and does not tell of that.
+const TOLD_ONCE: &[u8] = b"fresh\nmemory\nproducer routed\nnumbers old old\ntake enabled 0\n\
+join enabled 0\ntake pending 0\njoin pending 0\ntell\nroute 0\nfence 0\ntake pending 0\n\
+join pending 0\n";
+
+#[test]
+fn one_that_tells_once_leaves_a_store_untold(rt: HostRuntime) -> Result<(), Fail> {
+    let text = answers(rt.alloc(), TOLD_ONCE)?;
+    assert!(rt;
+        text.as_slice()
+            == b"refused notice in the end\n  run: identity 1 is enabled in the old place at the \
+start; producer 0 stores it behind line 7 by its route in force; in the end it is pending and \
+enabled in the new place, and the host was not told\n"
+                .as_slice()
+    );
+    Ok(())
+}
+
+/// One that puts a threshold which is heeded after it tells.
+const PUT_LATE: &[u8] = b"fresh\nmemory\nheeds\ntake threshold\ntake delivery\nput delivery\n\
+take pending 0\njoin pending 0\ntake enabled 0\njoin enabled 0\ntell\nput threshold\n";
+
+#[test]
+fn a_threshold_that_is_put_late_lets_through_untold(rt: HostRuntime) -> Result<(), Fail> {
+    let text = answers(rt.alloc(), PUT_LATE)?;
+    assert!(rt;
+        text.as_slice()
+            == b"refused notice in the end\n  run: identity 1 is enabled in the old place at the \
+start, and pending there; at the start delivery is 1 in the old place and 0 elsewhere, and the \
+threshold is 0 in the old place and 1 elsewhere; in the end it is pending, enabled and let through \
+in the new place, and the host was not told\n"
+                .as_slice()
+    );
+    Ok(())
+}
+
+/// The same with the threshold of the new place zeroed first: what stands out was told of.
+const ZEROED_FIRST: &[u8] = b"fresh\nmemory\nheeds\nzero new threshold\ntake threshold\n\
+take delivery\nput delivery\ntake pending 0\njoin pending 0\ntake enabled 0\n\
+join enabled 0\ntell\nput threshold\n";
+
+#[test]
+fn where_the_rule_asks_for_more_no_run_is_found(rt: HostRuntime) -> Result<(), Fail> {
+    let text = answers(rt.alloc(), ZEROED_FIRST)?;
+    assert!(rt;
+        text.as_slice()
+            == b"refused notice in the end\n  run: none was found with one store at most; the \
+rule asks for more than that the host is told\n"
                 .as_slice()
     );
     Ok(())
@@ -68,5 +138,6 @@ fn a_plan_that_forgets_its_words_is_refused_in_the_end(rt: HostRuntime) -> Resul
     };
     assert!(rt; verdict == refused);
     assert!(rt; losing_run(&[Kind::Routed], terms, &plan).is_some());
+    assert!(rt; untold_run(&[Kind::Routed], terms, &plan).is_none());
     Ok(())
 }

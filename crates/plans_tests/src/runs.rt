@@ -33,6 +33,11 @@ fn copied(alloc: Global, bytes: &[u8]) -> Result<Vec<u8>, AllocError> {
     Ok(copy)
 }
 
+/// What is answered of its first plan.
+const FIRST: &[u8] =
+    b"refused routes in the end\n  run: identity 1 is pending in the old place at the \
+start\n";
+
 /// Judges the file, in pieces of 5 bytes.
 fn judged(alloc: Global, words: &[&str], failing: Failing) -> Result<Ended, AllocError> {
     let reads = vec![in alloc; failing.read]?;
@@ -57,10 +62,20 @@ fn a_file_is_answered_whole(rt: HostRuntime) -> Result<(), Fail> {
 }
 
 #[test]
-fn a_source_that_fails_in_mid_stream_leaves_nothing_written(rt: HostRuntime) -> Result<(), Fail> {
+fn a_source_that_fails_before_a_plan_ends_leaves_nothing_written(
+    rt: HostRuntime,
+) -> Result<(), Fail> {
     let ended = judged(rt.alloc(), &["judge"], Failing { read: 3, write: 0 })?;
     assert!(rt; ended.status == Status::ReadFault);
     assert!(rt; ended.written == 0);
+    Ok(())
+}
+
+#[test]
+fn one_that_fails_after_that_leaves_its_answer(rt: HostRuntime) -> Result<(), Fail> {
+    let ended = judged(rt.alloc(), &["judge"], Failing { read: 4, write: 0 })?;
+    assert!(rt; ended.status == Status::ReadFault);
+    assert!(rt; ended.is_front && ended.written == FIRST.len());
     Ok(())
 }
 

@@ -8,6 +8,7 @@ use Rattle.std.proofs.lemmas.List.Elements.{All-from_get_or}
 use Rattle.std.proofs.lemmas.List.Sums.{fails_before_first, passes_at_first, split_at_first}
 use Rattle.std.proofs.lemmas.Bool.{cases_lt, cond-true, cond-false, lt-ltb, le-ltb}
 use Rattle.std.proofs.lemmas.Option.{slice_get-map}
+use Rattle.plans_text.specs.Streaming.{NoEnd}
 use Rattle.plans_text.specs.PlanFile.{Read, none_read, with_text, with_texts, all_answers, answers, texts_of}
 
 pub ruleset place_lemmas = (slice_get-map, length-map)
@@ -15,15 +16,11 @@ pub ruleset place_lemmas = (slice_get-map, length-map)
 abbrev pub is_end : ℕ → Bool
 is_end b = nat_eq b 10
 
--- No byte of a text is an LF.
-abbrev NoEnd : List ℕ → Type 0
-NoEnd text = All (λ b. nat_eq b 10 ≡ false) text
-
-texts_front : (front rest : List ℕ) → NoEnd front → texts_of (front ++ 10 ∷ rest) ≡ front ∷ texts_of rest
+pub texts_front : (front rest : List ℕ) → NoEnd front → texts_of (front ++ 10 ∷ rest) ≡ front ∷ texts_of rest
 texts_front [] rest none = refl
 texts_front (x ∷ xs) rest none = cond-false _ _ _ (none 0 0 (omega arith)) ∙ ap (onto_first x) (texts_front xs rest (λ k d h. none (suc k) d (omega arith)))
 
-texts_last : (x : ℕ) (xs : List ℕ) → NoEnd (x ∷ xs) → texts_of (x ∷ xs) ≡ (x ∷ xs) ∷ []
+pub texts_last : (x : ℕ) (xs : List ℕ) → NoEnd (x ∷ xs) → texts_of (x ∷ xs) ≡ (x ∷ xs) ∷ []
 texts_last x [] none = cond-false _ _ _ (none 0 0 (omega arith))
 texts_last x (y ∷ ys) none = cond-false _ _ _ (none 0 0 (omega arith)) ∙ ap (onto_first x) (texts_last y ys (λ k d h. none (suc k) d (omega arith)))
 
@@ -34,14 +31,14 @@ position_some p xs i e =
       | inr h ↦ let e2 : ◌≡◌ {A = Option ℕ} None (Some i) = sym (cond-false _ _ _ (le-ltb _ _ h)) ∙ e in absurd (cc)
     ]
 
-none_found : (p : ℕ → Bool) (xs : List ℕ) → position p xs ≡ None → All (λ b. p b ≡ false) xs
+pub none_found : (p : ℕ → Bool) (xs : List ℕ) → position p xs ≡ None → All (λ b. p b ≡ false) xs
 none_found p xs e =
     elim (cases_lt (position_or_len p xs) (length xs)) [
       | inl h ↦ let e2 : ◌≡◌ {A = Option ℕ} (Some (position_or_len p xs)) None = sym (cond-true _ _ _ (lt-ltb _ _ h)) ∙ e in absurd (cc)
       | inr h ↦ All-from_get_or (λ b. p b ≡ false) xs 0 (λ i low. fails_before_first p xs i 0 (omega arith))
     ]
 
-no_end_before : (bytes : List ℕ) (i : ℕ) → position is_end bytes ≡ Some i → NoEnd (take i bytes)
+pub no_end_before : (bytes : List ℕ) (i : ℕ) → position is_end bytes ≡ Some i → NoEnd (take i bytes)
 no_end_before bytes i e =
     let p = position_some is_end bytes i e in
     All-from_get_or (λ b. is_end b ≡ false) (take i bytes) 0 (λ k low.
@@ -51,7 +48,7 @@ no_end_before bytes i e =
 is_ten : (b : ℕ) → is_end b ≡ true → b ≡ 10
 is_ten b e = grind arith
 
-cut_at_end : (bytes : List ℕ) (i : ℕ) → position is_end bytes ≡ Some i → bytes ≡ take i bytes ++ (10 ∷ drop (i + 1) bytes)
+pub cut_at_end : (bytes : List ℕ) (i : ℕ) → position is_end bytes ≡ Some i → bytes ≡ take i bytes ++ (10 ∷ drop (i + 1) bytes)
 cut_at_end bytes i e =
     let p = position_some is_end bytes i e in
     let lf = is_ten _ (passes_at_first is_end bytes 0 p.0) in

@@ -2,7 +2,8 @@
 use Rattle.std.specs.Prelude.{ℕ, ◌+◌, ◌-◌, Bool, true, false, ◌&&◌, nat_eq, nat_lt, nat_le, if◌then◌else◌, List, [], ◌∷◌, ◌++◌, length, map, Option, Some, None, codes, decimal, slice_get}
 use Rattle.std.specs.List.{All, onto_first}
 use Rattle.plans_machine.specs.declared.setting.Kind.{Kind}
-use Rattle.plans_machine.specs.declared.setting.Spot.TheVariants.{InOld, InNew}
+use Rattle.plans_machine.specs.declared.setting.Spot.{Spot}
+use Rattle.plans_machine.specs.declared.setting.Spot.TheVariants.{InOld, InHand, InNew}
 use Rattle.plans_machine.specs.declared.setting.Terms.{Terms}
 use Rattle.plans_machine.specs.declared.rule.Rule.{Rule}
 use Rattle.plans_machine.specs.declared.rule.Rule.TheVariants as rules
@@ -22,7 +23,12 @@ use Rattle.plans_run.specs.declared.trace.Route.TheVariants.{Written, InForce}
 use Rattle.plans_run.specs.declared.run.Extra.{Extra}
 use Rattle.plans_run.specs.declared.run.Extra.TheVariants as extras
 use Rattle.plans_run.specs.declared.run.Run.{Run}
+use Rattle.plans_run.specs.declared.untold.Store.{Store}
+use Rattle.plans_run.specs.declared.untold.UntoldRun.{UntoldRun}
 use Rattle.plans_run.specs.Search.{losing_run_of}
+use Rattle.plans_run.specs.UntoldSearch.{untold_run_of}
+use Rattle.plans_text.specs.declared.shown.Shown.{Shown}
+use Rattle.plans_text.specs.declared.shown.Shown.TheVariants as shows
 use Rattle.plans_text.specs.declared.limits.TheConstants.{WORDS, PRODUCERS, STEPS}
 use Rattle.plans_text.specs.declared.draft.Mark.{Mark}
 use Rattle.plans_text.specs.declared.draft.Draft.{Draft}
@@ -195,27 +201,82 @@ abbrev pub case_text : Run → Text
 case_text run =
     decimal run.case.identity ++ (bank_word run.case.bank ++ begin_word run.begin)
 
+-- Runs with more stores were not looked for.
+abbrev pub none_text : Text
+none_text = 10 ∷ codes "  run: none was found with one store at most"
+
 abbrev pub run_text : List Place → Option Run → Text
-run_text places None = []
+run_text places None = none_text
 run_text places (Some run) =
     (10 ∷ codes "  run: identity ")
     ++ (case_text run ++ extra_text places run.case.producer run.extra)
 
-abbrev pub verdict_text : List Place → Option Run → Verdict → Text
-verdict_text places run Accepted = codes "accepted"
-verdict_text places run (Refused rule before) =
-    codes "refused " ++ (rule_word rule ++ (place_text (slice_get places before)
-    ++ run_text places run))
+-- ---- the run that is shown of a plan that may leave its host untold
 
--- The run of a plan that breaks a rule of safety; none of another one, since that loses nothing.
-abbrev pub run_shown : List Kind → Terms → List Step → Verdict → Option Run
-run_shown producers terms plan Accepted = None
-run_shown producers terms plan (Refused rules.Notice before) = None
-run_shown producers terms plan (Refused rule before) = losing_run_of producers terms plan
+abbrev pub spot_word : Spot → Text
+spot_word InOld = codes " in the old place"
+spot_word InHand = codes " in the hand"
+spot_word InNew = codes " in the new place"
+
+abbrev pub store_text : List Place → Option Store → Text
+store_text places None = codes ", and pending there"
+store_text places (Some store) =
+    extra_text places store.producer (extras.Stores store.before store.route)
+
+abbrev pub threshold_text : Option Spot → Text
+threshold_text None = codes "1 everywhere"
+threshold_text (Some spot) = codes "0" ++ (spot_word spot ++ codes " and 1 elsewhere")
+
+abbrev pub delivery_text : Spot → Text
+delivery_text spot =
+    codes "; at the start delivery is 1" ++ (spot_word spot
+    ++ codes " and 0 elsewhere, and the threshold is ")
+
+-- How it ends; the numbers are named where a notice heeds them.
+abbrev pub untold_end_text : Bool → UntoldRun → Text
+untold_end_text true run =
+    delivery_text run.delivery ++ (threshold_text run.threshold
+    ++ (codes "; in the end it is pending, enabled and let through in the new place"
+    ++ codes ", and the host was not told"))
+untold_end_text false run =
+    codes "; in the end it is pending and enabled in the new place, and the host was not told"
+
+abbrev pub untold_begin_text : UntoldRun → Text
+untold_begin_text run =
+    (10 ∷ codes "  run: identity ")
+    ++ (decimal run.identity ++ codes " is enabled in the old place at the start")
+
+abbrev pub untold_text : List Place → Bool → Option UntoldRun → Text
+untold_text places heeds None =
+    none_text ++ codes "; the rule asks for more than that the host is told"
+untold_text places heeds (Some run) =
+    untold_begin_text run ++ (store_text places run.store ++ untold_end_text heeds run)
+
+-- ---- what is shown of a verdict
+
+abbrev pub shown_text : List Place → Shown → Text
+shown_text places shows.Nothing = []
+shown_text places (shows.Losing run) = run_text places run
+shown_text places (shows.Untold run heeds) = untold_text places heeds run
+
+abbrev pub verdict_text : List Place → Shown → Verdict → Text
+verdict_text places shown Accepted = codes "accepted"
+verdict_text places shown (Refused rule before) =
+    codes "refused " ++ (rule_word rule ++ (place_text (slice_get places before)
+    ++ shown_text places shown))
+
+-- Of a plan that breaks a rule of safety a run that loses something; of one that breaks the rule on
+-- notices one that leaves the host untold.
+abbrev pub shown_of : List Kind → Terms → List Step → Verdict → Shown
+shown_of producers terms plan Accepted = shows.Nothing
+shown_of producers terms plan (Refused rules.Notice before) =
+    shows.Untold (untold_run_of producers terms plan) terms.heeds
+shown_of producers terms plan (Refused rule before) =
+    shows.Losing (losing_run_of producers terms plan)
 
 abbrev pub found_text : List Place → List Kind → Terms → List Step → Verdict → Text
 found_text places producers terms plan verdict =
-    verdict_text places (run_shown producers terms plan verdict) verdict
+    verdict_text places (shown_of producers terms plan verdict) verdict
 
 abbrev pub bad_or_verdict : Option ℕ → Plan → Text
 bad_or_verdict (Some line) plan = codes "bad line " ++ decimal line

@@ -6,9 +6,11 @@ ghost use Rattle.plans_text.specs.PlanFile as file;
 ghost use Rattle.plans_text.specs.PlanFile.{place_of};
 
 use crate::draft::Mark;
+use crate::shown::Shown;
+use crate::untold::push_untold;
 use itoa::Buffer;
-use plans_judge::{Bank, Kind, Rule, Step, Terms, Verdict};
-use plans_run::{Begin, Extra, Route, Run, losing_run};
+use plans_judge::{Bank, Rule, Verdict};
+use plans_run::{Begin, Extra, Route, Run};
 use std::alloc::AllocError;
 
 /// Gives the word of a rule.
@@ -138,7 +140,7 @@ fn begin_word(begin: Begin) -> &'static [u8]
 }
 
 /// Appends a store that lands at once. `Err`: there is no memory for it.
-fn push_store(
+pub(crate) fn push_store(
     out: &mut Vec<u8>,
     marks: &[Mark],
     producer: usize,
@@ -225,27 +227,46 @@ fn push_whole_run(out: &mut Vec<u8>, marks: &[Mark], run: Run) -> Result<(), All
     push_extra(out, marks, run.case.producer, run.extra)
 }
 
-/// Appends a run, where there is one. `Err`: there is no memory for it.
+/// Appends that no run was found. `Err`: there is no memory for it.
+pub(crate) fn push_none(out: &mut Vec<u8>) -> Result<(), AllocError>
+    ensures { OnOk result (out.new.items ≡ out.old.items ++ file.none_text) }
+{
+    out.extend_from_slice(b"\n  run: none was found with one store at most")
+}
+
+/// Appends a run, or that none was found. `Err`: there is no memory for it.
 fn push_run(out: &mut Vec<u8>, marks: &[Mark], run: Option<Run>) -> Result<(), AllocError>
     ensures { OnOk result (out.new.items
         ≡ out.old.items ++ file.run_text (map place_of marks.now) run) }
 {
     match run {
-        None => Ok(()),
+        None => push_none(out),
         Some(run) => push_whole_run(out, marks, run),
     }
 }
 
-/// Appends a verdict on a plan whose steps were read at these places, and a run of it. `Err`: there
-/// is no memory for it.
+/// Appends what is shown beside a verdict. `Err`: there is no memory for it.
+fn push_shown(out: &mut Vec<u8>, marks: &[Mark], shown: Shown) -> Result<(), AllocError>
+    ensures { OnOk result (out.new.items
+        ≡ out.old.items ++ file.shown_text (map place_of marks.now) shown) }
+{
+    match shown {
+        Shown::Nothing => Ok(()),
+        Shown::Losing(run) => push_run(out, marks, run),
+        Shown::Untold { run, heeds } => push_untold(out, marks, heeds, run),
+    }
+}
+
+/// Appends a verdict on a plan whose steps were read at these places, and what is shown of it.
+/// `Err`: there is no memory for it.
 pub(crate) fn push_verdict(
     out: &mut Vec<u8>,
     marks: &[Mark],
-    run: Option<Run>,
+    shown: Shown,
     verdict: Verdict,
 ) -> Result<(), AllocError>
     ensures { OnOk result (out.new.items
-        ≡ out.old.items ++ file.verdict_text (map place_of marks.now) run verdict) }
+        ≡ out.old.items ++ file.verdict_text (map place_of marks.now) shown verdict) }
 {
     match verdict {
         Verdict::Accepted => out.extend_from_slice(b"accepted"),
@@ -253,26 +274,7 @@ pub(crate) fn push_verdict(
             out.extend_from_slice(b"refused ")?;
             out.extend_from_slice(rule_word(rule))?;
             push_place(out, marks, before)?;
-            push_run(out, marks, run)
+            push_shown(out, marks, shown)
         }
-    }
-}
-
-/// Gives the run that is shown of a plan. `None`: it loses nothing, or none was found.
-pub(crate) fn run_shown(
-    producers: &[Kind],
-    terms: Terms,
-    plan: &[Step],
-    verdict: Verdict,
-) -> Option<Run>
-    ensures { result ≡ file.run_shown producers.now terms plan.now verdict }
-{
-    match verdict {
-        Verdict::Accepted => None,
-        Verdict::Refused {
-            rule: Rule::Notice,
-            ..
-        } => None,
-        Verdict::Refused { .. } => losing_run(producers, terms, plan),
     }
 }

@@ -4,9 +4,10 @@ ghost use Rattle.std.specs.Prelude.{◌≡◌, ◌<◌, ◌+◌, ◌++◌, Some,
 ghost use Rattle.plans_text.specs.PlanFile as file;
 ghost use Rattle.plans_text.specs.PlanFile.{AreInFile, plan_of, place_of};
 
-use crate::answer::{push_number, push_verdict, run_shown};
+use crate::answer::{push_number, push_verdict};
 use crate::limits::{PRODUCERS, STEPS, WORDS};
 use crate::line::Line;
+use crate::shown::shown_of;
 use plans_judge::{Kind, Spot, Step, Terms, judge};
 use std::alloc::{AllocError, Global};
 
@@ -237,8 +238,8 @@ impl Draft {
             }
             None => {
                 let verdict = judge(alloc, &self.producers, self.terms, &self.steps)?;
-                let run = run_shown(&self.producers, self.terms, &self.steps, verdict);
-                push_verdict(out, &self.marks, run, verdict)
+                let shown = shown_of(&self.producers, self.terms, &self.steps, verdict);
+                push_verdict(out, &self.marks, shown, verdict)
             }
         }
     }

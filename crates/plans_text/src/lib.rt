@@ -8,8 +8,12 @@ pub mod limits;
 mod line;
 mod parse;
 mod plan_file;
+mod plan_reader;
+mod shown;
+mod untold;
 mod words;
 
 pub use line::{Line, Reading};
 pub use parse::parse_line;
 pub use plan_file::answers;
+pub use plan_reader::PlanReader;

@@ -1,14 +1,16 @@
 //! A file of plans, as far as its texts are read.
 
-ghost use Rattle.std.specs.Prelude.{◌≡◌, ◌+◌, ◌-◌, ◌^◌, ◌<◌, IfOk, OnOk, None, nat_eq, position};
+ghost use Rattle.std.specs.Prelude.{◌≡◌, ◌+◌, ◌-◌, ◌^◌, ◌<◌, [], IfOk, OnOk, None, nat_eq, position};
 ghost use Rattle.plans_text.specs.PlanFile as file;
 ghost use Rattle.plans_text.specs.PlanFile.{AreInFile, read_of};
+ghost use Rattle.plans_text.specs.Streaming.{NoEnd};
 
 use crate::draft::Draft;
 use crate::line::{Line, Reading};
 use crate::parse::parse_line;
 use crate::words::place_of;
 use std::alloc::{AllocError, Global};
+use std::mem::swap;
 
 /// A file of plans, as far as its texts are read.
 #[derive(Drop)]
@@ -24,7 +26,7 @@ pub(crate) struct PlanFile {
 
 impl PlanFile {
     /// Makes a file of which no text was read.
-    fn new(alloc: Global) -> PlanFile
+    pub(crate) fn new(alloc: Global) -> PlanFile
         ensures read { read_of result ≡ file.none_read }
         ensures inside { AreInFile result.draft }
     {
@@ -75,7 +77,7 @@ impl PlanFile {
     }
 
     /// Reads one text more. `Err`: there is no memory for it.
-    fn add_text(&mut self, alloc: Global, text: &[u8]) -> Result<(), AllocError>
+    pub(crate) fn add_text(&mut self, alloc: Global, text: &[u8]) -> Result<(), AllocError>
         requires inside { AreInFile self.old.draft }
         requires room { self.old.lines < 2 ^ 64 - 1 }
         ensures read { OnOk result
@@ -88,12 +90,11 @@ impl PlanFile {
     }
 
     /// Reads what stands behind the last LF, where anything does. `Err`: there is no memory for it.
-    fn add_last(&mut self, alloc: Global, text: &[u8]) -> Result<(), AllocError>
+    pub(crate) fn add_last(&mut self, alloc: Global, text: &[u8]) -> Result<(), AllocError>
         requires inside { AreInFile self.old.draft }
         requires room { self.old.lines < 2 ^ 64 - 1 }
-        requires no_end { None ≡ position (λ b. nat_eq b 10) text.now }
-        ensures read { OnOk result
-            (read_of self.new ≡ file.with_texts (read_of self.old) (file.texts_of text.now)) }
+        ensures read { OnOk result (NoEnd text.now
+            → read_of self.new ≡ file.with_texts (read_of self.old) (file.texts_of text.now)) }
         ensures inside { AreInFile self.new.draft }
     {
         if text.is_empty() {
@@ -103,8 +104,19 @@ impl PlanFile {
         }
     }
 
+    /// Gives the answers that wait, so that none does.
+    pub(crate) fn take_answers(&mut self, alloc: Global) -> Vec<u8>
+        ensures answers { result.items ≡ self.old.answers.items }
+        ensures read { self.new ≡ record self.old { answers = self.new.answers } }
+        ensures empty { self.new.answers.items ≡ [] }
+    {
+        let mut answers = Vec::new(alloc);
+        swap(&mut answers, &mut self.answers);
+        answers
+    }
+
     /// Ends the file, and gives all that is answered. `Err`: there is no memory for it.
-    fn finish(self, alloc: Global) -> Result<Vec<u8>, AllocError>
+    pub(crate) fn finish(self, alloc: Global) -> Result<Vec<u8>, AllocError>
         requires { AreInFile self.draft }
         ensures { IfOk result (λ out. out.items ≡ file.all_answers (read_of self)) }
     {

@@ -1,0 +1,40 @@
+use Rattle.std.proofs.Common.{arith, subst, ap, Err}
+use Rattle.plans_program.proofs.PieceLemmas.{SoFar, as_many, rose_since, ends_done, ends_failed, ends_past, so_far_more, stops_piece}
+use Rattle.plans_program.proofs.judging.judge_file.Goals as goal
+
+pub returns-in-Got : goal.returns-in-Got
+returns-in-Got g c =
+    let n = c.in-Got.field-0 in
+    record {
+      ends = ends_past c.loop-reader.reader _ _ _ _ _ n _ _ _ _ c.read_front.new.piece (subst (SoFar c.loop-reader.reader _ _ _ _) c.if-taken-eq-FILE_BYTES.true c.loop-reader.invariant.so_far) c.in-Got.ensures.bytes.2
+          (as_many n _ c.read_front.new.piece c.in-Got.ensures.bytes.1 (omega (arith, c.clamp-asked.ensures, c.read_front.auto.piece))) (omega (arith, c.in-Got.ensures.bytes.0, c.in-Got.ensures.bytes.1, c.clamp-asked.ensures, c.if-taken-eq-FILE_BYTES.true));
+    }
+
+pub returns-in-Err : goal.returns-in-Err
+returns-in-Err g c =
+    let n = c.in-Got.field-0 in
+    record {
+      ends = stops_piece c.stopped.result c.in-Err.stop c.loop-reader.reader _ _ _ _ _ _ c.loop-reader.taken n _ _ _ _ c.read_front.new.piece c.loop-reader.invariant.so_far c.in-Got.ensures.bytes.2
+          (as_many n _ c.read_front.new.piece c.in-Got.ensures.bytes.1 (omega (arith, c.clamp-asked.ensures, c.read_front.auto.piece))) (omega (arith, c.in-Got.ensures.bytes.1, c.clamp-asked.ensures, c.loop-reader.invariant.so_far.within, c.if-taken-eq-FILE_BYTES.false)) c.in-Err.ensures.cut
+          (λ e. rose_since _ _ _ c.loop-reader.invariant.sink_later (c.in-Err.ensures.fault (ap Err e))) c.stopped.ensures;
+    }
+
+pub loop-reader-preserved : goal.loop-reader-preserved
+loop-reader-preserved g c =
+    let n = c.in-Got.field-0 in
+    record {
+      so_far = so_far_more c.loop-reader.reader c.judge_piece.new.reader _ _ _ _ _ _ c.loop-reader.taken n c.read_front.new.piece c.loop-reader.invariant.so_far c.in-Got.ensures.bytes.2 c.in-Got.ensures.bytes.3
+          (as_many n _ c.read_front.new.piece c.in-Got.ensures.bytes.1 (omega (arith, c.clamp-asked.ensures, c.read_front.auto.piece))) (omega (arith, c.in-Got.ensures.bytes.1, c.clamp-asked.ensures, c.loop-reader.invariant.so_far.within, c.if-taken-eq-FILE_BYTES.false)) c.in_default.ensures.ok;
+      source_later = omega (arith, c.in-Got.ensures.cause, c.loop-reader.invariant.source_later);
+      sink_later = omega (arith, c.judge_piece.ensures.later, c.loop-reader.invariant.sink_later);
+    }
+
+pub returns-in-Ok : goal.returns-in-Ok
+returns-in-Ok g c = record {
+  ends = ends_done c.loop-reader.reader _ _ _ _ _ _ _ _ _ _ _ c.loop-reader.invariant.so_far c.in-End.ensures.bytes.0 c.in-End.ensures.bytes.1 c.in-End.ensures.bytes.2 c.in-Ok.ensures.ok;
+}
+
+pub returns-in-Failed : goal.returns-in-Failed
+returns-in-Failed g c = record {
+  ends = ends_failed c.loop-reader.reader _ _ _ _ _ _ _ _ _ _ c.loop-reader.invariant.so_far c.in-Failed.ensures.bytes.0 (rose_since _ _ _ c.loop-reader.invariant.source_later c.in-Failed.ensures.cause.1);
+}
