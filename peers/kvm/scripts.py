@@ -11,7 +11,6 @@ import model
 import reading
 import vocabulary as say
 from random_scripts import Generator
-from spelling import spelled_alike
 
 ROOT, CHILD, REGION_BYTES = 0x0c000000, 0x0c008000, 0x8000
 FILES = 0x28000000
@@ -65,12 +64,12 @@ class Theirs(Generator):
             return None
         if form == "st" and fields[0] == CHILD:
             text = b"st %#x %#x" % (CHILD, fields[1] | DELIVERY_BY_MSI)
-        return self.put_accepted(form, spelled_alike(text))
+        return self.put_accepted(form, text)
 
     def put_machine(self, text, fields):
         if self.twin.machine or fields != [self.harts, self.guests, self.greatest, self.sources]:
             return None
-        self.put_accepted("machine", spelled_alike(text))
+        self.put_accepted("machine", text)
         if self.subject == "aplic":
             stores = [(ROOT + offset, value) for offset, value in ADDRESSES]
             stores += [(ROOT + 4 * source, 0x400) for source in range(1, self.sources + 1)]

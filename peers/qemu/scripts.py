@@ -12,7 +12,6 @@ import reading
 import vocabulary as say
 from bridge import CHILD, GREATEST, REGION_BYTES, ROOT, SOURCES
 from random_scripts import Generator
-from spelling import spelled_alike
 
 # What each subject is about, as a mood of the generator; `addresses` has scripts of its own.
 SUBJECTS = {"files": "files", "msi": "aplic", "direct": "aplic", "moves": "moves",
@@ -50,7 +49,6 @@ class Theirs(Generator):
         line = reading.read(text)
         if line is None or line[0] in UNTOLD_FORMS:
             return None
-        text = spelled_alike(text)
         form, fields = line
         if form == "machine":
             return self.put_machine(text, fields)
