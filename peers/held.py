@@ -121,6 +121,18 @@ def words_of(arguments, usage):
     return None
 
 
+def print_script(subjects, make, usage):
+    """Prints the random script that the words of the command line name: SUBJECT, SEED, COUNT. Gives
+    the exit status."""
+    words = sys.argv[1:]
+    if len(words) != 3 or words[0] not in subjects or not (
+            re.fullmatch("[0-9]{1,9}", words[1]) and re.fullmatch("[1-9][0-9]{0,4}", words[2])):
+        print(usage, file=sys.stderr)
+        return 2
+    sys.stdout.buffer.write(make(words[0], int(words[1]), int(words[2])))
+    return 0
+
+
 def hold(program, known, subjects, seeds, seconds, make, foresee, answer):
     """Compares over scripts of each subject and seed: `make` gives a script, `foresee` what the
     peer's rules say, `answer` what the peer says."""

@@ -1,5 +1,11 @@
+#!/usr/bin/env python3
 """Random scripts that KVM can answer, by subject: those of the model written apart, without the
-lines of which KVM has nothing, and without those that are refused."""
+lines of which KVM has nothing, and without those that are refused.
+
+    scripts.py SUBJECT SEED COUNT    prints one
+
+SUBJECT is files, aplic or moves; SEED is a number, and COUNT how many lines there are, at most.
+"""
 
 import sys
 from pathlib import Path
@@ -7,6 +13,7 @@ from pathlib import Path
 HERE = Path(__file__).resolve().parent
 sys.path[:0] = [str(HERE.parent), str(HERE.parent / "apart")]
 
+import held
 import model
 import reading
 import vocabulary as say
@@ -113,3 +120,7 @@ class Theirs(Generator):
 def random_script(subject, seed, count):
     """The script of a subject and a seed."""
     return Theirs(subject, seed, count).script()
+
+
+if __name__ == "__main__":
+    sys.exit(held.print_script(SUBJECTS, random_script, __doc__))

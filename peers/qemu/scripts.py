@@ -1,5 +1,12 @@
+#!/usr/bin/env python3
 """Random scripts that can be told to QEMU, by subject: those of the model written apart, with the
-sizes of QEMU's machine and without the lines of which it has nothing."""
+sizes of QEMU's machine and without the lines of which it has nothing.
+
+    scripts.py SUBJECT SEED COUNT    prints one
+
+SUBJECT is files, msi, direct, moves, running, images, majors, addresses or everything; SEED is a
+number, and COUNT how many lines there are, at most.
+"""
 
 import random
 import sys
@@ -8,6 +15,7 @@ from pathlib import Path
 HERE = Path(__file__).resolve().parent
 sys.path[:0] = [str(HERE.parent), str(HERE.parent / "apart")]
 
+import held
 import reading
 import vocabulary as say
 from bridge import CHILD, GREATEST, REGION_BYTES, ROOT, SOURCES
@@ -77,10 +85,11 @@ class Theirs(Generator):
                                          or ROOT <= fields[0] < CHILD + REGION_BYTES)
 
     def put_register(self, address, value):
-        """DM is what QEMU has, the registers of MSI addresses stay, and no target of the child
-        leads to a guest file, since whoever is there would get what the model gives to nobody."""
+        """DM is what QEMU has, the registers of MSI addresses stay where MSIs are sent, and no
+        target of the child leads to a guest file, since whoever is there would get what the model
+        gives to nobody."""
         offset = address % REGION_BYTES
-        if offset in ADDRESS_OFFSETS:
+        if offset in ADDRESS_OFFSETS and not self.is_direct:
             return None
         if offset == 0:
             value = value & ~DELIVERY_BY_MSI if self.is_direct else value | DELIVERY_BY_MSI
@@ -111,3 +120,7 @@ def random_script(subject, seed, count):
     if subject == "addresses":
         return addresses_script(seed, count // 4)
     return Theirs(subject, seed, count).script()
+
+
+if __name__ == "__main__":
+    sys.exit(held.print_script(SUBJECTS, random_script, __doc__))
