@@ -29,8 +29,7 @@ DIRECT_FORMS = {"machine", "st", "ld", "wire", "pins"}
 UNTOLD_FORMS = {"bad", "pass", "again"}
 DELIVERY_BY_MSI = 4
 ADDRESS_OFFSETS = (0x1bc0, 0x1bc4, 0x1bc8, 0x1bcc)
-SETUP = ((ROOT + 0x1bc0, 0x24000), (ROOT + 0x1bc4, 0x2000), (ROOT + 0x1bc8, 0x28000),
-         (ROOT + 0x1bcc, 0x500000), (ROOT, DELIVERY_BY_MSI), (CHILD, DELIVERY_BY_MSI))
+SETUP = held.lines_of((HERE / "begin.script").read_bytes())
 say.MOOD_WEIGHTS["files"] = {say.host: 40, say.machine_level: 30, say.host_file_store: 30,
                              say.pins: 14, say.host_look: 8, say.elsewhere: 4}
 
@@ -75,8 +74,8 @@ class Theirs(Generator):
             return None
         self.is_set_up = True
         answer = super().put(text)
-        for address, value in () if self.is_direct else SETUP:
-            super().put(f"st {address:#x} {value:#x}".encode())
+        for line in () if self.is_direct else SETUP:
+            super().put(line)
         return answer
 
     def is_direct_line(self, form, fields):
