@@ -1,9 +1,8 @@
 """Holds the answers of a peer against those of the program, over random scripts.
 
 An answer is the same; or it differs, and then it is *explained* where the rules of the peer foresee
-it and a row of its file of known differences says why; or it is neither. Rows have four columns
-with a TAB between: the pattern of the line, that of the program's answer, that of the peer's, each
-a regular expression for all of it, and the reason, a heading of docs/PEERS.md.
+it and a row of its file of known differences says why, the file that suite/compare takes with
+--known; or it is neither.
 """
 
 import os
@@ -15,9 +14,13 @@ import time
 from collections import Counter
 from pathlib import Path
 
-sys.path.insert(0, str(Path(__file__).resolve().parent / "apart"))
+HERE = Path(__file__).resolve().parent
+sys.path.insert(0, str(HERE / "apart"))
+# Behind the peers' own modules, of which one has the name of one there.
+sys.path.append(str(HERE.parent / "suite"))
 
 import reading
+from answers import Known
 
 ANY = "-"
 TIME_LIMIT, OUTPUT_LIMIT = 60, 16 << 20
@@ -25,28 +28,6 @@ TIME_LIMIT, OUTPUT_LIMIT = 60, 16 << 20
 
 class Stopped(Exception):
     """The comparison can't go on."""
-
-
-def rows(path):
-    """The rows of a file of known differences."""
-    found = []
-    for number, line in enumerate(path.read_text().split("\n"), 1):
-        if not line or line.startswith("#"):
-            continue
-        columns = line.split("\t")
-        if len(columns) != 4:
-            raise Stopped(f"{path}: line {number} has not four columns")
-        found.append((*map(re.compile, columns[:3]), columns[3]))
-    return found
-
-
-def reason(known, line, wanted, got):
-    """The reason of the first row that fits a difference, None where none fits."""
-    for line_pattern, wanted_pattern, got_pattern, why in known:
-        if (line_pattern.fullmatch(line) and wanted_pattern.fullmatch(wanted)
-                and got_pattern.fullmatch(got)):
-            return why
-    return None
 
 
 def printed(command, script):
@@ -101,7 +82,7 @@ class Tally:
             if foreseen == ANY:
                 counts["not looked at"] += 1
                 continue
-            why = reason(self.known, line.decode(), ours, theirs) if ours != theirs else ""
+            why = self.known.reason(line.decode(), ours, theirs) if ours != theirs else ""
             if foreseen == theirs and why is not None:
                 counts["differ, explained" if why else "same"] += 1
                 self.reasons[why] += bool(why)
@@ -140,10 +121,22 @@ def words_of(arguments, usage):
     return None
 
 
+def print_script(subjects, make, usage):
+    """Prints the random script that the words of the command line name: SUBJECT, SEED, COUNT. Gives
+    the exit status."""
+    words = sys.argv[1:]
+    if len(words) != 3 or words[0] not in subjects or not (
+            re.fullmatch("[0-9]{1,9}", words[1]) and re.fullmatch("[1-9][0-9]{0,4}", words[2])):
+        print(usage, file=sys.stderr)
+        return 2
+    sys.stdout.buffer.write(make(words[0], int(words[1]), int(words[2])))
+    return 0
+
+
 def hold(program, known, subjects, seeds, seconds, make, foresee, answer):
     """Compares over scripts of each subject and seed: `make` gives a script, `foresee` what the
     peer's rules say, `answer` what the peer says."""
-    tally, deadline = Tally(rows(known)), time.monotonic() + seconds
+    tally, deadline = Tally(Known(known)), time.monotonic() + seconds
     for seed in seeds:
         for subject in subjects:
             if time.monotonic() > deadline:

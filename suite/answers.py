@@ -161,13 +161,18 @@ class Known:
             fail(f"{path}, line {number}: a row is LINE | MODEL | MINE | REASON")
         return fields
 
-    def has(self, line, model, mine):
-        """Says whether a difference is known, and counts it."""
-        for at, (pattern, *patterns, _) in enumerate(self.rows):
+    def reason(self, line, model, mine):
+        """Gives the reason of the first row that fits a difference, and counts it; None where none
+        does."""
+        for at, (pattern, *patterns, why) in enumerate(self.rows):
             if fits(line, pattern) and all(map(fnmatchcase, (model, mine), patterns)):
                 self.met[at] += 1
-                return True
-        return False
+                return why
+        return None
+
+    def has(self, line, model, mine):
+        """Says whether a difference is known, and counts it."""
+        return self.reason(line, model, mine) is not None
 
     def told(self):
         """Says of each row how often it was met."""

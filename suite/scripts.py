@@ -10,7 +10,7 @@ import running
 import model
 import random_scripts
 
-LINES = ("only=", "without=", "machine=", "mood=", "refused=")
+LINES = ("only=", "without=", "machine=", "mood=", "refused=", "begin=")
 SEEDS = (1 << 64) - 1
 MOST_LINES = 100_000
 
@@ -23,6 +23,7 @@ class Draw(NamedTuple):
     mood: str = None
     refused: int = None
     without: tuple = ()
+    begin: tuple = ()
 
 
 def draw_of(given):
@@ -34,7 +35,26 @@ def draw_of(given):
         answers.forms_of(given["only"]) if "only" in given else None,
         answers.sizes_of(given["machine"]) if "machine" in given else None, mood,
         running.number(refused, "PERCENT", 0, 80) if refused is not None else None,
-        tuple(given["without"].split(",")) if "without" in given else ())
+        tuple(given["without"].split(",")) if "without" in given else (),
+        beginning(given["begin"]) if "begin" in given else ())
+
+
+def beginning(path):
+    """Reads the lines that stand behind the machine of each script."""
+    return tuple(text for text in answers.reading.texts(running.contents(path))
+                 if not answers.reading.is_skipped(text))
+
+
+def begun(script, begin):
+    """Gives a script with these lines behind its machine, and how many lines that have an answer
+    stand before them."""
+    texts, before = script.split(b"\n"), 0
+    for at, text in enumerate(texts):
+        before += not answers.reading.is_skipped(text)
+        name, fields = answers.reading.read(text) or ("", ())
+        if name == "machine" and model.is_machine_size(*fields):
+            return b"\n".join([*texts[:at + 1], *begin, *texts[at + 1:]]), before
+    return script, before
 
 
 class Filter:

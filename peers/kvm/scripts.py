@@ -1,5 +1,11 @@
+#!/usr/bin/env python3
 """Random scripts that KVM can answer, by subject: those of the model written apart, without the
-lines of which KVM has nothing, and without those that are refused."""
+lines of which KVM has nothing, and without those that are refused.
+
+    scripts.py SUBJECT SEED COUNT    prints one
+
+SUBJECT is files, aplic or moves; SEED is a number, and COUNT how many lines there are, at most.
+"""
 
 import sys
 from pathlib import Path
@@ -7,11 +13,11 @@ from pathlib import Path
 HERE = Path(__file__).resolve().parent
 sys.path[:0] = [str(HERE.parent), str(HERE.parent / "apart")]
 
+import held
 import model
 import reading
 import vocabulary as say
 from random_scripts import Generator
-from spelling import spelled_alike
 
 ROOT, CHILD, REGION_BYTES = 0x0c000000, 0x0c008000, 0x8000
 FILES = 0x28000000
@@ -65,12 +71,12 @@ class Theirs(Generator):
             return None
         if form == "st" and fields[0] == CHILD:
             text = b"st %#x %#x" % (CHILD, fields[1] | DELIVERY_BY_MSI)
-        return self.put_accepted(form, spelled_alike(text))
+        return self.put_accepted(form, text)
 
     def put_machine(self, text, fields):
         if self.twin.machine or fields != [self.harts, self.guests, self.greatest, self.sources]:
             return None
-        self.put_accepted("machine", spelled_alike(text))
+        self.put_accepted("machine", text)
         if self.subject == "aplic":
             stores = [(ROOT + offset, value) for offset, value in ADDRESSES]
             stores += [(ROOT + 4 * source, 0x400) for source in range(1, self.sources + 1)]
@@ -114,3 +120,7 @@ class Theirs(Generator):
 def random_script(subject, seed, count):
     """The script of a subject and a seed."""
     return Theirs(subject, seed, count).script()
+
+
+if __name__ == "__main__":
+    sys.exit(held.print_script(SUBJECTS, random_script, __doc__))

@@ -1,5 +1,12 @@
+#!/usr/bin/env python3
 """Random scripts that can be told to QEMU, by subject: those of the model written apart, with the
-sizes of QEMU's machine and without the lines of which it has nothing."""
+sizes of QEMU's machine and without the lines of which it has nothing.
+
+    scripts.py SUBJECT SEED COUNT    prints one
+
+SUBJECT is files, msi, direct, moves, running, images, majors, addresses or everything; SEED is a
+number, and COUNT how many lines there are, at most.
+"""
 
 import random
 import sys
@@ -8,11 +15,11 @@ from pathlib import Path
 HERE = Path(__file__).resolve().parent
 sys.path[:0] = [str(HERE.parent), str(HERE.parent / "apart")]
 
+import held
 import reading
 import vocabulary as say
 from bridge import CHILD, GREATEST, REGION_BYTES, ROOT, SOURCES
 from random_scripts import Generator
-from spelling import spelled_alike
 
 # What each subject is about, as a mood of the generator; `addresses` has scripts of its own.
 SUBJECTS = {"files": "files", "msi": "aplic", "direct": "aplic", "moves": "moves",
@@ -22,8 +29,7 @@ DIRECT_FORMS = {"machine", "st", "ld", "wire", "pins"}
 UNTOLD_FORMS = {"bad", "pass", "again"}
 DELIVERY_BY_MSI = 4
 ADDRESS_OFFSETS = (0x1bc0, 0x1bc4, 0x1bc8, 0x1bcc)
-SETUP = ((ROOT + 0x1bc0, 0x24000), (ROOT + 0x1bc4, 0x2000), (ROOT + 0x1bc8, 0x28000),
-         (ROOT + 0x1bcc, 0x500000), (ROOT, DELIVERY_BY_MSI), (CHILD, DELIVERY_BY_MSI))
+SETUP = held.lines_of((HERE / "begin.script").read_bytes())
 say.MOOD_WEIGHTS["files"] = {say.host: 40, say.machine_level: 30, say.host_file_store: 30,
                              say.pins: 14, say.host_look: 8, say.elsewhere: 4}
 
@@ -50,7 +56,6 @@ class Theirs(Generator):
         line = reading.read(text)
         if line is None or line[0] in UNTOLD_FORMS:
             return None
-        text = spelled_alike(text)
         form, fields = line
         if form == "machine":
             return self.put_machine(text, fields)
@@ -69,8 +74,8 @@ class Theirs(Generator):
             return None
         self.is_set_up = True
         answer = super().put(text)
-        for address, value in () if self.is_direct else SETUP:
-            super().put(f"st {address:#x} {value:#x}".encode())
+        for line in () if self.is_direct else SETUP:
+            super().put(line)
         return answer
 
     def is_direct_line(self, form, fields):
@@ -79,10 +84,11 @@ class Theirs(Generator):
                                          or ROOT <= fields[0] < CHILD + REGION_BYTES)
 
     def put_register(self, address, value):
-        """DM is what QEMU has, the registers of MSI addresses stay, and no target of the child
-        leads to a guest file, since whoever is there would get what the model gives to nobody."""
+        """DM is what QEMU has, the registers of MSI addresses stay where MSIs are sent, and no
+        target of the child leads to a guest file, since whoever is there would get what the model
+        gives to nobody."""
         offset = address % REGION_BYTES
-        if offset in ADDRESS_OFFSETS:
+        if offset in ADDRESS_OFFSETS and not self.is_direct:
             return None
         if offset == 0:
             value = value & ~DELIVERY_BY_MSI if self.is_direct else value | DELIVERY_BY_MSI
@@ -113,3 +119,7 @@ def random_script(subject, seed, count):
     if subject == "addresses":
         return addresses_script(seed, count // 4)
     return Theirs(subject, seed, count).script()
+
+
+if __name__ == "__main__":
+    sys.exit(held.print_script(SUBJECTS, random_script, __doc__))

@@ -13,6 +13,7 @@
 #define LINE_BYTES 130
 #define MOST_WORDS 8
 #define MOST_STORES 200
+#define MOST_SOURCES 1024
 #define ROOT_DOMAIN 0x0c000000UL
 #define CHILD_DOMAIN 0x0c008000UL
 #define DOMAINS_END 0x0c010000UL
@@ -268,6 +269,18 @@ static void load(unsigned long address)
 		printf("0x%08x\n", value);
 }
 
+/* A level that stands already is told to no wire. */
+static void wire(unsigned long source, unsigned long level)
+{
+	static unsigned char levels[MOST_SOURCES];
+
+	if (source < MOST_SOURCES && levels[source] != level) {
+		levels[source] = level;
+		kvm_riscv_aia_inject_irq(machine, source, level);
+	}
+	puts("ok");
+}
+
 static void guest_access(char **words, int count)
 {
 	struct kvm_vcpu *vcpu = vcpu_of(guests, words[2]);
@@ -368,7 +381,7 @@ static void answer(const char *line)
 	else if (!strcmp(words[0], "machine"))
 		begin(words);
 	else if (!strcmp(words[0], "wire"))
-		kvm_riscv_aia_inject_irq(machine, number(words[1]), number(words[2])), puts("ok");
+		wire(number(words[1]), number(words[2]));
 	else if (!strcmp(words[0], "st"))
 		store(number(words[1]), number(words[2]));
 	else if (!strcmp(words[0], "ld"))
