@@ -141,6 +141,17 @@ static void codes(void)
     aia_close(&handle);
 }
 
+/* Writes 0 over each word of a file's pending set, in which just this bit of this word stood. */
+static void clear_all_but(struct aia **handle, uint64_t number, uint64_t bit)
+{
+    for (uint64_t word = 0x80; word < 0xa0; word += 2) {
+        uint64_t value;
+        CHECK(aia_csr(handle, 0, AIA_SISELECT, AIA_CSRRW, word, &value) == AIA_DONE);
+        CHECK(aia_csr(handle, 0, AIA_SIREG, AIA_CSRRW, 0, &value) == AIA_DONE);
+        CHECK(value == (word == number ? bit : 0));
+    }
+}
+
 /* Each handle has its own machine: identity I + 1 of handle I's file is pending in it alone. */
 static void many(void)
 {
@@ -153,12 +164,8 @@ static void many(void)
     for (int round = 0; round < ROUNDS; round++) {
         for (int at = 0; at < HANDLES; at++)
             CHECK(aia_store(&handles[at], 0x28000000, at + 1) == AIA_DONE);
-        for (int at = HANDLES - 1; at >= 0; at--) {
-            uint64_t value, bit = (uint64_t)1 << (at + 1) % 64, number = 0x80 + (at + 1) / 64 * 2;
-            CHECK(aia_csr(&handles[at], 0, AIA_SISELECT, AIA_CSRRW, number, &value) == AIA_DONE);
-            CHECK(aia_csr(&handles[at], 0, AIA_SIREG, AIA_CSRRW, 0, &value) == AIA_DONE);
-            CHECK(value == bit);
-        }
+        for (int at = HANDLES - 1; at >= 0; at--)
+            clear_all_but(&handles[at], 0x80 + (at + 1) / 64 * 2, (uint64_t)1 << (at + 1) % 64);
     }
     for (int at = 0; at < HANDLES; at += 2)
         aia_close(&handles[at]);
