@@ -12,7 +12,9 @@ import subprocess
 import sys
 import time
 from collections import Counter
+from collections.abc import Callable, Iterable
 from pathlib import Path
+from typing import NamedTuple
 
 HERE = Path(__file__).resolve().parent
 sys.path.insert(0, str(HERE / "apart"))
@@ -21,8 +23,11 @@ sys.path.append(str(HERE.parent / "suite"))
 
 import reading
 from answers import Known
+from refusals import Refused
 
 ANY = "-"
+LINES = 600  # of a script
+SECONDS = 1500  # of a comparison
 TIME_LIMIT, OUTPUT_LIMIT = 60, 16 << 20
 
 
@@ -113,12 +118,21 @@ def counted(counts):
     return "; ".join(f"{counts[word]} {word}" for word in words)
 
 
-def words_of(arguments, usage):
-    """PROGRAM, WHAT, SCRIPTS and SEED, of the command line; else the usage is printed, and None."""
-    if len(arguments) == 4 and all(re.fullmatch("[0-9]{1,9}", word) for word in arguments[2:]):
-        return arguments[0], arguments[1], int(arguments[2]), int(arguments[3])
-    print(usage, file=sys.stderr)
-    return None
+def foreseen(script, make):
+    """The answers of the rules of a peer to a script that begins with a `machine` line, of whose
+    sizes `make` gives a machine."""
+    machine, answers = None, []
+    for text in lines_of(script):
+        form, fields = reading.read(text)
+        if form == "machine":
+            machine = make(*fields)
+            answers.append("ok")
+            continue
+        try:
+            answers.append(getattr(machine, form)(*fields))
+        except Refused as refused:
+            answers.append(refused.word)
+    return answers
 
 
 def print_script(subjects, make, usage):
@@ -133,16 +147,42 @@ def print_script(subjects, make, usage):
     return 0
 
 
-def hold(program, known, subjects, seeds, seconds, make, foresee, answer):
-    """Compares over scripts of each subject and seed: `make` gives a script, `foresee` what the
-    peer's rules say, `answer` what the peer says."""
-    tally, deadline = Tally(Known(known)), time.monotonic() + seconds
+class Peer(NamedTuple):
+    """What is compared with the program."""
+
+    known: Path  # its file of known differences
+    subjects: Iterable[str]
+    random_script: Callable[[str, int, int], bytes]  # of a subject, a seed, so many lines
+    told: Callable[[str, bytes], list[str]]  # what its rules foresee of a subject's script
+    answers: Callable[[str, str, bytes, int], list[str]]  # its own: by WHAT, subject, script, seed
+
+
+def compared(peer, program, what, seeds):
+    """Compares over scripts of each subject and seed, and shows the counts. Says whether all is
+    explained."""
+    tally, deadline = Tally(Known(peer.known)), time.monotonic() + SECONDS
     for seed in seeds:
-        for subject in subjects:
+        for subject in peer.subjects:
             if time.monotonic() > deadline:
-                raise Stopped(f"it took more than {seconds} seconds")
-            script = make(subject, seed)
-            wanted = answers_of([program, "replay"], script)
-            tally.script(f"{subject} {seed}", subject, script, wanted, foresee(subject, script),
-                         answer(subject, script, seed))
+                raise Stopped(f"it took more than {SECONDS} seconds")
+            script = peer.random_script(subject, seed, LINES)
+            tally.script(f"{subject} {seed}", subject, script,
+                         answers_of([program, "replay"], script), peer.told(subject, script),
+                         peer.answers(what, subject, script, seed))
     return tally.show()
+
+
+def main(peer, usage):
+    """Compares a peer by the words of the command line: PROGRAM, WHAT, SCRIPTS and SEED. Gives the
+    exit status."""
+    words = sys.argv[1:]
+    if len(words) != 4 or not all(re.fullmatch("[0-9]{1,9}", word) for word in words[2:]):
+        print(usage, file=sys.stderr)
+        return 2
+    scripts, seed = int(words[2]), int(words[3])
+    try:
+        is_explained = compared(peer, words[0], words[1], range(seed, seed + scripts))
+    except Stopped as stopped:
+        print(f"{Path(sys.argv[0]).stem}: {stopped}", file=sys.stderr)
+        return 2
+    return 0 if is_explained else 1

@@ -95,15 +95,27 @@ class InterruptFile:
         if select >= 0x80:
             return self.access_set(select, operation, operand)
         if select == 0x70:
-            old = self.delivery
-            self.delivery = written(operation, operand, old) & 1
-            return old
+            return self.access_delivery(operation, operand)
         if select == 0x72:
-            old = self.threshold
-            if operation != "read":
-                self.threshold = written(operation, operand, old) % (self.greatest + 1)
-            return old
+            return self.access_threshold(operation, operand)
         return 0
+
+    def access_delivery(self, operation, operand):
+        """eidelivery: one bit is kept."""
+        old = self.delivery
+        self.delivery = written(operation, operand, old) & 1
+        return old
+
+    def access_threshold(self, operation, operand):
+        """eithreshold."""
+        old = self.threshold
+        if operation != "read":
+            self.threshold = self.kept_threshold(written(operation, operand, old))
+        return old
+
+    def kept_threshold(self, value):
+        """What eithreshold keeps of a value: as many bits as the greatest identity has."""
+        return value % (self.greatest + 1)
 
     def access_set(self, select, operation, operand):
         """eip k or eie k: the identities 32k to 32k + 63, of which those that the file has."""

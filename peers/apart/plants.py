@@ -144,7 +144,7 @@ def a_top_needs_delivery():
 
 @planted
 def a_threshold_is_kept_modulo_n():
-    in_source(InterruptFile, "access_register", "% (self.greatest + 1)", "% self.greatest")
+    in_source(InterruptFile, "kept_threshold", "% (self.greatest + 1)", "% self.greatest")
 
 
 @planted

@@ -15,8 +15,10 @@ import held
 import rules
 from scripts import SUBJECTS, random_script
 
-LINES = 600
-SECONDS = 1500
+
+def told(_, script):
+    """What KVM's rules foresee."""
+    return held.foreseen(script, rules.TheirMachine)
 
 
 def answers(bridge, subject, script, seed):
@@ -25,22 +27,6 @@ def answers(bridge, subject, script, seed):
     return held.answers_of(["qemu-riscv64", bridge, *words], script)
 
 
-def main():
-    words = held.words_of(sys.argv[1:], __doc__)
-    if not words:
-        return 2
-    program, bridge, scripts, seed = words
-    try:
-        is_explained = held.hold(
-            program, HERE / "known.txt", SUBJECTS, range(seed, seed + scripts), SECONDS,
-            lambda subject, number: random_script(subject, number, LINES),
-            lambda subject, script: rules.told(script),
-            lambda subject, script, number: answers(bridge, subject, script, number))
-    except held.Stopped as stopped:
-        print(f"compare_kvm: {stopped}", file=sys.stderr)
-        return 2
-    return 0 if is_explained else 1
-
-
 if __name__ == "__main__":
-    sys.exit(main())
+    KVM = held.Peer(HERE / "known.txt", SUBJECTS, random_script, told, answers)
+    sys.exit(held.main(KVM, __doc__))
