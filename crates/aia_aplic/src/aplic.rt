@@ -9,10 +9,10 @@ ghost use Rattle.aia_model.specs.Sent.{msi_of};
 ghost use Rattle.aia_domain.specs.Domain.{is_ready};
 ghost use Rattle.aia_home.specs.Aims.{target_of};
 ghost use Rattle.aia_model.specs.SourceOf.{harts_in, sources_in, register_read, is_signalled};
-ghost use Rattle.aia_aplic.specs.Aplic.{AplicStands, IsNewAplic, side, domain_name};
-ghost use Rattle.aia_aplic.specs.Passing.{is_passable_source, with_aim, hart_count, is_passable_in, AimsIn};
-ghost use Rattle.aia_aplic.specs.Sending.{IsFirstSource, IsFirst, IsBySource, asks_by_genmsi, does_wait, waiting, Next};
-ghost use Rattle.aia_aplic.specs.Bits.{AreSources, source_sender};
+ghost use Rattle.aia_wiring.specs.Aplic.{AplicStands, IsNewAplic, side, domain_name};
+ghost use Rattle.aia_wiring.specs.Passing.{is_passable_source, with_aim, hart_count, is_passable_in, AimsIn};
+ghost use Rattle.aia_wiring.specs.Sending.{IsFirstSource, IsFirst, IsBySource, asks_by_genmsi, does_wait, waiting, Next};
+ghost use Rattle.aia_wiring.specs.Bits.{AreSources, source_sender};
 
 use crate::bits::bits_search;
 use crate::guests::{are_for_guests, target_of};
@@ -40,7 +40,7 @@ pub struct Aplic {
 }
 
 impl Model for Aplic {
-    ghost use Rattle.aia_aplic.specs.Aplic.{AplicState};
+    ghost use Rattle.aia_wiring.specs.Aplic.{AplicState};
 
     ghost Value = { AplicState };
 

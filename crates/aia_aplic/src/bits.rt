@@ -1,6 +1,6 @@
 ghost use Rattle.std.specs.Prelude.{◌≡◌, ℕ, ◌+◌, ◌*◌, ◌<◌, ◌≤◌, Bool, Option, IfSome};
 ghost use Rattle.aia_word.specs.Sets.{has_bit, word_of};
-ghost use Rattle.aia_aplic.specs.Bits.{IsFirstMember, AreSources};
+ghost use Rattle.aia_wiring.specs.Bits.{IsFirstMember, AreSources};
 ghost use Rattle.aia_regs.specs.declared.limits.TheConstants.{SOURCE_WORDS};
 
 use aia_word::least_one;

@@ -1,8 +1,8 @@
 ghost use Rattle.std.specs.Prelude.{◌≡◌, ℕ, ◌+◌, ◌*◌, ◌<◌};
 ghost use Rattle.aia_word.specs.Sets.{word_of};
 ghost use Rattle.aia_domain.specs.Domain.{is_ready};
-ghost use Rattle.aia_aplic.specs.Aplic.{side, domain_name};
-ghost use Rattle.aia_aplic.specs.Bits.{AreSources};
+ghost use Rattle.aia_wiring.specs.Aplic.{side, domain_name};
+ghost use Rattle.aia_wiring.specs.Bits.{AreSources};
 
 use crate::aplic::Aplic;
 use crate::bits::Bits;
@@ -21,7 +21,7 @@ impl<L: Ledger> Bits for ReadyView<'_, L> {
     ghost use Rattle.std.specs.Prelude.{◌≡◌, ◌+◌};
     ghost use Rattle.std.proofs.Common.{◌∙◌, refl};
     ghost use Rattle.aia_domain.specs.Domain.{is_ready};
-    ghost use Rattle.aia_aplic.specs.Aplic.{side, domain_name};
+    ghost use Rattle.aia_wiring.specs.Aplic.{side, domain_name};
 
     ghost members = { λ v domain. is_ready (side v.aplic.now (domain_name domain)).domain };
 

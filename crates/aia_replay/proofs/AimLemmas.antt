@@ -30,10 +30,10 @@ use Rattle.aia_model.proofs.PlaceLemmas.{machine_first}
 use Rattle.aia_model.proofs.PassesStandLemmas.{passes_stand}
 use Rattle.aia_model.proofs.OwnPassLemmas.{own_is}
 use Rattle.aia_model.proofs.HistoryLemmas.{line_happens}
-use Rattle.aia_aplic.specs.Aplic.{AplicStands}
-use Rattle.aia_aplic.specs.Passing.{is_passable_source}
-use Rattle.aia_aplic.proofs.PassingLemmas.{harts-stand}
-use Rattle.aia_aplic.proofs.AimSteps.{passable-stands}
+use Rattle.aia_wiring.specs.Aplic.{AplicStands}
+use Rattle.aia_wiring.specs.Passing.{is_passable_source}
+use Rattle.aia_wiring.proofs.PassingLemmas.{harts-stand}
+use Rattle.aia_wiring.proofs.AimSteps.{passable-stands}
 use Rattle.aia_hyp.specs.declared.moves.Want.{Want}
 use Rattle.aia_hyp.specs.declared.moves.Want.TheVariants as wants
 use Rattle.aia_hyp.specs.Moves.{UnlessRefused, WholeAims, move_line, wanted_move}

@@ -13,9 +13,9 @@ use Rattle.aia_model.specs.Refusal.{refusal}
 use Rattle.aia_model.specs.declared.line.Line.TheVariants as lines
 use Rattle.aia_model.specs.Answer.{delivered, line_taken, history_after, given_on, msi_taken}
 use Rattle.aia_model.proofs.AnswerLemmas.{after_by}
-use Rattle.aia_aplic.specs.Aplic.{AplicState, AplicStands}
-use Rattle.aia_aplic.specs.Sending.{Next}
-use Rattle.aia_aplic.proofs.SendingLemmas.{msis_next, settled_next}
+use Rattle.aia_wiring.specs.Aplic.{AplicState, AplicStands}
+use Rattle.aia_wiring.specs.Sending.{Next}
+use Rattle.aia_wiring.proofs.SendingLemmas.{msis_next, settled_next}
 use Rattle.aia_replay.specs.declared.machine.Machine.{Machine}
 use Rattle.aia_hyp.specs.Core.{CoreState}
 use Rattle.aia_hyp.specs.Stands.{CoreStands, CoreHears, line_served, MayGo}

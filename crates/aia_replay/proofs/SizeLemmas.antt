@@ -10,7 +10,7 @@ use Rattle.aia_model.specs.Act.{Past, newest, domain_at, register_at, act_of}
 use Rattle.aia_model.specs.Act.Act.{Written, Loaded}
 use Rattle.aia_model.specs.Sent.{with_act, acts_of}
 use Rattle.aia_model.specs.SourceOf.{harts_in, sources_in}
-use Rattle.aia_aplic.proofs.SendingLemmas.{sizes_settled}
+use Rattle.aia_wiring.proofs.SendingLemmas.{sizes_settled}
 use Rattle.aia_model.specs.Aim.{aim_of, aimed_by}
 use Rattle.aia_home.specs.Aims.{aims_done, is_aiming}
 use Rattle.aia_model.specs.HomeOf.{home}

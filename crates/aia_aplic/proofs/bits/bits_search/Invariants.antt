@@ -1,5 +1,5 @@
 use Rattle.std.proofs.Common.{◌≡◌, ◌+◌, ◌*◌}
-use Rattle.aia_aplic.proofs.BitsLemmas.{ShowNone}
+use Rattle.aia_wiring.proofs.BitsLemmas.{ShowNone}
 use Rattle.aia_aplic.proofs.bits.bits_search.Given as goal
 
 abbrev pub invariant-loop-k : goal.invariant-loop-k

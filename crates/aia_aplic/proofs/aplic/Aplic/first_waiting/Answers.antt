@@ -1,8 +1,8 @@
 use Rattle.std.proofs.Common.{sym, subst, ◌∙◌}
 use Rattle.aia_domain.specs.Domain.{is_ready}
-use Rattle.aia_aplic.specs.Aplic.{AplicState, AplicStands}
-use Rattle.aia_aplic.specs.Sending.{IsFirstSource}
-use Rattle.aia_aplic.proofs.FirstLemmas.{root_genmsi_first, child_genmsi_first, source_first}
+use Rattle.aia_wiring.specs.Aplic.{AplicState, AplicStands}
+use Rattle.aia_wiring.specs.Sending.{IsFirstSource}
+use Rattle.aia_wiring.proofs.FirstLemmas.{root_genmsi_first, child_genmsi_first, source_first}
 use Rattle.aia_aplic.proofs.aplic.Aplic.first_waiting.Goals as goal
 
 pub returns-then-genmsi_waits-clause-first : goal.returns-then-genmsi_waits-clause-first

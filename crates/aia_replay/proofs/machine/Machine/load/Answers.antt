@@ -2,7 +2,7 @@ use Rattle.std.proofs.Common.{◌≡◌, ℕ, Option, None, Some, refl, sym, sub
 use Rattle.std.specs.Option.{option_map}
 use Rattle.aia_model.specs.declared.answer.Answer.TheVariants.{Narrow}
 use Rattle.aia_model.specs.Act.{domain_at}
-use Rattle.aia_aplic.specs.Aplic.{domain_name}
+use Rattle.aia_wiring.specs.Aplic.{domain_name}
 use Rattle.aia_replay.proofs.MachineLemmas.{core_line, answered_by, load_silent, load_misaligned, register_loaded, aligned}
 use Rattle.aia_replay.proofs.machine.Machine.load.Goals as goal
 

@@ -2,7 +2,7 @@ use Rattle.std.proofs.Common.{ℕ, not, Some, sym, ap, ◌∙◌}
 use Rattle.aia_regs.specs.declared.domain_registers.DomainReg.{DomainReg}
 use Rattle.aia_source.specs.Registers.{is_by_msi}
 use Rattle.aia_model.specs.Passable.{redirects_by}
-use Rattle.aia_aplic.specs.Aplic.{domain_name}
+use Rattle.aia_wiring.specs.Aplic.{domain_name}
 use Rattle.aia_replay.proofs.AimLemmas.{keeps_msis}
 use Rattle.aia_replay.proofs.machine.Machine.redirects.Goals as goal
 

@@ -1,7 +1,7 @@
 use Rattle.std.proofs.Common.{◌≡◌, ℕ, Option, None, refl, sym, subst}
 use Rattle.std.specs.Option.{option_map}
 use Rattle.aia_model.specs.Act.{domain_at}
-use Rattle.aia_aplic.specs.Aplic.{domain_name}
+use Rattle.aia_wiring.specs.Aplic.{domain_name}
 use Rattle.aia_replay.proofs.MachineLemmas.{core_line, store_silent, store_misaligned, aligned}
 use Rattle.aia_replay.proofs.machine.Machine.store.Goals as goal
 

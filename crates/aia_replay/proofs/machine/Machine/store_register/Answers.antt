@@ -2,7 +2,7 @@ use Rattle.std.proofs.Common.{◌≡◌, true, false, Some, refl, sym, ap, ◌�
 use Rattle.aia_regs.specs.declared.domain_registers.DomainReg.{DomainReg}
 use Rattle.aia_model.specs.Event.{History}
 use Rattle.aia_model.specs.Passable.{redirects, redirects_by}
-use Rattle.aia_aplic.specs.Aplic.{domain_name}
+use Rattle.aia_wiring.specs.Aplic.{domain_name}
 use Rattle.aia_replay.specs.Stands.{MachineStands}
 use Rattle.aia_replay.proofs.MachineLemmas.{register_guarded, register_stored, redirected, none_redirected, some_passed}
 use Rattle.aia_replay.proofs.machine.Machine.store_register.Goals.{else-passes-gt0-via-then-passes-gt0+else-redirects, else-passes-gt0-via-else-passes-gt0}
