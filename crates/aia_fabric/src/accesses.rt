@@ -4,8 +4,8 @@ ghost use Rattle.aia_word.specs.Sets.{has_bit};
 ghost use Rattle.aia_regs.specs.declared.limits.TheConstants.{VCPUS, FILE_WORDS};
 ghost use Rattle.aia_home.specs.declared.place.Place.{Place};
 ghost use Rattle.aia_home.specs.Vms.{vcpu, is_vcpu_in};
-ghost use Rattle.aia_fabric.specs.Flights.{Fences};
-ghost use Rattle.aia_fabric.specs.Changes.{IsPlaceThere, words_at, pending_words, enable_words, pending_at, with_pending, enable_at, with_enable, with_entry_word, with_fence, with_map, with_stage_fence};
+ghost use Rattle.aia_world.specs.Flights.{Fences};
+ghost use Rattle.aia_world.specs.Changes.{IsPlaceThere, words_at, pending_words, enable_words, pending_at, with_pending, enable_at, with_enable, with_entry_word, with_fence, with_map, with_stage_fence};
 
 use crate::{At, Fabric, map};
 use aia_mrif::{SlotMut, look};
@@ -15,7 +15,7 @@ use aia_word::Bank;
 /// What the steps of moves do, and an IOMMU that reads an entry again. Each touches one word of a
 /// place, one word or entry of a table, or one record, and all else stays; but the fence of an
 /// entry lands the stores in flight of its VM first.
-#[tactic(auto, using(crate::proofs::WholeLemmas::width_at, crate::proofs::WholeLemmas::vcpu_entry, crate::proofs::WholeLemmas::vcpu_words))]
+#[tactic(auto, using(aia_world::proofs::WholeLemmas::width_at, aia_world::proofs::WholeLemmas::vcpu_entry, aia_world::proofs::WholeLemmas::vcpu_words))]
 impl Fabric {
     // ---- the sets of a place
 

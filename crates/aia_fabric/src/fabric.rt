@@ -14,10 +14,10 @@ ghost use Rattle.aia_mrif.specs.Mrif.{mrif_in, stored};
 ghost use Rattle.aia_entry.specs.Tables.{table_of, route_of};
 ghost use Rattle.aia_entry.specs.Translation.{IsMask};
 ghost use Rattle.aia_home.specs.Vms.{Vcpu, vcpu, vcpus_in, is_vcpu_in, slot_of, notice_hart};
-ghost use Rattle.aia_fabric.specs.World.{no_stage};
-ghost use Rattle.aia_fabric.specs.Making.{IsNew, with_vm, with_entry};
-ghost use Rattle.aia_fabric.specs.Stores.{StoresIn, Posts, counted, page_spot, named_spot, with_store};
-ghost use Rattle.aia_fabric.specs.Whole.{IsWhole};
+ghost use Rattle.aia_world.specs.World.{no_stage};
+ghost use Rattle.aia_world.specs.Making.{IsNew, with_vm, with_entry};
+ghost use Rattle.aia_world.specs.Stores.{StoresIn, Posts, counted, page_spot, named_spot, with_store};
+ghost use Rattle.aia_world.specs.Whole.{IsWhole};
 
 use crate::flights::Flights;
 use crate::vms::Vms;
@@ -49,8 +49,8 @@ pub struct Fabric {
 }
 
 impl Model for Fabric {
-    ghost use Rattle.aia_fabric.specs.World.{World};
-    ghost use Rattle.aia_fabric.specs.Whole.{IsWhole};
+    ghost use Rattle.aia_world.specs.World.{World};
+    ghost use Rattle.aia_world.specs.Whole.{IsWhole};
 
     ghost Value = { World };
 
@@ -77,7 +77,7 @@ impl Model for Fabric {
     }) };
 }
 
-#[tactic(auto, using(crate::proofs::WholeLemmas::width_at))]
+#[tactic(auto, using(aia_world::proofs::WholeLemmas::width_at))]
 impl Fabric {
     /// Makes the machine's empty files, memory of zeros, the room for all VMs and their stores in
     /// flight, and an empty G-stage record for each of `VCPUS` virtual harts: of `harts` harts, 1

@@ -6,8 +6,8 @@ ghost use Rattle.aia_regs.specs.declared.address_map.TheConstants.{PAGE};
 ghost use Rattle.aia_regs.specs.declared.limits.TheConstants.{HARTS, VMS, VCPUS, MEMORY_WORDS};
 ghost use Rattle.aia_entry.specs.Format.{mrif_word, notice_word};
 ghost use Rattle.aia_ram.specs.Words.{Fits};
-ghost use Rattle.aia_fabric.specs.Stores.{slot_at};
-ghost use Rattle.aia_fabric.specs.Making.{table_place};
+ghost use Rattle.aia_world.specs.Stores.{slot_at};
+ghost use Rattle.aia_world.specs.Making.{table_place};
 
 use aia_entry::mrif;
 use aia_ram::Ram;

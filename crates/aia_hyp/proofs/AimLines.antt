@@ -25,8 +25,8 @@ use Rattle.aia_major.specs.Kept.{majors_shown}
 use Rattle.aia_home.specs.Routes.{entry_names}
 use Rattle.aia_places.specs.Holds.{Holds}
 use Rattle.aia_pool.specs.Leases.{Leases, is_out}
-use Rattle.aia_fabric.specs.World.{World, no_stage}
-use Rattle.aia_fabric.specs.Changes.{spot_of, view}
+use Rattle.aia_world.specs.World.{World, no_stage}
+use Rattle.aia_world.specs.Changes.{spot_of, view}
 use Rattle.aia_move.specs.declared.who.Who.{Who}
 use Rattle.aia_move.specs.declared.plan.Plan.{Plan}
 use Rattle.aia_move.specs.Move.{Moving, mover, width, Fits}

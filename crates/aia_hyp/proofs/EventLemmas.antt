@@ -19,9 +19,9 @@ use Rattle.aia_home.specs.declared.place.Place.{Place}
 use Rattle.aia_home.specs.Vms.{Vcpu, vcpus_in, is_vcpu_in, slot_of}
 use Rattle.aia_home.specs.Home.{holds}
 use Rattle.aia_pool.specs.Leases.{Leases, is_out}
-use Rattle.aia_fabric.specs.World.{no_stage}
-use Rattle.aia_fabric.specs.Changes.{spot_of}
-use Rattle.aia_fabric.specs.World.{World}
+use Rattle.aia_world.specs.World.{no_stage}
+use Rattle.aia_world.specs.Changes.{spot_of}
+use Rattle.aia_world.specs.World.{World}
 use Rattle.aia_model.specs.declared.answer.Answer.{Answer}
 use Rattle.aia_model.specs.declared.refusal.Refusal.{Refusal}
 use Rattle.aia_model.specs.declared.line.Line.{Line}
@@ -51,8 +51,8 @@ use Rattle.aia_hyp.specs.Stands.{StandsForSome, VcpuStands, is_held, CoreStands,
 use Rattle.aia_hyp.proofs.VcpuLemmas.{IsQuiet, quiet_line, quiet_msi, MajorsRest, guest_rests, files_alone, held_stays, is_quiet_line, IsStill, still_line, is_quiet_line}
 use Rattle.aia_hyp.proofs.NameLemmas.{no_guest, is_hosts, other_spot}
 use Rattle.aia_hyp.proofs.StandsLemmas.{count_after, Becomes, stands_after, built_as, flights_stay, none_passes, keeps_by}
-use Rattle.aia_fabric.proofs.FrameLemmas.{files_rest}
-use Rattle.aia_fabric.specs.World.{OnlyStores}
+use Rattle.aia_world.proofs.FrameLemmas.{files_rest}
+use Rattle.aia_world.specs.World.{OnlyStores}
 
 -- ---- one event more
 

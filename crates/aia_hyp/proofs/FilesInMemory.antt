@@ -15,10 +15,10 @@ use Rattle.aia_home.specs.Vms.{Vcpu, slot_of, notice_hart}
 use Rattle.aia_home.specs.Home.{rests_in_memory}
 use Rattle.aia_places.specs.Holds.{HasSets, Hand}
 use Rattle.aia_places.proofs.MemoryKept.{memory_has, memory_kept}
-use Rattle.aia_fabric.specs.World.{World}
-use Rattle.aia_fabric.specs.Whole.{IsWhole}
-use Rattle.aia_fabric.specs.Changes.{view}
-use Rattle.aia_fabric.specs.SlotAccess.{file_of_slot}
+use Rattle.aia_world.specs.World.{World}
+use Rattle.aia_world.specs.Whole.{IsWhole}
+use Rattle.aia_world.specs.Changes.{view}
+use Rattle.aia_world.specs.SlotAccess.{file_of_slot}
 use Rattle.aia_move.specs.declared.who.Kept.{Kept}
 use Rattle.aia_model.specs.Event.{History, greatest_identity_of, file_words}
 use Rattle.aia_model.specs.Vms.{vms_of, has_vcpu}

@@ -18,10 +18,10 @@ use Rattle.aia_home.specs.declared.vm.Vm.{Vm}
 use Rattle.aia_home.specs.Vms.{Vcpu, is_vcpu_in, notice_hart}
 use Rattle.aia_home.specs.Routes.{MayLand}
 use Rattle.aia_home.proofs.HomeLemmas.{landing_is_held}
-use Rattle.aia_fabric.specs.Whole.{IsWhole}
-use Rattle.aia_fabric.specs.Changes.{spot_of}
-use Rattle.aia_fabric.specs.Stores.{StoresIn}
-use Rattle.aia_fabric.proofs.WholeLemmas.{notice_hart_there}
+use Rattle.aia_world.specs.Whole.{IsWhole}
+use Rattle.aia_world.specs.Changes.{spot_of}
+use Rattle.aia_world.specs.Stores.{StoresIn}
+use Rattle.aia_world.proofs.WholeLemmas.{notice_hart_there}
 use Rattle.aia_model.specs.declared.msi.Msi.{Msi}
 use Rattle.aia_model.specs.Event.{Event, History, file_words}
 use Rattle.aia_model.specs.Event.Event.{Delivered, Relayed}

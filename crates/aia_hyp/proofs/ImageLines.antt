@@ -17,10 +17,10 @@ use Rattle.aia_home.specs.Vms.{Vcpu, vcpu, is_vcpu_in, vcpus_in, slot_of, notice
 use Rattle.aia_home.specs.Home.{is_moving, is_resident, is_entered, rests_in_memory}
 use Rattle.aia_home.specs.Home.Home.{Parked}
 use Rattle.aia_home.specs.declared.vm.Vm.{Vm}
-use Rattle.aia_fabric.specs.World.{World}
-use Rattle.aia_fabric.specs.Whole.{IsWhole}
-use Rattle.aia_fabric.specs.Stores.{LandsIn, Posts, counted}
-use Rattle.aia_fabric.specs.SlotAccess.{file_of_slot, DoneInSlot}
+use Rattle.aia_world.specs.World.{World}
+use Rattle.aia_world.specs.Whole.{IsWhole}
+use Rattle.aia_world.specs.Stores.{LandsIn, Posts, counted}
+use Rattle.aia_world.specs.SlotAccess.{file_of_slot, DoneInSlot}
 use Rattle.aia_imsic.specs.Imsic.{ImsicState}
 use Rattle.aia_move.specs.declared.who.Kept.{Kept}
 use Rattle.aia_model.specs.declared.answer.Answer.TheVariants.{Okay, Refused}

@@ -6,7 +6,7 @@ use Rattle.aia_word.proofs.LeastLemmas.{least_of_is}
 use Rattle.aia_imsic.specs.Imsic.{IsThere}
 use Rattle.aia_home.specs.declared.place.Place.{Place}
 use Rattle.aia_pool.specs.Leases.{IsFileThere, is_out, least_free}
-use Rattle.aia_fabric.specs.Changes.{spot_of}
+use Rattle.aia_world.specs.Changes.{spot_of}
 use Rattle.aia_model.specs.Event.{History, guests_of}
 use Rattle.aia_model.specs.HomeOf.{home, place, free_file}
 use Rattle.aia_hyp.specs.Core.{CoreState}

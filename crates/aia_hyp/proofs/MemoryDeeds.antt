@@ -20,11 +20,11 @@ use Rattle.aia_image.proofs.WordLemmas.{shown_alone}
 use Rattle.aia_places.specs.Holds.{HasSets}
 use Rattle.aia_places.specs.Stores.{AreApart}
 use Rattle.aia_places.proofs.MemoryKept.{memory_replaced}
-use Rattle.aia_fabric.specs.World.{World, OnlyStores, stage_of}
-use Rattle.aia_fabric.specs.Whole.{IsWhole}
-use Rattle.aia_fabric.specs.Changes.{view}
-use Rattle.aia_fabric.specs.SlotAccess.{DoneInSlot}
-use Rattle.aia_fabric.proofs.SlotViews.{other_slot_kept, done_entry_words, slot_done-view}
+use Rattle.aia_world.specs.World.{World, OnlyStores, stage_of}
+use Rattle.aia_world.specs.Whole.{IsWhole}
+use Rattle.aia_world.specs.Changes.{view}
+use Rattle.aia_world.specs.SlotAccess.{DoneInSlot}
+use Rattle.aia_world.proofs.SlotViews.{other_slot_kept, done_entry_words, slot_done-view}
 use Rattle.aia_move.specs.declared.who.Kept.{Kept}
 use Rattle.aia_move.specs.Touches.{SameMachine}
 use Rattle.aia_model.specs.Event.{Event, History, greatest_identity_of, file_words}

@@ -15,9 +15,9 @@ use Rattle.aia_home.proofs.PlanLemmas.{leave_plan-length, arrive_plan-length, sh
 use Rattle.aia_home.proofs.VmLemmas.{slot_below}
 use Rattle.aia_home.proofs.AllLemmas.{any_vcpu}
 use Rattle.aia_places.specs.Holds.{Hand}
-use Rattle.aia_fabric.specs.World.{World}
-use Rattle.aia_fabric.specs.Whole.{IsWhole}
-use Rattle.aia_fabric.proofs.WholeLemmas.{vcpu_entry}
+use Rattle.aia_world.specs.World.{World}
+use Rattle.aia_world.specs.Whole.{IsWhole}
+use Rattle.aia_world.proofs.WholeLemmas.{vcpu_entry}
 use Rattle.aia_hyp.specs.declared.moves.Found.{Found}
 use Rattle.aia_move.specs.declared.who.Who.{Who}
 use Rattle.aia_hyp.specs.Passes.{own_passes}

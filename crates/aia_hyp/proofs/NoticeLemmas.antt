@@ -15,7 +15,7 @@ use Rattle.aia_home.specs.Plans.{Access, IsNext, leave_step, leave_steps}
 use Rattle.aia_home.specs.Plans.Access.{Post}
 use Rattle.aia_home.proofs.PlanLemmas.{one_a_step}
 use Rattle.aia_places.specs.Holds.{Hand}
-use Rattle.aia_fabric.specs.World.{World}
+use Rattle.aia_world.specs.World.{World}
 use Rattle.aia_move.specs.Move.{Moving}
 use Rattle.aia_move.specs.Touches.{Touches, sends}
 use Rattle.aia_model.specs.Event.{History}

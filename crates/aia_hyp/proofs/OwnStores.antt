@@ -8,13 +8,13 @@ use Rattle.aia_home.specs.Vms.{Vcpu, is_vcpu_in, slot_of, notice_hart}
 use Rattle.aia_places.specs.View.{leads_to}
 use Rattle.aia_home.specs.Home.{holds}
 use Rattle.aia_home.specs.Routes.{peers_reach}
-use Rattle.aia_fabric.specs.World.{World, stage_of}
-use Rattle.aia_fabric.specs.Whole.{IsWhole}
-use Rattle.aia_fabric.specs.Stores.{Reaches, ReachesBy, Relays}
-use Rattle.aia_fabric.specs.Flights.{Lands}
-use Rattle.aia_fabric.specs.Changes.{view}
-use Rattle.aia_fabric.specs.Own.{TouchesOwn, TouchesOneOf}
-use Rattle.aia_fabric.proofs.OwnLemmas.{by_entry, own_entry, device_touches, peer_touches, others_stay}
+use Rattle.aia_world.specs.World.{World, stage_of}
+use Rattle.aia_world.specs.Whole.{IsWhole}
+use Rattle.aia_world.specs.Stores.{Reaches, ReachesBy, Relays}
+use Rattle.aia_world.specs.Flights.{Lands}
+use Rattle.aia_world.specs.Changes.{view}
+use Rattle.aia_world.specs.Own.{TouchesOwn, TouchesOneOf}
+use Rattle.aia_world.proofs.OwnLemmas.{by_entry, own_entry, device_touches, peer_touches, others_stay}
 use Rattle.aia_model.specs.Event.{History}
 use Rattle.aia_model.specs.Flight.{Sending, flight, flying}
 use Rattle.aia_model.specs.GuestFile.{sent_to}

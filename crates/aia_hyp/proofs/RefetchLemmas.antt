@@ -15,11 +15,11 @@ use Rattle.aia_home.specs.Routes.{entry_names}
 use Rattle.aia_home.proofs.HomeLemmas.{own_is_held, next_is_held}
 use Rattle.aia_places.specs.View.{FilesFit}
 use Rattle.aia_places.proofs.StoreLemmas.{refetch_kept}
-use Rattle.aia_fabric.specs.World.{World, no_stage}
-use Rattle.aia_fabric.specs.Whole.{IsWhole}
-use Rattle.aia_fabric.specs.Changes.{spot_of, view, with_fence}
-use Rattle.aia_fabric.proofs.ViewLemmas.{fence-view}
-use Rattle.aia_fabric.proofs.WholeLemmas.{notice_hart_there}
+use Rattle.aia_world.specs.World.{World, no_stage}
+use Rattle.aia_world.specs.Whole.{IsWhole}
+use Rattle.aia_world.specs.Changes.{spot_of, view, with_fence}
+use Rattle.aia_world.proofs.ViewLemmas.{fence-view}
+use Rattle.aia_world.proofs.WholeLemmas.{notice_hart_there}
 use Rattle.aia_move.specs.Touches.{OnlyAccesses}
 use Rattle.aia_move.proofs.MachineLemmas.{only_accesses, only_tables}
 use Rattle.aia_places.specs.Stores.{AreApart}

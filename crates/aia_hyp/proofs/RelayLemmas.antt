@@ -28,13 +28,13 @@ use Rattle.aia_mrif.specs.Mrif.{mrif_in, stored}
 use Rattle.aia_home.specs.Aims.{host_identity}
 use Rattle.aia_home.specs.Routes.{MayLand}
 use Rattle.aia_home.specs.Vms.{Vcpu, is_vcpu_in, slot_of, notice_hart, notice_identity}
-use Rattle.aia_fabric.specs.World.{World}
-use Rattle.aia_fabric.specs.Whole.{IsWhole}
-use Rattle.aia_fabric.specs.Changes.{spot_of}
-use Rattle.aia_fabric.specs.Stores.{Posts, NoticedBy, with_store}
-use Rattle.aia_fabric.specs.Stores as stores
-use Rattle.aia_fabric.proofs.FrameLemmas.{by_parts, posts_rest}
-use Rattle.aia_fabric.proofs.WholeLemmas.{width_at}
+use Rattle.aia_world.specs.World.{World}
+use Rattle.aia_world.specs.Whole.{IsWhole}
+use Rattle.aia_world.specs.Changes.{spot_of}
+use Rattle.aia_world.specs.Stores.{Posts, NoticedBy, with_store}
+use Rattle.aia_world.specs.Stores as stores
+use Rattle.aia_world.proofs.FrameLemmas.{by_parts, posts_rest}
+use Rattle.aia_world.proofs.WholeLemmas.{width_at}
 use Rattle.aia_model.specs.Event.{History, file_words}
 use Rattle.aia_model.specs.Event.Event.{Relayed}
 use Rattle.aia_model.specs.Vms.{vms_of}

@@ -22,13 +22,13 @@ use Rattle.aia_places.specs.Holds.{Holds}
 use Rattle.aia_places.specs.Stores.{AreApart}
 use Rattle.aia_places.proofs.MemoryKept.{enter-holds, exit-holds}
 use Rattle.aia_pool.specs.Leases.{Leases, is_out}
-use Rattle.aia_fabric.specs.World.{World, OnlyStores, no_stage, stage_of}
-use Rattle.aia_fabric.specs.Stores.{Posts}
-use Rattle.aia_fabric.specs.SlotAccess.{file_of_slot}
-use Rattle.aia_fabric.specs.Whole.{IsWhole}
-use Rattle.aia_fabric.specs.Making.{entry_word_place}
-use Rattle.aia_fabric.specs.Changes.{spot_of, view}
-use Rattle.aia_fabric.proofs.FrameLemmas.{posts_rest}
+use Rattle.aia_world.specs.World.{World, OnlyStores, no_stage, stage_of}
+use Rattle.aia_world.specs.Stores.{Posts}
+use Rattle.aia_world.specs.SlotAccess.{file_of_slot}
+use Rattle.aia_world.specs.Whole.{IsWhole}
+use Rattle.aia_world.specs.Making.{entry_word_place}
+use Rattle.aia_world.specs.Changes.{spot_of, view}
+use Rattle.aia_world.proofs.FrameLemmas.{posts_rest}
 use Rattle.aia_move.specs.declared.who.Kept.{Kept}
 use Rattle.aia_move.specs.Plan.{moving_of}
 use Rattle.aia_move.specs.Touches.{OnlyAccesses}

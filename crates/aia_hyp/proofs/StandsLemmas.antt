@@ -22,13 +22,13 @@ use Rattle.aia_home.specs.Vms.{Vcpu, vcpus_in, is_vcpu_in}
 use Rattle.aia_home.specs.Home.{holds}
 use Rattle.aia_home.specs.Home.Home.{Parked}
 use Rattle.aia_pool.specs.Leases.{Leases, is_out}
-use Rattle.aia_fabric.specs.declared.stage.Stage.{Stage}
-use Rattle.aia_fabric.specs.World.{World, no_stage}
-use Rattle.aia_fabric.specs.Changes.{spot_of}
-use Rattle.aia_fabric.specs.declared.flights.Flying.{Flying}
-use Rattle.aia_fabric.specs.World.{World, flight_of}
-use Rattle.aia_fabric.specs.Stores.{counted}
-use Rattle.aia_fabric.specs.Making.{IsNew}
+use Rattle.aia_world.specs.declared.stage.Stage.{Stage}
+use Rattle.aia_world.specs.World.{World, no_stage}
+use Rattle.aia_world.specs.Changes.{spot_of}
+use Rattle.aia_world.specs.declared.flying.Flying.{Flying}
+use Rattle.aia_world.specs.World.{World, flight_of}
+use Rattle.aia_world.specs.Stores.{counted}
+use Rattle.aia_world.specs.Making.{IsNew}
 use Rattle.aia_model.specs.declared.line.Line.TheVariants.{Machine}
 use Rattle.aia_model.specs.Event.{Event, History, Shape, machine_of, harts_of, guests_of, greatest_identity_of}
 use Rattle.aia_model.specs.Event.Event.{Accepted}

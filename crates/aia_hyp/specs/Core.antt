@@ -11,7 +11,7 @@ use Rattle.aia_pool.specs.Leases.{Leases}
 use Rattle.aia_model.specs.Passes.{Pass}
 use Rattle.aia_model.specs.declared.refusal.Refusal.{Refusal}
 use Rattle.aia_model.specs.declared.refusal.Refusal.TheVariants as refusals
-use Rattle.aia_fabric.specs.World.{World}
+use Rattle.aia_world.specs.World.{World}
 use Rattle.aia_move.specs.declared.who.Kept.{Kept}
 use Rattle.aia_move.specs.Plan.{moving_of}
 use Rattle.aia_hyp.specs.declared.vcpu.Stay.{Stay}

@@ -17,9 +17,9 @@ use Rattle.aia_home.specs.Home.{Progress}
 use Rattle.aia_home.specs.Home.Home.{Leaving}
 use Rattle.aia_major.specs.Kept.{kept_at_first}
 use Rattle.aia_places.specs.View.{leads_to, entry_word, second_word}
-use Rattle.aia_fabric.specs.declared.stage.Stage.{Stage}
-use Rattle.aia_fabric.specs.World.{World, no_stage}
-use Rattle.aia_fabric.specs.Making.{new_world, table_place}
+use Rattle.aia_world.specs.declared.stage.Stage.{Stage}
+use Rattle.aia_world.specs.World.{World, no_stage}
+use Rattle.aia_world.specs.Making.{new_world, table_place}
 use Rattle.aia_move.specs.declared.plan.Plan.TheVariants.{LeaveDrain}
 use Rattle.aia_move.specs.Move.{Moving}
 use Rattle.aia_model.specs.declared.line.Line.{Line}

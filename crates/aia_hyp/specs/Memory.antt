@@ -6,8 +6,8 @@ use Rattle.aia_regs.specs.declared.file_registers.FileReg.TheVariants.{Delivery,
 use Rattle.aia_regs.specs.Operations.{is_writing}
 use Rattle.aia_regs.specs.FileRegisters.{number_after}
 use Rattle.aia_file.specs.InterruptFile.{InterruptFile, claimed}
-use Rattle.aia_fabric.specs.World.{World}
-use Rattle.aia_fabric.specs.SlotAccess.{file_of_slot, DoneInSlot}
+use Rattle.aia_world.specs.World.{World}
+use Rattle.aia_world.specs.SlotAccess.{file_of_slot, DoneInSlot}
 use Rattle.aia_move.specs.declared.who.Kept.{Kept}
 use Rattle.aia_model.specs.declared.answer.Answer.{Answer}
 use Rattle.aia_model.specs.declared.answer.Answer.TheVariants.{Okay, Refused}

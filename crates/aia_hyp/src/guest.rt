@@ -7,8 +7,8 @@ ghost use Rattle.aia_major.specs.Kept.{majors_shown};
 ghost use Rattle.aia_home.specs.Vms.{vcpu, is_vcpu_in};
 ghost use Rattle.aia_model.specs.declared.line.Line.TheVariants.{GuestCsr};
 ghost use Rattle.aia_model.specs.declared.answer.Answer.TheVariants.{Wide};
-ghost use Rattle.aia_fabric.specs.Changes.{spot_of};
-ghost use Rattle.aia_fabric.specs.Whole.{IsWhole};
+ghost use Rattle.aia_world.specs.Changes.{spot_of};
+ghost use Rattle.aia_world.specs.Whole.{IsWhole};
 ghost use Rattle.aia_hyp.specs.Core.{no_record, record_of, resident_at, runs_in};
 ghost use Rattle.aia_hyp.specs.Stands.{CoreTakes, answer_by};
 

@@ -18,7 +18,7 @@ ghost use Rattle.aia_model.specs.FileOf.{FileName};
 ghost use Rattle.aia_model.specs.declared.line.Line.TheVariants.{Load, Store, Vm};
 ghost use Rattle.aia_model.specs.declared.line.Line.TheVariants as lines;
 ghost use Rattle.aia_model.specs.Refusal.{is_vm_size, lacks_room};
-ghost use Rattle.aia_fabric.specs.Whole.{IsWhole};
+ghost use Rattle.aia_world.specs.Whole.{IsWhole};
 ghost use Rattle.aia_model.specs.declared.answer.Answer.TheVariants.{Okay, Narrow, Wide};
 ghost use Rattle.aia_hyp.specs.Core.{no_record};
 ghost use Rattle.aia_hyp.specs.HostFiles.{IsHost, HasDone, name_of, csr_line, host_spot, is_host_spot, file_in, select_place, select_in};

@@ -7,7 +7,7 @@ ghost use Rattle.aia_regs.specs.declared.access.Op.TheVariants as ops;
 ghost use Rattle.aia_regs.specs.FileRegisters.{select_written};
 ghost use Rattle.aia_major.specs.VsMajor.{is_hvictl};
 ghost use Rattle.aia_home.specs.Vms.{vcpu};
-ghost use Rattle.aia_fabric.specs.Whole.{IsWhole};
+ghost use Rattle.aia_world.specs.Whole.{IsWhole};
 ghost use Rattle.aia_model.specs.declared.line.Line.TheVariants.{Save, LoadPart};
 ghost use Rattle.aia_model.specs.declared.answer.Answer.TheVariants as kinds;
 ghost use Rattle.aia_model.specs.declared.answer.Answer.TheVariants.{Okay};

@@ -29,17 +29,17 @@ use Rattle.aia_places.specs.View.{View, leads_to}
 use Rattle.aia_places.specs.Holds.{Holds, IsWithin}
 use Rattle.aia_places.specs.Stores.{view_landed, AreApart}
 use Rattle.aia_places.proofs.StoreLemmas.{lands}
-use Rattle.aia_fabric.specs.World.{World, stage_of}
-use Rattle.aia_fabric.specs.Whole.{IsWhole}
-use Rattle.aia_fabric.specs.Stores.{StoresIn, StoresAt, NoticedBy, StoresInSlot, Reaches, ReachesBy, Relays, with_store, page_spot, named_spot}
-use Rattle.aia_fabric.specs.Changes.{spot_of, file_in, view}
-use Rattle.aia_fabric.specs.Own.{TouchesOwn}
+use Rattle.aia_world.specs.World.{World, stage_of}
+use Rattle.aia_world.specs.Whole.{IsWhole}
+use Rattle.aia_world.specs.Stores.{StoresIn, StoresAt, NoticedBy, StoresInSlot, Reaches, ReachesBy, Relays, with_store, page_spot, named_spot}
+use Rattle.aia_world.specs.Changes.{spot_of, file_in, view}
+use Rattle.aia_world.specs.Own.{TouchesOwn}
 use Rattle.aia_home.proofs.HomeLemmas.{same_place, landing_is_held}
-use Rattle.aia_fabric.proofs.OwnLemmas.{by_entry, guest_spot, touches_file, touches_slot, others_stay}
-use Rattle.aia_fabric.proofs.PlaceLemmas.{slot_found, host_page}
-use Rattle.aia_fabric.proofs.StoreViews.{file_store-view, slot_store-view}
-use Rattle.aia_fabric.proofs.ViewLemmas.{posts-view, slot_low}
-use Rattle.aia_fabric.proofs.WholeLemmas.{notice_hart_there}
+use Rattle.aia_world.proofs.OwnLemmas.{by_entry, guest_spot, touches_file, touches_slot, others_stay}
+use Rattle.aia_world.proofs.PlaceLemmas.{slot_found, host_page}
+use Rattle.aia_world.proofs.StoreViews.{file_store-view, slot_store-view}
+use Rattle.aia_world.proofs.ViewLemmas.{posts-view, slot_low}
+use Rattle.aia_world.proofs.WholeLemmas.{notice_hart_there}
 use Rattle.aia_move.specs.declared.plan.Plan.{Plan}
 use Rattle.aia_move.specs.Move.{Moving, mover, width, Fits}
 use Rattle.aia_move.specs.Plan.{moving_of}

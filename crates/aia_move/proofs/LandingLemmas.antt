@@ -8,10 +8,10 @@ use Rattle.aia_home.proofs.RouteLemmas.{unlast}
 use Rattle.aia_home.specs.Phases.{begins}
 use Rattle.aia_home.specs.Phases.Phase.{ClosingPhase}
 use Rattle.aia_home.specs.Routes.{is_at_fence}
-use Rattle.aia_fabric.specs.World.{World, flight_of}
-use Rattle.aia_fabric.specs.Whole.{IsWhole}
-use Rattle.aia_fabric.specs.Flights.{Fences, LandsAll}
-use Rattle.aia_fabric.proofs.FlightLemmas.{all_landed_rest}
+use Rattle.aia_world.specs.World.{World, flight_of}
+use Rattle.aia_world.specs.Whole.{IsWhole}
+use Rattle.aia_world.specs.Flights.{Fences, LandsAll}
+use Rattle.aia_world.proofs.FlightLemmas.{all_landed_rest}
 use Rattle.aia_move.specs.Move.{Moving}
 use Rattle.aia_move.specs.Touches.{SameMachine}
 use Rattle.aia_move.specs.Landings.{LandsFirst, OnceLanded}

@@ -5,7 +5,7 @@ use Rattle.aia_home.specs.Home.Home.{Parked, Entered, Resident, Leaving, Arrivin
 use Rattle.aia_home.specs.Plans.{leave_steps, steps_done, first_take}
 use Rattle.aia_home.specs.Phases.{Phase, following, begins}
 use Rattle.aia_home.specs.Phases.Phase.{ClosingPhase, DrainPhase, EnablePhase, LookPhase}
-use Rattle.aia_fabric.specs.World.{World}
+use Rattle.aia_world.specs.World.{World}
 use Rattle.aia_move.specs.declared.turn.Turn.{Turn}
 use Rattle.aia_move.specs.declared.turn.Turn.TheVariants.{Stay, On}
 use Rattle.aia_move.specs.Move.{Moving, width}

@@ -18,10 +18,10 @@ use Rattle.aia_home.specs.Phases.Phase.{ClosingPhase, DrainPhase, EnablePhase, L
 use Rattle.aia_home.specs.BySteps.{own_file, next_file}
 use Rattle.aia_home.proofs.PlanLemmas.{next_in_plan}
 use Rattle.aia_places.specs.Holds.{Hand}
-use Rattle.aia_fabric.specs.declared.at.At.{At}
-use Rattle.aia_fabric.specs.declared.at.At.TheVariants.{File, Slot}
-use Rattle.aia_fabric.specs.World.{World}
-use Rattle.aia_fabric.specs.Changes.{PutsRegister, spot_of, with_pending, with_enable}
+use Rattle.aia_world.specs.declared.at.At.{At}
+use Rattle.aia_world.specs.declared.at.At.TheVariants.{File, Slot}
+use Rattle.aia_world.specs.World.{World}
+use Rattle.aia_world.specs.Changes.{PutsRegister, spot_of, with_pending, with_enable}
 use Rattle.aia_move.specs.Move.{Moving, width, old_at, new_at, PostsIf, Makes, hand_after, Fits, Ends}
 use Rattle.aia_move.specs.Load.{Load, load_of, progress_of, moving, one_done, Does, closing_access, pending_access, enables_access}
 use Rattle.aia_move.specs.Turns.{IsIn, IsMove, GoesOn}

@@ -24,18 +24,18 @@ use Rattle.aia_home.proofs.HomeLemmas.{is_itself_place, own_is_held, next_is_hel
 use Rattle.aia_home.proofs.VmLemmas.{same_slot}
 use Rattle.aia_places.specs.View.{entry_word, second_word}
 use Rattle.aia_places.specs.Holds.{Hand}
-use Rattle.aia_fabric.specs.declared.stage.Stage.{Stage}
-use Rattle.aia_fabric.specs.World.{World, stage_of, no_stage}
-use Rattle.aia_fabric.specs.Whole.{IsWhole}
-use Rattle.aia_fabric.specs.Making.{entry_word_place}
-use Rattle.aia_fabric.specs.Stores.{Posts}
-use Rattle.aia_fabric.specs.Changes.{spot_of, file_in, view, with_word, with_state, with_entry_word, with_fence, with_stage}
-use Rattle.aia_fabric.proofs.FrameLemmas.{posts_rest}
-use Rattle.aia_fabric.proofs.WholeLemmas.{vcpu_entry, notice_hart_there}
+use Rattle.aia_world.specs.declared.stage.Stage.{Stage}
+use Rattle.aia_world.specs.World.{World, stage_of, no_stage}
+use Rattle.aia_world.specs.Whole.{IsWhole}
+use Rattle.aia_world.specs.Making.{entry_word_place}
+use Rattle.aia_world.specs.Stores.{Posts}
+use Rattle.aia_world.specs.Changes.{spot_of, file_in, view, with_word, with_state, with_entry_word, with_fence, with_stage}
+use Rattle.aia_world.proofs.FrameLemmas.{posts_rest}
+use Rattle.aia_world.proofs.WholeLemmas.{vcpu_entry, notice_hart_there}
 use Rattle.aia_move.specs.declared.who.Who.{Who}
 use Rattle.aia_move.specs.Move.{Moving, mover, width, PostsIf, Makes, Fits, MakesNext}
 use Rattle.aia_move.specs.Touches.{Touches, sends}
-use Rattle.aia_fabric.proofs.ViewLemmas.{same_place, slot_low}
+use Rattle.aia_world.proofs.ViewLemmas.{same_place, slot_low}
 use Rattle.aia_move.proofs.MadeView.{few_words}
 use Rattle.aia_regs.specs.declared.limits.TheConstants.{SLOTS, ENTRIES, FILE_WORDS}
 

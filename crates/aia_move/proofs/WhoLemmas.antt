@@ -11,11 +11,11 @@ use Rattle.aia_home.specs.BySteps.{own_file, next_file}
 use Rattle.aia_home.specs.Plans.{steps_done}
 use Rattle.aia_home.specs.Vms.{Vcpu, vcpu, vcpus_in, is_vcpu_in, slot_of, notice_hart}
 use Rattle.aia_home.proofs.VmLemmas.{slot_below}
-use Rattle.aia_fabric.specs.World.{World}
-use Rattle.aia_fabric.specs.Whole.{IsWhole}
-use Rattle.aia_fabric.specs.Stores.{Posts}
-use Rattle.aia_fabric.specs.Changes.{spot_of, IsPlaceThere}
-use Rattle.aia_fabric.proofs.WholeLemmas.{notice_hart_there}
+use Rattle.aia_world.specs.World.{World}
+use Rattle.aia_world.specs.Whole.{IsWhole}
+use Rattle.aia_world.specs.Stores.{Posts}
+use Rattle.aia_world.specs.Changes.{spot_of, IsPlaceThere}
+use Rattle.aia_world.proofs.WholeLemmas.{notice_hart_there}
 use Rattle.aia_move.specs.declared.who.Who.{Who}
 use Rattle.aia_move.specs.Move.{Moving, IsWho, Fits, PostsIf, old_by, new_by, old_at, new_at}
 

@@ -3,8 +3,8 @@ use Rattle.std.specs.Prelude.{Bool, Option}
 use Rattle.aia_file.specs.InterruptFile.{InterruptFile}
 use Rattle.aia_home.specs.declared.place.Place.{Place}
 use Rattle.aia_places.specs.Holds.{Holds}
-use Rattle.aia_fabric.specs.World.{World}
-use Rattle.aia_fabric.specs.Changes.{view}
+use Rattle.aia_world.specs.World.{World}
+use Rattle.aia_world.specs.Changes.{view}
 use Rattle.aia_move.specs.declared.plan.Plan.{Plan}
 use Rattle.aia_move.specs.Move.{mover, width, Fits}
 use Rattle.aia_move.specs.Plan.{moving_of, IsInPhase}

@@ -1,9 +1,9 @@
 -- What lands before a step of a move.
 use Rattle.std.specs.Prelude.{◌≡◌, true, false}
 use Rattle.aia_home.specs.Routes.{is_at_fence}
-use Rattle.aia_fabric.specs.World.{World}
-use Rattle.aia_fabric.specs.Whole.{IsWhole}
-use Rattle.aia_fabric.specs.Flights.{LandsAll}
+use Rattle.aia_world.specs.World.{World}
+use Rattle.aia_world.specs.Whole.{IsWhole}
+use Rattle.aia_world.specs.Flights.{LandsAll}
 use Rattle.aia_move.specs.Move.{Moving}
 use Rattle.aia_move.specs.Touches.{SameMachine}
 

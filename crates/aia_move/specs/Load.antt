@@ -5,7 +5,7 @@ use Rattle.aia_home.specs.Plans.{Access, steps_done}
 use Rattle.aia_home.specs.Aims.{aims_done}
 use Rattle.aia_home.specs.Plans.Access.{WriteStage, FenceStage, TakePending, PutPending, TakeEnables, PutEnables}
 use Rattle.aia_places.specs.Holds.{Hand}
-use Rattle.aia_fabric.specs.World.{World}
+use Rattle.aia_world.specs.World.{World}
 use Rattle.aia_move.specs.declared.who.Who.{Who}
 use Rattle.aia_move.specs.Move.{Moving, Makes, hand_after}
 

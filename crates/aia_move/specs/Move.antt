@@ -14,11 +14,11 @@ use Rattle.aia_home.specs.BySteps.{own_file, next_file, old_file, new_file}
 use Rattle.aia_home.specs.Plans.Access.{TakeDelivery, PutDelivery, WriteNotice, WriteEntry, Fence, WriteStage, FenceStage, TakePending, PutPending, TakeEnables, PutEnables, Look, TakeThreshold, PutThreshold, Post}
 use Rattle.aia_places.specs.View.{entry_word, second_word}
 use Rattle.aia_places.specs.Holds.{Hand, meets}
-use Rattle.aia_fabric.specs.declared.at.At.{At}
-use Rattle.aia_fabric.specs.declared.at.At.TheVariants.{File, Slot}
-use Rattle.aia_fabric.specs.World.{World}
-use Rattle.aia_fabric.specs.Stores.{Posts}
-use Rattle.aia_fabric.specs.Changes.{PutsRegister, spot_of, pending_words, enable_words, pending_at, with_pending, enable_at, with_enable, with_entry_word, with_fence, with_map, with_stage_fence}
+use Rattle.aia_world.specs.declared.at.At.{At}
+use Rattle.aia_world.specs.declared.at.At.TheVariants.{File, Slot}
+use Rattle.aia_world.specs.World.{World}
+use Rattle.aia_world.specs.Stores.{Posts}
+use Rattle.aia_world.specs.Changes.{PutsRegister, spot_of, pending_words, enable_words, pending_at, with_pending, enable_at, with_enable, with_entry_word, with_fence, with_map, with_stage_fence}
 use Rattle.aia_move.specs.declared.who.Who.{Who}
 
 -- Who is moved, its home (which move it is, and how far it has come), and what the move carries.

@@ -6,7 +6,7 @@ use Rattle.aia_move.specs.declared.plan.Plan.TheVariants.{LeaveFirst, LeaveClosi
 use Rattle.aia_move.specs.declared.plan.Next.{Next}
 use Rattle.aia_move.specs.declared.plan.Next.TheVariants.{Again, Finished}
 use Rattle.aia_move.specs.declared.turn.Outcome.{Outcome}
-use Rattle.aia_fabric.specs.World.{World}
+use Rattle.aia_world.specs.World.{World}
 use Rattle.aia_move.specs.Move.{Moving, Goes}
 use Rattle.aia_move.specs.Targets.{Aim, one_aimed}
 use Rattle.aia_move.specs.Landings.{OnceLanded}

@@ -12,10 +12,10 @@ use Rattle.aia_home.specs.Home.{holds}
 use Rattle.aia_home.specs.Plans.{Access}
 use Rattle.aia_home.specs.Plans.Access.{Post}
 use Rattle.aia_places.specs.Holds.{Hand}
-use Rattle.aia_fabric.specs.World.{World, no_stage}
-use Rattle.aia_fabric.specs.Making.{entry_word_place}
-use Rattle.aia_fabric.specs.Stores.{Posts}
-use Rattle.aia_fabric.specs.Changes.{spot_of}
+use Rattle.aia_world.specs.World.{World, no_stage}
+use Rattle.aia_world.specs.Making.{entry_word_place}
+use Rattle.aia_world.specs.Stores.{Posts}
+use Rattle.aia_world.specs.Changes.{spot_of}
 use Rattle.aia_move.specs.Move.{Moving, mover}
 
 -- Two worlds are those of one machine: its greatest identity, its harts with their guest files, and

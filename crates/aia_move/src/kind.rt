@@ -8,7 +8,7 @@ ghost use Rattle.aia_home.specs.Plans.Access.{WriteStage};
 ghost use Rattle.aia_home.specs.Phases.{Phase, begins};
 ghost use Rattle.aia_home.specs.Phases.Phase.{ClosingPhase, LookPhase, LastPhase};
 ghost use Rattle.aia_home.specs.BySteps.{new_file};
-ghost use Rattle.aia_fabric.specs.Changes.{spot_of};
+ghost use Rattle.aia_world.specs.Changes.{spot_of};
 ghost use Rattle.aia_move.specs.Move.{old_by, new_by};
 ghost use Rattle.aia_move.specs.Turns.{IsMove, after_enable};
 

@@ -18,15 +18,15 @@ use Rattle.aia_home.specs.Home.Home.{Parked}
 use Rattle.aia_home.specs.Vms.{Vcpu, vcpu, is_vcpu_in, slot_of, notice_identity, notice_hart}
 use Rattle.aia_home.proofs.VmLemmas.{same_slot}
 use Rattle.aia_places.specs.View.{View}
-use Rattle.aia_fabric.specs.declared.stage.Stage.{Stage}
-use Rattle.aia_fabric.specs.World.{World, stage_of, flight_of, no_stage}
-use Rattle.aia_fabric.specs.Whole.{IsWhole}
-use Rattle.aia_fabric.specs.Making.{entry_word_place}
-use Rattle.aia_fabric.specs.Stores.{Reaches, ReachesBy, Relays, named_spot}
-use Rattle.aia_fabric.specs.Flights.{Sends, Lands, LandsOldest}
-use Rattle.aia_fabric.specs.Changes.{view, pending_words, enable_words, with_pending, with_enable, with_entry_word, with_fence, with_stage}
-use Rattle.aia_fabric.proofs.ViewLemmas.{fence-view, slot_low}
-use Rattle.aia_fabric.proofs.WholeLemmas.{vcpu_entry, notice_hart_there}
+use Rattle.aia_world.specs.declared.stage.Stage.{Stage}
+use Rattle.aia_world.specs.World.{World, stage_of, flight_of, no_stage}
+use Rattle.aia_world.specs.Whole.{IsWhole}
+use Rattle.aia_world.specs.Making.{entry_word_place}
+use Rattle.aia_world.specs.Stores.{Reaches, ReachesBy, Relays, named_spot}
+use Rattle.aia_world.specs.Flights.{Sends, Lands, LandsOldest}
+use Rattle.aia_world.specs.Changes.{view, pending_words, enable_words, with_pending, with_enable, with_entry_word, with_fence, with_stage}
+use Rattle.aia_world.proofs.ViewLemmas.{fence-view, slot_low}
+use Rattle.aia_world.proofs.WholeLemmas.{vcpu_entry, notice_hart_there}
 use Rattle.aia_move.specs.Move.{PostsIf}
 use Rattle.aia_move.specs.Touches.{SameMachine}
 use Rattle.aia_plan.specs.declared.step.Step.{Step}

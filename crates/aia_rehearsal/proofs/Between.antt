@@ -18,16 +18,16 @@ use Rattle.aia_home.specs.Vms.{Vcpu, is_vcpu_in, slot_of, notice_identity, notic
 use Rattle.aia_home.proofs.HomeLemmas.{same_place, is_itself_place}
 use Rattle.aia_home.proofs.VmLemmas.{same_slot}
 use Rattle.aia_places.specs.View.{leads_to}
-use Rattle.aia_fabric.specs.declared.flights.Flying.{Flying}
-use Rattle.aia_fabric.specs.World.{World, flight_of, stage_of}
-use Rattle.aia_fabric.specs.Whole.{IsWhole}
-use Rattle.aia_fabric.specs.Stores.{StoresAt, Reaches, Relays, named_spot}
-use Rattle.aia_fabric.specs.Flights.{Sends, with_flight}
-use Rattle.aia_fabric.specs.Changes.{spot_of, with_fence}
-use Rattle.aia_fabric.proofs.OwnLemmas.{guest_spot}
-use Rattle.aia_fabric.proofs.PlaceLemmas.{slot_found}
-use Rattle.aia_fabric.proofs.WholeLemmas.{notice_hart_there}
-use Rattle.aia_fabric.proofs.ViewLemmas.{slot_low}
+use Rattle.aia_world.specs.declared.flying.Flying.{Flying}
+use Rattle.aia_world.specs.World.{World, flight_of, stage_of}
+use Rattle.aia_world.specs.Whole.{IsWhole}
+use Rattle.aia_world.specs.Stores.{StoresAt, Reaches, Relays, named_spot}
+use Rattle.aia_world.specs.Flights.{Sends, with_flight}
+use Rattle.aia_world.specs.Changes.{spot_of, with_fence}
+use Rattle.aia_world.proofs.OwnLemmas.{guest_spot}
+use Rattle.aia_world.proofs.PlaceLemmas.{slot_found}
+use Rattle.aia_world.proofs.WholeLemmas.{notice_hart_there}
+use Rattle.aia_world.proofs.ViewLemmas.{slot_low}
 use Rattle.aia_plan.specs.Transit.{Side, Flight, Transit, landed, happened}
 use Rattle.aia_plan.specs.Transit.Side.{Old, New}
 use Rattle.aia_plan.specs.Transit.{Happening as happenings}

@@ -6,10 +6,10 @@ use Rattle.aia_imsic.specs.Imsic.{ImsicState, IsThere}
 use Rattle.aia_entry.specs.declared.entry.Entry.{Entry}
 use Rattle.aia_entry.specs.declared.entry.Entry.TheVariants.{Basic, Mrif, NotValid, Custom, Misconfigured}
 use Rattle.aia_home.specs.Vms.{vcpu, is_vcpu_in, slot_of, notice_hart}
-use Rattle.aia_fabric.specs.declared.flights.Flying.{Flying}
-use Rattle.aia_fabric.specs.World.{World, flight_of}
-use Rattle.aia_fabric.specs.Stores.{page_spot}
-use Rattle.aia_fabric.specs.Changes.{spot_of}
+use Rattle.aia_world.specs.declared.flying.Flying.{Flying}
+use Rattle.aia_world.specs.World.{World, flight_of}
+use Rattle.aia_world.specs.Stores.{page_spot}
+use Rattle.aia_world.specs.Changes.{spot_of}
 use Rattle.aia_move.specs.declared.who.Who.{Who}
 use Rattle.aia_move.specs.Move.{IsWho, width}
 use Rattle.aia_move.specs.Touches.{SameMachine}

@@ -11,12 +11,12 @@ use Rattle.aia_regs.specs.declared.address_map.TheConstants.{PAGE}
 use Rattle.aia_entry.specs.declared.entry.Entry.{Entry}
 use Rattle.aia_entry.specs.declared.entry.Entry.TheVariants.{Basic, Mrif, NotValid, Custom, Misconfigured}
 use Rattle.aia_home.specs.declared.place.Place.{Place}
-use Rattle.aia_fabric.specs.World.{World, OnlyStores}
-use Rattle.aia_fabric.specs.Whole.{IsWhole}
+use Rattle.aia_world.specs.World.{World, OnlyStores}
+use Rattle.aia_world.specs.Whole.{IsWhole}
 use Rattle.std.specs.Int.{is_in_range}
-use Rattle.aia_fabric.specs.Stores.{ReachesBy, page_spot, named_spot, slot_at}
-use Rattle.aia_fabric.specs.Changes.{spot_of}
-use Rattle.aia_fabric.proofs.PlaceLemmas.{slot_begins}
+use Rattle.aia_world.specs.Stores.{ReachesBy, page_spot, named_spot, slot_at}
+use Rattle.aia_world.specs.Changes.{spot_of}
+use Rattle.aia_world.proofs.PlaceLemmas.{slot_begins}
 use Rattle.aia_move.specs.Touches.{SameMachine}
 use Rattle.aia_plan.specs.Transit.{Side, Transit, landed}
 use Rattle.aia_plan.specs.Transit.Side.{Old, New}

@@ -10,12 +10,12 @@ use Rattle.aia_entry.specs.Tables.{table_of, entry_in_force}
 use Rattle.aia_home.specs.declared.place.Place.{Place}
 use Rattle.aia_home.specs.declared.vm.Vm.{Vm}
 use Rattle.aia_home.specs.Vms.{Vcpu, vcpu, is_vcpu_in, slot_of, notice_hart, vcpus_in}
-use Rattle.aia_fabric.specs.declared.flights.Flying.{Flying}
-use Rattle.aia_fabric.specs.declared.stage.Stage.{Stage}
-use Rattle.aia_fabric.specs.World.{World, flight_of, stage_of, no_stage}
-use Rattle.aia_fabric.specs.Whole.{IsWhole}
-use Rattle.aia_fabric.specs.Making.{IsNew, MakesVm, new_world, made_entry, entry_word_place, notice_page}
-use Rattle.aia_fabric.proofs.ViewLemmas.{slot_low}
+use Rattle.aia_world.specs.declared.flying.Flying.{Flying}
+use Rattle.aia_world.specs.declared.stage.Stage.{Stage}
+use Rattle.aia_world.specs.World.{World, flight_of, stage_of, no_stage}
+use Rattle.aia_world.specs.Whole.{IsWhole}
+use Rattle.aia_world.specs.Making.{IsNew, MakesVm, new_world, made_entry, entry_word_place, notice_page}
+use Rattle.aia_world.proofs.ViewLemmas.{slot_low}
 use Rattle.aia_regs.specs.declared.limits.TheConstants.{VCPUS}
 use Rattle.aia_regs.specs.declared.address_map.TheConstants.{PAGE}
 use Rattle.aia_regs.specs.AddressMap.{supervisor_page, slot_address}
@@ -24,7 +24,7 @@ use Rattle.aia_entry.specs.Format.{mrif_word, notice_word}
 use Rattle.aia_places.specs.View.{leads_to, entry_word}
 use Rattle.aia_file.specs.FileState.{shown}
 use Rattle.aia_file.specs.InterruptFile.{SameFile, empty_file}
-use Rattle.aia_fabric.specs.Changes.{spot_of}
+use Rattle.aia_world.specs.Changes.{spot_of}
 use Rattle.aia_move.specs.declared.who.Who.{Who}
 use Rattle.aia_move.specs.Move.{IsWho}
 use Rattle.aia_plan.specs.Transit.{Side}
@@ -44,12 +44,12 @@ use Rattle.aia_entry.specs.Format.{decoded}
 use Rattle.aia_entry.specs.Tables.{no_table}
 use Rattle.aia_places.specs.View.{second_word}
 use Rattle.aia_places.proofs.EntryLemmas.{entry_back}
-use Rattle.aia_fabric.proofs.PlaceLemmas.{slot_found}
-use Rattle.aia_fabric.proofs.WholeLemmas.{notice_hart_there}
+use Rattle.aia_world.proofs.PlaceLemmas.{slot_found}
+use Rattle.aia_world.proofs.WholeLemmas.{notice_hart_there}
 use Rattle.aia_rehearsal.specs.Stands.{side_of}
 use Rattle.aia_rehearsal.specs.Events.{IsAlone}
 use Rattle.aia_home.specs.Home.{is_place}
-use Rattle.aia_fabric.specs.Changes.{with_entry_word, with_fence, with_map, with_stage_fence}
+use Rattle.aia_world.specs.Changes.{with_entry_word, with_fence, with_map, with_stage_fence}
 use Rattle.aia_plan.specs.declared.step.Step.TheVariants.{Word0, Map, GFence}
 use Rattle.aia_plan.specs.Transit.{stepped, happened}
 use Rattle.aia_plan.specs.Transit.{Happening as happenings}

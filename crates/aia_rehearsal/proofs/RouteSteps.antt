@@ -22,11 +22,11 @@ use Rattle.aia_home.specs.Home.Home.{Parked}
 use Rattle.aia_home.specs.Vms.{slot_of}
 use Rattle.aia_places.specs.View.{View, TwoSets, of_file, of_slot, leads_to, entry_word, second_word, IsInMap}
 use Rattle.aia_places.proofs.EntryLemmas.{entry_back}
-use Rattle.aia_fabric.specs.World.{World}
-use Rattle.aia_fabric.specs.Whole.{IsWhole}
-use Rattle.aia_fabric.specs.Changes.{spot_of, pending_words, enable_words, pending_at, with_pending, enable_at, with_enable, with_state, with_entry_word, with_fence, with_map, with_stage_fence}
-use Rattle.aia_fabric.proofs.ViewLemmas.{here, spots_apart, word0-view, word1-view, fence-view, map-view, stage_fence-view}
-use Rattle.aia_fabric.proofs.WholeLemmas.{notice_hart_there}
+use Rattle.aia_world.specs.World.{World}
+use Rattle.aia_world.specs.Whole.{IsWhole}
+use Rattle.aia_world.specs.Changes.{spot_of, pending_words, enable_words, pending_at, with_pending, enable_at, with_enable, with_state, with_entry_word, with_fence, with_map, with_stage_fence}
+use Rattle.aia_world.proofs.ViewLemmas.{here, spots_apart, word0-view, word1-view, fence-view, map-view, stage_fence-view}
+use Rattle.aia_world.proofs.WholeLemmas.{notice_hart_there}
 use Rattle.aia_move.specs.Move.{PostsIf, width}
 use Rattle.aia_move.specs.Touches.{SameMachine}
 use Rattle.aia_plan.specs.declared.step.Step.TheVariants.{Word0, Map, GFence, TakeP, PutP, TakeE, PutE}

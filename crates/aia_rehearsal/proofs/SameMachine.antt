@@ -2,20 +2,20 @@
 use Rattle.std.proofs.Common.{◌≡◌, ℕ, ◌+◌, Bool, true, false, length, refl, sym, ◌∙◌, subst}
 use Rattle.aia_regs.specs.declared.file_registers.FileReg.{FileReg}
 use Rattle.aia_regs.specs.declared.file_registers.FileReg.TheVariants.{Delivery, Threshold}
-use Rattle.aia_fabric.specs.declared.at.At.{At}
-use Rattle.aia_fabric.specs.declared.at.At.TheVariants as ats
-use Rattle.aia_fabric.specs.World.{World, OnlyStores, flight_of}
-use Rattle.aia_fabric.specs.Changes.{with_pending, with_enable}
-use Rattle.aia_fabric.proofs.FlightLemmas.{all_landed_rest}
-use Rattle.aia_fabric.proofs.FrameLemmas.{posts_rest, entry_rest, reaches_rest, relays_rest}
+use Rattle.aia_world.specs.declared.at.At.{At}
+use Rattle.aia_world.specs.declared.at.At.TheVariants as ats
+use Rattle.aia_world.specs.World.{World, OnlyStores, flight_of}
+use Rattle.aia_world.specs.Changes.{with_pending, with_enable}
+use Rattle.aia_world.proofs.FlightLemmas.{all_landed_rest}
+use Rattle.aia_world.proofs.FrameLemmas.{posts_rest, entry_rest, reaches_rest, relays_rest}
 use Rattle.std.proofs.Common.{◌%◌}
 use Rattle.aia_regs.specs.declared.address_map.TheConstants.{PAGE}
 use Rattle.aia_entry.specs.declared.table.Route.{Route}
 use Rattle.aia_entry.specs.declared.table.Route.TheVariants.{Other, Fault, To}
 use Rattle.aia_entry.specs.Tables.{table_of, route_of}
 use Rattle.aia_home.specs.Vms.{vcpu}
-use Rattle.aia_fabric.specs.World.{stage_of}
-use Rattle.aia_fabric.specs.Flights.{Sends}
+use Rattle.aia_world.specs.World.{stage_of}
+use Rattle.aia_world.specs.Flights.{Sends}
 use Rattle.aia_rehearsal.specs.Events.{Event, Happens}
 use Rattle.aia_rehearsal.specs.Events.Event.{Steps, DeviceStores, PeerStores, DeviceSends, StoreLands, EntryRead}
 use Rattle.aia_imsic.specs.declared.spot.Spot.TheVariants.{HostFile}

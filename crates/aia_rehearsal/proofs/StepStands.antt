@@ -1,8 +1,8 @@
 -- A step of a plan that is rehearsed is that step of the state for which the rehearsal stands.
 use Rattle.std.proofs.Common.{◌≡◌, refl, sym, subst}
 use Rattle.aia_regs.specs.declared.file_registers.FileReg.TheVariants.{Delivery, Threshold}
-use Rattle.aia_fabric.specs.World.{World}
-use Rattle.aia_fabric.specs.Whole.{IsWhole}
+use Rattle.aia_world.specs.World.{World}
+use Rattle.aia_world.specs.Whole.{IsWhole}
 use Rattle.aia_move.specs.Move.{width}
 use Rattle.aia_plan.specs.Plan.{IsInside}
 use Rattle.aia_plan.specs.declared.step.Step.{Step}

@@ -23,16 +23,16 @@ use Rattle.aia_home.specs.declared.place.Place.{Place}
 use Rattle.aia_home.specs.Home.Home.{Parked}
 use Rattle.aia_home.proofs.HomeLemmas.{same_place}
 use Rattle.aia_places.specs.View.{TwoSets, of_file, of_slot}
-use Rattle.aia_fabric.specs.World.{World, OnlyStores, stage_of}
-use Rattle.aia_fabric.specs.Whole.{IsWhole}
-use Rattle.aia_fabric.specs.Making.{entry_word_place}
-use Rattle.aia_fabric.specs.Stores.{StoresIn, StoresAt, Posts, NoticedAt, NoticedBy, StoresInSlot, with_store}
-use Rattle.aia_fabric.specs.Changes.{spot_of, with_state}
-use Rattle.aia_fabric.proofs.FrameLemmas.{none_rest, stores_rest, slot_rest}
-use Rattle.aia_fabric.proofs.PlaceLemmas.{slot_takes_store, other_slot_stays}
-use Rattle.aia_fabric.proofs.StoreViews.{entry_words_kept}
-use Rattle.aia_fabric.proofs.ViewLemmas.{spots_apart, has_slot}
-use Rattle.aia_fabric.proofs.WholeLemmas.{width_at}
+use Rattle.aia_world.specs.World.{World, OnlyStores, stage_of}
+use Rattle.aia_world.specs.Whole.{IsWhole}
+use Rattle.aia_world.specs.Making.{entry_word_place}
+use Rattle.aia_world.specs.Stores.{StoresIn, StoresAt, Posts, NoticedAt, NoticedBy, StoresInSlot, with_store}
+use Rattle.aia_world.specs.Changes.{spot_of, with_state}
+use Rattle.aia_world.proofs.FrameLemmas.{none_rest, stores_rest, slot_rest}
+use Rattle.aia_world.proofs.PlaceLemmas.{slot_takes_store, other_slot_stays}
+use Rattle.aia_world.proofs.StoreViews.{entry_words_kept}
+use Rattle.aia_world.proofs.ViewLemmas.{spots_apart, has_slot}
+use Rattle.aia_world.proofs.WholeLemmas.{width_at}
 use Rattle.aia_move.specs.Move.{width}
 use Rattle.aia_plan.specs.Transit.{is_identity, with_one}
 use Rattle.aia_rehearsal.specs.declared.place.Place as ends

@@ -9,8 +9,8 @@ use Rattle.aia_word.specs.Sets.{has_bit}
 use Rattle.aia_word.proofs.BitLemmas.{has_bit-zero}
 use Rattle.aia_imsic.specs.Imsic.{ImsicState}
 use Rattle.aia_places.specs.View.{leads_to, entry_word}
-use Rattle.aia_fabric.specs.declared.flights.Flying.{Flying}
-use Rattle.aia_fabric.specs.World.{World, flight_of}
+use Rattle.aia_world.specs.declared.flying.Flying.{Flying}
+use Rattle.aia_world.specs.World.{World, flight_of}
 use Rattle.aia_move.specs.Move.{width}
 use Rattle.aia_plan.specs.Plan.{IsInside}
 use Rattle.aia_plan.specs.Rule.{failing}

@@ -7,11 +7,11 @@ use Rattle.aia_entry.specs.Translation.{is_msi_address, file_number}
 use Rattle.aia_home.specs.declared.place.Place.{Place}
 use Rattle.aia_entry.specs.Format.{decoded}
 use Rattle.aia_home.specs.Vms.{Vcpu, vcpu, is_vcpu, is_vcpu_in}
-use Rattle.aia_fabric.specs.declared.flights.Flying.{Flying}
-use Rattle.aia_fabric.specs.World.{World, flight_of, stage_of}
-use Rattle.aia_fabric.specs.Stores.{Reaches, Relays}
-use Rattle.aia_fabric.specs.Flights.{Sends, Lands}
-use Rattle.aia_fabric.specs.Changes.{with_fence}
+use Rattle.aia_world.specs.declared.flying.Flying.{Flying}
+use Rattle.aia_world.specs.World.{World, flight_of, stage_of}
+use Rattle.aia_world.specs.Stores.{Reaches, Relays}
+use Rattle.aia_world.specs.Flights.{Sends, Lands}
+use Rattle.aia_world.specs.Changes.{with_fence}
 use Rattle.aia_move.specs.Move.{width}
 use Rattle.aia_plan.specs.Plan.{IsInside}
 use Rattle.aia_plan.specs.declared.step.Step.{Step}

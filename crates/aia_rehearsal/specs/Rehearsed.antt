@@ -4,11 +4,11 @@ use Rattle.std.specs.Prelude.{◌≡◌, ℕ, ⊤, Bool, false, Option, Some, No
 use Rattle.aia_home.specs.declared.place.Place.{Place}
 use Rattle.aia_home.specs.Vms.{Vcpu, vcpu}
 use Rattle.aia_home.specs.Home.{is_place}
-use Rattle.aia_fabric.specs.declared.at.At.{At}
-use Rattle.aia_fabric.specs.declared.at.At.TheVariants as ats
-use Rattle.aia_fabric.specs.World.{World}
+use Rattle.aia_world.specs.declared.at.At.{At}
+use Rattle.aia_world.specs.declared.at.At.TheVariants as ats
+use Rattle.aia_world.specs.World.{World}
 use Rattle.aia_imsic.specs.Imsic.{IsThere}
-use Rattle.aia_fabric.specs.Changes.{spot_of}
+use Rattle.aia_world.specs.Changes.{spot_of}
 use Rattle.aia_move.specs.declared.who.Who.{Who}
 use Rattle.aia_move.specs.Move.{IsWho}
 use Rattle.aia_plan.specs.Transit.{Side}

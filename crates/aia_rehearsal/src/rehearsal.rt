@@ -5,7 +5,7 @@ ghost use Rattle.aia_plan.specs.Transit.{Transit, stepped};
 ghost use Rattle.aia_plan.specs.Transit.Side.{Old, New};
 ghost use Rattle.aia_plan.specs.declared.step.Step.TheVariants as steps;
 ghost use Rattle.aia_regs.specs.FileRegisters.{IsUsable};
-ghost use Rattle.aia_fabric.specs.Changes.{IsPlaceThere};
+ghost use Rattle.aia_world.specs.Changes.{IsPlaceThere};
 ghost use Rattle.aia_move.specs.Move.{width};
 ghost use Rattle.aia_move.specs.Touches.{SameMachine};
 ghost use Rattle.aia_rehearsal.specs.Rehearsed.{Rehearsed, NotBothSlots, IsOf, IsFileThere, at_of, from_to, moved, names_on};

@@ -1,7 +1,7 @@
 -- A step of a plan leaves who is moved as it is.
 use Rattle.std.proofs.Common.{◌≡◌, [], Option, Some, None, ap, ◌∙◌}
 use Rattle.std.specs.Prelude.{⊤}
-use Rattle.aia_fabric.specs.World.{World}
+use Rattle.aia_world.specs.World.{World}
 use Rattle.aia_move.specs.declared.plan.Next.{Next}
 use Rattle.aia_move.specs.declared.plan.Next.TheVariants.{Again, Finished}
 use Rattle.aia_move.specs.declared.who.Who.{Who}

@@ -1,7 +1,7 @@
 use Rattle.std.proofs.Common.{ap, ◌∙◌, length}
 use Rattle.aia_home.specs.Vms.{vcpu, is_vcpu_in}
-use Rattle.aia_fabric.specs.World.{World, flight_of}
-use Rattle.aia_fabric.proofs.FlightLemmas.{all_landed_rest}
+use Rattle.aia_world.specs.World.{World, flight_of}
+use Rattle.aia_world.proofs.FlightLemmas.{all_landed_rest}
 use Rattle.aia_fabric.proofs.fabric.Fabric.fence.Goals as goal
 
 pub refetch-requires : goal.refetch-requires

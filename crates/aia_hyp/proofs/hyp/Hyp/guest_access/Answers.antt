@@ -10,8 +10,8 @@ use Rattle.aia_imsic.specs.declared.spot.Spot.{Spot}
 use Rattle.aia_imsic.specs.Imsic.{IsThere, file_at, with_file}
 use Rattle.aia_home.specs.declared.place.Place.{Place}
 use Rattle.aia_home.specs.Vms.{Vcpu, vcpu, is_vcpu_in}
-use Rattle.aia_fabric.specs.Whole.{IsWhole}
-use Rattle.aia_fabric.specs.Changes.{spot_of}
+use Rattle.aia_world.specs.Whole.{IsWhole}
+use Rattle.aia_world.specs.Changes.{spot_of}
 use Rattle.aia_model.specs.declared.answer.Answer.TheVariants.{Wide}
 use Rattle.aia_model.specs.declared.line.Line.TheVariants.{GuestCsr}
 use Rattle.aia_word.specs.Top.{top_value}

@@ -1,6 +1,6 @@
 use Rattle.std.proofs.Common.{◌≡◌, true, false, refl, sym, subst, ◌∙◌, arith}
 use Rattle.aia_home.specs.Vms.{vcpu, is_vcpu_in}
-use Rattle.aia_fabric.proofs.WholeLemmas.{vcpu_entry}
+use Rattle.aia_world.proofs.WholeLemmas.{vcpu_entry}
 use Rattle.aia_model.specs.declared.answer.Answer.TheVariants.{Okay}
 use Rattle.aia_model.specs.declared.line.Line.TheVariants.{Ipi}
 use Rattle.aia_hyp.specs.Core.{CoreState, record_of, runs_in}

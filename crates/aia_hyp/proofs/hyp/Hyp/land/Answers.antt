@@ -1,5 +1,5 @@
 use Rattle.std.proofs.Common.{◌≤◌, length, refl, arith}
-use Rattle.aia_fabric.specs.World.{flight_of}
+use Rattle.aia_world.specs.World.{flight_of}
 use Rattle.aia_model.specs.declared.line.Line.TheVariants.{Land}
 use Rattle.aia_model.specs.declared.answer.Answer.TheVariants.{Okay}
 use Rattle.aia_hyp.specs.Stands.{CoreTakes}

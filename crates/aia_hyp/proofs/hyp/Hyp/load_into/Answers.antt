@@ -4,12 +4,12 @@ use Rattle.aia_regs.specs.FileRegisters.{select_written}
 use Rattle.aia_regs.specs.declared.access.Op.TheVariants as ops
 use Rattle.aia_imsic.specs.declared.spot.Spot.TheVariants as spots
 use Rattle.aia_home.specs.Vms.{vcpu, is_vcpu_in, vcpus_in, slot_of, notice_hart}
-use Rattle.aia_fabric.specs.World.{World}
-use Rattle.aia_fabric.specs.Stores.{Posts}
-use Rattle.aia_fabric.specs.SlotAccess.{DoneInSlot}
-use Rattle.aia_fabric.specs.Whole.{IsWhole}
+use Rattle.aia_world.specs.World.{World}
+use Rattle.aia_world.specs.Stores.{Posts}
+use Rattle.aia_world.specs.SlotAccess.{DoneInSlot}
+use Rattle.aia_world.specs.Whole.{IsWhole}
 use Rattle.aia_file.specs.InterruptFile.{is_live}
-use Rattle.aia_fabric.specs.SlotAccess.{file_of_slot}
+use Rattle.aia_world.specs.SlotAccess.{file_of_slot}
 use Rattle.aia_model.specs.declared.answer.Answer.TheVariants.{Okay}
 use Rattle.aia_model.specs.declared.line.Line.TheVariants.{LoadPart}
 use Rattle.aia_model.specs.declared.part.Part.{Part}

@@ -7,8 +7,8 @@ use Rattle.aia_regs.specs.Operations.{is_writing}
 use Rattle.aia_csr.specs.declared.access.Access.TheVariants as reaches
 use Rattle.aia_file.specs.InterruptFile.{SameFile, register_value, top_of, accessed, claimed}
 use Rattle.aia_home.specs.Vms.{Vcpu, vcpu, is_vcpu_in, slot_of}
-use Rattle.aia_fabric.specs.SlotAccess.{file_of_slot, DoneInSlot}
-use Rattle.aia_fabric.specs.Whole.{IsWhole}
+use Rattle.aia_world.specs.SlotAccess.{file_of_slot, DoneInSlot}
+use Rattle.aia_world.specs.Whole.{IsWhole}
 use Rattle.aia_move.specs.declared.who.Kept.{Kept}
 use Rattle.aia_model.specs.declared.answer.Answer.TheVariants.{Wide}
 use Rattle.aia_model.specs.declared.line.Line.TheVariants.{GuestCsr}

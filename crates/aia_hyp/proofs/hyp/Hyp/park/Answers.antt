@@ -1,8 +1,8 @@
 use Rattle.std.proofs.Common.{◌≡◌, ◌+◌, true, refl, sym, subst, ◌∙◌, arith}
 use Rattle.aia_imsic.specs.declared.spot.Spot.TheVariants as spots
 use Rattle.aia_home.specs.Vms.{Vcpu, vcpu, is_vcpu_in, slot_of, notice_hart, notice_identity}
-use Rattle.aia_fabric.specs.World.{World}
-use Rattle.aia_fabric.specs.Stores.{Posts}
+use Rattle.aia_world.specs.World.{World}
+use Rattle.aia_world.specs.Stores.{Posts}
 use Rattle.aia_model.specs.declared.answer.Answer.TheVariants.{Okay}
 use Rattle.aia_model.specs.declared.line.Line.TheVariants.{Exit}
 use Rattle.aia_hyp.specs.declared.vcpu.Stay.TheVariants as stays

@@ -1,8 +1,8 @@
 use Rattle.std.proofs.Common.{◌≡◌, ◌<◌, true, List, [], ◌∷◌, ◌++◌, slice_index_or, length, sym, ap, subst, ◌∙◌, arith}
 use Rattle.aia_home.specs.Vms.{vcpu}
 use Rattle.aia_file.specs.InterruptFile.{is_greatest_identity}
-use Rattle.aia_fabric.specs.Whole.{IsWhole}
-use Rattle.aia_fabric.proofs.WholeLemmas.{notice_hart_there}
+use Rattle.aia_world.specs.Whole.{IsWhole}
+use Rattle.aia_world.proofs.WholeLemmas.{notice_hart_there}
 use Rattle.aia_home.specs.Aims.{target_to}
 use Rattle.aia_model.specs.declared.line.Line.TheVariants as lines
 use Rattle.aia_model.specs.Event.Event.{Accepted}

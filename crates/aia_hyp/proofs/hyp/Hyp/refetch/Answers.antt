@@ -1,5 +1,5 @@
 use Rattle.std.proofs.Common.{refl, sym, ◌∙◌, arith}
-use Rattle.aia_fabric.proofs.WholeLemmas.{vcpu_entry}
+use Rattle.aia_world.proofs.WholeLemmas.{vcpu_entry}
 use Rattle.aia_model.specs.declared.line.Line.TheVariants.{Refetch}
 use Rattle.aia_model.specs.declared.answer.Answer.TheVariants.{Okay}
 use Rattle.aia_hyp.specs.Stands.{CoreTakes}

@@ -1,6 +1,6 @@
 use Rattle.std.proofs.Common.{rules, ◌≡◌, ◌+◌, ◌/◌, ◌<◌, ap, sym, subst, ◌∙◌, arith}
 use Rattle.std.specs.Prelude.{Err}
-use Rattle.aia_fabric.specs.Whole.{IsWhole}
+use Rattle.aia_world.specs.Whole.{IsWhole}
 use Rattle.aia_home.specs.Vms.{vcpu}
 use Rattle.aia_model.specs.declared.answer.Answer.TheVariants as kinds
 use Rattle.aia_model.specs.declared.answer.Answer.TheVariants.{Refused}

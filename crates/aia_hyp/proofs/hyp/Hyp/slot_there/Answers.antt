@@ -1,5 +1,5 @@
 use Rattle.std.proofs.Common.{sym, ◌∙◌, arith}
-use Rattle.aia_fabric.proofs.WholeLemmas.{vcpu_entry}
+use Rattle.aia_world.proofs.WholeLemmas.{vcpu_entry}
 use Rattle.aia_hyp.proofs.hyp.Hyp.slot_there.Goals as goal
 
 pub overflow_cast-number : goal.overflow_cast-number

@@ -2,7 +2,7 @@ use Rattle.std.proofs.Common.{◌≡◌, true, false, nat_lt, sym, refl, subst, 
 use Rattle.std.proofs.lemmas.Bool.{and_parts, ltb-true}
 use Rattle.aia_model.specs.declared.answer.Answer.TheVariants.{Okay}
 use Rattle.aia_model.specs.declared.line.Line.TheVariants as lines
-use Rattle.aia_fabric.specs.Whole.{IsWhole}
+use Rattle.aia_world.specs.Whole.{IsWhole}
 use Rattle.aia_model.specs.Refusal.{is_vm_size, lacks_room}
 use Rattle.aia_hyp.specs.Core.{CoreState}
 use Rattle.aia_hyp.specs.Stands.{CoreTakes}

@@ -1,5 +1,5 @@
 use Rattle.std.proofs.Common.{◌≡◌, Err, sym, ap, ◌∙◌, subst, rules}
-use Rattle.aia_fabric.specs.World.{World}
+use Rattle.aia_world.specs.World.{World}
 use Rattle.aia_model.specs.declared.answer.Answer.TheVariants.{Okay, Refused}
 use Rattle.aia_model.specs.declared.refusal.Refusal.TheVariants as words
 use Rattle.aia_model.specs.Event.{History}

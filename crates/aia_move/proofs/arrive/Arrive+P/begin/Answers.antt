@@ -8,8 +8,8 @@ use Rattle.aia_move.specs.Turns.{IsIn}
 use Rattle.aia_move.specs.Load.{moving}
 use Rattle.std.proofs.lemmas.Bool.{eq-eqb, ne_eqb}
 use Rattle.aia_home.specs.Routes.{is_at_fence}
-use Rattle.aia_fabric.specs.Flights.{Fences}
-use Rattle.aia_fabric.specs.Changes.{with_fence}
+use Rattle.aia_world.specs.Flights.{Fences}
+use Rattle.aia_world.specs.Changes.{with_fence}
 use Rattle.aia_move.proofs.MachineLemmas.{fits_still}
 use Rattle.aia_move.proofs.LandingLemmas.{all_first, none_lands}
 use Rattle.aia_move.proofs.StepLemmas.{step_before}

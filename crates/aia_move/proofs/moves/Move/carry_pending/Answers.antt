@@ -1,5 +1,5 @@
 use Rattle.std.proofs.Common.{◌+◌, sym, ap, ◌∙◌, subst, arith}
-use Rattle.aia_fabric.specs.Changes.{IsPlaceThere}
+use Rattle.aia_world.specs.Changes.{IsPlaceThere}
 use Rattle.aia_move.specs.Move.{width, old_at, new_at}
 use Rattle.aia_move.specs.Load.{moving}
 use Rattle.aia_move.proofs.PhaseSteps.{middle}
