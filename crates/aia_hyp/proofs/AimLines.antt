@@ -27,9 +27,9 @@ use Rattle.aia_places.specs.Holds.{Holds}
 use Rattle.aia_pool.specs.Leases.{Leases, is_out}
 use Rattle.aia_world.specs.World.{World, no_stage}
 use Rattle.aia_world.specs.Changes.{spot_of, view}
-use Rattle.aia_move.specs.declared.who.Who.{Who}
+use Rattle.aia_moving.specs.declared.who.Who.{Who}
 use Rattle.aia_move.specs.declared.plan.Plan.{Plan}
-use Rattle.aia_move.specs.Move.{Moving, mover, width, Fits}
+use Rattle.aia_moving.specs.Move.{Moving, mover, width, Fits}
 use Rattle.aia_move.specs.Plan.{moving_of, IsInPhase, GoesAiming}
 use Rattle.aia_move.proofs.MoveKept.{aims_kept}
 use Rattle.aia_move.proofs.MachineLemmas.{no_accesses}

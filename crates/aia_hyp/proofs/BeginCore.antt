@@ -10,10 +10,10 @@ use Rattle.aia_home.specs.Vms.{Vcpu, vcpu, is_vcpu_in, slot_of}
 use Rattle.aia_home.specs.Home.{at_first, is_entered, rests_in_memory, is_resident, is_moving}
 use Rattle.aia_home.specs.Home.Home.{Arriving, Shifting}
 use Rattle.aia_pool.specs.Leases.{least_free}
-use Rattle.aia_move.specs.declared.who.Who.{Who}
-use Rattle.aia_move.specs.declared.who.Kept.{Kept}
+use Rattle.aia_moving.specs.declared.who.Who.{Who}
+use Rattle.aia_moving.specs.declared.who.Kept.{Kept}
 use Rattle.aia_move.specs.declared.plan.Plan.{Plan}
-use Rattle.aia_move.specs.Move.{IsWho}
+use Rattle.aia_moving.specs.Move.{IsWho}
 use Rattle.aia_move.specs.Plan.{moving_of, IsInPhase}
 use Rattle.aia_model.specs.declared.answer.Answer.{Answer}
 use Rattle.aia_model.specs.declared.answer.Answer.TheVariants.{Okay, Refused}

@@ -22,7 +22,7 @@ use Rattle.aia_world.specs.Whole.{IsWhole}
 use Rattle.aia_world.specs.Stores.{LandsIn, Posts, counted}
 use Rattle.aia_world.specs.SlotAccess.{file_of_slot, DoneInSlot}
 use Rattle.aia_imsic.specs.Imsic.{ImsicState}
-use Rattle.aia_move.specs.declared.who.Kept.{Kept}
+use Rattle.aia_moving.specs.declared.who.Kept.{Kept}
 use Rattle.aia_model.specs.declared.answer.Answer.TheVariants.{Okay, Refused}
 use Rattle.aia_model.specs.declared.answer.Answer.TheVariants as kinds
 use Rattle.aia_model.specs.declared.refusal.Refusal.{Refusal}

@@ -21,7 +21,7 @@ use Rattle.aia_home.specs.Home.Home.{Entered}
 use Rattle.aia_world.specs.World.{World}
 use Rattle.aia_world.specs.Whole.{IsWhole}
 use Rattle.aia_world.specs.SlotAccess.{file_of_slot, DoneInSlot}
-use Rattle.aia_move.specs.declared.who.Kept.{Kept}
+use Rattle.aia_moving.specs.declared.who.Kept.{Kept}
 use Rattle.aia_model.specs.declared.answer.Answer.TheVariants.{Wide, Refused}
 use Rattle.aia_model.specs.declared.refusal.Refusal.TheVariants.{Virtual}
 use Rattle.aia_model.specs.declared.line.Line.TheVariants.{GuestCsr}

@@ -25,8 +25,8 @@ use Rattle.aia_world.specs.Whole.{IsWhole}
 use Rattle.aia_world.specs.Changes.{view}
 use Rattle.aia_world.specs.SlotAccess.{DoneInSlot}
 use Rattle.aia_world.proofs.SlotViews.{other_slot_kept, done_entry_words, slot_done-view}
-use Rattle.aia_move.specs.declared.who.Kept.{Kept}
-use Rattle.aia_move.specs.Touches.{SameMachine}
+use Rattle.aia_moving.specs.declared.who.Kept.{Kept}
+use Rattle.aia_moving.specs.Touches.{SameMachine}
 use Rattle.aia_model.specs.Event.{Event, History, greatest_identity_of, file_words}
 use Rattle.aia_model.specs.Vms.{vms_of, has_vcpu}
 use Rattle.aia_model.specs.FileAfter.{FileDeed, select_after, file_after}

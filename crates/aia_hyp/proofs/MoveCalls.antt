@@ -19,16 +19,16 @@ use Rattle.aia_world.specs.World.{World}
 use Rattle.aia_world.specs.Whole.{IsWhole}
 use Rattle.aia_world.proofs.WholeLemmas.{vcpu_entry}
 use Rattle.aia_hyp.specs.declared.moves.Found.{Found}
-use Rattle.aia_move.specs.declared.who.Who.{Who}
+use Rattle.aia_moving.specs.declared.who.Who.{Who}
 use Rattle.aia_hyp.specs.Passes.{own_passes}
 use Rattle.aia_move.specs.declared.plan.Plan.{Plan}
 use Rattle.aia_move.specs.declared.plan.Next.{Next}
 use Rattle.aia_move.specs.declared.plan.Next.TheVariants.{Again, Finished}
-use Rattle.aia_move.specs.declared.turn.Outcome.{Outcome}
-use Rattle.aia_move.specs.Move.{Moving, mover, width, Fits, MakesNext, Goes}
+use Rattle.aia_moving.specs.declared.turn.Outcome.{Outcome}
+use Rattle.aia_moving.specs.Move.{Moving, mover, width, Fits, MakesNext, Goes}
 use Rattle.aia_move.specs.Plan.{moving_of, IsInPhase, MatchNext, GoesAiming, StepsTo}
-use Rattle.aia_move.specs.Turns.{EndsAs, GivesBack}
-use Rattle.aia_move.proofs.LandingLemmas.{landed_whole}
+use Rattle.aia_moving.specs.Turns.{EndsAs, GivesBack}
+use Rattle.aia_moving.proofs.LandingLemmas.{landed_whole}
 use Rattle.aia_model.specs.declared.answer.Answer.{Answer}
 use Rattle.aia_model.specs.Event.{History, Shape, file_words}
 use Rattle.std.specs.Option.{option_map_or}
@@ -46,8 +46,8 @@ use Rattle.aia_home.specs.Routes.{is_at_fence}
 use Rattle.aia_hyp.proofs.MoveBegins.{own_record}
 use Rattle.aia_model.proofs.HistoryLemmas.{first_happens, step_happens}
 use Rattle.aia_model.proofs.FlightLemmas.{lands_first, words_first, same_first, home_landed_first}
-use Rattle.aia_move.specs.Landings.{OnceLanded}
-use Rattle.aia_move.specs.Landings as moves
+use Rattle.aia_moving.specs.Landings.{OnceLanded}
+use Rattle.aia_moving.specs.Landings as moves
 use Rattle.aia_hyp.proofs.LandingLemmas.{once_landed, first_stands}
 use Rattle.aia_hyp.specs.Moves.{IsFound, WantBegins, MoveBegins, stay_after, back_of, with_back, IsOutThere, stay_then, back_then, is_finished, steps_left, left_in, MakesOneBy, MoveGoes}
 use Rattle.aia_hyp.specs.Stands.{PlanStands, CoreStands, StandsForSome}
@@ -55,7 +55,7 @@ use Rattle.aia_hyp.proofs.LeaseLemmas.{in_pool}
 use Rattle.aia_home.specs.Aims.{is_aiming, aims_done, aimed}
 use Rattle.aia_home.proofs.PassLemmas.{aim_is_no_fence}
 use Rattle.aia_model.specs.Passes.{passes_to, passes_for}
-use Rattle.aia_move.specs.Targets.{TargetMap, AimsOne, Aim, AimsAs, aims, aim_if, next_aim}
+use Rattle.aia_moving.specs.Targets.{TargetMap, AimsOne, Aim, AimsAs, aims, aim_if, next_aim}
 use Rattle.aia_hyp.proofs.OwnPasses.{aims_alike}
 use Rattle.aia_hyp.proofs.AimLines.{AimOf, aim_stands, later_moves, aim_is_not_last}
 use Rattle.aia_hyp.proofs.MoveSteps as steps

@@ -10,7 +10,7 @@ use Rattle.aia_home.specs.Home.{Home, is_entered, rests_in_memory, is_resident, 
 use Rattle.aia_home.specs.Plans.{is_at_last}
 use Rattle.aia_home.specs.Home.Home.{Parked, Entered, Resident, Leaving, Arriving, Shifting}
 use Rattle.aia_hyp.specs.declared.moves.Found.{Found}
-use Rattle.aia_move.specs.Move.{}
+use Rattle.aia_moving.specs.Move.{}
 use Rattle.aia_model.specs.declared.answer.Answer.{Answer}
 use Rattle.aia_model.specs.declared.answer.Answer.TheVariants.{Okay, Refused}
 use Rattle.aia_model.specs.declared.refusal.Refusal.{Refusal}

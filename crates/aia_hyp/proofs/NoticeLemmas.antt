@@ -16,8 +16,8 @@ use Rattle.aia_home.specs.Plans.Access.{Post}
 use Rattle.aia_home.proofs.PlanLemmas.{one_a_step}
 use Rattle.aia_places.specs.Holds.{Hand}
 use Rattle.aia_world.specs.World.{World}
-use Rattle.aia_move.specs.Move.{Moving}
-use Rattle.aia_move.specs.Touches.{Touches, sends}
+use Rattle.aia_moving.specs.Move.{Moving}
+use Rattle.aia_moving.specs.Touches.{Touches, sends}
 use Rattle.aia_model.specs.Event.{History}
 use Rattle.aia_model.specs.Vms.{vms_of}
 use Rattle.aia_model.specs.FileAfter.FileDeed.{Rests}

@@ -18,8 +18,8 @@ use Rattle.aia_home.proofs.VmLemmas.{slot_below}
 use Rattle.aia_home.specs.Aims.{pass_reaches, target_to}
 use Rattle.aia_world.specs.World.{World}
 use Rattle.aia_world.specs.Whole.{IsWhole}
-use Rattle.aia_move.specs.declared.who.Pass as plans
-use Rattle.aia_move.specs.Targets.{TargetMap}
+use Rattle.aia_moving.specs.declared.who.Pass as plans
+use Rattle.aia_moving.specs.Targets.{TargetMap}
 use Rattle.aia_model.specs.declared.answer.Answer.{Answer}
 use Rattle.aia_model.specs.declared.answer.Answer.TheVariants.{Okay, Refused}
 use Rattle.aia_model.specs.declared.refusal.Refusal.{Refusal}

@@ -20,7 +20,7 @@ use Rattle.aia_world.specs.Whole.{IsWhole}
 use Rattle.aia_world.specs.Changes.{spot_of, view, with_fence}
 use Rattle.aia_world.proofs.ViewLemmas.{fence-view}
 use Rattle.aia_world.proofs.WholeLemmas.{notice_hart_there}
-use Rattle.aia_move.specs.Touches.{OnlyAccesses}
+use Rattle.aia_moving.specs.Touches.{OnlyAccesses}
 use Rattle.aia_move.proofs.MachineLemmas.{only_accesses, only_tables}
 use Rattle.aia_places.specs.Stores.{AreApart}
 use Rattle.aia_pool.specs.Leases.{Leases, is_out}

@@ -12,7 +12,7 @@ use Rattle.aia_model.specs.Passes.{Pass}
 use Rattle.aia_model.specs.declared.refusal.Refusal.{Refusal}
 use Rattle.aia_model.specs.declared.refusal.Refusal.TheVariants as refusals
 use Rattle.aia_world.specs.World.{World}
-use Rattle.aia_move.specs.declared.who.Kept.{Kept}
+use Rattle.aia_moving.specs.declared.who.Kept.{Kept}
 use Rattle.aia_move.specs.Plan.{moving_of}
 use Rattle.aia_hyp.specs.declared.vcpu.Stay.{Stay}
 use Rattle.aia_hyp.specs.declared.vcpu.Stay.TheVariants as stays

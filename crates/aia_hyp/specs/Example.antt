@@ -21,7 +21,7 @@ use Rattle.aia_world.specs.declared.stage.Stage.{Stage}
 use Rattle.aia_world.specs.World.{World, no_stage}
 use Rattle.aia_world.specs.Making.{new_world, table_place}
 use Rattle.aia_move.specs.declared.plan.Plan.TheVariants.{LeaveDrain}
-use Rattle.aia_move.specs.Move.{Moving}
+use Rattle.aia_moving.specs.Move.{Moving}
 use Rattle.aia_model.specs.declared.line.Line.{Line}
 use Rattle.aia_model.specs.declared.line.Line.TheVariants as lines
 use Rattle.aia_model.specs.Move.Move.{Arrives, Leaves}

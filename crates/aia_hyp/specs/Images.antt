@@ -1,7 +1,7 @@
 -- Images of virtual harts, in the core.
 use Rattle.std.specs.Prelude.{ℕ, slice_index_or}
 use Rattle.aia_major.specs.Kept.{majors_shown}
-use Rattle.aia_move.specs.declared.who.Kept.{Kept}
+use Rattle.aia_moving.specs.declared.who.Kept.{Kept}
 use Rattle.aia_model.specs.Image.{GuestState}
 use Rattle.aia_hyp.specs.Core.{CoreState, no_record}
 use Rattle.aia_hyp.specs.Memory.{file_in_memory}

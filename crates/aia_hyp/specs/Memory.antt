@@ -8,7 +8,7 @@ use Rattle.aia_regs.specs.FileRegisters.{number_after}
 use Rattle.aia_file.specs.InterruptFile.{InterruptFile, claimed}
 use Rattle.aia_world.specs.World.{World}
 use Rattle.aia_world.specs.SlotAccess.{file_of_slot, DoneInSlot}
-use Rattle.aia_move.specs.declared.who.Kept.{Kept}
+use Rattle.aia_moving.specs.declared.who.Kept.{Kept}
 use Rattle.aia_model.specs.declared.answer.Answer.{Answer}
 use Rattle.aia_model.specs.declared.answer.Answer.TheVariants.{Okay, Refused}
 use Rattle.aia_model.specs.declared.refusal.Refusal.TheVariants as refusals

@@ -5,7 +5,7 @@ ghost use Rattle.aia_home.specs.Home.{is_moving};
 ghost use Rattle.aia_pool.specs.Leases.{Leases};
 ghost use Rattle.aia_model.specs.declared.line.Line.TheVariants.{Step};
 ghost use Rattle.aia_model.specs.declared.answer.Answer.TheVariants.{Okay};
-ghost use Rattle.aia_move.specs.Move.{IsWho};
+ghost use Rattle.aia_moving.specs.Move.{IsWho};
 ghost use Rattle.aia_move.specs.Plan.{moving_of};
 ghost use Rattle.aia_model.specs.Event.{History};
 ghost use Rattle.aia_model.specs.Event.Event.{Stepped};

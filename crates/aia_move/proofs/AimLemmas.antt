@@ -11,16 +11,16 @@ use Rattle.aia_home.specs.Aims.{aims_done, is_aiming, aimed}
 use Rattle.aia_world.specs.World.{World}
 use Rattle.aia_move.specs.declared.plan.Plan.{Plan}
 use Rattle.aia_move.specs.declared.plan.Plan.TheVariants.{LeaveFirst, LeaveClosing, LeaveAim, LeaveDrain, LeaveEnable, LeaveLook, LeaveLast, ArriveFirst, ArriveClosing, ArriveAim, ArriveDrain, ArriveEnable, ArriveLast, ShiftFirst, ShiftClosing, ShiftAim, ShiftDrain, ShiftEnable, ShiftLast}
-use Rattle.aia_move.specs.declared.turn.Turn.{Turn}
-use Rattle.aia_move.specs.declared.turn.Turn.TheVariants.{Stay, On}
-use Rattle.aia_move.specs.declared.turn.Closed.{Closed}
-use Rattle.aia_move.specs.declared.turn.Closed.TheVariants as closed
-use Rattle.aia_move.specs.Move.{Moving, width, Fits}
-use Rattle.aia_move.specs.Targets.{aims, has_unaimed, one_aimed}
-use Rattle.aia_move.specs.Load.{Load, progress_of, moving, one_aim_done}
-use Rattle.aia_move.specs.Turns.{IsIn, IsAtAims, IsInDrain, IsMove, GoesOn, AimsOn, MatchTurn, MatchClosed}
+use Rattle.aia_moving.specs.declared.turn.Turn.{Turn}
+use Rattle.aia_moving.specs.declared.turn.Turn.TheVariants.{Stay, On}
+use Rattle.aia_moving.specs.declared.turn.Closed.{Closed}
+use Rattle.aia_moving.specs.declared.turn.Closed.TheVariants as closed
+use Rattle.aia_moving.specs.Move.{Moving, width, Fits}
+use Rattle.aia_moving.specs.Targets.{aims, has_unaimed, one_aimed}
+use Rattle.aia_moving.specs.Load.{Load, progress_of, moving, one_aim_done}
+use Rattle.aia_moving.specs.Turns.{IsIn, IsAtAims, IsInDrain, IsMove, GoesOn, AimsOn, MatchTurn, MatchClosed}
 use Rattle.aia_move.specs.Plan.{moving_of, is_in_aim, IsInPhase}
-use Rattle.aia_move.proofs.PhaseSteps.{middle, begins_on}
+use Rattle.aia_moving.proofs.PhaseSteps.{middle, begins_on}
 
 -- ---- when a step aims
 

@@ -41,12 +41,12 @@ use Rattle.aia_world.proofs.StoreViews.{file_store-view, slot_store-view}
 use Rattle.aia_world.proofs.ViewLemmas.{posts-view, slot_low}
 use Rattle.aia_world.proofs.WholeLemmas.{notice_hart_there}
 use Rattle.aia_move.specs.declared.plan.Plan.{Plan}
-use Rattle.aia_move.specs.Move.{Moving, mover, width, Fits}
+use Rattle.aia_moving.specs.Move.{Moving, mover, width, Fits}
 use Rattle.aia_move.specs.Plan.{moving_of}
-use Rattle.aia_move.specs.Touches.{SameMachine}
+use Rattle.aia_moving.specs.Touches.{SameMachine}
 use Rattle.aia_move.specs.Knows.{Knows}
 use Rattle.aia_move.proofs.MachineLemmas.{fits_still, phase_still}
-use Rattle.aia_move.proofs.MadeView.{few_words}
+use Rattle.aia_moving.proofs.MadeView.{few_words}
 use Rattle.aia_move.proofs.MoveKept.{file_in-size}
 use Rattle.aia_regs.specs.declared.address_map.TheConstants.{PAGE}
 

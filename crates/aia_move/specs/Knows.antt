@@ -6,7 +6,7 @@ use Rattle.aia_places.specs.Holds.{Holds}
 use Rattle.aia_world.specs.World.{World}
 use Rattle.aia_world.specs.Changes.{view}
 use Rattle.aia_move.specs.declared.plan.Plan.{Plan}
-use Rattle.aia_move.specs.Move.{mover, width, Fits}
+use Rattle.aia_moving.specs.Move.{mover, width, Fits}
 use Rattle.aia_move.specs.Plan.{moving_of, IsInPhase}
 
 -- Its next step can be made, and is a step of its phase; and the places of the virtual hart that is

@@ -4,9 +4,9 @@ ghost use Rattle.aia_home.specs.Home.Home.{Arriving};
 ghost use Rattle.aia_home.specs.Plans.{arrive_step, steps_done};
 ghost use Rattle.aia_home.specs.Plans.Access.{PutThreshold, PutDelivery};
 ghost use Rattle.aia_home.specs.Phases.Phase.{FirstPhase, ClosingPhase, LastPhase};
-ghost use Rattle.aia_move.specs.Move.{Fits, Ends, new_spot, width};
-ghost use Rattle.aia_move.specs.Landings.{OnceLanded};
-ghost use Rattle.aia_move.specs.Turns.{IsIn, GoesOn, EndsAs, GivesBack, MatchTurn};
+ghost use Rattle.aia_moving.specs.Move.{Fits, Ends, new_spot, width};
+ghost use Rattle.aia_moving.specs.Landings.{OnceLanded};
+ghost use Rattle.aia_moving.specs.Turns.{IsIn, GoesOn, EndsAs, GivesBack, MatchTurn};
 
 use crate::carrier::Carrier;
 use crate::kind::{ToFile, spot};

@@ -9,9 +9,9 @@ ghost use Rattle.aia_home.specs.BySteps.{new_file};
 ghost use Rattle.aia_home.specs.Plans.Access.{TakeDelivery, PutDelivery, WriteNotice, WriteEntry, Fence, WriteStage, FenceStage, TakePending, PutPending, TakeEnables, PutEnables, Look, TakeThreshold, PutThreshold};
 ghost use Rattle.aia_world.specs.Flights.{Fences};
 ghost use Rattle.aia_world.specs.Changes.{IsPlaceThere, spot_of, words_at};
-ghost use Rattle.aia_move.specs.Move.{Moving, IsWho, Makes, PostsIf, old_at, new_at, old_spot, new_spot, width};
-ghost use Rattle.aia_move.specs.Targets.{ArePasses, passes_of, aim_of};
-ghost use Rattle.aia_move.specs.Load.{Does, load_of, one_done, one_aim_done, closing_access, pending_access, enables_access};
+ghost use Rattle.aia_moving.specs.Move.{Moving, IsWho, Makes, PostsIf, old_at, new_at, old_spot, new_spot, width};
+ghost use Rattle.aia_moving.specs.Targets.{ArePasses, passes_of, aim_of};
+ghost use Rattle.aia_moving.specs.Load.{Does, load_of, one_done, one_aim_done, closing_access, pending_access, enables_access};
 
 use crate::{Targets, Who, words};
 use aia_fabric::{At, Fabric};
@@ -43,7 +43,7 @@ pub struct Carrier {
 }
 
 impl Model for Carrier {
-    ghost use Rattle.aia_move.specs.Load.{Load};
+    ghost use Rattle.aia_moving.specs.Load.{Load};
 
     ghost Value = { Load };
 
@@ -60,7 +60,7 @@ impl Model for Carrier {
     } };
 }
 
-#[tactic(auto, using(crate::proofs::WhoLemmas::small_who, crate::proofs::WhoLemmas::small_file))]
+#[tactic(auto, using(aia_moving::proofs::WhoLemmas::small_who, aia_moving::proofs::WhoLemmas::small_file))]
 impl Carrier {
     /// Makes the load of a move of which no step is done.
     pub fn new(who: Who, delivery: u64, threshold: u64) -> Carrier
@@ -366,7 +366,7 @@ impl Carrier {
     }
 
     /// Sends the notice where a look saw something: it is the last access of a leave.
-    #[tactic(auto, using(crate::proofs::WhoLemmas::small_who, crate::proofs::WhoLemmas::posts_if))]
+    #[tactic(auto, using(aia_moving::proofs::WhoLemmas::small_who, aia_moving::proofs::WhoLemmas::posts_if))]
     pub fn post(&self, fabric: &mut Fabric)
         requires { IsWho fabric.old self.now.who }
         ensures { PostsIf self.now.hand.seen fabric.old fabric.new self.now.who.notice

@@ -9,8 +9,8 @@ ghost use Rattle.aia_home.specs.Phases.{Phase, begins};
 ghost use Rattle.aia_home.specs.Phases.Phase.{ClosingPhase, LookPhase, LastPhase};
 ghost use Rattle.aia_home.specs.BySteps.{new_file};
 ghost use Rattle.aia_world.specs.Changes.{spot_of};
-ghost use Rattle.aia_move.specs.Move.{old_by, new_by};
-ghost use Rattle.aia_move.specs.Turns.{IsMove, after_enable};
+ghost use Rattle.aia_moving.specs.Move.{old_by, new_by};
+ghost use Rattle.aia_moving.specs.Turns.{IsMove, after_enable};
 
 use crate::phase::{Last, Look};
 use aia_fabric::At;

@@ -5,9 +5,9 @@ ghost use Rattle.aia_home.specs.Plans.{leave_step, steps_done};
 ghost use Rattle.aia_home.specs.Plans.Access.{TakeThreshold, Post};
 ghost use Rattle.aia_home.specs.Phases.Phase.{FirstPhase, ClosingPhase, LookPhase, LastPhase};
 ghost use Rattle.aia_home.specs.BySteps.{is_leaving};
-ghost use Rattle.aia_move.specs.Move.{Fits, Ends, old_spot, width};
-ghost use Rattle.aia_move.specs.Landings.{OnceLanded};
-ghost use Rattle.aia_move.specs.Turns.{IsIn, GoesOn, EndsAs, GivesBack, MatchTurn};
+ghost use Rattle.aia_moving.specs.Move.{Fits, Ends, old_spot, width};
+ghost use Rattle.aia_moving.specs.Landings.{OnceLanded};
+ghost use Rattle.aia_moving.specs.Turns.{IsIn, GoesOn, EndsAs, GivesBack, MatchTurn};
 
 use crate::carrier::Carrier;
 use crate::kind::{ToMemory, spot};

@@ -4,9 +4,9 @@ ghost use Rattle.aia_home.specs.Plans.{steps_done, leave_step};
 ghost use Rattle.aia_home.specs.Plans.Access.{WriteStage};
 ghost use Rattle.aia_home.specs.Phases.{begins};
 ghost use Rattle.aia_home.specs.Phases.Phase.{ClosingPhase, DrainPhase, EnablePhase};
-ghost use Rattle.aia_move.specs.Move.{Fits, old_at, new_at, width};
-ghost use Rattle.aia_move.specs.Targets.{ArePasses, aim_of, has_unaimed};
-ghost use Rattle.aia_move.specs.Turns.{IsIn, IsAtAims, IsInDrain, GoesOn, AimsOn, MatchTurn, MatchClosed, after_enable};
+ghost use Rattle.aia_moving.specs.Move.{Fits, old_at, new_at, width};
+ghost use Rattle.aia_moving.specs.Targets.{ArePasses, aim_of, has_unaimed};
+ghost use Rattle.aia_moving.specs.Turns.{IsIn, IsAtAims, IsInDrain, GoesOn, AimsOn, MatchTurn, MatchClosed, after_enable};
 
 use crate::carrier::Carrier;
 use crate::kind::Kind;
@@ -28,8 +28,8 @@ pub struct Move<K: Kind, P> {
 }
 
 impl<K: Kind, P> Model for Move<K, P> {
-    ghost use Rattle.aia_move.specs.Move.{Moving};
-    ghost use Rattle.aia_move.specs.Load.{moving};
+    ghost use Rattle.aia_moving.specs.Move.{Moving};
+    ghost use Rattle.aia_moving.specs.Load.{moving};
 
     ghost Value = { Moving };
 

@@ -5,9 +5,9 @@ ghost use Rattle.aia_home.specs.Home.Home.{Leaving, Arriving, Shifting};
 ghost use Rattle.aia_places.specs.Stores.{AreApart};
 ghost use Rattle.aia_world.specs.World.{World};
 ghost use Rattle.aia_world.specs.Changes.{spot_of};
-ghost use Rattle.aia_move.specs.Move.{IsWho, Fits, width};
-ghost use Rattle.aia_move.specs.Targets.{ArePasses, AimsAs, aim_if, next_aim};
-ghost use Rattle.aia_move.specs.Turns.{LeavesEmpty};
+ghost use Rattle.aia_moving.specs.Move.{IsWho, Fits, width};
+ghost use Rattle.aia_moving.specs.Targets.{ArePasses, AimsAs, aim_if, next_aim};
+ghost use Rattle.aia_moving.specs.Turns.{LeavesEmpty};
 ghost use Rattle.aia_move.specs.Plan.{moving_of, is_in_aim, IsInPhase, MatchNext, StepsTo};
 
 use crate::phase::{Aim, Closing, Drain, Enable, First, Last, Look};
@@ -83,7 +83,7 @@ macro_rules! finish {
 impl Plan {
     /// Begins to move a virtual hart from a guest file to memory. Its steps can be made where both
     /// are there.
-    #[tactic(auto, using(crate::proofs::WhoLemmas::leave_fits))]
+    #[tactic(auto, using(aia_moving::proofs::WhoLemmas::leave_fits))]
     pub fn leave(file: FileLease, who: Who) -> Plan
         ensures begins { moving_of result ≡ record {
           who = who;
@@ -99,7 +99,7 @@ impl Plan {
 
     /// Begins to move a virtual hart from memory to a guest file, with the numbers that were kept.
     /// Its steps can be made where both are there.
-    #[tactic(auto, using(crate::proofs::WhoLemmas::arrive_fits))]
+    #[tactic(auto, using(aia_moving::proofs::WhoLemmas::arrive_fits))]
     pub fn arrive(file: FileLease, who: Who, kept: Kept) -> Plan
         ensures begins { moving_of result ≡ record {
           who = who;
@@ -120,7 +120,7 @@ impl Plan {
 
     /// Begins to move a virtual hart from guest file `old` to guest file `new`. Its steps can be
     /// made where all three are there.
-    #[tactic(auto, using(crate::proofs::WhoLemmas::shift_fits))]
+    #[tactic(auto, using(aia_moving::proofs::WhoLemmas::shift_fits))]
     pub fn shift(old: FileLease, new: FileLease, who: Who) -> Plan
         ensures begins { moving_of result ≡ record {
           who = who;

@@ -4,9 +4,9 @@ ghost use Rattle.aia_home.specs.Home.Home.{Shifting};
 ghost use Rattle.aia_home.specs.Plans.{shift_step, steps_done};
 ghost use Rattle.aia_home.specs.Plans.Access.{TakeThreshold, PutDelivery};
 ghost use Rattle.aia_home.specs.Phases.Phase.{FirstPhase, ClosingPhase, LastPhase};
-ghost use Rattle.aia_move.specs.Move.{Fits, Ends, old_spot, new_spot, width};
-ghost use Rattle.aia_move.specs.Landings.{OnceLanded};
-ghost use Rattle.aia_move.specs.Turns.{IsBetween, IsIn, GoesOn, EndsAs, GivesBack, MatchTurn};
+ghost use Rattle.aia_moving.specs.Move.{Fits, Ends, old_spot, new_spot, width};
+ghost use Rattle.aia_moving.specs.Landings.{OnceLanded};
+ghost use Rattle.aia_moving.specs.Turns.{IsBetween, IsIn, GoesOn, EndsAs, GivesBack, MatchTurn};
 
 use crate::carrier::Carrier;
 use crate::kind::{ToOtherFile, spot};

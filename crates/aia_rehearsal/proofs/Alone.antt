@@ -27,8 +27,8 @@ use Rattle.aia_world.specs.Flights.{Sends, Lands, LandsOldest}
 use Rattle.aia_world.specs.Changes.{view, pending_words, enable_words, with_pending, with_enable, with_entry_word, with_fence, with_stage}
 use Rattle.aia_world.proofs.ViewLemmas.{fence-view, slot_low}
 use Rattle.aia_world.proofs.WholeLemmas.{vcpu_entry, notice_hart_there}
-use Rattle.aia_move.specs.Move.{PostsIf}
-use Rattle.aia_move.specs.Touches.{SameMachine}
+use Rattle.aia_moving.specs.Move.{PostsIf}
+use Rattle.aia_moving.specs.Touches.{SameMachine}
 use Rattle.aia_plan.specs.declared.step.Step.{Step}
 use Rattle.aia_plan.specs.declared.step.Step.TheVariants as steps
 use Rattle.aia_rehearsal.specs.declared.place.Place as ends
@@ -38,7 +38,7 @@ use Rattle.aia_rehearsal.specs.Steps.{Puts, Makes}
 use Rattle.aia_rehearsal.specs.Stands.{Routes, routes_of, side_of}
 use Rattle.aia_rehearsal.specs.Events.{Event, Happens, IsAlone, NamesElsewhere}
 use Rattle.aia_rehearsal.specs.Events.Event.{Steps, DeviceStores, PeerStores, DeviceSends, StoreLands, EntryRead}
-use Rattle.aia_move.proofs.WhoLemmas.{small_who}
+use Rattle.aia_moving.proofs.WhoLemmas.{small_who}
 use Rattle.aia_rehearsal.proofs.PlaceSteps.{pending_routes, enabled_routes}
 use Rattle.aia_rehearsal.proofs.Carried.{side_same}
 use Rattle.aia_rehearsal.proofs.StoreSeen.{at_spot, at_slot}

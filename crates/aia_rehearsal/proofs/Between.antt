@@ -36,7 +36,7 @@ use Rattle.aia_rehearsal.specs.declared.place.Place.TheVariants.{File, Slot}
 use Rattle.aia_rehearsal.specs.Rehearsed.{Passage, Rehearsed, moved, on, at_of, file_of, names_on, IsFileThere}
 use Rattle.aia_rehearsal.specs.Stands.{sets_at, routes_of, is_file_at, leads, side_of, asked, onto_flights, flights_in, FlightsStand, StandsFor}
 use Rattle.aia_rehearsal.specs.Events.{is_for_moved, NamesElsewhere}
-use Rattle.aia_move.proofs.WhoLemmas.{small_who}
+use Rattle.aia_moving.proofs.WhoLemmas.{small_who}
 use Rattle.aia_rehearsal.proofs.RouteSteps.{all_kept}
 use Rattle.aia_rehearsal.proofs.StoreSeen.{file_hit, slot_hit, at_spot, at_slot}
 use Rattle.aia_rehearsal.proofs.Landings.{side_by, landed_on, store_lands, entry_lands, one_led, one_file_hit, one_slot_hit, named_spot_there}

@@ -17,7 +17,7 @@ use Rattle.std.specs.Int.{is_in_range}
 use Rattle.aia_world.specs.Stores.{ReachesBy, page_spot, named_spot, slot_at}
 use Rattle.aia_world.specs.Changes.{spot_of}
 use Rattle.aia_world.proofs.PlaceLemmas.{slot_begins}
-use Rattle.aia_move.specs.Touches.{SameMachine}
+use Rattle.aia_moving.specs.Touches.{SameMachine}
 use Rattle.aia_plan.specs.Transit.{Side, Transit, landed}
 use Rattle.aia_plan.specs.Transit.Side.{Old, New}
 use Rattle.aia_rehearsal.specs.declared.place.Place as ends

@@ -8,7 +8,7 @@ use Rattle.aia_home.specs.Vms.{vcpu, is_vcpu}
 use Rattle.aia_world.specs.declared.flying.Flying.{Flying}
 use Rattle.aia_world.specs.World.{World, flight_of}
 use Rattle.aia_world.specs.Whole.{IsWhole}
-use Rattle.aia_move.specs.Move.{width}
+use Rattle.aia_moving.specs.Move.{width}
 use Rattle.aia_plan.specs.declared.step.Step.{Step}
 use Rattle.aia_plan.specs.declared.step.Step.TheVariants as steps
 use Rattle.aia_plan.specs.Transit.{Side, Flight, Transit, Happening, is_identity, landed, all_landed, one_landed, stepped, happened, all_happened, steps_of}

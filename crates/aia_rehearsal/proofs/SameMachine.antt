@@ -19,8 +19,8 @@ use Rattle.aia_world.specs.Flights.{Sends}
 use Rattle.aia_rehearsal.specs.Events.{Event, Happens}
 use Rattle.aia_rehearsal.specs.Events.Event.{Steps, DeviceStores, PeerStores, DeviceSends, StoreLands, EntryRead}
 use Rattle.aia_imsic.specs.declared.spot.Spot.TheVariants.{HostFile}
-use Rattle.aia_move.specs.Move.{PostsIf}
-use Rattle.aia_move.specs.Touches.{SameMachine}
+use Rattle.aia_moving.specs.Move.{PostsIf}
+use Rattle.aia_moving.specs.Touches.{SameMachine}
 use Rattle.aia_plan.specs.declared.step.Step.{Step}
 use Rattle.aia_plan.specs.declared.step.Step.TheVariants as steps
 use Rattle.aia_plan.specs.Transit.Side.{Old, New}

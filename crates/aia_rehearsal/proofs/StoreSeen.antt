@@ -33,7 +33,7 @@ use Rattle.aia_world.proofs.PlaceLemmas.{slot_takes_store, other_slot_stays}
 use Rattle.aia_world.proofs.StoreViews.{entry_words_kept}
 use Rattle.aia_world.proofs.ViewLemmas.{spots_apart, has_slot}
 use Rattle.aia_world.proofs.WholeLemmas.{width_at}
-use Rattle.aia_move.specs.Move.{width}
+use Rattle.aia_moving.specs.Move.{width}
 use Rattle.aia_plan.specs.Transit.{is_identity, with_one}
 use Rattle.aia_rehearsal.specs.declared.place.Place as ends
 use Rattle.aia_rehearsal.specs.declared.place.Place.TheVariants.{File, Slot}

@@ -11,7 +11,7 @@ use Rattle.aia_imsic.specs.Imsic.{ImsicState}
 use Rattle.aia_places.specs.View.{leads_to, entry_word}
 use Rattle.aia_world.specs.declared.flying.Flying.{Flying}
 use Rattle.aia_world.specs.World.{World, flight_of}
-use Rattle.aia_move.specs.Move.{width}
+use Rattle.aia_moving.specs.Move.{width}
 use Rattle.aia_plan.specs.Plan.{IsInside}
 use Rattle.aia_plan.specs.Rule.{failing}
 use Rattle.aia_plan.specs.Safe.{IsStart, IsMoved}

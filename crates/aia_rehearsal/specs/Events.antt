@@ -12,7 +12,7 @@ use Rattle.aia_world.specs.World.{World, flight_of, stage_of}
 use Rattle.aia_world.specs.Stores.{Reaches, Relays}
 use Rattle.aia_world.specs.Flights.{Sends, Lands}
 use Rattle.aia_world.specs.Changes.{with_fence}
-use Rattle.aia_move.specs.Move.{width}
+use Rattle.aia_moving.specs.Move.{width}
 use Rattle.aia_plan.specs.Plan.{IsInside}
 use Rattle.aia_plan.specs.declared.step.Step.{Step}
 use Rattle.aia_plan.specs.Transit.{Side, Happening}

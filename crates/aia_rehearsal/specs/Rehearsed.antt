@@ -9,8 +9,8 @@ use Rattle.aia_world.specs.declared.at.At.TheVariants as ats
 use Rattle.aia_world.specs.World.{World}
 use Rattle.aia_imsic.specs.Imsic.{IsThere}
 use Rattle.aia_world.specs.Changes.{spot_of}
-use Rattle.aia_move.specs.declared.who.Who.{Who}
-use Rattle.aia_move.specs.Move.{IsWho}
+use Rattle.aia_moving.specs.declared.who.Who.{Who}
+use Rattle.aia_moving.specs.Move.{IsWho}
 use Rattle.aia_plan.specs.Transit.{Side}
 use Rattle.aia_plan.specs.Transit.Side.{Old, New}
 use Rattle.aia_rehearsal.specs.declared.place.Place as ends

@@ -9,7 +9,7 @@ use Rattle.aia_places.specs.View.{leads_to, entry_word, second_word}
 use Rattle.aia_world.specs.declared.flying.Flying.{Flying}
 use Rattle.aia_world.specs.World.{World, flight_of}
 use Rattle.aia_world.specs.Whole.{IsWhole}
-use Rattle.aia_move.specs.Move.{width}
+use Rattle.aia_moving.specs.Move.{width}
 use Rattle.aia_plan.specs.Plan.{Plan}
 use Rattle.aia_plan.specs.declared.step.Step.TheVariants as steps
 use Rattle.aia_plan.specs.Transit.{Side, Flight, Transit, is_identity}

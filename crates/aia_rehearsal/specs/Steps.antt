@@ -14,7 +14,7 @@ use Rattle.aia_world.specs.declared.at.At.TheVariants as ats
 use Rattle.aia_world.specs.World.{World}
 use Rattle.aia_world.specs.Flights.{Fences}
 use Rattle.aia_world.specs.Changes.{PutsRegister, spot_of, pending_words, enable_words, pending_at, with_pending, enable_at, with_enable, with_entry_word, with_map, with_stage_fence}
-use Rattle.aia_move.specs.Move.{PostsIf}
+use Rattle.aia_moving.specs.Move.{PostsIf}
 use Rattle.aia_rehearsal.specs.declared.place.Place as ends
 use Rattle.aia_rehearsal.specs.declared.place.Place.TheVariants.{File, Slot}
 use Rattle.aia_rehearsal.specs.Rehearsed.{Carried, Rehearsed, moved, at, names_on}

@@ -6,8 +6,8 @@ ghost use Rattle.aia_plan.specs.Transit.Side.{Old, New};
 ghost use Rattle.aia_plan.specs.declared.step.Step.TheVariants as steps;
 ghost use Rattle.aia_regs.specs.FileRegisters.{IsUsable};
 ghost use Rattle.aia_world.specs.Changes.{IsPlaceThere};
-ghost use Rattle.aia_move.specs.Move.{width};
-ghost use Rattle.aia_move.specs.Touches.{SameMachine};
+ghost use Rattle.aia_moving.specs.Move.{width};
+ghost use Rattle.aia_moving.specs.Touches.{SameMachine};
 ghost use Rattle.aia_rehearsal.specs.Rehearsed.{Rehearsed, NotBothSlots, IsOf, IsFileThere, at_of, from_to, moved, names_on};
 ghost use Rattle.aia_rehearsal.specs.Steps.{Makes, after, hand_after, identities_in, Puts};
 ghost use Rattle.aia_rehearsal.specs.Stands.{StandsFor};
@@ -79,7 +79,7 @@ fn put(fabric: &mut Fabric, place: &Place, reg: FileReg, value: u64)
     }
 }
 
-#[tactic(auto, using(aia_move::proofs::WhoLemmas::small_who, aia_move::proofs::WhoLemmas::posts_if, crate::proofs::Places::place_there, crate::proofs::Places::words_there, crate::proofs::Places::word_in, crate::proofs::Places::file_in_map))]
+#[tactic(auto, using(aia_moving::proofs::WhoLemmas::small_who, aia_moving::proofs::WhoLemmas::posts_if, crate::proofs::Places::place_there, crate::proofs::Places::words_there, crate::proofs::Places::word_in, crate::proofs::Places::file_in_map))]
 impl Rehearsal {
     /// Begins: nothing is carried. Not both places are the slot.
     pub fn new(old: Place, new: Place, who: Who) -> Rehearsal

@@ -27,7 +27,7 @@ use Rattle.aia_model.specs.Flight.{flight}
 use Rattle.aia_model.specs.ReachOf.{in_force_of}
 use Rattle.aia_model.specs.Notice.{look_saw}
 use Rattle.aia_model.specs.FileAfter.{file_by, select_by}
-use Rattle.aia_move.specs.Targets.{AimsOne}
+use Rattle.aia_moving.specs.Targets.{AimsOne}
 use Rattle.aia_hyp.specs.Core.{CoreState}
 use Rattle.aia_hyp.specs.Passes.{TellsOf}
 use Rattle.aia_hyp.specs.Stands.{CoreStands, CoreBegins, CoreTakes, CorePasses, MayPass, MayGo, line_served}

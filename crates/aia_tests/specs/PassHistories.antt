@@ -1,7 +1,7 @@
 -- What has happened as tests pass a source: a machine of one hart with one guest file and two wired
 -- sources, of which MSIs to guests may be made of the first, and a VM of one virtual hart.
 use Rattle.std.specs.Prelude.{ℕ, nat_eq, if◌then◌else◌, [], ◌∷◌, ◌++◌}
-use Rattle.aia_move.specs.Targets.{TargetMap}
+use Rattle.aia_moving.specs.Targets.{TargetMap}
 use Rattle.aia_model.specs.declared.line.Line.TheVariants as lines
 use Rattle.aia_model.specs.Event.{History}
 use Rattle.aia_model.specs.Event.Event.{Accepted}

@@ -3,7 +3,7 @@
 
 ghost use Rattle.std.specs.Prelude.{◌≡◌, ◌<◌, false, [], IfSome, refl, ⊤};
 ghost use Rattle.aia_word.specs.Sets.{has_bit};
-ghost use Rattle.aia_move.specs.Move.{IsWho, Fits, width};
+ghost use Rattle.aia_moving.specs.Move.{IsWho, Fits, width};
 ghost use Rattle.aia_move.specs.Plan.{moving_of, IsInPhase, MatchNext};
 ghost use Rattle.std.proofs.Common.{ap};
 ghost use Rattle.std.proofs.lemmas.Bool.{false≢true};

@@ -1,5 +1,5 @@
 use Rattle.std.proofs.Common.{◌&&◌, is_some, Option, sym, ap, ◌∙◌}
-use Rattle.aia_move.specs.declared.who.Kept.{Kept}
+use Rattle.aia_moving.specs.declared.who.Kept.{Kept}
 use Rattle.aia_model.specs.Refusal.{is_file_csr}
 use Rattle.aia_hyp.proofs.GuestAccesses.{guest_away}
 use Rattle.aia_hyp.proofs.hyp.Hyp.away_access.Goals as goal

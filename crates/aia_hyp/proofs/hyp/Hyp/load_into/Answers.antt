@@ -15,7 +15,7 @@ use Rattle.aia_model.specs.declared.line.Line.TheVariants.{LoadPart}
 use Rattle.aia_model.specs.declared.part.Part.{Part}
 use Rattle.aia_model.specs.declared.part.Part.TheVariants as parts
 use Rattle.aia_model.specs.Image.{is_loadable, majors_loaded}
-use Rattle.aia_move.specs.declared.who.Kept.{Kept}
+use Rattle.aia_moving.specs.declared.who.Kept.{Kept}
 use Rattle.aia_hyp.specs.declared.moves.Found.{Found}
 use Rattle.aia_hyp.specs.declared.vcpu.Stay.TheVariants as stays
 use Rattle.std.specs.Prelude.{slice_index_or, slice_set}

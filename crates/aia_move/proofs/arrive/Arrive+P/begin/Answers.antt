@@ -2,17 +2,17 @@ use Rattle.std.proofs.Common.{◌≡◌, true, Some, refl, sym, ap, ◌∙◌, s
 use Rattle.aia_home.specs.Home.Home.{Arriving}
 use Rattle.aia_home.specs.Plans.{steps_done, arrive_step}
 use Rattle.aia_home.specs.Plans.Access.{WriteEntry, Fence}
-use Rattle.aia_move.specs.Move.{Moving, width}
+use Rattle.aia_moving.specs.Move.{Moving, width}
 use Rattle.aia_home.specs.Phases.Phase.{FirstPhase}
-use Rattle.aia_move.specs.Turns.{IsIn}
-use Rattle.aia_move.specs.Load.{moving}
+use Rattle.aia_moving.specs.Turns.{IsIn}
+use Rattle.aia_moving.specs.Load.{moving}
 use Rattle.std.proofs.lemmas.Bool.{eq-eqb, ne_eqb}
 use Rattle.aia_home.specs.Routes.{is_at_fence}
 use Rattle.aia_world.specs.Flights.{Fences}
 use Rattle.aia_world.specs.Changes.{with_fence}
 use Rattle.aia_move.proofs.MachineLemmas.{fits_still}
-use Rattle.aia_move.proofs.LandingLemmas.{all_first, none_lands}
-use Rattle.aia_move.proofs.StepLemmas.{step_before}
+use Rattle.aia_moving.proofs.LandingLemmas.{all_first, none_lands}
+use Rattle.aia_moving.proofs.StepLemmas.{step_before}
 use Rattle.aia_move.proofs.arrive.Arrive+P.begin.Goals as goal
 
 pub returns-in-0 : goal.returns-in-0

@@ -2,17 +2,17 @@ use Rattle.std.proofs.Common.{◌≡◌, true, refl, sym, ap, ◌∙◌, subst, 
 use Rattle.aia_home.specs.Home.Home.{Leaving}
 use Rattle.aia_home.specs.Plans.{steps_done, leave_step}
 use Rattle.aia_home.specs.Plans.Access.{TakeDelivery, WriteNotice, WriteEntry, Fence}
-use Rattle.aia_move.specs.Move.{Moving, old_spot, width}
+use Rattle.aia_moving.specs.Move.{Moving, old_spot, width}
 use Rattle.aia_home.specs.Phases.Phase.{FirstPhase}
-use Rattle.aia_move.specs.Turns.{IsIn}
-use Rattle.aia_move.specs.Load.{moving}
+use Rattle.aia_moving.specs.Turns.{IsIn}
+use Rattle.aia_moving.specs.Load.{moving}
 use Rattle.std.proofs.lemmas.Bool.{eq-eqb, ne_eqb}
 use Rattle.aia_home.specs.Routes.{is_at_fence}
 use Rattle.aia_world.specs.Flights.{Fences}
 use Rattle.aia_world.specs.Changes.{with_fence}
 use Rattle.aia_move.proofs.MachineLemmas.{fits_still}
-use Rattle.aia_move.proofs.LandingLemmas.{all_first, none_lands}
-use Rattle.aia_move.proofs.StepLemmas.{step_before}
+use Rattle.aia_moving.proofs.LandingLemmas.{all_first, none_lands}
+use Rattle.aia_moving.proofs.StepLemmas.{step_before}
 use Rattle.aia_move.proofs.leave.Leave+P.begin.Goals as goal
 
 pub returns-in-0 : goal.returns-in-0

@@ -1,10 +1,10 @@
 use Rattle.std.proofs.Common.{◌+◌, sym, ap, ◌∙◌, subst, arith}
 use Rattle.aia_world.specs.Changes.{IsPlaceThere}
-use Rattle.aia_move.specs.Move.{width, old_at, new_at}
-use Rattle.aia_move.specs.Load.{moving}
-use Rattle.aia_move.proofs.PhaseSteps.{middle}
-use Rattle.aia_move.proofs.WhoLemmas.{old_there, new_there}
-use Rattle.aia_move.proofs.StepLemmas.{load_is, move_carries_pending}
+use Rattle.aia_moving.specs.Move.{width, old_at, new_at}
+use Rattle.aia_moving.specs.Load.{moving}
+use Rattle.aia_moving.proofs.PhaseSteps.{middle}
+use Rattle.aia_moving.proofs.WhoLemmas.{old_there, new_there}
+use Rattle.aia_moving.proofs.StepLemmas.{load_is, move_carries_pending}
 use Rattle.aia_move.proofs.moves.Move.carry_pending.Goals as goal
 
 pub carry_pending-requires-clause-from : goal.carry_pending-requires-clause-from

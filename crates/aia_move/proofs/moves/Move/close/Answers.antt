@@ -1,7 +1,7 @@
 use Rattle.std.proofs.Common.{sym}
-use Rattle.aia_move.specs.Move.{width}
-use Rattle.aia_move.specs.Load.{moving, progress_of}
-use Rattle.aia_move.proofs.StepLemmas.{load_is, move_closes}
+use Rattle.aia_moving.specs.Move.{width}
+use Rattle.aia_moving.specs.Load.{moving, progress_of}
+use Rattle.aia_moving.proofs.StepLemmas.{load_is, move_closes}
 use Rattle.aia_move.proofs.moves.Move.close.Goals as goal
 
 pub returns : goal.returns

@@ -4,8 +4,8 @@ use Rattle.aia_home.specs.Routes.{is_at_fence}
 use Rattle.aia_world.specs.World.{World}
 use Rattle.aia_world.specs.Whole.{IsWhole}
 use Rattle.aia_world.specs.Flights.{LandsAll}
-use Rattle.aia_move.specs.Move.{Moving}
-use Rattle.aia_move.specs.Touches.{SameMachine}
+use Rattle.aia_moving.specs.Move.{Moving}
+use Rattle.aia_moving.specs.Touches.{SameMachine}
 
 -- Where the next step of a move is the fence of the entry, all stores in flight of the VM land
 -- first, the oldest first; elsewhere none does. The machine stays as it is.

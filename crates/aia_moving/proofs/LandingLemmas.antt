@@ -12,9 +12,9 @@ use Rattle.aia_world.specs.World.{World, flight_of}
 use Rattle.aia_world.specs.Whole.{IsWhole}
 use Rattle.aia_world.specs.Flights.{Fences, LandsAll}
 use Rattle.aia_world.proofs.FlightLemmas.{all_landed_rest}
-use Rattle.aia_move.specs.Move.{Moving}
-use Rattle.aia_move.specs.Touches.{SameMachine}
-use Rattle.aia_move.specs.Landings.{LandsFirst, OnceLanded}
+use Rattle.aia_moving.specs.Move.{Moving}
+use Rattle.aia_moving.specs.Touches.{SameMachine}
+use Rattle.aia_moving.specs.Landings.{LandsFirst, OnceLanded}
 
 pub same_landed : (w u : World) (vm : ℕ) → LandsAll w u vm → SameMachine w u
 same_landed w u vm lands =

@@ -6,10 +6,10 @@ use Rattle.aia_home.specs.Plans.{leave_steps, steps_done, first_take}
 use Rattle.aia_home.specs.Phases.{Phase, following, begins}
 use Rattle.aia_home.specs.Phases.Phase.{ClosingPhase, DrainPhase, EnablePhase, LookPhase}
 use Rattle.aia_world.specs.World.{World}
-use Rattle.aia_move.specs.declared.turn.Turn.{Turn}
-use Rattle.aia_move.specs.declared.turn.Turn.TheVariants.{Stay, On}
-use Rattle.aia_move.specs.Move.{Moving, width}
-use Rattle.aia_move.specs.Turns.{IsIn, GoesOn, MatchTurn, after_enable}
+use Rattle.aia_moving.specs.declared.turn.Turn.{Turn}
+use Rattle.aia_moving.specs.declared.turn.Turn.TheVariants.{Stay, On}
+use Rattle.aia_moving.specs.Move.{Moving, width}
+use Rattle.aia_moving.specs.Turns.{IsIn, GoesOn, MatchTurn, after_enable}
 use Rattle.aia_regs.specs.declared.limits.TheConstants.{FILE_WORDS}
 
 -- where they begin, counted from the beginning of the first of them

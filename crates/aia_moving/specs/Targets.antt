@@ -3,9 +3,9 @@ use Rattle.std.specs.Prelude.{◌≡◌, ◌≢◌, ℕ, ◌<◌, ◌≤◌, Boo
 use Rattle.aia_regs.specs.declared.limits.TheConstants.{IDENTITIES, PASSES}
 use Rattle.aia_home.specs.BySteps.{new_file}
 use Rattle.aia_home.specs.Aims.{aims_done, is_aiming, aimed, target_to}
-use Rattle.aia_move.specs.declared.who.Pass.{Pass}
-use Rattle.aia_move.specs.declared.who.Who.{Who}
-use Rattle.aia_move.specs.Move.{Moving}
+use Rattle.aia_moving.specs.declared.who.Pass.{Pass}
+use Rattle.aia_moving.specs.declared.who.Who.{Who}
+use Rattle.aia_moving.specs.Move.{Moving}
 
 -- ---- targets
 

@@ -16,7 +16,7 @@ use Rattle.aia_world.specs.World.{World, no_stage}
 use Rattle.aia_world.specs.Making.{entry_word_place}
 use Rattle.aia_world.specs.Stores.{Posts}
 use Rattle.aia_world.specs.Changes.{spot_of}
-use Rattle.aia_move.specs.Move.{Moving, mover}
+use Rattle.aia_moving.specs.Move.{Moving, mover}
 
 -- Two worlds are those of one machine: its greatest identity, its harts with their guest files, and
 -- its VMs are the same.

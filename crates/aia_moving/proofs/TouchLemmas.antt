@@ -32,11 +32,11 @@ use Rattle.aia_world.specs.Stores.{Posts}
 use Rattle.aia_world.specs.Changes.{spot_of, file_in, view, with_word, with_state, with_entry_word, with_fence, with_stage}
 use Rattle.aia_world.proofs.FrameLemmas.{posts_rest}
 use Rattle.aia_world.proofs.WholeLemmas.{vcpu_entry, notice_hart_there}
-use Rattle.aia_move.specs.declared.who.Who.{Who}
-use Rattle.aia_move.specs.Move.{Moving, mover, width, PostsIf, Makes, Fits, MakesNext}
-use Rattle.aia_move.specs.Touches.{Touches, sends}
+use Rattle.aia_moving.specs.declared.who.Who.{Who}
+use Rattle.aia_moving.specs.Move.{Moving, mover, width, PostsIf, Makes, Fits, MakesNext}
+use Rattle.aia_moving.specs.Touches.{Touches, sends}
 use Rattle.aia_world.proofs.ViewLemmas.{same_place, slot_low}
-use Rattle.aia_move.proofs.MadeView.{few_words}
+use Rattle.aia_moving.proofs.MadeView.{few_words}
 use Rattle.aia_regs.specs.declared.limits.TheConstants.{SLOTS, ENTRIES, FILE_WORDS}
 
 -- ---- what the changes leave

@@ -19,7 +19,7 @@ use Rattle.aia_world.specs.declared.at.At.TheVariants.{File, Slot}
 use Rattle.aia_world.specs.World.{World}
 use Rattle.aia_world.specs.Stores.{Posts}
 use Rattle.aia_world.specs.Changes.{PutsRegister, spot_of, pending_words, enable_words, pending_at, with_pending, enable_at, with_enable, with_entry_word, with_fence, with_map, with_stage_fence}
-use Rattle.aia_move.specs.declared.who.Who.{Who}
+use Rattle.aia_moving.specs.declared.who.Who.{Who}
 
 -- Who is moved, its home (which move it is, and how far it has come), and what the move carries.
 pub record Moving : Type 0 where

@@ -22,10 +22,10 @@ use Rattle.aia_world.specs.declared.at.At.{At}
 use Rattle.aia_world.specs.declared.at.At.TheVariants.{File, Slot}
 use Rattle.aia_world.specs.World.{World}
 use Rattle.aia_world.specs.Changes.{PutsRegister, spot_of, with_pending, with_enable}
-use Rattle.aia_move.specs.Move.{Moving, width, old_at, new_at, PostsIf, Makes, hand_after, Fits, Ends}
-use Rattle.aia_move.specs.Load.{Load, load_of, progress_of, moving, one_done, Does, closing_access, pending_access, enables_access}
-use Rattle.aia_move.specs.Turns.{IsIn, IsMove, GoesOn}
-use Rattle.aia_move.proofs.PhaseSteps.{middle}
+use Rattle.aia_moving.specs.Move.{Moving, width, old_at, new_at, PostsIf, Makes, hand_after, Fits, Ends}
+use Rattle.aia_moving.specs.Load.{Load, load_of, progress_of, moving, one_done, Does, closing_access, pending_access, enables_access}
+use Rattle.aia_moving.specs.Turns.{IsIn, IsMove, GoesOn}
+use Rattle.aia_moving.proofs.PhaseSteps.{middle}
 
 -- ---- what an access leaves
 

@@ -26,8 +26,8 @@ use Rattle.aia_world.specs.World.{World}
 use Rattle.aia_world.specs.Whole.{IsWhole}
 use Rattle.aia_world.specs.Changes.{spot_of, file_in, view, with_word, with_state}
 use Rattle.aia_world.proofs.WholeLemmas.{notice_hart_there}
-use Rattle.aia_move.specs.declared.who.Who.{Who}
-use Rattle.aia_move.specs.Move.{Moving, mover, width, PostsIf, Makes, hand_after, Fits, MakesNext}
+use Rattle.aia_moving.specs.declared.who.Who.{Who}
+use Rattle.aia_moving.specs.Move.{Moving, mover, width, PostsIf, Makes, hand_after, Fits, MakesNext}
 use Rattle.aia_world.proofs.ViewLemmas.{IsNoFile, own-replaced, next-replaced, own-put, next-put, word_taken, word_joined, word_replaced, slot_pending-written, slot_enabled-written, slot_pending-joined, nothing_replaced, place_shows, slot_low, has_slot, in_slot-view, word0-view, word1-view, fence-view, map-view, stage_fence-view, posts-view}
 use Rattle.aia_regs.specs.declared.limits.TheConstants.{IDENTITIES, WORDS_OF_SLOTS, FILE_WORDS}
 

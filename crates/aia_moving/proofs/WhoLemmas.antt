@@ -16,8 +16,8 @@ use Rattle.aia_world.specs.Whole.{IsWhole}
 use Rattle.aia_world.specs.Stores.{Posts}
 use Rattle.aia_world.specs.Changes.{spot_of, IsPlaceThere}
 use Rattle.aia_world.proofs.WholeLemmas.{notice_hart_there}
-use Rattle.aia_move.specs.declared.who.Who.{Who}
-use Rattle.aia_move.specs.Move.{Moving, IsWho, Fits, PostsIf, old_by, new_by, old_at, new_at}
+use Rattle.aia_moving.specs.declared.who.Who.{Who}
+use Rattle.aia_moving.specs.Move.{Moving, IsWho, Fits, PostsIf, old_by, new_by, old_at, new_at}
 
 pub small_who : (w : World) (who : Who) → IsWhole w → IsWho w who → (who.slot < vcpus_in w.vms) × (who.slot < VCPUS) × (who.notice < HARTS)
 small_who w who whole is =

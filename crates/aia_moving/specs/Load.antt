@@ -6,8 +6,8 @@ use Rattle.aia_home.specs.Aims.{aims_done}
 use Rattle.aia_home.specs.Plans.Access.{WriteStage, FenceStage, TakePending, PutPending, TakeEnables, PutEnables}
 use Rattle.aia_places.specs.Holds.{Hand}
 use Rattle.aia_world.specs.World.{World}
-use Rattle.aia_move.specs.declared.who.Who.{Who}
-use Rattle.aia_move.specs.Move.{Moving, Makes, hand_after}
+use Rattle.aia_moving.specs.declared.who.Who.{Who}
+use Rattle.aia_moving.specs.Move.{Moving, Makes, hand_after}
 
 -- Who is moved, how many steps are done, those that aim aside, how many of those are, and what is
 -- carried.
