@@ -7,15 +7,13 @@ mod forwards;
 mod guest;
 mod hyp;
 mod images;
-pub mod laws;
 mod majors;
 mod memory;
 mod moves;
 mod passes;
 mod peers;
 mod signals;
-mod vcpu;
 
+pub use aia_core::Want;
 pub use aia_model::Refusal;
 pub use hyp::Hyp;
-pub use moves::Want;

@@ -11,11 +11,11 @@ ghost use Rattle.aia_major.specs.Kept.{majors_shown};
 ghost use Rattle.aia_home.specs.Vms.{vcpu, is_vcpu_in, slot_of};
 ghost use Rattle.aia_model.specs.declared.line.Line.TheVariants.{Inject, Hvictl, Hviprio};
 ghost use Rattle.aia_model.specs.declared.answer.Answer.TheVariants.{Okay};
-ghost use Rattle.aia_hyp.specs.Core.{no_record, MajorsDone};
-ghost use Rattle.aia_hyp.specs.Stands.{CoreTakes, answer_by};
+ghost use Rattle.aia_core.specs.Core.{no_record, MajorsDone};
+ghost use Rattle.aia_core.specs.Stands.{CoreTakes, answer_by};
 
 use crate::hyp::Hyp;
-use crate::vcpu::VcpuRecord;
+use aia_core::VcpuRecord;
 use aia_file::File;
 use aia_model::Refusal;
 use aia_regs::Op;

@@ -11,42 +11,18 @@ ghost use Rattle.aia_model.specs.Event.{History};
 ghost use Rattle.aia_model.specs.Event.Event.{Stepped};
 ghost use Rattle.aia_model.specs.Aim.{aimed_by};
 ghost use Rattle.aia_model.specs.Refusal.{refusal};
-ghost use Rattle.aia_hyp.specs.Core.{no_kept, no_record, record_of, home_in, has_plan};
-ghost use Rattle.aia_hyp.specs.Passes.{own_passes, AimsBy};
-ghost use Rattle.aia_hyp.specs.Stands.{CoreStands, CoreTakes, answer_by};
-ghost use Rattle.aia_hyp.specs.Moves.{IsFound, UnlessRefused, WholeAims, move_line, begin_line, step_answer, MakesOne, WantBegins, LeaveBegins, ArriveBegins, ShiftBegins, MoveBegins, MoveGoes, stay_after, back_of, with_back, IsOutThere, stay_then, back_then, is_finished};
+ghost use Rattle.aia_core.specs.Core.{no_kept, no_record, record_of, home_in, has_plan};
+ghost use Rattle.aia_core.specs.Passes.{own_passes, AimsBy};
+ghost use Rattle.aia_core.specs.Stands.{CoreStands, CoreTakes, answer_by};
+ghost use Rattle.aia_core.specs.Moves.{IsFound, UnlessRefused, WholeAims, move_line, begin_line, step_answer, MakesOne, WantBegins, LeaveBegins, ArriveBegins, ShiftBegins, MoveBegins, MoveGoes, stay_after, back_of, with_back, IsOutThere, stay_then, back_then, is_finished};
 
 use crate::hyp::Hyp;
 use crate::passes::Passes;
-use crate::vcpu::{Stay, VcpuRecord};
+use aia_core::{Found, Stay, VcpuRecord, Want};
 use aia_fabric::Fabric;
 use aia_model::Refusal;
 use aia_move::{Kept, Next, Outcome, Plan, Targets, Who};
 use aia_pool::Pool;
-
-/// A move that is wanted of a virtual hart.
-#[derive(Clone, Copy, Debug, PartialEq, Eq)]
-pub enum Want {
-    /// From its guest file to memory.
-    Leave,
-    /// From memory to a guest file of this hart.
-    Arrive(u64),
-    /// From its guest file to one of this hart.
-    Shift(u64),
-}
-
-/// A virtual hart that is there.
-#[derive(Clone, Copy, Debug, PartialEq, Eq)]
-pub(crate) struct Found {
-    /// Its VM.
-    pub vm: u32,
-    /// Its number in the VM.
-    pub vcpu: u32,
-    /// Its number over all VMs: that of its slot of memory.
-    pub slot: u32,
-    /// The hart whose supervisor file takes its notices.
-    pub notice: u32,
-}
 
 impl Hyp {
     /// Moves a virtual hart, by all steps of its plan. `Err` is `Range` where the virtual hart or

@@ -3,25 +3,13 @@ ghost use Rattle.aia_regs.specs.declared.limits.TheConstants.{PASSES};
 ghost use Rattle.aia_word.specs.Sets.{least_of};
 ghost use Rattle.aia_home.specs.Vms.{vcpu};
 ghost use Rattle.aia_model.specs.Passes.{no_pass};
-ghost use Rattle.aia_hyp.specs.Passes.{pass_shown, own_passes};
+ghost use Rattle.aia_core.specs.Passes.{pass_shown, own_passes};
 
+use aia_core::Passed;
 use aia_move::Pass;
 use aia_regs::limits::PASSES;
 use arrayvec::ArrayVec;
 use std::marker::Model;
-
-/// A wired source that is passed to a virtual hart.
-#[derive(Clone, Copy, Debug, Default, PartialEq, Eq)]
-pub struct Passed {
-    /// The source, from 1 on.
-    pub source: u32,
-    /// The virtual hart's VM.
-    pub vm: u32,
-    /// Its number in the VM.
-    pub vcpu: u32,
-    /// The identity for which the source asks there.
-    pub identity: u32,
-}
 
 /// The passes, in order: so they are numbered, from 0 on.
 #[derive(Drop)]
@@ -32,7 +20,7 @@ pub struct Passes {
 impl Model for Passes {
     ghost use Rattle.std.specs.Prelude.{List, map};
     ghost use Rattle.aia_model.specs.Passes.{Pass};
-    ghost use Rattle.aia_hyp.specs.Passes.{pass_shown};
+    ghost use Rattle.aia_core.specs.Passes.{pass_shown};
 
     ghost Value = { List Pass };
 
