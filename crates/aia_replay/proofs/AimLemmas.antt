@@ -44,7 +44,7 @@ use Rattle.aia_replay.specs.declared.machine.Machine.{Machine}
 use Rattle.aia_replay.specs.declared.wires.Wires.{Wires}
 use Rattle.aia_replay.specs.Wires.{WiresAim, targets_of}
 use Rattle.aia_replay.specs.Stands.{MachineStands, MachineTakes, act_taken, StandsForSome}
-use Rattle.aia_replay.proofs.SizeLemmas.{same_sources, same_harts}
+use Rattle.aia_wiring.proofs.SizeLemmas.{same_sources, same_harts}
 use Rattle.aia_model.specs.Passable.{is_passable}
 use Rattle.aia_source.specs.Registers.{is_by_msi, domaincfg_kept, same_bool}
 use Rattle.aia_model.specs.declared.domain_name.DomainName.TheVariants.{Child}

@@ -21,3 +21,4 @@ pub mod FirstLemmas
 pub mod FewerLemmas
 pub mod OrderLaw
 pub mod BitsLemmas
+pub mod SizeLemmas
