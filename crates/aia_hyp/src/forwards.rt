@@ -14,20 +14,20 @@ ghost use Rattle.aia_model.specs.Event.Event.{Accepted, Delivered, Relayed};
 ghost use Rattle.aia_model.specs.Aim.{aimed_by};
 ghost use Rattle.aia_model.specs.Passes.{is_passed, passes_of};
 ghost use Rattle.aia_model.specs.Refusal.{refusal};
-ghost use Rattle.aia_core.specs.Core.{resident_at};
-ghost use Rattle.aia_core.specs.Moves.{IsFound, UnlessRefused};
-ghost use Rattle.aia_core.specs.Passes.{AimsBy, TellsOf, pass_in};
-ghost use Rattle.aia_core.specs.Stands.{CoreStands, CorePasses, CoreHears, CoreGoes, MayPass, RefusesPass, MayGo, answer_by};
+ghost use Rattle.aia_standing.specs.Core.{resident_at};
+ghost use Rattle.aia_standing.specs.Moves.{IsFound, UnlessRefused};
+ghost use Rattle.aia_standing.specs.Passes.{AimsBy, TellsOf, pass_in};
+ghost use Rattle.aia_standing.specs.Stands.{CoreStands, CorePasses, CoreHears, CoreGoes, MayPass, RefusesPass, MayGo, answer_by};
 
 use crate::hyp::{Hyp, is_host};
 use crate::moves::find;
-use aia_core::{Found, Passed, Stay};
 use aia_imsic::Spot;
 use aia_model::{Msi, Refusal};
 use aia_move::Targets;
 use aia_regs::address_map::PAGE;
 use aia_regs::limits::{FIRST_PASS_IDENTITY, PASSES};
 use aia_regs::{FileReg, Op};
+use aia_standing::{Found, Passed, Stay};
 
 /// Wired sources that are passed to virtual harts, and the MSIs that an APLIC makes.
 impl Hyp {

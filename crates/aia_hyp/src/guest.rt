@@ -9,17 +9,17 @@ ghost use Rattle.aia_model.specs.declared.line.Line.TheVariants.{GuestCsr};
 ghost use Rattle.aia_model.specs.declared.answer.Answer.TheVariants.{Wide};
 ghost use Rattle.aia_world.specs.Changes.{spot_of};
 ghost use Rattle.aia_world.specs.Whole.{IsWhole};
-ghost use Rattle.aia_core.specs.Core.{no_record, record_of, resident_at, runs_in};
-ghost use Rattle.aia_core.specs.Stands.{CoreTakes, answer_by};
+ghost use Rattle.aia_standing.specs.Core.{no_record, record_of, resident_at, runs_in};
+ghost use Rattle.aia_standing.specs.Stands.{CoreTakes, answer_by};
 
 use crate::hyp::{Hyp, claim_or_read, select_after};
 use crate::majors::{access_sie_in, access_sip_in, stopi_in};
-use aia_core::VcpuRecord;
 use aia_csr::{Access, decide};
 use aia_home::Place;
 use aia_imsic::Spot;
 use aia_model::Refusal;
 use aia_regs::{Csr, Level, Op};
+use aia_standing::VcpuRecord;
 
 impl Hyp {
     /// Does a CSR instruction of a virtual hart, and answers what the CSR read before it. `Err` is

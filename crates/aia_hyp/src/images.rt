@@ -13,18 +13,18 @@ ghost use Rattle.aia_model.specs.declared.answer.Answer.TheVariants as kinds;
 ghost use Rattle.aia_model.specs.declared.answer.Answer.TheVariants.{Okay};
 ghost use Rattle.aia_model.specs.declared.part.Part.TheVariants as parts;
 ghost use Rattle.aia_model.specs.Image.{part_of, is_loadable, majors_loaded};
-ghost use Rattle.aia_core.specs.Core.{no_record, record_of, parked_at, MajorsDone};
-ghost use Rattle.aia_core.specs.Images.{state_in};
-ghost use Rattle.aia_core.specs.Moves.{IsFound};
-ghost use Rattle.aia_core.specs.Stands.{CoreTakes, answer_by};
+ghost use Rattle.aia_standing.specs.Core.{no_record, record_of, parked_at, MajorsDone};
+ghost use Rattle.aia_standing.specs.Images.{state_in};
+ghost use Rattle.aia_standing.specs.Moves.{IsFound};
+ghost use Rattle.aia_standing.specs.Stands.{CoreTakes, answer_by};
 
 use crate::hyp::{Hyp, select_after};
 use crate::moves::find;
-use aia_core::{Found, Stay, VcpuRecord};
 use aia_image::{IMAGE_VERSION, is_live, is_loadable, load_word, save_word};
 use aia_model::{Part, Refusal};
 use aia_move::Kept;
 use aia_regs::Op;
+use aia_standing::{Found, Stay, VcpuRecord};
 
 /// How many parts an image has beside the words of the sets.
 const FIRST_WORD: u64 = 3;

@@ -14,6 +14,6 @@ mod passes;
 mod peers;
 mod signals;
 
-pub use aia_core::Want;
 pub use aia_model::Refusal;
+pub use aia_standing::Want;
 pub use hyp::Hyp;

@@ -11,14 +11,14 @@ ghost use Rattle.aia_major.specs.Kept.{majors_shown};
 ghost use Rattle.aia_home.specs.Vms.{vcpu, is_vcpu_in, slot_of};
 ghost use Rattle.aia_model.specs.declared.line.Line.TheVariants.{Inject, Hvictl, Hviprio};
 ghost use Rattle.aia_model.specs.declared.answer.Answer.TheVariants.{Okay};
-ghost use Rattle.aia_core.specs.Core.{no_record, MajorsDone};
-ghost use Rattle.aia_core.specs.Stands.{CoreTakes, answer_by};
+ghost use Rattle.aia_standing.specs.Core.{no_record, MajorsDone};
+ghost use Rattle.aia_standing.specs.Stands.{CoreTakes, answer_by};
 
 use crate::hyp::Hyp;
-use aia_core::VcpuRecord;
 use aia_file::File;
 use aia_model::Refusal;
 use aia_regs::Op;
+use aia_standing::VcpuRecord;
 
 impl Hyp {
     /// Gives the major interrupt `bit` of a virtual hart, 1, 5, 9 or 13, a level in `hvip`. It may

@@ -14,20 +14,20 @@ ghost use Rattle.aia_world.specs.Whole.{IsWhole};
 ghost use Rattle.aia_model.specs.declared.line.Line.TheVariants.{Enter, Exit, GuestCsr};
 ghost use Rattle.aia_model.specs.declared.answer.Answer.TheVariants.{Okay, Wide};
 ghost use Rattle.aia_model.specs.Refusal.{is_file_csr};
-ghost use Rattle.aia_core.specs.Core.{no_record, record_of, resident_at, entered_at};
-ghost use Rattle.aia_core.specs.Memory.{Enters, is_number, kept_after, kept_value, TopDone};
-ghost use Rattle.aia_core.specs.Moves.{IsFound};
-ghost use Rattle.aia_core.specs.Stands.{CoreTakes, answer_by};
+ghost use Rattle.aia_standing.specs.Core.{no_record, record_of, resident_at, entered_at};
+ghost use Rattle.aia_standing.specs.Memory.{Enters, is_number, kept_after, kept_value, TopDone};
+ghost use Rattle.aia_standing.specs.Moves.{IsFound};
+ghost use Rattle.aia_standing.specs.Stands.{CoreTakes, answer_by};
 
 use crate::guest::access_select_in;
 use crate::hyp::Hyp;
 use crate::moves::find;
-use aia_core::{Found, Stay, VcpuRecord};
 use aia_csr::Access;
 use aia_fabric::Fabric;
 use aia_model::Refusal;
 use aia_move::Kept;
 use aia_regs::{Csr, FileReg, Op};
+use aia_standing::{Found, Stay, VcpuRecord};
 
 impl Hyp {
     /// Has a virtual hart run from memory: from now on it runs, and its interrupts stay in its

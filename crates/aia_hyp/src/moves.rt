@@ -11,18 +11,18 @@ ghost use Rattle.aia_model.specs.Event.{History};
 ghost use Rattle.aia_model.specs.Event.Event.{Stepped};
 ghost use Rattle.aia_model.specs.Aim.{aimed_by};
 ghost use Rattle.aia_model.specs.Refusal.{refusal};
-ghost use Rattle.aia_core.specs.Core.{no_kept, no_record, record_of, home_in, has_plan};
-ghost use Rattle.aia_core.specs.Passes.{own_passes, AimsBy};
-ghost use Rattle.aia_core.specs.Stands.{CoreStands, CoreTakes, answer_by};
-ghost use Rattle.aia_core.specs.Moves.{IsFound, UnlessRefused, WholeAims, move_line, begin_line, step_answer, MakesOne, WantBegins, LeaveBegins, ArriveBegins, ShiftBegins, MoveBegins, MoveGoes, stay_after, back_of, with_back, IsOutThere, stay_then, back_then, is_finished};
+ghost use Rattle.aia_standing.specs.Core.{no_kept, no_record, record_of, home_in, has_plan};
+ghost use Rattle.aia_standing.specs.Passes.{own_passes, AimsBy};
+ghost use Rattle.aia_standing.specs.Stands.{CoreStands, CoreTakes, answer_by};
+ghost use Rattle.aia_standing.specs.Moves.{IsFound, UnlessRefused, WholeAims, move_line, begin_line, step_answer, MakesOne, WantBegins, LeaveBegins, ArriveBegins, ShiftBegins, MoveBegins, MoveGoes, stay_after, back_of, with_back, IsOutThere, stay_then, back_then, is_finished};
 
 use crate::hyp::Hyp;
 use crate::passes::Passes;
-use aia_core::{Found, Stay, VcpuRecord, Want};
 use aia_fabric::Fabric;
 use aia_model::Refusal;
 use aia_move::{Kept, Next, Outcome, Plan, Targets, Who};
 use aia_pool::Pool;
+use aia_standing::{Found, Stay, VcpuRecord, Want};
 
 impl Hyp {
     /// Moves a virtual hart, by all steps of its plan. `Err` is `Range` where the virtual hart or

@@ -34,12 +34,12 @@ use Rattle.aia_wiring.specs.Aplic.{AplicStands}
 use Rattle.aia_wiring.specs.Passing.{is_passable_source}
 use Rattle.aia_wiring.proofs.PassingLemmas.{harts-stand}
 use Rattle.aia_wiring.proofs.AimSteps.{passable-stands}
-use Rattle.aia_core.specs.declared.want.Want.{Want}
-use Rattle.aia_core.specs.declared.want.Want.TheVariants as wants
-use Rattle.aia_core.specs.Moves.{UnlessRefused, WholeAims, move_line, wanted_move}
-use Rattle.aia_core.specs.Passes.{AimsBy, StepsAim, TellsOf}
-use Rattle.aia_core.specs.Stands.{CoreStands, CoreTakes, CorePasses, MayPass}
-use Rattle.aia_core.proofs.MoveWhole.{one_step_more}
+use Rattle.aia_standing.specs.declared.want.Want.{Want}
+use Rattle.aia_standing.specs.declared.want.Want.TheVariants as wants
+use Rattle.aia_standing.specs.Moves.{UnlessRefused, WholeAims, move_line, wanted_move}
+use Rattle.aia_standing.specs.Passes.{AimsBy, StepsAim, TellsOf}
+use Rattle.aia_standing.specs.Stands.{CoreStands, CoreTakes, CorePasses, MayPass}
+use Rattle.aia_standing.proofs.MoveWhole.{one_step_more}
 use Rattle.aia_replay.specs.declared.machine.Machine.{Machine}
 use Rattle.aia_replay.specs.declared.wires.Wires.{Wires}
 use Rattle.aia_replay.specs.Wires.{WiresAim, targets_of}

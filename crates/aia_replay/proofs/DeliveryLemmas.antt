@@ -17,8 +17,8 @@ use Rattle.aia_wiring.specs.Aplic.{AplicState, AplicStands}
 use Rattle.aia_wiring.specs.Sending.{Next}
 use Rattle.aia_wiring.proofs.SendingLemmas.{msis_next, settled_next}
 use Rattle.aia_replay.specs.declared.machine.Machine.{Machine}
-use Rattle.aia_core.specs.Core.{CoreState}
-use Rattle.aia_core.specs.Stands.{CoreStands, CoreHears, line_served, MayGo}
+use Rattle.aia_standing.specs.Core.{CoreState}
+use Rattle.aia_standing.specs.Stands.{CoreStands, CoreHears, line_served, MayGo}
 use Rattle.aia_replay.specs.Stands.{MachineHolds, MachineTakes, MachineServes, Delivers, act_taken, StandsForSome, CanDeliver, CanDeliverSome}
 use Rattle.aia_model.specs.Passes.{passed_by}
 use Rattle.aia_model.specs.Aim.{pass_reach, IsForwardIf}

@@ -28,12 +28,12 @@ use Rattle.aia_model.specs.ReachOf.{in_force_of}
 use Rattle.aia_model.specs.Notice.{look_saw}
 use Rattle.aia_model.specs.FileAfter.{file_by, select_by}
 use Rattle.aia_moving.specs.Targets.{AimsOne}
-use Rattle.aia_core.specs.Core.{CoreState}
-use Rattle.aia_core.specs.Passes.{TellsOf}
-use Rattle.aia_core.specs.Stands.{CoreStands, CoreBegins, CoreTakes, CorePasses, MayPass, MayGo, line_served}
-use Rattle.aia_core.proofs.EventLemmas.{hosts_line}
-use Rattle.aia_core.proofs.StoreLemmas.{line_rests}
-use Rattle.aia_core.proofs.PageLemmas.{no_file_there}
+use Rattle.aia_standing.specs.Core.{CoreState}
+use Rattle.aia_standing.specs.Passes.{TellsOf}
+use Rattle.aia_standing.specs.Stands.{CoreStands, CoreBegins, CoreTakes, CorePasses, MayPass, MayGo, line_served}
+use Rattle.aia_standing.proofs.EventLemmas.{hosts_line}
+use Rattle.aia_standing.proofs.StoreLemmas.{line_rests}
+use Rattle.aia_standing.proofs.PageLemmas.{no_file_there}
 use Rattle.aia_tests.specs.PassHistories.{stored, made, one_ready}
 
 -- ---- a core with such a source

@@ -5,7 +5,7 @@ use Rattle.aia_moving.specs.Targets.{TargetMap}
 use Rattle.aia_model.specs.declared.line.Line.TheVariants as lines
 use Rattle.aia_model.specs.Event.{History}
 use Rattle.aia_model.specs.Event.Event.{Accepted}
-use Rattle.aia_core.specs.Example.{accepted, passable_lines}
+use Rattle.aia_standing.specs.Example.{accepted, passable_lines}
 
 abbrev pub stored : History
 stored = accepted (lines.Machine 1 1 63 2 ∷ passable_lines) []

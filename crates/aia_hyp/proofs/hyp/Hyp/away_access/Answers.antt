@@ -1,7 +1,7 @@
 use Rattle.std.proofs.Common.{◌&&◌, is_some, Option, sym, ap, ◌∙◌}
 use Rattle.aia_moving.specs.declared.who.Kept.{Kept}
 use Rattle.aia_model.specs.Refusal.{is_file_csr}
-use Rattle.aia_core.proofs.GuestAccesses.{guest_away}
+use Rattle.aia_standing.proofs.GuestAccesses.{guest_away}
 use Rattle.aia_hyp.proofs.hyp.Hyp.away_access.Goals as goal
 
 pub returns-in_default : goal.returns-in_default

@@ -2,12 +2,12 @@ use Rattle.std.proofs.Common.{refl, subst, arith}
 use Rattle.std.specs.Prelude.{slice_index_or}
 use Rattle.aia_model.specs.declared.answer.Answer.TheVariants.{Okay}
 use Rattle.aia_model.specs.declared.line.Line.TheVariants.{Enter}
-use Rattle.aia_core.specs.Core.{CoreState, no_record}
-use Rattle.aia_core.specs.Memory.{EntersFrom}
-use Rattle.aia_core.specs.Stands.{CoreTakes, answer_by}
-use Rattle.aia_core.proofs.EventLemmas.{still}
-use Rattle.aia_core.proofs.MoveCalls.{who_low}
-use Rattle.aia_core.proofs.RunLines.{enters, no_vcpu_to_enter}
+use Rattle.aia_standing.specs.Core.{CoreState, no_record}
+use Rattle.aia_standing.specs.Memory.{EntersFrom}
+use Rattle.aia_standing.specs.Stands.{CoreTakes, answer_by}
+use Rattle.aia_standing.proofs.EventLemmas.{still}
+use Rattle.aia_standing.proofs.MoveCalls.{who_low}
+use Rattle.aia_standing.proofs.RunLines.{enters, no_vcpu_to_enter}
 use Rattle.aia_hyp.proofs.hyp.Hyp.enter.Goals.{After-enter_in}
 use Rattle.aia_hyp.proofs.hyp.Hyp.enter.Goals as goal
 

@@ -3,9 +3,9 @@ use Rattle.aia_home.specs.Vms.{vcpu, is_vcpu_in}
 use Rattle.aia_model.specs.declared.answer.Answer.TheVariants.{Refused}
 use Rattle.aia_model.specs.declared.refusal.Refusal.TheVariants.{Idle}
 use Rattle.aia_model.specs.declared.line.Line.TheVariants.{Exit}
-use Rattle.aia_core.specs.Core.{CoreState}
-use Rattle.aia_core.specs.Stands.{CoreTakes}
-use Rattle.aia_core.proofs.RunLines.{not_entered, no_vcpu_to_exit}
+use Rattle.aia_standing.specs.Core.{CoreState}
+use Rattle.aia_standing.specs.Stands.{CoreTakes}
+use Rattle.aia_standing.proofs.RunLines.{not_entered, no_vcpu_to_exit}
 use Rattle.aia_hyp.proofs.hyp.Hyp.exit.Goals as goal
 
 pub returns-in_default : goal.returns-in_default

@@ -1,6 +1,6 @@
 use Rattle.std.proofs.Common.{sym, ◌∙◌, arith}
 use Rattle.aia_world.proofs.WholeLemmas.{vcpu_entry}
-use Rattle.aia_core.proofs.GuestAccesses.{no_such_guest}
+use Rattle.aia_standing.proofs.GuestAccesses.{no_such_guest}
 use Rattle.aia_hyp.proofs.hyp.Hyp.guest.Goals as goal
 
 pub overflow_cast-number : goal.overflow_cast-number

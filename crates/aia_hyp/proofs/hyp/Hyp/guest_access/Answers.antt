@@ -22,12 +22,12 @@ use Rattle.aia_model.specs.Event.Event.{Accepted}
 use Rattle.aia_model.specs.Answer.{guest_csr_value}
 use Rattle.aia_model.specs.FileAfter.{file_after}
 use Rattle.aia_model.specs.FileAfter.FileDeed.{Accesses}
-use Rattle.aia_core.specs.Core.{CoreState, no_record, record_of, resident_at, MajorsDone}
-use Rattle.aia_core.specs.Stands.{StandsForSome, CoreTakes}
-use Rattle.aia_core.proofs.EventLemmas.{still}
-use Rattle.aia_core.proofs.GuestLookups.{reached, names, slot_low}
-use Rattle.aia_core.proofs.GuestAccesses.{file_there, guest_select_done, guest_file_done, guest_accessed, guest_virtual, guest_illegal}
-use Rattle.aia_core.proofs.MajorLemmas.{IsOfMajors, accesses_sip, accesses_sie, accesses_topi, majors_accessed, majors_stay, stopi_read, sip_read, sie_read}
+use Rattle.aia_standing.specs.Core.{CoreState, no_record, record_of, resident_at, MajorsDone}
+use Rattle.aia_standing.specs.Stands.{StandsForSome, CoreTakes}
+use Rattle.aia_standing.proofs.EventLemmas.{still}
+use Rattle.aia_standing.proofs.GuestLookups.{reached, names, slot_low}
+use Rattle.aia_standing.proofs.GuestAccesses.{file_there, guest_select_done, guest_file_done, guest_accessed, guest_virtual, guest_illegal}
+use Rattle.aia_standing.proofs.MajorLemmas.{IsOfMajors, accesses_sip, accesses_sie, accesses_topi, majors_accessed, majors_stay, stopi_read, sip_read, sie_read}
 use Rattle.aia_hyp.proofs.hyp.Hyp.guest_access.Goals.{After-access_select_in, After-reg, After-claim_or_read, After-stopi_in, After-access_sip_in, After-access_sie_in}
 use Rattle.aia_hyp.proofs.hyp.Hyp.guest_access.Goals as goal
 

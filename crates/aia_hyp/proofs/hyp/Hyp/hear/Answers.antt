@@ -3,13 +3,13 @@ use Rattle.aia_imsic.specs.Imsic.{ImsicState, IsThere}
 use Rattle.aia_imsic.specs.Map.{spot_at}
 use Rattle.aia_regs.specs.declared.limits.TheConstants.{HARTS}
 use Rattle.aia_model.specs.Event.Event.{Delivered}
-use Rattle.aia_core.specs.Core.{CoreState}
-use Rattle.aia_core.specs.Passes.{pass_in}
-use Rattle.aia_core.specs.HostFiles.{is_host_spot}
-use Rattle.aia_core.specs.Stands.{CoreHears, MayGo}
-use Rattle.aia_core.proofs.NameLemmas.{not_nowhere}
-use Rattle.aia_core.proofs.StoreLemmas.{msi_landed, msi_dropped}
-use Rattle.aia_core.proofs.ForwardLemmas.{hears_on}
+use Rattle.aia_standing.specs.Core.{CoreState}
+use Rattle.aia_standing.specs.Passes.{pass_in}
+use Rattle.aia_standing.specs.HostFiles.{is_host_spot}
+use Rattle.aia_standing.specs.Stands.{CoreHears, MayGo}
+use Rattle.aia_standing.proofs.NameLemmas.{not_nowhere}
+use Rattle.aia_standing.proofs.StoreLemmas.{msi_landed, msi_dropped}
+use Rattle.aia_standing.proofs.ForwardLemmas.{hears_on}
 use Rattle.aia_hyp.proofs.hyp.Hyp.hear.Goals.{After-host_store}
 use Rattle.aia_hyp.proofs.hyp.Hyp.hear.Goals as goal
 

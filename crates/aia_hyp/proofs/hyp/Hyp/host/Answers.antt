@@ -1,6 +1,6 @@
 use Rattle.std.proofs.Common.{◌≤◌, subst, arith}
-use Rattle.aia_core.specs.Core.{CoreState}
-use Rattle.aia_core.proofs.AccessLemmas.{no_hart}
+use Rattle.aia_standing.specs.Core.{CoreState}
+use Rattle.aia_standing.proofs.AccessLemmas.{no_hart}
 use Rattle.aia_hyp.proofs.hyp.Hyp.host.Goals as goal
 
 pub returns-then-hart-from : goal.returns-then-hart-from

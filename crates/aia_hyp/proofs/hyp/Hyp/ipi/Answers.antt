@@ -3,10 +3,10 @@ use Rattle.aia_home.specs.Vms.{vcpu, is_vcpu_in}
 use Rattle.aia_world.proofs.WholeLemmas.{vcpu_entry}
 use Rattle.aia_model.specs.declared.answer.Answer.TheVariants.{Okay}
 use Rattle.aia_model.specs.declared.line.Line.TheVariants.{Ipi}
-use Rattle.aia_core.specs.Core.{CoreState, record_of, runs_in}
-use Rattle.aia_core.specs.Stands.{CoreTakes}
-use Rattle.aia_core.proofs.EventLemmas.{still}
-use Rattle.aia_core.proofs.PeerLemmas.{no_sender, sender_away, no_peer, ipi_taken}
+use Rattle.aia_standing.specs.Core.{CoreState, record_of, runs_in}
+use Rattle.aia_standing.specs.Stands.{CoreTakes}
+use Rattle.aia_standing.proofs.EventLemmas.{still}
+use Rattle.aia_standing.proofs.PeerLemmas.{no_sender, sender_away, no_peer, ipi_taken}
 use Rattle.aia_hyp.proofs.hyp.Hyp.ipi.Goals.{Then-not-has_vcpu-2, After-guest_store}
 use Rattle.aia_hyp.proofs.hyp.Hyp.ipi.Goals as goal
 

@@ -2,9 +2,9 @@ use Rattle.std.proofs.Common.{◌≤◌, length, refl, arith}
 use Rattle.aia_world.specs.World.{flight_of}
 use Rattle.aia_model.specs.declared.line.Line.TheVariants.{Land}
 use Rattle.aia_model.specs.declared.answer.Answer.TheVariants.{Okay}
-use Rattle.aia_core.specs.Stands.{CoreTakes}
-use Rattle.aia_core.proofs.EventLemmas.{still}
-use Rattle.aia_core.proofs.LandingLemmas.{land_taken, none_to_land, no_vm_for_landing}
+use Rattle.aia_standing.specs.Stands.{CoreTakes}
+use Rattle.aia_standing.proofs.EventLemmas.{still}
+use Rattle.aia_standing.proofs.LandingLemmas.{land_taken, none_to_land, no_vm_for_landing}
 use Rattle.aia_hyp.proofs.hyp.Hyp.land.Goals.{After-land}
 use Rattle.aia_hyp.proofs.hyp.Hyp.land.Goals as goal
 

@@ -16,16 +16,16 @@ use Rattle.aia_model.specs.declared.part.Part.{Part}
 use Rattle.aia_model.specs.declared.part.Part.TheVariants as parts
 use Rattle.aia_model.specs.Image.{is_loadable, majors_loaded}
 use Rattle.aia_moving.specs.declared.who.Kept.{Kept}
-use Rattle.aia_core.specs.declared.found.Found.{Found}
-use Rattle.aia_core.specs.declared.vcpu.Stay.TheVariants as stays
+use Rattle.aia_standing.specs.declared.found.Found.{Found}
+use Rattle.aia_standing.specs.declared.vcpu.Stay.TheVariants as stays
 use Rattle.std.specs.Prelude.{slice_index_or, slice_set}
-use Rattle.aia_core.specs.Core.{CoreState, no_record, record_of, MajorsDone}
+use Rattle.aia_standing.specs.Core.{CoreState, no_record, record_of, MajorsDone}
 use Rattle.aia_image.specs.Loads.{sets_loaded}
-use Rattle.aia_core.specs.Moves.{IsFound}
-use Rattle.aia_core.specs.Stands.{CoreTakes}
-use Rattle.aia_core.proofs.EventLemmas.{still}
-use Rattle.aia_core.proofs.MoveCalls.{who_low}
-use Rattle.aia_core.proofs.ImageLines.{IsLoad, found_below, found_few, majors_are_loaded, registers_are_loaded, numbers_are_loaded, word_told, word_untold}
+use Rattle.aia_standing.specs.Moves.{IsFound}
+use Rattle.aia_standing.specs.Stands.{CoreTakes}
+use Rattle.aia_standing.proofs.EventLemmas.{still}
+use Rattle.aia_standing.proofs.MoveCalls.{who_low}
+use Rattle.aia_standing.proofs.ImageLines.{IsLoad, found_below, found_few, majors_are_loaded, registers_are_loaded, numbers_are_loaded, word_told, word_untold}
 use Rattle.aia_hyp.proofs.hyp.Hyp.load_into.Goals.{After-load_numbers_in, After-load_majors_in, After-load_registers_in, After-notice, Else-is_live}
 use Rattle.aia_hyp.proofs.hyp.Hyp.load_into.Goals as goal
 

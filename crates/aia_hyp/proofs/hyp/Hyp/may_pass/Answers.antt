@@ -3,10 +3,10 @@ use Rattle.std.specs.Prelude.{is_some}
 use Rattle.aia_home.specs.Vms.{vcpu, is_vcpu_in}
 use Rattle.aia_model.specs.declared.answer.Answer.TheVariants.{Refused}
 use Rattle.aia_model.specs.declared.refusal.Refusal.TheVariants.{Passed}
-use Rattle.aia_core.specs.Core.{CoreState}
-use Rattle.aia_core.specs.Passes.{pass_in}
-use Rattle.aia_core.specs.Stands.{RefusesPass}
-use Rattle.aia_core.proofs.PassLemmas.{is_passed, is_free}
+use Rattle.aia_standing.specs.Core.{CoreState}
+use Rattle.aia_standing.specs.Passes.{pass_in}
+use Rattle.aia_standing.specs.Stands.{RefusesPass}
+use Rattle.aia_standing.proofs.PassLemmas.{is_passed, is_free}
 use Rattle.aia_hyp.proofs.hyp.Hyp.may_pass.Goals as goal
 
 pub returns-clause-refusal : goal.returns-clause-refusal

@@ -13,13 +13,13 @@ use Rattle.aia_moving.specs.declared.who.Kept.{Kept}
 use Rattle.aia_model.specs.declared.answer.Answer.TheVariants.{Wide}
 use Rattle.aia_model.specs.declared.line.Line.TheVariants.{GuestCsr}
 use Rattle.aia_model.specs.FileAfter.FileDeed.{Accesses}
-use Rattle.aia_core.specs.declared.vcpu.Stay.TheVariants as stays
-use Rattle.aia_core.specs.Core.{CoreState, no_record, record_of}
-use Rattle.aia_core.specs.Memory.{file_in_memory, kept_after}
-use Rattle.aia_core.specs.Stands.{CoreTakes}
-use Rattle.aia_core.proofs.EventLemmas.{as_it_was, still}
-use Rattle.aia_core.proofs.GuestLookups.{reached, names, slot_low}
-use Rattle.aia_core.proofs.MemoryAccesses.{memory_record_done, memory_slot_done, sets_accessed, sets_value, number_accessed, number_value, top_accessed, memory_accessed, memory_virtual}
+use Rattle.aia_standing.specs.declared.vcpu.Stay.TheVariants as stays
+use Rattle.aia_standing.specs.Core.{CoreState, no_record, record_of}
+use Rattle.aia_standing.specs.Memory.{file_in_memory, kept_after}
+use Rattle.aia_standing.specs.Stands.{CoreTakes}
+use Rattle.aia_standing.proofs.EventLemmas.{as_it_was, still}
+use Rattle.aia_standing.proofs.GuestLookups.{reached, names, slot_low}
+use Rattle.aia_standing.proofs.MemoryAccesses.{memory_record_done, memory_slot_done, sets_accessed, sets_value, number_accessed, number_value, top_accessed, memory_accessed, memory_virtual}
 use Rattle.aia_hyp.proofs.hyp.Hyp.memory_access.Goals.{After-access_select_in, After-access_kept_in, After-slot_reg, After-top_in}
 use Rattle.aia_hyp.proofs.hyp.Hyp.memory_access.Goals as goal
 

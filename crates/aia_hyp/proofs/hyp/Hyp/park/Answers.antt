@@ -5,13 +5,13 @@ use Rattle.aia_world.specs.World.{World}
 use Rattle.aia_world.specs.Stores.{Posts}
 use Rattle.aia_model.specs.declared.answer.Answer.TheVariants.{Okay}
 use Rattle.aia_model.specs.declared.line.Line.TheVariants.{Exit}
-use Rattle.aia_core.specs.declared.vcpu.Stay.TheVariants as stays
-use Rattle.aia_core.specs.Core.{CoreState, record_of}
-use Rattle.aia_core.specs.Memory.{with_stay}
-use Rattle.aia_core.specs.Moves.{IsFound}
-use Rattle.aia_core.specs.Stands.{CoreTakes}
-use Rattle.aia_core.proofs.EventLemmas.{still}
-use Rattle.aia_core.proofs.RunLines.{exits, exit_is_loud, exit_is_quiet, live_top}
+use Rattle.aia_standing.specs.declared.vcpu.Stay.TheVariants as stays
+use Rattle.aia_standing.specs.Core.{CoreState, record_of}
+use Rattle.aia_standing.specs.Memory.{with_stay}
+use Rattle.aia_standing.specs.Moves.{IsFound}
+use Rattle.aia_standing.specs.Stands.{CoreTakes}
+use Rattle.aia_standing.proofs.EventLemmas.{still}
+use Rattle.aia_standing.proofs.RunLines.{exits, exit_is_loud, exit_is_quiet, live_top}
 use Rattle.aia_hyp.proofs.hyp.Hyp.park.Goals.{After-notice, Else-slot_is_live}
 use Rattle.aia_hyp.proofs.hyp.Hyp.park.Goals as goal
 

@@ -7,10 +7,10 @@ use Rattle.aia_home.specs.Aims.{target_to}
 use Rattle.aia_model.specs.declared.line.Line.TheVariants as lines
 use Rattle.aia_model.specs.Event.Event.{Accepted}
 use Rattle.aia_model.specs.Passes.{Pass}
-use Rattle.aia_core.specs.Core.{CoreState, resident_at}
-use Rattle.aia_core.specs.declared.vcpu.VcpuRecord.{VcpuRecord}
-use Rattle.aia_core.specs.Stands.{CoreStands, StandsForSome}
-use Rattle.aia_core.proofs.PassLemmas.{free_so, record_low, record_read, few_identities, resident_there, pass_stands, pass_aims, pass_stands_for_some}
+use Rattle.aia_standing.specs.Core.{CoreState, resident_at}
+use Rattle.aia_standing.specs.declared.vcpu.VcpuRecord.{VcpuRecord}
+use Rattle.aia_standing.specs.Stands.{CoreStands, StandsForSome}
+use Rattle.aia_standing.proofs.PassLemmas.{free_so, record_low, record_read, few_identities, resident_there, pass_stands, pass_aims, pass_stands_for_some}
 use Rattle.aia_hyp.proofs.hyp.Hyp.pass_to.Goals as goal
 
 pub index-requires : goal.index-requires

@@ -2,9 +2,9 @@ use Rattle.std.proofs.Common.{refl, sym, ◌∙◌, arith}
 use Rattle.aia_world.proofs.WholeLemmas.{vcpu_entry}
 use Rattle.aia_model.specs.declared.line.Line.TheVariants.{Refetch}
 use Rattle.aia_model.specs.declared.answer.Answer.TheVariants.{Okay}
-use Rattle.aia_core.specs.Stands.{CoreTakes}
-use Rattle.aia_core.proofs.EventLemmas.{still}
-use Rattle.aia_core.proofs.RefetchLemmas.{refetch_taken, no_entry_to_read}
+use Rattle.aia_standing.specs.Stands.{CoreTakes}
+use Rattle.aia_standing.proofs.EventLemmas.{still}
+use Rattle.aia_standing.proofs.RefetchLemmas.{refetch_taken, no_entry_to_read}
 use Rattle.aia_hyp.proofs.hyp.Hyp.refetch.Goals.{After-has_vcpu, After-refetch}
 use Rattle.aia_hyp.proofs.hyp.Hyp.refetch.Goals as goal
 

@@ -3,10 +3,10 @@ use Rattle.aia_regs.specs.declared.limits.TheConstants.{PASSES}
 use Rattle.aia_home.specs.Vms.{vcpu, is_vcpu_in}
 use Rattle.aia_model.specs.Passes.{Pass}
 use Rattle.aia_model.specs.Event.Event.{Relayed}
-use Rattle.aia_core.specs.Core.{CoreState}
-use Rattle.aia_core.specs.Stands.{CoreGoes, MayGo}
-use Rattle.aia_core.proofs.ForwardLemmas.{goes_on}
-use Rattle.aia_core.proofs.RelayLemmas.{calls_go, may_relay}
+use Rattle.aia_standing.specs.Core.{CoreState}
+use Rattle.aia_standing.specs.Stands.{CoreGoes, MayGo}
+use Rattle.aia_standing.proofs.ForwardLemmas.{goes_on}
+use Rattle.aia_standing.proofs.RelayLemmas.{calls_go, may_relay}
 use Rattle.aia_hyp.proofs.hyp.Hyp.relay.Goals.{After-slot_store}
 use Rattle.aia_hyp.proofs.hyp.Hyp.relay.Goals as goal
 

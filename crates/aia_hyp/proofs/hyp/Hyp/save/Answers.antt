@@ -6,13 +6,13 @@ use Rattle.aia_model.specs.declared.answer.Answer.TheVariants as kinds
 use Rattle.aia_model.specs.declared.answer.Answer.TheVariants.{Refused}
 use Rattle.aia_model.specs.declared.line.Line.TheVariants.{Save}
 use Rattle.aia_model.specs.Image.{part_of}
-use Rattle.aia_core.specs.declared.vcpu.Stay.TheVariants as stays
-use Rattle.aia_core.specs.Core.{CoreState, record_of, parked_at}
-use Rattle.aia_core.specs.Images.{state_in}
-use Rattle.aia_core.specs.Moves.{IsFound}
-use Rattle.aia_core.specs.Stands.{StandsForSome, CoreTakes}
-use Rattle.aia_core.proofs.MoveCalls.{who_low}
-use Rattle.aia_core.proofs.ImageLines.{no_vcpu_to_save, no_such_part, not_parked_to_save, saves, found_few, found_stay, parked_is, small_number}
+use Rattle.aia_standing.specs.declared.vcpu.Stay.TheVariants as stays
+use Rattle.aia_standing.specs.Core.{CoreState, record_of, parked_at}
+use Rattle.aia_standing.specs.Images.{state_in}
+use Rattle.aia_standing.specs.Moves.{IsFound}
+use Rattle.aia_standing.specs.Stands.{StandsForSome, CoreTakes}
+use Rattle.aia_standing.proofs.MoveCalls.{who_low}
+use Rattle.aia_standing.proofs.ImageLines.{no_vcpu_to_save, no_such_part, not_parked_to_save, saves, found_few, found_stay, parked_is, small_number}
 use Rattle.aia_hyp.proofs.hyp.Hyp.save.Goals.{In_ok-kept}
 use Rattle.aia_hyp.proofs.hyp.Hyp.save.Goals as goal
 

@@ -1,19 +1,19 @@
 use Rattle.std.proofs.Common.{◌≡◌, sym, subst, ◌∙◌}
-use Rattle.aia_core.specs.Moves.{IsFound, UnlessRefused}
+use Rattle.aia_standing.specs.Moves.{IsFound, UnlessRefused}
 use Rattle.aia_home.specs.Vms.{vcpu}
 use Rattle.aia_model.specs.declared.line.Line.TheVariants.{Step}
 use Rattle.aia_model.specs.declared.refusal.Refusal.TheVariants.{Idle}
 use Rattle.aia_model.specs.declared.answer.Answer.TheVariants.{Refused}
-use Rattle.aia_core.specs.Core.{CoreState}
-use Rattle.aia_core.specs.Moves.{step_answer}
-use Rattle.aia_core.specs.Stands.{StandsForSome, CoreTakes}
-use Rattle.aia_core.proofs.MoveLines.{step_unrefused, step_taken, step_idle, no_step, moved_now}
+use Rattle.aia_standing.specs.Core.{CoreState}
+use Rattle.aia_standing.specs.Moves.{step_answer}
+use Rattle.aia_standing.specs.Stands.{StandsForSome, CoreTakes}
+use Rattle.aia_standing.proofs.MoveLines.{step_unrefused, step_taken, step_idle, no_step, moved_now}
 use Rattle.aia_model.specs.Event.{History}
 use Rattle.aia_model.specs.Event.Event.{Stepped}
 use Rattle.aia_model.specs.Aim.{aimed_by}
 use Rattle.aia_model.specs.Refusal.{refusal}
-use Rattle.aia_core.specs.Passes.{AimsBy}
-use Rattle.aia_core.specs.Stands.{CoreStands}
+use Rattle.aia_standing.specs.Passes.{AimsBy}
+use Rattle.aia_standing.specs.Stands.{CoreStands}
 use Rattle.aia_hyp.proofs.hyp.Hyp.step.Goals as goal
 
 pub returns-in_default-clause-takes : goal.returns-in_default-clause-takes

@@ -8,12 +8,12 @@ use Rattle.aia_move.specs.Plan.{moving_of}
 use Rattle.aia_moving.specs.Targets.{next_aim}
 use Rattle.aia_model.specs.Event.{greatest_identity_of}
 use Rattle.aia_model.specs.Vms.{has_vcpu}
-use Rattle.aia_core.specs.Core.{CoreState, no_record, record_of, home_in}
-use Rattle.aia_core.specs.Moves.{IsFound, MoveGoes, is_finished}
-use Rattle.aia_core.proofs.BeginCore.{at_stay}
-use Rattle.aia_core.proofs.GuestLemmas.{few_identities}
-use Rattle.aia_core.proofs.OwnPasses.{are_passes, aims_so}
-use Rattle.aia_core.proofs.MoveCalls.{StepCalls, plan_known, back_known, step_called, harts_still, told_harts, goes_still, who_still}
+use Rattle.aia_standing.specs.Core.{CoreState, no_record, record_of, home_in}
+use Rattle.aia_standing.specs.Moves.{IsFound, MoveGoes, is_finished}
+use Rattle.aia_standing.proofs.BeginCore.{at_stay}
+use Rattle.aia_standing.proofs.GuestLemmas.{few_identities}
+use Rattle.aia_standing.proofs.OwnPasses.{are_passes, aims_so}
+use Rattle.aia_standing.proofs.MoveCalls.{StepCalls, plan_known, back_known, step_called, harts_still, told_harts, goes_still, who_still}
 use Rattle.aia_hyp.proofs.hyp.Hyp.step_of.Given.{Over}
 use Rattle.aia_hyp.proofs.hyp.Hyp.step_of.Goals.{After-swap_stay-2}
 use Rattle.aia_hyp.proofs.hyp.Hyp.step_of.Goals as goal

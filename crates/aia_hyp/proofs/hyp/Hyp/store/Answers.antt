@@ -6,11 +6,11 @@ use Rattle.aia_model.specs.declared.answer.Answer.TheVariants.{Okay}
 use Rattle.aia_model.specs.declared.line.Line.TheVariants.{Store}
 use Rattle.aia_model.specs.declared.refusal.Refusal.{Refusal}
 use Rattle.aia_model.specs.declared.refusal.Refusal.TheVariants.{Fault}
-use Rattle.aia_core.specs.Core.{CoreState}
-use Rattle.aia_core.specs.Stands.{CoreTakes, core_refusal}
-use Rattle.aia_core.proofs.EventLemmas.{still}
-use Rattle.aia_core.proofs.PageLemmas.{in_a_region, is_outside}
-use Rattle.aia_core.proofs.StoreLemmas.{store_refused, stored}
+use Rattle.aia_standing.specs.Core.{CoreState}
+use Rattle.aia_standing.specs.Stands.{CoreTakes, core_refusal}
+use Rattle.aia_standing.proofs.EventLemmas.{still}
+use Rattle.aia_standing.proofs.PageLemmas.{in_a_region, is_outside}
+use Rattle.aia_standing.proofs.StoreLemmas.{store_refused, stored}
 use Rattle.aia_hyp.proofs.hyp.Hyp.store.Goals.{After-host_store}
 use Rattle.aia_hyp.proofs.hyp.Hyp.store.Goals as goal
 use Rattle.aia_regs.specs.declared.limits.TheConstants.{HARTS}

@@ -4,10 +4,10 @@ use Rattle.aia_model.specs.declared.answer.Answer.TheVariants.{Okay}
 use Rattle.aia_model.specs.declared.line.Line.TheVariants as lines
 use Rattle.aia_world.specs.Whole.{IsWhole}
 use Rattle.aia_model.specs.Refusal.{is_vm_size, lacks_room}
-use Rattle.aia_core.specs.Core.{CoreState}
-use Rattle.aia_core.specs.Stands.{CoreTakes}
-use Rattle.aia_core.proofs.EventLemmas.{still}
-use Rattle.aia_core.proofs.VmLines.{vm_made, vm_refused, vm_has_no_room, room_left}
+use Rattle.aia_standing.specs.Core.{CoreState}
+use Rattle.aia_standing.specs.Stands.{CoreTakes}
+use Rattle.aia_standing.proofs.EventLemmas.{still}
+use Rattle.aia_standing.proofs.VmLines.{vm_made, vm_refused, vm_has_no_room, room_left}
 use Rattle.aia_hyp.proofs.hyp.Hyp.vm.Goals.{After-add_records}
 use Rattle.aia_hyp.proofs.hyp.Hyp.vm.Goals as goal
 

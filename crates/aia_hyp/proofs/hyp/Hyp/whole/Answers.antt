@@ -4,11 +4,11 @@ use Rattle.aia_model.specs.declared.answer.Answer.TheVariants.{Okay, Refused}
 use Rattle.aia_model.specs.declared.refusal.Refusal.TheVariants as words
 use Rattle.aia_model.specs.Event.{History}
 use Rattle.aia_model.specs.Refusal.{refusal}
-use Rattle.aia_core.specs.Core.{CoreState}
-use Rattle.aia_core.specs.Moves.{IsFound, UnlessRefused, WholeAims, move_line}
-use Rattle.aia_core.specs.Stands.{StandsForSome, CoreStands, CoreTakes}
-use Rattle.aia_core.proofs.BeginCore.{no_move}
-use Rattle.aia_core.proofs.MoveWhole.{first_step, next_step, all_steps, all_aims, none_aims, refused_whole}
+use Rattle.aia_standing.specs.Core.{CoreState}
+use Rattle.aia_standing.specs.Moves.{IsFound, UnlessRefused, WholeAims, move_line}
+use Rattle.aia_standing.specs.Stands.{StandsForSome, CoreStands, CoreTakes}
+use Rattle.aia_standing.proofs.BeginCore.{no_move}
+use Rattle.aia_standing.proofs.MoveWhole.{first_step, next_step, all_steps, all_aims, none_aims, refused_whole}
 use Rattle.aia_hyp.proofs.hyp.Hyp.whole.Goals as goal
 
 pub returns-in_default-clause-takes : goal.returns-in_default-clause-takes

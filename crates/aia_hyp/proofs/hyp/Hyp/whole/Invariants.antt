@@ -1,7 +1,7 @@
 use Rattle.aia_home.specs.Vms.{vcpu}
 use Rattle.std.specs.Prelude.{◌≡◌}
-use Rattle.aia_core.specs.Moves.{left_in}
-use Rattle.aia_core.proofs.MoveWhole.{SoFar}
+use Rattle.aia_standing.specs.Moves.{left_in}
+use Rattle.aia_standing.proofs.MoveWhole.{SoFar}
 use Rattle.aia_hyp.proofs.hyp.Hyp.whole.Given as goal
 
 abbrev pub invariant-loop-found : goal.invariant-loop-found
