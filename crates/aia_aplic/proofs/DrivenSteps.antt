@@ -1,6 +1,6 @@
 -- What a level of a wire makes of a source.
 use Rattle.std.proofs.Common.{◌≡◌, ℕ, Bool, true, false, cond, nat_eq, ◌∷◌, None, ◌∙◌}
-use Rattle.aia_regs.specs.Word.Word.{Nothing}
+use Rattle.aia_regs.specs.BitUpdate.BitUpdate.{Nothing}
 use Rattle.aia_source.specs.Wired.{done, is_active}
 use Rattle.aia_source.specs.Wired.SourceDeed.{LevelGiven, Untouched}
 use Rattle.aia_domain.specs.Entry.{EntryState, wired, changed_at}

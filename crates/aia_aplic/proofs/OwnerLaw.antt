@@ -5,7 +5,7 @@ use Rattle.aia_source.specs.Wired.{is_active}
 use Rattle.aia_source.specs.declared.kept.TheConstants.{DELEGATED}
 use Rattle.aia_source.specs.Registers.{mode_of, root_sourcecfg, delegates}
 use Rattle.aia_regs.specs.declared.domain_registers.DomainReg.TheVariants.{SourceCfg}
-use Rattle.aia_regs.specs.Word.Word.{Nothing}
+use Rattle.aia_regs.specs.BitUpdate.BitUpdate.{Nothing}
 use Rattle.aia_source.specs.Wired.SourceDeed.{Configured, Untouched}
 use Rattle.aia_model.specs.Act.{Past, newest, when}
 use Rattle.aia_model.specs.Act.Act.{Written}

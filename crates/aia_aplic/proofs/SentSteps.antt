@@ -1,6 +1,6 @@
 -- What the sending of an MSI makes of a source, and of the controls of harts.
 use Rattle.std.proofs.Common.{◌≡◌, ℕ, Bool, false, cond, ◌&&◌, nat_eq, ◌∷◌, refl, ◌∙◌}
-use Rattle.aia_regs.specs.Word.{settle}
+use Rattle.aia_regs.specs.BitUpdate.{settle}
 use Rattle.aia_source.specs.declared.mode.Mode.{Mode}
 use Rattle.aia_source.specs.declared.mode.Mode.TheVariants.{Inactive, Detached, RisingEdge, FallingEdge, LevelHigh, LevelLow}
 use Rattle.aia_source.specs.Wired.{says}

@@ -1,8 +1,8 @@
 -- What each act makes of a source in a domain.
 use Rattle.std.proofs.Common.{◌≡◌, ℕ, Bool, true, false, not, cond, ◌&&◌, ◌||◌, [], ◌∷◌, Option, Some, None, unwrap_or, refl, sym, ap}
 use Rattle.std.proofs.lemmas.Bool.{cond-true}
-use Rattle.aia_regs.specs.Word.{Word, settle}
-use Rattle.aia_regs.specs.Word.Word.{Ask, Clear, Nothing}
+use Rattle.aia_regs.specs.BitUpdate.{BitUpdate, settle}
+use Rattle.aia_regs.specs.BitUpdate.BitUpdate.{Ask, Clear, Nothing}
 use Rattle.aia_source.specs.declared.mode.Mode.{Mode}
 use Rattle.aia_source.specs.declared.mode.Mode.TheVariants.{Inactive, Detached, RisingEdge, FallingEdge, LevelHigh, LevelLow}
 use Rattle.aia_source.specs.Wired.{SourceDeed, done, is_active, rectified, says}
@@ -20,7 +20,7 @@ abbrev pub target_after : Bool → Bool → Bool → Bool → ℕ → ℕ
 target_after before after msi msi' kept = cond (not after) 0 (cond (not before || not (same_bool msi msi')) (first_target msi') kept)
 
 -- what a step makes of what was kept, by what the act says
-abbrev pub stepped : Mode → Bool → Bool → Bool → Bool → Option ℕ → Word → SourceDeed → EntryState → EntryState
+abbrev pub stepped : Mode → Bool → Bool → Bool → Bool → Option ℕ → BitUpdate → SourceDeed → EntryState → EntryState
 stepped mode' wire' msi msi' delegated' aim asked does x = record {
   source = done msi does mode' wire' x.source;
   enabled = is_active x.source.mode && is_active mode' && settle asked x.enabled;
@@ -56,7 +56,7 @@ entry-idle (a ∷ past) d s = record {
   target = λ e. cond-true _ _ _ (ap not e);
 }
   where
-    no_enable : (before after : Bool) (w : Word) (was : Bool) → after ≡ false → (before && after && settle w was) ≡ false
+    no_enable : (before after : Bool) (w : BitUpdate) (was : Bool) → after ≡ false → (before && after && settle w was) ≡ false
     no_enable true true w was e = cc
     no_enable true false w was e = refl
     no_enable false after w was e = refl

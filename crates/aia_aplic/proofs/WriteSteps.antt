@@ -4,8 +4,8 @@ use Rattle.std.proofs.lemmas.Bool.Decides.{nat_tests}
 use Rattle.std.specs.Int.{is_in_range}
 use Rattle.aia_regs.specs.declared.domain_registers.DomainReg.{DomainReg}
 use Rattle.aia_regs.specs.declared.domain_registers.DomainReg.TheVariants.{DomainCfg, SourceCfg, GenMsi, Target}
-use Rattle.aia_regs.specs.Word.{settle}
-use Rattle.aia_regs.specs.Word.Word.{Nothing}
+use Rattle.aia_regs.specs.BitUpdate.{settle}
+use Rattle.aia_regs.specs.BitUpdate.BitUpdate.{Nothing}
 use Rattle.aia_source.specs.declared.mode.Mode.{Mode}
 use Rattle.aia_source.specs.declared.mode.Mode.TheVariants.{Inactive, Detached, RisingEdge, FallingEdge, LevelHigh, LevelLow}
 use Rattle.aia_source.specs.Wired.{done, is_active, rectified, says}

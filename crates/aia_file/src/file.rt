@@ -2,7 +2,7 @@ ghost use Rattle.std.specs.Prelude.{◌≡◌, ℕ, ◌+◌, ◌-◌, ◌*◌, �
 ghost use Rattle.aia_word.specs.Sets.{has_bit, is_in, word_of};
 ghost use Rattle.aia_word.specs.Top.{top_value, lets_through};
 ghost use Rattle.aia_regs.specs.declared.limits.TheConstants.{IDENTITIES, FILE_WORDS};
-ghost use Rattle.aia_regs.specs.Word.{settle};
+ghost use Rattle.aia_regs.specs.BitUpdate.{settle};
 ghost use Rattle.aia_regs.specs.FileRegisters.{IsUsable, set_said, number_after};
 ghost use Rattle.aia_file.specs.InterruptFile.{is_greatest_identity, SameFile, empty_file, register_value, top_of, signals, accessed, landed, claimed};
 ghost use Rattle.aia_file.specs.FileState.{shown};

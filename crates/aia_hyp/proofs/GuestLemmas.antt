@@ -3,8 +3,8 @@ use Rattle.std.proofs.Common.{◌≡◌, ◌≢◌, ℕ, ◌+◌, ◌/◌, ◌<�
 use Rattle.std.specs.Int.{is_in_range}
 use Rattle.std.proofs.lemmas.Bool.{cases_eq, ne_eqb, false≢true}
 use Rattle.std.proofs.lemmas.Bool.Decides.{nat_tests}
-use Rattle.aia_regs.specs.Word.{names}
-use Rattle.aia_regs.specs.Word.Word.{Ask, Nothing}
+use Rattle.aia_regs.specs.BitUpdate.{names}
+use Rattle.aia_regs.specs.BitUpdate.BitUpdate.{Ask, Nothing}
 use Rattle.aia_regs.specs.Request.{number_written, implemented, request_said}
 use Rattle.aia_file.specs.InterruptFile.{is_greatest_identity}
 use Rattle.aia_mrif.specs.declared.slot.Stored.{Stored}

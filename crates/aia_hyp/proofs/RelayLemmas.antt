@@ -13,8 +13,8 @@ use Rattle.aia_regs.specs.declared.file_registers.FileReg.TheVariants.{Pending}
 use Rattle.aia_regs.specs.FileRegisters.{shows, eip_said}
 use Rattle.aia_regs.specs.Operations.{bit_said}
 use Rattle.aia_regs.specs.Request.{requested}
-use Rattle.aia_regs.specs.Word.{Word, settle, names}
-use Rattle.aia_regs.specs.Word.Word.{Ask, Nothing}
+use Rattle.aia_regs.specs.BitUpdate.{BitUpdate, settle, names}
+use Rattle.aia_regs.specs.BitUpdate.BitUpdate.{Ask, Nothing}
 use Rattle.aia_file.specs.InterruptFile.{InterruptFile, SameFile, is_greatest_identity, accessed, landed}
 use Rattle.aia_file.specs.FileState.{FileState, shown}
 use Rattle.aia_file.proofs.FileLemmas.{same_file}
@@ -64,7 +64,7 @@ taking p = ops.Clear (1 * 2 ^ host_identity p % 2 ^ 64)
 shown_there : (n x : ℕ) → 1 ≤ x → x < 64 → 63 ≤ n → shows n 0 x ≡ true
 shown_there n x some few wide = grind (arith, nat_tests)
 
-nothing_else : (b : Bool) → ◌≡◌ {A = Word} (cond b Nothing Nothing) Nothing
+nothing_else : (b : Bool) → ◌≡◌ {A = BitUpdate} (cond b Nothing Nothing) Nothing
 nothing_else true = refl
 nothing_else false = refl
 
@@ -96,7 +96,7 @@ taken p file few wide = record {
 }
 
 -- a notice that lands then says more than that
-asks_last : (b : Bool) (w : Word) (was : Bool) → settle (cond b Ask Nothing) (settle w was) ≡ settle (cond b Ask w) was
+asks_last : (b : Bool) (w : BitUpdate) (was : Bool) → settle (cond b Ask Nothing) (settle w was) ≡ settle (cond b Ask w) was
 asks_last true w was = refl
 asks_last false w was = refl
 

@@ -6,7 +6,7 @@
 ghost use Rattle.std.specs.Prelude.{◌≡◌, true, [], ◌∷◌, ◌++◌, length, Some};
 ghost use Rattle.aia_regs.specs.declared.access.Csr.TheVariants.{Select, Reg, Topei, Sip};
 ghost use Rattle.aia_regs.specs.declared.access.Op.TheVariants.{Read, Write};
-ghost use Rattle.aia_regs.specs.Word.Word.{Ask, Clear};
+ghost use Rattle.aia_regs.specs.BitUpdate.BitUpdate.{Ask, Clear};
 ghost use Rattle.aia_home.specs.Vms.{vcpu};
 ghost use Rattle.aia_model.specs.Event.{has_machine};
 ghost use Rattle.aia_model.specs.Image.{GuestState};

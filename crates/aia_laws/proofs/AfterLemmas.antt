@@ -2,7 +2,7 @@
 -- delivered, and any other accepted line does what its one event does.
 use Rattle.aia_model.specs.Move.Move.{Arrives, Leaves, Shifts}
 use Rattle.aia_home.specs.Routes.{is_at_fence}
-use Rattle.aia_regs.specs.Word.Word.{Ask, Nothing}
+use Rattle.aia_regs.specs.BitUpdate.BitUpdate.{Ask, Nothing}
 use Rattle.aia_regs.specs.Request.{requested}
 use Rattle.aia_model.specs.Passes.{passes_of, nth_pass, passed_by, passes_for}
 use Rattle.aia_model.specs.Aim.{pass_reach}
@@ -13,7 +13,7 @@ use Rattle.std.specs.Option.{option_map_or}
 use Rattle.std.specs.List.{AllByRecursion, list_any}
 use Rattle.std.proofs.Common.{◌≡◌, ◌≢◌, ℕ, zero, suc, true, false, not, ◌⊎◌, nat_eq, List, [], ◌∷◌, Option, Some, None, inl, inr, refl, sym, ap, subst, ◌∙◌, Bool, ◌&&◌, ◌||◌, ◌+◌, length, cond, is_none}
 use Rattle.std.proofs.lemmas.Bool.{cond-false, not-true, eqb-false, ne_eqb, and_left, and_right, false≢true, eq-eqb, cases_Bool}
-use Rattle.aia_regs.specs.Word.{settle, names}
+use Rattle.aia_regs.specs.BitUpdate.{settle, names}
 use Rattle.aia_file.specs.InterruptFile.{InterruptFile}
 use Rattle.aia_home.specs.Vms.{Vcpu, vcpu, is_vcpu}
 use Rattle.aia_model.specs.declared.line.Line.{Line}

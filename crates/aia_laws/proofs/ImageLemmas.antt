@@ -9,8 +9,8 @@ use Rattle.aia_word.specs.Sets.{has_bit, word_of}
 use Rattle.aia_word.proofs.SetLemmas.{has_bit-word_of}
 use Rattle.aia_regs.specs.Fields.{bit_number}
 use Rattle.aia_regs.specs.Operations.{is_one}
-use Rattle.aia_regs.specs.Word.{settle}
-use Rattle.aia_regs.specs.Word.Word.{Ask, Clear, Nothing}
+use Rattle.aia_regs.specs.BitUpdate.{settle}
+use Rattle.aia_regs.specs.BitUpdate.BitUpdate.{Ask, Clear, Nothing}
 use Rattle.aia_regs.specs.FileRegisters.{shows}
 use Rattle.aia_file.specs.InterruptFile.{SameFile, is_greatest_identity}
 use Rattle.aia_file.proofs.FileLemmas.{same_file}

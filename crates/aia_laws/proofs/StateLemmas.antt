@@ -12,8 +12,8 @@ use Rattle.aia_regs.specs.declared.file_registers.FileReg.{FileReg}
 use Rattle.aia_regs.specs.declared.file_registers.FileReg.TheVariants.{Delivery, Threshold, Pending, Enable}
 use Rattle.aia_regs.specs.Fields.{bit_number}
 use Rattle.aia_regs.specs.Operations.{is_one, written}
-use Rattle.aia_regs.specs.Word.{settle, names}
-use Rattle.aia_regs.specs.Word.Word.{Ask, Clear, Nothing}
+use Rattle.aia_regs.specs.BitUpdate.{settle, names}
+use Rattle.aia_regs.specs.BitUpdate.BitUpdate.{Ask, Clear, Nothing}
 use Rattle.aia_regs.specs.FileRegisters.{register_of, eip_said, number_after, threshold_after, delivery_after}
 use Rattle.aia_regs.specs.Request.{number_written, implemented, requested}
 use Rattle.aia_file.specs.InterruptFile.{InterruptFile, accessed, claimed, landed, top_of}

@@ -4,8 +4,8 @@ use Rattle.std.proofs.Common.{◌≡◌, ℕ, ◌+◌, ◌≤◌, Bool, true, fa
 use Rattle.std.specs.Int.{is_in_range}
 use Rattle.std.proofs.lemmas.Bool.{cases_Bool, and_parts, and_from, or_cases, or_left, or_right, eq-eqb, cond-true, false≢true}
 use Rattle.std.proofs.lemmas.Bool.Decides.{nat_tests}
-use Rattle.aia_regs.specs.Word.{Word, settle}
-use Rattle.aia_regs.specs.Word.Word.{Ask, Clear, Nothing}
+use Rattle.aia_regs.specs.BitUpdate.{BitUpdate, settle}
+use Rattle.aia_regs.specs.BitUpdate.BitUpdate.{Ask, Clear, Nothing}
 use Rattle.aia_file.specs.InterruptFile.{InterruptFile}
 use Rattle.aia_home.specs.Vms.{Vcpu, vcpu}
 use Rattle.aia_home.specs.Home.Home.{Parked}
@@ -164,7 +164,7 @@ told_while_parked h g i good parked live =
 
 -- ---- what was asked for and not cleared is pending
 
-settled : (word : Word) (again told cleared was : Bool) → (is_ask word || (not again && told)) ≡ true → (is_clear word || (not again && cleared)) ≡ false → (told ≡ true → cleared ≡ false → was ≡ true) → settle word was ≡ true
+settled : (word : BitUpdate) (again told cleared was : Bool) → (is_ask word || (not again && told)) ≡ true → (is_clear word || (not again && cleared)) ≡ false → (told ≡ true → cleared ≡ false → was ≡ true) → settle word was ≡ true
 settled Ask again told cleared was asked kept before = refl
 settled Clear again told cleared was asked kept before = absurd (cc)
 settled Nothing false told cleared was asked kept before = before asked kept
@@ -215,7 +215,7 @@ pending_until_cleared (Delivered msi ∷ past) f n g i good told cleared = kept_
 abbrev KeepsSent : History → FileName → ℕ → Vcpu → ℕ → Type 0
 KeepsSent h f n g i = noticed_since h g i ≡ true → cleared_since_notice h f n g ≡ false → (file_of h f).pending n ≡ true
 
-kept_settled : (word : Word) (cleared was : Bool) → (is_clear word || cleared) ≡ false → (cleared ≡ false → was ≡ true) → settle word was ≡ true
+kept_settled : (word : BitUpdate) (cleared was : Bool) → (is_clear word || cleared) ≡ false → (cleared ≡ false → was ≡ true) → settle word was ≡ true
 kept_settled Ask cleared was kept before = refl
 kept_settled Clear cleared was kept before = absurd (cc)
 kept_settled Nothing cleared was kept before = before kept

@@ -9,8 +9,8 @@ use Rattle.aia_regs.specs.declared.access.Op.{Op}
 use Rattle.aia_regs.specs.declared.access.Op.TheVariants as ops
 use Rattle.aia_regs.specs.Fields.{bit_number}
 use Rattle.aia_regs.specs.Operations.{is_one, written, bit_said, FitsOp}
-use Rattle.aia_regs.specs.Word.{settle}
-use Rattle.aia_regs.specs.Word.Word.{Ask, Clear, Nothing}
+use Rattle.aia_regs.specs.BitUpdate.{settle}
+use Rattle.aia_regs.specs.BitUpdate.BitUpdate.{Ask, Clear, Nothing}
 use Rattle.aia_major.specs.VsMajor.{VsMajorState, is_major, is_guests_own, fits_hvip, is_pending, majors_word, sip_value, sie_value, with_sip, with_sie}
 use Rattle.aia_major.specs.Kept.{sip_written, sie_written}
 

@@ -5,8 +5,8 @@ use Rattle.std.specs.Prelude.{ℕ, ◌+◌, ◌*◌, ◌^◌, min, Bool, false, 
 use Rattle.std.specs.Option.{option_map_or}
 use Rattle.std.specs.Int.{is_in_range}
 use Rattle.aia_regs.specs.declared.access.Op.{Op}
-use Rattle.aia_regs.specs.Word.{Word, set_after}
-use Rattle.aia_regs.specs.Word.Word.{Ask, Clear, Nothing}
+use Rattle.aia_regs.specs.BitUpdate.{BitUpdate, set_after}
+use Rattle.aia_regs.specs.BitUpdate.BitUpdate.{Ask, Clear, Nothing}
 use Rattle.aia_regs.specs.Operations.{bit_said, is_one}
 use Rattle.aia_regs.specs.Fields.{field, with_field, bit_number}
 
@@ -78,17 +78,17 @@ fits_hvictl v = nat_eq (hvictl_kept v) v && is_hvictl v
 
 -- What an injection of a level at a major says of major j's being injected.
 -- The hypervisor extension 1.0: hvip.
-abbrev pub injection_said : ℕ → Bool → ℕ → Word
+abbrev pub injection_said : ℕ → Bool → ℕ → BitUpdate
 injection_said major level j =
     if nat_eq major j then (if level then Ask else Clear) else Nothing
 
 -- What an access of a guest to sip says of major j's being injected, and one to sie of its being
 -- enabled.
 -- The hypervisor extension 1.0: vsip and vsie.
-abbrev pub sip_said : Op → ℕ → Word
+abbrev pub sip_said : Op → ℕ → BitUpdate
 sip_said op j = if is_guests_own j then bit_said op j else Nothing
 
-abbrev pub sie_said : Op → ℕ → Word
+abbrev pub sie_said : Op → ℕ → BitUpdate
 sie_said op j = if is_major j then bit_said op j else Nothing
 
 -- A level is injected at a major; a guest accesses sip, or sie; hviprio1 is written, or hvictl.

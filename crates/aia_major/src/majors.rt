@@ -1,6 +1,6 @@
 ghost use Rattle.std.specs.Prelude.{◌≡◌, ℕ, false, ◌&&◌, nat_eq, if◌then◌else◌, OnOk, OnErr, is_ok};
 ghost use Rattle.aia_regs.specs.Operations.{is_one};
-ghost use Rattle.aia_regs.specs.Word.{settle};
+ghost use Rattle.aia_regs.specs.BitUpdate.{settle};
 ghost use Rattle.aia_major.specs.VsMajor.{is_major, is_guests_own, injection_said, majors_word};
 ghost use Rattle.aia_major.specs.Kept.{members, no_members};
 

@@ -4,7 +4,7 @@ use Rattle.std.specs.Int.{is_in_range}
 use Rattle.std.proofs.lemmas.Bool.{cases_Bool, cases_eq, cond-true, cond-false, eq-eqb, ne_eqb}
 use Rattle.std.proofs.lemmas.Bool.Decides.{nat_tests}
 use Rattle.std.proofs.lemmas.List.{get_or-set_same, get_or-set_other}
-use Rattle.aia_regs.specs.Word.{names}
+use Rattle.aia_regs.specs.BitUpdate.{names}
 use Rattle.aia_imsic.specs.declared.spot.Spot.TheVariants.{HostFile}
 use Rattle.aia_imsic.specs.Imsic.{ImsicState, IsThere}
 use Rattle.aia_entry.specs.declared.table.Route.{Route}

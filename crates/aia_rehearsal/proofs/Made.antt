@@ -37,7 +37,7 @@ use Rattle.aia_rehearsal.specs.Runs.{LeadsTo, NoneLeads, state_at, IsBegun}
 use Rattle.std.proofs.lemmas.Bool.{cases_eq, cases_Bool, ne_eqb, cond-false}
 use Rattle.std.proofs.Common.{inl, inr, nat_lt, length, Some, ◌≤◌}
 use Rattle.std.proofs.lemmas.List.{get_or_past}
-use Rattle.aia_regs.specs.Word.{names}
+use Rattle.aia_regs.specs.BitUpdate.{names}
 use Rattle.aia_regs.specs.declared.limits.TheConstants.{HARTS}
 use Rattle.aia_entry.specs.declared.entry.Entry.TheVariants.{NotValid}
 use Rattle.aia_entry.specs.Format.{decoded}

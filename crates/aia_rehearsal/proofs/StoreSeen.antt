@@ -6,8 +6,8 @@ use Rattle.std.proofs.lemmas.Bool.{cases_Bool, eqb-true, eq-eqb}
 use Rattle.std.proofs.lemmas.Bool.Decides.{nat_tests}
 use Rattle.std.specs.Int.{is_in_range}
 use Rattle.aia_regs.specs.declared.limits.TheConstants.{VCPUS, IDENTITIES}
-use Rattle.aia_regs.specs.Word.{names, settle}
-use Rattle.aia_regs.specs.Word.Word.{Ask, Nothing}
+use Rattle.aia_regs.specs.BitUpdate.{names, settle}
+use Rattle.aia_regs.specs.BitUpdate.BitUpdate.{Ask, Nothing}
 use Rattle.aia_regs.specs.Request.{number_written, implemented, requested, request_said}
 use Rattle.aia_file.specs.InterruptFile.{is_greatest_identity}
 use Rattle.aia_file.specs.FileState.{shown}

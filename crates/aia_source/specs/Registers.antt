@@ -7,8 +7,8 @@ use Rattle.aia_regs.specs.declared.domain_registers.DomainReg.{DomainReg}
 use Rattle.aia_regs.specs.declared.domain_registers.DomainReg.TheVariants.{SetIp, SetIpNum, InClrIp, ClrIpNum, SetIe, SetIeNum, ClrIe, ClrIeNum, SetIpNumLe, SetIpNumBe}
 use Rattle.aia_regs.specs.Fields.{field, with_field}
 use Rattle.aia_regs.specs.Operations.{is_one}
-use Rattle.aia_regs.specs.Word.{Word}
-use Rattle.aia_regs.specs.Word.Word.{Ask, Clear, Nothing}
+use Rattle.aia_regs.specs.BitUpdate.{BitUpdate}
+use Rattle.aia_regs.specs.BitUpdate.BitUpdate.{Ask, Clear, Nothing}
 use Rattle.aia_source.specs.declared.kept.TheConstants.{IE, DM, D, DELEGATED, DOMAINCFG_ONES}
 use Rattle.aia_source.specs.declared.mode.Mode.{Mode}
 use Rattle.aia_source.specs.declared.mode.Mode.TheVariants.{Inactive, Detached, RisingEdge, FallingEdge, LevelHigh, LevelLow}
@@ -129,7 +129,7 @@ deed_of_touch (Some SetPending) = Set
 deed_of_touch (Some ClearPending) = Cleared
 deed_of_touch touch = Untouched
 
-abbrev pub enable_of_touch : Option Touch → Word
+abbrev pub enable_of_touch : Option Touch → BitUpdate
 enable_of_touch (Some SetEnable) = Ask
 enable_of_touch (Some ClearEnable) = Clear
 enable_of_touch touch = Nothing

@@ -2,14 +2,14 @@
 use Rattle.std.specs.Prelude.{ℕ, Bool, true, false, nat_eq, Option, Some, None}
 
 -- An event asks for a bit, clears it, or says nothing of it.
-pub data Word : Type 0 where
-  Ask : Word
-  Clear : Word
-  Nothing : Word
+pub data BitUpdate : Type 0 where
+  Ask : BitUpdate
+  Clear : BitUpdate
+  Nothing : BitUpdate
 
 -- Whether a bit is a one after an event, given what the event says of it and whether it was one
--- before. So just the bits are ones whose newest word asks for them.
-abbrev pub settle : Word → Bool → Bool
+-- before. So just the bits are ones whose newest update asks for them.
+abbrev pub settle : BitUpdate → Bool → Bool
 settle Ask was = true
 settle Clear was = false
 settle Nothing was = was
@@ -20,5 +20,5 @@ names None i = false
 names (Some x) i = nat_eq x i
 
 -- A set after an event, given what the event says of each identity.
-abbrev pub set_after : (ℕ → Word) → (ℕ → Bool) → ℕ → Bool
-set_after word was i = settle (word i) (was i)
+abbrev pub set_after : (ℕ → BitUpdate) → (ℕ → Bool) → ℕ → Bool
+set_after said was i = settle (said i) (was i)
