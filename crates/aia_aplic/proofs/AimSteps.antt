@@ -5,7 +5,7 @@ use Rattle.std.proofs.lemmas.Bool.Decides.{nat_tests}
 use Rattle.std.specs.Option.{option_map_or}
 use Rattle.std.specs.Int.{is_in_range}
 use Rattle.aia_source.specs.Wired.{is_active}
-use Rattle.aia_domain.specs.Entry.{EntryState, EachSource, changed_at, with_target, is_active_at}
+use Rattle.aia_domain.specs.InterruptSource.{InterruptSourceState, EachSource, changed_at, with_target, is_active_at}
 use Rattle.aia_domain.specs.Domain.{DomainState, with_sources}
 use Rattle.aia_model.specs.declared.domain_name.DomainName.{DomainName}
 use Rattle.aia_model.specs.declared.domain_name.DomainName.TheVariants.{Root, Child}
@@ -13,10 +13,10 @@ use Rattle.aia_model.specs.Act.{Past, newest}
 use Rattle.aia_model.specs.Act.Act.{Aimed}
 use Rattle.aia_model.specs.AddressOf.{addresses_of, are_for_guests}
 use Rattle.aia_model.specs.SourceOf.{harts_in, sources_in, is_source, wire_of, is_active_in, delivers_by_msis, target, genmsi_waits}
-use Rattle.aia_aplic.specs.Side.{entry_of, control, DomainStands, SideState, SideStands}
+use Rattle.aia_aplic.specs.Side.{source_of, control, DomainStands, SideState, SideStands}
 use Rattle.aia_aplic.specs.Aplic.{AplicState, AplicStands}
 use Rattle.aia_aplic.specs.Passing.{is_passable_source, is_passable_in}
-use Rattle.aia_aplic.proofs.Steps.{entry-step, entry-idle, step-nothing, aimed_if}
+use Rattle.aia_aplic.proofs.Steps.{source-step, source-idle, step-nothing, aimed_if}
 use Rattle.aia_aplic.proofs.Standing.{IsQuiet, keeps_quiet, stands-after, still-stands}
 use Rattle.aia_aplic.proofs.Reading.{place, mode-zero}
 use Rattle.aia_aplic.proofs.ControlSteps.{controls-still}
@@ -24,19 +24,19 @@ use Rattle.aia_aplic.proofs.AddressSteps.{addresses_aimed}
 
 -- ---- a source
 
-aimed_child : (t v : ℕ) (past : Past) (s : ℕ) → entry_of (Aimed t v ∷ past) Child s ≡ changed_at t (with_target v) s (entry_of past Child s)
+aimed_child : (t v : ℕ) (past : Past) (s : ℕ) → source_of (Aimed t v ∷ past) Child s ≡ changed_at t (with_target v) s (source_of past Child s)
 unfolding newest wire_of
-aimed_child t v past s = entry-step (Aimed t v) past Child s ∙ aimed_if (nat_eq t s) (delivers_by_msis past Child) v (entry_of past Child s) (entry-idle past Child s)
+aimed_child t v past s = source-step (Aimed t v) past Child s ∙ aimed_if (nat_eq t s) (delivers_by_msis past Child) v (source_of past Child s) (source-idle past Child s)
 
-aimed_root : (t v : ℕ) (past : Past) (s : ℕ) → entry_of (Aimed t v ∷ past) Root s ≡ entry_of past Root s
+aimed_root : (t v : ℕ) (past : Past) (s : ℕ) → source_of (Aimed t v ∷ past) Root s ≡ source_of past Root s
 unfolding newest wire_of
-aimed_root t v past s = entry-step (Aimed t v) past Root s ∙ step-nothing (delivers_by_msis past Root) (entry_of past Root s) (entry-idle past Root s)
+aimed_root t v past s = source-step (Aimed t v) past Root s ∙ step-nothing (delivers_by_msis past Root) (source_of past Root s) (source-idle past Root s)
 
 -- the target of an active one is what it is given
 pub aim_targets : (past : Past) (s v : ℕ) → is_active_in past Child s ≡ true → target (Aimed s v ∷ past) Child s ≡ v
 aim_targets past s v on =
-    ap (λ (x : EntryState). x.target) (aimed_child s v past s)
-    ∙ ap (λ b. (cond b (with_target v (entry_of past Child s)) (entry_of past Child s)).target) (eq-eqb s s refl)
+    ap (λ (x : InterruptSourceState). x.target) (aimed_child s v past s)
+    ∙ ap (λ b. (cond b (with_target v (source_of past Child s)) (source_of past Child s)).target) (eq-eqb s s refl)
     ∙ cond-true _ _ _ on
 
 -- ---- the domains
@@ -87,11 +87,11 @@ zero_not n s e = grind (arith, nat_tests)
 
 active-stands : (d : DomainState) (past : Past) (name : DomainName) (s : ℕ) → DomainStands d past name → is_active_at d.sources s ≡ (is_source past s && is_active_in past name s)
 active-stands d past name s stands = elim (place d past name s stands) [
-  | inl p ↦ ap (λ (o : Option EntryState). option_map_or (λ (x : EntryState). is_active x.source.mode) o false) p.1 ∙ elim (cases_eq s 0) [
+  | inl p ↦ ap (λ (o : Option InterruptSourceState). option_map_or (λ (x : InterruptSourceState). is_active x.source.mode) o false) p.1 ∙ elim (cases_eq s 0) [
     | inl e ↦ ap (is_active_in past name) e ∙ mode-zero past name ∙ sym (ap (λ (b : Bool). b && is_active_in past name s) (zero_not (sources_in past) s e))
     | inr ne ↦ sym (ap (λ (b : Bool). b && is_active_in past name s) (there (sources_in past) s p.0 ne))
   ]
-  | inr p ↦ ap (λ (o : Option EntryState). option_map_or (λ (x : EntryState). is_active x.source.mode) o false) p.1 ∙ sym (ap (λ (b : Bool). b && is_active_in past name s) (not_there (sources_in past) s p.0))
+  | inr p ↦ ap (λ (o : Option InterruptSourceState). option_map_or (λ (x : InterruptSourceState). is_active x.source.mode) o false) p.1 ∙ sym (ap (λ (b : Bool). b && is_active_in past name s) (not_there (sources_in past) s p.0))
 ]
 
 and_grouped : (a b c d : Bool) → (a && b && c && d) ≡ (a && (b && c && d))

@@ -4,7 +4,7 @@ use Rattle.std.specs.List.{Contains}
 use Rattle.std.proofs.lemmas.Bool.{cases_lt, and_parts, and_right}
 use Rattle.std.specs.Option.{option_map_or}
 use Rattle.std.proofs.lemmas.Option.{slice_get_past, slice_get-get_or}
-use Rattle.aia_domain.specs.Entry.{EntryState, waits, waits_at}
+use Rattle.aia_domain.specs.InterruptSource.{InterruptSourceState, waits, waits_at}
 use Rattle.aia_domain.specs.Domain.{DomainState}
 use Rattle.aia_domain.specs.Domain as kept
 use Rattle.aia_model.specs.declared.domain_name.DomainName.{DomainName}
@@ -14,10 +14,10 @@ use Rattle.aia_model.specs.declared.sender.Sender.{Sender}
 use Rattle.aia_model.specs.declared.sender.Sender.TheVariants.{ByGenMsi, BySource}
 use Rattle.aia_model.specs.SourceOf.{sources_in, is_on, delivers_by_msis, enabled, pending, genmsi_waits}
 use Rattle.aia_model.specs.Sent.{forwards, all_senders, has_msi}
-use Rattle.aia_aplic.specs.Side.{entry_of, DomainStands}
+use Rattle.aia_aplic.specs.Side.{source_of, DomainStands}
 use Rattle.aia_aplic.specs.Aplic.{AplicState, AplicStands, side}
 use Rattle.aia_aplic.specs.Sending.{IsFirstSource, IsFirst}
-use Rattle.aia_aplic.proofs.Steps.{entry-idle}
+use Rattle.aia_aplic.proofs.Steps.{source-idle}
 use Rattle.aia_aplic.proofs.Reading.{mode-zero}
 use Rattle.aia_aplic.specs.Senders.{SendsBefore}
 use Rattle.aia_source.proofs.ListLemmas.{filter_none, filter_first}
@@ -28,7 +28,7 @@ use Rattle.aia_aplic.proofs.OrderLaw.{all_in_order, all_genmsi, all_sources, sou
 pub ready_within : (d : DomainState) (s : ℕ) → kept.is_ready d s ≡ true → s < length d.sources
 ready_within d s ready = elim (cases_lt s (length d.sources)) [
   | inl p ↦ p
-  | inr p ↦ let none : false ≡ true = sym (ap (λ (o : Option EntryState). option_map_or waits o false) (slice_get_past d.sources s p)) ∙ (and_parts (d.msi && d.on) (waits_at d.sources s) ready).1 in absurd (cc)
+  | inr p ↦ let none : false ≡ true = sym (ap (λ (o : Option InterruptSourceState). option_map_or waits o false) (slice_get_past d.sources s p)) ∙ (and_parts (d.msi && d.on) (waits_at d.sources s) ready).1 in absurd (cc)
 ]
 
 regroup : (a b c d : Bool) → (a && b && c && d) ≡ (a && b && (c && d))
@@ -40,16 +40,16 @@ regroup false b c d = refl
 pub ready_is : (d : DomainState) (past : Past) (name : DomainName) (s : ℕ) → DomainStands d past name → s < suc (sources_in past) → kept.is_ready d s ≡ forwards past name s
 ready_is d past name s stands low =
     let within : s < length d.sources = subst (λ n. s < n) (sym stands.count) low in
-    let found : slice_get d.sources s ≡ Some (get_or d.sources s (entry_of past name s)) = slice_get-get_or d.sources s (entry_of past name s) within in
+    let found : slice_get d.sources s ≡ Some (get_or d.sources s (source_of past name s)) = slice_get-get_or d.sources s (source_of past name s) within in
     ap (λ m. m && d.on && waits_at d.sources s) stands.msi ∙ ap (λ o. delivers_by_msis past name && o && waits_at d.sources s) stands.on
-    ∙ ap (λ (o : Option EntryState). delivers_by_msis past name && is_on past name && option_map_or waits o false) (found ∙ ap (λ (x : EntryState). Some x) (stands.each s (get_or d.sources s (entry_of past name s)) found))
+    ∙ ap (λ (o : Option InterruptSourceState). delivers_by_msis past name && is_on past name && option_map_or waits o false) (found ∙ ap (λ (x : InterruptSourceState). Some x) (stands.each s (get_or d.sources s (source_of past name s)) found))
     ∙ sym (regroup (delivers_by_msis past name) (is_on past name) (pending past name s) (enabled past name s))
 
 -- no source has the number 0
 ready_zero : (past : Past) (name : DomainName) → forwards past name 0 ≡ false
 ready_zero past name =
     regroup (delivers_by_msis past name) (is_on past name) (pending past name 0) (enabled past name 0)
-    ∙ ap (λ (b : Bool). delivers_by_msis past name && is_on past name && (b && enabled past name 0)) ((entry-idle past name 0).pending (mode-zero past name))
+    ∙ ap (λ (b : Bool). delivers_by_msis past name && is_on past name && (b && enabled past name 0)) ((source-idle past name 0).pending (mode-zero past name))
     ∙ and_right (delivers_by_msis past name && is_on past name) false refl
 
 not_zero : (past : Past) (name : DomainName) (s : ℕ) → forwards past name s ≡ true → 1 ≤ s

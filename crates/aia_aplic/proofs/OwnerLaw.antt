@@ -12,8 +12,8 @@ use Rattle.aia_model.specs.Act.Act.{Written}
 use Rattle.aia_model.specs.declared.domain_name.DomainName.{DomainName}
 use Rattle.aia_model.specs.declared.domain_name.DomainName.TheVariants.{Root, Child}
 use Rattle.aia_model.specs.SourceOf.{is_source, is_register_of, wire_of, root_sourcecfg_of, is_delegated, child_told, sourcecfg_of, delivers_by_msis, is_active_in}
-use Rattle.aia_aplic.specs.Side.{entry_of}
-use Rattle.aia_aplic.proofs.Steps.{stepped, entry-step, entry-idle, step-nothing, step-deed}
+use Rattle.aia_aplic.specs.Side.{source_of}
+use Rattle.aia_aplic.proofs.Steps.{stepped, source-step, source-idle, step-nothing, step-deed}
 use Rattle.aia_aplic.proofs.WriteSteps.{child-none, inactive-stays}
 
 -- the root domain's register of a delegated source gives no mode, and that of another source leaves the child domain's register 0
@@ -51,20 +51,20 @@ same_sourcecfg past i v Child s was again = not_written (is_register_of past i s
 
 -- a source keeps what it has where its mode and its delegation stay, and its sourcecfg is written only where it is inactive
 pub same_entry : (past : Past) (i v : ℕ) (d : DomainName) (s : ℕ) → is_delegated past i ≡ true → delegates (root_sourcecfg v) ≡ true
-    → entry_of (Written Root (SourceCfg i) v ∷ past) d s ≡ entry_of past d s
+    → source_of (Written Root (SourceCfg i) v ∷ past) d s ≡ source_of past d s
 unfolding newest wire_of
 same_entry past i v Child s was again =
-    entry-step (Written Root (SourceCfg i) v) past Child s
-    ∙ ap (λ c. stepped (mode_of c) (wire_of past s) (delivers_by_msis past Child) (delivers_by_msis past Child) (is_delegated (Written Root (SourceCfg i) v ∷ past) s) None Nothing Untouched (entry_of past Child s)) (same_sourcecfg past i v Child s was again)
-    ∙ ap (λ c. stepped (mode_of (sourcecfg_of past Child s)) (wire_of past s) (delivers_by_msis past Child) (delivers_by_msis past Child) (delegates c) None Nothing Untouched (entry_of past Child s)) (same_sourcecfg past i v Root s was again)
-    ∙ step-nothing (delivers_by_msis past Child) (entry_of past Child s) (entry-idle past Child s)
+    source-step (Written Root (SourceCfg i) v) past Child s
+    ∙ ap (λ c. stepped (mode_of c) (wire_of past s) (delivers_by_msis past Child) (delivers_by_msis past Child) (is_delegated (Written Root (SourceCfg i) v ∷ past) s) None Nothing Untouched (source_of past Child s)) (same_sourcecfg past i v Child s was again)
+    ∙ ap (λ c. stepped (mode_of (sourcecfg_of past Child s)) (wire_of past s) (delivers_by_msis past Child) (delivers_by_msis past Child) (delegates c) None Nothing Untouched (source_of past Child s)) (same_sourcecfg past i v Root s was again)
+    ∙ step-nothing (delivers_by_msis past Child) (source_of past Child s) (source-idle past Child s)
 same_entry past i v Root s was again =
-    entry-step (Written Root (SourceCfg i) v) past Root s
-    ∙ ap (λ c. stepped (mode_of c) (wire_of past s) (delivers_by_msis past Root) (delivers_by_msis past Root) (delegates c) None Nothing (cond (is_register_of past i s) Configured Untouched) (entry_of past Root s)) (same_sourcecfg past i v Root s was again)
+    source-step (Written Root (SourceCfg i) v) past Root s
+    ∙ ap (λ c. stepped (mode_of c) (wire_of past s) (delivers_by_msis past Root) (delivers_by_msis past Root) (delegates c) None Nothing (cond (is_register_of past i s) Configured Untouched) (source_of past Root s)) (same_sourcecfg past i v Root s was again)
     ∙ at (is_register_of past i s) refl
   where
-    at : (b : Bool) → is_register_of past i s ≡ b → stepped (mode_of (sourcecfg_of past Root s)) (wire_of past s) (delivers_by_msis past Root) (delivers_by_msis past Root) (is_delegated past s) None Nothing (cond b Configured Untouched) (entry_of past Root s) ≡ entry_of past Root s
+    at : (b : Bool) → is_register_of past i s ≡ b → stepped (mode_of (sourcecfg_of past Root s)) (wire_of past s) (delivers_by_msis past Root) (delivers_by_msis past Root) (is_delegated past s) None Nothing (cond b Configured Untouched) (source_of past Root s) ≡ source_of past Root s
     at true here =
         let off : is_active_in past Root s ≡ false = ap (λ c. is_active (mode_of c)) (eqb-true (root_sourcecfg_of past s) DELEGATED (both_delegated past i s v was here)) in
-        step-deed (delivers_by_msis past Root) (entry_of past Root s) Configured (entry-idle past Root s) ∙ inactive-stays (delivers_by_msis past Root) (entry_of past Root s) (entry-idle past Root s) off
-    at false e = step-nothing (delivers_by_msis past Root) (entry_of past Root s) (entry-idle past Root s)
+        step-deed (delivers_by_msis past Root) (source_of past Root s) Configured (source-idle past Root s) ∙ inactive-stays (delivers_by_msis past Root) (source_of past Root s) (source-idle past Root s) off
+    at false e = step-nothing (delivers_by_msis past Root) (source_of past Root s) (source-idle past Root s)

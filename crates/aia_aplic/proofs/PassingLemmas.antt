@@ -5,7 +5,7 @@ use Rattle.std.specs.Option.{option_map_or}
 use Rattle.std.specs.Int.{is_in_range}
 use Rattle.std.proofs.lemmas.Bool.Decides.{nat_tests}
 use Rattle.aia_source.specs.Wired.{is_active}
-use Rattle.aia_domain.specs.Entry.{EntryState, EachSource, changed_at, with_target, is_active_at}
+use Rattle.aia_domain.specs.InterruptSource.{InterruptSourceState, EachSource, changed_at, with_target, is_active_at}
 use Rattle.aia_domain.specs.Domain.{DomainState, with_sources}
 use Rattle.aia_model.specs.declared.domain_name.DomainName.TheVariants.{Child}
 use Rattle.aia_model.specs.Act.{Past}
@@ -18,19 +18,19 @@ use Rattle.aia_aplic.proofs.Reading.{place}
 
 -- ---- one source
 
-mode_stays : (b : Bool) (v : ℕ) (x : EntryState) → is_active (cond b (with_target v x) x).source.mode ≡ is_active x.source.mode
+mode_stays : (b : Bool) (v : ℕ) (x : InterruptSourceState) → is_active (cond b (with_target v x) x).source.mode ≡ is_active x.source.mode
 mode_stays true v x = refl
 mode_stays false v x = refl
 
-active_stays : (t v s : ℕ) (o : Option EntryState) → option_map_or (λ (x : EntryState). is_active x.source.mode) (option_map (changed_at t (with_target v) s) o) false ≡ option_map_or (λ (x : EntryState). is_active x.source.mode) o false
+active_stays : (t v s : ℕ) (o : Option InterruptSourceState) → option_map_or (λ (x : InterruptSourceState). is_active x.source.mode) (option_map (changed_at t (with_target v) s) o) false ≡ option_map_or (λ (x : InterruptSourceState). is_active x.source.mode) o false
 active_stays t v s None = refl
 active_stays t v s (Some x) = mode_stays (nat_eq t s) v x
 
-target_given : (t v : ℕ) (o : Option EntryState) → option_map_or (λ (x : EntryState). is_active x.source.mode) o false ≡ true → option_map_or (λ (x : EntryState). x.target) (option_map (changed_at t (with_target v) t) o) 0 ≡ v
+target_given : (t v : ℕ) (o : Option InterruptSourceState) → option_map_or (λ (x : InterruptSourceState). is_active x.source.mode) o false ≡ true → option_map_or (λ (x : InterruptSourceState). x.target) (option_map (changed_at t (with_target v) t) o) 0 ≡ v
 target_given t v None on = absurd (false≢true on)
 target_given t v (Some x) on = ap (λ b. (cond b (with_target v x) x).target) (eq-eqb t t refl) ∙ cond-true _ _ _ on
 
-target_stays : (t v s : ℕ) → s ≢ t → (o : Option EntryState) → option_map_or (λ (x : EntryState). x.target) (option_map (changed_at t (with_target v) s) o) 0 ≡ option_map_or (λ (x : EntryState). x.target) o 0
+target_stays : (t v s : ℕ) → s ≢ t → (o : Option InterruptSourceState) → option_map_or (λ (x : InterruptSourceState). x.target) (option_map (changed_at t (with_target v) s) o) 0 ≡ option_map_or (λ (x : InterruptSourceState). x.target) o 0
 target_stays t v s other None = refl
 target_stays t v s other (Some x) = ap (λ b. (cond b (with_target v x) x).target) (ne_eqb t s (λ e. other (sym e)))
 
@@ -47,10 +47,10 @@ aimed-aims t v a new each rest is = record {
   harts = ap (λ (d : DomainState). d.harts) rest;
   passable = λ s.
       ap (λ (m : Bool). is_active_at new.domain.sources s && m && are_for_guests a.addresses) (ap (λ (d : DomainState). d.msi) rest)
-      ∙ ap (λ (b : Bool). b && a.child.domain.msi && are_for_guests a.addresses) (ap (λ (o : Option EntryState). option_map_or (λ (x : EntryState). is_active x.source.mode) o false) (each s) ∙ active_stays t v s _);
-  aimed = λ passable. ap (λ (o : Option EntryState). option_map_or (λ (x : EntryState). x.target) o 0) (each t) ∙ target_given t v _ (left_of _ a.child.domain.msi (left_of _ (are_for_guests a.addresses) is));
+      ∙ ap (λ (b : Bool). b && a.child.domain.msi && are_for_guests a.addresses) (ap (λ (o : Option InterruptSourceState). option_map_or (λ (x : InterruptSourceState). is_active x.source.mode) o false) (each s) ∙ active_stays t v s _);
+  aimed = λ passable. ap (λ (o : Option InterruptSourceState). option_map_or (λ (x : InterruptSourceState). x.target) o 0) (each t) ∙ target_given t v _ (left_of _ a.child.domain.msi (left_of _ (are_for_guests a.addresses) is));
   stays = λ unready. absurd (false≢true (sym unready ∙ is));
-  others = λ s other. ap (λ (o : Option EntryState). option_map_or (λ (x : EntryState). x.target) o 0) (each s) ∙ target_stays t v s other _;
+  others = λ s other. ap (λ (o : Option InterruptSourceState). option_map_or (λ (x : InterruptSourceState). x.target) o 0) (each s) ∙ target_stays t v s other _;
 }
 
 -- ---- the past
@@ -63,6 +63,6 @@ low_source n s there past = grind (arith, nat_tests)
 
 pub target_in-stands : (a : AplicState) (past : Past) (s : ℕ) → AplicStands a past → is_source past s ≡ true → target_in a s ≡ target past Child s
 target_in-stands a past s stands there = elim (place a.child.domain past Child s stands.child.domain) [
-  | inl p ↦ ap (λ (o : Option EntryState). option_map_or (λ (x : EntryState). x.target) o 0) p.1
+  | inl p ↦ ap (λ (o : Option InterruptSourceState). option_map_or (λ (x : InterruptSourceState). x.target) o 0) p.1
   | inr p ↦ absurd (false≢true (sym (low_source (sources_in past) s there p.0)))
 ]

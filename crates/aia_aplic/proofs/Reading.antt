@@ -15,18 +15,18 @@ use Rattle.aia_source.specs.declared.mode.Mode.TheVariants.{Inactive, Detached, 
 use Rattle.aia_source.specs.Wired.{is_active, rectified}
 use Rattle.aia_source.specs.declared.kept.TheConstants.{DELEGATED}
 use Rattle.aia_source.specs.Registers.{legal_mode, root_sourcecfg, child_sourcecfg, delegates, mode_of, mode_number, domaincfg_read}
-use Rattle.aia_domain.specs.declared.entry.Look.{Look}
-use Rattle.aia_domain.specs.declared.entry.Look.TheVariants as looks
-use Rattle.aia_domain.specs.Entry.{EntryState, sourcecfg_shown, bit_shown, bit_at_source}
+use Rattle.aia_domain.specs.declared.interrupt_source.SourceBit.{SourceBit}
+use Rattle.aia_domain.specs.declared.interrupt_source.SourceBit.TheVariants as bits
+use Rattle.aia_domain.specs.InterruptSource.{InterruptSourceState, sourcecfg_shown, bit_shown, bit_at_source}
 use Rattle.aia_domain.specs.Domain.{DomainState, domain_read}
 use Rattle.aia_model.specs.declared.domain_name.DomainName.{DomainName}
 use Rattle.aia_model.specs.Act.{Past, is_domain, newest, when}
 use Rattle.aia_model.specs.declared.domain_name.DomainName.TheVariants.{Root, Child}
 use Rattle.aia_model.specs.Act.Act.{Written}
 use Rattle.aia_model.specs.SourceOf.{sources_in, is_source, is_register_of, root_sourcecfg_of, is_delegated, child_told, sourcecfg_of, mode, input, is_on, enabled, target, pending, only, sources_word, own_read}
-use Rattle.aia_aplic.specs.Side.{entry_of, DomainStands}
+use Rattle.aia_aplic.specs.Side.{source_of, DomainStands}
 use Rattle.aia_aplic.specs.Controls.{is_control}
-use Rattle.aia_aplic.proofs.Steps.{entry-idle}
+use Rattle.aia_aplic.proofs.Steps.{source-idle}
 use Rattle.aia_aplic.proofs.WriteSteps.{child-none}
 
 -- ---- no source has the number 0
@@ -42,14 +42,14 @@ mode-zero past Root = ap (λ c. is_active (mode_of c)) (root-zero past)
 mode-zero past Child = ap (λ c. is_active (mode_of c)) (child-none past 0 (ap delegates (root-zero past)))
 
 -- what is at a place: what the past makes of it, or nothing past the sources
-pub place : (d : DomainState) (past : Past) (name : DomainName) (s : ℕ) → DomainStands d past name → ((s < suc (sources_in past)) × (slice_get d.sources s ≡ Some (entry_of past name s))) ⊎ ((suc (sources_in past) ≤ s) × (slice_get d.sources s ≡ None))
+pub place : (d : DomainState) (past : Past) (name : DomainName) (s : ℕ) → DomainStands d past name → ((s < suc (sources_in past)) × (slice_get d.sources s ≡ Some (source_of past name s))) ⊎ ((suc (sources_in past) ≤ s) × (slice_get d.sources s ≡ None))
 place d past name s stands = elim (cases_lt s (length d.sources)) [
-  | inl p ↦ inl (subst (λ n. s < n) stands.count p, at (get_or d.sources s (entry_of past name s)) (slice_get-get_or d.sources s (entry_of past name s) p))
+  | inl p ↦ inl (subst (λ n. s < n) stands.count p, at (get_or d.sources s (source_of past name s)) (slice_get-get_or d.sources s (source_of past name s) p))
   | inr p ↦ inr (subst (λ n. n ≤ s) stands.count p, slice_get_past d.sources s p)
 ]
   where
-    at : (x : EntryState) → slice_get d.sources s ≡ Some x → slice_get d.sources s ≡ Some (entry_of past name s)
-    at x e = e ∙ ap (λ (y : EntryState). Some y) (stands.each s x e)
+    at : (x : InterruptSourceState) → slice_get d.sources s ≡ Some x → slice_get d.sources s ≡ Some (source_of past name s)
+    at x e = e ∙ ap (λ (y : InterruptSourceState). Some y) (stands.each s x e)
 
 there : (n s : ℕ) → s < suc n → s ≢ 0 → is_in_range 1 n s ≡ true
 there n s low some = grind (arith, nat_tests)
@@ -61,15 +61,15 @@ zero_not : (n s : ℕ) → s ≡ 0 → is_in_range 1 n s ≡ false
 zero_not n s e = grind (arith, nat_tests)
 
 -- what the past shows of a source
-abbrev pub said : Look → Past → DomainName → ℕ → Bool
-said looks.Pending past d s = pending past d s
-said looks.Input past d s = input past d s
-said looks.Enable past d s = enabled past d s
+abbrev pub said : SourceBit → Past → DomainName → ℕ → Bool
+said bits.Pending past d s = pending past d s
+said bits.Input past d s = input past d s
+said bits.Enable past d s = enabled past d s
 
-shown_said : (look : Look) (past : Past) (d : DomainName) (s : ℕ) → bit_shown look (entry_of past d s) ≡ said look past d s
-shown_said looks.Pending past d s = refl
-shown_said looks.Input past d s = refl
-shown_said looks.Enable past d s = refl
+shown_said : (which : SourceBit) (past : Past) (d : DomainName) (s : ℕ) → bit_shown which (source_of past d s) ≡ said which past d s
+shown_said bits.Pending past d s = refl
+shown_said bits.Input past d s = refl
+shown_said bits.Enable past d s = refl
 
 no_input : (m : Mode) (w : Bool) → is_active m ≡ false → rectified m w ≡ false
 no_input Inactive w e = refl
@@ -79,25 +79,25 @@ no_input FallingEdge w e = cc
 no_input LevelHigh w e = cc
 no_input LevelLow w e = cc
 
-said-zero : (look : Look) (past : Past) (d : DomainName) → said look past d 0 ≡ false
-said-zero looks.Pending past d = (entry-idle past d 0).pending (mode-zero past d)
-said-zero looks.Input past d = no_input (mode past d 0) _ (mode-zero past d)
-said-zero looks.Enable past d = (entry-idle past d 0).enabled (mode-zero past d)
+said-zero : (which : SourceBit) (past : Past) (d : DomainName) → said which past d 0 ≡ false
+said-zero bits.Pending past d = (source-idle past d 0).pending (mode-zero past d)
+said-zero bits.Input past d = no_input (mode past d 0) _ (mode-zero past d)
+said-zero bits.Enable past d = (source-idle past d 0).enabled (mode-zero past d)
 
-pub shown-stands : (look : Look) (d : DomainState) (past : Past) (name : DomainName) (s : ℕ) → DomainStands d past name → bit_at_source d.sources look s ≡ (is_source past s && said look past name s)
-shown-stands look d past name s stands = elim (place d past name s stands) [
-  | inl p ↦ ap (λ (o : Option EntryState). option_map_or (bit_shown look) o false) p.1 ∙ shown_said look past name s ∙ elim (cases_eq s 0) [
-    | inl e ↦ ap (said look past name) e ∙ said-zero look past name ∙ sym (ap (λ (b : Bool). b && said look past name s) (zero_not (sources_in past) s e))
-    | inr ne ↦ sym (ap (λ (b : Bool). b && said look past name s) (there (sources_in past) s p.0 ne))
+pub shown-stands : (which : SourceBit) (d : DomainState) (past : Past) (name : DomainName) (s : ℕ) → DomainStands d past name → bit_at_source d.sources which s ≡ (is_source past s && said which past name s)
+shown-stands which d past name s stands = elim (place d past name s stands) [
+  | inl p ↦ ap (λ (o : Option InterruptSourceState). option_map_or (bit_shown which) o false) p.1 ∙ shown_said which past name s ∙ elim (cases_eq s 0) [
+    | inl e ↦ ap (said which past name) e ∙ said-zero which past name ∙ sym (ap (λ (b : Bool). b && said which past name s) (zero_not (sources_in past) s e))
+    | inr ne ↦ sym (ap (λ (b : Bool). b && said which past name s) (there (sources_in past) s p.0 ne))
   ]
-  | inr p ↦ ap (λ (o : Option EntryState). option_map_or (bit_shown look) o false) p.1 ∙ sym (ap (λ (b : Bool). b && said look past name s) (not_there (sources_in past) s p.0))
+  | inr p ↦ ap (λ (o : Option InterruptSourceState). option_map_or (bit_shown which) o false) p.1 ∙ sym (ap (λ (b : Bool). b && said which past name s) (not_there (sources_in past) s p.0))
 ]
 
 same_sets : (f g : ℕ → Bool) → ((s : ℕ) → f s ≡ g s) → f ≡ g
 same_sets f g h = λ i s. h s i
 
-pub word-stands : (look : Look) (d : DomainState) (past : Past) (name : DomainName) (k : ℕ) → DomainStands d past name → word_of (bit_at_source d.sources look) (32 * k) 32 ≡ sources_word past (said look past name) k
-word-stands look d past name k stands = ap (λ f. word_of f (32 * k) 32) (same_sets _ _ (λ s. shown-stands look d past name s stands))
+pub word-stands : (which : SourceBit) (d : DomainState) (past : Past) (name : DomainName) (k : ℕ) → DomainStands d past name → word_of (bit_at_source d.sources which) (32 * k) 32 ≡ sources_word past (said which past name) k
+word-stands which d past name k stands = ap (λ f. word_of f (32 * k) 32) (same_sets _ _ (λ s. shown-stands which d past name s stands))
 
 -- ---- sourcecfg: a kept value is one that its mode gives again
 
@@ -162,7 +162,7 @@ root_shows c legal = elim (cases_eq c DELEGATED) [
   | inr ne ↦ cond-false _ _ _ (ne_eqb c DELEGATED ne) ∙ legal ∙ cond-false _ _ _ (ne_eqb c DELEGATED ne)
 ]
 
-config_shown : (past : Past) (name : DomainName) (s : ℕ) → sourcecfg_shown (is_domain name Child) (entry_of past name s) ≡ sourcecfg_of past name s
+config_shown : (past : Past) (name : DomainName) (s : ℕ) → sourcecfg_shown (is_domain name Child) (source_of past name s) ≡ sourcecfg_of past name s
 config_shown past Root s = root_shows (root_sourcecfg_of past s) (root-legal past s)
 config_shown past Child s = child-legal past s
 
@@ -179,17 +179,17 @@ config_zero past Child = child-none past 0 (ap delegates (root-zero past))
 
 pub read-stands : (reg : DomainReg) (d : DomainState) (past : Past) (name : DomainName) → is_control reg ≡ false → DomainStands d past name → domain_read d reg ≡ own_read past name reg
 read-stands DomainCfg d past name plain stands = ap (λ (b : Bool). domaincfg_read b d.msi) stands.on ∙ ap (λ (b : Bool). domaincfg_read (is_on past name) b) stands.msi
-read-stands (SetIp k) d past name plain stands = word-stands looks.Pending d past name k stands
-read-stands (InClrIp k) d past name plain stands = word-stands looks.Input d past name k stands
-read-stands (SetIe k) d past name plain stands = word-stands looks.Enable d past name k stands
+read-stands (SetIp k) d past name plain stands = word-stands bits.Pending d past name k stands
+read-stands (InClrIp k) d past name plain stands = word-stands bits.Input d past name k stands
+read-stands (SetIe k) d past name plain stands = word-stands bits.Enable d past name k stands
 read-stands GenMsi d past name plain stands = stands.genmsi
 read-stands (SourceCfg i) d past name plain stands = elim (place d past name i stands) [
-  | inl p ↦ numbered (sourcecfg_of past name) past i _ p.0 (config_zero past name) (ap (λ (o : Option EntryState). option_map_or (sourcecfg_shown d.leaf) o 0) p.1 ∙ ap (λ (b : Bool). sourcecfg_shown b (entry_of past name i)) stands.leaf ∙ config_shown past name i)
-  | inr p ↦ ap (λ (o : Option EntryState). option_map_or (sourcecfg_shown d.leaf) o 0) p.1 ∙ sym (cond-false _ _ _ (not_there (sources_in past) i p.0))
+  | inl p ↦ numbered (sourcecfg_of past name) past i _ p.0 (config_zero past name) (ap (λ (o : Option InterruptSourceState). option_map_or (sourcecfg_shown d.leaf) o 0) p.1 ∙ ap (λ (b : Bool). sourcecfg_shown b (source_of past name i)) stands.leaf ∙ config_shown past name i)
+  | inr p ↦ ap (λ (o : Option InterruptSourceState). option_map_or (sourcecfg_shown d.leaf) o 0) p.1 ∙ sym (cond-false _ _ _ (not_there (sources_in past) i p.0))
 ]
 read-stands (Target i) d past name plain stands = elim (place d past name i stands) [
-  | inl p ↦ numbered (target past name) past i _ p.0 ((entry-idle past name 0).target (mode-zero past name)) (ap (λ (o : Option EntryState). option_map_or (λ (x : EntryState). x.target) o 0) p.1)
-  | inr p ↦ ap (λ (o : Option EntryState). option_map_or (λ (x : EntryState). x.target) o 0) p.1 ∙ sym (cond-false _ _ _ (not_there (sources_in past) i p.0))
+  | inl p ↦ numbered (target past name) past i _ p.0 ((source-idle past name 0).target (mode-zero past name)) (ap (λ (o : Option InterruptSourceState). option_map_or (λ (x : InterruptSourceState). x.target) o 0) p.1)
+  | inr p ↦ ap (λ (o : Option InterruptSourceState). option_map_or (λ (x : InterruptSourceState). x.target) o 0) p.1 ∙ sym (cond-false _ _ _ (not_there (sources_in past) i p.0))
 ]
 read-stands (IDelivery hart) d past name plain stands = cc
 read-stands (IForce hart) d past name plain stands = cc

@@ -15,7 +15,7 @@ use Rattle.aia_model.specs.declared.domain_name.DomainName.{DomainName}
 use Rattle.aia_model.specs.Act.{Past, newest}
 use Rattle.aia_model.specs.declared.domain_name.DomainName.TheVariants.{Root, Child}
 use Rattle.aia_model.specs.Act.Act.{Written}
-use Rattle.aia_aplic.proofs.Steps.{entry-idle}
+use Rattle.aia_aplic.proofs.Steps.{source-idle}
 use Rattle.aia_model.specs.SourceOf.{is_register_of, mode, is_active_in, input, delivers_by_msis, deed_of_write, deed, pending, top_in}
 
 -- ---- a sourcecfg at an active source
@@ -76,8 +76,8 @@ begins_at m msi before after was false none l = unasked_at m msi before after Un
 
 pub begins : (past : Past) (d : DomainName) (i v s : ℕ) → is_active_in past d s ≡ false → is_level (mode (Written d (SourceCfg i) v ∷ past) d s) ≡ false → pending (Written d (SourceCfg i) v ∷ past) d s ≡ false
 unfolding newest pending
-begins past Root i v s old l = begins_at (mode (Written Root (SourceCfg i) v ∷ past) Root s) (delivers_by_msis past Root) (input past Root s) (input (Written Root (SourceCfg i) v ∷ past) Root s) (pending past Root s) (is_register_of past i s) ((entry-idle past Root s).pending old) l
-begins past Child i v s old l = begins_at (mode (Written Child (SourceCfg i) v ∷ past) Child s) (delivers_by_msis past Child) (input past Child s) (input (Written Child (SourceCfg i) v ∷ past) Child s) (pending past Child s) (is_register_of past i s) ((entry-idle past Child s).pending old) l
+begins past Root i v s old l = begins_at (mode (Written Root (SourceCfg i) v ∷ past) Root s) (delivers_by_msis past Root) (input past Root s) (input (Written Root (SourceCfg i) v ∷ past) Root s) (pending past Root s) (is_register_of past i s) ((source-idle past Root s).pending old) l
+begins past Child i v s old l = begins_at (mode (Written Child (SourceCfg i) v ∷ past) Child s) (delivers_by_msis past Child) (input past Child s) (input (Written Child (SourceCfg i) v ∷ past) Child s) (pending past Child s) (is_register_of past i s) ((source-idle past Child s).pending old) l
 
 -- ---- a store that does not ask
 

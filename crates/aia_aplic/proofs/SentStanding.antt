@@ -1,13 +1,13 @@
 -- A domain that stood for the past stands for the one in which an MSI is sent.
 use Rattle.std.proofs.Common.{◌≡◌, ℕ, Bool, true, false, cond, ◌&&◌, nat_eq, ◌∷◌, slice_get, refl, sym, subst, ◌∙◌}
-use Rattle.aia_domain.specs.Entry.{EntryState, with_deed, changed_at, EachSource}
+use Rattle.aia_domain.specs.InterruptSource.{InterruptSourceState, with_deed, changed_at, EachSource}
 use Rattle.aia_domain.specs.Domain.{DomainState, with_sources}
 use Rattle.aia_model.specs.declared.domain_name.DomainName.{DomainName}
 use Rattle.aia_model.specs.Act.{Past, newest}
 use Rattle.aia_model.specs.declared.domain_name.DomainName.TheVariants.{Root, Child}
 use Rattle.aia_model.specs.Act.Act.{Sent}
 use Rattle.aia_model.specs.SourceOf.{harts_in, sources_in, is_on, delivers_by_msis, genmsi_of, genmsi_waits}
-use Rattle.aia_aplic.specs.Side.{entry_of, DomainStands}
+use Rattle.aia_aplic.specs.Side.{source_of, DomainStands}
 use Rattle.std.proofs.lemmas.Iterator.Adapters.{option_map_id}
 use Rattle.aia_source.specs.Wired.SourceDeed.{Forwarded}
 use Rattle.aia_model.specs.declared.sender.Sender.{Sender}
@@ -33,9 +33,9 @@ pub forwarded-stands : (t : ℕ) (d e : DomainState) (past : Past) (name : Domai
     → DomainStands d past name → DomainStands e (Sent (BySource name t) ∷ past) name
 forwarded-stands t d e past name by_msi each rest stands =
     stands-after (Sent (BySource name t)) d e past name (changed_at t (with_deed true Forwarded)) (keeps_quiet (Sent (BySource name t)) d e past name (quiet_sent (BySource name t) past name refl) rest stands) each
-    (λ s low. by_mode (nat_eq t s) (delivers_by_msis past name) (entry_of past name s) by_msi ∙ sym (forwarded t past name s)) stands
+    (λ s low. by_mode (nat_eq t s) (delivers_by_msis past name) (source_of past name s) by_msi ∙ sym (forwarded t past name s)) stands
   where
-    by_mode : (b msi : Bool) (x : EntryState) → msi ≡ true → cond b (with_deed true Forwarded x) x ≡ cond (b && msi) (with_deed msi Forwarded x) x
+    by_mode : (b msi : Bool) (x : InterruptSourceState) → msi ≡ true → cond b (with_deed true Forwarded x) x ≡ cond (b && msi) (with_deed msi Forwarded x) x
     by_mode true true x e = refl
     by_mode true false x e = cc
     by_mode false msi x e = refl

@@ -8,7 +8,7 @@ use Rattle.aia_regs.specs.Fields.{field}
 use Rattle.aia_source.specs.Registers.{delegates, root_sourcecfg}
 use Rattle.aia_source.specs.Top.{Pair, topi_value}
 use Rattle.aia_source.specs.Wired.SourceDeed.{Forwarded}
-use Rattle.aia_domain.specs.Entry.{EachSource, granted_at, changed_at, wired, with_deed}
+use Rattle.aia_domain.specs.InterruptSource.{EachSource, granted_at, changed_at, wired, with_deed}
 use Rattle.aia_domain.specs.Domain.{DomainState, with_sources, source_after, domain_after, is_ready}
 use Rattle.aia_regs.specs.Fields.{bit_number}
 use Rattle.aia_direct.specs.Idc.{IdcState, new_idc, control_read, control_claimed, claimed_top, top_shown, signals_hart}

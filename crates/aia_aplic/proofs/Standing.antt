@@ -8,7 +8,7 @@ use Rattle.aia_regs.specs.declared.domain_registers.DomainReg.TheVariants.{Domai
 use Rattle.aia_regs.specs.BitUpdate.{settle}
 use Rattle.aia_regs.specs.BitUpdate.BitUpdate.{Ask, Clear, Nothing}
 use Rattle.aia_source.specs.Registers.{domaincfg_kept, enables, is_by_msi, root_sourcecfg, delegates, genmsi_kept, same_bool}
-use Rattle.aia_domain.specs.Entry.{EntryState, new_entry, with_deed, wired, changed_at, granted_at, EachSource}
+use Rattle.aia_domain.specs.InterruptSource.{InterruptSourceState, new_source, with_deed, wired, changed_at, granted_at, EachSource}
 use Rattle.aia_domain.specs.Domain.{DomainState, IsNewDomain, with_sources, source_changed, source_after, domaincfg_written, domain_after}
 use Rattle.aia_model.specs.declared.domain_name.DomainName.{DomainName}
 use Rattle.aia_model.specs.Act.{Act, Past, is_domain, newest, when}
@@ -16,7 +16,7 @@ use Rattle.aia_model.specs.declared.domain_name.DomainName.TheVariants.{Root, Ch
 use Rattle.aia_model.specs.Act.Act.{Made, Driven, Written, Loaded}
 use Rattle.aia_model.specs.SourceOf.{harts_in, sources_in, wire_of, enabled, target, pending, domaincfg_of, is_on, delivers_by_msis, genmsi_of, genmsi_waits, top}
 use Rattle.aia_direct.specs.Idc.{claimed_top}
-use Rattle.aia_aplic.specs.Side.{entry_of, DomainStands}
+use Rattle.aia_aplic.specs.Side.{source_of, DomainStands}
 use Rattle.std.proofs.lemmas.Iterator.Adapters.{option_map_id}
 use Rattle.aia_domain.proofs.EachLemmas.{each-length, each-entry}
 use Rattle.aia_aplic.proofs.WriteSteps.{same_bools, root_written, child_written, root_at_child_written, child_at_root_config, child_at_root_written, is_config}
@@ -36,8 +36,8 @@ pub record Keeps (d e : DomainState) (a : Act) (past : Past) (name : DomainName)
   pub genmsi : e.genmsi ≡ genmsi_of (a ∷ past) name
   pub genmsi_waits : e.genmsi_waits ≡ genmsi_waits (a ∷ past) name
 
-pub stands-after : (a : Act) (d e : DomainState) (past : Past) (name : DomainName) (change : ℕ → EntryState → EntryState) → Keeps d e a past name → EachSource d.sources e.sources change
-    → ((s : ℕ) → s < suc (sources_in past) → change s (entry_of past name s) ≡ entry_of (a ∷ past) name s) → DomainStands d past name → DomainStands e (a ∷ past) name
+pub stands-after : (a : Act) (d e : DomainState) (past : Past) (name : DomainName) (change : ℕ → InterruptSourceState → InterruptSourceState) → Keeps d e a past name → EachSource d.sources e.sources change
+    → ((s : ℕ) → s < suc (sources_in past) → change s (source_of past name s) ≡ source_of (a ∷ past) name s) → DomainStands d past name → DomainStands e (a ∷ past) name
 stands-after a d e past name change keeps each goes stands = record {
   leaf = keeps.leaf ∙ stands.leaf;
   harts = keeps.harts ∙ stands.harts ∙ sym keeps.harts_in;
@@ -46,11 +46,11 @@ stands-after a d e past name change keeps each goes stands = record {
   genmsi = keeps.genmsi;
   genmsi_waits = keeps.genmsi_waits;
   count = each-length d.sources e.sources change each ∙ stands.count ∙ sym (ap suc keeps.sources_in);
-  each = each-entry d.sources e.sources change (entry_of past name) (entry_of (a ∷ past) name) each stands.each (λ s low. goes s (subst (λ n. s < n) stands.count low));
+  each = each-entry d.sources e.sources change (source_of past name) (source_of (a ∷ past) name) each stands.each (λ s low. goes s (subst (λ n. s < n) stands.count low));
 }
 
 -- an act that a domain has no part in
-pub still-stands : (a : Act) (d : DomainState) (past : Past) (name : DomainName) → Keeps d d a past name → ((s : ℕ) → s < suc (sources_in past) → entry_of (a ∷ past) name s ≡ entry_of past name s) → DomainStands d past name → DomainStands d (a ∷ past) name
+pub still-stands : (a : Act) (d : DomainState) (past : Past) (name : DomainName) → Keeps d d a past name → ((s : ℕ) → s < suc (sources_in past) → source_of (a ∷ past) name s ≡ source_of past name s) → DomainStands d past name → DomainStands d (a ∷ past) name
 still-stands a d past name keeps same stands = stands-after a d d past name (λ s x. x) keeps (λ s. sym (option_map_id (slice_get d.sources s))) (λ s low. sym (same s low)) stands
 
 -- a register that is no domaincfg and no genmsi
@@ -98,7 +98,7 @@ quiet_child reg v past = (refl, refl, refl, refl, refl, refl)
 pub driven-stands : (t : ℕ) (level : Bool) (d e : DomainState) (past : Past) (name : DomainName) → EachSource d.sources e.sources (changed_at t (wired d.msi level)) → e ≡ with_sources d e.sources → DomainStands d past name → DomainStands e (Driven t level ∷ past) name
 driven-stands t level d e past name each rest stands =
     stands-after (Driven t level) d e past name (changed_at t (wired d.msi level)) (keeps_quiet (Driven t level) d e past name (quiet_driven t level past name) rest stands) each
-    (λ s low. ap (λ m. changed_at t (wired m level) s (entry_of past name s)) stands.msi ∙ sym (driven t level past name s)) stands
+    (λ s low. ap (λ m. changed_at t (wired m level) s (source_of past name s)) stands.msi ∙ sym (driven t level past name s)) stands
 
 -- ---- a write in the other domain
 
@@ -117,7 +117,7 @@ granted-stands : (i v : ℕ) (d e : DomainState) (past : Past) → EachSource d.
     → DomainStands d past Child → DomainStands e (Written Root (SourceCfg i) v ∷ past) Child
 granted-stands i v d e past each rest stands =
     stands-after (Written Root (SourceCfg i) v) d e past Child (granted_at i (delegates (root_sourcecfg v)) d.msi) (keeps_quiet (Written Root (SourceCfg i) v) d e past Child (quiet_child (SourceCfg i) v past) rest stands) each
-    (λ s low. ap (λ m. granted_at i (delegates (root_sourcecfg v)) m s (entry_of past Child s)) stands.msi ∙ sym (child_at_root_config i v past s low)) stands
+    (λ s low. ap (λ m. granted_at i (delegates (root_sourcecfg v)) m s (source_of past Child s)) stands.msi ∙ sym (child_at_root_config i v past s low)) stands
 
 -- a sourcecfg of the root domain is written, and the child domain gets the source or loses it
 pub child-stands_written : (reg : DomainReg) (i v : ℕ) (given : Bool) (d e : DomainState) (past : Past) → reg ≡ SourceCfg i → given ≡ delegates (root_sourcecfg v) → EachSource d.sources e.sources (granted_at i given d.msi) → e ≡ with_sources d e.sources
@@ -229,7 +229,7 @@ keeps_own reg v d e past name rest stands = keeps_quiet (Written name reg v) d e
 
 -- what the write makes of a source
 written : (reg : DomainReg) (v : ℕ) (past : Past) (name : DomainName) (s : ℕ) → s < suc (sources_in past)
-    → entry_of (Written name reg v ∷ past) name s ≡ source_changed (is_domain name Child) (harts_in past) (delivers_by_msis past name) reg v s (entry_of past name s)
+    → source_of (Written name reg v ∷ past) name s ≡ source_changed (is_domain name Child) (harts_in past) (delivers_by_msis past name) reg v s (source_of past name s)
 written reg v past Root s low = root_written reg v past s low
 written reg v past Child s low = child_written reg v past s low
 
@@ -237,8 +237,8 @@ pub own-stands : (reg : DomainReg) (v : ℕ) (d e : DomainState) (past : Past) (
     → DomainStands d past name → DomainStands e (Written name reg v ∷ past) name
 own-stands reg v d e past name each rest stands =
     stands-after (Written name reg v) d e past name (source_after d reg v) (keeps_own reg v d e past name rest stands) each
-    (λ s low. ap (λ l. source_changed l d.harts d.msi reg v s (entry_of past name s)) stands.leaf ∙ ap (λ n. source_changed (is_domain name Child) n d.msi reg v s (entry_of past name s)) stands.harts
-    ∙ ap (λ m. source_changed (is_domain name Child) (harts_in past) m reg v s (entry_of past name s)) stands.msi ∙ sym (written reg v past name s low)) stands
+    (λ s low. ap (λ l. source_changed l d.harts d.msi reg v s (source_of past name s)) stands.leaf ∙ ap (λ n. source_changed (is_domain name Child) n d.msi reg v s (source_of past name s)) stands.harts
+    ∙ ap (λ m. source_changed (is_domain name Child) (harts_in past) m reg v s (source_of past name s)) stands.msi ∙ sym (written reg v past name s low)) stands
 
 -- ---- loads
 
@@ -246,7 +246,7 @@ quiet_loaded : (e : DomainName) (reg : DomainReg) (past : Past) (name : DomainNa
 unfolding newest genmsi_waits
 quiet_loaded e reg past name = (refl, refl, refl, refl, refl, refl)
 
-loaded-stands : (e : DomainName) (reg : DomainReg) (d : DomainState) (past : Past) (name : DomainName) → ((s : ℕ) → entry_of (Loaded e reg ∷ past) name s ≡ entry_of past name s) → DomainStands d past name → DomainStands d (Loaded e reg ∷ past) name
+loaded-stands : (e : DomainName) (reg : DomainReg) (d : DomainState) (past : Past) (name : DomainName) → ((s : ℕ) → source_of (Loaded e reg ∷ past) name s ≡ source_of past name s) → DomainStands d past name → DomainStands d (Loaded e reg ∷ past) name
 loaded-stands e reg d past name same stands = still-stands (Loaded e reg) d past name (keeps_quiet (Loaded e reg) d d past name (quiet_loaded e reg past name) refl stands) (λ s low. same s) stands
 
 -- a load that claims nothing
@@ -265,7 +265,7 @@ unclaimed-stands hart d past name away stands =
     loaded-stands name (ClaimI hart) d past name (λ s. claimed hart past name s ∙ cond-false _ _ _ (ap (λ (b : Bool). b && is_top (top past name hart) s) away)) stands
 
 -- by whether the domain delivers by MSIs, where nothing is on top
-top_claimed : (msi : Bool) (o : Option Pair) (s : ℕ) (x : EntryState) → (msi ≡ true → o ≡ None) → claimed_top o s x ≡ cond (is_top o s) (with_deed msi Claimed x) x
+top_claimed : (msi : Bool) (o : Option Pair) (s : ℕ) (x : InterruptSourceState) → (msi ≡ true → o ≡ None) → claimed_top o s x ≡ cond (is_top o s) (with_deed msi Claimed x) x
 top_claimed false o s x none = refl
 top_claimed true o s x none = ap (λ (p : Option Pair). claimed_top p s x) (none refl) ∙ sym (ap (λ (p : Option Pair). cond (is_top p s) (with_deed true Claimed x) x) (none refl))
 
@@ -277,13 +277,13 @@ pub claimed-stands : (hart : ℕ) (o : Option Pair) (d e : DomainState) (past : 
     → EachSource d.sources e.sources (claimed_top o) → e ≡ with_sources d e.sources → DomainStands d past name → DomainStands e (Loaded name (ClaimI hart) ∷ past) name
 claimed-stands hart o d e past name there shown each rest stands =
     stands-after (Loaded name (ClaimI hart)) d e past name (claimed_top o) (keeps_quiet (Loaded name (ClaimI hart)) d e past name (quiet_loaded name (ClaimI hart) past name) rest stands) each
-    (λ s low. top_claimed (delivers_by_msis past name) o s (entry_of past name s) (λ m. shown ∙ msi_shows_none past name hart m)
-    ∙ ap (λ (p : Option Pair). cond (is_top p s) (with_deed (delivers_by_msis past name) Claimed (entry_of past name s)) (entry_of past name s)) shown
-    ∙ sym (claimed hart past name s ∙ ap (λ (b : Bool). cond (b && is_top (top past name hart) s) (with_deed (delivers_by_msis past name) Claimed (entry_of past name s)) (entry_of past name s)) there)) stands
+    (λ s low. top_claimed (delivers_by_msis past name) o s (source_of past name s) (λ m. shown ∙ msi_shows_none past name hart m)
+    ∙ ap (λ (p : Option Pair). cond (is_top p s) (with_deed (delivers_by_msis past name) Claimed (source_of past name s)) (source_of past name s)) shown
+    ∙ sym (claimed hart past name s ∙ ap (λ (b : Bool). cond (b && is_top (top past name hart) s) (with_deed (delivers_by_msis past name) Claimed (source_of past name s)) (source_of past name s)) there)) stands
 
 -- ---- the beginning
 
-begun : (h n : ℕ) (name : DomainName) (s : ℕ) → new_entry ≡ entry_of (Made h n ∷ []) name s
+begun : (h n : ℕ) (name : DomainName) (s : ℕ) → new_source ≡ source_of (Made h n ∷ []) name s
 unfolding newest wire_of pending enabled target
 begun h n Root s = refl
 begun h n Child s = refl
@@ -307,5 +307,5 @@ new_domain-stands n h leaf d name is new =
       genmsi = new.genmsi ∙ sym cfg.2;
       genmsi_waits = new.genmsi_waits ∙ sym cfg.3;
       count = new.count ∙ sym (ap suc (new_size h n).1);
-      each = λ s x found. sym (get_or_from_slice_get d.sources s x x found) ∙ All-get_or (λ y. y ≡ new_entry) d.sources s x (slice_get_within d.sources s x found) new.each ∙ begun h n name s;
+      each = λ s x found. sym (get_or_from_slice_get d.sources s x x found) ∙ All-get_or (λ y. y ≡ new_source) d.sources s x (slice_get_within d.sources s x found) new.each ∙ begun h n name s;
     }

@@ -8,11 +8,11 @@ use Rattle.aia_source.specs.declared.mode.Mode.TheVariants.{Inactive, Detached, 
 use Rattle.aia_source.specs.Wired.{SourceDeed, done, is_active, rectified, says}
 use Rattle.aia_source.specs.Wired.SourceDeed.{Untouched}
 use Rattle.aia_source.specs.Registers.{first_target, same_bool}
-use Rattle.aia_domain.specs.Entry.{EntryState, with_deed, with_enable, with_target}
+use Rattle.aia_domain.specs.InterruptSource.{InterruptSourceState, with_deed, with_enable, with_target}
 use Rattle.aia_model.specs.declared.domain_name.DomainName.{DomainName}
 use Rattle.aia_model.specs.Act.{Act, Past, when}
 use Rattle.aia_model.specs.SourceOf.{wire_of, is_delegated, mode, is_active_in, delivers_by_msis, enable_said, enabled, target_told, target, deed, pending, top_in}
-use Rattle.aia_aplic.specs.Side.{entry_of}
+use Rattle.aia_aplic.specs.Side.{source_of}
 
 -- the target that a step leaves, given whether the source was and is active, the delivery mode before and after, and what was
 -- kept
@@ -20,7 +20,7 @@ abbrev pub target_after : Bool → Bool → Bool → Bool → ℕ → ℕ
 target_after before after msi msi' kept = cond (not after) 0 (cond (not before || not (same_bool msi msi')) (first_target msi') kept)
 
 -- what a step makes of what was kept, by what the act says
-abbrev pub stepped : Mode → Bool → Bool → Bool → Bool → Option ℕ → BitUpdate → SourceDeed → EntryState → EntryState
+abbrev pub stepped : Mode → Bool → Bool → Bool → Bool → Option ℕ → BitUpdate → SourceDeed → InterruptSourceState → InterruptSourceState
 stepped mode' wire' msi msi' delegated' aim asked does x = record {
   source = done msi does mode' wire' x.source;
   enabled = is_active x.source.mode && is_active mode' && settle asked x.enabled;
@@ -28,13 +28,13 @@ stepped mode' wire' msi msi' delegated' aim asked does x = record {
   delegated = delegated';
 }
 
-pub entry-step : (a : Act) (past : Past) (d : DomainName) (s : ℕ) →
-    entry_of (a ∷ past) d s ≡ stepped (mode (a ∷ past) d s) (wire_of (a ∷ past) s) (delivers_by_msis past d) (delivers_by_msis (a ∷ past) d) (is_delegated (a ∷ past) s) (target_told d s past a) (enable_said d s a) (deed (top_in (pending past d) past d) past a d s) (entry_of past d s)
+pub source-step : (a : Act) (past : Past) (d : DomainName) (s : ℕ) →
+    source_of (a ∷ past) d s ≡ stepped (mode (a ∷ past) d s) (wire_of (a ∷ past) s) (delivers_by_msis past d) (delivers_by_msis (a ∷ past) d) (is_delegated (a ∷ past) s) (target_told d s past a) (enable_said d s a) (deed (top_in (pending past d) past d) past a d s) (source_of past d s)
 unfolding pending enabled target
-entry-step a past d s = refl
+source-step a past d s = refl
 
 -- a source that isn't active holds nothing
-pub record IsIdle (x : EntryState) : Type 0 where
+pub record IsIdle (x : InterruptSourceState) : Type 0 where
   pub pending : is_active x.source.mode ≡ false → x.source.pending ≡ false
   pub enabled : is_active x.source.mode ≡ false → x.enabled ≡ false
   pub target : is_active x.source.mode ≡ false → x.target ≡ 0
@@ -47,10 +47,10 @@ said_nothing FallingEdge msi before after does was e = cc
 said_nothing LevelHigh msi before after does was e = cc
 said_nothing LevelLow msi before after does was e = cc
 
-pub entry-idle : (past : Past) (d : DomainName) (s : ℕ) → IsIdle (entry_of past d s)
+pub source-idle : (past : Past) (d : DomainName) (s : ℕ) → IsIdle (source_of past d s)
 unfolding pending enabled target
-entry-idle [] d s = record { pending = λ e. refl; enabled = λ e. refl; target = λ e. refl }
-entry-idle (a ∷ past) d s = record {
+source-idle [] d s = record { pending = λ e. refl; enabled = λ e. refl; target = λ e. refl }
+source-idle (a ∷ past) d s = record {
   pending = λ e. said_nothing (mode (a ∷ past) d s) _ _ _ _ _ e;
   enabled = λ e. no_enable (is_active_in past d s) (is_active_in (a ∷ past) d s) (enable_said d s a) (enabled past d s) e;
   target = λ e. cond-true _ _ _ (ap not e);
@@ -81,7 +81,7 @@ same_target true false was idle = refl
 same_target false msi was idle = sym (idle refl)
 
 -- an act that says nothing
-pub step-nothing : (msi : Bool) (x : EntryState) → IsIdle x → stepped x.source.mode x.source.wire msi msi x.delegated None Nothing Untouched x ≡ x
+pub step-nothing : (msi : Bool) (x : InterruptSourceState) → IsIdle x → stepped x.source.mode x.source.wire msi msi x.delegated None Nothing Untouched x ≡ x
 step-nothing msi x idle = λ i. record {
   source = record { mode = x.source.mode; wire = x.source.wire; pending = same_mode_says x.source.mode msi (rectified x.source.mode x.source.wire) x.source.pending idle.pending i };
   enabled = same_enable (is_active x.source.mode) x.enabled idle.enabled i;
@@ -90,7 +90,7 @@ step-nothing msi x idle = λ i. record {
 }
 
 -- an act that is about pending alone
-pub step-deed : (msi : Bool) (x : EntryState) (does : SourceDeed) → IsIdle x → stepped x.source.mode x.source.wire msi msi x.delegated None Nothing does x ≡ with_deed msi does x
+pub step-deed : (msi : Bool) (x : InterruptSourceState) (does : SourceDeed) → IsIdle x → stepped x.source.mode x.source.wire msi msi x.delegated None Nothing does x ≡ with_deed msi does x
 step-deed msi x does idle = λ i. record {
   source = done msi does x.source.mode x.source.wire x.source;
   enabled = same_enable (is_active x.source.mode) x.enabled idle.enabled i;
@@ -103,7 +103,7 @@ enable_set true true was = refl
 enable_set false true was = refl
 enable_set e false was = refl
 
-pub step-enable : (e msi : Bool) (x : EntryState) → IsIdle x → stepped x.source.mode x.source.wire msi msi x.delegated None (cond e Ask Clear) Untouched x ≡ with_enable e x
+pub step-enable : (e msi : Bool) (x : InterruptSourceState) → IsIdle x → stepped x.source.mode x.source.wire msi msi x.delegated None (cond e Ask Clear) Untouched x ≡ with_enable e x
 step-enable e msi x idle = λ i. record {
   source = record { mode = x.source.mode; wire = x.source.wire; pending = same_mode_says x.source.mode msi (rectified x.source.mode x.source.wire) x.source.pending idle.pending i };
   enabled = enable_set e (is_active x.source.mode) x.enabled i;
@@ -116,7 +116,7 @@ aimed_target true true new = refl
 aimed_target true false new = refl
 aimed_target false msi new = refl
 
-step-aim : (msi : Bool) (target : ℕ) (x : EntryState) → IsIdle x → stepped x.source.mode x.source.wire msi msi x.delegated (Some target) Nothing Untouched x ≡ with_target target x
+step-aim : (msi : Bool) (target : ℕ) (x : InterruptSourceState) → IsIdle x → stepped x.source.mode x.source.wire msi msi x.delegated (Some target) Nothing Untouched x ≡ with_target target x
 step-aim msi target x idle = λ i. record {
   source = record { mode = x.source.mode; wire = x.source.wire; pending = same_mode_says x.source.mode msi (rectified x.source.mode x.source.wire) x.source.pending idle.pending i };
   enabled = same_enable (is_active x.source.mode) x.enabled idle.enabled i;
@@ -124,10 +124,10 @@ step-aim msi target x idle = λ i. record {
   delegated = x.delegated;
 }
 
-pub done_if : (b msi : Bool) (does : SourceDeed) (x : EntryState) → IsIdle x → stepped x.source.mode x.source.wire msi msi x.delegated None Nothing (cond b does Untouched) x ≡ cond b (with_deed msi does x) x
+pub done_if : (b msi : Bool) (does : SourceDeed) (x : InterruptSourceState) → IsIdle x → stepped x.source.mode x.source.wire msi msi x.delegated None Nothing (cond b does Untouched) x ≡ cond b (with_deed msi does x) x
 done_if true msi does x idle = step-deed msi x does idle
 done_if false msi does x idle = step-nothing msi x idle
 
-pub aimed_if : (b msi : Bool) (target : ℕ) (x : EntryState) → IsIdle x → stepped x.source.mode x.source.wire msi msi x.delegated (when b target) Nothing Untouched x ≡ cond b (with_target target x) x
+pub aimed_if : (b msi : Bool) (target : ℕ) (x : InterruptSourceState) → IsIdle x → stepped x.source.mode x.source.wire msi msi x.delegated (when b target) Nothing Untouched x ≡ cond b (with_target target x) x
 aimed_if true msi target x idle = step-aim msi target x idle
 aimed_if false msi target x idle = step-nothing msi x idle

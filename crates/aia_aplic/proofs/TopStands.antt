@@ -5,14 +5,14 @@ use Rattle.std.proofs.lemmas.Option.{slice_get-get_or}
 use Rattle.aia_word.specs.Top.{lets_through}
 use Rattle.aia_source.specs.Top.{Pair, lesser, least_pair, priority_of, hart_of, pair_if}
 use Rattle.aia_source.proofs.TopLemmas.{least_pair-none, least_pair-suc}
-use Rattle.aia_domain.specs.Entry.{new_entry, entry_at}
+use Rattle.aia_domain.specs.InterruptSource.{new_source, source_at}
 use Rattle.aia_domain.specs.Domain.{DomainState}
 use Rattle.aia_direct.specs.Idc.{IdcState, candidate, candidate_at, top_shown}
 use Rattle.aia_model.specs.declared.domain_name.DomainName.{DomainName}
 use Rattle.aia_model.specs.Act.{Past}
 use Rattle.aia_model.specs.SourceOf.{harts_in, sources_in, is_active_in, enabled, target, pending, delivers_by_msis, ithreshold_of, pair_in, top}
-use Rattle.aia_aplic.specs.Side.{entry_of, DomainStands}
-use Rattle.aia_aplic.proofs.Steps.{entry-idle}
+use Rattle.aia_aplic.specs.Side.{source_of, DomainStands}
+use Rattle.aia_aplic.proofs.Steps.{source-idle}
 
 least_same : (f g : ℕ → Option Pair) (from count : ℕ) → ((s : ℕ) → from ≤ s → s < from + count → f s ≡ g s) → least_pair f from count ≡ least_pair g from count
 least_same f g from zero same = least_pair-none f from ∙ sym (least_pair-none g from)
@@ -45,10 +45,10 @@ top-stands c d past name hart there stands limit =
     each : (s : ℕ) → 1 ≤ s → s < 1 + sources_in past → candidate_at d.sources hart c.ithreshold s ≡ pair_in (pending past name) past name hart s
     each s low high =
         let within : s < length d.sources = omega (arith, stands.count) in
-        let is : entry_at d.sources s ≡ entry_of past name s = stands.each s (entry_at d.sources s) (slice_get-get_or d.sources s new_entry within) in
-        ap (candidate hart c.ithreshold s) is ∙ ap (λ n. candidate hart n s (entry_of past name s)) limit
+        let is : source_at d.sources s ≡ source_of past name s = stands.each s (source_at d.sources s) (slice_get-get_or d.sources s new_source within) in
+        ap (candidate hart c.ithreshold s) is ∙ ap (λ n. candidate hart n s (source_of past name s)) limit
         ∙ same_pair (pending past name s) (enabled past name s) (nat_eq (hart_of (target past name s)) hart) (lets_through (ithreshold_of past name hart) (priority_of (target past name s))) (is_active_in past name s) (target past name s) s
-        ((entry-idle past name s).enabled)
+        ((source-idle past name s).enabled)
 
     least : least_pair (candidate_at d.sources hart c.ithreshold) 1 (length d.sources - 1) ≡ least_pair (pair_in (pending past name) past name hart) 1 (sources_in past)
     least = let n : length d.sources - 1 ≡ sources_in past = omega (arith, stands.count) in ap (least_pair (candidate_at d.sources hart c.ithreshold) 1) n ∙ least_same _ _ 1 (sources_in past) each

@@ -3,7 +3,7 @@
 use Rattle.std.specs.Prelude.{ℕ, Bool, true, false, nat_eq, if◌then◌else◌, List, get_or, Option, Some, None}
 use Rattle.aia_regs.specs.declared.domain_registers.DomainReg.{DomainReg}
 use Rattle.aia_regs.specs.declared.domain_registers.DomainReg.TheVariants.{IDelivery, IForce, IThreshold, TopI, ClaimI}
-use Rattle.aia_domain.specs.Entry.{EachAt}
+use Rattle.aia_domain.specs.InterruptSource.{EachAt}
 use Rattle.aia_domain.specs.Domain.{DomainState}
 use Rattle.aia_direct.specs.Idc.{IdcState, new_idc, control_written, control_claimed, top_shown}
 

@@ -1,6 +1,6 @@
 -- Which sources may be passed to guests, and what an aim of one does. Vocabulary.
 use Rattle.std.specs.Prelude.{◌≡◌, ◌≢◌, ℕ, Bool, true, false, ◌&&◌, ◌∷◌, if◌then◌else◌}
-use Rattle.aia_domain.specs.Entry.{is_active_at, target_at}
+use Rattle.aia_domain.specs.InterruptSource.{is_active_at, target_at}
 use Rattle.aia_model.specs.Act.{Past}
 use Rattle.aia_model.specs.Act.Act.{Aimed}
 use Rattle.aia_model.specs.AddressOf.{are_for_guests}

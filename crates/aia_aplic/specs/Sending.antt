@@ -1,6 +1,6 @@
 -- What the next MSI is, and what is left of those that wait. Vocabulary.
 use Rattle.std.specs.Prelude.{◌≡◌, ℕ, ◌+◌, ◌<◌, ◌≤◌, Bool, true, false, ◌||◌, count_by, if◌then◌else◌, List, [], ◌∷◌, Option, Some, None}
-use Rattle.aia_domain.specs.Entry.{waits}
+use Rattle.aia_domain.specs.InterruptSource.{waits}
 use Rattle.aia_domain.specs.Domain.{DomainState, is_ready}
 use Rattle.aia_model.specs.declared.msi.Msi.{Msi}
 use Rattle.aia_model.specs.Act.{Past}

@@ -1,7 +1,7 @@
 -- What a domain keeps with the delivery controls of its harts, and when it stands for a past.
 -- Vocabulary.
 use Rattle.std.specs.Prelude.{◌≡◌, ℕ, suc, Bool, nat_eq, List, length, All, slice_get, Some}
-use Rattle.aia_domain.specs.Entry.{EntryState}
+use Rattle.aia_domain.specs.InterruptSource.{InterruptSourceState}
 use Rattle.aia_domain.specs.Domain.{DomainState, IsNewDomain}
 use Rattle.aia_direct.specs.Idc.{IdcState, new_idc}
 use Rattle.aia_model.specs.declared.domain_name.DomainName.{DomainName}
@@ -10,8 +10,8 @@ use Rattle.aia_model.specs.declared.domain_name.DomainName.TheVariants.{Child}
 use Rattle.aia_model.specs.SourceOf.{harts_in, sources_in, wire_of, is_delegated, mode, is_on, delivers_by_msis, enabled, target, pending, genmsi_of, genmsi_waits, idelivery_of, iforce_of, ithreshold_of}
 
 -- What the past makes of a source in a domain.
-abbrev pub entry_of : Past → DomainName → ℕ → EntryState
-entry_of past d s = record {
+abbrev pub source_of : Past → DomainName → ℕ → InterruptSourceState
+source_of past d s = record {
   source = record { mode = mode past d s; wire = wire_of past s; pending = pending past d s };
   enabled = enabled past d s;
   target = target past d s;
@@ -27,7 +27,8 @@ pub record DomainStands (d : DomainState) (past : Past) (name : DomainName) : Ty
   pub genmsi : d.genmsi ≡ genmsi_of past name
   pub genmsi_waits : d.genmsi_waits ≡ genmsi_waits past name
   pub count : length d.sources ≡ suc (sources_in past)
-  pub each : (s : ℕ) (x : EntryState) → slice_get d.sources s ≡ Some x → x ≡ entry_of past name s
+  pub each : (s : ℕ) (x : InterruptSourceState) → slice_get d.sources s ≡ Some x
+      → x ≡ source_of past name s
 
 -- What the past makes of a hart's delivery control in a domain.
 abbrev pub control : Past → DomainName → ℕ → IdcState

@@ -16,7 +16,7 @@ ghost use Rattle.aia_aplic.specs.Bits.{AreSources, source_sender};
 
 use crate::bits::bits_search;
 use crate::guests::{are_for_guests, target_of};
-use crate::sender::{domain_of, msi_by, source_of};
+use crate::sender::{domain_of_sender, msi_by, source_of_sender};
 use crate::side::Side;
 use crate::view::ReadyView;
 use aia_model::{DomainName, Msi, Sender};
@@ -350,8 +350,8 @@ impl Aplic {
             AplicStands self.new (Sent sender ∷ past) }
         ensures fewer { waiting self.new < waiting self.old }
     {
-        let source = source_of(sender);
-        match domain_of(sender) {
+        let source = source_of_sender(sender);
+        match domain_of_sender(sender) {
             DomainName::Root => {
                 let register = self.root.send(sender);
                 msi_by(&self.addresses, DomainName::Root, register, source)

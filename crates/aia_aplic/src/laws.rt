@@ -11,7 +11,7 @@ ghost use Rattle.aia_source.specs.Top.{Pair};
 ghost use Rattle.aia_aplic.specs.Aplic.{AplicState, AplicStands};
 ghost use Rattle.aia_aplic.specs.Passing.{is_passable_source, hart_count, target_in, is_passable_in};
 ghost use Rattle.aia_aplic.specs.Tops.{IsOnTop};
-ghost use Rattle.aia_aplic.specs.Side.{entry_of};
+ghost use Rattle.aia_aplic.specs.Side.{source_of};
 ghost use Rattle.aia_regs.specs.declared.domain_registers.DomainReg.{DomainReg};
 ghost use Rattle.aia_regs.specs.declared.domain_registers.DomainReg.TheVariants.{SourceCfg};
 ghost use Rattle.aia_source.specs.Wired.{is_level};
@@ -68,7 +68,7 @@ pub fn to_delegate_again_changes_nothing()
         → sourcecfg_of (Written Root (SourceCfg i) v ∷ past) d s ≡ sourcecfg_of past d s }
     ensures sources { (past : Past) (i v : ℕ) (d : DomainName) (s : ℕ)
         → is_delegated past i ≡ true → delegates (root_sourcecfg v) ≡ true
-        → entry_of (Written Root (SourceCfg i) v ∷ past) d s ≡ entry_of past d s }
+        → source_of (Written Root (SourceCfg i) v ∷ past) d s ≡ source_of past d s }
 {}
 
 /// Whatever has happened, the child domain's register of a source that the root domain does not

@@ -10,7 +10,7 @@ use Rattle.aia_source.specs.Wired.SourceDeed.{Claimed}
 use Rattle.aia_source.proofs.TopLemmas.{least_found}
 use Rattle.aia_word.specs.Top.{lets_through}
 use Rattle.aia_waiting.specs.Order.{ordered}
-use Rattle.aia_domain.specs.Entry.{EntryState, entry_at, waits, waiting_pair_at, EachSource, changed_at, with_deed}
+use Rattle.aia_domain.specs.InterruptSource.{InterruptSourceState, source_at, waits, waiting_pair_at, EachSource, changed_at, with_deed}
 use Rattle.aia_domain.specs.Domain.{DomainState, candidates, IsPairOfSource}
 use Rattle.aia_direct.specs.Idc.{IdcState, candidate_at, top_shown, claimed_top}
 use Rattle.aia_direct.specs.Front.{if_through, through, first_through}
@@ -36,7 +36,7 @@ top_is_first c d hart = at d.msi (nat_le d.harts hart)
   where
     each : (s : ℕ) → through c.ithreshold (waiting_pair_at d.sources hart) s ≡ candidate_at d.sources hart c.ithreshold s
     each s =
-        let x = entry_at d.sources s in
+        let x = source_at d.sources s in
         held_pair (waits x && nat_eq (hart_of x.target) hart) c.ithreshold x.target s
         ∙ ap (λ b. pair_if b x.target s) (all_four x.source.pending x.enabled (nat_eq (hart_of x.target) hart) (lets_through c.ithreshold (priority_of x.target)))
 
@@ -44,7 +44,7 @@ top_is_first c d hart = at d.msi (nat_le d.harts hart)
     same = λ i s. each s i
 
     least : least_pair (candidate_at d.sources hart c.ithreshold) 1 (length d.sources - 1) ≡ first_through c.ithreshold (ordered (waiting_pair_at d.sources hart) 1 (length d.sources - 1))
-    least = sym (first_is_least c.ithreshold (waiting_pair_at d.sources hart) 1 (length d.sources - 1) (λ s q. pair_names _ (entry_at d.sources s).target s q) ∙ ap (λ f. least_pair f 1 (length d.sources - 1)) same)
+    least = sym (first_is_least c.ithreshold (waiting_pair_at d.sources hart) 1 (length d.sources - 1) (λ s q. pair_names _ (source_at d.sources s).target s q) ∙ ap (λ f. least_pair f 1 (length d.sources - 1)) same)
 
     at : (msi away : Bool) → cond (msi || away) None (least_pair (candidate_at d.sources hart c.ithreshold) 1 (length d.sources - 1)) ≡ first_through c.ithreshold (cond away [] (cond msi [] (ordered (waiting_pair_at d.sources hart) 1 (length d.sources - 1))))
     at true true = refl
@@ -58,7 +58,7 @@ some_on_top c d hart p = at (d.msi || nat_le d.harts hart)
   where
     at : (b : Bool) → cond b None (least_pair (candidate_at d.sources hart c.ithreshold) 1 (length d.sources - 1)) ≡ Some p → 1 ≤ p.1
     at true e = absurd (none-some p e)
-    at false e = (least_found (candidate_at d.sources hart c.ithreshold) 1 (length d.sources - 1) p (λ s q. pair_names _ (entry_at d.sources s).target s q) e).low
+    at false e = (least_found (candidate_at d.sources hart c.ithreshold) 1 (length d.sources - 1) p (λ s q. pair_names _ (source_at d.sources s).target s q) e).low
 
 -- ---- what topi shows of it
 
@@ -92,9 +92,9 @@ pub some_claimed : (c : IdcState) (d : DomainState) (hart top : ℕ) → top ≡
 some_claimed c d hart top = number_told top (top_shown c d hart)
 
 -- and where nothing is on top, a claim changes no source
-unchanged : (s : ℕ) (x : Option EntryState) → x ≡ option_map (claimed_top None s) x
+unchanged : (s : ℕ) (x : Option InterruptSourceState) → x ≡ option_map (claimed_top None s) x
 unchanged s None = refl
 unchanged s (Some x) = refl
 
-pub none_claimed : (o : Option Pair) (sources : List EntryState) → o ≡ None → EachSource sources sources (claimed_top o)
+pub none_claimed : (o : Option Pair) (sources : List InterruptSourceState) → o ≡ None → EachSource sources sources (claimed_top o)
 none_claimed o sources none s = unchanged s (slice_get sources s) ∙ ap (λ (p : Option Pair). option_map (claimed_top p s) (slice_get sources s)) (sym none)

@@ -8,7 +8,7 @@ use Rattle.aia_regs.specs.Operations.{is_one}
 use Rattle.aia_source.specs.Wired.SourceDeed.{Claimed}
 use Rattle.aia_source.specs.Top.{Pair, least_pair, priority_of, hart_of, pair_if, is_top}
 use Rattle.aia_word.specs.Top.{lets_through}
-use Rattle.aia_domain.specs.Entry.{EntryState, with_deed, entry_at}
+use Rattle.aia_domain.specs.InterruptSource.{InterruptSourceState, with_deed, source_at}
 use Rattle.aia_domain.specs.Domain.{DomainState}
 
 -- idelivery, iforce and ithreshold.
@@ -39,13 +39,13 @@ control_written reg v c = c
 
 -- The pair of a source, where it is pending, enabled and aimed at the hart, and the threshold lets
 -- its priority through.
-abbrev pub candidate : ℕ → ℕ → ℕ → EntryState → Option Pair
+abbrev pub candidate : ℕ → ℕ → ℕ → InterruptSourceState → Option Pair
 candidate hart threshold s x =
     pair_if (x.source.pending && x.enabled && nat_eq (hart_of x.target) hart
     && lets_through threshold (priority_of x.target)) x.target s
 
-abbrev pub candidate_at : List EntryState → ℕ → ℕ → ℕ → Option Pair
-candidate_at sources hart threshold s = candidate hart threshold s (entry_at sources s)
+abbrev pub candidate_at : List InterruptSourceState → ℕ → ℕ → ℕ → Option Pair
+candidate_at sources hart threshold s = candidate hart threshold s (source_at sources s)
 
 -- The least pair of the domain's sources; none where the domain delivers by MSIs, and for a hart
 -- that isn't there.
@@ -58,7 +58,7 @@ top_shown c d hart =
 -- ---- a claim and the signal
 
 -- What a claim makes of a source, given what is on top: it claims the source that is shown.
-abbrev pub claimed_top : Option Pair → ℕ → EntryState → EntryState
+abbrev pub claimed_top : Option Pair → ℕ → InterruptSourceState → InterruptSourceState
 claimed_top top s x = if is_top top s then with_deed false Claimed x else x
 
 -- What it makes of the control: where it shows nothing in a domain that delivers directly, iforce
