@@ -4,12 +4,11 @@ use Rattle.std.proofs.lemmas.Bool.{cases_eq, cases_lt, eq-eqb, ne_eqb, cond-true
 use Rattle.std.proofs.lemmas.Bool.Decides.{nat_tests}
 use Rattle.std.specs.Option.{option_map_or}
 use Rattle.std.proofs.lemmas.Option.{slice_get_past, slice_get-get_or}
-use Rattle.aia_word.specs.Sets.{word_of}
+use Rattle.aia_word.specs.Sets.{has_bit, word_of}
 use Rattle.std.specs.Int.{is_in_range}
 use Rattle.aia_regs.specs.declared.domain_registers.DomainReg.{DomainReg}
 use Rattle.aia_regs.specs.declared.domain_registers.DomainReg.TheVariants.{DomainCfg, SourceCfg, SetIp, InClrIp, SetIe, GenMsi, Target, IDelivery, IForce, IThreshold, TopI, ClaimI}
 use Rattle.aia_regs.specs.Fields.{field}
-use Rattle.aia_regs.specs.Operations.{is_one}
 use Rattle.aia_source.specs.declared.mode.Mode.{Mode}
 use Rattle.aia_source.specs.declared.mode.Mode.TheVariants.{Inactive, Detached, RisingEdge, FallingEdge, LevelHigh, LevelLow}
 use Rattle.aia_source.specs.Wired.{is_active, rectified}
@@ -117,7 +116,7 @@ legal_low (suc (suc (suc (suc (suc (suc (suc zero))))))) h = (refl, refl)
 legal_low (suc (suc (suc (suc (suc (suc (suc (suc sm)))))))) h = absurd (omega arith)
 
 legal_root : (v : ℕ) → IsLegal (root_sourcecfg v)
-legal_root v = at (is_one v 10) (nat_eq (field v 9 0) 0)
+legal_root v = at (has_bit v 10) (nat_eq (field v 9 0) 0)
   where
     at : (a b : Bool) → IsLegal (cond a (cond b DELEGATED 0) (legal_mode (field v 2 0)))
     at true true = refl
@@ -125,7 +124,7 @@ legal_root v = at (is_one v 10) (nat_eq (field v 9 0) 0)
     at false b = let low = legal_low (field v 2 0) (omega arith) in low.1 ∙ sym (cond-false _ _ _ low.0)
 
 legal_child : (v : ℕ) → (mode_number (mode_of (child_sourcecfg v)) ≡ child_sourcecfg v)
-legal_child v = at (is_one v 10)
+legal_child v = at (has_bit v 10)
   where
     at : (a : Bool) → mode_number (mode_of (cond a 0 (legal_mode (field v 2 0)))) ≡ cond a 0 (legal_mode (field v 2 0))
     at true = refl

@@ -4,7 +4,7 @@ use Rattle.std.specs.Prelude.{ℕ, ◌-◌, Bool, false, not, ◌&&◌, ◌||◌
 use Rattle.aia_regs.specs.declared.domain_registers.DomainReg.{DomainReg}
 use Rattle.aia_regs.specs.declared.domain_registers.DomainReg.TheVariants.{IDelivery, IForce, IThreshold}
 use Rattle.aia_regs.specs.Fields.{field, bit_number}
-use Rattle.aia_regs.specs.Operations.{is_one}
+use Rattle.aia_word.specs.Sets.{has_bit}
 use Rattle.aia_source.specs.Wired.SourceDeed.{Claimed}
 use Rattle.aia_source.specs.Top.{Pair, least_pair, priority_of, hart_of, pair_if, is_top}
 use Rattle.aia_word.specs.Top.{lets_through}
@@ -30,8 +30,8 @@ control_read c (IThreshold hart) = c.ithreshold
 control_read c reg = 0
 
 abbrev pub control_written : DomainReg → ℕ → IdcState → IdcState
-control_written (IDelivery hart) v c = record c { idelivery = is_one v 0 }
-control_written (IForce hart) v c = record c { iforce = is_one v 0 }
+control_written (IDelivery hart) v c = record c { idelivery = has_bit v 0 }
+control_written (IForce hart) v c = record c { iforce = has_bit v 0 }
 control_written (IThreshold hart) v c = record c { ithreshold = field v 7 0 }
 control_written reg v c = c
 

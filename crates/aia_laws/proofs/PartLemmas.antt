@@ -4,10 +4,9 @@ use Rattle.std.specs.Int.{is_in_range}
 use Rattle.std.specs.List.{AllByRecursion}
 use Rattle.std.proofs.lemmas.Bool.{and_from, eq-eqb, lt-ltb, le-leb, ltb-true, false≢true}
 use Rattle.std.proofs.lemmas.Bool.Decides.{nat_tests}
-use Rattle.aia_word.specs.Sets.{word_of}
+use Rattle.aia_word.specs.Sets.{has_bit, word_of}
 use Rattle.aia_word.proofs.SetLemmas.{has_bit-word_of, word_of-lt}
 use Rattle.aia_regs.specs.Fields.{bit_number}
-use Rattle.aia_regs.specs.Operations.{is_one}
 use Rattle.aia_file.specs.InterruptFile.{is_greatest_identity}
 use Rattle.aia_major.specs.VsMajor.{majors_word, fits_hvip, fits_hviprio1, fits_hvictl}
 use Rattle.aia_major.proofs.RegisterLemmas.{majors_word-bit}
@@ -52,13 +51,13 @@ no_zero members n fits = by_test (members 0) refl
     by_test false e = e
     by_test true e = absurd (false≢true (fits 0 e))
 
-first_bit : (members : ℕ → Bool) (n : ℕ) → ((i : ℕ) → members i ≡ true → is_in_range 1 n i ≡ true) → not (is_one (word_of members 0 64) 0) ≡ true
+first_bit : (members : ℕ → Bool) (n : ℕ) → ((i : ℕ) → members i ≡ true → is_in_range 1 n i ≡ true) → not (has_bit (word_of members 0 64) 0) ≡ true
 first_bit members n fits = ap not (has_bit-word_of members 0 64 0 (omega arith) ∙ no_zero members n fits)
 
 no_identity_zero : (x : GuestState) (w : ℕ) → IsState x
-    → (nat_lt 0 w || (not (is_one (word_of x.file.pending (64 * w) 64) 0) && not (is_one (word_of x.file.enabled (64 * w) 64) 0))) ≡ true
+    → (nat_lt 0 w || (not (has_bit (word_of x.file.pending (64 * w) 64) 0) && not (has_bit (word_of x.file.enabled (64 * w) 64) 0))) ≡ true
 no_identity_zero x zero is = and_from _ _ (first_bit x.file.pending x.file.n is.pending) (first_bit x.file.enabled x.file.n is.enabled)
-no_identity_zero x (suc w) is = ap (λ b. b || (not (is_one (word_of x.file.pending (64 * suc w) 64) 0) && not (is_one (word_of x.file.enabled (64 * suc w) 64) 0))) (lt-ltb 0 (suc w) (omega arith))
+no_identity_zero x (suc w) is = ap (λ b. b || (not (has_bit (word_of x.file.pending (64 * suc w) 64) 0) && not (has_bit (word_of x.file.enabled (64 * suc w) 64) 0))) (lt-ltb 0 (suc w) (omega arith))
 
 pub part_loadable : (x : GuestState) (k : ℕ) → IsState x → k < parts_of x → is_loadable x.file.n (part_of x k) ≡ true
 part_loadable x zero is low =

@@ -7,7 +7,8 @@ use Rattle.std.specs.Int.{is_in_range}
 use Rattle.aia_regs.specs.declared.access.Op.{Op}
 use Rattle.aia_regs.specs.BitUpdate.{BitUpdate, set_after}
 use Rattle.aia_regs.specs.BitUpdate.BitUpdate.{Ask, Clear, Nothing}
-use Rattle.aia_regs.specs.Operations.{bit_said, is_one}
+use Rattle.aia_word.specs.Sets.{has_bit}
+use Rattle.aia_regs.specs.Operations.{bit_said}
 use Rattle.aia_regs.specs.Fields.{field, with_field, bit_number}
 
 -- ---- what is kept
@@ -37,16 +38,16 @@ is_guests_own j = nat_eq j 1 || nat_eq j 13
 -- ---- the fields of hvictl
 
 abbrev pub vti_of : ℕ → Bool
-vti_of hvictl = is_one hvictl 30
+vti_of hvictl = has_bit hvictl 30
 
 abbrev pub iid_of : ℕ → ℕ
 iid_of hvictl = field hvictl 27 16
 
 abbrev pub dpr_of : ℕ → Bool
-dpr_of hvictl = is_one hvictl 9
+dpr_of hvictl = has_bit hvictl 9
 
 abbrev pub ipriom_of : ℕ → Bool
-ipriom_of hvictl = is_one hvictl 8
+ipriom_of hvictl = has_bit hvictl 8
 
 abbrev pub iprio_of : ℕ → ℕ
 iprio_of hvictl = field hvictl 7 0
@@ -111,7 +112,7 @@ with_hvictl v m = record m { hvictl = hvictl_kept v }
 -- hvip is written whole: the majors are injected whose bits of the value are ones.
 -- The hypervisor extension 1.0: hvip.
 abbrev pub with_hvip : ℕ → VsMajorState → VsMajorState
-with_hvip v m = record m { injected = λ j. if is_major j then is_one v j else m.injected j }
+with_hvip v m = record m { injected = λ j. if is_major j then has_bit v j else m.injected j }
 
 -- ---- what sip and sie read
 
@@ -129,7 +130,7 @@ majors_word members =
 
 -- Whether hvip and sie may hold a number: its ones are majors alone.
 abbrev pub fits_hvip : ℕ → Bool
-fits_hvip v = nat_eq (majors_word (is_one v)) v
+fits_hvip v = nat_eq (majors_word (has_bit v)) v
 
 abbrev pub sip_value : VsMajorState → Bool → ℕ
 sip_value m signal = majors_word (is_pending m signal)
