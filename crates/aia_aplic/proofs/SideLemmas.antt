@@ -8,7 +8,7 @@ use Rattle.aia_regs.specs.Fields.{field}
 use Rattle.aia_source.specs.Registers.{delegates, root_sourcecfg}
 use Rattle.aia_source.specs.Top.{Pair, topi_value}
 use Rattle.aia_source.specs.Wired.SourceDeed.{Forwarded}
-use Rattle.aia_domain.specs.InterruptSource.{EachSource, granted_at, changed_at, wired, with_deed}
+use Rattle.aia_domain.specs.InterruptSource.{EachSource, changed_if_named, granted, changed_at, wired, with_deed}
 use Rattle.aia_domain.specs.Domain.{DomainState, with_sources, source_after, domain_after, is_ready}
 use Rattle.aia_regs.specs.Fields.{bit_number}
 use Rattle.aia_direct.specs.Idc.{IdcState, new_idc, control_read, control_claimed, claimed_top, top_shown, signals_hart}
@@ -73,7 +73,7 @@ child-side_other reg v a past other stands = record {
   controls = controls-still (Written Root reg v) a.controls past Child (harts_written Root reg v past) (λ h low. child_at_root_write reg v past h) stands.controls;
 }
 
-pub child-side_written : (reg : DomainReg) (i v : ℕ) (given : Bool) (a : SideState) (e : DomainState) (past : Past) → reg ≡ SourceCfg i → given ≡ delegates (root_sourcecfg v) → EachSource a.domain.sources e.sources (granted_at i given a.domain.msi)
+pub child-side_written : (reg : DomainReg) (i v : ℕ) (given : Bool) (a : SideState) (e : DomainState) (past : Past) → reg ≡ SourceCfg i → given ≡ delegates (root_sourcecfg v) → EachSource a.domain.sources e.sources (changed_if_named i (granted given a.domain.msi))
     → e ≡ with_sources a.domain e.sources → SideStands a past Child → SideStands (record { domain = e; controls = a.controls }) (Written Root reg v ∷ past) Child
 child-side_written reg i v given a e past is gives each rest stands = record {
   domain = child-stands_written reg i v given a.domain e past is gives each rest stands.domain;

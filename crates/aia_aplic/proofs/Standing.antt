@@ -8,7 +8,7 @@ use Rattle.aia_regs.specs.declared.domain_registers.DomainReg.TheVariants.{Domai
 use Rattle.aia_regs.specs.BitUpdate.{settle}
 use Rattle.aia_regs.specs.BitUpdate.BitUpdate.{Ask, Clear, Nothing}
 use Rattle.aia_source.specs.Registers.{domaincfg_kept, enables, is_by_msi, root_sourcecfg, delegates, genmsi_kept, same_bool}
-use Rattle.aia_domain.specs.InterruptSource.{InterruptSourceState, new_source, with_deed, wired, changed_at, granted_at, EachSource}
+use Rattle.aia_domain.specs.InterruptSource.{InterruptSourceState, new_source, with_deed, wired, changed_at, changed_if_named, granted, EachSource}
 use Rattle.aia_domain.specs.Domain.{DomainState, IsNewDomain, with_sources, source_changed, source_after, domaincfg_written, domain_after}
 use Rattle.aia_model.specs.declared.domain_name.DomainName.{DomainName}
 use Rattle.aia_model.specs.Act.{Act, Past, is_domain, newest, when}
@@ -113,18 +113,18 @@ pub child-stands_other : (reg : DomainReg) (v : ℕ) (d : DomainState) (past : P
 child-stands_other reg v d past other stands =
     still-stands (Written Root reg v) d past Child (keeps_quiet (Written Root reg v) d d past Child (quiet_child reg v past) refl stands) (λ s low. child_at_root_written reg v past s (no_config reg other)) stands
 
-granted-stands : (i v : ℕ) (d e : DomainState) (past : Past) → EachSource d.sources e.sources (granted_at i (delegates (root_sourcecfg v)) d.msi) → e ≡ with_sources d e.sources
+granted-stands : (i v : ℕ) (d e : DomainState) (past : Past) → EachSource d.sources e.sources (changed_if_named i (granted (delegates (root_sourcecfg v)) d.msi)) → e ≡ with_sources d e.sources
     → DomainStands d past Child → DomainStands e (Written Root (SourceCfg i) v ∷ past) Child
 granted-stands i v d e past each rest stands =
-    stands-after (Written Root (SourceCfg i) v) d e past Child (granted_at i (delegates (root_sourcecfg v)) d.msi) (keeps_quiet (Written Root (SourceCfg i) v) d e past Child (quiet_child (SourceCfg i) v past) rest stands) each
-    (λ s low. ap (λ m. granted_at i (delegates (root_sourcecfg v)) m s (source_of past Child s)) stands.msi ∙ sym (child_at_root_config i v past s low)) stands
+    stands-after (Written Root (SourceCfg i) v) d e past Child (changed_if_named i (granted (delegates (root_sourcecfg v)) d.msi)) (keeps_quiet (Written Root (SourceCfg i) v) d e past Child (quiet_child (SourceCfg i) v past) rest stands) each
+    (λ s low. ap (λ m. changed_if_named i (granted (delegates (root_sourcecfg v)) m) s (source_of past Child s)) stands.msi ∙ sym (child_at_root_config i v past s low)) stands
 
 -- a sourcecfg of the root domain is written, and the child domain gets the source or loses it
-pub child-stands_written : (reg : DomainReg) (i v : ℕ) (given : Bool) (d e : DomainState) (past : Past) → reg ≡ SourceCfg i → given ≡ delegates (root_sourcecfg v) → EachSource d.sources e.sources (granted_at i given d.msi) → e ≡ with_sources d e.sources
+pub child-stands_written : (reg : DomainReg) (i v : ℕ) (given : Bool) (d e : DomainState) (past : Past) → reg ≡ SourceCfg i → given ≡ delegates (root_sourcecfg v) → EachSource d.sources e.sources (changed_if_named i (granted given d.msi)) → e ≡ with_sources d e.sources
     → DomainStands d past Child → DomainStands e (Written Root reg v ∷ past) Child
 child-stands_written reg i v given d e past is gives each rest stands =
     subst (λ (r : DomainReg). DomainStands e (Written Root r v ∷ past) Child) (sym is)
-    (granted-stands i v d e past (subst (λ g. EachSource d.sources e.sources (granted_at i g d.msi)) gives each) rest stands)
+    (granted-stands i v d e past (subst (λ g. EachSource d.sources e.sources (changed_if_named i (granted g d.msi))) gives each) rest stands)
 
 -- ---- a write in its own domain
 

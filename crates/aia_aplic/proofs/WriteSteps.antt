@@ -14,7 +14,7 @@ use Rattle.aia_source.specs.declared.kept.TheConstants.{DELEGATED}
 use Rattle.aia_source.specs.Registers.{domaincfg_kept, is_by_msi, root_sourcecfg, child_sourcecfg, delegates, mode_of, touch, deed_of_touch, enable_of_touch, first_target, target_kept, same_bool, is_number_of}
 use Rattle.aia_source.specs.declared.touch.Touch.{Touch}
 use Rattle.aia_source.specs.declared.touch.Touch.TheVariants.{SetPending, ClearPending, SetEnable, ClearEnable}
-use Rattle.aia_domain.specs.InterruptSource.{InterruptSourceState, with_deed, touched, configured, switched, sourcecfg_written, granted, granted_at}
+use Rattle.aia_domain.specs.InterruptSource.{InterruptSourceState, with_deed, touched, configured, switched, sourcecfg_written, granted, changed_if_named}
 use Rattle.aia_domain.specs.Domain.{source_changed}
 use Rattle.aia_model.specs.Act.{Past, newest, when}
 use Rattle.aia_model.specs.declared.domain_name.DomainName.TheVariants.{Root, Child}
@@ -187,7 +187,7 @@ child-kept true msi is was kept c c1 x idle e g w k none = ap (λ j. stepped (mo
 child-kept false msi is was kept c c1 x idle e g w k none = ap (λ m. stepped m x.source.wire msi msi (nat_eq c1 DELEGATED) None Nothing Untouched x) (sym e) ∙ ap (λ j. stepped x.source.mode x.source.wire msi msi j None Nothing Untouched x) (sym w ∙ sym g) ∙ step-nothing msi x idle
 
 pub child_at_root_config : (i v : ℕ) (past : Past) (s : ℕ) → s < suc (sources_in past)
-    → source_of (Written Root (SourceCfg i) v ∷ past) Child s ≡ granted_at i (delegates (root_sourcecfg v)) (delivers_by_msis past Child) s (source_of past Child s)
+    → source_of (Written Root (SourceCfg i) v ∷ past) Child s ≡ changed_if_named i (granted (delegates (root_sourcecfg v)) (delivers_by_msis past Child)) s (source_of past Child s)
 unfolding newest wire_of
 child_at_root_config i v past s there =
     source-step (Written Root (SourceCfg i) v) past Child s

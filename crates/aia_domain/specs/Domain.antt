@@ -9,7 +9,7 @@ use Rattle.aia_source.specs.Registers.{domaincfg_kept, domaincfg_read, enables, 
 use Rattle.aia_regs.specs.declared.limits.TheConstants.{SOURCES}
 use Rattle.aia_source.specs.Top.{Pair}
 use Rattle.aia_domain.specs.declared.interrupt_source.SourceBit.TheVariants as bits
-use Rattle.aia_domain.specs.InterruptSource.{InterruptSourceState, new_source, changed_at, written_at, touched, switched, aimed, waits_at, pairs_for, sourcecfg_at, target_at, bit_at_source}
+use Rattle.aia_domain.specs.InterruptSource.{InterruptSourceState, new_source, changed_at, changed_if_named, touched, switched, aimed, sourcecfg_written, waits_at, pairs_for, sourcecfg_at, target_at, bit_at_source}
 
 -- Whether it is a leaf of the tree of domains, which has no child; how many harts there are; IE and
 -- DM; genmsi, and whether an MSI that it asked for is still to be sent; the sources.
@@ -50,7 +50,8 @@ configured_by cfg msi s x = if same_bool msi (is_by_msi cfg) then x else switche
 abbrev pub source_changed : Bool → ℕ → Bool → DomainReg → ℕ → ℕ → InterruptSourceState
     → InterruptSourceState
 source_changed leaf harts msi DomainCfg v s x = configured_by (domaincfg_kept v) msi s x
-source_changed leaf harts msi (SourceCfg i) v s x = written_at i leaf msi v s x
+source_changed leaf harts msi (SourceCfg i) v s x =
+    changed_if_named i (sourcecfg_written leaf msi v) s x
 source_changed leaf harts msi (Target i) v s x = changed_at i (aimed harts msi v) s x
 source_changed leaf harts msi reg v s x = touched msi (touch reg v s) x
 

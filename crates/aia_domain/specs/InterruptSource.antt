@@ -145,14 +145,6 @@ abbrev pub changed_if_named : ℕ → (InterruptSourceState → InterruptSourceS
     → InterruptSourceState → InterruptSourceState
 changed_if_named at change s x = if is_number_of at s then change x else x
 
--- The sourcecfg of a source is written; number 0 names no source.
-abbrev pub written_at : ℕ → Bool → Bool → ℕ → ℕ → InterruptSourceState → InterruptSourceState
-written_at at leaf msi v s x = if is_number_of at s then sourcecfg_written leaf msi v x else x
-
--- The child domain gets a source, or loses it; number 0 names no source.
-abbrev pub granted_at : ℕ → Bool → Bool → ℕ → InterruptSourceState → InterruptSourceState
-granted_at at given msi s x = if is_number_of at s then granted given msi x else x
-
 -- The delivery mode of the domain is now this one.
 abbrev pub all_switched : Bool → ℕ → InterruptSourceState → InterruptSourceState
 all_switched msi s x = switched msi x

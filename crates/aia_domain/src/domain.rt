@@ -4,7 +4,7 @@ ghost use Rattle.aia_regs.specs.declared.limits.TheConstants.{HARTS, SOURCES, SO
 ghost use Rattle.aia_waiting.specs.Order.{IsRising};
 ghost use Rattle.aia_source.specs.Registers.{enables, is_by_msi, same_bool};
 ghost use Rattle.aia_source.specs.Wired.SourceDeed.{Claimed, Forwarded};
-ghost use Rattle.aia_domain.specs.InterruptSource.{EachSource, changed_at, granted_at, wired, with_deed, with_target, source_at, bit_at_source, is_active_at, target_at};
+ghost use Rattle.aia_domain.specs.InterruptSource.{EachSource, changed_at, changed_if_named, granted, wired, with_deed, with_target, source_at, bit_at_source, is_active_at, target_at};
 ghost use Rattle.aia_domain.specs.Domain.{IsNewDomain, with_sources, configured_by, source_after, domain_after, domaincfg_written, domain_read, is_ready, ready_from, candidates, IsPairOfSource};
 
 use crate::by_number::{is_active_at, is_waiting, sourcecfg_at, target_at, word_shown};
@@ -174,7 +174,7 @@ impl Domain {
     /// source begins inactive here.
     pub fn grant(&mut self, s: u32)
         ensures sources { EachSource self.old.sources self.new.sources
-            (granted_at s Bool.true self.old.msi) }
+            (changed_if_named s (granted Bool.true self.old.msi)) }
         ensures domain { self.new ≡ with_sources self.old self.new.sources }
     {
         self.sources.change_named(s, Change::Grant(true));
@@ -184,7 +184,7 @@ impl Domain {
     /// the source is inactive here from now on.
     pub fn withdraw(&mut self, s: u32)
         ensures sources { EachSource self.old.sources self.new.sources
-            (granted_at s Bool.false self.old.msi) }
+            (changed_if_named s (granted Bool.false self.old.msi)) }
         ensures domain { self.new ≡ with_sources self.old self.new.sources }
     {
         self.sources.change_named(s, Change::Grant(false));
