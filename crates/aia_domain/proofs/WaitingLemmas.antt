@@ -9,8 +9,8 @@ use Rattle.aia_regs.specs.declared.limits.TheConstants.{SOURCES}
 use Rattle.aia_waiting.specs.Order.{CandidatesState, IsRising, ordered, put_if, out_if}
 use Rattle.aia_waiting.proofs.OrderedLemmas.{ordered-none, ordered-suc, ordered_same, ordered_changed, ordered_length, ordered_room, ordered_rising, ordered_all}
 use Rattle.aia_domain.specs.declared.interrupt_source.Aim.{Aim}
-use Rattle.aia_domain.specs.InterruptSource.{InterruptSourceState, new_source, EachAt, EachSource, changed_at, source_at, waits, waits_at, waiting_pair, waiting_pair_at}
-use Rattle.aia_domain.specs.Waiting.{SourcesState, list_of, WaitingState, IsWhatWaits, HasRoom, aim_of, aim_at, aimed_pair, renewed, with_pair, AllHave, HaveRoom}
+use Rattle.aia_domain.specs.InterruptSource.{InterruptSourceState, new_source, EachAt, EachSource, changed_at, source_at, waits, waits_at, waiting_pair, waiting_pair_at, candidates_of}
+use Rattle.aia_domain.specs.Waiting.{SourcesState, WaitingState, IsWhatWaits, HasRoom, aim_of, aim_at, aimed_pair, renewed, with_pair, AllHave, HaveRoom}
 use Rattle.aia_domain.specs.Domain.{IsPairOfSource}
 use Rattle.aia_domain.proofs.EachLemmas.{each-length}
 
@@ -218,7 +218,7 @@ small_pair sources hart s p low is = at _ is
     at false e = absurd (none-some p e)
     at true e = let same = same_Some _ _ e in subst IsPairOfSource same (omega arith, low)
 
-pub list_rising : (x : SourcesState) (hart : ℕ) → IsRising (list_of x hart)
+pub list_rising : (x : SourcesState) (hart : ℕ) → IsRising (candidates_of x.harts x.msi x.sources hart)
 list_rising x hart = at (nat_le x.harts hart) x.msi
   where
     at : (b m : Bool) → IsRising (cond b [] (cond m [] (ordered (waiting_pair_at x.sources hart) 1 (length x.sources - 1))))
@@ -226,7 +226,7 @@ list_rising x hart = at (nat_le x.harts hart) x.msi
     at false true = λ i j d low within. absurd (omega arith)
     at false false = ordered_rising (waiting_pair_at x.sources hart) 1 (length x.sources - 1)
 
-pub list_small : (x : SourcesState) (hart : ℕ) → length x.sources ≤ suc SOURCES → All IsPairOfSource (list_of x hart)
+pub list_small : (x : SourcesState) (hart : ℕ) → length x.sources ≤ suc SOURCES → All IsPairOfSource (candidates_of x.harts x.msi x.sources hart)
 list_small x hart few = at (nat_le x.harts hart) x.msi
   where
     at : (b m : Bool) → All IsPairOfSource (cond b [] (cond m [] (ordered (waiting_pair_at x.sources hart) 1 (length x.sources - 1))))

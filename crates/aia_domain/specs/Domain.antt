@@ -1,6 +1,6 @@
 -- A domain as it is kept: what a store makes of it, and what a load reads.
 -- AIA 1.0, APLIC, where no comment names another source; a heading of that chapter is named alone.
-use Rattle.std.specs.Prelude.{◌≡◌, ℕ, suc, ◌-◌, ◌*◌, ◌^◌, ◌<◌, ◌≤◌, Bool, true, false, ◌&&◌, nat_le, if◌then◌else◌, List, [], length, All, filter}
+use Rattle.std.specs.Prelude.{◌≡◌, ℕ, suc, ◌-◌, ◌*◌, ◌^◌, ◌<◌, ◌≤◌, Bool, true, false, ◌&&◌, if◌then◌else◌, List, length, All, filter}
 use Rattle.std.specs.List.{range_with_len}
 use Rattle.aia_word.specs.Sets.{word_of}
 use Rattle.aia_regs.specs.declared.domain_registers.DomainReg.{DomainReg}
@@ -9,7 +9,7 @@ use Rattle.aia_source.specs.Registers.{domaincfg_kept, domaincfg_read, enables, 
 use Rattle.aia_regs.specs.declared.limits.TheConstants.{SOURCES}
 use Rattle.aia_source.specs.Top.{Pair}
 use Rattle.aia_domain.specs.declared.interrupt_source.SourceBit.TheVariants as bits
-use Rattle.aia_domain.specs.InterruptSource.{InterruptSourceState, new_source, changed_at, changed_if_named, touched, switched, aimed, sourcecfg_written, waits_at, pairs_for, sourcecfg_at, target_at, bit_at_source}
+use Rattle.aia_domain.specs.InterruptSource.{InterruptSourceState, new_source, changed_at, changed_if_named, touched, switched, aimed, sourcecfg_written, waits_at, candidates_of, sourcecfg_at, target_at, bit_at_source}
 
 -- Whether it is a leaf of the tree of domains, which has no child; how many harts there are; IE and
 -- DM; genmsi, and whether an MSI that it asked for is still to be sent; the sources.
@@ -109,7 +109,7 @@ ready_from d from = filter (is_ready d) (range_with_len from (length d.sources -
 -- order; none where the domain delivers by MSIs, and where the hart isn't there.
 -- "Interrupt delivery directly by the APLIC".
 abbrev pub candidates : DomainState → ℕ → List Pair
-candidates d hart = if nat_le d.harts hart then [] else pairs_for d.msi d.sources hart
+candidates d hart = candidates_of d.harts d.msi d.sources hart
 
 -- A pair that a register has room for: 8 bits of priority, and a number of a source that may be
 -- there.

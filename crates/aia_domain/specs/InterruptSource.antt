@@ -1,6 +1,6 @@
 -- What a domain keeps of one source, and what is done to it.
 -- AIA 1.0, APLIC, where no comment names another source.
-use Rattle.std.specs.Prelude.{◌≡◌, ℕ, Bool, true, false, not, ◌&&◌, nat_eq, if◌then◌else◌, ◌-◌, List, [], length, slice_get, get_or, Option, Some, None, option_map}
+use Rattle.std.specs.Prelude.{◌≡◌, ℕ, Bool, true, false, not, ◌&&◌, nat_eq, nat_le, if◌then◌else◌, ◌-◌, List, [], length, slice_get, get_or, Option, Some, None, option_map}
 use Rattle.std.specs.Option.{option_map_or}
 use Rattle.aia_source.specs.declared.mode.Mode.{Mode}
 use Rattle.aia_source.specs.declared.mode.Mode.TheVariants.{Inactive}
@@ -170,6 +170,11 @@ waiting_pair_at sources hart s = waiting_pair hart s (source_at sources s)
 abbrev pub pairs_for : Bool → List InterruptSourceState → ℕ → List Pair
 pairs_for msi sources hart =
     if msi then [] else ordered (waiting_pair_at sources hart) 1 (length sources - 1)
+
+-- The same in a domain of so many harts: none for a hart that isn't there.
+abbrev pub candidates_of : ℕ → Bool → List InterruptSourceState → ℕ → List Pair
+candidates_of harts msi sources hart =
+    if nat_le harts hart then [] else pairs_for msi sources hart
 
 abbrev pub sourcecfg_at : List InterruptSourceState → Bool → ℕ → ℕ
 sourcecfg_at sources leaf s = option_map_or (sourcecfg_shown leaf) (slice_get sources s) 0

@@ -1,5 +1,5 @@
 -- What is kept of a domain's sources beside them: which wait, in order. Vocabulary.
-use Rattle.std.specs.Prelude.{◌≡◌, ℕ, suc, ◌-◌, ◌<◌, Bool, true, false, All, ◌&&◌, nat_eq, nat_le, is_some, if◌then◌else◌, List, [], length, slice_get, Option, Some, None}
+use Rattle.std.specs.Prelude.{◌≡◌, ℕ, suc, ◌-◌, ◌<◌, Bool, true, false, All, ◌&&◌, nat_eq, is_some, if◌then◌else◌, List, [], length, slice_get, Option, Some, None}
 use Rattle.std.specs.Option.{option_map_or}
 use Rattle.aia_word.specs.Sets.{is_in}
 use Rattle.aia_source.specs.Top.{Pair, hart_of, priority_of}
@@ -23,10 +23,6 @@ pub record IsNewSources (source_count hart_count : ℕ) (is_leaf : Bool) (x : So
   pub msi : x.msi ≡ false
   pub count : length x.sources ≡ suc source_count
   pub each : All (λ x. x ≡ new_source) x.sources
-
--- The list of a hart; none for one that isn't there.
-abbrev pub list_of : SourcesState → ℕ → List Pair
-list_of x hart = if nat_le x.harts hart then [] else pairs_for x.msi x.sources hart
 
 -- Where a source that waits is aimed, and with which priority.
 abbrev pub aim_of : InterruptSourceState → Option Aim

@@ -5,8 +5,8 @@ ghost use Rattle.std.specs.Prelude.{◌≡◌, ℕ, suc, ◌*◌, ◌<◌, ◌�
 ghost use Rattle.aia_word.specs.Sets.{word_of};
 ghost use Rattle.aia_regs.specs.declared.limits.TheConstants.{HARTS, SOURCES, SOURCE_WORDS};
 ghost use Rattle.aia_source.specs.Registers.{in_word, touch_where};
-ghost use Rattle.aia_domain.specs.InterruptSource.{EachSource, changed_at, changed_if_named, changed_by, touched, all_switched, waits_at};
-ghost use Rattle.aia_domain.specs.Waiting.{IsNewSources, IsWhatWaits, list_of};
+ghost use Rattle.aia_domain.specs.InterruptSource.{EachSource, changed_at, changed_if_named, changed_by, touched, all_switched, waits_at, candidates_of};
+ghost use Rattle.aia_domain.specs.Waiting.{IsNewSources, IsWhatWaits};
 ghost use Rattle.aia_domain.specs.Domain.{IsPairOfSource};
 ghost use Rattle.aia_waiting.specs.Order.{IsRising};
 
@@ -144,9 +144,12 @@ impl Sources {
 
     /// Gives the candidate of a hart at a place, in direct delivery.
     pub(crate) fn candidate(&self, hart: u32, place: usize) -> Option<(u32, u32)>
-        ensures pair { result ≡ slice_get (list_of self.now hart) place }
-        ensures rising { IsRising (list_of self.now hart) }
-        ensures small { All IsPairOfSource (list_of self.now hart) }
+        ensures pair { result ≡ slice_get
+            (candidates_of self.now.harts self.now.msi self.now.sources hart) place }
+        ensures rising { IsRising
+            (candidates_of self.now.harts self.now.msi self.now.sources hart) }
+        ensures small { All IsPairOfSource
+            (candidates_of self.now.harts self.now.msi self.now.sources hart) }
     {
         self.waiting.candidate(hart, place)
     }
