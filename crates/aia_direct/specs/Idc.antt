@@ -1,15 +1,15 @@
 -- A hart's interrupt delivery control in a domain: what is on top for it, a claim, and its signal.
 -- AIA 1.0, APLIC, "Interrupt delivery directly by the APLIC".
-use Rattle.std.specs.Prelude.{ℕ, ◌-◌, Bool, false, not, ◌&&◌, ◌||◌, nat_eq, nat_le, is_some, is_none, if◌then◌else◌, List, length, Option, None}
+use Rattle.std.specs.Prelude.{ℕ, ◌-◌, Bool, false, not, ◌&&◌, ◌||◌, nat_le, is_some, is_none, if◌then◌else◌, List, length, Option, None}
 use Rattle.aia_regs.specs.declared.domain_registers.DomainReg.{DomainReg}
 use Rattle.aia_regs.specs.declared.domain_registers.DomainReg.TheVariants.{IDelivery, IForce, IThreshold}
 use Rattle.aia_regs.specs.Fields.{field, bit_number}
 use Rattle.aia_word.specs.Sets.{has_bit}
 use Rattle.aia_source.specs.Wired.SourceDeed.{Claimed}
-use Rattle.aia_source.specs.Top.{Pair, least_pair, priority_of, hart_of, pair_if, is_top}
-use Rattle.aia_word.specs.Top.{lets_through}
-use Rattle.aia_domain.specs.InterruptSource.{InterruptSourceState, with_deed, source_at}
+use Rattle.aia_source.specs.Top.{Pair, least_pair, is_top}
+use Rattle.aia_domain.specs.InterruptSource.{InterruptSourceState, with_deed, waiting_pair_at}
 use Rattle.aia_domain.specs.Domain.{DomainState}
+use Rattle.aia_direct.specs.Front.{through}
 
 -- idelivery, iforce and ithreshold.
 pub record IdcState : Type 0 where
@@ -37,23 +37,15 @@ control_written reg v c = c
 
 -- ---- what is on top
 
--- The pair of a source, where it is pending, enabled and aimed at the hart, and the threshold lets
--- its priority through.
-abbrev pub candidate : ℕ → ℕ → ℕ → InterruptSourceState → Option Pair
-candidate hart threshold s x =
-    pair_if (x.source.pending && x.enabled && nat_eq (hart_of x.target) hart
-    && lets_through threshold (priority_of x.target)) x.target s
-
-abbrev pub candidate_at : List InterruptSourceState → ℕ → ℕ → ℕ → Option Pair
-candidate_at sources hart threshold s = candidate hart threshold s (source_at sources s)
-
--- The least pair of the domain's sources; none where the domain delivers by MSIs, and for a hart
+-- The least pair of the domain's sources that are pending, enabled and aimed at the hart, of those
+-- whose priority the threshold lets through; none where the domain delivers by MSIs, and for a hart
 -- that isn't there.
 -- Profile: none by MSIs.
 abbrev pub top_shown : IdcState → DomainState → ℕ → Option Pair
 top_shown c d hart =
     if d.msi || nat_le d.harts hart then None
-    else least_pair (candidate_at d.sources hart c.ithreshold) 1 (length d.sources - 1)
+    else least_pair (through c.ithreshold (waiting_pair_at d.sources hart)) 1
+    (length d.sources - 1)
 
 -- ---- a claim and the signal
 

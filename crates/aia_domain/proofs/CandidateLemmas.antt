@@ -10,7 +10,7 @@ use Rattle.aia_waiting.proofs.OrderedLemmas.{ordered_from, ordered_has, ordered_
 use Rattle.aia_domain.specs.InterruptSource.{InterruptSourceState, waiting_pair_at, source_at}
 use Rattle.aia_domain.specs.Domain.{DomainState, candidates}
 
-own_number : (sources : List InterruptSourceState) (hart : ℕ) → NamesItself (waiting_pair_at sources hart)
+pub own_number : (sources : List InterruptSourceState) (hart : ℕ) → NamesItself (waiting_pair_at sources hart)
 own_number sources hart s q is = at _ is
   where
     at : (b : Bool) → pair_if b (source_at sources s).target s ≡ Some q → q.1 ≡ s
