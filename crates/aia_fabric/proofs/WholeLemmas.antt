@@ -23,7 +23,7 @@ use Rattle.aia_imsic.proofs.PlaceLemmas.{place_within}
 use Rattle.aia_mrif.specs.Mrif.{pending_place, enable_place}
 use Rattle.aia_mrif.specs.Words.{words_after_store}
 use Rattle.aia_mrif.proofs.SlotLemmas.{one_bit}
-use Rattle.aia_ram.specs.Words.{Fits}
+use Rattle.aia_ram.specs.Words.{HasWordAt}
 use Rattle.aia_entry.specs.declared.entry.Entry.TheVariants.{NotValid}
 use Rattle.aia_entry.specs.Tables.{TableState, new_table, no_table, table_of, entry_place}
 use Rattle.aia_entry.specs.Translation.{IsMask}
@@ -139,7 +139,7 @@ vcpu_entry w vm file whole there =
 
 -- with both its words
 pub vcpu_words : (w : World) (vm file : ℕ) → IsWhole w → is_vcpu_in w.vms (vcpu vm file) ≡ true
-    → Fits w.memory (entry_place (table_of w.tables vm) file) × Fits w.memory (entry_place (table_of w.tables vm) file + 8)
+    → HasWordAt w.memory (entry_place (table_of w.tables vm) file) × HasWordAt w.memory (entry_place (table_of w.tables vm) file + 8)
 vcpu_words w vm file whole there =
     let entry = vcpu_entry w vm file whole there in
     let at = entry_at w vm file whole entry.0 entry.3 in
