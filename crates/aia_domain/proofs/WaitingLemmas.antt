@@ -10,17 +10,17 @@ use Rattle.aia_waiting.specs.Order.{CandidatesState, IsRising, ordered, put_if, 
 use Rattle.aia_waiting.proofs.OrderedLemmas.{ordered-none, ordered-suc, ordered_same, ordered_changed, ordered_length, ordered_room, ordered_rising, ordered_all}
 use Rattle.aia_domain.specs.declared.interrupt_source.Aim.{Aim}
 use Rattle.aia_domain.specs.InterruptSource.{InterruptSourceState, new_source, EachAt, EachSource, changed_at, source_at, waits, waits_at, waiting_pair, waiting_pair_at, candidates_of}
-use Rattle.aia_domain.specs.Waiting.{SourcesState, WaitingState, IsWhatWaits, HasRoom, aim_of, aim_at, aimed_pair, renewed, with_pair, AllHave, HaveRoom}
+use Rattle.aia_domain.specs.Waiting.{SourcesState, WaitingState, IsWhatWaits, HasRoom, aim_of, aim_at, pair_of_aim, renewed, with_pair, AllHave, HaveRoom}
 use Rattle.aia_domain.specs.Domain.{IsPairOfSource}
 use Rattle.aia_domain.proofs.EachLemmas.{each-length}
 
 -- ---- one source
 
 -- what an aim tells of a source
-aim_pair : (hart s : ℕ) (x : InterruptSourceState) → waiting_pair hart s x ≡ aimed_pair hart s (aim_of x)
+aim_pair : (hart s : ℕ) (x : InterruptSourceState) → waiting_pair hart s x ≡ pair_of_aim hart s (aim_of x)
 aim_pair hart s x = at (waits x)
   where
-    at : (w : Bool) → pair_if (w && nat_eq (hart_of x.target) hart) x.target s ≡ aimed_pair hart s (cond w (Some (record { hart = hart_of x.target; priority = priority_of x.target })) None)
+    at : (w : Bool) → pair_if (w && nat_eq (hart_of x.target) hart) x.target s ≡ pair_of_aim hart s (cond w (Some (record { hart = hart_of x.target; priority = priority_of x.target })) None)
     at true = refl
     at false = refl
 
@@ -31,10 +31,10 @@ aim_waits x = at (waits x)
     at true = refl
     at false = refl
 
-pub pair_by_aim : (sources : List InterruptSourceState) (hart s : ℕ) → waiting_pair_at sources hart s ≡ aimed_pair hart s (aim_at sources s)
+pub pair_by_aim : (sources : List InterruptSourceState) (hart s : ℕ) → waiting_pair_at sources hart s ≡ pair_of_aim hart s (aim_at sources s)
 pair_by_aim sources hart s = ap (waiting_pair hart s) (sym (unwrap_or-slice_get sources s new_source)) ∙ at (slice_get sources s)
   where
-    at : (o : Option InterruptSourceState) → waiting_pair hart s (unwrap_or o new_source) ≡ aimed_pair hart s (option_map_or aim_of o None)
+    at : (o : Option InterruptSourceState) → waiting_pair hart s (unwrap_or o new_source) ≡ pair_of_aim hart s (option_map_or aim_of o None)
     at None = refl
     at (Some x) = aim_pair hart s x
 
@@ -67,7 +67,7 @@ aim_elsewhere : (old new : List InterruptSourceState) (s : ℕ) (change : Interr
 aim_elsewhere old new s change each i ne = ap (λ o. option_map_or aim_of o None) (elsewhere old new s change each i ne)
 
 pair_elsewhere : (old new : List InterruptSourceState) (s : ℕ) (change : InterruptSourceState → InterruptSourceState) → EachSource old new (changed_at s change) → (hart i : ℕ) → (s ≡ i → ⊥) → waiting_pair_at old hart i ≡ waiting_pair_at new hart i
-pair_elsewhere old new s change each hart i ne = pair_by_aim old hart i ∙ ap (aimed_pair hart i) (aim_elsewhere old new s change each i ne) ∙ sym (pair_by_aim new hart i)
+pair_elsewhere old new s change each hart i ne = pair_by_aim old hart i ∙ ap (pair_of_aim hart i) (aim_elsewhere old new s change each i ne) ∙ sym (pair_by_aim new hart i)
 
 waits_elsewhere : (old new : List InterruptSourceState) (s : ℕ) (change : InterruptSourceState → InterruptSourceState) → EachSource old new (changed_at s change) → (i : ℕ) → (s ≡ i → ⊥) → waits_at old i ≡ waits_at new i
 waits_elsewhere old new s change each i ne = ap (λ o. option_map_or waits o false) (elsewhere old new s change each i ne)
@@ -88,7 +88,7 @@ keeps_same msi old new waiting s change each same keeps = record {
   where
     pair : (hart i : ℕ) → waiting_pair_at old hart i ≡ waiting_pair_at new hart i
     pair hart i = elim (cases_eq s i) [
-      | inl e ↦ pair_by_aim old hart i ∙ ap (aimed_pair hart i) (subst (λ i. aim_at old i ≡ aim_at new i) e same) ∙ sym (pair_by_aim new hart i)
+      | inl e ↦ pair_by_aim old hart i ∙ ap (pair_of_aim hart i) (subst (λ i. aim_at old i ≡ aim_at new i) e same) ∙ sym (pair_by_aim new hart i)
       | inr ne ↦ pair_elsewhere old new s change each hart i ne
     ]
 
@@ -114,8 +114,8 @@ pub keeps_renewed : (old new : List InterruptSourceState) (waiting after : Waiti
 keeps_renewed old new waiting after s change some within each lists bits keeps = record {
   lists = λ hart y found.
       let was = each_at waiting.fronts after.fronts (renewed s (aim_at old s) (aim_at new s)) lists hart y found in (
-        ap (λ z. z.pairs) was.2 ∙ ap (λ ps. put_if (aimed_pair hart s (aim_at new s)) (out_if (aimed_pair hart s (aim_at old s)) ps)) (keeps.lists hart was.0 was.1).0
-            ∙ ap (λ o. put_if o (out_if (aimed_pair hart s (aim_at old s)) (ordered (waiting_pair_at old hart) 1 (length old - 1)))) (sym (pair_by_aim new hart s))
+        ap (λ z. z.pairs) was.2 ∙ ap (λ ps. put_if (pair_of_aim hart s (aim_at new s)) (out_if (pair_of_aim hart s (aim_at old s)) ps)) (keeps.lists hart was.0 was.1).0
+            ∙ ap (λ o. put_if o (out_if (pair_of_aim hart s (aim_at old s)) (ordered (waiting_pair_at old hart) 1 (length old - 1)))) (sym (pair_by_aim new hart s))
             ∙ ap (λ o. put_if (waiting_pair_at new hart s) (out_if o (ordered (waiting_pair_at old hart) 1 (length old - 1)))) (sym (pair_by_aim old hart s))
             ∙ ordered_changed (waiting_pair_at old hart) (waiting_pair_at new hart) s 1 (length old - 1) (omega arith) (omega arith) (pair_elsewhere old new s change each hart)
             ∙ ap (λ n. ordered (waiting_pair_at new hart) 1 (n - 1)) (sym (same_count old new s change each)),
@@ -126,9 +126,9 @@ keeps_renewed old new waiting after s change some within each lists bits keeps =
 
 pub renewed_room : (old new : List InterruptSourceState) (waiting : WaitingState) (s : ℕ) (change : InterruptSourceState → InterruptSourceState) → 0 < s → s < length old → EachSource old new (changed_at s change) → IsWhatWaits false old waiting → HasRoom s (aim_at old s) (aim_at new s) waiting.fronts
 renewed_room old new waiting s change some within each keeps hart x found comes =
-    let own = has_some (aimed_pair hart s (aim_at new s)) comes in
+    let own = has_some (pair_of_aim hart s (aim_at new s)) comes in
     let room = ordered_room (waiting_pair_at old hart) (waiting_pair_at new hart) own.0 s 1 (length old - 1) (omega arith) (omega arith) (pair_elsewhere old new s change each hart) (pair_by_aim new hart s ∙ own.1) in
-    let same : length (out_if (aimed_pair hart s (aim_at old s)) x.pairs) ≡ length (out_if (waiting_pair_at old hart s) (ordered (waiting_pair_at old hart) 1 (length old - 1))) = ap (λ ps. length (out_if (aimed_pair hart s (aim_at old s)) ps)) (keeps.lists hart x found).0 ∙ ap (λ o. length (out_if o (ordered (waiting_pair_at old hart) 1 (length old - 1)))) (sym (pair_by_aim old hart s)) in
+    let same : length (out_if (pair_of_aim hart s (aim_at old s)) x.pairs) ≡ length (out_if (waiting_pair_at old hart s) (ordered (waiting_pair_at old hart) 1 (length old - 1))) = ap (λ ps. length (out_if (pair_of_aim hart s (aim_at old s)) ps)) (keeps.lists hart x found).0 ∙ ap (λ o. length (out_if o (ordered (waiting_pair_at old hart) 1 (length old - 1)))) (sym (pair_by_aim old hart s)) in
     omega (arith, room, same, (keeps.lists hart x found).1)
   where
     has_some : (o : Option Pair) → is_some o ≡ true → (p : Pair) × (o ≡ Some p)
@@ -145,13 +145,13 @@ keeps_no_source old new waiting s change zeroth each keeps = record {
 -- ---- all lists and bits anew
 
 -- one source more, from the greatest number on
-pub put_first : (sources : List InterruptSourceState) (s : ℕ) (room : ℕ) (before after : List CandidatesState) → 0 < s → s ≤ length sources → EachAt before after (λ hart. with_pair (aimed_pair hart (s - 1) (aim_at sources (s - 1))))
+pub put_first : (sources : List InterruptSourceState) (s : ℕ) (room : ℕ) (before after : List CandidatesState) → 0 < s → s ≤ length sources → EachAt before after (λ hart. with_pair (pair_of_aim hart (s - 1) (aim_at sources (s - 1))))
     → AllHave (λ hart. ordered (waiting_pair_at sources hart) s (length sources - s)) room before → AllHave (λ hart. ordered (waiting_pair_at sources hart) (s - 1) (length sources - (s - 1))) room after
 put_first sources s room before after some within each have hart y found =
-    let was = each_at before after (λ hart. with_pair (aimed_pair hart (s - 1) (aim_at sources (s - 1)))) each hart y found in
+    let was = each_at before after (λ hart. with_pair (pair_of_aim hart (s - 1) (aim_at sources (s - 1)))) each hart y found in
     let n : length sources - (s - 1) ≡ suc (length sources - s) = omega arith in
     let f : suc (s - 1) ≡ s = omega arith in (
-      ap (λ z. z.pairs) was.2 ∙ ap (put_if (aimed_pair hart (s - 1) (aim_at sources (s - 1)))) (have hart was.0 was.1).0 ∙ ap (λ o. put_if o (ordered (waiting_pair_at sources hart) s (length sources - s))) (sym (pair_by_aim sources hart (s - 1)))
+      ap (λ z. z.pairs) was.2 ∙ ap (put_if (pair_of_aim hart (s - 1) (aim_at sources (s - 1)))) (have hart was.0 was.1).0 ∙ ap (λ o. put_if o (ordered (waiting_pair_at sources hart) s (length sources - s))) (sym (pair_by_aim sources hart (s - 1)))
           ∙ ap (λ k. put_if (waiting_pair_at sources hart (s - 1)) (ordered (waiting_pair_at sources hart) k (length sources - s))) (sym f) ∙ sym (ordered-suc (waiting_pair_at sources hart) (s - 1) (length sources - s))
           ∙ ap (ordered (waiting_pair_at sources hart) (s - 1)) (sym n),
       ap (λ z. z.room) was.2 ∙ (have hart was.0 was.1).1,

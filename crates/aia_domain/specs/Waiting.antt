@@ -35,9 +35,9 @@ abbrev pub aim_at : List InterruptSourceState → ℕ → Option Aim
 aim_at sources s = option_map_or aim_of (slice_get sources s) None
 
 -- The pair of a source with such an aim, where it is at the hart.
-abbrev pub aimed_pair : ℕ → ℕ → Option Aim → Option Pair
-aimed_pair hart s None = None
-aimed_pair hart s (Some aim) = if nat_eq aim.hart hart then Some (aim.priority, s) else None
+abbrev pub pair_of_aim : ℕ → ℕ → Option Aim → Option Pair
+pair_of_aim hart s None = None
+pair_of_aim hart s (Some aim) = if nat_eq aim.hart hart then Some (aim.priority, s) else None
 
 -- The pairs of a list with one more at its place, without one.
 abbrev pub with_pair : Option Pair → CandidatesState → CandidatesState
@@ -76,11 +76,11 @@ pub record IsWhatWaits (msi : Bool) (sources : List InterruptSourceState) (waiti
 -- What becomes of a list where a source that was aimed so is aimed otherwise.
 abbrev pub renewed : ℕ → Option Aim → Option Aim → ℕ → CandidatesState → CandidatesState
 renewed s stood stands hart x =
-    with_pair (aimed_pair hart s stands) (without_pair (aimed_pair hart s stood) x)
+    with_pair (pair_of_aim hart s stands) (without_pair (pair_of_aim hart s stood) x)
 
 -- Each list has room for the pair that comes to it.
 abbrev pub HasRoom : ℕ → Option Aim → Option Aim → List CandidatesState → Type 0
 HasRoom s stood stands fronts =
     (hart : ℕ) (x : CandidatesState) → slice_get fronts hart ≡ Some x
-    → is_some (aimed_pair hart s stands) ≡ true
-    → length (out_if (aimed_pair hart s stood) x.pairs) < x.room
+    → is_some (pair_of_aim hart s stands) ≡ true
+    → length (out_if (pair_of_aim hart s stood) x.pairs) < x.room

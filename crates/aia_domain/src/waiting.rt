@@ -6,7 +6,7 @@ ghost use Rattle.aia_word.specs.Sets.{is_in, word_of};
 ghost use Rattle.aia_regs.specs.declared.limits.TheConstants.{SOURCES, SOURCE_WORDS};
 ghost use Rattle.aia_waiting.specs.Order.{CandidatesState, ordered};
 ghost use Rattle.aia_domain.specs.InterruptSource.{EachAt, waits_at, waiting_pair_at, pairs_for};
-ghost use Rattle.aia_domain.specs.Waiting.{IsWhatWaits, AllHave, HaveRoom, HasRoom, pairs_at, aimed_pair, with_pair, without_pair, renewed};
+ghost use Rattle.aia_domain.specs.Waiting.{IsWhatWaits, AllHave, HaveRoom, HasRoom, pairs_at, pair_of_aim, with_pair, without_pair, renewed};
 
 use crate::by_number::{aim_at, is_waiting};
 use crate::interrupt_source::{Aim, InterruptSource};
@@ -100,7 +100,7 @@ impl Waiting {
 
 /// Takes the pair of a source out of the list of the hart that it was aimed at.
 fn take_from(fronts: &mut [Candidates], s: u32, aim: Option<Aim>)
-    ensures { EachAt fronts.old fronts.new (λ hart. without_pair (aimed_pair hart s aim)) }
+    ensures { EachAt fronts.old fronts.new (λ hart. without_pair (pair_of_aim hart s aim)) }
 {
     if let Some(aim) = aim {
         let hart = aim.hart as usize;
@@ -113,8 +113,8 @@ fn take_from(fronts: &mut [Candidates], s: u32, aim: Option<Aim>)
 /// Puts the pair of a source into the list of the hart that it is aimed at.
 fn put_into(fronts: &mut [Candidates], s: u32, aim: Option<Aim>)
     requires room { (hart : ℕ) (x : CandidatesState) → slice_get fronts.old hart ≡ Some x
-        → is_some (aimed_pair hart s aim) ≡ true → length x.pairs < x.room }
-    ensures { EachAt fronts.old fronts.new (λ hart. with_pair (aimed_pair hart s aim)) }
+        → is_some (pair_of_aim hart s aim) ≡ true → length x.pairs < x.room }
+    ensures { EachAt fronts.old fronts.new (λ hart. with_pair (pair_of_aim hart s aim)) }
 {
     if let Some(aim) = aim {
         let hart = aim.hart as usize;
