@@ -1,9 +1,11 @@
 -- The least source of two sets, found by the words that show them, from the lowest on.
-use Rattle.std.proofs.Common.{◌≡◌, ℕ, zero, suc, ◌+◌, ◌-◌, ◌*◌, ◌<◌, ◌≤◌, Bool, true, false, Some, None, inl, inr, refl, sym, ap, subst, ◌∙◌, arith}
+use Rattle.std.proofs.Common.{◌≡◌, ℕ, suc, ◌+◌, ◌-◌, ◌*◌, ◌<◌, ◌≤◌, Bool, true, false, Some, None, inl, inr, refl, sym, ap, subst, ◌∙◌, arith}
 use Rattle.std.proofs.lemmas.Bool.{cases_lt}
 use Rattle.aia_word.specs.Sets.{has_bit, word_of}
 use Rattle.aia_word.proofs.SetLemmas.{has_bit-word_of}
-use Rattle.aia_aplic.specs.Bits.{IsFirstMember, AreSources}
+use Rattle.aia_model.specs.declared.domain_name.DomainName.{DomainName}
+use Rattle.aia_model.specs.declared.domain_name.DomainName.TheVariants.{Root, Child}
+use Rattle.aia_aplic.specs.Bits.{IsFirstSource, AreSources}
 
 abbrev pub NoneBelow : (ℕ → Bool) → ℕ → Type 0
 NoneBelow members n = (s : ℕ) → s < n → members s ≡ false
@@ -33,7 +35,7 @@ none_before members k bit below small none s low = elim (cases_lt s (64 * k)) [
   | inr p ↦ shown_at members k s p (omega arith) ∙ none (s - 64 * k) (omega arith)
 ]
 
-pub one_word_more : (p q : ℕ → Bool) (k x y : ℕ) → ShowNone p q k → AreSources p → AreSources q → x ≡ word_of p (64 * k) 64 → y ≡ word_of q (64 * k) 64 → IsFirstMember (has_bit x) (has_bit y) None → ShowNone p q (k + 1)
+pub one_word_more : (p q : ℕ → Bool) (k x y : ℕ) → ShowNone p q k → AreSources p → AreSources q → x ≡ word_of p (64 * k) 64 → y ≡ word_of q (64 * k) 64 → IsFirstSource (has_bit x) (has_bit y) None → ShowNone p q (k + 1)
 one_word_more p q k x y shows first second at_p at_q none =
     let e : 64 * (k + 1) ≡ 64 * k + 64 = omega arith in
     record {
@@ -49,22 +51,21 @@ none_at_all members below range s = at (members s) refl
     at false e = e
     at true e = below s (let low = range s e in omega (arith, low))
 
-pub no_word_more : (p q : ℕ → Bool) → ShowNone p q 16 → IsFirstMember p q None
+pub no_word_more : (p q : ℕ → Bool) → ShowNone p q 16 → IsFirstSource p q None
 no_word_more p q shows = let range = shows.range (omega arith) in (none_at_all p shows.first range.0, none_at_all q shows.second range.1)
 
-found_there : (p q : ℕ → Bool) (k domain bit : ℕ) → ShowNone p q k → bit < 64 → IsFirstMember (has_bit (word_of p (64 * k) 64)) (has_bit (word_of q (64 * k) 64)) (Some (domain, bit)) → IsFirstMember p q (Some (domain, 64 * k + bit))
-found_there p q k zero bit shows small found = (
+found_there : (p q : ℕ → Bool) (k : ℕ) (name : DomainName) (bit : ℕ) → ShowNone p q k → bit < 64 → IsFirstSource (has_bit (word_of p (64 * k) 64)) (has_bit (word_of q (64 * k) 64)) (Some (name, bit)) → IsFirstSource p q (Some (name, 64 * k + bit))
+found_there p q k Root bit shows small found = (
   sym (has_bit-word_of p (64 * k) 64 bit small) ∙ found.0,
   none_before p k bit shows.first (omega arith) found.1,
   none_before q k bit shows.second (omega arith) found.2,
 )
-found_there p q k (suc zero) bit shows small found = (
+found_there p q k Child bit shows small found = (
   sym (has_bit-word_of q (64 * k) 64 bit small) ∙ found.0,
   λ t low. none_before p k (suc bit) shows.first (omega arith) (λ b high. found.1 b (omega arith)) t (omega (arith, low)),
   none_before q k bit shows.second (omega arith) found.2,
 )
-found_there p q k (suc (suc domain)) bit shows small found = absurd found
 
-pub word_found : (p q : ℕ → Bool) (k x y domain bit : ℕ) → ShowNone p q k → x ≡ word_of p (64 * k) 64 → y ≡ word_of q (64 * k) 64 → bit < 64 → IsFirstMember (has_bit x) (has_bit y) (Some (domain, bit)) → IsFirstMember p q (Some (domain, 64 * k + bit))
-word_found p q k x y domain bit shows at_p at_q small found =
-    found_there p q k domain bit shows small (subst (λ v. IsFirstMember (has_bit v) (has_bit (word_of q (64 * k) 64)) (Some (domain, bit))) at_p (subst (λ w. IsFirstMember (has_bit x) (has_bit w) (Some (domain, bit))) at_q found))
+pub word_found : (p q : ℕ → Bool) (k x y : ℕ) (name : DomainName) (bit : ℕ) → ShowNone p q k → x ≡ word_of p (64 * k) 64 → y ≡ word_of q (64 * k) 64 → bit < 64 → IsFirstSource (has_bit x) (has_bit y) (Some (name, bit)) → IsFirstSource p q (Some (name, 64 * k + bit))
+word_found p q k x y name bit shows at_p at_q small found =
+    found_there p q k name bit shows small (subst (λ v. IsFirstSource (has_bit v) (has_bit (word_of q (64 * k) 64)) (Some (name, bit))) at_p (subst (λ w. IsFirstSource (has_bit x) (has_bit w) (Some (name, bit))) at_q found))

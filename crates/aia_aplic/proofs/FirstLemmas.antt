@@ -1,8 +1,8 @@
 -- What is kept tells what waits first.
-use Rattle.std.proofs.Common.{◌≡◌, ℕ, zero, suc, ◌<◌, ◌≤◌, Bool, true, false, ◌&&◌, ◌↔◌, length, slice_get, get_or, Option, Some, None, ◌⊎◌, inl, inr, refl, sym, ap, subst, ◌∙◌, arith}
+use Rattle.std.proofs.Common.{◌≡◌, ℕ, zero, suc, ◌<◌, ◌≤◌, Bool, true, false, ◌&&◌, ◌↔◌, length, slice_get, get_or, Option, Some, None, IfSome, ◌⊎◌, inl, inr, refl, sym, ap, subst, ◌∙◌, arith}
 use Rattle.std.specs.List.{Contains}
 use Rattle.std.proofs.lemmas.Bool.{cases_lt, and_parts, and_right}
-use Rattle.std.specs.Option.{option_map_or}
+use Rattle.std.specs.Option.{option_map, option_map_or}
 use Rattle.std.proofs.lemmas.Option.{slice_get_past, slice_get-get_or}
 use Rattle.aia_domain.specs.InterruptSource.{InterruptSourceState, waits, waits_at}
 use Rattle.aia_domain.specs.Domain.{DomainState}
@@ -16,7 +16,8 @@ use Rattle.aia_model.specs.SourceOf.{sources_in, is_on, delivers_by_msis, enable
 use Rattle.aia_model.specs.Sent.{forwards, all_senders, has_msi}
 use Rattle.aia_aplic.specs.Side.{source_of, DomainStands}
 use Rattle.aia_aplic.specs.Aplic.{AplicState, AplicStands, side}
-use Rattle.aia_aplic.specs.Sending.{IsFirstSource, IsFirst}
+use Rattle.aia_aplic.specs.Bits.{IsFirstSource, source_sender}
+use Rattle.aia_aplic.specs.Sending.{IsFirst, does_wait}
 use Rattle.aia_aplic.proofs.Steps.{source-idle}
 use Rattle.aia_aplic.proofs.Reading.{mode-zero}
 use Rattle.aia_aplic.specs.Senders.{SendsBefore}
@@ -105,21 +106,21 @@ ready_source a past Child s stands ready =
     let low : s < suc (sources_in past) = subst (λ n. s < n) stands.child.domain.count (ready_within a.child.domain s ready) in
     all_sources (sources_in past) Child s (not_zero past Child s (sym (ready_is a.child.domain past Child s stands.child.domain low) ∙ ready)) (omega (arith, low))
 
-pub source_first : (a : AplicState) (past : Past) (w : Option Sender) → a.root.domain.genmsi_waits ≡ false → a.child.domain.genmsi_waits ≡ false → IsFirstSource (kept.is_ready a.root.domain) (kept.is_ready a.child.domain) w → AplicStands a past → IsFirst w past
+pub source_first : (a : AplicState) (past : Past) (found : Option (DomainName × ℕ)) → a.root.domain.genmsi_waits ≡ false → a.child.domain.genmsi_waits ≡ false → IsFirstSource (kept.is_ready a.root.domain) (kept.is_ready a.child.domain) found → AplicStands a past → IsFirst (option_map source_sender found) past
 source_first a past None idle quiet first stands = filter_none (has_msi past) (all_senders (sources_in past)) none
   where
     none : (y : Sender) → Contains (all_senders (sources_in past)) y → has_msi past y ≡ false
     none (ByGenMsi d) m = genmsi_idle a past d idle quiet stands
     none (BySource Root s) m = ready_there a past Root s stands m ∙ first.0 s
     none (BySource Child s) m = ready_there a past Child s stands m ∙ first.1 s
-source_first a past (Some (BySource Root s)) idle quiet first stands =
+source_first a past (Some (Root, s)) idle quiet first stands =
     let there = ready_source a past Root s stands first.0 in first_is past (BySource Root s) there (ready_there a past Root s stands there ∙ first.0) none
   where
     none : (y : Sender) → Contains (all_senders (sources_in past)) y → SendsBefore y (BySource Root s) → has_msi past y ≡ false
     none (ByGenMsi d) m before = genmsi_idle a past d idle quiet stands
     none (BySource Root t) m before = ready_there a past Root t stands m ∙ first.1 t before
     none (BySource Child t) m before = ready_there a past Child t stands m ∙ first.2 t before
-source_first a past (Some (BySource Child s)) idle quiet first stands =
+source_first a past (Some (Child, s)) idle quiet first stands =
     let there = ready_source a past Child s stands first.0 in first_is past (BySource Child s) there (ready_there a past Child s stands there ∙ first.0) none
   where
     up_to : (t : ℕ) → (t < s) ⊎ (t ≡ s) → t ≤ s
@@ -130,4 +131,9 @@ source_first a past (Some (BySource Child s)) idle quiet first stands =
     none (ByGenMsi d) m before = genmsi_idle a past d idle quiet stands
     none (BySource Root t) m before = ready_there a past Root t stands m ∙ first.1 t (up_to t before)
     none (BySource Child t) m before = ready_there a past Child t stands m ∙ first.2 t before
-source_first a past (Some (ByGenMsi d)) idle quiet first stands = absurd first
+
+-- and it waits in what is kept
+pub first_waits : (a : AplicState) (found : Option (DomainName × ℕ)) → IsFirstSource (kept.is_ready a.root.domain) (kept.is_ready a.child.domain) found → IfSome (option_map source_sender found) (λ sender. does_wait a sender ≡ true)
+first_waits a None first = tt
+first_waits a (Some (Root, s)) first = first.0
+first_waits a (Some (Child, s)) first = first.0

@@ -1,5 +1,5 @@
 -- What an APLIC keeps, and when it stands for a past. Vocabulary.
-use Rattle.std.specs.Prelude.{◌≡◌, ℕ, zero, suc, true, false}
+use Rattle.std.specs.Prelude.{◌≡◌, ℕ, true, false}
 use Rattle.aia_model.specs.declared.domain_name.DomainName.{DomainName}
 use Rattle.aia_model.specs.Act.{Past}
 use Rattle.aia_model.specs.declared.domain_name.DomainName.TheVariants.{Root, Child}
@@ -23,11 +23,6 @@ pub record AplicStands (a : AplicState) (past : Past) : Type 0 where
   pub root : SideStands a.root past Root
   pub child : SideStands a.child past Child
   pub addresses : a.addresses ≡ addresses_of past
-
--- The domain with a number: 0 the root domain, 1 its child.
-abbrev pub domain_name : ℕ → DomainName
-domain_name zero = Root
-domain_name (suc d) = Child
 
 -- An APLIC as a machine begins.
 pub record IsNewAplic (source_count hart_count : ℕ) (a : AplicState) : Type 0 where

@@ -1,26 +1,15 @@
 -- What the next MSI is, and what is left of those that wait. Vocabulary.
-use Rattle.std.specs.Prelude.{◌≡◌, ℕ, ◌+◌, ◌<◌, ◌≤◌, Bool, true, false, ◌||◌, count_by, if◌then◌else◌, List, [], ◌∷◌, Option, Some, None}
+use Rattle.std.specs.Prelude.{◌≡◌, ℕ, ◌+◌, Bool, ◌||◌, count_by, if◌then◌else◌, List, [], ◌∷◌, Option, Some, None}
 use Rattle.aia_domain.specs.InterruptSource.{waits}
 use Rattle.aia_domain.specs.Domain.{DomainState, is_ready}
 use Rattle.aia_model.specs.declared.msi.Msi.{Msi}
 use Rattle.aia_model.specs.Act.{Past}
 use Rattle.aia_model.specs.declared.sender.Sender.{Sender}
-use Rattle.aia_model.specs.declared.domain_name.DomainName.TheVariants.{Root, Child}
 use Rattle.aia_model.specs.declared.sender.Sender.TheVariants.{ByGenMsi, BySource}
 use Rattle.aia_model.specs.Act.Act.{Sent}
 use Rattle.aia_model.specs.Sent.{senders, domain_of_sender, msi_of}
 use Rattle.aia_aplic.specs.Side.{SideState}
 use Rattle.aia_aplic.specs.Aplic.{AplicState, AplicStands, side}
-
--- It is the least source that is to be forwarded, of two domains, in which sources p and q are; at
--- the same number the root domain's; or none is.
-abbrev pub IsFirstSource : (ℕ → Bool) → (ℕ → Bool) → Option Sender → Type 0
-IsFirstSource p q None = ((s : ℕ) → p s ≡ false) × ((s : ℕ) → q s ≡ false)
-IsFirstSource p q (Some (BySource Root s)) =
-    (p s ≡ true) × ((t : ℕ) → t < s → p t ≡ false) × ((t : ℕ) → t < s → q t ≡ false)
-IsFirstSource p q (Some (BySource Child s)) =
-    (q s ≡ true) × ((t : ℕ) → t ≤ s → p t ≡ false) × ((t : ℕ) → t < s → q t ≡ false)
-IsFirstSource p q (Some (ByGenMsi d)) = ⊥
 
 -- It is the first of all that waits, or nothing waits.
 abbrev pub IsFirst : Option Sender → Past → Type 0
