@@ -79,6 +79,3 @@ each_size P p63 p127 p255 p511 p1023 p2047 n greatest =
 
 pub few_identities : (n : ℕ) → is_greatest_identity n ≡ true → n ≤ IDENTITIES
 few_identities n greatest = each_size (λ n. n ≤ IDENTITIES) (omega arith) (omega arith) (omega arith) (omega arith) (omega arith) (omega arith) n greatest
-
-pub word_below : (n i : ℕ) → is_greatest_identity n ≡ true → i ≤ n → i / 64 < (n + 1) / 64
-word_below n i greatest = each_size (λ n. i ≤ n → i / 64 < (n + 1) / 64) (λ low. omega (arith, low)) (λ low. omega (arith, low)) (λ low. omega (arith, low)) (λ low. omega (arith, low)) (λ low. omega (arith, low)) (λ low. omega (arith, low)) n greatest

@@ -63,7 +63,8 @@ use Rattle.aia_hyp.proofs.GuestAccesses.{there_in}
 use Rattle.aia_hyp.proofs.MajorLemmas.{IsOfMajors, HasMajors, majors_change}
 use Rattle.aia_hyp.proofs.MemoryDeeds.{with_memory, but_memory, memory_deed}
 use Rattle.aia_hyp.proofs.RunLines.{OnlyNotifies, nothing_told, one_told}
-use Rattle.aia_hyp.proofs.WithinLemmas.{guest_sound, guest_n}
+use Rattle.aia_model.proofs.GreatestLemmas.{guest_greatest}
+use Rattle.aia_hyp.proofs.WithinLemmas.{guest_sound}
 
 -- ---- a virtual hart that is parked
 
@@ -85,7 +86,7 @@ pub small_threshold : (x : CoreState) (h : History) (g : Vcpu) (kept : Kept) →
 small_threshold x h g kept stands whole there at =
     let file = its_file x h g kept stands there at whole in
     let sound = (guest_sound h g).threshold in
-    omega (arith, sound, ap (λ (f : InterruptFile). f.threshold) file, guest_n h g, stands.greatest)
+    omega (arith, sound, ap (λ (f : InterruptFile). f.threshold) file, guest_greatest h g, stands.greatest)
 
 -- one that is not is refused by the word for where it is
 pub not_parked : (x : CoreState) (h : History) (g : Vcpu) (stay : Stay) (word : Refusal) → CoreStands x h → has_vcpu h g ≡ true → (record_of x g).stay ≡ stay → parked_at stay ≡ Err word → unless_parked h g ≡ Some (Refused word)

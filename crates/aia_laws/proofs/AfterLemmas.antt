@@ -36,7 +36,7 @@ use Rattle.aia_model.proofs.AnswerLemmas.{after_by}
 use Rattle.aia_model.proofs.FileLemmas.{file_by_step, newest_word}
 use Rattle.aia_laws.specs.Requests.{speaks_to, names_other_vm, flies_to, event_of, does_steps, is_passed_to, forwards_to}
 use Rattle.aia_laws.specs.Told.{guest_said}
-use Rattle.aia_laws.proofs.FileLemmas.{machine_with, guest_made, not_making}
+use Rattle.aia_model.proofs.GreatestLemmas.{machine_with, guest_made, not_making}
 use Rattle.aia_model.proofs.RefusalLemmas.{machine_allowed}
 use Rattle.aia_model.proofs.SentLemmas.{may_send, none_sent_by}
 

@@ -15,7 +15,7 @@ use Rattle.aia_model.proofs.FileLemmas.{file_by_step, newest_word}
 use Rattle.aia_model.specs.Histories.{IsHistory}
 use Rattle.aia_laws.specs.Told.{is_ask, guest_said, host_said}
 use Rattle.aia_laws.specs.Newest.{or_before, newest, guest_enable_said, host_enable_said}
-use Rattle.aia_laws.proofs.FileLemmas.{made_with, machine_with, not_making, guest_made, host_made}
+use Rattle.aia_model.proofs.GreatestLemmas.{made_with, machine_with, not_making, guest_made, host_made}
 use Rattle.aia_model.proofs.RefusalLemmas.{machine_allowed}
 use Rattle.aia_model.proofs.PlaceLemmas.{machine_first}
 

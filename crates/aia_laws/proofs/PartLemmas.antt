@@ -33,7 +33,7 @@ use Rattle.aia_model.proofs.AnswerLemmas.{answered}
 use Rattle.aia_model.proofs.Printed.{printed_read}
 use Rattle.aia_model.proofs.RefusalLemmas.{save_allowed}
 use Rattle.aia_laws.specs.Images.{IsState, parts_of, load_text}
-use Rattle.aia_laws.proofs.FileLemmas.{guest_n}
+use Rattle.aia_model.proofs.GreatestLemmas.{guest_greatest}
 use Rattle.aia_laws.proofs.MachineLemmas.{machine_of_vcpu}
 use Rattle.aia_laws.proofs.ReachedLemmas.{is_state}
 
@@ -119,7 +119,7 @@ load_accepted h vm number part stands there parked may = rw (stands, there, may,
 
 saved_low : (h : History) (vm number k : ℕ) → refusal h (Save vm number k) ≡ None → k < parts_of (state_of h (vcpu vm number))
 saved_low h vm number k e =
-    subst (λ n. k < parts_in ((n + 1) / 64)) (sym (guest_n h (vcpu vm number))) (ltb-true k (parts_in (file_words h)) (save_allowed h vm number k e).fits)
+    subst (λ n. k < parts_in ((n + 1) / 64)) (sym (guest_greatest h (vcpu vm number))) (ltb-true k (parts_in (file_words h)) (save_allowed h vm number k e).fits)
 
 saved_state : (h : History) (vm number k : ℕ) → IsHistory h → refusal h (Save vm number k) ≡ None → IsState (state_of h (vcpu vm number))
 saved_state h vm number k good e = is_state h (vcpu vm number) good (machine_of_vcpu h (vcpu vm number) good (save_allowed h vm number k e).there)
@@ -129,7 +129,7 @@ saved_answer h vm number k e = answered h (Save vm number k) None e
 
 pub saved_loadable : (h : History) (vm number k : ℕ) → IsHistory h → refusal h (Save vm number k) ≡ None → is_loadable (greatest_identity_of h) (part_of (state_of h (vcpu vm number)) k) ≡ true
 saved_loadable h vm number k good e =
-    subst (λ n. is_loadable n (part_of (state_of h (vcpu vm number)) k) ≡ true) (guest_n h (vcpu vm number))
+    subst (λ n. is_loadable n (part_of (state_of h (vcpu vm number)) k) ≡ true) (guest_greatest h (vcpu vm number))
     (part_loadable (state_of h (vcpu vm number)) k (saved_state h vm number k good e) (saved_low h vm number k e))
 
 pub saved_accepted : (h other : History) (vm number k : ℕ) (x : Vcpu) → IsHistory h → refusal h (Save vm number k) ≡ None → has_machine other ≡ true → has_vcpu other x ≡ true → home other x ≡ Parked

@@ -28,7 +28,7 @@ use Rattle.aia_model.specs.Notice.{noticed, noticed_by_landing}
 use Rattle.aia_model.proofs.FileLemmas.{file_step, newest_word, is_file-itself}
 use Rattle.aia_model.proofs.MoveLemmas.{same_vcpu}
 use Rattle.aia_laws.specs.Told.{is_deliverable, notice_file, notice_number, is_ask, is_clear, guest_said, host_said, begins_leave, names_vcpu, noticed_since, told_since, cleared_since, cleared_since_notice}
-use Rattle.aia_laws.proofs.FileLemmas.{made_with, not_making, host_made, host_n}
+use Rattle.aia_model.proofs.GreatestLemmas.{made_with, not_making, host_made, host_greatest}
 use Rattle.aia_model.proofs.RefusalLemmas.{machine_allowed, device_allowed, peer_allowed, exit_allowed, load_allowed}
 use Rattle.aia_model.specs.Histories.{MayHappen, IsHistory}
 use Rattle.aia_laws.proofs.MachineLemmas.{identities_for_all, enabled_in_words}
@@ -101,7 +101,7 @@ number_fits : (h : History) (g : Vcpu) → IsHistory h → has_vcpu h g ≡ true
 number_fits h g good there =
     let slot = slot_below (vms_of h) g there in
     let enough = identities_for_all h g good there in
-    rw (host_n h (notice_file h g)) (omega (arith, slot, enough))
+    rw (host_greatest h (notice_file h g)) (omega (arith, slot, enough))
 
 abbrev NoticeAsks : Event → Type 0
 NoticeAsks event = (past : History) (g : Vcpu) → MayHappen past event → IsHistory past → names_vcpu (noticed past event) g ≡ true → host_said past event (notice_file past g) (notice_number past g) ≡ Ask
