@@ -6,7 +6,7 @@ ghost use Rattle.aia_regs.specs.BitUpdate.{settle};
 ghost use Rattle.aia_regs.specs.FileRegisters.{IsUsable, set_said, number_after};
 ghost use Rattle.aia_file.specs.InterruptFile.{is_greatest_identity, SameFile, empty_file, register_value, top_of, signals, accessed, landed, claimed};
 ghost use Rattle.aia_file.specs.FileState.{shown};
-ghost use Rattle.aia_file.specs.Summary.{Summarizes, AreIdentities};
+ghost use Rattle.aia_file.specs.Summary.{SummarizesBoth, AreIdentities};
 
 use crate::looks::search;
 use crate::summary::refreshed;
@@ -221,7 +221,7 @@ impl File {
 
     /// Gives the summary of both sets.
     pub(crate) fn summary(&self) -> u64
-        ensures summary { Summarizes result (is_in self.now.pending) (is_in self.now.enabled) }
+        ensures summary { SummarizesBoth result (is_in self.now.pending) (is_in self.now.enabled) }
         ensures some { 1 ≤ (self.now.n + 1) / 64 }
         ensures few { (self.now.n + 1) / 64 ≤ FILE_WORDS }
         ensures pending { AreIdentities ((self.now.n + 1) / 64) (is_in self.now.pending) }
