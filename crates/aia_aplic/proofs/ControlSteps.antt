@@ -15,7 +15,7 @@ use Rattle.aia_model.specs.SourceOf.{harts_in, idelivery_of, iforce_of, ithresho
 use Rattle.aia_aplic.specs.Side.{control, ControlsStand}
 use Rattle.aia_aplic.specs.Controls.{EachControl, control_after}
 use Rattle.std.proofs.lemmas.Iterator.Adapters.{option_map_id}
-use Rattle.aia_domain.proofs.EachLemmas.{each-length, each-entry}
+use Rattle.aia_domain.proofs.EachLemmas.{each-length, each-member}
 use Rattle.aia_aplic.proofs.LoadedSteps.{is_claim}
 
 -- ---- acts that say nothing of it
@@ -111,7 +111,7 @@ pub controls-after : (a : Act) (old new : List IdcState) (past : Past) (name : D
     → ((h : ℕ) → h < harts_in past → change h (control past name h) ≡ control (a ∷ past) name h) → ControlsStand old past name → ControlsStand new (a ∷ past) name
 controls-after a old new past name change harts each goes stands = record {
   count = each-length old new change each ∙ stands.count ∙ sym harts;
-  each = each-entry old new change (control past name) (control (a ∷ past) name) each stands.each (λ h low. goes h (subst (λ n. h < n) stands.count low));
+  each = each-member old new change (control past name) (control (a ∷ past) name) each stands.each (λ h low. goes h (subst (λ n. h < n) stands.count low));
 }
 
 pub controls-still : (a : Act) (old : List IdcState) (past : Past) (name : DomainName) → harts_in (a ∷ past) ≡ harts_in past → ((h : ℕ) → h < harts_in past → control (a ∷ past) name h ≡ control past name h) → ControlsStand old past name → ControlsStand old (a ∷ past) name

@@ -18,7 +18,7 @@ use Rattle.aia_model.specs.SourceOf.{harts_in, sources_in, wire_of, enabled, tar
 use Rattle.aia_direct.specs.Idc.{claimed_top}
 use Rattle.aia_aplic.specs.Side.{source_of, DomainStands}
 use Rattle.std.proofs.lemmas.Iterator.Adapters.{option_map_id}
-use Rattle.aia_domain.proofs.EachLemmas.{each-length, each-entry}
+use Rattle.aia_domain.proofs.EachLemmas.{each-length, each-member}
 use Rattle.aia_aplic.proofs.WriteSteps.{same_bools, root_written, child_written, root_at_child_written, child_at_root_config, child_at_root_written, is_config}
 use Rattle.aia_aplic.proofs.DrivenSteps.{driven}
 use Rattle.aia_aplic.proofs.LoadedSteps.{is_claim, claimed, loaded, root_at_child_loaded, child_at_root_loaded}
@@ -46,7 +46,7 @@ stands-after a d e past name change keeps each goes stands = record {
   genmsi = keeps.genmsi;
   genmsi_waits = keeps.genmsi_waits;
   count = each-length d.sources e.sources change each ∙ stands.count ∙ sym (ap suc keeps.sources_in);
-  each = each-entry d.sources e.sources change (source_of past name) (source_of (a ∷ past) name) each stands.each (λ s low. goes s (subst (λ n. s < n) stands.count low));
+  each = each-member d.sources e.sources change (source_of past name) (source_of (a ∷ past) name) each stands.each (λ s low. goes s (subst (λ n. s < n) stands.count low));
 }
 
 -- an act that a domain has no part in
