@@ -50,15 +50,15 @@ same_sourcecfg past i v Child s was again = not_written (is_register_of past i s
     at false e = refl
 
 -- a source keeps what it has where its mode and its delegation stay, and its sourcecfg is written only where it is inactive
-pub same_entry : (past : Past) (i v : ℕ) (d : DomainName) (s : ℕ) → is_delegated past i ≡ true → delegates (root_sourcecfg v) ≡ true
+pub same_source : (past : Past) (i v : ℕ) (d : DomainName) (s : ℕ) → is_delegated past i ≡ true → delegates (root_sourcecfg v) ≡ true
     → source_of (Written Root (SourceCfg i) v ∷ past) d s ≡ source_of past d s
 unfolding newest wire_of
-same_entry past i v Child s was again =
+same_source past i v Child s was again =
     source-step (Written Root (SourceCfg i) v) past Child s
     ∙ ap (λ c. stepped (mode_of c) (wire_of past s) (delivers_by_msis past Child) (delivers_by_msis past Child) (is_delegated (Written Root (SourceCfg i) v ∷ past) s) None Nothing Untouched (source_of past Child s)) (same_sourcecfg past i v Child s was again)
     ∙ ap (λ c. stepped (mode_of (sourcecfg_of past Child s)) (wire_of past s) (delivers_by_msis past Child) (delivers_by_msis past Child) (delegates c) None Nothing Untouched (source_of past Child s)) (same_sourcecfg past i v Root s was again)
     ∙ step-nothing (delivers_by_msis past Child) (source_of past Child s) (source-idle past Child s)
-same_entry past i v Root s was again =
+same_source past i v Root s was again =
     source-step (Written Root (SourceCfg i) v) past Root s
     ∙ ap (λ c. stepped (mode_of c) (wire_of past s) (delivers_by_msis past Root) (delivers_by_msis past Root) (delegates c) None Nothing (cond (is_register_of past i s) Configured Untouched) (source_of past Root s)) (same_sourcecfg past i v Root s was again)
     ∙ at (is_register_of past i s) refl
