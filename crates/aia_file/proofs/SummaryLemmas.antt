@@ -9,7 +9,7 @@ use Rattle.aia_word.specs.Sets.{has_bit, word_of}
 use Rattle.aia_word.proofs.BitLemmas.{has_bit-and, has_bit-zero}
 use Rattle.aia_word.proofs.SetLemmas.{has_bit-word_of, word_of-lt}
 use Rattle.aia_word.proofs.LeastLemmas.{least_of-none}
-use Rattle.aia_word.proofs.SummaryLemmas.{zero_has_none, other_has_some, none_in_word, summarizes, none_summarized, word_emptied, word_filled, other_words}
+use Rattle.aia_word.proofs.SummaryLemmas.{zero_has_none, other_has_some, none_in_word, summarizes, none_summarized, word_filled, other_words}
 use Rattle.aia_file.specs.InterruptFile.{is_shared}
 use Rattle.aia_file.specs.Summary.{SummarizesBoth, SummarizesBothAllBut, AreIdentities}
 use Rattle.aia_regs.specs.declared.limits.TheConstants.{FILE_WORDS}
@@ -39,9 +39,6 @@ some_shared p e w = other_has_some (both_words p e w) w (λ i. p i && e i) (both
 
 pub summary_elsewhere : (summary k : ℕ) (p e q f : ℕ → Bool) → SummarizesBoth summary p e → ((i : ℕ) → (i / 64 ≡ k → ⊥) → (q i && f i) ≡ (p i && e i)) → SummarizesBothAllBut k summary q f
 summary_elsewhere summary k p e q f = other_words summary k (λ i. p i && e i) (λ i. q i && f i)
-
-pub bit_cleared : (summary k : ℕ) (p e : ℕ → Bool) → k < 64 → both_words p e k ≡ 0 → SummarizesBothAllBut k summary p e → SummarizesBoth (bit_and summary (2 ^ 64 - 1 - 1 * 2 ^ k % 2 ^ 64)) p e
-bit_cleared summary k p e small = word_emptied summary k (both_words p e k) (λ i. p i && e i) small (bit_of_both p e k)
 
 pub bit_put : (summary k : ℕ) (p e : ℕ → Bool) → k < 64 → (both_words p e k ≡ 0 → ⊥) → SummarizesBothAllBut k summary p e → SummarizesBoth (bit_or summary (1 * 2 ^ k % 2 ^ 64)) p e
 bit_put summary k p e small = word_filled summary k (both_words p e k) (λ i. p i && e i) small (both_small p e k) (bit_of_both p e k)

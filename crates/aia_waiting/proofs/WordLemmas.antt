@@ -1,11 +1,10 @@
 -- The summary of a set of sources in words of bits, and what it keeps where one source changes.
 use Rattle.std.proofs.Common.{◌≡◌, ℕ, ◌+◌, ◌-◌, ◌*◌, ◌/◌, ◌%◌, ◌^◌, ◌<◌, Bool, true, false, cond, nat_eq, List, length, inl, inr, refl, sym, ap, ◌∙◌, arith}
-use Rattle.std.specs.Prelude.{bit_and, bit_or}
 use Rattle.std.proofs.lemmas.Bool.{cases_lt, ne_eqb}
 use Rattle.aia_word.specs.Sets.{has_bit, is_in, word_of}
 use Rattle.aia_word.specs.Summary.{Summarizes, SummarizesAllBut}
 use Rattle.aia_word.proofs.BitLemmas.{has_bit-zero}
-use Rattle.aia_word.proofs.SetLemmas.{has_bit-word_of, word_of-lt, word_from_bits, is_in-past}
+use Rattle.aia_word.proofs.SetLemmas.{word_from_bits, is_in-past}
 use Rattle.aia_word.proofs.SummaryLemmas as any
 use Rattle.aia_word.proofs.SummaryLemmas.{none_some, none_in_word, summarizes}
 use Rattle.aia_regs.specs.declared.limits.TheConstants.{SOURCE_WORDS}
@@ -14,14 +13,6 @@ pub none_word : (a : ℕ → Bool) (from : ℕ) → ((s : ℕ) → a s ≡ false
 none_word a from none = word_from_bits a from 0 (omega arith) (λ i low. has_bit-zero i ∙ sym (none (from + i)))
 
 -- ---- the summary
-
-pub word_emptied : (summary k : ℕ) (a : ℕ → Bool) → k < SOURCE_WORDS → word_of a (64 * k) 64 ≡ 0 → SummarizesAllBut k summary a → Summarizes (bit_and summary (2 ^ 64 - 1 - 1 * 2 ^ k % 2 ^ 64)) a
-word_emptied summary k a small = any.word_emptied summary k (word_of a (64 * k) 64) a (omega arith) (has_bit-word_of a (64 * k) 64)
-
-pub word_filled : (summary k : ℕ) (a : ℕ → Bool) → k < SOURCE_WORDS → (word_of a (64 * k) 64 ≡ 0 → ⊥) → SummarizesAllBut k summary a → Summarizes (bit_or summary (1 * 2 ^ k % 2 ^ 64)) a
-word_filled summary k a small = any.word_filled summary k (word_of a (64 * k) 64) a (omega arith) (word_of-lt a (64 * k) 64) (has_bit-word_of a (64 * k) 64)
-
-pub ruleset word_lemmas = (word_emptied, word_filled)
 
 -- where one source changes, the other words stay
 pub other_words : (summary s : ℕ) (ready : Bool) (old new : ℕ → Bool) → Summarizes summary old → ((t : ℕ) → new t ≡ cond (nat_eq s t) ready (old t)) → SummarizesAllBut (s / 64) summary new

@@ -95,15 +95,10 @@ fn put(words: &mut [u64], s: u32, ready: bool)
 }
 
 /// Gives the summary of the words, where all its bits but `k` tell of them already.
-#[tactic(auto, using(crate::proofs::WordLemmas::word_lemmas))]
 fn refreshed(summary: u64, words: &[u64], k: u32) -> u64
     requires word { k < SOURCE_WORDS }
     requires others { SummarizesAllBut k summary (is_in words.now) }
     ensures { Summarizes result (is_in words.now) }
 {
-    if sets::word(words, k as usize) == 0 {
-        summary & !(1 << k)
-    } else {
-        summary | (1 << k)
-    }
+    aia_word::refreshed(summary, k, sets::word(words, k as usize))
 }

@@ -5,15 +5,11 @@ use Rattle.std.specs.Prelude.{bit_and, bit_or}
 use Rattle.std.proofs.lemmas.Bool.{cases_eq, eq-eqb, ne_eqb, false≢true}
 use Rattle.std.proofs.lemmas.Nat.Bits.{bit_at-trailing_zeros}
 use Rattle.aia_word.specs.Sets.{has_bit, has_some}
-use Rattle.aia_word.specs.Summary.{Summarizes, SummarizesAllBut}
+use Rattle.aia_word.specs.Summary.{Summarizes, SummarizesAllBut, ShowsWord}
 use Rattle.aia_word.proofs.BitLemmas.{has_bit-set, has_bit-clear, has_bit-zero}
 use Rattle.aia_word.proofs.LeastLemmas.{least_of-found, least_of-none, least_of-same, least_of_is_none}
 
 -- ---- a word of the set
-
--- a number shows word w of a set
-abbrev pub ShowsWord : ℕ → (ℕ → Bool) → ℕ → Type 0
-ShowsWord x members w = (b : ℕ) → b < 64 → has_bit x b ≡ members (64 * w + b)
 
 pub same_some : (a b : ℕ → Bool) (w : ℕ) → ((i : ℕ) → 64 * w ≤ i → i < 64 * w + 64 → a i ≡ b i) → has_some a w ≡ has_some b w
 same_some a b w same = ap is_some (least_of-same a b (64 * w) 64 same)
