@@ -108,7 +108,7 @@ pub(crate) fn aim_at(sources: &[InterruptSource], s: u64) -> Option<Aim>
 }
 
 /// Tells whether a source is pending and enabled; one that isn't there is not.
-pub(crate) fn is_waiting(sources: &[InterruptSource], s: u32) -> bool
+pub(crate) fn waits_at(sources: &[InterruptSource], s: u32) -> bool
     ensures { result ≡ waits_at sources.now s }
 {
     (s as usize) < sources.len() && sources[s as usize].waits()

@@ -7,7 +7,7 @@ ghost use Rattle.aia_source.specs.Wired.SourceDeed.{Claimed, Forwarded};
 ghost use Rattle.aia_domain.specs.InterruptSource.{EachSource, changed_at, changed_if_named, granted, wired, with_deed, with_target, source_at, bit_at_source, is_active_at, target_at};
 ghost use Rattle.aia_domain.specs.Domain.{IsNewDomain, with_sources, configured_by, source_after, domain_after, domaincfg_written, domain_read, is_ready, ready_from, candidates, IsPairOfSource};
 
-use crate::by_number::{is_active_at, is_waiting, sourcecfg_at, target_at, word_shown};
+use crate::by_number::{is_active_at, sourcecfg_at, target_at, waits_at, word_shown};
 use crate::interrupt_source::{Change, SourceBit};
 use crate::ready::Ready;
 use crate::sources::Sources;
@@ -345,6 +345,6 @@ impl Domain {
     pub(crate) fn is_ready(&self, s: u32) -> bool
         ensures { result ≡ is_ready self.now s }
     {
-        self.delivers_by_msi() && self.on && is_waiting(self.sources.all(), s)
+        self.delivers_by_msi() && self.on && waits_at(self.sources.all(), s)
     }
 }

@@ -8,7 +8,7 @@ ghost use Rattle.aia_waiting.specs.Order.{CandidatesState, ordered};
 ghost use Rattle.aia_domain.specs.InterruptSource.{EachAt, waits_at, waiting_pair_at, pairs_for};
 ghost use Rattle.aia_domain.specs.Waiting.{IsWhatWaits, AllHave, HaveRoom, HasRoom, pairs_at, pair_of_aim, with_pair, without_pair, renewed};
 
-use crate::by_number::{aim_at, is_waiting};
+use crate::by_number::{aim_at, waits_at};
 use crate::interrupt_source::{Aim, InterruptSource};
 use aia_waiting::{Candidates, ReadyBits};
 use std::alloc::{AllocError, Global};
@@ -197,6 +197,6 @@ fn tell_all(ready: &mut ReadyBits, sources: &[InterruptSource])
     ensures { (s : ℕ) → is_in ready.new s ≡ waits_at sources.now s }
 {
     for s in 0..sources.len() {
-        ready.set(s as u32, is_waiting(sources, s as u32));
+        ready.set(s as u32, waits_at(sources, s as u32));
     }
 }
