@@ -1,8 +1,8 @@
 -- What is on top for a hart, by the first of its candidates, and what topi shows of it.
-use Rattle.std.proofs.Common.{◌≡◌, ℕ, ◌-◌, ◌≤◌, Bool, true, false, cond, not, ◌&&◌, ◌||◌, nat_eq, nat_le, List, [], length, slice_get, Option, Some, None, is_some, is_none, IfSome, inr, refl, sym, ap, ◌∙◌, arith}
+use Rattle.std.proofs.Common.{◌≡◌, ℕ, ◌-◌, ◌≤◌, Bool, true, false, cond, not, ◌||◌, nat_eq, nat_le, List, [], length, slice_get, Option, Some, None, is_some, is_none, IfSome, inr, refl, sym, ap, ◌∙◌, arith}
 use Rattle.std.specs.Option.{option_map}
 use Rattle.std.proofs.lemmas.Bool.{eq-eqb, ne_eqb}
-use Rattle.std.proofs.lemmas.Option.{none-some, same_Some}
+use Rattle.std.proofs.lemmas.Option.{none-some}
 use Rattle.aia_regs.specs.Fields.{field, with_field}
 use Rattle.aia_regs.proofs.FieldLemmas.{got, other_field}
 use Rattle.aia_source.specs.Top.{Pair, least_pair, topi_value}

@@ -1,6 +1,6 @@
 -- A hart's interrupt delivery control in a domain: what is on top for it, a claim, and its signal.
 -- AIA 1.0, APLIC, "Interrupt delivery directly by the APLIC".
-use Rattle.std.specs.Prelude.{ℕ, ◌-◌, Bool, false, not, ◌&&◌, ◌||◌, nat_le, is_some, is_none, if◌then◌else◌, List, length, Option, None}
+use Rattle.std.specs.Prelude.{ℕ, ◌-◌, Bool, false, not, ◌&&◌, ◌||◌, nat_le, is_some, is_none, if◌then◌else◌, length, Option, None}
 use Rattle.aia_regs.specs.declared.domain_registers.DomainReg.{DomainReg}
 use Rattle.aia_regs.specs.declared.domain_registers.DomainReg.TheVariants.{IDelivery, IForce, IThreshold}
 use Rattle.aia_regs.specs.Fields.{field, bit_number}

@@ -1,5 +1,5 @@
 -- The summary of a set of sources in words of bits, and what it keeps where one source changes.
-use Rattle.std.proofs.Common.{◌≡◌, ℕ, ◌+◌, ◌-◌, ◌*◌, ◌/◌, ◌%◌, ◌^◌, ◌<◌, Bool, true, false, cond, nat_eq, List, length, inl, inr, refl, sym, ap, ◌∙◌, arith}
+use Rattle.std.proofs.Common.{◌≡◌, ℕ, ◌+◌, ◌/◌, ◌^◌, ◌<◌, Bool, false, cond, nat_eq, List, length, inl, inr, refl, sym, ap, ◌∙◌, arith}
 use Rattle.std.proofs.lemmas.Bool.{cases_lt, ne_eqb}
 use Rattle.aia_word.specs.Sets.{has_bit, is_in, word_of}
 use Rattle.aia_word.specs.Summary.{Summarizes, SummarizesAllBut}
