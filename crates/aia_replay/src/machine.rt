@@ -1,4 +1,4 @@
-ghost use Rattle.std.specs.Prelude.{◌≡◌, ◌∷◌, ℕ, ◌≤◌, ◌-◌, ◌^◌, min, [], true, None, Some, is_some, IfOk, OnErr, IfSome};
+ghost use Rattle.std.specs.Prelude.{◌≡◌, ◌∷◌, ℕ, ◌≤◌, ◌-◌, ◌^◌, min, [], true, Some, is_some, IfOk, OnErr, IfSome};
 ghost use Rattle.aia_csr.specs.Access.{IsInTable};
 ghost use Rattle.aia_file.specs.InterruptFile.{is_greatest_identity};
 ghost use Rattle.aia_model.specs.Grammar.{IsListed};
