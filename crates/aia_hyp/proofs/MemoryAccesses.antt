@@ -9,9 +9,9 @@ use Rattle.aia_regs.specs.declared.access.Op.{Op}
 use Rattle.aia_regs.specs.declared.file_registers.FileReg.{FileReg}
 use Rattle.aia_regs.specs.declared.file_registers.FileReg.TheVariants.{Delivery, Threshold, Pending, Enable, Reserved, Odd, Outside}
 use Rattle.aia_regs.specs.FileRegisters.{number_after, IsUsable}
-use Rattle.aia_csr.specs.declared.access.Access.{Access}
-use Rattle.aia_csr.specs.declared.access.Access.TheVariants as reaches
-use Rattle.aia_csr.specs.Access.{IsFileCsr}
+use Rattle.aia_csr.specs.declared.csr_access.CsrAccess.{CsrAccess}
+use Rattle.aia_csr.specs.declared.csr_access.CsrAccess.TheVariants as reaches
+use Rattle.aia_csr.specs.CsrAccess.{IsFileCsr}
 use Rattle.aia_file.specs.InterruptFile.{InterruptFile, SameFile, register_value, accessed, claimed}
 use Rattle.aia_mrif.specs.SlotFile.{IsOfSets}
 use Rattle.aia_major.specs.Kept.{majors_shown}
@@ -216,7 +216,7 @@ file_csr csr of_file = absurd of_file
 served_there : (x : CoreState) (h : History) (g : Vcpu) (kept : Kept) (csr : Csr) → CoreStands x h → has_vcpu h g ≡ true → (record_of x g).stay ≡ stays.Entered kept → IsFileCsr csr → serves (home h g) csr ≡ true
 served_there x h g kept csr stands there at of_file = ap (λ t. serves t csr) (sym (stands.vcpus g there).same_home ∙ ap home_in at) ∙ file_csr csr of_file
 
-pub memory_accessed : (x y : CoreState) (vm number : ℕ) (csr kind : Csr) (op : Op) (kept now : Kept) (access : Access) (value : ℕ) → IsWhole x.world → is_vcpu_in x.world.vms (vcpu vm number) ≡ true → (record_of x (vcpu vm number)).stay ≡ stays.Entered kept
+pub memory_accessed : (x y : CoreState) (vm number : ℕ) (csr kind : Csr) (op : Op) (kept now : Kept) (access : CsrAccess) (value : ℕ) → IsWhole x.world → is_vcpu_in x.world.vms (vcpu vm number) ≡ true → (record_of x (vcpu vm number)).stay ≡ stays.Entered kept
     → access ≡ access_by (record_of x (vcpu vm number)) csr op → raises_illegal access ≡ false → raises_virtual access ≡ false → csr ≡ kind
     → value ≡ csr_shown (record_of x (vcpu vm number)).select (file_in_memory x.world (slot_of x.world.vms (vcpu vm number)) kept) kind → MemoryHasDone x y (vcpu vm number) kept now (Accesses kind op) → IsFileCsr kind → CoreTakes x y (GuestCsr vm number csr op) (Wide value)
 memory_accessed x y vm number csr kind op kept now access value whole inside at table legal allowed named read done of_file =

@@ -1,7 +1,7 @@
 ghost use Rattle.std.specs.Prelude.{◌≡◌, ◌<◌, ◌≤◌, true, false, length, slice_index_or, slice_set, Some};
 ghost use Rattle.std.specs.Vec.{vec_capacity};
 ghost use Rattle.aia_regs.specs.FileRegisters.{select_written};
-ghost use Rattle.aia_csr.specs.Access.{ReachesUsable, access_of};
+ghost use Rattle.aia_csr.specs.CsrAccess.{ReachesUsable, csr_access};
 ghost use Rattle.aia_major.specs.VsMajor.{vti_of};
 ghost use Rattle.aia_major.specs.Kept.{majors_shown};
 ghost use Rattle.aia_home.specs.Vms.{vcpu, is_vcpu_in};
@@ -15,7 +15,7 @@ ghost use Rattle.aia_hyp.specs.Stands.{CoreTakes, answer_by};
 use crate::hyp::{Hyp, claim_or_read, select_after};
 use crate::majors::{access_sie_in, access_sip_in, stopi_in};
 use crate::vcpu::VcpuRecord;
-use aia_csr::{Access, decide};
+use aia_csr::{CsrAccess, decide};
 use aia_home::Place;
 use aia_imsic::Spot;
 use aia_model::Refusal;
@@ -77,25 +77,25 @@ impl Hyp {
         let spot = file_spot(place);
         let slot = self.fabric.slot_of(vm, number);
         match self.guest_reached(vm, number, csr, op) {
-            Access::Select => Ok(access_select_in(&mut self.vcpus, slot, op)),
-            Access::File(reg) => Ok(self.fabric.reg(spot, reg, op)),
-            Access::Top => Ok(claim_or_read(&mut self.fabric, spot, op)),
-            Access::Topi => Ok(stopi_in(&self.vcpus, slot, self.fabric.file(spot))),
-            Access::Sip => {
+            CsrAccess::Select => Ok(access_select_in(&mut self.vcpus, slot, op)),
+            CsrAccess::File(reg) => Ok(self.fabric.reg(spot, reg, op)),
+            CsrAccess::Top => Ok(claim_or_read(&mut self.fabric, spot, op)),
+            CsrAccess::Topi => Ok(stopi_in(&self.vcpus, slot, self.fabric.file(spot))),
+            CsrAccess::Sip => {
                 let signal = self.fabric.file(spot).signal();
                 Ok(access_sip_in(&mut self.vcpus, slot, op, signal))
             }
-            Access::Sie => Ok(access_sie_in(&mut self.vcpus, slot, op)),
-            Access::Illegal => Err(Refusal::Illegal),
-            Access::Virtual => Err(Refusal::Virtual),
+            CsrAccess::Sie => Ok(access_sie_in(&mut self.vcpus, slot, op)),
+            CsrAccess::Illegal => Err(Refusal::Illegal),
+            CsrAccess::Virtual => Err(Refusal::Virtual),
         }
     }
 
     /// Tells what the access of a virtual hart that is there reaches, by its select number and
     /// VTI.
-    pub(crate) fn guest_reached(&self, vm: u32, number: u32, csr: Csr, op: Op) -> Access
+    pub(crate) fn guest_reached(&self, vm: u32, number: u32, csr: Csr, op: Op) -> CsrAccess
         requires there { is_vcpu_in self.now.world.vms (vcpu vm number) ≡ true }
-        ensures table { result ≡ access_of Level.Guest csr op
+        ensures table { result ≡ csr_access Level.Guest csr op
             (record_of self.now (vcpu vm number)).select
             (vti_of (majors_shown (record_of self.now (vcpu vm number)).majors).hvictl) }
         ensures usable { ReachesUsable result }

@@ -4,7 +4,7 @@ ghost use Rattle.std.specs.Result.{result_err};
 ghost use Rattle.std.specs.Vec.{vec_capacity};
 ghost use Rattle.aia_regs.specs.FileRegisters.{select_written};
 ghost use Rattle.aia_regs.specs.AddressMap.{is_in_memory};
-ghost use Rattle.aia_csr.specs.Access.{IsInTable, ReachesUsable, access_of};
+ghost use Rattle.aia_csr.specs.CsrAccess.{IsInTable, ReachesUsable, csr_access};
 ghost use Rattle.aia_file.specs.InterruptFile.{SameFile, is_greatest_identity, register_value, top_of};
 ghost use Rattle.aia_file.specs.FileState.{shown};
 ghost use Rattle.aia_imsic.specs.Imsic.{IsThere, file_at, with_file};
@@ -26,7 +26,7 @@ ghost use Rattle.aia_hyp.specs.Stands.{CoreStands, StandsForSome, CoreTakes, Cor
 
 use crate::passes::Passes;
 use crate::vcpu::VcpuRecord;
-use aia_csr::{Access, decide};
+use aia_csr::{CsrAccess, decide};
 use aia_entry::{Route, is_mask};
 use aia_fabric::Fabric;
 use aia_imsic::Spot;
@@ -131,21 +131,22 @@ impl Hyp {
         ensures { CoreTakes self.old self.new (csr_line level hart csr op) (answer_by Wide result) }
     {
         match self.reached(level, hart, csr, op) {
-            Access::Select => Ok(access_select(&mut self.selects, level, hart, op)),
-            Access::File(reg) => Ok(self.fabric.reg(spot(level, hart), reg, op)),
-            Access::Top => Ok(claim_or_read(&mut self.fabric, spot(level, hart), op)),
-            Access::Illegal => Err(Refusal::Illegal),
-            Access::Topi | Access::Sip | Access::Sie | Access::Virtual => unreachable!(),
+            CsrAccess::Select => Ok(access_select(&mut self.selects, level, hart, op)),
+            CsrAccess::File(reg) => Ok(self.fabric.reg(spot(level, hart), reg, op)),
+            CsrAccess::Top => Ok(claim_or_read(&mut self.fabric, spot(level, hart), op)),
+            CsrAccess::Illegal => Err(Refusal::Illegal),
+            CsrAccess::Topi | CsrAccess::Sip | CsrAccess::Sie | CsrAccess::Virtual =>
+                unreachable!(),
         }
     }
 
     /// Tells what the access reaches, by the select number of the hart and level.
-    fn reached(&self, level: Level, hart: u32, csr: Csr, op: Op) -> Access
+    fn reached(&self, level: Level, hart: u32, csr: Csr, op: Op) -> CsrAccess
         requires listed { IsInTable level csr }
         requires host { IsHost level }
         requires few { hart < HARTS }
         ensures table { result
-            ≡ access_of level csr op (select_in self.now (name_of level hart)) false }
+            ≡ csr_access level csr op (select_in self.now (name_of level hart)) false }
         ensures usable { ReachesUsable result }
     {
         let select = self.selects[select_place(level, hart)];

@@ -6,7 +6,7 @@ ghost use Rattle.std.specs.Vec.{vec_capacity};
 ghost use Rattle.aia_word.specs.Top.{top_value};
 ghost use Rattle.aia_regs.specs.declared.limits.TheConstants.{VCPUS};
 ghost use Rattle.aia_regs.specs.FileRegisters.{number_after};
-ghost use Rattle.aia_csr.specs.Access.{IsFileCsr};
+ghost use Rattle.aia_csr.specs.CsrAccess.{IsFileCsr};
 ghost use Rattle.aia_file.specs.InterruptFile.{top_of};
 ghost use Rattle.aia_home.specs.Vms.{vcpu, is_vcpu_in};
 ghost use Rattle.aia_fabric.specs.SlotAccess.{file_of_slot};
@@ -23,7 +23,7 @@ use crate::guest::access_select_in;
 use crate::hyp::Hyp;
 use crate::moves::{Found, find};
 use crate::vcpu::{Stay, VcpuRecord};
-use aia_csr::Access;
+use aia_csr::CsrAccess;
 use aia_fabric::Fabric;
 use aia_model::Refusal;
 use aia_move::Kept;
@@ -126,16 +126,16 @@ impl Hyp {
     {
         let slot = self.fabric.slot_of(vm, number);
         match self.guest_reached(vm, number, csr, op) {
-            Access::Select => Ok(access_select_in(&mut self.vcpus, slot, op)),
-            Access::File(reg) if is_number(reg) => {
+            CsrAccess::Select => Ok(access_select_in(&mut self.vcpus, slot, op)),
+            CsrAccess::File(reg) if is_number(reg) => {
                 let modulus = 64 * u64::from(self.fabric.words());
                 Ok(access_kept_in(&mut self.vcpus, slot, kept, reg, op, modulus))
             }
-            Access::File(reg) => Ok(self.fabric.slot_reg(slot, reg, op)),
-            Access::Top => Ok(top_in(&mut self.fabric, slot, kept.threshold, op)),
-            Access::Illegal => Err(Refusal::Illegal),
-            Access::Virtual => Err(Refusal::Virtual),
-            Access::Topi | Access::Sip | Access::Sie => unreachable!(),
+            CsrAccess::File(reg) => Ok(self.fabric.slot_reg(slot, reg, op)),
+            CsrAccess::Top => Ok(top_in(&mut self.fabric, slot, kept.threshold, op)),
+            CsrAccess::Illegal => Err(Refusal::Illegal),
+            CsrAccess::Virtual => Err(Refusal::Virtual),
+            CsrAccess::Topi | CsrAccess::Sip | CsrAccess::Sie => unreachable!(),
         }
     }
 }

@@ -6,7 +6,7 @@ use Rattle.std.specs.Int.{is_in_range}
 use Rattle.aia_regs.specs.declared.access.Csr.{Csr}
 use Rattle.aia_regs.specs.declared.access.Op.{Op}
 use Rattle.aia_regs.specs.declared.access.Level.TheVariants as levels
-use Rattle.aia_csr.specs.Access.{access_of}
+use Rattle.aia_csr.specs.CsrAccess.{csr_access}
 use Rattle.aia_model.specs.declared.line.Line.{Line}
 use Rattle.aia_model.specs.declared.line.Line.TheVariants.{Machine, Wire, Load, Store, Send, Land, Refetch, MachineCsr, HostCsr, Hgeip, Pins, GuestCsr, Ipi, Arrive, Leave, Shift, BeginArrive, BeginLeave, BeginShift, Step, Enter, Exit, Save, LoadPart, Inject, Hvictl, Hviprio}
 use Rattle.aia_regs.specs.declared.limits.TheConstants.{STORES_IN_FLIGHT}
@@ -116,11 +116,11 @@ abbrev pub access_refusal : History → ℕ → Bool → Option Answer
 access_refusal h hart illegal = cond (not (nat_lt hart (harts_of h))) (Some (Refused Range)) (cond illegal (Some (Refused Illegal)) None)
 
 pub machine_csr_refusal : (h : History) (hart : ℕ) (csr : Csr) (op : Op) → has_machine h ≡ true
-    → refusal h (MachineCsr hart csr op) ≡ access_refusal h hart (raises_illegal (access_of levels.Machine csr op (select_of h (MachineFile hart)) false))
+    → refusal h (MachineCsr hart csr op) ≡ access_refusal h hart (raises_illegal (csr_access levels.Machine csr op (select_of h (MachineFile hart)) false))
 machine_csr_refusal h hart csr op there = past_machine h _ there
 
 pub host_csr_refusal : (h : History) (hart : ℕ) (csr : Csr) (op : Op) → has_machine h ≡ true
-    → refusal h (HostCsr hart csr op) ≡ access_refusal h hart (raises_illegal (access_of levels.Host csr op (select_of h (SupervisorFile hart)) false))
+    → refusal h (HostCsr hart csr op) ≡ access_refusal h hart (raises_illegal (csr_access levels.Host csr op (select_of h (SupervisorFile hart)) false))
 host_csr_refusal h hart csr op there = past_machine h _ there
 
 pub vm_refusal : (h : History) (vcpus mask hart : ℕ) → has_machine h ≡ true

@@ -1,7 +1,7 @@
 ghost use Rattle.std.specs.Prelude.{◌≡◌, ◌∷◌, ℕ, ◌≤◌, ◌-◌, ◌%◌, ◌^◌, min, [], true, None, Some, is_some, nat_eq, if◌then◌else◌, IfOk, OnErr, IfSome};
 ghost use Rattle.std.specs.Option.{option_map};
 ghost use Rattle.std.specs.Result.{result_err};
-ghost use Rattle.aia_csr.specs.Access.{IsInTable};
+ghost use Rattle.aia_csr.specs.CsrAccess.{IsInTable};
 ghost use Rattle.aia_file.specs.InterruptFile.{is_greatest_identity};
 ghost use Rattle.aia_model.specs.Grammar.{IsListed};
 ghost use Rattle.aia_model.specs.Event.{History};

@@ -1,8 +1,8 @@
 use Rattle.std.proofs.Common.{◌≡◌, ◌<◌, false, refl, sym, ap, subst, ◌∙◌}
 use Rattle.aia_regs.specs.declared.access.Csr.TheVariants as csrs
-use Rattle.aia_csr.specs.declared.access.Access.{Access}
-use Rattle.aia_csr.specs.declared.access.Access.TheVariants.{Select, File, Top}
-use Rattle.aia_csr.specs.Access.{access_of}
+use Rattle.aia_csr.specs.declared.csr_access.CsrAccess.{CsrAccess}
+use Rattle.aia_csr.specs.declared.csr_access.CsrAccess.TheVariants.{Select, File, Top}
+use Rattle.aia_csr.specs.CsrAccess.{csr_access}
 use Rattle.aia_regs.specs.declared.file_registers.FileReg.{FileReg}
 use Rattle.aia_regs.specs.FileRegisters.{register_of}
 use Rattle.aia_file.specs.InterruptFile.{SameFile, register_value, accessed}
@@ -26,7 +26,7 @@ select_taken c =
     let y : CoreState = record { world = c.self.inside.fabric; leases = c.self.inside.pool; vcpus = c.self.inside.vcpus.items; selects = c.access_select.new.selects; passes = c.self.inside.passes } in
     let f = name_of c.args.level c.args.hart in
     let there : c.args.hart < x.world.imsic.harts = subst (λ (z : CoreState). c.args.hart < z.world.imsic.harts) (sym c.self.view_is) c.requires.there in
-    let table = subst (λ (z : CoreState). ◌≡◌ {A = Access} (Select) (access_of c.args.level c.args.csr c.args.op (select_in z f) false)) (sym c.self.view_is) c.in-Select.ensures.table in
+    let table = subst (λ (z : CoreState). ◌≡◌ {A = CsrAccess} (Select) (csr_access c.args.level c.args.csr c.args.op (select_in z f) false)) (sym c.self.view_is) c.in-Select.ensures.table in
     let reached = select_reached c.args.level c.args.csr c.args.op _ (of_file c.args.level c.args.csr c.requires.host c.requires.listed) table in
     lemmas.accessed x y c.args.level c.requires.host c.args.hart c.args.csr csrs.Select c.args.op (Select) c.access_select.result there table refl
     reached c.access_select.ensures.value
@@ -38,7 +38,7 @@ file_taken c =
     let y : CoreState = record { world = c.reg.new.self; leases = c.self.inside.pool; vcpus = c.self.inside.vcpus.items; selects = c.self.inside.selects; passes = c.self.inside.passes } in
     let f = name_of c.args.level c.args.hart in
     let there : c.args.hart < x.world.imsic.harts = subst (λ (z : CoreState). c.args.hart < z.world.imsic.harts) (sym c.self.view_is) c.requires.there in
-    let table = subst (λ (z : CoreState). ◌≡◌ {A = Access} (File c.in-File.reg) (access_of c.args.level c.args.csr c.args.op (select_in z f) false)) (sym c.self.view_is) c.in-File.ensures.table in
+    let table = subst (λ (z : CoreState). ◌≡◌ {A = CsrAccess} (File c.in-File.reg) (csr_access c.args.level c.args.csr c.args.op (select_in z f) false)) (sym c.self.view_is) c.in-File.ensures.table in
     let reached = file_reached c.args.level c.args.csr c.args.op _ c.in-File.reg (of_file c.args.level c.args.csr c.requires.host c.requires.listed) table in
     let read = c.reg.ensures.value ∙ ap (register_value (shown (file_at x.world.imsic c.spot.result))) (sym reached.1) in
     lemmas.accessed x y c.args.level c.requires.host c.args.hart c.args.csr csrs.Reg c.args.op (File c.in-File.reg) c.reg.result there table refl
@@ -51,7 +51,7 @@ top_taken c =
     let y : CoreState = record { world = c.claim_or_read.new.fabric; leases = c.self.inside.pool; vcpus = c.self.inside.vcpus.items; selects = c.self.inside.selects; passes = c.self.inside.passes } in
     let f = name_of c.args.level c.args.hart in
     let there : c.args.hart < x.world.imsic.harts = subst (λ (z : CoreState). c.args.hart < z.world.imsic.harts) (sym c.self.view_is) c.requires.there in
-    let table = subst (λ (z : CoreState). ◌≡◌ {A = Access} (Top) (access_of c.args.level c.args.csr c.args.op (select_in z f) false)) (sym c.self.view_is) c.in-Top.ensures.table in
+    let table = subst (λ (z : CoreState). ◌≡◌ {A = CsrAccess} (Top) (csr_access c.args.level c.args.csr c.args.op (select_in z f) false)) (sym c.self.view_is) c.in-Top.ensures.table in
     let reached = top_reached c.args.level c.args.csr c.args.op _ (of_file c.args.level c.args.csr c.requires.host c.requires.listed) table in
     lemmas.accessed x y c.args.level c.requires.host c.args.hart c.args.csr csrs.Topei c.args.op (Top) c.claim_or_read.result there table refl
     reached (rw (← c.spot-in-Top.ensures) c.claim_or_read.ensures.value)

@@ -3,7 +3,7 @@ use Rattle.aia_regs.specs.declared.access.Csr.TheVariants as csrs
 use Rattle.aia_regs.specs.declared.access.Csr.{Csr}
 use Rattle.aia_regs.specs.declared.file_registers.FileReg.{FileReg}
 use Rattle.aia_regs.specs.FileRegisters.{select_written}
-use Rattle.aia_csr.specs.declared.access.Access.TheVariants as reaches
+use Rattle.aia_csr.specs.declared.csr_access.CsrAccess.TheVariants as reaches
 use Rattle.aia_file.specs.InterruptFile.{SameFile, register_value, top_of, accessed, signals}
 use Rattle.aia_file.specs.FileState.{FileState, shown}
 use Rattle.aia_imsic.specs.declared.spot.Spot.{Spot}

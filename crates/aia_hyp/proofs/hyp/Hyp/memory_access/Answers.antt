@@ -4,7 +4,7 @@ use Rattle.aia_regs.specs.declared.access.Csr.TheVariants as csrs
 use Rattle.aia_regs.specs.declared.file_registers.FileReg.{FileReg}
 use Rattle.aia_regs.specs.FileRegisters.{select_written}
 use Rattle.aia_regs.specs.Operations.{is_writing}
-use Rattle.aia_csr.specs.declared.access.Access.TheVariants as reaches
+use Rattle.aia_csr.specs.declared.csr_access.CsrAccess.TheVariants as reaches
 use Rattle.aia_file.specs.InterruptFile.{SameFile, register_value, top_of, accessed, claimed}
 use Rattle.aia_home.specs.Vms.{Vcpu, vcpu, is_vcpu_in, slot_of}
 use Rattle.aia_fabric.specs.SlotAccess.{file_of_slot, DoneInSlot}

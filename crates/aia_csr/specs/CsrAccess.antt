@@ -9,14 +9,14 @@ use Rattle.aia_regs.specs.Operations.{is_writing}
 use Rattle.aia_regs.specs.FileRegisters.{register_of, IsUsable}
 use Rattle.aia_regs.specs.declared.access.Level.{Level}
 use Rattle.aia_regs.specs.declared.access.Level.TheVariants as levels
-use Rattle.aia_csr.specs.declared.access.Access.{Access}
-use Rattle.aia_csr.specs.declared.access.Access.TheVariants as reaches
+use Rattle.aia_csr.specs.declared.csr_access.CsrAccess.{CsrAccess}
+use Rattle.aia_csr.specs.declared.csr_access.CsrAccess.TheVariants as reaches
 
 -- What an access to mireg or sireg reaches, by the register that the select number names. One that
 -- doesn't exist is illegal, but at a guest it raises a virtual-instruction exception.
 -- AIA 1.0, IMSIC, "Indirectly accessed interrupt-file registers". Profile: a number outside 0x70 to
 -- 0xff is refused in the same way.
-abbrev pub register_access : Level → FileReg → Access
+abbrev pub register_access : Level → FileReg → CsrAccess
 register_access levels.Guest Odd = reaches.Virtual
 register_access levels.Guest Outside = reaches.Virtual
 register_access level Odd = reaches.Illegal
@@ -26,15 +26,15 @@ register_access level reg = reaches.File reg
 -- The table, by level, CSR and instruction, the select number, and hvictl's VTI.
 -- AIA 1.0, IMSIC, and Interrupts for Virtual Machines (VS Level). A host's access to stopi, sip or
 -- sie is not modelled.
-abbrev pub access_of : Level → Csr → Op → ℕ → Bool → Access
-access_of level csrs.Select op select vti = reaches.Select
-access_of level csrs.Topei op select vti = reaches.Top
-access_of level csrs.Reg op select vti = register_access level (register_of select)
-access_of levels.Guest csrs.Topi op select vti =
+abbrev pub csr_access : Level → Csr → Op → ℕ → Bool → CsrAccess
+csr_access level csrs.Select op select vti = reaches.Select
+csr_access level csrs.Topei op select vti = reaches.Top
+csr_access level csrs.Reg op select vti = register_access level (register_of select)
+csr_access levels.Guest csrs.Topi op select vti =
     if is_writing op then reaches.Illegal else reaches.Topi
-access_of levels.Guest csrs.Sip op select vti = if vti then reaches.Virtual else reaches.Sip
-access_of levels.Guest csrs.Sie op select vti = if vti then reaches.Virtual else reaches.Sie
-access_of level csr op select vti = reaches.Illegal
+csr_access levels.Guest csrs.Sip op select vti = if vti then reaches.Virtual else reaches.Sip
+csr_access levels.Guest csrs.Sie op select vti = if vti then reaches.Virtual else reaches.Sie
+csr_access level csr op select vti = reaches.Illegal
 
 -- The CSR is one of an interrupt file's: the select number, the register that it selects, or the
 -- identity on top.
@@ -50,6 +50,6 @@ IsInTable levels.Guest csr = Unit {0}
 IsInTable level csr = IsFileCsr csr
 
 -- A register of the file that is reached is one that a file serves.
-abbrev pub ReachesUsable : Access → Type 0
+abbrev pub ReachesUsable : CsrAccess → Type 0
 ReachesUsable (reaches.File reg) = IsUsable reg
 ReachesUsable access = Unit {0}
