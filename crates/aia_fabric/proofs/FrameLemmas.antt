@@ -4,7 +4,7 @@ use Rattle.aia_regs.specs.declared.limits.TheConstants.{IDENTITIES}
 use Rattle.aia_regs.specs.Request.{requested}
 use Rattle.aia_file.specs.FileState.{FileState}
 use Rattle.aia_imsic.specs.declared.spot.Spot.{Spot}
-use Rattle.aia_imsic.specs.declared.spot.Spot.TheVariants.{MachineFile, HostFile, GuestFile, Nowhere}
+use Rattle.aia_imsic.specs.declared.spot.Spot.TheVariants.{MachineFile, SupervisorFile, GuestFile, Nowhere}
 use Rattle.aia_imsic.specs.Imsic.{file_at, with_file}
 use Rattle.aia_mrif.specs.declared.slot.Stored.{Stored}
 use Rattle.aia_mrif.specs.declared.slot.Stored.TheVariants.{Discarded, Quiet, Notice}
@@ -43,12 +43,12 @@ posts_rest w u spot identity p =
 at_rest : (w u : World) (spot : Spot) (offset value : ℕ) → StoresAt w u spot offset value → OnlyStores w u
 at_rest w u (GuestFile hart file) offset value s = stores_rest w u (GuestFile hart file) offset value s
 at_rest w u (MachineFile hart) offset value s = none_rest w u s
-at_rest w u (HostFile hart) offset value s = none_rest w u s
+at_rest w u (SupervisorFile hart) offset value s = none_rest w u s
 at_rest w u Nowhere offset value s = none_rest w u s
 
 noticed_rest : (w u : World) (spot : Spot) (identity : ℕ) → NoticedAt w u spot identity → OnlyStores w u
 noticed_rest w u (MachineFile hart) identity p = posts_rest w u (MachineFile hart) identity p
-noticed_rest w u (HostFile hart) identity p = posts_rest w u (HostFile hart) identity p
+noticed_rest w u (SupervisorFile hart) identity p = posts_rest w u (SupervisorFile hart) identity p
 noticed_rest w u (GuestFile hart file) identity p = none_rest w u p
 noticed_rest w u Nowhere identity p = none_rest w u p
 
@@ -75,4 +75,4 @@ reaches_rest (Fault entry) w u offset value s = none_rest w u s
 
 pub relays_rest : (named : Option Place) (w u : World) (g : Vcpu) (value : ℕ) → Relays named w u g value → OnlyStores w u
 relays_rest (Some p) w u g value s = at_rest w u (named_spot w.imsic p) 0 value s
-relays_rest None w u g value s = slot_rest w u (Some (slot_of w.vms g)) (HostFile (notice_hart w.vms g)) (notice_identity w.vms g) 0 value s
+relays_rest None w u g value s = slot_rest w u (Some (slot_of w.vms g)) (SupervisorFile (notice_hart w.vms g)) (notice_identity w.vms g) 0 value s

@@ -6,7 +6,7 @@ use Rattle.std.proofs.lemmas.List.{length-append}
 use Rattle.aia_regs.specs.declared.address_map.TheConstants.{PAGE}
 use Rattle.aia_regs.specs.AddressMap.{slot_address}
 use Rattle.aia_imsic.specs.declared.spot.Spot.{Spot}
-use Rattle.aia_imsic.specs.declared.spot.Spot.TheVariants.{HostFile}
+use Rattle.aia_imsic.specs.declared.spot.Spot.TheVariants.{SupervisorFile}
 use Rattle.aia_entry.specs.declared.entry.Entry.TheVariants.{Mrif}
 use Rattle.aia_entry.specs.declared.table.Route.{Route}
 use Rattle.aia_entry.specs.declared.table.Route.TheVariants.{Other, To}
@@ -40,7 +40,7 @@ made_route w u vm addr same made is low =
 
 pub made_reaches : (w u x : World) (vm : Vm) (addr value : ℕ) → IsWhole w → IsWhole u → MakesVm w u vm → is_msi_address vm.mask addr ≡ true → file_number vm.mask addr < vm.vcpus
     → Reaches (route_of (table_of u.tables (length w.vms)) addr) u x (addr % PAGE) value
-    → StoresInSlot u x (Some (slot_of u.vms (vcpu (length w.vms) (file_number vm.mask addr)))) (HostFile (notice_hart u.vms (vcpu (length w.vms) (file_number vm.mask addr)))) (notice_identity u.vms (vcpu (length w.vms) (file_number vm.mask addr))) (addr % PAGE) value
+    → StoresInSlot u x (Some (slot_of u.vms (vcpu (length w.vms) (file_number vm.mask addr)))) (SupervisorFile (notice_hart u.vms (vcpu (length w.vms) (file_number vm.mask addr)))) (notice_identity u.vms (vcpu (length w.vms) (file_number vm.mask addr))) (addr % PAGE) value
 made_reaches w u x vm addr value before after made is low stored =
     let number = file_number vm.mask addr in
     let q = vcpus_in w.vms + number in
@@ -56,5 +56,5 @@ made_reaches w u x vm addr value before after made is low stored =
     let there : vm.notice_hart < u.imsic.harts = subst (λ n. n < u.imsic.harts) hart stands in
     let in_slot = subst (λ (o : Option ℕ). StoresInSlot u x o (page_spot u.imsic (notice_page vm)) (q + 1) (addr % PAGE) value) (slot_found q few) led in
     let noticed = subst (λ (p : Spot). StoresInSlot u x (Some q) p (q + 1) (addr % PAGE) value) (host_page u.imsic vm.notice_hart there after.harts) in_slot in
-    let by_slot = subst (λ (n : ℕ). StoresInSlot u x (Some n) (HostFile vm.notice_hart) (n + 1) (addr % PAGE) value) (sym slot) noticed in
-    subst (λ (n : ℕ). StoresInSlot u x (Some (slot_of u.vms (vcpu (length w.vms) number))) (HostFile n) (notice_identity u.vms (vcpu (length w.vms) number)) (addr % PAGE) value) (sym hart) by_slot
+    let by_slot = subst (λ (n : ℕ). StoresInSlot u x (Some n) (SupervisorFile vm.notice_hart) (n + 1) (addr % PAGE) value) (sym slot) noticed in
+    subst (λ (n : ℕ). StoresInSlot u x (Some (slot_of u.vms (vcpu (length w.vms) number))) (SupervisorFile n) (notice_identity u.vms (vcpu (length w.vms) number)) (addr % PAGE) value) (sym hart) by_slot

@@ -10,7 +10,7 @@ use Rattle.aia_regs.specs.Request.{requested}
 use Rattle.aia_file.specs.InterruptFile.{empty_file}
 use Rattle.aia_file.specs.FileState.{shown}
 use Rattle.aia_imsic.specs.declared.spot.Spot.{Spot}
-use Rattle.aia_imsic.specs.declared.spot.Spot.TheVariants.{MachineFile, HostFile}
+use Rattle.aia_imsic.specs.declared.spot.Spot.TheVariants.{MachineFile, SupervisorFile}
 use Rattle.aia_imsic.specs.Imsic.{ImsicState, IsThere, file_at}
 use Rattle.aia_imsic.proofs.MapLemmas.{in_page, spot_of_guest}
 use Rattle.aia_imsic.proofs.PlaceLemmas.{kept_elsewhere}
@@ -48,8 +48,8 @@ touches_none w u g reach e = record {
   rest = none_rest w u e;
   guest_files = λ p there other. ap (λ (x : World). file_at x.imsic (spot_of p)) e;
   machine_files = λ hart there. ap (λ (x : World). file_at x.imsic (MachineFile hart)) e;
-  host_files = λ hart there other. ap (λ (x : World). file_at x.imsic (HostFile hart)) e;
-  notice = inl (ap (λ (x : World). file_at x.imsic (HostFile (notice_hart w.vms g))) e);
+  host_files = λ hart there other. ap (λ (x : World). file_at x.imsic (SupervisorFile hart)) e;
+  notice = inl (ap (λ (x : World). file_at x.imsic (SupervisorFile (notice_hart w.vms g))) e);
   slots = λ q other. ap (λ (x : World). mrif_in x.memory q) e;
   entry_words = λ x. (ap (λ (u : World). get_or u.memory (entry_word_place x.vm x.number) 0) e, ap (λ (u : World). get_or u.memory (entry_word_place x.vm x.number + 1) 0) e);
 }
@@ -68,8 +68,8 @@ module _ (w u : World) (g : Vcpu) (p : Place) (offset value : ℕ) (whole : IsWh
     rest = stores_rest w u (spot_of p) offset value s;
     guest_files = λ q inside other. file_kept (spot_of q) inside (λ e. other (ap Some (sym (same_place q p e))));
     machine_files = λ hart inside. file_kept (MachineFile hart) inside (λ e. absurd (cc));
-    host_files = λ hart inside other. file_kept (HostFile hart) inside (λ e. absurd (cc));
-    notice = inl (file_kept (HostFile (notice_hart w.vms g)) (notice_hart_there w g whole there) (λ e. absurd (cc)));
+    host_files = λ hart inside other. file_kept (SupervisorFile hart) inside (λ e. absurd (cc));
+    notice = inl (file_kept (SupervisorFile (notice_hart w.vms g)) (notice_hart_there w g whole there) (λ e. absurd (cc)));
     slots = λ q other. ap (λ words. mrif_in words q) memory_kept;
     entry_words = λ x. (ap (λ words. get_or words (entry_word_place x.vm x.number) 0) memory_kept, ap (λ words. get_or words (entry_word_place x.vm x.number + 1) 0) memory_kept);
   }
@@ -97,19 +97,19 @@ module _ (w u : World) (g : Vcpu) (offset value : ℕ) (whole : IsWhole w) (ther
     rest = by_parts w u w.imsic.files between.memory w.notices e;
     guest_files = λ p inside other. ap (λ (x : World). file_at x.imsic (spot_of p)) e;
     machine_files = λ hart inside. ap (λ (x : World). file_at x.imsic (MachineFile hart)) e;
-    host_files = λ hart inside other. ap (λ (x : World). file_at x.imsic (HostFile hart)) e;
-    notice = inl (ap (λ (x : World). file_at x.imsic (HostFile (notice_hart w.vms g))) e);
+    host_files = λ hart inside other. ap (λ (x : World). file_at x.imsic (SupervisorFile hart)) e;
+    notice = inl (ap (λ (x : World). file_at x.imsic (SupervisorFile (notice_hart w.vms g))) e);
     slots = slot_kept u.memory (ap (λ (x : World). x.memory) e);
     entry_words = entries_kept u.memory (ap (λ (x : World). x.memory) e);
   }
 
   -- with a notice
-  told : Posts between u (HostFile (notice_hart w.vms g)) (notice_identity w.vms g) → TouchesOwn w u g None
+  told : Posts between u (SupervisorFile (notice_hart w.vms g)) (notice_identity w.vms g) → TouchesOwn w u g None
   told posts = record {
-    rest = posts_rest between u (HostFile (notice_hart w.vms g)) (notice_identity w.vms g) posts;
+    rest = posts_rest between u (SupervisorFile (notice_hart w.vms g)) (notice_identity w.vms g) posts;
     guest_files = λ p inside other. file_kept (spot_of p) inside (λ e. absurd (cc));
     machine_files = λ hart inside. file_kept (MachineFile hart) inside (λ e. absurd (cc));
-    host_files = λ hart inside other. file_kept (HostFile hart) inside (λ e. other (let same : hart ≡ notice_hart w.vms g = cc in same));
+    host_files = λ hart inside other. file_kept (SupervisorFile hart) inside (λ e. other (let same : hart ≡ notice_hart w.vms g = cc in same));
     notice = inr posts.lands.lands;
     slots = slot_kept u.memory memory;
     entry_words = entries_kept u.memory memory;
@@ -118,15 +118,15 @@ module _ (w u : World) (g : Vcpu) (offset value : ℕ) (whole : IsWhole w) (ther
       memory : u.memory ≡ between.memory
       memory = ap (λ (x : World). x.memory) posts.rest
 
-      file_kept : (spot : Spot) → IsThere w.imsic spot → spot ≢ HostFile (notice_hart w.vms g) → file_at u.imsic spot ≡ file_at w.imsic spot
-      file_kept spot inside other = ap (λ (i : ImsicState). file_at i spot) posts.lands.others ∙ kept_elsewhere w.imsic (HostFile (notice_hart w.vms g)) spot (file_at u.imsic (HostFile (notice_hart w.vms g))) (notice_hart_there w g whole there) inside other
+      file_kept : (spot : Spot) → IsThere w.imsic spot → spot ≢ SupervisorFile (notice_hart w.vms g) → file_at u.imsic spot ≡ file_at w.imsic spot
+      file_kept spot inside other = ap (λ (i : ImsicState). file_at i spot) posts.lands.others ∙ kept_elsewhere w.imsic (SupervisorFile (notice_hart w.vms g)) spot (file_at u.imsic (SupervisorFile (notice_hart w.vms g))) (notice_hart_there w g whole there) inside other
 
-  by_outcome : (became : Stored) → NoticedBy became between u (HostFile (notice_hart w.vms g)) (notice_identity w.vms g) → TouchesOwn w u g None
+  by_outcome : (became : Stored) → NoticedBy became between u (SupervisorFile (notice_hart w.vms g)) (notice_identity w.vms g) → TouchesOwn w u g None
   by_outcome Notice s = told s
   by_outcome Quiet s = quiet s
   by_outcome Discarded s = quiet s
 
-  pub touches_slot : StoresInSlot w u (Some (slot_of w.vms g)) (HostFile (notice_hart w.vms g)) (notice_identity w.vms g) offset value → TouchesOwn w u g None
+  pub touches_slot : StoresInSlot w u (Some (slot_of w.vms g)) (SupervisorFile (notice_hart w.vms g)) (notice_identity w.vms g) offset value → TouchesOwn w u g None
   touches_slot s = by_outcome (stored (mrif_in w.memory (slot_of w.vms g)) (requested IDENTITIES offset value)) s
 
 -- ---- a device's store

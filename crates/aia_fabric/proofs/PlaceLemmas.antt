@@ -8,7 +8,7 @@ use Rattle.aia_regs.specs.declared.limits.TheConstants.{HARTS, GUEST_FILES, IDEN
 use Rattle.aia_regs.specs.AddressMap.{supervisor_page, slot_address}
 use Rattle.aia_regs.specs.Request.{requested}
 use Rattle.aia_regs.proofs.RequestLemmas.{requested_in_range}
-use Rattle.aia_imsic.specs.declared.spot.Spot.TheVariants.{HostFile, Nowhere}
+use Rattle.aia_imsic.specs.declared.spot.Spot.TheVariants.{SupervisorFile, Nowhere}
 use Rattle.aia_imsic.specs.Imsic.{ImsicState}
 use Rattle.aia_imsic.proofs.MapLemmas.{in_page, spot_of_host, past_hosts}
 use Rattle.aia_mrif.specs.Mrif.{mrif_in, pending_place, after_store}
@@ -36,7 +36,7 @@ no_slot addr none = least_of-none (λ x. nat_eq (slot_address x) addr) 0 SLOTS (
 
 -- ---- files by page
 
-pub host_page : (i : ImsicState) (hart : ℕ) → hart < i.harts → i.harts ≤ HARTS → page_spot i (supervisor_page hart / PAGE) ≡ HostFile hart
+pub host_page : (i : ImsicState) (hart : ℕ) → hart < i.harts → i.harts ≤ HARTS → page_spot i (supervisor_page hart / PAGE) ≡ SupervisorFile hart
 host_page i hart there few =
     let page : supervisor_page hart / PAGE * PAGE ≡ supervisor_page hart = omega arith in
     spot_of_host i.harts i.guests (supervisor_page hart / PAGE * PAGE) hart few there (in_page (supervisor_page hart) (supervisor_page hart / PAGE * PAGE) (omega arith) (omega arith))

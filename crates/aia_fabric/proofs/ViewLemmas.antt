@@ -16,7 +16,7 @@ use Rattle.aia_file.specs.FileState.{FileState, shown}
 use Rattle.aia_file.proofs.FileLemmas.{same_file}
 use Rattle.aia_file.proofs.BankLemmas.{members_joined}
 use Rattle.aia_imsic.specs.declared.spot.Spot.{Spot}
-use Rattle.aia_imsic.specs.declared.spot.Spot.TheVariants.{HostFile}
+use Rattle.aia_imsic.specs.declared.spot.Spot.TheVariants.{SupervisorFile}
 use Rattle.aia_imsic.specs.Imsic.{ImsicState, IsThere, place_of, file_at, with_file}
 use Rattle.aia_imsic.proofs.PlaceLemmas.{place_within, replaced_here, kept_elsewhere}
 use Rattle.aia_mrif.specs.Mrif.{mrif_in, set_at, pending_place, enable_place}
@@ -224,15 +224,15 @@ module _ (w : World) (g : Vcpu) (there : Home) (whole : IsWhole w) (stands : is_
 -- ---- a notice
 
 file_in-posted : (w : World) (hart : ℕ) (f : FileState) (notices : ℕ) (o : Option Place) → hart < w.imsic.harts → ((r : Place) → o ≡ Some r → IsThere w.imsic (spot_of r))
-    → file_in (record w { imsic = with_file w.imsic (HostFile hart) f; notices = notices }) o ≡ file_in w o
+    → file_in (record w { imsic = with_file w.imsic (SupervisorFile hart) f; notices = notices }) o ≡ file_in w o
 file_in-posted w hart f notices None low stands = refl
-file_in-posted w hart f notices (Some r) low stands = ap shown (kept_elsewhere w.imsic (HostFile hart) (spot_of r) f low (stands r refl) (λ e. absurd (cc)))
+file_in-posted w hart f notices (Some r) low stands = ap shown (kept_elsewhere w.imsic (SupervisorFile hart) (spot_of r) f low (stands r refl) (λ e. absurd (cc)))
 
 pub posts-view : (w u : World) (g : Vcpu) (there : Home) (hart identity : ℕ) → hart < w.imsic.harts → ((r : Place) → own_file there ≡ Some r → IsThere w.imsic (spot_of r)) → ((r : Place) → next_file there ≡ Some r → IsThere w.imsic (spot_of r))
-    → Posts w u (HostFile hart) identity → view u g there ≡ view w g there
+    → Posts w u (SupervisorFile hart) identity → view u g there ≡ view w g there
 posts-view w u g there hart identity low own next p =
-    let f = file_at u.imsic (HostFile hart) in
+    let f = file_at u.imsic (SupervisorFile hart) in
     let e = file_in-posted w hart f u.notices (own_file there) low own in
     let o = file_in-posted w hart f u.notices (next_file there) low next in
-    let all : view (record w { imsic = with_file w.imsic (HostFile hart) f; notices = u.notices }) g there ≡ view w g there = λ k. record (view w g there) { own = e k; next = o k } in
+    let all : view (record w { imsic = with_file w.imsic (SupervisorFile hart) f; notices = u.notices }) g there ≡ view w g there = λ k. record (view w g there) { own = e k; next = o k } in
     ap (λ (x : World). view x g there) (p.rest ∙ ap (λ (j : ImsicState). record w { imsic = j; notices = u.notices }) p.lands.others) ∙ all

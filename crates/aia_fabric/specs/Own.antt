@@ -3,7 +3,7 @@
 use Rattle.std.specs.Prelude.{◌≡◌, ◌≢◌, ◌⊎◌, ℕ, ◌+◌, ◌<◌, true, false, slice_index, Option, Some}
 use Rattle.aia_file.specs.FileState.{shown}
 use Rattle.aia_file.specs.InterruptFile.{SameFile, landed}
-use Rattle.aia_imsic.specs.declared.spot.Spot.TheVariants.{MachineFile, HostFile}
+use Rattle.aia_imsic.specs.declared.spot.Spot.TheVariants.{MachineFile, SupervisorFile}
 use Rattle.aia_imsic.specs.Imsic.{IsThere, file_at}
 use Rattle.aia_mrif.specs.Mrif.{mrif_in}
 use Rattle.aia_entry.specs.declared.entry.Entry.TheVariants.{NotValid}
@@ -27,12 +27,12 @@ pub record TouchesOwn (w u : World) (g : Vcpu) (reach : Option Place) : Type 0 w
   pub machine_files : (hart : ℕ) → hart < w.imsic.harts
       → file_at u.imsic (MachineFile hart) ≡ file_at w.imsic (MachineFile hart)
   pub host_files : (hart : ℕ) → hart < w.imsic.harts → hart ≢ notice_hart w.vms g
-      → file_at u.imsic (HostFile hart) ≡ file_at w.imsic (HostFile hart)
-  pub notice : (file_at u.imsic (HostFile (notice_hart w.vms g))
-      ≡ file_at w.imsic (HostFile (notice_hart w.vms g)))
-      ⊎ SameFile (shown (file_at u.imsic (HostFile (notice_hart w.vms g))))
+      → file_at u.imsic (SupervisorFile hart) ≡ file_at w.imsic (SupervisorFile hart)
+  pub notice : (file_at u.imsic (SupervisorFile (notice_hart w.vms g))
+      ≡ file_at w.imsic (SupervisorFile (notice_hart w.vms g)))
+      ⊎ SameFile (shown (file_at u.imsic (SupervisorFile (notice_hart w.vms g))))
       (landed 0 (notice_identity w.vms g)
-      (shown (file_at w.imsic (HostFile (notice_hart w.vms g)))))
+      (shown (file_at w.imsic (SupervisorFile (notice_hart w.vms g)))))
   -- memory: its slot is all that it touches, and no word of a table
   pub slots : (q : ℕ) → q ≢ slot_of w.vms g → mrif_in u.memory q ≡ mrif_in w.memory q
   pub entry_words : (x : Vcpu)

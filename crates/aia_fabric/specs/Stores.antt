@@ -11,7 +11,7 @@ use Rattle.aia_regs.specs.Request.{requested}
 use Rattle.aia_file.specs.FileState.{shown}
 use Rattle.aia_file.specs.InterruptFile.{SameFile, landed}
 use Rattle.aia_imsic.specs.declared.spot.Spot.{Spot}
-use Rattle.aia_imsic.specs.declared.spot.Spot.TheVariants.{MachineFile, HostFile, GuestFile, Nowhere}
+use Rattle.aia_imsic.specs.declared.spot.Spot.TheVariants.{MachineFile, SupervisorFile, GuestFile, Nowhere}
 use Rattle.aia_imsic.specs.Map.{spot_at}
 use Rattle.aia_imsic.specs.Imsic.{ImsicState, file_at, with_file}
 use Rattle.aia_mrif.specs.declared.slot.Stored.{Stored}
@@ -69,7 +69,7 @@ pub record Posts (w u : World) (spot : Spot) (identity : ℕ) : Type 0 where
 -- A notice goes to a file of the host: to any other page it is dropped, and not counted. Profile.
 abbrev pub NoticedAt : World → World → Spot → ℕ → Type 0
 NoticedAt w u (MachineFile hart) identity = Posts w u (MachineFile hart) identity
-NoticedAt w u (HostFile hart) identity = Posts w u (HostFile hart) identity
+NoticedAt w u (SupervisorFile hart) identity = Posts w u (SupervisorFile hart) identity
 NoticedAt w u spot identity = u ≡ w
 
 -- ---- slots
@@ -121,5 +121,5 @@ named_spot i p =
 abbrev pub Relays : Option Place → World → World → Vcpu → ℕ → Type 0
 Relays (Some p) w u g value = StoresAt w u (named_spot w.imsic p) 0 value
 Relays None w u g value =
-    StoresInSlot w u (Some (slot_of w.vms g)) (HostFile (notice_hart w.vms g))
+    StoresInSlot w u (Some (slot_of w.vms g)) (SupervisorFile (notice_hart w.vms g))
     (notice_identity w.vms g) 0 value

@@ -278,14 +278,14 @@ impl Fabric {
     pub fn notice(&mut self, q: u32)
         requires { q < vcpus_in self.old.vms }
         ensures posts { (g : Vcpu) → is_vcpu_in self.old.vms g ≡ true → slot_of self.old.vms g ≡ q
-            → Posts self.old self.new (Spot.HostFile (notice_hart self.old.vms g)) (q + 1) }
+            → Posts self.old self.new (Spot.SupervisorFile (notice_hart self.old.vms g)) (q + 1) }
         ensures rest { self.new ≡ record self.old {
           imsic = record self.old.imsic { files = self.new.imsic.files };
           notices = counted self.old.notices;
         } }
     {
         let hart = self.vms.notice_hart(q);
-        self.post(Spot::HostFile(hart), q + 1);
+        self.post(Spot::SupervisorFile(hart), q + 1);
     }
 
     /// Sends a notice to a file: a store of its identity, which is counted.

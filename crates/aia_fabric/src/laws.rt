@@ -36,7 +36,7 @@ pub fn an_address_names_one_slot()
 #[tactic(auto, using(crate::proofs::PlaceLemmas::host_page))]
 pub fn a_supervisor_page_names_its_file()
     ensures { (i : ImsicState) (hart : ℕ) → hart < i.harts → i.harts ≤ HARTS
-        → page_spot i (supervisor_page hart / PAGE) ≡ Spot.HostFile hart }
+        → page_spot i (supervisor_page hart / PAGE) ≡ Spot.SupervisorFile hart }
 {}
 
 /// The memory-resident interrupt file in a slot takes a store to it, and that in every other slot
@@ -62,7 +62,7 @@ pub fn a_new_vm_is_reached_in_its_slots()
         (addr % PAGE) value
         → StoresInSlot after later
         (Some (slot_of after.vms (vcpu (length before.vms) (file_number vm.mask addr))))
-        (Spot.HostFile (notice_hart after.vms
+        (Spot.SupervisorFile (notice_hart after.vms
         (vcpu (length before.vms) (file_number vm.mask addr))))
         (notice_identity after.vms (vcpu (length before.vms) (file_number vm.mask addr)))
         (addr % PAGE) value }

@@ -55,7 +55,7 @@ impl Fabric {
                 let spot = self.named_spot(place);
                 self.store_guest(spot, 0, value);
             }
-            None => self.store_in(slot, Spot::HostFile(hart), slot + 1, 0, value),
+            None => self.store_in(slot, Spot::SupervisorFile(hart), slot + 1, 0, value),
         }
     }
 
@@ -75,7 +75,7 @@ impl Fabric {
     {
         let _whole = self.words();
         let hart = self.vms.notice_hart(q);
-        self.store_in(q, Spot::HostFile(hart), q + 1, 0, value);
+        self.store_in(q, Spot::SupervisorFile(hart), q + 1, 0, value);
     }
 
     /// Takes a store that an entry leads to its place.
@@ -110,7 +110,7 @@ impl Fabric {
     {
         match spot {
             Spot::GuestFile(_, _) => self.host_store(spot, offset, value),
-            Spot::MachineFile(_) | Spot::HostFile(_) | Spot::Nowhere => {}
+            Spot::MachineFile(_) | Spot::SupervisorFile(_) | Spot::Nowhere => {}
         }
     }
 
@@ -132,7 +132,7 @@ impl Fabric {
         ensures { NoticedAt self.old self.new spot identity }
     {
         match spot {
-            Spot::MachineFile(_) | Spot::HostFile(_) => self.post(spot, identity),
+            Spot::MachineFile(_) | Spot::SupervisorFile(_) => self.post(spot, identity),
             Spot::GuestFile(_, _) | Spot::Nowhere => {}
         }
     }

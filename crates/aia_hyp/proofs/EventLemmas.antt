@@ -245,7 +245,7 @@ refused x line word is = by_refusal x x line word (λ h stands. (Some word, is h
 
 -- ---- signals
 
-pub signals_there : (x : CoreState) (h : History) (hart : ℕ) (machine supervisor : Bool) → hart < x.world.imsic.harts → machine ≡ signals (shown (file_at x.world.imsic (spots.MachineFile hart))) → supervisor ≡ signals (shown (file_at x.world.imsic (spots.HostFile hart)))
+pub signals_there : (x : CoreState) (h : History) (hart : ℕ) (machine supervisor : Bool) → hart < x.world.imsic.harts → machine ≡ signals (shown (file_at x.world.imsic (spots.MachineFile hart))) → supervisor ≡ signals (shown (file_at x.world.imsic (spots.SupervisorFile hart)))
     → CoreStands x h → ◌≡◌ {A = Result (Bool × Bool) Refusal} (Ok (machine, supervisor)) (signals_of h hart)
 signals_there x h hart machine supervisor inside by_machine by_supervisor stands =
     ap (λ b. Ok (b, supervisor)) (by_machine ∙ ap signals (stands.host (MachineFile hart) inside).file)

@@ -72,7 +72,7 @@ pass_hart_there x h p stands whole low =
 -- ---- the file to which it leads
 
 abbrev pub spot_to : ℕ → Option Place → Spot
-spot_to hart None = spots.HostFile hart
+spot_to hart None = spots.SupervisorFile hart
 spot_to hart (Some q) = spot_of q
 
 at_page : (i : ImsicState) (hart : ℕ) (reach : Option Place) (addr : ℕ) → i.harts ≤ HARTS → i.guests ≤ GUEST_FILES → addr ≡ page_to hart reach → IsThere i (spot_to hart reach) → spot_at i.harts i.guests addr ≡ spot_to hart reach
@@ -164,7 +164,7 @@ module _ (x y : CoreState) (h : History) (p : ℕ) (msi : Msi) (spot : Spot) (c 
   -- at the notice hart it is a store at a file of the host
   at_notice_hart : pass_reach h p ≡ None → Changes x y h (Delivered msi)
   at_notice_hart is =
-      let named : spot ≡ spots.HostFile (pass_notice_hart h p) = forward_spot x h p msi spot c None is in
+      let named : spot ≡ spots.SupervisorFile (pass_notice_hart h p) = forward_spot x h p msi spot c None is in
       let page : goes_to_guest h msi ≡ false = forward_page x h p msi spot c None is in
       stored_changes x y msi.address msi.value spot h (Delivered msi) (λ f. refl)
       (record { quiet = quiet_msi h msi; none = refl; guests = λ g. cond-false _ _ _ page; majors = λ g m. refl })

@@ -412,7 +412,7 @@ module _ (x y : CoreState) (m : World) (vm number : ℕ) (kept : Kept) (w pendin
       (nothing_told x (but_memory x y) h event (ap (λ (u : World). with_memory u x.world) rest) c.load.selects quiet (λ f. refl)))
 
   -- and else its notice is sent
-  pub word_told : Posts m y.world (spots.HostFile (notice_hart x.world.vms g)) (notice_identity x.world.vms g) → is_live (file_of_slot m (slot_of x.world.vms g) 0) w ≡ true → CoreTakes x y (LoadPart vm number part) Okay
+  pub word_told : Posts m y.world (spots.SupervisorFile (notice_hart x.world.vms g)) (notice_identity x.world.vms g) → is_live (file_of_slot m (slot_of x.world.vms g) 0) w ≡ true → CoreTakes x y (LoadPart vm number part) Okay
   word_told posts some = loads x y vm number part kept c.load.inside c.load.at c.load.good (λ h stands there.
       let loud : noticed h event ≡ Some g = cond-true _ _ _ (sym (live_after h stands there) ∙ some) in
       word_changes h stands there (ap (λ (u : World). u.n) rest) (ap (λ (u : World). u.vms) rest)
@@ -421,9 +421,9 @@ module _ (x y : CoreState) (m : World) (vm number : ℕ) (kept : Kept) (w pendin
       rest : y.world ≡ record x.world { imsic = y.world.imsic; notices = y.world.notices; memory = m.memory }
       rest = posts.rest ∙ ap (λ (u : World). record u { imsic = y.world.imsic; notices = y.world.notices }) c.done.rest
 
-      but_posts : Posts x.world (with_memory y.world x.world) (spots.HostFile (notice_hart x.world.vms g)) (notice_identity x.world.vms g)
+      but_posts : Posts x.world (with_memory y.world x.world) (spots.SupervisorFile (notice_hart x.world.vms g)) (notice_identity x.world.vms g)
       but_posts = record {
-        lands = subst (λ (i : ImsicState). LandsIn i y.world.imsic (spots.HostFile (notice_hart x.world.vms g)) 0 (notice_identity x.world.vms g)) (ap (λ (u : World). u.imsic) c.done.rest) posts.lands;
+        lands = subst (λ (i : ImsicState). LandsIn i y.world.imsic (spots.SupervisorFile (notice_hart x.world.vms g)) 0 (notice_identity x.world.vms g)) (ap (λ (u : World). u.imsic) c.done.rest) posts.lands;
         count = posts.count ∙ ap (λ (u : World). counted u.notices) c.done.rest;
         rest = ap (λ (u : World). with_memory u x.world) rest;
       }

@@ -14,7 +14,7 @@ use Rattle.aia_hyp.specs.HostFiles.{IsHost, name_of, host_spot, is_host_spot, se
 
 abbrev pub name_at : Spot → FileName
 name_at (spots.MachineFile hart) = MachineFile hart
-name_at (spots.HostFile hart) = SupervisorFile hart
+name_at (spots.SupervisorFile hart) = SupervisorFile hart
 name_at spot = MachineFile 0
 
 pub named_back : (f : FileName) → name_at (host_spot f) ≡ f
@@ -23,7 +23,7 @@ named_back (SupervisorFile hart) = refl
 
 pub at_name : (spot : Spot) → is_host_spot spot ≡ true → spot ≡ host_spot (name_at spot)
 at_name (spots.MachineFile hart) host = refl
-at_name (spots.HostFile hart) host = refl
+at_name (spots.SupervisorFile hart) host = refl
 at_name spot host = absurd (cc)
 
 pub no_guest : (spot : Spot) → is_host_spot spot ≡ true → (hart g : ℕ) → spots.GuestFile hart g ≢ spot

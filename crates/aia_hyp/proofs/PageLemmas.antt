@@ -69,7 +69,7 @@ not_in_memory addr low = grind (arith, nat_tests)
 page_below : (i : ImsicState) (addr : ℕ) (spot : Spot) → i.harts ≤ HARTS → spot ≡ spot_at i.harts i.guests addr → is_host_spot spot ≡ true → addr < MEMORY
 page_below i addr (spots.MachineFile hart) few at host =
     let there = machine_of_spot i.harts i.guests addr hart (sym at) in let below = to_page (machine_page hart) addr there.1 in omega (arith, there.0)
-page_below i addr (spots.HostFile hart) few at host =
+page_below i addr (spots.SupervisorFile hart) few at host =
     let there = host_of_spot i.harts i.guests addr hart (sym at) in let below = to_page (supervisor_page hart) addr there.1 in omega (arith, there.0)
 page_below i addr spot few at host = absurd (cc)
 
@@ -109,7 +109,7 @@ host_is_free i addr spot few at host aligned =
 
     free : (s : Spot) → is_host_spot s ≡ true → core_refusal s addr ≡ None
     free (spots.MachineFile hart) h = ap (λ b. cond (not (b && true)) (Some Fault) (cond (is_in_memory addr) (Some Guarded) None)) (eq-eqb (addr % 4) 0 aligned) ∙ ap (λ b. cond b (Some Guarded) None) outside
-    free (spots.HostFile hart) h = ap (λ b. cond (not (b && true)) (Some Fault) (cond (is_in_memory addr) (Some Guarded) None)) (eq-eqb (addr % 4) 0 aligned) ∙ ap (λ b. cond b (Some Guarded) None) outside
+    free (spots.SupervisorFile hart) h = ap (λ b. cond (not (b && true)) (Some Fault) (cond (is_in_memory addr) (Some Guarded) None)) (eq-eqb (addr % 4) 0 aligned) ∙ ap (λ b. cond b (Some Guarded) None) outside
     free s h = absurd (cc)
 
 -- ---- what the model says of them

@@ -116,7 +116,7 @@ wide_enough n is = grind (arith, nat_tests)
 
 -- the file where it is taken, and the world between
 abbrev pub spot_at_notice : CoreState → Pass → Spot
-spot_at_notice x pass = spots.HostFile (notice_hart x.world.vms pass.to)
+spot_at_notice x pass = spots.SupervisorFile (notice_hart x.world.vms pass.to)
 
 abbrev pub once_taken : CoreState → Pass → FileState → World
 once_taken x pass file = record x.world { imsic = with_file x.world.imsic (spot_at_notice x pass) file }
@@ -184,11 +184,11 @@ module _ (x y : CoreState) (h : History) (p : ℕ) (file : FileState) (c : IsRel
       → (f : FileName) → IsThere x.world.imsic (host_spot f) → FileDone x y f (deed_at f h (Relayed p))
   host_done done others f inside = elim (same_or_other f (SupervisorFile (notice_hart (vms_of h) g))) [
     | inl e ↦ subst (FileDone x y f) (sym (cond-true _ _ _ (is_file-itself f (SupervisorFile (notice_hart (vms_of h) g)) e))) (record {
-      file = subst (λ (s : Spot). SameFile (shown (file_at y.world.imsic s)) (file_after 0 (Relays (host_identity p) (option_map (notice_identity (vms_of h)) (noticed h (Relayed p)))) (shown (file_at x.world.imsic s)))) (ap spots.HostFile hart ∙ sym (ap host_spot e)) done;
+      file = subst (λ (s : Spot). SameFile (shown (file_at y.world.imsic s)) (file_after 0 (Relays (host_identity p) (option_map (notice_identity (vms_of h)) (noticed h (Relayed p)))) (shown (file_at x.world.imsic s)))) (ap spots.SupervisorFile hart ∙ sym (ap host_spot e)) done;
       select = ap (λ xs. get_or xs (select_place f) 0) c.selects;
     })
     | inr ne ↦ subst (FileDone x y f) (sym (cond-false _ _ _ (is_file-other f (SupervisorFile (notice_hart (vms_of h) g)) ne))) (record {
-      file = subst (λ (z : FileState). SameFile (shown z) (shown (file_at x.world.imsic (host_spot f)))) (sym (others (host_spot f) inside (λ e. other_spot (SupervisorFile (notice_hart (vms_of h) g)) f ne (e ∙ ap spots.HostFile hart)))) (as_it_was (shown (file_at x.world.imsic (host_spot f))));
+      file = subst (λ (z : FileState). SameFile (shown z) (shown (file_at x.world.imsic (host_spot f)))) (sym (others (host_spot f) inside (λ e. other_spot (SupervisorFile (notice_hart (vms_of h) g)) f ne (e ∙ ap spots.SupervisorFile hart)))) (as_it_was (shown (file_at x.world.imsic (host_spot f))));
       select = ap (λ xs. get_or xs (select_place f) 0) c.selects;
     })
   ]
@@ -253,24 +253,24 @@ pub record RelayCalls (x y : CoreState) (p : ℕ) (pass : Pass) (between : World
   pub hart : at ≡ notice_hart x.world.vms pass.to
   pub slot : q ≡ slot_of x.world.vms pass.to
   pub there : is_vcpu_in x.world.vms pass.to ≡ true
-  pub takes : SameFile (shown (file_at between.imsic (spots.HostFile at))) (accessed (Pending 0) (taking p) (shown (file_at x.world.imsic (spots.HostFile at))))
-  pub others : between ≡ record x.world { imsic = with_file x.world.imsic (spots.HostFile at) (file_at between.imsic (spots.HostFile at)) }
+  pub takes : SameFile (shown (file_at between.imsic (spots.SupervisorFile at))) (accessed (Pending 0) (taking p) (shown (file_at x.world.imsic (spots.SupervisorFile at))))
+  pub others : between ≡ record x.world { imsic = with_file x.world.imsic (spots.SupervisorFile at) (file_at between.imsic (spots.SupervisorFile at)) }
   pub stores : (g : Vcpu) → is_vcpu_in between.vms g ≡ true → slot_of between.vms g ≡ q → stores.Relays None between y.world g pass.identity
   pub leases : y.leases ≡ x.leases
   pub vcpus : y.vcpus ≡ x.vcpus
   pub selects : y.selects ≡ x.selects
   pub passes : y.passes ≡ x.passes
 
-relayed : (x y : CoreState) (p : ℕ) (pass : Pass) (between : World) (at q : ℕ) → RelayCalls x y p pass between at q → IsRelayed x y p pass (file_at between.imsic (spots.HostFile at))
+relayed : (x y : CoreState) (p : ℕ) (pass : Pass) (between : World) (at q : ℕ) → RelayCalls x y p pass between at q → IsRelayed x y p pass (file_at between.imsic (spots.SupervisorFile at))
 relayed x y p pass between at q c =
-    let file = file_at between.imsic (spots.HostFile at) in
-    let spot : spots.HostFile at ≡ spot_at_notice x pass = ap spots.HostFile c.hart in
+    let file = file_at between.imsic (spots.SupervisorFile at) in
+    let spot : spots.SupervisorFile at ≡ spot_at_notice x pass = ap spots.SupervisorFile c.hart in
     let vms : between.vms ≡ x.world.vms = ap (λ (w : World). w.vms) c.others in
     let same : between ≡ once_taken x pass file = c.others ∙ ap (λ (s : Spot). record x.world { imsic = with_file x.world.imsic s file }) spot in
     record {
       whole = c.whole;
       few = c.few;
-      kept = subst (λ (s : Spot). file_at (with_file x.world.imsic s file) s ≡ file) spot (ap (λ (w : World). file_at w.imsic (spots.HostFile at)) (sym c.others));
+      kept = subst (λ (s : Spot). file_at (with_file x.world.imsic s file) s ≡ file) spot (ap (λ (w : World). file_at w.imsic (spots.SupervisorFile at)) (sym c.others));
       takes = subst (λ (s : Spot). SameFile (shown file) (accessed (Pending 0) (taking p) (shown (file_at x.world.imsic s)))) spot c.takes;
       stores = subst (λ (w : World). stores.Relays None w y.world pass.to pass.identity) same
           (c.stores pass.to (ap (λ vs. is_vcpu_in vs pass.to) vms ∙ c.there) (ap (λ vs. slot_of vs pass.to) vms ∙ sym c.slot));
@@ -282,7 +282,7 @@ relayed x y p pass between at q c =
 
 pub calls_go : (x y : CoreState) (p : ℕ) (pass : Pass) (between : World) (at q : ℕ) → RelayCalls x y p pass between at q → CoreGoes x y (Relayed p)
 calls_go x y p pass between at q c =
-    let file = file_at between.imsic (spots.HostFile at) in
+    let file = file_at between.imsic (spots.SupervisorFile at) in
     relay_goes x y p file (subst (λ (z : Pass). IsRelayed x y p z file) c.is (relayed x y p pass between at q c))
 
 -- what is so of the pass of a number where it may be given on

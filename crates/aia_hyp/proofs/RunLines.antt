@@ -142,10 +142,10 @@ stores_alone : (w u : World) → OnlyStores w u → OnlyAccesses w u
 stores_alone w u e = e ∙ ap (λ (x : World). record w { imsic = record w.imsic { files = x.imsic.files }; memory = x.memory; tables = x.tables; stages = x.stages; notices = x.notices }) (sym e)
 
 pub one_told : (x y : CoreState) (h : History) (event : Event) (g : Vcpu) → CoreStands x h → IsWhole x.world → has_vcpu h g ≡ true → y.selects ≡ x.selects → noticed h event ≡ Some g → ((f : FileName) → deed_at f h event ≡ notice_deed h f (noticed h event))
-    → Posts x.world y.world (spots.HostFile (notice_hart x.world.vms g)) (notice_identity x.world.vms g) → OnlyNotifies x y h event
+    → Posts x.world y.world (spots.SupervisorFile (notice_hart x.world.vms g)) (notice_identity x.world.vms g) → OnlyNotifies x y h event
 one_told x y h event g stands whole there selects loud deeds posts = record {
   rest = posts.rest;
-  accesses = stores_alone x.world y.world (posts_rest x.world y.world (spots.HostFile (notice_hart x.world.vms g)) (notice_identity x.world.vms g) posts);
+  accesses = stores_alone x.world y.world (posts_rest x.world y.world (spots.SupervisorFile (notice_hart x.world.vms g)) (notice_identity x.world.vms g) posts);
   count = posts.count ∙ ap (λ who. count_after who x.world.notices) (sym loud);
   host = host_told x y h event g stands whole there selects loud deeds posts.lands;
   files = guests_untold x y h g stands whole there posts.lands;
@@ -415,6 +415,6 @@ pub exit_is_quiet : (x y : CoreState) (h : History) (vm number : ℕ) → y.worl
 exit_is_quiet x y h vm number world selects none = nothing_told x y h (Accepted (lines.Exit vm number)) world selects (cond-false _ _ _ none) (λ f. refl)
 
 pub exit_is_loud : (x y : CoreState) (h : History) (vm number : ℕ) → CoreStands x h → IsWhole x.world → is_vcpu_in x.world.vms (vcpu vm number) ≡ true → y.selects ≡ x.selects → a_word_is_live h (vcpu vm number) ≡ true
-    → Posts x.world y.world (spots.HostFile (notice_hart x.world.vms (vcpu vm number))) (notice_identity x.world.vms (vcpu vm number)) → OnlyNotifies x y h (Accepted (lines.Exit vm number))
+    → Posts x.world y.world (spots.SupervisorFile (notice_hart x.world.vms (vcpu vm number))) (notice_identity x.world.vms (vcpu vm number)) → OnlyNotifies x y h (Accepted (lines.Exit vm number))
 exit_is_loud x y h vm number stands whole there selects some posts =
     one_told x y h (Accepted (lines.Exit vm number)) (vcpu vm number) stands whole (there_in x h (vcpu vm number) stands there) selects (cond-true _ _ _ some) (λ f. refl) posts

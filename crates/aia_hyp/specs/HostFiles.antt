@@ -34,12 +34,12 @@ csr_line level hart csr op = HostCsr hart csr op
 -- Where a file is among all files.
 abbrev pub host_spot : FileName → Spot
 host_spot (MachineFile hart) = spots.MachineFile hart
-host_spot (SupervisorFile hart) = spots.HostFile hart
+host_spot (SupervisorFile hart) = spots.SupervisorFile hart
 
 -- Whether a place among all files is that of a file of the host.
 abbrev pub is_host_spot : Spot → Bool
 is_host_spot (spots.MachineFile hart) = true
-is_host_spot (spots.HostFile hart) = true
+is_host_spot (spots.SupervisorFile hart) = true
 is_host_spot spot = false
 
 -- Where its select number is among the select numbers: of each hart that of machine level, then

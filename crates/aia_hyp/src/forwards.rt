@@ -224,7 +224,7 @@ impl Hyp {
         let slot = self.fabric.slot_of(pass.vm, pass.vcpu);
         let taken = Op::Clear(1 << (FIRST_PASS_IDENTITY + number));
         self.fabric
-            .reg(Spot::HostFile(notice), FileReg::Pending(0), taken);
+            .reg(Spot::SupervisorFile(notice), FileReg::Pending(0), taken);
         self.fabric.slot_store(slot, pass.identity);
     }
 }

@@ -280,7 +280,7 @@ impl Hyp {
         let hart = hart as u32;
         Ok((
             self.fabric.file(Spot::MachineFile(hart)).signal(),
-            self.fabric.file(Spot::HostFile(hart)).signal(),
+            self.fabric.file(Spot::SupervisorFile(hart)).signal(),
         ))
     }
 
@@ -343,7 +343,7 @@ fn spot(level: Level, hart: u32) -> Spot
 {
     match level {
         Level::Machine => Spot::MachineFile(hart),
-        Level::Host => Spot::HostFile(hart),
+        Level::Host => Spot::SupervisorFile(hart),
         Level::Guest => unreachable!(),
     }
 }
@@ -352,7 +352,7 @@ fn spot(level: Level, hart: u32) -> Spot
 pub(crate) fn is_host(spot: Spot) -> bool
     ensures { result ≡ is_host_spot spot }
 {
-    matches!(spot, Spot::MachineFile(_) | Spot::HostFile(_))
+    matches!(spot, Spot::MachineFile(_) | Spot::SupervisorFile(_))
 }
 
 /// Tells where its select number is.

@@ -9,7 +9,7 @@ use Rattle.aia_regs.specs.Request.{requested}
 use Rattle.aia_file.specs.InterruptFile.{InterruptFile, landed}
 use Rattle.aia_file.specs.FileState.{shown}
 use Rattle.aia_imsic.specs.declared.spot.Spot.{Spot}
-use Rattle.aia_imsic.specs.declared.spot.Spot.TheVariants.{HostFile}
+use Rattle.aia_imsic.specs.declared.spot.Spot.TheVariants.{SupervisorFile}
 use Rattle.aia_imsic.specs.Imsic.{ImsicState, IsThere, file_at}
 use Rattle.aia_imsic.proofs.PlaceLemmas.{kept_elsewhere}
 use Rattle.aia_mrif.specs.declared.slot.Stored.{Stored}
@@ -78,7 +78,7 @@ module _ (w u : World) (plan : Plan) (reach : Option Place) (saw : Bool) (same :
 -- where it lands: in a guest file, or in the slot
 abbrev Lands : World → World → Vcpu → Option Place → ℕ → ℕ → Type 0
 Lands w u g (Some p) offset value = StoresIn w u (spot_of p) offset value
-Lands w u g None offset value = StoresInSlot w u (Some (slot_of w.vms g)) (HostFile (notice_hart w.vms g)) (notice_identity w.vms g) offset value
+Lands w u g None offset value = StoresInSlot w u (Some (slot_of w.vms g)) (SupervisorFile (notice_hart w.vms g)) (notice_identity w.vms g) offset value
 
 held_there : (w : World) (m : Moving) → Fits w m → (p : Place) → holds p m.home ≡ true → IsThere w.imsic (spot_of p)
 held_there w m fits p held = by_home m.home fits.own fits.next held
@@ -102,7 +102,7 @@ module _ (w u : World) (plan : Plan) (reach : Option Place) (file : InterruptFil
   mv = moving_of plan
 
   -- it shows in its places
-  by_outcome : (became : Stored) → NoticedBy became (with_store w (slot_of w.vms (mover mv)) offset value) u (HostFile (notice_hart w.vms (mover mv))) (notice_identity w.vms (mover mv))
+  by_outcome : (became : Stored) → NoticedBy became (with_store w (slot_of w.vms (mover mv)) offset value) u (SupervisorFile (notice_hart w.vms (mover mv))) (notice_identity w.vms (mover mv))
       → view u (mover mv) mv.home ≡ view (with_store w (slot_of w.vms (mover mv)) offset value) (mover mv) mv.home
   by_outcome Notice posts = posts-view (with_store w (slot_of w.vms (mover mv)) offset value) u (mover mv) mv.home (notice_hart w.vms (mover mv)) (notice_identity w.vms (mover mv))
       (notice_hart_there w (mover mv) whole knows.fits.there) knows.fits.own knows.fits.next posts

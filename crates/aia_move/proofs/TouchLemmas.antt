@@ -6,7 +6,7 @@ use Rattle.std.proofs.lemmas.List.{get_or-set_other}
 use Rattle.std.specs.Prelude.{bit_or}
 use Rattle.aia_file.specs.InterruptFile.{empty_file}
 use Rattle.aia_file.specs.FileState.{FileState, shown}
-use Rattle.aia_imsic.specs.declared.spot.Spot.TheVariants.{MachineFile, HostFile}
+use Rattle.aia_imsic.specs.declared.spot.Spot.TheVariants.{MachineFile, SupervisorFile}
 use Rattle.aia_imsic.specs.Imsic.{ImsicState, IsThere, file_at}
 use Rattle.aia_imsic.proofs.PlaceLemmas.{kept_elsewhere}
 use Rattle.aia_mrif.specs.Mrif.{mrif_in, pending_place, enable_place}
@@ -73,7 +73,7 @@ module _ (w u : World) (m : Moving) where
     starts = λ v. refl;
     guest_files = λ r there none. kept_elsewhere w.imsic (spot_of p) (spot_of r) f stands there (held_apart m.home r p none held);
     machine_files = λ hart low. kept_elsewhere w.imsic (spot_of p) (MachineFile hart) f stands low (λ e. absurd (cc));
-    host_files = λ hart low other. kept_elsewhere w.imsic (spot_of p) (HostFile hart) f stands low (λ e. absurd (cc));
+    host_files = λ hart low other. kept_elsewhere w.imsic (spot_of p) (SupervisorFile hart) f stands low (λ e. absurd (cc));
     noticed = λ no. absurd (cc);
     count = λ no. refl;
     slots = λ r low other. refl;
@@ -166,17 +166,17 @@ module _ (w u : World) (m : Moving) where
       stages = λ q other. get_or-set_other w.stages (slot_of w.vms (mover m)) q s no_stage other;
     })
 
-  pub touches_notice : m.who.notice < w.imsic.harts → Posts w u (HostFile m.who.notice) (m.who.slot + 1) → Touches true w u m
+  pub touches_notice : m.who.notice < w.imsic.harts → Posts w u (SupervisorFile m.who.notice) (m.who.slot + 1) → Touches true w u m
   touches_notice low p = record {
-    rest = (posts_rest w u (HostFile m.who.notice) (m.who.slot + 1) p) ∙ (λ k. record w { imsic = record w.imsic { files = u.imsic.files }; memory = u.memory; tables = sym (ap (λ (x : World). x.tables) p.rest) k; stages = sym (ap (λ (x : World). x.stages) p.rest) k; notices = u.notices });
+    rest = (posts_rest w u (SupervisorFile m.who.notice) (m.who.slot + 1) p) ∙ (λ k. record w { imsic = record w.imsic { files = u.imsic.files }; memory = u.memory; tables = sym (ap (λ (x : World). x.tables) p.rest) k; stages = sym (ap (λ (x : World). x.stages) p.rest) k; notices = u.notices });
     tables = ap (λ (x : World). length x.tables) p.rest;
     masks = λ v. ap (λ (x : World). (table_of x.tables v).mask) p.rest;
     starts = λ v. ap (λ (x : World). (table_of x.tables v).start) p.rest;
-    guest_files = λ r there none. ap (λ (j : ImsicState). file_at j (spot_of r)) p.lands.others ∙ kept_elsewhere w.imsic (HostFile m.who.notice) (spot_of r) (file_at u.imsic (HostFile m.who.notice)) low there (λ e. absurd (cc));
-    machine_files = λ hart small. ap (λ (j : ImsicState). file_at j (MachineFile hart)) p.lands.others ∙ kept_elsewhere w.imsic (HostFile m.who.notice) (MachineFile hart) (file_at u.imsic (HostFile m.who.notice)) low small (λ e. absurd (cc));
+    guest_files = λ r there none. ap (λ (j : ImsicState). file_at j (spot_of r)) p.lands.others ∙ kept_elsewhere w.imsic (SupervisorFile m.who.notice) (spot_of r) (file_at u.imsic (SupervisorFile m.who.notice)) low there (λ e. absurd (cc));
+    machine_files = λ hart small. ap (λ (j : ImsicState). file_at j (MachineFile hart)) p.lands.others ∙ kept_elsewhere w.imsic (SupervisorFile m.who.notice) (MachineFile hart) (file_at u.imsic (SupervisorFile m.who.notice)) low small (λ e. absurd (cc));
     host_files = λ hart small which. elim which [
       | inl never ↦ absurd (cc)
-      | inr other ↦ ap (λ (j : ImsicState). file_at j (HostFile hart)) p.lands.others ∙ kept_elsewhere w.imsic (HostFile m.who.notice) (HostFile hart) (file_at u.imsic (HostFile m.who.notice)) low small (λ e. let same : hart ≡ m.who.notice = cc in other same)
+      | inr other ↦ ap (λ (j : ImsicState). file_at j (SupervisorFile hart)) p.lands.others ∙ kept_elsewhere w.imsic (SupervisorFile m.who.notice) (SupervisorFile hart) (file_at u.imsic (SupervisorFile m.who.notice)) low small (λ e. let same : hart ≡ m.who.notice = cc in other same)
     ];
     noticed = λ yes. p;
     count = λ no. absurd (cc);

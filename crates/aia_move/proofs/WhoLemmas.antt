@@ -2,7 +2,7 @@
 use Rattle.std.proofs.Common.{◌≡◌, ◌+◌, ◌<◌, ◌≤◌, Bool, true, Option, Some, None, IfSome, refl, sym, ap, ◌∙◌, subst, arith}
 use Rattle.std.proofs.lemmas.Bool.{eqb-true}
 use Rattle.aia_regs.specs.declared.limits.TheConstants.{HARTS, GUEST_FILES, VCPUS}
-use Rattle.aia_imsic.specs.declared.spot.Spot.TheVariants.{HostFile}
+use Rattle.aia_imsic.specs.declared.spot.Spot.TheVariants.{SupervisorFile}
 use Rattle.aia_imsic.specs.Imsic.{IsThere}
 use Rattle.aia_home.specs.declared.place.Place.{Place}
 use Rattle.aia_home.specs.Home.{Home, is_moving, at_first}
@@ -34,10 +34,10 @@ small_file w (Some p) whole there =
 
 -- the notice of the virtual hart of a slot is its own
 pub posts_if : (w u : World) (who same : Who) (seen : Bool) → seen ≡ true → same ≡ who → IsWho w who
-    → ((g : Vcpu) → is_vcpu_in w.vms g ≡ true → slot_of w.vms g ≡ same.slot → Posts w u (HostFile (notice_hart w.vms g)) (same.slot + 1)) → PostsIf seen w u who.notice (who.slot + 1)
+    → ((g : Vcpu) → is_vcpu_in w.vms g ≡ true → slot_of w.vms g ≡ same.slot → Posts w u (SupervisorFile (notice_hart w.vms g)) (same.slot + 1)) → PostsIf seen w u who.notice (who.slot + 1)
 posts_if w u who same seen on e is posts =
     let slot : same.slot ≡ who.slot = ap (λ (x : Who). x.slot) e in
-    rw (on, is.notice) (subst (λ n. Posts w u (HostFile (notice_hart w.vms (vcpu who.vm who.vcpu))) (n + 1)) slot (posts (vcpu who.vm who.vcpu) is.there (sym (slot ∙ is.slot))))
+    rw (on, is.notice) (subst (λ n. Posts w u (SupervisorFile (notice_hart w.vms (vcpu who.vm who.vcpu))) (n + 1)) slot (posts (vcpu who.vm who.vcpu) is.there (sym (slot ∙ is.slot))))
 
 -- the slot of a state m, which is seen as s
 pub slot_there : (w : World) (m s : Moving) → m ≡ s → IsWhole w → Fits w s → m.who.slot < VCPUS

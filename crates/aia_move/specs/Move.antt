@@ -3,7 +3,7 @@ use Rattle.std.specs.Prelude.{◌≡◌, ℕ, ◌+◌, ◌/◌, ◌<◌, Bool, t
 use Rattle.aia_word.specs.Sets.{has_bit}
 use Rattle.aia_regs.specs.declared.file_registers.FileReg.TheVariants.{Delivery, Threshold}
 use Rattle.aia_imsic.specs.declared.spot.Spot.{Spot}
-use Rattle.aia_imsic.specs.declared.spot.Spot.TheVariants.{HostFile, Nowhere}
+use Rattle.aia_imsic.specs.declared.spot.Spot.TheVariants.{SupervisorFile, Nowhere}
 use Rattle.aia_imsic.specs.Imsic.{IsThere, file_at}
 use Rattle.aia_home.specs.declared.place.Place.{Place}
 use Rattle.aia_home.specs.Vms.{Vcpu, vcpu, is_vcpu_in, slot_of, notice_hart}
@@ -67,7 +67,7 @@ new_spot m = spot_in (new_file m.home)
 
 -- The notice is sent, where one is due.
 abbrev pub PostsIf : Bool → World → World → ℕ → ℕ → Type 0
-PostsIf true w u hart identity = Posts w u (HostFile hart) identity
+PostsIf true w u hart identity = Posts w u (SupervisorFile hart) identity
 PostsIf false w u hart identity = u ≡ w
 
 -- What an access makes of the world: one word of a place, one register, one word of the entry, one

@@ -2,7 +2,7 @@
 -- of the virtual hart that is moved, and the file to which its notice goes.
 use Rattle.std.specs.Prelude.{◌≡◌, ◌≢◌, ℕ, ◌+◌, ◌<◌, ◌⊎◌, Bool, true, false, length, slice_index, slice_index_or}
 use Rattle.aia_regs.specs.declared.limits.TheConstants.{VCPUS}
-use Rattle.aia_imsic.specs.declared.spot.Spot.TheVariants.{MachineFile, HostFile}
+use Rattle.aia_imsic.specs.declared.spot.Spot.TheVariants.{MachineFile, SupervisorFile}
 use Rattle.aia_imsic.specs.Imsic.{IsThere, file_at}
 use Rattle.aia_mrif.specs.Mrif.{mrif_in}
 use Rattle.aia_entry.specs.Tables.{table_of, entry_in_force}
@@ -56,9 +56,9 @@ pub record Touches (sent : Bool) (w u : World) (m : Moving) : Type 0 where
       → file_at u.imsic (MachineFile hart) ≡ file_at w.imsic (MachineFile hart)
   pub host_files : (hart : ℕ) → hart < w.imsic.harts
       → (sent ≡ false) ⊎ (hart ≢ m.who.notice)
-      → file_at u.imsic (HostFile hart) ≡ file_at w.imsic (HostFile hart)
+      → file_at u.imsic (SupervisorFile hart) ≡ file_at w.imsic (SupervisorFile hart)
   -- the notice
-  pub noticed : sent ≡ true → Posts w u (HostFile m.who.notice) (m.who.slot + 1)
+  pub noticed : sent ≡ true → Posts w u (SupervisorFile m.who.notice) (m.who.slot + 1)
   pub count : sent ≡ false → u.notices ≡ w.notices
   -- slots, entries and records of other virtual harts
   pub slots : (r : ℕ) → r < VCPUS → r ≢ m.who.slot → mrif_in u.memory r ≡ mrif_in w.memory r

@@ -6,7 +6,7 @@ use Rattle.aia_regs.specs.declared.limits.TheConstants.{VCPUS, ENTRIES}
 use Rattle.aia_regs.specs.declared.address_map.TheConstants.{PAGE}
 use Rattle.aia_regs.specs.declared.file_registers.FileReg.{FileReg}
 use Rattle.aia_regs.specs.declared.file_registers.FileReg.TheVariants.{Delivery, Threshold}
-use Rattle.aia_imsic.specs.declared.spot.Spot.TheVariants.{HostFile}
+use Rattle.aia_imsic.specs.declared.spot.Spot.TheVariants.{SupervisorFile}
 use Rattle.aia_entry.specs.declared.entry.Entry.{Entry}
 use Rattle.aia_entry.specs.declared.table.Route.{Route}
 use Rattle.aia_entry.specs.declared.table.Route.TheVariants.{Other, Fault, To}
@@ -88,7 +88,7 @@ module _ (w u : World) (p : Passage) (whole : IsWhole w) where
   relays_kept : (to : Vcpu) (named : Option Place) (value : ℕ) → is_vcpu_in w.vms to ≡ true → Relays named w u to value → (g : Vcpu) → routes_of u g ≡ routes_of w g
   relays_kept to (Some a) value there relays g = (at_spot w u (of_other p g) 0 value whole (named_spot w.imsic a) (named_spot_there w a) relays).routes
   relays_kept to None value there relays g =
-      (at_slot w u (of_other p g) 0 value whole (Some (slot_of w.vms to)) (HostFile (notice_hart w.vms to)) (notice_identity w.vms to) (λ n e. let same : slot_of w.vms to ≡ n = cc in let low = slot_low w to whole there in omega (arith, low, same)) (λ some. notice_hart_there w to whole there) relays).routes
+      (at_slot w u (of_other p g) 0 value whole (Some (slot_of w.vms to)) (SupervisorFile (notice_hart w.vms to)) (notice_identity w.vms to) (λ n e. let same : slot_of w.vms to ≡ n = cc in let low = slot_low w to whole there in omega (arith, low, same)) (λ some. notice_hart_there w to whole there) relays).routes
 
   lands_kept : (vm k : ℕ) → Lands w u vm k → (g : Vcpu) → routes_of u g ≡ routes_of w g
   lands_kept vm k l g = ap (λ (x : World). routes_of x g) l.taken ∙ (entry_seen w l.stored (of_other p g) l.store.offset l.store.value whole l.store.entry l.reaches).routes

@@ -5,7 +5,7 @@ use Rattle.std.proofs.lemmas.Bool.{cases_Bool, cases_eq, cond-true, cond-false, 
 use Rattle.std.proofs.lemmas.Bool.Decides.{nat_tests}
 use Rattle.std.proofs.lemmas.List.{get_or-set_same, get_or-set_other}
 use Rattle.aia_regs.specs.Word.{names}
-use Rattle.aia_imsic.specs.declared.spot.Spot.TheVariants.{HostFile}
+use Rattle.aia_imsic.specs.declared.spot.Spot.TheVariants.{SupervisorFile}
 use Rattle.aia_imsic.specs.Imsic.{ImsicState, IsThere}
 use Rattle.aia_entry.specs.declared.table.Route.{Route}
 use Rattle.aia_entry.specs.declared.table.Route.TheVariants.{Other, Fault, To}
@@ -121,7 +121,7 @@ module _ (w : World) (r : Rehearsed) (z : Transit) (whole : IsWhole w) (s : Stan
         let low = (small_who w p.who whole s.of.who).1 in
         let slot : slot_of w.vms (moved p) ≡ q = sym s.of.who.slot in
         let o : Option ℕ = Some (slot_of w.vms (moved p)) in
-        let seen = at_slot w u p 0 value whole o (HostFile (notice_hart w.vms (moved p))) (notice_identity w.vms (moved p)) (λ n e. let same : slot_of w.vms (moved p) ≡ n = cc in omega (arith, low, slot, same)) (λ some. notice_hart_there w (moved p) whole s.of.who.there) relays in
+        let seen = at_slot w u p 0 value whole o (SupervisorFile (notice_hart w.vms (moved p))) (notice_identity w.vms (moved p)) (λ n e. let same : slot_of w.vms (moved p) ≡ n = cc in omega (arith, low, slot, same)) (λ some. notice_hart_there w (moved p) whole s.of.who.there) relays in
         let led : slot_hit o q (on side p) ≡ true = subst (λ x. slot_hit o q x ≡ true) is (eq-eqb (slot_of w.vms (moved p)) q slot) in
         let one = one_slot_hit o q p.old p.new s.two in
         subst (λ o. StandsFor u r (landed_on o (asked 0 value) z)) (side_is (slot_hit o q) p side led one) (store_lands w u r z (slot_hit o q) 0 value s seen one)
@@ -146,7 +146,7 @@ module _ (w : World) (r : Rehearsed) (z : Transit) (whole : IsWhole w) (s : Stan
         ]
     other_peer g None there other none relays =
         let o : Option ℕ = Some (slot_of w.vms g) in
-        let seen = at_slot w u p 0 value whole o (HostFile (notice_hart w.vms g)) (notice_identity w.vms g) (λ n e. let same : slot_of w.vms g ≡ n = cc in let low = slot_low w g whole there in omega (arith, low, same)) (λ some. notice_hart_there w g whole there) relays in
+        let seen = at_slot w u p 0 value whole o (SupervisorFile (notice_hart w.vms g)) (notice_identity w.vms g) (λ n e. let same : slot_of w.vms g ≡ n = cc in let low = slot_low w g whole there in omega (arith, low, same)) (λ some. notice_hart_there w g whole there) relays in
         let one = one_slot_hit o q p.old p.new s.two in
         subst (λ o. StandsFor u r (landed_on o (asked 0 value) z)) (side_none (slot_hit o q) p (missed p.old) (missed p.new)) (store_lands w u r z (slot_hit o q) 0 value s seen one)
       where

@@ -4,7 +4,7 @@ use Rattle.std.proofs.Common.{◌≡◌, ◌≢◌, ℕ, ◌*◌, Bool, true, fa
 use Rattle.std.proofs.lemmas.Bool.{cases_Bool, cond-true, cond-false}
 use Rattle.std.proofs.lemmas.Bool.Decides.{nat_tests}
 use Rattle.aia_imsic.specs.declared.spot.Spot.{Spot}
-use Rattle.aia_imsic.specs.declared.spot.Spot.TheVariants.{MachineFile, HostFile, GuestFile, Nowhere}
+use Rattle.aia_imsic.specs.declared.spot.Spot.TheVariants.{MachineFile, SupervisorFile, GuestFile, Nowhere}
 use Rattle.aia_imsic.specs.Imsic.{IsThere}
 use Rattle.aia_imsic.proofs.MapLemmas.{machine_of_spot, host_of_spot, guest_of_spot}
 use Rattle.aia_regs.specs.declared.address_map.TheConstants.{PAGE}
@@ -101,7 +101,7 @@ one_file_hit spot (File a) (File b) two led = by_spot spot led
     by_spot : (spot : Spot) → is_file_at a spot ≡ true → is_file_at b spot ≡ false
     by_spot (GuestFile hart file) led = grind (arith, nat_tests)
     by_spot (MachineFile hart) led = refl
-    by_spot (HostFile hart) led = refl
+    by_spot (SupervisorFile hart) led = refl
     by_spot Nowhere led = refl
 one_file_hit spot (File a) Slot two led = refl
 one_file_hit spot Slot b two led = absurd (cc)
@@ -116,7 +116,7 @@ page_there w page some = by_spot (page_spot w.imsic page) refl
   where
     by_spot : (spot : Spot) → page_spot w.imsic page ≡ spot → IsThere w.imsic (page_spot w.imsic page)
     by_spot (MachineFile hart) is = subst (IsThere w.imsic) (sym is) (machine_of_spot w.imsic.harts w.imsic.guests (page * PAGE) hart is).0
-    by_spot (HostFile hart) is = subst (IsThere w.imsic) (sym is) (host_of_spot w.imsic.harts w.imsic.guests (page * PAGE) hart is).0
+    by_spot (SupervisorFile hart) is = subst (IsThere w.imsic) (sym is) (host_of_spot w.imsic.harts w.imsic.guests (page * PAGE) hart is).0
     by_spot (GuestFile hart file) is = let found = guest_of_spot w.imsic.harts w.imsic.guests (page * PAGE) hart file is in subst (IsThere w.imsic) (sym is) (found.0, found.1, found.2)
     by_spot Nowhere is = absurd (some is)
 

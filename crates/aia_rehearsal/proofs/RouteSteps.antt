@@ -12,7 +12,7 @@ use Rattle.aia_regs.specs.declared.access.Op.TheVariants as ops
 use Rattle.aia_file.specs.InterruptFile.{InterruptFile, accessed}
 use Rattle.aia_file.specs.FileState.{FileState, shown}
 use Rattle.aia_file.proofs.FileLemmas.{same_file}
-use Rattle.aia_imsic.specs.declared.spot.Spot.TheVariants.{HostFile}
+use Rattle.aia_imsic.specs.declared.spot.Spot.TheVariants.{SupervisorFile}
 use Rattle.aia_imsic.specs.Imsic.{ImsicState, IsThere, file_at, with_file}
 use Rattle.aia_imsic.proofs.PlaceLemmas.{kept_elsewhere}
 use Rattle.aia_entry.specs.Format.{decoded}
@@ -179,14 +179,14 @@ module _ (w : World) (r : Rehearsed) (z : Transit) (whole : IsWhole w) (s : Stan
   posted u false e = subst (λ x. StandsFor x r z) (sym e) s
   posted u true posts =
       let hart : p.who.notice < w.imsic.harts = let there = notice_hart_there w (moved p) whole s.of.who.there in omega (arith, there, s.of.who.notice) in
-      let f = file_at u.imsic (HostFile p.who.notice) in
-      let same : u ≡ record w { imsic = with_file w.imsic (HostFile p.who.notice) f; notices = u.notices } = posts.rest ∙ ap (λ (j : ImsicState). record w { imsic = j; notices = u.notices }) posts.lands.others in
-      subst (λ x. StandsFor x r z) (sym same) (all_kept (record w { imsic = with_file w.imsic (HostFile p.who.notice) f; notices = u.notices }) r.hand (record { n = refl; vms = refl; harts = refl; guests = refl }) refl
+      let f = file_at u.imsic (SupervisorFile p.who.notice) in
+      let same : u ≡ record w { imsic = with_file w.imsic (SupervisorFile p.who.notice) f; notices = u.notices } = posts.rest ∙ ap (λ (j : ImsicState). record w { imsic = j; notices = u.notices }) posts.lands.others in
+      subst (λ x. StandsFor x r z) (sym same) (all_kept (record w { imsic = with_file w.imsic (SupervisorFile p.who.notice) f; notices = u.notices }) r.hand (record { n = refl; vms = refl; harts = refl; guests = refl }) refl
       (guest_kept f hart p.old s.of.old) (guest_kept f hart p.new s.of.new) refl refl refl)
     where
-      guest_kept : (f : FileState) → p.who.notice < w.imsic.harts → (b : ends.Place) → IsFileThere w b → sets_at (record w { imsic = with_file w.imsic (HostFile p.who.notice) f; notices = u.notices }) (at_of q b) ≡ sets_at w (at_of q b)
+      guest_kept : (f : FileState) → p.who.notice < w.imsic.harts → (b : ends.Place) → IsFileThere w b → sets_at (record w { imsic = with_file w.imsic (SupervisorFile p.who.notice) f; notices = u.notices }) (at_of q b) ≡ sets_at w (at_of q b)
       guest_kept f hart Slot inside = refl
-      guest_kept f hart (File b) inside = ap (λ x. of_file (shown x)) (kept_elsewhere w.imsic (HostFile p.who.notice) (spot_of b) f hart inside (λ e. absurd (cc)))
+      guest_kept f hart (File b) inside = ap (λ x. of_file (shown x)) (kept_elsewhere w.imsic (SupervisorFile p.who.notice) (spot_of b) f hart inside (λ e. absurd (cc)))
 
   -- ---- the routes
 

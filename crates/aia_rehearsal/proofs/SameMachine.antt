@@ -18,7 +18,7 @@ use Rattle.aia_fabric.specs.World.{stage_of}
 use Rattle.aia_fabric.specs.Flights.{Sends}
 use Rattle.aia_rehearsal.specs.Events.{Event, Happens}
 use Rattle.aia_rehearsal.specs.Events.Event.{Steps, DeviceStores, PeerStores, DeviceSends, StoreLands, EntryRead}
-use Rattle.aia_imsic.specs.declared.spot.Spot.TheVariants.{HostFile}
+use Rattle.aia_imsic.specs.declared.spot.Spot.TheVariants.{SupervisorFile}
 use Rattle.aia_move.specs.Move.{PostsIf}
 use Rattle.aia_move.specs.Touches.{SameMachine}
 use Rattle.aia_plan.specs.declared.step.Step.{Step}
@@ -45,7 +45,7 @@ pub stored_same : (w u : World) → OnlyStores w u → SameMachine w u
 stored_same w u rest = same_by w u _ rest (record { n = refl; vms = refl; harts = refl; guests = refl })
 
 posts_same : (w u : World) (sent : Bool) (hart identity : ℕ) → PostsIf sent w u hart identity → SameMachine w u
-posts_same w u true hart identity posts = stored_same w u (posts_rest w u (HostFile hart) identity posts)
+posts_same w u true hart identity posts = stored_same w u (posts_rest w u (SupervisorFile hart) identity posts)
 posts_same w u false hart identity e = same_by w u w e (same_machine w)
 
 pub step_same : (step : Step) (w u : World) (r : Rehearsed) → Makes step r w u → SameMachine w u

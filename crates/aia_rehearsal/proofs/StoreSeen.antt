@@ -12,7 +12,7 @@ use Rattle.aia_regs.specs.Request.{number_written, implemented, requested, reque
 use Rattle.aia_file.specs.InterruptFile.{is_greatest_identity}
 use Rattle.aia_file.specs.FileState.{shown}
 use Rattle.aia_imsic.specs.declared.spot.Spot.{Spot}
-use Rattle.aia_imsic.specs.declared.spot.Spot.TheVariants.{MachineFile, HostFile, GuestFile, Nowhere}
+use Rattle.aia_imsic.specs.declared.spot.Spot.TheVariants.{MachineFile, SupervisorFile, GuestFile, Nowhere}
 use Rattle.aia_imsic.specs.Imsic.{ImsicState, IsThere, file_at}
 use Rattle.aia_imsic.proofs.PlaceLemmas.{kept_elsewhere}
 use Rattle.aia_mrif.specs.declared.slot.Stored.{Stored}
@@ -152,7 +152,7 @@ module _ (w u : World) (p : Passage) (offset value : ℕ) (whole : IsWhole w) wh
   pub at_spot : (spot : Spot) → (spot ≢ Nowhere → IsThere w.imsic spot) → StoresAt w u spot offset value → Seen w u p (file_hit spot) offset value
   at_spot (GuestFile hart file) there stores = in_file (record { hart = hart; file = file }) (there (λ e. absurd (cc))) stores
   at_spot (MachineFile hart) there e = seen_none (file_hit (MachineFile hart)) (no_file (MachineFile hart) (λ b. refl)) e
-  at_spot (HostFile hart) there e = seen_none (file_hit (HostFile hart)) (no_file (HostFile hart) (λ b. refl)) e
+  at_spot (SupervisorFile hart) there e = seen_none (file_hit (SupervisorFile hart)) (no_file (SupervisorFile hart) (λ b. refl)) e
   at_spot Nowhere there e = seen_none (file_hit Nowhere) (no_file Nowhere (λ b. refl)) e
 
   -- ---- in a slot
@@ -177,7 +177,7 @@ module _ (w u : World) (p : Passage) (offset value : ℕ) (whole : IsWhole w) wh
 
     noticed_at : (host : Spot) → host ≡ spot → NoticedAt mid u host identity → Noticed s
     noticed_at (MachineFile hart) is posts = noticed_posts (MachineFile hart) (subst (IsThere w.imsic) (sym is) (there (λ e. absurd (cc)))) (λ b e. absurd (cc)) posts
-    noticed_at (HostFile hart) is posts = noticed_posts (HostFile hart) (subst (IsThere w.imsic) (sym is) (there (λ e. absurd (cc)))) (λ b e. absurd (cc)) posts
+    noticed_at (SupervisorFile hart) is posts = noticed_posts (SupervisorFile hart) (subst (IsThere w.imsic) (sym is) (there (λ e. absurd (cc)))) (λ b e. absurd (cc)) posts
     noticed_at (GuestFile hart file) is e = noticed_none e
     noticed_at Nowhere is e = noticed_none e
 

@@ -129,7 +129,7 @@ told c =
       done = done;
       memory = ap (λ (w : World). w.memory) c.notice.ensures.rest;
     })
-    (subst (λ q. Posts m y.world (spots.HostFile (notice_hart x.world.vms g)) (q + 1)) is.slot (subst (λ vms. Posts m y.world (spots.HostFile (notice_hart vms g)) (found.slot + 1)) same posts))
+    (subst (λ q. Posts m y.world (spots.SupervisorFile (notice_hart x.world.vms g)) (q + 1)) is.slot (subst (λ vms. Posts m y.world (spots.SupervisorFile (notice_hart vms g)) (found.slot + 1)) same posts))
     (subst (λ q. is_live (file_of_slot m q 0) i.w ≡ true) is.slot (sym c.is_live.ensures ∙ c.if-is_live.true)))
 
 untold : (c : Else-is_live) → CoreTakes (record { world = c.self.inside.fabric; leases = c.self.inside.pool; vcpus = c.self.inside.vcpus.items; selects = c.self.inside.selects; passes = c.self.inside.passes }) (record { world = c.load_word.new.fabric; leases = c.self.inside.pool; vcpus = c.self.inside.vcpus.items; selects = c.self.inside.selects; passes = c.self.inside.passes }) (LoadPart c.args.found.vm c.args.found.vcpu c.args.part) Okay

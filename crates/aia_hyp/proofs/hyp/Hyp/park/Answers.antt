@@ -24,9 +24,9 @@ told c =
     let is = subst (λ (z : CoreState). IsFound z.world found) (sym c.self.view_is) c.requires.found in
     let was = subst (λ (z : CoreState). (record_of z g).stay ≡ stays.Entered c.args.kept) (sym c.self.view_is) c.requires.entered in
     let whole = c.words-whole.ensures.whole in
-    let told : (w : World) → w ≡ x.world → ((g : Vcpu) → is_vcpu_in w.vms g ≡ true → slot_of w.vms g ≡ found.slot → Posts w y.world (spots.HostFile (notice_hart w.vms g)) (found.slot + 1)) → Posts x.world y.world (spots.HostFile (notice_hart x.world.vms g)) (notice_identity x.world.vms g) =
-    λ w same by. subst (λ s. Posts x.world y.world (spots.HostFile (notice_hart x.world.vms g)) (s + 1)) is.slot
-    (subst (λ (w : World). (g : Vcpu) → is_vcpu_in w.vms g ≡ true → slot_of w.vms g ≡ found.slot → Posts w y.world (spots.HostFile (notice_hart w.vms g)) (found.slot + 1)) same by g is.there (sym is.slot)) in
+    let told : (w : World) → w ≡ x.world → ((g : Vcpu) → is_vcpu_in w.vms g ≡ true → slot_of w.vms g ≡ found.slot → Posts w y.world (spots.SupervisorFile (notice_hart w.vms g)) (found.slot + 1)) → Posts x.world y.world (spots.SupervisorFile (notice_hart x.world.vms g)) (notice_identity x.world.vms g) =
+    λ w same by. subst (λ s. Posts x.world y.world (spots.SupervisorFile (notice_hart x.world.vms g)) (s + 1)) is.slot
+    (subst (λ (w : World). (g : Vcpu) → is_vcpu_in w.vms g ≡ true → slot_of w.vms g ≡ found.slot → Posts w y.world (spots.SupervisorFile (notice_hart w.vms g)) (found.slot + 1)) same by g is.there (sym is.slot)) in
     exits x y found.vm found.vcpu c.args.kept (record {
       whole = whole;
       there = is.there;
