@@ -38,7 +38,7 @@ use Rattle.aia_fabric.specs.World.{World, stage_of, no_stage}
 use Rattle.aia_fabric.specs.Whole.{IsWhole}
 use Rattle.aia_fabric.specs.Making.{entry_word_place}
 use Rattle.aia_fabric.specs.Stores.{Posts}
-use Rattle.aia_fabric.specs.Changes.{PutsRegister, spot_of, file_in, view, with_word, with_state, with_fence, with_stage, with_map, with_stage_fence}
+use Rattle.aia_fabric.specs.Changes.{PutsRegister, spot_of, file_in, view, with_word, with_state, with_fence, with_stage, with_map, with_gfence}
 use Rattle.aia_fabric.proofs.WholeLemmas.{vcpu_entry, entry_at}
 
 -- ---- a file
@@ -216,8 +216,8 @@ module _ (w : World) (g : Vcpu) (there : Home) (whole : IsWhole w) (stands : is_
       let new = stage_here (record (stage_of w g) { written = to }) in
       λ t. record (view w g there) { stage = (new t).written; stage_in_force = (new t).in_force }
 
-  pub stage_fence-view : view (with_stage_fence w g) g there ≡ record (view w g there) { stage_in_force = (view w g there).stage }
-  stage_fence-view =
+  pub gfence-view : view (with_gfence w g) g there ≡ record (view w g there) { stage_in_force = (view w g there).stage }
+  gfence-view =
       let new = stage_here (record (stage_of w g) { in_force = (stage_of w g).written }) in
       λ t. record (view w g there) { stage = (new t).written; stage_in_force = (new t).in_force }
 

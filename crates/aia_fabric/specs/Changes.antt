@@ -94,8 +94,8 @@ with_stage w g stage = record w { stages = slice_set w.stages (slot_of w.vms g) 
 abbrev pub with_map : World → Vcpu → Option Place → World
 with_map w g to = with_stage w g (record (stage_of w g) { written = to })
 
-abbrev pub with_stage_fence : World → Vcpu → World
-with_stage_fence w g = with_stage w g (record (stage_of w g) { in_force = (stage_of w g).written })
+abbrev pub with_gfence : World → Vcpu → World
+with_gfence w g = with_stage w g (record (stage_of w g) { in_force = (stage_of w g).written })
 
 -- ---- what the places of a virtual hart show
 

@@ -5,7 +5,7 @@ ghost use Rattle.aia_regs.specs.declared.limits.TheConstants.{VCPUS, FILE_WORDS}
 ghost use Rattle.aia_home.specs.declared.place.Place.{Place};
 ghost use Rattle.aia_home.specs.Vms.{vcpu, is_vcpu_in};
 ghost use Rattle.aia_fabric.specs.Flights.{Fences};
-ghost use Rattle.aia_fabric.specs.Changes.{IsPlaceThere, words_at, pending_words, enable_words, pending_at, with_pending, enable_at, with_enable, with_entry_word, with_fence, with_map, with_stage_fence};
+ghost use Rattle.aia_fabric.specs.Changes.{IsPlaceThere, words_at, pending_words, enable_words, pending_at, with_pending, enable_at, with_enable, with_entry_word, with_fence, with_map, with_gfence};
 
 use crate::{At, Fabric, map};
 use aia_mrif::{SlotMut, look};
@@ -168,7 +168,7 @@ impl Fabric {
     /// The hypervisor extension 1.0: HFENCE.GVMA.
     pub fn gfence(&mut self, vm: u32, file: u32)
         requires { is_vcpu_in self.old.vms (vcpu vm file) ≡ true }
-        ensures { self.new ≡ with_stage_fence self.old (vcpu vm file) }
+        ensures { self.new ≡ with_gfence self.old (vcpu vm file) }
     {
         let slot = self.vms.slot_of(vm, file);
         let stage = &mut self.stages[slot as usize];

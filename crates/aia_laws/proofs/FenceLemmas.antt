@@ -5,7 +5,7 @@ use Rattle.std.proofs.lemmas.Bool.{eq-eqb, ne_eqb, and_left}
 use Rattle.aia_home.specs.Home.{Home, is_moving, is_resident, is_entered, rests_in_memory, leaving, arriving, shifting}
 use Rattle.aia_home.specs.Home.Home.{Parked, Entered, Resident, Leaving, Arriving, Shifting}
 use Rattle.aia_home.specs.Plans.{leave_step, arrive_step, shift_step, leave_steps, arrive_steps, shift_steps}
-use Rattle.aia_home.specs.Plans.Access.{Fence, FenceStage}
+use Rattle.aia_home.specs.Plans.Access.{Fence, GFence}
 use Rattle.aia_home.specs.Aims.{is_aiming, further}
 use Rattle.aia_home.specs.Routes.{is_at_fence}
 use Rattle.aia_model.specs.HomeOf.{place}
@@ -35,9 +35,9 @@ fence_later count (Resident p) e = absurd e
 
 -- no step before it aims a passed source
 aims_later : (passes count : ℕ) (there : Home) → FenceIn (suc count) there → is_aiming passes there ≡ false
-aims_later passes count (Leaving from at) e = and_left _ (nat_lt at.aims passes) (ne_eqb at.steps (leave_step 0 FenceStage + 1) (λ same. absurd (omega (arith, e, same))))
-aims_later passes count (Arriving to at) e = and_left _ (nat_lt at.aims passes) (ne_eqb at.steps (arrive_step 0 FenceStage + 1) (λ same. absurd (omega (arith, e, same))))
-aims_later passes count (Shifting from to at) e = and_left _ (nat_lt at.aims passes) (ne_eqb at.steps (shift_step 0 FenceStage + 1) (λ same. absurd (omega (arith, e, same))))
+aims_later passes count (Leaving from at) e = and_left _ (nat_lt at.aims passes) (ne_eqb at.steps (leave_step 0 GFence + 1) (λ same. absurd (omega (arith, e, same))))
+aims_later passes count (Arriving to at) e = and_left _ (nat_lt at.aims passes) (ne_eqb at.steps (arrive_step 0 GFence + 1) (λ same. absurd (omega (arith, e, same))))
+aims_later passes count (Shifting from to at) e = and_left _ (nat_lt at.aims passes) (ne_eqb at.steps (shift_step 0 GFence + 1) (λ same. absurd (omega (arith, e, same))))
 aims_later passes count Parked e = absurd e
 aims_later passes count Entered e = absurd e
 aims_later passes count (Resident p) e = absurd e

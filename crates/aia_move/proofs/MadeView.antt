@@ -17,7 +17,7 @@ use Rattle.aia_home.specs.Home.{Home, Progress, is_place}
 use Rattle.aia_home.specs.Home.Home.{Parked, Entered, Resident, Leaving, Arriving, Shifting}
 use Rattle.aia_home.specs.BySteps.{own_file, next_file, new_file}
 use Rattle.aia_home.specs.Plans.{Access, IsNext}
-use Rattle.aia_home.specs.Plans.Access.{TakeDelivery, PutDelivery, WriteNotice, WriteEntry, Fence, WriteStage, FenceStage, TakePending, PutPending, TakeEnables, PutEnables, Look, TakeThreshold, PutThreshold, Post}
+use Rattle.aia_home.specs.Plans.Access.{TakeDelivery, PutDelivery, WriteNotice, WriteEntry, Fence, Map, GFence, TakePending, PutPending, TakeEnables, PutEnables, Look, TakeThreshold, PutThreshold, Post}
 use Rattle.aia_places.specs.View.{entry_word, second_word}
 use Rattle.aia_places.specs.Holds.{Hand}
 use Rattle.aia_places.specs.Steps.{StepMade, Shows, without_word, joined_by, replaced_by}
@@ -28,7 +28,7 @@ use Rattle.aia_fabric.specs.Changes.{spot_of, file_in, view, with_word, with_sta
 use Rattle.aia_fabric.proofs.WholeLemmas.{notice_hart_there}
 use Rattle.aia_move.specs.declared.who.Who.{Who}
 use Rattle.aia_move.specs.Move.{Moving, mover, width, PostsIf, Makes, hand_after, Fits, MakesNext}
-use Rattle.aia_fabric.proofs.ViewLemmas.{IsNoFile, own-replaced, next-replaced, own-put, next-put, word_taken, word_joined, word_replaced, slot_pending-written, slot_enabled-written, slot_pending-joined, nothing_replaced, place_shows, slot_low, has_slot, in_slot-view, word0-view, word1-view, fence-view, map-view, stage_fence-view, posts-view}
+use Rattle.aia_fabric.proofs.ViewLemmas.{IsNoFile, own-replaced, next-replaced, own-put, next-put, word_taken, word_joined, word_replaced, slot_pending-written, slot_enabled-written, slot_pending-joined, nothing_replaced, place_shows, slot_low, has_slot, in_slot-view, word0-view, word1-view, fence-view, map-view, gfence-view, posts-view}
 use Rattle.aia_regs.specs.declared.limits.TheConstants.{IDENTITIES, WORDS_OF_SLOTS, FILE_WORDS}
 
 pub few_words : (n : ℕ) → is_greatest_identity n ≡ true → (n + 1) / 64 ≤ FILE_WORDS
@@ -166,11 +166,11 @@ module _ (w u : World) (who : Who) (there : Home) (hand now : Hand) (whole : IsW
   fence-made : DoesMake Fence → now ≡ hand → Made Fence
   fence-made e c = record { places = ap (λ (x : World). view x it there) e ∙ fence-view w it there whole fits.there; carried = c }
 
-  write_stage-made : DoesMake WriteStage → now ≡ hand → Made WriteStage
-  write_stage-made e c = record { places = ap (λ (x : World). view x it there) e ∙ map-view w it there whole fits.there (new_file there); carried = c }
+  map-made : DoesMake Map → now ≡ hand → Made Map
+  map-made e c = record { places = ap (λ (x : World). view x it there) e ∙ map-view w it there whole fits.there (new_file there); carried = c }
 
-  fence_stage-made : DoesMake FenceStage → now ≡ hand → Made FenceStage
-  fence_stage-made e c = record { places = ap (λ (x : World). view x it there) e ∙ stage_fence-view w it there whole fits.there; carried = c }
+  gfence-made : DoesMake GFence → now ≡ hand → Made GFence
+  gfence-made e c = record { places = ap (λ (x : World). view x it there) e ∙ gfence-view w it there whole fits.there; carried = c }
 
   notice_low : who.notice < w.imsic.harts
   notice_low = let low = notice_hart_there w it whole fits.there in omega (arith, low, fits.notice)
@@ -202,8 +202,8 @@ leave_made : (access : Access) (w u : World) (who : Who) (from : Place) (at : Pr
 leave_made WriteNotice w u who from at hand now whole fits next makes c = write_notice-made w u who (Leaving from at) hand now whole fits makes c
 leave_made WriteEntry w u who from at hand now whole fits next makes c = write_entry-made w u who (Leaving from at) hand now whole fits makes c
 leave_made Fence w u who from at hand now whole fits next makes c = fence-made w u who (Leaving from at) hand now whole fits makes c
-leave_made WriteStage w u who from at hand now whole fits next makes c = write_stage-made w u who (Leaving from at) hand now whole fits makes c
-leave_made FenceStage w u who from at hand now whole fits next makes c = fence_stage-made w u who (Leaving from at) hand now whole fits makes c
+leave_made Map w u who from at hand now whole fits next makes c = map-made w u who (Leaving from at) hand now whole fits makes c
+leave_made GFence w u who from at hand now whole fits next makes c = gfence-made w u who (Leaving from at) hand now whole fits makes c
 leave_made TakeDelivery w u who from at hand now whole fits next makes c = record { places = own-put w u (vcpu who.vm who.vcpu) (Leaving from at) from Delivery 0 whole (fits.own from refl) makes refl (no_file w from); carried = c }
 leave_made TakeThreshold w u who from at hand now whole fits next makes c = record { places = own-put w u (vcpu who.vm who.vcpu) (Leaving from at) from Threshold 0 whole (fits.own from refl) makes refl (no_file w from); carried = c }
 leave_made (TakePending k) w u who from at hand now whole fits next makes c = record { places = own-pending_taken w u (vcpu who.vm who.vcpu) (Leaving from at) from k hand.word whole (fits.own from refl) refl (no_file w from) makes; carried = carried_word k (get_or (file_at w.imsic (spot_of from)).pending k 0) (view w (vcpu who.vm who.vcpu) (Leaving from at)).own.pending hand now (row_shows (file_at w.imsic (spot_of from)).pending k) c }
@@ -220,8 +220,8 @@ arrive_made : (access : Access) (w u : World) (who : Who) (to : Place) (at : Pro
     → StepMade who.slot who.notice access (Arriving to at) (view w (vcpu who.vm who.vcpu) (Arriving to at)) hand (view u (vcpu who.vm who.vcpu) (Arriving to at)) now
 arrive_made WriteEntry w u who to at hand now whole fits next makes c = write_entry-made w u who (Arriving to at) hand now whole fits makes c
 arrive_made Fence w u who to at hand now whole fits next makes c = fence-made w u who (Arriving to at) hand now whole fits makes c
-arrive_made WriteStage w u who to at hand now whole fits next makes c = write_stage-made w u who (Arriving to at) hand now whole fits makes c
-arrive_made FenceStage w u who to at hand now whole fits next makes c = fence_stage-made w u who (Arriving to at) hand now whole fits makes c
+arrive_made Map w u who to at hand now whole fits next makes c = map-made w u who (Arriving to at) hand now whole fits makes c
+arrive_made GFence w u who to at hand now whole fits next makes c = gfence-made w u who (Arriving to at) hand now whole fits makes c
 arrive_made PutDelivery w u who to at hand now whole fits next makes c = record { places = own-put w u (vcpu who.vm who.vcpu) (Arriving to at) to Delivery hand.delivery whole (fits.own to refl) makes refl (no_file w to); carried = c }
 arrive_made PutThreshold w u who to at hand now whole fits next makes c = record { places = own-put w u (vcpu who.vm who.vcpu) (Arriving to at) to Threshold hand.threshold whole (fits.own to refl) makes refl (no_file w to); carried = c }
 arrive_made (TakePending k) w u who to at hand now whole fits next makes c = record { places = slot-pending_taken w u (vcpu who.vm who.vcpu) (Arriving to at) who.slot k hand.word whole fits.there fits.slot (of_width w u who (Arriving to at) hand now whole fits k next.has) makes; carried = carried_word k (get_or w.memory (pending_place who.slot k) 0) (view w (vcpu who.vm who.vcpu) (Arriving to at)).slot.pending hand now (slot_pending-shows w u (vcpu who.vm who.vcpu) (Arriving to at) who.slot k hand.word whole fits.there fits.slot (of_width w u who (Arriving to at) hand now whole fits k next.has)) c }
@@ -239,8 +239,8 @@ shift_made : (access : Access) (w u : World) (who : Who) (from to : Place) (at :
     → StepMade who.slot who.notice access (Shifting from to at) (view w (vcpu who.vm who.vcpu) (Shifting from to at)) hand (view u (vcpu who.vm who.vcpu) (Shifting from to at)) now
 shift_made WriteEntry w u who from to at hand now whole fits apart next makes c = write_entry-made w u who (Shifting from to at) hand now whole fits makes c
 shift_made Fence w u who from to at hand now whole fits apart next makes c = fence-made w u who (Shifting from to at) hand now whole fits makes c
-shift_made WriteStage w u who from to at hand now whole fits apart next makes c = write_stage-made w u who (Shifting from to at) hand now whole fits makes c
-shift_made FenceStage w u who from to at hand now whole fits apart next makes c = fence_stage-made w u who (Shifting from to at) hand now whole fits makes c
+shift_made Map w u who from to at hand now whole fits apart next makes c = map-made w u who (Shifting from to at) hand now whole fits makes c
+shift_made GFence w u who from to at hand now whole fits apart next makes c = gfence-made w u who (Shifting from to at) hand now whole fits makes c
 shift_made TakeDelivery w u who from to at hand now whole fits apart next makes c = record { places = own-put w u (vcpu who.vm who.vcpu) (Shifting from to at) from Delivery 0 whole (fits.own from refl) makes refl (one_file w from to (fits.next to refl) (other_way from to apart)); carried = c }
 shift_made TakeThreshold w u who from to at hand now whole fits apart next makes c = record { places = own-put w u (vcpu who.vm who.vcpu) (Shifting from to at) from Threshold 0 whole (fits.own from refl) makes refl (one_file w from to (fits.next to refl) (other_way from to apart)); carried = c }
 shift_made PutDelivery w u who from to at hand now whole fits apart next makes c = record { places = next-put w u (vcpu who.vm who.vcpu) (Shifting from to at) to Delivery hand.delivery whole (fits.next to refl) makes refl (one_file w to from (fits.own from refl) apart); carried = c }

@@ -11,7 +11,7 @@ use Rattle.aia_home.specs.declared.place.Place.{Place}
 use Rattle.aia_home.specs.Home.{Home, Progress, is_moving, one_more, one_further}
 use Rattle.aia_home.specs.Plans.{is_at_last, Access, steps_done, has_access, IsNext, first_take, pending_step, enables_step}
 use Rattle.aia_home.specs.Home.Home.{Parked, Entered, Resident, Leaving, Arriving, Shifting}
-use Rattle.aia_home.specs.Plans.Access.{TakeDelivery, PutDelivery, WriteNotice, WriteEntry, Fence, WriteStage, FenceStage, TakePending, PutPending, TakeEnables, PutEnables, Look, TakeThreshold, PutThreshold, Post}
+use Rattle.aia_home.specs.Plans.Access.{TakeDelivery, PutDelivery, WriteNotice, WriteEntry, Fence, Map, GFence, TakePending, PutPending, TakeEnables, PutEnables, Look, TakeThreshold, PutThreshold, Post}
 use Rattle.aia_home.specs.Phases.{begins}
 use Rattle.aia_home.specs.Aims.{aims_done}
 use Rattle.aia_home.specs.Phases.Phase.{ClosingPhase, DrainPhase, EnablePhase, LookPhase}
@@ -65,8 +65,8 @@ access_keeps PutDelivery m w u made = register_kept w u _ _ _ made
 access_keeps WriteNotice m w u made = by_equation w u _ (record { n = refl; vms = refl; harts = refl; guests = refl }) made
 access_keeps WriteEntry m w u made = by_equation w u _ (record { n = refl; vms = refl; harts = refl; guests = refl }) made
 access_keeps Fence m w u made = by_equation w u _ (record { n = refl; vms = refl; harts = refl; guests = refl }) made
-access_keeps WriteStage m w u made = by_equation w u _ (record { n = refl; vms = refl; harts = refl; guests = refl }) made
-access_keeps FenceStage m w u made = by_equation w u _ (record { n = refl; vms = refl; harts = refl; guests = refl }) made
+access_keeps Map m w u made = by_equation w u _ (record { n = refl; vms = refl; harts = refl; guests = refl }) made
+access_keeps GFence m w u made = by_equation w u _ (record { n = refl; vms = refl; harts = refl; guests = refl }) made
 access_keeps (TakePending k) m w u made = by_equation w u _ (pending_kept w (old_at m) k _) made
 access_keeps (PutPending k) m w u made = by_equation w u _ (pending_kept w (new_at m) k _) made.1
 access_keeps (TakeEnables k) m w u made = by_equation w u _ (enable_kept w (old_at m) k _) made

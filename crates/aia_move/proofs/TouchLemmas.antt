@@ -19,7 +19,7 @@ use Rattle.aia_home.specs.Home.{Home, Progress, is_place, holds}
 use Rattle.aia_home.specs.Home.Home.{Parked, Entered, Resident, Leaving, Arriving, Shifting}
 use Rattle.aia_home.specs.BySteps.{own_file, next_file, new_file}
 use Rattle.aia_home.specs.Plans.{Access, IsNext}
-use Rattle.aia_home.specs.Plans.Access.{TakeDelivery, PutDelivery, WriteNotice, WriteEntry, Fence, WriteStage, FenceStage, TakePending, PutPending, TakeEnables, PutEnables, Look, TakeThreshold, PutThreshold, Post}
+use Rattle.aia_home.specs.Plans.Access.{TakeDelivery, PutDelivery, WriteNotice, WriteEntry, Fence, Map, GFence, TakePending, PutPending, TakeEnables, PutEnables, Look, TakeThreshold, PutThreshold, Post}
 use Rattle.aia_home.proofs.HomeLemmas.{is_itself_place, own_is_held, next_is_held}
 use Rattle.aia_home.proofs.VmLemmas.{same_slot}
 use Rattle.aia_places.specs.View.{entry_word, second_word}
@@ -200,8 +200,8 @@ leave_touches : (access : Access) (w u : World) (who : Who) (from : Place) (at :
 leave_touches WriteNotice w u who from at hand whole fits next makes = touches_entry w u (record { who = who; home = (Leaving from at); hand = hand }) whole fits.there 1 (second_word who.slot who.notice) (omega arith) makes
 leave_touches WriteEntry w u who from at hand whole fits next makes = touches_entry w u (record { who = who; home = (Leaving from at); hand = hand }) whole fits.there 0 (entry_word who.slot (new_file (Leaving from at))) (omega arith) makes
 leave_touches Fence w u who from at hand whole fits next makes = touches_fence w u (record { who = who; home = (Leaving from at); hand = hand }) whole fits.there makes
-leave_touches WriteStage w u who from at hand whole fits next makes = touches_stage w u (record { who = who; home = (Leaving from at); hand = hand }) whole fits.there (record (stage_of w (vcpu who.vm who.vcpu)) { written = new_file (Leaving from at) }) makes
-leave_touches FenceStage w u who from at hand whole fits next makes = touches_stage w u (record { who = who; home = (Leaving from at); hand = hand }) whole fits.there (record (stage_of w (vcpu who.vm who.vcpu)) { in_force = (stage_of w (vcpu who.vm who.vcpu)).written }) makes
+leave_touches Map w u who from at hand whole fits next makes = touches_stage w u (record { who = who; home = (Leaving from at); hand = hand }) whole fits.there (record (stage_of w (vcpu who.vm who.vcpu)) { written = new_file (Leaving from at) }) makes
+leave_touches GFence w u who from at hand whole fits next makes = touches_stage w u (record { who = who; home = (Leaving from at); hand = hand }) whole fits.there (record (stage_of w (vcpu who.vm who.vcpu)) { in_force = (stage_of w (vcpu who.vm who.vcpu)).written }) makes
 leave_touches TakeDelivery w u who from at hand whole fits next makes = touches_file w u (record { who = who; home = (Leaving from at); hand = hand }) from (file_at u.imsic (spot_of from)) (fits.own from refl) (is_itself_place from) makes.others
 leave_touches TakeThreshold w u who from at hand whole fits next makes = touches_file w u (record { who = who; home = (Leaving from at); hand = hand }) from (file_at u.imsic (spot_of from)) (fits.own from refl) (is_itself_place from) makes.others
 leave_touches (TakePending k) w u who from at hand whole fits next makes = touches_file w u (record { who = who; home = (Leaving from at); hand = hand }) from (record (file_at w.imsic (spot_of from)) { pending = set (file_at w.imsic (spot_of from)).pending k 0 }) (fits.own from refl) (is_itself_place from) makes
@@ -225,8 +225,8 @@ arrive_touches : (access : Access) (w u : World) (who : Who) (to : Place) (at : 
     → Makes access (record { who = who; home = (Arriving to at); hand = hand }) w u → Touches (sends access hand) w u (record { who = who; home = (Arriving to at); hand = hand })
 arrive_touches WriteEntry w u who to at hand whole fits next makes = touches_entry w u (record { who = who; home = (Arriving to at); hand = hand }) whole fits.there 0 (entry_word who.slot (new_file (Arriving to at))) (omega arith) makes
 arrive_touches Fence w u who to at hand whole fits next makes = touches_fence w u (record { who = who; home = (Arriving to at); hand = hand }) whole fits.there makes
-arrive_touches WriteStage w u who to at hand whole fits next makes = touches_stage w u (record { who = who; home = (Arriving to at); hand = hand }) whole fits.there (record (stage_of w (vcpu who.vm who.vcpu)) { written = new_file (Arriving to at) }) makes
-arrive_touches FenceStage w u who to at hand whole fits next makes = touches_stage w u (record { who = who; home = (Arriving to at); hand = hand }) whole fits.there (record (stage_of w (vcpu who.vm who.vcpu)) { in_force = (stage_of w (vcpu who.vm who.vcpu)).written }) makes
+arrive_touches Map w u who to at hand whole fits next makes = touches_stage w u (record { who = who; home = (Arriving to at); hand = hand }) whole fits.there (record (stage_of w (vcpu who.vm who.vcpu)) { written = new_file (Arriving to at) }) makes
+arrive_touches GFence w u who to at hand whole fits next makes = touches_stage w u (record { who = who; home = (Arriving to at); hand = hand }) whole fits.there (record (stage_of w (vcpu who.vm who.vcpu)) { in_force = (stage_of w (vcpu who.vm who.vcpu)).written }) makes
 arrive_touches PutDelivery w u who to at hand whole fits next makes = touches_file w u (record { who = who; home = (Arriving to at); hand = hand }) to (file_at u.imsic (spot_of to)) (fits.own to refl) (is_itself_place to) makes.others
 arrive_touches PutThreshold w u who to at hand whole fits next makes = touches_file w u (record { who = who; home = (Arriving to at); hand = hand }) to (file_at u.imsic (spot_of to)) (fits.own to refl) (is_itself_place to) makes.others
 arrive_touches (TakePending k) w u who to at hand whole fits next makes =
@@ -249,8 +249,8 @@ shift_touches : (access : Access) (w u : World) (who : Who) (from to : Place) (a
     → Makes access (record { who = who; home = (Shifting from to at); hand = hand }) w u → Touches (sends access hand) w u (record { who = who; home = (Shifting from to at); hand = hand })
 shift_touches WriteEntry w u who from to at hand whole fits next makes = touches_entry w u (record { who = who; home = (Shifting from to at); hand = hand }) whole fits.there 0 (entry_word who.slot (new_file (Shifting from to at))) (omega arith) makes
 shift_touches Fence w u who from to at hand whole fits next makes = touches_fence w u (record { who = who; home = (Shifting from to at); hand = hand }) whole fits.there makes
-shift_touches WriteStage w u who from to at hand whole fits next makes = touches_stage w u (record { who = who; home = (Shifting from to at); hand = hand }) whole fits.there (record (stage_of w (vcpu who.vm who.vcpu)) { written = new_file (Shifting from to at) }) makes
-shift_touches FenceStage w u who from to at hand whole fits next makes = touches_stage w u (record { who = who; home = (Shifting from to at); hand = hand }) whole fits.there (record (stage_of w (vcpu who.vm who.vcpu)) { in_force = (stage_of w (vcpu who.vm who.vcpu)).written }) makes
+shift_touches Map w u who from to at hand whole fits next makes = touches_stage w u (record { who = who; home = (Shifting from to at); hand = hand }) whole fits.there (record (stage_of w (vcpu who.vm who.vcpu)) { written = new_file (Shifting from to at) }) makes
+shift_touches GFence w u who from to at hand whole fits next makes = touches_stage w u (record { who = who; home = (Shifting from to at); hand = hand }) whole fits.there (record (stage_of w (vcpu who.vm who.vcpu)) { in_force = (stage_of w (vcpu who.vm who.vcpu)).written }) makes
 shift_touches TakeDelivery w u who from to at hand whole fits next makes = touches_file w u (record { who = who; home = (Shifting from to at); hand = hand }) from (file_at u.imsic (spot_of from)) (fits.own from refl) (or_left (is_place from from) (is_place from to) (is_itself_place from)) makes.others
 shift_touches TakeThreshold w u who from to at hand whole fits next makes = touches_file w u (record { who = who; home = (Shifting from to at); hand = hand }) from (file_at u.imsic (spot_of from)) (fits.own from refl) (or_left (is_place from from) (is_place from to) (is_itself_place from)) makes.others
 shift_touches PutDelivery w u who from to at hand whole fits next makes = touches_file w u (record { who = who; home = (Shifting from to at); hand = hand }) to (file_at u.imsic (spot_of to)) (fits.next to refl) (or_right (is_place to from) (is_place to to) (is_itself_place to)) makes.others

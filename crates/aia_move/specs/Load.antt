@@ -3,7 +3,7 @@ use Rattle.std.specs.Prelude.{◌≡◌, ℕ, ◌+◌, ◌-◌, ◌/◌, ◌%◌
 use Rattle.aia_home.specs.Home.{Home, Progress}
 use Rattle.aia_home.specs.Plans.{Access, steps_done}
 use Rattle.aia_home.specs.Aims.{aims_done}
-use Rattle.aia_home.specs.Plans.Access.{WriteStage, FenceStage, TakePending, PutPending, TakeEnables, PutEnables}
+use Rattle.aia_home.specs.Plans.Access.{Map, GFence, TakePending, PutPending, TakeEnables, PutEnables}
 use Rattle.aia_places.specs.Holds.{Hand}
 use Rattle.aia_fabric.specs.World.{World}
 use Rattle.aia_move.specs.declared.who.Who.{Who}
@@ -49,7 +49,7 @@ pub record Does (access : Access) (m : Moving) (w u : World) (now : Load) : Type
 
 -- The G-stage record is written, then put in force.
 abbrev pub closing_access : ℕ → ℕ → Access
-closing_access first steps = if nat_eq steps first then WriteStage else FenceStage
+closing_access first steps = if nat_eq steps first then Map else GFence
 
 -- Each word of a set is taken, then put.
 abbrev pub pending_access : ℕ → ℕ → Access

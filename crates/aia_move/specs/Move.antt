@@ -11,14 +11,14 @@ use Rattle.aia_home.specs.Home.{Home, one_more}
 use Rattle.aia_home.specs.Plans.{is_at_last, Access, IsNext, next_access, is_carried}
 use Rattle.aia_home.specs.Home.Home.{Leaving, Arriving}
 use Rattle.aia_home.specs.BySteps.{own_file, next_file, old_file, new_file}
-use Rattle.aia_home.specs.Plans.Access.{TakeDelivery, PutDelivery, WriteNotice, WriteEntry, Fence, WriteStage, FenceStage, TakePending, PutPending, TakeEnables, PutEnables, Look, TakeThreshold, PutThreshold, Post}
+use Rattle.aia_home.specs.Plans.Access.{TakeDelivery, PutDelivery, WriteNotice, WriteEntry, Fence, Map, GFence, TakePending, PutPending, TakeEnables, PutEnables, Look, TakeThreshold, PutThreshold, Post}
 use Rattle.aia_places.specs.View.{entry_word, second_word}
 use Rattle.aia_places.specs.Holds.{Hand, meets}
 use Rattle.aia_fabric.specs.declared.at.At.{At}
 use Rattle.aia_fabric.specs.declared.at.At.TheVariants.{File, Slot}
 use Rattle.aia_fabric.specs.World.{World}
 use Rattle.aia_fabric.specs.Stores.{Posts}
-use Rattle.aia_fabric.specs.Changes.{PutsRegister, spot_of, pending_words, enable_words, pending_at, with_pending, enable_at, with_enable, with_entry_word, with_fence, with_map, with_stage_fence}
+use Rattle.aia_fabric.specs.Changes.{PutsRegister, spot_of, pending_words, enable_words, pending_at, with_pending, enable_at, with_enable, with_entry_word, with_fence, with_map, with_gfence}
 use Rattle.aia_move.specs.declared.who.Who.{Who}
 
 -- Who is moved, its home (which move it is, and how far it has come), and what the move carries.
@@ -80,8 +80,8 @@ Makes WriteNotice m w u =
 Makes WriteEntry m w u =
     u ≡ with_entry_word w m.who.vm m.who.vcpu 0 (entry_word m.who.slot (new_file m.home))
 Makes Fence m w u = u ≡ with_fence w m.who.vm m.who.vcpu
-Makes WriteStage m w u = u ≡ with_map w (mover m) (new_file m.home)
-Makes FenceStage m w u = u ≡ with_stage_fence w (mover m)
+Makes Map m w u = u ≡ with_map w (mover m) (new_file m.home)
+Makes GFence m w u = u ≡ with_gfence w (mover m)
 Makes (TakePending k) m w u = u ≡ with_pending w (old_at m) k 0
 Makes (PutPending k) m w u = (k < pending_words w (new_at m))
     × (u ≡ with_pending w (new_at m) k (bit_or (pending_at w (new_at m) k) m.hand.word))

@@ -6,7 +6,7 @@ ghost use Rattle.aia_imsic.specs.Imsic.{IsThere};
 ghost use Rattle.aia_home.specs.declared.place.Place.{Place};
 ghost use Rattle.aia_home.specs.Plans.{leave_steps};
 ghost use Rattle.aia_home.specs.BySteps.{new_file};
-ghost use Rattle.aia_home.specs.Plans.Access.{TakeDelivery, PutDelivery, WriteNotice, WriteEntry, Fence, WriteStage, FenceStage, TakePending, PutPending, TakeEnables, PutEnables, Look, TakeThreshold, PutThreshold};
+ghost use Rattle.aia_home.specs.Plans.Access.{TakeDelivery, PutDelivery, WriteNotice, WriteEntry, Fence, Map, GFence, TakePending, PutPending, TakeEnables, PutEnables, Look, TakeThreshold, PutThreshold};
 ghost use Rattle.aia_fabric.specs.Flights.{Fences};
 ghost use Rattle.aia_fabric.specs.Changes.{IsPlaceThere, spot_of, words_at};
 ghost use Rattle.aia_move.specs.Move.{Moving, IsWho, Makes, PostsIf, old_at, new_at, old_spot, new_spot, width};
@@ -181,23 +181,23 @@ impl Carrier {
     }
 
     /// Writes the G-stage record: the guest file that it names, or none.
-    fn write_stage(&mut self, fabric: &mut Fabric, to: Option<&FileLease>)
+    fn map(&mut self, fabric: &mut Fabric, to: Option<&FileLease>)
         requires who { IsWho fabric.old self.old.who }
         requires more { self.old.steps < leave_steps FILE_WORDS }
         ensures { (m : Moving) → load_of m ≡ self.old
             → new_file m.home ≡ option_map (λ (lease : Bor Place). lease.now) to.entry
-            → Does WriteStage m fabric.old fabric.new self.new }
+            → Does Map m fabric.old fabric.new self.new }
     {
         fabric.map(self.who.vm, self.who.vcpu, to);
         self.done += 1;
     }
 
     /// Puts the G-stage record in force.
-    fn fence_stage(&mut self, fabric: &mut Fabric)
+    fn gfence(&mut self, fabric: &mut Fabric)
         requires who { IsWho fabric.old self.old.who }
         requires more { self.old.steps < leave_steps FILE_WORDS }
         ensures { (m : Moving) → load_of m ≡ self.old
-            → Does FenceStage m fabric.old fabric.new self.new }
+            → Does GFence m fabric.old fabric.new self.new }
     {
         fabric.gfence(self.who.vm, self.who.vcpu);
         self.done += 1;
@@ -213,9 +213,9 @@ impl Carrier {
             → Does (closing_access first self.old.steps) m fabric.old fabric.new self.new }
     {
         if self.done == first {
-            self.write_stage(fabric, to);
+            self.map(fabric, to);
         } else {
-            self.fence_stage(fabric);
+            self.gfence(fabric);
         }
     }
 

@@ -1,7 +1,7 @@
 ghost use Rattle.std.specs.Prelude.{◌≡◌, ℕ, ◌<◌, ◌≤◌, true, false};
 ghost use Rattle.aia_home.specs.Home.{is_moving};
 ghost use Rattle.aia_home.specs.Plans.{steps_done, leave_step};
-ghost use Rattle.aia_home.specs.Plans.Access.{WriteStage};
+ghost use Rattle.aia_home.specs.Plans.Access.{Map};
 ghost use Rattle.aia_home.specs.Phases.{begins};
 ghost use Rattle.aia_home.specs.Phases.Phase.{ClosingPhase, DrainPhase, EnablePhase};
 ghost use Rattle.aia_move.specs.Move.{Fits, old_at, new_at, width};
@@ -179,7 +179,7 @@ impl<K: Kind, P> Move<K, P> {
 
     /// Tells how many steps the first phase has, no more than that of a leave.
     pub(crate) fn first_steps(&self) -> u32
-        ensures few { result ≤ leave_step 0 WriteStage }
+        ensures few { result ≤ leave_step 0 Map }
         ensures moves { is_moving self.now.home ≡ true }
         ensures after { K.after ≡ after_enable self.now.home }
         ensures value { (words : ℕ) → result ≡ begins words self.now.home ClosingPhase }

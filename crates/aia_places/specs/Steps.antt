@@ -10,7 +10,7 @@ use Rattle.aia_home.specs.Home.{Home}
 use Rattle.aia_home.specs.Home.Home.{Leaving, Arriving, Shifting}
 use Rattle.aia_home.specs.BySteps.{new_file}
 use Rattle.aia_home.specs.Plans.{Access}
-use Rattle.aia_home.specs.Plans.Access.{TakeDelivery, PutDelivery, WriteNotice, WriteEntry, Fence, WriteStage, FenceStage, TakePending, PutPending, TakeEnables, PutEnables, Look, TakeThreshold, PutThreshold, Post}
+use Rattle.aia_home.specs.Plans.Access.{TakeDelivery, PutDelivery, WriteNotice, WriteEntry, Fence, Map, GFence, TakePending, PutPending, TakeEnables, PutEnables, Look, TakeThreshold, PutThreshold, Post}
 use Rattle.aia_places.specs.View.{View, TwoSets, old_place, new_place, entry_word, second_word}
 use Rattle.aia_places.specs.Holds.{Hand, meets}
 
@@ -62,8 +62,8 @@ view_after q hart PutDelivery there v hand =
 view_after q hart WriteNotice there v hand = record v { word1 = second_word q hart }
 view_after q hart WriteEntry there v hand = record v { word0 = entry_word q (new_file there) }
 view_after q hart Fence there v hand = record v { in_force = decoded v.word0 v.word1 }
-view_after q hart WriteStage there v hand = record v { stage = new_file there }
-view_after q hart FenceStage there v hand = record v { stage_in_force = v.stage }
+view_after q hart Map there v hand = record v { stage = new_file there }
+view_after q hart GFence there v hand = record v { stage_in_force = v.stage }
 view_after q hart (TakePending w) there v hand = with_old there v
     (record (old_place v there) { pending = without_word w (old_place v there).pending })
 view_after q hart (PutPending w) there v hand = with_new there v

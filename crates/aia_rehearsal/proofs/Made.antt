@@ -49,7 +49,7 @@ use Rattle.aia_fabric.proofs.WholeLemmas.{notice_hart_there}
 use Rattle.aia_rehearsal.specs.Stands.{side_of}
 use Rattle.aia_rehearsal.specs.Events.{IsAlone}
 use Rattle.aia_home.specs.Home.{is_place}
-use Rattle.aia_fabric.specs.Changes.{with_entry_word, with_fence, with_map, with_stage_fence}
+use Rattle.aia_fabric.specs.Changes.{with_entry_word, with_fence, with_map, with_gfence}
 use Rattle.aia_plan.specs.declared.step.Step.TheVariants.{Word0, Map, GFence}
 use Rattle.aia_plan.specs.Transit.{stepped, happened}
 use Rattle.aia_plan.specs.Transit.{Happening as happenings}
@@ -204,7 +204,7 @@ module _ (before w : World) (n harts guests : ℕ) (vm : Vm) (who : Who) (new : 
 
   -- once the entry and the record were written for a file and put in force, it may shift to another one
   pub may_shift : (a b : Place) → IsThere w.imsic (spot_of a) → IsThere w.imsic (spot_of b) → is_place a b ≡ false → (x y v u : World) → IsWhole x → IsWhole y → IsWhole v
-      → x ≡ with_entry_word w who.vm who.vcpu 0 (entry_word who.slot (Some a)) → y ≡ with_fence x who.vm who.vcpu → v ≡ with_map y (vcpu who.vm who.vcpu) (Some a) → u ≡ with_stage_fence v (vcpu who.vm who.vcpu)
+      → x ≡ with_entry_word w who.vm who.vcpu 0 (entry_word who.slot (Some a)) → y ≡ with_fence x who.vm who.vcpu → v ≡ with_map y (vcpu who.vm who.vcpu) (Some a) → u ≡ with_gfence v (vcpu who.vm who.vcpu)
       → StandsFor u (record { passage = record { who = who; old = File a; new = File b }; hand = empty_hand }) (state_at Old u (record { passage = record { who = who; old = File a; new = File b }; hand = empty_hand }))
   may_shift a b there too apart x y v u whole_x whole_y whole_v e1 e2 e3 e4 =
       let r : Rehearsed = record { passage = record { who = who; old = Slot; new = File a }; hand = empty_hand } in

@@ -24,8 +24,8 @@ use Rattle.aia_places.specs.View.{View, TwoSets, of_file, of_slot, leads_to, ent
 use Rattle.aia_places.proofs.EntryLemmas.{entry_back}
 use Rattle.aia_fabric.specs.World.{World}
 use Rattle.aia_fabric.specs.Whole.{IsWhole}
-use Rattle.aia_fabric.specs.Changes.{spot_of, pending_words, enable_words, pending_at, with_pending, enable_at, with_enable, with_state, with_entry_word, with_fence, with_map, with_stage_fence}
-use Rattle.aia_fabric.proofs.ViewLemmas.{here, spots_apart, word0-view, word1-view, fence-view, map-view, stage_fence-view}
+use Rattle.aia_fabric.specs.Changes.{spot_of, pending_words, enable_words, pending_at, with_pending, enable_at, with_enable, with_state, with_entry_word, with_fence, with_map, with_gfence}
+use Rattle.aia_fabric.proofs.ViewLemmas.{here, spots_apart, word0-view, word1-view, fence-view, map-view, gfence-view}
 use Rattle.aia_fabric.proofs.WholeLemmas.{notice_hart_there}
 use Rattle.aia_move.specs.Move.{PostsIf, width}
 use Rattle.aia_move.specs.Touches.{SameMachine}
@@ -222,10 +222,10 @@ module _ (w : World) (r : Rehearsed) (z : Transit) (whole : IsWhole w) (s : Stan
       (rw (table_kept u refl refl refl p.old, table_kept u refl refl refl p.new) (sets_kept (stepped Map z) refl refl refl refl refl refl))
       (subst (λ x. RoutesStand p x (stepped Map z)) (sym (ap routes_in seen)) (record { entry_written = s.routes.entry_written; notice = s.routes.notice; entry_in_force = s.routes.entry_in_force; record_written = refl; record_in_force = s.routes.record_in_force })) s
 
-  pub fence_record : StandsFor (with_stage_fence w (moved p)) r (stepped GFence z)
+  pub fence_record : StandsFor (with_gfence w (moved p)) r (stepped GFence z)
   fence_record =
-      let u = with_stage_fence w (moved p) in
-      let seen = stage_fence-view w (moved p) Parked whole s.of.who.there in
+      let u = with_gfence w (moved p) in
+      let seen = gfence-view w (moved p) Parked whole s.of.who.there in
       stand_on w u r r.hand z (stepped GFence z) (record { n = refl; vms = refl; harts = refl; guests = refl }) refl refl
       (rw (table_kept u refl refl refl p.old, table_kept u refl refl refl p.new) (sets_kept (stepped GFence z) refl refl refl refl refl refl))
       (subst (λ x. RoutesStand p x (stepped GFence z)) (sym (ap routes_in seen)) (record { entry_written = s.routes.entry_written; notice = s.routes.notice; entry_in_force = s.routes.entry_in_force; record_written = s.routes.record_written; record_in_force = s.routes.record_written })) s

@@ -13,7 +13,7 @@ use Rattle.aia_places.specs.Holds.{meets}
 use Rattle.aia_fabric.specs.declared.at.At.TheVariants as ats
 use Rattle.aia_fabric.specs.World.{World}
 use Rattle.aia_fabric.specs.Flights.{Fences}
-use Rattle.aia_fabric.specs.Changes.{PutsRegister, spot_of, pending_words, enable_words, pending_at, with_pending, enable_at, with_enable, with_entry_word, with_map, with_stage_fence}
+use Rattle.aia_fabric.specs.Changes.{PutsRegister, spot_of, pending_words, enable_words, pending_at, with_pending, enable_at, with_enable, with_entry_word, with_map, with_gfence}
 use Rattle.aia_move.specs.Move.{PostsIf}
 use Rattle.aia_rehearsal.specs.declared.place.Place as ends
 use Rattle.aia_rehearsal.specs.declared.place.Place.TheVariants.{File, Slot}
@@ -40,7 +40,7 @@ Makes Fence r w u = Fences w u r.passage.who.vm r.passage.who.vcpu
 Makes Map r w u = u ≡ with_map w (moved r.passage) (names_on New r.passage)
 Makes Unmap r w u = u ≡ with_map w (moved r.passage) (names_on New r.passage)
 Makes Remap r w u = u ≡ with_map w (moved r.passage) (names_on New r.passage)
-Makes GFence r w u = u ≡ with_stage_fence w (moved r.passage)
+Makes GFence r w u = u ≡ with_gfence w (moved r.passage)
 Makes (TakeP k) r w u =
     (k < pending_words w (at Old r.passage)) × (u ≡ with_pending w (at Old r.passage) k 0)
 Makes (PutP k) r w u = (k < pending_words w (at New r.passage))

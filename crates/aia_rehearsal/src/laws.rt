@@ -16,7 +16,7 @@ ghost use Rattle.aia_places.specs.View.{entry_word};
 ghost use Rattle.aia_fabric.specs.World.{World};
 ghost use Rattle.aia_fabric.specs.Whole.{IsWhole};
 ghost use Rattle.aia_fabric.specs.Making.{IsNew, MakesVm};
-ghost use Rattle.aia_fabric.specs.Changes.{spot_of, with_entry_word, with_fence, with_map, with_stage_fence};
+ghost use Rattle.aia_fabric.specs.Changes.{spot_of, with_entry_word, with_fence, with_map, with_gfence};
 ghost use Rattle.aia_move.specs.declared.who.Who.{Who};
 ghost use Rattle.aia_move.specs.Move.{IsWho, width};
 ghost use Rattle.aia_rehearsal.specs.declared.place.Place as ends;
@@ -78,7 +78,7 @@ pub fn rehearsals_stand_for_something()
         → x ≡ with_entry_word w who.vm who.vcpu 0 (entry_word who.slot (Some a))
         → y ≡ with_fence x who.vm who.vcpu
         → v ≡ with_map y (vcpu who.vm who.vcpu) (Some a)
-        → u ≡ with_stage_fence v (vcpu who.vm who.vcpu)
+        → u ≡ with_gfence v (vcpu who.vm who.vcpu)
         → StandsFor u (from_to who (places.File a) (places.File b))
         (state_at Old u (from_to who (places.File a) (places.File b))) }
     ensures next { (w u : World) (r t : Rehearsed) (asked_for : ℕ → Bool) (place : ends.Place)
