@@ -28,12 +28,12 @@ use Rattle.aia_home.specs.Home.Home.{Parked}
 use Rattle.aia_home.specs.BySteps.{own_file, next_file}
 use Rattle.aia_home.proofs.HomeLemmas.{own_is_held, next_is_held}
 use Rattle.aia_home.proofs.VmLemmas.{same_slot}
-use Rattle.aia_places.specs.View.{leads_to}
+use Rattle.aia_places.specs.Places.{leads_to}
 use Rattle.aia_fabric.specs.World.{World, stage_of}
 use Rattle.aia_fabric.specs.Whole.{IsWhole}
 use Rattle.aia_fabric.specs.Making.{entry_word_place}
 use Rattle.aia_fabric.specs.Stores.{StoresIn, StoresAt, Posts, NoticedBy, StoresInSlot, Reaches, ReachesBy, Relays, with_store, page_spot}
-use Rattle.aia_fabric.specs.Changes.{spot_of, file_in, view}
+use Rattle.aia_fabric.specs.Changes.{spot_of, file_in, places_of}
 use Rattle.aia_fabric.specs.Own.{TouchesOwn, LeadsToOwn, TouchesOneOf}
 use Rattle.aia_fabric.proofs.FrameLemmas.{by_parts, none_rest, stores_rest, posts_rest}
 use Rattle.aia_fabric.proofs.PlaceLemmas.{slot_found, host_page, other_slot_stays}
@@ -187,7 +187,7 @@ file_stays w u g reach None t kept = ap (λ (x : World). empty_file x.n) t.rest
 file_stays w u g reach (Some p) t kept = let inside = kept p refl in ap shown (t.guest_files p inside.0 inside.1)
 
 pub others_stay : (w u : World) (g x : Vcpu) (reach : Option Place) (there : Home) → is_vcpu_in w.vms g ≡ true → is_vcpu_in w.vms x ≡ true → x ≢ g → TouchesOwn w u g reach
-    → ((p : Place) → holds p there ≡ true → IsThere w.imsic (spot_of p) × (reach ≢ Some p)) → view u x there ≡ view w x there
+    → ((p : Place) → holds p there ≡ true → IsThere w.imsic (spot_of p) × (reach ≢ Some p)) → places_of u x there ≡ places_of w x there
 others_stay w u g x reach there standing inside other t held =
     let own = file_stays w u g reach (own_file there) t (λ p e. held p (own_is_held there p e)) in
     let next = file_stays w u g reach (next_file there) t (λ p e. held p (next_is_held there p e)) in

@@ -19,12 +19,12 @@ use Rattle.aia_home.proofs.HomeLemmas.{same_place}
 use Rattle.aia_home.specs.Home.{Home, is_place, holds}
 use Rattle.aia_home.specs.Home.Home.{Parked, Entered, Resident, Leaving, Arriving, Shifting}
 use Rattle.aia_home.specs.BySteps.{own_file, next_file}
-use Rattle.aia_places.specs.Stores.{view_landed, AreApart}
+use Rattle.aia_places.specs.Stores.{places_landed, AreApart}
 use Rattle.aia_fabric.specs.World.{World}
 use Rattle.aia_fabric.specs.Whole.{IsWhole}
 use Rattle.aia_fabric.specs.Making.{entry_word_place}
 use Rattle.aia_fabric.specs.Stores.{StoresIn, with_store}
-use Rattle.aia_fabric.specs.Changes.{spot_of, file_in, view, with_state}
+use Rattle.aia_fabric.specs.Changes.{spot_of, file_in, places_of, with_state}
 use Rattle.aia_fabric.proofs.PlaceLemmas.{slot_takes_store, other_slot_stays}
 use Rattle.aia_fabric.proofs.ViewLemmas.{IsNoFile, own-replaced, next-replaced, has_slot, file_in-other}
 
@@ -34,16 +34,16 @@ module _ (w u : World) (g : Vcpu) (p : Place) (offset value : ℕ) (whole : IsWh
   one_state : u ≡ with_state w (spot_of p) (file_at u.imsic (spot_of p))
   one_state = stores.rest ∙ ap (λ (j : ImsicState). record w { imsic = j }) stores.lands.others
 
-  own-landed : (there : Home) → own_file there ≡ Some p → IsNoFile w p (next_file there) → view u g there ≡ record (view w g there) { own = landed offset value (view w g there).own }
+  own-landed : (there : Home) → own_file there ≡ Some p → IsNoFile w p (next_file there) → places_of u g there ≡ record (places_of w g there) { own = landed offset value (places_of w g there).own }
   own-landed there is none =
-      ap (λ (x : World). view x g there) one_state ∙ own-replaced w g there p (file_at u.imsic (spot_of p)) whole stands is none
-      ∙ ap (λ (file : InterruptFile). record (view w g there) { own = file }) (same_file (shown (file_at u.imsic (spot_of p))) (landed offset value (shown (file_at w.imsic (spot_of p)))) stores.lands.lands
+      ap (λ (x : World). places_of x g there) one_state ∙ own-replaced w g there p (file_at u.imsic (spot_of p)) whole stands is none
+      ∙ ap (λ (file : InterruptFile). record (places_of w g there) { own = file }) (same_file (shown (file_at u.imsic (spot_of p))) (landed offset value (shown (file_at w.imsic (spot_of p)))) stores.lands.lands
       ∙ ap (λ o. landed offset value (file_in w o)) (sym is))
 
-  next-landed : (there : Home) → next_file there ≡ Some p → IsNoFile w p (own_file there) → view u g there ≡ record (view w g there) { next = landed offset value (view w g there).next }
+  next-landed : (there : Home) → next_file there ≡ Some p → IsNoFile w p (own_file there) → places_of u g there ≡ record (places_of w g there) { next = landed offset value (places_of w g there).next }
   next-landed there is none =
-      ap (λ (x : World). view x g there) one_state ∙ next-replaced w g there p (file_at u.imsic (spot_of p)) whole stands is none
-      ∙ ap (λ (file : InterruptFile). record (view w g there) { next = file }) (same_file (shown (file_at u.imsic (spot_of p))) (landed offset value (shown (file_at w.imsic (spot_of p)))) stores.lands.lands
+      ap (λ (x : World). places_of x g there) one_state ∙ next-replaced w g there p (file_at u.imsic (spot_of p)) whole stands is none
+      ∙ ap (λ (file : InterruptFile). record (places_of w g there) { next = file }) (same_file (shown (file_at u.imsic (spot_of p))) (landed offset value (shown (file_at w.imsic (spot_of p)))) stores.lands.lands
       ∙ ap (λ o. landed offset value (file_in w o)) (sym is))
 
   no_next : IsNoFile w p None
@@ -56,14 +56,14 @@ module _ (w u : World) (g : Vcpu) (p : Place) (offset value : ℕ) (whole : IsWh
   other_way a b apart = grind (arith, nat_tests)
 
   -- of the home that holds it
-  pub file_store-view : (there : Home) → holds p there ≡ true → AreApart there → ((r : Place) → own_file there ≡ Some r → IsThere w.imsic (spot_of r)) → ((r : Place) → next_file there ≡ Some r → IsThere w.imsic (spot_of r))
-      → view u g there ≡ view_landed (Some p) there offset value (view w g there)
-  file_store-view Parked held apart own next = absurd (cc)
-  file_store-view Entered held apart own next = absurd (cc)
-  file_store-view (Resident q) held apart own next = own-landed (Resident q) (ap Some (sym (same_place p q held))) no_next
-  file_store-view (Leaving from at) held apart own next = own-landed (Leaving from at) (ap Some (sym (same_place p from held))) no_next
-  file_store-view (Arriving to at) held apart own next = own-landed (Arriving to at) (ap Some (sym (same_place p to held))) no_next
-  file_store-view (Shifting from to at) held apart own next = elim (cases_Bool (is_place p to)) [
+  pub file_store-places : (there : Home) → holds p there ≡ true → AreApart there → ((r : Place) → own_file there ≡ Some r → IsThere w.imsic (spot_of r)) → ((r : Place) → next_file there ≡ Some r → IsThere w.imsic (spot_of r))
+      → places_of u g there ≡ places_landed (Some p) there offset value (places_of w g there)
+  file_store-places Parked held apart own next = absurd (cc)
+  file_store-places Entered held apart own next = absurd (cc)
+  file_store-places (Resident q) held apart own next = own-landed (Resident q) (ap Some (sym (same_place p q held))) no_next
+  file_store-places (Leaving from at) held apart own next = own-landed (Leaving from at) (ap Some (sym (same_place p from held))) no_next
+  file_store-places (Arriving to at) held apart own next = own-landed (Arriving to at) (ap Some (sym (same_place p to held))) no_next
+  file_store-places (Shifting from to at) held apart own next = elim (cases_Bool (is_place p to)) [
     | inl second ↦
         let same : p ≡ to = same_place p to second in
         let not_from : is_place from p ≡ false = ap (λ (x : Place). is_place from x) same ∙ apart in
@@ -81,12 +81,12 @@ module _ (w u : World) (g : Vcpu) (p : Place) (offset value : ℕ) (whole : IsWh
 
   -- of every other one
   pub file_store-others : (there : Home) → ((r : Place) → own_file there ≡ Some r → IsThere w.imsic (spot_of r) × (is_place r p ≡ false)) → ((r : Place) → next_file there ≡ Some r → IsThere w.imsic (spot_of r) × (is_place r p ≡ false))
-      → view u g there ≡ view w g there
+      → places_of u g there ≡ places_of w g there
   file_store-others there own next =
       let e = file_in-other w p (file_at u.imsic (spot_of p)) (own_file there) stands own in
       let o = file_in-other w p (file_at u.imsic (spot_of p)) (next_file there) stands next in
-      let all : view (with_state w (spot_of p) (file_at u.imsic (spot_of p))) g there ≡ view w g there = λ k. record (view w g there) { own = e k; next = o k } in
-      ap (λ (x : World). view x g there) one_state ∙ all
+      let all : places_of (with_state w (spot_of p) (file_at u.imsic (spot_of p))) g there ≡ places_of w g there = λ k. record (places_of w g there) { own = e k; next = o k } in
+      ap (λ (x : World). places_of x g there) one_state ∙ all
 
 -- ---- in a slot
 
@@ -104,18 +104,18 @@ module _ (w : World) (g : Vcpu) (there : Home) (q offset value : ℕ) (whole : I
       )
 
   -- of the virtual hart whose slot it is
-  pub slot_store-view : q ≡ slot_of w.vms g → view (with_store w q offset value) g there ≡ view_landed None there offset value (view w g there)
-  slot_store-view is =
+  pub slot_store-places : q ≡ slot_of w.vms g → places_of (with_store w q offset value) g there ≡ places_landed None there offset value (places_of w g there)
+  slot_store-places is =
       let words = entry_words_kept in
       let takes = slot_takes_store w.memory q offset value (has_slot w q whole low) in
       let taken : mrif_in (words_after_store w.memory q (requested IDENTITIES offset value)) q ≡ after_store offset value (mrif_in w.memory q) = λ k. record { pending = λ i. takes.pending i k; enabled = λ i. takes.enabled i k } in
       let slot : mrif_in (words_after_store w.memory q (requested IDENTITIES offset value)) (slot_of w.vms g) ≡ after_store offset value (mrif_in w.memory (slot_of w.vms g)) =
       ap (λ r. mrif_in (words_after_store w.memory q (requested IDENTITIES offset value)) r) (sym is) ∙ taken ∙ ap (λ r. after_store offset value (mrif_in w.memory r)) is in
-      λ k. record (view w g there) { slot = slot k; word0 = words.0 k; word1 = words.1 k }
+      λ k. record (places_of w g there) { slot = slot k; word0 = words.0 k; word1 = words.1 k }
 
   -- of every other one
-  pub slot_store-others : q ≢ slot_of w.vms g → view (with_store w q offset value) g there ≡ view w g there
+  pub slot_store-others : q ≢ slot_of w.vms g → places_of (with_store w q offset value) g there ≡ places_of w g there
   slot_store-others other =
       let words = entry_words_kept in
       let slot = other_slot_stays w.memory q (slot_of w.vms g) offset value other in
-      λ k. record (view w g there) { slot = slot k; word0 = words.0 k; word1 = words.1 k }
+      λ k. record (places_of w g there) { slot = slot k; word0 = words.0 k; word1 = words.1 k }

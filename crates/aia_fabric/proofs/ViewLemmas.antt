@@ -38,7 +38,7 @@ use Rattle.aia_fabric.specs.World.{World, stage_of, no_stage}
 use Rattle.aia_fabric.specs.Whole.{IsWhole}
 use Rattle.aia_fabric.specs.Making.{entry_word_place}
 use Rattle.aia_fabric.specs.Stores.{Posts}
-use Rattle.aia_fabric.specs.Changes.{PutsRegister, spot_of, file_in, view, with_word, with_state, with_fence, with_stage, with_map, with_gfence}
+use Rattle.aia_fabric.specs.Changes.{PutsRegister, spot_of, file_in, places_of, with_word, with_state, with_fence, with_stage, with_map, with_gfence}
 use Rattle.aia_fabric.proofs.WholeLemmas.{vcpu_entry, entry_at}
 
 -- ---- a file
@@ -67,30 +67,30 @@ file_in-here : (w : World) (p : Place) (f : FileState) (o : Option Place) → Is
 file_in-here w p f o whole there e = ap (λ x. file_in (with_state w (spot_of p) f) x) e ∙ ap shown (here w (spot_of p) f whole there)
 
 module _ (w : World) (g : Vcpu) (there : Home) (p : Place) (f : FileState) (whole : IsWhole w) (stands : IsThere w.imsic (spot_of p)) where
-  pub own-replaced : own_file there ≡ Some p → IsNoFile w p (next_file there) → view (with_state w (spot_of p) f) g there ≡ record (view w g there) { own = shown f }
+  pub own-replaced : own_file there ≡ Some p → IsNoFile w p (next_file there) → places_of (with_state w (spot_of p) f) g there ≡ record (places_of w g there) { own = shown f }
   own-replaced own next =
       let e = file_in-here w p f (own_file there) whole stands own in
       let o = file_in-other w p f (next_file there) stands next in
-      λ k. record (view w g there) { own = e k; next = o k }
+      λ k. record (places_of w g there) { own = e k; next = o k }
 
-  pub next-replaced : next_file there ≡ Some p → IsNoFile w p (own_file there) → view (with_state w (spot_of p) f) g there ≡ record (view w g there) { next = shown f }
+  pub next-replaced : next_file there ≡ Some p → IsNoFile w p (own_file there) → places_of (with_state w (spot_of p) f) g there ≡ record (places_of w g there) { next = shown f }
   next-replaced next own =
       let e = file_in-here w p f (next_file there) whole stands next in
       let o = file_in-other w p f (own_file there) stands own in
-      λ k. record (view w g there) { own = o k; next = e k }
+      λ k. record (places_of w g there) { own = o k; next = e k }
 
 -- a register of it is written
 module _ (w u : World) (g : Vcpu) (there : Home) (p : Place) (reg : FileReg) (v : ℕ) (whole : IsWhole w) (stands : IsThere w.imsic (spot_of p)) (puts : PutsRegister w u (spot_of p) reg v) where
-  pub own-put : own_file there ≡ Some p → IsNoFile w p (next_file there) → view u g there ≡ record (view w g there) { own = accessed reg (ops.Write v) (view w g there).own }
+  pub own-put : own_file there ≡ Some p → IsNoFile w p (next_file there) → places_of u g there ≡ record (places_of w g there) { own = accessed reg (ops.Write v) (places_of w g there).own }
   own-put own next =
-      ap (λ (x : World). view x g there) puts.others ∙ own-replaced w g there p (file_at u.imsic (spot_of p)) whole stands own next
-      ∙ ap (λ (file : InterruptFile). record (view w g there) { own = file }) (same_file (shown (file_at u.imsic (spot_of p))) (accessed reg (ops.Write v) (shown (file_at w.imsic (spot_of p)))) puts.lands
+      ap (λ (x : World). places_of x g there) puts.others ∙ own-replaced w g there p (file_at u.imsic (spot_of p)) whole stands own next
+      ∙ ap (λ (file : InterruptFile). record (places_of w g there) { own = file }) (same_file (shown (file_at u.imsic (spot_of p))) (accessed reg (ops.Write v) (shown (file_at w.imsic (spot_of p)))) puts.lands
       ∙ ap (λ o. accessed reg (ops.Write v) (file_in w o)) (sym own))
 
-  pub next-put : next_file there ≡ Some p → IsNoFile w p (own_file there) → view u g there ≡ record (view w g there) { next = accessed reg (ops.Write v) (view w g there).next }
+  pub next-put : next_file there ≡ Some p → IsNoFile w p (own_file there) → places_of u g there ≡ record (places_of w g there) { next = accessed reg (ops.Write v) (places_of w g there).next }
   next-put next own =
-      ap (λ (x : World). view x g there) puts.others ∙ next-replaced w g there p (file_at u.imsic (spot_of p)) whole stands next own
-      ∙ ap (λ (file : InterruptFile). record (view w g there) { next = file }) (same_file (shown (file_at u.imsic (spot_of p))) (accessed reg (ops.Write v) (shown (file_at w.imsic (spot_of p)))) puts.lands
+      ap (λ (x : World). places_of x g there) puts.others ∙ next-replaced w g there p (file_at u.imsic (spot_of p)) whole stands next own
+      ∙ ap (λ (file : InterruptFile). record (places_of w g there) { next = file }) (same_file (shown (file_at u.imsic (spot_of p))) (accessed reg (ops.Write v) (shown (file_at w.imsic (spot_of p)))) puts.lands
       ∙ ap (λ o. accessed reg (ops.Write v) (file_in w o)) (sym next))
 
 -- ---- a word of a set that is a row of words
@@ -159,12 +159,12 @@ entries_past : (vm file place : ℕ) → place < WORDS_OF_SLOTS → (entry_word_
 entries_past vm file place low = (λ e. omega arith, λ e. omega arith)
 
 module _ (w : World) (g : Vcpu) (there : Home) (whole : IsWhole w) (stands : is_vcpu_in w.vms g ≡ true) where
-  pub in_slot-view : (place v : ℕ) → place < WORDS_OF_SLOTS → view (with_word w place v) g there ≡ record (view w g there) { slot = mrif_in (set w.memory place v) (slot_of w.vms g) }
-  in_slot-view place v low =
+  pub in_slot-places : (place v : ℕ) → place < WORDS_OF_SLOTS → places_of (with_word w place v) g there ≡ record (places_of w g there) { slot = mrif_in (set w.memory place v) (slot_of w.vms g) }
+  in_slot-places place v low =
       let past = entries_past g.vm g.number place low in
       let first = get_or-set_other w.memory place (entry_word_place g.vm g.number) v 0 past.0 in
       let second = get_or-set_other w.memory place (entry_word_place g.vm g.number + 1) v 0 past.1 in
-      λ t. record (view w g there) { slot = mrif_in (set w.memory place v) (slot_of w.vms g); word0 = first t; word1 = second t }
+      λ t. record (places_of w g there) { slot = mrif_in (set w.memory place v) (slot_of w.vms g); word0 = first t; word1 = second t }
 
   entry_low : entry_word_place g.vm g.number + 1 < MEMORY_WORDS
   entry_low = let entry = vcpu_entry w g.vm g.number whole stands in (entry_at w g.vm g.number whole entry.0 entry.3).3
@@ -172,8 +172,8 @@ module _ (w : World) (g : Vcpu) (there : Home) (whole : IsWhole w) (stands : is_
   in_table : (place v : ℕ) → WORDS_OF_SLOTS ≤ place → mrif_in (set w.memory place v) (slot_of w.vms g) ≡ mrif_in w.memory (slot_of w.vms g)
   in_table place v high = let low = slot_low w g whole stands in other_words w.memory (slot_of w.vms g) place v (inr (omega (arith, low, high)))
 
-  pub word0-view : (v : ℕ) → view (with_word w (entry_word_place g.vm g.number + 0) v) g there ≡ record (view w g there) { word0 = v }
-  word0-view v =
+  pub word0-places : (v : ℕ) → places_of (with_word w (entry_word_place g.vm g.number + 0) v) g there ≡ record (places_of w g there) { word0 = v }
+  word0-places v =
       let at = entry_word_place g.vm g.number in
       let same : at + 0 ≡ at = omega arith in
       let size = whole.memory in
@@ -181,23 +181,23 @@ module _ (w : World) (g : Vcpu) (there : Home) (whole : IsWhole w) (stands : is_
       let slot = in_table at v (omega arith) in
       let first = get_or-set_same w.memory at v 0 (omega arith) in
       let second = get_or-set_other w.memory at (at + 1) v 0 (λ e. omega arith) in
-      let all : view (with_word w at v) g there ≡ record (view w g there) { word0 = v } = λ t. record (view w g there) { slot = slot t; word0 = first t; word1 = second t } in
-      ap (λ place. view (with_word w place v) g there) same ∙ all
+      let all : places_of (with_word w at v) g there ≡ record (places_of w g there) { word0 = v } = λ t. record (places_of w g there) { slot = slot t; word0 = first t; word1 = second t } in
+      ap (λ place. places_of (with_word w place v) g there) same ∙ all
 
-  pub word1-view : (v : ℕ) → view (with_word w (entry_word_place g.vm g.number + 1) v) g there ≡ record (view w g there) { word1 = v }
-  word1-view v =
+  pub word1-places : (v : ℕ) → places_of (with_word w (entry_word_place g.vm g.number + 1) v) g there ≡ record (places_of w g there) { word1 = v }
+  word1-places v =
       let at = entry_word_place g.vm g.number in
       let size = whole.memory in
       let low = entry_low in
       let slot = in_table (at + 1) v (omega arith) in
       let first = get_or-set_other w.memory (at + 1) at v 0 (λ e. omega arith) in
       let second = get_or-set_same w.memory (at + 1) v 0 (omega arith) in
-      λ t. record (view w g there) { slot = slot t; word0 = first t; word1 = second t }
+      λ t. record (places_of w g there) { slot = slot t; word0 = first t; word1 = second t }
 
   -- ---- an entry, and a record
 
-  pub fence-view : view (with_fence w g.vm g.number) g there ≡ record (view w g there) { in_force = decoded (view w g there).word0 (view w g there).word1 }
-  fence-view =
+  pub fence-places : places_of (with_fence w g.vm g.number) g there ≡ record (places_of w g there) { in_force = decoded (places_of w g there).word0 (places_of w g there).word1 }
+  fence-places =
       let entry = vcpu_entry w g.vm g.number whole stands in
       let at = entry_at w g.vm g.number whole entry.0 entry.3 in
       let is = whole.vms g.vm entry.0 in
@@ -206,20 +206,20 @@ module _ (w : World) (g : Vcpu) (there : Home) (whole : IsWhole w) (stands : is_
       let new = fenced_here w.tables g.vm g.number w.memory (omega (arith, entry.0, whole.tables)) (omega (arith, entry.2, is.entries))
       ∙ ap (λ place. decoded (get_or w.memory place 0) (get_or w.memory ((entry_place (table_of w.tables g.vm) g.number + 8) / 8) 0)) first
       ∙ ap (λ place. decoded (get_or w.memory (entry_word_place g.vm g.number) 0) (get_or w.memory place 0)) second in
-      λ t. record (view w g there) { in_force = new t }
+      λ t. record (places_of w g there) { in_force = new t }
 
   stage_here : (s : Stage) → stage_of (with_stage w g s) g ≡ s
   stage_here s = let low = slot_low w g whole stands in get_or-set_same w.stages (slot_of w.vms g) s no_stage (omega (arith, low, whole.stages))
 
-  pub map-view : (to : Option Place) → view (with_map w g to) g there ≡ record (view w g there) { stage = to }
-  map-view to =
+  pub map-places : (to : Option Place) → places_of (with_map w g to) g there ≡ record (places_of w g there) { stage = to }
+  map-places to =
       let new = stage_here (record (stage_of w g) { written = to }) in
-      λ t. record (view w g there) { stage = (new t).written; stage_in_force = (new t).in_force }
+      λ t. record (places_of w g there) { stage = (new t).written; stage_in_force = (new t).in_force }
 
-  pub gfence-view : view (with_gfence w g) g there ≡ record (view w g there) { stage_in_force = (view w g there).stage }
-  gfence-view =
+  pub gfence-places : places_of (with_gfence w g) g there ≡ record (places_of w g there) { stage_in_force = (places_of w g there).stage }
+  gfence-places =
       let new = stage_here (record (stage_of w g) { in_force = (stage_of w g).written }) in
-      λ t. record (view w g there) { stage = (new t).written; stage_in_force = (new t).in_force }
+      λ t. record (places_of w g there) { stage = (new t).written; stage_in_force = (new t).in_force }
 
 -- ---- a notice
 
@@ -228,11 +228,11 @@ file_in-posted : (w : World) (hart : ℕ) (f : FileState) (notices : ℕ) (o : O
 file_in-posted w hart f notices None low stands = refl
 file_in-posted w hart f notices (Some r) low stands = ap shown (kept_elsewhere w.imsic (SupervisorFile hart) (spot_of r) f low (stands r refl) (λ e. absurd (cc)))
 
-pub posts-view : (w u : World) (g : Vcpu) (there : Home) (hart identity : ℕ) → hart < w.imsic.harts → ((r : Place) → own_file there ≡ Some r → IsThere w.imsic (spot_of r)) → ((r : Place) → next_file there ≡ Some r → IsThere w.imsic (spot_of r))
-    → Posts w u (SupervisorFile hart) identity → view u g there ≡ view w g there
-posts-view w u g there hart identity low own next p =
+pub posts-places : (w u : World) (g : Vcpu) (there : Home) (hart identity : ℕ) → hart < w.imsic.harts → ((r : Place) → own_file there ≡ Some r → IsThere w.imsic (spot_of r)) → ((r : Place) → next_file there ≡ Some r → IsThere w.imsic (spot_of r))
+    → Posts w u (SupervisorFile hart) identity → places_of u g there ≡ places_of w g there
+posts-places w u g there hart identity low own next p =
     let f = file_at u.imsic (SupervisorFile hart) in
     let e = file_in-posted w hart f u.notices (own_file there) low own in
     let o = file_in-posted w hart f u.notices (next_file there) low next in
-    let all : view (record w { imsic = with_file w.imsic (SupervisorFile hart) f; notices = u.notices }) g there ≡ view w g there = λ k. record (view w g there) { own = e k; next = o k } in
-    ap (λ (x : World). view x g there) (p.rest ∙ ap (λ (j : ImsicState). record w { imsic = j; notices = u.notices }) p.lands.others) ∙ all
+    let all : places_of (record w { imsic = with_file w.imsic (SupervisorFile hart) f; notices = u.notices }) g there ≡ places_of w g there = λ k. record (places_of w g there) { own = e k; next = o k } in
+    ap (λ (x : World). places_of x g there) (p.rest ∙ ap (λ (j : ImsicState). record w { imsic = j; notices = u.notices }) p.lands.others) ∙ all

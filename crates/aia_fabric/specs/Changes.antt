@@ -14,7 +14,7 @@ use Rattle.aia_home.specs.declared.place.Place.{Place}
 use Rattle.aia_home.specs.Vms.{Vcpu, slot_of}
 use Rattle.aia_home.specs.Home.{Home}
 use Rattle.aia_home.specs.BySteps.{own_file, next_file}
-use Rattle.aia_places.specs.View.{View}
+use Rattle.aia_places.specs.Places.{Places}
 use Rattle.aia_fabric.specs.declared.at.At.{At}
 use Rattle.aia_fabric.specs.declared.at.At.TheVariants.{File, Slot}
 use Rattle.aia_fabric.specs.declared.stage.Stage.{Stage}
@@ -107,8 +107,8 @@ file_in w None = empty_file w.n
 file_in w (Some p) = shown (file_at w.imsic (spot_of p))
 
 -- The places of a virtual hart that has this home.
-abbrev pub view : World → Vcpu → Home → View
-view w g there = record {
+abbrev pub places_of : World → Vcpu → Home → Places
+places_of w g there = record {
   own = file_in w (own_file there);
   next = file_in w (next_file there);
   slot = mrif_in w.memory (slot_of w.vms g);

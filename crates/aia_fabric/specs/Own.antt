@@ -10,7 +10,7 @@ use Rattle.aia_entry.specs.declared.entry.Entry.TheVariants.{NotValid}
 use Rattle.aia_entry.specs.Tables.{table_of, entry_in_force}
 use Rattle.aia_home.specs.declared.place.Place.{Place}
 use Rattle.aia_home.specs.Vms.{Vcpu, is_vcpu_in, slot_of, notice_identity, notice_hart}
-use Rattle.aia_places.specs.View.{leads_to}
+use Rattle.aia_places.specs.Places.{leads_to}
 use Rattle.aia_fabric.specs.World.{World, OnlyStores}
 use Rattle.aia_fabric.specs.Making.{entry_word_place}
 use Rattle.aia_fabric.specs.Changes.{spot_of}

@@ -20,7 +20,7 @@ ghost use Rattle.aia_fabric.specs.World.{World, stage_of, flight_of};
 ghost use Rattle.aia_fabric.specs.Flights.{Fences};
 ghost use Rattle.aia_fabric.specs.Whole.{IsWhole};
 ghost use Rattle.aia_fabric.specs.Making.{MakesVm};
-ghost use Rattle.aia_fabric.specs.Changes.{spot_of, view};
+ghost use Rattle.aia_fabric.specs.Changes.{spot_of, places_of};
 ghost use Rattle.aia_fabric.specs.Own.{TouchesOwn, LeadsToOwn, TouchesOneOf};
 ghost use Rattle.aia_fabric.specs.Stores.{Reaches, Relays, StoresInSlot, page_spot, slot_at};
 
@@ -85,7 +85,7 @@ pub fn a_store_touches_one_virtual_hart_alone()
         → is_vcpu_in w.vms g ≡ true → is_vcpu_in w.vms x ≡ true → x ≢ g
         → TouchesOwn w u g reach
         → ((p : Place) → holds p there ≡ true → IsThere w.imsic (spot_of p) × (reach ≢ Some p))
-        → view u x there ≡ view w x there }
+        → places_of u x there ≡ places_of w x there }
 {}
 
 /// After the fence of an entry no store of its VM is in flight. Those of every other VM are as they

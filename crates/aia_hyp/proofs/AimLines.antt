@@ -26,7 +26,7 @@ use Rattle.aia_home.specs.Routes.{entry_names}
 use Rattle.aia_places.specs.Holds.{Holds}
 use Rattle.aia_pool.specs.Leases.{Leases, is_out}
 use Rattle.aia_fabric.specs.World.{World, no_stage}
-use Rattle.aia_fabric.specs.Changes.{spot_of, view}
+use Rattle.aia_fabric.specs.Changes.{spot_of, places_of}
 use Rattle.aia_move.specs.declared.who.Who.{Who}
 use Rattle.aia_move.specs.declared.plan.Plan.{Plan}
 use Rattle.aia_move.specs.Move.{Moving, mover, width, Fits}
@@ -205,13 +205,13 @@ module _ (x y : CoreState) (h : History) (g : Vcpu) (plan later : Plan) (r : Vcp
   same_hand : (moving_of plan).hand ≡ hand_in (record_of x g).stay
   same_hand = ap hand_in (sym a.was)
 
-  held : Holds (width x.world) (moving_of plan).who.slot (moving_of plan).who.notice (in_force_of h g) (view x.world (mover (moving_of plan)) (moving_of plan).home) (moving_of plan).home (moving_of plan).hand (guest_file h g) (a_look_saw h g)
+  held : Holds (width x.world) (moving_of plan).who.slot (moving_of plan).who.notice (in_force_of h g) (places_of x.world (mover (moving_of plan)) (moving_of plan).home) (moving_of plan).home (moving_of plan).hand (guest_file h g) (a_look_saw h g)
   held = subst IsHeld (λ k. record {
     words = sym same_words k;
     slot = sym same_slot k;
     hart = sym same_notice k;
     reach = in_force_of h g;
-    shows = view x.world (sym is_mover k) (sym same_home k);
+    shows = places_of x.world (sym is_mover k) (sym same_home k);
     there = sym same_home k;
     hand = sym same_hand k;
     file = guest_file h g;
@@ -241,7 +241,7 @@ module _ (x y : CoreState) (h : History) (g : Vcpu) (plan later : Plan) (r : Vcp
           slot = (ap (λ (who : Who). who.slot) same_who ∙ same_slot) k;
           hart = (ap (λ (who : Who). who.notice) same_who ∙ same_notice) k;
           reach = sym same_reach k;
-          shows = view y.world (later_mover k) (later_home k);
+          shows = places_of y.world (later_mover k) (later_home k);
           there = later_home k;
           hand = hand_in (sym stay k);
           file = sym file k;
@@ -276,7 +276,7 @@ module _ (x y : CoreState) (h : History) (g : Vcpu) (plan later : Plan) (r : Vcp
     });
     records = ap (λ (rs : List VcpuRecord). length rs) a.vcpus ∙ length-set x.vcpus (slot_of x.world.vms g) r;
     other_records = λ other inside ne. other_record x y h g other r a.stands a.there inside ne (ap (λ (w : World). w.vms) a.goes.world) a.vcpus;
-    other_views = λ other inside ne. ap (λ (w : World). view w other (home h other)) a.goes.world;
+    other_views = λ other inside ne. ap (λ (w : World). places_of w other (home h other)) a.goes.world;
     own = aim_own;
     lease_harts = ap (λ (l : Leases). l.harts) a.leases;
     lease_guests = ap (λ (l : Leases). l.guests) a.leases;

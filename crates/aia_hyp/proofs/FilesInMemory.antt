@@ -17,7 +17,7 @@ use Rattle.aia_places.specs.Holds.{HasSets, Hand}
 use Rattle.aia_places.proofs.MemoryKept.{memory_has, memory_kept}
 use Rattle.aia_fabric.specs.World.{World}
 use Rattle.aia_fabric.specs.Whole.{IsWhole}
-use Rattle.aia_fabric.specs.Changes.{view}
+use Rattle.aia_fabric.specs.Changes.{places_of}
 use Rattle.aia_fabric.specs.SlotAccess.{file_of_slot}
 use Rattle.aia_move.specs.declared.who.Kept.{Kept}
 use Rattle.aia_model.specs.Event.{History, greatest_identity_of, file_words}
@@ -96,7 +96,7 @@ module _ (x : CoreState) (h : History) (g : Vcpu) (kept : Kept) (stands : CoreSt
   greatest = subst (λ n. is_greatest_identity n ≡ true) stands.greatest whole.greatest
 
   pub has_its_sets : HasSets (file_words h) (mrif_in x.world.memory (slot_of x.world.vms g)) (guest_file h g)
-  has_its_sets = memory_has (greatest_identity_of h) (file_words h) (slot_of (vms_of h) g) (notice_hart (vms_of h) g) (in_force_of h g) (view x.world g (home h g)) (hand_in (record_of x g).stay) (guest_file h g) (a_look_saw h g) (home h g) rests (guest_within h g greatest) (stands.vcpus g there).holds
+  has_its_sets = memory_has (greatest_identity_of h) (file_words h) (slot_of (vms_of h) g) (notice_hart (vms_of h) g) (in_force_of h g) (places_of x.world g (home h g)) (hand_in (record_of x g).stay) (guest_file h g) (a_look_saw h g) (home h g) rests (guest_within h g greatest) (stands.vcpus g there).holds
 
   -- it is the history's
   pub file_is : guest_file h g ≡ file_in_memory x.world (slot_of x.world.vms g) kept
@@ -106,7 +106,7 @@ module _ (x : CoreState) (h : History) (g : Vcpu) (kept : Kept) (stands : CoreSt
       let zero = no_zero x.world (slot_of x.world.vms g) whole (slot_few x h g stands whole there) in
       let n : (guest_file h g).n ≡ x.world.n = within.greatest ∙ sym stands.greatest in
       let all : x.world.n + 1 ≡ 64 * file_words h = ap (λ n. n + 1) stands.greatest ∙ within.all_words in
-      let numbers = memory_kept (file_words h) (slot_of (vms_of h) g) (notice_hart (vms_of h) g) (in_force_of h g) (view x.world g (home h g)) (hand_in (record_of x g).stay) (guest_file h g) (a_look_saw h g) (home h g) rests (stands.vcpus g there).holds in
+      let numbers = memory_kept (file_words h) (slot_of (vms_of h) g) (notice_hart (vms_of h) g) (in_force_of h g) (places_of x.world g (home h g)) (hand_in (record_of x g).stay) (guest_file h g) (a_look_saw h g) (home h g) rests (stands.vcpus g there).holds in
       same_file _ _ (record {
         n = n;
         pending = in_sets x.world.n (file_words h) (mrif_in x.world.memory (slot_of x.world.vms g)).pending (guest_file h g).pending all zero.0 (λ i low. (has_its_sets.inside i low).0) (λ i past. sound.pending i (subst (λ m. m < i) (sym n) past));

@@ -22,9 +22,9 @@ use Rattle.aia_places.specs.Stores.{AreApart}
 use Rattle.aia_places.proofs.MemoryKept.{memory_replaced}
 use Rattle.aia_fabric.specs.World.{World, OnlyStores, stage_of}
 use Rattle.aia_fabric.specs.Whole.{IsWhole}
-use Rattle.aia_fabric.specs.Changes.{view}
+use Rattle.aia_fabric.specs.Changes.{places_of}
 use Rattle.aia_fabric.specs.SlotAccess.{DoneInSlot}
-use Rattle.aia_fabric.proofs.SlotViews.{other_slot_kept, done_entry_words, slot_done-view}
+use Rattle.aia_fabric.proofs.SlotViews.{other_slot_kept, done_entry_words, slot_done-places}
 use Rattle.aia_move.specs.declared.who.Kept.{Kept}
 use Rattle.aia_move.specs.Touches.{SameMachine}
 use Rattle.aia_model.specs.Event.{Event, History, greatest_identity_of, file_words}
@@ -162,14 +162,14 @@ module _ (x y : CoreState) (h : History) (event : Event) (g : Vcpu) (there : Hom
       let stood = c.stands.vcpus g c.inside in
       let puts = c.quiet.stays in
       let there_now : home (event ∷ h) g ≡ there = puts.homes g ∙ at_home in
-      let shows : view y.world g there ≡ record (view x.world g there) { slot = mrif_in y.world.memory q } =
-      same_view (with_memory x.world y.world) y.world g there same_after ∙ slot_done-view x.world (with_memory x.world y.world) q c.threshold c.slot_deed low c.slot g there in
+      let shows : places_of y.world g there ≡ record (places_of x.world g there) { slot = mrif_in y.world.memory q } =
+      same_view (with_memory x.world y.world) y.world g there same_after ∙ slot_done-places x.world (with_memory x.world y.world) q c.threshold c.slot_deed low c.slot g there in
       let before = subst IsHeld (λ k. record {
         words = file_words h;
         slot = slot_of (vms_of h) g;
         hart = notice_hart (vms_of h) g;
         reach = in_force_of h g;
-        shows = view x.world g (at_home k);
+        shows = places_of x.world g (at_home k);
         there = at_home k;
         hand = c.hand_was k;
         file = guest_file h g;
@@ -187,12 +187,12 @@ module _ (x y : CoreState) (h : History) (event : Event) (g : Vcpu) (there : Hom
           slot = slot_of (sym puts.vms k) g;
           hart = notice_hart (sym puts.vms k) g;
           reach = sym (puts.reach g) k;
-          shows = (sym shows ∙ ap (view y.world g) (sym there_now)) k;
+          shows = (sym shows ∙ ap (places_of y.world g) (sym there_now)) k;
           there = sym there_now k;
           hand = sym c.hand_is k;
           file = sym file_now k;
           saw = sym (puts.seen g) k;
-        }) (memory_replaced (file_words h) (slot_of (vms_of h) g) (notice_hart (vms_of h) g) (in_force_of h g) (view x.world g there) (hand_of kept) (guest_file h g) (a_look_saw h g) there c.rests (mrif_in y.world.memory q) (hand_of now) (file_in_memory y.world q now) has_now refl refl before);
+        }) (memory_replaced (file_words h) (slot_of (vms_of h) g) (notice_hart (vms_of h) g) (in_force_of h g) (places_of x.world g there) (hand_of kept) (guest_file h g) (a_look_saw h g) there c.rests (mrif_in y.world.memory q) (hand_of now) (file_in_memory y.world q now) has_now refl refl before);
       }
 
   same_for_other : (other : Vcpu) → has_vcpu h other ≡ true → slot_of x.world.vms other ≢ q → SameFor x.world y.world other (home h other)

@@ -5,14 +5,14 @@ use Rattle.aia_entry.specs.Tables.{table_of, route_of}
 use Rattle.aia_home.specs.declared.place.Place.{Place}
 use Rattle.aia_home.specs.declared.vm.Vm.{Vm}
 use Rattle.aia_home.specs.Vms.{Vcpu, is_vcpu_in, slot_of, notice_hart}
-use Rattle.aia_places.specs.View.{leads_to}
+use Rattle.aia_places.specs.Places.{leads_to}
 use Rattle.aia_home.specs.Home.{holds}
 use Rattle.aia_home.specs.Routes.{peers_reach}
 use Rattle.aia_fabric.specs.World.{World, stage_of}
 use Rattle.aia_fabric.specs.Whole.{IsWhole}
 use Rattle.aia_fabric.specs.Stores.{Reaches, ReachesBy, Relays}
 use Rattle.aia_fabric.specs.Flights.{Lands}
-use Rattle.aia_fabric.specs.Changes.{view}
+use Rattle.aia_fabric.specs.Changes.{places_of}
 use Rattle.aia_fabric.specs.Own.{TouchesOwn, TouchesOneOf}
 use Rattle.aia_fabric.proofs.OwnLemmas.{by_entry, own_entry, device_touches, peer_touches, others_stay}
 use Rattle.aia_model.specs.Event.{History}
@@ -43,15 +43,15 @@ peer_own x h u g value stands whole there relays =
 
 -- what another virtual hart holds is there, and no store for the one reaches it
 others_own : (x : CoreState) (h : History) (u : World) (g other : Vcpu) (reach : Option Place) → CoreStands x h → has_vcpu h g ≡ true → has_vcpu h other ≡ true → other ≢ g → ((p : Place) → reach ≡ Some p → holds p (home h g) ≡ true) → TouchesOwn x.world u g reach
-    → view u other (home h other) ≡ view x.world other (home h other)
+    → places_of u other (home h other) ≡ places_of x.world other (home h other)
 others_own x h u g other reach stands there inside ne held touches =
     others_stay x.world u g other reach (home h other) (in_world x h g stands there) (in_world x h other stands inside) ne touches
     (λ p holding. (stands.held other p inside holding, λ e. ne (stands.apart other g p inside there holding (held p e))))
 
-pub device_others : (x : CoreState) (h : History) (u : World) (g other : Vcpu) → CoreStands x h → has_vcpu h g ≡ true → has_vcpu h other ≡ true → other ≢ g → TouchesOwn x.world u g (in_force_of h g) → view u other (home h other) ≡ view x.world other (home h other)
+pub device_others : (x : CoreState) (h : History) (u : World) (g other : Vcpu) → CoreStands x h → has_vcpu h g ≡ true → has_vcpu h other ≡ true → other ≢ g → TouchesOwn x.world u g (in_force_of h g) → places_of u other (home h other) ≡ places_of x.world other (home h other)
 device_others x h u g other stands there inside ne touches = others_own x h u g other (in_force_of h g) stands there inside ne (devices_held h g) touches
 
-pub peer_others : (x : CoreState) (h : History) (u : World) (g other : Vcpu) → CoreStands x h → has_vcpu h g ≡ true → has_vcpu h other ≡ true → other ≢ g → TouchesOwn x.world u g (peers_reach (home h g)) → view u other (home h other) ≡ view x.world other (home h other)
+pub peer_others : (x : CoreState) (h : History) (u : World) (g other : Vcpu) → CoreStands x h → has_vcpu h g ≡ true → has_vcpu h other ≡ true → other ≢ g → TouchesOwn x.world u g (peers_reach (home h g)) → places_of u other (home h other) ≡ places_of x.world other (home h other)
 peer_others x h u g other stands there inside ne touches = others_own x h u g other (peers_reach (home h g)) stands there inside ne (peers_held h g) touches
 
 -- ---- one that was in flight
@@ -71,10 +71,10 @@ module _ (x : CoreState) (h : History) (u : World) (v k : ℕ) (s : Sending) (st
   touches = own_entry x.world landing.stored (sent_to v s) (sent_into v s) (s.addr % PAGE) s.value whole (in_world x h (sent_to v s) stands one.there) (λ p e. stands.held (sent_to v s) p one.there (holding p e))
       (by_entry (sent_into v s) (slot_of x.world.vms (sent_to v s)) (notice_hart x.world.vms (sent_to v s)) x.world landing.stored (s.addr % PAGE) s.value leads)
 
-  others : (g : Vcpu) → has_vcpu h g ≡ true → g ≢ sent_to v s → view u g (home h g) ≡ view x.world g (home h g)
-  others g inside ne = subst (λ (w : World). view w g (home h g) ≡ view x.world g (home h g)) (sym landing.taken)
+  others : (g : Vcpu) → has_vcpu h g ≡ true → g ≢ sent_to v s → places_of u g (home h g) ≡ places_of x.world g (home h g)
+  others g inside ne = subst (λ (w : World). places_of w g (home h g) ≡ places_of x.world g (home h g)) (sym landing.taken)
       (others_own x h landing.stored (sent_to v s) g (sent_into v s) stands one.there inside ne holding touches)
 
 pub landing_own : (x : CoreState) (h : History) (u : World) (v k : ℕ) (s : Sending) → CoreStands x h → IsWhole x.world → flying h v k ≡ Some s → (landing : Lands x.world u v k)
-    → TouchesOwn x.world landing.stored (sent_to v s) (sent_into v s) × ((g : Vcpu) → has_vcpu h g ≡ true → g ≢ sent_to v s → view u g (home h g) ≡ view x.world g (home h g))
+    → TouchesOwn x.world landing.stored (sent_to v s) (sent_into v s) × ((g : Vcpu) → has_vcpu h g ≡ true → g ≢ sent_to v s → places_of u g (home h g) ≡ places_of x.world g (home h g))
 landing_own x h u v k s stands whole is landing = (touches x h u v k s stands whole is landing, others x h u v k s stands whole is landing)

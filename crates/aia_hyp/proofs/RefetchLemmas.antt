@@ -13,12 +13,12 @@ use Rattle.aia_home.specs.Vms.{Vcpu, vcpu, is_vcpu, is_vcpu_in, slot_of, notice_
 use Rattle.aia_home.specs.Home.{holds}
 use Rattle.aia_home.specs.Routes.{entry_names}
 use Rattle.aia_home.proofs.HomeLemmas.{own_is_held, next_is_held}
-use Rattle.aia_places.specs.View.{FilesFit}
+use Rattle.aia_places.specs.Places.{FilesFit}
 use Rattle.aia_places.proofs.StoreLemmas.{refetch_kept}
 use Rattle.aia_fabric.specs.World.{World, no_stage}
 use Rattle.aia_fabric.specs.Whole.{IsWhole}
-use Rattle.aia_fabric.specs.Changes.{spot_of, view, with_fence}
-use Rattle.aia_fabric.proofs.ViewLemmas.{fence-view}
+use Rattle.aia_fabric.specs.Changes.{spot_of, places_of, with_fence}
+use Rattle.aia_fabric.proofs.ViewLemmas.{fence-places}
 use Rattle.aia_fabric.proofs.WholeLemmas.{notice_hart_there}
 use Rattle.aia_move.specs.Touches.{OnlyAccesses}
 use Rattle.aia_move.proofs.MachineLemmas.{only_accesses, only_tables}
@@ -112,8 +112,8 @@ module _ (x y : CoreState) (h : History) (vm number : ℕ) (c : IsRefetch x y vm
       let here : notice_hart x.world.vms g ≡ notice_hart (vms_of h) g = ap (λ vms. notice_hart vms g) stands.vms in
       omega (arith, at, here, c.whole.harts)
 
-  shows : view y.world g (home h g) ≡ record (view x.world g (home h g)) { in_force = decoded (view x.world g (home h g)).word0 (view x.world g (home h g)).word1 }
-  shows = ap (λ (w : World). view w g (home h g)) c.world ∙ fence-view x.world g (home h g) c.whole c.there
+  shows : places_of y.world g (home h g) ≡ record (places_of x.world g (home h g)) { in_force = decoded (places_of x.world g (home h g)).word0 (places_of x.world g (home h g)).word1 }
+  shows = ap (λ (w : World). places_of w g (home h g)) c.world ∙ fence-places x.world g (home h g) c.whole c.there
 
   reach_now : entry_names (home h g) ≡ in_force_of (Accepted (Refetch vm number) ∷ h) g
   reach_now = sym (reach_step (Accepted (Refetch vm number)) h g ∙ cond-true _ _ _ (is_itself g))
@@ -135,12 +135,12 @@ module _ (x y : CoreState) (h : History) (vm number : ℕ) (c : IsRefetch x y vm
           slot = slot_of (vms_of h) g;
           hart = notice_hart (vms_of h) g;
           reach = reach_now k;
-          shows = (sym shows ∙ ap (view y.world g) (sym home_is)) k;
+          shows = (sym shows ∙ ap (places_of y.world g) (sym home_is)) k;
           there = sym home_is k;
           hand = hand_in (sym stay k);
           file = sym (file_rests h (Accepted (Refetch vm number)) g refl) k;
           saw = sym (seen_stays (Accepted (Refetch vm number)) h g refl (λ w was. refl)) k;
-        }) (refetch_kept (file_words h) (slot_of (vms_of h) g) (notice_hart (vms_of h) g) (in_force_of h g) (view x.world g (home h g)) (home h g) (hand_in (record_of x g).stay) (guest_file h g) (a_look_saw h g) fit low_slot low_hart stood.holds);
+        }) (refetch_kept (file_words h) (slot_of (vms_of h) g) (notice_hart (vms_of h) g) (in_force_of h g) (places_of x.world g (home h g)) (home h g) (hand_in (record_of x g).stay) (guest_file h g) (a_look_saw h g) fit low_slot low_hart stood.holds);
       }
 
   other_entry : (other : Vcpu) → is_vcpu other g ≡ false → entry_in_force (table_of y.world.tables other.vm) other.number ≡ entry_in_force (table_of x.world.tables other.vm) other.number
@@ -152,11 +152,11 @@ module _ (x y : CoreState) (h : History) (vm number : ℕ) (c : IsRefetch x y vm
         | inr another ↦ inl another
       ]
 
-  other_view : (other : Vcpu) → is_vcpu other g ≡ false → view y.world other (home h other) ≡ view x.world other (home h other)
+  other_view : (other : Vcpu) → is_vcpu other g ≡ false → places_of y.world other (home h other) ≡ places_of x.world other (home h other)
   other_view other ne =
       let fenced : entry_in_force (table_of (with_fence x.world vm number).tables other.vm) other.number ≡ entry_in_force (table_of x.world.tables other.vm) other.number =
       ap (λ (w : World). entry_in_force (table_of w.tables other.vm) other.number) (sym c.world) ∙ other_entry other ne in
-      ap (λ (w : World). view w other (home h other)) c.world ∙ (λ k. record (view x.world other (home h other)) { in_force = fenced k })
+      ap (λ (w : World). places_of w other (home h other)) c.world ∙ (λ k. record (places_of x.world other (home h other)) { in_force = fenced k })
 
   its_alone : (other : Vcpu) (p : Place) → has_vcpu h other ≡ true → is_vcpu other g ≡ false → holds p (home h g) ≡ true → holds p (home h other) ≡ false
   its_alone other p there ne mine = elim (cases_Bool (holds p (home h other))) [

@@ -17,7 +17,7 @@ use Rattle.aia_home.specs.Vms.{Vcpu, vcpu, is_vcpu, is_vcpu_in, slot_of, notice_
 use Rattle.aia_home.specs.Home.{Home, holds, is_moving, is_resident, is_entered, rests_in_memory, entering, exiting}
 use Rattle.aia_home.specs.Home.Home.{Parked, Entered, Resident, Leaving, Arriving, Shifting}
 use Rattle.aia_home.proofs.VmLemmas.{slot_below}
-use Rattle.aia_places.specs.View.{View}
+use Rattle.aia_places.specs.Places.{Places}
 use Rattle.aia_places.specs.Holds.{Holds}
 use Rattle.aia_places.specs.Stores.{AreApart}
 use Rattle.aia_places.proofs.MemoryKept.{enter-holds, exit-holds}
@@ -27,7 +27,7 @@ use Rattle.aia_fabric.specs.Stores.{Posts}
 use Rattle.aia_fabric.specs.SlotAccess.{file_of_slot}
 use Rattle.aia_fabric.specs.Whole.{IsWhole}
 use Rattle.aia_fabric.specs.Making.{entry_word_place}
-use Rattle.aia_fabric.specs.Changes.{spot_of, view}
+use Rattle.aia_fabric.specs.Changes.{spot_of, places_of}
 use Rattle.aia_fabric.proofs.FrameLemmas.{posts_rest}
 use Rattle.aia_move.specs.declared.who.Kept.{Kept}
 use Rattle.aia_move.specs.Plan.{moving_of}
@@ -172,8 +172,8 @@ pub record IsRun (x y : CoreState) (h : History) (event : Event) (g : Vcpu) (fro
   pub two_files : AreApart (home_in to)
   pub plan : PlanStands y.world g to
   pub has_passes : HasItsPasses (passes_of (event ∷ h)) g to
-  pub same_shown : view x.world g (home_in to) ≡ view x.world g (home_in from)
-  pub held : (words q hart : ℕ) (reach : Option Place) (v : View) (file : InterruptFile) (saw : Bool) → Holds words q hart reach v (home_in from) (hand_in from) file saw → Holds words q hart reach v (home_in to) (hand_in to) file saw
+  pub same_shown : places_of x.world g (home_in to) ≡ places_of x.world g (home_in from)
+  pub held : (words q hart : ℕ) (reach : Option Place) (v : Places) (file : InterruptFile) (saw : Bool) → Holds words q hart reach v (home_in from) (hand_in from) file saw → Holds words q hart reach v (home_in to) (hand_in to) file saw
 
 module _ (x y : CoreState) (h : History) (event : Event) (g : Vcpu) (from to : Stay) (c : IsRun x y h event g from to) where
   same_vms : y.world.vms ≡ x.world.vms
@@ -192,7 +192,7 @@ module _ (x y : CoreState) (h : History) (event : Event) (g : Vcpu) (from to : S
   other_record other inside ne = (λ k. get_or (c.vcpus k) (slot_of (same_vms k) other) no_record)
       ∙ get_or-set_other x.vcpus (slot_of x.world.vms g) (slot_of x.world.vms other) _ no_record (slots_apart x h g other c.stands c.there inside (λ e. false≢true (sym ne ∙ ap (λ z. is_vcpu z g) e ∙ is_itself g)))
 
-  same_places : view y.world g (home_in to) ≡ view x.world g (home_in from)
+  same_places : places_of y.world g (home_in to) ≡ places_of x.world g (home_in from)
   same_places = same_view x.world y.world g (home_in to) (same_for x y h event g (home_in to) c.notifies (λ p holding. absurd (false≢true (sym (c.none_after p) ∙ holding)))) ∙ c.same_shown
 
   run_stands : VcpuStands y (event ∷ h) g
@@ -211,18 +211,18 @@ module _ (x y : CoreState) (h : History) (event : Event) (g : Vcpu) (from to : S
           slot = slot_of (sym c.moves.vms k) g;
           hart = notice_hart (sym c.moves.vms k) g;
           reach = sym c.reach k;
-          shows = (sym same_places ∙ ap (view y.world g) (sym c.goes)) k;
+          shows = (sym same_places ∙ ap (places_of y.world g) (sym c.goes)) k;
           there = sym c.goes k;
           hand = hand_in (sym stay k);
           file = sym (file_rests h event g (c.moves.rests g)) k;
           saw = sym c.seen k;
-        }) (c.held (file_words h) (slot_of (vms_of h) g) (notice_hart (vms_of h) g) (in_force_of h g) (view x.world g (home_in from)) (guest_file h g) (a_look_saw h g)
+        }) (c.held (file_words h) (slot_of (vms_of h) g) (notice_hart (vms_of h) g) (in_force_of h g) (places_of x.world g (home_in from)) (guest_file h g) (a_look_saw h g)
             (subst IsHeld (λ k. record {
               words = file_words h;
               slot = slot_of (vms_of h) g;
               hart = notice_hart (vms_of h) g;
               reach = in_force_of h g;
-              shows = view x.world g (home_before k);
+              shows = places_of x.world g (home_before k);
               there = home_before k;
               hand = hand_in (c.was k);
               file = guest_file h g;

@@ -16,7 +16,7 @@ use Rattle.aia_home.specs.Vms.{Vcpu, vcpu}
 use Rattle.aia_home.specs.Home.{Progress}
 use Rattle.aia_home.specs.Home.Home.{Leaving}
 use Rattle.aia_major.specs.Kept.{kept_at_first}
-use Rattle.aia_places.specs.View.{leads_to, entry_word, second_word}
+use Rattle.aia_places.specs.Places.{leads_to, entry_word, second_word}
 use Rattle.aia_fabric.specs.declared.stage.Stage.{Stage}
 use Rattle.aia_fabric.specs.World.{World, no_stage}
 use Rattle.aia_fabric.specs.Making.{new_world, table_place}

@@ -25,20 +25,20 @@ use Rattle.aia_home.specs.Home.Home.{Parked, Entered, Resident, Leaving, Arrivin
 use Rattle.aia_home.specs.BySteps.{own_file, next_file}
 use Rattle.aia_home.specs.Routes.{peers_reach, MayReach, MayLand}
 use Rattle.aia_home.proofs.RouteLemmas.{reach_lands, peers_may}
-use Rattle.aia_places.specs.View.{View, leads_to}
+use Rattle.aia_places.specs.Places.{Places, leads_to}
 use Rattle.aia_places.specs.Holds.{Holds, IsWithin}
-use Rattle.aia_places.specs.Stores.{view_landed, AreApart}
+use Rattle.aia_places.specs.Stores.{places_landed, AreApart}
 use Rattle.aia_places.proofs.StoreLemmas.{lands}
 use Rattle.aia_fabric.specs.World.{World, stage_of}
 use Rattle.aia_fabric.specs.Whole.{IsWhole}
 use Rattle.aia_fabric.specs.Stores.{StoresIn, StoresAt, NoticedBy, StoresInSlot, Reaches, ReachesBy, Relays, with_store, page_spot, named_spot}
-use Rattle.aia_fabric.specs.Changes.{spot_of, file_in, view}
+use Rattle.aia_fabric.specs.Changes.{spot_of, file_in, places_of}
 use Rattle.aia_fabric.specs.Own.{TouchesOwn}
 use Rattle.aia_home.proofs.HomeLemmas.{same_place, landing_is_held}
 use Rattle.aia_fabric.proofs.OwnLemmas.{by_entry, guest_spot, touches_file, touches_slot, others_stay}
 use Rattle.aia_fabric.proofs.PlaceLemmas.{slot_found, host_page}
-use Rattle.aia_fabric.proofs.StoreViews.{file_store-view, slot_store-view}
-use Rattle.aia_fabric.proofs.ViewLemmas.{posts-view, slot_low}
+use Rattle.aia_fabric.proofs.StoreViews.{file_store-places, slot_store-places}
+use Rattle.aia_fabric.proofs.ViewLemmas.{posts-places, slot_low}
 use Rattle.aia_fabric.proofs.WholeLemmas.{notice_hart_there}
 use Rattle.aia_move.specs.declared.plan.Plan.{Plan}
 use Rattle.aia_move.specs.Move.{Moving, mover, width, Fits}
@@ -64,13 +64,13 @@ module _ (w u : World) (plan : Plan) (reach : Option Place) (saw : Bool) (same :
   abbrev m : Moving
   m = moving_of plan
 
-  knows_by : (file after : InterruptFile) → Knows w plan reach file saw → (v : View) → view u (mover m) m.home ≡ v
+  knows_by : (file after : InterruptFile) → Knows w plan reach file saw → (v : Places) → places_of u (mover m) m.home ≡ v
       → Holds (width w) m.who.slot m.who.notice reach v m.home m.hand after saw → Knows u plan reach after saw
   knows_by file after knows v seen held = record {
     fits = fits_still w u m same knows.fits;
     phase = phase_still w u plan same knows.phase;
-    holds = subst (λ n. Holds ((n + 1) / 64) m.who.slot m.who.notice reach (view u (mover m) m.home) m.home m.hand after saw) (sym same.n)
-        (subst (λ (z : View). Holds (width w) m.who.slot m.who.notice reach z m.home m.hand after saw) (sym seen) held);
+    holds = subst (λ n. Holds ((n + 1) / 64) m.who.slot m.who.notice reach (places_of u (mover m) m.home) m.home m.hand after saw) (sym same.n)
+        (subst (λ (z : Places). Holds (width w) m.who.slot m.who.notice reach z m.home m.hand after saw) (sym seen) held);
   }
 
 -- ---- a store for the virtual hart that is moved
@@ -103,31 +103,31 @@ module _ (w u : World) (plan : Plan) (reach : Option Place) (file : InterruptFil
 
   -- it shows in its places
   by_outcome : (became : Stored) → NoticedBy became (with_store w (slot_of w.vms (mover mv)) offset value) u (SupervisorFile (notice_hart w.vms (mover mv))) (notice_identity w.vms (mover mv))
-      → view u (mover mv) mv.home ≡ view (with_store w (slot_of w.vms (mover mv)) offset value) (mover mv) mv.home
-  by_outcome Notice posts = posts-view (with_store w (slot_of w.vms (mover mv)) offset value) u (mover mv) mv.home (notice_hart w.vms (mover mv)) (notice_identity w.vms (mover mv))
+      → places_of u (mover mv) mv.home ≡ places_of (with_store w (slot_of w.vms (mover mv)) offset value) (mover mv) mv.home
+  by_outcome Notice posts = posts-places (with_store w (slot_of w.vms (mover mv)) offset value) u (mover mv) mv.home (notice_hart w.vms (mover mv)) (notice_identity w.vms (mover mv))
       (notice_hart_there w (mover mv) whole knows.fits.there) knows.fits.own knows.fits.next posts
-  by_outcome Quiet same = ap (λ (x : World). view x (mover mv) mv.home) same
-  by_outcome Discarded same = ap (λ (x : World). view x (mover mv) mv.home) same
+  by_outcome Quiet same = ap (λ (x : World). places_of x (mover mv) mv.home) same
+  by_outcome Discarded same = ap (λ (x : World). places_of x (mover mv) mv.home) same
 
   shows : (place : Option Place) → MayLand (width w) mv.home place → Lands w u (mover mv) place offset value
-      → (view u (mover mv) mv.home ≡ view_landed place mv.home offset value (view w (mover mv) mv.home)) × SameMachine w u
+      → (places_of u (mover mv) mv.home ≡ places_landed place mv.home offset value (places_of w (mover mv) mv.home)) × SameMachine w u
   shows (Some p) may stores =
       let held = landing_is_held (width w) mv.home (Some p) p may refl in
       let here = held_there w mv knows.fits p held in (
-        file_store-view w u (mover mv) p offset value whole here stores mv.home held apart knows.fits.own knows.fits.next,
+        file_store-places w u (mover mv) p offset value whole here stores mv.home held apart knows.fits.own knows.fits.next,
         own_machine w u (mover mv) (Some p) (touches_file w u (mover mv) p offset value whole knows.fits.there here stores),
       )
   shows None may stores = (
     by_outcome (stored (mrif_in w.memory (slot_of w.vms (mover mv))) (requested IDENTITIES offset value)) stores
-        ∙ slot_store-view w (mover mv) mv.home (slot_of w.vms (mover mv)) offset value whole (slot_low w (mover mv) whole knows.fits.there) refl,
+        ∙ slot_store-places w (mover mv) mv.home (slot_of w.vms (mover mv)) offset value whole (slot_low w (mover mv) whole knows.fits.there) refl,
     own_machine w u (mover mv) None (touches_slot w u (mover mv) offset value whole knows.fits.there stores),
   )
 
   lands_knows : (place : Option Place) → MayLand (width w) mv.home place → Lands w u (mover mv) place offset value → Knows u plan reach (landed offset value file) saw
   lands_knows place may stores =
       let both = shows place may stores in
-      knows_by w u plan reach saw both.1 file (landed offset value file) knows (view_landed place mv.home offset value (view w (mover mv) mv.home)) both.0
-      (lands w.n (width w) mv.who.slot mv.who.notice offset value reach (view w (mover mv) mv.home) mv.hand file saw within (few_words w.n whole.greatest) mv.home
+      knows_by w u plan reach saw both.1 file (landed offset value file) knows (places_landed place mv.home offset value (places_of w (mover mv) mv.home)) both.0
+      (lands w.n (width w) mv.who.slot mv.who.notice offset value reach (places_of w (mover mv) mv.home) mv.hand file saw within (few_words w.n whole.greatest) mv.home
       (file_in-size w (own_file mv.home) whole knows.fits.own) (file_in-size w (next_file mv.home) whole knows.fits.next) apart place may knows.holds)
 
   -- a device's, where its entry in force leads
@@ -183,13 +183,13 @@ pub others_know : (w u : World) (plan : Plan) (reach : Option Place) (file : Int
     → is_vcpu_in w.vms g ≡ true → g ≢ mover (moving_of plan) → TouchesOwn w u g place → ((p : Place) → holds p (moving_of plan).home ≡ true → place ≢ Some p) → Knows u plan reach file saw
 others_know w u plan reach file saw g place knows there other t elsewhere =
     let m = moving_of plan in
-    knows_by w u plan reach saw (own_machine w u g place t) file file knows (view w (mover m) m.home)
+    knows_by w u plan reach saw (own_machine w u g place t) file file knows (places_of w (mover m) m.home)
     (others_stay w u g (mover m) place m.home there knows.fits.there (λ e. other (sym e)) t (λ p held. (held_there w m knows.fits p held, elsewhere p held))) knows.holds
 
 pub host_knows : (w u : World) (plan : Plan) (reach : Option Place) (file : InterruptFile) (saw : Bool) (spot : Spot) (offset value : ℕ) → Knows w plan reach file saw
     → IsThere w.imsic spot → ((p : Place) → spot ≢ spot_of p) → StoresIn w u spot offset value → Knows u plan reach file saw
 host_knows w u plan reach file saw spot offset value knows here no_guest s =
-    knows_by w u plan reach saw machine file file knows (view w (mover (moving_of plan)) (moving_of plan).home) seen knows.holds
+    knows_by w u plan reach saw machine file file knows (places_of w (mover (moving_of plan)) (moving_of plan).home) seen knows.holds
   where
     machine : SameMachine w u
     machine = record {
@@ -203,9 +203,9 @@ host_knows w u plan reach file saw spot offset value knows here no_guest s =
     kept None inside = ap (λ (x : World). file_in x None) s.rest
     kept (Some p) inside = ap (λ (i : ImsicState). file_in (record w { imsic = i }) (Some p)) s.lands.others ∙ ap shown (kept_elsewhere w.imsic spot (spot_of p) (file_at u.imsic spot) here (inside p refl) (λ e. no_guest p (sym e)))
 
-    seen : view u (mover (moving_of plan)) (moving_of plan).home ≡ view w (mover (moving_of plan)) (moving_of plan).home
+    seen : places_of u (mover (moving_of plan)) (moving_of plan).home ≡ places_of w (mover (moving_of plan)) (moving_of plan).home
     seen =
         let own = kept (own_file (moving_of plan).home) knows.fits.own in
         let next = kept (next_file (moving_of plan).home) knows.fits.next in
-        (λ k. record (view (s.rest k) (mover (moving_of plan)) (moving_of plan).home) { own = file_in u (own_file (moving_of plan).home); next = file_in u (next_file (moving_of plan).home) })
-        ∙ (λ k. record (view w (mover (moving_of plan)) (moving_of plan).home) { own = own k; next = next k })
+        (λ k. record (places_of (s.rest k) (mover (moving_of plan)) (moving_of plan).home) { own = file_in u (own_file (moving_of plan).home); next = file_in u (next_file (moving_of plan).home) })
+        ∙ (λ k. record (places_of w (mover (moving_of plan)) (moving_of plan).home) { own = own k; next = next k })

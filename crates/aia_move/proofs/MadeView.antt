@@ -18,17 +18,17 @@ use Rattle.aia_home.specs.Home.Home.{Parked, Entered, Resident, Leaving, Arrivin
 use Rattle.aia_home.specs.BySteps.{own_file, next_file, new_file}
 use Rattle.aia_home.specs.Plans.{Access, IsNext}
 use Rattle.aia_home.specs.Plans.Access.{TakeDelivery, PutDelivery, WriteNotice, WriteEntry, Fence, Map, GFence, TakePending, PutPending, TakeEnables, PutEnables, Look, TakeThreshold, PutThreshold, Post}
-use Rattle.aia_places.specs.View.{entry_word, second_word}
+use Rattle.aia_places.specs.Places.{entry_word, second_word}
 use Rattle.aia_places.specs.Holds.{Hand}
 use Rattle.aia_places.specs.Steps.{StepMade, Shows, without_word, joined_by, replaced_by}
 use Rattle.aia_places.specs.Stores.{AreApart}
 use Rattle.aia_fabric.specs.World.{World}
 use Rattle.aia_fabric.specs.Whole.{IsWhole}
-use Rattle.aia_fabric.specs.Changes.{spot_of, file_in, view, with_word, with_state}
+use Rattle.aia_fabric.specs.Changes.{spot_of, file_in, places_of, with_word, with_state}
 use Rattle.aia_fabric.proofs.WholeLemmas.{notice_hart_there}
 use Rattle.aia_move.specs.declared.who.Who.{Who}
 use Rattle.aia_move.specs.Move.{Moving, mover, width, PostsIf, Makes, hand_after, Fits, MakesNext}
-use Rattle.aia_fabric.proofs.ViewLemmas.{IsNoFile, own-replaced, next-replaced, own-put, next-put, word_taken, word_joined, word_replaced, slot_pending-written, slot_enabled-written, slot_pending-joined, nothing_replaced, place_shows, slot_low, has_slot, in_slot-view, word0-view, word1-view, fence-view, map-view, gfence-view, posts-view}
+use Rattle.aia_fabric.proofs.ViewLemmas.{IsNoFile, own-replaced, next-replaced, own-put, next-put, word_taken, word_joined, word_replaced, slot_pending-written, slot_enabled-written, slot_pending-joined, nothing_replaced, place_shows, slot_low, has_slot, in_slot-places, word0-places, word1-places, fence-places, map-places, gfence-places, posts-places}
 use Rattle.aia_regs.specs.declared.limits.TheConstants.{IDENTITIES, WORDS_OF_SLOTS, FILE_WORDS}
 
 pub few_words : (n : ℕ) → is_greatest_identity n ≡ true → (n + 1) / 64 ≤ FILE_WORDS
@@ -58,86 +58,86 @@ module _ (w u : World) (g : Vcpu) (there : Home) (p : Place) (k v : ℕ) (whole 
   changed f = u ≡ with_state w (spot_of p) f
 
   own-pending_taken : own_file there ≡ Some p → IsNoFile w p (next_file there) → changed (record was { pending = set was.pending k 0 })
-      → view u g there ≡ record (view w g there) { own = record (view w g there).own { pending = without_word k (view w g there).own.pending } }
+      → places_of u g there ≡ record (places_of w g there) { own = record (places_of w g there).own { pending = without_word k (places_of w g there).own.pending } }
   own-pending_taken is none e =
-      ap (λ (x : World). view x g there) e ∙ own-replaced w g there p (record was { pending = set was.pending k 0 }) whole stands is none
-      ∙ ap (λ members. record (view w g there) { own = record (shown was) { pending = members } }) (word_taken was.pending k)
-      ∙ ap (λ o. record (view w g there) { own = record (file_in w o) { pending = without_word k (file_in w o).pending } }) (sym is)
+      ap (λ (x : World). places_of x g there) e ∙ own-replaced w g there p (record was { pending = set was.pending k 0 }) whole stands is none
+      ∙ ap (λ members. record (places_of w g there) { own = record (shown was) { pending = members } }) (word_taken was.pending k)
+      ∙ ap (λ o. record (places_of w g there) { own = record (file_in w o) { pending = without_word k (file_in w o).pending } }) (sym is)
 
   own-enables_taken : own_file there ≡ Some p → IsNoFile w p (next_file there) → changed (record was { enabled = set was.enabled k 0 })
-      → view u g there ≡ record (view w g there) { own = record (view w g there).own { enabled = without_word k (view w g there).own.enabled } }
+      → places_of u g there ≡ record (places_of w g there) { own = record (places_of w g there).own { enabled = without_word k (places_of w g there).own.enabled } }
   own-enables_taken is none e =
-      ap (λ (x : World). view x g there) e ∙ own-replaced w g there p (record was { enabled = set was.enabled k 0 }) whole stands is none
-      ∙ ap (λ members. record (view w g there) { own = record (shown was) { enabled = members } }) (word_taken was.enabled k)
-      ∙ ap (λ o. record (view w g there) { own = record (file_in w o) { enabled = without_word k (file_in w o).enabled } }) (sym is)
+      ap (λ (x : World). places_of x g there) e ∙ own-replaced w g there p (record was { enabled = set was.enabled k 0 }) whole stands is none
+      ∙ ap (λ members. record (places_of w g there) { own = record (shown was) { enabled = members } }) (word_taken was.enabled k)
+      ∙ ap (λ o. record (places_of w g there) { own = record (file_in w o) { enabled = without_word k (file_in w o).enabled } }) (sym is)
 
   own-pending_joined : own_file there ≡ Some p → IsNoFile w p (next_file there) → k < length was.pending → changed (record was { pending = set was.pending k (bit_or (get_or was.pending k 0) v) })
-      → view u g there ≡ record (view w g there) { own = record (view w g there).own { pending = joined_by k v (view w g there).own.pending } }
+      → places_of u g there ≡ record (places_of w g there) { own = record (places_of w g there).own { pending = joined_by k v (places_of w g there).own.pending } }
   own-pending_joined is none low e =
-      ap (λ (x : World). view x g there) e ∙ own-replaced w g there p (record was { pending = set was.pending k (bit_or (get_or was.pending k 0) v) }) whole stands is none
-      ∙ ap (λ members. record (view w g there) { own = record (shown was) { pending = members } }) (word_joined was.pending k v low)
-      ∙ ap (λ o. record (view w g there) { own = record (file_in w o) { pending = joined_by k v (file_in w o).pending } }) (sym is)
+      ap (λ (x : World). places_of x g there) e ∙ own-replaced w g there p (record was { pending = set was.pending k (bit_or (get_or was.pending k 0) v) }) whole stands is none
+      ∙ ap (λ members. record (places_of w g there) { own = record (shown was) { pending = members } }) (word_joined was.pending k v low)
+      ∙ ap (λ o. record (places_of w g there) { own = record (file_in w o) { pending = joined_by k v (file_in w o).pending } }) (sym is)
 
   own-enables_replaced : own_file there ≡ Some p → IsNoFile w p (next_file there) → k < length was.enabled → changed (record was { enabled = set was.enabled k v })
-      → view u g there ≡ record (view w g there) { own = record (view w g there).own { enabled = replaced_by k v (view w g there).own.enabled } }
+      → places_of u g there ≡ record (places_of w g there) { own = record (places_of w g there).own { enabled = replaced_by k v (places_of w g there).own.enabled } }
   own-enables_replaced is none low e =
-      ap (λ (x : World). view x g there) e ∙ own-replaced w g there p (record was { enabled = set was.enabled k v }) whole stands is none
-      ∙ ap (λ members. record (view w g there) { own = record (shown was) { enabled = members } }) (word_replaced was.enabled k v low)
-      ∙ ap (λ o. record (view w g there) { own = record (file_in w o) { enabled = replaced_by k v (file_in w o).enabled } }) (sym is)
+      ap (λ (x : World). places_of x g there) e ∙ own-replaced w g there p (record was { enabled = set was.enabled k v }) whole stands is none
+      ∙ ap (λ members. record (places_of w g there) { own = record (shown was) { enabled = members } }) (word_replaced was.enabled k v low)
+      ∙ ap (λ o. record (places_of w g there) { own = record (file_in w o) { enabled = replaced_by k v (file_in w o).enabled } }) (sym is)
 
   next-pending_joined : next_file there ≡ Some p → IsNoFile w p (own_file there) → k < length was.pending → changed (record was { pending = set was.pending k (bit_or (get_or was.pending k 0) v) })
-      → view u g there ≡ record (view w g there) { next = record (view w g there).next { pending = joined_by k v (view w g there).next.pending } }
+      → places_of u g there ≡ record (places_of w g there) { next = record (places_of w g there).next { pending = joined_by k v (places_of w g there).next.pending } }
   next-pending_joined is none low e =
-      ap (λ (x : World). view x g there) e ∙ next-replaced w g there p (record was { pending = set was.pending k (bit_or (get_or was.pending k 0) v) }) whole stands is none
-      ∙ ap (λ members. record (view w g there) { next = record (shown was) { pending = members } }) (word_joined was.pending k v low)
-      ∙ ap (λ o. record (view w g there) { next = record (file_in w o) { pending = joined_by k v (file_in w o).pending } }) (sym is)
+      ap (λ (x : World). places_of x g there) e ∙ next-replaced w g there p (record was { pending = set was.pending k (bit_or (get_or was.pending k 0) v) }) whole stands is none
+      ∙ ap (λ members. record (places_of w g there) { next = record (shown was) { pending = members } }) (word_joined was.pending k v low)
+      ∙ ap (λ o. record (places_of w g there) { next = record (file_in w o) { pending = joined_by k v (file_in w o).pending } }) (sym is)
 
   next-enables_replaced : next_file there ≡ Some p → IsNoFile w p (own_file there) → k < length was.enabled → changed (record was { enabled = set was.enabled k v })
-      → view u g there ≡ record (view w g there) { next = record (view w g there).next { enabled = replaced_by k v (view w g there).next.enabled } }
+      → places_of u g there ≡ record (places_of w g there) { next = record (places_of w g there).next { enabled = replaced_by k v (places_of w g there).next.enabled } }
   next-enables_replaced is none low e =
-      ap (λ (x : World). view x g there) e ∙ next-replaced w g there p (record was { enabled = set was.enabled k v }) whole stands is none
-      ∙ ap (λ members. record (view w g there) { next = record (shown was) { enabled = members } }) (word_replaced was.enabled k v low)
-      ∙ ap (λ o. record (view w g there) { next = record (file_in w o) { enabled = replaced_by k v (file_in w o).enabled } }) (sym is)
+      ap (λ (x : World). places_of x g there) e ∙ next-replaced w g there p (record was { enabled = set was.enabled k v }) whole stands is none
+      ∙ ap (λ members. record (places_of w g there) { next = record (shown was) { enabled = members } }) (word_replaced was.enabled k v low)
+      ∙ ap (λ o. record (places_of w g there) { next = record (file_in w o) { enabled = replaced_by k v (file_in w o).enabled } }) (sym is)
 
 module _ (w u : World) (g : Vcpu) (there : Home) (q k v : ℕ) (whole : IsWhole w) (stands : is_vcpu_in w.vms g ≡ true) (is : q ≡ slot_of w.vms g) (few : k < FILE_WORDS) where
   slot-pending_taken : u ≡ with_word w (pending_place q k) 0
-      → view u g there ≡ record (view w g there) { slot = record (view w g there).slot { pending = without_word k (view w g there).slot.pending } }
+      → places_of u g there ≡ record (places_of w g there) { slot = record (places_of w g there).slot { pending = without_word k (places_of w g there).slot.pending } }
   slot-pending_taken e =
       let low : pending_place (slot_of w.vms g) k < WORDS_OF_SLOTS = let below = slot_low w g whole stands in omega arith in
-      ap (λ (x : World). view x g there) (e ∙ ap (λ r. with_word w (pending_place r k) 0) is)
-      ∙ in_slot-view w g there whole stands (pending_place (slot_of w.vms g) k) 0 low
-      ∙ ap (λ (m : Mrif). record (view w g there) { slot = m }) (slot_pending-written w.memory (slot_of w.vms g) k 0 (has_slot w (slot_of w.vms g) whole (slot_low w g whole stands)) few)
-      ∙ ap (λ members. record (view w g there) { slot = record (view w g there).slot { pending = members } }) (nothing_replaced k (view w g there).slot.pending)
+      ap (λ (x : World). places_of x g there) (e ∙ ap (λ r. with_word w (pending_place r k) 0) is)
+      ∙ in_slot-places w g there whole stands (pending_place (slot_of w.vms g) k) 0 low
+      ∙ ap (λ (m : Mrif). record (places_of w g there) { slot = m }) (slot_pending-written w.memory (slot_of w.vms g) k 0 (has_slot w (slot_of w.vms g) whole (slot_low w g whole stands)) few)
+      ∙ ap (λ members. record (places_of w g there) { slot = record (places_of w g there).slot { pending = members } }) (nothing_replaced k (places_of w g there).slot.pending)
 
   slot-enables_taken : u ≡ with_word w (enable_place q k) 0
-      → view u g there ≡ record (view w g there) { slot = record (view w g there).slot { enabled = without_word k (view w g there).slot.enabled } }
+      → places_of u g there ≡ record (places_of w g there) { slot = record (places_of w g there).slot { enabled = without_word k (places_of w g there).slot.enabled } }
   slot-enables_taken e =
       let low : enable_place (slot_of w.vms g) k < WORDS_OF_SLOTS = let below = slot_low w g whole stands in omega arith in
-      ap (λ (x : World). view x g there) (e ∙ ap (λ r. with_word w (enable_place r k) 0) is)
-      ∙ in_slot-view w g there whole stands (enable_place (slot_of w.vms g) k) 0 low
-      ∙ ap (λ (m : Mrif). record (view w g there) { slot = m }) (slot_enabled-written w.memory (slot_of w.vms g) k 0 (has_slot w (slot_of w.vms g) whole (slot_low w g whole stands)) few)
-      ∙ ap (λ members. record (view w g there) { slot = record (view w g there).slot { enabled = members } }) (nothing_replaced k (view w g there).slot.enabled)
+      ap (λ (x : World). places_of x g there) (e ∙ ap (λ r. with_word w (enable_place r k) 0) is)
+      ∙ in_slot-places w g there whole stands (enable_place (slot_of w.vms g) k) 0 low
+      ∙ ap (λ (m : Mrif). record (places_of w g there) { slot = m }) (slot_enabled-written w.memory (slot_of w.vms g) k 0 (has_slot w (slot_of w.vms g) whole (slot_low w g whole stands)) few)
+      ∙ ap (λ members. record (places_of w g there) { slot = record (places_of w g there).slot { enabled = members } }) (nothing_replaced k (places_of w g there).slot.enabled)
 
   slot-pending_joined : u ≡ with_word w (pending_place q k) (bit_or (get_or w.memory (pending_place q k) 0) v)
-      → view u g there ≡ record (view w g there) { slot = record (view w g there).slot { pending = joined_by k v (view w g there).slot.pending } }
+      → places_of u g there ≡ record (places_of w g there) { slot = record (places_of w g there).slot { pending = joined_by k v (places_of w g there).slot.pending } }
   slot-pending_joined e =
       let low : pending_place (slot_of w.vms g) k < WORDS_OF_SLOTS = let below = slot_low w g whole stands in omega arith in
-      ap (λ (x : World). view x g there) (e ∙ ap (λ r. with_word w (pending_place r k) (bit_or (get_or w.memory (pending_place r k) 0) v)) is)
-      ∙ in_slot-view w g there whole stands (pending_place (slot_of w.vms g) k) (bit_or (get_or w.memory (pending_place (slot_of w.vms g) k) 0) v) low
-      ∙ ap (λ (m : Mrif). record (view w g there) { slot = m }) (slot_pending-joined w.memory (slot_of w.vms g) k v (has_slot w (slot_of w.vms g) whole (slot_low w g whole stands)) few)
+      ap (λ (x : World). places_of x g there) (e ∙ ap (λ r. with_word w (pending_place r k) (bit_or (get_or w.memory (pending_place r k) 0) v)) is)
+      ∙ in_slot-places w g there whole stands (pending_place (slot_of w.vms g) k) (bit_or (get_or w.memory (pending_place (slot_of w.vms g) k) 0) v) low
+      ∙ ap (λ (m : Mrif). record (places_of w g there) { slot = m }) (slot_pending-joined w.memory (slot_of w.vms g) k v (has_slot w (slot_of w.vms g) whole (slot_low w g whole stands)) few)
 
   slot-enables_replaced : u ≡ with_word w (enable_place q k) v
-      → view u g there ≡ record (view w g there) { slot = record (view w g there).slot { enabled = replaced_by k v (view w g there).slot.enabled } }
+      → places_of u g there ≡ record (places_of w g there) { slot = record (places_of w g there).slot { enabled = replaced_by k v (places_of w g there).slot.enabled } }
   slot-enables_replaced e =
       let low : enable_place (slot_of w.vms g) k < WORDS_OF_SLOTS = let below = slot_low w g whole stands in omega arith in
-      ap (λ (x : World). view x g there) (e ∙ ap (λ r. with_word w (enable_place r k) v) is)
-      ∙ in_slot-view w g there whole stands (enable_place (slot_of w.vms g) k) v low
-      ∙ ap (λ (m : Mrif). record (view w g there) { slot = m }) (slot_enabled-written w.memory (slot_of w.vms g) k v (has_slot w (slot_of w.vms g) whole (slot_low w g whole stands)) few)
+      ap (λ (x : World). places_of x g there) (e ∙ ap (λ r. with_word w (enable_place r k) v) is)
+      ∙ in_slot-places w g there whole stands (enable_place (slot_of w.vms g) k) v low
+      ∙ ap (λ (m : Mrif). record (places_of w g there) { slot = m }) (slot_enabled-written w.memory (slot_of w.vms g) k v (has_slot w (slot_of w.vms g) whole (slot_low w g whole stands)) few)
 
-  slot_pending-shows : Shows (get_or w.memory (pending_place q k) 0) k (view w g there).slot.pending
+  slot_pending-shows : Shows (get_or w.memory (pending_place q k) 0) k (places_of w g there).slot.pending
   slot_pending-shows i e = ap (λ r. has_bit (get_or w.memory (pending_place r k) 0) (i % 64)) is ∙ place_shows (pending_place (slot_of w.vms g)) w.memory k i few e
 
-  slot_enables-shows : Shows (get_or w.memory (enable_place q k) 0) k (view w g there).slot.enabled
+  slot_enables-shows : Shows (get_or w.memory (enable_place q k) 0) k (places_of w g there).slot.enabled
   slot_enables-shows i e = ap (λ r. has_bit (get_or w.memory (enable_place r k) 0) (i % 64)) is ∙ place_shows (enable_place (slot_of w.vms g)) w.memory k i few e
 
 -- ---- what is carried
@@ -152,36 +152,36 @@ module _ (w u : World) (who : Who) (there : Home) (hand now : Hand) (whole : IsW
   it = vcpu who.vm who.vcpu
 
   abbrev Made : Access → Type 0
-  Made access = StepMade who.slot who.notice access there (view w it there) hand (view u it there) now
+  Made access = StepMade who.slot who.notice access there (places_of w it there) hand (places_of u it there) now
 
   abbrev DoesMake : Access → Type 0
   DoesMake access = Makes access (record { who = who; home = there; hand = hand }) w u
 
   write_notice-made : DoesMake WriteNotice → now ≡ hand → Made WriteNotice
-  write_notice-made e c = record { places = ap (λ (x : World). view x it there) e ∙ word1-view w it there whole fits.there (second_word who.slot who.notice); carried = c }
+  write_notice-made e c = record { places = ap (λ (x : World). places_of x it there) e ∙ word1-places w it there whole fits.there (second_word who.slot who.notice); carried = c }
 
   write_entry-made : DoesMake WriteEntry → now ≡ hand → Made WriteEntry
-  write_entry-made e c = record { places = ap (λ (x : World). view x it there) e ∙ word0-view w it there whole fits.there (entry_word who.slot (new_file there)); carried = c }
+  write_entry-made e c = record { places = ap (λ (x : World). places_of x it there) e ∙ word0-places w it there whole fits.there (entry_word who.slot (new_file there)); carried = c }
 
   fence-made : DoesMake Fence → now ≡ hand → Made Fence
-  fence-made e c = record { places = ap (λ (x : World). view x it there) e ∙ fence-view w it there whole fits.there; carried = c }
+  fence-made e c = record { places = ap (λ (x : World). places_of x it there) e ∙ fence-places w it there whole fits.there; carried = c }
 
   map-made : DoesMake Map → now ≡ hand → Made Map
-  map-made e c = record { places = ap (λ (x : World). view x it there) e ∙ map-view w it there whole fits.there (new_file there); carried = c }
+  map-made e c = record { places = ap (λ (x : World). places_of x it there) e ∙ map-places w it there whole fits.there (new_file there); carried = c }
 
   gfence-made : DoesMake GFence → now ≡ hand → Made GFence
-  gfence-made e c = record { places = ap (λ (x : World). view x it there) e ∙ gfence-view w it there whole fits.there; carried = c }
+  gfence-made e c = record { places = ap (λ (x : World). places_of x it there) e ∙ gfence-places w it there whole fits.there; carried = c }
 
   notice_low : who.notice < w.imsic.harts
   notice_low = let low = notice_hart_there w it whole fits.there in omega (arith, low, fits.notice)
 
   post-made : (seen : Bool) → PostsIf seen w u who.notice (who.slot + 1) → now ≡ hand → Made Post
-  post-made true posts c = record { places = posts-view w u it there who.notice (who.slot + 1) notice_low fits.own fits.next posts; carried = c }
-  post-made false e c = record { places = ap (λ (x : World). view x it there) e; carried = c }
+  post-made true posts c = record { places = posts-places w u it there who.notice (who.slot + 1) notice_low fits.own fits.next posts; carried = c }
+  post-made false e c = record { places = ap (λ (x : World). places_of x it there) e; carried = c }
 
   look-made : (k : ℕ) → k < FILE_WORDS → DoesMake (Look k) → now ≡ hand_after (Look k) (record { who = who; home = there; hand = hand }) w → Made (Look k)
   look-made k few e c = record {
-    places = ap (λ (x : World). view x it there) e;
+    places = ap (λ (x : World). places_of x it there) e;
     carried = (
       get_or w.memory (pending_place who.slot k) 0,
       get_or w.memory (enable_place who.slot k) 0,
@@ -198,7 +198,7 @@ module _ (w u : World) (who : Who) (there : Home) (hand now : Hand) (whole : IsW
 
 leave_made : (access : Access) (w u : World) (who : Who) (from : Place) (at : Progress) (hand now : Hand) → IsWhole w → Fits w (record { who = who; home = (Leaving from at); hand = hand }) → IsNext (width w) (Leaving from at) access
     → Makes access (record { who = who; home = (Leaving from at); hand = hand }) w u → now ≡ hand_after access (record { who = who; home = (Leaving from at); hand = hand }) w
-    → StepMade who.slot who.notice access (Leaving from at) (view w (vcpu who.vm who.vcpu) (Leaving from at)) hand (view u (vcpu who.vm who.vcpu) (Leaving from at)) now
+    → StepMade who.slot who.notice access (Leaving from at) (places_of w (vcpu who.vm who.vcpu) (Leaving from at)) hand (places_of u (vcpu who.vm who.vcpu) (Leaving from at)) now
 leave_made WriteNotice w u who from at hand now whole fits next makes c = write_notice-made w u who (Leaving from at) hand now whole fits makes c
 leave_made WriteEntry w u who from at hand now whole fits next makes c = write_entry-made w u who (Leaving from at) hand now whole fits makes c
 leave_made Fence w u who from at hand now whole fits next makes c = fence-made w u who (Leaving from at) hand now whole fits makes c
@@ -206,8 +206,8 @@ leave_made Map w u who from at hand now whole fits next makes c = map-made w u w
 leave_made GFence w u who from at hand now whole fits next makes c = gfence-made w u who (Leaving from at) hand now whole fits makes c
 leave_made TakeDelivery w u who from at hand now whole fits next makes c = record { places = own-put w u (vcpu who.vm who.vcpu) (Leaving from at) from Delivery 0 whole (fits.own from refl) makes refl (no_file w from); carried = c }
 leave_made TakeThreshold w u who from at hand now whole fits next makes c = record { places = own-put w u (vcpu who.vm who.vcpu) (Leaving from at) from Threshold 0 whole (fits.own from refl) makes refl (no_file w from); carried = c }
-leave_made (TakePending k) w u who from at hand now whole fits next makes c = record { places = own-pending_taken w u (vcpu who.vm who.vcpu) (Leaving from at) from k hand.word whole (fits.own from refl) refl (no_file w from) makes; carried = carried_word k (get_or (file_at w.imsic (spot_of from)).pending k 0) (view w (vcpu who.vm who.vcpu) (Leaving from at)).own.pending hand now (row_shows (file_at w.imsic (spot_of from)).pending k) c }
-leave_made (TakeEnables k) w u who from at hand now whole fits next makes c = record { places = own-enables_taken w u (vcpu who.vm who.vcpu) (Leaving from at) from k hand.word whole (fits.own from refl) refl (no_file w from) makes; carried = carried_word k (get_or (file_at w.imsic (spot_of from)).enabled k 0) (view w (vcpu who.vm who.vcpu) (Leaving from at)).own.enabled hand now (row_shows (file_at w.imsic (spot_of from)).enabled k) c }
+leave_made (TakePending k) w u who from at hand now whole fits next makes c = record { places = own-pending_taken w u (vcpu who.vm who.vcpu) (Leaving from at) from k hand.word whole (fits.own from refl) refl (no_file w from) makes; carried = carried_word k (get_or (file_at w.imsic (spot_of from)).pending k 0) (places_of w (vcpu who.vm who.vcpu) (Leaving from at)).own.pending hand now (row_shows (file_at w.imsic (spot_of from)).pending k) c }
+leave_made (TakeEnables k) w u who from at hand now whole fits next makes c = record { places = own-enables_taken w u (vcpu who.vm who.vcpu) (Leaving from at) from k hand.word whole (fits.own from refl) refl (no_file w from) makes; carried = carried_word k (get_or (file_at w.imsic (spot_of from)).enabled k 0) (places_of w (vcpu who.vm who.vcpu) (Leaving from at)).own.enabled hand now (row_shows (file_at w.imsic (spot_of from)).enabled k) c }
 leave_made (PutPending k) w u who from at hand now whole fits next makes c = record { places = slot-pending_joined w u (vcpu who.vm who.vcpu) (Leaving from at) who.slot k hand.word whole fits.there fits.slot (of_width w u who (Leaving from at) hand now whole fits k next.has) makes.1; carried = c }
 leave_made (PutEnables k) w u who from at hand now whole fits next makes c = record { places = slot-enables_replaced w u (vcpu who.vm who.vcpu) (Leaving from at) who.slot k hand.word whole fits.there fits.slot (of_width w u who (Leaving from at) hand now whole fits k next.has) makes.1; carried = c }
 leave_made (Look k) w u who from at hand now whole fits next makes c = look-made w u who (Leaving from at) hand now whole fits k (of_width w u who (Leaving from at) hand now whole fits k next.has) makes c
@@ -217,15 +217,15 @@ leave_made PutThreshold w u who from at hand now whole fits next makes c = let n
 
 arrive_made : (access : Access) (w u : World) (who : Who) (to : Place) (at : Progress) (hand now : Hand) → IsWhole w → Fits w (record { who = who; home = (Arriving to at); hand = hand }) → IsNext (width w) (Arriving to at) access
     → Makes access (record { who = who; home = (Arriving to at); hand = hand }) w u → now ≡ hand_after access (record { who = who; home = (Arriving to at); hand = hand }) w
-    → StepMade who.slot who.notice access (Arriving to at) (view w (vcpu who.vm who.vcpu) (Arriving to at)) hand (view u (vcpu who.vm who.vcpu) (Arriving to at)) now
+    → StepMade who.slot who.notice access (Arriving to at) (places_of w (vcpu who.vm who.vcpu) (Arriving to at)) hand (places_of u (vcpu who.vm who.vcpu) (Arriving to at)) now
 arrive_made WriteEntry w u who to at hand now whole fits next makes c = write_entry-made w u who (Arriving to at) hand now whole fits makes c
 arrive_made Fence w u who to at hand now whole fits next makes c = fence-made w u who (Arriving to at) hand now whole fits makes c
 arrive_made Map w u who to at hand now whole fits next makes c = map-made w u who (Arriving to at) hand now whole fits makes c
 arrive_made GFence w u who to at hand now whole fits next makes c = gfence-made w u who (Arriving to at) hand now whole fits makes c
 arrive_made PutDelivery w u who to at hand now whole fits next makes c = record { places = own-put w u (vcpu who.vm who.vcpu) (Arriving to at) to Delivery hand.delivery whole (fits.own to refl) makes refl (no_file w to); carried = c }
 arrive_made PutThreshold w u who to at hand now whole fits next makes c = record { places = own-put w u (vcpu who.vm who.vcpu) (Arriving to at) to Threshold hand.threshold whole (fits.own to refl) makes refl (no_file w to); carried = c }
-arrive_made (TakePending k) w u who to at hand now whole fits next makes c = record { places = slot-pending_taken w u (vcpu who.vm who.vcpu) (Arriving to at) who.slot k hand.word whole fits.there fits.slot (of_width w u who (Arriving to at) hand now whole fits k next.has) makes; carried = carried_word k (get_or w.memory (pending_place who.slot k) 0) (view w (vcpu who.vm who.vcpu) (Arriving to at)).slot.pending hand now (slot_pending-shows w u (vcpu who.vm who.vcpu) (Arriving to at) who.slot k hand.word whole fits.there fits.slot (of_width w u who (Arriving to at) hand now whole fits k next.has)) c }
-arrive_made (TakeEnables k) w u who to at hand now whole fits next makes c = record { places = slot-enables_taken w u (vcpu who.vm who.vcpu) (Arriving to at) who.slot k hand.word whole fits.there fits.slot (of_width w u who (Arriving to at) hand now whole fits k next.has) makes; carried = carried_word k (get_or w.memory (enable_place who.slot k) 0) (view w (vcpu who.vm who.vcpu) (Arriving to at)).slot.enabled hand now (slot_enables-shows w u (vcpu who.vm who.vcpu) (Arriving to at) who.slot k hand.word whole fits.there fits.slot (of_width w u who (Arriving to at) hand now whole fits k next.has)) c }
+arrive_made (TakePending k) w u who to at hand now whole fits next makes c = record { places = slot-pending_taken w u (vcpu who.vm who.vcpu) (Arriving to at) who.slot k hand.word whole fits.there fits.slot (of_width w u who (Arriving to at) hand now whole fits k next.has) makes; carried = carried_word k (get_or w.memory (pending_place who.slot k) 0) (places_of w (vcpu who.vm who.vcpu) (Arriving to at)).slot.pending hand now (slot_pending-shows w u (vcpu who.vm who.vcpu) (Arriving to at) who.slot k hand.word whole fits.there fits.slot (of_width w u who (Arriving to at) hand now whole fits k next.has)) c }
+arrive_made (TakeEnables k) w u who to at hand now whole fits next makes c = record { places = slot-enables_taken w u (vcpu who.vm who.vcpu) (Arriving to at) who.slot k hand.word whole fits.there fits.slot (of_width w u who (Arriving to at) hand now whole fits k next.has) makes; carried = carried_word k (get_or w.memory (enable_place who.slot k) 0) (places_of w (vcpu who.vm who.vcpu) (Arriving to at)).slot.enabled hand now (slot_enables-shows w u (vcpu who.vm who.vcpu) (Arriving to at) who.slot k hand.word whole fits.there fits.slot (of_width w u who (Arriving to at) hand now whole fits k next.has)) c }
 arrive_made (PutPending k) w u who to at hand now whole fits next makes c = record { places = own-pending_joined w u (vcpu who.vm who.vcpu) (Arriving to at) to k hand.word whole (fits.own to refl) refl (no_file w to) makes.0 makes.1; carried = c }
 arrive_made (PutEnables k) w u who to at hand now whole fits next makes c = record { places = own-enables_replaced w u (vcpu who.vm who.vcpu) (Arriving to at) to k hand.word whole (fits.own to refl) refl (no_file w to) makes.0 makes.1; carried = c }
 arrive_made TakeDelivery w u who to at hand now whole fits next makes c = let no : false ≡ true = next.has in absurd (cc)
@@ -236,7 +236,7 @@ arrive_made Post w u who to at hand now whole fits next makes c = let no : false
 
 shift_made : (access : Access) (w u : World) (who : Who) (from to : Place) (at : Progress) (hand now : Hand) → IsWhole w → Fits w (record { who = who; home = (Shifting from to at); hand = hand }) → is_place from to ≡ false → IsNext (width w) (Shifting from to at) access
     → Makes access (record { who = who; home = (Shifting from to at); hand = hand }) w u → now ≡ hand_after access (record { who = who; home = (Shifting from to at); hand = hand }) w
-    → StepMade who.slot who.notice access (Shifting from to at) (view w (vcpu who.vm who.vcpu) (Shifting from to at)) hand (view u (vcpu who.vm who.vcpu) (Shifting from to at)) now
+    → StepMade who.slot who.notice access (Shifting from to at) (places_of w (vcpu who.vm who.vcpu) (Shifting from to at)) hand (places_of u (vcpu who.vm who.vcpu) (Shifting from to at)) now
 shift_made WriteEntry w u who from to at hand now whole fits apart next makes c = write_entry-made w u who (Shifting from to at) hand now whole fits makes c
 shift_made Fence w u who from to at hand now whole fits apart next makes c = fence-made w u who (Shifting from to at) hand now whole fits makes c
 shift_made Map w u who from to at hand now whole fits apart next makes c = map-made w u who (Shifting from to at) hand now whole fits makes c
@@ -245,8 +245,8 @@ shift_made TakeDelivery w u who from to at hand now whole fits apart next makes 
 shift_made TakeThreshold w u who from to at hand now whole fits apart next makes c = record { places = own-put w u (vcpu who.vm who.vcpu) (Shifting from to at) from Threshold 0 whole (fits.own from refl) makes refl (one_file w from to (fits.next to refl) (other_way from to apart)); carried = c }
 shift_made PutDelivery w u who from to at hand now whole fits apart next makes c = record { places = next-put w u (vcpu who.vm who.vcpu) (Shifting from to at) to Delivery hand.delivery whole (fits.next to refl) makes refl (one_file w to from (fits.own from refl) apart); carried = c }
 shift_made PutThreshold w u who from to at hand now whole fits apart next makes c = record { places = next-put w u (vcpu who.vm who.vcpu) (Shifting from to at) to Threshold hand.threshold whole (fits.next to refl) makes refl (one_file w to from (fits.own from refl) apart); carried = c }
-shift_made (TakePending k) w u who from to at hand now whole fits apart next makes c = record { places = own-pending_taken w u (vcpu who.vm who.vcpu) (Shifting from to at) from k hand.word whole (fits.own from refl) refl (one_file w from to (fits.next to refl) (other_way from to apart)) makes; carried = carried_word k (get_or (file_at w.imsic (spot_of from)).pending k 0) (view w (vcpu who.vm who.vcpu) (Shifting from to at)).own.pending hand now (row_shows (file_at w.imsic (spot_of from)).pending k) c }
-shift_made (TakeEnables k) w u who from to at hand now whole fits apart next makes c = record { places = own-enables_taken w u (vcpu who.vm who.vcpu) (Shifting from to at) from k hand.word whole (fits.own from refl) refl (one_file w from to (fits.next to refl) (other_way from to apart)) makes; carried = carried_word k (get_or (file_at w.imsic (spot_of from)).enabled k 0) (view w (vcpu who.vm who.vcpu) (Shifting from to at)).own.enabled hand now (row_shows (file_at w.imsic (spot_of from)).enabled k) c }
+shift_made (TakePending k) w u who from to at hand now whole fits apart next makes c = record { places = own-pending_taken w u (vcpu who.vm who.vcpu) (Shifting from to at) from k hand.word whole (fits.own from refl) refl (one_file w from to (fits.next to refl) (other_way from to apart)) makes; carried = carried_word k (get_or (file_at w.imsic (spot_of from)).pending k 0) (places_of w (vcpu who.vm who.vcpu) (Shifting from to at)).own.pending hand now (row_shows (file_at w.imsic (spot_of from)).pending k) c }
+shift_made (TakeEnables k) w u who from to at hand now whole fits apart next makes c = record { places = own-enables_taken w u (vcpu who.vm who.vcpu) (Shifting from to at) from k hand.word whole (fits.own from refl) refl (one_file w from to (fits.next to refl) (other_way from to apart)) makes; carried = carried_word k (get_or (file_at w.imsic (spot_of from)).enabled k 0) (places_of w (vcpu who.vm who.vcpu) (Shifting from to at)).own.enabled hand now (row_shows (file_at w.imsic (spot_of from)).enabled k) c }
 shift_made (PutPending k) w u who from to at hand now whole fits apart next makes c = record { places = next-pending_joined w u (vcpu who.vm who.vcpu) (Shifting from to at) to k hand.word whole (fits.next to refl) refl (one_file w to from (fits.own from refl) apart) makes.0 makes.1; carried = c }
 shift_made (PutEnables k) w u who from to at hand now whole fits apart next makes c = record { places = next-enables_replaced w u (vcpu who.vm who.vcpu) (Shifting from to at) to k hand.word whole (fits.next to refl) refl (one_file w to from (fits.own from refl) apart) makes.0 makes.1; carried = c }
 shift_made WriteNotice w u who from to at hand now whole fits apart next makes c = let no : false ≡ true = next.has in absurd (cc)
@@ -255,7 +255,7 @@ shift_made Post w u who from to at hand now whole fits apart next makes c = let 
 
 made_by : (access : Access) (w u : World) (who : Who) (there : Home) (hand now : Hand) → IsWhole w → Fits w (record { who = who; home = there; hand = hand }) → AreApart there → IsNext (width w) there access
     → Makes access (record { who = who; home = there; hand = hand }) w u → now ≡ hand_after access (record { who = who; home = there; hand = hand }) w
-    → StepMade who.slot who.notice access there (view w (vcpu who.vm who.vcpu) there) hand (view u (vcpu who.vm who.vcpu) there) now
+    → StepMade who.slot who.notice access there (places_of w (vcpu who.vm who.vcpu) there) hand (places_of u (vcpu who.vm who.vcpu) there) now
 made_by access w u who Parked hand now whole fits apart next makes c = let no : false ≡ true = next.has in absurd (cc)
 made_by access w u who Entered hand now whole fits apart next makes c = let no : false ≡ true = next.has in absurd (cc)
 made_by access w u who (Resident p) hand now whole fits apart next makes c = let no : false ≡ true = next.has in absurd (cc)
@@ -265,5 +265,5 @@ made_by access w u who (Shifting from to at) hand now whole fits apart next make
 
 -- the step makes its access of the places of the virtual hart that is moved
 pub made_view : (w u : World) (m : Moving) (hand : Hand) → IsWhole w → Fits w m → AreApart m.home → (step : MakesNext w m u hand)
-    → StepMade m.who.slot m.who.notice step.access m.home (view w (mover m) m.home) m.hand (view u (mover m) m.home) hand
+    → StepMade m.who.slot m.who.notice step.access m.home (places_of w (mover m) m.home) m.hand (places_of u (mover m) m.home) hand
 made_view w u m hand whole fits apart step = made_by step.access w u m.who m.home m.hand hand whole fits apart step.is_next step.makes step.carries

@@ -22,14 +22,14 @@ use Rattle.aia_home.specs.Plans.{Access, IsNext}
 use Rattle.aia_home.specs.Plans.Access.{TakeDelivery, PutDelivery, WriteNotice, WriteEntry, Fence, Map, GFence, TakePending, PutPending, TakeEnables, PutEnables, Look, TakeThreshold, PutThreshold, Post}
 use Rattle.aia_home.proofs.HomeLemmas.{is_itself_place, own_is_held, next_is_held}
 use Rattle.aia_home.proofs.VmLemmas.{same_slot}
-use Rattle.aia_places.specs.View.{entry_word, second_word}
+use Rattle.aia_places.specs.Places.{entry_word, second_word}
 use Rattle.aia_places.specs.Holds.{Hand}
 use Rattle.aia_fabric.specs.declared.stage.Stage.{Stage}
 use Rattle.aia_fabric.specs.World.{World, stage_of, no_stage}
 use Rattle.aia_fabric.specs.Whole.{IsWhole}
 use Rattle.aia_fabric.specs.Making.{entry_word_place}
 use Rattle.aia_fabric.specs.Stores.{Posts}
-use Rattle.aia_fabric.specs.Changes.{spot_of, file_in, view, with_word, with_state, with_entry_word, with_fence, with_stage}
+use Rattle.aia_fabric.specs.Changes.{spot_of, file_in, places_of, with_word, with_state, with_entry_word, with_fence, with_stage}
 use Rattle.aia_fabric.proofs.FrameLemmas.{posts_rest}
 use Rattle.aia_fabric.proofs.WholeLemmas.{vcpu_entry, notice_hart_there}
 use Rattle.aia_move.specs.declared.who.Who.{Who}
@@ -283,7 +283,7 @@ file_stays sent w u m None t others = ap (λ n. empty_file n) (ap (λ (x : World
 file_stays sent w u m (Some p) t others = let other = others p refl in ap shown (t.guest_files p other.0 other.1)
 
 pub view_stays : (sent : Bool) (w u : World) (m : Moving) (g : Vcpu) (there : Home) → IsWhole w → Fits w m → Touches sent w u m → is_vcpu_in w.vms g ≡ true → g ≢ mover m
-    → ((p : Place) → holds p there ≡ true → IsThere w.imsic (spot_of p) × (holds p m.home ≡ false)) → view u g there ≡ view w g there
+    → ((p : Place) → holds p there ≡ true → IsThere w.imsic (spot_of p) × (holds p m.home ≡ false)) → places_of u g there ≡ places_of w g there
 view_stays sent w u m g there whole fits t stands other theirs =
     let own = file_stays sent w u m (own_file there) t (λ p e. theirs p (own_is_held there p e)) in
     let next = file_stays sent w u m (next_file there) t (λ p e. theirs p (next_is_held there p e)) in

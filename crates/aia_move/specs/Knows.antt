@@ -4,7 +4,7 @@ use Rattle.aia_file.specs.InterruptFile.{InterruptFile}
 use Rattle.aia_home.specs.declared.place.Place.{Place}
 use Rattle.aia_places.specs.Holds.{Holds}
 use Rattle.aia_fabric.specs.World.{World}
-use Rattle.aia_fabric.specs.Changes.{view}
+use Rattle.aia_fabric.specs.Changes.{places_of}
 use Rattle.aia_move.specs.declared.plan.Plan.{Plan}
 use Rattle.aia_move.specs.Move.{mover, width, Fits}
 use Rattle.aia_move.specs.Plan.{moving_of, IsInPhase}
@@ -17,5 +17,5 @@ pub record Knows (w : World) (plan : Plan) (reach : Option Place) (file : Interr
   pub fits : Fits w (moving_of plan)
   pub phase : IsInPhase (width w) plan
   pub holds : Holds (width w) (moving_of plan).who.slot (moving_of plan).who.notice reach
-      (view w (mover (moving_of plan)) (moving_of plan).home) (moving_of plan).home
+      (places_of w (mover (moving_of plan)) (moving_of plan).home) (moving_of plan).home
       (moving_of plan).hand file saw

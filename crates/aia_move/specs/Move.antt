@@ -12,7 +12,7 @@ use Rattle.aia_home.specs.Plans.{is_at_last, Access, IsNext, next_access, is_car
 use Rattle.aia_home.specs.Home.Home.{Leaving, Arriving}
 use Rattle.aia_home.specs.BySteps.{own_file, next_file, old_file, new_file}
 use Rattle.aia_home.specs.Plans.Access.{TakeDelivery, PutDelivery, WriteNotice, WriteEntry, Fence, Map, GFence, TakePending, PutPending, TakeEnables, PutEnables, Look, TakeThreshold, PutThreshold, Post}
-use Rattle.aia_places.specs.View.{entry_word, second_word}
+use Rattle.aia_places.specs.Places.{entry_word, second_word}
 use Rattle.aia_places.specs.Holds.{Hand, meets}
 use Rattle.aia_fabric.specs.declared.at.At.{At}
 use Rattle.aia_fabric.specs.declared.at.At.TheVariants.{File, Slot}

@@ -17,15 +17,15 @@ use Rattle.aia_home.specs.declared.place.Place.{Place}
 use Rattle.aia_home.specs.Home.Home.{Parked}
 use Rattle.aia_home.specs.Vms.{Vcpu, vcpu, is_vcpu_in, slot_of, notice_identity, notice_hart}
 use Rattle.aia_home.proofs.VmLemmas.{same_slot}
-use Rattle.aia_places.specs.View.{View}
+use Rattle.aia_places.specs.Places.{Places}
 use Rattle.aia_fabric.specs.declared.stage.Stage.{Stage}
 use Rattle.aia_fabric.specs.World.{World, stage_of, flight_of, no_stage}
 use Rattle.aia_fabric.specs.Whole.{IsWhole}
 use Rattle.aia_fabric.specs.Making.{entry_word_place}
 use Rattle.aia_fabric.specs.Stores.{Reaches, ReachesBy, Relays, named_spot}
 use Rattle.aia_fabric.specs.Flights.{Sends, Lands, LandsOldest}
-use Rattle.aia_fabric.specs.Changes.{view, pending_words, enable_words, with_pending, with_enable, with_entry_word, with_fence, with_stage}
-use Rattle.aia_fabric.proofs.ViewLemmas.{fence-view, slot_low}
+use Rattle.aia_fabric.specs.Changes.{places_of, pending_words, enable_words, with_pending, with_enable, with_entry_word, with_fence, with_stage}
+use Rattle.aia_fabric.proofs.ViewLemmas.{fence-places, slot_low}
 use Rattle.aia_fabric.proofs.WholeLemmas.{vcpu_entry, notice_hart_there}
 use Rattle.aia_move.specs.Move.{PostsIf}
 use Rattle.aia_move.specs.Touches.{SameMachine}
@@ -202,14 +202,14 @@ read_alone w p vm file whole there alone = record {
   records = alone.records;
 }
   where
-    seen : view (with_fence w vm file) (vcpu vm file) Parked ≡ record (view w (vcpu vm file) Parked) { in_force = decoded (view w (vcpu vm file) Parked).word0 (view w (vcpu vm file) Parked).word1 }
-    seen = fence-view w (vcpu vm file) Parked whole there
+    seen : places_of (with_fence w vm file) (vcpu vm file) Parked ≡ record (places_of w (vcpu vm file) Parked) { in_force = decoded (places_of w (vcpu vm file) Parked).word0 (places_of w (vcpu vm file) Parked).word1 }
+    seen = fence-places w (vcpu vm file) Parked whole there
 
     in_force : (g : Vcpu) → g ≢ moved p → side_of (with_fence w vm file).imsic p (routes_of (with_fence w vm file) g).in_force ≡ None
     in_force g other = elim (cases_eq g.vm vm) [
       | inl same ↦ elim (cases_eq g.number file) [
         | inl too ↦ let is : g ≡ vcpu vm file = λ k. vcpu (same k) (too k) in
-            subst (λ (x : Vcpu). side_of w.imsic p (routes_of (with_fence w vm file) x).in_force ≡ None) (sym is) (ap (λ (v : View). side_of w.imsic p v.in_force) seen ∙ alone.written (vcpu vm file) there (λ e. other (is ∙ e)))
+            subst (λ (x : Vcpu). side_of w.imsic p (routes_of (with_fence w vm file) x).in_force ≡ None) (sym is) (ap (λ (v : Places). side_of w.imsic p v.in_force) seen ∙ alone.written (vcpu vm file) there (λ e. other (is ∙ e)))
         | inr ne ↦ ap (side_of w.imsic p) (fenced_elsewhere w.tables vm file w.memory g.vm g.number (inr ne)) ∙ alone.in_force g other
       ]
       | inr ne ↦ ap (side_of w.imsic p) (fenced_elsewhere w.tables vm file w.memory g.vm g.number (inl ne)) ∙ alone.in_force g other

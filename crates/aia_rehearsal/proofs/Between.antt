@@ -17,7 +17,7 @@ use Rattle.aia_home.specs.Home.{is_place}
 use Rattle.aia_home.specs.Vms.{Vcpu, is_vcpu_in, slot_of, notice_identity, notice_hart}
 use Rattle.aia_home.proofs.HomeLemmas.{same_place, is_itself_place}
 use Rattle.aia_home.proofs.VmLemmas.{same_slot}
-use Rattle.aia_places.specs.View.{leads_to}
+use Rattle.aia_places.specs.Places.{leads_to}
 use Rattle.aia_fabric.specs.declared.flights.Flying.{Flying}
 use Rattle.aia_fabric.specs.World.{World, flight_of, stage_of}
 use Rattle.aia_fabric.specs.Whole.{IsWhole}

@@ -21,7 +21,7 @@ use Rattle.aia_regs.specs.declared.address_map.TheConstants.{PAGE}
 use Rattle.aia_regs.specs.AddressMap.{supervisor_page, slot_address}
 use Rattle.aia_entry.specs.declared.entry.Entry.TheVariants.{Mrif}
 use Rattle.aia_entry.specs.Format.{mrif_word, notice_word}
-use Rattle.aia_places.specs.View.{leads_to, entry_word}
+use Rattle.aia_places.specs.Places.{leads_to, entry_word}
 use Rattle.aia_file.specs.FileState.{shown}
 use Rattle.aia_file.specs.InterruptFile.{SameFile, empty_file}
 use Rattle.aia_fabric.specs.Changes.{spot_of}
@@ -42,7 +42,7 @@ use Rattle.aia_regs.specs.declared.limits.TheConstants.{HARTS}
 use Rattle.aia_entry.specs.declared.entry.Entry.TheVariants.{NotValid}
 use Rattle.aia_entry.specs.Format.{decoded}
 use Rattle.aia_entry.specs.Tables.{no_table}
-use Rattle.aia_places.specs.View.{second_word}
+use Rattle.aia_places.specs.Places.{second_word}
 use Rattle.aia_places.proofs.EntryLemmas.{entry_back}
 use Rattle.aia_fabric.proofs.PlaceLemmas.{slot_found}
 use Rattle.aia_fabric.proofs.WholeLemmas.{notice_hart_there}

@@ -12,7 +12,7 @@ use Rattle.aia_mrif.specs.Mrif.{pending_place, enable_place}
 use Rattle.aia_home.specs.declared.place.Place.{Place}
 use Rattle.aia_home.specs.Home.{is_place}
 use Rattle.aia_home.specs.Vms.{Vcpu}
-use Rattle.aia_places.specs.View.{of_file, of_slot}
+use Rattle.aia_places.specs.Places.{of_file, of_slot}
 use Rattle.aia_places.specs.Steps.{Shows, replaced_by}
 use Rattle.aia_fabric.specs.World.{World}
 use Rattle.aia_fabric.specs.Whole.{IsWhole}

@@ -20,12 +20,12 @@ use Rattle.aia_home.specs.declared.place.Place.{Place}
 use Rattle.aia_home.specs.Home.{is_place}
 use Rattle.aia_home.specs.Home.Home.{Parked}
 use Rattle.aia_home.specs.Vms.{slot_of}
-use Rattle.aia_places.specs.View.{View, TwoSets, of_file, of_slot, leads_to, entry_word, second_word, IsInMap}
+use Rattle.aia_places.specs.Places.{Places, TwoSets, of_file, of_slot, leads_to, entry_word, second_word, IsInMap}
 use Rattle.aia_places.proofs.EntryLemmas.{entry_back}
 use Rattle.aia_fabric.specs.World.{World}
 use Rattle.aia_fabric.specs.Whole.{IsWhole}
 use Rattle.aia_fabric.specs.Changes.{spot_of, pending_words, enable_words, pending_at, with_pending, enable_at, with_enable, with_state, with_entry_word, with_fence, with_map, with_gfence}
-use Rattle.aia_fabric.proofs.ViewLemmas.{here, spots_apart, word0-view, word1-view, fence-view, map-view, gfence-view}
+use Rattle.aia_fabric.proofs.ViewLemmas.{here, spots_apart, word0-places, word1-places, fence-places, map-places, gfence-places}
 use Rattle.aia_fabric.proofs.WholeLemmas.{notice_hart_there}
 use Rattle.aia_move.specs.Move.{PostsIf, width}
 use Rattle.aia_move.specs.Touches.{SameMachine}
@@ -47,7 +47,7 @@ place_is : (a b : Place) → is_place a b ≡ true → a ≡ b
 place_is a b e = let hart : a.hart ≡ b.hart = grind (arith, nat_tests) in let file : a.file ≡ b.file = grind (arith, nat_tests) in λ k. record { hart = hart k; file = file k }
 
 -- what the places of a virtual hart show of its routes
-abbrev routes_in : View → Routes
+abbrev routes_in : Places → Routes
 routes_in v = record { word0 = v.word0; word1 = v.word1; in_force = v.in_force; stage = record { written = v.stage; in_force = v.stage_in_force } }
 
 module _ (w : World) (r : Rehearsed) (z : Transit) (whole : IsWhole w) (s : StandsFor w r z) where
@@ -199,8 +199,8 @@ module _ (w : World) (r : Rehearsed) (z : Transit) (whole : IsWhole w) (s : Stan
   pub write_notice : StandsFor (with_entry_word w p.who.vm p.who.vcpu 1 (second_word q p.who.notice)) r z
   write_notice =
       let u = with_entry_word w p.who.vm p.who.vcpu 1 (second_word q p.who.notice) in
-      let seen = word1-view w (moved p) Parked whole s.of.who.there (second_word q p.who.notice) in
-      let slot : mrif_in u.memory (slot_of u.vms (moved p)) ≡ mrif_in w.memory (slot_of w.vms (moved p)) = ap (λ (v : View). v.slot) seen in
+      let seen = word1-places w (moved p) Parked whole s.of.who.there (second_word q p.who.notice) in
+      let slot : mrif_in u.memory (slot_of u.vms (moved p)) ≡ mrif_in w.memory (slot_of w.vms (moved p)) = ap (λ (v : Places). v.slot) seen in
       stand_on w u r r.hand z z (record { n = refl; vms = refl; harts = refl; guests = refl }) refl refl
       (rw (table_kept u refl refl slot p.old, table_kept u refl refl slot p.new) s.sets)
       (subst (λ x. RoutesStand p x z) (sym (ap routes_in seen)) (record { entry_written = s.routes.entry_written; notice = refl; entry_in_force = s.routes.entry_in_force; record_written = s.routes.record_written; record_in_force = s.routes.record_in_force })) s
@@ -208,8 +208,8 @@ module _ (w : World) (r : Rehearsed) (z : Transit) (whole : IsWhole w) (s : Stan
   pub write_entry : StandsFor (with_entry_word w p.who.vm p.who.vcpu 0 (entry_word q (names_on New p))) r (stepped Word0 z)
   write_entry =
       let u = with_entry_word w p.who.vm p.who.vcpu 0 (entry_word q (names_on New p)) in
-      let seen = word0-view w (moved p) Parked whole s.of.who.there (entry_word q (names_on New p)) in
-      let slot : mrif_in u.memory (slot_of u.vms (moved p)) ≡ mrif_in w.memory (slot_of w.vms (moved p)) = ap (λ (v : View). v.slot) seen in
+      let seen = word0-places w (moved p) Parked whole s.of.who.there (entry_word q (names_on New p)) in
+      let slot : mrif_in u.memory (slot_of u.vms (moved p)) ≡ mrif_in w.memory (slot_of w.vms (moved p)) = ap (λ (v : Places). v.slot) seen in
       stand_on w u r r.hand z (stepped Word0 z) (record { n = refl; vms = refl; harts = refl; guests = refl }) refl refl
       (rw (table_kept u refl refl slot p.old, table_kept u refl refl slot p.new) (sets_kept (stepped Word0 z) refl refl refl refl refl refl))
       (subst (λ x. RoutesStand p x (stepped Word0 z)) (sym (ap routes_in seen)) (record { entry_written = refl; notice = s.routes.notice; entry_in_force = s.routes.entry_in_force; record_written = s.routes.record_written; record_in_force = s.routes.record_in_force })) s
@@ -217,7 +217,7 @@ module _ (w : World) (r : Rehearsed) (z : Transit) (whole : IsWhole w) (s : Stan
   pub write_record : StandsFor (with_map w (moved p) (names_on New p)) r (stepped Map z)
   write_record =
       let u = with_map w (moved p) (names_on New p) in
-      let seen = map-view w (moved p) Parked whole s.of.who.there (names_on New p) in
+      let seen = map-places w (moved p) Parked whole s.of.who.there (names_on New p) in
       stand_on w u r r.hand z (stepped Map z) (record { n = refl; vms = refl; harts = refl; guests = refl }) refl refl
       (rw (table_kept u refl refl refl p.old, table_kept u refl refl refl p.new) (sets_kept (stepped Map z) refl refl refl refl refl refl))
       (subst (λ x. RoutesStand p x (stepped Map z)) (sym (ap routes_in seen)) (record { entry_written = s.routes.entry_written; notice = s.routes.notice; entry_in_force = s.routes.entry_in_force; record_written = refl; record_in_force = s.routes.record_in_force })) s
@@ -225,7 +225,7 @@ module _ (w : World) (r : Rehearsed) (z : Transit) (whole : IsWhole w) (s : Stan
   pub fence_record : StandsFor (with_gfence w (moved p)) r (stepped GFence z)
   fence_record =
       let u = with_gfence w (moved p) in
-      let seen = gfence-view w (moved p) Parked whole s.of.who.there in
+      let seen = gfence-places w (moved p) Parked whole s.of.who.there in
       stand_on w u r r.hand z (stepped GFence z) (record { n = refl; vms = refl; harts = refl; guests = refl }) refl refl
       (rw (table_kept u refl refl refl p.old, table_kept u refl refl refl p.new) (sets_kept (stepped GFence z) refl refl refl refl refl refl))
       (subst (λ x. RoutesStand p x (stepped GFence z)) (sym (ap routes_in seen)) (record { entry_written = s.routes.entry_written; notice = s.routes.notice; entry_in_force = s.routes.entry_in_force; record_written = s.routes.record_written; record_in_force = s.routes.record_written })) s
@@ -246,7 +246,7 @@ module _ (w : World) (r : Rehearsed) (z : Transit) (whole : IsWhole w) (s : Stan
   refetched =
       let u = with_fence w p.who.vm p.who.vcpu in
       let y : Transit = record z { entry_in_force = z.entry_written } in
-      let seen = fence-view w (moved p) Parked whole s.of.who.there in
+      let seen = fence-places w (moved p) Parked whole s.of.who.there in
       let small = small_who w p.who whole s.of.who in
       let in_force : decoded (routes_of w (moved p)).word0 (routes_of w (moved p)).word1 ≡ leads_to q p.who.notice (names_on z.entry_written p) =
       ap (λ x. decoded x (routes_of w (moved p)).word1) s.routes.entry_written ∙ ap (decoded (entry_word q (names_on z.entry_written p))) s.routes.notice

@@ -22,7 +22,7 @@ use Rattle.aia_entry.specs.Tables.{table_of, entry_in_force}
 use Rattle.aia_home.specs.declared.place.Place.{Place}
 use Rattle.aia_home.specs.Home.Home.{Parked}
 use Rattle.aia_home.proofs.HomeLemmas.{same_place}
-use Rattle.aia_places.specs.View.{TwoSets, of_file, of_slot}
+use Rattle.aia_places.specs.Places.{TwoSets, of_file, of_slot}
 use Rattle.aia_fabric.specs.World.{World, OnlyStores, stage_of}
 use Rattle.aia_fabric.specs.Whole.{IsWhole}
 use Rattle.aia_fabric.specs.Making.{entry_word_place}

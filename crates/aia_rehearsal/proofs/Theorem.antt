@@ -8,7 +8,7 @@ use Rattle.std.proofs.lemmas.Bool.{cases_Bool, cases_eq, cond-true, cond-false}
 use Rattle.aia_word.specs.Sets.{has_bit}
 use Rattle.aia_word.proofs.BitLemmas.{has_bit-zero}
 use Rattle.aia_imsic.specs.Imsic.{ImsicState}
-use Rattle.aia_places.specs.View.{leads_to, entry_word}
+use Rattle.aia_places.specs.Places.{leads_to, entry_word}
 use Rattle.aia_fabric.specs.declared.flights.Flying.{Flying}
 use Rattle.aia_fabric.specs.World.{World, flight_of}
 use Rattle.aia_move.specs.Move.{width}

@@ -5,7 +5,7 @@ use Rattle.std.specs.List.{list_any}
 use Rattle.aia_word.specs.Sets.{has_bit}
 use Rattle.aia_regs.specs.declared.address_map.TheConstants.{PAGE}
 use Rattle.aia_home.specs.Vms.{vcpu, is_vcpu}
-use Rattle.aia_places.specs.View.{leads_to, entry_word, second_word}
+use Rattle.aia_places.specs.Places.{leads_to, entry_word, second_word}
 use Rattle.aia_fabric.specs.declared.flights.Flying.{Flying}
 use Rattle.aia_fabric.specs.World.{World, flight_of}
 use Rattle.aia_fabric.specs.Whole.{IsWhole}

@@ -17,7 +17,7 @@ use Rattle.aia_entry.specs.Tables.{table_of, entry_in_force}
 use Rattle.aia_home.specs.declared.place.Place.{Place}
 use Rattle.aia_home.specs.Home.{is_place}
 use Rattle.aia_home.specs.Vms.{Vcpu}
-use Rattle.aia_places.specs.View.{TwoSets, of_file, of_slot, leads_to, entry_word, second_word}
+use Rattle.aia_places.specs.Places.{TwoSets, of_file, of_slot, leads_to, entry_word, second_word}
 use Rattle.aia_fabric.specs.declared.at.At.{At}
 use Rattle.aia_fabric.specs.declared.at.At.TheVariants as ats
 use Rattle.aia_fabric.specs.declared.flights.Flying.{Flying}

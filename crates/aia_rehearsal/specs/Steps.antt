@@ -8,7 +8,7 @@ use Rattle.aia_plan.specs.Transit.Side.{Old, New}
 use Rattle.aia_regs.specs.declared.file_registers.FileReg.{FileReg}
 use Rattle.aia_regs.specs.declared.file_registers.FileReg.TheVariants.{Delivery, Threshold}
 use Rattle.aia_imsic.specs.Imsic.{file_at}
-use Rattle.aia_places.specs.View.{entry_word, second_word}
+use Rattle.aia_places.specs.Places.{entry_word, second_word}
 use Rattle.aia_places.specs.Holds.{meets}
 use Rattle.aia_fabric.specs.declared.at.At.TheVariants as ats
 use Rattle.aia_fabric.specs.World.{World}

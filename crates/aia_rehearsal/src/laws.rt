@@ -12,7 +12,7 @@ ghost use Rattle.aia_home.specs.declared.place.Place.{Place};
 ghost use Rattle.aia_home.specs.declared.vm.Vm.{Vm};
 ghost use Rattle.aia_home.specs.Home.{is_place};
 ghost use Rattle.aia_home.specs.Vms.{vcpu};
-ghost use Rattle.aia_places.specs.View.{entry_word};
+ghost use Rattle.aia_places.specs.Places.{entry_word};
 ghost use Rattle.aia_fabric.specs.World.{World};
 ghost use Rattle.aia_fabric.specs.Whole.{IsWhole};
 ghost use Rattle.aia_fabric.specs.Making.{IsNew, MakesVm};

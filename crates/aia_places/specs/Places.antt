@@ -16,7 +16,7 @@ use Rattle.aia_regs.specs.declared.limits.TheConstants.{HARTS, GUEST_FILES}
 -- Its own file, and the other one of a shift, each the empty file where it has none; its slot; its
 -- entry of the MSI page table, both words as they are written and what is in force; its G-stage
 -- record, as it is written and in force.
-pub record View : Type 0 where
+pub record Places : Type 0 where
   pub own : InterruptFile
   pub next : InterruptFile
   pub slot : Mrif
@@ -43,7 +43,7 @@ abbrev pub no_sets : TwoSets
 no_sets = record { pending = λ i. false; enabled = λ i. false }
 
 -- The place where it is, or that a move leaves.
-abbrev pub old_place : View → Home → TwoSets
+abbrev pub old_place : Places → Home → TwoSets
 old_place v Parked = of_slot v.slot
 old_place v Entered = of_slot v.slot
 old_place v (Resident p) = of_file v.own
@@ -52,14 +52,14 @@ old_place v (Arriving to at) = of_slot v.slot
 old_place v (Shifting from to at) = of_file v.own
 
 -- The place to which a move leads.
-abbrev pub new_place : View → Home → TwoSets
+abbrev pub new_place : Places → Home → TwoSets
 new_place v (Leaving from at) = of_slot v.slot
 new_place v (Arriving to at) = of_file v.own
 new_place v (Shifting from to at) = of_file v.next
 new_place v there = no_sets
 
 -- The slot of memory where it is neither the old place nor the new one.
-abbrev pub spare_place : View → Home → TwoSets
+abbrev pub spare_place : Places → Home → TwoSets
 spare_place v (Resident p) = of_slot v.slot
 spare_place v (Shifting from to at) = of_slot v.slot
 spare_place v there = no_sets
