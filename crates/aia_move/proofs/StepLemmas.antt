@@ -23,7 +23,7 @@ use Rattle.aia_fabric.specs.declared.at.At.TheVariants.{File, Slot}
 use Rattle.aia_fabric.specs.World.{World}
 use Rattle.aia_fabric.specs.Changes.{PutsRegister, spot_of, with_pending, with_enable}
 use Rattle.aia_move.specs.Move.{Moving, width, old_at, new_at, PostsIf, Makes, hand_after, Fits, Ends}
-use Rattle.aia_move.specs.Load.{Load, load_of, progress_of, moving, one_done, Does, closing_access, pending_access, enables_access}
+use Rattle.aia_move.specs.Carrier.{CarrierState, carrier_of, progress_of, moving, one_done, Does, closing_access, pending_access, enables_access}
 use Rattle.aia_move.specs.Turns.{IsIn, IsMove, GoesOn}
 use Rattle.aia_move.proofs.PhaseSteps.{middle}
 
@@ -160,21 +160,21 @@ not_last words (Leaving from at) low = ne_eqb _ _ (λ e. omega (arith, e, low))
 not_last words (Arriving to at) low = ne_eqb _ _ (λ e. omega (arith, e, low))
 not_last words (Shifting from to at) low = ne_eqb _ _ (λ e. omega (arith, e, low))
 
--- the state with a load
-loaded : (m : Moving) (there : Progress → Home) (now : Load) (hand : Hand) → there (one_further (record { steps = steps_done m.home; aims = aims_done m.home })) ≡ one_more m.home → now ≡ one_done (load_of m) hand
+-- the state with a carrier
+loaded : (m : Moving) (there : Progress → Home) (now : CarrierState) (hand : Hand) → there (one_further (record { steps = steps_done m.home; aims = aims_done m.home })) ≡ one_more m.home → now ≡ one_done (carrier_of m) hand
     → moving there now ≡ record m { home = one_more m.home; hand = hand }
-loaded m there now hand next is = ap (λ (l : Load). moving there l) is ∙ ap (λ (h : Home). record m { home = h; hand = hand }) next
+loaded m there now hand next is = ap (λ (l : CarrierState). moving there l) is ∙ ap (λ (h : Home). record m { home = h; hand = hand }) next
 
 -- before any word is carried, and after all are
-pub step_before : (w u : World) (m s : Moving) (there : Progress → Home) (now : Load) (access : Access) → m ≡ s → Fits w s → there (one_further (record { steps = steps_done m.home; aims = aims_done m.home })) ≡ one_more m.home
+pub step_before : (w u : World) (m s : Moving) (there : Progress → Home) (now : CarrierState) (access : Access) → m ≡ s → Fits w s → there (one_further (record { steps = steps_done m.home; aims = aims_done m.home })) ≡ one_more m.home
     → IsNext (width w) m.home access → Does access m w u now → steps_done m.home < first_take m.home → GoesOn w s u (moving there now)
 step_before w u m s there now access seen fits more next does low =
-    seen_so w u m s (moving there now) access seen fits next does.makes (loaded m there now _ more does.load) (not_last (width w) m.home (omega (arith, low))) (record { pending = λ e. absurd (omega (arith, e, low)); enabled = λ e. absurd (omega (arith, e, low)) })
+    seen_so w u m s (moving there now) access seen fits next does.makes (loaded m there now _ more does.carrier) (not_last (width w) m.home (omega (arith, low))) (record { pending = λ e. absurd (omega (arith, e, low)); enabled = λ e. absurd (omega (arith, e, low)) })
 
-pub step_after : (w u : World) (m s : Moving) (there : Progress → Home) (now : Load) (access : Access) → m ≡ s → Fits w s → there (one_further (record { steps = steps_done m.home; aims = aims_done m.home })) ≡ one_more m.home
+pub step_after : (w u : World) (m s : Moving) (there : Progress → Home) (now : CarrierState) (access : Access) → m ≡ s → Fits w s → there (one_further (record { steps = steps_done m.home; aims = aims_done m.home })) ≡ one_more m.home
     → IsNext (width w) m.home access → Does access m w u now → is_at_last (width w) m.home ≡ false → 1 ≤ width w → enables_step (width w) m.home (width w) ≤ steps_done m.home → GoesOn w s u (moving there now)
 step_after w u m s there now access seen fits more next does unfinished some past =
-    seen_so w u m s (moving there now) access seen fits next does.makes (loaded m there now _ more does.load) unfinished (record { pending = λ e. absurd (omega (arith, e, past, some)); enabled = λ e. absurd (omega (arith, e, past, some)) })
+    seen_so w u m s (moving there now) access seen fits next does.makes (loaded m there now _ more does.carrier) unfinished (record { pending = λ e. absurd (omega (arith, e, past, some)); enabled = λ e. absurd (omega (arith, e, past, some)) })
 
 -- the last step
 pub step_last : (w u : World) (m s : Moving) (access : Access) → m ≡ s → IsNext (width w) m.home access → Makes access m w u → hand_after access m w ≡ m.hand → is_at_last (width w) m.home ≡ true
@@ -261,16 +261,16 @@ closing_next words first n (Shifting p q progress) moves at is from below = elim
 ]
 
 module _ (there : Progress → Home) (is : IsMove there) where
-  pub load_is : (l : Load) → load_of (moving there l) ≡ l
-  load_is l = λ k. record l { steps = is.steps (progress_of l) k; aims = is.aims (progress_of l) k }
+  pub carrier_is : (l : CarrierState) → carrier_of (moving there l) ≡ l
+  carrier_is l = λ k. record l { steps = is.steps (progress_of l) k; aims = is.aims (progress_of l) k }
 
-  pub steps_are : (l : Load) (s : Moving) → moving there l ≡ s → l.steps ≡ steps_done s.home
+  pub steps_are : (l : CarrierState) (s : Moving) → moving there l ≡ s → l.steps ≡ steps_done s.home
   steps_are l s seen = sym (is.steps (progress_of l)) ∙ ap (λ (x : Moving). steps_done x.home) seen
 
-  goes_on : (l : Load) → there (one_further (record { steps = steps_done (moving there l).home; aims = aims_done (moving there l).home })) ≡ one_more (moving there l).home
+  goes_on : (l : CarrierState) → there (one_further (record { steps = steps_done (moving there l).home; aims = aims_done (moving there l).home })) ≡ one_more (moving there l).home
   goes_on l = (λ k. there (one_further (record { steps = is.steps (progress_of l) k; aims = is.aims (progress_of l) k }))) ∙ is.more (progress_of l)
 
-  pub move_closes : (w u : World) (l now : Load) (s : Moving) (first : ℕ) → moving there l ≡ s → Fits w s → IsIn ClosingPhase (width w) s → first ≡ begins (width w) s.home ClosingPhase
+  pub move_closes : (w u : World) (l now : CarrierState) (s : Moving) (first : ℕ) → moving there l ≡ s → Fits w s → IsIn ClosingPhase (width w) s → first ≡ begins (width w) s.home ClosingPhase
       → Does (closing_access first l.steps) (moving there l) w u now → GoesOn w s u (moving there now)
   move_closes w u l now s first seen fits phase begin does =
       let moves = is.moves (progress_of l) in
@@ -282,7 +282,7 @@ module _ (there : Progress → Home) (is : IsMove there) where
       (closing_next (width w) first l.steps (moving there l).home moves (sym steps) from (omega (arith, steps, from, here)) (omega (arith, steps, from, here, mid.drain))) does
       (omega (arith, here, mid.drain, mid.take))
 
-  pub move_carries_pending : (w u : World) (l now : Load) (s : Moving) (first : ℕ) → moving there l ≡ s → Fits w s → IsIn DrainPhase (width w) s → first ≡ begins (width w) s.home DrainPhase
+  pub move_carries_pending : (w u : World) (l now : CarrierState) (s : Moving) (first : ℕ) → moving there l ≡ s → Fits w s → IsIn DrainPhase (width w) s → first ≡ begins (width w) s.home DrainPhase
       → Does (pending_access first l.steps) (moving there l) w u now → (l.steps ≡ first → has_bit now.hand.word 0 ≡ false) → GoesOn w s u (moving there now)
   move_carries_pending w u l now s first seen fits phase begin does zero =
       let m = moving there l in
@@ -293,11 +293,11 @@ module _ (there : Progress → Home) (is : IsMove there) where
       let mid = middle (width w) m.home moves in
       seen_so w u m s (moving there now) (pending_access first (steps_done m.home)) seen fits
       (pending_next (width w) first m.home moves from (omega (arith, from, here)) here.1) (subst (λ n. Does (pending_access first n) m w u now) (sym steps) does).makes
-      (loaded m there now _ (goes_on l) (subst (λ n. Does (pending_access first n) m w u now) (sym steps) does).load)
+      (loaded m there now _ (goes_on l) (subst (λ n. Does (pending_access first n) m w u now) (sym steps) does).carrier)
       (not_last (width w) m.home (omega (arith, here, mid.take, mid.drain, mid.enable)))
       (record { pending = λ e. zero (omega (arith, e, steps, from, mid.take, mid.drain)); enabled = λ e. absurd (omega (arith, e, here, mid.take, mid.drain, mid.enable)) })
 
-  pub move_carries_enables : (w u : World) (l now : Load) (s : Moving) (first : ℕ) → moving there l ≡ s → Fits w s → IsIn EnablePhase (width w) s → 1 ≤ width w → first ≡ begins (width w) s.home EnablePhase
+  pub move_carries_enables : (w u : World) (l now : CarrierState) (s : Moving) (first : ℕ) → moving there l ≡ s → Fits w s → IsIn EnablePhase (width w) s → 1 ≤ width w → first ≡ begins (width w) s.home EnablePhase
       → Does (enables_access first l.steps) (moving there l) w u now → (l.steps ≡ first → has_bit now.hand.word 0 ≡ false) → GoesOn w s u (moving there now)
   move_carries_enables w u l now s first seen fits phase some begin does zero =
       let m = moving there l in
@@ -308,6 +308,6 @@ module _ (there : Progress → Home) (is : IsMove there) where
       let mid = middle (width w) m.home moves in
       seen_so w u m s (moving there now) (enables_access first (steps_done m.home)) seen fits
       (enables_next (width w) first m.home moves from (omega (arith, from, here)) here.1) (subst (λ n. Does (enables_access first n) m w u now) (sym steps) does).makes
-      (loaded m there now _ (goes_on l) (subst (λ n. Does (enables_access first n) m w u now) (sym steps) does).load)
+      (loaded m there now _ (goes_on l) (subst (λ n. Does (enables_access first n) m w u now) (sym steps) does).carrier)
       (not_last (width w) m.home (omega (arith, here, mid.take, mid.enable, mid.looks)))
       (record { pending = λ e. absurd (omega (arith, e, here, mid.take, mid.enable, some)); enabled = λ e. zero (omega (arith, e, steps, from, mid.take, mid.enable)) })

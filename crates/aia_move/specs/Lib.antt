@@ -1,6 +1,6 @@
 pub mod Move
 pub mod Targets
-pub mod Load
+pub mod Carrier
 pub mod Turns
 pub mod Touches
 pub mod Landings

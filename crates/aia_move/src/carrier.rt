@@ -11,7 +11,7 @@ ghost use Rattle.aia_fabric.specs.Flights.{Fences};
 ghost use Rattle.aia_fabric.specs.Changes.{IsPlaceThere, spot_of, words_at};
 ghost use Rattle.aia_move.specs.Move.{Moving, IsWho, Makes, PostsIf, old_at, new_at, old_spot, new_spot, width};
 ghost use Rattle.aia_move.specs.Targets.{ArePasses, passes_of, aim_of};
-ghost use Rattle.aia_move.specs.Load.{Does, load_of, one_done, one_aim_done, closing_access, pending_access, enables_access};
+ghost use Rattle.aia_move.specs.Carrier.{Does, carrier_of, one_done, one_aim_done, closing_access, pending_access, enables_access};
 
 use crate::{Targets, Who, words};
 use aia_fabric::{At, Fabric};
@@ -43,9 +43,9 @@ pub struct Carrier {
 }
 
 impl Model for Carrier {
-    ghost use Rattle.aia_move.specs.Load.{Load};
+    ghost use Rattle.aia_move.specs.Carrier.{CarrierState};
 
-    ghost Value = { Load };
+    ghost Value = { CarrierState };
 
     ghost view = { λ c. record {
       who = c.who;
@@ -62,7 +62,7 @@ impl Model for Carrier {
 
 #[tactic(auto, using(crate::proofs::WhoLemmas::small_who, crate::proofs::WhoLemmas::small_file))]
 impl Carrier {
-    /// Makes the load of a move of which no step is done.
+    /// Makes the carrier of a move of which no step is done.
     pub fn new(who: Who, delivery: u64, threshold: u64) -> Carrier
         ensures { result ≡ record {
           who = who;
@@ -102,7 +102,7 @@ impl Carrier {
     pub fn take_delivery(&mut self, fabric: &mut Fabric, spot: Spot)
         requires there { IsThere fabric.old.imsic spot }
         requires more { self.old.steps < leave_steps FILE_WORDS }
-        ensures { (m : Moving) → load_of m ≡ self.old → old_spot m ≡ spot
+        ensures { (m : Moving) → carrier_of m ≡ self.old → old_spot m ≡ spot
             → Does TakeDelivery m fabric.old fabric.new self.new }
     {
         self.delivery = fabric.reg(spot, FileReg::Delivery, Op::Write(0));
@@ -112,7 +112,7 @@ impl Carrier {
     /// Puts eidelivery in the file at a place that is there: it is the last access of a move.
     pub fn put_delivery(&self, fabric: &mut Fabric, spot: Spot)
         requires { IsThere fabric.old.imsic spot }
-        ensures { (m : Moving) → load_of m ≡ self.now → new_spot m ≡ spot
+        ensures { (m : Moving) → carrier_of m ≡ self.now → new_spot m ≡ spot
             → Makes PutDelivery m fabric.old fabric.new }
     {
         let _was = fabric.reg(spot, FileReg::Delivery, Op::Write(self.delivery));
@@ -122,7 +122,7 @@ impl Carrier {
     pub fn take_threshold(&mut self, fabric: &mut Fabric, spot: Spot)
         requires there { IsThere fabric.old.imsic spot }
         requires more { self.old.steps < leave_steps FILE_WORDS }
-        ensures { (m : Moving) → load_of m ≡ self.old → old_spot m ≡ spot
+        ensures { (m : Moving) → carrier_of m ≡ self.old → old_spot m ≡ spot
             → Does TakeThreshold m fabric.old fabric.new self.new }
     {
         self.threshold = fabric.reg(spot, FileReg::Threshold, Op::Write(0));
@@ -133,7 +133,7 @@ impl Carrier {
     pub fn put_threshold(&mut self, fabric: &mut Fabric, spot: Spot)
         requires there { IsThere fabric.old.imsic spot }
         requires more { self.old.steps < leave_steps FILE_WORDS }
-        ensures { (m : Moving) → load_of m ≡ self.old → new_spot m ≡ spot
+        ensures { (m : Moving) → carrier_of m ≡ self.old → new_spot m ≡ spot
             → Does PutThreshold m fabric.old fabric.new self.new }
     {
         let _was = fabric.reg(spot, FileReg::Threshold, Op::Write(self.threshold));
@@ -146,7 +146,7 @@ impl Carrier {
     pub fn write_notice(&mut self, fabric: &mut Fabric)
         requires who { IsWho fabric.old self.old.who }
         requires more { self.old.steps < leave_steps FILE_WORDS }
-        ensures { (m : Moving) → load_of m ≡ self.old
+        ensures { (m : Moving) → carrier_of m ≡ self.old
             → Does WriteNotice m fabric.old fabric.new self.new }
     {
         let _words = fabric.words();
@@ -160,7 +160,7 @@ impl Carrier {
         requires who { IsWho fabric.old self.old.who }
         requires file { (p : Place) → to ≡ Some p → IsThere fabric.old.imsic (spot_of p) }
         requires more { self.old.steps < leave_steps FILE_WORDS }
-        ensures { (m : Moving) → load_of m ≡ self.old → new_file m.home ≡ to
+        ensures { (m : Moving) → carrier_of m ≡ self.old → new_file m.home ≡ to
             → Does WriteEntry m fabric.old fabric.new self.new }
     {
         let _words = fabric.words();
@@ -174,7 +174,7 @@ impl Carrier {
         requires who { IsWho fabric.old self.old.who }
         requires more { self.old.steps < leave_steps FILE_WORDS }
         ensures fences { Fences fabric.old fabric.new self.old.who.vm self.old.who.vcpu }
-        ensures load { self.new ≡ one_done self.old self.old.hand }
+        ensures carrier { self.new ≡ one_done self.old self.old.hand }
     {
         fabric.fence(self.who.vm, self.who.vcpu);
         self.done += 1;
@@ -184,7 +184,7 @@ impl Carrier {
     fn map(&mut self, fabric: &mut Fabric, to: Option<&FileLease>)
         requires who { IsWho fabric.old self.old.who }
         requires more { self.old.steps < leave_steps FILE_WORDS }
-        ensures { (m : Moving) → load_of m ≡ self.old
+        ensures { (m : Moving) → carrier_of m ≡ self.old
             → new_file m.home ≡ option_map (λ (lease : Bor Place). lease.now) to.entry
             → Does Map m fabric.old fabric.new self.new }
     {
@@ -196,7 +196,7 @@ impl Carrier {
     fn gfence(&mut self, fabric: &mut Fabric)
         requires who { IsWho fabric.old self.old.who }
         requires more { self.old.steps < leave_steps FILE_WORDS }
-        ensures { (m : Moving) → load_of m ≡ self.old
+        ensures { (m : Moving) → carrier_of m ≡ self.old
             → Does GFence m fabric.old fabric.new self.new }
     {
         fabric.gfence(self.who.vm, self.who.vcpu);
@@ -208,7 +208,7 @@ impl Carrier {
     pub fn close(&mut self, fabric: &mut Fabric, first: u32, to: Option<&FileLease>)
         requires who { IsWho fabric.old self.old.who }
         requires more { self.old.steps < leave_steps FILE_WORDS }
-        ensures { (m : Moving) → load_of m ≡ self.old
+        ensures { (m : Moving) → carrier_of m ≡ self.old
             → new_file m.home ≡ option_map (λ (lease : Bor Place). lease.now) to.entry
             → Does (closing_access first self.old.steps) m fabric.old fabric.new self.new }
     {
@@ -236,10 +236,10 @@ impl Carrier {
         requires notice { self.old.who.notice < (T.map targets.old).harts }
         requires hart { IfSome to (λ lease. lease.now.hart < (T.map targets.old).harts) }
         requires guest { IfSome to (λ lease. lease.now.file ≤ GUEST_FILES) }
-        ensures aims { (m : Moving) → load_of m ≡ self.old
+        ensures aims { (m : Moving) → carrier_of m ≡ self.old
             → new_file m.home ≡ option_map (λ (lease : Bor Place). lease.now) to.entry
             → T.aimed targets.old (aim_of m).source (aim_of m).target targets.new }
-        ensures load { self.new ≡ one_aim_done self.old }
+        ensures carrier { self.new ≡ one_aim_done self.old }
     {
         let pass = self.who.passes[self.aims];
         match to {
@@ -259,7 +259,7 @@ impl Carrier {
         requires place { IsPlaceThere fabric.old from }
         requires word { word < words_at fabric.old from }
         requires more { self.old.steps < leave_steps FILE_WORDS }
-        ensures does { (m : Moving) → load_of m ≡ self.old → old_at m ≡ from
+        ensures does { (m : Moving) → carrier_of m ≡ self.old → old_at m ≡ from
             → Does (TakePending word) m fabric.old fabric.new self.new }
         ensures no_zero { word ≡ 0 → has_bit self.new.hand.word 0 ≡ false }
     {
@@ -273,7 +273,7 @@ impl Carrier {
         requires word { word < words_at fabric.old to }
         requires no_zero { word ≡ 0 → has_bit self.old.hand.word 0 ≡ false }
         requires more { self.old.steps < leave_steps FILE_WORDS }
-        ensures { (m : Moving) → load_of m ≡ self.old → new_at m ≡ to
+        ensures { (m : Moving) → carrier_of m ≡ self.old → new_at m ≡ to
             → Does (PutPending word) m fabric.old fabric.new self.new }
     {
         fabric.or_pending(to, word, self.word);
@@ -289,7 +289,7 @@ impl Carrier {
         requires word { (self.old.steps - first) / 2 < width fabric.old }
         requires no_zero { self.old.steps ≡ first + 1 → has_bit self.old.hand.word 0 ≡ false }
         requires more { self.old.steps < leave_steps FILE_WORDS }
-        ensures does { (m : Moving) → load_of m ≡ self.old → old_at m ≡ from → new_at m ≡ to
+        ensures does { (m : Moving) → carrier_of m ≡ self.old → old_at m ≡ from → new_at m ≡ to
             → Does (pending_access first self.old.steps) m fabric.old fabric.new self.new }
         ensures no_zero { self.old.steps ≡ first → has_bit self.new.hand.word 0 ≡ false }
     {
@@ -307,7 +307,7 @@ impl Carrier {
         requires place { IsPlaceThere fabric.old from }
         requires word { word < words_at fabric.old from }
         requires more { self.old.steps < leave_steps FILE_WORDS }
-        ensures does { (m : Moving) → load_of m ≡ self.old → old_at m ≡ from
+        ensures does { (m : Moving) → carrier_of m ≡ self.old → old_at m ≡ from
             → Does (TakeEnables word) m fabric.old fabric.new self.new }
         ensures no_zero { word ≡ 0 → has_bit self.new.hand.word 0 ≡ false }
     {
@@ -321,7 +321,7 @@ impl Carrier {
         requires word { word < words_at fabric.old to }
         requires no_zero { word ≡ 0 → has_bit self.old.hand.word 0 ≡ false }
         requires more { self.old.steps < leave_steps FILE_WORDS }
-        ensures { (m : Moving) → load_of m ≡ self.old → new_at m ≡ to
+        ensures { (m : Moving) → carrier_of m ≡ self.old → new_at m ≡ to
             → Does (PutEnables word) m fabric.old fabric.new self.new }
     {
         let _was = fabric.swap_enable(to, word, self.word);
@@ -337,7 +337,7 @@ impl Carrier {
         requires word { (self.old.steps - first) / 2 < width fabric.old }
         requires no_zero { self.old.steps ≡ first + 1 → has_bit self.old.hand.word 0 ≡ false }
         requires more { self.old.steps < leave_steps FILE_WORDS }
-        ensures does { (m : Moving) → load_of m ≡ self.old → old_at m ≡ from → new_at m ≡ to
+        ensures does { (m : Moving) → carrier_of m ≡ self.old → old_at m ≡ from → new_at m ≡ to
             → Does (enables_access first self.old.steps) m fabric.old fabric.new self.new }
         ensures no_zero { self.old.steps ≡ first → has_bit self.new.hand.word 0 ≡ false }
     {
@@ -357,7 +357,7 @@ impl Carrier {
         requires slot { self.old.who.slot < VCPUS }
         requires word { word < FILE_WORDS }
         requires more { self.old.steps < leave_steps FILE_WORDS }
-        ensures { (m : Moving) → load_of m ≡ self.old
+        ensures { (m : Moving) → carrier_of m ≡ self.old
             → Does (Look word) m fabric.now fabric.now self.new }
     {
         let (pending, enabled) = fabric.look(self.who.slot, word);

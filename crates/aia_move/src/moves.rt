@@ -29,7 +29,7 @@ pub struct Move<K: Kind, P> {
 
 impl<K: Kind, P> Model for Move<K, P> {
     ghost use Rattle.aia_move.specs.Move.{Moving};
-    ghost use Rattle.aia_move.specs.Load.{moving};
+    ghost use Rattle.aia_move.specs.Carrier.{moving};
 
     ghost Value = { Moving };
 

@@ -5,7 +5,7 @@ use Rattle.aia_home.specs.Plans.Access.{WriteEntry, Fence}
 use Rattle.aia_move.specs.Move.{Moving, width}
 use Rattle.aia_home.specs.Phases.Phase.{FirstPhase}
 use Rattle.aia_move.specs.Turns.{IsIn}
-use Rattle.aia_move.specs.Load.{moving}
+use Rattle.aia_move.specs.Carrier.{moving}
 use Rattle.std.proofs.lemmas.Bool.{eq-eqb, ne_eqb}
 use Rattle.aia_home.specs.Routes.{is_at_fence}
 use Rattle.aia_fabric.specs.Flights.{Fences}
@@ -39,5 +39,5 @@ returns-in_default g c =
       landed = fences.landed;
       first = first;
       then = step_before fences.landed c.fence.new.fabric m c.args.self.now (Arriving l.kind.file) c.fence.new.self Fence c.self.view_is (fits_still c.args.fabric.now fences.landed c.args.self.now first.same c.requires.fits) refl (record { has = refl; step = here })
-          (record { makes = subst (λ (x : Moving). c.fence.new.fabric ≡ with_fence fences.landed x.who.vm x.who.vcpu) (sym c.self.view_is) fences.fenced; load = c.fence.ensures.load }) (omega (arith, here));
+          (record { makes = subst (λ (x : Moving). c.fence.new.fabric ≡ with_fence fences.landed x.who.vm x.who.vcpu) (sym c.self.view_is) fences.fenced; carrier = c.fence.ensures.carrier }) (omega (arith, here));
     }

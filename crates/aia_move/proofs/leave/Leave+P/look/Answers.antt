@@ -6,7 +6,7 @@ use Rattle.aia_home.specs.Plans.Access.{Look, TakeThreshold}
 use Rattle.aia_move.specs.Move.{Moving, width}
 use Rattle.aia_home.specs.Phases.Phase.{LookPhase}
 use Rattle.aia_move.specs.Turns.{IsIn}
-use Rattle.aia_move.specs.Load.{Does, moving}
+use Rattle.aia_move.specs.Carrier.{Does, moving}
 use Rattle.aia_move.proofs.WhoLemmas.{slot_there}
 use Rattle.aia_move.proofs.StepLemmas.{step_after}
 use Rattle.aia_move.proofs.leave.Leave+P.look.Goals as goal

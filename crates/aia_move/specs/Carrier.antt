@@ -11,39 +11,39 @@ use Rattle.aia_move.specs.Move.{Moving, Makes, hand_after}
 
 -- Who is moved, how many steps are done, those that aim aside, how many of those are, and what is
 -- carried.
-pub record Load : Type 0 where
+pub record CarrierState : Type 0 where
   pub who : Who
   pub steps : ℕ
   pub aims : ℕ
   pub hand : Hand
 
--- The load of a move; the progress of a load, and the move that has it, by its home at each
+-- The carrier of a move; the progress of a carrier, and the move that has it, by its home at each
 -- progress.
-abbrev pub load_of : Moving → Load
-load_of m = record {
+abbrev pub carrier_of : Moving → CarrierState
+carrier_of m = record {
   who = m.who;
   steps = steps_done m.home;
   aims = aims_done m.home;
   hand = m.hand;
 }
 
-abbrev pub progress_of : Load → Progress
+abbrev pub progress_of : CarrierState → Progress
 progress_of l = record { steps = l.steps; aims = l.aims }
 
-abbrev pub moving : (Progress → Home) → Load → Moving
+abbrev pub moving : (Progress → Home) → CarrierState → Moving
 moving there l = record { who = l.who; home = there (progress_of l); hand = l.hand }
 
 -- One step more is done, and so much is carried then; one passed source more is aimed.
-abbrev pub one_done : Load → Hand → Load
+abbrev pub one_done : CarrierState → Hand → CarrierState
 one_done l hand = record l { steps = l.steps + 1; hand = hand }
 
-abbrev pub one_aim_done : Load → Load
+abbrev pub one_aim_done : CarrierState → CarrierState
 one_aim_done l = record l { aims = l.aims + 1 }
 
--- A move makes an access, and has a load then.
-pub record Does (access : Access) (m : Moving) (w u : World) (now : Load) : Type 0 where
+-- A move makes an access, and has a carrier then.
+pub record Does (access : Access) (m : Moving) (w u : World) (now : CarrierState) : Type 0 where
   pub makes : Makes access m w u
-  pub load : now ≡ one_done (load_of m) (hand_after access m w)
+  pub carrier : now ≡ one_done (carrier_of m) (hand_after access m w)
 
 -- ---- the access of a phase, by how many steps are done, now and as the phase began
 
