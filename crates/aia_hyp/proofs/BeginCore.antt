@@ -11,7 +11,7 @@ use Rattle.aia_home.specs.Home.{at_first, is_entered, rests_in_memory, is_reside
 use Rattle.aia_home.specs.Home.Home.{Arriving, Shifting}
 use Rattle.aia_pool.specs.Leases.{least_free}
 use Rattle.aia_move.specs.declared.who.Who.{Who}
-use Rattle.aia_move.specs.declared.who.Kept.{Kept}
+use Rattle.aia_move.specs.declared.who.KeptNumbers.{KeptNumbers}
 use Rattle.aia_move.specs.declared.plan.Plan.{Plan}
 use Rattle.aia_move.specs.Move.{IsWho}
 use Rattle.aia_move.specs.Plan.{moving_of, IsInPhase}
@@ -160,7 +160,7 @@ module _ (x y : CoreState) (who : Who) (given : Answer) (h : History) (stands : 
   same_least : (hart : ℕ) → hart < x.leases.harts → free_file h (home h) hart ≡ least_free x.leases hart
   same_least hart low = sym (same_free x h hart stands (in_world hart low))
 
-  arrive_in : (new : Stay) (hart : ℕ) (kept : Kept) (o : Option ℕ) → Put x y who new → (record_of x (vcpu who.vm who.vcpu)).stay ≡ stays.Parked kept → hart < x.leases.harts → least_free x.leases hart ≡ o
+  arrive_in : (new : Stay) (hart : ℕ) (kept : KeptNumbers) (o : Option ℕ) → Put x y who new → (record_of x (vcpu who.vm who.vcpu)).stay ≡ stays.Parked kept → hart < x.leases.harts → least_free x.leases hart ≡ o
       → BeginsIn o hart (λ to. record { who = who; home = Arriving to at_first; hand = record empty_hand { delivery = kept.delivery; threshold = kept.threshold } }) (stays.Parked kept) new x.leases y.leases given
       → Answered x y h who.vm who.vcpu (wants.Arrive hart) given
   arrive_in new hart kept None p was low found b = refused (wants.Arrive hart) words.NoFile new (stays.Parked kept) p was b

@@ -19,7 +19,7 @@ use Rattle.aia_fabric.specs.World.{World}
 use Rattle.aia_fabric.specs.Whole.{IsWhole}
 use Rattle.aia_fabric.specs.Changes.{places_of}
 use Rattle.aia_fabric.specs.SlotAccess.{file_of_slot}
-use Rattle.aia_move.specs.declared.who.Kept.{Kept}
+use Rattle.aia_move.specs.declared.who.KeptNumbers.{KeptNumbers}
 use Rattle.aia_model.specs.Event.{History, greatest_identity_of, file_words}
 use Rattle.aia_model.specs.Vms.{vms_of, has_vcpu}
 use Rattle.aia_model.specs.GuestFile.{guest_file}
@@ -91,7 +91,7 @@ in_sets n words slot file all zero same none i = elim (cases_Bool (is_in_range 1
       | inr some ↦ none i (let past : n < i = grind (arith, nat_tests) in past)
     ]
 
-module _ (x : CoreState) (h : History) (g : Vcpu) (kept : Kept) (stands : CoreStands x h) (whole : IsWhole x.world) (there : has_vcpu h g ≡ true) (rests : rests_in_memory (home h g) ≡ true) (hand : hand_in (record_of x g).stay ≡ hand_of kept) where
+module _ (x : CoreState) (h : History) (g : Vcpu) (kept : KeptNumbers) (stands : CoreStands x h) (whole : IsWhole x.world) (there : has_vcpu h g ≡ true) (rests : rests_in_memory (home h g) ≡ true) (hand : hand_in (record_of x g).stay ≡ hand_of kept) where
   greatest : is_greatest_identity (greatest_identity_of h) ≡ true
   greatest = subst (λ n. is_greatest_identity n ≡ true) stands.greatest whole.greatest
 

@@ -22,7 +22,7 @@ use Rattle.aia_fabric.specs.Whole.{IsWhole}
 use Rattle.aia_fabric.specs.Stores.{LandsIn, Posts, counted}
 use Rattle.aia_fabric.specs.SlotAccess.{file_of_slot, DoneInSlot}
 use Rattle.aia_imsic.specs.Imsic.{ImsicState}
-use Rattle.aia_move.specs.declared.who.Kept.{Kept}
+use Rattle.aia_move.specs.declared.who.KeptNumbers.{KeptNumbers}
 use Rattle.aia_model.specs.declared.answer.Answer.TheVariants.{Okay, Refused}
 use Rattle.aia_model.specs.declared.answer.Answer.TheVariants as kinds
 use Rattle.aia_model.specs.declared.refusal.Refusal.{Refusal}
@@ -67,7 +67,7 @@ use Rattle.aia_hyp.proofs.WithinLemmas.{guest_sound, guest_n}
 
 -- ---- a virtual hart that is parked
 
-module _ (x : CoreState) (h : History) (g : Vcpu) (kept : Kept) (stands : CoreStands x h) (there : has_vcpu h g ≡ true) (at : (record_of x g).stay ≡ stays.Parked kept) where
+module _ (x : CoreState) (h : History) (g : Vcpu) (kept : KeptNumbers) (stands : CoreStands x h) (there : has_vcpu h g ≡ true) (at : (record_of x g).stay ≡ stays.Parked kept) where
   pub parked_home : home h g ≡ Parked
   parked_home = sym (stands.vcpus g there).same_home ∙ ap home_in at
 
@@ -81,7 +81,7 @@ module _ (x : CoreState) (h : History) (g : Vcpu) (kept : Kept) (stands : CoreSt
   its_state whole = λ k. record { select = (stands.vcpus g there).select k; file = sym (its_file whole) k; majors = (stands.vcpus g there).majors k }
 
 -- the numbers that are kept of it are small
-pub small_threshold : (x : CoreState) (h : History) (g : Vcpu) (kept : Kept) → CoreStands x h → IsWhole x.world → has_vcpu h g ≡ true → (record_of x g).stay ≡ stays.Parked kept → kept.threshold ≤ x.world.n
+pub small_threshold : (x : CoreState) (h : History) (g : Vcpu) (kept : KeptNumbers) → CoreStands x h → IsWhole x.world → has_vcpu h g ≡ true → (record_of x g).stay ≡ stays.Parked kept → kept.threshold ≤ x.world.n
 small_threshold x h g kept stands whole there at =
     let file = its_file x h g kept stands there at whole in
     let sound = (guest_sound h g).threshold in
@@ -116,17 +116,17 @@ found_few w found whole is = let below = found_below w found is in omega (arith,
 pub found_stay : (x : CoreState) (found : Found) → IsFound x.world found → {A : Type 0} (r : A) (of : Stay → A) → r ≡ of (get_or x.vcpus found.slot no_record).stay → r ≡ of (record_of x (vcpu found.vm found.vcpu)).stay
 found_stay x found is r of e = e ∙ ap (λ q. of (get_or x.vcpus q no_record).stay) is.slot
 
-pub parked_is : (stay : Stay) (kept : Kept) → parked_at stay ≡ Ok kept → stay ≡ stays.Parked kept
+pub parked_is : (stay : Stay) (kept : KeptNumbers) → parked_at stay ≡ Ok kept → stay ≡ stays.Parked kept
 parked_is (stays.Parked kept) other e = ap stays.Parked (of_ok kept other e)
   where
-    of_ok : (a b : Kept) → ◌≡◌ {A = Result Kept Refusal} (Ok a) (Ok b) → a ≡ b
+    of_ok : (a b : KeptNumbers) → ◌≡◌ {A = Result KeptNumbers Refusal} (Ok a) (Ok b) → a ≡ b
     of_ok a b e = cc
 parked_is (stays.Entered kept) other e = absurd (cc)
 parked_is (stays.Resident lease) other e = absurd (cc)
 parked_is (stays.Moving plan) other e = absurd (cc)
 
 -- the threshold that is kept fits
-pub small_number : (x : CoreState) (g : Vcpu) (kept : Kept) → StandsForSome x → IsWhole x.world → is_vcpu_in x.world.vms g ≡ true → (record_of x g).stay ≡ stays.Parked kept → kept.threshold < 2 ^ 32
+pub small_number : (x : CoreState) (g : Vcpu) (kept : KeptNumbers) → StandsForSome x → IsWhole x.world → is_vcpu_in x.world.vms g ≡ true → (record_of x g).stay ≡ stays.Parked kept → kept.threshold < 2 ^ 32
 small_number x g kept some whole inside at =
     let small = small_threshold x some.past g kept some.stands whole (there_in x some.past g some.stands inside) at in
     let most = few_identities x.world.n whole.greatest in
@@ -187,7 +187,7 @@ not_parked_to_load x vm number part word inside good e = refused x (LoadPart vm 
 
 -- ---- a part is given
 
-pub saves : (x : CoreState) (vm number k : ℕ) (kept : Kept) (part : Part) → is_vcpu_in x.world.vms (vcpu vm number) ≡ true → IsWhole x.world → (record_of x (vcpu vm number)).stay ≡ stays.Parked kept → k < (x.world.n + 1) / 64 + 3
+pub saves : (x : CoreState) (vm number k : ℕ) (kept : KeptNumbers) (part : Part) → is_vcpu_in x.world.vms (vcpu vm number) ≡ true → IsWhole x.world → (record_of x (vcpu vm number)).stay ≡ stays.Parked kept → k < (x.world.n + 1) / 64 + 3
     → part ≡ part_of (state_in x (slot_of x.world.vms (vcpu vm number)) kept) k → CoreTakes x x (Save vm number k) (kinds.Part part)
 saves x vm number k kept part inside whole at low is = accepted x x (Save vm number k) (kinds.Part part) refl refl (λ h stands.
     let g = vcpu vm number in
@@ -199,7 +199,7 @@ saves x vm number k kept part inside whole at low is = accepted x x (Save vm num
 
 -- ---- a part is loaded
 
-loads : (x y : CoreState) (vm number : ℕ) (part : Part) (kept : Kept) → is_vcpu_in x.world.vms (vcpu vm number) ≡ true → (record_of x (vcpu vm number)).stay ≡ stays.Parked kept → is_loadable x.world.n part ≡ true
+loads : (x y : CoreState) (vm number : ℕ) (part : Part) (kept : KeptNumbers) → is_vcpu_in x.world.vms (vcpu vm number) ≡ true → (record_of x (vcpu vm number)).stay ≡ stays.Parked kept → is_loadable x.world.n part ≡ true
     → ((h : History) → CoreStands x h → has_vcpu h (vcpu vm number) ≡ true → Changes x y h (Accepted (LoadPart vm number part))) → CoreTakes x y (LoadPart vm number part) Okay
 loads x y vm number part kept inside at good changes = accepted x y (LoadPart vm number part) Okay refl refl (λ h stands.
     let g = vcpu vm number in
@@ -210,7 +210,7 @@ loads x y vm number part kept inside at good changes = accepted x y (LoadPart vm
     ))
 
 -- what is known where a part is loaded
-pub record IsLoad (x y : CoreState) (vm number : ℕ) (kept : Kept) (part : Part) : Type 0 where
+pub record IsLoad (x y : CoreState) (vm number : ℕ) (kept : KeptNumbers) (part : Part) : Type 0 where
   pub inside : is_vcpu_in x.world.vms (vcpu vm number) ≡ true
   pub whole : IsWhole x.world
   pub at : (record_of x (vcpu vm number)).stay ≡ stays.Parked kept
@@ -244,16 +244,16 @@ of_registers h vm number hviprio hvictl = record {
   own = λ m. cond-true _ _ _ (is_itself (vcpu vm number));
 }
 
-pub majors_are_loaded : (x y : CoreState) (vm number injected enabled : ℕ) (kept : Kept) → IsLoad x y vm number kept (parts.Majors injected enabled) → HasMajors x y (vcpu vm number) (majors_loaded (parts.Majors injected enabled)) → CoreTakes x y (LoadPart vm number (parts.Majors injected enabled)) Okay
+pub majors_are_loaded : (x y : CoreState) (vm number injected enabled : ℕ) (kept : KeptNumbers) → IsLoad x y vm number kept (parts.Majors injected enabled) → HasMajors x y (vcpu vm number) (majors_loaded (parts.Majors injected enabled)) → CoreTakes x y (LoadPart vm number (parts.Majors injected enabled)) Okay
 majors_are_loaded x y vm number injected enabled kept c has = loads x y vm number (parts.Majors injected enabled) kept c.inside c.at c.good (λ h stands there.
     majors_change x y h (Accepted (LoadPart vm number (parts.Majors injected enabled))) (vcpu vm number) (majors_loaded (parts.Majors injected enabled)) has (of_majors h vm number injected enabled) stands there)
 
-pub registers_are_loaded : (x y : CoreState) (vm number hviprio hvictl : ℕ) (kept : Kept) → IsLoad x y vm number kept (parts.Prio hviprio hvictl) → HasMajors x y (vcpu vm number) (majors_loaded (parts.Prio hviprio hvictl)) → CoreTakes x y (LoadPart vm number (parts.Prio hviprio hvictl)) Okay
+pub registers_are_loaded : (x y : CoreState) (vm number hviprio hvictl : ℕ) (kept : KeptNumbers) → IsLoad x y vm number kept (parts.Prio hviprio hvictl) → HasMajors x y (vcpu vm number) (majors_loaded (parts.Prio hviprio hvictl)) → CoreTakes x y (LoadPart vm number (parts.Prio hviprio hvictl)) Okay
 registers_are_loaded x y vm number hviprio hvictl kept c has = loads x y vm number (parts.Prio hviprio hvictl) kept c.inside c.at c.good (λ h stands there.
     majors_change x y h (Accepted (LoadPart vm number (parts.Prio hviprio hvictl))) (vcpu vm number) (majors_loaded (parts.Prio hviprio hvictl)) has (of_registers h vm number hviprio hvictl) stands there)
 
 -- its numbers
-numbers_loaded : (w : World) (q : ℕ) (was now : Kept) (version n threshold select : ℕ) (delivery : Bool) → now.delivery ≡ bit_number delivery → now.threshold ≡ threshold → threshold ≤ w.n
+numbers_loaded : (w : World) (q : ℕ) (was now : KeptNumbers) (version n threshold select : ℕ) (delivery : Bool) → now.delivery ≡ bit_number delivery → now.threshold ≡ threshold → threshold ≤ w.n
     → SameFile (file_in_memory w q now) (file_loaded (parts.Image version n delivery threshold select) (file_in_memory w q was))
 numbers_loaded w q was now version n threshold select delivery is_delivery is_threshold low = record {
   n = refl;
@@ -271,7 +271,7 @@ numbers_loaded w q was now version n threshold select delivery is_delivery is_th
     a_bit false = refl
 
 -- what is known of it: the record alone is written
-pub record IsNumbersLoad (x y : CoreState) (vm number : ℕ) (kept now : Kept) (version n threshold select : ℕ) (delivery : Bool) : Type 0 where
+pub record IsNumbersLoad (x y : CoreState) (vm number : ℕ) (kept now : KeptNumbers) (version n threshold select : ℕ) (delivery : Bool) : Type 0 where
   pub load : IsLoad x y vm number kept (parts.Image version n delivery threshold select)
   pub world : y.world ≡ x.world
   pub low : slot_of x.world.vms (vcpu vm number) < length x.vcpus
@@ -279,7 +279,7 @@ pub record IsNumbersLoad (x y : CoreState) (vm number : ℕ) (kept now : Kept) (
   pub is_delivery : now.delivery ≡ bit_number delivery
   pub is_threshold : now.threshold ≡ threshold
 
-module _ (x y : CoreState) (vm number : ℕ) (kept now : Kept) (version n threshold select : ℕ) (delivery : Bool) (c : IsNumbersLoad x y vm number kept now version n threshold select delivery) where
+module _ (x y : CoreState) (vm number : ℕ) (kept now : KeptNumbers) (version n threshold select : ℕ) (delivery : Bool) (c : IsNumbersLoad x y vm number kept now version n threshold select delivery) where
   abbrev image_g : Vcpu
   image_g = vcpu vm number
 
@@ -337,13 +337,13 @@ module _ (x y : CoreState) (vm number : ℕ) (kept now : Kept) (version n thresh
 -- a word of its sets
 
 -- what is known of it: m is the world between the load and the notice
-pub record IsWordLoad (x y : CoreState) (m : World) (vm number : ℕ) (kept : Kept) (w pending enable : ℕ) : Type 0 where
+pub record IsWordLoad (x y : CoreState) (m : World) (vm number : ℕ) (kept : KeptNumbers) (w pending enable : ℕ) : Type 0 where
   pub load : IsLoad x y vm number kept (parts.Word w pending enable)
   pub vcpus : y.vcpus ≡ x.vcpus
   pub done : DoneInSlot x.world m (slot_of x.world.vms (vcpu vm number)) 0 (sets_loaded w pending enable)
   pub memory : y.world.memory ≡ m.memory
 
-module _ (x y : CoreState) (m : World) (vm number : ℕ) (kept : Kept) (w pending enable : ℕ) (c : IsWordLoad x y m vm number kept w pending enable) where
+module _ (x y : CoreState) (m : World) (vm number : ℕ) (kept : KeptNumbers) (w pending enable : ℕ) (c : IsWordLoad x y m vm number kept w pending enable) where
   abbrev g : Vcpu
   g = vcpu vm number
 

@@ -21,7 +21,7 @@ use Rattle.aia_home.specs.Home.Home.{Entered}
 use Rattle.aia_fabric.specs.World.{World}
 use Rattle.aia_fabric.specs.Whole.{IsWhole}
 use Rattle.aia_fabric.specs.SlotAccess.{file_of_slot, DoneInSlot}
-use Rattle.aia_move.specs.declared.who.Kept.{Kept}
+use Rattle.aia_move.specs.declared.who.KeptNumbers.{KeptNumbers}
 use Rattle.aia_model.specs.declared.answer.Answer.TheVariants.{Wide, Refused}
 use Rattle.aia_model.specs.declared.refusal.Refusal.TheVariants.{Virtual}
 use Rattle.aia_model.specs.declared.line.Line.TheVariants.{GuestCsr}
@@ -51,7 +51,7 @@ use Rattle.aia_hyp.proofs.GuestAccesses.{access_by, there_in, other_rests, file_
 -- ---- a deed at the file of a virtual hart that runs from memory
 
 -- it was done at its slot, the numbers beside it and its select number, and nothing else changed
-pub record MemoryHasDone (x y : CoreState) (g : Vcpu) (kept now : Kept) (deed : FileDeed) : Type 0 where
+pub record MemoryHasDone (x y : CoreState) (g : Vcpu) (kept now : KeptNumbers) (deed : FileDeed) : Type 0 where
   pub threshold : ℕ
   pub slot_deed : InterruptFile → InterruptFile
   pub slot : DoneInSlot x.world y.world (slot_of x.world.vms g) threshold slot_deed
@@ -66,7 +66,7 @@ pub record MemoryHasDone (x y : CoreState) (g : Vcpu) (kept now : Kept) (deed : 
   pub file : SameFile (file_in_memory y.world (slot_of x.world.vms g) now) (file_after (record_of x g).select deed (file_in_memory x.world (slot_of x.world.vms g) kept))
 
 -- what is known of an access
-pub record IsMemoryAccess (x y : CoreState) (h : History) (vm number : ℕ) (csr : Csr) (op : Op) (kept now : Kept) : Type 0 where
+pub record IsMemoryAccess (x y : CoreState) (h : History) (vm number : ℕ) (csr : Csr) (op : Op) (kept now : KeptNumbers) : Type 0 where
   pub stands : CoreStands x h
   pub whole : IsWhole x.world
   pub there : has_vcpu h (vcpu vm number) ≡ true
@@ -74,7 +74,7 @@ pub record IsMemoryAccess (x y : CoreState) (h : History) (vm number : ℕ) (csr
   pub done : MemoryHasDone x y (vcpu vm number) kept now (Accesses csr op)
   pub majors : (other : Vcpu) → MajorsRest other (Accepted (GuestCsr vm number csr op))
 
-pub memory_changes : (x y : CoreState) (h : History) (vm number : ℕ) (csr : Csr) (op : Op) (kept now : Kept) → IsMemoryAccess x y h vm number csr op kept now → Changes x y h (Accepted (GuestCsr vm number csr op))
+pub memory_changes : (x y : CoreState) (h : History) (vm number : ℕ) (csr : Csr) (op : Op) (kept now : KeptNumbers) → IsMemoryAccess x y h vm number csr op kept now → Changes x y h (Accepted (GuestCsr vm number csr op))
 memory_changes x y h vm number csr op kept now c =
     let g = vcpu vm number in
     let event = Accepted (GuestCsr vm number csr op) in
@@ -110,7 +110,7 @@ memory_changes x y h vm number csr op kept now c =
 -- ---- what each access does
 
 -- its record alone is changed
-pub memory_record_done : (x y : CoreState) (g : Vcpu) (kept now : Kept) (deed : FileDeed) → y.world ≡ x.world → y.leases ≡ x.leases → y.selects ≡ x.selects → y.passes ≡ x.passes → slot_of x.world.vms g < length x.vcpus
+pub memory_record_done : (x y : CoreState) (g : Vcpu) (kept now : KeptNumbers) (deed : FileDeed) → y.world ≡ x.world → y.leases ≡ x.leases → y.selects ≡ x.selects → y.passes ≡ x.passes → slot_of x.world.vms g < length x.vcpus
     → (after : VcpuRecord) → y.vcpus ≡ set x.vcpus (slot_of x.world.vms g) after → after.stay ≡ stays.Entered now → after.select ≡ select_after deed (record_of x g).select → after.majors ≡ (record_of x g).majors
     → SameFile (file_in_memory x.world (slot_of x.world.vms g) now) (file_after (record_of x g).select deed (file_in_memory x.world (slot_of x.world.vms g) kept)) → MemoryHasDone x y g kept now deed
 memory_record_done x y g kept now deed world leases selects passes low after vcpus stay select majors file =
@@ -132,7 +132,7 @@ memory_record_done x y g kept now deed world leases selects passes low after vcp
     }
 
 -- its slot alone is changed
-pub memory_slot_done : (x y : CoreState) (g : Vcpu) (kept : Kept) (deed : FileDeed) (threshold : ℕ) (slot_deed : InterruptFile → InterruptFile) → DoneInSlot x.world y.world (slot_of x.world.vms g) threshold slot_deed → y.leases ≡ x.leases → y.vcpus ≡ x.vcpus → y.selects ≡ x.selects → y.passes ≡ x.passes
+pub memory_slot_done : (x y : CoreState) (g : Vcpu) (kept : KeptNumbers) (deed : FileDeed) (threshold : ℕ) (slot_deed : InterruptFile → InterruptFile) → DoneInSlot x.world y.world (slot_of x.world.vms g) threshold slot_deed → y.leases ≡ x.leases → y.vcpus ≡ x.vcpus → y.selects ≡ x.selects → y.passes ≡ x.passes
     → (record_of x g).stay ≡ stays.Entered kept → select_after deed (record_of x g).select ≡ (record_of x g).select
     → SameFile (file_in_memory y.world (slot_of x.world.vms g) kept) (file_after (record_of x g).select deed (file_in_memory x.world (slot_of x.world.vms g) kept)) → MemoryHasDone x y g kept kept deed
 memory_slot_done x y g kept deed threshold slot_deed slot leases vcpus selects passes at select file =
@@ -153,7 +153,7 @@ memory_slot_done x y g kept deed threshold slot_deed slot leases vcpus selects p
     }
 
 -- a register of the sets
-pub sets_accessed : (w u : World) (q : ℕ) (kept : Kept) (reg : FileReg) (op : Op) → is_number reg ≡ false → DoneInSlot w u q 0 (accessed reg op) → SameFile (file_in_memory u q kept) (accessed reg op (file_in_memory w q kept))
+pub sets_accessed : (w u : World) (q : ℕ) (kept : KeptNumbers) (reg : FileReg) (op : Op) → is_number reg ≡ false → DoneInSlot w u q 0 (accessed reg op) → SameFile (file_in_memory u q kept) (accessed reg op (file_in_memory w q kept))
 sets_accessed w u q kept (Pending k) op sets d = record { n = d.done.n; pending = d.done.pending; enabled = d.done.enabled; threshold = refl; delivery = refl }
 sets_accessed w u q kept (Enable k) op sets d = record { n = d.done.n; pending = d.done.pending; enabled = d.done.enabled; threshold = refl; delivery = refl }
 sets_accessed w u q kept Delivery op sets d = absurd (cc)
@@ -162,7 +162,7 @@ sets_accessed w u q kept Reserved op sets d = absurd (cc)
 sets_accessed w u q kept Odd op sets d = absurd (cc)
 sets_accessed w u q kept Outside op sets d = absurd (cc)
 
-pub sets_value : (w : World) (q : ℕ) (kept : Kept) (reg : FileReg) → is_number reg ≡ false → register_value (file_of_slot w q 0) reg ≡ register_value (file_in_memory w q kept) reg
+pub sets_value : (w : World) (q : ℕ) (kept : KeptNumbers) (reg : FileReg) → is_number reg ≡ false → register_value (file_of_slot w q 0) reg ≡ register_value (file_in_memory w q kept) reg
 sets_value w q kept (Pending k) sets = refl
 sets_value w q kept (Enable k) sets = refl
 sets_value w q kept Delivery sets = absurd (cc)
@@ -181,7 +181,7 @@ of_sets Odd usable sets = absurd (cc)
 of_sets Outside usable sets = absurd (cc)
 
 -- a register of the numbers
-pub number_accessed : (w : World) (q modulus : ℕ) (kept : Kept) (reg : FileReg) (op : Op) → is_number reg ≡ true → modulus ≡ w.n + 1 → SameFile (file_in_memory w q (kept_after modulus reg op kept)) (accessed reg op (file_in_memory w q kept))
+pub number_accessed : (w : World) (q modulus : ℕ) (kept : KeptNumbers) (reg : FileReg) (op : Op) → is_number reg ≡ true → modulus ≡ w.n + 1 → SameFile (file_in_memory w q (kept_after modulus reg op kept)) (accessed reg op (file_in_memory w q kept))
 number_accessed w q modulus kept Delivery op number all = record { n = refl; pending = λ i. refl; enabled = λ i. refl; threshold = refl; delivery = refl }
 number_accessed w q modulus kept Threshold op number all = record { n = refl; pending = λ i. refl; enabled = λ i. refl; threshold = ap (λ m. number_after (λ v. v % m) op kept.threshold) all; delivery = refl }
 number_accessed w q modulus kept Reserved op number all = record { n = refl; pending = λ i. refl; enabled = λ i. refl; threshold = refl; delivery = refl }
@@ -190,7 +190,7 @@ number_accessed w q modulus kept Outside op number all = record { n = refl; pend
 number_accessed w q modulus kept (Pending k) op number all = absurd (cc)
 number_accessed w q modulus kept (Enable k) op number all = absurd (cc)
 
-pub number_value : (w : World) (q : ℕ) (kept : Kept) (reg : FileReg) → is_number reg ≡ true → kept_value kept reg ≡ register_value (file_in_memory w q kept) reg
+pub number_value : (w : World) (q : ℕ) (kept : KeptNumbers) (reg : FileReg) → is_number reg ≡ true → kept_value kept reg ≡ register_value (file_in_memory w q kept) reg
 number_value w q kept Delivery number = refl
 number_value w q kept Threshold number = refl
 number_value w q kept Reserved number = refl
@@ -200,7 +200,7 @@ number_value w q kept (Pending k) number = absurd (cc)
 number_value w q kept (Enable k) number = absurd (cc)
 
 -- the identity on top
-pub top_accessed : (w u : World) (q : ℕ) (kept : Kept) (writes : Bool) → SameFile (file_of_slot u q kept.threshold) (cond writes (claimed (file_of_slot w q kept.threshold)) (file_of_slot w q kept.threshold))
+pub top_accessed : (w u : World) (q : ℕ) (kept : KeptNumbers) (writes : Bool) → SameFile (file_of_slot u q kept.threshold) (cond writes (claimed (file_of_slot w q kept.threshold)) (file_of_slot w q kept.threshold))
     → SameFile (file_in_memory u q kept) (cond writes (claimed (file_in_memory w q kept)) (file_in_memory w q kept))
 top_accessed w u q kept true d = record { n = d.n; pending = d.pending; enabled = d.enabled; threshold = d.threshold; delivery = refl }
 top_accessed w u q kept false d = record { n = d.n; pending = d.pending; enabled = d.enabled; threshold = d.threshold; delivery = refl }
@@ -213,10 +213,10 @@ file_csr csrs.Reg of_file = refl
 file_csr csrs.Topei of_file = refl
 file_csr csr of_file = absurd of_file
 
-served_there : (x : CoreState) (h : History) (g : Vcpu) (kept : Kept) (csr : Csr) → CoreStands x h → has_vcpu h g ≡ true → (record_of x g).stay ≡ stays.Entered kept → IsFileCsr csr → serves (home h g) csr ≡ true
+served_there : (x : CoreState) (h : History) (g : Vcpu) (kept : KeptNumbers) (csr : Csr) → CoreStands x h → has_vcpu h g ≡ true → (record_of x g).stay ≡ stays.Entered kept → IsFileCsr csr → serves (home h g) csr ≡ true
 served_there x h g kept csr stands there at of_file = ap (λ t. serves t csr) (sym (stands.vcpus g there).same_home ∙ ap home_in at) ∙ file_csr csr of_file
 
-pub memory_accessed : (x y : CoreState) (vm number : ℕ) (csr kind : Csr) (op : Op) (kept now : Kept) (access : CsrAccess) (value : ℕ) → IsWhole x.world → is_vcpu_in x.world.vms (vcpu vm number) ≡ true → (record_of x (vcpu vm number)).stay ≡ stays.Entered kept
+pub memory_accessed : (x y : CoreState) (vm number : ℕ) (csr kind : Csr) (op : Op) (kept now : KeptNumbers) (access : CsrAccess) (value : ℕ) → IsWhole x.world → is_vcpu_in x.world.vms (vcpu vm number) ≡ true → (record_of x (vcpu vm number)).stay ≡ stays.Entered kept
     → access ≡ access_by (record_of x (vcpu vm number)) csr op → raises_illegal access ≡ false → raises_virtual access ≡ false → csr ≡ kind
     → value ≡ csr_shown (record_of x (vcpu vm number)).select (file_in_memory x.world (slot_of x.world.vms (vcpu vm number)) kept) kind → MemoryHasDone x y (vcpu vm number) kept now (Accesses kind op) → IsFileCsr kind → CoreTakes x y (GuestCsr vm number csr op) (Wide value)
 memory_accessed x y vm number csr kind op kept now access value whole inside at table legal allowed named read done of_file =
@@ -232,7 +232,7 @@ memory_accessed x y vm number csr kind op kept now access value whole inside at 
       memory_changes x y h vm number csr op kept now (record { stands = stands; whole = whole; there = there; at = at; done = subst (λ (k : Csr). MemoryHasDone x y g kept now (Accesses k op)) (sym named) done; majors = λ other. file_access vm number csr op other listed }),
     ))
 
-pub memory_virtual : (x : CoreState) (vm number : ℕ) (csr : Csr) (op : Op) (kept : Kept) → is_vcpu_in x.world.vms (vcpu vm number) ≡ true → (record_of x (vcpu vm number)).stay ≡ stays.Entered kept → IsFileCsr csr
+pub memory_virtual : (x : CoreState) (vm number : ℕ) (csr : Csr) (op : Op) (kept : KeptNumbers) → is_vcpu_in x.world.vms (vcpu vm number) ≡ true → (record_of x (vcpu vm number)).stay ≡ stays.Entered kept → IsFileCsr csr
     → reaches.Virtual ≡ access_by (record_of x (vcpu vm number)) csr op → CoreTakes x x (GuestCsr vm number csr op) (Refused Virtual)
 memory_virtual x vm number csr op kept inside at listed table = refused x (GuestCsr vm number csr op) (Refused Virtual) (λ h stands.
     let there = there_in x h (vcpu vm number) stands inside in

@@ -25,7 +25,7 @@ use Rattle.aia_fabric.specs.Whole.{IsWhole}
 use Rattle.aia_fabric.specs.Changes.{places_of}
 use Rattle.aia_fabric.specs.SlotAccess.{DoneInSlot}
 use Rattle.aia_fabric.proofs.SlotViews.{other_slot_kept, done_entry_words, slot_done-places}
-use Rattle.aia_move.specs.declared.who.Kept.{Kept}
+use Rattle.aia_move.specs.declared.who.KeptNumbers.{KeptNumbers}
 use Rattle.aia_move.specs.Touches.{SameMachine}
 use Rattle.aia_model.specs.Event.{Event, History, greatest_identity_of, file_words}
 use Rattle.aia_model.specs.Vms.{vms_of, has_vcpu}
@@ -59,7 +59,7 @@ abbrev pub but_memory : CoreState → CoreState → CoreState
 but_memory x y = record y { world = with_memory y.world x.world }
 
 -- It was done at its slot, at its record and by a notice, and nothing else changed.
-pub record MemoryDeed (x y : CoreState) (h : History) (event : Event) (g : Vcpu) (there : Home) (kept now : Kept) (deed : FileDeed) : Type 0 where
+pub record MemoryDeed (x y : CoreState) (h : History) (event : Event) (g : Vcpu) (there : Home) (kept now : KeptNumbers) (deed : FileDeed) : Type 0 where
   pub stands : CoreStands x h
   pub whole : IsWhole x.world
   pub inside : has_vcpu h g ≡ true
@@ -87,7 +87,7 @@ pub record MemoryDeed (x y : CoreState) (h : History) (event : Event) (g : Vcpu)
   pub file : SameFile (file_in_memory y.world (slot_of x.world.vms g) now) (file_after (record_of x g).select deed (file_in_memory x.world (slot_of x.world.vms g) kept))
 
 -- what a slot has, where it shows no identity that files don't have
-slot_has : (w : World) (q words : ℕ) (kept : Kept) → w.n + 1 ≡ 64 * words → (mrif_in w.memory q).pending 0 ≡ false → (mrif_in w.memory q).enabled 0 ≡ false → ((i : ℕ) → words ≤ i / 64 → (mrif_in w.memory q).enabled i ≡ false) → HasSets words (mrif_in w.memory q) (file_in_memory w q kept)
+slot_has : (w : World) (q words : ℕ) (kept : KeptNumbers) → w.n + 1 ≡ 64 * words → (mrif_in w.memory q).pending 0 ≡ false → (mrif_in w.memory q).enabled 0 ≡ false → ((i : ℕ) → words ≤ i / 64 → (mrif_in w.memory q).enabled i ≡ false) → HasSets words (mrif_in w.memory q) (file_in_memory w q kept)
 slot_has w q words kept all pending enabled above = record {
   inside = λ i low. (shown_alone (mrif_in w.memory q).pending w.n words all pending i low, shown_alone (mrif_in w.memory q).enabled w.n words all enabled i low);
   above = above;
@@ -104,7 +104,7 @@ holds_none (Shifting from to at) p rests = absurd (cc)
 only_stores : (w u : World) → u ≡ record w { imsic = u.imsic; notices = u.notices; memory = u.memory } → u.imsic ≡ record w.imsic { files = u.imsic.files } → OnlyStores w u
 only_stores w u rest imsic = rest ∙ ap (λ (i : ImsicState). record w { imsic = i; notices = u.notices; memory = u.memory }) imsic
 
-module _ (x y : CoreState) (h : History) (event : Event) (g : Vcpu) (there : Home) (kept now : Kept) (deed : FileDeed) (c : MemoryDeed x y h event g there kept now deed) where
+module _ (x y : CoreState) (h : History) (event : Event) (g : Vcpu) (there : Home) (kept now : KeptNumbers) (deed : FileDeed) (c : MemoryDeed x y h event g there kept now deed) where
   abbrev q : ℕ
   q = slot_of x.world.vms g
 

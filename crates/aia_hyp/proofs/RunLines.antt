@@ -29,7 +29,7 @@ use Rattle.aia_fabric.specs.Whole.{IsWhole}
 use Rattle.aia_fabric.specs.Making.{entry_word_place}
 use Rattle.aia_fabric.specs.Changes.{spot_of, places_of}
 use Rattle.aia_fabric.proofs.FrameLemmas.{posts_rest}
-use Rattle.aia_move.specs.declared.who.Kept.{Kept}
+use Rattle.aia_move.specs.declared.who.KeptNumbers.{KeptNumbers}
 use Rattle.aia_move.specs.Plan.{moving_of}
 use Rattle.aia_move.specs.Touches.{OnlyAccesses}
 use Rattle.aia_move.proofs.MachineLemmas.{no_accesses}
@@ -331,7 +331,7 @@ no_vcpu_to_enter x vm number none = refused x (lines.Enter vm number) (Refused w
 
 -- ---- it exits
 
-pub record IsExit (x y : CoreState) (vm number : ℕ) (kept : Kept) : Type 0 where
+pub record IsExit (x y : CoreState) (vm number : ℕ) (kept : KeptNumbers) : Type 0 where
   pub whole : IsWhole x.world
   pub there : is_vcpu_in x.world.vms (vcpu vm number) ≡ true
   pub was : (record_of x (vcpu vm number)).stay ≡ stays.Entered kept
@@ -346,7 +346,7 @@ exit_by x h vm number stands inside =
     let at = sym (stands.vcpus (vcpu vm number) inside).same_home in
     exit_refusal h vm number stands.there ∙ (λ k. cond (not (inside k)) (Some (Refused words.Range)) (cond (not (is_entered (at k))) (Some (Refused words.Idle)) None))
 
-pub exits : (x y : CoreState) (vm number : ℕ) (kept : Kept) → IsExit x y vm number kept → CoreTakes x y (lines.Exit vm number) Okay
+pub exits : (x y : CoreState) (vm number : ℕ) (kept : KeptNumbers) → IsExit x y vm number kept → CoreTakes x y (lines.Exit vm number) Okay
 exits x y vm number kept c = taken x y (lines.Exit vm number) Okay refl (λ h stands.
     let g = vcpu vm number in
     let event = Accepted (lines.Exit vm number) in
@@ -394,7 +394,7 @@ not_entered x vm number there none = refused x (lines.Exit vm number) (Refused w
 
     no_run : (w : World) (g : Vcpu) (stay : Stay) → PlanStands w g stay → entered_at stay ≡ None → is_entered (home_in stay) ≡ false
     no_run w g (stays.Parked kept) p e = refl
-    no_run w g (stays.Entered kept) p e = let bad : ◌≡◌ {A = Option Kept} (Some kept) None = e in absurd (cc)
+    no_run w g (stays.Entered kept) p e = let bad : ◌≡◌ {A = Option KeptNumbers} (Some kept) None = e in absurd (cc)
     no_run w g (stays.Resident lease) p e = refl
     no_run w g (stays.Moving plan) p e = on_the_move (moving_of plan).home p.3
 
@@ -404,7 +404,7 @@ no_vcpu_to_exit x vm number none = refused x (lines.Exit vm number) (Refused wor
 
 -- ---- its notice
 
-pub live_top : (x : CoreState) (h : History) (g : Vcpu) (kept : Kept) (q : ℕ) → CoreStands x h → IsWhole x.world → is_vcpu_in x.world.vms g ≡ true → (record_of x g).stay ≡ stays.Entered kept → q ≡ slot_of x.world.vms g
+pub live_top : (x : CoreState) (h : History) (g : Vcpu) (kept : KeptNumbers) (q : ℕ) → CoreStands x h → IsWhole x.world → is_vcpu_in x.world.vms g ≡ true → (record_of x g).stay ≡ stays.Entered kept → q ≡ slot_of x.world.vms g
     → a_word_is_live h g ≡ is_some (top_of (file_of_slot x.world q 0))
 live_top x h g kept q stands whole there was slot =
     let inside = there_in x h g stands there in

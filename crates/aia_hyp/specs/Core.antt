@@ -12,7 +12,7 @@ use Rattle.aia_model.specs.Passes.{Pass}
 use Rattle.aia_model.specs.declared.refusal.Refusal.{Refusal}
 use Rattle.aia_model.specs.declared.refusal.Refusal.TheVariants as refusals
 use Rattle.aia_fabric.specs.World.{World}
-use Rattle.aia_move.specs.declared.who.Kept.{Kept}
+use Rattle.aia_move.specs.declared.who.KeptNumbers.{KeptNumbers}
 use Rattle.aia_move.specs.Plan.{moving_of}
 use Rattle.aia_hyp.specs.declared.vcpu.Stay.{Stay}
 use Rattle.aia_hyp.specs.declared.vcpu.Stay.TheVariants as stays
@@ -30,7 +30,7 @@ pub record CoreState : Type 0 where
 -- ---- a virtual hart
 
 -- What is kept of a virtual hart that was never moved, and its record.
-abbrev pub no_kept : Kept
+abbrev pub no_kept : KeptNumbers
 no_kept = record { delivery = 0; threshold = 0 }
 
 abbrev pub no_record : VcpuRecord
@@ -62,12 +62,12 @@ resident_at (stays.Resident lease) = Some lease
 resident_at stay = None
 
 -- The numbers that are kept of one that runs from memory.
-abbrev pub entered_at : Stay → Option Kept
+abbrev pub entered_at : Stay → Option KeptNumbers
 entered_at (stays.Entered kept) = Some kept
 entered_at stay = None
 
 -- The numbers that are kept of one that is parked, or the word that refuses another.
-abbrev pub parked_at : Stay → Result Kept Refusal
+abbrev pub parked_at : Stay → Result KeptNumbers Refusal
 parked_at (stays.Parked kept) = Ok kept
 parked_at (stays.Entered kept) = Err refusals.Entered
 parked_at (stays.Resident lease) = Err refusals.Home
@@ -86,7 +86,7 @@ has_plan stay = false
 
 -- What is carried or kept of its interrupt file: of one whose interrupts rest in memory the two
 -- numbers, of a resident one nothing, on a move what the move carries.
-abbrev pub hand_of : Kept → Hand
+abbrev pub hand_of : KeptNumbers → Hand
 hand_of kept =
     record { word = 0; delivery = kept.delivery; threshold = kept.threshold; seen = false }
 

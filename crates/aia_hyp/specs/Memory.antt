@@ -8,7 +8,7 @@ use Rattle.aia_regs.specs.FileRegisters.{number_after}
 use Rattle.aia_file.specs.InterruptFile.{InterruptFile, claimed}
 use Rattle.aia_fabric.specs.World.{World}
 use Rattle.aia_fabric.specs.SlotAccess.{file_of_slot, DoneInSlot}
-use Rattle.aia_move.specs.declared.who.Kept.{Kept}
+use Rattle.aia_move.specs.declared.who.KeptNumbers.{KeptNumbers}
 use Rattle.aia_model.specs.declared.answer.Answer.{Answer}
 use Rattle.aia_model.specs.declared.answer.Answer.TheVariants.{Okay, Refused}
 use Rattle.aia_model.specs.declared.refusal.Refusal.TheVariants as refusals
@@ -43,7 +43,7 @@ Enters old new slot given =
 
 -- The interrupt file of a virtual hart whose interrupts rest in memory: its slot, with the two
 -- numbers that are kept beside it.
-abbrev pub file_in_memory : World → ℕ → Kept → InterruptFile
+abbrev pub file_in_memory : World → ℕ → KeptNumbers → InterruptFile
 file_in_memory w q kept =
     record (file_of_slot w q kept.threshold) { delivery = kept.delivery }
 
@@ -55,12 +55,12 @@ is_number reg = true
 
 -- What such a register reads, and what an access makes of the numbers, given how many numbers
 -- eithreshold may have.
-abbrev pub kept_value : Kept → FileReg → ℕ
+abbrev pub kept_value : KeptNumbers → FileReg → ℕ
 kept_value kept Delivery = kept.delivery
 kept_value kept Threshold = kept.threshold
 kept_value kept reg = 0
 
-abbrev pub kept_after : ℕ → FileReg → Op → Kept → Kept
+abbrev pub kept_after : ℕ → FileReg → Op → KeptNumbers → KeptNumbers
 kept_after modulus Delivery op kept =
     record kept { delivery = number_after (λ v. v % 2) op kept.delivery }
 kept_after modulus Threshold op kept =

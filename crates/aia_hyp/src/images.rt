@@ -23,7 +23,7 @@ use crate::moves::{Found, find};
 use crate::vcpu::{Stay, VcpuRecord};
 use aia_image::{IMAGE_VERSION, is_live, is_loadable, load_word, save_word};
 use aia_model::{Part, Refusal};
-use aia_move::Kept;
+use aia_move::KeptNumbers;
 use aia_regs::Op;
 
 /// How many parts an image has beside the words of the sets.
@@ -50,7 +50,7 @@ impl Hyp {
 
     /// Tells the numbers that are kept of the virtual hart of a slot, where it is parked. `Err` is
     /// the word that refuses it where it isn't.
-    fn parked(&self, slot: u32) -> Result<Kept, Refusal>
+    fn parked(&self, slot: u32) -> Result<KeptNumbers, Refusal>
         requires { slot < length self.now.vcpus }
         ensures { result ≡ parked_at (slice_index_or self.now.vcpus slot no_record).stay }
     {
@@ -59,7 +59,7 @@ impl Hyp {
 
     /// Gives part `k` of the image of the virtual hart of a slot, given the numbers that are kept
     /// of it.
-    fn part(&self, slot: u32, kept: Kept, k: u32) -> Part
+    fn part(&self, slot: u32, kept: KeptNumbers, k: u32) -> Part
         requires slot { slot < VCPUS }
         requires there { slot < length self.now.vcpus }
         requires small { kept.threshold < 2 ^ 32 }
@@ -110,7 +110,7 @@ impl Hyp {
 
     /// Loads a part that may be loaded into a virtual hart that is parked, given the numbers that
     /// are kept of it.
-    fn load_into(&mut self, found: Found, kept: Kept, part: Part)
+    fn load_into(&mut self, found: Found, kept: KeptNumbers, part: Part)
         requires found { IsFound self.old.world found }
         requires whole { IsWhole self.old.world }
         requires parked { (record_of self.old (vcpu found.vm found.vcpu)).stay
@@ -125,7 +125,7 @@ impl Hyp {
                 select,
                 ..
             } => {
-                let kept = Kept {
+                let kept = KeptNumbers {
                     delivery: u64::from(delivery),
                     threshold: u64::from(threshold),
                 };
@@ -149,7 +149,7 @@ impl Hyp {
 
 /// Writes the numbers of the interrupt file of the virtual hart of a slot that is parked, and its
 /// select number.
-fn load_numbers_in(vcpus: &mut Vec<VcpuRecord>, slot: u32, kept: Kept, select: u64)
+fn load_numbers_in(vcpus: &mut Vec<VcpuRecord>, slot: u32, kept: KeptNumbers, select: u64)
     requires { slot < length vcpus.old.items }
     ensures after { vcpus.new.items ≡ slice_set vcpus.old.items slot
         (record (slice_index_or vcpus.old.items slot no_record) {

@@ -26,7 +26,7 @@ use crate::vcpu::{Stay, VcpuRecord};
 use aia_csr::CsrAccess;
 use aia_fabric::Fabric;
 use aia_model::Refusal;
-use aia_move::Kept;
+use aia_move::KeptNumbers;
 use aia_regs::{Csr, FileReg, Op};
 
 impl Hyp {
@@ -63,7 +63,7 @@ impl Hyp {
 
     /// Parks a virtual hart that ran from memory, and sends its notice where an identity is both
     /// pending and enabled.
-    fn park(&mut self, found: Found, kept: Kept)
+    fn park(&mut self, found: Found, kept: KeptNumbers)
         requires found { IsFound self.old.world found }
         requires entered { (record_of self.old (vcpu found.vm found.vcpu)).stay
             ≡ Stay.Entered kept }
@@ -99,7 +99,7 @@ impl Hyp {
 
     /// Tells the numbers that are kept of a virtual hart that is there, `None` where it doesn't run
     /// from memory.
-    fn entered(&self, vm: u32, number: u32) -> Option<Kept>
+    fn entered(&self, vm: u32, number: u32) -> Option<KeptNumbers>
         requires { is_vcpu_in self.now.world.vms (vcpu vm number) ≡ true }
         ensures { result ≡ entered_at (record_of self.now (vcpu vm number)).stay }
     {
@@ -113,7 +113,7 @@ impl Hyp {
         &mut self,
         vm: u32,
         number: u32,
-        kept: Kept,
+        kept: KeptNumbers,
         csr: Csr,
         op: Op,
     ) -> Result<u64, Refusal>
@@ -198,7 +198,7 @@ fn put_stay(vcpus: &mut Vec<VcpuRecord>, slot: u32, stay: Stay)
 fn access_kept_in(
     vcpus: &mut Vec<VcpuRecord>,
     slot: u32,
-    kept: Kept,
+    kept: KeptNumbers,
     reg: FileReg,
     op: Op,
     modulus: u64,

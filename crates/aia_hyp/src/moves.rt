@@ -21,7 +21,7 @@ use crate::passes::Passes;
 use crate::vcpu::{Stay, VcpuRecord};
 use aia_fabric::Fabric;
 use aia_model::Refusal;
-use aia_move::{Kept, Next, Outcome, Plan, Targets, Who};
+use aia_move::{KeptNumbers, Next, Outcome, Plan, Targets, Who};
 use aia_pool::Pool;
 
 /// A move that is wanted of a virtual hart.
@@ -213,7 +213,7 @@ fn who_of(found: Found, passes: &Passes) -> Who
 fn nowhere() -> Stay
     ensures { result ≡ Stay.Parked no_kept }
 {
-    Stay::Parked(Kept {
+    Stay::Parked(KeptNumbers {
         delivery: 0,
         threshold: 0,
     })

@@ -4,17 +4,17 @@ ghost use Rattle.aia_hyp.specs.Core.{no_record, resident_at, entered_at, parked_
 use aia_home::Place;
 use aia_major::VsMajor;
 use aia_model::Refusal;
-use aia_move::{Kept, Plan};
+use aia_move::{KeptNumbers, Plan};
 use aia_pool::FileLease;
 
 /// Where a virtual hart is: what the hypervisor keeps of it there.
 #[derive(Drop)]
 pub enum Stay {
     /// It is parked, its interrupts in its slot of memory.
-    Parked(Kept),
+    Parked(KeptNumbers),
     /// It runs from memory: its interrupts are in its slot, and its instructions on the CSRs of its
     /// interrupt file are answered from there.
-    Entered(Kept),
+    Entered(KeptNumbers),
     /// It is resident in the guest file of this lease.
     Resident(FileLease),
     /// It is being moved.
@@ -35,7 +35,7 @@ impl Stay {
 
     /// Tells the numbers that are kept of a virtual hart that runs from memory, `None` for any
     /// other.
-    pub fn entered(&self) -> Option<Kept>
+    pub fn entered(&self) -> Option<KeptNumbers>
         ensures { result ≡ entered_at self.now }
     {
         match self {
@@ -46,7 +46,7 @@ impl Stay {
 
     /// Tells the numbers that are kept of a virtual hart that is parked. `Err` is `Entered` where
     /// it runs from memory, `Home` where it is resident, `Busy` where it is being moved.
-    pub fn parked(&self) -> Result<Kept, Refusal>
+    pub fn parked(&self) -> Result<KeptNumbers, Refusal>
         ensures { result ≡ parked_at self.now }
     {
         match self {
@@ -90,7 +90,7 @@ impl VcpuRecord {
         ensures { result ≡ no_record }
     {
         VcpuRecord {
-            stay: Stay::Parked(Kept {
+            stay: Stay::Parked(KeptNumbers {
                 delivery: 0,
                 threshold: 0,
             }),

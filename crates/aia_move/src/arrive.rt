@@ -12,7 +12,7 @@ use crate::carrier::Carrier;
 use crate::kind::{ToFile, spot};
 use crate::moves::Move;
 use crate::phase::{Closing, First, Last};
-use crate::{Kept, Outcome, Turn, Who};
+use crate::{KeptNumbers, Outcome, Turn, Who};
 use aia_fabric::Fabric;
 use aia_imsic::Spot;
 use aia_pool::FileLease;
@@ -24,7 +24,7 @@ pub type Arrive<P> = Move<ToFile, P>;
 
 impl Arrive<First> {
     /// Begins: no step is done.
-    pub(crate) fn new(file: FileLease, who: Who, kept: Kept) -> Arrive<First>
+    pub(crate) fn new(file: FileLease, who: Who, kept: KeptNumbers) -> Arrive<First>
         ensures { result ≡ record {
           who = who;
           home = Arriving file at_first;

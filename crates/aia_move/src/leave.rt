@@ -13,7 +13,7 @@ use crate::carrier::Carrier;
 use crate::kind::{ToMemory, spot};
 use crate::moves::Move;
 use crate::phase::{Closing, First, Last, Look};
-use crate::{Kept, Outcome, Turn, Who};
+use crate::{KeptNumbers, Outcome, Turn, Who};
 use aia_fabric::Fabric;
 use aia_imsic::Spot;
 use aia_pool::FileLease;
@@ -155,7 +155,7 @@ impl<P> Leave<P> {
     {
         Outcome::Left(
             self.kind.file,
-            Kept {
+            KeptNumbers {
                 delivery: self.carrier.delivery,
                 threshold: self.carrier.threshold,
             },

@@ -24,4 +24,4 @@ pub use plan::{Next, Plan};
 pub use shift::Shift;
 pub use targets::Targets;
 pub use turn::{Closed, Outcome, Turn};
-pub use who::{Kept, Pass, Who};
+pub use who::{KeptNumbers, Pass, Who};

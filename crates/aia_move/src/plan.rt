@@ -11,7 +11,7 @@ ghost use Rattle.aia_move.specs.Turns.{LeavesEmpty};
 ghost use Rattle.aia_move.specs.Plan.{moving_of, is_in_aim, IsInPhase, MatchNext, StepsTo};
 
 use crate::phase::{Aim, Closing, Drain, Enable, First, Last, Look};
-use crate::{Arrive, Closed, Kept, Leave, Outcome, Shift, Targets, Turn, Who};
+use crate::{Arrive, Closed, KeptNumbers, Leave, Outcome, Shift, Targets, Turn, Who};
 use aia_fabric::Fabric;
 use aia_pool::FileLease;
 
@@ -100,7 +100,7 @@ impl Plan {
     /// Begins to move a virtual hart from memory to a guest file, with the numbers that were kept.
     /// Its steps can be made where both are there.
     #[tactic(auto, using(crate::proofs::WhoLemmas::arrive_fits))]
-    pub fn arrive(file: FileLease, who: Who, kept: Kept) -> Plan
+    pub fn arrive(file: FileLease, who: Who, kept: KeptNumbers) -> Plan
         ensures begins { moving_of result ≡ record {
           who = who;
           home = Arriving file at_first;

@@ -1,4 +1,4 @@
-use crate::Kept;
+use crate::KeptNumbers;
 use aia_pool::FileLease;
 
 /// What a step makes of a move in one of its phases.
@@ -23,7 +23,7 @@ pub enum Closed<A, D> {
 #[derive(Drop)]
 pub enum Outcome {
     /// The virtual hart is parked: the file that it left, and what the hypervisor keeps of it.
-    Left(FileLease, Kept),
+    Left(FileLease, KeptNumbers),
     /// It is resident in this file.
     Arrived(FileLease),
     /// It left the first file, and is resident in the second.

@@ -30,7 +30,7 @@ pub struct Who {
 /// What the hypervisor keeps of a parked virtual hart's interrupt file: its numbers, which its slot
 /// of memory has no room for.
 #[derive(Clone, Copy, Debug, PartialEq, Eq)]
-pub struct Kept {
+pub struct KeptNumbers {
     /// eidelivery, 0 or 1.
     pub delivery: u64,
     /// eithreshold, up to the greatest identity.

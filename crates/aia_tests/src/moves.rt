@@ -15,7 +15,7 @@ use aia_entry::{Entry, Route};
 use aia_fabric::{At, Fabric};
 use aia_home::Place;
 use aia_imsic::Spot;
-use aia_move::{Kept, Next, Plan, Targets, Who};
+use aia_move::{KeptNumbers, Next, Plan, Targets, Who};
 use aia_pool::{FileLease, Pool};
 use aia_regs::Op;
 use aia_regs::limits::{GUEST_FILES, HARTS};
@@ -374,7 +374,7 @@ fn goes_on(fabric: &mut Fabric, who: Who, to: FileLease) -> bool
     if to.hart() >= fabric.harts() || to.file() == 0 || to.file() > fabric.guests() {
         return false;
     }
-    let kept = Kept {
+    let kept = KeptNumbers {
         delivery: 1,
         threshold: 9,
     };

@@ -10,7 +10,7 @@ use crate::moves::{one_vm, put_in_force, steps, who_is};
 use crate::same;
 use aia_entry::{Entry, Route};
 use aia_fabric::{At, Fabric};
-use aia_move::{Kept, Next, Plan, Who};
+use aia_move::{KeptNumbers, Next, Plan, Who};
 use aia_pool::{FileLease, Pool};
 use aia_regs::Op;
 use aia_regs::limits::STORES_IN_FLIGHT;
@@ -137,7 +137,7 @@ fn fences(fabric: &mut Fabric, who: Who, to: FileLease) -> bool
     if to.hart() >= fabric.harts() || to.file() == 0 || to.file() > fabric.guests() {
         return false;
     }
-    let kept = Kept {
+    let kept = KeptNumbers {
         delivery: 1,
         threshold: 9,
     };

@@ -15,7 +15,7 @@ use Rattle.aia_model.specs.declared.line.Line.TheVariants.{LoadPart}
 use Rattle.aia_model.specs.declared.part.Part.{Part}
 use Rattle.aia_model.specs.declared.part.Part.TheVariants as parts
 use Rattle.aia_model.specs.Image.{is_loadable, majors_loaded}
-use Rattle.aia_move.specs.declared.who.Kept.{Kept}
+use Rattle.aia_move.specs.declared.who.KeptNumbers.{KeptNumbers}
 use Rattle.aia_hyp.specs.declared.moves.Found.{Found}
 use Rattle.aia_hyp.specs.declared.vcpu.Stay.TheVariants as stays
 use Rattle.std.specs.Prelude.{slice_index_or, slice_set}
@@ -30,7 +30,7 @@ use Rattle.aia_hyp.proofs.hyp.Hyp.load_into.Goals.{After-load_numbers_in, After-
 use Rattle.aia_hyp.proofs.hyp.Hyp.load_into.Goals as goal
 
 -- what is known before the load
-module _ (x z : CoreState) (found : Found) (kept : Kept) (part : Part) (view : x ≡ z) (is_found : IsFound z.world found) (is_whole : IsWhole z.world) (parked : (record_of z (vcpu found.vm found.vcpu)).stay ≡ stays.Parked kept) (loadable : is_loadable z.world.n part ≡ true) where
+module _ (x z : CoreState) (found : Found) (kept : KeptNumbers) (part : Part) (view : x ≡ z) (is_found : IsFound z.world found) (is_whole : IsWhole z.world) (parked : (record_of z (vcpu found.vm found.vcpu)).stay ≡ stays.Parked kept) (loadable : is_loadable z.world.n part ≡ true) where
   is_of : IsFound x.world found
   is_of = subst (λ (s : CoreState). IsFound s.world found) (sym view) is_found
 
@@ -52,7 +52,7 @@ numbers c =
     let found = c.args.found in
     let i = c.in-Image in
     let r = c.requires in
-    let now : Kept = record { delivery = c.from.result; threshold = c.from-in-Image.result } in
+    let now : KeptNumbers = record { delivery = c.from.result; threshold = c.from-in-Image.result } in
     let is = is_of x c.args.self.now found c.args.kept c.args.part c.self.view_is r.found r.whole r.parked r.loadable in
     let low = who_low x found c.self.invariant.0 is in
     subst (λ (p : Part). CoreTakes x y (LoadPart found.vm found.vcpu p) Okay) (sym i.is)

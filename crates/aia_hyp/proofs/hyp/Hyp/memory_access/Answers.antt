@@ -9,7 +9,7 @@ use Rattle.aia_file.specs.InterruptFile.{SameFile, register_value, top_of, acces
 use Rattle.aia_home.specs.Vms.{Vcpu, vcpu, is_vcpu_in, slot_of}
 use Rattle.aia_fabric.specs.SlotAccess.{file_of_slot, DoneInSlot}
 use Rattle.aia_fabric.specs.Whole.{IsWhole}
-use Rattle.aia_move.specs.declared.who.Kept.{Kept}
+use Rattle.aia_move.specs.declared.who.KeptNumbers.{KeptNumbers}
 use Rattle.aia_model.specs.declared.answer.Answer.TheVariants.{Wide}
 use Rattle.aia_model.specs.declared.line.Line.TheVariants.{GuestCsr}
 use Rattle.aia_model.specs.FileAfter.FileDeed.{Accesses}
@@ -24,12 +24,12 @@ use Rattle.aia_hyp.proofs.hyp.Hyp.memory_access.Goals.{After-access_select_in, A
 use Rattle.aia_hyp.proofs.hyp.Hyp.memory_access.Goals as goal
 
 -- what the call was asked, of the core before it
-record IsAsked (x : CoreState) (g : Vcpu) (kept : Kept) : Type 0 where
+record IsAsked (x : CoreState) (g : Vcpu) (kept : KeptNumbers) : Type 0 where
   there : is_vcpu_in x.world.vms g ≡ true
   whole : IsWhole x.world
   at : (record_of x g).stay ≡ stays.Entered kept
 
-asked : (x y : CoreState) (g : Vcpu) (kept : Kept) → x ≡ y → IsAsked y g kept → IsAsked x g kept
+asked : (x y : CoreState) (g : Vcpu) (kept : KeptNumbers) → x ≡ y → IsAsked y g kept → IsAsked x g kept
 asked x y g kept e a = subst (λ (z : CoreState). IsAsked z g kept) (sym e) a
 
 select_taken : (c : After-access_select_in) → CoreTakes (record { world = c.self.inside.fabric; leases = c.self.inside.pool; vcpus = c.self.inside.vcpus.items; selects = c.self.inside.selects; passes = c.self.inside.passes }) (record { world = c.self.inside.fabric; leases = c.self.inside.pool; vcpus = c.access_select_in.new.vcpus.items; selects = c.self.inside.selects; passes = c.self.inside.passes }) (GuestCsr c.args.vm c.args.number c.args.csr c.args.op) (Wide c.access_select_in.result)
