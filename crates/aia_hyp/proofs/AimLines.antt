@@ -29,7 +29,7 @@ use Rattle.aia_fabric.specs.World.{World, no_stage}
 use Rattle.aia_fabric.specs.Changes.{spot_of, places_of}
 use Rattle.aia_move.specs.declared.who.Who.{Who}
 use Rattle.aia_move.specs.declared.plan.Plan.{Plan}
-use Rattle.aia_move.specs.Move.{Moving, mover, width, Fits}
+use Rattle.aia_move.specs.Move.{Moving, mover, width, MoveFits}
 use Rattle.aia_move.specs.Plan.{moving_of, IsInPhase, GoesAiming}
 use Rattle.aia_move.proofs.MoveKept.{aims_kept}
 use Rattle.aia_move.proofs.MachineLemmas.{no_accesses}
@@ -139,7 +139,7 @@ pub record AimOf (x y : CoreState) (h : History) (g : Vcpu) (plan later : Plan) 
   pub was : (record_of x g).stay ≡ stays.Moving plan
   pub aiming : is_aiming (passes_for h g) (home h g) ≡ true
   pub goes : GoesAiming x.world (moving_of plan) y.world (moving_of later)
-  pub fits : Fits y.world (moving_of later)
+  pub fits : MoveFits y.world (moving_of later)
   pub phase : IsInPhase (width y.world) later
   pub leases : y.leases ≡ x.leases
   pub selects : y.selects ≡ x.selects

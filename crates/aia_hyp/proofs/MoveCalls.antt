@@ -25,7 +25,7 @@ use Rattle.aia_move.specs.declared.plan.Plan.{Plan}
 use Rattle.aia_move.specs.declared.plan.Next.{Next}
 use Rattle.aia_move.specs.declared.plan.Next.TheVariants.{Again, Finished}
 use Rattle.aia_move.specs.declared.turn.Outcome.{Outcome}
-use Rattle.aia_move.specs.Move.{Moving, mover, width, Fits, MakesNext, Goes}
+use Rattle.aia_move.specs.Move.{Moving, mover, width, MoveFits, MakesNext, Goes}
 use Rattle.aia_move.specs.Plan.{moving_of, IsInPhase, MatchNext, GoesAiming, StepsTo}
 use Rattle.aia_move.specs.Turns.{EndsAs, GivesBack}
 use Rattle.aia_move.proofs.LandingLemmas.{landed_whole}
@@ -150,7 +150,7 @@ aims_stay (Arriving to at) = refl
 aims_stay (Shifting from to at) = refl
 
 -- the plan that is kept can make its next step
-pub plan_known : (x : CoreState) (who : Found) (plan : Plan) → StandsForSome x → IsFound x.world who → stays.Moving plan ≡ (get_or x.vcpus who.slot no_record).stay → Fits x.world (moving_of plan) × IsInPhase (width x.world) plan
+pub plan_known : (x : CoreState) (who : Found) (plan : Plan) → StandsForSome x → IsFound x.world who → stays.Moving plan ≡ (get_or x.vcpus who.slot no_record).stay → MoveFits x.world (moving_of plan) × IsInPhase (width x.world) plan
 plan_known x who plan some is was =
     let g = vcpu who.vm who.vcpu in
     let inside : has_vcpu some.past g ≡ true = subst (λ (vs : List Vm). is_vcpu_in vs g ≡ true) some.stands.vms is.there in
@@ -180,7 +180,7 @@ pub record Made (x y : CoreState) (who : Found) (plan : Plan) (next : Next) : Ty
   pub whole_then : IsWhole y.world
   pub leases : y.leases ≡ with_back (back_then next) x.leases
   pub goes : MatchNext next (λ p. Goes x.world (moving_of plan) y.world (moving_of p)) (λ o. EndsAs x.world (moving_of plan) y.world o)
-  pub fits : MatchNext next (λ p. Fits y.world (moving_of p)) (λ o. Unit {0})
+  pub fits : MatchNext next (λ p. MoveFits y.world (moving_of p)) (λ o. Unit {0})
   pub phase : MatchNext next (λ p. IsInPhase (width y.world) p) (λ o. Unit {0})
 
 module _ (x y : CoreState) (who : Found) (plan : Plan) where
@@ -365,7 +365,7 @@ pub record Aims (x y : CoreState) (who : Found) (plan later : Plan) : Type 0 whe
   pub aiming : aims (moving_of plan) ≡ true
   pub leases : y.leases ≡ x.leases
   pub goes : GoesAiming x.world (moving_of plan) y.world (moving_of later)
-  pub fits : Fits y.world (moving_of later)
+  pub fits : MoveFits y.world (moving_of later)
   pub phase : IsInPhase (width y.world) later
 
 module _ (x y : CoreState) (who : Found) (plan later : Plan) (c : Aims x y who plan later) where
@@ -450,7 +450,7 @@ pub record StepCalls (x y : CoreState) (who : Found) (plan : Plan) (next : Next)
   pub one : 1 ≤ width x.world
   pub leases : y.leases ≡ with_back (back_then next) x.leases
   pub goes : StepsTo (next_aim (moving_of plan)) x.world (moving_of plan) y.world next
-  pub fits : MatchNext next (λ p. Fits y.world (moving_of p)) (λ o. Unit {0})
+  pub fits : MatchNext next (λ p. MoveFits y.world (moving_of p)) (λ o. Unit {0})
   pub phase : MatchNext next (λ p. IsInPhase (width y.world) p) (λ o. Unit {0})
 
 module _ (x y : CoreState) (who : Found) (plan : Plan) where

@@ -41,7 +41,7 @@ use Rattle.aia_fabric.proofs.StoreViews.{file_store-places, slot_store-places}
 use Rattle.aia_fabric.proofs.ViewLemmas.{posts-places, slot_low}
 use Rattle.aia_fabric.proofs.WholeLemmas.{notice_hart_there}
 use Rattle.aia_move.specs.declared.plan.Plan.{Plan}
-use Rattle.aia_move.specs.Move.{Moving, mover, width, Fits}
+use Rattle.aia_move.specs.Move.{Moving, mover, width, MoveFits}
 use Rattle.aia_move.specs.Plan.{moving_of}
 use Rattle.aia_move.specs.Touches.{SameMachine}
 use Rattle.aia_move.specs.Knows.{Knows}
@@ -80,7 +80,7 @@ abbrev Lands : World → World → Vcpu → Option Place → ℕ → ℕ → Typ
 Lands w u g (Some p) offset value = StoresIn w u (spot_of p) offset value
 Lands w u g None offset value = StoresInSlot w u (Some (slot_of w.vms g)) (SupervisorFile (notice_hart w.vms g)) (notice_identity w.vms g) offset value
 
-held_there : (w : World) (m : Moving) → Fits w m → (p : Place) → holds p m.home ≡ true → IsThere w.imsic (spot_of p)
+held_there : (w : World) (m : Moving) → MoveFits w m → (p : Place) → holds p m.home ≡ true → IsThere w.imsic (spot_of p)
 held_there w m fits p held = by_home m.home fits.own fits.next held
   where
     at : (q : Place) → is_place p q ≡ true → IsThere w.imsic (spot_of q) → IsThere w.imsic (spot_of p)

@@ -27,7 +27,7 @@ use Rattle.aia_fabric.specs.Whole.{IsWhole}
 use Rattle.aia_fabric.specs.Changes.{spot_of, file_in, places_of, with_word, with_state}
 use Rattle.aia_fabric.proofs.WholeLemmas.{notice_hart_there}
 use Rattle.aia_move.specs.declared.who.Who.{Who}
-use Rattle.aia_move.specs.Move.{Moving, mover, width, PostsIf, Makes, hand_after, Fits, MakesNext}
+use Rattle.aia_move.specs.Move.{Moving, mover, width, PostsIf, Makes, hand_after, MoveFits, MakesNext}
 use Rattle.aia_fabric.proofs.ViewLemmas.{IsNoFile, own-replaced, next-replaced, own-put, next-put, word_taken, word_joined, word_replaced, slot_pending-written, slot_enabled-written, slot_pending-joined, nothing_replaced, place_shows, slot_low, has_slot, in_slot-places, word0-places, word1-places, fence-places, map-places, gfence-places, posts-places}
 use Rattle.aia_regs.specs.declared.limits.TheConstants.{IDENTITIES, WORDS_OF_SLOTS, FILE_WORDS}
 
@@ -147,7 +147,7 @@ carried_word k x members hand now shows c = (λ i e. ap (λ (h : Hand). has_bit 
 
 -- ---- the accesses of every move
 
-module _ (w u : World) (who : Who) (there : Home) (hand now : Hand) (whole : IsWhole w) (fits : Fits w (record { who = who; home = there; hand = hand })) where
+module _ (w u : World) (who : Who) (there : Home) (hand now : Hand) (whole : IsWhole w) (fits : MoveFits w (record { who = who; home = there; hand = hand })) where
   abbrev it : Vcpu
   it = vcpu who.vm who.vcpu
 
@@ -196,7 +196,7 @@ module _ (w u : World) (who : Who) (there : Home) (hand now : Hand) (whole : IsW
 
 -- ---- each move
 
-leave_made : (access : Access) (w u : World) (who : Who) (from : Place) (at : Progress) (hand now : Hand) → IsWhole w → Fits w (record { who = who; home = (Leaving from at); hand = hand }) → IsNext (width w) (Leaving from at) access
+leave_made : (access : Access) (w u : World) (who : Who) (from : Place) (at : Progress) (hand now : Hand) → IsWhole w → MoveFits w (record { who = who; home = (Leaving from at); hand = hand }) → IsNext (width w) (Leaving from at) access
     → Makes access (record { who = who; home = (Leaving from at); hand = hand }) w u → now ≡ hand_after access (record { who = who; home = (Leaving from at); hand = hand }) w
     → StepMade who.slot who.notice access (Leaving from at) (places_of w (vcpu who.vm who.vcpu) (Leaving from at)) hand (places_of u (vcpu who.vm who.vcpu) (Leaving from at)) now
 leave_made WriteNotice w u who from at hand now whole fits next makes c = write_notice-made w u who (Leaving from at) hand now whole fits makes c
@@ -215,7 +215,7 @@ leave_made Post w u who from at hand now whole fits next makes c = post-made w u
 leave_made PutDelivery w u who from at hand now whole fits next makes c = let no : false ≡ true = next.has in absurd (cc)
 leave_made PutThreshold w u who from at hand now whole fits next makes c = let no : false ≡ true = next.has in absurd (cc)
 
-arrive_made : (access : Access) (w u : World) (who : Who) (to : Place) (at : Progress) (hand now : Hand) → IsWhole w → Fits w (record { who = who; home = (Arriving to at); hand = hand }) → IsNext (width w) (Arriving to at) access
+arrive_made : (access : Access) (w u : World) (who : Who) (to : Place) (at : Progress) (hand now : Hand) → IsWhole w → MoveFits w (record { who = who; home = (Arriving to at); hand = hand }) → IsNext (width w) (Arriving to at) access
     → Makes access (record { who = who; home = (Arriving to at); hand = hand }) w u → now ≡ hand_after access (record { who = who; home = (Arriving to at); hand = hand }) w
     → StepMade who.slot who.notice access (Arriving to at) (places_of w (vcpu who.vm who.vcpu) (Arriving to at)) hand (places_of u (vcpu who.vm who.vcpu) (Arriving to at)) now
 arrive_made WriteEntry w u who to at hand now whole fits next makes c = write_entry-made w u who (Arriving to at) hand now whole fits makes c
@@ -234,7 +234,7 @@ arrive_made WriteNotice w u who to at hand now whole fits next makes c = let no 
 arrive_made (Look k) w u who to at hand now whole fits next makes c = let no : false ≡ true = next.has in absurd (cc)
 arrive_made Post w u who to at hand now whole fits next makes c = let no : false ≡ true = next.has in absurd (cc)
 
-shift_made : (access : Access) (w u : World) (who : Who) (from to : Place) (at : Progress) (hand now : Hand) → IsWhole w → Fits w (record { who = who; home = (Shifting from to at); hand = hand }) → is_place from to ≡ false → IsNext (width w) (Shifting from to at) access
+shift_made : (access : Access) (w u : World) (who : Who) (from to : Place) (at : Progress) (hand now : Hand) → IsWhole w → MoveFits w (record { who = who; home = (Shifting from to at); hand = hand }) → is_place from to ≡ false → IsNext (width w) (Shifting from to at) access
     → Makes access (record { who = who; home = (Shifting from to at); hand = hand }) w u → now ≡ hand_after access (record { who = who; home = (Shifting from to at); hand = hand }) w
     → StepMade who.slot who.notice access (Shifting from to at) (places_of w (vcpu who.vm who.vcpu) (Shifting from to at)) hand (places_of u (vcpu who.vm who.vcpu) (Shifting from to at)) now
 shift_made WriteEntry w u who from to at hand now whole fits apart next makes c = write_entry-made w u who (Shifting from to at) hand now whole fits makes c
@@ -253,7 +253,7 @@ shift_made WriteNotice w u who from to at hand now whole fits apart next makes c
 shift_made (Look k) w u who from to at hand now whole fits apart next makes c = let no : false ≡ true = next.has in absurd (cc)
 shift_made Post w u who from to at hand now whole fits apart next makes c = let no : false ≡ true = next.has in absurd (cc)
 
-made_by : (access : Access) (w u : World) (who : Who) (there : Home) (hand now : Hand) → IsWhole w → Fits w (record { who = who; home = there; hand = hand }) → AreApart there → IsNext (width w) there access
+made_by : (access : Access) (w u : World) (who : Who) (there : Home) (hand now : Hand) → IsWhole w → MoveFits w (record { who = who; home = there; hand = hand }) → AreApart there → IsNext (width w) there access
     → Makes access (record { who = who; home = there; hand = hand }) w u → now ≡ hand_after access (record { who = who; home = there; hand = hand }) w
     → StepMade who.slot who.notice access there (places_of w (vcpu who.vm who.vcpu) there) hand (places_of u (vcpu who.vm who.vcpu) there) now
 made_by access w u who Parked hand now whole fits apart next makes c = let no : false ≡ true = next.has in absurd (cc)
@@ -264,6 +264,6 @@ made_by access w u who (Arriving to at) hand now whole fits apart next makes c =
 made_by access w u who (Shifting from to at) hand now whole fits apart next makes c = shift_made access w u who from to at hand now whole fits apart next makes c
 
 -- the step makes its access of the places of the virtual hart that is moved
-pub made_view : (w u : World) (m : Moving) (hand : Hand) → IsWhole w → Fits w m → AreApart m.home → (step : MakesNext w m u hand)
+pub made_view : (w u : World) (m : Moving) (hand : Hand) → IsWhole w → MoveFits w m → AreApart m.home → (step : MakesNext w m u hand)
     → StepMade m.who.slot m.who.notice step.access m.home (places_of w (mover m) m.home) m.hand (places_of u (mover m) m.home) hand
 made_view w u m hand whole fits apart step = made_by step.access w u m.who m.home m.hand hand whole fits apart step.is_next step.makes step.carries

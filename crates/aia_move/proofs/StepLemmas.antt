@@ -22,7 +22,7 @@ use Rattle.aia_fabric.specs.declared.at.At.{At}
 use Rattle.aia_fabric.specs.declared.at.At.TheVariants.{File, Slot}
 use Rattle.aia_fabric.specs.World.{World}
 use Rattle.aia_fabric.specs.Changes.{PutsRegister, spot_of, with_pending, with_enable}
-use Rattle.aia_move.specs.Move.{Moving, width, old_at, new_at, PostsIf, Makes, hand_after, Fits, Ends}
+use Rattle.aia_move.specs.Move.{Moving, width, old_at, new_at, PostsIf, Makes, hand_after, MoveFits, Ends}
 use Rattle.aia_move.specs.Carrier.{CarrierState, carrier_of, progress_of, moving, one_done, Does, closing_access, pending_access, enables_access}
 use Rattle.aia_move.specs.Turns.{IsIn, IsMove, GoesOn}
 use Rattle.aia_move.proofs.PhaseSteps.{middle}
@@ -101,7 +101,7 @@ record TakesNoZero (w : World) (m t : Moving) : Type 0 where
 file_stays : (w u : World) (p : Place) → Keeps w u → IsThere w.imsic (spot_of p) → IsThere u.imsic (spot_of p)
 file_stays w u p kept is = (omega (arith, is.0, kept.harts), is.1, omega (arith, is.2, kept.guests))
 
-one_step : (w u : World) (m t : Moving) (access : Access) → Fits w m → IsNext (width w) m.home access → Makes access m w u
+one_step : (w u : World) (m t : Moving) (access : Access) → MoveFits w m → IsNext (width w) m.home access → Makes access m w u
     → t ≡ record m { home = one_more m.home; hand = hand_after access m w } → is_at_last (width w) m.home ≡ false → TakesNoZero w m t → GoesOn w m u t
 one_step w u m t access fits next made is more zero = record {
   goes = record {
@@ -146,10 +146,10 @@ one_step w u m t access fits next made is more zero = record {
 
 -- ---- a step of a state m, which is seen as s
 
-seen_so : (w u : World) (m s t : Moving) (access : Access) → m ≡ s → Fits w s → IsNext (width w) m.home access → Makes access m w u
+seen_so : (w u : World) (m s t : Moving) (access : Access) → m ≡ s → MoveFits w s → IsNext (width w) m.home access → Makes access m w u
     → t ≡ record m { home = one_more m.home; hand = hand_after access m w } → is_at_last (width w) m.home ≡ false → TakesNoZero w m t → GoesOn w s u t
 seen_so w u m s t access seen fits next made is more zero =
-    subst (λ x. GoesOn w x u t) seen (one_step w u m t access (subst (λ x. Fits w x) (sym seen) fits) next made is more zero)
+    subst (λ x. GoesOn w x u t) seen (one_step w u m t access (subst (λ x. MoveFits w x) (sym seen) fits) next made is more zero)
 
 -- not the last one
 not_last : (words : ℕ) (there : Home) → steps_done there < enables_step words there words → is_at_last words there ≡ false
@@ -166,12 +166,12 @@ loaded : (m : Moving) (there : Progress → Home) (now : CarrierState) (hand : H
 loaded m there now hand next is = ap (λ (l : CarrierState). moving there l) is ∙ ap (λ (h : Home). record m { home = h; hand = hand }) next
 
 -- before any word is carried, and after all are
-pub step_before : (w u : World) (m s : Moving) (there : Progress → Home) (now : CarrierState) (access : Access) → m ≡ s → Fits w s → there (one_further (record { steps = steps_done m.home; aims = aims_done m.home })) ≡ one_more m.home
+pub step_before : (w u : World) (m s : Moving) (there : Progress → Home) (now : CarrierState) (access : Access) → m ≡ s → MoveFits w s → there (one_further (record { steps = steps_done m.home; aims = aims_done m.home })) ≡ one_more m.home
     → IsNext (width w) m.home access → Does access m w u now → steps_done m.home < first_take m.home → GoesOn w s u (moving there now)
 step_before w u m s there now access seen fits more next does low =
     seen_so w u m s (moving there now) access seen fits next does.makes (loaded m there now _ more does.carrier) (not_last (width w) m.home (omega (arith, low))) (record { pending = λ e. absurd (omega (arith, e, low)); enabled = λ e. absurd (omega (arith, e, low)) })
 
-pub step_after : (w u : World) (m s : Moving) (there : Progress → Home) (now : CarrierState) (access : Access) → m ≡ s → Fits w s → there (one_further (record { steps = steps_done m.home; aims = aims_done m.home })) ≡ one_more m.home
+pub step_after : (w u : World) (m s : Moving) (there : Progress → Home) (now : CarrierState) (access : Access) → m ≡ s → MoveFits w s → there (one_further (record { steps = steps_done m.home; aims = aims_done m.home })) ≡ one_more m.home
     → IsNext (width w) m.home access → Does access m w u now → is_at_last (width w) m.home ≡ false → 1 ≤ width w → enables_step (width w) m.home (width w) ≤ steps_done m.home → GoesOn w s u (moving there now)
 step_after w u m s there now access seen fits more next does unfinished some past =
     seen_so w u m s (moving there now) access seen fits next does.makes (loaded m there now _ more does.carrier) unfinished (record { pending = λ e. absurd (omega (arith, e, past, some)); enabled = λ e. absurd (omega (arith, e, past, some)) })
@@ -270,7 +270,7 @@ module _ (there : Progress → Home) (is : IsMove there) where
   goes_on : (l : CarrierState) → there (one_further (record { steps = steps_done (moving there l).home; aims = aims_done (moving there l).home })) ≡ one_more (moving there l).home
   goes_on l = (λ k. there (one_further (record { steps = is.steps (progress_of l) k; aims = is.aims (progress_of l) k }))) ∙ is.more (progress_of l)
 
-  pub move_closes : (w u : World) (l now : CarrierState) (s : Moving) (first : ℕ) → moving there l ≡ s → Fits w s → IsIn ClosingPhase (width w) s → first ≡ begins (width w) s.home ClosingPhase
+  pub move_closes : (w u : World) (l now : CarrierState) (s : Moving) (first : ℕ) → moving there l ≡ s → MoveFits w s → IsIn ClosingPhase (width w) s → first ≡ begins (width w) s.home ClosingPhase
       → Does (closing_access first l.steps) (moving there l) w u now → GoesOn w s u (moving there now)
   move_closes w u l now s first seen fits phase begin does =
       let moves = is.moves (progress_of l) in
@@ -282,7 +282,7 @@ module _ (there : Progress → Home) (is : IsMove there) where
       (closing_next (width w) first l.steps (moving there l).home moves (sym steps) from (omega (arith, steps, from, here)) (omega (arith, steps, from, here, mid.drain))) does
       (omega (arith, here, mid.drain, mid.take))
 
-  pub move_carries_pending : (w u : World) (l now : CarrierState) (s : Moving) (first : ℕ) → moving there l ≡ s → Fits w s → IsIn DrainPhase (width w) s → first ≡ begins (width w) s.home DrainPhase
+  pub move_carries_pending : (w u : World) (l now : CarrierState) (s : Moving) (first : ℕ) → moving there l ≡ s → MoveFits w s → IsIn DrainPhase (width w) s → first ≡ begins (width w) s.home DrainPhase
       → Does (pending_access first l.steps) (moving there l) w u now → (l.steps ≡ first → has_bit now.hand.word 0 ≡ false) → GoesOn w s u (moving there now)
   move_carries_pending w u l now s first seen fits phase begin does zero =
       let m = moving there l in
@@ -297,7 +297,7 @@ module _ (there : Progress → Home) (is : IsMove there) where
       (not_last (width w) m.home (omega (arith, here, mid.take, mid.drain, mid.enable)))
       (record { pending = λ e. zero (omega (arith, e, steps, from, mid.take, mid.drain)); enabled = λ e. absurd (omega (arith, e, here, mid.take, mid.drain, mid.enable)) })
 
-  pub move_carries_enables : (w u : World) (l now : CarrierState) (s : Moving) (first : ℕ) → moving there l ≡ s → Fits w s → IsIn EnablePhase (width w) s → 1 ≤ width w → first ≡ begins (width w) s.home EnablePhase
+  pub move_carries_enables : (w u : World) (l now : CarrierState) (s : Moving) (first : ℕ) → moving there l ≡ s → MoveFits w s → IsIn EnablePhase (width w) s → 1 ≤ width w → first ≡ begins (width w) s.home EnablePhase
       → Does (enables_access first l.steps) (moving there l) w u now → (l.steps ≡ first → has_bit now.hand.word 0 ≡ false) → GoesOn w s u (moving there now)
   move_carries_enables w u l now s first seen fits phase some begin does zero =
       let m = moving there l in

@@ -33,7 +33,7 @@ use Rattle.aia_fabric.specs.Changes.{spot_of, file_in, places_of, with_word, wit
 use Rattle.aia_fabric.proofs.FrameLemmas.{posts_rest}
 use Rattle.aia_fabric.proofs.WholeLemmas.{vcpu_entry, notice_hart_there}
 use Rattle.aia_move.specs.declared.who.Who.{Who}
-use Rattle.aia_move.specs.Move.{Moving, mover, width, PostsIf, Makes, Fits, MakesNext}
+use Rattle.aia_move.specs.Move.{Moving, mover, width, PostsIf, Makes, MoveFits, MakesNext}
 use Rattle.aia_move.specs.Touches.{Touches, sends}
 use Rattle.aia_fabric.proofs.ViewLemmas.{same_place, slot_low}
 use Rattle.aia_move.proofs.MadeView.{few_words}
@@ -195,7 +195,7 @@ module _ (w u : World) (m : Moving) where
 of_width : (w : World) (k : ℕ) → IsWhole w → nat_lt k (width w) ≡ true → k < FILE_WORDS
 of_width w k whole e = let low : k < width w = ltb-true _ _ e in let few = few_words w.n whole.greatest in omega (arith, low, few)
 
-leave_touches : (access : Access) (w u : World) (who : Who) (from : Place) (at : Progress) (hand : Hand) → IsWhole w → Fits w (record { who = who; home = (Leaving from at); hand = hand }) → IsNext (width w) (Leaving from at) access
+leave_touches : (access : Access) (w u : World) (who : Who) (from : Place) (at : Progress) (hand : Hand) → IsWhole w → MoveFits w (record { who = who; home = (Leaving from at); hand = hand }) → IsNext (width w) (Leaving from at) access
     → Makes access (record { who = who; home = (Leaving from at); hand = hand }) w u → Touches (sends access hand) w u (record { who = who; home = (Leaving from at); hand = hand })
 leave_touches WriteNotice w u who from at hand whole fits next makes = touches_entry w u (record { who = who; home = (Leaving from at); hand = hand }) whole fits.there 1 (second_word who.slot who.notice) (omega arith) makes
 leave_touches WriteEntry w u who from at hand whole fits next makes = touches_entry w u (record { who = who; home = (Leaving from at); hand = hand }) whole fits.there 0 (entry_word who.slot (new_file (Leaving from at))) (omega arith) makes
@@ -221,7 +221,7 @@ leave_touches Post w u who from at hand whole fits next makes =
 leave_touches PutDelivery w u who from at hand whole fits next makes = let no : false ≡ true = next.has in absurd (cc)
 leave_touches PutThreshold w u who from at hand whole fits next makes = let no : false ≡ true = next.has in absurd (cc)
 
-arrive_touches : (access : Access) (w u : World) (who : Who) (to : Place) (at : Progress) (hand : Hand) → IsWhole w → Fits w (record { who = who; home = (Arriving to at); hand = hand }) → IsNext (width w) (Arriving to at) access
+arrive_touches : (access : Access) (w u : World) (who : Who) (to : Place) (at : Progress) (hand : Hand) → IsWhole w → MoveFits w (record { who = who; home = (Arriving to at); hand = hand }) → IsNext (width w) (Arriving to at) access
     → Makes access (record { who = who; home = (Arriving to at); hand = hand }) w u → Touches (sends access hand) w u (record { who = who; home = (Arriving to at); hand = hand })
 arrive_touches WriteEntry w u who to at hand whole fits next makes = touches_entry w u (record { who = who; home = (Arriving to at); hand = hand }) whole fits.there 0 (entry_word who.slot (new_file (Arriving to at))) (omega arith) makes
 arrive_touches Fence w u who to at hand whole fits next makes = touches_fence w u (record { who = who; home = (Arriving to at); hand = hand }) whole fits.there makes
@@ -245,7 +245,7 @@ arrive_touches WriteNotice w u who to at hand whole fits next makes = let no : f
 arrive_touches (Look k) w u who to at hand whole fits next makes = let no : false ≡ true = next.has in absurd (cc)
 arrive_touches Post w u who to at hand whole fits next makes = let no : false ≡ true = next.has in absurd (cc)
 
-shift_touches : (access : Access) (w u : World) (who : Who) (from to : Place) (at : Progress) (hand : Hand) → IsWhole w → Fits w (record { who = who; home = (Shifting from to at); hand = hand }) → IsNext (width w) (Shifting from to at) access
+shift_touches : (access : Access) (w u : World) (who : Who) (from to : Place) (at : Progress) (hand : Hand) → IsWhole w → MoveFits w (record { who = who; home = (Shifting from to at); hand = hand }) → IsNext (width w) (Shifting from to at) access
     → Makes access (record { who = who; home = (Shifting from to at); hand = hand }) w u → Touches (sends access hand) w u (record { who = who; home = (Shifting from to at); hand = hand })
 shift_touches WriteEntry w u who from to at hand whole fits next makes = touches_entry w u (record { who = who; home = (Shifting from to at); hand = hand }) whole fits.there 0 (entry_word who.slot (new_file (Shifting from to at))) (omega arith) makes
 shift_touches Fence w u who from to at hand whole fits next makes = touches_fence w u (record { who = who; home = (Shifting from to at); hand = hand }) whole fits.there makes
@@ -263,7 +263,7 @@ shift_touches WriteNotice w u who from to at hand whole fits next makes = let no
 shift_touches (Look k) w u who from to at hand whole fits next makes = let no : false ≡ true = next.has in absurd (cc)
 shift_touches Post w u who from to at hand whole fits next makes = let no : false ≡ true = next.has in absurd (cc)
 
-touches_by : (access : Access) (w u : World) (who : Who) (there : Home) (hand : Hand) → IsWhole w → Fits w (record { who = who; home = there; hand = hand }) → IsNext (width w) there access
+touches_by : (access : Access) (w u : World) (who : Who) (there : Home) (hand : Hand) → IsWhole w → MoveFits w (record { who = who; home = there; hand = hand }) → IsNext (width w) there access
     → Makes access (record { who = who; home = there; hand = hand }) w u → Touches (sends access hand) w u (record { who = who; home = there; hand = hand })
 touches_by access w u who Parked hand whole fits next makes = let no : false ≡ true = next.has in absurd (cc)
 touches_by access w u who Entered hand whole fits next makes = let no : false ≡ true = next.has in absurd (cc)
@@ -273,7 +273,7 @@ touches_by access w u who (Arriving to at) hand whole fits next makes = arrive_t
 touches_by access w u who (Shifting from to at) hand whole fits next makes = shift_touches access w u who from to at hand whole fits next makes
 
 -- a step touches only its own
-pub step_touches : (w u : World) (m : Moving) (hand : Hand) → IsWhole w → Fits w m → (step : MakesNext w m u hand) → Touches (sends step.access m.hand) w u m
+pub step_touches : (w u : World) (m : Moving) (hand : Hand) → IsWhole w → MoveFits w m → (step : MakesNext w m u hand) → Touches (sends step.access m.hand) w u m
 step_touches w u m hand whole fits step = touches_by step.access w u m.who m.home m.hand whole fits step.is_next step.makes
 
 -- ---- so the places of others stay
@@ -282,7 +282,7 @@ file_stays : (sent : Bool) (w u : World) (m : Moving) (o : Option Place) → Tou
 file_stays sent w u m None t others = ap (λ n. empty_file n) (ap (λ (x : World). x.n) t.rest)
 file_stays sent w u m (Some p) t others = let other = others p refl in ap shown (t.guest_files p other.0 other.1)
 
-pub view_stays : (sent : Bool) (w u : World) (m : Moving) (g : Vcpu) (there : Home) → IsWhole w → Fits w m → Touches sent w u m → is_vcpu_in w.vms g ≡ true → g ≢ mover m
+pub view_stays : (sent : Bool) (w u : World) (m : Moving) (g : Vcpu) (there : Home) → IsWhole w → MoveFits w m → Touches sent w u m → is_vcpu_in w.vms g ≡ true → g ≢ mover m
     → ((p : Place) → holds p there ≡ true → IsThere w.imsic (spot_of p) × (holds p m.home ≡ false)) → places_of u g there ≡ places_of w g there
 view_stays sent w u m g there whole fits t stands other theirs =
     let own = file_stays sent w u m (own_file there) t (λ p e. theirs p (own_is_held there p e)) in

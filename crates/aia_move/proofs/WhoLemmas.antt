@@ -17,7 +17,7 @@ use Rattle.aia_fabric.specs.Stores.{Posts}
 use Rattle.aia_fabric.specs.Changes.{spot_of, IsPlaceThere}
 use Rattle.aia_fabric.proofs.WholeLemmas.{notice_hart_there}
 use Rattle.aia_move.specs.declared.who.Who.{Who}
-use Rattle.aia_move.specs.Move.{Moving, IsWho, Fits, PostsIf, old_by, new_by, old_at, new_at}
+use Rattle.aia_move.specs.Move.{Moving, IsWho, MoveFits, PostsIf, old_by, new_by, old_at, new_at}
 
 pub small_who : (w : World) (who : Who) → IsWhole w → IsWho w who → (who.slot < vcpus_in w.vms) × (who.slot < VCPUS) × (who.notice < HARTS)
 small_who w who whole is =
@@ -40,14 +40,14 @@ posts_if w u who same seen on e is posts =
     rw (on, is.notice) (subst (λ n. Posts w u (SupervisorFile (notice_hart w.vms (vcpu who.vm who.vcpu))) (n + 1)) slot (posts (vcpu who.vm who.vcpu) is.there (sym (slot ∙ is.slot))))
 
 -- the slot of a state m, which is seen as s
-pub slot_there : (w : World) (m s : Moving) → m ≡ s → IsWhole w → Fits w s → m.who.slot < VCPUS
+pub slot_there : (w : World) (m s : Moving) → m ≡ s → IsWhole w → MoveFits w s → m.who.slot < VCPUS
 slot_there w m s seen whole fits =
     let is : IsWho w s.who = record { there = fits.there; slot = fits.slot; notice = fits.notice } in
     omega (arith, ap (λ (x : Moving). x.who.slot) seen, (small_who w s.who whole is).1)
 
 -- ---- the places of a move are there
 
-pub old_there : (w : World) (m : Moving) → IsWhole w → Fits w m → is_moving m.home ≡ true → IsPlaceThere w (old_at m)
+pub old_there : (w : World) (m : Moving) → IsWhole w → MoveFits w m → is_moving m.home ≡ true → IsPlaceThere w (old_at m)
 old_there w m whole fits moves = by_home m.home fits.own moves
   where
     by_home : (there : Home) → ((p : Place) → own_file there ≡ Some p → IsThere w.imsic (spot_of p)) → is_moving there ≡ true → IsPlaceThere w (old_by there m.who.slot)
@@ -58,7 +58,7 @@ old_there w m whole fits moves = by_home m.home fits.own moves
     by_home (Arriving to at) own moves = slot_there w m m refl whole fits
     by_home (Shifting from to at) own moves = own from refl
 
-pub new_there : (w : World) (m : Moving) → IsWhole w → Fits w m → is_moving m.home ≡ true → IsPlaceThere w (new_at m)
+pub new_there : (w : World) (m : Moving) → IsWhole w → MoveFits w m → is_moving m.home ≡ true → IsPlaceThere w (new_at m)
 new_there w m whole fits moves = by_home m.home fits.own fits.next moves
   where
     by_home : (there : Home) → ((p : Place) → own_file there ≡ Some p → IsThere w.imsic (spot_of p)) → ((p : Place) → next_file there ≡ Some p → IsThere w.imsic (spot_of p)) → is_moving there ≡ true → IsPlaceThere w (new_by there m.who.slot)
@@ -74,7 +74,7 @@ new_there w m whole fits moves = by_home m.home fits.own fits.next moves
 one_file : (w : World) (file p : Place) → Some file ≡ Some p → IsThere w.imsic (spot_of file) → IsThere w.imsic (spot_of p)
 one_file w file p e there = subst (λ (o : Option Place). IfSome o (λ x. IsThere w.imsic (spot_of x))) e there
 
-pub leave_fits : (w : World) (m : Moving) (file : Place) → m.home ≡ Leaving file at_first → IsWho w m.who → IsThere w.imsic (spot_of file) → Fits w m
+pub leave_fits : (w : World) (m : Moving) (file : Place) → m.home ≡ Leaving file at_first → IsWho w m.who → IsThere w.imsic (spot_of file) → MoveFits w m
 leave_fits w m file home who there = record {
   there = who.there;
   slot = who.slot;
@@ -85,7 +85,7 @@ leave_fits w m file home who there = record {
   no_enabled_zero = λ e. absurd (omega (arith, eqb-true _ _ e, ap steps_done home));
 }
 
-pub arrive_fits : (w : World) (m : Moving) (file : Place) → m.home ≡ Arriving file at_first → IsWho w m.who → IsThere w.imsic (spot_of file) → Fits w m
+pub arrive_fits : (w : World) (m : Moving) (file : Place) → m.home ≡ Arriving file at_first → IsWho w m.who → IsThere w.imsic (spot_of file) → MoveFits w m
 arrive_fits w m file home who there = record {
   there = who.there;
   slot = who.slot;
@@ -96,7 +96,7 @@ arrive_fits w m file home who there = record {
   no_enabled_zero = λ e. absurd (omega (arith, eqb-true _ _ e, ap steps_done home));
 }
 
-pub shift_fits : (w : World) (m : Moving) (old new : Place) → m.home ≡ Shifting old new at_first → IsWho w m.who → IsThere w.imsic (spot_of old) → IsThere w.imsic (spot_of new) → Fits w m
+pub shift_fits : (w : World) (m : Moving) (old new : Place) → m.home ≡ Shifting old new at_first → IsWho w m.who → IsThere w.imsic (spot_of old) → IsThere w.imsic (spot_of new) → MoveFits w m
 shift_fits w m old new home who there too = record {
   there = who.there;
   slot = who.slot;

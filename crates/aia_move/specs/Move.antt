@@ -117,7 +117,7 @@ pub record IsWho (w : World) (who : Who) : Type 0 where
 
 -- Its places are there: the virtual hart with its slot and notice hart, and the files of its home;
 -- and no word 0 that it carries has identity 0.
-pub record Fits (w : World) (m : Moving) : Type 0 where
+pub record MoveFits (w : World) (m : Moving) : Type 0 where
   pub there : is_vcpu_in w.vms (mover m) ≡ true
   pub slot : m.who.slot ≡ slot_of w.vms (mover m)
   pub notice : m.who.notice ≡ notice_hart w.vms (mover m)

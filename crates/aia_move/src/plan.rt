@@ -5,7 +5,7 @@ ghost use Rattle.aia_home.specs.Home.Home.{Leaving, Arriving, Shifting};
 ghost use Rattle.aia_places.specs.Stores.{AreApart};
 ghost use Rattle.aia_fabric.specs.World.{World};
 ghost use Rattle.aia_fabric.specs.Changes.{spot_of};
-ghost use Rattle.aia_move.specs.Move.{IsWho, Fits, width};
+ghost use Rattle.aia_move.specs.Move.{IsWho, MoveFits, width};
 ghost use Rattle.aia_move.specs.Targets.{ArePasses, AimsAs, aim_if, next_aim};
 ghost use Rattle.aia_move.specs.Turns.{LeavesEmpty};
 ghost use Rattle.aia_move.specs.Plan.{moving_of, is_in_aim, IsInPhase, MatchNext, StepsTo};
@@ -92,7 +92,7 @@ impl Plan {
         } }
         ensures phase { (words : ℕ) → IsInPhase words result }
         ensures fits { (w : World) → IsWho w who → IsThere w.imsic (spot_of file)
-            → Fits w (moving_of result) }
+            → MoveFits w (moving_of result) }
     {
         Plan::LeaveFirst(Leave::new(file, who))
     }
@@ -113,7 +113,7 @@ impl Plan {
         } }
         ensures phase { (words : ℕ) → IsInPhase words result }
         ensures fits { (w : World) → IsWho w who → IsThere w.imsic (spot_of file)
-            → Fits w (moving_of result) }
+            → MoveFits w (moving_of result) }
     {
         Plan::ArriveFirst(Arrive::new(file, who, kept))
     }
@@ -129,7 +129,7 @@ impl Plan {
         } }
         ensures phase { (words : ℕ) → IsInPhase words result }
         ensures fits { (w : World) → IsWho w who → IsThere w.imsic (spot_of old)
-            → IsThere w.imsic (spot_of new) → Fits w (moving_of result) }
+            → IsThere w.imsic (spot_of new) → MoveFits w (moving_of result) }
     {
         Plan::ShiftFirst(Shift::new(old, new, who))
     }
@@ -140,14 +140,14 @@ impl Plan {
     /// the VM land, the oldest first. `Finished` exactly at the last access: the guest file that
     /// the move leaves, where it leaves one, is then empty.
     pub fn step<T: Targets>(self, fabric: &mut Fabric, targets: &mut T) -> Next
-        requires fits { Fits fabric.old (moving_of self) }
+        requires fits { MoveFits fabric.old (moving_of self) }
         requires phase { IsInPhase (width fabric.old) self }
         requires harts { fabric.old.imsic.harts ≡ (T.map targets.old).harts }
         requires passes { ArePasses (moving_of self).who }
         ensures goes { StepsTo (next_aim (moving_of self)) fabric.old (moving_of self) fabric.new
             result }
         ensures aims { AimsAs T.aimed (next_aim (moving_of self)) targets.old targets.new }
-        ensures fits { MatchNext result (λ p. Fits fabric.new (moving_of p)) (λ o. ⊤) }
+        ensures fits { MatchNext result (λ p. MoveFits fabric.new (moving_of p)) (λ o. ⊤) }
         ensures phase { MatchNext result (λ p. IsInPhase (width fabric.new) p) (λ o. ⊤) }
         ensures empty { AreApart (moving_of self).home → MatchNext result (λ p. ⊤)
             (λ o. LeavesEmpty fabric.old (moving_of self) fabric.new) }
@@ -158,7 +158,7 @@ impl Plan {
 
     /// Makes it, by the phase that the move is in.
     fn next<T: Targets>(self, fabric: &mut Fabric, targets: &mut T) -> Next
-        requires fits { Fits fabric.old (moving_of self) }
+        requires fits { MoveFits fabric.old (moving_of self) }
         requires phase { IsInPhase (width fabric.old) self }
         requires harts { fabric.old.imsic.harts ≡ (T.map targets.old).harts }
         requires passes { ArePasses (moving_of self).who }
@@ -166,7 +166,7 @@ impl Plan {
             (moving_of self) fabric.new result }
         ensures aims { AimsAs T.aimed (aim_if (is_in_aim self) (moving_of self)) targets.old
             targets.new }
-        ensures fits { MatchNext result (λ p. Fits fabric.new (moving_of p)) (λ o. ⊤) }
+        ensures fits { MatchNext result (λ p. MoveFits fabric.new (moving_of p)) (λ o. ⊤) }
         ensures phase { MatchNext result (λ p. IsInPhase (width fabric.new) p) (λ o. ⊤) }
     {
         match self {

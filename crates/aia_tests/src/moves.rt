@@ -3,7 +3,7 @@
 
 ghost use Rattle.std.specs.Prelude.{◌≡◌, ◌<◌, false, [], IfSome, refl, ⊤};
 ghost use Rattle.aia_word.specs.Sets.{has_bit};
-ghost use Rattle.aia_move.specs.Move.{IsWho, Fits, width};
+ghost use Rattle.aia_move.specs.Move.{IsWho, MoveFits, width};
 ghost use Rattle.aia_move.specs.Plan.{moving_of, IsInPhase, MatchNext};
 ghost use Rattle.std.proofs.Common.{ap};
 ghost use Rattle.std.proofs.lemmas.Bool.{false≢true};
@@ -202,10 +202,10 @@ impl Targets for NoTargets {
 
 /// Makes the next step of a plan of a virtual hart to which no source is passed.
 pub(crate) fn steps(plan: Plan, fabric: &mut Fabric) -> Next
-    requires fits { Fits fabric.old (moving_of plan) }
+    requires fits { MoveFits fabric.old (moving_of plan) }
     requires phase { IsInPhase (width fabric.old) plan }
     requires none_passed { (moving_of plan).who.passes.items ≡ [] }
-    ensures fits { MatchNext result (λ p. Fits fabric.new (moving_of p)) (λ o. ⊤) }
+    ensures fits { MatchNext result (λ p. MoveFits fabric.new (moving_of p)) (λ o. ⊤) }
     ensures phase { MatchNext result (λ p. IsInPhase (width fabric.new) p) (λ o. ⊤) }
     ensures none_passed { MatchNext result (λ p. (moving_of p).who.passes.items ≡ []) (λ o. ⊤) }
 {
