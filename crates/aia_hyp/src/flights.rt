@@ -3,12 +3,12 @@ ghost use Rattle.aia_model.specs.declared.line.Line.TheVariants.{Send, Land, Ref
 ghost use Rattle.aia_model.specs.declared.answer.Answer.TheVariants.{Okay};
 ghost use Rattle.aia_hyp.specs.Stands.{CoreTakes, answer_by};
 
-use crate::hyp::{Hyp, taken_by};
+use crate::hypervisor_core::{Core, taken_by};
 use aia_model::Refusal;
 use aia_regs::limits::STORES_IN_FLIGHT;
 
 /// Stores of devices that are in flight, and entries that are read again.
-impl Hyp {
+impl Core {
     /// Sends a 32-bit store of a device of a VM at an address: it is in flight from now on, to the
     /// place to which the entry in force leads it, and asks for nothing until it lands. `Err` is
     /// `Range` where the VM doesn't stand, `Full` where `STORES_IN_FLIGHT` stores of it are in

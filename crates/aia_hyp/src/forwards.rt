@@ -19,7 +19,7 @@ ghost use Rattle.aia_hyp.specs.Moves.{IsFound, UnlessRefused};
 ghost use Rattle.aia_hyp.specs.Passes.{AimsBy, TellsOf, pass_in};
 ghost use Rattle.aia_hyp.specs.Stands.{CoreStands, CorePasses, CoreHears, CoreGoes, MayPass, RefusesPass, MayGo, answer_by};
 
-use crate::hyp::{Hyp, is_host};
+use crate::hypervisor_core::{Core, is_host};
 use crate::moves::{Found, find};
 use crate::passes::Passed;
 use crate::vcpu::Stay;
@@ -31,7 +31,7 @@ use aia_regs::limits::{FIRST_PASS_IDENTITY, PASSES};
 use aia_regs::{FileReg, Op};
 
 /// Wired sources that are passed to virtual harts, and the MSIs that an APLIC makes.
-impl Hyp {
+impl Core {
     /// Passes a wired source that is there to a virtual hart, as an identity of its file, for good:
     /// from now on it asks there, wherever the virtual hart's interrupts are kept. The source is
     /// aimed at the virtual hart's guest file where it is resident, and else at its notice hart.

@@ -12,7 +12,7 @@ ghost use Rattle.aia_fabric.specs.Whole.{IsWhole};
 ghost use Rattle.aia_hyp.specs.Core.{no_record, record_of, resident_at, runs_in};
 ghost use Rattle.aia_hyp.specs.Stands.{CoreTakes, answer_by};
 
-use crate::hyp::{Hyp, claim_or_read, select_after};
+use crate::hypervisor_core::{Core, claim_or_read, select_after};
 use crate::majors::{access_sie_in, access_sip_in, stopi_in};
 use crate::vcpu::VcpuRecord;
 use aia_csr::{CsrAccess, decide};
@@ -21,7 +21,7 @@ use aia_imsic::Spot;
 use aia_model::Refusal;
 use aia_regs::{Csr, Level, Op};
 
-impl Hyp {
+impl Core {
     /// Does a CSR instruction of a virtual hart, and answers what the CSR read before it. `Err` is
     /// `Range` where the virtual hart isn't there, `Away` where it doesn't run, or runs from memory
     /// and the CSR is none of its interrupt file, and `Illegal` or `Virtual` where the access

@@ -18,7 +18,7 @@ ghost use Rattle.aia_hyp.specs.Images.{state_in};
 ghost use Rattle.aia_hyp.specs.Moves.{IsFound};
 ghost use Rattle.aia_hyp.specs.Stands.{CoreTakes, answer_by};
 
-use crate::hyp::{Hyp, select_after};
+use crate::hypervisor_core::{Core, select_after};
 use crate::moves::{Found, find};
 use crate::vcpu::{Stay, VcpuRecord};
 use aia_image::{IMAGE_VERSION, is_live, is_loadable, load_word, save_word};
@@ -29,7 +29,7 @@ use aia_regs::Op;
 /// How many parts an image has beside the words of the sets.
 const FIRST_WORD: u64 = 3;
 
-impl Hyp {
+impl Core {
     /// Gives part `k` of the image of a virtual hart that is parked: 0 is of its file's numbers and
     /// its select number, 1 of its majors, 2 of their registers, and from 3 on each is of a word of
     /// both sets. `Err` is `Range` where the virtual hart isn't there, or its image has no such

@@ -5,7 +5,7 @@
 mod flights;
 mod forwards;
 mod guest;
-mod hyp;
+mod hypervisor_core;
 mod images;
 pub mod laws;
 mod majors;
@@ -17,5 +17,5 @@ mod signals;
 mod vcpu;
 
 pub use aia_model::Refusal;
-pub use hyp::Hyp;
+pub use hypervisor_core::Core;
 pub use moves::Want;

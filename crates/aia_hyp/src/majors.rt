@@ -14,13 +14,13 @@ ghost use Rattle.aia_model.specs.declared.answer.Answer.TheVariants.{Okay};
 ghost use Rattle.aia_hyp.specs.Core.{no_record, MajorsDone};
 ghost use Rattle.aia_hyp.specs.Stands.{CoreTakes, answer_by};
 
-use crate::hyp::Hyp;
+use crate::hypervisor_core::Core;
 use crate::vcpu::VcpuRecord;
 use aia_file::File;
 use aia_model::Refusal;
 use aia_regs::Op;
 
-impl Hyp {
+impl Core {
     /// Gives the major interrupt `bit` of a virtual hart, 1, 5, 9 or 13, a level in `hvip`. It may
     /// be done at any time, also while the virtual hart is moved. `Err` is `Range` where the
     /// virtual hart isn't there, or `bit` is no such number; nothing is changed then.

@@ -20,7 +20,7 @@ ghost use Rattle.aia_hyp.specs.Moves.{IsFound};
 ghost use Rattle.aia_hyp.specs.Stands.{CoreTakes, answer_by};
 
 use crate::guest::access_select_in;
-use crate::hyp::Hyp;
+use crate::hypervisor_core::Core;
 use crate::moves::{Found, find};
 use crate::vcpu::{Stay, VcpuRecord};
 use aia_csr::CsrAccess;
@@ -29,7 +29,7 @@ use aia_model::Refusal;
 use aia_move::KeptNumbers;
 use aia_regs::{Csr, FileReg, Op};
 
-impl Hyp {
+impl Core {
     /// Has a virtual hart run from memory: from now on it runs, and its interrupts stay in its
     /// slot. `Err` is `Range` where the virtual hart isn't there, `Busy` where it is being moved,
     /// `Home` where it is resident, `Entered` where it runs from memory already; nothing is changed
@@ -77,7 +77,7 @@ impl Hyp {
     }
 
     /// Does the access of a virtual hart that is there and is not resident: one that runs from
-    /// memory has the CSRs of its interrupt file. `Err` as of [`Hyp::guest`].
+    /// memory has the CSRs of its interrupt file. `Err` as of [`Core::guest`].
     pub(crate) fn away_access(
         &mut self,
         vm: u32,
@@ -108,7 +108,7 @@ impl Hyp {
     }
 
     /// Does the access of a virtual hart that runs from memory to a CSR of its interrupt file: the
-    /// sets are its slot's, the numbers are kept beside it. `Err` as of [`Hyp::guest`].
+    /// sets are its slot's, the numbers are kept beside it. `Err` as of [`Core::guest`].
     fn memory_access(
         &mut self,
         vm: u32,
@@ -164,7 +164,7 @@ fn is_number(reg: FileReg) -> bool
     !matches!(reg, FileReg::Pending(_) | FileReg::Enable(_))
 }
 
-/// Has the virtual hart of a slot run from memory where it is parked; `Err` as of [`Hyp::enter`].
+/// Has the virtual hart of a slot run from memory where it is parked; `Err` as of [`Core::enter`].
 fn enter_in(vcpus: &mut Vec<VcpuRecord>, slot: u32) -> Result<(), Refusal>
     requires { slot < length vcpus.old.items }
     ensures enters { Enters vcpus.old.items vcpus.new.items slot (answer_by (λ _. Okay) result) }

@@ -16,7 +16,7 @@ ghost use Rattle.aia_hyp.specs.Passes.{own_passes, AimsBy};
 ghost use Rattle.aia_hyp.specs.Stands.{CoreStands, CoreTakes, answer_by};
 ghost use Rattle.aia_hyp.specs.Moves.{IsFound, UnlessRefused, WholeAims, move_line, begin_line, step_answer, MakesOne, WantBegins, LeaveBegins, ArriveBegins, ShiftBegins, MoveBegins, MoveGoes, stay_after, back_of, with_back, IsOutThere, stay_then, back_then, is_finished};
 
-use crate::hyp::Hyp;
+use crate::hypervisor_core::Core;
 use crate::passes::Passes;
 use crate::vcpu::{Stay, VcpuRecord};
 use aia_fabric::Fabric;
@@ -48,7 +48,7 @@ pub(crate) struct Found {
     pub notice: u32,
 }
 
-impl Hyp {
+impl Core {
     /// Moves a virtual hart, by all steps of its plan. `Err` is `Range` where the virtual hart or
     /// the hart isn't there, `Busy` where it is being moved, `Home` where it is to arrive and is
     /// resident, `Entered` where it is to arrive and runs from memory, `Parked` where it is to
@@ -79,7 +79,7 @@ impl Hyp {
     }
 
     /// Begins to move a virtual hart, and does no step of the move. `Err` is as of
-    /// [`Hyp::whole`]; nothing is changed then. Profile.
+    /// [`Core::whole`]; nothing is changed then. Profile.
     pub fn begin(&mut self, vm: u64, number: u64, want: Want) -> Result<(), Refusal>
         ensures { CoreTakes self.old self.new (begin_line vm number want)
             (answer_by (λ _. Okay) result) }
@@ -231,7 +231,7 @@ fn swap_stay(vcpus: &mut Vec<VcpuRecord>, slot: u32, stay: Stay) -> Stay
 }
 
 /// Begins the move that is wanted of a virtual hart, and tells where the virtual hart is then.
-/// `Err` as of [`Hyp::whole`]: it is where it was.
+/// `Err` as of [`Core::whole`]: it is where it was.
 fn begun(
     old: Stay,
     who: Who,

@@ -2,10 +2,10 @@ ghost use Rattle.aia_model.specs.declared.line.Line.TheVariants.{Ipi};
 ghost use Rattle.aia_model.specs.declared.answer.Answer.TheVariants.{Okay};
 ghost use Rattle.aia_hyp.specs.Stands.{CoreTakes, answer_by};
 
-use crate::hyp::Hyp;
+use crate::hypervisor_core::Core;
 use aia_model::Refusal;
 
-impl Hyp {
+impl Core {
     /// Takes a store of `value` by virtual hart `number` of a VM at the place, in its own address
     /// space, of the interrupt file of virtual hart `to` of its VM, which may be itself: it asks
     /// there for the identity that the value names, and where the interrupts of `to` are in memory,

@@ -24,7 +24,7 @@ ghost use Rattle.aia_regs.specs.declared.limits.TheConstants.{SOURCES};
 use crate::wires::Wires;
 use aia_aplic::Aplic;
 use aia_entry::decode;
-use aia_hyp::{Hyp, Want};
+use aia_hyp::{Core, Want};
 use aia_model::{Answer, Line, Part, Refusal};
 use aia_regs::address_map::{REGION, ROOT_DOMAIN};
 use aia_regs::limits::{GUEST_FILES, HARTS, IDENTITIES, SOURCES};
@@ -35,7 +35,7 @@ use std::alloc::{AllocError, Global};
 /// A machine: the hypervisor's core and the APLIC, to one of which each line is handed.
 #[derive(Drop)]
 pub struct Machine {
-    core: Hyp,
+    core: Core,
     wires: Wires,
 }
 
@@ -58,7 +58,7 @@ impl Machine {
         if !is_machine_size(harts, guests, n, sources) {
             return Ok(None);
         }
-        let core = Hyp::new(alloc, harts as u32, guests as u32, n as u32)?;
+        let core = Core::new(alloc, harts as u32, guests as u32, n as u32)?;
         let aplic = Aplic::new(alloc, harts as u32, sources as u32)?;
         let wires = Wires { aplic };
         Ok(Some(Machine { core, wires }))
