@@ -23,7 +23,7 @@ use Rattle.aia_model.specs.declared.line.Line.TheVariants as lines
 use Rattle.aia_model.specs.Event.{History, has_machine, has_hart, harts_of}
 use Rattle.aia_model.specs.Histories.{IsHistory}
 use Rattle.aia_model.specs.Vms.{has_vcpu}
-use Rattle.aia_model.specs.HomeOf.{home, place, free_file}
+use Rattle.aia_model.specs.HomeOf.{home, guest_place, free_file}
 use Rattle.aia_model.specs.Refusal.{refusal}
 use Rattle.aia_model.specs.Answer.{accepted_answer}
 use Rattle.aia_model.proofs.AnswerLemmas.{answered, arrive_refusal, leave_refusal, shift_refusal}
@@ -169,7 +169,7 @@ module _ (x y : CoreState) (who : Who) (given : Answer) (h : History) (stands : 
     None,
     arrive_refused (stays.Moving plan) (stays.Parked kept) hart true (Some file) p was (hart_low hart low) (same_least hart low ∙ found),
     b.0,
-    arrive_begun x y h g hart who plan (at_stay (record_of x g) (stays.Moving plan)) (place hart file) kept (planned plan p b.1.1) (free_there x h hart (place hart file) stands (in_world hart low) found refl) b.2 was b.1.0,
+    arrive_begun x y h g hart who plan (at_stay (record_of x g) (stays.Moving plan)) (guest_place hart file) kept (planned plan p b.1.1) (free_there x h hart (guest_place hart file) stands (in_world hart low) found refl) b.2 was b.1.0,
     λ word e. absurd (none-some word e),
   )
   arrive_in new hart kept (Some file) p was low found b = absurd b.1
@@ -203,7 +203,7 @@ module _ (x y : CoreState) (who : Who) (given : Answer) (h : History) (stands : 
     None,
     shift_refused (stays.Moving plan) (stays.Resident from) hart true (Some file) p was (hart_low hart low) (same_least hart low ∙ found),
     b.0,
-    shift_begun x y h g hart who plan (at_stay (record_of x g) (stays.Moving plan)) from (place hart file) (planned plan p b.1.1) (free_there x h hart (place hart file) stands (in_world hart low) found refl) b.2 was b.1.0,
+    shift_begun x y h g hart who plan (at_stay (record_of x g) (stays.Moving plan)) from (guest_place hart file) (planned plan p b.1.1) (free_there x h hart (guest_place hart file) stands (in_world hart low) found refl) b.2 was b.1.0,
     λ word e. absurd (none-some word e),
   )
   shift_in new hart from (Some file) p was low found b = absurd b.1

@@ -8,7 +8,7 @@ use Rattle.aia_home.specs.declared.place.Place.{Place}
 use Rattle.aia_pool.specs.Leases.{IsFileThere, is_out, least_free}
 use Rattle.aia_fabric.specs.Changes.{spot_of}
 use Rattle.aia_model.specs.Event.{History, guests_of}
-use Rattle.aia_model.specs.HomeOf.{home, place, free_file}
+use Rattle.aia_model.specs.HomeOf.{home, guest_place, free_file}
 use Rattle.aia_hyp.specs.Core.{CoreState}
 use Rattle.aia_hyp.specs.Stands.{is_held, CoreStands}
 
@@ -38,9 +38,9 @@ in_machine x h p stands there =
 -- the least that is not out is the least that nobody holds
 pub same_free : (x : CoreState) (h : History) (hart : ℕ) → CoreStands x h → hart < x.world.imsic.harts → least_free x.leases hart ≡ free_file h (home h) hart
 same_free x h hart stands low =
-    ap (least_of (λ file. not (is_out x.leases (place hart file))) 1) stands.lease_guests
-    ∙ least_alike (λ file. not (is_out x.leases (place hart file))) (λ file. not (is_held h (place hart file))) 1 (guests_of h)
-    (λ j some few. ap not (stands.leases (place hart j) (low, some, omega (arith, few, stands.guests))))
+    ap (least_of (λ file. not (is_out x.leases (guest_place hart file))) 1) stands.lease_guests
+    ∙ least_alike (λ file. not (is_out x.leases (guest_place hart file))) (λ file. not (is_held h (guest_place hart file))) 1 (guests_of h)
+    (λ j some few. ap not (stands.leases (guest_place hart j) (low, some, omega (arith, few, stands.guests))))
 
 -- the one that is taken is there, and nobody holds it
 pub record IsFreeAt (x : CoreState) (h : History) (hart : ℕ) (p : Place) : Type 0 where
@@ -51,10 +51,10 @@ pub record IsFreeAt (x : CoreState) (h : History) (hart : ℕ) (p : Place) : Typ
 
 pub free_there : (x : CoreState) (h : History) (hart : ℕ) (p : Place) → CoreStands x h → hart < x.world.imsic.harts → least_free x.leases hart ≡ Some p.file → p.hart ≡ hart → IsFreeAt x h hart p
 free_there x h hart p stands low found same =
-    let least = least_of_is (λ file. not (is_out x.leases (place hart file))) 1 x.leases.guests p.file found in
+    let least = least_of_is (λ file. not (is_out x.leases (guest_place hart file))) 1 x.leases.guests p.file found in
     let high = least.1 in
     let inside : IsThere x.world.imsic (spot_of p) = (omega (arith, low, same), least.0, omega (arith, high, stands.guests, stands.lease_guests)) in
-    let out : is_out x.leases p ≡ false = from_not (is_out x.leases p) (ap (λ t. not (is_out x.leases (place t p.file))) same ∙ least.2) in
+    let out : is_out x.leases p ≡ false = from_not (is_out x.leases p) (ap (λ t. not (is_out x.leases (guest_place t p.file))) same ∙ least.2) in
     record {
       found = sym (same_free x h hart stands low) ∙ found;
       hart_of = same;

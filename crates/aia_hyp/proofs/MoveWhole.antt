@@ -27,7 +27,7 @@ use Rattle.aia_home.specs.Aims.{aims_done, is_aiming, aimed, further, AreAimed}
 use Rattle.aia_home.specs.Plans.{steps_done, leave_step, arrive_step, shift_step, leave_steps, arrive_steps, shift_steps}
 use Rattle.aia_home.specs.Plans.Access.{TakePending}
 use Rattle.aia_hyp.specs.Passes.{AimsBy, StepsAim}
-use Rattle.aia_model.specs.HomeOf.{home, place, free_file}
+use Rattle.aia_model.specs.HomeOf.{home, guest_place, free_file}
 use Rattle.aia_model.specs.Refusal.{refusal}
 use Rattle.aia_model.proofs.FlightLemmas.{words_first, home_stepped, passes_stepped}
 use Rattle.aia_model.specs.Answer.{answer, steps_taken, steps_of, line_taken, step_taken}
@@ -146,7 +146,7 @@ leave_begun_at h g (Shifting from to at) e still home_is = absurd (true≢false 
 
 arrive_begun_at : (h : History) (g : Vcpu) (hart : ℕ) (there : Home) (o : Option ℕ) → home h g ≡ there → free_file h (home h) hart ≡ o → is_moving there ≡ false → is_resident there ≡ false → is_entered there ≡ false → is_none o ≡ false → IsAt (Arrives g hart) (passes_for h g) 0 (home (Began (Arrives g hart) ∷ h) g)
 arrive_begun_at h g hart Parked (Some file) e free still away waits some =
-    subst (IsAt (Arrives g hart) (passes_for h g) 0) (sym (home_step (Began (Arrives g hart)) h g ∙ cond-true _ _ _ (is_itself g) ∙ ap (λ o. option_map_or (λ file. arriving (place hart file) (home h g)) o (home h g)) free ∙ ap (arriving (place hart file)) e)) (record { on = tt; count = refl; few = omega arith })
+    subst (IsAt (Arrives g hart) (passes_for h g) 0) (sym (home_step (Began (Arrives g hart)) h g ∙ cond-true _ _ _ (is_itself g) ∙ ap (λ o. option_map_or (λ file. arriving (guest_place hart file) (home h g)) o (home h g)) free ∙ ap (arriving (guest_place hart file)) e)) (record { on = tt; count = refl; few = omega arith })
 arrive_begun_at h g hart Parked None e free still away waits some = absurd (true≢false some)
 arrive_begun_at h g hart Entered o e free still away waits some = absurd (true≢false waits)
 arrive_begun_at h g hart (Resident p) o e free still away waits some = absurd (true≢false away)
@@ -156,7 +156,7 @@ arrive_begun_at h g hart (Shifting from to at) o e free still away waits some = 
 
 shift_begun_at : (h : History) (g : Vcpu) (hart : ℕ) (there : Home) (o : Option ℕ) → home h g ≡ there → free_file h (home h) hart ≡ o → is_moving there ≡ false → rests_in_memory there ≡ false → is_none o ≡ false → IsAt (Shifts g hart) (passes_for h g) 0 (home (Began (Shifts g hart) ∷ h) g)
 shift_begun_at h g hart (Resident p) (Some file) e free still home_is some =
-    subst (IsAt (Shifts g hart) (passes_for h g) 0) (sym (home_step (Began (Shifts g hart)) h g ∙ cond-true _ _ _ (is_itself g) ∙ ap (λ o. option_map_or (λ file. shifting (place hart file) (home h g)) o (home h g)) free ∙ ap (shifting (place hart file)) e)) (record { on = tt; count = refl; few = omega arith })
+    subst (IsAt (Shifts g hart) (passes_for h g) 0) (sym (home_step (Began (Shifts g hart)) h g ∙ cond-true _ _ _ (is_itself g) ∙ ap (λ o. option_map_or (λ file. shifting (guest_place hart file) (home h g)) o (home h g)) free ∙ ap (shifting (guest_place hart file)) e)) (record { on = tt; count = refl; few = omega arith })
 shift_begun_at h g hart (Resident p) None e free still home_is some = absurd (true≢false some)
 shift_begun_at h g hart Parked o e free still home_is some = absurd (true≢false home_is)
 shift_begun_at h g hart Entered o e free still home_is some = absurd (true≢false home_is)

@@ -29,7 +29,7 @@ use Rattle.aia_model.specs.Move.{Move, mover}
 use Rattle.aia_model.specs.Event.{History, file_words}
 use Rattle.aia_model.specs.Event.Event.{Accepted, Began, Stepped}
 use Rattle.aia_model.specs.Passes.{Pass}
-use Rattle.aia_model.specs.HomeOf.{place}
+use Rattle.aia_model.specs.HomeOf.{guest_place}
 use Rattle.aia_model.specs.Answer.{steps_of}
 use Rattle.aia_hyp.specs.declared.vcpu.Stay.TheVariants as stays
 use Rattle.aia_hyp.specs.Core.{CoreState}
@@ -119,10 +119,10 @@ leave_lines = lines.BeginLeave 0 1 ∷ replicate steps_so_far (lines.Step 0 1)
 
 -- Their guest files.
 abbrev pub stayer_file : Place
-stayer_file = place 0 1
+stayer_file = guest_place 0 1
 
 abbrev pub leaver_file : Place
-leaver_file = place 0 2
+leaver_file = guest_place 0 2
 
 -- A file of which nothing is pending or enabled.
 abbrev pub empty_state : FileState

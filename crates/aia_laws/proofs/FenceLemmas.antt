@@ -8,7 +8,7 @@ use Rattle.aia_home.specs.Plans.{leave_step, arrive_step, shift_step, leave_step
 use Rattle.aia_home.specs.Plans.Access.{Fence, GFence}
 use Rattle.aia_home.specs.Aims.{is_aiming, further}
 use Rattle.aia_home.specs.Routes.{is_at_fence}
-use Rattle.aia_model.specs.HomeOf.{place}
+use Rattle.aia_model.specs.HomeOf.{guest_place}
 
 -- The fence comes after so many steps more.
 abbrev pub FenceIn : ℕ → Home → Type 0
@@ -61,7 +61,7 @@ leave_to_fence (Arriving to at) idle kept = absurd (cc)
 leave_to_fence (Shifting from to at) idle kept = absurd (cc)
 
 pub arrive_to_fence : (hart : ℕ) (file : Option ℕ) (there : Home) → is_moving there ≡ false → is_resident there ≡ false → is_entered there ≡ false → is_none file ≡ false
-    → FenceIn (arrive_step 0 Fence) (option_map_or (λ f. arriving (place hart f) there) file there)
+    → FenceIn (arrive_step 0 Fence) (option_map_or (λ f. arriving (guest_place hart f) there) file there)
 arrive_to_fence hart None there idle away waits free = absurd (cc)
 arrive_to_fence hart (Some f) Parked idle away waits free = refl
 arrive_to_fence hart (Some f) Entered idle away waits free = absurd (cc)
@@ -71,7 +71,7 @@ arrive_to_fence hart (Some f) (Arriving to at) idle away waits free = absurd (cc
 arrive_to_fence hart (Some f) (Shifting from to at) idle away waits free = absurd (cc)
 
 pub shift_to_fence : (hart : ℕ) (file : Option ℕ) (there : Home) → is_moving there ≡ false → rests_in_memory there ≡ false → is_none file ≡ false
-    → FenceIn (shift_step 0 Fence) (option_map_or (λ f. shifting (place hart f) there) file there)
+    → FenceIn (shift_step 0 Fence) (option_map_or (λ f. shifting (guest_place hart f) there) file there)
 shift_to_fence hart None there idle kept free = absurd (cc)
 shift_to_fence hart (Some f) (Resident p) idle kept free = refl
 shift_to_fence hart (Some f) Parked idle kept free = absurd (cc)

@@ -19,7 +19,7 @@ use Rattle.aia_model.specs.Event.{History, has_machine, file_words}
 use Rattle.aia_model.specs.Event.Event.{Accepted, Began, Stepped, Delivered, Landed, Relayed}
 use Rattle.aia_model.specs.Vms.{has_vcpu}
 use Rattle.aia_model.specs.Passes.{passes_of, passed_by, passes_for}
-use Rattle.aia_model.specs.HomeOf.{home, free_file, place}
+use Rattle.aia_model.specs.HomeOf.{home, free_file, guest_place}
 use Rattle.aia_model.specs.Aim.{pass_reach}
 use Rattle.aia_model.specs.PassesStand.{AreForwards}
 use Rattle.aia_model.specs.Refusal.{refusal}
@@ -142,7 +142,7 @@ leave_left passes words (Arriving to at) idle kept = absurd (cc)
 leave_left passes words (Shifting from to at) idle kept = absurd (cc)
 
 arrive_left : (passes words hart : ℕ) (file : Option ℕ) (there : Home) → is_moving there ≡ false → is_resident there ≡ false → is_entered there ≡ false → is_none file ≡ false
-    → steps_left passes words (option_map_or (λ f. arriving (place hart f) there) file there) ≡ arrive_steps words + passes
+    → steps_left passes words (option_map_or (λ f. arriving (guest_place hart f) there) file there) ≡ arrive_steps words + passes
 arrive_left passes words hart None there idle away waits free = absurd (cc)
 arrive_left passes words hart (Some f) Parked idle away waits free = omega arith
 arrive_left passes words hart (Some f) Entered idle away waits free = absurd (cc)
@@ -152,7 +152,7 @@ arrive_left passes words hart (Some f) (Arriving to at) idle away waits free = a
 arrive_left passes words hart (Some f) (Shifting from to at) idle away waits free = absurd (cc)
 
 shift_left : (passes words hart : ℕ) (file : Option ℕ) (there : Home) → is_moving there ≡ false → rests_in_memory there ≡ false → is_none file ≡ false
-    → steps_left passes words (option_map_or (λ f. shifting (place hart f) there) file there) ≡ shift_steps words + passes
+    → steps_left passes words (option_map_or (λ f. shifting (guest_place hart f) there) file there) ≡ shift_steps words + passes
 shift_left passes words hart None there idle kept free = absurd (cc)
 shift_left passes words hart (Some f) (Resident p) idle kept free = omega arith
 shift_left passes words hart (Some f) Parked idle kept free = absurd (cc)
