@@ -166,7 +166,7 @@ module _ (x y : CoreState) (h : History) (g : Vcpu) (plan later : Plan) (r : Vcp
   same_who = ap (λ (m : Moving). m.who) a.goes.moved
 
   later_mover : mover (moving_of later) ≡ g
-  later_mover = ap (λ (who : Who). vcpu who.vm who.vcpu) same_who ∙ is_mover
+  later_mover = ap (λ (who : Who). vcpu who.vm who.number) same_who ∙ is_mover
 
   aimed_home : home (Stepped g ∷ h) g ≡ aimed (home h g)
   aimed_home = stepped_home h g ∙ ap (λ b. cond b (aimed (home h g)) (stepped (file_words h) (home h g))) a.aiming

@@ -108,12 +108,12 @@ not_parked x h g stay word stands there was e = by_home ∙ by_stay stay word (s
 
 -- where it is found
 pub found_below : (w : World) (found : Found) → IsFound w found → found.slot < vcpus_in w.vms
-found_below w found is = let below = slot_below w.vms (vcpu found.vm found.vcpu) is.there in omega (arith, below, is.slot)
+found_below w found is = let below = slot_below w.vms (vcpu found.vm found.number) is.there in omega (arith, below, is.slot)
 
 pub found_few : (w : World) (found : Found) → IsWhole w → IsFound w found → found.slot < VCPUS
 found_few w found whole is = let below = found_below w found is in omega (arith, below, whole.vcpus)
 
-pub found_stay : (x : CoreState) (found : Found) → IsFound x.world found → {A : Type 0} (r : A) (of : Stay → A) → r ≡ of (get_or x.vcpus found.slot no_record).stay → r ≡ of (record_of x (vcpu found.vm found.vcpu)).stay
+pub found_stay : (x : CoreState) (found : Found) → IsFound x.world found → {A : Type 0} (r : A) (of : Stay → A) → r ≡ of (get_or x.vcpus found.slot no_record).stay → r ≡ of (record_of x (vcpu found.vm found.number)).stay
 found_stay x found is r of e = e ∙ ap (λ q. of (get_or x.vcpus q no_record).stay) is.slot
 
 pub parked_is : (stay : Stay) (kept : KeptNumbers) → parked_at stay ≡ Ok kept → stay ≡ stays.Parked kept

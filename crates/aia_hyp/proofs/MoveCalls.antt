@@ -70,7 +70,7 @@ use Rattle.aia_hyp.proofs.BeginCore.{at_stay, want_begins}
 pub who_low : (x : CoreState) (who : Found) → StandsForSome x → IsFound x.world who → who.slot < length x.vcpus
 who_low x who some is =
     let stands = some.stands in
-    let g = vcpu who.vm who.vcpu in
+    let g = vcpu who.vm who.number in
     let below = slot_below (vms_of some.past) g (subst (λ (vs : List Vm). is_vcpu_in vs g ≡ true) stands.vms is.there) in
     let mine : slot_of x.world.vms g ≡ slot_of (vms_of some.past) g = ap (λ vms. slot_of vms g) stands.vms in
     omega (arith, below, mine, is.slot, stands.records)
@@ -98,12 +98,12 @@ pub record Swapped (x y : CoreState) (who : Found) (old new : Stay) : Type 0 whe
 
 module _ (x y : CoreState) (who : Found) (old new : Stay) (s : Swapped x y who old new) where
   abbrev g : Vcpu
-  g = vcpu who.vm who.vcpu
+  g = vcpu who.vm who.number
 
-  pub was_at : old ≡ (record_of x (vcpu who.vm who.vcpu)).stay
+  pub was_at : old ≡ (record_of x (vcpu who.vm who.number)).stay
   was_at = s.before ∙ ap (λ q. (get_or x.vcpus q no_record).stay) s.is_who.slot
 
-  pub put_at : y.vcpus ≡ set x.vcpus (slot_of x.world.vms (vcpu who.vm who.vcpu)) (at_stay (record_of x (vcpu who.vm who.vcpu)) new)
+  pub put_at : y.vcpus ≡ set x.vcpus (slot_of x.world.vms (vcpu who.vm who.number)) (at_stay (record_of x (vcpu who.vm who.number)) new)
   put_at =
       put_twice x.vcpus s.between y.vcpus who.slot s.other new (who_low x who s.some s.is_who) s.out s.back
       ∙ ap (λ q. set x.vcpus q (at_stay (get_or x.vcpus q no_record) new)) s.is_who.slot
@@ -112,14 +112,14 @@ module _ (x y : CoreState) (who : Found) (old new : Stay) (s : Swapped x y who o
 
 -- who is moved, with its passes
 abbrev whole_who : Found → Who → Who
-whole_who found who = record { vm = found.vm; vcpu = found.vcpu; slot = found.slot; notice = found.notice; passes = who.passes }
+whole_who found who = record { vm = found.vm; number = found.number; slot = found.slot; notice = found.notice; passes = who.passes }
 
-pub begin_call : (x y : CoreState) (want : Want) (found : Found) (who : Who) (old new : Stay) (given : Answer) → who ≡ whole_who found who → who.passes.items ≡ own_passes 0 (vcpu found.vm found.vcpu) x.passes → y.world ≡ x.world → Swapped x y found old new
-    → WantBegins want who old new x.leases y.leases given → MoveBegins x y found.vm found.vcpu want given
+pub begin_call : (x y : CoreState) (want : Want) (found : Found) (who : Who) (old new : Stay) (given : Answer) → who ≡ whole_who found who → who.passes.items ≡ own_passes 0 (vcpu found.vm found.number) x.passes → y.world ≡ x.world → Swapped x y found old new
+    → WantBegins want who old new x.leases y.leases given → MoveBegins x y found.vm found.number want given
 begin_call x y want found who old new given named its world s b =
     want_begins x y want (whole_who found who) new given
     (record { is_who = record { there = s.is_who.there; slot = s.is_who.slot; notice = s.is_who.notice }; its = its; world = world; selects = s.selects; passes = s.passes; vcpus = put_at x y found old new s })
-    (subst (λ (w : Who). WantBegins want w (record_of x (vcpu found.vm found.vcpu)).stay new x.leases y.leases given) named (subst (λ (o : Stay). WantBegins want who o new x.leases y.leases given) (was_at x y found old new s) b))
+    (subst (λ (w : Who). WantBegins want w (record_of x (vcpu found.vm found.number)).stay new x.leases y.leases given) named (subst (λ (o : Stay). WantBegins want who o new x.leases y.leases given) (was_at x y found old new s) b))
 
 -- ---- a step
 
@@ -152,7 +152,7 @@ aims_stay (Shifting from to at) = refl
 -- the plan that is kept can make its next step
 pub plan_known : (x : CoreState) (who : Found) (plan : Plan) → StandsForSome x → IsFound x.world who → stays.Moving plan ≡ (get_or x.vcpus who.slot no_record).stay → MoveFits x.world (moving_of plan) × IsInPhase (width x.world) plan
 plan_known x who plan some is was =
-    let g = vcpu who.vm who.vcpu in
+    let g = vcpu who.vm who.number in
     let inside : has_vcpu some.past g ≡ true = subst (λ (vs : List Vm). is_vcpu_in vs g ≡ true) some.stands.vms is.there in
     let at : stays.Moving plan ≡ (record_of x g).stay = was ∙ ap (λ q. (get_or x.vcpus q no_record).stay) is.slot in
     let planned : PlanStands x.world g (stays.Moving plan) = subst (PlanStands x.world g) (sym at) (some.stands.vcpus g inside).plan in
@@ -174,7 +174,7 @@ pub record AccessGoes (old new : CoreState) (g : Vcpu) (last : Bool) : Type 0 wh
 -- What a step's calls say, once what lands before it has landed.
 pub record Made (x y : CoreState) (who : Found) (plan : Plan) (next : Next) : Type 0 where
   pub swapped : Swapped x y who (stays.Moving plan) (stay_then next)
-  pub first : NoneAtFence swapped.some.past (Stepped (vcpu who.vm who.vcpu))
+  pub first : NoneAtFence swapped.some.past (Stepped (vcpu who.vm who.number))
   pub unaimed : aims (moving_of plan) ≡ false
   pub whole : IsWhole x.world
   pub whole_then : IsWhole y.world
@@ -185,18 +185,18 @@ pub record Made (x y : CoreState) (who : Found) (plan : Plan) (next : Next) : Ty
 
 module _ (x y : CoreState) (who : Found) (plan : Plan) where
   abbrev its : Vcpu
-  its = vcpu who.vm who.vcpu
+  its = vcpu who.vm who.number
 
   abbrev its_record : Stay → VcpuRecord
-  its_record stay = at_stay (record_of x (vcpu who.vm who.vcpu)) stay
+  its_record stay = at_stay (record_of x (vcpu who.vm who.number)) stay
 
-  its_there : (h : History) → CoreStands x h → IsFound x.world who → has_vcpu h (vcpu who.vm who.vcpu) ≡ true
+  its_there : (h : History) → CoreStands x h → IsFound x.world who → has_vcpu h (vcpu who.vm who.number) ≡ true
   its_there h stands is = subst (λ (vs : List Vm). is_vcpu_in vs its ≡ true) stands.vms is.there
 
-  none_aimed : (next : Next) (h : History) → CoreStands x h → Made x y who plan next → is_aiming (passes_for h (vcpu who.vm who.vcpu)) (home h (vcpu who.vm who.vcpu)) ≡ false
+  none_aimed : (next : Next) (h : History) → CoreStands x h → Made x y who plan next → is_aiming (passes_for h (vcpu who.vm who.number)) (home h (vcpu who.vm who.number)) ≡ false
   none_aimed next h stands c = sym (aims_alike x h its plan stands (its_there h stands c.swapped.is_who) (sym (was_at x y who (stays.Moving plan) (stay_then next) c.swapped))) ∙ c.unaimed
 
-  goes_on : (later : Plan) (h : History) → NoneAtFence h (Stepped (vcpu who.vm who.vcpu)) → CoreStands x h → Made x y who plan (Again later) → GoesOf x y h (vcpu who.vm who.vcpu) plan later (its_record (stays.Moving later))
+  goes_on : (later : Plan) (h : History) → NoneAtFence h (Stepped (vcpu who.vm who.number)) → CoreStands x h → Made x y who plan (Again later) → GoesOf x y h (vcpu who.vm who.number) plan later (its_record (stays.Moving later))
   goes_on later h first stands c = record {
     step_of = record {
       first = first;
@@ -219,7 +219,7 @@ module _ (x y : CoreState) (who : Found) (plan : Plan) where
     phase = c.phase;
   }
 
-  ends_it : (o : Outcome) (h : History) → NoneAtFence h (Stepped (vcpu who.vm who.vcpu)) → CoreStands x h → Made x y who plan (Finished o) → EndsOf x y h (vcpu who.vm who.vcpu) plan o (its_record (stay_after o))
+  ends_it : (o : Outcome) (h : History) → NoneAtFence h (Stepped (vcpu who.vm who.number)) → CoreStands x h → Made x y who plan (Finished o) → EndsOf x y h (vcpu who.vm who.number) plan o (its_record (stay_after o))
   ends_it o h first stands c = record {
     step_of = record {
       first = first;
@@ -241,14 +241,14 @@ module _ (x y : CoreState) (who : Found) (plan : Plan) where
     ends = c.goes;
   }
 
-  at_last_by : (h : History) (r : VcpuRecord) (hand : Hand) (b : Bool) → StepOf x y h (vcpu who.vm who.vcpu) plan r hand → is_at_last (width x.world) (moving_of plan).home ≡ b → b ≡ is_at_last (file_words h) (home h (vcpu who.vm who.vcpu))
+  at_last_by : (h : History) (r : VcpuRecord) (hand : Hand) (b : Bool) → StepOf x y h (vcpu who.vm who.number) plan r hand → is_at_last (width x.world) (moving_of plan).home ≡ b → b ≡ is_at_last (file_words h) (home h (vcpu who.vm who.number))
   at_last_by h r hand b s e = sym e ∙ (λ k. is_at_last (steps.same_words x y h its plan r hand s k) (steps.same_home x y h its plan r hand s k))
 
   -- the plan of its record is the one that was taken out of it
   same_plan : (other : Plan) → stays.Moving plan ≡ stays.Moving other → OneMade x.world (moving_of plan) y.world → OneMade x.world (moving_of other) y.world
   same_plan other e one = let same : plan ≡ other = cc in subst (λ (p : Plan). OneMade x.world (moving_of p) y.world) same one
 
-  pub step_goes : (next : Next) → Made x y who plan next → AccessGoes x y (vcpu who.vm who.vcpu) (is_finished next)
+  pub step_goes : (next : Next) → Made x y who plan next → AccessGoes x y (vcpu who.vm who.number) (is_finished next)
   step_goes (Again later) c =
       let some = c.swapped.some in
       let now = goes_on later some.past c.first some.stands c in
@@ -287,16 +287,16 @@ its_own x h g plan stands there was =
 -- What stands before the calls of a step: whose plan it is, and what lands first.
 pub record IsFirst (x : CoreState) (landed : World) (who : Found) (plan : Plan) : Type 0 where
   pub is_who : IsFound x.world who
-  pub was : (record_of x (vcpu who.vm who.vcpu)).stay ≡ stays.Moving plan
+  pub was : (record_of x (vcpu who.vm who.number)).stay ≡ stays.Moving plan
   pub low : who.vm < length x.world.vms
   pub first : moves.LandsFirst x.world (moving_of plan) landed
 
 pub vm_low : (x : CoreState) (who : Found) → IsWhole x.world → IsFound x.world who → who.vm < length x.world.vms
-vm_low x who whole is = (vcpu_entry x.world who.vm who.vcpu whole is.there).0
+vm_low x who whole is = (vcpu_entry x.world who.vm who.number whole is.there).0
 
-pub landed_stands : (x : CoreState) (landed : World) (who : Found) (plan : Plan) → IsFirst x landed who plan → (h : History) → CoreStands x h → CoreStands (once_landed x landed) (landed_first (vcpu who.vm who.vcpu) h)
+pub landed_stands : (x : CoreState) (landed : World) (who : Found) (plan : Plan) → IsFirst x landed who plan → (h : History) → CoreStands x h → CoreStands (once_landed x landed) (landed_first (vcpu who.vm who.number) h)
 landed_stands x landed who plan c h stands =
-    let g = vcpu who.vm who.vcpu in
+    let g = vcpu who.vm who.number in
     let there : has_vcpu h g ≡ true = subst (λ (vs : List Vm). is_vcpu_in vs g ≡ true) stands.vms c.is_who.there in
     let own = its_own x h g plan stands there c.was in
     let low : (moving_of plan).who.vm < length x.world.vms = subst (λ (z : Vcpu). z.vm < length x.world.vms) (sym own.0) c.low in
@@ -305,8 +305,8 @@ landed_stands x landed who plan c h stands =
 
 abbrev pub landed_some : (x : CoreState) (landed : World) (who : Found) (plan : Plan) → IsFirst x landed who plan → StandsForSome x → StandsForSome (once_landed x landed)
 landed_some x landed who plan c some = record {
-  past = landed_first (vcpu who.vm who.vcpu) some.past;
-  happens = first_happens (vcpu who.vm who.vcpu) some.past some.happens;
+  past = landed_first (vcpu who.vm who.number) some.past;
+  happens = first_happens (vcpu who.vm who.number) some.past some.happens;
   stands = landed_stands x landed who plan c some.past some.stands;
 }
 
@@ -314,14 +314,14 @@ pub landed_who : (x : CoreState) (landed : World) (who : Found) (plan : Plan) �
 landed_who x landed who plan c =
     let vms = c.first.same.vms in
     record {
-      there = subst (λ (vs : List Vm). is_vcpu_in vs (vcpu who.vm who.vcpu) ≡ true) (sym vms) c.is_who.there;
-      slot = c.is_who.slot ∙ ap (λ vs. slot_of vs (vcpu who.vm who.vcpu)) (sym vms);
-      notice = c.is_who.notice ∙ ap (λ vs. notice_hart vs (vcpu who.vm who.vcpu)) (sym vms);
+      there = subst (λ (vs : List Vm). is_vcpu_in vs (vcpu who.vm who.number) ≡ true) (sym vms) c.is_who.there;
+      slot = c.is_who.slot ∙ ap (λ vs. slot_of vs (vcpu who.vm who.number)) (sym vms);
+      notice = c.is_who.notice ∙ ap (λ vs. notice_hart vs (vcpu who.vm who.number)) (sym vms);
     }
 
-pub landed_goes : (x : CoreState) (landed : World) (y : CoreState) (who : Found) (plan : Plan) (last : Bool) → aims (moving_of plan) ≡ false → IsFirst x landed who plan → AccessGoes (once_landed x landed) y (vcpu who.vm who.vcpu) last → MoveGoes x y (vcpu who.vm who.vcpu) last
+pub landed_goes : (x : CoreState) (landed : World) (y : CoreState) (who : Found) (plan : Plan) (last : Bool) → aims (moving_of plan) ≡ false → IsFirst x landed who plan → AccessGoes (once_landed x landed) y (vcpu who.vm who.number) last → MoveGoes x y (vcpu who.vm who.number) last
 landed_goes x landed y who plan last unaimed c a =
-    let g = vcpu who.vm who.vcpu in
+    let g = vcpu who.vm who.number in
     let same : record_of (once_landed x landed) g ≡ record_of x g = ap (λ vs. get_or x.vcpus (slot_of vs g) no_record) c.first.same.vms in
     let left : left_in (once_landed x landed) g ≡ left_in x g = (λ k. steps_left ((c.first.same.n k + 1) / 64) (home_in (same k).stay) + (passes_to g x.passes - aims_done (home_in (same k).stay))) in
     record {
@@ -370,24 +370,24 @@ pub record Aims (x y : CoreState) (who : Found) (plan later : Plan) : Type 0 whe
 
 module _ (x y : CoreState) (who : Found) (plan later : Plan) (c : Aims x y who plan later) where
   abbrev mine : Vcpu
-  mine = vcpu who.vm who.vcpu
+  mine = vcpu who.vm who.number
 
   abbrev then_kept : VcpuRecord
-  then_kept = at_stay (record_of x (vcpu who.vm who.vcpu)) (stays.Moving later)
+  then_kept = at_stay (record_of x (vcpu who.vm who.number)) (stays.Moving later)
 
-  inside : (h : History) → CoreStands x h → has_vcpu h (vcpu who.vm who.vcpu) ≡ true
+  inside : (h : History) → CoreStands x h → has_vcpu h (vcpu who.vm who.number) ≡ true
   inside h stands = subst (λ (vs : List Vm). is_vcpu_in vs mine ≡ true) stands.vms c.swapped.is_who.there
 
-  was_moving : (record_of x (vcpu who.vm who.vcpu)).stay ≡ stays.Moving plan
+  was_moving : (record_of x (vcpu who.vm who.number)).stay ≡ stays.Moving plan
   was_moving = sym (was_at x y who (stays.Moving plan) (stays.Moving later) c.swapped)
 
-  aiming_then : (h : History) → CoreStands x h → is_aiming (passes_for h (vcpu who.vm who.vcpu)) (home h (vcpu who.vm who.vcpu)) ≡ true
+  aiming_then : (h : History) → CoreStands x h → is_aiming (passes_for h (vcpu who.vm who.number)) (home h (vcpu who.vm who.number)) ≡ true
   aiming_then h stands = sym (aims_alike x h mine plan stands (inside h stands) was_moving) ∙ c.aiming
 
-  no_fence : (h : History) → CoreStands x h → is_at_fence (home h (vcpu who.vm who.vcpu)) ≡ false
+  no_fence : (h : History) → CoreStands x h → is_at_fence (home h (vcpu who.vm who.number)) ≡ false
   no_fence h stands = aim_is_no_fence (passes_for h mine) (home h mine) (aiming_then h stands)
 
-  aim_of_it : (h : History) → CoreStands x h → AimOf x y h (vcpu who.vm who.vcpu) plan later then_kept
+  aim_of_it : (h : History) → CoreStands x h → AimOf x y h (vcpu who.vm who.number) plan later then_kept
   aim_of_it h stands = record {
     first = λ fence. absurd (true≢false (sym fence ∙ no_fence h stands));
     stands = stands;
@@ -407,7 +407,7 @@ module _ (x y : CoreState) (who : Found) (plan later : Plan) (c : Aims x y who p
     majors = refl;
   }
 
-  pub aim_goes : MoveGoes x y (vcpu who.vm who.vcpu) false
+  pub aim_goes : MoveGoes x y (vcpu who.vm who.number) false
   aim_goes =
       let some = c.swapped.some in
       let past = some.past in
@@ -455,7 +455,7 @@ pub record StepCalls (x y : CoreState) (who : Found) (plan : Plan) (next : Next)
 
 module _ (x y : CoreState) (who : Found) (plan : Plan) where
   -- it aims
-  by_aim : (next : Next) → StepCalls x y who plan next → aims (moving_of plan) ≡ true → MatchNext next (λ p. GoesAiming x.world (moving_of plan) y.world (moving_of p)) (λ o. ⊥) → MoveGoes x y (vcpu who.vm who.vcpu) (is_finished next)
+  by_aim : (next : Next) → StepCalls x y who plan next → aims (moving_of plan) ≡ true → MatchNext next (λ p. GoesAiming x.world (moving_of plan) y.world (moving_of p)) (λ o. ⊥) → MoveGoes x y (vcpu who.vm who.number) (is_finished next)
   by_aim (Again later) c aiming goes = aim_goes x y who plan later (record {
     swapped = record { is_who = c.is_who; some = c.some; between = c.between; other = c.other; before = c.was; out = c.out; back = c.back; selects = c.selects; passes = c.passes };
     some = c.one;
@@ -468,7 +468,7 @@ module _ (x y : CoreState) (who : Found) (plan : Plan) where
   by_aim (Finished o) c aiming goes = absurd goes
 
   -- it makes an access
-  by_access : (next : Next) → StepCalls x y who plan next → aims (moving_of plan) ≡ false → OnceLanded x.world (moving_of plan) (λ landed. MatchNext next (λ p. Goes landed (moving_of plan) y.world (moving_of p)) (λ o. EndsAs landed (moving_of plan) y.world o)) → MoveGoes x y (vcpu who.vm who.vcpu) (is_finished next)
+  by_access : (next : Next) → StepCalls x y who plan next → aims (moving_of plan) ≡ false → OnceLanded x.world (moving_of plan) (λ landed. MatchNext next (λ p. Goes landed (moving_of plan) y.world (moving_of p)) (λ o. EndsAs landed (moving_of plan) y.world o)) → MoveGoes x y (vcpu who.vm who.number) (is_finished next)
   by_access next c unaimed once =
       let landed = once.landed in
       let first : IsFirst x landed who plan = record {
@@ -490,7 +490,7 @@ module _ (x y : CoreState) (who : Found) (plan : Plan) where
           selects = c.selects;
           passes = c.passes;
         };
-        first = lands_first (vcpu who.vm who.vcpu) c.some.past;
+        first = lands_first (vcpu who.vm who.number) c.some.past;
         unaimed = unaimed;
         whole = landed_whole x.world (moving_of plan) landed c.whole once.first;
         whole_then = c.whole_then;
@@ -500,18 +500,18 @@ module _ (x y : CoreState) (who : Found) (plan : Plan) where
         phase = c.phase;
       }))
 
-  pub step_called : (next : Next) → StepCalls x y who plan next → MoveGoes x y (vcpu who.vm who.vcpu) (is_finished next)
+  pub step_called : (next : Next) → StepCalls x y who plan next → MoveGoes x y (vcpu who.vm who.number) (is_finished next)
   step_called next c = by_kind (aims (moving_of plan)) refl
     where
-      by_kind : (b : Bool) → aims (moving_of plan) ≡ b → MoveGoes x y (vcpu who.vm who.vcpu) (is_finished next)
+      by_kind : (b : Bool) → aims (moving_of plan) ≡ b → MoveGoes x y (vcpu who.vm who.number) (is_finished next)
       by_kind true e = by_aim next c e (subst (λ b. StepsTo (aim_if b (moving_of plan)) x.world (moving_of plan) y.world next) e c.goes)
       by_kind false e = by_access next c e (subst (λ b. StepsTo (aim_if b (moving_of plan)) x.world (moving_of plan) y.world next) e c.goes)
 
 -- it stands for some history still
-pub goes_still : (x y : CoreState) (who : Found) (last : Bool) → MoveGoes x y (vcpu who.vm who.vcpu) last → StandsForSome x → IsFound x.world who
-    → is_moving (home_in (record_of x (vcpu who.vm who.vcpu)).stay) ≡ true → StandsForSome y
+pub goes_still : (x y : CoreState) (who : Found) (last : Bool) → MoveGoes x y (vcpu who.vm who.number) last → StandsForSome x → IsFound x.world who
+    → is_moving (home_in (record_of x (vcpu who.vm who.number)).stay) ≡ true → StandsForSome y
 goes_still x y who last goes some is moving =
-    let g = vcpu who.vm who.vcpu in
+    let g = vcpu who.vm who.number in
     let there : has_vcpu some.past g ≡ true = subst (λ (vs : List Vm). is_vcpu_in vs g ≡ true) some.stands.vms is.there in
     record {
       past = step_taken g some.past;
@@ -527,18 +527,18 @@ pub back_known : (x : CoreState) (u : World) (who : Found) (plan : Plan) (next :
 back_known x u who plan (Again later) some is was c = tt
 back_known x u who plan (Finished o) some is was c = by_kind (aims (moving_of plan)) (subst (λ b. StepsTo (aim_if b (moving_of plan)) x.world (moving_of plan) u (Finished o)) refl c)
   where
-    inside : has_vcpu some.past (vcpu who.vm who.vcpu) ≡ true
-    inside = subst (λ (vs : List Vm). is_vcpu_in vs (vcpu who.vm who.vcpu) ≡ true) some.stands.vms is.there
+    inside : has_vcpu some.past (vcpu who.vm who.number) ≡ true
+    inside = subst (λ (vs : List Vm). is_vcpu_in vs (vcpu who.vm who.number) ≡ true) some.stands.vms is.there
 
-    same : (moving_of plan).home ≡ home some.past (vcpu who.vm who.vcpu)
-    same = ap home_in (was ∙ ap (λ q. (get_or x.vcpus q no_record).stay) is.slot) ∙ (some.stands.vcpus (vcpu who.vm who.vcpu) inside).same_home
+    same : (moving_of plan).home ≡ home some.past (vcpu who.vm who.number)
+    same = ap home_in (was ∙ ap (λ q. (get_or x.vcpus q no_record).stay) is.slot) ∙ (some.stands.vcpus (vcpu who.vm who.number) inside).same_home
 
     by_file : (back : Option Place) → GivesBack o (moving_of plan).home (moving_of plan).hand → back_of o ≡ back → IsOutThere x.leases back
     by_file None gives e = tt
     by_file (Some p) gives e =
-        let mine : holds p (home some.past (vcpu who.vm who.vcpu)) ≡ true = ap (holds p) (sym same) ∙ ended_held p (moving_of plan).home (sym (ended_back o (moving_of plan).home (moving_of plan).hand gives) ∙ e) in
-        let there = some.stands.held (vcpu who.vm who.vcpu) p inside mine in
-        (in_pool x some.past p some.stands there, some.stands.leases p there ∙ any_vcpu (vms_of some.past) (λ z. holds p (home some.past z)) (vcpu who.vm who.vcpu) inside mine)
+        let mine : holds p (home some.past (vcpu who.vm who.number)) ≡ true = ap (holds p) (sym same) ∙ ended_held p (moving_of plan).home (sym (ended_back o (moving_of plan).home (moving_of plan).hand gives) ∙ e) in
+        let there = some.stands.held (vcpu who.vm who.number) p inside mine in
+        (in_pool x some.past p some.stands there, some.stands.leases p there ∙ any_vcpu (vms_of some.past) (λ z. holds p (home some.past z)) (vcpu who.vm who.number) inside mine)
 
     by_kind : (b : Bool) → StepsTo (aim_if b (moving_of plan)) x.world (moving_of plan) u (Finished o) → IsOutThere x.leases (back_of o)
     by_kind true goes = absurd goes
@@ -546,13 +546,13 @@ back_known x u who plan (Finished o) some is was c = by_kind (aims (moving_of pl
 
 -- ---- who is moved
 
-pub who_still : (x y : CoreState) (who : Found) (last : Bool) → MoveGoes x y (vcpu who.vm who.vcpu) last → StandsForSome x → IsFound x.world who → IsFound y.world who
+pub who_still : (x y : CoreState) (who : Found) (last : Bool) → MoveGoes x y (vcpu who.vm who.number) last → StandsForSome x → IsFound x.world who → IsFound y.world who
 who_still x y who last goes some is =
-    let vms : x.world.vms ≡ y.world.vms = some.stands.vms ∙ sym ((goes.stands some.past some.stands).vms ∙ (same_first (vcpu who.vm who.vcpu) some.past).0) in
+    let vms : x.world.vms ≡ y.world.vms = some.stands.vms ∙ sym ((goes.stands some.past some.stands).vms ∙ (same_first (vcpu who.vm who.number) some.past).0) in
     record {
-      there = subst (λ (vs : List Vm). is_vcpu_in vs (vcpu who.vm who.vcpu) ≡ true) vms is.there;
-      slot = is.slot ∙ ap (λ vs. slot_of vs (vcpu who.vm who.vcpu)) vms;
-      notice = is.notice ∙ ap (λ vs. notice_hart vs (vcpu who.vm who.vcpu)) vms;
+      there = subst (λ (vs : List Vm). is_vcpu_in vs (vcpu who.vm who.number) ≡ true) vms is.there;
+      slot = is.slot ∙ ap (λ vs. slot_of vs (vcpu who.vm who.number)) vms;
+      notice = is.notice ∙ ap (λ vs. notice_hart vs (vcpu who.vm who.number)) vms;
     }
 
 -- ---- the machine

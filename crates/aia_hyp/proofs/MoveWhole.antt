@@ -226,19 +226,19 @@ pub record UnderWay {T : Type 0} (aim : T → ℕ → ℕ → T → Type 0) (now
 
 pub record SoFar {T : Type 0} (aim : T → ℕ → ℕ → T → Type 0) (old now : CoreState) (told told_now : T) (who : Found) (want : Want) : Type 0 where
   pub is_who : IsFound now.world who
-  pub moving : is_moving (home_in (record_of now (vcpu who.vm who.vcpu)).stay) ≡ true
-  pub under : (h : History) → CoreStands old h → UnderWay aim now told told_now h who.vm who.vcpu want
+  pub moving : is_moving (home_in (record_of now (vcpu who.vm who.number)).stay) ≡ true
+  pub under : (h : History) → CoreStands old h → UnderWay aim now told told_now h who.vm who.number want
 
 none_by_begin : (h : History) (move : Move) (g : Vcpu) → passes_for (Began move ∷ h) g ≡ passes_for h g
 unfolding passes_of
 none_by_begin h move g = refl
 
-pub first_step : {T : Type 0} (aim : T → ℕ → ℕ → T → Type 0) (told : T) (old now : CoreState) (who : Found) (want : Want) → MoveBegins old now who.vm who.vcpu want Okay → StandsForSome old → IsFound now.world who → SoFar aim old now told told who want
+pub first_step : {T : Type 0} (aim : T → ℕ → ℕ → T → Type 0) (told : T) (old now : CoreState) (who : Found) (want : Want) → MoveBegins old now who.vm who.number want Okay → StandsForSome old → IsFound now.world who → SoFar aim old now told told who want
 first_step {T} aim told old now who want begins some is =
-    let g = vcpu who.vm who.vcpu in
+    let g = vcpu who.vm who.number in
     let way = λ (h : History) (stands : CoreStands old h). (
-    let tells = okay_accepts h who.vm who.vcpu stands.there want (begins.answers h stands) in
-    let u : UnderWay aim now told told h who.vm who.vcpu want = record {
+    let tells = okay_accepts h who.vm who.number stands.there want (begins.answers h stands) in
+    let u : UnderWay aim now told told h who.vm who.number want = record {
       accepted = tells.accepted;
       steps = 0;
       stands = subst (λ (o : Option Answer). CoreStands now (move_begun o h (wanted_move g want))) tells.accepted (begins.begins h stands);
@@ -251,10 +251,10 @@ first_step {T} aim told old now who want begins some is =
       under = way;
     }
 
-pub next_step : {T : Type 0} (aim : T → ℕ → ℕ → T → Type 0) (told told_now told_later : T) (old now later : CoreState) (who : Found) (want : Want) → SoFar aim old now told told_now who want → MoveGoes now later (vcpu who.vm who.vcpu) false
-    → ((h : History) → CoreStands now h → AimsBy aim (aimed_by h (Stepped (vcpu who.vm who.vcpu))) told_now told_later) → IsFound later.world who → SoFar aim old later told told_later who want
+pub next_step : {T : Type 0} (aim : T → ℕ → ℕ → T → Type 0) (told told_now told_later : T) (old now later : CoreState) (who : Found) (want : Want) → SoFar aim old now told told_now who want → MoveGoes now later (vcpu who.vm who.number) false
+    → ((h : History) → CoreStands now h → AimsBy aim (aimed_by h (Stepped (vcpu who.vm who.number))) told_now told_later) → IsFound later.world who → SoFar aim old later told told_later who want
 next_step {T} aim told told_now told_later old now later who want so_far goes aims is =
-    let g = vcpu who.vm who.vcpu in
+    let g = vcpu who.vm who.number in
     record {
       is_who = is;
       moving = goes.moving refl;
@@ -282,10 +282,10 @@ whole_line h vm number (wants.Arrive hart) = refl
 whole_line h vm number (wants.Shift hart) = refl
 
 -- all its steps are then done
-full_count : {T : Type 0} (aim : T → ℕ → ℕ → T → Type 0) (told told_now : T) (now later : CoreState) (h : History) (who : Found) (want : Want) → MoveGoes now later (vcpu who.vm who.vcpu) true → (u : UnderWay aim now told told_now h who.vm who.vcpu want)
-    → suc u.steps ≡ steps_of (file_words h) (wanted_move (vcpu who.vm who.vcpu) want) + passes_for h (vcpu who.vm who.vcpu)
+full_count : {T : Type 0} (aim : T → ℕ → ℕ → T → Type 0) (told told_now : T) (now later : CoreState) (h : History) (who : Found) (want : Want) → MoveGoes now later (vcpu who.vm who.number) true → (u : UnderWay aim now told told_now h who.vm who.number want)
+    → suc u.steps ≡ steps_of (file_words h) (wanted_move (vcpu who.vm who.number) want) + passes_for h (vcpu who.vm who.number)
 full_count {T} aim told told_now now later h who want goes u =
-    let g = vcpu who.vm who.vcpu in
+    let g = vcpu who.vm who.number in
     let move = wanted_move g want in
     let begun = Began move ∷ h in
     let past = steps_taken u.steps g begun in
@@ -295,32 +295,32 @@ full_count {T} aim told told_now now later h who want goes u =
     let words = ap (λ w. steps_of w move) (same_width u.steps g begun) in
     omega (arith, full, words)
 
-pub all_steps : {T : Type 0} (aim : T → ℕ → ℕ → T → Type 0) (told told_now : T) (old now later : CoreState) (who : Found) (want : Want) → SoFar aim old now told told_now who want → MoveGoes now later (vcpu who.vm who.vcpu) true → CoreTakes old later (move_line who.vm who.vcpu want) Okay
+pub all_steps : {T : Type 0} (aim : T → ℕ → ℕ → T → Type 0) (told told_now : T) (old now later : CoreState) (who : Found) (want : Want) → SoFar aim old now told told_now who want → MoveGoes now later (vcpu who.vm who.number) true → CoreTakes old later (move_line who.vm who.number want) Okay
 all_steps {T} aim told told_now old now later who want so_far goes =
-    let g = vcpu who.vm who.vcpu in
-    let line = move_line who.vm who.vcpu want in
+    let g = vcpu who.vm who.number in
+    let line = move_line who.vm who.number want in
     let move = wanted_move g want in
     record {
-      answers = λ h stands. let u = so_far.under h stands in ap (λ o. unwrap_or o Okay) (sym u.accepted) ∙ sym (answer_is h who.vm who.vcpu stands.there want);
+      answers = λ h stands. let u = so_far.under h stands in ap (λ o. unwrap_or o Okay) (sym u.accepted) ∙ sym (answer_is h who.vm who.number stands.there want);
       stands = λ h stands.
           let u = so_far.under h stands in
           let past = steps_taken u.steps g (Began move ∷ h) in
           let count = full_count aim told told_now now later h who want goes u in
-          let whole : step_taken g past ≡ line_taken h line = sym (one_step_more u.steps g (Began move ∷ h)) ∙ ap (λ n. steps_taken n g (Began move ∷ h)) count ∙ sym (whole_line h who.vm who.vcpu want) in
+          let whole : step_taken g past ≡ line_taken h line = sym (one_step_more u.steps g (Began move ∷ h)) ∙ ap (λ n. steps_taken n g (Began move ∷ h)) count ∙ sym (whole_line h who.vm who.number want) in
           subst (λ (o : Option Answer). CoreStands later (line_served o h line)) (sym u.accepted) (subst (CoreStands later) whole (goes.stands past u.stands));
       unchanged = λ h word stands is. let u = so_far.under h stands in absurd (none-some word (sym u.accepted ∙ is));
     }
 
 -- and all is aimed that they aim
-pub all_aims : {T : Type 0} (aim : T → ℕ → ℕ → T → Type 0) (told told_now told_later : T) (old now later : CoreState) (who : Found) (want : Want) → SoFar aim old now told told_now who want → MoveGoes now later (vcpu who.vm who.vcpu) true
-    → ((h : History) → CoreStands now h → AimsBy aim (aimed_by h (Stepped (vcpu who.vm who.vcpu))) told_now told_later) → (h : History) → CoreStands old h
-    → UnlessRefused (refusal h (move_line who.vm who.vcpu want)) (WholeAims aim h who.vm who.vcpu want told told_later) (told_later ≡ told)
+pub all_aims : {T : Type 0} (aim : T → ℕ → ℕ → T → Type 0) (told told_now told_later : T) (old now later : CoreState) (who : Found) (want : Want) → SoFar aim old now told told_now who want → MoveGoes now later (vcpu who.vm who.number) true
+    → ((h : History) → CoreStands now h → AimsBy aim (aimed_by h (Stepped (vcpu who.vm who.number))) told_now told_later) → (h : History) → CoreStands old h
+    → UnlessRefused (refusal h (move_line who.vm who.number want)) (WholeAims aim h who.vm who.number want told told_later) (told_later ≡ told)
 all_aims {T} aim told told_now told_later old now later who want so_far goes aims h stands =
-    let g = vcpu who.vm who.vcpu in
+    let g = vcpu who.vm who.number in
     let u = so_far.under h stands in
     let begun = Began (wanted_move g want) ∷ h in
     let more : StepsAim aim (suc u.steps) g begun told told_later = (told_now, u.aims, aims (steps_taken u.steps g begun) u.stands) in
-    subst (λ (o : Option Answer). UnlessRefused o (WholeAims aim h who.vm who.vcpu want told told_later) (told_later ≡ told)) (sym u.accepted)
+    subst (λ (o : Option Answer). UnlessRefused o (WholeAims aim h who.vm who.number want told told_later) (told_later ≡ told)) (sym u.accepted)
     (subst (λ n. StepsAim aim n g begun told told_later) (full_count aim told told_now now later h who want goes u) more)
 
 -- ---- it is refused

@@ -177,7 +177,7 @@ abbrev pub leave_under_way : Moving
 leave_under_way = record {
   who = record {
     vm = 0;
-    vcpu = 1;
+    number = 1;
     slot = 1;
     notice = 0;
     passes = record { items = record { source = 1; identity = 5; number = 0 } ∷ [] };

@@ -27,7 +27,7 @@ use Rattle.aia_hyp.specs.Core.{CoreState}
 
 -- A pass as the core keeps it.
 abbrev pub pass_shown : Passed → Pass
-pass_shown p = record { source = p.source; to = vcpu p.vm p.vcpu; identity = p.identity }
+pass_shown p = record { source = p.source; to = vcpu p.vm p.number; identity = p.identity }
 
 -- The number of the pass of a source, if there is one, among some passes.
 abbrev pub pass_in : List Pass → Option ℕ → Option ℕ

@@ -78,7 +78,7 @@ impl Core {
         ensures refusal { RefusesPass self.now (T.map targets.now) source vm number identity
             (option_map Refused (result_err result)) }
         ensures found { IfOk result (λ found. IsFound self.now.world found) }
-        ensures named { IfOk result (λ found. (found.vm ≡ vm) × (found.vcpu ≡ number)) }
+        ensures named { IfOk result (λ found. (found.vm ≡ vm) × (found.number ≡ number)) }
         ensures identity { IfOk result (λ _. identity ≤ IDENTITIES) }
     {
         let _whole = self.fabric.words();
@@ -91,7 +91,7 @@ impl Core {
         if self.passes.count() >= PASSES {
             return Err(Refusal::Full);
         }
-        if self.is_moved(found.vm, found.vcpu) {
+        if self.is_moved(found.vm, found.number) {
             return Err(Refusal::Busy);
         }
         if self.passes.number_of(source).is_some() {
@@ -108,15 +108,15 @@ impl Core {
         requires harts { self.old.world.imsic.harts ≡ (T.map targets.old).harts }
         requires may { MayPass self.old (T.map targets.old) source }
         requires found { IsFound self.old.world found }
-        requires free { RefusesPass self.old (T.map targets.old) source found.vm found.vcpu identity
+        requires free { RefusesPass self.old (T.map targets.old) source found.vm found.number identity
             None }
         ensures passes { (h : History) → CoreStands self.old h
             → TellsOf (T.map targets.old) h source
             → CoreStands self.new
-            (Accepted (lines.Pass source found.vm found.vcpu identity) ∷ h) }
+            (Accepted (lines.Pass source found.vm found.number identity) ∷ h) }
         ensures aims { (h : History) → CoreStands self.old h
             → AimsBy T.aimed
-            (aimed_by h (Accepted (lines.Pass source found.vm found.vcpu identity)))
+            (aimed_by h (Accepted (lines.Pass source found.vm found.number identity)))
             targets.old targets.new }
     {
         let _whole = self.fabric.words();
@@ -126,7 +126,7 @@ impl Core {
         self.passes.push(Passed {
             source,
             vm: found.vm,
-            vcpu: found.vcpu,
+            number: found.number,
             identity,
         });
     }
@@ -220,8 +220,8 @@ impl Core {
     {
         let (_whole, _few) = (self.fabric.words(), self.passes.count());
         let pass = self.passes.at(number);
-        let notice = self.fabric.notice_hart(pass.vm, pass.vcpu);
-        let slot = self.fabric.slot_of(pass.vm, pass.vcpu);
+        let notice = self.fabric.notice_hart(pass.vm, pass.number);
+        let slot = self.fabric.slot_of(pass.vm, pass.number);
         let taken = Op::Clear(1 << (FIRST_PASS_IDENTITY + number));
         self.fabric
             .reg(Spot::SupervisorFile(notice), FileReg::Pending(0), taken);

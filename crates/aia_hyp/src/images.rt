@@ -113,10 +113,10 @@ impl Core {
     fn load_into(&mut self, found: Found, kept: KeptNumbers, part: Part)
         requires found { IsFound self.old.world found }
         requires whole { IsWhole self.old.world }
-        requires parked { (record_of self.old (vcpu found.vm found.vcpu)).stay
+        requires parked { (record_of self.old (vcpu found.vm found.number)).stay
             ≡ Stay.Parked kept }
         requires loadable { is_loadable self.old.world.n part ≡ true }
-        ensures { CoreTakes self.old self.new (LoadPart found.vm found.vcpu part) Okay }
+        ensures { CoreTakes self.old self.new (LoadPart found.vm found.number part) Okay }
     {
         match part {
             Part::Image {

@@ -52,7 +52,7 @@ impl Core {
         let Some(found) = find(&self.fabric, vm, number) else {
             return Err(Refusal::Range);
         };
-        match self.entered(found.vm, found.vcpu) {
+        match self.entered(found.vm, found.number) {
             Some(kept) => {
                 self.park(found, kept);
                 Ok(())
@@ -65,9 +65,9 @@ impl Core {
     /// pending and enabled.
     fn park(&mut self, found: Found, kept: KeptNumbers)
         requires found { IsFound self.old.world found }
-        requires entered { (record_of self.old (vcpu found.vm found.vcpu)).stay
+        requires entered { (record_of self.old (vcpu found.vm found.number)).stay
             ≡ Stay.Entered kept }
-        ensures { CoreTakes self.old self.new (Exit found.vm found.vcpu) Okay }
+        ensures { CoreTakes self.old self.new (Exit found.vm found.number) Okay }
     {
         let _whole = self.fabric.words();
         put_stay(&mut self.vcpus, found.slot, Stay::Parked(kept));

@@ -41,7 +41,7 @@ pub(crate) struct Found {
     /// Its VM.
     pub vm: u32,
     /// Its number in the VM.
-    pub vcpu: u32,
+    pub number: u32,
     /// Its number over all VMs: that of its slot of memory.
     pub slot: u32,
     /// The hart whose supervisor file takes its notices.
@@ -113,7 +113,7 @@ impl Core {
         let Some(found) = find(&self.fabric, vm, number) else {
             return Err(Refusal::Range);
         };
-        if !self.is_moved(found.vm, found.vcpu) {
+        if !self.is_moved(found.vm, found.number) {
             return Err(Refusal::Idle);
         }
         Ok(self.step_of(found, targets))
@@ -131,7 +131,7 @@ impl Core {
     /// Begins to move a virtual hart that is there, and does no step of the move.
     fn begin_of(&mut self, found: Found, want: Want) -> Result<(), Refusal>
         requires { IsFound self.old.world found }
-        ensures begins { MoveBegins self.old self.new found.vm found.vcpu want
+        ensures begins { MoveBegins self.old self.new found.vm found.number want
             (answer_by (λ _. Okay) result) }
         ensures world { self.new.world ≡ self.old.world }
     {
@@ -147,12 +147,12 @@ impl Core {
     /// was the last one.
     fn step_of<T: Targets>(&mut self, found: Found, targets: &mut T) -> bool
         requires found { IsFound self.old.world found }
-        requires moving { is_moving (home_in (record_of self.old (vcpu found.vm found.vcpu)).stay)
+        requires moving { is_moving (home_in (record_of self.old (vcpu found.vm found.number)).stay)
             ≡ true }
         requires harts { self.old.world.imsic.harts ≡ (T.map targets.old).harts }
-        ensures goes { MoveGoes self.old self.new (vcpu found.vm found.vcpu) result }
+        ensures goes { MoveGoes self.old self.new (vcpu found.vm found.number) result }
         ensures aims { (h : History) → CoreStands self.old h
-            → AimsBy T.aimed (aimed_by h (Stepped (vcpu found.vm found.vcpu))) targets.old
+            → AimsBy T.aimed (aimed_by h (Stepped (vcpu found.vm found.number))) targets.old
             targets.new }
         ensures found { IsFound self.new.world found }
         ensures harts { self.new.world.imsic.harts ≡ (T.map targets.new).harts }
@@ -174,18 +174,18 @@ impl Core {
 /// exactly where it isn't there.
 pub(crate) fn find(fabric: &Fabric, vm: u64, number: u64) -> Option<Found>
     ensures there { IfSome result (λ found. IsFound fabric.now found) }
-    ensures named { IfSome result (λ found. (found.vm ≡ vm) × (found.vcpu ≡ number)) }
+    ensures named { IfSome result (λ found. (found.vm ≡ vm) × (found.number ≡ number)) }
     ensures none { IfNone result (is_vcpu_in fabric.now.vms (vcpu vm number) ≡ false) }
 {
     if !fabric.has_vcpu(vm, number) {
         return None;
     }
-    let (vm, vcpu) = (vm as u32, number as u32);
+    let (vm, number) = (vm as u32, number as u32);
     Some(Found {
         vm,
-        vcpu,
-        slot: fabric.slot_of(vm, vcpu),
-        notice: fabric.notice_hart(vm, vcpu),
+        number,
+        slot: fabric.slot_of(vm, number),
+        notice: fabric.notice_hart(vm, number),
     })
 }
 
@@ -193,19 +193,19 @@ pub(crate) fn find(fabric: &Fabric, vm: u64, number: u64) -> Option<Found>
 fn who_of(found: Found, passes: &Passes) -> Who
     ensures named { result ≡ record {
       vm = found.vm;
-      vcpu = found.vcpu;
+      number = found.number;
       slot = found.slot;
       notice = found.notice;
       passes = result.passes;
     } }
-    ensures passes { result.passes.items ≡ own_passes 0 (vcpu found.vm found.vcpu) passes.now }
+    ensures passes { result.passes.items ≡ own_passes 0 (vcpu found.vm found.number) passes.now }
 {
     Who {
         vm: found.vm,
-        vcpu: found.vcpu,
+        number: found.number,
         slot: found.slot,
         notice: found.notice,
-        passes: passes.to(found.vm, found.vcpu),
+        passes: passes.to(found.vm, found.number),
     }
 }
 

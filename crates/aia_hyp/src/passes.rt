@@ -18,7 +18,7 @@ pub struct Passed {
     /// The virtual hart's VM.
     pub vm: u32,
     /// Its number in the VM.
-    pub vcpu: u32,
+    pub number: u32,
     /// The identity for which the source asks there.
     pub identity: u32,
 }
@@ -104,7 +104,7 @@ fn put_own(own: &mut ArrayVec<Pass, PASSES>, vm: u32, number: u32, k: u32, pass:
     ensures { own.new.items
         ≡ own.old.items ++ own_passes k (vcpu vm number) (pass_shown pass ∷ []) }
 {
-    if pass.vm == vm && pass.vcpu == number {
+    if pass.vm == vm && pass.number == number {
         own.push(Pass {
             source: pass.source,
             identity: pass.identity,

@@ -27,7 +27,7 @@ same_landed w u vm lands =
     }
 
 -- at the fence
-pub all_first : (w u : World) (m : Moving) (fences : Fences w u m.who.vm m.who.vcpu) → is_at_fence m.home ≡ true → LandsFirst w m fences.landed
+pub all_first : (w u : World) (m : Moving) (fences : Fences w u m.who.vm m.who.number) → is_at_fence m.home ≡ true → LandsFirst w m fences.landed
 all_first w u m fences at = record {
   fence = λ e. (fences.lands, fences.whole);
   other = λ e. absurd (false≢true (sym e ∙ at));

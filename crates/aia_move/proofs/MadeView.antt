@@ -149,7 +149,7 @@ carried_word k x members hand now shows c = (λ i e. ap (λ (h : Hand). has_bit 
 
 module _ (w u : World) (who : Who) (there : Home) (hand now : Hand) (whole : IsWhole w) (fits : MoveFits w (record { who = who; home = there; hand = hand })) where
   abbrev it : Vcpu
-  it = vcpu who.vm who.vcpu
+  it = vcpu who.vm who.number
 
   abbrev Made : Access → Type 0
   Made access = StepMade who.slot who.notice access there (places_of w it there) hand (places_of u it there) now
@@ -198,18 +198,18 @@ module _ (w u : World) (who : Who) (there : Home) (hand now : Hand) (whole : IsW
 
 leave_made : (access : Access) (w u : World) (who : Who) (from : Place) (at : Progress) (hand now : Hand) → IsWhole w → MoveFits w (record { who = who; home = (Leaving from at); hand = hand }) → IsNext (width w) (Leaving from at) access
     → Makes access (record { who = who; home = (Leaving from at); hand = hand }) w u → now ≡ hand_after access (record { who = who; home = (Leaving from at); hand = hand }) w
-    → StepMade who.slot who.notice access (Leaving from at) (places_of w (vcpu who.vm who.vcpu) (Leaving from at)) hand (places_of u (vcpu who.vm who.vcpu) (Leaving from at)) now
+    → StepMade who.slot who.notice access (Leaving from at) (places_of w (vcpu who.vm who.number) (Leaving from at)) hand (places_of u (vcpu who.vm who.number) (Leaving from at)) now
 leave_made WriteNotice w u who from at hand now whole fits next makes c = write_notice-made w u who (Leaving from at) hand now whole fits makes c
 leave_made WriteEntry w u who from at hand now whole fits next makes c = write_entry-made w u who (Leaving from at) hand now whole fits makes c
 leave_made Fence w u who from at hand now whole fits next makes c = fence-made w u who (Leaving from at) hand now whole fits makes c
 leave_made Map w u who from at hand now whole fits next makes c = map-made w u who (Leaving from at) hand now whole fits makes c
 leave_made GFence w u who from at hand now whole fits next makes c = gfence-made w u who (Leaving from at) hand now whole fits makes c
-leave_made TakeDelivery w u who from at hand now whole fits next makes c = record { places = own-put w u (vcpu who.vm who.vcpu) (Leaving from at) from Delivery 0 whole (fits.own from refl) makes refl (no_file w from); carried = c }
-leave_made TakeThreshold w u who from at hand now whole fits next makes c = record { places = own-put w u (vcpu who.vm who.vcpu) (Leaving from at) from Threshold 0 whole (fits.own from refl) makes refl (no_file w from); carried = c }
-leave_made (TakePending k) w u who from at hand now whole fits next makes c = record { places = own-pending_taken w u (vcpu who.vm who.vcpu) (Leaving from at) from k hand.word whole (fits.own from refl) refl (no_file w from) makes; carried = carried_word k (get_or (file_at w.imsic (spot_of from)).pending k 0) (places_of w (vcpu who.vm who.vcpu) (Leaving from at)).own.pending hand now (row_shows (file_at w.imsic (spot_of from)).pending k) c }
-leave_made (TakeEnables k) w u who from at hand now whole fits next makes c = record { places = own-enables_taken w u (vcpu who.vm who.vcpu) (Leaving from at) from k hand.word whole (fits.own from refl) refl (no_file w from) makes; carried = carried_word k (get_or (file_at w.imsic (spot_of from)).enabled k 0) (places_of w (vcpu who.vm who.vcpu) (Leaving from at)).own.enabled hand now (row_shows (file_at w.imsic (spot_of from)).enabled k) c }
-leave_made (PutPending k) w u who from at hand now whole fits next makes c = record { places = slot-pending_joined w u (vcpu who.vm who.vcpu) (Leaving from at) who.slot k hand.word whole fits.there fits.slot (of_width w u who (Leaving from at) hand now whole fits k next.has) makes.1; carried = c }
-leave_made (PutEnables k) w u who from at hand now whole fits next makes c = record { places = slot-enables_replaced w u (vcpu who.vm who.vcpu) (Leaving from at) who.slot k hand.word whole fits.there fits.slot (of_width w u who (Leaving from at) hand now whole fits k next.has) makes.1; carried = c }
+leave_made TakeDelivery w u who from at hand now whole fits next makes c = record { places = own-put w u (vcpu who.vm who.number) (Leaving from at) from Delivery 0 whole (fits.own from refl) makes refl (no_file w from); carried = c }
+leave_made TakeThreshold w u who from at hand now whole fits next makes c = record { places = own-put w u (vcpu who.vm who.number) (Leaving from at) from Threshold 0 whole (fits.own from refl) makes refl (no_file w from); carried = c }
+leave_made (TakePending k) w u who from at hand now whole fits next makes c = record { places = own-pending_taken w u (vcpu who.vm who.number) (Leaving from at) from k hand.word whole (fits.own from refl) refl (no_file w from) makes; carried = carried_word k (get_or (file_at w.imsic (spot_of from)).pending k 0) (places_of w (vcpu who.vm who.number) (Leaving from at)).own.pending hand now (row_shows (file_at w.imsic (spot_of from)).pending k) c }
+leave_made (TakeEnables k) w u who from at hand now whole fits next makes c = record { places = own-enables_taken w u (vcpu who.vm who.number) (Leaving from at) from k hand.word whole (fits.own from refl) refl (no_file w from) makes; carried = carried_word k (get_or (file_at w.imsic (spot_of from)).enabled k 0) (places_of w (vcpu who.vm who.number) (Leaving from at)).own.enabled hand now (row_shows (file_at w.imsic (spot_of from)).enabled k) c }
+leave_made (PutPending k) w u who from at hand now whole fits next makes c = record { places = slot-pending_joined w u (vcpu who.vm who.number) (Leaving from at) who.slot k hand.word whole fits.there fits.slot (of_width w u who (Leaving from at) hand now whole fits k next.has) makes.1; carried = c }
+leave_made (PutEnables k) w u who from at hand now whole fits next makes c = record { places = slot-enables_replaced w u (vcpu who.vm who.number) (Leaving from at) who.slot k hand.word whole fits.there fits.slot (of_width w u who (Leaving from at) hand now whole fits k next.has) makes.1; carried = c }
 leave_made (Look k) w u who from at hand now whole fits next makes c = look-made w u who (Leaving from at) hand now whole fits k (of_width w u who (Leaving from at) hand now whole fits k next.has) makes c
 leave_made Post w u who from at hand now whole fits next makes c = post-made w u who (Leaving from at) hand now whole fits hand.seen makes c
 leave_made PutDelivery w u who from at hand now whole fits next makes c = let no : false ≡ true = next.has in absurd (cc)
@@ -217,17 +217,17 @@ leave_made PutThreshold w u who from at hand now whole fits next makes c = let n
 
 arrive_made : (access : Access) (w u : World) (who : Who) (to : Place) (at : Progress) (hand now : Hand) → IsWhole w → MoveFits w (record { who = who; home = (Arriving to at); hand = hand }) → IsNext (width w) (Arriving to at) access
     → Makes access (record { who = who; home = (Arriving to at); hand = hand }) w u → now ≡ hand_after access (record { who = who; home = (Arriving to at); hand = hand }) w
-    → StepMade who.slot who.notice access (Arriving to at) (places_of w (vcpu who.vm who.vcpu) (Arriving to at)) hand (places_of u (vcpu who.vm who.vcpu) (Arriving to at)) now
+    → StepMade who.slot who.notice access (Arriving to at) (places_of w (vcpu who.vm who.number) (Arriving to at)) hand (places_of u (vcpu who.vm who.number) (Arriving to at)) now
 arrive_made WriteEntry w u who to at hand now whole fits next makes c = write_entry-made w u who (Arriving to at) hand now whole fits makes c
 arrive_made Fence w u who to at hand now whole fits next makes c = fence-made w u who (Arriving to at) hand now whole fits makes c
 arrive_made Map w u who to at hand now whole fits next makes c = map-made w u who (Arriving to at) hand now whole fits makes c
 arrive_made GFence w u who to at hand now whole fits next makes c = gfence-made w u who (Arriving to at) hand now whole fits makes c
-arrive_made PutDelivery w u who to at hand now whole fits next makes c = record { places = own-put w u (vcpu who.vm who.vcpu) (Arriving to at) to Delivery hand.delivery whole (fits.own to refl) makes refl (no_file w to); carried = c }
-arrive_made PutThreshold w u who to at hand now whole fits next makes c = record { places = own-put w u (vcpu who.vm who.vcpu) (Arriving to at) to Threshold hand.threshold whole (fits.own to refl) makes refl (no_file w to); carried = c }
-arrive_made (TakePending k) w u who to at hand now whole fits next makes c = record { places = slot-pending_taken w u (vcpu who.vm who.vcpu) (Arriving to at) who.slot k hand.word whole fits.there fits.slot (of_width w u who (Arriving to at) hand now whole fits k next.has) makes; carried = carried_word k (get_or w.memory (pending_place who.slot k) 0) (places_of w (vcpu who.vm who.vcpu) (Arriving to at)).slot.pending hand now (slot_pending-shows w u (vcpu who.vm who.vcpu) (Arriving to at) who.slot k hand.word whole fits.there fits.slot (of_width w u who (Arriving to at) hand now whole fits k next.has)) c }
-arrive_made (TakeEnables k) w u who to at hand now whole fits next makes c = record { places = slot-enables_taken w u (vcpu who.vm who.vcpu) (Arriving to at) who.slot k hand.word whole fits.there fits.slot (of_width w u who (Arriving to at) hand now whole fits k next.has) makes; carried = carried_word k (get_or w.memory (enable_place who.slot k) 0) (places_of w (vcpu who.vm who.vcpu) (Arriving to at)).slot.enabled hand now (slot_enables-shows w u (vcpu who.vm who.vcpu) (Arriving to at) who.slot k hand.word whole fits.there fits.slot (of_width w u who (Arriving to at) hand now whole fits k next.has)) c }
-arrive_made (PutPending k) w u who to at hand now whole fits next makes c = record { places = own-pending_joined w u (vcpu who.vm who.vcpu) (Arriving to at) to k hand.word whole (fits.own to refl) refl (no_file w to) makes.0 makes.1; carried = c }
-arrive_made (PutEnables k) w u who to at hand now whole fits next makes c = record { places = own-enables_replaced w u (vcpu who.vm who.vcpu) (Arriving to at) to k hand.word whole (fits.own to refl) refl (no_file w to) makes.0 makes.1; carried = c }
+arrive_made PutDelivery w u who to at hand now whole fits next makes c = record { places = own-put w u (vcpu who.vm who.number) (Arriving to at) to Delivery hand.delivery whole (fits.own to refl) makes refl (no_file w to); carried = c }
+arrive_made PutThreshold w u who to at hand now whole fits next makes c = record { places = own-put w u (vcpu who.vm who.number) (Arriving to at) to Threshold hand.threshold whole (fits.own to refl) makes refl (no_file w to); carried = c }
+arrive_made (TakePending k) w u who to at hand now whole fits next makes c = record { places = slot-pending_taken w u (vcpu who.vm who.number) (Arriving to at) who.slot k hand.word whole fits.there fits.slot (of_width w u who (Arriving to at) hand now whole fits k next.has) makes; carried = carried_word k (get_or w.memory (pending_place who.slot k) 0) (places_of w (vcpu who.vm who.number) (Arriving to at)).slot.pending hand now (slot_pending-shows w u (vcpu who.vm who.number) (Arriving to at) who.slot k hand.word whole fits.there fits.slot (of_width w u who (Arriving to at) hand now whole fits k next.has)) c }
+arrive_made (TakeEnables k) w u who to at hand now whole fits next makes c = record { places = slot-enables_taken w u (vcpu who.vm who.number) (Arriving to at) who.slot k hand.word whole fits.there fits.slot (of_width w u who (Arriving to at) hand now whole fits k next.has) makes; carried = carried_word k (get_or w.memory (enable_place who.slot k) 0) (places_of w (vcpu who.vm who.number) (Arriving to at)).slot.enabled hand now (slot_enables-shows w u (vcpu who.vm who.number) (Arriving to at) who.slot k hand.word whole fits.there fits.slot (of_width w u who (Arriving to at) hand now whole fits k next.has)) c }
+arrive_made (PutPending k) w u who to at hand now whole fits next makes c = record { places = own-pending_joined w u (vcpu who.vm who.number) (Arriving to at) to k hand.word whole (fits.own to refl) refl (no_file w to) makes.0 makes.1; carried = c }
+arrive_made (PutEnables k) w u who to at hand now whole fits next makes c = record { places = own-enables_replaced w u (vcpu who.vm who.number) (Arriving to at) to k hand.word whole (fits.own to refl) refl (no_file w to) makes.0 makes.1; carried = c }
 arrive_made TakeDelivery w u who to at hand now whole fits next makes c = let no : false ≡ true = next.has in absurd (cc)
 arrive_made TakeThreshold w u who to at hand now whole fits next makes c = let no : false ≡ true = next.has in absurd (cc)
 arrive_made WriteNotice w u who to at hand now whole fits next makes c = let no : false ≡ true = next.has in absurd (cc)
@@ -236,26 +236,26 @@ arrive_made Post w u who to at hand now whole fits next makes c = let no : false
 
 shift_made : (access : Access) (w u : World) (who : Who) (from to : Place) (at : Progress) (hand now : Hand) → IsWhole w → MoveFits w (record { who = who; home = (Shifting from to at); hand = hand }) → is_place from to ≡ false → IsNext (width w) (Shifting from to at) access
     → Makes access (record { who = who; home = (Shifting from to at); hand = hand }) w u → now ≡ hand_after access (record { who = who; home = (Shifting from to at); hand = hand }) w
-    → StepMade who.slot who.notice access (Shifting from to at) (places_of w (vcpu who.vm who.vcpu) (Shifting from to at)) hand (places_of u (vcpu who.vm who.vcpu) (Shifting from to at)) now
+    → StepMade who.slot who.notice access (Shifting from to at) (places_of w (vcpu who.vm who.number) (Shifting from to at)) hand (places_of u (vcpu who.vm who.number) (Shifting from to at)) now
 shift_made WriteEntry w u who from to at hand now whole fits apart next makes c = write_entry-made w u who (Shifting from to at) hand now whole fits makes c
 shift_made Fence w u who from to at hand now whole fits apart next makes c = fence-made w u who (Shifting from to at) hand now whole fits makes c
 shift_made Map w u who from to at hand now whole fits apart next makes c = map-made w u who (Shifting from to at) hand now whole fits makes c
 shift_made GFence w u who from to at hand now whole fits apart next makes c = gfence-made w u who (Shifting from to at) hand now whole fits makes c
-shift_made TakeDelivery w u who from to at hand now whole fits apart next makes c = record { places = own-put w u (vcpu who.vm who.vcpu) (Shifting from to at) from Delivery 0 whole (fits.own from refl) makes refl (one_file w from to (fits.next to refl) (other_way from to apart)); carried = c }
-shift_made TakeThreshold w u who from to at hand now whole fits apart next makes c = record { places = own-put w u (vcpu who.vm who.vcpu) (Shifting from to at) from Threshold 0 whole (fits.own from refl) makes refl (one_file w from to (fits.next to refl) (other_way from to apart)); carried = c }
-shift_made PutDelivery w u who from to at hand now whole fits apart next makes c = record { places = next-put w u (vcpu who.vm who.vcpu) (Shifting from to at) to Delivery hand.delivery whole (fits.next to refl) makes refl (one_file w to from (fits.own from refl) apart); carried = c }
-shift_made PutThreshold w u who from to at hand now whole fits apart next makes c = record { places = next-put w u (vcpu who.vm who.vcpu) (Shifting from to at) to Threshold hand.threshold whole (fits.next to refl) makes refl (one_file w to from (fits.own from refl) apart); carried = c }
-shift_made (TakePending k) w u who from to at hand now whole fits apart next makes c = record { places = own-pending_taken w u (vcpu who.vm who.vcpu) (Shifting from to at) from k hand.word whole (fits.own from refl) refl (one_file w from to (fits.next to refl) (other_way from to apart)) makes; carried = carried_word k (get_or (file_at w.imsic (spot_of from)).pending k 0) (places_of w (vcpu who.vm who.vcpu) (Shifting from to at)).own.pending hand now (row_shows (file_at w.imsic (spot_of from)).pending k) c }
-shift_made (TakeEnables k) w u who from to at hand now whole fits apart next makes c = record { places = own-enables_taken w u (vcpu who.vm who.vcpu) (Shifting from to at) from k hand.word whole (fits.own from refl) refl (one_file w from to (fits.next to refl) (other_way from to apart)) makes; carried = carried_word k (get_or (file_at w.imsic (spot_of from)).enabled k 0) (places_of w (vcpu who.vm who.vcpu) (Shifting from to at)).own.enabled hand now (row_shows (file_at w.imsic (spot_of from)).enabled k) c }
-shift_made (PutPending k) w u who from to at hand now whole fits apart next makes c = record { places = next-pending_joined w u (vcpu who.vm who.vcpu) (Shifting from to at) to k hand.word whole (fits.next to refl) refl (one_file w to from (fits.own from refl) apart) makes.0 makes.1; carried = c }
-shift_made (PutEnables k) w u who from to at hand now whole fits apart next makes c = record { places = next-enables_replaced w u (vcpu who.vm who.vcpu) (Shifting from to at) to k hand.word whole (fits.next to refl) refl (one_file w to from (fits.own from refl) apart) makes.0 makes.1; carried = c }
+shift_made TakeDelivery w u who from to at hand now whole fits apart next makes c = record { places = own-put w u (vcpu who.vm who.number) (Shifting from to at) from Delivery 0 whole (fits.own from refl) makes refl (one_file w from to (fits.next to refl) (other_way from to apart)); carried = c }
+shift_made TakeThreshold w u who from to at hand now whole fits apart next makes c = record { places = own-put w u (vcpu who.vm who.number) (Shifting from to at) from Threshold 0 whole (fits.own from refl) makes refl (one_file w from to (fits.next to refl) (other_way from to apart)); carried = c }
+shift_made PutDelivery w u who from to at hand now whole fits apart next makes c = record { places = next-put w u (vcpu who.vm who.number) (Shifting from to at) to Delivery hand.delivery whole (fits.next to refl) makes refl (one_file w to from (fits.own from refl) apart); carried = c }
+shift_made PutThreshold w u who from to at hand now whole fits apart next makes c = record { places = next-put w u (vcpu who.vm who.number) (Shifting from to at) to Threshold hand.threshold whole (fits.next to refl) makes refl (one_file w to from (fits.own from refl) apart); carried = c }
+shift_made (TakePending k) w u who from to at hand now whole fits apart next makes c = record { places = own-pending_taken w u (vcpu who.vm who.number) (Shifting from to at) from k hand.word whole (fits.own from refl) refl (one_file w from to (fits.next to refl) (other_way from to apart)) makes; carried = carried_word k (get_or (file_at w.imsic (spot_of from)).pending k 0) (places_of w (vcpu who.vm who.number) (Shifting from to at)).own.pending hand now (row_shows (file_at w.imsic (spot_of from)).pending k) c }
+shift_made (TakeEnables k) w u who from to at hand now whole fits apart next makes c = record { places = own-enables_taken w u (vcpu who.vm who.number) (Shifting from to at) from k hand.word whole (fits.own from refl) refl (one_file w from to (fits.next to refl) (other_way from to apart)) makes; carried = carried_word k (get_or (file_at w.imsic (spot_of from)).enabled k 0) (places_of w (vcpu who.vm who.number) (Shifting from to at)).own.enabled hand now (row_shows (file_at w.imsic (spot_of from)).enabled k) c }
+shift_made (PutPending k) w u who from to at hand now whole fits apart next makes c = record { places = next-pending_joined w u (vcpu who.vm who.number) (Shifting from to at) to k hand.word whole (fits.next to refl) refl (one_file w to from (fits.own from refl) apart) makes.0 makes.1; carried = c }
+shift_made (PutEnables k) w u who from to at hand now whole fits apart next makes c = record { places = next-enables_replaced w u (vcpu who.vm who.number) (Shifting from to at) to k hand.word whole (fits.next to refl) refl (one_file w to from (fits.own from refl) apart) makes.0 makes.1; carried = c }
 shift_made WriteNotice w u who from to at hand now whole fits apart next makes c = let no : false ≡ true = next.has in absurd (cc)
 shift_made (Look k) w u who from to at hand now whole fits apart next makes c = let no : false ≡ true = next.has in absurd (cc)
 shift_made Post w u who from to at hand now whole fits apart next makes c = let no : false ≡ true = next.has in absurd (cc)
 
 made_by : (access : Access) (w u : World) (who : Who) (there : Home) (hand now : Hand) → IsWhole w → MoveFits w (record { who = who; home = there; hand = hand }) → AreApart there → IsNext (width w) there access
     → Makes access (record { who = who; home = there; hand = hand }) w u → now ≡ hand_after access (record { who = who; home = there; hand = hand }) w
-    → StepMade who.slot who.notice access there (places_of w (vcpu who.vm who.vcpu) there) hand (places_of u (vcpu who.vm who.vcpu) there) now
+    → StepMade who.slot who.notice access there (places_of w (vcpu who.vm who.number) there) hand (places_of u (vcpu who.vm who.number) there) now
 made_by access w u who Parked hand now whole fits apart next makes c = let no : false ≡ true = next.has in absurd (cc)
 made_by access w u who Entered hand now whole fits apart next makes c = let no : false ≡ true = next.has in absurd (cc)
 made_by access w u who (Resident p) hand now whole fits apart next makes c = let no : false ≡ true = next.has in absurd (cc)

@@ -114,24 +114,24 @@ module _ (w u : World) (m : Moving) where
     one_entry : (a b c d x y : ℕ) → b < ENTRIES → d < ENTRIES → x ≤ 1 → y ≤ 1 → entry_word_place a b + x ≡ entry_word_place c d + y → (a ≡ c) × (b ≡ d)
     one_entry a b c d x y low small one two e = (omega arith, omega arith)
 
-    pub touches_entry : (which v : ℕ) → which ≤ 1 → u ≡ with_entry_word w m.who.vm m.who.vcpu which v → Touches false w u m
-    touches_entry which v one e = touches_word (entry_word_place m.who.vm m.who.vcpu + which) v (λ r small other. inr (omega arith)) apart e
+    pub touches_entry : (which v : ℕ) → which ≤ 1 → u ≡ with_entry_word w m.who.vm m.who.number which v → Touches false w u m
+    touches_entry which v one e = touches_word (entry_word_place m.who.vm m.who.number + which) v (λ r small other. inr (omega arith)) apart e
       where
-        apart : (g : Vcpu) → is_vcpu_in w.vms g ≡ true → g ≢ mover m → (entry_word_place g.vm g.number ≢ entry_word_place m.who.vm m.who.vcpu + which) × (entry_word_place g.vm g.number + 1 ≢ entry_word_place m.who.vm m.who.vcpu + which)
+        apart : (g : Vcpu) → is_vcpu_in w.vms g ≡ true → g ≢ mover m → (entry_word_place g.vm g.number ≢ entry_word_place m.who.vm m.who.number + which) × (entry_word_place g.vm g.number + 1 ≢ entry_word_place m.who.vm m.who.number + which)
         apart g there other =
-            let mine = vcpu_entry w m.who.vm m.who.vcpu whole stands in
+            let mine = vcpu_entry w m.who.vm m.who.number whole stands in
             let its = vcpu_entry w g.vm g.number whole there in (
-              λ same. let zero : entry_word_place g.vm g.number + 0 ≡ entry_word_place m.who.vm m.who.vcpu + which = omega (arith, same) in
-                  let both = one_entry g.vm g.number m.who.vm m.who.vcpu 0 which its.2 mine.2 (omega arith) one zero in other (λ k. vcpu (both.0 k) (both.1 k)),
-              λ same. let both = one_entry g.vm g.number m.who.vm m.who.vcpu 1 which its.2 mine.2 (omega arith) one same in other (λ k. vcpu (both.0 k) (both.1 k)),
+              λ same. let zero : entry_word_place g.vm g.number + 0 ≡ entry_word_place m.who.vm m.who.number + which = omega (arith, same) in
+                  let both = one_entry g.vm g.number m.who.vm m.who.number 0 which its.2 mine.2 (omega arith) one zero in other (λ k. vcpu (both.0 k) (both.1 k)),
+              λ same. let both = one_entry g.vm g.number m.who.vm m.who.number 1 which its.2 mine.2 (omega arith) one same in other (λ k. vcpu (both.0 k) (both.1 k)),
             )
 
-    pub touches_fence : u ≡ with_fence w m.who.vm m.who.vcpu → Touches false w u m
+    pub touches_fence : u ≡ with_fence w m.who.vm m.who.number → Touches false w u m
     touches_fence e = subst TouchesOwn (sym e) (record {
       rest = refl;
-      tables = fenced_count w.tables m.who.vm m.who.vcpu w.memory;
-      masks = λ v. fenced_mask w.tables m.who.vm m.who.vcpu w.memory v;
-      starts = λ v. fenced_start w.tables m.who.vm m.who.vcpu w.memory v;
+      tables = fenced_count w.tables m.who.vm m.who.number w.memory;
+      masks = λ v. fenced_mask w.tables m.who.vm m.who.number w.memory v;
+      starts = λ v. fenced_start w.tables m.who.vm m.who.number w.memory v;
       guest_files = λ r there none. refl;
       machine_files = λ hart low. refl;
       host_files = λ hart low other. refl;
@@ -139,11 +139,11 @@ module _ (w u : World) (m : Moving) where
       count = λ no. refl;
       slots = λ r low other. refl;
       entry_words = λ g there other. (refl, refl);
-      in_force = λ g other. fenced_elsewhere w.tables m.who.vm m.who.vcpu w.memory g.vm g.number (elsewhere g other);
+      in_force = λ g other. fenced_elsewhere w.tables m.who.vm m.who.number w.memory g.vm g.number (elsewhere g other);
       stages = λ q other. refl;
     })
       where
-        elsewhere : (g : Vcpu) → g ≢ mover m → (g.vm ≢ m.who.vm) ⊎ (g.number ≢ m.who.vcpu)
+        elsewhere : (g : Vcpu) → g ≢ mover m → (g.vm ≢ m.who.vm) ⊎ (g.number ≢ m.who.number)
         elsewhere g other = elim (cases_eq g.vm m.who.vm) [
           | inl same ↦ inr (λ too. other (λ k. vcpu (same k) (too k)))
           | inr ne ↦ inl ne
@@ -200,23 +200,23 @@ leave_touches : (access : Access) (w u : World) (who : Who) (from : Place) (at :
 leave_touches WriteNotice w u who from at hand whole fits next makes = touches_entry w u (record { who = who; home = (Leaving from at); hand = hand }) whole fits.there 1 (second_word who.slot who.notice) (omega arith) makes
 leave_touches WriteEntry w u who from at hand whole fits next makes = touches_entry w u (record { who = who; home = (Leaving from at); hand = hand }) whole fits.there 0 (entry_word who.slot (new_file (Leaving from at))) (omega arith) makes
 leave_touches Fence w u who from at hand whole fits next makes = touches_fence w u (record { who = who; home = (Leaving from at); hand = hand }) whole fits.there makes
-leave_touches Map w u who from at hand whole fits next makes = touches_stage w u (record { who = who; home = (Leaving from at); hand = hand }) whole fits.there (record (stage_of w (vcpu who.vm who.vcpu)) { written = new_file (Leaving from at) }) makes
-leave_touches GFence w u who from at hand whole fits next makes = touches_stage w u (record { who = who; home = (Leaving from at); hand = hand }) whole fits.there (record (stage_of w (vcpu who.vm who.vcpu)) { in_force = (stage_of w (vcpu who.vm who.vcpu)).written }) makes
+leave_touches Map w u who from at hand whole fits next makes = touches_stage w u (record { who = who; home = (Leaving from at); hand = hand }) whole fits.there (record (stage_of w (vcpu who.vm who.number)) { written = new_file (Leaving from at) }) makes
+leave_touches GFence w u who from at hand whole fits next makes = touches_stage w u (record { who = who; home = (Leaving from at); hand = hand }) whole fits.there (record (stage_of w (vcpu who.vm who.number)) { in_force = (stage_of w (vcpu who.vm who.number)).written }) makes
 leave_touches TakeDelivery w u who from at hand whole fits next makes = touches_file w u (record { who = who; home = (Leaving from at); hand = hand }) from (file_at u.imsic (spot_of from)) (fits.own from refl) (is_itself_place from) makes.others
 leave_touches TakeThreshold w u who from at hand whole fits next makes = touches_file w u (record { who = who; home = (Leaving from at); hand = hand }) from (file_at u.imsic (spot_of from)) (fits.own from refl) (is_itself_place from) makes.others
 leave_touches (TakePending k) w u who from at hand whole fits next makes = touches_file w u (record { who = who; home = (Leaving from at); hand = hand }) from (record (file_at w.imsic (spot_of from)) { pending = set (file_at w.imsic (spot_of from)).pending k 0 }) (fits.own from refl) (is_itself_place from) makes
 leave_touches (TakeEnables k) w u who from at hand whole fits next makes = touches_file w u (record { who = who; home = (Leaving from at); hand = hand }) from (record (file_at w.imsic (spot_of from)) { enabled = set (file_at w.imsic (spot_of from)).enabled k 0 }) (fits.own from refl) (is_itself_place from) makes
 leave_touches (PutPending k) w u who from at hand whole fits next makes =
     let few : k < FILE_WORDS = of_width w k whole next.has in
-    let low : who.slot < SLOTS = let small = slot_low w (vcpu who.vm who.vcpu) whole fits.there in omega (arith, small, fits.slot) in
+    let low : who.slot < SLOTS = let small = slot_low w (vcpu who.vm who.number) whole fits.there in omega (arith, small, fits.slot) in
     touches_slot w u (record { who = who; home = (Leaving from at); hand = hand }) whole fits.there (pending_place who.slot k) (2 * k) (bit_or (get_or w.memory (pending_place who.slot k) 0) hand.word) (omega arith) low (omega arith) makes.1
 leave_touches (PutEnables k) w u who from at hand whole fits next makes =
     let few : k < FILE_WORDS = of_width w k whole next.has in
-    let low : who.slot < SLOTS = let small = slot_low w (vcpu who.vm who.vcpu) whole fits.there in omega (arith, small, fits.slot) in
+    let low : who.slot < SLOTS = let small = slot_low w (vcpu who.vm who.number) whole fits.there in omega (arith, small, fits.slot) in
     touches_slot w u (record { who = who; home = (Leaving from at); hand = hand }) whole fits.there (enable_place who.slot k) (2 * k + 1) hand.word (omega arith) low (omega arith) makes.1
 leave_touches (Look k) w u who from at hand whole fits next makes = touches_nothing w u (record { who = who; home = (Leaving from at); hand = hand }) makes
 leave_touches Post w u who from at hand whole fits next makes =
-    let low : who.notice < w.imsic.harts = let small = notice_hart_there w (vcpu who.vm who.vcpu) whole fits.there in omega (arith, small, fits.notice) in
+    let low : who.notice < w.imsic.harts = let small = notice_hart_there w (vcpu who.vm who.number) whole fits.there in omega (arith, small, fits.notice) in
     touches_notice_if w u (record { who = who; home = (Leaving from at); hand = hand }) hand.seen low makes
 leave_touches PutDelivery w u who from at hand whole fits next makes = let no : false ≡ true = next.has in absurd (cc)
 leave_touches PutThreshold w u who from at hand whole fits next makes = let no : false ≡ true = next.has in absurd (cc)
@@ -225,17 +225,17 @@ arrive_touches : (access : Access) (w u : World) (who : Who) (to : Place) (at : 
     → Makes access (record { who = who; home = (Arriving to at); hand = hand }) w u → Touches (sends access hand) w u (record { who = who; home = (Arriving to at); hand = hand })
 arrive_touches WriteEntry w u who to at hand whole fits next makes = touches_entry w u (record { who = who; home = (Arriving to at); hand = hand }) whole fits.there 0 (entry_word who.slot (new_file (Arriving to at))) (omega arith) makes
 arrive_touches Fence w u who to at hand whole fits next makes = touches_fence w u (record { who = who; home = (Arriving to at); hand = hand }) whole fits.there makes
-arrive_touches Map w u who to at hand whole fits next makes = touches_stage w u (record { who = who; home = (Arriving to at); hand = hand }) whole fits.there (record (stage_of w (vcpu who.vm who.vcpu)) { written = new_file (Arriving to at) }) makes
-arrive_touches GFence w u who to at hand whole fits next makes = touches_stage w u (record { who = who; home = (Arriving to at); hand = hand }) whole fits.there (record (stage_of w (vcpu who.vm who.vcpu)) { in_force = (stage_of w (vcpu who.vm who.vcpu)).written }) makes
+arrive_touches Map w u who to at hand whole fits next makes = touches_stage w u (record { who = who; home = (Arriving to at); hand = hand }) whole fits.there (record (stage_of w (vcpu who.vm who.number)) { written = new_file (Arriving to at) }) makes
+arrive_touches GFence w u who to at hand whole fits next makes = touches_stage w u (record { who = who; home = (Arriving to at); hand = hand }) whole fits.there (record (stage_of w (vcpu who.vm who.number)) { in_force = (stage_of w (vcpu who.vm who.number)).written }) makes
 arrive_touches PutDelivery w u who to at hand whole fits next makes = touches_file w u (record { who = who; home = (Arriving to at); hand = hand }) to (file_at u.imsic (spot_of to)) (fits.own to refl) (is_itself_place to) makes.others
 arrive_touches PutThreshold w u who to at hand whole fits next makes = touches_file w u (record { who = who; home = (Arriving to at); hand = hand }) to (file_at u.imsic (spot_of to)) (fits.own to refl) (is_itself_place to) makes.others
 arrive_touches (TakePending k) w u who to at hand whole fits next makes =
     let few : k < FILE_WORDS = of_width w k whole next.has in
-    let low : who.slot < SLOTS = let small = slot_low w (vcpu who.vm who.vcpu) whole fits.there in omega (arith, small, fits.slot) in
+    let low : who.slot < SLOTS = let small = slot_low w (vcpu who.vm who.number) whole fits.there in omega (arith, small, fits.slot) in
     touches_slot w u (record { who = who; home = (Arriving to at); hand = hand }) whole fits.there (pending_place who.slot k) (2 * k) 0 (omega arith) low (omega arith) makes
 arrive_touches (TakeEnables k) w u who to at hand whole fits next makes =
     let few : k < FILE_WORDS = of_width w k whole next.has in
-    let low : who.slot < SLOTS = let small = slot_low w (vcpu who.vm who.vcpu) whole fits.there in omega (arith, small, fits.slot) in
+    let low : who.slot < SLOTS = let small = slot_low w (vcpu who.vm who.number) whole fits.there in omega (arith, small, fits.slot) in
     touches_slot w u (record { who = who; home = (Arriving to at); hand = hand }) whole fits.there (enable_place who.slot k) (2 * k + 1) 0 (omega arith) low (omega arith) makes
 arrive_touches (PutPending k) w u who to at hand whole fits next makes = touches_file w u (record { who = who; home = (Arriving to at); hand = hand }) to (record (file_at w.imsic (spot_of to)) { pending = set (file_at w.imsic (spot_of to)).pending k (bit_or (get_or (file_at w.imsic (spot_of to)).pending k 0) hand.word) }) (fits.own to refl) (is_itself_place to) makes.1
 arrive_touches (PutEnables k) w u who to at hand whole fits next makes = touches_file w u (record { who = who; home = (Arriving to at); hand = hand }) to (record (file_at w.imsic (spot_of to)) { enabled = set (file_at w.imsic (spot_of to)).enabled k hand.word }) (fits.own to refl) (is_itself_place to) makes.1
@@ -249,8 +249,8 @@ shift_touches : (access : Access) (w u : World) (who : Who) (from to : Place) (a
     → Makes access (record { who = who; home = (Shifting from to at); hand = hand }) w u → Touches (sends access hand) w u (record { who = who; home = (Shifting from to at); hand = hand })
 shift_touches WriteEntry w u who from to at hand whole fits next makes = touches_entry w u (record { who = who; home = (Shifting from to at); hand = hand }) whole fits.there 0 (entry_word who.slot (new_file (Shifting from to at))) (omega arith) makes
 shift_touches Fence w u who from to at hand whole fits next makes = touches_fence w u (record { who = who; home = (Shifting from to at); hand = hand }) whole fits.there makes
-shift_touches Map w u who from to at hand whole fits next makes = touches_stage w u (record { who = who; home = (Shifting from to at); hand = hand }) whole fits.there (record (stage_of w (vcpu who.vm who.vcpu)) { written = new_file (Shifting from to at) }) makes
-shift_touches GFence w u who from to at hand whole fits next makes = touches_stage w u (record { who = who; home = (Shifting from to at); hand = hand }) whole fits.there (record (stage_of w (vcpu who.vm who.vcpu)) { in_force = (stage_of w (vcpu who.vm who.vcpu)).written }) makes
+shift_touches Map w u who from to at hand whole fits next makes = touches_stage w u (record { who = who; home = (Shifting from to at); hand = hand }) whole fits.there (record (stage_of w (vcpu who.vm who.number)) { written = new_file (Shifting from to at) }) makes
+shift_touches GFence w u who from to at hand whole fits next makes = touches_stage w u (record { who = who; home = (Shifting from to at); hand = hand }) whole fits.there (record (stage_of w (vcpu who.vm who.number)) { in_force = (stage_of w (vcpu who.vm who.number)).written }) makes
 shift_touches TakeDelivery w u who from to at hand whole fits next makes = touches_file w u (record { who = who; home = (Shifting from to at); hand = hand }) from (file_at u.imsic (spot_of from)) (fits.own from refl) (or_left (is_place from from) (is_place from to) (is_itself_place from)) makes.others
 shift_touches TakeThreshold w u who from to at hand whole fits next makes = touches_file w u (record { who = who; home = (Shifting from to at); hand = hand }) from (file_at u.imsic (spot_of from)) (fits.own from refl) (or_left (is_place from from) (is_place from to) (is_itself_place from)) makes.others
 shift_touches PutDelivery w u who from to at hand whole fits next makes = touches_file w u (record { who = who; home = (Shifting from to at); hand = hand }) to (file_at u.imsic (spot_of to)) (fits.next to refl) (or_right (is_place to from) (is_place to to) (is_itself_place to)) makes.others

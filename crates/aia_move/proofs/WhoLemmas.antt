@@ -22,8 +22,8 @@ use Rattle.aia_move.specs.Move.{Moving, IsWho, MoveFits, PostsIf, old_by, new_by
 pub small_who : (w : World) (who : Who) → IsWhole w → IsWho w who → (who.slot < vcpus_in w.vms) × (who.slot < VCPUS) × (who.notice < HARTS)
 small_who w who whole is =
     let slot = is.slot in
-    let below = slot_below w.vms (vcpu who.vm who.vcpu) is.there in
-    let hart = notice_hart_there w (vcpu who.vm who.vcpu) whole is.there in
+    let below = slot_below w.vms (vcpu who.vm who.number) is.there in
+    let hart = notice_hart_there w (vcpu who.vm who.number) whole is.there in
     (omega (arith, slot, below), omega (arith, slot, below, whole.vcpus), omega (arith, is.notice, hart, whole.harts))
 
 pub small_file : (w : World) (to : Option Place) → IsWhole w → ((p : Place) → to ≡ Some p → IsThere w.imsic (spot_of p)) → IfSome to (λ p. (p.hart < HARTS) × (p.file ≤ GUEST_FILES))
@@ -37,7 +37,7 @@ pub posts_if : (w u : World) (who same : Who) (seen : Bool) → seen ≡ true �
     → ((g : Vcpu) → is_vcpu_in w.vms g ≡ true → slot_of w.vms g ≡ same.slot → Posts w u (SupervisorFile (notice_hart w.vms g)) (same.slot + 1)) → PostsIf seen w u who.notice (who.slot + 1)
 posts_if w u who same seen on e is posts =
     let slot : same.slot ≡ who.slot = ap (λ (x : Who). x.slot) e in
-    rw (on, is.notice) (subst (λ n. Posts w u (SupervisorFile (notice_hart w.vms (vcpu who.vm who.vcpu))) (n + 1)) slot (posts (vcpu who.vm who.vcpu) is.there (sym (slot ∙ is.slot))))
+    rw (on, is.notice) (subst (λ n. Posts w u (SupervisorFile (notice_hart w.vms (vcpu who.vm who.number))) (n + 1)) slot (posts (vcpu who.vm who.number) is.there (sym (slot ∙ is.slot))))
 
 -- the slot of a state m, which is seen as s
 pub slot_there : (w : World) (m s : Moving) → m ≡ s → IsWhole w → MoveFits w s → m.who.slot < VCPUS

@@ -29,7 +29,7 @@ pub record Moving : Type 0 where
 
 -- The virtual hart that is moved.
 abbrev pub mover : Moving → Vcpu
-mover m = vcpu m.who.vm m.who.vcpu
+mover m = vcpu m.who.vm m.who.number
 
 -- How many words each set of a file has.
 abbrev pub width : World → ℕ
@@ -76,10 +76,10 @@ abbrev pub Makes : Access → Moving → World → World → Type 0
 Makes TakeDelivery m w u = PutsRegister w u (old_spot m) Delivery 0
 Makes PutDelivery m w u = PutsRegister w u (new_spot m) Delivery m.hand.delivery
 Makes WriteNotice m w u =
-    u ≡ with_entry_word w m.who.vm m.who.vcpu 1 (second_word m.who.slot m.who.notice)
+    u ≡ with_entry_word w m.who.vm m.who.number 1 (second_word m.who.slot m.who.notice)
 Makes WriteEntry m w u =
-    u ≡ with_entry_word w m.who.vm m.who.vcpu 0 (entry_word m.who.slot (new_file m.home))
-Makes Fence m w u = u ≡ with_fence w m.who.vm m.who.vcpu
+    u ≡ with_entry_word w m.who.vm m.who.number 0 (entry_word m.who.slot (new_file m.home))
+Makes Fence m w u = u ≡ with_fence w m.who.vm m.who.number
 Makes Map m w u = u ≡ with_map w (mover m) (new_file m.home)
 Makes GFence m w u = u ≡ with_gfence w (mover m)
 Makes (TakePending k) m w u = u ≡ with_pending w (old_at m) k 0
@@ -111,9 +111,9 @@ hand_after access m w = m.hand
 
 -- The virtual hart is there, with its slot and its notice hart.
 pub record IsWho (w : World) (who : Who) : Type 0 where
-  pub there : is_vcpu_in w.vms (vcpu who.vm who.vcpu) ≡ true
-  pub slot : who.slot ≡ slot_of w.vms (vcpu who.vm who.vcpu)
-  pub notice : who.notice ≡ notice_hart w.vms (vcpu who.vm who.vcpu)
+  pub there : is_vcpu_in w.vms (vcpu who.vm who.number) ≡ true
+  pub slot : who.slot ≡ slot_of w.vms (vcpu who.vm who.number)
+  pub notice : who.notice ≡ notice_hart w.vms (vcpu who.vm who.number)
 
 -- Its places are there: the virtual hart with its slot and notice hart, and the files of its home;
 -- and no word 0 that it carries has identity 0.

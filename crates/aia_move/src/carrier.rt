@@ -151,7 +151,7 @@ impl Carrier {
     {
         let _words = fabric.words();
         let word = words::second_word(self.who.slot, self.who.notice);
-        fabric.put_word(self.who.vm, self.who.vcpu, 1, word);
+        fabric.put_word(self.who.vm, self.who.number, 1, word);
         self.done += 1;
     }
 
@@ -165,7 +165,7 @@ impl Carrier {
     {
         let _words = fabric.words();
         let word = words::entry_word(self.who.slot, to);
-        fabric.put_word(self.who.vm, self.who.vcpu, 0, word);
+        fabric.put_word(self.who.vm, self.who.number, 0, word);
         self.done += 1;
     }
 
@@ -173,10 +173,10 @@ impl Carrier {
     pub fn fence(&mut self, fabric: &mut Fabric)
         requires who { IsWho fabric.old self.old.who }
         requires more { self.old.steps < leave_steps FILE_WORDS }
-        ensures fences { Fences fabric.old fabric.new self.old.who.vm self.old.who.vcpu }
+        ensures fences { Fences fabric.old fabric.new self.old.who.vm self.old.who.number }
         ensures carrier { self.new ≡ one_done self.old self.old.hand }
     {
-        fabric.fence(self.who.vm, self.who.vcpu);
+        fabric.fence(self.who.vm, self.who.number);
         self.done += 1;
     }
 
@@ -188,7 +188,7 @@ impl Carrier {
             → new_file m.home ≡ option_map (λ (lease : Bor Place). lease.now) to.entry
             → Does Map m fabric.old fabric.new self.new }
     {
-        fabric.map(self.who.vm, self.who.vcpu, to);
+        fabric.map(self.who.vm, self.who.number, to);
         self.done += 1;
     }
 
@@ -199,7 +199,7 @@ impl Carrier {
         ensures { (m : Moving) → carrier_of m ≡ self.old
             → Does GFence m fabric.old fabric.new self.new }
     {
-        fabric.gfence(self.who.vm, self.who.vcpu);
+        fabric.gfence(self.who.vm, self.who.number);
         self.done += 1;
     }
 

@@ -18,7 +18,7 @@ pub struct Who {
     /// Its VM.
     pub vm: u32,
     /// Its number in the VM.
-    pub vcpu: u32,
+    pub number: u32,
     /// Its number over all VMs: that of its slot of memory.
     pub slot: u32,
     /// The hart whose supervisor file takes its notices.

@@ -74,7 +74,7 @@ alone_by w u p same kept alone = record {
 
 -- a passage of another virtual hart, of which nothing else matters
 abbrev of_other : Passage → Vcpu → Passage
-of_other p g = record { who = record p.who { vm = g.vm; vcpu = g.number }; old = Slot; new = Slot }
+of_other p g = record { who = record p.who { vm = g.vm; number = g.number }; old = Slot; new = Slot }
 
 module _ (w u : World) (p : Passage) (whole : IsWhole w) where
   entry_kept : (entry : Entry) (offset value : ℕ) → ReachesBy entry w u offset value → (g : Vcpu) → routes_of u g ≡ routes_of w g
@@ -109,19 +109,19 @@ one_entry : (a b c d x y : ℕ) → b < ENTRIES → d < ENTRIES → x ≤ 1 → 
 one_entry a b c d x y low small one two e = (omega arith, omega arith)
 
 module _ (w : World) (p : Passage) (whole : IsWhole w) (of : IsOf w p) where
-  words_apart : (g : Vcpu) (which : ℕ) → which ≤ 1 → is_vcpu_in w.vms g ≡ true → g ≢ moved p → (x : ℕ) → x ≤ 1 → entry_word_place g.vm g.number + x ≢ entry_word_place p.who.vm p.who.vcpu + which
+  words_apart : (g : Vcpu) (which : ℕ) → which ≤ 1 → is_vcpu_in w.vms g ≡ true → g ≢ moved p → (x : ℕ) → x ≤ 1 → entry_word_place g.vm g.number + x ≢ entry_word_place p.who.vm p.who.number + which
   words_apart g which one there other x two same =
-      let mine = vcpu_entry w p.who.vm p.who.vcpu whole of.who.there in
+      let mine = vcpu_entry w p.who.vm p.who.number whole of.who.there in
       let its = vcpu_entry w g.vm g.number whole there in
-      let both = one_entry g.vm g.number p.who.vm p.who.vcpu x which its.2 mine.2 two one same in
+      let both = one_entry g.vm g.number p.who.vm p.who.number x which its.2 mine.2 two one same in
       other (λ k. vcpu (both.0 k) (both.1 k))
 
-  word_kept : (which v : ℕ) → which ≤ 1 → OthersKept w (with_entry_word w p.who.vm p.who.vcpu which v) p
+  word_kept : (which v : ℕ) → which ≤ 1 → OthersKept w (with_entry_word w p.who.vm p.who.number which v) p
   word_kept which v one = record {
     in_force = λ g other. refl;
     routes = λ g there other.
-        let first = get_or-set_other w.memory (entry_word_place p.who.vm p.who.vcpu + which) (entry_word_place g.vm g.number) v 0 (λ e. words_apart g which one there other 0 (omega arith) (zero_more (entry_word_place g.vm g.number) ∙ e)) in
-        let second = get_or-set_other w.memory (entry_word_place p.who.vm p.who.vcpu + which) (entry_word_place g.vm g.number + 1) v 0 (words_apart g which one there other 1 (omega arith)) in
+        let first = get_or-set_other w.memory (entry_word_place p.who.vm p.who.number + which) (entry_word_place g.vm g.number) v 0 (λ e. words_apart g which one there other 0 (omega arith) (zero_more (entry_word_place g.vm g.number) ∙ e)) in
+        let second = get_or-set_other w.memory (entry_word_place p.who.vm p.who.number + which) (entry_word_place g.vm g.number + 1) v 0 (words_apart g which one there other 1 (omega arith)) in
         λ k. record (routes_of w g) { word0 = first k; word1 = second k };
   }
     where
@@ -136,10 +136,10 @@ module _ (w : World) (p : Passage) (whole : IsWhole w) (of : IsOf w p) where
         λ k. record (routes_of w g) { stage = stage k };
   }
 
-  fence_kept : OthersKept w (with_fence w p.who.vm p.who.vcpu) p
+  fence_kept : OthersKept w (with_fence w p.who.vm p.who.number) p
   fence_kept = record {
-    in_force = λ g other. fenced_elsewhere w.tables p.who.vm p.who.vcpu w.memory g.vm g.number (elsewhere g (moved p) other);
-    routes = λ g there other. let e = fenced_elsewhere w.tables p.who.vm p.who.vcpu w.memory g.vm g.number (elsewhere g (moved p) other) in λ k. record (routes_of w g) { in_force = e k };
+    in_force = λ g other. fenced_elsewhere w.tables p.who.vm p.who.number w.memory g.vm g.number (elsewhere g (moved p) other);
+    routes = λ g there other. let e = fenced_elsewhere w.tables p.who.vm p.who.number w.memory g.vm g.number (elsewhere g (moved p) other) in λ k. record (routes_of w g) { in_force = e k };
   }
 
   low : p.who.slot < VCPUS
@@ -169,9 +169,9 @@ step_kept steps.Word0 w u r whole of e = kept_by w u _ r.passage e (word_kept w 
 step_kept steps.Fence w u r whole of f =
     let landed = all_landed_kept (length (flight_of w r.passage.who.vm)) w f.landed r.passage r.passage.who.vm f.lands in
     kept_by w u _ r.passage f.fenced (record {
-      in_force = λ g other. fenced_elsewhere f.landed.tables r.passage.who.vm r.passage.who.vcpu f.landed.memory g.vm g.number (elsewhere g (moved r.passage) other) ∙ ap (λ (x : Routes). x.in_force) (landed g);
-      routes = λ g there other. let e = fenced_elsewhere f.landed.tables r.passage.who.vm r.passage.who.vcpu f.landed.memory g.vm g.number (elsewhere g (moved r.passage) other) in
-          let fenced : routes_of (with_fence f.landed r.passage.who.vm r.passage.who.vcpu) g ≡ routes_of f.landed g = λ k. record (routes_of f.landed g) { in_force = e k } in fenced ∙ landed g;
+      in_force = λ g other. fenced_elsewhere f.landed.tables r.passage.who.vm r.passage.who.number f.landed.memory g.vm g.number (elsewhere g (moved r.passage) other) ∙ ap (λ (x : Routes). x.in_force) (landed g);
+      routes = λ g there other. let e = fenced_elsewhere f.landed.tables r.passage.who.vm r.passage.who.number f.landed.memory g.vm g.number (elsewhere g (moved r.passage) other) in
+          let fenced : routes_of (with_fence f.landed r.passage.who.vm r.passage.who.number) g ≡ routes_of f.landed g = λ k. record (routes_of f.landed g) { in_force = e k } in fenced ∙ landed g;
     })
 step_kept steps.Map w u r whole of e = kept_by w u _ r.passage e (stage_kept w r.passage whole of _)
 step_kept steps.Unmap w u r whole of e = kept_by w u _ r.passage e (stage_kept w r.passage whole of _)

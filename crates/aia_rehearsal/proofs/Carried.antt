@@ -37,9 +37,9 @@ of_same w u p same of = record {
   where
     is_who : (who : Who) → IsWho w who → IsWho u who
     is_who who is = record {
-      there = ap (λ vms. is_vcpu_in vms (vcpu who.vm who.vcpu)) same.vms ∙ is.there;
-      slot = is.slot ∙ ap (λ vms. slot_of vms (vcpu who.vm who.vcpu)) (sym same.vms);
-      notice = is.notice ∙ ap (λ vms. notice_hart vms (vcpu who.vm who.vcpu)) (sym same.vms);
+      there = ap (λ vms. is_vcpu_in vms (vcpu who.vm who.number)) same.vms ∙ is.there;
+      slot = is.slot ∙ ap (λ vms. slot_of vms (vcpu who.vm who.number)) (sym same.vms);
+      notice = is.notice ∙ ap (λ vms. notice_hart vms (vcpu who.vm who.number)) (sym same.vms);
     }
 
     is_there : (place : ends.Place) → IsFileThere w place → IsFileThere u place

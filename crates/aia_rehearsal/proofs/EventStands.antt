@@ -65,7 +65,7 @@ module _ (w u : World) (r : Rehearsed) (z : Transit) (whole : IsWhole w) (s : St
       subst (λ (x : World). StandsFor x r (happened happenings.Refetches z)) (sym (e ∙ ap (λ (g : Vcpu). with_fence w g.vm g.number) same)) (refetched w r z whole s))
       (λ not. subst (λ (x : World). StandsFor x r z) (sym e) (other_refetched w r z whole s vm file (apart vm file not)))
     where
-      apart : (vm file : ℕ) → is_vcpu (vcpu vm file) (moved p) ≡ false → (vm ≢ p.who.vm) ⊎ (file ≢ p.who.vcpu)
+      apart : (vm file : ℕ) → is_vcpu (vcpu vm file) (moved p) ≡ false → (vm ≢ p.who.vm) ⊎ (file ≢ p.who.number)
       apart vm file none = elim (cases_eq vm p.who.vm) [
         | inl e ↦ inr (λ f. let no : is_vcpu (vcpu vm file) (moved p) ≡ true = grind (arith, nat_tests) in absurd (cc))
         | inr ne ↦ inl ne
@@ -100,7 +100,7 @@ route_elsewhere : (w : World) (p : Passage) (vm addr : ℕ) → IsAlone w p → 
 route_elsewhere w p vm addr alone not = elim (cases_Bool (is_msi_address (table_of w.tables vm).mask addr)) [
   | inl msi ↦
       let g = vcpu vm (file_number (table_of w.tables vm).mask addr) in
-      let other : g ≢ moved p = λ e. let here : vm ≡ p.who.vm = ap (λ (x : Vcpu). x.vm) e in let file : file_number (table_of w.tables vm).mask addr ≡ p.who.vcpu = ap (λ (x : Vcpu). x.number) e in let no : is_for_moved w p vm addr ≡ true = grind (arith, nat_tests) in absurd (cc) in
+      let other : g ≢ moved p = λ e. let here : vm ≡ p.who.vm = ap (λ (x : Vcpu). x.vm) e in let file : file_number (table_of w.tables vm).mask addr ≡ p.who.number = ap (λ (x : Vcpu). x.number) e in let no : is_for_moved w p vm addr ≡ true = grind (arith, nat_tests) in absurd (cc) in
       subst (LeadsElsewhere w p) (sym (cond-true _ _ _ msi)) (led_elsewhere w p (entry_in_force (table_of w.tables vm) (file_number (table_of w.tables vm).mask addr)) (alone.in_force g other))
   | inr none ↦ subst (LeadsElsewhere w p) (sym (cond-false _ _ _ none)) tt
 ]

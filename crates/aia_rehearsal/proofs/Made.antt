@@ -58,16 +58,16 @@ use Rattle.aia_rehearsal.proofs.Theorem.{led_stands, begun_stands}
 
 module _ (files : ImsicState) (w : World) (n harts guests : ℕ) (vm : Vm) (who : Who) (new : IsNew (new_world files n) harts guests n) (whole : IsWhole w) (makes : MakesVm (new_world files n) w vm) (is : IsWho w who) (first : who.vm ≡ 0) where
   abbrev g : Vcpu
-  g = vcpu who.vm who.vcpu
+  g = vcpu who.vm who.number
 
-  vcpu_low : who.vcpu < vm.vcpus
-  vcpu_low = ltb-true _ _ (sym (ap (λ vms. is_vcpu_in vms g) makes.vms ∙ ap (λ v. is_vcpu_in (vm ∷ []) (vcpu v who.vcpu)) first) ∙ is.there)
+  vcpu_low : who.number < vm.vcpus
+  vcpu_low = ltb-true _ _ (sym (ap (λ vms. is_vcpu_in vms g) makes.vms ∙ ap (λ v. is_vcpu_in (vm ∷ []) (vcpu v who.number)) first) ∙ is.there)
 
-  none_before : 0 + who.vcpu ≡ who.slot
-  none_before = sym (is.slot ∙ ap (λ vms. slot_of vms g) makes.vms ∙ ap (λ v. slot_of (vm ∷ []) (vcpu v who.vcpu)) first)
+  none_before : 0 + who.number ≡ who.slot
+  none_before = sym (is.slot ∙ ap (λ vms. slot_of vms g) makes.vms ∙ ap (λ v. slot_of (vm ∷ []) (vcpu v who.number)) first)
 
   notice_is : vm.notice_hart ≡ who.notice
-  notice_is = sym (is.notice ∙ ap (λ vms. notice_hart vms g) makes.vms ∙ ap (λ v. notice_hart (vm ∷ []) (vcpu v who.vcpu)) first)
+  notice_is = sym (is.notice ∙ ap (λ vms. notice_hart vms g) makes.vms ∙ ap (λ v. notice_hart (vm ∷ []) (vcpu v who.number)) first)
 
   stage_is : stage_of w g ≡ no_stage
   stage_is = let low = slot_low w g whole is.there in ap (λ (x : World). slice_index_or x.stages (slot_of w.vms g) no_stage) makes.rest ∙ get_or-replicate VCPUS (slot_of w.vms g) no_stage no_stage low
@@ -92,9 +92,9 @@ module _ (files : ImsicState) (w : World) (n harts guests : ℕ) (vm : Vm) (who 
 
     led : (side : Side) → names_on side p ≡ None → LeadsTo w p side
     led side none = record {
-      word0 = ap (λ v. get_or w.memory (entry_word_place v who.vcpu) 0) first ∙ makes.word0 who.vcpu vcpu_low ∙ ap (λ q. mrif_word (slot_address q)) none_before ∙ ap (entry_word who.slot) (sym none);
-      word1 = ap (λ v. get_or w.memory (entry_word_place v who.vcpu + 1) 0) first ∙ makes.word1 who.vcpu vcpu_low ∙ ap (λ q. notice_word (notice_page vm) (q + 1)) none_before ∙ ap (λ hart. notice_word (supervisor_page hart / PAGE) (who.slot + 1)) notice_is;
-      in_force = ap (λ v. entry_in_force (table_of w.tables v) who.vcpu) first ∙ makes.in_force who.vcpu ∙ cond-true _ _ _ (lt-ltb _ _ vcpu_low) ∙ ap (λ q. Mrif (slot_address q) (notice_page vm) (q + 1)) none_before
+      word0 = ap (λ v. get_or w.memory (entry_word_place v who.number) 0) first ∙ makes.word0 who.number vcpu_low ∙ ap (λ q. mrif_word (slot_address q)) none_before ∙ ap (entry_word who.slot) (sym none);
+      word1 = ap (λ v. get_or w.memory (entry_word_place v who.number + 1) 0) first ∙ makes.word1 who.number vcpu_low ∙ ap (λ q. notice_word (notice_page vm) (q + 1)) none_before ∙ ap (λ hart. notice_word (supervisor_page hart / PAGE) (who.slot + 1)) notice_is;
+      in_force = ap (λ v. entry_in_force (table_of w.tables v) who.number) first ∙ makes.in_force who.number ∙ cond-true _ _ _ (lt-ltb _ _ vcpu_low) ∙ ap (λ q. Mrif (slot_address q) (notice_page vm) (q + 1)) none_before
           ∙ ap (λ hart. Mrif (slot_address who.slot) (supervisor_page hart / PAGE) (who.slot + 1)) notice_is ∙ ap (leads_to who.slot who.notice) (sym none);
       record_written = ap (λ (x : Stage). x.written) stage_is ∙ sym none;
       record_in_force = ap (λ (x : Stage). x.in_force) stage_is ∙ sym none;
@@ -115,7 +115,7 @@ module _ (files : ImsicState) (w : World) (n harts guests : ℕ) (vm : Vm) (who 
     plus_none n = omega arith
 
     other_number : (n : ℕ) → g ≢ vcpu who.vm n → n ≢ who.slot
-    other_number n other e = other (let same : who.vcpu ≡ n = sym (plus_none who.vcpu) ∙ none_before ∙ sym e in λ k. vcpu who.vm (same k))
+    other_number n other e = other (let same : who.number ≡ n = sym (plus_none who.number) ∙ none_before ∙ sym e in λ k. vcpu who.vm (same k))
 
     few_vcpus : vm.vcpus ≤ VCPUS
     few_vcpus = let total : vcpus_in w.vms ≡ vm.vcpus + 0 = ap vcpus_in makes.vms in let most = whole.vcpus in omega (arith, total, most)
@@ -130,7 +130,7 @@ module _ (files : ImsicState) (w : World) (n harts guests : ℕ) (vm : Vm) (who 
     in_force_elsewhere : (x : Vcpu) → x ≢ g → side_of w.imsic arrival (entry_in_force (table_of w.tables x.vm) x.number) ≡ None
     in_force_elsewhere x other = elim (cases_eq x.vm 0) [
       | inl zero_vm ↦ ap (λ v. side_of w.imsic arrival (entry_in_force (table_of w.tables v) x.number)) zero_vm ∙ ap (side_of w.imsic arrival) (makes.in_force x.number)
-          ∙ made_elsewhere x.number (λ e. other (let number : who.vcpu ≡ x.number = ap (λ (y : Vcpu). y.number) e in λ k. vcpu ((zero_vm ∙ sym first) k) (sym number k)))
+          ∙ made_elsewhere x.number (λ e. other (let number : who.number ≡ x.number = ap (λ (y : Vcpu). y.number) e in λ k. vcpu ((zero_vm ∙ sym first) k) (sym number k)))
       | inr some_vm ↦
           let past : length w.tables ≤ x.vm = let one : length w.tables ≡ 0 + 1 = makes.count in omega (arith, one, some_vm) in
           ap (λ t. side_of w.imsic arrival (entry_in_force t x.number)) (get_or_past w.tables x.vm no_table past) ∙ not_valid
@@ -152,7 +152,7 @@ module _ (files : ImsicState) (w : World) (n harts guests : ℕ) (vm : Vm) (who 
         let word1 : (routes_of w x).word1 ≡ second_word x.number vm.notice_hart = ap (λ v. get_or w.memory (entry_word_place v x.number + 1) 0) at.0 ∙ makes.word1 x.number at.1 ∙ ap (λ q. notice_word (notice_page vm) (q + 1)) (plus_none x.number) in
         ap (λ n. side_of w.imsic arrival (decoded n (routes_of w x).word1)) word0 ∙ ap (λ n. side_of w.imsic arrival (decoded (entry_word x.number None) n)) word1
         ∙ ap (side_of w.imsic arrival) (entry_back x.number vm.notice_hart None low hart (λ p e. absurd (cc)))
-        ∙ other_slot x.number (supervisor_page vm.notice_hart / PAGE) (x.number + 1) low (other_number x.number (λ e. other (let number : who.vcpu ≡ x.number = ap (λ (y : Vcpu). y.number) e in λ k. vcpu ((at.0 ∙ sym first) k) (sym number k))))
+        ∙ other_slot x.number (supervisor_page vm.notice_hart / PAGE) (x.number + 1) low (other_number x.number (λ e. other (let number : who.number ≡ x.number = ap (λ (y : Vcpu). y.number) e in λ k. vcpu ((at.0 ∙ sym first) k) (sym number k))))
 
     alone : IsAlone w arrival
     alone = record {
@@ -204,7 +204,7 @@ module _ (before w : World) (n harts guests : ℕ) (vm : Vm) (who : Who) (new : 
 
   -- once the entry and the record were written for a file and put in force, it may shift to another one
   pub may_shift : (a b : Place) → IsThere w.imsic (spot_of a) → IsThere w.imsic (spot_of b) → is_place a b ≡ false → (x y v u : World) → IsWhole x → IsWhole y → IsWhole v
-      → x ≡ with_entry_word w who.vm who.vcpu 0 (entry_word who.slot (Some a)) → y ≡ with_fence x who.vm who.vcpu → v ≡ with_map y (vcpu who.vm who.vcpu) (Some a) → u ≡ with_gfence v (vcpu who.vm who.vcpu)
+      → x ≡ with_entry_word w who.vm who.number 0 (entry_word who.slot (Some a)) → y ≡ with_fence x who.vm who.number → v ≡ with_map y (vcpu who.vm who.number) (Some a) → u ≡ with_gfence v (vcpu who.vm who.number)
       → StandsFor u (record { passage = record { who = who; old = File a; new = File b }; hand = empty_hand }) (state_at Old u (record { passage = record { who = who; old = File a; new = File b }; hand = empty_hand }))
   may_shift a b there too apart x y v u whole_x whole_y whole_v e1 e2 e3 e4 =
       let r : Rehearsed = record { passage = record { who = who; old = Slot; new = File a }; hand = empty_hand } in

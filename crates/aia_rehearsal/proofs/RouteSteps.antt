@@ -196,18 +196,18 @@ module _ (w : World) (r : Rehearsed) (z : Transit) (whole : IsWhole w) (s : Stan
   table_kept u imsic vms slot Slot =
       ap (λ n. of_slot (mrif_in u.memory n)) (s.of.who.slot ∙ ap (λ v. slot_of v (moved p)) (sym vms)) ∙ ap of_slot slot ∙ ap (λ n. of_slot (mrif_in w.memory n)) (sym s.of.who.slot)
 
-  pub write_notice : StandsFor (with_entry_word w p.who.vm p.who.vcpu 1 (second_word q p.who.notice)) r z
+  pub write_notice : StandsFor (with_entry_word w p.who.vm p.who.number 1 (second_word q p.who.notice)) r z
   write_notice =
-      let u = with_entry_word w p.who.vm p.who.vcpu 1 (second_word q p.who.notice) in
+      let u = with_entry_word w p.who.vm p.who.number 1 (second_word q p.who.notice) in
       let seen = word1-places w (moved p) Parked whole s.of.who.there (second_word q p.who.notice) in
       let slot : mrif_in u.memory (slot_of u.vms (moved p)) ≡ mrif_in w.memory (slot_of w.vms (moved p)) = ap (λ (v : Places). v.slot) seen in
       stand_on w u r r.hand z z (record { n = refl; vms = refl; harts = refl; guests = refl }) refl refl
       (rw (table_kept u refl refl slot p.old, table_kept u refl refl slot p.new) s.sets)
       (subst (λ x. RoutesStand p x z) (sym (ap routes_in seen)) (record { entry_written = s.routes.entry_written; notice = refl; entry_in_force = s.routes.entry_in_force; record_written = s.routes.record_written; record_in_force = s.routes.record_in_force })) s
 
-  pub write_entry : StandsFor (with_entry_word w p.who.vm p.who.vcpu 0 (entry_word q (names_on New p))) r (stepped Word0 z)
+  pub write_entry : StandsFor (with_entry_word w p.who.vm p.who.number 0 (entry_word q (names_on New p))) r (stepped Word0 z)
   write_entry =
-      let u = with_entry_word w p.who.vm p.who.vcpu 0 (entry_word q (names_on New p)) in
+      let u = with_entry_word w p.who.vm p.who.number 0 (entry_word q (names_on New p)) in
       let seen = word0-places w (moved p) Parked whole s.of.who.there (entry_word q (names_on New p)) in
       let slot : mrif_in u.memory (slot_of u.vms (moved p)) ≡ mrif_in w.memory (slot_of w.vms (moved p)) = ap (λ (v : Places). v.slot) seen in
       stand_on w u r r.hand z (stepped Word0 z) (record { n = refl; vms = refl; harts = refl; guests = refl }) refl refl
@@ -242,9 +242,9 @@ module _ (w : World) (r : Rehearsed) (z : Transit) (whole : IsWhole w) (s : Stan
       in_map (File b) e inside = subst (λ o. IfSome o IsInMap) e (let fits = file_in_map w b whole inside in (fits.0, fits.1, inside.1))
       in_map Slot e inside = absurd (cc)
 
-  pub refetched : StandsFor (with_fence w p.who.vm p.who.vcpu) r (record z { entry_in_force = z.entry_written })
+  pub refetched : StandsFor (with_fence w p.who.vm p.who.number) r (record z { entry_in_force = z.entry_written })
   refetched =
-      let u = with_fence w p.who.vm p.who.vcpu in
+      let u = with_fence w p.who.vm p.who.number in
       let y : Transit = record z { entry_in_force = z.entry_written } in
       let seen = fence-places w (moved p) Parked whole s.of.who.there in
       let small = small_who w p.who whole s.of.who in

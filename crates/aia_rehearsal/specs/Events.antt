@@ -54,7 +54,7 @@ Happens (EntryRead vm file) w r u t =
 abbrev pub is_for_moved : World → Passage → ℕ → ℕ → Bool
 is_for_moved w p vm addr =
     nat_eq vm p.who.vm && (is_msi_address (table_of w.tables vm).mask addr
-    && nat_eq (file_number (table_of w.tables vm).mask addr) p.who.vcpu)
+    && nat_eq (file_number (table_of w.tables vm).mask addr) p.who.number)
 
 -- ---- what is not its own
 

@@ -52,7 +52,7 @@ from_to who old new = record {
 
 -- The virtual hart that is moved.
 abbrev pub moved : Passage → Vcpu
-moved p = vcpu p.who.vm p.who.vcpu
+moved p = vcpu p.who.vm p.who.number
 
 -- The place on one of its sides.
 abbrev pub on : Side → Passage → ends.Place

@@ -32,11 +32,11 @@ Puts w u Slot reg v = u ≡ w
 -- place. A look reads the slot, and a post sends the notice where a look saw reason to.
 abbrev pub Makes : Step → Rehearsed → World → World → Type 0
 Makes Quiet r w u = Puts w u r.passage.old Delivery 0
-Makes Word1 r w u = u ≡ with_entry_word w r.passage.who.vm r.passage.who.vcpu 1
+Makes Word1 r w u = u ≡ with_entry_word w r.passage.who.vm r.passage.who.number 1
     (second_word r.passage.who.slot r.passage.who.notice)
-Makes Word0 r w u = u ≡ with_entry_word w r.passage.who.vm r.passage.who.vcpu 0
+Makes Word0 r w u = u ≡ with_entry_word w r.passage.who.vm r.passage.who.number 0
     (entry_word r.passage.who.slot (names_on New r.passage))
-Makes Fence r w u = Fences w u r.passage.who.vm r.passage.who.vcpu
+Makes Fence r w u = Fences w u r.passage.who.vm r.passage.who.number
 Makes Map r w u = u ≡ with_map w (moved r.passage) (names_on New r.passage)
 Makes Unmap r w u = u ≡ with_map w (moved r.passage) (names_on New r.passage)
 Makes Remap r w u = u ≡ with_map w (moved r.passage) (names_on New r.passage)

@@ -75,10 +75,10 @@ pub fn rehearsals_stand_for_something()
         → who.vm ≡ 0 → (a b : Place) → IsThere w.imsic (spot_of a)
         → IsThere w.imsic (spot_of b) → is_place a b ≡ false
         → (x y v u : World) → IsWhole x → IsWhole y → IsWhole v
-        → x ≡ with_entry_word w who.vm who.vcpu 0 (entry_word who.slot (Some a))
-        → y ≡ with_fence x who.vm who.vcpu
-        → v ≡ with_map y (vcpu who.vm who.vcpu) (Some a)
-        → u ≡ with_gfence v (vcpu who.vm who.vcpu)
+        → x ≡ with_entry_word w who.vm who.number 0 (entry_word who.slot (Some a))
+        → y ≡ with_fence x who.vm who.number
+        → v ≡ with_map y (vcpu who.vm who.number) (Some a)
+        → u ≡ with_gfence v (vcpu who.vm who.number)
         → StandsFor u (from_to who (places.File a) (places.File b))
         (state_at Old u (from_to who (places.File a) (places.File b))) }
     ensures next { (w u : World) (r t : Rehearsed) (asked_for : ℕ → Bool) (place : ends.Place)

@@ -129,9 +129,9 @@ impl Rehearsal {
             Step::Quiet => self.take_delivery(fabric),
             Step::Word1 => self.write_notice(fabric),
             Step::Word0 => self.write_entry(fabric),
-            Step::Fence => fabric.fence(self.who.vm, self.who.vcpu),
+            Step::Fence => fabric.fence(self.who.vm, self.who.number),
             Step::Map | Step::Unmap | Step::Remap => self.write_record(fabric),
-            Step::GFence => fabric.gfence(self.who.vm, self.who.vcpu),
+            Step::GFence => fabric.gfence(self.who.vm, self.who.number),
             Step::TakeP(word) => self.take_pending(fabric, word as usize),
             Step::PutP(word) => self.put_pending(fabric, word as usize),
             Step::TakeE(word) => self.take_enables(fabric, word as usize),
@@ -178,7 +178,7 @@ impl Rehearsal {
     {
         let _words = fabric.words();
         let word = second_word(self.who.slot, self.who.notice);
-        fabric.put_word(self.who.vm, self.who.vcpu, 1, word);
+        fabric.put_word(self.who.vm, self.who.number, 1, word);
     }
 
     /// Writes word 0 of the entry: it leads to the new place.
@@ -193,7 +193,7 @@ impl Rehearsal {
             Place::Slot => None,
         };
         let word = entry_word(self.who.slot, file);
-        fabric.put_word(self.who.vm, self.who.vcpu, 0, word);
+        fabric.put_word(self.who.vm, self.who.number, 0, word);
     }
 
     /// Writes the G-stage record: it names the new place.
@@ -204,8 +204,8 @@ impl Rehearsal {
     {
         let named = &self.to;
         match named {
-            Place::File(lease) => fabric.map(self.who.vm, self.who.vcpu, Some(lease)),
-            Place::Slot => fabric.map(self.who.vm, self.who.vcpu, None),
+            Place::File(lease) => fabric.map(self.who.vm, self.who.number, Some(lease)),
+            Place::Slot => fabric.map(self.who.vm, self.who.number, None),
         }
     }
 

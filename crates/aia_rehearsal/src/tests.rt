@@ -98,7 +98,7 @@ fn who_is(fabric: &Fabric) -> Option<Who>
     }
     Some(Who {
         vm: 0,
-        vcpu: 1,
+        number: 1,
         slot: fabric.slot_of(0, 1),
         notice: fabric.notice_hart(0, 1),
         passes: ArrayVec::new(),

@@ -160,14 +160,14 @@ fn topei(fabric: &Fabric) -> Option<u64> {
 pub(crate) fn who_is(fabric: &Fabric, vm: u32, vcpu: u32) -> Option<Who>
     ensures there { IfSome result (IsWho fabric.now) }
     ensures none_passed { IfSome result (λ who. who.passes.items ≡ []) }
-    ensures named { IfSome result (λ who. (who.vm ≡ vm) × (who.vcpu ≡ vcpu)) }
+    ensures named { IfSome result (λ who. (who.vm ≡ vm) × (who.number ≡ vcpu)) }
 {
     if !fabric.has_vcpu(u64::from(vm), u64::from(vcpu)) {
         return None;
     }
     Some(Who {
         vm,
-        vcpu,
+        number: vcpu,
         slot: fabric.slot_of(vm, vcpu),
         notice: fabric.notice_hart(vm, vcpu),
         passes: ArrayVec::new(),

@@ -7,7 +7,7 @@ overflow_cast-vm c =
     let few = (vcpu_entry c.args.fabric.now c.args.vm c.args.number c.has_vcpu.ensures.whole (sym c.has_vcpu.ensures.value ∙ c.if-not-has_vcpu.false)).1 in
     omega (arith, few)
 
-pub overflow_cast-vcpu : goal.overflow_cast-vcpu
-overflow_cast-vcpu c =
+pub overflow_cast-number : goal.overflow_cast-vcpu
+overflow_cast-number c =
     let few = (vcpu_entry c.args.fabric.now c.args.vm c.args.number c.has_vcpu.ensures.whole (sym c.has_vcpu.ensures.value ∙ c.if-not-has_vcpu.false)).2 in
     omega (arith, few)

@@ -17,4 +17,4 @@ returns c =
     let given = answer_by (λ _. Okay) c.begin_of.result in
     subst (λ vm. CoreTakes c.args.self.now c.begin_of.new.self (begin_line vm c.args.number c.args.want) given) named.0
     (subst (λ number. CoreTakes c.args.self.now c.begin_of.new.self (begin_line c.in-Some.found.vm number c.args.want) given) named.1
-    (begin_taken c.args.self.now c.begin_of.new.self c.in-Some.found.vm c.in-Some.found.vcpu c.args.want given c.begin_of.ensures.begins))
+    (begin_taken c.args.self.now c.begin_of.new.self c.in-Some.found.vm c.in-Some.found.number c.args.want given c.begin_of.ensures.begins))

@@ -26,7 +26,7 @@ taken c =
     let is = c.in-Some.ensures.there in
     let named = c.in-Some.ensures.named in
     subst (λ vm. CoreTakes x y (Enter vm c.args.number) given) named.0 (subst (λ number. CoreTakes x y (Enter found.vm number) given) named.1
-    (enters x y found.vm found.vcpu _ given (record { there = is.there; world = refl; leases = refl; selects = refl; passes = refl }) refl
+    (enters x y found.vm found.number _ given (record { there = is.there; world = refl; leases = refl; selects = refl; passes = refl }) refl
     (subst (λ q. EntersFrom (slice_index_or x.vcpus q no_record).stay x.vcpus y.vcpus q given) is.slot c.enter_in.ensures.enters)))
 
 pub invariant_of-self : goal.invariant_of-self

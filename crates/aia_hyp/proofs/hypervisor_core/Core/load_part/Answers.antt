@@ -38,4 +38,4 @@ returns-in_err-kept c =
     let stay = found_stay x found is c.parked.result parked_at c.parked.ensures in
     rw same
     (subst (λ vm. CoreTakes x x (LoadPart vm c.args.number part) (Refused word)) named.0 (subst (λ number. CoreTakes x x (LoadPart found.vm number part) (Refused word)) named.1
-    (not_parked_to_load x found.vm found.vcpu part word is.there good (sym stay ∙ c.in_err-kept.was))))
+    (not_parked_to_load x found.vm found.number part word is.there good (sym stay ∙ c.in_err-kept.was))))

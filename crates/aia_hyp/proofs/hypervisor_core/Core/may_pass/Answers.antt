@@ -16,8 +16,8 @@ returns-clause-refusal g c =
     let targets = g.T.Targets.map c.args.targets.now in
     let same = c.self.view_is in
     let size : length c.self.inside.passes ≡ length x.passes = ap (λ (z : CoreState). length z.passes) same in
-    let free : RefusesPass x targets c.args.source found.vm found.vcpu c.args.identity None = is_free x targets c.args.source found.vm found.vcpu c.args.identity (
-      ap (λ (z : CoreState). is_vcpu_in z.world.vms (vcpu found.vm found.vcpu)) (sym same) ∙ c.in-Some.ensures.there.there,
+    let free : RefusesPass x targets c.args.source found.vm found.number c.args.identity None = is_free x targets c.args.source found.vm found.number c.args.identity (
+      ap (λ (z : CoreState). is_vcpu_in z.world.vms (vcpu found.vm found.number)) (sym same) ∙ c.in-Some.ensures.there.there,
       sym c.has_identity.ensures ∙ c.if-not-has_identity.false,
       omega (arith, c.if-count-ge-PASSES.false, c.count.ensures.value, size),
     ) (sym c.is_moved.ensures ∙ c.if-is_moved.false)
@@ -32,8 +32,8 @@ returns-then-is_some-clause-refusal g c =
     let targets = g.T.Targets.map c.args.targets.now in
     let same = c.self.view_is in
     let size : length c.self.inside.passes ≡ length x.passes = ap (λ (z : CoreState). length z.passes) same in
-    let passed : RefusesPass x targets c.args.source found.vm found.vcpu c.args.identity (Some (Refused Passed)) = is_passed x targets c.args.source found.vm found.vcpu c.args.identity (
-      ap (λ (z : CoreState). is_vcpu_in z.world.vms (vcpu found.vm found.vcpu)) (sym same) ∙ c.in-Some.ensures.there.there,
+    let passed : RefusesPass x targets c.args.source found.vm found.number c.args.identity (Some (Refused Passed)) = is_passed x targets c.args.source found.vm found.number c.args.identity (
+      ap (λ (z : CoreState). is_vcpu_in z.world.vms (vcpu found.vm found.number)) (sym same) ∙ c.in-Some.ensures.there.there,
       sym c.has_identity.ensures ∙ c.if-not-has_identity.false,
       omega (arith, c.if-count-ge-PASSES.false, c.count.ensures.value, size),
     ) (sym c.is_moved.ensures ∙ c.if-is_moved.false)

@@ -15,19 +15,19 @@ use Rattle.aia_hyp.proofs.RunLines.{exits, exit_is_loud, exit_is_quiet, live_top
 use Rattle.aia_hyp.proofs.hypervisor_core.Core.park.Goals.{After-notice, Else-slot_is_live}
 use Rattle.aia_hyp.proofs.hypervisor_core.Core.park.Goals as goal
 
-told : (c : After-notice) → CoreTakes (record { world = c.self.inside.fabric; leases = c.self.inside.pool; vcpus = c.self.inside.vcpus.items; selects = c.self.inside.selects; passes = c.self.inside.passes }) (record { world = c.notice.new.self; leases = c.self.inside.pool; vcpus = c.put_stay.new.vcpus.items; selects = c.self.inside.selects; passes = c.self.inside.passes }) (Exit c.args.found.vm c.args.found.vcpu) Okay
+told : (c : After-notice) → CoreTakes (record { world = c.self.inside.fabric; leases = c.self.inside.pool; vcpus = c.self.inside.vcpus.items; selects = c.self.inside.selects; passes = c.self.inside.passes }) (record { world = c.notice.new.self; leases = c.self.inside.pool; vcpus = c.put_stay.new.vcpus.items; selects = c.self.inside.selects; passes = c.self.inside.passes }) (Exit c.args.found.vm c.args.found.number) Okay
 told c =
     let x : CoreState = record { world = c.self.inside.fabric; leases = c.self.inside.pool; vcpus = c.self.inside.vcpus.items; selects = c.self.inside.selects; passes = c.self.inside.passes } in
     let y : CoreState = record { world = c.notice.new.self; leases = c.self.inside.pool; vcpus = c.put_stay.new.vcpus.items; selects = c.self.inside.selects; passes = c.self.inside.passes } in
     let found = c.args.found in
-    let g = vcpu found.vm found.vcpu in
+    let g = vcpu found.vm found.number in
     let is = subst (λ (z : CoreState). IsFound z.world found) (sym c.self.view_is) c.requires.found in
     let was = subst (λ (z : CoreState). (record_of z g).stay ≡ stays.Entered c.args.kept) (sym c.self.view_is) c.requires.entered in
     let whole = c.words-whole.ensures.whole in
     let told : (w : World) → w ≡ x.world → ((g : Vcpu) → is_vcpu_in w.vms g ≡ true → slot_of w.vms g ≡ found.slot → Posts w y.world (spots.SupervisorFile (notice_hart w.vms g)) (found.slot + 1)) → Posts x.world y.world (spots.SupervisorFile (notice_hart x.world.vms g)) (notice_identity x.world.vms g) =
     λ w same by. subst (λ s. Posts x.world y.world (spots.SupervisorFile (notice_hart x.world.vms g)) (s + 1)) is.slot
     (subst (λ (w : World). (g : Vcpu) → is_vcpu_in w.vms g ≡ true → slot_of w.vms g ≡ found.slot → Posts w y.world (spots.SupervisorFile (notice_hart w.vms g)) (found.slot + 1)) same by g is.there (sym is.slot)) in
-    exits x y found.vm found.vcpu c.args.kept (record {
+    exits x y found.vm found.number c.args.kept (record {
       whole = whole;
       there = is.there;
       was = was;
@@ -35,21 +35,21 @@ told c =
       leases = refl;
       selects = refl;
       passes = refl;
-      notifies = λ h stands. exit_is_loud x y h found.vm found.vcpu stands whole is.there refl
+      notifies = λ h stands. exit_is_loud x y h found.vm found.number stands whole is.there refl
           (live_top x h g c.args.kept found.slot stands whole is.there was is.slot ∙ sym c.slot_is_live.ensures.value ∙ c.if-slot_is_live.true)
           (told c.slot_is_live.new.fabric c.slot_is_live.ensures.same c.notice.ensures.posts);
     })
 
-untold : (c : Else-slot_is_live) → CoreTakes (record { world = c.self.inside.fabric; leases = c.self.inside.pool; vcpus = c.self.inside.vcpus.items; selects = c.self.inside.selects; passes = c.self.inside.passes }) (record { world = c.slot_is_live.new.fabric; leases = c.self.inside.pool; vcpus = c.put_stay.new.vcpus.items; selects = c.self.inside.selects; passes = c.self.inside.passes }) (Exit c.args.found.vm c.args.found.vcpu) Okay
+untold : (c : Else-slot_is_live) → CoreTakes (record { world = c.self.inside.fabric; leases = c.self.inside.pool; vcpus = c.self.inside.vcpus.items; selects = c.self.inside.selects; passes = c.self.inside.passes }) (record { world = c.slot_is_live.new.fabric; leases = c.self.inside.pool; vcpus = c.put_stay.new.vcpus.items; selects = c.self.inside.selects; passes = c.self.inside.passes }) (Exit c.args.found.vm c.args.found.number) Okay
 untold c =
     let x : CoreState = record { world = c.self.inside.fabric; leases = c.self.inside.pool; vcpus = c.self.inside.vcpus.items; selects = c.self.inside.selects; passes = c.self.inside.passes } in
     let y : CoreState = record { world = c.slot_is_live.new.fabric; leases = c.self.inside.pool; vcpus = c.put_stay.new.vcpus.items; selects = c.self.inside.selects; passes = c.self.inside.passes } in
     let found = c.args.found in
-    let g = vcpu found.vm found.vcpu in
+    let g = vcpu found.vm found.number in
     let is = subst (λ (z : CoreState). IsFound z.world found) (sym c.self.view_is) c.requires.found in
     let was = subst (λ (z : CoreState). (record_of z g).stay ≡ stays.Entered c.args.kept) (sym c.self.view_is) c.requires.entered in
     let whole = c.words-whole.ensures.whole in
-    exits x y found.vm found.vcpu c.args.kept (record {
+    exits x y found.vm found.number c.args.kept (record {
       whole = whole;
       there = is.there;
       was = was;
@@ -57,7 +57,7 @@ untold c =
       leases = refl;
       selects = refl;
       passes = refl;
-      notifies = λ h stands. exit_is_quiet x y h found.vm found.vcpu c.slot_is_live.ensures.same refl
+      notifies = λ h stands. exit_is_quiet x y h found.vm found.number c.slot_is_live.ensures.same refl
           (live_top x h g c.args.kept found.slot stands whole is.there was is.slot ∙ sym c.slot_is_live.ensures.value ∙ c.if-slot_is_live.false);
     })
 

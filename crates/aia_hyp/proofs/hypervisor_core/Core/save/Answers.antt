@@ -40,7 +40,7 @@ returns-in_err-kept c =
     let stay = found_stay x found is c.parked.result parked_at c.parked.ensures in
     rw same
     (subst (λ vm. CoreTakes x x (Save vm c.args.number k) (Refused word)) named.0 (subst (λ number. CoreTakes x x (Save found.vm number k) (Refused word)) named.1
-    (not_parked_to_save x found.vm found.vcpu k word is.there low (sym stay ∙ c.in_err-kept.was))))
+    (not_parked_to_save x found.vm found.number k word is.there low (sym stay ∙ c.in_err-kept.was))))
 
 pub part-requires-clause-slot : goal.part-requires-clause-slot
 part-requires-clause-slot c = found_few c.self.inside.fabric c.in-Some.found c.words.ensures.whole c.in-Some.ensures.there
@@ -49,7 +49,7 @@ pub part-requires-clause-there : goal.part-requires-clause-there
 part-requires-clause-there c =
     who_low c.args.self.now c.in-Some.found (subst StandsForSome c.self.view_is c.self.invariant.0) (subst (λ (z : CoreState). IsFound z.world c.in-Some.found) c.self.view_is c.in-Some.ensures.there)
 
-parked_there : (c : In_ok-kept) → (record_of c.args.self.now (vcpu c.in-Some.found.vm c.in-Some.found.vcpu)).stay ≡ stays.Parked c.in_ok-kept.kept
+parked_there : (c : In_ok-kept) → (record_of c.args.self.now (vcpu c.in-Some.found.vm c.in-Some.found.number)).stay ≡ stays.Parked c.in_ok-kept.kept
 parked_there c =
     let is = subst (λ (z : CoreState). IsFound z.world c.in-Some.found) c.self.view_is c.in-Some.ensures.there in
     parked_is _ c.in_ok-kept.kept (sym (found_stay c.args.self.now c.in-Some.found is c.parked.result parked_at c.parked.ensures) ∙ c.in_ok-kept.was)
@@ -59,7 +59,7 @@ part-requires-clause-small c =
     let x = c.args.self.now in
     let found = c.in-Some.found in
     let is = subst (λ (z : CoreState). IsFound z.world found) c.self.view_is c.in-Some.ensures.there in
-    small_number x (vcpu found.vm found.vcpu) c.in_ok-kept.kept (subst StandsForSome c.self.view_is c.self.invariant.0) (subst (λ (z : CoreState). IsWhole z.world) c.self.view_is c.words.ensures.whole) is.there (parked_there c)
+    small_number x (vcpu found.vm found.number) c.in_ok-kept.kept (subst StandsForSome c.self.view_is c.self.invariant.0) (subst (λ (z : CoreState). IsWhole z.world) c.self.view_is c.words.ensures.whole) is.there (parked_there c)
 
 pub returns : goal.returns
 returns c =
@@ -74,5 +74,5 @@ returns c =
     let stay = found_stay x found is c.parked.result parked_at c.parked.ensures in
     let whole = subst (λ (z : CoreState). IsWhole z.world) c.self.view_is c.words.ensures.whole in
     subst (λ vm. CoreTakes x x (Save vm c.args.number k) (kinds.Part c.part.result)) named.0 (subst (λ number. CoreTakes x x (Save found.vm number k) (kinds.Part c.part.result)) named.1
-    (saves x found.vm found.vcpu k kept c.part.result is.there whole (parked_is _ kept (sym stay ∙ c.in_ok-kept.was)) low
+    (saves x found.vm found.number k kept c.part.result is.there whole (parked_is _ kept (sym stay ∙ c.in_ok-kept.was)) low
     (c.part.ensures ∙ ap (λ q. part_of (state_in x q kept) k) is.slot)))

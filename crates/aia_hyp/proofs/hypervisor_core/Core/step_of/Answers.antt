@@ -30,9 +30,9 @@ pub step-next-requires-clause-passes : goal.step-next-requires-clause-passes
 step-next-requires-clause-passes g c =
     let some = c.self.invariant.0 in
     let found = subst (λ (x : CoreState). IsFound x.world c.args.found) (sym c.self.view_is) c.requires.found in
-    let there : has_vcpu some.past (vcpu c.args.found.vm c.args.found.vcpu) ≡ true = subst (λ (vs : List Vm). is_vcpu_in vs (vcpu c.args.found.vm c.args.found.vcpu) ≡ true) some.stands.vms found.there in
+    let there : has_vcpu some.past (vcpu c.args.found.vm c.args.found.number) ≡ true = subst (λ (vs : List Vm). is_vcpu_in vs (vcpu c.args.found.vm c.args.found.number) ≡ true) some.stands.vms found.there in
     let greatest : is_greatest_identity (greatest_identity_of some.past) ≡ true = subst (λ n. is_greatest_identity n ≡ true) some.stands.greatest c.words-whole.ensures.whole.greatest in
-    are_passes (record { world = c.self.inside.fabric; leases = c.self.inside.pool; vcpus = c.self.inside.vcpus.items; selects = c.self.inside.selects; passes = c.self.inside.passes }) some.past (vcpu c.args.found.vm c.args.found.vcpu) c.in-Moving.plan some.stands there
+    are_passes (record { world = c.self.inside.fabric; leases = c.self.inside.pool; vcpus = c.self.inside.vcpus.items; selects = c.self.inside.selects; passes = c.self.inside.passes }) some.past (vcpu c.args.found.vm c.args.found.number) c.in-Moving.plan some.stands there
     (sym (sym c.in-Moving.is ∙ c.swap_stay.ensures.before ∙ ap (λ q. (get_or c.self.inside.vcpus.items q no_record).stay) found.slot))
     (few_identities (greatest_identity_of some.past) greatest) (let value = c.count-few.ensures.value in let few = c.count-few.ensures.few in omega (arith, value, few))
 
@@ -61,13 +61,13 @@ calls g c = record {
   phase = c.step-next.ensures.phase;
 }
 
-goes : (g : Over) (c : After-swap_stay-2 g) → MoveGoes (record { world = c.self.inside.fabric; leases = c.self.inside.pool; vcpus = c.self.inside.vcpus.items; selects = c.self.inside.selects; passes = c.self.inside.passes }) (record { world = c.step-next.new.fabric; leases = c.rest_of-new.new.pool; vcpus = c.swap_stay-2.new.vcpus.items; selects = c.self.inside.selects; passes = c.self.inside.passes }) (vcpu c.args.found.vm c.args.found.vcpu) (is_finished c.step-next.result)
+goes : (g : Over) (c : After-swap_stay-2 g) → MoveGoes (record { world = c.self.inside.fabric; leases = c.self.inside.pool; vcpus = c.self.inside.vcpus.items; selects = c.self.inside.selects; passes = c.self.inside.passes }) (record { world = c.step-next.new.fabric; leases = c.rest_of-new.new.pool; vcpus = c.swap_stay-2.new.vcpus.items; selects = c.self.inside.selects; passes = c.self.inside.passes }) (vcpu c.args.found.vm c.args.found.number) (is_finished c.step-next.result)
 goes g c = step_called _ _ c.args.found c.in-Moving.plan c.step-next.result (calls g c)
 
 pub invariant_of-self : goal.invariant_of-self
 invariant_of-self g c = (
   goes_still _ _ c.args.found _ (goes g c) c.self.invariant.0 (subst (λ (x : CoreState). IsFound x.world c.args.found) (sym c.self.view_is) c.requires.found)
-      (subst (λ (x : CoreState). is_moving (home_in (record_of x (vcpu c.args.found.vm c.args.found.vcpu)).stay) ≡ true) (sym c.self.view_is) c.requires.moving),
+      (subst (λ (x : CoreState). is_moving (home_in (record_of x (vcpu c.args.found.vm c.args.found.number)).stay) ≡ true) (sym c.self.view_is) c.requires.moving),
   (let first = c.swap_stay.ensures.room in let second = c.swap_stay-2.ensures.room in let room = c.self.invariant.1 in omega (arith, first, second, room)),
 )
 
@@ -77,8 +77,8 @@ returns-clause-goes g c = rw (← c.self.view_is, c.rest_of-new.ensures.last) (g
 pub returns-clause-aims : goal.returns-clause-aims
 returns-clause-aims g c = rw (← c.self.view_is) (λ h stands.
     let found = subst (λ (x : CoreState). IsFound x.world c.args.found) (sym c.self.view_is) c.requires.found in
-    let there : has_vcpu h (vcpu c.args.found.vm c.args.found.vcpu) ≡ true = subst (λ (vs : List Vm). is_vcpu_in vs (vcpu c.args.found.vm c.args.found.vcpu) ≡ true) stands.vms found.there in
-    aims_so (record { world = c.self.inside.fabric; leases = c.self.inside.pool; vcpus = c.self.inside.vcpus.items; selects = c.self.inside.selects; passes = c.self.inside.passes }) h (vcpu c.args.found.vm c.args.found.vcpu) c.in-Moving.plan stands there
+    let there : has_vcpu h (vcpu c.args.found.vm c.args.found.number) ≡ true = subst (λ (vs : List Vm). is_vcpu_in vs (vcpu c.args.found.vm c.args.found.number) ≡ true) stands.vms found.there in
+    aims_so (record { world = c.self.inside.fabric; leases = c.self.inside.pool; vcpus = c.self.inside.vcpus.items; selects = c.self.inside.selects; passes = c.self.inside.passes }) h (vcpu c.args.found.vm c.args.found.number) c.in-Moving.plan stands there
     (sym (sym c.in-Moving.is ∙ c.swap_stay.ensures.before ∙ ap (λ q. (get_or c.self.inside.vcpus.items q no_record).stay) found.slot))
     g.T.Targets.aimed c.args.targets.now c.step-next.new.targets c.step-next.ensures.aims)
 
@@ -87,5 +87,5 @@ returns-clause-found g c = who_still _ _ c.args.found _ (goes g c) c.self.invari
 
 pub returns-clause-harts : goal.returns-clause-harts
 returns-clause-harts g c =
-    harts_still _ _ (vcpu c.args.found.vm c.args.found.vcpu) _ (goes g c) c.self.invariant.0 ∙ subst (λ (x : CoreState). x.world.imsic.harts ≡ (g.T.Targets.map c.args.targets.now).harts) (sym c.self.view_is) c.requires.harts
+    harts_still _ _ (vcpu c.args.found.vm c.args.found.number) _ (goes g c) c.self.invariant.0 ∙ subst (λ (x : CoreState). x.world.imsic.harts ≡ (g.T.Targets.map c.args.targets.now).harts) (sym c.self.view_is) c.requires.harts
     ∙ sym (told_harts g.T.Targets.aimed g.T.Targets.map g.met.T.Targets.aims_one (next_aim (moving_of c.in-Moving.plan)) c.args.targets.now c.step-next.new.targets c.step-next.ensures.aims)

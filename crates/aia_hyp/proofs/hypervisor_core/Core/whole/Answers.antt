@@ -20,7 +20,7 @@ returns-in_err-begin_of-clause-takes g c =
     let gives : c.from_residual.result ≡ Err c.in_err-begin_of.field-0.0 = search rules in
     rw (gives) (subst (λ vm. CoreTakes c.args.self.now c.begin_of.new.self (move_line vm c.args.number c.args.want) (Refused c.in_err-begin_of.field-0.0)) named.0
     (subst (λ number. CoreTakes c.args.self.now c.begin_of.new.self (move_line c.in-Some.found.vm number c.args.want) (Refused c.in_err-begin_of.field-0.0)) named.1
-    (refused_whole c.args.self.now c.begin_of.new.self c.in-Some.found.vm c.in-Some.found.vcpu c.args.want c.in_err-begin_of.field-0.0 c.in_err-begin_of.ensures.begins)))
+    (refused_whole c.args.self.now c.begin_of.new.self c.in-Some.found.vm c.in-Some.found.number c.args.want c.in_err-begin_of.field-0.0 c.in_err-begin_of.ensures.begins)))
 
 pub returns-in_err-begin_of-clause-aims : goal.returns-in_err-begin_of-clause-aims
 returns-in_err-begin_of-clause-aims g c =
@@ -28,7 +28,7 @@ returns-in_err-begin_of-clause-aims g c =
     let told = c.args.targets.now in
     subst (λ vm. (h : History) → CoreStands c.args.self.now h → UnlessRefused (refusal h (move_line vm c.args.number c.args.want)) (WholeAims g.T.Targets.aimed h vm c.args.number c.args.want told told) (told ≡ told)) named.0
     (subst (λ number. (h : History) → CoreStands c.args.self.now h → UnlessRefused (refusal h (move_line c.in-Some.found.vm number c.args.want)) (WholeAims g.T.Targets.aimed h c.in-Some.found.vm number c.args.want told told) (told ≡ told)) named.1
-    (none_aims g.T.Targets.aimed told c.args.self.now c.begin_of.new.self c.in-Some.found.vm c.in-Some.found.vcpu c.args.want c.in_err-begin_of.field-0.0 c.in_err-begin_of.ensures.begins))
+    (none_aims g.T.Targets.aimed told c.args.self.now c.begin_of.new.self c.in-Some.found.vm c.in-Some.found.number c.args.want c.in_err-begin_of.field-0.0 c.in_err-begin_of.ensures.begins))
 
 pub loop-found-init : goal.loop-found-init
 loop-found-init g c = (
