@@ -1,5 +1,6 @@
 pub mod PlaceLemmas
 pub mod WholeLemmas
+pub mod FoundLemmas
 pub mod MakingLemmas
 pub mod LawLemmas
 pub mod FrameLemmas

@@ -1,4 +1,5 @@
 pub mod World
+pub mod Found
 pub mod Stores
 pub mod Making
 pub mod Changes

@@ -1,4 +1,4 @@
-ghost use Rattle.std.specs.Prelude.{◌≡◌, ◌≢◌, ℕ, ◌+◌, ◌*◌, ◌/◌, ◌^◌, ◌<◌, ◌≤◌, ◌&&◌, true, length, slice_index_or, IsTrue, IfOk};
+ghost use Rattle.std.specs.Prelude.{◌≡◌, ◌≢◌, ℕ, ◌+◌, ◌*◌, ◌/◌, ◌^◌, ◌<◌, ◌≤◌, ◌&&◌, true, false, length, slice_index_or, IsTrue, IfOk, IfSome, IfNone};
 ghost use Rattle.std.specs.Int.{is_in_range};
 ghost use Rattle.aia_word.specs.Packed.{ones};
 ghost use Rattle.aia_word.specs.Sets.{has_bit};
@@ -15,13 +15,14 @@ ghost use Rattle.aia_entry.specs.Tables.{table_of, route_of};
 ghost use Rattle.aia_entry.specs.Translation.{IsMask};
 ghost use Rattle.aia_home.specs.Vms.{Vcpu, vcpu, vcpus_in, is_vcpu_in, slot_of, notice_hart};
 ghost use Rattle.aia_fabric.specs.World.{no_stage};
+ghost use Rattle.aia_fabric.specs.Found.{IsFound};
 ghost use Rattle.aia_fabric.specs.Making.{IsNew, with_vm, with_entry};
 ghost use Rattle.aia_fabric.specs.Stores.{StoresIn, Posts, counted, page_spot, named_spot, with_store};
 ghost use Rattle.aia_fabric.specs.Whole.{IsWhole};
 
 use crate::flights::Flights;
 use crate::vms::Vms;
-use crate::{Stage, map};
+use crate::{Found, Stage, map};
 use aia_entry::{Iommu, Route};
 use aia_file::File;
 use aia_home::{Place, Vm};
@@ -194,6 +195,26 @@ impl Fabric {
         ensures whole { IsWhole self.now }
     {
         self.vms.has(vm, number)
+    }
+
+    /// Finds the virtual hart of this VM with this number, with its slot and its notice hart.
+    /// `None` exactly where it isn't there; `whole` as of [`Fabric::vms`].
+    pub fn find(&self, vm: u64, number: u64) -> Option<Found>
+        ensures there { IfSome result (λ found. IsFound self.now found) }
+        ensures named { IfSome result (λ found. (found.vm ≡ vm) × (found.number ≡ number)) }
+        ensures none { IfNone result (is_vcpu_in self.now.vms (vcpu vm number) ≡ false) }
+        ensures whole { IsWhole self.now }
+    {
+        if !self.has_vcpu(vm, number) {
+            return None;
+        }
+        let (vm, number) = (vm as u32, number as u32);
+        Some(Found {
+            vm,
+            number,
+            slot: self.slot_of(vm, number),
+            notice: self.notice_hart(vm, number),
+        })
     }
 
     /// Tells how many notices were sent; the count stays at `2^64 - 1`.

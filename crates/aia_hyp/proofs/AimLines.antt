@@ -166,7 +166,7 @@ module _ (x y : CoreState) (h : History) (g : Vcpu) (plan later : Plan) (r : Vcp
   same_who = ap (λ (m : Moving). m.who) a.goes.moved
 
   later_mover : mover (moving_of later) ≡ g
-  later_mover = ap (λ (who : Who). vcpu who.vm who.number) same_who ∙ is_mover
+  later_mover = ap (λ (who : Who). vcpu who.found.vm who.found.number) same_who ∙ is_mover
 
   aimed_home : home (Stepped g ∷ h) g ≡ aimed (home h g)
   aimed_home = stepped_home h g ∙ ap (λ b. cond b (aimed (home h g)) (stepped (file_words h) (home h g))) a.aiming
@@ -186,10 +186,10 @@ module _ (x y : CoreState) (h : History) (g : Vcpu) (plan later : Plan) (r : Vcp
   then_words : width y.world ≡ file_words h
   then_words = ap width a.goes.world ∙ same_words
 
-  same_slot : (moving_of plan).who.slot ≡ slot_of (vms_of h) g
+  same_slot : (moving_of plan).who.found.slot ≡ slot_of (vms_of h) g
   same_slot = planned.0.slot ∙ (λ k. slot_of (a.stands.vms k) (is_mover k))
 
-  same_notice : (moving_of plan).who.notice ≡ notice_hart (vms_of h) g
+  same_notice : (moving_of plan).who.found.notice ≡ notice_hart (vms_of h) g
   same_notice = planned.0.notice ∙ (λ k. notice_hart (a.stands.vms k) (is_mover k))
 
   same_seen : a_look_saw (Stepped g ∷ h) g ≡ a_look_saw h g
@@ -205,7 +205,7 @@ module _ (x y : CoreState) (h : History) (g : Vcpu) (plan later : Plan) (r : Vcp
   same_hand : (moving_of plan).hand ≡ hand_in (record_of x g).stay
   same_hand = ap hand_in (sym a.was)
 
-  held : Holds (width x.world) (moving_of plan).who.slot (moving_of plan).who.notice (in_force_of h g) (places_of x.world (mover (moving_of plan)) (moving_of plan).home) (moving_of plan).home (moving_of plan).hand (guest_file h g) (a_look_saw h g)
+  held : Holds (width x.world) (moving_of plan).who.found.slot (moving_of plan).who.found.notice (in_force_of h g) (places_of x.world (mover (moving_of plan)) (moving_of plan).home) (moving_of plan).home (moving_of plan).hand (guest_file h g) (a_look_saw h g)
   held = subst IsHeld (λ k. record {
     words = sym same_words k;
     slot = sym same_slot k;
@@ -238,8 +238,8 @@ module _ (x y : CoreState) (h : History) (g : Vcpu) (plan later : Plan) (r : Vcp
         passes = subst (HasItsPasses (passes_of (Stepped g ∷ h)) g) (sym stay) (ap (λ (who : Who). who.passes.items) same_who ∙ its_passes ∙ ap (own_passes 0 g) (sym moved.passes));
         holds = subst IsHeld (λ k. record {
           words = then_words k;
-          slot = (ap (λ (who : Who). who.slot) same_who ∙ same_slot) k;
-          hart = (ap (λ (who : Who). who.notice) same_who ∙ same_notice) k;
+          slot = (ap (λ (who : Who). who.found.slot) same_who ∙ same_slot) k;
+          hart = (ap (λ (who : Who). who.found.notice) same_who ∙ same_notice) k;
           reach = sym same_reach k;
           shows = places_of y.world (later_mover k) (later_home k);
           there = later_home k;

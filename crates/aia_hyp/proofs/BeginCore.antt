@@ -69,31 +69,31 @@ at_stay r stay = record r { stay = stay }
 -- The call has put it elsewhere in its record, and may have taken a file; all else is as it was.
 pub record Put (x y : CoreState) (who : Who) (new : Stay) : Type 0 where
   pub is_who : IsWho x.world who
-  pub its : who.passes.items ≡ own_passes 0 (vcpu who.vm who.number) x.passes
+  pub its : who.passes.items ≡ own_passes 0 (vcpu who.found.vm who.found.number) x.passes
   pub world : y.world ≡ x.world
   pub selects : y.selects ≡ x.selects
   pub passes : y.passes ≡ x.passes
-  pub vcpus : y.vcpus ≡ set x.vcpus (slot_of x.world.vms (vcpu who.vm who.number)) (at_stay (record_of x (vcpu who.vm who.number)) new)
+  pub vcpus : y.vcpus ≡ set x.vcpus (slot_of x.world.vms (vcpu who.found.vm who.found.number)) (at_stay (record_of x (vcpu who.found.vm who.found.number)) new)
 
 module _ (x y : CoreState) (who : Who) (given : Answer) (h : History) (stands : CoreStands x h) where
   abbrev g : Vcpu
-  g = vcpu who.vm who.number
+  g = vcpu who.found.vm who.found.number
 
-  is_there : (new : Stay) → Put x y who new → has_vcpu h (vcpu who.vm who.number) ≡ true
+  is_there : (new : Stay) → Put x y who new → has_vcpu h (vcpu who.found.vm who.found.number) ≡ true
   is_there new p = subst (λ (vs : List Vm). is_vcpu_in vs g ≡ true) stands.vms p.is_who.there
 
   -- it is put where it was
-  put_back : (new : Stay) → Put x y who new → new ≡ (record_of x (vcpu who.vm who.number)).stay → y.leases ≡ x.leases → y ≡ x
+  put_back : (new : Stay) → Put x y who new → new ≡ (record_of x (vcpu who.found.vm who.found.number)).stay → y.leases ≡ x.leases → y ≡ x
   put_back new p same leases = same_core x y p.world leases (p.vcpus ∙ ap (λ s. set x.vcpus (slot_of x.world.vms g) (at_stay (record_of x g) s)) same ∙ set-get_or x.vcpus (slot_of x.world.vms g) no_record) p.selects p.passes
 
-  refused : (want : Want) (word : Refusal) (new old : Stay) → Put x y who new → (record_of x (vcpu who.vm who.number)).stay ≡ old → Refuses word old new x.leases y.leases given → refusal h (move_line who.vm who.number want) ≡ Some (Refused word)
-      → Answered x y h who.vm who.number want given
+  refused : (want : Want) (word : Refusal) (new old : Stay) → Put x y who new → (record_of x (vcpu who.found.vm who.found.number)).stay ≡ old → Refuses word old new x.leases y.leases given → refusal h (move_line who.found.vm who.found.number want) ≡ Some (Refused word)
+      → Answered x y h who.found.vm who.found.number want given
   refused want word new old p was r is =
       let same = put_back new p (r.1 ∙ sym was) r.2 in
       (Some (Refused word), is, r.0, subst (λ (z : CoreState). CoreStands z h) (sym same) stands, λ w e. same)
 
   -- its plan is kept
-  planned : (plan : Plan) → Put x y who (stays.Moving plan) → ((words : ℕ) → IsInPhase words plan) → Given x y h (vcpu who.vm who.number) who plan (at_stay (record_of x (vcpu who.vm who.number)) (stays.Moving plan))
+  planned : (plan : Plan) → Put x y who (stays.Moving plan) → ((words : ℕ) → IsInPhase words plan) → Given x y h (vcpu who.found.vm who.found.number) who plan (at_stay (record_of x (vcpu who.found.vm who.found.number)) (stays.Moving plan))
   planned plan p phase = record {
     stands = stands;
     there = is_there (stays.Moving plan) p;
@@ -112,19 +112,19 @@ module _ (x y : CoreState) (who : Who) (given : Answer) (h : History) (stands : 
 
   -- ---- a leave
 
-  leave_refused : (new old : Stay) → Put x y who new → (record_of x (vcpu who.vm who.number)).stay ≡ old
-      → refusal h (lines.Leave who.vm who.number) ≡ cond (is_moving (home_in old)) (Some (Refused words.Busy)) (cond (rests_in_memory (home_in old)) (Some (Refused words.Parked)) None)
+  leave_refused : (new old : Stay) → Put x y who new → (record_of x (vcpu who.found.vm who.found.number)).stay ≡ old
+      → refusal h (lines.Leave who.found.vm who.found.number) ≡ cond (is_moving (home_in old)) (Some (Refused words.Busy)) (cond (rests_in_memory (home_in old)) (Some (Refused words.Parked)) None)
   leave_refused new old p was =
       let inside = is_there new p in
       let there = home_at x h g old stands inside was in
-      leave_refusal h who.vm who.number stands.there
+      leave_refusal h who.found.vm who.found.number stands.there
       ∙ (λ k. cond (not (inside k)) (Some (Refused words.Range)) (cond (is_moving (there k)) (Some (Refused words.Busy)) (cond (rests_in_memory (there k)) (Some (Refused words.Parked)) None)))
 
   -- what is being moved has its home on the move
-  on_the_move : (new : Stay) (plan : Plan) → Put x y who new → (record_of x (vcpu who.vm who.number)).stay ≡ stays.Moving plan → is_moving (moving_of plan).home ≡ true
+  on_the_move : (new : Stay) (plan : Plan) → Put x y who new → (record_of x (vcpu who.found.vm who.found.number)).stay ≡ stays.Moving plan → is_moving (moving_of plan).home ≡ true
   on_the_move new plan p was = let planned : PlanStands x.world g (stays.Moving plan) = subst (PlanStands x.world g) was (stands.vcpus g (is_there new p)).plan in planned.3
 
-  leave_answered : (new old : Stay) → Put x y who new → (record_of x (vcpu who.vm who.number)).stay ≡ old → LeaveBegins who old new x.leases y.leases given → Answered x y h who.vm who.number wants.Leave given
+  leave_answered : (new old : Stay) → Put x y who new → (record_of x (vcpu who.found.vm who.found.number)).stay ≡ old → LeaveBegins who old new x.leases y.leases given → Answered x y h who.found.vm who.found.number wants.Leave given
   leave_answered (stays.Moving plan) (stays.Resident from) p was b = (
     None,
     leave_refused (stays.Moving plan) (stays.Resident from) p was,
@@ -140,12 +140,12 @@ module _ (x y : CoreState) (who : Who) (given : Answer) (h : History) (stands : 
 
   -- ---- an arrival
 
-  arrive_refused : (new old : Stay) (hart : ℕ) (b : Bool) (o : Option ℕ) → Put x y who new → (record_of x (vcpu who.vm who.number)).stay ≡ old → has_hart h hart ≡ b → free_file h (home h) hart ≡ o
-      → refusal h (lines.Arrive who.vm who.number hart) ≡ cond (not b) (Some (Refused words.Range)) (cond (is_moving (home_in old)) (Some (Refused words.Busy)) (cond (is_resident (home_in old)) (Some (Refused words.Home)) (cond (is_entered (home_in old)) (Some (Refused words.Entered)) (cond (is_none o) (Some (Refused words.NoFile)) None))))
+  arrive_refused : (new old : Stay) (hart : ℕ) (b : Bool) (o : Option ℕ) → Put x y who new → (record_of x (vcpu who.found.vm who.found.number)).stay ≡ old → has_hart h hart ≡ b → free_file h (home h) hart ≡ o
+      → refusal h (lines.Arrive who.found.vm who.found.number hart) ≡ cond (not b) (Some (Refused words.Range)) (cond (is_moving (home_in old)) (Some (Refused words.Busy)) (cond (is_resident (home_in old)) (Some (Refused words.Home)) (cond (is_entered (home_in old)) (Some (Refused words.Entered)) (cond (is_none o) (Some (Refused words.NoFile)) None))))
   arrive_refused new old hart b o p was on free =
       let inside = is_there new p in
       let there = home_at x h g old stands inside was in
-      arrive_refusal h who.vm who.number hart stands.there
+      arrive_refusal h who.found.vm who.found.number hart stands.there
       ∙ (λ k. cond (not (inside k && on k)) (Some (Refused words.Range)) (cond (is_moving (there k)) (Some (Refused words.Busy)) (cond (is_resident (there k)) (Some (Refused words.Home)) (cond (is_entered (there k)) (Some (Refused words.Entered)) (cond (is_none (free k)) (Some (Refused words.NoFile)) None)))))
 
   hart_low : (hart : ℕ) → hart < x.leases.harts → has_hart h hart ≡ true
@@ -160,9 +160,9 @@ module _ (x y : CoreState) (who : Who) (given : Answer) (h : History) (stands : 
   same_least : (hart : ℕ) → hart < x.leases.harts → free_file h (home h) hart ≡ least_free x.leases hart
   same_least hart low = sym (same_free x h hart stands (in_world hart low))
 
-  arrive_in : (new : Stay) (hart : ℕ) (kept : KeptNumbers) (o : Option ℕ) → Put x y who new → (record_of x (vcpu who.vm who.number)).stay ≡ stays.Parked kept → hart < x.leases.harts → least_free x.leases hart ≡ o
+  arrive_in : (new : Stay) (hart : ℕ) (kept : KeptNumbers) (o : Option ℕ) → Put x y who new → (record_of x (vcpu who.found.vm who.found.number)).stay ≡ stays.Parked kept → hart < x.leases.harts → least_free x.leases hart ≡ o
       → BeginsIn o hart (λ to. record { who = who; home = Arriving to at_first; hand = record empty_hand { delivery = kept.delivery; threshold = kept.threshold } }) (stays.Parked kept) new x.leases y.leases given
-      → Answered x y h who.vm who.number (wants.Arrive hart) given
+      → Answered x y h who.found.vm who.found.number (wants.Arrive hart) given
   arrive_in new hart kept None p was low found b = refused (wants.Arrive hart) words.NoFile new (stays.Parked kept) p was b
       (arrive_refused new (stays.Parked kept) hart true None p was (hart_low hart low) (same_least hart low ∙ found))
   arrive_in (stays.Moving plan) hart kept (Some file) p was low found b = (
@@ -174,7 +174,7 @@ module _ (x y : CoreState) (who : Who) (given : Answer) (h : History) (stands : 
   )
   arrive_in new hart kept (Some file) p was low found b = absurd b.1
 
-  arrive_answered : (new old : Stay) (hart : ℕ) → Put x y who new → (record_of x (vcpu who.vm who.number)).stay ≡ old → hart < x.leases.harts → ArriveBegins who hart old new x.leases y.leases given → Answered x y h who.vm who.number (wants.Arrive hart) given
+  arrive_answered : (new old : Stay) (hart : ℕ) → Put x y who new → (record_of x (vcpu who.found.vm who.found.number)).stay ≡ old → hart < x.leases.harts → ArriveBegins who hart old new x.leases y.leases given → Answered x y h who.found.vm who.found.number (wants.Arrive hart) given
   arrive_answered new (stays.Parked kept) hart p was low b = arrive_in new hart kept (least_free x.leases hart) p was low refl b
   arrive_answered new (stays.Resident from) hart p was low b = refused (wants.Arrive hart) words.Home new (stays.Resident from) p was b
       (arrive_refused new (stays.Resident from) hart true (free_file h (home h) hart) p was (hart_low hart low) refl)
@@ -186,17 +186,17 @@ module _ (x y : CoreState) (who : Who) (given : Answer) (h : History) (stands : 
 
   -- ---- a shift
 
-  shift_refused : (new old : Stay) (hart : ℕ) (b : Bool) (o : Option ℕ) → Put x y who new → (record_of x (vcpu who.vm who.number)).stay ≡ old → has_hart h hart ≡ b → free_file h (home h) hart ≡ o
-      → refusal h (lines.Shift who.vm who.number hart) ≡ cond (not b) (Some (Refused words.Range)) (cond (is_moving (home_in old)) (Some (Refused words.Busy)) (cond (rests_in_memory (home_in old)) (Some (Refused words.Parked)) (cond (is_none o) (Some (Refused words.NoFile)) None)))
+  shift_refused : (new old : Stay) (hart : ℕ) (b : Bool) (o : Option ℕ) → Put x y who new → (record_of x (vcpu who.found.vm who.found.number)).stay ≡ old → has_hart h hart ≡ b → free_file h (home h) hart ≡ o
+      → refusal h (lines.Shift who.found.vm who.found.number hart) ≡ cond (not b) (Some (Refused words.Range)) (cond (is_moving (home_in old)) (Some (Refused words.Busy)) (cond (rests_in_memory (home_in old)) (Some (Refused words.Parked)) (cond (is_none o) (Some (Refused words.NoFile)) None)))
   shift_refused new old hart b o p was on free =
       let inside = is_there new p in
       let there = home_at x h g old stands inside was in
-      shift_refusal h who.vm who.number hart stands.there
+      shift_refusal h who.found.vm who.found.number hart stands.there
       ∙ (λ k. cond (not (inside k && on k)) (Some (Refused words.Range)) (cond (is_moving (there k)) (Some (Refused words.Busy)) (cond (rests_in_memory (there k)) (Some (Refused words.Parked)) (cond (is_none (free k)) (Some (Refused words.NoFile)) None))))
 
-  shift_in : (new : Stay) (hart : ℕ) (from : Place) (o : Option ℕ) → Put x y who new → (record_of x (vcpu who.vm who.number)).stay ≡ stays.Resident from → hart < x.leases.harts → least_free x.leases hart ≡ o
+  shift_in : (new : Stay) (hart : ℕ) (from : Place) (o : Option ℕ) → Put x y who new → (record_of x (vcpu who.found.vm who.found.number)).stay ≡ stays.Resident from → hart < x.leases.harts → least_free x.leases hart ≡ o
       → BeginsIn o hart (λ to. record { who = who; home = Shifting from to at_first; hand = empty_hand }) (stays.Resident from) new x.leases y.leases given
-      → Answered x y h who.vm who.number (wants.Shift hart) given
+      → Answered x y h who.found.vm who.found.number (wants.Shift hart) given
   shift_in new hart from None p was low found b = refused (wants.Shift hart) words.NoFile new (stays.Resident from) p was b
       (shift_refused new (stays.Resident from) hart true None p was (hart_low hart low) (same_least hart low ∙ found))
   shift_in (stays.Moving plan) hart from (Some file) p was low found b = (
@@ -208,7 +208,7 @@ module _ (x y : CoreState) (who : Who) (given : Answer) (h : History) (stands : 
   )
   shift_in new hart from (Some file) p was low found b = absurd b.1
 
-  shift_answered : (new old : Stay) (hart : ℕ) → Put x y who new → (record_of x (vcpu who.vm who.number)).stay ≡ old → hart < x.leases.harts → ShiftBegins who hart old new x.leases y.leases given → Answered x y h who.vm who.number (wants.Shift hart) given
+  shift_answered : (new old : Stay) (hart : ℕ) → Put x y who new → (record_of x (vcpu who.found.vm who.found.number)).stay ≡ old → hart < x.leases.harts → ShiftBegins who hart old new x.leases y.leases given → Answered x y h who.found.vm who.found.number (wants.Shift hart) given
   shift_answered new (stays.Resident from) hart p was low b = shift_in new hart from (least_free x.leases hart) p was low refl b
   shift_answered new (stays.Parked kept) hart p was low b = refused (wants.Shift hart) words.Parked new (stays.Parked kept) p was b
       (shift_refused new (stays.Parked kept) hart true (free_file h (home h) hart) p was (hart_low hart low) refl)
@@ -220,7 +220,7 @@ module _ (x y : CoreState) (who : Who) (given : Answer) (h : History) (stands : 
 
   -- ---- any of the three
 
-  pub want_answered : (want : Want) (new : Stay) → Put x y who new → WantBegins want who (record_of x (vcpu who.vm who.number)).stay new x.leases y.leases given → Answered x y h who.vm who.number want given
+  pub want_answered : (want : Want) (new : Stay) → Put x y who new → WantBegins want who (record_of x (vcpu who.found.vm who.found.number)).stay new x.leases y.leases given → Answered x y h who.found.vm who.found.number want given
   want_answered wants.Leave new p b = leave_answered new (record_of x g).stay p refl b
   want_answered (wants.Arrive hart) new p b = elim (cases_lt hart x.leases.harts) [
     | inl low ↦ arrive_answered new (record_of x g).stay hart p refl low (b.0 low)
@@ -232,8 +232,8 @@ module _ (x y : CoreState) (who : Who) (given : Answer) (h : History) (stands : 
   ]
 
 -- so the call that has put it elsewhere begins the move, or refuses it
-pub want_begins : (x y : CoreState) (want : Want) (who : Who) (new : Stay) (given : Answer) → Put x y who new → WantBegins want who (record_of x (vcpu who.vm who.number)).stay new x.leases y.leases given → MoveBegins x y who.vm who.number want given
-want_begins x y want who new given p b = move_answered x y who.vm who.number want given (λ h stands. want_answered x y who given h stands want new p b)
+pub want_begins : (x y : CoreState) (want : Want) (who : Who) (new : Stay) (given : Answer) → Put x y who new → WantBegins want who (record_of x (vcpu who.found.vm who.found.number)).stay new x.leases y.leases given → MoveBegins x y who.found.vm who.found.number want given
+want_begins x y want who new given p b = move_answered x y who.found.vm who.found.number want given (λ h stands. want_answered x y who given h stands want new p b)
 
 -- ---- a virtual hart that isn't there
 

@@ -51,8 +51,8 @@ use Rattle.aia_image.specs.Loads.{sets_loaded}
 use Rattle.aia_hyp.specs.Images.{state_in}
 use Rattle.aia_hyp.specs.Memory.{file_in_memory}
 use Rattle.aia_hyp.specs.Passes.{HasItsPasses}
-use Rattle.aia_hyp.specs.declared.moves.Found.{Found}
-use Rattle.aia_hyp.specs.Moves.{IsFound}
+use Rattle.aia_fabric.specs.declared.found.Found.{Found}
+use Rattle.aia_fabric.specs.Found.{IsFound}
 use Rattle.aia_hyp.specs.Stands.{PlanStands, CoreStands, StandsForSome, CoreTakes}
 use Rattle.aia_home.proofs.VmLemmas.{slot_below}
 use Rattle.aia_mrif.proofs.AccessLemmas.{few_identities}

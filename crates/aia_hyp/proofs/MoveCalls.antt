@@ -18,7 +18,7 @@ use Rattle.aia_places.specs.Holds.{Hand}
 use Rattle.aia_fabric.specs.World.{World}
 use Rattle.aia_fabric.specs.Whole.{IsWhole}
 use Rattle.aia_fabric.proofs.WholeLemmas.{vcpu_entry}
-use Rattle.aia_hyp.specs.declared.moves.Found.{Found}
+use Rattle.aia_fabric.specs.declared.found.Found.{Found}
 use Rattle.aia_move.specs.declared.who.Who.{Who}
 use Rattle.aia_hyp.specs.Passes.{own_passes}
 use Rattle.aia_move.specs.declared.plan.Plan.{Plan}
@@ -49,7 +49,8 @@ use Rattle.aia_model.proofs.FlightLemmas.{lands_first, words_first, same_first, 
 use Rattle.aia_move.specs.Landings.{OnceLanded}
 use Rattle.aia_move.specs.Landings as moves
 use Rattle.aia_hyp.proofs.LandingLemmas.{once_landed, first_stands}
-use Rattle.aia_hyp.specs.Moves.{IsFound, WantBegins, MoveBegins, stay_after, back_of, with_back, IsOutThere, stay_then, back_then, is_finished, steps_left, left_in, MakesOneBy, MoveGoes}
+use Rattle.aia_fabric.specs.Found.{IsFound}
+use Rattle.aia_hyp.specs.Moves.{WantBegins, MoveBegins, stay_after, back_of, with_back, IsOutThere, stay_then, back_then, is_finished, steps_left, left_in, MakesOneBy, MoveGoes}
 use Rattle.aia_hyp.specs.Stands.{PlanStands, CoreStands, StandsForSome}
 use Rattle.aia_hyp.proofs.LeaseLemmas.{in_pool}
 use Rattle.aia_home.specs.Aims.{is_aiming, aims_done, aimed}
@@ -112,7 +113,7 @@ module _ (x y : CoreState) (who : Found) (old new : Stay) (s : Swapped x y who o
 
 -- who is moved, with its passes
 abbrev whole_who : Found → Who → Who
-whole_who found who = record { vm = found.vm; number = found.number; slot = found.slot; notice = found.notice; passes = who.passes }
+whole_who found who = record { found = found; passes = who.passes }
 
 pub begin_call : (x y : CoreState) (want : Want) (found : Found) (who : Who) (old new : Stay) (given : Answer) → who ≡ whole_who found who → who.passes.items ≡ own_passes 0 (vcpu found.vm found.number) x.passes → y.world ≡ x.world → Swapped x y found old new
     → WantBegins want who old new x.leases y.leases given → MoveBegins x y found.vm found.number want given
@@ -299,7 +300,7 @@ landed_stands x landed who plan c h stands =
     let g = vcpu who.vm who.number in
     let there : has_vcpu h g ≡ true = subst (λ (vs : List Vm). is_vcpu_in vs g ≡ true) stands.vms c.is_who.there in
     let own = its_own x h g plan stands there c.was in
-    let low : (moving_of plan).who.vm < length x.world.vms = subst (λ (z : Vcpu). z.vm < length x.world.vms) (sym own.0) c.low in
+    let low : (moving_of plan).who.found.vm < length x.world.vms = subst (λ (z : Vcpu). z.vm < length x.world.vms) (sym own.0) c.low in
     subst (λ (z : Vcpu). CoreStands (once_landed x landed) (landed_first z h)) own.0
     (first_stands x landed (moving_of plan) h low (own.1 ∙ ap (home h) (sym own.0)) c.first stands)
 

@@ -9,7 +9,7 @@ use Rattle.aia_home.specs.Vms.{Vcpu, vcpu, is_vcpu_in}
 use Rattle.aia_home.specs.Home.{Home, is_entered, rests_in_memory, is_resident, is_moving, leaving, arriving, shifting, one_more}
 use Rattle.aia_home.specs.Plans.{is_at_last}
 use Rattle.aia_home.specs.Home.Home.{Parked, Entered, Resident, Leaving, Arriving, Shifting}
-use Rattle.aia_hyp.specs.declared.moves.Found.{Found}
+use Rattle.aia_fabric.specs.declared.found.Found.{Found}
 use Rattle.aia_move.specs.Move.{}
 use Rattle.aia_model.specs.declared.answer.Answer.{Answer}
 use Rattle.aia_model.specs.declared.answer.Answer.TheVariants.{Okay, Refused}
@@ -36,7 +36,8 @@ use Rattle.aia_model.proofs.MoveLemmas.{home_step, is_itself}
 use Rattle.aia_hyp.specs.declared.moves.Want.{Want}
 use Rattle.aia_hyp.specs.declared.moves.Want.TheVariants as wants
 use Rattle.aia_hyp.specs.Core.{CoreState, record_of, home_in}
-use Rattle.aia_hyp.specs.Moves.{UnlessRefused, WholeAims, IsFound, move_line, wanted_move, move_begun, MoveBegins, MoveGoes}
+use Rattle.aia_fabric.specs.Found.{IsFound}
+use Rattle.aia_hyp.specs.Moves.{UnlessRefused, WholeAims, move_line, wanted_move, move_begun, MoveBegins, MoveGoes}
 use Rattle.aia_hyp.specs.Stands.{CoreStands, CoreTakes, StandsForSome, line_served}
 
 -- ---- histories

@@ -69,7 +69,7 @@ pub count_sent : (sent : Bool) (w u : World) (m : Moving) (g : Vcpu) → Touches
 count_sent true w u m g t = (t.noticed refl).count
 count_sent false w u m g t = t.count refl
 
-module _ (x y : CoreState) (h : History) (m : Moving) (g : Vcpu) (notice : m.who.notice ≡ notice_hart (vms_of h) g) (slot : m.who.slot ≡ slot_of (vms_of h) g) (selects : y.selects ≡ x.selects) where
+module _ (x y : CoreState) (h : History) (m : Moving) (g : Vcpu) (notice : m.who.found.notice ≡ notice_hart (vms_of h) g) (slot : m.who.found.slot ≡ slot_of (vms_of h) g) (selects : y.selects ≡ x.selects) where
   rests : (f : FileName) → file_at y.world.imsic (host_spot f) ≡ file_at x.world.imsic (host_spot f) → FileDone x y f Rests
   rests f same = record {
     file = subst (λ (file : FileState). SameFile (shown file) (shown (file_at x.world.imsic (host_spot f)))) (sym same) (as_it_was (shown (file_at x.world.imsic (host_spot f))));
@@ -89,7 +89,7 @@ module _ (x y : CoreState) (h : History) (m : Moving) (g : Vcpu) (notice : m.who
   host_sent true f t inside = elim (same_or_other f (SupervisorFile (notice_hart (vms_of h) g))) [
     | inl e ↦ subst (FileDone x y f) (sym (cond-true _ _ _ (is_file-itself f (SupervisorFile (notice_hart (vms_of h) g)) e))) (record {
       file = subst (λ (i : ℕ). SameFile (shown (file_at y.world.imsic (host_spot f))) (landed 0 i (shown (file_at x.world.imsic (host_spot f))))) (ap (λ q. q + 1) slot)
-          (subst (λ (s : Spot). SameFile (shown (file_at y.world.imsic s)) (landed 0 (m.who.slot + 1) (shown (file_at x.world.imsic s)))) (ap spots.SupervisorFile notice ∙ sym (ap host_spot e)) (t.noticed refl).lands.lands);
+          (subst (λ (s : Spot). SameFile (shown (file_at y.world.imsic s)) (landed 0 (m.who.found.slot + 1) (shown (file_at x.world.imsic s)))) (ap spots.SupervisorFile notice ∙ sym (ap host_spot e)) (t.noticed refl).lands.lands);
       select = ap (λ xs. get_or xs (select_place f) 0) selects;
     })
     | inr ne ↦ subst (FileDone x y f) (sym (cond-false _ _ _ (is_file-other f (SupervisorFile (notice_hart (vms_of h) g)) ne))) (rests f (elsewhere f t inside ne))

@@ -94,7 +94,7 @@ module _ (x : CoreState) (h : History) (g : Vcpu) (plan : Plan) (stands : CoreSt
   are_passes most few = subst (All (λ (p : plans.Pass). (p.identity ≤ IDENTITIES) × (p.number < PASSES))) (sym has) (own_all h 0 g (passes_of h) most (omega (arith, few, ap (λ (xs : List Pass). length xs) stands.passes.same)) stands.passes.to_one)
 
   -- what its step aims is what the history says
-  same_notice : (moving_of plan).who.notice ≡ notice_hart (vms_of h) g
+  same_notice : (moving_of plan).who.found.notice ≡ notice_hart (vms_of h) g
   same_notice = planned.0.notice ∙ (λ k. notice_hart (stands.vms k) (planned.2 k))
 
   abbrev its : ℕ

@@ -176,10 +176,7 @@ example_world = record (new_world example_files 63) {
 abbrev pub leave_under_way : Moving
 leave_under_way = record {
   who = record {
-    vm = 0;
-    number = 1;
-    slot = 1;
-    notice = 0;
+    found = record { vm = 0; number = 1; slot = 1; notice = 0 };
     passes = record { items = record { source = 1; identity = 5; number = 0 } ∷ [] };
   };
   home = Leaving leaver_file so_far;

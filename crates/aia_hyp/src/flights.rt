@@ -57,10 +57,10 @@ impl Core {
     pub fn refetch(&mut self, vm: u64, number: u64) -> Result<(), Refusal>
         ensures { CoreTakes self.old self.new (Refetch vm number) (answer_by (λ _. Okay) result) }
     {
-        if !self.fabric.has_vcpu(vm, number) {
+        let Some(found) = self.fabric.find(vm, number) else {
             return Err(Refusal::Range);
-        }
-        self.fabric.refetch(vm as u32, number as u32);
+        };
+        self.fabric.refetch(found);
         Ok(())
     }
 }

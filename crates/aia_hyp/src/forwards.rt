@@ -15,14 +15,15 @@ ghost use Rattle.aia_model.specs.Aim.{aimed_by};
 ghost use Rattle.aia_model.specs.Passes.{is_passed, passes_of};
 ghost use Rattle.aia_model.specs.Refusal.{refusal};
 ghost use Rattle.aia_hyp.specs.Core.{resident_at};
-ghost use Rattle.aia_hyp.specs.Moves.{IsFound, UnlessRefused};
+ghost use Rattle.aia_fabric.specs.Found.{IsFound};
+ghost use Rattle.aia_hyp.specs.Moves.{UnlessRefused};
 ghost use Rattle.aia_hyp.specs.Passes.{AimsBy, TellsOf, pass_in};
 ghost use Rattle.aia_hyp.specs.Stands.{CoreStands, CorePasses, CoreHears, CoreGoes, MayPass, RefusesPass, MayGo, answer_by};
 
 use crate::hypervisor_core::{Core, is_host};
-use crate::moves::{Found, find};
 use crate::passes::Passed;
 use crate::vcpu::Stay;
+use aia_fabric::Found;
 use aia_imsic::Spot;
 use aia_model::{Msi, Refusal};
 use aia_move::Targets;
@@ -82,7 +83,7 @@ impl Core {
         ensures identity { IfOk result (λ _. identity ≤ IDENTITIES) }
     {
         let _whole = self.fabric.words();
-        let Some(found) = find(&self.fabric, vm, number) else {
+        let Some(found) = self.fabric.find(vm, number) else {
             return Err(Refusal::Range);
         };
         if !self.has_identity(identity) {
@@ -91,7 +92,7 @@ impl Core {
         if self.passes.count() >= PASSES {
             return Err(Refusal::Full);
         }
-        if self.is_moved(found.vm, found.number) {
+        if self.is_moved(found) {
             return Err(Refusal::Busy);
         }
         if self.passes.number_of(source).is_some() {
@@ -108,8 +109,8 @@ impl Core {
         requires harts { self.old.world.imsic.harts ≡ (T.map targets.old).harts }
         requires may { MayPass self.old (T.map targets.old) source }
         requires found { IsFound self.old.world found }
-        requires free { RefusesPass self.old (T.map targets.old) source found.vm found.number identity
-            None }
+        requires free { RefusesPass self.old (T.map targets.old) source found.vm
+            found.number identity None }
         ensures passes { (h : History) → CoreStands self.old h
             → TellsOf (T.map targets.old) h source
             → CoreStands self.new

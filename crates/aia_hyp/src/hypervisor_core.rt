@@ -20,7 +20,9 @@ ghost use Rattle.aia_model.specs.declared.line.Line.TheVariants as lines;
 ghost use Rattle.aia_model.specs.Refusal.{is_vm_size, lacks_room};
 ghost use Rattle.aia_fabric.specs.Whole.{IsWhole};
 ghost use Rattle.aia_model.specs.declared.answer.Answer.TheVariants.{Okay, Narrow, Wide};
-ghost use Rattle.aia_hyp.specs.Core.{no_record};
+ghost use Rattle.aia_fabric.specs.Found.{IsFound};
+ghost use Rattle.aia_home.specs.Vms.{vcpu};
+ghost use Rattle.aia_hyp.specs.Core.{no_record, record_of};
 ghost use Rattle.aia_hyp.specs.HostFiles.{IsHost, HasDone, name_of, csr_line, host_spot, is_host_spot, file_in, select_place, select_in};
 ghost use Rattle.aia_hyp.specs.Stands.{CoreStands, StandsForSome, CoreTakes, CoreBegins, answer_by, core_refusal, signals_of, route_answer};
 
@@ -28,7 +30,7 @@ use crate::passes::Passes;
 use crate::vcpu::VcpuRecord;
 use aia_csr::{CsrAccess, decide};
 use aia_entry::{Route, is_mask};
-use aia_fabric::Fabric;
+use aia_fabric::{Fabric, Found};
 use aia_imsic::Spot;
 use aia_model::Refusal;
 use aia_pool::Pool;
@@ -104,6 +106,14 @@ impl Core {
             selects: [0; SELECTS],
             passes: Passes::new(),
         })
+    }
+
+    /// Gives the record of a virtual hart that is there.
+    pub(crate) fn record_of(&self, found: Found) -> &VcpuRecord
+        requires { IsFound self.now.world found }
+        ensures { result.now ≡ record_of self.now (vcpu found.vm found.number) }
+    {
+        &self.vcpus[found.slot as usize]
     }
 
     /// Does a CSR instruction of a hart at a level of the host, `Select`, `Reg` or `Topei`, and

@@ -15,12 +15,12 @@ ghost use Rattle.aia_model.specs.declared.part.Part.TheVariants as parts;
 ghost use Rattle.aia_model.specs.Image.{part_of, is_loadable, majors_loaded};
 ghost use Rattle.aia_hyp.specs.Core.{no_record, record_of, parked_at, MajorsDone};
 ghost use Rattle.aia_hyp.specs.Images.{state_in};
-ghost use Rattle.aia_hyp.specs.Moves.{IsFound};
+ghost use Rattle.aia_fabric.specs.Found.{IsFound};
 ghost use Rattle.aia_hyp.specs.Stands.{CoreTakes, answer_by};
 
 use crate::hypervisor_core::{Core, select_after};
-use crate::moves::{Found, find};
 use crate::vcpu::{Stay, VcpuRecord};
+use aia_fabric::Found;
 use aia_image::{IMAGE_VERSION, is_live, is_loadable, load_word, save_word};
 use aia_model::{Part, Refusal};
 use aia_move::KeptNumbers;
@@ -38,7 +38,7 @@ impl Core {
     pub fn save(&self, vm: u64, number: u64, k: u64) -> Result<Part, Refusal>
         ensures { CoreTakes self.now self.now (Save vm number k) (answer_by kinds.Part result) }
     {
-        let Some(found) = find(&self.fabric, vm, number) else {
+        let Some(found) = self.fabric.find(vm, number) else {
             return Err(Refusal::Range);
         };
         if k >= u64::from(self.fabric.words()) + FIRST_WORD {
@@ -97,7 +97,7 @@ impl Core {
         ensures { CoreTakes self.old self.new (LoadPart vm number part.now)
             (answer_by (λ _. Okay) result) }
     {
-        let Some(found) = find(&self.fabric, vm, number) else {
+        let Some(found) = self.fabric.find(vm, number) else {
             return Err(Refusal::Range);
         };
         if !is_loadable(part, self.fabric.words()) {

@@ -30,10 +30,10 @@ impl Core {
         ensures { CoreTakes self.old self.new (Inject vm number bit level)
             (answer_by (λ _. Okay) result) }
     {
-        let Some(slot) = self.slot_there(vm, number) else {
+        let Some(found) = self.fabric.find(vm, number) else {
             return Err(Refusal::Range);
         };
-        inject_in(&mut self.vcpus, slot, bit, level)
+        inject_in(&mut self.vcpus, found.slot, bit, level)
     }
 
     /// Writes `hvictl` of a virtual hart, at any time. `Err` is `Range` where the virtual hart
@@ -45,10 +45,10 @@ impl Core {
         ensures { CoreTakes self.old self.new (Hvictl vm number value)
             (answer_by (λ _. Okay) result) }
     {
-        let Some(slot) = self.slot_there(vm, number) else {
+        let Some(found) = self.fabric.find(vm, number) else {
             return Err(Refusal::Range);
         };
-        set_hvictl_in(&mut self.vcpus, slot, value)
+        set_hvictl_in(&mut self.vcpus, found.slot, value)
     }
 
     /// Writes `hviprio1` of a virtual hart, at any time. `Err` is `Range` where the virtual hart
@@ -59,23 +59,11 @@ impl Core {
         ensures { CoreTakes self.old self.new (Hviprio vm number value)
             (answer_by (λ _. Okay) result) }
     {
-        let Some(slot) = self.slot_there(vm, number) else {
+        let Some(found) = self.fabric.find(vm, number) else {
             return Err(Refusal::Range);
         };
-        set_hviprio_in(&mut self.vcpus, slot, value);
+        set_hviprio_in(&mut self.vcpus, found.slot, value);
         Ok(())
-    }
-
-    /// Finds the slot of a virtual hart; `None` exactly where it isn't there.
-    fn slot_there(&self, vm: u64, number: u64) -> Option<u32>
-        ensures there { is_some result ≡ is_vcpu_in self.now.world.vms (vcpu vm number) }
-        ensures slot { IfSome result (λ slot. slot ≡ slot_of self.now.world.vms (vcpu vm number)) }
-        ensures below { IfSome result (λ slot. slot < length self.now.vcpus) }
-    {
-        if !self.fabric.has_vcpu(vm, number) {
-            return None;
-        }
-        Some(self.fabric.slot_of(vm as u32, number as u32))
     }
 }
 

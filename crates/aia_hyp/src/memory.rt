@@ -16,15 +16,14 @@ ghost use Rattle.aia_model.specs.declared.answer.Answer.TheVariants.{Okay, Wide}
 ghost use Rattle.aia_model.specs.Refusal.{is_file_csr};
 ghost use Rattle.aia_hyp.specs.Core.{no_record, record_of, resident_at, entered_at};
 ghost use Rattle.aia_hyp.specs.Memory.{Enters, is_number, kept_after, kept_value, TopDone};
-ghost use Rattle.aia_hyp.specs.Moves.{IsFound};
+ghost use Rattle.aia_fabric.specs.Found.{IsFound};
 ghost use Rattle.aia_hyp.specs.Stands.{CoreTakes, answer_by};
 
 use crate::guest::access_select_in;
 use crate::hypervisor_core::Core;
-use crate::moves::{Found, find};
 use crate::vcpu::{Stay, VcpuRecord};
 use aia_csr::CsrAccess;
-use aia_fabric::Fabric;
+use aia_fabric::{Fabric, Found};
 use aia_model::Refusal;
 use aia_move::KeptNumbers;
 use aia_regs::{Csr, FileReg, Op};
@@ -37,7 +36,7 @@ impl Core {
     pub fn enter(&mut self, vm: u64, number: u64) -> Result<(), Refusal>
         ensures { CoreTakes self.old self.new (Enter vm number) (answer_by (λ _. Okay) result) }
     {
-        let Some(found) = find(&self.fabric, vm, number) else {
+        let Some(found) = self.fabric.find(vm, number) else {
             return Err(Refusal::Range);
         };
         enter_in(&mut self.vcpus, found.slot)
@@ -49,10 +48,10 @@ impl Core {
     pub fn exit(&mut self, vm: u64, number: u64) -> Result<(), Refusal>
         ensures { CoreTakes self.old self.new (Exit vm number) (answer_by (λ _. Okay) result) }
     {
-        let Some(found) = find(&self.fabric, vm, number) else {
+        let Some(found) = self.fabric.find(vm, number) else {
             return Err(Refusal::Range);
         };
-        match self.entered(found.vm, found.number) {
+        match self.record_of(found).stay.entered() {
             Some(kept) => {
                 self.park(found, kept);
                 Ok(())
@@ -78,54 +77,38 @@ impl Core {
 
     /// Does the access of a virtual hart that is there and is not resident: one that runs from
     /// memory has the CSRs of its interrupt file. `Err` as of [`Core::guest`].
-    pub(crate) fn away_access(
-        &mut self,
-        vm: u32,
-        number: u32,
-        csr: Csr,
-        op: Op,
-    ) -> Result<u64, Refusal>
-        requires there { is_vcpu_in self.old.world.vms (vcpu vm number) ≡ true }
+    pub(crate) fn away_access(&mut self, found: Found, csr: Csr, op: Op) -> Result<u64, Refusal>
+        requires found { IsFound self.old.world found }
         requires whole { IsWhole self.old.world }
-        requires away { resident_at (record_of self.old (vcpu vm number)).stay ≡ None }
-        ensures { CoreTakes self.old self.new (GuestCsr vm number csr op)
+        requires away { resident_at (record_of self.old (vcpu found.vm found.number)).stay ≡ None }
+        ensures { CoreTakes self.old self.new (GuestCsr found.vm found.number csr op)
             (answer_by Wide result) }
     {
-        match self.entered(vm, number) {
-            Some(kept) if is_file_csr(csr) => self.memory_access(vm, number, kept, csr, op),
+        match self.record_of(found).stay.entered() {
+            Some(kept) if is_file_csr(csr) => self.memory_access(found, kept, csr, op),
             _ => Err(Refusal::Away),
         }
-    }
-
-    /// Tells the numbers that are kept of a virtual hart that is there, `None` where it doesn't run
-    /// from memory.
-    fn entered(&self, vm: u32, number: u32) -> Option<KeptNumbers>
-        requires { is_vcpu_in self.now.world.vms (vcpu vm number) ≡ true }
-        ensures { result ≡ entered_at (record_of self.now (vcpu vm number)).stay }
-    {
-        let slot = self.fabric.slot_of(vm, number);
-        self.vcpus[slot as usize].stay.entered()
     }
 
     /// Does the access of a virtual hart that runs from memory to a CSR of its interrupt file: the
     /// sets are its slot's, the numbers are kept beside it. `Err` as of [`Core::guest`].
     fn memory_access(
         &mut self,
-        vm: u32,
-        number: u32,
+        found: Found,
         kept: KeptNumbers,
         csr: Csr,
         op: Op,
     ) -> Result<u64, Refusal>
-        requires there { is_vcpu_in self.old.world.vms (vcpu vm number) ≡ true }
+        requires found { IsFound self.old.world found }
         requires whole { IsWhole self.old.world }
-        requires entered { (record_of self.old (vcpu vm number)).stay ≡ Stay.Entered kept }
+        requires entered { (record_of self.old (vcpu found.vm found.number)).stay
+            ≡ Stay.Entered kept }
         requires listed { IsFileCsr csr }
-        ensures { CoreTakes self.old self.new (GuestCsr vm number csr op)
+        ensures { CoreTakes self.old self.new (GuestCsr found.vm found.number csr op)
             (answer_by Wide result) }
     {
-        let slot = self.fabric.slot_of(vm, number);
-        match self.guest_reached(vm, number, csr, op) {
+        let slot = found.slot;
+        match self.guest_reached(found, csr, op) {
             CsrAccess::Select => Ok(access_select_in(&mut self.vcpus, slot, op)),
             CsrAccess::File(reg) if is_number(reg) => {
                 let modulus = 64 * u64::from(self.fabric.words());

@@ -5,7 +5,6 @@ ghost use Rattle.aia_home.specs.Home.{is_moving};
 ghost use Rattle.aia_pool.specs.Leases.{Leases};
 ghost use Rattle.aia_model.specs.declared.line.Line.TheVariants.{Step};
 ghost use Rattle.aia_model.specs.declared.answer.Answer.TheVariants.{Okay};
-ghost use Rattle.aia_move.specs.Move.{IsWho};
 ghost use Rattle.aia_move.specs.Plan.{moving_of};
 ghost use Rattle.aia_model.specs.Event.{History};
 ghost use Rattle.aia_model.specs.Event.Event.{Stepped};
@@ -14,12 +13,13 @@ ghost use Rattle.aia_model.specs.Refusal.{refusal};
 ghost use Rattle.aia_hyp.specs.Core.{no_kept, no_record, record_of, home_in, has_plan};
 ghost use Rattle.aia_hyp.specs.Passes.{own_passes, AimsBy};
 ghost use Rattle.aia_hyp.specs.Stands.{CoreStands, CoreTakes, answer_by};
-ghost use Rattle.aia_hyp.specs.Moves.{IsFound, UnlessRefused, WholeAims, move_line, begin_line, step_answer, MakesOne, WantBegins, LeaveBegins, ArriveBegins, ShiftBegins, MoveBegins, MoveGoes, stay_after, back_of, with_back, IsOutThere, stay_then, back_then, is_finished};
+ghost use Rattle.aia_fabric.specs.Found.{IsFound};
+ghost use Rattle.aia_hyp.specs.Moves.{UnlessRefused, WholeAims, move_line, begin_line, step_answer, MakesOne, WantBegins, LeaveBegins, ArriveBegins, ShiftBegins, MoveBegins, MoveGoes, stay_after, back_of, with_back, IsOutThere, stay_then, back_then, is_finished};
 
 use crate::hypervisor_core::Core;
 use crate::passes::Passes;
 use crate::vcpu::{Stay, VcpuRecord};
-use aia_fabric::Fabric;
+use aia_fabric::Found;
 use aia_model::Refusal;
 use aia_move::{KeptNumbers, Next, Outcome, Plan, Targets, Who};
 use aia_pool::Pool;
@@ -33,19 +33,6 @@ pub enum Want {
     Arrive(u64),
     /// From its guest file to one of this hart.
     Shift(u64),
-}
-
-/// A virtual hart that is there.
-#[derive(Clone, Copy, Debug, PartialEq, Eq)]
-pub(crate) struct Found {
-    /// Its VM.
-    pub vm: u32,
-    /// Its number in the VM.
-    pub number: u32,
-    /// Its number over all VMs: that of its slot of memory.
-    pub slot: u32,
-    /// The hart whose supervisor file takes its notices.
-    pub notice: u32,
 }
 
 impl Core {
@@ -70,7 +57,7 @@ impl Core {
             (WholeAims T.aimed h vm number want targets.old targets.new)
             (targets.new ≡ targets.old) }
     {
-        let Some(found) = find(&self.fabric, vm, number) else {
+        let Some(found) = self.fabric.find(vm, number) else {
             return Err(Refusal::Range);
         };
         self.begin_of(found, want)?;
@@ -84,7 +71,7 @@ impl Core {
         ensures { CoreTakes self.old self.new (begin_line vm number want)
             (answer_by (λ _. Okay) result) }
     {
-        let Some(found) = find(&self.fabric, vm, number) else {
+        let Some(found) = self.fabric.find(vm, number) else {
             return Err(Refusal::Range);
         };
         self.begin_of(found, want)
@@ -110,22 +97,21 @@ impl Core {
             (AimsBy T.aimed (aimed_by h (Stepped (vcpu vm number))) targets.old targets.new)
             (targets.new ≡ targets.old) }
     {
-        let Some(found) = find(&self.fabric, vm, number) else {
+        let Some(found) = self.fabric.find(vm, number) else {
             return Err(Refusal::Range);
         };
-        if !self.is_moved(found.vm, found.number) {
+        if !self.is_moved(found) {
             return Err(Refusal::Idle);
         }
         Ok(self.step_of(found, targets))
     }
 
     /// Tells whether a virtual hart that is there is being moved.
-    pub(crate) fn is_moved(&self, vm: u32, number: u32) -> bool
-        requires { is_vcpu_in self.now.world.vms (vcpu vm number) ≡ true }
-        ensures { result ≡ has_plan (record_of self.now (vcpu vm number)).stay }
+    pub(crate) fn is_moved(&self, found: Found) -> bool
+        requires { IsFound self.now.world found }
+        ensures { result ≡ has_plan (record_of self.now (vcpu found.vm found.number)).stay }
     {
-        let slot = self.fabric.slot_of(vm, number);
-        self.vcpus[slot as usize].stay.has_plan()
+        self.record_of(found).stay.has_plan()
     }
 
     /// Begins to move a virtual hart that is there, and does no step of the move.
@@ -170,41 +156,16 @@ impl Core {
     }
 }
 
-/// Finds the virtual hart of this VM with this number, with its slot and its notice hart. `None`
-/// exactly where it isn't there.
-pub(crate) fn find(fabric: &Fabric, vm: u64, number: u64) -> Option<Found>
-    ensures there { IfSome result (λ found. IsFound fabric.now found) }
-    ensures named { IfSome result (λ found. (found.vm ≡ vm) × (found.number ≡ number)) }
-    ensures none { IfNone result (is_vcpu_in fabric.now.vms (vcpu vm number) ≡ false) }
-{
-    if !fabric.has_vcpu(vm, number) {
-        return None;
-    }
-    let (vm, number) = (vm as u32, number as u32);
-    Some(Found {
-        vm,
-        number,
-        slot: fabric.slot_of(vm, number),
-        notice: fabric.notice_hart(vm, number),
-    })
-}
-
 /// Tells who is moved: the virtual hart with the passes to it.
 fn who_of(found: Found, passes: &Passes) -> Who
     ensures named { result ≡ record {
-      vm = found.vm;
-      number = found.number;
-      slot = found.slot;
-      notice = found.notice;
+      found = found;
       passes = result.passes;
     } }
     ensures passes { result.passes.items ≡ own_passes 0 (vcpu found.vm found.number) passes.now }
 {
     Who {
-        vm: found.vm,
-        number: found.number,
-        slot: found.slot,
-        notice: found.notice,
+        found,
         passes: passes.to(found.vm, found.number),
     }
 }

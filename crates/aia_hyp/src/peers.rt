@@ -18,16 +18,16 @@ impl Core {
         ensures { CoreTakes self.old self.new (Ipi vm number to value)
             (answer_by (λ _. Okay) result) }
     {
-        if !self.fabric.has_vcpu(vm, number) {
+        let Some(from) = self.fabric.find(vm, number) else {
             return Err(Refusal::Range);
-        }
-        if !self.runs(vm as u32, number as u32) {
+        };
+        if !self.record_of(from).stay.runs() {
             return Err(Refusal::Away);
         }
-        if !self.fabric.has_vcpu(vm, to) {
+        let Some(peer) = self.fabric.find(vm, to) else {
             return Err(Refusal::GFault);
-        }
-        self.fabric.guest_store(vm as u32, to as u32, value);
+        };
+        self.fabric.guest_store(peer, value);
         Ok(())
     }
 }

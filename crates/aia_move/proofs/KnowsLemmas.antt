@@ -65,12 +65,12 @@ module _ (w u : World) (plan : Plan) (reach : Option Place) (saw : Bool) (same :
   m = moving_of plan
 
   knows_by : (file after : InterruptFile) → Knows w plan reach file saw → (v : Places) → places_of u (mover m) m.home ≡ v
-      → Holds (width w) m.who.slot m.who.notice reach v m.home m.hand after saw → Knows u plan reach after saw
+      → Holds (width w) m.who.found.slot m.who.found.notice reach v m.home m.hand after saw → Knows u plan reach after saw
   knows_by file after knows v seen held = record {
     fits = fits_still w u m same knows.fits;
     phase = phase_still w u plan same knows.phase;
-    holds = subst (λ n. Holds ((n + 1) / 64) m.who.slot m.who.notice reach (places_of u (mover m) m.home) m.home m.hand after saw) (sym same.n)
-        (subst (λ (z : Places). Holds (width w) m.who.slot m.who.notice reach z m.home m.hand after saw) (sym seen) held);
+    holds = subst (λ n. Holds ((n + 1) / 64) m.who.found.slot m.who.found.notice reach (places_of u (mover m) m.home) m.home m.hand after saw) (sym same.n)
+        (subst (λ (z : Places). Holds (width w) m.who.found.slot m.who.found.notice reach z m.home m.hand after saw) (sym seen) held);
   }
 
 -- ---- a store for the virtual hart that is moved
@@ -127,7 +127,7 @@ module _ (w u : World) (plan : Plan) (reach : Option Place) (file : InterruptFil
   lands_knows place may stores =
       let both = shows place may stores in
       knows_by w u plan reach saw both.1 file (landed offset value file) knows (places_landed place mv.home offset value (places_of w (mover mv) mv.home)) both.0
-      (lands w.n (width w) mv.who.slot mv.who.notice offset value reach (places_of w (mover mv) mv.home) mv.hand file saw within (few_words w.n whole.greatest) mv.home
+      (lands w.n (width w) mv.who.found.slot mv.who.found.notice offset value reach (places_of w (mover mv) mv.home) mv.hand file saw within (few_words w.n whole.greatest) mv.home
       (file_in-size w (own_file mv.home) whole knows.fits.own) (file_in-size w (next_file mv.home) whole knows.fits.next) apart place may knows.holds)
 
   -- a device's, where its entry in force leads
@@ -139,25 +139,25 @@ module _ (w u : World) (plan : Plan) (reach : Option Place) (file : InterruptFil
       subst (λ (s : Spot). StoresInSlot w u (Some (slot_of w.vms (mover mv))) s (slot_of w.vms (mover mv) + 1) offset value) (host_page w.imsic (notice_hart w.vms (mover mv)) hart whole.harts)
       (subst (λ (o : Option ℕ). StoresInSlot w u o (page_spot w.imsic (supervisor_page (notice_hart w.vms (mover mv)) / PAGE)) (slot_of w.vms (mover mv) + 1) offset value) (slot_found (slot_of w.vms (mover mv)) (slot_low w (mover mv) whole knows.fits.there)) reaches)
 
-  entry_is : entry_in_force (table_of w.tables mv.who.vm) mv.who.number ≡ leads_to (slot_of w.vms (mover mv)) (notice_hart w.vms (mover mv)) reach
-  entry_is = knows.holds.routes.in_force ∙ ap (λ q. leads_to q mv.who.notice reach) knows.fits.slot ∙ ap (λ hart. leads_to (slot_of w.vms (mover mv)) hart reach) knows.fits.notice
+  entry_is : entry_in_force (table_of w.tables mv.who.found.vm) mv.who.found.number ≡ leads_to (slot_of w.vms (mover mv)) (notice_hart w.vms (mover mv)) reach
+  entry_is = knows.holds.routes.in_force ∙ ap (λ q. leads_to q mv.who.found.notice reach) knows.fits.slot ∙ ap (λ hart. leads_to (slot_of w.vms (mover mv)) hart reach) knows.fits.notice
 
-  pub device_knows : (addr : ℕ) → is_msi_address (table_of w.tables mv.who.vm).mask addr ≡ true → file_number (table_of w.tables mv.who.vm).mask addr ≡ mv.who.number
-      → Reaches (route_of (table_of w.tables mv.who.vm) addr) w u offset value → Knows u plan reach (landed offset value file) saw
+  pub device_knows : (addr : ℕ) → is_msi_address (table_of w.tables mv.who.found.vm).mask addr ≡ true → file_number (table_of w.tables mv.who.found.vm).mask addr ≡ mv.who.found.number
+      → Reaches (route_of (table_of w.tables mv.who.found.vm) addr) w u offset value → Knows u plan reach (landed offset value file) saw
   device_knows addr is names reaches =
       let may = reach_lands (width w) mv.home reach knows.holds.routes.may in
-      let route : route_of (table_of w.tables mv.who.vm) addr ≡ leads_by (leads_to (slot_of w.vms (mover mv)) (notice_hart w.vms (mover mv)) reach) =
-      cond-true _ _ _ is ∙ ap (λ k. leads_by (entry_in_force (table_of w.tables mv.who.vm) k)) names ∙ ap leads_by entry_is in
+      let route : route_of (table_of w.tables mv.who.found.vm) addr ≡ leads_by (leads_to (slot_of w.vms (mover mv)) (notice_hart w.vms (mover mv)) reach) =
+      cond-true _ _ _ is ∙ ap (λ k. leads_by (entry_in_force (table_of w.tables mv.who.found.vm) k)) names ∙ ap leads_by entry_is in
       lands_knows reach may (entry_lands reach may (subst (λ (r : Route). Reaches r w u offset value) route reaches))
 
 -- one that was in flight, where the entry led as it was sent
 pub flight_knows : (w u : World) (plan : Plan) (reach place : Option Place) (file : InterruptFile) (saw : Bool) (offset value : ℕ) → IsWhole w → AreApart (moving_of plan).home → IsWithin w.n (width w) file → Knows w plan reach file saw
-    → MayReach (moving_of plan).home place → ReachesBy (leads_to (moving_of plan).who.slot (moving_of plan).who.notice place) w u offset value → Knows u plan reach (landed offset value file) saw
+    → MayReach (moving_of plan).home place → ReachesBy (leads_to (moving_of plan).who.found.slot (moving_of plan).who.found.notice place) w u offset value → Knows u plan reach (landed offset value file) saw
 flight_knows w u plan reach place file saw offset value whole apart within knows may reaches =
     let m = moving_of plan in
     let land = reach_lands (width w) m.home place may in
     let own : ReachesBy (leads_to (slot_of w.vms (mover m)) (notice_hart w.vms (mover m)) place) w u offset value =
-    subst (λ q. ReachesBy (leads_to q (notice_hart w.vms (mover m)) place) w u offset value) knows.fits.slot (subst (λ hart. ReachesBy (leads_to m.who.slot hart place) w u offset value) knows.fits.notice reaches) in
+    subst (λ q. ReachesBy (leads_to q (notice_hart w.vms (mover m)) place) w u offset value) knows.fits.slot (subst (λ hart. ReachesBy (leads_to m.who.found.slot hart place) w u offset value) knows.fits.notice reaches) in
     lands_knows w u plan reach file saw offset value whole apart within knows place land
     (entry_lands w u plan reach file saw offset value whole apart within knows place land (by_entry place (slot_of w.vms (mover m)) (notice_hart w.vms (mover m)) w u offset value own))
 

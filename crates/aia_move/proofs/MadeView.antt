@@ -149,19 +149,19 @@ carried_word k x members hand now shows c = (λ i e. ap (λ (h : Hand). has_bit 
 
 module _ (w u : World) (who : Who) (there : Home) (hand now : Hand) (whole : IsWhole w) (fits : MoveFits w (record { who = who; home = there; hand = hand })) where
   abbrev it : Vcpu
-  it = vcpu who.vm who.number
+  it = vcpu who.found.vm who.found.number
 
   abbrev Made : Access → Type 0
-  Made access = StepMade who.slot who.notice access there (places_of w it there) hand (places_of u it there) now
+  Made access = StepMade who.found.slot who.found.notice access there (places_of w it there) hand (places_of u it there) now
 
   abbrev DoesMake : Access → Type 0
   DoesMake access = Makes access (record { who = who; home = there; hand = hand }) w u
 
   write_notice-made : DoesMake WriteNotice → now ≡ hand → Made WriteNotice
-  write_notice-made e c = record { places = ap (λ (x : World). places_of x it there) e ∙ word1-places w it there whole fits.there (second_word who.slot who.notice); carried = c }
+  write_notice-made e c = record { places = ap (λ (x : World). places_of x it there) e ∙ word1-places w it there whole fits.there (second_word who.found.slot who.found.notice); carried = c }
 
   write_entry-made : DoesMake WriteEntry → now ≡ hand → Made WriteEntry
-  write_entry-made e c = record { places = ap (λ (x : World). places_of x it there) e ∙ word0-places w it there whole fits.there (entry_word who.slot (new_file there)); carried = c }
+  write_entry-made e c = record { places = ap (λ (x : World). places_of x it there) e ∙ word0-places w it there whole fits.there (entry_word who.found.slot (new_file there)); carried = c }
 
   fence-made : DoesMake Fence → now ≡ hand → Made Fence
   fence-made e c = record { places = ap (λ (x : World). places_of x it there) e ∙ fence-places w it there whole fits.there; carried = c }
@@ -172,21 +172,21 @@ module _ (w u : World) (who : Who) (there : Home) (hand now : Hand) (whole : IsW
   gfence-made : DoesMake GFence → now ≡ hand → Made GFence
   gfence-made e c = record { places = ap (λ (x : World). places_of x it there) e ∙ gfence-places w it there whole fits.there; carried = c }
 
-  notice_low : who.notice < w.imsic.harts
+  notice_low : who.found.notice < w.imsic.harts
   notice_low = let low = notice_hart_there w it whole fits.there in omega (arith, low, fits.notice)
 
-  post-made : (seen : Bool) → PostsIf seen w u who.notice (who.slot + 1) → now ≡ hand → Made Post
-  post-made true posts c = record { places = posts-places w u it there who.notice (who.slot + 1) notice_low fits.own fits.next posts; carried = c }
+  post-made : (seen : Bool) → PostsIf seen w u who.found.notice (who.found.slot + 1) → now ≡ hand → Made Post
+  post-made true posts c = record { places = posts-places w u it there who.found.notice (who.found.slot + 1) notice_low fits.own fits.next posts; carried = c }
   post-made false e c = record { places = ap (λ (x : World). places_of x it there) e; carried = c }
 
   look-made : (k : ℕ) → k < FILE_WORDS → DoesMake (Look k) → now ≡ hand_after (Look k) (record { who = who; home = there; hand = hand }) w → Made (Look k)
   look-made k few e c = record {
     places = ap (λ (x : World). places_of x it there) e;
     carried = (
-      get_or w.memory (pending_place who.slot k) 0,
-      get_or w.memory (enable_place who.slot k) 0,
-      slot_pending-shows w u it there who.slot k 0 whole fits.there fits.slot few,
-      slot_enables-shows w u it there who.slot k 0 whole fits.there fits.slot few,
+      get_or w.memory (pending_place who.found.slot k) 0,
+      get_or w.memory (enable_place who.found.slot k) 0,
+      slot_pending-shows w u it there who.found.slot k 0 whole fits.there fits.slot few,
+      slot_enables-shows w u it there who.found.slot k 0 whole fits.there fits.slot few,
       c,
     );
   }
@@ -198,18 +198,18 @@ module _ (w u : World) (who : Who) (there : Home) (hand now : Hand) (whole : IsW
 
 leave_made : (access : Access) (w u : World) (who : Who) (from : Place) (at : Progress) (hand now : Hand) → IsWhole w → MoveFits w (record { who = who; home = (Leaving from at); hand = hand }) → IsNext (width w) (Leaving from at) access
     → Makes access (record { who = who; home = (Leaving from at); hand = hand }) w u → now ≡ hand_after access (record { who = who; home = (Leaving from at); hand = hand }) w
-    → StepMade who.slot who.notice access (Leaving from at) (places_of w (vcpu who.vm who.number) (Leaving from at)) hand (places_of u (vcpu who.vm who.number) (Leaving from at)) now
+    → StepMade who.found.slot who.found.notice access (Leaving from at) (places_of w (vcpu who.found.vm who.found.number) (Leaving from at)) hand (places_of u (vcpu who.found.vm who.found.number) (Leaving from at)) now
 leave_made WriteNotice w u who from at hand now whole fits next makes c = write_notice-made w u who (Leaving from at) hand now whole fits makes c
 leave_made WriteEntry w u who from at hand now whole fits next makes c = write_entry-made w u who (Leaving from at) hand now whole fits makes c
 leave_made Fence w u who from at hand now whole fits next makes c = fence-made w u who (Leaving from at) hand now whole fits makes c
 leave_made Map w u who from at hand now whole fits next makes c = map-made w u who (Leaving from at) hand now whole fits makes c
 leave_made GFence w u who from at hand now whole fits next makes c = gfence-made w u who (Leaving from at) hand now whole fits makes c
-leave_made TakeDelivery w u who from at hand now whole fits next makes c = record { places = own-put w u (vcpu who.vm who.number) (Leaving from at) from Delivery 0 whole (fits.own from refl) makes refl (no_file w from); carried = c }
-leave_made TakeThreshold w u who from at hand now whole fits next makes c = record { places = own-put w u (vcpu who.vm who.number) (Leaving from at) from Threshold 0 whole (fits.own from refl) makes refl (no_file w from); carried = c }
-leave_made (TakePending k) w u who from at hand now whole fits next makes c = record { places = own-pending_taken w u (vcpu who.vm who.number) (Leaving from at) from k hand.word whole (fits.own from refl) refl (no_file w from) makes; carried = carried_word k (get_or (file_at w.imsic (spot_of from)).pending k 0) (places_of w (vcpu who.vm who.number) (Leaving from at)).own.pending hand now (row_shows (file_at w.imsic (spot_of from)).pending k) c }
-leave_made (TakeEnables k) w u who from at hand now whole fits next makes c = record { places = own-enables_taken w u (vcpu who.vm who.number) (Leaving from at) from k hand.word whole (fits.own from refl) refl (no_file w from) makes; carried = carried_word k (get_or (file_at w.imsic (spot_of from)).enabled k 0) (places_of w (vcpu who.vm who.number) (Leaving from at)).own.enabled hand now (row_shows (file_at w.imsic (spot_of from)).enabled k) c }
-leave_made (PutPending k) w u who from at hand now whole fits next makes c = record { places = slot-pending_joined w u (vcpu who.vm who.number) (Leaving from at) who.slot k hand.word whole fits.there fits.slot (of_width w u who (Leaving from at) hand now whole fits k next.has) makes.1; carried = c }
-leave_made (PutEnables k) w u who from at hand now whole fits next makes c = record { places = slot-enables_replaced w u (vcpu who.vm who.number) (Leaving from at) who.slot k hand.word whole fits.there fits.slot (of_width w u who (Leaving from at) hand now whole fits k next.has) makes.1; carried = c }
+leave_made TakeDelivery w u who from at hand now whole fits next makes c = record { places = own-put w u (vcpu who.found.vm who.found.number) (Leaving from at) from Delivery 0 whole (fits.own from refl) makes refl (no_file w from); carried = c }
+leave_made TakeThreshold w u who from at hand now whole fits next makes c = record { places = own-put w u (vcpu who.found.vm who.found.number) (Leaving from at) from Threshold 0 whole (fits.own from refl) makes refl (no_file w from); carried = c }
+leave_made (TakePending k) w u who from at hand now whole fits next makes c = record { places = own-pending_taken w u (vcpu who.found.vm who.found.number) (Leaving from at) from k hand.word whole (fits.own from refl) refl (no_file w from) makes; carried = carried_word k (get_or (file_at w.imsic (spot_of from)).pending k 0) (places_of w (vcpu who.found.vm who.found.number) (Leaving from at)).own.pending hand now (row_shows (file_at w.imsic (spot_of from)).pending k) c }
+leave_made (TakeEnables k) w u who from at hand now whole fits next makes c = record { places = own-enables_taken w u (vcpu who.found.vm who.found.number) (Leaving from at) from k hand.word whole (fits.own from refl) refl (no_file w from) makes; carried = carried_word k (get_or (file_at w.imsic (spot_of from)).enabled k 0) (places_of w (vcpu who.found.vm who.found.number) (Leaving from at)).own.enabled hand now (row_shows (file_at w.imsic (spot_of from)).enabled k) c }
+leave_made (PutPending k) w u who from at hand now whole fits next makes c = record { places = slot-pending_joined w u (vcpu who.found.vm who.found.number) (Leaving from at) who.found.slot k hand.word whole fits.there fits.slot (of_width w u who (Leaving from at) hand now whole fits k next.has) makes.1; carried = c }
+leave_made (PutEnables k) w u who from at hand now whole fits next makes c = record { places = slot-enables_replaced w u (vcpu who.found.vm who.found.number) (Leaving from at) who.found.slot k hand.word whole fits.there fits.slot (of_width w u who (Leaving from at) hand now whole fits k next.has) makes.1; carried = c }
 leave_made (Look k) w u who from at hand now whole fits next makes c = look-made w u who (Leaving from at) hand now whole fits k (of_width w u who (Leaving from at) hand now whole fits k next.has) makes c
 leave_made Post w u who from at hand now whole fits next makes c = post-made w u who (Leaving from at) hand now whole fits hand.seen makes c
 leave_made PutDelivery w u who from at hand now whole fits next makes c = let no : false ≡ true = next.has in absurd (cc)
@@ -217,17 +217,17 @@ leave_made PutThreshold w u who from at hand now whole fits next makes c = let n
 
 arrive_made : (access : Access) (w u : World) (who : Who) (to : Place) (at : Progress) (hand now : Hand) → IsWhole w → MoveFits w (record { who = who; home = (Arriving to at); hand = hand }) → IsNext (width w) (Arriving to at) access
     → Makes access (record { who = who; home = (Arriving to at); hand = hand }) w u → now ≡ hand_after access (record { who = who; home = (Arriving to at); hand = hand }) w
-    → StepMade who.slot who.notice access (Arriving to at) (places_of w (vcpu who.vm who.number) (Arriving to at)) hand (places_of u (vcpu who.vm who.number) (Arriving to at)) now
+    → StepMade who.found.slot who.found.notice access (Arriving to at) (places_of w (vcpu who.found.vm who.found.number) (Arriving to at)) hand (places_of u (vcpu who.found.vm who.found.number) (Arriving to at)) now
 arrive_made WriteEntry w u who to at hand now whole fits next makes c = write_entry-made w u who (Arriving to at) hand now whole fits makes c
 arrive_made Fence w u who to at hand now whole fits next makes c = fence-made w u who (Arriving to at) hand now whole fits makes c
 arrive_made Map w u who to at hand now whole fits next makes c = map-made w u who (Arriving to at) hand now whole fits makes c
 arrive_made GFence w u who to at hand now whole fits next makes c = gfence-made w u who (Arriving to at) hand now whole fits makes c
-arrive_made PutDelivery w u who to at hand now whole fits next makes c = record { places = own-put w u (vcpu who.vm who.number) (Arriving to at) to Delivery hand.delivery whole (fits.own to refl) makes refl (no_file w to); carried = c }
-arrive_made PutThreshold w u who to at hand now whole fits next makes c = record { places = own-put w u (vcpu who.vm who.number) (Arriving to at) to Threshold hand.threshold whole (fits.own to refl) makes refl (no_file w to); carried = c }
-arrive_made (TakePending k) w u who to at hand now whole fits next makes c = record { places = slot-pending_taken w u (vcpu who.vm who.number) (Arriving to at) who.slot k hand.word whole fits.there fits.slot (of_width w u who (Arriving to at) hand now whole fits k next.has) makes; carried = carried_word k (get_or w.memory (pending_place who.slot k) 0) (places_of w (vcpu who.vm who.number) (Arriving to at)).slot.pending hand now (slot_pending-shows w u (vcpu who.vm who.number) (Arriving to at) who.slot k hand.word whole fits.there fits.slot (of_width w u who (Arriving to at) hand now whole fits k next.has)) c }
-arrive_made (TakeEnables k) w u who to at hand now whole fits next makes c = record { places = slot-enables_taken w u (vcpu who.vm who.number) (Arriving to at) who.slot k hand.word whole fits.there fits.slot (of_width w u who (Arriving to at) hand now whole fits k next.has) makes; carried = carried_word k (get_or w.memory (enable_place who.slot k) 0) (places_of w (vcpu who.vm who.number) (Arriving to at)).slot.enabled hand now (slot_enables-shows w u (vcpu who.vm who.number) (Arriving to at) who.slot k hand.word whole fits.there fits.slot (of_width w u who (Arriving to at) hand now whole fits k next.has)) c }
-arrive_made (PutPending k) w u who to at hand now whole fits next makes c = record { places = own-pending_joined w u (vcpu who.vm who.number) (Arriving to at) to k hand.word whole (fits.own to refl) refl (no_file w to) makes.0 makes.1; carried = c }
-arrive_made (PutEnables k) w u who to at hand now whole fits next makes c = record { places = own-enables_replaced w u (vcpu who.vm who.number) (Arriving to at) to k hand.word whole (fits.own to refl) refl (no_file w to) makes.0 makes.1; carried = c }
+arrive_made PutDelivery w u who to at hand now whole fits next makes c = record { places = own-put w u (vcpu who.found.vm who.found.number) (Arriving to at) to Delivery hand.delivery whole (fits.own to refl) makes refl (no_file w to); carried = c }
+arrive_made PutThreshold w u who to at hand now whole fits next makes c = record { places = own-put w u (vcpu who.found.vm who.found.number) (Arriving to at) to Threshold hand.threshold whole (fits.own to refl) makes refl (no_file w to); carried = c }
+arrive_made (TakePending k) w u who to at hand now whole fits next makes c = record { places = slot-pending_taken w u (vcpu who.found.vm who.found.number) (Arriving to at) who.found.slot k hand.word whole fits.there fits.slot (of_width w u who (Arriving to at) hand now whole fits k next.has) makes; carried = carried_word k (get_or w.memory (pending_place who.found.slot k) 0) (places_of w (vcpu who.found.vm who.found.number) (Arriving to at)).slot.pending hand now (slot_pending-shows w u (vcpu who.found.vm who.found.number) (Arriving to at) who.found.slot k hand.word whole fits.there fits.slot (of_width w u who (Arriving to at) hand now whole fits k next.has)) c }
+arrive_made (TakeEnables k) w u who to at hand now whole fits next makes c = record { places = slot-enables_taken w u (vcpu who.found.vm who.found.number) (Arriving to at) who.found.slot k hand.word whole fits.there fits.slot (of_width w u who (Arriving to at) hand now whole fits k next.has) makes; carried = carried_word k (get_or w.memory (enable_place who.found.slot k) 0) (places_of w (vcpu who.found.vm who.found.number) (Arriving to at)).slot.enabled hand now (slot_enables-shows w u (vcpu who.found.vm who.found.number) (Arriving to at) who.found.slot k hand.word whole fits.there fits.slot (of_width w u who (Arriving to at) hand now whole fits k next.has)) c }
+arrive_made (PutPending k) w u who to at hand now whole fits next makes c = record { places = own-pending_joined w u (vcpu who.found.vm who.found.number) (Arriving to at) to k hand.word whole (fits.own to refl) refl (no_file w to) makes.0 makes.1; carried = c }
+arrive_made (PutEnables k) w u who to at hand now whole fits next makes c = record { places = own-enables_replaced w u (vcpu who.found.vm who.found.number) (Arriving to at) to k hand.word whole (fits.own to refl) refl (no_file w to) makes.0 makes.1; carried = c }
 arrive_made TakeDelivery w u who to at hand now whole fits next makes c = let no : false ≡ true = next.has in absurd (cc)
 arrive_made TakeThreshold w u who to at hand now whole fits next makes c = let no : false ≡ true = next.has in absurd (cc)
 arrive_made WriteNotice w u who to at hand now whole fits next makes c = let no : false ≡ true = next.has in absurd (cc)
@@ -236,26 +236,26 @@ arrive_made Post w u who to at hand now whole fits next makes c = let no : false
 
 shift_made : (access : Access) (w u : World) (who : Who) (from to : Place) (at : Progress) (hand now : Hand) → IsWhole w → MoveFits w (record { who = who; home = (Shifting from to at); hand = hand }) → is_place from to ≡ false → IsNext (width w) (Shifting from to at) access
     → Makes access (record { who = who; home = (Shifting from to at); hand = hand }) w u → now ≡ hand_after access (record { who = who; home = (Shifting from to at); hand = hand }) w
-    → StepMade who.slot who.notice access (Shifting from to at) (places_of w (vcpu who.vm who.number) (Shifting from to at)) hand (places_of u (vcpu who.vm who.number) (Shifting from to at)) now
+    → StepMade who.found.slot who.found.notice access (Shifting from to at) (places_of w (vcpu who.found.vm who.found.number) (Shifting from to at)) hand (places_of u (vcpu who.found.vm who.found.number) (Shifting from to at)) now
 shift_made WriteEntry w u who from to at hand now whole fits apart next makes c = write_entry-made w u who (Shifting from to at) hand now whole fits makes c
 shift_made Fence w u who from to at hand now whole fits apart next makes c = fence-made w u who (Shifting from to at) hand now whole fits makes c
 shift_made Map w u who from to at hand now whole fits apart next makes c = map-made w u who (Shifting from to at) hand now whole fits makes c
 shift_made GFence w u who from to at hand now whole fits apart next makes c = gfence-made w u who (Shifting from to at) hand now whole fits makes c
-shift_made TakeDelivery w u who from to at hand now whole fits apart next makes c = record { places = own-put w u (vcpu who.vm who.number) (Shifting from to at) from Delivery 0 whole (fits.own from refl) makes refl (one_file w from to (fits.next to refl) (other_way from to apart)); carried = c }
-shift_made TakeThreshold w u who from to at hand now whole fits apart next makes c = record { places = own-put w u (vcpu who.vm who.number) (Shifting from to at) from Threshold 0 whole (fits.own from refl) makes refl (one_file w from to (fits.next to refl) (other_way from to apart)); carried = c }
-shift_made PutDelivery w u who from to at hand now whole fits apart next makes c = record { places = next-put w u (vcpu who.vm who.number) (Shifting from to at) to Delivery hand.delivery whole (fits.next to refl) makes refl (one_file w to from (fits.own from refl) apart); carried = c }
-shift_made PutThreshold w u who from to at hand now whole fits apart next makes c = record { places = next-put w u (vcpu who.vm who.number) (Shifting from to at) to Threshold hand.threshold whole (fits.next to refl) makes refl (one_file w to from (fits.own from refl) apart); carried = c }
-shift_made (TakePending k) w u who from to at hand now whole fits apart next makes c = record { places = own-pending_taken w u (vcpu who.vm who.number) (Shifting from to at) from k hand.word whole (fits.own from refl) refl (one_file w from to (fits.next to refl) (other_way from to apart)) makes; carried = carried_word k (get_or (file_at w.imsic (spot_of from)).pending k 0) (places_of w (vcpu who.vm who.number) (Shifting from to at)).own.pending hand now (row_shows (file_at w.imsic (spot_of from)).pending k) c }
-shift_made (TakeEnables k) w u who from to at hand now whole fits apart next makes c = record { places = own-enables_taken w u (vcpu who.vm who.number) (Shifting from to at) from k hand.word whole (fits.own from refl) refl (one_file w from to (fits.next to refl) (other_way from to apart)) makes; carried = carried_word k (get_or (file_at w.imsic (spot_of from)).enabled k 0) (places_of w (vcpu who.vm who.number) (Shifting from to at)).own.enabled hand now (row_shows (file_at w.imsic (spot_of from)).enabled k) c }
-shift_made (PutPending k) w u who from to at hand now whole fits apart next makes c = record { places = next-pending_joined w u (vcpu who.vm who.number) (Shifting from to at) to k hand.word whole (fits.next to refl) refl (one_file w to from (fits.own from refl) apart) makes.0 makes.1; carried = c }
-shift_made (PutEnables k) w u who from to at hand now whole fits apart next makes c = record { places = next-enables_replaced w u (vcpu who.vm who.number) (Shifting from to at) to k hand.word whole (fits.next to refl) refl (one_file w to from (fits.own from refl) apart) makes.0 makes.1; carried = c }
+shift_made TakeDelivery w u who from to at hand now whole fits apart next makes c = record { places = own-put w u (vcpu who.found.vm who.found.number) (Shifting from to at) from Delivery 0 whole (fits.own from refl) makes refl (one_file w from to (fits.next to refl) (other_way from to apart)); carried = c }
+shift_made TakeThreshold w u who from to at hand now whole fits apart next makes c = record { places = own-put w u (vcpu who.found.vm who.found.number) (Shifting from to at) from Threshold 0 whole (fits.own from refl) makes refl (one_file w from to (fits.next to refl) (other_way from to apart)); carried = c }
+shift_made PutDelivery w u who from to at hand now whole fits apart next makes c = record { places = next-put w u (vcpu who.found.vm who.found.number) (Shifting from to at) to Delivery hand.delivery whole (fits.next to refl) makes refl (one_file w to from (fits.own from refl) apart); carried = c }
+shift_made PutThreshold w u who from to at hand now whole fits apart next makes c = record { places = next-put w u (vcpu who.found.vm who.found.number) (Shifting from to at) to Threshold hand.threshold whole (fits.next to refl) makes refl (one_file w to from (fits.own from refl) apart); carried = c }
+shift_made (TakePending k) w u who from to at hand now whole fits apart next makes c = record { places = own-pending_taken w u (vcpu who.found.vm who.found.number) (Shifting from to at) from k hand.word whole (fits.own from refl) refl (one_file w from to (fits.next to refl) (other_way from to apart)) makes; carried = carried_word k (get_or (file_at w.imsic (spot_of from)).pending k 0) (places_of w (vcpu who.found.vm who.found.number) (Shifting from to at)).own.pending hand now (row_shows (file_at w.imsic (spot_of from)).pending k) c }
+shift_made (TakeEnables k) w u who from to at hand now whole fits apart next makes c = record { places = own-enables_taken w u (vcpu who.found.vm who.found.number) (Shifting from to at) from k hand.word whole (fits.own from refl) refl (one_file w from to (fits.next to refl) (other_way from to apart)) makes; carried = carried_word k (get_or (file_at w.imsic (spot_of from)).enabled k 0) (places_of w (vcpu who.found.vm who.found.number) (Shifting from to at)).own.enabled hand now (row_shows (file_at w.imsic (spot_of from)).enabled k) c }
+shift_made (PutPending k) w u who from to at hand now whole fits apart next makes c = record { places = next-pending_joined w u (vcpu who.found.vm who.found.number) (Shifting from to at) to k hand.word whole (fits.next to refl) refl (one_file w to from (fits.own from refl) apart) makes.0 makes.1; carried = c }
+shift_made (PutEnables k) w u who from to at hand now whole fits apart next makes c = record { places = next-enables_replaced w u (vcpu who.found.vm who.found.number) (Shifting from to at) to k hand.word whole (fits.next to refl) refl (one_file w to from (fits.own from refl) apart) makes.0 makes.1; carried = c }
 shift_made WriteNotice w u who from to at hand now whole fits apart next makes c = let no : false ≡ true = next.has in absurd (cc)
 shift_made (Look k) w u who from to at hand now whole fits apart next makes c = let no : false ≡ true = next.has in absurd (cc)
 shift_made Post w u who from to at hand now whole fits apart next makes c = let no : false ≡ true = next.has in absurd (cc)
 
 made_by : (access : Access) (w u : World) (who : Who) (there : Home) (hand now : Hand) → IsWhole w → MoveFits w (record { who = who; home = there; hand = hand }) → AreApart there → IsNext (width w) there access
     → Makes access (record { who = who; home = there; hand = hand }) w u → now ≡ hand_after access (record { who = who; home = there; hand = hand }) w
-    → StepMade who.slot who.notice access there (places_of w (vcpu who.vm who.number) there) hand (places_of u (vcpu who.vm who.number) there) now
+    → StepMade who.found.slot who.found.notice access there (places_of w (vcpu who.found.vm who.found.number) there) hand (places_of u (vcpu who.found.vm who.found.number) there) now
 made_by access w u who Parked hand now whole fits apart next makes c = let no : false ≡ true = next.has in absurd (cc)
 made_by access w u who Entered hand now whole fits apart next makes c = let no : false ≡ true = next.has in absurd (cc)
 made_by access w u who (Resident p) hand now whole fits apart next makes c = let no : false ≡ true = next.has in absurd (cc)
@@ -265,5 +265,5 @@ made_by access w u who (Shifting from to at) hand now whole fits apart next make
 
 -- the step makes its access of the places of the virtual hart that is moved
 pub made_view : (w u : World) (m : Moving) (hand : Hand) → IsWhole w → MoveFits w m → AreApart m.home → (step : MakesNext w m u hand)
-    → StepMade m.who.slot m.who.notice step.access m.home (places_of w (mover m) m.home) m.hand (places_of u (mover m) m.home) hand
+    → StepMade m.who.found.slot m.who.found.notice step.access m.home (places_of w (mover m) m.home) m.hand (places_of u (mover m) m.home) hand
 made_view w u m hand whole fits apart step = made_by step.access w u m.who m.home m.hand hand whole fits apart step.is_next step.makes step.carries

@@ -74,7 +74,7 @@ access_keeps (PutEnables k) m w u made = by_equation w u _ (enable_kept w (new_a
 access_keeps (Look k) m w u made = by_equation w u w (record { n = refl; vms = refl; harts = refl; guests = refl }) made
 access_keeps TakeThreshold m w u made = register_kept w u _ _ _ made
 access_keeps PutThreshold m w u made = register_kept w u _ _ _ made
-access_keeps Post m w u made = post_kept w u m.hand.seen m.who.notice (m.who.slot + 1) made
+access_keeps Post m w u made = post_kept w u m.hand.seen m.who.found.notice (m.who.found.slot + 1) made
 
 -- ---- one step more
 

@@ -83,7 +83,7 @@ module _ (w u : World) (m : Moving) where
   })
 
   -- a word of memory: one of the slot, or one of the entry
-  touches_word : (place v : ℕ) → ((r : ℕ) → r < SLOTS → r ≢ m.who.slot → (place < 64 * r) ⊎ (64 * (r + 1) ≤ place))
+  touches_word : (place v : ℕ) → ((r : ℕ) → r < SLOTS → r ≢ m.who.found.slot → (place < 64 * r) ⊎ (64 * (r + 1) ≤ place))
       → ((g : Vcpu) → is_vcpu_in w.vms g ≡ true → g ≢ mover m → (entry_word_place g.vm g.number ≢ place) × (entry_word_place g.vm g.number + 1 ≢ place))
       → u ≡ with_word w place v → Touches false w u m
   touches_word place v apart past e = subst TouchesOwn (sym e) (record {
@@ -103,9 +103,9 @@ module _ (w u : World) (m : Moving) where
   })
 
   module _ (whole : IsWhole w) (stands : is_vcpu_in w.vms (mover m) ≡ true) where
-    pub touches_slot : (place j v : ℕ) → place ≡ 64 * m.who.slot + j → m.who.slot < SLOTS → j < 64 → u ≡ with_word w place v → Touches false w u m
+    pub touches_slot : (place j v : ℕ) → place ≡ 64 * m.who.found.slot + j → m.who.found.slot < SLOTS → j < 64 → u ≡ with_word w place v → Touches false w u m
     touches_slot place j v at low few e = touches_word place v
-        (λ r small other. elim (cases_lt r m.who.slot) [
+        (λ r small other. elim (cases_lt r m.who.found.slot) [
           | inl less ↦ inr (omega arith)
           | inr more ↦ inl (omega (arith, other))
         ])
@@ -114,24 +114,24 @@ module _ (w u : World) (m : Moving) where
     one_entry : (a b c d x y : ℕ) → b < ENTRIES → d < ENTRIES → x ≤ 1 → y ≤ 1 → entry_word_place a b + x ≡ entry_word_place c d + y → (a ≡ c) × (b ≡ d)
     one_entry a b c d x y low small one two e = (omega arith, omega arith)
 
-    pub touches_entry : (which v : ℕ) → which ≤ 1 → u ≡ with_entry_word w m.who.vm m.who.number which v → Touches false w u m
-    touches_entry which v one e = touches_word (entry_word_place m.who.vm m.who.number + which) v (λ r small other. inr (omega arith)) apart e
+    pub touches_entry : (which v : ℕ) → which ≤ 1 → u ≡ with_entry_word w m.who.found.vm m.who.found.number which v → Touches false w u m
+    touches_entry which v one e = touches_word (entry_word_place m.who.found.vm m.who.found.number + which) v (λ r small other. inr (omega arith)) apart e
       where
-        apart : (g : Vcpu) → is_vcpu_in w.vms g ≡ true → g ≢ mover m → (entry_word_place g.vm g.number ≢ entry_word_place m.who.vm m.who.number + which) × (entry_word_place g.vm g.number + 1 ≢ entry_word_place m.who.vm m.who.number + which)
+        apart : (g : Vcpu) → is_vcpu_in w.vms g ≡ true → g ≢ mover m → (entry_word_place g.vm g.number ≢ entry_word_place m.who.found.vm m.who.found.number + which) × (entry_word_place g.vm g.number + 1 ≢ entry_word_place m.who.found.vm m.who.found.number + which)
         apart g there other =
-            let mine = vcpu_entry w m.who.vm m.who.number whole stands in
+            let mine = vcpu_entry w m.who.found.vm m.who.found.number whole stands in
             let its = vcpu_entry w g.vm g.number whole there in (
-              λ same. let zero : entry_word_place g.vm g.number + 0 ≡ entry_word_place m.who.vm m.who.number + which = omega (arith, same) in
-                  let both = one_entry g.vm g.number m.who.vm m.who.number 0 which its.2 mine.2 (omega arith) one zero in other (λ k. vcpu (both.0 k) (both.1 k)),
-              λ same. let both = one_entry g.vm g.number m.who.vm m.who.number 1 which its.2 mine.2 (omega arith) one same in other (λ k. vcpu (both.0 k) (both.1 k)),
+              λ same. let zero : entry_word_place g.vm g.number + 0 ≡ entry_word_place m.who.found.vm m.who.found.number + which = omega (arith, same) in
+                  let both = one_entry g.vm g.number m.who.found.vm m.who.found.number 0 which its.2 mine.2 (omega arith) one zero in other (λ k. vcpu (both.0 k) (both.1 k)),
+              λ same. let both = one_entry g.vm g.number m.who.found.vm m.who.found.number 1 which its.2 mine.2 (omega arith) one same in other (λ k. vcpu (both.0 k) (both.1 k)),
             )
 
-    pub touches_fence : u ≡ with_fence w m.who.vm m.who.number → Touches false w u m
+    pub touches_fence : u ≡ with_fence w m.who.found.vm m.who.found.number → Touches false w u m
     touches_fence e = subst TouchesOwn (sym e) (record {
       rest = refl;
-      tables = fenced_count w.tables m.who.vm m.who.number w.memory;
-      masks = λ v. fenced_mask w.tables m.who.vm m.who.number w.memory v;
-      starts = λ v. fenced_start w.tables m.who.vm m.who.number w.memory v;
+      tables = fenced_count w.tables m.who.found.vm m.who.found.number w.memory;
+      masks = λ v. fenced_mask w.tables m.who.found.vm m.who.found.number w.memory v;
+      starts = λ v. fenced_start w.tables m.who.found.vm m.who.found.number w.memory v;
       guest_files = λ r there none. refl;
       machine_files = λ hart low. refl;
       host_files = λ hart low other. refl;
@@ -139,12 +139,12 @@ module _ (w u : World) (m : Moving) where
       count = λ no. refl;
       slots = λ r low other. refl;
       entry_words = λ g there other. (refl, refl);
-      in_force = λ g other. fenced_elsewhere w.tables m.who.vm m.who.number w.memory g.vm g.number (elsewhere g other);
+      in_force = λ g other. fenced_elsewhere w.tables m.who.found.vm m.who.found.number w.memory g.vm g.number (elsewhere g other);
       stages = λ q other. refl;
     })
       where
-        elsewhere : (g : Vcpu) → g ≢ mover m → (g.vm ≢ m.who.vm) ⊎ (g.number ≢ m.who.number)
-        elsewhere g other = elim (cases_eq g.vm m.who.vm) [
+        elsewhere : (g : Vcpu) → g ≢ mover m → (g.vm ≢ m.who.found.vm) ⊎ (g.number ≢ m.who.found.number)
+        elsewhere g other = elim (cases_eq g.vm m.who.found.vm) [
           | inl same ↦ inr (λ too. other (λ k. vcpu (same k) (too k)))
           | inr ne ↦ inl ne
         ]
@@ -166,17 +166,17 @@ module _ (w u : World) (m : Moving) where
       stages = λ q other. get_or-set_other w.stages (slot_of w.vms (mover m)) q s no_stage other;
     })
 
-  pub touches_notice : m.who.notice < w.imsic.harts → Posts w u (SupervisorFile m.who.notice) (m.who.slot + 1) → Touches true w u m
+  pub touches_notice : m.who.found.notice < w.imsic.harts → Posts w u (SupervisorFile m.who.found.notice) (m.who.found.slot + 1) → Touches true w u m
   touches_notice low p = record {
-    rest = (posts_rest w u (SupervisorFile m.who.notice) (m.who.slot + 1) p) ∙ (λ k. record w { imsic = record w.imsic { files = u.imsic.files }; memory = u.memory; tables = sym (ap (λ (x : World). x.tables) p.rest) k; stages = sym (ap (λ (x : World). x.stages) p.rest) k; notices = u.notices });
+    rest = (posts_rest w u (SupervisorFile m.who.found.notice) (m.who.found.slot + 1) p) ∙ (λ k. record w { imsic = record w.imsic { files = u.imsic.files }; memory = u.memory; tables = sym (ap (λ (x : World). x.tables) p.rest) k; stages = sym (ap (λ (x : World). x.stages) p.rest) k; notices = u.notices });
     tables = ap (λ (x : World). length x.tables) p.rest;
     masks = λ v. ap (λ (x : World). (table_of x.tables v).mask) p.rest;
     starts = λ v. ap (λ (x : World). (table_of x.tables v).start) p.rest;
-    guest_files = λ r there none. ap (λ (j : ImsicState). file_at j (spot_of r)) p.lands.others ∙ kept_elsewhere w.imsic (SupervisorFile m.who.notice) (spot_of r) (file_at u.imsic (SupervisorFile m.who.notice)) low there (λ e. absurd (cc));
-    machine_files = λ hart small. ap (λ (j : ImsicState). file_at j (MachineFile hart)) p.lands.others ∙ kept_elsewhere w.imsic (SupervisorFile m.who.notice) (MachineFile hart) (file_at u.imsic (SupervisorFile m.who.notice)) low small (λ e. absurd (cc));
+    guest_files = λ r there none. ap (λ (j : ImsicState). file_at j (spot_of r)) p.lands.others ∙ kept_elsewhere w.imsic (SupervisorFile m.who.found.notice) (spot_of r) (file_at u.imsic (SupervisorFile m.who.found.notice)) low there (λ e. absurd (cc));
+    machine_files = λ hart small. ap (λ (j : ImsicState). file_at j (MachineFile hart)) p.lands.others ∙ kept_elsewhere w.imsic (SupervisorFile m.who.found.notice) (MachineFile hart) (file_at u.imsic (SupervisorFile m.who.found.notice)) low small (λ e. absurd (cc));
     host_files = λ hart small which. elim which [
       | inl never ↦ absurd (cc)
-      | inr other ↦ ap (λ (j : ImsicState). file_at j (SupervisorFile hart)) p.lands.others ∙ kept_elsewhere w.imsic (SupervisorFile m.who.notice) (SupervisorFile hart) (file_at u.imsic (SupervisorFile m.who.notice)) low small (λ e. let same : hart ≡ m.who.notice = cc in other same)
+      | inr other ↦ ap (λ (j : ImsicState). file_at j (SupervisorFile hart)) p.lands.others ∙ kept_elsewhere w.imsic (SupervisorFile m.who.found.notice) (SupervisorFile hart) (file_at u.imsic (SupervisorFile m.who.found.notice)) low small (λ e. let same : hart ≡ m.who.found.notice = cc in other same)
     ];
     noticed = λ yes. p;
     count = λ no. absurd (cc);
@@ -186,7 +186,7 @@ module _ (w u : World) (m : Moving) where
     stages = λ q other. ap (λ (x : World). get_or x.stages q no_stage) p.rest;
   }
 
-  pub touches_notice_if : (seen : Bool) → m.who.notice < w.imsic.harts → PostsIf seen w u m.who.notice (m.who.slot + 1) → Touches seen w u m
+  pub touches_notice_if : (seen : Bool) → m.who.found.notice < w.imsic.harts → PostsIf seen w u m.who.found.notice (m.who.found.slot + 1) → Touches seen w u m
   touches_notice_if true low p = touches_notice low p
   touches_notice_if false low e = touches_nothing e
 
@@ -197,46 +197,46 @@ of_width w k whole e = let low : k < width w = ltb-true _ _ e in let few = few_w
 
 leave_touches : (access : Access) (w u : World) (who : Who) (from : Place) (at : Progress) (hand : Hand) → IsWhole w → MoveFits w (record { who = who; home = (Leaving from at); hand = hand }) → IsNext (width w) (Leaving from at) access
     → Makes access (record { who = who; home = (Leaving from at); hand = hand }) w u → Touches (sends access hand) w u (record { who = who; home = (Leaving from at); hand = hand })
-leave_touches WriteNotice w u who from at hand whole fits next makes = touches_entry w u (record { who = who; home = (Leaving from at); hand = hand }) whole fits.there 1 (second_word who.slot who.notice) (omega arith) makes
-leave_touches WriteEntry w u who from at hand whole fits next makes = touches_entry w u (record { who = who; home = (Leaving from at); hand = hand }) whole fits.there 0 (entry_word who.slot (new_file (Leaving from at))) (omega arith) makes
+leave_touches WriteNotice w u who from at hand whole fits next makes = touches_entry w u (record { who = who; home = (Leaving from at); hand = hand }) whole fits.there 1 (second_word who.found.slot who.found.notice) (omega arith) makes
+leave_touches WriteEntry w u who from at hand whole fits next makes = touches_entry w u (record { who = who; home = (Leaving from at); hand = hand }) whole fits.there 0 (entry_word who.found.slot (new_file (Leaving from at))) (omega arith) makes
 leave_touches Fence w u who from at hand whole fits next makes = touches_fence w u (record { who = who; home = (Leaving from at); hand = hand }) whole fits.there makes
-leave_touches Map w u who from at hand whole fits next makes = touches_stage w u (record { who = who; home = (Leaving from at); hand = hand }) whole fits.there (record (stage_of w (vcpu who.vm who.number)) { written = new_file (Leaving from at) }) makes
-leave_touches GFence w u who from at hand whole fits next makes = touches_stage w u (record { who = who; home = (Leaving from at); hand = hand }) whole fits.there (record (stage_of w (vcpu who.vm who.number)) { in_force = (stage_of w (vcpu who.vm who.number)).written }) makes
+leave_touches Map w u who from at hand whole fits next makes = touches_stage w u (record { who = who; home = (Leaving from at); hand = hand }) whole fits.there (record (stage_of w (vcpu who.found.vm who.found.number)) { written = new_file (Leaving from at) }) makes
+leave_touches GFence w u who from at hand whole fits next makes = touches_stage w u (record { who = who; home = (Leaving from at); hand = hand }) whole fits.there (record (stage_of w (vcpu who.found.vm who.found.number)) { in_force = (stage_of w (vcpu who.found.vm who.found.number)).written }) makes
 leave_touches TakeDelivery w u who from at hand whole fits next makes = touches_file w u (record { who = who; home = (Leaving from at); hand = hand }) from (file_at u.imsic (spot_of from)) (fits.own from refl) (is_itself_place from) makes.others
 leave_touches TakeThreshold w u who from at hand whole fits next makes = touches_file w u (record { who = who; home = (Leaving from at); hand = hand }) from (file_at u.imsic (spot_of from)) (fits.own from refl) (is_itself_place from) makes.others
 leave_touches (TakePending k) w u who from at hand whole fits next makes = touches_file w u (record { who = who; home = (Leaving from at); hand = hand }) from (record (file_at w.imsic (spot_of from)) { pending = set (file_at w.imsic (spot_of from)).pending k 0 }) (fits.own from refl) (is_itself_place from) makes
 leave_touches (TakeEnables k) w u who from at hand whole fits next makes = touches_file w u (record { who = who; home = (Leaving from at); hand = hand }) from (record (file_at w.imsic (spot_of from)) { enabled = set (file_at w.imsic (spot_of from)).enabled k 0 }) (fits.own from refl) (is_itself_place from) makes
 leave_touches (PutPending k) w u who from at hand whole fits next makes =
     let few : k < FILE_WORDS = of_width w k whole next.has in
-    let low : who.slot < SLOTS = let small = slot_low w (vcpu who.vm who.number) whole fits.there in omega (arith, small, fits.slot) in
-    touches_slot w u (record { who = who; home = (Leaving from at); hand = hand }) whole fits.there (pending_place who.slot k) (2 * k) (bit_or (get_or w.memory (pending_place who.slot k) 0) hand.word) (omega arith) low (omega arith) makes.1
+    let low : who.found.slot < SLOTS = let small = slot_low w (vcpu who.found.vm who.found.number) whole fits.there in omega (arith, small, fits.slot) in
+    touches_slot w u (record { who = who; home = (Leaving from at); hand = hand }) whole fits.there (pending_place who.found.slot k) (2 * k) (bit_or (get_or w.memory (pending_place who.found.slot k) 0) hand.word) (omega arith) low (omega arith) makes.1
 leave_touches (PutEnables k) w u who from at hand whole fits next makes =
     let few : k < FILE_WORDS = of_width w k whole next.has in
-    let low : who.slot < SLOTS = let small = slot_low w (vcpu who.vm who.number) whole fits.there in omega (arith, small, fits.slot) in
-    touches_slot w u (record { who = who; home = (Leaving from at); hand = hand }) whole fits.there (enable_place who.slot k) (2 * k + 1) hand.word (omega arith) low (omega arith) makes.1
+    let low : who.found.slot < SLOTS = let small = slot_low w (vcpu who.found.vm who.found.number) whole fits.there in omega (arith, small, fits.slot) in
+    touches_slot w u (record { who = who; home = (Leaving from at); hand = hand }) whole fits.there (enable_place who.found.slot k) (2 * k + 1) hand.word (omega arith) low (omega arith) makes.1
 leave_touches (Look k) w u who from at hand whole fits next makes = touches_nothing w u (record { who = who; home = (Leaving from at); hand = hand }) makes
 leave_touches Post w u who from at hand whole fits next makes =
-    let low : who.notice < w.imsic.harts = let small = notice_hart_there w (vcpu who.vm who.number) whole fits.there in omega (arith, small, fits.notice) in
+    let low : who.found.notice < w.imsic.harts = let small = notice_hart_there w (vcpu who.found.vm who.found.number) whole fits.there in omega (arith, small, fits.notice) in
     touches_notice_if w u (record { who = who; home = (Leaving from at); hand = hand }) hand.seen low makes
 leave_touches PutDelivery w u who from at hand whole fits next makes = let no : false ≡ true = next.has in absurd (cc)
 leave_touches PutThreshold w u who from at hand whole fits next makes = let no : false ≡ true = next.has in absurd (cc)
 
 arrive_touches : (access : Access) (w u : World) (who : Who) (to : Place) (at : Progress) (hand : Hand) → IsWhole w → MoveFits w (record { who = who; home = (Arriving to at); hand = hand }) → IsNext (width w) (Arriving to at) access
     → Makes access (record { who = who; home = (Arriving to at); hand = hand }) w u → Touches (sends access hand) w u (record { who = who; home = (Arriving to at); hand = hand })
-arrive_touches WriteEntry w u who to at hand whole fits next makes = touches_entry w u (record { who = who; home = (Arriving to at); hand = hand }) whole fits.there 0 (entry_word who.slot (new_file (Arriving to at))) (omega arith) makes
+arrive_touches WriteEntry w u who to at hand whole fits next makes = touches_entry w u (record { who = who; home = (Arriving to at); hand = hand }) whole fits.there 0 (entry_word who.found.slot (new_file (Arriving to at))) (omega arith) makes
 arrive_touches Fence w u who to at hand whole fits next makes = touches_fence w u (record { who = who; home = (Arriving to at); hand = hand }) whole fits.there makes
-arrive_touches Map w u who to at hand whole fits next makes = touches_stage w u (record { who = who; home = (Arriving to at); hand = hand }) whole fits.there (record (stage_of w (vcpu who.vm who.number)) { written = new_file (Arriving to at) }) makes
-arrive_touches GFence w u who to at hand whole fits next makes = touches_stage w u (record { who = who; home = (Arriving to at); hand = hand }) whole fits.there (record (stage_of w (vcpu who.vm who.number)) { in_force = (stage_of w (vcpu who.vm who.number)).written }) makes
+arrive_touches Map w u who to at hand whole fits next makes = touches_stage w u (record { who = who; home = (Arriving to at); hand = hand }) whole fits.there (record (stage_of w (vcpu who.found.vm who.found.number)) { written = new_file (Arriving to at) }) makes
+arrive_touches GFence w u who to at hand whole fits next makes = touches_stage w u (record { who = who; home = (Arriving to at); hand = hand }) whole fits.there (record (stage_of w (vcpu who.found.vm who.found.number)) { in_force = (stage_of w (vcpu who.found.vm who.found.number)).written }) makes
 arrive_touches PutDelivery w u who to at hand whole fits next makes = touches_file w u (record { who = who; home = (Arriving to at); hand = hand }) to (file_at u.imsic (spot_of to)) (fits.own to refl) (is_itself_place to) makes.others
 arrive_touches PutThreshold w u who to at hand whole fits next makes = touches_file w u (record { who = who; home = (Arriving to at); hand = hand }) to (file_at u.imsic (spot_of to)) (fits.own to refl) (is_itself_place to) makes.others
 arrive_touches (TakePending k) w u who to at hand whole fits next makes =
     let few : k < FILE_WORDS = of_width w k whole next.has in
-    let low : who.slot < SLOTS = let small = slot_low w (vcpu who.vm who.number) whole fits.there in omega (arith, small, fits.slot) in
-    touches_slot w u (record { who = who; home = (Arriving to at); hand = hand }) whole fits.there (pending_place who.slot k) (2 * k) 0 (omega arith) low (omega arith) makes
+    let low : who.found.slot < SLOTS = let small = slot_low w (vcpu who.found.vm who.found.number) whole fits.there in omega (arith, small, fits.slot) in
+    touches_slot w u (record { who = who; home = (Arriving to at); hand = hand }) whole fits.there (pending_place who.found.slot k) (2 * k) 0 (omega arith) low (omega arith) makes
 arrive_touches (TakeEnables k) w u who to at hand whole fits next makes =
     let few : k < FILE_WORDS = of_width w k whole next.has in
-    let low : who.slot < SLOTS = let small = slot_low w (vcpu who.vm who.number) whole fits.there in omega (arith, small, fits.slot) in
-    touches_slot w u (record { who = who; home = (Arriving to at); hand = hand }) whole fits.there (enable_place who.slot k) (2 * k + 1) 0 (omega arith) low (omega arith) makes
+    let low : who.found.slot < SLOTS = let small = slot_low w (vcpu who.found.vm who.found.number) whole fits.there in omega (arith, small, fits.slot) in
+    touches_slot w u (record { who = who; home = (Arriving to at); hand = hand }) whole fits.there (enable_place who.found.slot k) (2 * k + 1) 0 (omega arith) low (omega arith) makes
 arrive_touches (PutPending k) w u who to at hand whole fits next makes = touches_file w u (record { who = who; home = (Arriving to at); hand = hand }) to (record (file_at w.imsic (spot_of to)) { pending = set (file_at w.imsic (spot_of to)).pending k (bit_or (get_or (file_at w.imsic (spot_of to)).pending k 0) hand.word) }) (fits.own to refl) (is_itself_place to) makes.1
 arrive_touches (PutEnables k) w u who to at hand whole fits next makes = touches_file w u (record { who = who; home = (Arriving to at); hand = hand }) to (record (file_at w.imsic (spot_of to)) { enabled = set (file_at w.imsic (spot_of to)).enabled k hand.word }) (fits.own to refl) (is_itself_place to) makes.1
 arrive_touches TakeDelivery w u who to at hand whole fits next makes = let no : false ≡ true = next.has in absurd (cc)
@@ -247,10 +247,10 @@ arrive_touches Post w u who to at hand whole fits next makes = let no : false �
 
 shift_touches : (access : Access) (w u : World) (who : Who) (from to : Place) (at : Progress) (hand : Hand) → IsWhole w → MoveFits w (record { who = who; home = (Shifting from to at); hand = hand }) → IsNext (width w) (Shifting from to at) access
     → Makes access (record { who = who; home = (Shifting from to at); hand = hand }) w u → Touches (sends access hand) w u (record { who = who; home = (Shifting from to at); hand = hand })
-shift_touches WriteEntry w u who from to at hand whole fits next makes = touches_entry w u (record { who = who; home = (Shifting from to at); hand = hand }) whole fits.there 0 (entry_word who.slot (new_file (Shifting from to at))) (omega arith) makes
+shift_touches WriteEntry w u who from to at hand whole fits next makes = touches_entry w u (record { who = who; home = (Shifting from to at); hand = hand }) whole fits.there 0 (entry_word who.found.slot (new_file (Shifting from to at))) (omega arith) makes
 shift_touches Fence w u who from to at hand whole fits next makes = touches_fence w u (record { who = who; home = (Shifting from to at); hand = hand }) whole fits.there makes
-shift_touches Map w u who from to at hand whole fits next makes = touches_stage w u (record { who = who; home = (Shifting from to at); hand = hand }) whole fits.there (record (stage_of w (vcpu who.vm who.number)) { written = new_file (Shifting from to at) }) makes
-shift_touches GFence w u who from to at hand whole fits next makes = touches_stage w u (record { who = who; home = (Shifting from to at); hand = hand }) whole fits.there (record (stage_of w (vcpu who.vm who.number)) { in_force = (stage_of w (vcpu who.vm who.number)).written }) makes
+shift_touches Map w u who from to at hand whole fits next makes = touches_stage w u (record { who = who; home = (Shifting from to at); hand = hand }) whole fits.there (record (stage_of w (vcpu who.found.vm who.found.number)) { written = new_file (Shifting from to at) }) makes
+shift_touches GFence w u who from to at hand whole fits next makes = touches_stage w u (record { who = who; home = (Shifting from to at); hand = hand }) whole fits.there (record (stage_of w (vcpu who.found.vm who.found.number)) { in_force = (stage_of w (vcpu who.found.vm who.found.number)).written }) makes
 shift_touches TakeDelivery w u who from to at hand whole fits next makes = touches_file w u (record { who = who; home = (Shifting from to at); hand = hand }) from (file_at u.imsic (spot_of from)) (fits.own from refl) (or_left (is_place from from) (is_place from to) (is_itself_place from)) makes.others
 shift_touches TakeThreshold w u who from to at hand whole fits next makes = touches_file w u (record { who = who; home = (Shifting from to at); hand = hand }) from (file_at u.imsic (spot_of from)) (fits.own from refl) (or_left (is_place from from) (is_place from to) (is_itself_place from)) makes.others
 shift_touches PutDelivery w u who from to at hand whole fits next makes = touches_file w u (record { who = who; home = (Shifting from to at); hand = hand }) to (file_at u.imsic (spot_of to)) (fits.next to refl) (or_right (is_place to from) (is_place to to) (is_itself_place to)) makes.others

@@ -19,11 +19,11 @@ use Rattle.aia_fabric.proofs.WholeLemmas.{notice_hart_there}
 use Rattle.aia_move.specs.declared.who.Who.{Who}
 use Rattle.aia_move.specs.Move.{Moving, IsWho, MoveFits, PostsIf, old_by, new_by, old_at, new_at}
 
-pub small_who : (w : World) (who : Who) → IsWhole w → IsWho w who → (who.slot < vcpus_in w.vms) × (who.slot < VCPUS) × (who.notice < HARTS)
+pub small_who : (w : World) (who : Who) → IsWhole w → IsWho w who → (who.found.slot < vcpus_in w.vms) × (who.found.slot < VCPUS) × (who.found.notice < HARTS)
 small_who w who whole is =
     let slot = is.slot in
-    let below = slot_below w.vms (vcpu who.vm who.number) is.there in
-    let hart = notice_hart_there w (vcpu who.vm who.number) whole is.there in
+    let below = slot_below w.vms (vcpu who.found.vm who.found.number) is.there in
+    let hart = notice_hart_there w (vcpu who.found.vm who.found.number) whole is.there in
     (omega (arith, slot, below), omega (arith, slot, below, whole.vcpus), omega (arith, is.notice, hart, whole.harts))
 
 pub small_file : (w : World) (to : Option Place) → IsWhole w → ((p : Place) → to ≡ Some p → IsThere w.imsic (spot_of p)) → IfSome to (λ p. (p.hart < HARTS) × (p.file ≤ GUEST_FILES))
@@ -34,23 +34,23 @@ small_file w (Some p) whole there =
 
 -- the notice of the virtual hart of a slot is its own
 pub posts_if : (w u : World) (who same : Who) (seen : Bool) → seen ≡ true → same ≡ who → IsWho w who
-    → ((g : Vcpu) → is_vcpu_in w.vms g ≡ true → slot_of w.vms g ≡ same.slot → Posts w u (SupervisorFile (notice_hart w.vms g)) (same.slot + 1)) → PostsIf seen w u who.notice (who.slot + 1)
+    → ((g : Vcpu) → is_vcpu_in w.vms g ≡ true → slot_of w.vms g ≡ same.found.slot → Posts w u (SupervisorFile (notice_hart w.vms g)) (same.found.slot + 1)) → PostsIf seen w u who.found.notice (who.found.slot + 1)
 posts_if w u who same seen on e is posts =
-    let slot : same.slot ≡ who.slot = ap (λ (x : Who). x.slot) e in
-    rw (on, is.notice) (subst (λ n. Posts w u (SupervisorFile (notice_hart w.vms (vcpu who.vm who.number))) (n + 1)) slot (posts (vcpu who.vm who.number) is.there (sym (slot ∙ is.slot))))
+    let slot : same.found.slot ≡ who.found.slot = ap (λ (x : Who). x.found.slot) e in
+    rw (on, is.notice) (subst (λ n. Posts w u (SupervisorFile (notice_hart w.vms (vcpu who.found.vm who.found.number))) (n + 1)) slot (posts (vcpu who.found.vm who.found.number) is.there (sym (slot ∙ is.slot))))
 
 -- the slot of a state m, which is seen as s
-pub slot_there : (w : World) (m s : Moving) → m ≡ s → IsWhole w → MoveFits w s → m.who.slot < VCPUS
+pub slot_there : (w : World) (m s : Moving) → m ≡ s → IsWhole w → MoveFits w s → m.who.found.slot < VCPUS
 slot_there w m s seen whole fits =
     let is : IsWho w s.who = record { there = fits.there; slot = fits.slot; notice = fits.notice } in
-    omega (arith, ap (λ (x : Moving). x.who.slot) seen, (small_who w s.who whole is).1)
+    omega (arith, ap (λ (x : Moving). x.who.found.slot) seen, (small_who w s.who whole is).1)
 
 -- ---- the places of a move are there
 
 pub old_there : (w : World) (m : Moving) → IsWhole w → MoveFits w m → is_moving m.home ≡ true → IsPlaceThere w (old_at m)
 old_there w m whole fits moves = by_home m.home fits.own moves
   where
-    by_home : (there : Home) → ((p : Place) → own_file there ≡ Some p → IsThere w.imsic (spot_of p)) → is_moving there ≡ true → IsPlaceThere w (old_by there m.who.slot)
+    by_home : (there : Home) → ((p : Place) → own_file there ≡ Some p → IsThere w.imsic (spot_of p)) → is_moving there ≡ true → IsPlaceThere w (old_by there m.who.found.slot)
     by_home Parked own moves = absurd (cc)
     by_home Entered own moves = absurd (cc)
     by_home (Resident p) own moves = absurd (cc)
@@ -61,7 +61,7 @@ old_there w m whole fits moves = by_home m.home fits.own moves
 pub new_there : (w : World) (m : Moving) → IsWhole w → MoveFits w m → is_moving m.home ≡ true → IsPlaceThere w (new_at m)
 new_there w m whole fits moves = by_home m.home fits.own fits.next moves
   where
-    by_home : (there : Home) → ((p : Place) → own_file there ≡ Some p → IsThere w.imsic (spot_of p)) → ((p : Place) → next_file there ≡ Some p → IsThere w.imsic (spot_of p)) → is_moving there ≡ true → IsPlaceThere w (new_by there m.who.slot)
+    by_home : (there : Home) → ((p : Place) → own_file there ≡ Some p → IsThere w.imsic (spot_of p)) → ((p : Place) → next_file there ≡ Some p → IsThere w.imsic (spot_of p)) → is_moving there ≡ true → IsPlaceThere w (new_by there m.who.found.slot)
     by_home Parked own next moves = absurd (cc)
     by_home Entered own next moves = absurd (cc)
     by_home (Resident p) own next moves = absurd (cc)

@@ -16,6 +16,7 @@ pub record Knows (w : World) (plan : Plan) (reach : Option Place) (file : Interr
     (saw : Bool) : Type 0 where
   pub fits : MoveFits w (moving_of plan)
   pub phase : IsInPhase (width w) plan
-  pub holds : Holds (width w) (moving_of plan).who.slot (moving_of plan).who.notice reach
+  pub holds : Holds (width w) (moving_of plan).who.found.slot (moving_of plan).who.found.notice
+      reach
       (places_of w (mover (moving_of plan)) (moving_of plan).home) (moving_of plan).home
       (moving_of plan).hand file saw

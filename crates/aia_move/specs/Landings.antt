@@ -10,7 +10,7 @@ use Rattle.aia_move.specs.Touches.{SameMachine}
 -- Where the next step of a move is the fence of the entry, all stores in flight of the VM land
 -- first, the oldest first; elsewhere none does. The machine stays as it is.
 pub record LandsFirst (w : World) (m : Moving) (landed : World) : Type 0 where
-  pub fence : is_at_fence m.home ≡ true → LandsAll w landed m.who.vm × IsWhole landed
+  pub fence : is_at_fence m.home ≡ true → LandsAll w landed m.who.found.vm × IsWhole landed
   pub other : is_at_fence m.home ≡ false → landed ≡ w
   pub same : SameMachine w landed
 

@@ -17,6 +17,7 @@ use Rattle.aia_places.specs.Holds.{Hand, meets}
 use Rattle.aia_fabric.specs.declared.at.At.{At}
 use Rattle.aia_fabric.specs.declared.at.At.TheVariants.{File, Slot}
 use Rattle.aia_fabric.specs.World.{World}
+use Rattle.aia_fabric.specs.Found.{IsFound}
 use Rattle.aia_fabric.specs.Stores.{Posts}
 use Rattle.aia_fabric.specs.Changes.{PutsRegister, spot_of, pending_words, enable_words, pending_at, with_pending, enable_at, with_enable, with_entry_word, with_fence, with_map, with_gfence}
 use Rattle.aia_move.specs.declared.who.Who.{Who}
@@ -29,7 +30,7 @@ pub record Moving : Type 0 where
 
 -- The virtual hart that is moved.
 abbrev pub mover : Moving → Vcpu
-mover m = vcpu m.who.vm m.who.number
+mover m = vcpu m.who.found.vm m.who.found.number
 
 -- How many words each set of a file has.
 abbrev pub width : World → ℕ
@@ -51,10 +52,10 @@ new_by (Leaving from at) slot = Slot slot
 new_by there slot = File (spot_in (new_file there))
 
 abbrev pub old_at : Moving → At
-old_at m = old_by m.home m.who.slot
+old_at m = old_by m.home m.who.found.slot
 
 abbrev pub new_at : Moving → At
-new_at m = new_by m.home m.who.slot
+new_at m = new_by m.home m.who.found.slot
 
 -- The old file, and the new file.
 abbrev pub old_spot : Moving → Spot
@@ -75,11 +76,11 @@ PostsIf false w u hart identity = u ≡ w
 abbrev pub Makes : Access → Moving → World → World → Type 0
 Makes TakeDelivery m w u = PutsRegister w u (old_spot m) Delivery 0
 Makes PutDelivery m w u = PutsRegister w u (new_spot m) Delivery m.hand.delivery
-Makes WriteNotice m w u =
-    u ≡ with_entry_word w m.who.vm m.who.number 1 (second_word m.who.slot m.who.notice)
-Makes WriteEntry m w u =
-    u ≡ with_entry_word w m.who.vm m.who.number 0 (entry_word m.who.slot (new_file m.home))
-Makes Fence m w u = u ≡ with_fence w m.who.vm m.who.number
+Makes WriteNotice m w u = u ≡ with_entry_word w m.who.found.vm m.who.found.number 1
+    (second_word m.who.found.slot m.who.found.notice)
+Makes WriteEntry m w u = u ≡ with_entry_word w m.who.found.vm m.who.found.number 0
+    (entry_word m.who.found.slot (new_file m.home))
+Makes Fence m w u = u ≡ with_fence w m.who.found.vm m.who.found.number
 Makes Map m w u = u ≡ with_map w (mover m) (new_file m.home)
 Makes GFence m w u = u ≡ with_gfence w (mover m)
 Makes (TakePending k) m w u = u ≡ with_pending w (old_at m) k 0
@@ -91,7 +92,7 @@ Makes (PutEnables k) m w u =
 Makes (Look k) m w u = u ≡ w
 Makes TakeThreshold m w u = PutsRegister w u (old_spot m) Threshold 0
 Makes PutThreshold m w u = PutsRegister w u (new_spot m) Threshold m.hand.threshold
-Makes Post m w u = PostsIf m.hand.seen w u m.who.notice (m.who.slot + 1)
+Makes Post m w u = PostsIf m.hand.seen w u m.who.found.notice (m.who.found.slot + 1)
 
 -- What is carried after it.
 abbrev pub hand_after : Access → Moving → World → Hand
@@ -101,7 +102,7 @@ hand_after (TakePending k) m w = record m.hand { word = pending_at w (old_at m) 
 hand_after (TakeEnables k) m w = record m.hand { word = enable_at w (old_at m) k }
 hand_after (Look k) m w = record m.hand {
   seen = m.hand.seen
-      || meets (pending_at w (Slot m.who.slot) k) (enable_at w (Slot m.who.slot) k);
+      || meets (pending_at w (Slot m.who.found.slot) k) (enable_at w (Slot m.who.found.slot) k);
 }
 hand_after TakeThreshold m w =
     record m.hand { threshold = (file_at w.imsic (old_spot m)).threshold }
@@ -109,18 +110,16 @@ hand_after access m w = m.hand
 
 -- ---- what a step needs, and what it does
 
--- The virtual hart is there, with its slot and its notice hart.
-pub record IsWho (w : World) (who : Who) : Type 0 where
-  pub there : is_vcpu_in w.vms (vcpu who.vm who.number) ≡ true
-  pub slot : who.slot ≡ slot_of w.vms (vcpu who.vm who.number)
-  pub notice : who.notice ≡ notice_hart w.vms (vcpu who.vm who.number)
+-- The virtual hart that is moved is there, with its slot and its notice hart.
+abbrev pub IsWho : World → Who → Type 0
+IsWho w who = IsFound w who.found
 
 -- Its places are there: the virtual hart with its slot and notice hart, and the files of its home;
 -- and no word 0 that it carries has identity 0.
 pub record MoveFits (w : World) (m : Moving) : Type 0 where
   pub there : is_vcpu_in w.vms (mover m) ≡ true
-  pub slot : m.who.slot ≡ slot_of w.vms (mover m)
-  pub notice : m.who.notice ≡ notice_hart w.vms (mover m)
+  pub slot : m.who.found.slot ≡ slot_of w.vms (mover m)
+  pub notice : m.who.found.notice ≡ notice_hart w.vms (mover m)
   pub own : (p : Place) → own_file m.home ≡ Some p → IsThere w.imsic (spot_of p)
   pub next : (p : Place) → next_file m.home ≡ Some p → IsThere w.imsic (spot_of p)
   -- a word 0 that is carried has no identity 0

@@ -63,7 +63,8 @@ next_pass m = pass_in m.who (aims_done m.home)
 abbrev pub aim_of : Moving → Aim
 aim_of m = record {
   source = (next_pass m).source;
-  target = target_to m.who.notice (next_pass m).number (next_pass m).identity (new_file m.home);
+  target = target_to m.who.found.notice (next_pass m).number (next_pass m).identity
+      (new_file m.home);
 }
 
 abbrev pub aim_if : Bool → Moving → Option Aim

@@ -55,13 +55,13 @@ pub record Touches (sent : Bool) (w u : World) (m : Moving) : Type 0 where
   pub machine_files : (hart : ℕ) → hart < w.imsic.harts
       → file_at u.imsic (MachineFile hart) ≡ file_at w.imsic (MachineFile hart)
   pub host_files : (hart : ℕ) → hart < w.imsic.harts
-      → (sent ≡ false) ⊎ (hart ≢ m.who.notice)
+      → (sent ≡ false) ⊎ (hart ≢ m.who.found.notice)
       → file_at u.imsic (SupervisorFile hart) ≡ file_at w.imsic (SupervisorFile hart)
   -- the notice
-  pub noticed : sent ≡ true → Posts w u (SupervisorFile m.who.notice) (m.who.slot + 1)
+  pub noticed : sent ≡ true → Posts w u (SupervisorFile m.who.found.notice) (m.who.found.slot + 1)
   pub count : sent ≡ false → u.notices ≡ w.notices
   -- slots, entries and records of other virtual harts
-  pub slots : (r : ℕ) → r < VCPUS → r ≢ m.who.slot → mrif_in u.memory r ≡ mrif_in w.memory r
+  pub slots : (r : ℕ) → r < VCPUS → r ≢ m.who.found.slot → mrif_in u.memory r ≡ mrif_in w.memory r
   pub entry_words : (g : Vcpu) → is_vcpu_in w.vms g ≡ true → g ≢ mover m
       → (slice_index u.memory (entry_word_place g.vm g.number)
       ≡ slice_index w.memory (entry_word_place g.vm g.number))

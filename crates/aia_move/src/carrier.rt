@@ -91,9 +91,9 @@ impl Carrier {
 
     /// Gives the place of the slot of the one who is moved.
     pub fn slot(&self) -> At
-        ensures { result ≡ At.Slot self.now.who.slot }
+        ensures { result ≡ At.Slot self.now.who.found.slot }
     {
-        At::Slot(self.who.slot)
+        At::Slot(self.who.found.slot)
     }
 
     // ---- the numbers
@@ -150,8 +150,8 @@ impl Carrier {
             → Does WriteNotice m fabric.old fabric.new self.new }
     {
         let _words = fabric.words();
-        let word = words::second_word(self.who.slot, self.who.notice);
-        fabric.put_word(self.who.vm, self.who.number, 1, word);
+        let word = words::second_word(self.who.found.slot, self.who.found.notice);
+        fabric.put_word(self.who.found, 1, word);
         self.done += 1;
     }
 
@@ -164,8 +164,8 @@ impl Carrier {
             → Does WriteEntry m fabric.old fabric.new self.new }
     {
         let _words = fabric.words();
-        let word = words::entry_word(self.who.slot, to);
-        fabric.put_word(self.who.vm, self.who.number, 0, word);
+        let word = words::entry_word(self.who.found.slot, to);
+        fabric.put_word(self.who.found, 0, word);
         self.done += 1;
     }
 
@@ -173,10 +173,11 @@ impl Carrier {
     pub fn fence(&mut self, fabric: &mut Fabric)
         requires who { IsWho fabric.old self.old.who }
         requires more { self.old.steps < leave_steps FILE_WORDS }
-        ensures fences { Fences fabric.old fabric.new self.old.who.vm self.old.who.number }
+        ensures fences { Fences fabric.old fabric.new self.old.who.found.vm
+            self.old.who.found.number }
         ensures carrier { self.new ≡ one_done self.old self.old.hand }
     {
-        fabric.fence(self.who.vm, self.who.number);
+        fabric.fence(self.who.found);
         self.done += 1;
     }
 
@@ -188,7 +189,7 @@ impl Carrier {
             → new_file m.home ≡ option_map (λ (lease : Bor Place). lease.now) to.entry
             → Does Map m fabric.old fabric.new self.new }
     {
-        fabric.map(self.who.vm, self.who.number, to);
+        fabric.map(self.who.found, to);
         self.done += 1;
     }
 
@@ -199,7 +200,7 @@ impl Carrier {
         ensures { (m : Moving) → carrier_of m ≡ self.old
             → Does GFence m fabric.old fabric.new self.new }
     {
-        fabric.gfence(self.who.vm, self.who.number);
+        fabric.gfence(self.who.found);
         self.done += 1;
     }
 
@@ -233,7 +234,7 @@ impl Carrier {
     pub fn aim<T: Targets>(&mut self, targets: &mut T, to: Option<&FileLease>)
         requires more { self.old.aims < passes_of self.old.who }
         requires passes { ArePasses self.old.who }
-        requires notice { self.old.who.notice < (T.map targets.old).harts }
+        requires notice { self.old.who.found.notice < (T.map targets.old).harts }
         requires hart { IfSome to (λ lease. lease.now.hart < (T.map targets.old).harts) }
         requires guest { IfSome to (λ lease. lease.now.file ≤ GUEST_FILES) }
         ensures aims { (m : Moving) → carrier_of m ≡ self.old
@@ -246,7 +247,7 @@ impl Carrier {
             Some(file) => targets.aim(pass.source, file.hart(), file.file(), pass.identity),
             None => {
                 let identity = FIRST_PASS_IDENTITY + pass.number;
-                targets.aim(pass.source, self.who.notice, 0, identity);
+                targets.aim(pass.source, self.who.found.notice, 0, identity);
             }
         }
         self.aims += 1;
@@ -354,13 +355,13 @@ impl Carrier {
 
     /// Reads word `word`, below `FILE_WORDS`, of both sets of the slot.
     pub fn look(&mut self, fabric: &Fabric, word: usize)
-        requires slot { self.old.who.slot < VCPUS }
+        requires slot { self.old.who.found.slot < VCPUS }
         requires word { word < FILE_WORDS }
         requires more { self.old.steps < leave_steps FILE_WORDS }
         ensures { (m : Moving) → carrier_of m ≡ self.old
             → Does (Look word) m fabric.now fabric.now self.new }
     {
-        let (pending, enabled) = fabric.look(self.who.slot, word);
+        let (pending, enabled) = fabric.look(self.who.found.slot, word);
         self.seen = self.seen || words::meets(pending, enabled);
         self.done += 1;
     }
@@ -369,12 +370,12 @@ impl Carrier {
     #[tactic(auto, using(crate::proofs::WhoLemmas::small_who, crate::proofs::WhoLemmas::posts_if))]
     pub fn post(&self, fabric: &mut Fabric)
         requires { IsWho fabric.old self.now.who }
-        ensures { PostsIf self.now.hand.seen fabric.old fabric.new self.now.who.notice
-            (self.now.who.slot + 1) }
+        ensures { PostsIf self.now.hand.seen fabric.old fabric.new self.now.who.found.notice
+            (self.now.who.found.slot + 1) }
     {
         let _words = fabric.words();
         if self.seen {
-            fabric.notice(self.who.slot);
+            fabric.notice(self.who.found.slot);
         }
     }
 }

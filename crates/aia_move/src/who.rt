@@ -1,3 +1,4 @@
+use aia_fabric::Found;
 use aia_regs::limits::PASSES;
 use arrayvec::ArrayVec;
 
@@ -12,17 +13,11 @@ pub struct Pass {
     pub number: u32,
 }
 
-/// Who is moved: a virtual hart.
+/// Who is moved: a virtual hart that is there, with what is passed to it.
 #[derive(Debug, Drop, PartialEq, Eq)]
 pub struct Who {
-    /// Its VM.
-    pub vm: u32,
-    /// Its number in the VM.
-    pub number: u32,
-    /// Its number over all VMs: that of its slot of memory.
-    pub slot: u32,
-    /// The hart whose supervisor file takes its notices.
-    pub notice: u32,
+    /// The virtual hart.
+    pub found: Found,
     /// The wired sources that are passed to it, in the order of passing.
     pub passes: ArrayVec<Pass, PASSES>,
 }

@@ -63,7 +63,7 @@ module _ (w : World) (r : Rehearsed) (z : Transit) (whole : IsWhole w) (s : Stan
   p = r.passage
 
   abbrev q : ℕ
-  q = r.passage.who.slot
+  q = r.passage.who.found.slot
 
   there_on : (side : Side) → IsFileThere w (on side p)
   there_on Old = s.of.old
@@ -74,28 +74,28 @@ module _ (w : World) (r : Rehearsed) (z : Transit) (whole : IsWhole w) (s : Stan
   led_there hart (File a) inside = ap (is_file_at a) (guest_spot w.imsic a whole.harts whole.guests inside) ∙ is_itself_place a
   led_there hart Slot inside = ap (λ o. names o q) (slot_found q (small_who w p.who whole s.of.who).1) ∙ eq-eqb q q refl
 
-  own_side : (side : Side) → side_of w.imsic p (leads_to q p.who.notice (names_on side p)) ≡ Some side
-  own_side side = side_is (λ b. leads w.imsic q b (leads_to q p.who.notice (names_on side p))) p side (led_there p.who.notice (on side p) (there_on side)) (one_led w w r z 0 0 whole s (leads_to q p.who.notice (names_on side p)))
+  own_side : (side : Side) → side_of w.imsic p (leads_to q p.who.found.notice (names_on side p)) ≡ Some side
+  own_side side = side_is (λ b. leads w.imsic q b (leads_to q p.who.found.notice (names_on side p))) p side (led_there p.who.found.notice (on side p) (there_on side)) (one_led w w r z 0 0 whole s (leads_to q p.who.found.notice (names_on side p)))
 
   -- so it is of the entry in force
-  pub own_route : (vm addr : ℕ) → is_for_moved w p vm addr ≡ true → route_of (table_of w.tables vm) addr ≡ To (leads_to q p.who.notice (names_on z.entry_in_force p))
+  pub own_route : (vm addr : ℕ) → is_for_moved w p vm addr ≡ true → route_of (table_of w.tables vm) addr ≡ To (leads_to q p.who.found.notice (names_on z.entry_in_force p))
   own_route vm addr is =
-      let here : vm ≡ p.who.vm = grind (arith, nat_tests) in
+      let here : vm ≡ p.who.found.vm = grind (arith, nat_tests) in
       let msi : is_msi_address (table_of w.tables vm).mask addr ≡ true = grind (arith, nat_tests) in
-      let file : file_number (table_of w.tables vm).mask addr ≡ p.who.number = grind (arith, nat_tests) in
-      cond-true _ _ _ msi ∙ ap (λ n. leads_by (entry_in_force (table_of w.tables vm) n)) file ∙ ap (λ v. leads_by (entry_in_force (table_of w.tables v) p.who.number)) here
+      let file : file_number (table_of w.tables vm).mask addr ≡ p.who.found.number = grind (arith, nat_tests) in
+      cond-true _ _ _ msi ∙ ap (λ n. leads_by (entry_in_force (table_of w.tables vm) n)) file ∙ ap (λ v. leads_by (entry_in_force (table_of w.tables v) p.who.found.number)) here
       ∙ ap leads_by s.routes.entry_in_force ∙ to_place (names_on z.entry_in_force p)
     where
-      to_place : (o : Option Place) → leads_by (leads_to q p.who.notice o) ≡ To (leads_to q p.who.notice o)
+      to_place : (o : Option Place) → leads_by (leads_to q p.who.found.notice o) ≡ To (leads_to q p.who.found.notice o)
       to_place None = refl
       to_place (Some a) = refl
 
   -- ---- stores of devices
 
   module _ (u : World) (offset value : ℕ) where
-    pub own_store : (route : Route) → route ≡ To (leads_to q p.who.notice (names_on z.entry_in_force p)) → Reaches route w u offset value → StandsFor u r (happened (happenings.Stores (asked offset value)) z)
+    pub own_store : (route : Route) → route ≡ To (leads_to q p.who.found.notice (names_on z.entry_in_force p)) → Reaches route w u offset value → StandsFor u r (happened (happenings.Stores (asked offset value)) z)
     own_store route is reaches =
-        let entry = leads_to q p.who.notice (names_on z.entry_in_force p) in
+        let entry = leads_to q p.who.found.notice (names_on z.entry_in_force p) in
         subst (λ o. StandsFor u r (landed_on o (asked offset value) z)) (own_side z.entry_in_force) (entry_lands w u r z offset value whole s entry (subst (λ (x : Route). Reaches x w u offset value) is reaches))
 
     pub other_store : (route : Route) → LeadsElsewhere w p route → Reaches route w u offset value → StandsFor u r z
@@ -188,7 +188,7 @@ module _ (w : World) (r : Rehearsed) (z : Transit) (whole : IsWhole w) (s : Stan
     sent : (o : Option Side) → side_of w.imsic p store.entry ≡ o → flights_in w.imsic p (flight_of (with_flight w vm (flight_of w vm ++ store ∷ [])) vm) ≡ flights_in w.imsic p (flight_of w vm) ++ onto_flights o store []
     sent o is = ap (flights_in w.imsic p) more_here ∙ flights_after w.imsic (flight_of w vm) store ∙ ap (λ x. flights_in w.imsic p (flight_of w vm) ++ onto_flights x store []) is
 
-    pub own_sent : vm ≡ p.who.vm → side_of w.imsic p store.entry ≡ Some z.entry_in_force → StandsFor (with_flight w vm (flight_of w vm ++ store ∷ [])) r (happened (happenings.Sends (asked store.offset store.value)) z)
+    pub own_sent : vm ≡ p.who.found.vm → side_of w.imsic p store.entry ≡ Some z.entry_in_force → StandsFor (with_flight w vm (flight_of w vm ++ store ∷ [])) r (happened (happenings.Sends (asked store.offset store.value)) z)
     own_sent is led = with_stores vm (flight_of w vm ++ store ∷ []) (z.flights ++ record { side = z.entry_in_force; identity = asked store.offset store.value } ∷ []) (record {
       own = ap (λ l. l ++ record { side = z.entry_in_force; identity = asked store.offset store.value } ∷ []) (s.flights.own ∙ ap (λ v. flights_in w.imsic p (flight_of w v)) (sym is)) ∙ sym (sent (Some z.entry_in_force) led)
           ∙ ap (λ v. flights_in w.imsic p (flight_of (with_flight w vm (flight_of w vm ++ store ∷ [])) v)) is;
@@ -207,13 +207,13 @@ module _ (w : World) (r : Rehearsed) (z : Transit) (whole : IsWhole w) (s : Stan
 
     pub other_sent : side_of w.imsic p store.entry ≡ None → StandsFor (with_flight w vm (flight_of w vm ++ store ∷ [])) r z
     other_sent none = with_stores vm (flight_of w vm ++ store ∷ []) z.flights (record {
-      own = s.flights.own ∙ sym (unchanged p.who.vm none);
+      own = s.flights.own ∙ sym (unchanged p.who.found.vm none);
       others = λ v other. unchanged v none ∙ s.flights.others v other;
     })
 
-  pub own_send : (u : World) (vm offset value : ℕ) (route : Route) → vm < length w.vms → vm ≡ p.who.vm → route ≡ To (leads_to q p.who.notice (names_on z.entry_in_force p)) → Sends route w u vm offset value → StandsFor u r (happened (happenings.Sends (asked offset value)) z)
+  pub own_send : (u : World) (vm offset value : ℕ) (route : Route) → vm < length w.vms → vm ≡ p.who.found.vm → route ≡ To (leads_to q p.who.found.notice (names_on z.entry_in_force p)) → Sends route w u vm offset value → StandsFor u r (happened (happenings.Sends (asked offset value)) z)
   own_send u vm offset value route low here is sends =
-      let entry = leads_to q p.who.notice (names_on z.entry_in_force p) in
+      let entry = leads_to q p.who.found.notice (names_on z.entry_in_force p) in
       let e : u ≡ with_flight w vm (flight_of w vm ++ record { entry = entry; offset = offset; value = value } ∷ []) = subst (λ (x : Route). Sends x w u vm offset value) is sends in
       subst (λ (x : World). StandsFor x r (happened (happenings.Sends (asked offset value)) z)) (sym e) (own_sent vm (record { entry = entry; offset = offset; value = value }) low here (own_side z.entry_in_force))
 
@@ -224,12 +224,12 @@ module _ (w : World) (r : Rehearsed) (z : Transit) (whole : IsWhole w) (s : Stan
 
   -- ---- entries that are read again
 
-  pub other_refetched : (vm file : ℕ) → (vm ≢ p.who.vm) ⊎ (file ≢ p.who.number) → StandsFor (with_fence w vm file) r z
+  pub other_refetched : (vm file : ℕ) → (vm ≢ p.who.found.vm) ⊎ (file ≢ p.who.found.number) → StandsFor (with_fence w vm file) r z
   other_refetched vm file other =
-      let in_force : entry_in_force (table_of (with_fence w vm file).tables p.who.vm) p.who.number ≡ entry_in_force (table_of w.tables p.who.vm) p.who.number = fenced_elsewhere w.tables vm file w.memory p.who.vm p.who.number (turned other) in
+      let in_force : entry_in_force (table_of (with_fence w vm file).tables p.who.found.vm) p.who.found.number ≡ entry_in_force (table_of w.tables p.who.found.vm) p.who.found.number = fenced_elsewhere w.tables vm file w.memory p.who.found.vm p.who.found.number (turned other) in
       all_kept w r z whole s (with_fence w vm file) r.hand (record { n = refl; vms = refl; harts = refl; guests = refl }) refl (same_at p.old) (same_at p.new) (λ k. record (routes_of w (moved p)) { in_force = in_force k }) refl refl
     where
-      turned : (vm ≢ p.who.vm) ⊎ (file ≢ p.who.number) → (p.who.vm ≢ vm) ⊎ (p.who.number ≢ file)
+      turned : (vm ≢ p.who.found.vm) ⊎ (file ≢ p.who.found.number) → (p.who.found.vm ≢ vm) ⊎ (p.who.found.number ≢ file)
       turned (inl a) = inl (λ e. a (sym e))
       turned (inr b) = inr (λ e. b (sym e))
 

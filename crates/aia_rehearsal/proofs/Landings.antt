@@ -138,39 +138,39 @@ module _ (w u : World) (p : Passage) (offset value : ℕ) (whole : IsWhole w) wh
   nothing_led : (slot : ℕ) (entry : Entry) → ((b : ends.Place) → leads w.imsic slot b entry ≡ false) → u ≡ w → Seen w u p (λ b. leads w.imsic slot b entry) offset value
   nothing_led slot entry none e = seen_none w u p offset value whole (λ b. leads w.imsic slot b entry) none e
 
-  pub entry_seen : (entry : Entry) → ReachesBy entry w u offset value → Seen w u p (λ b. leads w.imsic p.who.slot b entry) offset value
-  entry_seen (Basic page) reaches = hit_same (file_hit (page_spot w.imsic page)) (λ b. leads w.imsic p.who.slot b (Basic page)) by_place (at_spot w u p offset value whole (page_spot w.imsic page) (page_there w page) reaches)
+  pub entry_seen : (entry : Entry) → ReachesBy entry w u offset value → Seen w u p (λ b. leads w.imsic p.who.found.slot b entry) offset value
+  entry_seen (Basic page) reaches = hit_same (file_hit (page_spot w.imsic page)) (λ b. leads w.imsic p.who.found.slot b (Basic page)) by_place (at_spot w u p offset value whole (page_spot w.imsic page) (page_there w page) reaches)
     where
-      by_place : (b : ends.Place) → file_hit (page_spot w.imsic page) b ≡ leads w.imsic p.who.slot b (Basic page)
+      by_place : (b : ends.Place) → file_hit (page_spot w.imsic page) b ≡ leads w.imsic p.who.found.slot b (Basic page)
       by_place (File b) = refl
       by_place Slot = refl
-  entry_seen (Mrif addr page identity) reaches = hit_same (slot_hit (slot_at addr) p.who.slot) (λ b. leads w.imsic p.who.slot b (Mrif addr page identity)) by_place
+  entry_seen (Mrif addr page identity) reaches = hit_same (slot_hit (slot_at addr) p.who.found.slot) (λ b. leads w.imsic p.who.found.slot b (Mrif addr page identity)) by_place
       (at_slot w u p offset value whole (slot_at addr) (page_spot w.imsic page) identity (λ n e. (slot_begins addr n e).0) (page_there w page) reaches)
     where
-      by_place : (b : ends.Place) → slot_hit (slot_at addr) p.who.slot b ≡ leads w.imsic p.who.slot b (Mrif addr page identity)
+      by_place : (b : ends.Place) → slot_hit (slot_at addr) p.who.found.slot b ≡ leads w.imsic p.who.found.slot b (Mrif addr page identity)
       by_place (File b) = refl
       by_place Slot = refl
-  entry_seen NotValid e = nothing_led p.who.slot NotValid (λ b. none b) e
+  entry_seen NotValid e = nothing_led p.who.found.slot NotValid (λ b. none b) e
     where
-      none : (b : ends.Place) → leads w.imsic p.who.slot b NotValid ≡ false
+      none : (b : ends.Place) → leads w.imsic p.who.found.slot b NotValid ≡ false
       none (File b) = refl
       none Slot = refl
-  entry_seen Custom e = nothing_led p.who.slot Custom (λ b. none b) e
+  entry_seen Custom e = nothing_led p.who.found.slot Custom (λ b. none b) e
     where
-      none : (b : ends.Place) → leads w.imsic p.who.slot b Custom ≡ false
+      none : (b : ends.Place) → leads w.imsic p.who.found.slot b Custom ≡ false
       none (File b) = refl
       none Slot = refl
-  entry_seen Misconfigured e = nothing_led p.who.slot Misconfigured (λ b. none b) e
+  entry_seen Misconfigured e = nothing_led p.who.found.slot Misconfigured (λ b. none b) e
     where
-      none : (b : ends.Place) → leads w.imsic p.who.slot b Misconfigured ≡ false
+      none : (b : ends.Place) → leads w.imsic p.who.found.slot b Misconfigured ≡ false
       none (File b) = refl
       none Slot = refl
 
 module _ (w u : World) (r : Rehearsed) (z : Transit) (offset value : ℕ) (whole : IsWhole w) (s : StandsFor w r z) where
-  pub one_led : (entry : Entry) → leads w.imsic r.passage.who.slot r.passage.old entry ≡ true → leads w.imsic r.passage.who.slot r.passage.new entry ≡ false
+  pub one_led : (entry : Entry) → leads w.imsic r.passage.who.found.slot r.passage.old entry ≡ true → leads w.imsic r.passage.who.found.slot r.passage.new entry ≡ false
   one_led entry led = by_places entry r.passage.old r.passage.new s.two led
     where
-      by_places : (entry : Entry) (a b : ends.Place) → AreTwo a b → leads w.imsic r.passage.who.slot a entry ≡ true → leads w.imsic r.passage.who.slot b entry ≡ false
+      by_places : (entry : Entry) (a b : ends.Place) → AreTwo a b → leads w.imsic r.passage.who.found.slot a entry ≡ true → leads w.imsic r.passage.who.found.slot b entry ≡ false
       by_places (Basic page) (File a) (File b) two led = one_file_hit (page_spot w.imsic page) (File a) (File b) two led
       by_places (Basic page) (File a) Slot two led = refl
       by_places (Basic page) Slot b two led = absurd (cc)
@@ -186,4 +186,4 @@ module _ (w u : World) (r : Rehearsed) (z : Transit) (offset value : ℕ) (whole
 
   -- a store goes along an entry
   pub entry_lands : (entry : Entry) → ReachesBy entry w u offset value → StandsFor u r (landed_on (side_of w.imsic r.passage entry) (asked offset value) z)
-  entry_lands entry reaches = store_lands w u r z (λ b. leads w.imsic r.passage.who.slot b entry) offset value s (entry_seen w u r.passage offset value whole entry reaches) (one_led entry)
+  entry_lands entry reaches = store_lands w u r z (λ b. leads w.imsic r.passage.who.found.slot b entry) offset value s (entry_seen w u r.passage offset value whole entry reaches) (one_led entry)

@@ -16,7 +16,7 @@ use Rattle.aia_rehearsal.specs.Rehearsed.{at_of, IsFileThere}
 pub few_words : (w : World) → IsWhole w → width w ≤ FILE_WORDS
 few_words w whole = let greatest = whole.greatest in let few : w.n ≤ IDENTITIES = grind (arith, nat_tests) in omega arith
 
-pub place_there : (w : World) (who : Who) (place : ends.Place) → IsWhole w → IsWho w who → IsFileThere w place → IsPlaceThere w (at_of who.slot place)
+pub place_there : (w : World) (who : Who) (place : ends.Place) → IsWhole w → IsWho w who → IsFileThere w place → IsPlaceThere w (at_of who.found.slot place)
 place_there w who (File p) whole is there = there
 place_there w who Slot whole is there = (small_who w who whole is).1
 

@@ -53,7 +53,7 @@ step_same steps.Quiet w u r makes = put_same w u r.passage.old Delivery 0 makes
 step_same steps.Word1 w u r e = same_by w u _ e (record { n = refl; vms = refl; harts = refl; guests = refl })
 step_same steps.Word0 w u r e = same_by w u _ e (record { n = refl; vms = refl; harts = refl; guests = refl })
 step_same steps.Fence w u r f =
-    let landed = all_landed_rest (length (flight_of w r.passage.who.vm)) w f.landed r.passage.who.vm f.lands in
+    let landed = all_landed_rest (length (flight_of w r.passage.who.found.vm)) w f.landed r.passage.who.found.vm f.lands in
     let same : SameMachine w f.landed = same_by w f.landed _ landed (record { n = refl; vms = refl; harts = refl; guests = refl }) in
     same_by w u _ f.fenced (record { n = same.n; vms = same.vms; harts = same.harts; guests = same.guests })
 step_same steps.Map w u r e = same_by w u _ e (record { n = refl; vms = refl; harts = refl; guests = refl })
@@ -67,7 +67,7 @@ step_same (steps.PutE k) w u r makes = same_by w u _ makes.1 (word_same w (at Ne
 step_same (steps.Look k) w u r e = same_by w u w e (same_machine w)
 step_same steps.TakeT w u r makes = put_same w u r.passage.old Threshold 0 makes
 step_same steps.PutT w u r makes = put_same w u r.passage.new Threshold r.hand.threshold makes
-step_same steps.Post w u r makes = posts_same w u r.hand.seen r.passage.who.notice (r.passage.who.slot + 1) makes
+step_same steps.Post w u r makes = posts_same w u r.hand.seen r.passage.who.found.notice (r.passage.who.found.slot + 1) makes
 step_same steps.Wake w u r makes = put_same w u r.passage.new Delivery r.hand.delivery makes
 
 -- so who is moved and both places are of the fabric still

@@ -81,8 +81,8 @@ pub record Adds (words : ℕ) (was now : TwoSets) (x : ℕ) : Type 0 where
 pub record Seen (w u : World) (p : Passage) (hits : ends.Place → Bool) (offset value : ℕ) : Type 0 where
   pub rest : OnlyStores w u
   pub routes : routes_of u (moved p) ≡ routes_of w (moved p)
-  pub hit : (b : ends.Place) → IsFileThere w b → hits b ≡ true → Adds (width w) (sets_at w (at_of p.who.slot b)) (sets_at u (at_of p.who.slot b)) (asked offset value)
-  pub missed : (b : ends.Place) → IsFileThere w b → hits b ≡ false → sets_at u (at_of p.who.slot b) ≡ sets_at w (at_of p.who.slot b)
+  pub hit : (b : ends.Place) → IsFileThere w b → hits b ≡ true → Adds (width w) (sets_at w (at_of p.who.found.slot b)) (sets_at u (at_of p.who.found.slot b)) (asked offset value)
+  pub missed : (b : ends.Place) → IsFileThere w b → hits b ≡ false → sets_at u (at_of p.who.found.slot b) ≡ sets_at w (at_of p.who.found.slot b)
 
 abbrev pub file_hit : Spot → ends.Place → Bool
 file_hit spot (File b) = is_file_at b spot
@@ -94,14 +94,14 @@ slot_hit o q Slot = names o q
 
 module _ (w u : World) (p : Passage) (offset value : ℕ) (whole : IsWhole w) where
   abbrev q : ℕ
-  q = p.who.slot
+  q = p.who.found.slot
 
   pub seen_none : (hits : ends.Place → Bool) → ((b : ends.Place) → hits b ≡ false) → u ≡ w → Seen w u p hits offset value
   seen_none hits none e = record {
     rest = none_rest w u e;
     routes = ap (λ (x : World). routes_of x (moved p)) e;
     hit = λ b there led. let both = none b in absurd (cc);
-    missed = λ b there none. ap (λ (x : World). sets_at x (at_of p.who.slot b)) e;
+    missed = λ b there none. ap (λ (x : World). sets_at x (at_of p.who.found.slot b)) e;
   }
 
   few : w.n ≤ IDENTITIES
@@ -137,12 +137,12 @@ module _ (w u : World) (p : Passage) (offset value : ℕ) (whole : IsWhole w) wh
         enabled = stores.lands.lands.enabled;
       }
 
-      hit : (b : ends.Place) → IsFileThere w b → file_hit (spot_of a) b ≡ true → Adds (width w) (sets_at w (at_of p.who.slot b)) (sets_at u (at_of p.who.slot b)) (asked offset value)
+      hit : (b : ends.Place) → IsFileThere w b → file_hit (spot_of a) b ≡ true → Adds (width w) (sets_at w (at_of p.who.found.slot b)) (sets_at u (at_of p.who.found.slot b)) (asked offset value)
       hit Slot standing led = absurd (cc)
       hit (File b) standing led = subst (λ (x : Place). Adds (width w) (of_file (shown (file_at w.imsic (spot_of x)))) (of_file (shown (file_at u.imsic (spot_of x)))) (asked offset value)) (sym (same_place b a led)) here
 
-      missed : (b : ends.Place) → IsFileThere w b → file_hit (spot_of a) b ≡ false → sets_at u (at_of p.who.slot b) ≡ sets_at w (at_of p.who.slot b)
-      missed Slot standing none = ap (λ (x : World). of_slot (mrif_in x.memory p.who.slot)) one_state
+      missed : (b : ends.Place) → IsFileThere w b → file_hit (spot_of a) b ≡ false → sets_at u (at_of p.who.found.slot b) ≡ sets_at w (at_of p.who.found.slot b)
+      missed Slot standing none = ap (λ (x : World). of_slot (mrif_in x.memory p.who.found.slot)) one_state
       missed (File b) standing none = ap (λ (x : World). of_file (shown (file_at x.imsic (spot_of b)))) one_state ∙ ap (λ f. of_file (shown f)) (kept_elsewhere w.imsic (spot_of a) (spot_of b) (file_at u.imsic (spot_of a)) there standing (spots_apart b a none))
 
   no_file : (spot : Spot) → ((b : Place) → is_file_at b spot ≡ false) → (b : ends.Place) → file_hit spot b ≡ false
@@ -213,11 +213,11 @@ module _ (w u : World) (p : Passage) (offset value : ℕ) (whole : IsWhole w) wh
               enabled = λ i. ap (λ words. (mrif_in words s).enabled i) noticed.memory ∙ takes.enabled i;
             }
 
-        hit : (b : ends.Place) → IsFileThere w b → slot_hit (Some s) q b ≡ true → Adds (width w) (sets_at w (at_of p.who.slot b)) (sets_at u (at_of p.who.slot b)) (asked offset value)
+        hit : (b : ends.Place) → IsFileThere w b → slot_hit (Some s) q b ≡ true → Adds (width w) (sets_at w (at_of p.who.found.slot b)) (sets_at u (at_of p.who.found.slot b)) (asked offset value)
         hit (File b) standing led = absurd (cc)
         hit Slot standing led = subst (λ n. Adds (width w) (of_slot (mrif_in w.memory n)) (of_slot (mrif_in u.memory n)) (asked offset value)) (eqb-true s q led) here
 
-        missed : (b : ends.Place) → IsFileThere w b → slot_hit (Some s) q b ≡ false → sets_at u (at_of p.who.slot b) ≡ sets_at w (at_of p.who.slot b)
+        missed : (b : ends.Place) → IsFileThere w b → slot_hit (Some s) q b ≡ false → sets_at u (at_of p.who.found.slot b) ≡ sets_at w (at_of p.who.found.slot b)
         missed (File b) standing none = ap (λ f. of_file (shown f)) (noticed.files b standing)
         missed Slot standing none = ap (λ words. of_slot (mrif_in words q)) noticed.memory ∙ ap of_slot (other_slot_stays w.memory s q offset value (λ e. let same : nat_eq s q ≡ true = eq-eqb s q e in absurd (cc)))
 

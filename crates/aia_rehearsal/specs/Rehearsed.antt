@@ -52,7 +52,7 @@ from_to who old new = record {
 
 -- The virtual hart that is moved.
 abbrev pub moved : Passage → Vcpu
-moved p = vcpu p.who.vm p.who.number
+moved p = vcpu p.who.found.vm p.who.found.number
 
 -- The place on one of its sides.
 abbrev pub on : Side → Passage → ends.Place
@@ -65,7 +65,7 @@ at_of slot (File p) = ats.File (spot_of p)
 at_of slot Slot = ats.Slot slot
 
 abbrev pub at : Side → Passage → At
-at side p = at_of p.who.slot (on side p)
+at side p = at_of p.who.found.slot (on side p)
 
 -- The guest file that a place is, None where it is the slot: what the entry and the record name.
 abbrev pub file_of : ends.Place → Option Place

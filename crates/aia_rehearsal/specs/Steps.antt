@@ -32,11 +32,11 @@ Puts w u Slot reg v = u ≡ w
 -- place. A look reads the slot, and a post sends the notice where a look saw reason to.
 abbrev pub Makes : Step → Rehearsed → World → World → Type 0
 Makes Quiet r w u = Puts w u r.passage.old Delivery 0
-Makes Word1 r w u = u ≡ with_entry_word w r.passage.who.vm r.passage.who.number 1
-    (second_word r.passage.who.slot r.passage.who.notice)
-Makes Word0 r w u = u ≡ with_entry_word w r.passage.who.vm r.passage.who.number 0
-    (entry_word r.passage.who.slot (names_on New r.passage))
-Makes Fence r w u = Fences w u r.passage.who.vm r.passage.who.number
+Makes Word1 r w u = u ≡ with_entry_word w r.passage.who.found.vm r.passage.who.found.number 1
+    (second_word r.passage.who.found.slot r.passage.who.found.notice)
+Makes Word0 r w u = u ≡ with_entry_word w r.passage.who.found.vm r.passage.who.found.number 0
+    (entry_word r.passage.who.found.slot (names_on New r.passage))
+Makes Fence r w u = Fences w u r.passage.who.found.vm r.passage.who.found.number
 Makes Map r w u = u ≡ with_map w (moved r.passage) (names_on New r.passage)
 Makes Unmap r w u = u ≡ with_map w (moved r.passage) (names_on New r.passage)
 Makes Remap r w u = u ≡ with_map w (moved r.passage) (names_on New r.passage)
@@ -53,7 +53,7 @@ Makes (PutE k) r w u = (k < enable_words w (at New r.passage))
 Makes (Look k) r w u = u ≡ w
 Makes TakeT r w u = Puts w u r.passage.old Threshold 0
 Makes PutT r w u = Puts w u r.passage.new Threshold r.hand.threshold
-Makes Post r w u = PostsIf r.hand.seen w u r.passage.who.notice (r.passage.who.slot + 1)
+Makes Post r w u = PostsIf r.hand.seen w u r.passage.who.found.notice (r.passage.who.found.slot + 1)
 Makes Wake r w u = Puts w u r.passage.new Delivery r.hand.delivery
 
 -- What a register of a place that is a file reads; of a slot what is carried stays.
@@ -75,8 +75,8 @@ hand_after (TakeE k) r w = record r.hand { enables = enable_at w (at Old r.passa
 hand_after (PutE k) r w = record r.hand { enables = 0 }
 hand_after (Look k) r w = record r.hand {
   seen = r.hand.seen
-      || meets (pending_at w (ats.Slot r.passage.who.slot) k)
-      (enable_at w (ats.Slot r.passage.who.slot) k);
+      || meets (pending_at w (ats.Slot r.passage.who.found.slot) k)
+      (enable_at w (ats.Slot r.passage.who.found.slot) k);
 }
 hand_after TakeT r w =
     record r.hand { threshold = threshold_taken w r.passage.old r.hand.threshold }

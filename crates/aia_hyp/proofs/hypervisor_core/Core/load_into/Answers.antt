@@ -16,12 +16,12 @@ use Rattle.aia_model.specs.declared.part.Part.{Part}
 use Rattle.aia_model.specs.declared.part.Part.TheVariants as parts
 use Rattle.aia_model.specs.Image.{is_loadable, majors_loaded}
 use Rattle.aia_move.specs.declared.who.KeptNumbers.{KeptNumbers}
-use Rattle.aia_hyp.specs.declared.moves.Found.{Found}
+use Rattle.aia_fabric.specs.declared.found.Found.{Found}
 use Rattle.aia_hyp.specs.declared.vcpu.Stay.TheVariants as stays
 use Rattle.std.specs.Prelude.{slice_index_or, slice_set}
 use Rattle.aia_hyp.specs.Core.{CoreState, no_record, record_of, MajorsDone}
 use Rattle.aia_image.specs.Loads.{sets_loaded}
-use Rattle.aia_hyp.specs.Moves.{IsFound}
+use Rattle.aia_fabric.specs.Found.{IsFound}
 use Rattle.aia_hyp.specs.Stands.{CoreTakes}
 use Rattle.aia_hyp.proofs.EventLemmas.{still}
 use Rattle.aia_hyp.proofs.MoveCalls.{who_low}

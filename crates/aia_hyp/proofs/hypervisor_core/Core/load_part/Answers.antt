@@ -4,7 +4,7 @@ use Rattle.aia_model.specs.declared.answer.Answer.TheVariants.{Refused}
 use Rattle.aia_model.specs.declared.line.Line.TheVariants.{LoadPart}
 use Rattle.aia_model.specs.Image.{is_loadable}
 use Rattle.aia_hyp.specs.Core.{CoreState, parked_at}
-use Rattle.aia_hyp.specs.Moves.{IsFound}
+use Rattle.aia_fabric.specs.Found.{IsFound}
 use Rattle.aia_hyp.specs.Stands.{StandsForSome, CoreTakes}
 use Rattle.aia_hyp.proofs.MoveCalls.{who_low}
 use Rattle.aia_hyp.proofs.ImageLines.{no_vcpu_to_load, not_loadable, not_parked_to_load, found_stay}

@@ -18,7 +18,7 @@ use Rattle.aia_hyp.specs.Core.{CoreState, no_record, record_of}
 use Rattle.aia_hyp.specs.Memory.{file_in_memory, kept_after}
 use Rattle.aia_hyp.specs.Stands.{CoreTakes}
 use Rattle.aia_hyp.proofs.EventLemmas.{as_it_was, still}
-use Rattle.aia_hyp.proofs.GuestLookups.{reached, names, slot_low}
+use Rattle.aia_hyp.proofs.GuestLookups.{reached, names, slot_is, slot_low}
 use Rattle.aia_hyp.proofs.MemoryAccesses.{memory_record_done, memory_slot_done, sets_accessed, sets_value, number_accessed, number_value, top_accessed, memory_accessed, memory_virtual}
 use Rattle.aia_hyp.proofs.hypervisor_core.Core.memory_access.Goals.{After-access_select_in, After-access_kept_in, After-slot_reg, After-top_in}
 use Rattle.aia_hyp.proofs.hypervisor_core.Core.memory_access.Goals as goal
@@ -32,80 +32,80 @@ record IsAsked (x : CoreState) (g : Vcpu) (kept : KeptNumbers) : Type 0 where
 asked : (x y : CoreState) (g : Vcpu) (kept : KeptNumbers) → x ≡ y → IsAsked y g kept → IsAsked x g kept
 asked x y g kept e a = subst (λ (z : CoreState). IsAsked z g kept) (sym e) a
 
-select_taken : (c : After-access_select_in) → CoreTakes (record { world = c.self.inside.fabric; leases = c.self.inside.pool; vcpus = c.self.inside.vcpus.items; selects = c.self.inside.selects; passes = c.self.inside.passes }) (record { world = c.self.inside.fabric; leases = c.self.inside.pool; vcpus = c.access_select_in.new.vcpus.items; selects = c.self.inside.selects; passes = c.self.inside.passes }) (GuestCsr c.args.vm c.args.number c.args.csr c.args.op) (Wide c.access_select_in.result)
+select_taken : (c : After-access_select_in) → CoreTakes (record { world = c.self.inside.fabric; leases = c.self.inside.pool; vcpus = c.self.inside.vcpus.items; selects = c.self.inside.selects; passes = c.self.inside.passes }) (record { world = c.self.inside.fabric; leases = c.self.inside.pool; vcpus = c.access_select_in.new.vcpus.items; selects = c.self.inside.selects; passes = c.self.inside.passes }) (GuestCsr c.args.found.vm c.args.found.number c.args.csr c.args.op) (Wide c.access_select_in.result)
 select_taken c =
     let x : CoreState = record { world = c.self.inside.fabric; leases = c.self.inside.pool; vcpus = c.self.inside.vcpus.items; selects = c.self.inside.selects; passes = c.self.inside.passes } in
     let y : CoreState = record { world = c.self.inside.fabric; leases = c.self.inside.pool; vcpus = c.access_select_in.new.vcpus.items; selects = c.self.inside.selects; passes = c.self.inside.passes } in
-    let g = vcpu c.args.vm c.args.number in
-    let a = asked x c.args.self.now g c.args.kept c.self.view_is (record { there = c.requires.there; whole = c.requires.whole; at = c.requires.entered }) in
+    let g = vcpu c.args.found.vm c.args.found.number in
+    let a = asked x c.args.self.now g c.args.kept c.self.view_is (record { there = c.requires.found.there; whole = c.requires.whole; at = c.requires.entered }) in
     let table = reached x c.args.self.now g reaches.Select c.guest_reached.result c.args.csr c.args.op c.self.view_is c.in-Select.is c.guest_reached.ensures.table in
     let named = names x g reaches.Select c.args.csr c.args.op table in
-    let slot = c.slot_of-slot.ensures.value in
-    let low = slot_low x g c.slot_of-slot.result c.self.invariant.0 slot c.slot_of-slot.ensures.below in
+    let slot = slot_is x c.args.self.now c.args.found c.self.view_is c.requires.found in
+    let low = slot_low x c.args.self.now c.args.found c.self.view_is c.self.invariant.0 c.requires.found in
     let after = record (record_of x g) { select = select_written c.args.op (record_of x g).select } in
-    memory_accessed x y c.args.vm c.args.number c.args.csr csrs.Select c.args.op c.args.kept c.args.kept reaches.Select c.access_select_in.result a.whole a.there a.at table refl refl named
+    memory_accessed x y c.args.found.vm c.args.found.number c.args.csr csrs.Select c.args.op c.args.kept c.args.kept reaches.Select c.access_select_in.result a.whole a.there a.at table refl refl named
     (c.access_select_in.ensures.value ∙ ap (λ q. (get_or x.vcpus q no_record).select) slot)
     (memory_record_done x y g c.args.kept c.args.kept (Accesses csrs.Select c.args.op) refl refl refl refl low after
     (subst (λ q. y.vcpus ≡ set x.vcpus q (record (get_or x.vcpus q no_record) { select = select_written c.args.op (get_or x.vcpus q no_record).select })) slot c.access_select_in.ensures.after)
     a.at refl refl (as_it_was (file_in_memory x.world (slot_of x.world.vms g) c.args.kept))) tt
 
-number_taken : (c : After-access_kept_in) → CoreTakes (record { world = c.self.inside.fabric; leases = c.self.inside.pool; vcpus = c.self.inside.vcpus.items; selects = c.self.inside.selects; passes = c.self.inside.passes }) (record { world = c.self.inside.fabric; leases = c.self.inside.pool; vcpus = c.access_kept_in.new.vcpus.items; selects = c.self.inside.selects; passes = c.self.inside.passes }) (GuestCsr c.args.vm c.args.number c.args.csr c.args.op) (Wide c.access_kept_in.result)
+number_taken : (c : After-access_kept_in) → CoreTakes (record { world = c.self.inside.fabric; leases = c.self.inside.pool; vcpus = c.self.inside.vcpus.items; selects = c.self.inside.selects; passes = c.self.inside.passes }) (record { world = c.self.inside.fabric; leases = c.self.inside.pool; vcpus = c.access_kept_in.new.vcpus.items; selects = c.self.inside.selects; passes = c.self.inside.passes }) (GuestCsr c.args.found.vm c.args.found.number c.args.csr c.args.op) (Wide c.access_kept_in.result)
 number_taken c =
     let x : CoreState = record { world = c.self.inside.fabric; leases = c.self.inside.pool; vcpus = c.self.inside.vcpus.items; selects = c.self.inside.selects; passes = c.self.inside.passes } in
     let y : CoreState = record { world = c.self.inside.fabric; leases = c.self.inside.pool; vcpus = c.access_kept_in.new.vcpus.items; selects = c.self.inside.selects; passes = c.self.inside.passes } in
-    let g = vcpu c.args.vm c.args.number in
+    let g = vcpu c.args.found.vm c.args.found.number in
     let reg = c.in-File.reg in
     let op = c.args.op in
     let kept = c.args.kept in
     let modulus = 64 * c.from-modulus.result in
     let now = kept_after modulus reg op kept in
-    let a = asked x c.args.self.now g kept c.self.view_is (record { there = c.requires.there; whole = c.requires.whole; at = c.requires.entered }) in
+    let a = asked x c.args.self.now g kept c.self.view_is (record { there = c.requires.found.there; whole = c.requires.whole; at = c.requires.entered }) in
     let table = reached x c.args.self.now g (reaches.File reg) c.guest_reached.result c.args.csr op c.self.view_is c.in-File.is c.guest_reached.ensures.table in
     let named = names x g (reaches.File reg) c.args.csr op table in
-    let slot = c.slot_of-slot.ensures.value in
-    let low = slot_low x g c.slot_of-slot.result c.self.invariant.0 slot c.slot_of-slot.ensures.below in
+    let slot = slot_is x c.args.self.now c.args.found c.self.view_is c.requires.found in
+    let low = slot_low x c.args.self.now c.args.found c.self.view_is c.self.invariant.0 c.requires.found in
     let all : modulus ≡ x.world.n + 1 = ap (λ m. 64 * m) c.from-modulus.ensures ∙ c.words.ensures.all in
     let number = sym c.is_number.ensures ∙ c.if-is_number.true in
     let after = record (record_of x g) { stay = stays.Entered now } in
-    memory_accessed x y c.args.vm c.args.number c.args.csr csrs.Reg op kept now (reaches.File reg) c.access_kept_in.result a.whole a.there a.at table refl refl named.0
+    memory_accessed x y c.args.found.vm c.args.found.number c.args.csr csrs.Reg op kept now (reaches.File reg) c.access_kept_in.result a.whole a.there a.at table refl refl named.0
     (c.access_kept_in.ensures.value ∙ number_value x.world (slot_of x.world.vms g) kept reg number ∙ ap (register_value (file_in_memory x.world (slot_of x.world.vms g) kept)) (sym named.1))
     (memory_record_done x y g kept now (Accesses csrs.Reg op) refl refl refl refl low after
     (subst (λ q. y.vcpus ≡ set x.vcpus q (record (get_or x.vcpus q no_record) { stay = stays.Entered now })) slot c.access_kept_in.ensures.after)
     refl refl refl (subst (λ (r : FileReg). SameFile (file_in_memory x.world (slot_of x.world.vms g) now) (accessed r op (file_in_memory x.world (slot_of x.world.vms g) kept))) (sym named.1) (number_accessed x.world (slot_of x.world.vms g) modulus kept reg op number all))) tt
 
-sets_taken : (c : After-slot_reg) → CoreTakes (record { world = c.self.inside.fabric; leases = c.self.inside.pool; vcpus = c.self.inside.vcpus.items; selects = c.self.inside.selects; passes = c.self.inside.passes }) (record { world = c.slot_reg.new.self; leases = c.self.inside.pool; vcpus = c.self.inside.vcpus.items; selects = c.self.inside.selects; passes = c.self.inside.passes }) (GuestCsr c.args.vm c.args.number c.args.csr c.args.op) (Wide c.slot_reg.result)
+sets_taken : (c : After-slot_reg) → CoreTakes (record { world = c.self.inside.fabric; leases = c.self.inside.pool; vcpus = c.self.inside.vcpus.items; selects = c.self.inside.selects; passes = c.self.inside.passes }) (record { world = c.slot_reg.new.self; leases = c.self.inside.pool; vcpus = c.self.inside.vcpus.items; selects = c.self.inside.selects; passes = c.self.inside.passes }) (GuestCsr c.args.found.vm c.args.found.number c.args.csr c.args.op) (Wide c.slot_reg.result)
 sets_taken c =
     let x : CoreState = record { world = c.self.inside.fabric; leases = c.self.inside.pool; vcpus = c.self.inside.vcpus.items; selects = c.self.inside.selects; passes = c.self.inside.passes } in
     let y : CoreState = record { world = c.slot_reg.new.self; leases = c.self.inside.pool; vcpus = c.self.inside.vcpus.items; selects = c.self.inside.selects; passes = c.self.inside.passes } in
-    let g = vcpu c.args.vm c.args.number in
+    let g = vcpu c.args.found.vm c.args.found.number in
     let reg = c.in-File.reg in
     let op = c.args.op in
     let kept = c.args.kept in
     let q = slot_of x.world.vms g in
-    let a = asked x c.args.self.now g kept c.self.view_is (record { there = c.requires.there; whole = c.requires.whole; at = c.requires.entered }) in
+    let a = asked x c.args.self.now g kept c.self.view_is (record { there = c.requires.found.there; whole = c.requires.whole; at = c.requires.entered }) in
     let table = reached x c.args.self.now g (reaches.File reg) c.guest_reached.result c.args.csr op c.self.view_is c.in-File.is c.guest_reached.ensures.table in
     let named = names x g (reaches.File reg) c.args.csr op table in
     let sets = sym c.is_number.ensures ∙ c.if-is_number.false in
-    let done : DoneInSlot x.world y.world q 0 (accessed reg op) = subst (λ q. DoneInSlot x.world y.world q 0 (accessed reg op)) c.slot_of-slot.ensures.value c.slot_reg.ensures.done in
-    memory_accessed x y c.args.vm c.args.number c.args.csr csrs.Reg op kept kept (reaches.File reg) c.slot_reg.result a.whole a.there a.at table refl refl named.0
-    (c.slot_reg.ensures.value ∙ ap (λ q. register_value (file_of_slot x.world q 0) reg) c.slot_of-slot.ensures.value ∙ sets_value x.world q kept reg sets ∙ ap (register_value (file_in_memory x.world q kept)) (sym named.1))
+    let done : DoneInSlot x.world y.world q 0 (accessed reg op) = subst (λ q. DoneInSlot x.world y.world q 0 (accessed reg op)) (slot_is x c.args.self.now c.args.found c.self.view_is c.requires.found) c.slot_reg.ensures.done in
+    memory_accessed x y c.args.found.vm c.args.found.number c.args.csr csrs.Reg op kept kept (reaches.File reg) c.slot_reg.result a.whole a.there a.at table refl refl named.0
+    (c.slot_reg.ensures.value ∙ ap (λ q. register_value (file_of_slot x.world q 0) reg) (slot_is x c.args.self.now c.args.found c.self.view_is c.requires.found) ∙ sets_value x.world q kept reg sets ∙ ap (register_value (file_in_memory x.world q kept)) (sym named.1))
     (memory_slot_done x y g kept (Accesses csrs.Reg op) 0 (accessed reg op) done refl refl refl refl a.at refl
     (subst (λ (r : FileReg). SameFile (file_in_memory y.world q kept) (accessed r op (file_in_memory x.world q kept))) (sym named.1) (sets_accessed x.world y.world q kept reg op sets done))) tt
 
-top_taken : (c : After-top_in) → CoreTakes (record { world = c.self.inside.fabric; leases = c.self.inside.pool; vcpus = c.self.inside.vcpus.items; selects = c.self.inside.selects; passes = c.self.inside.passes }) (record { world = c.top_in.new.fabric; leases = c.self.inside.pool; vcpus = c.self.inside.vcpus.items; selects = c.self.inside.selects; passes = c.self.inside.passes }) (GuestCsr c.args.vm c.args.number c.args.csr c.args.op) (Wide c.top_in.result)
+top_taken : (c : After-top_in) → CoreTakes (record { world = c.self.inside.fabric; leases = c.self.inside.pool; vcpus = c.self.inside.vcpus.items; selects = c.self.inside.selects; passes = c.self.inside.passes }) (record { world = c.top_in.new.fabric; leases = c.self.inside.pool; vcpus = c.self.inside.vcpus.items; selects = c.self.inside.selects; passes = c.self.inside.passes }) (GuestCsr c.args.found.vm c.args.found.number c.args.csr c.args.op) (Wide c.top_in.result)
 top_taken c =
     let x : CoreState = record { world = c.self.inside.fabric; leases = c.self.inside.pool; vcpus = c.self.inside.vcpus.items; selects = c.self.inside.selects; passes = c.self.inside.passes } in
     let y : CoreState = record { world = c.top_in.new.fabric; leases = c.self.inside.pool; vcpus = c.self.inside.vcpus.items; selects = c.self.inside.selects; passes = c.self.inside.passes } in
-    let g = vcpu c.args.vm c.args.number in
+    let g = vcpu c.args.found.vm c.args.found.number in
     let op = c.args.op in
     let kept = c.args.kept in
     let q = slot_of x.world.vms g in
-    let a = asked x c.args.self.now g kept c.self.view_is (record { there = c.requires.there; whole = c.requires.whole; at = c.requires.entered }) in
+    let a = asked x c.args.self.now g kept c.self.view_is (record { there = c.requires.found.there; whole = c.requires.whole; at = c.requires.entered }) in
     let table = reached x c.args.self.now g reaches.Top c.guest_reached.result c.args.csr op c.self.view_is c.in-Top.is c.guest_reached.ensures.table in
     let named = names x g reaches.Top c.args.csr op table in
-    let done : DoneInSlot x.world y.world q kept.threshold (λ file. cond (is_writing op) (claimed file) file) = subst (λ q. DoneInSlot x.world y.world q kept.threshold (λ file. cond (is_writing op) (claimed file) file)) c.slot_of-slot.ensures.value c.top_in.ensures.done in
-    memory_accessed x y c.args.vm c.args.number c.args.csr csrs.Topei op kept kept reaches.Top c.top_in.result a.whole a.there a.at table refl refl named
-    (c.top_in.ensures.value ∙ ap (λ q. top_value (top_of (file_of_slot x.world q kept.threshold))) c.slot_of-slot.ensures.value)
+    let done : DoneInSlot x.world y.world q kept.threshold (λ file. cond (is_writing op) (claimed file) file) = subst (λ q. DoneInSlot x.world y.world q kept.threshold (λ file. cond (is_writing op) (claimed file) file)) (slot_is x c.args.self.now c.args.found c.self.view_is c.requires.found) c.top_in.ensures.done in
+    memory_accessed x y c.args.found.vm c.args.found.number c.args.csr csrs.Topei op kept kept reaches.Top c.top_in.result a.whole a.there a.at table refl refl named
+    (c.top_in.ensures.value ∙ ap (λ q. top_value (top_of (file_of_slot x.world q kept.threshold))) (slot_is x c.args.self.now c.args.found c.self.view_is c.requires.found))
     (memory_slot_done x y g kept (Accesses csrs.Topei op) kept.threshold (λ file. cond (is_writing op) (claimed file) file) done refl refl refl refl a.at refl
     (top_accessed x.world y.world q kept (is_writing op) done.done)) tt
 
@@ -134,4 +134,4 @@ pub returns-in-Top : goal.returns-in-Top
 returns-in-Top c = rw (← c.self.view_is) (top_taken c)
 
 pub returns-in-Virtual : goal.returns-in-Virtual
-returns-in-Virtual c = memory_virtual c.args.self.now c.args.vm c.args.number c.args.csr c.args.op c.args.kept c.requires.there c.requires.entered c.requires.listed (sym c.in-Virtual.is ∙ c.guest_reached.ensures.table)
+returns-in-Virtual c = memory_virtual c.args.self.now c.args.found.vm c.args.found.number c.args.csr c.args.op c.args.kept c.requires.found.there c.requires.entered c.requires.listed (sym c.in-Virtual.is ∙ c.guest_reached.ensures.table)

@@ -8,7 +8,7 @@ use Rattle.aia_model.specs.declared.line.Line.TheVariants.{Exit}
 use Rattle.aia_hyp.specs.declared.vcpu.Stay.TheVariants as stays
 use Rattle.aia_hyp.specs.Core.{CoreState, record_of}
 use Rattle.aia_hyp.specs.Memory.{with_stay}
-use Rattle.aia_hyp.specs.Moves.{IsFound}
+use Rattle.aia_fabric.specs.Found.{IsFound}
 use Rattle.aia_hyp.specs.Stands.{CoreTakes}
 use Rattle.aia_hyp.proofs.EventLemmas.{still}
 use Rattle.aia_hyp.proofs.RunLines.{exits, exit_is_loud, exit_is_quiet, live_top}

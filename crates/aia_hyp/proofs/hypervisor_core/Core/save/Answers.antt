@@ -9,7 +9,7 @@ use Rattle.aia_model.specs.Image.{part_of}
 use Rattle.aia_hyp.specs.declared.vcpu.Stay.TheVariants as stays
 use Rattle.aia_hyp.specs.Core.{CoreState, record_of, parked_at}
 use Rattle.aia_hyp.specs.Images.{state_in}
-use Rattle.aia_hyp.specs.Moves.{IsFound}
+use Rattle.aia_fabric.specs.Found.{IsFound}
 use Rattle.aia_hyp.specs.Stands.{StandsForSome, CoreTakes}
 use Rattle.aia_hyp.proofs.MoveCalls.{who_low}
 use Rattle.aia_hyp.proofs.ImageLines.{no_vcpu_to_save, no_such_part, not_parked_to_save, saves, found_few, found_stay, parked_is, small_number}

@@ -1,5 +1,6 @@
 use Rattle.std.proofs.Common.{◌≡◌, sym, subst, ◌∙◌}
-use Rattle.aia_hyp.specs.Moves.{IsFound, UnlessRefused}
+use Rattle.aia_fabric.specs.Found.{IsFound}
+use Rattle.aia_hyp.specs.Moves.{UnlessRefused}
 use Rattle.aia_home.specs.Vms.{vcpu}
 use Rattle.aia_model.specs.declared.line.Line.TheVariants.{Step}
 use Rattle.aia_model.specs.declared.refusal.Refusal.TheVariants.{Idle}

@@ -9,7 +9,8 @@ use Rattle.aia_move.specs.Targets.{next_aim}
 use Rattle.aia_model.specs.Event.{greatest_identity_of}
 use Rattle.aia_model.specs.Vms.{has_vcpu}
 use Rattle.aia_hyp.specs.Core.{CoreState, no_record, record_of, home_in}
-use Rattle.aia_hyp.specs.Moves.{IsFound, MoveGoes, is_finished}
+use Rattle.aia_fabric.specs.Found.{IsFound}
+use Rattle.aia_hyp.specs.Moves.{MoveGoes, is_finished}
 use Rattle.aia_hyp.proofs.BeginCore.{at_stay}
 use Rattle.aia_hyp.proofs.GuestLemmas.{few_identities}
 use Rattle.aia_hyp.proofs.OwnPasses.{are_passes, aims_so}

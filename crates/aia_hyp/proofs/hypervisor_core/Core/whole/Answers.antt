@@ -5,7 +5,8 @@ use Rattle.aia_model.specs.declared.refusal.Refusal.TheVariants as words
 use Rattle.aia_model.specs.Event.{History}
 use Rattle.aia_model.specs.Refusal.{refusal}
 use Rattle.aia_hyp.specs.Core.{CoreState}
-use Rattle.aia_hyp.specs.Moves.{IsFound, UnlessRefused, WholeAims, move_line}
+use Rattle.aia_fabric.specs.Found.{IsFound}
+use Rattle.aia_hyp.specs.Moves.{UnlessRefused, WholeAims, move_line}
 use Rattle.aia_hyp.specs.Stands.{StandsForSome, CoreStands, CoreTakes}
 use Rattle.aia_hyp.proofs.BeginCore.{no_move}
 use Rattle.aia_hyp.proofs.MoveWhole.{first_step, next_step, all_steps, all_aims, none_aims, refused_whole}

@@ -33,11 +33,11 @@ returns-in_default g c =
     let here : l.carrier.steps ≡ arrive_step 0 Fence = omega (arith, steps, c.done.ensures, phase) in
     let f = c.fence.ensures.fences in
     let at : is_at_fence c.args.self.now.home ≡ true = ap (λ (x : Moving). is_at_fence x.home) (sym c.self.view_is) ∙ eq-eqb l.carrier.steps (arrive_step 0 Fence) here in
-    let fences : Fences c.args.fabric.now c.fence.new.fabric c.args.self.now.who.vm c.args.self.now.who.number = subst (λ (x : Moving). Fences c.args.fabric.now c.fence.new.fabric x.who.vm x.who.number) c.self.view_is f in
+    let fences : Fences c.args.fabric.now c.fence.new.fabric c.args.self.now.who.found.vm c.args.self.now.who.found.number = subst (λ (x : Moving). Fences c.args.fabric.now c.fence.new.fabric x.who.found.vm x.who.found.number) c.self.view_is f in
     let first = all_first c.args.fabric.now c.fence.new.fabric c.args.self.now fences at in
     record {
       landed = fences.landed;
       first = first;
       then = step_before fences.landed c.fence.new.fabric m c.args.self.now (Arriving l.kind.file) c.fence.new.self Fence c.self.view_is (fits_still c.args.fabric.now fences.landed c.args.self.now first.same c.requires.fits) refl (record { has = refl; step = here })
-          (record { makes = subst (λ (x : Moving). c.fence.new.fabric ≡ with_fence fences.landed x.who.vm x.who.number) (sym c.self.view_is) fences.fenced; carrier = c.fence.ensures.carrier }) (omega (arith, here));
+          (record { makes = subst (λ (x : Moving). c.fence.new.fabric ≡ with_fence fences.landed x.who.found.vm x.who.found.number) (sym c.self.view_is) fences.fenced; carrier = c.fence.ensures.carrier }) (omega (arith, here));
     }

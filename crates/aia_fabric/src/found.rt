@@ -1,0 +1,13 @@
+/// A virtual hart that is there, with all by which it is reached: [`Fabric::find`](crate::Fabric)
+/// looks it up once.
+#[derive(Clone, Copy, Debug, PartialEq, Eq)]
+pub struct Found {
+    /// Its VM.
+    pub vm: u32,
+    /// Its number in the VM: that of its entry too.
+    pub number: u32,
+    /// Its number over all VMs: that of its slot of memory.
+    pub slot: u32,
+    /// The hart whose supervisor file takes its notices.
+    pub notice: u32,
+}
