@@ -29,13 +29,14 @@ use Rattle.aia_model.specs.Answer.{accepted_answer}
 use Rattle.aia_model.proofs.AnswerLemmas.{answered, arrive_refusal, leave_refusal, shift_refusal}
 use Rattle.aia_model.proofs.RefusalLemmas.{leave_allowed, arrive_allowed, shift_allowed}
 use Rattle.aia_hyp.specs.Passes.{own_passes}
-use Rattle.aia_hyp.specs.declared.moves.Want.{Want}
-use Rattle.aia_hyp.specs.declared.moves.Want.TheVariants as wants
+use Rattle.aia_model.specs.declared.want.Want.{Want}
+use Rattle.aia_model.specs.declared.want.Want.TheVariants as wants
 use Rattle.aia_hyp.specs.declared.vcpu.Stay.{Stay}
 use Rattle.aia_hyp.specs.declared.vcpu.Stay.TheVariants as stays
 use Rattle.aia_hyp.specs.declared.vcpu.VcpuRecord.{VcpuRecord}
 use Rattle.aia_hyp.specs.Core.{CoreState, no_record, record_of, home_in}
-use Rattle.aia_hyp.specs.Moves.{move_line, wanted_move, empty_hand, Refuses, BeginsIn, LeaveBegins, ArriveBegins, ShiftBegins, WantBegins, move_begun, MoveBegins}
+use Rattle.aia_model.specs.Move.{wanted_move}
+use Rattle.aia_hyp.specs.Moves.{empty_hand, Refuses, BeginsIn, LeaveBegins, ArriveBegins, ShiftBegins, WantBegins, move_begun, MoveBegins}
 use Rattle.aia_hyp.specs.Stands.{PlanStands, CoreStands, StandsForSome}
 use Rattle.aia_hyp.proofs.DeviceLemmas.{same_core}
 use Rattle.aia_hyp.proofs.LeaseLemmas.{same_free, free_there}
@@ -46,16 +47,16 @@ use Rattle.aia_hyp.proofs.BeginLines.{Given, home_at, leave_begun, arrive_begun,
 -- what is to be shown of a core that stands for a history
 abbrev pub Answered : CoreState → CoreState → History → ℕ → ℕ → Want → Answer → Type 0
 Answered x y h vm number want given =
-    (r : Option Answer) × (refusal h (move_line vm number want) ≡ r) × (given ≡ unwrap_or r Okay) × CoreStands y (move_begun r h (wanted_move (vcpu vm number) want)) × ((word : Answer) → r ≡ Some word → y ≡ x)
+    (r : Option Answer) × (refusal h (lines.Move vm number want) ≡ r) × (given ≡ unwrap_or r Okay) × CoreStands y (move_begun r h (wanted_move (vcpu vm number) want)) × ((word : Answer) → r ≡ Some word → y ≡ x)
 
-okay : (h : History) (vm number : ℕ) (want : Want) → accepted_answer h (move_line vm number want) ≡ Okay
+okay : (h : History) (vm number : ℕ) (want : Want) → accepted_answer h (lines.Move vm number want) ≡ Okay
 okay h vm number wants.Leave = refl
 okay h vm number (wants.Arrive hart) = refl
 okay h vm number (wants.Shift hart) = refl
 
 pub move_answered : (x y : CoreState) (vm number : ℕ) (want : Want) (given : Answer) → ((h : History) → CoreStands x h → Answered x y h vm number want given) → MoveBegins x y vm number want given
 move_answered x y vm number want given by = record {
-  answers = λ h stands. let r = by h stands in r.2 ∙ ap (unwrap_or r.0) (sym (okay h vm number want)) ∙ sym (answered h (move_line vm number want) r.0 r.1);
+  answers = λ h stands. let r = by h stands in r.2 ∙ ap (unwrap_or r.0) (sym (okay h vm number want)) ∙ sym (answered h (lines.Move vm number want) r.0 r.1);
   begins = λ h stands. let r = by h stands in subst (λ (o : Option Answer). CoreStands y (move_begun o h (wanted_move (vcpu vm number) want))) (sym r.1) r.3;
   unchanged = λ h word stands is. let r = by h stands in r.4 word (sym r.1 ∙ is);
 }
@@ -86,7 +87,7 @@ module _ (x y : CoreState) (who : Who) (given : Answer) (h : History) (stands : 
   put_back : (new : Stay) → Put x y who new → new ≡ (record_of x (vcpu who.vm who.vcpu)).stay → y.leases ≡ x.leases → y ≡ x
   put_back new p same leases = same_core x y p.world leases (p.vcpus ∙ ap (λ s. set x.vcpus (slot_of x.world.vms g) (at_stay (record_of x g) s)) same ∙ set-get_or x.vcpus (slot_of x.world.vms g) no_record) p.selects p.passes
 
-  refused : (want : Want) (word : Refusal) (new old : Stay) → Put x y who new → (record_of x (vcpu who.vm who.vcpu)).stay ≡ old → Refuses word old new x.leases y.leases given → refusal h (move_line who.vm who.vcpu want) ≡ Some (Refused word)
+  refused : (want : Want) (word : Refusal) (new old : Stay) → Put x y who new → (record_of x (vcpu who.vm who.vcpu)).stay ≡ old → Refuses word old new x.leases y.leases given → refusal h (lines.Move who.vm who.vcpu want) ≡ Some (Refused word)
       → Answered x y h who.vm who.vcpu want given
   refused want word new old p was r is =
       let same = put_back new p (r.1 ∙ sym was) r.2 in
@@ -113,7 +114,7 @@ module _ (x y : CoreState) (who : Who) (given : Answer) (h : History) (stands : 
   -- ---- a leave
 
   leave_refused : (new old : Stay) → Put x y who new → (record_of x (vcpu who.vm who.vcpu)).stay ≡ old
-      → refusal h (lines.Leave who.vm who.vcpu) ≡ cond (is_moving (home_in old)) (Some (Refused words.Busy)) (cond (rests_in_memory (home_in old)) (Some (Refused words.Parked)) None)
+      → refusal h (lines.Move who.vm who.vcpu wants.Leave) ≡ cond (is_moving (home_in old)) (Some (Refused words.Busy)) (cond (rests_in_memory (home_in old)) (Some (Refused words.Parked)) None)
   leave_refused new old p was =
       let inside = is_there new p in
       let there = home_at x h g old stands inside was in
@@ -141,7 +142,7 @@ module _ (x y : CoreState) (who : Who) (given : Answer) (h : History) (stands : 
   -- ---- an arrival
 
   arrive_refused : (new old : Stay) (hart : ℕ) (b : Bool) (o : Option ℕ) → Put x y who new → (record_of x (vcpu who.vm who.vcpu)).stay ≡ old → has_hart h hart ≡ b → free_file h (home h) hart ≡ o
-      → refusal h (lines.Arrive who.vm who.vcpu hart) ≡ cond (not b) (Some (Refused words.Range)) (cond (is_moving (home_in old)) (Some (Refused words.Busy)) (cond (is_resident (home_in old)) (Some (Refused words.Home)) (cond (is_entered (home_in old)) (Some (Refused words.Entered)) (cond (is_none o) (Some (Refused words.NoFile)) None))))
+      → refusal h (lines.Move who.vm who.vcpu (wants.Arrive hart)) ≡ cond (not b) (Some (Refused words.Range)) (cond (is_moving (home_in old)) (Some (Refused words.Busy)) (cond (is_resident (home_in old)) (Some (Refused words.Home)) (cond (is_entered (home_in old)) (Some (Refused words.Entered)) (cond (is_none o) (Some (Refused words.NoFile)) None))))
   arrive_refused new old hart b o p was on free =
       let inside = is_there new p in
       let there = home_at x h g old stands inside was in
@@ -187,7 +188,7 @@ module _ (x y : CoreState) (who : Who) (given : Answer) (h : History) (stands : 
   -- ---- a shift
 
   shift_refused : (new old : Stay) (hart : ℕ) (b : Bool) (o : Option ℕ) → Put x y who new → (record_of x (vcpu who.vm who.vcpu)).stay ≡ old → has_hart h hart ≡ b → free_file h (home h) hart ≡ o
-      → refusal h (lines.Shift who.vm who.vcpu hart) ≡ cond (not b) (Some (Refused words.Range)) (cond (is_moving (home_in old)) (Some (Refused words.Busy)) (cond (rests_in_memory (home_in old)) (Some (Refused words.Parked)) (cond (is_none o) (Some (Refused words.NoFile)) None)))
+      → refusal h (lines.Move who.vm who.vcpu (wants.Shift hart)) ≡ cond (not b) (Some (Refused words.Range)) (cond (is_moving (home_in old)) (Some (Refused words.Busy)) (cond (rests_in_memory (home_in old)) (Some (Refused words.Parked)) (cond (is_none o) (Some (Refused words.NoFile)) None)))
   shift_refused new old hart b o p was on free =
       let inside = is_there new p in
       let there = home_at x h g old stands inside was in
@@ -237,7 +238,7 @@ want_begins x y want who new given p b = move_answered x y who.vm who.vcpu want 
 
 -- ---- a virtual hart that isn't there
 
-no_one : (h : History) (vm number : ℕ) (want : Want) → has_machine h ≡ true → has_vcpu h (vcpu vm number) ≡ false → refusal h (move_line vm number want) ≡ Some (Refused words.Range)
+no_one : (h : History) (vm number : ℕ) (want : Want) → has_machine h ≡ true → has_vcpu h (vcpu vm number) ≡ false → refusal h (lines.Move vm number want) ≡ Some (Refused words.Range)
 no_one h vm number wants.Leave there none = leave_refusal h vm number there ∙ cond-true _ _ _ (ap not none)
 no_one h vm number (wants.Arrive hart) there none = arrive_refusal h vm number hart there ∙ cond-true _ _ _ (ap (λ b. not (b && has_hart h hart)) none)
 no_one h vm number (wants.Shift hart) there none = shift_refusal h vm number hart there ∙ cond-true _ _ _ (ap (λ b. not (b && has_hart h hart)) none)
@@ -252,7 +253,7 @@ no_move x vm number want none = move_answered x x vm number want (Refused words.
 ))
 
 -- it stands for some history still
-begun_happens : (word : Option Answer) (h : History) (vm number : ℕ) (want : Want) → refusal h (move_line vm number want) ≡ word → IsHistory h → IsHistory (move_begun word h (wanted_move (vcpu vm number) want))
+begun_happens : (word : Option Answer) (h : History) (vm number : ℕ) (want : Want) → refusal h (lines.Move vm number want) ≡ word → IsHistory h → IsHistory (move_begun word h (wanted_move (vcpu vm number) want))
 begun_happens None h vm number wants.Leave e good = let may = leave_allowed h vm number e in ((may.0, may.1, refl), good)
 begun_happens None h vm number (wants.Arrive hart) e good = let may = arrive_allowed h vm number hart e in ((may.0, may.1, may.4), good)
 begun_happens None h vm number (wants.Shift hart) e good = let may = shift_allowed h vm number hart e in ((may.0, may.1, may.4), good)
@@ -260,7 +261,7 @@ begun_happens (Some word) h vm number want e good = good
 
 pub begins_still : (x y : CoreState) (vm number : ℕ) (want : Want) (given : Answer) → MoveBegins x y vm number want given → StandsForSome x → StandsForSome y
 begins_still x y vm number want given begins some = record {
-  past = move_begun (refusal some.past (move_line vm number want)) some.past (wanted_move (vcpu vm number) want);
-  happens = begun_happens (refusal some.past (move_line vm number want)) some.past vm number want refl some.happens;
+  past = move_begun (refusal some.past (lines.Move vm number want)) some.past (wanted_move (vcpu vm number) want);
+  happens = begun_happens (refusal some.past (lines.Move vm number want)) some.past vm number want refl some.happens;
   stands = begins.begins some.past some.stands;
 }

@@ -35,7 +35,7 @@ use Rattle.std.specs.Option.{option_map_or}
 use Rattle.aia_model.specs.Event.Event.{Stepped}
 use Rattle.aia_model.specs.Vms.{vms_of, has_vcpu}
 use Rattle.aia_model.specs.HomeOf.{home}
-use Rattle.aia_hyp.specs.declared.moves.Want.{Want}
+use Rattle.aia_model.specs.declared.want.Want.{Want}
 use Rattle.aia_hyp.specs.declared.vcpu.Stay.{Stay}
 use Rattle.aia_hyp.specs.declared.vcpu.Stay.TheVariants as stays
 use Rattle.aia_hyp.specs.declared.vcpu.VcpuRecord.{VcpuRecord}

@@ -11,13 +11,14 @@ use Rattle.aia_home.specs.Plans.{is_at_last}
 use Rattle.aia_home.specs.Home.Home.{Parked, Entered, Resident, Leaving, Arriving, Shifting}
 use Rattle.aia_hyp.specs.declared.moves.Found.{Found}
 use Rattle.aia_move.specs.Move.{}
+use Rattle.aia_model.specs.declared.line.Line.TheVariants as lines
 use Rattle.aia_model.specs.declared.answer.Answer.{Answer}
 use Rattle.aia_model.specs.declared.answer.Answer.TheVariants.{Okay, Refused}
 use Rattle.aia_model.specs.declared.refusal.Refusal.{Refusal}
 use Rattle.aia_model.specs.declared.refusal.Refusal.TheVariants as words
 use Rattle.aia_model.specs.Event.{History, has_machine, has_hart, file_words}
 use Rattle.aia_model.specs.Event.Event.{Began}
-use Rattle.aia_model.specs.Move.{Move}
+use Rattle.aia_model.specs.Move.{Move, wanted_move}
 use Rattle.aia_model.specs.Move.Move.{Arrives, Leaves, Shifts}
 use Rattle.aia_model.specs.Vms.{has_vcpu}
 use Rattle.aia_model.specs.Passes.{passes_of, passes_for}
@@ -33,10 +34,10 @@ use Rattle.aia_model.proofs.FlightLemmas.{words_first, home_stepped, passes_step
 use Rattle.aia_model.specs.Answer.{answer, steps_taken, steps_of, line_taken, step_taken}
 use Rattle.aia_model.proofs.AnswerLemmas.{answered, arrive_refusal, leave_refusal, shift_refusal}
 use Rattle.aia_model.proofs.MoveLemmas.{home_step, is_itself}
-use Rattle.aia_hyp.specs.declared.moves.Want.{Want}
-use Rattle.aia_hyp.specs.declared.moves.Want.TheVariants as wants
+use Rattle.aia_model.specs.declared.want.Want.{Want}
+use Rattle.aia_model.specs.declared.want.Want.TheVariants as wants
 use Rattle.aia_hyp.specs.Core.{CoreState, record_of, home_in}
-use Rattle.aia_hyp.specs.Moves.{UnlessRefused, WholeAims, IsFound, move_line, wanted_move, move_begun, MoveBegins, MoveGoes}
+use Rattle.aia_hyp.specs.Moves.{UnlessRefused, WholeAims, IsFound, move_begun, MoveBegins, MoveGoes}
 use Rattle.aia_hyp.specs.Stands.{CoreStands, CoreTakes, StandsForSome, line_served}
 
 -- ---- histories
@@ -168,7 +169,7 @@ module _ (h : History) (vm number : ℕ) (machine : has_machine h ≡ true) wher
   abbrev its : Home
   its = home h (vcpu vm number)
 
-  leave_accepts : Okay ≡ unwrap_or (refusal h (move_line vm number wants.Leave)) Okay → Accepts h (refusal h (move_line vm number wants.Leave)) (Leaves (vcpu vm number)) (vcpu vm number)
+  leave_accepts : Okay ≡ unwrap_or (refusal h (lines.Move vm number wants.Leave)) Okay → Accepts h (refusal h (lines.Move vm number wants.Leave)) (Leaves (vcpu vm number)) (vcpu vm number)
   leave_accepts e =
       let is = leave_refusal h vm number machine in
       let range = passed (not (has_vcpu h (vcpu vm number))) words.Range _ (e ∙ ap (λ o. unwrap_or o Okay) is) in
@@ -179,7 +180,7 @@ module _ (h : History) (vm number : ℕ) (machine : has_machine h ≡ true) wher
         begun = leave_begun_at h (vcpu vm number) its refl busy.0 parked.0;
       }
 
-  arrive_accepts : (hart : ℕ) → Okay ≡ unwrap_or (refusal h (move_line vm number (wants.Arrive hart))) Okay → Accepts h (refusal h (move_line vm number (wants.Arrive hart))) (Arrives (vcpu vm number) hart) (vcpu vm number)
+  arrive_accepts : (hart : ℕ) → Okay ≡ unwrap_or (refusal h (lines.Move vm number (wants.Arrive hart))) Okay → Accepts h (refusal h (lines.Move vm number (wants.Arrive hart))) (Arrives (vcpu vm number) hart) (vcpu vm number)
   arrive_accepts hart e =
       let is = arrive_refusal h vm number hart machine in
       let range = passed (not (has_vcpu h (vcpu vm number) && has_hart h hart)) words.Range _ (e ∙ ap (λ o. unwrap_or o Okay) is) in
@@ -192,7 +193,7 @@ module _ (h : History) (vm number : ℕ) (machine : has_machine h ≡ true) wher
         begun = arrive_begun_at h (vcpu vm number) hart its (free_file h (home h) hart) refl refl busy.0 resident.0 waits.0 full.0;
       }
 
-  shift_accepts : (hart : ℕ) → Okay ≡ unwrap_or (refusal h (move_line vm number (wants.Shift hart))) Okay → Accepts h (refusal h (move_line vm number (wants.Shift hart))) (Shifts (vcpu vm number) hart) (vcpu vm number)
+  shift_accepts : (hart : ℕ) → Okay ≡ unwrap_or (refusal h (lines.Move vm number (wants.Shift hart))) Okay → Accepts h (refusal h (lines.Move vm number (wants.Shift hart))) (Shifts (vcpu vm number) hart) (vcpu vm number)
   shift_accepts hart e =
       let is = shift_refusal h vm number hart machine in
       let range = passed (not (has_vcpu h (vcpu vm number) && has_hart h hart)) words.Range _ (e ∙ ap (λ o. unwrap_or o Okay) is) in
@@ -204,12 +205,12 @@ module _ (h : History) (vm number : ℕ) (machine : has_machine h ≡ true) wher
         begun = shift_begun_at h (vcpu vm number) hart its (free_file h (home h) hart) refl refl busy.0 parked.0 full.0;
       }
 
-  answer_is : (want : Want) → answer h (move_line vm number want) ≡ unwrap_or (refusal h (move_line vm number want)) Okay
-  answer_is wants.Leave = answered h (move_line vm number wants.Leave) _ refl
-  answer_is (wants.Arrive hart) = answered h (move_line vm number (wants.Arrive hart)) _ refl
-  answer_is (wants.Shift hart) = answered h (move_line vm number (wants.Shift hart)) _ refl
+  answer_is : (want : Want) → answer h (lines.Move vm number want) ≡ unwrap_or (refusal h (lines.Move vm number want)) Okay
+  answer_is wants.Leave = answered h (lines.Move vm number wants.Leave) _ refl
+  answer_is (wants.Arrive hart) = answered h (lines.Move vm number (wants.Arrive hart)) _ refl
+  answer_is (wants.Shift hart) = answered h (lines.Move vm number (wants.Shift hart)) _ refl
 
-  pub okay_accepts : (want : Want) → Okay ≡ answer h (move_line vm number want) → Accepts h (refusal h (move_line vm number want)) (wanted_move (vcpu vm number) want) (vcpu vm number)
+  pub okay_accepts : (want : Want) → Okay ≡ answer h (lines.Move vm number want) → Accepts h (refusal h (lines.Move vm number want)) (wanted_move (vcpu vm number) want) (vcpu vm number)
   okay_accepts wants.Leave e = leave_accepts (e ∙ answer_is wants.Leave)
   okay_accepts (wants.Arrive hart) e = arrive_accepts hart (e ∙ answer_is (wants.Arrive hart))
   okay_accepts (wants.Shift hart) e = shift_accepts hart (e ∙ answer_is (wants.Shift hart))
@@ -218,7 +219,7 @@ module _ (h : History) (vm number : ℕ) (machine : has_machine h ≡ true) wher
 
 -- Some steps of the move are done, and it is not at its end; and each has aimed what it aims.
 pub record UnderWay {T : Type 0} (aim : T → ℕ → ℕ → T → Type 0) (now : CoreState) (told told_now : T) (h : History) (vm number : ℕ) (want : Want) : Type 0 where
-  pub accepted : refusal h (move_line vm number want) ≡ None
+  pub accepted : refusal h (lines.Move vm number want) ≡ None
   pub steps : ℕ
   pub stands : CoreStands now (steps_taken steps (vcpu vm number) (Began (wanted_move (vcpu vm number) want) ∷ h))
   pub is_at : IsAt (wanted_move (vcpu vm number) want) (passes_for h (vcpu vm number)) steps (home (steps_taken steps (vcpu vm number) (Began (wanted_move (vcpu vm number) want) ∷ h)) (vcpu vm number))
@@ -276,7 +277,7 @@ next_step {T} aim told told_now told_later old now later who want so_far goes ai
 
 -- ---- the end
 
-whole_line : (h : History) (vm number : ℕ) (want : Want) → line_taken h (move_line vm number want) ≡ steps_taken (steps_of (file_words h) (wanted_move (vcpu vm number) want) + passes_for h (vcpu vm number)) (vcpu vm number) (Began (wanted_move (vcpu vm number) want) ∷ h)
+whole_line : (h : History) (vm number : ℕ) (want : Want) → line_taken h (lines.Move vm number want) ≡ steps_taken (steps_of (file_words h) (wanted_move (vcpu vm number) want) + passes_for h (vcpu vm number)) (vcpu vm number) (Began (wanted_move (vcpu vm number) want) ∷ h)
 whole_line h vm number wants.Leave = refl
 whole_line h vm number (wants.Arrive hart) = refl
 whole_line h vm number (wants.Shift hart) = refl
@@ -295,10 +296,10 @@ full_count {T} aim told told_now now later h who want goes u =
     let words = ap (λ w. steps_of w move) (same_width u.steps g begun) in
     omega (arith, full, words)
 
-pub all_steps : {T : Type 0} (aim : T → ℕ → ℕ → T → Type 0) (told told_now : T) (old now later : CoreState) (who : Found) (want : Want) → SoFar aim old now told told_now who want → MoveGoes now later (vcpu who.vm who.vcpu) true → CoreTakes old later (move_line who.vm who.vcpu want) Okay
+pub all_steps : {T : Type 0} (aim : T → ℕ → ℕ → T → Type 0) (told told_now : T) (old now later : CoreState) (who : Found) (want : Want) → SoFar aim old now told told_now who want → MoveGoes now later (vcpu who.vm who.vcpu) true → CoreTakes old later (lines.Move who.vm who.vcpu want) Okay
 all_steps {T} aim told told_now old now later who want so_far goes =
     let g = vcpu who.vm who.vcpu in
-    let line = move_line who.vm who.vcpu want in
+    let line = lines.Move who.vm who.vcpu want in
     let move = wanted_move g want in
     record {
       answers = λ h stands. let u = so_far.under h stands in ap (λ o. unwrap_or o Okay) (sym u.accepted) ∙ sym (answer_is h who.vm who.vcpu stands.there want);
@@ -314,7 +315,7 @@ all_steps {T} aim told told_now old now later who want so_far goes =
 -- and all is aimed that they aim
 pub all_aims : {T : Type 0} (aim : T → ℕ → ℕ → T → Type 0) (told told_now told_later : T) (old now later : CoreState) (who : Found) (want : Want) → SoFar aim old now told told_now who want → MoveGoes now later (vcpu who.vm who.vcpu) true
     → ((h : History) → CoreStands now h → AimsBy aim (aimed_by h (Stepped (vcpu who.vm who.vcpu))) told_now told_later) → (h : History) → CoreStands old h
-    → UnlessRefused (refusal h (move_line who.vm who.vcpu want)) (WholeAims aim h who.vm who.vcpu want told told_later) (told_later ≡ told)
+    → UnlessRefused (refusal h (lines.Move who.vm who.vcpu want)) (WholeAims aim h who.vm who.vcpu want told told_later) (told_later ≡ told)
 all_aims {T} aim told told_now told_later old now later who want so_far goes aims h stands =
     let g = vcpu who.vm who.vcpu in
     let u = so_far.under h stands in
@@ -325,25 +326,25 @@ all_aims {T} aim told told_now told_later old now later who want so_far goes aim
 
 -- ---- it is refused
 
-pub refused_whole : (x y : CoreState) (vm number : ℕ) (want : Want) (word : Refusal) → MoveBegins x y vm number want (Refused word) → CoreTakes x y (move_line vm number want) (Refused word)
+pub refused_whole : (x y : CoreState) (vm number : ℕ) (want : Want) (word : Refusal) → MoveBegins x y vm number want (Refused word) → CoreTakes x y (lines.Move vm number want) (Refused word)
 refused_whole x y vm number want word begins = record {
   answers = begins.answers;
-  stands = λ h stands. by_refusal h stands (refusal h (move_line vm number want)) refl;
+  stands = λ h stands. by_refusal h stands (refusal h (lines.Move vm number want)) refl;
   unchanged = begins.unchanged;
 }
   where
-    by_refusal : (h : History) → CoreStands x h → (r : Option Answer) → refusal h (move_line vm number want) ≡ r → CoreStands y (line_served (refusal h (move_line vm number want)) h (move_line vm number want))
+    by_refusal : (h : History) → CoreStands x h → (r : Option Answer) → refusal h (lines.Move vm number want) ≡ r → CoreStands y (line_served (refusal h (lines.Move vm number want)) h (lines.Move vm number want))
     by_refusal h stands None e =
         let bad : Refused word ≡ Okay = begins.answers h stands ∙ answer_is h vm number stands.there want ∙ ap (λ o. unwrap_or o Okay) e in absurd (cc)
     by_refusal h stands (Some w) e =
-        subst (λ (o : Option Answer). CoreStands y (line_served o h (move_line vm number want))) (sym e) (subst (λ (o : Option Answer). CoreStands y (move_begun o h (wanted_move (vcpu vm number) want))) e (begins.begins h stands))
+        subst (λ (o : Option Answer). CoreStands y (line_served o h (lines.Move vm number want))) (sym e) (subst (λ (o : Option Answer). CoreStands y (move_begun o h (wanted_move (vcpu vm number) want))) e (begins.begins h stands))
 
 -- and nothing is aimed
 pub none_aims : {T : Type 0} (aim : T → ℕ → ℕ → T → Type 0) (told : T) (x y : CoreState) (vm number : ℕ) (want : Want) (word : Refusal) → MoveBegins x y vm number want (Refused word) → (h : History) → CoreStands x h
-    → UnlessRefused (refusal h (move_line vm number want)) (WholeAims aim h vm number want told told) (told ≡ told)
-none_aims {T} aim told x y vm number want word begins h stands = by_refusal (refusal h (move_line vm number want)) refl
+    → UnlessRefused (refusal h (lines.Move vm number want)) (WholeAims aim h vm number want told told) (told ≡ told)
+none_aims {T} aim told x y vm number want word begins h stands = by_refusal (refusal h (lines.Move vm number want)) refl
   where
-    by_refusal : (r : Option Answer) → refusal h (move_line vm number want) ≡ r → UnlessRefused (refusal h (move_line vm number want)) (WholeAims aim h vm number want told told) (told ≡ told)
+    by_refusal : (r : Option Answer) → refusal h (lines.Move vm number want) ≡ r → UnlessRefused (refusal h (lines.Move vm number want)) (WholeAims aim h vm number want told told) (told ≡ told)
     by_refusal None e =
         let bad : Refused word ≡ Okay = begins.answers h stands ∙ answer_is h vm number stands.there want ∙ ap (λ o. unwrap_or o Okay) e in absurd (cc)
     by_refusal (Some w) e = subst (λ (o : Option Answer). UnlessRefused o (WholeAims aim h vm number want told told) (told ≡ told)) (sym e) refl

@@ -24,6 +24,7 @@ use Rattle.aia_move.specs.declared.plan.Plan.TheVariants.{LeaveDrain}
 use Rattle.aia_move.specs.Move.{Moving}
 use Rattle.aia_model.specs.declared.line.Line.{Line}
 use Rattle.aia_model.specs.declared.line.Line.TheVariants as lines
+use Rattle.aia_model.specs.declared.want.Want.TheVariants as wants
 use Rattle.aia_model.specs.Move.Move.{Arrives, Leaves}
 use Rattle.aia_model.specs.Move.{Move, mover}
 use Rattle.aia_model.specs.Event.{History, file_words}
@@ -108,12 +109,12 @@ leaving_history = stepped_on steps_so_far leaver (Began (Leaves leaver) ∷ befo
 
 -- The lines that lead to it: up to the move that is under way, and those of that move.
 abbrev pub earlier_lines : List Line
-earlier_lines = made_lines ++ lines.Arrive 0 0 0 ∷ lines.Arrive 0 1 0
+earlier_lines = made_lines ++ lines.Move 0 0 (wants.Arrive 0) ∷ lines.Move 0 1 (wants.Arrive 0)
     ∷ guest_write Select 0x70 ∷ guest_write Reg 1
     ∷ guest_write Select 0xc0 ∷ guest_write Reg 2 ∷ lines.Ipi 0 0 1 1 ∷ []
 
 abbrev pub leave_lines : List Line
-leave_lines = lines.BeginLeave 0 1 ∷ replicate steps_so_far (lines.Step 0 1)
+leave_lines = lines.Begin 0 1 wants.Leave ∷ replicate steps_so_far (lines.Step 0 1)
 
 -- ---- the core then
 

@@ -16,6 +16,5 @@ mod peers;
 mod signals;
 mod vcpu;
 
-pub use aia_model::Refusal;
+pub use aia_model::{Refusal, Want};
 pub use hyp::Hyp;
-pub use moves::Want;

@@ -4,6 +4,7 @@ ghost use Rattle.aia_home.specs.Vms.{vcpu, is_vcpu_in};
 ghost use Rattle.aia_home.specs.Home.{is_moving};
 ghost use Rattle.aia_pool.specs.Leases.{Leases};
 ghost use Rattle.aia_model.specs.declared.line.Line.TheVariants.{Step};
+ghost use Rattle.aia_model.specs.declared.line.Line.TheVariants as lines;
 ghost use Rattle.aia_model.specs.declared.answer.Answer.TheVariants.{Okay};
 ghost use Rattle.aia_move.specs.Move.{IsWho};
 ghost use Rattle.aia_move.specs.Plan.{moving_of};
@@ -14,26 +15,15 @@ ghost use Rattle.aia_model.specs.Refusal.{refusal};
 ghost use Rattle.aia_hyp.specs.Core.{no_kept, no_record, record_of, home_in, has_plan};
 ghost use Rattle.aia_hyp.specs.Passes.{own_passes, AimsBy};
 ghost use Rattle.aia_hyp.specs.Stands.{CoreStands, CoreTakes, answer_by};
-ghost use Rattle.aia_hyp.specs.Moves.{IsFound, UnlessRefused, WholeAims, move_line, begin_line, step_answer, MakesOne, WantBegins, LeaveBegins, ArriveBegins, ShiftBegins, MoveBegins, MoveGoes, stay_after, back_of, with_back, IsOutThere, stay_then, back_then, is_finished};
+ghost use Rattle.aia_hyp.specs.Moves.{IsFound, UnlessRefused, WholeAims, step_answer, MakesOne, WantBegins, LeaveBegins, ArriveBegins, ShiftBegins, MoveBegins, MoveGoes, stay_after, back_of, with_back, IsOutThere, stay_then, back_then, is_finished};
 
 use crate::hyp::Hyp;
 use crate::passes::Passes;
 use crate::vcpu::{Stay, VcpuRecord};
 use aia_fabric::Fabric;
-use aia_model::Refusal;
+use aia_model::{Refusal, Want};
 use aia_move::{Kept, Next, Outcome, Plan, Targets, Who};
 use aia_pool::Pool;
-
-/// A move that is wanted of a virtual hart.
-#[derive(Clone, Copy, Debug, PartialEq, Eq)]
-pub enum Want {
-    /// From its guest file to memory.
-    Leave,
-    /// From memory to a guest file of this hart.
-    Arrive(u64),
-    /// From its guest file to one of this hart.
-    Shift(u64),
-}
 
 /// A virtual hart that is there.
 #[derive(Clone, Copy, Debug, PartialEq, Eq)]
@@ -63,10 +53,10 @@ impl Hyp {
         targets: &mut T,
     ) -> Result<(), Refusal>
         requires { self.old.world.imsic.harts ≡ (T.map targets.old).harts }
-        ensures takes { CoreTakes self.old self.new (move_line vm number want)
+        ensures takes { CoreTakes self.old self.new (lines.Move vm number want)
             (answer_by (λ _. Okay) result) }
         ensures aims { (h : History) → CoreStands self.old h
-            → UnlessRefused (refusal h (move_line vm number want))
+            → UnlessRefused (refusal h (lines.Move vm number want))
             (WholeAims T.aimed h vm number want targets.old targets.new)
             (targets.new ≡ targets.old) }
     {
@@ -81,7 +71,7 @@ impl Hyp {
     /// Begins to move a virtual hart, and does no step of the move. `Err` is as of
     /// [`Hyp::whole`]; nothing is changed then. Profile.
     pub fn begin(&mut self, vm: u64, number: u64, want: Want) -> Result<(), Refusal>
-        ensures { CoreTakes self.old self.new (begin_line vm number want)
+        ensures { CoreTakes self.old self.new (lines.Begin vm number want)
             (answer_by (λ _. Okay) result) }
     {
         let Some(found) = find(&self.fabric, vm, number) else {

@@ -12,7 +12,6 @@ ghost use Rattle.aia_model.specs.Act.Act.{Made};
 ghost use Rattle.aia_model.specs.Refusal.{is_machine_size};
 ghost use Rattle.aia_hyp.specs.HostFiles.{IsHost, csr_line};
 ghost use Rattle.aia_hyp.specs.Stands.{answer_by};
-ghost use Rattle.aia_hyp.specs.Moves.{move_line, begin_line};
 ghost use Rattle.aia_aplic.specs.Aplic.{domain_name};
 ghost use Rattle.aia_replay.specs.Stands.{MachineHolds, MachineStands, StandsForSome, CanDeliverSome, MachineTakes, MachineServes, Delivers};
 ghost use Rattle.aia_aplic.specs.Aplic.{AplicStands};
@@ -24,7 +23,7 @@ ghost use Rattle.aia_regs.specs.declared.limits.TheConstants.{SOURCES};
 use crate::wires::Wires;
 use aia_aplic::Aplic;
 use aia_entry::decode;
-use aia_hyp::{Hyp, Want};
+use aia_hyp::Hyp;
 use aia_model::{Answer, Line, Part, Refusal};
 use aia_regs::address_map::{REGION, ROOT_DOMAIN};
 use aia_regs::limits::{GUEST_FILES, HARTS, IDENTITIES, SOURCES};
@@ -116,12 +115,8 @@ impl Machine {
                 to,
                 value,
             } => self.ipi(vm, vcpu, to, value),
-            Line::Arrive { vm, vcpu, hart } => self.whole_move(vm, vcpu, Want::Arrive(hart)),
-            Line::Leave { vm, vcpu } => self.whole_move(vm, vcpu, Want::Leave),
-            Line::Shift { vm, vcpu, hart } => self.whole_move(vm, vcpu, Want::Shift(hart)),
-            Line::BeginArrive { vm, vcpu, hart } => self.begin_move(vm, vcpu, Want::Arrive(hart)),
-            Line::BeginLeave { vm, vcpu } => self.begin_move(vm, vcpu, Want::Leave),
-            Line::BeginShift { vm, vcpu, hart } => self.begin_move(vm, vcpu, Want::Shift(hart)),
+            Line::Move { vm, vcpu, want } => self.whole_move(vm, vcpu, want),
+            Line::Begin { vm, vcpu, want } => self.begin_move(vm, vcpu, want),
             Line::Step { vm, vcpu } => self.step(vm, vcpu),
             Line::Enter { vm, vcpu } => self.enter(vm, vcpu),
             Line::Exit { vm, vcpu } => self.exit(vm, vcpu),
@@ -223,14 +218,14 @@ impl Machine {
     /// Moves a virtual hart, by all steps of its move.
     fn whole_move(&mut self, vm: u64, vcpu: u64, want: Want) -> Answer
         requires { StandsForSome self.old }
-        ensures { MachineTakes self.old self.new (move_line vm vcpu want) result }
+        ensures { MachineTakes self.old self.new (Line.Move vm vcpu want) result }
     {
         okay(self.core.whole(vm, vcpu, want, &mut self.wires))
     }
 
     /// Begins to move a virtual hart.
     fn begin_move(&mut self, vm: u64, vcpu: u64, want: Want) -> Answer
-        ensures { MachineTakes self.old self.new (begin_line vm vcpu want) result }
+        ensures { MachineTakes self.old self.new (Line.Begin vm vcpu want) result }
     {
         okay(self.core.begin(vm, vcpu, want))
     }
