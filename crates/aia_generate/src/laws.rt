@@ -3,6 +3,7 @@
 
 ghost use Rattle.std.specs.Prelude.{◌≡◌, ℕ, ◌+◌, ◌*◌, ◌/◌, ◌^◌, ◌<◌, ◌≤◌, List, [], length, Some, slice_get, codes};
 ghost use Rattle.aia_model.specs.declared.line.Line.{Line};
+ghost use Rattle.aia_model.specs.declared.want.Want.{Want};
 ghost use Rattle.aia_model.specs.Answer.{after_lines};
 ghost use Rattle.aia_model.specs.Notice.{notices_sent};
 ghost use Rattle.aia_generate.specs.Generated.{next_number, line_drawn, line_at, generated};

@@ -18,7 +18,7 @@ use Rattle.aia_model.specs.declared.part.Part.TheVariants as parts
 use Rattle.aia_model.specs.declared.parsed.Parsed.TheVariants as parsed
 use Rattle.aia_model.specs.declared.answer.Answer.TheVariants as answers
 use Rattle.aia_model.specs.Event.{History, has_machine, greatest_identity_of, file_words}
-use Rattle.aia_model.specs.Grammar.{part_fields, IsListed}
+use Rattle.aia_model.specs.Forms.{part_fields, IsListed}
 use Rattle.aia_model.specs.AnswerText.{part_text}
 use Rattle.aia_model.specs.Printing.{line_text, FitsField}
 use Rattle.aia_model.specs.Reading.{reading}
