@@ -50,17 +50,56 @@ def differ(where, stands, wanted):
         yield f"{where} has {name}, which the tree does not have"
 
 
-def form(right):
-    """Gives a form of line as its words, `#` for a number, INS for a CSR instruction, PART for a part
-    of an image."""
-    found = []
-    for word, number, part in re.findall(
-        r'Keyword \(codes "(\w+)"\)|\b(Decimal32|Decimal|Hex16|Hex32|Hex|Bit) \w+'
-        r"|(?:instruction \(|(part_fields) )",
-        right,
-    ):
-        found.append(word or ("#" if number else "PART" if part else "INS"))
-    return " ".join(found)
+# What shapes say that stands for more than a word.
+NAMED = {"instruction": "INS", "part_shape": "PART"}
+
+
+def shape_of(tokens):
+    """Reads a shape of the table of forms off the front of tokens: the texts that it has, `#` for a
+    number, CSR for a name of a CSR, INS for a CSR instruction, PART for a part of an image."""
+    first = tokens.pop(0)
+    if first == "(":
+        inner = shape_of(tokens)
+        tokens.pop(0)
+        return inner
+    if first in ("Either", "Only"):
+        word = re.search(r'"(\w+)"', tokens.pop(0)).group(1)
+        rest = [f"{word} {text}".strip() for text in shape_of(tokens)]
+        return rest + (shape_of(tokens) if first == "Either" else [])
+    if first == "End":
+        return [""]
+    if first in NAMED:
+        if first == "instruction":
+            tokens.pop(0)
+        return [NAMED[first]]
+    if first == "move_shape":
+        return shapes("move_shape")
+    if first == "Name":
+        tokens.pop(0)
+    tokens.pop(0)  # the sign between a word and what follows it
+    word = "CSR" if first == "Name" else "#"
+    return [f"{word} {text}".strip() for text in shape_of(tokens)]
+
+
+def tokens_of(text):
+    """Cuts a text of the table into what it is made of."""
+    return re.findall(r'\(codes "\w+"\)|[()&]|[\w.]+', text)
+
+
+def shapes(name):
+    """Lists the texts of a shape that has a name in the table."""
+    return shape_of(tokens_of(clauses("aia_model", "Forms", name)[0][1]))
+
+
+def all_forms():
+    """Lists the texts of all forms, in the order of the table."""
+    for name in re.findall(r"\w+", clauses("aia_model", "Forms", "forms")[0][1]):
+        right = clauses("aia_model", "Forms", name)[0][1]
+        keyword, rest = re.match(r'\s*form \(codes "(\w+)"\)\s*(.*)', right, re.S).groups()
+        table = tokens_of(rest)
+        table = ["("] + table + [")"] if table[0] != "(" else table
+        for text in shape_of(table):
+            yield f"{keyword} {text}".strip()
 
 
 def number_or(word):
@@ -71,35 +110,31 @@ def number_or(word):
 
 
 def lines():
-    """Compares the forms of lines with the table `fields_of`, and the CSRs of each level."""
-    wanted = [form(right) for _, right in clauses("aia_model", "Grammar", "fields_of")]
+    """Compares the forms of lines with the table of them, and the CSRs of each level."""
     stands, told = [], {}
     for cells in rows(section(REFERENCE, "Lines")):
         for text in ticked(cells[0]):
             stands.append(" ".join(number_or(word) for word in text.split()))
             told[text] = ticked(cells[1])
-    yield from differ(f"{REFERENCE}, Lines,", stands, wanted)
+    yield from differ(f"{REFERENCE}, Lines,", stands, list(all_forms()))
     levels = {"levels.Machine": "m H INS", "levels.Host": "h H INS", "levels.Guest": "g VM C INS"}
     for level, right in clauses("aia_model", "Grammar", "csr_names"):
         names = re.findall(r'codes "(\w+)"', right)
         row = levels[level.strip()]
         yield from differ(f"{REFERENCE}, Lines, {row},", told.get(row, []), names)
-    spelled = [form(right.replace("csr ∷", 'Keyword (codes "CSR") ∷'))
-               for _, right in clauses("aia_model", "Grammar", "instruction")]
     said = re.search(r"(?s)^INS is (.*?)\. ", section(REFERENCE, "Lines"), re.M)
     got = [text.replace(" V", " #") for text in ticked(said.group(1) if said else "")]
-    yield from differ(f"{REFERENCE}, INS,", got, spelled)
-    parts = [form(right) for _, right in clauses("aia_model", "Grammar", "part_fields")]
+    yield from differ(f"{REFERENCE}, INS,", got, shapes("instruction"))
     shown_ = [ticked(cells[1])[0] for cells in rows(section(REFERENCE, "Images"))]
     got = [" ".join(number_or(word) for word in text.split()) for text in shown_]
-    yield from differ(f"{REFERENCE}, Images, the parts,", got, parts)
+    yield from differ(f"{REFERENCE}, Images, the parts,", got, shapes("part_shape"))
 
 
 def answers():
     """Compares the answers with their spellings, and the refusals with their order."""
     first = {}
-    for pattern, right in clauses("aia_model", "Grammar", "part_fields"):
-        first[("part_fields", pattern)] = form(right).split()[0]
+    for text in shapes("part_shape"):
+        first[("part_shape", text)] = text.split()[0]
     for name in ("answer_word", "refusal_word", "entry_text"):
         for pattern, right in clauses("aia_model", "AnswerText", name):
             if match := re.match(r'codes "(\w+)', right):

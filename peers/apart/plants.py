@@ -337,8 +337,8 @@ def a_move_clears_the_delivery():
 
 @planted
 def a_leave_needs_no_word_1():
-    moves.BEFORE_WORDS[LEAVING] = ("TakeDelivery", "WriteEntry", "Fence", "WriteStage",
-                                   "FenceStage")
+    moves.BEFORE_WORDS[LEAVING] = ("TakeDelivery", "WriteEntry", "Fence", "Map",
+                                   "GFence")
 
 
 # Passes.

@@ -9,14 +9,14 @@ ghost use Rattle.aia_model.specs.Sent.{msi_of};
 ghost use Rattle.aia_domain.specs.Domain.{is_ready};
 ghost use Rattle.aia_home.specs.Aims.{target_of};
 ghost use Rattle.aia_model.specs.SourceOf.{harts_in, sources_in, register_read, is_signalled};
-ghost use Rattle.aia_aplic.specs.Aplic.{AplicStands, IsNewAplic, side, domain_name};
-ghost use Rattle.aia_aplic.specs.Passing.{is_passable_source, with_aim, hart_count, is_passable_in, AimsIn};
-ghost use Rattle.aia_aplic.specs.Sending.{IsFirstSource, IsFirst, IsBySource, asks_by_genmsi, does_wait, waiting, Next};
-ghost use Rattle.aia_aplic.specs.Bits.{AreSources, source_sender};
+ghost use Rattle.aia_wiring.specs.Aplic.{AplicStands, IsNewAplic, side};
+ghost use Rattle.aia_wiring.specs.Passing.{is_passable_source, with_aim, hart_count, is_passable_in, AimsIn};
+ghost use Rattle.aia_wiring.specs.Sending.{IsFirst, IsBySource, asks_by_genmsi, does_wait, waiting, Next};
+ghost use Rattle.aia_wiring.specs.Bits.{IsFirstSource, AreSources, source_sender};
 
 use crate::bits::bits_search;
 use crate::guests::{are_for_guests, target_of};
-use crate::sender::{domain_of, msi_by, source_of};
+use crate::sender::{domain_of_sender, msi_by, source_of_sender};
 use crate::side::Side;
 use crate::view::ReadyView;
 use aia_model::{DomainName, Msi, Sender};
@@ -40,7 +40,7 @@ pub struct Aplic {
 }
 
 impl Model for Aplic {
-    ghost use Rattle.aia_aplic.specs.Aplic.{AplicState};
+    ghost use Rattle.aia_wiring.specs.Aplic.{AplicState};
 
     ghost Value = { AplicState };
 
@@ -93,20 +93,18 @@ impl Aplic {
         self.child.wire(s, level);
     }
 
-    /// Loads the register at an offset of a domain's control region: domain 0 is the root domain,
-    /// 1 its child. A load of a hart's `claimi` claims the source that it shows, or, where it shows
-    /// none in a domain that delivers directly, makes its `iforce` 0.
+    /// Loads the register at an offset of a domain's control region. A load of a hart's `claimi`
+    /// claims the source that it shows, or, where it shows none in a domain that delivers directly,
+    /// makes its `iforce` 0.
     ///
     /// AIA 1.0, APLIC, "Memory-mapped control region for an interrupt domain".
-    pub fn load(&mut self, domain: u32, offset: u32) -> u32
-        requires { domain ≤ 1 }
+    pub fn load(&mut self, name: DomainName, offset: u32) -> u32
         ensures reads { (past : Past) → AplicStands self.old past →
-            result ≡ register_read past (domain_name domain) (domain_register_of offset) }
+            result ≡ register_read past name (domain_register_of offset) }
         ensures stands { (past : Past) → AplicStands self.old past
-            → AplicStands self.new (Loaded (domain_name domain)
-            (domain_register_of offset) ∷ past) }
+            → AplicStands self.new (Loaded name (domain_register_of offset) ∷ past) }
     {
-        self.load_register(domain_name(domain), domain_reg(offset))
+        self.load_register(name, domain_reg(offset))
     }
 
     fn load_register(&mut self, name: DomainName, reg: DomainReg) -> u32
@@ -124,17 +122,14 @@ impl Aplic {
         }
     }
 
-    /// Stores to the register at an offset of a domain's control region: domain 0 is the root
-    /// domain, 1 its child.
+    /// Stores to the register at an offset of a domain's control region.
     ///
     /// AIA 1.0, APLIC, "Memory-mapped control region for an interrupt domain".
-    pub fn store(&mut self, domain: u32, offset: u32, value: u32)
-        requires { domain ≤ 1 }
+    pub fn store(&mut self, name: DomainName, offset: u32, value: u32)
         ensures { (past : Past) → AplicStands self.old past
-            → AplicStands self.new (Written (domain_name domain)
-            (domain_register_of offset) value ∷ past) }
+            → AplicStands self.new (Written name (domain_register_of offset) value ∷ past) }
     {
-        self.store_register(domain_name(domain), domain_reg(offset), value);
+        self.store_register(name, domain_reg(offset), value);
     }
 
     fn store_register(&mut self, name: DomainName, reg: DomainReg, value: u32)
@@ -207,19 +202,18 @@ impl Aplic {
         self.child.aim(s, target);
     }
 
-    /// Tells whether a hart is signalled by a domain, 0 or 1: the domain delivers directly and its
+    /// Tells whether a hart is signalled by a domain: the domain delivers directly and its
     /// interrupts are enabled, the hart's `idelivery` is 1, and a source is on top for it or its
     /// `iforce` is 1. A hart that isn't there is not.
     ///
     /// AIA 1.0, APLIC, "Interrupt delivery directly by the APLIC".
-    pub fn pin(&self, domain: u32, hart: u32) -> bool
-        requires { domain ≤ 1 }
+    pub fn pin(&self, name: DomainName, hart: u32) -> bool
         ensures signal { (past : Past) → AplicStands self.now past → hart < harts_in past
-            → result ≡ is_signalled past (domain_name domain) hart }
+            → result ≡ is_signalled past name hart }
         ensures away { (past : Past) → AplicStands self.now past → harts_in past ≤ hart
             → result ≡ false }
     {
-        self.side(domain_name(domain)).signal(hart)
+        self.side(name).signal(hart)
     }
 
     fn side(&self, name: DomainName) -> &Side
@@ -293,23 +287,23 @@ impl Aplic {
         if self.child.genmsi_waits() {
             return Some(Sender::ByGenMsi(DomainName::Child));
         }
-        self.first_source(steps)
+        sender_of(self.first_source(steps))
     }
 
     /// Gives the least source that is to be forwarded, `None` where none is: that it sees without a
     /// look at a word.
-    fn first_source<L: Ledger>(&self, steps: &mut Steps<L>) -> Option<Sender>
+    fn first_source<L: Ledger>(&self, steps: &mut Steps<L>) -> Option<(DomainName, u32)>
         ensures first { IsFirstSource (is_ready self.now.root.domain)
             (is_ready self.now.child.domain) result }
         ensures no_less { steps.old ≤ steps.new }
         ensures few { steps.new ≤ steps.old + 32 }
         ensures idle { IfNone result (steps.new ≡ steps.old) }
-        ensures looks { IfSome result (λ sender. steps.old + 2 ≤ steps.new) }
+        ensures looks { IfSome result (λ source. steps.old + 2 ≤ steps.new) }
     {
         if !self.has_ready() {
             return None;
         }
-        self.first_of_words(steps)
+        self.search_ready(steps)
     }
 
     /// Tells whether any source of either domain is to be forwarded.
@@ -321,25 +315,23 @@ impl Aplic {
     }
 
     /// Gives the least source that is to be forwarded, by the words of both domains.
-    fn first_of_words<L: Ledger>(&self, steps: &mut Steps<L>) -> Option<Sender>
+    fn search_ready<L: Ledger>(&self, steps: &mut Steps<L>) -> Option<(DomainName, u32)>
         ensures first { IsFirstSource (is_ready self.now.root.domain)
             (is_ready self.now.child.domain) result }
         ensures two_at_least { steps.old + 2 ≤ steps.new }
         ensures few { steps.new ≤ steps.old + 32 }
     {
         let mut bits = ReadyView { aplic: self, steps };
-        sender_of(bits_search(&mut bits))
+        bits_search(&mut bits)
     }
 
-    /// Gives word `k`, below `SOURCE_WORDS`, of the sources that a domain, 0 or 1, is to forward.
-    pub(crate) fn ready_word(&self, domain: u32, k: u32) -> u64
-        requires domain { domain < 2 }
-        requires word { k < SOURCE_WORDS }
-        ensures word { result
-            ≡ word_of (is_ready (side self.now (domain_name domain)).domain) (64 * k) 64 }
-        ensures range { AreSources (is_ready (side self.now (domain_name domain)).domain) }
+    /// Gives word `k`, below `SOURCE_WORDS`, of the sources that a domain is to forward.
+    pub(crate) fn ready_word(&self, name: DomainName, k: u32) -> u64
+        requires { k < SOURCE_WORDS }
+        ensures word { result ≡ word_of (is_ready (side self.now name).domain) (64 * k) 64 }
+        ensures range { AreSources (is_ready (side self.now name).domain) }
     {
-        self.side(domain_name(domain)).ready_word(k)
+        self.side(name).ready_word(k)
     }
 
     /// Sends the MSI of a sender that waits.
@@ -350,8 +342,8 @@ impl Aplic {
             AplicStands self.new (Sent sender ∷ past) }
         ensures fewer { waiting self.new < waiting self.old }
     {
-        let source = source_of(sender);
-        match domain_of(sender) {
+        let source = source_of_sender(sender);
+        match domain_of_sender(sender) {
             DomainName::Root => {
                 let register = self.root.send(sender);
                 msi_by(&self.addresses, DomainName::Root, register, source)
@@ -364,23 +356,10 @@ impl Aplic {
     }
 }
 
-/// Gives the domain with a number, 0 or 1.
-fn domain_name(domain: u32) -> DomainName
-    requires { domain ≤ 1 }
-    ensures { result ≡ domain_name domain }
-{
-    if domain == 0 {
-        DomainName::Root
-    } else {
-        DomainName::Child
-    }
-}
-
-/// Gives the sender of a domain, 0 or 1, and a source's number.
-fn sender_of(found: Option<(u32, u32)>) -> Option<Sender>
-    requires { IfSome found (λ pair. pair.0 ≤ 1) }
+/// Gives the sender of a domain's source, where there is one.
+fn sender_of(found: Option<(DomainName, u32)>) -> Option<Sender>
     ensures { result ≡ option_map source_sender found }
 {
-    let (domain, s) = found?;
-    Some(Sender::BySource(domain_name(domain), s))
+    let (name, s) = found?;
+    Some(Sender::BySource(name, s))
 }

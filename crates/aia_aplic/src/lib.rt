@@ -6,7 +6,6 @@ mod aplic;
 mod bits;
 mod controls;
 mod guests;
-pub mod laws;
 mod sender;
 mod side;
 mod view;

@@ -1,11 +1,12 @@
 ghost use Rattle.std.specs.Prelude.{◌≡◌, ℕ, ◌+◌, ◌*◌, ◌<◌};
 ghost use Rattle.aia_word.specs.Sets.{word_of};
 ghost use Rattle.aia_domain.specs.Domain.{is_ready};
-ghost use Rattle.aia_aplic.specs.Aplic.{side, domain_name};
-ghost use Rattle.aia_aplic.specs.Bits.{AreSources};
+ghost use Rattle.aia_wiring.specs.Aplic.{side};
+ghost use Rattle.aia_wiring.specs.Bits.{AreSources};
 
 use crate::aplic::Aplic;
 use crate::bits::Bits;
+use aia_model::DomainName;
 use aia_steps::Steps;
 use std::sync::ledger::Ledger;
 
@@ -21,17 +22,17 @@ impl<L: Ledger> Bits for ReadyView<'_, L> {
     ghost use Rattle.std.specs.Prelude.{◌≡◌, ◌+◌};
     ghost use Rattle.std.proofs.Common.{◌∙◌, refl};
     ghost use Rattle.aia_domain.specs.Domain.{is_ready};
-    ghost use Rattle.aia_aplic.specs.Aplic.{side, domain_name};
+    ghost use Rattle.aia_wiring.specs.Aplic.{side};
 
-    ghost members = { λ v domain. is_ready (side v.aplic.now (domain_name domain)).domain };
+    ghost members = { λ v name. is_ready (side v.aplic.now name).domain };
 
     ghost count = { λ v. v.steps.now };
 
     ghost IsSamePlace = { λ v w. w.steps.ghost_name ≡ v.steps.ghost_name };
 
-    fn word(&mut self, domain: u32, k: u32) -> u64 {
+    fn word(&mut self, name: DomainName, k: u32) -> u64 {
         self.steps.count_one();
-        self.aplic.ready_word(domain, k)
+        self.aplic.ready_word(name, k)
     }
 
     ghost same_place_begins = { λ a. refl };

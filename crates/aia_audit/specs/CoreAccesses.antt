@@ -5,7 +5,7 @@ use Rattle.aia_plan.specs.declared.step.Kind.TheVariants as kinds
 use Rattle.aia_plan.specs.declared.step.Step.{Step}
 use Rattle.aia_plan.specs.declared.step.Step.TheVariants as steps
 use Rattle.aia_home.specs.Plans.{Access, leave_plan, arrive_plan, shift_plan}
-use Rattle.aia_home.specs.Plans.Access.{TakeDelivery, PutDelivery, WriteNotice, WriteEntry, Fence, WriteStage, FenceStage, TakePending, PutPending, TakeEnables, PutEnables, Look, TakeThreshold, PutThreshold, Post}
+use Rattle.aia_home.specs.Plans.Access.{TakeDelivery, PutDelivery, WriteNotice, WriteEntry, Fence, Map, GFence, TakePending, PutPending, TakeEnables, PutEnables, Look, TakeThreshold, PutThreshold, Post}
 
 -- The access that a step is.
 abbrev pub access_of : Step → Access
@@ -13,10 +13,10 @@ access_of steps.Quiet = TakeDelivery
 access_of steps.Word1 = WriteNotice
 access_of steps.Word0 = WriteEntry
 access_of steps.Fence = Fence
-access_of steps.Map = WriteStage
-access_of steps.Unmap = WriteStage
-access_of steps.Remap = WriteStage
-access_of steps.GFence = FenceStage
+access_of steps.Map = Map
+access_of steps.Unmap = Map
+access_of steps.Remap = Map
+access_of steps.GFence = GFence
 access_of (steps.TakeP w) = TakePending w
 access_of (steps.PutP w) = PutPending w
 access_of (steps.TakeE w) = TakeEnables w

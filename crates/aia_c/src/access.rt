@@ -1,7 +1,7 @@
 //! CSR instructions by numbers.
 
 ghost use Rattle.std.specs.Prelude.{◌≡◌, false, [], IfSome};
-ghost use Rattle.aia_model.specs.Grammar.{IsListed};
+ghost use Rattle.aia_model.specs.Forms.{IsListed};
 ghost use Rattle.aia_model.specs.Refusal.{makes_machine};
 ghost use Rattle.aia_c.specs.Access.{op_of, hart_line, hart_access, guest_csr, guest_access};
 

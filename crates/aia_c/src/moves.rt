@@ -4,8 +4,22 @@ ghost use Rattle.aia_c.specs.Calls.{Acts};
 
 use crate::handle::Handle;
 use crate::serve::{number_of, serve};
-use aia_model::Line;
+use aia_model::{Line, Want};
 use std::alloc::Global;
+
+/// Moves a virtual hart as is wanted, by all steps of the move.
+fn moves(handle: &mut Handle, vm: u64, vcpu: u64, want: Want, alloc: Global) -> i32
+    ensures { Acts handle.old.engine handle.new.engine (Line.Move vm vcpu want) result }
+{
+    number_of(serve(handle, &Line::Move { vm, vcpu, want }, alloc))
+}
+
+/// Begins such a move, and does no step of it.
+fn begins(handle: &mut Handle, vm: u64, vcpu: u64, want: Want, alloc: Global) -> i32
+    ensures { Acts handle.old.engine handle.new.engine (Line.Begin vm vcpu want) result }
+{
+    number_of(serve(handle, &Line::Begin { vm, vcpu, want }, alloc))
+}
 
 /// Moves a virtual hart from memory to a guest file of a hart, as `arrive VM C H`.
 #[unsafe(no_mangle)]
@@ -16,19 +30,17 @@ pub extern "C" fn aia_arrive(
     hart: u64,
     alloc: Global,
 ) -> i32
-    ensures { Acts handle.old.engine handle.new.engine (Line.Arrive vm vcpu hart) result }
+    ensures { Acts handle.old.engine handle.new.engine (Line.Move vm vcpu (Want.Arrive hart)) result }
 {
-    let line = Line::Arrive { vm, vcpu, hart };
-    number_of(serve(handle, &line, alloc))
+    moves(handle, vm, vcpu, Want::Arrive(hart), alloc)
 }
 
 /// Moves a virtual hart from its guest file to memory, as `leave VM C`.
 #[unsafe(no_mangle)]
 pub extern "C" fn aia_leave(handle: &mut Handle, vm: u64, vcpu: u64, alloc: Global) -> i32
-    ensures { Acts handle.old.engine handle.new.engine (Line.Leave vm vcpu) result }
+    ensures { Acts handle.old.engine handle.new.engine (Line.Move vm vcpu Want.Leave) result }
 {
-    let line = Line::Leave { vm, vcpu };
-    number_of(serve(handle, &line, alloc))
+    moves(handle, vm, vcpu, Want::Leave, alloc)
 }
 
 /// Moves a virtual hart from its guest file to one of a hart, as `shift VM C H`.
@@ -40,10 +52,9 @@ pub extern "C" fn aia_shift(
     hart: u64,
     alloc: Global,
 ) -> i32
-    ensures { Acts handle.old.engine handle.new.engine (Line.Shift vm vcpu hart) result }
+    ensures { Acts handle.old.engine handle.new.engine (Line.Move vm vcpu (Want.Shift hart)) result }
 {
-    let line = Line::Shift { vm, vcpu, hart };
-    number_of(serve(handle, &line, alloc))
+    moves(handle, vm, vcpu, Want::Shift(hart), alloc)
 }
 
 /// Begins such a move of a virtual hart, and does no step, as `begin arrive VM C H`.
@@ -55,19 +66,17 @@ pub extern "C" fn aia_begin_arrive(
     hart: u64,
     alloc: Global,
 ) -> i32
-    ensures { Acts handle.old.engine handle.new.engine (Line.BeginArrive vm vcpu hart) result }
+    ensures { Acts handle.old.engine handle.new.engine (Line.Begin vm vcpu (Want.Arrive hart)) result }
 {
-    let line = Line::BeginArrive { vm, vcpu, hart };
-    number_of(serve(handle, &line, alloc))
+    begins(handle, vm, vcpu, Want::Arrive(hart), alloc)
 }
 
 /// Begins such a move of a virtual hart, and does no step, as `begin leave VM C`.
 #[unsafe(no_mangle)]
 pub extern "C" fn aia_begin_leave(handle: &mut Handle, vm: u64, vcpu: u64, alloc: Global) -> i32
-    ensures { Acts handle.old.engine handle.new.engine (Line.BeginLeave vm vcpu) result }
+    ensures { Acts handle.old.engine handle.new.engine (Line.Begin vm vcpu Want.Leave) result }
 {
-    let line = Line::BeginLeave { vm, vcpu };
-    number_of(serve(handle, &line, alloc))
+    begins(handle, vm, vcpu, Want::Leave, alloc)
 }
 
 /// Begins such a move of a virtual hart, and does no step, as `begin shift VM C H`.
@@ -79,10 +88,9 @@ pub extern "C" fn aia_begin_shift(
     hart: u64,
     alloc: Global,
 ) -> i32
-    ensures { Acts handle.old.engine handle.new.engine (Line.BeginShift vm vcpu hart) result }
+    ensures { Acts handle.old.engine handle.new.engine (Line.Begin vm vcpu (Want.Shift hart)) result }
 {
-    let line = Line::BeginShift { vm, vcpu, hart };
-    number_of(serve(handle, &line, alloc))
+    begins(handle, vm, vcpu, Want::Shift(hart), alloc)
 }
 
 /// Does the next step of the move of a virtual hart, as `step VM C`: the code is `Moving` but for

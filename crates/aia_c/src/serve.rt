@@ -1,7 +1,7 @@
 //! What the calls without text share.
 
 ghost use Rattle.std.specs.Prelude.{◌≡◌, ◌≤◌, false, [], IfSome};
-ghost use Rattle.aia_model.specs.Grammar.{IsListed};
+ghost use Rattle.aia_model.specs.Forms.{IsListed};
 ghost use Rattle.aia_c.specs.Codes.{number_of, read_in, narrow_of, wide_of, bit_at, pins_of};
 ghost use Rattle.aia_model.specs.Refusal.{makes_machine};
 ghost use Rattle.aia_c.specs.Calls.{Serving, Fetches, Accesses};

@@ -1,7 +1,7 @@
 //! Which register an access to a CSR reaches, or which exception it raises.
 #![tactic(auto)]
 
-mod access;
+mod csr_access;
 
-pub use access::{Access, decide};
 pub use aia_regs::Level;
+pub use csr_access::{CsrAccess, decide};

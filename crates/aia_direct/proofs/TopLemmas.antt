@@ -1,52 +1,40 @@
 -- What is on top for a hart, by the first of its candidates, and what topi shows of it.
-use Rattle.std.proofs.Common.{◌≡◌, ℕ, ◌-◌, ◌≤◌, Bool, true, false, cond, not, ◌&&◌, ◌||◌, nat_eq, nat_le, List, [], length, slice_get, Option, Some, None, is_some, is_none, IfSome, inr, refl, sym, ap, ◌∙◌, arith}
+use Rattle.std.proofs.Common.{◌≡◌, ℕ, ◌-◌, ◌≤◌, Bool, true, false, cond, not, ◌||◌, nat_eq, nat_le, List, [], length, slice_get, Option, Some, None, is_some, is_none, IfSome, inr, refl, sym, ap, ◌∙◌, arith}
 use Rattle.std.specs.Option.{option_map}
 use Rattle.std.proofs.lemmas.Bool.{eq-eqb, ne_eqb}
-use Rattle.std.proofs.lemmas.Option.{none-some, same_Some}
+use Rattle.std.proofs.lemmas.Option.{none-some}
 use Rattle.aia_regs.specs.Fields.{field, with_field}
 use Rattle.aia_regs.proofs.FieldLemmas.{got, other_field}
-use Rattle.aia_source.specs.Top.{Pair, least_pair, hart_of, priority_of, pair_if, topi_value}
+use Rattle.aia_source.specs.Top.{Pair, least_pair, topi_value}
 use Rattle.aia_source.specs.Wired.SourceDeed.{Claimed}
 use Rattle.aia_source.proofs.TopLemmas.{least_found}
 use Rattle.aia_word.specs.Top.{lets_through}
 use Rattle.aia_waiting.specs.Order.{ordered}
-use Rattle.aia_domain.specs.Entry.{EntryState, entry_at, waits, waiting_pair_at, EachSource, changed_at, with_deed}
+use Rattle.aia_domain.specs.InterruptSource.{InterruptSourceState, waiting_pair_at, EachSource, changed_at, with_deed}
 use Rattle.aia_domain.specs.Domain.{DomainState, candidates, IsPairOfSource}
-use Rattle.aia_direct.specs.Idc.{IdcState, candidate_at, top_shown, claimed_top}
+use Rattle.aia_domain.proofs.CandidateLemmas.{own_number}
+use Rattle.aia_direct.specs.Idc.{IdcState, top_shown, claimed_top}
 use Rattle.aia_direct.specs.Front.{if_through, through, first_through}
 use Rattle.aia_direct.proofs.FrontLemmas.{first_is_least}
 
 -- ---- the first candidate that is let through is on top
 
-pair_names : (among : Bool) (t s : ℕ) (q : Pair) → pair_if among t s ≡ Some q → q.1 ≡ s
-pair_names true t s q e = ap (λ (p : Pair). p.1) (sym (same_Some (priority_of t, s) q e))
-pair_names false t s q e = absurd (none-some q e)
-
-held_pair : (a : Bool) (threshold t s : ℕ) → if_through threshold (pair_if a t s) ≡ pair_if (a && lets_through threshold (priority_of t)) t s
-held_pair true threshold t s = refl
-held_pair false threshold t s = refl
-
-all_four : (a b c d : Bool) → (((a && b) && c) && d) ≡ (a && b && c && d)
-all_four true true c d = refl
-all_four true false c d = refl
-all_four false b c d = refl
+-- a pair that is let through is that of the source
+through_is : (threshold : ℕ) (o : Option Pair) (q : Pair) → if_through threshold o ≡ Some q → o ≡ Some q
+through_is threshold None q e = e
+through_is threshold (Some p) q e = at (lets_through threshold p.0) e
+  where
+    at : (b : Bool) → cond b (Some p) None ≡ Some q → Some p ≡ Some q
+    at true e = e
+    at false e = absurd (none-some q e)
 
 pub top_is_first : (c : IdcState) (d : DomainState) (hart : ℕ) → top_shown c d hart ≡ first_through c.ithreshold (candidates d hart)
 top_is_first c d hart = at d.msi (nat_le d.harts hart)
   where
-    each : (s : ℕ) → through c.ithreshold (waiting_pair_at d.sources hart) s ≡ candidate_at d.sources hart c.ithreshold s
-    each s =
-        let x = entry_at d.sources s in
-        held_pair (waits x && nat_eq (hart_of x.target) hart) c.ithreshold x.target s
-        ∙ ap (λ b. pair_if b x.target s) (all_four x.source.pending x.enabled (nat_eq (hart_of x.target) hart) (lets_through c.ithreshold (priority_of x.target)))
+    least : least_pair (through c.ithreshold (waiting_pair_at d.sources hart)) 1 (length d.sources - 1) ≡ first_through c.ithreshold (ordered (waiting_pair_at d.sources hart) 1 (length d.sources - 1))
+    least = sym (first_is_least c.ithreshold (waiting_pair_at d.sources hart) 1 (length d.sources - 1) (own_number d.sources hart))
 
-    same : through c.ithreshold (waiting_pair_at d.sources hart) ≡ candidate_at d.sources hart c.ithreshold
-    same = λ i s. each s i
-
-    least : least_pair (candidate_at d.sources hart c.ithreshold) 1 (length d.sources - 1) ≡ first_through c.ithreshold (ordered (waiting_pair_at d.sources hart) 1 (length d.sources - 1))
-    least = sym (first_is_least c.ithreshold (waiting_pair_at d.sources hart) 1 (length d.sources - 1) (λ s q. pair_names _ (entry_at d.sources s).target s q) ∙ ap (λ f. least_pair f 1 (length d.sources - 1)) same)
-
-    at : (msi away : Bool) → cond (msi || away) None (least_pair (candidate_at d.sources hart c.ithreshold) 1 (length d.sources - 1)) ≡ first_through c.ithreshold (cond away [] (cond msi [] (ordered (waiting_pair_at d.sources hart) 1 (length d.sources - 1))))
+    at : (msi away : Bool) → cond (msi || away) None (least_pair (through c.ithreshold (waiting_pair_at d.sources hart)) 1 (length d.sources - 1)) ≡ first_through c.ithreshold (cond away [] (cond msi [] (ordered (waiting_pair_at d.sources hart) 1 (length d.sources - 1))))
     at true true = refl
     at true false = refl
     at false true = refl
@@ -56,9 +44,9 @@ top_is_first c d hart = at d.msi (nat_le d.harts hart)
 some_on_top : (c : IdcState) (d : DomainState) (hart : ℕ) (p : Pair) → top_shown c d hart ≡ Some p → 1 ≤ p.1
 some_on_top c d hart p = at (d.msi || nat_le d.harts hart)
   where
-    at : (b : Bool) → cond b None (least_pair (candidate_at d.sources hart c.ithreshold) 1 (length d.sources - 1)) ≡ Some p → 1 ≤ p.1
+    at : (b : Bool) → cond b None (least_pair (through c.ithreshold (waiting_pair_at d.sources hart)) 1 (length d.sources - 1)) ≡ Some p → 1 ≤ p.1
     at true e = absurd (none-some p e)
-    at false e = (least_found (candidate_at d.sources hart c.ithreshold) 1 (length d.sources - 1) p (λ s q. pair_names _ (entry_at d.sources s).target s q) e).low
+    at false e = (least_found (through c.ithreshold (waiting_pair_at d.sources hart)) 1 (length d.sources - 1) p (λ s q held. own_number d.sources hart s q (through_is c.ithreshold (waiting_pair_at d.sources hart s) q held)) e).low
 
 -- ---- what topi shows of it
 
@@ -92,9 +80,9 @@ pub some_claimed : (c : IdcState) (d : DomainState) (hart top : ℕ) → top ≡
 some_claimed c d hart top = number_told top (top_shown c d hart)
 
 -- and where nothing is on top, a claim changes no source
-unchanged : (s : ℕ) (x : Option EntryState) → x ≡ option_map (claimed_top None s) x
+unchanged : (s : ℕ) (x : Option InterruptSourceState) → x ≡ option_map (claimed_top None s) x
 unchanged s None = refl
 unchanged s (Some x) = refl
 
-pub none_claimed : (o : Option Pair) (sources : List EntryState) → o ≡ None → EachSource sources sources (claimed_top o)
+pub none_claimed : (o : Option Pair) (sources : List InterruptSourceState) → o ≡ None → EachSource sources sources (claimed_top o)
 none_claimed o sources none s = unchanged s (slice_get sources s) ∙ ap (λ (p : Option Pair). option_map (claimed_top p s) (slice_get sources s)) (sym none)

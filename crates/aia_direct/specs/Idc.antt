@@ -1,15 +1,15 @@
 -- A hart's interrupt delivery control in a domain: what is on top for it, a claim, and its signal.
 -- AIA 1.0, APLIC, "Interrupt delivery directly by the APLIC".
-use Rattle.std.specs.Prelude.{ℕ, ◌-◌, Bool, false, not, ◌&&◌, ◌||◌, nat_eq, nat_le, is_some, is_none, if◌then◌else◌, List, length, Option, None}
+use Rattle.std.specs.Prelude.{ℕ, ◌-◌, Bool, false, not, ◌&&◌, ◌||◌, nat_le, is_some, is_none, if◌then◌else◌, length, Option, None}
 use Rattle.aia_regs.specs.declared.domain_registers.DomainReg.{DomainReg}
 use Rattle.aia_regs.specs.declared.domain_registers.DomainReg.TheVariants.{IDelivery, IForce, IThreshold}
 use Rattle.aia_regs.specs.Fields.{field, bit_number}
-use Rattle.aia_regs.specs.Operations.{is_one}
+use Rattle.aia_word.specs.Sets.{has_bit}
 use Rattle.aia_source.specs.Wired.SourceDeed.{Claimed}
-use Rattle.aia_source.specs.Top.{Pair, least_pair, priority_of, hart_of, pair_if, is_top}
-use Rattle.aia_word.specs.Top.{lets_through}
-use Rattle.aia_domain.specs.Entry.{EntryState, with_deed, entry_at}
+use Rattle.aia_source.specs.Top.{Pair, least_pair, is_top}
+use Rattle.aia_domain.specs.InterruptSource.{InterruptSourceState, with_deed, waiting_pair_at}
 use Rattle.aia_domain.specs.Domain.{DomainState}
+use Rattle.aia_direct.specs.Front.{through}
 
 -- idelivery, iforce and ithreshold.
 pub record IdcState : Type 0 where
@@ -30,35 +30,27 @@ control_read c (IThreshold hart) = c.ithreshold
 control_read c reg = 0
 
 abbrev pub control_written : DomainReg → ℕ → IdcState → IdcState
-control_written (IDelivery hart) v c = record c { idelivery = is_one v 0 }
-control_written (IForce hart) v c = record c { iforce = is_one v 0 }
+control_written (IDelivery hart) v c = record c { idelivery = has_bit v 0 }
+control_written (IForce hart) v c = record c { iforce = has_bit v 0 }
 control_written (IThreshold hart) v c = record c { ithreshold = field v 7 0 }
 control_written reg v c = c
 
 -- ---- what is on top
 
--- The pair of a source, where it is pending, enabled and aimed at the hart, and the threshold lets
--- its priority through.
-abbrev pub candidate : ℕ → ℕ → ℕ → EntryState → Option Pair
-candidate hart threshold s x =
-    pair_if (x.source.pending && x.enabled && nat_eq (hart_of x.target) hart
-    && lets_through threshold (priority_of x.target)) x.target s
-
-abbrev pub candidate_at : List EntryState → ℕ → ℕ → ℕ → Option Pair
-candidate_at sources hart threshold s = candidate hart threshold s (entry_at sources s)
-
--- The least pair of the domain's sources; none where the domain delivers by MSIs, and for a hart
+-- The least pair of the domain's sources that are pending, enabled and aimed at the hart, of those
+-- whose priority the threshold lets through; none where the domain delivers by MSIs, and for a hart
 -- that isn't there.
 -- Profile: none by MSIs.
 abbrev pub top_shown : IdcState → DomainState → ℕ → Option Pair
 top_shown c d hart =
     if d.msi || nat_le d.harts hart then None
-    else least_pair (candidate_at d.sources hart c.ithreshold) 1 (length d.sources - 1)
+    else least_pair (through c.ithreshold (waiting_pair_at d.sources hart)) 1
+    (length d.sources - 1)
 
 -- ---- a claim and the signal
 
 -- What a claim makes of a source, given what is on top: it claims the source that is shown.
-abbrev pub claimed_top : Option Pair → ℕ → EntryState → EntryState
+abbrev pub claimed_top : Option Pair → ℕ → InterruptSourceState → InterruptSourceState
 claimed_top top s x = if is_top top s then with_deed false Claimed x else x
 
 -- What it makes of the control: where it shows nothing in a domain that delivers directly, iforce

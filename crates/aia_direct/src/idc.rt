@@ -2,7 +2,7 @@ ghost use Rattle.std.specs.Prelude.{◌≡◌, ◌+◌, ◌<◌, ◌≤◌, Bool
 ghost use Rattle.aia_regs.specs.Fields.{field};
 ghost use Rattle.aia_source.specs.Top.{topi_value};
 ghost use Rattle.aia_source.specs.Wired.SourceDeed.{Claimed};
-ghost use Rattle.aia_domain.specs.Entry.{EachSource, changed_at, with_deed};
+ghost use Rattle.aia_domain.specs.InterruptSource.{EachSource, changed_at, with_deed};
 ghost use Rattle.aia_domain.specs.Domain.{with_sources, IsPairOfSource};
 ghost use Rattle.aia_direct.specs.Idc.{new_idc, control_read, control_written, top_shown, claimed_top, control_claimed, signals_hart};
 

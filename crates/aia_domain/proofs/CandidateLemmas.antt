@@ -7,13 +7,13 @@ use Rattle.aia_source.specs.Top.{Pair, NamesItself, pair_if}
 use Rattle.aia_source.proofs.ListLemmas.{nowhere}
 use Rattle.aia_waiting.specs.Order.{comes_before, ordered}
 use Rattle.aia_waiting.proofs.OrderedLemmas.{ordered_from, ordered_has, ordered_strict}
-use Rattle.aia_domain.specs.Entry.{EntryState, waiting_pair_at, entry_at}
+use Rattle.aia_domain.specs.InterruptSource.{InterruptSourceState, waiting_pair_at, source_at}
 use Rattle.aia_domain.specs.Domain.{DomainState, candidates}
 
-own_number : (sources : List EntryState) (hart : ℕ) → NamesItself (waiting_pair_at sources hart)
+pub own_number : (sources : List InterruptSourceState) (hart : ℕ) → NamesItself (waiting_pair_at sources hart)
 own_number sources hart s q is = at _ is
   where
-    at : (b : Bool) → pair_if b (entry_at sources s).target s ≡ Some q → q.1 ≡ s
+    at : (b : Bool) → pair_if b (source_at sources s).target s ≡ Some q → q.1 ≡ s
     at false e = absurd (none-some q e)
     at true e = sym (ap (λ (p : Pair). p.1) (same_Some _ q e))
 

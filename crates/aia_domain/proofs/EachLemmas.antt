@@ -1,7 +1,7 @@
 -- Lists whose members are changed by their places.
 use Rattle.std.proofs.Common.{◌≡◌, ℕ, suc, ◌<◌, List, [], ◌∷◌, length, slice_get, Option, Some, None, option_map, refl, sym, ap, ◌∙◌}
 use Rattle.std.proofs.lemmas.Option.{slice_get_within}
-use Rattle.aia_domain.specs.Entry.{EachAt}
+use Rattle.aia_domain.specs.InterruptSource.{EachAt}
 
 pub each-length : {A : Type 0} (old new : List A) (change : ℕ → A → A) → EachAt old new change → length new ≡ length old
 each-length [] [] change each = refl
@@ -10,9 +10,9 @@ each-length {A} (x ∷ xs) [] change each = let e : ◌≡◌ {A = Option A} Non
 each-length (x ∷ xs) (y ∷ ys) change each = ap suc (each-length xs ys (λ s. change (suc s)) (λ s. each (suc s)))
 
 -- what a member is after each was changed
-pub each-entry : {A : Type 0} (old new : List A) (change : ℕ → A → A) (was is : ℕ → A) → EachAt old new change → ((s : ℕ) (x : A) → slice_get old s ≡ Some x → x ≡ was s)
+pub each-member : {A : Type 0} (old new : List A) (change : ℕ → A → A) (was is : ℕ → A) → EachAt old new change → ((s : ℕ) (x : A) → slice_get old s ≡ Some x → x ≡ was s)
     → ((s : ℕ) → s < length old → change s (was s) ≡ is s) → (s : ℕ) (y : A) → slice_get new s ≡ Some y → y ≡ is s
-each-entry {A} old new change was is each stands goes s y found = at (slice_get old s) refl
+each-member {A} old new change was is each stands goes s y found = at (slice_get old s) refl
   where
     at : (o : Option A) → slice_get old s ≡ o → y ≡ is s
     at None e = let bad : ◌≡◌ {A = Option A} None (Some y) = sym (ap (option_map (change s)) e) ∙ sym (each s) ∙ found in cc

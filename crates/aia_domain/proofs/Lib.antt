@@ -1,6 +1,6 @@
 pub mod EachLemmas
 pub mod WordLemmas
 pub mod ReadyLemmas
-pub mod KeptLemmas
+pub mod WaitingLemmas
 pub mod CandidateLemmas
 pub mod Loops

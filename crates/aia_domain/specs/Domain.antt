@@ -1,6 +1,6 @@
 -- A domain as it is kept: what a store makes of it, and what a load reads.
 -- AIA 1.0, APLIC, where no comment names another source; a heading of that chapter is named alone.
-use Rattle.std.specs.Prelude.{◌≡◌, ℕ, suc, ◌-◌, ◌*◌, ◌^◌, ◌<◌, ◌≤◌, Bool, true, false, ◌&&◌, nat_le, if◌then◌else◌, List, [], length, All, filter}
+use Rattle.std.specs.Prelude.{◌≡◌, ℕ, suc, ◌-◌, ◌*◌, ◌^◌, ◌<◌, ◌≤◌, Bool, true, false, ◌&&◌, if◌then◌else◌, List, length, All, filter}
 use Rattle.std.specs.List.{range_with_len}
 use Rattle.aia_word.specs.Sets.{word_of}
 use Rattle.aia_regs.specs.declared.domain_registers.DomainReg.{DomainReg}
@@ -8,8 +8,8 @@ use Rattle.aia_regs.specs.declared.domain_registers.DomainReg.TheVariants.{Domai
 use Rattle.aia_source.specs.Registers.{domaincfg_kept, domaincfg_read, enables, is_by_msi, touch, genmsi_kept, same_bool}
 use Rattle.aia_regs.specs.declared.limits.TheConstants.{SOURCES}
 use Rattle.aia_source.specs.Top.{Pair}
-use Rattle.aia_domain.specs.declared.entry.Look.TheVariants as looks
-use Rattle.aia_domain.specs.Entry.{EntryState, new_entry, changed_at, written_at, touched, switched, aimed, waits_at, pairs_for, sourcecfg_at, target_at, bit_at_source}
+use Rattle.aia_domain.specs.declared.interrupt_source.SourceBit.TheVariants as bits
+use Rattle.aia_domain.specs.InterruptSource.{InterruptSourceState, new_source, changed_at, changed_if_named, touched, switched, aimed, sourcecfg_written, waits_at, candidates_of, sourcecfg_at, target_at, bit_at_source}
 
 -- Whether it is a leaf of the tree of domains, which has no child; how many harts there are; IE and
 -- DM; genmsi, and whether an MSI that it asked for is still to be sent; the sources.
@@ -21,7 +21,7 @@ pub record DomainState : Type 0 where
   pub msi : Bool
   pub genmsi : ℕ
   pub genmsi_waits : Bool
-  pub sources : List EntryState
+  pub sources : List InterruptSourceState
 
 -- A domain as a machine begins: all its sources are inactive. Profile.
 pub record IsNewDomain (source_count hart_count : ℕ) (is_leaf : Bool) (d : DomainState)
@@ -33,28 +33,31 @@ pub record IsNewDomain (source_count hart_count : ℕ) (is_leaf : Bool) (d : Dom
   pub genmsi : d.genmsi ≡ 0
   pub genmsi_waits : d.genmsi_waits ≡ false
   pub count : length d.sources ≡ suc source_count
-  pub each : All (λ x. x ≡ new_entry) d.sources
+  pub each : All (λ x. x ≡ new_source) d.sources
 
 -- The same but for its sources.
-abbrev pub with_sources : DomainState → List EntryState → DomainState
+abbrev pub with_sources : DomainState → List InterruptSourceState → DomainState
 with_sources d sources = record d { sources = sources }
 
 -- ---- a store
 
 -- A domaincfg is written: where the delivery mode changes, all sources begin with it.
-abbrev pub configured_by : ℕ → Bool → ℕ → EntryState → EntryState
+abbrev pub configured_by : ℕ → Bool → ℕ → InterruptSourceState → InterruptSourceState
 configured_by cfg msi s x = if same_bool msi (is_by_msi cfg) then x else switched (is_by_msi cfg) x
 
 -- What a store of v to a register makes of source s. Number 0 names no source.
 -- "Memory-mapped control region for an interrupt domain".
-abbrev pub source_changed : Bool → ℕ → Bool → DomainReg → ℕ → ℕ → EntryState → EntryState
+abbrev pub source_changed : Bool → ℕ → Bool → DomainReg → ℕ → ℕ → InterruptSourceState
+    → InterruptSourceState
 source_changed leaf harts msi DomainCfg v s x = configured_by (domaincfg_kept v) msi s x
-source_changed leaf harts msi (SourceCfg i) v s x = written_at i leaf msi v s x
+source_changed leaf harts msi (SourceCfg i) v s x =
+    changed_if_named i (sourcecfg_written leaf msi v) s x
 source_changed leaf harts msi (Target i) v s x = changed_at i (aimed harts msi v) s x
 source_changed leaf harts msi reg v s x = touched msi (touch reg v s) x
 
 -- The same in a domain.
-abbrev pub source_after : DomainState → DomainReg → ℕ → ℕ → EntryState → EntryState
+abbrev pub source_after : DomainState → DomainReg → ℕ → ℕ → InterruptSourceState
+    → InterruptSourceState
 source_after d reg v s x = source_changed d.leaf d.harts d.msi reg v s x
 
 -- What a store makes of the domain itself: domaincfg writes IE and DM; genmsi is written only where
@@ -81,9 +84,9 @@ domain_after reg v d = d
 abbrev pub domain_read : DomainState → DomainReg → ℕ
 domain_read d DomainCfg = domaincfg_read d.on d.msi
 domain_read d (SourceCfg i) = sourcecfg_at d.sources d.leaf i
-domain_read d (SetIp k) = word_of (bit_at_source d.sources looks.Pending) (32 * k) 32
-domain_read d (InClrIp k) = word_of (bit_at_source d.sources looks.Input) (32 * k) 32
-domain_read d (SetIe k) = word_of (bit_at_source d.sources looks.Enable) (32 * k) 32
+domain_read d (SetIp k) = word_of (bit_at_source d.sources bits.Pending) (32 * k) 32
+domain_read d (InClrIp k) = word_of (bit_at_source d.sources bits.Input) (32 * k) 32
+domain_read d (SetIe k) = word_of (bit_at_source d.sources bits.Enable) (32 * k) 32
 domain_read d GenMsi = d.genmsi
 domain_read d (Target i) = target_at d.sources i
 domain_read d reg = 0
@@ -106,7 +109,7 @@ ready_from d from = filter (is_ready d) (range_with_len from (length d.sources -
 -- order; none where the domain delivers by MSIs, and where the hart isn't there.
 -- "Interrupt delivery directly by the APLIC".
 abbrev pub candidates : DomainState → ℕ → List Pair
-candidates d hart = if nat_le d.harts hart then [] else pairs_for d.msi d.sources hart
+candidates d hart = candidates_of d.harts d.msi d.sources hart
 
 -- A pair that a register has room for: 8 bits of priority, and a number of a source that may be
 -- there.

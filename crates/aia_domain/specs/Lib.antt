@@ -1,3 +1,3 @@
-pub mod Entry
+pub mod InterruptSource
 pub mod Domain
-pub mod Kept
+pub mod Waiting

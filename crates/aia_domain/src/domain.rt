@@ -4,11 +4,11 @@ ghost use Rattle.aia_regs.specs.declared.limits.TheConstants.{HARTS, SOURCES, SO
 ghost use Rattle.aia_waiting.specs.Order.{IsRising};
 ghost use Rattle.aia_source.specs.Registers.{enables, is_by_msi, same_bool};
 ghost use Rattle.aia_source.specs.Wired.SourceDeed.{Claimed, Forwarded};
-ghost use Rattle.aia_domain.specs.Entry.{EachSource, changed_at, granted_at, wired, with_deed, with_target, entry_at, bit_at_source, is_active_at, target_at};
+ghost use Rattle.aia_domain.specs.InterruptSource.{EachSource, changed_at, changed_if_named, granted, wired, with_deed, with_target, source_at, bit_at_source, is_active_at, target_at};
 ghost use Rattle.aia_domain.specs.Domain.{IsNewDomain, with_sources, configured_by, source_after, domain_after, domaincfg_written, domain_read, is_ready, ready_from, candidates, IsPairOfSource};
 
-use crate::entries::{is_active_at, is_waiting, sourcecfg_at, target_at, word_shown};
-use crate::entry::{Change, Look};
+use crate::by_number::{is_active_at, sourcecfg_at, target_at, waits_at, word_shown};
+use crate::interrupt_source::{Change, SourceBit};
 use crate::ready::Ready;
 use crate::sources::Sources;
 use aia_regs::{DomainReg, swap32};
@@ -40,7 +40,7 @@ impl Model for Domain {
       msi = d.sources.msi;
       genmsi = d.genmsi;
       genmsi_waits = d.genmsi_waits;
-      sources = d.sources.entries;
+      sources = d.sources.sources;
     } };
 }
 
@@ -68,7 +68,7 @@ impl Domain {
         ensures count { length self.now.sources ≡ suc result }
         ensures few { result ≤ SOURCES }
     {
-        self.sources.entries().len() as u32 - 1
+        self.sources.all().len() as u32 - 1
     }
 
     /// Tells how many harts there are, up to `HARTS`.
@@ -85,15 +85,15 @@ impl Domain {
     pub fn load(&self, reg: DomainReg) -> u32
         ensures { result ≡ domain_read self.now reg }
     {
-        let entries = self.sources.entries();
+        let sources = self.sources.all();
         match reg {
             DomainReg::DomainCfg => self.domaincfg(),
-            DomainReg::SourceCfg(i) => sourcecfg_at(entries, i, self.sources.leaf()),
-            DomainReg::SetIp(k) => word_shown(entries, k, Look::Pending),
-            DomainReg::InClrIp(k) => word_shown(entries, k, Look::Input),
-            DomainReg::SetIe(k) => word_shown(entries, k, Look::Enable),
+            DomainReg::SourceCfg(i) => sourcecfg_at(sources, i, self.sources.leaf()),
+            DomainReg::SetIp(k) => word_shown(sources, k, SourceBit::Pending),
+            DomainReg::InClrIp(k) => word_shown(sources, k, SourceBit::Input),
+            DomainReg::SetIe(k) => word_shown(sources, k, SourceBit::Enable),
             DomainReg::GenMsi => self.genmsi,
-            DomainReg::Target(i) => target_at(entries, i),
+            DomainReg::Target(i) => target_at(sources, i),
             _ => 0,
         }
     }
@@ -174,7 +174,7 @@ impl Domain {
     /// source begins inactive here.
     pub fn grant(&mut self, s: u32)
         ensures sources { EachSource self.old.sources self.new.sources
-            (granted_at s Bool.true self.old.msi) }
+            (changed_if_named s (granted Bool.true self.old.msi)) }
         ensures domain { self.new ≡ with_sources self.old self.new.sources }
     {
         self.sources.change_named(s, Change::Grant(true));
@@ -184,7 +184,7 @@ impl Domain {
     /// the source is inactive here from now on.
     pub fn withdraw(&mut self, s: u32)
         ensures sources { EachSource self.old.sources self.new.sources
-            (granted_at s Bool.false self.old.msi) }
+            (changed_if_named s (granted Bool.false self.old.msi)) }
         ensures domain { self.new ≡ with_sources self.old self.new.sources }
     {
         self.sources.change_named(s, Change::Grant(false));
@@ -254,32 +254,32 @@ impl Domain {
     /// Gives a source that is there.
     pub fn source(&self, s: u32) -> &Wired
         requires there { s < length self.now.sources }
-        ensures { result.now ≡ (entry_at self.now.sources s).source }
+        ensures { result.now ≡ (source_at self.now.sources s).source }
     {
-        self.sources.entries()[s as usize].wired()
+        self.sources.all()[s as usize].wired()
     }
 
     /// Tells whether a source is active, false where the source isn't there.
     pub fn is_active(&self, s: u32) -> bool
         ensures { result ≡ is_active_at self.now.sources s }
     {
-        is_active_at(self.sources.entries(), s)
+        is_active_at(self.sources.all(), s)
     }
 
     /// Tells the enable bit of a source, false where the source isn't there.
     pub fn enabled(&self, s: u32) -> bool
-        ensures { result ≡ (entry_at self.now.sources s).enabled }
+        ensures { result ≡ (source_at self.now.sources s).enabled }
     {
-        let entries = self.sources.entries();
-        (s as usize) < entries.len() && entries[s as usize].enabled()
+        let sources = self.sources.all();
+        (s as usize) < sources.len() && sources[s as usize].enabled()
     }
 
     /// Gives the `target` of a source, 0 where the source isn't there.
     pub fn target(&self, s: u32) -> u32
-        ensures { result ≡ (entry_at self.now.sources s).target }
+        ensures { result ≡ (source_at self.now.sources s).target }
     {
-        match self.sources.entries().get(s as usize) {
-            Some(entry) => entry.target(),
+        match self.sources.all().get(s as usize) {
+            Some(source) => source.target(),
             None => 0,
         }
     }
@@ -338,13 +338,13 @@ impl Domain {
     pub(crate) fn places(&self) -> u32
         ensures { result ≡ length self.now.sources }
     {
-        self.sources.entries().len() as u32
+        self.sources.all().len() as u32
     }
 
     /// Tells whether a source is to be forwarded.
     pub(crate) fn is_ready(&self, s: u32) -> bool
         ensures { result ≡ is_ready self.now s }
     {
-        self.delivers_by_msi() && self.on && is_waiting(self.sources.entries(), s)
+        self.delivers_by_msi() && self.on && waits_at(self.sources.all(), s)
     }
 }

@@ -5,14 +5,14 @@ ghost use Rattle.std.specs.Prelude.{◌≡◌, ℕ, suc, ◌*◌, ◌<◌, ◌�
 ghost use Rattle.aia_word.specs.Sets.{word_of};
 ghost use Rattle.aia_regs.specs.declared.limits.TheConstants.{HARTS, SOURCES, SOURCE_WORDS};
 ghost use Rattle.aia_source.specs.Registers.{in_word, touch_where};
-ghost use Rattle.aia_domain.specs.Entry.{EachSource, changed_at, changed_if_named, changed_by, touched, all_switched, waits_at};
-ghost use Rattle.aia_domain.specs.Kept.{IsNewSources, with_entries, Keeps, list_of};
+ghost use Rattle.aia_domain.specs.InterruptSource.{EachSource, changed_at, changed_if_named, changed_by, touched, all_switched, waits_at, candidates_of};
+ghost use Rattle.aia_domain.specs.Waiting.{IsNewSources, IsWhatWaits};
 ghost use Rattle.aia_domain.specs.Domain.{IsPairOfSource};
 ghost use Rattle.aia_waiting.specs.Order.{IsRising};
 
-use crate::entries::{aim_at, change_one, new_entries, switch_all};
-use crate::entry::{Aim, Change, Entry};
-use crate::kept::Kept;
+use crate::by_number::{aim_at, change_one, new_sources, switch_all};
+use crate::interrupt_source::{Aim, Change, InterruptSource};
+use crate::waiting::Waiting;
 use aia_regs::bit;
 use aia_source::Touch;
 use std::alloc::{AllocError, Global};
@@ -28,14 +28,14 @@ pub(crate) struct Sources {
     harts: u32,
     msi: bool,
     /// By number; the one of number 0 is no source, and inactive for good.
-    entries: Vec<Entry>,
-    kept: Kept,
+    sources: Vec<InterruptSource>,
+    waiting: Waiting,
 }
 
 impl Model for Sources {
     ghost use Rattle.std.specs.Prelude.{◌≡◌, suc, ◌<◌, ◌≤◌, length};
     ghost use Rattle.aia_regs.specs.declared.limits.TheConstants.{HARTS, SOURCES};
-    ghost use Rattle.aia_domain.specs.Kept.{SourcesState, Keeps};
+    ghost use Rattle.aia_domain.specs.Waiting.{SourcesState, IsWhatWaits};
 
     ghost Value = { SourcesState };
 
@@ -43,12 +43,12 @@ impl Model for Sources {
       leaf = x.leaf;
       harts = x.harts;
       msi = x.msi;
-      entries = x.entries.items;
+      sources = x.sources.items;
     } };
 
-    ghost invariant = { λ x. (x.harts ≤ HARTS) × (0 < length x.entries.items)
-        × (length x.entries.items ≤ suc SOURCES) × (length x.kept.fronts ≡ x.harts)
-        × Keeps x.msi x.entries.items x.kept };
+    ghost invariant = { λ x. (x.harts ≤ HARTS) × (0 < length x.sources.items)
+        × (length x.sources.items ≤ suc SOURCES) × (length x.waiting.fronts ≡ x.harts)
+        × IsWhatWaits x.msi x.sources.items x.waiting };
 }
 
 impl Sources {
@@ -64,24 +64,24 @@ impl Sources {
         requires harts { harts ≤ HARTS }
         ensures { IfOk result (IsNewSources sources harts leaf) }
     {
-        let entries = new_entries(alloc, sources + 1)?;
-        let kept = Kept::new(alloc, harts, sources)?;
+        let each = new_sources(alloc, sources + 1)?;
+        let waiting = Waiting::new(alloc, harts, sources)?;
         Ok(Sources {
             leaf,
             harts,
             msi: false,
-            entries,
-            kept,
+            sources: each,
+            waiting,
         })
     }
 
     /// Gives what is kept of each source, by its number.
-    pub(crate) fn entries(&self) -> &[Entry]
-        ensures entries { result.now ≡ self.now.entries }
-        ensures some { 0 < length self.now.entries }
-        ensures few { length self.now.entries ≤ suc SOURCES }
+    pub(crate) fn all(&self) -> &[InterruptSource]
+        ensures sources { result.now ≡ self.now.sources }
+        ensures some { 0 < length self.now.sources }
+        ensures few { length self.now.sources ≤ suc SOURCES }
     {
-        &self.entries
+        &self.sources
     }
 
     /// Tells whether the domain delivers by MSIs.
@@ -108,9 +108,9 @@ impl Sources {
 
     /// Does a change to one source, where it is there; number 0 names none.
     pub(crate) fn change_named(&mut self, s: u32, change: Change)
-        ensures sources { EachSource self.old.entries self.new.entries (changed_if_named s
+        ensures sources { EachSource self.old.sources self.new.sources (changed_if_named s
             (changed_by change self.old.leaf self.old.harts self.old.msi)) }
-        ensures others { self.new ≡ with_entries self.old self.new.entries }
+        ensures others { self.new ≡ record self.old { sources = self.new.sources } }
     {
         if s > 0 {
             self.change(u64::from(s), change);
@@ -119,9 +119,9 @@ impl Sources {
 
     /// Touches the sources of word `k` whose bits are ones in `value`.
     pub(crate) fn touch_word(&mut self, k: u32, value: u32, touch: Touch)
-        ensures sources { EachSource self.old.entries self.new.entries
+        ensures sources { EachSource self.old.sources self.new.sources
             (λ s. touched self.old.msi (touch_where (in_word k value) touch s)) }
-        ensures others { self.new ≡ with_entries self.old self.new.entries }
+        ensures others { self.new ≡ record self.old { sources = self.new.sources } }
     {
         for place in 0..WORD {
             if bit(u64::from(value), place) {
@@ -133,52 +133,55 @@ impl Sources {
 
     /// Has all sources hear how the domain delivers from now on.
     pub(crate) fn switch(&mut self, msi: bool)
-        ensures sources { EachSource self.old.entries self.new.entries (all_switched msi) }
+        ensures sources { EachSource self.old.sources self.new.sources (all_switched msi) }
         ensures others { self.new
-            ≡ record self.old { msi = msi; entries = self.new.entries } }
+            ≡ record self.old { msi = msi; sources = self.new.sources } }
     {
         self.msi = msi;
-        switch_all(&mut self.entries, msi);
-        self.kept.begin(&self.entries, msi);
+        switch_all(&mut self.sources, msi);
+        self.waiting.begin(&self.sources, msi);
     }
 
     /// Gives the candidate of a hart at a place, in direct delivery.
     pub(crate) fn candidate(&self, hart: u32, place: usize) -> Option<(u32, u32)>
-        ensures pair { result ≡ slice_get (list_of self.now hart) place }
-        ensures rising { IsRising (list_of self.now hart) }
-        ensures small { All IsPairOfSource (list_of self.now hart) }
+        ensures pair { result ≡ slice_get
+            (candidates_of self.now.harts self.now.msi self.now.sources hart) place }
+        ensures rising { IsRising
+            (candidates_of self.now.harts self.now.msi self.now.sources hart) }
+        ensures small { All IsPairOfSource
+            (candidates_of self.now.harts self.now.msi self.now.sources hart) }
     {
-        self.kept.candidate(hart, place)
+        self.waiting.candidate(hart, place)
     }
 
     /// Gives word `k`, below `SOURCE_WORDS`, of the sources that wait for an MSI.
     pub(crate) fn waiting_word(&self, k: u32) -> u64
         requires { k < SOURCE_WORDS }
         ensures word { result
-            ≡ word_of (λ s. self.now.msi && waits_at self.now.entries s) (64 * k) 64 }
-        ensures range { (s : ℕ) → waits_at self.now.entries s ≡ true → s ≤ SOURCES }
+            ≡ word_of (λ s. self.now.msi && waits_at self.now.sources s) (64 * k) 64 }
+        ensures range { (s : ℕ) → waits_at self.now.sources s ≡ true → s ≤ SOURCES }
     {
-        self.kept.word(k)
+        self.waiting.word(k)
     }
 
     /// Tells whether a source waits for an MSI.
     pub(crate) fn has_waiting(&self) -> bool
         ensures { IsFalse result
-            ↔ ((s : ℕ) → (self.now.msi && waits_at self.now.entries s) ≡ false) }
+            ↔ ((s : ℕ) → (self.now.msi && waits_at self.now.sources s) ≡ false) }
     {
-        self.kept.has_waiting()
+        self.waiting.has_waiting()
     }
 
     /// Does a change to one source, where it is there.
     pub(crate) fn change(&mut self, s: u64, change: Change)
-        ensures sources { EachSource self.old.entries self.new.entries
+        ensures sources { EachSource self.old.sources self.new.sources
             (changed_at s (changed_by change self.old.leaf self.old.harts self.old.msi)) }
-        ensures others { self.new ≡ with_entries self.old self.new.entries }
+        ensures others { self.new ≡ record self.old { sources = self.new.sources } }
     {
         let (leaf, harts, msi) = (self.leaf, self.harts, self.msi);
-        change_kept(
-            &mut self.entries,
-            &mut self.kept,
+        change_with_waiting(
+            &mut self.sources,
+            &mut self.waiting,
             s,
             change,
             leaf,
@@ -189,35 +192,35 @@ impl Sources {
 }
 
 /// Does a change to one source, where it is there, and keeps what waits.
-fn change_kept(
-    entries: &mut [Entry],
-    kept: &mut Kept,
+fn change_with_waiting(
+    sources: &mut [InterruptSource],
+    waiting: &mut Waiting,
     s: u64,
     change: Change,
     leaf: bool,
     harts: u32,
     msi: bool,
 )
-    requires few { length entries.old ≤ suc SOURCES }
-    requires keeps { Keeps msi entries.old kept.old }
-    ensures sources { EachSource entries.old entries.new
+    requires few { length sources.old ≤ suc SOURCES }
+    requires keeps { IsWhatWaits msi sources.old waiting.old }
+    ensures sources { EachSource sources.old sources.new
         (changed_at s (changed_by change leaf harts msi)) }
-    ensures keeps { Keeps msi entries.new kept.new }
-    ensures lists { length kept.new.fronts ≡ length kept.old.fronts }
+    ensures keeps { IsWhatWaits msi sources.new waiting.new }
+    ensures lists { length waiting.new.fronts ≡ length waiting.old.fronts }
 {
-    if s >= entries.len() as u64 {
+    if s >= sources.len() as u64 {
         return;
     }
-    let stood = aim_at(entries, s);
-    change_one(entries, s, change, leaf, harts, msi);
-    let stands = aim_at(entries, s);
+    let stood = aim_at(sources, s);
+    change_one(sources, s, change, leaf, harts, msi);
+    let stands = aim_at(sources, s);
     if is_same(stood, stands) {
         return;
     }
     if msi {
-        kept.tell(s as u32, stands.is_some());
+        waiting.tell(s as u32, stands.is_some());
     } else if s > 0 {
-        kept.renew(s as u32, stood, stands);
+        waiting.renew(s as u32, stood, stands);
     }
 }
 

@@ -2,14 +2,14 @@
 use Rattle.std.proofs.Common.{◌≡◌, ℕ, ◌+◌, ◌*◌, ◌/◌, ◌%◌, ◌^◌, ◌<◌, true, false, refl, arith}
 use Rattle.std.proofs.lemmas.Bool.{eq-eqb, ne_eqb}
 use Rattle.aia_regs.specs.Fields.{field}
-use Rattle.aia_regs.specs.Operations.{is_one}
+use Rattle.aia_word.specs.Sets.{has_bit}
 use Rattle.aia_entry.specs.declared.entry.Entry.TheVariants.{Basic, Mrif}
 use Rattle.aia_entry.specs.Format.{decoded, basic_word, mrif_word, notice_word}
 
 pub basic_back : (page w1 : ℕ) → page < 2 ^ 44 → decoded (basic_word page) w1 ≡ Basic page
 basic_back page w1 low =
-    let v : is_one (page * 1024 + 7) 0 ≡ true = eq-eqb _ _ (omega arith) in
-    let c : is_one (page * 1024 + 7) 63 ≡ false = ne_eqb _ _ (λ e. omega arith) in
+    let v : has_bit (page * 1024 + 7) 0 ≡ true = eq-eqb _ _ (omega arith) in
+    let c : has_bit (page * 1024 + 7) 63 ≡ false = ne_eqb _ _ (λ e. omega arith) in
     let m : field (page * 1024 + 7) 2 1 ≡ 3 = omega arith in
     let r : field (page * 1024 + 7) 9 3 ≡ 0 = omega arith in
     let s : field (page * 1024 + 7) 62 54 ≡ 0 = omega arith in
@@ -20,8 +20,8 @@ mrif_slot_back : (slot page identity : ℕ) → slot < 2 ^ 47 → page < 2 ^ 44 
 mrif_slot_back slot page identity low lowp lowi =
     let w0 = slot * 512 / 4 + 3 in
     let w1 = page * 1024 + identity % 1024 + identity / 1024 * 2 ^ 60 in
-    let v : is_one w0 0 ≡ true = eq-eqb _ _ (omega arith) in
-    let c : is_one w0 63 ≡ false = ne_eqb _ _ (λ e. omega arith) in
+    let v : has_bit w0 0 ≡ true = eq-eqb _ _ (omega arith) in
+    let c : has_bit w0 63 ≡ false = ne_eqb _ _ (λ e. omega arith) in
     let m : field w0 2 1 ≡ 1 = omega arith in
     let r : field w0 6 3 ≡ 0 = omega arith in
     let s : field w0 62 54 ≡ 0 = omega arith in

@@ -3,7 +3,7 @@
 -- AIA 1.0, IOMMU Support for MSIs to Virtual Machines, "MSI page tables".
 use Rattle.std.specs.Prelude.{ℕ, ◌+◌, ◌*◌, ◌/◌, ◌%◌, ◌^◌, Bool, not, ◌&&◌, nat_eq, if◌then◌else◌}
 use Rattle.aia_regs.specs.Fields.{field}
-use Rattle.aia_regs.specs.Operations.{is_one}
+use Rattle.aia_word.specs.Sets.{has_bit}
 use Rattle.aia_entry.specs.declared.entry.Entry.{Entry}
 use Rattle.aia_entry.specs.declared.entry.Entry.TheVariants.{Basic, Mrif, NotValid, Custom, Misconfigured}
 
@@ -34,8 +34,8 @@ decoded_by_mode mode w0 w1 =
 -- What an entry says: whether it is valid is looked at first, then whether it is custom.
 abbrev pub decoded : ℕ → ℕ → Entry
 decoded w0 w1 =
-    if not (is_one w0 0) then NotValid
-    else (if is_one w0 63 then Custom else decoded_by_mode (field w0 2 1) w0 w1)
+    if not (has_bit w0 0) then NotValid
+    else (if has_bit w0 63 then Custom else decoded_by_mode (field w0 2 1) w0 w1)
 
 -- ---- the words that say it
 

@@ -3,7 +3,6 @@
 
 ghost use Rattle.std.specs.Prelude.{◌≡◌, ◌≢◌, ℕ, ◌%◌, ◌^◌, ◌<◌, ◌↔◌, ◌⊎◌, true, false, List, length};
 ghost use Rattle.aia_word.specs.Sets.{has_bit};
-ghost use Rattle.aia_regs.specs.Operations.{is_one};
 ghost use Rattle.aia_entry.specs.declared.entry.Entry.TheVariants.{Basic, Mrif, NotValid, Custom};
 ghost use Rattle.aia_entry.specs.Format.{decoded, basic_word, mrif_word, notice_word};
 ghost use Rattle.aia_entry.specs.Translation.{IsMask, page_number, is_msi_address, file_number};
@@ -34,9 +33,9 @@ pub fn an_entry_has_one_spelling()
 /// The order of the looks: an entry says that it is not valid exactly where bit 0 of word 0 is 0,
 /// and that it is custom exactly where that bit is a one and bit 63 is too, whatever else it has.
 pub fn order_of_looks()
-    ensures not_valid { (w0 w1 : ℕ) → (decoded w0 w1 ≡ NotValid) ↔ (is_one w0 0 ≡ false) }
+    ensures not_valid { (w0 w1 : ℕ) → (decoded w0 w1 ≡ NotValid) ↔ (has_bit w0 0 ≡ false) }
     ensures custom { (w0 w1 : ℕ) → (decoded w0 w1 ≡ Custom)
-        ↔ ((is_one w0 0 ≡ true) × (is_one w0 63 ≡ true)) }
+        ↔ ((has_bit w0 0 ≡ true) × (has_bit w0 63 ≡ true)) }
 {}
 
 /// An address is an MSI address of a VM exactly where its page has the pattern's bit at each place

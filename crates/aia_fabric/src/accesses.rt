@@ -1,13 +1,14 @@
-ghost use Rattle.std.specs.Prelude.{◌≡◌, ◌^◌, ◌<◌, ◌≤◌, true, false, bit_or, option_map};
+ghost use Rattle.std.specs.Prelude.{◌≡◌, ◌^◌, ◌<◌, ◌≤◌, false, bit_or, option_map};
 ghost use Rattle.std.specs.Borrow.{Bor};
 ghost use Rattle.aia_word.specs.Sets.{has_bit};
 ghost use Rattle.aia_regs.specs.declared.limits.TheConstants.{VCPUS, FILE_WORDS};
 ghost use Rattle.aia_home.specs.declared.place.Place.{Place};
-ghost use Rattle.aia_home.specs.Vms.{vcpu, is_vcpu_in};
-ghost use Rattle.aia_fabric.specs.Flights.{Fences};
-ghost use Rattle.aia_fabric.specs.Changes.{IsPlaceThere, words_at, pending_words, enable_words, pending_at, with_pending, enable_at, with_enable, with_entry_word, with_fence, with_map, with_stage_fence};
+ghost use Rattle.aia_home.specs.Vms.{vcpu};
+ghost use Rattle.aia_world.specs.Found.{IsFound};
+ghost use Rattle.aia_world.specs.Flights.{Fences};
+ghost use Rattle.aia_world.specs.Changes.{IsPlaceThere, words_at, pending_words, enable_words, pending_at, with_pending, enable_at, with_enable, with_entry_word, with_fence, with_map, with_gfence};
 
-use crate::{At, Fabric, map};
+use crate::{At, Fabric, Found, map};
 use aia_mrif::{SlotMut, look};
 use aia_pool::FileLease;
 use aia_word::Bank;
@@ -15,7 +16,7 @@ use aia_word::Bank;
 /// What the steps of moves do, and an IOMMU that reads an entry again. Each touches one word of a
 /// place, one word or entry of a table, or one record, and all else stays; but the fence of an
 /// entry lands the stores in flight of its VM first.
-#[tactic(auto, using(crate::proofs::WholeLemmas::width_at, crate::proofs::WholeLemmas::vcpu_entry, crate::proofs::WholeLemmas::vcpu_words))]
+#[tactic(auto, using(aia_world::proofs::WholeLemmas::width_at, aia_world::proofs::WholeLemmas::vcpu_entry, aia_world::proofs::WholeLemmas::vcpu_words, aia_world::proofs::FoundLemmas::found_there))]
 impl Fabric {
     // ---- the sets of a place
 
@@ -115,13 +116,13 @@ impl Fabric {
     /// Writes word `which`, 0 or 1, of the entry of a virtual hart that is there.
     ///
     /// AIA 1.0, IOMMU Support for MSIs to Virtual Machines, "MSI page tables".
-    pub fn put_word(&mut self, vm: u32, file: u32, which: u32, v: u64)
-        requires there { is_vcpu_in self.old.vms (vcpu vm file) ≡ true }
+    pub fn put_word(&mut self, found: Found, which: u32, v: u64)
+        requires there { IsFound self.old found }
         requires word { which ≤ 1 }
-        ensures { self.new ≡ with_entry_word self.old vm file which v }
+        ensures { self.new ≡ with_entry_word self.old found.vm found.number which v }
     {
         let ram = &mut self.ram;
-        let at = map::table_place(vm) + 16 * file as usize + 8 * which as usize;
+        let at = map::table_place(found.vm) + 16 * found.number as usize + 8 * which as usize;
         ram.store(at, v);
     }
 
@@ -130,48 +131,46 @@ impl Fabric {
     ///
     /// AIA 1.0, IOMMU Support for MSIs to Virtual Machines, "MSI page tables". Profile: an IOMMU
     /// answers a fence once the stores that it led before have landed.
-    pub fn fence(&mut self, vm: u32, file: u32)
-        requires { is_vcpu_in self.old.vms (vcpu vm file) ≡ true }
-        ensures { Fences self.old self.new vm file }
+    pub fn fence(&mut self, found: Found)
+        requires { IsFound self.old found }
+        ensures { Fences self.old self.new found.vm found.number }
     {
-        self.land_all(vm);
+        self.land_all(found.vm);
         let _whole = self.words();
-        self.refetch(vm, file);
+        self.refetch(found);
     }
 
     /// Reads the entry of a virtual hart that is there again, as an IOMMU may at any time: it is in
     /// force as its two words say it, and no store lands.
     ///
     /// AIA 1.0, IOMMU Support for MSIs to Virtual Machines, "MSI page tables".
-    pub fn refetch(&mut self, vm: u32, file: u32)
-        requires { is_vcpu_in self.old.vms (vcpu vm file) ≡ true }
-        ensures { self.new ≡ with_fence self.old vm file }
+    pub fn refetch(&mut self, found: Found)
+        requires { IsFound self.old found }
+        ensures { self.new ≡ with_fence self.old found.vm found.number }
     {
-        self.iommu.refetch(vm, file, &self.ram);
+        self.iommu.refetch(found.vm, found.number, &self.ram);
     }
 
     /// Writes the G-stage record of a virtual hart that is there: the guest file that it names, or
     /// `None`, by which stores of its peers go to its slot of memory. What is in force stays.
     ///
     /// The hypervisor extension 1.0.
-    pub fn map(&mut self, vm: u32, file: u32, to: Option<&FileLease>)
-        requires { is_vcpu_in self.old.vms (vcpu vm file) ≡ true }
-        ensures { self.new ≡ with_map self.old (vcpu vm file)
+    pub fn map(&mut self, found: Found, to: Option<&FileLease>)
+        requires { IsFound self.old found }
+        ensures { self.new ≡ with_map self.old (vcpu found.vm found.number)
             (option_map (λ (lease : Bor Place). lease.now) to.entry) }
     {
-        let slot = self.vms.slot_of(vm, file);
-        self.stages[slot as usize].written = to.map(|lease| lease.place());
+        self.stages[found.slot as usize].written = to.map(|lease| lease.place());
     }
 
     /// Puts the G-stage record of a virtual hart that is there in force, as it is written.
     ///
     /// The hypervisor extension 1.0: HFENCE.GVMA.
-    pub fn gfence(&mut self, vm: u32, file: u32)
-        requires { is_vcpu_in self.old.vms (vcpu vm file) ≡ true }
-        ensures { self.new ≡ with_stage_fence self.old (vcpu vm file) }
+    pub fn gfence(&mut self, found: Found)
+        requires { IsFound self.old found }
+        ensures { self.new ≡ with_gfence self.old (vcpu found.vm found.number) }
     {
-        let slot = self.vms.slot_of(vm, file);
-        let stage = &mut self.stages[slot as usize];
+        let stage = &mut self.stages[found.slot as usize];
         stage.in_force = stage.written;
     }
 }

@@ -1,4 +1,4 @@
-ghost use Rattle.std.specs.Prelude.{◌≡◌, ◌≢◌, ℕ, ◌+◌, ◌*◌, ◌/◌, ◌^◌, ◌<◌, ◌≤◌, ◌&&◌, true, length, slice_index_or, IsTrue, IfOk};
+ghost use Rattle.std.specs.Prelude.{◌≡◌, ◌≢◌, ℕ, ◌+◌, ◌*◌, ◌/◌, ◌^◌, ◌<◌, ◌≤◌, ◌&&◌, true, false, length, slice_index_or, IsTrue, IfOk, IfSome, IfNone};
 ghost use Rattle.std.specs.Int.{is_in_range};
 ghost use Rattle.aia_word.specs.Packed.{ones};
 ghost use Rattle.aia_word.specs.Sets.{has_bit};
@@ -14,14 +14,15 @@ ghost use Rattle.aia_mrif.specs.Mrif.{mrif_in, stored};
 ghost use Rattle.aia_entry.specs.Tables.{table_of, route_of};
 ghost use Rattle.aia_entry.specs.Translation.{IsMask};
 ghost use Rattle.aia_home.specs.Vms.{Vcpu, vcpu, vcpus_in, is_vcpu_in, slot_of, notice_hart};
-ghost use Rattle.aia_fabric.specs.World.{no_stage};
-ghost use Rattle.aia_fabric.specs.Making.{IsNew, with_vm, with_entry};
-ghost use Rattle.aia_fabric.specs.Stores.{StoresIn, Posts, counted, page_spot, named_spot, with_store};
-ghost use Rattle.aia_fabric.specs.Whole.{IsWhole};
+ghost use Rattle.aia_world.specs.World.{no_stage};
+ghost use Rattle.aia_world.specs.Found.{IsFound};
+ghost use Rattle.aia_world.specs.Making.{IsNew, with_vm, with_entry};
+ghost use Rattle.aia_world.specs.Stores.{StoresIn, Posts, counted, page_spot, named_spot, with_store};
+ghost use Rattle.aia_world.specs.Whole.{IsWhole};
 
 use crate::flights::Flights;
 use crate::vms::Vms;
-use crate::{Stage, map};
+use crate::{Found, Stage, map};
 use aia_entry::{Iommu, Route};
 use aia_file::File;
 use aia_home::{Place, Vm};
@@ -49,8 +50,8 @@ pub struct Fabric {
 }
 
 impl Model for Fabric {
-    ghost use Rattle.aia_fabric.specs.World.{World};
-    ghost use Rattle.aia_fabric.specs.Whole.{IsWhole};
+    ghost use Rattle.aia_world.specs.World.{World};
+    ghost use Rattle.aia_world.specs.Whole.{IsWhole};
 
     ghost Value = { World };
 
@@ -77,7 +78,7 @@ impl Model for Fabric {
     }) };
 }
 
-#[tactic(auto, using(crate::proofs::WholeLemmas::width_at))]
+#[tactic(auto, using(aia_world::proofs::WholeLemmas::width_at))]
 impl Fabric {
     /// Makes the machine's empty files, memory of zeros, the room for all VMs and their stores in
     /// flight, and an empty G-stage record for each of `VCPUS` virtual harts: of `harts` harts, 1
@@ -196,6 +197,26 @@ impl Fabric {
         self.vms.has(vm, number)
     }
 
+    /// Finds the virtual hart of this VM with this number, with its slot and its notice hart.
+    /// `None` exactly where it isn't there; `whole` as of [`Fabric::vms`].
+    pub fn find(&self, vm: u64, number: u64) -> Option<Found>
+        ensures there { IfSome result (λ found. IsFound self.now found) }
+        ensures named { IfSome result (λ found. (found.vm ≡ vm) × (found.number ≡ number)) }
+        ensures none { IfNone result (is_vcpu_in self.now.vms (vcpu vm number) ≡ false) }
+        ensures whole { IsWhole self.now }
+    {
+        if !self.has_vcpu(vm, number) {
+            return None;
+        }
+        let (vm, number) = (vm as u32, number as u32);
+        Some(Found {
+            vm,
+            number,
+            slot: self.slot_of(vm, number),
+            notice: self.notice_hart(vm, number),
+        })
+    }
+
     /// Tells how many notices were sent; the count stays at `2^64 - 1`.
     pub fn notices(&self) -> u64
         ensures { result ≡ self.now.notices }
@@ -278,14 +299,14 @@ impl Fabric {
     pub fn notice(&mut self, q: u32)
         requires { q < vcpus_in self.old.vms }
         ensures posts { (g : Vcpu) → is_vcpu_in self.old.vms g ≡ true → slot_of self.old.vms g ≡ q
-            → Posts self.old self.new (Spot.HostFile (notice_hart self.old.vms g)) (q + 1) }
+            → Posts self.old self.new (Spot.SupervisorFile (notice_hart self.old.vms g)) (q + 1) }
         ensures rest { self.new ≡ record self.old {
           imsic = record self.old.imsic { files = self.new.imsic.files };
           notices = counted self.old.notices;
         } }
     {
         let hart = self.vms.notice_hart(q);
-        self.post(Spot::HostFile(hart), q + 1);
+        self.post(Spot::SupervisorFile(hart), q + 1);
     }
 
     /// Sends a notice to a file: a store of its identity, which is counted.

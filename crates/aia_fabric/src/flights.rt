@@ -1,33 +1,11 @@
 ghost use Rattle.std.specs.Prelude.{◌≡◌, ◌<◌, ◌≤◌, Some, [], ◌∷◌, ◌++◌, length, remove, slice_get, slice_index_or, slice_set, IfOk};
 ghost use Rattle.aia_regs.specs.declared.limits.TheConstants.{VMS, STORES_IN_FLIGHT};
 
-use aia_entry::Entry;
 use aia_regs::limits::{STORES_IN_FLIGHT, VMS};
+use aia_world::Flying;
 use arrayvec::ArrayVec;
 use std::alloc::{AllocError, Global};
 use std::marker::Model;
-
-/// A store of a device that is in flight.
-#[derive(Clone, Copy, Debug, PartialEq, Eq)]
-pub struct Flying {
-    /// The entry that was in force for it as it was sent.
-    pub entry: Entry,
-    /// Its offset in the page of its file, in bytes.
-    pub offset: u32,
-    /// What it stores.
-    pub value: u32,
-}
-
-/// A store that goes nowhere; lists that take stores out need one.
-impl Default for Flying {
-    fn default() -> Flying {
-        Flying {
-            entry: Entry::NotValid,
-            offset: 0,
-            value: 0,
-        }
-    }
-}
 
 /// The stores in flight of the devices of a VM, the oldest first.
 #[derive(Drop)]
@@ -37,7 +15,7 @@ struct Flight {
 
 impl Model for Flight {
     ghost use Rattle.std.specs.Prelude.{List};
-    ghost use Rattle.aia_fabric.specs.declared.flights.Flying.{Flying};
+    ghost use Rattle.aia_world.specs.declared.flying.Flying.{Flying};
 
     ghost Value = { List Flying };
 
@@ -97,7 +75,7 @@ impl Model for Flights {
     ghost use Rattle.std.specs.Prelude.{◌≡◌, List};
     ghost use Rattle.std.specs.Vec.{vec_capacity};
     ghost use Rattle.aia_regs.specs.declared.limits.TheConstants.{VMS};
-    ghost use Rattle.aia_fabric.specs.declared.flights.Flying.{Flying};
+    ghost use Rattle.aia_world.specs.declared.flying.Flying.{Flying};
 
     ghost Value = { List (List Flying) };
 

@@ -5,19 +5,14 @@
 #![tactic(auto)]
 
 mod accesses;
-mod at;
 mod fabric;
 mod flights;
 mod from_memory;
 mod in_flight;
-pub mod laws;
 mod making;
 mod map;
-mod stage;
 mod stores;
 mod vms;
 
-pub use at::At;
+pub use aia_world::{At, Flying, Found, Stage};
 pub use fabric::Fabric;
-pub use flights::Flying;
-pub use stage::Stage;

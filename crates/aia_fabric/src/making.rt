@@ -3,7 +3,7 @@ ghost use Rattle.aia_word.specs.Packed.{ones};
 ghost use Rattle.aia_regs.specs.declared.limits.TheConstants.{VMS, VCPUS};
 ghost use Rattle.aia_entry.specs.Translation.{IsMask};
 ghost use Rattle.aia_home.specs.Vms.{vcpus_in};
-ghost use Rattle.aia_fabric.specs.Making.{MakesVm};
+ghost use Rattle.aia_world.specs.Making.{MakesVm};
 
 use crate::{Fabric, map};
 use aia_home::Vm;

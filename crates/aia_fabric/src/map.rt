@@ -5,9 +5,9 @@ ghost use Rattle.aia_regs.specs.AddressMap.{slot_address, supervisor_page};
 ghost use Rattle.aia_regs.specs.declared.address_map.TheConstants.{PAGE};
 ghost use Rattle.aia_regs.specs.declared.limits.TheConstants.{HARTS, VMS, VCPUS, MEMORY_WORDS};
 ghost use Rattle.aia_entry.specs.Format.{mrif_word, notice_word};
-ghost use Rattle.aia_ram.specs.Words.{Fits};
-ghost use Rattle.aia_fabric.specs.Stores.{slot_at};
-ghost use Rattle.aia_fabric.specs.Making.{table_place};
+ghost use Rattle.aia_ram.specs.Words.{HasWordAt};
+ghost use Rattle.aia_world.specs.Stores.{slot_at};
+ghost use Rattle.aia_world.specs.Making.{table_place};
 
 use aia_entry::mrif;
 use aia_ram::Ram;
@@ -51,7 +51,7 @@ pub fn notice_page(hart: u32) -> u64
 /// below `SLOTS`, and its notices go to the page of number `page`, below `2^44`, with the identity
 /// `slot + 1`.
 pub fn write_entry(ram: &mut Ram, at: usize, slot: u32, page: u64)
-    requires word0 { Fits ram.old at }
+    requires word0 { HasWordAt ram.old at }
     requires word1 { at / 8 + 1 < length ram.old }
     requires few { length ram.old ≡ MEMORY_WORDS }
     requires slot { slot < VCPUS }

@@ -4,11 +4,12 @@ ghost use Rattle.aia_regs.specs.declared.limits.TheConstants.{VCPUS};
 ghost use Rattle.aia_imsic.specs.Imsic.{IsThere};
 ghost use Rattle.aia_entry.specs.Tables.{table_of, route_of};
 ghost use Rattle.aia_home.specs.Vms.{Vcpu, vcpu, vcpus_in, is_vcpu_in, slot_of};
-ghost use Rattle.aia_fabric.specs.World.{OnlyStores, stage_of};
-ghost use Rattle.aia_fabric.specs.Stores.{Relays, Reaches, ReachesBy, StoresAt, StoresInSlot, NoticedAt, page_spot};
+ghost use Rattle.aia_world.specs.World.{OnlyStores, stage_of};
+ghost use Rattle.aia_world.specs.Found.{IsFound};
+ghost use Rattle.aia_world.specs.Stores.{Relays, Reaches, ReachesBy, StoresAt, StoresInSlot, NoticedAt, page_spot};
 
-use crate::Fabric;
 use crate::map::slot_at;
+use crate::{Fabric, Found};
 use aia_entry::{Entry, Route};
 use aia_imsic::Spot;
 use aia_mrif::Stored;
@@ -20,7 +21,7 @@ impl Fabric {
     /// due. Tells the route. All but files, memory and the count of notices stays.
     ///
     /// AIA 1.0, IOMMU Support for MSIs to Virtual Machines.
-    #[tactic(auto, using(crate::proofs::FrameLemmas::reaches_rest))]
+    #[tactic(auto, using(aia_world::proofs::FrameLemmas::reaches_rest))]
     pub fn device_store(&mut self, vm: u32, addr: u64, value: u32) -> Route
         requires { vm < length self.old.vms }
         ensures route { result ≡ route_of (table_of self.old.tables vm) addr }
@@ -35,27 +36,29 @@ impl Fabric {
         route
     }
 
-    /// Takes a 32-bit store of `value` of a guest for virtual hart `to` of VM `vm`, one that is
-    /// there: it goes to the guest file that the G-stage record in force names, and is dropped
-    /// where no such file is there; where none is named it goes to the virtual hart's slot, with a
-    /// notice where one is due. All but files, memory and the count of notices stays.
+    /// Takes a 32-bit store of `value` of a guest for virtual hart `to`, one that is there: it goes
+    /// to the guest file that the G-stage record in force names, and is dropped where no such file
+    /// is there; where none is named it goes to the virtual hart's slot, with a notice where one is
+    /// due. All but files, memory and the count of notices stays.
     ///
     /// The hypervisor extension 1.0; profile.
-    #[tactic(auto, using(crate::proofs::FrameLemmas::relays_rest))]
-    pub fn guest_store(&mut self, vm: u32, to: u32, value: u32)
-        requires { is_vcpu_in self.old.vms (vcpu vm to) ≡ true }
-        ensures relays { Relays (stage_of self.old (vcpu vm to)).in_force self.old self.new
-            (vcpu vm to) value }
+    #[tactic(auto, using(aia_world::proofs::FrameLemmas::relays_rest, aia_world::proofs::FoundLemmas::found_there))]
+    pub fn guest_store(&mut self, to: Found, value: u32)
+        requires { IsFound self.old to }
+        ensures relays { Relays (stage_of self.old (vcpu to.vm to.number)).in_force
+            self.old self.new (vcpu to.vm to.number) value }
         ensures rest { OnlyStores self.old self.new }
     {
-        let slot = self.slot_of(vm, to);
-        let hart = self.notice_hart(vm, to);
-        match self.stage(slot).in_force {
+        let _whole = self.words();
+        match self.stage(to.slot).in_force {
             Some(place) => {
                 let spot = self.named_spot(place);
                 self.store_guest(spot, 0, value);
             }
-            None => self.store_in(slot, Spot::HostFile(hart), slot + 1, 0, value),
+            None => {
+                let spot = Spot::SupervisorFile(to.notice);
+                self.store_in(to.slot, spot, to.slot + 1, 0, value);
+            }
         }
     }
 
@@ -66,7 +69,7 @@ impl Fabric {
     ///
     /// AIA 1.0, IOMMU Support for MSIs to Virtual Machines, "Memory-resident interrupt files".
     /// Profile: passes.
-    #[tactic(auto, using(crate::proofs::FrameLemmas::slot_rest))]
+    #[tactic(auto, using(aia_world::proofs::FrameLemmas::slot_rest))]
     pub fn slot_store(&mut self, q: u32, value: u32)
         requires { q < vcpus_in self.old.vms }
         ensures stores { (g : Vcpu) → is_vcpu_in self.old.vms g ≡ true → slot_of self.old.vms g ≡ q
@@ -75,7 +78,7 @@ impl Fabric {
     {
         let _whole = self.words();
         let hart = self.vms.notice_hart(q);
-        self.store_in(q, Spot::HostFile(hart), q + 1, 0, value);
+        self.store_in(q, Spot::SupervisorFile(hart), q + 1, 0, value);
     }
 
     /// Takes a store that an entry leads to its place.
@@ -110,7 +113,7 @@ impl Fabric {
     {
         match spot {
             Spot::GuestFile(_, _) => self.host_store(spot, offset, value),
-            Spot::MachineFile(_) | Spot::HostFile(_) | Spot::Nowhere => {}
+            Spot::MachineFile(_) | Spot::SupervisorFile(_) | Spot::Nowhere => {}
         }
     }
 
@@ -132,7 +135,7 @@ impl Fabric {
         ensures { NoticedAt self.old self.new spot identity }
     {
         match spot {
-            Spot::MachineFile(_) | Spot::HostFile(_) => self.post(spot, identity),
+            Spot::MachineFile(_) | Spot::SupervisorFile(_) => self.post(spot, identity),
             Spot::GuestFile(_, _) | Spot::Nowhere => {}
         }
     }

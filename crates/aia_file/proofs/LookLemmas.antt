@@ -5,7 +5,7 @@ use Rattle.aia_word.specs.Sets.{has_bit, least_of}
 use Rattle.aia_word.specs.Top.{top_identity, lets_through}
 use Rattle.aia_word.proofs.LeastLemmas.{least_of-found, least_of-none}
 use Rattle.aia_file.specs.InterruptFile.{is_shared}
-use Rattle.aia_file.specs.Summary.{Summarizes, AreIdentities}
+use Rattle.aia_file.specs.Summary.{SummarizesBoth, AreIdentities}
 use Rattle.aia_file.proofs.SummaryLemmas.{both_words, bit_of_both, both_least, not_shared, told}
 use Rattle.aia_file.proofs.TopLemmas.{top_found, top_held_back, held_back_above}
 
@@ -32,7 +32,7 @@ first_none k live threshold none =
 
 -- ---- it is the identity on top, where word k is the first that has one in both sets
 
-pub none_below : (summary : ℕ) (p e : ℕ → Bool) (k : ℕ) → k < 64 → Summarizes summary p e → ((w : ℕ) → w < k → has_bit summary w ≡ false) → (i : ℕ) → i < 64 * k → (p i && e i) ≡ false
+pub none_below : (summary : ℕ) (p e : ℕ → Bool) (k : ℕ) → k < 64 → SummarizesBoth summary p e → ((w : ℕ) → w < k → has_bit summary w ≡ false) → (i : ℕ) → i < 64 * k → (p i && e i) ≡ false
 none_below summary p e k small summarizes below i low =
     not_shared p e (i / 64) i refl (sym (told summary p e summarizes (i / 64) (omega arith)) ∙ below (i / 64) (omega arith))
 

@@ -1,23 +1,18 @@
 -- The summary of two sets, and what it keeps where one word of a set changes.
-use Rattle.std.proofs.Common.{◌≡◌, ℕ, zero, suc, ◌+◌, ◌-◌, ◌*◌, ◌/◌, ◌%◌, ◌^◌, ◌<◌, ◌≤◌, Bool, true, false, ◌&&◌, ◌||◌, not, cond, Option, Some, None, is_some, nat_eq, inl, inr, refl, sym, ap, ◌∙◌, arith}
+use Rattle.std.proofs.Common.{◌≡◌, ℕ, ◌+◌, ◌*◌, ◌/◌, ◌%◌, ◌^◌, ◌<◌, ◌≤◌, Bool, true, false, ◌&&◌, is_some, nat_eq, inl, inr, refl, sym, ap, ◌∙◌, arith}
 use Rattle.std.specs.Int.{w64, trailing_zeros}
 use Rattle.std.specs.Prelude.{bit_and, bit_or}
-use Rattle.std.proofs.lemmas.Bool.{cases_eq, cases_lt, eq-eqb, ne_eqb, false≢true}
+use Rattle.std.proofs.lemmas.Bool.{cases_lt, false≢true}
 use Rattle.std.proofs.lemmas.Nat.{and_le_l}
 use Rattle.std.proofs.lemmas.Nat.Bits.{bit_at-trailing_zeros}
-use Rattle.aia_word.specs.Sets.{has_bit, word_of, least_of}
-use Rattle.aia_word.proofs.BitLemmas.{has_bit-and, has_bit-set, has_bit-clear, has_bit-zero}
+use Rattle.aia_word.specs.Sets.{has_bit, word_of}
+use Rattle.aia_word.proofs.BitLemmas.{has_bit-and, has_bit-zero}
 use Rattle.aia_word.proofs.SetLemmas.{has_bit-word_of, word_of-lt}
-use Rattle.aia_word.proofs.LeastLemmas.{least_of-found, least_of-none, least_of_is_none}
+use Rattle.aia_word.proofs.LeastLemmas.{least_of-none}
+use Rattle.aia_word.proofs.SummaryLemmas.{zero_has_none, other_has_some, none_in_word, summarizes, none_summarized, word_filled, other_words}
 use Rattle.aia_file.specs.InterruptFile.{is_shared}
-use Rattle.aia_file.specs.Summary.{Summarizes, SummarizesAllBut, AreIdentities}
+use Rattle.aia_file.specs.Summary.{SummarizesBoth, SummarizesBothAllBut, AreIdentities}
 use Rattle.aia_regs.specs.declared.limits.TheConstants.{FILE_WORDS}
-
-pub least_of-same : (a b : ℕ → Bool) (from count : ℕ) → ((i : ℕ) → from ≤ i → i < from + count → a i ≡ b i) → least_of a from count ≡ least_of b from count
-unfolding least_of
-least_of-same a b from zero same = refl
-least_of-same a b from (suc count) same =
-    ap (λ x. cond x (Some from) (least_of a (suc from) count)) (same from (omega arith) (omega arith)) ∙ ap (λ found. cond (b from) (Some from) found) (least_of-same a b (suc from) count (λ i low high. same i (omega arith) (omega arith)))
 
 -- ---- the word of both
 
@@ -35,65 +30,26 @@ both_small p e w =
     let lt = word_of-lt p (64 * w) 64 in omega (arith, le, lt)
 
 pub none_shared : (p e : ℕ → Bool) (w : ℕ) → both_words p e w ≡ 0 → is_shared p e w ≡ false
-none_shared p e w zero_word =
-    ap is_some (least_of-none (λ i. p i && e i) (64 * w) 64 (λ i low high.
-    let at : 64 * w + (i - 64 * w) ≡ i = omega arith in
-    ap (λ j. p j && e j) (sym at) ∙ sym (bit_of_both p e w (i - 64 * w) (omega arith)) ∙ ap (λ x. has_bit x (i - 64 * w)) zero_word ∙ has_bit-zero (i - 64 * w)))
-
-pub least_shared : (p e : ℕ → Bool) (w t : ℕ) → t < 64 → has_bit (both_words p e w) t ≡ true → ((b : ℕ) → b < t → has_bit (both_words p e w) b ≡ false)
-    → ((p (64 * w + t) && e (64 * w + t)) ≡ true) × ((i : ℕ) → 64 * w ≤ i → i < 64 * w + t → (p i && e i) ≡ false)
-least_shared p e w t small here below = (
-  sym (bit_of_both p e w t small) ∙ here,
-  λ i low high.
-      let at : 64 * w + (i - 64 * w) ≡ i = omega arith in
-      ap (λ j. p j && e j) (sym at) ∙ sym (bit_of_both p e w (i - 64 * w) (omega arith)) ∙ below (i - 64 * w) (omega arith),
-)
+none_shared p e w = zero_has_none (both_words p e w) w (λ i. p i && e i) (bit_of_both p e w)
 
 pub some_shared : (p e : ℕ → Bool) (w : ℕ) → (both_words p e w ≡ 0 → ⊥) → is_shared p e w ≡ true
-some_shared p e w some =
-    let x = both_words p e w in
-    let more : 0 < x = omega (arith, some) in
-    let low = bit_at-trailing_zeros w64 x more (both_small p e w) in
-    let t = trailing_zeros w64 x in
-    let least = least_shared p e w t low.0 (ap (λ b. nat_eq b 1) low.1) (λ b h. ap (λ y. nat_eq y 1) (low.2 b h)) in
-    ap is_some (least_of-found (λ i. p i && e i) (64 * w) 64 (64 * w + t) (omega arith) (omega (arith, low.0)) least.0 least.1)
+some_shared p e w = other_has_some (both_words p e w) w (λ i. p i && e i) (both_small p e w) (bit_of_both p e w)
 
 -- ---- what a change of word k leaves
 
-pub summary_elsewhere : (summary k : ℕ) (p e q f : ℕ → Bool) → Summarizes summary p e → ((i : ℕ) → (i / 64 ≡ k → ⊥) → (q i && f i) ≡ (p i && e i)) → SummarizesAllBut k summary q f
-unfolding Summarizes
-summary_elsewhere summary k p e q f summarizes same w low other =
-    summarizes w low ∙ sym (ap is_some (least_of-same (λ i. q i && f i) (λ i. p i && e i) (64 * w) 64 (λ i a b. same i (λ at. other (omega arith)))))
+pub summary_elsewhere : (summary k : ℕ) (p e q f : ℕ → Bool) → SummarizesBoth summary p e → ((i : ℕ) → (i / 64 ≡ k → ⊥) → (q i && f i) ≡ (p i && e i)) → SummarizesBothAllBut k summary q f
+summary_elsewhere summary k p e q f = other_words summary k (λ i. p i && e i) (λ i. q i && f i)
 
-pub bit_cleared : (summary k : ℕ) (p e : ℕ → Bool) → k < 64 → both_words p e k ≡ 0 → SummarizesAllBut k summary p e → Summarizes (bit_and summary (2 ^ 64 - 1 - 1 * 2 ^ k % 2 ^ 64)) p e
-unfolding Summarizes
-bit_cleared summary k p e small none others w low =
-    has_bit-clear summary k w small low ∙ elim (cases_eq w k) [
-      | inl at ↦ ap (λ b. not b && has_bit summary w) (eq-eqb w k at) ∙ sym (ap (is_shared p e) at ∙ none_shared p e k none)
-      | inr ne ↦ ap (λ b. not b && has_bit summary w) (ne_eqb w k ne) ∙ others w low ne
-    ]
-
-pub bit_put : (summary k : ℕ) (p e : ℕ → Bool) → k < 64 → (both_words p e k ≡ 0 → ⊥) → SummarizesAllBut k summary p e → Summarizes (bit_or summary (1 * 2 ^ k % 2 ^ 64)) p e
-unfolding Summarizes
-bit_put summary k p e small some others w low =
-    has_bit-set summary k w small ∙ elim (cases_eq w k) [
-      | inl at ↦ ap (λ b. b || has_bit summary w) (eq-eqb w k at) ∙ sym (ap (is_shared p e) at ∙ some_shared p e k some)
-      | inr ne ↦ ap (λ b. b || has_bit summary w) (ne_eqb w k ne) ∙ others w low ne
-    ]
+pub bit_put : (summary k : ℕ) (p e : ℕ → Bool) → k < 64 → (both_words p e k ≡ 0 → ⊥) → SummarizesBothAllBut k summary p e → SummarizesBoth (bit_or summary (1 * 2 ^ k % 2 ^ 64)) p e
+bit_put summary k p e small = word_filled summary k (both_words p e k) (λ i. p i && e i) small (both_small p e k) (bit_of_both p e k)
 
 -- ---- what a bit of the summary tells
 
-pub told : (summary : ℕ) (p e : ℕ → Bool) → Summarizes summary p e → (w : ℕ) → w < 64 → has_bit summary w ≡ is_shared p e w
-unfolding Summarizes
-told summary p e summarizes = summarizes
-
-none_found : (found : Option ℕ) → is_some found ≡ false → found ≡ None
-none_found None none = refl
-none_found (Some i) none = absurd (false≢true (sym none))
+pub told : (summary : ℕ) (p e : ℕ → Bool) → SummarizesBoth summary p e → (w : ℕ) → w < 64 → has_bit summary w ≡ is_shared p e w
+told summary p e = summarizes summary (λ i. p i && e i)
 
 pub not_shared : (p e : ℕ → Bool) (w i : ℕ) → i / 64 ≡ w → is_shared p e w ≡ false → (p i && e i) ≡ false
-not_shared p e w i at none =
-    least_of_is_none (λ j. p j && e j) (64 * w) 64 (none_found _ none) i (omega arith) (omega arith)
+not_shared p e w i at none = none_in_word (λ j. p j && e j) w i at none
 
 pub shared_below : (p e : ℕ → Bool) (words w : ℕ) → AreIdentities words p → is_shared p e w ≡ true → w < words
 shared_below p e words w range shared =
@@ -117,7 +73,7 @@ both_least p e w shared =
 
 -- ---- no identity is in both sets
 
-pub no_members : (summary : ℕ) (p e : ℕ → Bool) (words : ℕ) → Summarizes summary p e → summary ≡ 0 → words ≤ FILE_WORDS → AreIdentities words p → (i : ℕ) → (p i && e i) ≡ false
+pub no_members : (summary : ℕ) (p e : ℕ → Bool) (words : ℕ) → SummarizesBoth summary p e → summary ≡ 0 → words ≤ FILE_WORDS → AreIdentities words p → (i : ℕ) → (p i && e i) ≡ false
 no_members summary p e words summarizes none few range i =
     elim (cases_lt (i / 64) 64) [
       | inl low ↦ not_shared p e (i / 64) i refl (sym (told summary p e summarizes (i / 64) low) ∙ ap (λ x. has_bit x (i / 64)) none ∙ has_bit-zero (i / 64))
@@ -128,7 +84,5 @@ no_members summary p e words summarizes none few range i =
     outside false at high = refl
     outside true at high = let r = range i at in absurd (omega (arith, r.1))
 
-pub empty_summary : (p e : ℕ → Bool) → ((i : ℕ) → p i ≡ false) → Summarizes 0 p e
-unfolding Summarizes
-empty_summary p e none w low =
-    has_bit-zero w ∙ sym (ap is_some (least_of-none (λ i. p i && e i) (64 * w) 64 (λ i a b. ap (λ x. x && e i) (none i))))
+pub empty_summary : (p e : ℕ → Bool) → ((i : ℕ) → p i ≡ false) → SummarizesBoth 0 p e
+empty_summary p e none = none_summarized (λ i. p i && e i) (λ i. ap (λ x. x && e i) (none i))

@@ -2,11 +2,11 @@ ghost use Rattle.std.specs.Prelude.{◌≡◌, ℕ, ◌+◌, ◌-◌, ◌*◌, �
 ghost use Rattle.aia_word.specs.Sets.{has_bit, is_in, word_of};
 ghost use Rattle.aia_word.specs.Top.{top_value, lets_through};
 ghost use Rattle.aia_regs.specs.declared.limits.TheConstants.{IDENTITIES, FILE_WORDS};
-ghost use Rattle.aia_regs.specs.Word.{settle};
+ghost use Rattle.aia_regs.specs.BitUpdate.{settle};
 ghost use Rattle.aia_regs.specs.FileRegisters.{IsUsable, set_said, number_after};
 ghost use Rattle.aia_file.specs.InterruptFile.{is_greatest_identity, SameFile, empty_file, register_value, top_of, signals, accessed, landed, claimed};
 ghost use Rattle.aia_file.specs.FileState.{shown};
-ghost use Rattle.aia_file.specs.Summary.{Summarizes, AreIdentities};
+ghost use Rattle.aia_file.specs.Summary.{SummarizesBoth, AreIdentities};
 
 use crate::looks::search;
 use crate::summary::refreshed;
@@ -221,7 +221,7 @@ impl File {
 
     /// Gives the summary of both sets.
     pub(crate) fn summary(&self) -> u64
-        ensures summary { Summarizes result (is_in self.now.pending) (is_in self.now.enabled) }
+        ensures summary { SummarizesBoth result (is_in self.now.pending) (is_in self.now.enabled) }
         ensures some { 1 ≤ (self.now.n + 1) / 64 }
         ensures few { (self.now.n + 1) / 64 ≤ FILE_WORDS }
         ensures pending { AreIdentities ((self.now.n + 1) / 64) (is_in self.now.pending) }

@@ -2,7 +2,7 @@ ghost use Rattle.std.specs.Prelude.{◌≡◌, ℕ, ◌+◌, ◌-◌, ◌*◌, �
 ghost use Rattle.aia_word.specs.Sets.{has_bit, word_of, least_of};
 ghost use Rattle.aia_word.specs.Top.{top_identity, top_value, lets_through};
 ghost use Rattle.aia_regs.specs.declared.limits.TheConstants.{IDENTITIES, FILE_WORDS};
-ghost use Rattle.aia_file.specs.Summary.{Summarizes, AreIdentities};
+ghost use Rattle.aia_file.specs.Summary.{SummarizesBoth, AreIdentities};
 
 use aia_word::least_one;
 
@@ -22,7 +22,7 @@ pub trait Looks {
     /// Looks which words hold an identity that is in both sets: bit `k` is a one exactly where one
     /// from 64 * `k` to 64 * `k` + 63 is.
     fn summary(&mut self) -> u64
-        ensures summary { Summarizes result (pending self.old) (enabled self.old) }
+        ensures summary { SummarizesBoth result (pending self.old) (enabled self.old) }
         ensures some { 1 ≤ width self.old }
         ensures few { width self.old ≤ FILE_WORDS }
         ensures pending_range { AreIdentities (width self.old) (pending self.old) }

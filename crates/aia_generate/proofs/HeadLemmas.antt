@@ -2,14 +2,16 @@
 use Rattle.std.proofs.Common.{◌≡◌, ℕ, ◌+◌, ◌-◌, ◌/◌, ◌%◌, ◌<◌, ◌≤◌, List, [], ◌∷◌, ◌++◌, length, take, drop, slice_get, inl, inr, refl, sym, ap, ◌∙◌, arith}
 use Rattle.std.proofs.lemmas.Bool.{cases_lt}
 use Rattle.aia_model.specs.declared.line.Line.{Line}
-use Rattle.aia_model.specs.declared.line.Line.TheVariants.{Arrive, GuestCsr}
+use Rattle.aia_model.specs.declared.line.Line.TheVariants.{GuestCsr}
+use Rattle.aia_model.specs.declared.line.Line.TheVariants as lines
+use Rattle.aia_model.specs.declared.want.Want.TheVariants as wants
 use Rattle.aia_regs.specs.declared.access.Csr.TheVariants.{Select, Reg}
 use Rattle.aia_generate.proofs.PlaceLemmas.{in_second, between}
 use Rattle.aia_generate.specs.Generated.{made_ready, guest_ready, host_ready, head_lines}
 
 -- a virtual hart makes its file ready after it has arrived
 pub past_arrival : (vm number k : ℕ) → 0 < k → slice_get (guest_ready vm number) k ≡ slice_get (made_ready (GuestCsr vm number Select) (GuestCsr vm number Reg)) (k - 1)
-past_arrival vm number k past = in_second (Arrive vm number vm ∷ []) (made_ready (GuestCsr vm number Select) (GuestCsr vm number Reg)) k past
+past_arrival vm number k past = in_second (lines.Move vm number (wants.Arrive vm) ∷ []) (made_ready (GuestCsr vm number Select) (GuestCsr vm number Reg)) k past
 
 -- the five lines of a virtual hart, and the four of a hart, from a place on
 at_guest : (start vm number k : ℕ) (before later : List Line) → length before ≡ start → start ≤ k → k < start + 5 → (k - 3) / 10 ≡ vm → (k - 3) / 5 % 2 ≡ number → (k - 3) % 5 ≡ k - start

@@ -6,7 +6,7 @@ use Rattle.std.proofs.lemmas.Bool.{cases_lt, cond-true, cond-false, le-leb, lt-l
 use Rattle.std.proofs.lemmas.List.{drop_all}
 use Rattle.std.proofs.lemmas.Option.{unwrap_or-slice_get, slice_get_past}
 use Rattle.aia_model.specs.declared.line.Line.{Line}
-use Rattle.aia_model.specs.Grammar.{IsListed}
+use Rattle.aia_model.specs.Forms.{IsListed}
 use Rattle.aia_generate.specs.declared.lines.GeneratedLines.{GeneratedLines}
 use Rattle.aia_generate.specs.Generated.{next_number, head_lines, line_of_form, line_drawn, body_lines, line_at}
 use Rattle.aia_generate.specs.Lines.{lines_left}

@@ -11,7 +11,9 @@ use Rattle.aia_home.specs.Vms.{Vcpu, vcpu, is_vcpu}
 use Rattle.aia_home.specs.Plans.{leave_steps, arrive_steps, shift_steps}
 use Rattle.std.specs.Option.{option_map_or}
 use Rattle.aia_model.specs.declared.line.Line.{Line}
-use Rattle.aia_model.specs.declared.line.Line.TheVariants.{Machine, Wire, Load, Store, Send, Arrive, Leave, Shift, Step}
+use Rattle.aia_model.specs.declared.line.Line.TheVariants.{Machine, Wire, Load, Store, Send, Step}
+use Rattle.aia_model.specs.declared.line.Line.TheVariants as lines
+use Rattle.aia_model.specs.declared.want.Want.TheVariants as wants
 use Rattle.aia_model.specs.declared.msi.Msi.{Msi}
 use Rattle.aia_model.specs.declared.answer.Answer.{Answer}
 use Rattle.aia_model.specs.declared.answer.Answer.TheVariants.{NoMachine, Again, Refused}
@@ -73,9 +75,9 @@ moved-small count g move h small = same_small (steps_taken count g (Began move �
 line-small : (h : History) (line : Line) → refusal h line ≡ None → IsSmall h → IsSmall (line_taken h line)
 line-small h (Machine harts guests n sources) good small =
     size-small harts guests n sources (size_accepted (has_machine h) (is_machine_size harts guests n sources) (sym (machine_refusal h harts guests n sources) ∙ good))
-line-small h (Arrive vm number hart) good small = moved-small (arrive_steps (file_words h) + passes_for h (vcpu vm number)) (vcpu vm number) (Arrives (vcpu vm number) hart) h small
-line-small h (Leave vm number) good small = moved-small (leave_steps (file_words h) + passes_for h (vcpu vm number)) (vcpu vm number) (Leaves (vcpu vm number)) h small
-line-small h (Shift vm number hart) good small = moved-small (shift_steps (file_words h) + passes_for h (vcpu vm number)) (vcpu vm number) (Shifts (vcpu vm number) hart) h small
+line-small h (lines.Move vm number (wants.Arrive hart)) good small = moved-small (arrive_steps (file_words h) + passes_for h (vcpu vm number)) (vcpu vm number) (Arrives (vcpu vm number) hart) h small
+line-small h (lines.Move vm number wants.Leave) good small = moved-small (leave_steps (file_words h) + passes_for h (vcpu vm number)) (vcpu vm number) (Leaves (vcpu vm number)) h small
+line-small h (lines.Move vm number (wants.Shift hart)) good small = moved-small (shift_steps (file_words h) + passes_for h (vcpu vm number)) (vcpu vm number) (Shifts (vcpu vm number) hart) h small
 line-small h (Step vm number) good small = same_small (step_taken (vcpu vm number) h) h (same_first (vcpu vm number) h).1 small
 line-small h line good small = small
 

@@ -6,7 +6,9 @@ use Rattle.aia_regs.specs.declared.access.Csr.TheVariants.{Select, Reg, Topei}
 use Rattle.aia_regs.specs.declared.access.Op.{Op}
 use Rattle.aia_regs.specs.declared.access.Op.TheVariants.{Write}
 use Rattle.aia_model.specs.declared.line.Line.{Line}
-use Rattle.aia_model.specs.declared.line.Line.TheVariants.{Machine, Vm, Arrive, GuestCsr, HostCsr, Msi, Ipi, BeginLeave, BeginArrive, Step}
+use Rattle.aia_model.specs.declared.line.Line.TheVariants.{Machine, Vm, GuestCsr, HostCsr, Msi, Ipi, Step}
+use Rattle.aia_model.specs.declared.line.Line.TheVariants as lines
+use Rattle.aia_model.specs.declared.want.Want.TheVariants as wants
 use Rattle.aia_regs.specs.declared.address_map.TheConstants.{PAGE, PATTERN}
 
 -- The number after a number of the sequence.
@@ -24,7 +26,7 @@ made_ready selects writes = selects (Write 0xc0) ∷ writes (Write 0xfffffffffff
 -- A virtual hart arrives at the hart that has its VM's number, and makes its file ready.
 abbrev pub guest_ready : ℕ → ℕ → List Line
 guest_ready vm number =
-    Arrive vm number vm ∷ made_ready (GuestCsr vm number Select) (GuestCsr vm number Reg)
+    lines.Move vm number (wants.Arrive vm) ∷ made_ready (GuestCsr vm number Select) (GuestCsr vm number Reg)
 
 abbrev pub host_ready : ℕ → List Line
 host_ready hart = made_ready (HostCsr hart Select) (HostCsr hart Reg)
@@ -49,8 +51,8 @@ line_of_form form v c b i =
     if nat_lt form 2 then Msi v (own_address c) i
     else (if nat_eq form 2 then GuestCsr v c Topei (Write 0)
     else (if nat_eq form 3 then Ipi v c (1 - c) i
-    else (if nat_eq form 4 then BeginLeave v c
-    else (if nat_eq form 5 then BeginArrive v c b
+    else (if nat_eq form 4 then lines.Begin v c wants.Leave
+    else (if nat_eq form 5 then lines.Begin v c (wants.Arrive b)
     else (if nat_lt form 9 then Step v c
     else HostCsr b Topei (Write 0))))))
 

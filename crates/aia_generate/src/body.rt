@@ -3,7 +3,7 @@
 ghost use Rattle.std.specs.Prelude.{◌≡◌, ◌<◌};
 ghost use Rattle.aia_generate.specs.Generated.{next_number, line_of_form, line_drawn};
 
-use aia_model::Line;
+use aia_model::{Line, Want};
 use aia_regs::address_map::{PAGE, PATTERN};
 use aia_regs::{Csr, Op};
 
@@ -44,8 +44,16 @@ fn line_of_form(form: u64, vm: u64, vcpu: u64, hart: u64, identity: u32) -> Line
             to: 1 - vcpu,
             value: identity,
         },
-        4 => Line::BeginLeave { vm, vcpu },
-        5 => Line::BeginArrive { vm, vcpu, hart },
+        4 => Line::Begin {
+            vm,
+            vcpu,
+            want: Want::Leave,
+        },
+        5 => Line::Begin {
+            vm,
+            vcpu,
+            want: Want::Arrive(hart),
+        },
         6..=8 => Line::Step { vm, vcpu },
         _ => Line::HostCsr {
             hart,

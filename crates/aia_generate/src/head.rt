@@ -6,7 +6,7 @@ ghost use Rattle.aia_regs.specs.declared.access.Csr.{Csr};
 ghost use Rattle.aia_regs.specs.declared.access.Op.{Op};
 ghost use Rattle.aia_generate.specs.Generated.{made_ready, guest_ready, host_ready, head_lines};
 
-use aia_model::Line;
+use aia_model::{Line, Want};
 use aia_regs::{Csr, Op};
 
 /// How many lines the head has.
@@ -35,7 +35,11 @@ fn guest_line(vm: u64, vcpu: u64, place: u64) -> Line
     ensures { slice_get (guest_ready vm vcpu) place ≡ Some result }
 {
     if place == 0 {
-        return Line::Arrive { vm, vcpu, hart: vm };
+        return Line::Move {
+            vm,
+            vcpu,
+            want: Want::Arrive(vm),
+        };
     }
     let (csr, op) = ready_access(place - 1);
     Line::GuestCsr { vm, vcpu, csr, op }

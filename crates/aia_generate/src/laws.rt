@@ -3,6 +3,7 @@
 
 ghost use Rattle.std.specs.Prelude.{◌≡◌, ℕ, ◌+◌, ◌*◌, ◌/◌, ◌^◌, ◌<◌, ◌≤◌, List, [], length, Some, slice_get, codes};
 ghost use Rattle.aia_model.specs.declared.line.Line.{Line};
+ghost use Rattle.aia_model.specs.declared.want.Want.{Want};
 ghost use Rattle.aia_model.specs.Answer.{after_lines};
 ghost use Rattle.aia_model.specs.Notice.{notices_sent};
 ghost use Rattle.aia_generate.specs.Generated.{next_number, line_drawn, line_at, generated};
@@ -22,7 +23,7 @@ pub fn worked_numbers()
     ensures seed_0 { next_number 0 / 2 ^ 33 ≡ 167951807 }
     ensures line_0 { line_drawn (next_number 0) ≡ Line.Step 0 0 }
     ensures seed_1 { next_number 1 / 2 ^ 33 ≡ 908834774 }
-    ensures line_1 { line_drawn (next_number 1) ≡ Line.BeginLeave 1 0 }
+    ensures line_1 { line_drawn (next_number 1) ≡ Line.Begin 1 0 Want.Leave }
 {}
 
 /// Lines send so few notices that 64 bits can count them: no more than 200 for each line.

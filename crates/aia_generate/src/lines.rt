@@ -1,7 +1,7 @@
 //! The lines of a generated script: each by its number, and all of them in order.
 
 ghost use Rattle.std.specs.Prelude.{◌≡◌, ◌≤◌, All};
-ghost use Rattle.aia_model.specs.Grammar.{IsListed};
+ghost use Rattle.aia_model.specs.Forms.{IsListed};
 ghost use Rattle.aia_generate.specs.Generated.{generated, line_at};
 ghost use Rattle.aia_generate.specs.Lines.{lines_left};
 

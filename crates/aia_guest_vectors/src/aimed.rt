@@ -9,7 +9,7 @@ ghost use Rattle.aia_home.specs.Vms.{vcpu};
 ghost use Rattle.aia_model.specs.declared.domain_name.DomainName.TheVariants.{Child};
 ghost use Rattle.aia_model.specs.Aim.{pass_reach};
 ghost use Rattle.aia_model.specs.Histories.{IsHistory};
-ghost use Rattle.aia_model.specs.HomeOf.{home, place};
+ghost use Rattle.aia_model.specs.HomeOf.{home, guest_place};
 ghost use Rattle.aia_model.specs.PassesStand.{AllPassesStand};
 ghost use Rattle.aia_model.specs.Script.{answers, history_of};
 ghost use Rattle.aia_model.specs.Sent.{acts_of};
@@ -51,12 +51,12 @@ pub fn a_script_stops_between_two_aims()
     ensures happens { IsHistory (history_of (script_of STOPPED_BETWEEN_AIMS)) }
     ensures stand { AllPassesStand (history_of (script_of STOPPED_BETWEEN_AIMS)) }
     ensures leaves { home (history_of (script_of STOPPED_BETWEEN_AIMS)) (vcpu 0 0)
-        ≡ Leaving (place 0 1) (record { steps = leave_step 1 (TakePending 0); aims = 1 }) }
+        ≡ Leaving (guest_place 0 1) (record { steps = leave_step 1 (TakePending 0); aims = 1 }) }
     ensures first_leads { pass_reach (history_of (script_of STOPPED_BETWEEN_AIMS)) 0 ≡ None }
     ensures first_target { target (acts_of (history_of (script_of STOPPED_BETWEEN_AIMS))) Child 1
         ≡ target_of 0 0 (host_identity 0) }
     ensures second_leads { pass_reach (history_of (script_of STOPPED_BETWEEN_AIMS)) 1
-        ≡ Some (place 0 1) }
+        ≡ Some (guest_place 0 1) }
     ensures second_target { target (acts_of (history_of (script_of STOPPED_BETWEEN_AIMS))) Child 2
         ≡ target_of 0 1 6 }
 {}

@@ -8,7 +8,7 @@ use Rattle.aia_home.specs.Home.Home.{Parked, Entered, Resident, Leaving, Arrivin
 use Rattle.aia_home.specs.Plans.{is_at_last, stepped, leave_step, arrive_step, shift_step}
 use Rattle.aia_home.specs.Plans.Access.{TakePending}
 use Rattle.aia_home.specs.BySteps.{new_file, is_drained}
-use Rattle.aia_home.specs.Routes.{is_at_fence, is_closed, is_at_stage_fence, reach_stepped, stage_stepped, peers_reach, devices_by, MayReach, MayLand}
+use Rattle.aia_home.specs.Routes.{is_at_fence, is_closed, is_at_gfence, reach_stepped, stage_stepped, peers_reach, devices_by, MayReach, MayLand}
 use Rattle.aia_home.specs.Aims.{is_aiming, aimed, further, pass_reaches, AreAimed}
 use Rattle.aia_home.proofs.RouteLemmas.{reach_kept, stepped_by, stage_by_stepped}
 
@@ -64,13 +64,13 @@ further_by passes words there r reach e = by_aim (is_aiming passes there) refl
     by_aim false a = rw a (stepped_by words there r reach e)
 
 -- nor is it the fence of the G-stage record, which is made
-aim_is_no_stage_fence : (passes : ℕ) (there : Home) → is_aiming passes there ≡ true → is_at_stage_fence there ≡ false
-aim_is_no_stage_fence passes Parked e = refl
-aim_is_no_stage_fence passes Entered e = refl
-aim_is_no_stage_fence passes (Resident p) e = refl
-aim_is_no_stage_fence passes (Leaving from at) e = let here : nat_eq at.steps (leave_step 0 (TakePending 0)) ≡ true = (and_parts _ _ e).0 in grind (arith, nat_tests)
-aim_is_no_stage_fence passes (Arriving to at) e = let here : nat_eq at.steps (arrive_step 0 (TakePending 0)) ≡ true = (and_parts _ _ e).0 in grind (arith, nat_tests)
-aim_is_no_stage_fence passes (Shifting from to at) e = let here : nat_eq at.steps (shift_step 0 (TakePending 0)) ≡ true = (and_parts _ _ e).0 in grind (arith, nat_tests)
+aim_is_no_gfence : (passes : ℕ) (there : Home) → is_aiming passes there ≡ true → is_at_gfence there ≡ false
+aim_is_no_gfence passes Parked e = refl
+aim_is_no_gfence passes Entered e = refl
+aim_is_no_gfence passes (Resident p) e = refl
+aim_is_no_gfence passes (Leaving from at) e = let here : nat_eq at.steps (leave_step 0 (TakePending 0)) ≡ true = (and_parts _ _ e).0 in grind (arith, nat_tests)
+aim_is_no_gfence passes (Arriving to at) e = let here : nat_eq at.steps (arrive_step 0 (TakePending 0)) ≡ true = (and_parts _ _ e).0 in grind (arith, nat_tests)
+aim_is_no_gfence passes (Shifting from to at) e = let here : nat_eq at.steps (shift_step 0 (TakePending 0)) ≡ true = (and_parts _ _ e).0 in grind (arith, nat_tests)
 
 aimed_stage : (there : Home) → peers_reach (aimed there) ≡ peers_reach there
 aimed_stage Parked = refl
@@ -84,7 +84,7 @@ pub stage_by_further : (passes words : ℕ) (there : Home) → stage_stepped the
 stage_by_further passes words there = by_aim (is_aiming passes there) refl
   where
     by_aim : (b : Bool) → is_aiming passes there ≡ b → stage_stepped there (peers_reach there) ≡ peers_reach (further passes words there)
-    by_aim true a = rw a (rw (aim_is_no_stage_fence passes there a) (sym (aimed_stage there)))
+    by_aim true a = rw a (rw (aim_is_no_gfence passes there a) (sym (aimed_stage there)))
     by_aim false a = rw a (stage_by_stepped words there)
 
 pub further_on : (passes words : ℕ) (there : Home) → is_aiming passes there ≡ false → further passes words there ≡ stepped words there

@@ -5,7 +5,7 @@ use Rattle.std.proofs.lemmas.Bool.{ltb-true}
 use Rattle.aia_home.specs.Home.{Home}
 use Rattle.aia_home.specs.Plans.{leave_steps, arrive_steps, shift_steps, Access, each_word, all_words, leave_plan, arrive_plan, shift_plan, plan_of, is_in_leave, is_in_arrive, is_in_shift, leave_step, arrive_step, shift_step, has_access, step_of, next_access, IsNext}
 use Rattle.aia_home.specs.Home.Home.{Parked, Entered, Resident, Leaving, Arriving, Shifting}
-use Rattle.aia_home.specs.Plans.Access.{TakeDelivery, PutDelivery, WriteNotice, WriteEntry, Fence, WriteStage, FenceStage, TakePending, PutPending, TakeEnables, PutEnables, Look, TakeThreshold, PutThreshold, Post}
+use Rattle.aia_home.specs.Plans.Access.{TakeDelivery, PutDelivery, WriteNotice, WriteEntry, Fence, Map, GFence, TakePending, PutPending, TakeEnables, PutEnables, Look, TakeThreshold, PutThreshold, Post}
 
 -- ---- what stands at a place of a list
 
@@ -92,13 +92,13 @@ module _ (first : List Access) (long words : ℕ) (l : length first ≡ long) wh
 -- ---- the plans, and their tables
 
 abbrev before_leave : List Access
-before_leave = TakeDelivery ∷ WriteNotice ∷ WriteEntry ∷ Fence ∷ WriteStage ∷ FenceStage ∷ []
+before_leave = TakeDelivery ∷ WriteNotice ∷ WriteEntry ∷ Fence ∷ Map ∷ GFence ∷ []
 
 abbrev before_arrive : List Access
-before_arrive = WriteEntry ∷ Fence ∷ WriteStage ∷ FenceStage ∷ []
+before_arrive = WriteEntry ∷ Fence ∷ Map ∷ GFence ∷ []
 
 abbrev before_shift : List Access
-before_shift = TakeDelivery ∷ WriteEntry ∷ Fence ∷ WriteStage ∷ FenceStage ∷ []
+before_shift = TakeDelivery ∷ WriteEntry ∷ Fence ∷ Map ∷ GFence ∷ []
 
 abbrev looks : ℕ → List Access
 looks words = each_word (λ w. Look w ∷ []) 0 words
@@ -142,8 +142,8 @@ leave_agrees words TakeDelivery has = refl
 leave_agrees words WriteNotice has = refl
 leave_agrees words WriteEntry has = refl
 leave_agrees words Fence has = refl
-leave_agrees words WriteStage has = refl
-leave_agrees words FenceStage has = refl
+leave_agrees words Map has = refl
+leave_agrees words GFence has = refl
 leave_agrees words (TakePending w) has = leave_front words (6 + 2 * w) (TakePending w) (take_pending-at before_leave 6 words refl w _ has refl)
 leave_agrees words (PutPending w) has = leave_front words (7 + 2 * w) (PutPending w) (put_pending-at before_leave 6 words refl w _ has refl)
 leave_agrees words (TakeEnables w) has = leave_front words (6 + 2 * words + 2 * w) (TakeEnables w) (take_enables-at before_leave 6 words refl w _ has refl)
@@ -159,8 +159,8 @@ leave_agrees words PutDelivery has = absurd (cc)
 arrive_agrees : (words : ℕ) (access : Access) → is_in_arrive words access ≡ true → slice_get (arrive_plan words) (arrive_step words access) ≡ Some access
 arrive_agrees words WriteEntry has = refl
 arrive_agrees words Fence has = refl
-arrive_agrees words WriteStage has = refl
-arrive_agrees words FenceStage has = refl
+arrive_agrees words Map has = refl
+arrive_agrees words GFence has = refl
 arrive_agrees words (TakePending w) has = arrive_front words (4 + 2 * w) (TakePending w) (take_pending-at before_arrive 4 words refl w _ has refl)
 arrive_agrees words (PutPending w) has = arrive_front words (5 + 2 * w) (PutPending w) (put_pending-at before_arrive 4 words refl w _ has refl)
 arrive_agrees words (TakeEnables w) has = arrive_front words (4 + 2 * words + 2 * w) (TakeEnables w) (take_enables-at before_arrive 4 words refl w _ has refl)
@@ -177,8 +177,8 @@ shift_agrees : (words : ℕ) (access : Access) → is_in_shift words access ≡ 
 shift_agrees words TakeDelivery has = refl
 shift_agrees words WriteEntry has = refl
 shift_agrees words Fence has = refl
-shift_agrees words WriteStage has = refl
-shift_agrees words FenceStage has = refl
+shift_agrees words Map has = refl
+shift_agrees words GFence has = refl
 shift_agrees words (TakePending w) has = shift_front words (5 + 2 * w) (TakePending w) (take_pending-at before_shift 5 words refl w _ has refl)
 shift_agrees words (PutPending w) has = shift_front words (6 + 2 * w) (PutPending w) (put_pending-at before_shift 5 words refl w _ has refl)
 shift_agrees words (TakeEnables w) has = shift_front words (5 + 2 * words + 2 * w) (TakeEnables w) (take_enables-at before_shift 5 words refl w _ has refl)

@@ -3,7 +3,7 @@ use Rattle.std.specs.Prelude.{ℕ, Bool, nat_le}
 use Rattle.aia_home.specs.Home.{Home}
 use Rattle.aia_home.specs.Home.Home.{Leaving, Arriving, Shifting}
 use Rattle.aia_home.specs.Plans.{leave_steps, arrive_steps, shift_steps, leave_step, arrive_step, shift_step, steps_done}
-use Rattle.aia_home.specs.Plans.Access.{TakeDelivery, WriteEntry, WriteStage, TakePending, TakeEnables, Look, TakeThreshold, PutThreshold}
+use Rattle.aia_home.specs.Plans.Access.{TakeDelivery, WriteEntry, Map, TakePending, TakeEnables, Look, TakeThreshold, PutThreshold}
 
 -- The phases, in order. A leave alone has looks.
 pub data Phase : Type 0 where
@@ -33,7 +33,7 @@ following phase = AllDone
 -- its first access.
 abbrev pub leave_begins : ℕ → Phase → ℕ
 leave_begins words FirstPhase = leave_step words TakeDelivery
-leave_begins words ClosingPhase = leave_step words WriteStage
+leave_begins words ClosingPhase = leave_step words Map
 leave_begins words DrainPhase = leave_step words (TakePending 0)
 leave_begins words EnablePhase = leave_step words (TakeEnables 0)
 leave_begins words LookPhase = leave_step words (Look 0)
@@ -42,7 +42,7 @@ leave_begins words AllDone = leave_steps words
 
 abbrev pub arrive_begins : ℕ → Phase → ℕ
 arrive_begins words FirstPhase = arrive_step words WriteEntry
-arrive_begins words ClosingPhase = arrive_step words WriteStage
+arrive_begins words ClosingPhase = arrive_step words Map
 arrive_begins words DrainPhase = arrive_step words (TakePending 0)
 arrive_begins words EnablePhase = arrive_step words (TakeEnables 0)
 arrive_begins words LookPhase = arrive_step words PutThreshold
@@ -51,7 +51,7 @@ arrive_begins words AllDone = arrive_steps words
 
 abbrev pub shift_begins : ℕ → Phase → ℕ
 shift_begins words FirstPhase = shift_step words TakeDelivery
-shift_begins words ClosingPhase = shift_step words WriteStage
+shift_begins words ClosingPhase = shift_step words Map
 shift_begins words DrainPhase = shift_step words (TakePending 0)
 shift_begins words EnablePhase = shift_step words (TakeEnables 0)
 shift_begins words LookPhase = shift_step words TakeThreshold

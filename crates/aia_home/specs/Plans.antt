@@ -17,8 +17,8 @@ pub data Access : Type 0 where
   -- the entry is put in force
   Fence : Access
   -- the G-stage record is written: the new file, or nothing; it is put in force
-  WriteStage : Access
-  FenceStage : Access
+  Map : Access
+  GFence : Access
   -- word w of the pending set is taken from the old place, and put in the new one
   TakePending : (w : ℕ) → Access
   PutPending : (w : ℕ) → Access
@@ -46,17 +46,17 @@ all_words words =
 
 abbrev pub leave_plan : ℕ → List Access
 leave_plan words =
-    (TakeDelivery ∷ WriteNotice ∷ WriteEntry ∷ Fence ∷ WriteStage ∷ FenceStage ∷ [])
+    (TakeDelivery ∷ WriteNotice ∷ WriteEntry ∷ Fence ∷ Map ∷ GFence ∷ [])
     ++ all_words words ++ each_word (λ w. Look w ∷ []) 0 words ++ TakeThreshold ∷ Post ∷ []
 
 abbrev pub arrive_plan : ℕ → List Access
 arrive_plan words =
-    (WriteEntry ∷ Fence ∷ WriteStage ∷ FenceStage ∷ [])
+    (WriteEntry ∷ Fence ∷ Map ∷ GFence ∷ [])
     ++ all_words words ++ PutThreshold ∷ PutDelivery ∷ []
 
 abbrev pub shift_plan : ℕ → List Access
 shift_plan words =
-    (TakeDelivery ∷ WriteEntry ∷ Fence ∷ WriteStage ∷ FenceStage ∷ [])
+    (TakeDelivery ∷ WriteEntry ∷ Fence ∷ Map ∷ GFence ∷ [])
     ++ all_words words ++ TakeThreshold ∷ PutThreshold ∷ PutDelivery ∷ []
 
 -- How many steps each has.
@@ -128,8 +128,8 @@ leave_step words TakeDelivery = 0
 leave_step words WriteNotice = 1
 leave_step words WriteEntry = 2
 leave_step words Fence = 3
-leave_step words WriteStage = 4
-leave_step words FenceStage = 5
+leave_step words Map = 4
+leave_step words GFence = 5
 leave_step words (TakePending w) = 6 + 2 * w
 leave_step words (PutPending w) = 7 + 2 * w
 leave_step words (TakeEnables w) = 6 + 2 * words + 2 * w
@@ -142,8 +142,8 @@ leave_step words access = 0
 abbrev pub arrive_step : ℕ → Access → ℕ
 arrive_step words WriteEntry = 0
 arrive_step words Fence = 1
-arrive_step words WriteStage = 2
-arrive_step words FenceStage = 3
+arrive_step words Map = 2
+arrive_step words GFence = 3
 arrive_step words (TakePending w) = 4 + 2 * w
 arrive_step words (PutPending w) = 5 + 2 * w
 arrive_step words (TakeEnables w) = 4 + 2 * words + 2 * w
@@ -156,8 +156,8 @@ abbrev pub shift_step : ℕ → Access → ℕ
 shift_step words TakeDelivery = 0
 shift_step words WriteEntry = 1
 shift_step words Fence = 2
-shift_step words WriteStage = 3
-shift_step words FenceStage = 4
+shift_step words Map = 3
+shift_step words GFence = 4
 shift_step words (TakePending w) = 5 + 2 * w
 shift_step words (PutPending w) = 6 + 2 * w
 shift_step words (TakeEnables w) = 5 + 2 * words + 2 * w

@@ -1,14 +1,14 @@
 ghost use Rattle.std.specs.Prelude.{◌≡◌};
 ghost use Rattle.aia_model.specs.declared.line.Line.TheVariants.{Send, Land, Refetch};
 ghost use Rattle.aia_model.specs.declared.answer.Answer.TheVariants.{Okay};
-ghost use Rattle.aia_hyp.specs.Stands.{CoreTakes, answer_by};
+ghost use Rattle.aia_standing.specs.Stands.{CoreTakes, answer_by};
 
-use crate::hyp::{Hyp, taken_by};
+use crate::hypervisor_core::{Core, taken_by};
 use aia_model::Refusal;
 use aia_regs::limits::STORES_IN_FLIGHT;
 
 /// Stores of devices that are in flight, and entries that are read again.
-impl Hyp {
+impl Core {
     /// Sends a 32-bit store of a device of a VM at an address: it is in flight from now on, to the
     /// place to which the entry in force leads it, and asks for nothing until it lands. `Err` is
     /// `Range` where the VM doesn't stand, `Full` where `STORES_IN_FLIGHT` stores of it are in
@@ -57,10 +57,10 @@ impl Hyp {
     pub fn refetch(&mut self, vm: u64, number: u64) -> Result<(), Refusal>
         ensures { CoreTakes self.old self.new (Refetch vm number) (answer_by (λ _. Okay) result) }
     {
-        if !self.fabric.has_vcpu(vm, number) {
+        let Some(found) = self.fabric.find(vm, number) else {
             return Err(Refusal::Range);
-        }
-        self.fabric.refetch(vm as u32, number as u32);
+        };
+        self.fabric.refetch(found);
         Ok(())
     }
 }

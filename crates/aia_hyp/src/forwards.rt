@@ -14,15 +14,15 @@ ghost use Rattle.aia_model.specs.Event.Event.{Accepted, Delivered, Relayed};
 ghost use Rattle.aia_model.specs.Aim.{aimed_by};
 ghost use Rattle.aia_model.specs.Passes.{is_passed, passes_of};
 ghost use Rattle.aia_model.specs.Refusal.{refusal};
-ghost use Rattle.aia_hyp.specs.Core.{resident_at};
-ghost use Rattle.aia_hyp.specs.Moves.{IsFound, UnlessRefused};
-ghost use Rattle.aia_hyp.specs.Passes.{AimsBy, TellsOf, pass_in};
-ghost use Rattle.aia_hyp.specs.Stands.{CoreStands, CorePasses, CoreHears, CoreGoes, MayPass, RefusesPass, MayGo, answer_by};
+ghost use Rattle.aia_standing.specs.Core.{resident_at};
+ghost use Rattle.aia_world.specs.Found.{IsFound};
+ghost use Rattle.aia_standing.specs.Moves.{UnlessRefused};
+ghost use Rattle.aia_standing.specs.Passes.{AimsBy, TellsOf, pass_in};
+ghost use Rattle.aia_standing.specs.Stands.{CoreStands, CorePasses, CoreHears, CoreGoes, MayPass, RefusesPass, MayGo, answer_by};
 
-use crate::hyp::{Hyp, is_host};
-use crate::moves::{Found, find};
-use crate::passes::Passed;
-use crate::vcpu::Stay;
+use crate::hypervisor_core::{Core, is_host};
+use aia_standing::{Passed, Stay};
+use aia_fabric::Found;
 use aia_imsic::Spot;
 use aia_model::{Msi, Refusal};
 use aia_move::Targets;
@@ -31,7 +31,7 @@ use aia_regs::limits::{FIRST_PASS_IDENTITY, PASSES};
 use aia_regs::{FileReg, Op};
 
 /// Wired sources that are passed to virtual harts, and the MSIs that an APLIC makes.
-impl Hyp {
+impl Core {
     /// Passes a wired source that is there to a virtual hart, as an identity of its file, for good:
     /// from now on it asks there, wherever the virtual hart's interrupts are kept. The source is
     /// aimed at the virtual hart's guest file where it is resident, and else at its notice hart.
@@ -78,11 +78,11 @@ impl Hyp {
         ensures refusal { RefusesPass self.now (T.map targets.now) source vm number identity
             (option_map Refused (result_err result)) }
         ensures found { IfOk result (λ found. IsFound self.now.world found) }
-        ensures named { IfOk result (λ found. (found.vm ≡ vm) × (found.vcpu ≡ number)) }
+        ensures named { IfOk result (λ found. (found.vm ≡ vm) × (found.number ≡ number)) }
         ensures identity { IfOk result (λ _. identity ≤ IDENTITIES) }
     {
         let _whole = self.fabric.words();
-        let Some(found) = find(&self.fabric, vm, number) else {
+        let Some(found) = self.fabric.find(vm, number) else {
             return Err(Refusal::Range);
         };
         if !self.has_identity(identity) {
@@ -91,7 +91,7 @@ impl Hyp {
         if self.passes.count() >= PASSES {
             return Err(Refusal::Full);
         }
-        if self.is_moved(found.vm, found.vcpu) {
+        if self.is_moved(found) {
             return Err(Refusal::Busy);
         }
         if self.passes.number_of(source).is_some() {
@@ -108,15 +108,15 @@ impl Hyp {
         requires harts { self.old.world.imsic.harts ≡ (T.map targets.old).harts }
         requires may { MayPass self.old (T.map targets.old) source }
         requires found { IsFound self.old.world found }
-        requires free { RefusesPass self.old (T.map targets.old) source found.vm found.vcpu identity
-            None }
+        requires free { RefusesPass self.old (T.map targets.old) source found.vm
+            found.number identity None }
         ensures passes { (h : History) → CoreStands self.old h
             → TellsOf (T.map targets.old) h source
             → CoreStands self.new
-            (Accepted (lines.Pass source found.vm found.vcpu identity) ∷ h) }
+            (Accepted (lines.Pass source found.vm found.number identity) ∷ h) }
         ensures aims { (h : History) → CoreStands self.old h
             → AimsBy T.aimed
-            (aimed_by h (Accepted (lines.Pass source found.vm found.vcpu identity)))
+            (aimed_by h (Accepted (lines.Pass source found.vm found.number identity)))
             targets.old targets.new }
     {
         let _whole = self.fabric.words();
@@ -126,7 +126,7 @@ impl Hyp {
         self.passes.push(Passed {
             source,
             vm: found.vm,
-            vcpu: found.vcpu,
+            number: found.number,
             identity,
         });
     }
@@ -220,11 +220,11 @@ impl Hyp {
     {
         let (_whole, _few) = (self.fabric.words(), self.passes.count());
         let pass = self.passes.at(number);
-        let notice = self.fabric.notice_hart(pass.vm, pass.vcpu);
-        let slot = self.fabric.slot_of(pass.vm, pass.vcpu);
+        let notice = self.fabric.notice_hart(pass.vm, pass.number);
+        let slot = self.fabric.slot_of(pass.vm, pass.number);
         let taken = Op::Clear(1 << (FIRST_PASS_IDENTITY + number));
         self.fabric
-            .reg(Spot::HostFile(notice), FileReg::Pending(0), taken);
+            .reg(Spot::SupervisorFile(notice), FileReg::Pending(0), taken);
         self.fabric.slot_store(slot, pass.identity);
     }
 }

@@ -1,27 +1,29 @@
 ghost use Rattle.std.specs.Prelude.{◌≡◌, ◌<◌, ◌≤◌, true, false, length, slice_index_or, slice_set, Some};
 ghost use Rattle.std.specs.Vec.{vec_capacity};
 ghost use Rattle.aia_regs.specs.FileRegisters.{select_written};
-ghost use Rattle.aia_csr.specs.Access.{ReachesUsable, access_of};
+ghost use Rattle.aia_csr.specs.CsrAccess.{ReachesUsable, csr_access};
 ghost use Rattle.aia_major.specs.VsMajor.{vti_of};
 ghost use Rattle.aia_major.specs.Kept.{majors_shown};
 ghost use Rattle.aia_home.specs.Vms.{vcpu, is_vcpu_in};
 ghost use Rattle.aia_model.specs.declared.line.Line.TheVariants.{GuestCsr};
 ghost use Rattle.aia_model.specs.declared.answer.Answer.TheVariants.{Wide};
-ghost use Rattle.aia_fabric.specs.Changes.{spot_of};
-ghost use Rattle.aia_fabric.specs.Whole.{IsWhole};
-ghost use Rattle.aia_hyp.specs.Core.{no_record, record_of, resident_at, runs_in};
-ghost use Rattle.aia_hyp.specs.Stands.{CoreTakes, answer_by};
+ghost use Rattle.aia_world.specs.Changes.{spot_of};
+ghost use Rattle.aia_world.specs.Found.{IsFound};
+ghost use Rattle.aia_world.specs.Whole.{IsWhole};
+ghost use Rattle.aia_standing.specs.Core.{no_record, record_of, resident_at, runs_in};
+ghost use Rattle.aia_standing.specs.Stands.{CoreTakes, answer_by};
 
-use crate::hyp::{Hyp, claim_or_read, select_after};
+use crate::hypervisor_core::{Core, claim_or_read, select_after};
 use crate::majors::{access_sie_in, access_sip_in, stopi_in};
-use crate::vcpu::VcpuRecord;
-use aia_csr::{Access, decide};
+use aia_standing::VcpuRecord;
+use aia_csr::{CsrAccess, decide};
+use aia_fabric::Found;
 use aia_home::Place;
 use aia_imsic::Spot;
 use aia_model::Refusal;
 use aia_regs::{Csr, Level, Op};
 
-impl Hyp {
+impl Core {
     /// Does a CSR instruction of a virtual hart, and answers what the CSR read before it. `Err` is
     /// `Range` where the virtual hart isn't there, `Away` where it doesn't run, or runs from memory
     /// and the CSR is none of its interrupt file, and `Illegal` or `Virtual` where the access
@@ -32,76 +34,52 @@ impl Hyp {
         ensures { CoreTakes self.old self.new (GuestCsr vm number csr op)
             (answer_by Wide result) }
     {
-        if !self.fabric.has_vcpu(vm, number) {
+        let Some(found) = self.fabric.find(vm, number) else {
             return Err(Refusal::Range);
+        };
+        match self.record_of(found).stay.resident() {
+            Some(place) => self.guest_access(found, place, csr, op),
+            None => self.away_access(found, csr, op),
         }
-        match self.resident(vm as u32, number as u32) {
-            Some(place) => self.guest_access(vm as u32, number as u32, place, csr, op),
-            None => self.away_access(vm as u32, number as u32, csr, op),
-        }
-    }
-
-    /// Tells the guest file of a virtual hart that is there, `None` where it is not resident.
-    pub(crate) fn resident(&self, vm: u32, number: u32) -> Option<Place>
-        requires { is_vcpu_in self.now.world.vms (vcpu vm number) ≡ true }
-        ensures { result ≡ resident_at (record_of self.now (vcpu vm number)).stay }
-    {
-        let slot = self.fabric.slot_of(vm, number);
-        self.vcpus[slot as usize].stay.resident()
-    }
-
-    /// Tells whether a virtual hart that is there runs.
-    pub(crate) fn runs(&self, vm: u32, number: u32) -> bool
-        requires { is_vcpu_in self.now.world.vms (vcpu vm number) ≡ true }
-        ensures { result ≡ runs_in (record_of self.now (vcpu vm number)).stay }
-    {
-        let slot = self.fabric.slot_of(vm, number);
-        self.vcpus[slot as usize].stay.runs()
     }
 
     /// Does the access of a virtual hart that is resident in a guest file.
-    fn guest_access(
-        &mut self,
-        vm: u32,
-        number: u32,
-        place: Place,
-        csr: Csr,
-        op: Op,
-    ) -> Result<u64, Refusal>
-        requires there { is_vcpu_in self.old.world.vms (vcpu vm number) ≡ true }
+    fn guest_access(&mut self, found: Found, place: Place, csr: Csr, op: Op) -> Result<u64, Refusal>
+        requires found { IsFound self.old.world found }
         requires whole { IsWhole self.old.world }
-        requires resident { resident_at (record_of self.old (vcpu vm number)).stay ≡ Some place }
-        ensures { CoreTakes self.old self.new (GuestCsr vm number csr op)
+        requires resident { resident_at (record_of self.old (vcpu found.vm found.number)).stay
+            ≡ Some place }
+        ensures { CoreTakes self.old self.new (GuestCsr found.vm found.number csr op)
             (answer_by Wide result) }
     {
         let spot = file_spot(place);
-        let slot = self.fabric.slot_of(vm, number);
-        match self.guest_reached(vm, number, csr, op) {
-            Access::Select => Ok(access_select_in(&mut self.vcpus, slot, op)),
-            Access::File(reg) => Ok(self.fabric.reg(spot, reg, op)),
-            Access::Top => Ok(claim_or_read(&mut self.fabric, spot, op)),
-            Access::Topi => Ok(stopi_in(&self.vcpus, slot, self.fabric.file(spot))),
-            Access::Sip => {
+        let slot = found.slot;
+        match self.guest_reached(found, csr, op) {
+            CsrAccess::Select => Ok(access_select_in(&mut self.vcpus, slot, op)),
+            CsrAccess::File(reg) => Ok(self.fabric.reg(spot, reg, op)),
+            CsrAccess::Top => Ok(claim_or_read(&mut self.fabric, spot, op)),
+            CsrAccess::Topi => Ok(stopi_in(&self.vcpus, slot, self.fabric.file(spot))),
+            CsrAccess::Sip => {
                 let signal = self.fabric.file(spot).signal();
                 Ok(access_sip_in(&mut self.vcpus, slot, op, signal))
             }
-            Access::Sie => Ok(access_sie_in(&mut self.vcpus, slot, op)),
-            Access::Illegal => Err(Refusal::Illegal),
-            Access::Virtual => Err(Refusal::Virtual),
+            CsrAccess::Sie => Ok(access_sie_in(&mut self.vcpus, slot, op)),
+            CsrAccess::Illegal => Err(Refusal::Illegal),
+            CsrAccess::Virtual => Err(Refusal::Virtual),
         }
     }
 
     /// Tells what the access of a virtual hart that is there reaches, by its select number and
     /// VTI.
-    pub(crate) fn guest_reached(&self, vm: u32, number: u32, csr: Csr, op: Op) -> Access
-        requires there { is_vcpu_in self.now.world.vms (vcpu vm number) ≡ true }
-        ensures table { result ≡ access_of Level.Guest csr op
-            (record_of self.now (vcpu vm number)).select
-            (vti_of (majors_shown (record_of self.now (vcpu vm number)).majors).hvictl) }
+    pub(crate) fn guest_reached(&self, found: Found, csr: Csr, op: Op) -> CsrAccess
+        requires found { IsFound self.now.world found }
+        ensures table { result ≡ csr_access Level.Guest csr op
+            (record_of self.now (vcpu found.vm found.number)).select
+            (vti_of (majors_shown
+            (record_of self.now (vcpu found.vm found.number)).majors).hvictl) }
         ensures usable { ReachesUsable result }
     {
-        let slot = self.fabric.slot_of(vm, number);
-        let record = &self.vcpus[slot as usize];
+        let record = self.record_of(found);
         decide(Level::Guest, csr, op, record.select, record.majors.vti())
     }
 }

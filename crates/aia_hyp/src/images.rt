@@ -7,29 +7,29 @@ ghost use Rattle.aia_regs.specs.declared.access.Op.TheVariants as ops;
 ghost use Rattle.aia_regs.specs.FileRegisters.{select_written};
 ghost use Rattle.aia_major.specs.VsMajor.{is_hvictl};
 ghost use Rattle.aia_home.specs.Vms.{vcpu};
-ghost use Rattle.aia_fabric.specs.Whole.{IsWhole};
+ghost use Rattle.aia_world.specs.Whole.{IsWhole};
 ghost use Rattle.aia_model.specs.declared.line.Line.TheVariants.{Save, LoadPart};
 ghost use Rattle.aia_model.specs.declared.answer.Answer.TheVariants as kinds;
 ghost use Rattle.aia_model.specs.declared.answer.Answer.TheVariants.{Okay};
 ghost use Rattle.aia_model.specs.declared.part.Part.TheVariants as parts;
 ghost use Rattle.aia_model.specs.Image.{part_of, is_loadable, majors_loaded};
-ghost use Rattle.aia_hyp.specs.Core.{no_record, record_of, parked_at, MajorsDone};
-ghost use Rattle.aia_hyp.specs.Images.{state_in};
-ghost use Rattle.aia_hyp.specs.Moves.{IsFound};
-ghost use Rattle.aia_hyp.specs.Stands.{CoreTakes, answer_by};
+ghost use Rattle.aia_standing.specs.Core.{no_record, record_of, parked_at, MajorsDone};
+ghost use Rattle.aia_standing.specs.Images.{state_in};
+ghost use Rattle.aia_world.specs.Found.{IsFound};
+ghost use Rattle.aia_standing.specs.Stands.{CoreTakes, answer_by};
 
-use crate::hyp::{Hyp, select_after};
-use crate::moves::{Found, find};
-use crate::vcpu::{Stay, VcpuRecord};
+use crate::hypervisor_core::{Core, select_after};
+use aia_standing::{Stay, VcpuRecord};
+use aia_fabric::Found;
 use aia_image::{IMAGE_VERSION, is_live, is_loadable, load_word, save_word};
 use aia_model::{Part, Refusal};
-use aia_move::Kept;
+use aia_move::KeptNumbers;
 use aia_regs::Op;
 
 /// How many parts an image has beside the words of the sets.
 const FIRST_WORD: u64 = 3;
 
-impl Hyp {
+impl Core {
     /// Gives part `k` of the image of a virtual hart that is parked: 0 is of its file's numbers and
     /// its select number, 1 of its majors, 2 of their registers, and from 3 on each is of a word of
     /// both sets. `Err` is `Range` where the virtual hart isn't there, or its image has no such
@@ -38,7 +38,7 @@ impl Hyp {
     pub fn save(&self, vm: u64, number: u64, k: u64) -> Result<Part, Refusal>
         ensures { CoreTakes self.now self.now (Save vm number k) (answer_by kinds.Part result) }
     {
-        let Some(found) = find(&self.fabric, vm, number) else {
+        let Some(found) = self.fabric.find(vm, number) else {
             return Err(Refusal::Range);
         };
         if k >= u64::from(self.fabric.words()) + FIRST_WORD {
@@ -50,7 +50,7 @@ impl Hyp {
 
     /// Tells the numbers that are kept of the virtual hart of a slot, where it is parked. `Err` is
     /// the word that refuses it where it isn't.
-    fn parked(&self, slot: u32) -> Result<Kept, Refusal>
+    fn parked(&self, slot: u32) -> Result<KeptNumbers, Refusal>
         requires { slot < length self.now.vcpus }
         ensures { result ≡ parked_at (slice_index_or self.now.vcpus slot no_record).stay }
     {
@@ -59,7 +59,7 @@ impl Hyp {
 
     /// Gives part `k` of the image of the virtual hart of a slot, given the numbers that are kept
     /// of it.
-    fn part(&self, slot: u32, kept: Kept, k: u32) -> Part
+    fn part(&self, slot: u32, kept: KeptNumbers, k: u32) -> Part
         requires slot { slot < VCPUS }
         requires there { slot < length self.now.vcpus }
         requires small { kept.threshold < 2 ^ 32 }
@@ -97,7 +97,7 @@ impl Hyp {
         ensures { CoreTakes self.old self.new (LoadPart vm number part.now)
             (answer_by (λ _. Okay) result) }
     {
-        let Some(found) = find(&self.fabric, vm, number) else {
+        let Some(found) = self.fabric.find(vm, number) else {
             return Err(Refusal::Range);
         };
         if !is_loadable(part, self.fabric.words()) {
@@ -110,13 +110,13 @@ impl Hyp {
 
     /// Loads a part that may be loaded into a virtual hart that is parked, given the numbers that
     /// are kept of it.
-    fn load_into(&mut self, found: Found, kept: Kept, part: Part)
+    fn load_into(&mut self, found: Found, kept: KeptNumbers, part: Part)
         requires found { IsFound self.old.world found }
         requires whole { IsWhole self.old.world }
-        requires parked { (record_of self.old (vcpu found.vm found.vcpu)).stay
+        requires parked { (record_of self.old (vcpu found.vm found.number)).stay
             ≡ Stay.Parked kept }
         requires loadable { is_loadable self.old.world.n part ≡ true }
-        ensures { CoreTakes self.old self.new (LoadPart found.vm found.vcpu part) Okay }
+        ensures { CoreTakes self.old self.new (LoadPart found.vm found.number part) Okay }
     {
         match part {
             Part::Image {
@@ -125,7 +125,7 @@ impl Hyp {
                 select,
                 ..
             } => {
-                let kept = Kept {
+                let kept = KeptNumbers {
                     delivery: u64::from(delivery),
                     threshold: u64::from(threshold),
                 };
@@ -149,7 +149,7 @@ impl Hyp {
 
 /// Writes the numbers of the interrupt file of the virtual hart of a slot that is parked, and its
 /// select number.
-fn load_numbers_in(vcpus: &mut Vec<VcpuRecord>, slot: u32, kept: Kept, select: u64)
+fn load_numbers_in(vcpus: &mut Vec<VcpuRecord>, slot: u32, kept: KeptNumbers, select: u64)
     requires { slot < length vcpus.old.items }
     ensures after { vcpus.new.items ≡ slice_set vcpus.old.items slot
         (record (slice_index_or vcpus.old.items slot no_record) {

@@ -5,17 +5,14 @@
 mod flights;
 mod forwards;
 mod guest;
-mod hyp;
+mod hypervisor_core;
 mod images;
-pub mod laws;
 mod majors;
 mod memory;
 mod moves;
 mod passes;
 mod peers;
 mod signals;
-mod vcpu;
 
-pub use aia_model::Refusal;
-pub use hyp::Hyp;
-pub use moves::Want;
+pub use aia_model::{Refusal, Want};
+pub use hypervisor_core::Core;

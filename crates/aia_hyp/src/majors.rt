@@ -11,16 +11,16 @@ ghost use Rattle.aia_major.specs.Kept.{majors_shown};
 ghost use Rattle.aia_home.specs.Vms.{vcpu, is_vcpu_in, slot_of};
 ghost use Rattle.aia_model.specs.declared.line.Line.TheVariants.{Inject, Hvictl, Hviprio};
 ghost use Rattle.aia_model.specs.declared.answer.Answer.TheVariants.{Okay};
-ghost use Rattle.aia_hyp.specs.Core.{no_record, MajorsDone};
-ghost use Rattle.aia_hyp.specs.Stands.{CoreTakes, answer_by};
+ghost use Rattle.aia_standing.specs.Core.{no_record, MajorsDone};
+ghost use Rattle.aia_standing.specs.Stands.{CoreTakes, answer_by};
 
-use crate::hyp::Hyp;
-use crate::vcpu::VcpuRecord;
+use crate::hypervisor_core::Core;
+use aia_standing::VcpuRecord;
 use aia_file::File;
 use aia_model::Refusal;
 use aia_regs::Op;
 
-impl Hyp {
+impl Core {
     /// Gives the major interrupt `bit` of a virtual hart, 1, 5, 9 or 13, a level in `hvip`. It may
     /// be done at any time, also while the virtual hart is moved. `Err` is `Range` where the
     /// virtual hart isn't there, or `bit` is no such number; nothing is changed then.
@@ -30,10 +30,10 @@ impl Hyp {
         ensures { CoreTakes self.old self.new (Inject vm number bit level)
             (answer_by (λ _. Okay) result) }
     {
-        let Some(slot) = self.slot_there(vm, number) else {
+        let Some(found) = self.fabric.find(vm, number) else {
             return Err(Refusal::Range);
         };
-        inject_in(&mut self.vcpus, slot, bit, level)
+        inject_in(&mut self.vcpus, found.slot, bit, level)
     }
 
     /// Writes `hvictl` of a virtual hart, at any time. `Err` is `Range` where the virtual hart
@@ -45,10 +45,10 @@ impl Hyp {
         ensures { CoreTakes self.old self.new (Hvictl vm number value)
             (answer_by (λ _. Okay) result) }
     {
-        let Some(slot) = self.slot_there(vm, number) else {
+        let Some(found) = self.fabric.find(vm, number) else {
             return Err(Refusal::Range);
         };
-        set_hvictl_in(&mut self.vcpus, slot, value)
+        set_hvictl_in(&mut self.vcpus, found.slot, value)
     }
 
     /// Writes `hviprio1` of a virtual hart, at any time. `Err` is `Range` where the virtual hart
@@ -59,23 +59,11 @@ impl Hyp {
         ensures { CoreTakes self.old self.new (Hviprio vm number value)
             (answer_by (λ _. Okay) result) }
     {
-        let Some(slot) = self.slot_there(vm, number) else {
+        let Some(found) = self.fabric.find(vm, number) else {
             return Err(Refusal::Range);
         };
-        set_hviprio_in(&mut self.vcpus, slot, value);
+        set_hviprio_in(&mut self.vcpus, found.slot, value);
         Ok(())
-    }
-
-    /// Finds the slot of a virtual hart; `None` exactly where it isn't there.
-    fn slot_there(&self, vm: u64, number: u64) -> Option<u32>
-        ensures there { is_some result ≡ is_vcpu_in self.now.world.vms (vcpu vm number) }
-        ensures slot { IfSome result (λ slot. slot ≡ slot_of self.now.world.vms (vcpu vm number)) }
-        ensures below { IfSome result (λ slot. slot < length self.now.vcpus) }
-    {
-        if !self.fabric.has_vcpu(vm, number) {
-            return None;
-        }
-        Some(self.fabric.slot_of(vm as u32, number as u32))
     }
 }
 

@@ -6,30 +6,29 @@ ghost use Rattle.std.specs.Vec.{vec_capacity};
 ghost use Rattle.aia_word.specs.Top.{top_value};
 ghost use Rattle.aia_regs.specs.declared.limits.TheConstants.{VCPUS};
 ghost use Rattle.aia_regs.specs.FileRegisters.{number_after};
-ghost use Rattle.aia_csr.specs.Access.{IsFileCsr};
+ghost use Rattle.aia_csr.specs.CsrAccess.{IsFileCsr};
 ghost use Rattle.aia_file.specs.InterruptFile.{top_of};
 ghost use Rattle.aia_home.specs.Vms.{vcpu, is_vcpu_in};
-ghost use Rattle.aia_fabric.specs.SlotAccess.{file_of_slot};
-ghost use Rattle.aia_fabric.specs.Whole.{IsWhole};
+ghost use Rattle.aia_world.specs.SlotAccess.{file_of_slot};
+ghost use Rattle.aia_world.specs.Whole.{IsWhole};
 ghost use Rattle.aia_model.specs.declared.line.Line.TheVariants.{Enter, Exit, GuestCsr};
 ghost use Rattle.aia_model.specs.declared.answer.Answer.TheVariants.{Okay, Wide};
 ghost use Rattle.aia_model.specs.Refusal.{is_file_csr};
-ghost use Rattle.aia_hyp.specs.Core.{no_record, record_of, resident_at, entered_at};
-ghost use Rattle.aia_hyp.specs.Memory.{Enters, is_number, kept_after, kept_value, TopDone};
-ghost use Rattle.aia_hyp.specs.Moves.{IsFound};
-ghost use Rattle.aia_hyp.specs.Stands.{CoreTakes, answer_by};
+ghost use Rattle.aia_standing.specs.Core.{no_record, record_of, resident_at, entered_at};
+ghost use Rattle.aia_standing.specs.Memory.{Enters, is_number, kept_after, kept_value, TopDone};
+ghost use Rattle.aia_world.specs.Found.{IsFound};
+ghost use Rattle.aia_standing.specs.Stands.{CoreTakes, answer_by};
 
 use crate::guest::access_select_in;
-use crate::hyp::Hyp;
-use crate::moves::{Found, find};
-use crate::vcpu::{Stay, VcpuRecord};
-use aia_csr::Access;
-use aia_fabric::Fabric;
+use crate::hypervisor_core::Core;
+use aia_standing::{Stay, VcpuRecord};
+use aia_csr::CsrAccess;
+use aia_fabric::{Fabric, Found};
 use aia_model::Refusal;
-use aia_move::Kept;
+use aia_move::KeptNumbers;
 use aia_regs::{Csr, FileReg, Op};
 
-impl Hyp {
+impl Core {
     /// Has a virtual hart run from memory: from now on it runs, and its interrupts stay in its
     /// slot. `Err` is `Range` where the virtual hart isn't there, `Busy` where it is being moved,
     /// `Home` where it is resident, `Entered` where it runs from memory already; nothing is changed
@@ -37,7 +36,7 @@ impl Hyp {
     pub fn enter(&mut self, vm: u64, number: u64) -> Result<(), Refusal>
         ensures { CoreTakes self.old self.new (Enter vm number) (answer_by (λ _. Okay) result) }
     {
-        let Some(found) = find(&self.fabric, vm, number) else {
+        let Some(found) = self.fabric.find(vm, number) else {
             return Err(Refusal::Range);
         };
         enter_in(&mut self.vcpus, found.slot)
@@ -49,10 +48,10 @@ impl Hyp {
     pub fn exit(&mut self, vm: u64, number: u64) -> Result<(), Refusal>
         ensures { CoreTakes self.old self.new (Exit vm number) (answer_by (λ _. Okay) result) }
     {
-        let Some(found) = find(&self.fabric, vm, number) else {
+        let Some(found) = self.fabric.find(vm, number) else {
             return Err(Refusal::Range);
         };
-        match self.entered(found.vm, found.vcpu) {
+        match self.record_of(found).stay.entered() {
             Some(kept) => {
                 self.park(found, kept);
                 Ok(())
@@ -63,11 +62,11 @@ impl Hyp {
 
     /// Parks a virtual hart that ran from memory, and sends its notice where an identity is both
     /// pending and enabled.
-    fn park(&mut self, found: Found, kept: Kept)
+    fn park(&mut self, found: Found, kept: KeptNumbers)
         requires found { IsFound self.old.world found }
-        requires entered { (record_of self.old (vcpu found.vm found.vcpu)).stay
+        requires entered { (record_of self.old (vcpu found.vm found.number)).stay
             ≡ Stay.Entered kept }
-        ensures { CoreTakes self.old self.new (Exit found.vm found.vcpu) Okay }
+        ensures { CoreTakes self.old self.new (Exit found.vm found.number) Okay }
     {
         let _whole = self.fabric.words();
         put_stay(&mut self.vcpus, found.slot, Stay::Parked(kept));
@@ -77,65 +76,49 @@ impl Hyp {
     }
 
     /// Does the access of a virtual hart that is there and is not resident: one that runs from
-    /// memory has the CSRs of its interrupt file. `Err` as of [`Hyp::guest`].
-    pub(crate) fn away_access(
-        &mut self,
-        vm: u32,
-        number: u32,
-        csr: Csr,
-        op: Op,
-    ) -> Result<u64, Refusal>
-        requires there { is_vcpu_in self.old.world.vms (vcpu vm number) ≡ true }
+    /// memory has the CSRs of its interrupt file. `Err` as of [`Core::guest`].
+    pub(crate) fn away_access(&mut self, found: Found, csr: Csr, op: Op) -> Result<u64, Refusal>
+        requires found { IsFound self.old.world found }
         requires whole { IsWhole self.old.world }
-        requires away { resident_at (record_of self.old (vcpu vm number)).stay ≡ None }
-        ensures { CoreTakes self.old self.new (GuestCsr vm number csr op)
+        requires away { resident_at (record_of self.old (vcpu found.vm found.number)).stay ≡ None }
+        ensures { CoreTakes self.old self.new (GuestCsr found.vm found.number csr op)
             (answer_by Wide result) }
     {
-        match self.entered(vm, number) {
-            Some(kept) if is_file_csr(csr) => self.memory_access(vm, number, kept, csr, op),
+        match self.record_of(found).stay.entered() {
+            Some(kept) if is_file_csr(csr) => self.memory_access(found, kept, csr, op),
             _ => Err(Refusal::Away),
         }
     }
 
-    /// Tells the numbers that are kept of a virtual hart that is there, `None` where it doesn't run
-    /// from memory.
-    fn entered(&self, vm: u32, number: u32) -> Option<Kept>
-        requires { is_vcpu_in self.now.world.vms (vcpu vm number) ≡ true }
-        ensures { result ≡ entered_at (record_of self.now (vcpu vm number)).stay }
-    {
-        let slot = self.fabric.slot_of(vm, number);
-        self.vcpus[slot as usize].stay.entered()
-    }
-
     /// Does the access of a virtual hart that runs from memory to a CSR of its interrupt file: the
-    /// sets are its slot's, the numbers are kept beside it. `Err` as of [`Hyp::guest`].
+    /// sets are its slot's, the numbers are kept beside it. `Err` as of [`Core::guest`].
     fn memory_access(
         &mut self,
-        vm: u32,
-        number: u32,
-        kept: Kept,
+        found: Found,
+        kept: KeptNumbers,
         csr: Csr,
         op: Op,
     ) -> Result<u64, Refusal>
-        requires there { is_vcpu_in self.old.world.vms (vcpu vm number) ≡ true }
+        requires found { IsFound self.old.world found }
         requires whole { IsWhole self.old.world }
-        requires entered { (record_of self.old (vcpu vm number)).stay ≡ Stay.Entered kept }
+        requires entered { (record_of self.old (vcpu found.vm found.number)).stay
+            ≡ Stay.Entered kept }
         requires listed { IsFileCsr csr }
-        ensures { CoreTakes self.old self.new (GuestCsr vm number csr op)
+        ensures { CoreTakes self.old self.new (GuestCsr found.vm found.number csr op)
             (answer_by Wide result) }
     {
-        let slot = self.fabric.slot_of(vm, number);
-        match self.guest_reached(vm, number, csr, op) {
-            Access::Select => Ok(access_select_in(&mut self.vcpus, slot, op)),
-            Access::File(reg) if is_number(reg) => {
+        let slot = found.slot;
+        match self.guest_reached(found, csr, op) {
+            CsrAccess::Select => Ok(access_select_in(&mut self.vcpus, slot, op)),
+            CsrAccess::File(reg) if is_number(reg) => {
                 let modulus = 64 * u64::from(self.fabric.words());
                 Ok(access_kept_in(&mut self.vcpus, slot, kept, reg, op, modulus))
             }
-            Access::File(reg) => Ok(self.fabric.slot_reg(slot, reg, op)),
-            Access::Top => Ok(top_in(&mut self.fabric, slot, kept.threshold, op)),
-            Access::Illegal => Err(Refusal::Illegal),
-            Access::Virtual => Err(Refusal::Virtual),
-            Access::Topi | Access::Sip | Access::Sie => unreachable!(),
+            CsrAccess::File(reg) => Ok(self.fabric.slot_reg(slot, reg, op)),
+            CsrAccess::Top => Ok(top_in(&mut self.fabric, slot, kept.threshold, op)),
+            CsrAccess::Illegal => Err(Refusal::Illegal),
+            CsrAccess::Virtual => Err(Refusal::Virtual),
+            CsrAccess::Topi | CsrAccess::Sip | CsrAccess::Sie => unreachable!(),
         }
     }
 }
@@ -164,7 +147,7 @@ fn is_number(reg: FileReg) -> bool
     !matches!(reg, FileReg::Pending(_) | FileReg::Enable(_))
 }
 
-/// Has the virtual hart of a slot run from memory where it is parked; `Err` as of [`Hyp::enter`].
+/// Has the virtual hart of a slot run from memory where it is parked; `Err` as of [`Core::enter`].
 fn enter_in(vcpus: &mut Vec<VcpuRecord>, slot: u32) -> Result<(), Refusal>
     requires { slot < length vcpus.old.items }
     ensures enters { Enters vcpus.old.items vcpus.new.items slot (answer_by (λ _. Okay) result) }
@@ -198,7 +181,7 @@ fn put_stay(vcpus: &mut Vec<VcpuRecord>, slot: u32, stay: Stay)
 fn access_kept_in(
     vcpus: &mut Vec<VcpuRecord>,
     slot: u32,
-    kept: Kept,
+    kept: KeptNumbers,
     reg: FileReg,
     op: Op,
     modulus: u64,

@@ -4,51 +4,28 @@ ghost use Rattle.aia_home.specs.Vms.{vcpu, is_vcpu_in};
 ghost use Rattle.aia_home.specs.Home.{is_moving};
 ghost use Rattle.aia_pool.specs.Leases.{Leases};
 ghost use Rattle.aia_model.specs.declared.line.Line.TheVariants.{Step};
+ghost use Rattle.aia_model.specs.declared.line.Line.TheVariants as lines;
 ghost use Rattle.aia_model.specs.declared.answer.Answer.TheVariants.{Okay};
-ghost use Rattle.aia_move.specs.Move.{IsWho};
 ghost use Rattle.aia_move.specs.Plan.{moving_of};
 ghost use Rattle.aia_model.specs.Event.{History};
 ghost use Rattle.aia_model.specs.Event.Event.{Stepped};
 ghost use Rattle.aia_model.specs.Aim.{aimed_by};
 ghost use Rattle.aia_model.specs.Refusal.{refusal};
-ghost use Rattle.aia_hyp.specs.Core.{no_kept, no_record, record_of, home_in, has_plan};
-ghost use Rattle.aia_hyp.specs.Passes.{own_passes, AimsBy};
-ghost use Rattle.aia_hyp.specs.Stands.{CoreStands, CoreTakes, answer_by};
-ghost use Rattle.aia_hyp.specs.Moves.{IsFound, UnlessRefused, WholeAims, move_line, begin_line, step_answer, MakesOne, WantBegins, LeaveBegins, ArriveBegins, ShiftBegins, MoveBegins, MoveGoes, stay_after, back_of, with_back, IsOutThere, stay_then, back_then, is_finished};
+ghost use Rattle.aia_standing.specs.Core.{no_kept, no_record, record_of, home_in, has_plan};
+ghost use Rattle.aia_standing.specs.Passes.{own_passes, AimsBy};
+ghost use Rattle.aia_standing.specs.Stands.{CoreStands, CoreTakes, answer_by};
+ghost use Rattle.aia_world.specs.Found.{IsFound};
+ghost use Rattle.aia_standing.specs.Moves.{UnlessRefused, WholeAims, step_answer, MakesOne, WantBegins, LeaveBegins, ArriveBegins, ShiftBegins, MoveBegins, MoveGoes, stay_after, back_of, with_back, IsOutThere, stay_then, back_then, is_finished};
 
-use crate::hyp::Hyp;
+use crate::hypervisor_core::Core;
 use crate::passes::Passes;
-use crate::vcpu::{Stay, VcpuRecord};
-use aia_fabric::Fabric;
-use aia_model::Refusal;
-use aia_move::{Kept, Next, Outcome, Plan, Targets, Who};
+use aia_standing::{Stay, VcpuRecord};
+use aia_fabric::Found;
+use aia_model::{Refusal, Want};
+use aia_move::{KeptNumbers, Next, Outcome, Plan, Targets, Who};
 use aia_pool::Pool;
 
-/// A move that is wanted of a virtual hart.
-#[derive(Clone, Copy, Debug, PartialEq, Eq)]
-pub enum Want {
-    /// From its guest file to memory.
-    Leave,
-    /// From memory to a guest file of this hart.
-    Arrive(u64),
-    /// From its guest file to one of this hart.
-    Shift(u64),
-}
-
-/// A virtual hart that is there.
-#[derive(Clone, Copy, Debug, PartialEq, Eq)]
-pub(crate) struct Found {
-    /// Its VM.
-    pub vm: u32,
-    /// Its number in the VM.
-    pub vcpu: u32,
-    /// Its number over all VMs: that of its slot of memory.
-    pub slot: u32,
-    /// The hart whose supervisor file takes its notices.
-    pub notice: u32,
-}
-
-impl Hyp {
+impl Core {
     /// Moves a virtual hart, by all steps of its plan. `Err` is `Range` where the virtual hart or
     /// the hart isn't there, `Busy` where it is being moved, `Home` where it is to arrive and is
     /// resident, `Entered` where it is to arrive and runs from memory, `Parked` where it is to
@@ -63,14 +40,14 @@ impl Hyp {
         targets: &mut T,
     ) -> Result<(), Refusal>
         requires { self.old.world.imsic.harts ≡ (T.map targets.old).harts }
-        ensures takes { CoreTakes self.old self.new (move_line vm number want)
+        ensures takes { CoreTakes self.old self.new (lines.Move vm number want)
             (answer_by (λ _. Okay) result) }
         ensures aims { (h : History) → CoreStands self.old h
-            → UnlessRefused (refusal h (move_line vm number want))
+            → UnlessRefused (refusal h (lines.Move vm number want))
             (WholeAims T.aimed h vm number want targets.old targets.new)
             (targets.new ≡ targets.old) }
     {
-        let Some(found) = find(&self.fabric, vm, number) else {
+        let Some(found) = self.fabric.find(vm, number) else {
             return Err(Refusal::Range);
         };
         self.begin_of(found, want)?;
@@ -79,12 +56,12 @@ impl Hyp {
     }
 
     /// Begins to move a virtual hart, and does no step of the move. `Err` is as of
-    /// [`Hyp::whole`]; nothing is changed then. Profile.
+    /// [`Core::whole`]; nothing is changed then. Profile.
     pub fn begin(&mut self, vm: u64, number: u64, want: Want) -> Result<(), Refusal>
-        ensures { CoreTakes self.old self.new (begin_line vm number want)
+        ensures { CoreTakes self.old self.new (lines.Begin vm number want)
             (answer_by (λ _. Okay) result) }
     {
-        let Some(found) = find(&self.fabric, vm, number) else {
+        let Some(found) = self.fabric.find(vm, number) else {
             return Err(Refusal::Range);
         };
         self.begin_of(found, want)
@@ -110,28 +87,27 @@ impl Hyp {
             (AimsBy T.aimed (aimed_by h (Stepped (vcpu vm number))) targets.old targets.new)
             (targets.new ≡ targets.old) }
     {
-        let Some(found) = find(&self.fabric, vm, number) else {
+        let Some(found) = self.fabric.find(vm, number) else {
             return Err(Refusal::Range);
         };
-        if !self.is_moved(found.vm, found.vcpu) {
+        if !self.is_moved(found) {
             return Err(Refusal::Idle);
         }
         Ok(self.step_of(found, targets))
     }
 
     /// Tells whether a virtual hart that is there is being moved.
-    pub(crate) fn is_moved(&self, vm: u32, number: u32) -> bool
-        requires { is_vcpu_in self.now.world.vms (vcpu vm number) ≡ true }
-        ensures { result ≡ has_plan (record_of self.now (vcpu vm number)).stay }
+    pub(crate) fn is_moved(&self, found: Found) -> bool
+        requires { IsFound self.now.world found }
+        ensures { result ≡ has_plan (record_of self.now (vcpu found.vm found.number)).stay }
     {
-        let slot = self.fabric.slot_of(vm, number);
-        self.vcpus[slot as usize].stay.has_plan()
+        self.record_of(found).stay.has_plan()
     }
 
     /// Begins to move a virtual hart that is there, and does no step of the move.
     fn begin_of(&mut self, found: Found, want: Want) -> Result<(), Refusal>
         requires { IsFound self.old.world found }
-        ensures begins { MoveBegins self.old self.new found.vm found.vcpu want
+        ensures begins { MoveBegins self.old self.new found.vm found.number want
             (answer_by (λ _. Okay) result) }
         ensures world { self.new.world ≡ self.old.world }
     {
@@ -147,12 +123,12 @@ impl Hyp {
     /// was the last one.
     fn step_of<T: Targets>(&mut self, found: Found, targets: &mut T) -> bool
         requires found { IsFound self.old.world found }
-        requires moving { is_moving (home_in (record_of self.old (vcpu found.vm found.vcpu)).stay)
+        requires moving { is_moving (home_in (record_of self.old (vcpu found.vm found.number)).stay)
             ≡ true }
         requires harts { self.old.world.imsic.harts ≡ (T.map targets.old).harts }
-        ensures goes { MoveGoes self.old self.new (vcpu found.vm found.vcpu) result }
+        ensures goes { MoveGoes self.old self.new (vcpu found.vm found.number) result }
         ensures aims { (h : History) → CoreStands self.old h
-            → AimsBy T.aimed (aimed_by h (Stepped (vcpu found.vm found.vcpu))) targets.old
+            → AimsBy T.aimed (aimed_by h (Stepped (vcpu found.vm found.number))) targets.old
             targets.new }
         ensures found { IsFound self.new.world found }
         ensures harts { self.new.world.imsic.harts ≡ (T.map targets.new).harts }
@@ -170,42 +146,17 @@ impl Hyp {
     }
 }
 
-/// Finds the virtual hart of this VM with this number, with its slot and its notice hart. `None`
-/// exactly where it isn't there.
-pub(crate) fn find(fabric: &Fabric, vm: u64, number: u64) -> Option<Found>
-    ensures there { IfSome result (λ found. IsFound fabric.now found) }
-    ensures named { IfSome result (λ found. (found.vm ≡ vm) × (found.vcpu ≡ number)) }
-    ensures none { IfNone result (is_vcpu_in fabric.now.vms (vcpu vm number) ≡ false) }
-{
-    if !fabric.has_vcpu(vm, number) {
-        return None;
-    }
-    let (vm, vcpu) = (vm as u32, number as u32);
-    Some(Found {
-        vm,
-        vcpu,
-        slot: fabric.slot_of(vm, vcpu),
-        notice: fabric.notice_hart(vm, vcpu),
-    })
-}
-
 /// Tells who is moved: the virtual hart with the passes to it.
 fn who_of(found: Found, passes: &Passes) -> Who
     ensures named { result ≡ record {
-      vm = found.vm;
-      vcpu = found.vcpu;
-      slot = found.slot;
-      notice = found.notice;
+      found = found;
       passes = result.passes;
     } }
-    ensures passes { result.passes.items ≡ own_passes 0 (vcpu found.vm found.vcpu) passes.now }
+    ensures passes { result.passes.items ≡ own_passes 0 (vcpu found.vm found.number) passes.now }
 {
     Who {
-        vm: found.vm,
-        vcpu: found.vcpu,
-        slot: found.slot,
-        notice: found.notice,
-        passes: passes.to(found.vm, found.vcpu),
+        found,
+        passes: passes.to(found.vm, found.number),
     }
 }
 
@@ -213,7 +164,7 @@ fn who_of(found: Found, passes: &Passes) -> Who
 fn nowhere() -> Stay
     ensures { result ≡ Stay.Parked no_kept }
 {
-    Stay::Parked(Kept {
+    Stay::Parked(KeptNumbers {
         delivery: 0,
         threshold: 0,
     })
@@ -231,7 +182,7 @@ fn swap_stay(vcpus: &mut Vec<VcpuRecord>, slot: u32, stay: Stay) -> Stay
 }
 
 /// Begins the move that is wanted of a virtual hart, and tells where the virtual hart is then.
-/// `Err` as of [`Hyp::whole`]: it is where it was.
+/// `Err` as of [`Core::whole`]: it is where it was.
 fn begun(
     old: Stay,
     who: Who,

@@ -3,25 +3,13 @@ ghost use Rattle.aia_regs.specs.declared.limits.TheConstants.{PASSES};
 ghost use Rattle.aia_word.specs.Sets.{least_of};
 ghost use Rattle.aia_home.specs.Vms.{vcpu};
 ghost use Rattle.aia_model.specs.Passes.{no_pass};
-ghost use Rattle.aia_hyp.specs.Passes.{pass_shown, own_passes};
+ghost use Rattle.aia_standing.specs.Passes.{pass_shown, own_passes};
 
+use aia_standing::Passed;
 use aia_move::Pass;
 use aia_regs::limits::PASSES;
 use arrayvec::ArrayVec;
 use std::marker::Model;
-
-/// A wired source that is passed to a virtual hart.
-#[derive(Clone, Copy, Debug, Default, PartialEq, Eq)]
-pub struct Passed {
-    /// The source, from 1 on.
-    pub source: u32,
-    /// The virtual hart's VM.
-    pub vm: u32,
-    /// Its number in the VM.
-    pub vcpu: u32,
-    /// The identity for which the source asks there.
-    pub identity: u32,
-}
 
 /// The passes, in order: so they are numbered, from 0 on.
 #[derive(Drop)]
@@ -32,7 +20,7 @@ pub struct Passes {
 impl Model for Passes {
     ghost use Rattle.std.specs.Prelude.{List, map};
     ghost use Rattle.aia_model.specs.Passes.{Pass};
-    ghost use Rattle.aia_hyp.specs.Passes.{pass_shown};
+    ghost use Rattle.aia_standing.specs.Passes.{pass_shown};
 
     ghost Value = { List Pass };
 
@@ -104,7 +92,7 @@ fn put_own(own: &mut ArrayVec<Pass, PASSES>, vm: u32, number: u32, k: u32, pass:
     ensures { own.new.items
         ≡ own.old.items ++ own_passes k (vcpu vm number) (pass_shown pass ∷ []) }
 {
-    if pass.vm == vm && pass.vcpu == number {
+    if pass.vm == vm && pass.number == number {
         own.push(Pass {
             source: pass.source,
             identity: pass.identity,

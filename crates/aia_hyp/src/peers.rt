@@ -1,11 +1,11 @@
 ghost use Rattle.aia_model.specs.declared.line.Line.TheVariants.{Ipi};
 ghost use Rattle.aia_model.specs.declared.answer.Answer.TheVariants.{Okay};
-ghost use Rattle.aia_hyp.specs.Stands.{CoreTakes, answer_by};
+ghost use Rattle.aia_standing.specs.Stands.{CoreTakes, answer_by};
 
-use crate::hyp::Hyp;
+use crate::hypervisor_core::Core;
 use aia_model::Refusal;
 
-impl Hyp {
+impl Core {
     /// Takes a store of `value` by virtual hart `number` of a VM at the place, in its own address
     /// space, of the interrupt file of virtual hart `to` of its VM, which may be itself: it asks
     /// there for the identity that the value names, and where the interrupts of `to` are in memory,
@@ -18,16 +18,16 @@ impl Hyp {
         ensures { CoreTakes self.old self.new (Ipi vm number to value)
             (answer_by (λ _. Okay) result) }
     {
-        if !self.fabric.has_vcpu(vm, number) {
+        let Some(from) = self.fabric.find(vm, number) else {
             return Err(Refusal::Range);
-        }
-        if !self.runs(vm as u32, number as u32) {
+        };
+        if !self.record_of(from).stay.runs() {
             return Err(Refusal::Away);
         }
-        if !self.fabric.has_vcpu(vm, to) {
+        let Some(peer) = self.fabric.find(vm, to) else {
             return Err(Refusal::GFault);
-        }
-        self.fabric.guest_store(vm as u32, to as u32, value);
+        };
+        self.fabric.guest_store(peer, value);
         Ok(())
     }
 }

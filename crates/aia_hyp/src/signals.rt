@@ -1,11 +1,11 @@
 ghost use Rattle.aia_model.specs.declared.line.Line.TheVariants.{Hgeip};
 ghost use Rattle.aia_model.specs.declared.answer.Answer.TheVariants.{Wide};
-ghost use Rattle.aia_hyp.specs.Stands.{CoreTakes, answer_by};
+ghost use Rattle.aia_standing.specs.Stands.{CoreTakes, answer_by};
 
-use crate::hyp::Hyp;
+use crate::hypervisor_core::Core;
 use aia_model::Refusal;
 
-impl Hyp {
+impl Core {
     /// Tells which guest files of a hart signal: bit j, from 1 on, is the signal of guest file j.
     /// `Err` is `Range` exactly where the hart isn't there.
     ///

@@ -12,9 +12,9 @@ use Rattle.aia_file.specs.InterruptFile.{is_live}
 use Rattle.aia_mrif.specs.Mrif.{set_at, pending_place, enable_place}
 use Rattle.aia_mrif.proofs.SlotLemmas.{place_shows}
 use Rattle.aia_places.proofs.LookLemmas.{meets-and}
-use Rattle.aia_fabric.specs.World.{World}
-use Rattle.aia_fabric.specs.Whole.{IsWhole}
-use Rattle.aia_fabric.specs.SlotAccess.{file_of_slot}
+use Rattle.aia_world.specs.World.{World}
+use Rattle.aia_world.specs.Whole.{IsWhole}
+use Rattle.aia_world.specs.SlotAccess.{file_of_slot}
 use Rattle.aia_model.specs.declared.part.Part.TheVariants as parts
 
 -- the words of a set that files have show no identity that they don't have

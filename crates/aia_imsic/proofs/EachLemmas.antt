@@ -3,7 +3,7 @@ use Rattle.std.proofs.Common.{◌≡◌, ◌≢◌, ◌⊎◌, inl, inr, sym, ap
 use Rattle.std.proofs.lemmas.Bool.{cases_eq}
 use Rattle.aia_file.specs.FileState.{FileState}
 use Rattle.aia_imsic.specs.declared.spot.Spot.{Spot}
-use Rattle.aia_imsic.specs.declared.spot.Spot.TheVariants.{MachineFile, HostFile, GuestFile, Nowhere}
+use Rattle.aia_imsic.specs.declared.spot.Spot.TheVariants.{MachineFile, SupervisorFile, GuestFile, Nowhere}
 use Rattle.aia_imsic.specs.Imsic.{ImsicState, IsThere, place_of, file_at, with_file}
 use Rattle.aia_imsic.proofs.PlaceLemmas.{same_place, kept_elsewhere}
 
@@ -16,7 +16,7 @@ same_or_other h a b p q = elim (cases_eq (place_of h a) (place_of h b)) [
 -- the same files are there
 there_still : (h : ImsicState) (spot other : Spot) (file : FileState) → IsThere (with_file h spot file) other → IsThere h other
 there_still h spot (MachineFile hart) file there = there
-there_still h spot (HostFile hart) file there = there
+there_still h spot (SupervisorFile hart) file there = there
 there_still h spot (GuestFile hart number) file there = there
 there_still h spot Nowhere file there = there
 

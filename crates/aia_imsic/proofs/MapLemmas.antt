@@ -6,7 +6,7 @@ use Rattle.std.specs.Option.{option_map_or}
 use Rattle.aia_word.proofs.LeastLemmas.{least_of-found, least_of-none, least_of_is}
 use Rattle.aia_regs.specs.AddressMap.{machine_page, supervisor_page, guest_page, is_in_page}
 use Rattle.aia_imsic.specs.declared.spot.Spot.{Spot}
-use Rattle.aia_imsic.specs.declared.spot.Spot.TheVariants.{MachineFile, HostFile, GuestFile, Nowhere}
+use Rattle.aia_imsic.specs.declared.spot.Spot.TheVariants.{MachineFile, SupervisorFile, GuestFile, Nowhere}
 use Rattle.aia_imsic.specs.Map.{machine_file_at, supervisor_file_at, guest_file_at, guest_hart_at, guest_spot_of, spot_at}
 use Rattle.aia_regs.specs.declared.limits.TheConstants.{HARTS, GUEST_FILES}
 use Rattle.aia_regs.specs.declared.address_map.TheConstants.{MACHINE_FILES, SUPERVISOR_FILES, HART_STRIDE, PAGE}
@@ -80,7 +80,7 @@ guest_is_not_host hart file x addr some few here =
 -- where an address lies, by what was found of each kind
 abbrev chosen : ℕ → ℕ → Option ℕ → Option ℕ → Option ℕ → Spot
 chosen guests addr machine host guest_hart =
-    option_map_or MachineFile machine (option_map_or HostFile host (option_map_or (guest_spot_of guests addr) guest_hart Nowhere))
+    option_map_or MachineFile machine (option_map_or SupervisorFile host (option_map_or (guest_spot_of guests addr) guest_hart Nowhere))
 
 by_parts : (harts guests addr : ℕ) (machine host guest_hart : Option ℕ) → machine_file_at harts addr ≡ machine → supervisor_file_at harts addr ≡ host → guest_hart_at harts guests addr ≡ guest_hart
     → spot_at harts guests addr ≡ chosen guests addr machine host guest_hart
@@ -89,7 +89,7 @@ by_parts harts guests addr machine host guest_hart m s g = rw (m, s, g)
 pub spot_of_machine : (harts guests addr hart : ℕ) → hart < harts → is_in_page (machine_page hart) addr ≡ true → spot_at harts guests addr ≡ MachineFile hart
 spot_of_machine harts guests addr hart there here = by_parts harts guests addr (Some hart) _ _ (the_machine harts addr hart there here) refl refl
 
-pub spot_of_host : (harts guests addr hart : ℕ) → harts ≤ HARTS → hart < harts → is_in_page (supervisor_page hart) addr ≡ true → spot_at harts guests addr ≡ HostFile hart
+pub spot_of_host : (harts guests addr hart : ℕ) → harts ≤ HARTS → hart < harts → is_in_page (supervisor_page hart) addr ≡ true → spot_at harts guests addr ≡ SupervisorFile hart
 spot_of_host harts guests addr hart few there here =
     let low = from_page (supervisor_page hart) addr here in
     by_parts harts guests addr None (Some hart) _ (no_machine harts addr few (omega arith)) (the_supervisor harts addr hart there here) refl
@@ -111,7 +111,7 @@ guest_is_no_machine : (x hart : ℕ) (file : Option ℕ) → option_map_or (Gues
 guest_is_no_machine x hart None e = cc
 guest_is_no_machine x hart (Some y) e = cc
 
-guest_is_no_host : (x hart : ℕ) (file : Option ℕ) → option_map_or (GuestFile x) file Nowhere ≢ HostFile hart
+guest_is_no_host : (x hart : ℕ) (file : Option ℕ) → option_map_or (GuestFile x) file Nowhere ≢ SupervisorFile hart
 guest_is_no_host x hart None e = cc
 guest_is_no_host x hart (Some y) e = cc
 
@@ -125,7 +125,7 @@ is_machine guests addr hart None (Some y) guest_hart e = absurd (cc)
 is_machine guests addr hart None None (Some x) e = absurd (guest_is_no_machine x hart (guest_file_at guests x addr) e)
 is_machine guests addr hart None None None e = absurd (cc)
 
-is_host : (guests addr hart : ℕ) (machine host guest_hart : Option ℕ) → chosen guests addr machine host guest_hart ≡ HostFile hart → host ≡ Some hart
+is_host : (guests addr hart : ℕ) (machine host guest_hart : Option ℕ) → chosen guests addr machine host guest_hart ≡ SupervisorFile hart → host ≡ Some hart
 is_host guests addr hart (Some x) host guest_hart e = absurd (cc)
 is_host guests addr hart None (Some y) guest_hart e = cc
 is_host guests addr hart None None (Some x) e = absurd (guest_is_no_host x hart (guest_file_at guests x addr) e)
@@ -143,7 +143,7 @@ machine_of_spot harts guests addr hart e =
     let least = least_of_is (λ x. is_in_page (machine_page x) addr) 0 harts hart (is_machine guests addr hart (machine_file_at harts addr) (supervisor_file_at harts addr) (guest_hart_at harts guests addr) e) in
     (omega (arith, least.1), least.2)
 
-pub host_of_spot : (harts guests addr hart : ℕ) → spot_at harts guests addr ≡ HostFile hart → (hart < harts) × (is_in_page (supervisor_page hart) addr ≡ true)
+pub host_of_spot : (harts guests addr hart : ℕ) → spot_at harts guests addr ≡ SupervisorFile hart → (hart < harts) × (is_in_page (supervisor_page hart) addr ≡ true)
 host_of_spot harts guests addr hart e =
     let least = least_of_is (λ x. is_in_page (supervisor_page x) addr) 0 harts hart (is_host guests addr hart (machine_file_at harts addr) (supervisor_file_at harts addr) (guest_hart_at harts guests addr) e) in
     (omega (arith, least.1), least.2)
@@ -173,7 +173,7 @@ pub past_hosts : (harts guests addr hart : ℕ) → harts ≤ HARTS → guests �
 past_hosts harts guests addr hart few fewer e low past = spot_of_none harts guests addr (no_machine harts addr few (omega arith))
     (λ x a. after_page (supervisor_page x) addr (omega arith)) (λ x file a b c. after_page (guest_page x file) addr (omega arith))
 
-pub at_host : (harts guests addr hart file : ℕ) → harts ≤ HARTS → hart ≡ (addr - SUPERVISOR_FILES) / HART_STRIDE → file ≡ (addr - SUPERVISOR_FILES) % HART_STRIDE / PAGE → SUPERVISOR_FILES ≤ addr → hart < harts → file ≡ 0 → spot_at harts guests addr ≡ HostFile hart
+pub at_host : (harts guests addr hart file : ℕ) → harts ≤ HARTS → hart ≡ (addr - SUPERVISOR_FILES) / HART_STRIDE → file ≡ (addr - SUPERVISOR_FILES) % HART_STRIDE / PAGE → SUPERVISOR_FILES ≤ addr → hart < harts → file ≡ 0 → spot_at harts guests addr ≡ SupervisorFile hart
 at_host harts guests addr hart file few e f low there none = spot_of_host harts guests addr hart few there (in_page (supervisor_page hart) addr (omega arith) (omega arith))
 
 pub at_guest : (harts guests addr hart file : ℕ) → harts ≤ HARTS → guests ≤ GUEST_FILES → hart ≡ (addr - SUPERVISOR_FILES) / HART_STRIDE → file ≡ (addr - SUPERVISOR_FILES) % HART_STRIDE / PAGE → SUPERVISOR_FILES ≤ addr → hart < harts → file ≢ 0 → file ≤ guests → spot_at harts guests addr ≡ GuestFile hart file

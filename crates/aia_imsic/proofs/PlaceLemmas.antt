@@ -5,50 +5,50 @@ use Rattle.std.proofs.lemmas.List.{get_or-set_other}
 use Rattle.std.proofs.lemmas.Grind.{get_or-set_at}
 use Rattle.aia_file.specs.FileState.{FileState}
 use Rattle.aia_imsic.specs.declared.spot.Spot.{Spot}
-use Rattle.aia_imsic.specs.declared.spot.Spot.TheVariants.{MachineFile, HostFile, GuestFile, Nowhere}
+use Rattle.aia_imsic.specs.declared.spot.Spot.TheVariants.{MachineFile, SupervisorFile, GuestFile, Nowhere}
 use Rattle.aia_imsic.specs.Imsic.{ImsicState, IsThere, place_of, no_file, file_at, with_file}
 
 -- ---- the row and the column of a file
 
 abbrev row_of : Spot → ℕ
 row_of (MachineFile hart) = hart
-row_of (HostFile hart) = hart
+row_of (SupervisorFile hart) = hart
 row_of (GuestFile hart file) = hart
 row_of Nowhere = 0
 
 abbrev column_of : Spot → ℕ
 column_of (MachineFile hart) = 0
-column_of (HostFile hart) = 1
+column_of (SupervisorFile hart) = 1
 column_of (GuestFile hart file) = 1 + file
 column_of Nowhere = 0
 
 placed : (h : ImsicState) (spot : Spot) → place_of h spot ≡ row_of spot * (h.guests + 2) + column_of spot
 placed h (MachineFile hart) = omega arith
-placed h (HostFile hart) = refl
+placed h (SupervisorFile hart) = refl
 placed h (GuestFile hart file) = omega arith
 placed h Nowhere = omega arith
 
 row_there : (h : ImsicState) (spot : Spot) → IsThere h spot → row_of spot < h.harts
 row_there h (MachineFile hart) there = there
-row_there h (HostFile hart) there = there
+row_there h (SupervisorFile hart) there = there
 row_there h (GuestFile hart file) there = there.0
 row_there h Nowhere there = absurd there
 
 column_there : (h : ImsicState) (spot : Spot) → IsThere h spot → column_of spot < h.guests + 2
 column_there h (MachineFile hart) there = omega arith
-column_there h (HostFile hart) there = omega arith
+column_there h (SupervisorFile hart) there = omega arith
 column_there h (GuestFile hart file) there = omega (arith, there.2)
 column_there h Nowhere there = absurd there
 
 same_spot : (h : ImsicState) (a b : Spot) → IsThere h a → IsThere h b → row_of a ≡ row_of b → column_of a ≡ column_of b → a ≡ b
 same_spot h (MachineFile a) (MachineFile b) p q r c = ap MachineFile r
-same_spot h (MachineFile a) (HostFile b) p q r c = absurd (omega arith)
+same_spot h (MachineFile a) (SupervisorFile b) p q r c = absurd (omega arith)
 same_spot h (MachineFile a) (GuestFile b j) p q r c = absurd (omega arith)
-same_spot h (HostFile a) (MachineFile b) p q r c = absurd (omega arith)
-same_spot h (HostFile a) (HostFile b) p q r c = ap HostFile r
-same_spot h (HostFile a) (GuestFile b j) p q r c = absurd (omega (arith, q.1))
+same_spot h (SupervisorFile a) (MachineFile b) p q r c = absurd (omega arith)
+same_spot h (SupervisorFile a) (SupervisorFile b) p q r c = ap SupervisorFile r
+same_spot h (SupervisorFile a) (GuestFile b j) p q r c = absurd (omega (arith, q.1))
 same_spot h (GuestFile a i) (MachineFile b) p q r c = absurd (omega arith)
-same_spot h (GuestFile a i) (HostFile b) p q r c = absurd (omega (arith, p.1))
+same_spot h (GuestFile a i) (SupervisorFile b) p q r c = absurd (omega (arith, p.1))
 same_spot h (GuestFile a i) (GuestFile b j) p q r c = let e : i ≡ j = omega arith in cc
 same_spot h Nowhere b p q r c = absurd p
 same_spot h a Nowhere p q r c = absurd q

@@ -3,7 +3,7 @@ use Rattle.std.specs.Prelude.{ℕ, ◌+◌, ◌*◌, ◌<◌, ◌≤◌, List, [
 use Rattle.aia_file.specs.InterruptFile.{SameFile, empty_file}
 use Rattle.aia_file.specs.FileState.{FileState, shown}
 use Rattle.aia_imsic.specs.declared.spot.Spot.{Spot}
-use Rattle.aia_imsic.specs.declared.spot.Spot.TheVariants.{MachineFile, HostFile, GuestFile, Nowhere}
+use Rattle.aia_imsic.specs.declared.spot.Spot.TheVariants.{MachineFile, SupervisorFile, GuestFile, Nowhere}
 
 -- The harts, the guest files of each, and all files, hart by hart.
 pub record ImsicState : Type 0 where
@@ -15,7 +15,7 @@ pub record ImsicState : Type 0 where
 -- a hart.
 abbrev pub IsThere : ImsicState → Spot → Type 0
 IsThere h (MachineFile hart) = hart < h.harts
-IsThere h (HostFile hart) = hart < h.harts
+IsThere h (SupervisorFile hart) = hart < h.harts
 IsThere h (GuestFile hart file) = (hart < h.harts) × (1 ≤ file) × (file ≤ h.guests)
 IsThere h Nowhere = ⊥
 
@@ -23,7 +23,7 @@ IsThere h Nowhere = ⊥
 -- follow one another.
 abbrev pub place_of : ImsicState → Spot → ℕ
 place_of h (MachineFile hart) = hart * (h.guests + 2)
-place_of h (HostFile hart) = hart * (h.guests + 2) + 1
+place_of h (SupervisorFile hart) = hart * (h.guests + 2) + 1
 place_of h (GuestFile hart file) = hart * (h.guests + 2) + 1 + file
 place_of h Nowhere = 0
 

@@ -4,7 +4,7 @@ use Rattle.std.specs.Option.{option_map_or}
 use Rattle.aia_word.specs.Sets.{least_of}
 use Rattle.aia_regs.specs.AddressMap.{machine_page, supervisor_page, guest_page, is_in_page}
 use Rattle.aia_imsic.specs.declared.spot.Spot.{Spot}
-use Rattle.aia_imsic.specs.declared.spot.Spot.TheVariants.{MachineFile, HostFile, GuestFile, Nowhere}
+use Rattle.aia_imsic.specs.declared.spot.Spot.TheVariants.{MachineFile, SupervisorFile, GuestFile, Nowhere}
 
 -- The hart in the page of whose machine-level file an address lies, of so many harts.
 abbrev pub machine_file_at : ℕ → ℕ → Option ℕ
@@ -40,7 +40,7 @@ guest_spot_at harts guests addr =
 abbrev pub spot_at : ℕ → ℕ → ℕ → Spot
 spot_at harts guests addr =
     option_map_or MachineFile (machine_file_at harts addr)
-    (option_map_or HostFile (supervisor_file_at harts addr)
+    (option_map_or SupervisorFile (supervisor_file_at harts addr)
     (guest_spot_at harts guests addr))
 
 -- Whether an address lies in a file's page, and whether in a guest file's.

@@ -104,7 +104,7 @@ impl Imsic {
         }
         let file = (addr - SUPERVISOR_FILES) % HART_STRIDE / PAGE;
         if file == 0 {
-            return Spot::HostFile(hart as u32);
+            return Spot::SupervisorFile(hart as u32);
         }
         if file > u64::from(self.guests) {
             return Spot::Nowhere;
@@ -173,7 +173,7 @@ impl Imsic {
         let size = self.guests + 2;
         let place = match spot {
             Spot::MachineFile(hart) => hart * size,
-            Spot::HostFile(hart) => hart * size + 1,
+            Spot::SupervisorFile(hart) => hart * size + 1,
             Spot::GuestFile(hart, file) => hart * size + 1 + file,
             Spot::Nowhere => 0,
         };

@@ -16,7 +16,7 @@ pub fn an_address_names_one_file()
         → (spot_at harts guests addr ≡ Spot.MachineFile hart)
         ↔ ((hart < harts) × (is_in_page (machine_page hart) addr ≡ true)) }
     ensures host { (harts guests addr hart : ℕ) → harts ≤ HARTS
-        → (spot_at harts guests addr ≡ Spot.HostFile hart)
+        → (spot_at harts guests addr ≡ Spot.SupervisorFile hart)
         ↔ ((hart < harts) × (is_in_page (supervisor_page hart) addr ≡ true)) }
     ensures guest { (harts guests addr hart file : ℕ) → harts ≤ HARTS → guests ≤ GUEST_FILES
         → (spot_at harts guests addr ≡ Spot.GuestFile hart file)

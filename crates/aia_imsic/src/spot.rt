@@ -4,7 +4,7 @@ pub enum Spot {
     /// The machine-level file of a hart.
     MachineFile(u32),
     /// The supervisor file of a hart.
-    HostFile(u32),
+    SupervisorFile(u32),
     /// A guest file of a hart.
     GuestFile(u32, u32),
     /// No file.

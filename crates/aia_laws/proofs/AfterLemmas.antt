@@ -2,7 +2,7 @@
 -- delivered, and any other accepted line does what its one event does.
 use Rattle.aia_model.specs.Move.Move.{Arrives, Leaves, Shifts}
 use Rattle.aia_home.specs.Routes.{is_at_fence}
-use Rattle.aia_regs.specs.Word.Word.{Ask, Nothing}
+use Rattle.aia_regs.specs.BitUpdate.BitUpdate.{Ask, Nothing}
 use Rattle.aia_regs.specs.Request.{requested}
 use Rattle.aia_model.specs.Passes.{passes_of, nth_pass, passed_by, passes_for}
 use Rattle.aia_model.specs.Aim.{pass_reach}
@@ -13,12 +13,13 @@ use Rattle.std.specs.Option.{option_map_or}
 use Rattle.std.specs.List.{AllByRecursion, list_any}
 use Rattle.std.proofs.Common.{◌≡◌, ◌≢◌, ℕ, zero, suc, true, false, not, ◌⊎◌, nat_eq, List, [], ◌∷◌, Option, Some, None, inl, inr, refl, sym, ap, subst, ◌∙◌, Bool, ◌&&◌, ◌||◌, ◌+◌, length, cond, is_none}
 use Rattle.std.proofs.lemmas.Bool.{cond-false, not-true, eqb-false, ne_eqb, and_left, and_right, false≢true, eq-eqb, cases_Bool}
-use Rattle.aia_regs.specs.Word.{settle, names}
+use Rattle.aia_regs.specs.BitUpdate.{settle, names}
 use Rattle.aia_file.specs.InterruptFile.{InterruptFile}
 use Rattle.aia_home.specs.Vms.{Vcpu, vcpu, is_vcpu}
 use Rattle.aia_model.specs.declared.line.Line.{Line}
-use Rattle.aia_model.specs.declared.line.Line.TheVariants.{Machine, Wire, Load, Store, GuestCsr, Ipi, Arrive, Leave, Shift, BeginArrive, BeginLeave, BeginShift, Step, Land, LoadPart}
+use Rattle.aia_model.specs.declared.line.Line.TheVariants.{Machine, Wire, Load, Store, GuestCsr, Ipi, Step, Land, LoadPart}
 use Rattle.aia_model.specs.declared.line.Line.TheVariants as lines
+use Rattle.aia_model.specs.declared.want.Want.TheVariants as wants
 use Rattle.aia_model.specs.declared.answer.Answer.{Answer}
 use Rattle.aia_model.specs.declared.msi.Msi.{Msi}
 use Rattle.aia_model.specs.Move.{Move, mover, MoveDeed, move_deed}
@@ -36,7 +37,7 @@ use Rattle.aia_model.proofs.AnswerLemmas.{after_by}
 use Rattle.aia_model.proofs.FileLemmas.{file_by_step, newest_word}
 use Rattle.aia_laws.specs.Requests.{speaks_to, names_other_vm, flies_to, event_of, does_steps, is_passed_to, forwards_to}
 use Rattle.aia_laws.specs.Told.{guest_said}
-use Rattle.aia_laws.proofs.FileLemmas.{machine_with, guest_made, not_making}
+use Rattle.aia_model.proofs.GreatestLemmas.{machine_with, guest_made, not_making}
 use Rattle.aia_model.proofs.RefusalLemmas.{machine_allowed}
 use Rattle.aia_model.proofs.SentLemmas.{may_send, none_sent_by}
 
@@ -241,9 +242,9 @@ move_same h line (Steps x) g moves all = one_step_same x h g all
 move_same h line (Lands vm k) g moves all = one_same vm k h g all
 
 silent_deed : (h : History) (line : Line) (g : Vcpu) → speaks_to h line g ≡ false → still_deed h (move_deed line) g
-silent_deed h (Arrive vm number hart) g e = still h vm g e
-silent_deed h (Leave vm number) g e = still h vm g e
-silent_deed h (Shift vm number hart) g e = still h vm g e
+silent_deed h (lines.Move vm number (wants.Arrive hart)) g e = still h vm g e
+silent_deed h (lines.Move vm number wants.Leave) g e = still h vm g e
+silent_deed h (lines.Move vm number (wants.Shift hart)) g e = still h vm g e
 silent_deed h (Step vm number) g e = λ fence. still h vm g (sym (ap (λ b. b && flies_to h vm g) fence) ∙ e)
 silent_deed h (Land vm k) g e = e
 silent_deed h line g e = tt
@@ -297,13 +298,13 @@ moved_same h line g moves quiet = let still = none_forwarded h line g (moves_sen
 
 -- an accepted line that does no steps of a move is one event
 one_event : (h : History) (line : Line) → does_steps (move_deed line) ≡ false → (line_taken h line ≡ event_of line ∷ h) ⊎ ((move : Move) × (line_taken h line ≡ Began move ∷ h) × ((g : Vcpu) → guest_deed g h (event_of line) ≡ Rests))
-one_event h (Arrive vm number hart) e = absurd (cc)
-one_event h (Leave vm number) e = absurd (cc)
-one_event h (Shift vm number hart) e = absurd (cc)
+one_event h (lines.Move vm number (wants.Arrive hart)) e = absurd (cc)
+one_event h (lines.Move vm number wants.Leave) e = absurd (cc)
+one_event h (lines.Move vm number (wants.Shift hart)) e = absurd (cc)
 one_event h (Step vm number) e = absurd (cc)
-one_event h (BeginArrive vm number hart) e = inr (Arrives (vcpu vm number) hart, refl, λ g. refl)
-one_event h (BeginLeave vm number) e = inr (Leaves (vcpu vm number), refl, λ g. refl)
-one_event h (BeginShift vm number hart) e = inr (Shifts (vcpu vm number) hart, refl, λ g. refl)
+one_event h (lines.Begin vm number (wants.Arrive hart)) e = inr (Arrives (vcpu vm number) hart, refl, λ g. refl)
+one_event h (lines.Begin vm number wants.Leave) e = inr (Leaves (vcpu vm number), refl, λ g. refl)
+one_event h (lines.Begin vm number (wants.Shift hart)) e = inr (Shifts (vcpu vm number) hart, refl, λ g. refl)
 one_event h line e = inl refl
 
 select_by_step : (g : Vcpu) (event : Event) (h : History) → guest_select (event ∷ h) g ≡ select_after (guest_deed g h event) (guest_select h g)
@@ -371,9 +372,9 @@ other_is_quiet h (Land vm k) g e = by_store (flying h vm k)
     by_store : (o : Option Sending) → option_map_or (λ s. is_vcpu g (sent_to vm s)) o false ≡ false
     by_store None = refl
     by_store (Some s) = other_vm vm (sent_to vm s).number g e
-other_is_quiet h (Arrive vm number hart) g e = none_flies_to h vm g e
-other_is_quiet h (Leave vm number) g e = none_flies_to h vm g e
-other_is_quiet h (Shift vm number hart) g e = none_flies_to h vm g e
+other_is_quiet h (lines.Move vm number (wants.Arrive hart)) g e = none_flies_to h vm g e
+other_is_quiet h (lines.Move vm number wants.Leave) g e = none_flies_to h vm g e
+other_is_quiet h (lines.Move vm number (wants.Shift hart)) g e = none_flies_to h vm g e
 other_is_quiet h (Step vm number) g e = and_right (is_at_fence (home h (vcpu vm number))) (flies_to h vm g) (none_flies_to h vm g e)
 other_is_quiet h (LoadPart vm number part) g e = other_vm vm number g e
 other_is_quiet h line g e = refl

@@ -5,10 +5,10 @@ use Rattle.std.proofs.lemmas.Bool.{eq-eqb, ne_eqb, and_left}
 use Rattle.aia_home.specs.Home.{Home, is_moving, is_resident, is_entered, rests_in_memory, leaving, arriving, shifting}
 use Rattle.aia_home.specs.Home.Home.{Parked, Entered, Resident, Leaving, Arriving, Shifting}
 use Rattle.aia_home.specs.Plans.{leave_step, arrive_step, shift_step, leave_steps, arrive_steps, shift_steps}
-use Rattle.aia_home.specs.Plans.Access.{Fence, FenceStage}
+use Rattle.aia_home.specs.Plans.Access.{Fence, GFence}
 use Rattle.aia_home.specs.Aims.{is_aiming, further}
 use Rattle.aia_home.specs.Routes.{is_at_fence}
-use Rattle.aia_model.specs.HomeOf.{place}
+use Rattle.aia_model.specs.HomeOf.{guest_place}
 
 -- The fence comes after so many steps more.
 abbrev pub FenceIn : ℕ → Home → Type 0
@@ -35,9 +35,9 @@ fence_later count (Resident p) e = absurd e
 
 -- no step before it aims a passed source
 aims_later : (passes count : ℕ) (there : Home) → FenceIn (suc count) there → is_aiming passes there ≡ false
-aims_later passes count (Leaving from at) e = and_left _ (nat_lt at.aims passes) (ne_eqb at.steps (leave_step 0 FenceStage + 1) (λ same. absurd (omega (arith, e, same))))
-aims_later passes count (Arriving to at) e = and_left _ (nat_lt at.aims passes) (ne_eqb at.steps (arrive_step 0 FenceStage + 1) (λ same. absurd (omega (arith, e, same))))
-aims_later passes count (Shifting from to at) e = and_left _ (nat_lt at.aims passes) (ne_eqb at.steps (shift_step 0 FenceStage + 1) (λ same. absurd (omega (arith, e, same))))
+aims_later passes count (Leaving from at) e = and_left _ (nat_lt at.aims passes) (ne_eqb at.steps (leave_step 0 GFence + 1) (λ same. absurd (omega (arith, e, same))))
+aims_later passes count (Arriving to at) e = and_left _ (nat_lt at.aims passes) (ne_eqb at.steps (arrive_step 0 GFence + 1) (λ same. absurd (omega (arith, e, same))))
+aims_later passes count (Shifting from to at) e = and_left _ (nat_lt at.aims passes) (ne_eqb at.steps (shift_step 0 GFence + 1) (λ same. absurd (omega (arith, e, same))))
 aims_later passes count Parked e = absurd e
 aims_later passes count Entered e = absurd e
 aims_later passes count (Resident p) e = absurd e
@@ -61,7 +61,7 @@ leave_to_fence (Arriving to at) idle kept = absurd (cc)
 leave_to_fence (Shifting from to at) idle kept = absurd (cc)
 
 pub arrive_to_fence : (hart : ℕ) (file : Option ℕ) (there : Home) → is_moving there ≡ false → is_resident there ≡ false → is_entered there ≡ false → is_none file ≡ false
-    → FenceIn (arrive_step 0 Fence) (option_map_or (λ f. arriving (place hart f) there) file there)
+    → FenceIn (arrive_step 0 Fence) (option_map_or (λ f. arriving (guest_place hart f) there) file there)
 arrive_to_fence hart None there idle away waits free = absurd (cc)
 arrive_to_fence hart (Some f) Parked idle away waits free = refl
 arrive_to_fence hart (Some f) Entered idle away waits free = absurd (cc)
@@ -71,7 +71,7 @@ arrive_to_fence hart (Some f) (Arriving to at) idle away waits free = absurd (cc
 arrive_to_fence hart (Some f) (Shifting from to at) idle away waits free = absurd (cc)
 
 pub shift_to_fence : (hart : ℕ) (file : Option ℕ) (there : Home) → is_moving there ≡ false → rests_in_memory there ≡ false → is_none file ≡ false
-    → FenceIn (shift_step 0 Fence) (option_map_or (λ f. shifting (place hart f) there) file there)
+    → FenceIn (shift_step 0 Fence) (option_map_or (λ f. shifting (guest_place hart f) there) file there)
 shift_to_fence hart None there idle kept free = absurd (cc)
 shift_to_fence hart (Some f) (Resident p) idle kept free = refl
 shift_to_fence hart (Some f) Parked idle kept free = absurd (cc)

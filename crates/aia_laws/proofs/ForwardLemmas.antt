@@ -7,8 +7,8 @@ use Rattle.std.proofs.lemmas.Bool.{cases_Bool, cases_lt, cond-true, cond-false, 
 use Rattle.aia_regs.specs.AddressMap.{machine_page, supervisor_page, guest_page, is_in_page}
 use Rattle.aia_regs.specs.declared.limits.TheConstants.{HARTS, GUEST_FILES}
 use Rattle.aia_regs.specs.declared.address_map.TheConstants.{SUPERVISOR_FILES, PAGE}
-use Rattle.aia_regs.specs.Word.{settle, names}
-use Rattle.aia_regs.specs.Word.Word.{Ask, Nothing}
+use Rattle.aia_regs.specs.BitUpdate.{settle, names}
+use Rattle.aia_regs.specs.BitUpdate.BitUpdate.{Ask, Nothing}
 use Rattle.aia_regs.specs.Request.{requested}
 use Rattle.aia_file.specs.InterruptFile.{InterruptFile}
 use Rattle.aia_imsic.specs.Map.{is_guest_page}
@@ -43,7 +43,7 @@ use Rattle.aia_model.proofs.PassesStandLemmas.{passes_stand}
 use Rattle.aia_model.proofs.SentLemmas.{number_found, forwards_then, forwards_given, line_forwards}
 use Rattle.aia_model.proofs.HistoryLemmas.{msi_by_pass, given_happens, line_happens, stands_then}
 use Rattle.aia_laws.specs.Forwards.{pass_file, has_file, forward_deed, forward_said}
-use Rattle.aia_laws.proofs.FileLemmas.{guest_n}
+use Rattle.aia_model.proofs.GreatestLemmas.{guest_greatest}
 use Rattle.aia_laws.proofs.AfterLemmas.{msis_keep}
 
 -- ---- where it goes
@@ -225,7 +225,7 @@ forward_file h p msi g good passed forward = forwarded_file h p msi g (goes_as_a
 pub forward_asks : (h : History) (p : ℕ) (msi : Msi) → IsHistory h → passed_by h msi.source ≡ Some p → IsForward h p msi → (guest_file (msi_taken msi h) (nth_pass h p).to).pending (nth_pass h p).identity ≡ true
 forward_asks h p msi good passed forward =
     let range = ((passes_stand h good).pass p (number_found h msi.source p passed)).identity in
-    forwarded_asks h p msi (goes_as_aimed h p msi good passed forward) (ap (λ n. is_in_range 1 n (nth_pass h p).identity) (guest_n h (nth_pass h p).to) ∙ range)
+    forwarded_asks h p msi (goes_as_aimed h p msi good passed forward) (ap (λ n. is_in_range 1 n (nth_pass h p).identity) (guest_greatest h (nth_pass h p).to) ∙ range)
 
 pub forward_hosts : (h : History) (p : ℕ) (msi : Msi) (f : FileName) (i : ℕ) → IsHistory h → passed_by h msi.source ≡ Some p → IsForward h p msi → has_file h f ≡ true
     → (file_of (msi_taken msi h) f).pending i ≡ settle (forward_said h p msi f i) ((file_of h f).pending i)

@@ -8,9 +8,8 @@ use Rattle.std.proofs.Math.Nat.{mod-eq_of_lt}
 use Rattle.aia_word.specs.Sets.{has_bit, word_of}
 use Rattle.aia_word.proofs.SetLemmas.{has_bit-word_of}
 use Rattle.aia_regs.specs.Fields.{bit_number}
-use Rattle.aia_regs.specs.Operations.{is_one}
-use Rattle.aia_regs.specs.Word.{settle}
-use Rattle.aia_regs.specs.Word.Word.{Ask, Clear, Nothing}
+use Rattle.aia_regs.specs.BitUpdate.{settle}
+use Rattle.aia_regs.specs.BitUpdate.BitUpdate.{Ask, Clear, Nothing}
 use Rattle.aia_regs.specs.FileRegisters.{shows}
 use Rattle.aia_file.specs.InterruptFile.{SameFile, is_greatest_identity}
 use Rattle.aia_file.proofs.FileLemmas.{same_file}
@@ -121,8 +120,8 @@ same_majors p q of_p of_q e j = together (p j) (q j) (λ t. one_way p q of_p e j
 
     one_way : (p q : ℕ → Bool) → ((j : ℕ) → p j ≡ true → is_major j ≡ true) → majors_word p ≡ majors_word q → (j : ℕ) → p j ≡ true → q j ≡ true
     one_way p q of_p e j t =
-        let shown : is_one (majors_word p) j ≡ true = majors_word-bit p j ∙ ap (λ b. b && p j) (of_p j t) ∙ t in
-        both (is_major j) (q j) (sym (majors_word-bit q j) ∙ sym (ap (λ w. is_one w j) e) ∙ shown)
+        let shown : has_bit (majors_word p) j ≡ true = majors_word-bit p j ∙ ap (λ b. b && p j) (of_p j t) ∙ t in
+        both (is_major j) (q j) (sym (majors_word-bit q j) ∙ sym (ap (λ w. has_bit w j) e) ∙ shown)
 
 pub images_same : (x y : GuestState) → IsState x → IsState y → SameImage x y → x ≡ y
 images_same x y is_x is_y same =
@@ -247,15 +246,15 @@ unshown n w i past same = grind (arith, nat_tests)
 its_word : (n w i : ℕ) → shows n (2 * w) i ≡ true → i / 64 ≡ w
 its_word n w i here = grind (arith, nat_tests)
 
-bit_of_member : (set : ℕ → Bool) (n w i : ℕ) → shows n (2 * w) i ≡ true → is_one (word_of set (64 * w) 64) (i - 32 * (2 * w)) ≡ set i
+bit_of_member : (set : ℕ → Bool) (n w i : ℕ) → shows n (2 * w) i ≡ true → has_bit (word_of set (64 * w) 64) (i - 32 * (2 * w)) ≡ set i
 bit_of_member set n w i here =
     let its : i / 64 ≡ w = its_word n w i here in
     let b : i - 32 * (2 * w) ≡ i % 64 = omega (arith, its) in
-    ap (is_one (word_of set (64 * w) 64)) b ∙ ap (λ v. has_bit (word_of set (64 * v) 64) (i % 64)) (sym its) ∙ member set i
+    ap (has_bit (word_of set (64 * w) 64)) b ∙ ap (λ v. has_bit (word_of set (64 * v) 64) (i % 64)) (sym its) ∙ member set i
 
 -- what a word that is loaded makes of one member
 pending_word : (set : ℕ → Bool) (n w i : ℕ) (d : Bool) → (set i ≡ true → is_in_range 1 n i ≡ true)
-    → settle (if shows n (2 * w) i then (if is_one (word_of set (64 * w) 64) (i - 32 * (2 * w)) then Ask else Nothing) else Nothing) (d && set i) ≡ ((nat_eq w (i / 64) || d) && set i)
+    → settle (if shows n (2 * w) i then (if has_bit (word_of set (64 * w) 64) (i - 32 * (2 * w)) then Ask else Nothing) else Nothing) (d && set i) ≡ ((nat_eq w (i / 64) || d) && set i)
 pending_word set n w i d inside = elim (cases_Bool (shows n (2 * w) i)) [
   | inl here ↦ rw (here, bit_of_member set n w i here, eq-eqb w (i / 64) (sym (its_word n w i here))) (ask_again (set i) d)
   | inr past ↦ elim (cases_Bool (nat_eq w (i / 64))) [
@@ -265,7 +264,7 @@ pending_word set n w i d inside = elim (cases_Bool (shows n (2 * w) i)) [
 ]
 
 enabled_word : (set : ℕ → Bool) (n w i : ℕ) (d : Bool) → (set i ≡ true → is_in_range 1 n i ≡ true)
-    → settle (if shows n (2 * w) i then (if is_one (word_of set (64 * w) 64) (i - 32 * (2 * w)) then Ask else Clear) else Nothing) (d && set i) ≡ ((nat_eq w (i / 64) || d) && set i)
+    → settle (if shows n (2 * w) i then (if has_bit (word_of set (64 * w) 64) (i - 32 * (2 * w)) then Ask else Clear) else Nothing) (d && set i) ≡ ((nat_eq w (i / 64) || d) && set i)
 enabled_word set n w i d inside = elim (cases_Bool (shows n (2 * w) i)) [
   | inl here ↦ rw (here, bit_of_member set n w i here, eq-eqb w (i / 64) (sym (its_word n w i here))) (write_anew (set i) (d && set i))
   | inr past ↦ elim (cases_Bool (nat_eq w (i / 64))) [
@@ -275,16 +274,16 @@ enabled_word set n w i d inside = elim (cases_Bool (shows n (2 * w) i)) [
 ]
 
 -- and the words of the majors
-hvip_word : (set : ℕ → Bool) (j : ℕ) (d : Bool) → (set j ≡ true → is_major j ≡ true) → cond (is_major j) (is_one (majors_word set) j) (d && set j) ≡ set j
+hvip_word : (set : ℕ → Bool) (j : ℕ) (d : Bool) → (set j ≡ true → is_major j ≡ true) → cond (is_major j) (has_bit (majors_word set) j) (d && set j) ≡ set j
 hvip_word set j d its = elim (cases_Bool (is_major j)) [
   | inl here ↦ rw here (majors_word-bit set j ∙ ap (λ b. b && set j) here)
   | inr past ↦ let none : set j ≡ false = not_there (set j) (is_major j) its past in rw (past, none) (and_no d)
 ]
 
 major_word : (set : ℕ → Bool) (j : ℕ) (d : Bool) → (set j ≡ true → is_major j ≡ true)
-    → settle (if is_major j then (if is_one (majors_word set) j then Ask else Clear) else Nothing) (d && set j) ≡ set j
+    → settle (if is_major j then (if has_bit (majors_word set) j then Ask else Clear) else Nothing) (d && set j) ≡ set j
 major_word set j d its = elim (cases_Bool (is_major j)) [
-  | inl here ↦ let bit : is_one (majors_word set) j ≡ set j = majors_word-bit set j ∙ ap (λ b. b && set j) here in rw (here, bit) (write_anew (set j) (d && set j))
+  | inl here ↦ let bit : has_bit (majors_word set) j ≡ set j = majors_word-bit set j ∙ ap (λ b. b && set j) here in rw (here, bit) (write_anew (set j) (d && set j))
   | inr past ↦ let none : set j ≡ false = not_there (set j) (is_major j) its past in rw (past, none) (and_no d)
 ]
 

@@ -1,7 +1,7 @@
 -- An identity is what the newest word on it says.
 use Rattle.std.proofs.Common.{◌≡◌, ℕ, Bool, false, [], ◌∷◌, None, refl, sym, ap, ◌∙◌}
-use Rattle.aia_regs.specs.Word.{Word, settle}
-use Rattle.aia_regs.specs.Word.Word.{Ask, Clear, Nothing}
+use Rattle.aia_regs.specs.BitUpdate.{BitUpdate, settle}
+use Rattle.aia_regs.specs.BitUpdate.BitUpdate.{Ask, Clear, Nothing}
 use Rattle.aia_file.specs.InterruptFile.{InterruptFile}
 use Rattle.aia_home.specs.Vms.{Vcpu}
 use Rattle.aia_model.specs.declared.line.Line.TheVariants.{Machine}
@@ -15,15 +15,15 @@ use Rattle.aia_model.proofs.FileLemmas.{file_by_step, newest_word}
 use Rattle.aia_model.specs.Histories.{IsHistory}
 use Rattle.aia_laws.specs.Told.{is_ask, guest_said, host_said}
 use Rattle.aia_laws.specs.Newest.{or_before, newest, guest_enable_said, host_enable_said}
-use Rattle.aia_laws.proofs.FileLemmas.{made_with, machine_with, not_making, guest_made, host_made}
+use Rattle.aia_model.proofs.GreatestLemmas.{made_with, machine_with, not_making, guest_made, host_made}
 use Rattle.aia_model.proofs.RefusalLemmas.{machine_allowed}
 use Rattle.aia_model.proofs.PlaceLemmas.{machine_first}
 
 -- What each event says of an identity's being pending, and enabled, at a file by its deeds.
-abbrev pending_by : (History → Event → FileDeed) → ℕ → History → Event → Word
+abbrev pending_by : (History → Event → FileDeed) → ℕ → History → Event → BitUpdate
 pending_by deed i past event = pending_said (select_by deed past) (file_by deed past) (deed past event) i
 
-abbrev enabled_by : (History → Event → FileDeed) → ℕ → History → Event → Word
+abbrev enabled_by : (History → Event → FileDeed) → ℕ → History → Event → BitUpdate
 enabled_by deed i past event = enabled_said (select_by deed past) (file_by deed past) (deed past event) i
 
 -- Whether an identity is what the newest words on it say.
@@ -31,16 +31,16 @@ abbrev IsByNewest : (History → Event → FileDeed) → History → ℕ → Typ
 IsByNewest deed h i =
     ((file_by deed h).pending i ≡ is_ask (newest (pending_by deed i) h)) × ((file_by deed h).enabled i ≡ is_ask (newest (enabled_by deed i) h))
 
-settled : (word before : Word) (was : Bool) → was ≡ is_ask before → settle word was ≡ is_ask (or_before word before)
+settled : (word before : BitUpdate) (was : Bool) → was ≡ is_ask before → settle word was ≡ is_ask (or_before word before)
 settled Ask before was e = refl
 settled Clear before was e = refl
 settled Nothing before was e = e
 
-newest_step : (says : History → Event → Word) (event : Event) (past : History) → newest says (event ∷ past) ≡ or_before (says past event) (newest says past)
+newest_step : (says : History → Event → BitUpdate) (event : Event) (past : History) → newest says (event ∷ past) ≡ or_before (says past event) (newest says past)
 unfolding newest
 newest_step says event past = refl
 
-newest_none : (says : History → Event → Word) → newest says [] ≡ Nothing
+newest_none : (says : History → Event → BitUpdate) → newest says [] ≡ Nothing
 unfolding newest
 newest_none says = refl
 
@@ -54,7 +54,7 @@ by_word deed event past i none before =
     )
 
 -- the machine is made first: nothing was said before
-nothing_first : (says : History → Event → Word) (event : Event) (past : History) → past ≡ [] → says past event ≡ Nothing → is_ask (newest says (event ∷ past)) ≡ false
+nothing_first : (says : History → Event → BitUpdate) (event : Event) (past : History) → past ≡ [] → says past event ≡ Nothing → is_ask (newest says (event ∷ past)) ≡ false
 nothing_first says event past first none =
     ap is_ask (newest_step says event past ∙ ap (λ word. or_before word (newest says past)) none ∙ ap (newest says) first ∙ newest_none says)
 

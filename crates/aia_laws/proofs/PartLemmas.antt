@@ -4,10 +4,9 @@ use Rattle.std.specs.Int.{is_in_range}
 use Rattle.std.specs.List.{AllByRecursion}
 use Rattle.std.proofs.lemmas.Bool.{and_from, eq-eqb, lt-ltb, le-leb, ltb-true, false≢true}
 use Rattle.std.proofs.lemmas.Bool.Decides.{nat_tests}
-use Rattle.aia_word.specs.Sets.{word_of}
+use Rattle.aia_word.specs.Sets.{has_bit, word_of}
 use Rattle.aia_word.proofs.SetLemmas.{has_bit-word_of, word_of-lt}
 use Rattle.aia_regs.specs.Fields.{bit_number}
-use Rattle.aia_regs.specs.Operations.{is_one}
 use Rattle.aia_file.specs.InterruptFile.{is_greatest_identity}
 use Rattle.aia_major.specs.VsMajor.{majors_word, fits_hvip, fits_hviprio1, fits_hvictl}
 use Rattle.aia_major.proofs.RegisterLemmas.{majors_word-bit}
@@ -18,7 +17,7 @@ use Rattle.aia_model.specs.declared.part.Part.TheVariants as parts
 use Rattle.aia_model.specs.declared.parsed.Parsed.TheVariants as parsed
 use Rattle.aia_model.specs.declared.answer.Answer.TheVariants as answers
 use Rattle.aia_model.specs.Event.{History, has_machine, greatest_identity_of, file_words}
-use Rattle.aia_model.specs.Grammar.{part_fields, IsListed}
+use Rattle.aia_model.specs.Forms.{part_fields, IsListed}
 use Rattle.aia_model.specs.AnswerText.{part_text}
 use Rattle.aia_model.specs.Printing.{line_text, FitsField}
 use Rattle.aia_model.specs.Reading.{reading}
@@ -34,7 +33,7 @@ use Rattle.aia_model.proofs.AnswerLemmas.{answered}
 use Rattle.aia_model.proofs.Printed.{printed_read}
 use Rattle.aia_model.proofs.RefusalLemmas.{save_allowed}
 use Rattle.aia_laws.specs.Images.{IsState, parts_of, load_text}
-use Rattle.aia_laws.proofs.FileLemmas.{guest_n}
+use Rattle.aia_model.proofs.GreatestLemmas.{guest_greatest}
 use Rattle.aia_laws.proofs.MachineLemmas.{machine_of_vcpu}
 use Rattle.aia_laws.proofs.ReachedLemmas.{is_state}
 
@@ -52,13 +51,13 @@ no_zero members n fits = by_test (members 0) refl
     by_test false e = e
     by_test true e = absurd (false≢true (fits 0 e))
 
-first_bit : (members : ℕ → Bool) (n : ℕ) → ((i : ℕ) → members i ≡ true → is_in_range 1 n i ≡ true) → not (is_one (word_of members 0 64) 0) ≡ true
+first_bit : (members : ℕ → Bool) (n : ℕ) → ((i : ℕ) → members i ≡ true → is_in_range 1 n i ≡ true) → not (has_bit (word_of members 0 64) 0) ≡ true
 first_bit members n fits = ap not (has_bit-word_of members 0 64 0 (omega arith) ∙ no_zero members n fits)
 
 no_identity_zero : (x : GuestState) (w : ℕ) → IsState x
-    → (nat_lt 0 w || (not (is_one (word_of x.file.pending (64 * w) 64) 0) && not (is_one (word_of x.file.enabled (64 * w) 64) 0))) ≡ true
+    → (nat_lt 0 w || (not (has_bit (word_of x.file.pending (64 * w) 64) 0) && not (has_bit (word_of x.file.enabled (64 * w) 64) 0))) ≡ true
 no_identity_zero x zero is = and_from _ _ (first_bit x.file.pending x.file.n is.pending) (first_bit x.file.enabled x.file.n is.enabled)
-no_identity_zero x (suc w) is = ap (λ b. b || (not (is_one (word_of x.file.pending (64 * suc w) 64) 0) && not (is_one (word_of x.file.enabled (64 * suc w) 64) 0))) (lt-ltb 0 (suc w) (omega arith))
+no_identity_zero x (suc w) is = ap (λ b. b || (not (has_bit (word_of x.file.pending (64 * suc w) 64) 0) && not (has_bit (word_of x.file.enabled (64 * suc w) 64) 0))) (lt-ltb 0 (suc w) (omega arith))
 
 pub part_loadable : (x : GuestState) (k : ℕ) → IsState x → k < parts_of x → is_loadable x.file.n (part_of x k) ≡ true
 part_loadable x zero is low =
@@ -120,7 +119,7 @@ load_accepted h vm number part stands there parked may = rw (stands, there, may,
 
 saved_low : (h : History) (vm number k : ℕ) → refusal h (Save vm number k) ≡ None → k < parts_of (state_of h (vcpu vm number))
 saved_low h vm number k e =
-    subst (λ n. k < parts_in ((n + 1) / 64)) (sym (guest_n h (vcpu vm number))) (ltb-true k (parts_in (file_words h)) (save_allowed h vm number k e).fits)
+    subst (λ n. k < parts_in ((n + 1) / 64)) (sym (guest_greatest h (vcpu vm number))) (ltb-true k (parts_in (file_words h)) (save_allowed h vm number k e).fits)
 
 saved_state : (h : History) (vm number k : ℕ) → IsHistory h → refusal h (Save vm number k) ≡ None → IsState (state_of h (vcpu vm number))
 saved_state h vm number k good e = is_state h (vcpu vm number) good (machine_of_vcpu h (vcpu vm number) good (save_allowed h vm number k e).there)
@@ -130,7 +129,7 @@ saved_answer h vm number k e = answered h (Save vm number k) None e
 
 pub saved_loadable : (h : History) (vm number k : ℕ) → IsHistory h → refusal h (Save vm number k) ≡ None → is_loadable (greatest_identity_of h) (part_of (state_of h (vcpu vm number)) k) ≡ true
 saved_loadable h vm number k good e =
-    subst (λ n. is_loadable n (part_of (state_of h (vcpu vm number)) k) ≡ true) (guest_n h (vcpu vm number))
+    subst (λ n. is_loadable n (part_of (state_of h (vcpu vm number)) k) ≡ true) (guest_greatest h (vcpu vm number))
     (part_loadable (state_of h (vcpu vm number)) k (saved_state h vm number k good e) (saved_low h vm number k e))
 
 pub saved_accepted : (h other : History) (vm number k : ℕ) (x : Vcpu) → IsHistory h → refusal h (Save vm number k) ≡ None → has_machine other ≡ true → has_vcpu other x ≡ true → home other x ≡ Parked

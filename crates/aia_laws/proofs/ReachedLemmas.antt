@@ -14,7 +14,8 @@ use Rattle.aia_model.specs.StateOf.{state_of}
 use Rattle.aia_model.specs.Histories.{IsHistory}
 use Rattle.aia_model.proofs.RefusalLemmas.{inject_allowed, hvictl_allowed, load_allowed}
 use Rattle.aia_laws.specs.Images.{IsState}
-use Rattle.aia_laws.proofs.FileLemmas.{guest_n, enabled_fits}
+use Rattle.aia_model.proofs.GreatestLemmas.{guest_greatest}
+use Rattle.aia_laws.proofs.FileLemmas.{enabled_fits}
 use Rattle.aia_laws.proofs.MachineLemmas.{greatest_of_machine}
 use Rattle.aia_laws.proofs.StateLemmas.{always_fit, select_low, AreFit, new_fit, injection_fit, sip_fit, sie_fit, hviprio1_fit, hvictl_fit, part_fit}
 
@@ -43,10 +44,10 @@ is_state h g good stands =
     let file = always_fit (guest_deed g) h in
     let majors = majors_fit h g good in
     record {
-      greatest = ap is_greatest_identity (guest_n h g) ∙ greatest_of_machine h good stands;
+      greatest = ap is_greatest_identity (guest_greatest h g) ∙ greatest_of_machine h good stands;
       select = select_low (guest_deed g) h;
       pending = file.pending;
-      enabled = λ i e. ap (λ n. is_in_range 1 n i) (guest_n h g) ∙ enabled_fits h g i e;
+      enabled = λ i e. ap (λ n. is_in_range 1 n i) (guest_greatest h g) ∙ enabled_fits h g i e;
       threshold = file.threshold;
       delivery = file.delivery;
       injected_majors = majors.injected;

@@ -5,7 +5,7 @@ use Rattle.aia_regs.specs.declared.access.Csr.{Csr}
 use Rattle.aia_regs.specs.declared.access.Csr.TheVariants.{Select, Reg, Topei}
 use Rattle.aia_regs.specs.declared.access.Op.{Op}
 use Rattle.aia_regs.specs.declared.access.Level.TheVariants as levels
-use Rattle.aia_csr.specs.Access.{access_of, IsFileCsr}
+use Rattle.aia_csr.specs.CsrAccess.{csr_access, IsFileCsr}
 use Rattle.aia_home.specs.Vms.{Vcpu}
 use Rattle.aia_model.specs.declared.answer.Answer.{Answer}
 use Rattle.aia_model.specs.declared.answer.Answer.TheVariants.{Wide, Refused}
@@ -31,8 +31,8 @@ own_line g csr op = GuestCsr g.vm g.number csr op
 -- what refuses it, whatever hvictl says
 abbrev file_refusal : History → Vcpu → Csr → Op → Option Answer
 file_refusal h g csr op =
-    cond (raises_illegal (access_of levels.Guest csr op (guest_select h g) true)) (Some (Refused Illegal))
-    (cond (raises_virtual (access_of levels.Guest csr op (guest_select h g) true)) (Some (Refused Virtual)) None)
+    cond (raises_illegal (csr_access levels.Guest csr op (guest_select h g) true)) (Some (Refused Illegal))
+    (cond (raises_virtual (csr_access levels.Guest csr op (guest_select h g) true)) (Some (Refused Virtual)) None)
 
 refused_there : (h : History) (g : Vcpu) (csr : Csr) (op : Op) → IsFileCsr csr → HasCsr h g csr → refusal h (own_line g csr op) ≡ file_refusal h g csr op
 refused_there h g Select op own at = guest_refusal h g.vm g.number Select op at.machine ∙ cond-false _ _ _ (ap not at.there) ∙ cond-false _ _ _ (ap not at.served)
@@ -57,7 +57,7 @@ SameThere h k g csr op = (answer h (own_line g csr op) ≡ answer k (own_line g 
 
 pub reads_the_same : (h k : History) (g : Vcpu) (csr : Csr) (op : Op) → IsFileCsr csr → HasCsr h g csr → HasCsr k g csr → HasSameFile h k g → SameThere h k g csr op
 reads_the_same h k g csr op own at there same = by_refusal (file_refusal h g csr op) (refused_there h g csr op own at)
-    (refused_there k g csr op own there ∙ ap (λ select. cond (raises_illegal (access_of levels.Guest csr op select true)) (Some (Refused Illegal)) (cond (raises_virtual (access_of levels.Guest csr op select true)) (Some (Refused Virtual)) None)) (sym same.select))
+    (refused_there k g csr op own there ∙ ap (λ select. cond (raises_illegal (csr_access levels.Guest csr op select true)) (Some (Refused Illegal)) (cond (raises_virtual (csr_access levels.Guest csr op select true)) (Some (Refused Virtual)) None)) (sym same.select))
   where
     answers : (o : Option Answer) → refusal h (own_line g csr op) ≡ o → refusal k (own_line g csr op) ≡ o → answer h (own_line g csr op) ≡ answer k (own_line g csr op)
     answers o e f = answers_there h g csr op o own e ∙ ap (λ select. unwrap_or o (Wide (csr_shown select (guest_file h g) csr))) same.select ∙ ap (λ file. unwrap_or o (Wide (csr_shown (guest_select k g) file csr))) same.file ∙ sym (answers_there k g csr op o own f)

@@ -11,9 +11,10 @@ use Rattle.aia_regs.specs.declared.access.Op.TheVariants as ops
 use Rattle.aia_regs.specs.declared.file_registers.FileReg.{FileReg}
 use Rattle.aia_regs.specs.declared.file_registers.FileReg.TheVariants.{Delivery, Threshold, Pending, Enable}
 use Rattle.aia_regs.specs.Fields.{bit_number}
-use Rattle.aia_regs.specs.Operations.{is_one, written}
-use Rattle.aia_regs.specs.Word.{settle, names}
-use Rattle.aia_regs.specs.Word.Word.{Ask, Clear, Nothing}
+use Rattle.aia_word.specs.Sets.{has_bit}
+use Rattle.aia_regs.specs.Operations.{written}
+use Rattle.aia_regs.specs.BitUpdate.{settle, names}
+use Rattle.aia_regs.specs.BitUpdate.BitUpdate.{Ask, Clear, Nothing}
 use Rattle.aia_regs.specs.FileRegisters.{register_of, eip_said, number_after, threshold_after, delivery_after}
 use Rattle.aia_regs.specs.Request.{number_written, implemented, requested}
 use Rattle.aia_file.specs.InterruptFile.{InterruptFile, accessed, claimed, landed, top_of}
@@ -178,7 +179,7 @@ sip_fit op m p = record { injected = λ j e. sip_fits op j (m.injected j) (p.inj
 pub sie_fit : (op : Op) (m : VsMajorState) → AreFit m → AreFit (with_sie op m)
 sie_fit op m p = record { injected = p.injected; enabled = λ j e. sie_fits op j (m.enabled j) (p.enabled j) e; hviprio1 = p.hviprio1; hvictl = p.hvictl }
 
-hvip_fits : (v j : ℕ) (was : Bool) → (was ≡ true → is_major j ≡ true) → cond (is_major j) (is_one v j) was ≡ true → is_major j ≡ true
+hvip_fits : (v j : ℕ) (was : Bool) → (was ≡ true → is_major j ≡ true) → cond (is_major j) (has_bit v j) was ≡ true → is_major j ≡ true
 hvip_fits v j was fits e = elim (cases_Bool (is_major j)) [ inl here ↦ here | inr past ↦ fits (rw past at e) ]
 
 hvip_fit : (v : ℕ) (m : VsMajorState) → AreFit m → AreFit (with_hvip v m)

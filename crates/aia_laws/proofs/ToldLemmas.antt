@@ -4,8 +4,8 @@ use Rattle.std.proofs.Common.{◌≡◌, ℕ, ◌+◌, ◌≤◌, Bool, true, fa
 use Rattle.std.specs.Int.{is_in_range}
 use Rattle.std.proofs.lemmas.Bool.{cases_Bool, and_parts, and_from, or_cases, or_left, or_right, eq-eqb, cond-true, false≢true}
 use Rattle.std.proofs.lemmas.Bool.Decides.{nat_tests}
-use Rattle.aia_regs.specs.Word.{Word, settle}
-use Rattle.aia_regs.specs.Word.Word.{Ask, Clear, Nothing}
+use Rattle.aia_regs.specs.BitUpdate.{BitUpdate, settle}
+use Rattle.aia_regs.specs.BitUpdate.BitUpdate.{Ask, Clear, Nothing}
 use Rattle.aia_file.specs.InterruptFile.{InterruptFile}
 use Rattle.aia_home.specs.Vms.{Vcpu, vcpu}
 use Rattle.aia_home.specs.Home.Home.{Parked}
@@ -28,7 +28,7 @@ use Rattle.aia_model.specs.Notice.{noticed, noticed_by_landing}
 use Rattle.aia_model.proofs.FileLemmas.{file_step, newest_word, is_file-itself}
 use Rattle.aia_model.proofs.MoveLemmas.{same_vcpu}
 use Rattle.aia_laws.specs.Told.{is_deliverable, notice_file, notice_number, is_ask, is_clear, guest_said, host_said, begins_leave, names_vcpu, noticed_since, told_since, cleared_since, cleared_since_notice}
-use Rattle.aia_laws.proofs.FileLemmas.{made_with, not_making, host_made, host_n}
+use Rattle.aia_model.proofs.GreatestLemmas.{made_with, not_making, host_made, host_greatest}
 use Rattle.aia_model.proofs.RefusalLemmas.{machine_allowed, device_allowed, peer_allowed, exit_allowed, load_allowed}
 use Rattle.aia_model.specs.Histories.{MayHappen, IsHistory}
 use Rattle.aia_laws.proofs.MachineLemmas.{identities_for_all, enabled_in_words}
@@ -101,7 +101,7 @@ number_fits : (h : History) (g : Vcpu) → IsHistory h → has_vcpu h g ≡ true
 number_fits h g good there =
     let slot = slot_below (vms_of h) g there in
     let enough = identities_for_all h g good there in
-    rw (host_n h (notice_file h g)) (omega (arith, slot, enough))
+    rw (host_greatest h (notice_file h g)) (omega (arith, slot, enough))
 
 abbrev NoticeAsks : Event → Type 0
 NoticeAsks event = (past : History) (g : Vcpu) → MayHappen past event → IsHistory past → names_vcpu (noticed past event) g ≡ true → host_said past event (notice_file past g) (notice_number past g) ≡ Ask
@@ -164,7 +164,7 @@ told_while_parked h g i good parked live =
 
 -- ---- what was asked for and not cleared is pending
 
-settled : (word : Word) (again told cleared was : Bool) → (is_ask word || (not again && told)) ≡ true → (is_clear word || (not again && cleared)) ≡ false → (told ≡ true → cleared ≡ false → was ≡ true) → settle word was ≡ true
+settled : (word : BitUpdate) (again told cleared was : Bool) → (is_ask word || (not again && told)) ≡ true → (is_clear word || (not again && cleared)) ≡ false → (told ≡ true → cleared ≡ false → was ≡ true) → settle word was ≡ true
 settled Ask again told cleared was asked kept before = refl
 settled Clear again told cleared was asked kept before = absurd (cc)
 settled Nothing false told cleared was asked kept before = before asked kept
@@ -215,7 +215,7 @@ pending_until_cleared (Delivered msi ∷ past) f n g i good told cleared = kept_
 abbrev KeepsSent : History → FileName → ℕ → Vcpu → ℕ → Type 0
 KeepsSent h f n g i = noticed_since h g i ≡ true → cleared_since_notice h f n g ≡ false → (file_of h f).pending n ≡ true
 
-kept_settled : (word : Word) (cleared was : Bool) → (is_clear word || cleared) ≡ false → (cleared ≡ false → was ≡ true) → settle word was ≡ true
+kept_settled : (word : BitUpdate) (cleared was : Bool) → (is_clear word || cleared) ≡ false → (cleared ≡ false → was ≡ true) → settle word was ≡ true
 kept_settled Ask cleared was kept before = refl
 kept_settled Clear cleared was kept before = absurd (cc)
 kept_settled Nothing cleared was kept before = before kept

@@ -1,8 +1,8 @@
 -- What the forward of a passed source is to the files of guests and of the host. Vocabulary.
 use Rattle.std.specs.Prelude.{ℕ, Bool, ◌&&◌, is_none, if◌then◌else◌, ◌∷◌}
 use Rattle.std.specs.Option.{option_map}
-use Rattle.aia_regs.specs.Word.{Word}
-use Rattle.aia_regs.specs.Word.Word.{Nothing}
+use Rattle.aia_regs.specs.BitUpdate.{BitUpdate}
+use Rattle.aia_regs.specs.BitUpdate.BitUpdate.{Nothing}
 use Rattle.aia_home.specs.Vms.{Vcpu, is_vcpu, notice_identity}
 use Rattle.aia_home.specs.Aims.{host_identity}
 use Rattle.aia_model.specs.declared.msi.Msi.{Msi}
@@ -32,7 +32,7 @@ forward_deed h p g =
 
 -- What is said of identity i's being pending in a file of the host, by an MSI of a pass that is
 -- delivered and, where the pass leads to memory, given on.
-abbrev pub forward_said : History → ℕ → Msi → FileName → ℕ → Word
+abbrev pub forward_said : History → ℕ → Msi → FileName → ℕ → BitUpdate
 forward_said h p msi f i =
     if is_none (pass_reach h p) && is_file f (pass_file h p)
     then relay_said (file_of h f).n (host_identity p)

@@ -1,7 +1,7 @@
 -- What the host was told of a virtual hart's interrupts, and since when. Vocabulary.
 use Rattle.std.specs.Prelude.{◌≡◌, ℕ, Bool, true, false, not, ◌&&◌, ◌||◌, [], ◌∷◌, Option, Some, None, ◌%◌}
-use Rattle.aia_regs.specs.Word.{Word}
-use Rattle.aia_regs.specs.Word.Word.{Ask, Clear}
+use Rattle.aia_regs.specs.BitUpdate.{BitUpdate}
+use Rattle.aia_regs.specs.BitUpdate.BitUpdate.{Ask, Clear}
 use Rattle.aia_home.specs.Vms.{Vcpu, vcpu, is_vcpu, notice_hart, notice_identity}
 use Rattle.aia_home.specs.Home.{is_resident}
 use Rattle.aia_model.specs.Move.Move.{Leaves}
@@ -36,21 +36,21 @@ notice_number h g = notice_identity (vms_of h) g
 
 -- ---- what events say
 
-abbrev pub is_ask : Word → Bool
+abbrev pub is_ask : BitUpdate → Bool
 is_ask Ask = true
 is_ask word = false
 
-abbrev pub is_clear : Word → Bool
+abbrev pub is_clear : BitUpdate → Bool
 is_clear Clear = true
 is_clear word = false
 
 -- What an event says, after what was before, of identity i's being pending at a virtual hart; of
 -- identity n's in a file of the host.
-abbrev pub guest_said : History → Event → Vcpu → ℕ → Word
+abbrev pub guest_said : History → Event → Vcpu → ℕ → BitUpdate
 guest_said past event g i =
     pending_said (guest_select past g) (guest_file past g) (guest_deed g past event) i
 
-abbrev pub host_said : History → Event → FileName → ℕ → Word
+abbrev pub host_said : History → Event → FileName → ℕ → BitUpdate
 host_said past event f n = pending_said (select_of past f) (file_of past f) (deed_at f past event) n
 
 -- ---- since the newest request, and since the newest leave

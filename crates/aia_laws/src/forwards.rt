@@ -2,7 +2,7 @@
 
 ghost use Rattle.std.specs.Prelude.{◌≡◌, ℕ, true, None, Some};
 ghost use Rattle.std.specs.List.{Contains};
-ghost use Rattle.aia_regs.specs.Word.{settle};
+ghost use Rattle.aia_regs.specs.BitUpdate.{settle};
 ghost use Rattle.aia_home.specs.Vms.{Vcpu};
 ghost use Rattle.aia_model.specs.declared.line.Line.{Line};
 ghost use Rattle.aia_model.specs.declared.msi.Msi.{Msi};

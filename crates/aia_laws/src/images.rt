@@ -10,7 +10,7 @@ ghost use Rattle.aia_model.specs.declared.parsed.Parsed.TheVariants as parsed;
 ghost use Rattle.aia_model.specs.declared.part.Part.{Part};
 ghost use Rattle.aia_model.specs.Event.{History, has_machine, greatest_identity_of};
 ghost use Rattle.aia_model.specs.Histories.{IsHistory};
-ghost use Rattle.aia_model.specs.Grammar.{part_fields};
+ghost use Rattle.aia_model.specs.Forms.{part_fields};
 ghost use Rattle.aia_model.specs.AnswerText.{part_text};
 ghost use Rattle.aia_model.specs.Printing.{line_text, FitsField};
 ghost use Rattle.aia_model.specs.Reading.{reading};

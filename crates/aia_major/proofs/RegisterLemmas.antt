@@ -8,9 +8,10 @@ use Rattle.aia_word.proofs.BitLemmas.{has_bit-and, has_bit-or}
 use Rattle.aia_regs.specs.declared.access.Op.{Op}
 use Rattle.aia_regs.specs.declared.access.Op.TheVariants as ops
 use Rattle.aia_regs.specs.Fields.{bit_number}
-use Rattle.aia_regs.specs.Operations.{is_one, written, bit_said, FitsOp}
-use Rattle.aia_regs.specs.Word.{settle}
-use Rattle.aia_regs.specs.Word.Word.{Ask, Clear, Nothing}
+use Rattle.aia_word.specs.Sets.{has_bit}
+use Rattle.aia_regs.specs.Operations.{written, bit_said, FitsOp}
+use Rattle.aia_regs.specs.BitUpdate.{settle}
+use Rattle.aia_regs.specs.BitUpdate.BitUpdate.{Ask, Clear, Nothing}
 use Rattle.aia_major.specs.VsMajor.{VsMajorState, is_major, is_guests_own, fits_hvip, is_pending, majors_word, sip_value, sie_value, with_sip, with_sie}
 use Rattle.aia_major.specs.Kept.{sip_written, sie_written}
 
@@ -19,7 +20,7 @@ use Rattle.aia_major.specs.Kept.{sip_written, sie_written}
 abbrev four : Bool → Bool → Bool → Bool → ℕ
 four a b c d = bit_number a * 2 ^ 1 + bit_number b * 2 ^ 5 + bit_number c * 2 ^ 9 + bit_number d * 2 ^ 13
 
-at_majors : (a b c d : Bool) → (is_one (four a b c d) 1 ≡ a) × (is_one (four a b c d) 5 ≡ b) × (is_one (four a b c d) 9 ≡ c) × (is_one (four a b c d) 13 ≡ d)
+at_majors : (a b c d : Bool) → (has_bit (four a b c d) 1 ≡ a) × (has_bit (four a b c d) 5 ≡ b) × (has_bit (four a b c d) 9 ≡ c) × (has_bit (four a b c d) 13 ≡ d)
 at_majors true true true true = (refl, refl, refl, refl)
 at_majors true true true false = (refl, refl, refl, refl)
 at_majors true true false true = (refl, refl, refl, refl)
@@ -60,7 +61,7 @@ elsewhere a b c d j la lb lc ld n1 n5 n9 n13 =
 none_of : (j : ℕ) (p : Bool) → j ≢ 1 → j ≢ 5 → j ≢ 9 → j ≢ 13 → (is_major j && p) ≡ false
 none_of j p n1 n5 n9 n13 = simp (ne_eqb j 1 n1, ne_eqb j 5 n5, ne_eqb j 9 n9, ne_eqb j 13 n13)
 
-pub majors_word-bit : (members : ℕ → Bool) (j : ℕ) → is_one (majors_word members) j ≡ (is_major j && members j)
+pub majors_word-bit : (members : ℕ → Bool) (j : ℕ) → has_bit (majors_word members) j ≡ (is_major j && members j)
 majors_word-bit members j =
     let four_are = at_majors (members 1) (members 5) (members 9) (members 13) in
     elim (cases_eq j 1) [
@@ -77,34 +78,34 @@ majors_word-bit members j =
       ]
     ]
   where
-    at : (k : ℕ) → j ≡ k → is_one (majors_word members) k ≡ (is_major k && members k) → is_one (majors_word members) j ≡ (is_major j && members j)
-    at k e is = subst (λ i. is_one (majors_word members) i ≡ (is_major i && members i)) (sym e) is
+    at : (k : ℕ) → j ≡ k → has_bit (majors_word members) k ≡ (is_major k && members k) → has_bit (majors_word members) j ≡ (is_major j && members j)
+    at k e is = subst (λ i. has_bit (majors_word members) i ≡ (is_major i && members i)) (sym e) is
 
 -- ---- a bit after an instruction
 
-is_one-not : (v b : ℕ) → v < 2 ^ 64 → b < 64 → is_one (bit_not w64 v) b ≡ not (is_one v b)
-is_one-not v b fits low = ap (λ x. nat_eq x 1) (bit_at_not w64 v b fits low) ∙ other_bit (bit_at v b) (bit_at-lt v b)
+has_bit-not : (v b : ℕ) → v < 2 ^ 64 → b < 64 → has_bit (bit_not w64 v) b ≡ not (has_bit v b)
+has_bit-not v b fits low = ap (λ x. nat_eq x 1) (bit_at_not w64 v b fits low) ∙ other_bit (bit_at v b) (bit_at-lt v b)
   where
     other_bit : (x : ℕ) → x < 2 → nat_eq (1 - x) 1 ≡ not (nat_eq x 1)
     other_bit zero h = refl
     other_bit (suc zero) h = refl
     other_bit (suc (suc x)) h = absurd (omega arith)
 
-is_one-written : (op : Op) (old b : ℕ) → FitsOp op → b < 64 → is_one (written op old) b ≡ settle (bit_said op b) (is_one old b)
-is_one-written ops.Read old b fits low = refl
-is_one-written (ops.Write v) old b fits low = asked (is_one v b) (is_one old b)
+has_bit-written : (op : Op) (old b : ℕ) → FitsOp op → b < 64 → has_bit (written op old) b ≡ settle (bit_said op b) (has_bit old b)
+has_bit-written ops.Read old b fits low = refl
+has_bit-written (ops.Write v) old b fits low = asked (has_bit v b) (has_bit old b)
   where
     asked : (one was : Bool) → one ≡ settle (cond one Ask Clear) was
     asked true was = refl
     asked false was = refl
-is_one-written (ops.Set v) old b fits low = has_bit-or old v b ∙ joined (is_one v b) (is_one old b)
+has_bit-written (ops.Set v) old b fits low = has_bit-or old v b ∙ joined (has_bit v b) (has_bit old b)
   where
     joined : (one was : Bool) → (was || one) ≡ settle (cond one Ask Nothing) was
     joined true true = refl
     joined true false = refl
     joined false true = refl
     joined false false = refl
-is_one-written (ops.Clear v) old b fits low = has_bit-and old (bit_not w64 v) b ∙ ap (λ x. is_one old b && x) (is_one-not v b fits low) ∙ cleared (is_one v b) (is_one old b)
+has_bit-written (ops.Clear v) old b fits low = has_bit-and old (bit_not w64 v) b ∙ ap (λ x. has_bit old b && x) (has_bit-not v b fits low) ∙ cleared (has_bit v b) (has_bit old b)
   where
     cleared : (one was : Bool) → (was && not one) ≡ settle (cond one Clear Nothing) was
     cleared true true = refl
@@ -115,9 +116,9 @@ is_one-written (ops.Clear v) old b fits low = has_bit-and old (bit_not w64 v) b 
 -- ---- a set after a guest's instruction
 
 -- the number is heard at some of the places that the register shows
-heard : (op : Op) (old j : ℕ) (own was : Bool) → FitsOp op → (own ≡ true → j < 64) → (own ≡ true → is_one old j ≡ was) → cond own (is_one (written op old) j) was ≡ settle (cond own (bit_said op j) Nothing) was
+heard : (op : Op) (old j : ℕ) (own was : Bool) → FitsOp op → (own ≡ true → j < 64) → (own ≡ true → has_bit old j ≡ was) → cond own (has_bit (written op old) j) was ≡ settle (cond own (bit_said op j) Nothing) was
 heard op old j false was fits low shows = refl
-heard op old j true was fits low shows = is_one-written op old j fits (low refl) ∙ ap (settle (bit_said op j)) (shows refl)
+heard op old j true was fits low shows = has_bit-written op old j fits (low refl) ∙ ap (settle (bit_said op j)) (shows refl)
 
 own_is_low : (j : ℕ) → is_guests_own j ≡ true → j < 64
 own_is_low j own = grind (arith, nat_tests)
@@ -150,9 +151,9 @@ sie_access op m fits = ap (λ f. record m { enabled = f }) (λ i j. heard op (si
 
 -- ---- what hvip and sie may hold
 
-pub held_at_majors : (v j : ℕ) → fits_hvip v ≡ true → is_one v j ≡ true → is_major j ≡ true
-held_at_majors v j fits is = at (is_major j) (sym (majors_word-bit (is_one v) j) ∙ ap (λ n. is_one n j) (eqb-true _ _ fits))
+pub held_at_majors : (v j : ℕ) → fits_hvip v ≡ true → has_bit v j ≡ true → is_major j ≡ true
+held_at_majors v j fits is = at (is_major j) (sym (majors_word-bit (has_bit v) j) ∙ ap (λ n. has_bit n j) (eqb-true _ _ fits))
   where
-    at : (m : Bool) → (m && is_one v j) ≡ is_one v j → m ≡ true
+    at : (m : Bool) → (m && has_bit v j) ≡ has_bit v j → m ≡ true
     at true e = refl
     at false e = e ∙ is

@@ -1,6 +1,6 @@
 -- How the majors of a virtual hart are kept, and the candidates for the one on top. Vocabulary.
 use Rattle.std.specs.Prelude.{ℕ, Bool, false, nat_eq, if◌then◌else◌, List, [], ◌∷◌, Option, Some, None}
-use Rattle.aia_regs.specs.Operations.{is_one}
+use Rattle.aia_word.specs.Sets.{has_bit}
 use Rattle.aia_major.specs.declared.majors.Majors.{Majors}
 use Rattle.aia_major.specs.declared.vs_major.VsMajor.{VsMajor}
 use Rattle.aia_major.specs.declared.candidate.Candidate as kept
@@ -36,10 +36,10 @@ kept_at_first =
 -- at the guest's own majors, or at each of the four. That it is what the access says is a law.
 -- The hypervisor extension 1.0: vsip and vsie.
 abbrev pub sip_written : ℕ → VsMajorState → VsMajorState
-sip_written v m = record m { injected = λ j. if is_guests_own j then is_one v j else m.injected j }
+sip_written v m = record m { injected = λ j. if is_guests_own j then has_bit v j else m.injected j }
 
 abbrev pub sie_written : ℕ → VsMajorState → VsMajorState
-sie_written v m = record m { enabled = λ j. if is_major j then is_one v j else m.enabled j }
+sie_written v m = record m { enabled = λ j. if is_major j then has_bit v j else m.enabled j }
 
 -- A candidate that is kept, and one that may be missing as a list.
 abbrev pub seen : kept.Candidate → Candidate

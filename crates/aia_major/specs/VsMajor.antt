@@ -5,9 +5,10 @@ use Rattle.std.specs.Prelude.{ℕ, ◌+◌, ◌*◌, ◌^◌, min, Bool, false, 
 use Rattle.std.specs.Option.{option_map_or}
 use Rattle.std.specs.Int.{is_in_range}
 use Rattle.aia_regs.specs.declared.access.Op.{Op}
-use Rattle.aia_regs.specs.Word.{Word, set_after}
-use Rattle.aia_regs.specs.Word.Word.{Ask, Clear, Nothing}
-use Rattle.aia_regs.specs.Operations.{bit_said, is_one}
+use Rattle.aia_regs.specs.BitUpdate.{BitUpdate, set_after}
+use Rattle.aia_regs.specs.BitUpdate.BitUpdate.{Ask, Clear, Nothing}
+use Rattle.aia_word.specs.Sets.{has_bit}
+use Rattle.aia_regs.specs.Operations.{bit_said}
 use Rattle.aia_regs.specs.Fields.{field, with_field, bit_number}
 
 -- ---- what is kept
@@ -37,16 +38,16 @@ is_guests_own j = nat_eq j 1 || nat_eq j 13
 -- ---- the fields of hvictl
 
 abbrev pub vti_of : ℕ → Bool
-vti_of hvictl = is_one hvictl 30
+vti_of hvictl = has_bit hvictl 30
 
 abbrev pub iid_of : ℕ → ℕ
 iid_of hvictl = field hvictl 27 16
 
 abbrev pub dpr_of : ℕ → Bool
-dpr_of hvictl = is_one hvictl 9
+dpr_of hvictl = has_bit hvictl 9
 
 abbrev pub ipriom_of : ℕ → Bool
-ipriom_of hvictl = is_one hvictl 8
+ipriom_of hvictl = has_bit hvictl 8
 
 abbrev pub iprio_of : ℕ → ℕ
 iprio_of hvictl = field hvictl 7 0
@@ -78,17 +79,17 @@ fits_hvictl v = nat_eq (hvictl_kept v) v && is_hvictl v
 
 -- What an injection of a level at a major says of major j's being injected.
 -- The hypervisor extension 1.0: hvip.
-abbrev pub injection_said : ℕ → Bool → ℕ → Word
+abbrev pub injection_said : ℕ → Bool → ℕ → BitUpdate
 injection_said major level j =
     if nat_eq major j then (if level then Ask else Clear) else Nothing
 
 -- What an access of a guest to sip says of major j's being injected, and one to sie of its being
 -- enabled.
 -- The hypervisor extension 1.0: vsip and vsie.
-abbrev pub sip_said : Op → ℕ → Word
+abbrev pub sip_said : Op → ℕ → BitUpdate
 sip_said op j = if is_guests_own j then bit_said op j else Nothing
 
-abbrev pub sie_said : Op → ℕ → Word
+abbrev pub sie_said : Op → ℕ → BitUpdate
 sie_said op j = if is_major j then bit_said op j else Nothing
 
 -- A level is injected at a major; a guest accesses sip, or sie; hviprio1 is written, or hvictl.
@@ -111,7 +112,7 @@ with_hvictl v m = record m { hvictl = hvictl_kept v }
 -- hvip is written whole: the majors are injected whose bits of the value are ones.
 -- The hypervisor extension 1.0: hvip.
 abbrev pub with_hvip : ℕ → VsMajorState → VsMajorState
-with_hvip v m = record m { injected = λ j. if is_major j then is_one v j else m.injected j }
+with_hvip v m = record m { injected = λ j. if is_major j then has_bit v j else m.injected j }
 
 -- ---- what sip and sie read
 
@@ -129,7 +130,7 @@ majors_word members =
 
 -- Whether hvip and sie may hold a number: its ones are majors alone.
 abbrev pub fits_hvip : ℕ → Bool
-fits_hvip v = nat_eq (majors_word (is_one v)) v
+fits_hvip v = nat_eq (majors_word (has_bit v)) v
 
 abbrev pub sip_value : VsMajorState → Bool → ℕ
 sip_value m signal = majors_word (is_pending m signal)

@@ -6,7 +6,8 @@ ghost use Rattle.std.specs.Int.{is_in_range};
 ghost use Rattle.std.specs.List.{Contains};
 ghost use Rattle.aia_word.specs.Top.{top_value};
 ghost use Rattle.aia_regs.specs.Fields.{field};
-ghost use Rattle.aia_regs.specs.Operations.{is_one, written, FitsOp};
+ghost use Rattle.aia_word.specs.Sets.{has_bit};
+ghost use Rattle.aia_regs.specs.Operations.{written, FitsOp};
 ghost use Rattle.aia_major.specs.VsMajor.{VsMajorState, Candidate, new_majors, is_major, vti_of, iid_of, dpr_of, ipriom_of, iprio_of, is_hvictl, hvictl_kept, hviprio1_kept, fits_hvip, fits_hviprio1, fits_hvictl, is_pending, is_live, majors_word, sip_value, sie_value, with_sip, with_sie, with_hvip, one_if, external, by_hvictl, candidates, first_of, priority_shown, stopi_value};
 ghost use Rattle.aia_major.specs.Kept.{sip_written, sie_written};
 ghost use Rattle.aia_major.specs.First.{IsFirst};
@@ -104,9 +105,9 @@ pub fn kept_fields_are_those_written()
 /// The hypervisor extension 1.0: `vsip` and `vsie`.
 pub fn registers_show_majors()
     ensures sip { (m : VsMajorState) (signal : Bool) (j : ℕ)
-        → is_one (sip_value m signal) j ≡ (is_major j && is_pending m signal j) }
+        → has_bit (sip_value m signal) j ≡ (is_major j && is_pending m signal j) }
     ensures sie { (m : VsMajorState) (j : ℕ)
-        → is_one (sie_value m) j ≡ (is_major j && m.enabled j) }
+        → has_bit (sie_value m) j ≡ (is_major j && m.enabled j) }
 {}
 
 /// A number that `hvip` and `sie` may hold has ones at majors alone; one that shows a set of majors
@@ -114,7 +115,7 @@ pub fn registers_show_majors()
 ///
 /// The hypervisor extension 1.0: `hvip` and `vsie`.
 pub fn hvip_holds_majors()
-    ensures ones { (v j : ℕ) → fits_hvip v ≡ true → is_one v j ≡ true → is_major j ≡ true }
+    ensures ones { (v j : ℕ) → fits_hvip v ≡ true → has_bit v j ≡ true → is_major j ≡ true }
     ensures shown { (members : ℕ → Bool) → fits_hvip (majors_word members) ≡ true }
     ensures anew { (m : VsMajorState) (members : ℕ → Bool) (j : ℕ) → is_major j ≡ true
         → (with_hvip (majors_word members) m).injected j ≡ members j }

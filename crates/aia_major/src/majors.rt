@@ -1,6 +1,6 @@
 ghost use Rattle.std.specs.Prelude.{◌≡◌, ℕ, false, ◌&&◌, nat_eq, if◌then◌else◌, OnOk, OnErr, is_ok};
-ghost use Rattle.aia_regs.specs.Operations.{is_one};
-ghost use Rattle.aia_regs.specs.Word.{settle};
+ghost use Rattle.aia_word.specs.Sets.{has_bit};
+ghost use Rattle.aia_regs.specs.BitUpdate.{settle};
 ghost use Rattle.aia_major.specs.VsMajor.{is_major, is_guests_own, injection_said, majors_word};
 ghost use Rattle.aia_major.specs.Kept.{members, no_members};
 
@@ -36,7 +36,7 @@ impl Majors {
 
     /// Makes the set of those whose bits of a register are ones.
     pub(crate) fn of_word(v: u64) -> Majors
-        ensures { (j : ℕ) → members result j ≡ (is_major j && is_one v j) }
+        ensures { (j : ℕ) → members result j ≡ (is_major j && has_bit v j) }
     {
         Majors {
             software: bit(v, 1),
@@ -89,7 +89,7 @@ impl Majors {
     /// Takes the bits of a register for those majors that a guest's write to `sip` is heard at.
     pub(crate) fn write_own(&mut self, v: u64)
         ensures { (j : ℕ) → members self.new j
-            ≡ (if is_guests_own j then is_one v j else members self.old j) }
+            ≡ (if is_guests_own j then has_bit v j else members self.old j) }
     {
         self.software = bit(v, 1);
         self.overflow = bit(v, 13);

@@ -6,12 +6,14 @@ use Rattle.std.specs.Int.{is_in_range}
 use Rattle.aia_regs.specs.declared.access.Csr.{Csr}
 use Rattle.aia_regs.specs.declared.access.Op.{Op}
 use Rattle.aia_regs.specs.declared.access.Level.TheVariants as levels
-use Rattle.aia_csr.specs.Access.{access_of}
+use Rattle.aia_csr.specs.CsrAccess.{csr_access}
 use Rattle.aia_model.specs.declared.line.Line.{Line}
-use Rattle.aia_model.specs.declared.line.Line.TheVariants.{Machine, Wire, Load, Store, Send, Land, Refetch, MachineCsr, HostCsr, Hgeip, Pins, GuestCsr, Ipi, Arrive, Leave, Shift, BeginArrive, BeginLeave, BeginShift, Step, Enter, Exit, Save, LoadPart, Inject, Hvictl, Hviprio}
+use Rattle.aia_model.specs.declared.line.Line.TheVariants.{Machine, Wire, Load, Store, Send, Land, Refetch, MachineCsr, HostCsr, Hgeip, Pins, GuestCsr, Ipi, Step, Enter, Exit, Save, LoadPart, Inject, Hvictl, Hviprio}
 use Rattle.aia_regs.specs.declared.limits.TheConstants.{STORES_IN_FLIGHT}
 use Rattle.aia_model.specs.Flight.{flight}
 use Rattle.aia_model.specs.declared.line.Line.TheVariants as lines
+use Rattle.aia_model.specs.declared.want.Want.{Want}
+use Rattle.aia_model.specs.declared.want.Want.TheVariants as wants
 use Rattle.aia_imsic.specs.declared.spot.Spot.{Spot}
 use Rattle.aia_model.specs.declared.answer.Answer.{Answer}
 use Rattle.aia_model.specs.declared.answer.Answer.TheVariants.{NoMachine, Again, Refused}
@@ -116,11 +118,11 @@ abbrev pub access_refusal : History → ℕ → Bool → Option Answer
 access_refusal h hart illegal = cond (not (nat_lt hart (harts_of h))) (Some (Refused Range)) (cond illegal (Some (Refused Illegal)) None)
 
 pub machine_csr_refusal : (h : History) (hart : ℕ) (csr : Csr) (op : Op) → has_machine h ≡ true
-    → refusal h (MachineCsr hart csr op) ≡ access_refusal h hart (raises_illegal (access_of levels.Machine csr op (select_of h (MachineFile hart)) false))
+    → refusal h (MachineCsr hart csr op) ≡ access_refusal h hart (raises_illegal (csr_access levels.Machine csr op (select_of h (MachineFile hart)) false))
 machine_csr_refusal h hart csr op there = past_machine h _ there
 
 pub host_csr_refusal : (h : History) (hart : ℕ) (csr : Csr) (op : Op) → has_machine h ≡ true
-    → refusal h (HostCsr hart csr op) ≡ access_refusal h hart (raises_illegal (access_of levels.Host csr op (select_of h (SupervisorFile hart)) false))
+    → refusal h (HostCsr hart csr op) ≡ access_refusal h hart (raises_illegal (csr_access levels.Host csr op (select_of h (SupervisorFile hart)) false))
 host_csr_refusal h hart csr op there = past_machine h _ there
 
 pub vm_refusal : (h : History) (vcpus mask hart : ℕ) → has_machine h ≡ true
@@ -154,29 +156,23 @@ abbrev pub no_file_refusal : History → ℕ → Option Answer
 no_file_refusal h hart = cond (is_none (free_file h (home h) hart)) (Some (Refused NoFile)) None
 
 pub arrive_refusal : (h : History) (vm number hart : ℕ) → has_machine h ≡ true
-    → refusal h (Arrive vm number hart) ≡ cond (not (has_vcpu h (vcpu vm number) && has_hart h hart)) (Some (Refused Range)) (cond (is_moving (home h (vcpu vm number))) (Some (Refused Busy))
+    → refusal h (lines.Move vm number (wants.Arrive hart)) ≡ cond (not (has_vcpu h (vcpu vm number) && has_hart h hart)) (Some (Refused Range)) (cond (is_moving (home h (vcpu vm number))) (Some (Refused Busy))
     (cond (is_resident (home h (vcpu vm number))) (Some (Refused words.Home)) (cond (is_entered (home h (vcpu vm number))) (Some (Refused words.Entered)) (no_file_refusal h hart))))
 arrive_refusal h vm number hart there = past_machine h _ there
 
 pub leave_refusal : (h : History) (vm number : ℕ) → has_machine h ≡ true
-    → refusal h (Leave vm number) ≡ cond (not (has_vcpu h (vcpu vm number))) (Some (Refused Range)) (cond (is_moving (home h (vcpu vm number))) (Some (Refused Busy))
+    → refusal h (lines.Move vm number wants.Leave) ≡ cond (not (has_vcpu h (vcpu vm number))) (Some (Refused Range)) (cond (is_moving (home h (vcpu vm number))) (Some (Refused Busy))
     (cond (rests_in_memory (home h (vcpu vm number))) (Some (Refused words.Parked)) None))
 leave_refusal h vm number there = past_machine h _ there
 
 pub shift_refusal : (h : History) (vm number hart : ℕ) → has_machine h ≡ true
-    → refusal h (Shift vm number hart) ≡ cond (not (has_vcpu h (vcpu vm number) && has_hart h hart)) (Some (Refused Range)) (cond (is_moving (home h (vcpu vm number))) (Some (Refused Busy))
+    → refusal h (lines.Move vm number (wants.Shift hart)) ≡ cond (not (has_vcpu h (vcpu vm number) && has_hart h hart)) (Some (Refused Range)) (cond (is_moving (home h (vcpu vm number))) (Some (Refused Busy))
     (cond (rests_in_memory (home h (vcpu vm number))) (Some (Refused words.Parked)) (no_file_refusal h hart)))
 shift_refusal h vm number hart there = past_machine h _ there
 
 -- the line that begins a move is refused as the line of the whole move
-pub begin_arrive_refusal : (h : History) (vm number hart : ℕ) → refusal h (BeginArrive vm number hart) ≡ refusal h (Arrive vm number hart)
-begin_arrive_refusal h vm number hart = refl
-
-pub begin_leave_refusal : (h : History) (vm number : ℕ) → refusal h (BeginLeave vm number) ≡ refusal h (Leave vm number)
-begin_leave_refusal h vm number = refl
-
-pub begin_shift_refusal : (h : History) (vm number hart : ℕ) → refusal h (BeginShift vm number hart) ≡ refusal h (Shift vm number hart)
-begin_shift_refusal h vm number hart = refl
+pub begin_refusal : (h : History) (vm number : ℕ) (want : Want) → refusal h (lines.Begin vm number want) ≡ refusal h (lines.Move vm number want)
+begin_refusal h vm number want = refl
 
 pub step_refusal : (h : History) (vm number : ℕ) → has_machine h ≡ true
     → refusal h (Step vm number) ≡ cond (not (has_vcpu h (vcpu vm number))) (Some (Refused Range)) (cond (not (is_moving (home h (vcpu vm number)))) (Some (Refused Idle)) None)

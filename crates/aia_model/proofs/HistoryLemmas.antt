@@ -9,7 +9,9 @@ use Rattle.aia_home.specs.Plans.Access.{TakePending}
 use Rattle.aia_home.specs.Aims.{AreAimed, further}
 use Rattle.aia_home.specs.Home.Home.{Parked, Entered, Resident, Leaving, Arriving, Shifting}
 use Rattle.aia_model.specs.declared.line.Line.{Line}
-use Rattle.aia_model.specs.declared.line.Line.TheVariants.{Machine, Arrive, Leave, Shift, BeginArrive, BeginLeave, BeginShift, Step, Send, Land}
+use Rattle.aia_model.specs.declared.line.Line.TheVariants.{Machine, Step, Send, Land}
+use Rattle.aia_model.specs.declared.line.Line.TheVariants as lines
+use Rattle.aia_model.specs.declared.want.Want.TheVariants as wants
 use Rattle.aia_model.specs.declared.answer.Answer.{Answer}
 use Rattle.aia_model.specs.declared.msi.Msi.{Msi}
 use Rattle.aia_model.specs.declared.parsed.Parsed.{Parsed}
@@ -19,7 +21,7 @@ use Rattle.aia_model.specs.Event.{History, has_machine, file_words}
 use Rattle.aia_model.specs.Event.Event.{Accepted, Began, Stepped, Delivered, Landed, Relayed}
 use Rattle.aia_model.specs.Vms.{has_vcpu}
 use Rattle.aia_model.specs.Passes.{passes_of, passed_by, passes_for}
-use Rattle.aia_model.specs.HomeOf.{home, free_file, place}
+use Rattle.aia_model.specs.HomeOf.{home, free_file, guest_place}
 use Rattle.aia_model.specs.Aim.{pass_reach}
 use Rattle.aia_model.specs.PassesStand.{AreForwards}
 use Rattle.aia_model.specs.Refusal.{refusal}
@@ -142,7 +144,7 @@ leave_left passes words (Arriving to at) idle kept = absurd (cc)
 leave_left passes words (Shifting from to at) idle kept = absurd (cc)
 
 arrive_left : (passes words hart : ℕ) (file : Option ℕ) (there : Home) → is_moving there ≡ false → is_resident there ≡ false → is_entered there ≡ false → is_none file ≡ false
-    → steps_left passes words (option_map_or (λ f. arriving (place hart f) there) file there) ≡ arrive_steps words + passes
+    → steps_left passes words (option_map_or (λ f. arriving (guest_place hart f) there) file there) ≡ arrive_steps words + passes
 arrive_left passes words hart None there idle away waits free = absurd (cc)
 arrive_left passes words hart (Some f) Parked idle away waits free = omega arith
 arrive_left passes words hart (Some f) Entered idle away waits free = absurd (cc)
@@ -152,7 +154,7 @@ arrive_left passes words hart (Some f) (Arriving to at) idle away waits free = a
 arrive_left passes words hart (Some f) (Shifting from to at) idle away waits free = absurd (cc)
 
 shift_left : (passes words hart : ℕ) (file : Option ℕ) (there : Home) → is_moving there ≡ false → rests_in_memory there ≡ false → is_none file ≡ false
-    → steps_left passes words (option_map_or (λ f. shifting (place hart f) there) file there) ≡ shift_steps words + passes
+    → steps_left passes words (option_map_or (λ f. shifting (guest_place hart f) there) file there) ≡ shift_steps words + passes
 shift_left passes words hart None there idle kept free = absurd (cc)
 shift_left passes words hart (Some f) (Resident p) idle kept free = omega arith
 shift_left passes words hart (Some f) Parked idle kept free = absurd (cc)
@@ -161,7 +163,7 @@ shift_left passes words hart (Some f) (Leaving from at) idle kept free = absurd 
 shift_left passes words hart (Some f) (Arriving to at) idle kept free = absurd (cc)
 shift_left passes words hart (Some f) (Shifting from to at) idle kept free = absurd (cc)
 
-arrive_happens : (h : History) (g : Vcpu) (hart : ℕ) → refusal h (Arrive g.vm g.number hart) ≡ None → IsHistory h → IsHistory (whole_move h (Arrives g hart))
+arrive_happens : (h : History) (g : Vcpu) (hart : ℕ) → refusal h (lines.Move g.vm g.number (wants.Arrive hart)) ≡ None → IsHistory h → IsHistory (whole_move h (Arrives g hart))
 unfolding passes_of
 arrive_happens h g hart e good =
     let may = arrive_allowed h g.vm g.number hart e in
@@ -169,7 +171,7 @@ arrive_happens h g hart e good =
     (ap (steps_left (passes_for h g) (file_words h)) (home_step (Began (Arrives g hart)) h g ∙ cond-true _ _ _ (is_itself g)) ∙ arrive_left (passes_for h g) (file_words h) hart (free_file h (home h) hart) (home h g) may.1 may.2 may.5 may.3)
     ((may.0, may.1, may.4), good)
 
-leave_happens : (h : History) (g : Vcpu) → refusal h (Leave g.vm g.number) ≡ None → IsHistory h → IsHistory (whole_move h (Leaves g))
+leave_happens : (h : History) (g : Vcpu) → refusal h (lines.Move g.vm g.number wants.Leave) ≡ None → IsHistory h → IsHistory (whole_move h (Leaves g))
 unfolding passes_of
 leave_happens h g e good =
     let may = leave_allowed h g.vm g.number e in
@@ -177,7 +179,7 @@ leave_happens h g e good =
     (ap (steps_left (passes_for h g) (file_words h)) (home_step (Began (Leaves g)) h g ∙ cond-true _ _ _ (is_itself g)) ∙ leave_left (passes_for h g) (file_words h) (home h g) may.1 may.2)
     ((may.0, may.1, refl), good)
 
-shift_happens : (h : History) (g : Vcpu) (hart : ℕ) → refusal h (Shift g.vm g.number hart) ≡ None → IsHistory h → IsHistory (whole_move h (Shifts g hart))
+shift_happens : (h : History) (g : Vcpu) (hart : ℕ) → refusal h (lines.Move g.vm g.number (wants.Shift hart)) ≡ None → IsHistory h → IsHistory (whole_move h (Shifts g hart))
 unfolding passes_of
 shift_happens h g hart e good =
     let may = shift_allowed h g.vm g.number hart e in
@@ -188,12 +190,12 @@ shift_happens h g hart e good =
 -- ---- what a script does is such a history
 
 pub line_happens : (h : History) (line : Line) → refusal h line ≡ None → IsHistory h → IsHistory (line_taken h line)
-line_happens h (Arrive vm number hart) e good = arrive_happens h (vcpu vm number) hart e good
-line_happens h (Leave vm number) e good = leave_happens h (vcpu vm number) e good
-line_happens h (Shift vm number hart) e good = shift_happens h (vcpu vm number) hart e good
-line_happens h (BeginArrive vm number hart) e good = let may = arrive_allowed h vm number hart e in ((may.0, may.1, may.4), good)
-line_happens h (BeginLeave vm number) e good = let may = leave_allowed h vm number e in ((may.0, may.1, refl), good)
-line_happens h (BeginShift vm number hart) e good = let may = shift_allowed h vm number hart e in ((may.0, may.1, may.4), good)
+line_happens h (lines.Move vm number (wants.Arrive hart)) e good = arrive_happens h (vcpu vm number) hart e good
+line_happens h (lines.Move vm number wants.Leave) e good = leave_happens h (vcpu vm number) e good
+line_happens h (lines.Move vm number (wants.Shift hart)) e good = shift_happens h (vcpu vm number) hart e good
+line_happens h (lines.Begin vm number (wants.Arrive hart)) e good = let may = arrive_allowed h vm number hart e in ((may.0, may.1, may.4), good)
+line_happens h (lines.Begin vm number wants.Leave) e good = let may = leave_allowed h vm number e in ((may.0, may.1, refl), good)
+line_happens h (lines.Begin vm number (wants.Shift hart)) e good = let may = shift_allowed h vm number hart e in ((may.0, may.1, may.4), good)
 line_happens h (Step vm number) e good = let may = step_allowed h vm number e in step_happens (vcpu vm number) h may.0 may.1 good
 line_happens h (Land vm k) e good = (land_allowed h vm k e, good)
 line_happens h line e good = (e, good)
@@ -208,9 +210,9 @@ stands_stepped (suc count) g h stands = stands_stepped count g (step_taken g h) 
 -- after an accepted line a machine stands
 pub stands_then : (h : History) (line : Line) → refusal h line ≡ None → has_machine (line_taken h line) ≡ true
 stands_then h (Machine harts guests n sources) e = refl
-stands_then h (Arrive vm number hart) e = stands_stepped (arrive_steps (file_words h) + passes_for h (vcpu vm number)) (vcpu vm number) _ (not-false _ (machine_stands h (Arrive vm number hart) e))
-stands_then h (Leave vm number) e = stands_stepped (leave_steps (file_words h) + passes_for h (vcpu vm number)) (vcpu vm number) _ (not-false _ (machine_stands h (Leave vm number) e))
-stands_then h (Shift vm number hart) e = stands_stepped (shift_steps (file_words h) + passes_for h (vcpu vm number)) (vcpu vm number) _ (not-false _ (machine_stands h (Shift vm number hart) e))
+stands_then h (lines.Move vm number (wants.Arrive hart)) e = stands_stepped (arrive_steps (file_words h) + passes_for h (vcpu vm number)) (vcpu vm number) _ (not-false _ (machine_stands h (lines.Move vm number (wants.Arrive hart)) e))
+stands_then h (lines.Move vm number wants.Leave) e = stands_stepped (leave_steps (file_words h) + passes_for h (vcpu vm number)) (vcpu vm number) _ (not-false _ (machine_stands h (lines.Move vm number wants.Leave) e))
+stands_then h (lines.Move vm number (wants.Shift hart)) e = stands_stepped (shift_steps (file_words h) + passes_for h (vcpu vm number)) (vcpu vm number) _ (not-false _ (machine_stands h (lines.Move vm number (wants.Shift hart)) e))
 stands_then h (Step vm number) e = stands_first (vcpu vm number) h (not-false _ (machine_stands h (Step vm number) e))
 stands_then h line e = not-false _ (machine_stands h line e)
 

@@ -11,7 +11,7 @@ use Rattle.aia_home.specs.BySteps.{new_file}
 use Rattle.aia_home.specs.Routes.{origin}
 use Rattle.aia_home.specs.Aims.{aims_done, is_aiming, aimed, further, pass_reaches, AreAimed}
 use Rattle.aia_home.proofs.HomeLemmas.{some_same}
-use Rattle.aia_model.specs.HomeOf.{place}
+use Rattle.aia_model.specs.HomeOf.{guest_place}
 
 none_below : (r : ℕ) → nat_lt r 0 ≡ false
 none_below r = grind (arith, nat_tests)
@@ -42,13 +42,13 @@ shifting_passes r q (Leaving from at) = refl
 shifting_passes r q (Arriving to at) = refl
 shifting_passes r q (Shifting from to at) = refl
 
-pub arrives_passes : (r hart : ℕ) (file : Option ℕ) (there : Home) → pass_reaches r (option_map_or (λ f. arriving (place hart f) there) file there) ≡ pass_reaches r there
+pub arrives_passes : (r hart : ℕ) (file : Option ℕ) (there : Home) → pass_reaches r (option_map_or (λ f. arriving (guest_place hart f) there) file there) ≡ pass_reaches r there
 arrives_passes r hart None there = refl
-arrives_passes r hart (Some f) there = arriving_passes r (place hart f) there
+arrives_passes r hart (Some f) there = arriving_passes r (guest_place hart f) there
 
-pub shifts_passes : (r hart : ℕ) (file : Option ℕ) (there : Home) → pass_reaches r (option_map_or (λ f. shifting (place hart f) there) file there) ≡ pass_reaches r there
+pub shifts_passes : (r hart : ℕ) (file : Option ℕ) (there : Home) → pass_reaches r (option_map_or (λ f. shifting (guest_place hart f) there) file there) ≡ pass_reaches r there
 shifts_passes r hart None there = refl
-shifts_passes r hart (Some f) there = shifting_passes r (place hart f) there
+shifts_passes r hart (Some f) there = shifting_passes r (guest_place hart f) there
 
 -- ---- a step that aims none
 

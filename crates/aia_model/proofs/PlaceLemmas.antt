@@ -26,7 +26,7 @@ use Rattle.aia_model.specs.Move.{mover}
 use Rattle.aia_model.specs.Flight.{flight}
 use Rattle.aia_model.specs.Vms.{vms_of, has_vcpu}
 use Rattle.aia_model.specs.Passes.{passes_of, passes_for}
-use Rattle.aia_model.specs.HomeOf.{home, free_file, place}
+use Rattle.aia_model.specs.HomeOf.{home, free_file, guest_place}
 use Rattle.aia_model.specs.Refusal.{is_machine_size}
 use Rattle.aia_model.specs.Histories.{IsHistory}
 use Rattle.aia_model.proofs.ReachLemmas.{enter_keeps, exit_keeps}
@@ -188,7 +188,7 @@ further_holds passes words q there = by_aim (is_aiming passes there) (is_at_last
     by_aim false false e = one_more_holds q there e
 
 -- a guest file that is free is one of the machine
-free_there : (h : History) (hart f : ℕ) → has_hart h hart ≡ true → free_file h (home h) hart ≡ Some f → IsPlaceOf h (place hart f)
+free_there : (h : History) (hart f : ℕ) → has_hart h hart ≡ true → free_file h (home h) hart ≡ Some f → IsPlaceOf h (guest_place hart f)
 free_there h hart f there e =
     let least = least_of_is _ 1 (guests_of h) f e in
     let high = least.1 in
@@ -222,14 +222,14 @@ all_held (Began (Arrives x hart) ∷ h) g good = elim (cases_Bool (is_vcpu g x))
   | inr other ↦ rw other (same_held (Began (Arrives x hart)) h _ refl refl (all_held h g good.1))
 ]
   where
-    by_file : (file : Option ℕ) → ((f : ℕ) → file ≡ Some f → IsPlaceOf h (place hart f)) → AllHeld h (home h g) → AllHeld h (option_map_or (λ f. arriving (place hart f) (home h g)) file (home h g))
+    by_file : (file : Option ℕ) → ((f : ℕ) → file ≡ Some f → IsPlaceOf h (guest_place hart f)) → AllHeld h (home h g) → AllHeld h (option_map_or (λ f. arriving (guest_place hart f) (home h g)) file (home h g))
     by_file None one m = m
-    by_file (Some f) one m = arriving_held h (place hart f) (home h g) (one f refl) m
+    by_file (Some f) one m = arriving_held h (guest_place hart f) (home h g) (one f refl) m
 all_held (Began (Shifts x hart) ∷ h) g good = elim (cases_Bool (is_vcpu g x)) [
   | inl own ↦ rw own (same_held (Began (Shifts x hart)) h _ refl refl (by_file (free_file h (home h) hart) (λ f e. free_there h hart f good.0.2 e) (all_held h g good.1)))
   | inr other ↦ rw other (same_held (Began (Shifts x hart)) h _ refl refl (all_held h g good.1))
 ]
   where
-    by_file : (file : Option ℕ) → ((f : ℕ) → file ≡ Some f → IsPlaceOf h (place hart f)) → AllHeld h (home h g) → AllHeld h (option_map_or (λ f. shifting (place hart f) (home h g)) file (home h g))
+    by_file : (file : Option ℕ) → ((f : ℕ) → file ≡ Some f → IsPlaceOf h (guest_place hart f)) → AllHeld h (home h g) → AllHeld h (option_map_or (λ f. shifting (guest_place hart f) (home h g)) file (home h g))
     by_file None one m = m
-    by_file (Some f) one m = shifting_held h (place hart f) (home h g) (one f refl) m
+    by_file (Some f) one m = shifting_held h (guest_place hart f) (home h g) (one f refl) m

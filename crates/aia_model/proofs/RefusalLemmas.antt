@@ -9,8 +9,9 @@ use Rattle.aia_home.specs.Vms.{Vcpu, vcpu, vcpus_in}
 use Rattle.aia_home.specs.Home.Home.{Parked, Entered, Resident, Leaving, Arriving, Shifting}
 use Rattle.aia_home.specs.Home.{Home, is_moving, is_resident, is_entered, runs, rests_in_memory}
 use Rattle.aia_model.specs.declared.line.Line.{Line}
-use Rattle.aia_model.specs.declared.line.Line.TheVariants.{Send, Land, Machine, GuestCsr, Ipi, Arrive, Leave, Shift, Step, Enter, Exit, Save, LoadPart, Inject, Hvictl}
+use Rattle.aia_model.specs.declared.line.Line.TheVariants.{Send, Land, Machine, GuestCsr, Ipi, Step, Enter, Exit, Save, LoadPart, Inject, Hvictl}
 use Rattle.aia_model.specs.declared.line.Line.TheVariants as lines
+use Rattle.aia_model.specs.declared.want.Want.TheVariants as wants
 use Rattle.aia_model.specs.declared.answer.Answer.{Answer}
 use Rattle.aia_model.specs.declared.part.Part.{Part}
 use Rattle.aia_model.specs.Image.{parts_in, is_loadable}
@@ -90,7 +91,7 @@ store_allowed h addr value e =
     let free = passed (guards (page_at h addr) addr || redirects h addr value) _ _ sound.1 in
     (or_parts (guards (page_at h addr) addr) (redirects h addr value) free.0).1
 
-pub arrive_allowed : (h : History) (vm number hart : ℕ) → refusal h (Arrive vm number hart) ≡ None
+pub arrive_allowed : (h : History) (vm number hart : ℕ) → refusal h (lines.Move vm number (wants.Arrive hart)) ≡ None
     → (has_vcpu h (vcpu vm number) ≡ true) × (is_moving (home h (vcpu vm number)) ≡ false) × (is_resident (home h (vcpu vm number)) ≡ false) × (is_none (free_file h (home h) hart) ≡ false) × (has_hart h hart ≡ true) × (is_entered (home h (vcpu vm number)) ≡ false)
 arrive_allowed h vm number hart e =
     let stands = passed (not (has_machine h)) _ _ e in
@@ -102,7 +103,7 @@ arrive_allowed h vm number hart e =
     let both = and_parts (has_vcpu h (vcpu vm number)) (has_hart h hart) (not-false _ there.0) in
     (both.0, idle.0, away.0, free.0, both.1, waits.0)
 
-pub leave_allowed : (h : History) (vm number : ℕ) → refusal h (Leave vm number) ≡ None
+pub leave_allowed : (h : History) (vm number : ℕ) → refusal h (lines.Move vm number wants.Leave) ≡ None
     → (has_vcpu h (vcpu vm number) ≡ true) × (is_moving (home h (vcpu vm number)) ≡ false) × (rests_in_memory (home h (vcpu vm number)) ≡ false)
 leave_allowed h vm number e =
     let stands = passed (not (has_machine h)) _ _ e in
@@ -111,7 +112,7 @@ leave_allowed h vm number e =
     let kept = passed (rests_in_memory (home h (vcpu vm number))) _ _ idle.1 in
     (not-false _ there.0, idle.0, kept.0)
 
-pub shift_allowed : (h : History) (vm number hart : ℕ) → refusal h (Shift vm number hart) ≡ None
+pub shift_allowed : (h : History) (vm number hart : ℕ) → refusal h (lines.Move vm number (wants.Shift hart)) ≡ None
     → (has_vcpu h (vcpu vm number) ≡ true) × (is_moving (home h (vcpu vm number)) ≡ false) × (rests_in_memory (home h (vcpu vm number)) ≡ false) × (is_none (free_file h (home h) hart) ≡ false) × (has_hart h hart ≡ true)
 shift_allowed h vm number hart e =
     let stands = passed (not (has_machine h)) _ _ e in

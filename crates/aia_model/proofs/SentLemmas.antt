@@ -8,8 +8,9 @@ use Rattle.aia_source.specs.Top.{hart_of, guest_of, identity_of}
 use Rattle.aia_word.proofs.LeastLemmas.{least_of_is}
 use Rattle.aia_home.specs.declared.place.Place.{Place}
 use Rattle.aia_model.specs.declared.line.Line.{Line}
-use Rattle.aia_model.specs.declared.line.Line.TheVariants.{Machine, Wire, Load, Store, Arrive, Leave, Shift, BeginArrive, BeginLeave, BeginShift, Step, Land}
+use Rattle.aia_model.specs.declared.line.Line.TheVariants.{Machine, Wire, Load, Store, Step, Land}
 use Rattle.aia_model.specs.declared.line.Line.TheVariants as lines
+use Rattle.aia_model.specs.declared.want.Want.TheVariants as wants
 use Rattle.aia_model.specs.declared.msi.Msi.{Msi}
 use Rattle.aia_model.specs.declared.domain_name.DomainName.{DomainName}
 use Rattle.aia_model.specs.declared.domain_name.DomainName.TheVariants.{Root, Child}
@@ -129,12 +130,8 @@ line_sends : (h : History) (line : Line) → refusal h line ≡ None → IsHisto
 line_sends h line e good = waiting_forwards (Accepted line ∷ h) (acts_by h line) (e, good) (passes_stand (Accepted line ∷ h) (e, good)) (λ p low. line_aimed h line p e (passes_stand h good) low)
 
 pub line_forwards : (h : History) (line : Line) → refusal h line ≡ None → IsHistory h → AreForwards (line_taken h line) (msis_sent_by h line)
-line_forwards h (Arrive vm number hart) e good = none_sent h _
-line_forwards h (Leave vm number) e good = none_sent h _
-line_forwards h (Shift vm number hart) e good = none_sent h _
-line_forwards h (BeginArrive vm number hart) e good = none_sent h _
-line_forwards h (BeginLeave vm number) e good = none_sent h _
-line_forwards h (BeginShift vm number hart) e good = none_sent h _
+line_forwards h (lines.Move vm number want) e good = none_sent h _
+line_forwards h (lines.Begin vm number want) e good = none_sent h _
 line_forwards h (Step vm number) e good = none_sent h _
 line_forwards h (Land vm k) e good = none_sent h _
 line_forwards h line e good = line_sends h line e good

@@ -11,18 +11,21 @@ use Rattle.aia_regs.specs.declared.access.Level.{Level}
 use Rattle.aia_regs.specs.declared.access.Level.TheVariants as levels
 use Rattle.aia_regs.specs.declared.access.Op.{Op}
 use Rattle.aia_regs.specs.declared.access.Op.TheVariants as ops
-use Rattle.aia_csr.specs.Access.{IsInTable}
+use Rattle.aia_csr.specs.CsrAccess.{IsInTable}
 use Rattle.aia_model.specs.declared.limits.TheConstants.{LINE_BYTES}
 use Rattle.aia_model.specs.declared.line.Line.{Line}
-use Rattle.aia_model.specs.declared.line.Line.TheVariants.{MachineCsr, HostCsr, Pins, GuestCsr}
+use Rattle.aia_model.specs.declared.line.Line.TheVariants.{MachineCsr, HostCsr, Pins, GuestCsr, Move}
+use Rattle.aia_model.specs.declared.want.Want.TheVariants.{Arrive, Leave, Shift}
 use Rattle.aia_model.specs.declared.parsed.Parsed.{Parsed}
 use Rattle.aia_model.specs.declared.parsed.Parsed.TheVariants as parsed
 use Rattle.aia_model.specs.Text.{words_of, is_skipped}
-use Rattle.aia_model.specs.Grammar.{Spells, Field, Fits, AllFit, IsListed, HasSpelling, csr_field, instruction, fields_of}
-use Rattle.aia_model.specs.Grammar.Field.{Keyword, Unspelled}
+use Rattle.aia_model.specs.Grammar.{Field, Kind, SpellsField, SpellFields, HasSpelling, IsNamed, csr_names, csr_name, named, fields}
+use Rattle.aia_model.specs.Grammar.Field.{Keyword, Of}
+use Rattle.aia_model.specs.Grammar.Kind.{Name}
+use Rattle.aia_model.specs.Forms.{Spells, IsListed, fields_of, instruction, access_values}
 use Rattle.aia_model.specs.Reading.{reading, parsed_of, Words, line_at}
 use Rattle.aia_model.proofs.Readers.{chosen}
-use Rattle.aia_model.proofs.Forms.{spelled_read, read_spelled}
+use Rattle.aia_model.proofs.Forms.{◌and_row◌, row_found, spelled_read, read_spelled}
 
 -- ---- a line begins with a keyword
 
@@ -32,22 +35,24 @@ begin_with_keyword (Keyword (b ∷ word) ∷ fields) = not (nat_eq b 35)
 begin_with_keyword fields = false
 
 pub keyword_first : (line : Line) → begin_with_keyword (fields_of line) ≡ true
-keyword_first (Pins hart) = refl
+keyword_first (Move vm number (Arrive hart)) = refl
+keyword_first (Move vm number Leave) = refl
+keyword_first (Move vm number (Shift hart)) = refl
 keyword_first line = refl
 
 -- a text begins as the keyword that it spells
-begins : (b : ℕ) (bytes : List ℕ) (x : ℕ) (k : List ℕ) (fs : List Field) → AllFit (words_of (b ∷ bytes)) (Keyword (x ∷ k) ∷ fs) → b ≡ x
+begins : (b : ℕ) (bytes : List ℕ) (x : ℕ) (k : List ℕ) (fs : List Field) → SpellFields (words_of (b ∷ bytes)) (Keyword (x ∷ k) ∷ fs) → b ≡ x
 begins b bytes x k fs fits = elim (cases_Bool (nat_eq b 32)) [
-  | inl e ↦ let bad : [] ≡ x ∷ k = (subst (λ (ws : Words). AllFit ws (Keyword (x ∷ k) ∷ fs)) (slice_split-cons_yes (λ b. nat_eq b 32) b bytes e) fits).0 in absurd (cc)
-  | inr e ↦ in_front b x k fs (words_of bytes) (subst (λ (ws : Words). AllFit ws (Keyword (x ∷ k) ∷ fs)) (slice_split-cons_no (λ b. nat_eq b 32) b bytes e) fits)
+  | inl e ↦ let bad : [] ≡ x ∷ k = (subst (λ (ws : Words). SpellFields ws (Keyword (x ∷ k) ∷ fs)) (slice_split-cons_yes (λ b. nat_eq b 32) b bytes e) fits).0 in absurd (cc)
+  | inr e ↦ in_front b x k fs (words_of bytes) (subst (λ (ws : Words). SpellFields ws (Keyword (x ∷ k) ∷ fs)) (slice_split-cons_no (λ b. nat_eq b 32) b bytes e) fits)
 ]
   where
-    in_front : (b x : ℕ) (k : List ℕ) (fs : List Field) (ws : Words) → AllFit (onto_first b ws) (Keyword (x ∷ k) ∷ fs) → b ≡ x
+    in_front : (b x : ℕ) (k : List ℕ) (fs : List Field) (ws : Words) → SpellFields (onto_first b ws) (Keyword (x ∷ k) ∷ fs) → b ≡ x
     in_front b x k fs [] fits = let e : (b ∷ []) ≡ (x ∷ k) = fits.0 in cc
     in_front b x k fs (w ∷ ws) fits = let e : (b ∷ w) ≡ (x ∷ k) = fits.0 in cc
 
 -- and so a text that begins with a keyword is not skipped
-not_skipped : (text : List ℕ) (fields : List Field) → begin_with_keyword fields ≡ true → AllFit (words_of text) fields → is_skipped text ≡ false
+not_skipped : (text : List ℕ) (fields : List Field) → begin_with_keyword fields ≡ true → SpellFields (words_of text) fields → is_skipped text ≡ false
 not_skipped [] (Keyword (x ∷ k) ∷ fs) first fits = let bad : [] ≡ x ∷ k = fits.0 in absurd (cc)
 not_skipped (b ∷ bytes) (Keyword (x ∷ k) ∷ fs) first fits =
     ap (λ t. nat_le (length (b ∷ bytes)) LINE_BYTES && t) (ap (λ y. nat_eq y 35) (begins b bytes x k fs fits) ∙ is_false (nat_eq x 35) first) ∙ and-false (nat_le (length (b ∷ bytes)) LINE_BYTES)
@@ -129,15 +134,24 @@ reading_bad text not_skipped none = of_parsed text (reading text) refl not_skipp
 pub spells_one : (text : List ℕ) (x y : Line) → Spells text x → Spells text y → x ≡ y
 spells_one text x y s t = let e : reading text ≡ parsed.Line x = reading_only text x s in let f : reading text ≡ parsed.Line y = reading_only text y t in cc
 
+-- a CSR that a word names has a name
+name_spelled : (level : Level) (w : List ℕ) (csr : Csr) → named level w ≡ Some csr → IsNamed (csr_name level csr)
+name_spelled level w csr e = row_found (λ word csr. IsNamed (csr_name level csr)) (csr_names level) (all_names level) w csr e
+  where
+    all_names : (level : Level) → AllByRecursion (λ row. IsNamed (csr_name level row.1)) (csr_names level)
+    all_names levels.Machine = tt and_row tt and_row tt and_row tt
+    all_names levels.Host = tt and_row tt and_row tt and_row tt
+    all_names levels.Guest = tt and_row tt and_row tt and_row tt and_row tt and_row tt and_row tt
+
 -- fields that words spell are named
-all_named : (ws : Words) (fields : List Field) → AllFit ws fields → AllByRecursion HasSpelling fields
+all_named : (ws : Words) (fields : List Field) → SpellFields ws fields → AllByRecursion HasSpelling fields
 all_named [] [] fits = tt
 all_named [] (field ∷ fields) fits = absurd fits
 all_named (w ∷ ws) [] fits = absurd fits
 all_named (w ∷ ws) (field ∷ fields) fits = (named w field fits.0, all_named ws fields fits.1)
   where
-    named : (w : List ℕ) (f : Field) → Fits w f → HasSpelling f
-    named w Unspelled fits = absurd fits
+    named : (w : List ℕ) (f : Field) → SpellsField w f → HasSpelling f
+    named w (Of (Name level) csr) fits = name_spelled level w csr fits
     named w f fits = tt
 
 -- the fields of a line that a text spells are named
@@ -146,14 +160,14 @@ spelled_listed text line s = all_named (words_of text) (fields_of line) s.1
 
 -- ---- the CSR of a listed line
 
-csr_named : (csr : Field) (op : Op) → AllByRecursion HasSpelling (instruction csr op) → HasSpelling csr
-csr_named csr ops.Read all = all.1.0
-csr_named csr (ops.Write v) all = all.1.0
-csr_named csr (ops.Set v) all = all.1.0
-csr_named csr (ops.Clear v) all = all.1.0
+csr_named : (level : Level) (csr : Csr) (op : Op) → AllByRecursion HasSpelling (fields (instruction level) (access_values level csr op)) → IsNamed (csr_name level csr)
+csr_named level csr ops.Read all = all.1.0
+csr_named level csr (ops.Write v) all = all.1.0
+csr_named level csr (ops.Set v) all = all.1.0
+csr_named level csr (ops.Clear v) all = all.1.0
 
 -- a CSR that a level names is in the access table
-in_table : (level : Level) (csr : Csr) → HasSpelling (csr_field level csr) → IsInTable level csr
+in_table : (level : Level) (csr : Csr) → IsNamed (csr_name level csr) → IsInTable level csr
 in_table levels.Guest csr named = tt
 in_table level Select named = tt
 in_table level Reg named = tt
@@ -162,10 +176,10 @@ in_table levels.Machine csr named = absurd named
 in_table levels.Host csr named = absurd named
 
 pub machine_csr_in_table : (hart : ℕ) (csr : Csr) (op : Op) → IsListed (MachineCsr hart csr op) → IsInTable levels.Machine csr
-machine_csr_in_table hart csr op all = in_table levels.Machine csr (csr_named (csr_field levels.Machine csr) op all.1.1)
+machine_csr_in_table hart csr op all = in_table levels.Machine csr (csr_named levels.Machine csr op all.1.1)
 
 pub host_csr_in_table : (hart : ℕ) (csr : Csr) (op : Op) → IsListed (HostCsr hart csr op) → IsInTable levels.Host csr
-host_csr_in_table hart csr op all = in_table levels.Host csr (csr_named (csr_field levels.Host csr) op all.1.1)
+host_csr_in_table hart csr op all = in_table levels.Host csr (csr_named levels.Host csr op all.1.1)
 
 pub guest_csr_in_table : (vm number : ℕ) (csr : Csr) (op : Op) → IsListed (GuestCsr vm number csr op) → IsInTable levels.Guest csr
 guest_csr_in_table vm number csr op all = tt

@@ -20,7 +20,7 @@ use Rattle.aia_regs.specs.declared.address_map.TheConstants.{PAGE}
 -- ---- which files there are
 
 -- An interrupt file of a machine, by what it serves: a hart at machine level or at supervisor
--- level (among the places of files, `Spot`, the latter is the host's file).
+-- level.
 pub data FileName : Type 0 where
   MachineFile : (hart : ℕ) → FileName
   SupervisorFile : (hart : ℕ) → FileName

@@ -8,19 +8,19 @@ use Rattle.aia_home.specs.Phases.{Phase, begins}
 use Rattle.aia_home.specs.Phases.Phase.{FirstPhase, ClosingPhase, DrainPhase, EnablePhase, LookPhase, LastPhase}
 use Rattle.aia_home.specs.BySteps.{own_file, next_file}
 use Rattle.aia_home.specs.Aims.{aims_done, is_aiming, aimed}
-use Rattle.aia_fabric.specs.World.{World}
+use Rattle.aia_world.specs.World.{World}
 use Rattle.aia_move.specs.declared.plan.Plan.{Plan}
 use Rattle.aia_move.specs.declared.plan.Plan.TheVariants.{LeaveFirst, LeaveClosing, LeaveAim, LeaveDrain, LeaveEnable, LeaveLook, LeaveLast, ArriveFirst, ArriveClosing, ArriveAim, ArriveDrain, ArriveEnable, ArriveLast, ShiftFirst, ShiftClosing, ShiftAim, ShiftDrain, ShiftEnable, ShiftLast}
-use Rattle.aia_move.specs.declared.turn.Turn.{Turn}
-use Rattle.aia_move.specs.declared.turn.Turn.TheVariants.{Stay, On}
-use Rattle.aia_move.specs.declared.turn.Closed.{Closed}
-use Rattle.aia_move.specs.declared.turn.Closed.TheVariants as closed
-use Rattle.aia_move.specs.Move.{Moving, width, Fits}
-use Rattle.aia_move.specs.Targets.{aims, has_unaimed, one_aimed}
-use Rattle.aia_move.specs.Load.{Load, progress_of, moving, one_aim_done}
-use Rattle.aia_move.specs.Turns.{IsIn, IsAtAims, IsInDrain, IsMove, GoesOn, AimsOn, MatchTurn, MatchClosed}
+use Rattle.aia_moving.specs.declared.turn.Turn.{Turn}
+use Rattle.aia_moving.specs.declared.turn.Turn.TheVariants.{Stay, On}
+use Rattle.aia_moving.specs.declared.turn.Closed.{Closed}
+use Rattle.aia_moving.specs.declared.turn.Closed.TheVariants as closed
+use Rattle.aia_moving.specs.Move.{Moving, width, MoveFits}
+use Rattle.aia_moving.specs.Targets.{aims, has_unaimed, one_aimed}
+use Rattle.aia_moving.specs.Carrier.{CarrierState, progress_of, moving, one_aim_done}
+use Rattle.aia_moving.specs.Turns.{IsIn, IsAtAims, IsInDrain, IsMove, GoesOn, AimsOn, MatchTurn, MatchClosed}
 use Rattle.aia_move.specs.Plan.{moving_of, is_in_aim, IsInPhase}
-use Rattle.aia_move.proofs.PhaseSteps.{middle, begins_on}
+use Rattle.aia_moving.proofs.PhaseSteps.{middle, begins_on}
 
 -- ---- when a step aims
 
@@ -114,7 +114,7 @@ aimed_carried words (Leaving from at) access = refl
 aimed_carried words (Arriving to at) access = refl
 aimed_carried words (Shifting from to at) access = refl
 
-pub aim_fits : (w : World) (m : Moving) → Fits w m → Fits w (one_aimed m)
+pub aim_fits : (w : World) (m : Moving) → MoveFits w m → MoveFits w (one_aimed m)
 aim_fits w m fits = record {
   there = fits.there;
   slot = fits.slot;
@@ -125,10 +125,10 @@ aim_fits w m fits = record {
   no_enabled_zero = λ e. fits.no_enabled_zero (sym (aimed_carried (width w) m.home _) ∙ e);
 }
 
-pub move_aims : (there : Progress → Home) → IsMove there → (w : World) (l now : Load) (s : Moving) → moving there l ≡ s → Fits w s → now ≡ one_aim_done l → AimsOn w s (moving there now)
+pub move_aims : (there : Progress → Home) → IsMove there → (w : World) (l now : CarrierState) (s : Moving) → moving there l ≡ s → MoveFits w s → now ≡ one_aim_done l → AimsOn w s (moving there now)
 move_aims there is w l now s seen fits done =
     let moved : moving there now ≡ one_aimed s = ap (λ x. moving there x) done ∙ (λ k. record (moving there l) { home = is.aimed (progress_of l) k }) ∙ ap one_aimed seen in
-    record { moved = moved; fits = subst (λ x. Fits w x) (sym moved) (aim_fits w s fits) }
+    record { moved = moved; fits = subst (λ x. MoveFits w x) (sym moved) (aim_fits w s fits) }
 
 -- ---- from the fence of the G-stage record on
 

@@ -9,7 +9,7 @@ use Rattle.aia_regs.specs.Request.{requested}
 use Rattle.aia_file.specs.InterruptFile.{InterruptFile, landed}
 use Rattle.aia_file.specs.FileState.{shown}
 use Rattle.aia_imsic.specs.declared.spot.Spot.{Spot}
-use Rattle.aia_imsic.specs.declared.spot.Spot.TheVariants.{HostFile}
+use Rattle.aia_imsic.specs.declared.spot.Spot.TheVariants.{SupervisorFile}
 use Rattle.aia_imsic.specs.Imsic.{ImsicState, IsThere, file_at}
 use Rattle.aia_imsic.proofs.PlaceLemmas.{kept_elsewhere}
 use Rattle.aia_mrif.specs.declared.slot.Stored.{Stored}
@@ -25,28 +25,28 @@ use Rattle.aia_home.specs.Home.Home.{Parked, Entered, Resident, Leaving, Arrivin
 use Rattle.aia_home.specs.BySteps.{own_file, next_file}
 use Rattle.aia_home.specs.Routes.{peers_reach, MayReach, MayLand}
 use Rattle.aia_home.proofs.RouteLemmas.{reach_lands, peers_may}
-use Rattle.aia_places.specs.View.{View, leads_to}
+use Rattle.aia_places.specs.Places.{Places, leads_to}
 use Rattle.aia_places.specs.Holds.{Holds, IsWithin}
-use Rattle.aia_places.specs.Stores.{view_landed, AreApart}
+use Rattle.aia_places.specs.Stores.{places_landed, AreApart}
 use Rattle.aia_places.proofs.StoreLemmas.{lands}
-use Rattle.aia_fabric.specs.World.{World, stage_of}
-use Rattle.aia_fabric.specs.Whole.{IsWhole}
-use Rattle.aia_fabric.specs.Stores.{StoresIn, StoresAt, NoticedBy, StoresInSlot, Reaches, ReachesBy, Relays, with_store, page_spot, named_spot}
-use Rattle.aia_fabric.specs.Changes.{spot_of, file_in, view}
-use Rattle.aia_fabric.specs.Own.{TouchesOwn}
+use Rattle.aia_world.specs.World.{World, stage_of}
+use Rattle.aia_world.specs.Whole.{IsWhole}
+use Rattle.aia_world.specs.Stores.{StoresIn, StoresAt, NoticedBy, StoresInSlot, Reaches, ReachesBy, Relays, with_store, page_spot, named_spot}
+use Rattle.aia_world.specs.Changes.{spot_of, file_in, places_of}
+use Rattle.aia_world.specs.Own.{TouchesOwn}
 use Rattle.aia_home.proofs.HomeLemmas.{same_place, landing_is_held}
-use Rattle.aia_fabric.proofs.OwnLemmas.{by_entry, guest_spot, touches_file, touches_slot, others_stay}
-use Rattle.aia_fabric.proofs.PlaceLemmas.{slot_found, host_page}
-use Rattle.aia_fabric.proofs.StoreViews.{file_store-view, slot_store-view}
-use Rattle.aia_fabric.proofs.ViewLemmas.{posts-view, slot_low}
-use Rattle.aia_fabric.proofs.WholeLemmas.{notice_hart_there}
+use Rattle.aia_world.proofs.OwnLemmas.{by_entry, guest_spot, touches_file, touches_slot, others_stay}
+use Rattle.aia_world.proofs.PlaceLemmas.{slot_found, host_page}
+use Rattle.aia_world.proofs.StoreViews.{file_store-places, slot_store-places}
+use Rattle.aia_world.proofs.ViewLemmas.{posts-places, slot_low}
+use Rattle.aia_world.proofs.WholeLemmas.{notice_hart_there}
 use Rattle.aia_move.specs.declared.plan.Plan.{Plan}
-use Rattle.aia_move.specs.Move.{Moving, mover, width, Fits}
+use Rattle.aia_moving.specs.Move.{Moving, mover, width, MoveFits}
 use Rattle.aia_move.specs.Plan.{moving_of}
-use Rattle.aia_move.specs.Touches.{SameMachine}
+use Rattle.aia_moving.specs.Touches.{SameMachine}
 use Rattle.aia_move.specs.Knows.{Knows}
 use Rattle.aia_move.proofs.MachineLemmas.{fits_still, phase_still}
-use Rattle.aia_move.proofs.MadeView.{few_words}
+use Rattle.aia_moving.proofs.MadeView.{few_words}
 use Rattle.aia_move.proofs.MoveKept.{file_in-size}
 use Rattle.aia_regs.specs.declared.address_map.TheConstants.{PAGE}
 
@@ -64,13 +64,13 @@ module _ (w u : World) (plan : Plan) (reach : Option Place) (saw : Bool) (same :
   abbrev m : Moving
   m = moving_of plan
 
-  knows_by : (file after : InterruptFile) → Knows w plan reach file saw → (v : View) → view u (mover m) m.home ≡ v
-      → Holds (width w) m.who.slot m.who.notice reach v m.home m.hand after saw → Knows u plan reach after saw
+  knows_by : (file after : InterruptFile) → Knows w plan reach file saw → (v : Places) → places_of u (mover m) m.home ≡ v
+      → Holds (width w) m.who.found.slot m.who.found.notice reach v m.home m.hand after saw → Knows u plan reach after saw
   knows_by file after knows v seen held = record {
     fits = fits_still w u m same knows.fits;
     phase = phase_still w u plan same knows.phase;
-    holds = subst (λ n. Holds ((n + 1) / 64) m.who.slot m.who.notice reach (view u (mover m) m.home) m.home m.hand after saw) (sym same.n)
-        (subst (λ (z : View). Holds (width w) m.who.slot m.who.notice reach z m.home m.hand after saw) (sym seen) held);
+    holds = subst (λ n. Holds ((n + 1) / 64) m.who.found.slot m.who.found.notice reach (places_of u (mover m) m.home) m.home m.hand after saw) (sym same.n)
+        (subst (λ (z : Places). Holds (width w) m.who.found.slot m.who.found.notice reach z m.home m.hand after saw) (sym seen) held);
   }
 
 -- ---- a store for the virtual hart that is moved
@@ -78,9 +78,9 @@ module _ (w u : World) (plan : Plan) (reach : Option Place) (saw : Bool) (same :
 -- where it lands: in a guest file, or in the slot
 abbrev Lands : World → World → Vcpu → Option Place → ℕ → ℕ → Type 0
 Lands w u g (Some p) offset value = StoresIn w u (spot_of p) offset value
-Lands w u g None offset value = StoresInSlot w u (Some (slot_of w.vms g)) (HostFile (notice_hart w.vms g)) (notice_identity w.vms g) offset value
+Lands w u g None offset value = StoresInSlot w u (Some (slot_of w.vms g)) (SupervisorFile (notice_hart w.vms g)) (notice_identity w.vms g) offset value
 
-held_there : (w : World) (m : Moving) → Fits w m → (p : Place) → holds p m.home ≡ true → IsThere w.imsic (spot_of p)
+held_there : (w : World) (m : Moving) → MoveFits w m → (p : Place) → holds p m.home ≡ true → IsThere w.imsic (spot_of p)
 held_there w m fits p held = by_home m.home fits.own fits.next held
   where
     at : (q : Place) → is_place p q ≡ true → IsThere w.imsic (spot_of q) → IsThere w.imsic (spot_of p)
@@ -102,32 +102,32 @@ module _ (w u : World) (plan : Plan) (reach : Option Place) (file : InterruptFil
   mv = moving_of plan
 
   -- it shows in its places
-  by_outcome : (became : Stored) → NoticedBy became (with_store w (slot_of w.vms (mover mv)) offset value) u (HostFile (notice_hart w.vms (mover mv))) (notice_identity w.vms (mover mv))
-      → view u (mover mv) mv.home ≡ view (with_store w (slot_of w.vms (mover mv)) offset value) (mover mv) mv.home
-  by_outcome Notice posts = posts-view (with_store w (slot_of w.vms (mover mv)) offset value) u (mover mv) mv.home (notice_hart w.vms (mover mv)) (notice_identity w.vms (mover mv))
+  by_outcome : (became : Stored) → NoticedBy became (with_store w (slot_of w.vms (mover mv)) offset value) u (SupervisorFile (notice_hart w.vms (mover mv))) (notice_identity w.vms (mover mv))
+      → places_of u (mover mv) mv.home ≡ places_of (with_store w (slot_of w.vms (mover mv)) offset value) (mover mv) mv.home
+  by_outcome Notice posts = posts-places (with_store w (slot_of w.vms (mover mv)) offset value) u (mover mv) mv.home (notice_hart w.vms (mover mv)) (notice_identity w.vms (mover mv))
       (notice_hart_there w (mover mv) whole knows.fits.there) knows.fits.own knows.fits.next posts
-  by_outcome Quiet same = ap (λ (x : World). view x (mover mv) mv.home) same
-  by_outcome Discarded same = ap (λ (x : World). view x (mover mv) mv.home) same
+  by_outcome Quiet same = ap (λ (x : World). places_of x (mover mv) mv.home) same
+  by_outcome Discarded same = ap (λ (x : World). places_of x (mover mv) mv.home) same
 
   shows : (place : Option Place) → MayLand (width w) mv.home place → Lands w u (mover mv) place offset value
-      → (view u (mover mv) mv.home ≡ view_landed place mv.home offset value (view w (mover mv) mv.home)) × SameMachine w u
+      → (places_of u (mover mv) mv.home ≡ places_landed place mv.home offset value (places_of w (mover mv) mv.home)) × SameMachine w u
   shows (Some p) may stores =
       let held = landing_is_held (width w) mv.home (Some p) p may refl in
       let here = held_there w mv knows.fits p held in (
-        file_store-view w u (mover mv) p offset value whole here stores mv.home held apart knows.fits.own knows.fits.next,
+        file_store-places w u (mover mv) p offset value whole here stores mv.home held apart knows.fits.own knows.fits.next,
         own_machine w u (mover mv) (Some p) (touches_file w u (mover mv) p offset value whole knows.fits.there here stores),
       )
   shows None may stores = (
     by_outcome (stored (mrif_in w.memory (slot_of w.vms (mover mv))) (requested IDENTITIES offset value)) stores
-        ∙ slot_store-view w (mover mv) mv.home (slot_of w.vms (mover mv)) offset value whole (slot_low w (mover mv) whole knows.fits.there) refl,
+        ∙ slot_store-places w (mover mv) mv.home (slot_of w.vms (mover mv)) offset value whole (slot_low w (mover mv) whole knows.fits.there) refl,
     own_machine w u (mover mv) None (touches_slot w u (mover mv) offset value whole knows.fits.there stores),
   )
 
   lands_knows : (place : Option Place) → MayLand (width w) mv.home place → Lands w u (mover mv) place offset value → Knows u plan reach (landed offset value file) saw
   lands_knows place may stores =
       let both = shows place may stores in
-      knows_by w u plan reach saw both.1 file (landed offset value file) knows (view_landed place mv.home offset value (view w (mover mv) mv.home)) both.0
-      (lands w.n (width w) mv.who.slot mv.who.notice offset value reach (view w (mover mv) mv.home) mv.hand file saw within (few_words w.n whole.greatest) mv.home
+      knows_by w u plan reach saw both.1 file (landed offset value file) knows (places_landed place mv.home offset value (places_of w (mover mv) mv.home)) both.0
+      (lands w.n (width w) mv.who.found.slot mv.who.found.notice offset value reach (places_of w (mover mv) mv.home) mv.hand file saw within (few_words w.n whole.greatest) mv.home
       (file_in-size w (own_file mv.home) whole knows.fits.own) (file_in-size w (next_file mv.home) whole knows.fits.next) apart place may knows.holds)
 
   -- a device's, where its entry in force leads
@@ -139,25 +139,25 @@ module _ (w u : World) (plan : Plan) (reach : Option Place) (file : InterruptFil
       subst (λ (s : Spot). StoresInSlot w u (Some (slot_of w.vms (mover mv))) s (slot_of w.vms (mover mv) + 1) offset value) (host_page w.imsic (notice_hart w.vms (mover mv)) hart whole.harts)
       (subst (λ (o : Option ℕ). StoresInSlot w u o (page_spot w.imsic (supervisor_page (notice_hart w.vms (mover mv)) / PAGE)) (slot_of w.vms (mover mv) + 1) offset value) (slot_found (slot_of w.vms (mover mv)) (slot_low w (mover mv) whole knows.fits.there)) reaches)
 
-  entry_is : entry_in_force (table_of w.tables mv.who.vm) mv.who.vcpu ≡ leads_to (slot_of w.vms (mover mv)) (notice_hart w.vms (mover mv)) reach
-  entry_is = knows.holds.routes.in_force ∙ ap (λ q. leads_to q mv.who.notice reach) knows.fits.slot ∙ ap (λ hart. leads_to (slot_of w.vms (mover mv)) hart reach) knows.fits.notice
+  entry_is : entry_in_force (table_of w.tables mv.who.found.vm) mv.who.found.number ≡ leads_to (slot_of w.vms (mover mv)) (notice_hart w.vms (mover mv)) reach
+  entry_is = knows.holds.routes.in_force ∙ ap (λ q. leads_to q mv.who.found.notice reach) knows.fits.slot ∙ ap (λ hart. leads_to (slot_of w.vms (mover mv)) hart reach) knows.fits.notice
 
-  pub device_knows : (addr : ℕ) → is_msi_address (table_of w.tables mv.who.vm).mask addr ≡ true → file_number (table_of w.tables mv.who.vm).mask addr ≡ mv.who.vcpu
-      → Reaches (route_of (table_of w.tables mv.who.vm) addr) w u offset value → Knows u plan reach (landed offset value file) saw
+  pub device_knows : (addr : ℕ) → is_msi_address (table_of w.tables mv.who.found.vm).mask addr ≡ true → file_number (table_of w.tables mv.who.found.vm).mask addr ≡ mv.who.found.number
+      → Reaches (route_of (table_of w.tables mv.who.found.vm) addr) w u offset value → Knows u plan reach (landed offset value file) saw
   device_knows addr is names reaches =
       let may = reach_lands (width w) mv.home reach knows.holds.routes.may in
-      let route : route_of (table_of w.tables mv.who.vm) addr ≡ leads_by (leads_to (slot_of w.vms (mover mv)) (notice_hart w.vms (mover mv)) reach) =
-      cond-true _ _ _ is ∙ ap (λ k. leads_by (entry_in_force (table_of w.tables mv.who.vm) k)) names ∙ ap leads_by entry_is in
+      let route : route_of (table_of w.tables mv.who.found.vm) addr ≡ leads_by (leads_to (slot_of w.vms (mover mv)) (notice_hart w.vms (mover mv)) reach) =
+      cond-true _ _ _ is ∙ ap (λ k. leads_by (entry_in_force (table_of w.tables mv.who.found.vm) k)) names ∙ ap leads_by entry_is in
       lands_knows reach may (entry_lands reach may (subst (λ (r : Route). Reaches r w u offset value) route reaches))
 
 -- one that was in flight, where the entry led as it was sent
 pub flight_knows : (w u : World) (plan : Plan) (reach place : Option Place) (file : InterruptFile) (saw : Bool) (offset value : ℕ) → IsWhole w → AreApart (moving_of plan).home → IsWithin w.n (width w) file → Knows w plan reach file saw
-    → MayReach (moving_of plan).home place → ReachesBy (leads_to (moving_of plan).who.slot (moving_of plan).who.notice place) w u offset value → Knows u plan reach (landed offset value file) saw
+    → MayReach (moving_of plan).home place → ReachesBy (leads_to (moving_of plan).who.found.slot (moving_of plan).who.found.notice place) w u offset value → Knows u plan reach (landed offset value file) saw
 flight_knows w u plan reach place file saw offset value whole apart within knows may reaches =
     let m = moving_of plan in
     let land = reach_lands (width w) m.home place may in
     let own : ReachesBy (leads_to (slot_of w.vms (mover m)) (notice_hart w.vms (mover m)) place) w u offset value =
-    subst (λ q. ReachesBy (leads_to q (notice_hart w.vms (mover m)) place) w u offset value) knows.fits.slot (subst (λ hart. ReachesBy (leads_to m.who.slot hart place) w u offset value) knows.fits.notice reaches) in
+    subst (λ q. ReachesBy (leads_to q (notice_hart w.vms (mover m)) place) w u offset value) knows.fits.slot (subst (λ hart. ReachesBy (leads_to m.who.found.slot hart place) w u offset value) knows.fits.notice reaches) in
     lands_knows w u plan reach file saw offset value whole apart within knows place land
     (entry_lands w u plan reach file saw offset value whole apart within knows place land (by_entry place (slot_of w.vms (mover m)) (notice_hart w.vms (mover m)) w u offset value own))
 
@@ -183,13 +183,13 @@ pub others_know : (w u : World) (plan : Plan) (reach : Option Place) (file : Int
     → is_vcpu_in w.vms g ≡ true → g ≢ mover (moving_of plan) → TouchesOwn w u g place → ((p : Place) → holds p (moving_of plan).home ≡ true → place ≢ Some p) → Knows u plan reach file saw
 others_know w u plan reach file saw g place knows there other t elsewhere =
     let m = moving_of plan in
-    knows_by w u plan reach saw (own_machine w u g place t) file file knows (view w (mover m) m.home)
+    knows_by w u plan reach saw (own_machine w u g place t) file file knows (places_of w (mover m) m.home)
     (others_stay w u g (mover m) place m.home there knows.fits.there (λ e. other (sym e)) t (λ p held. (held_there w m knows.fits p held, elsewhere p held))) knows.holds
 
 pub host_knows : (w u : World) (plan : Plan) (reach : Option Place) (file : InterruptFile) (saw : Bool) (spot : Spot) (offset value : ℕ) → Knows w plan reach file saw
     → IsThere w.imsic spot → ((p : Place) → spot ≢ spot_of p) → StoresIn w u spot offset value → Knows u plan reach file saw
 host_knows w u plan reach file saw spot offset value knows here no_guest s =
-    knows_by w u plan reach saw machine file file knows (view w (mover (moving_of plan)) (moving_of plan).home) seen knows.holds
+    knows_by w u plan reach saw machine file file knows (places_of w (mover (moving_of plan)) (moving_of plan).home) seen knows.holds
   where
     machine : SameMachine w u
     machine = record {
@@ -203,9 +203,9 @@ host_knows w u plan reach file saw spot offset value knows here no_guest s =
     kept None inside = ap (λ (x : World). file_in x None) s.rest
     kept (Some p) inside = ap (λ (i : ImsicState). file_in (record w { imsic = i }) (Some p)) s.lands.others ∙ ap shown (kept_elsewhere w.imsic spot (spot_of p) (file_at u.imsic spot) here (inside p refl) (λ e. no_guest p (sym e)))
 
-    seen : view u (mover (moving_of plan)) (moving_of plan).home ≡ view w (mover (moving_of plan)) (moving_of plan).home
+    seen : places_of u (mover (moving_of plan)) (moving_of plan).home ≡ places_of w (mover (moving_of plan)) (moving_of plan).home
     seen =
         let own = kept (own_file (moving_of plan).home) knows.fits.own in
         let next = kept (next_file (moving_of plan).home) knows.fits.next in
-        (λ k. record (view (s.rest k) (mover (moving_of plan)) (moving_of plan).home) { own = file_in u (own_file (moving_of plan).home); next = file_in u (next_file (moving_of plan).home) })
-        ∙ (λ k. record (view w (mover (moving_of plan)) (moving_of plan).home) { own = own k; next = next k })
+        (λ k. record (places_of (s.rest k) (mover (moving_of plan)) (moving_of plan).home) { own = file_in u (own_file (moving_of plan).home); next = file_in u (next_file (moving_of plan).home) })
+        ∙ (λ k. record (places_of w (mover (moving_of plan)) (moving_of plan).home) { own = own k; next = next k })

@@ -3,10 +3,10 @@ use Rattle.std.specs.Prelude.{Bool, Option}
 use Rattle.aia_file.specs.InterruptFile.{InterruptFile}
 use Rattle.aia_home.specs.declared.place.Place.{Place}
 use Rattle.aia_places.specs.Holds.{Holds}
-use Rattle.aia_fabric.specs.World.{World}
-use Rattle.aia_fabric.specs.Changes.{view}
+use Rattle.aia_world.specs.World.{World}
+use Rattle.aia_world.specs.Changes.{places_of}
 use Rattle.aia_move.specs.declared.plan.Plan.{Plan}
-use Rattle.aia_move.specs.Move.{mover, width, Fits}
+use Rattle.aia_moving.specs.Move.{mover, width, MoveFits}
 use Rattle.aia_move.specs.Plan.{moving_of, IsInPhase}
 
 -- Its next step can be made, and is a step of its phase; and the places of the virtual hart that is
@@ -14,8 +14,9 @@ use Rattle.aia_move.specs.Plan.{moving_of, IsInPhase}
 -- under way saw something.
 pub record Knows (w : World) (plan : Plan) (reach : Option Place) (file : InterruptFile)
     (saw : Bool) : Type 0 where
-  pub fits : Fits w (moving_of plan)
+  pub fits : MoveFits w (moving_of plan)
   pub phase : IsInPhase (width w) plan
-  pub holds : Holds (width w) (moving_of plan).who.slot (moving_of plan).who.notice reach
-      (view w (mover (moving_of plan)) (moving_of plan).home) (moving_of plan).home
+  pub holds : Holds (width w) (moving_of plan).who.found.slot (moving_of plan).who.found.notice
+      reach
+      (places_of w (mover (moving_of plan)) (moving_of plan).home) (moving_of plan).home
       (moving_of plan).hand file saw

@@ -1,8 +1,2 @@
-pub mod Move
-pub mod Targets
-pub mod Load
-pub mod Turns
-pub mod Touches
-pub mod Landings
 pub mod Plan
 pub mod Knows

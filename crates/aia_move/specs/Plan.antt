@@ -5,12 +5,12 @@ use Rattle.aia_move.specs.declared.plan.Plan.{Plan}
 use Rattle.aia_move.specs.declared.plan.Plan.TheVariants.{LeaveFirst, LeaveClosing, LeaveAim, LeaveDrain, LeaveEnable, LeaveLook, LeaveLast, ArriveFirst, ArriveClosing, ArriveAim, ArriveDrain, ArriveEnable, ArriveLast, ShiftFirst, ShiftClosing, ShiftAim, ShiftDrain, ShiftEnable, ShiftLast}
 use Rattle.aia_move.specs.declared.plan.Next.{Next}
 use Rattle.aia_move.specs.declared.plan.Next.TheVariants.{Again, Finished}
-use Rattle.aia_move.specs.declared.turn.Outcome.{Outcome}
-use Rattle.aia_fabric.specs.World.{World}
-use Rattle.aia_move.specs.Move.{Moving, Goes}
-use Rattle.aia_move.specs.Targets.{Aim, one_aimed}
-use Rattle.aia_move.specs.Landings.{OnceLanded}
-use Rattle.aia_move.specs.Turns.{IsIn, IsAtAims, IsInDrain, EndsAs}
+use Rattle.aia_moving.specs.declared.turn.Outcome.{Outcome}
+use Rattle.aia_world.specs.World.{World}
+use Rattle.aia_moving.specs.Move.{Moving, Goes}
+use Rattle.aia_moving.specs.Targets.{Aim, one_aimed}
+use Rattle.aia_moving.specs.Landings.{OnceLanded}
+use Rattle.aia_moving.specs.Turns.{IsIn, IsAtAims, IsInDrain, EndsAs}
 
 -- The move.
 abbrev pub moving_of : Plan → Moving

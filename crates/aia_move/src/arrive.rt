@@ -4,15 +4,15 @@ ghost use Rattle.aia_home.specs.Home.Home.{Arriving};
 ghost use Rattle.aia_home.specs.Plans.{arrive_step, steps_done};
 ghost use Rattle.aia_home.specs.Plans.Access.{PutThreshold, PutDelivery};
 ghost use Rattle.aia_home.specs.Phases.Phase.{FirstPhase, ClosingPhase, LastPhase};
-ghost use Rattle.aia_move.specs.Move.{Fits, Ends, new_spot, width};
-ghost use Rattle.aia_move.specs.Landings.{OnceLanded};
-ghost use Rattle.aia_move.specs.Turns.{IsIn, GoesOn, EndsAs, GivesBack, MatchTurn};
+ghost use Rattle.aia_moving.specs.Move.{MoveFits, Ends, new_spot, width};
+ghost use Rattle.aia_moving.specs.Landings.{OnceLanded};
+ghost use Rattle.aia_moving.specs.Turns.{IsIn, GoesOn, EndsAs, GivesBack, MatchTurn};
 
 use crate::carrier::Carrier;
 use crate::kind::{ToFile, spot};
 use crate::moves::Move;
 use crate::phase::{Closing, First, Last};
-use crate::{Kept, Outcome, Turn, Who};
+use crate::{KeptNumbers, Outcome, Turn, Who};
 use aia_fabric::Fabric;
 use aia_imsic::Spot;
 use aia_pool::FileLease;
@@ -24,7 +24,7 @@ pub type Arrive<P> = Move<ToFile, P>;
 
 impl Arrive<First> {
     /// Begins: no step is done.
-    pub(crate) fn new(file: FileLease, who: Who, kept: Kept) -> Arrive<First>
+    pub(crate) fn new(file: FileLease, who: Who, kept: KeptNumbers) -> Arrive<First>
         ensures { result ≡ record {
           who = who;
           home = Arriving file at_first;
@@ -48,7 +48,7 @@ impl Arrive<First> {
     /// the entry is in force before the first word is taken from the slot, so that no store of a
     /// device comes after its word.
     pub fn step(mut self, fabric: &mut Fabric) -> Turn<Self, Arrive<Closing>>
-        requires fits { Fits fabric.old self }
+        requires fits { MoveFits fabric.old self }
         requires phase { IsIn FirstPhase (width fabric.old) self }
         ensures goes { OnceLanded fabric.old self (λ landed. MatchTurn result
             (GoesOn landed self fabric.new) (GoesOn landed self fabric.new)) }
@@ -65,7 +65,7 @@ impl Arrive<Last> {
     /// Puts eithreshold, then eidelivery. Why here: the file may signal only once it has both sets
     /// and the threshold.
     pub fn step(mut self, fabric: &mut Fabric) -> Turn<Self, Outcome>
-        requires fits { Fits fabric.old self }
+        requires fits { MoveFits fabric.old self }
         requires phase { IsIn LastPhase (width fabric.old) self }
         ensures goes { MatchTurn result (GoesOn fabric.old self fabric.new)
             (EndsAs fabric.old self fabric.new) }
@@ -87,7 +87,7 @@ impl Arrive<Last> {
 impl<P> Arrive<P> {
     /// Makes the next access of the first phase.
     fn begin(&mut self, fabric: &mut Fabric)
-        requires fits { Fits fabric.old self.old }
+        requires fits { MoveFits fabric.old self.old }
         requires phase { IsIn FirstPhase (width fabric.old) self.old }
         ensures { OnceLanded fabric.old self.old
             (λ landed. GoesOn landed self.old fabric.new self.new) }
@@ -103,7 +103,7 @@ impl<P> Arrive<P> {
 
     /// Puts eithreshold.
     fn put_threshold(&mut self, fabric: &mut Fabric)
-        requires fits { Fits fabric.old self.old }
+        requires fits { MoveFits fabric.old self.old }
         requires phase { steps_done self.old.home
             ≡ arrive_step (width fabric.old) PutThreshold }
         ensures { GoesOn fabric.old self.old fabric.new self.new }
@@ -115,7 +115,7 @@ impl<P> Arrive<P> {
 
     /// Puts eidelivery, the last access.
     fn put_delivery(&self, fabric: &mut Fabric)
-        requires fits { Fits fabric.old self.now }
+        requires fits { MoveFits fabric.old self.now }
         requires phase { steps_done self.now.home
             ≡ arrive_step (width fabric.old) PutDelivery }
         ensures { Ends fabric.old self.now fabric.new self.now.hand }

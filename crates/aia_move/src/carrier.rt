@@ -6,12 +6,12 @@ ghost use Rattle.aia_imsic.specs.Imsic.{IsThere};
 ghost use Rattle.aia_home.specs.declared.place.Place.{Place};
 ghost use Rattle.aia_home.specs.Plans.{leave_steps};
 ghost use Rattle.aia_home.specs.BySteps.{new_file};
-ghost use Rattle.aia_home.specs.Plans.Access.{TakeDelivery, PutDelivery, WriteNotice, WriteEntry, Fence, WriteStage, FenceStage, TakePending, PutPending, TakeEnables, PutEnables, Look, TakeThreshold, PutThreshold};
-ghost use Rattle.aia_fabric.specs.Flights.{Fences};
-ghost use Rattle.aia_fabric.specs.Changes.{IsPlaceThere, spot_of, words_at};
-ghost use Rattle.aia_move.specs.Move.{Moving, IsWho, Makes, PostsIf, old_at, new_at, old_spot, new_spot, width};
-ghost use Rattle.aia_move.specs.Targets.{ArePasses, passes_of, aim_of};
-ghost use Rattle.aia_move.specs.Load.{Does, load_of, one_done, one_aim_done, closing_access, pending_access, enables_access};
+ghost use Rattle.aia_home.specs.Plans.Access.{TakeDelivery, PutDelivery, WriteNotice, WriteEntry, Fence, Map, GFence, TakePending, PutPending, TakeEnables, PutEnables, Look, TakeThreshold, PutThreshold};
+ghost use Rattle.aia_world.specs.Flights.{Fences};
+ghost use Rattle.aia_world.specs.Changes.{IsPlaceThere, spot_of, words_at};
+ghost use Rattle.aia_moving.specs.Move.{Moving, IsWho, Makes, PostsIf, old_at, new_at, old_spot, new_spot, width};
+ghost use Rattle.aia_moving.specs.Targets.{ArePasses, passes_of, aim_of};
+ghost use Rattle.aia_moving.specs.Carrier.{Does, carrier_of, one_done, one_aim_done, closing_access, pending_access, enables_access};
 
 use crate::{Targets, Who, words};
 use aia_fabric::{At, Fabric};
@@ -43,9 +43,9 @@ pub struct Carrier {
 }
 
 impl Model for Carrier {
-    ghost use Rattle.aia_move.specs.Load.{Load};
+    ghost use Rattle.aia_moving.specs.Carrier.{CarrierState};
 
-    ghost Value = { Load };
+    ghost Value = { CarrierState };
 
     ghost view = { λ c. record {
       who = c.who;
@@ -60,9 +60,9 @@ impl Model for Carrier {
     } };
 }
 
-#[tactic(auto, using(crate::proofs::WhoLemmas::small_who, crate::proofs::WhoLemmas::small_file))]
+#[tactic(auto, using(aia_moving::proofs::WhoLemmas::small_who, aia_moving::proofs::WhoLemmas::small_file))]
 impl Carrier {
-    /// Makes the load of a move of which no step is done.
+    /// Makes the carrier of a move of which no step is done.
     pub fn new(who: Who, delivery: u64, threshold: u64) -> Carrier
         ensures { result ≡ record {
           who = who;
@@ -91,9 +91,9 @@ impl Carrier {
 
     /// Gives the place of the slot of the one who is moved.
     pub fn slot(&self) -> At
-        ensures { result ≡ At.Slot self.now.who.slot }
+        ensures { result ≡ At.Slot self.now.who.found.slot }
     {
-        At::Slot(self.who.slot)
+        At::Slot(self.who.found.slot)
     }
 
     // ---- the numbers
@@ -102,7 +102,7 @@ impl Carrier {
     pub fn take_delivery(&mut self, fabric: &mut Fabric, spot: Spot)
         requires there { IsThere fabric.old.imsic spot }
         requires more { self.old.steps < leave_steps FILE_WORDS }
-        ensures { (m : Moving) → load_of m ≡ self.old → old_spot m ≡ spot
+        ensures { (m : Moving) → carrier_of m ≡ self.old → old_spot m ≡ spot
             → Does TakeDelivery m fabric.old fabric.new self.new }
     {
         self.delivery = fabric.reg(spot, FileReg::Delivery, Op::Write(0));
@@ -112,7 +112,7 @@ impl Carrier {
     /// Puts eidelivery in the file at a place that is there: it is the last access of a move.
     pub fn put_delivery(&self, fabric: &mut Fabric, spot: Spot)
         requires { IsThere fabric.old.imsic spot }
-        ensures { (m : Moving) → load_of m ≡ self.now → new_spot m ≡ spot
+        ensures { (m : Moving) → carrier_of m ≡ self.now → new_spot m ≡ spot
             → Makes PutDelivery m fabric.old fabric.new }
     {
         let _was = fabric.reg(spot, FileReg::Delivery, Op::Write(self.delivery));
@@ -122,7 +122,7 @@ impl Carrier {
     pub fn take_threshold(&mut self, fabric: &mut Fabric, spot: Spot)
         requires there { IsThere fabric.old.imsic spot }
         requires more { self.old.steps < leave_steps FILE_WORDS }
-        ensures { (m : Moving) → load_of m ≡ self.old → old_spot m ≡ spot
+        ensures { (m : Moving) → carrier_of m ≡ self.old → old_spot m ≡ spot
             → Does TakeThreshold m fabric.old fabric.new self.new }
     {
         self.threshold = fabric.reg(spot, FileReg::Threshold, Op::Write(0));
@@ -133,7 +133,7 @@ impl Carrier {
     pub fn put_threshold(&mut self, fabric: &mut Fabric, spot: Spot)
         requires there { IsThere fabric.old.imsic spot }
         requires more { self.old.steps < leave_steps FILE_WORDS }
-        ensures { (m : Moving) → load_of m ≡ self.old → new_spot m ≡ spot
+        ensures { (m : Moving) → carrier_of m ≡ self.old → new_spot m ≡ spot
             → Does PutThreshold m fabric.old fabric.new self.new }
     {
         let _was = fabric.reg(spot, FileReg::Threshold, Op::Write(self.threshold));
@@ -146,12 +146,12 @@ impl Carrier {
     pub fn write_notice(&mut self, fabric: &mut Fabric)
         requires who { IsWho fabric.old self.old.who }
         requires more { self.old.steps < leave_steps FILE_WORDS }
-        ensures { (m : Moving) → load_of m ≡ self.old
+        ensures { (m : Moving) → carrier_of m ≡ self.old
             → Does WriteNotice m fabric.old fabric.new self.new }
     {
         let _words = fabric.words();
-        let word = words::second_word(self.who.slot, self.who.notice);
-        fabric.put_word(self.who.vm, self.who.vcpu, 1, word);
+        let word = words::second_word(self.who.found.slot, self.who.found.notice);
+        fabric.put_word(self.who.found, 1, word);
         self.done += 1;
     }
 
@@ -160,12 +160,12 @@ impl Carrier {
         requires who { IsWho fabric.old self.old.who }
         requires file { (p : Place) → to ≡ Some p → IsThere fabric.old.imsic (spot_of p) }
         requires more { self.old.steps < leave_steps FILE_WORDS }
-        ensures { (m : Moving) → load_of m ≡ self.old → new_file m.home ≡ to
+        ensures { (m : Moving) → carrier_of m ≡ self.old → new_file m.home ≡ to
             → Does WriteEntry m fabric.old fabric.new self.new }
     {
         let _words = fabric.words();
-        let word = words::entry_word(self.who.slot, to);
-        fabric.put_word(self.who.vm, self.who.vcpu, 0, word);
+        let word = words::entry_word(self.who.found.slot, to);
+        fabric.put_word(self.who.found, 0, word);
         self.done += 1;
     }
 
@@ -173,33 +173,34 @@ impl Carrier {
     pub fn fence(&mut self, fabric: &mut Fabric)
         requires who { IsWho fabric.old self.old.who }
         requires more { self.old.steps < leave_steps FILE_WORDS }
-        ensures fences { Fences fabric.old fabric.new self.old.who.vm self.old.who.vcpu }
-        ensures load { self.new ≡ one_done self.old self.old.hand }
+        ensures fences { Fences fabric.old fabric.new self.old.who.found.vm
+            self.old.who.found.number }
+        ensures carrier { self.new ≡ one_done self.old self.old.hand }
     {
-        fabric.fence(self.who.vm, self.who.vcpu);
+        fabric.fence(self.who.found);
         self.done += 1;
     }
 
     /// Writes the G-stage record: the guest file that it names, or none.
-    fn write_stage(&mut self, fabric: &mut Fabric, to: Option<&FileLease>)
+    fn map(&mut self, fabric: &mut Fabric, to: Option<&FileLease>)
         requires who { IsWho fabric.old self.old.who }
         requires more { self.old.steps < leave_steps FILE_WORDS }
-        ensures { (m : Moving) → load_of m ≡ self.old
+        ensures { (m : Moving) → carrier_of m ≡ self.old
             → new_file m.home ≡ option_map (λ (lease : Bor Place). lease.now) to.entry
-            → Does WriteStage m fabric.old fabric.new self.new }
+            → Does Map m fabric.old fabric.new self.new }
     {
-        fabric.map(self.who.vm, self.who.vcpu, to);
+        fabric.map(self.who.found, to);
         self.done += 1;
     }
 
     /// Puts the G-stage record in force.
-    fn fence_stage(&mut self, fabric: &mut Fabric)
+    fn gfence(&mut self, fabric: &mut Fabric)
         requires who { IsWho fabric.old self.old.who }
         requires more { self.old.steps < leave_steps FILE_WORDS }
-        ensures { (m : Moving) → load_of m ≡ self.old
-            → Does FenceStage m fabric.old fabric.new self.new }
+        ensures { (m : Moving) → carrier_of m ≡ self.old
+            → Does GFence m fabric.old fabric.new self.new }
     {
-        fabric.gfence(self.who.vm, self.who.vcpu);
+        fabric.gfence(self.who.found);
         self.done += 1;
     }
 
@@ -208,14 +209,14 @@ impl Carrier {
     pub fn close(&mut self, fabric: &mut Fabric, first: u32, to: Option<&FileLease>)
         requires who { IsWho fabric.old self.old.who }
         requires more { self.old.steps < leave_steps FILE_WORDS }
-        ensures { (m : Moving) → load_of m ≡ self.old
+        ensures { (m : Moving) → carrier_of m ≡ self.old
             → new_file m.home ≡ option_map (λ (lease : Bor Place). lease.now) to.entry
             → Does (closing_access first self.old.steps) m fabric.old fabric.new self.new }
     {
         if self.done == first {
-            self.write_stage(fabric, to);
+            self.map(fabric, to);
         } else {
-            self.fence_stage(fabric);
+            self.gfence(fabric);
         }
     }
 
@@ -233,20 +234,20 @@ impl Carrier {
     pub fn aim<T: Targets>(&mut self, targets: &mut T, to: Option<&FileLease>)
         requires more { self.old.aims < passes_of self.old.who }
         requires passes { ArePasses self.old.who }
-        requires notice { self.old.who.notice < (T.map targets.old).harts }
+        requires notice { self.old.who.found.notice < (T.map targets.old).harts }
         requires hart { IfSome to (λ lease. lease.now.hart < (T.map targets.old).harts) }
         requires guest { IfSome to (λ lease. lease.now.file ≤ GUEST_FILES) }
-        ensures aims { (m : Moving) → load_of m ≡ self.old
+        ensures aims { (m : Moving) → carrier_of m ≡ self.old
             → new_file m.home ≡ option_map (λ (lease : Bor Place). lease.now) to.entry
             → T.aimed targets.old (aim_of m).source (aim_of m).target targets.new }
-        ensures load { self.new ≡ one_aim_done self.old }
+        ensures carrier { self.new ≡ one_aim_done self.old }
     {
         let pass = self.who.passes[self.aims];
         match to {
             Some(file) => targets.aim(pass.source, file.hart(), file.file(), pass.identity),
             None => {
                 let identity = FIRST_PASS_IDENTITY + pass.number;
-                targets.aim(pass.source, self.who.notice, 0, identity);
+                targets.aim(pass.source, self.who.found.notice, 0, identity);
             }
         }
         self.aims += 1;
@@ -259,7 +260,7 @@ impl Carrier {
         requires place { IsPlaceThere fabric.old from }
         requires word { word < words_at fabric.old from }
         requires more { self.old.steps < leave_steps FILE_WORDS }
-        ensures does { (m : Moving) → load_of m ≡ self.old → old_at m ≡ from
+        ensures does { (m : Moving) → carrier_of m ≡ self.old → old_at m ≡ from
             → Does (TakePending word) m fabric.old fabric.new self.new }
         ensures no_zero { word ≡ 0 → has_bit self.new.hand.word 0 ≡ false }
     {
@@ -273,7 +274,7 @@ impl Carrier {
         requires word { word < words_at fabric.old to }
         requires no_zero { word ≡ 0 → has_bit self.old.hand.word 0 ≡ false }
         requires more { self.old.steps < leave_steps FILE_WORDS }
-        ensures { (m : Moving) → load_of m ≡ self.old → new_at m ≡ to
+        ensures { (m : Moving) → carrier_of m ≡ self.old → new_at m ≡ to
             → Does (PutPending word) m fabric.old fabric.new self.new }
     {
         fabric.or_pending(to, word, self.word);
@@ -289,7 +290,7 @@ impl Carrier {
         requires word { (self.old.steps - first) / 2 < width fabric.old }
         requires no_zero { self.old.steps ≡ first + 1 → has_bit self.old.hand.word 0 ≡ false }
         requires more { self.old.steps < leave_steps FILE_WORDS }
-        ensures does { (m : Moving) → load_of m ≡ self.old → old_at m ≡ from → new_at m ≡ to
+        ensures does { (m : Moving) → carrier_of m ≡ self.old → old_at m ≡ from → new_at m ≡ to
             → Does (pending_access first self.old.steps) m fabric.old fabric.new self.new }
         ensures no_zero { self.old.steps ≡ first → has_bit self.new.hand.word 0 ≡ false }
     {
@@ -307,7 +308,7 @@ impl Carrier {
         requires place { IsPlaceThere fabric.old from }
         requires word { word < words_at fabric.old from }
         requires more { self.old.steps < leave_steps FILE_WORDS }
-        ensures does { (m : Moving) → load_of m ≡ self.old → old_at m ≡ from
+        ensures does { (m : Moving) → carrier_of m ≡ self.old → old_at m ≡ from
             → Does (TakeEnables word) m fabric.old fabric.new self.new }
         ensures no_zero { word ≡ 0 → has_bit self.new.hand.word 0 ≡ false }
     {
@@ -321,7 +322,7 @@ impl Carrier {
         requires word { word < words_at fabric.old to }
         requires no_zero { word ≡ 0 → has_bit self.old.hand.word 0 ≡ false }
         requires more { self.old.steps < leave_steps FILE_WORDS }
-        ensures { (m : Moving) → load_of m ≡ self.old → new_at m ≡ to
+        ensures { (m : Moving) → carrier_of m ≡ self.old → new_at m ≡ to
             → Does (PutEnables word) m fabric.old fabric.new self.new }
     {
         let _was = fabric.swap_enable(to, word, self.word);
@@ -337,7 +338,7 @@ impl Carrier {
         requires word { (self.old.steps - first) / 2 < width fabric.old }
         requires no_zero { self.old.steps ≡ first + 1 → has_bit self.old.hand.word 0 ≡ false }
         requires more { self.old.steps < leave_steps FILE_WORDS }
-        ensures does { (m : Moving) → load_of m ≡ self.old → old_at m ≡ from → new_at m ≡ to
+        ensures does { (m : Moving) → carrier_of m ≡ self.old → old_at m ≡ from → new_at m ≡ to
             → Does (enables_access first self.old.steps) m fabric.old fabric.new self.new }
         ensures no_zero { self.old.steps ≡ first → has_bit self.new.hand.word 0 ≡ false }
     {
@@ -354,27 +355,27 @@ impl Carrier {
 
     /// Reads word `word`, below `FILE_WORDS`, of both sets of the slot.
     pub fn look(&mut self, fabric: &Fabric, word: usize)
-        requires slot { self.old.who.slot < VCPUS }
+        requires slot { self.old.who.found.slot < VCPUS }
         requires word { word < FILE_WORDS }
         requires more { self.old.steps < leave_steps FILE_WORDS }
-        ensures { (m : Moving) → load_of m ≡ self.old
+        ensures { (m : Moving) → carrier_of m ≡ self.old
             → Does (Look word) m fabric.now fabric.now self.new }
     {
-        let (pending, enabled) = fabric.look(self.who.slot, word);
+        let (pending, enabled) = fabric.look(self.who.found.slot, word);
         self.seen = self.seen || words::meets(pending, enabled);
         self.done += 1;
     }
 
     /// Sends the notice where a look saw something: it is the last access of a leave.
-    #[tactic(auto, using(crate::proofs::WhoLemmas::small_who, crate::proofs::WhoLemmas::posts_if))]
+    #[tactic(auto, using(aia_moving::proofs::WhoLemmas::small_who, aia_moving::proofs::WhoLemmas::posts_if))]
     pub fn post(&self, fabric: &mut Fabric)
         requires { IsWho fabric.old self.now.who }
-        ensures { PostsIf self.now.hand.seen fabric.old fabric.new self.now.who.notice
-            (self.now.who.slot + 1) }
+        ensures { PostsIf self.now.hand.seen fabric.old fabric.new self.now.who.found.notice
+            (self.now.who.found.slot + 1) }
     {
         let _words = fabric.words();
         if self.seen {
-            fabric.notice(self.who.slot);
+            fabric.notice(self.who.found.slot);
         }
     }
 }

@@ -4,13 +4,13 @@ ghost use Rattle.aia_home.specs.declared.place.Place.{Place};
 ghost use Rattle.aia_home.specs.Home.{Home, Progress};
 ghost use Rattle.aia_home.specs.Home.Home.{Leaving, Arriving, Shifting};
 ghost use Rattle.aia_home.specs.Plans.{leave_step};
-ghost use Rattle.aia_home.specs.Plans.Access.{WriteStage};
+ghost use Rattle.aia_home.specs.Plans.Access.{Map};
 ghost use Rattle.aia_home.specs.Phases.{Phase, begins};
 ghost use Rattle.aia_home.specs.Phases.Phase.{ClosingPhase, LookPhase, LastPhase};
 ghost use Rattle.aia_home.specs.BySteps.{new_file};
-ghost use Rattle.aia_fabric.specs.Changes.{spot_of};
-ghost use Rattle.aia_move.specs.Move.{old_by, new_by};
-ghost use Rattle.aia_move.specs.Turns.{IsMove, after_enable};
+ghost use Rattle.aia_world.specs.Changes.{spot_of};
+ghost use Rattle.aia_moving.specs.Move.{old_by, new_by};
+ghost use Rattle.aia_moving.specs.Turns.{IsMove, after_enable};
 
 use crate::phase::{Last, Look};
 use aia_fabric::At;
@@ -29,7 +29,7 @@ pub trait Kind: Drop {
 
     /// Tells how many steps the first phase has, no more than that of a leave.
     fn first_steps(&self) -> u32
-        ensures few { result ≤ leave_step 0 WriteStage }
+        ensures few { result ≤ leave_step 0 Map }
         ensures value { (words : ℕ) (at : Progress)
             → result ≡ begins words (home self.now at) ClosingPhase };
 

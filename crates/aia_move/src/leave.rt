@@ -5,15 +5,15 @@ ghost use Rattle.aia_home.specs.Plans.{leave_step, steps_done};
 ghost use Rattle.aia_home.specs.Plans.Access.{TakeThreshold, Post};
 ghost use Rattle.aia_home.specs.Phases.Phase.{FirstPhase, ClosingPhase, LookPhase, LastPhase};
 ghost use Rattle.aia_home.specs.BySteps.{is_leaving};
-ghost use Rattle.aia_move.specs.Move.{Fits, Ends, old_spot, width};
-ghost use Rattle.aia_move.specs.Landings.{OnceLanded};
-ghost use Rattle.aia_move.specs.Turns.{IsIn, GoesOn, EndsAs, GivesBack, MatchTurn};
+ghost use Rattle.aia_moving.specs.Move.{MoveFits, Ends, old_spot, width};
+ghost use Rattle.aia_moving.specs.Landings.{OnceLanded};
+ghost use Rattle.aia_moving.specs.Turns.{IsIn, GoesOn, EndsAs, GivesBack, MatchTurn};
 
 use crate::carrier::Carrier;
 use crate::kind::{ToMemory, spot};
 use crate::moves::Move;
 use crate::phase::{Closing, First, Last, Look};
-use crate::{Kept, Outcome, Turn, Who};
+use crate::{KeptNumbers, Outcome, Turn, Who};
 use aia_fabric::Fabric;
 use aia_imsic::Spot;
 use aia_pool::FileLease;
@@ -44,7 +44,7 @@ impl Leave<First> {
     /// place later. Why here: the file is silent before anything moves, and word 1 says where
     /// notices go before word 0 leads to the slot; it has said so from the VM's making on.
     pub fn step(mut self, fabric: &mut Fabric) -> Turn<Self, Leave<Closing>>
-        requires fits { Fits fabric.old self }
+        requires fits { MoveFits fabric.old self }
         requires phase { IsIn FirstPhase (width fabric.old) self }
         ensures goes { OnceLanded fabric.old self (λ landed. MatchTurn result
             (GoesOn landed self fabric.new) (GoesOn landed self fabric.new)) }
@@ -61,7 +61,7 @@ impl Leave<Look> {
     /// Looks at a word of both sets of the slot. Why here: each word is watched, so that a look
     /// misses only what the host is told of; it finds what had come before.
     pub fn step(mut self, fabric: &mut Fabric) -> Turn<Self, Leave<Last>>
-        requires fits { Fits fabric.old self }
+        requires fits { MoveFits fabric.old self }
         requires phase { IsIn LookPhase (width fabric.old) self }
         ensures goes { MatchTurn result (GoesOn fabric.old self fabric.new)
             (GoesOn fabric.old self fabric.new) }
@@ -78,7 +78,7 @@ impl Leave<Last> {
     /// Takes eithreshold, then sends the notice where a look saw something. Why here: all looks are
     /// done, so that one notice stands for what they saw.
     pub fn step(mut self, fabric: &mut Fabric) -> Turn<Self, Outcome>
-        requires fits { Fits fabric.old self }
+        requires fits { MoveFits fabric.old self }
         requires phase { IsIn LastPhase (width fabric.old) self }
         ensures goes { MatchTurn result (GoesOn fabric.old self fabric.new)
             (EndsAs fabric.old self fabric.new) }
@@ -100,7 +100,7 @@ impl Leave<Last> {
 impl<P> Leave<P> {
     /// Makes the next access of the first phase.
     fn begin(&mut self, fabric: &mut Fabric)
-        requires fits { Fits fabric.old self.old }
+        requires fits { MoveFits fabric.old self.old }
         requires phase { IsIn FirstPhase (width fabric.old) self.old }
         ensures { OnceLanded fabric.old self.old
             (λ landed. GoesOn landed self.old fabric.new self.new) }
@@ -117,7 +117,7 @@ impl<P> Leave<P> {
 
     /// Makes the next look.
     fn look(&mut self, fabric: &Fabric)
-        requires fits { Fits fabric.now self.old }
+        requires fits { MoveFits fabric.now self.old }
         requires phase { IsIn LookPhase (width fabric.now) self.old }
         ensures goes { GoesOn fabric.now self.old fabric.now self.new }
         ensures leaves { is_leaving self.old.home ≡ true }
@@ -129,7 +129,7 @@ impl<P> Leave<P> {
 
     /// Takes eithreshold.
     fn take_threshold(&mut self, fabric: &mut Fabric)
-        requires fits { Fits fabric.old self.old }
+        requires fits { MoveFits fabric.old self.old }
         requires phase { steps_done self.old.home
             ≡ leave_step (width fabric.old) TakeThreshold }
         ensures { GoesOn fabric.old self.old fabric.new self.new }
@@ -141,7 +141,7 @@ impl<P> Leave<P> {
 
     /// Sends the notice, the last access.
     fn post(&self, fabric: &mut Fabric)
-        requires fits { Fits fabric.old self.now }
+        requires fits { MoveFits fabric.old self.now }
         requires phase { steps_done self.now.home
             ≡ leave_step (width fabric.old) Post }
         ensures { Ends fabric.old self.now fabric.new self.now.hand }
@@ -155,7 +155,7 @@ impl<P> Leave<P> {
     {
         Outcome::Left(
             self.kind.file,
-            Kept {
+            KeptNumbers {
                 delivery: self.carrier.delivery,
                 threshold: self.carrier.threshold,
             },

@@ -12,10 +12,9 @@ mod phase;
 mod plan;
 mod shift;
 mod targets;
-mod turn;
-mod who;
 pub mod words;
 
+pub use aia_moving::{Closed, KeptNumbers, Outcome, Pass, Turn, Who};
 pub use arrive::Arrive;
 pub use kind::spot;
 pub use leave::Leave;
@@ -23,5 +22,3 @@ pub use phase::{Aim, Closing, Drain, Enable, First, Last, Look};
 pub use plan::{Next, Plan};
 pub use shift::Shift;
 pub use targets::Targets;
-pub use turn::{Closed, Outcome, Turn};
-pub use who::{Kept, Pass, Who};

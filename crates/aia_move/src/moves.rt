@@ -1,12 +1,12 @@
 ghost use Rattle.std.specs.Prelude.{◌≡◌, ℕ, ◌<◌, ◌≤◌, true, false};
 ghost use Rattle.aia_home.specs.Home.{is_moving};
 ghost use Rattle.aia_home.specs.Plans.{steps_done, leave_step};
-ghost use Rattle.aia_home.specs.Plans.Access.{WriteStage};
+ghost use Rattle.aia_home.specs.Plans.Access.{Map};
 ghost use Rattle.aia_home.specs.Phases.{begins};
 ghost use Rattle.aia_home.specs.Phases.Phase.{ClosingPhase, DrainPhase, EnablePhase};
-ghost use Rattle.aia_move.specs.Move.{Fits, old_at, new_at, width};
-ghost use Rattle.aia_move.specs.Targets.{ArePasses, aim_of, has_unaimed};
-ghost use Rattle.aia_move.specs.Turns.{IsIn, IsAtAims, IsInDrain, GoesOn, AimsOn, MatchTurn, MatchClosed, after_enable};
+ghost use Rattle.aia_moving.specs.Move.{MoveFits, old_at, new_at, width};
+ghost use Rattle.aia_moving.specs.Targets.{ArePasses, aim_of, has_unaimed};
+ghost use Rattle.aia_moving.specs.Turns.{IsIn, IsAtAims, IsInDrain, GoesOn, AimsOn, MatchTurn, MatchClosed, after_enable};
 
 use crate::carrier::Carrier;
 use crate::kind::Kind;
@@ -28,8 +28,8 @@ pub struct Move<K: Kind, P> {
 }
 
 impl<K: Kind, P> Model for Move<K, P> {
-    ghost use Rattle.aia_move.specs.Move.{Moving};
-    ghost use Rattle.aia_move.specs.Load.{moving};
+    ghost use Rattle.aia_moving.specs.Move.{Moving};
+    ghost use Rattle.aia_moving.specs.Carrier.{moving};
 
     ghost Value = { Moving };
 
@@ -42,7 +42,7 @@ impl<K: Kind> Move<K, Closing> {
     /// old place, which is the slot in an arrival and else a guest file, so that no store comes
     /// after its word. `Drain` exactly where no passed source is to be aimed.
     pub fn step(mut self, fabric: &mut Fabric) -> Turn<Self, Closed<Move<K, Aim>, Move<K, Drain>>>
-        requires fits { Fits fabric.old self }
+        requires fits { MoveFits fabric.old self }
         requires phase { IsIn ClosingPhase (width fabric.old) self }
         ensures goes { MatchTurn result (GoesOn fabric.old self fabric.new)
             (λ next. MatchClosed next (GoesOn fabric.old self fabric.new)
@@ -70,7 +70,7 @@ impl<K: Kind> Move<K, Aim> {
         fabric: &Fabric,
         targets: &mut T,
     ) -> Turn<Self, Move<K, Drain>>
-        requires fits { Fits fabric.now self }
+        requires fits { MoveFits fabric.now self }
         requires phase { IsAtAims self }
         requires harts { fabric.now.imsic.harts ≡ (T.map targets.old).harts }
         requires passes { ArePasses self.who }
@@ -91,7 +91,7 @@ impl<K: Kind> Move<K, Drain> {
     /// Takes a word of the pending set from the old place, or puts it in the new one. Why here: no
     /// store reaches the old place any more, so that a word which is taken stays empty.
     pub fn step(mut self, fabric: &mut Fabric) -> Turn<Self, Move<K, Enable>>
-        requires fits { Fits fabric.old self }
+        requires fits { MoveFits fabric.old self }
         requires phase { IsInDrain (width fabric.old) self }
         ensures goes { MatchTurn result (GoesOn fabric.old self fabric.new)
             (GoesOn fabric.old self fabric.new) }
@@ -110,7 +110,7 @@ impl<K: Kind> Move<K, Enable> {
     /// new place has all that was pending before anything in it is enabled; where it is the slot,
     /// in a leave, a store to a word is told to the host from the word's enables on.
     pub fn step(mut self, fabric: &mut Fabric) -> Turn<Self, Move<K, K::After>>
-        requires fits { Fits fabric.old self }
+        requires fits { MoveFits fabric.old self }
         requires phase { IsIn EnablePhase (width fabric.old) self }
         ensures goes { MatchTurn result (GoesOn fabric.old self fabric.new)
             (GoesOn fabric.old self fabric.new) }
@@ -128,7 +128,7 @@ impl<K: Kind> Move<K, Enable> {
 impl<K: Kind, P> Move<K, P> {
     /// Makes the next access of the phase of the G-stage record.
     fn close(&mut self, fabric: &mut Fabric)
-        requires fits { Fits fabric.old self.old }
+        requires fits { MoveFits fabric.old self.old }
         requires phase { IsIn ClosingPhase (width fabric.old) self.old }
         ensures { GoesOn fabric.old self.old fabric.new self.new }
     {
@@ -139,7 +139,7 @@ impl<K: Kind, P> Move<K, P> {
 
     /// Aims the next passed source.
     fn aim<T: Targets>(&mut self, fabric: &Fabric, targets: &mut T)
-        requires fits { Fits fabric.now self.old }
+        requires fits { MoveFits fabric.now self.old }
         requires phase { IsAtAims self.old }
         requires harts { fabric.now.imsic.harts ≡ (T.map targets.old).harts }
         requires passes { ArePasses self.old.who }
@@ -153,7 +153,7 @@ impl<K: Kind, P> Move<K, P> {
 
     /// Makes the next access of the phase of the pending set.
     fn carry_pending(&mut self, fabric: &mut Fabric)
-        requires fits { Fits fabric.old self.old }
+        requires fits { MoveFits fabric.old self.old }
         requires phase { IsIn DrainPhase (width fabric.old) self.old }
         ensures { GoesOn fabric.old self.old fabric.new self.new }
     {
@@ -166,7 +166,7 @@ impl<K: Kind, P> Move<K, P> {
 
     /// Makes the next access of the phase of the enabled set.
     fn carry_enables(&mut self, fabric: &mut Fabric)
-        requires fits { Fits fabric.old self.old }
+        requires fits { MoveFits fabric.old self.old }
         requires phase { IsIn EnablePhase (width fabric.old) self.old }
         ensures { GoesOn fabric.old self.old fabric.new self.new }
     {
@@ -179,7 +179,7 @@ impl<K: Kind, P> Move<K, P> {
 
     /// Tells how many steps the first phase has, no more than that of a leave.
     pub(crate) fn first_steps(&self) -> u32
-        ensures few { result ≤ leave_step 0 WriteStage }
+        ensures few { result ≤ leave_step 0 Map }
         ensures moves { is_moving self.now.home ≡ true }
         ensures after { K.after ≡ after_enable self.now.home }
         ensures value { (words : ℕ) → result ≡ begins words self.now.home ClosingPhase }

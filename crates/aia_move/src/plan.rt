@@ -3,15 +3,15 @@ ghost use Rattle.aia_imsic.specs.Imsic.{IsThere};
 ghost use Rattle.aia_home.specs.Home.{at_first};
 ghost use Rattle.aia_home.specs.Home.Home.{Leaving, Arriving, Shifting};
 ghost use Rattle.aia_places.specs.Stores.{AreApart};
-ghost use Rattle.aia_fabric.specs.World.{World};
-ghost use Rattle.aia_fabric.specs.Changes.{spot_of};
-ghost use Rattle.aia_move.specs.Move.{IsWho, Fits, width};
-ghost use Rattle.aia_move.specs.Targets.{ArePasses, AimsAs, aim_if, next_aim};
-ghost use Rattle.aia_move.specs.Turns.{LeavesEmpty};
+ghost use Rattle.aia_world.specs.World.{World};
+ghost use Rattle.aia_world.specs.Changes.{spot_of};
+ghost use Rattle.aia_moving.specs.Move.{IsWho, MoveFits, width};
+ghost use Rattle.aia_moving.specs.Targets.{ArePasses, AimsAs, aim_if, next_aim};
+ghost use Rattle.aia_moving.specs.Turns.{LeavesEmpty};
 ghost use Rattle.aia_move.specs.Plan.{moving_of, is_in_aim, IsInPhase, MatchNext, StepsTo};
 
 use crate::phase::{Aim, Closing, Drain, Enable, First, Last, Look};
-use crate::{Arrive, Closed, Kept, Leave, Outcome, Shift, Targets, Turn, Who};
+use crate::{Arrive, Closed, KeptNumbers, Leave, Outcome, Shift, Targets, Turn, Who};
 use aia_fabric::Fabric;
 use aia_pool::FileLease;
 
@@ -83,7 +83,7 @@ macro_rules! finish {
 impl Plan {
     /// Begins to move a virtual hart from a guest file to memory. Its steps can be made where both
     /// are there.
-    #[tactic(auto, using(crate::proofs::WhoLemmas::leave_fits))]
+    #[tactic(auto, using(aia_moving::proofs::WhoLemmas::leave_fits))]
     pub fn leave(file: FileLease, who: Who) -> Plan
         ensures begins { moving_of result ≡ record {
           who = who;
@@ -92,15 +92,15 @@ impl Plan {
         } }
         ensures phase { (words : ℕ) → IsInPhase words result }
         ensures fits { (w : World) → IsWho w who → IsThere w.imsic (spot_of file)
-            → Fits w (moving_of result) }
+            → MoveFits w (moving_of result) }
     {
         Plan::LeaveFirst(Leave::new(file, who))
     }
 
     /// Begins to move a virtual hart from memory to a guest file, with the numbers that were kept.
     /// Its steps can be made where both are there.
-    #[tactic(auto, using(crate::proofs::WhoLemmas::arrive_fits))]
-    pub fn arrive(file: FileLease, who: Who, kept: Kept) -> Plan
+    #[tactic(auto, using(aia_moving::proofs::WhoLemmas::arrive_fits))]
+    pub fn arrive(file: FileLease, who: Who, kept: KeptNumbers) -> Plan
         ensures begins { moving_of result ≡ record {
           who = who;
           home = Arriving file at_first;
@@ -113,14 +113,14 @@ impl Plan {
         } }
         ensures phase { (words : ℕ) → IsInPhase words result }
         ensures fits { (w : World) → IsWho w who → IsThere w.imsic (spot_of file)
-            → Fits w (moving_of result) }
+            → MoveFits w (moving_of result) }
     {
         Plan::ArriveFirst(Arrive::new(file, who, kept))
     }
 
     /// Begins to move a virtual hart from guest file `old` to guest file `new`. Its steps can be
     /// made where all three are there.
-    #[tactic(auto, using(crate::proofs::WhoLemmas::shift_fits))]
+    #[tactic(auto, using(aia_moving::proofs::WhoLemmas::shift_fits))]
     pub fn shift(old: FileLease, new: FileLease, who: Who) -> Plan
         ensures begins { moving_of result ≡ record {
           who = who;
@@ -129,7 +129,7 @@ impl Plan {
         } }
         ensures phase { (words : ℕ) → IsInPhase words result }
         ensures fits { (w : World) → IsWho w who → IsThere w.imsic (spot_of old)
-            → IsThere w.imsic (spot_of new) → Fits w (moving_of result) }
+            → IsThere w.imsic (spot_of new) → MoveFits w (moving_of result) }
     {
         Plan::ShiftFirst(Shift::new(old, new, who))
     }
@@ -140,14 +140,14 @@ impl Plan {
     /// the VM land, the oldest first. `Finished` exactly at the last access: the guest file that
     /// the move leaves, where it leaves one, is then empty.
     pub fn step<T: Targets>(self, fabric: &mut Fabric, targets: &mut T) -> Next
-        requires fits { Fits fabric.old (moving_of self) }
+        requires fits { MoveFits fabric.old (moving_of self) }
         requires phase { IsInPhase (width fabric.old) self }
         requires harts { fabric.old.imsic.harts ≡ (T.map targets.old).harts }
         requires passes { ArePasses (moving_of self).who }
         ensures goes { StepsTo (next_aim (moving_of self)) fabric.old (moving_of self) fabric.new
             result }
         ensures aims { AimsAs T.aimed (next_aim (moving_of self)) targets.old targets.new }
-        ensures fits { MatchNext result (λ p. Fits fabric.new (moving_of p)) (λ o. ⊤) }
+        ensures fits { MatchNext result (λ p. MoveFits fabric.new (moving_of p)) (λ o. ⊤) }
         ensures phase { MatchNext result (λ p. IsInPhase (width fabric.new) p) (λ o. ⊤) }
         ensures empty { AreApart (moving_of self).home → MatchNext result (λ p. ⊤)
             (λ o. LeavesEmpty fabric.old (moving_of self) fabric.new) }
@@ -158,7 +158,7 @@ impl Plan {
 
     /// Makes it, by the phase that the move is in.
     fn next<T: Targets>(self, fabric: &mut Fabric, targets: &mut T) -> Next
-        requires fits { Fits fabric.old (moving_of self) }
+        requires fits { MoveFits fabric.old (moving_of self) }
         requires phase { IsInPhase (width fabric.old) self }
         requires harts { fabric.old.imsic.harts ≡ (T.map targets.old).harts }
         requires passes { ArePasses (moving_of self).who }
@@ -166,7 +166,7 @@ impl Plan {
             (moving_of self) fabric.new result }
         ensures aims { AimsAs T.aimed (aim_if (is_in_aim self) (moving_of self)) targets.old
             targets.new }
-        ensures fits { MatchNext result (λ p. Fits fabric.new (moving_of p)) (λ o. ⊤) }
+        ensures fits { MatchNext result (λ p. MoveFits fabric.new (moving_of p)) (λ o. ⊤) }
         ensures phase { MatchNext result (λ p. IsInPhase (width fabric.new) p) (λ o. ⊤) }
     {
         match self {

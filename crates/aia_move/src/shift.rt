@@ -4,9 +4,9 @@ ghost use Rattle.aia_home.specs.Home.Home.{Shifting};
 ghost use Rattle.aia_home.specs.Plans.{shift_step, steps_done};
 ghost use Rattle.aia_home.specs.Plans.Access.{TakeThreshold, PutDelivery};
 ghost use Rattle.aia_home.specs.Phases.Phase.{FirstPhase, ClosingPhase, LastPhase};
-ghost use Rattle.aia_move.specs.Move.{Fits, Ends, old_spot, new_spot, width};
-ghost use Rattle.aia_move.specs.Landings.{OnceLanded};
-ghost use Rattle.aia_move.specs.Turns.{IsBetween, IsIn, GoesOn, EndsAs, GivesBack, MatchTurn};
+ghost use Rattle.aia_moving.specs.Move.{MoveFits, Ends, old_spot, new_spot, width};
+ghost use Rattle.aia_moving.specs.Landings.{OnceLanded};
+ghost use Rattle.aia_moving.specs.Turns.{IsBetween, IsIn, GoesOn, EndsAs, GivesBack, MatchTurn};
 
 use crate::carrier::Carrier;
 use crate::kind::{ToOtherFile, spot};
@@ -43,7 +43,7 @@ impl Shift<First> {
     /// place later. Why here: the old file is silent before anything moves, and the entry is in
     /// force before the first word is taken, so that no store of a device comes after its word.
     pub fn step(mut self, fabric: &mut Fabric) -> Turn<Self, Shift<Closing>>
-        requires fits { Fits fabric.old self }
+        requires fits { MoveFits fabric.old self }
         requires phase { IsIn FirstPhase (width fabric.old) self }
         ensures goes { OnceLanded fabric.old self (λ landed. MatchTurn result
             (GoesOn landed self fabric.new) (GoesOn landed self fabric.new)) }
@@ -60,7 +60,7 @@ impl Shift<Last> {
     /// Takes eithreshold and puts it, then puts eidelivery. Why here: the new file may signal only
     /// once it has both sets and the threshold.
     pub fn step(mut self, fabric: &mut Fabric) -> Turn<Self, Outcome>
-        requires fits { Fits fabric.old self }
+        requires fits { MoveFits fabric.old self }
         requires phase { IsIn LastPhase (width fabric.old) self }
         ensures goes { MatchTurn result (GoesOn fabric.old self fabric.new)
             (EndsAs fabric.old self fabric.new) }
@@ -82,7 +82,7 @@ impl Shift<Last> {
 impl<P> Shift<P> {
     /// Makes the next access of the first phase.
     fn begin(&mut self, fabric: &mut Fabric)
-        requires fits { Fits fabric.old self.old }
+        requires fits { MoveFits fabric.old self.old }
         requires phase { IsIn FirstPhase (width fabric.old) self.old }
         ensures { OnceLanded fabric.old self.old
             (λ landed. GoesOn landed self.old fabric.new self.new) }
@@ -98,7 +98,7 @@ impl<P> Shift<P> {
 
     /// Takes eithreshold, or puts it.
     fn carry_threshold(&mut self, fabric: &mut Fabric)
-        requires fits { Fits fabric.old self.old }
+        requires fits { MoveFits fabric.old self.old }
         requires phase { IsBetween (shift_step (width fabric.old) TakeThreshold)
             (shift_step (width fabric.old) PutDelivery) self.old }
         ensures { GoesOn fabric.old self.old fabric.new self.new }
@@ -115,7 +115,7 @@ impl<P> Shift<P> {
 
     /// Puts eidelivery, the last access.
     fn put_delivery(&self, fabric: &mut Fabric)
-        requires fits { Fits fabric.old self.now }
+        requires fits { MoveFits fabric.old self.now }
         requires phase { steps_done self.now.home
             ≡ shift_step (width fabric.old) PutDelivery }
         ensures { Ends fabric.old self.now fabric.new self.now.hand }

@@ -1,6 +1,6 @@
 ghost use Rattle.std.specs.Prelude.{◌≡◌, ℕ, ◌<◌, ◌≤◌, ◌^◌, IfSome};
 ghost use Rattle.aia_regs.specs.declared.limits.TheConstants.{HARTS, GUEST_FILES, VCPUS};
-ghost use Rattle.aia_places.specs.View.{entry_word, second_word};
+ghost use Rattle.aia_places.specs.Places.{entry_word, second_word};
 ghost use Rattle.aia_places.specs.Holds.{meets};
 
 use aia_entry::{basic, mrif};

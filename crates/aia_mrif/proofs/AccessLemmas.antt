@@ -18,8 +18,8 @@ use Rattle.aia_regs.specs.declared.file_registers.FileReg.{FileReg}
 use Rattle.aia_regs.specs.declared.file_registers.FileReg.TheVariants.{Pending, Enable, Delivery, Threshold, Reserved, Odd, Outside}
 use Rattle.aia_regs.specs.FileRegisters.{shows, set_said}
 use Rattle.aia_regs.specs.Operations.{written, bit_said, is_writing, FitsOp}
-use Rattle.aia_regs.specs.Word.{settle}
-use Rattle.aia_regs.specs.Word.Word.{Ask, Clear, Nothing}
+use Rattle.aia_regs.specs.BitUpdate.{settle}
+use Rattle.aia_regs.specs.BitUpdate.BitUpdate.{Ask, Clear, Nothing}
 use Rattle.aia_file.specs.InterruptFile.{InterruptFile, SameFile, is_greatest_identity, register_value, accessed}
 use Rattle.aia_file.proofs.AccessLemmas.{has_bit-written}
 use Rattle.aia_mrif.specs.Mrif.{mrif_in, set_at, pending_place, enable_place}

@@ -12,8 +12,8 @@ use Rattle.std.specs.Int.{bit_at}
 use Rattle.aia_word.specs.Sets.{has_bit}
 use Rattle.aia_word.proofs.BitLemmas.{has_bit-or}
 use Rattle.aia_regs.specs.declared.limits.TheConstants.{IDENTITIES, FILE_WORDS}
-use Rattle.aia_regs.specs.Word.{settle, set_after, names}
-use Rattle.aia_regs.specs.Word.Word.{Ask, Nothing}
+use Rattle.aia_regs.specs.BitUpdate.{settle, set_after, names}
+use Rattle.aia_regs.specs.BitUpdate.BitUpdate.{Ask, Nothing}
 use Rattle.aia_regs.specs.Request.{requested}
 use Rattle.aia_regs.proofs.RequestLemmas.{requested_in_range}
 use Rattle.aia_mrif.specs.Mrif.{mrif_in, set_at, pending_place, enable_place, after_store}

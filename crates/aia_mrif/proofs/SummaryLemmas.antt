@@ -7,7 +7,8 @@ use Rattle.std.proofs.lemmas.Bool.Decides.{nat_tests}
 use Rattle.aia_word.specs.Sets.{has_bit, word_of}
 use Rattle.aia_word.proofs.BitLemmas.{has_bit-set, has_bit-zero}
 use Rattle.aia_file.specs.InterruptFile.{is_shared, is_greatest_identity}
-use Rattle.aia_file.specs.Summary.{Summarizes, AreIdentities}
+use Rattle.aia_word.specs.Summary.{Summarizes}
+use Rattle.aia_file.specs.Summary.{SummarizesBoth, AreIdentities}
 use Rattle.aia_file.proofs.SummaryLemmas.{both_words, none_shared, some_shared, shared_below}
 
 -- the bits of the first `count` words tell of them, and the others are 0
@@ -54,7 +55,7 @@ module _ (p e : ℕ → Bool) (k summary next pending enabled : ℕ) (shows_pend
   pub dead_added : bit_and pending enabled ≡ 0 → next ≡ summary → SummarizesFirst (k + 1) next p e
   dead_added none is = subst (λ x. SummarizesFirst (k + 1) x p e) (sym is) (dead_word p e k summary (sym both_shown ∙ none) before)
 
-pub all_summarized : (p e : ℕ → Bool) (words summary : ℕ) → AreIdentities words p → SummarizesFirst words summary p e → Summarizes summary p e
+pub all_summarized : (p e : ℕ → Bool) (words summary : ℕ) → AreIdentities words p → SummarizesFirst words summary p e → SummarizesBoth summary p e
 unfolding Summarizes
 all_summarized p e words summary range before w low = before w low ∙ elim (cases_Bool (is_shared p e w)) [
   | inl shared ↦

@@ -4,7 +4,7 @@
 use Rattle.std.specs.Prelude.{ℕ, ◌+◌, ◌*◌, ◌/◌, ◌%◌, Bool, ◌&&◌, nat_le, if◌then◌else◌, List, slice_index, Option, Some, None}
 use Rattle.aia_word.specs.Sets.{has_bit}
 use Rattle.aia_regs.specs.declared.limits.TheConstants.{IDENTITIES}
-use Rattle.aia_regs.specs.Word.{set_after}
+use Rattle.aia_regs.specs.BitUpdate.{set_after}
 use Rattle.aia_regs.specs.Request.{request_said}
 use Rattle.aia_mrif.specs.declared.slot.Stored.{Stored}
 use Rattle.aia_mrif.specs.declared.slot.Stored.TheVariants.{Discarded, Quiet, Notice}

@@ -107,7 +107,7 @@ impl SlotMut<'_> {
 
     /// Gives what a topei register shows, and counts a step for each look: one at each pair of
     /// words of memory, one at the summary of these and at most one more at one pair.
-    #[tactic(auto, unfolding(aia_file::specs::Summary::Summarizes))]
+    #[tactic(auto, unfolding(aia_word::specs::Summary::Summarizes))]
     fn top_counted<L: Ledger>(&self, steps: &mut Steps<L>, n: u32, threshold: u64) -> u64
         requires { IsTrue (is_greatest_identity n) }
         ensures top { result

@@ -1,7 +1,7 @@
 ghost use Rattle.std.specs.Prelude.{◌≡◌, ℕ, ◌+◌, ◌*◌, ◌/◌, ◌<◌, ◌≤◌, IsTrue};
 ghost use Rattle.aia_word.specs.Sets.{has_bit, word_of};
 ghost use Rattle.aia_file.specs.InterruptFile.{is_greatest_identity, is_live};
-ghost use Rattle.aia_file.specs.Summary.{Summarizes};
+ghost use Rattle.aia_file.specs.Summary.{SummarizesBoth};
 ghost use Rattle.aia_mrif.specs.Mrif.{mrif_in};
 ghost use Rattle.aia_mrif.specs.Words.{HasSlot};
 ghost use Rattle.aia_mrif.specs.SlotFile.{slot_file};
@@ -44,7 +44,7 @@ impl<L: Ledger> Looks for View<'_, '_, L> {
 
     ghost IsSamePlace = { λ v w. w.steps.ghost_name ≡ v.steps.ghost_name };
 
-    #[tactic(auto, unfolding(aia_file::specs::Summary::Summarizes))]
+    #[tactic(auto, unfolding(aia_word::specs::Summary::Summarizes))]
     fn summary(&mut self) -> u64 {
         self.steps.count_one();
         self.summary
@@ -63,7 +63,7 @@ impl<L: Ledger> Looks for View<'_, '_, L> {
 pub(crate) fn summary<L: Ledger>(ram: &Ram, q: u32, n: u32, steps: &mut Steps<L>) -> u64
     requires slot { HasSlot ram.now q }
     requires greatest { IsTrue (is_greatest_identity n) }
-    ensures summary { Summarizes result (slot_file n 0 (mrif_in ram.now q)).pending
+    ensures summary { SummarizesBoth result (slot_file n 0 (mrif_in ram.now q)).pending
         (slot_file n 0 (mrif_in ram.now q)).enabled }
     ensures count { steps.new ≡ steps.old + (n + 1) / 64 }
 {

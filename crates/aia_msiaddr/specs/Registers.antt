@@ -3,7 +3,7 @@
 use Rattle.std.specs.Prelude.{ℕ, Bool, bit_and, if◌then◌else◌, Option, Some, None}
 use Rattle.aia_regs.specs.declared.domain_registers.DomainReg.{DomainReg}
 use Rattle.aia_regs.specs.declared.domain_registers.DomainReg.TheVariants.{MMsiAddrCfg, MMsiAddrCfgH, SMsiAddrCfg, SMsiAddrCfgH}
-use Rattle.aia_regs.specs.Operations.{is_one}
+use Rattle.aia_regs.specs.Operations.{has_bit}
 use Rattle.aia_msiaddr.specs.declared.registers.TheConstants.{MMSIADDRCFGH, SMSIADDRCFGH, L}
 
 -- What a write of mmsiaddrcfgh keeps: the lock L, HHXS, LHXS, HHXW, LHXW and the high half of the
@@ -17,7 +17,7 @@ smsiaddrcfgh_kept v = bit_and v SMSIADDRCFGH
 
 -- Whether an mmsiaddrcfgh locks all four registers: L. From then on no write changes them.
 abbrev pub locks : ℕ → Bool
-locks cfgh = is_one cfgh L
+locks cfgh = has_bit cfgh L
 
 -- ---- the four registers
 

@@ -2,7 +2,7 @@
 //! are what was proved.
 
 ghost use Rattle.std.specs.Prelude.{◌≡◌, ℕ, bit_and};
-ghost use Rattle.aia_regs.specs.Operations.{is_one};
+ghost use Rattle.aia_regs.specs.Operations.{has_bit};
 ghost use Rattle.aia_msiaddr.specs.Registers.{mmsiaddrcfgh_kept, smsiaddrcfgh_kept, locks};
 
 /// Which bits the high halves of the registers of MSI addresses keep, and where the lock L stands.
@@ -11,5 +11,5 @@ ghost use Rattle.aia_msiaddr.specs.Registers.{mmsiaddrcfgh_kept, smsiaddrcfgh_ke
 pub fn bits_of_registers()
     ensures machine { (v : ℕ) → mmsiaddrcfgh_kept v ≡ bit_and v 0x9f77ffff }
     ensures supervisor { (v : ℕ) → smsiaddrcfgh_kept v ≡ bit_and v 0x00700fff }
-    ensures lock { (cfgh : ℕ) → locks cfgh ≡ is_one cfgh 31 }
+    ensures lock { (cfgh : ℕ) → locks cfgh ≡ has_bit cfgh 31 }
 {}

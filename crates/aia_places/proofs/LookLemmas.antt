@@ -16,7 +16,7 @@ use Rattle.aia_home.specs.Plans.{leave_step, is_next}
 use Rattle.aia_home.specs.declared.place.Place.{Place}
 use Rattle.aia_home.specs.Home.{Progress}
 use Rattle.aia_home.specs.Home.Home.{Leaving}
-use Rattle.aia_places.specs.View.{TwoSets}
+use Rattle.aia_places.specs.Places.{TwoSets}
 use Rattle.aia_places.specs.Holds.{sees, meets}
 use Rattle.aia_places.specs.Steps.{Shows}
 use Rattle.aia_places.proofs.SetSteps.{HoldsAt, new_has_all}

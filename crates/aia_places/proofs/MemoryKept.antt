@@ -6,11 +6,11 @@ use Rattle.aia_mrif.specs.Mrif.{Mrif}
 use Rattle.aia_home.specs.declared.place.Place.{Place}
 use Rattle.aia_home.specs.Home.{Home, rests_in_memory}
 use Rattle.aia_home.specs.Home.Home.{Parked, Entered, Resident, Leaving, Arriving, Shifting}
-use Rattle.aia_places.specs.View.{View}
+use Rattle.aia_places.specs.Places.{Places}
 use Rattle.aia_places.specs.Holds.{IsWithin, Hand, Holds, HasSets}
 use Rattle.aia_places.proofs.FileLemmas.{parked-pending, parked-enabled, parked-kept}
 
-module _ (words q hart : ℕ) (reach : Option Place) (v : View) (hand : Hand) (file : InterruptFile) (saw : Bool) where
+module _ (words q hart : ℕ) (reach : Option Place) (v : Places) (hand : Hand) (file : InterruptFile) (saw : Bool) where
   pub enter-holds : Holds words q hart reach v Parked hand file saw → Holds words q hart reach v Entered hand file saw
   enter-holds h = record {
     sets = record { union = h.sets.union; drained = h.sets.drained; fresh = h.sets.fresh; old_enables = h.sets.old_enables; carried_enables = h.sets.carried_enables; new_enables = h.sets.new_enables; spare = h.sets.spare; past = h.sets.past };
@@ -49,7 +49,7 @@ module _ (words q hart : ℕ) (reach : Option Place) (v : View) (hand : Hand) (f
     looks = refl;
   }
 
-pub memory_replaced : (words q hart : ℕ) (reach : Option Place) (v : View) (hand : Hand) (file : InterruptFile) (saw : Bool) (there : Home) → rests_in_memory there ≡ true
+pub memory_replaced : (words q hart : ℕ) (reach : Option Place) (v : Places) (hand : Hand) (file : InterruptFile) (saw : Bool) (there : Home) → rests_in_memory there ≡ true
     → (slot : Mrif) (now : Hand) (after : InterruptFile) → HasSets words slot after → now.delivery ≡ after.delivery → now.threshold ≡ after.threshold
     → Holds words q hart reach v there hand file saw → Holds words q hart reach (record v { slot = slot }) there now after saw
 memory_replaced words q hart reach v hand file saw Parked rests slot now after has delivery threshold h = parked_replaced words q hart reach v hand file saw slot now after has delivery threshold h
@@ -62,14 +62,14 @@ memory_replaced words q hart reach v hand file saw (Shifting from to at) rests s
 
 -- ---- what its slot and what is kept beside it show
 
-parked_has : (n words q hart : ℕ) (reach : Option Place) (v : View) (hand : Hand) (file : InterruptFile) (saw : Bool) → IsWithin n words file
+parked_has : (n words q hart : ℕ) (reach : Option Place) (v : Places) (hand : Hand) (file : InterruptFile) (saw : Bool) → IsWithin n words file
     → Holds words q hart reach v Parked hand file saw → HasSets words v.slot file
 parked_has n words q hart reach v hand file saw within h = record {
   inside = λ i l. (parked-pending n words q hart reach v hand file saw h i l, parked-enabled n words q hart reach v hand file saw h within i);
   above = λ i g. (h.sets.past i g).4;
 }
 
-pub memory_has : (n words q hart : ℕ) (reach : Option Place) (v : View) (hand : Hand) (file : InterruptFile) (saw : Bool) (there : Home) → rests_in_memory there ≡ true
+pub memory_has : (n words q hart : ℕ) (reach : Option Place) (v : Places) (hand : Hand) (file : InterruptFile) (saw : Bool) (there : Home) → rests_in_memory there ≡ true
     → IsWithin n words file → Holds words q hart reach v there hand file saw → HasSets words v.slot file
 memory_has n words q hart reach v hand file saw Parked rests within h = parked_has n words q hart reach v hand file saw within h
 memory_has n words q hart reach v hand file saw Entered rests within h = parked_has n words q hart reach v hand file saw within (exit-holds words q hart reach v hand file saw h)
@@ -78,7 +78,7 @@ memory_has n words q hart reach v hand file saw (Leaving from at) rests within h
 memory_has n words q hart reach v hand file saw (Arriving to at) rests within h = absurd (cc)
 memory_has n words q hart reach v hand file saw (Shifting from to at) rests within h = absurd (cc)
 
-pub memory_kept : (words q hart : ℕ) (reach : Option Place) (v : View) (hand : Hand) (file : InterruptFile) (saw : Bool) (there : Home) → rests_in_memory there ≡ true
+pub memory_kept : (words q hart : ℕ) (reach : Option Place) (v : Places) (hand : Hand) (file : InterruptFile) (saw : Bool) (there : Home) → rests_in_memory there ≡ true
     → Holds words q hart reach v there hand file saw → (hand.delivery ≡ file.delivery) × (hand.threshold ≡ file.threshold)
 memory_kept words q hart reach v hand file saw Parked rests h = (h.numbers.kept_delivery refl, h.numbers.kept_threshold refl)
 memory_kept words q hart reach v hand file saw Entered rests h = (h.numbers.kept_delivery refl, h.numbers.kept_threshold refl)

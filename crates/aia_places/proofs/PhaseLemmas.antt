@@ -15,7 +15,7 @@ use Rattle.aia_home.specs.BySteps.{old_file, new_file, is_drained, delivery_in_o
 use Rattle.aia_home.specs.Routes.{origin}
 use Rattle.aia_home.proofs.PhaseLemmas.{closed_reach, closing_closed, drain_closed, enable_drained, looks_moved, after_enable, after_looks}
 use Rattle.aia_word.specs.Sets.{has_bit}
-use Rattle.aia_places.specs.View.{View, old_place, new_place, leads_to}
+use Rattle.aia_places.specs.Places.{Places, old_place, new_place, leads_to}
 use Rattle.aia_places.specs.Holds.{Hand, Holds, IsEmpty}
 use Rattle.aia_places.specs.Stores.{AreApart}
 
@@ -28,7 +28,7 @@ two_ends (Leaving from at) moves apart = λ e. absurd (cc)
 two_ends (Arriving to at) moves apart = λ e. absurd (cc)
 two_ends (Shifting from to at) moves apart = λ e. let same : to ≡ from = cc in let itself : is_place from to ≡ true = rw same (is_itself_place from) in let no : true ≡ false = sym itself ∙ apart in absurd (cc)
 
-module _ (words q hart : ℕ) (reach : Option Place) (v : View) (there : Home) (hand : Hand) (file : InterruptFile) (saw : Bool) (moves : is_moving there ≡ true) (h : Holds words q hart reach v there hand file saw) where
+module _ (words q hart : ℕ) (reach : Option Place) (v : Places) (there : Home) (hand : Hand) (file : InterruptFile) (saw : Bool) (moves : is_moving there ≡ true) (h : Holds words q hart reach v there hand file saw) where
   pub closing_knows : has_come words there ClosingPhase ≡ true → v.in_force ≡ leads_to q hart (new_file there)
   closing_knows come = h.routes.in_force ∙ ap (leads_to q hart) (closed_reach there reach (closing_closed words there moves come) h.routes.may)
 
@@ -63,7 +63,7 @@ module _ (words q hart : ℕ) (reach : Option Place) (v : View) (there : Home) (
       (h.sets.old_enables i low ∙ ap (λ b. not b && file.enabled i) both.0, h.sets.new_enables i low ∙ ap (λ b. b && file.enabled i) both.1)
 
 -- the file that is left, once only its threshold may be there
-pub last_knows : (words q hart : ℕ) (reach : Option Place) (v : View) (there : Home) (hand : Hand) (file : InterruptFile) (saw : Bool) (p : Place) → old_file there ≡ Some p
+pub last_knows : (words q hart : ℕ) (reach : Option Place) (v : Places) (there : Home) (hand : Hand) (file : InterruptFile) (saw : Bool) (p : Place) → old_file there ≡ Some p
     → has_come words there LastPhase ≡ true → Holds words q hart reach v there hand file saw
     → IsEmpty (record v.own { threshold = 0 }) × (v.own.threshold ≡ (if is_made words there TakeThreshold then 0 else file.threshold))
 last_knows words q hart reach v there hand file saw p old come h = either there old come h

@@ -10,8 +10,8 @@ use Rattle.aia_home.specs.Home.{Home}
 use Rattle.aia_home.specs.Home.Home.{Leaving, Arriving, Shifting}
 use Rattle.aia_home.specs.BySteps.{new_file}
 use Rattle.aia_home.specs.Plans.{Access}
-use Rattle.aia_home.specs.Plans.Access.{TakeDelivery, PutDelivery, WriteNotice, WriteEntry, Fence, WriteStage, FenceStage, TakePending, PutPending, TakeEnables, PutEnables, Look, TakeThreshold, PutThreshold, Post}
-use Rattle.aia_places.specs.View.{View, TwoSets, old_place, new_place, entry_word, second_word}
+use Rattle.aia_home.specs.Plans.Access.{TakeDelivery, PutDelivery, WriteNotice, WriteEntry, Fence, Map, GFence, TakePending, PutPending, TakeEnables, PutEnables, Look, TakeThreshold, PutThreshold, Post}
+use Rattle.aia_places.specs.Places.{Places, TwoSets, old_place, new_place, entry_word, second_word}
 use Rattle.aia_places.specs.Holds.{Hand, meets}
 
 -- ---- a place with other sets
@@ -19,23 +19,23 @@ use Rattle.aia_places.specs.Holds.{Hand, meets}
 abbrev pub with_file_sets : InterruptFile → TwoSets → InterruptFile
 with_file_sets file sets = record file { pending = sets.pending; enabled = sets.enabled }
 
-abbrev pub with_slot_sets : View → TwoSets → View
+abbrev pub with_slot_sets : Places → TwoSets → Places
 with_slot_sets v sets =
     record v { slot = record { pending = sets.pending; enabled = sets.enabled } }
 
 -- The old place, and the new place, of a move with other sets.
-abbrev pub with_old : Home → View → TwoSets → View
+abbrev pub with_old : Home → Places → TwoSets → Places
 with_old (Arriving to at) v sets = with_slot_sets v sets
 with_old there v sets = record v { own = with_file_sets v.own sets }
 
-abbrev pub with_new : Home → View → TwoSets → View
+abbrev pub with_new : Home → Places → TwoSets → Places
 with_new (Leaving from at) v sets = with_slot_sets v sets
 with_new (Arriving to at) v sets = record v { own = with_file_sets v.own sets }
 with_new (Shifting from to at) v sets = record v { next = with_file_sets v.next sets }
 with_new there v sets = v
 
 -- The new file of a move with other numbers.
-abbrev pub with_new_file : Home → View → (InterruptFile → InterruptFile) → View
+abbrev pub with_new_file : Home → Places → (InterruptFile → InterruptFile) → Places
 with_new_file (Shifting from to at) v after = record v { next = after v.next }
 with_new_file there v after = record v { own = after v.own }
 
@@ -54,37 +54,37 @@ replaced_by w word set i = if nat_eq (i / 64) w then has_bit word (i % 64) else 
 
 -- What it makes of the places, of the virtual hart of slot q, whose notices go to a hart. A fence
 -- puts in force what the words say.
-abbrev pub view_after : ℕ → ℕ → Access → Home → View → Hand → View
-view_after q hart TakeDelivery there v hand =
+abbrev pub places_after : ℕ → ℕ → Access → Home → Places → Hand → Places
+places_after q hart TakeDelivery there v hand =
     record v { own = accessed Delivery (ops.Write 0) v.own }
-view_after q hart PutDelivery there v hand =
+places_after q hart PutDelivery there v hand =
     with_new_file there v (accessed Delivery (ops.Write hand.delivery))
-view_after q hart WriteNotice there v hand = record v { word1 = second_word q hart }
-view_after q hart WriteEntry there v hand = record v { word0 = entry_word q (new_file there) }
-view_after q hart Fence there v hand = record v { in_force = decoded v.word0 v.word1 }
-view_after q hart WriteStage there v hand = record v { stage = new_file there }
-view_after q hart FenceStage there v hand = record v { stage_in_force = v.stage }
-view_after q hart (TakePending w) there v hand = with_old there v
+places_after q hart WriteNotice there v hand = record v { word1 = second_word q hart }
+places_after q hart WriteEntry there v hand = record v { word0 = entry_word q (new_file there) }
+places_after q hart Fence there v hand = record v { in_force = decoded v.word0 v.word1 }
+places_after q hart Map there v hand = record v { stage = new_file there }
+places_after q hart GFence there v hand = record v { stage_in_force = v.stage }
+places_after q hart (TakePending w) there v hand = with_old there v
     (record (old_place v there) { pending = without_word w (old_place v there).pending })
-view_after q hart (PutPending w) there v hand = with_new there v
+places_after q hart (PutPending w) there v hand = with_new there v
     (record (new_place v there) { pending = joined_by w hand.word (new_place v there).pending })
-view_after q hart (TakeEnables w) there v hand = with_old there v
+places_after q hart (TakeEnables w) there v hand = with_old there v
     (record (old_place v there) { enabled = without_word w (old_place v there).enabled })
-view_after q hart (PutEnables w) there v hand = with_new there v
+places_after q hart (PutEnables w) there v hand = with_new there v
     (record (new_place v there) { enabled = replaced_by w hand.word (new_place v there).enabled })
-view_after q hart (Look w) there v hand = v
-view_after q hart TakeThreshold there v hand =
+places_after q hart (Look w) there v hand = v
+places_after q hart TakeThreshold there v hand =
     record v { own = accessed Threshold (ops.Write 0) v.own }
-view_after q hart PutThreshold there v hand =
+places_after q hart PutThreshold there v hand =
     with_new_file there v (accessed Threshold (ops.Write hand.threshold))
-view_after q hart Post there v hand = v
+places_after q hart Post there v hand = v
 
 -- A word shows word w of a set.
 abbrev pub Shows : ℕ → ℕ → (ℕ → Bool) → Type 0
 Shows word w set = (i : ℕ) → i / 64 ≡ w → has_bit word (i % 64) ≡ set i
 
 -- What it makes of what is carried. A look sees words p and e that show word w of the slot's sets.
-abbrev pub CarriedAfter : Access → Home → View → Hand → Hand → Type 0
+abbrev pub CarriedAfter : Access → Home → Places → Hand → Hand → Type 0
 CarriedAfter TakeDelivery there v hand now = now ≡ record hand { delivery = v.own.delivery }
 CarriedAfter (TakePending w) there v hand now =
     Shows now.word w (old_place v there).pending × (now ≡ record hand { word = now.word })
@@ -97,15 +97,15 @@ CarriedAfter TakeThreshold there v hand now = now ≡ record hand { threshold = 
 CarriedAfter access there v hand now = now ≡ hand
 
 -- A step of the move makes it.
-pub record StepMade (q hart : ℕ) (access : Access) (there : Home) (v : View) (hand : Hand)
-    (u : View) (now : Hand) : Type 0 where
-  pub places : u ≡ view_after q hart access there v hand
+pub record StepMade (q hart : ℕ) (access : Access) (there : Home) (v : Places) (hand : Hand)
+    (u : Places) (now : Hand) : Type 0 where
+  pub places : u ≡ places_after q hart access there v hand
   pub carried : CarriedAfter access there v hand now
 
 -- ---- a move ends, and a store lands
 
 -- The places of a virtual hart whose move has ended: the file that it left is its own no more.
-abbrev pub view_ended : ℕ → Home → View → View
-view_ended n (Leaving from at) v = record v { own = empty_file n }
-view_ended n (Shifting from to at) v = record v { own = v.next; next = empty_file n }
-view_ended n there v = v
+abbrev pub places_ended : ℕ → Home → Places → Places
+places_ended n (Leaving from at) v = record v { own = empty_file n }
+places_ended n (Shifting from to at) v = record v { own = v.next; next = empty_file n }
+places_ended n there v = v

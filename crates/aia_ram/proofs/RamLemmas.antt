@@ -6,7 +6,7 @@ use Rattle.std.specs.Prelude.{slice_index}
 use Rattle.std.proofs.lemmas.List.{drop-drop, length-drop, drop_all, take_all, append-nil, length-replicate}
 use Rattle.byteorder.specs.Endian.{little_number, little_bytes}
 use Rattle.byteorder.specs.Numbers.{little_number-reads_back, little_from-append, little_from-take, length-bytes_low_first}
-use Rattle.aia_ram.specs.Words.{Fits, word_in, bytes_in, words_of}
+use Rattle.aia_ram.specs.Words.{HasWordAt, word_in, bytes_in, words_of}
 
 pub length-words_of : (n : ℕ) (bytes : List ℕ) → length (words_of n bytes) ≡ n
 length-words_of zero bytes = refl
@@ -130,13 +130,13 @@ words_there bytes words e = ap length e ∙ length-words_of (length bytes / 8) b
 pub zeros_are_words : (len : ℕ) (bytes : List ℕ) → bytes ≡ replicate len 0 → words_of (length bytes / 8) bytes ≡ replicate (len / 8) 0
 zeros_are_words len bytes e = rw (e, length-replicate len) (words_of_zeros (len / 8) len)
 
-pub word_loaded : (at w : ℕ) (bytes words : List ℕ) → words ≡ words_of (length bytes / 8) bytes → Fits words at → w ≡ word_in (drop at bytes) → w ≡ get_or words (at / 8) 0
+pub word_loaded : (at w : ℕ) (bytes words : List ℕ) → words ≡ words_of (length bytes / 8) bytes → HasWordAt words at → w ≡ word_in (drop at bytes) → w ≡ get_or words (at / 8) 0
 word_loaded at w bytes words e fits is =
     let l = words_there bytes words e in
     let g : 8 * (at / 8) ≡ at = omega (arith, fits.0) in
     rw e (is ∙ ap (λ k. word_in (drop k bytes)) (sym g) ∙ sym (word_at (length bytes / 8) (at / 8) bytes (omega (arith, fits.1, l))))
 
-pub word_stored : (at v : ℕ) (bytes new words : List ℕ) → words ≡ words_of (length bytes / 8) bytes → Fits words at → v < 2 ^ 64 → new ≡ take at bytes ++ (bytes_in v ++ drop (at + 8) bytes) → length new ≡ length bytes → words_of (length new / 8) new ≡ set words (at / 8) v
+pub word_stored : (at v : ℕ) (bytes new words : List ℕ) → words ≡ words_of (length bytes / 8) bytes → HasWordAt words at → v < 2 ^ 64 → new ≡ take at bytes ++ (bytes_in v ++ drop (at + 8) bytes) → length new ≡ length bytes → words_of (length new / 8) new ≡ set words (at / 8) v
 word_stored at v bytes new words e fits small is same =
     let n = length bytes / 8 in
     let l = words_there bytes words e in

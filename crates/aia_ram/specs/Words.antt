@@ -16,5 +16,5 @@ words_of zero bytes = []
 words_of (suc count) bytes = word_in bytes ∷ words_of count (drop 8 bytes)
 
 -- A word of the row begins at byte `at`: `at` is a multiple of 8, and the row has that word.
-abbrev pub Fits : List ℕ → ℕ → Type 0
-Fits words at = (at % 8 ≡ 0) × (at / 8 < length words)
+abbrev pub HasWordAt : List ℕ → ℕ → Type 0
+HasWordAt words at = (at % 8 ≡ 0) × (at / 8 < length words)

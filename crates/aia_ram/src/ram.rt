@@ -1,5 +1,5 @@
 ghost use Rattle.std.specs.Prelude.{◌≡◌, ℕ, ◌+◌, ◌*◌, ◌/◌, ◌<◌, ◌≤◌, ◌↔◌, ◌++◌, length, take, drop, replicate, slice_index, slice_set, bit_or, IsTrue, IfOk};
-ghost use Rattle.aia_ram.specs.Words.{Fits, word_in, bytes_in};
+ghost use Rattle.aia_ram.specs.Words.{HasWordAt, word_in, bytes_in};
 
 use byteorder::{ByteOrder, LittleEndian};
 use std::alloc::{AllocError, Global};
@@ -35,8 +35,8 @@ impl Ram {
     /// Tells whether a word begins at byte `at`: `at` is a multiple of 8, and all of the word is
     /// there.
     #[tactic(auto, using(crate::proofs::RamLemmas::words_there))]
-    pub fn fits(&self, at: usize) -> bool
-        ensures { IsTrue result ↔ Fits self.now at }
+    pub fn has_word_at(&self, at: usize) -> bool
+        ensures { IsTrue result ↔ HasWordAt self.now at }
     {
         at % 8 == 0 && at / 8 < self.bytes.len() / 8
     }
@@ -52,7 +52,7 @@ impl Ram {
     /// Gives the word at byte `at`, where one begins.
     #[tactic(auto, using(crate::proofs::RamLemmas::words_there, crate::proofs::RamLemmas::word_loaded))]
     pub fn load(&self, at: usize) -> u64
-        requires { Fits self.now at }
+        requires { HasWordAt self.now at }
         ensures { result ≡ slice_index self.now (at / 8) }
     {
         read_word(&self.bytes, at)
@@ -61,7 +61,7 @@ impl Ram {
     /// Makes `v` the word at byte `at`, where one begins; every other word stays.
     #[tactic(auto, using(crate::proofs::RamLemmas::words_there, crate::proofs::RamLemmas::word_stored))]
     pub fn store(&mut self, at: usize, v: u64)
-        requires { Fits self.old at }
+        requires { HasWordAt self.old at }
         ensures { self.new ≡ slice_set self.old (at / 8) v }
     {
         put_word(&mut self.bytes, at, v);
@@ -70,7 +70,7 @@ impl Ram {
     /// Sets the ones of `v` in the word at byte `at`, where one begins; its other bits, and every
     /// other word, stay.
     pub fn or(&mut self, at: usize, v: u64)
-        requires { Fits self.old at }
+        requires { HasWordAt self.old at }
         ensures { self.new
             ≡ slice_set self.old (at / 8) (bit_or (slice_index self.old (at / 8)) v) }
     {
@@ -81,7 +81,7 @@ impl Ram {
     /// Makes `v` the word at byte `at`, where one begins, and gives what stood there; every other
     /// word stays.
     pub fn swap(&mut self, at: usize, v: u64) -> u64
-        requires { Fits self.old at }
+        requires { HasWordAt self.old at }
         ensures stood { result ≡ slice_index self.old (at / 8) }
         ensures after { self.new ≡ slice_set self.old (at / 8) v }
     {

@@ -6,8 +6,8 @@ use Rattle.std.specs.Int.{is_in_range}
 use Rattle.aia_regs.specs.declared.access.Op.{Op}
 use Rattle.aia_regs.specs.declared.file_registers.FileReg.{FileReg}
 use Rattle.aia_regs.specs.declared.file_registers.FileReg.TheVariants.{Delivery, Threshold, Pending, Enable, Reserved, Odd, Outside}
-use Rattle.aia_regs.specs.Word.{Word}
-use Rattle.aia_regs.specs.Word.Word.{Nothing}
+use Rattle.aia_regs.specs.BitUpdate.{BitUpdate}
+use Rattle.aia_regs.specs.BitUpdate.BitUpdate.{Nothing}
 use Rattle.aia_regs.specs.Operations.{is_writing, written, bit_said}
 
 -- ---- which register a select number names
@@ -41,16 +41,16 @@ abbrev pub shows : ℕ → ℕ → ℕ → Bool
 shows n k i = is_in_range 1 n i && is_in_range (32 * k) (32 * k + 63) i
 
 -- What an access to register k of a set says of identity i, where it shows it.
-abbrev pub set_said : ℕ → ℕ → Op → ℕ → Word
+abbrev pub set_said : ℕ → ℕ → Op → ℕ → BitUpdate
 set_said n k op i = if shows n k i then bit_said op (i - 32 * k) else Nothing
 
 -- What an access to a register says of identity i's being pending: one to eip says it.
-abbrev pub eip_said : ℕ → FileReg → Op → ℕ → Word
+abbrev pub eip_said : ℕ → FileReg → Op → ℕ → BitUpdate
 eip_said n (Pending k) op i = set_said n k op i
 eip_said n r op i = Nothing
 
 -- What it says of identity i's being enabled: one to eie says it.
-abbrev pub eie_said : ℕ → FileReg → Op → ℕ → Word
+abbrev pub eie_said : ℕ → FileReg → Op → ℕ → BitUpdate
 eie_said n (Enable k) op i = set_said n k op i
 eie_said n r op i = Nothing
 

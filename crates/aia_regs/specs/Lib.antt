@@ -1,4 +1,4 @@
-pub mod Word
+pub mod BitUpdate
 pub mod Operations
 pub mod FileRegisters
 pub mod DomainRegisters

@@ -4,8 +4,8 @@ use Rattle.std.specs.Prelude.{ℕ, ◌^◌, ◌<◌, Bool, true, false, nat_eq, 
 use Rattle.std.specs.Int.{bit_at, bit_not, w64}
 use Rattle.aia_regs.specs.declared.access.Op.{Op}
 use Rattle.aia_regs.specs.declared.access.Op.TheVariants as ops
-use Rattle.aia_regs.specs.Word.{Word}
-use Rattle.aia_regs.specs.Word.Word.{Ask, Clear, Nothing}
+use Rattle.aia_regs.specs.BitUpdate.{BitUpdate}
+use Rattle.aia_regs.specs.BitUpdate.BitUpdate.{Ask, Clear, Nothing}
 
 -- Whether the instruction writes: `csrr` never does, the others always do, also where they change
 -- no bit. Profile: `csrrs` and `csrrc` write whatever their operand is.
@@ -23,18 +23,18 @@ written (ops.Write v) old = v
 written (ops.Set v) old = bit_or old v
 written (ops.Clear v) old = bit_and old (bit_not w64 v)
 
--- Whether bit b of a number is a one, b counted from 0 at the lowest: aia_word's has_bit.
--- Vocabulary.
-abbrev pub is_one : ℕ → ℕ → Bool
-is_one v b = nat_eq (bit_at v b) 1
+-- Whether bit b of a number is a one, b counted from 0 at the lowest: has_bit of aia_word, on which
+-- the registers do not stand. Vocabulary.
+abbrev pub has_bit : ℕ → ℕ → Bool
+has_bit v b = nat_eq (bit_at v b) 1
 
 -- What it says of bit b of the register; that this is the number written, bit by bit, is a law of
 -- the file's crate.
-abbrev pub bit_said : Op → ℕ → Word
+abbrev pub bit_said : Op → ℕ → BitUpdate
 bit_said ops.Read b = Nothing
-bit_said (ops.Write v) b = if is_one v b then Ask else Clear
-bit_said (ops.Set v) b = if is_one v b then Ask else Nothing
-bit_said (ops.Clear v) b = if is_one v b then Clear else Nothing
+bit_said (ops.Write v) b = if has_bit v b then Ask else Clear
+bit_said (ops.Set v) b = if has_bit v b then Ask else Nothing
+bit_said (ops.Clear v) b = if has_bit v b then Clear else Nothing
 
 -- Whether the operand has 64 bits.
 abbrev pub FitsOp : Op → Type 0

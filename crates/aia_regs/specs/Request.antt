@@ -2,8 +2,8 @@
 -- AIA 1.0, IMSIC, "Memory region for an interrupt file".
 use Rattle.std.specs.Prelude.{ℕ, nat_eq, if◌then◌else◌, Option, Some, None}
 use Rattle.std.specs.Int.{swap_bytes, is_in_range, w32}
-use Rattle.aia_regs.specs.Word.{Word, names}
-use Rattle.aia_regs.specs.Word.Word.{Ask, Nothing}
+use Rattle.aia_regs.specs.BitUpdate.{BitUpdate, names}
+use Rattle.aia_regs.specs.BitUpdate.BitUpdate.{Ask, Nothing}
 
 -- The number that a 32-bit store writes to seteipnum_le, at offset 0, or to seteipnum_be, at offset
 -- 4; None at every other offset.
@@ -25,5 +25,5 @@ abbrev pub requested : ℕ → ℕ → ℕ → Option ℕ
 requested n offset value = implemented n (number_written offset value)
 
 -- What the store says of identity i.
-abbrev pub request_said : ℕ → ℕ → ℕ → ℕ → Word
+abbrev pub request_said : ℕ → ℕ → ℕ → ℕ → BitUpdate
 request_said n offset value i = if names (requested n offset value) i then Ask else Nothing

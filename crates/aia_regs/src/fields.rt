@@ -3,12 +3,12 @@
 ghost use Rattle.std.specs.Prelude.{◌≡◌, ℕ, ◌+◌, ◌-◌, ◌^◌, ◌<◌, ◌≤◌};
 ghost use Rattle.std.specs.Int.{bit_at};
 ghost use Rattle.aia_regs.specs.Fields.{field, with_field, IsOutside};
-ghost use Rattle.aia_regs.specs.Operations.{is_one};
+ghost use Rattle.aia_regs.specs.Operations.{has_bit};
 
 /// Tells whether the bit of `x` at a place, 0 to 63, is a one, the lowest being at 0.
 pub fn bit(x: u64, place: u32) -> bool
     requires within { place < 64 }
-    ensures { result ≡ is_one x place }
+    ensures { result ≡ has_bit x place }
 {
     (x >> place) % 2 == 1
 }

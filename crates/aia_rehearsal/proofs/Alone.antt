@@ -6,7 +6,7 @@ use Rattle.aia_regs.specs.declared.limits.TheConstants.{VCPUS, ENTRIES}
 use Rattle.aia_regs.specs.declared.address_map.TheConstants.{PAGE}
 use Rattle.aia_regs.specs.declared.file_registers.FileReg.{FileReg}
 use Rattle.aia_regs.specs.declared.file_registers.FileReg.TheVariants.{Delivery, Threshold}
-use Rattle.aia_imsic.specs.declared.spot.Spot.TheVariants.{HostFile}
+use Rattle.aia_imsic.specs.declared.spot.Spot.TheVariants.{SupervisorFile}
 use Rattle.aia_entry.specs.declared.entry.Entry.{Entry}
 use Rattle.aia_entry.specs.declared.table.Route.{Route}
 use Rattle.aia_entry.specs.declared.table.Route.TheVariants.{Other, Fault, To}
@@ -17,18 +17,18 @@ use Rattle.aia_home.specs.declared.place.Place.{Place}
 use Rattle.aia_home.specs.Home.Home.{Parked}
 use Rattle.aia_home.specs.Vms.{Vcpu, vcpu, is_vcpu_in, slot_of, notice_identity, notice_hart}
 use Rattle.aia_home.proofs.VmLemmas.{same_slot}
-use Rattle.aia_places.specs.View.{View}
-use Rattle.aia_fabric.specs.declared.stage.Stage.{Stage}
-use Rattle.aia_fabric.specs.World.{World, stage_of, flight_of, no_stage}
-use Rattle.aia_fabric.specs.Whole.{IsWhole}
-use Rattle.aia_fabric.specs.Making.{entry_word_place}
-use Rattle.aia_fabric.specs.Stores.{Reaches, ReachesBy, Relays, named_spot}
-use Rattle.aia_fabric.specs.Flights.{Sends, Lands, LandsOldest}
-use Rattle.aia_fabric.specs.Changes.{view, pending_words, enable_words, with_pending, with_enable, with_entry_word, with_fence, with_stage}
-use Rattle.aia_fabric.proofs.ViewLemmas.{fence-view, slot_low}
-use Rattle.aia_fabric.proofs.WholeLemmas.{vcpu_entry, notice_hart_there}
-use Rattle.aia_move.specs.Move.{PostsIf}
-use Rattle.aia_move.specs.Touches.{SameMachine}
+use Rattle.aia_places.specs.Places.{Places}
+use Rattle.aia_world.specs.declared.stage.Stage.{Stage}
+use Rattle.aia_world.specs.World.{World, stage_of, flight_of, no_stage}
+use Rattle.aia_world.specs.Whole.{IsWhole}
+use Rattle.aia_world.specs.Making.{entry_word_place}
+use Rattle.aia_world.specs.Stores.{Reaches, ReachesBy, Relays, named_spot}
+use Rattle.aia_world.specs.Flights.{Sends, Lands, LandsOldest}
+use Rattle.aia_world.specs.Changes.{places_of, pending_words, enable_words, with_pending, with_enable, with_entry_word, with_fence, with_stage}
+use Rattle.aia_world.proofs.ViewLemmas.{fence-places, slot_low}
+use Rattle.aia_world.proofs.WholeLemmas.{vcpu_entry, notice_hart_there}
+use Rattle.aia_moving.specs.Move.{PostsIf}
+use Rattle.aia_moving.specs.Touches.{SameMachine}
 use Rattle.aia_plan.specs.declared.step.Step.{Step}
 use Rattle.aia_plan.specs.declared.step.Step.TheVariants as steps
 use Rattle.aia_rehearsal.specs.declared.place.Place as ends
@@ -38,7 +38,7 @@ use Rattle.aia_rehearsal.specs.Steps.{Puts, Makes}
 use Rattle.aia_rehearsal.specs.Stands.{Routes, routes_of, side_of}
 use Rattle.aia_rehearsal.specs.Events.{Event, Happens, IsAlone, NamesElsewhere}
 use Rattle.aia_rehearsal.specs.Events.Event.{Steps, DeviceStores, PeerStores, DeviceSends, StoreLands, EntryRead}
-use Rattle.aia_move.proofs.WhoLemmas.{small_who}
+use Rattle.aia_moving.proofs.WhoLemmas.{small_who}
 use Rattle.aia_rehearsal.proofs.PlaceSteps.{pending_routes, enabled_routes}
 use Rattle.aia_rehearsal.proofs.Carried.{side_same}
 use Rattle.aia_rehearsal.proofs.StoreSeen.{at_spot, at_slot}
@@ -74,7 +74,7 @@ alone_by w u p same kept alone = record {
 
 -- a passage of another virtual hart, of which nothing else matters
 abbrev of_other : Passage → Vcpu → Passage
-of_other p g = record { who = record p.who { vm = g.vm; vcpu = g.number }; old = Slot; new = Slot }
+of_other p g = record { who = record p.who { found = record p.who.found { vm = g.vm; number = g.number } }; old = Slot; new = Slot }
 
 module _ (w u : World) (p : Passage) (whole : IsWhole w) where
   entry_kept : (entry : Entry) (offset value : ℕ) → ReachesBy entry w u offset value → (g : Vcpu) → routes_of u g ≡ routes_of w g
@@ -88,7 +88,7 @@ module _ (w u : World) (p : Passage) (whole : IsWhole w) where
   relays_kept : (to : Vcpu) (named : Option Place) (value : ℕ) → is_vcpu_in w.vms to ≡ true → Relays named w u to value → (g : Vcpu) → routes_of u g ≡ routes_of w g
   relays_kept to (Some a) value there relays g = (at_spot w u (of_other p g) 0 value whole (named_spot w.imsic a) (named_spot_there w a) relays).routes
   relays_kept to None value there relays g =
-      (at_slot w u (of_other p g) 0 value whole (Some (slot_of w.vms to)) (HostFile (notice_hart w.vms to)) (notice_identity w.vms to) (λ n e. let same : slot_of w.vms to ≡ n = cc in let low = slot_low w to whole there in omega (arith, low, same)) (λ some. notice_hart_there w to whole there) relays).routes
+      (at_slot w u (of_other p g) 0 value whole (Some (slot_of w.vms to)) (SupervisorFile (notice_hart w.vms to)) (notice_identity w.vms to) (λ n e. let same : slot_of w.vms to ≡ n = cc in let low = slot_low w to whole there in omega (arith, low, same)) (λ some. notice_hart_there w to whole there) relays).routes
 
   lands_kept : (vm k : ℕ) → Lands w u vm k → (g : Vcpu) → routes_of u g ≡ routes_of w g
   lands_kept vm k l g = ap (λ (x : World). routes_of x g) l.taken ∙ (entry_seen w l.stored (of_other p g) l.store.offset l.store.value whole l.store.entry l.reaches).routes
@@ -109,19 +109,19 @@ one_entry : (a b c d x y : ℕ) → b < ENTRIES → d < ENTRIES → x ≤ 1 → 
 one_entry a b c d x y low small one two e = (omega arith, omega arith)
 
 module _ (w : World) (p : Passage) (whole : IsWhole w) (of : IsOf w p) where
-  words_apart : (g : Vcpu) (which : ℕ) → which ≤ 1 → is_vcpu_in w.vms g ≡ true → g ≢ moved p → (x : ℕ) → x ≤ 1 → entry_word_place g.vm g.number + x ≢ entry_word_place p.who.vm p.who.vcpu + which
+  words_apart : (g : Vcpu) (which : ℕ) → which ≤ 1 → is_vcpu_in w.vms g ≡ true → g ≢ moved p → (x : ℕ) → x ≤ 1 → entry_word_place g.vm g.number + x ≢ entry_word_place p.who.found.vm p.who.found.number + which
   words_apart g which one there other x two same =
-      let mine = vcpu_entry w p.who.vm p.who.vcpu whole of.who.there in
+      let mine = vcpu_entry w p.who.found.vm p.who.found.number whole of.who.there in
       let its = vcpu_entry w g.vm g.number whole there in
-      let both = one_entry g.vm g.number p.who.vm p.who.vcpu x which its.2 mine.2 two one same in
+      let both = one_entry g.vm g.number p.who.found.vm p.who.found.number x which its.2 mine.2 two one same in
       other (λ k. vcpu (both.0 k) (both.1 k))
 
-  word_kept : (which v : ℕ) → which ≤ 1 → OthersKept w (with_entry_word w p.who.vm p.who.vcpu which v) p
+  word_kept : (which v : ℕ) → which ≤ 1 → OthersKept w (with_entry_word w p.who.found.vm p.who.found.number which v) p
   word_kept which v one = record {
     in_force = λ g other. refl;
     routes = λ g there other.
-        let first = get_or-set_other w.memory (entry_word_place p.who.vm p.who.vcpu + which) (entry_word_place g.vm g.number) v 0 (λ e. words_apart g which one there other 0 (omega arith) (zero_more (entry_word_place g.vm g.number) ∙ e)) in
-        let second = get_or-set_other w.memory (entry_word_place p.who.vm p.who.vcpu + which) (entry_word_place g.vm g.number + 1) v 0 (words_apart g which one there other 1 (omega arith)) in
+        let first = get_or-set_other w.memory (entry_word_place p.who.found.vm p.who.found.number + which) (entry_word_place g.vm g.number) v 0 (λ e. words_apart g which one there other 0 (omega arith) (zero_more (entry_word_place g.vm g.number) ∙ e)) in
+        let second = get_or-set_other w.memory (entry_word_place p.who.found.vm p.who.found.number + which) (entry_word_place g.vm g.number + 1) v 0 (words_apart g which one there other 1 (omega arith)) in
         λ k. record (routes_of w g) { word0 = first k; word1 = second k };
   }
     where
@@ -136,20 +136,20 @@ module _ (w : World) (p : Passage) (whole : IsWhole w) (of : IsOf w p) where
         λ k. record (routes_of w g) { stage = stage k };
   }
 
-  fence_kept : OthersKept w (with_fence w p.who.vm p.who.vcpu) p
+  fence_kept : OthersKept w (with_fence w p.who.found.vm p.who.found.number) p
   fence_kept = record {
-    in_force = λ g other. fenced_elsewhere w.tables p.who.vm p.who.vcpu w.memory g.vm g.number (elsewhere g (moved p) other);
-    routes = λ g there other. let e = fenced_elsewhere w.tables p.who.vm p.who.vcpu w.memory g.vm g.number (elsewhere g (moved p) other) in λ k. record (routes_of w g) { in_force = e k };
+    in_force = λ g other. fenced_elsewhere w.tables p.who.found.vm p.who.found.number w.memory g.vm g.number (elsewhere g (moved p) other);
+    routes = λ g there other. let e = fenced_elsewhere w.tables p.who.found.vm p.who.found.number w.memory g.vm g.number (elsewhere g (moved p) other) in λ k. record (routes_of w g) { in_force = e k };
   }
 
-  low : p.who.slot < VCPUS
+  low : p.who.found.slot < VCPUS
   low = (small_who w p.who whole of.who).1
 
-  pending_kept : (k v : ℕ) (place : ends.Place) → k < pending_words w (at_of p.who.slot place) → OthersKept w (with_pending w (at_of p.who.slot place) k v) p
-  pending_kept k v place few = all_kept w (with_pending w (at_of p.who.slot place) k v) p (λ g. pending_routes w p.who.slot k v whole low g place few)
+  pending_kept : (k v : ℕ) (place : ends.Place) → k < pending_words w (at_of p.who.found.slot place) → OthersKept w (with_pending w (at_of p.who.found.slot place) k v) p
+  pending_kept k v place few = all_kept w (with_pending w (at_of p.who.found.slot place) k v) p (λ g. pending_routes w p.who.found.slot k v whole low g place few)
 
-  enabled_kept : (k v : ℕ) (place : ends.Place) → k < enable_words w (at_of p.who.slot place) → OthersKept w (with_enable w (at_of p.who.slot place) k v) p
-  enabled_kept k v place few = all_kept w (with_enable w (at_of p.who.slot place) k v) p (λ g. enabled_routes w p.who.slot k v whole low g place few)
+  enabled_kept : (k v : ℕ) (place : ends.Place) → k < enable_words w (at_of p.who.found.slot place) → OthersKept w (with_enable w (at_of p.who.found.slot place) k v) p
+  enabled_kept k v place few = all_kept w (with_enable w (at_of p.who.found.slot place) k v) p (λ g. enabled_routes w p.who.found.slot k v whole low g place few)
 
   put_kept : (u : World) (place : ends.Place) (reg : FileReg) (v : ℕ) → Puts w u place reg v → OthersKept w u p
   put_kept u (File a) reg v puts = all_kept w u p (λ g. ap (λ (x : World). routes_of x g) puts.others)
@@ -167,11 +167,11 @@ step_kept steps.Quiet w u r whole of makes = put_kept w r.passage whole of u r.p
 step_kept steps.Word1 w u r whole of e = kept_by w u _ r.passage e (word_kept w r.passage whole of 1 _ (omega arith))
 step_kept steps.Word0 w u r whole of e = kept_by w u _ r.passage e (word_kept w r.passage whole of 0 _ (omega arith))
 step_kept steps.Fence w u r whole of f =
-    let landed = all_landed_kept (length (flight_of w r.passage.who.vm)) w f.landed r.passage r.passage.who.vm f.lands in
+    let landed = all_landed_kept (length (flight_of w r.passage.who.found.vm)) w f.landed r.passage r.passage.who.found.vm f.lands in
     kept_by w u _ r.passage f.fenced (record {
-      in_force = λ g other. fenced_elsewhere f.landed.tables r.passage.who.vm r.passage.who.vcpu f.landed.memory g.vm g.number (elsewhere g (moved r.passage) other) ∙ ap (λ (x : Routes). x.in_force) (landed g);
-      routes = λ g there other. let e = fenced_elsewhere f.landed.tables r.passage.who.vm r.passage.who.vcpu f.landed.memory g.vm g.number (elsewhere g (moved r.passage) other) in
-          let fenced : routes_of (with_fence f.landed r.passage.who.vm r.passage.who.vcpu) g ≡ routes_of f.landed g = λ k. record (routes_of f.landed g) { in_force = e k } in fenced ∙ landed g;
+      in_force = λ g other. fenced_elsewhere f.landed.tables r.passage.who.found.vm r.passage.who.found.number f.landed.memory g.vm g.number (elsewhere g (moved r.passage) other) ∙ ap (λ (x : Routes). x.in_force) (landed g);
+      routes = λ g there other. let e = fenced_elsewhere f.landed.tables r.passage.who.found.vm r.passage.who.found.number f.landed.memory g.vm g.number (elsewhere g (moved r.passage) other) in
+          let fenced : routes_of (with_fence f.landed r.passage.who.found.vm r.passage.who.found.number) g ≡ routes_of f.landed g = λ k. record (routes_of f.landed g) { in_force = e k } in fenced ∙ landed g;
     })
 step_kept steps.Map w u r whole of e = kept_by w u _ r.passage e (stage_kept w r.passage whole of _)
 step_kept steps.Unmap w u r whole of e = kept_by w u _ r.passage e (stage_kept w r.passage whole of _)
@@ -184,7 +184,7 @@ step_kept (steps.PutE k) w u r whole of makes = kept_by w u _ r.passage makes.1 
 step_kept (steps.Look k) w u r whole of e = equal_kept w u r.passage e
 step_kept steps.TakeT w u r whole of makes = put_kept w r.passage whole of u r.passage.old Threshold 0 makes
 step_kept steps.PutT w u r whole of makes = put_kept w r.passage whole of u r.passage.new Threshold r.hand.threshold makes
-step_kept steps.Post w u r whole of makes = post_kept w r.passage whole of u r.hand.seen r.passage.who.notice (r.passage.who.slot + 1) makes
+step_kept steps.Post w u r whole of makes = post_kept w r.passage whole of u r.hand.seen r.passage.who.found.notice (r.passage.who.found.slot + 1) makes
 step_kept steps.Wake w u r whole of makes = put_kept w r.passage whole of u r.passage.new Delivery r.hand.delivery makes
 
 -- ---- all that happens
@@ -202,14 +202,14 @@ read_alone w p vm file whole there alone = record {
   records = alone.records;
 }
   where
-    seen : view (with_fence w vm file) (vcpu vm file) Parked ≡ record (view w (vcpu vm file) Parked) { in_force = decoded (view w (vcpu vm file) Parked).word0 (view w (vcpu vm file) Parked).word1 }
-    seen = fence-view w (vcpu vm file) Parked whole there
+    seen : places_of (with_fence w vm file) (vcpu vm file) Parked ≡ record (places_of w (vcpu vm file) Parked) { in_force = decoded (places_of w (vcpu vm file) Parked).word0 (places_of w (vcpu vm file) Parked).word1 }
+    seen = fence-places w (vcpu vm file) Parked whole there
 
     in_force : (g : Vcpu) → g ≢ moved p → side_of (with_fence w vm file).imsic p (routes_of (with_fence w vm file) g).in_force ≡ None
     in_force g other = elim (cases_eq g.vm vm) [
       | inl same ↦ elim (cases_eq g.number file) [
         | inl too ↦ let is : g ≡ vcpu vm file = λ k. vcpu (same k) (too k) in
-            subst (λ (x : Vcpu). side_of w.imsic p (routes_of (with_fence w vm file) x).in_force ≡ None) (sym is) (ap (λ (v : View). side_of w.imsic p v.in_force) seen ∙ alone.written (vcpu vm file) there (λ e. other (is ∙ e)))
+            subst (λ (x : Vcpu). side_of w.imsic p (routes_of (with_fence w vm file) x).in_force ≡ None) (sym is) (ap (λ (v : Places). side_of w.imsic p v.in_force) seen ∙ alone.written (vcpu vm file) there (λ e. other (is ∙ e)))
         | inr ne ↦ ap (side_of w.imsic p) (fenced_elsewhere w.tables vm file w.memory g.vm g.number (inr ne)) ∙ alone.in_force g other
       ]
       | inr ne ↦ ap (side_of w.imsic p) (fenced_elsewhere w.tables vm file w.memory g.vm g.number (inl ne)) ∙ alone.in_force g other

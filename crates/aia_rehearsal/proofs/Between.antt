@@ -4,8 +4,8 @@ use Rattle.std.specs.Int.{is_in_range}
 use Rattle.std.proofs.lemmas.Bool.{cases_Bool, cases_eq, cond-true, cond-false, eq-eqb, ne_eqb}
 use Rattle.std.proofs.lemmas.Bool.Decides.{nat_tests}
 use Rattle.std.proofs.lemmas.List.{get_or-set_same, get_or-set_other}
-use Rattle.aia_regs.specs.Word.{names}
-use Rattle.aia_imsic.specs.declared.spot.Spot.TheVariants.{HostFile}
+use Rattle.aia_regs.specs.BitUpdate.{names}
+use Rattle.aia_imsic.specs.declared.spot.Spot.TheVariants.{SupervisorFile}
 use Rattle.aia_imsic.specs.Imsic.{ImsicState, IsThere}
 use Rattle.aia_entry.specs.declared.table.Route.{Route}
 use Rattle.aia_entry.specs.declared.table.Route.TheVariants.{Other, Fault, To}
@@ -17,17 +17,17 @@ use Rattle.aia_home.specs.Home.{is_place}
 use Rattle.aia_home.specs.Vms.{Vcpu, is_vcpu_in, slot_of, notice_identity, notice_hart}
 use Rattle.aia_home.proofs.HomeLemmas.{same_place, is_itself_place}
 use Rattle.aia_home.proofs.VmLemmas.{same_slot}
-use Rattle.aia_places.specs.View.{leads_to}
-use Rattle.aia_fabric.specs.declared.flights.Flying.{Flying}
-use Rattle.aia_fabric.specs.World.{World, flight_of, stage_of}
-use Rattle.aia_fabric.specs.Whole.{IsWhole}
-use Rattle.aia_fabric.specs.Stores.{StoresAt, Reaches, Relays, named_spot}
-use Rattle.aia_fabric.specs.Flights.{Sends, with_flight}
-use Rattle.aia_fabric.specs.Changes.{spot_of, with_fence}
-use Rattle.aia_fabric.proofs.OwnLemmas.{guest_spot}
-use Rattle.aia_fabric.proofs.PlaceLemmas.{slot_found}
-use Rattle.aia_fabric.proofs.WholeLemmas.{notice_hart_there}
-use Rattle.aia_fabric.proofs.ViewLemmas.{slot_low}
+use Rattle.aia_places.specs.Places.{leads_to}
+use Rattle.aia_world.specs.declared.flying.Flying.{Flying}
+use Rattle.aia_world.specs.World.{World, flight_of, stage_of}
+use Rattle.aia_world.specs.Whole.{IsWhole}
+use Rattle.aia_world.specs.Stores.{StoresAt, Reaches, Relays, named_spot}
+use Rattle.aia_world.specs.Flights.{Sends, with_flight}
+use Rattle.aia_world.specs.Changes.{spot_of, with_fence}
+use Rattle.aia_world.proofs.OwnLemmas.{guest_spot}
+use Rattle.aia_world.proofs.PlaceLemmas.{slot_found}
+use Rattle.aia_world.proofs.WholeLemmas.{notice_hart_there}
+use Rattle.aia_world.proofs.ViewLemmas.{slot_low}
 use Rattle.aia_plan.specs.Transit.{Side, Flight, Transit, landed, happened}
 use Rattle.aia_plan.specs.Transit.Side.{Old, New}
 use Rattle.aia_plan.specs.Transit.{Happening as happenings}
@@ -36,7 +36,7 @@ use Rattle.aia_rehearsal.specs.declared.place.Place.TheVariants.{File, Slot}
 use Rattle.aia_rehearsal.specs.Rehearsed.{Passage, Rehearsed, moved, on, at_of, file_of, names_on, IsFileThere}
 use Rattle.aia_rehearsal.specs.Stands.{sets_at, routes_of, is_file_at, leads, side_of, asked, onto_flights, flights_in, FlightsStand, StandsFor}
 use Rattle.aia_rehearsal.specs.Events.{is_for_moved, NamesElsewhere}
-use Rattle.aia_move.proofs.WhoLemmas.{small_who}
+use Rattle.aia_moving.proofs.WhoLemmas.{small_who}
 use Rattle.aia_rehearsal.proofs.RouteSteps.{all_kept}
 use Rattle.aia_rehearsal.proofs.StoreSeen.{file_hit, slot_hit, at_spot, at_slot}
 use Rattle.aia_rehearsal.proofs.Landings.{side_by, landed_on, store_lands, entry_lands, one_led, one_file_hit, one_slot_hit, named_spot_there}
@@ -63,7 +63,7 @@ module _ (w : World) (r : Rehearsed) (z : Transit) (whole : IsWhole w) (s : Stan
   p = r.passage
 
   abbrev q : ℕ
-  q = r.passage.who.slot
+  q = r.passage.who.found.slot
 
   there_on : (side : Side) → IsFileThere w (on side p)
   there_on Old = s.of.old
@@ -74,28 +74,28 @@ module _ (w : World) (r : Rehearsed) (z : Transit) (whole : IsWhole w) (s : Stan
   led_there hart (File a) inside = ap (is_file_at a) (guest_spot w.imsic a whole.harts whole.guests inside) ∙ is_itself_place a
   led_there hart Slot inside = ap (λ o. names o q) (slot_found q (small_who w p.who whole s.of.who).1) ∙ eq-eqb q q refl
 
-  own_side : (side : Side) → side_of w.imsic p (leads_to q p.who.notice (names_on side p)) ≡ Some side
-  own_side side = side_is (λ b. leads w.imsic q b (leads_to q p.who.notice (names_on side p))) p side (led_there p.who.notice (on side p) (there_on side)) (one_led w w r z 0 0 whole s (leads_to q p.who.notice (names_on side p)))
+  own_side : (side : Side) → side_of w.imsic p (leads_to q p.who.found.notice (names_on side p)) ≡ Some side
+  own_side side = side_is (λ b. leads w.imsic q b (leads_to q p.who.found.notice (names_on side p))) p side (led_there p.who.found.notice (on side p) (there_on side)) (one_led w w r z 0 0 whole s (leads_to q p.who.found.notice (names_on side p)))
 
   -- so it is of the entry in force
-  pub own_route : (vm addr : ℕ) → is_for_moved w p vm addr ≡ true → route_of (table_of w.tables vm) addr ≡ To (leads_to q p.who.notice (names_on z.entry_in_force p))
+  pub own_route : (vm addr : ℕ) → is_for_moved w p vm addr ≡ true → route_of (table_of w.tables vm) addr ≡ To (leads_to q p.who.found.notice (names_on z.entry_in_force p))
   own_route vm addr is =
-      let here : vm ≡ p.who.vm = grind (arith, nat_tests) in
+      let here : vm ≡ p.who.found.vm = grind (arith, nat_tests) in
       let msi : is_msi_address (table_of w.tables vm).mask addr ≡ true = grind (arith, nat_tests) in
-      let file : file_number (table_of w.tables vm).mask addr ≡ p.who.vcpu = grind (arith, nat_tests) in
-      cond-true _ _ _ msi ∙ ap (λ n. leads_by (entry_in_force (table_of w.tables vm) n)) file ∙ ap (λ v. leads_by (entry_in_force (table_of w.tables v) p.who.vcpu)) here
+      let file : file_number (table_of w.tables vm).mask addr ≡ p.who.found.number = grind (arith, nat_tests) in
+      cond-true _ _ _ msi ∙ ap (λ n. leads_by (entry_in_force (table_of w.tables vm) n)) file ∙ ap (λ v. leads_by (entry_in_force (table_of w.tables v) p.who.found.number)) here
       ∙ ap leads_by s.routes.entry_in_force ∙ to_place (names_on z.entry_in_force p)
     where
-      to_place : (o : Option Place) → leads_by (leads_to q p.who.notice o) ≡ To (leads_to q p.who.notice o)
+      to_place : (o : Option Place) → leads_by (leads_to q p.who.found.notice o) ≡ To (leads_to q p.who.found.notice o)
       to_place None = refl
       to_place (Some a) = refl
 
   -- ---- stores of devices
 
   module _ (u : World) (offset value : ℕ) where
-    pub own_store : (route : Route) → route ≡ To (leads_to q p.who.notice (names_on z.entry_in_force p)) → Reaches route w u offset value → StandsFor u r (happened (happenings.Stores (asked offset value)) z)
+    pub own_store : (route : Route) → route ≡ To (leads_to q p.who.found.notice (names_on z.entry_in_force p)) → Reaches route w u offset value → StandsFor u r (happened (happenings.Stores (asked offset value)) z)
     own_store route is reaches =
-        let entry = leads_to q p.who.notice (names_on z.entry_in_force p) in
+        let entry = leads_to q p.who.found.notice (names_on z.entry_in_force p) in
         subst (λ o. StandsFor u r (landed_on o (asked offset value) z)) (own_side z.entry_in_force) (entry_lands w u r z offset value whole s entry (subst (λ (x : Route). Reaches x w u offset value) is reaches))
 
     pub other_store : (route : Route) → LeadsElsewhere w p route → Reaches route w u offset value → StandsFor u r z
@@ -121,7 +121,7 @@ module _ (w : World) (r : Rehearsed) (z : Transit) (whole : IsWhole w) (s : Stan
         let low = (small_who w p.who whole s.of.who).1 in
         let slot : slot_of w.vms (moved p) ≡ q = sym s.of.who.slot in
         let o : Option ℕ = Some (slot_of w.vms (moved p)) in
-        let seen = at_slot w u p 0 value whole o (HostFile (notice_hart w.vms (moved p))) (notice_identity w.vms (moved p)) (λ n e. let same : slot_of w.vms (moved p) ≡ n = cc in omega (arith, low, slot, same)) (λ some. notice_hart_there w (moved p) whole s.of.who.there) relays in
+        let seen = at_slot w u p 0 value whole o (SupervisorFile (notice_hart w.vms (moved p))) (notice_identity w.vms (moved p)) (λ n e. let same : slot_of w.vms (moved p) ≡ n = cc in omega (arith, low, slot, same)) (λ some. notice_hart_there w (moved p) whole s.of.who.there) relays in
         let led : slot_hit o q (on side p) ≡ true = subst (λ x. slot_hit o q x ≡ true) is (eq-eqb (slot_of w.vms (moved p)) q slot) in
         let one = one_slot_hit o q p.old p.new s.two in
         subst (λ o. StandsFor u r (landed_on o (asked 0 value) z)) (side_is (slot_hit o q) p side led one) (store_lands w u r z (slot_hit o q) 0 value s seen one)
@@ -146,7 +146,7 @@ module _ (w : World) (r : Rehearsed) (z : Transit) (whole : IsWhole w) (s : Stan
         ]
     other_peer g None there other none relays =
         let o : Option ℕ = Some (slot_of w.vms g) in
-        let seen = at_slot w u p 0 value whole o (HostFile (notice_hart w.vms g)) (notice_identity w.vms g) (λ n e. let same : slot_of w.vms g ≡ n = cc in let low = slot_low w g whole there in omega (arith, low, same)) (λ some. notice_hart_there w g whole there) relays in
+        let seen = at_slot w u p 0 value whole o (SupervisorFile (notice_hart w.vms g)) (notice_identity w.vms g) (λ n e. let same : slot_of w.vms g ≡ n = cc in let low = slot_low w g whole there in omega (arith, low, same)) (λ some. notice_hart_there w g whole there) relays in
         let one = one_slot_hit o q p.old p.new s.two in
         subst (λ o. StandsFor u r (landed_on o (asked 0 value) z)) (side_none (slot_hit o q) p (missed p.old) (missed p.new)) (store_lands w u r z (slot_hit o q) 0 value s seen one)
       where
@@ -188,7 +188,7 @@ module _ (w : World) (r : Rehearsed) (z : Transit) (whole : IsWhole w) (s : Stan
     sent : (o : Option Side) → side_of w.imsic p store.entry ≡ o → flights_in w.imsic p (flight_of (with_flight w vm (flight_of w vm ++ store ∷ [])) vm) ≡ flights_in w.imsic p (flight_of w vm) ++ onto_flights o store []
     sent o is = ap (flights_in w.imsic p) more_here ∙ flights_after w.imsic (flight_of w vm) store ∙ ap (λ x. flights_in w.imsic p (flight_of w vm) ++ onto_flights x store []) is
 
-    pub own_sent : vm ≡ p.who.vm → side_of w.imsic p store.entry ≡ Some z.entry_in_force → StandsFor (with_flight w vm (flight_of w vm ++ store ∷ [])) r (happened (happenings.Sends (asked store.offset store.value)) z)
+    pub own_sent : vm ≡ p.who.found.vm → side_of w.imsic p store.entry ≡ Some z.entry_in_force → StandsFor (with_flight w vm (flight_of w vm ++ store ∷ [])) r (happened (happenings.Sends (asked store.offset store.value)) z)
     own_sent is led = with_stores vm (flight_of w vm ++ store ∷ []) (z.flights ++ record { side = z.entry_in_force; identity = asked store.offset store.value } ∷ []) (record {
       own = ap (λ l. l ++ record { side = z.entry_in_force; identity = asked store.offset store.value } ∷ []) (s.flights.own ∙ ap (λ v. flights_in w.imsic p (flight_of w v)) (sym is)) ∙ sym (sent (Some z.entry_in_force) led)
           ∙ ap (λ v. flights_in w.imsic p (flight_of (with_flight w vm (flight_of w vm ++ store ∷ [])) v)) is;
@@ -207,13 +207,13 @@ module _ (w : World) (r : Rehearsed) (z : Transit) (whole : IsWhole w) (s : Stan
 
     pub other_sent : side_of w.imsic p store.entry ≡ None → StandsFor (with_flight w vm (flight_of w vm ++ store ∷ [])) r z
     other_sent none = with_stores vm (flight_of w vm ++ store ∷ []) z.flights (record {
-      own = s.flights.own ∙ sym (unchanged p.who.vm none);
+      own = s.flights.own ∙ sym (unchanged p.who.found.vm none);
       others = λ v other. unchanged v none ∙ s.flights.others v other;
     })
 
-  pub own_send : (u : World) (vm offset value : ℕ) (route : Route) → vm < length w.vms → vm ≡ p.who.vm → route ≡ To (leads_to q p.who.notice (names_on z.entry_in_force p)) → Sends route w u vm offset value → StandsFor u r (happened (happenings.Sends (asked offset value)) z)
+  pub own_send : (u : World) (vm offset value : ℕ) (route : Route) → vm < length w.vms → vm ≡ p.who.found.vm → route ≡ To (leads_to q p.who.found.notice (names_on z.entry_in_force p)) → Sends route w u vm offset value → StandsFor u r (happened (happenings.Sends (asked offset value)) z)
   own_send u vm offset value route low here is sends =
-      let entry = leads_to q p.who.notice (names_on z.entry_in_force p) in
+      let entry = leads_to q p.who.found.notice (names_on z.entry_in_force p) in
       let e : u ≡ with_flight w vm (flight_of w vm ++ record { entry = entry; offset = offset; value = value } ∷ []) = subst (λ (x : Route). Sends x w u vm offset value) is sends in
       subst (λ (x : World). StandsFor x r (happened (happenings.Sends (asked offset value)) z)) (sym e) (own_sent vm (record { entry = entry; offset = offset; value = value }) low here (own_side z.entry_in_force))
 
@@ -224,12 +224,12 @@ module _ (w : World) (r : Rehearsed) (z : Transit) (whole : IsWhole w) (s : Stan
 
   -- ---- entries that are read again
 
-  pub other_refetched : (vm file : ℕ) → (vm ≢ p.who.vm) ⊎ (file ≢ p.who.vcpu) → StandsFor (with_fence w vm file) r z
+  pub other_refetched : (vm file : ℕ) → (vm ≢ p.who.found.vm) ⊎ (file ≢ p.who.found.number) → StandsFor (with_fence w vm file) r z
   other_refetched vm file other =
-      let in_force : entry_in_force (table_of (with_fence w vm file).tables p.who.vm) p.who.vcpu ≡ entry_in_force (table_of w.tables p.who.vm) p.who.vcpu = fenced_elsewhere w.tables vm file w.memory p.who.vm p.who.vcpu (turned other) in
+      let in_force : entry_in_force (table_of (with_fence w vm file).tables p.who.found.vm) p.who.found.number ≡ entry_in_force (table_of w.tables p.who.found.vm) p.who.found.number = fenced_elsewhere w.tables vm file w.memory p.who.found.vm p.who.found.number (turned other) in
       all_kept w r z whole s (with_fence w vm file) r.hand (record { n = refl; vms = refl; harts = refl; guests = refl }) refl (same_at p.old) (same_at p.new) (λ k. record (routes_of w (moved p)) { in_force = in_force k }) refl refl
     where
-      turned : (vm ≢ p.who.vm) ⊎ (file ≢ p.who.vcpu) → (p.who.vm ≢ vm) ⊎ (p.who.vcpu ≢ file)
+      turned : (vm ≢ p.who.found.vm) ⊎ (file ≢ p.who.found.number) → (p.who.found.vm ≢ vm) ⊎ (p.who.found.number ≢ file)
       turned (inl a) = inl (λ e. a (sym e))
       turned (inr b) = inr (λ e. b (sym e))
 

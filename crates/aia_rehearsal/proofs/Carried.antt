@@ -6,13 +6,13 @@ use Rattle.aia_imsic.specs.Imsic.{ImsicState, IsThere}
 use Rattle.aia_entry.specs.declared.entry.Entry.{Entry}
 use Rattle.aia_entry.specs.declared.entry.Entry.TheVariants.{Basic, Mrif, NotValid, Custom, Misconfigured}
 use Rattle.aia_home.specs.Vms.{vcpu, is_vcpu_in, slot_of, notice_hart}
-use Rattle.aia_fabric.specs.declared.flights.Flying.{Flying}
-use Rattle.aia_fabric.specs.World.{World, flight_of}
-use Rattle.aia_fabric.specs.Stores.{page_spot}
-use Rattle.aia_fabric.specs.Changes.{spot_of}
-use Rattle.aia_move.specs.declared.who.Who.{Who}
-use Rattle.aia_move.specs.Move.{IsWho, width}
-use Rattle.aia_move.specs.Touches.{SameMachine}
+use Rattle.aia_world.specs.declared.flying.Flying.{Flying}
+use Rattle.aia_world.specs.World.{World, flight_of}
+use Rattle.aia_world.specs.Stores.{page_spot}
+use Rattle.aia_world.specs.Changes.{spot_of}
+use Rattle.aia_moving.specs.declared.who.Who.{Who}
+use Rattle.aia_moving.specs.Move.{IsWho, width}
+use Rattle.aia_moving.specs.Touches.{SameMachine}
 use Rattle.aia_plan.specs.Transit.{Transit}
 use Rattle.aia_plan.specs.Transit.Side.{Old, New}
 use Rattle.aia_rehearsal.specs.declared.place.Place as ends
@@ -37,9 +37,9 @@ of_same w u p same of = record {
   where
     is_who : (who : Who) → IsWho w who → IsWho u who
     is_who who is = record {
-      there = ap (λ vms. is_vcpu_in vms (vcpu who.vm who.vcpu)) same.vms ∙ is.there;
-      slot = is.slot ∙ ap (λ vms. slot_of vms (vcpu who.vm who.vcpu)) (sym same.vms);
-      notice = is.notice ∙ ap (λ vms. notice_hart vms (vcpu who.vm who.vcpu)) (sym same.vms);
+      there = ap (λ vms. is_vcpu_in vms (vcpu who.found.vm who.found.number)) same.vms ∙ is.there;
+      slot = is.slot ∙ ap (λ vms. slot_of vms (vcpu who.found.vm who.found.number)) (sym same.vms);
+      notice = is.notice ∙ ap (λ vms. notice_hart vms (vcpu who.found.vm who.found.number)) (sym same.vms);
     }
 
     is_there : (place : ends.Place) → IsFileThere w place → IsFileThere u place
@@ -68,7 +68,7 @@ module _ (i j : ImsicState) (harts : i.harts ≡ j.harts) (guests : i.guests ≡
   leads_same slot Slot Misconfigured = refl
 
   pub side_same : (p : Passage) (entry : Entry) → side_of i p entry ≡ side_of j p entry
-  side_same p entry = rw (leads_same p.who.slot p.old entry, leads_same p.who.slot p.new entry) refl
+  side_same p entry = rw (leads_same p.who.found.slot p.old entry, leads_same p.who.found.slot p.new entry) refl
 
   pub flights_same : (p : Passage) (stores : List Flying) → flights_in i p stores ≡ flights_in j p stores
   flights_same p [] = refl
@@ -85,7 +85,7 @@ stand_on w u r hand z y same flights fly sets routes s = record {
   sets = subst (λ words. SetsStand words (sets_at u (at Old r.passage)) (sets_at u (at New r.passage)) hand y) (ap (λ n. (n + 1) / 64) (sym same.n)) sets;
   routes = routes;
   flights = record {
-    own = fly ∙ s.flights.own ∙ kept r.passage.who.vm;
+    own = fly ∙ s.flights.own ∙ kept r.passage.who.found.vm;
     others = λ vm other. sym (kept vm) ∙ s.flights.others vm other;
   };
 }

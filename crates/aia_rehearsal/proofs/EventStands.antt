@@ -10,11 +10,11 @@ use Rattle.aia_entry.specs.declared.entry.Entry.TheVariants.{Basic, Mrif, NotVal
 use Rattle.aia_entry.specs.Tables.{table_of, entry_in_force, leads_by, route_of}
 use Rattle.aia_entry.specs.Translation.{is_msi_address, file_number}
 use Rattle.aia_home.specs.Vms.{Vcpu, vcpu, is_vcpu}
-use Rattle.aia_fabric.specs.World.{World, flight_of, stage_of}
-use Rattle.aia_fabric.specs.Whole.{IsWhole}
-use Rattle.aia_fabric.specs.Stores.{Relays}
-use Rattle.aia_fabric.specs.Flights.{Lands}
-use Rattle.aia_fabric.specs.Changes.{with_fence}
+use Rattle.aia_world.specs.World.{World, flight_of, stage_of}
+use Rattle.aia_world.specs.Whole.{IsWhole}
+use Rattle.aia_world.specs.Stores.{Relays}
+use Rattle.aia_world.specs.Flights.{Lands}
+use Rattle.aia_world.specs.Changes.{with_fence}
 use Rattle.aia_plan.specs.Transit.{Side, Transit, Happening, happened, all_happened}
 use Rattle.aia_plan.specs.Transit.{Happening as happenings}
 use Rattle.aia_rehearsal.specs.Rehearsed.{Passage, Rehearsed, moved}
@@ -49,13 +49,13 @@ module _ (w u : World) (r : Rehearsed) (z : Transit) (whole : IsWhole w) (s : St
   abbrev p : Passage
   p = r.passage
 
-  land_seen : (vm k : ℕ) (l : Lands w u vm k) → StandsFor u r (all_happened (cond (nat_eq vm p.who.vm) (landing_seen w p k (slice_get (flight_of w vm) k)) []) z)
-  land_seen vm k l = elim (cases_eq vm p.who.vm) [
-    | inl e ↦ subst (λ x. StandsFor u r (all_happened x z)) (sym (cond-true _ _ _ (eq-eqb vm p.who.vm e) ∙ ap (landing_seen w p k) l.is)) (by_side (side_of w.imsic p l.store.entry) (own_store_landed w u r z vm k whole s l e))
-    | inr ne ↦ subst (λ x. StandsFor u r (all_happened x z)) (sym (cond-false _ _ _ (ne_eqb vm p.who.vm ne))) (other_store_landed w u r z vm k whole s l ne)
+  land_seen : (vm k : ℕ) (l : Lands w u vm k) → StandsFor u r (all_happened (cond (nat_eq vm p.who.found.vm) (landing_seen w p k (slice_get (flight_of w vm) k)) []) z)
+  land_seen vm k l = elim (cases_eq vm p.who.found.vm) [
+    | inl e ↦ subst (λ x. StandsFor u r (all_happened x z)) (sym (cond-true _ _ _ (eq-eqb vm p.who.found.vm e) ∙ ap (landing_seen w p k) l.is)) (by_side (side_of w.imsic p l.store.entry) (own_store_landed w u r z vm k whole s l e))
+    | inr ne ↦ subst (λ x. StandsFor u r (all_happened x z)) (sym (cond-false _ _ _ (ne_eqb vm p.who.found.vm ne))) (other_store_landed w u r z vm k whole s l ne)
   ]
     where
-      by_side : (o : Option Side) → StandsFor u r (landed_state o (place_among w.imsic p (flight_of w p.who.vm) k) z) → StandsFor u r (all_happened (landing_by o (place_among w.imsic p (flight_of w p.who.vm) k)) z)
+      by_side : (o : Option Side) → StandsFor u r (landed_state o (place_among w.imsic p (flight_of w p.who.found.vm) k) z) → StandsFor u r (all_happened (landing_by o (place_among w.imsic p (flight_of w p.who.found.vm) k)) z)
       by_side None t = t
       by_side (Some side) t = t
 
@@ -65,8 +65,8 @@ module _ (w u : World) (r : Rehearsed) (z : Transit) (whole : IsWhole w) (s : St
       subst (λ (x : World). StandsFor x r (happened happenings.Refetches z)) (sym (e ∙ ap (λ (g : Vcpu). with_fence w g.vm g.number) same)) (refetched w r z whole s))
       (λ not. subst (λ (x : World). StandsFor x r z) (sym e) (other_refetched w r z whole s vm file (apart vm file not)))
     where
-      apart : (vm file : ℕ) → is_vcpu (vcpu vm file) (moved p) ≡ false → (vm ≢ p.who.vm) ⊎ (file ≢ p.who.vcpu)
-      apart vm file none = elim (cases_eq vm p.who.vm) [
+      apart : (vm file : ℕ) → is_vcpu (vcpu vm file) (moved p) ≡ false → (vm ≢ p.who.found.vm) ⊎ (file ≢ p.who.found.number)
+      apart vm file none = elim (cases_eq vm p.who.found.vm) [
         | inl e ↦ inr (λ f. let no : is_vcpu (vcpu vm file) (moved p) ≡ true = grind (arith, nat_tests) in absurd (cc))
         | inr ne ↦ inl ne
       ]
@@ -83,7 +83,7 @@ module _ (w u : World) (r : Rehearsed) (z : Transit) (whole : IsWhole w) (s : St
       (λ not. other_peer w r z whole s u value (vcpu vm to) (stage_of w (vcpu vm to)).in_force there (other_vcpu (vcpu vm to) (moved p) not) (away not) relays))
   between (DeviceSends vm addr value) t (low, sends, e) away = subst (λ (x : Rehearsed). StandsFor u x (all_happened (seen (DeviceSends vm addr value) w p) z)) (sym e)
       (one_or_none u r z (is_for_moved w p vm addr) (happenings.Sends (asked (addr % PAGE) value))
-      (λ mine. own_send w r z whole s u vm (addr % PAGE) value (route_of (table_of w.tables vm) addr) low (let same : vm ≡ p.who.vm = grind (arith, nat_tests) in same) (own_route w r z whole s vm addr mine) sends)
+      (λ mine. own_send w r z whole s u vm (addr % PAGE) value (route_of (table_of w.tables vm) addr) low (let same : vm ≡ p.who.found.vm = grind (arith, nat_tests) in same) (own_route w r z whole s vm addr mine) sends)
       (λ not. other_send w r z whole s u vm (addr % PAGE) value (route_of (table_of w.tables vm) addr) low (away not) sends))
   between (StoreLands vm k) t (low, l, e) away = subst (λ (x : Rehearsed). StandsFor u x (all_happened (seen (StoreLands vm k) w p) z)) (sym e) (land_seen vm k l)
   between (EntryRead vm file) t (there, is, e) away = subst (λ (x : Rehearsed). StandsFor u x (all_happened (seen (EntryRead vm file) w p) z)) (sym e) (entry_read vm file is)
@@ -100,7 +100,7 @@ route_elsewhere : (w : World) (p : Passage) (vm addr : ℕ) → IsAlone w p → 
 route_elsewhere w p vm addr alone not = elim (cases_Bool (is_msi_address (table_of w.tables vm).mask addr)) [
   | inl msi ↦
       let g = vcpu vm (file_number (table_of w.tables vm).mask addr) in
-      let other : g ≢ moved p = λ e. let here : vm ≡ p.who.vm = ap (λ (x : Vcpu). x.vm) e in let file : file_number (table_of w.tables vm).mask addr ≡ p.who.vcpu = ap (λ (x : Vcpu). x.number) e in let no : is_for_moved w p vm addr ≡ true = grind (arith, nat_tests) in absurd (cc) in
+      let other : g ≢ moved p = λ e. let here : vm ≡ p.who.found.vm = ap (λ (x : Vcpu). x.vm) e in let file : file_number (table_of w.tables vm).mask addr ≡ p.who.found.number = ap (λ (x : Vcpu). x.number) e in let no : is_for_moved w p vm addr ≡ true = grind (arith, nat_tests) in absurd (cc) in
       subst (LeadsElsewhere w p) (sym (cond-true _ _ _ msi)) (led_elsewhere w p (entry_in_force (table_of w.tables vm) (file_number (table_of w.tables vm).mask addr)) (alone.in_force g other))
   | inr none ↦ subst (LeadsElsewhere w p) (sym (cond-false _ _ _ none)) tt
 ]

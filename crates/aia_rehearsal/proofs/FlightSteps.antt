@@ -4,14 +4,14 @@ use Rattle.std.specs.Prelude.{remove, take, slice_get, slice_index_or}
 use Rattle.std.proofs.lemmas.Bool.{cases_eq}
 use Rattle.std.proofs.lemmas.List.{get_or-set_same, get_or-set_other}
 use Rattle.aia_imsic.specs.Imsic.{ImsicState}
-use Rattle.aia_fabric.specs.declared.flights.Flying.{Flying}
-use Rattle.aia_fabric.specs.World.{World, OnlyStores, flight_of}
-use Rattle.aia_fabric.specs.Whole.{IsWhole}
-use Rattle.aia_fabric.specs.Flights.{Lands, LandsOldest, Fences, with_flight}
-use Rattle.aia_fabric.specs.Changes.{with_fence}
-use Rattle.aia_fabric.proofs.FrameLemmas.{entry_rest}
-use Rattle.aia_fabric.proofs.FlightLemmas.{fence_leaves_none}
-use Rattle.aia_fabric.proofs.WholeLemmas.{vcpu_entry}
+use Rattle.aia_world.specs.declared.flying.Flying.{Flying}
+use Rattle.aia_world.specs.World.{World, OnlyStores, flight_of}
+use Rattle.aia_world.specs.Whole.{IsWhole}
+use Rattle.aia_world.specs.Flights.{Lands, LandsOldest, Fences, with_flight}
+use Rattle.aia_world.specs.Changes.{with_fence}
+use Rattle.aia_world.proofs.FrameLemmas.{entry_rest}
+use Rattle.aia_world.proofs.FlightLemmas.{fence_leaves_none}
+use Rattle.aia_world.proofs.WholeLemmas.{vcpu_entry}
 use Rattle.aia_rehearsal.proofs.RouteSteps.{refetched}
 use Rattle.aia_plan.specs.declared.step.Step.TheVariants.{Fence}
 use Rattle.aia_plan.specs.Transit.{Side, Flight, Transit, landed, all_landed, one_landed, without, stepped, happened}
@@ -119,33 +119,33 @@ module _ (w u : World) (r : Rehearsed) (z : Transit) (vm k : ℕ) (whole : IsWho
   }) stand
 
   -- it is one of its VM: it leads to a place or not
-  own_landed : vm ≡ p.who.vm → (o : Option Side) → side_of w.imsic p l.store.entry ≡ o → StandsFor l.stored r (landed_on o (asked l.store.offset l.store.value) z) → StandsFor u r (landed_state o (place_among w.imsic p (flight_of w p.who.vm) k) z)
+  own_landed : vm ≡ p.who.found.vm → (o : Option Side) → side_of w.imsic p l.store.entry ≡ o → StandsFor l.stored r (landed_on o (asked l.store.offset l.store.value) z) → StandsFor u r (landed_state o (place_among w.imsic p (flight_of w p.who.found.vm) k) z)
   own_landed is None none t = with_others z z.flights t (record {
-    own = s.flights.own ∙ sym (same_leads (flight_of u p.who.vm) ∙ ap (λ v. flights_in w.imsic p (flight_of u v)) (sym is) ∙ ap (flights_in w.imsic p) left_here ∙ removed_none w.imsic p (flight_of w vm) k l.store l.is none ∙ ap (λ v. flights_in w.imsic p (flight_of w v)) is);
+    own = s.flights.own ∙ sym (same_leads (flight_of u p.who.found.vm) ∙ ap (λ v. flights_in w.imsic p (flight_of u v)) (sym is) ∙ ap (flights_in w.imsic p) left_here ∙ removed_none w.imsic p (flight_of w vm) k l.store l.is none ∙ ap (λ v. flights_in w.imsic p (flight_of w v)) is);
     others = λ v other. same_leads (flight_of u v) ∙ ap (flights_in w.imsic p) (left_there v (λ e. other (e ∙ is))) ∙ s.flights.others v other;
   })
   own_landed is (Some side) led t =
-      let at : ℕ = place_among w.imsic p (flight_of w p.who.vm) k in
-      let one = removed_one w.imsic p (flight_of w p.who.vm) k l.store side (subst (λ v. slice_get (flight_of w v) k ≡ Some l.store) is l.is) led in
+      let at : ℕ = place_among w.imsic p (flight_of w p.who.found.vm) k in
+      let one = removed_one w.imsic p (flight_of w p.who.found.vm) k l.store side (subst (λ v. slice_get (flight_of w v) k ≡ Some l.store) is l.is) led in
       let found : slice_get z.flights at ≡ Some (record { side = side; identity = asked l.store.offset l.store.value }) = ap (λ f. slice_get f at) s.flights.own ∙ one.1 in
       let lands_there : happened (lands at) z ≡ record (landed side (asked l.store.offset l.store.value) z) { flights = without at z.flights } = ap (λ o. record (one_landed o z) { flights = without at z.flights }) found in
       subst (λ y. StandsFor u r y) (sym lands_there) (with_others (landed side (asked l.store.offset l.store.value) z) (without at z.flights) t (record {
-        own = ap (without at) s.flights.own ∙ sym (same_leads (flight_of u p.who.vm) ∙ ap (λ v. flights_in w.imsic p (flight_of u v)) (sym is) ∙ ap (flights_in w.imsic p) left_here ∙ ap (λ v. flights_in w.imsic p (remove (flight_of w v) k)) is ∙ one.0);
+        own = ap (without at) s.flights.own ∙ sym (same_leads (flight_of u p.who.found.vm) ∙ ap (λ v. flights_in w.imsic p (flight_of u v)) (sym is) ∙ ap (flights_in w.imsic p) left_here ∙ ap (λ v. flights_in w.imsic p (remove (flight_of w v) k)) is ∙ one.0);
         others = λ v other. same_leads (flight_of u v) ∙ ap (flights_in w.imsic p) (left_there v (λ e. other (e ∙ is))) ∙ s.flights.others v other;
       }))
 
   stored_stands : StandsFor l.stored r (landed_on (side_of w.imsic p l.store.entry) (asked l.store.offset l.store.value) z)
   stored_stands = entry_lands w l.stored r z l.store.offset l.store.value whole s l.store.entry l.reaches
 
-  pub own_store_landed : vm ≡ p.who.vm → StandsFor u r (landed_state (side_of w.imsic p l.store.entry) (place_among w.imsic p (flight_of w p.who.vm) k) z)
+  pub own_store_landed : vm ≡ p.who.found.vm → StandsFor u r (landed_state (side_of w.imsic p l.store.entry) (place_among w.imsic p (flight_of w p.who.found.vm) k) z)
   own_store_landed is = own_landed is (side_of w.imsic p l.store.entry) refl stored_stands
 
   -- it is one of another VM: it leads to neither
-  pub other_store_landed : vm ≢ p.who.vm → StandsFor u r z
+  pub other_store_landed : vm ≢ p.who.found.vm → StandsFor u r z
   other_store_landed other =
       let none = none_leads w.imsic p (flight_of w vm) k l.store l.is (s.flights.others vm other) in
       with_others z z.flights (subst (λ o. StandsFor l.stored r (landed_on o (asked l.store.offset l.store.value) z)) none stored_stands) (record {
-        own = s.flights.own ∙ sym (same_leads (flight_of u p.who.vm) ∙ ap (flights_in w.imsic p) (left_there p.who.vm (λ e. other (sym e))));
+        own = s.flights.own ∙ sym (same_leads (flight_of u p.who.found.vm) ∙ ap (flights_in w.imsic p) (left_there p.who.found.vm (λ e. other (sym e))));
         others = λ v ne. same_leads (flight_of u v) ∙ elim (cases_eq v vm) [
           | inl e ↦ ap (λ x. flights_in w.imsic p (flight_of u x)) e ∙ ap (flights_in w.imsic p) left_here ∙ removed_none w.imsic p (flight_of w vm) k l.store l.is none ∙ s.flights.others vm other
           | inr apart ↦ ap (flights_in w.imsic p) (left_there v apart) ∙ s.flights.others v ne
@@ -194,11 +194,11 @@ pub record HaveLanded (w u : World) (r : Rehearsed) (z : Transit) : Type 0 where
   count : ℕ
   stands : StandsFor u r (landed_times count z)
 
-oldest_landed : (count : ℕ) (w u : World) (r : Rehearsed) (z : Transit) → IsWhole w → StandsFor w r z → LandsOldest count w u r.passage.who.vm → HaveLanded w u r z
+oldest_landed : (count : ℕ) (w u : World) (r : Rehearsed) (z : Transit) → IsWhole w → StandsFor w r z → LandsOldest count w u r.passage.who.found.vm → HaveLanded w u r z
 oldest_landed zero w u r z whole s same = record { count = 0; stands = subst (λ (x : World). StandsFor x r z) (sym same) s }
 oldest_landed (suc more) w u r z whole s (mid, before, whole_mid, l) =
     let so_far = oldest_landed more w mid r z whole s before in
-    one_more so_far.count (side_of mid.imsic r.passage l.store.entry) (own_store_landed mid u r (landed_times so_far.count z) r.passage.who.vm 0 whole_mid so_far.stands l refl)
+    one_more so_far.count (side_of mid.imsic r.passage l.store.entry) (own_store_landed mid u r (landed_times so_far.count z) r.passage.who.found.vm 0 whole_mid so_far.stands l refl)
   where
     one_more : (done : ℕ) (o : Option Side) → StandsFor u r (landed_state o 0 (landed_times done z)) → HaveLanded w u r z
     one_more done None t = record { count = done; stands = t }
@@ -212,12 +212,12 @@ entry_stays (store ∷ later) z = entry_stays later (landed store.side store.ide
     one Old = refl
     one New = refl
 
-pub fenced : (w u : World) (r : Rehearsed) (z : Transit) → IsWhole w → StandsFor w r z → Fences w u r.passage.who.vm r.passage.who.vcpu → StandsFor u r (stepped Fence z)
+pub fenced : (w u : World) (r : Rehearsed) (z : Transit) → IsWhole w → StandsFor w r z → Fences w u r.passage.who.found.vm r.passage.who.found.number → StandsFor u r (stepped Fence z)
 fenced w u r z whole s f =
-    let vm = r.passage.who.vm in
+    let vm = r.passage.who.found.vm in
     let have = oldest_landed (length (flight_of w vm)) w f.landed r z whole s f.lands in
-    let low = (vcpu_entry w vm r.passage.who.vcpu whole s.of.who.there).0 in
-    let none : flight_of f.landed vm ≡ [] = sym (ap (λ (x : World). flight_of x vm) f.fenced) ∙ fence_leaves_none w u vm r.passage.who.vcpu whole low f in
+    let low = (vcpu_entry w vm r.passage.who.found.number whole s.of.who.there).0 in
+    let none : flight_of f.landed vm ≡ [] = sym (ap (λ (x : World). flight_of x vm) f.fenced) ∙ fence_leaves_none w u vm r.passage.who.found.number whole low f in
     let landed_all = all_have have.count z.flights z (have.stands.flights.own ∙ ap (flights_in f.landed.imsic r.passage) none) in
     let last = refetched f.landed r (emptied (all_landed z.flights z)) f.whole (subst (λ y. StandsFor f.landed r y) landed_all have.stands) in
-    subst (λ (x : World). StandsFor x r (stepped Fence z)) (sym f.fenced) (subst (λ side. StandsFor (with_fence f.landed vm r.passage.who.vcpu) r (record (emptied (all_landed z.flights z)) { entry_in_force = side })) (entry_stays z.flights z) last)
+    subst (λ (x : World). StandsFor x r (stepped Fence z)) (sym f.fenced) (subst (λ side. StandsFor (with_fence f.landed vm r.passage.who.found.number) r (record (emptied (all_landed z.flights z)) { entry_in_force = side })) (entry_stays z.flights z) last)

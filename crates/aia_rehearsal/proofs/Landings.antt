@@ -4,20 +4,20 @@ use Rattle.std.proofs.Common.{◌≡◌, ◌≢◌, ℕ, ◌*◌, Bool, true, fa
 use Rattle.std.proofs.lemmas.Bool.{cases_Bool, cond-true, cond-false}
 use Rattle.std.proofs.lemmas.Bool.Decides.{nat_tests}
 use Rattle.aia_imsic.specs.declared.spot.Spot.{Spot}
-use Rattle.aia_imsic.specs.declared.spot.Spot.TheVariants.{MachineFile, HostFile, GuestFile, Nowhere}
+use Rattle.aia_imsic.specs.declared.spot.Spot.TheVariants.{MachineFile, SupervisorFile, GuestFile, Nowhere}
 use Rattle.aia_imsic.specs.Imsic.{IsThere}
 use Rattle.aia_imsic.proofs.MapLemmas.{machine_of_spot, host_of_spot, guest_of_spot}
 use Rattle.aia_regs.specs.declared.address_map.TheConstants.{PAGE}
 use Rattle.aia_entry.specs.declared.entry.Entry.{Entry}
 use Rattle.aia_entry.specs.declared.entry.Entry.TheVariants.{Basic, Mrif, NotValid, Custom, Misconfigured}
 use Rattle.aia_home.specs.declared.place.Place.{Place}
-use Rattle.aia_fabric.specs.World.{World, OnlyStores}
-use Rattle.aia_fabric.specs.Whole.{IsWhole}
+use Rattle.aia_world.specs.World.{World, OnlyStores}
+use Rattle.aia_world.specs.Whole.{IsWhole}
 use Rattle.std.specs.Int.{is_in_range}
-use Rattle.aia_fabric.specs.Stores.{ReachesBy, page_spot, named_spot, slot_at}
-use Rattle.aia_fabric.specs.Changes.{spot_of}
-use Rattle.aia_fabric.proofs.PlaceLemmas.{slot_begins}
-use Rattle.aia_move.specs.Touches.{SameMachine}
+use Rattle.aia_world.specs.Stores.{ReachesBy, page_spot, named_spot, slot_at}
+use Rattle.aia_world.specs.Changes.{spot_of}
+use Rattle.aia_world.proofs.PlaceLemmas.{slot_begins}
+use Rattle.aia_moving.specs.Touches.{SameMachine}
 use Rattle.aia_plan.specs.Transit.{Side, Transit, landed}
 use Rattle.aia_plan.specs.Transit.Side.{Old, New}
 use Rattle.aia_rehearsal.specs.declared.place.Place as ends
@@ -101,7 +101,7 @@ one_file_hit spot (File a) (File b) two led = by_spot spot led
     by_spot : (spot : Spot) → is_file_at a spot ≡ true → is_file_at b spot ≡ false
     by_spot (GuestFile hart file) led = grind (arith, nat_tests)
     by_spot (MachineFile hart) led = refl
-    by_spot (HostFile hart) led = refl
+    by_spot (SupervisorFile hart) led = refl
     by_spot Nowhere led = refl
 one_file_hit spot (File a) Slot two led = refl
 one_file_hit spot Slot b two led = absurd (cc)
@@ -116,7 +116,7 @@ page_there w page some = by_spot (page_spot w.imsic page) refl
   where
     by_spot : (spot : Spot) → page_spot w.imsic page ≡ spot → IsThere w.imsic (page_spot w.imsic page)
     by_spot (MachineFile hart) is = subst (IsThere w.imsic) (sym is) (machine_of_spot w.imsic.harts w.imsic.guests (page * PAGE) hart is).0
-    by_spot (HostFile hart) is = subst (IsThere w.imsic) (sym is) (host_of_spot w.imsic.harts w.imsic.guests (page * PAGE) hart is).0
+    by_spot (SupervisorFile hart) is = subst (IsThere w.imsic) (sym is) (host_of_spot w.imsic.harts w.imsic.guests (page * PAGE) hart is).0
     by_spot (GuestFile hart file) is = let found = guest_of_spot w.imsic.harts w.imsic.guests (page * PAGE) hart file is in subst (IsThere w.imsic) (sym is) (found.0, found.1, found.2)
     by_spot Nowhere is = absurd (some is)
 
@@ -138,39 +138,39 @@ module _ (w u : World) (p : Passage) (offset value : ℕ) (whole : IsWhole w) wh
   nothing_led : (slot : ℕ) (entry : Entry) → ((b : ends.Place) → leads w.imsic slot b entry ≡ false) → u ≡ w → Seen w u p (λ b. leads w.imsic slot b entry) offset value
   nothing_led slot entry none e = seen_none w u p offset value whole (λ b. leads w.imsic slot b entry) none e
 
-  pub entry_seen : (entry : Entry) → ReachesBy entry w u offset value → Seen w u p (λ b. leads w.imsic p.who.slot b entry) offset value
-  entry_seen (Basic page) reaches = hit_same (file_hit (page_spot w.imsic page)) (λ b. leads w.imsic p.who.slot b (Basic page)) by_place (at_spot w u p offset value whole (page_spot w.imsic page) (page_there w page) reaches)
+  pub entry_seen : (entry : Entry) → ReachesBy entry w u offset value → Seen w u p (λ b. leads w.imsic p.who.found.slot b entry) offset value
+  entry_seen (Basic page) reaches = hit_same (file_hit (page_spot w.imsic page)) (λ b. leads w.imsic p.who.found.slot b (Basic page)) by_place (at_spot w u p offset value whole (page_spot w.imsic page) (page_there w page) reaches)
     where
-      by_place : (b : ends.Place) → file_hit (page_spot w.imsic page) b ≡ leads w.imsic p.who.slot b (Basic page)
+      by_place : (b : ends.Place) → file_hit (page_spot w.imsic page) b ≡ leads w.imsic p.who.found.slot b (Basic page)
       by_place (File b) = refl
       by_place Slot = refl
-  entry_seen (Mrif addr page identity) reaches = hit_same (slot_hit (slot_at addr) p.who.slot) (λ b. leads w.imsic p.who.slot b (Mrif addr page identity)) by_place
+  entry_seen (Mrif addr page identity) reaches = hit_same (slot_hit (slot_at addr) p.who.found.slot) (λ b. leads w.imsic p.who.found.slot b (Mrif addr page identity)) by_place
       (at_slot w u p offset value whole (slot_at addr) (page_spot w.imsic page) identity (λ n e. (slot_begins addr n e).0) (page_there w page) reaches)
     where
-      by_place : (b : ends.Place) → slot_hit (slot_at addr) p.who.slot b ≡ leads w.imsic p.who.slot b (Mrif addr page identity)
+      by_place : (b : ends.Place) → slot_hit (slot_at addr) p.who.found.slot b ≡ leads w.imsic p.who.found.slot b (Mrif addr page identity)
       by_place (File b) = refl
       by_place Slot = refl
-  entry_seen NotValid e = nothing_led p.who.slot NotValid (λ b. none b) e
+  entry_seen NotValid e = nothing_led p.who.found.slot NotValid (λ b. none b) e
     where
-      none : (b : ends.Place) → leads w.imsic p.who.slot b NotValid ≡ false
+      none : (b : ends.Place) → leads w.imsic p.who.found.slot b NotValid ≡ false
       none (File b) = refl
       none Slot = refl
-  entry_seen Custom e = nothing_led p.who.slot Custom (λ b. none b) e
+  entry_seen Custom e = nothing_led p.who.found.slot Custom (λ b. none b) e
     where
-      none : (b : ends.Place) → leads w.imsic p.who.slot b Custom ≡ false
+      none : (b : ends.Place) → leads w.imsic p.who.found.slot b Custom ≡ false
       none (File b) = refl
       none Slot = refl
-  entry_seen Misconfigured e = nothing_led p.who.slot Misconfigured (λ b. none b) e
+  entry_seen Misconfigured e = nothing_led p.who.found.slot Misconfigured (λ b. none b) e
     where
-      none : (b : ends.Place) → leads w.imsic p.who.slot b Misconfigured ≡ false
+      none : (b : ends.Place) → leads w.imsic p.who.found.slot b Misconfigured ≡ false
       none (File b) = refl
       none Slot = refl
 
 module _ (w u : World) (r : Rehearsed) (z : Transit) (offset value : ℕ) (whole : IsWhole w) (s : StandsFor w r z) where
-  pub one_led : (entry : Entry) → leads w.imsic r.passage.who.slot r.passage.old entry ≡ true → leads w.imsic r.passage.who.slot r.passage.new entry ≡ false
+  pub one_led : (entry : Entry) → leads w.imsic r.passage.who.found.slot r.passage.old entry ≡ true → leads w.imsic r.passage.who.found.slot r.passage.new entry ≡ false
   one_led entry led = by_places entry r.passage.old r.passage.new s.two led
     where
-      by_places : (entry : Entry) (a b : ends.Place) → AreTwo a b → leads w.imsic r.passage.who.slot a entry ≡ true → leads w.imsic r.passage.who.slot b entry ≡ false
+      by_places : (entry : Entry) (a b : ends.Place) → AreTwo a b → leads w.imsic r.passage.who.found.slot a entry ≡ true → leads w.imsic r.passage.who.found.slot b entry ≡ false
       by_places (Basic page) (File a) (File b) two led = one_file_hit (page_spot w.imsic page) (File a) (File b) two led
       by_places (Basic page) (File a) Slot two led = refl
       by_places (Basic page) Slot b two led = absurd (cc)
@@ -186,4 +186,4 @@ module _ (w u : World) (r : Rehearsed) (z : Transit) (offset value : ℕ) (whole
 
   -- a store goes along an entry
   pub entry_lands : (entry : Entry) → ReachesBy entry w u offset value → StandsFor u r (landed_on (side_of w.imsic r.passage entry) (asked offset value) z)
-  entry_lands entry reaches = store_lands w u r z (λ b. leads w.imsic r.passage.who.slot b entry) offset value s (entry_seen w u r.passage offset value whole entry reaches) (one_led entry)
+  entry_lands entry reaches = store_lands w u r z (λ b. leads w.imsic r.passage.who.found.slot b entry) offset value s (entry_seen w u r.passage offset value whole entry reaches) (one_led entry)

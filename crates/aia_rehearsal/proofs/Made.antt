@@ -10,23 +10,23 @@ use Rattle.aia_entry.specs.Tables.{table_of, entry_in_force}
 use Rattle.aia_home.specs.declared.place.Place.{Place}
 use Rattle.aia_home.specs.declared.vm.Vm.{Vm}
 use Rattle.aia_home.specs.Vms.{Vcpu, vcpu, is_vcpu_in, slot_of, notice_hart, vcpus_in}
-use Rattle.aia_fabric.specs.declared.flights.Flying.{Flying}
-use Rattle.aia_fabric.specs.declared.stage.Stage.{Stage}
-use Rattle.aia_fabric.specs.World.{World, flight_of, stage_of, no_stage}
-use Rattle.aia_fabric.specs.Whole.{IsWhole}
-use Rattle.aia_fabric.specs.Making.{IsNew, MakesVm, new_world, made_entry, entry_word_place, notice_page}
-use Rattle.aia_fabric.proofs.ViewLemmas.{slot_low}
+use Rattle.aia_world.specs.declared.flying.Flying.{Flying}
+use Rattle.aia_world.specs.declared.stage.Stage.{Stage}
+use Rattle.aia_world.specs.World.{World, flight_of, stage_of, no_stage}
+use Rattle.aia_world.specs.Whole.{IsWhole}
+use Rattle.aia_world.specs.Making.{IsNew, MakesVm, new_world, made_entry, entry_word_place, notice_page}
+use Rattle.aia_world.proofs.ViewLemmas.{slot_low}
 use Rattle.aia_regs.specs.declared.limits.TheConstants.{VCPUS}
 use Rattle.aia_regs.specs.declared.address_map.TheConstants.{PAGE}
 use Rattle.aia_regs.specs.AddressMap.{supervisor_page, slot_address}
 use Rattle.aia_entry.specs.declared.entry.Entry.TheVariants.{Mrif}
 use Rattle.aia_entry.specs.Format.{mrif_word, notice_word}
-use Rattle.aia_places.specs.View.{leads_to, entry_word}
+use Rattle.aia_places.specs.Places.{leads_to, entry_word}
 use Rattle.aia_file.specs.FileState.{shown}
 use Rattle.aia_file.specs.InterruptFile.{SameFile, empty_file}
-use Rattle.aia_fabric.specs.Changes.{spot_of}
-use Rattle.aia_move.specs.declared.who.Who.{Who}
-use Rattle.aia_move.specs.Move.{IsWho}
+use Rattle.aia_world.specs.Changes.{spot_of}
+use Rattle.aia_moving.specs.declared.who.Who.{Who}
+use Rattle.aia_moving.specs.Move.{IsWho}
 use Rattle.aia_plan.specs.Transit.{Side}
 use Rattle.aia_plan.specs.Transit.Side.{Old, New}
 use Rattle.aia_rehearsal.specs.declared.place.Place as ends
@@ -37,37 +37,37 @@ use Rattle.aia_rehearsal.specs.Runs.{LeadsTo, NoneLeads, state_at, IsBegun}
 use Rattle.std.proofs.lemmas.Bool.{cases_eq, cases_Bool, ne_eqb, cond-false}
 use Rattle.std.proofs.Common.{inl, inr, nat_lt, length, Some, ◌≤◌}
 use Rattle.std.proofs.lemmas.List.{get_or_past}
-use Rattle.aia_regs.specs.Word.{names}
+use Rattle.aia_regs.specs.BitUpdate.{names}
 use Rattle.aia_regs.specs.declared.limits.TheConstants.{HARTS}
 use Rattle.aia_entry.specs.declared.entry.Entry.TheVariants.{NotValid}
 use Rattle.aia_entry.specs.Format.{decoded}
 use Rattle.aia_entry.specs.Tables.{no_table}
-use Rattle.aia_places.specs.View.{second_word}
+use Rattle.aia_places.specs.Places.{second_word}
 use Rattle.aia_places.proofs.EntryLemmas.{entry_back}
-use Rattle.aia_fabric.proofs.PlaceLemmas.{slot_found}
-use Rattle.aia_fabric.proofs.WholeLemmas.{notice_hart_there}
+use Rattle.aia_world.proofs.PlaceLemmas.{slot_found}
+use Rattle.aia_world.proofs.WholeLemmas.{notice_hart_there}
 use Rattle.aia_rehearsal.specs.Stands.{side_of}
 use Rattle.aia_rehearsal.specs.Events.{IsAlone}
 use Rattle.aia_home.specs.Home.{is_place}
-use Rattle.aia_fabric.specs.Changes.{with_entry_word, with_fence, with_map, with_stage_fence}
+use Rattle.aia_world.specs.Changes.{with_entry_word, with_fence, with_map, with_gfence}
 use Rattle.aia_plan.specs.declared.step.Step.TheVariants.{Word0, Map, GFence}
 use Rattle.aia_plan.specs.Transit.{stepped, happened}
 use Rattle.aia_plan.specs.Transit.{Happening as happenings}
 use Rattle.aia_rehearsal.proofs.RouteSteps.{write_entry, refetched, write_record, fence_record}
 use Rattle.aia_rehearsal.proofs.Theorem.{led_stands, begun_stands}
 
-module _ (files : ImsicState) (w : World) (n harts guests : ℕ) (vm : Vm) (who : Who) (new : IsNew (new_world files n) harts guests n) (whole : IsWhole w) (makes : MakesVm (new_world files n) w vm) (is : IsWho w who) (first : who.vm ≡ 0) where
+module _ (files : ImsicState) (w : World) (n harts guests : ℕ) (vm : Vm) (who : Who) (new : IsNew (new_world files n) harts guests n) (whole : IsWhole w) (makes : MakesVm (new_world files n) w vm) (is : IsWho w who) (first : who.found.vm ≡ 0) where
   abbrev g : Vcpu
-  g = vcpu who.vm who.vcpu
+  g = vcpu who.found.vm who.found.number
 
-  vcpu_low : who.vcpu < vm.vcpus
-  vcpu_low = ltb-true _ _ (sym (ap (λ vms. is_vcpu_in vms g) makes.vms ∙ ap (λ v. is_vcpu_in (vm ∷ []) (vcpu v who.vcpu)) first) ∙ is.there)
+  vcpu_low : who.found.number < vm.vcpus
+  vcpu_low = ltb-true _ _ (sym (ap (λ vms. is_vcpu_in vms g) makes.vms ∙ ap (λ v. is_vcpu_in (vm ∷ []) (vcpu v who.found.number)) first) ∙ is.there)
 
-  none_before : 0 + who.vcpu ≡ who.slot
-  none_before = sym (is.slot ∙ ap (λ vms. slot_of vms g) makes.vms ∙ ap (λ v. slot_of (vm ∷ []) (vcpu v who.vcpu)) first)
+  none_before : 0 + who.found.number ≡ who.found.slot
+  none_before = sym (is.slot ∙ ap (λ vms. slot_of vms g) makes.vms ∙ ap (λ v. slot_of (vm ∷ []) (vcpu v who.found.number)) first)
 
-  notice_is : vm.notice_hart ≡ who.notice
-  notice_is = sym (is.notice ∙ ap (λ vms. notice_hart vms g) makes.vms ∙ ap (λ v. notice_hart (vm ∷ []) (vcpu v who.vcpu)) first)
+  notice_is : vm.notice_hart ≡ who.found.notice
+  notice_is = sym (is.notice ∙ ap (λ vms. notice_hart vms g) makes.vms ∙ ap (λ v. notice_hart (vm ∷ []) (vcpu v who.found.number)) first)
 
   stage_is : stage_of w g ≡ no_stage
   stage_is = let low = slot_low w g whole is.there in ap (λ (x : World). slice_index_or x.stages (slot_of w.vms g) no_stage) makes.rest ∙ get_or-replicate VCPUS (slot_of w.vms g) no_stage no_stage low
@@ -83,7 +83,7 @@ module _ (files : ImsicState) (w : World) (n harts guests : ℕ) (vm : Vm) (who 
       none (suc v) = refl
 
   none_leads : (p : Passage) (side : Side) (v : ℕ) → NoneLeads w p side v
-  none_leads p side v = subst (λ l. All (λ (store : Flying). leads w.imsic p.who.slot (on side p) store.entry ≡ false) l) (sym (none_flies v)) (All-nil _)
+  none_leads p side v = subst (λ l. All (λ (store : Flying). leads w.imsic p.who.found.slot (on side p) store.entry ≡ false) l) (sym (none_flies v)) (All-nil _)
 
   -- all leads to the slot
   module _ (old place : ends.Place) where
@@ -92,10 +92,10 @@ module _ (files : ImsicState) (w : World) (n harts guests : ℕ) (vm : Vm) (who 
 
     led : (side : Side) → names_on side p ≡ None → LeadsTo w p side
     led side none = record {
-      word0 = ap (λ v. get_or w.memory (entry_word_place v who.vcpu) 0) first ∙ makes.word0 who.vcpu vcpu_low ∙ ap (λ q. mrif_word (slot_address q)) none_before ∙ ap (entry_word who.slot) (sym none);
-      word1 = ap (λ v. get_or w.memory (entry_word_place v who.vcpu + 1) 0) first ∙ makes.word1 who.vcpu vcpu_low ∙ ap (λ q. notice_word (notice_page vm) (q + 1)) none_before ∙ ap (λ hart. notice_word (supervisor_page hart / PAGE) (who.slot + 1)) notice_is;
-      in_force = ap (λ v. entry_in_force (table_of w.tables v) who.vcpu) first ∙ makes.in_force who.vcpu ∙ cond-true _ _ _ (lt-ltb _ _ vcpu_low) ∙ ap (λ q. Mrif (slot_address q) (notice_page vm) (q + 1)) none_before
-          ∙ ap (λ hart. Mrif (slot_address who.slot) (supervisor_page hart / PAGE) (who.slot + 1)) notice_is ∙ ap (leads_to who.slot who.notice) (sym none);
+      word0 = ap (λ v. get_or w.memory (entry_word_place v who.found.number) 0) first ∙ makes.word0 who.found.number vcpu_low ∙ ap (λ q. mrif_word (slot_address q)) none_before ∙ ap (entry_word who.found.slot) (sym none);
+      word1 = ap (λ v. get_or w.memory (entry_word_place v who.found.number + 1) 0) first ∙ makes.word1 who.found.number vcpu_low ∙ ap (λ q. notice_word (notice_page vm) (q + 1)) none_before ∙ ap (λ hart. notice_word (supervisor_page hart / PAGE) (who.found.slot + 1)) notice_is;
+      in_force = ap (λ v. entry_in_force (table_of w.tables v) who.found.number) first ∙ makes.in_force who.found.number ∙ cond-true _ _ _ (lt-ltb _ _ vcpu_low) ∙ ap (λ q. Mrif (slot_address q) (notice_page vm) (q + 1)) none_before
+          ∙ ap (λ hart. Mrif (slot_address who.found.slot) (supervisor_page hart / PAGE) (who.found.slot + 1)) notice_is ∙ ap (leads_to who.found.slot who.found.notice) (sym none);
       record_written = ap (λ (x : Stage). x.written) stage_is ∙ sym none;
       record_in_force = ap (λ (x : Stage). x.in_force) stage_is ∙ sym none;
     }
@@ -105,8 +105,8 @@ module _ (files : ImsicState) (w : World) (n harts guests : ℕ) (vm : Vm) (who 
     abbrev arrival : Passage
     arrival = record { who = who; old = Slot; new = File a }
 
-    other_slot : (n page identity : ℕ) → n < VCPUS → n ≢ who.slot → side_of w.imsic arrival (Mrif (slot_address n) page identity) ≡ None
-    other_slot n page identity low other = cond-false _ _ _ (ap (λ o. names o who.slot) (slot_found n low) ∙ ne_eqb n who.slot other) ∙ refl
+    other_slot : (n page identity : ℕ) → n < VCPUS → n ≢ who.found.slot → side_of w.imsic arrival (Mrif (slot_address n) page identity) ≡ None
+    other_slot n page identity low other = cond-false _ _ _ (ap (λ o. names o who.found.slot) (slot_found n low) ∙ ne_eqb n who.found.slot other) ∙ refl
 
     not_valid : side_of w.imsic arrival NotValid ≡ None
     not_valid = refl
@@ -114,13 +114,13 @@ module _ (files : ImsicState) (w : World) (n harts guests : ℕ) (vm : Vm) (who 
     plus_none : (n : ℕ) → 0 + n ≡ n
     plus_none n = omega arith
 
-    other_number : (n : ℕ) → g ≢ vcpu who.vm n → n ≢ who.slot
-    other_number n other e = other (let same : who.vcpu ≡ n = sym (plus_none who.vcpu) ∙ none_before ∙ sym e in λ k. vcpu who.vm (same k))
+    other_number : (n : ℕ) → g ≢ vcpu who.found.vm n → n ≢ who.found.slot
+    other_number n other e = other (let same : who.found.number ≡ n = sym (plus_none who.found.number) ∙ none_before ∙ sym e in λ k. vcpu who.found.vm (same k))
 
     few_vcpus : vm.vcpus ≤ VCPUS
     few_vcpus = let total : vcpus_in w.vms ≡ vm.vcpus + 0 = ap vcpus_in makes.vms in let most = whole.vcpus in omega (arith, total, most)
 
-    made_elsewhere : (n : ℕ) → g ≢ vcpu who.vm n → side_of w.imsic arrival (made_entry vm 0 n) ≡ None
+    made_elsewhere : (n : ℕ) → g ≢ vcpu who.found.vm n → side_of w.imsic arrival (made_entry vm 0 n) ≡ None
     made_elsewhere n other = elim (cases_Bool (nat_lt n vm.vcpus)) [
       | inl inside ↦ ap (side_of w.imsic arrival) (cond-true _ _ _ inside) ∙ ap (λ q. side_of w.imsic arrival (Mrif (slot_address q) (notice_page vm) (q + 1))) (plus_none n)
           ∙ other_slot n (notice_page vm) (n + 1) (let low : n < vm.vcpus = ltb-true _ _ inside in omega (arith, low, few_vcpus)) (other_number n other)
@@ -130,7 +130,7 @@ module _ (files : ImsicState) (w : World) (n harts guests : ℕ) (vm : Vm) (who 
     in_force_elsewhere : (x : Vcpu) → x ≢ g → side_of w.imsic arrival (entry_in_force (table_of w.tables x.vm) x.number) ≡ None
     in_force_elsewhere x other = elim (cases_eq x.vm 0) [
       | inl zero_vm ↦ ap (λ v. side_of w.imsic arrival (entry_in_force (table_of w.tables v) x.number)) zero_vm ∙ ap (side_of w.imsic arrival) (makes.in_force x.number)
-          ∙ made_elsewhere x.number (λ e. other (let number : who.vcpu ≡ x.number = ap (λ (y : Vcpu). y.number) e in λ k. vcpu ((zero_vm ∙ sym first) k) (sym number k)))
+          ∙ made_elsewhere x.number (λ e. other (let number : who.found.number ≡ x.number = ap (λ (y : Vcpu). y.number) e in λ k. vcpu ((zero_vm ∙ sym first) k) (sym number k)))
       | inr some_vm ↦
           let past : length w.tables ≤ x.vm = let one : length w.tables ≡ 0 + 1 = makes.count in omega (arith, one, some_vm) in
           ap (λ t. side_of w.imsic arrival (entry_in_force t x.number)) (get_or_past w.tables x.vm no_table past) ∙ not_valid
@@ -152,7 +152,7 @@ module _ (files : ImsicState) (w : World) (n harts guests : ℕ) (vm : Vm) (who 
         let word1 : (routes_of w x).word1 ≡ second_word x.number vm.notice_hart = ap (λ v. get_or w.memory (entry_word_place v x.number + 1) 0) at.0 ∙ makes.word1 x.number at.1 ∙ ap (λ q. notice_word (notice_page vm) (q + 1)) (plus_none x.number) in
         ap (λ n. side_of w.imsic arrival (decoded n (routes_of w x).word1)) word0 ∙ ap (λ n. side_of w.imsic arrival (decoded (entry_word x.number None) n)) word1
         ∙ ap (side_of w.imsic arrival) (entry_back x.number vm.notice_hart None low hart (λ p e. absurd (cc)))
-        ∙ other_slot x.number (supervisor_page vm.notice_hart / PAGE) (x.number + 1) low (other_number x.number (λ e. other (let number : who.vcpu ≡ x.number = ap (λ (y : Vcpu). y.number) e in λ k. vcpu ((at.0 ∙ sym first) k) (sym number k))))
+        ∙ other_slot x.number (supervisor_page vm.notice_hart / PAGE) (x.number + 1) low (other_number x.number (λ e. other (let number : who.found.number ≡ x.number = ap (λ (y : Vcpu). y.number) e in λ k. vcpu ((at.0 ∙ sym first) k) (sym number k))))
 
     alone : IsAlone w arrival
     alone = record {
@@ -189,7 +189,7 @@ module _ (files : ImsicState) (w : World) (n harts guests : ℕ) (vm : Vm) (who 
       led_stands w r New (record { who = is; old = there; new = tt }) tt (led (File a) Slot New refl) (λ v other. none_leads r.passage Old v) (λ v other. none_leads r.passage New v)
 
 -- the same of a fabric that is new
-module _ (before w : World) (n harts guests : ℕ) (vm : Vm) (who : Who) (new : IsNew before harts guests n) (whole : IsWhole w) (makes : MakesVm before w vm) (is : IsWho w who) (first : who.vm ≡ 0) where
+module _ (before w : World) (n harts guests : ℕ) (vm : Vm) (who : Who) (new : IsNew before harts guests n) (whole : IsWhole w) (makes : MakesVm before w vm) (is : IsWho w who) (first : who.found.vm ≡ 0) where
   new_here : IsNew (new_world before.imsic n) harts guests n
   new_here = record { world = refl; hart_count = new.hart_count; guest_count = new.guest_count; files = new.files }
 
@@ -204,7 +204,7 @@ module _ (before w : World) (n harts guests : ℕ) (vm : Vm) (who : Who) (new : 
 
   -- once the entry and the record were written for a file and put in force, it may shift to another one
   pub may_shift : (a b : Place) → IsThere w.imsic (spot_of a) → IsThere w.imsic (spot_of b) → is_place a b ≡ false → (x y v u : World) → IsWhole x → IsWhole y → IsWhole v
-      → x ≡ with_entry_word w who.vm who.vcpu 0 (entry_word who.slot (Some a)) → y ≡ with_fence x who.vm who.vcpu → v ≡ with_map y (vcpu who.vm who.vcpu) (Some a) → u ≡ with_stage_fence v (vcpu who.vm who.vcpu)
+      → x ≡ with_entry_word w who.found.vm who.found.number 0 (entry_word who.found.slot (Some a)) → y ≡ with_fence x who.found.vm who.found.number → v ≡ with_map y (vcpu who.found.vm who.found.number) (Some a) → u ≡ with_gfence v (vcpu who.found.vm who.found.number)
       → StandsFor u (record { passage = record { who = who; old = File a; new = File b }; hand = empty_hand }) (state_at Old u (record { passage = record { who = who; old = File a; new = File b }; hand = empty_hand }))
   may_shift a b there too apart x y v u whole_x whole_y whole_v e1 e2 e3 e4 =
       let r : Rehearsed = record { passage = record { who = who; old = Slot; new = File a }; hand = empty_hand } in
@@ -225,4 +225,4 @@ module _ (before w : World) (n harts guests : ℕ) (vm : Vm) (who : Who) (new : 
       none_in_flight : (u : World) (p : Passage) (side : Side) (k : ℕ) → u.flights ≡ w.flights → NoneLeads u p side k
       none_in_flight u p side k lists =
           let none : flight_of u k ≡ [] = ap (λ l. slice_index_or l k []) lists ∙ none_flies before.imsic w n harts guests vm who new_here whole makes_here is first k in
-          subst (λ l. All (λ (store : Flying). leads u.imsic p.who.slot (on side p) store.entry ≡ false) l) (sym none) (All-nil _)
+          subst (λ l. All (λ (store : Flying). leads u.imsic p.who.found.slot (on side p) store.entry ≡ false) l) (sym none) (All-nil _)

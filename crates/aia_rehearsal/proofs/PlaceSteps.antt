@@ -12,13 +12,13 @@ use Rattle.aia_mrif.specs.Mrif.{pending_place, enable_place}
 use Rattle.aia_home.specs.declared.place.Place.{Place}
 use Rattle.aia_home.specs.Home.{is_place}
 use Rattle.aia_home.specs.Vms.{Vcpu}
-use Rattle.aia_places.specs.View.{of_file, of_slot}
+use Rattle.aia_places.specs.Places.{of_file, of_slot}
 use Rattle.aia_places.specs.Steps.{Shows, replaced_by}
-use Rattle.aia_fabric.specs.World.{World}
-use Rattle.aia_fabric.specs.Whole.{IsWhole}
-use Rattle.aia_fabric.specs.Making.{entry_word_place}
-use Rattle.aia_fabric.specs.Changes.{spot_of, with_word, pending_words, enable_words, pending_at, with_pending, enable_at, with_enable}
-use Rattle.aia_fabric.proofs.ViewLemmas.{here, spots_apart, word_replaced, slot_pending-written, slot_enabled-written, has_slot, place_shows}
+use Rattle.aia_world.specs.World.{World}
+use Rattle.aia_world.specs.Whole.{IsWhole}
+use Rattle.aia_world.specs.Making.{entry_word_place}
+use Rattle.aia_world.specs.Changes.{spot_of, with_word, pending_words, enable_words, pending_at, with_pending, enable_at, with_enable}
+use Rattle.aia_world.proofs.ViewLemmas.{here, spots_apart, word_replaced, slot_pending-written, slot_enabled-written, has_slot, place_shows}
 use Rattle.aia_rehearsal.specs.declared.place.Place as ends
 use Rattle.aia_rehearsal.specs.declared.place.Place.TheVariants.{File, Slot}
 use Rattle.aia_rehearsal.specs.Rehearsed.{at_of, AreTwo, IsFileThere}

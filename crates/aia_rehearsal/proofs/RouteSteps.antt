@@ -12,7 +12,7 @@ use Rattle.aia_regs.specs.declared.access.Op.TheVariants as ops
 use Rattle.aia_file.specs.InterruptFile.{InterruptFile, accessed}
 use Rattle.aia_file.specs.FileState.{FileState, shown}
 use Rattle.aia_file.proofs.FileLemmas.{same_file}
-use Rattle.aia_imsic.specs.declared.spot.Spot.TheVariants.{HostFile}
+use Rattle.aia_imsic.specs.declared.spot.Spot.TheVariants.{SupervisorFile}
 use Rattle.aia_imsic.specs.Imsic.{ImsicState, IsThere, file_at, with_file}
 use Rattle.aia_imsic.proofs.PlaceLemmas.{kept_elsewhere}
 use Rattle.aia_entry.specs.Format.{decoded}
@@ -20,15 +20,15 @@ use Rattle.aia_home.specs.declared.place.Place.{Place}
 use Rattle.aia_home.specs.Home.{is_place}
 use Rattle.aia_home.specs.Home.Home.{Parked}
 use Rattle.aia_home.specs.Vms.{slot_of}
-use Rattle.aia_places.specs.View.{View, TwoSets, of_file, of_slot, leads_to, entry_word, second_word, IsInMap}
+use Rattle.aia_places.specs.Places.{Places, TwoSets, of_file, of_slot, leads_to, entry_word, second_word, IsInMap}
 use Rattle.aia_places.proofs.EntryLemmas.{entry_back}
-use Rattle.aia_fabric.specs.World.{World}
-use Rattle.aia_fabric.specs.Whole.{IsWhole}
-use Rattle.aia_fabric.specs.Changes.{spot_of, pending_words, enable_words, pending_at, with_pending, enable_at, with_enable, with_state, with_entry_word, with_fence, with_map, with_stage_fence}
-use Rattle.aia_fabric.proofs.ViewLemmas.{here, spots_apart, word0-view, word1-view, fence-view, map-view, stage_fence-view}
-use Rattle.aia_fabric.proofs.WholeLemmas.{notice_hart_there}
-use Rattle.aia_move.specs.Move.{PostsIf, width}
-use Rattle.aia_move.specs.Touches.{SameMachine}
+use Rattle.aia_world.specs.World.{World}
+use Rattle.aia_world.specs.Whole.{IsWhole}
+use Rattle.aia_world.specs.Changes.{spot_of, pending_words, enable_words, pending_at, with_pending, enable_at, with_enable, with_state, with_entry_word, with_fence, with_map, with_gfence}
+use Rattle.aia_world.proofs.ViewLemmas.{here, spots_apart, word0-places, word1-places, fence-places, map-places, gfence-places}
+use Rattle.aia_world.proofs.WholeLemmas.{notice_hart_there}
+use Rattle.aia_moving.specs.Move.{PostsIf, width}
+use Rattle.aia_moving.specs.Touches.{SameMachine}
 use Rattle.aia_plan.specs.declared.step.Step.TheVariants.{Word0, Map, GFence, TakeP, PutP, TakeE, PutE}
 use Rattle.aia_plan.specs.Transit.{Side, Transit, stepped}
 use Rattle.aia_plan.specs.Transit.Side.{Old, New}
@@ -37,7 +37,7 @@ use Rattle.aia_rehearsal.specs.declared.place.Place.TheVariants.{File, Slot}
 use Rattle.aia_rehearsal.specs.Rehearsed.{Passage, Carried, Rehearsed, moved, on, at_of, at, file_of, names_on, IsFileThere}
 use Rattle.aia_rehearsal.specs.Steps.{identities_in, Puts}
 use Rattle.aia_rehearsal.specs.Stands.{sets_at, Routes, routes_of, SetsStand, RoutesStand, StandsFor}
-use Rattle.aia_move.proofs.WhoLemmas.{small_who}
+use Rattle.aia_moving.proofs.WhoLemmas.{small_who}
 use Rattle.aia_rehearsal.proofs.Places.{file_in_map}
 use Rattle.aia_rehearsal.proofs.SetSteps.{pending_taken, enables_taken, pending_put, enables_put}
 use Rattle.aia_rehearsal.proofs.PlaceSteps.{two_turned, pending_here, enabled_here, pending_shown, enabled_shown, pending_elsewhere, enabled_elsewhere, pending_routes, enabled_routes}
@@ -47,7 +47,7 @@ place_is : (a b : Place) → is_place a b ≡ true → a ≡ b
 place_is a b e = let hart : a.hart ≡ b.hart = grind (arith, nat_tests) in let file : a.file ≡ b.file = grind (arith, nat_tests) in λ k. record { hart = hart k; file = file k }
 
 -- what the places of a virtual hart show of its routes
-abbrev routes_in : View → Routes
+abbrev routes_in : Places → Routes
 routes_in v = record { word0 = v.word0; word1 = v.word1; in_force = v.in_force; stage = record { written = v.stage; in_force = v.stage_in_force } }
 
 module _ (w : World) (r : Rehearsed) (z : Transit) (whole : IsWhole w) (s : StandsFor w r z) where
@@ -55,7 +55,7 @@ module _ (w : World) (r : Rehearsed) (z : Transit) (whole : IsWhole w) (s : Stan
   p = r.passage
 
   abbrev q : ℕ
-  q = r.passage.who.slot
+  q = r.passage.who.found.slot
 
   low : q < VCPUS
   low = (small_who w p.who whole s.of.who).1
@@ -101,7 +101,7 @@ module _ (w : World) (r : Rehearsed) (z : Transit) (whole : IsWhole w) (s : Stan
   routes_kept u y same written in_force record_written record_in_force = subst (λ x. RoutesStand p x y) (sym same) (record {
     entry_written = s.routes.entry_written ∙ ap (λ side. entry_word q (names_on side p)) (sym written);
     notice = s.routes.notice;
-    entry_in_force = s.routes.entry_in_force ∙ ap (λ side. leads_to q p.who.notice (names_on side p)) (sym in_force);
+    entry_in_force = s.routes.entry_in_force ∙ ap (λ side. leads_to q p.who.found.notice (names_on side p)) (sym in_force);
     record_written = s.routes.record_written ∙ ap (λ side. names_on side p) (sym record_written);
     record_in_force = s.routes.record_in_force ∙ ap (λ side. names_on side p) (sym record_in_force);
   })
@@ -175,18 +175,18 @@ module _ (w : World) (r : Rehearsed) (z : Transit) (whole : IsWhole w) (s : Stan
       (file_kept a f same there p.old s.of.old) (file_kept a f same there p.new s.of.new) refl pending enables)
 
   -- a notice lands in a file of the host
-  pub posted : (u : World) (seen : Bool) → PostsIf seen w u p.who.notice (q + 1) → StandsFor u r z
+  pub posted : (u : World) (seen : Bool) → PostsIf seen w u p.who.found.notice (q + 1) → StandsFor u r z
   posted u false e = subst (λ x. StandsFor x r z) (sym e) s
   posted u true posts =
-      let hart : p.who.notice < w.imsic.harts = let there = notice_hart_there w (moved p) whole s.of.who.there in omega (arith, there, s.of.who.notice) in
-      let f = file_at u.imsic (HostFile p.who.notice) in
-      let same : u ≡ record w { imsic = with_file w.imsic (HostFile p.who.notice) f; notices = u.notices } = posts.rest ∙ ap (λ (j : ImsicState). record w { imsic = j; notices = u.notices }) posts.lands.others in
-      subst (λ x. StandsFor x r z) (sym same) (all_kept (record w { imsic = with_file w.imsic (HostFile p.who.notice) f; notices = u.notices }) r.hand (record { n = refl; vms = refl; harts = refl; guests = refl }) refl
+      let hart : p.who.found.notice < w.imsic.harts = let there = notice_hart_there w (moved p) whole s.of.who.there in omega (arith, there, s.of.who.notice) in
+      let f = file_at u.imsic (SupervisorFile p.who.found.notice) in
+      let same : u ≡ record w { imsic = with_file w.imsic (SupervisorFile p.who.found.notice) f; notices = u.notices } = posts.rest ∙ ap (λ (j : ImsicState). record w { imsic = j; notices = u.notices }) posts.lands.others in
+      subst (λ x. StandsFor x r z) (sym same) (all_kept (record w { imsic = with_file w.imsic (SupervisorFile p.who.found.notice) f; notices = u.notices }) r.hand (record { n = refl; vms = refl; harts = refl; guests = refl }) refl
       (guest_kept f hart p.old s.of.old) (guest_kept f hart p.new s.of.new) refl refl refl)
     where
-      guest_kept : (f : FileState) → p.who.notice < w.imsic.harts → (b : ends.Place) → IsFileThere w b → sets_at (record w { imsic = with_file w.imsic (HostFile p.who.notice) f; notices = u.notices }) (at_of q b) ≡ sets_at w (at_of q b)
+      guest_kept : (f : FileState) → p.who.found.notice < w.imsic.harts → (b : ends.Place) → IsFileThere w b → sets_at (record w { imsic = with_file w.imsic (SupervisorFile p.who.found.notice) f; notices = u.notices }) (at_of q b) ≡ sets_at w (at_of q b)
       guest_kept f hart Slot inside = refl
-      guest_kept f hart (File b) inside = ap (λ x. of_file (shown x)) (kept_elsewhere w.imsic (HostFile p.who.notice) (spot_of b) f hart inside (λ e. absurd (cc)))
+      guest_kept f hart (File b) inside = ap (λ x. of_file (shown x)) (kept_elsewhere w.imsic (SupervisorFile p.who.found.notice) (spot_of b) f hart inside (λ e. absurd (cc)))
 
   -- ---- the routes
 
@@ -196,20 +196,20 @@ module _ (w : World) (r : Rehearsed) (z : Transit) (whole : IsWhole w) (s : Stan
   table_kept u imsic vms slot Slot =
       ap (λ n. of_slot (mrif_in u.memory n)) (s.of.who.slot ∙ ap (λ v. slot_of v (moved p)) (sym vms)) ∙ ap of_slot slot ∙ ap (λ n. of_slot (mrif_in w.memory n)) (sym s.of.who.slot)
 
-  pub write_notice : StandsFor (with_entry_word w p.who.vm p.who.vcpu 1 (second_word q p.who.notice)) r z
+  pub write_notice : StandsFor (with_entry_word w p.who.found.vm p.who.found.number 1 (second_word q p.who.found.notice)) r z
   write_notice =
-      let u = with_entry_word w p.who.vm p.who.vcpu 1 (second_word q p.who.notice) in
-      let seen = word1-view w (moved p) Parked whole s.of.who.there (second_word q p.who.notice) in
-      let slot : mrif_in u.memory (slot_of u.vms (moved p)) ≡ mrif_in w.memory (slot_of w.vms (moved p)) = ap (λ (v : View). v.slot) seen in
+      let u = with_entry_word w p.who.found.vm p.who.found.number 1 (second_word q p.who.found.notice) in
+      let seen = word1-places w (moved p) Parked whole s.of.who.there (second_word q p.who.found.notice) in
+      let slot : mrif_in u.memory (slot_of u.vms (moved p)) ≡ mrif_in w.memory (slot_of w.vms (moved p)) = ap (λ (v : Places). v.slot) seen in
       stand_on w u r r.hand z z (record { n = refl; vms = refl; harts = refl; guests = refl }) refl refl
       (rw (table_kept u refl refl slot p.old, table_kept u refl refl slot p.new) s.sets)
       (subst (λ x. RoutesStand p x z) (sym (ap routes_in seen)) (record { entry_written = s.routes.entry_written; notice = refl; entry_in_force = s.routes.entry_in_force; record_written = s.routes.record_written; record_in_force = s.routes.record_in_force })) s
 
-  pub write_entry : StandsFor (with_entry_word w p.who.vm p.who.vcpu 0 (entry_word q (names_on New p))) r (stepped Word0 z)
+  pub write_entry : StandsFor (with_entry_word w p.who.found.vm p.who.found.number 0 (entry_word q (names_on New p))) r (stepped Word0 z)
   write_entry =
-      let u = with_entry_word w p.who.vm p.who.vcpu 0 (entry_word q (names_on New p)) in
-      let seen = word0-view w (moved p) Parked whole s.of.who.there (entry_word q (names_on New p)) in
-      let slot : mrif_in u.memory (slot_of u.vms (moved p)) ≡ mrif_in w.memory (slot_of w.vms (moved p)) = ap (λ (v : View). v.slot) seen in
+      let u = with_entry_word w p.who.found.vm p.who.found.number 0 (entry_word q (names_on New p)) in
+      let seen = word0-places w (moved p) Parked whole s.of.who.there (entry_word q (names_on New p)) in
+      let slot : mrif_in u.memory (slot_of u.vms (moved p)) ≡ mrif_in w.memory (slot_of w.vms (moved p)) = ap (λ (v : Places). v.slot) seen in
       stand_on w u r r.hand z (stepped Word0 z) (record { n = refl; vms = refl; harts = refl; guests = refl }) refl refl
       (rw (table_kept u refl refl slot p.old, table_kept u refl refl slot p.new) (sets_kept (stepped Word0 z) refl refl refl refl refl refl))
       (subst (λ x. RoutesStand p x (stepped Word0 z)) (sym (ap routes_in seen)) (record { entry_written = refl; notice = s.routes.notice; entry_in_force = s.routes.entry_in_force; record_written = s.routes.record_written; record_in_force = s.routes.record_in_force })) s
@@ -217,15 +217,15 @@ module _ (w : World) (r : Rehearsed) (z : Transit) (whole : IsWhole w) (s : Stan
   pub write_record : StandsFor (with_map w (moved p) (names_on New p)) r (stepped Map z)
   write_record =
       let u = with_map w (moved p) (names_on New p) in
-      let seen = map-view w (moved p) Parked whole s.of.who.there (names_on New p) in
+      let seen = map-places w (moved p) Parked whole s.of.who.there (names_on New p) in
       stand_on w u r r.hand z (stepped Map z) (record { n = refl; vms = refl; harts = refl; guests = refl }) refl refl
       (rw (table_kept u refl refl refl p.old, table_kept u refl refl refl p.new) (sets_kept (stepped Map z) refl refl refl refl refl refl))
       (subst (λ x. RoutesStand p x (stepped Map z)) (sym (ap routes_in seen)) (record { entry_written = s.routes.entry_written; notice = s.routes.notice; entry_in_force = s.routes.entry_in_force; record_written = refl; record_in_force = s.routes.record_in_force })) s
 
-  pub fence_record : StandsFor (with_stage_fence w (moved p)) r (stepped GFence z)
+  pub fence_record : StandsFor (with_gfence w (moved p)) r (stepped GFence z)
   fence_record =
-      let u = with_stage_fence w (moved p) in
-      let seen = stage_fence-view w (moved p) Parked whole s.of.who.there in
+      let u = with_gfence w (moved p) in
+      let seen = gfence-places w (moved p) Parked whole s.of.who.there in
       stand_on w u r r.hand z (stepped GFence z) (record { n = refl; vms = refl; harts = refl; guests = refl }) refl refl
       (rw (table_kept u refl refl refl p.old, table_kept u refl refl refl p.new) (sets_kept (stepped GFence z) refl refl refl refl refl refl))
       (subst (λ x. RoutesStand p x (stepped GFence z)) (sym (ap routes_in seen)) (record { entry_written = s.routes.entry_written; notice = s.routes.notice; entry_in_force = s.routes.entry_in_force; record_written = s.routes.record_written; record_in_force = s.routes.record_written })) s
@@ -242,15 +242,15 @@ module _ (w : World) (r : Rehearsed) (z : Transit) (whole : IsWhole w) (s : Stan
       in_map (File b) e inside = subst (λ o. IfSome o IsInMap) e (let fits = file_in_map w b whole inside in (fits.0, fits.1, inside.1))
       in_map Slot e inside = absurd (cc)
 
-  pub refetched : StandsFor (with_fence w p.who.vm p.who.vcpu) r (record z { entry_in_force = z.entry_written })
+  pub refetched : StandsFor (with_fence w p.who.found.vm p.who.found.number) r (record z { entry_in_force = z.entry_written })
   refetched =
-      let u = with_fence w p.who.vm p.who.vcpu in
+      let u = with_fence w p.who.found.vm p.who.found.number in
       let y : Transit = record z { entry_in_force = z.entry_written } in
-      let seen = fence-view w (moved p) Parked whole s.of.who.there in
+      let seen = fence-places w (moved p) Parked whole s.of.who.there in
       let small = small_who w p.who whole s.of.who in
-      let in_force : decoded (routes_of w (moved p)).word0 (routes_of w (moved p)).word1 ≡ leads_to q p.who.notice (names_on z.entry_written p) =
+      let in_force : decoded (routes_of w (moved p)).word0 (routes_of w (moved p)).word1 ≡ leads_to q p.who.found.notice (names_on z.entry_written p) =
       ap (λ x. decoded x (routes_of w (moved p)).word1) s.routes.entry_written ∙ ap (decoded (entry_word q (names_on z.entry_written p))) s.routes.notice
-      ∙ entry_back q p.who.notice (names_on z.entry_written p) small.1 small.2 (named_in_map z.entry_written) in
+      ∙ entry_back q p.who.found.notice (names_on z.entry_written p) small.1 small.2 (named_in_map z.entry_written) in
       stand_on w u r r.hand z y (record { n = refl; vms = refl; harts = refl; guests = refl }) refl refl
       (rw (table_kept u refl refl refl p.old, table_kept u refl refl refl p.new) (sets_kept y refl refl refl refl refl refl))
       (subst (λ x. RoutesStand p x y) (sym (ap routes_in seen)) (record { entry_written = s.routes.entry_written; notice = s.routes.notice; entry_in_force = in_force; record_written = s.routes.record_written; record_in_force = s.routes.record_in_force })) s

@@ -5,10 +5,10 @@ use Rattle.std.specs.List.{list_any}
 use Rattle.std.proofs.lemmas.Bool.{cases_eq, ne_eqb}
 use Rattle.aia_regs.specs.declared.address_map.TheConstants.{PAGE}
 use Rattle.aia_home.specs.Vms.{vcpu, is_vcpu}
-use Rattle.aia_fabric.specs.declared.flights.Flying.{Flying}
-use Rattle.aia_fabric.specs.World.{World, flight_of}
-use Rattle.aia_fabric.specs.Whole.{IsWhole}
-use Rattle.aia_move.specs.Move.{width}
+use Rattle.aia_world.specs.declared.flying.Flying.{Flying}
+use Rattle.aia_world.specs.World.{World, flight_of}
+use Rattle.aia_world.specs.Whole.{IsWhole}
+use Rattle.aia_moving.specs.Move.{width}
 use Rattle.aia_plan.specs.declared.step.Step.{Step}
 use Rattle.aia_plan.specs.declared.step.Step.TheVariants as steps
 use Rattle.aia_plan.specs.Transit.{Side, Flight, Transit, Happening, is_identity, landed, all_landed, one_landed, stepped, happened, all_happened, steps_of}
@@ -63,7 +63,7 @@ no_landing_step false w p k o l = refl
 no_landing_step true w p k None l = refl
 no_landing_step true w p k (Some store) l = by_side (side_of w.imsic p store.entry)
   where
-    by_side : (o : Option Side) → steps_of (landing_by o (length (flights_in w.imsic p (take k (flight_of w p.who.vm)))) ++ l) ≡ steps_of l
+    by_side : (o : Option Side) → steps_of (landing_by o (length (flights_in w.imsic p (take k (flight_of w p.who.found.vm)))) ++ l) ≡ steps_of l
     by_side None = refl
     by_side (Some side) = refl
 
@@ -73,7 +73,7 @@ run_steps (Steps step ∷ later) w r u t (x, y, whole, happens, rest) = ap (λ l
 run_steps (DeviceStores vm addr value ∷ later) w r u t (x, y, whole, happens, rest) = no_steps (is_for_moved w r.passage vm addr) (happenings.Stores (asked (addr % PAGE) value)) (all_seen later x y u t rest) refl refl ∙ run_steps later x y u t rest
 run_steps (PeerStores vm to value ∷ later) w r u t (x, y, whole, happens, rest) = no_steps (is_vcpu (vcpu vm to) (moved r.passage)) (happenings.PeerStores (asked 0 value)) (all_seen later x y u t rest) refl refl ∙ run_steps later x y u t rest
 run_steps (DeviceSends vm addr value ∷ later) w r u t (x, y, whole, happens, rest) = no_steps (is_for_moved w r.passage vm addr) (happenings.Sends (asked (addr % PAGE) value)) (all_seen later x y u t rest) refl refl ∙ run_steps later x y u t rest
-run_steps (StoreLands vm k ∷ later) w r u t (x, y, whole, happens, rest) = no_landing_step (nat_eq vm r.passage.who.vm) w r.passage k (slice_get (flight_of w vm) k) (all_seen later x y u t rest) ∙ run_steps later x y u t rest
+run_steps (StoreLands vm k ∷ later) w r u t (x, y, whole, happens, rest) = no_landing_step (nat_eq vm r.passage.who.found.vm) w r.passage k (slice_get (flight_of w vm) k) (all_seen later x y u t rest) ∙ run_steps later x y u t rest
 run_steps (EntryRead vm file ∷ later) w r u t (x, y, whole, happens, rest) = no_steps (is_vcpu (vcpu vm file) (moved r.passage)) happenings.Refetches (all_seen later x y u t rest) refl refl ∙ run_steps later x y u t rest
 
 -- ---- the passage stays
@@ -106,7 +106,7 @@ all_landed_due (f ∷ later) z i =
     all_landed_due later (landed f.side f.identity z) i ∙ ap (λ b. b || (is_identity i && list_any (λ (f : Flight). nat_eq f.identity i) later)) (asked_more f.side f.identity i z)
     ∙ or_joined (z.due i) (is_identity i) (nat_eq f.identity i) (list_any (λ (f : Flight). nat_eq f.identity i) later)
 
-step_due : (step : Step) (w : World) (p : Passage) (z : Transit) (i : ℕ) → z.flights ≡ flights_in w.imsic p (flight_of w p.who.vm) → (stepped step z).due i ≡ (z.due i || (is_identity i && asks (Steps step) w p i))
+step_due : (step : Step) (w : World) (p : Passage) (z : Transit) (i : ℕ) → z.flights ≡ flights_in w.imsic p (flight_of w p.who.found.vm) → (stepped step z).due i ≡ (z.due i || (is_identity i && asks (Steps step) w p i))
 step_due steps.Fence w p z i own = all_landed_due z.flights z i ∙ ap (λ l. z.due i || (is_identity i && list_any (λ (f : Flight). nat_eq f.identity i) l)) own
 step_due steps.Quiet w p z i own = or_false (z.due i) (is_identity i)
 step_due steps.Word1 w p z i own = or_false (z.due i) (is_identity i)
@@ -134,16 +134,16 @@ none_due : (is : Bool) (i : ℕ) (h : Happening) (z : Transit) → (happened h z
 none_due true i h z e = e ∙ or_false (z.due i) (is_identity i)
 none_due false i h z e = or_false (z.due i) (is_identity i)
 
-land_due : (is : Bool) (w : World) (p : Passage) (k i : ℕ) (o : Option Flying) (z : Transit) → slice_get (flight_of w p.who.vm) k ≡ o → z.flights ≡ flights_in w.imsic p (flight_of w p.who.vm)
+land_due : (is : Bool) (w : World) (p : Passage) (k i : ℕ) (o : Option Flying) (z : Transit) → slice_get (flight_of w p.who.found.vm) k ≡ o → z.flights ≡ flights_in w.imsic p (flight_of w p.who.found.vm)
     → (all_happened (cond is (landing_seen w p k o) []) z).due i ≡ (z.due i || (is_identity i && (is && lands_for w p i o)))
 land_due false w p k i o z is own = or_false (z.due i) (is_identity i)
 land_due true w p k i None z is own = or_false (z.due i) (is_identity i)
 land_due true w p k i (Some store) z is own = by_side (side_of w.imsic p store.entry) refl
   where
-    by_side : (o : Option Side) → side_of w.imsic p store.entry ≡ o → (all_happened (landing_by o (place_among w.imsic p (flight_of w p.who.vm) k)) z).due i ≡ (z.due i || (is_identity i && (is_some o && nat_eq (asked store.offset store.value) i)))
+    by_side : (o : Option Side) → side_of w.imsic p store.entry ≡ o → (all_happened (landing_by o (place_among w.imsic p (flight_of w p.who.found.vm) k)) z).due i ≡ (z.due i || (is_identity i && (is_some o && nat_eq (asked store.offset store.value) i)))
     by_side None led = or_false (z.due i) (is_identity i)
     by_side (Some side) led =
-        let found = ap (λ l. slice_get l (place_among w.imsic p (flight_of w p.who.vm) k)) own ∙ (removed_one w.imsic p (flight_of w p.who.vm) k store side is led).1 in
+        let found = ap (λ l. slice_get l (place_among w.imsic p (flight_of w p.who.found.vm) k)) own ∙ (removed_one w.imsic p (flight_of w p.who.found.vm) k store side is led).1 in
         ap (λ o. (one_landed o z).due i) found ∙ asked_more side (asked store.offset store.value) i z
 
 event_due : (event : Event) (w : World) (r : Rehearsed) (z : Transit) (i : ℕ) → StandsFor w r z → (all_happened (seen event w r.passage) z).due i ≡ (z.due i || (is_identity i && asks event w r.passage i))
@@ -151,10 +151,10 @@ event_due (Steps step) w r z i s = step_due step w r.passage z i s.flights.own
 event_due (DeviceStores vm addr value) w r z i s = store_due (is_for_moved w r.passage vm addr) z.entry_in_force (asked (addr % PAGE) value) i (happenings.Stores (asked (addr % PAGE) value)) z refl
 event_due (PeerStores vm to value) w r z i s = store_due (is_vcpu (vcpu vm to) (moved r.passage)) z.record_in_force (asked 0 value) i (happenings.PeerStores (asked 0 value)) z refl
 event_due (DeviceSends vm addr value) w r z i s = none_due (is_for_moved w r.passage vm addr) i (happenings.Sends (asked (addr % PAGE) value)) z refl
-event_due (StoreLands vm k) w r z i s = elim (cases_eq vm r.passage.who.vm) [
-  | inl e ↦ subst (λ v. (all_happened (cond (nat_eq v r.passage.who.vm) (landing_seen w r.passage k (slice_get (flight_of w v) k)) []) z).due i ≡ (z.due i || (is_identity i && (nat_eq v r.passage.who.vm && lands_for w r.passage i (slice_get (flight_of w v) k))))) (sym e)
-      (land_due (nat_eq r.passage.who.vm r.passage.who.vm) w r.passage k i (slice_get (flight_of w r.passage.who.vm) k) z refl s.flights.own)
-  | inr ne ↦ rw (ne_eqb vm r.passage.who.vm ne) (or_false (z.due i) (is_identity i))
+event_due (StoreLands vm k) w r z i s = elim (cases_eq vm r.passage.who.found.vm) [
+  | inl e ↦ subst (λ v. (all_happened (cond (nat_eq v r.passage.who.found.vm) (landing_seen w r.passage k (slice_get (flight_of w v) k)) []) z).due i ≡ (z.due i || (is_identity i && (nat_eq v r.passage.who.found.vm && lands_for w r.passage i (slice_get (flight_of w v) k))))) (sym e)
+      (land_due (nat_eq r.passage.who.found.vm r.passage.who.found.vm) w r.passage k i (slice_get (flight_of w r.passage.who.found.vm) k) z refl s.flights.own)
+  | inr ne ↦ rw (ne_eqb vm r.passage.who.found.vm ne) (or_false (z.due i) (is_identity i))
 ]
 event_due (EntryRead vm file) w r z i s = none_due (is_vcpu (vcpu vm file) (moved r.passage)) i happenings.Refetches z refl
 

@@ -2,25 +2,25 @@
 use Rattle.std.proofs.Common.{◌≡◌, ℕ, ◌+◌, Bool, true, false, length, refl, sym, ◌∙◌, subst}
 use Rattle.aia_regs.specs.declared.file_registers.FileReg.{FileReg}
 use Rattle.aia_regs.specs.declared.file_registers.FileReg.TheVariants.{Delivery, Threshold}
-use Rattle.aia_fabric.specs.declared.at.At.{At}
-use Rattle.aia_fabric.specs.declared.at.At.TheVariants as ats
-use Rattle.aia_fabric.specs.World.{World, OnlyStores, flight_of}
-use Rattle.aia_fabric.specs.Changes.{with_pending, with_enable}
-use Rattle.aia_fabric.proofs.FlightLemmas.{all_landed_rest}
-use Rattle.aia_fabric.proofs.FrameLemmas.{posts_rest, entry_rest, reaches_rest, relays_rest}
+use Rattle.aia_world.specs.declared.at.At.{At}
+use Rattle.aia_world.specs.declared.at.At.TheVariants as ats
+use Rattle.aia_world.specs.World.{World, OnlyStores, flight_of}
+use Rattle.aia_world.specs.Changes.{with_pending, with_enable}
+use Rattle.aia_world.proofs.FlightLemmas.{all_landed_rest}
+use Rattle.aia_world.proofs.FrameLemmas.{posts_rest, entry_rest, reaches_rest, relays_rest}
 use Rattle.std.proofs.Common.{◌%◌}
 use Rattle.aia_regs.specs.declared.address_map.TheConstants.{PAGE}
 use Rattle.aia_entry.specs.declared.table.Route.{Route}
 use Rattle.aia_entry.specs.declared.table.Route.TheVariants.{Other, Fault, To}
 use Rattle.aia_entry.specs.Tables.{table_of, route_of}
 use Rattle.aia_home.specs.Vms.{vcpu}
-use Rattle.aia_fabric.specs.World.{stage_of}
-use Rattle.aia_fabric.specs.Flights.{Sends}
+use Rattle.aia_world.specs.World.{stage_of}
+use Rattle.aia_world.specs.Flights.{Sends}
 use Rattle.aia_rehearsal.specs.Events.{Event, Happens}
 use Rattle.aia_rehearsal.specs.Events.Event.{Steps, DeviceStores, PeerStores, DeviceSends, StoreLands, EntryRead}
-use Rattle.aia_imsic.specs.declared.spot.Spot.TheVariants.{HostFile}
-use Rattle.aia_move.specs.Move.{PostsIf}
-use Rattle.aia_move.specs.Touches.{SameMachine}
+use Rattle.aia_imsic.specs.declared.spot.Spot.TheVariants.{SupervisorFile}
+use Rattle.aia_moving.specs.Move.{PostsIf}
+use Rattle.aia_moving.specs.Touches.{SameMachine}
 use Rattle.aia_plan.specs.declared.step.Step.{Step}
 use Rattle.aia_plan.specs.declared.step.Step.TheVariants as steps
 use Rattle.aia_plan.specs.Transit.Side.{Old, New}
@@ -45,7 +45,7 @@ pub stored_same : (w u : World) → OnlyStores w u → SameMachine w u
 stored_same w u rest = same_by w u _ rest (record { n = refl; vms = refl; harts = refl; guests = refl })
 
 posts_same : (w u : World) (sent : Bool) (hart identity : ℕ) → PostsIf sent w u hart identity → SameMachine w u
-posts_same w u true hart identity posts = stored_same w u (posts_rest w u (HostFile hart) identity posts)
+posts_same w u true hart identity posts = stored_same w u (posts_rest w u (SupervisorFile hart) identity posts)
 posts_same w u false hart identity e = same_by w u w e (same_machine w)
 
 pub step_same : (step : Step) (w u : World) (r : Rehearsed) → Makes step r w u → SameMachine w u
@@ -53,7 +53,7 @@ step_same steps.Quiet w u r makes = put_same w u r.passage.old Delivery 0 makes
 step_same steps.Word1 w u r e = same_by w u _ e (record { n = refl; vms = refl; harts = refl; guests = refl })
 step_same steps.Word0 w u r e = same_by w u _ e (record { n = refl; vms = refl; harts = refl; guests = refl })
 step_same steps.Fence w u r f =
-    let landed = all_landed_rest (length (flight_of w r.passage.who.vm)) w f.landed r.passage.who.vm f.lands in
+    let landed = all_landed_rest (length (flight_of w r.passage.who.found.vm)) w f.landed r.passage.who.found.vm f.lands in
     let same : SameMachine w f.landed = same_by w f.landed _ landed (record { n = refl; vms = refl; harts = refl; guests = refl }) in
     same_by w u _ f.fenced (record { n = same.n; vms = same.vms; harts = same.harts; guests = same.guests })
 step_same steps.Map w u r e = same_by w u _ e (record { n = refl; vms = refl; harts = refl; guests = refl })
@@ -67,7 +67,7 @@ step_same (steps.PutE k) w u r makes = same_by w u _ makes.1 (word_same w (at Ne
 step_same (steps.Look k) w u r e = same_by w u w e (same_machine w)
 step_same steps.TakeT w u r makes = put_same w u r.passage.old Threshold 0 makes
 step_same steps.PutT w u r makes = put_same w u r.passage.new Threshold r.hand.threshold makes
-step_same steps.Post w u r makes = posts_same w u r.hand.seen r.passage.who.notice (r.passage.who.slot + 1) makes
+step_same steps.Post w u r makes = posts_same w u r.hand.seen r.passage.who.found.notice (r.passage.who.found.slot + 1) makes
 step_same steps.Wake w u r makes = put_same w u r.passage.new Delivery r.hand.delivery makes
 
 -- so who is moved and both places are of the fabric still

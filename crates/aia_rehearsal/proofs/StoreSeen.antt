@@ -6,13 +6,13 @@ use Rattle.std.proofs.lemmas.Bool.{cases_Bool, eqb-true, eq-eqb}
 use Rattle.std.proofs.lemmas.Bool.Decides.{nat_tests}
 use Rattle.std.specs.Int.{is_in_range}
 use Rattle.aia_regs.specs.declared.limits.TheConstants.{VCPUS, IDENTITIES}
-use Rattle.aia_regs.specs.Word.{names, settle}
-use Rattle.aia_regs.specs.Word.Word.{Ask, Nothing}
+use Rattle.aia_regs.specs.BitUpdate.{names, settle}
+use Rattle.aia_regs.specs.BitUpdate.BitUpdate.{Ask, Nothing}
 use Rattle.aia_regs.specs.Request.{number_written, implemented, requested, request_said}
 use Rattle.aia_file.specs.InterruptFile.{is_greatest_identity}
 use Rattle.aia_file.specs.FileState.{shown}
 use Rattle.aia_imsic.specs.declared.spot.Spot.{Spot}
-use Rattle.aia_imsic.specs.declared.spot.Spot.TheVariants.{MachineFile, HostFile, GuestFile, Nowhere}
+use Rattle.aia_imsic.specs.declared.spot.Spot.TheVariants.{MachineFile, SupervisorFile, GuestFile, Nowhere}
 use Rattle.aia_imsic.specs.Imsic.{ImsicState, IsThere, file_at}
 use Rattle.aia_imsic.proofs.PlaceLemmas.{kept_elsewhere}
 use Rattle.aia_mrif.specs.declared.slot.Stored.{Stored}
@@ -22,18 +22,18 @@ use Rattle.aia_entry.specs.Tables.{table_of, entry_in_force}
 use Rattle.aia_home.specs.declared.place.Place.{Place}
 use Rattle.aia_home.specs.Home.Home.{Parked}
 use Rattle.aia_home.proofs.HomeLemmas.{same_place}
-use Rattle.aia_places.specs.View.{TwoSets, of_file, of_slot}
-use Rattle.aia_fabric.specs.World.{World, OnlyStores, stage_of}
-use Rattle.aia_fabric.specs.Whole.{IsWhole}
-use Rattle.aia_fabric.specs.Making.{entry_word_place}
-use Rattle.aia_fabric.specs.Stores.{StoresIn, StoresAt, Posts, NoticedAt, NoticedBy, StoresInSlot, with_store}
-use Rattle.aia_fabric.specs.Changes.{spot_of, with_state}
-use Rattle.aia_fabric.proofs.FrameLemmas.{none_rest, stores_rest, slot_rest}
-use Rattle.aia_fabric.proofs.PlaceLemmas.{slot_takes_store, other_slot_stays}
-use Rattle.aia_fabric.proofs.StoreViews.{entry_words_kept}
-use Rattle.aia_fabric.proofs.ViewLemmas.{spots_apart, has_slot}
-use Rattle.aia_fabric.proofs.WholeLemmas.{width_at}
-use Rattle.aia_move.specs.Move.{width}
+use Rattle.aia_places.specs.Places.{TwoSets, of_file, of_slot}
+use Rattle.aia_world.specs.World.{World, OnlyStores, stage_of}
+use Rattle.aia_world.specs.Whole.{IsWhole}
+use Rattle.aia_world.specs.Making.{entry_word_place}
+use Rattle.aia_world.specs.Stores.{StoresIn, StoresAt, Posts, NoticedAt, NoticedBy, StoresInSlot, with_store}
+use Rattle.aia_world.specs.Changes.{spot_of, with_state}
+use Rattle.aia_world.proofs.FrameLemmas.{none_rest, stores_rest, slot_rest}
+use Rattle.aia_world.proofs.PlaceLemmas.{slot_takes_store, other_slot_stays}
+use Rattle.aia_world.proofs.StoreViews.{entry_words_kept}
+use Rattle.aia_world.proofs.ViewLemmas.{spots_apart, has_slot}
+use Rattle.aia_world.proofs.WholeLemmas.{width_at}
+use Rattle.aia_moving.specs.Move.{width}
 use Rattle.aia_plan.specs.Transit.{is_identity, with_one}
 use Rattle.aia_rehearsal.specs.declared.place.Place as ends
 use Rattle.aia_rehearsal.specs.declared.place.Place.TheVariants.{File, Slot}
@@ -81,8 +81,8 @@ pub record Adds (words : ℕ) (was now : TwoSets) (x : ℕ) : Type 0 where
 pub record Seen (w u : World) (p : Passage) (hits : ends.Place → Bool) (offset value : ℕ) : Type 0 where
   pub rest : OnlyStores w u
   pub routes : routes_of u (moved p) ≡ routes_of w (moved p)
-  pub hit : (b : ends.Place) → IsFileThere w b → hits b ≡ true → Adds (width w) (sets_at w (at_of p.who.slot b)) (sets_at u (at_of p.who.slot b)) (asked offset value)
-  pub missed : (b : ends.Place) → IsFileThere w b → hits b ≡ false → sets_at u (at_of p.who.slot b) ≡ sets_at w (at_of p.who.slot b)
+  pub hit : (b : ends.Place) → IsFileThere w b → hits b ≡ true → Adds (width w) (sets_at w (at_of p.who.found.slot b)) (sets_at u (at_of p.who.found.slot b)) (asked offset value)
+  pub missed : (b : ends.Place) → IsFileThere w b → hits b ≡ false → sets_at u (at_of p.who.found.slot b) ≡ sets_at w (at_of p.who.found.slot b)
 
 abbrev pub file_hit : Spot → ends.Place → Bool
 file_hit spot (File b) = is_file_at b spot
@@ -94,14 +94,14 @@ slot_hit o q Slot = names o q
 
 module _ (w u : World) (p : Passage) (offset value : ℕ) (whole : IsWhole w) where
   abbrev q : ℕ
-  q = p.who.slot
+  q = p.who.found.slot
 
   pub seen_none : (hits : ends.Place → Bool) → ((b : ends.Place) → hits b ≡ false) → u ≡ w → Seen w u p hits offset value
   seen_none hits none e = record {
     rest = none_rest w u e;
     routes = ap (λ (x : World). routes_of x (moved p)) e;
     hit = λ b there led. let both = none b in absurd (cc);
-    missed = λ b there none. ap (λ (x : World). sets_at x (at_of p.who.slot b)) e;
+    missed = λ b there none. ap (λ (x : World). sets_at x (at_of p.who.found.slot b)) e;
   }
 
   few : w.n ≤ IDENTITIES
@@ -137,12 +137,12 @@ module _ (w u : World) (p : Passage) (offset value : ℕ) (whole : IsWhole w) wh
         enabled = stores.lands.lands.enabled;
       }
 
-      hit : (b : ends.Place) → IsFileThere w b → file_hit (spot_of a) b ≡ true → Adds (width w) (sets_at w (at_of p.who.slot b)) (sets_at u (at_of p.who.slot b)) (asked offset value)
+      hit : (b : ends.Place) → IsFileThere w b → file_hit (spot_of a) b ≡ true → Adds (width w) (sets_at w (at_of p.who.found.slot b)) (sets_at u (at_of p.who.found.slot b)) (asked offset value)
       hit Slot standing led = absurd (cc)
       hit (File b) standing led = subst (λ (x : Place). Adds (width w) (of_file (shown (file_at w.imsic (spot_of x)))) (of_file (shown (file_at u.imsic (spot_of x)))) (asked offset value)) (sym (same_place b a led)) here
 
-      missed : (b : ends.Place) → IsFileThere w b → file_hit (spot_of a) b ≡ false → sets_at u (at_of p.who.slot b) ≡ sets_at w (at_of p.who.slot b)
-      missed Slot standing none = ap (λ (x : World). of_slot (mrif_in x.memory p.who.slot)) one_state
+      missed : (b : ends.Place) → IsFileThere w b → file_hit (spot_of a) b ≡ false → sets_at u (at_of p.who.found.slot b) ≡ sets_at w (at_of p.who.found.slot b)
+      missed Slot standing none = ap (λ (x : World). of_slot (mrif_in x.memory p.who.found.slot)) one_state
       missed (File b) standing none = ap (λ (x : World). of_file (shown (file_at x.imsic (spot_of b)))) one_state ∙ ap (λ f. of_file (shown f)) (kept_elsewhere w.imsic (spot_of a) (spot_of b) (file_at u.imsic (spot_of a)) there standing (spots_apart b a none))
 
   no_file : (spot : Spot) → ((b : Place) → is_file_at b spot ≡ false) → (b : ends.Place) → file_hit spot b ≡ false
@@ -152,7 +152,7 @@ module _ (w u : World) (p : Passage) (offset value : ℕ) (whole : IsWhole w) wh
   pub at_spot : (spot : Spot) → (spot ≢ Nowhere → IsThere w.imsic spot) → StoresAt w u spot offset value → Seen w u p (file_hit spot) offset value
   at_spot (GuestFile hart file) there stores = in_file (record { hart = hart; file = file }) (there (λ e. absurd (cc))) stores
   at_spot (MachineFile hart) there e = seen_none (file_hit (MachineFile hart)) (no_file (MachineFile hart) (λ b. refl)) e
-  at_spot (HostFile hart) there e = seen_none (file_hit (HostFile hart)) (no_file (HostFile hart) (λ b. refl)) e
+  at_spot (SupervisorFile hart) there e = seen_none (file_hit (SupervisorFile hart)) (no_file (SupervisorFile hart) (λ b. refl)) e
   at_spot Nowhere there e = seen_none (file_hit Nowhere) (no_file Nowhere (λ b. refl)) e
 
   -- ---- in a slot
@@ -177,7 +177,7 @@ module _ (w u : World) (p : Passage) (offset value : ℕ) (whole : IsWhole w) wh
 
     noticed_at : (host : Spot) → host ≡ spot → NoticedAt mid u host identity → Noticed s
     noticed_at (MachineFile hart) is posts = noticed_posts (MachineFile hart) (subst (IsThere w.imsic) (sym is) (there (λ e. absurd (cc)))) (λ b e. absurd (cc)) posts
-    noticed_at (HostFile hart) is posts = noticed_posts (HostFile hart) (subst (IsThere w.imsic) (sym is) (there (λ e. absurd (cc)))) (λ b e. absurd (cc)) posts
+    noticed_at (SupervisorFile hart) is posts = noticed_posts (SupervisorFile hart) (subst (IsThere w.imsic) (sym is) (there (λ e. absurd (cc)))) (λ b e. absurd (cc)) posts
     noticed_at (GuestFile hart file) is e = noticed_none e
     noticed_at Nowhere is e = noticed_none e
 
@@ -213,11 +213,11 @@ module _ (w u : World) (p : Passage) (offset value : ℕ) (whole : IsWhole w) wh
               enabled = λ i. ap (λ words. (mrif_in words s).enabled i) noticed.memory ∙ takes.enabled i;
             }
 
-        hit : (b : ends.Place) → IsFileThere w b → slot_hit (Some s) q b ≡ true → Adds (width w) (sets_at w (at_of p.who.slot b)) (sets_at u (at_of p.who.slot b)) (asked offset value)
+        hit : (b : ends.Place) → IsFileThere w b → slot_hit (Some s) q b ≡ true → Adds (width w) (sets_at w (at_of p.who.found.slot b)) (sets_at u (at_of p.who.found.slot b)) (asked offset value)
         hit (File b) standing led = absurd (cc)
         hit Slot standing led = subst (λ n. Adds (width w) (of_slot (mrif_in w.memory n)) (of_slot (mrif_in u.memory n)) (asked offset value)) (eqb-true s q led) here
 
-        missed : (b : ends.Place) → IsFileThere w b → slot_hit (Some s) q b ≡ false → sets_at u (at_of p.who.slot b) ≡ sets_at w (at_of p.who.slot b)
+        missed : (b : ends.Place) → IsFileThere w b → slot_hit (Some s) q b ≡ false → sets_at u (at_of p.who.found.slot b) ≡ sets_at w (at_of p.who.found.slot b)
         missed (File b) standing none = ap (λ f. of_file (shown f)) (noticed.files b standing)
         missed Slot standing none = ap (λ words. of_slot (mrif_in words q)) noticed.memory ∙ ap of_slot (other_slot_stays w.memory s q offset value (λ e. let same : nat_eq s q ≡ true = eq-eqb s q e in absurd (cc)))
 

@@ -8,10 +8,10 @@ use Rattle.std.proofs.lemmas.Bool.{cases_Bool, cases_eq, cond-true, cond-false}
 use Rattle.aia_word.specs.Sets.{has_bit}
 use Rattle.aia_word.proofs.BitLemmas.{has_bit-zero}
 use Rattle.aia_imsic.specs.Imsic.{ImsicState}
-use Rattle.aia_places.specs.View.{leads_to, entry_word}
-use Rattle.aia_fabric.specs.declared.flights.Flying.{Flying}
-use Rattle.aia_fabric.specs.World.{World, flight_of}
-use Rattle.aia_move.specs.Move.{width}
+use Rattle.aia_places.specs.Places.{leads_to, entry_word}
+use Rattle.aia_world.specs.declared.flying.Flying.{Flying}
+use Rattle.aia_world.specs.World.{World, flight_of}
+use Rattle.aia_moving.specs.Move.{width}
 use Rattle.aia_plan.specs.Plan.{IsInside}
 use Rattle.aia_plan.specs.Rule.{failing}
 use Rattle.aia_plan.specs.Safe.{IsStart, IsMoved}
@@ -34,21 +34,21 @@ NoneTo i slot place stores = AllByRecursion (λ (store : Flying). leads i slot p
 abbrev AllOn : Side → List Flight → Type 0
 AllOn side flights = AllByRecursion (λ (f : Flight). f.side ≡ side) flights
 
-none_of : (i : ImsicState) (p : Passage) (stores : List Flying) → NoneTo i p.who.slot p.old stores → NoneTo i p.who.slot p.new stores → flights_in i p stores ≡ []
+none_of : (i : ImsicState) (p : Passage) (stores : List Flying) → NoneTo i p.who.found.slot p.old stores → NoneTo i p.who.found.slot p.new stores → flights_in i p stores ≡ []
 none_of i p [] old new = refl
 none_of i p (store ∷ later) old new = rw (old.0, new.0) (none_of i p later old.1 new.1)
 
-all_old : (i : ImsicState) (p : Passage) (stores : List Flying) → NoneTo i p.who.slot p.new stores → AllOn Old (flights_in i p stores)
+all_old : (i : ImsicState) (p : Passage) (stores : List Flying) → NoneTo i p.who.found.slot p.new stores → AllOn Old (flights_in i p stores)
 all_old i p [] none = tt
-all_old i p (store ∷ later) none = elim (cases_Bool (leads i p.who.slot p.old store.entry)) [
+all_old i p (store ∷ later) none = elim (cases_Bool (leads i p.who.found.slot p.old store.entry)) [
   | inl led ↦ rw (led) (refl, all_old i p later none.1)
   | inr not ↦ rw (not, none.0) (all_old i p later none.1)
 ]
 
 -- where all lead to the new place none leads to the old one
-none_old : (i : ImsicState) (p : Passage) (stores : List Flying) → AllOn New (flights_in i p stores) → NoneTo i p.who.slot p.old stores
+none_old : (i : ImsicState) (p : Passage) (stores : List Flying) → AllOn New (flights_in i p stores) → NoneTo i p.who.found.slot p.old stores
 none_old i p [] all = tt
-none_old i p (store ∷ later) all = elim (cases_Bool (leads i p.who.slot p.old store.entry)) [
+none_old i p (store ∷ later) all = elim (cases_Bool (leads i p.who.found.slot p.old store.entry)) [
   | inl led ↦ let first : AllOn New (record { side = Old; identity = asked store.offset store.value } ∷ flights_in i p later) = subst (λ o. AllOn New (onto_flights o store (flights_in i p later))) (cond-true _ _ _ led) all in let no = first.0 in absurd (cc)
   | inr not ↦ (not, none_old i p later (rest (side_of i p store.entry) all))
 ]
@@ -58,21 +58,21 @@ none_old i p (store ∷ later) all = elim (cases_Bool (leads i p.who.slot p.old 
     rest (Some side) all = all.1
 
 -- where none leads to a place, none leads to the old one or the new one
-neither_old : (i : ImsicState) (p : Passage) (stores : List Flying) → flights_in i p stores ≡ [] → NoneTo i p.who.slot p.old stores
+neither_old : (i : ImsicState) (p : Passage) (stores : List Flying) → flights_in i p stores ≡ [] → NoneTo i p.who.found.slot p.old stores
 neither_old i p stores none = none_old i p stores (subst (AllOn New) (sym none) tt)
 
-neither_new : (i : ImsicState) (p : Passage) (stores : List Flying) → flights_in i p stores ≡ [] → NoneTo i p.who.slot p.new stores
+neither_new : (i : ImsicState) (p : Passage) (stores : List Flying) → flights_in i p stores ≡ [] → NoneTo i p.who.found.slot p.new stores
 neither_new i p [] none = tt
-neither_new i p (store ∷ later) none = elim (cases_Bool (leads i p.who.slot p.old store.entry)) [
+neither_new i p (store ∷ later) none = elim (cases_Bool (leads i p.who.found.slot p.old store.entry)) [
   | inl led ↦ let no : record { side = Old; identity = asked store.offset store.value } ∷ flights_in i p later ≡ [] = subst (λ o. onto_flights o store (flights_in i p later) ≡ []) (cond-true _ _ _ led) none in absurd (cc)
-  | inr not ↦ elim (cases_Bool (leads i p.who.slot p.new store.entry)) [
+  | inr not ↦ elim (cases_Bool (leads i p.who.found.slot p.new store.entry)) [
     | inl led ↦ let no : record { side = New; identity = asked store.offset store.value } ∷ flights_in i p later ≡ [] = subst (λ o. onto_flights o store (flights_in i p later) ≡ []) (cond-false _ _ _ not ∙ cond-true _ _ _ led) none in absurd (cc)
     | inr neither ↦ (neither, neither_new i p later (subst (λ o. onto_flights o store (flights_in i p later) ≡ []) (cond-false _ _ _ not ∙ cond-false _ _ _ neither) none))
   ]
 ]
 
 -- a fabric whose routes all lead to one side
-pub led_stands : (w : World) (r : Rehearsed) (side : Side) → IsOf w r.passage → AreTwo r.passage.old r.passage.new → LeadsTo w r.passage side → ((vm : ℕ) → vm ≢ r.passage.who.vm → NoneLeads w r.passage Old vm) → ((vm : ℕ) → vm ≢ r.passage.who.vm → NoneLeads w r.passage New vm)
+pub led_stands : (w : World) (r : Rehearsed) (side : Side) → IsOf w r.passage → AreTwo r.passage.old r.passage.new → LeadsTo w r.passage side → ((vm : ℕ) → vm ≢ r.passage.who.found.vm → NoneLeads w r.passage Old vm) → ((vm : ℕ) → vm ≢ r.passage.who.found.vm → NoneLeads w r.passage New vm)
     → StandsFor w r (state_at side w r)
 led_stands w r side of two routes old new = record {
   of = of;
@@ -88,7 +88,7 @@ module _ (w : World) (r : Rehearsed) (b : IsBegun w r) where
 
   pub begun_starts : IsStart (width w) (state_at Old w r)
   begun_starts = record {
-    routes = record { entry_written = refl; entry_in_force = refl; record_written = refl; record_in_force = refl; flights = by_place _ (flights_in w.imsic r.passage (flight_of w r.passage.who.vm)) (all_old w.imsic r.passage (flight_of w r.passage.who.vm) (by_recursion _ (flight_of w r.passage.who.vm) (b.flights r.passage.who.vm))) };
+    routes = record { entry_written = refl; entry_in_force = refl; record_written = refl; record_in_force = refl; flights = by_place _ (flights_in w.imsic r.passage (flight_of w r.passage.who.found.vm)) (all_old w.imsic r.passage (flight_of w r.passage.who.found.vm) (by_recursion _ (flight_of w r.passage.who.found.vm) (b.flights r.passage.who.found.vm))) };
     no_pending = b.new_pending;
     no_enabled = b.new_enabled;
     nothing_carried = λ bit. ap (λ (h : Carried). has_bit h.pending bit) b.hand ∙ has_bit-zero bit;
@@ -121,13 +121,13 @@ accepted_moves kind w u r t events run b inside accepted =
       old_pending = λ i low. sym (s.sets.old_pending i (inner i low)) ∙ m.none_pending i low;
       old_enabled = λ i low. sym (s.sets.old_enabled i (inner i low)) ∙ m.none_enabled i low;
       routes = record {
-        word0 = s.routes.entry_written ∙ ap (λ side. entry_word r.passage.who.slot (names_on side r.passage)) m.routes.entry_written;
+        word0 = s.routes.entry_written ∙ ap (λ side. entry_word r.passage.who.found.slot (names_on side r.passage)) m.routes.entry_written;
         word1 = s.routes.notice;
-        in_force = s.routes.entry_in_force ∙ ap (λ side. leads_to r.passage.who.slot r.passage.who.notice (names_on side r.passage)) m.routes.entry_in_force;
+        in_force = s.routes.entry_in_force ∙ ap (λ side. leads_to r.passage.who.found.slot r.passage.who.found.notice (names_on side r.passage)) m.routes.entry_in_force;
         record_written = s.routes.record_written ∙ ap (λ side. names_on side r.passage) m.routes.record_written;
         record_in_force = s.routes.record_in_force ∙ ap (λ side. names_on side r.passage) m.routes.record_in_force;
       };
-      flights = λ vm. by_place _ (flight_of u vm) (none_old u.imsic r.passage (flight_of u vm) (elim (cases_eq vm r.passage.who.vm) [
+      flights = λ vm. by_place _ (flight_of u vm) (none_old u.imsic r.passage (flight_of u vm) (elim (cases_eq vm r.passage.who.found.vm) [
         | inl e ↦ subst (λ v. AllOn New (flights_in u.imsic r.passage (flight_of u v))) (sym e) (subst (AllOn New) s.flights.own (by_recursion _ z.flights m.routes.flights))
         | inr ne ↦ subst (AllOn New) (sym (s.flights.others vm ne)) tt
       ]));
@@ -148,7 +148,7 @@ next_begins w u r asked_for place o t e of alone two none pending enabled = reco
   two = subst (λ (x : Rehearsed). AreTwo x.passage.old x.passage.new) (sym e) two;
   routes = subst (λ (x : Rehearsed). LeadsTo u x.passage Old) (sym e) (record { word0 = o.routes.word0; word1 = o.routes.word1; in_force = o.routes.in_force; record_written = o.routes.record_written; record_in_force = o.routes.record_in_force });
   flights = none;
-  others = subst (λ (x : Rehearsed). (vm : ℕ) → vm ≢ x.passage.who.vm → NoneLeads u x.passage Old vm) (sym e) o.others;
+  others = subst (λ (x : Rehearsed). (vm : ℕ) → vm ≢ x.passage.who.found.vm → NoneLeads u x.passage Old vm) (sym e) o.others;
   new_pending = pending;
   new_enabled = enabled;
   hand = ap (λ (x : Rehearsed). x.hand) e;

@@ -7,12 +7,12 @@ use Rattle.aia_entry.specs.Translation.{is_msi_address, file_number}
 use Rattle.aia_home.specs.declared.place.Place.{Place}
 use Rattle.aia_entry.specs.Format.{decoded}
 use Rattle.aia_home.specs.Vms.{Vcpu, vcpu, is_vcpu, is_vcpu_in}
-use Rattle.aia_fabric.specs.declared.flights.Flying.{Flying}
-use Rattle.aia_fabric.specs.World.{World, flight_of, stage_of}
-use Rattle.aia_fabric.specs.Stores.{Reaches, Relays}
-use Rattle.aia_fabric.specs.Flights.{Sends, Lands}
-use Rattle.aia_fabric.specs.Changes.{with_fence}
-use Rattle.aia_move.specs.Move.{width}
+use Rattle.aia_world.specs.declared.flying.Flying.{Flying}
+use Rattle.aia_world.specs.World.{World, flight_of, stage_of}
+use Rattle.aia_world.specs.Stores.{Reaches, Relays}
+use Rattle.aia_world.specs.Flights.{Sends, Lands}
+use Rattle.aia_world.specs.Changes.{with_fence}
+use Rattle.aia_moving.specs.Move.{width}
 use Rattle.aia_plan.specs.Plan.{IsInside}
 use Rattle.aia_plan.specs.declared.step.Step.{Step}
 use Rattle.aia_plan.specs.Transit.{Side, Happening}
@@ -53,8 +53,8 @@ Happens (EntryRead vm file) w r u t =
 -- Whether a store of a device of a VM is for the virtual hart that is moved.
 abbrev pub is_for_moved : World → Passage → ℕ → ℕ → Bool
 is_for_moved w p vm addr =
-    nat_eq vm p.who.vm && (is_msi_address (table_of w.tables vm).mask addr
-    && nat_eq (file_number (table_of w.tables vm).mask addr) p.who.vcpu)
+    nat_eq vm p.who.found.vm && (is_msi_address (table_of w.tables vm).mask addr
+    && nat_eq (file_number (table_of w.tables vm).mask addr) p.who.found.number)
 
 -- ---- what is not its own
 
@@ -81,7 +81,7 @@ landing_by (Some side) k = happenings.Lands k ∷ []
 abbrev pub landing_seen : World → Passage → ℕ → Option Flying → List Happening
 landing_seen w p k None = []
 landing_seen w p k (Some store) = landing_by (side_of w.imsic p store.entry)
-    (length (flights_in w.imsic p (take k (flight_of w p.who.vm))))
+    (length (flights_in w.imsic p (take k (flight_of w p.who.found.vm))))
 
 -- What is for the virtual hart that is moved is one happening; what is for others is none.
 abbrev pub seen : Event → World → Passage → List Happening
@@ -93,6 +93,6 @@ seen (PeerStores vm to value) w p =
 seen (DeviceSends vm addr value) w p =
     if is_for_moved w p vm addr then happenings.Sends (asked (addr % PAGE) value) ∷ [] else []
 seen (StoreLands vm k) w p =
-    if nat_eq vm p.who.vm then landing_seen w p k (slice_get (flight_of w vm) k) else []
+    if nat_eq vm p.who.found.vm then landing_seen w p k (slice_get (flight_of w vm) k) else []
 seen (EntryRead vm file) w p =
     if is_vcpu (vcpu vm file) (moved p) then happenings.Refetches ∷ [] else []

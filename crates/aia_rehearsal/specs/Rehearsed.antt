@@ -4,13 +4,13 @@ use Rattle.std.specs.Prelude.{◌≡◌, ℕ, ⊤, Bool, false, Option, Some, No
 use Rattle.aia_home.specs.declared.place.Place.{Place}
 use Rattle.aia_home.specs.Vms.{Vcpu, vcpu}
 use Rattle.aia_home.specs.Home.{is_place}
-use Rattle.aia_fabric.specs.declared.at.At.{At}
-use Rattle.aia_fabric.specs.declared.at.At.TheVariants as ats
-use Rattle.aia_fabric.specs.World.{World}
+use Rattle.aia_world.specs.declared.at.At.{At}
+use Rattle.aia_world.specs.declared.at.At.TheVariants as ats
+use Rattle.aia_world.specs.World.{World}
 use Rattle.aia_imsic.specs.Imsic.{IsThere}
-use Rattle.aia_fabric.specs.Changes.{spot_of}
-use Rattle.aia_move.specs.declared.who.Who.{Who}
-use Rattle.aia_move.specs.Move.{IsWho}
+use Rattle.aia_world.specs.Changes.{spot_of}
+use Rattle.aia_moving.specs.declared.who.Who.{Who}
+use Rattle.aia_moving.specs.Move.{IsWho}
 use Rattle.aia_plan.specs.Transit.{Side}
 use Rattle.aia_plan.specs.Transit.Side.{Old, New}
 use Rattle.aia_rehearsal.specs.declared.place.Place as ends
@@ -52,7 +52,7 @@ from_to who old new = record {
 
 -- The virtual hart that is moved.
 abbrev pub moved : Passage → Vcpu
-moved p = vcpu p.who.vm p.who.vcpu
+moved p = vcpu p.who.found.vm p.who.found.number
 
 -- The place on one of its sides.
 abbrev pub on : Side → Passage → ends.Place
@@ -65,7 +65,7 @@ at_of slot (File p) = ats.File (spot_of p)
 at_of slot Slot = ats.Slot slot
 
 abbrev pub at : Side → Passage → At
-at side p = at_of p.who.slot (on side p)
+at side p = at_of p.who.found.slot (on side p)
 
 -- The guest file that a place is, None where it is the slot: what the entry and the record name.
 abbrev pub file_of : ends.Place → Option Place

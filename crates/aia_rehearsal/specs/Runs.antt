@@ -5,11 +5,11 @@ use Rattle.std.specs.List.{list_any}
 use Rattle.aia_word.specs.Sets.{has_bit}
 use Rattle.aia_regs.specs.declared.address_map.TheConstants.{PAGE}
 use Rattle.aia_home.specs.Vms.{vcpu, is_vcpu}
-use Rattle.aia_places.specs.View.{leads_to, entry_word, second_word}
-use Rattle.aia_fabric.specs.declared.flights.Flying.{Flying}
-use Rattle.aia_fabric.specs.World.{World, flight_of}
-use Rattle.aia_fabric.specs.Whole.{IsWhole}
-use Rattle.aia_move.specs.Move.{width}
+use Rattle.aia_places.specs.Places.{leads_to, entry_word, second_word}
+use Rattle.aia_world.specs.declared.flying.Flying.{Flying}
+use Rattle.aia_world.specs.World.{World, flight_of}
+use Rattle.aia_world.specs.Whole.{IsWhole}
+use Rattle.aia_moving.specs.Move.{width}
 use Rattle.aia_plan.specs.Plan.{Plan}
 use Rattle.aia_plan.specs.declared.step.Step.TheVariants as steps
 use Rattle.aia_plan.specs.Transit.{Side, Flight, Transit, is_identity}
@@ -46,13 +46,13 @@ lands_for w p i (Some store) =
 abbrev pub asks : Event → World → Passage → ℕ → Bool
 asks (Steps steps.Fence) w p i =
     list_any (λ (f : Flight). nat_eq f.identity i)
-    (flights_in w.imsic p (flight_of w p.who.vm))
+    (flights_in w.imsic p (flight_of w p.who.found.vm))
 asks (DeviceStores vm addr value) w p i =
     is_for_moved w p vm addr && nat_eq (asked (addr % PAGE) value) i
 asks (PeerStores vm to value) w p i =
     is_vcpu (vcpu vm to) (moved p) && nat_eq (asked 0 value) i
 asks (StoreLands vm k) w p i =
-    nat_eq vm p.who.vm && lands_for w p i (slice_get (flight_of w vm) k)
+    nat_eq vm p.who.found.vm && lands_for w p i (slice_get (flight_of w vm) k)
 asks event w p i = false
 
 -- Whether one of the events of a run does.
@@ -66,17 +66,17 @@ asked_in (event ∷ later) w r u t (x, y, whole, happens, rest) i =
 
 -- All routes, as they are written and in force, lead to a side.
 pub record LeadsTo (w : World) (p : Passage) (side : Side) : Type 0 where
-  pub word0 : (routes_of w (moved p)).word0 ≡ entry_word p.who.slot (names_on side p)
-  pub word1 : (routes_of w (moved p)).word1 ≡ second_word p.who.slot p.who.notice
+  pub word0 : (routes_of w (moved p)).word0 ≡ entry_word p.who.found.slot (names_on side p)
+  pub word1 : (routes_of w (moved p)).word1 ≡ second_word p.who.found.slot p.who.found.notice
   pub in_force : (routes_of w (moved p)).in_force
-      ≡ leads_to p.who.slot p.who.notice (names_on side p)
+      ≡ leads_to p.who.found.slot p.who.found.notice (names_on side p)
   pub record_written : (routes_of w (moved p)).stage.written ≡ names_on side p
   pub record_in_force : (routes_of w (moved p)).stage.in_force ≡ names_on side p
 
 -- No store in flight of a VM leads to a side.
 abbrev pub NoneLeads : World → Passage → Side → ℕ → Type 0
 NoneLeads w p side vm = All (λ (store : Flying).
-    leads w.imsic p.who.slot (on side p) store.entry ≡ false) (flight_of w vm)
+    leads w.imsic p.who.found.slot (on side p) store.entry ≡ false) (flight_of w vm)
 
 -- The state for which a fabric stands whose routes all lead to one side.
 abbrev pub state_at : Side → World → Rehearsed → Transit
@@ -91,7 +91,7 @@ state_at side w r = record {
   entry_in_force = side;
   record_written = side;
   record_in_force = side;
-  flights = flights_in w.imsic r.passage (flight_of w r.passage.who.vm);
+  flights = flights_in w.imsic r.passage (flight_of w r.passage.who.found.vm);
   due = λ i. is_identity i && (sets_at w (at Old r.passage)).pending i;
 }
 
@@ -103,7 +103,7 @@ pub record IsBegun (w : World) (r : Rehearsed) : Type 0 where
   pub alone : IsAlone w r.passage
   pub routes : LeadsTo w r.passage Old
   pub flights : (vm : ℕ) → NoneLeads w r.passage New vm
-  pub others : (vm : ℕ) → vm ≢ r.passage.who.vm → NoneLeads w r.passage Old vm
+  pub others : (vm : ℕ) → vm ≢ r.passage.who.found.vm → NoneLeads w r.passage Old vm
   pub new_pending : (i : ℕ) → i / 64 < width w
       → (sets_at w (at New r.passage)).pending i ≡ false
   pub new_enabled : (i : ℕ) → i / 64 < width w
@@ -124,4 +124,4 @@ pub record IsOver (w : World) (r : Rehearsed) (asked_for : ℕ → Bool) (u : Wo
       → (sets_at u (at Old r.passage)).enabled i ≡ false
   pub routes : LeadsTo u r.passage New
   pub flights : (vm : ℕ) → NoneLeads u r.passage Old vm
-  pub others : (vm : ℕ) → vm ≢ r.passage.who.vm → NoneLeads u r.passage New vm
+  pub others : (vm : ℕ) → vm ≢ r.passage.who.found.vm → NoneLeads u r.passage New vm

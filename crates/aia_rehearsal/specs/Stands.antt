@@ -4,7 +4,7 @@
 use Rattle.std.specs.Prelude.{◌≡◌, ◌≢◌, ℕ, ◌+◌, ◌/◌, ◌<◌, Bool, false, if◌then◌else◌, List, [], ◌∷◌, Option, Some, None, unwrap_or, slice_index}
 use Rattle.aia_word.specs.Sets.{has_bit}
 use Rattle.aia_regs.specs.declared.limits.TheConstants.{IDENTITIES}
-use Rattle.aia_regs.specs.Word.{names}
+use Rattle.aia_regs.specs.BitUpdate.{names}
 use Rattle.aia_regs.specs.Request.{requested}
 use Rattle.aia_file.specs.FileState.{shown}
 use Rattle.aia_imsic.specs.declared.spot.Spot.{Spot}
@@ -17,15 +17,15 @@ use Rattle.aia_entry.specs.Tables.{table_of, entry_in_force}
 use Rattle.aia_home.specs.declared.place.Place.{Place}
 use Rattle.aia_home.specs.Home.{is_place}
 use Rattle.aia_home.specs.Vms.{Vcpu}
-use Rattle.aia_places.specs.View.{TwoSets, of_file, of_slot, leads_to, entry_word, second_word}
-use Rattle.aia_fabric.specs.declared.at.At.{At}
-use Rattle.aia_fabric.specs.declared.at.At.TheVariants as ats
-use Rattle.aia_fabric.specs.declared.flights.Flying.{Flying}
-use Rattle.aia_fabric.specs.declared.stage.Stage.{Stage}
-use Rattle.aia_fabric.specs.World.{World, flight_of, stage_of}
-use Rattle.aia_fabric.specs.Making.{entry_word_place}
-use Rattle.aia_fabric.specs.Stores.{page_spot, slot_at}
-use Rattle.aia_move.specs.Move.{width}
+use Rattle.aia_places.specs.Places.{TwoSets, of_file, of_slot, leads_to, entry_word, second_word}
+use Rattle.aia_world.specs.declared.at.At.{At}
+use Rattle.aia_world.specs.declared.at.At.TheVariants as ats
+use Rattle.aia_world.specs.declared.flying.Flying.{Flying}
+use Rattle.aia_world.specs.declared.stage.Stage.{Stage}
+use Rattle.aia_world.specs.World.{World, flight_of, stage_of}
+use Rattle.aia_world.specs.Making.{entry_word_place}
+use Rattle.aia_world.specs.Stores.{page_spot, slot_at}
+use Rattle.aia_moving.specs.Move.{width}
 use Rattle.aia_plan.specs.Transit.{Side, Flight, Transit}
 use Rattle.aia_plan.specs.Transit.Side.{Old, New}
 use Rattle.aia_rehearsal.specs.declared.place.Place as ends
@@ -69,10 +69,10 @@ routes_of w g = record {
 -- The entry and the record, as they are written and in force, lead where those of a state do; and
 -- the entry says from the VM's making on where notices go.
 pub record RoutesStand (p : Passage) (routes : Routes) (z : Transit) : Type 0 where
-  pub entry_written : routes.word0 ≡ entry_word p.who.slot (names_on z.entry_written p)
-  pub notice : routes.word1 ≡ second_word p.who.slot p.who.notice
+  pub entry_written : routes.word0 ≡ entry_word p.who.found.slot (names_on z.entry_written p)
+  pub notice : routes.word1 ≡ second_word p.who.found.slot p.who.found.notice
   pub entry_in_force : routes.in_force
-      ≡ leads_to p.who.slot p.who.notice (names_on z.entry_in_force p)
+      ≡ leads_to p.who.found.slot p.who.found.notice (names_on z.entry_in_force p)
   pub record_written : routes.stage.written ≡ names_on z.record_written p
   pub record_in_force : routes.stage.in_force ≡ names_on z.record_in_force p
 
@@ -92,8 +92,8 @@ leads i slot place entry = false
 -- On which side it leads to a place, if it leads to one of the two.
 abbrev pub side_of : ImsicState → Passage → Entry → Option Side
 side_of i p entry =
-    if leads i p.who.slot p.old entry then Some Old
-    else (if leads i p.who.slot p.new entry then Some New
+    if leads i p.who.found.slot p.old entry then Some Old
+    else (if leads i p.who.found.slot p.new entry then Some New
     else None)
 
 -- The identity for which a store at an offset of a page asks; 0, which is none, where it asks for
@@ -114,8 +114,8 @@ flights_in i p (store ∷ later) =
 
 -- Those of its VM are a state's; and no store in flight of another VM leads to its places.
 pub record FlightsStand (w : World) (p : Passage) (z : Transit) : Type 0 where
-  pub own : z.flights ≡ flights_in w.imsic p (flight_of w p.who.vm)
-  pub others : (vm : ℕ) → vm ≢ p.who.vm → flights_in w.imsic p (flight_of w vm) ≡ []
+  pub own : z.flights ≡ flights_in w.imsic p (flight_of w p.who.found.vm)
+  pub others : (vm : ℕ) → vm ≢ p.who.found.vm → flights_in w.imsic p (flight_of w vm) ≡ []
 
 -- ---- all of it
 

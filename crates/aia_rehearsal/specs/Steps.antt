@@ -8,13 +8,13 @@ use Rattle.aia_plan.specs.Transit.Side.{Old, New}
 use Rattle.aia_regs.specs.declared.file_registers.FileReg.{FileReg}
 use Rattle.aia_regs.specs.declared.file_registers.FileReg.TheVariants.{Delivery, Threshold}
 use Rattle.aia_imsic.specs.Imsic.{file_at}
-use Rattle.aia_places.specs.View.{entry_word, second_word}
+use Rattle.aia_places.specs.Places.{entry_word, second_word}
 use Rattle.aia_places.specs.Holds.{meets}
-use Rattle.aia_fabric.specs.declared.at.At.TheVariants as ats
-use Rattle.aia_fabric.specs.World.{World}
-use Rattle.aia_fabric.specs.Flights.{Fences}
-use Rattle.aia_fabric.specs.Changes.{PutsRegister, spot_of, pending_words, enable_words, pending_at, with_pending, enable_at, with_enable, with_entry_word, with_map, with_stage_fence}
-use Rattle.aia_move.specs.Move.{PostsIf}
+use Rattle.aia_world.specs.declared.at.At.TheVariants as ats
+use Rattle.aia_world.specs.World.{World}
+use Rattle.aia_world.specs.Flights.{Fences}
+use Rattle.aia_world.specs.Changes.{PutsRegister, spot_of, pending_words, enable_words, pending_at, with_pending, enable_at, with_enable, with_entry_word, with_map, with_gfence}
+use Rattle.aia_moving.specs.Move.{PostsIf}
 use Rattle.aia_rehearsal.specs.declared.place.Place as ends
 use Rattle.aia_rehearsal.specs.declared.place.Place.TheVariants.{File, Slot}
 use Rattle.aia_rehearsal.specs.Rehearsed.{Carried, Rehearsed, moved, at, names_on}
@@ -32,15 +32,15 @@ Puts w u Slot reg v = u ≡ w
 -- place. A look reads the slot, and a post sends the notice where a look saw reason to.
 abbrev pub Makes : Step → Rehearsed → World → World → Type 0
 Makes Quiet r w u = Puts w u r.passage.old Delivery 0
-Makes Word1 r w u = u ≡ with_entry_word w r.passage.who.vm r.passage.who.vcpu 1
-    (second_word r.passage.who.slot r.passage.who.notice)
-Makes Word0 r w u = u ≡ with_entry_word w r.passage.who.vm r.passage.who.vcpu 0
-    (entry_word r.passage.who.slot (names_on New r.passage))
-Makes Fence r w u = Fences w u r.passage.who.vm r.passage.who.vcpu
+Makes Word1 r w u = u ≡ with_entry_word w r.passage.who.found.vm r.passage.who.found.number 1
+    (second_word r.passage.who.found.slot r.passage.who.found.notice)
+Makes Word0 r w u = u ≡ with_entry_word w r.passage.who.found.vm r.passage.who.found.number 0
+    (entry_word r.passage.who.found.slot (names_on New r.passage))
+Makes Fence r w u = Fences w u r.passage.who.found.vm r.passage.who.found.number
 Makes Map r w u = u ≡ with_map w (moved r.passage) (names_on New r.passage)
 Makes Unmap r w u = u ≡ with_map w (moved r.passage) (names_on New r.passage)
 Makes Remap r w u = u ≡ with_map w (moved r.passage) (names_on New r.passage)
-Makes GFence r w u = u ≡ with_stage_fence w (moved r.passage)
+Makes GFence r w u = u ≡ with_gfence w (moved r.passage)
 Makes (TakeP k) r w u =
     (k < pending_words w (at Old r.passage)) × (u ≡ with_pending w (at Old r.passage) k 0)
 Makes (PutP k) r w u = (k < pending_words w (at New r.passage))
@@ -53,7 +53,7 @@ Makes (PutE k) r w u = (k < enable_words w (at New r.passage))
 Makes (Look k) r w u = u ≡ w
 Makes TakeT r w u = Puts w u r.passage.old Threshold 0
 Makes PutT r w u = Puts w u r.passage.new Threshold r.hand.threshold
-Makes Post r w u = PostsIf r.hand.seen w u r.passage.who.notice (r.passage.who.slot + 1)
+Makes Post r w u = PostsIf r.hand.seen w u r.passage.who.found.notice (r.passage.who.found.slot + 1)
 Makes Wake r w u = Puts w u r.passage.new Delivery r.hand.delivery
 
 -- What a register of a place that is a file reads; of a slot what is carried stays.
@@ -75,8 +75,8 @@ hand_after (TakeE k) r w = record r.hand { enables = enable_at w (at Old r.passa
 hand_after (PutE k) r w = record r.hand { enables = 0 }
 hand_after (Look k) r w = record r.hand {
   seen = r.hand.seen
-      || meets (pending_at w (ats.Slot r.passage.who.slot) k)
-      (enable_at w (ats.Slot r.passage.who.slot) k);
+      || meets (pending_at w (ats.Slot r.passage.who.found.slot) k)
+      (enable_at w (ats.Slot r.passage.who.found.slot) k);
 }
 hand_after TakeT r w =
     record r.hand { threshold = threshold_taken w r.passage.old r.hand.threshold }

@@ -12,13 +12,13 @@ ghost use Rattle.aia_home.specs.declared.place.Place.{Place};
 ghost use Rattle.aia_home.specs.declared.vm.Vm.{Vm};
 ghost use Rattle.aia_home.specs.Home.{is_place};
 ghost use Rattle.aia_home.specs.Vms.{vcpu};
-ghost use Rattle.aia_places.specs.View.{entry_word};
-ghost use Rattle.aia_fabric.specs.World.{World};
-ghost use Rattle.aia_fabric.specs.Whole.{IsWhole};
-ghost use Rattle.aia_fabric.specs.Making.{IsNew, MakesVm};
-ghost use Rattle.aia_fabric.specs.Changes.{spot_of, with_entry_word, with_fence, with_map, with_stage_fence};
-ghost use Rattle.aia_move.specs.declared.who.Who.{Who};
-ghost use Rattle.aia_move.specs.Move.{IsWho, width};
+ghost use Rattle.aia_places.specs.Places.{entry_word};
+ghost use Rattle.aia_world.specs.World.{World};
+ghost use Rattle.aia_world.specs.Whole.{IsWhole};
+ghost use Rattle.aia_world.specs.Making.{IsNew, MakesVm};
+ghost use Rattle.aia_world.specs.Changes.{spot_of, with_entry_word, with_fence, with_map, with_gfence};
+ghost use Rattle.aia_moving.specs.declared.who.Who.{Who};
+ghost use Rattle.aia_moving.specs.Move.{IsWho, width};
 ghost use Rattle.aia_rehearsal.specs.declared.place.Place as ends;
 ghost use Rattle.aia_rehearsal.specs.declared.place.Place.TheVariants as places;
 ghost use Rattle.aia_rehearsal.specs.Rehearsed.{Rehearsed, IsOf, AreTwo, at, from_to};
@@ -61,24 +61,24 @@ pub fn an_accepted_plan_moves_all()
 pub fn rehearsals_stand_for_something()
     ensures arrival { (before w : World) (n harts guests : ℕ) (vm : Vm) (who : Who)
         → IsNew before harts guests n → IsWhole w → MakesVm before w vm → IsWho w who
-        → who.vm ≡ 0 → (file : Place) → IsThere w.imsic (spot_of file)
+        → who.found.vm ≡ 0 → (file : Place) → IsThere w.imsic (spot_of file)
         → IsBegun w (from_to who places.Slot (places.File file)) }
     ensures begun { (w : World) (r : Rehearsed) → IsBegun w r
         → StandsFor w r (state_at Old w r) × IsStart (width w) (state_at Old w r) }
     ensures leave { (before w : World) (n harts guests : ℕ) (vm : Vm) (who : Who)
         → IsNew before harts guests n → IsWhole w → MakesVm before w vm → IsWho w who
-        → who.vm ≡ 0 → (file : Place) → IsThere w.imsic (spot_of file)
+        → who.found.vm ≡ 0 → (file : Place) → IsThere w.imsic (spot_of file)
         → StandsFor w (from_to who (places.File file) places.Slot)
         (state_at New w (from_to who (places.File file) places.Slot)) }
     ensures shift { (before w : World) (n harts guests : ℕ) (vm : Vm) (who : Who)
         → IsNew before harts guests n → IsWhole w → MakesVm before w vm → IsWho w who
-        → who.vm ≡ 0 → (a b : Place) → IsThere w.imsic (spot_of a)
+        → who.found.vm ≡ 0 → (a b : Place) → IsThere w.imsic (spot_of a)
         → IsThere w.imsic (spot_of b) → is_place a b ≡ false
         → (x y v u : World) → IsWhole x → IsWhole y → IsWhole v
-        → x ≡ with_entry_word w who.vm who.vcpu 0 (entry_word who.slot (Some a))
-        → y ≡ with_fence x who.vm who.vcpu
-        → v ≡ with_map y (vcpu who.vm who.vcpu) (Some a)
-        → u ≡ with_stage_fence v (vcpu who.vm who.vcpu)
+        → x ≡ with_entry_word w who.found.vm who.found.number 0 (entry_word who.found.slot (Some a))
+        → y ≡ with_fence x who.found.vm who.found.number
+        → v ≡ with_map y (vcpu who.found.vm who.found.number) (Some a)
+        → u ≡ with_gfence v (vcpu who.found.vm who.found.number)
         → StandsFor u (from_to who (places.File a) (places.File b))
         (state_at Old u (from_to who (places.File a) (places.File b))) }
     ensures next { (w u : World) (r t : Rehearsed) (asked_for : ℕ → Bool) (place : ends.Place)

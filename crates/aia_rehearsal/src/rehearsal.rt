@@ -5,9 +5,9 @@ ghost use Rattle.aia_plan.specs.Transit.{Transit, stepped};
 ghost use Rattle.aia_plan.specs.Transit.Side.{Old, New};
 ghost use Rattle.aia_plan.specs.declared.step.Step.TheVariants as steps;
 ghost use Rattle.aia_regs.specs.FileRegisters.{IsUsable};
-ghost use Rattle.aia_fabric.specs.Changes.{IsPlaceThere};
-ghost use Rattle.aia_move.specs.Move.{width};
-ghost use Rattle.aia_move.specs.Touches.{SameMachine};
+ghost use Rattle.aia_world.specs.Changes.{IsPlaceThere};
+ghost use Rattle.aia_moving.specs.Move.{width};
+ghost use Rattle.aia_moving.specs.Touches.{SameMachine};
 ghost use Rattle.aia_rehearsal.specs.Rehearsed.{Rehearsed, NotBothSlots, IsOf, IsFileThere, at_of, from_to, moved, names_on};
 ghost use Rattle.aia_rehearsal.specs.Steps.{Makes, after, hand_after, identities_in, Puts};
 ghost use Rattle.aia_rehearsal.specs.Stands.{StandsFor};
@@ -79,7 +79,7 @@ fn put(fabric: &mut Fabric, place: &Place, reg: FileReg, value: u64)
     }
 }
 
-#[tactic(auto, using(aia_move::proofs::WhoLemmas::small_who, aia_move::proofs::WhoLemmas::posts_if, crate::proofs::Places::place_there, crate::proofs::Places::words_there, crate::proofs::Places::word_in, crate::proofs::Places::file_in_map))]
+#[tactic(auto, using(aia_moving::proofs::WhoLemmas::small_who, aia_moving::proofs::WhoLemmas::posts_if, crate::proofs::Places::place_there, crate::proofs::Places::words_there, crate::proofs::Places::word_in, crate::proofs::Places::file_in_map))]
 impl Rehearsal {
     /// Begins: nothing is carried. Not both places are the slot.
     pub fn new(old: Place, new: Place, who: Who) -> Rehearsal
@@ -129,9 +129,9 @@ impl Rehearsal {
             Step::Quiet => self.take_delivery(fabric),
             Step::Word1 => self.write_notice(fabric),
             Step::Word0 => self.write_entry(fabric),
-            Step::Fence => fabric.fence(self.who.vm, self.who.vcpu),
+            Step::Fence => fabric.fence(self.who.found),
             Step::Map | Step::Unmap | Step::Remap => self.write_record(fabric),
-            Step::GFence => fabric.gfence(self.who.vm, self.who.vcpu),
+            Step::GFence => fabric.gfence(self.who.found),
             Step::TakeP(word) => self.take_pending(fabric, word as usize),
             Step::PutP(word) => self.put_pending(fabric, word as usize),
             Step::TakeE(word) => self.take_enables(fabric, word as usize),
@@ -177,8 +177,8 @@ impl Rehearsal {
         ensures same { self.new ≡ self.old }
     {
         let _words = fabric.words();
-        let word = second_word(self.who.slot, self.who.notice);
-        fabric.put_word(self.who.vm, self.who.vcpu, 1, word);
+        let word = second_word(self.who.found.slot, self.who.found.notice);
+        fabric.put_word(self.who.found, 1, word);
     }
 
     /// Writes word 0 of the entry: it leads to the new place.
@@ -192,8 +192,8 @@ impl Rehearsal {
             Place::File(lease) => Some(lease.place()),
             Place::Slot => None,
         };
-        let word = entry_word(self.who.slot, file);
-        fabric.put_word(self.who.vm, self.who.vcpu, 0, word);
+        let word = entry_word(self.who.found.slot, file);
+        fabric.put_word(self.who.found, 0, word);
     }
 
     /// Writes the G-stage record: it names the new place.
@@ -204,8 +204,8 @@ impl Rehearsal {
     {
         let named = &self.to;
         match named {
-            Place::File(lease) => fabric.map(self.who.vm, self.who.vcpu, Some(lease)),
-            Place::Slot => fabric.map(self.who.vm, self.who.vcpu, None),
+            Place::File(lease) => fabric.map(self.who.found, Some(lease)),
+            Place::Slot => fabric.map(self.who.found, None),
         }
     }
 
@@ -219,7 +219,7 @@ impl Rehearsal {
         ensures after { self.new ≡ after (steps.TakeP word) self.old fabric.old }
     {
         let _words = fabric.words();
-        self.pending = fabric.swap_pending(at(&self.from, self.who.slot), word, 0);
+        self.pending = fabric.swap_pending(at(&self.from, self.who.found.slot), word, 0);
     }
 
     /// Adds what is carried to word `word` of the pending set of the new place.
@@ -231,7 +231,7 @@ impl Rehearsal {
     {
         let _words = fabric.words();
         let bits = identities(word, self.pending);
-        fabric.or_pending(at(&self.to, self.who.slot), word, bits);
+        fabric.or_pending(at(&self.to, self.who.found.slot), word, bits);
         self.pending = 0;
     }
 
@@ -243,7 +243,7 @@ impl Rehearsal {
         ensures after { self.new ≡ after (steps.TakeE word) self.old fabric.old }
     {
         let _words = fabric.words();
-        self.enables = fabric.swap_enable(at(&self.from, self.who.slot), word, 0);
+        self.enables = fabric.swap_enable(at(&self.from, self.who.found.slot), word, 0);
     }
 
     /// Makes word `word` of the enabled set of the new place what is carried.
@@ -255,7 +255,7 @@ impl Rehearsal {
     {
         let _words = fabric.words();
         let bits = identities(word, self.enables);
-        let _was = fabric.swap_enable(at(&self.to, self.who.slot), word, bits);
+        let _was = fabric.swap_enable(at(&self.to, self.who.found.slot), word, bits);
         self.enables = 0;
     }
 
@@ -269,7 +269,7 @@ impl Rehearsal {
         ensures after { self.new ≡ after (steps.Look word) self.old fabric.old }
     {
         let _words = fabric.words();
-        let (pending, enabled) = fabric.look(self.who.slot, word);
+        let (pending, enabled) = fabric.look(self.who.found.slot, word);
         self.seen = self.seen || meets(pending, enabled);
     }
 
@@ -281,7 +281,7 @@ impl Rehearsal {
     {
         let _words = fabric.words();
         if self.seen {
-            fabric.notice(self.who.slot);
+            fabric.notice(self.who.found.slot);
         }
     }
 

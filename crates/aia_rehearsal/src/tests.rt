@@ -3,8 +3,8 @@
 ghost use Rattle.std.specs.Prelude.{◌≡◌, ◌≢◌, ◌<◌, ◌≤◌, ◌⊎◌, IfOk, IfSome};
 ghost use Rattle.std.specs.List.{All};
 ghost use Rattle.aia_plan.specs.Plan.{IsInside};
-ghost use Rattle.aia_move.specs.Move.{IsWho, width};
-ghost use Rattle.aia_move.specs.Touches.{SameMachine};
+ghost use Rattle.aia_moving.specs.Move.{IsWho, width};
+ghost use Rattle.aia_moving.specs.Touches.{SameMachine};
 ghost use Rattle.aia_rehearsal.specs.declared.place.Place.TheVariants as places;
 ghost use Rattle.aia_rehearsal.specs.Rehearsed.{Passage, IsOf, IsFileThere, NotBothSlots};
 
@@ -93,14 +93,8 @@ fn machine(alloc: Global, greatest: u32) -> Result<Fabric, AllocError>
 fn who_is(fabric: &Fabric) -> Option<Who>
     ensures { IfSome result (IsWho fabric.now) }
 {
-    if !fabric.has_vcpu(0, 1) {
-        return None;
-    }
     Some(Who {
-        vm: 0,
-        vcpu: 1,
-        slot: fabric.slot_of(0, 1),
-        notice: fabric.notice_hart(0, 1),
+        found: fabric.find(0, 1)?,
         passes: ArrayVec::new(),
     })
 }
@@ -114,8 +108,8 @@ fn stores(fabric: &mut Fabric, value: u32)
     if fabric.vms() > 0 {
         fabric.device_store(0, 0x2800_8000, value);
     }
-    if fabric.has_vcpu(0, 1) {
-        fabric.guest_store(0, 1, value + 2);
+    if let Some(found) = fabric.find(0, 1) {
+        fabric.guest_store(found, value + 2);
     }
 }
 

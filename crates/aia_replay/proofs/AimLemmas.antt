@@ -30,21 +30,22 @@ use Rattle.aia_model.proofs.PlaceLemmas.{machine_first}
 use Rattle.aia_model.proofs.PassesStandLemmas.{passes_stand}
 use Rattle.aia_model.proofs.OwnPassLemmas.{own_is}
 use Rattle.aia_model.proofs.HistoryLemmas.{line_happens}
-use Rattle.aia_aplic.specs.Aplic.{AplicStands}
-use Rattle.aia_aplic.specs.Passing.{is_passable_source}
-use Rattle.aia_aplic.proofs.PassingLemmas.{harts-stand}
-use Rattle.aia_aplic.proofs.AimSteps.{passable-stands}
-use Rattle.aia_hyp.specs.declared.moves.Want.{Want}
-use Rattle.aia_hyp.specs.declared.moves.Want.TheVariants as wants
-use Rattle.aia_hyp.specs.Moves.{UnlessRefused, WholeAims, move_line, wanted_move}
-use Rattle.aia_hyp.specs.Passes.{AimsBy, StepsAim, TellsOf}
-use Rattle.aia_hyp.specs.Stands.{CoreStands, CoreTakes, CorePasses, MayPass}
-use Rattle.aia_hyp.proofs.MoveWhole.{one_step_more}
+use Rattle.aia_wiring.specs.Aplic.{AplicStands}
+use Rattle.aia_wiring.specs.Passing.{is_passable_source}
+use Rattle.aia_wiring.proofs.PassingLemmas.{harts-stand}
+use Rattle.aia_wiring.proofs.AimSteps.{passable-stands}
+use Rattle.aia_model.specs.declared.want.Want.{Want}
+use Rattle.aia_model.specs.declared.want.Want.TheVariants as wants
+use Rattle.aia_model.specs.Move.{wanted_move}
+use Rattle.aia_standing.specs.Moves.{UnlessRefused, WholeAims}
+use Rattle.aia_standing.specs.Passes.{AimsBy, StepsAim, TellsOf}
+use Rattle.aia_standing.specs.Stands.{CoreStands, CoreTakes, CorePasses, MayPass}
+use Rattle.aia_standing.proofs.MoveWhole.{one_step_more}
 use Rattle.aia_replay.specs.declared.machine.Machine.{Machine}
 use Rattle.aia_replay.specs.declared.wires.Wires.{Wires}
 use Rattle.aia_replay.specs.Wires.{WiresAim, targets_of}
 use Rattle.aia_replay.specs.Stands.{MachineStands, MachineTakes, act_taken, StandsForSome}
-use Rattle.aia_replay.proofs.SizeLemmas.{same_sources, same_harts}
+use Rattle.aia_wiring.proofs.SizeLemmas.{same_sources, same_harts}
 use Rattle.aia_model.specs.Passable.{is_passable}
 use Rattle.aia_source.specs.Registers.{is_by_msi, domaincfg_kept, same_bool}
 use Rattle.aia_model.specs.declared.domain_name.DomainName.TheVariants.{Child}
@@ -173,20 +174,20 @@ step_taken_by m n vm number given takes aims = taken_by m n (lines.Step vm numbe
     (λ h word stands e. unless_refused _ word _ _ e (aims h stands.holds.core))
 
 -- the steps of a whole move
-whole_acts : (new : Wires) (h : History) (vm number : ℕ) (want : Want) → AplicStands new.aplic (acts_of (line_taken h (move_line vm number want))) → AplicStands new.aplic (act_taken None h (move_line vm number want))
+whole_acts : (new : Wires) (h : History) (vm number : ℕ) (want : Want) → AplicStands new.aplic (acts_of (line_taken h (lines.Move vm number want))) → AplicStands new.aplic (act_taken None h (lines.Move vm number want))
 whole_acts new h vm number wants.Leave s = s
 whole_acts new h vm number (wants.Arrive hart) s = s
 whole_acts new h vm number (wants.Shift hart) s = s
 
-whole_aims : (old new : Wires) (h : History) (vm number : ℕ) (want : Want) → IsHistory (line_taken h (move_line vm number want)) → AplicStands old.aplic (acts_of h) → WholeAims wires_aim h vm number want old new → AplicStands new.aplic (acts_of (line_taken h (move_line vm number want)))
+whole_aims : (old new : Wires) (h : History) (vm number : ℕ) (want : Want) → IsHistory (line_taken h (lines.Move vm number want)) → AplicStands old.aplic (acts_of h) → WholeAims wires_aim h vm number want old new → AplicStands new.aplic (acts_of (line_taken h (lines.Move vm number want)))
 whole_aims old new h vm number wants.Leave good stands aims = steps_aim _ (vcpu vm number) (Began (wanted_move (vcpu vm number) wants.Leave) ∷ h) old new good stands aims
 whole_aims old new h vm number (wants.Arrive hart) good stands aims = steps_aim _ (vcpu vm number) (Began (wanted_move (vcpu vm number) (wants.Arrive hart)) ∷ h) old new good stands aims
 whole_aims old new h vm number (wants.Shift hart) good stands aims = steps_aim _ (vcpu vm number) (Began (wanted_move (vcpu vm number) (wants.Shift hart)) ∷ h) old new good stands aims
 
-pub whole_taken_by : (m n : Machine) (vm number : ℕ) (want : Want) (given : Answer) → CoreTakes m.core n.core (move_line vm number want) given
-    → ((h : History) → CoreStands m.core h → UnlessRefused (refusal h (move_line vm number want)) (WholeAims wires_aim h vm number want m.wires n.wires) (n.wires ≡ m.wires)) → MachineTakes m n (move_line vm number want) given
-whole_taken_by m n vm number want given takes aims = taken_by m n (move_line vm number want) given takes
-    (λ h stands e. whole_acts n.wires h vm number want (whole_aims m.wires n.wires h vm number want (line_happens h (move_line vm number want) e stands.happens) stands.holds.aplic (unless_accepted _ _ _ e (aims h stands.holds.core))))
+pub whole_taken_by : (m n : Machine) (vm number : ℕ) (want : Want) (given : Answer) → CoreTakes m.core n.core (lines.Move vm number want) given
+    → ((h : History) → CoreStands m.core h → UnlessRefused (refusal h (lines.Move vm number want)) (WholeAims wires_aim h vm number want m.wires n.wires) (n.wires ≡ m.wires)) → MachineTakes m n (lines.Move vm number want) given
+whole_taken_by m n vm number want given takes aims = taken_by m n (lines.Move vm number want) given takes
+    (λ h stands e. whole_acts n.wires h vm number want (whole_aims m.wires n.wires h vm number want (line_happens h (lines.Move vm number want) e stands.happens) stands.holds.aplic (unless_accepted _ _ _ e (aims h stands.holds.core))))
     (λ h word stands e. unless_refused _ word _ _ e (aims h stands.holds.core))
 
 -- a source that is there is passed, or refused

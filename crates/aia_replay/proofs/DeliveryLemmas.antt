@@ -11,14 +11,15 @@ use Rattle.aia_model.specs.Act.Act.{Sent}
 use Rattle.aia_model.specs.Sent.{senders, msi_of, waiting_msis, sent_by, with_all_sent, acts_of, msis_sent_by}
 use Rattle.aia_model.specs.Refusal.{refusal}
 use Rattle.aia_model.specs.declared.line.Line.TheVariants as lines
+use Rattle.aia_model.specs.declared.want.Want.TheVariants as wants
 use Rattle.aia_model.specs.Answer.{delivered, line_taken, history_after, given_on, msi_taken}
 use Rattle.aia_model.proofs.AnswerLemmas.{after_by}
-use Rattle.aia_aplic.specs.Aplic.{AplicState, AplicStands}
-use Rattle.aia_aplic.specs.Sending.{Next}
-use Rattle.aia_aplic.proofs.SendingLemmas.{msis_next, settled_next}
+use Rattle.aia_wiring.specs.Aplic.{AplicState, AplicStands}
+use Rattle.aia_wiring.specs.Sending.{Next}
+use Rattle.aia_wiring.proofs.SendingLemmas.{msis_next, settled_next}
 use Rattle.aia_replay.specs.declared.machine.Machine.{Machine}
-use Rattle.aia_hyp.specs.Core.{CoreState}
-use Rattle.aia_hyp.specs.Stands.{CoreStands, CoreHears, line_served, MayGo}
+use Rattle.aia_standing.specs.Core.{CoreState}
+use Rattle.aia_standing.specs.Stands.{CoreStands, CoreHears, line_served, MayGo}
 use Rattle.aia_replay.specs.Stands.{MachineHolds, MachineTakes, MachineServes, Delivers, act_taken, StandsForSome, CanDeliver, CanDeliverSome}
 use Rattle.aia_model.specs.Passes.{passed_by}
 use Rattle.aia_model.specs.Aim.{pass_reach, IsForwardIf}
@@ -61,24 +62,24 @@ all_sent m h past none holds = subst (λ p. MachineHolds m (delivered (waiting_m
 
 -- the MSIs that wait are those that the line sends
 waiting_are : (h : History) (line : Line) → waiting_msis (act_taken None h line) ≡ msis_sent_by h line
-waiting_are h (lines.Arrive vm number hart) = none_waiting (line_taken h (lines.Arrive vm number hart)) ∙ sym (none_sent_by h (lines.Arrive vm number hart) refl)
-waiting_are h (lines.Leave vm number) = none_waiting (line_taken h (lines.Leave vm number)) ∙ sym (none_sent_by h (lines.Leave vm number) refl)
-waiting_are h (lines.Shift vm number hart) = none_waiting (line_taken h (lines.Shift vm number hart)) ∙ sym (none_sent_by h (lines.Shift vm number hart) refl)
-waiting_are h (lines.BeginArrive vm number hart) = none_waiting (line_taken h (lines.BeginArrive vm number hart)) ∙ sym (none_sent_by h (lines.BeginArrive vm number hart) refl)
-waiting_are h (lines.BeginLeave vm number) = none_waiting (line_taken h (lines.BeginLeave vm number)) ∙ sym (none_sent_by h (lines.BeginLeave vm number) refl)
-waiting_are h (lines.BeginShift vm number hart) = none_waiting (line_taken h (lines.BeginShift vm number hart)) ∙ sym (none_sent_by h (lines.BeginShift vm number hart) refl)
+waiting_are h (lines.Move vm number (wants.Arrive hart)) = none_waiting (line_taken h (lines.Move vm number (wants.Arrive hart))) ∙ sym (none_sent_by h (lines.Move vm number (wants.Arrive hart)) refl)
+waiting_are h (lines.Move vm number wants.Leave) = none_waiting (line_taken h (lines.Move vm number wants.Leave)) ∙ sym (none_sent_by h (lines.Move vm number wants.Leave) refl)
+waiting_are h (lines.Move vm number (wants.Shift hart)) = none_waiting (line_taken h (lines.Move vm number (wants.Shift hart))) ∙ sym (none_sent_by h (lines.Move vm number (wants.Shift hart)) refl)
+waiting_are h (lines.Begin vm number (wants.Arrive hart)) = none_waiting (line_taken h (lines.Begin vm number (wants.Arrive hart))) ∙ sym (none_sent_by h (lines.Begin vm number (wants.Arrive hart)) refl)
+waiting_are h (lines.Begin vm number wants.Leave) = none_waiting (line_taken h (lines.Begin vm number wants.Leave)) ∙ sym (none_sent_by h (lines.Begin vm number wants.Leave) refl)
+waiting_are h (lines.Begin vm number (wants.Shift hart)) = none_waiting (line_taken h (lines.Begin vm number (wants.Shift hart))) ∙ sym (none_sent_by h (lines.Begin vm number (wants.Shift hart)) refl)
 waiting_are h (lines.Step vm number) = none_waiting (line_taken h (lines.Step vm number)) ∙ sym (none_sent_by h (lines.Step vm number) refl)
 waiting_are h (lines.Land vm k) = none_waiting (line_taken h (lines.Land vm k)) ∙ sym (none_sent_by h (lines.Land vm k) refl)
 waiting_are h line = refl
 
 -- and when all are sent, the APLIC is as the history makes it
 acts_are : (h : History) (line : Line) → with_all_sent (act_taken None h line) ≡ acts_of (line_taken h line)
-acts_are h (lines.Arrive vm number hart) = none_sent (acts_of (line_taken h (lines.Arrive vm number hart))) (none_waits (line_taken h (lines.Arrive vm number hart)))
-acts_are h (lines.Leave vm number) = none_sent (acts_of (line_taken h (lines.Leave vm number))) (none_waits (line_taken h (lines.Leave vm number)))
-acts_are h (lines.Shift vm number hart) = none_sent (acts_of (line_taken h (lines.Shift vm number hart))) (none_waits (line_taken h (lines.Shift vm number hart)))
-acts_are h (lines.BeginArrive vm number hart) = none_sent (acts_of (line_taken h (lines.BeginArrive vm number hart))) (none_waits (line_taken h (lines.BeginArrive vm number hart)))
-acts_are h (lines.BeginLeave vm number) = none_sent (acts_of (line_taken h (lines.BeginLeave vm number))) (none_waits (line_taken h (lines.BeginLeave vm number)))
-acts_are h (lines.BeginShift vm number hart) = none_sent (acts_of (line_taken h (lines.BeginShift vm number hart))) (none_waits (line_taken h (lines.BeginShift vm number hart)))
+acts_are h (lines.Move vm number (wants.Arrive hart)) = none_sent (acts_of (line_taken h (lines.Move vm number (wants.Arrive hart)))) (none_waits (line_taken h (lines.Move vm number (wants.Arrive hart))))
+acts_are h (lines.Move vm number wants.Leave) = none_sent (acts_of (line_taken h (lines.Move vm number wants.Leave))) (none_waits (line_taken h (lines.Move vm number wants.Leave)))
+acts_are h (lines.Move vm number (wants.Shift hart)) = none_sent (acts_of (line_taken h (lines.Move vm number (wants.Shift hart)))) (none_waits (line_taken h (lines.Move vm number (wants.Shift hart))))
+acts_are h (lines.Begin vm number (wants.Arrive hart)) = none_sent (acts_of (line_taken h (lines.Begin vm number (wants.Arrive hart)))) (none_waits (line_taken h (lines.Begin vm number (wants.Arrive hart))))
+acts_are h (lines.Begin vm number wants.Leave) = none_sent (acts_of (line_taken h (lines.Begin vm number wants.Leave))) (none_waits (line_taken h (lines.Begin vm number wants.Leave)))
+acts_are h (lines.Begin vm number (wants.Shift hart)) = none_sent (acts_of (line_taken h (lines.Begin vm number (wants.Shift hart)))) (none_waits (line_taken h (lines.Begin vm number (wants.Shift hart))))
 acts_are h (lines.Step vm number) = none_sent (acts_of (line_taken h (lines.Step vm number))) (none_waits (line_taken h (lines.Step vm number)))
 acts_are h (lines.Land vm k) = none_sent (acts_of (line_taken h (lines.Land vm k))) (none_waits (line_taken h (lines.Land vm k)))
 acts_are h line = refl

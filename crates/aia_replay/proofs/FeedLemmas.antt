@@ -4,7 +4,7 @@ use Rattle.std.proofs.lemmas.List.{append-nil}
 use Rattle.aia_replay.specs.declared.replayer.Replayer.{Replayer}
 use Rattle.aia_replay.specs.Buffered.{CutOff}
 use Rattle.aia_replay.specs.Runs.{NoEnd, CutsLines}
-use Rattle.aia_replay.specs.Streams.{Holds, HoldsStop, Feeds, FeedsFront, FeedsStop, AnswersText, LacksMemory}
+use Rattle.aia_replay.specs.Streams.{HasAnswered, HasStopped, Feeds, FeedsFront, FeedsStop, AnswersText, LacksMemory}
 use Rattle.aia_replay.proofs.HeldLemmas.{part_kept, line_ended, holds_cut, line_stopped, with_part, as_kept, lacks_kept}
 
 -- ---- a piece, line by line
@@ -19,12 +19,12 @@ pub fed_nothing : (r : Replayer) (now : Option (List ℕ)) (piece : List ℕ) �
 fed_nothing r now piece = record {
   done = [];
   split = refl;
-  feeds = λ before bytes holds. subst (Holds r before now) (sym (append-nil bytes)) holds;
+  feeds = λ before bytes holds. subst (HasAnswered r before now) (sym (append-nil bytes)) holds;
 }
 
 -- the bytes of a line are kept, which is cut off at its LF
 kept_at : (old mid kept : Replayer) (before first late : Option (List ℕ)) (bytes piece rest front : List ℕ) → (fed : Fed old mid first late piece rest) → NoEnd front
-    → kept.line.items ≡ take 129 (mid.line.items ++ front) → kept ≡ record mid { line = kept.line } → Holds old before first bytes → Holds kept before late ((bytes ++ fed.done) ++ front)
+    → kept.line.items ≡ take 129 (mid.line.items ++ front) → kept ≡ record mid { line = kept.line } → HasAnswered old before first bytes → HasAnswered kept before late ((bytes ++ fed.done) ++ front)
 kept_at old mid kept before first late bytes piece rest front fed none line others holds = part_kept mid kept before late (bytes ++ fed.done) front none line others (fed.feeds before bytes holds)
 
 -- a line more
@@ -33,7 +33,7 @@ pub fed_line : (old mid new : Replayer) (first late now : Option (List ℕ)) (pi
 fed_line old mid new first late now piece rest front more fed cut none answered = record {
   done = fed.done ++ (front ++ (10 ∷ []));
   split = fed.split ∙ ap (λ xs. fed.done ++ xs) (cut ∙ sym (append_assoc front (10 ∷ []) more)) ∙ sym (append_assoc fed.done (front ++ (10 ∷ [])) more);
-  feeds = λ before bytes holds. subst (Holds new before now) (ap (λ xs. xs ++ (10 ∷ [])) (append_assoc bytes fed.done front) ∙ append_assoc bytes (fed.done ++ front) (10 ∷ []) ∙ ap (λ xs. bytes ++ xs) (append_assoc fed.done front (10 ∷ [])))
+  feeds = λ before bytes holds. subst (HasAnswered new before now) (ap (λ xs. xs ++ (10 ∷ [])) (append_assoc bytes fed.done front) ∙ append_assoc bytes (fed.done ++ front) (10 ∷ []) ∙ ap (λ xs. bytes ++ xs) (append_assoc fed.done front (10 ∷ [])))
       (line_ended (with_part mid front) new before late now ((bytes ++ fed.done) ++ front) (as_kept mid new late now front answered) (kept_at old mid (with_part mid front) before first late bytes piece rest front fed none refl refl holds));
 }
 
@@ -52,7 +52,7 @@ pub fed_stop : (old mid new : Replayer) (first late now : Option (List ℕ)) (pi
 fed_stop old mid new first late now piece rest front more fed cut none lacks =
     λ before bytes holds. (
       more,
-      subst (λ xs. HoldsStop new before now xs (10 ∷ more)) (all_of_piece bytes fed.done front more rest piece fed.split cut)
+      subst (λ xs. HasStopped new before now xs (10 ∷ more)) (all_of_piece bytes fed.done front more rest piece fed.split cut)
           (line_stopped (with_part mid front) new before late now ((bytes ++ fed.done) ++ front) (10 ∷ more) (lacks_kept mid new late now front lacks) (kept_at old mid (with_part mid front) before first late bytes piece rest front fed none refl refl holds)),
     )
 
@@ -60,4 +60,4 @@ fed_stop old mid new first late now piece rest front more fed cut none lacks =
 pub fed_rest : (old mid new : Replayer) (first now : Option (List ℕ)) (piece rest : List ℕ) → Fed old mid first now piece rest → NoEnd rest
     → new.line.items ≡ take 129 (mid.line.items ++ rest) → new ≡ record mid { line = new.line } → Feeds old new first now piece
 fed_rest old mid new first now piece rest fed none line others =
-    λ before bytes holds. subst (Holds new before now) (append_assoc bytes fed.done rest ∙ ap (λ xs. bytes ++ xs) (sym fed.split)) (kept_at old mid new before first now bytes piece rest rest fed none line others holds)
+    λ before bytes holds. subst (HasAnswered new before now) (append_assoc bytes fed.done rest ∙ ap (λ xs. bytes ++ xs) (sym fed.split)) (kept_at old mid new before first now bytes piece rest rest fed none line others holds)

@@ -16,7 +16,7 @@ use Rattle.aia_replay.specs.declared.buffered.Buffered.{Buffered}
 use Rattle.aia_replay.specs.Buffered.{Gathers, CutOff}
 use Rattle.aia_replay.specs.Stands.{EngineState, StandsFor, ReadsAsMachine}
 use Rattle.aia_replay.specs.Runs.{NoEnd, AsksMachine, CutsLines}
-use Rattle.aia_replay.specs.Streams.{WritesOut, WritesOutFront, Holds, HoldsStop, Begins, AnswersText, LacksMemory}
+use Rattle.aia_replay.specs.Streams.{WritesOut, WritesOutFront, HasAnswered, HasStopped, Begins, AnswersText, LacksMemory}
 use Rattle.aia_replay.proofs.CutLemmas.{texts_front, texts_last, take_again}
 
 -- ---- what waits in the buffer
@@ -57,7 +57,7 @@ reading_take (b ∷ bytes) =
     ]
 
 -- a part of a line is kept
-pub part_kept : (old new : Replayer) (before now : Option (List ℕ)) (bytes part : List ℕ) → NoEnd part → new.line.items ≡ take 129 (old.line.items ++ part) → new ≡ record old { line = new.line } → Holds old before now bytes → Holds new before now (bytes ++ part)
+pub part_kept : (old new : Replayer) (before now : Option (List ℕ)) (bytes part : List ℕ) → NoEnd part → new.line.items ≡ take 129 (old.line.items ++ part) → new ≡ record old { line = new.line } → HasAnswered old before now bytes → HasAnswered new before now (bytes ++ part)
 part_kept old new before now bytes part none line others holds = record {
   history = holds.history;
   written = holds.written;
@@ -123,10 +123,10 @@ in_place line part empty = ap (λ xs. xs ++ part) (nil_from_length line empty)
 -- ---- what is read of a tail
 
 -- the line that is kept reads as the whole tail, and its answer passes after all that was answered
-tail_read : (r : Replayer) (before now : Option (List ℕ)) (bytes : List ℕ) → (holds : Holds r before now bytes) → reading r.line.items ≡ reading holds.tail
+tail_read : (r : Replayer) (before now : Option (List ℕ)) (bytes : List ℕ) → (holds : HasAnswered r before now bytes) → reading r.line.items ≡ reading holds.tail
 tail_read r before now bytes holds = ap reading holds.line ∙ reading_take holds.tail
 
-reply_passes : (old new : Replayer) (before mid now : Option (List ℕ)) (bytes : List ℕ) → AnswersText old new mid now old.line.items → (holds : Holds old before mid bytes)
+reply_passes : (old new : Replayer) (before mid now : Option (List ℕ)) (bytes : List ℕ) → AnswersText old new mid now old.line.items → (holds : HasAnswered old before mid bytes)
     → Gathers [] new.out.bytes.items before now (holds.written ++ printed (text_answer holds.history (reading holds.tail)))
 reply_passes old new before mid now bytes line holds =
     let h = holds.history in
@@ -134,7 +134,7 @@ reply_passes old new before mid now bytes line holds =
     passes_more old.out.bytes.items new.out.bytes.items before mid now holds.written (printed (text_answer h (reading holds.tail))) holds.gathered reply
 
 -- the line's LF is read, and the line answered
-pub line_ended : (old new : Replayer) (before mid now : Option (List ℕ)) (bytes : List ℕ) → AnswersText old new mid now old.line.items → Holds old before mid bytes → Holds new before now (bytes ++ 10 ∷ [])
+pub line_ended : (old new : Replayer) (before mid now : Option (List ℕ)) (bytes : List ℕ) → AnswersText old new mid now old.line.items → HasAnswered old before mid bytes → HasAnswered new before now (bytes ++ 10 ∷ [])
 line_ended old new before mid now bytes line holds =
     let h = holds.history in
     let reply = printed (text_answer h (reading holds.tail)) in
@@ -161,7 +161,7 @@ line_ended old new before mid now bytes line holds =
     }
 
 -- the buffer is written out
-held_written : (old new : Replayer) (before mid now : Option (List ℕ)) (bytes : List ℕ) → Appends mid now old.out.bytes.items → new.out.bytes.items ≡ [] → new ≡ record old { out = new.out } → Holds old before mid bytes → Holds new before now bytes
+held_written : (old new : Replayer) (before mid now : Option (List ℕ)) (bytes : List ℕ) → Appends mid now old.out.bytes.items → new.out.bytes.items ≡ [] → new ≡ record old { out = new.out } → HasAnswered old before mid bytes → HasAnswered new before now bytes
 held_written old new before mid now bytes wrote empty others holds = record {
   history = holds.history;
   written = holds.written;
@@ -187,7 +187,7 @@ writes_out old new mid now wrote empty others = record {
 
 -- ---- the start and the end
 
-pub at_start : (r : Replayer) (before : Option (List ℕ)) → Begins r → Holds r before before []
+pub at_start : (r : Replayer) (before : Option (List ℕ)) → Begins r → HasAnswered r before before []
 at_start r before begins = record {
   history = [];
   written = [];
@@ -206,7 +206,7 @@ at_start r before begins = record {
 }
 
 -- nothing is left of a line
-pub finished_empty : (r : Replayer) (before mid now : Option (List ℕ)) (bytes : List ℕ) → length r.line.items ≡ 0 → Appends mid now r.out.bytes.items → Holds r before mid bytes → Appends before now (answers bytes)
+pub finished_empty : (r : Replayer) (before mid now : Option (List ℕ)) (bytes : List ℕ) → length r.line.items ≡ 0 → Appends mid now r.out.bytes.items → HasAnswered r before mid bytes → Appends before now (answers bytes)
 finished_empty r before mid now bytes empty wrote holds =
     let tail_empty : holds.tail ≡ [] = nil_from_length holds.tail (omega (arith, empty, ap length holds.line, length-take 129 holds.tail)) in
     subst (Appends before now) (holds.answered ∙ ap answers (sym (append-nil holds.whole) ∙ ap (λ t. holds.whole ++ t) (sym tail_empty) ∙ sym holds.split))
@@ -216,7 +216,7 @@ pub one_text : (tail : List ℕ) → 0 < length tail → NoEnd tail → texts_of
 one_text [] some none = absurd (omega arith)
 one_text (x ∷ xs) some none = texts_last x xs none
 
-last_answered : (r : Replayer) (bytes : List ℕ) (before mid : Option (List ℕ)) → 0 < length r.line.items → (holds : Holds r before mid bytes) → holds.written ++ printed (text_answer holds.history (reading holds.tail)) ≡ answers bytes
+last_answered : (r : Replayer) (bytes : List ℕ) (before mid : Option (List ℕ)) → 0 < length r.line.items → (holds : HasAnswered r before mid bytes) → holds.written ++ printed (text_answer holds.history (reading holds.tail)) ≡ answers bytes
 last_answered r bytes before mid some holds =
     let h = holds.history in
     let reply = printed (text_answer h (reading holds.tail)) in
@@ -224,7 +224,7 @@ last_answered r bytes before mid some holds =
     ap (λ r. holds.written ++ r) (sym (append-nil reply)) ∙ sym (ap (λ ts. holds.written ++ answers_from h ts) (ap texts_of (append-nil holds.tail) ∙ one)) ∙ holds.completes [] ∙ ap answers (append-nil bytes)
 
 -- a last line is answered
-pub finished_line : (old new : Replayer) (before mid late now : Option (List ℕ)) (bytes : List ℕ) → 0 < length old.line.items → AnswersText old new mid late old.line.items → Appends late now new.out.bytes.items → Holds old before mid bytes → Appends before now (answers bytes)
+pub finished_line : (old new : Replayer) (before mid late now : Option (List ℕ)) (bytes : List ℕ) → 0 < length old.line.items → AnswersText old new mid late old.line.items → Appends late now new.out.bytes.items → HasAnswered old before mid bytes → Appends before now (answers bytes)
 finished_line old new before mid late now bytes some line wrote holds =
     subst (Appends before now) (last_answered old bytes before mid some holds) (all_written new.out.bytes.items before late now _ (reply_passes old new before mid late bytes line holds) wrote)
 
@@ -242,7 +242,7 @@ cut_after out later all before mid now written passed cut goes_on = record {
 }
 
 -- a front of what was held is written
-pub holds_cut : (r : Replayer) (before mid now : Option (List ℕ)) (bytes more : List ℕ) → Holds r before mid bytes → CutOff mid now r.out.bytes.items → CutsLines before now (bytes ++ more)
+pub holds_cut : (r : Replayer) (before mid now : Option (List ℕ)) (bytes more : List ℕ) → HasAnswered r before mid bytes → CutOff mid now r.out.bytes.items → CutsLines before now (bytes ++ more)
 holds_cut r before mid now bytes more holds cut = record {
   whole = holds.whole;
   more = holds.tail ++ more;
@@ -254,7 +254,7 @@ holds_cut r before mid now bytes more holds cut = record {
 pub writes_front : (r : Replayer) (mid now : Option (List ℕ)) → CutOff mid now r.out.bytes.items → WritesOutFront r mid now
 writes_front r mid now cut = λ before bytes holds. subst (CutsLines before now) (append-nil bytes) (holds_cut r before mid now bytes [] holds cut)
 
-pub holds_cut_all : (r : Replayer) (before mid now : Option (List ℕ)) (bytes : List ℕ) → Holds r before mid bytes → CutOff mid now r.out.bytes.items → CutOff before now (answers bytes)
+pub holds_cut_all : (r : Replayer) (before mid now : Option (List ℕ)) (bytes : List ℕ) → HasAnswered r before mid bytes → CutOff mid now r.out.bytes.items → CutOff before now (answers bytes)
 holds_cut_all r before mid now bytes holds cut = subst (λ xs. CutOff before now (answers xs)) (append-nil bytes) (cut_after r.out.bytes.items _ _ before mid now holds.written holds.gathered cut (holds.completes []))
 
 asks_for : (old : EngineState) (h : History) (text : Parsed) → StandsFor old h → ReadsAsMachine old text → AsksMachine h text
@@ -263,7 +263,7 @@ asks_for old h Skip stands reads = absurd reads
 asks_for old h Bad stands reads = absurd reads
 
 -- there is no memory for the machine that the kept line asks for
-pub line_stopped : (old new : Replayer) (before mid now : Option (List ℕ)) (bytes more : List ℕ) → LacksMemory old new mid now old.line.items → Holds old before mid bytes → HoldsStop new before now (bytes ++ more) more
+pub line_stopped : (old new : Replayer) (before mid now : Option (List ℕ)) (bytes more : List ℕ) → LacksMemory old new mid now old.line.items → HasAnswered old before mid bytes → HasStopped new before now (bytes ++ more) more
 line_stopped old new before mid now bytes more lacks holds =
     record {
       whole = holds.whole;
@@ -277,11 +277,11 @@ line_stopped old new before mid now bytes more lacks holds =
           (subst (AsksMachine holds.history) (tail_read old before mid bytes holds) (asks_for old.engine holds.history (reading old.line.items) holds.stands lacks.asks));
     }
 
-pub last_stopped : (old new : Replayer) (before mid now : Option (List ℕ)) (bytes : List ℕ) → LacksMemory old new mid now old.line.items → Holds old before mid bytes → HoldsStop new before now bytes []
-last_stopped old new before mid now bytes lacks holds = subst (λ xs. HoldsStop new before now xs []) (append-nil bytes) (line_stopped old new before mid now bytes [] lacks holds)
+pub last_stopped : (old new : Replayer) (before mid now : Option (List ℕ)) (bytes : List ℕ) → LacksMemory old new mid now old.line.items → HasAnswered old before mid bytes → HasStopped new before now bytes []
+last_stopped old new before mid now bytes lacks holds = subst (λ xs. HasStopped new before now xs []) (append-nil bytes) (line_stopped old new before mid now bytes [] lacks holds)
 
 -- the last answer does not go out
-pub finished_cut : (old new : Replayer) (before mid late now : Option (List ℕ)) (bytes : List ℕ) → 0 < length old.line.items → AnswersText old new mid late old.line.items → CutOff late now new.out.bytes.items → Holds old before mid bytes → CutOff before now (answers bytes)
+pub finished_cut : (old new : Replayer) (before mid late now : Option (List ℕ)) (bytes : List ℕ) → 0 < length old.line.items → AnswersText old new mid late old.line.items → CutOff late now new.out.bytes.items → HasAnswered old before mid bytes → CutOff before now (answers bytes)
 finished_cut old new before mid late now bytes some line cut holds =
     let written = holds.written ++ printed (text_answer holds.history (reading holds.tail)) in
     cut_after new.out.bytes.items [] (answers bytes) before late now written (reply_passes old new before mid late bytes line holds) cut (append-nil written ∙ last_answered old bytes before mid some holds)

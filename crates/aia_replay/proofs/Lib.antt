@@ -5,7 +5,6 @@ pub mod HeldLemmas
 pub mod FeedLemmas
 pub mod StreamLemmas
 pub mod ProgramLemmas
-pub mod SizeLemmas
 pub mod DeliveryLemmas
 pub mod EngineLemmas
 pub mod TallyLemmas

@@ -6,7 +6,7 @@ use Rattle.std.proofs.lemmas.List.{append-nil, length-append, length-take, take-
 use Rattle.aia_replay.specs.declared.replayer.Replayer.{Replayer}
 use Rattle.aia_replay.specs.declared.program.Status.TheVariants.{Done, ReadFault, TooLong}
 use Rattle.aia_replay.specs.Runs.{AnswersWhole}
-use Rattle.aia_replay.specs.Streams.{ReadsOn, WritesOut, WritesOutFront, StreamsFront, Holds, Begins, Feeds, FeedsFront, FeedsStop, Finishes, FinishesFront, FinishesStop, Streams, StreamsStop}
+use Rattle.aia_replay.specs.Streams.{ReadsOn, WritesOut, WritesOutFront, StreamsFront, HasAnswered, Begins, Feeds, FeedsFront, FeedsStop, Finishes, FinishesFront, FinishesStop, Streams, StreamsStop}
 use Rattle.aia_replay.proofs.HeldLemmas.{at_start}
 use Rattle.aia_io.specs.Ends.{Supply, Gives, Reads}
 use Rattle.aia_io.proofs.SupplyLemmas.{gives_nothing, gives_more, gives_no_more}
@@ -32,7 +32,7 @@ reads_on old new buffer rest reads.Failed kept = λ left bytes so_far. gives_no_
 pub record ReadSoFar (r : Replayer) (left rest : Supply) (before now : Option (List ℕ)) (count : ℕ) : Type 0 where
   pub bytes : List ℕ
   pub taken : Gives left rest bytes
-  pub holds : Holds r before now bytes
+  pub holds : HasAnswered r before now bytes
   pub length : length bytes ≡ count
 
 pub nothing_read : (r : Replayer) (left : Supply) (before : Option (List ℕ)) → Begins r → ReadSoFar r left left before before 0
@@ -59,7 +59,7 @@ piece_more {left = left} {before = before} n buffer so_far took feeds = record {
 -- ---- how the reading ends
 
 -- where nothing waits, all answers of the whole lines are written
-lines_answered : (r : Replayer) (before now : Option (List ℕ)) (bytes : List ℕ) → r.out.bytes.items ≡ [] → Holds r before now bytes → AnswersWhole before now bytes
+lines_answered : (r : Replayer) (before now : Option (List ℕ)) (bytes : List ℕ) → r.out.bytes.items ≡ [] → HasAnswered r before now bytes → AnswersWhole before now bytes
 lines_answered r before now bytes empty holds = record {
   whole = holds.whole;
   tail = holds.tail;

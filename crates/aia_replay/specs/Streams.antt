@@ -20,7 +20,7 @@ use Rattle.aia_replay.specs.Runs.{NoEnd, IsWhole, AnswersWhole, IsScript, TakesA
 -- The bytes read so far are whole lines, which are answered, and the tail of a line whose LF wasn't
 -- read; what was answered is written or waits in the buffer, and whatever follows is answered as
 -- the script's rest.
-pub record Holds (r : Replayer) (before now : Option (List ℕ)) (bytes : List ℕ) : Type 0 where
+pub record HasAnswered (r : Replayer) (before now : Option (List ℕ)) (bytes : List ℕ) : Type 0 where
   pub history : History
   pub written : List ℕ
   pub whole : List ℕ
@@ -40,7 +40,7 @@ pub record Holds (r : Replayer) (before now : Option (List ℕ)) (bytes : List �
 
 -- A line of the bytes asks for a machine, for which there is no memory. The answers of the lines
 -- before it are written or wait, and `more` follows it.
-pub record HoldsStop (r : Replayer) (before now : Option (List ℕ)) (bytes more : List ℕ)
+pub record HasStopped (r : Replayer) (before now : Option (List ℕ)) (bytes more : List ℕ)
     : Type 0 where
   pub whole : List ℕ
   pub text : List ℕ
@@ -81,11 +81,11 @@ pub record Begins (r : Replayer) : Type 0 where
 abbrev pub WhateverWasRead : Replayer → Option (List ℕ) → (Option (List ℕ) → List ℕ → Type 0)
     → Type 0
 WhateverWasRead r now P =
-    (before : Option (List ℕ)) (bytes : List ℕ) → Holds r before now bytes → P before bytes
+    (before : Option (List ℕ)) (bytes : List ℕ) → HasAnswered r before now bytes → P before bytes
 
 -- All that waits is written, whatever was read before.
 pub record WritesOut (old new : Replayer) (mid now : Option (List ℕ)) : Type 0 where
-  pub holds : WhateverWasRead old mid (λ before bytes. Holds new before now bytes)
+  pub holds : WhateverWasRead old mid (λ before bytes. HasAnswered new before now bytes)
   pub empty : new.out.bytes.items ≡ []
 
 -- The sink failed, and took a front of what waits, whatever was read before.
@@ -95,7 +95,7 @@ WritesOutFront old mid now = WhateverWasRead old mid (λ before bytes. CutsLines
 -- A piece more was read, whatever was read before.
 abbrev pub Feeds : Replayer → Replayer → Option (List ℕ) → Option (List ℕ) → List ℕ → Type 0
 Feeds old new mid now piece =
-    WhateverWasRead old mid (λ before bytes. Holds new before now (bytes ++ piece))
+    WhateverWasRead old mid (λ before bytes. HasAnswered new before now (bytes ++ piece))
 
 -- All that was read is a script, and its answers are written.
 abbrev pub Finishes : Replayer → Option (List ℕ) → Option (List ℕ) → Type 0
@@ -109,7 +109,7 @@ FeedsFront old mid now piece =
 -- A line of a piece, ended by its LF, asks for a machine, for which there is no memory.
 abbrev pub FeedsStop : Replayer → Replayer → Option (List ℕ) → Option (List ℕ) → List ℕ → Type 0
 FeedsStop old new mid now piece = WhateverWasRead old mid
-    (λ before bytes. (next : List ℕ) × HoldsStop new before now (bytes ++ piece) (10 ∷ next))
+    (λ before bytes. (next : List ℕ) × HasStopped new before now (bytes ++ piece) (10 ∷ next))
 
 -- The sink failed at the script's end, and took a front of the script's answers.
 abbrev pub FinishesFront : Replayer → Option (List ℕ) → Option (List ℕ) → Type 0
@@ -119,7 +119,7 @@ FinishesFront old mid now =
 -- The script's last line asks for a machine, for which there is no memory.
 abbrev pub FinishesStop : Replayer → Replayer → Option (List ℕ) → Option (List ℕ) → Type 0
 FinishesStop old new mid now =
-    WhateverWasRead old mid (λ before bytes. HoldsStop new before now bytes [])
+    WhateverWasRead old mid (λ before bytes. HasStopped new before now bytes [])
 
 -- The text of a line asks for a machine, for which there is no memory, and nothing was answered.
 pub record LacksMemory (old new : Replayer) (mid now : Option (List ℕ)) (text : List ℕ)
@@ -179,6 +179,6 @@ pub record StreamsStop (r : Replayer) (left rest : Supply) (before now : Option 
   pub bytes : List ℕ
   pub more : List ℕ
   pub taken : Gives left rest bytes
-  pub holds : HoldsStop r before now bytes more
+  pub holds : HasStopped r before now bytes more
   pub end : ((next : List ℕ) × (more ≡ 10 ∷ next)) ⊎ ((more ≡ []) × IsScript left bytes)
   pub limit : length bytes ≤ SCRIPT_BYTES

@@ -1,5 +1,5 @@
 ghost use Rattle.std.specs.Prelude.{◌≡◌, ◌↔◌, ◌-◌, ◌^◌, min, [], None, IsTrue, IsNone, IfOk, OnErr};
-ghost use Rattle.aia_model.specs.Grammar.{IsListed};
+ghost use Rattle.aia_model.specs.Forms.{IsListed};
 ghost use Rattle.aia_model.specs.Text.{is_skipped};
 ghost use Rattle.aia_model.specs.Event.{History};
 ghost use Rattle.aia_model.specs.Notice.{notices_sent};

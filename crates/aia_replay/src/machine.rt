@@ -1,21 +1,17 @@
-ghost use Rattle.std.specs.Prelude.{◌≡◌, ◌∷◌, ℕ, ◌≤◌, ◌-◌, ◌%◌, ◌^◌, min, [], true, None, Some, is_some, nat_eq, if◌then◌else◌, IfOk, OnErr, IfSome};
-ghost use Rattle.std.specs.Option.{option_map};
-ghost use Rattle.std.specs.Result.{result_err};
-ghost use Rattle.aia_csr.specs.Access.{IsInTable};
+ghost use Rattle.std.specs.Prelude.{◌≡◌, ◌∷◌, ℕ, ◌≤◌, ◌-◌, ◌^◌, min, [], true, None, Some, is_some, IfOk, OnErr, IfSome};
+ghost use Rattle.aia_csr.specs.CsrAccess.{IsInTable};
 ghost use Rattle.aia_file.specs.InterruptFile.{is_greatest_identity};
-ghost use Rattle.aia_model.specs.Grammar.{IsListed};
+ghost use Rattle.aia_model.specs.Forms.{IsListed};
 ghost use Rattle.aia_model.specs.Event.{History};
 ghost use Rattle.aia_model.specs.Event.Event.{Accepted};
 ghost use Rattle.aia_model.specs.Act.{Past, domain_at};
 ghost use Rattle.aia_model.specs.Notice.{notices_sent};
 ghost use Rattle.aia_model.specs.Act.Act.{Made};
 ghost use Rattle.aia_model.specs.Refusal.{is_machine_size};
-ghost use Rattle.aia_hyp.specs.HostFiles.{IsHost, csr_line};
-ghost use Rattle.aia_hyp.specs.Stands.{answer_by};
-ghost use Rattle.aia_hyp.specs.Moves.{move_line, begin_line};
-ghost use Rattle.aia_aplic.specs.Aplic.{domain_name};
+ghost use Rattle.aia_standing.specs.HostFiles.{IsHost, csr_line};
+ghost use Rattle.aia_standing.specs.Stands.{answer_by};
 ghost use Rattle.aia_replay.specs.Stands.{MachineHolds, MachineStands, StandsForSome, CanDeliverSome, MachineTakes, MachineServes, Delivers};
-ghost use Rattle.aia_aplic.specs.Aplic.{AplicStands};
+ghost use Rattle.aia_wiring.specs.Aplic.{AplicStands};
 ghost use Rattle.aia_model.specs.SourceOf.{is_source};
 ghost use Rattle.aia_model.specs.Passes.{has_passes};
 ghost use Rattle.aia_model.specs.Passable.{redirects_by};
@@ -24,8 +20,8 @@ ghost use Rattle.aia_regs.specs.declared.limits.TheConstants.{SOURCES};
 use crate::wires::Wires;
 use aia_aplic::Aplic;
 use aia_entry::decode;
-use aia_hyp::{Hyp, Want};
-use aia_model::{Answer, Line, Part, Refusal};
+use aia_hyp::Core;
+use aia_model::{Answer, DomainName, Line, Part, Refusal, Want};
 use aia_regs::address_map::{REGION, ROOT_DOMAIN};
 use aia_regs::limits::{GUEST_FILES, HARTS, IDENTITIES, SOURCES};
 use aia_regs::{Csr, DomainReg, Level, Op, domain_reg};
@@ -35,7 +31,7 @@ use std::alloc::{AllocError, Global};
 /// A machine: the hypervisor's core and the APLIC, to one of which each line is handed.
 #[derive(Drop)]
 pub struct Machine {
-    core: Hyp,
+    core: Core,
     wires: Wires,
 }
 
@@ -58,7 +54,7 @@ impl Machine {
         if !is_machine_size(harts, guests, n, sources) {
             return Ok(None);
         }
-        let core = Hyp::new(alloc, harts as u32, guests as u32, n as u32)?;
+        let core = Core::new(alloc, harts as u32, guests as u32, n as u32)?;
         let aplic = Aplic::new(alloc, harts as u32, sources as u32)?;
         let wires = Wires { aplic };
         Ok(Some(Machine { core, wires }))
@@ -116,12 +112,8 @@ impl Machine {
                 to,
                 value,
             } => self.ipi(vm, vcpu, to, value),
-            Line::Arrive { vm, vcpu, hart } => self.whole_move(vm, vcpu, Want::Arrive(hart)),
-            Line::Leave { vm, vcpu } => self.whole_move(vm, vcpu, Want::Leave),
-            Line::Shift { vm, vcpu, hart } => self.whole_move(vm, vcpu, Want::Shift(hart)),
-            Line::BeginArrive { vm, vcpu, hart } => self.begin_move(vm, vcpu, Want::Arrive(hart)),
-            Line::BeginLeave { vm, vcpu } => self.begin_move(vm, vcpu, Want::Leave),
-            Line::BeginShift { vm, vcpu, hart } => self.begin_move(vm, vcpu, Want::Shift(hart)),
+            Line::Move { vm, vcpu, want } => self.whole_move(vm, vcpu, want),
+            Line::Begin { vm, vcpu, want } => self.begin_move(vm, vcpu, want),
             Line::Step { vm, vcpu } => self.step(vm, vcpu),
             Line::Enter { vm, vcpu } => self.enter(vm, vcpu),
             Line::Exit { vm, vcpu } => self.exit(vm, vcpu),
@@ -223,14 +215,14 @@ impl Machine {
     /// Moves a virtual hart, by all steps of its move.
     fn whole_move(&mut self, vm: u64, vcpu: u64, want: Want) -> Answer
         requires { StandsForSome self.old }
-        ensures { MachineTakes self.old self.new (move_line vm vcpu want) result }
+        ensures { MachineTakes self.old self.new (Line.Move vm vcpu want) result }
     {
         okay(self.core.whole(vm, vcpu, want, &mut self.wires))
     }
 
     /// Begins to move a virtual hart.
     fn begin_move(&mut self, vm: u64, vcpu: u64, want: Want) -> Answer
-        ensures { MachineTakes self.old self.new (begin_line vm vcpu want) result }
+        ensures { MachineTakes self.old self.new (Line.Begin vm vcpu want) result }
     {
         okay(self.core.begin(vm, vcpu, want))
     }
@@ -327,16 +319,25 @@ impl Machine {
     fn load(&mut self, addr: u64) -> Answer
         ensures { MachineTakes self.old self.new (Line.Load addr) result }
     {
-        match register_domain(addr) {
-            Ok(None) => {
+        match domain_at(addr) {
+            None => {
                 let given = self.core.load(addr);
                 given.map_or_else(Answer::Refused, Answer::Narrow)
             }
-            Ok(Some(domain)) => Answer::Narrow(
-                self.wires.aplic.load(domain, (addr % REGION) as u32),
-            ),
-            Err(word) => Answer::Refused(word),
+            Some(name) => self.load_register(name, addr),
         }
+    }
+
+    /// Loads from a register of a domain in whose control region the address lies; `Fault` where it
+    /// is no multiple of 4.
+    fn load_register(&mut self, name: DomainName, addr: u64) -> Answer
+        requires { domain_at addr ≡ Some name }
+        ensures { MachineTakes self.old self.new (Line.Load addr) result }
+    {
+        if addr % 4 != 0 {
+            return Answer::Refused(Refusal::Fault);
+        }
+        Answer::Narrow(self.wires.aplic.load(name, (addr % REGION) as u32))
     }
 
     /// Stores to a register of the APLIC, or else by the core.
@@ -344,45 +345,48 @@ impl Machine {
         requires { StandsForSome self.old }
         ensures { MachineTakes self.old self.new (Line.Store addr value) result }
     {
-        match register_domain(addr) {
-            Ok(None) => okay(self.core.store(addr, value)),
-            Ok(Some(domain)) => self.store_register(domain, addr, value),
-            Err(word) => Answer::Refused(word),
+        match domain_at(addr) {
+            None => okay(self.core.store(addr, value)),
+            Some(name) => self.store_register(name, addr, value),
         }
     }
 
-    /// Stores to a register of a domain, 0 or 1, in whose control region the address lies;
-    /// `Guarded` where the store would redirect the MSIs of passed sources.
-    fn store_register(&mut self, domain: u32, addr: u64, value: u32) -> Answer
-        requires named { domain_at addr ≡ Some (domain_name domain) }
-        requires few { domain ≤ 1 }
-        requires aligned { addr % 4 ≡ 0 }
+    /// Stores to a register of a domain in whose control region the address lies; `Fault` where it
+    /// is no multiple of 4, `Guarded` where the store would redirect the MSIs of passed sources.
+    fn store_register(&mut self, name: DomainName, addr: u64, value: u32) -> Answer
+        requires named { domain_at addr ≡ Some name }
         requires stands { StandsForSome self.old }
         ensures { MachineTakes self.old self.new (Line.Store addr value) result }
     {
+        if addr % 4 != 0 {
+            return Answer::Refused(Refusal::Fault);
+        }
         let offset = (addr % REGION) as u32;
-        if self.core.passes() > 0 && self.redirects(domain, domain_reg(offset), value) {
+        if self.core.passes() > 0 && self.redirects(name, domain_reg(offset), value) {
             return Answer::Refused(Refusal::Guarded);
         }
-        self.wires.aplic.store(domain, offset, value);
+        self.wires.aplic.store(name, offset, value);
         Answer::Okay
     }
 
     /// Tells whether a store to a register of a domain would redirect the MSIs of passed sources,
     /// while there are some.
-    fn redirects(&self, domain: u32, register: DomainReg, value: u32) -> bool
-        requires few { domain ≤ 1 }
+    fn redirects(&self, name: DomainName, register: DomainReg, value: u32) -> bool
         ensures { (h : History) → MachineStands self.now h → has_passes h ≡ true
-            → result ≡ redirects_by h (Some (domain_name domain)) register value }
+            → result ≡ redirects_by h (Some name) register value }
     {
-        match register {
-            DomainReg::MMsiAddrCfgH | DomainReg::SMsiAddrCfg | DomainReg::SMsiAddrCfgH => {
-                domain == 0
-            }
-            DomainReg::SourceCfg(source) => self.core.passed(source),
-            DomainReg::Target(source) => domain == 1 && self.core.passed(source),
-            DomainReg::DomainCfg => domain == 1 && !is_by_msi(domaincfg_kept(value)),
-            _ => false,
+        match name {
+            DomainName::Root => match register {
+                DomainReg::MMsiAddrCfgH | DomainReg::SMsiAddrCfg | DomainReg::SMsiAddrCfgH => true,
+                DomainReg::SourceCfg(source) => self.core.passed(source),
+                _ => false,
+            },
+            DomainName::Child => match register {
+                DomainReg::SourceCfg(source) => self.core.passed(source),
+                DomainReg::Target(source) => self.core.passed(source),
+                DomainReg::DomainCfg => !is_by_msi(domaincfg_kept(value)),
+                _ => false,
+            },
         }
     }
 
@@ -401,8 +405,8 @@ impl Machine {
     {
         match self.core.signals(hart) {
             Ok((machine, supervisor)) => Answer::Pins(
-                self.wires.aplic.pin(0, hart as u32),
-                self.wires.aplic.pin(1, hart as u32),
+                self.wires.aplic.pin(DomainName::Root, hart as u32),
+                self.wires.aplic.pin(DomainName::Child, hart as u32),
                 machine,
                 supervisor,
             ),
@@ -438,21 +442,17 @@ fn wide(given: Result<u64, Refusal>) -> Answer
     given.map_or_else(Answer::Refused, Answer::Wide)
 }
 
-/// Gives the domain, 0 or 1, in whose control region the address lies, `None` in none; `Err` where
-/// it is no multiple of 4.
-fn register_domain(addr: u64) -> Result<Option<u32>, Refusal>
-    ensures named { IfOk result (λ domain. option_map domain_name domain ≡ domain_at addr) }
-    ensures few { IfOk result (λ domain. IfSome domain (λ d. d ≤ 1)) }
-    ensures refused { result_err result
-        ≡ (if nat_eq (addr % 4) 0 then None else Some Refusal.Fault) }
+/// Gives the domain in whose control region the address lies, `None` in none.
+fn domain_at(addr: u64) -> Option<DomainName>
+    ensures { result ≡ domain_at addr }
 {
-    if addr % 4 != 0 {
-        return Err(Refusal::Fault);
+    if (ROOT_DOMAIN..ROOT_DOMAIN + REGION).contains(&addr) {
+        Some(DomainName::Root)
+    } else if (ROOT_DOMAIN + REGION..ROOT_DOMAIN + 2 * REGION).contains(&addr) {
+        Some(DomainName::Child)
+    } else {
+        None
     }
-    if addr < ROOT_DOMAIN || addr >= ROOT_DOMAIN + 2 * REGION {
-        return Ok(None);
-    }
-    Ok(Some(((addr - ROOT_DOMAIN) / REGION) as u32))
 }
 
 /// Tells whether a machine may have these numbers.

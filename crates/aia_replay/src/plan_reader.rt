@@ -36,7 +36,7 @@ impl PlanReader {
     }
 
     /// Reads the line that was kept, and begins the next one.
-    fn end_kept(&mut self)
+    fn read_kept(&mut self)
         requires { AreInside self.old.plan }
         ensures read { plan_read self.new.plan
             ≡ with_text self.old.plan.words (plan_read self.old.plan) self.old.line.items }
@@ -49,7 +49,7 @@ impl PlanReader {
     }
 
     /// Reads the line that ends with `part`, and begins the next one.
-    fn end_line(&mut self, part: &[u8])
+    fn read_line(&mut self, part: &[u8])
         requires { AreInside self.old.plan }
         ensures read { plan_read self.new.plan ≡ with_text self.old.plan.words
             (plan_read self.old.plan) (self.old.line.items ++ part.now) }
@@ -61,7 +61,7 @@ impl PlanReader {
             self.plan.add_text(part);
         } else {
             keep(&mut self.line, part);
-            self.end_kept();
+            self.read_kept();
         }
     }
 
@@ -73,7 +73,7 @@ impl PlanReader {
     {
         let mut rest = piece;
         while let Some(end) = line_end(rest) {
-            self.end_line(&rest[..end]);
+            self.read_line(&rest[..end]);
             rest = &rest[end + 1..];
         }
         keep(&mut self.line, rest);
@@ -86,7 +86,7 @@ impl PlanReader {
         ensures inside { AreInside self.new.plan }
     {
         if !self.line.is_empty() {
-            self.end_kept();
+            self.read_kept();
         }
     }
 

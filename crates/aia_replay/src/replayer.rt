@@ -48,7 +48,7 @@ impl Replayer {
     /// Answers the line that was kept, and begins the next one.
     #[cold]
     #[inline(never)]
-    fn end_kept<K: Sink>(&mut self, alloc: Global, sink: &mut K) -> Result<(), Stop>
+    fn answer_kept<K: Sink>(&mut self, alloc: Global, sink: &mut K) -> Result<(), Stop>
         ensures ok { OnOk result (AnswersText self.old self.new (K.taken sink.old)
             (K.taken sink.new) self.old.line.items) }
         ensures sink { result ≡ Err Stop.Sink → Rose (K.faults sink.old) (K.faults sink.new) }
@@ -68,7 +68,7 @@ impl Replayer {
 
     /// Answers the line that ends with `part`, and begins the next one. A line that begins with it
     /// too is read where it stands.
-    fn end_line<K: Sink>(&mut self, alloc: Global, sink: &mut K, part: &[u8]) -> Result<(), Stop>
+    fn answer_line<K: Sink>(&mut self, alloc: Global, sink: &mut K, part: &[u8]) -> Result<(), Stop>
         ensures ok { OnOk result (AnswersText self.old self.new (K.taken sink.old)
             (K.taken sink.new) (self.old.line.items ++ part.now)) }
         ensures sink { result ≡ Err Stop.Sink → Rose (K.faults sink.old) (K.faults sink.new) }
@@ -81,7 +81,7 @@ impl Replayer {
     {
         if !self.line.is_empty() {
             self.keep(part);
-            return self.end_kept(alloc, sink);
+            return self.answer_kept(alloc, sink);
         }
         if let Some(answer) = self.engine.text(alloc, part)? {
             self.out.add_answer(sink, &answer)?;
@@ -103,7 +103,7 @@ impl Replayer {
     {
         let mut rest = piece;
         while let Some(end) = line_end(rest) {
-            self.end_line(alloc, sink, &rest[..end])?;
+            self.answer_line(alloc, sink, &rest[..end])?;
             rest = &rest[end + 1..];
         }
         self.keep(rest);
@@ -121,7 +121,7 @@ impl Replayer {
         ensures later { K.faults sink.old ≤ K.faults sink.new }
     {
         if !self.line.is_empty() {
-            self.end_kept(alloc, sink)?;
+            self.answer_kept(alloc, sink)?;
         }
         self.write_out(sink)?;
         Ok(())

@@ -1,6 +1,6 @@
 //! The engine, by lines and by texts.
 
-ghost use Rattle.aia_model.specs.Grammar.{IsListed};
+ghost use Rattle.aia_model.specs.Forms.{IsListed};
 
 use crate::same;
 use aia_model::{Answer, Line, Refusal};

@@ -3,3 +3,4 @@ pub mod DigitLemmas
 pub mod PrintLemmas
 pub mod NameLemmas
 pub mod SpelledLemmas
+pub mod FormLemmas

@@ -11,25 +11,23 @@ use Rattle.aia_model.proofs.PrintedNumbers.{length-number_text}
 use Rattle.std.specs.List.{AllByRecursion}
 use Rattle.aia_regs.specs.declared.access.Csr.{Csr}
 use Rattle.aia_regs.specs.Operations.{FitsOp}
-use Rattle.aia_model.specs.Grammar.{Field, instruction}
+use Rattle.aia_model.specs.Grammar.{fields}
+use Rattle.aia_model.specs.Forms.{instruction, access_values, part_fields}
 use Rattle.aia_model.specs.AnswerText.{field_text, part_text, decimal_text}
 use Rattle.aia_model.specs.declared.part.Part.{Part}
 use Rattle.aia_model.specs.declared.part.Part.TheVariants as parts
-use Rattle.aia_model.specs.Grammar.{part_fields}
 use Rattle.aia_model.specs.Printing.{FitsField}
 use Rattle.aia_regs.specs.declared.access.Level.{Level}
-use Rattle.aia_model.specs.Grammar.{csr_field}
-use Rattle.aia_model.proofs.Printed.{name_in_range}
 use Rattle.aia_script.specs.declared.number.Radix.{Radix}
 use Rattle.aia_script.specs.declared.number.Radix.TheVariants.{Decimal, Hexadecimal}
 use Rattle.aia_script.specs.Digits.{base}
 
 -- an instruction after other words
-pub joined_instruction : (word : List ℕ) (csr : Field) (op : Op) → join_with_byte 32 (word ∷ map field_text (instruction csr op)) ≡ word ++ 32 ∷ join_with_byte 32 (map field_text (instruction csr op))
-joined_instruction word csr ops.Read = refl
-joined_instruction word csr (ops.Write v) = refl
-joined_instruction word csr (ops.Set v) = refl
-joined_instruction word csr (ops.Clear v) = refl
+pub joined_instruction : (word : List ℕ) (level : Level) (csr : Csr) (op : Op) → join_with_byte 32 (word ∷ map field_text (fields (instruction level) (access_values level csr op))) ≡ word ++ 32 ∷ join_with_byte 32 (map field_text (fields (instruction level) (access_values level csr op)))
+joined_instruction word level csr ops.Read = refl
+joined_instruction word level csr (ops.Write v) = refl
+joined_instruction word level csr (ops.Set v) = refl
+joined_instruction word level csr (ops.Clear v) = refl
 
 -- a part of an image after other words
 pub joined_part : (word : List ℕ) (part : Part) → join_with_byte 32 (word ∷ map field_text (part_fields part)) ≡ word ++ 32 ∷ part_text part
@@ -73,8 +71,8 @@ digit_low Decimal b n e = rw e (omega arith)
 digit_low Hexadecimal b n e = rw e (omega arith)
 
 -- the fields of a CSR instruction whose operand is in range
-pub access_in_range : (level : Level) (csr : Csr) (op : Op) → FitsOp op → AllByRecursion FitsField (instruction (csr_field level csr) op)
-access_in_range level csr ops.Read fits = (tt, (name_in_range level csr, tt))
-access_in_range level csr (ops.Write v) fits = (tt, (name_in_range level csr, (fits, tt)))
-access_in_range level csr (ops.Set v) fits = (tt, (name_in_range level csr, (fits, tt)))
-access_in_range level csr (ops.Clear v) fits = (tt, (name_in_range level csr, (fits, tt)))
+pub access_in_range : (level : Level) (csr : Csr) (op : Op) → FitsOp op → AllByRecursion FitsField (fields (instruction level) (access_values level csr op))
+access_in_range level csr ops.Read fits = (tt, (tt, tt))
+access_in_range level csr (ops.Write v) fits = (tt, (tt, (fits, tt)))
+access_in_range level csr (ops.Set v) fits = (tt, (tt, (fits, tt)))
+access_in_range level csr (ops.Clear v) fits = (tt, (tt, (fits, tt)))

@@ -2,7 +2,8 @@
 use Rattle.std.specs.Prelude.{ℕ, nat_le, if◌then◌else◌, List, [], ◌∷◌, length, Option, None, codes}
 use Rattle.aia_model.specs.declared.limits.TheConstants.{LINE_BYTES}
 use Rattle.aia_model.specs.Text.{words_of, below, ◌>>=◌}
-use Rattle.aia_model.specs.Reading.{Words, row_of, word_at, number_at, whole}
+use Rattle.aia_model.specs.Grammar.{row_of}
+use Rattle.aia_model.specs.Reading.{Words, word_at, number_at, whole}
 use Rattle.aia_plan.specs.declared.step.Step.{Step}
 use Rattle.aia_plan.specs.declared.step.Step.TheVariants.{Quiet, Word1, Word0, Fence, Map, Unmap, Remap, GFence, TakeP, PutP, TakeE, PutE, Look, TakeT, PutT, Post, Wake}
 

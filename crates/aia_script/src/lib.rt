@@ -4,21 +4,21 @@
 //! `aia_model` states the grammar as a table of fields.
 #![tactic(auto)]
 
+mod forms;
 mod instructions;
-mod lines;
 mod number;
 mod parse;
 mod parts;
 mod pieces;
 mod print;
-mod spelling;
+mod rows;
 mod steps;
 mod words;
 
-pub use aia_model::{Answer, Line, Parsed, Part, Refusal};
+pub use aia_model::{Answer, Line, Parsed, Part, Refusal, Want};
 pub use aia_plan::{Kind, Step};
 pub use aia_regs::{Csr, Op};
+pub use forms::print_line;
 pub use parse::{is_skipped, parse_line};
 pub use print::print_answer;
-pub use spelling::print_line;
 pub use steps::parse_step;

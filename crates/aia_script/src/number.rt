@@ -3,7 +3,8 @@
 ghost use Rattle.std.specs.Prelude.{◌≡◌, ℕ, ◌+◌, ◌*◌, ◌^◌, ◌<◌, length, IfSome};
 ghost use Rattle.std.specs.Option.{option_map};
 ghost use Rattle.aia_model.specs.Text.{below};
-ghost use Rattle.aia_model.specs.Reading.{number_at, n32_at, bit_of, bit_at};
+ghost use Rattle.aia_model.specs.Grammar.{bit_of};
+ghost use Rattle.aia_model.specs.Reading.{number_at, n32_at, bit_at};
 ghost use Rattle.aia_script.specs.Cursor.{left};
 ghost use Rattle.aia_script.specs.Digits.{base, digit_in, ended, below_limit, number_from, after_x, after_zero, first_number};
 

@@ -2,10 +2,10 @@
 
 ghost use Rattle.std.specs.Prelude.{◌≡◌, ◌↔◌, IsTrue};
 ghost use Rattle.aia_model.specs.Text.{is_skipped};
-ghost use Rattle.aia_model.specs.Grammar.{Spells, IsListed};
+ghost use Rattle.aia_model.specs.Forms.{Spells, IsListed};
 ghost use Rattle.aia_model.specs.Reading.{reading};
 
-use crate::lines::line_at;
+use crate::forms::line_at;
 use crate::words::all_words;
 use aia_model::limits::LINE_BYTES;
 use aia_model::{Line, Parsed};

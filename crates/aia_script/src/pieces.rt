@@ -1,9 +1,11 @@
 //! What printed lines and answers are made of: texts and numbers.
 
-ghost use Rattle.std.specs.Prelude.{◌≡◌, ◌+◌, ◌*◌, ◌/◌, ◌%◌, ◌<◌, ◌≤◌, ◌++◌, length, map};
+ghost use Rattle.std.specs.Prelude.{◌≡◌, ◌+◌, ◌*◌, ◌/◌, ◌%◌, ◌<◌, ◌≤◌, ◌∷◌, ◌++◌, length, map};
 ghost use Rattle.std.specs.Int.Digits.{digits_of};
 ghost use Rattle.arrayvec.specs.ArrayVec.{array_vec_len};
-ghost use Rattle.aia_model.specs.AnswerText.{digit_character, hex_digits, number_text};
+ghost use Rattle.aia_model.specs.AnswerText.{digit_character, hex_digits, number_text, decimal_text, hex_text, field_text};
+ghost use Rattle.aia_model.specs.Grammar.Field.{Of};
+ghost use Rattle.aia_model.specs.Grammar.Kind.{Hex16};
 ghost use Rattle.aia_script.specs.Digits.{base};
 
 use crate::number::Radix;
@@ -99,6 +101,46 @@ pub fn push_small<const N: usize>(out: &mut ArrayVec<u8, N>, value: u32)
     let mut digits: ArrayVec<u8, 20> = ArrayVec::new();
     push_number(&mut digits, Radix::Decimal, u64::from(value));
     push_text(out, digits.as_slice());
+}
+
+/// Appends a space and a number in decimal.
+pub fn push_decimal<const N: usize>(out: &mut ArrayVec<u8, N>, value: u64)
+    requires { array_vec_len out.old + 21 ≤ N }
+    ensures text { out.new.items ≡ out.old.items ++ 32 ∷ decimal_text value }
+    ensures length { array_vec_len out.new ≤ array_vec_len out.old + 21 }
+{
+    push_text(out, b" ");
+    push_number(out, Radix::Decimal, value);
+}
+
+/// Appends a space and a number below 2^32, in decimal.
+pub fn push_decimal32<const N: usize>(out: &mut ArrayVec<u8, N>, value: u32)
+    requires { array_vec_len out.old + 11 ≤ N }
+    ensures text { out.new.items ≡ out.old.items ++ 32 ∷ decimal_text value }
+    ensures length { array_vec_len out.new ≤ array_vec_len out.old + 11 }
+{
+    push_text(out, b" ");
+    push_small(out, value);
+}
+
+/// Appends a space and a number in hexadecimal.
+pub fn push_hex<const N: usize>(out: &mut ArrayVec<u8, N>, value: u64)
+    requires { array_vec_len out.old + 23 ≤ N }
+    ensures text { out.new.items ≡ out.old.items ++ 32 ∷ hex_text value }
+    ensures length { array_vec_len out.new ≤ array_vec_len out.old + 23 }
+{
+    push_text(out, b" 0x");
+    push_number(out, Radix::Hexadecimal, value);
+}
+
+/// Appends a space and a register's value, by all of its sixteen digits.
+pub fn push_register<const N: usize>(out: &mut ArrayVec<u8, N>, value: u64)
+    requires { array_vec_len out.old + 19 ≤ N }
+    ensures text { out.new.items ≡ out.old.items ++ 32 ∷ field_text (Of Hex16 value) }
+    ensures length { array_vec_len out.new ≡ array_vec_len out.old + 19 }
+{
+    push_text(out, b" 0x");
+    push_bytes(out, 8, value);
 }
 
 /// Appends the lowest `count` bytes of a value, each by its two hexadecimal digits.

@@ -3,7 +3,7 @@
 ghost use Rattle.std.specs.Prelude.{◌≡◌, ◌<◌, ℕ, map, Option, IfSome};
 ghost use Rattle.std.specs.Option.{option_map};
 ghost use Rattle.aia_model.specs.Text.{below};
-ghost use Rattle.aia_model.specs.Reading.{row_of};
+ghost use Rattle.aia_model.specs.Grammar.{row_of};
 ghost use Rattle.aia_plan.specs.Plan.{IsInside};
 ghost use Rattle.aia_script.specs.Cursor.{left};
 ghost use Rattle.aia_script.specs.StepForm.{form_of};

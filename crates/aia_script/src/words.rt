@@ -3,7 +3,8 @@
 ghost use Rattle.std.specs.Prelude.{◌≡◌, nat_eq, position};
 ghost use Rattle.std.specs.Option.{option_map};
 ghost use Rattle.aia_model.specs.Text.{words_of};
-ghost use Rattle.aia_model.specs.Reading.{is_word, word_at, whole};
+ghost use Rattle.aia_model.specs.Grammar.{is_word};
+ghost use Rattle.aia_model.specs.Reading.{word_at, whole};
 ghost use Rattle.aia_script.specs.Cursor.{left, words_after};
 
 /// The words of a text that are still to be read: a single space stands between one word and the

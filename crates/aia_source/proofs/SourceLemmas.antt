@@ -1,6 +1,6 @@
 -- A source at a level mode, in a domain that delivers directly.
 use Rattle.std.proofs.Common.{◌≡◌, ◌≢◌, Bool, true, false, cond, Option, Some, None, refl}
-use Rattle.aia_regs.specs.Word.{settle}
+use Rattle.aia_regs.specs.BitUpdate.{settle}
 use Rattle.aia_source.specs.declared.mode.Mode.{Mode}
 use Rattle.aia_source.specs.declared.mode.Mode.TheVariants.{Inactive, Detached, RisingEdge, FallingEdge, LevelHigh, LevelLow}
 use Rattle.aia_source.specs.declared.touch.Touch.{Touch}

@@ -6,9 +6,9 @@ use Rattle.std.specs.Int.{swap_bytes, w32}
 use Rattle.aia_regs.specs.declared.domain_registers.DomainReg.{DomainReg}
 use Rattle.aia_regs.specs.declared.domain_registers.DomainReg.TheVariants.{SetIp, SetIpNum, InClrIp, ClrIpNum, SetIe, SetIeNum, ClrIe, ClrIeNum, SetIpNumLe, SetIpNumBe}
 use Rattle.aia_regs.specs.Fields.{field, with_field}
-use Rattle.aia_regs.specs.Operations.{is_one}
-use Rattle.aia_regs.specs.Word.{Word}
-use Rattle.aia_regs.specs.Word.Word.{Ask, Clear, Nothing}
+use Rattle.aia_regs.specs.Operations.{has_bit}
+use Rattle.aia_regs.specs.BitUpdate.{BitUpdate}
+use Rattle.aia_regs.specs.BitUpdate.BitUpdate.{Ask, Clear, Nothing}
 use Rattle.aia_source.specs.declared.kept.TheConstants.{IE, DM, D, DELEGATED, DOMAINCFG_ONES}
 use Rattle.aia_source.specs.declared.mode.Mode.{Mode}
 use Rattle.aia_source.specs.declared.mode.Mode.TheVariants.{Inactive, Detached, RisingEdge, FallingEdge, LevelHigh, LevelLow}
@@ -41,7 +41,7 @@ domaincfg_with ie dm = one_at ie IE + one_at dm DM
 
 -- What a write keeps: IE and DM of the value. Profile: BE is read-only zero.
 abbrev pub domaincfg_kept : ℕ → ℕ
-domaincfg_kept v = domaincfg_with (is_one v IE) (is_one v DM)
+domaincfg_kept v = domaincfg_with (has_bit v IE) (has_bit v DM)
 
 -- What domaincfg reads: 0x80 in bits 31:24, IE and DM.
 abbrev pub domaincfg_read : Bool → Bool → ℕ
@@ -49,11 +49,11 @@ domaincfg_read ie dm = DOMAINCFG_ONES + domaincfg_with ie dm
 
 -- Whether a domaincfg enables the domain's interrupts: IE.
 abbrev pub enables : ℕ → Bool
-enables cfg = is_one cfg IE
+enables cfg = has_bit cfg IE
 
 -- Whether the domain delivers by MSIs: DM.
 abbrev pub is_by_msi : ℕ → Bool
-is_by_msi cfg = is_one cfg DM
+is_by_msi cfg = has_bit cfg DM
 
 -- ---- sourcecfg
 
@@ -68,12 +68,12 @@ legal_mode sm = if nat_eq sm 2 || nat_eq sm 3 then 0 else sm
 -- 0.
 abbrev pub root_sourcecfg : ℕ → ℕ
 root_sourcecfg v =
-    if is_one v D then (if nat_eq (field v 9 0) 0 then DELEGATED else 0)
+    if has_bit v D then (if nat_eq (field v 9 0) 0 then DELEGATED else 0)
     else legal_mode (field v 2 0)
 
 -- What it keeps in the child domain, which has no child: D makes the register 0.
 abbrev pub child_sourcecfg : ℕ → ℕ
-child_sourcecfg v = if is_one v D then 0 else legal_mode (field v 2 0)
+child_sourcecfg v = if has_bit v D then 0 else legal_mode (field v 2 0)
 
 -- Whether a sourcecfg of the root domain delegates the source.
 abbrev pub delegates : ℕ → Bool
@@ -103,7 +103,7 @@ mode_number LevelLow = 7
 
 -- Word k has the sources 32k to 32k + 31.
 abbrev pub in_word : ℕ → ℕ → ℕ → Bool
-in_word k v s = nat_eq (s / 32) k && is_one v (s % 32)
+in_word k v s = nat_eq (s / 32) k && has_bit v (s % 32)
 
 -- A touch of those that are named, and of no other.
 abbrev pub touch_where : (ℕ → Bool) → Touch → ℕ → Option Touch
@@ -129,7 +129,7 @@ deed_of_touch (Some SetPending) = Set
 deed_of_touch (Some ClearPending) = Cleared
 deed_of_touch touch = Untouched
 
-abbrev pub enable_of_touch : Option Touch → Word
+abbrev pub enable_of_touch : Option Touch → BitUpdate
 enable_of_touch (Some SetEnable) = Ask
 enable_of_touch (Some ClearEnable) = Clear
 enable_of_touch touch = Nothing

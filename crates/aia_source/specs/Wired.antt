@@ -1,8 +1,8 @@
 -- One wired source in one domain of an APLIC: what becomes of its pending bit.
 -- AIA 1.0, APLIC, where no comment names another source; a heading of that chapter is named alone.
 use Rattle.std.specs.Prelude.{◌≡◌, Bool, true, false, not, ◌&&◌, if◌then◌else◌}
-use Rattle.aia_regs.specs.Word.{Word, settle}
-use Rattle.aia_regs.specs.Word.Word.{Ask, Clear, Nothing}
+use Rattle.aia_regs.specs.BitUpdate.{BitUpdate, settle}
+use Rattle.aia_regs.specs.BitUpdate.BitUpdate.{Ask, Clear, Nothing}
 use Rattle.aia_source.specs.declared.mode.Mode.{Mode}
 use Rattle.aia_source.specs.declared.mode.Mode.TheVariants.{Inactive, Detached, RisingEdge, FallingEdge, LevelHigh, LevelLow}
 
@@ -42,7 +42,7 @@ rectified LevelLow wire = not wire
 -- the delivery mode say.
 
 -- Detached: registers ask, and registers, a claim and an MSI clear.
-abbrev pub detached_says : SourceDeed → Word
+abbrev pub detached_says : SourceDeed → BitUpdate
 detached_says Set = Ask
 detached_says Cleared = Clear
 detached_says Claimed = Clear
@@ -50,14 +50,14 @@ detached_says Forwarded = Clear
 detached_says deed = Nothing
 
 -- Edge: as detached, and a rise of the rectified input asks, given the input before and after.
-abbrev pub edge_says : Bool → Bool → SourceDeed → Word
+abbrev pub edge_says : Bool → Bool → SourceDeed → BitUpdate
 edge_says before after LevelGiven = if not before && after then Ask else Nothing
 edge_says before after deed = detached_says deed
 
 -- Level: a rise asks and a fall clears; registers are heard only where the domain delivers by MSIs,
 -- and ask only while the input is high; a claim leaves it, an MSI clears it; a write of sourcecfg
 -- and a change of delivery go by the input.
-abbrev pub level_says : Bool → Bool → Bool → SourceDeed → Word
+abbrev pub level_says : Bool → Bool → Bool → SourceDeed → BitUpdate
 level_says msi before after LevelGiven =
     if before then (if after then Nothing else Clear) else (if after then Ask else Nothing)
 level_says msi before after Set = if msi && after then Ask else Nothing
@@ -69,7 +69,7 @@ level_says msi before after deed = Nothing
 
 -- By mode, whether the domain delivers by MSIs, and the rectified input before and after: an
 -- inactive source is never pending, whatever is done.
-abbrev pub says : Mode → Bool → Bool → Bool → SourceDeed → Word
+abbrev pub says : Mode → Bool → Bool → Bool → SourceDeed → BitUpdate
 says Inactive msi before after deed = Clear
 says Detached msi before after deed = detached_says deed
 says RisingEdge msi before after deed = edge_says before after deed

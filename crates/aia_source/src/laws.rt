@@ -3,7 +3,7 @@
 
 ghost use Rattle.std.specs.Prelude.{◌≡◌, ◌≢◌, ℕ, ◌+◌, ◌<◌, ◌≤◌, Bool, false, nat_eq, if◌then◌else◌, Option, Some, None};
 ghost use Rattle.aia_regs.specs.Fields.{field};
-ghost use Rattle.aia_regs.specs.Operations.{is_one};
+ghost use Rattle.aia_regs.specs.Operations.{has_bit};
 ghost use Rattle.aia_source.specs.Registers.{one_at, enables, is_by_msi, domaincfg_kept, domaincfg_read, delegates, root_sourcecfg, child_sourcecfg, legal_mode};
 ghost use Rattle.aia_source.specs.Top.{Pair, NamesItself, IsLeast, least_pair};
 ghost use Rattle.aia_source.specs.Wired.{WiredState, SourceDeed, IsLawful, new_wired, done};
@@ -52,15 +52,15 @@ pub fn the_least_pair_is_the_least()
 ///
 /// AIA 1.0, APLIC.
 pub fn bits_of_registers()
-    ensures enables { (cfg : ℕ) → enables cfg ≡ is_one cfg 8 }
-    ensures by_msi { (cfg : ℕ) → is_by_msi cfg ≡ is_one cfg 2 }
-    ensures kept { (v : ℕ) → domaincfg_kept v ≡ one_at (is_one v 8) 8 + one_at (is_one v 2) 2 }
+    ensures enables { (cfg : ℕ) → enables cfg ≡ has_bit cfg 8 }
+    ensures by_msi { (cfg : ℕ) → is_by_msi cfg ≡ has_bit cfg 2 }
+    ensures kept { (v : ℕ) → domaincfg_kept v ≡ one_at (has_bit v 8) 8 + one_at (has_bit v 2) 2 }
     ensures read { (ie dm : Bool)
         → domaincfg_read ie dm ≡ 0x80000000 + (one_at ie 8 + one_at dm 2) }
     ensures delegates { (cfg : ℕ) → delegates cfg ≡ nat_eq cfg 0x400 }
     ensures root { (v : ℕ) → root_sourcecfg v
-        ≡ (if is_one v 10 then (if nat_eq (field v 9 0) 0 then 0x400 else 0)
+        ≡ (if has_bit v 10 then (if nat_eq (field v 9 0) 0 then 0x400 else 0)
         else legal_mode (field v 2 0)) }
     ensures child { (v : ℕ) → child_sourcecfg v
-        ≡ (if is_one v 10 then 0 else legal_mode (field v 2 0)) }
+        ≡ (if has_bit v 10 then 0 else legal_mode (field v 2 0)) }
 {}

@@ -2,7 +2,7 @@
 use Rattle.std.proofs.Common.{◌≡◌, ℕ, zero, suc, ◌*◌, ◌/◌, ◌<◌, Bool, false, ◌&&◌, nat_eq, refl, ap₂, arith}
 use Rattle.std.proofs.lemmas.Bool.{eqb-true, ne_eqb}
 use Rattle.aia_word.specs.Sets.{word_of}
-use Rattle.aia_file.specs.Summary.{Summarizes, AreIdentities}
+use Rattle.aia_file.specs.Summary.{SummarizesBoth, AreIdentities}
 use Rattle.aia_file.proofs.SummaryLemmas.{both_words, empty_summary, summary_elsewhere, bit_put}
 
 abbrev none : ℕ → Bool
@@ -18,7 +18,7 @@ some : both_words nine nine 0 ≡ 0 → ⊥
 unfolding word_of
 some empty = absurd (cc)
 
-pub nine_summarized : Summarizes 1 nine nine
+pub nine_summarized : SummarizesBoth 1 nine nine
 nine_summarized = bit_put 0 0 nine nine (omega arith) some (summary_elsewhere 0 0 none none nine nine (empty_summary none none (λ i. refl)) away)
 
 pub nine_fits : AreIdentities 1 nine

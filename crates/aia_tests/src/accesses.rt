@@ -1,89 +1,89 @@
 //! What an access to a CSR reaches, by the table of levels and CSRs.
 
 use crate::same;
-use aia_csr::{Access, decide};
+use aia_csr::{CsrAccess, decide};
 use aia_regs::{Csr, FileReg, Level, Op};
 
 const OPS: [Op; 4] = [Op::Read, Op::Write(1), Op::Set(0), Op::Clear(0)];
 
 /// What a select number names, and what an access by it reaches at the machine's and the host's
 /// level, and at a guest's.
-const SELECTED: [(u64, Access, Access); 14] = [
-    (0, Access::Illegal, Access::Virtual),
-    (0x6f, Access::Illegal, Access::Virtual),
+const SELECTED: [(u64, CsrAccess, CsrAccess); 14] = [
+    (0, CsrAccess::Illegal, CsrAccess::Virtual),
+    (0x6f, CsrAccess::Illegal, CsrAccess::Virtual),
     (
         0x70,
-        Access::File(FileReg::Delivery),
-        Access::File(FileReg::Delivery),
+        CsrAccess::File(FileReg::Delivery),
+        CsrAccess::File(FileReg::Delivery),
     ),
     (
         0x71,
-        Access::File(FileReg::Reserved),
-        Access::File(FileReg::Reserved),
+        CsrAccess::File(FileReg::Reserved),
+        CsrAccess::File(FileReg::Reserved),
     ),
     (
         0x72,
-        Access::File(FileReg::Threshold),
-        Access::File(FileReg::Threshold),
+        CsrAccess::File(FileReg::Threshold),
+        CsrAccess::File(FileReg::Threshold),
     ),
     (
         0x73,
-        Access::File(FileReg::Reserved),
-        Access::File(FileReg::Reserved),
+        CsrAccess::File(FileReg::Reserved),
+        CsrAccess::File(FileReg::Reserved),
     ),
     (
         0x7f,
-        Access::File(FileReg::Reserved),
-        Access::File(FileReg::Reserved),
+        CsrAccess::File(FileReg::Reserved),
+        CsrAccess::File(FileReg::Reserved),
     ),
     (
         0x80,
-        Access::File(FileReg::Pending(0)),
-        Access::File(FileReg::Pending(0)),
+        CsrAccess::File(FileReg::Pending(0)),
+        CsrAccess::File(FileReg::Pending(0)),
     ),
-    (0x81, Access::Illegal, Access::Virtual),
+    (0x81, CsrAccess::Illegal, CsrAccess::Virtual),
     (
         0xbe,
-        Access::File(FileReg::Pending(62)),
-        Access::File(FileReg::Pending(62)),
+        CsrAccess::File(FileReg::Pending(62)),
+        CsrAccess::File(FileReg::Pending(62)),
     ),
     (
         0xc0,
-        Access::File(FileReg::Enable(0)),
-        Access::File(FileReg::Enable(0)),
+        CsrAccess::File(FileReg::Enable(0)),
+        CsrAccess::File(FileReg::Enable(0)),
     ),
     (
         0xfe,
-        Access::File(FileReg::Enable(62)),
-        Access::File(FileReg::Enable(62)),
+        CsrAccess::File(FileReg::Enable(62)),
+        CsrAccess::File(FileReg::Enable(62)),
     ),
-    (0xff, Access::Illegal, Access::Virtual),
-    (0x100, Access::Illegal, Access::Virtual),
+    (0xff, CsrAccess::Illegal, CsrAccess::Virtual),
+    (0x100, CsrAccess::Illegal, CsrAccess::Virtual),
 ];
 
 /// What a guest's access to its majors reaches: by a read, by a write, and by either where hvictl's
 /// VTI is 1.
-const MAJORS: [(Csr, Access, Access, Access, Access); 3] = [
+const MAJORS: [(Csr, CsrAccess, CsrAccess, CsrAccess, CsrAccess); 3] = [
     (
         Csr::Topi,
-        Access::Topi,
-        Access::Illegal,
-        Access::Topi,
-        Access::Illegal,
+        CsrAccess::Topi,
+        CsrAccess::Illegal,
+        CsrAccess::Topi,
+        CsrAccess::Illegal,
     ),
     (
         Csr::Sip,
-        Access::Sip,
-        Access::Sip,
-        Access::Virtual,
-        Access::Virtual,
+        CsrAccess::Sip,
+        CsrAccess::Sip,
+        CsrAccess::Virtual,
+        CsrAccess::Virtual,
     ),
     (
         Csr::Sie,
-        Access::Sie,
-        Access::Sie,
-        Access::Virtual,
-        Access::Virtual,
+        CsrAccess::Sie,
+        CsrAccess::Sie,
+        CsrAccess::Virtual,
+        CsrAccess::Virtual,
     ),
 ];
 
@@ -97,8 +97,8 @@ fn accesses_reach_what_the_table_says(rt: HostRuntime) {
                 same!(rt; decide(Level::Guest, Csr::Reg, op, select, vti), guest; select);
             }
             for level in [Level::Machine, Level::Host, Level::Guest] {
-                same!(rt; decide(level, Csr::Select, op, 0x81, vti), Access::Select);
-                same!(rt; decide(level, Csr::Topei, op, 0x81, vti), Access::Top);
+                same!(rt; decide(level, Csr::Select, op, 0x81, vti), CsrAccess::Select);
+                same!(rt; decide(level, Csr::Topei, op, 0x81, vti), CsrAccess::Top);
             }
         }
         for (csr, read, written, read_at_vti, written_at_vti) in MAJORS {

@@ -24,13 +24,13 @@ const PLACES: [(u64, Spot); 20] = [
     (0x2400_1000, Spot::MachineFile(1)),
     (0x2400_2000, Spot::Nowhere),
     (0x27ff_ffff, Spot::Nowhere),
-    (0x2800_0000, Spot::HostFile(0)),
+    (0x2800_0000, Spot::SupervisorFile(0)),
     (0x2800_1000, Spot::GuestFile(0, 1)),
     (0x2800_1fff, Spot::GuestFile(0, 1)),
     (0x2800_2000, Spot::Nowhere),
     (0x2800_8004, Spot::Nowhere),
     (0x2801_ffff, Spot::Nowhere),
-    (0x2802_0004, Spot::HostFile(1)),
+    (0x2802_0004, Spot::SupervisorFile(1)),
     (0x2802_1000, Spot::GuestFile(1, 1)),
     (0x2802_2000, Spot::Nowhere),
     (0x2804_0000, Spot::Nowhere),
@@ -54,10 +54,10 @@ const LAST_PLACES: [(u64, Spot); 9] = [
     (0x2400_3fff, Spot::MachineFile(3)),
     (0x2400_4000, Spot::Nowhere),
     (0x2801_ffff, Spot::GuestFile(0, 31)),
-    (0x2802_0000, Spot::HostFile(1)),
+    (0x2802_0000, Spot::SupervisorFile(1)),
     (0x2803_f000, Spot::GuestFile(1, 31)),
-    (0x2804_0000, Spot::HostFile(2)),
-    (0x2806_0000, Spot::HostFile(3)),
+    (0x2804_0000, Spot::SupervisorFile(2)),
+    (0x2806_0000, Spot::SupervisorFile(3)),
     (0x2807_ffff, Spot::GuestFile(3, 31)),
     (0x2808_0000, Spot::Nowhere),
 ];
@@ -86,18 +86,18 @@ fn listens(file: &mut File) {
 fn files_are_apart_and_those_of_guests_signal(rt: HostRuntime) -> Result<(), Fail> {
     let mut imsic = Imsic::new(rt.alloc(), 1, 2, 63)?;
     imsic.store(Spot::MachineFile(0), 0, 1);
-    imsic.store(Spot::HostFile(0), 4, 0x0200_0000);
+    imsic.store(Spot::SupervisorFile(0), 4, 0x0200_0000);
     imsic.store(Spot::GuestFile(0, 1), 0, 3);
     imsic.store(Spot::GuestFile(0, 2), 0, 4);
     let pending = FileReg::Pending(0);
     same!(rt; imsic.file(Spot::MachineFile(0)).read(pending), 0b10);
-    same!(rt; imsic.file(Spot::HostFile(0)).read(pending), 0b100);
+    same!(rt; imsic.file(Spot::SupervisorFile(0)).read(pending), 0b100);
     same!(rt; imsic.file(Spot::GuestFile(0, 1)).read(pending), 0b1000);
     same!(rt; imsic.file(Spot::GuestFile(0, 2)).read(pending), 0b1_0000);
-    listens(imsic.file_mut(Spot::HostFile(0)));
+    listens(imsic.file_mut(Spot::SupervisorFile(0)));
     listens(imsic.file_mut(Spot::GuestFile(0, 2)));
     // The host's own file signals too, but is none of a guest's.
-    holds(&rt, imsic.file(Spot::HostFile(0)).signal());
+    holds(&rt, imsic.file(Spot::SupervisorFile(0)).signal());
     same!(rt; imsic.hgeip(0), 0b100);
     same!(rt; imsic.file_mut(Spot::GuestFile(0, 2)).claim(), 0x4_0004);
     same!(rt; imsic.hgeip(0), 0);

@@ -4,7 +4,7 @@ ghost use Rattle.std.specs.Prelude.{◌≡◌, nat_lt, IfSome};
 
 use crate::moves::NoTargets;
 use crate::same;
-use aia_hyp::{Hyp, Refusal, Want};
+use aia_hyp::{Core, Refusal, Want};
 use aia_model::{Msi, Part};
 use aia_regs::limits::{GUEST_FILES, STORES_IN_FLIGHT, VCPUS, VM_VCPUS, VMS};
 use aia_regs::{Csr, Level, Op};
@@ -13,7 +13,7 @@ use std::test::Fail;
 
 #[test]
 fn the_core_serves_the_files_of_the_host(rt: HostRuntime) -> Result<(), Fail> {
-    let mut core = Hyp::new(rt.alloc(), 1, 1, 63)?;
+    let mut core = Core::new(rt.alloc(), 1, 1, 63)?;
     // Enable 3 and 5 in the supervisor file, and let it signal.
     let accesses = [
         (Csr::Select, 0xc0, 0),
@@ -42,7 +42,7 @@ fn the_core_serves_the_files_of_the_host(rt: HostRuntime) -> Result<(), Fail> {
 
 #[test]
 fn the_core_refuses_with_its_words(rt: HostRuntime) -> Result<(), Fail> {
-    let mut core = Hyp::new(rt.alloc(), 1, 1, 63)?;
+    let mut core = Core::new(rt.alloc(), 1, 1, 63)?;
     let stores = [
         (0x2800_0002, Refusal::Fault),
         (0x2800_1000, Refusal::Guarded),
@@ -65,7 +65,7 @@ fn the_core_refuses_with_its_words(rt: HostRuntime) -> Result<(), Fail> {
 
 #[test]
 fn the_core_makes_vms_and_takes_stores_of_their_devices(rt: HostRuntime) -> Result<(), Fail> {
-    let mut core = Hyp::new(rt.alloc(), 2, 0, 63)?;
+    let mut core = Core::new(rt.alloc(), 2, 0, 63)?;
     let (most, all) = (u64::from(VM_VCPUS), u64::from(VCPUS));
     let vms = [
         ((2, 0x8, 2), Err(Refusal::Range)),
@@ -96,7 +96,7 @@ fn the_core_makes_vms_and_takes_stores_of_their_devices(rt: HostRuntime) -> Resu
 
 #[test]
 fn the_core_moves_virtual_harts(rt: HostRuntime) -> Result<(), Fail> {
-    let mut core = Hyp::new(rt.alloc(), 2, 1, 63)?;
+    let mut core = Core::new(rt.alloc(), 2, 1, 63)?;
     same!(rt; core.vm(2, 0x8, 0), Ok(()));
     let moves = [
         (1, 0, Want::Leave, Err(Refusal::Range)),
@@ -119,7 +119,7 @@ fn the_core_moves_virtual_harts(rt: HostRuntime) -> Result<(), Fail> {
 
 #[test]
 fn the_core_serves_resident_virtual_harts(rt: HostRuntime) -> Result<(), Fail> {
-    let mut core = Hyp::new(rt.alloc(), 1, 1, 63)?;
+    let mut core = Core::new(rt.alloc(), 1, 1, 63)?;
     same!(rt; core.vm(2, 0x8, 0), Ok(()));
     same!(rt; moved(&mut core, 0, 0, Want::Arrive(0)), Ok(()));
     // Enable 5, and let the file signal.
@@ -157,7 +157,7 @@ fn the_core_serves_resident_virtual_harts(rt: HostRuntime) -> Result<(), Fail> {
 
 #[test]
 fn the_core_has_virtual_harts_run_from_memory(rt: HostRuntime) -> Result<(), Fail> {
-    let mut core = Hyp::new(rt.alloc(), 1, 1, 63)?;
+    let mut core = Core::new(rt.alloc(), 1, 1, 63)?;
     same!(rt; core.vm(3, 0x18, 0), Ok(()));
     same!(rt; moved(&mut core, 0, 0, Want::Arrive(0)), Ok(()));
     let enters = [
@@ -193,7 +193,7 @@ fn the_core_has_virtual_harts_run_from_memory(rt: HostRuntime) -> Result<(), Fai
 /// Of the second virtual hart the host is told as identity 2, of hart 0.
 #[test]
 fn the_core_tells_of_what_is_pending_as_one_ceases_to_run(rt: HostRuntime) -> Result<(), Fail> {
-    let mut core = Hyp::new(rt.alloc(), 1, 1, 63)?;
+    let mut core = Core::new(rt.alloc(), 1, 1, 63)?;
     same!(rt; core.vm(2, 0x8, 0), Ok(()));
     same!(rt; core.host(Level::Host, 0, Csr::Select, Op::Write(0x80)), Ok(0));
     same!(rt; core.enter(0, 1), Ok(()));
@@ -225,7 +225,7 @@ fn the_core_tells_of_what_is_pending_as_one_ceases_to_run(rt: HostRuntime) -> Re
 
 #[test]
 fn the_core_saves_and_loads_images(rt: HostRuntime) -> Result<(), Fail> {
-    let mut core = Hyp::new(rt.alloc(), 1, 1, 63)?;
+    let mut core = Core::new(rt.alloc(), 1, 1, 63)?;
     same!(rt; core.vm(2, 0x8, 0), Ok(()));
     same!(rt; core.host(Level::Host, 0, Csr::Select, Op::Write(0x80)), Ok(0));
     let loads = [(IMAGE[3], 4), (IMAGE[2], 0), (IMAGE[1], 0), (IMAGE[0], 0)];
@@ -287,7 +287,7 @@ const IMAGE: [Part; 4] = [
 
 #[test]
 fn the_core_has_stores_in_flight(rt: HostRuntime) -> Result<(), Fail> {
-    let mut core = Hyp::new(rt.alloc(), 1, 1, 63)?;
+    let mut core = Core::new(rt.alloc(), 1, 1, 63)?;
     same!(rt; core.vm(3, 0x18, 0), Ok(()));
     same!(rt; moved(&mut core, 0, 0, Want::Arrive(0)), Ok(()));
     // Enable 5 and 6.
@@ -320,7 +320,7 @@ fn the_core_has_stores_in_flight(rt: HostRuntime) -> Result<(), Fail> {
 
 #[test]
 fn the_core_has_eight_stores_of_a_vm_in_flight_at_most(rt: HostRuntime) -> Result<(), Fail> {
-    let mut core = Hyp::new(rt.alloc(), 1, 1, 63)?;
+    let mut core = Core::new(rt.alloc(), 1, 1, 63)?;
     same!(rt; core.vm(1, 0x8, 0), Ok(()));
     same!(rt; core.vm(1, 0x8, 0), Ok(()));
     for value in 1..1 + STORES_IN_FLIGHT as u32 {
@@ -340,7 +340,7 @@ fn the_core_has_eight_stores_of_a_vm_in_flight_at_most(rt: HostRuntime) -> Resul
 
 #[test]
 fn the_core_reads_an_entry_again(rt: HostRuntime) -> Result<(), Fail> {
-    let mut core = Hyp::new(rt.alloc(), 1, 1, 63)?;
+    let mut core = Core::new(rt.alloc(), 1, 1, 63)?;
     same!(rt; core.vm(1, 0x8, 0), Ok(()));
     same!(rt; moved(&mut core, 0, 0, Want::Arrive(0)), Ok(()));
     // Enable 5 and 6, and be told of notices in the supervisor file.
@@ -363,7 +363,7 @@ fn the_core_reads_an_entry_again(rt: HostRuntime) -> Result<(), Fail> {
 }
 
 /// Delivers an MSI that is of no source.
-fn heard(core: &mut Hyp, address: u64, value: u32) {
+fn heard(core: &mut Core, address: u64, value: u32) {
     let _some = core.notices();
     core.deliver(Msi {
         address,
@@ -373,7 +373,7 @@ fn heard(core: &mut Hyp, address: u64, value: u32) {
 }
 
 /// Tells whether a hart is there.
-fn has_hart(core: &Hyp, hart: u64) -> bool
+fn has_hart(core: &Core, hart: u64) -> bool
     ensures { result ≡ nat_lt hart core.now.world.imsic.harts }
 {
     let _some = core.notices();
@@ -381,7 +381,7 @@ fn has_hart(core: &Hyp, hart: u64) -> bool
 }
 
 /// Makes targets for the harts of a machine of one or two, which has no source.
-fn no_targets(core: &Hyp) -> Option<NoTargets>
+fn no_targets(core: &Core) -> Option<NoTargets>
     ensures { IfSome result (λ targets. core.now.world.imsic.harts ≡ targets.harts) }
 {
     if !has_hart(core, 0) || has_hart(core, 2) {
@@ -392,7 +392,7 @@ fn no_targets(core: &Hyp) -> Option<NoTargets>
 }
 
 /// Moves a virtual hart, to which no source is passed.
-fn moved(core: &mut Hyp, vm: u64, number: u64, want: Want) -> Result<(), Refusal> {
+fn moved(core: &mut Core, vm: u64, number: u64, want: Want) -> Result<(), Refusal> {
     match no_targets(core) {
         Some(mut targets) => core.whole(vm, number, want, &mut targets),
         None => Err(Refusal::Fault),
@@ -400,7 +400,7 @@ fn moved(core: &mut Hyp, vm: u64, number: u64, want: Want) -> Result<(), Refusal
 }
 
 /// Makes the next step of its move.
-fn stepped(core: &mut Hyp, vm: u64, number: u64) -> Result<bool, Refusal> {
+fn stepped(core: &mut Core, vm: u64, number: u64) -> Result<bool, Refusal> {
     match no_targets(core) {
         Some(mut targets) => core.step(vm, number, &mut targets),
         None => Err(Refusal::Fault),
@@ -408,21 +408,21 @@ fn stepped(core: &mut Hyp, vm: u64, number: u64) -> Result<bool, Refusal> {
 }
 
 /// Makes VMs of this many virtual harts each.
-fn make_vms(rt: &impl Abort, core: &mut Hyp, sizes: &[u64]) {
+fn make_vms(rt: &impl Abort, core: &mut Core, sizes: &[u64]) {
     for vcpus in sizes {
         same!(*rt; core.vm(*vcpus, 0xf, 1), Ok(()); *vcpus);
     }
 }
 
 /// Moves virtual harts of a VM to guest files of hart 1.
-fn arrive(rt: &impl Abort, core: &mut Hyp, vm: u64, vcpus: u64) {
+fn arrive(rt: &impl Abort, core: &mut Core, vm: u64, vcpus: u64) {
     for number in 0..vcpus {
         same!(*rt; moved(core, vm, number, Want::Arrive(1)), Ok(()); (vm, number));
     }
 }
 
 /// Has a resident virtual hart enable identity 5, and its file signal.
-fn listens(rt: &impl Abort, core: &mut Hyp, vm: u64, number: u64) {
+fn listens(rt: &impl Abort, core: &mut Core, vm: u64, number: u64) {
     let accesses = [
         (Csr::Select, 0xc0, 0),
         (Csr::Reg, 0x20, 0),
@@ -437,7 +437,7 @@ fn listens(rt: &impl Abort, core: &mut Hyp, vm: u64, number: u64) {
 /// Virtual harts of two VMs fill the guest files of a hart; the last one signals.
 #[test]
 fn the_core_hands_out_the_last_guest_file(rt: HostRuntime) -> Result<(), Fail> {
-    let mut core = Hyp::new(rt.alloc(), 2, GUEST_FILES, 63)?;
+    let mut core = Core::new(rt.alloc(), 2, GUEST_FILES, 63)?;
     let most = u64::from(VM_VCPUS);
     make_vms(&rt, &mut core, &[most, most]);
     arrive(&rt, &mut core, 0, most);
@@ -458,7 +458,7 @@ fn the_core_hands_out_the_last_guest_file(rt: HostRuntime) -> Result<(), Fail> {
 /// notice identity.
 #[test]
 fn the_core_parks_the_last_virtual_hart_in_the_last_slot(rt: HostRuntime) -> Result<(), Fail> {
-    let mut core = Hyp::new(rt.alloc(), 2, 1, 63)?;
+    let mut core = Core::new(rt.alloc(), 2, 1, 63)?;
     let (vm, number) = (u64::from(VMS) - 1, u64::from(VM_VCPUS) - 1);
     make_vms(&rt, &mut core, &[2, 2, 2, 2, 2, 3, 3]);
     same!(rt; core.msi(vm, 0x2800_f000, 5), Err(Refusal::Range));
@@ -483,7 +483,7 @@ fn the_core_parks_the_last_virtual_hart_in_the_last_slot(rt: HostRuntime) -> Res
 /// As many VMs stand as there may be, of one virtual hart each, and no more.
 #[test]
 fn the_core_makes_no_more_vms_than_there_is_room_for(rt: HostRuntime) -> Result<(), Fail> {
-    let mut core = Hyp::new(rt.alloc(), 2, 0, 63)?;
+    let mut core = Core::new(rt.alloc(), 2, 0, 63)?;
     for vm in 0..u64::from(VMS) {
         same!(rt; core.msi(vm, 0x2800_0000, 5), Err(Refusal::Range); vm);
         same!(rt; core.vm(1, 0x1, 0), Ok(()); vm);

@@ -26,7 +26,7 @@ fn memory_keeps_its_words(rt: HostRuntime) -> Result<(), Fail> {
         (24, false),
         (usize::MAX, false),
     ] {
-        same!(rt; ram.fits(at), there; at);
+        same!(rt; ram.has_word_at(at), there; at);
     }
     same!(rt; ram.load(8), 0);
     ram.store(8, 0x0123_4567_89ab_cdef);
@@ -58,7 +58,7 @@ fn lands_last(ram: &mut Ram, value: u32) -> Stored
 
 /// Reads a word of memory, where it is there.
 fn word_at(ram: &Ram, at: usize) -> Option<u64> {
-    if ram.fits(at) {
+    if ram.has_word_at(at) {
         Some(ram.load(at))
     } else {
         None

@@ -3,7 +3,7 @@
 
 ghost use Rattle.std.specs.Prelude.{◌≡◌, ◌<◌, false, [], IfSome, refl, ⊤};
 ghost use Rattle.aia_word.specs.Sets.{has_bit};
-ghost use Rattle.aia_move.specs.Move.{IsWho, Fits, width};
+ghost use Rattle.aia_moving.specs.Move.{IsWho, MoveFits, width};
 ghost use Rattle.aia_move.specs.Plan.{moving_of, IsInPhase, MatchNext};
 ghost use Rattle.std.proofs.Common.{ap};
 ghost use Rattle.std.proofs.lemmas.Bool.{false≢true};
@@ -15,7 +15,7 @@ use aia_entry::{Entry, Route};
 use aia_fabric::{At, Fabric};
 use aia_home::Place;
 use aia_imsic::Spot;
-use aia_move::{Kept, Next, Plan, Targets, Who};
+use aia_move::{KeptNumbers, Next, Plan, Targets, Who};
 use aia_pool::{FileLease, Pool};
 use aia_regs::Op;
 use aia_regs::limits::{GUEST_FILES, HARTS};
@@ -157,19 +157,13 @@ fn topei(fabric: &Fabric) -> Option<u64> {
 }
 
 /// Finds a virtual hart, to which no source is passed.
-pub(crate) fn who_is(fabric: &Fabric, vm: u32, vcpu: u32) -> Option<Who>
+pub(crate) fn who_is(fabric: &Fabric, vm: u32, number: u32) -> Option<Who>
     ensures there { IfSome result (IsWho fabric.now) }
     ensures none_passed { IfSome result (λ who. who.passes.items ≡ []) }
-    ensures named { IfSome result (λ who. (who.vm ≡ vm) × (who.vcpu ≡ vcpu)) }
+    ensures named { IfSome result (λ who. (who.found.vm ≡ vm) × (who.found.number ≡ number)) }
 {
-    if !fabric.has_vcpu(u64::from(vm), u64::from(vcpu)) {
-        return None;
-    }
     Some(Who {
-        vm,
-        vcpu,
-        slot: fabric.slot_of(vm, vcpu),
-        notice: fabric.notice_hart(vm, vcpu),
+        found: fabric.find(u64::from(vm), u64::from(number))?,
         passes: ArrayVec::new(),
     })
 }
@@ -202,10 +196,10 @@ impl Targets for NoTargets {
 
 /// Makes the next step of a plan of a virtual hart to which no source is passed.
 pub(crate) fn steps(plan: Plan, fabric: &mut Fabric) -> Next
-    requires fits { Fits fabric.old (moving_of plan) }
+    requires fits { MoveFits fabric.old (moving_of plan) }
     requires phase { IsInPhase (width fabric.old) plan }
     requires none_passed { (moving_of plan).who.passes.items ≡ [] }
-    ensures fits { MatchNext result (λ p. Fits fabric.new (moving_of p)) (λ o. ⊤) }
+    ensures fits { MatchNext result (λ p. MoveFits fabric.new (moving_of p)) (λ o. ⊤) }
     ensures phase { MatchNext result (λ p. IsInPhase (width fabric.new) p) (λ o. ⊤) }
     ensures none_passed { MatchNext result (λ p. (moving_of p).who.passes.items ≡ []) (λ o. ⊤) }
 {
@@ -225,8 +219,8 @@ fn routes_change_when_they_are_put_in_force(rt: HostRuntime) -> Result<(), Fail>
         holds(&rt, false);
         return Ok(());
     };
-    same!(rt; (who.slot, who.notice), (1, 1));
-    fabric.put_word(0, 1, 0, 0x0a00_8407);
+    same!(rt; (who.found.slot, who.found.notice), (1, 1));
+    fabric.put_word(who.found, 0, 0x0a00_8407);
     let in_memory = Route::To(Entry::Mrif(0x8000_0200, 0x28020, 2));
     same!(rt; stores(&mut fabric, 0, 0x2800_8000, 5), Some(in_memory));
     put_in_force(&mut fabric);
@@ -241,19 +235,19 @@ fn routes_change_when_they_are_put_in_force(rt: HostRuntime) -> Result<(), Fail>
 
 /// Puts the entry of virtual hart 1 in force.
 pub(crate) fn put_in_force(fabric: &mut Fabric) {
-    if fabric.has_vcpu(0, 1) {
-        fabric.fence(0, 1);
+    if let Some(found) = fabric.find(0, 1) {
+        fabric.fence(found);
     }
 }
 
 /// Stores 7 and 8 for virtual hart 1, the one before its record is in force that names a guest
 /// file, the other after that.
 fn peers_go_by_the_record(fabric: &mut Fabric, to: Option<FileLease>) {
-    if fabric.has_vcpu(0, 1) {
-        fabric.map(0, 1, to.as_ref());
-        fabric.guest_store(0, 1, 7);
-        fabric.gfence(0, 1);
-        fabric.guest_store(0, 1, 8);
+    if let Some(found) = fabric.find(0, 1) {
+        fabric.map(found, to.as_ref());
+        fabric.guest_store(found, 7);
+        fabric.gfence(found);
+        fabric.guest_store(found, 8);
     }
 }
 
@@ -277,9 +271,9 @@ fn a_plan_makes_one_access_a_step(rt: HostRuntime) -> Result<(), Fail> {
 
 /// Writes word 0 of the entry of virtual hart 1, and puts it in force.
 fn enter(fabric: &mut Fabric, word: u64) {
-    if fabric.has_vcpu(0, 1) {
-        fabric.put_word(0, 1, 0, word);
-        fabric.fence(0, 1);
+    if let Some(found) = fabric.find(0, 1) {
+        fabric.put_word(found, 0, word);
+        fabric.fence(found);
     }
 }
 
@@ -374,7 +368,7 @@ fn goes_on(fabric: &mut Fabric, who: Who, to: FileLease) -> bool
     if to.hart() >= fabric.harts() || to.file() == 0 || to.file() > fabric.guests() {
         return false;
     }
-    let kept = Kept {
+    let kept = KeptNumbers {
         delivery: 1,
         threshold: 9,
     };

@@ -2,12 +2,12 @@
 
 ghost use Rattle.std.specs.Prelude.{◌≡◌, true, IfOk};
 ghost use Rattle.std.specs.Int.{is_in_range};
-ghost use Rattle.aia_hyp.specs.Stands.{CoreStands};
-ghost use Rattle.aia_move.specs.Targets.{AimsOne};
+ghost use Rattle.aia_standing.specs.Stands.{CoreStands};
+ghost use Rattle.aia_moving.specs.Targets.{AimsOne};
 ghost use Rattle.aia_tests.specs.PassHistories.{made, one_ready};
 
 use crate::same;
-use aia_hyp::{Hyp, Refusal};
+use aia_hyp::{Core, Refusal};
 use aia_move::Targets;
 use aia_regs::limits::FIRST_PASS_IDENTITY;
 use std::alloc::{AllocError, Global};
@@ -42,10 +42,10 @@ impl Targets for FirstSource {
 
 /// Makes the core of a machine with these sources, and a VM of one virtual hart.
 #[tactic(auto, using(crate::proofs::PassFacts::made_stands))]
-fn made_core(alloc: Global) -> Result<Hyp, AllocError>
+fn made_core(alloc: Global) -> Result<Core, AllocError>
     ensures { IfOk result (λ core. CoreStands core made) }
 {
-    let mut core = Hyp::new(alloc, 1, 1, 63)?;
+    let mut core = Core::new(alloc, 1, 1, 63)?;
     let _made = core.vm(1, 8, 0);
     Ok(core)
 }

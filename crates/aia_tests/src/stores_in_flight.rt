@@ -2,7 +2,7 @@
 
 ghost use Rattle.std.specs.Prelude.{◌≡◌, false, []};
 ghost use Rattle.aia_word.specs.Sets.{has_bit};
-ghost use Rattle.aia_move.specs.Move.{IsWho};
+ghost use Rattle.aia_moving.specs.Move.{IsWho};
 
 use crate::fabric::{pending, stores};
 use crate::looks::holds;
@@ -10,7 +10,7 @@ use crate::moves::{one_vm, put_in_force, steps, who_is};
 use crate::same;
 use aia_entry::{Entry, Route};
 use aia_fabric::{At, Fabric};
-use aia_move::{Kept, Next, Plan, Who};
+use aia_move::{KeptNumbers, Next, Plan, Who};
 use aia_pool::{FileLease, Pool};
 use aia_regs::Op;
 use aia_regs::limits::STORES_IN_FLIGHT;
@@ -48,15 +48,15 @@ fn lands(fabric: &mut Fabric, vm: u32, k: usize) -> bool {
 
 /// Writes word 0 of the entry of virtual hart 1: it names guest file 1 of hart 1.
 fn name_the_file(fabric: &mut Fabric) {
-    if fabric.has_vcpu(0, 1) {
-        fabric.put_word(0, 1, 0, 0x0a00_8407);
+    if let Some(found) = fabric.find(0, 1) {
+        fabric.put_word(found, 0, 0x0a00_8407);
     }
 }
 
 /// Reads the entry of a virtual hart again, where it is there.
-fn read_again(fabric: &mut Fabric, vcpu: u32) {
-    if fabric.has_vcpu(0, u64::from(vcpu)) {
-        fabric.refetch(0, vcpu);
+fn read_again(fabric: &mut Fabric, number: u32) {
+    if let Some(found) = fabric.find(0, u64::from(number)) {
+        fabric.refetch(found);
     }
 }
 
@@ -137,7 +137,7 @@ fn fences(fabric: &mut Fabric, who: Who, to: FileLease) -> bool
     if to.hart() >= fabric.harts() || to.file() == 0 || to.file() > fabric.guests() {
         return false;
     }
-    let kept = Kept {
+    let kept = KeptNumbers {
         delivery: 1,
         threshold: 9,
     };

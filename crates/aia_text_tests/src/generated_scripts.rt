@@ -2,7 +2,7 @@
 
 use crate::same;
 use aia_generate::{Tally, generate, generated_lines, lcg, summary};
-use aia_model::{Answer, Line, Refusal};
+use aia_model::{Answer, Line, Refusal, Want};
 use aia_regs::{Csr, Op};
 use arrayvec::ArrayVec;
 use std::process::Abort;
@@ -44,10 +44,10 @@ fn the_head_is_always_the_same(rt: HostRuntime) {
         mask: 0x38,
         hart: 1,
     };
-    let arrival = Line::Arrive {
+    let arrival = Line::Move {
         vm: 1,
         vcpu: 0,
-        hart: 1,
+        want: Want::Arrive(1),
     };
     same!(rt; generate(0, 1), machine);
     same!(rt; generate(u64::MAX, 1), machine);
@@ -59,6 +59,13 @@ fn the_head_is_always_the_same(rt: HostRuntime) {
     same!(rt; generate(0, 27), host(0, Csr::Reg, 1));
     same!(rt; generate(0, 31), host(1, Csr::Reg, 1));
 }
+
+/// A leave that begins.
+const LEAVE: Line = Line::Begin {
+    vm: 1,
+    vcpu: 0,
+    want: Want::Leave,
+};
 
 /// Looks at the line that a number draws whose bits from 33 on are these, the others being ones.
 fn draws(rt: &impl Abort, bits: u64, want: Line) {
@@ -78,38 +85,38 @@ fn a_number_draws_a_line(rt: HostRuntime) {
         to: 0,
         value: 63,
     };
-    let arrival = Line::BeginArrive {
+    let arrival = Line::Begin {
         vm: 0,
         vcpu: 1,
-        hart: 1,
+        want: Want::Arrive(1),
     };
     draws(&rt, 80 * 5 + 20 + 10, msi);
     draws(&rt, 80 * 69 + 20 + 10 + 1, msi);
     draws(&rt, 10 + 2, guest(1, 0, Csr::Topei, 0));
     draws(&rt, 80 * 63 + 20 + 3, ipi);
-    draws(&rt, 10 + 4, Line::BeginLeave { vm: 1, vcpu: 0 });
+    draws(&rt, 10 + 4, LEAVE);
     draws(&rt, 40 + 20 + 5, arrival);
     draws(&rt, 20 + 10 + 6, Line::Step { vm: 1, vcpu: 1 });
     draws(&rt, 7, Line::Step { vm: 0, vcpu: 0 });
     draws(&rt, 8, Line::Step { vm: 0, vcpu: 0 });
     draws(&rt, 40 + 9, host(1, Csr::Topei, 0));
     same!(rt; generate(lcg(0), 32), Line::Step { vm: 0, vcpu: 0 });
-    same!(rt; generate(lcg(1), 32), Line::BeginLeave { vm: 1, vcpu: 0 });
+    same!(rt; generate(lcg(1), 32), LEAVE);
 }
 
 #[test]
 fn a_script_has_its_head_and_its_body(rt: HostRuntime) {
-    let last = Line::BeginArrive {
+    let last = Line::Begin {
         vm: 0,
         vcpu: 0,
-        hart: 1,
+        want: Want::Arrive(1),
     };
     same!(rt; generated_lines(0, 7).last(), Some(host(1, Csr::Reg, 1)));
     same!(rt; generated_lines(0, 7).nth(31), None);
     same!(rt; generated_lines(5, 0).nth(31), Some(Line::Step { vm: 0, vcpu: 0 }));
     same!(rt; generated_lines(5, 0).nth(35), Some(last));
     same!(rt; generated_lines(5, 0).nth(36), None);
-    same!(rt; generated_lines(u64::MAX, 1).nth(31), Some(Line::BeginLeave { vm: 1, vcpu: 0 }));
+    same!(rt; generated_lines(u64::MAX, 1).nth(31), Some(LEAVE));
 }
 
 /// Counts lines that all answer the same.

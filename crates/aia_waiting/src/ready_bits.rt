@@ -1,7 +1,7 @@
 ghost use Rattle.std.specs.Prelude.{◌≡◌, ℕ, ◌*◌, ◌<◌, ◌≤◌, ◌/◌, ◌↔◌, Bool, false, length, nat_eq, if◌then◌else◌, IsTrue};
 ghost use Rattle.aia_word.specs.Sets.{is_in, word_of};
 ghost use Rattle.aia_regs.specs.declared.limits.TheConstants.{SOURCES, SOURCE_WORDS};
-ghost use Rattle.aia_waiting.specs.Ready.{Tells, TellsAllBut};
+ghost use Rattle.aia_word.specs.Summary.{Summarizes, SummarizesAllBut};
 
 use aia_regs::limits::SOURCE_WORDS;
 use aia_word::sets;
@@ -20,13 +20,13 @@ impl Model for ReadyBits {
     ghost use Rattle.std.specs.Prelude.{◌≡◌, ℕ, List, length};
     ghost use Rattle.aia_regs.specs.declared.limits.TheConstants.{SOURCE_WORDS};
     ghost use Rattle.aia_word.specs.Sets.{is_in};
-    ghost use Rattle.aia_waiting.specs.Ready.{Tells};
+    ghost use Rattle.aia_word.specs.Summary.{Summarizes};
 
     ghost Value = { List ℕ };
 
     ghost view = { λ r. r.words };
 
-    ghost invariant = { λ r. (length r.words ≡ SOURCE_WORDS) × Tells r.summary (is_in r.words) };
+    ghost invariant = { λ r. (length r.words ≡ SOURCE_WORDS) × Summarizes r.summary (is_in r.words) };
 }
 
 impl ReadyBits {
@@ -54,7 +54,7 @@ impl ReadyBits {
         ensures { (t : ℕ) → is_in self.new t ≡ (if nat_eq s t then ready else is_in self.old t) }
     {
         put(&mut self.words, s, ready);
-        self.summary = told(self.summary, &self.words, s / 64);
+        self.summary = refreshed(self.summary, &self.words, s / 64);
     }
 
     /// Takes all sources out.
@@ -69,14 +69,14 @@ impl ReadyBits {
     pub fn is_empty(&self) -> bool
         ensures { IsTrue result ↔ ((s : ℕ) → is_in self.now s ≡ false) }
     {
-        tells_of_none(self.summary, &self.words)
+        shows_none(self.summary, &self.words)
     }
 }
 
 /// Tells whether no source is in the set that words show, by their summary.
-fn tells_of_none(summary: u64, words: &[u64]) -> bool
+fn shows_none(summary: u64, words: &[u64]) -> bool
     requires words { length words.now ≡ SOURCE_WORDS }
-    requires tells { Tells summary (is_in words.now) }
+    requires summary { Summarizes summary (is_in words.now) }
     ensures { IsTrue result ↔ ((s : ℕ) → is_in words.now s ≡ false) }
 {
     summary == 0
@@ -95,15 +95,10 @@ fn put(words: &mut [u64], s: u32, ready: bool)
 }
 
 /// Gives the summary of the words, where all its bits but `k` tell of them already.
-#[tactic(auto, using(crate::proofs::WordLemmas::word_lemmas))]
-fn told(summary: u64, words: &[u64], k: u32) -> u64
+fn refreshed(summary: u64, words: &[u64], k: u32) -> u64
     requires word { k < SOURCE_WORDS }
-    requires others { TellsAllBut k summary (is_in words.now) }
-    ensures { Tells result (is_in words.now) }
+    requires others { SummarizesAllBut k summary (is_in words.now) }
+    ensures { Summarizes result (is_in words.now) }
 {
-    if sets::word(words, k as usize) == 0 {
-        summary & !(1 << k)
-    } else {
-        summary | (1 << k)
-    }
+    aia_word::refreshed(summary, k, sets::word(words, k as usize))
 }

@@ -7,6 +7,7 @@ use crate::looks::{holds, is_same};
 use crate::same;
 use aia_aplic::{Aplic, Bits, Msi, bits_search};
 use aia_domain::Domain;
+use aia_model::DomainName;
 use aia_regs::DomainReg;
 use aia_steps::Steps;
 use std::alloc::{AllocError, Global};
@@ -18,29 +19,25 @@ use std::test::Fail;
 /// Stores values at offsets of the root domain.
 fn root_stores(aplic: &mut Aplic, stores: &[(u32, u32)]) {
     for (offset, value) in stores {
-        aplic.store(0, *offset, *value);
+        aplic.store(DomainName::Root, *offset, *value);
     }
 }
 
 /// Stores values at offsets of the child domain.
 fn child_stores(aplic: &mut Aplic, stores: &[(u32, u32)]) {
     for (offset, value) in stores {
-        aplic.store(1, *offset, *value);
+        aplic.store(DomainName::Child, *offset, *value);
     }
 }
 
 /// Loads from an offset of a domain.
-fn loads(aplic: &mut Aplic, domain: u32, offset: u32) -> u32
-    requires { domain ≤ 1 }
-{
-    aplic.load(domain, offset)
+fn loads(aplic: &mut Aplic, name: DomainName, offset: u32) -> u32 {
+    aplic.load(name, offset)
 }
 
 /// Tells whether a domain signals a hart.
-fn signals(aplic: &Aplic, domain: u32, hart: u32) -> bool
-    requires { domain ≤ 1 }
-{
-    aplic.pin(domain, hart)
+fn signals(aplic: &Aplic, name: DomainName, hart: u32) -> bool {
+    aplic.pin(name, hart)
 }
 
 /// Sends what waits first.
@@ -57,41 +54,42 @@ fn a_child_signals_the_hart_that_a_source_is_aimed_at(rt: HostRuntime) -> Result
         &mut aplic,
         &[(0x0004, 7), (0x1edc, 1), (0x3004, 0x0004_0003)],
     );
-    same!(rt; loads(&mut aplic, 1, 0x4038), 0x0001_0003);
-    holds(&rt, !signals(&aplic, 1, 1));
+    same!(rt; loads(&mut aplic, DomainName::Child, 0x4038), 0x0001_0003);
+    holds(&rt, !signals(&aplic, DomainName::Child, 1));
     child_stores(&mut aplic, &[(0x0000, 0x100), (0x4020, 1)]);
-    holds(&rt, signals(&aplic, 1, 1));
-    holds(&rt, !signals(&aplic, 1, 0));
-    holds(&rt, !signals(&aplic, 0, 1));
+    holds(&rt, signals(&aplic, DomainName::Child, 1));
+    holds(&rt, !signals(&aplic, DomainName::Child, 0));
+    holds(&rt, !signals(&aplic, DomainName::Root, 1));
     Ok(())
 }
 
 /// The sources that two domains are to forward, looked at from outside.
 #[derive(Drop)]
 struct SourcesOf<'a, L: Ledger> {
-    first: &'a Domain,
-    second: &'a Domain,
+    root: &'a Domain,
+    child: &'a Domain,
     steps: &'a mut Steps<L>,
 }
 
 impl<L: Ledger> Bits for SourcesOf<'_, L> {
-    ghost use Rattle.std.specs.Prelude.{◌≡◌, ◌+◌, if◌then◌else◌, nat_eq};
+    ghost use Rattle.std.specs.Prelude.{◌≡◌, ◌+◌, if◌then◌else◌};
     ghost use Rattle.std.proofs.Common.{◌∙◌, refl};
     ghost use Rattle.aia_domain.specs.Domain.{is_ready};
+    ghost use Rattle.aia_model.specs.Act.{is_domain};
+    ghost use Rattle.aia_model.specs.declared.domain_name.DomainName.TheVariants.{Root};
 
-    ghost members = { λ v domain.
-        is_ready (if nat_eq domain 0 then v.first.now else v.second.now) };
+    ghost members = { λ v name.
+        is_ready (if is_domain name Root then v.root.now else v.child.now) };
 
     ghost count = { λ v. v.steps.now };
 
     ghost IsSamePlace = { λ v w. w.steps.ghost_name ≡ v.steps.ghost_name };
 
-    fn word(&mut self, domain: u32, k: u32) -> u64 {
+    fn word(&mut self, name: DomainName, k: u32) -> u64 {
         self.steps.count_one();
-        if domain == 0 {
-            self.first.ready_word(k)
-        } else {
-            self.second.ready_word(k)
+        match name {
+            DomainName::Root => self.root.ready_word(k),
+            DomainName::Child => self.child.ready_word(k),
         }
     }
 
@@ -115,15 +113,11 @@ fn forwards(alloc: Global, s: u32) -> Result<Domain, AllocError>
 
 /// Searches the sources of two domains.
 fn first_of<L: Ledger>(
-    first: &Domain,
-    second: &Domain,
+    root: &Domain,
+    child: &Domain,
     steps: &mut Steps<L>,
-) -> Option<(u32, u32)> {
-    let mut bits = SourcesOf {
-        first,
-        second,
-        steps,
-    };
+) -> Option<(DomainName, u32)> {
+    let mut bits = SourcesOf { root, child, steps };
     bits_search(&mut bits)
 }
 
@@ -140,8 +134,16 @@ fn searches<L: Ledger>(
     requires some { 0 < L.parts }
 {
     let mut steps = Steps::<L>::new(blank);
-    is_same(rt, first_of(of_1023, of_70, &mut steps), Some((1, 70)));
-    is_same(rt, first_of(of_1023, of_1023, &mut steps), Some((0, 1023)));
+    is_same(
+        rt,
+        first_of(of_1023, of_70, &mut steps),
+        Some((DomainName::Child, 70)),
+    );
+    is_same(
+        rt,
+        first_of(of_1023, of_1023, &mut steps),
+        Some((DomainName::Root, 1023)),
+    );
     is_same(rt, first_of(none, none, &mut steps), None);
 }
 
@@ -211,7 +213,7 @@ fn msis_are_sent_until_none_waits(rt: HostRuntime) -> Result<(), Fail> {
     };
     same!(rt; sends(&mut aplic), Some(msi));
     same!(rt; sends(&mut aplic), None);
-    same!(rt; loads(&mut aplic, 0, 0x1c00), 0);
+    same!(rt; loads(&mut aplic, DomainName::Root, 0x1c00), 0);
     Ok(())
 }
 
@@ -222,7 +224,7 @@ fn aimed(aplic: &mut Aplic, s: u32, hart: u32, guest: u32, identity: u32) -> u32
     requires identity { identity ≤ IDENTITIES }
 {
     aplic.aim(s, hart, guest, identity);
-    aplic.load(1, 0x3004)
+    aplic.load(DomainName::Child, 0x3004)
 }
 
 #[test]

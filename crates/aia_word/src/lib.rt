@@ -10,7 +10,9 @@ mod bits;
 pub mod laws;
 mod packed;
 pub mod sets;
+mod summary;
 
 pub use bank::Bank;
 pub use bits::least_one;
 pub use packed::{deposit, extract};
+pub use summary::refreshed;

@@ -85,22 +85,22 @@ follows_whole producers terms plan run =
     follows_end producers terms plan run (trace_upto run terms plan (length plan)) (unsent_upto run terms plan (length plan)) (follows_upto producers terms plan run (length plan) (omega arith))
 
 -- What is found, if anything is, has a property.
-abbrev pub Holds : {A : Type 0} → (A → Type 0) → Option A → Type 0
-Holds {A} P found = (x : A) → found ≡ Some x → P x
+abbrev pub IfFound : {A : Type 0} → (A → Type 0) → Option A → Type 0
+IfFound {A} P found = (x : A) → found ≡ Some x → P x
 
 pub some_inj : {A : Type 0} (a b : A) → Some a ≡ Some b → a ≡ b
 some_inj a b e = cc
 
-pub either : {A : Type 0} (P : A → Type 0) (a b : Option A) → Holds P a → Holds P b → Holds P (or_else a b)
+pub either : {A : Type 0} (P : A → Type 0) (a b : Option A) → IfFound P a → IfFound P b → IfFound P (or_else a b)
 either P None b h g = g
 either P (Some y) b h g = h
 
-pub first : {A : Type 0} (P : A → Type 0) (found : ℕ → Option A) (from count : ℕ) → ((k : ℕ) → Holds P (found k)) → Holds P (first_of found from count)
+pub first : {A : Type 0} (P : A → Type 0) (found : ℕ → Option A) (from count : ℕ) → ((k : ℕ) → IfFound P (found k)) → IfFound P (first_of found from count)
 unfolding first_of
 first P found from zero h = λ x e. absurd (cc)
 first P found from (suc count) h = either P (found from) (first_of found (suc from) count) (h from) (first P found (suc from) count h)
 
-tried_loses : (producers : List Kind) (terms : Terms) (plan : List Step) (run : Run) → Holds (Loses (setting_of producers terms) plan) (tried producers terms plan run)
+tried_loses : (producers : List Kind) (terms : Terms) (plan : List Step) (run : Run) → IfFound (Loses (setting_of producers terms) plan) (tried producers terms plan run)
 unfolding tried
 tried_loses producers terms plan run = λ x e. by_test (can_be run terms producers && is_bad_end run terms (length producers) (trace_end run terms plan)) refl x e
   where
@@ -110,29 +110,29 @@ tried_loses producers terms plan run = λ x e. by_test (can_be run terms produce
         subst (Loses (setting_of producers terms) plan) (some_inj run x e)
         (it_loses producers terms plan run (trace_end run terms plan) (and_left _ _ is) (follows_end producers terms plan run (trace_upto run terms plan (length plan)) (unsent_upto run terms plan (length plan)) (follows_upto producers terms plan run (length plan) (omega arith))) (and_right (can_be run terms producers) _ is))
 
-without_loses : (producers : List Kind) (terms : Terms) (plan : List Step) (case : Case) → Holds (Loses (setting_of producers terms) plan) (without_store producers terms plan case)
+without_loses : (producers : List Kind) (terms : Terms) (plan : List Step) (case : Case) → IfFound (Loses (setting_of producers terms) plan) (without_store producers terms plan case)
 unfolding without_store
 without_loses producers terms plan case = either _ _ _ (tried_loses producers terms plan _) (either _ _ _ (tried_loses producers terms plan _) (tried_loses producers terms plan _))
 
-with_loses : (producers : List Kind) (terms : Terms) (plan : List Step) (case : Case) (before : ℕ) → Holds (Loses (setting_of producers terms) plan) (with_store producers terms plan case before)
+with_loses : (producers : List Kind) (terms : Terms) (plan : List Step) (case : Case) (before : ℕ) → IfFound (Loses (setting_of producers terms) plan) (with_store producers terms plan case before)
 unfolding with_store
 with_loses producers terms plan case before =
     either _ _ _ (tried_loses producers terms plan _) (either _ _ _ (tried_loses producers terms plan _) (tried_loses producers terms plan _))
 
-flight_loses : (producers : List Kind) (terms : Terms) (plan : List Step) (case : Case) (before : ℕ) → Holds (Loses (setting_of producers terms) plan) (with_flight producers terms plan case before)
+flight_loses : (producers : List Kind) (terms : Terms) (plan : List Step) (case : Case) (before : ℕ) → IfFound (Loses (setting_of producers terms) plan) (with_flight producers terms plan case before)
 unfolding with_flight
 flight_loses producers terms plan case before = tried_loses producers terms plan _
 
-quiet_loses : (producers : List Kind) (terms : Terms) (plan : List Step) (word : ℕ) → Holds (Loses (setting_of producers terms) plan) (quiet_word producers terms plan word)
+quiet_loses : (producers : List Kind) (terms : Terms) (plan : List Step) (word : ℕ) → IfFound (Loses (setting_of producers terms) plan) (quiet_word producers terms plan word)
 unfolding quiet_word
 quiet_loses producers terms plan word = either _ _ _ (without_loses producers terms plan _) (without_loses producers terms plan _)
 
-producer_loses : (producers : List Kind) (terms : Terms) (plan : List Step) (word producer : ℕ) → Holds (Loses (setting_of producers terms) plan) (by_producer producers terms plan word producer)
+producer_loses : (producers : List Kind) (terms : Terms) (plan : List Step) (word producer : ℕ) → IfFound (Loses (setting_of producers terms) plan) (by_producer producers terms plan word producer)
 unfolding by_producer
 producer_loses producers terms plan word producer =
     either _ _ _ (first _ _ 0 (length plan) (λ k. with_loses producers terms plan _ k)) (either _ _ _ (with_loses producers terms plan _ _) (either _ _ _ (with_loses producers terms plan _ _) (either _ _ _ (first _ _ 0 (length plan) (λ k. flight_loses producers terms plan _ k)) (without_loses producers terms plan _))))
 
-stored_loses : (producers : List Kind) (terms : Terms) (plan : List Step) (word : ℕ) → Holds (Loses (setting_of producers terms) plan) (stored_word producers terms plan word)
+stored_loses : (producers : List Kind) (terms : Terms) (plan : List Step) (word : ℕ) → IfFound (Loses (setting_of producers terms) plan) (stored_word producers terms plan word)
 unfolding stored_word
 stored_loses producers terms plan word = first _ _ 0 (length producers) (λ p. producer_loses producers terms plan word p)
 

@@ -28,7 +28,7 @@ use Rattle.plans_run.specs.Run.{by_of, extra_at, run_upto, step_at}
 use Rattle.plans_run.specs.Untold.{IsAlone, IsWatched, LeavesUntold, can_come, can_store, enabled_bit, extra_of, is_unstored, is_untold, pending_bit, producer_of, run_in, sees, tells, untold_end, untold_start, watch_after, watch_begun, watch_end, watch_extra, watch_landed, watch_out, watch_route, watch_stepped, watch_upto}
 use Rattle.plans_run.proofs.FollowLemmas.{follows_landed, follows_step}
 use Rattle.plans_run.proofs.RunLemmas.{MayStore, all_happened-append, below_is, happens_well, true_false}
-use Rattle.plans_run.proofs.FoundLemmas.{Holds, either, first, some_inj}
+use Rattle.plans_run.proofs.FoundLemmas.{IfFound, either, first, some_inj}
 use Rattle.plans_run.proofs.OutLemmas.{any_same, lets_same, out_same, word_same}
 
 and_false : (a b : Bool) → b ≡ false → (a && b) ≡ false
@@ -238,7 +238,7 @@ inside_of producers terms u can = below_is (u.identity / 64) terms.words (and_le
 
 -- ---- what is found
 
-tried_leaves : (producers : List Kind) (terms : Terms) (plan : List Step) (u : UntoldRun) → Holds (LeavesUntold (setting_of producers terms) plan) (tried_untold producers terms plan u)
+tried_leaves : (producers : List Kind) (terms : Terms) (plan : List Step) (u : UntoldRun) → IfFound (LeavesUntold (setting_of producers terms) plan) (tried_untold producers terms plan u)
 unfolding tried_untold
 tried_leaves producers terms plan u = λ x e. by_test (can_come u terms producers && is_untold terms u (watch_end terms plan u)) refl x e
   where
@@ -249,28 +249,28 @@ tried_leaves producers terms plan u = λ x e. by_test (can_come u terms producer
         subst (LeavesUntold (setting_of producers terms) plan) (some_inj u x e)
         (it_leaves_untold producers terms plan u (watch_end terms plan u) can (watched_whole producers terms plan u (inside_of producers terms u can)) (and_right (can_come u terms producers) _ is))
 
-delivery_leaves : (producers : List Kind) (terms : Terms) (plan : List Step) (word : ℕ) (store : Option Store) (delivery : Spot) → Holds (LeavesUntold (setting_of producers terms) plan) (with_delivery producers terms plan word store delivery)
+delivery_leaves : (producers : List Kind) (terms : Terms) (plan : List Step) (word : ℕ) (store : Option Store) (delivery : Spot) → IfFound (LeavesUntold (setting_of producers terms) plan) (with_delivery producers terms plan word store delivery)
 unfolding with_delivery
 delivery_leaves producers terms plan word store delivery =
     either _ _ _ (tried_leaves producers terms plan _) (either _ _ _ (tried_leaves producers terms plan _) (either _ _ _ (tried_leaves producers terms plan _) (tried_leaves producers terms plan _)))
 
-numbers_leave : (producers : List Kind) (terms : Terms) (plan : List Step) (word : ℕ) (store : Option Store) → Holds (LeavesUntold (setting_of producers terms) plan) (with_numbers producers terms plan word store)
+numbers_leave : (producers : List Kind) (terms : Terms) (plan : List Step) (word : ℕ) (store : Option Store) → IfFound (LeavesUntold (setting_of producers terms) plan) (with_numbers producers terms plan word store)
 unfolding with_numbers
 numbers_leave producers terms plan word store = by_test terms.heeds
   where
-    by_test : (b : Bool) → Holds (LeavesUntold (setting_of producers terms) plan) (if b then or_else (with_delivery producers terms plan word store InOld) (or_else (with_delivery producers terms plan word store InHand) (with_delivery producers terms plan word store InNew)) else tried_untold producers terms plan (untold_of word store InOld (Some InOld)))
+    by_test : (b : Bool) → IfFound (LeavesUntold (setting_of producers terms) plan) (if b then or_else (with_delivery producers terms plan word store InOld) (or_else (with_delivery producers terms plan word store InHand) (with_delivery producers terms plan word store InNew)) else tried_untold producers terms plan (untold_of word store InOld (Some InOld)))
     by_test true = either _ _ _ (delivery_leaves producers terms plan word store InOld) (either _ _ _ (delivery_leaves producers terms plan word store InHand) (delivery_leaves producers terms plan word store InNew))
     by_test false = tried_leaves producers terms plan _
 
-before_leaves : (producers : List Kind) (terms : Terms) (plan : List Step) (word producer before : ℕ) → Holds (LeavesUntold (setting_of producers terms) plan) (stored_before producers terms plan word producer before)
+before_leaves : (producers : List Kind) (terms : Terms) (plan : List Step) (word producer before : ℕ) → IfFound (LeavesUntold (setting_of producers terms) plan) (stored_before producers terms plan word producer before)
 unfolding stored_before
 before_leaves producers terms plan word producer before = either _ _ _ (numbers_leave producers terms plan word _) (numbers_leave producers terms plan word _)
 
-by_leaves : (producers : List Kind) (terms : Terms) (plan : List Step) (word producer : ℕ) → Holds (LeavesUntold (setting_of producers terms) plan) (stored_by producers terms plan word producer)
+by_leaves : (producers : List Kind) (terms : Terms) (plan : List Step) (word producer : ℕ) → IfFound (LeavesUntold (setting_of producers terms) plan) (stored_by producers terms plan word producer)
 unfolding stored_by
 by_leaves producers terms plan word producer = first _ _ 0 (length plan) (λ k. before_leaves producers terms plan word producer k)
 
-word_leaves : (producers : List Kind) (terms : Terms) (plan : List Step) (word : ℕ) → Holds (LeavesUntold (setting_of producers terms) plan) (untold_word producers terms plan word)
+word_leaves : (producers : List Kind) (terms : Terms) (plan : List Step) (word : ℕ) → IfFound (LeavesUntold (setting_of producers terms) plan) (untold_word producers terms plan word)
 unfolding untold_word
 word_leaves producers terms plan word = either _ _ _ (numbers_leave producers terms plan word None) (first _ _ 0 (length producers) (λ p. by_leaves producers terms plan word p))
 

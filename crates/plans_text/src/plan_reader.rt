@@ -31,7 +31,7 @@ impl PlanReader {
     }
 
     /// Reads the line that ends with a part. `Err`: there is no memory for it.
-    fn end_line(&mut self, alloc: Global, part: &[u8]) -> Result<(), AllocError>
+    fn read_line(&mut self, alloc: Global, part: &[u8]) -> Result<(), AllocError>
         requires inside { AreInFile self.old.file.draft }
         requires room { self.old.file.lines < 2 ^ 64 - 1 }
         ensures read { OnOk result (NoEnd part.now → WhateverWasRead self.old
@@ -54,7 +54,7 @@ impl PlanReader {
     {
         let mut left = piece;
         while let Some(end) = place_of(left, b'\n') {
-            self.end_line(alloc, &left[..end])?;
+            self.read_line(alloc, &left[..end])?;
             left = &left[end + 1..];
         }
         self.rest.extend_from_slice(left)

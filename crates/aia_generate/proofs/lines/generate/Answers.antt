@@ -1,6 +1,6 @@
 use Rattle.std.proofs.Common.{◌≡◌, sym, ap, subst, ◌∙◌, Option, unwrap_or}
 use Rattle.aia_model.specs.declared.line.Line.{Line}
-use Rattle.aia_model.specs.Grammar.{IsListed}
+use Rattle.aia_model.specs.Forms.{IsListed}
 use Rattle.aia_generate.specs.Generated.{line_at, line_drawn}
 use Rattle.aia_generate.proofs.LineLemmas.{line_at-place, line_at-listed}
 use Rattle.aia_generate.proofs.lines.generate.Goals as goal

@@ -1,5 +1,5 @@
 use Rattle.std.proofs.Common.{◌≡◌}
-use Rattle.aia_move.specs.Touches.{SameMachine}
+use Rattle.aia_moving.specs.Touches.{SameMachine}
 use Rattle.aia_rehearsal.proofs.tests.rehearse.Given as goal
 
 abbrev pub invariant-loop-k : goal.invariant-loop-k

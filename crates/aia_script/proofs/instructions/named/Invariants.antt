@@ -1,5 +1,5 @@
 use Rattle.std.proofs.Common.{◌≡◌, map, drop}
-use Rattle.aia_model.specs.Reading.{row_of, named}
+use Rattle.aia_model.specs.Grammar.{row_of, named}
 use Rattle.aia_script.proofs.instructions.named.Given as goal
 
 abbrev pub invariant-loop-name : goal.invariant-loop-name

@@ -1,5 +1,5 @@
 use Rattle.std.proofs.Common.{◌≡◌, map, drop}
-use Rattle.aia_model.specs.Reading.{row_of}
+use Rattle.aia_model.specs.Grammar.{row_of}
 use Rattle.aia_script.specs.StepForm.{form_of}
 use Rattle.aia_script.specs.StepText.{step_forms}
 use Rattle.aia_script.proofs.steps.named.Given as goal

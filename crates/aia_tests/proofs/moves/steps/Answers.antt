@@ -1,6 +1,6 @@
 use Rattle.std.proofs.Common.{sym, subst}
 use Rattle.aia_move.specs.Plan.{moving_of}
-use Rattle.aia_move.specs.Targets.{next_aim}
+use Rattle.aia_moving.specs.Targets.{next_aim}
 use Rattle.aia_tests.proofs.PlanFacts.{none_still}
 use Rattle.aia_tests.proofs.moves.steps.Goals as goal
 

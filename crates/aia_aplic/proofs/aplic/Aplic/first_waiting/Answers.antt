@@ -1,8 +1,10 @@
-use Rattle.std.proofs.Common.{sym, subst, ◌∙◌}
+use Rattle.std.proofs.Common.{Option, sym, subst, ◌∙◌}
+use Rattle.aia_model.specs.declared.sender.Sender.{Sender}
 use Rattle.aia_domain.specs.Domain.{is_ready}
-use Rattle.aia_aplic.specs.Aplic.{AplicState, AplicStands}
-use Rattle.aia_aplic.specs.Sending.{IsFirstSource}
-use Rattle.aia_aplic.proofs.FirstLemmas.{root_genmsi_first, child_genmsi_first, source_first}
+use Rattle.aia_wiring.specs.Aplic.{AplicState, AplicStands}
+use Rattle.aia_wiring.specs.Bits.{IsFirstSource}
+use Rattle.aia_wiring.specs.Sending.{IsFirst}
+use Rattle.aia_wiring.proofs.FirstLemmas.{root_genmsi_first, child_genmsi_first, source_first}
 use Rattle.aia_aplic.proofs.aplic.Aplic.first_waiting.Goals as goal
 
 pub returns-then-genmsi_waits-clause-first : goal.returns-then-genmsi_waits-clause-first
@@ -17,6 +19,6 @@ returns-then-genmsi_waits-2-clause-first g c = λ past stands.
 
 pub returns-clause-first : goal.returns-clause-first
 returns-clause-first g c = λ past stands.
-    source_first (record { root = c.self.inside.root; child = c.self.inside.child; addresses = c.self.inside.addresses }) past c.first_source.result (sym c.genmsi_waits.ensures ∙ c.if-genmsi_waits.false) (sym c.genmsi_waits-2.ensures ∙ c.if-genmsi_waits-2.false)
+    subst (λ (w : Option Sender). IsFirst w past) (sym c.sender_of.ensures) (source_first (record { root = c.self.inside.root; child = c.self.inside.child; addresses = c.self.inside.addresses }) past c.first_source.result (sym c.genmsi_waits.ensures ∙ c.if-genmsi_waits.false) (sym c.genmsi_waits-2.ensures ∙ c.if-genmsi_waits-2.false)
     (subst (λ (a : AplicState). IsFirstSource (is_ready a.root.domain) (is_ready a.child.domain) c.first_source.result) (sym c.self.view_is) c.first_source.ensures.first)
-    (subst (λ (a : AplicState). AplicStands a past) (sym c.self.view_is) stands)
+    (subst (λ (a : AplicState). AplicStands a past) (sym c.self.view_is) stands))

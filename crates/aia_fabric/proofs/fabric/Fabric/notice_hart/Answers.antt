@@ -1,6 +1,6 @@
 use Rattle.std.proofs.Common.{sym, arith}
 use Rattle.aia_home.specs.Vms.{vcpu}
-use Rattle.aia_fabric.proofs.WholeLemmas.{notice_hart_there}
+use Rattle.aia_world.proofs.WholeLemmas.{notice_hart_there}
 use Rattle.aia_fabric.proofs.fabric.Fabric.notice_hart.Goals as goal
 
 pub returns-clause-value : goal.returns-clause-value

@@ -2,17 +2,17 @@ use Rattle.std.proofs.Common.{◌≡◌, true, refl, sym, ap, ◌∙◌, subst, 
 use Rattle.aia_home.specs.Home.Home.{Leaving}
 use Rattle.aia_home.specs.Plans.{steps_done, leave_step}
 use Rattle.aia_home.specs.Plans.Access.{TakeDelivery, WriteNotice, WriteEntry, Fence}
-use Rattle.aia_move.specs.Move.{Moving, old_spot, width}
+use Rattle.aia_moving.specs.Move.{Moving, old_spot, width}
 use Rattle.aia_home.specs.Phases.Phase.{FirstPhase}
-use Rattle.aia_move.specs.Turns.{IsIn}
-use Rattle.aia_move.specs.Load.{moving}
+use Rattle.aia_moving.specs.Turns.{IsIn}
+use Rattle.aia_moving.specs.Carrier.{moving}
 use Rattle.std.proofs.lemmas.Bool.{eq-eqb, ne_eqb}
 use Rattle.aia_home.specs.Routes.{is_at_fence}
-use Rattle.aia_fabric.specs.Flights.{Fences}
-use Rattle.aia_fabric.specs.Changes.{with_fence}
+use Rattle.aia_world.specs.Flights.{Fences}
+use Rattle.aia_world.specs.Changes.{with_fence}
 use Rattle.aia_move.proofs.MachineLemmas.{fits_still}
-use Rattle.aia_move.proofs.LandingLemmas.{all_first, none_lands}
-use Rattle.aia_move.proofs.StepLemmas.{step_before}
+use Rattle.aia_moving.proofs.LandingLemmas.{all_first, none_lands}
+use Rattle.aia_moving.proofs.StepLemmas.{step_before}
 use Rattle.aia_move.proofs.leave.Leave+P.begin.Goals as goal
 
 pub returns-in-0 : goal.returns-in-0
@@ -51,11 +51,11 @@ returns-in_default g c =
     let here : l.carrier.steps ≡ leave_step 0 Fence = omega (arith, steps, c.done.ensures, phase) in
     let f = c.fence.ensures.fences in
     let at : is_at_fence c.args.self.now.home ≡ true = ap (λ (x : Moving). is_at_fence x.home) (sym c.self.view_is) ∙ eq-eqb l.carrier.steps (leave_step 0 Fence) here in
-    let fences : Fences c.args.fabric.now c.fence.new.fabric c.args.self.now.who.vm c.args.self.now.who.vcpu = subst (λ (x : Moving). Fences c.args.fabric.now c.fence.new.fabric x.who.vm x.who.vcpu) c.self.view_is f in
+    let fences : Fences c.args.fabric.now c.fence.new.fabric c.args.self.now.who.found.vm c.args.self.now.who.found.number = subst (λ (x : Moving). Fences c.args.fabric.now c.fence.new.fabric x.who.found.vm x.who.found.number) c.self.view_is f in
     let first = all_first c.args.fabric.now c.fence.new.fabric c.args.self.now fences at in
     record {
       landed = fences.landed;
       first = first;
       then = step_before fences.landed c.fence.new.fabric m c.args.self.now (Leaving l.kind.file) c.fence.new.self Fence c.self.view_is (fits_still c.args.fabric.now fences.landed c.args.self.now first.same c.requires.fits) refl (record { has = refl; step = here })
-          (record { makes = subst (λ (x : Moving). c.fence.new.fabric ≡ with_fence fences.landed x.who.vm x.who.vcpu) (sym c.self.view_is) fences.fenced; load = c.fence.ensures.load }) (omega (arith, here));
+          (record { makes = subst (λ (x : Moving). c.fence.new.fabric ≡ with_fence fences.landed x.who.found.vm x.who.found.number) (sym c.self.view_is) fences.fenced; carrier = c.fence.ensures.carrier }) (omega (arith, here));
     }

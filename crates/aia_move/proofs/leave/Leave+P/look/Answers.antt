@@ -3,12 +3,12 @@ use Rattle.std.proofs.lemmas.Bool.{lt-ltb, ne_eqb}
 use Rattle.aia_home.specs.Home.Home.{Leaving}
 use Rattle.aia_home.specs.Plans.{steps_done, leave_step}
 use Rattle.aia_home.specs.Plans.Access.{Look, TakeThreshold}
-use Rattle.aia_move.specs.Move.{Moving, width}
+use Rattle.aia_moving.specs.Move.{Moving, width}
 use Rattle.aia_home.specs.Phases.Phase.{LookPhase}
-use Rattle.aia_move.specs.Turns.{IsIn}
-use Rattle.aia_move.specs.Load.{Does, moving}
-use Rattle.aia_move.proofs.WhoLemmas.{slot_there}
-use Rattle.aia_move.proofs.StepLemmas.{step_after}
+use Rattle.aia_moving.specs.Turns.{IsIn}
+use Rattle.aia_moving.specs.Carrier.{Does, moving}
+use Rattle.aia_moving.proofs.WhoLemmas.{slot_there}
+use Rattle.aia_moving.proofs.StepLemmas.{step_after}
 use Rattle.aia_move.proofs.leave.Leave+P.look.Goals as goal
 
 pub look-requires-clause-slot : goal.look-requires-clause-slot

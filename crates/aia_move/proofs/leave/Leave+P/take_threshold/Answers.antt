@@ -3,9 +3,9 @@ use Rattle.std.proofs.lemmas.Bool.{ne_eqb}
 use Rattle.aia_home.specs.Home.Home.{Leaving}
 use Rattle.aia_home.specs.Plans.{steps_done, leave_step}
 use Rattle.aia_home.specs.Plans.Access.{TakeThreshold}
-use Rattle.aia_move.specs.Move.{Moving, width, old_spot}
-use Rattle.aia_move.specs.Load.{moving}
-use Rattle.aia_move.proofs.StepLemmas.{step_after}
+use Rattle.aia_moving.specs.Move.{Moving, width, old_spot}
+use Rattle.aia_moving.specs.Carrier.{moving}
+use Rattle.aia_moving.proofs.StepLemmas.{step_after}
 use Rattle.aia_move.proofs.leave.Leave+P.take_threshold.Goals as goal
 
 pub returns : goal.returns

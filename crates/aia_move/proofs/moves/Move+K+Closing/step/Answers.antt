@@ -1,7 +1,7 @@
 use Rattle.std.proofs.Common.{◌≡◌, sym, subst, arith}
-use Rattle.aia_move.specs.Move.{width}
-use Rattle.aia_move.specs.Turns.{GoesOn}
-use Rattle.aia_move.proofs.PhaseSteps.{middle}
+use Rattle.aia_moving.specs.Move.{width}
+use Rattle.aia_moving.specs.Turns.{GoesOn}
+use Rattle.aia_moving.proofs.PhaseSteps.{middle}
 use Rattle.aia_move.proofs.AimLemmas.{closed_phase}
 use Rattle.aia_move.proofs.moves.Move+K+Closing.step.Goals as goal
 

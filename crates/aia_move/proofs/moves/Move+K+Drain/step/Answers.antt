@@ -1,7 +1,7 @@
 use Rattle.std.proofs.Common.{◌≡◌, arith}
 use Rattle.aia_home.specs.Phases.Phase.{DrainPhase, EnablePhase}
-use Rattle.aia_move.specs.Move.{width}
-use Rattle.aia_move.proofs.PhaseSteps.{middle, turned}
+use Rattle.aia_moving.specs.Move.{width}
+use Rattle.aia_moving.proofs.PhaseSteps.{middle, turned}
 use Rattle.aia_move.proofs.AimLemmas.{drain_turned}
 use Rattle.aia_move.proofs.moves.Move+K+Drain.step.Goals as goal
 

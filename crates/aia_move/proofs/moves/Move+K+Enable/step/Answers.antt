@@ -1,8 +1,8 @@
 use Rattle.std.proofs.Common.{◌≡◌, sym, subst, arith}
 use Rattle.aia_home.specs.Phases.Phase.{EnablePhase}
-use Rattle.aia_move.specs.Move.{width}
-use Rattle.aia_move.specs.Turns.{IsIn, MatchTurn, after_enable}
-use Rattle.aia_move.proofs.PhaseSteps.{middle, turned}
+use Rattle.aia_moving.specs.Move.{width}
+use Rattle.aia_moving.specs.Turns.{IsIn, MatchTurn, after_enable}
+use Rattle.aia_moving.proofs.PhaseSteps.{middle, turned}
 use Rattle.aia_move.proofs.moves.Move+K+Enable.step.Goals as goal
 
 pub returns-clause-phase : goal.returns-clause-phase

@@ -1,10 +1,10 @@
 use Rattle.std.proofs.Common.{◌+◌, sym, ap, ◌∙◌, subst, arith}
-use Rattle.aia_fabric.specs.Changes.{IsPlaceThere}
-use Rattle.aia_move.specs.Move.{width, old_at, new_at}
-use Rattle.aia_move.specs.Load.{moving}
-use Rattle.aia_move.proofs.PhaseSteps.{middle}
-use Rattle.aia_move.proofs.WhoLemmas.{old_there, new_there}
-use Rattle.aia_move.proofs.StepLemmas.{load_is, move_carries_pending}
+use Rattle.aia_world.specs.Changes.{IsPlaceThere}
+use Rattle.aia_moving.specs.Move.{width, old_at, new_at}
+use Rattle.aia_moving.specs.Carrier.{moving}
+use Rattle.aia_moving.proofs.PhaseSteps.{middle}
+use Rattle.aia_moving.proofs.WhoLemmas.{old_there, new_there}
+use Rattle.aia_moving.proofs.StepLemmas.{carrier_is, move_carries_pending}
 use Rattle.aia_move.proofs.moves.Move.carry_pending.Goals as goal
 
 pub carry_pending-requires-clause-from : goal.carry_pending-requires-clause-from
@@ -24,4 +24,4 @@ returns g c =
     let is = g.met.K.Kind.is_move l.kind in
     move_carries_pending there is c.args.fabric.now c.carry_pending.new.fabric l.carrier c.carry_pending.new.self c.args.self.now (c.first_steps-first.result + 2) c.self.view_is c.requires.fits c.requires.phase
     (omega (arith, c.first_steps-first.ensures.value (width c.args.fabric.now), (middle (width c.args.fabric.now) c.args.self.now.home c.first_steps-first.ensures.moves).drain))
-    (c.carry_pending.ensures.does (moving there l.carrier) (load_is there is l.carrier) (ap old_at c.self.view_is ∙ sym c.old_place-from.ensures) (ap new_at c.self.view_is ∙ sym c.new_place-to.ensures)) c.carry_pending.ensures.no_zero
+    (c.carry_pending.ensures.does (moving there l.carrier) (carrier_is there is l.carrier) (ap old_at c.self.view_is ∙ sym c.old_place-from.ensures) (ap new_at c.self.view_is ∙ sym c.new_place-to.ensures)) c.carry_pending.ensures.no_zero

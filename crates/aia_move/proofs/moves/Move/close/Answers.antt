@@ -1,7 +1,7 @@
 use Rattle.std.proofs.Common.{sym}
-use Rattle.aia_move.specs.Move.{width}
-use Rattle.aia_move.specs.Load.{moving, progress_of}
-use Rattle.aia_move.proofs.StepLemmas.{load_is, move_closes}
+use Rattle.aia_moving.specs.Move.{width}
+use Rattle.aia_moving.specs.Carrier.{moving, progress_of}
+use Rattle.aia_moving.proofs.StepLemmas.{carrier_is, move_closes}
 use Rattle.aia_move.proofs.moves.Move.close.Goals as goal
 
 pub returns : goal.returns
@@ -10,4 +10,4 @@ returns g c =
     let there = g.K.Kind.home l.kind in
     let is = g.met.K.Kind.is_move l.kind in
     move_closes there is c.args.fabric.now c.close.new.fabric l.carrier c.close.new.self c.args.self.now c.first_steps-first.result c.self.view_is c.requires.fits c.requires.phase (c.first_steps-first.ensures.value (width c.args.fabric.now))
-    (c.close.ensures (moving there l.carrier) (load_is there is l.carrier) (sym (c.new_file.ensures (progress_of l.carrier))))
+    (c.close.ensures (moving there l.carrier) (carrier_is there is l.carrier) (sym (c.new_file.ensures (progress_of l.carrier))))

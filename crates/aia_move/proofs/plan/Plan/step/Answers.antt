@@ -1,6 +1,6 @@
 use Rattle.std.proofs.Common.{sym, subst, arith}
-use Rattle.aia_move.specs.Move.{width}
-use Rattle.aia_move.specs.Targets.{AimsAs, aim_if}
+use Rattle.aia_moving.specs.Move.{width}
+use Rattle.aia_moving.specs.Targets.{AimsAs, aim_if}
 use Rattle.aia_move.specs.Plan.{moving_of, is_in_aim, StepsTo}
 use Rattle.aia_move.proofs.MoveKept.{gives_empty}
 use Rattle.aia_move.proofs.AimLemmas.{phase_aims}

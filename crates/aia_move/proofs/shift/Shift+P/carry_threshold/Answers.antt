@@ -3,9 +3,9 @@ use Rattle.std.proofs.lemmas.Bool.{ne_eqb}
 use Rattle.aia_home.specs.Home.Home.{Shifting}
 use Rattle.aia_home.specs.Plans.{steps_done, shift_step}
 use Rattle.aia_home.specs.Plans.Access.{TakeThreshold, PutThreshold}
-use Rattle.aia_move.specs.Move.{Moving, width, old_spot, new_spot}
-use Rattle.aia_move.specs.Load.{moving}
-use Rattle.aia_move.proofs.StepLemmas.{step_after}
+use Rattle.aia_moving.specs.Move.{Moving, width, old_spot, new_spot}
+use Rattle.aia_moving.specs.Carrier.{moving}
+use Rattle.aia_moving.proofs.StepLemmas.{step_after}
 use Rattle.aia_move.proofs.shift.Shift+P.carry_threshold.Goals as goal
 
 pub returns-then-done-words : goal.returns-then-done-words

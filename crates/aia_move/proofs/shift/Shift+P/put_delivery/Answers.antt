@@ -3,9 +3,9 @@ use Rattle.std.proofs.lemmas.Bool.{eq-eqb}
 use Rattle.aia_home.specs.Home.Home.{Shifting}
 use Rattle.aia_home.specs.Plans.{steps_done, shift_step}
 use Rattle.aia_home.specs.Plans.Access.{PutDelivery}
-use Rattle.aia_move.specs.Move.{Moving, width, new_spot}
-use Rattle.aia_move.specs.Load.{moving}
-use Rattle.aia_move.proofs.StepLemmas.{step_last}
+use Rattle.aia_moving.specs.Move.{Moving, width, new_spot}
+use Rattle.aia_moving.specs.Carrier.{moving}
+use Rattle.aia_moving.proofs.StepLemmas.{step_last}
 use Rattle.aia_move.proofs.shift.Shift+P.put_delivery.Goals as goal
 
 pub returns : goal.returns

@@ -1,4 +1,4 @@
-use Rattle.aia_aplic.specs.Sending.{waiting}
+use Rattle.aia_wiring.specs.Sending.{waiting}
 use Rattle.aia_replay.proofs.DeliveryLemmas.{SoFar}
 use Rattle.aia_replay.proofs.machine.Machine.deliver.Given as goal
 

@@ -14,10 +14,10 @@ loop-end-preserved c =
     let end = c.in-Some.end in
     let at : position is_end rest ≡ Some end = sym c.in-Some.ensures in
     record {
-      fed = plan_fed_line c.args.self.now c.loop-end.self c.end_line.new.self c.args.piece.now rest (take end rest) _ c.loop-end.invariant.fed
+      fed = plan_fed_line c.args.self.now c.loop-end.self c.read_line.new.self c.args.piece.now rest (take end rest) _ c.loop-end.invariant.fed
           (cut_at_end rest end at ∙ ap (λ xs. take end rest ++ (10 ∷ xs)) (sym (all_of_rest rest (end + 1)))) (no_end_before rest end at)
-          (record { read = c.end_line.ensures.read; empty = c.end_line.ensures.empty; words = c.end_line.ensures.words });
-      inside = c.end_line.ensures.inside;
+          (record { read = c.read_line.ensures.read; empty = c.read_line.ensures.empty; words = c.read_line.ensures.words });
+      inside = c.read_line.ensures.inside;
     }
 
 pub returns-clause-feeds : goal.returns-clause-feeds

@@ -11,9 +11,9 @@ loop-end-preserved c =
     let within = position_within c.loop-end.left.now c.in-Some.end c.in-Some.ensures in
     let left = ap length (all_of_rest c.loop-end.left.now (c.in-Some.end + 1)) ∙ length-drop (c.in-Some.end + 1) c.loop-end.left.now in
     record {
-      fed = fed_line _ _ _ _ c.loop-end.left.now _ c.in-Some.end c.loop-end.invariant.fed c.in-Some.ensures (all_of_rest c.loop-end.left.now (c.in-Some.end + 1)) c.in_ok-end_line.ensures.read;
-      inside = c.in_ok-end_line.ensures.inside;
-      few = omega (arith, within, left, c.in_ok-end_line.ensures.lines, c.loop-end.invariant.few);
+      fed = fed_line _ _ _ _ c.loop-end.left.now _ c.in-Some.end c.loop-end.invariant.fed c.in-Some.ensures (all_of_rest c.loop-end.left.now (c.in-Some.end + 1)) c.in_ok-read_line.ensures.read;
+      inside = c.in_ok-read_line.ensures.inside;
+      few = omega (arith, within, left, c.in_ok-read_line.ensures.lines, c.loop-end.invariant.few);
     }
 
 pub returns : goal.returns

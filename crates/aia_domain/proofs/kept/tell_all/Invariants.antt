@@ -1,7 +1,0 @@
-use Rattle.std.proofs.Common.{◌≡◌, ℕ, ◌&&◌, nat_lt}
-use Rattle.aia_word.specs.Sets.{is_in}
-use Rattle.aia_domain.specs.Entry.{waits_at}
-use Rattle.aia_domain.proofs.kept.tell_all.Given as goal
-
-abbrev pub invariant-loop-s : goal.invariant-loop-s
-invariant-loop-s l = (t : ℕ) → is_in l.ready t ≡ (nat_lt t l.s && waits_at l.entries t)

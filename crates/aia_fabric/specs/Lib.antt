@@ -1,8 +1,0 @@
-pub mod World
-pub mod Stores
-pub mod Making
-pub mod Changes
-pub mod Whole
-pub mod Flights
-pub mod Own
-pub mod SlotAccess

@@ -1,0 +1,22 @@
+use Rattle.std.proofs.Common.{◌≡◌, true, sym, ap, subst, ◌∙◌}
+use Rattle.aia_home.specs.Vms.{vcpu, is_vcpu_in}
+use Rattle.aia_model.specs.declared.answer.Answer.TheVariants.{Refused}
+use Rattle.aia_model.specs.declared.refusal.Refusal.TheVariants.{Idle}
+use Rattle.aia_model.specs.declared.line.Line.TheVariants.{Exit}
+use Rattle.aia_standing.specs.declared.vcpu.VcpuRecord.{VcpuRecord}
+use Rattle.aia_standing.specs.Core.{CoreState, entered_at}
+use Rattle.aia_standing.specs.Stands.{CoreTakes}
+use Rattle.aia_standing.proofs.RunLines.{not_entered, no_vcpu_to_exit}
+use Rattle.aia_hyp.proofs.hypervisor_core.Core.exit.Goals as goal
+
+pub returns-in_default : goal.returns-in_default
+returns-in_default c = rw (← c.self.view_is) (no_vcpu_to_exit _ c.args.vm c.args.number c.in_default.ensures.none)
+
+pub returns-in-None : goal.returns-in-None
+returns-in-None c =
+    let x = c.args.self.now in
+    let found = c.in-Some.found in
+    let there = subst (λ (z : CoreState). is_vcpu_in z.world.vms (vcpu found.vm found.number) ≡ true) c.self.view_is c.in-Some.ensures.there.there in
+    let named = c.in-Some.ensures.named in
+    subst (λ vm. CoreTakes x x (Exit vm c.args.number) (Refused Idle)) named.0 (subst (λ number. CoreTakes x x (Exit found.vm number) (Refused Idle)) named.1
+    (not_entered x found.vm found.number there (sym (c.entered.ensures ∙ ap (λ (r : VcpuRecord). entered_at r.stay) c.record_of.ensures) ∙ c.in-None.is)))

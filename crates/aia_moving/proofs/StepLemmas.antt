@@ -1,0 +1,313 @@
+-- A step of a move: what its access leaves, that the next step can be made, and which access the
+-- phases of all moves make.
+use Rattle.std.proofs.Common.{◌≡◌, ℕ, ◌+◌, ◌-◌, ◌/◌, ◌%◌, ◌<◌, ◌≤◌, Bool, true, false, inl, inr, refl, sym, ap, ◌∙◌, subst, arith}
+use Rattle.std.proofs.lemmas.Bool.{cases_eq, lt-ltb, eq-eqb, ne_eqb}
+use Rattle.aia_home.proofs.PhaseLemmas.{carried_pending, carried_enables}
+use Rattle.aia_word.specs.Sets.{has_bit}
+use Rattle.aia_regs.specs.declared.file_registers.FileReg.{FileReg}
+use Rattle.aia_imsic.specs.declared.spot.Spot.{Spot}
+use Rattle.aia_imsic.specs.Imsic.{ImsicState, IsThere}
+use Rattle.aia_home.specs.declared.place.Place.{Place}
+use Rattle.aia_home.specs.Home.{Home, Progress, is_moving, one_more, one_further}
+use Rattle.aia_home.specs.Plans.{is_at_last, Access, steps_done, has_access, IsNext, first_take, pending_step, enables_step}
+use Rattle.aia_home.specs.Home.Home.{Parked, Entered, Resident, Leaving, Arriving, Shifting}
+use Rattle.aia_home.specs.Plans.Access.{TakeDelivery, PutDelivery, WriteNotice, WriteEntry, Fence, Map, GFence, TakePending, PutPending, TakeEnables, PutEnables, Look, TakeThreshold, PutThreshold, Post}
+use Rattle.aia_home.specs.Phases.{begins}
+use Rattle.aia_home.specs.Aims.{aims_done}
+use Rattle.aia_home.specs.Phases.Phase.{ClosingPhase, DrainPhase, EnablePhase, LookPhase}
+use Rattle.aia_home.specs.BySteps.{own_file, next_file}
+use Rattle.aia_home.proofs.PlanLemmas.{next_in_plan}
+use Rattle.aia_places.specs.Holds.{Hand}
+use Rattle.aia_world.specs.declared.at.At.{At}
+use Rattle.aia_world.specs.declared.at.At.TheVariants.{File, Slot}
+use Rattle.aia_world.specs.World.{World}
+use Rattle.aia_world.specs.Changes.{PutsRegister, spot_of, with_pending, with_enable}
+use Rattle.aia_moving.specs.Move.{Moving, width, old_at, new_at, PostsIf, Makes, hand_after, MoveFits, Ends}
+use Rattle.aia_moving.specs.Carrier.{CarrierState, carrier_of, progress_of, moving, one_done, Does, closing_access, pending_access, enables_access}
+use Rattle.aia_moving.specs.Turns.{IsIn, IsMove, GoesOn}
+use Rattle.aia_moving.proofs.PhaseSteps.{middle}
+
+-- ---- what an access leaves
+
+-- the VMs, and which files there are
+record Keeps (w u : World) : Type 0 where
+  pub n : u.n ≡ w.n
+  pub vms : u.vms ≡ w.vms
+  pub harts : u.imsic.harts ≡ w.imsic.harts
+  pub guests : u.imsic.guests ≡ w.imsic.guests
+
+by_equation : (w u x : World) → Keeps w x → u ≡ x → Keeps w u
+by_equation w u x kept e = subst (λ y. Keeps w y) (sym e) kept
+
+register_kept : (w u : World) (spot : Spot) (reg : FileReg) (v : ℕ) → PutsRegister w u spot reg v → Keeps w u
+register_kept w u spot reg v puts = by_equation w u _ (record { n = refl; vms = refl; harts = refl; guests = refl }) puts.others
+
+pending_kept : (w : World) (at : At) (k v : ℕ) → Keeps w (with_pending w at k v)
+pending_kept w (File spot) k v = record { n = refl; vms = refl; harts = refl; guests = refl }
+pending_kept w (Slot q) k v = record { n = refl; vms = refl; harts = refl; guests = refl }
+
+enable_kept : (w : World) (at : At) (k v : ℕ) → Keeps w (with_enable w at k v)
+enable_kept w (File spot) k v = record { n = refl; vms = refl; harts = refl; guests = refl }
+enable_kept w (Slot q) k v = record { n = refl; vms = refl; harts = refl; guests = refl }
+
+post_kept : (w u : World) (seen : Bool) (hart identity : ℕ) → PostsIf seen w u hart identity → Keeps w u
+post_kept w u true hart identity p = record {
+  n = ap (λ (x : World). x.n) p.rest;
+  vms = ap (λ (x : World). x.vms) p.rest;
+  harts = ap (λ (i : ImsicState). i.harts) p.lands.others;
+  guests = ap (λ (i : ImsicState). i.guests) p.lands.others;
+}
+post_kept w u false hart identity e = by_equation w u w (record { n = refl; vms = refl; harts = refl; guests = refl }) e
+
+access_keeps : (access : Access) (m : Moving) (w u : World) → Makes access m w u → Keeps w u
+access_keeps TakeDelivery m w u made = register_kept w u _ _ _ made
+access_keeps PutDelivery m w u made = register_kept w u _ _ _ made
+access_keeps WriteNotice m w u made = by_equation w u _ (record { n = refl; vms = refl; harts = refl; guests = refl }) made
+access_keeps WriteEntry m w u made = by_equation w u _ (record { n = refl; vms = refl; harts = refl; guests = refl }) made
+access_keeps Fence m w u made = by_equation w u _ (record { n = refl; vms = refl; harts = refl; guests = refl }) made
+access_keeps Map m w u made = by_equation w u _ (record { n = refl; vms = refl; harts = refl; guests = refl }) made
+access_keeps GFence m w u made = by_equation w u _ (record { n = refl; vms = refl; harts = refl; guests = refl }) made
+access_keeps (TakePending k) m w u made = by_equation w u _ (pending_kept w (old_at m) k _) made
+access_keeps (PutPending k) m w u made = by_equation w u _ (pending_kept w (new_at m) k _) made.1
+access_keeps (TakeEnables k) m w u made = by_equation w u _ (enable_kept w (old_at m) k _) made
+access_keeps (PutEnables k) m w u made = by_equation w u _ (enable_kept w (new_at m) k _) made.1
+access_keeps (Look k) m w u made = by_equation w u w (record { n = refl; vms = refl; harts = refl; guests = refl }) made
+access_keeps TakeThreshold m w u made = register_kept w u _ _ _ made
+access_keeps PutThreshold m w u made = register_kept w u _ _ _ made
+access_keeps Post m w u made = post_kept w u m.hand.seen m.who.found.notice (m.who.found.slot + 1) made
+
+-- ---- one step more
+
+-- it is the same move
+record IsSame (there : Home) : Type 0 where
+  pub steps : steps_done (one_more there) ≡ steps_done there + 1
+  pub own : own_file (one_more there) ≡ own_file there
+  pub next : next_file (one_more there) ≡ next_file there
+  pub first : first_take (one_more there) ≡ first_take there
+
+same_move : (words : ℕ) (there : Home) (access : Access) → has_access words there access ≡ true → IsSame there
+same_move words Parked access has = absurd (cc)
+same_move words Entered access has = absurd (cc)
+same_move words (Resident p) access has = absurd (cc)
+same_move words (Leaving from at) access has = record { steps = refl; own = refl; next = refl; first = refl }
+same_move words (Arriving to at) access has = record { steps = refl; own = refl; next = refl; first = refl }
+same_move words (Shifting from to at) access has = record { steps = refl; own = refl; next = refl; first = refl }
+
+-- a word 0 that the next access takes has no identity 0
+record TakesNoZero (w : World) (m t : Moving) : Type 0 where
+  pub pending : steps_done m.home ≡ pending_step m.home 0 → has_bit t.hand.word 0 ≡ false
+  pub enabled : steps_done m.home ≡ enables_step (width w) m.home 0 → has_bit t.hand.word 0 ≡ false
+
+file_stays : (w u : World) (p : Place) → Keeps w u → IsThere w.imsic (spot_of p) → IsThere u.imsic (spot_of p)
+file_stays w u p kept is = (omega (arith, is.0, kept.harts), is.1, omega (arith, is.2, kept.guests))
+
+one_step : (w u : World) (m t : Moving) (access : Access) → MoveFits w m → IsNext (width w) m.home access → Makes access m w u
+    → t ≡ record m { home = one_more m.home; hand = hand_after access m w } → is_at_last (width w) m.home ≡ false → TakesNoZero w m t → GoesOn w m u t
+one_step w u m t access fits next made is more zero = record {
+  goes = record {
+    step = record { access = access; is_next = next; in_table = next_in_plan (width w) m.home access next; makes = made; carries = ap (λ (x : Moving). x.hand) is };
+    more = more;
+    home = home;
+    same_who = who;
+  };
+  fits = record {
+    there = rw (who, kept.vms) fits.there;
+    slot = rw (who, kept.vms) fits.slot;
+    notice = rw (who, kept.vms) fits.notice;
+    own = λ p e. file_stays w u p kept (fits.own p (sym (ap own_file home ∙ same.own) ∙ e));
+    next = λ p e. file_stays w u p kept (fits.next p (sym (ap next_file home ∙ same.next) ∙ e));
+    no_pending_zero = λ e. zero.pending (omega (arith, steps, first, carried_pending (width u) 0 t.home e));
+    no_enabled_zero = λ e. zero.enabled (omega (arith, steps, first, carried_enables (width u) 0 t.home e, wide));
+  };
+  width = wide;
+  steps = steps;
+}
+  where
+    kept : Keeps w u
+    kept = access_keeps access m w u made
+
+    same : IsSame m.home
+    same = same_move (width w) m.home access next.has
+
+    home : t.home ≡ one_more m.home
+    home = ap (λ (x : Moving). x.home) is
+
+    who : t.who ≡ m.who
+    who = ap (λ (x : Moving). x.who) is
+
+    wide : width u ≡ width w
+    wide = ap (λ n. (n + 1) / 64) kept.n
+
+    steps : steps_done t.home ≡ steps_done m.home + 1
+    steps = ap steps_done home ∙ same.steps
+
+    first : first_take t.home ≡ first_take m.home
+    first = ap first_take home ∙ same.first
+
+-- ---- a step of a state m, which is seen as s
+
+seen_so : (w u : World) (m s t : Moving) (access : Access) → m ≡ s → MoveFits w s → IsNext (width w) m.home access → Makes access m w u
+    → t ≡ record m { home = one_more m.home; hand = hand_after access m w } → is_at_last (width w) m.home ≡ false → TakesNoZero w m t → GoesOn w s u t
+seen_so w u m s t access seen fits next made is more zero =
+    subst (λ x. GoesOn w x u t) seen (one_step w u m t access (subst (λ x. MoveFits w x) (sym seen) fits) next made is more zero)
+
+-- not the last one
+not_last : (words : ℕ) (there : Home) → steps_done there < enables_step words there words → is_at_last words there ≡ false
+not_last words Parked low = refl
+not_last words Entered low = refl
+not_last words (Resident p) low = refl
+not_last words (Leaving from at) low = ne_eqb _ _ (λ e. omega (arith, e, low))
+not_last words (Arriving to at) low = ne_eqb _ _ (λ e. omega (arith, e, low))
+not_last words (Shifting from to at) low = ne_eqb _ _ (λ e. omega (arith, e, low))
+
+-- the state with a carrier
+loaded : (m : Moving) (there : Progress → Home) (now : CarrierState) (hand : Hand) → there (one_further (record { steps = steps_done m.home; aims = aims_done m.home })) ≡ one_more m.home → now ≡ one_done (carrier_of m) hand
+    → moving there now ≡ record m { home = one_more m.home; hand = hand }
+loaded m there now hand next is = ap (λ (l : CarrierState). moving there l) is ∙ ap (λ (h : Home). record m { home = h; hand = hand }) next
+
+-- before any word is carried, and after all are
+pub step_before : (w u : World) (m s : Moving) (there : Progress → Home) (now : CarrierState) (access : Access) → m ≡ s → MoveFits w s → there (one_further (record { steps = steps_done m.home; aims = aims_done m.home })) ≡ one_more m.home
+    → IsNext (width w) m.home access → Does access m w u now → steps_done m.home < first_take m.home → GoesOn w s u (moving there now)
+step_before w u m s there now access seen fits more next does low =
+    seen_so w u m s (moving there now) access seen fits next does.makes (loaded m there now _ more does.carrier) (not_last (width w) m.home (omega (arith, low))) (record { pending = λ e. absurd (omega (arith, e, low)); enabled = λ e. absurd (omega (arith, e, low)) })
+
+pub step_after : (w u : World) (m s : Moving) (there : Progress → Home) (now : CarrierState) (access : Access) → m ≡ s → MoveFits w s → there (one_further (record { steps = steps_done m.home; aims = aims_done m.home })) ≡ one_more m.home
+    → IsNext (width w) m.home access → Does access m w u now → is_at_last (width w) m.home ≡ false → 1 ≤ width w → enables_step (width w) m.home (width w) ≤ steps_done m.home → GoesOn w s u (moving there now)
+step_after w u m s there now access seen fits more next does unfinished some past =
+    seen_so w u m s (moving there now) access seen fits next does.makes (loaded m there now _ more does.carrier) unfinished (record { pending = λ e. absurd (omega (arith, e, past, some)); enabled = λ e. absurd (omega (arith, e, past, some)) })
+
+-- the last step
+pub step_last : (w u : World) (m s : Moving) (access : Access) → m ≡ s → IsNext (width w) m.home access → Makes access m w u → hand_after access m w ≡ m.hand → is_at_last (width w) m.home ≡ true
+    → Ends w s u s.hand
+step_last w u m s access seen next made same last =
+    subst (λ (x : Moving). Ends w x u x.hand) seen (record {
+      step = record { access = access; is_next = next; in_table = next_in_plan (width w) m.home access next; makes = made; carries = sym same };
+      last = last;
+    })
+
+-- ---- the phases of all moves
+
+-- the accesses that carry the sets, by their steps
+record CarriesSets (words : ℕ) (there : Home) : Type 0 where
+  pub take_pending : (w : ℕ) → w < words → steps_done there ≡ pending_step there w → IsNext words there (TakePending w)
+  pub put_pending : (w : ℕ) → w < words → steps_done there ≡ pending_step there w + 1 → IsNext words there (PutPending w)
+  pub take_enables : (w : ℕ) → w < words → steps_done there ≡ enables_step words there w → IsNext words there (TakeEnables w)
+  pub put_enables : (w : ℕ) → w < words → steps_done there ≡ enables_step words there w + 1 → IsNext words there (PutEnables w)
+
+carries_sets : (words : ℕ) (there : Home) → is_moving there ≡ true → CarriesSets words there
+carries_sets words Parked moves = absurd (cc)
+carries_sets words Entered moves = absurd (cc)
+carries_sets words (Resident p) moves = absurd (cc)
+carries_sets words (Leaving from at) moves = record {
+  take_pending = λ w low e. record { has = lt-ltb w words low; step = e };
+  put_pending = λ w low e. record { has = lt-ltb w words low; step = omega (arith, e) };
+  take_enables = λ w low e. record { has = lt-ltb w words low; step = e };
+  put_enables = λ w low e. record { has = lt-ltb w words low; step = omega (arith, e) };
+}
+carries_sets words (Arriving to at) moves = record {
+  take_pending = λ w low e. record { has = lt-ltb w words low; step = e };
+  put_pending = λ w low e. record { has = lt-ltb w words low; step = omega (arith, e) };
+  take_enables = λ w low e. record { has = lt-ltb w words low; step = e };
+  put_enables = λ w low e. record { has = lt-ltb w words low; step = omega (arith, e) };
+}
+carries_sets words (Shifting from to at) moves = record {
+  take_pending = λ w low e. record { has = lt-ltb w words low; step = e };
+  put_pending = λ w low e. record { has = lt-ltb w words low; step = omega (arith, e) };
+  take_enables = λ w low e. record { has = lt-ltb w words low; step = e };
+  put_enables = λ w low e. record { has = lt-ltb w words low; step = omega (arith, e) };
+}
+
+pending_next : (words first : ℕ) (there : Home) → is_moving there ≡ true → first ≡ begins words there DrainPhase → first ≤ steps_done there → steps_done there < begins words there EnablePhase
+    → IsNext words there (pending_access first (steps_done there))
+pending_next words first there moves is from below =
+    let all = carries_sets words there moves in
+    let mid = middle words there moves in
+    let w = (steps_done there - first) / 2 in
+    let low : w < words = omega (arith, mid.drain, mid.enable, mid.looks) in
+    elim (cases_eq ((steps_done there - first) % 2) 0) [
+      | inl even ↦ rw (eq-eqb ((steps_done there - first) % 2) 0 even) (all.take_pending w low (omega (arith, even, mid.take, mid.drain, mid.enable)))
+      | inr odd ↦ rw (ne_eqb ((steps_done there - first) % 2) 0 odd) (all.put_pending w low (omega (arith, odd, mid.take, mid.drain, mid.enable)))
+    ]
+
+enables_next : (words first : ℕ) (there : Home) → is_moving there ≡ true → first ≡ begins words there EnablePhase → first ≤ steps_done there → steps_done there < begins words there LookPhase
+    → IsNext words there (enables_access first (steps_done there))
+enables_next words first there moves is from below =
+    let all = carries_sets words there moves in
+    let mid = middle words there moves in
+    let w = (steps_done there - first) / 2 in
+    let low : w < words = omega (arith, mid.drain, mid.enable, mid.looks) in
+    elim (cases_eq ((steps_done there - first) % 2) 0) [
+      | inl even ↦ rw (eq-eqb ((steps_done there - first) % 2) 0 even) (all.take_enables w low (omega (arith, even, mid.take, mid.drain, mid.enable)))
+      | inr odd ↦ rw (ne_eqb ((steps_done there - first) % 2) 0 odd) (all.put_enables w low (omega (arith, odd, mid.take, mid.drain, mid.enable)))
+    ]
+
+-- ---- a step of these phases, of a move by its home at each progress
+
+closing_next : (words first n : ℕ) (there : Home) → is_moving there ≡ true → n ≡ steps_done there → first ≡ begins words there ClosingPhase → first ≤ n → n < begins words there DrainPhase → IsNext words there (closing_access first n)
+closing_next words first n Parked moves at is from below = absurd (cc)
+closing_next words first n Entered moves at is from below = absurd (cc)
+closing_next words first n (Resident p) moves at is from below = absurd (cc)
+closing_next words first n (Leaving p progress) moves at is from below = elim (cases_eq n first) [
+  | inl e ↦ rw (eq-eqb n first e) (record { has = refl; step = omega (arith, at, is, e) })
+  | inr ne ↦ rw (ne_eqb n first ne) (record { has = refl; step = omega (arith, at, is, ne, from, below) })
+]
+closing_next words first n (Arriving p progress) moves at is from below = elim (cases_eq n first) [
+  | inl e ↦ rw (eq-eqb n first e) (record { has = refl; step = omega (arith, at, is, e) })
+  | inr ne ↦ rw (ne_eqb n first ne) (record { has = refl; step = omega (arith, at, is, ne, from, below) })
+]
+closing_next words first n (Shifting p q progress) moves at is from below = elim (cases_eq n first) [
+  | inl e ↦ rw (eq-eqb n first e) (record { has = refl; step = omega (arith, at, is, e) })
+  | inr ne ↦ rw (ne_eqb n first ne) (record { has = refl; step = omega (arith, at, is, ne, from, below) })
+]
+
+module _ (there : Progress → Home) (is : IsMove there) where
+  pub carrier_is : (l : CarrierState) → carrier_of (moving there l) ≡ l
+  carrier_is l = λ k. record l { steps = is.steps (progress_of l) k; aims = is.aims (progress_of l) k }
+
+  pub steps_are : (l : CarrierState) (s : Moving) → moving there l ≡ s → l.steps ≡ steps_done s.home
+  steps_are l s seen = sym (is.steps (progress_of l)) ∙ ap (λ (x : Moving). steps_done x.home) seen
+
+  goes_on : (l : CarrierState) → there (one_further (record { steps = steps_done (moving there l).home; aims = aims_done (moving there l).home })) ≡ one_more (moving there l).home
+  goes_on l = (λ k. there (one_further (record { steps = is.steps (progress_of l) k; aims = is.aims (progress_of l) k }))) ∙ is.more (progress_of l)
+
+  pub move_closes : (w u : World) (l now : CarrierState) (s : Moving) (first : ℕ) → moving there l ≡ s → MoveFits w s → IsIn ClosingPhase (width w) s → first ≡ begins (width w) s.home ClosingPhase
+      → Does (closing_access first l.steps) (moving there l) w u now → GoesOn w s u (moving there now)
+  move_closes w u l now s first seen fits phase begin does =
+      let moves = is.moves (progress_of l) in
+      let steps = is.steps (progress_of l) in
+      let here : IsIn ClosingPhase (width w) (moving there l) = subst (λ x. IsIn ClosingPhase (width w) x) (sym seen) phase in
+      let from : first ≡ begins (width w) (moving there l).home ClosingPhase = begin ∙ ap (λ (x : Moving). begins (width w) x.home ClosingPhase) (sym seen) in
+      let mid = middle (width w) (moving there l).home moves in
+      step_before w u (moving there l) s there now (closing_access first l.steps) seen fits (goes_on l)
+      (closing_next (width w) first l.steps (moving there l).home moves (sym steps) from (omega (arith, steps, from, here)) (omega (arith, steps, from, here, mid.drain))) does
+      (omega (arith, here, mid.drain, mid.take))
+
+  pub move_carries_pending : (w u : World) (l now : CarrierState) (s : Moving) (first : ℕ) → moving there l ≡ s → MoveFits w s → IsIn DrainPhase (width w) s → first ≡ begins (width w) s.home DrainPhase
+      → Does (pending_access first l.steps) (moving there l) w u now → (l.steps ≡ first → has_bit now.hand.word 0 ≡ false) → GoesOn w s u (moving there now)
+  move_carries_pending w u l now s first seen fits phase begin does zero =
+      let m = moving there l in
+      let moves = is.moves (progress_of l) in
+      let steps = is.steps (progress_of l) in
+      let here : IsIn DrainPhase (width w) m = subst (λ x. IsIn DrainPhase (width w) x) (sym seen) phase in
+      let from : first ≡ begins (width w) m.home DrainPhase = begin ∙ ap (λ (x : Moving). begins (width w) x.home DrainPhase) (sym seen) in
+      let mid = middle (width w) m.home moves in
+      seen_so w u m s (moving there now) (pending_access first (steps_done m.home)) seen fits
+      (pending_next (width w) first m.home moves from (omega (arith, from, here)) here.1) (subst (λ n. Does (pending_access first n) m w u now) (sym steps) does).makes
+      (loaded m there now _ (goes_on l) (subst (λ n. Does (pending_access first n) m w u now) (sym steps) does).carrier)
+      (not_last (width w) m.home (omega (arith, here, mid.take, mid.drain, mid.enable)))
+      (record { pending = λ e. zero (omega (arith, e, steps, from, mid.take, mid.drain)); enabled = λ e. absurd (omega (arith, e, here, mid.take, mid.drain, mid.enable)) })
+
+  pub move_carries_enables : (w u : World) (l now : CarrierState) (s : Moving) (first : ℕ) → moving there l ≡ s → MoveFits w s → IsIn EnablePhase (width w) s → 1 ≤ width w → first ≡ begins (width w) s.home EnablePhase
+      → Does (enables_access first l.steps) (moving there l) w u now → (l.steps ≡ first → has_bit now.hand.word 0 ≡ false) → GoesOn w s u (moving there now)
+  move_carries_enables w u l now s first seen fits phase some begin does zero =
+      let m = moving there l in
+      let moves = is.moves (progress_of l) in
+      let steps = is.steps (progress_of l) in
+      let here : IsIn EnablePhase (width w) m = subst (λ x. IsIn EnablePhase (width w) x) (sym seen) phase in
+      let from : first ≡ begins (width w) m.home EnablePhase = begin ∙ ap (λ (x : Moving). begins (width w) x.home EnablePhase) (sym seen) in
+      let mid = middle (width w) m.home moves in
+      seen_so w u m s (moving there now) (enables_access first (steps_done m.home)) seen fits
+      (enables_next (width w) first m.home moves from (omega (arith, from, here)) here.1) (subst (λ n. Does (enables_access first n) m w u now) (sym steps) does).makes
+      (loaded m there now _ (goes_on l) (subst (λ n. Does (enables_access first n) m w u now) (sym steps) does).carrier)
+      (not_last (width w) m.home (omega (arith, here, mid.take, mid.enable, mid.looks)))
+      (record { pending = λ e. absurd (omega (arith, e, here, mid.take, mid.enable, some)); enabled = λ e. zero (omega (arith, e, steps, from, mid.take, mid.enable)) })

@@ -1,0 +1,300 @@
+-- A step of a move touches only its own.
+use Rattle.std.proofs.Common.{◌≡◌, ◌≢◌, ℕ, ◌+◌, ◌*◌, ◌<◌, ◌≤◌, Bool, true, false, nat_lt, length, get_or, Option, Some, None, inl, inr, ◌⊎◌, refl, sym, ap, ◌∙◌, subst, arith}
+use Rattle.std.proofs.Math.ListN.{set}
+use Rattle.std.proofs.lemmas.Bool.{cases_eq, cases_lt, ltb-true, or_left, or_right}
+use Rattle.std.proofs.lemmas.List.{get_or-set_other}
+use Rattle.std.specs.Prelude.{bit_or}
+use Rattle.aia_file.specs.InterruptFile.{empty_file}
+use Rattle.aia_file.specs.FileState.{FileState, shown}
+use Rattle.aia_imsic.specs.declared.spot.Spot.TheVariants.{MachineFile, SupervisorFile}
+use Rattle.aia_imsic.specs.Imsic.{ImsicState, IsThere, file_at}
+use Rattle.aia_imsic.proofs.PlaceLemmas.{kept_elsewhere}
+use Rattle.aia_mrif.specs.Mrif.{mrif_in, pending_place, enable_place}
+use Rattle.aia_mrif.proofs.SlotLemmas.{other_words}
+use Rattle.aia_entry.specs.Tables.{table_of, entry_in_force}
+use Rattle.aia_entry.proofs.TableLemmas.{fenced_elsewhere, fenced_mask, fenced_start, fenced_count}
+use Rattle.aia_home.specs.declared.place.Place.{Place}
+use Rattle.aia_home.specs.Vms.{Vcpu, vcpu, is_vcpu_in, slot_of}
+use Rattle.aia_home.specs.Home.{Home, Progress, is_place, holds}
+use Rattle.aia_home.specs.Home.Home.{Parked, Entered, Resident, Leaving, Arriving, Shifting}
+use Rattle.aia_home.specs.BySteps.{own_file, next_file, new_file}
+use Rattle.aia_home.specs.Plans.{Access, IsNext}
+use Rattle.aia_home.specs.Plans.Access.{TakeDelivery, PutDelivery, WriteNotice, WriteEntry, Fence, Map, GFence, TakePending, PutPending, TakeEnables, PutEnables, Look, TakeThreshold, PutThreshold, Post}
+use Rattle.aia_home.proofs.HomeLemmas.{is_itself_place, own_is_held, next_is_held}
+use Rattle.aia_home.proofs.VmLemmas.{same_slot}
+use Rattle.aia_places.specs.Places.{entry_word, second_word}
+use Rattle.aia_places.specs.Holds.{Hand}
+use Rattle.aia_world.specs.declared.stage.Stage.{Stage}
+use Rattle.aia_world.specs.World.{World, stage_of, no_stage}
+use Rattle.aia_world.specs.Whole.{IsWhole}
+use Rattle.aia_world.specs.Making.{entry_word_place}
+use Rattle.aia_world.specs.Stores.{Posts}
+use Rattle.aia_world.specs.Changes.{spot_of, file_in, places_of, with_word, with_state, with_entry_word, with_fence, with_stage}
+use Rattle.aia_world.proofs.FrameLemmas.{posts_rest}
+use Rattle.aia_world.proofs.WholeLemmas.{vcpu_entry, notice_hart_there}
+use Rattle.aia_moving.specs.declared.who.Who.{Who}
+use Rattle.aia_moving.specs.Move.{Moving, mover, width, PostsIf, Makes, MoveFits, MakesNext}
+use Rattle.aia_moving.specs.Touches.{Touches, sends}
+use Rattle.aia_world.proofs.ViewLemmas.{same_place, slot_low}
+use Rattle.aia_moving.proofs.MadeView.{few_words}
+use Rattle.aia_regs.specs.declared.limits.TheConstants.{SLOTS, ENTRIES, FILE_WORDS}
+
+-- ---- what the changes leave
+
+module _ (w u : World) (m : Moving) where
+  abbrev TouchesOwn : World → Type 0
+  TouchesOwn x = Touches false w x m
+
+  pub touches_nothing : u ≡ w → Touches false w u m
+  touches_nothing e = subst TouchesOwn (sym e) (record {
+    rest = refl;
+    tables = refl;
+    masks = λ v. refl;
+    starts = λ v. refl;
+    guest_files = λ p there none. refl;
+    machine_files = λ hart low. refl;
+    host_files = λ hart low other. refl;
+    noticed = λ no. absurd (cc);
+    count = λ no. refl;
+    slots = λ r low other. refl;
+    entry_words = λ g there other. (refl, refl);
+    in_force = λ g other. refl;
+    stages = λ q other. refl;
+  })
+
+  held_apart : (there : Home) (r p : Place) → holds r there ≡ false → holds p there ≡ true → spot_of r ≢ spot_of p
+  held_apart there r p none some e = let no : false ≡ true = sym none ∙ ap (λ (x : Place). holds x there) (same_place r p e) ∙ some in absurd (cc)
+
+  pub touches_file : (p : Place) (f : FileState) → IsThere w.imsic (spot_of p) → holds p m.home ≡ true → u ≡ with_state w (spot_of p) f → Touches false w u m
+  touches_file p f stands held e = subst TouchesOwn (sym e) (record {
+    rest = refl;
+    tables = refl;
+    masks = λ v. refl;
+    starts = λ v. refl;
+    guest_files = λ r there none. kept_elsewhere w.imsic (spot_of p) (spot_of r) f stands there (held_apart m.home r p none held);
+    machine_files = λ hart low. kept_elsewhere w.imsic (spot_of p) (MachineFile hart) f stands low (λ e. absurd (cc));
+    host_files = λ hart low other. kept_elsewhere w.imsic (spot_of p) (SupervisorFile hart) f stands low (λ e. absurd (cc));
+    noticed = λ no. absurd (cc);
+    count = λ no. refl;
+    slots = λ r low other. refl;
+    entry_words = λ g there other. (refl, refl);
+    in_force = λ g other. refl;
+    stages = λ q other. refl;
+  })
+
+  -- a word of memory: one of the slot, or one of the entry
+  touches_word : (place v : ℕ) → ((r : ℕ) → r < SLOTS → r ≢ m.who.found.slot → (place < 64 * r) ⊎ (64 * (r + 1) ≤ place))
+      → ((g : Vcpu) → is_vcpu_in w.vms g ≡ true → g ≢ mover m → (entry_word_place g.vm g.number ≢ place) × (entry_word_place g.vm g.number + 1 ≢ place))
+      → u ≡ with_word w place v → Touches false w u m
+  touches_word place v apart past e = subst TouchesOwn (sym e) (record {
+    rest = refl;
+    tables = refl;
+    masks = λ x. refl;
+    starts = λ x. refl;
+    guest_files = λ r there none. refl;
+    machine_files = λ hart low. refl;
+    host_files = λ hart low other. refl;
+    noticed = λ no. absurd (cc);
+    count = λ no. refl;
+    slots = λ r low other. other_words w.memory r place v (apart r low other);
+    entry_words = λ g there other. (get_or-set_other w.memory place (entry_word_place g.vm g.number) v 0 (past g there other).0, get_or-set_other w.memory place (entry_word_place g.vm g.number + 1) v 0 (past g there other).1);
+    in_force = λ g other. refl;
+    stages = λ q other. refl;
+  })
+
+  module _ (whole : IsWhole w) (stands : is_vcpu_in w.vms (mover m) ≡ true) where
+    pub touches_slot : (place j v : ℕ) → place ≡ 64 * m.who.found.slot + j → m.who.found.slot < SLOTS → j < 64 → u ≡ with_word w place v → Touches false w u m
+    touches_slot place j v at low few e = touches_word place v
+        (λ r small other. elim (cases_lt r m.who.found.slot) [
+          | inl less ↦ inr (omega arith)
+          | inr more ↦ inl (omega (arith, other))
+        ])
+        (λ g there other. (λ same. omega arith, λ same. omega arith)) e
+
+    one_entry : (a b c d x y : ℕ) → b < ENTRIES → d < ENTRIES → x ≤ 1 → y ≤ 1 → entry_word_place a b + x ≡ entry_word_place c d + y → (a ≡ c) × (b ≡ d)
+    one_entry a b c d x y low small one two e = (omega arith, omega arith)
+
+    pub touches_entry : (which v : ℕ) → which ≤ 1 → u ≡ with_entry_word w m.who.found.vm m.who.found.number which v → Touches false w u m
+    touches_entry which v one e = touches_word (entry_word_place m.who.found.vm m.who.found.number + which) v (λ r small other. inr (omega arith)) apart e
+      where
+        apart : (g : Vcpu) → is_vcpu_in w.vms g ≡ true → g ≢ mover m → (entry_word_place g.vm g.number ≢ entry_word_place m.who.found.vm m.who.found.number + which) × (entry_word_place g.vm g.number + 1 ≢ entry_word_place m.who.found.vm m.who.found.number + which)
+        apart g there other =
+            let mine = vcpu_entry w m.who.found.vm m.who.found.number whole stands in
+            let its = vcpu_entry w g.vm g.number whole there in (
+              λ same. let zero : entry_word_place g.vm g.number + 0 ≡ entry_word_place m.who.found.vm m.who.found.number + which = omega (arith, same) in
+                  let both = one_entry g.vm g.number m.who.found.vm m.who.found.number 0 which its.2 mine.2 (omega arith) one zero in other (λ k. vcpu (both.0 k) (both.1 k)),
+              λ same. let both = one_entry g.vm g.number m.who.found.vm m.who.found.number 1 which its.2 mine.2 (omega arith) one same in other (λ k. vcpu (both.0 k) (both.1 k)),
+            )
+
+    pub touches_fence : u ≡ with_fence w m.who.found.vm m.who.found.number → Touches false w u m
+    touches_fence e = subst TouchesOwn (sym e) (record {
+      rest = refl;
+      tables = fenced_count w.tables m.who.found.vm m.who.found.number w.memory;
+      masks = λ v. fenced_mask w.tables m.who.found.vm m.who.found.number w.memory v;
+      starts = λ v. fenced_start w.tables m.who.found.vm m.who.found.number w.memory v;
+      guest_files = λ r there none. refl;
+      machine_files = λ hart low. refl;
+      host_files = λ hart low other. refl;
+      noticed = λ no. absurd (cc);
+      count = λ no. refl;
+      slots = λ r low other. refl;
+      entry_words = λ g there other. (refl, refl);
+      in_force = λ g other. fenced_elsewhere w.tables m.who.found.vm m.who.found.number w.memory g.vm g.number (elsewhere g other);
+      stages = λ q other. refl;
+    })
+      where
+        elsewhere : (g : Vcpu) → g ≢ mover m → (g.vm ≢ m.who.found.vm) ⊎ (g.number ≢ m.who.found.number)
+        elsewhere g other = elim (cases_eq g.vm m.who.found.vm) [
+          | inl same ↦ inr (λ too. other (λ k. vcpu (same k) (too k)))
+          | inr ne ↦ inl ne
+        ]
+
+    pub touches_stage : (s : Stage) → u ≡ with_stage w (mover m) s → Touches false w u m
+    touches_stage s e = subst TouchesOwn (sym e) (record {
+      rest = refl;
+      tables = refl;
+      masks = λ v. refl;
+      starts = λ v. refl;
+      guest_files = λ r there none. refl;
+      machine_files = λ hart low. refl;
+      host_files = λ hart low other. refl;
+      noticed = λ no. absurd (cc);
+      count = λ no. refl;
+      slots = λ r low other. refl;
+      entry_words = λ g there other. (refl, refl);
+      in_force = λ g other. refl;
+      stages = λ q other. get_or-set_other w.stages (slot_of w.vms (mover m)) q s no_stage other;
+    })
+
+  pub touches_notice : m.who.found.notice < w.imsic.harts → Posts w u (SupervisorFile m.who.found.notice) (m.who.found.slot + 1) → Touches true w u m
+  touches_notice low p = record {
+    rest = (posts_rest w u (SupervisorFile m.who.found.notice) (m.who.found.slot + 1) p) ∙ (λ k. record w { imsic = record w.imsic { files = u.imsic.files }; memory = u.memory; tables = sym (ap (λ (x : World). x.tables) p.rest) k; stages = sym (ap (λ (x : World). x.stages) p.rest) k; notices = u.notices });
+    tables = ap (λ (x : World). length x.tables) p.rest;
+    masks = λ v. ap (λ (x : World). (table_of x.tables v).mask) p.rest;
+    starts = λ v. ap (λ (x : World). (table_of x.tables v).start) p.rest;
+    guest_files = λ r there none. ap (λ (j : ImsicState). file_at j (spot_of r)) p.lands.others ∙ kept_elsewhere w.imsic (SupervisorFile m.who.found.notice) (spot_of r) (file_at u.imsic (SupervisorFile m.who.found.notice)) low there (λ e. absurd (cc));
+    machine_files = λ hart small. ap (λ (j : ImsicState). file_at j (MachineFile hart)) p.lands.others ∙ kept_elsewhere w.imsic (SupervisorFile m.who.found.notice) (MachineFile hart) (file_at u.imsic (SupervisorFile m.who.found.notice)) low small (λ e. absurd (cc));
+    host_files = λ hart small which. elim which [
+      | inl never ↦ absurd (cc)
+      | inr other ↦ ap (λ (j : ImsicState). file_at j (SupervisorFile hart)) p.lands.others ∙ kept_elsewhere w.imsic (SupervisorFile m.who.found.notice) (SupervisorFile hart) (file_at u.imsic (SupervisorFile m.who.found.notice)) low small (λ e. let same : hart ≡ m.who.found.notice = cc in other same)
+    ];
+    noticed = λ yes. p;
+    count = λ no. absurd (cc);
+    slots = λ r small other. ap (λ (x : World). mrif_in x.memory r) p.rest;
+    entry_words = λ g there other. (ap (λ (x : World). get_or x.memory (entry_word_place g.vm g.number) 0) p.rest, ap (λ (x : World). get_or x.memory (entry_word_place g.vm g.number + 1) 0) p.rest);
+    in_force = λ g other. ap (λ (x : World). entry_in_force (table_of x.tables g.vm) g.number) p.rest;
+    stages = λ q other. ap (λ (x : World). get_or x.stages q no_stage) p.rest;
+  }
+
+  pub touches_notice_if : (seen : Bool) → m.who.found.notice < w.imsic.harts → PostsIf seen w u m.who.found.notice (m.who.found.slot + 1) → Touches seen w u m
+  touches_notice_if true low p = touches_notice low p
+  touches_notice_if false low e = touches_nothing e
+
+-- ---- each move
+
+of_width : (w : World) (k : ℕ) → IsWhole w → nat_lt k (width w) ≡ true → k < FILE_WORDS
+of_width w k whole e = let low : k < width w = ltb-true _ _ e in let few = few_words w.n whole.greatest in omega (arith, low, few)
+
+leave_touches : (access : Access) (w u : World) (who : Who) (from : Place) (at : Progress) (hand : Hand) → IsWhole w → MoveFits w (record { who = who; home = (Leaving from at); hand = hand }) → IsNext (width w) (Leaving from at) access
+    → Makes access (record { who = who; home = (Leaving from at); hand = hand }) w u → Touches (sends access hand) w u (record { who = who; home = (Leaving from at); hand = hand })
+leave_touches WriteNotice w u who from at hand whole fits next makes = touches_entry w u (record { who = who; home = (Leaving from at); hand = hand }) whole fits.there 1 (second_word who.found.slot who.found.notice) (omega arith) makes
+leave_touches WriteEntry w u who from at hand whole fits next makes = touches_entry w u (record { who = who; home = (Leaving from at); hand = hand }) whole fits.there 0 (entry_word who.found.slot (new_file (Leaving from at))) (omega arith) makes
+leave_touches Fence w u who from at hand whole fits next makes = touches_fence w u (record { who = who; home = (Leaving from at); hand = hand }) whole fits.there makes
+leave_touches Map w u who from at hand whole fits next makes = touches_stage w u (record { who = who; home = (Leaving from at); hand = hand }) whole fits.there (record (stage_of w (vcpu who.found.vm who.found.number)) { written = new_file (Leaving from at) }) makes
+leave_touches GFence w u who from at hand whole fits next makes = touches_stage w u (record { who = who; home = (Leaving from at); hand = hand }) whole fits.there (record (stage_of w (vcpu who.found.vm who.found.number)) { in_force = (stage_of w (vcpu who.found.vm who.found.number)).written }) makes
+leave_touches TakeDelivery w u who from at hand whole fits next makes = touches_file w u (record { who = who; home = (Leaving from at); hand = hand }) from (file_at u.imsic (spot_of from)) (fits.own from refl) (is_itself_place from) makes.others
+leave_touches TakeThreshold w u who from at hand whole fits next makes = touches_file w u (record { who = who; home = (Leaving from at); hand = hand }) from (file_at u.imsic (spot_of from)) (fits.own from refl) (is_itself_place from) makes.others
+leave_touches (TakePending k) w u who from at hand whole fits next makes = touches_file w u (record { who = who; home = (Leaving from at); hand = hand }) from (record (file_at w.imsic (spot_of from)) { pending = set (file_at w.imsic (spot_of from)).pending k 0 }) (fits.own from refl) (is_itself_place from) makes
+leave_touches (TakeEnables k) w u who from at hand whole fits next makes = touches_file w u (record { who = who; home = (Leaving from at); hand = hand }) from (record (file_at w.imsic (spot_of from)) { enabled = set (file_at w.imsic (spot_of from)).enabled k 0 }) (fits.own from refl) (is_itself_place from) makes
+leave_touches (PutPending k) w u who from at hand whole fits next makes =
+    let few : k < FILE_WORDS = of_width w k whole next.has in
+    let low : who.found.slot < SLOTS = let small = slot_low w (vcpu who.found.vm who.found.number) whole fits.there in omega (arith, small, fits.slot) in
+    touches_slot w u (record { who = who; home = (Leaving from at); hand = hand }) whole fits.there (pending_place who.found.slot k) (2 * k) (bit_or (get_or w.memory (pending_place who.found.slot k) 0) hand.word) (omega arith) low (omega arith) makes.1
+leave_touches (PutEnables k) w u who from at hand whole fits next makes =
+    let few : k < FILE_WORDS = of_width w k whole next.has in
+    let low : who.found.slot < SLOTS = let small = slot_low w (vcpu who.found.vm who.found.number) whole fits.there in omega (arith, small, fits.slot) in
+    touches_slot w u (record { who = who; home = (Leaving from at); hand = hand }) whole fits.there (enable_place who.found.slot k) (2 * k + 1) hand.word (omega arith) low (omega arith) makes.1
+leave_touches (Look k) w u who from at hand whole fits next makes = touches_nothing w u (record { who = who; home = (Leaving from at); hand = hand }) makes
+leave_touches Post w u who from at hand whole fits next makes =
+    let low : who.found.notice < w.imsic.harts = let small = notice_hart_there w (vcpu who.found.vm who.found.number) whole fits.there in omega (arith, small, fits.notice) in
+    touches_notice_if w u (record { who = who; home = (Leaving from at); hand = hand }) hand.seen low makes
+leave_touches PutDelivery w u who from at hand whole fits next makes = let no : false ≡ true = next.has in absurd (cc)
+leave_touches PutThreshold w u who from at hand whole fits next makes = let no : false ≡ true = next.has in absurd (cc)
+
+arrive_touches : (access : Access) (w u : World) (who : Who) (to : Place) (at : Progress) (hand : Hand) → IsWhole w → MoveFits w (record { who = who; home = (Arriving to at); hand = hand }) → IsNext (width w) (Arriving to at) access
+    → Makes access (record { who = who; home = (Arriving to at); hand = hand }) w u → Touches (sends access hand) w u (record { who = who; home = (Arriving to at); hand = hand })
+arrive_touches WriteEntry w u who to at hand whole fits next makes = touches_entry w u (record { who = who; home = (Arriving to at); hand = hand }) whole fits.there 0 (entry_word who.found.slot (new_file (Arriving to at))) (omega arith) makes
+arrive_touches Fence w u who to at hand whole fits next makes = touches_fence w u (record { who = who; home = (Arriving to at); hand = hand }) whole fits.there makes
+arrive_touches Map w u who to at hand whole fits next makes = touches_stage w u (record { who = who; home = (Arriving to at); hand = hand }) whole fits.there (record (stage_of w (vcpu who.found.vm who.found.number)) { written = new_file (Arriving to at) }) makes
+arrive_touches GFence w u who to at hand whole fits next makes = touches_stage w u (record { who = who; home = (Arriving to at); hand = hand }) whole fits.there (record (stage_of w (vcpu who.found.vm who.found.number)) { in_force = (stage_of w (vcpu who.found.vm who.found.number)).written }) makes
+arrive_touches PutDelivery w u who to at hand whole fits next makes = touches_file w u (record { who = who; home = (Arriving to at); hand = hand }) to (file_at u.imsic (spot_of to)) (fits.own to refl) (is_itself_place to) makes.others
+arrive_touches PutThreshold w u who to at hand whole fits next makes = touches_file w u (record { who = who; home = (Arriving to at); hand = hand }) to (file_at u.imsic (spot_of to)) (fits.own to refl) (is_itself_place to) makes.others
+arrive_touches (TakePending k) w u who to at hand whole fits next makes =
+    let few : k < FILE_WORDS = of_width w k whole next.has in
+    let low : who.found.slot < SLOTS = let small = slot_low w (vcpu who.found.vm who.found.number) whole fits.there in omega (arith, small, fits.slot) in
+    touches_slot w u (record { who = who; home = (Arriving to at); hand = hand }) whole fits.there (pending_place who.found.slot k) (2 * k) 0 (omega arith) low (omega arith) makes
+arrive_touches (TakeEnables k) w u who to at hand whole fits next makes =
+    let few : k < FILE_WORDS = of_width w k whole next.has in
+    let low : who.found.slot < SLOTS = let small = slot_low w (vcpu who.found.vm who.found.number) whole fits.there in omega (arith, small, fits.slot) in
+    touches_slot w u (record { who = who; home = (Arriving to at); hand = hand }) whole fits.there (enable_place who.found.slot k) (2 * k + 1) 0 (omega arith) low (omega arith) makes
+arrive_touches (PutPending k) w u who to at hand whole fits next makes = touches_file w u (record { who = who; home = (Arriving to at); hand = hand }) to (record (file_at w.imsic (spot_of to)) { pending = set (file_at w.imsic (spot_of to)).pending k (bit_or (get_or (file_at w.imsic (spot_of to)).pending k 0) hand.word) }) (fits.own to refl) (is_itself_place to) makes.1
+arrive_touches (PutEnables k) w u who to at hand whole fits next makes = touches_file w u (record { who = who; home = (Arriving to at); hand = hand }) to (record (file_at w.imsic (spot_of to)) { enabled = set (file_at w.imsic (spot_of to)).enabled k hand.word }) (fits.own to refl) (is_itself_place to) makes.1
+arrive_touches TakeDelivery w u who to at hand whole fits next makes = let no : false ≡ true = next.has in absurd (cc)
+arrive_touches TakeThreshold w u who to at hand whole fits next makes = let no : false ≡ true = next.has in absurd (cc)
+arrive_touches WriteNotice w u who to at hand whole fits next makes = let no : false ≡ true = next.has in absurd (cc)
+arrive_touches (Look k) w u who to at hand whole fits next makes = let no : false ≡ true = next.has in absurd (cc)
+arrive_touches Post w u who to at hand whole fits next makes = let no : false ≡ true = next.has in absurd (cc)
+
+shift_touches : (access : Access) (w u : World) (who : Who) (from to : Place) (at : Progress) (hand : Hand) → IsWhole w → MoveFits w (record { who = who; home = (Shifting from to at); hand = hand }) → IsNext (width w) (Shifting from to at) access
+    → Makes access (record { who = who; home = (Shifting from to at); hand = hand }) w u → Touches (sends access hand) w u (record { who = who; home = (Shifting from to at); hand = hand })
+shift_touches WriteEntry w u who from to at hand whole fits next makes = touches_entry w u (record { who = who; home = (Shifting from to at); hand = hand }) whole fits.there 0 (entry_word who.found.slot (new_file (Shifting from to at))) (omega arith) makes
+shift_touches Fence w u who from to at hand whole fits next makes = touches_fence w u (record { who = who; home = (Shifting from to at); hand = hand }) whole fits.there makes
+shift_touches Map w u who from to at hand whole fits next makes = touches_stage w u (record { who = who; home = (Shifting from to at); hand = hand }) whole fits.there (record (stage_of w (vcpu who.found.vm who.found.number)) { written = new_file (Shifting from to at) }) makes
+shift_touches GFence w u who from to at hand whole fits next makes = touches_stage w u (record { who = who; home = (Shifting from to at); hand = hand }) whole fits.there (record (stage_of w (vcpu who.found.vm who.found.number)) { in_force = (stage_of w (vcpu who.found.vm who.found.number)).written }) makes
+shift_touches TakeDelivery w u who from to at hand whole fits next makes = touches_file w u (record { who = who; home = (Shifting from to at); hand = hand }) from (file_at u.imsic (spot_of from)) (fits.own from refl) (or_left (is_place from from) (is_place from to) (is_itself_place from)) makes.others
+shift_touches TakeThreshold w u who from to at hand whole fits next makes = touches_file w u (record { who = who; home = (Shifting from to at); hand = hand }) from (file_at u.imsic (spot_of from)) (fits.own from refl) (or_left (is_place from from) (is_place from to) (is_itself_place from)) makes.others
+shift_touches PutDelivery w u who from to at hand whole fits next makes = touches_file w u (record { who = who; home = (Shifting from to at); hand = hand }) to (file_at u.imsic (spot_of to)) (fits.next to refl) (or_right (is_place to from) (is_place to to) (is_itself_place to)) makes.others
+shift_touches PutThreshold w u who from to at hand whole fits next makes = touches_file w u (record { who = who; home = (Shifting from to at); hand = hand }) to (file_at u.imsic (spot_of to)) (fits.next to refl) (or_right (is_place to from) (is_place to to) (is_itself_place to)) makes.others
+shift_touches (TakePending k) w u who from to at hand whole fits next makes = touches_file w u (record { who = who; home = (Shifting from to at); hand = hand }) from (record (file_at w.imsic (spot_of from)) { pending = set (file_at w.imsic (spot_of from)).pending k 0 }) (fits.own from refl) (or_left (is_place from from) (is_place from to) (is_itself_place from)) makes
+shift_touches (TakeEnables k) w u who from to at hand whole fits next makes = touches_file w u (record { who = who; home = (Shifting from to at); hand = hand }) from (record (file_at w.imsic (spot_of from)) { enabled = set (file_at w.imsic (spot_of from)).enabled k 0 }) (fits.own from refl) (or_left (is_place from from) (is_place from to) (is_itself_place from)) makes
+shift_touches (PutPending k) w u who from to at hand whole fits next makes = touches_file w u (record { who = who; home = (Shifting from to at); hand = hand }) to (record (file_at w.imsic (spot_of to)) { pending = set (file_at w.imsic (spot_of to)).pending k (bit_or (get_or (file_at w.imsic (spot_of to)).pending k 0) hand.word) }) (fits.next to refl) (or_right (is_place to from) (is_place to to) (is_itself_place to)) makes.1
+shift_touches (PutEnables k) w u who from to at hand whole fits next makes = touches_file w u (record { who = who; home = (Shifting from to at); hand = hand }) to (record (file_at w.imsic (spot_of to)) { enabled = set (file_at w.imsic (spot_of to)).enabled k hand.word }) (fits.next to refl) (or_right (is_place to from) (is_place to to) (is_itself_place to)) makes.1
+shift_touches WriteNotice w u who from to at hand whole fits next makes = let no : false ≡ true = next.has in absurd (cc)
+shift_touches (Look k) w u who from to at hand whole fits next makes = let no : false ≡ true = next.has in absurd (cc)
+shift_touches Post w u who from to at hand whole fits next makes = let no : false ≡ true = next.has in absurd (cc)
+
+touches_by : (access : Access) (w u : World) (who : Who) (there : Home) (hand : Hand) → IsWhole w → MoveFits w (record { who = who; home = there; hand = hand }) → IsNext (width w) there access
+    → Makes access (record { who = who; home = there; hand = hand }) w u → Touches (sends access hand) w u (record { who = who; home = there; hand = hand })
+touches_by access w u who Parked hand whole fits next makes = let no : false ≡ true = next.has in absurd (cc)
+touches_by access w u who Entered hand whole fits next makes = let no : false ≡ true = next.has in absurd (cc)
+touches_by access w u who (Resident p) hand whole fits next makes = let no : false ≡ true = next.has in absurd (cc)
+touches_by access w u who (Leaving from at) hand whole fits next makes = leave_touches access w u who from at hand whole fits next makes
+touches_by access w u who (Arriving to at) hand whole fits next makes = arrive_touches access w u who to at hand whole fits next makes
+touches_by access w u who (Shifting from to at) hand whole fits next makes = shift_touches access w u who from to at hand whole fits next makes
+
+-- a step touches only its own
+pub step_touches : (w u : World) (m : Moving) (hand : Hand) → IsWhole w → MoveFits w m → (step : MakesNext w m u hand) → Touches (sends step.access m.hand) w u m
+step_touches w u m hand whole fits step = touches_by step.access w u m.who m.home m.hand whole fits step.is_next step.makes
+
+-- ---- so the places of others stay
+
+file_stays : (sent : Bool) (w u : World) (m : Moving) (o : Option Place) → Touches sent w u m → ((p : Place) → o ≡ Some p → IsThere w.imsic (spot_of p) × (holds p m.home ≡ false)) → file_in u o ≡ file_in w o
+file_stays sent w u m None t others = ap (λ n. empty_file n) (ap (λ (x : World). x.n) t.rest)
+file_stays sent w u m (Some p) t others = let other = others p refl in ap shown (t.guest_files p other.0 other.1)
+
+pub view_stays : (sent : Bool) (w u : World) (m : Moving) (g : Vcpu) (there : Home) → IsWhole w → MoveFits w m → Touches sent w u m → is_vcpu_in w.vms g ≡ true → g ≢ mover m
+    → ((p : Place) → holds p there ≡ true → IsThere w.imsic (spot_of p) × (holds p m.home ≡ false)) → places_of u g there ≡ places_of w g there
+view_stays sent w u m g there whole fits t stands other theirs =
+    let own = file_stays sent w u m (own_file there) t (λ p e. theirs p (own_is_held there p e)) in
+    let next = file_stays sent w u m (next_file there) t (λ p e. theirs p (next_is_held there p e)) in
+    let apart : slot_of w.vms g ≢ slot_of w.vms (mover m) = λ e. other (same_slot w.vms g (mover m) stands fits.there e) in
+    let slot = ap (λ (x : World). mrif_in u.memory (slot_of x.vms g)) t.rest
+    ∙ t.slots (slot_of w.vms g) (slot_low w g whole stands) (λ e. apart (e ∙ fits.slot)) in
+    let words = t.entry_words g stands other in
+    let entry = t.in_force g other in
+    let stage : stage_of u g ≡ stage_of w g = ap (λ (x : World). get_or u.stages (slot_of x.vms g) no_stage) t.rest ∙ t.stages (slot_of w.vms g) apart in
+    λ k. record { own = own k; next = next k; slot = slot k; word0 = words.0 k; word1 = words.1 k; in_force = entry k; stage = (stage k).written; stage_in_force = (stage k).in_force }
+
+-- the virtual hart that is moved has its slot and notice hart still, and its files are there
+pub there_still : (sent : Bool) (w u : World) (m : Moving) (p : Place) → Touches sent w u m → IsThere w.imsic (spot_of p) → IsThere u.imsic (spot_of p)
+there_still sent w u m p t stands = (omega (arith, stands.0, ap (λ (x : World). x.imsic.harts) t.rest), stands.1, omega (arith, stands.2, ap (λ (x : World). x.imsic.guests) t.rest))

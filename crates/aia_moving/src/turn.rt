@@ -1,0 +1,31 @@
+use crate::KeptNumbers;
+use aia_pool::FileLease;
+
+/// What a step makes of a move in one of its phases.
+#[derive(Drop)]
+pub enum Turn<S, T> {
+    /// It stays in the phase.
+    Stay(S),
+    /// It goes on to the next one.
+    On(T),
+}
+
+/// The phase of a move once its G-stage record is in force.
+#[derive(Drop)]
+pub enum Closed<A, D> {
+    /// Its next step aims a passed source.
+    Aim(A),
+    /// All are aimed: its next step takes a word of the pending set.
+    Drain(D),
+}
+
+/// What a move gives back at its end.
+#[derive(Drop)]
+pub enum Outcome {
+    /// The virtual hart is parked: the file that it left, and what the hypervisor keeps of it.
+    Left(FileLease, KeptNumbers),
+    /// It is resident in this file.
+    Arrived(FileLease),
+    /// It left the first file, and is resident in the second.
+    Shifted(FileLease, FileLease),
+}

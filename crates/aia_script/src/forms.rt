@@ -1,0 +1,323 @@
+//! The forms of lines, as one table: the keyword, the kinds of the fields in their order, the line.
+//! Lines are read and printed by its rows.
+//!
+//! Those that end with a CSR instruction, a part of an image or a move, and those that go on with a
+//! word of their own, have functions beside it.
+
+ghost use Rattle.std.specs.Prelude.{◌≡◌, ◌≤◌, [], ◌∷◌, length, map};
+ghost use Rattle.std.specs.List.{join_with_byte, AllByRecursion};
+ghost use Rattle.aia_regs.specs.Operations.{FitsOp};
+ghost use Rattle.aia_model.specs.AnswerText.{field_text};
+ghost use Rattle.aia_model.specs.Grammar.{fields};
+ghost use Rattle.aia_model.specs.Grammar.Field.{Keyword, Of};
+ghost use Rattle.aia_model.specs.Grammar.Kind.{Decimal};
+ghost use Rattle.aia_model.specs.Forms.{instruction, access_values, part_fields, part, part_shape, machine_csr, host, guest, begin, load_part, Spells, IsListed};
+ghost use Rattle.aia_model.specs.Printing.{line_text, FitsField, IsPrintable};
+ghost use Rattle.aia_model.specs.Reading.{line_by, line_after, line_at, read, reading};
+ghost use Rattle.aia_model.specs.declared.limits.TheConstants.{LINE_BYTES};
+ghost use Rattle.aia_script.specs.Cursor.{left};
+
+use crate::instructions::{instruction_after, instruction_at, push_instruction};
+use crate::number::{bit_at, n32_at, number_at};
+use crate::parts::{part_at, push_part};
+use crate::pieces::{push_decimal, push_decimal32, push_hex, push_text};
+use crate::rows::{print_by_row, print_field, read_by_row, read_field};
+use crate::words::{Words, at_end, is_word, word_at};
+use aia_model::limits::LINE_BYTES;
+use aia_model::{Line, Parsed, Part, Want};
+use aia_regs::{Csr, Level, Op};
+use arrayvec::ArrayVec;
+
+/// Hands the rows of the table to a macro, after its arguments.
+macro_rules! forms {
+    ($take:ident $args:tt) => {
+        $take! { $args
+            b"st" [addr: Hex, value: Hex32] (Line::Store { addr, value })
+            b"ld" [addr: Hex] (Line::Load { addr })
+            b"wire" [source: Decimal, level: Bit] (Line::Wire { source, level })
+            b"msi" [vm: Decimal, addr: Hex, value: Decimal32] (Line::Msi { vm, addr, value })
+            b"send" [vm: Decimal, addr: Hex, value: Decimal32] (Line::Send { vm, addr, value })
+            b"land" [vm: Decimal, k: Decimal] (Line::Land { vm, k })
+            b"step" [vm: Decimal, vcpu: Decimal] (Line::Step { vm, vcpu })
+            b"refetch" [vm: Decimal, vcpu: Decimal] (Line::Refetch { vm, vcpu })
+            b"enter" [vm: Decimal, vcpu: Decimal] (Line::Enter { vm, vcpu })
+            b"exit" [vm: Decimal, vcpu: Decimal] (Line::Exit { vm, vcpu })
+            b"inject" [vm: Decimal, vcpu: Decimal, bit: Decimal, level: Bit]
+                (Line::Inject { vm, vcpu, bit, level })
+            b"hvictl" [vm: Decimal, vcpu: Decimal, value: Hex] (Line::Hvictl { vm, vcpu, value })
+            b"hviprio" [vm: Decimal, vcpu: Decimal, value: Hex]
+                (Line::Hviprio { vm, vcpu, value })
+            b"save" [vm: Decimal, vcpu: Decimal, k: Decimal] (Line::Save { vm, vcpu, k })
+            b"pins" [hart: Decimal] (Line::Pins { hart })
+            b"entry" [w0: Hex, w1: Hex] (Line::Entry { w0, w1 })
+            b"pass" [source: Decimal, vm: Decimal, vcpu: Decimal, identity: Decimal]
+                (Line::Pass { source, vm, vcpu, identity })
+            b"vm" [vcpus: Decimal, mask: Hex, hart: Decimal] (Line::Vm { vcpus, mask, hart })
+            b"machine" [harts: Decimal, guests: Decimal, n: Decimal, sources: Decimal]
+                (Line::Machine { harts, guests, n, sources })
+        }
+    };
+}
+
+/// Hands the rows of moves to a macro, after its arguments, for the lines of a variant.
+macro_rules! moves {
+    ($take:ident $args:tt $line:ident) => {
+        $take! { $args
+            b"arrive" [vm: Decimal, vcpu: Decimal, hart: Decimal]
+                (Line::$line { vm, vcpu, want: Want::Arrive(hart) })
+            b"leave" [vm: Decimal, vcpu: Decimal] (Line::$line { vm, vcpu, want: Want::Leave })
+            b"shift" [vm: Decimal, vcpu: Decimal, hart: Decimal]
+                (Line::$line { vm, vcpu, want: Want::Shift(hart) })
+        }
+    };
+}
+
+/// Reads the line that the words after `m` spell; `None` where they spell none.
+#[tactic(auto, using(crate::proofs::FormLemmas::machine_access))]
+#[inline(always)]
+fn machine_csr_at(words: &mut Words<'_>) -> Option<Line>
+    ensures { result ≡ line_by machine_csr (left words.old) }
+{
+    let hart = number_at(words)?;
+    let (csr, op) = instruction_at(Level::Machine, words)?;
+    Some(Line::MachineCsr { hart, csr, op })
+}
+
+/// Reads the line that the words after `h` spell; `None` where they spell none.
+#[tactic(auto, using(crate::proofs::FormLemmas::host_access))]
+#[inline(always)]
+fn host_at(words: &mut Words<'_>) -> Option<Line>
+    ensures { result ≡ line_by host (left words.old) }
+{
+    let hart = number_at(words)?;
+    let word = word_at(words)?;
+    if is_word(word, b"hgeip") {
+        return at_end(words, Line::Hgeip { hart });
+    }
+    let (csr, op) = instruction_after(Level::Host, word, words)?;
+    Some(Line::HostCsr { hart, csr, op })
+}
+
+/// Reads the line that the words after `g` spell; `None` where they spell none.
+#[tactic(auto, using(crate::proofs::FormLemmas::guest_access))]
+#[inline(always)]
+fn guest_at(words: &mut Words<'_>) -> Option<Line>
+    ensures { result ≡ line_by guest (left words.old) }
+{
+    let vm = number_at(words)?;
+    let vcpu = number_at(words)?;
+    let word = word_at(words)?;
+    if is_word(word, b"ipi") {
+        let to = number_at(words)?;
+        let value = n32_at(words)?;
+        return at_end(
+            words,
+            Line::Ipi {
+                vm,
+                vcpu,
+                to,
+                value,
+            },
+        );
+    }
+    let (csr, op) = instruction_after(Level::Guest, word, words)?;
+    Some(Line::GuestCsr { vm, vcpu, csr, op })
+}
+
+/// Reads the line that the words after `begin` spell; `None` where they spell none.
+#[inline(always)]
+fn begin_at(words: &mut Words<'_>) -> Option<Line>
+    ensures { result ≡ line_by begin (left words.old) }
+{
+    let name = word_at(words)?;
+    moves!(read_by_row (name, words) Begin);
+    None
+}
+
+/// Reads the line that the words after `load` and the numbers of a virtual hart spell; `None` where
+/// they spell none.
+#[inline(always)]
+fn load_part_of(vm: u64, vcpu: u64, words: &mut Words<'_>) -> Option<Line>
+    ensures { result ≡ read part_shape (λ values. Line.LoadPart vm vcpu (part values)) (left words.old) }
+{
+    let part = part_at(words)?;
+    Some(Line::LoadPart { vm, vcpu, part })
+}
+
+/// Reads the line that the words after `load` spell; `None` where they spell none.
+#[inline(always)]
+fn load_part_at(words: &mut Words<'_>) -> Option<Line>
+    ensures { result ≡ line_by load_part (left words.old) }
+{
+    let vm = number_at(words)?;
+    let vcpu = number_at(words)?;
+    load_part_of(vm, vcpu, words)
+}
+
+/// Reads the line that the words after a keyword spell; `None` where they spell none.
+#[inline(always)]
+fn line_after(keyword: &[u8], words: &mut Words<'_>) -> Option<Line>
+    ensures { result ≡ line_after keyword.now (left words.old) }
+{
+    if is_word(keyword, b"m") {
+        return machine_csr_at(words);
+    }
+    if is_word(keyword, b"h") {
+        return host_at(words);
+    }
+    if is_word(keyword, b"g") {
+        return guest_at(words);
+    }
+    if is_word(keyword, b"begin") {
+        return begin_at(words);
+    }
+    if is_word(keyword, b"load") {
+        return load_part_at(words);
+    }
+    moves!(read_by_row (keyword, words) Move);
+    forms!(read_by_row(keyword, words));
+    None
+}
+
+/// Reads the line that words spell; `None` where they spell none.
+#[tactic(auto, unfolding(aia_model::specs::Reading::line_at))]
+#[inline(always)]
+pub fn line_at(words: &mut Words<'_>) -> Option<Line>
+    ensures { result ≡ line_at (left words.old) }
+{
+    let keyword = word_at(words)?;
+    line_after(keyword, words)
+}
+
+/// Appends a keyword, a hart's number and a CSR instruction to `out`, which is empty.
+#[tactic(auto, using(crate::proofs::PrintLemmas::joined_instruction))]
+fn push_access(
+    out: &mut ArrayVec<u8, LINE_BYTES>,
+    keyword: &[u8],
+    hart: u64,
+    level: Level,
+    csr: Csr,
+    op: Op,
+)
+    requires empty { out.old.items ≡ [] }
+    requires short { length keyword.now ≤ 8 }
+    ensures text { out.new.items ≡ join_with_byte 32 (map field_text (Keyword keyword.now
+        ∷ Of Decimal hart ∷ fields (instruction level) (access_values level csr op))) }
+    ensures range { FitsOp op }
+{
+    push_text(out, keyword);
+    push_decimal(out, hart);
+    push_instruction(out, level, csr, op);
+}
+
+/// Appends `g` and a CSR instruction of a virtual hart to `out`, which is empty.
+#[tactic(auto, unfolding(aia_model::specs::Printing::line_text), using(crate::proofs::PrintLemmas::joined_instruction))]
+fn push_guest(out: &mut ArrayVec<u8, LINE_BYTES>, vm: u64, vcpu: u64, csr: Csr, op: Op)
+    requires empty { out.old.items ≡ [] }
+    ensures text { out.new.items ≡ line_text (Line.GuestCsr vm vcpu csr op) }
+    ensures range { FitsOp op }
+{
+    push_text(out, b"g");
+    push_decimal(out, vm);
+    push_decimal(out, vcpu);
+    push_instruction(out, Level::Guest, csr, op);
+}
+
+/// Appends `g` and a store of a virtual hart at the file of another to `out`, which is empty.
+#[tactic(auto, unfolding(aia_model::specs::Printing::line_text))]
+fn push_ipi(out: &mut ArrayVec<u8, LINE_BYTES>, vm: u64, vcpu: u64, to: u64, value: u32)
+    requires { out.old.items ≡ [] }
+    ensures { out.new.items ≡ line_text (Line.Ipi vm vcpu to value) }
+{
+    push_text(out, b"g");
+    push_decimal(out, vm);
+    push_decimal(out, vcpu);
+    push_text(out, b" ipi");
+    push_decimal(out, to);
+    push_decimal32(out, value);
+}
+
+/// Appends `h` and `hgeip` to `out`, which is empty.
+#[tactic(auto, unfolding(aia_model::specs::Printing::line_text))]
+fn push_hgeip(out: &mut ArrayVec<u8, LINE_BYTES>, hart: u64)
+    requires { out.old.items ≡ [] }
+    ensures { out.new.items ≡ line_text (Line.Hgeip hart) }
+{
+    push_text(out, b"h");
+    push_decimal(out, hart);
+    push_text(out, b" hgeip");
+}
+
+/// Appends `load` and a part to `out`, which is empty. The numbers of the part are in range by their
+/// types.
+#[tactic(auto, unfolding(aia_model::specs::Printing::line_text), using(crate::proofs::PrintLemmas::joined_part))]
+fn push_load(out: &mut ArrayVec<u8, LINE_BYTES>, vm: u64, vcpu: u64, part: Part)
+    requires { out.old.items ≡ [] }
+    ensures text { out.new.items ≡ line_text (Line.LoadPart vm vcpu part) }
+    ensures range { AllByRecursion FitsField (part_fields part) }
+{
+    push_text(out, b"load");
+    push_decimal(out, vm);
+    push_decimal(out, vcpu);
+    push_text(out, b" ");
+    push_part(out, part);
+}
+
+/// Appends a move to `out`, which is empty. Its numbers are in range by their types.
+#[tactic(auto, unfolding(aia_model::specs::Printing::line_text))]
+fn push_move(out: &mut ArrayVec<u8, LINE_BYTES>, vm: u64, vcpu: u64, want: Want)
+    requires { out.old.items ≡ [] }
+    ensures text { out.new.items ≡ line_text (Line.Move vm vcpu want) }
+    ensures range { IsPrintable (Line.Move vm vcpu want) }
+{
+    moves!(print_by_row (Line::Move { vm, vcpu, want }, out, _ => {}) Move)
+}
+
+/// Appends the beginning of a move to `out`, which is empty. Its numbers are in range by their
+/// types.
+#[tactic(auto, unfolding(aia_model::specs::Printing::line_text))]
+fn push_beginning(out: &mut ArrayVec<u8, LINE_BYTES>, vm: u64, vcpu: u64, want: Want)
+    requires { out.old.items ≡ [] }
+    ensures text { out.new.items ≡ line_text (Line.Begin vm vcpu want) }
+    ensures range { IsPrintable (Line.Begin vm vcpu want) }
+{
+    push_text(out, b"begin ");
+    moves!(print_by_row (Line::Begin { vm, vcpu, want }, out, _ => {}) Begin)
+}
+
+/// Appends a line to `out`, which is empty. Its numbers are in range by their types.
+#[tactic(auto, unfolding(aia_model::specs::Printing::line_text), using(crate::proofs::PrintLemmas::joined_instruction, crate::proofs::PrintLemmas::access_in_range))]
+fn push_line(line: &Line, out: &mut ArrayVec<u8, LINE_BYTES>)
+    requires { out.old.items ≡ [] }
+    ensures text { out.new.items ≡ line_text line.now }
+    ensures range { IsPrintable line.now }
+{
+    forms!(print_by_row (*line, out,
+        Line::MachineCsr { hart, csr, op } => push_access(out, b"m", hart, Level::Machine, csr, op),
+        Line::HostCsr { hart, csr, op } => push_access(out, b"h", hart, Level::Host, csr, op),
+        Line::Hgeip { hart } => push_hgeip(out, hart),
+        Line::GuestCsr { vm, vcpu, csr, op } => push_guest(out, vm, vcpu, csr, op),
+        Line::Ipi { vm, vcpu, to, value } => push_ipi(out, vm, vcpu, to, value),
+        Line::Move { vm, vcpu, want } => push_move(out, vm, vcpu, want),
+        Line::Begin { vm, vcpu, want } => push_beginning(out, vm, vcpu, want),
+        Line::LoadPart { vm, vcpu, part } => push_load(out, vm, vcpu, part),
+    ))
+}
+
+/// Appends the printing spelling of a line to `out`, which is empty. The line's CSR is one that
+/// lines of its form name.
+///
+/// A single space stands between two fields. Addresses, values and operands are `0x` and lower-case
+/// digits, all other numbers are decimal, and none has leading zeros.
+///
+/// `parse_line(print_line(x)) = Line(x)`: the clause `again` says that the reading of what is
+/// printed is `Line(line)`, and `parse_line` returns the reading of its text. Nothing is allocated.
+pub fn print_line(line: &Line, out: &mut ArrayVec<u8, LINE_BYTES>)
+    requires listed { IsListed line.now }
+    requires empty { out.old.items ≡ [] }
+    ensures text { out.new.items ≡ line_text line.now }
+    ensures again { reading out.new.items ≡ Parsed.Line line.now }
+    ensures spells { Spells out.new.items line.now }
+{
+    push_line(line, out);
+}

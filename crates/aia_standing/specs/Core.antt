@@ -1,0 +1,97 @@
+-- What the hypervisor's core keeps. Vocabulary.
+use Rattle.std.specs.Prelude.{◌≡◌, ℕ, Bool, true, false, List, Option, Some, None, Result, Ok, Err, slice_index_or, slice_set}
+use Rattle.aia_home.specs.declared.place.Place.{Place}
+use Rattle.aia_home.specs.Vms.{Vcpu, slot_of}
+use Rattle.aia_home.specs.Home.{Home}
+use Rattle.aia_home.specs.Home.Home.{Parked, Entered, Resident}
+use Rattle.aia_major.specs.VsMajor.{VsMajorState}
+use Rattle.aia_major.specs.Kept.{majors_shown, kept_at_first}
+use Rattle.aia_places.specs.Holds.{Hand}
+use Rattle.aia_pool.specs.Leases.{Leases}
+use Rattle.aia_model.specs.Passes.{Pass}
+use Rattle.aia_model.specs.declared.refusal.Refusal.{Refusal}
+use Rattle.aia_model.specs.declared.refusal.Refusal.TheVariants as refusals
+use Rattle.aia_world.specs.World.{World}
+use Rattle.aia_moving.specs.declared.who.KeptNumbers.{KeptNumbers}
+use Rattle.aia_move.specs.Plan.{moving_of}
+use Rattle.aia_standing.specs.declared.vcpu.Stay.{Stay}
+use Rattle.aia_standing.specs.declared.vcpu.Stay.TheVariants as stays
+use Rattle.aia_standing.specs.declared.vcpu.VcpuRecord.{VcpuRecord}
+
+-- All that stores reach, which guest files are handed out, a record of each virtual hart by its
+-- number over all VMs, the select numbers of the host, and the passes of wired sources in order.
+pub record CoreState : Type 0 where
+  pub world : World
+  pub leases : Leases
+  pub vcpus : List VcpuRecord
+  pub selects : List ℕ
+  pub passes : List Pass
+
+-- ---- a virtual hart
+
+-- What is kept of a virtual hart that was never moved, and its record.
+abbrev pub no_kept : KeptNumbers
+no_kept = record { delivery = 0; threshold = 0 }
+
+abbrev pub no_record : VcpuRecord
+no_record = record { stay = stays.Parked no_kept; select = 0; majors = kept_at_first }
+
+-- The record of a virtual hart.
+abbrev pub record_of : CoreState → Vcpu → VcpuRecord
+record_of x g = slice_index_or x.vcpus (slot_of x.world.vms g) no_record
+
+-- Something was done about the majors of the record at a place, and nothing else to the records.
+pub record MajorsDone (old new : List VcpuRecord) (slot : ℕ) (done : VsMajorState → VsMajorState)
+    : Type 0 where
+  pub rest : new ≡ slice_set old slot (record (slice_index_or old slot no_record) {
+    majors = (slice_index_or new slot no_record).majors;
+  })
+  pub majors : majors_shown (slice_index_or new slot no_record).majors
+      ≡ done (majors_shown (slice_index_or old slot no_record).majors)
+
+-- Its home, as it is kept.
+abbrev pub home_in : Stay → Home
+home_in (stays.Parked kept) = Parked
+home_in (stays.Entered kept) = Entered
+home_in (stays.Resident lease) = Resident lease
+home_in (stays.Moving plan) = (moving_of plan).home
+
+-- The guest file of one that is resident.
+abbrev pub resident_at : Stay → Option Place
+resident_at (stays.Resident lease) = Some lease
+resident_at stay = None
+
+-- The numbers that are kept of one that runs from memory.
+abbrev pub entered_at : Stay → Option KeptNumbers
+entered_at (stays.Entered kept) = Some kept
+entered_at stay = None
+
+-- The numbers that are kept of one that is parked, or the word that refuses another.
+abbrev pub parked_at : Stay → Result KeptNumbers Refusal
+parked_at (stays.Parked kept) = Ok kept
+parked_at (stays.Entered kept) = Err refusals.Entered
+parked_at (stays.Resident lease) = Err refusals.Home
+parked_at (stays.Moving plan) = Err refusals.Busy
+
+-- Whether it runs, as it is kept.
+abbrev pub runs_in : Stay → Bool
+runs_in (stays.Resident lease) = true
+runs_in (stays.Entered kept) = true
+runs_in stay = false
+
+-- Whether it is being moved, as it is kept.
+abbrev pub has_plan : Stay → Bool
+has_plan (stays.Moving plan) = true
+has_plan stay = false
+
+-- What is carried or kept of its interrupt file: of one whose interrupts rest in memory the two
+-- numbers, of a resident one nothing, on a move what the move carries.
+abbrev pub hand_of : KeptNumbers → Hand
+hand_of kept =
+    record { word = 0; delivery = kept.delivery; threshold = kept.threshold; seen = false }
+
+abbrev pub hand_in : Stay → Hand
+hand_in (stays.Parked kept) = hand_of kept
+hand_in (stays.Entered kept) = hand_of kept
+hand_in (stays.Resident lease) = record { word = 0; delivery = 0; threshold = 0; seen = false }
+hand_in (stays.Moving plan) = (moving_of plan).hand

@@ -1,0 +1,234 @@
+-- The moves of virtual harts in the core: what is wanted, and what each call makes of it.
+use Rattle.std.specs.Prelude.{◌≡◌, ℕ, ◌+◌, ◌-◌, ◌<◌, ◌≤◌, Bool, true, false, if◌then◌else◌, ◌∷◌, Option, Some, None}
+use Rattle.aia_home.specs.declared.place.Place.{Place}
+use Rattle.aia_home.specs.Vms.{Vcpu, vcpu}
+use Rattle.aia_home.specs.Aims.{aims_done}
+use Rattle.aia_home.specs.Home.{Home, at_first, is_moving}
+use Rattle.aia_home.specs.Plans.{is_at_last, leave_steps, arrive_steps, shift_steps}
+use Rattle.aia_home.specs.Home.Home.{Leaving, Arriving, Shifting}
+use Rattle.aia_places.specs.Holds.{Hand}
+use Rattle.aia_pool.specs.Leases.{Leases, IsFileThere, is_out, least_free, with_out}
+use Rattle.aia_model.specs.declared.answer.Answer.{Answer}
+use Rattle.aia_model.specs.declared.answer.Answer.TheVariants.{Okay, Done, Refused}
+use Rattle.aia_model.specs.declared.answer.Answer.TheVariants as answers
+use Rattle.aia_model.specs.declared.refusal.Refusal.{Refusal}
+use Rattle.aia_model.specs.declared.refusal.Refusal.TheVariants as refusals
+use Rattle.aia_model.specs.declared.line.Line.{Line}
+use Rattle.aia_model.specs.declared.line.Line.TheVariants as lines
+use Rattle.aia_model.specs.Event.{History, file_words}
+use Rattle.aia_model.specs.Event.Event.{Began}
+use Rattle.aia_model.specs.Move.{Move, wanted_move}
+use Rattle.aia_model.specs.Move.Move.{Arrives, Leaves, Shifts}
+use Rattle.aia_model.specs.ReachOf.{in_force_of}
+use Rattle.aia_model.specs.HomeOf.{home, guest_place}
+use Rattle.aia_model.specs.Refusal.{refusal}
+use Rattle.aia_model.specs.Answer.{answer, steps_of, step_taken}
+use Rattle.aia_model.specs.Passes.{passes_to, passes_for}
+use Rattle.aia_moving.specs.Targets.{Aim, next_aim}
+use Rattle.aia_moving.specs.declared.who.Who.{Who}
+use Rattle.aia_move.specs.declared.plan.Next.{Next}
+use Rattle.aia_move.specs.declared.plan.Next.TheVariants.{Again, Finished}
+use Rattle.aia_moving.specs.declared.turn.Outcome.{Outcome}
+use Rattle.aia_moving.specs.declared.turn.Outcome.TheVariants.{Left, Arrived, Shifted}
+use Rattle.aia_move.specs.declared.plan.Plan.{Plan}
+use Rattle.aia_moving.specs.Landings.{OnceLanded}
+use Rattle.aia_moving.specs.Move.{Moving, mover, width, MakesNext}
+use Rattle.aia_world.specs.World.{World}
+use Rattle.aia_model.specs.GuestFile.{guest_file}
+use Rattle.aia_model.specs.Notice.{a_look_saw}
+use Rattle.aia_move.specs.Plan.{moving_of, IsInPhase}
+use Rattle.aia_move.specs.Knows.{Knows}
+use Rattle.aia_model.specs.declared.want.Want.{Want}
+use Rattle.aia_model.specs.declared.want.Want.TheVariants as wants
+use Rattle.aia_standing.specs.declared.vcpu.Stay.{Stay}
+use Rattle.aia_standing.specs.declared.vcpu.Stay.TheVariants as stays
+use Rattle.aia_standing.specs.Core.{CoreState, record_of, home_in}
+use Rattle.aia_standing.specs.Stands.{CoreStands}
+use Rattle.aia_standing.specs.Passes.{StepsAim}
+
+-- ---- a move begins
+
+-- A virtual hart is moved by a plan that has this move, and is in its first phase whatever the size
+-- of files.
+abbrev pub IsBegun : Stay → Moving → Type 0
+IsBegun (stays.Moving plan) m = (moving_of plan ≡ m) × ((words : ℕ) → IsInPhase words plan)
+IsBegun stay m = ⊥
+
+-- What a move carries that carries nothing.
+abbrev pub empty_hand : Hand
+empty_hand = record { word = 0; delivery = 0; threshold = 0; seen = false }
+
+-- Below, `old` and `new` is where a virtual hart is before and after, `was` and `now` the leases.
+-- What begins is refused with a word, and nothing is changed.
+abbrev pub Refuses : Refusal → Stay → Stay → Leases → Leases → Answer → Type 0
+Refuses word old new was now given = (given ≡ Refused word) × (new ≡ old) × (now ≡ was)
+
+-- A guest file of a hart is taken for the move that has such a home in it; where none is free, the
+-- move is refused.
+abbrev pub BeginsIn : Option ℕ → ℕ → (Place → Moving) → Stay → Stay → Leases → Leases → Answer
+    → Type 0
+BeginsIn None hart moving old new was now given =
+    Refuses refusals.NoFile old new was now given
+BeginsIn (Some file) hart moving old new was now given = (given ≡ Okay)
+    × IsBegun new (moving (guest_place hart file))
+    × (now ≡ with_out was (guest_place hart file) true)
+
+-- What becomes of where a virtual hart is, as it is to leave its guest file, to arrive in one of a
+-- hart that is there, or to shift to one; and of the leases.
+abbrev pub LeaveBegins : Who → Stay → Stay → Leases → Leases → Answer → Type 0
+LeaveBegins who (stays.Resident from) new was now given = (given ≡ Okay)
+    × IsBegun new (record { who = who; home = Leaving from at_first; hand = empty_hand })
+    × (now ≡ was)
+LeaveBegins who (stays.Parked kept) new was now given =
+    Refuses refusals.Parked (stays.Parked kept) new was now given
+LeaveBegins who (stays.Entered kept) new was now given =
+    Refuses refusals.Parked (stays.Entered kept) new was now given
+LeaveBegins who (stays.Moving plan) new was now given =
+    Refuses refusals.Busy (stays.Moving plan) new was now given
+
+abbrev pub ArriveBegins : Who → ℕ → Stay → Stay → Leases → Leases → Answer → Type 0
+ArriveBegins who hart (stays.Parked kept) new was now given =
+    BeginsIn (least_free was hart) hart (λ to. record {
+      who = who;
+      home = Arriving to at_first;
+      hand = record empty_hand { delivery = kept.delivery; threshold = kept.threshold };
+    }) (stays.Parked kept) new was now given
+ArriveBegins who hart (stays.Resident from) new was now given =
+    Refuses refusals.Home (stays.Resident from) new was now given
+ArriveBegins who hart (stays.Entered kept) new was now given =
+    Refuses refusals.Entered (stays.Entered kept) new was now given
+ArriveBegins who hart (stays.Moving plan) new was now given =
+    Refuses refusals.Busy (stays.Moving plan) new was now given
+
+abbrev pub ShiftBegins : Who → ℕ → Stay → Stay → Leases → Leases → Answer → Type 0
+ShiftBegins who hart (stays.Resident from) new was now given =
+    BeginsIn (least_free was hart) hart (λ to. record {
+      who = who;
+      home = Shifting from to at_first;
+      hand = empty_hand;
+    }) (stays.Resident from) new was now given
+ShiftBegins who hart (stays.Parked kept) new was now given =
+    Refuses refusals.Parked (stays.Parked kept) new was now given
+ShiftBegins who hart (stays.Entered kept) new was now given =
+    Refuses refusals.Parked (stays.Entered kept) new was now given
+ShiftBegins who hart (stays.Moving plan) new was now given =
+    Refuses refusals.Busy (stays.Moving plan) new was now given
+
+-- Of what is wanted: a hart that isn't there is out of range.
+abbrev pub OnHart : ℕ → Stay → Stay → Leases → Leases → Answer → Type 0 → Type 0
+OnHart hart old new was now given begins = (hart < was.harts → begins)
+    × (was.harts ≤ hart → Refuses refusals.Range old new was now given)
+
+abbrev pub WantBegins : Want → Who → Stay → Stay → Leases → Leases → Answer → Type 0
+WantBegins wants.Leave who old new was now given = LeaveBegins who old new was now given
+WantBegins (wants.Arrive hart) who old new was now given =
+    OnHart hart old new was now given (ArriveBegins who hart old new was now given)
+WantBegins (wants.Shift hart) who old new was now given =
+    OnHart hart old new was now given (ShiftBegins who hart old new was now given)
+
+-- What has happened when a move is to begin, by the refusal of its line.
+abbrev pub move_begun : Option Answer → History → Move → History
+move_begun None h move = Began move ∷ h
+move_begun (Some word) h move = h
+
+-- It is refused as its line is, and the core is then unchanged; else the move has begun.
+pub record MoveBegins (old new : CoreState) (vm number : ℕ) (want : Want) (given : Answer)
+    : Type 0 where
+  pub answers : (h : History) → CoreStands old h → given ≡ answer h (lines.Move vm number want)
+  pub begins : (h : History) → CoreStands old h
+      → CoreStands new (move_begun (refusal h (lines.Move vm number want)) h
+      (wanted_move (vcpu vm number) want))
+  pub unchanged : (h : History) (word : Answer) → CoreStands old h
+      → refusal h (lines.Move vm number want) ≡ Some word → new ≡ old
+
+-- ---- a step of it
+
+-- Where a virtual hart is at the end of its move, and the guest file that it gives back.
+abbrev pub stay_after : Outcome → Stay
+stay_after (Left file kept) = stays.Parked kept
+stay_after (Arrived file) = stays.Resident file
+stay_after (Shifted old new) = stays.Resident new
+
+abbrev pub back_of : Outcome → Option Place
+back_of (Left file kept) = Some file
+back_of (Arrived file) = None
+back_of (Shifted old new) = Some old
+
+-- A guest file comes back, where one does; it is there, and out.
+abbrev pub with_back : Option Place → Leases → Leases
+with_back None l = l
+with_back (Some p) l = with_out l p false
+
+abbrev pub IsOutThere : Leases → Option Place → Type 0
+IsOutThere l None = Unit {0}
+IsOutThere l (Some p) = IsFileThere l p × (is_out l p ≡ true)
+
+-- What a step of a plan makes: where the virtual hart is then, which file comes back, and whether
+-- the move is at its end.
+abbrev pub stay_then : Next → Stay
+stay_then (Again plan) = stays.Moving plan
+stay_then (Finished outcome) = stay_after outcome
+
+abbrev pub back_then : Next → Option Place
+back_then (Again plan) = None
+back_then (Finished outcome) = back_of outcome
+
+abbrev pub is_finished : Next → Bool
+is_finished (Again plan) = false
+is_finished (Finished outcome) = true
+
+-- What a step of a move is answered, by whether it was the last one.
+abbrev pub step_answer : Bool → Answer
+step_answer last = if last then Done else answers.Moving
+
+-- How many steps of its move are left, those that aim aside.
+abbrev pub steps_left : ℕ → Home → ℕ
+steps_left words (Leaving from at) = leave_steps words - at.steps
+steps_left words (Arriving to at) = arrive_steps words - at.steps
+steps_left words (Shifting from to at) = shift_steps words - at.steps
+steps_left words there = 0
+
+-- The same with those that aim, of a virtual hart in the core.
+abbrev pub left_in : CoreState → Vcpu → ℕ
+left_in x g = steps_left (width x.world) (home_in (record_of x g).stay)
+    + (passes_to g x.passes - aims_done (home_in (record_of x g).stay))
+
+-- One access of a move is made, whatever the move then carries, once what lands before it has
+-- landed; and nothing else of the world is changed. A step that aims leaves the world as it is.
+abbrev pub MakesOneBy : Option Aim → World → Moving → World → Type 0
+MakesOneBy None w m u = OnceLanded w m (λ landed. (hand : Hand) × MakesNext landed m u hand)
+MakesOneBy (Some aim) w m u = u ≡ w
+
+abbrev pub MakesOne : World → Moving → World → Type 0
+MakesOne w m u = MakesOneBy (next_aim m) w m u
+
+-- What a plan knows of a virtual hart that is being moved: the plan is its own, at the home that
+-- the history gives, and knows the world, its places with its interrupt file, as the history gives
+-- it.
+pub record KnowsIts (x : CoreState) (h : History) (g : Vcpu) (plan : Plan) : Type 0 where
+  pub own : mover (moving_of plan) ≡ g
+  pub same_home : (moving_of plan).home ≡ home h g
+  pub knows : Knows x.world plan (in_force_of h g) (guest_file h g) (a_look_saw h g)
+
+-- What is so of a line that is not refused, and what of one that is.
+abbrev pub UnlessRefused : Option Answer → Type 0 → Type 0 → Type 0
+UnlessRefused None taken refused = taken
+UnlessRefused (Some word) taken refused = refused
+
+-- What a whole move makes of the targets: each of its steps in turn.
+abbrev pub WholeAims : {T : Type 0} → (T → ℕ → ℕ → T → Type 0) → History → ℕ → ℕ → Want → T → T
+    → Type 0
+WholeAims aim h vm number want old new =
+    StepsAim aim (steps_of (file_words h) (wanted_move (vcpu vm number) want)
+    + passes_for h (vcpu vm number)) (vcpu vm number)
+    (Began (wanted_move (vcpu vm number) want) ∷ h) old new
+
+-- A step of the move of a virtual hart is done, and what lands before it has landed; whether it was
+-- the last one.
+pub record MoveGoes (old new : CoreState) (g : Vcpu) (last : Bool) : Type 0 where
+  pub stands : (h : History) → CoreStands old h → CoreStands new (step_taken g h)
+  pub at_last : (h : History) → CoreStands old h → last ≡ is_at_last (file_words h) (home h g)
+  pub moving : last ≡ false → is_moving (home_in (record_of new g).stay) ≡ true
+  pub fewer : last ≡ false → left_in new g < left_in old g
+  pub makes : (plan : Plan) → (record_of old g).stay ≡ stays.Moving plan
+      → MakesOne old.world (moving_of plan) new.world

@@ -1,0 +1,12 @@
+/// A wired source that is passed to a virtual hart.
+#[derive(Clone, Copy, Debug, Default, PartialEq, Eq)]
+pub struct Passed {
+    /// The source, from 1 on.
+    pub source: u32,
+    /// The virtual hart's VM.
+    pub vm: u32,
+    /// Its number in the VM.
+    pub number: u32,
+    /// The identity for which the source asks there.
+    pub identity: u32,
+}

@@ -1,0 +1,101 @@
+ghost use Rattle.std.specs.Prelude.{◌≡◌};
+ghost use Rattle.aia_standing.specs.Core.{no_record, resident_at, entered_at, parked_at, runs_in, has_plan};
+
+use aia_home::Place;
+use aia_major::VsMajor;
+use aia_model::Refusal;
+use aia_move::{KeptNumbers, Plan};
+use aia_pool::FileLease;
+
+/// Where a virtual hart is: what the hypervisor keeps of it there.
+#[derive(Drop)]
+pub enum Stay {
+    /// It is parked, its interrupts in its slot of memory.
+    Parked(KeptNumbers),
+    /// It runs from memory: its interrupts are in its slot, and its instructions on the CSRs of its
+    /// interrupt file are answered from there.
+    Entered(KeptNumbers),
+    /// It is resident in the guest file of this lease.
+    Resident(FileLease),
+    /// It is being moved.
+    Moving(Plan),
+}
+
+impl Stay {
+    /// Tells the guest file of a virtual hart that is resident, `None` for one that is parked, runs
+    /// from memory or is being moved.
+    pub fn resident(&self) -> Option<Place>
+        ensures { result ≡ resident_at self.now }
+    {
+        match self {
+            Stay::Resident(lease) => Some(lease.place()),
+            Stay::Parked(_) | Stay::Entered(_) | Stay::Moving(_) => None,
+        }
+    }
+
+    /// Tells the numbers that are kept of a virtual hart that runs from memory, `None` for any
+    /// other.
+    pub fn entered(&self) -> Option<KeptNumbers>
+        ensures { result ≡ entered_at self.now }
+    {
+        match self {
+            Stay::Entered(kept) => Some(*kept),
+            Stay::Parked(_) | Stay::Resident(_) | Stay::Moving(_) => None,
+        }
+    }
+
+    /// Tells the numbers that are kept of a virtual hart that is parked. `Err` is `Entered` where
+    /// it runs from memory, `Home` where it is resident, `Busy` where it is being moved.
+    pub fn parked(&self) -> Result<KeptNumbers, Refusal>
+        ensures { result ≡ parked_at self.now }
+    {
+        match self {
+            Stay::Parked(kept) => Ok(*kept),
+            Stay::Entered(_) => Err(Refusal::Entered),
+            Stay::Resident(_) => Err(Refusal::Home),
+            Stay::Moving(_) => Err(Refusal::Busy),
+        }
+    }
+
+    /// Tells whether it runs, in a guest file or from memory.
+    pub fn runs(&self) -> bool
+        ensures { result ≡ runs_in self.now }
+    {
+        matches!(self, Stay::Resident(_) | Stay::Entered(_))
+    }
+
+    /// Tells whether it is being moved.
+    pub fn has_plan(&self) -> bool
+        ensures { result ≡ has_plan self.now }
+    {
+        matches!(self, Stay::Moving(_))
+    }
+}
+
+/// What the hypervisor keeps of a virtual hart.
+#[derive(Drop)]
+pub struct VcpuRecord {
+    /// Where it is.
+    pub stay: Stay,
+    /// Its select number: what `siselect` holds.
+    pub select: u64,
+    /// Its major interrupts, which no move touches.
+    pub majors: VsMajor,
+}
+
+impl VcpuRecord {
+    /// Makes the record of a virtual hart that was never moved: it is parked, all its numbers are
+    /// 0, and no major interrupt of it is injected or enabled.
+    pub fn new() -> VcpuRecord
+        ensures { result ≡ no_record }
+    {
+        VcpuRecord {
+            stay: Stay::Parked(KeptNumbers {
+                delivery: 0,
+                threshold: 0,
+            }),
+            select: 0,
+            majors: VsMajor::new(),
+        }
+    }
+}

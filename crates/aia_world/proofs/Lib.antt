@@ -1,0 +1,11 @@
+pub mod PlaceLemmas
+pub mod WholeLemmas
+pub mod FoundLemmas
+pub mod MakingLemmas
+pub mod LawLemmas
+pub mod FrameLemmas
+pub mod FlightLemmas
+pub mod ViewLemmas
+pub mod StoreViews
+pub mod OwnLemmas
+pub mod SlotViews

@@ -1,0 +1,88 @@
+-- What is done about a slot as an interrupt file shows in the places of the virtual hart to which
+-- the slot belongs, and in those of no other.
+use Rattle.std.proofs.Common.{◌≡◌, ◌≢◌, ℕ, ◌+◌, ◌*◌, ◌<◌, ◌≤◌, true, List, get_or, inl, inr, ◌⊎◌, refl, sym, ap, ◌∙◌, arith}
+use Rattle.std.proofs.lemmas.Bool.{cases_eq, cases_lt}
+use Rattle.aia_word.specs.Sets.{has_bit}
+use Rattle.aia_regs.specs.declared.limits.TheConstants.{VCPUS}
+use Rattle.aia_file.specs.InterruptFile.{InterruptFile, SameFile}
+use Rattle.aia_mrif.specs.Mrif.{mrif_in, pending_place, enable_place}
+use Rattle.aia_mrif.specs.SlotFile.{slot_file, KeepsAllElse}
+use Rattle.aia_mrif.proofs.SlotLemmas.{own_words}
+use Rattle.aia_home.specs.Vms.{Vcpu, is_vcpu_in, slot_of}
+use Rattle.aia_home.specs.Home.{Home}
+use Rattle.aia_home.proofs.VmLemmas.{same_slot}
+use Rattle.aia_world.specs.World.{World}
+use Rattle.aia_world.specs.Whole.{IsWhole}
+use Rattle.aia_world.specs.Making.{entry_word_place}
+use Rattle.aia_world.specs.Changes.{places_of}
+use Rattle.aia_world.specs.SlotAccess.{file_of_slot, DoneInSlot}
+
+slots_apart : (q r place : ℕ) → r ≢ q → 64 * r ≤ place → place < 64 * (r + 1) → (place < 64 * q) ⊎ (64 * (q + 1) ≤ place)
+slots_apart q r place other low high = elim (cases_lt r q) [
+  | inl less ↦ inl (omega arith)
+  | inr more ↦ inr (omega (arith, other))
+]
+
+-- ---- the world stays whole
+
+pub slot_whole : (w : World) (q : ℕ) (memory : List ℕ) → IsWhole w → KeepsAllElse w.memory memory q w.n → IsWhole (record w { memory = memory })
+slot_whole w q memory whole keeps = record {
+  harts = whole.harts;
+  guests = whole.guests;
+  files = whole.files;
+  greatest = whole.greatest;
+  width = whole.width;
+  memory = keeps.size ∙ whole.memory;
+  no_pending_zero = λ p low. elim (cases_eq p q) [
+    | inl e ↦ ap (λ x. has_bit (get_or memory (pending_place x 0) 0) 0) e ∙ (keeps.kept 0 refl).0 ∙ ap (λ x. has_bit (get_or w.memory (pending_place x 0) 0) 0) (sym e) ∙ whole.no_pending_zero p low
+    | inr ne ↦ ap (λ x. has_bit x 0) (keeps.elsewhere (pending_place p 0) (slots_apart q p (pending_place p 0) ne (omega arith) (omega arith))) ∙ whole.no_pending_zero p low
+  ];
+  no_enabled_zero = λ p low. elim (cases_eq p q) [
+    | inl e ↦ ap (λ x. has_bit (get_or memory (enable_place x 0) 0) 0) e ∙ (keeps.kept 0 refl).1 ∙ ap (λ x. has_bit (get_or w.memory (enable_place x 0) 0) 0) (sym e) ∙ whole.no_enabled_zero p low
+    | inr ne ↦ ap (λ x. has_bit x 0) (keeps.elsewhere (enable_place p 0) (slots_apart q p (enable_place p 0) ne (omega arith) (omega arith))) ∙ whole.no_enabled_zero p low
+  ];
+  few = whole.few;
+  tables = whole.tables;
+  flights = whole.flights;
+  vcpus = whole.vcpus;
+  vms = λ v low. let is = whole.vms v low in record { mask = is.mask; numbers = is.numbers; notice_hart = is.notice_hart; same_mask = is.same_mask; start = is.start; entries = is.entries };
+  stages = whole.stages;
+}
+
+-- ---- it is done
+
+pub slot_done : (w : World) (q threshold : ℕ) (deed : InterruptFile → InterruptFile) (memory : List ℕ) → SameFile (slot_file w.n threshold (mrif_in memory q)) (deed (file_of_slot w q threshold)) → KeepsAllElse w.memory memory q w.n → DoneInSlot w (record w { memory = memory }) q threshold deed
+slot_done w q threshold deed memory done keeps = record { done = done; kept = keeps.kept; elsewhere = keeps.elsewhere; rest = refl }
+
+-- so it is where nothing is written
+pub nothing_done : (words : List ℕ) (q n : ℕ) → KeepsAllElse words words q n
+nothing_done words q n = record { size = refl; kept = λ i outside. (refl, refl); elsewhere = λ place apart. refl }
+
+-- ---- what it shows
+
+module _ (w u : World) (q threshold : ℕ) (deed : InterruptFile → InterruptFile) (low : q < VCPUS) (changed : DoneInSlot w u q threshold deed) where
+  -- every other slot is equal
+  pub other_slot_kept : (r : ℕ) → r ≢ q → mrif_in u.memory r ≡ mrif_in w.memory r
+  other_slot_kept r other = own_words w.memory u.memory r (λ place from to. changed.elsewhere place (slots_apart q r place other from to))
+
+  -- and so are the words of the entries of all tables
+  pub done_entry_words : (vm file : ℕ) → (get_or u.memory (entry_word_place vm file) 0 ≡ get_or w.memory (entry_word_place vm file) 0) × (get_or u.memory (entry_word_place vm file + 1) 0 ≡ get_or w.memory (entry_word_place vm file + 1) 0)
+  done_entry_words vm file = (changed.elsewhere (entry_word_place vm file) (inr (omega arith)), changed.elsewhere (entry_word_place vm file + 1) (inr (omega arith)))
+
+  -- of any virtual hart nothing but its slot
+  pub slot_done-places : (g : Vcpu) (there : Home) → places_of u g there ≡ record (places_of w g there) { slot = mrif_in u.memory (slot_of w.vms g) }
+  slot_done-places g there =
+      let words = done_entry_words g.vm g.number in
+      let all : places_of (record w { memory = u.memory }) g there ≡ record (places_of w g there) { slot = mrif_in u.memory (slot_of w.vms g) } = λ k. record (places_of w g there) { slot = mrif_in u.memory (slot_of w.vms g); word0 = words.0 k; word1 = words.1 k } in
+      ap (λ (x : World). places_of x g there) changed.rest ∙ all
+
+  -- and that stays where it is another slot
+  pub slot_done-others : (g : Vcpu) (there : Home) → q ≢ slot_of w.vms g → places_of u g there ≡ places_of w g there
+  slot_done-others g there other =
+      let slot = other_slot_kept (slot_of w.vms g) (λ e. other (sym e)) in
+      let all : record (places_of w g there) { slot = mrif_in u.memory (slot_of w.vms g) } ≡ places_of w g there = λ k. record (places_of w g there) { slot = slot k } in
+      slot_done-places g there ∙ all
+
+  -- as is that of every other virtual hart that is there
+  pub slot_done-peers : (g x : Vcpu) (there : Home) → is_vcpu_in w.vms g ≡ true → is_vcpu_in w.vms x ≡ true → slot_of w.vms g ≡ q → x ≢ g → places_of u x there ≡ places_of w x there
+  slot_done-peers g x there standing inside is other = slot_done-others x there (λ e. other (same_slot w.vms x g inside standing (sym (is ∙ e))))

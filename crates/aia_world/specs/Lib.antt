@@ -1,0 +1,9 @@
+pub mod World
+pub mod Found
+pub mod Stores
+pub mod Making
+pub mod Changes
+pub mod Whole
+pub mod Flights
+pub mod Own
+pub mod SlotAccess
