@@ -21,7 +21,6 @@ ghost use Rattle.aia_standing.specs.Passes.{AimsBy, TellsOf, pass_in};
 ghost use Rattle.aia_standing.specs.Stands.{CoreStands, CorePasses, CoreHears, CoreGoes, MayPass, RefusesPass, MayGo, answer_by};
 
 use crate::hypervisor_core::{Core, is_host};
-use aia_standing::{Passed, Stay};
 use aia_fabric::Found;
 use aia_imsic::Spot;
 use aia_model::{Msi, Refusal};
@@ -29,6 +28,7 @@ use aia_move::Targets;
 use aia_regs::address_map::PAGE;
 use aia_regs::limits::{FIRST_PASS_IDENTITY, PASSES};
 use aia_regs::{FileReg, Op};
+use aia_standing::{Passed, Stay};
 
 /// Wired sources that are passed to virtual harts, and the MSIs that an APLIC makes.
 impl Core {

@@ -15,13 +15,13 @@ ghost use Rattle.aia_standing.specs.Stands.{CoreTakes, answer_by};
 
 use crate::hypervisor_core::{Core, claim_or_read, select_after};
 use crate::majors::{access_sie_in, access_sip_in, stopi_in};
-use aia_standing::VcpuRecord;
 use aia_csr::{CsrAccess, decide};
 use aia_fabric::Found;
 use aia_home::Place;
 use aia_imsic::Spot;
 use aia_model::Refusal;
 use aia_regs::{Csr, Level, Op};
+use aia_standing::VcpuRecord;
 
 impl Core {
     /// Does a CSR instruction of a virtual hart, and answers what the CSR read before it. `Err` is

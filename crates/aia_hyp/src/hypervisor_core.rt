@@ -27,7 +27,6 @@ ghost use Rattle.aia_standing.specs.HostFiles.{IsHost, HasDone, name_of, csr_lin
 ghost use Rattle.aia_standing.specs.Stands.{CoreStands, StandsForSome, CoreTakes, CoreBegins, answer_by, core_refusal, signals_of, route_answer};
 
 use crate::passes::Passes;
-use aia_standing::VcpuRecord;
 use aia_csr::{CsrAccess, decide};
 use aia_entry::{Route, is_mask};
 use aia_fabric::{Fabric, Found};
@@ -37,6 +36,7 @@ use aia_pool::Pool;
 use aia_regs::address_map::{PAGE, is_in_memory};
 use aia_regs::limits::{GUEST_FILES, HARTS, VCPUS, VM_VCPUS, VMS};
 use aia_regs::{Csr, FileReg, Level, Op};
+use aia_standing::VcpuRecord;
 use std::alloc::{AllocError, Global};
 use std::marker::Model;
 

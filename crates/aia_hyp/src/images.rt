@@ -19,12 +19,12 @@ ghost use Rattle.aia_world.specs.Found.{IsFound};
 ghost use Rattle.aia_standing.specs.Stands.{CoreTakes, answer_by};
 
 use crate::hypervisor_core::{Core, select_after};
-use aia_standing::{Stay, VcpuRecord};
 use aia_fabric::Found;
 use aia_image::{IMAGE_VERSION, is_live, is_loadable, load_word, save_word};
 use aia_model::{Part, Refusal};
 use aia_move::KeptNumbers;
 use aia_regs::Op;
+use aia_standing::{Stay, VcpuRecord};
 
 /// How many parts an image has beside the words of the sets.
 const FIRST_WORD: u64 = 3;

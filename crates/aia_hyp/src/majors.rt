@@ -15,10 +15,10 @@ ghost use Rattle.aia_standing.specs.Core.{no_record, MajorsDone};
 ghost use Rattle.aia_standing.specs.Stands.{CoreTakes, answer_by};
 
 use crate::hypervisor_core::Core;
-use aia_standing::VcpuRecord;
 use aia_file::File;
 use aia_model::Refusal;
 use aia_regs::Op;
+use aia_standing::VcpuRecord;
 
 impl Core {
     /// Gives the major interrupt `bit` of a virtual hart, 1, 5, 9 or 13, a level in `hvip`. It may

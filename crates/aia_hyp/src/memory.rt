@@ -21,12 +21,12 @@ ghost use Rattle.aia_standing.specs.Stands.{CoreTakes, answer_by};
 
 use crate::guest::access_select_in;
 use crate::hypervisor_core::Core;
-use aia_standing::{Stay, VcpuRecord};
 use aia_csr::CsrAccess;
 use aia_fabric::{Fabric, Found};
 use aia_model::Refusal;
 use aia_move::KeptNumbers;
 use aia_regs::{Csr, FileReg, Op};
+use aia_standing::{Stay, VcpuRecord};
 
 impl Core {
     /// Has a virtual hart run from memory: from now on it runs, and its interrupts stay in its

@@ -19,11 +19,11 @@ ghost use Rattle.aia_standing.specs.Moves.{UnlessRefused, WholeAims, step_answer
 
 use crate::hypervisor_core::Core;
 use crate::passes::Passes;
-use aia_standing::{Stay, VcpuRecord};
 use aia_fabric::Found;
 use aia_model::{Refusal, Want};
 use aia_move::{KeptNumbers, Next, Outcome, Plan, Targets, Who};
 use aia_pool::Pool;
+use aia_standing::{Stay, VcpuRecord};
 
 impl Core {
     /// Moves a virtual hart, by all steps of its plan. `Err` is `Range` where the virtual hart or

@@ -5,9 +5,9 @@ ghost use Rattle.aia_home.specs.Vms.{vcpu};
 ghost use Rattle.aia_model.specs.Passes.{no_pass};
 ghost use Rattle.aia_standing.specs.Passes.{pass_shown, own_passes};
 
-use aia_standing::Passed;
 use aia_move::Pass;
 use aia_regs::limits::PASSES;
+use aia_standing::Passed;
 use arrayvec::ArrayVec;
 use std::marker::Model;
 

@@ -1,5 +1,5 @@
-use aia_world::Found;
 use aia_regs::limits::PASSES;
+use aia_world::Found;
 use arrayvec::ArrayVec;
 
 /// A wired source that is passed to a virtual hart. Profile: passes.
