@@ -44,10 +44,10 @@ pub extern "C" fn aia_land(handle: &mut Handle, vm: u64, k: u64, alloc: Global) 
 
 /// Has the IOMMU read the entry of a virtual hart again, as `refetch VM C`.
 #[unsafe(no_mangle)]
-pub extern "C" fn aia_refetch(handle: &mut Handle, vm: u64, vcpu: u64, alloc: Global) -> i32
-    ensures { Acts handle.old.engine handle.new.engine (Line.Refetch vm vcpu) result }
+pub extern "C" fn aia_refetch(handle: &mut Handle, vm: u64, number: u64, alloc: Global) -> i32
+    ensures { Acts handle.old.engine handle.new.engine (Line.Refetch vm number) result }
 {
-    let line = Line::Refetch { vm, vcpu };
+    let line = Line::Refetch { vm, number };
     number_of(serve(handle, &line, alloc))
 }
 
@@ -57,16 +57,16 @@ pub extern "C" fn aia_pass(
     handle: &mut Handle,
     source: u64,
     vm: u64,
-    vcpu: u64,
+    number: u64,
     identity: u64,
     alloc: Global,
 ) -> i32
-    ensures { Acts handle.old.engine handle.new.engine (Line.Pass source vm vcpu identity) result }
+    ensures { Acts handle.old.engine handle.new.engine (Line.Pass source vm number identity) result }
 {
     let line = Line::Pass {
         source,
         vm,
-        vcpu,
+        number,
         identity,
     };
     number_of(serve(handle, &line, alloc))
@@ -78,7 +78,7 @@ pub extern "C" fn aia_pass(
 pub extern "C" fn aia_guest_csr(
     handle: &mut Handle,
     vm: u64,
-    vcpu: u64,
+    number: u64,
     csr: u32,
     funct: u32,
     operand: u64,
@@ -86,11 +86,11 @@ pub extern "C" fn aia_guest_csr(
     alloc: Global,
 ) -> i32
     ensures { Accesses handle.old.engine handle.new.engine
-        (guest_access vm vcpu csr funct operand) result value.new }
+        (guest_access vm number csr funct operand) result value.new }
 {
     access(
         handle,
-        guest_access(vm, vcpu, csr, funct, operand),
+        guest_access(vm, number, csr, funct, operand),
         value,
         alloc,
     )
@@ -101,16 +101,16 @@ pub extern "C" fn aia_guest_csr(
 pub extern "C" fn aia_ipi(
     handle: &mut Handle,
     vm: u64,
-    vcpu: u64,
+    number: u64,
     to: u64,
     value: u32,
     alloc: Global,
 ) -> i32
-    ensures { Acts handle.old.engine handle.new.engine (Line.Ipi vm vcpu to value) result }
+    ensures { Acts handle.old.engine handle.new.engine (Line.Ipi vm number to value) result }
 {
     let line = Line::Ipi {
         vm,
-        vcpu,
+        number,
         to,
         value,
     };
@@ -122,16 +122,16 @@ pub extern "C" fn aia_ipi(
 pub extern "C" fn aia_inject(
     handle: &mut Handle,
     vm: u64,
-    vcpu: u64,
+    number: u64,
     bit: u64,
     level: bool,
     alloc: Global,
 ) -> i32
-    ensures { Acts handle.old.engine handle.new.engine (Line.Inject vm vcpu bit level) result }
+    ensures { Acts handle.old.engine handle.new.engine (Line.Inject vm number bit level) result }
 {
     let line = Line::Inject {
         vm,
-        vcpu,
+        number,
         bit,
         level,
     };
@@ -143,13 +143,13 @@ pub extern "C" fn aia_inject(
 pub extern "C" fn aia_hvictl(
     handle: &mut Handle,
     vm: u64,
-    vcpu: u64,
+    number: u64,
     value: u64,
     alloc: Global,
 ) -> i32
-    ensures { Acts handle.old.engine handle.new.engine (Line.Hvictl vm vcpu value) result }
+    ensures { Acts handle.old.engine handle.new.engine (Line.Hvictl vm number value) result }
 {
-    let line = Line::Hvictl { vm, vcpu, value };
+    let line = Line::Hvictl { vm, number, value };
     number_of(serve(handle, &line, alloc))
 }
 
@@ -158,12 +158,12 @@ pub extern "C" fn aia_hvictl(
 pub extern "C" fn aia_hviprio(
     handle: &mut Handle,
     vm: u64,
-    vcpu: u64,
+    number: u64,
     value: u64,
     alloc: Global,
 ) -> i32
-    ensures { Acts handle.old.engine handle.new.engine (Line.Hviprio vm vcpu value) result }
+    ensures { Acts handle.old.engine handle.new.engine (Line.Hviprio vm number value) result }
 {
-    let line = Line::Hviprio { vm, vcpu, value };
+    let line = Line::Hviprio { vm, number, value };
     number_of(serve(handle, &line, alloc))
 }

@@ -38,20 +38,20 @@ macro_rules! forms {
             b"msi" [vm: Decimal, addr: Hex, value: Decimal32] (Line::Msi { vm, addr, value })
             b"send" [vm: Decimal, addr: Hex, value: Decimal32] (Line::Send { vm, addr, value })
             b"land" [vm: Decimal, k: Decimal] (Line::Land { vm, k })
-            b"step" [vm: Decimal, vcpu: Decimal] (Line::Step { vm, vcpu })
-            b"refetch" [vm: Decimal, vcpu: Decimal] (Line::Refetch { vm, vcpu })
-            b"enter" [vm: Decimal, vcpu: Decimal] (Line::Enter { vm, vcpu })
-            b"exit" [vm: Decimal, vcpu: Decimal] (Line::Exit { vm, vcpu })
-            b"inject" [vm: Decimal, vcpu: Decimal, bit: Decimal, level: Bit]
-                (Line::Inject { vm, vcpu, bit, level })
-            b"hvictl" [vm: Decimal, vcpu: Decimal, value: Hex] (Line::Hvictl { vm, vcpu, value })
-            b"hviprio" [vm: Decimal, vcpu: Decimal, value: Hex]
-                (Line::Hviprio { vm, vcpu, value })
-            b"save" [vm: Decimal, vcpu: Decimal, k: Decimal] (Line::Save { vm, vcpu, k })
+            b"step" [vm: Decimal, number: Decimal] (Line::Step { vm, number })
+            b"refetch" [vm: Decimal, number: Decimal] (Line::Refetch { vm, number })
+            b"enter" [vm: Decimal, number: Decimal] (Line::Enter { vm, number })
+            b"exit" [vm: Decimal, number: Decimal] (Line::Exit { vm, number })
+            b"inject" [vm: Decimal, number: Decimal, bit: Decimal, level: Bit]
+                (Line::Inject { vm, number, bit, level })
+            b"hvictl" [vm: Decimal, number: Decimal, value: Hex] (Line::Hvictl { vm, number, value })
+            b"hviprio" [vm: Decimal, number: Decimal, value: Hex]
+                (Line::Hviprio { vm, number, value })
+            b"save" [vm: Decimal, number: Decimal, k: Decimal] (Line::Save { vm, number, k })
             b"pins" [hart: Decimal] (Line::Pins { hart })
             b"entry" [w0: Hex, w1: Hex] (Line::Entry { w0, w1 })
-            b"pass" [source: Decimal, vm: Decimal, vcpu: Decimal, identity: Decimal]
-                (Line::Pass { source, vm, vcpu, identity })
+            b"pass" [source: Decimal, vm: Decimal, number: Decimal, identity: Decimal]
+                (Line::Pass { source, vm, number, identity })
             b"vm" [vcpus: Decimal, mask: Hex, hart: Decimal] (Line::Vm { vcpus, mask, hart })
             b"machine" [harts: Decimal, guests: Decimal, n: Decimal, sources: Decimal]
                 (Line::Machine { harts, guests, n, sources })
@@ -63,11 +63,11 @@ macro_rules! forms {
 macro_rules! moves {
     ($take:ident $args:tt $line:ident) => {
         $take! { $args
-            b"arrive" [vm: Decimal, vcpu: Decimal, hart: Decimal]
-                (Line::$line { vm, vcpu, want: Want::Arrive(hart) })
-            b"leave" [vm: Decimal, vcpu: Decimal] (Line::$line { vm, vcpu, want: Want::Leave })
-            b"shift" [vm: Decimal, vcpu: Decimal, hart: Decimal]
-                (Line::$line { vm, vcpu, want: Want::Shift(hart) })
+            b"arrive" [vm: Decimal, number: Decimal, hart: Decimal]
+                (Line::$line { vm, number, want: Want::Arrive(hart) })
+            b"leave" [vm: Decimal, number: Decimal] (Line::$line { vm, number, want: Want::Leave })
+            b"shift" [vm: Decimal, number: Decimal, hart: Decimal]
+                (Line::$line { vm, number, want: Want::Shift(hart) })
         }
     };
 }
@@ -105,7 +105,7 @@ fn guest_at(words: &mut Words<'_>) -> Option<Line>
     ensures { result ≡ line_by guest (left words.old) }
 {
     let vm = number_at(words)?;
-    let vcpu = number_at(words)?;
+    let number = number_at(words)?;
     let word = word_at(words)?;
     if is_word(word, b"ipi") {
         let to = number_at(words)?;
@@ -114,14 +114,19 @@ fn guest_at(words: &mut Words<'_>) -> Option<Line>
             words,
             Line::Ipi {
                 vm,
-                vcpu,
+                number,
                 to,
                 value,
             },
         );
     }
     let (csr, op) = instruction_after(Level::Guest, word, words)?;
-    Some(Line::GuestCsr { vm, vcpu, csr, op })
+    Some(Line::GuestCsr {
+        vm,
+        number,
+        csr,
+        op,
+    })
 }
 
 /// Reads the line that the words after `begin` spell; `None` where they spell none.
@@ -137,11 +142,11 @@ fn begin_at(words: &mut Words<'_>) -> Option<Line>
 /// Reads the line that the words after `load` and the numbers of a virtual hart spell; `None` where
 /// they spell none.
 #[inline(always)]
-fn load_part_of(vm: u64, vcpu: u64, words: &mut Words<'_>) -> Option<Line>
-    ensures { result ≡ read part_shape (λ values. Line.LoadPart vm vcpu (part values)) (left words.old) }
+fn load_part_of(vm: u64, number: u64, words: &mut Words<'_>) -> Option<Line>
+    ensures { result ≡ read part_shape (λ values. Line.LoadPart vm number (part values)) (left words.old) }
 {
     let part = part_at(words)?;
-    Some(Line::LoadPart { vm, vcpu, part })
+    Some(Line::LoadPart { vm, number, part })
 }
 
 /// Reads the line that the words after `load` spell; `None` where they spell none.
@@ -150,8 +155,8 @@ fn load_part_at(words: &mut Words<'_>) -> Option<Line>
     ensures { result ≡ line_by load_part (left words.old) }
 {
     let vm = number_at(words)?;
-    let vcpu = number_at(words)?;
-    load_part_of(vm, vcpu, words)
+    let number = number_at(words)?;
+    load_part_of(vm, number, words)
 }
 
 /// Reads the line that the words after a keyword spell; `None` where they spell none.
@@ -212,26 +217,26 @@ fn push_access(
 
 /// Appends `g` and a CSR instruction of a virtual hart to `out`, which is empty.
 #[tactic(auto, unfolding(aia_model::specs::Printing::line_text), using(crate::proofs::PrintLemmas::joined_instruction))]
-fn push_guest(out: &mut ArrayVec<u8, LINE_BYTES>, vm: u64, vcpu: u64, csr: Csr, op: Op)
+fn push_guest(out: &mut ArrayVec<u8, LINE_BYTES>, vm: u64, number: u64, csr: Csr, op: Op)
     requires empty { out.old.items ≡ [] }
-    ensures text { out.new.items ≡ line_text (Line.GuestCsr vm vcpu csr op) }
+    ensures text { out.new.items ≡ line_text (Line.GuestCsr vm number csr op) }
     ensures range { FitsOp op }
 {
     push_text(out, b"g");
     push_decimal(out, vm);
-    push_decimal(out, vcpu);
+    push_decimal(out, number);
     push_instruction(out, Level::Guest, csr, op);
 }
 
 /// Appends `g` and a store of a virtual hart at the file of another to `out`, which is empty.
 #[tactic(auto, unfolding(aia_model::specs::Printing::line_text))]
-fn push_ipi(out: &mut ArrayVec<u8, LINE_BYTES>, vm: u64, vcpu: u64, to: u64, value: u32)
+fn push_ipi(out: &mut ArrayVec<u8, LINE_BYTES>, vm: u64, number: u64, to: u64, value: u32)
     requires { out.old.items ≡ [] }
-    ensures { out.new.items ≡ line_text (Line.Ipi vm vcpu to value) }
+    ensures { out.new.items ≡ line_text (Line.Ipi vm number to value) }
 {
     push_text(out, b"g");
     push_decimal(out, vm);
-    push_decimal(out, vcpu);
+    push_decimal(out, number);
     push_text(out, b" ipi");
     push_decimal(out, to);
     push_decimal32(out, value);
@@ -251,38 +256,38 @@ fn push_hgeip(out: &mut ArrayVec<u8, LINE_BYTES>, hart: u64)
 /// Appends `load` and a part to `out`, which is empty. The numbers of the part are in range by their
 /// types.
 #[tactic(auto, unfolding(aia_model::specs::Printing::line_text), using(crate::proofs::PrintLemmas::joined_part))]
-fn push_load(out: &mut ArrayVec<u8, LINE_BYTES>, vm: u64, vcpu: u64, part: Part)
+fn push_load(out: &mut ArrayVec<u8, LINE_BYTES>, vm: u64, number: u64, part: Part)
     requires { out.old.items ≡ [] }
-    ensures text { out.new.items ≡ line_text (Line.LoadPart vm vcpu part) }
+    ensures text { out.new.items ≡ line_text (Line.LoadPart vm number part) }
     ensures range { AllByRecursion FitsField (part_fields part) }
 {
     push_text(out, b"load");
     push_decimal(out, vm);
-    push_decimal(out, vcpu);
+    push_decimal(out, number);
     push_text(out, b" ");
     push_part(out, part);
 }
 
 /// Appends a move to `out`, which is empty. Its numbers are in range by their types.
 #[tactic(auto, unfolding(aia_model::specs::Printing::line_text))]
-fn push_move(out: &mut ArrayVec<u8, LINE_BYTES>, vm: u64, vcpu: u64, want: Want)
+fn push_move(out: &mut ArrayVec<u8, LINE_BYTES>, vm: u64, number: u64, want: Want)
     requires { out.old.items ≡ [] }
-    ensures text { out.new.items ≡ line_text (Line.Move vm vcpu want) }
-    ensures range { IsPrintable (Line.Move vm vcpu want) }
+    ensures text { out.new.items ≡ line_text (Line.Move vm number want) }
+    ensures range { IsPrintable (Line.Move vm number want) }
 {
-    moves!(print_by_row (Line::Move { vm, vcpu, want }, out, _ => {}) Move)
+    moves!(print_by_row (Line::Move { vm, number, want }, out, _ => {}) Move)
 }
 
 /// Appends the beginning of a move to `out`, which is empty. Its numbers are in range by their
 /// types.
 #[tactic(auto, unfolding(aia_model::specs::Printing::line_text))]
-fn push_beginning(out: &mut ArrayVec<u8, LINE_BYTES>, vm: u64, vcpu: u64, want: Want)
+fn push_beginning(out: &mut ArrayVec<u8, LINE_BYTES>, vm: u64, number: u64, want: Want)
     requires { out.old.items ≡ [] }
-    ensures text { out.new.items ≡ line_text (Line.Begin vm vcpu want) }
-    ensures range { IsPrintable (Line.Begin vm vcpu want) }
+    ensures text { out.new.items ≡ line_text (Line.Begin vm number want) }
+    ensures range { IsPrintable (Line.Begin vm number want) }
 {
     push_text(out, b"begin ");
-    moves!(print_by_row (Line::Begin { vm, vcpu, want }, out, _ => {}) Begin)
+    moves!(print_by_row (Line::Begin { vm, number, want }, out, _ => {}) Begin)
 }
 
 /// Appends a line to `out`, which is empty. Its numbers are in range by their types.
@@ -296,11 +301,11 @@ fn push_line(line: &Line, out: &mut ArrayVec<u8, LINE_BYTES>)
         Line::MachineCsr { hart, csr, op } => push_access(out, b"m", hart, Level::Machine, csr, op),
         Line::HostCsr { hart, csr, op } => push_access(out, b"h", hart, Level::Host, csr, op),
         Line::Hgeip { hart } => push_hgeip(out, hart),
-        Line::GuestCsr { vm, vcpu, csr, op } => push_guest(out, vm, vcpu, csr, op),
-        Line::Ipi { vm, vcpu, to, value } => push_ipi(out, vm, vcpu, to, value),
-        Line::Move { vm, vcpu, want } => push_move(out, vm, vcpu, want),
-        Line::Begin { vm, vcpu, want } => push_beginning(out, vm, vcpu, want),
-        Line::LoadPart { vm, vcpu, part } => push_load(out, vm, vcpu, part),
+        Line::GuestCsr { vm, number, csr, op } => push_guest(out, vm, number, csr, op),
+        Line::Ipi { vm, number, to, value } => push_ipi(out, vm, number, to, value),
+        Line::Move { vm, number, want } => push_move(out, vm, number, want),
+        Line::Begin { vm, number, want } => push_beginning(out, vm, number, want),
+        Line::LoadPart { vm, number, part } => push_load(out, vm, number, part),
     ))
 }
 
