@@ -1,17 +1,15 @@
 -- Readers of words, and the fields that they read: what is spelled is found, and what is found
 -- is spelled so.
-use Rattle.std.proofs.Common.{◌≡◌, ℕ, ◌^◌, Bool, true, false, ◌&&◌, cond, List, [], ◌∷◌, Option, Some, None, ◌⊎◌, inl, inr, refl, sym, ap, subst, ◌∙◌}
+use Rattle.std.proofs.Common.{◌≡◌, ℕ, ◌^◌, Bool, true, false, ◌&&◌, cond, List, [], ◌∷◌, Option, Some, None, ◌⊎◌, inl, inr, refl, sym, ap, ◌∙◌}
 use Rattle.std.specs.Prelude.{not}
 use Rattle.std.proofs.lemmas.Bool.{and_parts, cond-true, cond-false}
 use Rattle.std.proofs.lemmas.Slice.Eq.{bytes_eq-Decides}
-use Rattle.aia_regs.specs.declared.access.Level.{Level}
 use Rattle.aia_model.specs.Text.{number_of, below, ◌>>=◌}
-use Rattle.aia_model.specs.Grammar.{is_word, Kind, Value, bit_of, value_of, Field, SpellsField, SpellFields, Shape, Values, fields}
+use Rattle.aia_model.specs.Grammar.{is_word, Kind, Value, bit_of, value_of, SpellFields, Shape, Values, fields}
 use Rattle.aia_model.specs.Grammar.Choice.{This, Other}
-use Rattle.aia_model.specs.Grammar.Field.{Keyword, Of}
 use Rattle.aia_model.specs.Grammar.Kind.{Decimal, Decimal32, Hex, Hex32, Hex16, Bit, Name}
 use Rattle.aia_model.specs.Grammar.Shape.{End, ◌&◌, Only, Either}
-use Rattle.aia_model.specs.Reading.{Words, word_at, number_at, n32_at, bit_at, csr_at, value_at, whole, read}
+use Rattle.aia_model.specs.Reading.{Words, word_at, number_at, n32_at, bit_at, csr_at, value_at, read}
 
 pub bind_some : {A B : Type 0} (o : Option A) (f : A → Option B) (y : B) → (o >>= f) ≡ Some y → (x : A) × (o ≡ Some x) × (f x ≡ Some y)
 bind_some None f y e = absurd (cc)

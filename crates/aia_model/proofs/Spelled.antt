@@ -14,12 +14,12 @@ use Rattle.aia_regs.specs.declared.access.Op.TheVariants as ops
 use Rattle.aia_csr.specs.CsrAccess.{IsInTable}
 use Rattle.aia_model.specs.declared.limits.TheConstants.{LINE_BYTES}
 use Rattle.aia_model.specs.declared.line.Line.{Line}
-use Rattle.aia_model.specs.declared.line.Line.TheVariants.{MachineCsr, HostCsr, Pins, GuestCsr, Move}
+use Rattle.aia_model.specs.declared.line.Line.TheVariants.{MachineCsr, HostCsr, GuestCsr, Move}
 use Rattle.aia_model.specs.declared.want.Want.TheVariants.{Arrive, Leave, Shift}
 use Rattle.aia_model.specs.declared.parsed.Parsed.{Parsed}
 use Rattle.aia_model.specs.declared.parsed.Parsed.TheVariants as parsed
 use Rattle.aia_model.specs.Text.{words_of, is_skipped}
-use Rattle.aia_model.specs.Grammar.{Field, Kind, SpellsField, SpellFields, HasSpelling, IsNamed, csr_names, csr_name, named, fields}
+use Rattle.aia_model.specs.Grammar.{Field, SpellsField, SpellFields, HasSpelling, IsNamed, csr_names, csr_name, named, fields}
 use Rattle.aia_model.specs.Grammar.Field.{Keyword, Of}
 use Rattle.aia_model.specs.Grammar.Kind.{Name}
 use Rattle.aia_model.specs.Forms.{Spells, IsListed, fields_of, instruction, access_values}

@@ -1,6 +1,6 @@
 -- The forms of lines, as one table: the keyword, the shape of what follows it, and the line. The
 -- reading of a line and its printing both go by it. Profile.
-use Rattle.std.specs.Prelude.{◌≡◌, ℕ, ◌≤◌, List, [], ◌∷◌, length, codes}
+use Rattle.std.specs.Prelude.{ℕ, ◌≤◌, List, [], ◌∷◌, length, codes}
 use Rattle.std.specs.List.{AllByRecursion}
 use Rattle.aia_model.specs.declared.limits.TheConstants.{LINE_BYTES}
 use Rattle.aia_model.specs.declared.line.Line.{Line}
