@@ -228,12 +228,21 @@ pins = form (codes "pins") (Decimal & End) (λ (hart, end). lines.Pins hart)
 abbrev pub entry : Form
 entry = form (codes "entry") (Hex & Hex & End) (λ (w0, (w1, end)). lines.Entry w0 w1)
 
--- All forms.
+-- All forms: those that end with a CSR instruction, a move or a part of an image, and the others
+-- by what they speak of.
+abbrev pub forms_of_machines : List Form
+forms_of_machines =
+    inject ∷ hvictl ∷ hviprio ∷ save ∷ pins ∷ entry ∷ pass ∷ vm ∷ machine ∷ []
+
+abbrev pub forms_of_virtual_harts : List Form
+forms_of_virtual_harts =
+    arrive ∷ leave ∷ shift ∷ step ∷ refetch ∷ enter ∷ exit ∷ forms_of_machines
+
+abbrev pub forms_of_stores : List Form
+forms_of_stores = store ∷ load ∷ wire ∷ msi ∷ send ∷ land ∷ forms_of_virtual_harts
+
 abbrev pub forms : List Form
-forms =
-    machine_csr ∷ host ∷ guest ∷ begin ∷ load_part ∷ arrive ∷ leave ∷ shift
-    ∷ store ∷ load ∷ wire ∷ msi ∷ send ∷ land ∷ step ∷ refetch
-    ∷ enter ∷ exit ∷ inject ∷ hvictl ∷ hviprio ∷ save ∷ pins ∷ entry ∷ pass ∷ vm ∷ machine ∷ []
+forms = machine_csr ∷ host ∷ guest ∷ begin ∷ load_part ∷ forms_of_stores
 
 -- ---- a line by its form
 

@@ -11,9 +11,9 @@ ghost use Rattle.aia_model.specs.AnswerText.{field_text};
 ghost use Rattle.aia_model.specs.Grammar.{fields};
 ghost use Rattle.aia_model.specs.Grammar.Field.{Keyword, Of};
 ghost use Rattle.aia_model.specs.Grammar.Kind.{Decimal};
-ghost use Rattle.aia_model.specs.Forms.{instruction, access_values, part_fields, part, part_shape, machine_csr, host, guest, begin, load_part, Spells, IsListed};
+ghost use Rattle.aia_model.specs.Forms.{instruction, access_values, part_fields, part, part_shape, machine_csr, host, guest, begin, load_part, forms_of_machines, forms_of_stores, forms_of_virtual_harts, Spells, IsListed};
 ghost use Rattle.aia_model.specs.Printing.{line_text, FitsField, IsPrintable};
-ghost use Rattle.aia_model.specs.Reading.{line_by, line_after, line_at, read, reading};
+ghost use Rattle.aia_model.specs.Reading.{line_by, line_among, line_after, line_at, read, reading};
 ghost use Rattle.aia_model.specs.declared.limits.TheConstants.{LINE_BYTES};
 ghost use Rattle.aia_script.specs.Cursor.{left};
 
@@ -28,20 +28,37 @@ use aia_model::{Line, Parsed, Part, Want};
 use aia_regs::{Csr, Level, Op};
 use arrayvec::ArrayVec;
 
-/// Hands the rows of the table to a macro, after its arguments.
-macro_rules! forms {
-    ($take:ident $args:tt) => {
-        $take! { $args
+/// Hands the rows of stores, loads and wires, after those that it is given, to a macro with its
+/// arguments.
+macro_rules! stores {
+    (($take:ident $args:tt) $($rows:tt)*) => {
+        $take! { $args $($rows)*
             b"st" [addr: Hex, value: Hex32] (Line::Store { addr, value })
             b"ld" [addr: Hex] (Line::Load { addr })
             b"wire" [source: Decimal, level: Bit] (Line::Wire { source, level })
             b"msi" [vm: Decimal, addr: Hex, value: Decimal32] (Line::Msi { vm, addr, value })
             b"send" [vm: Decimal, addr: Hex, value: Decimal32] (Line::Send { vm, addr, value })
             b"land" [vm: Decimal, k: Decimal] (Line::Land { vm, k })
+        }
+    };
+}
+
+/// Hands the rows of virtual harts on, likewise.
+macro_rules! virtual_harts {
+    (($take:ident $args:tt) $($rows:tt)*) => {
+        $take! { $args $($rows)*
             b"step" [vm: Decimal, number: Decimal] (Line::Step { vm, number })
             b"refetch" [vm: Decimal, number: Decimal] (Line::Refetch { vm, number })
             b"enter" [vm: Decimal, number: Decimal] (Line::Enter { vm, number })
             b"exit" [vm: Decimal, number: Decimal] (Line::Exit { vm, number })
+        }
+    };
+}
+
+/// Hands the rows of what a machine and the hypervisor set and show on, likewise.
+macro_rules! machines {
+    (($take:ident $args:tt) $($rows:tt)*) => {
+        $take! { $args $($rows)*
             b"inject" [vm: Decimal, number: Decimal, bit: Decimal, level: Bit]
                 (Line::Inject { vm, number, bit, level })
             b"hvictl" [vm: Decimal, number: Decimal, value: Hex] (Line::Hvictl { vm, number, value })
@@ -159,6 +176,37 @@ fn load_part_at(words: &mut Words<'_>) -> Option<Line>
     load_part_of(vm, number, words)
 }
 
+/// Reads the line that the words after a keyword spell, of what a machine and the hypervisor set and
+/// show; `None` where they spell none.
+#[inline(always)]
+fn machine_line(keyword: &[u8], words: &mut Words<'_>) -> Option<Line>
+    ensures { result ≡ line_among forms_of_machines keyword.now (left words.old) }
+{
+    machines!((read_by_row(keyword, words)));
+    None
+}
+
+/// Reads the line that the words after a keyword spell, of a virtual hart or as above; `None` where
+/// they spell none.
+#[inline(always)]
+fn virtual_hart_line(keyword: &[u8], words: &mut Words<'_>) -> Option<Line>
+    ensures { result ≡ line_among forms_of_virtual_harts keyword.now (left words.old) }
+{
+    moves!(read_by_row (keyword, words) Move);
+    virtual_harts!((read_by_row(keyword, words)));
+    machine_line(keyword, words)
+}
+
+/// Reads the line that the words after a keyword spell, of a store, a load or a wire, or as above;
+/// `None` where they spell none.
+#[inline(always)]
+fn store_line(keyword: &[u8], words: &mut Words<'_>) -> Option<Line>
+    ensures { result ≡ line_among forms_of_stores keyword.now (left words.old) }
+{
+    stores!((read_by_row(keyword, words)));
+    virtual_hart_line(keyword, words)
+}
+
 /// Reads the line that the words after a keyword spell; `None` where they spell none.
 #[inline(always)]
 fn line_after(keyword: &[u8], words: &mut Words<'_>) -> Option<Line>
@@ -179,9 +227,7 @@ fn line_after(keyword: &[u8], words: &mut Words<'_>) -> Option<Line>
     if is_word(keyword, b"load") {
         return load_part_at(words);
     }
-    moves!(read_by_row (keyword, words) Move);
-    forms!(read_by_row(keyword, words));
-    None
+    store_line(keyword, words)
 }
 
 /// Reads the line that words spell; `None` where they spell none.
@@ -297,7 +343,7 @@ fn push_line(line: &Line, out: &mut ArrayVec<u8, LINE_BYTES>)
     ensures text { out.new.items ≡ line_text line.now }
     ensures range { IsPrintable line.now }
 {
-    forms!(print_by_row (*line, out,
+    stores!((virtual_harts (machines (print_by_row (*line, out,
         Line::MachineCsr { hart, csr, op } => push_access(out, b"m", hart, Level::Machine, csr, op),
         Line::HostCsr { hart, csr, op } => push_access(out, b"h", hart, Level::Host, csr, op),
         Line::Hgeip { hart } => push_hgeip(out, hart),
@@ -306,7 +352,7 @@ fn push_line(line: &Line, out: &mut ArrayVec<u8, LINE_BYTES>)
         Line::Move { vm, number, want } => push_move(out, vm, number, want),
         Line::Begin { vm, number, want } => push_beginning(out, vm, number, want),
         Line::LoadPart { vm, number, part } => push_load(out, vm, number, part),
-    ))
+    )))))
 }
 
 /// Appends the printing spelling of a line to `out`, which is empty. The line's CSR is one that
