@@ -6,11 +6,11 @@ use Rattle.std.proofs.lemmas.Bool.{false≢true, eqb-true, or_left}
 use Rattle.aia_plan.specs.declared.step.Step.{Step}
 use Rattle.aia_plan.specs.declared.step.Step.TheVariants.{Word0, Fence, Map, Unmap, Remap, GFence, TakeP, PutP, TakeE, PutE}
 use Rattle.aia_plan.specs.Plan.{Plan}
-use Rattle.aia_plan.specs.Rule.{stands, takes_pending, puts_pending, takes_enables, puts_enables}
+use Rattle.aia_plan.specs.Rule.{stands, takes_pending, puts_pending, takes_enables, puts_enables, is_record}
 use Rattle.aia_plan.specs.Transit.{Side, Flight, Transit, is_identity, all_landed, stepped, word_bits, without_word, of_word, no_bits}
 use Rattle.aia_plan.specs.Transit.Side.{New}
 use Rattle.aia_plan.proofs.BoolLaws.{take_law, put_law, replace_law, drain_law, fresh_law}
-use Rattle.aia_plan.proofs.Invariant.{is_record, side_if, MayLead, Routed, Pended, Enabled, Between, all_changed, all_land, flights_may_land}
+use Rattle.aia_plan.proofs.Invariant.{side_if, MayLead, Routed, Pended, Enabled, Between, all_changed, all_land, flights_may_land}
 
 -- What the rule says of the steps behind a step.
 abbrev pub Guard : Step → Plan → Type 0

@@ -2,12 +2,11 @@
 use Rattle.std.proofs.Common.{◌≡◌, ℕ, ◌<◌, Bool, true, false, not, ◌&&◌, nat_eq, [], ◌∷◌, refl, sym, ap}
 use Rattle.std.proofs.lemmas.Bool.{false≢true}
 use Rattle.aia_plan.specs.Plan.{Plan}
-use Rattle.aia_plan.specs.Rule.{is_step, stands, comes_before, own_record}
+use Rattle.aia_plan.specs.Rule.{is_step, stands, comes_before, own_record, is_record}
 use Rattle.aia_plan.specs.declared.step.Kind.{Kind}
 use Rattle.aia_plan.specs.declared.step.Kind.TheVariants as kinds
 use Rattle.aia_plan.specs.declared.step.Step.{Step as OurStep}
 use Rattle.aia_plan.specs.declared.step.Step.TheVariants.{Word0, Fence, Map, Unmap, Remap, GFence, TakeP}
-use Rattle.aia_plan.proofs.Invariant.{is_record}
 use Rattle.plans_machine.specs.declared.step.Bank.TheVariants.{Pending}
 use Rattle.plans_machine.specs.declared.rule.Rule.TheVariants.{Routes}
 use Rattle.plans_machine.specs.declared.step.Step.TheVariants as steps
