@@ -1,9 +1,7 @@
 -- All that stands behind a step, put together of its parts.
 use Rattle.std.proofs.Common.{◌≡◌, ℕ, ◌≤◌, Bool, true, false, [], ◌∷◌, Option, Some, None, refl, ap, ◌∙◌, arith}
 use Rattle.std.proofs.lemmas.Bool.{false≢true}
-use Rattle.aia_plan.specs.Plan.{IsWidth}
 use Rattle.aia_plan.specs.Rule.{first_failing}
-use Rattle.aia_plan.proofs.CorePlans.{of_width}
 use Rattle.aia_audit.specs.declared.verdict.Verdict.{Verdict}
 use Rattle.aia_audit.specs.declared.verdict.Verdict.TheVariants.{Accepted, Refused}
 use Rattle.aia_audit.specs.Verdicts.{verdict_by}
@@ -34,6 +32,3 @@ accepted_keeps (Some r) e = absurd (false≢true (ap is_accepted e))
     is_accepted : Verdict → Bool
     is_accepted Accepted = true
     is_accepted (Refused part) = false
-
-pub at_most_32 : (words : ℕ) → IsWidth words → words ≤ 32
-at_most_32 = of_width (λ words. words ≤ 32) (omega arith) (omega arith) (omega arith) (omega arith) (omega arith) (omega arith)

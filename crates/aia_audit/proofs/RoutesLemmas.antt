@@ -8,10 +8,11 @@ use Rattle.aia_plan.specs.declared.step.Kind.TheVariants.{Leave, Arrive, Shift}
 use Rattle.aia_plan.specs.declared.step.Step.{Step}
 use Rattle.aia_plan.specs.declared.step.Step.TheVariants.{Word1, Word0, Fence, GFence}
 use Rattle.aia_plan.specs.Plan.{Plan}
-use Rattle.aia_plan.specs.Rule.{is_step, stands, is_once, comes_before, own_record, other_records, names_notice, turns_routes}
+use Rattle.aia_plan.specs.Rule.{is_step, stands, is_once, comes_before, own_record, other_records, names_notice, turns_routes, is_record}
 use Rattle.aia_plan.proofs.Behind.{before, Before}
 use Rattle.aia_plan.proofs.RuleIsSafe.{comes_before-before, none_before, once_is, once_stands, once_before, in_order, NoOther, any_record, record_before_record, record_before, all_turns}
-use Rattle.aia_audit.specs.Behind.{is_record, has_record, orders, fits_before, are_in_order, is_leave}
+use Rattle.aia_audit.specs.Behind.{has_record, orders, fits_before, are_in_order, is_leave}
+use Rattle.aia_word.proofs.SetLemmas.{both_ways}
 
 -- ---- all pairs in order
 
@@ -124,11 +125,6 @@ are_turned kind plan =
     && not (list_any (λ step. stands step plan) (other_records kind)) && stands GFence plan
     && beq (stands Word1 plan) (is_leave kind)
 
-same_from_both : (a b : Bool) → (a ≡ true → b ≡ true) → (b ≡ true → a ≡ true) → a ≡ b
-same_from_both true b to from = sym (to refl)
-same_from_both false true to from = from refl
-same_from_both false false to from = refl
-
 told_turns : (kind : Kind) (plan : Plan) → are_turned kind plan ≡ true → turns_routes kind plan ≡ true
 told_turns kind plan e =
     let p6 = and_parts _ (beq (stands Word1 plan) (is_leave kind)) e in
@@ -173,4 +169,4 @@ turns_told kind plan e =
     (same_itself (stands Word1 plan) (is_leave kind) n.there)
 
 pub turned : (kind : Kind) (plan : Plan) → are_turned kind plan ≡ turns_routes kind plan
-turned kind plan = same_from_both (are_turned kind plan) (turns_routes kind plan) (told_turns kind plan) (turns_told kind plan)
+turned kind plan = both_ways (are_turned kind plan) (turns_routes kind plan) (told_turns kind plan) (turns_told kind plan)

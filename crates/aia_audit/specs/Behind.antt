@@ -1,14 +1,14 @@
 -- What the checker keeps of the steps behind a step, while it reads a plan from its end.
 -- Vocabulary.
-use Rattle.std.specs.Prelude.{ℕ, Bool, true, false, not, ◌&&◌, ◌||◌, nat_eq, List, [], ◌∷◌, Option, Some, None}
+use Rattle.std.specs.Prelude.{ℕ, Bool, true, false, not, ◌&&◌, ◌||◌, List, [], ◌∷◌, Option, Some, None}
 use Rattle.std.specs.List.{list_any, list_all}
 use Rattle.aia_word.specs.Sets.{word_of}
 use Rattle.aia_plan.specs.Plan.{Plan}
-use Rattle.aia_plan.specs.Rule.{is_step, stands, other_records, is_same, takes_pending, puts_pending, takes_enables, puts_enables}
+use Rattle.aia_plan.specs.Rule.{is_step, is_record, names, stands, other_records, is_same, takes_pending, puts_pending, takes_enables, puts_enables}
 use Rattle.aia_plan.specs.declared.step.Kind.{Kind}
 use Rattle.aia_plan.specs.declared.step.Kind.TheVariants as kinds
 use Rattle.aia_plan.specs.declared.step.Step.{Step}
-use Rattle.aia_plan.specs.declared.step.Step.TheVariants.{Word1, Word0, Fence, Map, Unmap, Remap, GFence}
+use Rattle.aia_plan.specs.declared.step.Step.TheVariants.{Word1, Word0, Fence, GFence}
 use Rattle.aia_audit.specs.declared.behind.Behind.{Behind}
 use Rattle.aia_audit.specs.declared.routes.Routes.{Routes}
 use Rattle.aia_audit.specs.declared.takes.Takes.{Takes}
@@ -16,9 +16,6 @@ use Rattle.aia_audit.specs.declared.takes.Takes.{Takes}
 -- ---- the steps that turn the routes
 
 -- Whether a step of a plan writes the G-stage record.
-abbrev pub is_record : Step → Bool
-is_record x = is_step Map x || (is_step Unmap x || is_step Remap x)
-
 abbrev pub has_record : Plan → Bool
 has_record plan = list_any is_record plan
 
@@ -56,11 +53,6 @@ routes_behind kind plan = record {
 }
 
 -- ---- the steps that take and put words of a set
-
--- Whether a word is the one that is there.
-abbrev pub names : Option ℕ → ℕ → Bool
-names None w = false
-names (Some v) w = nat_eq v w
 
 -- Whether a step takes word w.
 abbrev pub is_taken : (Step → Option ℕ) → ℕ → Plan → Bool

@@ -3,8 +3,8 @@
 ghost use Rattle.std.specs.Prelude.{◌≡◌, ◌<◌, ◌≤◌, ◌||◌, ◌&&◌, ℕ, Bool, Option, None, IfSome, [], ◌∷◌};
 ghost use Rattle.aia_word.specs.Sets.{has_bit, word_of};
 ghost use Rattle.aia_plan.specs.Plan.{Plan};
-ghost use Rattle.aia_plan.specs.Rule.{is_same, are_paired, all_below};
-ghost use Rattle.aia_audit.specs.Behind.{names, may_take, is_taken, all_may_take, takes_behind};
+ghost use Rattle.aia_plan.specs.Rule.{names, is_same, are_paired, all_below};
+ghost use Rattle.aia_audit.specs.Behind.{may_take, is_taken, all_may_take, takes_behind};
 
 use aia_plan::Step;
 

@@ -25,6 +25,7 @@ use Rattle.aia_command.specs.Spelled.{audit_spelled, generate_spelled, replay_sp
 use Rattle.aia_command.proofs.NumberLemmas.{digits_are_number, no_number, number_up_to-some}
 use Rattle.aia_command.proofs.TurnLemmas.{Delimits, IsArgument, IsRefused, standing, turn, turn-delimited}
 use Rattle.aia_command.proofs.ArgumentLemmas.{asked_from-audit, asked_from-generate, asked_from-replay, audit_leaf, fault_from, found_from, generate_leaf, replay_leaf}
+use Rattle.aia_plan.proofs.CorePlans.{at_most_32}
 
 -- The command as building leaves it.
 abbrev whole : App
@@ -303,24 +304,6 @@ width_of-width words is = elim is [
   ]
 ]
 
-width-small : (words : ℕ) → IsWidth words → words ≤ 32
-width-small words is = elim is [
-  | inl one ↦ omega arith
-  | inr more ↦ elim more [
-    | inl two ↦ omega arith
-    | inr more ↦ elim more [
-      | inl four ↦ omega arith
-      | inr more ↦ elim more [
-        | inl eight ↦ omega arith
-        | inr more ↦ elim more [
-          | inl sixteen ↦ omega arith
-          | inr thirty_two ↦ omega arith
-        ]
-      ]
-    ]
-  ]
-]
-
 kind_asked : (kind : Kind) (words : ℕ) (width : Text) → number_of width ≡ Some words → width_of words ≡ Some words → audit_spelled (without_delimiter (kind_word kind ∷ width ∷ [])) ≡ Some (Audit kind words)
 kind_asked Leave words width number is = rw (not_delimiter (2 ^ 64 - 1) words width number, number, is) refl
 kind_asked Arrive words width number is = rw (not_delimiter (2 ^ 64 - 1) words width number, number, is) refl
@@ -328,7 +311,7 @@ kind_asked Shift words width number is = rw (not_delimiter (2 ^ 64 - 1) words wi
 
 pub audit_asked : (kind : Kind) (words : ℕ) → IsWidth words → subcommand_of (codes "audit" ∷ kind_word kind ∷ decimal words ∷ []) ≡ Some (Audit kind words)
 audit_asked kind words is =
-    let small = width-small words is in
+    let small = at_most_32 words is in
     let spelled = decimal_is_IsNumeral words (omega (arith, small)) in
     let fits : words < 2 ^ 64 = omega (arith, small) in
     let number : number_of (decimal words) ≡ Some words = digits_are_number (2 ^ 64 - 1) (decimal words) spelled.0 (rw spelled.1 (omega (arith, small))) (rw spelled.1 fits) ∙ ap Some spelled.1 in

@@ -4,18 +4,14 @@ use Rattle.std.specs.List.{All}
 use Rattle.std.proofs.lemmas.Bool.{cond-true, cond-false, or_parts, or_from, le-ltb, lt-ltb, ltb-false}
 use Rattle.std.proofs.lemmas.Option.{none-some, same_Some}
 use Rattle.aia_source.specs.Top.{Pair, ComesFirst, NamesItself, lesser, least_pair}
-use Rattle.aia_source.proofs.ListLemmas.{pairs_tail}
 use Rattle.aia_source.proofs.TopLemmas.{lesser-none, least_pair-none, least_pair-suc}
 use Rattle.aia_word.specs.Top.{lets_through}
 use Rattle.aia_waiting.specs.Order.{comes_before, IsRising, put_in, put_if, ordered}
-use Rattle.aia_waiting.proofs.OrderLemmas.{is_before, not_before}
+use Rattle.aia_waiting.proofs.OrderLemmas.{is_before, not_before, rising_tail}
 use Rattle.aia_waiting.proofs.OrderedLemmas.{ordered_all, ordered_rising}
 use Rattle.aia_direct.specs.Front.{if_through, through, first_through}
 
 -- ---- the first pair of a rising list
-
-rising_tail : (q : Pair) (qs : List Pair) → IsRising (q ∷ qs) → IsRising qs
-rising_tail q qs = pairs_tail (λ p q. comes_before q p ≡ false) q qs
 
 no_more : (p q : Pair) → ComesFirst p q → p.0 ≤ q.0
 no_more p q (inl a) = omega arith

@@ -6,7 +6,7 @@ use Rattle.std.proofs.lemmas.Bool.{cases_Bool, cases_eq, and_parts, eqb-true, eq
 use Rattle.std.proofs.lemmas.Bool.Decides.{nat_tests}
 use Rattle.std.proofs.Math.Nat.{mod-eq_of_lt}
 use Rattle.aia_word.specs.Sets.{has_bit, word_of}
-use Rattle.aia_word.proofs.SetLemmas.{has_bit-word_of}
+use Rattle.aia_word.proofs.SetLemmas.{has_bit-word_of, both_ways, same_bit}
 use Rattle.aia_regs.specs.Fields.{bit_number}
 use Rattle.aia_regs.specs.BitUpdate.{settle}
 use Rattle.aia_regs.specs.BitUpdate.BitUpdate.{Ask, Clear, Nothing}
@@ -92,27 +92,18 @@ member set i = has_bit-word_of set (64 * (i / 64)) 64 (i % 64) (low i) ∙ ap se
 same_member : (p q : ℕ → Bool) (i : ℕ) → word_of p (64 * (i / 64)) 64 ≡ word_of q (64 * (i / 64)) 64 → p i ≡ q i
 same_member p q i e = sym (member p i) ∙ ap (λ w. has_bit w (i % 64)) e ∙ member q i
 
--- two Bools that are true together are the same
-together : (a b : Bool) → (a ≡ true → b ≡ true) → (b ≡ true → a ≡ true) → a ≡ b
-together true b f g = sym (f refl)
-together false true f g = g refl
-together false false f g = refl
-
 -- what is in no word is in neither
 in_words : (n i : ℕ) → is_greatest_identity n ≡ true → is_in_range 1 n i ≡ true → i / 64 < (n + 1) / 64
 in_words n i e here = grind (arith, nat_tests)
 
 same_set : (p q : ℕ → Bool) (n : ℕ) → is_greatest_identity n ≡ true → ((i : ℕ) → p i ≡ true → is_in_range 1 n i ≡ true) → ((i : ℕ) → q i ≡ true → is_in_range 1 n i ≡ true)
     → ((w : ℕ) → w < (n + 1) / 64 → word_of p (64 * w) 64 ≡ word_of q (64 * w) 64) → (i : ℕ) → p i ≡ q i
-same_set p q n greatest in_p in_q words i = together (p i) (q i)
+same_set p q n greatest in_p in_q words i = both_ways (p i) (q i)
     (λ e. sym (same_member p q i (words (i / 64) (in_words n i greatest (in_p i e)))) ∙ e)
     (λ e. same_member p q i (words (i / 64) (in_words n i greatest (in_q i e))) ∙ e)
 
-same_delivery : (a b : ℕ) → a < 2 → b < 2 → nat_eq a 1 ≡ nat_eq b 1 → a ≡ b
-same_delivery a b la lb e = grind (arith, nat_tests)
-
 same_majors : (p q : ℕ → Bool) → ((j : ℕ) → p j ≡ true → is_major j ≡ true) → ((j : ℕ) → q j ≡ true → is_major j ≡ true) → majors_word p ≡ majors_word q → (j : ℕ) → p j ≡ q j
-same_majors p q of_p of_q e j = together (p j) (q j) (λ t. one_way p q of_p e j t) (λ t. one_way q p of_q (sym e) j t)
+same_majors p q of_p of_q e j = both_ways (p j) (q j) (λ t. one_way p q of_p e j t) (λ t. one_way q p of_q (sym e) j t)
   where
     both : (a b : Bool) → (a && b) ≡ true → b ≡ true
     both true b e = e
@@ -136,7 +127,7 @@ images_same x y is_x is_y same =
         pending = same_set x.file.pending y.file.pending x.file.n is_x.greatest is_x.pending (λ i e. ap (λ m. is_in_range 1 m i) n ∙ is_y.pending i e) (λ w few. ap pending_in (same (suc (suc (suc w))) (omega (arith, few))));
         enabled = same_set x.file.enabled y.file.enabled x.file.n is_x.greatest is_x.enabled (λ i e. ap (λ m. is_in_range 1 m i) n ∙ is_y.enabled i e) (λ w few. ap enable_in (same (suc (suc (suc w))) (omega (arith, few))));
         threshold = ap threshold_in first;
-        delivery = same_delivery x.file.delivery y.file.delivery is_x.delivery is_y.delivery (ap delivery_in first);
+        delivery = same_bit x.file.delivery y.file.delivery is_x.delivery is_y.delivery (ap delivery_in first);
       };
       injected = same_majors x.majors.injected y.majors.injected is_x.injected_majors is_y.injected_majors (ap injected_in second);
       enabled = same_majors x.majors.enabled y.majors.enabled is_x.enabled_majors is_y.enabled_majors (ap enabled_in second);

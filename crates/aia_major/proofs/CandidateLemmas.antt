@@ -3,6 +3,7 @@ use Rattle.std.proofs.Common.{◌≡◌, ℕ, ◌+◌, ◌^◌, ◌<◌, inl, in
 use Rattle.std.specs.List.{Contains}
 use Rattle.std.specs.Int.{is_in_range}
 use Rattle.std.proofs.lemmas.List.Elements.{Contains-append_cases}
+use Rattle.std.proofs.lemmas.Bool.{and_parts, not-true}
 use Rattle.aia_regs.specs.Fields.{field, with_field}
 use Rattle.aia_regs.proofs.FieldLemmas.{got, other_field}
 use Rattle.aia_major.specs.VsMajor.{VsMajorState, Candidate, vti_of, iid_of, dpr_of, iprio_of, is_major, is_hvictl, is_live, or_256, one_if, external, by_hviprio1, by_hvictl, candidates, first_of, priority_shown, candidate_value, stopi_value}
@@ -27,14 +28,6 @@ alone true x c m = elim (here_or_later x c [] m) [
   | inr n ↦ nowhere c n
 ]
 
-both : (a b : Bool) → (a && b) ≡ true → (a ≡ true) × (b ≡ true)
-both true b e = (refl, e)
-both false b e = absurd (cc)
-
-denied : (a : Bool) → not a ≡ true → a ≡ false
-denied true e = absurd (cc)
-denied false e = refl
-
 -- a candidate is one of the five, and its condition holds
 member : {A : Type 0} (m : VsMajorState) (stopei : ℕ) (signal : Bool) (c : Candidate) → Contains (candidates m stopei signal) c
     → (is_live m signal 9 ≡ true → c ≡ external_one stopei → A)
@@ -45,7 +38,7 @@ member : {A : Type 0} (m : VsMajorState) (stopei : ℕ) (signal : Bool) (c : Can
     → A
 member {A} m stopei signal c is e s t o h =
     elim (Contains-append_cases (external m stopei signal ++ by_hviprio1 m signal 1 8 2 ++ by_hviprio1 m signal 5 24 3 ++ by_hviprio1 m signal 13 40 4) (by_hvictl m.hvictl) c is) [
-      | inr in_h ↦ let x = alone _ _ c in_h in let y = both _ _ x.0 in h (y.0, denied _ y.1) x.1
+      | inr in_h ↦ let x = alone _ _ c in_h in let y = and_parts _ _ x.0 in h (y.0, not-true _ y.1) x.1
       | inl four ↦ elim (Contains-append_cases (external m stopei signal ++ by_hviprio1 m signal 1 8 2 ++ by_hviprio1 m signal 5 24 3) (by_hviprio1 m signal 13 40 4) c four) [
         | inr in_o ↦ other 13 40 4 in_o o
         | inl three ↦ elim (Contains-append_cases (external m stopei signal ++ by_hviprio1 m signal 1 8 2) (by_hviprio1 m signal 5 24 3) c three) [
@@ -61,8 +54,8 @@ member {A} m stopei signal c is e s t o h =
     other : (major lo rank : ℕ) → Contains (by_hviprio1 m signal major lo rank) c → ((vti_of m.hvictl ≡ false) × (is_live m signal major ≡ true) → c ≡ other_one m.hviprio1 major lo rank → A) → A
     other major lo rank is next =
         let x = alone (not (vti_of m.hvictl) && is_live m signal major) (other_one m.hviprio1 major lo rank) c is in
-        let y = both (not (vti_of m.hvictl)) (is_live m signal major) x.0 in
-        next (denied (vti_of m.hvictl) y.0, y.1) x.1
+        let y = and_parts (not (vti_of m.hvictl)) (is_live m signal major) x.0 in
+        next (not-true (vti_of m.hvictl) y.0, y.1) x.1
 
 -- ---- by their ranks
 

@@ -1,10 +1,10 @@
 -- The majors that sip and sie show, and what a guest's instruction makes of them.
-use Rattle.std.proofs.Common.{◌≡◌, ◌≢◌, lit<, ℕ, zero, suc, ◌+◌, ◌-◌, ◌*◌, ◌^◌, ◌<◌, ◌≤◌, inl, inr, Bool, true, false, not, ◌&&◌, ◌||◌, cond, nat_eq, refl, sym, ap, subst, ◌∙◌, arith}
+use Rattle.std.proofs.Common.{◌≡◌, ◌≢◌, lit<, ℕ, zero, ◌+◌, ◌-◌, ◌*◌, ◌^◌, ◌<◌, ◌≤◌, inl, inr, Bool, true, false, not, ◌&&◌, ◌||◌, cond, nat_eq, refl, sym, ap, subst, ◌∙◌, arith}
 use Rattle.std.specs.Int.{bit_at, bit_not, w64}
 use Rattle.std.proofs.lemmas.Bool.{cases_lt, cases_eq, ne_eqb, eqb-true}
 use Rattle.std.proofs.lemmas.Bool.Decides.{nat_tests}
-use Rattle.std.proofs.lemmas.Nat.Bits.{bit_at_not, bit_at-lt, bit_at-zero, bit_at_above, bit_at_cat_low, bit_at_cat_high}
-use Rattle.aia_word.proofs.BitLemmas.{has_bit-and, has_bit-or}
+use Rattle.std.proofs.lemmas.Nat.Bits.{bit_at-zero, bit_at_above, bit_at_cat_low, bit_at_cat_high}
+use Rattle.aia_word.proofs.BitLemmas.{has_bit-and, has_bit-or, has_bit-not}
 use Rattle.aia_regs.specs.declared.access.Op.{Op}
 use Rattle.aia_regs.specs.declared.access.Op.TheVariants as ops
 use Rattle.aia_regs.specs.Fields.{bit_number}
@@ -82,14 +82,6 @@ majors_word-bit members j =
     at k e is = subst (λ i. has_bit (majors_word members) i ≡ (is_major i && members i)) (sym e) is
 
 -- ---- a bit after an instruction
-
-has_bit-not : (v b : ℕ) → v < 2 ^ 64 → b < 64 → has_bit (bit_not w64 v) b ≡ not (has_bit v b)
-has_bit-not v b fits low = ap (λ x. nat_eq x 1) (bit_at_not w64 v b fits low) ∙ other_bit (bit_at v b) (bit_at-lt v b)
-  where
-    other_bit : (x : ℕ) → x < 2 → nat_eq (1 - x) 1 ≡ not (nat_eq x 1)
-    other_bit zero h = refl
-    other_bit (suc zero) h = refl
-    other_bit (suc (suc x)) h = absurd (omega arith)
 
 has_bit-written : (op : Op) (old b : ℕ) → FitsOp op → b < 64 → has_bit (written op old) b ≡ settle (bit_said op b) (has_bit old b)
 has_bit-written ops.Read old b fits low = refl

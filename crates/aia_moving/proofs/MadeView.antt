@@ -34,7 +34,7 @@ use Rattle.aia_regs.specs.declared.limits.TheConstants.{IDENTITIES, WORDS_OF_SLO
 pub few_words : (n : ℕ) → is_greatest_identity n ≡ true → (n + 1) / 64 ≤ FILE_WORDS
 few_words n greatest = let few : n ≤ IDENTITIES = grind (arith, nat_tests) in omega arith
 
-other_way : (a b : Place) → is_place a b ≡ false → is_place b a ≡ false
+pub other_way : (a b : Place) → is_place a b ≡ false → is_place b a ≡ false
 other_way a b apart = grind (arith, nat_tests)
 
 no_file : (w : World) (p : Place) → IsNoFile w p None

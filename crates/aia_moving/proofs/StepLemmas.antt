@@ -25,32 +25,26 @@ use Rattle.aia_world.specs.Changes.{PutsRegister, spot_of, with_pending, with_en
 use Rattle.aia_moving.specs.Move.{Moving, width, old_at, new_at, PostsIf, Makes, hand_after, MoveFits, Ends}
 use Rattle.aia_moving.specs.Carrier.{CarrierState, carrier_of, progress_of, moving, one_done, Does, closing_access, pending_access, enables_access}
 use Rattle.aia_moving.specs.Turns.{IsIn, IsMove, GoesOn}
+use Rattle.aia_moving.specs.Touches.{SameMachine}
 use Rattle.aia_moving.proofs.PhaseSteps.{middle}
 
 -- ---- what an access leaves
 
--- the VMs, and which files there are
-record Keeps (w u : World) : Type 0 where
-  pub n : u.n ≡ w.n
-  pub vms : u.vms ≡ w.vms
-  pub harts : u.imsic.harts ≡ w.imsic.harts
-  pub guests : u.imsic.guests ≡ w.imsic.guests
+by_equation : (w u x : World) → SameMachine w x → u ≡ x → SameMachine w u
+by_equation w u x kept e = subst (λ y. SameMachine w y) (sym e) kept
 
-by_equation : (w u x : World) → Keeps w x → u ≡ x → Keeps w u
-by_equation w u x kept e = subst (λ y. Keeps w y) (sym e) kept
-
-register_kept : (w u : World) (spot : Spot) (reg : FileReg) (v : ℕ) → PutsRegister w u spot reg v → Keeps w u
+register_kept : (w u : World) (spot : Spot) (reg : FileReg) (v : ℕ) → PutsRegister w u spot reg v → SameMachine w u
 register_kept w u spot reg v puts = by_equation w u _ (record { n = refl; vms = refl; harts = refl; guests = refl }) puts.others
 
-pending_kept : (w : World) (at : At) (k v : ℕ) → Keeps w (with_pending w at k v)
+pending_kept : (w : World) (at : At) (k v : ℕ) → SameMachine w (with_pending w at k v)
 pending_kept w (File spot) k v = record { n = refl; vms = refl; harts = refl; guests = refl }
 pending_kept w (Slot q) k v = record { n = refl; vms = refl; harts = refl; guests = refl }
 
-enable_kept : (w : World) (at : At) (k v : ℕ) → Keeps w (with_enable w at k v)
+enable_kept : (w : World) (at : At) (k v : ℕ) → SameMachine w (with_enable w at k v)
 enable_kept w (File spot) k v = record { n = refl; vms = refl; harts = refl; guests = refl }
 enable_kept w (Slot q) k v = record { n = refl; vms = refl; harts = refl; guests = refl }
 
-post_kept : (w u : World) (seen : Bool) (hart identity : ℕ) → PostsIf seen w u hart identity → Keeps w u
+pub post_kept : (w u : World) (seen : Bool) (hart identity : ℕ) → PostsIf seen w u hart identity → SameMachine w u
 post_kept w u true hart identity p = record {
   n = ap (λ (x : World). x.n) p.rest;
   vms = ap (λ (x : World). x.vms) p.rest;
@@ -59,7 +53,7 @@ post_kept w u true hart identity p = record {
 }
 post_kept w u false hart identity e = by_equation w u w (record { n = refl; vms = refl; harts = refl; guests = refl }) e
 
-access_keeps : (access : Access) (m : Moving) (w u : World) → Makes access m w u → Keeps w u
+access_keeps : (access : Access) (m : Moving) (w u : World) → Makes access m w u → SameMachine w u
 access_keeps TakeDelivery m w u made = register_kept w u _ _ _ made
 access_keeps PutDelivery m w u made = register_kept w u _ _ _ made
 access_keeps WriteNotice m w u made = by_equation w u _ (record { n = refl; vms = refl; harts = refl; guests = refl }) made
@@ -98,7 +92,7 @@ record TakesNoZero (w : World) (m t : Moving) : Type 0 where
   pub pending : steps_done m.home ≡ pending_step m.home 0 → has_bit t.hand.word 0 ≡ false
   pub enabled : steps_done m.home ≡ enables_step (width w) m.home 0 → has_bit t.hand.word 0 ≡ false
 
-file_stays : (w u : World) (p : Place) → Keeps w u → IsThere w.imsic (spot_of p) → IsThere u.imsic (spot_of p)
+pub file_stays : (w u : World) (p : Place) → SameMachine w u → IsThere w.imsic (spot_of p) → IsThere u.imsic (spot_of p)
 file_stays w u p kept is = (omega (arith, is.0, kept.harts), is.1, omega (arith, is.2, kept.guests))
 
 one_step : (w u : World) (m t : Moving) (access : Access) → MoveFits w m → IsNext (width w) m.home access → Makes access m w u
@@ -123,7 +117,7 @@ one_step w u m t access fits next made is more zero = record {
   steps = steps;
 }
   where
-    kept : Keeps w u
+    kept : SameMachine w u
     kept = access_keeps access m w u made
 
     same : IsSame m.home

@@ -39,6 +39,10 @@ use Rattle.aia_world.proofs.ViewLemmas.{same_place, slot_low}
 use Rattle.aia_moving.proofs.MadeView.{few_words}
 use Rattle.aia_regs.specs.declared.limits.TheConstants.{SLOTS, ENTRIES, FILE_WORDS}
 
+-- a word of the entries is of one entry
+pub one_entry : (a b c d x y : ℕ) → b < ENTRIES → d < ENTRIES → x ≤ 1 → y ≤ 1 → entry_word_place a b + x ≡ entry_word_place c d + y → (a ≡ c) × (b ≡ d)
+one_entry a b c d x y low small one two e = (omega arith, omega arith)
+
 -- ---- what the changes leave
 
 module _ (w u : World) (m : Moving) where
@@ -110,9 +114,6 @@ module _ (w u : World) (m : Moving) where
           | inr more ↦ inl (omega (arith, other))
         ])
         (λ g there other. (λ same. omega arith, λ same. omega arith)) e
-
-    one_entry : (a b c d x y : ℕ) → b < ENTRIES → d < ENTRIES → x ≤ 1 → y ≤ 1 → entry_word_place a b + x ≡ entry_word_place c d + y → (a ≡ c) × (b ≡ d)
-    one_entry a b c d x y low small one two e = (omega arith, omega arith)
 
     pub touches_entry : (which v : ℕ) → which ≤ 1 → u ≡ with_entry_word w m.who.found.vm m.who.found.number which v → Touches false w u m
     touches_entry which v one e = touches_word (entry_word_place m.who.found.vm m.who.found.number + which) v (λ r small other. inr (omega arith)) apart e

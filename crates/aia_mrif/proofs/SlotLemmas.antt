@@ -11,6 +11,7 @@ use Rattle.std.proofs.lemmas.Nat.Bits.{bit_at-pow_same, bit_at-pow_other}
 use Rattle.std.specs.Int.{bit_at}
 use Rattle.aia_word.specs.Sets.{has_bit}
 use Rattle.aia_word.proofs.BitLemmas.{has_bit-or}
+use Rattle.aia_word.proofs.SetLemmas.{same_places}
 use Rattle.aia_regs.specs.declared.limits.TheConstants.{IDENTITIES, FILE_WORDS}
 use Rattle.aia_regs.specs.BitUpdate.{settle, set_after, names}
 use Rattle.aia_regs.specs.BitUpdate.BitUpdate.{Ask, Nothing}
@@ -70,13 +71,6 @@ pub slot_joined : (words new : List ℕ) (q k v : ℕ) → HasSlot words q → k
 slot_joined words new q k v there low e i = rw e (pending_joined words q k v i (omega (arith, there)) low)
 
 -- a store to it makes the identity pending that it names
-pub same_bits : (i j : ℕ) → j / 64 ≡ i / 64 → nat_eq (j % 64) (i % 64) ≡ nat_eq i j
-same_bits i j e =
-    elim (cases_eq i j) [
-      | inl p ↦ eq-eqb (j % 64) (i % 64) (ap (λ x. x % 64) (sym p)) ∙ sym (eq-eqb i j p)
-      | inr ne ↦ ne_eqb (j % 64) (i % 64) (λ q. ne (omega arith)) ∙ sym (ne_eqb i j ne)
-    ]
-
 bit_alone : (k b : ℕ) → k < 64 → has_bit (2 ^ k) b ≡ nat_eq b k
 bit_alone k b low =
     elim (cases_eq b k) [
@@ -88,7 +82,7 @@ pub asked : (words : List ℕ) (q i j : ℕ) → HasSlot words q → i ≤ IDENT
 asked words q i j there small =
     let low : i / 64 < FILE_WORDS = omega arith in
     pending_joined words q (i / 64) (2 ^ (i % 64)) j (omega (arith, there)) low ∙ elim (cases_eq (j / 64) (i / 64)) [
-      | inl e ↦ cond-true _ _ _ (eq-eqb _ _ e) ∙ ap (λ b. set_at (pending_place q) words j || b) (bit_alone (i % 64) (j % 64) (omega arith) ∙ same_bits i j e) ∙ settled (nat_eq i j) (set_at (pending_place q) words j)
+      | inl e ↦ cond-true _ _ _ (eq-eqb _ _ e) ∙ ap (λ b. set_at (pending_place q) words j || b) (bit_alone (i % 64) (j % 64) (omega arith) ∙ same_places i j e) ∙ settled (nat_eq i j) (set_at (pending_place q) words j)
       | inr ne ↦ cond-false _ _ _ (ne_eqb _ _ ne) ∙ ap (λ b. settle (cond b Ask Nothing) (set_at (pending_place q) words j)) (sym (ne_eqb i j (λ p. ne (ap (λ x. x / 64) (sym p)))))
     ]
   where

@@ -5,7 +5,7 @@ use Rattle.std.specs.Int.{is_in_range}
 use Rattle.std.proofs.lemmas.Bool.{cases_eq, cases_Bool, eq-eqb, ne_eqb, and_parts}
 use Rattle.std.proofs.lemmas.Bool.Decides.{nat_tests}
 use Rattle.aia_word.specs.Sets.{has_bit, word_of}
-use Rattle.aia_word.proofs.BitLemmas.{has_bit-set, has_bit-zero}
+use Rattle.aia_word.proofs.BitLemmas.{has_bit-set, has_bit-zero, below_next}
 use Rattle.aia_file.specs.InterruptFile.{is_shared, is_greatest_identity}
 use Rattle.aia_word.specs.Summary.{Summarizes}
 use Rattle.aia_file.specs.Summary.{SummarizesBoth, AreIdentities}
@@ -20,9 +20,6 @@ none_summarized p e w low = has_bit-zero w ∙ ap (λ b. b && is_shared p e w) n
   where
     none : false ≡ nat_lt w 0
     none = grind (arith, nat_tests)
-
-below_next : (w k : ℕ) → w ≢ k → nat_lt w k ≡ nat_lt w (k + 1)
-below_next w k ne = grind (arith, nat_tests)
 
 live_word : (p e : ℕ → Bool) (k summary : ℕ) → k < 64 → both_words p e k ≢ 0 → SummarizesFirst k summary p e → SummarizesFirst (k + 1) (bit_or summary (1 * 2 ^ k % 2 ^ 64)) p e
 live_word p e k summary small some before w low = has_bit-set summary k w small ∙ elim (cases_eq w k) [

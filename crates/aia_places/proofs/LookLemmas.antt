@@ -1,7 +1,7 @@
 -- A look sees what it is to see: whether two words of the slot have a one in common, whether some
 -- identity of a word is pending and enabled.
 use Rattle.std.proofs.Common.{◌≡◌, ℕ, zero, suc, ◌+◌, ◌*◌, ◌/◌, ◌%◌, ◌^◌, ◌<◌, ◌≤◌, Bool, true, false, not, ◌&&◌, cond, nat_eq, Some, is_some, bit_and, w64, refl, sym, ap, ◌∙◌, inl, inr, arith}
-use Rattle.std.proofs.lemmas.Bool.{cases_eq, eq-eqb, ne_eqb, false≢true}
+use Rattle.std.proofs.lemmas.Bool.{cases_eq, eq-eqb, ne_eqb}
 use Rattle.std.proofs.lemmas.Bool.Decides.{nat_tests}
 use Rattle.std.proofs.lemmas.Nat.{and_le_l}
 use Rattle.std.proofs.lemmas.Nat.Bits.{bit_at-trailing_zeros}
@@ -9,7 +9,7 @@ use Rattle.std.specs.Int.{trailing_zeros}
 use Rattle.aia_home.specs.BySteps.{look_word}
 use Rattle.aia_word.specs.Sets.{has_bit, least_of}
 use Rattle.aia_word.proofs.BitLemmas.{has_bit-and, has_bit-zero}
-use Rattle.aia_word.proofs.LeastLemmas.{least_of-none}
+use Rattle.aia_word.proofs.LeastLemmas.{least_of-none, least_of-some}
 use Rattle.aia_file.specs.InterruptFile.{InterruptFile, is_live}
 use Rattle.aia_home.specs.Plans.Access.{Look, TakePending}
 use Rattle.aia_home.specs.Plans.{leave_step, is_next}
@@ -20,18 +20,6 @@ use Rattle.aia_places.specs.Places.{TwoSets}
 use Rattle.aia_places.specs.Holds.{sees, meets}
 use Rattle.aia_places.specs.Steps.{Shows}
 use Rattle.aia_places.proofs.SetSteps.{HoldsAt, new_has_all}
-
-some_found : (f : ℕ → Bool) (from count i : ℕ) → from ≤ i → i < from + count → f i ≡ true → is_some (least_of f from count) ≡ true
-unfolding least_of
-some_found f from zero i a b here = absurd (omega arith)
-some_found f from (suc count) i a b here = at_first (f from) refl (λ l h. some_found f (suc from) count i l h here)
-  where
-    at_first : (first : Bool) → f from ≡ first → (suc from ≤ i → i < suc from + count → is_some (least_of f (suc from) count) ≡ true) → is_some (cond (f from) (Some from) (least_of f (suc from) count)) ≡ true
-    at_first true e more = rw e refl
-    at_first false e more = elim (cases_eq from i) [
-      | inl same ↦ absurd (false≢true (sym e ∙ ap f same ∙ here))
-      | inr other ↦ rw e (more (omega arith) (omega arith))
-    ]
 
 some_same : (f g : ℕ → Bool) (from to count : ℕ) → ((b : ℕ) → b < count → f (from + b) ≡ g (to + b)) → is_some (least_of f from count) ≡ is_some (least_of g to count)
 unfolding least_of
@@ -56,7 +44,7 @@ meets-and p e small = elim (cases_eq (bit_and p e) 0) [
   | inr ne ↦ let some : 0 < bit_and p e = omega (arith, ne) in
       let low : bit_and p e < 2 ^ 64 = omega (arith, and_le_l p e) in
       let first = bit_at-trailing_zeros w64 (bit_and p e) some low in
-      ap not (ne_eqb _ _ ne) ∙ sym (some_found (λ b. has_bit p b && has_bit e b) 0 64 (trailing_zeros w64 (bit_and p e)) (omega arith) first.0 (sym (has_bit-and p e _) ∙ ap (λ x. nat_eq x 1) first.1))
+      ap not (ne_eqb _ _ ne) ∙ sym (least_of-some (λ b. has_bit p b && has_bit e b) 0 64 (trailing_zeros w64 (bit_and p e)) (omega arith) first.0 (sym (has_bit-and p e _) ∙ ap (λ x. nat_eq x 1) first.1))
 ]
 
 -- the next step of a leave is the look at word w; p and e are both words of the slot

@@ -9,6 +9,7 @@ use Rattle.aia_home.specs.Home.Home.{Parked, Entered, Resident, Leaving, Arrivin
 use Rattle.aia_places.specs.Places.{Places}
 use Rattle.aia_places.specs.Holds.{IsWithin, Hand, Holds, HasSets}
 use Rattle.aia_places.proofs.FileLemmas.{parked-pending, parked-enabled, parked-kept}
+use Rattle.aia_places.proofs.StayLemmas.{or_false}
 
 module _ (words q hart : ℕ) (reach : Option Place) (v : Places) (hand : Hand) (file : InterruptFile) (saw : Bool) where
   pub enter-holds : Holds words q hart reach v Parked hand file saw → Holds words q hart reach v Entered hand file saw
@@ -27,15 +28,11 @@ module _ (words q hart : ℕ) (reach : Option Place) (v : Places) (hand : Hand) 
     looks = h.looks;
   }
 
-  or_none : (b : Bool) → (b || false) ≡ b
-  or_none true = refl
-  or_none false = refl
-
   parked_replaced : (slot : Mrif) (now : Hand) (after : InterruptFile) → HasSets words slot after → now.delivery ≡ after.delivery → now.threshold ≡ after.threshold
       → Holds words q hart reach v Parked hand file saw → Holds words q hart reach (record v { slot = slot }) Parked now after saw
   parked_replaced slot now after has delivery threshold h = record {
     sets = record {
-      union = λ i l. sym (or_none (slot.pending i) ∙ (has.inside i l).0);
+      union = λ i l. sym (or_false (slot.pending i) ∙ (has.inside i l).0);
       drained = λ i l. refl;
       fresh = λ z i l. refl;
       old_enables = λ i l. (has.inside i l).1;

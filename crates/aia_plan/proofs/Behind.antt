@@ -5,8 +5,7 @@ use Rattle.std.proofs.lemmas.Bool.{false≢true, eq-eqb, eqb-true, and_parts, no
 use Rattle.aia_plan.specs.declared.step.Step.{Step}
 use Rattle.aia_plan.specs.declared.step.Step.TheVariants.{Word0, Fence, Map, Unmap, Remap, GFence, TakeP, TakeE}
 use Rattle.aia_plan.specs.Plan.{Plan, IsInside}
-use Rattle.aia_plan.specs.Rule.{is_step, is_same, are_paired, takes_pending, puts_pending, takes_enables, puts_enables}
-use Rattle.aia_plan.proofs.Invariant.{is_record}
+use Rattle.aia_plan.specs.Rule.{is_step, is_same, are_paired, takes_pending, puts_pending, takes_enables, puts_enables, is_record}
 use Rattle.aia_plan.proofs.StepKept.{Guard}
 
 -- Whether no step that passes one test has one that passes another behind it: `comes_before` said

@@ -1,6 +1,6 @@
 -- Equations between tests: what becomes of an identity at a landing, a take and a put.
 use Rattle.std.proofs.Common.{◌≡◌, Bool, true, false, not, ◌&&◌, ◌||◌, refl, sym, ap, ◌∙◌}
-use Rattle.std.proofs.lemmas.Bool.{false≢true}
+use Rattle.std.proofs.lemmas.Bool.{false≢true, or_from}
 
 pub or_none : (x : Bool) → (x || false) ≡ x
 or_none true = refl
@@ -15,17 +15,6 @@ or_swapped false false = refl
 pub or_together : (a b c : Bool) → ((a || b) || c) ≡ (a || (b || c))
 or_together true b c = refl
 or_together false b c = refl
-
-pub or_false : (a b : Bool) → a ≡ false → b ≡ false → (a || b) ≡ false
-or_false a b p q = ap (λ x. x || b) p ∙ q
-
-pub or_left_false : (a b : Bool) → (a || b) ≡ false → a ≡ false
-or_left_false true b e = absurd (false≢true (sym e))
-or_left_false false b e = refl
-
-pub or_right_false : (a b : Bool) → (a || b) ≡ false → b ≡ false
-or_right_false true b e = absurd (false≢true (sym e))
-or_right_false false b e = e
 
 -- In these `is` says that the number is an identity, `old` and `new` that it stands in the old and in
 -- the new place, `here` that it is of the word in question, `bit` that its bit is carried.
@@ -63,7 +52,7 @@ drain_law false old later none h = h none
 -- the new place has nothing yet of a word that is still to be taken
 pub fresh_law : (is here new later bit : Bool) → (here ≡ true → later ≡ false) → ((here || later) ≡ true → new ≡ false) → later ≡ true → ((not here && new) || (here && (is && bit))) ≡ false
 fresh_law is true new later bit gone h e = absurd (false≢true (sym (gone refl) ∙ e))
-fresh_law is false new later bit gone h e = or_false new false (h e) refl
+fresh_law is false new later bit gone h e = or_from new false (h e) refl
 
 -- at the end
 pub nothing_left : (due is old new : Bool) → due ≡ ((is && (old || false)) || new) → old ≡ false → new ≡ due

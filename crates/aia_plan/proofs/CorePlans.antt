@@ -19,6 +19,9 @@ of_width P p1 p2 p4 p8 p16 p32 words (inr (inr (inr (inl e)))) = subst P (sym e)
 of_width P p1 p2 p4 p8 p16 p32 words (inr (inr (inr (inr (inl e))))) = subst P (sym e) p16
 of_width P p1 p2 p4 p8 p16 p32 words (inr (inr (inr (inr (inr e))))) = subst P (sym e) p32
 
+pub at_most_32 : (words : ℕ) → IsWidth words → words ≤ 32
+at_most_32 = of_width (λ words. words ≤ 32) (omega arith) (omega arith) (omega arith) (omega arith) (omega arith) (omega arith)
+
 pub plans_keep : (kind : Kind) (words : ℕ) → IsWidth words → failing kind words (core_plan kind words) ≡ None
 plans_keep Leave = of_width (λ words. failing Leave words (core_plan Leave words) ≡ None) refl refl refl refl refl refl
 plans_keep Arrive = of_width (λ words. failing Arrive words (core_plan Arrive words) ≡ None) refl refl refl refl refl refl

@@ -1,21 +1,17 @@
 -- What holds between two steps of a plan that keeps the rule, told by the steps that are still to
 -- come; and that nothing which may happen between them breaks it.
-use Rattle.std.proofs.Common.{◌≡◌, ℕ, zero, suc, ◌/◌, ◌%◌, ◌<◌, Bool, true, false, ◌&&◌, ◌||◌, nat_eq, List, [], ◌∷◌, ◌++◌, Option, Some, None, ◌⊎◌, inr, refl, sym, ap, ◌∙◌}
+use Rattle.std.proofs.Common.{◌≡◌, ℕ, zero, suc, ◌/◌, ◌%◌, ◌<◌, Bool, true, false, ◌&&◌, ◌||◌, nat_eq, List, [], ◌∷◌, ◌++◌, Option, ◌⊎◌, inr, refl, sym, ap, ◌∙◌}
 use Rattle.std.specs.Prelude.{⊤, slice_get}
 use Rattle.std.specs.List.{list_any, AllByRecursion}
 use Rattle.std.proofs.lemmas.Bool.{false≢true}
 use Rattle.aia_plan.specs.declared.step.Step.{Step}
-use Rattle.aia_plan.specs.declared.step.Step.TheVariants.{Word0, Fence, Map, Unmap, Remap, GFence, TakeP, TakeE}
+use Rattle.aia_plan.specs.declared.step.Step.TheVariants.{Word0, Fence, GFence, TakeP, TakeE}
 use Rattle.aia_plan.specs.Plan.{Plan}
-use Rattle.aia_plan.specs.Rule.{is_step, stands}
+use Rattle.aia_plan.specs.Rule.{is_record, names, stands}
 use Rattle.aia_plan.specs.Transit.{Side, Flight, Transit, Happening, is_identity, landed, all_landed, without, one_landed, happened}
 use Rattle.aia_plan.specs.Transit.Side.{Old, New}
 use Rattle.aia_plan.specs.Transit.Happening.{Does, Stores, Sends, Lands, Refetches, PeerStores}
 use Rattle.aia_plan.proofs.BoolLaws.{or_together, land_law}
-
--- Whether a step writes the G-stage record.
-abbrev pub is_record : Step → Bool
-is_record x = is_step Map x || (is_step Unmap x || is_step Remap x)
 
 -- Where a route leads, given whether the step that turns it is still to come.
 abbrev pub side_if : Bool → Side
@@ -27,11 +23,6 @@ side_if false = New
 abbrev pub MayLead : Bool → Bool → Side → Type 0
 MayLead true word0 s = (s ≡ Old) ⊎ (s ≡ side_if word0)
 MayLead false word0 s = s ≡ New
-
--- Whether a word is the one that is there.
-abbrev pub names : Option ℕ → ℕ → Bool
-names None w = false
-names (Some v) w = nat_eq v w
 
 -- The routes, given which steps are still to come: word 0, the fence, one that writes the record,
 -- the G fence.

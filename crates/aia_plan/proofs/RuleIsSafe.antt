@@ -1,16 +1,15 @@
 -- A plan that keeps the rule is safe.
 use Rattle.std.proofs.Common.{◌≡◌, ℕ, zero, suc, ◌<◌, Bool, true, false, not, ◌&&◌, ◌||◌, if◌then◌else◌, [], ◌∷◌, Option, Some, None, is_none, inl, inr, refl, sym, ap, ◌∙◌, arith}
 use Rattle.std.specs.List.{list_any, list_all, All}
-use Rattle.std.proofs.lemmas.Bool.{false≢true, and_parts, cases_eq}
+use Rattle.std.proofs.lemmas.Bool.{false≢true, and_parts, or_parts, or_from, cases_eq}
 use Rattle.aia_plan.specs.declared.step.Kind.{Kind}
 use Rattle.aia_plan.specs.declared.step.Kind.TheVariants as kinds
 use Rattle.aia_plan.specs.declared.step.Step.{Step}
 use Rattle.aia_plan.specs.declared.step.Step.TheVariants.{Word0, Fence, Map, Unmap, Remap, GFence, TakeP, TakeE}
 use Rattle.aia_plan.specs.Plan.{Plan, IsInside}
-use Rattle.aia_plan.specs.Rule.{is_step, stands, is_never, is_once, comes_before, all_below, own_record, other_records, names_notice, turns_routes, takes_late, puts_at_once, moves_enables, are_paired, takes_enables, puts_enables, failing, first_failing}
+use Rattle.aia_plan.specs.Rule.{is_step, stands, is_never, is_once, comes_before, all_below, own_record, other_records, names_notice, turns_routes, takes_late, puts_at_once, moves_enables, are_paired, takes_enables, puts_enables, failing, first_failing, is_record}
 use Rattle.aia_plan.specs.Safe.{IsSafe}
-use Rattle.aia_plan.proofs.BoolLaws.{or_none, or_false, or_right_false}
-use Rattle.aia_plan.proofs.Invariant.{is_record}
+use Rattle.aia_plan.proofs.BoolLaws.{or_none}
 use Rattle.aia_plan.proofs.Behind.{before, Before}
 use Rattle.aia_plan.proofs.RunKept.{left_is_safe}
 use Rattle.aia_plan.proofs.Throughout.{by_recursion}
@@ -25,9 +24,9 @@ comes_before-before first second (x ∷ later) = ap (λ b. not (is_step second x
 pub none_before : (first second : Step) (plan : Plan) → stands first plan ≡ false → comes_before first second plan ≡ true
 none_before first second [] none = refl
 none_before first second (x ∷ later) none =
-    ap (λ b. not (is_step second x && b) && comes_before first second later) (or_right_false (is_step first x) (stands first later) none)
+    ap (λ b. not (is_step second x && b) && comes_before first second later) (or_parts (is_step first x) (stands first later) none).1
     ∙ behind_none (is_step second x) (comes_before first second later)
-    ∙ none_before first second later (or_right_false (is_step first x) (stands first later) none)
+    ∙ none_before first second later (or_parts (is_step first x) (stands first later) none).1
   where
     behind_none : (here before : Bool) → (not (here && false) && before) ≡ before
     behind_none true before = refl
@@ -67,7 +66,7 @@ abbrev pub NoOther : Kind → (Step → Bool) → Type 0
 NoOther kind test = list_all (λ step. not (test step)) (other_records kind) ≡ true
 
 record_law : (a b c : Bool) → b ≡ false → c ≡ false → (a || (b || c)) ≡ a
-record_law a b c p q = ap (λ x. a || x) (or_false b c p q) ∙ or_none a
+record_law a b c p q = ap (λ x. a || x) (or_from b c p q) ∙ or_none a
 
 -- which of two tests passes none
 two_false : (b c : Bool) → (not b && (not c && true)) ≡ true → (b ≡ false) × (c ≡ false)

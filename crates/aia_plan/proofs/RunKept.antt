@@ -5,14 +5,14 @@ use Rattle.std.proofs.lemmas.Bool.{false≢true}
 use Rattle.aia_plan.specs.declared.step.Step.{Step}
 use Rattle.aia_plan.specs.declared.step.Step.TheVariants.{Word0, Fence, GFence, TakeP, TakeE}
 use Rattle.aia_plan.specs.Plan.{Plan}
-use Rattle.aia_plan.specs.Rule.{stands, takes_pending, takes_enables, puts_enables}
+use Rattle.aia_plan.specs.Rule.{stands, takes_pending, takes_enables, puts_enables, is_record}
 use Rattle.aia_plan.specs.Transit.{Side, Flight, Transit, Happening, is_identity, stepped, all_happened, steps_of}
 use Rattle.aia_plan.specs.Transit.Side.{Old, New}
 use Rattle.aia_plan.specs.Transit.Happening.{Does, Stores, Sends, Lands, Refetches, PeerStores}
 use Rattle.aia_plan.specs.Safe.{IsStart, IsMoved, IsSafe}
 use Rattle.aia_plan.proofs.Throughout.{by_recursion, by_place}
 use Rattle.aia_plan.proofs.BoolLaws.{or_none, nothing_left}
-use Rattle.aia_plan.proofs.Invariant.{is_record, side_if, MayLead, Between, kept}
+use Rattle.aia_plan.proofs.Invariant.{side_if, MayLead, Between, kept}
 use Rattle.aia_plan.proofs.StepKept.{step_kept}
 use Rattle.aia_plan.proofs.Behind.{Left, left_after, pending_carried, enables_carried, none_carried, guard_of}
 

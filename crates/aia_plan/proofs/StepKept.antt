@@ -2,15 +2,15 @@
 use Rattle.std.proofs.Common.{◌≡◌, ℕ, ◌+◌, ◌*◌, ◌/◌, ◌%◌, Bool, true, false, ◌||◌, nat_eq, List, ◌∷◌, Option, Some, None, inl, inr, sym, ap, subst, ◌∙◌, arith}
 use Rattle.std.specs.Prelude.{⊤}
 use Rattle.std.specs.List.{list_any}
-use Rattle.std.proofs.lemmas.Bool.{false≢true, eqb-true}
+use Rattle.std.proofs.lemmas.Bool.{false≢true, eqb-true, or_left}
 use Rattle.aia_plan.specs.declared.step.Step.{Step}
 use Rattle.aia_plan.specs.declared.step.Step.TheVariants.{Word0, Fence, Map, Unmap, Remap, GFence, TakeP, PutP, TakeE, PutE}
 use Rattle.aia_plan.specs.Plan.{Plan}
-use Rattle.aia_plan.specs.Rule.{stands, takes_pending, puts_pending, takes_enables, puts_enables}
+use Rattle.aia_plan.specs.Rule.{stands, takes_pending, puts_pending, takes_enables, puts_enables, is_record}
 use Rattle.aia_plan.specs.Transit.{Side, Flight, Transit, is_identity, all_landed, stepped, word_bits, without_word, of_word, no_bits}
 use Rattle.aia_plan.specs.Transit.Side.{New}
 use Rattle.aia_plan.proofs.BoolLaws.{take_law, put_law, replace_law, drain_law, fresh_law}
-use Rattle.aia_plan.proofs.Invariant.{is_record, side_if, MayLead, Routed, Pended, Enabled, Between, all_changed, all_land, flights_may_land}
+use Rattle.aia_plan.proofs.Invariant.{side_if, MayLead, Routed, Pended, Enabled, Between, all_changed, all_land, flights_may_land}
 
 -- What the rule says of the steps behind a step.
 abbrev pub Guard : Step → Plan → Type 0
@@ -88,14 +88,11 @@ take_enables words w later first old new hand guard n = record {
   drained = λ i inside taken. drain_law (nat_eq w (i / 64)) (old i) (later (i / 64)) taken (λ both. n.drained i inside both);
 }
 
-left_true : (m t : Bool) → m ≡ true → (m || t) ≡ true
-left_true m t e = ap (λ x. x || t) e
-
 put_enables : (words w : ℕ) (later : ℕ → Bool) (first old new hand : ℕ → Bool)
     → Enabled words (Some w) later first old new hand
     → Enabled words None later first old (λ i. without_word w new i || of_word w hand i) no_bits
 put_enables words w later first old new hand n = record {
-  union = λ i inside. n.union i inside ∙ replace_law (is_identity i) (old i) (new i) (nat_eq w (i / 64)) (hand (i % 64)) (λ here. n.fresh i inside (left_true (nat_eq w (i / 64)) (later (i / 64)) here));
+  union = λ i inside. n.union i inside ∙ replace_law (is_identity i) (old i) (new i) (nat_eq w (i / 64)) (hand (i % 64)) (λ here. n.fresh i inside (or_left (nat_eq w (i / 64)) (later (i / 64)) here));
   fresh = λ i inside e. fresh_law (is_identity i) (nat_eq w (i / 64)) (new i) (later (i / 64)) (hand (i % 64)) (n.gone (i / 64)) (n.fresh i inside) e;
   gone = λ u here. absurd (false≢true here);
   drained = n.drained;

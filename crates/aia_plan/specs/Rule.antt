@@ -1,6 +1,6 @@
 -- The rule that a plan has to keep, in four parts. That a plan which keeps it is safe (module Safe)
 -- is proved: so nobody has to believe the rule. Profile.
-use Rattle.std.specs.Prelude.{ℕ, zero, suc, Bool, true, false, not, ◌&&◌, nat_eq, if◌then◌else◌, List, [], ◌∷◌, Option, Some, None}
+use Rattle.std.specs.Prelude.{ℕ, zero, suc, Bool, true, false, not, ◌&&◌, ◌||◌, nat_eq, if◌then◌else◌, List, [], ◌∷◌, Option, Some, None}
 use Rattle.std.specs.List.{list_any, list_all}
 use Rattle.aia_plan.specs.Plan.{Plan}
 use Rattle.aia_plan.specs.declared.step.Kind.{Kind}
@@ -30,6 +30,10 @@ is_step PutT PutT = true
 is_step Post Post = true
 is_step Wake Wake = true
 is_step step other = false
+
+-- Whether a step writes the G-stage record.
+abbrev pub is_record : Step → Bool
+is_record x = is_step Map x || (is_step Unmap x || is_step Remap x)
 
 -- Whether a step stands in a plan; never; exactly once.
 abbrev pub stands : Step → Plan → Bool
@@ -89,6 +93,11 @@ takes_late words plan =
     && comes_before GFence (TakeP w) plan) words
 
 -- ---- parts 3 and 4: what is taken is put
+
+-- Whether a word is the one that is there.
+abbrev pub names : Option ℕ → ℕ → Bool
+names None w = false
+names (Some v) w = nat_eq v w
 
 -- The word of the pending set, or of the enabled set, that a step takes; that it puts.
 abbrev pub takes_pending : Step → Option ℕ

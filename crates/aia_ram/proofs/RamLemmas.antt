@@ -44,9 +44,9 @@ pub first_written : (v : ℕ) (rest : List ℕ) → v < 2 ^ 64 → word_in (byte
 unfolding word_in bytes_in
 first_written v rest h = little_number-reads_back 8 v rest h
 
-length-bytes_in : (v : ℕ) → length (bytes_in v) ≡ 8
+pub bytes_of_word : (v : ℕ) → length (bytes_in v) ≡ 8
 unfolding bytes_in
-length-bytes_in v = length-bytes_low_first 0 8 v
+bytes_of_word v = length-bytes_low_first 0 8 v
 
 first_kept : (m : ℕ) (bytes rest : List ℕ) → 8 ≤ m → 8 ≤ length bytes → word_in (take m bytes ++ rest) ≡ word_in bytes
 unfolding word_in
@@ -66,7 +66,7 @@ drop_taken (suc n) m zero (x ∷ xs) rest e l = absurd (omega (arith, e))
 drop_taken (suc n) m (suc j) (x ∷ xs) rest e l = drop_taken n m j xs rest (omega (arith, e)) (omega arith)
 
 drop_written : (v : ℕ) (rest : List ℕ) → drop 8 (bytes_in v ++ rest) ≡ rest
-drop_written v rest = past 8 (bytes_in v) rest (length-bytes_in v)
+drop_written v rest = past 8 (bytes_in v) rest (bytes_of_word v)
   where
     past : (n : ℕ) (xs ys : List ℕ) → length xs ≡ n → drop n (xs ++ ys) ≡ ys
     past zero [] ys e = refl
@@ -106,9 +106,6 @@ word_written at v bytes new h e =
     rw (none, append-nil new) (ap (λ b. take at bytes ++ b) (rw (whole, drop-drop 8 at bytes) at e))
 
 -- ---- the bytes of a word
-
-pub bytes_of_word : (v : ℕ) → length (bytes_in v) ≡ 8
-bytes_of_word = length-bytes_in
 
 pub byte_of_word : (v b : ℕ) → b < 8 → slice_index (bytes_in v) b ≡ v / 256 ^ b % 256
 unfolding bytes_in

@@ -1,9 +1,15 @@
--- The identity that a store names is one of the file's.
-use Rattle.std.proofs.Common.{◌≡◌, ℕ, ◌≤◌, true, Option, Some, None, subst, arith}
+-- What a store asks for, and that the identity that it names is one of the file's.
+use Rattle.std.proofs.Common.{◌≡◌, ℕ, ◌≤◌, Bool, true, false, ◌||◌, cond, Option, Some, None, refl, subst, arith}
 use Rattle.std.specs.Int.{is_in_range}
 use Rattle.std.proofs.lemmas.Bool.Decides.{nat_tests}
 use Rattle.std.proofs.lemmas.Option.{cond_some}
+use Rattle.aia_regs.specs.BitUpdate.{settle}
+use Rattle.aia_regs.specs.BitUpdate.BitUpdate.{Ask, Nothing}
 use Rattle.aia_regs.specs.Request.{implemented, number_written, requested}
+
+pub asked_or : (b was : Bool) → settle (cond b Ask Nothing) was ≡ (b || was)
+asked_or true was = refl
+asked_or false was = refl
 
 in_range : (n x : ℕ) → is_in_range 1 n x ≡ true → (1 ≤ x) × (x ≤ n)
 in_range n x h = (grind (arith, nat_tests), grind (arith, nat_tests))

@@ -2,7 +2,7 @@
 use Rattle.std.proofs.Common.{◌≡◌, ◌≢◌, ℕ, zero, suc, ◌+◌, ◌%◌, ◌<◌, ◌≤◌, Bool, true, false, length, Option, Some, None, inl, inr, ◌⊎◌, refl, sym, ap, ◌∙◌, subst, arith}
 use Rattle.std.proofs.lemmas.Bool.{cases_eq}
 use Rattle.std.proofs.lemmas.List.{get_or-set_other}
-use Rattle.aia_regs.specs.declared.limits.TheConstants.{VCPUS, ENTRIES}
+use Rattle.aia_regs.specs.declared.limits.TheConstants.{VCPUS}
 use Rattle.aia_regs.specs.declared.address_map.TheConstants.{PAGE}
 use Rattle.aia_regs.specs.declared.file_registers.FileReg.{FileReg}
 use Rattle.aia_regs.specs.declared.file_registers.FileReg.TheVariants.{Delivery, Threshold}
@@ -39,6 +39,7 @@ use Rattle.aia_rehearsal.specs.Stands.{Routes, routes_of, side_of}
 use Rattle.aia_rehearsal.specs.Events.{Event, Happens, IsAlone, NamesElsewhere}
 use Rattle.aia_rehearsal.specs.Events.Event.{Steps, DeviceStores, PeerStores, DeviceSends, StoreLands, EntryRead}
 use Rattle.aia_moving.proofs.WhoLemmas.{small_who}
+use Rattle.aia_moving.proofs.TouchLemmas.{one_entry}
 use Rattle.aia_rehearsal.proofs.PlaceSteps.{pending_routes, enabled_routes}
 use Rattle.aia_rehearsal.proofs.Carried.{side_same}
 use Rattle.aia_rehearsal.proofs.StoreSeen.{at_spot, at_slot}
@@ -104,9 +105,6 @@ elsewhere g h other = elim (cases_eq g.vm h.vm) [
   | inl same ↦ inr (λ too. other (λ k. vcpu (same k) (too k)))
   | inr ne ↦ inl ne
 ]
-
-one_entry : (a b c d x y : ℕ) → b < ENTRIES → d < ENTRIES → x ≤ 1 → y ≤ 1 → entry_word_place a b + x ≡ entry_word_place c d + y → (a ≡ c) × (b ≡ d)
-one_entry a b c d x y low small one two e = (omega arith, omega arith)
 
 module _ (w : World) (p : Passage) (whole : IsWhole w) (of : IsOf w p) where
   words_apart : (g : Vcpu) (which : ℕ) → which ≤ 1 → is_vcpu_in w.vms g ≡ true → g ≢ moved p → (x : ℕ) → x ≤ 1 → entry_word_place g.vm g.number + x ≢ entry_word_place p.who.found.vm p.who.found.number + which

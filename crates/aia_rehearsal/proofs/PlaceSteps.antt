@@ -1,6 +1,6 @@
 -- A word of one place is written: the sets of that place have it, those of the other place stay,
 -- and so do the routes.
-use Rattle.std.proofs.Common.{◌≡◌, ℕ, ◌+◌, ◌%◌, ◌<◌, false, get_or, refl, sym, ap, ◌∙◌, arith}
+use Rattle.std.proofs.Common.{◌≡◌, ℕ, ◌+◌, ◌%◌, ◌<◌, get_or, refl, sym, ap, ◌∙◌, arith}
 use Rattle.std.proofs.Math.ListN.{set}
 use Rattle.std.proofs.lemmas.List.{get_or-set_other}
 use Rattle.aia_word.specs.Sets.{has_bit}
@@ -10,7 +10,6 @@ use Rattle.aia_imsic.specs.Imsic.{file_at}
 use Rattle.aia_imsic.proofs.PlaceLemmas.{kept_elsewhere}
 use Rattle.aia_mrif.specs.Mrif.{pending_place, enable_place}
 use Rattle.aia_home.specs.declared.place.Place.{Place}
-use Rattle.aia_home.specs.Home.{is_place}
 use Rattle.aia_home.specs.Vms.{Vcpu}
 use Rattle.aia_places.specs.Places.{of_file, of_slot}
 use Rattle.aia_places.specs.Steps.{Shows, replaced_by}
@@ -23,9 +22,7 @@ use Rattle.aia_rehearsal.specs.declared.place.Place as ends
 use Rattle.aia_rehearsal.specs.declared.place.Place.TheVariants.{File, Slot}
 use Rattle.aia_rehearsal.specs.Rehearsed.{at_of, AreTwo, IsFileThere}
 use Rattle.aia_rehearsal.specs.Stands.{sets_at, routes_of}
-
-other_way : (p q : Place) → is_place p q ≡ false → is_place q p ≡ false
-other_way p q apart = grind (arith)
+use Rattle.aia_moving.proofs.MadeView.{other_way}
 
 pub two_turned : (a b : ends.Place) → AreTwo a b → AreTwo b a
 two_turned (File p) (File q) two = other_way p q two

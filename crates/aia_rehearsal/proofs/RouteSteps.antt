@@ -3,7 +3,6 @@
 use Rattle.std.proofs.Common.{◌≡◌, ℕ, ◌+◌, ◌<◌, Bool, true, false, inl, inr, Some, IfSome, refl, sym, ap, ◌∙◌, subst, arith}
 use Rattle.std.specs.Prelude.{bit_or}
 use Rattle.std.proofs.lemmas.Bool.{cases_Bool}
-use Rattle.std.proofs.lemmas.Bool.Decides.{nat_tests}
 use Rattle.aia_word.specs.Sets.{has_bit}
 use Rattle.aia_mrif.specs.Mrif.{mrif_in}
 use Rattle.aia_regs.specs.declared.limits.TheConstants.{VCPUS}
@@ -42,9 +41,7 @@ use Rattle.aia_rehearsal.proofs.Places.{file_in_map}
 use Rattle.aia_rehearsal.proofs.SetSteps.{pending_taken, enables_taken, pending_put, enables_put}
 use Rattle.aia_rehearsal.proofs.PlaceSteps.{two_turned, pending_here, enabled_here, pending_shown, enabled_shown, pending_elsewhere, enabled_elsewhere, pending_routes, enabled_routes}
 use Rattle.aia_rehearsal.proofs.Carried.{stand_on, same_machine}
-
-place_is : (a b : Place) → is_place a b ≡ true → a ≡ b
-place_is a b e = let hart : a.hart ≡ b.hart = grind (arith, nat_tests) in let file : a.file ≡ b.file = grind (arith, nat_tests) in λ k. record { hart = hart k; file = file k }
+use Rattle.aia_home.proofs.HomeLemmas.{same_place}
 
 -- what the places of a virtual hart show of its routes
 abbrev routes_in : Places → Routes
@@ -161,7 +158,7 @@ module _ (w : World) (r : Rehearsed) (z : Transit) (whole : IsWhole w) (s : Stan
   file_kept : (a : Place) (f : FileState) → of_file (shown f) ≡ of_file (shown (file_at w.imsic (spot_of a))) → IsThere w.imsic (spot_of a) → (b : ends.Place) → IsFileThere w b → sets_at (with_state w (spot_of a) f) (at_of q b) ≡ sets_at w (at_of q b)
   file_kept a f same there Slot inside = refl
   file_kept a f same there (File b) inside = elim (cases_Bool (is_place b a)) [
-    | inl e ↦ let is : b ≡ a = place_is b a e in subst (λ x. of_file (shown (file_at (with_state w (spot_of a) f).imsic (spot_of x))) ≡ of_file (shown (file_at w.imsic (spot_of x)))) (sym is) (ap (λ x. of_file (shown x)) (here w (spot_of a) f whole there) ∙ same)
+    | inl e ↦ let is : b ≡ a = same_place b a e in subst (λ x. of_file (shown (file_at (with_state w (spot_of a) f).imsic (spot_of x))) ≡ of_file (shown (file_at w.imsic (spot_of x)))) (sym is) (ap (λ x. of_file (shown x)) (here w (spot_of a) f whole there) ∙ same)
     | inr ne ↦ ap (λ x. of_file (shown x)) (kept_elsewhere w.imsic (spot_of a) (spot_of b) f there inside (spots_apart b a ne))
   ]
 

@@ -1,5 +1,5 @@
 -- A step that is rehearsed leaves the machine as it is.
-use Rattle.std.proofs.Common.{◌≡◌, ℕ, ◌+◌, Bool, true, false, length, refl, sym, ◌∙◌, subst}
+use Rattle.std.proofs.Common.{◌≡◌, ℕ, ◌+◌, length, refl, sym, ◌∙◌, subst}
 use Rattle.aia_regs.specs.declared.file_registers.FileReg.{FileReg}
 use Rattle.aia_regs.specs.declared.file_registers.FileReg.TheVariants.{Delivery, Threshold}
 use Rattle.aia_world.specs.declared.at.At.{At}
@@ -7,7 +7,7 @@ use Rattle.aia_world.specs.declared.at.At.TheVariants as ats
 use Rattle.aia_world.specs.World.{World, OnlyStores, flight_of}
 use Rattle.aia_world.specs.Changes.{with_pending, with_enable}
 use Rattle.aia_world.proofs.FlightLemmas.{all_landed_rest}
-use Rattle.aia_world.proofs.FrameLemmas.{posts_rest, entry_rest, reaches_rest, relays_rest}
+use Rattle.aia_world.proofs.FrameLemmas.{entry_rest, reaches_rest, relays_rest}
 use Rattle.std.proofs.Common.{◌%◌}
 use Rattle.aia_regs.specs.declared.address_map.TheConstants.{PAGE}
 use Rattle.aia_entry.specs.declared.table.Route.{Route}
@@ -18,8 +18,6 @@ use Rattle.aia_world.specs.World.{stage_of}
 use Rattle.aia_world.specs.Flights.{Sends}
 use Rattle.aia_rehearsal.specs.Events.{Event, Happens}
 use Rattle.aia_rehearsal.specs.Events.Event.{Steps, DeviceStores, PeerStores, DeviceSends, StoreLands, EntryRead}
-use Rattle.aia_imsic.specs.declared.spot.Spot.TheVariants.{SupervisorFile}
-use Rattle.aia_moving.specs.Move.{PostsIf}
 use Rattle.aia_moving.specs.Touches.{SameMachine}
 use Rattle.aia_plan.specs.declared.step.Step.{Step}
 use Rattle.aia_plan.specs.declared.step.Step.TheVariants as steps
@@ -29,6 +27,7 @@ use Rattle.aia_rehearsal.specs.declared.place.Place.TheVariants.{File, Slot}
 use Rattle.aia_rehearsal.specs.Rehearsed.{Rehearsed, at, IsOf}
 use Rattle.aia_rehearsal.specs.Steps.{Puts, Makes, after}
 use Rattle.aia_rehearsal.proofs.Carried.{of_same, same_machine}
+use Rattle.aia_moving.proofs.StepLemmas.{post_kept}
 
 same_by : (w u x : World) → u ≡ x → SameMachine w x → SameMachine w u
 same_by w u x e same = subst (λ (y : World). SameMachine w y) (sym e) same
@@ -43,10 +42,6 @@ put_same w u Slot reg v e = same_by w u w e (same_machine w)
 
 pub stored_same : (w u : World) → OnlyStores w u → SameMachine w u
 stored_same w u rest = same_by w u _ rest (record { n = refl; vms = refl; harts = refl; guests = refl })
-
-posts_same : (w u : World) (sent : Bool) (hart identity : ℕ) → PostsIf sent w u hart identity → SameMachine w u
-posts_same w u true hart identity posts = stored_same w u (posts_rest w u (SupervisorFile hart) identity posts)
-posts_same w u false hart identity e = same_by w u w e (same_machine w)
 
 pub step_same : (step : Step) (w u : World) (r : Rehearsed) → Makes step r w u → SameMachine w u
 step_same steps.Quiet w u r makes = put_same w u r.passage.old Delivery 0 makes
@@ -67,7 +62,7 @@ step_same (steps.PutE k) w u r makes = same_by w u _ makes.1 (word_same w (at Ne
 step_same (steps.Look k) w u r e = same_by w u w e (same_machine w)
 step_same steps.TakeT w u r makes = put_same w u r.passage.old Threshold 0 makes
 step_same steps.PutT w u r makes = put_same w u r.passage.new Threshold r.hand.threshold makes
-step_same steps.Post w u r makes = posts_same w u r.hand.seen r.passage.who.found.notice (r.passage.who.found.slot + 1) makes
+step_same steps.Post w u r makes = post_kept w u r.hand.seen r.passage.who.found.notice (r.passage.who.found.slot + 1) makes
 step_same steps.Wake w u r makes = put_same w u r.passage.new Delivery r.hand.delivery makes
 
 -- so who is moved and both places are of the fabric still

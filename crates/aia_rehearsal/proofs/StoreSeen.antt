@@ -39,6 +39,7 @@ use Rattle.aia_rehearsal.specs.declared.place.Place as ends
 use Rattle.aia_rehearsal.specs.declared.place.Place.TheVariants.{File, Slot}
 use Rattle.aia_rehearsal.specs.Rehearsed.{Passage, moved, at_of, IsFileThere}
 use Rattle.aia_rehearsal.specs.Stands.{sets_at, routes_of, is_file_at, asked}
+use Rattle.aia_mrif.proofs.AccessLemmas.{few_identities}
 
 -- ---- the identity for which a store asks
 
@@ -63,9 +64,6 @@ settled false false = refl
 
 added : (n offset value i : ℕ) (was : ℕ → Bool) → i ≤ n → n ≤ IDENTITIES → settle (request_said n offset value i) (was i) ≡ with_one (asked offset value) was i
 added n offset value i was low few = settled (names (requested n offset value) i) (was i) ∙ ap (λ b. was i || b) (asks_for (number_written offset value) n i low few)
-
-few_identities : (n : ℕ) → is_greatest_identity n ≡ true → n ≤ IDENTITIES
-few_identities n greatest = grind (arith, nat_tests)
 
 all_words : (n : ℕ) → is_greatest_identity n ≡ true → (n + 1) / 64 * 64 ≡ n + 1
 all_words n greatest = grind (arith, nat_tests)

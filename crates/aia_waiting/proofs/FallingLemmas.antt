@@ -1,8 +1,8 @@
 -- Pairs that are kept in falling order: where one stands, with one more, and without one.
-use Rattle.std.proofs.Common.{◌≡◌, ℕ, zero, suc, ◌-◌, ◌<◌, ◌≤◌, Bool, true, false, not, List, [], ◌∷◌, ◌++◌, length, take, drop, get_or, slice_get, reverse, Some, None, refl, sym, ap, subst, ◌∙◌, append_assoc, inl, inr, arith}
+use Rattle.std.proofs.Common.{◌≡◌, ℕ, zero, suc, ◌-◌, ◌<◌, ◌≤◌, true, false, not, List, [], ◌∷◌, ◌++◌, length, take, drop, get_or, slice_get, reverse, Some, None, refl, sym, ap, subst, ◌∙◌, append_assoc, inl, inr, arith}
 use Rattle.std.specs.List.{insert, remove}
 use Rattle.std.specs.List.Sorted.{IsPartitionPoint, IsPartitionedBy}
-use Rattle.std.proofs.lemmas.Bool.{cases_lt, false≢true}
+use Rattle.std.proofs.lemmas.Bool.{cases_lt, not-true, not-false}
 use Rattle.std.proofs.lemmas.List.{reverse-append, length-reverse, get_or-reverse, take-append-drop}
 use Rattle.std.proofs.lemmas.Grind.{reverse_onto}
 use Rattle.std.proofs.lemmas.List.Quantifiers.{all_pairs_remove}
@@ -12,14 +12,6 @@ use Rattle.aia_source.specs.Top.{Pair}
 use Rattle.aia_waiting.specs.Order.{comes_before, is_pair, IsRising, put_in, taken_out}
 use Rattle.aia_waiting.proofs.OrderLemmas.{not_before, not_before_is, first_first, put_at, out_there, out_nowhere}
 
-flipped : (b : Bool) → not b ≡ true → b ≡ false
-flipped false e = refl
-flipped true e = absurd (false≢true e)
-
-unflipped : (b : Bool) → not b ≡ false → b ≡ true
-unflipped true e = refl
-unflipped false e = absurd (false≢true (sym e))
-
 -- a falling list is cut in two by the pairs that come before one
 pub falling_parted : (p : Pair) (xs : List Pair) → IsRising (reverse xs) → IsPartitionedBy (λ q. not (comes_before q p)) xs
 falling_parted p xs rising i j d low within is = elim (cases_lt i j) [
@@ -28,12 +20,12 @@ falling_parted p xs rising i j d low within is = elim (cases_lt i j) [
       let at_j : get_or (reverse xs) (length xs - 1 - j) d ≡ get_or xs j d = get_or-reverse xs (length xs - 1 - j) d (omega arith) ∙ ap (λ k. get_or xs k d) (omega arith) in
       let at_i : get_or (reverse xs) (length xs - 1 - i) d ≡ get_or xs i d = get_or-reverse xs (length xs - 1 - i) d (omega arith) ∙ ap (λ k. get_or xs k d) (omega arith) in
       let after : comes_before (get_or xs i d) (get_or xs j d) ≡ false = ap (λ a. comes_before a (get_or xs j d)) (sym at_i) ∙ ap (comes_before (get_or (reverse xs) (length xs - 1 - i) d)) (sym at_j) ∙ rising (length xs - 1 - j) (length xs - 1 - i) d (omega arith) (omega (arith, n)) in
-      ap not (not_before_is (get_or xs i d) p (first_first p (get_or xs j d) (get_or xs i d) (not_before (get_or xs j d) p (flipped _ is)) (not_before (get_or xs i d) (get_or xs j d) after)))
+      ap not (not_before_is (get_or xs i d) p (first_first p (get_or xs j d) (get_or xs i d) (not_before (get_or xs j d) p (not-true _ is)) (not_before (get_or xs i d) (get_or xs j d) after)))
   | inr more ↦ let e : j ≡ i = omega arith in subst (λ k. not (comes_before (get_or xs k d) p) ≡ true) e is
 ]
 
 pub unflipped_point : (p : Pair) (xs : List Pair) (i : ℕ) → IsPartitionPoint (λ q. not (comes_before q p) ≡ true) (λ q. not (comes_before q p) ≡ false) xs i → IsPartitionPoint (λ q. comes_before q p ≡ false) (λ q. comes_before q p ≡ true) xs i
-unflipped_point p xs i point = (λ k d low high. flipped _ (point.0 k d low high), λ k d low high. unflipped _ (point.1 k d low high))
+unflipped_point p xs i point = (λ k d low high. not-true _ (point.0 k d low high), λ k d low high. not-false _ (point.1 k d low high))
 
 -- the same place, counted from the end
 point_reversed : (p : Pair) (xs : List Pair) (i : ℕ) → i ≤ length xs → IsPartitionPoint (λ q. comes_before q p ≡ false) (λ q. comes_before q p ≡ true) xs i → IsPartitionPoint (λ q. comes_before q p ≡ true) (λ q. comes_before q p ≡ false) (reverse xs) (length xs - i)

@@ -97,7 +97,7 @@ pair_same p q e = let r = and_parts _ _ e in let a = eqb-true p.0 q.0 r.0 in let
 
 -- ---- the place of a pair
 
-rising_tail : (q : Pair) (qs : List Pair) → IsRising (q ∷ qs) → IsRising qs
+pub rising_tail : (q : Pair) (qs : List Pair) → IsRising (q ∷ qs) → IsRising qs
 rising_tail q qs = pairs_tail (λ p q. comes_before q p ≡ false) q qs
 
 -- a rising list is cut in two by the pairs that come before one

@@ -4,7 +4,7 @@ use Rattle.std.proofs.lemmas.Bool.{cases_lt, ne_eqb}
 use Rattle.aia_word.specs.Sets.{has_bit, is_in, word_of}
 use Rattle.aia_word.specs.Summary.{Summarizes, SummarizesAllBut}
 use Rattle.aia_word.proofs.BitLemmas.{has_bit-zero}
-use Rattle.aia_word.proofs.SetLemmas.{word_from_bits, is_in-past}
+use Rattle.aia_word.proofs.SetLemmas.{word_from_bits, is_in-past, zero_word}
 use Rattle.aia_word.proofs.SummaryLemmas as any
 use Rattle.aia_word.proofs.SummaryLemmas.{none_some, none_in_word, summarizes}
 use Rattle.aia_regs.specs.declared.limits.TheConstants.{SOURCE_WORDS}
@@ -19,10 +19,6 @@ pub other_words : (summary s : ℕ) (ready : Bool) (old new : ℕ → Bool) → 
 other_words summary s ready old new told changed =
     any.other_words summary (s / 64) old new told (λ t other. changed t ∙ ap (λ b. cond b ready (old t)) (ne_eqb s t (λ e. other (ap (λ n. n / 64) (sym e)))))
 
-no_bits : (x : ℕ) → x < 2 ^ 64 → ((k : ℕ) → k < 64 → has_bit x k ≡ false) → x ≡ 0
-no_bits x small none =
-    word_from_bits (λ i. false) 0 x small none ∙ sym (word_from_bits (λ i. false) 0 0 (omega arith) (λ i low. has_bit-zero i))
-
 -- a summary of 0 tells that no source is in the set
 pub empty_told : (summary : ℕ) (words : List ℕ) → length words ≡ SOURCE_WORDS → Summarizes summary (is_in words) → summary ≡ 0 → (s : ℕ) → is_in words s ≡ false
 empty_told summary words sixteen told zero_word s = elim (cases_lt (s / 64) 64) [
@@ -31,4 +27,4 @@ empty_told summary words sixteen told zero_word s = elim (cases_lt (s / 64) 64) 
 ]
 
 pub told_empty : (summary : ℕ) (a : ℕ → Bool) → summary < 2 ^ 64 → Summarizes summary a → ((s : ℕ) → a s ≡ false) → summary ≡ 0
-told_empty summary a small told none = no_bits summary small (λ k low. summarizes summary a told k low ∙ none_some a k (λ i from below. none i))
+told_empty summary a small told none = zero_word summary small (λ k low. summarizes summary a told k low ∙ none_some a k (λ i from below. none i))

@@ -1,9 +1,7 @@
 -- What an aim makes of a source, of the domains, and of what may be passed.
-use Rattle.std.proofs.Common.{◌≡◌, ◌≢◌, ℕ, suc, ◌<◌, ◌≤◌, Bool, true, false, cond, ◌&&◌, nat_eq, ◌∷◌, inl, inr, refl, sym, ap, ◌∙◌, arith, Option}
+use Rattle.std.proofs.Common.{◌≡◌, ◌≢◌, ℕ, ◌<◌, ◌≤◌, Bool, true, false, cond, ◌&&◌, nat_eq, ◌∷◌, inl, inr, refl, sym, ap, ◌∙◌, arith, Option}
 use Rattle.std.proofs.lemmas.Bool.{cases_eq, eq-eqb, cond-true}
-use Rattle.std.proofs.lemmas.Bool.Decides.{nat_tests}
 use Rattle.std.specs.Option.{option_map_or}
-use Rattle.std.specs.Int.{is_in_range}
 use Rattle.aia_source.specs.Wired.{is_active}
 use Rattle.aia_domain.specs.InterruptSource.{InterruptSourceState, EachSource, changed_at, with_target, is_active_at}
 use Rattle.aia_domain.specs.Domain.{DomainState, with_sources}
@@ -18,7 +16,7 @@ use Rattle.aia_wiring.specs.Aplic.{AplicState, AplicStands}
 use Rattle.aia_wiring.specs.Passing.{is_passable_source, is_passable_in}
 use Rattle.aia_wiring.proofs.Steps.{source-step, source-idle, step-nothing, aimed_if}
 use Rattle.aia_wiring.proofs.Standing.{IsQuiet, keeps_quiet, stands-after, still-stands}
-use Rattle.aia_wiring.proofs.Reading.{place, mode-zero}
+use Rattle.aia_wiring.proofs.Reading.{place, mode-zero, there, not_there, zero_not}
 use Rattle.aia_wiring.proofs.ControlSteps.{controls-still}
 use Rattle.aia_wiring.proofs.AddressSteps.{addresses_aimed}
 
@@ -75,15 +73,6 @@ aplic-aimed t v a new past aims stands = record {
 }
 
 -- ---- what may be passed
-
-there : (n s : ℕ) → s < suc n → s ≢ 0 → is_in_range 1 n s ≡ true
-there n s low some = grind (arith, nat_tests)
-
-not_there : (n s : ℕ) → suc n ≤ s → is_in_range 1 n s ≡ false
-not_there n s past = grind (arith, nat_tests)
-
-zero_not : (n s : ℕ) → s ≡ 0 → is_in_range 1 n s ≡ false
-zero_not n s e = grind (arith, nat_tests)
 
 active-stands : (d : DomainState) (past : Past) (name : DomainName) (s : ℕ) → DomainStands d past name → is_active_at d.sources s ≡ (is_source past s && is_active_in past name s)
 active-stands d past name s stands = elim (place d past name s stands) [

@@ -1,6 +1,6 @@
 -- What an aim makes of what an APLIC keeps, and how that is what the past says.
 use Rattle.std.proofs.Common.{◌≡◌, ◌≢◌, ℕ, suc, ◌≤◌, Bool, true, false, cond, ◌&&◌, nat_eq, inl, inr, refl, sym, ap, ◌∙◌, arith, Option, Some, None, option_map}
-use Rattle.std.proofs.lemmas.Bool.{eq-eqb, ne_eqb, cond-true, false≢true}
+use Rattle.std.proofs.lemmas.Bool.{eq-eqb, ne_eqb, cond-true, false≢true, and_parts}
 use Rattle.std.specs.Option.{option_map_or}
 use Rattle.std.specs.Int.{is_in_range}
 use Rattle.std.proofs.lemmas.Bool.Decides.{nat_tests}
@@ -36,10 +36,6 @@ target_stays t v s other (Some x) = ap (λ b. (cond b (with_target v x) x).targe
 
 -- ---- an APLIC
 
-left_of : (a b : Bool) → (a && b) ≡ true → a ≡ true
-left_of true b e = refl
-left_of false b e = absurd (false≢true e)
-
 -- an aim of one that may be passed
 pub aimed-aims : (t v : ℕ) (a : AplicState) (new : SideState) → EachSource a.child.domain.sources new.domain.sources (changed_at t (with_target v)) → new.domain ≡ with_sources a.child.domain new.domain.sources
     → is_passable_in a t ≡ true → AimsIn a t v (record { root = a.root; child = new; addresses = a.addresses })
@@ -48,7 +44,7 @@ aimed-aims t v a new each rest is = record {
   passable = λ s.
       ap (λ (m : Bool). is_active_at new.domain.sources s && m && are_for_guests a.addresses) (ap (λ (d : DomainState). d.msi) rest)
       ∙ ap (λ (b : Bool). b && a.child.domain.msi && are_for_guests a.addresses) (ap (λ (o : Option InterruptSourceState). option_map_or (λ (x : InterruptSourceState). is_active x.source.mode) o false) (each s) ∙ active_stays t v s _);
-  aimed = λ passable. ap (λ (o : Option InterruptSourceState). option_map_or (λ (x : InterruptSourceState). x.target) o 0) (each t) ∙ target_given t v _ (left_of _ a.child.domain.msi (left_of _ (are_for_guests a.addresses) is));
+  aimed = λ passable. ap (λ (o : Option InterruptSourceState). option_map_or (λ (x : InterruptSourceState). x.target) o 0) (each t) ∙ target_given t v _ (and_parts _ a.child.domain.msi (and_parts _ (are_for_guests a.addresses) is).0).0;
   stays = λ unready. absurd (false≢true (sym unready ∙ is));
   others = λ s other. ap (λ (o : Option InterruptSourceState). option_map_or (λ (x : InterruptSourceState). x.target) o 0) (each s) ∙ target_stays t v s other _;
 }

@@ -27,6 +27,7 @@ use Rattle.aia_wiring.specs.Side.{source_of, DomainStands}
 use Rattle.aia_wiring.specs.Controls.{is_control}
 use Rattle.aia_wiring.proofs.Steps.{source-idle}
 use Rattle.aia_wiring.proofs.WriteSteps.{child-none}
+use Rattle.aia_word.proofs.SetLemmas.{same_sets}
 
 -- ---- no source has the number 0
 
@@ -50,13 +51,14 @@ place d past name s stands = elim (cases_lt s (length d.sources)) [
     at : (x : InterruptSourceState) → slice_get d.sources s ≡ Some x → slice_get d.sources s ≡ Some (source_of past name s)
     at x e = e ∙ ap (λ (y : InterruptSourceState). Some y) (stands.each s x e)
 
-there : (n s : ℕ) → s < suc n → s ≢ 0 → is_in_range 1 n s ≡ true
+-- which sources there are
+pub there : (n s : ℕ) → s < suc n → s ≢ 0 → is_in_range 1 n s ≡ true
 there n s low some = grind (arith, nat_tests)
 
-not_there : (n s : ℕ) → suc n ≤ s → is_in_range 1 n s ≡ false
+pub not_there : (n s : ℕ) → suc n ≤ s → is_in_range 1 n s ≡ false
 not_there n s past = grind (arith, nat_tests)
 
-zero_not : (n s : ℕ) → s ≡ 0 → is_in_range 1 n s ≡ false
+pub zero_not : (n s : ℕ) → s ≡ 0 → is_in_range 1 n s ≡ false
 zero_not n s e = grind (arith, nat_tests)
 
 -- what the past shows of a source
@@ -91,9 +93,6 @@ shown-stands which d past name s stands = elim (place d past name s stands) [
   ]
   | inr p ↦ ap (λ (o : Option InterruptSourceState). option_map_or (bit_shown which) o false) p.1 ∙ sym (ap (λ (b : Bool). b && said which past name s) (not_there (sources_in past) s p.0))
 ]
-
-same_sets : (f g : ℕ → Bool) → ((s : ℕ) → f s ≡ g s) → f ≡ g
-same_sets f g h = λ i s. h s i
 
 pub word-stands : (which : SourceBit) (d : DomainState) (past : Past) (name : DomainName) (k : ℕ) → DomainStands d past name → word_of (bit_at_source d.sources which) (32 * k) 32 ≡ sources_word past (said which past name) k
 word-stands which d past name k stands = ap (λ f. word_of f (32 * k) 32) (same_sets _ _ (λ s. shown-stands which d past name s stands))

@@ -8,19 +8,12 @@ use Rattle.aia_domain.specs.InterruptSource.{InterruptSourceState, with_deed}
 use Rattle.aia_model.specs.declared.msi.Msi.{Msi}
 use Rattle.aia_model.specs.declared.domain_name.DomainName.{DomainName}
 use Rattle.aia_model.specs.declared.sender.Sender.{Sender}
-use Rattle.aia_model.specs.Act.{Past, is_domain, newest, act_of}
+use Rattle.aia_model.specs.Act.{Past, is_domain, newest}
 use Rattle.aia_model.specs.declared.domain_name.DomainName.TheVariants.{Root, Child}
 use Rattle.aia_model.specs.declared.sender.Sender.TheVariants.{ByGenMsi, BySource}
 use Rattle.aia_model.specs.Act.Act.{Made, Sent, Aimed}
 use Rattle.aia_model.specs.SourceOf.{harts_in, sources_in, mode, input, is_on, delivers_by_msis, is_active_in, target, pending, genmsi_of, genmsi_waits, wire_of, enabled}
-use Rattle.aia_home.specs.Vms.{Vcpu}
-use Rattle.aia_home.specs.Aims.{is_aiming, aims_done}
-use Rattle.aia_model.specs.Aim.{aimed_by, aim_of}
-use Rattle.aia_model.specs.Passes.{passes_for, own_pass}
-use Rattle.aia_model.specs.HomeOf.{home}
-use Rattle.aia_model.specs.Sent.{forwards, all_senders, has_msi, senders, msi_by, msi_of, waiting_msis, sent_by, with_all_sent, with_act, acts_of}
-use Rattle.aia_model.specs.Event.{History}
-use Rattle.aia_model.specs.Event.Event.{Accepted, Began, Stepped, Delivered, Relayed, Landed}
+use Rattle.aia_model.specs.Sent.{forwards, all_senders, has_msi, senders, msi_by, msi_of, waiting_msis, sent_by, with_all_sent}
 use Rattle.aia_model.specs.AddressOf.{addresses_of}
 use Rattle.aia_wiring.specs.Side.{source_of}
 use Rattle.aia_wiring.proofs.Steps.{source-idle, same_target, same_mode_says, same_enable}
@@ -156,19 +149,6 @@ msis_next past sender later list =
 pub settled_next : (past : Past) (sender : Sender) (later : List Sender) → senders past ≡ sender ∷ later → with_all_sent past ≡ with_all_sent (Sent sender ∷ past)
 settled_next past sender later list = ap (λ os. sent_by os past) list ∙ ap (λ os. sent_by os (Sent sender ∷ past)) (sym (senders_left past sender later list))
 
--- nothing waits when all is sent
-left_by : (xs : List Sender) (past : Past) → senders past ≡ xs → senders (sent_by xs past) ≡ []
-left_by [] past is = is
-left_by (x ∷ xs) past is = left_by xs (Sent x ∷ past) (senders_left past x xs is)
-
-pub none_wait : (past : Past) → senders (with_all_sent past) ≡ []
-none_wait past = left_by (senders past) past refl
-
--- and nothing at first
-pub begun_none : senders [] ≡ []
-unfolding newest genmsi_waits all_senders
-begun_none = refl
-
 none_begun_by : (h n : ℕ) (x : Sender) → has_msi (Made h n ∷ []) x ≡ false
 unfolding newest genmsi_waits
 none_begun_by h n (ByGenMsi d) = refl
@@ -202,20 +182,6 @@ same_filter f g (x ∷ xs) same = ap (λ b. cond b (x ∷ filter f xs) (filter f
 
 pub aim_waits : (t v : ℕ) (past : Past) → senders (Aimed t v ∷ past) ≡ senders past
 aim_waits t v past = same_filter (has_msi (Aimed t v ∷ past)) (has_msi past) (all_senders (sources_in (Aimed t v ∷ past))) (aim_has t v past) ∙ ap (λ n. filter (has_msi past) (all_senders n)) (aim_sizes t v past)
-
-step_waits : (b : Bool) (h : History) (g : Vcpu) → senders (with_act (if b then Some (aim_of h g (own_pass h g (aims_done (home h g)))) else None) (acts_of h)) ≡ senders (acts_of h)
-step_waits true h g = aim_waits _ _ (acts_of h)
-step_waits false h g = refl
-
--- between lines nothing waits
-pub none_between : (h : History) → senders (acts_of h) ≡ []
-none_between [] = begun_none
-none_between (Accepted line ∷ h) = none_wait (with_act (act_of line) (with_act (aimed_by h (Accepted line)) (acts_of h)))
-none_between (Delivered msi ∷ h) = none_between h
-none_between (Landed vm k ∷ h) = none_between h
-none_between (Relayed p ∷ h) = none_between h
-none_between (Began move ∷ h) = none_between h
-none_between (Stepped g ∷ h) = step_waits (is_aiming (passes_for h g) (home h g)) h g ∙ none_between h
 
 -- the harts and the sources stay
 sizes_sent : (sender : Sender) (past : Past) → ◌≡◌ {A = ℕ × ℕ} (harts_in (Sent sender ∷ past), sources_in (Sent sender ∷ past)) (harts_in past, sources_in past)

@@ -289,7 +289,7 @@ packed-spread (suc count) x mask =
           rw (spread_other count x mask ne, packed_other count (2 * r) mask ne, rest, same_ones count mask ne) (packed-spread count x (mask / 2))
     ]
 
-only_it : (b : Bool) → b ≡ (b && true)
+pub only_it : (b : Bool) → b ≡ (b && true)
 only_it true = refl
 only_it false = refl
 

@@ -1,7 +1,6 @@
 -- Where the stores of devices of a new VM go.
-use Rattle.std.proofs.Common.{◌≡◌, ℕ, ◌+◌, ◌%◌, ◌<◌, true, nat_lt, cond, [], ◌∷◌, length, Option, Some, sym, ap, ◌∙◌, subst, arith}
-use Rattle.std.proofs.lemmas.Bool.{cond-true}
-use Rattle.std.proofs.lemmas.Bool.Decides.{nat_tests}
+use Rattle.std.proofs.Common.{◌≡◌, ℕ, ◌+◌, ◌%◌, ◌<◌, true, cond, [], ◌∷◌, length, Option, Some, sym, ap, ◌∙◌, subst, arith}
+use Rattle.std.proofs.lemmas.Bool.{cond-true, lt-ltb}
 use Rattle.std.proofs.lemmas.List.{length-append}
 use Rattle.aia_regs.specs.declared.address_map.TheConstants.{PAGE}
 use Rattle.aia_regs.specs.AddressMap.{slot_address}
@@ -22,9 +21,6 @@ use Rattle.aia_world.specs.Stores.{Reaches, StoresInSlot, page_spot}
 use Rattle.aia_world.proofs.PlaceLemmas.{slot_found, host_page}
 use Rattle.aia_regs.specs.declared.limits.TheConstants.{SLOTS}
 
-below : (a b : ℕ) → a < b → nat_lt a b ≡ true
-below a b low = grind (arith, nat_tests)
-
 -- a table's route for an MSI address
 routed : (t : TableState) (mask addr : ℕ) → t.mask ≡ mask → is_msi_address mask addr ≡ true → route_of t addr ≡ leads_by (entry_in_force t (file_number mask addr))
 routed t mask addr same is =
@@ -36,7 +32,7 @@ pub made_route : (w u : World) (vm : Vm) (addr : ℕ) → length w.tables ≡ le
 made_route w u vm addr same made is low =
     ap (λ n. route_of (table_of u.tables n) addr) (sym same)
     ∙ routed (table_of u.tables (length w.tables)) vm.mask addr made.mask is
-    ∙ ap leads_by (made.in_force (file_number vm.mask addr) ∙ cond-true _ _ _ (below (file_number vm.mask addr) vm.vcpus low))
+    ∙ ap leads_by (made.in_force (file_number vm.mask addr) ∙ cond-true _ _ _ (lt-ltb (file_number vm.mask addr) vm.vcpus low))
 
 pub made_reaches : (w u x : World) (vm : Vm) (addr value : ℕ) → IsWhole w → IsWhole u → MakesVm w u vm → is_msi_address vm.mask addr ≡ true → file_number vm.mask addr < vm.vcpus
     → Reaches (route_of (table_of u.tables (length w.vms)) addr) u x (addr % PAGE) value

@@ -3,8 +3,7 @@ use Rattle.std.proofs.Common.{◌≡◌, ◌≢◌, ℕ, ◌+◌, ◌*◌, ◌/�
 use Rattle.std.specs.Prelude.{slice_index, if◌then◌else◌, replicate}
 use Rattle.std.proofs.Math.ListN.{set, get_or-append}
 use Rattle.std.proofs.Math.Seq.{get_or-append_seam}
-use Rattle.std.proofs.lemmas.Bool.{cases_eq, cases_lt, cond-true, cond-false}
-use Rattle.std.proofs.lemmas.Bool.Decides.{nat_tests}
+use Rattle.std.proofs.lemmas.Bool.{cases_eq, cases_lt, cond-true, cond-false, lt-ltb, le-ltb}
 use Rattle.std.proofs.lemmas.List.{length-append, length-set, length-replicate, get_or-replicate, get_or_past, get_or-set_same, get_or-set_other}
 use Rattle.aia_regs.specs.AddressMap.{slot_address}
 use Rattle.aia_entry.specs.declared.entry.Entry.{Entry}
@@ -18,6 +17,7 @@ use Rattle.aia_home.specs.Vms.{vcpus_in}
 use Rattle.aia_world.specs.World.{World}
 use Rattle.aia_world.specs.Making.{MakesVm, table_place, notice_page, entry_word_place, words_with_entry, with_entry, with_vm}
 use Rattle.aia_regs.specs.declared.limits.TheConstants.{VMS, VCPUS, SLOTS, ENTRIES, MEMORY_WORDS}
+use Rattle.aia_word.proofs.BitLemmas.{below_next}
 
 -- the entry in force of a file, once those of so many files are made
 abbrev pub entry_so_far : Vm → ℕ → ℕ → ℕ → Entry
@@ -40,15 +40,6 @@ pub record HasMade (w u : World) (vm : Vm) (made : ℕ) : Type 0 where
   pub flights : u.flights ≡ w.flights ++ [] ∷ []
   pub rest : u ≡ record w { vms = u.vms; tables = u.tables; flights = u.flights; memory = u.memory }
 
-below : (a b : ℕ) → a < b → nat_lt a b ≡ true
-below a b low = grind (arith, nat_tests)
-
-not_below : (a b : ℕ) → b ≤ a → nat_lt a b ≡ false
-not_below a b past = grind (arith, nat_tests)
-
-one_more : (a b : ℕ) → a ≢ b → nat_lt a b ≡ nat_lt a (b + 1)
-one_more a b other = grind (arith, nat_tests)
-
 -- ---- none
 
 none_valid : (file : ℕ) → get_or (replicate ENTRIES NotValid) file NotValid ≡ NotValid
@@ -69,7 +60,7 @@ none_made w vm size =
       start = ap (λ (x : TableState). x.start) new;
       room = ap (λ (x : TableState). length x.in_force) new ∙ length-replicate ENTRIES NotValid;
       size = size;
-      in_force = λ file. ap (λ (x : TableState). entry_in_force x file) new ∙ none_valid file ∙ sym (cond-false _ _ _ (not_below file 0 (omega arith)));
+      in_force = λ file. ap (λ (x : TableState). entry_in_force x file) new ∙ none_valid file ∙ sym (cond-false _ _ _ (le-ltb file 0 (omega arith)));
       word0 = λ file low. absurd (omega arith);
       word1 = λ file low. absurd (omega arith);
       elsewhere = λ place apart. refl;
@@ -136,8 +127,8 @@ one_more_made w u vm made page so_far vms few slots is there =
       room = ap (λ (x : TableState). length x.in_force) here ∙ length-set t.in_force made (written_entry words t made) ∙ so_far.room;
       size = size_kept u.memory new made slot page ∙ so_far.size;
       in_force = λ file. elim (cases_eq file made) [
-        | inl e ↦ ap (λ n. entry_in_force (table_of (fenced_at u.tables new made words) new) n) e ∙ entry ∙ ap (λ n. Mrif (slot_address (vcpus_in w.vms + n)) (notice_page vm) (vcpus_in w.vms + n + 1)) (sym e) ∙ sym (cond-true _ _ _ (below file (made + 1) (omega arith)))
-        | inr ne ↦ fenced_elsewhere u.tables new made words new file (inr ne) ∙ so_far.in_force file ∙ ap (λ b. cond b (Mrif (slot_address (vcpus_in w.vms + file)) (notice_page vm) (vcpus_in w.vms + file + 1)) NotValid) (one_more file made ne)
+        | inl e ↦ ap (λ n. entry_in_force (table_of (fenced_at u.tables new made words) new) n) e ∙ entry ∙ ap (λ n. Mrif (slot_address (vcpus_in w.vms + n)) (notice_page vm) (vcpus_in w.vms + n + 1)) (sym e) ∙ sym (cond-true _ _ _ (lt-ltb file (made + 1) (omega arith)))
+        | inr ne ↦ fenced_elsewhere u.tables new made words new file (inr ne) ∙ so_far.in_force file ∙ ap (λ b. cond b (Mrif (slot_address (vcpus_in w.vms + file)) (notice_page vm) (vcpus_in w.vms + file + 1)) NotValid) (below_next file made ne)
       ];
       word0 = λ file under. elim (cases_eq file made) [
         | inl e ↦ ap (λ n. slice_index words (entry_word_place new n)) e ∙ first_word u.memory new made slot page low so_far.size ∙ ap (λ n. mrif_word (slot_address (vcpus_in w.vms + n))) (sym e)

@@ -6,7 +6,7 @@ use Rattle.std.proofs.Math.ListN.{set}
 use Rattle.std.proofs.lemmas.Bool.{cases_lt, cases_Bool, eqb-true}
 use Rattle.std.proofs.lemmas.List.{get_or-set_same, get_or-set_other, set_past}
 use Rattle.aia_word.specs.Sets.{is_in}
-use Rattle.aia_word.proofs.SetLemmas.{is_in-set, is_in-past}
+use Rattle.aia_word.proofs.SetLemmas.{is_in-set, is_in-past, same_sets}
 use Rattle.aia_word.proofs.BitLemmas.{has_bit-zero}
 use Rattle.aia_regs.specs.declared.limits.TheConstants.{VCPUS, WORDS_OF_SLOTS, MEMORY_WORDS, FILE_WORDS}
 use Rattle.aia_regs.specs.declared.access.Op.TheVariants as ops
@@ -94,9 +94,6 @@ module _ (w u : World) (g : Vcpu) (there : Home) (p : Place) (reg : FileReg) (v 
       ∙ ap (λ o. accessed reg (ops.Write v) (file_in w o)) (sym next))
 
 -- ---- a word of a set that is a row of words
-
-same_sets : (f g : ℕ → Bool) → ((i : ℕ) → f i ≡ g i) → f ≡ g
-same_sets f g e = λ k i. e i k
 
 neither : (b x : Bool) → cond b false x ≡ (not b && x)
 neither true x = refl

@@ -1,10 +1,10 @@
 -- What a break says, and what it says that there is none.
-use Rattle.std.proofs.Common.{◌≡◌, ◌≢◌, ℕ, suc, ◌+◌, ◌<◌, Bool, true, false, ◌&&◌, length, drop, List, [], ◌∷◌, Option, Some, None, Result, Ok, ◌⊎◌, inl, inr, refl, sym, ap, ap₂, subst, ◌∙◌, arith}
+use Rattle.std.proofs.Common.{◌≡◌, ◌≢◌, ℕ, suc, ◌+◌, ◌<◌, true, false, ◌&&◌, length, drop, List, [], ◌∷◌, Option, Some, None, Result, Ok, ◌⊎◌, inl, inr, refl, sym, ap, ap₂, subst, ◌∙◌, arith}
 use Rattle.std.specs.Prelude.{get_or, option_map}
 use Rattle.std.specs.List.{All, AllByRecursion}
 use Rattle.std.proofs.lemmas.Bool.{false≢true}
 use Rattle.std.proofs.lemmas.List.{drop_more, drop_all}
-use Rattle.std.proofs.lemmas.Option.{slice_get-get_or}
+use Rattle.std.proofs.lemmas.Option.{slice_get-get_or, same_Some}
 use Rattle.plans_machine.specs.declared.rule.Rule.{Rule}
 use Rattle.plans_machine.specs.declared.rule.Rule.TheVariants.{Notice}
 use Rattle.plans_machine.specs.declared.step.Step.{Step}
@@ -13,7 +13,7 @@ use Rattle.plans_machine.specs.declared.setting.Kind.{Kind}
 use Rattle.plans_machine.specs.declared.setting.Terms.{Terms}
 use Rattle.plans_machine.specs.Rules.{Done, lets, lets_end, lets_rest, moves, accepts}
 use Rattle.plans_machine.specs.Safe.{IsInFile, IsSafe, IsTold}
-use Rattle.plans_machine.proofs.BoolLaws.{and_of, and_left}
+use Rattle.plans_machine.proofs.BoolLaws.{and_of, and_left, and_false_left, and_false_right}
 use Rattle.plans_machine.proofs.Safety.{IsOfSafety}
 use Rattle.plans_machine.proofs.RulesAreSafe.{five_kept, rules_are_safe, only_these, rules_are_told}
 use Rattle.plans_judge.specs.declared.judging.Part.TheVariants.{Safety, Telling}
@@ -69,48 +69,28 @@ some_refuse [] d x done rule e = absurd (cc)
 some_refuse (first ∷ others) d x done rule e =
     elim (lets first d x done) as (λ b. lets first d x done ≡ b → ◌≡◌ {A = Option Rule} (elim b [ true ↦ refusing others d x done | false ↦ Some first ]) (Some rule) → lets rule d x done ≡ false) [
       | true ↦ λ is e. some_refuse others d x done rule e
-      | false ↦ λ is e. subst (λ r. lets r d x done ≡ false) (some_inj first rule e) is
+      | false ↦ λ is e. subst (λ r. lets r d x done ≡ false) (same_Some first rule e) is
     ] refl e
-  where
-    some_inj : (a b : Rule) → Some a ≡ Some b → a ≡ b
-    some_inj a b e = cc
 
 some_refuse_end : (rules : List Rule) (d : Setting) (done : Done) (rule : Rule) → refusing_end rules d done ≡ Some rule → lets_end rule d done ≡ false
 some_refuse_end [] d done rule e = absurd (cc)
 some_refuse_end (first ∷ others) d done rule e =
     elim (lets_end first d done) as (λ b. lets_end first d done ≡ b → ◌≡◌ {A = Option Rule} (elim b [ true ↦ refusing_end others d done | false ↦ Some first ]) (Some rule) → lets_end rule d done ≡ false) [
       | true ↦ λ is e. some_refuse_end others d done rule e
-      | false ↦ λ is e. subst (λ r. lets_end r d done ≡ false) (some_inj first rule e) is
+      | false ↦ λ is e. subst (λ r. lets_end r d done ≡ false) (same_Some first rule e) is
     ] refl e
-  where
-    some_inj : (a b : Rule) → Some a ≡ Some b → a ≡ b
-    some_inj a b e = cc
-
-and_false : (a b : Bool) → b ≡ false → (a && b) ≡ false
-and_false true b e = e
-and_false false b e = refl
-
-and_false_first : (a b : Bool) → a ≡ false → (a && b) ≡ false
-and_false_first true b e = absurd (false≢true (sym e))
-and_false_first false b e = refl
 
 mapped_some : (before : ℕ) (o : Option Rule) (broken : Break) → option_map (at_step before) o ≡ Some broken → o ≡ Some broken.rule
 mapped_some before None broken e = absurd (cc)
-mapped_some before (Some rule) broken e = ap Some (ap (λ (b : Break). b.rule) (some_inj (at_step before rule) broken e))
-  where
-    some_inj : (a b : Break) → Some a ≡ Some b → a ≡ b
-    some_inj a b e = cc
+mapped_some before (Some rule) broken e = ap Some (ap (λ (b : Break). b.rule) (same_Some (at_step before rule) broken e))
 
 some_break : (rules : List Rule) (d : Setting) (done : Done) (before : ℕ) (rest : List Step) (broken : Break) → first_break rules d done before rest ≡ Some broken → lets_rest broken.rule d done rest ≡ false
 some_break rules d done before [] broken e = some_refuse_end rules d done broken.rule (mapped_some before (refusing_end rules d done) broken e)
 some_break rules d done before (x ∷ rest) broken e =
     elim (refusing rules d x done) as (λ o. refusing rules d x done ≡ o → ◌≡◌ {A = Option Break} (elim o [ None ↦ first_break rules d (x ∷ done) (suc before) rest | Some rule ↦ Some (at_step before rule) ]) (Some broken) → lets_rest broken.rule d done (x ∷ rest) ≡ false) [
-      | None ↦ λ is e. and_false (lets broken.rule d x done) _ (some_break rules d (x ∷ done) (suc before) rest broken e)
-      | Some rule ↦ λ is e. and_false_first (lets broken.rule d x done) _ (some_refuse rules d x done broken.rule (is ∙ ap Some (ap (λ (b : Break). b.rule) (some_inj (at_step before rule) broken e))))
+      | None ↦ λ is e. and_false_right (lets broken.rule d x done) _ (some_break rules d (x ∷ done) (suc before) rest broken e)
+      | Some rule ↦ λ is e. and_false_left (lets broken.rule d x done) _ (some_refuse rules d x done broken.rule (is ∙ ap Some (ap (λ (b : Break). b.rule) (same_Some (at_step before rule) broken e))))
     ] refl e
-  where
-    some_inj : (a b : Break) → Some a ≡ Some b → a ≡ b
-    some_inj a b e = cc
 
 -- ---- the verdict
 
@@ -148,15 +128,12 @@ accepted_keeps d plan e =
 
 -- ---- the rule of a break is one of the rules that were asked
 
-some_inj : {A : Type 0} (a b : A) → Some a ≡ Some b → a ≡ b
-some_inj a b e = cc
-
 refuse_of : (P : Rule → Type 0) (rules : List Rule) (d : Setting) (x : Step) (done : Done) (rule : Rule) → AllByRecursion P rules → refusing rules d x done ≡ Some rule → P rule
 refuse_of P [] d x done rule all e = absurd (cc)
 refuse_of P (first ∷ others) d x done rule all e =
     elim (lets first d x done) as (λ b. ◌≡◌ {A = Option Rule} (elim b [ true ↦ refusing others d x done | false ↦ Some first ]) (Some rule) → P rule) [
       | true ↦ λ e. refuse_of P others d x done rule all.1 e
-      | false ↦ λ e. subst P (some_inj first rule e) all.0
+      | false ↦ λ e. subst P (same_Some first rule e) all.0
     ] e
 
 refuse_end_of : (P : Rule → Type 0) (rules : List Rule) (d : Setting) (done : Done) (rule : Rule) → AllByRecursion P rules → refusing_end rules d done ≡ Some rule → P rule
@@ -164,7 +141,7 @@ refuse_end_of P [] d done rule all e = absurd (cc)
 refuse_end_of P (first ∷ others) d done rule all e =
     elim (lets_end first d done) as (λ b. ◌≡◌ {A = Option Rule} (elim b [ true ↦ refusing_end others d done | false ↦ Some first ]) (Some rule) → P rule) [
       | true ↦ λ e. refuse_end_of P others d done rule all.1 e
-      | false ↦ λ e. subst P (some_inj first rule e) all.0
+      | false ↦ λ e. subst P (same_Some first rule e) all.0
     ] e
 
 break_of : (P : Rule → Type 0) (rules : List Rule) (d : Setting) (done : Done) (before : ℕ) (rest : List Step) (broken : Break) → AllByRecursion P rules → first_break rules d done before rest ≡ Some broken → P broken.rule
@@ -172,7 +149,7 @@ break_of P rules d done before [] broken all e = refuse_end_of P rules d done br
 break_of P rules d done before (x ∷ rest) broken all e =
     elim (refusing rules d x done) as (λ o. refusing rules d x done ≡ o → ◌≡◌ {A = Option Break} (elim o [ None ↦ first_break rules d (x ∷ done) (suc before) rest | Some rule ↦ Some (at_step before rule) ]) (Some broken) → P broken.rule) [
       | None ↦ λ is e. break_of P rules d (x ∷ done) (suc before) rest broken all e
-      | Some rule ↦ λ is e. refuse_of P rules d x done broken.rule all (is ∙ ap Some (ap (λ (b : Break). b.rule) (some_inj (at_step before rule) broken e)))
+      | Some rule ↦ λ is e. refuse_of P rules d x done broken.rule all (is ∙ ap Some (ap (λ (b : Break). b.rule) (same_Some (at_step before rule) broken e)))
     ] refl e
 
 pub notice_keeps : (d : Setting) (plan : List Step) (before : ℕ) → verdict_on d plan ≡ Refused Notice before → moves d plan ≡ true

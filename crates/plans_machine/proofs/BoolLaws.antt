@@ -1,22 +1,15 @@
 -- Laws of tests.
-use Rattle.std.proofs.Common.{◌≡◌, ℕ, zero, suc, ◌<◌, Bool, true, false, not, ◌&&◌, ◌||◌, ◌⊎◌, inl, inr, refl, sym, ap, ◌∙◌, arith}
+use Rattle.std.proofs.Common.{◌≡◌, ℕ, zero, suc, ◌<◌, Bool, true, false, ◌&&◌, ◌||◌, ◌⊎◌, inl, inr, refl, sym, ap, ◌∙◌, arith}
 use Rattle.std.proofs.lemmas.Bool.{cases_eq, false≢true}
+pub use Rattle.std.proofs.lemmas.Bool.{or_left, or_right, or_cases, false_from_ne_true as false_of, true_from_ne_false as true_of, not-true as not_true, and_from as and_of, and_left as and_false_left, and_right as and_false_right, or_from as or_false}
 use Rattle.plans_machine.specs.Setting.{all_below, any_below}
 
-pub false_of : (b : Bool) → (b ≡ true → ⊥) → b ≡ false
-false_of true h = absurd (h refl)
-false_of false h = refl
-
-pub true_of : (b : Bool) → (b ≡ false → ⊥) → b ≡ true
-true_of true h = refl
-true_of false h = absurd (h refl)
+pub by_case : {A : Type 0} (b : Bool) → (b ≡ true → A) → (b ≡ false → A) → A
+by_case true f g = f refl
+by_case false f g = g refl
 
 pub clash : {A : Type 0} (b : Bool) → b ≡ true → b ≡ false → A
 clash b e f = absurd (false≢true (sym f ∙ e))
-
-pub not_true : (b : Bool) → not b ≡ true → b ≡ false
-not_true true e = absurd (false≢true e)
-not_true false e = refl
 
 pub and_left : (a b : Bool) → (a && b) ≡ true → a ≡ true
 and_left true b e = refl
@@ -26,22 +19,6 @@ pub and_right : (a b : Bool) → (a && b) ≡ true → b ≡ true
 and_right true b e = e
 and_right false b e = absurd (false≢true e)
 
-pub and_of : (a b : Bool) → a ≡ true → b ≡ true → (a && b) ≡ true
-and_of true b e f = f
-and_of false b e f = absurd (false≢true e)
-
-pub or_left : (a b : Bool) → a ≡ true → (a || b) ≡ true
-or_left true b e = refl
-or_left false b e = absurd (false≢true e)
-
-pub or_right : (a b : Bool) → b ≡ true → (a || b) ≡ true
-or_right true b e = refl
-or_right false b e = e
-
-pub or_false : (a b : Bool) → a ≡ false → b ≡ false → (a || b) ≡ false
-or_false true b p q = absurd (false≢true (sym p))
-or_false false b p q = q
-
 pub or_false_left : (a b : Bool) → (a || b) ≡ false → a ≡ false
 or_false_left true b e = absurd (false≢true (sym e))
 or_false_left false b e = refl
@@ -50,9 +27,19 @@ pub or_false_right : (a b : Bool) → (a || b) ≡ false → b ≡ false
 or_false_right true b e = absurd (false≢true (sym e))
 or_false_right false b e = e
 
-pub or_cases : (a b : Bool) → (a || b) ≡ true → (a ≡ true) ⊎ (b ≡ true)
-or_cases true b e = inl refl
-or_cases false b e = inr e
+-- what a step adds where it is of a place, and what it leaves elsewhere
+pub added_cases : (here new old : Bool) → (elim here [ true ↦ new || old | false ↦ old ]) ≡ true → ((here ≡ true) × (new ≡ true)) ⊎ (old ≡ true)
+added_cases true true old e = inl (refl, refl)
+added_cases true false old e = inr e
+added_cases false new old e = inr e
+
+pub added_stays : (here new old : Bool) → old ≡ true → (elim here [ true ↦ new || old | false ↦ old ]) ≡ true
+added_stays true new old e = or_right new old e
+added_stays false new old e = e
+
+pub all_of : (is : ℕ → Bool) (count : ℕ) → ((p : ℕ) → p < count → is p ≡ true) → all_below is count ≡ true
+all_of is zero h = refl
+all_of is (suc n) h = and_of (is n) _ (h n (omega arith)) (all_of is n (λ p low. h p (omega (arith, low))))
 
 pub all_at : (is : ℕ → Bool) (count p : ℕ) → all_below is count ≡ true → p < count → is p ≡ true
 all_at is zero p e inside = absurd (omega arith)

@@ -18,13 +18,13 @@ use Rattle.plans_machine.specs.declared.setting.Kind.{Kind}
 use Rattle.plans_machine.specs.declared.setting.Kind.TheVariants.{Routed, Switched}
 use Rattle.plans_machine.specs.declared.step.Step.{Step}
 use Rattle.plans_machine.specs.declared.step.Step.TheVariants.{Route, Fence, Switch, Zero, Take, Join, Put, ZeroNumber, TakeNumber, PutNumber, Free}
-use Rattle.plans_machine.specs.Setting.{Setting, is_old, is_pending, same_bank, same_spot, names, all_below, any_below}
+use Rattle.plans_machine.specs.Setting.{Setting, is_old, is_pending, same_spot, names, all_below, any_below}
 use Rattle.plans_machine.specs.Machine.{Flight, Machine, landed, flight_landed, all_landed, flights_of, flights_beside, stepped, By, route_of, one_landed, all_but, Happening, happened, all_happened, steps_in}
 use Rattle.plans_machine.specs.Machine.By.{Written, InForce}
 use Rattle.plans_machine.specs.Machine.Happening.{Does, Stores, Sends, Lands}
 use Rattle.plans_machine.specs.Safe.{IsProducer, IsRouted, CanHappen, IsStart, number_in, IsMoved, IsSafe, IsInFile}
 use Rattle.plans_machine.specs.Rules.{fences, switches, takes, fills, blanks, frees, Done, is_turned, is_fenced, is_led_as, is_led, all_led, is_reached, is_still, old_holds, hand_holds, is_filled, new_holds, is_blank, has_number, lets, lets_end, lets_rest}
-use Rattle.plans_machine.proofs.BoolLaws.{false_of, true_of, clash, not_true, and_right, and_of, or_left, or_right, or_false_left, or_false_right, or_cases}
+use Rattle.plans_machine.proofs.BoolLaws.{by_case, false_of, true_of, clash, not_true, and_right, and_of, or_left, or_right, or_false_left, or_false_right, or_cases, added_cases, all_of}
 use Rattle.plans_machine.proofs.Safety.{named, IsOfSafety}
 
 -- ---- all runs of what is left of a plan end well
@@ -105,7 +105,7 @@ due_bit d (ZeroNumber Old n) z s i e = refl
 due_bit d (ZeroNumber New n) z s i e = refl
 due_bit d x z s i e = refl
 
-still_none : (d : Setting) (x : Step) (z : Machine) → z.flights ≡ [] → (stepped d x z).flights ≡ []
+pub still_none : (d : Setting) (x : Step) (z : Machine) → z.flights ≡ [] → (stepped d x z).flights ≡ []
 still_none d (Fence p) z e = ap (flights_beside p) e
 still_none d (Zero Old t w) z e = e
 still_none d (Zero New t w) z e = e
@@ -512,10 +512,6 @@ not_of true h = absurd (h refl)
 not_of false h = refl
 
 -- which case a flag is
-by_case : {A : Type 0} (m : Bool) → (m ≡ true → A) → (m ≡ false → A) → A
-by_case true f g = f refl
-by_case false f g = g refl
-
 holds_true : (m o still : Bool) → m ≡ true → (elim m [ true ↦ o && not still | false ↦ o ]) ≡ true → still ≡ false
 holds_true true o still e f = not_true still (and_right o _ f)
 holds_true false o still e f = absurd (false≢true e)
@@ -532,11 +528,6 @@ taken_false : (m o n h : Bool) → m ≡ false → (elim m [ true ↦ o | false 
 taken_false true o n h e f = absurd (false≢true (sym e))
 taken_false false o true h e f = absurd (false≢true f)
 taken_false false o false h e f = (refl, f)
-
-filled_cases : (n h f : Bool) → (elim n [ true ↦ h || f | false ↦ f ]) ≡ true → ((n ≡ true) × (h ≡ true)) ⊎ (f ≡ true)
-filled_cases true true f e = inl (refl, refl)
-filled_cases true false f e = inr e
-filled_cases false h f e = inr e
 
 -- a word that is taken while someone still stores there: he stores again
 again : (d : Setting) (x : Step) (done : Done) (rest : List Step) (s : Bank) (i : ℕ) → takes s (i / 64) x ≡ true → is_still d s done ≡ false → ((j : ℕ) → Plain d (x ∷ done) rest j)
@@ -569,7 +560,7 @@ witness_step d x done rest guard v =
           (λ m. let cases = taken_false (takes s (i / 64) x) (old_holds d s (i / 64) done) (fills s (i / 64) x) _ m e in
           at_is d rest s i true _ _ _ _ _ _ (no_old (takes s (i / 64) x) (wipes s (i / 64) x)) (not_filled (fills s (i / 64) x) (blanks s (i / 64) x) cases.0) (keep_hand (takes s (i / 64) x) (fills s (i / 64) x) m cases.0)
           (at_step d x rest s i true false false true (v.hand s i cases.1)));
-      filled = λ s i e. elim (filled_cases (fills s (i / 64) x) _ _ e) [
+      filled = λ s i e. elim (added_cases (fills s (i / 64) x) _ _ e) [
         | inl now ↦ at_is d rest s i true _ _ _ _ _ _ (no_old (takes s (i / 64) x) (wipes s (i / 64) x)) (now_new (fills s (i / 64) x) (blanks s (i / 64) x) now.0) (from_hand (takes s (i / 64) x) (fills s (i / 64) x) now.0)
             (at_step d x rest s i true false false true (v.hand s i now.1))
         | inr before ↦ at_is d rest s i true _ _ _ _ _ _ (no_old (takes s (i / 64) x) (wipes s (i / 64) x))
@@ -732,10 +723,6 @@ freeing_kept d x done rest v = refl
 
 -- ---- an end that the rules don't let stand
 
-all_of : (is : ℕ → Bool) (count : ℕ) → ((w : ℕ) → w < count → is w ≡ true) → all_below is count ≡ true
-all_of is zero h = refl
-all_of is (suc n) h = and_of (is n) _ (h n (omega arith)) (all_of is n (λ w low. h w (omega (arith, low))))
-
 old_loses : (d : Setting) (s : Bank) (w : ℕ) (done : Done) → w < d.words → Witness d done [] → old_holds d s w done ≡ true → ⊥
 old_loses d s w done inside v e = false≢true (sym (end_old d s (64 * w) true true false false (below_words d w inside) (v.old s (64 * w) (at_first (λ u. old_holds d s u done ≡ true) w e))))
 
@@ -805,13 +792,11 @@ beginning d before rest = record {
 it_begins : (d : Setting) (before rest : Bank → ℕ → Bool) → (d.is_fresh ≡ true → (s : Bank) (i : ℕ) → rest s i ≡ false) → IsStart d (beginning d before rest)
 it_begins d before rest fresh = record { written = λ p e. refl; in_force = λ p e. refl; flights = tt; due = λ s i. refl; hand = λ s i. refl; fresh = fresh; freed = refl; strayed = refl }
 
+-- A set of one bit is `names` of its number, as it is for a word.
 abbrev nothing : Bank → ℕ → Bool
 nothing s i = false
 
-abbrev one_bit : Bank → ℕ → Bank → ℕ → Bool
-one_bit s i t j = same_bank s t && nat_eq i j
-
-one_there : (s : Bank) (i : ℕ) → one_bit s i s i ≡ true
+one_there : (s : Bank) (i : ℕ) → names s i s i ≡ true
 one_there Pending i = eq-eqb i i refl
 one_there Enabled i = eq-eqb i i refl
 
@@ -852,9 +837,9 @@ begin d plan safe = record {
   plain = λ i. begin_plain d plan i safe;
   flying = λ p i routed e. sent d [] plan p i routed refl (begin_plain d plan i safe);
   old = λ s i e. record {
-    start = beginning d (one_bit s i) nothing;
-    z = beginning d (one_bit s i) nothing;
-    live = from_start d plan _ safe (it_begins d (one_bit s i) nothing (λ e s i. refl));
+    start = beginning d (names s i) nothing;
+    z = beginning d (names s i) nothing;
+    live = from_start d plan _ safe (it_begins d (names s i) nothing (λ e s i. refl));
     flights = refl;
     base = λ e. one_there s i;
     due = λ e. one_there s i;
@@ -865,9 +850,9 @@ begin d plan safe = record {
   hand = λ s i e. absurd (false≢true e);
   filled = λ s i e. absurd (false≢true e);
   dirty = λ s i e. record {
-    start = beginning d nothing (one_bit s i);
-    z = beginning d nothing (one_bit s i);
-    live = from_start d plan _ safe (it_begins d nothing (one_bit s i) (λ fresh. clash d.is_fresh fresh e));
+    start = beginning d nothing (names s i);
+    z = beginning d nothing (names s i);
+    live = from_start d plan _ safe (it_begins d nothing (names s i) (λ fresh. clash d.is_fresh fresh e));
     flights = refl;
     base = λ e. refl;
     due = λ e. refl;

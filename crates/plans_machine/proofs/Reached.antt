@@ -9,11 +9,7 @@ use Rattle.plans_machine.specs.declared.setting.Kind.TheVariants.{Routed, Switch
 use Rattle.plans_machine.specs.declared.step.Step.{Step}
 use Rattle.plans_machine.specs.Setting.{Setting}
 use Rattle.plans_machine.specs.Rules.{turns, fences, switches, takes, Done, is_fenced, is_led_as, all_led, is_reached, old_holds}
-use Rattle.plans_machine.proofs.BoolLaws.{or_right, or_left, all_more, any_more}
-
-fenced_law : (m t l : Bool) → l ≡ true → (elim m [ true ↦ t || l | false ↦ l ]) ≡ true
-fenced_law true t l e = or_right t l e
-fenced_law false t l e = e
+use Rattle.plans_machine.proofs.BoolLaws.{or_right, or_left, added_stays, all_more, any_more}
 
 either_more : (a b c e : Bool) → (a ≡ true → c ≡ true) → (b ≡ true → e ≡ true) → (a || b) ≡ true → (c || e) ≡ true
 either_more true b c e f g is = or_left c e (f refl)
@@ -21,8 +17,8 @@ either_more false b c e f g is = or_right c e (g is)
 
 pub led_as_more : (k : Option Kind) (p : ℕ) (x : Step) (done : Done) → is_led_as k p done ≡ true → is_led_as k p (x ∷ done) ≡ true
 led_as_more None p x done e = e
-led_as_more (Some Routed) p x done e = fenced_law (fences p x) _ _ e
-led_as_more (Some Switched) p x done e = either_more (is_fenced p done) _ _ _ (fenced_law (fences p x) _ _) (or_right (switches p x) _) e
+led_as_more (Some Routed) p x done e = added_stays (fences p x) _ _ e
+led_as_more (Some Switched) p x done e = either_more (is_fenced p done) _ _ _ (added_stays (fences p x) _ _) (or_right (switches p x) _) e
 
 pub all_led_more : (d : Setting) (x : Step) (done : Done) → all_led d done ≡ true → all_led d (x ∷ done) ≡ true
 all_led_more d x done e = all_more _ _ (length d.producers) (λ p. led_as_more (slice_get d.producers p) p x done) e

@@ -23,7 +23,7 @@ use Rattle.plans_machine.specs.Machine.By.{Written, InForce}
 use Rattle.plans_machine.specs.Machine.Happening.{Does, Stores, Sends, Lands, Refetches}
 use Rattle.plans_machine.specs.Safe.{IsProducer, IsRouted, CanHappen, IsRun, IsStart, number_in, IsMoved, IsSafe}
 use Rattle.plans_machine.specs.Rules.{switches, frees, Done, is_turned, is_fenced, is_led_as, is_led, all_led, is_reached, is_still, old_holds, hand_holds, is_filled, is_blank, is_moved, has_number, lets, lets_end, lets_rest}
-use Rattle.plans_machine.proofs.BoolLaws.{false_of, true_of, or_false_left, or_false_right, clash, not_true, and_left, and_right, or_left, or_right, or_false, or_cases, all_at, any_at}
+use Rattle.plans_machine.proofs.BoolLaws.{false_of, true_of, or_false_left, or_false_right, clash, not_true, and_left, and_right, or_left, or_right, or_false, or_cases, added_cases, all_at, any_at}
 use Rattle.plans_machine.proofs.Reached.{all_led_more, reached_more, late_more}
 
 -- ---- the invariant
@@ -249,16 +249,11 @@ led_by_switch None p q done e = inr e
 led_by_switch (Some Routed) p q done e = inr e
 led_by_switch (Some Switched) p q done e = switched_cases (is_fenced p done) (nat_eq q p) _ e
 
-led_law : (m t l : Bool) → (elim m [ true ↦ t || l | false ↦ l ]) ≡ true → ((m ≡ true) × (t ≡ true)) ⊎ (l ≡ true)
-led_law true true l e = inl (refl, refl)
-led_law true false l e = inr e
-led_law false t l e = inr e
-
 led_by_fence : (k : Option Kind) (p q : ℕ) (done : Done) → is_led_as k p (Fence q ∷ done) ≡ true → ((nat_eq q p ≡ true) × (is_turned p done ≡ true)) ⊎ (is_led_as k p done ≡ true)
 led_by_fence None p q done e = inr e
-led_by_fence (Some Routed) p q done e = led_law (nat_eq q p) _ _ e
+led_by_fence (Some Routed) p q done e = added_cases (nat_eq q p) _ _ e
 led_by_fence (Some Switched) p q done e = elim (or_cases _ (list_any (switches p) done) e) [
-  | inl fenced ↦ elim (led_law (nat_eq q p) _ _ fenced) [ inl now ↦ inl now | inr before ↦ inr (or_left (is_fenced p done) _ before) ]
+  | inl fenced ↦ elim (added_cases (nat_eq q p) _ _ fenced) [ inl now ↦ inl now | inr before ↦ inr (or_left (is_fenced p done) _ before) ]
   | inr switched ↦ inr (or_right (is_fenced p done) _ switched)
 ]
 

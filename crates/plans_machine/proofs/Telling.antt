@@ -19,7 +19,7 @@ use Rattle.plans_machine.specs.Machine.{lets_out, stands_out, word_stands_out, F
 use Rattle.plans_machine.specs.Machine.Happening.{Does, Stores, Sends, Lands, Refetches}
 use Rattle.plans_machine.specs.Safe.{CanHappen, IsTold}
 use Rattle.plans_machine.specs.Rules.{takes, fills, looks, posts, tells, Done, old_holds, hand_holds, is_filled, is_blank, is_moved, is_reached, has_number, is_settled, is_looked, is_reported, lets, lets_end, lets_rest}
-use Rattle.plans_machine.proofs.BoolLaws.{or_false_right, clash, not_true, and_left, and_right, and_of, or_left, or_right, or_false, or_cases, all_at, any_at}
+use Rattle.plans_machine.proofs.BoolLaws.{or_false_right, clash, not_true, and_left, and_right, and_of, or_left, or_right, or_false, or_cases, added_cases, added_stays, all_at, any_at}
 use Rattle.plans_machine.proofs.Safety.{Kept, IsBetween, Invariant, does, between, begins, named}
 
 -- ---- what is moved for good stays so
@@ -301,15 +301,10 @@ told_now : (d : Setting) (x : Step) (z : Machine) (i : ℕ) → i / 64 < d.words
 told_now d Tell z i inside m out = or_right z.told _ (any_at (word_stands_out d z.new z.new_number) d.words (i / 64) inside (word_out d z (i / 64) i refl out))
 told_now d x z i inside m out = absurd (false≢true m)
 
-look_cases : (m s l : Bool) → (elim m [ true ↦ s || l | false ↦ l ]) ≡ true → ((m ≡ true) × (s ≡ true)) ⊎ (l ≡ true)
-look_cases true true l e = inl (refl, refl)
-look_cases true false l e = inr e
-look_cases false s l e = inr e
-
 report_cases : (m n s l r : Bool) → (elim m [ true ↦ l || r | false ↦ elim n [ true ↦ s || r | false ↦ r ] ]) ≡ true → ((m ≡ true) × (l ≡ true)) ⊎ (((n ≡ true) × (s ≡ true)) ⊎ (r ≡ true))
 report_cases true n s true r e = inl (refl, refl)
 report_cases true n s false r e = inr (inr e)
-report_cases false n s l r e = inr (look_cases n s r e)
+report_cases false n s l r e = inr (added_cases n s r e)
 
 emptied_now : (d : Setting) (s : Bank) (w : ℕ) (done : Done) (q a b k : Bool) → is_moved d s w done ≡ true → Kept (is_blank d s w done) (is_reached d s done) (hand_holds d s w done) (old_holds d s w done) (is_filled d s w done) q a b k
     → (k ≡ false) × (is_filled d s w done ≡ true)
@@ -317,18 +312,14 @@ emptied_now d s w done q a b k is v =
     let free = not_true _ (and_right (not (old_holds d s w done)) _ is) in
     (v.unheld free, v.moved (not_true _ (and_left (not (old_holds d s w done)) _ is)) free)
 
-filled_stays : (m h f : Bool) → f ≡ true → (elim m [ true ↦ h || f | false ↦ f ]) ≡ true
-filled_stays true h f e = or_right h f e
-filled_stays false h f e = e
-
 -- **A step that the rules let stand keeps what was noted.**
 pub notes : (d : Setting) (start : Machine) (done : Done) (x : Step) (z : Machine) → IsNoFence x → Guard d x done → Invariant d start done z → Noted d done z → Noted d (x ∷ done) (stepped d x z)
 notes d start done x z is guard w v = record {
   emptied = λ s i e. elim (or_cases (is_moved d s (i / 64) (x ∷ done)) _ e) [
     | inl now ↦ emptied_now d s (i / 64) (x ∷ done) _ _ _ _ now ((does d start done x z (λ rule of. guard rule) w).kept s i)
-    | inr before ↦ (still_empty d x z s i is ((w.kept s i).drained (was_drained d s (i / 64) done before)) (v.emptied s i before).0, filled_stays (fills s (i / 64) x) _ _ (v.emptied s i before).1)
+    | inr before ↦ (still_empty d x z s i is ((w.kept s i).drained (was_drained d s (i / 64) done before)) (v.emptied s i before).0, added_stays (fills s (i / 64) x) _ _ (v.emptied s i before).1)
   ];
-  looked = λ i e. elim (look_cases (looks (i / 64) x) _ _ e) [
+  looked = λ i e. elim (added_cases (looks (i / 64) x) _ _ e) [
     | inl now ↦ (let settled = settled_now d (i / 64) done now.1 in (settled_stays d (i / 64) done x guard settled, λ out. looked_now d x z i now.0 (sym (same_out d start done x z i is guard w v settled) ∙ out)))
     | inr before ↦ (let was = v.looked i before in (settled_stays d (i / 64) done x guard was.0, λ out. seen_stays d x z is (was.1 (sym (same_out d start done x z i is guard w v was.0) ∙ out))))
   ];

@@ -3,6 +3,7 @@ use Rattle.std.proofs.Common.{ap, ◌∙◌, ◌≡◌, ℕ, zero, suc, ◌+◌,
 use Rattle.plans_machine.specs.declared.step.Step.{Step}
 use Rattle.std.specs.Prelude.{slice_get, nat_eq}
 use Rattle.std.proofs.lemmas.Bool.{eqb-true}
+use Rattle.std.proofs.lemmas.Option.{same_Some}
 use Rattle.plans_machine.specs.declared.step.Place.TheVariants.{Old, New}
 use Rattle.plans_machine.specs.declared.step.Step.TheVariants as steps
 use Rattle.plans_run.specs.declared.trace.Trace.{Trace}
@@ -88,9 +89,6 @@ follows_whole producers terms plan run =
 abbrev pub IfFound : {A : Type 0} → (A → Type 0) → Option A → Type 0
 IfFound {A} P found = (x : A) → found ≡ Some x → P x
 
-pub some_inj : {A : Type 0} (a b : A) → Some a ≡ Some b → a ≡ b
-some_inj a b e = cc
-
 pub either : {A : Type 0} (P : A → Type 0) (a b : Option A) → IfFound P a → IfFound P b → IfFound P (or_else a b)
 either P None b h g = g
 either P (Some y) b h g = h
@@ -107,7 +105,7 @@ tried_loses producers terms plan run = λ x e. by_test (can_be run terms produce
     by_test : (b : Bool) → (can_be run terms producers && is_bad_end run terms (length producers) (trace_end run terms plan)) ≡ b → (x : Run) → ◌≡◌ {A = Option Run} (if b then Some run else None) (Some x) → Loses (setting_of producers terms) plan x
     by_test false is x e = absurd (cc)
     by_test true is x e =
-        subst (Loses (setting_of producers terms) plan) (some_inj run x e)
+        subst (Loses (setting_of producers terms) plan) (same_Some run x e)
         (it_loses producers terms plan run (trace_end run terms plan) (and_left _ _ is) (follows_end producers terms plan run (trace_upto run terms plan (length plan)) (unsent_upto run terms plan (length plan)) (follows_upto producers terms plan run (length plan) (omega arith))) (and_right (can_be run terms producers) _ is))
 
 without_loses : (producers : List Kind) (terms : Terms) (plan : List Step) (case : Case) → IfFound (Loses (setting_of producers terms) plan) (without_store producers terms plan case)

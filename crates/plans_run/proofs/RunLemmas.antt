@@ -20,7 +20,7 @@ use Rattle.plans_machine.specs.Machine.{Flight, Machine, Happening, landed, all_
 use Rattle.plans_machine.specs.Machine.By.{InForce as AsInForce}
 use Rattle.plans_machine.specs.Machine.Happening.{Does, Stores, Sends, Lands, Refetches}
 use Rattle.plans_machine.specs.Safe.{IsRouted, CanHappen, IsRun, IsStart, IsMoved, number_in}
-use Rattle.plans_machine.proofs.BoolLaws.{and_left, and_right, or_cases}
+use Rattle.plans_machine.proofs.BoolLaws.{not_true, and_left, and_right, or_cases}
 use Rattle.plans_run.specs.declared.trace.Case.{Case}
 use Rattle.plans_run.specs.declared.trace.Route.{Route}
 use Rattle.plans_run.specs.declared.trace.Route.TheVariants.{Written, InForce}
@@ -289,10 +289,6 @@ right_bit producers terms run Pending z t same inside m new due = sym new ∙ m.
 right_bit producers terms run Enabled z t same inside m new due =
     sym new ∙ m.enabled run.case.identity inside ∙ ap (λ u. one_bit (begins_old run.begin) u run.case.identity Enabled run.case.identity) (sym same) ∙ start_bit (begins_old run.begin) run.case.identity
 
-not_true_false : (b : Bool) → not b ≡ true → b ≡ false
-not_true_false false e = refl
-not_true_false true e = absurd (false≢true e)
-
 begun_number : (producers : List Kind) (terms : Terms) (run : Run) (from : Spot) → terms.number_from ≡ from → number_in from run.case.number (start_of (setting_of producers terms) run) ≡ 1
 begun_number producers terms run InOld e = ap (λ f. worth (same_spot f InOld)) e
 begun_number producers terms run InHand e = ap (λ f. worth (same_spot f InHand)) e
@@ -329,7 +325,7 @@ ends_badly producers terms run t z inside v bad m = elim (or_cases (is_bad_bit r
           | inr force ↦ old_new t.in_force force (sym v.in_force ∙ m.in_force run.case.producer p)
         ]
     | inr last ↦ elim (or_cases (not (trace_number terms.number_to t)) _ last) [
-      | inl number ↦ zero_one (sym (ap worth (not_true_false (trace_number terms.number_to t) number)) ∙ sym (ended_number run.case t z terms.number_to v) ∙ m.numbers run.case.number ∙ begun_number producers terms run terms.number_from refl)
+      | inl number ↦ zero_one (sym (ap worth (not_true (trace_number terms.number_to t) number)) ∙ sym (ended_number run.case t z terms.number_to v) ∙ m.numbers run.case.number ∙ begun_number producers terms run terms.number_from refl)
       | inr more ↦ elim (or_cases (is_flying_old t.flight) t.strayed more) [
         | inl flying ↦ flies_old run.case t.flight flying (subst (AllByRecursion (λ (g : Flight). g.place ≡ New)) v.flights m.flights)
         | inr strayed ↦ true_false t.strayed strayed (sym v.strayed ∙ m.strayed)

@@ -2,7 +2,7 @@
 use Rattle.std.proofs.Common.{◌≡◌, ℕ, zero, suc, ◌+◌, ◌/◌, ◌<◌, Bool, true, false, not, ◌&&◌, ◌||◌, nat_eq, nat_lt, if◌then◌else◌, length, List, [], ◌∷◌, ◌++◌, Option, Some, None, refl, sym, ap, ap₂, subst, ◌∙◌, arith}
 use Rattle.std.specs.Prelude.{get_or, slice_get}
 use Rattle.std.proofs.lemmas.Bool.{eq-eqb, ne_eqb}
-use Rattle.std.proofs.lemmas.Option.{slice_get-get_or}
+use Rattle.std.proofs.lemmas.Option.{slice_get-get_or, same_Some}
 use Rattle.plans_machine.specs.declared.step.Bank.TheVariants.{Pending}
 use Rattle.plans_machine.specs.declared.step.Place.{Place}
 use Rattle.plans_machine.specs.declared.step.Place.TheVariants.{Old, New}
@@ -13,10 +13,11 @@ use Rattle.plans_machine.specs.declared.setting.Spot.{Spot}
 use Rattle.plans_machine.specs.declared.setting.Spot.TheVariants.{InOld, InHand, InNew}
 use Rattle.plans_machine.specs.declared.setting.Terms.{Terms}
 use Rattle.plans_machine.specs.Setting.{Setting, setting_of, is_old, names}
-use Rattle.plans_machine.specs.Machine.{Machine, Sets, landed, all_landed, flights_of, flights_beside, all_happened, stepped, with_one}
+use Rattle.plans_machine.specs.Machine.{Machine, Sets, landed, all_landed, flights_of, all_happened, stepped, with_one}
 use Rattle.plans_machine.specs.Machine.Happening.{Does, Stores}
 use Rattle.plans_machine.specs.Safe.{IsStart}
-use Rattle.plans_machine.proofs.BoolLaws.{and_left, and_right, not_true, or_false}
+use Rattle.plans_machine.proofs.BoolLaws.{and_left, and_right, and_false_right, not_true, or_false}
+use Rattle.plans_machine.proofs.Exact.{still_none}
 use Rattle.plans_run.specs.declared.trace.Route.{Route}
 use Rattle.plans_run.specs.declared.trace.Route.TheVariants.{Written, InForce}
 use Rattle.plans_run.specs.declared.watch.Watch.{Watch}
@@ -28,12 +29,8 @@ use Rattle.plans_run.specs.Run.{by_of, extra_at, run_upto, step_at}
 use Rattle.plans_run.specs.Untold.{IsAlone, IsWatched, LeavesUntold, can_come, can_store, enabled_bit, extra_of, is_unstored, is_untold, pending_bit, producer_of, run_in, sees, tells, untold_end, untold_start, watch_after, watch_begun, watch_end, watch_extra, watch_landed, watch_out, watch_route, watch_stepped, watch_upto}
 use Rattle.plans_run.proofs.FollowLemmas.{follows_landed, follows_step}
 use Rattle.plans_run.proofs.RunLemmas.{MayStore, all_happened-append, below_is, happens_well, true_false}
-use Rattle.plans_run.proofs.FoundLemmas.{IfFound, either, first, some_inj}
+use Rattle.plans_run.proofs.FoundLemmas.{IfFound, either, first}
 use Rattle.plans_run.proofs.OutLemmas.{any_same, lets_same, out_same, word_same}
-
-and_false : (a b : Bool) → b ≡ false → (a && b) ≡ false
-and_false true b e = e
-and_false false b e = refl
 
 or_nothing : (b : Bool) → b ≡ (b || false)
 or_nothing true = refl
@@ -82,9 +79,9 @@ told_after producers terms u x w z inside v = v.told ∙ or_nothing w.told
 
 old_after : (producers : List Kind) (terms : Terms) (u : UntoldRun) (x : Step) (w : Watch) (z : Machine) → IsWatched u w z → IsAlone u.identity (stepped (setting_of producers terms) x z).old
 old_after producers terms u (steps.Fence p) w z v = λ j other. ap (λ (y : Machine). y.old Pending j) (fenced (setting_of producers terms) p z v.flights) ∙ v.old j other
-old_after producers terms u (steps.Zero Old s k) w z v = λ j other. and_false (not (names s k Pending (j / 64))) _ (v.old j other)
+old_after producers terms u (steps.Zero Old s k) w z v = λ j other. and_false_right (not (names s k Pending (j / 64))) _ (v.old j other)
 old_after producers terms u (steps.Zero New s k) w z v = v.old
-old_after producers terms u (steps.Take s k) w z v = λ j other. and_false (not (names s k Pending (j / 64))) _ (v.old j other)
+old_after producers terms u (steps.Take s k) w z v = λ j other. and_false_right (not (names s k Pending (j / 64))) _ (v.old j other)
 old_after producers terms u (steps.ZeroNumber Old n) w z v = v.old
 old_after producers terms u (steps.ZeroNumber New n) w z v = v.old
 old_after producers terms u x w z v = v.old
@@ -92,9 +89,9 @@ old_after producers terms u x w z v = v.old
 new_after : (producers : List Kind) (terms : Terms) (u : UntoldRun) (x : Step) (w : Watch) (z : Machine) → IsWatched u w z → IsAlone u.identity (stepped (setting_of producers terms) x z).new
 new_after producers terms u (steps.Fence p) w z v = λ j other. ap (λ (y : Machine). y.new Pending j) (fenced (setting_of producers terms) p z v.flights) ∙ v.new j other
 new_after producers terms u (steps.Zero Old s k) w z v = v.new
-new_after producers terms u (steps.Zero New s k) w z v = λ j other. and_false (not (names s k Pending (j / 64))) _ (v.new j other)
-new_after producers terms u (steps.Join s k) w z v = λ j other. or_false _ _ (and_false (names s k Pending (j / 64)) _ (v.hand j other)) (v.new j other)
-new_after producers terms u (steps.Put s k) w z v = λ j other. or_false _ _ (and_false (names s k Pending (j / 64)) _ (v.hand j other)) (and_false (not (names s k Pending (j / 64))) _ (v.new j other))
+new_after producers terms u (steps.Zero New s k) w z v = λ j other. and_false_right (not (names s k Pending (j / 64))) _ (v.new j other)
+new_after producers terms u (steps.Join s k) w z v = λ j other. or_false _ _ (and_false_right (names s k Pending (j / 64)) _ (v.hand j other)) (v.new j other)
+new_after producers terms u (steps.Put s k) w z v = λ j other. or_false _ _ (and_false_right (names s k Pending (j / 64)) _ (v.hand j other)) (and_false_right (not (names s k Pending (j / 64))) _ (v.new j other))
 new_after producers terms u (steps.ZeroNumber Old n) w z v = v.new
 new_after producers terms u (steps.ZeroNumber New n) w z v = v.new
 new_after producers terms u x w z v = v.new
@@ -103,20 +100,12 @@ hand_after : (producers : List Kind) (terms : Terms) (u : UntoldRun) (x : Step) 
 hand_after producers terms u (steps.Fence p) w z v = λ j other. ap (λ (y : Machine). y.hand Pending j) (fenced (setting_of producers terms) p z v.flights) ∙ v.hand j other
 hand_after producers terms u (steps.Zero Old s k) w z v = v.hand
 hand_after producers terms u (steps.Zero New s k) w z v = v.hand
-hand_after producers terms u (steps.Take s k) w z v = λ j other. or_false _ _ (and_false (names s k Pending (j / 64)) _ (v.old j other)) (and_false (not (names s k Pending (j / 64))) _ (v.hand j other))
-hand_after producers terms u (steps.Join s k) w z v = λ j other. and_false (not (names s k Pending (j / 64))) _ (v.hand j other)
-hand_after producers terms u (steps.Put s k) w z v = λ j other. and_false (not (names s k Pending (j / 64))) _ (v.hand j other)
+hand_after producers terms u (steps.Take s k) w z v = λ j other. or_false _ _ (and_false_right (names s k Pending (j / 64)) _ (v.old j other)) (and_false_right (not (names s k Pending (j / 64))) _ (v.hand j other))
+hand_after producers terms u (steps.Join s k) w z v = λ j other. and_false_right (not (names s k Pending (j / 64))) _ (v.hand j other)
+hand_after producers terms u (steps.Put s k) w z v = λ j other. and_false_right (not (names s k Pending (j / 64))) _ (v.hand j other)
 hand_after producers terms u (steps.ZeroNumber Old n) w z v = v.hand
 hand_after producers terms u (steps.ZeroNumber New n) w z v = v.hand
 hand_after producers terms u x w z v = v.hand
-
-flights_after : (d : Setting) (x : Step) (z : Machine) → z.flights ≡ [] → (stepped d x z).flights ≡ []
-flights_after d (steps.Fence p) z none = ap (flights_beside p) none
-flights_after d (steps.Zero Old s k) z none = none
-flights_after d (steps.Zero New s k) z none = none
-flights_after d (steps.ZeroNumber Old n) z none = none
-flights_after d (steps.ZeroNumber New n) z none = none
-flights_after d x z none = none
 
 watched_step : (producers : List Kind) (terms : Terms) (u : UntoldRun) (x : Step) (w : Watch) (z : Machine) → u.identity / 64 < terms.words → IsWatched u w z → IsWatched u (watch_after terms u.identity (producer_of u.store) x w) (stepped (setting_of producers terms) x z)
 watched_step producers terms u x w z inside v = record {
@@ -127,7 +116,7 @@ watched_step producers terms u x w z inside v = record {
   old = old_after producers terms u x w z v;
   new = new_after producers terms u x w z v;
   hand = hand_after producers terms u x w z v;
-  flights = flights_after (setting_of producers terms) x z v.flights;
+  flights = still_none (setting_of producers terms) x z v.flights;
 }
 
 -- ---- a whole run
@@ -138,7 +127,7 @@ watched_begun u = record {
   enabled = record { old = itself true; new = refl; hand = refl; due = itself true; old_number = refl; new_number = refl; hand_number = refl; written = refl; in_force = refl; flights = refl; freed = refl; strayed = refl };
   seen = refl;
   told = refl;
-  old = λ j other. and_false (is_unstored u.store) _ (ne_eqb u.identity j other);
+  old = λ j other. and_false_right (is_unstored u.store) _ (ne_eqb u.identity j other);
   new = λ j other. refl;
   hand = λ j other. refl;
   flights = refl;
@@ -246,7 +235,7 @@ tried_leaves producers terms plan u = λ x e. by_test (can_come u terms producer
     by_test false is x e = absurd (cc)
     by_test true is x e =
         let can = and_left _ _ is in
-        subst (LeavesUntold (setting_of producers terms) plan) (some_inj u x e)
+        subst (LeavesUntold (setting_of producers terms) plan) (same_Some u x e)
         (it_leaves_untold producers terms plan u (watch_end terms plan u) can (watched_whole producers terms plan u (inside_of producers terms u can)) (and_right (can_come u terms producers) _ is))
 
 delivery_leaves : (producers : List Kind) (terms : Terms) (plan : List Step) (word : ℕ) (store : Option Store) (delivery : Spot) → IfFound (LeavesUntold (setting_of producers terms) plan) (with_delivery producers terms plan word store delivery)

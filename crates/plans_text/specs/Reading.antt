@@ -14,6 +14,7 @@ use Rattle.plans_machine.specs.declared.setting.Kind.{Kind}
 use Rattle.plans_machine.specs.declared.setting.Kind.TheVariants.{Routed, Switched}
 use Rattle.plans_machine.specs.declared.setting.Spot.{Spot}
 use Rattle.plans_machine.specs.declared.setting.Spot.TheVariants.{InOld, InHand, InNew}
+use Rattle.plans_run.specs.Search.{or_else}
 use Rattle.plans_text.specs.declared.limits.TheConstants.{LINE_BYTES}
 use Rattle.plans_text.specs.declared.line.Line.{Line}
 use Rattle.plans_text.specs.declared.line.Line.TheVariants as lines
@@ -193,10 +194,6 @@ telling_named name text =
     else if bytes_eq name (codes "post") then at_end text steps.Post
     else if bytes_eq name (codes "tell") then at_end text steps.Tell
     else if bytes_eq name (codes "free") then at_end text steps.Free else None
-
-abbrev pub or_else : {A : Type 0} → Option A → Option A → Option A
-or_else None other = other
-or_else (Some x) other = Some x
 
 -- The step that a name spells with the text behind it.
 unfoldable pub step_named : Text → Text → Option Step

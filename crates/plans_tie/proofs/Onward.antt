@@ -1,17 +1,13 @@
 -- What a step more leaves as it was, of the tests by which the rules on anybody's plan are told.
-use Rattle.std.proofs.Common.{◌≡◌, ℕ, zero, suc, ◌<◌, Bool, true, false, not, ◌&&◌, ◌||◌, nat_eq, [], ◌∷◌, Option, Some, None, refl, sym, arith}
+use Rattle.std.proofs.Common.{◌≡◌, ℕ, ◌<◌, Bool, true, false, not, ◌&&◌, ◌||◌, nat_eq, [], ◌∷◌, Option, Some, None, refl, sym, arith}
 use Rattle.std.proofs.lemmas.Bool.{false≢true, eqb-true}
 use Rattle.plans_machine.specs.declared.step.Bank.{Bank}
 use Rattle.plans_machine.specs.declared.step.Step.{Step}
 use Rattle.plans_machine.specs.declared.step.Step.TheVariants.{Take, Join, Put}
-use Rattle.plans_machine.specs.Setting.{Setting, all_below, names}
+use Rattle.plans_machine.specs.Setting.{Setting, names}
 use Rattle.plans_machine.specs.Rules.{Done, turns, fences, takes, is_turned, is_fenced, is_still, old_holds, hand_holds, is_filled, is_blank}
 use Rattle.plans_machine.proofs.BoolLaws.{or_right}
 use Rattle.plans_tie.specs.Translated.{onto}
-
-pub by_bool : {A : Type 0} (b : Bool) → (b ≡ true → A) → (b ≡ false → A) → A
-by_bool true here other = here refl
-by_bool false here other = other refl
 
 pub same_number : (n : ℕ) → nat_eq n n ≡ true
 same_number n = grind arith
@@ -21,10 +17,6 @@ numbers_are_one w v e = eqb-true w v e
 
 pub no_number : {A : Type 0} {w : ℕ} → ◌≡◌ {A = Option ℕ} None (Some w) → A
 no_number e = absurd (cc)
-
-pub all_of : (passes : ℕ → Bool) (count : ℕ) → ((w : ℕ) → w < count → passes w ≡ true) → all_below passes count ≡ true
-all_of passes zero each = refl
-all_of passes (suc count) each = rw (each count (omega arith)) (all_of passes count (λ w low. each w (omega (arith, low))))
 
 -- ---- routes
 

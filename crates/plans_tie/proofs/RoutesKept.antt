@@ -2,19 +2,18 @@
 use Rattle.std.proofs.Common.{◌≡◌, ℕ, ◌<◌, Bool, true, false, not, ◌&&◌, nat_eq, [], ◌∷◌, refl, sym, ap}
 use Rattle.std.proofs.lemmas.Bool.{false≢true}
 use Rattle.aia_plan.specs.Plan.{Plan}
-use Rattle.aia_plan.specs.Rule.{is_step, stands, comes_before, own_record}
+use Rattle.aia_plan.specs.Rule.{is_step, stands, comes_before, own_record, is_record}
 use Rattle.aia_plan.specs.declared.step.Kind.{Kind}
 use Rattle.aia_plan.specs.declared.step.Kind.TheVariants as kinds
 use Rattle.aia_plan.specs.declared.step.Step.{Step as OurStep}
 use Rattle.aia_plan.specs.declared.step.Step.TheVariants.{Word0, Fence, Map, Unmap, Remap, GFence, TakeP}
-use Rattle.aia_plan.proofs.Invariant.{is_record}
 use Rattle.plans_machine.specs.declared.step.Bank.TheVariants.{Pending}
 use Rattle.plans_machine.specs.declared.rule.Rule.TheVariants.{Routes}
 use Rattle.plans_machine.specs.declared.step.Step.TheVariants as steps
 use Rattle.plans_machine.specs.Rules.{Done, is_turned, is_fenced, all_led, old_holds, lets_rest}
-use Rattle.plans_machine.proofs.BoolLaws.{and_left, and_right, and_of, or_left, or_false, not_true}
+use Rattle.plans_machine.proofs.BoolLaws.{by_case, all_of, and_left, and_right, and_of, or_left, or_false, not_true}
 use Rattle.plans_tie.specs.Translated.{access_of, onto, translated, setting_of}
-use Rattle.plans_tie.proofs.Onward.{by_bool, all_of, turned_on, fenced_on, emptied_on, emptied_now}
+use Rattle.plans_tie.proofs.Onward.{turned_on, fenced_on, emptied_on, emptied_now}
 
 -- What is known of a word: it is taken still, or is empty; and both fences come before its take.
 pub record Late (words w : ℕ) (rest : Plan) (done : Done) : Type 0 where
@@ -97,7 +96,7 @@ both_led words done e f = rw (e, f) refl
 take_led : (kind : Kind) (words v : ℕ) (later : Plan) (done : Done) → Led kind words (TakeP v ∷ later) done → (w : ℕ) → w < words → Late words w later (steps.Take Pending v ∷ done)
 take_led kind words v later done led w low =
     let late = led.late w low in
-    by_bool (nat_eq v w)
+    by_case (nat_eq v w)
     (λ same.
     let none0 = none_later Fence (TakeP w) (TakeP v) later late.fence same in
     let none1 = none_later GFence (TakeP w) (TakeP v) later late.gfence same in

@@ -11,9 +11,9 @@ use Rattle.plans_machine.specs.declared.step.Bank.TheVariants.{Pending, Enabled}
 use Rattle.plans_machine.specs.declared.rule.Rule.TheVariants.{Words}
 use Rattle.plans_machine.specs.declared.step.Step.TheVariants as steps
 use Rattle.plans_machine.specs.Rules.{Done, old_holds, hand_holds, is_filled, is_moved, lets_rest}
-use Rattle.plans_machine.proofs.BoolLaws.{false_of, and_left, and_right, and_of, not_true, or_false_left, or_false_right, clash}
+use Rattle.plans_machine.proofs.BoolLaws.{by_case, all_of, false_of, and_left, and_right, and_of, not_true, or_false_left, or_false_right, clash}
 use Rattle.plans_tie.specs.Translated.{access_of, onto, translated, setting_of}
-use Rattle.plans_tie.proofs.Onward.{by_bool, same_number, numbers_are_one, no_number, all_of, emptied_on, emptied_now, hand_beside, hand_joined, hand_put, filled_beside}
+use Rattle.plans_tie.proofs.Onward.{same_number, numbers_are_one, no_number, emptied_on, emptied_now, hand_beside, hand_joined, hand_put, filled_beside}
 
 -- What is in the hand is the word that was taken just now. A word of the enables that has come to the
 -- new place is taken no more; each is taken once, or was taken and is empty.
@@ -71,7 +71,7 @@ words_end words pending enables done p e held =
 -- a pending word is taken
 pending_taken : (words v : ℕ) (pending enables : Option ℕ) (later : Plan) (done : Done) → pending ≡ None → enables ≡ None → Held words pending enables (TakeP v ∷ later) done → Held words (Some v) None later (steps.Take Pending v ∷ done)
 pending_taken words v pending enables later done p e held = record {
-  pending_held = λ w h. by_bool (nat_eq v w) (λ same. ap Some (numbers_are_one v w same))
+  pending_held = λ w h. by_case (nat_eq v w) (λ same. ap Some (numbers_are_one v w same))
       (λ other. empty_hand pending w p (held.pending_held w (sym (hand_beside (setting_of words) Pending v w done other) ∙ h)));
   enables_held = λ w h. empty_hand enables w e (held.enables_held w h);
   filled = λ w h. ((held.filled w h).0, λ f. no_number f);
@@ -101,13 +101,13 @@ enables_taken words v pending enables later done inside p e held =
     ] in
     record {
       pending_held = λ w h. empty_hand pending w p (held.pending_held w h);
-      enables_held = λ w h. by_bool (nat_eq v w) (λ same. ap Some (numbers_are_one v w same))
+      enables_held = λ w h. by_case (nat_eq v w) (λ same. ap Some (numbers_are_one v w same))
           (λ other. empty_hand enables w e (held.enables_held w (sym (hand_beside d Enabled v w done other) ∙ h)));
       filled = λ w h.
           let was = (held.filled w h).0 in
           (never_here w (TakeE v) later was, λ f. other_word (Some v) v w refl f (not_here v w later was));
       taken = λ w f. subst (λ n. is_never (TakeE n) later ≡ true) (some_is v w f) never;
-      once = λ w low. by_bool (nat_eq v w)
+      once = λ w low. by_case (nat_eq v w)
           (λ same. inr (subst (λ n. is_never (TakeE n) later ≡ true) (numbers_are_one v w same) never, emptied_now d Enabled v w done same refl))
           (λ other. elim (held.once w low) [
             | inl once ↦ inl (once_later (nat_eq v w) (is_never (TakeE w) later) (is_once (TakeE w) later) other once)
@@ -124,7 +124,7 @@ enables_put words v pending enables later done p e held =
           let was = hand_put d Enabled v w done h in
           other_word enables v w e (held.enables_held w was.1) was.0;
       filled = λ w h. (
-        by_bool (nat_eq v w)
+        by_case (nat_eq v w)
             (λ same. subst (λ n. is_never (TakeE n) later ≡ true) (numbers_are_one v w same) (held.taken v e))
             (λ other. (held.filled w (sym (filled_beside d Enabled v w done other) ∙ h)).0),
         λ f. no_number f,
