@@ -91,9 +91,15 @@ def shapes(name):
     return shape_of(tokens_of(clauses("aia_model", "Forms", name)[0][1]))
 
 
+def names_in(group):
+    """Lists the forms of a group of the table, and those of the groups that it goes on with."""
+    for name in re.findall(r"\w+", clauses("aia_model", "Forms", group)[0][1]):
+        yield from names_in(name) if name.startswith("forms_of_") else [name]
+
+
 def all_forms():
     """Lists the texts of all forms, in the order of the table."""
-    for name in re.findall(r"\w+", clauses("aia_model", "Forms", "forms")[0][1]):
+    for name in names_in("forms"):
         right = clauses("aia_model", "Forms", name)[0][1]
         keyword, rest = re.match(r'\s*form \(codes "(\w+)"\)\s*(.*)', right, re.S).groups()
         table = tokens_of(rest)

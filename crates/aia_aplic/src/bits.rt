@@ -11,8 +11,8 @@ use aia_word::least_one;
 /// How many words of 64 sources a set has.
 const WORDS: u32 = 16;
 
-/// The sources that the root domain and its child are to forward, which can be read by counted looks
-/// at words of 64 sources alone.
+/// The sources that the root domain and its child are to forward, which can be read by counted
+/// looks at words of 64 sources alone.
 pub trait Bits {
     ghost members: { Self → DomainName → ℕ → Bool };
 
@@ -69,8 +69,8 @@ fn both_words<T: Bits>(bits: &mut T, k: u32) -> (u64, u64)
     (first, second)
 }
 
-/// Gives the domain and the bit of the lowest one of a word of the root domain and one of its child,
-/// at the same bit the root domain's; `None` where both words are 0.
+/// Gives the domain and the bit of the lowest one of a word of the root domain and one of its
+/// child, at the same bit the root domain's; `None` where both words are 0.
 fn first_of_words(first: u64, second: u64) -> Option<(DomainName, u32)>
     ensures first { IsFirstSource (has_bit first) (has_bit second) result }
     ensures small { IfSome result (λ found. found.1 < 64) }

@@ -61,7 +61,8 @@ pub extern "C" fn aia_pass(
     identity: u64,
     alloc: Global,
 ) -> i32
-    ensures { Acts handle.old.engine handle.new.engine (Line.Pass source vm number identity) result }
+    ensures { Acts handle.old.engine handle.new.engine (Line.Pass source vm number identity)
+        result }
 {
     let line = Line::Pass {
         source,
@@ -72,8 +73,8 @@ pub extern "C" fn aia_pass(
     number_of(serve(handle, &line, alloc))
 }
 
-/// Does a CSR instruction on a virtual hart, as `g VM C csrr CSR` and its kin, by the numbers of the
-/// CSR and of the instruction; the value is what was read, 0 where nothing was.
+/// Does a CSR instruction on a virtual hart, as `g VM C csrr CSR` and its kin, by the numbers of
+/// the CSR and of the instruction; the value is what was read, 0 where nothing was.
 #[unsafe(no_mangle)]
 pub extern "C" fn aia_guest_csr(
     handle: &mut Handle,

@@ -100,8 +100,8 @@ pub extern "C" fn aia_hgeip(handle: &mut Handle, hart: u64, value: &mut u64, all
     read(handle, &Line::Hgeip { hart }, value, alloc)
 }
 
-/// Does a CSR instruction on a hart, as `m H csrr CSR`, `h H csrr CSR` and their kin, by the numbers
-/// of the CSR and of the instruction; the value is what was read, 0 where nothing was.
+/// Does a CSR instruction on a hart, as `m H csrr CSR`, `h H csrr CSR` and their kin, by the
+/// numbers of the CSR and of the instruction; the value is what was read, 0 where nothing was.
 #[unsafe(no_mangle)]
 pub extern "C" fn aia_csr(
     handle: &mut Handle,

@@ -30,7 +30,8 @@ pub extern "C" fn aia_arrive(
     hart: u64,
     alloc: Global,
 ) -> i32
-    ensures { Acts handle.old.engine handle.new.engine (Line.Move vm number (Want.Arrive hart)) result }
+    ensures { Acts handle.old.engine handle.new.engine (Line.Move vm number (Want.Arrive hart))
+        result }
 {
     moves(handle, vm, number, Want::Arrive(hart), alloc)
 }
@@ -52,7 +53,8 @@ pub extern "C" fn aia_shift(
     hart: u64,
     alloc: Global,
 ) -> i32
-    ensures { Acts handle.old.engine handle.new.engine (Line.Move vm number (Want.Shift hart)) result }
+    ensures { Acts handle.old.engine handle.new.engine (Line.Move vm number (Want.Shift hart))
+        result }
 {
     moves(handle, vm, number, Want::Shift(hart), alloc)
 }
@@ -66,7 +68,8 @@ pub extern "C" fn aia_begin_arrive(
     hart: u64,
     alloc: Global,
 ) -> i32
-    ensures { Acts handle.old.engine handle.new.engine (Line.Begin vm number (Want.Arrive hart)) result }
+    ensures { Acts handle.old.engine handle.new.engine (Line.Begin vm number (Want.Arrive hart))
+        result }
 {
     begins(handle, vm, number, Want::Arrive(hart), alloc)
 }
@@ -88,7 +91,8 @@ pub extern "C" fn aia_begin_shift(
     hart: u64,
     alloc: Global,
 ) -> i32
-    ensures { Acts handle.old.engine handle.new.engine (Line.Begin vm number (Want.Shift hart)) result }
+    ensures { Acts handle.old.engine handle.new.engine (Line.Begin vm number (Want.Shift hart))
+        result }
 {
     begins(handle, vm, number, Want::Shift(hart), alloc)
 }

@@ -70,8 +70,8 @@ pub fn search<T: Looks>(looks: &mut T, threshold: u64) -> u64
     }
 }
 
-/// Gives the least of the identities of word `k`, below `FILE_WORDS`, that `live` shows, where the threshold
-/// lets it through; `None` where it holds that one back, or where there is none.
+/// Gives the least of the identities of word `k`, below `FILE_WORDS`, that `live` shows, where the
+/// threshold lets it through; `None` where it holds that one back, or where there is none.
 fn first_in_word(k: u32, live: u64, threshold: u64) -> Option<u32>
     requires { k < FILE_WORDS }
     ensures first { result ≡ least_of

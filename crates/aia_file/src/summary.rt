@@ -5,7 +5,8 @@ ghost use Rattle.aia_regs.specs.declared.limits.TheConstants.{FILE_WORDS};
 
 use aia_word::sets;
 
-/// Gives the summary of two sets, where all its bits but `k`, below `FILE_WORDS`, tell of them already.
+/// Gives the summary of two sets, where all its bits but `k`, below `FILE_WORDS`, tell of them
+/// already.
 pub(crate) fn refreshed(summary: u64, pending: &[u64], enabled: &[u64], k: usize) -> u64
     requires word { k < FILE_WORDS }
     requires others { SummarizesBothAllBut k summary (is_in pending.now) (is_in enabled.now) }

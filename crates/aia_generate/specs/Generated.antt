@@ -26,7 +26,8 @@ made_ready selects writes = selects (Write 0xc0) ∷ writes (Write 0xfffffffffff
 -- A virtual hart arrives at the hart that has its VM's number, and makes its file ready.
 abbrev pub guest_ready : ℕ → ℕ → List Line
 guest_ready vm number =
-    lines.Move vm number (wants.Arrive vm) ∷ made_ready (GuestCsr vm number Select) (GuestCsr vm number Reg)
+    lines.Move vm number (wants.Arrive vm)
+    ∷ made_ready (GuestCsr vm number Select) (GuestCsr vm number Reg)
 
 abbrev pub host_ready : ℕ → List Line
 host_ready hart = made_ready (HostCsr hart Select) (HostCsr hart Reg)
@@ -39,8 +40,8 @@ head_lines = Machine 2 2 63 8 ∷ Vm 2 0x38 0 ∷ Vm 2 0x38 1 ∷ []
 
 -- ---- the body
 
--- The MSI address of virtual hart c of a VM, in the VM's own space: by the mask of the head, 8 pages
--- lie between one and the next one, whatever lies between the files of the machine.
+-- The MSI address of virtual hart c of a VM, in the VM's own space: by the mask of the head, 8
+-- pages lie between one and the next one, whatever lies between the files of the machine.
 abbrev pub own_address : ℕ → ℕ
 own_address c = PATTERN * PAGE + c * OWN_STRIDE
 

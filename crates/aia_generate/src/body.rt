@@ -7,8 +7,8 @@ use aia_model::{Line, Want};
 use aia_regs::address_map::{PAGE, PATTERN};
 use aia_regs::{Csr, Op};
 
-/// The bytes from the MSI address of one virtual hart of a generated VM to the next one's: the lowest
-/// one of the mask is at bit 3.
+/// The bytes from the MSI address of one virtual hart of a generated VM to the next one's: the
+/// lowest one of the mask is at bit 3.
 pub const OWN_STRIDE: u64 = 8 * PAGE;
 
 /// Gives the number after `x` in the sequence: one turn of a linear congruential generator, modulo

@@ -252,7 +252,8 @@ pub data Spelling : Type 0 where
 
 -- The form of a line, and its values there.
 abbrev pub spelling : Line → Spelling
-spelling (lines.Machine harts guests n sources) = Spelled machine (harts, (guests, (n, (sources, tt))))
+spelling (lines.Machine harts guests n sources) =
+    Spelled machine (harts, (guests, (n, (sources, tt))))
 spelling (lines.Vm vcpus mask hart) = Spelled vm (vcpus, (mask, (hart, tt)))
 spelling (lines.Wire source level) = Spelled wire (source, (level, tt))
 spelling (lines.Load addr) = Spelled load (addr, tt)

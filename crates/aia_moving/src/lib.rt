@@ -1,5 +1,5 @@
-//! A move under way, as a value: who is moved, where that one stands, and what is carried; what each
-//! access of a plan makes of the world and of the move, and lemmas on that.
+//! A move under way, as a value: who is moved, where that one stands, and what is carried; what
+//! each access of a plan makes of the world and of the move, and lemmas on that.
 #![tactic(auto)]
 
 mod turn;

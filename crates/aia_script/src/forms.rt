@@ -61,7 +61,8 @@ macro_rules! machines {
         $take! { $args $($rows)*
             b"inject" [vm: Decimal, number: Decimal, bit: Decimal, level: Bit]
                 (Line::Inject { vm, number, bit, level })
-            b"hvictl" [vm: Decimal, number: Decimal, value: Hex] (Line::Hvictl { vm, number, value })
+            b"hvictl" [vm: Decimal, number: Decimal, value: Hex]
+                (Line::Hvictl { vm, number, value })
             b"hviprio" [vm: Decimal, number: Decimal, value: Hex]
                 (Line::Hviprio { vm, number, value })
             b"save" [vm: Decimal, number: Decimal, k: Decimal] (Line::Save { vm, number, k })
@@ -160,7 +161,8 @@ fn begin_at(words: &mut Words<'_>) -> Option<Line>
 /// they spell none.
 #[inline(always)]
 fn load_part_of(vm: u64, number: u64, words: &mut Words<'_>) -> Option<Line>
-    ensures { result ≡ read part_shape (λ values. Line.LoadPart vm number (part values)) (left words.old) }
+    ensures { result
+        ≡ read part_shape (λ values. Line.LoadPart vm number (part values)) (left words.old) }
 {
     let part = part_at(words)?;
     Some(Line::LoadPart { vm, number, part })
@@ -176,8 +178,8 @@ fn load_part_at(words: &mut Words<'_>) -> Option<Line>
     load_part_of(vm, number, words)
 }
 
-/// Reads the line that the words after a keyword spell, of what a machine and the hypervisor set and
-/// show; `None` where they spell none.
+/// Reads the line that the words after a keyword spell, of what a machine and the hypervisor set
+/// and show; `None` where they spell none.
 #[inline(always)]
 fn machine_line(keyword: &[u8], words: &mut Words<'_>) -> Option<Line>
     ensures { result ≡ line_among forms_of_machines keyword.now (left words.old) }
@@ -299,8 +301,8 @@ fn push_hgeip(out: &mut ArrayVec<u8, LINE_BYTES>, hart: u64)
     push_text(out, b" hgeip");
 }
 
-/// Appends `load` and a part to `out`, which is empty. The numbers of the part are in range by their
-/// types.
+/// Appends `load` and a part to `out`, which is empty. The numbers of the part are in range by
+/// their types.
 #[tactic(auto, unfolding(aia_model::specs::Printing::line_text), using(crate::proofs::PrintLemmas::joined_part))]
 fn push_load(out: &mut ArrayVec<u8, LINE_BYTES>, vm: u64, number: u64, part: Part)
     requires { out.old.items ≡ [] }

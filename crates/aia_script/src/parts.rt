@@ -19,7 +19,8 @@ macro_rules! parts {
     ($take:ident $args:tt) => {
         $take! { $args
             b"image"
-                [version: Decimal32, n: Decimal32, delivery: Bit, threshold: Decimal32, select: Hex16]
+                [version: Decimal32, n: Decimal32, delivery: Bit, threshold: Decimal32,
+                    select: Hex16]
                 (Part::Image { version, n, delivery, threshold, select })
             b"majors" [injected: Hex16, enabled: Hex16] (Part::Majors { injected, enabled })
             b"prio" [hviprio: Hex16, hvictl: Hex16] (Part::Prio { hviprio, hvictl })

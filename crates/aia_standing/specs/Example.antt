@@ -149,7 +149,9 @@ entry_words = entry_word 0 (Some stayer_file) ∷ second_word 0 0
 
 -- Memory: the slots, which are empty, the two entries, and 0 after them.
 abbrev pub example_memory : List ℕ
-example_memory = replicate WORDS_OF_SLOTS 0 ++ entry_words ++ replicate (MEMORY_WORDS - WORDS_OF_SLOTS - length entry_words) 0
+example_memory =
+    replicate WORDS_OF_SLOTS 0 ++ entry_words
+    ++ replicate (MEMORY_WORDS - WORDS_OF_SLOTS - length entry_words) 0
 
 -- The VM's table, with both entries in force as they are written.
 abbrev pub example_table : TableState

@@ -19,4 +19,8 @@ passed = Accepted (lines.Pass 1 0 0 5) ∷ made
 
 -- Its sources, as moves see them, by the target of the first.
 abbrev pub one_ready : ℕ → TargetMap
-one_ready t = record { harts = 1; target = λ s. if nat_eq s 1 then t else 0; ready = λ s. nat_eq s 1 }
+one_ready t = record {
+  harts = 1;
+  target = λ s. if nat_eq s 1 then t else 0;
+  ready = λ s. nat_eq s 1;
+}

@@ -7,8 +7,8 @@ use aia_regs::limits::SOURCE_WORDS;
 use aia_word::sets;
 use std::marker::Model;
 
-/// A set of wired sources in words of 64 bits, by their numbers, up to `SOURCES`: source `s` is bit `s %
-/// 64` of word `s / 64`.
+/// A set of wired sources in words of 64 bits, by their numbers, up to `SOURCES`: source `s` is bit
+/// `s % 64` of word `s / 64`.
 #[derive(Drop)]
 pub struct ReadyBits {
     words: [u64; SOURCE_WORDS],
@@ -26,7 +26,8 @@ impl Model for ReadyBits {
 
     ghost view = { λ r. r.words };
 
-    ghost invariant = { λ r. (length r.words ≡ SOURCE_WORDS) × Summarizes r.summary (is_in r.words) };
+    ghost invariant = { λ r. (length r.words ≡ SOURCE_WORDS)
+        × Summarizes r.summary (is_in r.words) };
 }
 
 impl ReadyBits {

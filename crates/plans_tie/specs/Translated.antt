@@ -12,7 +12,8 @@ use Rattle.plans_machine.specs.Setting.{Setting}
 
 -- The access that a step makes. Producer 0 is the devices, whose route is the entry; producer 1 the
 -- other virtual harts, whose route is the G-stage record. There is none where the step is about
--- delivery, the threshold or where notices go, of which the rule on plans of our shape says nothing.
+-- delivery, the threshold or where notices go, of which the rule on plans of our shape says
+-- nothing.
 abbrev pub access_of : OurStep → Option Step
 access_of ours.Word0 = Some (Route 0)
 access_of ours.Fence = Some (Fence 0)
