@@ -79,6 +79,14 @@ fn one_that_fails_after_that_leaves_its_answer(rt: HostRuntime) -> Result<(), Fa
     Ok(())
 }
 
+/// One that read on before it wrote would end by the source's failure.
+#[test]
+fn a_plan_is_answered_before_the_next_read(rt: HostRuntime) -> Result<(), Fail> {
+    let ended = judged(rt.alloc(), &["judge"], Failing { read: 4, write: 1 })?;
+    assert!(rt; ended.status == Status::WriteFault);
+    Ok(())
+}
+
 #[test]
 fn a_sink_that_fails_is_told(rt: HostRuntime) -> Result<(), Fail> {
     let ended = judged(rt.alloc(), &["judge"], Failing { read: 0, write: 1 })?;
