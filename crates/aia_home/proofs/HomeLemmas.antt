@@ -24,12 +24,11 @@ some_same p q e = let same : p ≡ q = cc in subst (λ (r : Place). is_place r p
 -- ---- it holds the files that it has
 
 pub own_is_held : (there : Home) (p : Place) → own_file there ≡ Some p → holds p there ≡ true
-own_is_held Parked p e = absurd (cc)
-own_is_held Entered p e = absurd (cc)
 own_is_held (Resident q) p e = some_same q p e
 own_is_held (Leaving from at) p e = some_same from p e
 own_is_held (Arriving to at) p e = some_same to p e
 own_is_held (Shifting from to at) p e = or_left (is_place p from) (is_place p to) (some_same from p e)
+own_is_held there p e = absurd (cc)
 
 pub next_is_held : (there : Home) (p : Place) → next_file there ≡ Some p → holds p there ≡ true
 next_is_held (Shifting from to at) p e = or_right (is_place p from) (is_place p to) (some_same to p e)
@@ -55,11 +54,7 @@ landing_is_held words there reach p (inr m) e = new_is_held there p (sym m.0 ∙
 
 pub entering_keeps : (P : Home → Type 0) → (P Parked → P Entered) → (there : Home) → P there → P (entering there)
 entering_keeps P same Parked p = same p
-entering_keeps P same Entered p = p
-entering_keeps P same (Resident q) p = p
-entering_keeps P same (Leaving from at) p = p
-entering_keeps P same (Arriving to at) p = p
-entering_keeps P same (Shifting from to at) p = p
+entering_keeps P same there p = p
 
 pub exiting_keeps : (P : Home → Type 0) → (P Entered → P Parked) → (there : Home) → P there → P (exiting there)
 exiting_keeps P same Parked p = p

@@ -4,7 +4,7 @@ use Rattle.std.proofs.lemmas.Bool.{cases_Bool, and_parts, and_from}
 use Rattle.std.proofs.lemmas.Bool.Decides.{nat_tests}
 use Rattle.aia_home.specs.declared.place.Place.{Place}
 use Rattle.aia_home.specs.Home.{Home, is_moving, ended, one_more, leaving, arriving, shifting}
-use Rattle.aia_home.specs.Home.Home.{Parked, Entered, Resident, Leaving, Arriving, Shifting}
+use Rattle.aia_home.specs.Home.Home.{Parked, Resident, Leaving, Arriving, Shifting}
 use Rattle.aia_home.specs.Plans.{is_at_last, stepped, leave_step, arrive_step, shift_step}
 use Rattle.aia_home.specs.Plans.Access.{TakePending}
 use Rattle.aia_home.specs.BySteps.{new_file, is_drained}
@@ -15,36 +15,24 @@ use Rattle.aia_home.proofs.RouteLemmas.{reach_kept, stepped_by, stage_by_stepped
 -- ---- a step that aims is no fence, and leaves all routes as they were
 
 pub aim_is_no_fence : (passes : ℕ) (there : Home) → is_aiming passes there ≡ true → is_at_fence there ≡ false
-aim_is_no_fence passes Parked e = refl
-aim_is_no_fence passes Entered e = refl
-aim_is_no_fence passes (Resident p) e = refl
 aim_is_no_fence passes (Leaving from at) e = let here : nat_eq at.steps (leave_step 0 (TakePending 0)) ≡ true = (and_parts _ _ e).0 in grind (arith, nat_tests)
 aim_is_no_fence passes (Arriving to at) e = let here : nat_eq at.steps (arrive_step 0 (TakePending 0)) ≡ true = (and_parts _ _ e).0 in grind (arith, nat_tests)
 aim_is_no_fence passes (Shifting from to at) e = let here : nat_eq at.steps (shift_step 0 (TakePending 0)) ≡ true = (and_parts _ _ e).0 in grind (arith, nat_tests)
+aim_is_no_fence passes there e = refl
 
 aim_is_closed : (passes : ℕ) (there : Home) → is_aiming passes there ≡ true → is_closed there ≡ true
-aim_is_closed passes Parked e = absurd (cc)
-aim_is_closed passes Entered e = absurd (cc)
-aim_is_closed passes (Resident p) e = absurd (cc)
 aim_is_closed passes (Leaving from at) e = let here : nat_eq at.steps (leave_step 0 (TakePending 0)) ≡ true = (and_parts _ _ e).0 in grind (arith, nat_tests)
 aim_is_closed passes (Arriving to at) e = let here : nat_eq at.steps (arrive_step 0 (TakePending 0)) ≡ true = (and_parts _ _ e).0 in grind (arith, nat_tests)
 aim_is_closed passes (Shifting from to at) e = let here : nat_eq at.steps (shift_step 0 (TakePending 0)) ≡ true = (and_parts _ _ e).0 in grind (arith, nat_tests)
+aim_is_closed passes there e = absurd (cc)
 
 pub aimed_reach : (there : Home) (place : Option Place) → MayReach there place → MayReach (aimed there) place
-aimed_reach Parked place m = m
-aimed_reach Entered place m = m
-aimed_reach (Resident p) place m = m
 aimed_reach (Leaving from at) place m = m
-aimed_reach (Arriving to at) place m = m
-aimed_reach (Shifting from to at) place m = m
+aimed_reach there place m = m
 
 aimed_by_table : (there : Home) (r : Bool) → devices_by r (aimed there) ≡ devices_by r there
-aimed_by_table Parked r = refl
-aimed_by_table Entered r = refl
-aimed_by_table (Resident p) r = refl
 aimed_by_table (Leaving from at) r = refl
-aimed_by_table (Arriving to at) r = refl
-aimed_by_table (Shifting from to at) r = refl
+aimed_by_table there r = refl
 
 pub further_kept : (passes words : ℕ) (there : Home) (place : Option Place) → MayReach there place → MayReach (further passes words there) (reach_stepped there place)
 further_kept passes words there place m = by_aim (is_aiming passes there) refl
@@ -65,20 +53,14 @@ further_by passes words there r reach e = by_aim (is_aiming passes there) refl
 
 -- nor is it the fence of the G-stage record, which is made
 aim_is_no_gfence : (passes : ℕ) (there : Home) → is_aiming passes there ≡ true → is_at_gfence there ≡ false
-aim_is_no_gfence passes Parked e = refl
-aim_is_no_gfence passes Entered e = refl
-aim_is_no_gfence passes (Resident p) e = refl
 aim_is_no_gfence passes (Leaving from at) e = let here : nat_eq at.steps (leave_step 0 (TakePending 0)) ≡ true = (and_parts _ _ e).0 in grind (arith, nat_tests)
 aim_is_no_gfence passes (Arriving to at) e = let here : nat_eq at.steps (arrive_step 0 (TakePending 0)) ≡ true = (and_parts _ _ e).0 in grind (arith, nat_tests)
 aim_is_no_gfence passes (Shifting from to at) e = let here : nat_eq at.steps (shift_step 0 (TakePending 0)) ≡ true = (and_parts _ _ e).0 in grind (arith, nat_tests)
+aim_is_no_gfence passes there e = refl
 
 aimed_stage : (there : Home) → peers_reach (aimed there) ≡ peers_reach there
-aimed_stage Parked = refl
-aimed_stage Entered = refl
-aimed_stage (Resident p) = refl
 aimed_stage (Leaving from at) = refl
-aimed_stage (Arriving to at) = refl
-aimed_stage (Shifting from to at) = refl
+aimed_stage there = refl
 
 pub stage_by_further : (passes words : ℕ) (there : Home) → stage_stepped there (peers_reach there) ≡ peers_reach (further passes words there)
 stage_by_further passes words there = by_aim (is_aiming passes there) refl
@@ -93,36 +75,22 @@ further_on passes words there e = rw e refl
 -- ---- the two counts
 
 pub rest_aimed : (passes : ℕ) (there : Home) → is_moving there ≡ false → AreAimed passes there
-rest_aimed passes Parked e = record { late = λ e. absurd (cc); all = λ e. absurd (cc) }
-rest_aimed passes Entered e = record { late = λ e. absurd (cc); all = λ e. absurd (cc) }
-rest_aimed passes (Resident p) e = record { late = λ e. absurd (cc); all = λ e. absurd (cc) }
 rest_aimed passes (Leaving from at) e = absurd (cc)
 rest_aimed passes (Arriving to at) e = absurd (cc)
 rest_aimed passes (Shifting from to at) e = absurd (cc)
+rest_aimed passes there e = record { late = λ e. absurd (cc); all = λ e. absurd (cc) }
 
 pub leaving_aimed : (passes : ℕ) (there : Home) → AreAimed passes there → AreAimed passes (leaving there)
 leaving_aimed passes (Resident p) a = record { late = λ e. absurd (cc); all = λ e. absurd (cc) }
-leaving_aimed passes Parked a = a
-leaving_aimed passes Entered a = a
-leaving_aimed passes (Leaving from at) a = a
-leaving_aimed passes (Arriving to at) a = a
-leaving_aimed passes (Shifting from to at) a = a
+leaving_aimed passes there a = a
 
 pub arriving_aimed : (passes : ℕ) (q : Place) (there : Home) → AreAimed passes there → AreAimed passes (arriving q there)
 arriving_aimed passes q Parked a = record { late = λ e. absurd (cc); all = λ e. absurd (cc) }
-arriving_aimed passes q Entered a = a
-arriving_aimed passes q (Resident p) a = a
-arriving_aimed passes q (Leaving from at) a = a
-arriving_aimed passes q (Arriving to at) a = a
-arriving_aimed passes q (Shifting from to at) a = a
+arriving_aimed passes q there a = a
 
 pub shifting_aimed : (passes : ℕ) (q : Place) (there : Home) → AreAimed passes there → AreAimed passes (shifting q there)
 shifting_aimed passes q (Resident p) a = record { late = λ e. absurd (cc); all = λ e. absurd (cc) }
-shifting_aimed passes q Parked a = a
-shifting_aimed passes q Entered a = a
-shifting_aimed passes q (Leaving from at) a = a
-shifting_aimed passes q (Arriving to at) a = a
-shifting_aimed passes q (Shifting from to at) a = a
+shifting_aimed passes q there a = a
 
 -- over plain numbers: t is the first take, k the steps done, a the aims, of `passes`
 record Counts (passes t k a : ℕ) : Type 0 where
@@ -149,28 +117,22 @@ count_aim passes t k a here = let at : nat_eq k t ≡ true = (and_parts _ _ here
 }
 
 ended_aimed : (passes : ℕ) (there : Home) → AreAimed passes there → AreAimed passes (ended there)
-ended_aimed passes Parked a = a
-ended_aimed passes Entered a = a
-ended_aimed passes (Resident p) a = a
 ended_aimed passes (Leaving from at) a = rest_aimed passes Parked refl
 ended_aimed passes (Arriving to at) a = rest_aimed passes (Resident to) refl
 ended_aimed passes (Shifting from to at) a = rest_aimed passes (Resident to) refl
+ended_aimed passes there a = a
 
 one_more_aimed : (passes : ℕ) (there : Home) → is_aiming passes there ≡ false → AreAimed passes there → AreAimed passes (one_more there)
-one_more_aimed passes Parked e a = a
-one_more_aimed passes Entered e a = a
-one_more_aimed passes (Resident p) e a = a
 one_more_aimed passes (Leaving from at) e a = let c = count_on passes (leave_step 0 (TakePending 0)) at.steps at.aims e (record { late = a.late; all = a.all }) in record { late = c.late; all = c.all }
 one_more_aimed passes (Arriving to at) e a = let c = count_on passes (arrive_step 0 (TakePending 0)) at.steps at.aims e (record { late = a.late; all = a.all }) in record { late = c.late; all = c.all }
 one_more_aimed passes (Shifting from to at) e a = let c = count_on passes (shift_step 0 (TakePending 0)) at.steps at.aims e (record { late = a.late; all = a.all }) in record { late = c.late; all = c.all }
+one_more_aimed passes there e a = a
 
 aimed_aimed : (passes : ℕ) (there : Home) → is_aiming passes there ≡ true → AreAimed passes (aimed there)
-aimed_aimed passes Parked e = absurd (cc)
-aimed_aimed passes Entered e = absurd (cc)
-aimed_aimed passes (Resident p) e = absurd (cc)
 aimed_aimed passes (Leaving from at) e = let c = count_aim passes (leave_step 0 (TakePending 0)) at.steps at.aims e in record { late = c.late; all = c.all }
 aimed_aimed passes (Arriving to at) e = let c = count_aim passes (arrive_step 0 (TakePending 0)) at.steps at.aims e in record { late = c.late; all = c.all }
 aimed_aimed passes (Shifting from to at) e = let c = count_aim passes (shift_step 0 (TakePending 0)) at.steps at.aims e in record { late = c.late; all = c.all }
+aimed_aimed passes there e = absurd (cc)
 
 pub further_aimed : (passes words : ℕ) (there : Home) → AreAimed passes there → AreAimed passes (further passes words there)
 further_aimed passes words there a = by_aim (is_aiming passes there) refl
@@ -196,18 +158,15 @@ over passes r t k a old new below first c = elim (cases_Bool (nat_lt r a)) [
 ]
 
 pub pass_lands : (passes words r : ℕ) (there : Home) → nat_lt r passes ≡ true → AreAimed passes there → MayLand words there (pass_reaches r there)
-pass_lands passes words r Parked below a = let e : nat_lt r 0 ≡ false = grind (arith, nat_tests) in inl (ap (λ b. if b then None else None) e, refl)
-pass_lands passes words r Entered below a = let e : nat_lt r 0 ≡ false = grind (arith, nat_tests) in inl (ap (λ b. if b then None else None) e, refl)
 pass_lands passes words r (Resident p) below a = let e : nat_lt r 0 ≡ false = grind (arith, nat_tests) in inl (ap (λ b. if b then None else Some p) e, refl)
 pass_lands passes words r (Leaving from at) below a = over passes r (leave_step 0 (TakePending 0)) at.steps at.aims (Some from) None below refl (record { late = a.late; all = a.all })
 pass_lands passes words r (Arriving to at) below a = over passes r (arrive_step 0 (TakePending 0)) at.steps at.aims None (Some to) below refl (record { late = a.late; all = a.all })
 pass_lands passes words r (Shifting from to at) below a = over passes r (shift_step 0 (TakePending 0)) at.steps at.aims (Some from) (Some to) below refl (record { late = a.late; all = a.all })
+pass_lands passes words r there below a = let e : nat_lt r 0 ≡ false = grind (arith, nat_tests) in inl (ap (λ b. if b then None else None) e, refl)
 
 -- once a word is taken, each pass leads to the new place
 pub pass_drained : (passes words w r : ℕ) (there : Home) → nat_lt r passes ≡ true → AreAimed passes there → is_moving there ≡ true → is_drained words there w ≡ true → pass_reaches r there ≡ new_file there
-pass_drained passes words w r Parked below a moves drained = absurd (cc)
-pass_drained passes words w r Entered below a moves drained = absurd (cc)
-pass_drained passes words w r (Resident p) below a moves drained = absurd (cc)
 pass_drained passes words w r (Leaving from at) below a moves drained = let all = a.all (grind (arith, nat_tests)) in let e : nat_lt r at.aims ≡ true = grind (arith, nat_tests) in ap (λ b. if b then None else Some from) e
 pass_drained passes words w r (Arriving to at) below a moves drained = let all = a.all (grind (arith, nat_tests)) in let e : nat_lt r at.aims ≡ true = grind (arith, nat_tests) in ap (λ b. if b then Some to else None) e
 pass_drained passes words w r (Shifting from to at) below a moves drained = let all = a.all (grind (arith, nat_tests)) in let e : nat_lt r at.aims ≡ true = grind (arith, nat_tests) in ap (λ b. if b then Some to else Some from) e
+pass_drained passes words w r there below a moves drained = absurd (cc)

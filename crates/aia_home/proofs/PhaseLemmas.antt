@@ -3,7 +3,7 @@ use Rattle.std.proofs.Common.{◌≡◌, ℕ, ◌+◌, ◌<◌, true, false, Opt
 use Rattle.std.proofs.lemmas.Bool.Decides.{nat_tests}
 use Rattle.aia_home.specs.declared.place.Place.{Place}
 use Rattle.aia_home.specs.Home.{Home, is_moving}
-use Rattle.aia_home.specs.Home.Home.{Parked, Entered, Resident, Leaving, Arriving, Shifting}
+use Rattle.aia_home.specs.Home.Home.{Leaving, Arriving, Shifting}
 use Rattle.aia_home.specs.Plans.{is_carried, steps_done, pending_step, enables_step}
 use Rattle.aia_home.specs.Plans.Access.{TakePending, TakeEnables}
 use Rattle.aia_home.specs.Phases.{has_come}
@@ -13,20 +13,16 @@ use Rattle.aia_home.specs.Routes.{is_closed, is_stage_closed, MayReach}
 
 -- the word that is carried was taken by the last step
 pub carried_pending : (words w : ℕ) (there : Home) → is_carried words there (TakePending w) ≡ true → steps_done there ≡ pending_step there w + 1
-carried_pending words w Parked e = absurd (cc)
-carried_pending words w Entered e = absurd (cc)
-carried_pending words w (Resident p) e = absurd (cc)
 carried_pending words w (Leaving from at) e = grind (arith, nat_tests)
 carried_pending words w (Arriving to at) e = grind (arith, nat_tests)
 carried_pending words w (Shifting from to at) e = grind (arith, nat_tests)
+carried_pending words w there e = absurd (cc)
 
 pub carried_enables : (words w : ℕ) (there : Home) → is_carried words there (TakeEnables w) ≡ true → steps_done there ≡ enables_step words there w + 1
-carried_enables words w Parked e = absurd (cc)
-carried_enables words w Entered e = absurd (cc)
-carried_enables words w (Resident p) e = absurd (cc)
 carried_enables words w (Leaving from at) e = grind (arith, nat_tests)
 carried_enables words w (Arriving to at) e = grind (arith, nat_tests)
 carried_enables words w (Shifting from to at) e = grind (arith, nat_tests)
+carried_enables words w there e = absurd (cc)
 
 -- where the entry is closed, what may be in force leads to the new place
 pub closed_reach : (there : Home) (place : Option Place) → is_closed there ≡ true → MayReach there place → place ≡ new_file there
@@ -34,52 +30,40 @@ closed_reach there place closed (inl p) = let no : true ≡ false = sym closed �
 closed_reach there place closed (inr p) = p.0
 
 pub closing_closed : (words : ℕ) (there : Home) → is_moving there ≡ true → has_come words there ClosingPhase ≡ true → is_closed there ≡ true
-closing_closed words Parked moves come = absurd (cc)
-closing_closed words Entered moves come = absurd (cc)
-closing_closed words (Resident p) moves come = absurd (cc)
 closing_closed words (Leaving from at) moves come = grind (arith, nat_tests)
 closing_closed words (Arriving to at) moves come = grind (arith, nat_tests)
 closing_closed words (Shifting from to at) moves come = grind (arith, nat_tests)
+closing_closed words there moves come = absurd (cc)
 
 pub drain_closed : (words : ℕ) (there : Home) → is_moving there ≡ true → has_come words there DrainPhase ≡ true → (is_closed there ≡ true) × (is_stage_closed there ≡ true)
-drain_closed words Parked moves come = absurd (cc)
-drain_closed words Entered moves come = absurd (cc)
-drain_closed words (Resident p) moves come = absurd (cc)
 drain_closed words (Leaving from at) moves come = (grind (arith, nat_tests), grind (arith, nat_tests))
 drain_closed words (Arriving to at) moves come = (grind (arith, nat_tests), grind (arith, nat_tests))
 drain_closed words (Shifting from to at) moves come = (grind (arith, nat_tests), grind (arith, nat_tests))
+drain_closed words there moves come = absurd (cc)
 
 pub enable_drained : (words w : ℕ) (there : Home) → is_moving there ≡ true → w < words → has_come words there EnablePhase ≡ true
     → (is_drained words there w ≡ true) × (is_carried words there (TakePending w) ≡ false)
-enable_drained words w Parked moves low come = absurd (cc)
-enable_drained words w Entered moves low come = absurd (cc)
-enable_drained words w (Resident p) moves low come = absurd (cc)
 enable_drained words w (Leaving from at) moves low come = (grind (arith, nat_tests), grind (arith, nat_tests))
 enable_drained words w (Arriving to at) moves low come = (grind (arith, nat_tests), grind (arith, nat_tests))
 enable_drained words w (Shifting from to at) moves low come = (grind (arith, nat_tests), grind (arith, nat_tests))
+enable_drained words w there moves low come = absurd (cc)
 
 pub looks_moved : (words w : ℕ) (there : Home) → is_moving there ≡ true → w < words → has_come words there LookPhase ≡ true
     → (is_disabled words there w ≡ true) × (is_enabled_moved words there w ≡ true)
-looks_moved words w Parked moves low come = absurd (cc)
-looks_moved words w Entered moves low come = absurd (cc)
-looks_moved words w (Resident p) moves low come = absurd (cc)
 looks_moved words w (Leaving from at) moves low come = (grind (arith, nat_tests), grind (arith, nat_tests))
 looks_moved words w (Arriving to at) moves low come = (grind (arith, nat_tests), grind (arith, nat_tests))
 looks_moved words w (Shifting from to at) moves low come = (grind (arith, nat_tests), grind (arith, nat_tests))
+looks_moved words w there moves low come = absurd (cc)
 
 -- a phase comes after those before it
 pub after_enable : (words : ℕ) (there : Home) → is_moving there ≡ true → has_come words there LookPhase ≡ true → has_come words there EnablePhase ≡ true
-after_enable words Parked moves come = absurd (cc)
-after_enable words Entered moves come = absurd (cc)
-after_enable words (Resident p) moves come = absurd (cc)
 after_enable words (Leaving from at) moves come = grind (arith, nat_tests)
 after_enable words (Arriving to at) moves come = grind (arith, nat_tests)
 after_enable words (Shifting from to at) moves come = grind (arith, nat_tests)
+after_enable words there moves come = absurd (cc)
 
 pub after_looks : (words : ℕ) (there : Home) → is_moving there ≡ true → has_come words there LastPhase ≡ true → has_come words there LookPhase ≡ true
-after_looks words Parked moves come = absurd (cc)
-after_looks words Entered moves come = absurd (cc)
-after_looks words (Resident p) moves come = absurd (cc)
 after_looks words (Leaving from at) moves come = grind (arith, nat_tests)
 after_looks words (Arriving to at) moves come = come
 after_looks words (Shifting from to at) moves come = come
+after_looks words there moves come = absurd (cc)

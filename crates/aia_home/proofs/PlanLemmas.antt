@@ -4,7 +4,7 @@ use Rattle.std.specs.Prelude.{slice_get, nat_lt}
 use Rattle.std.proofs.lemmas.Bool.{ltb-true}
 use Rattle.aia_home.specs.Home.{Home}
 use Rattle.aia_home.specs.Plans.{leave_steps, arrive_steps, shift_steps, Access, each_word, all_words, leave_plan, arrive_plan, shift_plan, plan_of, is_in_leave, is_in_arrive, is_in_shift, leave_step, arrive_step, shift_step, has_access, step_of, next_access, IsNext}
-use Rattle.aia_home.specs.Home.Home.{Parked, Entered, Resident, Leaving, Arriving, Shifting}
+use Rattle.aia_home.specs.Home.Home.{Leaving, Arriving, Shifting}
 use Rattle.aia_home.specs.Plans.Access.{TakeDelivery, PutDelivery, WriteNotice, WriteEntry, Fence, Map, GFence, TakePending, PutPending, TakeEnables, PutEnables, Look, TakeThreshold, PutThreshold, Post}
 
 -- ---- what stands at a place of a list
@@ -191,12 +191,10 @@ shift_agrees words (Look w) has = absurd (cc)
 shift_agrees words Post has = absurd (cc)
 
 pub plan_agrees : (words : ℕ) (there : Home) (access : Access) → has_access words there access ≡ true → slice_get (plan_of words there) (step_of words there access) ≡ Some access
-plan_agrees words Parked access has = absurd (cc)
-plan_agrees words Entered access has = absurd (cc)
-plan_agrees words (Resident p) access has = absurd (cc)
 plan_agrees words (Leaving from at) access has = leave_agrees words access has
 plan_agrees words (Arriving to at) access has = arrive_agrees words access has
 plan_agrees words (Shifting from to at) access has = shift_agrees words access has
+plan_agrees words there access has = absurd (cc)
 
 pub next_in_plan : (words : ℕ) (there : Home) (access : Access) → IsNext words there access → next_access words there ≡ Some access
 next_in_plan words there access next = ap (λ k. slice_get (plan_of words there) k) next.step ∙ plan_agrees words there access next.has

@@ -21,44 +21,32 @@ pub fence_here : (there : Home) → FenceIn 0 there → is_at_fence there ≡ tr
 fence_here (Leaving from at) e = eq-eqb at.steps (leave_step 0 Fence) (omega (arith, e))
 fence_here (Arriving to at) e = eq-eqb at.steps (arrive_step 0 Fence) (omega (arith, e))
 fence_here (Shifting from to at) e = eq-eqb at.steps (shift_step 0 Fence) (omega (arith, e))
-fence_here Parked e = absurd e
-fence_here Entered e = absurd e
-fence_here (Resident p) e = absurd e
+fence_here there e = absurd e
 
 pub fence_later : (count : ℕ) (there : Home) → FenceIn (suc count) there → is_at_fence there ≡ false
 fence_later count (Leaving from at) e = ne_eqb at.steps (leave_step 0 Fence) (λ same. absurd (omega (arith, e, same)))
 fence_later count (Arriving to at) e = ne_eqb at.steps (arrive_step 0 Fence) (λ same. absurd (omega (arith, e, same)))
 fence_later count (Shifting from to at) e = ne_eqb at.steps (shift_step 0 Fence) (λ same. absurd (omega (arith, e, same)))
-fence_later count Parked e = absurd e
-fence_later count Entered e = absurd e
-fence_later count (Resident p) e = absurd e
+fence_later count there e = absurd e
 
 -- no step before it aims a passed source
 aims_later : (passes count : ℕ) (there : Home) → FenceIn (suc count) there → is_aiming passes there ≡ false
 aims_later passes count (Leaving from at) e = and_left _ (nat_lt at.aims passes) (ne_eqb at.steps (leave_step 0 GFence + 1) (λ same. absurd (omega (arith, e, same))))
 aims_later passes count (Arriving to at) e = and_left _ (nat_lt at.aims passes) (ne_eqb at.steps (arrive_step 0 GFence + 1) (λ same. absurd (omega (arith, e, same))))
 aims_later passes count (Shifting from to at) e = and_left _ (nat_lt at.aims passes) (ne_eqb at.steps (shift_step 0 GFence + 1) (λ same. absurd (omega (arith, e, same))))
-aims_later passes count Parked e = absurd e
-aims_later passes count Entered e = absurd e
-aims_later passes count (Resident p) e = absurd e
+aims_later passes count there e = absurd e
 
 pub fence_nearer : (passes words count : ℕ) (there : Home) → FenceIn (suc count) there → FenceIn count (further passes words there)
 fence_nearer passes words count (Leaving from at) e = rw (aims_later passes count (Leaving from at) e) (rw (ne_eqb (at.steps + 1) (leave_steps words) (λ last. absurd (omega (arith, e, last)))) (omega (arith, e)))
 fence_nearer passes words count (Arriving to at) e = rw (aims_later passes count (Arriving to at) e) (rw (ne_eqb (at.steps + 1) (arrive_steps words) (λ last. absurd (omega (arith, e, last)))) (omega (arith, e)))
 fence_nearer passes words count (Shifting from to at) e = rw (aims_later passes count (Shifting from to at) e) (rw (ne_eqb (at.steps + 1) (shift_steps words) (λ last. absurd (omega (arith, e, last)))) (omega (arith, e)))
-fence_nearer passes words count Parked e = absurd e
-fence_nearer passes words count Entered e = absurd e
-fence_nearer passes words count (Resident p) e = absurd e
+fence_nearer passes words count there e = absurd e
 
 -- ---- from where a move begins
 
 pub leave_to_fence : (there : Home) → is_moving there ≡ false → rests_in_memory there ≡ false → FenceIn (leave_step 0 Fence) (leaving there)
 leave_to_fence (Resident p) idle kept = refl
-leave_to_fence Parked idle kept = absurd (cc)
-leave_to_fence Entered idle kept = absurd (cc)
-leave_to_fence (Leaving from at) idle kept = absurd (cc)
-leave_to_fence (Arriving to at) idle kept = absurd (cc)
-leave_to_fence (Shifting from to at) idle kept = absurd (cc)
+leave_to_fence there idle kept = absurd (cc)
 
 pub arrive_to_fence : (hart : ℕ) (file : Option ℕ) (there : Home) → is_moving there ≡ false → is_resident there ≡ false → is_entered there ≡ false → is_none file ≡ false
     → FenceIn (arrive_step 0 Fence) (option_map_or (λ f. arriving (guest_place hart f) there) file there)

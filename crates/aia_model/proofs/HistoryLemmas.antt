@@ -137,11 +137,7 @@ steps_happen (suc count) g h there left good =
 
 leave_left : (passes words : ℕ) (there : Home) → is_moving there ≡ false → rests_in_memory there ≡ false → steps_left passes words (leaving there) ≡ leave_steps words + passes
 leave_left passes words (Resident p) idle kept = omega arith
-leave_left passes words Parked idle kept = absurd (cc)
-leave_left passes words Entered idle kept = absurd (cc)
-leave_left passes words (Leaving from at) idle kept = absurd (cc)
-leave_left passes words (Arriving to at) idle kept = absurd (cc)
-leave_left passes words (Shifting from to at) idle kept = absurd (cc)
+leave_left passes words there idle kept = absurd (cc)
 
 arrive_left : (passes words hart : ℕ) (file : Option ℕ) (there : Home) → is_moving there ≡ false → is_resident there ≡ false → is_entered there ≡ false → is_none file ≡ false
     → steps_left passes words (option_map_or (λ f. arriving (guest_place hart f) there) file there) ≡ arrive_steps words + passes

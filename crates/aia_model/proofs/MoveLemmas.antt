@@ -5,7 +5,7 @@ use Rattle.std.proofs.lemmas.Bool.Decides.{nat_tests}
 use Rattle.aia_word.specs.Sets.{least_of}
 use Rattle.aia_home.specs.Vms.{Vcpu, vcpu, is_vcpu}
 use Rattle.aia_home.specs.Home.{Home}
-use Rattle.aia_home.specs.Home.Home.{Parked, Entered, Resident, Leaving, Arriving, Shifting}
+use Rattle.aia_home.specs.Home.Home.{Leaving}
 use Rattle.aia_home.specs.BySteps.{look_word, look_sees}
 use Rattle.aia_model.specs.Event.{Event, History, file_words}
 use Rattle.aia_model.specs.Event.Event.{Began, Stepped}
@@ -93,19 +93,11 @@ some_or A C from (suc count) =
 -- the next look is at one word
 look_at : (words : ℕ) (there : Home) (w : ℕ) → looks_at words there w ≡ true → w ≡ look_word words there
 look_at words (Leaving from at) w e = grind (arith, nat_tests)
-look_at words Parked w e = absurd (cc)
-look_at words Entered w e = absurd (cc)
-look_at words (Resident p) w e = absurd (cc)
-look_at words (Arriving to at) w e = absurd (cc)
-look_at words (Shifting from to at) w e = absurd (cc)
+look_at words there w e = absurd (cc)
 
 look_low : (words : ℕ) (there : Home) (w : ℕ) → looks_at words there w ≡ true → w < words
 look_low words (Leaving from at) w e = grind (arith, nat_tests)
-look_low words Parked w e = absurd (cc)
-look_low words Entered w e = absurd (cc)
-look_low words (Resident p) w e = absurd (cc)
-look_low words (Arriving to at) w e = absurd (cc)
-look_low words (Shifting from to at) w e = absurd (cc)
+look_low words there w e = absurd (cc)
 
 looks_see : (words : ℕ) (there : Home) (live : ℕ → Bool) → some_of (λ w. looks_at words there w && live w) 0 words ≡ look_sees words there live
 looks_see words there live = some_one (looks_at words there) live (look_word words there) words (look_at words there) (look_low words there (look_word words there))

@@ -19,28 +19,16 @@ none_below r = grind (arith, nat_tests)
 -- ---- a move begins
 
 pub leaving_passes : (r : ℕ) (there : Home) → pass_reaches r (leaving there) ≡ pass_reaches r there
-leaving_passes r Parked = refl
-leaving_passes r Entered = refl
-leaving_passes r (Resident p) = refl
 leaving_passes r (Leaving from at) = refl
-leaving_passes r (Arriving to at) = refl
-leaving_passes r (Shifting from to at) = refl
+leaving_passes r there = refl
 
 pub arriving_passes : (r : ℕ) (q : Place) (there : Home) → pass_reaches r (arriving q there) ≡ pass_reaches r there
 arriving_passes r q Parked = rw (none_below r) refl
-arriving_passes r q Entered = refl
-arriving_passes r q (Resident p) = refl
-arriving_passes r q (Leaving from at) = refl
-arriving_passes r q (Arriving to at) = refl
-arriving_passes r q (Shifting from to at) = refl
+arriving_passes r q there = refl
 
 pub shifting_passes : (r : ℕ) (q : Place) (there : Home) → pass_reaches r (shifting q there) ≡ pass_reaches r there
-shifting_passes r q Parked = refl
-shifting_passes r q Entered = refl
 shifting_passes r q (Resident p) = rw (none_below r) refl
-shifting_passes r q (Leaving from at) = refl
-shifting_passes r q (Arriving to at) = refl
-shifting_passes r q (Shifting from to at) = refl
+shifting_passes r q there = refl
 
 pub arrives_passes : (r hart : ℕ) (file : Option ℕ) (there : Home) → pass_reaches r (option_map_or (λ f. arriving (guest_place hart f) there) file there) ≡ pass_reaches r there
 arrives_passes r hart None there = refl
@@ -53,21 +41,15 @@ shifts_passes r hart (Some f) there = shifting_passes r (guest_place hart f) the
 -- ---- a step that aims none
 
 one_more_passes : (r : ℕ) (there : Home) → pass_reaches r (one_more there) ≡ pass_reaches r there
-one_more_passes r Parked = refl
-one_more_passes r Entered = refl
-one_more_passes r (Resident p) = refl
 one_more_passes r (Leaving from at) = refl
-one_more_passes r (Arriving to at) = refl
-one_more_passes r (Shifting from to at) = refl
+one_more_passes r there = refl
 
 -- at the last step all are aimed
 ended_passes : (passes words r : ℕ) (there : Home) → nat_lt r passes ≡ true → AreAimed passes there → is_at_last words there ≡ true → pass_reaches r (ended there) ≡ pass_reaches r there
-ended_passes passes words r Parked below a last = absurd (cc)
-ended_passes passes words r Entered below a last = absurd (cc)
-ended_passes passes words r (Resident p) below a last = absurd (cc)
 ended_passes passes words r (Leaving from at) below a last = let all = a.all (grind (arith, nat_tests)) in let e : nat_lt r at.aims ≡ true = grind (arith, nat_tests) in rw (e, none_below r) refl
 ended_passes passes words r (Arriving to at) below a last = let all = a.all (grind (arith, nat_tests)) in let e : nat_lt r at.aims ≡ true = grind (arith, nat_tests) in rw (e, none_below r) refl
 ended_passes passes words r (Shifting from to at) below a last = let all = a.all (grind (arith, nat_tests)) in let e : nat_lt r at.aims ≡ true = grind (arith, nat_tests) in rw (e, none_below r) refl
+ended_passes passes words r there below a last = absurd (cc)
 
 pub stepped_passes : (passes words r : ℕ) (there : Home) → nat_lt r passes ≡ true → AreAimed passes there → pass_reaches r (stepped words there) ≡ pass_reaches r there
 stepped_passes passes words r there below a = by_last (is_at_last words there) refl
@@ -88,12 +70,10 @@ aims_on r a other = elim (cases_Bool (nat_lt r a)) [
 ]
 
 pub aimed_other : (r : ℕ) (there : Home) → nat_eq r (aims_done there) ≡ false → pass_reaches r (aimed there) ≡ pass_reaches r there
-aimed_other r Parked other = refl
-aimed_other r Entered other = refl
-aimed_other r (Resident p) other = refl
 aimed_other r (Leaving from at) other = ap (λ b. if b then None else Some from) (aims_on r at.aims other)
 aimed_other r (Arriving to at) other = ap (λ b. if b then Some to else None) (aims_on r at.aims other)
 aimed_other r (Shifting from to at) other = ap (λ b. if b then Some to else Some from) (aims_on r at.aims other)
+aimed_other r there other = refl
 
 -- ---- it leads to no guest file that its virtual hart does not hold
 

@@ -125,20 +125,12 @@ abbrev AllHeld : History → Home → Type 0
 AllHeld h there = (q : Place) → holds q there ≡ true → IsPlaceOf h q
 
 leaving_held : (h : History) (there : Home) → AllHeld h there → AllHeld h (leaving there)
-leaving_held h Parked m = m
-leaving_held h Entered m = m
-leaving_held h (Resident p) m = m
 leaving_held h (Leaving from at) m = m
-leaving_held h (Arriving to at) m = m
-leaving_held h (Shifting from to at) m = m
+leaving_held h there m = m
 
 arriving_held : (h : History) (to : Place) (there : Home) → IsPlaceOf h to → AllHeld h there → AllHeld h (arriving to there)
 arriving_held h to Parked one m = λ q e. subst (IsPlaceOf h) (sym (same_place q to e)) one
-arriving_held h to Entered one m = m
-arriving_held h to (Resident p) one m = m
-arriving_held h to (Leaving from at) one m = m
-arriving_held h to (Arriving p at) one m = m
-arriving_held h to (Shifting from p at) one m = m
+arriving_held h to there one m = m
 
 shifting_held : (h : History) (to : Place) (there : Home) → IsPlaceOf h to → AllHeld h there → AllHeld h (shifting to there)
 shifting_held h to Parked one m = m
@@ -156,28 +148,17 @@ same_held event h there harts guests m = λ q e. let one = m q e in record { har
 
 -- a move holds no more from step to step
 aimed_holds : (q : Place) (there : Home) → holds q (aimed there) ≡ true → holds q there ≡ true
-aimed_holds q Parked e = e
-aimed_holds q Entered e = e
-aimed_holds q (Resident p) e = e
 aimed_holds q (Leaving from at) e = e
-aimed_holds q (Arriving to at) e = e
-aimed_holds q (Shifting from to at) e = e
+aimed_holds q there e = e
 
 one_more_holds : (q : Place) (there : Home) → holds q (one_more there) ≡ true → holds q there ≡ true
-one_more_holds q Parked e = e
-one_more_holds q Entered e = e
-one_more_holds q (Resident p) e = e
 one_more_holds q (Leaving from at) e = e
-one_more_holds q (Arriving to at) e = e
-one_more_holds q (Shifting from to at) e = e
+one_more_holds q there e = e
 
 ended_holds : (q : Place) (there : Home) → holds q (ended there) ≡ true → holds q there ≡ true
-ended_holds q Parked e = e
-ended_holds q Entered e = e
-ended_holds q (Resident p) e = e
 ended_holds q (Leaving from at) e = absurd (false≢true e)
-ended_holds q (Arriving to at) e = e
 ended_holds q (Shifting from to at) e = or_right (is_place q from) (is_place q to) e
+ended_holds q there e = e
 
 further_holds : (passes words : ℕ) (q : Place) (there : Home) → holds q (further passes words there) ≡ true → holds q there ≡ true
 further_holds passes words q there = by_aim (is_aiming passes there) (is_at_last words there)

@@ -6,7 +6,7 @@ use Rattle.aia_regs.specs.declared.access.Csr.{Csr}
 use Rattle.aia_regs.specs.declared.access.Op.{Op}
 use Rattle.aia_major.specs.VsMajor.{is_major, is_hvictl}
 use Rattle.aia_home.specs.Vms.{Vcpu, vcpu, vcpus_in}
-use Rattle.aia_home.specs.Home.Home.{Parked, Entered, Resident, Leaving, Arriving, Shifting}
+use Rattle.aia_home.specs.Home.Home.{Parked}
 use Rattle.aia_home.specs.Home.{Home, is_moving, is_resident, is_entered, runs, rests_in_memory}
 use Rattle.aia_model.specs.declared.line.Line.{Line}
 use Rattle.aia_model.specs.declared.line.Line.TheVariants.{Send, Land, Machine, GuestCsr, Ipi, Step, Enter, Exit, Save, LoadPart, Inject, Hvictl}
@@ -154,11 +154,7 @@ exit_allowed h vm number e =
 -- a part of an image is saved of, and loaded into, a virtual hart that is parked, and is there
 only_parked : (there : Home) → is_moving there ≡ false → is_resident there ≡ false → is_entered there ≡ false → there ≡ Parked
 only_parked Parked moves away rests = refl
-only_parked Entered moves away rests = absurd (cc)
-only_parked (Resident place) moves away rests = absurd (cc)
-only_parked (Leaving from at) moves away rests = absurd (cc)
-only_parked (Arriving to at) moves away rests = absurd (cc)
-only_parked (Shifting from to at) moves away rests = absurd (cc)
+only_parked there moves away rests = absurd (cc)
 
 pub record ImageAllowed (h : History) (g : Vcpu) (is_in_range : Bool) : Type 0 where
   pub there : has_vcpu h g ≡ true

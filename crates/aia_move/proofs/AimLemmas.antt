@@ -2,7 +2,7 @@
 use Rattle.std.proofs.Common.{◌≡◌, ◌≢◌, ℕ, ◌<◌, ◌≤◌, true, false, ◌&&◌, nat_lt, refl, sym, ap, ◌∙◌, subst, arith}
 use Rattle.std.proofs.lemmas.Bool.{eq-eqb, ne_eqb}
 use Rattle.aia_home.specs.Home.{Home, Progress, is_moving, one_more}
-use Rattle.aia_home.specs.Home.Home.{Parked, Entered, Resident, Leaving, Arriving, Shifting}
+use Rattle.aia_home.specs.Home.Home.{Leaving, Arriving, Shifting}
 use Rattle.aia_home.specs.Plans.{Access, steps_done, is_carried}
 use Rattle.aia_home.specs.Phases.{Phase, begins}
 use Rattle.aia_home.specs.Phases.Phase.{FirstPhase, ClosingPhase, DrainPhase, EnablePhase, LookPhase, LastPhase}
@@ -26,21 +26,17 @@ use Rattle.aia_moving.proofs.PhaseSteps.{middle, begins_on}
 
 -- as many steps are done as before the first word is taken
 aims_at : (words passes : ℕ) (there : Home) → is_moving there ≡ true → steps_done there ≡ begins words there DrainPhase → is_aiming passes there ≡ nat_lt (aims_done there) passes
-aims_at words passes Parked moves e = absurd (cc)
-aims_at words passes Entered moves e = absurd (cc)
-aims_at words passes (Resident p) moves e = absurd (cc)
 aims_at words passes (Leaving from at) moves e = ap (λ b. b && nat_lt at.aims passes) (eq-eqb _ _ e)
 aims_at words passes (Arriving to at) moves e = ap (λ b. b && nat_lt at.aims passes) (eq-eqb _ _ e)
 aims_at words passes (Shifting from to at) moves e = ap (λ b. b && nat_lt at.aims passes) (eq-eqb _ _ e)
+aims_at words passes there moves e = absurd (cc)
 
 -- else none does
 none_aims : (words passes : ℕ) (there : Home) → (is_moving there ≡ true → steps_done there ≢ begins words there DrainPhase) → is_aiming passes there ≡ false
-none_aims words passes Parked other = refl
-none_aims words passes Entered other = refl
-none_aims words passes (Resident p) other = refl
 none_aims words passes (Leaving from at) other = ap (λ b. b && nat_lt at.aims passes) (ne_eqb _ _ (other refl))
 none_aims words passes (Arriving to at) other = ap (λ b. b && nat_lt at.aims passes) (ne_eqb _ _ (other refl))
 none_aims words passes (Shifting from to at) other = ap (λ b. b && nat_lt at.aims passes) (ne_eqb _ _ (other refl))
+none_aims words passes there other = refl
 
 -- ---- a step aims in its phase alone
 
@@ -57,12 +53,10 @@ in_look : (words : ℕ) (m : Moving) → 1 ≤ words → IsIn LookPhase words m 
 in_look words m some is = none_aims words _ m.home (λ moves e. let mid = middle words m.home moves in omega (arith, e, is, some, mid.drain, mid.looks))
 
 last_late : (words : ℕ) (there : Home) → is_moving there ≡ true → 1 ≤ words → begins words there DrainPhase < begins words there LastPhase
-last_late words Parked moves some = absurd (cc)
-last_late words Entered moves some = absurd (cc)
-last_late words (Resident p) moves some = absurd (cc)
 last_late words (Leaving from at) moves some = omega (arith, some)
 last_late words (Arriving to at) moves some = omega (arith, some)
 last_late words (Shifting from to at) moves some = omega (arith, some)
+last_late words there moves some = absurd (cc)
 
 in_last : (words : ℕ) (m : Moving) → 1 ≤ words → IsIn LastPhase words m → aims m ≡ false
 in_last words m some is = none_aims words _ m.home (λ moves e. omega (arith, e, is, last_late words m.home moves some))
@@ -91,28 +85,16 @@ phase_aims words (ShiftLast m) some is = in_last words m some is
 -- ---- what an aim leaves
 
 aimed_own : (there : Home) → own_file (aimed there) ≡ own_file there
-aimed_own Parked = refl
-aimed_own Entered = refl
-aimed_own (Resident p) = refl
 aimed_own (Leaving from at) = refl
-aimed_own (Arriving to at) = refl
-aimed_own (Shifting from to at) = refl
+aimed_own there = refl
 
 aimed_next : (there : Home) → next_file (aimed there) ≡ next_file there
-aimed_next Parked = refl
-aimed_next Entered = refl
-aimed_next (Resident p) = refl
 aimed_next (Leaving from at) = refl
-aimed_next (Arriving to at) = refl
-aimed_next (Shifting from to at) = refl
+aimed_next there = refl
 
 aimed_carried : (words : ℕ) (there : Home) (access : Access) → is_carried words (aimed there) access ≡ is_carried words there access
-aimed_carried words Parked access = refl
-aimed_carried words Entered access = refl
-aimed_carried words (Resident p) access = refl
 aimed_carried words (Leaving from at) access = refl
-aimed_carried words (Arriving to at) access = refl
-aimed_carried words (Shifting from to at) access = refl
+aimed_carried words there access = refl
 
 pub aim_fits : (w : World) (m : Moving) → MoveFits w m → MoveFits w (one_aimed m)
 aim_fits w m fits = record {
@@ -141,12 +123,10 @@ in_drain words x moves some at none =
     record { phase = (omega (arith, at), omega (arith, at, some, mid.drain, mid.enable)); aimed = aims_at words _ x.home moves at ∙ none }
 
 still_moves : (there : Home) → is_moving there ≡ true → is_moving (one_more there) ≡ true
-still_moves Parked moves = moves
-still_moves Entered moves = moves
-still_moves (Resident p) moves = moves
 still_moves (Leaving from at) moves = refl
 still_moves (Arriving to at) moves = refl
 still_moves (Shifting from to at) moves = refl
+still_moves there moves = moves
 
 begins_still : (w u : World) (m t : Moving) (phase : Phase) → GoesOn w m u t → begins (width u) t.home phase ≡ begins (width w) m.home phase
 begins_still w u m t phase goes = ap (λ n. begins n t.home phase) goes.width ∙ ap (λ h. begins (width w) h phase) goes.goes.home ∙ begins_on (width w) m.home phase

@@ -2,7 +2,7 @@
 use Rattle.std.proofs.Common.{◌≡◌, ℕ, ◌≤◌, Bool, true, false, length, refl, sym, ap, subst, ◌∙◌, arith}
 use Rattle.std.proofs.lemmas.Bool.{ne_eqb, false≢true}
 use Rattle.aia_home.specs.Home.{Home}
-use Rattle.aia_home.specs.Home.Home.{Parked, Entered, Resident, Leaving, Arriving, Shifting}
+use Rattle.aia_home.specs.Home.Home.{Leaving, Arriving, Shifting}
 use Rattle.aia_home.specs.Plans.{steps_done, is_at_last}
 use Rattle.aia_home.proofs.RouteLemmas.{unlast}
 use Rattle.aia_home.specs.Phases.{begins}
@@ -63,9 +63,7 @@ none_at_last w m landed words first last = by_fence (is_at_fence m.home) refl
 
 -- past the first phase a move is past its fence
 pub past_fence : (words : ℕ) (there : Home) → begins words there ClosingPhase ≤ steps_done there → is_at_fence there ≡ false
-past_fence words Parked past = refl
-past_fence words Entered past = refl
-past_fence words (Resident p) past = refl
 past_fence words (Leaving from at) past = ne_eqb _ _ (λ e. omega (arith, e, past))
 past_fence words (Arriving to at) past = ne_eqb _ _ (λ e. omega (arith, e, past))
 past_fence words (Shifting from to at) past = ne_eqb _ _ (λ e. omega (arith, e, past))
+past_fence words there past = refl

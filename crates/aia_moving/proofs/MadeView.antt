@@ -14,7 +14,7 @@ use Rattle.aia_mrif.specs.Mrif.{Mrif, pending_place, enable_place}
 use Rattle.aia_home.specs.declared.place.Place.{Place}
 use Rattle.aia_home.specs.Vms.{Vcpu, vcpu, is_vcpu_in, slot_of}
 use Rattle.aia_home.specs.Home.{Home, Progress, is_place}
-use Rattle.aia_home.specs.Home.Home.{Parked, Entered, Resident, Leaving, Arriving, Shifting}
+use Rattle.aia_home.specs.Home.Home.{Leaving, Arriving, Shifting}
 use Rattle.aia_home.specs.BySteps.{own_file, next_file, new_file}
 use Rattle.aia_home.specs.Plans.{Access, IsNext}
 use Rattle.aia_home.specs.Plans.Access.{TakeDelivery, PutDelivery, WriteNotice, WriteEntry, Fence, Map, GFence, TakePending, PutPending, TakeEnables, PutEnables, Look, TakeThreshold, PutThreshold, Post}
@@ -256,12 +256,10 @@ shift_made Post w u who from to at hand now whole fits apart next makes c = let 
 made_by : (access : Access) (w u : World) (who : Who) (there : Home) (hand now : Hand) → IsWhole w → MoveFits w (record { who = who; home = there; hand = hand }) → AreApart there → IsNext (width w) there access
     → Makes access (record { who = who; home = there; hand = hand }) w u → now ≡ hand_after access (record { who = who; home = there; hand = hand }) w
     → StepMade who.found.slot who.found.notice access there (places_of w (vcpu who.found.vm who.found.number) there) hand (places_of u (vcpu who.found.vm who.found.number) there) now
-made_by access w u who Parked hand now whole fits apart next makes c = let no : false ≡ true = next.has in absurd (cc)
-made_by access w u who Entered hand now whole fits apart next makes c = let no : false ≡ true = next.has in absurd (cc)
-made_by access w u who (Resident p) hand now whole fits apart next makes c = let no : false ≡ true = next.has in absurd (cc)
 made_by access w u who (Leaving from at) hand now whole fits apart next makes c = leave_made access w u who from at hand now whole fits next makes c
 made_by access w u who (Arriving to at) hand now whole fits apart next makes c = arrive_made access w u who to at hand now whole fits next makes c
 made_by access w u who (Shifting from to at) hand now whole fits apart next makes c = shift_made access w u who from to at hand now whole fits apart next makes c
+made_by access w u who there hand now whole fits apart next makes c = let no : false ≡ true = next.has in absurd (cc)
 
 -- the step makes its access of the places of the virtual hart that is moved
 pub made_view : (w u : World) (m : Moving) (hand : Hand) → IsWhole w → MoveFits w m → AreApart m.home → (step : MakesNext w m u hand)

@@ -1,7 +1,7 @@
 -- Where the phases that all plans have begin, and which phase a move is in after a step.
 use Rattle.std.proofs.Common.{◌≡◌, ℕ, ◌+◌, ◌*◌, ◌<◌, ◌≤◌, true, refl, ap, ◌∙◌, arith}
 use Rattle.aia_home.specs.Home.{Home, is_moving, one_more}
-use Rattle.aia_home.specs.Home.Home.{Parked, Entered, Resident, Leaving, Arriving, Shifting}
+use Rattle.aia_home.specs.Home.Home.{Leaving, Arriving, Shifting}
 use Rattle.aia_home.specs.Plans.{leave_steps, steps_done, first_take}
 use Rattle.aia_home.specs.Phases.{Phase, following, begins}
 use Rattle.aia_home.specs.Phases.Phase.{ClosingPhase, DrainPhase, EnablePhase, LookPhase}
@@ -23,21 +23,15 @@ pub record Middle (words : ℕ) (there : Home) : Type 0 where
   pub few : words ≤ FILE_WORDS → begins words there LookPhase ≤ leave_steps FILE_WORDS
 
 pub middle : (words : ℕ) (there : Home) → is_moving there ≡ true → Middle words there
-middle words Parked moves = absurd (cc)
-middle words Entered moves = absurd (cc)
-middle words (Resident p) moves = absurd (cc)
 middle words (Leaving from at) moves = record { drain = refl; enable = omega arith; looks = omega arith; take = refl; after = refl; more = λ some. omega (arith, some); few = λ low. omega (arith, low) }
 middle words (Arriving to at) moves = record { drain = refl; enable = omega arith; looks = omega arith; take = refl; after = refl; more = λ some. omega (arith, some); few = λ low. omega (arith, low) }
 middle words (Shifting from to at) moves = record { drain = refl; enable = omega arith; looks = omega arith; take = refl; after = refl; more = λ some. omega (arith, some); few = λ low. omega (arith, low) }
+middle words there moves = absurd (cc)
 
 -- a step changes no beginning
 pub begins_on : (words : ℕ) (there : Home) (phase : Phase) → begins words (one_more there) phase ≡ begins words there phase
-begins_on words Parked phase = refl
-begins_on words Entered phase = refl
-begins_on words (Resident p) phase = refl
 begins_on words (Leaving from at) phase = refl
-begins_on words (Arriving to at) phase = refl
-begins_on words (Shifting from to at) phase = refl
+begins_on words there phase = refl
 
 -- the move stays in its phase, or comes to the next one
 pub turned : (phase next : Phase) (w u : World) (m t : Moving) (past : ℕ) (turn : Turn Moving Moving) → IsIn phase (width w) m → GoesOn w m u t

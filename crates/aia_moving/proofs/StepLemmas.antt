@@ -80,12 +80,10 @@ record IsSame (there : Home) : Type 0 where
   pub first : first_take (one_more there) ≡ first_take there
 
 same_move : (words : ℕ) (there : Home) (access : Access) → has_access words there access ≡ true → IsSame there
-same_move words Parked access has = absurd (cc)
-same_move words Entered access has = absurd (cc)
-same_move words (Resident p) access has = absurd (cc)
 same_move words (Leaving from at) access has = record { steps = refl; own = refl; next = refl; first = refl }
 same_move words (Arriving to at) access has = record { steps = refl; own = refl; next = refl; first = refl }
 same_move words (Shifting from to at) access has = record { steps = refl; own = refl; next = refl; first = refl }
+same_move words there access has = absurd (cc)
 
 -- a word 0 that the next access takes has no identity 0
 record TakesNoZero (w : World) (m t : Moving) : Type 0 where
@@ -147,12 +145,10 @@ seen_so w u m s t access seen fits next made is more zero =
 
 -- not the last one
 not_last : (words : ℕ) (there : Home) → steps_done there < enables_step words there words → is_at_last words there ≡ false
-not_last words Parked low = refl
-not_last words Entered low = refl
-not_last words (Resident p) low = refl
 not_last words (Leaving from at) low = ne_eqb _ _ (λ e. omega (arith, e, low))
 not_last words (Arriving to at) low = ne_eqb _ _ (λ e. omega (arith, e, low))
 not_last words (Shifting from to at) low = ne_eqb _ _ (λ e. omega (arith, e, low))
+not_last words there low = refl
 
 -- the state with a carrier
 loaded : (m : Moving) (there : Progress → Home) (now : CarrierState) (hand : Hand) → there (one_further (record { steps = steps_done m.home; aims = aims_done m.home })) ≡ one_more m.home → now ≡ one_done (carrier_of m) hand

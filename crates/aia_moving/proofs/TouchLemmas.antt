@@ -16,7 +16,7 @@ use Rattle.aia_entry.proofs.TableLemmas.{fenced_elsewhere, fenced_mask, fenced_s
 use Rattle.aia_home.specs.declared.place.Place.{Place}
 use Rattle.aia_home.specs.Vms.{Vcpu, vcpu, is_vcpu_in, slot_of}
 use Rattle.aia_home.specs.Home.{Home, Progress, is_place, holds}
-use Rattle.aia_home.specs.Home.Home.{Parked, Entered, Resident, Leaving, Arriving, Shifting}
+use Rattle.aia_home.specs.Home.Home.{Leaving, Arriving, Shifting}
 use Rattle.aia_home.specs.BySteps.{own_file, next_file, new_file}
 use Rattle.aia_home.specs.Plans.{Access, IsNext}
 use Rattle.aia_home.specs.Plans.Access.{TakeDelivery, PutDelivery, WriteNotice, WriteEntry, Fence, Map, GFence, TakePending, PutPending, TakeEnables, PutEnables, Look, TakeThreshold, PutThreshold, Post}
@@ -266,12 +266,10 @@ shift_touches Post w u who from to at hand whole fits next makes = let no : fals
 
 touches_by : (access : Access) (w u : World) (who : Who) (there : Home) (hand : Hand) → IsWhole w → MoveFits w (record { who = who; home = there; hand = hand }) → IsNext (width w) there access
     → Makes access (record { who = who; home = there; hand = hand }) w u → Touches (sends access hand) w u (record { who = who; home = there; hand = hand })
-touches_by access w u who Parked hand whole fits next makes = let no : false ≡ true = next.has in absurd (cc)
-touches_by access w u who Entered hand whole fits next makes = let no : false ≡ true = next.has in absurd (cc)
-touches_by access w u who (Resident p) hand whole fits next makes = let no : false ≡ true = next.has in absurd (cc)
 touches_by access w u who (Leaving from at) hand whole fits next makes = leave_touches access w u who from at hand whole fits next makes
 touches_by access w u who (Arriving to at) hand whole fits next makes = arrive_touches access w u who to at hand whole fits next makes
 touches_by access w u who (Shifting from to at) hand whole fits next makes = shift_touches access w u who from to at hand whole fits next makes
+touches_by access w u who there hand whole fits next makes = let no : false ≡ true = next.has in absurd (cc)
 
 -- a step touches only its own
 pub step_touches : (w u : World) (m : Moving) (hand : Hand) → IsWhole w → MoveFits w m → (step : MakesNext w m u hand) → Touches (sends step.access m.hand) w u m

@@ -6,7 +6,7 @@ use Rattle.aia_imsic.specs.declared.spot.Spot.TheVariants.{SupervisorFile}
 use Rattle.aia_imsic.specs.Imsic.{IsThere}
 use Rattle.aia_home.specs.declared.place.Place.{Place}
 use Rattle.aia_home.specs.Home.{Home, is_moving, at_first}
-use Rattle.aia_home.specs.Home.Home.{Parked, Entered, Resident, Leaving, Arriving, Shifting}
+use Rattle.aia_home.specs.Home.Home.{Leaving, Arriving, Shifting}
 use Rattle.aia_home.specs.BySteps.{own_file, next_file}
 use Rattle.aia_home.specs.Plans.{steps_done}
 use Rattle.aia_home.specs.Vms.{Vcpu, vcpu, vcpus_in, is_vcpu_in, slot_of, notice_hart}
@@ -51,23 +51,19 @@ pub old_there : (w : World) (m : Moving) → IsWhole w → MoveFits w m → is_m
 old_there w m whole fits moves = by_home m.home fits.own moves
   where
     by_home : (there : Home) → ((p : Place) → own_file there ≡ Some p → IsThere w.imsic (spot_of p)) → is_moving there ≡ true → IsPlaceThere w (old_by there m.who.found.slot)
-    by_home Parked own moves = absurd (cc)
-    by_home Entered own moves = absurd (cc)
-    by_home (Resident p) own moves = absurd (cc)
     by_home (Leaving from at) own moves = own from refl
     by_home (Arriving to at) own moves = slot_there w m m refl whole fits
     by_home (Shifting from to at) own moves = own from refl
+    by_home there own moves = absurd (cc)
 
 pub new_there : (w : World) (m : Moving) → IsWhole w → MoveFits w m → is_moving m.home ≡ true → IsPlaceThere w (new_at m)
 new_there w m whole fits moves = by_home m.home fits.own fits.next moves
   where
     by_home : (there : Home) → ((p : Place) → own_file there ≡ Some p → IsThere w.imsic (spot_of p)) → ((p : Place) → next_file there ≡ Some p → IsThere w.imsic (spot_of p)) → is_moving there ≡ true → IsPlaceThere w (new_by there m.who.found.slot)
-    by_home Parked own next moves = absurd (cc)
-    by_home Entered own next moves = absurd (cc)
-    by_home (Resident p) own next moves = absurd (cc)
     by_home (Leaving from at) own next moves = slot_there w m m refl whole fits
     by_home (Arriving to at) own next moves = own to refl
     by_home (Shifting from to at) own next moves = next to refl
+    by_home there own next moves = absurd (cc)
 
 -- ---- a move begins
 

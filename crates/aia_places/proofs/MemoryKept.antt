@@ -77,9 +77,8 @@ memory_has n words q hart reach v hand file saw (Shifting from to at) rests with
 
 pub memory_kept : (words q hart : ℕ) (reach : Option Place) (v : Places) (hand : Hand) (file : InterruptFile) (saw : Bool) (there : Home) → rests_in_memory there ≡ true
     → Holds words q hart reach v there hand file saw → (hand.delivery ≡ file.delivery) × (hand.threshold ≡ file.threshold)
-memory_kept words q hart reach v hand file saw Parked rests h = (h.numbers.kept_delivery refl, h.numbers.kept_threshold refl)
-memory_kept words q hart reach v hand file saw Entered rests h = (h.numbers.kept_delivery refl, h.numbers.kept_threshold refl)
 memory_kept words q hart reach v hand file saw (Resident p) rests h = absurd (cc)
 memory_kept words q hart reach v hand file saw (Leaving from at) rests h = absurd (cc)
 memory_kept words q hart reach v hand file saw (Arriving to at) rests h = absurd (cc)
 memory_kept words q hart reach v hand file saw (Shifting from to at) rests h = absurd (cc)
+memory_kept words q hart reach v hand file saw there rests h = (h.numbers.kept_delivery refl, h.numbers.kept_threshold refl)

@@ -21,12 +21,10 @@ use Rattle.aia_places.specs.Stores.{AreApart}
 
 -- the two ends of a move are two
 pub two_ends : (there : Home) → is_moving there ≡ true → AreApart there → new_file there ≢ origin there
-two_ends Parked moves apart = absurd (cc)
-two_ends Entered moves apart = absurd (cc)
-two_ends (Resident p) moves apart = absurd (cc)
 two_ends (Leaving from at) moves apart = λ e. absurd (cc)
 two_ends (Arriving to at) moves apart = λ e. absurd (cc)
 two_ends (Shifting from to at) moves apart = λ e. let same : to ≡ from = cc in let itself : is_place from to ≡ true = rw same (is_itself_place from) in let no : true ≡ false = sym itself ∙ apart in absurd (cc)
+two_ends there moves apart = absurd (cc)
 
 module _ (words q hart : ℕ) (reach : Option Place) (v : Places) (there : Home) (hand : Hand) (file : InterruptFile) (saw : Bool) (moves : is_moving there ≡ true) (h : Holds words q hart reach v there hand file saw) where
   pub closing_knows : has_come words there ClosingPhase ≡ true → v.in_force ≡ leads_to q hart (new_file there)

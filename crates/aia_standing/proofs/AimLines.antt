@@ -7,7 +7,7 @@ use Rattle.std.proofs.lemmas.List.{length-set}
 use Rattle.aia_home.specs.declared.place.Place.{Place}
 use Rattle.aia_home.specs.Vms.{Vcpu, vcpu, is_vcpu, slot_of, notice_hart}
 use Rattle.aia_home.specs.Home.{Home, holds, is_moving}
-use Rattle.aia_home.specs.Home.Home.{Parked, Entered, Resident, Leaving, Arriving, Shifting}
+use Rattle.aia_home.specs.Home.Home.{Leaving, Arriving, Shifting}
 use Rattle.aia_home.specs.Plans.{is_at_last, stepped, leave_step, arrive_step, shift_step}
 use Rattle.aia_home.specs.Plans.Access.{TakePending}
 use Rattle.aia_home.specs.BySteps.{new_file, look_sees, look_step, look_word}
@@ -60,51 +60,30 @@ use Rattle.aia_standing.proofs.MoveSteps.{stepped_home}
 -- ---- what a home is that aims
 
 aimed_apart : (there : Home) → AreApart there → AreApart (aimed there)
-aimed_apart Parked a = a
-aimed_apart Entered a = a
-aimed_apart (Resident p) a = a
 aimed_apart (Leaving from at) a = a
-aimed_apart (Arriving to at) a = a
-aimed_apart (Shifting from to at) a = a
+aimed_apart there a = a
 
 aimed_holds : (q : Place) (there : Home) → holds q (aimed there) ≡ holds q there
-aimed_holds q Parked = refl
-aimed_holds q Entered = refl
-aimed_holds q (Resident p) = refl
 aimed_holds q (Leaving from at) = refl
-aimed_holds q (Arriving to at) = refl
-aimed_holds q (Shifting from to at) = refl
+aimed_holds q there = refl
 
 aimed_moves : (there : Home) → is_moving (aimed there) ≡ is_moving there
-aimed_moves Parked = refl
-aimed_moves Entered = refl
-aimed_moves (Resident p) = refl
 aimed_moves (Leaving from at) = refl
-aimed_moves (Arriving to at) = refl
-aimed_moves (Shifting from to at) = refl
+aimed_moves there = refl
 
 -- its next step is not the last one
 pub aim_is_not_last : (passes words : ℕ) (there : Home) → is_aiming passes there ≡ true → is_at_last words there ≡ false
-aim_is_not_last passes words Parked e = absurd (cc)
-aim_is_not_last passes words Entered e = absurd (cc)
-aim_is_not_last passes words (Resident p) e = absurd (cc)
 aim_is_not_last passes words (Leaving from at) e = let here : nat_eq at.steps (leave_step 0 (TakePending 0)) ≡ true = (and_parts _ _ e).0 in grind (arith, nat_tests)
 aim_is_not_last passes words (Arriving to at) e = let here : nat_eq at.steps (arrive_step 0 (TakePending 0)) ≡ true = (and_parts _ _ e).0 in grind (arith, nat_tests)
 aim_is_not_last passes words (Shifting from to at) e = let here : nat_eq at.steps (shift_step 0 (TakePending 0)) ≡ true = (and_parts _ _ e).0 in grind (arith, nat_tests)
+aim_is_not_last passes words there e = absurd (cc)
 
 aim_ends_none : (passes words : ℕ) (there : Home) → is_aiming passes there ≡ true → ends_leave words there ≡ false
 aim_ends_none passes words (Leaving from at) e = aim_is_not_last passes words (Leaving from at) e
-aim_ends_none passes words Parked e = refl
-aim_ends_none passes words Entered e = refl
-aim_ends_none passes words (Resident p) e = refl
-aim_ends_none passes words (Arriving to at) e = refl
-aim_ends_none passes words (Shifting from to at) e = refl
+aim_ends_none passes words there e = refl
 
 -- and looks at no word
 aim_sees_none : (passes words : ℕ) (there : Home) (live : ℕ → Bool) → 1 ≤ words → is_aiming passes there ≡ true → look_sees words there live ≡ false
-aim_sees_none passes words Parked live some e = absurd (cc)
-aim_sees_none passes words Entered live some e = absurd (cc)
-aim_sees_none passes words (Resident p) live some e = absurd (cc)
 aim_sees_none passes words (Arriving to at) live some e = refl
 aim_sees_none passes words (Shifting from to at) live some e = refl
 aim_sees_none passes words (Leaving from at) live some e =
@@ -118,15 +97,14 @@ aim_sees_none passes words (Leaving from at) live some e =
     sees : (a c b : Bool) → c ≡ false → ((a && c) && b) ≡ false
     sees true c b e = rw e refl
     sees false c b e = refl
+aim_sees_none passes words there live some e = absurd (cc)
 
 -- the next pass is aimed where the move leads
 pub aim_leads : (passes : ℕ) (there : Home) → is_aiming passes there ≡ true → pass_reaches (aims_done there) (aimed there) ≡ new_file there
-aim_leads passes Parked e = absurd (cc)
-aim_leads passes Entered e = absurd (cc)
-aim_leads passes (Resident p) e = absurd (cc)
 aim_leads passes (Leaving from at) e = ap (λ b. cond b None (Some from)) (lt-ltb at.aims (at.aims + 1) (omega arith))
 aim_leads passes (Arriving to at) e = ap (λ b. cond b (Some to) None) (lt-ltb at.aims (at.aims + 1) (omega arith))
 aim_leads passes (Shifting from to at) e = ap (λ b. cond b (Some to) (Some from)) (lt-ltb at.aims (at.aims + 1) (omega arith))
+aim_leads passes there e = absurd (cc)
 
 -- ---- the step
 

@@ -11,7 +11,7 @@ use Rattle.aia_home.specs.declared.place.Place.{Place}
 use Rattle.aia_home.specs.Vms.{Vcpu, is_vcpu}
 use Rattle.aia_home.specs.Home.{Home, is_place, holds, ended}
 use Rattle.aia_home.specs.Plans.{is_at_last, steps_done, step_of, is_carried}
-use Rattle.aia_home.specs.Home.Home.{Parked, Entered, Resident, Leaving, Arriving, Shifting}
+use Rattle.aia_home.specs.Home.Home.{Parked, Resident, Leaving, Arriving, Shifting}
 use Rattle.aia_home.specs.BySteps.{old_file}
 use Rattle.aia_home.specs.Plans.Access.{TakePending, TakeEnables}
 use Rattle.aia_home.proofs.AllLemmas.{no_vcpu}
@@ -71,16 +71,11 @@ ended_back o there hand g = absurd g
 
 -- what it holds then, and what it held
 ended_keeps : (q : Place) (there : Home) → holds q (ended there) ≡ true → holds q there ≡ true
-ended_keeps q Parked e = e
-ended_keeps q Entered e = e
-ended_keeps q (Resident p) e = e
 ended_keeps q (Leaving from at) e = absurd (false≢true e)
-ended_keeps q (Arriving to at) e = e
 ended_keeps q (Shifting from to at) e = or_right (is_place q from) (is_place q to) e
+ended_keeps q there e = e
 
 ended_left : (q : Place) (there : Home) → holds q there ≡ true → holds q (ended there) ≡ false → old_file there ≡ Some q
-ended_left q Parked e n = absurd (false≢true e)
-ended_left q Entered e n = absurd (false≢true e)
 ended_left q (Resident p) e n = absurd (false≢true (sym n ∙ e))
 ended_left q (Leaving from at) e n = ap Some (sym (same_place q from e))
 ended_left q (Arriving to at) e n = absurd (false≢true (sym n ∙ e))
@@ -89,48 +84,34 @@ ended_left q (Shifting from to at) e n = ap Some (sym (same_place q from (or_her
     or_here : (a b : Bool) → (a || b) ≡ true → b ≡ false → a ≡ true
     or_here true b e n = refl
     or_here false b e n = absurd (false≢true (sym n ∙ e))
+ended_left q there e n = absurd (false≢true e)
 
 -- the file that it leaves it held, and holds no more
 pub ended_held : (p : Place) (there : Home) → old_file there ≡ Some p → holds p there ≡ true
-ended_held p Parked e = absurd (cc)
-ended_held p Entered e = absurd (cc)
-ended_held p (Resident q) e = absurd (cc)
 ended_held p (Leaving from at) e = let same : from ≡ p = cc in ap (is_place p) same ∙ is_itself_place p
-ended_held p (Arriving to at) e = absurd (cc)
 ended_held p (Shifting from to at) e = let same : from ≡ p = cc in ap (λ f. is_place p f || is_place p to) same ∙ ap (λ b. b || is_place p to) (is_itself_place p)
+ended_held p there e = absurd (cc)
 
 ended_unheld : (p : Place) (there : Home) → AreApart there → old_file there ≡ Some p → holds p (ended there) ≡ false
-ended_unheld p Parked apart e = refl
-ended_unheld p Entered apart e = refl
 ended_unheld p (Resident q) apart e = absurd (cc)
-ended_unheld p (Leaving from at) apart e = refl
 ended_unheld p (Arriving to at) apart e = absurd (cc)
 ended_unheld p (Shifting from to at) apart e = let same : from ≡ p = cc in ap (λ f. is_place f to) (sym same) ∙ apart
+ended_unheld p there apart e = refl
 
 -- of all others it holds what it held
 ended_same : (q : Place) (there : Home) → old_file there ≡ None → holds q (ended there) ≡ holds q there
-ended_same q Parked e = refl
-ended_same q Entered e = refl
-ended_same q (Resident p) e = refl
 ended_same q (Leaving from at) e = absurd (cc)
-ended_same q (Arriving to at) e = refl
 ended_same q (Shifting from to at) e = absurd (cc)
+ended_same q there e = refl
 
 ended_others : (q p : Place) (there : Home) → old_file there ≡ Some p → is_place q p ≡ false → holds q (ended there) ≡ holds q there
-ended_others q p Parked e ne = refl
-ended_others q p Entered e ne = refl
-ended_others q p (Resident r) e ne = refl
 ended_others q p (Leaving from at) e ne = let same : from ≡ p = cc in sym ne ∙ ap (is_place q) (sym same)
-ended_others q p (Arriving to at) e ne = refl
 ended_others q p (Shifting from to at) e ne = let same : from ≡ p = cc in ap (λ b. b || is_place q to) (sym ne ∙ ap (is_place q) (sym same))
+ended_others q p there e ne = refl
 
 ended_apart : (there : Home) → AreApart (ended there)
-ended_apart Parked = tt
-ended_apart Entered = tt
-ended_apart (Resident q) = tt
 ended_apart (Leaving from at) = tt
-ended_apart (Arriving to at) = tt
-ended_apart (Shifting from to at) = tt
+ended_apart there = tt
 
 -- ---- what is held then
 

@@ -21,7 +21,7 @@ use Rattle.aia_home.specs.declared.place.Place.{Place}
 use Rattle.aia_home.specs.declared.vm.Vm.{Vm}
 use Rattle.aia_home.specs.Vms.{Vcpu, is_vcpu, vcpus_in, is_vcpu_in, slot_of, notice_identity, notice_hart}
 use Rattle.aia_home.specs.Home.{Home, is_place, holds}
-use Rattle.aia_home.specs.Home.Home.{Parked, Entered, Resident, Leaving, Arriving, Shifting}
+use Rattle.aia_home.specs.Home.Home.{Resident, Leaving, Arriving, Shifting}
 use Rattle.aia_home.specs.Routes.{peers_reach, MayLand, is_noticed}
 use Rattle.aia_home.proofs.RouteLemmas.{reach_lands, peers_may}
 use Rattle.aia_model.proofs.ReachLemmas.{in_force_may}
@@ -128,8 +128,6 @@ resident_seen w u g p own rest eo = seen_by w u g (Resident p) own (file_in w No
 pub view_stored : (w u : World) (g : Vcpu) (there : Home) (p : Place) (offset value : ℕ) → StoresIn w u (spot_of p) offset value → ((q : Place) → holds q there ≡ true → IsThere w.imsic (spot_of q)) → AreApart there → holds p there ≡ true
     → places_of u g there ≡ places_landed (Some p) there offset value (places_of w g there)
 unfolding view_with
-view_stored w u g Parked p offset value s held apart here = absurd (false≢true here)
-view_stored w u g Entered p offset value s held apart here = absurd (false≢true here)
 view_stored w u g (Resident q) p offset value s held apart here =
     let same = same_place p q here in
     seen_by w u g (Resident q) (landed offset value (file_in w (Some q))) (file_in w None) s.rest (subst (λ (x : Place). shown (file_at u.imsic (spot_of x)) ≡ landed offset value (shown (file_at w.imsic (spot_of x)))) same (file_landed w u p offset value s)) (ap (λ (x : World). file_in x None) s.rest)
@@ -170,6 +168,7 @@ view_stored w u g (Shifting from to at) p offset value s held apart here = elim 
       | inl t ↦ absurd (false≢true (sym e ∙ ap (is_place p) (same_place q p t) ∙ is_itself_place p))
       | inr f ↦ f
     ]
+view_stored w u g there p offset value s held apart here = absurd (false≢true here)
 
 -- ---- it lands in the slot
 

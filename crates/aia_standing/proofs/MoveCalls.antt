@@ -10,7 +10,7 @@ use Rattle.aia_home.specs.declared.vm.Vm.{Vm}
 use Rattle.aia_home.specs.Vms.{Vcpu, vcpu, is_vcpu_in, slot_of, notice_hart}
 use Rattle.aia_home.specs.Home.{Home, holds, is_moving, one_more}
 use Rattle.aia_home.specs.Plans.{is_at_last, Access, leave_plan, arrive_plan, shift_plan, IsNext}
-use Rattle.aia_home.specs.Home.Home.{Parked, Entered, Resident, Leaving, Arriving, Shifting}
+use Rattle.aia_home.specs.Home.Home.{Leaving, Arriving, Shifting}
 use Rattle.aia_home.proofs.PlanLemmas.{leave_plan-length, arrive_plan-length, shift_plan-length, next_in_plan}
 use Rattle.aia_home.proofs.VmLemmas.{slot_below}
 use Rattle.aia_home.proofs.AllLemmas.{any_vcpu}
@@ -126,9 +126,6 @@ begin_call x y want found who old new given named its world s b =
 
 -- how many steps are left
 pub left_fewer : (words : ℕ) (there : Home) (access : Access) → IsNext words there access → steps_left words (one_more there) < steps_left words there
-left_fewer words Parked access next = let no : false ≡ true = next.has in absurd (cc)
-left_fewer words Entered access next = let no : false ≡ true = next.has in absurd (cc)
-left_fewer words (Resident p) access next = let no : false ≡ true = next.has in absurd (cc)
 left_fewer words (Leaving from at) access next =
     let low : at.steps < length (leave_plan words) = slice_get_within (leave_plan words) at.steps access (next_in_plan words (Leaving from at) access next) in
     let long = leave_plan-length words in
@@ -141,14 +138,11 @@ left_fewer words (Shifting from to at) access next =
     let low : at.steps < length (shift_plan words) = slice_get_within (shift_plan words) at.steps access (next_in_plan words (Shifting from to at) access next) in
     let long = shift_plan-length words in
     omega (arith, low, long)
+left_fewer words there access next = let no : false ≡ true = next.has in absurd (cc)
 
 aims_stay : (there : Home) → aims_done (one_more there) ≡ aims_done there
-aims_stay Parked = refl
-aims_stay Entered = refl
-aims_stay (Resident p) = refl
 aims_stay (Leaving from at) = refl
-aims_stay (Arriving to at) = refl
-aims_stay (Shifting from to at) = refl
+aims_stay there = refl
 
 -- the plan that is kept can make its next step
 pub plan_known : (x : CoreState) (who : Found) (plan : Plan) → StandsForSome x → IsFound x.world who → stays.Moving plan ≡ (get_or x.vcpus who.slot no_record).stay → MoveFits x.world (moving_of plan) × IsInPhase (width x.world) plan
@@ -344,20 +338,14 @@ landed_goes x landed y who plan last unaimed c a =
 -- ---- a step that aims
 
 aims_once : (there : Home) → is_moving there ≡ true → aims_done (aimed there) ≡ suc (aims_done there)
-aims_once Parked moves = absurd (true≢false (sym moves))
-aims_once Entered moves = absurd (true≢false (sym moves))
-aims_once (Resident p) moves = absurd (true≢false (sym moves))
 aims_once (Leaving from at) moves = omega arith
 aims_once (Arriving to at) moves = omega arith
 aims_once (Shifting from to at) moves = omega arith
+aims_once there moves = absurd (true≢false (sym moves))
 
 left_aimed : (words : ℕ) (there : Home) → steps_left words (aimed there) ≡ steps_left words there
-left_aimed words Parked = refl
-left_aimed words Entered = refl
-left_aimed words (Resident p) = refl
 left_aimed words (Leaving from at) = refl
-left_aimed words (Arriving to at) = refl
-left_aimed words (Shifting from to at) = refl
+left_aimed words there = refl
 
 -- What a step's calls say that aims a passed source.
 pub record Aims (x y : CoreState) (who : Found) (plan later : Plan) : Type 0 where

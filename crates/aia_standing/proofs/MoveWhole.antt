@@ -140,11 +140,10 @@ pub record Accepts (h : History) (line_refusal : Option Answer) (move : Move) (g
 
 leave_begun_at : (h : History) (g : Vcpu) (there : Home) → home h g ≡ there → is_moving there ≡ false → rests_in_memory there ≡ false → IsAt (Leaves g) (passes_for h g) 0 (home (Began (Leaves g) ∷ h) g)
 leave_begun_at h g (Resident p) e still home_is = subst (IsAt (Leaves g) (passes_for h g) 0) (sym (home_step (Began (Leaves g)) h g ∙ cond-true _ _ _ (is_itself g) ∙ ap leaving e)) (record { on = tt; count = refl; few = omega arith })
-leave_begun_at h g Parked e still home_is = absurd (true≢false home_is)
-leave_begun_at h g Entered e still home_is = absurd (true≢false home_is)
 leave_begun_at h g (Leaving from at) e still home_is = absurd (true≢false still)
 leave_begun_at h g (Arriving to at) e still home_is = absurd (true≢false still)
 leave_begun_at h g (Shifting from to at) e still home_is = absurd (true≢false still)
+leave_begun_at h g there e still home_is = absurd (true≢false home_is)
 
 arrive_begun_at : (h : History) (g : Vcpu) (hart : ℕ) (there : Home) (o : Option ℕ) → home h g ≡ there → free_file h (home h) hart ≡ o → is_moving there ≡ false → is_resident there ≡ false → is_entered there ≡ false → is_none o ≡ false → IsAt (Arrives g hart) (passes_for h g) 0 (home (Began (Arrives g hart) ∷ h) g)
 arrive_begun_at h g hart Parked (Some file) e free still away waits some =
@@ -160,11 +159,10 @@ shift_begun_at : (h : History) (g : Vcpu) (hart : ℕ) (there : Home) (o : Optio
 shift_begun_at h g hart (Resident p) (Some file) e free still home_is some =
     subst (IsAt (Shifts g hart) (passes_for h g) 0) (sym (home_step (Began (Shifts g hart)) h g ∙ cond-true _ _ _ (is_itself g) ∙ ap (λ o. option_map_or (λ file. shifting (guest_place hart file) (home h g)) o (home h g)) free ∙ ap (shifting (guest_place hart file)) e)) (record { on = tt; count = refl; few = omega arith })
 shift_begun_at h g hart (Resident p) None e free still home_is some = absurd (true≢false some)
-shift_begun_at h g hart Parked o e free still home_is some = absurd (true≢false home_is)
-shift_begun_at h g hart Entered o e free still home_is some = absurd (true≢false home_is)
 shift_begun_at h g hart (Leaving from at) o e free still home_is some = absurd (true≢false still)
 shift_begun_at h g hart (Arriving to at) o e free still home_is some = absurd (true≢false still)
 shift_begun_at h g hart (Shifting from to at) o e free still home_is some = absurd (true≢false still)
+shift_begun_at h g hart there o e free still home_is some = absurd (true≢false home_is)
 
 module _ (h : History) (vm number : ℕ) (machine : has_machine h ≡ true) where
   abbrev its : Home

@@ -9,7 +9,7 @@ use Rattle.aia_imsic.specs.Imsic.{IsThere, file_at}
 use Rattle.aia_home.specs.declared.place.Place.{Place}
 use Rattle.aia_home.specs.Vms.{Vcpu, slot_of, notice_hart}
 use Rattle.aia_home.specs.Home.{Home, Progress}
-use Rattle.aia_home.specs.Home.Home.{Parked, Entered, Resident, Leaving, Arriving, Shifting}
+use Rattle.aia_home.specs.Home.Home.{Leaving, Arriving, Shifting}
 use Rattle.aia_home.specs.BySteps.{is_leaving}
 use Rattle.aia_home.specs.Plans.{Access, IsNext, leave_step, leave_steps}
 use Rattle.aia_home.specs.Plans.Access.{Post}
@@ -56,12 +56,10 @@ shift_sent words access from to at hand next = refl
 
 -- at the end of a leave whose looks saw something
 pub sent_where : (words : ℕ) (access : Access) (there : Home) (hand : Hand) (saw : Bool) → IsNext words there access → (is_leaving there && hand.seen) ≡ (is_leaving there && saw) → sends access hand ≡ (ends_leave words there && saw)
-sent_where words access Parked hand saw next looks = let no : false ≡ true = next.has in absurd (cc)
-sent_where words access Entered hand saw next looks = let no : false ≡ true = next.has in absurd (cc)
-sent_where words access (Resident p) hand saw next looks = let no : false ≡ true = next.has in absurd (cc)
 sent_where words access (Leaving from at) hand saw next looks = leave_sent words access from at hand saw next looks
 sent_where words access (Arriving to at) hand saw next looks = arrive_sent words access to at hand next
 sent_where words access (Shifting from to at) hand saw next looks = shift_sent words access from to at hand next
+sent_where words access there hand saw next looks = let no : false ≡ true = next.has in absurd (cc)
 
 -- ---- what it is to the host
 

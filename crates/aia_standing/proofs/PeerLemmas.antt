@@ -12,7 +12,7 @@ use Rattle.aia_home.specs.declared.place.Place.{Place}
 use Rattle.aia_home.specs.declared.vm.Vm.{Vm}
 use Rattle.aia_home.specs.Vms.{Vcpu, vcpu, is_vcpu_in}
 use Rattle.aia_home.specs.Home.{Home, runs, is_moving}
-use Rattle.aia_home.specs.Home.Home.{Parked, Entered, Resident, Leaving, Arriving, Shifting}
+use Rattle.aia_home.specs.Home.Home.{Parked, Leaving, Arriving, Shifting}
 use Rattle.aia_home.specs.Routes.{peers_reach, MayLand}
 use Rattle.aia_world.specs.World.{World, stage_of}
 use Rattle.aia_world.specs.Stores.{StoresAt, Relays, named_spot}
@@ -50,8 +50,7 @@ away_as_kept w g (stays.Moving plan) p = on_the_move (moving_of plan).home p.3
     on_the_move (Arriving to at) moving = refl
     on_the_move (Shifting from to at) moving = refl
     on_the_move Parked moving = refl
-    on_the_move Entered moving = absurd (cc)
-    on_the_move (Resident p) moving = absurd (cc)
+    on_the_move there moving = absurd (cc)
 
 vcpu_there : (x : CoreState) (h : History) (g : Vcpu) → CoreStands x h → is_vcpu_in x.world.vms g ≡ true → has_vcpu h g ≡ true
 vcpu_there x h g stands there = subst (λ (vs : List Vm). is_vcpu_in vs g ≡ true) stands.vms there
