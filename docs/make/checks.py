@@ -91,17 +91,17 @@ def shapes(name):
     return shape_of(tokens_of(clauses("aia_model", "Forms", name)[0][1]))
 
 
-def names_in(group):
-    """Lists the forms of a group of the table, and those of the groups that it goes on with."""
-    for name in re.findall(r"\w+", clauses("aia_model", "Forms", group)[0][1]):
-        yield from names_in(name) if name.startswith("forms_of_") else [name]
+def forms_in(name):
+    """Lists what the forms of a list of the table are, those of a list that ends it too."""
+    for member in re.findall(r"\w+", clauses("aia_model", "Forms", name)[0][1]):
+        right = clauses("aia_model", "Forms", member)[0][1]
+        form = re.match(r'\s*form \(codes "(\w+)"\)\s*(.*)', right, re.S)
+        yield from [form.groups()] if form else forms_in(member)
 
 
 def all_forms():
     """Lists the texts of all forms, in the order of the table."""
-    for name in names_in("forms"):
-        right = clauses("aia_model", "Forms", name)[0][1]
-        keyword, rest = re.match(r'\s*form \(codes "(\w+)"\)\s*(.*)', right, re.S).groups()
+    for keyword, rest in forms_in("forms"):
         table = tokens_of(rest)
         table = ["("] + table + [")"] if table[0] != "(" else table
         for text in shape_of(table):
