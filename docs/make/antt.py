@@ -54,7 +54,7 @@ def read_module(crate, module):
             comment = []
         if not groups and line:
             groups.append(Group([]))
-        if groups:
+        if groups and (line or groups[-1].code):
             groups[-1].code.append(line)
     # An operator's `infixl` stands before the comment of its definition.
     for group, later in zip(groups, groups[1:]):
