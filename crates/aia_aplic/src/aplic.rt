@@ -1,8 +1,9 @@
-ghost use Rattle.std.specs.Prelude.{◌≡◌, ℕ, ◌+◌, ◌*◌, ◌<◌, ◌≤◌, ◌↔◌, ◌&&◌, [], ◌∷◌, length, Bool, true, false, IfOk, IfSome, IfNone, IsFalse, option_map};
+ghost use Rattle.std.specs.Prelude.{◌≡◌, ℕ, ◌+◌, ◌*◌, ◌<◌, ◌≤◌, ◌↔◌, ◌&&◌, [], ◌∷◌, length, Bool, true, false, None, IfOk, IfSome, IfNone, IsFalse, option_map};
 ghost use Rattle.aia_word.specs.Sets.{word_of};
 ghost use Rattle.aia_regs.specs.declared.limits.TheConstants.{HARTS, IDENTITIES, SOURCES, SOURCE_WORDS};
 ghost use Rattle.aia_regs.specs.DomainRegisters.{domain_register_of};
 ghost use Rattle.aia_model.specs.Act.{Past};
+ghost use Rattle.aia_model.specs.declared.sender.Sender.{Sender};
 ghost use Rattle.aia_model.specs.declared.domain_name.DomainName.TheVariants.{Root};
 ghost use Rattle.aia_model.specs.Act.Act.{Made, Driven, Written, Loaded, Sent, Aimed};
 ghost use Rattle.aia_model.specs.Sent.{msi_of};
@@ -240,6 +241,18 @@ impl Aplic {
         ensures fewer { IfSome result (λ msi. waiting self.new < waiting self.old) }
     {
         self.next_msi_in::<Brand>(Blank::new(1))
+    }
+
+    /// Tells whether an MSI waits to be sent; where none does, `next_msi` sends none.
+    ///
+    /// AIA 1.0, APLIC, "Interrupt forwarding by MSIs".
+    #[tactic(auto, using(aia_wiring::proofs::FirstLemmas::none_is_first))]
+    pub fn has_msi(&self) -> bool
+        ensures waits { IsFalse result ↔ ((sender : Sender) → does_wait self.now sender ≡ false) }
+        ensures none { IsFalse result → (past : Past) → AplicStands self.now past
+            → IsFirst None past }
+    {
+        self.root.genmsi_waits() || self.child.genmsi_waits() || self.has_ready()
     }
 
     /// Sends the MSI that `next_msi` sends, and counts 32 steps at most, one for each look at 64

@@ -12,7 +12,7 @@ use Rattle.aia_replay.specs.Runs.{NoEnd, IsWhole}
 use Rattle.aia_replay.specs.Stands.{EngineState, StandsFor, ServesText, ReadsAsMachine}
 use Rattle.aia_replay.proofs.CutLemmas.{texts_front}
 use Rattle.aia_replay.proofs.HeldLemmas.{one_text}
-use Rattle.aia_c.specs.declared.limits.TheConstants.{ANSWER_BYTES}
+use Rattle.aia_model.specs.declared.limits.TheConstants.{ANSWER_BYTES}
 use Rattle.aia_c.specs.Calls.{Gives, Answers, WantsMemory, IsCramped, Reads, Lines}
 use Rattle.aia_c.proofs.JoinedLemmas.{one_line, answered_more, whole_again}
 

@@ -12,7 +12,7 @@ use Rattle.aia_replay.specs.Stands.{EngineState, StandsFor, Serves, ReadsAsMachi
 use Rattle.aia_replay.specs.Runs.{IsWhole}
 use Rattle.aia_c.specs.declared.code.Code.{Code}
 use Rattle.aia_c.specs.declared.code.Code.TheVariants.{Done, NoMemory, Closed, Open, NoRoom, NoLine}
-use Rattle.aia_c.specs.declared.limits.TheConstants.{ANSWER_BYTES}
+use Rattle.aia_model.specs.declared.limits.TheConstants.{ANSWER_BYTES}
 use Rattle.aia_c.specs.Codes.{number, code_of, wide_of}
 
 -- A closed handle is opened, with an engine that has no machine, or there is no memory; an open one

@@ -10,17 +10,16 @@ mod guests;
 mod handle;
 mod hosts;
 pub mod laws;
-mod limits;
 mod moves;
 mod serve;
 #[cfg(test)]
 mod tests;
 mod texts;
 
+use aia_model::limits::ANSWER_BYTES;
 use aia_replay::Engine;
 use code::Code;
 use handle::Handle;
-use limits::ANSWER_BYTES;
 use std::alloc::Global;
 use texts::{answer_script, write_answer};
 

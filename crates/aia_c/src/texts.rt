@@ -5,10 +5,10 @@ ghost use Rattle.aia_model.specs.AnswerText.{answer_text};
 ghost use Rattle.aia_replay.specs.Runs.{NoEnd, IsWhole};
 ghost use Rattle.aia_c.specs.Calls.{Answers, Takes, WantsMemory};
 ghost use Rattle.aia_c.specs.Codes.{number};
-ghost use Rattle.aia_c.specs.declared.limits.TheConstants.{ANSWER_BYTES};
+ghost use Rattle.aia_model.specs.declared.limits.TheConstants.{ANSWER_BYTES};
 
 use crate::code::Code;
-use crate::limits::ANSWER_BYTES;
+use aia_model::limits::ANSWER_BYTES;
 use aia_replay::Engine;
 use aia_script::{Answer, print_answer};
 use arrayvec::ArrayVec;

@@ -240,7 +240,7 @@ impl Fabric {
         ensures value { result ≡ notice_hart self.now.vms (vcpu vm number) }
         ensures there { result < self.now.imsic.harts }
     {
-        self.vms.notice_hart(self.vms.slot_of(vm, number))
+        self.vms.notice_hart(vm, number)
     }
 
     // ---- files
@@ -305,7 +305,7 @@ impl Fabric {
           notices = counted self.old.notices;
         } }
     {
-        let hart = self.vms.notice_hart(q);
+        let hart = self.vms.notice_hart_at(q);
         self.post(Spot::SupervisorFile(hart), q + 1);
     }
 

@@ -77,7 +77,7 @@ impl Fabric {
         ensures rest { OnlyStores self.old self.new }
     {
         let _whole = self.words();
-        let hart = self.vms.notice_hart(q);
+        let hart = self.vms.notice_hart_at(q);
         self.store_in(q, Spot::SupervisorFile(hart), q + 1, 0, value);
     }
 

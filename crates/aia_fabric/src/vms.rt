@@ -69,8 +69,16 @@ impl Vms {
         }
     }
 
+    /// Gives the hart that takes the notices of a virtual hart that is there.
+    pub fn notice_hart(&self, vm: u32, number: u32) -> u32
+        requires { is_vcpu_in self.now (vcpu vm number) ≡ true }
+        ensures { result ≡ notice_hart self.now (vcpu vm number) }
+    {
+        self.kept[vm as usize].notice_hart
+    }
+
     /// Finds the hart that takes the notices of the virtual hart of slot `q`.
-    pub fn notice_hart(&self, q: u32) -> u32
+    pub fn notice_hart_at(&self, q: u32) -> u32
         requires { q < vcpus_in self.now }
         ensures { (g : Vcpu) → is_vcpu_in self.now g ≡ true → slot_of self.now g ≡ q
             → result ≡ notice_hart self.now g }

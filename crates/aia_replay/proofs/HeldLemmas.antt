@@ -16,7 +16,7 @@ use Rattle.aia_replay.specs.declared.buffered.Buffered.{Buffered}
 use Rattle.aia_replay.specs.Buffered.{Gathers, CutOff}
 use Rattle.aia_replay.specs.Stands.{EngineState, StandsFor, ReadsAsMachine}
 use Rattle.aia_replay.specs.Runs.{NoEnd, AsksMachine, CutsLines}
-use Rattle.aia_replay.specs.Streams.{WritesOut, WritesOutFront, HasAnswered, HasStopped, Begins, AnswersText, LacksMemory}
+use Rattle.aia_replay.specs.Streams.{WritesOut, WritesOutFront, HasAnswered, HasStopped, Begins, AnswersText, AnswersRead, LacksMemory}
 use Rattle.aia_replay.proofs.CutLemmas.{texts_front, texts_last, take_again}
 
 -- ---- what waits in the buffer
@@ -82,8 +82,10 @@ with_part r part = record r { line = record r.line { items = take 129 (r.line.it
 
 pub as_kept : (old new : Replayer) (mid now : Option (List ℕ)) (part : List ℕ) → AnswersText old new mid now (old.line.items ++ part) → AnswersText (with_part old part) new mid now (with_part old part).line.items
 as_kept old new mid now part answered = record {
-  answers = λ h stands. subst (λ (p : Parsed). Gathers old.out.bytes.items new.out.bytes.items mid now (printed (text_answer h p))) (sym (reading_take (old.line.items ++ part))) (answered.answers h stands);
-  stands = λ h stands. subst (λ (p : Parsed). StandsFor new.engine (after_text h p)) (sym (reading_take (old.line.items ++ part))) (answered.stands h stands);
+  read = record {
+    answers = λ h stands. subst (λ (p : Parsed). Gathers old.out.bytes.items new.out.bytes.items mid now (printed (text_answer h p))) (sym (reading_take (old.line.items ++ part))) (answered.read.answers h stands);
+    stands = λ h stands. subst (λ (p : Parsed). StandsFor new.engine (after_text h p)) (sym (reading_take (old.line.items ++ part))) (answered.read.stands h stands);
+  };
   empty = answered.empty;
 }
 
@@ -101,9 +103,11 @@ kept_answered old kept new mid now part line others answered =
     let engine : kept.engine ≡ old.engine = ap (λ (r : Replayer). r.engine) others in
     let out : kept.out ≡ old.out = ap (λ (r : Replayer). r.out) others in
     record {
-      answers = λ h stands. subst (λ (p : Parsed). Gathers old.out.bytes.items new.out.bytes.items mid now (printed (text_answer h p))) same
-          (subst (λ (o : Buffered). Gathers o.bytes.items new.out.bytes.items mid now (printed (text_answer h (reading kept.line.items)))) out (answered.answers h (subst (λ (e : EngineState). StandsFor e h) (sym engine) stands)));
-      stands = λ h stands. subst (λ (p : Parsed). StandsFor new.engine (after_text h p)) same (answered.stands h (subst (λ (e : EngineState). StandsFor e h) (sym engine) stands));
+      read = record {
+        answers = λ h stands. subst (λ (p : Parsed). Gathers old.out.bytes.items new.out.bytes.items mid now (printed (text_answer h p))) same
+            (subst (λ (o : Buffered). Gathers o.bytes.items new.out.bytes.items mid now (printed (text_answer h (reading kept.line.items)))) out (answered.read.answers h (subst (λ (e : EngineState). StandsFor e h) (sym engine) stands)));
+        stands = λ h stands. subst (λ (p : Parsed). StandsFor new.engine (after_text h p)) same (answered.read.stands h (subst (λ (e : EngineState). StandsFor e h) (sym engine) stands));
+      };
       empty = answered.empty;
     }
 
@@ -130,7 +134,7 @@ reply_passes : (old new : Replayer) (before mid now : Option (List ℕ)) (bytes 
     → Gathers [] new.out.bytes.items before now (holds.written ++ printed (text_answer holds.history (reading holds.tail)))
 reply_passes old new before mid now bytes line holds =
     let h = holds.history in
-    let reply = subst (λ (p : Parsed). Gathers old.out.bytes.items new.out.bytes.items mid now (printed (text_answer h p))) (tail_read old before mid bytes holds) (line.answers h holds.stands) in
+    let reply = subst (λ (p : Parsed). Gathers old.out.bytes.items new.out.bytes.items mid now (printed (text_answer h p))) (tail_read old before mid bytes holds) (line.read.answers h holds.stands) in
     passes_more old.out.bytes.items new.out.bytes.items before mid now holds.written (printed (text_answer h (reading holds.tail))) holds.gathered reply
 
 -- the line's LF is read, and the line answered
@@ -148,7 +152,7 @@ line_ended old new before mid now bytes line holds =
       written = holds.written ++ reply;
       whole = bytes ++ 10 ∷ [];
       tail = [];
-      stands = subst (λ (p : Parsed). StandsFor new.engine (after_text h p)) (tail_read old before mid bytes holds) (line.stands h holds.stands);
+      stands = subst (λ (p : Parsed). StandsFor new.engine (after_text h p)) (tail_read old before mid bytes holds) (line.read.stands h holds.stands);
       gathered = reply_passes old new before mid now bytes line holds;
       split = sym (append-nil (bytes ++ 10 ∷ []));
       answered = sym (append-nil (holds.written ++ reply)) ∙ goes [] ∙ ap answers (append-nil (bytes ++ 10 ∷ []));

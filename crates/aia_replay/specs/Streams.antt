@@ -6,6 +6,7 @@ use Rattle.aia_io.specs.declared.source.Read.{Read}
 use Rattle.aia_io.specs.declared.source.Read.TheVariants as reads
 use Rattle.aia_model.specs.Event.{History}
 use Rattle.aia_model.specs.Text.{texts_of}
+use Rattle.aia_model.specs.declared.parsed.Parsed.{Parsed}
 use Rattle.aia_model.specs.Reading.{reading}
 use Rattle.aia_model.specs.Script.{answers, answers_from, printed, text_answer, after_text, after_texts, history_of}
 use Rattle.aia_model.specs.declared.limits.TheConstants.{LINE_BYTES}
@@ -121,21 +122,28 @@ abbrev pub FinishesStop : Replayer → Replayer → Option (List ℕ) → Option
 FinishesStop old new mid now =
     WhateverWasRead old mid (λ before bytes. HasStopped new before now bytes [])
 
--- The text of a line asks for a machine, for which there is no memory, and nothing was answered.
-pub record LacksMemory (old new : Replayer) (mid now : Option (List ℕ)) (text : List ℕ)
+-- What a text reads as asks for a machine, for which there is no memory, and nothing was answered.
+pub record LacksMemoryFor (old new : Replayer) (mid now : Option (List ℕ)) (read : Parsed)
     : Type 0 where
-  pub asks : ReadsAsMachine old.engine (reading text)
+  pub asks : ReadsAsMachine old.engine read
   pub same : new.out ≡ old.out
   pub kept : now ≡ mid
 
--- The text of a line is answered, whatever history the engine stood for, and the next line begins.
-pub record AnswersText (old new : Replayer) (mid now : Option (List ℕ)) (text : List ℕ)
+-- What a text reads as is answered, whatever history the engine stood for.
+pub record AnswersRead (old new : Replayer) (mid now : Option (List ℕ)) (read : Parsed)
     : Type 0 where
   pub answers : (h : History) → StandsFor old.engine h
-      → Gathers old.out.bytes.items new.out.bytes.items mid now
-      (printed (text_answer h (reading text)))
-  pub stands : (h : History) → StandsFor old.engine h
-      → StandsFor new.engine (after_text h (reading text))
+      → Gathers old.out.bytes.items new.out.bytes.items mid now (printed (text_answer h read))
+  pub stands : (h : History) → StandsFor old.engine h → StandsFor new.engine (after_text h read)
+
+-- The same of the text of a line.
+abbrev pub LacksMemory : Replayer → Replayer → Option (List ℕ) → Option (List ℕ) → List ℕ → Type 0
+LacksMemory old new mid now text = LacksMemoryFor old new mid now (reading text)
+
+-- The text of a line is answered, and the next line begins.
+pub record AnswersText (old new : Replayer) (mid now : Option (List ℕ)) (text : List ℕ)
+    : Type 0 where
+  pub read : AnswersRead old new mid now (reading text)
   pub empty : new.line.items ≡ []
 
 -- ---- a whole run

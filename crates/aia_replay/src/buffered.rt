@@ -6,6 +6,7 @@ ghost use Rattle.aia_replay.specs.Buffered.{Gathers, CutOff};
 
 use crate::limits::BUFFER_BYTES;
 use aia_io::{Sink, Write};
+use aia_model::limits::ANSWER_BYTES;
 use aia_script::{Answer, print_answer};
 use arrayvec::ArrayVec;
 
@@ -55,7 +56,25 @@ impl Buffered {
             (CutOff (K.taken sink.old) (K.taken sink.new) self.old.bytes.items) }
         ensures later { K.faults sink.old ≤ K.faults sink.new }
     {
-        let mut text = ArrayVec::new();
+        if self.bytes.remaining_capacity() < ANSWER_BYTES {
+            return self.add_last(sink, answer);
+        }
+        print_answer(answer, &mut self.bytes);
+        Ok(())
+    }
+
+    /// Adds an answer, with its LF, for which there may be no room.
+    #[cold]
+    #[inline(never)]
+    fn add_last<K: Sink>(&mut self, sink: &mut K, answer: &Answer) -> Result<(), SinkFault>
+        ensures ok { OnOk result (Gathers self.old.bytes.items self.new.bytes.items
+            (K.taken sink.old) (K.taken sink.new) (answer_text answer.now)) }
+        ensures err { OnErr result (Rose (K.faults sink.old) (K.faults sink.new)) }
+        ensures cut { OnErr result
+            (CutOff (K.taken sink.old) (K.taken sink.new) self.old.bytes.items) }
+        ensures later { K.faults sink.old ≤ K.faults sink.new }
+    {
+        let mut text = ArrayVec::<u8, ANSWER_BYTES>::new();
         print_answer(answer, &mut text);
         self.add(sink, text.as_slice())
     }

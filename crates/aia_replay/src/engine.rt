@@ -1,4 +1,4 @@
-ghost use Rattle.std.specs.Prelude.{◌≡◌, ◌↔◌, ◌-◌, ◌^◌, min, [], None, IsTrue, IsNone, IfOk, OnErr};
+ghost use Rattle.std.specs.Prelude.{◌≡◌, ◌↔◌, ◌-◌, ◌^◌, min, [], None, IsTrue, IsNone, IfOk, OnOk, OnErr};
 ghost use Rattle.aia_model.specs.Forms.{IsListed};
 ghost use Rattle.aia_model.specs.Text.{is_skipped};
 ghost use Rattle.aia_model.specs.Event.{History};
@@ -46,10 +46,31 @@ impl Engine {
         ensures none { OnErr result (StandsFor self.new []) }
         ensures memory { OnErr result (WantsMachine self.old line.now) }
     {
-        if let Some(machine) = &mut self.machine {
-            return Ok(machine.line(line));
+        let mut answer = Answer::Okay;
+        self.answer(alloc, line, &mut answer)?;
+        Ok(answer)
+    }
+
+    /// Answers a line as [`Engine::line`] does, and puts the answer where it is read, which spares
+    /// copies of it.
+    #[inline(always)]
+    pub fn answer(
+        &mut self,
+        alloc: Global,
+        line: &Line,
+        answer: &mut Answer,
+    ) -> Result<(), AllocError>
+        requires { IsListed line.now }
+        ensures serves { OnOk result (Serves self.old self.new line.now answer.new) }
+        ensures err { OnErr result (self.new ≡ self.old) }
+        ensures none { OnErr result (StandsFor self.new []) }
+        ensures memory { OnErr result (WantsMachine self.old line.now) }
+    {
+        match &mut self.machine {
+            Some(machine) => machine.line(line, answer),
+            None => *answer = self.first_line(alloc, line)?,
         }
-        self.first_line(alloc, line)
+        Ok(())
     }
 
     /// Answers a line where no machine stands.
@@ -91,6 +112,7 @@ impl Engine {
 
     /// Answers a text of a script, by what it reads as: `None` exactly for a skipped text, and
     /// `Bad` for one that is neither skipped nor a line. Both change nothing.
+    #[inline(always)]
     pub fn text(&mut self, alloc: Global, text: &[u8]) -> Result<Option<Answer>, AllocError>
         ensures serves { IfOk result (ServesText self.old self.new (reading text.now)) }
         ensures skipped { IfOk result (λ given. IsNone given ↔ IsTrue (is_skipped text.now)) }

@@ -62,14 +62,14 @@ impl Machine {
 
     /// Answers a line after the one that made this machine. All MSIs that wait then are sent and
     /// land before it returns.
-    pub fn line(&mut self, line: &Line) -> Answer
+    #[inline(always)]
+    pub fn line(&mut self, line: &Line, answer: &mut Answer)
         requires listed { IsListed line.now }
         requires stands { StandsForSome self.old }
-        ensures { MachineServes self.old self.new line.now result }
+        ensures { MachineServes self.old self.new line.now answer.new }
     {
-        let answer = self.serve(line);
+        self.serve(line, answer);
         self.deliver();
-        answer
     }
 
     /// Tells how many notices were sent; the count stays at `2^64 - 1`.
@@ -81,12 +81,13 @@ impl Machine {
     }
 
     /// Answers it, and does what it does itself.
-    fn serve(&mut self, line: &Line) -> Answer
+    #[inline(always)]
+    fn serve(&mut self, line: &Line, answer: &mut Answer)
         requires listed { IsListed line.now }
         requires stands { StandsForSome self.old }
-        ensures { MachineTakes self.old self.new line.now result }
+        ensures { MachineTakes self.old self.new line.now answer.new }
     {
-        match *line {
+        *answer = match *line {
             Line::Machine { .. } => Answer::Again,
             Line::Vm { vcpus, mask, hart } => self.vm(vcpus, mask, hart),
             Line::Wire { source, level } => self.wire(source, level),
@@ -134,11 +135,23 @@ impl Machine {
             Line::Hviprio { vm, number, value } => self.hviprio(vm, number, value),
             Line::Pins { hart } => self.pins(hart),
             Line::Entry { w0, w1 } => self.entry(w0, w1),
-        }
+        };
     }
 
     /// Sends all MSIs that wait, each of which the core hears.
+    #[inline(always)]
     fn deliver(&mut self)
+        requires { CanDeliverSome self.old }
+        ensures { Delivers self.old self.new }
+    {
+        if self.wires.aplic.has_msi() {
+            self.deliver_waiting();
+        }
+    }
+
+    /// Sends the MSIs that wait, each of which the core hears.
+    #[inline(never)]
+    fn deliver_waiting(&mut self)
         requires { CanDeliverSome self.old }
         ensures { Delivers self.old self.new }
     {

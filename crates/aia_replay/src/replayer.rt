@@ -1,5 +1,7 @@
 ghost use Rattle.std.specs.Prelude.{◌≡◌, ◌≢◌, ℕ, ◌+◌, ◌*◌, ◌<◌, ◌≤◌, List, [], ◌∷◌, ◌++◌, take, Option, IfOk, OnOk, OnErr, Ok, Err};
 ghost use Rattle.aia_io.specs.Ends.{Rose};
+ghost use Rattle.aia_model.specs.Forms.{IsListed};
+ghost use Rattle.aia_model.specs.declared.line.Line.{Line};
 
 use crate::buffered::{Buffered, SinkFault};
 use crate::engine::Engine;
@@ -8,6 +10,7 @@ use crate::pieces::{LINE, keep, line_end, read_front};
 use crate::program::Status;
 use crate::stop::Stop;
 use aia_io::{Read, Sink, Source};
+use aia_script::{Answer, Parsed, parse_line};
 use arrayvec::ArrayVec;
 use std::alloc::Global;
 
@@ -23,7 +26,7 @@ pub struct Replayer {
 impl Replayer {
     ghost use Rattle.aia_replay.specs.Buffered.{CutOff};
     ghost use Rattle.std.specs.Io.KnownBytes.{Appends};
-    ghost use Rattle.aia_replay.specs.Streams.{Begins, AnswersText, LacksMemory, WritesOut, WritesOutFront};
+    ghost use Rattle.aia_replay.specs.Streams.{Begins, AnswersRead, AnswersText, LacksMemory, LacksMemoryFor, WritesOut, WritesOutFront};
     ghost use Rattle.aia_replay.specs.Streams.{Feeds, FeedsFront, FeedsStop, Finishes, FinishesFront, FinishesStop, Streams, StreamsFront, StreamsStop};
 
     /// Makes a replayer that has read nothing.
@@ -45,6 +48,32 @@ impl Replayer {
         keep(&mut self.line, part);
     }
 
+    /// Answers what a text reads as.
+    #[inline(always)]
+    fn answer<K: Sink>(&mut self, alloc: Global, sink: &mut K, read: &Parsed) -> Result<(), Stop>
+        requires { (line : Line) → read.now ≡ Parsed.Line line → IsListed line }
+        ensures ok { OnOk result (AnswersRead self.old self.new (K.taken sink.old)
+            (K.taken sink.new) read.now) }
+        ensures line { self.new.line ≡ self.old.line }
+        ensures sink { result ≡ Err Stop.Sink → Rose (K.faults sink.old) (K.faults sink.new) }
+        ensures cut { result ≡ Err Stop.Sink
+            → CutOff (K.taken sink.old) (K.taken sink.new) self.old.out.bytes.items }
+        ensures memory { result ≡ Err Stop.Memory
+            → LacksMemoryFor self.old self.new (K.taken sink.old) (K.taken sink.new) read.now }
+        ensures later { K.faults sink.old ≤ K.faults sink.new }
+    {
+        match read {
+            Parsed::Line(line) => {
+                let mut answer = Answer::Bad;
+                self.engine.answer(alloc, line, &mut answer)?;
+                self.out.add_answer(sink, &answer)?;
+            }
+            Parsed::Skip => {}
+            Parsed::Bad => self.out.add_answer(sink, &Answer::Bad)?,
+        }
+        Ok(())
+    }
+
     /// Answers the line that was kept, and begins the next one.
     #[cold]
     #[inline(never)]
@@ -59,9 +88,8 @@ impl Replayer {
             self.old.line.items }
         ensures later { K.faults sink.old ≤ K.faults sink.new }
     {
-        if let Some(answer) = self.engine.text(alloc, self.line.as_slice())? {
-            self.out.add_answer(sink, &answer)?;
-        }
+        let read = parse_line(self.line.as_slice());
+        self.answer(alloc, sink, &read)?;
         self.line.clear();
         Ok(())
     }
@@ -83,10 +111,7 @@ impl Replayer {
             self.keep(part);
             return self.answer_kept(alloc, sink);
         }
-        if let Some(answer) = self.engine.text(alloc, part)? {
-            self.out.add_answer(sink, &answer)?;
-        }
-        Ok(())
+        self.answer(alloc, sink, &parse_line(part))
     }
 
     /// Reads a piece of the script: answers each line that ends in it, and keeps what is left of

@@ -139,6 +139,7 @@ fn first_number(text: &[u8]) -> Option<(u64, Words<'_>)>
 
 /// Reads the number that the next word spells; `None` where it spells none below 2^64.
 #[tactic(auto, unfolding(aia_model::specs::Reading::number_at), using(crate::proofs::SpelledLemmas::first_is_number))]
+#[inline(always)]
 pub fn number_at(words: &mut Words<'_>) -> Option<u64>
     ensures { option_map (λ n. (n, left words.new)) result ≡ number_at (left words.old) }
 {
@@ -150,6 +151,7 @@ pub fn number_at(words: &mut Words<'_>) -> Option<u64>
 /// Reads the number below 2^32 that the next word spells, and gives the words after it; `None`
 /// where it spells none.
 #[tactic(auto, unfolding(aia_model::specs::Reading::n32_at))]
+#[inline(always)]
 pub fn n32_at(words: &mut Words<'_>) -> Option<u32>
     ensures { option_map (λ n. (n, left words.new)) result ≡ n32_at (left words.old) }
 {
@@ -171,6 +173,7 @@ fn bit(number: u64) -> Option<bool>
 /// Reads the level that the next word tells, and gives the words after it; `None` where it spells
 /// neither 0 nor 1.
 #[tactic(auto, unfolding(aia_model::specs::Reading::bit_at))]
+#[inline(always)]
 pub fn bit_at(words: &mut Words<'_>) -> Option<bool>
     ensures { option_map (λ level. (level, left words.new)) result ≡ bit_at (left words.old) }
 {

@@ -26,6 +26,7 @@ pub fn is_skipped(text: &[u8]) -> bool
 /// `Line(line)` says that the text spells `line`, and no other line. `Skip` says that it is empty,
 /// or a comment: it begins with `#` and has at most 128 bytes. `Bad` says that it is neither: it
 /// spells no line, as every text of more than 128 bytes. Nothing is allocated.
+#[inline(always)]
 pub fn parse_line(text: &[u8]) -> Parsed
     ensures line { (line : Line) → (result ≡ Parsed.Line line) ↔ Spells text.now line }
     ensures skip { (result ≡ Parsed.Skip) ↔ IsTrue (is_skipped text.now) }
@@ -39,6 +40,7 @@ pub fn parse_line(text: &[u8]) -> Parsed
 
 /// Reads a text, word by word.
 #[tactic(auto, unfolding(aia_model::specs::Reading::reading))]
+#[inline(always)]
 fn read(text: &[u8]) -> Parsed
     ensures { result ≡ reading text.now }
 {

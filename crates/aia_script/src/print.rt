@@ -1,19 +1,21 @@
 //! An answer is printed.
 
-ghost use Rattle.std.specs.Prelude.{◌≡◌, ◌+◌, ◌≤◌, [], ◌++◌};
+ghost use Rattle.std.specs.Prelude.{◌≡◌, ◌+◌, ◌≤◌, ◌++◌};
 ghost use Rattle.arrayvec.specs.ArrayVec.{array_vec_len};
+ghost use Rattle.aia_model.specs.declared.limits.TheConstants.{ANSWER_BYTES};
 ghost use Rattle.aia_model.specs.AnswerText.{level_text, entry_text, refusal_word, answer_word, answer_text};
 
 use crate::number::Radix;
 use crate::parts::push_part;
 use crate::pieces::{digit_character, push_bytes, push_number, push_text};
 use aia_entry::Entry;
+use aia_model::limits::ANSWER_BYTES;
 use aia_model::{Answer, Refusal};
 use arrayvec::ArrayVec;
 
 /// Appends a space and the digit of a level.
-fn push_level(out: &mut ArrayVec<u8, 64>, level: bool)
-    requires { array_vec_len out.old + 2 ≤ 64 }
+fn push_level<const N: usize>(out: &mut ArrayVec<u8, N>, level: bool)
+    requires { array_vec_len out.old + 2 ≤ N }
     ensures text { out.new.items ≡ out.old.items ++ level_text level }
     ensures length { array_vec_len out.new ≡ array_vec_len out.old + 2 }
 {
@@ -22,8 +24,14 @@ fn push_level(out: &mut ArrayVec<u8, 64>, level: bool)
 }
 
 /// Appends the word of an answer to `pins`.
-fn push_pins(out: &mut ArrayVec<u8, 64>, root: bool, child: bool, machine: bool, supervisor: bool)
-    requires { array_vec_len out.old + 12 ≤ 64 }
+fn push_pins<const N: usize>(
+    out: &mut ArrayVec<u8, N>,
+    root: bool,
+    child: bool,
+    machine: bool,
+    supervisor: bool,
+)
+    requires { array_vec_len out.old + 12 ≤ N }
     ensures text { out.new.items
         ≡ out.old.items ++ answer_word (Answer.Pins root child machine supervisor) }
     ensures length { array_vec_len out.new ≡ array_vec_len out.old + 12 }
@@ -36,8 +44,8 @@ fn push_pins(out: &mut ArrayVec<u8, 64>, root: bool, child: bool, machine: bool,
 }
 
 /// Appends what an entry says.
-fn push_entry(out: &mut ArrayVec<u8, 64>, entry: Entry)
-    requires { array_vec_len out.old + 63 ≤ 64 }
+fn push_entry<const N: usize>(out: &mut ArrayVec<u8, N>, entry: Entry)
+    requires { array_vec_len out.old + 63 ≤ N }
     ensures text { out.new.items ≡ out.old.items ++ entry_text entry }
     ensures length { array_vec_len out.new ≤ array_vec_len out.old + 63 }
 {
@@ -61,8 +69,8 @@ fn push_entry(out: &mut ArrayVec<u8, 64>, entry: Entry)
 }
 
 /// Appends the word of a refusal.
-fn push_refusal(out: &mut ArrayVec<u8, 64>, word: Refusal)
-    requires { array_vec_len out.old + 8 ≤ 64 }
+fn push_refusal<const N: usize>(out: &mut ArrayVec<u8, N>, word: Refusal)
+    requires { array_vec_len out.old + 8 ≤ N }
     ensures text { out.new.items ≡ out.old.items ++ refusal_word word }
     ensures length { array_vec_len out.new ≤ array_vec_len out.old + 8 }
 {
@@ -88,12 +96,13 @@ fn push_refusal(out: &mut ArrayVec<u8, 64>, word: Refusal)
     }
 }
 
-/// Prints an answer into `out`, which is empty: its word and an LF, at most 64 bytes in all.
+/// Appends an answer: its word and an LF, at most [`ANSWER_BYTES`] bytes in all, for which there is
+/// room.
 #[tactic(auto, unfolding(aia_model::specs::AnswerText::answer_text))]
-pub fn print_answer(answer: &Answer, out: &mut ArrayVec<u8, 64>)
-    requires { out.old.items ≡ [] }
-    ensures text { out.new.items ≡ answer_text answer.now }
-    ensures short { array_vec_len out.new ≤ 64 }
+pub fn print_answer<const N: usize>(answer: &Answer, out: &mut ArrayVec<u8, N>)
+    requires room { array_vec_len out.old + ANSWER_BYTES ≤ N }
+    ensures text { out.new.items ≡ out.old.items ++ answer_text answer.now }
+    ensures short { array_vec_len out.new ≤ array_vec_len out.old + ANSWER_BYTES }
 {
     match answer {
         Answer::Okay => push_text(out, b"ok"),

@@ -2,6 +2,7 @@
 
 use crate::same;
 use aia_entry::Entry;
+use aia_model::limits::ANSWER_BYTES;
 use aia_script::{
     Answer, Csr, Line, Op, Parsed, Part, Refusal, parse_line, print_answer, print_line,
 };
@@ -283,7 +284,7 @@ const ANSWERS: [(Answer, &str); 29] = [
 
 /// Prints an answer.
 fn answers(rt: &impl Abort, answer: &Answer, want: &str) {
-    let mut out = ArrayVec::new();
+    let mut out = ArrayVec::<u8, ANSWER_BYTES>::new();
     print_answer(answer, &mut out);
     same!(rt; out.as_slice(), want.as_bytes());
 }

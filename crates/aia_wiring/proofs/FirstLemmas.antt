@@ -137,3 +137,7 @@ pub first_waits : (a : AplicState) (found : Option (DomainName × ℕ)) → IsFi
 first_waits a None first = tt
 first_waits a (Some (Root, s)) first = first.0
 first_waits a (Some (Child, s)) first = first.0
+
+-- where no sender waits there is no first one
+pub none_is_first : (a : AplicState) (past : Past) → ((sender : Sender) → does_wait a sender ≡ false) → AplicStands a past → IsFirst None past
+none_is_first a past none stands = source_first a past None (none (ByGenMsi Root)) (none (ByGenMsi Child)) ((λ s. none (BySource Root s)), (λ s. none (BySource Child s))) stands

@@ -1,6 +1,6 @@
 use Rattle.aia_wiring.specs.Sending.{waiting}
 use Rattle.aia_replay.proofs.DeliveryLemmas.{SoFar}
-use Rattle.aia_replay.proofs.machine.Machine.deliver.Given as goal
+use Rattle.aia_replay.proofs.machine.Machine.deliver_waiting.Given as goal
 
 abbrev pub invariant-loop-msi : goal.invariant-loop-msi
 invariant-loop-msi l = SoFar l.fn.self l.self
