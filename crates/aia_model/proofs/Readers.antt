@@ -7,7 +7,7 @@ use Rattle.std.proofs.lemmas.Slice.Eq.{bytes_eq-Decides}
 use Rattle.aia_model.specs.Text.{number_of, below, ◌>>=◌}
 use Rattle.aia_model.specs.Grammar.{is_word, Kind, Value, bit_of, value_of, SpellFields, Shape, Values, fields}
 use Rattle.aia_model.specs.Grammar.Choice.{This, Other}
-use Rattle.aia_model.specs.Grammar.Kind.{Decimal, Decimal32, Hex, Hex32, Hex16, Bit, Name}
+use Rattle.aia_model.specs.Grammar.Kind.{Decimal, Decimal32, VmNumber, Hex, Hex32, Hex16, Bit, Name}
 use Rattle.aia_model.specs.Grammar.Shape.{End, ◌&◌, Only, Either}
 use Rattle.aia_model.specs.Reading.{Words, word_at, number_at, n32_at, bit_at, csr_at, value_at, read}
 
@@ -39,6 +39,7 @@ value_first : (kind : Kind) (w : List ℕ) (ws : Words) → value_at kind (w ∷
 unfolding number_at n32_at bit_at csr_at
 value_first Decimal w ws = refl
 value_first Decimal32 w ws = number_first (number_of w) (below (2 ^ 32)) ws
+value_first VmNumber w ws = refl
 value_first Hex w ws = refl
 value_first Hex32 w ws = number_first (number_of w) (below (2 ^ 32)) ws
 value_first Hex16 w ws = refl
@@ -49,6 +50,7 @@ no_value : (kind : Kind) → ◌≡◌ {A = Option (Value kind × Words)} (value
 unfolding number_at n32_at bit_at csr_at
 no_value Decimal = refl
 no_value Decimal32 = refl
+no_value VmNumber = refl
 no_value Hex = refl
 no_value Hex32 = refl
 no_value Hex16 = refl
