@@ -18,7 +18,7 @@ use Rattle.aia_model.specs.Text.{words_of}
 use Rattle.aia_model.specs.Grammar.{Field, SpellFields, HasSpelling, Shape, Choice, Values, fields}
 use Rattle.aia_model.specs.Grammar.Choice.{This, Other}
 use Rattle.aia_model.specs.Grammar.Field.{Keyword, Of}
-use Rattle.aia_model.specs.Grammar.Kind.{Decimal, Decimal32, VmNumber, Hex, Hex32, Hex16, Bit, Name}
+use Rattle.aia_model.specs.Grammar.WordKind.{Decimal, Decimal32, VmNumber, Hex, Hex32, Hex16, Bit, Name}
 use Rattle.aia_model.specs.Grammar.Shape.{End, ◌&◌, Only, Either}
 
 -- A form of line: its keyword, the shape of what follows it, and the line of the values there.

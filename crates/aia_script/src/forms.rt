@@ -10,7 +10,7 @@ ghost use Rattle.aia_regs.specs.Operations.{FitsOp};
 ghost use Rattle.aia_model.specs.AnswerText.{field_text};
 ghost use Rattle.aia_model.specs.Grammar.{fields};
 ghost use Rattle.aia_model.specs.Grammar.Field.{Keyword, Of};
-ghost use Rattle.aia_model.specs.Grammar.Kind.{Decimal};
+ghost use Rattle.aia_model.specs.Grammar.WordKind.{Decimal};
 ghost use Rattle.aia_model.specs.Forms.{instruction, access_values, part_fields, part, part_shape, machine_csr, host, guest, begin, load_part, forms_of_machines, forms_of_stores, forms_of_virtual_harts, Spells, IsListed};
 ghost use Rattle.aia_model.specs.Printing.{line_text, FitsField, IsPrintable};
 ghost use Rattle.aia_model.specs.Reading.{line_by, line_among, line_after, line_at, read, reading};
@@ -18,7 +18,7 @@ ghost use Rattle.aia_model.specs.declared.limits.TheConstants.{LINE_BYTES};
 ghost use Rattle.aia_script.specs.Cursor.{left};
 
 use crate::instructions::{instruction_after, instruction_at, push_instruction};
-use crate::number::{bit_at, n32_at, number_at};
+use crate::number::{flag_at, n32_at, number_at};
 use crate::parts::{part_at, push_part};
 use crate::pieces::{push_decimal, push_decimal32, push_hex, push_text};
 use crate::rows::{print_by_row, print_field, read_by_row, read_field};

@@ -9,7 +9,7 @@ macro_rules! read_field {
     (Hex $words:ident) => { number_at($words) };
     (Hex32 $words:ident) => { n32_at($words) };
     (Hex16 $words:ident) => { number_at($words) };
-    (Bit $words:ident) => { bit_at($words) };
+    (Bit $words:ident) => { flag_at($words) };
 }
 
 /// Reads what follows a word by the row of the word, and returns it.
