@@ -36,8 +36,8 @@ csr_access levels.Guest csrs.Sip op select vti = if vti then reaches.Virtual els
 csr_access levels.Guest csrs.Sie op select vti = if vti then reaches.Virtual else reaches.Sie
 csr_access level csr op select vti = reaches.Illegal
 
--- Whether a CSR is one of an interrupt file: the select number, the register that it selects, or the
--- identity on top; and that it is.
+-- Whether a CSR is one of an interrupt file: the select number, the register that it selects, or
+-- the identity on top; and that it is.
 abbrev pub is_file_csr : Csr → Bool
 is_file_csr csrs.Select = true
 is_file_csr csrs.Reg = true

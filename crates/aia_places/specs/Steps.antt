@@ -16,9 +16,11 @@ use Rattle.aia_places.specs.Holds.{Hand, meets}
 
 -- ---- a place with other sets
 
+-- A file with other sets.
 abbrev pub with_file_sets : InterruptFile → TwoSets → InterruptFile
 with_file_sets file sets = record file { pending = sets.pending; enabled = sets.enabled }
 
+-- The places with other sets in the slot.
 abbrev pub with_slot_sets : Places → TwoSets → Places
 with_slot_sets v sets =
     record v { slot = record { pending = sets.pending; enabled = sets.enabled } }

@@ -94,6 +94,7 @@ StoresInSlot w u (Some q) spot identity offset value =
 
 -- ---- where an entry leads
 
+-- A store of a device goes where an entry leads: to a page, to a slot, or nowhere.
 abbrev pub ReachesBy : Entry → World → World → ℕ → ℕ → Type 0
 ReachesBy (Basic page) w u offset value = StoresAt w u (page_spot w.imsic page) offset value
 ReachesBy (Mrif addr page identity) w u offset value =
