@@ -84,7 +84,7 @@ pub record MachineServes (old new : Machine) (line : Line) (given : Answer) : Ty
 abbrev pub EngineState : Type 0
 EngineState = Option Machine
 
--- With no machine it stands for the empty history alone.
+-- An engine stands for a history: with no machine for the empty history alone.
 abbrev pub StandsFor : EngineState → History → Type 0
 StandsFor machine h = MatchOption machine (h ≡ []) (λ m. MachineStands m h)
 

@@ -43,7 +43,7 @@ pub record LandsIn (i j : ImsicState) (spot : Spot) (offset value : ℕ) : Type 
   pub lands : SameFile (shown (file_at j spot)) (landed offset value (shown (file_at i spot)))
   pub others : j ≡ with_file i spot (file_at j spot)
 
--- It lands, and nothing but files changes.
+-- A 32-bit store lands in the file at a place, and nothing but files changes.
 pub record StoresIn (w u : World) (spot : Spot) (offset value : ℕ) : Type 0 where
   pub lands : LandsIn w.imsic u.imsic spot offset value
   pub rest : u ≡ record w { imsic = u.imsic }
