@@ -50,13 +50,15 @@ def differ(where, stands, wanted):
         yield f"{where} has {name}, which the tree does not have"
 
 
-# What shapes say that stands for more than a word.
+# What shapes say that stands for more than a word, and words that stand for no plain number.
 NAMED = {"instruction": "INS", "part_shape": "PART"}
+CALLED_BY_KIND = {"Name": "CSR", "VmNumber": "VM"}
 
 
 def shape_of(tokens):
     """Reads a shape of the table of forms off the front of tokens: the texts that it has, `#` for a
-    number, CSR for a name of a CSR, INS for a CSR instruction, PART for a part of an image."""
+    number, VM for that of a VM, CSR for a name of a CSR, INS for a CSR instruction, PART for a part
+    of an image."""
     first = tokens.pop(0)
     if first == "(":
         inner = shape_of(tokens)
@@ -77,7 +79,7 @@ def shape_of(tokens):
     if first == "Name":
         tokens.pop(0)
     tokens.pop(0)  # the sign between a word and what follows it
-    word = "CSR" if first == "Name" else "#"
+    word = CALLED_BY_KIND.get(first, "#")
     return [f"{word} {text}".strip() for text in shape_of(tokens)]
 
 
@@ -110,8 +112,8 @@ def all_forms():
 
 def number_or(word):
     """Gives a word of a form as it stands, but `#` for one that is a number or in capitals, which
-    stands for one."""
-    is_number = re.fullmatch(r"\d+|[A-Zw][A-Z0-9]*", word) and word not in ("INS", "PART")
+    stands for one; that of a VM stays, so that the table of forms has to call it so."""
+    is_number = re.fullmatch(r"\d+|[A-Zw][A-Z0-9]*", word) and word not in ("INS", "PART", "VM")
     return "#" if is_number else word
 
 

@@ -28,10 +28,11 @@ orders =
     ∷ (is_step Fence, is_step Fence) ∷ (is_record, is_record)
     ∷ (is_record, is_step GFence) ∷ (is_step GFence, is_step GFence) ∷ []
 
--- Whether a step may stand before others; whether each step of a plan may.
+-- Whether a step may stand before others.
 abbrev pub fits_before : Step → Plan → Bool
 fits_before x later = list_all (λ pair. not (pair.1 x && list_any pair.0 later)) orders
 
+-- Whether each step of a plan may stand before those behind it.
 abbrev pub are_in_order : Plan → Bool
 are_in_order [] = true
 are_in_order (x ∷ later) = are_in_order later && fits_before x later
@@ -41,6 +42,7 @@ abbrev pub is_leave : Kind → Bool
 is_leave kinds.Leave = true
 is_leave kind = false
 
+-- What is kept of the steps that turn the routes.
 abbrev pub routes_behind : Kind → Plan → Routes
 routes_behind kind plan = record {
   word1 = stands Word1 plan;
@@ -82,6 +84,7 @@ are_paired_behind takes puts [] = true
 are_paired_behind takes puts (x ∷ later) =
     is_same (takes x) (first_put puts later) && are_paired_behind takes puts later
 
+-- What is kept of the steps that take and put words of a set.
 abbrev pub takes_behind : (Step → Option ℕ) → (Step → Option ℕ) → (Plan → Bool) → Plan → Takes
 takes_behind takes puts may plan = record {
   taken = word_of (λ w. is_taken takes w plan) 0 32;
@@ -90,21 +93,25 @@ takes_behind takes puts may plan = record {
   is_paired = are_paired_behind takes puts plan;
 }
 
--- Pending words may be taken before no fence, enables before all steps.
+-- Pending words may be taken where no fence is behind.
 abbrev pub is_late : Plan → Bool
 is_late later = not (stands Fence later) && not (stands GFence later)
 
+-- Enables may be taken before all steps.
 abbrev pub is_any_time : Plan → Bool
 is_any_time later = true
 
+-- What is kept of the steps about pending words.
 abbrev pub pending_behind : Plan → Takes
 pending_behind = takes_behind takes_pending puts_pending is_late
 
+-- What is kept of those about enables.
 abbrev pub enables_behind : Plan → Takes
 enables_behind = takes_behind takes_enables puts_enables is_any_time
 
 -- ---- all of it
 
+-- All that is kept.
 abbrev pub behind : Kind → Plan → Behind
 behind kind plan = record {
   routes = routes_behind kind plan;

@@ -1,5 +1,6 @@
 -- CSR instructions by numbers: the instruction by its `funct3`, the CSR by its address.
--- Privileged ISA, CSR listing; AIA 1.0, Introduction.
+-- RISC-V Privileged Architecture, CSR Listing; AIA 1.0, Control and Status Registers (CSRs) Added
+-- to Harts.
 use Rattle.std.specs.Prelude.{ℕ, nat_eq, if◌then◌else◌, Option, Some, None}
 use Rattle.aia_regs.specs.declared.access.Op.{Op}
 use Rattle.aia_regs.specs.declared.access.Op.TheVariants as ops
@@ -8,7 +9,7 @@ use Rattle.aia_regs.specs.declared.access.Csr.TheVariants.{Select, Reg, Topei, T
 use Rattle.aia_model.specs.declared.line.Line.{Line}
 use Rattle.aia_model.specs.declared.line.Line.TheVariants.{MachineCsr, HostCsr, GuestCsr}
 
--- 0 reads; 1 is `csrrw`, 2 `csrrs`, 3 `csrrc`, as their `funct3` are.
+-- What an instruction does, by its `funct3`: 1 is `csrrw`, 2 `csrrs`, 3 `csrrc`; and 0 reads.
 abbrev pub op_of : ℕ → ℕ → Option Op
 op_of funct operand =
     if nat_eq funct 0 then Some ops.Read
@@ -16,7 +17,8 @@ op_of funct operand =
     else (if nat_eq funct 2 then Some (ops.Set operand)
     else (if nat_eq funct 3 then Some (ops.Clear operand) else None)))
 
--- `miselect` 0x350, `mireg` 0x351, `mtopei` 0x35c, `siselect` 0x150, `sireg` 0x151, `stopei` 0x15c.
+-- The line of an instruction of a hart, by the address of its CSR: `miselect` 0x350, `mireg` 0x351,
+-- `mtopei` 0x35c, `siselect` 0x150, `sireg` 0x151, `stopei` 0x15c.
 abbrev pub hart_line : ℕ → ℕ → Op → Option Line
 hart_line hart csr op =
     if nat_eq csr 848 then Some (MachineCsr hart Select op)
@@ -26,7 +28,7 @@ hart_line hart csr op =
     else (if nat_eq csr 337 then Some (HostCsr hart Reg op)
     else (if nat_eq csr 348 then Some (HostCsr hart Topei op) else None)))))
 
--- Of a virtual hart also `stopi` 0xdb0, `sip` 0x144, `sie` 0x104.
+-- The CSR of a virtual hart at an address: also `stopi` 0xdb0, `sip` 0x144, `sie` 0x104.
 abbrev pub guest_csr : ℕ → Option Csr
 guest_csr csr =
     if nat_eq csr 336 then Some Select
@@ -36,6 +38,7 @@ guest_csr csr =
     else (if nat_eq csr 324 then Some Sip
     else (if nat_eq csr 260 then Some Sie else None)))))
 
+-- The line of an instruction of a hart, where it is one.
 abbrev pub hart_line_by : ℕ → ℕ → Option Op → Option Line
 hart_line_by hart csr None = None
 hart_line_by hart csr (Some op) = hart_line hart csr op
@@ -44,6 +47,7 @@ hart_line_by hart csr (Some op) = hart_line hart csr op
 abbrev pub hart_access : ℕ → ℕ → ℕ → ℕ → Option Line
 hart_access hart csr funct operand = hart_line_by hart csr (op_of funct operand)
 
+-- The line of an instruction of a virtual hart, where it is one of a CSR that it has.
 abbrev pub guest_line : ℕ → ℕ → Option Csr → Option Op → Option Line
 guest_line vm vcpu None op = None
 guest_line vm vcpu (Some csr) None = None

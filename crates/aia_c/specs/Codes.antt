@@ -66,6 +66,7 @@ abbrev pub wide_of : Answer → ℕ
 wide_of (answers.Wide value) = value
 wide_of answer = 0
 
+-- A bit at its place.
 abbrev pub bit_at : ℕ → Bool → ℕ
 bit_at place true = place
 bit_at place false = 0

@@ -53,6 +53,7 @@ bare_command = on_top (λ shape. record shape {
   disable_help_subcommand = true;
 }) (new_app (codes "aia"))
 
+-- The command.
 unfoldable pub the_command : App
 the_command = with_subcommand
     (with_subcommand (with_subcommand bare_command replay_command.top) generate_command.top)
@@ -65,6 +66,7 @@ abbrev pub number_up_to : ℕ → Text → Option ℕ
 number_up_to most text = if is_unsigned_in 0 most text
     then Some (digits_value 10 (without_leading_plus text)) else None
 
+-- The number of at most 64 bits that a text spells so.
 abbrev pub number_of : Text → Option ℕ
 number_of = number_up_to (2 ^ 64 - 1)
 
@@ -72,6 +74,7 @@ number_of = number_up_to (2 ^ 64 - 1)
 abbrev pub number_at : Text → List Row → Option ℕ
 number_at name rows = option_and_then number_of (one_of name rows)
 
+-- What `gen` asks for, by what was found of its arguments.
 abbrev pub generate_of : List Row → Option Subcommand
 generate_of rows = option_and_then (λ count.
     option_and_then (λ seed. Some (Generate count seed)) (number_at (codes "SEED") rows))
@@ -83,6 +86,7 @@ kind_named word = if bytes_eq word (codes "leave") then Some Leave
     else if bytes_eq word (codes "arrive") then Some Arrive
     else if bytes_eq word (codes "shift") then Some Shift else None
 
+-- The kind of move that was found.
 abbrev pub kind_at : List Row → Option Kind
 kind_at rows = option_and_then kind_named (one_of (codes "KIND") rows)
 
@@ -92,9 +96,11 @@ width_of number =
     if list_any (λ width. nat_eq number width) (1 ∷ 2 ∷ 4 ∷ 8 ∷ 16 ∷ 32 ∷ []) then Some number
     else None
 
+-- The number of words that was found.
 abbrev pub width_at : List Row → Option ℕ
 width_at rows = option_and_then width_of (number_at (codes "W") rows)
 
+-- What `audit` asks for.
 abbrev pub audit_of : List Row → Option Subcommand
 audit_of rows = option_and_then (λ kind.
     option_and_then (λ words. Some (Audit kind words)) (width_at rows)) (kind_at rows)

@@ -16,10 +16,12 @@ without_delimiter [] = []
 without_delimiter (word ∷ words) =
     if bytes_eq word (codes "--") then words else word ∷ without_delimiter words
 
+-- What the arguments of `replay` spell.
 abbrev pub replay_spelled : List Text → Option Subcommand
 replay_spelled [] = Some Replay
 replay_spelled arguments = None
 
+-- What those of `gen` spell.
 abbrev pub generate_spelled : List Text → Option Subcommand
 generate_spelled (count ∷ seed ∷ []) = option_and_then (λ lines.
     option_and_then (λ number. Some (Generate lines number)) (number_of seed))
@@ -32,12 +34,14 @@ kind_word Leave = codes "leave"
 kind_word Arrive = codes "arrive"
 kind_word Shift = codes "shift"
 
+-- What the arguments of `audit` spell.
 abbrev pub audit_spelled : List Text → Option Subcommand
 audit_spelled (kind ∷ width ∷ []) = option_and_then (λ named.
     option_and_then (λ words. Some (Audit named words))
     (option_and_then width_of (number_of width))) (kind_named kind)
 audit_spelled arguments = None
 
+-- The subcommand that words spell, the first of them its name.
 abbrev pub subcommand_spelled : List Text → Option Subcommand
 subcommand_spelled [] = None
 subcommand_spelled (name ∷ arguments) =

@@ -1,5 +1,5 @@
 -- The access table: what an access to a CSR reaches, or how it is refused.
-use Rattle.std.specs.Prelude.{ℕ, Bool, if◌then◌else◌}
+use Rattle.std.specs.Prelude.{ℕ, Bool, true, false, T, if◌then◌else◌}
 use Rattle.aia_regs.specs.declared.access.Csr.{Csr}
 use Rattle.aia_regs.specs.declared.access.Csr.TheVariants as csrs
 use Rattle.aia_regs.specs.declared.access.Op.{Op}
@@ -36,13 +36,16 @@ csr_access levels.Guest csrs.Sip op select vti = if vti then reaches.Virtual els
 csr_access levels.Guest csrs.Sie op select vti = if vti then reaches.Virtual else reaches.Sie
 csr_access level csr op select vti = reaches.Illegal
 
--- The CSR is one of an interrupt file's: the select number, the register that it selects, or the
--- identity on top.
+-- Whether a CSR is one of an interrupt file: the select number, the register that it selects, or
+-- the identity on top; and that it is.
+abbrev pub is_file_csr : Csr → Bool
+is_file_csr csrs.Select = true
+is_file_csr csrs.Reg = true
+is_file_csr csrs.Topei = true
+is_file_csr csr = false
+
 abbrev pub IsFileCsr : Csr → Type 0
-IsFileCsr csrs.Select = Unit {0}
-IsFileCsr csrs.Reg = Unit {0}
-IsFileCsr csrs.Topei = Unit {0}
-IsFileCsr csr = ⊥
+IsFileCsr csr = T (is_file_csr csr)
 
 -- The CSR is one that the table has at the level: a host has those of its files alone.
 abbrev pub IsInTable : Level → Csr → Type 0

@@ -18,10 +18,10 @@ use Rattle.aia_model.specs.declared.msi.Msi.{Msi}
 use Rattle.aia_model.specs.declared.answer.Answer.{Answer}
 use Rattle.aia_model.specs.declared.answer.Answer.TheVariants.{NoMachine, Again, Refused}
 use Rattle.aia_model.specs.declared.refusal.Refusal.TheVariants.{Range, Full}
-use Rattle.aia_model.specs.Move.{Move, mover, MoveDeed, move_deed}
+use Rattle.aia_model.specs.Move.{Move, mover, LineDeed, line_deed}
 use Rattle.aia_model.specs.Move.Move.{Arrives, Leaves, Shifts}
-use Rattle.aia_model.specs.Move.MoveDeed.{NoMove, Whole, Begins, Steps, Lands}
-use Rattle.aia_model.specs.Event.{Event, History, machine_of, has_machine, greatest_identity_of, file_words, Shape}
+use Rattle.aia_model.specs.Move.LineDeed.{NoMove, Whole, Begins, Steps, Lands}
+use Rattle.aia_model.specs.Event.{Event, History, machine_of, has_machine, greatest_identity_of, file_words, MachineSize}
 use Rattle.aia_model.specs.Event.Event.{Accepted, Began, Stepped, Delivered, Landed, Relayed}
 use Rattle.aia_model.specs.Notice.{noticed, noticed_by_landing, with_notice, notices_sent}
 use Rattle.aia_model.specs.Refusal.{refusal, is_machine_size}
@@ -67,7 +67,7 @@ machine_stepped zero g h = refl
 machine_stepped (suc count) g h = machine_stepped count g (step_taken g h) ∙ (same_first g h).1
 
 same_small : (h k : History) → machine_of h ≡ machine_of k → IsSmall k → IsSmall h
-same_small h k same small = subst (λ (m : Option Shape). option_map_or (λ (s : Shape). s.n) m 0 ≤ IDENTITIES) (sym same) small
+same_small h k same small = subst (λ (m : Option MachineSize). option_map_or (λ (s : MachineSize). s.n) m 0 ≤ IDENTITIES) (sym same) small
 
 moved-small : (count : ℕ) (g : Vcpu) (move : Move) (h : History) → IsSmall h → IsSmall (steps_taken count g (Began move ∷ h))
 moved-small count g move h small = same_small (steps_taken count g (Began move ∷ h)) h (machine_stepped count g (Began move ∷ h)) small
@@ -138,7 +138,7 @@ began-few : (move : Move) (h : History) → FewFly h → FewFly (Began move ∷ 
 unfolding flight
 began-few move h few = few
 
-deed-few : (h : History) (line : Line) → refusal h line ≡ None → FewFly h → (deed : MoveDeed) → FewFly (deed_taken h line deed)
+deed-few : (h : History) (line : Line) → refusal h line ≡ None → FewFly h → (deed : LineDeed) → FewFly (deed_taken h line deed)
 unfolding flight
 deed-few h (Send v addr value) good few NoMove vm = by_vm (nat_eq v vm) refl
   where
@@ -157,7 +157,7 @@ delivered-few [] h few = few
 delivered-few (msi ∷ later) h few = delivered-few later (msi_taken msi h) (msi_by_pass FewFly msi h few (λ p e r. few))
 
 answer-few : (h : History) (line : Line) (o : Option Answer) → refusal h line ≡ o → FewFly h → FewFly (history_after o h line)
-answer-few h line None good few = delivered-few (msis_sent_by h line) (line_taken h line) (deed-few h line good few (move_deed line))
+answer-few h line None good few = delivered-few (msis_sent_by h line) (line_taken h line) (deed-few h line good few (line_deed line))
 answer-few h line (Some word) bad few = few
 
 after-few : (h : History) (line : Line) → FewFly h → FewFly (after h line)
@@ -370,7 +370,7 @@ own_passes g (x ∷ xs) = by_test (is_vcpu x.to g) (own_passes g xs)
     by_test true rest = omega (arith, rest)
     by_test false rest = omega (arith, rest)
 
-deed-sends : (h : History) (line : Line) (deed : MoveDeed) → IsSmall h → FewFly h → length (passes_of h) ≤ PASSES → notices_sent (deed_taken h line deed) ≤ notices_sent h + (most_steps + PASSES + 1 + STORES_IN_FLIGHT)
+deed-sends : (h : History) (line : Line) (deed : LineDeed) → IsSmall h → FewFly h → length (passes_of h) ≤ PASSES → notices_sent (deed_taken h line deed) ≤ notices_sent h + (most_steps + PASSES + 1 + STORES_IN_FLIGHT)
 deed-sends h line NoMove small few passes = let one : notices_sent (Accepted line ∷ h) ≤ notices_sent h + 1 = event-sends (Accepted line) h in omega arith
 deed-sends h line (Whole move) small few passes =
     let count = steps_of (file_words h) move + passes_for h (mover move) in
@@ -388,7 +388,7 @@ deed-sends h line (Steps g) small few passes =
 deed-sends h line (Lands vm k) small few passes = let one : notices_sent (Landed vm k ∷ h) ≤ notices_sent h + 1 = event-sends (Landed vm k) h in omega arith
 
 -- a line that may send MSIs is one event, which sends one notice at most, and the others send no MSI
-sending_line : (line : Line) → may_send line ≡ true → move_deed line ≡ NoMove
+sending_line : (line : Line) → may_send line ≡ true → line_deed line ≡ NoMove
 sending_line (Machine harts guests n sources) e = refl
 sending_line (Wire source level) e = refl
 sending_line (Load addr) e = refl
@@ -403,7 +403,7 @@ taken-notices h line e good small few true sends =
     let msis = line-delivers h (line_taken h line) line passes in
     omega (arith, one, msis)
 taken-notices h line e good small few false silent =
-    let one = deed-sends h line (move_deed line) small few (passes_stand h good).few in
+    let one = deed-sends h line (line_deed line) small few (passes_stand h good).few in
     subst (λ sent. notices_sent (delivered sent (line_taken h line)) ≤ notices_sent h + 200) (sym (none_sent_by h line silent)) (omega (arith, one))
 
 answer-sends : (h : History) (line : Line) (o : Option Answer) → refusal h line ≡ o → IsHistory h → IsSmall h → FewFly h → notices_sent (history_after o h line) ≤ notices_sent h + 200

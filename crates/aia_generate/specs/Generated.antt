@@ -29,6 +29,7 @@ guest_ready vm number =
     lines.Move vm number (wants.Arrive vm)
     ∷ made_ready (GuestCsr vm number Select) (GuestCsr vm number Reg)
 
+-- A hart makes its supervisor file ready.
 abbrev pub host_ready : ℕ → List Line
 host_ready hart = made_ready (HostCsr hart Select) (HostCsr hart Reg)
 
@@ -57,10 +58,11 @@ line_of_form form v c b i =
     else (if nat_lt form 9 then Step v c
     else HostCsr b Topei (Write 0))))))
 
--- The line that a number of the sequence draws, by its bits from 33 on.
+-- The line that a number draws, by its digits in mixed bases: the form, then v, c, b and i.
 abbrev pub line_by : ℕ → Line
 line_by r = line_of_form (r % 10) (r / 10 % 2) (r / 20 % 2) (r / 40 % 2) (r / 80 % 64)
 
+-- The line that a number of the sequence draws, by its bits from 33 on.
 abbrev pub line_drawn : ℕ → Line
 line_drawn x = line_by (x / 2 ^ 33)
 
@@ -71,6 +73,7 @@ body_lines (suc count) x = line_drawn (next_number x) ∷ body_lines count (next
 
 -- ---- all of it
 
+-- The lines of the script, of so many lines after the head and a seed.
 unfoldable pub generated : ℕ → ℕ → List Line
 generated count seed = head_lines ++ body_lines count seed
 

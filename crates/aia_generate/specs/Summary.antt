@@ -37,6 +37,7 @@ claims_from h [] = []
 claims_from h (line ∷ lines) =
     with_claim (claim_of line (answer h line)) (claims_from (after h line) lines)
 
+-- The sum of identities.
 abbrev pub total : List ℕ → ℕ
 total [] = 0
 total (x ∷ xs) = x + total xs

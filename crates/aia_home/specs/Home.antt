@@ -12,6 +12,7 @@ pub record Progress : Type 0 where
   pub steps : ℕ
   pub aims : ℕ
 
+-- No step is done yet.
 abbrev pub at_first : Progress
 at_first = record { steps = 0; aims = 0 }
 

@@ -38,28 +38,31 @@ abbrev pub each_word : (ℕ → List Access) → ℕ → ℕ → List Access
 each_word of_word from zero = []
 each_word of_word from (suc count) = of_word from ++ each_word of_word (suc from) count
 
--- Both sets, word by word.
+-- Both sets, word by word: each is taken from the old place and put in the new one.
 abbrev pub all_words : ℕ → List Access
 all_words words =
     each_word (λ w. TakePending w ∷ PutPending w ∷ []) 0 words
     ++ each_word (λ w. TakeEnables w ∷ PutEnables w ∷ []) 0 words
 
+-- The plan of a leave, of files of so many words.
 abbrev pub leave_plan : ℕ → List Access
 leave_plan words =
     (TakeDelivery ∷ WriteNotice ∷ WriteEntry ∷ Fence ∷ Map ∷ GFence ∷ [])
     ++ all_words words ++ each_word (λ w. Look w ∷ []) 0 words ++ TakeThreshold ∷ Post ∷ []
 
+-- The plan of an arrival.
 abbrev pub arrive_plan : ℕ → List Access
 arrive_plan words =
     (WriteEntry ∷ Fence ∷ Map ∷ GFence ∷ [])
     ++ all_words words ++ PutThreshold ∷ PutDelivery ∷ []
 
+-- The plan of a shift.
 abbrev pub shift_plan : ℕ → List Access
 shift_plan words =
     (TakeDelivery ∷ WriteEntry ∷ Fence ∷ Map ∷ GFence ∷ [])
     ++ all_words words ++ TakeThreshold ∷ PutThreshold ∷ PutDelivery ∷ []
 
--- How many steps each has.
+-- How many steps each of them has.
 abbrev pub leave_steps : ℕ → ℕ
 leave_steps words = 8 + 5 * words
 
@@ -89,7 +92,7 @@ next_access words there = slice_get (plan_of words there) (steps_done there)
 
 -- ---- the same plans by the number of each step, counted from 0: a law says that they agree
 
--- Whether a plan has an access.
+-- Whether the plan of a leave has an access; of an arrival; of a shift.
 abbrev pub is_in_leave : ℕ → Access → Bool
 is_in_leave words (TakePending w) = nat_lt w words
 is_in_leave words (PutPending w) = nat_lt w words
@@ -122,7 +125,7 @@ is_in_shift words WriteNotice = false
 is_in_shift words Post = false
 is_in_shift words access = true
 
--- The step that makes it.
+-- The step of a leave that makes an access; of an arrival; of a shift.
 abbrev pub leave_step : ℕ → Access → ℕ
 leave_step words TakeDelivery = 0
 leave_step words WriteNotice = 1
@@ -167,12 +170,14 @@ shift_step words PutThreshold = 6 + 4 * words
 shift_step words PutDelivery = 7 + 4 * words
 shift_step words access = 0
 
+-- Whether the plan of a move has an access.
 abbrev pub has_access : ℕ → Home → Access → Bool
 has_access words (Leaving from at) access = is_in_leave words access
 has_access words (Arriving to at) access = is_in_arrive words access
 has_access words (Shifting from to at) access = is_in_shift words access
 has_access words there access = false
 
+-- The step of a move that makes an access.
 abbrev pub step_of : ℕ → Home → Access → ℕ
 step_of words (Leaving from at) access = leave_step words access
 step_of words (Arriving to at) access = arrive_step words access

@@ -11,7 +11,7 @@ use Rattle.aia_home.specs.declared.vm.Vm.{Vm}
 use Rattle.aia_home.specs.Vms.{Vcpu, vcpu, is_vcpu, vm_in}
 use Rattle.aia_model.specs.declared.line.Line.TheVariants.{Machine, Send, Ipi}
 use Rattle.aia_model.specs.declared.line.Line.TheVariants as lines
-use Rattle.aia_model.specs.Event.{Event, History, Shape, machine_of}
+use Rattle.aia_model.specs.Event.{Event, History, MachineSize, machine_of}
 use Rattle.aia_model.specs.Event.Event.{Accepted, Began, Stepped, Delivered, Landed, Relayed}
 use Rattle.aia_model.specs.Vms.{vms_of}
 use Rattle.aia_model.specs.Flight.{Sending, flight, flying}
@@ -136,31 +136,31 @@ left_for v event h quiet still = (left_setup event h quiet, left_flight v event 
 
 -- ---- what is said is by both
 
-abbrev said_of_msi : Vcpu → ℕ → ℕ → ℕ → Option Shape → List Vm → Option Said
+abbrev said_of_msi : Vcpu → ℕ → ℕ → ℕ → Option MachineSize → List Vm → Option Said
 said_of_msi g vm addr value machine vms =
-    if is_vcpu g (vcpu vm (file_number (vm_in vms vm).mask addr)) then option_map Asked (requested (option_map_or (λ (m : Shape). m.n) machine 0) (addr % PAGE) value) else None
+    if is_vcpu g (vcpu vm (file_number (vm_in vms vm).mask addr)) then option_map Asked (requested (option_map_or (λ (m : MachineSize). m.n) machine 0) (addr % PAGE) value) else None
 
-abbrev said_of_peer : Vcpu → ℕ → ℕ → ℕ → Option Shape → Option Said
+abbrev said_of_peer : Vcpu → ℕ → ℕ → ℕ → Option MachineSize → Option Said
 said_of_peer g vm to value machine =
-    if is_vcpu g (vcpu vm to) then option_map Asked (requested (option_map_or (λ (m : Shape). m.n) machine 0) 0 value) else None
+    if is_vcpu g (vcpu vm to) then option_map Asked (requested (option_map_or (λ (m : MachineSize). m.n) machine 0) 0 value) else None
 
-abbrev said_of_landing : Vcpu → Option Shape → Option Seen → Option Said
+abbrev said_of_landing : Vcpu → Option MachineSize → Option Seen → Option Said
 said_of_landing g machine None = None
 said_of_landing g machine (Some s) =
-    if is_vcpu g s.to then option_map Asked (requested (option_map_or (λ (m : Shape). m.n) machine 0) (s.addr % PAGE) s.value) else None
+    if is_vcpu g s.to then option_map Asked (requested (option_map_or (λ (m : MachineSize). m.n) machine 0) (s.addr % PAGE) s.value) else None
 
-abbrev said_of_pass : Vcpu → Option Shape → List Pass → Option ℕ → Option Said
+abbrev said_of_pass : Vcpu → Option MachineSize → List Pass → Option ℕ → Option Said
 said_of_pass g machine xs None = None
 said_of_pass g machine xs (Some p) =
-    if is_vcpu g (slice_index_or xs p no_pass).to then option_map Asked (requested (option_map_or (λ (m : Shape). m.n) machine 0) 0 (slice_index_or xs p no_pass).identity) else None
+    if is_vcpu g (slice_index_or xs p no_pass).to then option_map Asked (requested (option_map_or (λ (m : MachineSize). m.n) machine 0) 0 (slice_index_or xs p no_pass).identity) else None
 
 abbrev number_in : List Pass → Option ℕ → Option ℕ
 number_in xs None = None
 number_in xs (Some s) = least_of (λ p. nat_eq (slice_index_or xs p no_pass).source s) 0 (length xs)
 
-abbrev said_of_forward : Vcpu → Msi → Option Shape → List Pass → Option Said
+abbrev said_of_forward : Vcpu → Msi → Option MachineSize → List Pass → Option Said
 said_of_forward g msi machine xs =
-    if is_guest_page (spot_at (option_map_or (λ (m : Shape). m.harts) machine 0) (option_map_or (λ (m : Shape). m.guests) machine 0) msi.address) then said_of_pass g machine xs (number_in xs msi.source) else None
+    if is_guest_page (spot_at (option_map_or (λ (m : MachineSize). m.harts) machine 0) (option_map_or (λ (m : MachineSize). m.guests) machine 0) msi.address) then said_of_pass g machine xs (number_in xs msi.source) else None
 
 forward_by : (h : History) (g : Vcpu) (msi : Msi) → said_by g h (Delivered msi) ≡ said_of_forward g msi (machine_of h) (passes_of h)
 forward_by h g msi = ap (λ o. if goes_to_guest h msi then o else None) (by_number (passed_by h msi.source) (number_in (passes_of h) msi.source) (by_source msi.source))

@@ -13,8 +13,8 @@ use Rattle.aia_model.specs.declared.line.Line.TheVariants as lines
 use Rattle.aia_model.specs.declared.msi.Msi.{Msi}
 use Rattle.aia_model.specs.declared.parsed.Parsed.{Parsed}
 use Rattle.aia_model.specs.declared.parsed.Parsed.TheVariants as parsed
-use Rattle.aia_model.specs.Move.{mover, MoveDeed, move_deed}
-use Rattle.aia_model.specs.Move.MoveDeed.{NoMove, Whole, Begins, Steps, Lands}
+use Rattle.aia_model.specs.Move.{mover, LineDeed, line_deed}
+use Rattle.aia_model.specs.Move.LineDeed.{NoMove, Whole, Begins, Steps, Lands}
 use Rattle.aia_model.specs.Event.{Event, History, file_words}
 use Rattle.aia_model.specs.Event.Event.{Accepted, Began, Stepped, Delivered, Landed, Relayed}
 use Rattle.aia_model.specs.Flight.{flight}
@@ -74,7 +74,7 @@ pub unpassed_sent : (sent : List Msi) (h : History) → IsUnpassed (delivered se
 unpassed_sent [] h e = e
 unpassed_sent (msi ∷ later) h e = unpassed_event (Delivered msi) h (unpassed_given (passed_by h msi.source) (Delivered msi ∷ h) (unpassed_sent later (msi_taken msi h) e))
 
-pub unpassed_deed : (h : History) (line : Line) (deed : MoveDeed) → IsUnpassed (deed_taken h line deed) → IsUnpassed h
+pub unpassed_deed : (h : History) (line : Line) (deed : LineDeed) → IsUnpassed (deed_taken h line deed) → IsUnpassed h
 unpassed_deed h line NoMove e = unpassed_event (Accepted line) h e
 unpassed_deed h line (Whole move) e = unpassed_event (Began move) h (unpassed_steps (steps_of (file_words h) move + passes_for h (mover move)) (mover move) (Began move ∷ h) e)
 unpassed_deed h line (Begins move) e = unpassed_event (Began move) h e
@@ -88,7 +88,7 @@ pub unpassed_after : (h : History) (line : Line) → IsUnpassed (after h line) �
 unpassed_after h line e = by_word (refusal h line) refl
   where
     by_word : (word : Option Answer) → refusal h line ≡ word → IsUnpassed h
-    by_word None is = unpassed_deed h line (move_deed line) (unpassed_accepted h line (subst IsUnpassed (after_by h line None is) e))
+    by_word None is = unpassed_deed h line (line_deed line) (unpassed_accepted h line (subst IsUnpassed (after_by h line None is) e))
     by_word (Some word) is = subst IsUnpassed (after_by h line (Some word) is) e
 
 unpassed_text : (h : History) (text : Parsed) → IsUnpassed (after_text h text) → IsUnpassed h

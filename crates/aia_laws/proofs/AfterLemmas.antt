@@ -22,8 +22,8 @@ use Rattle.aia_model.specs.declared.line.Line.TheVariants as lines
 use Rattle.aia_model.specs.declared.want.Want.TheVariants as wants
 use Rattle.aia_model.specs.declared.answer.Answer.{Answer}
 use Rattle.aia_model.specs.declared.msi.Msi.{Msi}
-use Rattle.aia_model.specs.Move.{Move, mover, MoveDeed, move_deed}
-use Rattle.aia_model.specs.Move.MoveDeed.{NoMove, Whole, Begins, Steps, Lands}
+use Rattle.aia_model.specs.Move.{Move, mover, LineDeed, line_deed}
+use Rattle.aia_model.specs.Move.LineDeed.{NoMove, Whole, Begins, Steps, Lands}
 use Rattle.aia_model.specs.Event.{Event, History, has_machine, file_words}
 use Rattle.aia_model.specs.Event.Event.{Accepted, Began, Stepped, Delivered, Landed, Relayed}
 use Rattle.aia_model.specs.FileAfter.{select_by, select_after, file_by, file_after}
@@ -212,7 +212,7 @@ pub taken_keeps : (h : History) (line : Line) (g : Vcpu) (i : ℕ) → refusal h
 taken_keeps h line g i e was = subst (λ x. (guest_file x g).pending i ≡ true) (sym (after_by h line None e)) (msis_keep (msis_sent_by h line) (line_taken h line) g i was)
 
 -- the VM of a move of which a line does steps, or of the store that lands
-abbrev still_deed : History → MoveDeed → Vcpu → Type 0
+abbrev still_deed : History → LineDeed → Vcpu → Type 0
 still_deed h (Whole move) g = Still h (mover move).vm g
 still_deed h (Steps x) g = is_at_fence (home h x) ≡ true → Still h x.vm g
 still_deed h (Lands vm k) g = option_map_or (λ s. is_vcpu g (sent_to vm s)) (flying h vm k) false ≡ false
@@ -234,14 +234,14 @@ one_step_same x h g quiet = and_same _ (landed_first x h) h g (stepped_same x (l
     by_fence true e = (first_same x h g (quiet e)).0
     by_fence false e = rw e (refl, refl, refl)
 
-pub move_same : (h : History) (line : Line) (deed : MoveDeed) (g : Vcpu) → deed ≢ NoMove → still_deed h deed g → IsSameGuest (deed_taken h line deed) h g
+pub move_same : (h : History) (line : Line) (deed : LineDeed) (g : Vcpu) → deed ≢ NoMove → still_deed h deed g → IsSameGuest (deed_taken h line deed) h g
 move_same h line NoMove g moves all = absurd (moves refl)
 move_same h line (Whole move) g moves all = and_same _ (Began move ∷ h) h g (steps_same (steps_of (file_words h) move + passes_for h (mover move)) (mover move) (Began move ∷ h) g (still_begun (mover move).vm move h g all)) (begun_same move h g)
 move_same h line (Begins move) g moves all = begun_same move h g
 move_same h line (Steps x) g moves all = one_step_same x h g all
 move_same h line (Lands vm k) g moves all = one_same vm k h g all
 
-silent_deed : (h : History) (line : Line) (g : Vcpu) → speaks_to h line g ≡ false → still_deed h (move_deed line) g
+silent_deed : (h : History) (line : Line) (g : Vcpu) → speaks_to h line g ≡ false → still_deed h (line_deed line) g
 silent_deed h (lines.Move vm number (wants.Arrive hart)) g e = still h vm g e
 silent_deed h (lines.Move vm number wants.Leave) g e = still h vm g e
 silent_deed h (lines.Move vm number (wants.Shift hart)) g e = still h vm g e
@@ -270,14 +270,14 @@ by_refusal P h line refused accepted = by_word (refusal h line) refl
 pub none_forwarded : (h : History) (line : Line) (g : Vcpu) → may_send line ≡ false → forwards_to h line g ≡ false
 none_forwarded h line g silent = ap (list_any (λ (msi : Msi). is_passed_to (line_taken h line) g msi.source)) (none_sent_by h line silent)
 
-pub moves_send_none : (line : Line) → move_deed line ≢ NoMove → may_send line ≡ false
+pub moves_send_none : (line : Line) → line_deed line ≢ NoMove → may_send line ≡ false
 moves_send_none (Machine harts guests n sources) moves = absurd (moves refl)
 moves_send_none (Wire source level) moves = absurd (moves refl)
 moves_send_none (Load addr) moves = absurd (moves refl)
 moves_send_none (Store addr value) moves = absurd (moves refl)
 moves_send_none line moves = refl
 
-pub steps_send_none : (line : Line) → does_steps (move_deed line) ≡ true → may_send line ≡ false
+pub steps_send_none : (line : Line) → does_steps (line_deed line) ≡ true → may_send line ≡ false
 steps_send_none (Machine harts guests n sources) does = absurd (false≢true does)
 steps_send_none (Wire source level) does = absurd (false≢true does)
 steps_send_none (Load addr) does = absurd (false≢true does)
@@ -291,13 +291,13 @@ others_send_none (Load addr) g other = absurd (false≢true other)
 others_send_none (Store addr value) g other = absurd (false≢true other)
 others_send_none line g other = refl
 
-pub moved_same : (h : History) (line : Line) (g : Vcpu) → move_deed line ≢ NoMove → speaks_to h line g ≡ false → IsSameGuest (after h line) h g
-moved_same h line g moves quiet = let still = none_forwarded h line g (moves_send_none line moves) in by_refusal (λ x. IsSameGuest x h g) h line (refl, refl, refl) (λ e. and_same (after h line) (line_taken h line) h g (taken_same h line g still e) (move_same h line (move_deed line) g moves (silent_deed h line g quiet)))
+pub moved_same : (h : History) (line : Line) (g : Vcpu) → line_deed line ≢ NoMove → speaks_to h line g ≡ false → IsSameGuest (after h line) h g
+moved_same h line g moves quiet = let still = none_forwarded h line g (moves_send_none line moves) in by_refusal (λ x. IsSameGuest x h g) h line (refl, refl, refl) (λ e. and_same (after h line) (line_taken h line) h g (taken_same h line g still e) (move_same h line (line_deed line) g moves (silent_deed h line g quiet)))
 
 -- ---- its file, by what the line is to it
 
 -- an accepted line that does no steps of a move is one event
-one_event : (h : History) (line : Line) → does_steps (move_deed line) ≡ false → (line_taken h line ≡ event_of line ∷ h) ⊎ ((move : Move) × (line_taken h line ≡ Began move ∷ h) × ((g : Vcpu) → guest_deed g h (event_of line) ≡ Rests))
+one_event : (h : History) (line : Line) → does_steps (line_deed line) ≡ false → (line_taken h line ≡ event_of line ∷ h) ⊎ ((move : Move) × (line_taken h line ≡ Began move ∷ h) × ((g : Vcpu) → guest_deed g h (event_of line) ≡ Rests))
 one_event h (lines.Move vm number (wants.Arrive hart)) e = absurd (cc)
 one_event h (lines.Move vm number wants.Leave) e = absurd (cc)
 one_event h (lines.Move vm number (wants.Shift hart)) e = absurd (cc)
@@ -312,22 +312,22 @@ unfolding select_by
 select_by_step g event h = refl
 
 -- such a line is one deed to it, before its MSIs are delivered
-pub file_taken : (h : History) (line : Line) (g : Vcpu) → does_steps (move_deed line) ≡ false → guest_file (line_taken h line) g ≡ file_after (guest_select h g) (guest_deed g h (event_of line)) (guest_file h g)
+pub file_taken : (h : History) (line : Line) (g : Vcpu) → does_steps (line_deed line) ≡ false → guest_file (line_taken h line) g ≡ file_after (guest_select h g) (guest_deed g h (event_of line)) (guest_file h g)
 file_taken h line g one = elim (one_event h line one) [
   | inl is ↦ ap (λ x. guest_file x g) is ∙ file_by_step (guest_deed g) (event_of line) h
   | inr begins ↦ ap (λ x. guest_file x g) begins.1 ∙ (begun_same begins.0 h g).0 ∙ sym (ap (λ deed. file_after (guest_select h g) deed (guest_file h g)) (begins.2 g))
 ]
 
-pub file_after_line : (h : History) (line : Line) (g : Vcpu) → forwards_to h line g ≡ false → does_steps (move_deed line) ≡ false → refusal h line ≡ None → guest_file (after h line) g ≡ file_after (guest_select h g) (guest_deed g h (event_of line)) (guest_file h g)
+pub file_after_line : (h : History) (line : Line) (g : Vcpu) → forwards_to h line g ≡ false → does_steps (line_deed line) ≡ false → refusal h line ≡ None → guest_file (after h line) g ≡ file_after (guest_select h g) (guest_deed g h (event_of line)) (guest_file h g)
 file_after_line h line g still one e = (taken_same h line g still e).0 ∙ file_taken h line g one
 
-pub select_after_line : (h : History) (line : Line) (g : Vcpu) → forwards_to h line g ≡ false → move_deed line ≡ NoMove → refusal h line ≡ None → guest_select (after h line) g ≡ select_after (guest_deed g h (Accepted line)) (guest_select h g)
+pub select_after_line : (h : History) (line : Line) (g : Vcpu) → forwards_to h line g ≡ false → line_deed line ≡ NoMove → refusal h line ≡ None → guest_select (after h line) g ≡ select_after (guest_deed g h (Accepted line)) (guest_select h g)
 select_after_line h line g still none e = (taken_same h line g still e).1 ∙ ap (λ deed. guest_select (deed_taken h line deed) g) none ∙ select_by_step g (Accepted line) h
 
 -- ---- lines that do not speak to it
 
 -- a line that is one event and does not speak to it
-quiet_rests : (line : Line) (h : History) (g : Vcpu) → has_machine h ≡ true → refusal h line ≡ None → move_deed line ≡ NoMove → speaks_to h line g ≡ false → guest_deed g h (Accepted line) ≡ Rests
+quiet_rests : (line : Line) (h : History) (g : Vcpu) → has_machine h ≡ true → refusal h line ≡ None → line_deed line ≡ NoMove → speaks_to h line g ≡ false → guest_deed g h (Accepted line) ≡ Rests
 quiet_rests (Machine harts guests n sources) h g stands e none quiet = absurd (false≢true (sym (machine_allowed h harts guests n sources e).0 ∙ stands))
 quiet_rests (lines.Msi vm addr value) h g stands e none quiet = cond-false _ _ _ quiet
 quiet_rests (Ipi vm number to value) h g stands e none quiet = cond-false _ _ _ quiet
@@ -335,7 +335,7 @@ quiet_rests (GuestCsr vm number csr op) h g stands e none quiet = cond-false _ _
 quiet_rests (LoadPart vm number part) h g stands e none quiet = cond-false _ _ _ quiet
 quiet_rests line h g stands e none quiet = refl
 
-moved_or_not : (deed : MoveDeed) → (deed ≡ NoMove) ⊎ (deed ≢ NoMove)
+moved_or_not : (deed : LineDeed) → (deed ≡ NoMove) ⊎ (deed ≢ NoMove)
 moved_or_not NoMove = inl refl
 moved_or_not (Whole move) = inr (λ e. absurd (cc))
 moved_or_not (Begins move) = inr (λ e. absurd (cc))
@@ -343,7 +343,7 @@ moved_or_not (Steps x) = inr (λ e. absurd (cc))
 moved_or_not (Lands vm k) = inr (λ e. absurd (cc))
 
 pub quiet_same : (h : History) (line : Line) (g : Vcpu) → forwards_to h line g ≡ false → has_machine h ≡ true → speaks_to h line g ≡ false → (guest_file (after h line) g ≡ guest_file h g) × (guest_select (after h line) g ≡ guest_select h g)
-quiet_same h line g still stands quiet = elim (moved_or_not (move_deed line)) [
+quiet_same h line g still stands quiet = elim (moved_or_not (line_deed line)) [
   | inl none ↦ by_refusal (λ x. (guest_file x g ≡ guest_file h g) × (guest_select x g ≡ guest_select h g)) h line (refl, refl) (λ e.
       let rests = quiet_rests line h g stands e none quiet in
       let same = taken_same h line g still e in (
@@ -385,12 +385,12 @@ none_made : (h : History) (line : Line) → has_machine h ≡ true → refusal h
 none_made h (Machine harts guests n sources) stands e = absurd (false≢true (sym (machine_allowed h harts guests n sources e).0 ∙ stands))
 none_made h line stands e = refl
 
-pub pending_taken : (h : History) (line : Line) (g : Vcpu) (i : ℕ) → has_machine h ≡ true → does_steps (move_deed line) ≡ false → refusal h line ≡ None
+pub pending_taken : (h : History) (line : Line) (g : Vcpu) (i : ℕ) → has_machine h ≡ true → does_steps (line_deed line) ≡ false → refusal h line ≡ None
     → (guest_file (line_taken h line) g).pending i ≡ settle (guest_said h (event_of line) g i) ((guest_file h g).pending i)
 pending_taken h line g i stands one e =
     ap (λ (file : InterruptFile). file.pending i) (file_taken h line g one)
     ∙ (newest_word (guest_select h g) (guest_deed g h (event_of line)) (guest_file h g) i (not_making (guest_deed g h (event_of line)) (guest_made g h (event_of line) ∙ none_made h line stands e))).0
 
-pub pending_after_line : (h : History) (line : Line) (g : Vcpu) (i : ℕ) → forwards_to h line g ≡ false → has_machine h ≡ true → does_steps (move_deed line) ≡ false → refusal h line ≡ None
+pub pending_after_line : (h : History) (line : Line) (g : Vcpu) (i : ℕ) → forwards_to h line g ≡ false → has_machine h ≡ true → does_steps (line_deed line) ≡ false → refusal h line ≡ None
     → (guest_file (after h line) g).pending i ≡ settle (guest_said h (event_of line) g i) ((guest_file h g).pending i)
 pending_after_line h line g i still stands one e = ap (λ (file : InterruptFile). file.pending i) (taken_same h line g still e).0 ∙ pending_taken h line g i stands one e

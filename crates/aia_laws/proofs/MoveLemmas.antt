@@ -5,8 +5,8 @@ use Rattle.std.proofs.lemmas.Bool.{cases_Bool}
 use Rattle.aia_file.specs.InterruptFile.{InterruptFile}
 use Rattle.aia_home.specs.Vms.{Vcpu, is_vcpu}
 use Rattle.aia_model.specs.declared.line.Line.{Line}
-use Rattle.aia_model.specs.Move.{MoveDeed, move_deed}
-use Rattle.aia_model.specs.Move.MoveDeed.{NoMove, Whole, Begins, Steps, Lands}
+use Rattle.aia_model.specs.Move.{LineDeed, line_deed}
+use Rattle.aia_model.specs.Move.LineDeed.{NoMove, Whole, Begins, Steps, Lands}
 use Rattle.aia_model.specs.Event.{History}
 use Rattle.aia_model.specs.Event.Event.{Began, Stepped, Landed}
 use Rattle.aia_model.specs.FileAfter.{select_by, file_by}
@@ -57,19 +57,19 @@ rest_kept old vm g = record {
 }
 
 -- a beginning, or a landing by a line of its own
-one_rest : (h : History) (line : Line) (deed : MoveDeed) (g : Vcpu) → deed ≢ NoMove → does_steps deed ≡ false → IsSameButPending (deed_taken h line deed) h g
+one_rest : (h : History) (line : Line) (deed : LineDeed) (g : Vcpu) → deed ≢ NoMove → does_steps deed ≡ false → IsSameButPending (deed_taken h line deed) h g
 one_rest h line NoMove g moves one = absurd (moves refl)
 one_rest h line (Whole move) g moves one = absurd (cc)
 one_rest h line (Begins move) g moves one = rest_of (Began move ∷ h) h g (begun_same move h g)
 one_rest h line (Steps x) g moves one = absurd (cc)
 one_rest h line (Lands vm k) g moves one = landing_rest vm k h g
 
-line_rest : (h : History) (line : Line) (g : Vcpu) → move_deed line ≢ NoMove → IsSameButPending (line_taken h line) h g
-line_rest h line g moves = elim (cases_Bool (does_steps (move_deed line))) [
-  | inl does ↦ line_kept (λ x. IsSameButPending x h g) h line does (rest_kept h (steps_vm (move_deed line)) g) (refl, refl, refl, refl, refl, refl)
-  | inr one ↦ one_rest h line (move_deed line) g moves one
+line_rest : (h : History) (line : Line) (g : Vcpu) → line_deed line ≢ NoMove → IsSameButPending (line_taken h line) h g
+line_rest h line g moves = elim (cases_Bool (does_steps (line_deed line))) [
+  | inl does ↦ line_kept (λ x. IsSameButPending x h g) h line does (rest_kept h (steps_vm (line_deed line)) g) (refl, refl, refl, refl, refl, refl)
+  | inr one ↦ one_rest h line (line_deed line) g moves one
 ]
 
-pub moved_rest : (h : History) (line : Line) (g : Vcpu) → move_deed line ≢ NoMove → IsSameButPending (after h line) h g
+pub moved_rest : (h : History) (line : Line) (g : Vcpu) → line_deed line ≢ NoMove → IsSameButPending (after h line) h g
 moved_rest h line g moves = by_refusal (λ x. IsSameButPending x h g) h line (refl, refl, refl, refl, refl, refl) (λ e.
     and_rest (after h line) (line_taken h line) h g (rest_of (after h line) (line_taken h line) g (taken_same h line g (none_forwarded h line g (moves_send_none line moves)) e)) (line_rest h line g moves))

@@ -18,7 +18,7 @@ abbrev pub MayBeClaimed : InterruptFile → ℕ → Type 0
 MayBeClaimed file i = (1 ≤ i) × (i ≤ file.n) × (file.pending i ≡ true) × (file.enabled i ≡ true)
     × (lets_through file.threshold i ≡ true)
 
--- And it is the least of those.
+-- An identity is the least that may be claimed.
 pub record IsLeastToClaim (file : InterruptFile) (i : ℕ) : Type 0 where
   pub claimable : MayBeClaimed file i
   pub least : (j : ℕ) → MayBeClaimed file j → i ≤ j

@@ -36,10 +36,12 @@ notice_number h g = notice_identity (vms_of h) g
 
 -- ---- what events say
 
+-- Whether a word asks.
 abbrev pub is_ask : BitUpdate → Bool
 is_ask Ask = true
 is_ask word = false
 
+-- Whether a word clears.
 abbrev pub is_clear : BitUpdate → Bool
 is_clear Clear = true
 is_clear word = false
@@ -70,27 +72,27 @@ abbrev pub names_vcpu : Option Vcpu → Vcpu → Bool
 names_vcpu None g = false
 names_vcpu (Some x) g = is_vcpu g x
 
--- Whether a notice for a virtual hart was sent no earlier than that: by the newest such event, or
--- by a later one.
+-- Whether a notice for a virtual hart was sent since the host was last to be told anew of identity
+-- i there: by that event, or by a later one.
 unfoldable pub noticed_since : History → Vcpu → ℕ → Bool
 noticed_since [] g i = false
 noticed_since (event ∷ past) g i = names_vcpu (noticed past event) g
     || (not (is_to_be_told past event g i) && noticed_since past g i)
 
--- Whether identity n was asked for in a file of the host no earlier than that: by the newest such
--- event, or by a later one.
+-- Whether identity n was asked for in a file of the host since then: by that event, or by a later
+-- one.
 unfoldable pub told_since : History → FileName → ℕ → Vcpu → ℕ → Bool
 told_since [] f n g i = false
 told_since (event ∷ past) f n g i = is_ask (host_said past event f n)
     || (not (is_to_be_told past event g i) && told_since past f n g i)
 
--- Whether identity n was cleared there no earlier than that.
+-- Whether identity n was cleared in a file of the host since then.
 unfoldable pub cleared_since : History → FileName → ℕ → Vcpu → ℕ → Bool
 cleared_since [] f n g i = false
 cleared_since (event ∷ past) f n g i = is_clear (host_said past event f n)
     || (not (is_to_be_told past event g i) && cleared_since past f n g i)
 
--- Whether identity n was cleared there after the newest notice for a virtual hart.
+-- Whether identity n was cleared in a file of the host after the newest notice for a virtual hart.
 unfoldable pub cleared_since_notice : History → FileName → ℕ → Vcpu → Bool
 cleared_since_notice [] f n g = false
 cleared_since_notice (event ∷ past) f n g = not (names_vcpu (noticed past event) g)

@@ -37,18 +37,24 @@ is_guests_own j = nat_eq j 1 || nat_eq j 13
 
 -- ---- the fields of hvictl
 
+-- VTI, bit 30: whether hvictl says which interrupt there is, in place of the majors but the
+-- external one.
 abbrev pub vti_of : ℕ → Bool
 vti_of hvictl = has_bit hvictl 30
 
+-- IID, bits 27:16: the interrupt that it says is there.
 abbrev pub iid_of : ℕ → ℕ
 iid_of hvictl = field hvictl 27 16
 
+-- DPR, bit 9: whether that interrupt ranks after the external one.
 abbrev pub dpr_of : ℕ → Bool
 dpr_of hvictl = has_bit hvictl 9
 
+-- IPRIOM, bit 8: whether stopi shows priorities as they are.
 abbrev pub ipriom_of : ℕ → Bool
 ipriom_of hvictl = has_bit hvictl 8
 
+-- IPRIO, bits 7:0: the priority number of that interrupt.
 abbrev pub iprio_of : ℕ → ℕ
 iprio_of hvictl = field hvictl 7 0
 
@@ -60,7 +66,8 @@ hvictl_kept v =
     with_field (with_field (with_field 0 30 30 (field v 30 30)) 27 16 (field v 27 16)) 9 0
     (field v 9 0)
 
--- What one of hviprio1 keeps: the priority numbers of the majors 1, 5 and 13. Profile: no other.
+-- What a write of hviprio1 keeps: the priority numbers of the majors 1, 5 and 13. Profile: no
+-- other.
 abbrev pub hviprio1_kept : ℕ → ℕ
 hviprio1_kept v =
     with_field (with_field (with_field 0 15 8 (field v 15 8)) 31 24 (field v 31 24)) 47 40
@@ -70,7 +77,7 @@ hviprio1_kept v =
 abbrev pub is_hvictl : ℕ → Bool
 is_hvictl v = not (vti_of v) || is_in_range 1 63 (iid_of v)
 
--- Whether hviprio1 may hold a number, and hvictl: such as a write keeps whole.
+-- Whether hviprio1 may hold a number, and whether hvictl may: one that a write keeps whole.
 abbrev pub fits_hviprio1 : ℕ → Bool
 fits_hviprio1 v = nat_eq (hviprio1_kept v) v
 
@@ -132,9 +139,11 @@ majors_word members =
 abbrev pub fits_hvip : ℕ → Bool
 fits_hvip v = nat_eq (majors_word (has_bit v)) v
 
+-- What sip reads, given whether the interrupt file signals.
 abbrev pub sip_value : VsMajorState → Bool → ℕ
 sip_value m signal = majors_word (is_pending m signal)
 
+-- What sie reads.
 abbrev pub sie_value : VsMajorState → ℕ
 sie_value m = majors_word m.enabled
 

@@ -13,7 +13,7 @@ use Rattle.aia_home.specs.Routes.{is_at_fence, MayReach}
 use Rattle.aia_model.specs.declared.line.Line.TheVariants.{Send, Enter, Exit}
 use Rattle.aia_model.specs.declared.line.Line.TheVariants as lines
 use Rattle.aia_model.specs.Move.Move.{Arrives, Leaves, Shifts}
-use Rattle.aia_model.specs.Event.{Event, History, Shape, machine_of, file_words}
+use Rattle.aia_model.specs.Event.{Event, History, MachineSize, machine_of, file_words}
 use Rattle.aia_model.specs.Event.Event.{Accepted, Began, Stepped, Delivered, Landed, Relayed}
 use Rattle.aia_model.specs.Flight.{Sending, flight}
 use Rattle.aia_model.specs.GuestFile.{named_by, sent_to}
@@ -205,7 +205,7 @@ same_first g h = by_fence (is_at_fence (home h g)) refl
     by_fence false e = rw e (refl, refl)
 
 pub words_first : (g : Vcpu) (h : History) → file_words (landed_first g h) ≡ file_words h
-words_first g h = ap (λ m. (option_map_or (λ (shape : Shape). shape.n) m 0 + 1) / 64) (same_first g h).1
+words_first g h = ap (λ m. (option_map_or (λ (shape : MachineSize). shape.n) m 0 + 1) / 64) (same_first g h).1
 
 passes_landed : (count vm : ℕ) (h : History) → passes_of (oldest_landed count vm h) ≡ passes_of h
 unfolding passes_of

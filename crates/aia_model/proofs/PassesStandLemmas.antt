@@ -22,7 +22,7 @@ use Rattle.aia_model.specs.declared.line.Line.TheVariants as lines
 use Rattle.aia_model.specs.declared.domain_name.DomainName.{DomainName}
 use Rattle.aia_model.specs.declared.domain_name.DomainName.TheVariants.{Child}
 use Rattle.aia_model.specs.Move.Move.{Arrives, Leaves, Shifts}
-use Rattle.aia_model.specs.Event.{Event, History, Shape, has_machine, machine_of, greatest_identity_of, file_words}
+use Rattle.aia_model.specs.Event.{Event, History, MachineSize, has_machine, machine_of, greatest_identity_of, file_words}
 use Rattle.aia_model.specs.Event.Event.{Accepted, Began, Stepped, Delivered, Landed, Relayed}
 use Rattle.aia_model.specs.Vms.{vms_of, has_vcpu}
 use Rattle.aia_model.specs.Act.{Act, Past, act_of, domain_at, register_at}
@@ -30,7 +30,7 @@ use Rattle.aia_model.specs.Act.Act.{Driven, Written, Loaded, Aimed}
 use Rattle.aia_model.specs.SourceOf.{target}
 use Rattle.aia_model.specs.Sent.{with_act, with_all_sent, senders, acts_of}
 use Rattle.aia_model.specs.Passes.{Pass, no_pass, passes_of, nth_pass, pass_of, is_passed, passes_to, passes_for, own_pass, rank_of}
-use Rattle.aia_model.specs.Passable.{is_passable, redirects, Leaves as LeavesSource}
+use Rattle.aia_model.specs.Passable.{is_passable, redirects, KeepsItsWay}
 use Rattle.aia_model.specs.HomeOf.{home, free_file}
 use Rattle.aia_model.specs.Aim.{pass_reach, target_for, aim_of, aimed_by, PassAtRest, AllAreAimed}
 use Rattle.aia_model.specs.Refusal.{refusal}
@@ -86,7 +86,7 @@ aimed_sent : (h : History) (p : ℕ) (past : Past) → IsAimedIn h p past → Is
 aimed_sent h p past a = let stays = sent_stays (senders past) past (nth_pass h p).source a.passable in record { passable = stays.0; target = stays.1 ∙ a.target }
 
 -- an act that leaves its source leaves it
-aimed_left : (h : History) (p : ℕ) (past : Past) (a : Act) → LeavesSource (nth_pass h p).source past a → IsAimedIn h p past → IsAimedIn h p (a ∷ past)
+aimed_left : (h : History) (p : ℕ) (past : Past) (a : Act) → KeepsItsWay (nth_pass h p).source past a → IsAimedIn h p past → IsAimedIn h p (a ∷ past)
 aimed_left h p past a leaves aim = let stays = passed_stays past a (nth_pass h p).source aim.passable leaves in record { passable = stays.0; target = stays.1 ∙ aim.target }
 
 -- ---- one pass more
@@ -136,7 +136,7 @@ none_without h p none s = by_machine (machine_of h) none (nth_pass h p).identity
     none_there : (i : ℕ) → is_in_range 1 0 i ≡ true → ⊥
     none_there i e = let no : true ≡ false = grind (arith, nat_tests) in false≢true (sym no)
 
-    by_machine : (o : Option Shape) → is_some o ≡ false → (i : ℕ) → is_in_range 1 (option_map_or (λ (m : Shape). m.n) o 0) i ≡ true → ⊥
+    by_machine : (o : Option MachineSize) → is_some o ≡ false → (i : ℕ) → is_in_range 1 (option_map_or (λ (m : MachineSize). m.n) o 0) i ≡ true → ⊥
     by_machine None e i there = none_there i there
     by_machine (Some m) e i there = absurd (cc)
 

@@ -5,11 +5,11 @@ use Rattle.std.specs.Prelude.{not}
 use Rattle.std.proofs.lemmas.Bool.{and_parts, cond-true, cond-false}
 use Rattle.std.proofs.lemmas.Slice.Eq.{bytes_eq-Decides}
 use Rattle.aia_model.specs.Text.{number_of, below, ◌>>=◌}
-use Rattle.aia_model.specs.Grammar.{is_word, Kind, Value, bit_of, value_of, SpellFields, Shape, Values, fields}
+use Rattle.aia_model.specs.Grammar.{is_word, WordKind, Value, bit_of, value_of, SpellFields, Shape, Values, fields}
 use Rattle.aia_model.specs.Grammar.Choice.{This, Other}
-use Rattle.aia_model.specs.Grammar.Kind.{Decimal, Decimal32, Hex, Hex32, Hex16, Bit, Name}
+use Rattle.aia_model.specs.Grammar.WordKind.{Decimal, Decimal32, VmNumber, Hex, Hex32, Hex16, Bit, Name}
 use Rattle.aia_model.specs.Grammar.Shape.{End, ◌&◌, Only, Either}
-use Rattle.aia_model.specs.Reading.{Words, word_at, number_at, n32_at, bit_at, csr_at, value_at, read}
+use Rattle.aia_model.specs.Reading.{Words, word_at, number_at, n32_at, flag_at, csr_at, value_at, read}
 
 pub bind_some : {A B : Type 0} (o : Option A) (f : A → Option B) (y : B) → (o >>= f) ≡ Some y → (x : A) × (o ≡ Some x) × (f x ≡ Some y)
 bind_some None f y e = absurd (cc)
@@ -35,27 +35,29 @@ number_first None f ws = refl
 number_first (Some n) f ws = refl
 
 -- the next word as one of a kind is what it stands for
-value_first : (kind : Kind) (w : List ℕ) (ws : Words) → value_at kind (w ∷ ws) ≡ (value_of kind w >>= λ a. Some (a, ws))
-unfolding number_at n32_at bit_at csr_at
+value_first : (kind : WordKind) (w : List ℕ) (ws : Words) → value_at kind (w ∷ ws) ≡ (value_of kind w >>= λ a. Some (a, ws))
+unfolding number_at n32_at flag_at csr_at
 value_first Decimal w ws = refl
 value_first Decimal32 w ws = number_first (number_of w) (below (2 ^ 32)) ws
+value_first VmNumber w ws = refl
 value_first Hex w ws = refl
 value_first Hex32 w ws = number_first (number_of w) (below (2 ^ 32)) ws
 value_first Hex16 w ws = refl
 value_first Bit w ws = number_first (number_of w) bit_of ws
 value_first (Name level) w ws = refl
 
-no_value : (kind : Kind) → ◌≡◌ {A = Option (Value kind × Words)} (value_at kind []) None
-unfolding number_at n32_at bit_at csr_at
+no_value : (kind : WordKind) → ◌≡◌ {A = Option (Value kind × Words)} (value_at kind []) None
+unfolding number_at n32_at flag_at csr_at
 no_value Decimal = refl
 no_value Decimal32 = refl
+no_value VmNumber = refl
 no_value Hex = refl
 no_value Hex32 = refl
 no_value Hex16 = refl
 no_value Bit = refl
 no_value (Name level) = refl
 
-value_read : (kind : Kind) (w : List ℕ) (ws : Words) (a : Value kind) → value_of kind w ≡ Some a → value_at kind (w ∷ ws) ≡ Some (a, ws)
+value_read : (kind : WordKind) (w : List ℕ) (ws : Words) (a : Value kind) → value_of kind w ≡ Some a → value_at kind (w ∷ ws) ≡ Some (a, ws)
 value_read kind w ws a e = value_first kind w ws ∙ ap (λ o. o >>= λ a. Some (a, ws)) e
 
 -- ---- the words of a shape

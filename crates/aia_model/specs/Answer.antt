@@ -17,8 +17,8 @@ use Rattle.aia_model.specs.declared.answer.Answer.TheVariants as kinds
 use Rattle.aia_model.specs.declared.msi.Msi.{Msi}
 use Rattle.aia_home.specs.Vms.{Vcpu, vcpu}
 use Rattle.aia_home.specs.Plans.{is_at_last, leave_steps, arrive_steps, shift_steps}
-use Rattle.aia_model.specs.Move.{Move, mover, MoveDeed, move_deed}
-use Rattle.aia_model.specs.Move.MoveDeed.{NoMove, Whole, Begins, Steps, Lands}
+use Rattle.aia_model.specs.Move.{Move, mover, LineDeed, line_deed}
+use Rattle.aia_model.specs.Move.LineDeed.{NoMove, Whole, Begins, Steps, Lands}
 use Rattle.aia_model.specs.Move.Move.{Arrives, Leaves, Shifts}
 use Rattle.aia_model.specs.Event.{History, file_words}
 use Rattle.aia_model.specs.Event.Event.{Accepted, Began, Stepped, Delivered, Landed, Relayed}
@@ -137,7 +137,7 @@ whole_move h move =
     (Began move ∷ h)
 
 -- An accepted line itself: what it is of moves, or a landing; else an event `Accepted`.
-abbrev pub deed_taken : History → Line → MoveDeed → History
+abbrev pub deed_taken : History → Line → LineDeed → History
 deed_taken h line NoMove = Accepted line ∷ h
 deed_taken h line (Whole move) = whole_move h move
 deed_taken h line (Begins move) = Began move ∷ h
@@ -145,7 +145,7 @@ deed_taken h line (Steps g) = step_taken g h
 deed_taken h line (Lands vm k) = Landed vm k ∷ h
 
 abbrev pub line_taken : History → Line → History
-line_taken h line = deed_taken h line (move_deed line)
+line_taken h line = deed_taken h line (line_deed line)
 
 -- What has happened after an accepted line: it, then the MSIs that it sends.
 abbrev pub after_accepted : History → Line → History

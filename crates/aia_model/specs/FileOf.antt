@@ -79,10 +79,10 @@ deed_at f past event = notice_deed past f (noticed past event)
 
 -- ---- the file after a history
 
--- Its select number.
+-- The select number of a file.
 abbrev pub select_of : History → FileName → ℕ
 select_of h f = select_by (deed_at f) h
 
--- The file.
+-- The file itself.
 abbrev pub file_of : History → FileName → InterruptFile
 file_of h f = file_by (deed_at f) h

@@ -1,6 +1,6 @@
 -- The forms of lines, as one table: the keyword, the shape of what follows it, and the line. The
 -- reading of a line and its printing both go by it. Profile.
-use Rattle.std.specs.Prelude.{ℕ, ◌≤◌, List, [], ◌∷◌, length, codes}
+use Rattle.std.specs.Prelude.{ℕ, ◌≤◌, Bool, true, false, not, ◌&&◌, ◌||◌, List, [], ◌∷◌, length, Option, Some, None, codes}
 use Rattle.std.specs.List.{AllByRecursion}
 use Rattle.aia_model.specs.declared.limits.TheConstants.{LINE_BYTES}
 use Rattle.aia_model.specs.declared.line.Line.{Line}
@@ -17,8 +17,8 @@ use Rattle.aia_regs.specs.declared.access.Op.TheVariants.{Read, Write, Set, Clea
 use Rattle.aia_model.specs.Text.{words_of}
 use Rattle.aia_model.specs.Grammar.{Field, SpellFields, HasSpelling, Shape, Choice, Values, fields}
 use Rattle.aia_model.specs.Grammar.Choice.{This, Other}
-use Rattle.aia_model.specs.Grammar.Field.{Keyword}
-use Rattle.aia_model.specs.Grammar.Kind.{Decimal, Decimal32, Hex, Hex32, Hex16, Bit, Name}
+use Rattle.aia_model.specs.Grammar.Field.{Keyword, Of}
+use Rattle.aia_model.specs.Grammar.WordKind.{Decimal, Decimal32, VmNumber, Hex, Hex32, Hex16, Bit, Name}
 use Rattle.aia_model.specs.Grammar.Shape.{End, ◌&◌, Only, Either}
 
 -- A form of line: its keyword, the shape of what follows it, and the line of the values there.
@@ -81,9 +81,9 @@ part_fields part = fields part_shape (part_values part)
 -- A move that begins; the line, and the other way.
 abbrev pub move_shape : Shape
 move_shape =
-    Either (codes "arrive") (Decimal & Decimal & Decimal & End)
-    (Either (codes "leave") (Decimal & Decimal & End)
-    (Only (codes "shift") (Decimal & Decimal & Decimal & End)))
+    Either (codes "arrive") (VmNumber & Decimal & Decimal & End)
+    (Either (codes "leave") (VmNumber & Decimal & End)
+    (Only (codes "shift") (VmNumber & Decimal & Decimal & End)))
 
 abbrev pub beginning : Values move_shape → Line
 beginning (This (vm, (number, (hart, end)))) = lines.Begin vm number (Arrive hart)
@@ -118,25 +118,25 @@ store = form (codes "st") (Hex & Hex32 & End) (λ (addr, (value, end)). lines.St
 
 abbrev pub msi : Form
 msi =
-    form (codes "msi") (Decimal & Hex & Decimal32 & End)
+    form (codes "msi") (VmNumber & Hex & Decimal32 & End)
     (λ (vm, (addr, (value, end))). lines.Msi vm addr value)
 
 abbrev pub send : Form
 send =
-    form (codes "send") (Decimal & Hex & Decimal32 & End)
+    form (codes "send") (VmNumber & Hex & Decimal32 & End)
     (λ (vm, (addr, (value, end))). lines.Send vm addr value)
 
 abbrev pub land : Form
-land = form (codes "land") (Decimal & Decimal & End) (λ (vm, (k, end)). lines.Land vm k)
+land = form (codes "land") (VmNumber & Decimal & End) (λ (vm, (k, end)). lines.Land vm k)
 
 abbrev pub refetch : Form
 refetch =
-    form (codes "refetch") (Decimal & Decimal & End)
+    form (codes "refetch") (VmNumber & Decimal & End)
     (λ (vm, (number, end)). lines.Refetch vm number)
 
 abbrev pub pass : Form
 pass =
-    form (codes "pass") (Decimal & Decimal & Decimal & Decimal & End)
+    form (codes "pass") (Decimal & VmNumber & Decimal & Decimal & End)
     (λ (source, (vm, (number, (identity, end)))). lines.Pass source vm number identity)
 
 abbrev pub machine_csr : Form
@@ -163,23 +163,23 @@ guest_line vm number (Other does) =
 abbrev pub guest : Form
 guest =
     form (codes "g")
-    (Decimal & Decimal
+    (VmNumber & Decimal
     & Either (codes "ipi") (Decimal & Decimal32 & End) (instruction levels.Guest))
     (λ (vm, (number, does)). guest_line vm number does)
 
 abbrev pub arrive : Form
 arrive =
-    form (codes "arrive") (Decimal & Decimal & Decimal & End)
+    form (codes "arrive") (VmNumber & Decimal & Decimal & End)
     (λ (vm, (number, (hart, end))). lines.Move vm number (Arrive hart))
 
 abbrev pub leave : Form
 leave =
-    form (codes "leave") (Decimal & Decimal & End)
+    form (codes "leave") (VmNumber & Decimal & End)
     (λ (vm, (number, end)). lines.Move vm number Leave)
 
 abbrev pub shift : Form
 shift =
-    form (codes "shift") (Decimal & Decimal & Decimal & End)
+    form (codes "shift") (VmNumber & Decimal & Decimal & End)
     (λ (vm, (number, (hart, end))). lines.Move vm number (Shift hart))
 
 abbrev pub begin : Form
@@ -187,39 +187,39 @@ begin = form (codes "begin") move_shape beginning
 
 abbrev pub step : Form
 step =
-    form (codes "step") (Decimal & Decimal & End) (λ (vm, (number, end)). lines.Step vm number)
+    form (codes "step") (VmNumber & Decimal & End) (λ (vm, (number, end)). lines.Step vm number)
 
 abbrev pub enter : Form
 enter =
-    form (codes "enter") (Decimal & Decimal & End) (λ (vm, (number, end)). lines.Enter vm number)
+    form (codes "enter") (VmNumber & Decimal & End) (λ (vm, (number, end)). lines.Enter vm number)
 
 abbrev pub exit : Form
 exit =
-    form (codes "exit") (Decimal & Decimal & End) (λ (vm, (number, end)). lines.Exit vm number)
+    form (codes "exit") (VmNumber & Decimal & End) (λ (vm, (number, end)). lines.Exit vm number)
 
 abbrev pub save : Form
 save =
-    form (codes "save") (Decimal & Decimal & Decimal & End)
+    form (codes "save") (VmNumber & Decimal & Decimal & End)
     (λ (vm, (number, (k, end))). lines.Save vm number k)
 
 abbrev pub load_part : Form
 load_part =
-    form (codes "load") (Decimal & Decimal & part_shape)
+    form (codes "load") (VmNumber & Decimal & part_shape)
     (λ (vm, (number, values)). lines.LoadPart vm number (part values))
 
 abbrev pub inject : Form
 inject =
-    form (codes "inject") (Decimal & Decimal & Decimal & Bit & End)
+    form (codes "inject") (VmNumber & Decimal & Decimal & Bit & End)
     (λ (vm, (number, (bit, (level, end)))). lines.Inject vm number bit level)
 
 abbrev pub hvictl : Form
 hvictl =
-    form (codes "hvictl") (Decimal & Decimal & Hex & End)
+    form (codes "hvictl") (VmNumber & Decimal & Hex & End)
     (λ (vm, (number, (value, end))). lines.Hvictl vm number value)
 
 abbrev pub hviprio : Form
 hviprio =
-    form (codes "hviprio") (Decimal & Decimal & Hex & End)
+    form (codes "hviprio") (VmNumber & Decimal & Hex & End)
     (λ (vm, (number, (value, end))). lines.Hviprio vm number value)
 
 abbrev pub pins : Form
@@ -293,6 +293,37 @@ spelled (Spelled form values) = Keyword form.keyword ∷ fields form.shape value
 -- The fields of a line.
 abbrev pub fields_of : Line → List Field
 fields_of line = spelled (spelling line)
+
+-- The VM that fields begin with, after keywords; None where they begin with another value or none.
+abbrev pub first_vm : List Field → Option ℕ
+first_vm [] = None
+first_vm (Keyword word ∷ fields) = first_vm fields
+first_vm (Of VmNumber vm ∷ fields) = Some vm
+first_vm (field ∷ fields) = None
+
+-- The VM that a line names: the one that it begins with, as its form says. It is that of the device
+-- or the virtual hart that does something, or of the virtual hart that something is done to. A pass
+-- begins with its source, and so names none here: passes are numbered in one order, of all VMs.
+abbrev pub vm_of : Line → Option ℕ
+vm_of line = first_vm (fields_of line)
+
+-- Whether a VM is among the words of a shape, and whether a shape begins with one.
+abbrev pub has_vm_number : Shape → Bool
+has_vm_number End = false
+has_vm_number (VmNumber & rest) = true
+has_vm_number (kind & rest) = has_vm_number rest
+has_vm_number (Only word rest) = has_vm_number rest
+has_vm_number (Either word rest other) = has_vm_number rest || has_vm_number other
+
+abbrev pub begins_with_vm : Shape → Bool
+begins_with_vm (VmNumber & rest) = true
+begins_with_vm (Only word rest) = begins_with_vm rest
+begins_with_vm (Either word rest other) = begins_with_vm rest && begins_with_vm other
+begins_with_vm shape = false
+
+-- Whether the number of a VM, where a form has one, comes first.
+abbrev pub has_vm_first : Form → Bool
+has_vm_first form = not (has_vm_number form.shape) || begins_with_vm form.shape
 
 -- Whether a text spells a line: it has at most LINE_BYTES bytes, and its words spell the line's
 -- fields.

@@ -39,14 +39,14 @@ redirects h addr value =
 
 -- Whether an act leaves a source where its MSIs go: it does not make the machine, aims another
 -- source if it aims one, and writes none of those registers that would redirect this one.
-abbrev pub Leaves : ℕ → Past → Act → Type 0
-Leaves s past (Made harts sources) = ⊥
-Leaves s past (Aimed t v) = nat_eq t s ≡ false
-Leaves s past (Written Root MMsiAddrCfgH v) = ⊥
-Leaves s past (Written Root SMsiAddrCfg v) = ⊥
-Leaves s past (Written Root SMsiAddrCfgH v) = ⊥
-Leaves s past (Written Root (SourceCfg i) v) = nat_eq i s ≡ false
-Leaves s past (Written Child DomainCfg v) = keeps_delivery past Child v ≡ true
-Leaves s past (Written Child (SourceCfg i) v) = nat_eq i s ≡ false
-Leaves s past (Written Child (Target i) v) = nat_eq i s ≡ false
-Leaves s past a = Unit {0}
+abbrev pub KeepsItsWay : ℕ → Past → Act → Type 0
+KeepsItsWay s past (Made harts sources) = ⊥
+KeepsItsWay s past (Aimed t v) = nat_eq t s ≡ false
+KeepsItsWay s past (Written Root MMsiAddrCfgH v) = ⊥
+KeepsItsWay s past (Written Root SMsiAddrCfg v) = ⊥
+KeepsItsWay s past (Written Root SMsiAddrCfgH v) = ⊥
+KeepsItsWay s past (Written Root (SourceCfg i) v) = nat_eq i s ≡ false
+KeepsItsWay s past (Written Child DomainCfg v) = keeps_delivery past Child v ≡ true
+KeepsItsWay s past (Written Child (SourceCfg i) v) = nat_eq i s ≡ false
+KeepsItsWay s past (Written Child (Target i) v) = nat_eq i s ≡ false
+KeepsItsWay s past a = Unit {0}

@@ -55,7 +55,7 @@ numbers_to g p (x ∷ later) =
     if is_vcpu x.to g then p ∷ numbers_to g (suc p) later else numbers_to g (suc p) later
 
 -- How many sources are passed to it; the number of the r-th of these passes, counted from 0; and
--- which of its virtual hart's a pass is.
+-- which one of those of its virtual hart a pass is, counted from 0.
 abbrev pub passes_for : History → Vcpu → ℕ
 passes_for h g = passes_to g (passes_of h)
 

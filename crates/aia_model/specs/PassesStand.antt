@@ -24,7 +24,7 @@ pub record PassStands (h : History) (p : ℕ) : Type 0 where
   pub target : target (acts_of h) Child (nth_pass h p).source
       ≡ target_for h p (nth_pass h p).to (nth_pass h p).identity (pass_reach h p)
 
--- All do; each is aimed in its turn; and there are no more of them than may be.
+-- All passes stand; each is aimed in its turn; and there are no more of them than may be.
 pub record AllPassesStand (h : History) : Type 0 where
   pub pass : (p : ℕ) → p < length (passes_of h) → PassStands h p
   pub aimed : AllAreAimed h

@@ -6,7 +6,7 @@ ghost use Rattle.aia_moving.specs.Targets.{TargetMap, AimsOne};
 /// The wired sources of a machine, as moves see them: where each leads, and which of them has a
 /// target that can be written.
 ///
-/// AIA 1.0, APLIC, "Interrupt targets". Profile: passes.
+/// AIA 1.0, APLIC, "Memory-mapped control region for an interrupt domain". Profile: passes.
 pub trait Targets {
     ghost map: { Self → TargetMap };
 
@@ -22,7 +22,7 @@ pub trait Targets {
     /// Aims a source at guest file `guest`, 0 for the supervisor file, of hart `hart`, with an
     /// identity, up to `IDENTITIES`.
     ///
-    /// AIA 1.0, APLIC, "Interrupt targets". Profile: passes.
+    /// AIA 1.0, APLIC, "Memory-mapped control region for an interrupt domain". Profile: passes.
     fn aim(&mut self, source: u32, hart: u32, guest: u32, identity: u32)
         requires hart { hart < (map self.old).harts }
         requires guest { guest < 64 }

@@ -38,6 +38,7 @@ width w = (w.n + 1) / 64
 
 -- ---- its places
 
+-- Where a guest file is among all files, where there is one.
 abbrev pub spot_in : Option Place → Spot
 spot_in None = Nowhere
 spot_in (Some p) = spot_of p

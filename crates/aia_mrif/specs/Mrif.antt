@@ -40,7 +40,7 @@ mrif_in words q = record {
 
 -- ---- a 32-bit store of a value at an offset of it
 
--- It asks for the identity that it names.
+-- The MRIF after a store, which asks for the identity that it names.
 abbrev pub after_store : ℕ → ℕ → Mrif → Mrif
 after_store offset value mrif =
     record mrif { pending = set_after (request_said IDENTITIES offset value) mrif.pending }

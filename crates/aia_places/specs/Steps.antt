@@ -16,9 +16,11 @@ use Rattle.aia_places.specs.Holds.{Hand, meets}
 
 -- ---- a place with other sets
 
+-- A file with other sets.
 abbrev pub with_file_sets : InterruptFile → TwoSets → InterruptFile
 with_file_sets file sets = record file { pending = sets.pending; enabled = sets.enabled }
 
+-- The places with other sets in the slot.
 abbrev pub with_slot_sets : Places → TwoSets → Places
 with_slot_sets v sets =
     record v { slot = record { pending = sets.pending; enabled = sets.enabled } }
@@ -52,8 +54,8 @@ joined_by w word set i = if nat_eq (i / 64) w then (set i || has_bit word (i % 6
 abbrev pub replaced_by : ℕ → ℕ → (ℕ → Bool) → ℕ → Bool
 replaced_by w word set i = if nat_eq (i / 64) w then has_bit word (i % 64) else set i
 
--- What it makes of the places, of the virtual hart of slot q, whose notices go to a hart. A fence
--- puts in force what the words say.
+-- What an access makes of the places, of the virtual hart of slot q, whose notices go to a hart. A
+-- fence puts in force what the words say.
 abbrev pub places_after : ℕ → ℕ → Access → Home → Places → Hand → Places
 places_after q hart TakeDelivery there v hand =
     record v { own = accessed Delivery (ops.Write 0) v.own }
@@ -83,7 +85,8 @@ places_after q hart Post there v hand = v
 abbrev pub Shows : ℕ → ℕ → (ℕ → Bool) → Type 0
 Shows word w set = (i : ℕ) → i / 64 ≡ w → has_bit word (i % 64) ≡ set i
 
--- What it makes of what is carried. A look sees words p and e that show word w of the slot's sets.
+-- What an access makes of what is carried. A look sees words p and e that show word w of the slot's
+-- sets.
 abbrev pub CarriedAfter : Access → Home → Places → Hand → Hand → Type 0
 CarriedAfter TakeDelivery there v hand now = now ≡ record hand { delivery = v.own.delivery }
 CarriedAfter (TakePending w) there v hand now =
@@ -96,7 +99,7 @@ CarriedAfter (Look w) there v hand now = (p : ℕ) × (e : ℕ)
 CarriedAfter TakeThreshold there v hand now = now ≡ record hand { threshold = v.own.threshold }
 CarriedAfter access there v hand now = now ≡ hand
 
--- A step of the move makes it.
+-- A step of the move makes an access, of the places and of what is carried.
 pub record StepMade (q hart : ℕ) (access : Access) (there : Home) (v : Places) (hand : Hand)
     (u : Places) (now : Hand) : Type 0 where
   pub places : u ≡ places_after q hart access there v hand

@@ -153,6 +153,6 @@ parts_kept kind words plan =
     turns_routes kind plan ∷ takes_late words plan ∷ puts_at_once plan
     ∷ moves_enables words plan ∷ []
 
--- The least part that it fails; None where it keeps the rule.
+-- The least part of the rule that a plan fails; None where it keeps the rule.
 abbrev pub failing : Kind → ℕ → Plan → Option ℕ
 failing kind words plan = first_failing 1 (parts_kept kind words plan)

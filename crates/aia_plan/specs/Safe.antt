@@ -24,8 +24,8 @@ pub record IsStart (words : ℕ) (z : Transit) : Type 0 where
   pub no_enables_carried : (bit : ℕ) → z.carried_enables bit ≡ false
   pub due : (i : ℕ) → z.due i ≡ (is_identity i && z.old_pending i)
 
--- How it has to end: all leads to the new place; there just what is due is pending, and just what
--- was enabled at the start is enabled; the old place is empty.
+-- How a move has to end: all leads to the new place; there just what is due is pending, and just
+-- what was enabled at the start is enabled; the old place is empty.
 pub record IsMoved (words : ℕ) (start z : Transit) : Type 0 where
   pub routes : AllLeadTo New z
   pub pending : (i : ℕ) → i / 64 < words → z.new_pending i ≡ z.due i
@@ -34,7 +34,8 @@ pub record IsMoved (words : ℕ) (start z : Transit) : Type 0 where
   pub none_pending : (i : ℕ) → i / 64 < words → z.old_pending i ≡ false
   pub none_enabled : (i : ℕ) → i / 64 < words → z.old_enabled i ≡ false
 
--- For every start, and all that may happen before, between and after the steps.
+-- A plan is safe: from every start, whatever happens before, between and after its steps, the move
+-- ends so.
 abbrev pub IsSafe : ℕ → Plan → Type 0
 IsSafe words plan =
     (start : Transit) (run : List Happening) → IsStart words start → steps_of run ≡ plan

@@ -38,7 +38,7 @@ pub record Transit : Type 0 where
 
 -- ---- stores land
 
--- 0 is no identity.
+-- Whether a number is an identity: 0 is none.
 abbrev pub is_identity : ℕ → Bool
 is_identity i = nat_lt 0 i
 
@@ -73,8 +73,8 @@ of_word w bits i = nat_eq w (i / 64) && (is_identity i && bits (i % 64))
 abbrev pub no_bits : ℕ → Bool
 no_bits bit = false
 
--- What a step of a plan makes of it. A fence is one step here, though it waits for many stores; the
--- steps that are not named change nothing of what is judged.
+-- What a step of a plan makes of all that. A fence is one step here, though it waits for many
+-- stores; the steps that are not named change nothing of what is judged.
 abbrev pub stepped : Step → Transit → Transit
 stepped Word0 z = record z { entry_written = New }
 stepped Fence z = record (all_landed z.flights z) { flights = []; entry_in_force = z.entry_written }

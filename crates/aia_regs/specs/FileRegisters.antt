@@ -44,12 +44,12 @@ shows n k i = is_in_range 1 n i && is_in_range (32 * k) (32 * k + 63) i
 abbrev pub set_said : ℕ → ℕ → Op → ℕ → BitUpdate
 set_said n k op i = if shows n k i then bit_said op (i - 32 * k) else Nothing
 
--- What an access to a register says of identity i's being pending: one to eip says it.
+-- What an access to a register says of identity i's being pending: only one to eip says anything.
 abbrev pub eip_said : ℕ → FileReg → Op → ℕ → BitUpdate
 eip_said n (Pending k) op i = set_said n k op i
 eip_said n r op i = Nothing
 
--- What it says of identity i's being enabled: one to eie says it.
+-- What it says of identity i's being enabled: only one to eie says anything.
 abbrev pub eie_said : ℕ → FileReg → Op → ℕ → BitUpdate
 eie_said n (Enable k) op i = set_said n k op i
 eie_said n r op i = Nothing

@@ -28,8 +28,8 @@ written (ops.Clear v) old = bit_and old (bit_not w64 v)
 abbrev pub has_bit : ℕ → ℕ → Bool
 has_bit v b = nat_eq (bit_at v b) 1
 
--- What it says of bit b of the register; that this is the number written, bit by bit, is a law of
--- the file's crate.
+-- What the instruction says of bit b of the register; that this is the number written, bit by bit,
+-- is a law of the file's crate.
 abbrev pub bit_said : Op → ℕ → BitUpdate
 bit_said ops.Read b = Nothing
 bit_said (ops.Write v) b = if has_bit v b then Ask else Clear

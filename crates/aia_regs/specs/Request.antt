@@ -19,11 +19,11 @@ abbrev pub implemented : ℕ → Option ℕ → Option ℕ
 implemented n None = None
 implemented n (Some x) = if is_in_range 1 n x then Some x else None
 
--- The identity that the store names, of a file with the identities 1 to n; other values are
+-- The identity that a store names, of a file with the identities 1 to n; other values are
 -- ignored.
 abbrev pub requested : ℕ → ℕ → ℕ → Option ℕ
 requested n offset value = implemented n (number_written offset value)
 
--- What the store says of identity i.
+-- What a store says of identity i.
 abbrev pub request_said : ℕ → ℕ → ℕ → ℕ → BitUpdate
 request_said n offset value i = if names (requested n offset value) i then Ask else Nothing

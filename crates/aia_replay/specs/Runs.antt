@@ -85,7 +85,7 @@ pub record AnswersWhole (before now : Option (List ℕ)) (bytes : List ℕ) : Ty
   pub no_end : NoEnd tail
   pub written : Appends before now (answers whole)
 
--- So of the bytes that were taken, so many at the end left out of account.
+-- Those answers are written of the bytes that were taken, so many at the end left out of account.
 pub record WritesLines (count : ℕ) (left rest : Supply) (before now : Option (List ℕ))
     : Type 0 where
   pub bytes : List ℕ

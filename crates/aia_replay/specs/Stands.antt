@@ -7,8 +7,8 @@ use Rattle.aia_model.specs.declared.parsed.Parsed.{Parsed}
 use Rattle.aia_model.specs.declared.parsed.Parsed.TheVariants as parsed
 use Rattle.aia_model.specs.Event.{History}
 use Rattle.aia_model.specs.Act.{Past, act_of}
-use Rattle.aia_model.specs.Move.{MoveDeed, move_deed}
-use Rattle.aia_model.specs.Move.MoveDeed.{NoMove}
+use Rattle.aia_model.specs.Move.{LineDeed, line_deed}
+use Rattle.aia_model.specs.Move.LineDeed.{NoMove}
 use Rattle.aia_model.specs.Event.Event.{Accepted}
 use Rattle.aia_model.specs.Aim.{aimed_by}
 use Rattle.aia_model.specs.Histories.{IsHistory}
@@ -40,14 +40,14 @@ pub record StandsForSome (m : Machine) : Type 0 where
 
 -- What has happened to the APLIC when a line is accepted, and its MSIs are still to be sent: of a
 -- line about moves and of a landing what they aim, of any other one what it is to the APLIC too.
-abbrev pub acts_by : MoveDeed → History → Line → Past
+abbrev pub acts_by : LineDeed → History → Line → Past
 acts_by NoMove h line =
     with_act (act_of line) (with_act (aimed_by h (Accepted line)) (acts_of h))
 acts_by deed h line = acts_of (line_taken h line)
 
 -- The same of a line that is refused or not.
 abbrev pub act_taken : Option Answer → History → Line → Past
-act_taken None h line = acts_by (move_deed line) h line
+act_taken None h line = acts_by (line_deed line) h line
 act_taken (Some word) h line = acts_of h
 
 -- A machine answers a line as the model does, and holds what the line itself makes of it.
@@ -84,7 +84,7 @@ pub record MachineServes (old new : Machine) (line : Line) (given : Answer) : Ty
 abbrev pub EngineState : Type 0
 EngineState = Option Machine
 
--- With no machine it stands for the empty history alone.
+-- An engine stands for a history: with no machine for the empty history alone.
 abbrev pub StandsFor : EngineState → History → Type 0
 StandsFor machine h = MatchOption machine (h ≡ []) (λ m. MachineStands m h)
 

@@ -4,6 +4,7 @@ use Rattle.aia_plan.specs.declared.step.Step.TheVariants.{TakeP, PutP, TakeE, Pu
 use Rattle.aia_script.specs.StepText.{Form}
 use Rattle.aia_script.specs.StepText.Form.{Alone, OfWord}
 
+-- A number of a word, for a step that has one; else nothing.
 abbrev pub form_of : Step → Form
 form_of (TakeP w) = OfWord TakeP
 form_of (PutP w) = OfWord PutP

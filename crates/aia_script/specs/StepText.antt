@@ -34,18 +34,20 @@ step_forms =
     ∷ (codes "wake", Alone Wake)
     ∷ []
 
--- The step that a form and the words after the name spell, of files of so many words of 64
--- identities.
+-- The step that a number of a word spells, which the rest of the words is.
 unfoldable pub word_step : ℕ → (ℕ → Step) → Words → Option Step
 word_step count step words = do
   number ← number_at words
   w ← below count number.0
   whole number.1 (step w)
 
+-- The step that a form and the words after the name spell, of files of so many words of 64
+-- identities.
 abbrev pub step_after : ℕ → Form → Words → Option Step
 step_after count (Alone step) words = whole words step
 step_after count (OfWord step) words = word_step count step words
 
+-- The step that words spell.
 unfoldable pub step_at : ℕ → Words → Option Step
 step_at count words = do
   name ← word_at words

@@ -10,7 +10,7 @@ ghost use Rattle.aia_regs.specs.Operations.{FitsOp};
 ghost use Rattle.aia_model.specs.AnswerText.{field_text};
 ghost use Rattle.aia_model.specs.Grammar.{fields};
 ghost use Rattle.aia_model.specs.Grammar.Field.{Keyword, Of};
-ghost use Rattle.aia_model.specs.Grammar.Kind.{Decimal};
+ghost use Rattle.aia_model.specs.Grammar.WordKind.{Decimal};
 ghost use Rattle.aia_model.specs.Forms.{instruction, access_values, part_fields, part, part_shape, machine_csr, host, guest, begin, load_part, forms_of_machines, forms_of_stores, forms_of_virtual_harts, Spells, IsListed};
 ghost use Rattle.aia_model.specs.Printing.{line_text, FitsField, IsPrintable};
 ghost use Rattle.aia_model.specs.Reading.{line_by, line_among, line_after, line_at, read, reading};
@@ -18,7 +18,7 @@ ghost use Rattle.aia_model.specs.declared.limits.TheConstants.{LINE_BYTES};
 ghost use Rattle.aia_script.specs.Cursor.{left};
 
 use crate::instructions::{instruction_after, instruction_at, push_instruction};
-use crate::number::{bit_at, n32_at, number_at};
+use crate::number::{flag_at, n32_at, number_at};
 use crate::parts::{part_at, push_part};
 use crate::pieces::{push_decimal, push_decimal32, push_hex, push_text};
 use crate::rows::{print_by_row, print_field, read_by_row, read_field};
@@ -36,9 +36,9 @@ macro_rules! stores {
             b"st" [addr: Hex, value: Hex32] (Line::Store { addr, value })
             b"ld" [addr: Hex] (Line::Load { addr })
             b"wire" [source: Decimal, level: Bit] (Line::Wire { source, level })
-            b"msi" [vm: Decimal, addr: Hex, value: Decimal32] (Line::Msi { vm, addr, value })
-            b"send" [vm: Decimal, addr: Hex, value: Decimal32] (Line::Send { vm, addr, value })
-            b"land" [vm: Decimal, k: Decimal] (Line::Land { vm, k })
+            b"msi" [vm: VmNumber, addr: Hex, value: Decimal32] (Line::Msi { vm, addr, value })
+            b"send" [vm: VmNumber, addr: Hex, value: Decimal32] (Line::Send { vm, addr, value })
+            b"land" [vm: VmNumber, k: Decimal] (Line::Land { vm, k })
         }
     };
 }
@@ -47,10 +47,10 @@ macro_rules! stores {
 macro_rules! virtual_harts {
     (($take:ident $args:tt) $($rows:tt)*) => {
         $take! { $args $($rows)*
-            b"step" [vm: Decimal, number: Decimal] (Line::Step { vm, number })
-            b"refetch" [vm: Decimal, number: Decimal] (Line::Refetch { vm, number })
-            b"enter" [vm: Decimal, number: Decimal] (Line::Enter { vm, number })
-            b"exit" [vm: Decimal, number: Decimal] (Line::Exit { vm, number })
+            b"step" [vm: VmNumber, number: Decimal] (Line::Step { vm, number })
+            b"refetch" [vm: VmNumber, number: Decimal] (Line::Refetch { vm, number })
+            b"enter" [vm: VmNumber, number: Decimal] (Line::Enter { vm, number })
+            b"exit" [vm: VmNumber, number: Decimal] (Line::Exit { vm, number })
         }
     };
 }
@@ -59,16 +59,16 @@ macro_rules! virtual_harts {
 macro_rules! machines {
     (($take:ident $args:tt) $($rows:tt)*) => {
         $take! { $args $($rows)*
-            b"inject" [vm: Decimal, number: Decimal, bit: Decimal, level: Bit]
+            b"inject" [vm: VmNumber, number: Decimal, bit: Decimal, level: Bit]
                 (Line::Inject { vm, number, bit, level })
-            b"hvictl" [vm: Decimal, number: Decimal, value: Hex]
+            b"hvictl" [vm: VmNumber, number: Decimal, value: Hex]
                 (Line::Hvictl { vm, number, value })
-            b"hviprio" [vm: Decimal, number: Decimal, value: Hex]
+            b"hviprio" [vm: VmNumber, number: Decimal, value: Hex]
                 (Line::Hviprio { vm, number, value })
-            b"save" [vm: Decimal, number: Decimal, k: Decimal] (Line::Save { vm, number, k })
+            b"save" [vm: VmNumber, number: Decimal, k: Decimal] (Line::Save { vm, number, k })
             b"pins" [hart: Decimal] (Line::Pins { hart })
             b"entry" [w0: Hex, w1: Hex] (Line::Entry { w0, w1 })
-            b"pass" [source: Decimal, vm: Decimal, number: Decimal, identity: Decimal]
+            b"pass" [source: Decimal, vm: VmNumber, number: Decimal, identity: Decimal]
                 (Line::Pass { source, vm, number, identity })
             b"vm" [vcpus: Decimal, mask: Hex, hart: Decimal] (Line::Vm { vcpus, mask, hart })
             b"machine" [harts: Decimal, guests: Decimal, n: Decimal, sources: Decimal]
@@ -81,10 +81,10 @@ macro_rules! machines {
 macro_rules! moves {
     ($take:ident $args:tt $line:ident) => {
         $take! { $args
-            b"arrive" [vm: Decimal, number: Decimal, hart: Decimal]
+            b"arrive" [vm: VmNumber, number: Decimal, hart: Decimal]
                 (Line::$line { vm, number, want: Want::Arrive(hart) })
-            b"leave" [vm: Decimal, number: Decimal] (Line::$line { vm, number, want: Want::Leave })
-            b"shift" [vm: Decimal, number: Decimal, hart: Decimal]
+            b"leave" [vm: VmNumber, number: Decimal] (Line::$line { vm, number, want: Want::Leave })
+            b"shift" [vm: VmNumber, number: Decimal, hart: Decimal]
                 (Line::$line { vm, number, want: Want::Shift(hart) })
         }
     };

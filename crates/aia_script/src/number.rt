@@ -4,7 +4,7 @@ ghost use Rattle.std.specs.Prelude.{◌≡◌, ℕ, ◌+◌, ◌*◌, ◌^◌, �
 ghost use Rattle.std.specs.Option.{option_map};
 ghost use Rattle.aia_model.specs.Text.{below};
 ghost use Rattle.aia_model.specs.Grammar.{bit_of};
-ghost use Rattle.aia_model.specs.Reading.{number_at, n32_at, bit_at};
+ghost use Rattle.aia_model.specs.Reading.{number_at, n32_at, flag_at};
 ghost use Rattle.aia_script.specs.Cursor.{left};
 ghost use Rattle.aia_script.specs.Digits.{base, digit_in, ended, below_limit, number_from, after_x, after_zero, first_number};
 
@@ -172,10 +172,10 @@ fn bit(number: u64) -> Option<bool>
 
 /// Reads the level that the next word tells, and gives the words after it; `None` where it spells
 /// neither 0 nor 1.
-#[tactic(auto, unfolding(aia_model::specs::Reading::bit_at))]
+#[tactic(auto, unfolding(aia_model::specs::Reading::flag_at))]
 #[inline(always)]
-pub fn bit_at(words: &mut Words<'_>) -> Option<bool>
-    ensures { option_map (λ level. (level, left words.new)) result ≡ bit_at (left words.old) }
+pub fn flag_at(words: &mut Words<'_>) -> Option<bool>
+    ensures { option_map (λ level. (level, left words.new)) result ≡ flag_at (left words.old) }
 {
     let number = number_at(words)?;
     bit(number)

@@ -7,7 +7,7 @@ ghost use Rattle.aia_model.specs.Forms.{part, part_shape};
 ghost use Rattle.aia_model.specs.Reading.{read};
 ghost use Rattle.aia_script.specs.Cursor.{left};
 
-use crate::number::{bit_at, n32_at, number_at};
+use crate::number::{flag_at, n32_at, number_at};
 use crate::pieces::{push_decimal, push_decimal32, push_register, push_text};
 use crate::rows::{print_by_row, print_field, read_by_row, read_field};
 use crate::words::{Words, at_end, is_word, word_at};

@@ -5,7 +5,7 @@ ghost use Rattle.std.specs.Int.Digits.{digits_of};
 ghost use Rattle.arrayvec.specs.ArrayVec.{array_vec_len};
 ghost use Rattle.aia_model.specs.AnswerText.{digit_character, hex_digits, number_text, decimal_text, hex_text, field_text};
 ghost use Rattle.aia_model.specs.Grammar.Field.{Of};
-ghost use Rattle.aia_model.specs.Grammar.Kind.{Hex16};
+ghost use Rattle.aia_model.specs.Grammar.WordKind.{Hex16};
 ghost use Rattle.aia_script.specs.Digits.{base};
 
 use crate::number::Radix;

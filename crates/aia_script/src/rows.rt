@@ -5,10 +5,11 @@
 macro_rules! read_field {
     (Decimal $words:ident) => { number_at($words) };
     (Decimal32 $words:ident) => { n32_at($words) };
+    (VmNumber $words:ident) => { number_at($words) };
     (Hex $words:ident) => { number_at($words) };
     (Hex32 $words:ident) => { n32_at($words) };
     (Hex16 $words:ident) => { number_at($words) };
-    (Bit $words:ident) => { bit_at($words) };
+    (Bit $words:ident) => { flag_at($words) };
 }
 
 /// Reads what follows a word by the row of the word, and returns it.
@@ -28,6 +29,7 @@ macro_rules! read_by_row {
 macro_rules! print_field {
     (Decimal $out:ident $value:ident) => { push_decimal($out, $value) };
     (Decimal32 $out:ident $value:ident) => { push_decimal32($out, $value) };
+    (VmNumber $out:ident $value:ident) => { push_decimal($out, $value) };
     (Hex $out:ident $value:ident) => { push_hex($out, $value) };
     (Hex32 $out:ident $value:ident) => { push_hex($out, u64::from($value)) };
     (Hex16 $out:ident $value:ident) => { push_register($out, $value) };

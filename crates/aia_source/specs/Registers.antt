@@ -20,7 +20,7 @@ use Rattle.aia_source.specs.Wired.SourceDeed.{Set, Cleared, Untouched}
 
 -- ---- bits and conditions
 
--- Whether two are the same. Vocabulary.
+-- Whether two truth values are the same. Vocabulary.
 abbrev pub same_bool : Bool → Bool → Bool
 same_bool true b = b
 same_bool false b = not b
@@ -123,7 +123,7 @@ touch (ClrIe k) v s = touch_where (in_word k v) ClearEnable s
 touch ClrIeNum v s = touch_where (nat_eq v) ClearEnable s
 touch reg v s = None
 
--- What it is to the source's pending bit, and what it says of its enable bit.
+-- What a touch is to the source's pending bit, and what it says of its enable bit.
 abbrev pub deed_of_touch : Option Touch → SourceDeed
 deed_of_touch (Some SetPending) = Set
 deed_of_touch (Some ClearPending) = Cleared

@@ -22,6 +22,7 @@ abbrev pub is_active : Mode → Bool
 is_active Inactive = false
 is_active mode = true
 
+-- Whether a source is active in a level mode.
 abbrev pub is_level : Mode → Bool
 is_level LevelHigh = true
 is_level LevelLow = true
@@ -79,7 +80,7 @@ says LevelLow msi before after deed = level_says msi before after deed
 
 -- ---- a source
 
--- Its mode, the level of its wire, and whether it is pending.
+-- A source as it stands: its mode, the level of its wire, and whether it is pending.
 pub record WiredState : Type 0 where
   pub mode : Mode
   pub wire : Bool
@@ -97,6 +98,6 @@ done msi deed mode wire s = record {
   pending = settle (says mode msi (rectified s.mode s.wire) (rectified mode wire) deed) s.pending;
 }
 
--- At a level mode it is pending exactly where its rectified input is high.
+-- In a level mode a source is pending exactly where its rectified input is high.
 abbrev pub IsLawful : WiredState → Type 0
 IsLawful s = is_level s.mode ≡ true → s.pending ≡ rectified s.mode s.wire

@@ -28,8 +28,8 @@ use Rattle.aia_model.specs.Answer.{accepted_answer, csr_shown, csr_value}
 use Rattle.aia_model.proofs.AnswerLemmas.{access_refusal, machine_csr_refusal, host_csr_refusal}
 use Rattle.aia_model.proofs.FileLemmas.{is_file-itself, is_file-other}
 use Rattle.aia_model.specs.declared.line.Line.TheVariants.{MachineCsr, HostCsr}
-use Rattle.aia_model.specs.Move.{move_deed}
-use Rattle.aia_model.specs.Move.MoveDeed.{NoMove}
+use Rattle.aia_model.specs.Move.{line_deed}
+use Rattle.aia_model.specs.Move.LineDeed.{NoMove}
 use Rattle.aia_standing.proofs.VcpuLemmas.{is_quiet_line}
 use Rattle.aia_standing.specs.Core.{CoreState}
 use Rattle.aia_standing.specs.HostFiles.{IsHost, HasDone, name_of, csr_line, host_spot, select_in}
@@ -141,7 +141,7 @@ is_hosts_line levels.Machine host h hart csr op = hosts_line h (MachineCsr hart 
 is_hosts_line levels.Host host h hart csr op = hosts_line h (HostCsr hart csr op) refl refl (λ g. refl) (λ g m. refl)
 is_hosts_line levels.Guest host h hart csr op = absurd host
 
-no_move : (level : Level) → IsHost level → (hart : ℕ) (csr : Csr) (op : Op) → move_deed (csr_line level hart csr op) ≡ NoMove
+no_move : (level : Level) → IsHost level → (hart : ℕ) (csr : Csr) (op : Op) → line_deed (csr_line level hart csr op) ≡ NoMove
 no_move levels.Machine host hart csr op = refl
 no_move levels.Host host hart csr op = refl
 no_move levels.Guest host hart csr op = absurd host

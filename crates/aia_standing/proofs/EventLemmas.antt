@@ -32,8 +32,8 @@ use Rattle.aia_model.specs.Histories.{IsHistory}
 use Rattle.aia_model.specs.Vms.{vms_of, has_vm, has_vcpu}
 use Rattle.aia_model.specs.FileAfter.{FileDeed, select_after, file_after}
 use Rattle.aia_model.specs.FileAfter.FileDeed.{Rests}
-use Rattle.aia_model.specs.Move.{move_deed}
-use Rattle.aia_model.specs.Move.MoveDeed.{NoMove}
+use Rattle.aia_model.specs.Move.{line_deed}
+use Rattle.aia_model.specs.Move.LineDeed.{NoMove}
 use Rattle.aia_model.specs.HomeOf.{home}
 use Rattle.aia_model.specs.Passes.{passed_by}
 use Rattle.aia_model.specs.GuestFile.{guest_deed, goes_to_guest, passed_deed}
@@ -232,11 +232,11 @@ by_refusal x y line given by = record {
 }
 
 -- an accepted line that makes no move, whatever it makes of the core
-pub taken : (x y : CoreState) (line : Line) (given : Answer) → move_deed line ≡ NoMove
+pub taken : (x y : CoreState) (line : Line) (given : Answer) → line_deed line ≡ NoMove
     → ((h : History) → CoreStands x h → (refusal h line ≡ None) × (given ≡ accepted_answer h line) × CoreStands y (Accepted line ∷ h)) → CoreTakes x y line given
 taken x y line given still by = by_refusal x y line given (λ h stands. let r = by h stands in (None, r.0, r.1, subst (λ d. CoreStands y (deed_taken h line d)) (sym still) r.2, λ word e. absurd (none-some word e)))
 
-pub accepted : (x y : CoreState) (line : Line) (given : Answer) → is_quiet_line line ≡ true → move_deed line ≡ NoMove
+pub accepted : (x y : CoreState) (line : Line) (given : Answer) → is_quiet_line line ≡ true → line_deed line ≡ NoMove
     → ((h : History) → CoreStands x h → (refusal h line ≡ None) × (given ≡ accepted_answer h line) × Changes x y h (Accepted line)) → CoreTakes x y line given
 accepted x y line given plain still by = taken x y line given still (λ h stands. let r = by h stands in (r.0, r.1, one_more x y h (Accepted line) r.2 (still_line h line plain) stands))
 

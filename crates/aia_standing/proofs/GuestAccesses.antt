@@ -9,7 +9,7 @@ use Rattle.aia_regs.specs.declared.access.Level.TheVariants as levels
 use Rattle.aia_regs.specs.FileRegisters.{select_written}
 use Rattle.aia_csr.specs.declared.csr_access.CsrAccess.{CsrAccess}
 use Rattle.aia_csr.specs.declared.csr_access.CsrAccess.TheVariants as reaches
-use Rattle.aia_csr.specs.CsrAccess.{csr_access, IsFileCsr}
+use Rattle.aia_csr.specs.CsrAccess.{csr_access, is_file_csr, IsFileCsr}
 use Rattle.aia_file.specs.InterruptFile.{InterruptFile, SameFile, is_greatest_identity}
 use Rattle.aia_file.specs.FileState.{FileState, shown}
 use Rattle.aia_file.proofs.FileLemmas.{same_file}
@@ -43,7 +43,7 @@ use Rattle.aia_major.specs.Kept.{majors_shown}
 use Rattle.aia_model.specs.ReachOf.{in_force_of}
 use Rattle.aia_model.specs.HomeOf.{home}
 use Rattle.aia_model.specs.Notice.{a_look_saw}
-use Rattle.aia_model.specs.Refusal.{refusal, is_file_csr, serves, raises_illegal, raises_virtual}
+use Rattle.aia_model.specs.Refusal.{refusal, serves, raises_illegal, raises_virtual}
 use Rattle.aia_model.specs.Answer.{csr_shown, guest_csr_value}
 use Rattle.aia_model.proofs.AnswerLemmas.{guest_refusal}
 use Rattle.aia_model.proofs.MoveLemmas.{same_vcpu, is_itself, is_another}

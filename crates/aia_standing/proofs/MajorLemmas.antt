@@ -39,8 +39,8 @@ use Rattle.aia_model.specs.HomeOf.{home}
 use Rattle.aia_model.specs.Notice.{noticed, a_look_saw}
 use Rattle.aia_model.specs.FileOf.{FileName, deed_at}
 use Rattle.aia_model.specs.Refusal.{refusal, raises_illegal, raises_virtual}
-use Rattle.aia_model.specs.Move.{move_deed}
-use Rattle.aia_model.specs.Move.MoveDeed.{NoMove}
+use Rattle.aia_model.specs.Move.{line_deed}
+use Rattle.aia_model.specs.Move.LineDeed.{NoMove}
 use Rattle.aia_model.specs.Answer.{accepted_answer, guest_csr_value}
 use Rattle.aia_model.proofs.AnswerLemmas.{inject_refusal, hvictl_refusal, hviprio_refusal}
 use Rattle.aia_model.proofs.MoveLemmas.{same_vcpu, is_itself, is_another}
@@ -257,7 +257,7 @@ not_taken h vm number takes there e = λ k. cond (not (there k && e k)) (Some (R
 -- a line of the hypervisor on majors, whatever it is
 pub record IsMajorsLine (line : Line) (vm number : ℕ) (takes : Bool) (done : VsMajorState → VsMajorState) : Type 0 where
   pub plain : is_quiet_line line ≡ true
-  pub still : move_deed line ≡ NoMove
+  pub still : line_deed line ≡ NoMove
   pub refusal_is : (h : History) → has_machine h ≡ true → refusal h line ≡ takes_value h vm number takes
   pub okay : (h : History) → accepted_answer h line ≡ Okay
   pub is_of : (h : History) → IsOfMajors h (Accepted line) (vcpu vm number) done

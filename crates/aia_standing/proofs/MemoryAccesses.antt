@@ -11,7 +11,7 @@ use Rattle.aia_regs.specs.declared.file_registers.FileReg.TheVariants.{Delivery,
 use Rattle.aia_regs.specs.FileRegisters.{number_after, IsUsable}
 use Rattle.aia_csr.specs.declared.csr_access.CsrAccess.{CsrAccess}
 use Rattle.aia_csr.specs.declared.csr_access.CsrAccess.TheVariants as reaches
-use Rattle.aia_csr.specs.CsrAccess.{IsFileCsr}
+use Rattle.aia_csr.specs.CsrAccess.{is_file_csr, IsFileCsr}
 use Rattle.aia_file.specs.InterruptFile.{InterruptFile, SameFile, register_value, accessed, claimed}
 use Rattle.aia_mrif.specs.SlotFile.{IsOfSets}
 use Rattle.aia_major.specs.Kept.{majors_shown}
@@ -32,7 +32,7 @@ use Rattle.aia_model.specs.FileAfter.{FileDeed, select_after, file_after}
 use Rattle.aia_model.specs.FileAfter.FileDeed.{Accesses}
 use Rattle.aia_model.specs.HomeOf.{home}
 use Rattle.aia_model.specs.Passes.{passes_of}
-use Rattle.aia_model.specs.Refusal.{is_file_csr, serves, raises_illegal, raises_virtual}
+use Rattle.aia_model.specs.Refusal.{serves, raises_illegal, raises_virtual}
 use Rattle.aia_model.specs.Answer.{csr_shown}
 use Rattle.aia_model.proofs.MoveLemmas.{is_itself}
 use Rattle.aia_standing.specs.declared.vcpu.Stay.TheVariants as stays

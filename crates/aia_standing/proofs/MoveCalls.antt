@@ -30,7 +30,7 @@ use Rattle.aia_move.specs.Plan.{moving_of, IsInPhase, MatchNext, GoesAiming, Ste
 use Rattle.aia_moving.specs.Turns.{EndsAs, GivesBack}
 use Rattle.aia_moving.proofs.LandingLemmas.{landed_whole}
 use Rattle.aia_model.specs.declared.answer.Answer.{Answer}
-use Rattle.aia_model.specs.Event.{History, Shape, file_words}
+use Rattle.aia_model.specs.Event.{History, MachineSize, file_words}
 use Rattle.std.specs.Option.{option_map_or}
 use Rattle.aia_model.specs.Event.Event.{Stepped}
 use Rattle.aia_model.specs.Vms.{vms_of, has_vcpu}
@@ -548,7 +548,7 @@ who_still x y who last goes some is =
 
 pub harts_still : (x y : CoreState) (g : Vcpu) (last : Bool) → MoveGoes x y g last → StandsForSome x → y.world.imsic.harts ≡ x.world.imsic.harts
 harts_still x y g last goes some =
-    (goes.stands some.past some.stands).harts ∙ ap (λ (o : Option Shape). option_map_or (λ (m : Shape). m.harts) o 0) (same_first g some.past).1 ∙ sym some.stands.harts
+    (goes.stands some.past some.stands).harts ∙ ap (λ (o : Option MachineSize). option_map_or (λ (m : MachineSize). m.harts) o 0) (same_first g some.past).1 ∙ sym some.stands.harts
 
 -- an aim leaves how many harts the targets have
 pub told_harts : {T : Type 0} (aim : T → ℕ → ℕ → T → Type 0) (map : T → TargetMap) (one : (old new : T) (source target : ℕ) → aim old source target new → AimsOne (map old) source target (map new)) (o : Option Aim) (old new : T) → AimsAs aim o old new → (map new).harts ≡ (map old).harts

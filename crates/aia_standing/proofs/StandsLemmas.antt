@@ -30,7 +30,7 @@ use Rattle.aia_world.specs.World.{World, flight_of}
 use Rattle.aia_world.specs.Stores.{counted}
 use Rattle.aia_world.specs.Making.{IsNew}
 use Rattle.aia_model.specs.declared.line.Line.TheVariants.{Machine}
-use Rattle.aia_model.specs.Event.{Event, History, Shape, machine_of, harts_of, guests_of, greatest_identity_of}
+use Rattle.aia_model.specs.Event.{Event, History, MachineSize, machine_of, harts_of, guests_of, greatest_identity_of}
 use Rattle.aia_model.specs.Event.Event.{Accepted}
 use Rattle.aia_model.specs.Vms.{vms_of, has_vm, has_vcpu}
 use Rattle.aia_model.specs.FileAfter.{select_after, file_after}
@@ -193,13 +193,13 @@ to_one_still h event n pass one = ((stays_there event h pass.to one.0).0, subst 
 pub stands_after : (x y : CoreState) (h : History) (event : Event) → Becomes x y h event → FlightsBecome y h event → PassesBecome y h event → CoreStands x h → CoreStands y (event ∷ h)
 stands_after x y h event b flights passes stands =
     let n : greatest_identity_of h ≡ greatest_identity_of (event ∷ h) = sym (same_n _ _ b.keeps.machine) in
-    let harts : harts_of h ≡ harts_of (event ∷ h) = sym (ap (λ (o : Option Shape). option_map_or (λ (m : Shape). m.harts) o 0) b.keeps.machine) in
-    let guests : guests_of h ≡ guests_of (event ∷ h) = sym (ap (λ (o : Option Shape). option_map_or (λ (m : Shape). m.guests) o 0) b.keeps.machine) in
+    let harts : harts_of h ≡ harts_of (event ∷ h) = sym (ap (λ (o : Option MachineSize). option_map_or (λ (m : MachineSize). m.harts) o 0) b.keeps.machine) in
+    let guests : guests_of h ≡ guests_of (event ∷ h) = sym (ap (λ (o : Option MachineSize). option_map_or (λ (m : MachineSize). m.guests) o 0) b.keeps.machine) in
     let same_harts = b.keeps.harts in
     let same_guests = b.keeps.guests in
     let before : (p : Place) → IsThere y.world.imsic (spot_of p) → IsThere x.world.imsic (spot_of p) = λ p inside. guest_too y.world.imsic x.world.imsic p same_harts same_guests inside in
     record {
-      there = ap (λ (o : Option Shape). is_some o) b.keeps.machine ∙ stands.there;
+      there = ap (λ (o : Option MachineSize). is_some o) b.keeps.machine ∙ stands.there;
       harts = same_harts ∙ stands.harts ∙ harts;
       guests = same_guests ∙ stands.guests ∙ guests;
       greatest = b.keeps.n ∙ stands.greatest ∙ n;

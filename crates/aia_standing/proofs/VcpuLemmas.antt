@@ -31,7 +31,7 @@ use Rattle.aia_world.specs.Changes.{spot_of, file_in, places_of}
 use Rattle.aia_model.specs.declared.line.Line.{Line}
 use Rattle.aia_model.specs.declared.line.Line.TheVariants as lines
 use Rattle.aia_model.specs.declared.msi.Msi.{Msi}
-use Rattle.aia_model.specs.Event.{Event, History, Shape, machine_of, file_words}
+use Rattle.aia_model.specs.Event.{Event, History, MachineSize, machine_of, file_words}
 use Rattle.aia_model.specs.Event.Event.{Accepted, Began, Stepped, Delivered, Landed, Relayed}
 use Rattle.aia_model.specs.Passes.{passes_of}
 use Rattle.aia_model.specs.Aim.{PassAtRest}
@@ -159,8 +159,8 @@ pub record IsQuiet (h : History) (event : Event) : Type 0 where
   pub stays : StaysPut h event
   pub plain : is_plain event ≡ true
 
-pub same_n : (a b : Option Shape) → a ≡ b → option_map_or (λ (m : Shape). m.n) a 0 ≡ option_map_or (λ (m : Shape). m.n) b 0
-same_n a b e = ap (λ (o : Option Shape). option_map_or (λ (m : Shape). m.n) o 0) e
+pub same_n : (a b : Option MachineSize) → a ≡ b → option_map_or (λ (m : MachineSize). m.n) a 0 ≡ option_map_or (λ (m : MachineSize). m.n) b 0
+same_n a b e = ap (λ (o : Option MachineSize). option_map_or (λ (m : MachineSize). m.n) o 0) e
 
 pub same_words : (event : Event) (h : History) → machine_of (event ∷ h) ≡ machine_of h → file_words (event ∷ h) ≡ file_words h
 same_words event h machine = ap (λ n. (n + 1) / 64) (same_n _ _ machine)

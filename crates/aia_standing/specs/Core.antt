@@ -49,7 +49,7 @@ pub record MajorsDone (old new : List VcpuRecord) (slot : ℕ) (done : VsMajorSt
   pub majors : majors_shown (slice_index_or new slot no_record).majors
       ≡ done (majors_shown (slice_index_or old slot no_record).majors)
 
--- Its home, as it is kept.
+-- The home of a virtual hart, as it is kept.
 abbrev pub home_in : Stay → Home
 home_in (stays.Parked kept) = Parked
 home_in (stays.Entered kept) = Entered
@@ -73,23 +73,25 @@ parked_at (stays.Entered kept) = Err refusals.Entered
 parked_at (stays.Resident lease) = Err refusals.Home
 parked_at (stays.Moving plan) = Err refusals.Busy
 
--- Whether it runs, as it is kept.
+-- Whether a virtual hart runs, as it is kept.
 abbrev pub runs_in : Stay → Bool
 runs_in (stays.Resident lease) = true
 runs_in (stays.Entered kept) = true
 runs_in stay = false
 
--- Whether it is being moved, as it is kept.
+-- Whether a virtual hart is being moved, as it is kept.
 abbrev pub has_plan : Stay → Bool
 has_plan (stays.Moving plan) = true
 has_plan stay = false
 
--- What is carried or kept of its interrupt file: of one whose interrupts rest in memory the two
--- numbers, of a resident one nothing, on a move what the move carries.
+-- The two numbers that are kept of a virtual hart whose interrupts rest in memory, as a move would
+-- carry them.
 abbrev pub hand_of : KeptNumbers → Hand
 hand_of kept =
     record { word = 0; delivery = kept.delivery; threshold = kept.threshold; seen = false }
 
+-- What is carried or kept of the interrupt file of a virtual hart: of one whose interrupts rest in
+-- memory the two numbers, of a resident one nothing, on a move what the move carries.
 abbrev pub hand_in : Stay → Hand
 hand_in (stays.Parked kept) = hand_of kept
 hand_in (stays.Entered kept) = hand_of kept

@@ -89,7 +89,8 @@ both_arrived = moved_whole 1 stayer_arrived (Arrives leaver 0)
 abbrev pub guest_write : Csr → ℕ → Line
 guest_write csr value = lines.GuestCsr 0 1 csr (Write value)
 
--- It writes 1 to eidelivery and enables identity 1, which the other one then stores to its file.
+-- The one that leaves writes 1 to eidelivery and enables identity 1, which the other one then
+-- stores to its file.
 abbrev pub before_leaving : History
 before_leaving = Accepted (lines.Ipi 0 0 1 1)
     ∷ Accepted (guest_write Reg 2) ∷ Accepted (guest_write Select 0xc0)
@@ -118,7 +119,7 @@ leave_lines = lines.Begin 0 1 wants.Leave ∷ replicate steps_so_far (lines.Step
 
 -- ---- the core then
 
--- Their guest files.
+-- The guest files of both.
 abbrev pub stayer_file : Place
 stayer_file = guest_place 0 1
 
@@ -129,7 +130,7 @@ leaver_file = guest_place 0 2
 abbrev pub empty_state : FileState
 empty_state = record { n = 63; pending = 0 ∷ []; enabled = 0 ∷ []; threshold = 0; delivery = 0 }
 
--- One of which identity 1 is enabled, and nothing is pending any more.
+-- A file of which identity 1 is enabled, and nothing is pending any more.
 abbrev pub drained_state : FileState
 drained_state =
     record { n = 63; pending = 0 ∷ []; enabled = 2 ∷ []; threshold = 0; delivery = 0 }

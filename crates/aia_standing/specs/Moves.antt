@@ -131,7 +131,8 @@ abbrev pub move_begun : Option Answer → History → Move → History
 move_begun None h move = Began move ∷ h
 move_begun (Some word) h move = h
 
--- It is refused as its line is, and the core is then unchanged; else the move has begun.
+-- A move that is to begin is refused as its line is, and the core is then unchanged; else the move
+-- has begun.
 pub record MoveBegins (old new : CoreState) (vm number : ℕ) (want : Want) (given : Answer)
     : Type 0 where
   pub answers : (h : History) → CoreStands old h → given ≡ answer h (lines.Move vm number want)

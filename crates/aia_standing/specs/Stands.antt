@@ -143,8 +143,8 @@ pub record CoreStands (x : CoreState) (h : History) : Type 0 where
       × ((i : ℕ) → (mrif_in x.world.memory q).enabled i ≡ false)
       × (slice_index_or x.world.stages q no_stage ≡ no_stage)
 
--- It stands for some history, whose events may happen: what is true of a core at all times. Each
--- guest file that is free is empty, and none that is out is lost.
+-- The core stands for some history, whose events may happen: what is true of a core at all times.
+-- Each guest file that is free is empty, and none that is out is lost.
 pub record StandsForSome (x : CoreState) : Type 0 where
   pub past : History
   pub happens : IsHistory past
@@ -171,7 +171,8 @@ pub record CoreTakes (old new : CoreState) (line : Line) (given : Answer) : Type
   pub unchanged : (h : History) (word : Answer) → CoreStands old h
       → refusal h line ≡ Some word → new ≡ old
 
--- It begins with the machine, whatever the number of wired sources, which are nothing to the core.
+-- A core begins with the machine, whatever the number of wired sources, which are nothing to the
+-- core.
 abbrev pub CoreBegins : CoreState → ℕ → ℕ → ℕ → Type 0
 CoreBegins new harts guests n =
     (sources : ℕ) → CoreStands new (Accepted (Machine harts guests n sources) ∷ [])

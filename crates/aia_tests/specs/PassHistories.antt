@@ -7,9 +7,11 @@ use Rattle.aia_model.specs.Event.{History}
 use Rattle.aia_model.specs.Event.Event.{Accepted}
 use Rattle.aia_standing.specs.Example.{accepted, passable_lines}
 
+-- The machine is made, and the stores are done.
 abbrev pub stored : History
 stored = accepted (lines.Machine 1 1 63 2 ∷ passable_lines) []
 
+-- The VM is made, too.
 abbrev pub made : History
 made = Accepted (lines.Vm 1 8 0) ∷ stored
 
@@ -17,7 +19,7 @@ made = Accepted (lines.Vm 1 8 0) ∷ stored
 abbrev pub passed : History
 passed = Accepted (lines.Pass 1 0 0 5) ∷ made
 
--- Its sources, as moves see them, by the target of the first.
+-- The targets of its sources, as moves see them, by that of the first.
 abbrev pub one_ready : ℕ → TargetMap
 one_ready t = record {
   harts = 1;

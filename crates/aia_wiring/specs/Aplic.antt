@@ -13,7 +13,7 @@ pub record AplicState : Type 0 where
   pub child : SideState
   pub addresses : AddressRegisters
 
--- One domain of them.
+-- One domain of the two.
 abbrev pub side : AplicState → DomainName → SideState
 side a Root = a.root
 side a Child = a.child

@@ -6,7 +6,7 @@ use Rattle.aia_model.specs.declared.domain_name.DomainName.TheVariants.{Root, Ch
 use Rattle.aia_model.specs.declared.sender.Sender.{Sender}
 use Rattle.aia_model.specs.declared.sender.Sender.TheVariants.{BySource}
 
--- It is the domain and the number of the least source of two sets, p that of the root domain and q
+-- A domain and a number are those of the least source of two sets, p that of the root domain and q
 -- that of its child; at the same number the root domain's; or both sets are empty.
 abbrev pub IsFirstSource : (ℕ → Bool) → (ℕ → Bool) → Option (DomainName × ℕ) → Type 0
 IsFirstSource p q None = ((s : ℕ) → p s ≡ false) × ((s : ℕ) → q s ≡ false)

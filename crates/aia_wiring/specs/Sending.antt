@@ -11,12 +11,12 @@ use Rattle.aia_model.specs.Sent.{senders, domain_of_sender, msi_of}
 use Rattle.aia_wiring.specs.Side.{SideState}
 use Rattle.aia_wiring.specs.Aplic.{AplicState, AplicStands, side}
 
--- It is the first of all that waits, or nothing waits.
+-- A sender is the first of all that waits, or nothing waits.
 abbrev pub IsFirst : Option Sender → Past → Type 0
 IsFirst None past = senders past ≡ []
 IsFirst (Some sender) past = (later : List Sender) × (senders past ≡ sender ∷ later)
 
--- Whether it waits in what is kept: in a domain, and in that of the sender.
+-- Whether a sender waits in what is kept: in a domain, and in that of the sender.
 abbrev pub waits_in : DomainState → Sender → Bool
 waits_in d (ByGenMsi e) = d.genmsi_waits
 waits_in d (BySource e s) = is_ready d s
@@ -28,7 +28,7 @@ does_wait a sender = waits_in (side a (domain_of_sender sender)).domain sender
 abbrev pub asks_by_genmsi : AplicState → Bool
 asks_by_genmsi a = a.root.domain.genmsi_waits || a.child.domain.genmsi_waits
 
--- It is a source, and not genmsi.
+-- A sender is a source, and not genmsi.
 abbrev pub IsBySource : Sender → Type 0
 IsBySource (BySource d s) = Unit {0}
 IsBySource (ByGenMsi d) = ⊥

@@ -53,7 +53,7 @@ pub record SideStands (a : SideState) (past : Past) (name : DomainName) : Type 0
   pub domain : DomainStands a.domain past name
   pub controls : ControlsStand a.controls past name
 
--- How it begins.
+-- How a domain with its controls begins.
 pub record IsNewSide (source_count hart_count : ℕ) (leaf : Bool) (a : SideState) : Type 0 where
   pub domain : IsNewDomain source_count hart_count leaf a.domain
   pub count : length a.controls ≡ hart_count

@@ -99,9 +99,11 @@ with_gfence w g = with_stage w g (record (stage_of w g) { in_force = (stage_of w
 
 -- ---- what the places of a virtual hart show
 
+-- Where a guest file is among all files.
 abbrev pub spot_of : Place → Spot
 spot_of p = GuestFile p.hart p.file
 
+-- The interrupt file in a guest file; the empty one where there is none.
 abbrev pub file_in : World → Option Place → InterruptFile
 file_in w None = empty_file w.n
 file_in w (Some p) = shown (file_at w.imsic (spot_of p))

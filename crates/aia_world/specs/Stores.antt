@@ -43,7 +43,7 @@ pub record LandsIn (i j : ImsicState) (spot : Spot) (offset value : ℕ) : Type 
   pub lands : SameFile (shown (file_at j spot)) (landed offset value (shown (file_at i spot)))
   pub others : j ≡ with_file i spot (file_at j spot)
 
--- It lands, and nothing but files changes.
+-- A 32-bit store lands in the file at a place, and nothing but files changes.
 pub record StoresIn (w u : World) (spot : Spot) (offset value : ℕ) : Type 0 where
   pub lands : LandsIn w.imsic u.imsic spot offset value
   pub rest : u ≡ record w { imsic = u.imsic }
@@ -94,6 +94,7 @@ StoresInSlot w u (Some q) spot identity offset value =
 
 -- ---- where an entry leads
 
+-- A store of a device goes where an entry leads: to a page, to a slot, or nowhere.
 abbrev pub ReachesBy : Entry → World → World → ℕ → ℕ → Type 0
 ReachesBy (Basic page) w u offset value = StoresAt w u (page_spot w.imsic page) offset value
 ReachesBy (Mrif addr page identity) w u offset value =

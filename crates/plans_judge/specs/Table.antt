@@ -30,6 +30,7 @@ AllAfter after old new =
 
 -- ---- a producer
 
+-- What a step makes of what is kept of producer p.
 abbrev pub lead_after : Step → ℕ → Lead → Lead
 lead_after x p lead = record {
   kind = lead.kind;
@@ -38,22 +39,27 @@ lead_after x p lead = record {
   switched = switches p x || lead.switched;
 }
 
+-- What is kept of a producer of a kind before the first step.
 abbrev pub lead_first : Kind → Lead
 lead_first kind = record { kind = kind; turned = false; fenced = false; switched = false }
 
+-- Whether all that the producer stores from now on goes to the new place, by what is kept of it.
 abbrev pub led_by : Lead → Bool
 led_by lead = elim lead.kind [
   | Routed ↦ lead.fenced
   | Switched ↦ lead.fenced || lead.switched
 ]
 
--- Whether the one in a place is led, or turned.
+-- Whether all that the producer in a place of the list stores from now on goes to the new place.
 abbrev pub is_led_at : List Lead → ℕ → Bool
 is_led_at leads p = elim (slice_get leads p) [ None ↦ false | Some lead ↦ led_by lead ]
 
+-- Whether the route of the producer in a place of the list leads to the new place, as it is
+-- written.
 abbrev pub is_turned_at : List Lead → ℕ → Bool
 is_turned_at leads p = elim (slice_get leads p) [ None ↦ false | Some lead ↦ lead.turned ]
 
+-- What the rules say of producer p after the steps that are done.
 abbrev pub lead_at : Done → ℕ → Kind → Lead
 lead_at done p kind = record {
   kind = kind;
@@ -64,9 +70,13 @@ lead_at done p kind = record {
 
 -- ---- a word
 
+-- Whether a word of a set is moved for good: neither the old place nor the hand may hold anything
+-- of it.
 abbrev pub flags_moved : Flags → Bool
 flags_moved flags = not flags.old_holds && not flags.hand_holds
 
+-- What a step makes of the flags of word w of set s, given whether nobody stores into that set of
+-- the old place.
 abbrev pub flags_after : Bank → Bool → Step → ℕ → Flags → Flags
 flags_after s still x w flags = record {
   old_holds = elim (takes s w x) [
@@ -84,6 +94,7 @@ flags_after s still x w flags = record {
   blank = blanks s w x || flags.blank;
 }
 
+-- The flags of a word of a set before the first step, given whether the new place is fresh.
 abbrev pub flags_first : Bool → Flags
 flags_first is_fresh = record {
   old_holds = true;
@@ -92,6 +103,7 @@ flags_first is_fresh = record {
   blank = is_fresh;
 }
 
+-- What is kept of a word before the first step, likewise.
 abbrev pub word_first : Bool → Word
 word_first is_fresh = record {
   pending = flags_first is_fresh;
@@ -100,15 +112,18 @@ word_first is_fresh = record {
   reported = false;
 }
 
+-- Whether a word of both sets is moved for good, and what is heeded is in the new place.
 abbrev pub word_settled : Bool → Word → Bool
 word_settled heeded word = flags_moved word.pending && (flags_moved word.enabled && heeded)
 
+-- Whether a word was looked at once it was settled, with one step more.
 abbrev pub looked_after : Bool → Step → ℕ → Word → Bool
 looked_after heeded x w word = elim (looks w x) [
   | true ↦ word_settled heeded word || word.looked
   | false ↦ word.looked
 ]
 
+-- Whether it was told of once it was settled, or posted after such a look, with one step more.
 abbrev pub reported_after : Bool → Step → Word → Bool
 reported_after heeded x word = elim (posts x) [
   | true ↦ word.looked || word.reported
@@ -118,6 +133,7 @@ reported_after heeded x word = elim (posts x) [
   ]
 ]
 
+-- What a step makes of all that is kept of word w.
 abbrev pub word_after : World → Step → ℕ → Word → Word
 word_after world x w word = record {
   pending = flags_after Pending world.still x w word.pending;
@@ -126,25 +142,30 @@ word_after world x w word = record {
   reported = reported_after world.heeded x word;
 }
 
--- Whether the one in a place passes what an end asks of it.
+-- Whether the word in a place of the list passes what an end asks of it: the old place holds
+-- nothing of its pending bits.
 abbrev pub is_taken_at : List Word → ℕ → Bool
 is_taken_at words w = elim (slice_get words w) [
   | None ↦ false
   | Some word ↦ not word.pending.old_holds
 ]
 
+-- Whether the word in a place of the list passes what an end asks of what was taken: the hand holds
+-- nothing of its pending bits, and its enables are moved for good.
 abbrev pub is_kept_at : List Word → ℕ → Bool
 is_kept_at words w = elim (slice_get words w) [
   | None ↦ false
   | Some word ↦ not word.pending.hand_holds && flags_moved word.enabled
 ]
 
+-- Whether the word in a place of the list was reported.
 abbrev pub is_reported_at : List Word → ℕ → Bool
 is_reported_at words w = elim (slice_get words w) [
   | None ↦ false
   | Some word ↦ word.reported
 ]
 
+-- What the rules say of word w of set s after the steps that are done.
 abbrev pub flags_at : Setting → Done → Bank → ℕ → Flags
 flags_at d done s w = record {
   old_holds = old_holds d s w done;
@@ -153,6 +174,7 @@ flags_at d done s w = record {
   blank = is_blank d s w done;
 }
 
+-- What they say of word w of both sets.
 abbrev pub word_at : Setting → Done → ℕ → Word
 word_at d done w = record {
   pending = flags_at d done Pending w;
@@ -163,6 +185,8 @@ word_at d done w = record {
 
 -- ---- a number
 
+-- Where a number stands as it was at the start, of the old place, the hand and the new place:
+-- before the first step in this spot.
 abbrev pub standing_first : Spot → Standing
 standing_first from = record {
   old = same_spot from InOld;
@@ -170,9 +194,11 @@ standing_first from = record {
   new = same_spot from InNew;
 }
 
+-- Whether it stands so in a spot.
 abbrev pub standing_in : Spot → Standing → Bool
 standing_in spot s = elim spot [ InOld ↦ s.old | InHand ↦ s.hand | InNew ↦ s.new ]
 
+-- What a step makes of that, for number n.
 abbrev pub standing_after : Step → Number → Standing → Standing
 standing_after (TakeNumber m) n s = elim (same_number m n) [
   | true ↦ record { old = false; hand = s.old; new = s.new }
@@ -192,6 +218,7 @@ standing_after (ZeroNumber New m) n s = elim (same_number m n) [
 ]
 standing_after x n s = s
 
+-- What the rules say of that after the steps that are done.
 abbrev pub standing_at : Setting → Number → Done → Standing
 standing_at d n done = record {
   old = has_number d n InOld done;
@@ -201,6 +228,8 @@ standing_at d n done = record {
 
 -- ---- the whole move
 
+-- What the words turn on: whether nobody stores into the old place any more, and whether what is
+-- heeded is in the new one.
 abbrev pub world_at : Setting → Done → World
 world_at d done = record { still = all_led d done; heeded = are_heeded d done }
 

@@ -11,7 +11,7 @@ use Rattle.plans_judge.specs.declared.judging.Break.{Break}
 use Rattle.plans_judge.specs.declared.verdict.Verdict.{Verdict}
 use Rattle.plans_judge.specs.declared.verdict.Verdict.TheVariants.{Accepted, Refused}
 
--- The first of some rules that does not let a step stand, or an end.
+-- The first of some rules that does not let a step stand.
 abbrev pub refusing : List Rule → Setting → Step → Done → Option Rule
 refusing [] d x done = None
 refusing (rule ∷ others) d x done = elim (lets rule d x done) [
@@ -19,6 +19,7 @@ refusing (rule ∷ others) d x done = elim (lets rule d x done) [
   | false ↦ Some rule
 ]
 
+-- The first of some rules that does not let a plan end.
 abbrev pub refusing_end : List Rule → Setting → Done → Option Rule
 refusing_end [] d done = None
 refusing_end (rule ∷ others) d done = elim (lets_end rule d done) [
@@ -26,6 +27,7 @@ refusing_end (rule ∷ others) d done = elim (lets_end rule d done) [
   | false ↦ Some rule
 ]
 
+-- The break of a rule with so many steps before it.
 abbrev pub at_step : ℕ → Rule → Break
 at_step before rule = record { rule = rule; before = before }
 
@@ -37,13 +39,16 @@ first_break rules d done before (x ∷ rest) = elim (refusing rules d x done) [
   | Some rule ↦ Some (at_step before rule)
 ]
 
+-- The rules of safety; the rule on notices.
 abbrev pub rules_of : Part → List Rule
 rules_of Safety = Routes ∷ Words ∷ Blank ∷ Numbers ∷ Freeing ∷ []
 rules_of Telling = Notice ∷ []
 
+-- The first break of those rules in a plan.
 abbrev pub break_in : Part → Setting → List Step → Option Break
 break_in part d plan = first_break (rules_of part) d [] 0 plan
 
+-- The verdict by a break.
 abbrev pub refused_by : Break → Verdict
 refused_by broken = Refused broken.rule broken.before
 

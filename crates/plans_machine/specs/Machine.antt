@@ -21,6 +21,7 @@ pub record Flight : Type 0 where
   pub place : Place
   pub identity : ℕ
 
+-- All that a plan and the producers change.
 pub record Machine : Type 0 where
   pub old : Sets
   pub new : Sets
@@ -53,19 +54,21 @@ lets_out d numbers i = elim d.heeds [
   | false ↦ true
 ]
 
--- Whether an identity is pending and enabled there, and let through.
+-- Whether an identity is pending and enabled in these sets, and let through.
 abbrev pub stands_out : Setting → Sets → (Number → ℕ) → ℕ → Bool
 stands_out d sets numbers i = sets Pending i && (sets Enabled i && lets_out d numbers i)
 
--- Whether one of a word does; one of any word.
+-- Whether an identity of a word stands out.
 abbrev pub word_stands_out : Setting → Sets → (Number → ℕ) → ℕ → Bool
 word_stands_out d sets numbers w = any_below (λ b. stands_out d sets numbers (64 * w + b)) 64
 
+-- Whether any identity does.
 abbrev pub any_stands_out : Setting → Sets → (Number → ℕ) → Bool
 any_stands_out d sets numbers = any_below (word_stands_out d sets numbers) d.words
 
 -- ---- a store lands
 
+-- Sets with an identity pending, if the store lands here.
 abbrev pub with_one : Bool → ℕ → Sets → Sets
 with_one here x sets t i = ((is_pending t && nat_eq x i) && here) || sets t i
 
@@ -80,9 +83,11 @@ landed d place x z = record z {
   told = z.told || (not (is_old place) && (z.new Enabled x && lets_out d z.new_number x));
 }
 
+-- The same of a store that was in flight.
 abbrev pub flight_landed : Setting → Flight → Machine → Machine
 flight_landed d f z = landed d f.place f.identity z
 
+-- Stores that were in flight land, the first of a list first.
 abbrev pub all_landed : Setting → List Flight → Machine → Machine
 all_landed d [] z = z
 all_landed d (f ∷ later) z = all_landed d later (flight_landed d f z)
@@ -100,19 +105,23 @@ flights_beside p (f ∷ later) =
 
 -- ---- a step
 
--- Sets without a word; of a word alone; two that are joined.
+-- Sets without a word of one of them.
 abbrev pub without : Bank → ℕ → Sets → Sets
 without s w sets t i = not (names s w t (i / 64)) && sets t i
 
+-- That word of one of them alone.
 abbrev pub only : Bank → ℕ → Sets → Sets
 only s w sets t i = names s w t (i / 64) && sets t i
 
+-- Sets that are joined.
 abbrev pub both : Sets → Sets → Sets
 both a b t i = a t i || b t i
 
+-- The routes, with that of a producer to a place.
 abbrev pub led_to : ℕ → Place → (ℕ → Place) → ℕ → Place
 led_to p place routes q = if nat_eq p q then place else routes q
 
+-- The numbers, with another value of one.
 abbrev pub with_number : Number → ℕ → (Number → ℕ) → Number → ℕ
 with_number n value numbers m = if same_number n m then value else numbers m
 
@@ -170,6 +179,7 @@ pub data By : Type 0 where
   Written : By
   InForce : By
 
+-- Where that route of a producer leads.
 abbrev pub route_of : By → ℕ → Machine → Place
 route_of Written p z = z.written p
 route_of InForce p z = z.in_force p
@@ -184,15 +194,18 @@ pub data Happening : Type 0 where
   Lands : (k : ℕ) → Happening
   Refetches : (producer : ℕ) → Happening
 
+-- A store in flight, if there is such a one, lands.
 abbrev pub one_landed : Setting → Option Flight → Machine → Machine
 one_landed d None z = z
 one_landed d (Some f) z = flight_landed d f z
 
+-- A list without its k-th member, counted from 0.
 abbrev pub all_but : {A : Type 0} → ℕ → List A → List A
 all_but k [] = []
 all_but zero (x ∷ xs) = xs
 all_but (suc k) (x ∷ xs) = x ∷ all_but k xs
 
+-- What one of these makes of the machine.
 abbrev pub happened : Setting → Happening → Machine → Machine
 happened d (Does step) z = stepped d step z
 happened d (Stores p by x) z = landed d (route_of by p z) x z
@@ -204,6 +217,7 @@ happened d (Lands k) z = record (one_landed d (slice_get z.flights k) z) {
 }
 happened d (Refetches p) z = record z { in_force = led_to p (z.written p) z.in_force }
 
+-- What happens one after the other, the first of a list first.
 abbrev pub all_happened : Setting → List Happening → Machine → Machine
 all_happened d [] z = z
 all_happened d (x ∷ later) z = all_happened d later (happened d x z)

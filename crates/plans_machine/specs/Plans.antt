@@ -18,33 +18,41 @@ each steps w (suc count) = steps w ++ each steps (suc w) count
 
 -- ---- the core's plans: producer 0 is the devices, producer 1 the other virtual harts
 
+-- Both have a route.
 abbrev pub core_producers : List Kind
 core_producers = Routed ∷ Routed ∷ []
 
+-- The routes of both are written and put in force.
 abbrev pub both_routed : List Step
 both_routed = Route 0 ∷ Fence 0 ∷ Route 1 ∷ Fence 1 ∷ []
 
+-- A word of a set is taken, and joined to the new place at once.
 abbrev pub moved_at_once : Bank → ℕ → List Step
 moved_at_once s w = Take s w ∷ Join s w ∷ []
 
+-- All words of both sets are moved so.
 abbrev pub core_words : ℕ → List Step
 core_words words =
     each (moved_at_once Pending) 0 words ++ each (moved_at_once Enabled) 0 words
 
+-- The plan of a leave, of so many words.
 abbrev pub core_leave : ℕ → List Step
 core_leave words =
     TakeNumber Delivery ∷ both_routed ++ core_words words ++ each (λ w. Look w ∷ []) 0 words
     ++ TakeNumber Threshold ∷ Post ∷ Free ∷ []
 
+-- The plan of an arrival.
 abbrev pub core_arrive : ℕ → List Step
 core_arrive words =
     both_routed ++ core_words words ++ PutNumber Threshold ∷ PutNumber Delivery ∷ []
 
+-- The plan of a shift.
 abbrev pub core_shift : ℕ → List Step
 core_shift words =
     TakeNumber Delivery ∷ both_routed ++ core_words words
     ++ TakeNumber Threshold ∷ PutNumber Threshold ∷ PutNumber Delivery ∷ Free ∷ []
 
+-- What the core declares for a leave.
 abbrev pub to_leave : ℕ → Setting
 to_leave words = record {
   producers = core_producers;
@@ -56,6 +64,7 @@ to_leave words = record {
   number_to = InHand;
 }
 
+-- What it declares for an arrival.
 abbrev pub to_arrive : ℕ → Setting
 to_arrive words = record {
   producers = core_producers;
@@ -67,6 +76,7 @@ to_arrive words = record {
   number_to = InNew;
 }
 
+-- What it declares for a shift.
 abbrev pub to_shift : ℕ → Setting
 to_shift words = record {
   producers = core_producers;
@@ -81,9 +91,11 @@ to_shift words = record {
 -- ---- KVM's: producer 0 is the host's injectors, producer 1 the other virtual harts, and producer
 -- 2 the devices behind an entry of an IOMMU, if there are any
 
+-- The host's injectors, which are switched, and the other virtual harts.
 abbrev pub kvm_producers : List Kind
 kvm_producers = Switched ∷ Routed ∷ []
 
+-- The same with the devices behind an entry.
 abbrev pub with_devices : List Kind
 with_devices = Switched ∷ Routed ∷ Routed ∷ []
 
@@ -99,10 +111,11 @@ swapped words =
     TakeNumber Delivery ∷ TakeNumber Threshold
     ∷ each (λ w. Take Pending w ∷ Take Enabled w ∷ []) 0 words
 
--- What was taken is joined to the new one.
+-- What was taken is joined to the new place, word by word.
 abbrev pub joined : ℕ → List Step
 joined words = each (λ w. Join Pending w ∷ Join Enabled w ∷ []) 0 words
 
+-- Both numbers are put in the new place.
 abbrev pub put_numbers : List Step
 put_numbers = PutNumber Threshold ∷ PutNumber Delivery ∷ []
 
@@ -112,23 +125,25 @@ copied words =
     each (λ w. Take Pending w ∷ []) 0 words ++ each (λ w. Take Enabled w ∷ []) 0 words
     ++ TakeNumber Threshold ∷ TakeNumber Delivery ∷ []
 
--- Given what is done for the devices behind an entry.
+-- The plan of an arrival, given what is done for the devices behind an entry.
 abbrev pub kvm_arrive_with : List Step → ℕ → List Step
 kvm_arrive_with devices words =
     zeroed words ++ (Route 1 ∷ Fence 1 ∷ Switch 0 ∷ devices) ++ copied words ++ joined words
     ++ put_numbers
 
+-- The plan of a shift, likewise.
 abbrev pub kvm_shift_with : List Step → ℕ → List Step
 kvm_shift_with devices words =
     zeroed words ++ (Route 1 ∷ Fence 1 ∷ Switch 0 ∷ devices) ++ swapped words ++ Free ∷ joined words
     ++ put_numbers
 
+-- The plan of a leave, likewise.
 abbrev pub kvm_leave_with : List Step → ℕ → List Step
 kvm_leave_with devices words =
     (Switch 0 ∷ Route 1 ∷ Fence 1 ∷ devices) ++ swapped words
     ++ PutNumber Delivery ∷ PutNumber Threshold ∷ joined words ++ Tell ∷ Free ∷ []
 
--- As they stand, nothing is.
+-- As these plans stand, nothing is done for such devices.
 abbrev pub kvm_arrive : ℕ → List Step
 kvm_arrive words = kvm_arrive_with [] words
 
@@ -142,6 +157,7 @@ kvm_leave words = kvm_leave_with [] words
 abbrev pub entry_led : List Step
 entry_led = Route 2 ∷ Fence 2 ∷ []
 
+-- What is declared for an arrival and for a shift, with these producers.
 abbrev pub kvm_moves : List Kind → ℕ → Setting
 kvm_moves producers words = record {
   producers = producers;
@@ -153,6 +169,7 @@ kvm_moves producers words = record {
   number_to = InNew;
 }
 
+-- What is declared for a leave.
 abbrev pub kvm_leaves : List Kind → ℕ → Setting
 kvm_leaves producers words = record {
   producers = producers;

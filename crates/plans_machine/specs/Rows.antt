@@ -39,8 +39,7 @@ LeaveUntold d (plan ∷ plans) =
 
 -- ---- one producer with a route, one word
 
--- To a new place that is fresh, or not, and with numbers that stay; with numbers that move; to
--- memory, with numbers that stay; with numbers that move to memory and are heeded there.
+-- To a new place that is fresh, or not, and with numbers that stay.
 abbrev pub plainly : Bool → Setting
 plainly is_fresh = record {
   producers = Routed ∷ [];
@@ -52,12 +51,15 @@ plainly is_fresh = record {
   number_to = InOld;
 }
 
+-- With numbers that move.
 abbrev pub with_numbers : Setting
 with_numbers = record (plainly true) { number_to = InNew }
 
+-- To memory, with numbers that stay.
 abbrev pub to_memory : Setting
 to_memory = record (plainly true) { in_memory = true }
 
+-- With numbers that move to memory, or into the hand, and are heeded there.
 abbrev pub heeded : Spot → Setting
 heeded number_to = record (plainly true) {
   in_memory = true;
@@ -69,24 +71,29 @@ heeded number_to = record (plainly true) {
 abbrev pub without_words : Setting
 without_words = record (plainly true) { producers = Routed ∷ Routed ∷ []; words = 0 }
 
--- What a plan that is accepted is made of.
+-- The route is written and put in force.
 abbrev pub lead : List Step
 lead = Route 0 ∷ Fence 0 ∷ []
 
+-- The pending word is taken and joined.
 abbrev pub pending_moved : List Step
 pending_moved = Take Pending 0 ∷ Join Pending 0 ∷ []
 
+-- The word of the enables is.
 abbrev pub enables_moved : List Step
 enables_moved = Take Enabled 0 ∷ Join Enabled 0 ∷ []
 
+-- All that a plan has to do here, where numbers stay.
 abbrev pub all_moved : List Step
 all_moved = lead ++ pending_moved ++ enables_moved
 
+-- Both numbers are taken.
 abbrev pub numbers_taken : List Step
 numbers_taken = TakeNumber Threshold ∷ TakeNumber Delivery ∷ []
 
 -- ---- plans that break one rule
 
+-- Plans that break the rule on routes.
 abbrev pub break_routes : List (List Step)
 break_routes =
     -- the fence is left out
@@ -100,6 +107,7 @@ break_routes =
     -- a route that has a fence is switched: what is in flight is not waited for
     ∷ (Switch 0 ∷ pending_moved ++ enables_moved) ∷ []
 
+-- Plans that break the rule on words.
 abbrev pub break_words : List (List Step)
 break_words =
     -- the new word is zeroed after it was joined
@@ -119,11 +127,13 @@ break_words =
     -- the enables are forgotten
     ∷ (lead ++ pending_moved) ∷ []
 
+-- A plan that breaks the rule on blank words.
 abbrev pub break_blank : List (List Step)
 break_blank =
     -- a word is joined to what was left over
     (Zero New Enabled 0 ∷ all_moved) ∷ []
 
+-- Plans that break the rule on numbers, with numbers that move.
 abbrev pub break_numbers : List (List Step)
 break_numbers =
     -- a number is put before it is taken
@@ -137,6 +147,7 @@ break_numbers =
     -- it is forgotten
     ∷ (all_moved ++ TakeNumber Delivery ∷ PutNumber Delivery ∷ []) ∷ []
 
+-- Plans that break the rule on freeing.
 abbrev pub break_freeing : List (List Step)
 break_freeing =
     -- a word is taken from what was given back
@@ -144,6 +155,7 @@ break_freeing =
     -- a word of it is zeroed
     ∷ (all_moved ++ Free ∷ Zero Old Pending 0 ∷ []) ∷ []
 
+-- Plans that break it with numbers that move.
 abbrev pub break_freeing_with_numbers : List (List Step)
 break_freeing_with_numbers =
     -- a number is taken from it

@@ -21,54 +21,62 @@ use Rattle.plans_machine.specs.Setting.{Setting, same_number, same_spot, names, 
 
 -- ---- what a step does
 
--- Whether it writes a producer's route; puts it in force; does both at once.
+-- Whether a step writes a producer's route.
 abbrev pub turns : ℕ → Step → Bool
 turns p (Route q) = nat_eq q p
 turns p (Switch q) = nat_eq q p
 turns p x = false
 
+-- Whether it puts the route in force.
 abbrev pub fences : ℕ → Step → Bool
 fences p (Fence q) = nat_eq q p
 fences p x = false
 
+-- Whether it does both at once.
 abbrev pub switches : ℕ → Step → Bool
 switches p (Switch q) = nat_eq q p
 switches p x = false
 
--- Whether it takes a word; moves it from the hand to the new place; leaves nothing of what stood
--- there before.
+-- Whether a step takes a word.
 abbrev pub takes : Bank → ℕ → Step → Bool
 takes t v (Take s w) = names s w t v
 takes t v x = false
 
+-- Whether it moves the word from the hand to the new place.
 abbrev pub fills : Bank → ℕ → Step → Bool
 fills t v (Join s w) = names s w t v
 fills t v (Put s w) = names s w t v
 fills t v x = false
 
+-- Whether it leaves nothing in the new place of what stood there before.
 abbrev pub blanks : Bank → ℕ → Step → Bool
 blanks t v (Zero New s w) = names s w t v
 blanks t v (Put s w) = names s w t v
 blanks t v x = false
 
+-- Whether it gives the old place back.
 abbrev pub frees : Step → Bool
 frees Free = true
 frees x = false
 
+-- Whether it looks at a word.
 abbrev pub looks : ℕ → Step → Bool
 looks v (Look w) = nat_eq w v
 looks v x = false
 
+-- Whether it posts what looks saw.
 abbrev pub posts : Step → Bool
 posts Post = true
 posts x = false
 
+-- Whether it tells the host what stands out.
 abbrev pub tells : Step → Bool
 tells Tell = true
 tells x = false
 
 -- ---- what is reached after steps that are done
 
+-- The steps that are done, the newest first.
 abbrev pub Done : Type 0
 Done = List Step
 
@@ -76,7 +84,7 @@ Done = List Step
 abbrev pub is_turned : ℕ → Done → Bool
 is_turned p done = list_any (turns p) done
 
--- And a fence stood behind that.
+-- That route is in force: a fence stood behind the step that writes it.
 abbrev pub is_fenced : ℕ → Done → Bool
 is_fenced p [] = false
 is_fenced p (x ∷ done) = elim (fences p x) [
@@ -84,7 +92,7 @@ is_fenced p (x ∷ done) = elim (fences p x) [
   | false ↦ is_fenced p done
 ]
 
--- All that the producer stores from now on goes to the new place.
+-- All that a producer of a kind stores from now on goes to the new place.
 abbrev pub is_led_as : Option Kind → ℕ → Done → Bool
 is_led_as kind p done = elim kind [
   | None ↦ false
@@ -92,9 +100,11 @@ is_led_as kind p done = elim kind [
   | Some Switched ↦ is_fenced p done || list_any (switches p) done
 ]
 
+-- The same of a producer of the setting.
 abbrev pub is_led : Setting → ℕ → Done → Bool
 is_led d p done = is_led_as (slice_get d.producers p) p done
 
+-- The same of all producers.
 abbrev pub all_led : Setting → Done → Bool
 all_led d done = all_below (λ p. is_led d p done) (length d.producers)
 
@@ -117,7 +127,7 @@ old_holds d s w (x ∷ done) = elim (takes s w x) [
   | false ↦ old_holds d s w done
 ]
 
--- It may in the hand.
+-- A word may hold something in the hand.
 abbrev pub hand_holds : Setting → Bank → ℕ → Done → Bool
 hand_holds d s w [] = false
 hand_holds d s w (x ∷ done) = elim (takes s w x) [
@@ -133,11 +143,11 @@ is_filled d s w (x ∷ done) = elim (fills s w x) [
   | false ↦ is_filled d s w done
 ]
 
--- It may hold something in the new place that is due there.
+-- A word may hold something in the new place that is due there.
 abbrev pub new_holds : Setting → Bank → ℕ → Done → Bool
 new_holds d s w done = is_reached d s done || is_filled d s w done
 
--- Nothing stands there but what is due.
+-- Nothing of a word stands in the new place but what is due.
 abbrev pub is_blank : Setting → Bank → ℕ → Done → Bool
 is_blank d s w [] = d.is_fresh
 is_blank d s w (x ∷ done) = blanks s w x || is_blank d s w done
@@ -195,7 +205,7 @@ abbrev pub is_settled : Setting → ℕ → Done → Bool
 is_settled d w done =
     is_moved d Pending w done && (is_moved d Enabled w done && are_heeded d done)
 
--- It was looked at after that; told of after that, or posted after such a look.
+-- A word was looked at once it was settled.
 abbrev pub is_looked : Setting → ℕ → Done → Bool
 is_looked d w [] = false
 is_looked d w (x ∷ done) = elim (looks w x) [
@@ -203,6 +213,7 @@ is_looked d w (x ∷ done) = elim (looks w x) [
   | false ↦ is_looked d w done
 ]
 
+-- A word was told of once it was settled, or posted after such a look.
 abbrev pub is_reported : Setting → ℕ → Done → Bool
 is_reported d w [] = false
 is_reported d w (x ∷ done) = elim (posts x) [
@@ -256,6 +267,7 @@ lets_end Notice d done = elim d.in_memory [
 ]
 lets_end rule d done = true
 
+-- Whether a rule lets the rest of a plan stand, and the plan end.
 abbrev pub lets_rest : Rule → Setting → Done → List Step → Bool
 lets_rest rule d done [] = lets_end rule d done
 lets_rest rule d done (x ∷ rest) = lets rule d x done && lets_rest rule d (x ∷ done) rest
@@ -264,10 +276,11 @@ lets_rest rule d done (x ∷ rest) = lets rule d x done && lets_rest rule d (x �
 abbrev pub keeps : Rule → Setting → List Step → Bool
 keeps rule d plan = lets_rest rule d [] plan
 
+-- All rules, in their order.
 abbrev pub rules : List Rule
 rules = Routes ∷ Words ∷ Blank ∷ Numbers ∷ Freeing ∷ Notice ∷ []
 
--- Those of some rules that a plan breaks; all that it breaks.
+-- Those of some rules that a plan breaks.
 abbrev pub broken_of : List Rule → Setting → List Step → List Rule
 broken_of [] d plan = []
 broken_of (rule ∷ others) d plan = elim (keeps rule d plan) [
@@ -275,14 +288,16 @@ broken_of (rule ∷ others) d plan = elim (keeps rule d plan) [
   | false ↦ rule ∷ broken_of others d plan
 ]
 
+-- All rules that it breaks.
 abbrev pub broken : Setting → List Step → List Rule
 broken d plan = broken_of rules d plan
 
--- Whether a plan keeps the five rules of safety; all six.
+-- Whether a plan keeps the five rules of safety.
 abbrev pub moves : Setting → List Step → Bool
 moves d plan =
     keeps Routes d plan && (keeps Words d plan
     && (keeps Blank d plan && (keeps Numbers d plan && keeps Freeing d plan)))
 
+-- Whether it keeps all six.
 abbrev pub accepts : Setting → List Step → Bool
 accepts d plan = moves d plan && keeps Notice d plan

@@ -54,8 +54,8 @@ number_in spot n z = elim spot [
   | InNew ↦ z.new_number n
 ]
 
--- How it has to end. In the new place just what is due is pending, and just what was enabled at the
--- start is enabled; nothing is left in the old place; the numbers are where they have to be, as
+-- How a move has to end. In the new place just what is due is pending, and just what was enabled at
+-- the start is enabled; nothing is left in the old place; the numbers are where they have to be, as
 -- they were; all leads to the new place; and nothing reached the old one after it was given back.
 pub record IsMoved (d : Setting) (start z : Machine) : Type 0 where
   pub pending : (i : ℕ) → i / 64 < d.words → z.new Pending i ≡ z.due Pending i

@@ -41,24 +41,29 @@ setting_of producers terms = record {
 
 -- ---- which one it is
 
+-- Whether a place is the old one.
 abbrev pub is_old : Place → Bool
 is_old Old = true
 is_old New = false
 
+-- Whether a set is that of the pending bits.
 abbrev pub is_pending : Bank → Bool
 is_pending Pending = true
 is_pending Enabled = false
 
+-- Whether two sets are the same.
 abbrev pub same_bank : Bank → Bank → Bool
 same_bank Pending Pending = true
 same_bank Enabled Enabled = true
 same_bank s t = false
 
+-- Whether two numbers are the same.
 abbrev pub same_number : Number → Number → Bool
 same_number Threshold Threshold = true
 same_number Delivery Delivery = true
 same_number n m = false
 
+-- Whether two spots are the same.
 abbrev pub same_spot : Spot → Spot → Bool
 same_spot InOld InOld = true
 same_spot InHand InHand = true

@@ -65,15 +65,15 @@ WritesAnswers left before now = IfSome left.to_come (λ file. Appends before now
 abbrev pub CutsAnswers : Supply → Option (List ℕ) → Option (List ℕ) → Type 0
 CutsAnswers left before now = IfSome left.to_come (λ file. CutOff before now (answers file))
 
--- It is a front of what is answered of the bytes that were taken, no more than a file has.
+-- The sink took a front of what is answered of the bytes that were taken, no more than a file has.
 pub record WritesFront (left rest : Supply) (before now : Option (List ℕ)) : Type 0 where
   pub bytes : List ℕ
   pub taken : Gives left rest bytes
   pub within : length bytes ≤ FILE_BYTES
   pub cut : CutOff before now (answers bytes)
 
--- It is just what is answered of the plans that ended within the whole lines of some bytes; after
--- them these have no LF.
+-- The sink took just what is answered of the plans that ended within the whole lines of some bytes;
+-- after them these have no LF.
 pub record AnswersEnded (before now : Option (List ℕ)) (bytes : List ℕ) : Type 0 where
   pub whole : List ℕ
   pub tail : List ℕ
@@ -82,7 +82,7 @@ pub record AnswersEnded (before now : Option (List ℕ)) (bytes : List ℕ) : Ty
   pub no_end : NoEnd tail
   pub written : Appends before now (ended_answers whole)
 
--- So of the bytes that were taken, so many at the end left out of account.
+-- The sink took just that of the bytes that were taken, so many at the end left out of account.
 pub record WritesEnded (count : ℕ) (left rest : Supply) (before now : Option (List ℕ))
     : Type 0 where
   pub bytes : List ℕ
@@ -114,7 +114,7 @@ IsFront before now bytes = (more : List ℕ) → CutOff before now (answers (byt
 
 -- ---- a run
 
--- How it ends where it stops.
+-- How a run ends where it stops.
 abbrev pub stopped : Stop → Status
 stopped Sink = WriteFault
 stopped LacksMemory = Memory

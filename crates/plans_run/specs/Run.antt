@@ -29,6 +29,7 @@ use Rattle.plans_run.specs.Trace.{begins_old, begins_new, flights_by, trace_stor
 abbrev pub one_bit : Bool → Bank → ℕ → Sets
 one_bit is_there s i t j = is_there && (same_bank s t && nat_eq i j)
 
+-- Where the store leads that is in flight from the start on, if the run has one.
 abbrev pub first_flight : Extra → Option Place
 first_flight (extras.Flies before) = Some Old
 first_flight extra = None
@@ -55,6 +56,7 @@ start_of d run = record {
 
 -- ---- what happens in it
 
+-- By which route of the machine a store goes.
 abbrev pub by_of : Route → By
 by_of Written = AsWritten
 by_of InForce = AsInForce
@@ -70,13 +72,16 @@ extra_at run k = elim run.extra [
       if nat_eq before k then Sends run.case.producer AsInForce run.case.identity ∷ [] else []
 ]
 
+-- The step after so many, if the plan has one.
 abbrev pub step_at : List Step → ℕ → List Happening
 step_at plan k = elim (slice_get plan k) [ None ↦ [] | Some x ↦ Does x ∷ [] ]
 
+-- What happens in the first steps of a plan, so many, with what comes before each.
 abbrev pub run_upto : List Step → Run → ℕ → List Happening
 run_upto plan run zero = []
 run_upto plan run (suc k) = run_upto plan run k ++ (extra_at run k ++ step_at plan k)
 
+-- All that happens in the run.
 abbrev pub happenings : List Step → Run → List Happening
 happenings plan run = run_upto plan run (length plan) ++ extra_at run (length plan)
 
@@ -90,6 +95,7 @@ pub record Loses (d : Setting) (plan : List Step) (run : Run) : Type 0 where
 
 -- ---- as the trace tells it
 
+-- What is followed of the run, at the start.
 abbrev pub trace_begun : Run → Terms → Trace
 trace_begun run terms = record {
   old = begins_old run.begin;
@@ -106,6 +112,7 @@ trace_begun run terms = record {
   strayed = false;
 }
 
+-- What it is once that came which comes after so many steps.
 abbrev pub trace_extra : Run → ℕ → Trace → Trace
 trace_extra run k t = elim run.extra [
   | extras.Nothing ↦ t
@@ -123,6 +130,7 @@ trace_extra run k t = elim run.extra [
   ]
 ]
 
+-- Whether the number stands in a spot as at the start.
 abbrev pub trace_number : Spot → Trace → Bool
 trace_number spot t = elim spot [
   | InOld ↦ t.old_number
@@ -130,45 +138,52 @@ trace_number spot t = elim spot [
   | InNew ↦ t.new_number
 ]
 
--- What has to stand in the new place.
+-- Whether the bit has to stand in the new place in the end.
 abbrev pub trace_wanted : Run → Trace → Bool
 trace_wanted run t = elim run.case.bank [ Pending ↦ t.due | Enabled ↦ begins_old run.begin ]
 
+-- Whether one of two is so, and the other is not.
 abbrev pub differ : Bool → Bool → Bool
 differ true b = not b
 differ false b = b
 
+-- Whether a store is in flight to the old place.
 abbrev pub is_flying_old : Option Place → Bool
 is_flying_old None = false
 is_flying_old (Some place) = is_old place
 
+-- Whether the bit does not stand where it has to in the end.
 abbrev pub is_bad_bit : Run → Trace → Bool
 is_bad_bit run t = differ t.new (trace_wanted run t) || t.old
 
+-- Whether a route of the producer leads to the old place.
 abbrev pub is_bad_route : Trace → Bool
 is_bad_route t = is_old t.written || is_old t.in_force
 
--- A run without a store shows where its producer's route leads in the end; one with a store shows
--- what becomes of that.
+-- Whether a run is without a store.
 abbrev pub is_quiet : Extra → Bool
 is_quiet extras.Nothing = true
 is_quiet extra = false
 
+-- Whether a run shows that its producer's route leads to the old place in the end: one without a
+-- store does; one with a store shows what becomes of the store.
 abbrev pub shows_route : Run → ℕ → Trace → Bool
 shows_route run producers t =
     is_quiet run.extra && (nat_lt run.case.producer producers && is_bad_route t)
 
+-- Whether the run does not end as it has to, by what was followed.
 abbrev pub is_bad_end : Run → Terms → ℕ → Trace → Bool
 is_bad_end run terms producers t =
     is_bad_bit run t
     || (shows_route run producers t
     || (not (trace_number terms.number_to t) || (is_flying_old t.flight || t.strayed)))
 
--- Whether there can be such a run.
+-- Whether a producer is there, and has a route.
 abbrev pub is_routed : Option Kind → Bool
 is_routed (Some Routed) = true
 is_routed kind = false
 
+-- Whether there can be such a run.
 abbrev pub can_be : Run → Terms → List Kind → Bool
 can_be run terms producers =
     nat_lt (run.case.identity / 64) terms.words

@@ -16,16 +16,18 @@ use Rattle.plans_run.specs.declared.run.Run.{Run}
 use Rattle.plans_run.specs.Trace.{trace_after}
 use Rattle.plans_run.specs.Run.{can_be, is_bad_end, trace_begun, trace_extra}
 
--- What is followed with so many steps done, and at the end.
+-- What is followed with one step more, where there is one.
 abbrev pub trace_stepped : Run → Option Step → Trace → Trace
 trace_stepped run None t = t
 trace_stepped run (Some x) t = trace_after run.case x t
 
+-- What is followed with so many steps done.
 abbrev pub trace_upto : Run → Terms → List Step → ℕ → Trace
 trace_upto run terms plan zero = trace_begun run terms
 trace_upto run terms plan (suc k) =
     trace_stepped run (slice_get plan k) (trace_extra run k (trace_upto run terms plan k))
 
+-- What is followed at the end of the run.
 abbrev pub trace_end : Run → Terms → List Step → Trace
 trace_end run terms plan = trace_extra run (length plan) (trace_upto run terms plan (length plan))
 
@@ -36,6 +38,7 @@ tried producers terms plan run =
     && is_bad_end run terms (length producers) (trace_end run terms plan)
     then Some run else None
 
+-- The first of two that is found.
 abbrev pub or_else : {A : Type 0} → Option A → Option A → Option A
 or_else None other = other
 or_else (Some x) other = Some x
@@ -45,7 +48,7 @@ unfoldable pub first_of : {A : Type 0} → (ℕ → Option A) → ℕ → ℕ �
 first_of found from zero = None
 first_of found from (suc count) = or_else (found from) (first_of found (suc from) count)
 
--- The second identity of a word, and a producer; no plan has one of the greatest number.
+-- The pending bit of the second identity of a word, the threshold, and a producer.
 abbrev pub pending_case : ℕ → ℕ → Case
 pending_case word producer = record {
   bank = Pending;
@@ -54,6 +57,8 @@ pending_case word producer = record {
   producer = producer;
 }
 
+-- The enable of that identity, and delivery; and no producer, since no plan has one of the greatest
+-- number.
 abbrev pub enabled_case : ℕ → Case
 enabled_case word = record {
   bank = Enabled;
@@ -62,22 +67,25 @@ enabled_case word = record {
   producer = 2 ^ 64 - 1;
 }
 
+-- The run that follows these, begins so, and has this between its steps.
 abbrev pub run_of : Case → Begin → Extra → Run
 run_of case begin extra = record { case = case; begin = begin; extra = extra }
 
--- Without a store, from each begin.
+-- The first that loses something of the runs without a store, one for each begin.
 unfoldable pub without_store : List Kind → Terms → List Step → Case → Option Run
 without_store producers terms plan case =
     or_else (tried producers terms plan (run_of case begins.InOld extras.Nothing))
     (or_else (tried producers terms plan (run_of case begins.Nowhere extras.Nothing))
     (tried producers terms plan (run_of case begins.InNew extras.Nothing)))
 
+-- The first of these runs of the pending bit and of the enable of a word.
 unfoldable pub quiet_word : List Kind → Terms → List Step → ℕ → Option Run
 quiet_word producers terms plan word =
     or_else (without_store producers terms plan (pending_case word (2 ^ 64 - 1)))
     (without_store producers terms plan (enabled_case word))
 
--- With a store that comes with so many steps before it.
+-- The first of the runs with a store that comes with so many steps before it: by the route in
+-- force, by the written one, or in flight from the start and landing then.
 unfoldable pub with_store : List Kind → Terms → List Step → Case → ℕ → Option Run
 with_store producers terms plan case before =
     or_else (tried producers terms plan
@@ -86,12 +94,12 @@ with_store producers terms plan case before =
     (run_of case begins.Nowhere (extras.Stores before Written)))
     (tried producers terms plan (run_of case begins.Nowhere (extras.Flies before))))
 
--- With a store that is sent with so many steps before it, and stays in flight.
+-- The run with a store that is sent with so many steps before it, and stays in flight.
 unfoldable pub with_flight : List Kind → Terms → List Step → Case → ℕ → Option Run
 with_flight producers terms plan case before =
     tried producers terms plan (run_of case begins.Nowhere (extras.Lingers before))
 
--- With a store of a producer, between any steps or in flight to the end.
+-- The first of the runs with a store of a producer, between any steps or in flight to the end.
 unfoldable pub by_producer : List Kind → Terms → List Step → ℕ → ℕ → Option Run
 by_producer producers terms plan word producer =
     or_else
@@ -102,10 +110,12 @@ by_producer producers terms plan word producer =
     (first_of (with_flight producers terms plan (pending_case word producer)) 0 (length plan))
     (without_store producers terms plan (pending_case word producer)))))
 
+-- The first of the runs with a store of any producer, for a word.
 unfoldable pub stored_word : List Kind → Terms → List Step → ℕ → Option Run
 stored_word producers terms plan word =
     first_of (by_producer producers terms plan word) 0 (length producers)
 
+-- The first run that loses something: of each word without a store, then of each with one.
 unfoldable pub losing_run_of : List Kind → Terms → List Step → Option Run
 losing_run_of producers terms plan =
     or_else (first_of (quiet_word producers terms plan) 0 terms.words)

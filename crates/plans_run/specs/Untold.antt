@@ -38,20 +38,22 @@ abbrev pub producer_of : Option Store → ℕ
 producer_of None = 2 ^ 64 - 1
 producer_of (Some store) = store.producer
 
--- The identity stands in the old place from the start on, or a store asks for it.
+-- Whether no store asks for the identity: then it stands in the old place from the start on.
 abbrev pub is_unstored : Option Store → Bool
 is_unstored None = true
 is_unstored (Some store) = false
 
+-- Where it is pending at the start.
 abbrev pub begin_of : Option Store → Begin
 begin_of None = begins.InOld
 begin_of (Some store) = begins.Nowhere
 
+-- What comes between the steps: the store, if there is one.
 abbrev pub extra_of : Option Store → Extra
 extra_of None = extras.Nothing
 extra_of (Some store) = extras.Stores store.before store.route
 
--- The pending bit of an identity with the threshold, and its enable with delivery.
+-- The pending bit of an identity, with the threshold.
 abbrev pub pending_bit : ℕ → ℕ → Case
 pending_bit identity producer = record {
   bank = Pending;
@@ -60,6 +62,7 @@ pending_bit identity producer = record {
   producer = producer;
 }
 
+-- The enable of an identity, with delivery.
 abbrev pub enabled_bit : ℕ → ℕ → Case
 enabled_bit identity producer = record {
   bank = Enabled;
@@ -78,6 +81,7 @@ run_in u = record {
 
 -- ---- how it begins
 
+-- Whether a spot, where there is one, is this one.
 abbrev pub is_spot : Option Spot → Spot → Bool
 is_spot None spot = false
 is_spot (Some at) spot = same_spot at spot
@@ -88,6 +92,7 @@ abbrev pub number_first : UntoldRun → Spot → Number → ℕ
 number_first u spot Threshold = worth (not (is_spot u.threshold spot))
 number_first u spot Delivery = worth (same_spot u.delivery spot)
 
+-- Whether the identity stands in a set of the old place at the start.
 abbrev pub stands_first : UntoldRun → Bank → Bool
 stands_first u Pending = is_unstored u.store
 stands_first u Enabled = true
@@ -114,6 +119,7 @@ untold_start u = record {
 
 -- ---- the host is not told
 
+-- The machine at the end of the run.
 abbrev pub untold_end : Setting → List Step → UntoldRun → Machine
 untold_end d plan u = all_happened d (happenings plan (run_in u)) (untold_start u)
 
@@ -129,6 +135,8 @@ pub record LeavesUntold (d : Setting) (plan : List Step) (u : UntoldRun) : Type 
 
 -- ---- what is followed in it: both bits of the identity, both numbers, and what the host was told
 
+-- What is followed of one bit and one number, at the start: whether the bit stands in the old
+-- place, and where the number stands.
 abbrev pub trace_from : Bool → Bool → Bool → Bool → Trace
 trace_from is_there old_number hand_number new_number = record {
   old = is_there;
@@ -145,6 +153,7 @@ trace_from is_there old_number hand_number new_number = record {
   strayed = false;
 }
 
+-- All that is followed, at the start.
 abbrev pub watch_begun : UntoldRun → Watch
 watch_begun u = record {
   pending = trace_from (is_unstored u.store) (not (is_spot u.threshold InOld))
@@ -165,7 +174,8 @@ watch_lets terms identity w =
 abbrev pub watch_out : Terms → ℕ → Watch → Bool
 watch_out terms identity w = w.pending.new && (w.enabled.new && watch_lets terms identity w)
 
--- A store lands.
+-- A store of a producer for the identity lands in a place: the host is told, where it then stands
+-- out in the new one.
 abbrev pub watch_landed : Terms → ℕ → ℕ → Place → Watch → Watch
 watch_landed terms identity producer place w = record {
   pending = trace_landed (pending_bit identity producer) place w.pending;
@@ -174,33 +184,38 @@ watch_landed terms identity producer place w = record {
   told = w.told || (not (is_old place) && (w.enabled.new && watch_lets terms identity w));
 }
 
+-- Where a store goes by a route.
 abbrev pub watch_route : Route → Watch → Place
 watch_route Written w = w.pending.written
 watch_route InForce w = w.pending.in_force
 
+-- The store comes, where so many steps are before it.
 abbrev pub watch_stored : Terms → ℕ → Store → ℕ → Watch → Watch
 watch_stored terms identity store k w = elim (nat_eq store.before k) [
   | true ↦ watch_landed terms identity store.producer (watch_route store.route w) w
   | false ↦ w
 ]
 
+-- The same of a run that may have no store.
 abbrev pub watch_extra : Terms → UntoldRun → ℕ → Watch → Watch
 watch_extra terms u k w = elim u.store [
   | None ↦ w
   | Some store ↦ watch_stored terms u.identity store k w
 ]
 
--- A step: a look sees the identity, or nothing; the host is told of it, or of nothing.
+-- Whether a step looks at the word, and sees the identity stand out.
 abbrev pub sees : Terms → ℕ → Step → Watch → Bool
 sees terms identity (steps.Look word) w =
     nat_eq word (identity / 64) && watch_out terms identity w
 sees terms identity step w = false
 
+-- Whether a step tells the host of the identity.
 abbrev pub tells : Terms → ℕ → Step → Watch → Bool
 tells terms identity steps.Post w = w.seen
 tells terms identity steps.Tell w = watch_out terms identity w
 tells terms identity step w = false
 
+-- What a step makes of all that is followed.
 abbrev pub watch_after : Terms → ℕ → ℕ → Step → Watch → Watch
 watch_after terms identity producer step w = record {
   pending = trace_after (pending_bit identity producer) step w.pending;
@@ -209,41 +224,46 @@ watch_after terms identity producer step w = record {
   told = w.told || tells terms identity step w;
 }
 
--- With so many steps done, and at the end.
+-- What is followed with one step more, where there is one.
 abbrev pub watch_stepped : Terms → UntoldRun → Option Step → Watch → Watch
 watch_stepped terms u None w = w
 watch_stepped terms u (Some step) w =
     watch_after terms u.identity (producer_of u.store) step w
 
+-- What is followed with so many steps done.
 abbrev pub watch_upto : Terms → List Step → UntoldRun → ℕ → Watch
 watch_upto terms plan u zero = watch_begun u
 watch_upto terms plan u (suc k) =
     watch_stepped terms u (slice_get plan k) (watch_extra terms u k (watch_upto terms plan u k))
 
+-- What is followed at the end of the run.
 abbrev pub watch_end : Terms → List Step → UntoldRun → Watch
 watch_end terms plan u =
     watch_extra terms u (length plan) (watch_upto terms plan u (length plan))
 
 -- ---- it leaves the host untold
 
--- Whether there can be such a run.
+-- Whether the producer of the store, if there is one, is there.
 abbrev pub can_store : Option Store → ℕ → Bool
 can_store None producers = true
 can_store (Some store) producers = nat_lt store.producer producers
 
+-- Whether there can be such a run.
 abbrev pub can_come : UntoldRun → Terms → List Kind → Bool
 can_come u terms producers =
     nat_lt (u.identity / 64) terms.words && can_store u.store (length producers)
 
+-- Whether in the end the identity stands out in the new place, and the host was not told.
 abbrev pub is_untold : Terms → UntoldRun → Watch → Bool
 is_untold terms u w = watch_out terms u.identity w && not w.told
 
 -- ---- what is followed is what the machine does
 
--- No other identity is pending there.
+-- No other identity is pending in a place.
 abbrev pub IsAlone : ℕ → Sets → Type 0
 IsAlone identity sets = (i : ℕ) → (identity ≡ i → ⊥) → sets Pending i ≡ false
 
+-- The machine has what is followed, and nothing else is pending or in flight.
 pub record IsWatched (u : UntoldRun) (w : Watch) (z : Machine) : Type 0 where
   pub pending : Follows (pending_bit u.identity (producer_of u.store)) w.pending z
   pub enabled : Follows (enabled_bit u.identity (producer_of u.store)) w.enabled z

@@ -18,7 +18,8 @@ tried_untold producers terms plan u =
     if can_come u terms producers && is_untold terms u (watch_end terms plan u)
     then Some u else None
 
--- The second identity of a word.
+-- The run of the second identity of a word, with such a store, delivery in this spot and the
+-- threshold that lets it through in that one.
 abbrev pub untold_of : ℕ → Option Store → Spot → Option Spot → UntoldRun
 untold_of word store delivery threshold = record {
   identity = 64 * word + 1;
@@ -27,7 +28,8 @@ untold_of word store delivery threshold = record {
   threshold = threshold;
 }
 
--- With delivery in a spot, and the threshold that lets through in none, or in one.
+-- The first such run with delivery in a spot: the threshold that lets through is in the old place,
+-- the hand, the new place, or in none.
 unfoldable pub with_delivery : List Kind → Terms → List Step → ℕ → Option Store → Spot
     → Option UntoldRun
 with_delivery producers terms plan word store delivery =
@@ -36,7 +38,8 @@ with_delivery producers terms plan word store delivery =
     (or_else (tried_untold producers terms plan (untold_of word store delivery (Some InNew)))
     (tried_untold producers terms plan (untold_of word store delivery None))))
 
--- With one start, where the numbers are not heeded; else with each.
+-- The first such run with delivery in any spot; one start is enough where the numbers are not
+-- heeded.
 unfoldable pub with_numbers : List Kind → Terms → List Step → ℕ → Option Store
     → Option UntoldRun
 with_numbers producers terms plan word store =
@@ -45,7 +48,8 @@ with_numbers producers terms plan word store =
     (with_delivery producers terms plan word store InNew))
     else tried_untold producers terms plan (untold_of word store InOld (Some InOld))
 
--- With a store that comes with so many steps before it.
+-- The first such run with a store that comes with so many steps before it, by the route in force or
+-- by the written one.
 unfoldable pub stored_before : List Kind → Terms → List Step → ℕ → ℕ → ℕ → Option UntoldRun
 stored_before producers terms plan word producer before =
     or_else (with_numbers producers terms plan word (Some (record {
@@ -58,17 +62,18 @@ stored_before producers terms plan word producer before =
       route = Written;
     })))
 
--- With a store of a producer, between any steps.
+-- The first such run with a store of a producer, between any steps.
 unfoldable pub stored_by : List Kind → Terms → List Step → ℕ → ℕ → Option UntoldRun
 stored_by producers terms plan word producer =
     first_of (stored_before producers terms plan word producer) 0 (length plan)
 
--- A word, without a store or with one.
+-- The first such run of a word, without a store or with one.
 unfoldable pub untold_word : List Kind → Terms → List Step → ℕ → Option UntoldRun
 untold_word producers terms plan word =
     or_else (with_numbers producers terms plan word None)
     (first_of (stored_by producers terms plan word) 0 (length producers))
 
+-- The first run of any word after which the host was not told.
 unfoldable pub untold_run_of : List Kind → Terms → List Step → Option UntoldRun
 untold_run_of producers terms plan =
     first_of (untold_word producers terms plan) 0 terms.words

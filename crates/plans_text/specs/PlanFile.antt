@@ -46,6 +46,7 @@ pub record Place : Type 0 where
   pub line : ℕ
   pub text : Text
 
+-- A plan, as far as it is read.
 pub record Plan : Type 0 where
   -- whether any line of it was read
   pub is_begun : Bool
@@ -69,6 +70,7 @@ first_terms = record {
   number_to = InNew;
 }
 
+-- A plan of which nothing is read.
 abbrev pub no_plan : Plan
 no_plan = record {
   is_begun = false;
@@ -85,6 +87,8 @@ bad_at line plan = record plan { is_begun = true; bad = Some line }
 
 -- ---- declarations, which stand before the first step
 
+-- What is declared with one declaration more; None where the line is none, or its number out of
+-- range.
 abbrev pub terms_with : Line → Terms → Option Terms
 terms_with (lines.Words n) terms =
     if nat_lt 0 n && nat_le n WORDS then Some (record terms { words = n }) else None
@@ -97,12 +101,14 @@ terms_with (lines.Numbers from to) terms = Some (record terms {
 })
 terms_with line terms = None
 
+-- A plan for which that is declared now, if it is good; a declaration comes before the first step.
 abbrev pub with_terms : ℕ → Option Terms → Plan → Plan
 with_terms line None plan = bad_at line plan
 with_terms line (Some terms) plan =
     if nat_eq (length plan.steps) 0 then record plan { is_begun = true; terms = terms }
     else bad_at line plan
 
+-- A plan with one producer more, likewise.
 abbrev pub with_producer : ℕ → Kind → Plan → Plan
 with_producer line kind plan =
     if nat_eq (length plan.steps) 0 && nat_lt (length plan.producers) PRODUCERS then record plan {
@@ -124,6 +130,7 @@ is_known words producers (steps.Put s w) = nat_lt w words
 is_known words producers (steps.Look w) = nat_lt w words
 is_known words producers step = true
 
+-- A plan with one step more, from this line of the file.
 abbrev pub with_step : ℕ → Text → Step → Plan → Plan
 with_step line text step plan =
     if is_known plan.terms.words (length plan.producers) step && nat_lt (length plan.steps) STEPS
@@ -141,6 +148,7 @@ with_line line text x plan = with_terms line (terms_with x plan.terms) plan
 
 -- ---- what is answered of a plan
 
+-- The word of a rule.
 abbrev pub rule_word : Rule → Text
 rule_word rules.Routes = codes "routes"
 rule_word rules.Words = codes "words"
@@ -157,24 +165,28 @@ place_text (Some place) =
 
 -- ---- the run that is shown of a plan that loses something, in a line of its own
 
+-- How it is said in which set the identity stands.
 abbrev pub bank_word : Bank → Text
 bank_word Pending = codes " is pending "
 bank_word Enabled = codes " is enabled "
 
+-- Where it stands at the start.
 abbrev pub begin_word : Begin → Text
 begin_word begins.Nowhere = codes "nowhere at the start"
 begin_word begins.InOld = codes "in the old place at the start"
 begin_word begins.InNew = codes "in the new place at the start"
 
+-- By which route a store goes.
 abbrev pub route_word : Route → Text
 route_word Written = codes " by its written route"
 route_word InForce = codes " by its route in force"
 
--- Between which lines a store comes that has so many steps before it.
+-- Behind which line a store comes.
 abbrev pub behind_text : Option Place → Text
 behind_text None = codes " before the first step"
 behind_text (Some place) = codes " behind line " ++ decimal place.line
 
+-- The same of one that has so many steps before it.
 abbrev pub between_text : List Place → ℕ → Text
 between_text places before =
     if nat_eq before 0 then behind_text None else behind_text (slice_get places (before - 1))
@@ -185,6 +197,7 @@ landing_text places before =
     if nat_le before (length places) then codes ", and lands" ++ between_text places before
     else codes ", and lands at its fence"
 
+-- What comes between the steps of the run.
 abbrev pub extra_text : List Place → ℕ → Extra → Text
 extra_text places producer extras.Nothing = []
 extra_text places producer (extras.Stores before route) =
@@ -197,14 +210,16 @@ extra_text places producer (extras.Flies before) =
     codes "; a store of producer " ++ (decimal producer ++ (codes " for it is in flight"
     ++ landing_text places before))
 
+-- Which identity is followed, in which set, and where it stands at the start.
 abbrev pub case_text : Run → Text
 case_text run =
     decimal run.case.identity ++ (bank_word run.case.bank ++ begin_word run.begin)
 
--- Runs with more stores were not looked for.
+-- What is shown where no run is found: runs with more stores were not looked for.
 abbrev pub none_text : Text
 none_text = 10 ∷ codes "  run: none was found with one store at most"
 
+-- The run that is shown, if one is found.
 abbrev pub run_text : List Place → Option Run → Text
 run_text places None = none_text
 run_text places (Some run) =
@@ -213,20 +228,24 @@ run_text places (Some run) =
 
 -- ---- the run that is shown of a plan that may leave its host untold
 
+-- How a spot is named.
 abbrev pub spot_word : Spot → Text
 spot_word InOld = codes " in the old place"
 spot_word InHand = codes " in the hand"
 spot_word InNew = codes " in the new place"
 
+-- The store of such a run, if it has one.
 abbrev pub store_text : List Place → Option Store → Text
 store_text places None = codes ", and pending there"
 store_text places (Some store) =
     extra_text places store.producer (extras.Stores store.before store.route)
 
+-- Where the threshold lets the identity through at the start.
 abbrev pub threshold_text : Option Spot → Text
 threshold_text None = codes "1 everywhere"
 threshold_text (Some spot) = codes "0" ++ (spot_word spot ++ codes " and 1 elsewhere")
 
+-- Where delivery is 1 at the start.
 abbrev pub delivery_text : Spot → Text
 delivery_text spot =
     codes "; at the start delivery is 1" ++ (spot_word spot
@@ -241,11 +260,13 @@ untold_end_text true run =
 untold_end_text false run =
     codes "; in the end it is pending and enabled in the new place, and the host was not told"
 
+-- How it begins.
 abbrev pub untold_begin_text : UntoldRun → Text
 untold_begin_text run =
     (10 ∷ codes "  run: identity ")
     ++ (decimal run.identity ++ codes " is enabled in the old place at the start")
 
+-- The run that is shown, if one is found.
 abbrev pub untold_text : List Place → Bool → Option UntoldRun → Text
 untold_text places heeds None =
     none_text ++ codes "; the rule asks for more than that the host is told"
@@ -254,11 +275,13 @@ untold_text places heeds (Some run) =
 
 -- ---- what is shown of a verdict
 
+-- The text of what is shown.
 abbrev pub shown_text : List Place → Shown → Text
 shown_text places shows.Nothing = []
 shown_text places (shows.Losing run) = run_text places run
 shown_text places (shows.Untold run heeds) = untold_text places heeds run
 
+-- The text of a verdict, with what is shown of it.
 abbrev pub verdict_text : List Place → Shown → Verdict → Text
 verdict_text places shown Accepted = codes "accepted"
 verdict_text places shown (Refused rule before) =
@@ -274,10 +297,12 @@ shown_of producers terms plan (Refused rules.Notice before) =
 shown_of producers terms plan (Refused rule before) =
     shows.Losing (losing_run_of producers terms plan)
 
+-- The text of the verdict on a plan.
 abbrev pub found_text : List Place → List Kind → Terms → List Step → Verdict → Text
 found_text places producers terms plan verdict =
     verdict_text places (shown_of producers terms plan verdict) verdict
 
+-- What is answered of a plan: its first bad line, or the verdict.
 abbrev pub bad_or_verdict : Option ℕ → Plan → Text
 bad_or_verdict (Some line) plan = codes "bad line " ++ decimal line
 bad_or_verdict None plan =
@@ -297,6 +322,7 @@ pub record Read : Type 0 where
   pub lines : ℕ
   pub answers : Text
 
+-- Nothing is read yet.
 abbrev pub none_read : Read
 none_read = record { plan = no_plan; lines = 0; answers = [] }
 
@@ -315,6 +341,7 @@ line_read text line read = elim read.plan.bad [
   | None ↦ record read { plan = with_line read.lines text line read.plan }
 ]
 
+-- What is read with one text more, by what that says; of a bad one its plan is bad.
 abbrev pub as_read : Text → Reading → Read → Read
 as_read text readings.Skip read = read
 as_read text readings.Bad read = elim read.plan.bad [
@@ -324,13 +351,16 @@ as_read text readings.Bad read = elim read.plan.bad [
 as_read text (readings.Line lines.Plan) read = plan_begun read
 as_read text (readings.Line line) read = line_read text line read
 
+-- The same, by the text.
 abbrev pub with_text : Read → Text → Read
 with_text read text = as_read text (reading text) (record read { lines = read.lines + 1 })
 
+-- What is read with more texts, the first first.
 abbrev pub with_texts : Read → List Text → Read
 with_texts read [] = read
 with_texts read (text ∷ texts) = with_texts (with_text read text) texts
 
+-- All answers, once the last plan ends too.
 abbrev pub all_answers : Read → Text
 all_answers read = read.answers ++ plan_answer read.plan
 
@@ -345,9 +375,11 @@ answers bytes = all_answers (with_texts none_read (texts_of bytes))
 
 -- ---- what the program's values stand for
 
+-- Where a step was read, as the program keeps it.
 abbrev pub place_of : Mark → Place
 place_of mark = record { line = mark.line; text = mark.text.items }
 
+-- The plan that a draft of the program is.
 abbrev pub plan_of : Draft → Plan
 plan_of draft = record {
   is_begun = draft.is_begun;
@@ -362,6 +394,7 @@ plan_of draft = record {
 abbrev pub AreInFile : Draft → Type 0
 AreInFile draft = All (IsInFile draft.terms.words) draft.steps.items
 
+-- What is read, as the program keeps it.
 abbrev pub read_of : PlanFile → Read
 read_of file = record {
   plan = plan_of file.draft;

@@ -23,6 +23,7 @@ use Rattle.plans_text.specs.declared.line.Thing.TheVariants as things
 use Rattle.plans_text.specs.declared.line.Reading.{Reading}
 use Rattle.plans_text.specs.declared.line.Reading.TheVariants as readings
 
+-- A text, as its bytes.
 abbrev pub Text : Type 0
 Text = List ℕ
 
@@ -34,6 +35,7 @@ None >>= f = None
 
 -- ---- words
 
+-- Whether a byte is a space.
 abbrev pub is_space : ℕ → Bool
 is_space byte = nat_eq byte 32
 
@@ -68,15 +70,18 @@ at_end text read = elim (next_word text) [ None ↦ Some read | Some word ↦ No
 
 -- ---- numbers: one or two decimal digits
 
+-- Whether a byte is a decimal digit.
 abbrev pub is_digit : ℕ → Bool
 is_digit byte = is_in_range 48 57 byte
 
+-- The number that a word of one or two decimal digits spells.
 abbrev pub number_of : Text → Option ℕ
 number_of (d ∷ []) = if is_digit d then Some (d - 48) else None
 number_of (d ∷ e ∷ []) =
     if is_digit d then (if is_digit e then Some (10 * (d - 48) + (e - 48)) else None) else None
 number_of word = None
 
+-- The number that the next word spells, and the text behind it.
 unfoldable pub number_at : Text → Option (ℕ × Text)
 number_at text = do
   word ← next_word text
@@ -85,27 +90,32 @@ number_at text = do
 
 -- ---- names
 
+-- The set that a word names.
 abbrev pub bank_named : Text → Option Bank
 bank_named word =
     if bytes_eq word (codes "pending") then Some Pending
     else if bytes_eq word (codes "enabled") then Some Enabled else None
 
+-- The number that a word names.
 abbrev pub number_named : Text → Option Number
 number_named word =
     if bytes_eq word (codes "threshold") then Some Threshold
     else if bytes_eq word (codes "delivery") then Some Delivery else None
 
+-- The place that a word names.
 abbrev pub place_named : Text → Option Place
 place_named word =
     if bytes_eq word (codes "old") then Some Old
     else if bytes_eq word (codes "new") then Some New else None
 
+-- The spot that a word names: the old place, the hand or the new place.
 abbrev pub spot_named : Text → Option Spot
 spot_named word =
     if bytes_eq word (codes "old") then Some InOld
     else if bytes_eq word (codes "hand") then Some InHand
     else if bytes_eq word (codes "new") then Some InNew else None
 
+-- The kind of producer that a word names.
 abbrev pub kind_named : Text → Option Kind
 kind_named word =
     if bytes_eq word (codes "routed") then Some Routed
@@ -113,6 +123,7 @@ kind_named word =
 
 -- ---- what a step moves: a number, or a word of a set
 
+-- The word of a set that the next two words name, and the text behind them.
 unfoldable pub word_at : Text → Option (Thing × Text)
 word_at text = do
   word ← next_word text
@@ -120,38 +131,46 @@ word_at text = do
   number ← number_at word.1
   Some (things.Word bank number.0, number.1)
 
+-- The number, threshold or delivery, that the next word names, and the text behind it.
 unfoldable pub number_thing_at : Text → Option (Thing × Text)
 number_thing_at text = do
   word ← next_word text
   number ← number_named word.0
   Some (things.Number number, word.1)
 
+-- The number or the word of a set that a text names, and the text behind it.
 unfoldable pub thing_at : Text → Option (Thing × Text)
 thing_at text = elim (number_thing_at text) [ Some thing ↦ Some thing | None ↦ word_at text ]
 
+-- The step that zeroes such a thing in a place.
 abbrev pub zero_of : Place → Thing → Step
 zero_of place (things.Word bank word) = steps.Zero place bank word
 zero_of place (things.Number number) = steps.ZeroNumber place number
 
+-- The step that takes it from the old place.
 abbrev pub take_of : Thing → Step
 take_of (things.Word bank word) = steps.Take bank word
 take_of (things.Number number) = steps.TakeNumber number
 
+-- The step that puts it in the new place.
 abbrev pub put_of : Thing → Step
 put_of (things.Word bank word) = steps.Put bank word
 put_of (things.Number number) = steps.PutNumber number
 
+-- The step that joins it to the new place; a number is not joined.
 abbrev pub join_of : Thing → Option Step
 join_of (things.Word bank word) = Some (steps.Join bank word)
 join_of (things.Number number) = None
 
 -- ---- steps, by their names
 
+-- A step with a number, which a text has alone.
 unfoldable pub numbered_at : (ℕ → Step) → Text → Option Step
 numbered_at step text = do
   number ← number_at text
   at_end number.1 (step number.0)
 
+-- What follows `zero`: a place, and what is zeroed there.
 unfoldable pub zero_at : Text → Option Step
 zero_at text = do
   word ← next_word text
@@ -159,28 +178,33 @@ zero_at text = do
   thing ← thing_at word.1
   at_end thing.1 (zero_of place thing.0)
 
+-- What follows `take`.
 unfoldable pub take_at : Text → Option Step
 take_at text = do
   thing ← thing_at text
   at_end thing.1 (take_of thing.0)
 
+-- What follows `put`.
 unfoldable pub put_at : Text → Option Step
 put_at text = do
   thing ← thing_at text
   at_end thing.1 (put_of thing.0)
 
+-- What follows `join`.
 unfoldable pub join_at : Text → Option Step
 join_at text = do
   thing ← thing_at text
   step ← join_of thing.0
   at_end thing.1 step
 
+-- A step about routes, by its name and the text behind it.
 abbrev pub routing_named : Text → Text → Option Step
 routing_named name text =
     if bytes_eq name (codes "route") then numbered_at steps.Route text
     else if bytes_eq name (codes "fence") then numbered_at steps.Fence text
     else if bytes_eq name (codes "switch") then numbered_at steps.Switch text else None
 
+-- A step that moves something, likewise.
 abbrev pub moving_named : Text → Text → Option Step
 moving_named name text =
     if bytes_eq name (codes "zero") then zero_at text
@@ -188,6 +212,7 @@ moving_named name text =
     else if bytes_eq name (codes "join") then join_at text
     else if bytes_eq name (codes "put") then put_at text else None
 
+-- A step about notices, or `free`, likewise.
 abbrev pub telling_named : Text → Text → Option Step
 telling_named name text =
     if bytes_eq name (codes "look") then numbered_at steps.Look text
@@ -203,17 +228,20 @@ step_named name text =
 
 -- ---- declarations, by their names
 
+-- What follows `words`: how many words each set has.
 unfoldable pub words_at : Text → Option Line
 words_at text = do
   number ← number_at text
   at_end number.1 (lines.Words number.0)
 
+-- What follows `producer`: its kind.
 unfoldable pub producer_at : Text → Option Line
 producer_at text = do
   word ← next_word text
   kind ← kind_named word.0
   at_end word.1 (lines.Producer kind)
 
+-- What follows `numbers`: where they stand at first, and where in the end.
 unfoldable pub numbers_at : Text → Option Line
 numbers_at text = do
   first ← next_word text
@@ -222,6 +250,7 @@ numbers_at text = do
   to ← spot_named second.0
   at_end second.1 (lines.Numbers from to)
 
+-- A line that is one word, by that and the text behind it.
 abbrev pub flag_named : Text → Text → Option Line
 flag_named name text =
     if bytes_eq name (codes "plan") then at_end text lines.Plan
@@ -229,31 +258,36 @@ flag_named name text =
     else if bytes_eq name (codes "memory") then at_end text lines.Memory
     else if bytes_eq name (codes "heeds") then at_end text lines.Heeds else None
 
+-- A declaration, or the begin of a plan, by its name and the text behind it.
 abbrev pub declaration_named : Text → Text → Option Line
 declaration_named name text =
     if bytes_eq name (codes "words") then words_at text
     else if bytes_eq name (codes "producer") then producer_at text
     else if bytes_eq name (codes "numbers") then numbers_at text else flag_named name text
 
+-- A step as a line.
 abbrev pub step_line : Option Step → Option Line
 step_line None = None
 step_line (Some step) = Some (lines.Step step)
 
+-- The line that a name spells with the text behind it.
 abbrev pub line_named : Text → Text → Option Line
 line_named name text =
     or_else (declaration_named name text) (step_line (step_named name text))
 
 -- ---- a text
 
+-- What a text says that has a word: a line, or it is bad.
 abbrev pub line_or_bad : Option Line → Reading
 line_or_bad None = readings.Bad
 line_or_bad (Some line) = readings.Line line
 
+-- What a text says, by its first word and the text behind that.
 abbrev pub words_read : Option (Text × Text) → Reading
 words_read None = readings.Skip
 words_read (Some word) = line_or_bad (line_named word.0 word.1)
 
--- A text of no word says nothing; one that is too long is bad.
+-- What a text says: nothing, where it has no word; one that is too long is bad.
 unfoldable pub reading : Text → Reading
 reading text =
     if nat_le (length text) LINE_BYTES then words_read (next_word (before_comment text))
