@@ -252,7 +252,14 @@ impl Aplic {
         ensures none { IsFalse result → (past : Past) → AplicStands self.now past
             → IsFirst None past }
     {
-        self.root.genmsi_waits() || self.child.genmsi_waits() || self.has_ready()
+        self.genmsi_waits() || self.has_ready()
+    }
+
+    /// Tells whether an MSI that `genmsi` of either domain asked for waits.
+    fn genmsi_waits(&self) -> bool
+        ensures { result ≡ asks_by_genmsi self.now }
+    {
+        self.root.genmsi_waits() || self.child.genmsi_waits()
     }
 
     /// Sends the MSI that `next_msi` sends, and counts 32 steps at most, one for each look at 64

@@ -1,5 +1,5 @@
 -- What is kept tells what waits first.
-use Rattle.std.proofs.Common.{◌≡◌, ℕ, zero, suc, ◌<◌, ◌≤◌, Bool, true, false, ◌&&◌, ◌↔◌, length, slice_get, get_or, Option, Some, None, IfSome, ◌⊎◌, inl, inr, refl, sym, ap, subst, ◌∙◌, arith}
+use Rattle.std.proofs.Common.{IsFalse, ◌||◌, ◌≡◌, ℕ, zero, suc, ◌<◌, ◌≤◌, Bool, true, false, ◌&&◌, ◌↔◌, length, slice_get, get_or, Option, Some, None, IfSome, ◌⊎◌, inl, inr, refl, sym, ap, subst, ◌∙◌, arith}
 use Rattle.std.specs.List.{Contains}
 use Rattle.std.proofs.lemmas.Bool.{cases_lt, and_parts, and_right}
 use Rattle.std.specs.Option.{option_map, option_map_or}
@@ -17,7 +17,7 @@ use Rattle.aia_model.specs.Sent.{forwards, all_senders, has_msi}
 use Rattle.aia_wiring.specs.Side.{source_of, DomainStands}
 use Rattle.aia_wiring.specs.Aplic.{AplicState, AplicStands, side}
 use Rattle.aia_wiring.specs.Bits.{IsFirstSource, source_sender}
-use Rattle.aia_wiring.specs.Sending.{IsFirst, does_wait}
+use Rattle.aia_wiring.specs.Sending.{IsFirst, does_wait, asks_by_genmsi}
 use Rattle.aia_wiring.proofs.Steps.{source-idle}
 use Rattle.aia_wiring.proofs.Reading.{mode-zero}
 use Rattle.aia_wiring.specs.Senders.{SendsBefore}
@@ -141,3 +141,30 @@ first_waits a (Some (Child, s)) first = first.0
 -- where no sender waits there is no first one
 pub none_is_first : (a : AplicState) (past : Past) → ((sender : Sender) → does_wait a sender ≡ false) → AplicStands a past → IsFirst None past
 none_is_first a past none stands = source_first a past None (none (ByGenMsi Root)) (none (ByGenMsi Child)) ((λ s. none (BySource Root s)), (λ s. none (BySource Child s))) stands
+
+-- ---- whether any sender waits
+
+neither : (x y : Bool) → (x || y) ≡ false → (x ≡ false) × (y ≡ false)
+neither false false none = (refl, refl)
+neither false true none = absurd (cc none)
+neither true y none = absurd (cc none)
+
+none_of_both : (x y : Bool) → x ≡ false → y ≡ false → (x || y) ≡ false
+none_of_both x y first second = rw (first, second) refl
+
+pub genmsi_does_wait : (a : AplicState) (r : Bool) → r ≡ asks_by_genmsi a → r ≡ true → IsFalse r ↔ ((sender : Sender) → does_wait a sender ≡ false)
+genmsi_does_wait a false busy e = absurd (cc e)
+genmsi_does_wait a true busy e = ((λ never. absurd (cc never)), (λ none. absurd (cc (busy, none_of_both a.root.domain.genmsi_waits a.child.domain.genmsi_waits (none (ByGenMsi Root)) (none (ByGenMsi Child))))))
+
+pub ready_does_wait : (a : AplicState) (r : Bool) → asks_by_genmsi a ≡ false → IsFalse r ↔ (((s : ℕ) → kept.is_ready a.root.domain s ≡ false) × ((s : ℕ) → kept.is_ready a.child.domain s ≡ false))
+    → IsFalse r ↔ ((sender : Sender) → does_wait a sender ≡ false)
+ready_does_wait a r idle ready = ((λ no. none (ready.0 no)), (λ waits. ready.1 ((λ s. waits (BySource Root s)), (λ s. waits (BySource Child s)))))
+  where
+    quiet : (a.root.domain.genmsi_waits ≡ false) × (a.child.domain.genmsi_waits ≡ false)
+    quiet = neither a.root.domain.genmsi_waits a.child.domain.genmsi_waits idle
+
+    none : ((s : ℕ) → kept.is_ready a.root.domain s ≡ false) × ((s : ℕ) → kept.is_ready a.child.domain s ≡ false) → (sender : Sender) → does_wait a sender ≡ false
+    none sources (ByGenMsi Root) = quiet.0
+    none sources (ByGenMsi Child) = quiet.1
+    none sources (BySource Root s) = sources.0 s
+    none sources (BySource Child s) = sources.1 s
