@@ -4,7 +4,7 @@ use Rattle.std.proofs.lemmas.List.{length-reverse}
 use Rattle.aia_waiting.specs.Order.{IsRising, put_in}
 use Rattle.aia_waiting.proofs.OrderLemmas.{put_length, put_rising}
 use Rattle.aia_waiting.proofs.FallingLemmas.{put_falling}
-use Rattle.aia_waiting.proofs.candidates.Candidates.put.Goals as goal
+use Rattle.aia_waiting.proofs.candidates.Candidates.put_within.Goals as goal
 
 put_is : (c : goal.In-Ok) → reverse c.insert.new.self.items ≡ put_in c.args.pair (reverse c.self.inside.falling.items)
 put_is c =

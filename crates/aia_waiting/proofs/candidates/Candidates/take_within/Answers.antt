@@ -3,8 +3,8 @@ use Rattle.std.specs.List.Sorted.{IsPartitionPoint}
 use Rattle.aia_source.specs.Top.{Pair}
 use Rattle.aia_waiting.specs.Order.{comes_before, is_pair, IsRising}
 use Rattle.aia_waiting.proofs.FallingLemmas.{removed_rises, out_falling, out_of_falling}
-use Rattle.aia_waiting.proofs.candidates.Candidates.take_out.Goals.{else-place-gt0-via-then-place-gt0+else-eq, else-place-gt0-via-else-place-gt0}
-use Rattle.aia_waiting.proofs.candidates.Candidates.take_out.Goals as goal
+use Rattle.aia_waiting.proofs.candidates.Candidates.take_within.Goals.{else-place-gt0-via-then-place-gt0+else-eq, else-place-gt0-via-else-place-gt0}
+use Rattle.aia_waiting.proofs.candidates.Candidates.take_within.Goals as goal
 
 pub invariant_of-self : goal.invariant_of-self
 invariant_of-self c = (
