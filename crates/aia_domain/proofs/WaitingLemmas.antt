@@ -9,7 +9,7 @@ use Rattle.aia_regs.specs.declared.limits.TheConstants.{SOURCES}
 use Rattle.aia_waiting.specs.Order.{CandidatesState, IsRising, ordered, put_if, out_if}
 use Rattle.aia_waiting.proofs.OrderedLemmas.{ordered-none, ordered-suc, ordered_same, ordered_changed, ordered_length, ordered_room, ordered_rising, ordered_all}
 use Rattle.aia_domain.specs.declared.interrupt_source.Aim.{Aim}
-use Rattle.aia_domain.specs.InterruptSource.{InterruptSourceState, new_source, EachAt, EachSource, changed_at, source_at, waits, waits_at, waiting_pair, waiting_pair_at, candidates_of}
+use Rattle.aia_domain.specs.InterruptSource.{InterruptSourceState, new_source, EachAt, EachSource, changed_at, wired, source_at, waits, waits_at, waiting_pair, waiting_pair_at, candidates_of}
 use Rattle.aia_domain.specs.Waiting.{SourcesState, WaitingState, IsWhatWaits, HasRoom, aim_of, aim_at, pair_of_aim, renewed, with_pair, AllHave, HaveRoom}
 use Rattle.aia_domain.specs.Domain.{IsPairOfSource}
 use Rattle.aia_domain.proofs.EachLemmas.{each-length}
@@ -97,6 +97,21 @@ keeps_same msi old new waiting s change each same keeps = record {
       | inl e ↦ waits_by_aim old t ∙ ap is_some (subst (λ i. aim_at old i ≡ aim_at new i) e same) ∙ sym (waits_by_aim new t)
       | inr ne ↦ waits_elsewhere old new s change each t ne
     ]
+
+disabled_aim : (x : InterruptSourceState) → x.enabled ≡ false → aim_of x ≡ None
+disabled_aim x off = cond-false _ _ _ (and_right _ _ off)
+
+-- a source that isn't enabled waits at no level of its wire
+pub wire_same : (msi level : Bool) (old new : List InterruptSourceState) (s : ℕ) → EachSource old new (changed_at s (wired msi level)) → (source_at old s).enabled ≡ false → aim_at old s ≡ aim_at new s
+wire_same msi level old new s each off = at (slice_get old s) (ap (λ x. x.enabled) (unwrap_or-slice_get old s new_source) ∙ off) ∙ ap (λ o. option_map_or aim_of o None) (sym (each s))
+  where
+    enabled : (b : Bool) (x : InterruptSourceState) → (cond b (wired msi level x) x).enabled ≡ x.enabled
+    enabled true x = refl
+    enabled false x = refl
+
+    at : (o : Option InterruptSourceState) → (unwrap_or o new_source).enabled ≡ false → option_map_or aim_of o None ≡ option_map_or aim_of (option_map (changed_at s (wired msi level) s) o) None
+    at None e = refl
+    at (Some x) e = disabled_aim x e ∙ sym (disabled_aim (changed_at s (wired msi level) s x) (enabled (nat_eq s s) x ∙ e))
 
 -- by MSIs its bit tells of it
 pub keeps_told : (old new : List InterruptSourceState) (waiting after : WaitingState) (s : ℕ) (change : InterruptSourceState → InterruptSourceState) → EachSource old new (changed_at s change) → after.fronts ≡ waiting.fronts → ((t : ℕ) → is_in after.ready t ≡ cond (nat_eq s t) (is_some (aim_at new s)) (is_in waiting.ready t)) → IsWhatWaits true old waiting → IsWhatWaits true new after

@@ -3,7 +3,7 @@
 
 ghost use Rattle.std.specs.Prelude.{◌≡◌, ◌*◌, ◌≤◌, Bool, nat_eq, slice_get, length, All, IfOk, if◌then◌else◌};
 ghost use Rattle.aia_word.specs.Sets.{word_of};
-ghost use Rattle.aia_domain.specs.InterruptSource.{EachSource, new_source, changed_at, changed_by, all_switched, switched, sourcecfg_at, is_active_at, target_at, bit_at_source, waits_at};
+ghost use Rattle.aia_domain.specs.InterruptSource.{EachSource, new_source, changed_at, changed_by, all_switched, switched, sourcecfg_at, is_active_at, target_at, source_at, bit_at_source, waits_at};
 ghost use Rattle.aia_domain.specs.Waiting.{aim_at};
 
 use crate::interrupt_source::{Aim, Change, InterruptSource, SourceBit};
@@ -25,6 +25,7 @@ pub(crate) fn new_sources(alloc: Global, count: u32) -> Result<Vec<InterruptSour
 }
 
 /// Does a change to one source, where it is there.
+#[inline(always)]
 pub(crate) fn change_one(
     sources: &mut [InterruptSource],
     s: u64,
@@ -94,6 +95,13 @@ fn bit_of(sources: &[InterruptSource], s: u64, which: SourceBit) -> u32
     ensures small { result ≤ 1 }
 {
     u32::from(s < sources.len() as u64 && sources[s as usize].bit(which))
+}
+
+/// Tells the enable bit of a source, false where it isn't there.
+pub(crate) fn enabled_at(sources: &[InterruptSource], s: u64) -> bool
+    ensures { result ≡ (source_at sources.now s).enabled }
+{
+    s < sources.len() as u64 && sources[s as usize].enabled()
 }
 
 /// Tells where a source is aimed, where it waits; one that isn't there does not.

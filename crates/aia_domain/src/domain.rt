@@ -167,7 +167,7 @@ impl Domain {
             (changed_at s (wired self.old.msi level)) }
         ensures domain { self.new ≡ with_sources self.old self.new.sources }
     {
-        self.sources.change(u64::from(s), Change::Wire(level));
+        self.sources.wire(u64::from(s), level);
     }
 
     /// Gets a source that the root domain delegates to this one, its child: where that is new, the

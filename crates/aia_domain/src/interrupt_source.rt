@@ -151,6 +151,7 @@ impl InterruptSource {
     }
 
     /// Does a change to it.
+    #[inline(always)]
     pub(crate) fn change(&mut self, change: Change, leaf: bool, harts: u32, msi: bool)
         ensures { self.new ≡ changed_by change leaf harts msi self.old }
     {

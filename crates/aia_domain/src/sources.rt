@@ -5,12 +5,12 @@ ghost use Rattle.std.specs.Prelude.{◌≡◌, ℕ, suc, ◌*◌, ◌<◌, ◌�
 ghost use Rattle.aia_word.specs.Sets.{word_of};
 ghost use Rattle.aia_regs.specs.declared.limits.TheConstants.{HARTS, SOURCES, SOURCE_WORDS};
 ghost use Rattle.aia_source.specs.Registers.{in_word, touch_where};
-ghost use Rattle.aia_domain.specs.InterruptSource.{EachSource, changed_at, changed_if_named, changed_by, touched, all_switched, waits_at, candidates_of};
+ghost use Rattle.aia_domain.specs.InterruptSource.{EachSource, changed_at, changed_if_named, changed_by, wired, touched, all_switched, source_at, waits_at, candidates_of};
 ghost use Rattle.aia_domain.specs.Waiting.{IsNewSources, IsWhatWaits};
 ghost use Rattle.aia_domain.specs.Domain.{IsPairOfSource};
 ghost use Rattle.aia_waiting.specs.Order.{IsRising};
 
-use crate::by_number::{aim_at, change_one, new_sources, switch_all};
+use crate::by_number::{aim_at, change_one, enabled_at, new_sources, switch_all};
 use crate::interrupt_source::{Aim, Change, InterruptSource};
 use crate::waiting::Waiting;
 use aia_regs::bit;
@@ -172,7 +172,44 @@ impl Sources {
         self.waiting.has_waiting()
     }
 
+    /// Gives the wire of a source a level, where it is there.
+    #[inline(always)]
+    pub(crate) fn wire(&mut self, s: u64, level: bool)
+        ensures sources { EachSource self.old.sources self.new.sources
+            (changed_at s (wired self.old.msi level)) }
+        ensures others { self.new ≡ record self.old { sources = self.new.sources } }
+    {
+        if enabled_at(&self.sources, s) {
+            self.wire_enabled(s, level);
+        } else {
+            self.wire_disabled(s, level);
+        }
+    }
+
+    /// Gives the wire of a source a level, where it is there. It stands apart from `wire`, so that
+    /// the wire of one that isn't enabled, as of each that the other domain has, costs little.
+    #[inline(never)]
+    fn wire_enabled(&mut self, s: u64, level: bool)
+        ensures sources { EachSource self.old.sources self.new.sources
+            (changed_at s (wired self.old.msi level)) }
+        ensures others { self.new ≡ record self.old { sources = self.new.sources } }
+    {
+        self.change(s, Change::Wire(level));
+    }
+
+    /// Gives the wire of a source that isn't enabled a level, where it is there.
+    fn wire_disabled(&mut self, s: u64, level: bool)
+        requires { (source_at self.old.sources s).enabled ≡ false }
+        ensures sources { EachSource self.old.sources self.new.sources
+            (changed_at s (wired self.old.msi level)) }
+        ensures others { self.new ≡ record self.old { sources = self.new.sources } }
+    {
+        let (leaf, harts, msi) = (self.leaf, self.harts, self.msi);
+        wire_one_disabled(&mut self.sources, &self.waiting, s, level, leaf, harts, msi);
+    }
+
     /// Does a change to one source, where it is there.
+    #[inline(always)]
     pub(crate) fn change(&mut self, s: u64, change: Change)
         ensures sources { EachSource self.old.sources self.new.sources
             (changed_at s (changed_by change self.old.leaf self.old.harts self.old.msi)) }
@@ -191,7 +228,27 @@ impl Sources {
     }
 }
 
+/// Gives the wire of a source that isn't enabled a level, where it is there. The source waits
+/// neither before nor after, so what waits stays.
+fn wire_one_disabled(
+    sources: &mut [InterruptSource],
+    waiting: &Waiting,
+    s: u64,
+    level: bool,
+    leaf: bool,
+    harts: u32,
+    msi: bool,
+)
+    requires disabled { (source_at sources.old s).enabled ≡ false }
+    requires keeps { IsWhatWaits msi sources.old waiting.now }
+    ensures sources { EachSource sources.old sources.new (changed_at s (wired msi level)) }
+    ensures keeps { IsWhatWaits msi sources.new waiting.now }
+{
+    change_one(sources, s, Change::Wire(level), leaf, harts, msi);
+}
+
 /// Does a change to one source, where it is there, and keeps what waits.
+#[inline(always)]
 fn change_with_waiting(
     sources: &mut [InterruptSource],
     waiting: &mut Waiting,

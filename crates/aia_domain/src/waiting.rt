@@ -78,16 +78,21 @@ impl Waiting {
     }
 
     /// Has a source that was aimed so be aimed otherwise, in direct delivery.
+    #[inline(never)]
     pub(crate) fn renew(&mut self, s: u32, stood: Option<Aim>, stands: Option<Aim>)
         requires room { HasRoom s stood stands self.old.fronts }
         ensures fronts { EachAt self.old.fronts self.new.fronts (renewed s stood stands) }
         ensures ready { self.new.ready ≡ self.old.ready }
     {
-        take_from(&mut self.fronts, s, stood);
-        put_into(&mut self.fronts, s, stands);
+        match (stood, stands) {
+            (None, _) => put_into(&mut self.fronts, s, stands),
+            (_, None) => take_from(&mut self.fronts, s, stood),
+            _ => move_pair(&mut self.fronts, s, stood, stands),
+        }
     }
 
     /// Notes by MSIs whether a source waits.
+    #[inline(never)]
     pub(crate) fn tell(&mut self, s: u32, waits: bool)
         requires { s ≤ SOURCES }
         ensures ready { (t : ℕ) → is_in self.new.ready t
@@ -98,7 +103,18 @@ impl Waiting {
     }
 }
 
+/// Has the pair of a source stand where the source is aimed now.
+#[inline(never)]
+fn move_pair(fronts: &mut [Candidates], s: u32, stood: Option<Aim>, stands: Option<Aim>)
+    requires room { HasRoom s stood stands fronts.old }
+    ensures { EachAt fronts.old fronts.new (renewed s stood stands) }
+{
+    take_from(fronts, s, stood);
+    put_into(fronts, s, stands);
+}
+
 /// Takes the pair of a source out of the list of the hart that it was aimed at.
+#[inline(always)]
 fn take_from(fronts: &mut [Candidates], s: u32, aim: Option<Aim>)
     ensures { EachAt fronts.old fronts.new (λ hart. without_pair (pair_of_aim hart s aim)) }
 {
@@ -111,6 +127,7 @@ fn take_from(fronts: &mut [Candidates], s: u32, aim: Option<Aim>)
 }
 
 /// Puts the pair of a source into the list of the hart that it is aimed at.
+#[inline(always)]
 fn put_into(fronts: &mut [Candidates], s: u32, aim: Option<Aim>)
     requires room { (hart : ℕ) (x : CandidatesState) → slice_get fronts.old hart ≡ Some x
         → is_some (pair_of_aim hart s aim) ≡ true → length x.pairs < x.room }

@@ -1,5 +1,6 @@
 -- Pairs that are kept in falling order: where one stands, with one more, and without one.
-use Rattle.std.proofs.Common.{◌≡◌, ℕ, zero, suc, ◌-◌, ◌<◌, ◌≤◌, true, false, not, List, [], ◌∷◌, ◌++◌, length, take, drop, get_or, slice_get, reverse, Some, None, refl, sym, ap, subst, ◌∙◌, append_assoc, inl, inr, arith}
+use Rattle.std.proofs.Common.{◌≡◌, ℕ, zero, suc, ◌-◌, ◌<◌, ◌≤◌, true, false, not, List, [], ◌∷◌, ◌++◌, length, take, drop, get_or, slice_get, reverse, Option, Some, None, refl, sym, ap, subst, ◌∙◌, append_assoc, inl, inr, arith}
+use Rattle.std.specs.Option.{option_to_list, IsSome}
 use Rattle.std.specs.List.{insert, remove}
 use Rattle.std.specs.List.Sorted.{IsPartitionPoint, IsPartitionedBy}
 use Rattle.std.proofs.lemmas.Bool.{cases_lt, not-true, not-false}
@@ -96,3 +97,13 @@ falling_at xs place x within is = ap Some (is ∙ sym (get_or-reverse xs place x
 
 pub falling_past : (xs : List Pair) (place : ℕ) → length xs ≤ place → None ≡ slice_get (reverse xs) place
 falling_past xs place past = sym (slice_get_past (reverse xs) place (omega (arith, length-reverse xs)))
+
+-- the first pair stands at the end
+pub pushed_first : (p : Pair) (xs : List Pair) → reverse (xs ++ p ∷ []) ≡ p ∷ reverse xs
+pushed_first p xs = reverse-append xs (p ∷ [])
+
+pub popped_first : (xs rest : List Pair) (last : Option Pair) → xs ≡ rest ++ option_to_list last → (0 < length xs → IsSome last) → reverse rest ≡ drop 1 (reverse xs)
+popped_first [] [] None is some = refl
+popped_first [] (x ∷ rest) None is some = absurd cc
+popped_first (x ∷ xs) rest None is some = absurd (let it = some (omega arith) in cc)
+popped_first xs rest (Some p) is some = sym (ap (λ ys. drop 1 (reverse ys)) is ∙ ap (drop 1) (pushed_first p rest))

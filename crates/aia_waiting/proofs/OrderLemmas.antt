@@ -1,8 +1,9 @@
 -- Lists of pairs in rising order: where a pair stands, with one more, and without one.
-use Rattle.std.proofs.Common.{◌≡◌, ℕ, zero, suc, ◌<◌, ◌≤◌, Bool, true, false, cond, nat_eq, nat_lt, ◌&&◌, List, [], ◌∷◌, length, get_or, ◌⊎◌, inl, inr, refl, sym, ap, subst, ◌∙◌, arith}
+use Rattle.std.proofs.Common.{◌≡◌, ℕ, zero, suc, ◌<◌, ◌≤◌, Bool, true, false, cond, nat_eq, nat_lt, ◌&&◌, List, [], ◌∷◌, length, drop, get_or, slice_get, not, ◌⊎◌, inl, inr, refl, sym, ap, subst, ◌∙◌, arith}
 use Rattle.std.specs.List.{All, insert, remove}
+use Rattle.std.specs.Option.{option_map_or}
 use Rattle.std.specs.List.Sorted.{IsPartitionPoint, IsPartitionedBy}
-use Rattle.std.proofs.lemmas.Bool.{cond-true, cond-false, cases_lt, ltb-true, ltb-false, eqb-true, lt-ltb, le-ltb, eq-eqb, ne_eqb, and_parts, and_from, and_left, and_right, or_cases, or_parts, or_from, or_left, or_right}
+use Rattle.std.proofs.lemmas.Bool.{not-true, cond-true, cond-false, cases_lt, ltb-true, ltb-false, eqb-true, lt-ltb, le-ltb, eq-eqb, ne_eqb, and_parts, and_from, and_left, and_right, or_cases, or_parts, or_from, or_left, or_right}
 use Rattle.std.proofs.lemmas.List.Kept.{AllPairs-cons}
 use Rattle.std.proofs.lemmas.List.Elements.{All-cons}
 use Rattle.aia_source.specs.Top.{Pair, ComesFirst}
@@ -174,3 +175,17 @@ put_rising p (q ∷ qs) rising = at (comes_before q p) refl (put_rising p qs (ri
     at true is rest =
         AllPairs-cons (λ p q. comes_before q p ≡ false) q (put_in p qs) (put_all (λ r. comes_before r q ≡ false) p qs (not_before_is p q (before_comes_first q p (is_before q p is))) (head_all q qs rising)) rest
     at false is rest = AllPairs-cons (λ p q. comes_before q p ≡ false) p (q ∷ qs) (All-cons (λ r. comes_before r p ≡ false) q qs is (after is)) rising
+
+-- ---- the first pair
+
+pub put_ahead : (p : Pair) (xs : List Pair) → option_map_or (λ q. not (comes_before q p)) (slice_get xs 0) true ≡ true → put_in p xs ≡ p ∷ xs
+put_ahead p [] ahead = refl
+put_ahead p (x ∷ xs) ahead = cond-false _ _ _ (not-true _ ahead)
+
+pub first_out : (p : Pair) (xs : List Pair) → option_map_or (is_pair p) (slice_get xs 0) false ≡ true → drop 1 xs ≡ taken_out p xs
+first_out p [] first = refl
+first_out p (x ∷ xs) first = sym (cond-true _ _ _ first)
+
+pub rising_rest : (xs : List Pair) → IsRising xs → IsRising (drop 1 xs)
+rising_rest [] rising = rising
+rising_rest (x ∷ xs) rising = rising_tail x xs rising

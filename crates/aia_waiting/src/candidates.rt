@@ -1,4 +1,5 @@
-ghost use Rattle.std.specs.Prelude.{◌≡◌, ◌<◌, ◌≤◌, [], length, reverse, not, slice_get, true, false, IfOk};
+ghost use Rattle.std.specs.Prelude.{◌≡◌, ◌<◌, ◌≤◌, [], ◌∷◌, length, reverse, drop, not, slice_get, true, false, IfOk};
+ghost use Rattle.std.specs.Option.{option_map_or};
 ghost use Rattle.std.specs.List.Sorted.{IsPartitionPoint};
 ghost use Rattle.aia_waiting.specs.Order.{comes_before, IsRising, is_pair, put_in, taken_out};
 
@@ -53,7 +54,53 @@ impl Candidates {
     }
 
     /// Puts a pair at its place, behind those that come before it. There is room for it.
+    #[inline(always)]
     pub fn put(&mut self, pair: (u32, u32))
+        requires room { length self.old.pairs < self.old.room }
+        ensures { self.new ≡ record self.old { pairs = put_in pair self.old.pairs } }
+    {
+        if self.goes_first(pair) {
+            self.put_first(pair);
+        } else {
+            self.put_within(pair);
+        }
+    }
+
+    /// Takes a pair out, where it stands there.
+    #[inline(always)]
+    pub fn take_out(&mut self, pair: (u32, u32))
+        ensures { self.new ≡ record self.old { pairs = taken_out pair self.old.pairs } }
+    {
+        if self.is_first(pair) {
+            self.take_first();
+        } else {
+            self.take_within(pair);
+        }
+    }
+
+    /// Tells whether a pair's place is ahead of all others.
+    fn goes_first(&self, pair: (u32, u32)) -> bool
+        ensures { result
+            ≡ option_map_or (λ q. not (comes_before q pair)) (slice_get self.now.pairs 0) true }
+    {
+        match self.at(0) {
+            Some(first) => !comes_before(first, pair),
+            None => true,
+        }
+    }
+
+    /// Puts a pair whose place is ahead of all others.
+    fn put_first(&mut self, pair: (u32, u32))
+        requires room { length self.old.pairs < self.old.room }
+        requires first { put_in pair self.old.pairs ≡ pair ∷ self.old.pairs }
+        ensures { self.new ≡ record self.old { pairs = pair ∷ self.old.pairs } }
+    {
+        self.falling.push_reserved(pair);
+    }
+
+    /// Puts a pair at its place, which is looked for.
+    #[inline(never)]
+    fn put_within(&mut self, pair: (u32, u32))
         requires room { length self.old.pairs < self.old.room }
         ensures { self.new ≡ record self.old { pairs = put_in pair self.old.pairs } }
     {
@@ -64,8 +111,26 @@ impl Candidates {
         }
     }
 
-    /// Takes a pair out, where it stands there.
-    pub fn take_out(&mut self, pair: (u32, u32))
+    /// Tells whether a pair stands ahead of all others.
+    fn is_first(&self, pair: (u32, u32)) -> bool
+        ensures { result ≡ option_map_or (is_pair pair) (slice_get self.now.pairs 0) false }
+    {
+        match self.at(0) {
+            Some(first) => pair == first,
+            None => false,
+        }
+    }
+
+    /// Takes the first pair out, where there is one.
+    fn take_first(&mut self)
+        ensures { self.new ≡ record self.old { pairs = drop 1 self.old.pairs } }
+    {
+        let _pair = self.falling.pop();
+    }
+
+    /// Takes a pair out, which is looked for, where it stands there.
+    #[inline(never)]
+    fn take_within(&mut self, pair: (u32, u32))
         ensures { self.new ≡ record self.old { pairs = taken_out pair self.old.pairs } }
     {
         let place = place_of(&self.falling, pair);

@@ -1,24 +1,9 @@
-use Rattle.std.proofs.Common.{◌≡◌, ◌<◌, length, reverse, sym, ap, subst, ◌∙◌, rules, arith}
-use Rattle.std.specs.List.{insert}
-use Rattle.std.proofs.lemmas.List.{length-reverse}
-use Rattle.aia_waiting.specs.Order.{IsRising, put_in}
-use Rattle.aia_waiting.proofs.OrderLemmas.{put_length, put_rising}
-use Rattle.aia_waiting.proofs.FallingLemmas.{put_falling}
+use Rattle.std.proofs.Common.{sym, ◌∙◌, rules}
+use Rattle.aia_waiting.proofs.OrderLemmas.{put_ahead}
 use Rattle.aia_waiting.proofs.candidates.Candidates.put.Goals as goal
 
-put_is : (c : goal.In-Ok) → reverse c.insert.new.self.items ≡ put_in c.args.pair (reverse c.self.inside.falling.items)
-put_is c =
-    ap reverse (c.in-Ok.ensures.items ∙ ap (λ xs. insert xs c.place_of-place.result c.args.pair) (sym c.deref.ensures.value))
-    ∙ put_falling c.args.pair c.deref.result.now c.place_of-place.result c.place_of-place.ensures.within c.place_of-place.ensures.point ∙ ap (λ xs. put_in c.args.pair (reverse xs)) c.deref.ensures.value
+pub put_first-requires : goal.put_first-requires
+put_first-requires c = record { room = c.requires.room; first = put_ahead c.args.pair c.args.self.now.pairs (sym c.goes_first.ensures ∙ c.if-goes_first.true) }
 
-pub invariant_of-self : goal.invariant_of-self
-invariant_of-self c =
-    let longer = ap length (put_is c) ∙ put_length c.args.pair (reverse c.self.inside.falling.items) in
-    let room : length (reverse c.self.inside.falling.items) < c.self.inside.room = subst (λ v. length v.pairs < v.room) (sym c.self.view_is) c.requires.room in (
-      omega (arith, c.in-Ok.ensures.capacity),
-      omega (arith, longer, room, length-reverse c.insert.new.self.items),
-      subst IsRising (sym (put_is c)) (put_rising c.args.pair (reverse c.self.inside.falling.items) c.self.invariant.2),
-    )
-
-pub returns : goal.returns
-returns c = search (rules, put_is c)
+pub returns-then-goes_first : goal.returns-then-goes_first
+returns-then-goes_first c = search (rules, put_ahead c.args.pair c.args.self.now.pairs (sym c.goes_first.ensures ∙ c.if-goes_first.true))
