@@ -224,7 +224,8 @@ fn carry_on(vcpus: &mut Vec<VcpuRecord>, slot: u32, fabric: &mut Fabric) -> bool
     requires knows { (plan : Plan)
         → (slice_index_or vcpus.old.items slot no_record).stay ≡ Stay.Moving plan
         → MoveFits fabric.old (moving_of plan) × IsInPhase (width fabric.old) plan }
-    ensures makes { StaysInPlace result fabric.old (slice_index_or vcpus.old.items slot no_record).stay
+    ensures makes { StaysInPlace result
+        fabric.old (slice_index_or vcpus.old.items slot no_record).stay
         fabric.new (slice_index_or vcpus.new.items slot no_record).stay }
     ensures rest { vcpus.new.items ≡ slice_set vcpus.old.items slot
         (record (slice_index_or vcpus.old.items slot no_record) {
