@@ -6,7 +6,8 @@ ghost use Rattle.aia_pool.specs.Leases.{Leases};
 ghost use Rattle.aia_model.specs.declared.line.Line.TheVariants.{Step};
 ghost use Rattle.aia_model.specs.declared.line.Line.TheVariants as lines;
 ghost use Rattle.aia_model.specs.declared.answer.Answer.TheVariants.{Okay};
-ghost use Rattle.aia_move.specs.Plan.{moving_of};
+ghost use Rattle.aia_move.specs.Plan.{moving_of, IsInPhase};
+ghost use Rattle.aia_moving.specs.Move.{MoveFits, width};
 ghost use Rattle.aia_model.specs.Event.{History};
 ghost use Rattle.aia_model.specs.Event.Event.{Stepped};
 ghost use Rattle.aia_model.specs.Aim.{aimed_by};
@@ -15,11 +16,11 @@ ghost use Rattle.aia_standing.specs.Core.{no_kept, no_record, record_of, home_in
 ghost use Rattle.aia_standing.specs.Passes.{own_passes, AimsBy};
 ghost use Rattle.aia_standing.specs.Stands.{CoreStands, CoreTakes, answer_by};
 ghost use Rattle.aia_world.specs.Found.{IsFound};
-ghost use Rattle.aia_standing.specs.Moves.{UnlessRefused, WholeAims, step_answer, MakesOne, WantBegins, LeaveBegins, ArriveBegins, ShiftBegins, MoveBegins, MoveGoes, stay_after, back_of, with_back, IsOutThere, stay_then, back_then, is_finished};
+ghost use Rattle.aia_standing.specs.Moves.{UnlessRefused, WholeAims, step_answer, MakesOne, WantBegins, LeaveBegins, ArriveBegins, ShiftBegins, MoveBegins, MoveGoes, StaysInPlace, MoveInPlace, stay_after, back_of, with_back, IsOutThere, stay_then, back_then, is_finished};
 
 use crate::hypervisor_core::Core;
 use crate::passes::Passes;
-use aia_fabric::Found;
+use aia_fabric::{Fabric, Found};
 use aia_model::{Refusal, Want};
 use aia_move::{KeptNumbers, Next, Outcome, Plan, Targets, Who};
 use aia_pool::Pool;
@@ -133,6 +134,41 @@ impl Core {
         ensures found { IsFound self.new.world found }
         ensures harts { self.new.world.imsic.harts ≡ (T.map targets.new).harts }
     {
+        if self.step_in_place(found) {
+            return false;
+        }
+        self.step_out(found, targets)
+    }
+
+    /// Makes such a step in place, in the record of the virtual hart, where its plan makes one so;
+    /// tells whether it made one, which is no aim and not the last step.
+    fn step_in_place(&mut self, found: Found) -> bool
+        requires found { IsFound self.old.world found }
+        requires moving { is_moving (home_in (record_of self.old (vcpu found.vm found.number)).stay)
+            ≡ true }
+        ensures makes { MoveInPlace self.old self.new (vcpu found.vm found.number) result }
+        ensures found { IsFound self.new.world found }
+        ensures harts { self.new.world.imsic.harts ≡ self.old.world.imsic.harts }
+    {
+        let _whole = self.fabric.words();
+        let made = carry_on(&mut self.vcpus, found.slot, &mut self.fabric);
+        let _whole = self.fabric.words();
+        made
+    }
+
+    /// Makes such a step with the plan out of its record, where it may come to another phase.
+    fn step_out<T: Targets>(&mut self, found: Found, targets: &mut T) -> bool
+        requires found { IsFound self.old.world found }
+        requires moving { is_moving (home_in (record_of self.old (vcpu found.vm found.number)).stay)
+            ≡ true }
+        requires harts { self.old.world.imsic.harts ≡ (T.map targets.old).harts }
+        ensures goes { MoveGoes self.old self.new (vcpu found.vm found.number) result }
+        ensures aims { (h : History) → CoreStands self.old h
+            → AimsBy T.aimed (aimed_by h (Stepped (vcpu found.vm found.number))) targets.old
+            targets.new }
+        ensures found { IsFound self.new.world found }
+        ensures harts { self.new.world.imsic.harts ≡ (T.map targets.new).harts }
+    {
         let _whole = self.fabric.words();
         let _few = self.passes.count();
         let Stay::Moving(plan) = swap_stay(&mut self.vcpus, found.slot, nowhere()) else {
@@ -179,6 +215,28 @@ fn swap_stay(vcpus: &mut Vec<VcpuRecord>, slot: u32, stay: Stay) -> Stay
     ensures room { vec_capacity vcpus.new ≡ vec_capacity vcpus.old }
 {
     std::mem::replace(&mut vcpus[slot as usize].stay, stay)
+}
+
+/// Makes the next step of the move of a virtual hart in its record, where its plan makes one in
+/// place, and tells whether it made one.
+fn carry_on(vcpus: &mut Vec<VcpuRecord>, slot: u32, fabric: &mut Fabric) -> bool
+    requires low { slot < length vcpus.old.items }
+    requires knows { (plan : Plan)
+        → (slice_index_or vcpus.old.items slot no_record).stay ≡ Stay.Moving plan
+        → MoveFits fabric.old (moving_of plan) × IsInPhase (width fabric.old) plan }
+    ensures makes { StaysInPlace result
+        fabric.old (slice_index_or vcpus.old.items slot no_record).stay
+        fabric.new (slice_index_or vcpus.new.items slot no_record).stay }
+    ensures rest { vcpus.new.items ≡ slice_set vcpus.old.items slot
+        (record (slice_index_or vcpus.old.items slot no_record) {
+          stay = (slice_index_or vcpus.new.items slot no_record).stay;
+        }) }
+    ensures room { vec_capacity vcpus.new ≡ vec_capacity vcpus.old }
+{
+    match &mut vcpus[slot as usize].stay {
+        Stay::Moving(plan) => plan.step_in_place(fabric),
+        Stay::Parked(_) | Stay::Entered(_) | Stay::Resident(_) => false,
+    }
 }
 
 /// Begins the move that is wanted of a virtual hart, and tells where the virtual hart is then.

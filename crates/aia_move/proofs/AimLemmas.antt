@@ -1,10 +1,10 @@
 -- The steps that aim passed sources: which phases they are in, and what they leave.
-use Rattle.std.proofs.Common.{◌≡◌, ◌≢◌, ℕ, ◌<◌, ◌≤◌, true, false, ◌&&◌, nat_lt, refl, sym, ap, ◌∙◌, subst, arith}
+use Rattle.std.proofs.Common.{◌≡◌, ◌≢◌, ℕ, ◌+◌, ◌<◌, ◌≤◌, true, false, ◌&&◌, nat_lt, refl, sym, ap, ◌∙◌, subst, arith}
 use Rattle.std.proofs.lemmas.Bool.{eq-eqb, ne_eqb}
 use Rattle.aia_home.specs.Home.{Home, Progress, is_moving, one_more}
 use Rattle.aia_home.specs.Home.Home.{Leaving, Arriving, Shifting}
 use Rattle.aia_home.specs.Plans.{Access, steps_done, is_carried}
-use Rattle.aia_home.specs.Phases.{Phase, begins}
+use Rattle.aia_home.specs.Phases.{Phase, following, begins}
 use Rattle.aia_home.specs.Phases.Phase.{FirstPhase, ClosingPhase, DrainPhase, EnablePhase, LookPhase, LastPhase}
 use Rattle.aia_home.specs.BySteps.{own_file, next_file}
 use Rattle.aia_home.specs.Aims.{aims_done, is_aiming, aimed}
@@ -131,6 +131,10 @@ still_moves there moves = moves
 begins_still : (w u : World) (m t : Moving) (phase : Phase) → GoesOn w m u t → begins (width u) t.home phase ≡ begins (width w) m.home phase
 begins_still w u m t phase goes = ap (λ n. begins n t.home phase) goes.width ∙ ap (λ h. begins (width w) h phase) goes.goes.home ∙ begins_on (width w) m.home phase
 
+-- a step that is not the last one of its phase
+pub still_in : (phase : Phase) (w u : World) (m t : Moving) → IsIn phase (width w) m → GoesOn w m u t → steps_done m.home + 1 < begins (width w) m.home (following phase) → IsIn phase (width u) t
+still_in phase w u m t is goes more = (omega (arith, begins_still w u m t phase goes, goes.steps, is), omega (arith, begins_still w u m t (following phase) goes, goes.steps, more))
+
 pub closed_phase : (w u : World) (m t : Moving) (past : ℕ) (next : Closed Moving Moving) → is_moving m.home ≡ true → 1 ≤ width w → IsIn ClosingPhase (width w) m → GoesOn w m u t
     → past ≡ begins (width w) m.home DrainPhase → past ≤ steps_done t.home → MatchClosed next (λ x. (x ≡ t) × (has_unaimed x ≡ true)) (λ x. (x ≡ t) × (has_unaimed x ≡ false))
     → MatchClosed next IsAtAims (IsInDrain (width u))
@@ -155,3 +159,9 @@ drain_turned w u m t past (Stay x) is goes r turned = record {
   aimed = subst (λ y. aims y ≡ false) (sym r.0) (none_aims (width u) _ t.home (λ moves e. omega (arith, e, begins_still w u m t DrainPhase goes, goes.steps, is)));
 }
 drain_turned w u m t past (On x) is goes r turned = turned
+
+pub still_drains : (w u : World) (m t : Moving) → IsIn DrainPhase (width w) m → GoesOn w m u t → steps_done m.home + 1 < begins (width w) m.home EnablePhase → IsInDrain (width u) t
+still_drains w u m t is goes more = record {
+  phase = still_in DrainPhase w u m t is goes more;
+  aimed = none_aims (width u) _ t.home (λ moves e. omega (arith, e, begins_still w u m t DrainPhase goes, goes.steps, is));
+}

@@ -1,16 +1,18 @@
 -- A move in any of its phases, and what a step makes of it.
-use Rattle.std.specs.Prelude.{◌≡◌, ℕ, Bool, true, false, Option, Some, None}
-use Rattle.aia_home.specs.Phases.Phase.{FirstPhase, ClosingPhase, EnablePhase, LookPhase, LastPhase}
+use Rattle.std.specs.Prelude.{◌≡◌, ℕ, ◌+◌, Bool, true, false, Option, Some, None}
+use Rattle.aia_home.specs.Plans.{steps_done}
+use Rattle.aia_home.specs.Phases.{Phase, following, begins}
+use Rattle.aia_home.specs.Phases.Phase.{FirstPhase, ClosingPhase, DrainPhase, EnablePhase, LookPhase, LastPhase}
 use Rattle.aia_move.specs.declared.plan.Plan.{Plan}
 use Rattle.aia_move.specs.declared.plan.Plan.TheVariants.{LeaveFirst, LeaveClosing, LeaveAim, LeaveDrain, LeaveEnable, LeaveLook, LeaveLast, ArriveFirst, ArriveClosing, ArriveAim, ArriveDrain, ArriveEnable, ArriveLast, ShiftFirst, ShiftClosing, ShiftAim, ShiftDrain, ShiftEnable, ShiftLast}
 use Rattle.aia_move.specs.declared.plan.Next.{Next}
 use Rattle.aia_move.specs.declared.plan.Next.TheVariants.{Again, Finished}
 use Rattle.aia_moving.specs.declared.turn.Outcome.{Outcome}
 use Rattle.aia_world.specs.World.{World}
-use Rattle.aia_moving.specs.Move.{Moving, Goes}
-use Rattle.aia_moving.specs.Targets.{Aim, one_aimed}
+use Rattle.aia_moving.specs.Move.{Moving, width, MoveFits, Goes}
+use Rattle.aia_moving.specs.Targets.{Aim, next_aim, one_aimed}
 use Rattle.aia_moving.specs.Landings.{OnceLanded}
-use Rattle.aia_moving.specs.Turns.{IsIn, IsAtAims, IsInDrain, EndsAs}
+use Rattle.aia_moving.specs.Turns.{IsIn, IsAtAims, IsInDrain, GoesOn, EndsAs}
 
 -- The move.
 abbrev pub moving_of : Plan → Moving
@@ -80,3 +82,51 @@ StepsTo None w m u next = OnceLanded w m (λ landed. MatchNext next
     (λ p. Goes landed m u (moving_of p))
     (λ o. EndsAs landed m u o))
 StepsTo (Some aim) w m u next = MatchNext next (λ p. GoesAiming w m u (moving_of p)) (λ o. ⊥)
+
+-- ---- a step in place
+
+-- Its next step is the last one of a phase, of files of so many words.
+abbrev pub IsLastOf : Phase → ℕ → Moving → Type 0
+IsLastOf phase words m = steps_done m.home + 1 ≡ begins words m.home (following phase)
+
+-- What is made of a move where a step in place is made; where none is, nothing is changed, and the
+-- next step is the last one of the phase.
+abbrev pub GoesInPlace : Phase → Bool → World → Moving → World → Moving → Type 0
+GoesInPlace phase true w m u t = GoesOn w m u t
+GoesInPlace phase false w m u t = (u ≡ w) × (t ≡ m) × IsLastOf phase (width w) m
+
+-- The same of the first phase, where stores in flight may land before the step.
+abbrev pub LandsInPlace : Bool → World → Moving → World → Moving → Type 0
+LandsInPlace true w m u t = OnceLanded w m (λ landed. GoesOn landed m u t)
+LandsInPlace false w m u t = (u ≡ w) × (t ≡ m) × IsLastOf FirstPhase (width w) m
+
+-- The next step of a plan aims a passed source, or is the last one of its phase.
+abbrev pub EndsPhase : ℕ → Plan → Type 0
+EndsPhase words (LeaveFirst m) = IsLastOf FirstPhase words m
+EndsPhase words (LeaveClosing m) = IsLastOf ClosingPhase words m
+EndsPhase words (LeaveAim m) = IsAtAims m
+EndsPhase words (LeaveDrain m) = IsLastOf DrainPhase words m
+EndsPhase words (LeaveEnable m) = IsLastOf EnablePhase words m
+EndsPhase words (LeaveLook m) = IsLastOf LookPhase words m
+EndsPhase words (LeaveLast m) = IsLastOf LastPhase words m
+EndsPhase words (ArriveFirst m) = IsLastOf FirstPhase words m
+EndsPhase words (ArriveClosing m) = IsLastOf ClosingPhase words m
+EndsPhase words (ArriveAim m) = IsAtAims m
+EndsPhase words (ArriveDrain m) = IsLastOf DrainPhase words m
+EndsPhase words (ArriveEnable m) = IsLastOf EnablePhase words m
+EndsPhase words (ArriveLast m) = IsLastOf LastPhase words m
+EndsPhase words (ShiftFirst m) = IsLastOf FirstPhase words m
+EndsPhase words (ShiftClosing m) = IsLastOf ClosingPhase words m
+EndsPhase words (ShiftAim m) = IsAtAims m
+EndsPhase words (ShiftDrain m) = IsLastOf DrainPhase words m
+EndsPhase words (ShiftEnable m) = IsLastOf EnablePhase words m
+EndsPhase words (ShiftLast m) = IsLastOf LastPhase words m
+
+-- Of a plan: where a step is made in place it is the next one, an access, and the one after it can
+-- be made; where none is, nothing is changed.
+abbrev pub StepsInPlace : Bool → World → Plan → World → Plan → Type 0
+StepsInPlace true w plan u later = (next_aim (moving_of plan) ≡ None)
+    × StepsTo None w (moving_of plan) u (Again later)
+    × MoveFits u (moving_of later)
+    × IsInPhase (width u) later
+StepsInPlace false w plan u later = (u ≡ w) × (later ≡ plan) × EndsPhase (width w) plan

@@ -8,6 +8,7 @@ ghost use Rattle.aia_home.specs.BySteps.{is_leaving};
 ghost use Rattle.aia_moving.specs.Move.{MoveFits, Ends, old_spot, width};
 ghost use Rattle.aia_moving.specs.Landings.{OnceLanded};
 ghost use Rattle.aia_moving.specs.Turns.{IsIn, GoesOn, EndsAs, GivesBack, MatchTurn};
+ghost use Rattle.aia_move.specs.Plan.{GoesInPlace, LandsInPlace};
 
 use crate::carrier::Carrier;
 use crate::kind::{ToMemory, spot};
@@ -55,6 +56,21 @@ impl Leave<First> {
         self.begin(fabric);
         self.turn(past)
     }
+
+    /// Makes such a step in place, where it is not the last one of the phase, and tells whether it
+    /// made one.
+    pub(crate) fn step_in_place(&mut self, fabric: &mut Fabric) -> bool
+        requires fits { MoveFits fabric.old self.old }
+        requires phase { IsIn FirstPhase (width fabric.old) self.old }
+        ensures goes { LandsInPlace result fabric.old self.old fabric.new self.new }
+        ensures phase { IsIn FirstPhase (width fabric.new) self.new }
+    {
+        let stays = self.carrier.done() < 3;
+        if stays {
+            self.begin(fabric);
+        }
+        stays
+    }
 }
 
 impl Leave<Look> {
@@ -71,6 +87,22 @@ impl Leave<Look> {
         let words = fabric.words();
         self.look(fabric);
         self.turn(6 + 5 * words)
+    }
+
+    /// Makes such a step in place, where it is not the last one of the phase, and tells whether it
+    /// made one.
+    pub(crate) fn step_in_place(&mut self, fabric: &Fabric) -> bool
+        requires fits { MoveFits fabric.now self.old }
+        requires phase { IsIn LookPhase (width fabric.now) self.old }
+        ensures goes { GoesInPlace LookPhase result fabric.now self.old fabric.now self.new }
+        ensures phase { IsIn LookPhase (width fabric.now) self.new }
+    {
+        let words = fabric.words();
+        let stays = self.carrier.done() < 5 + 5 * words;
+        if stays {
+            self.look(fabric);
+        }
+        stays
     }
 }
 
@@ -93,6 +125,22 @@ impl Leave<Last> {
             self.post(fabric);
             Turn::On(self.end())
         }
+    }
+
+    /// Makes such a step in place, where it is not the last one of the phase, and tells whether it
+    /// made one.
+    pub(crate) fn step_in_place(&mut self, fabric: &mut Fabric) -> bool
+        requires fits { MoveFits fabric.old self.old }
+        requires phase { IsIn LastPhase (width fabric.old) self.old }
+        ensures goes { GoesInPlace LastPhase result fabric.old self.old fabric.new self.new }
+        ensures phase { IsIn LastPhase (width fabric.new) self.new }
+    {
+        let words = fabric.words();
+        let stays = self.carrier.done() < 7 + 5 * words;
+        if stays {
+            self.take_threshold(fabric);
+        }
+        stays
     }
 }
 

@@ -7,6 +7,7 @@ ghost use Rattle.aia_home.specs.Phases.Phase.{ClosingPhase, DrainPhase, EnablePh
 ghost use Rattle.aia_moving.specs.Move.{MoveFits, old_at, new_at, width};
 ghost use Rattle.aia_moving.specs.Targets.{ArePasses, aim_of, has_unaimed};
 ghost use Rattle.aia_moving.specs.Turns.{IsIn, IsAtAims, IsInDrain, GoesOn, AimsOn, MatchTurn, MatchClosed, after_enable};
+ghost use Rattle.aia_move.specs.Plan.{GoesInPlace};
 
 use crate::carrier::Carrier;
 use crate::kind::Kind;
@@ -58,6 +59,22 @@ impl<K: Kind> Move<K, Closing> {
             Turn::On(state) => Turn::On(state.closed()),
         }
     }
+
+    /// Makes such a step in place, where it is not the last one of the phase, and tells whether it
+    /// made one.
+    pub(crate) fn step_in_place(&mut self, fabric: &mut Fabric) -> bool
+        requires fits { MoveFits fabric.old self.old }
+        requires phase { IsIn ClosingPhase (width fabric.old) self.old }
+        ensures goes { GoesInPlace ClosingPhase result fabric.old self.old fabric.new self.new }
+        ensures phase { IsIn ClosingPhase (width fabric.new) self.new }
+    {
+        let _words = fabric.words();
+        let stays = self.carrier.done() == self.first_steps();
+        if stays {
+            self.close(fabric);
+        }
+        stays
+    }
 }
 
 impl<K: Kind> Move<K, Aim> {
@@ -103,6 +120,23 @@ impl<K: Kind> Move<K, Drain> {
         self.carry_pending(fabric);
         self.turn(past)
     }
+
+    /// Makes such a step in place, where it is not the last one of the phase, and tells whether it
+    /// made one.
+    pub(crate) fn step_in_place(&mut self, fabric: &mut Fabric) -> bool
+        requires fits { MoveFits fabric.old self.old }
+        requires phase { IsInDrain (width fabric.old) self.old }
+        ensures goes { GoesInPlace DrainPhase result fabric.old self.old fabric.new self.new }
+        ensures phase { IsInDrain (width fabric.new) self.new }
+    {
+        let words = fabric.words();
+        let last = self.first_steps() + 1 + 2 * words;
+        let stays = self.carrier.done() < last;
+        if stays {
+            self.carry_pending(fabric);
+        }
+        stays
+    }
 }
 
 impl<K: Kind> Move<K, Enable> {
@@ -121,6 +155,23 @@ impl<K: Kind> Move<K, Enable> {
         let past = self.first_steps() + 2 + 4 * words;
         self.carry_enables(fabric);
         self.turn(past)
+    }
+
+    /// Makes such a step in place, where it is not the last one of the phase, and tells whether it
+    /// made one.
+    pub(crate) fn step_in_place(&mut self, fabric: &mut Fabric) -> bool
+        requires fits { MoveFits fabric.old self.old }
+        requires phase { IsIn EnablePhase (width fabric.old) self.old }
+        ensures goes { GoesInPlace EnablePhase result fabric.old self.old fabric.new self.new }
+        ensures phase { IsIn EnablePhase (width fabric.new) self.new }
+    {
+        let words = fabric.words();
+        let last = self.first_steps() + 1 + 4 * words;
+        let stays = self.carrier.done() < last;
+        if stays {
+            self.carry_enables(fabric);
+        }
+        stays
     }
 }
 

@@ -8,7 +8,7 @@ ghost use Rattle.aia_world.specs.Changes.{spot_of};
 ghost use Rattle.aia_moving.specs.Move.{IsWho, MoveFits, width};
 ghost use Rattle.aia_moving.specs.Targets.{ArePasses, AimsAs, aim_if, next_aim};
 ghost use Rattle.aia_moving.specs.Turns.{LeavesEmpty};
-ghost use Rattle.aia_move.specs.Plan.{moving_of, is_in_aim, IsInPhase, MatchNext, StepsTo};
+ghost use Rattle.aia_move.specs.Plan.{moving_of, is_in_aim, IsInPhase, MatchNext, StepsTo, StepsInPlace};
 
 use crate::phase::{Aim, Closing, Drain, Enable, First, Last, Look};
 use crate::{Arrive, Closed, KeptNumbers, Leave, Outcome, Shift, Targets, Turn, Who};
@@ -154,6 +154,36 @@ impl Plan {
     {
         let _words = fabric.words();
         self.next(fabric, targets)
+    }
+
+    /// Makes the next step of the plan in place, where it is an access after which the move is in
+    /// the same phase, and tells whether it made one; where it made none, nothing is changed. It is
+    /// as [`Plan::step`], and no plan is moved for it.
+    pub fn step_in_place(&mut self, fabric: &mut Fabric) -> bool
+        requires fits { MoveFits fabric.old (moving_of self.old) }
+        requires phase { IsInPhase (width fabric.old) self.old }
+        ensures { StepsInPlace result fabric.old self.old fabric.new self.new }
+    {
+        let _words = fabric.words();
+        match self {
+            Plan::LeaveFirst(state) => state.step_in_place(fabric),
+            Plan::LeaveClosing(state) => state.step_in_place(fabric),
+            Plan::LeaveDrain(state) => state.step_in_place(fabric),
+            Plan::LeaveEnable(state) => state.step_in_place(fabric),
+            Plan::LeaveLook(state) => state.step_in_place(fabric),
+            Plan::LeaveLast(state) => state.step_in_place(fabric),
+            Plan::ArriveFirst(state) => state.step_in_place(fabric),
+            Plan::ArriveClosing(state) => state.step_in_place(fabric),
+            Plan::ArriveDrain(state) => state.step_in_place(fabric),
+            Plan::ArriveEnable(state) => state.step_in_place(fabric),
+            Plan::ArriveLast(state) => state.step_in_place(fabric),
+            Plan::ShiftFirst(state) => state.step_in_place(fabric),
+            Plan::ShiftClosing(state) => state.step_in_place(fabric),
+            Plan::ShiftDrain(state) => state.step_in_place(fabric),
+            Plan::ShiftEnable(state) => state.step_in_place(fabric),
+            Plan::ShiftLast(state) => state.step_in_place(fabric),
+            Plan::LeaveAim(_) | Plan::ArriveAim(_) | Plan::ShiftAim(_) => false,
+        }
     }
 
     /// Makes it, by the phase that the move is in.

@@ -7,6 +7,7 @@ ghost use Rattle.aia_home.specs.Phases.Phase.{FirstPhase, ClosingPhase, LastPhas
 ghost use Rattle.aia_moving.specs.Move.{MoveFits, Ends, old_spot, new_spot, width};
 ghost use Rattle.aia_moving.specs.Landings.{OnceLanded};
 ghost use Rattle.aia_moving.specs.Turns.{IsBetween, IsIn, GoesOn, EndsAs, GivesBack, MatchTurn};
+ghost use Rattle.aia_move.specs.Plan.{GoesInPlace, LandsInPlace};
 
 use crate::carrier::Carrier;
 use crate::kind::{ToOtherFile, spot};
@@ -54,6 +55,21 @@ impl Shift<First> {
         self.begin(fabric);
         self.turn(past)
     }
+
+    /// Makes such a step in place, where it is not the last one of the phase, and tells whether it
+    /// made one.
+    pub(crate) fn step_in_place(&mut self, fabric: &mut Fabric) -> bool
+        requires fits { MoveFits fabric.old self.old }
+        requires phase { IsIn FirstPhase (width fabric.old) self.old }
+        ensures goes { LandsInPlace result fabric.old self.old fabric.new self.new }
+        ensures phase { IsIn FirstPhase (width fabric.new) self.new }
+    {
+        let stays = self.carrier.done() < 2;
+        if stays {
+            self.begin(fabric);
+        }
+        stays
+    }
 }
 
 impl Shift<Last> {
@@ -75,6 +91,22 @@ impl Shift<Last> {
             self.put_delivery(fabric);
             Turn::On(self.end())
         }
+    }
+
+    /// Makes such a step in place, where it is not the last one of the phase, and tells whether it
+    /// made one.
+    pub(crate) fn step_in_place(&mut self, fabric: &mut Fabric) -> bool
+        requires fits { MoveFits fabric.old self.old }
+        requires phase { IsIn LastPhase (width fabric.old) self.old }
+        ensures goes { GoesInPlace LastPhase result fabric.old self.old fabric.new self.new }
+        ensures phase { IsIn LastPhase (width fabric.new) self.new }
+    {
+        let words = fabric.words();
+        let stays = self.carrier.done() < 7 + 4 * words;
+        if stays {
+            self.carry_threshold(fabric);
+        }
+        stays
     }
 }
 

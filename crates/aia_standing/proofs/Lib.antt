@@ -27,6 +27,7 @@ pub mod GoesLines
 pub mod EndLines
 pub mod BeginCore
 pub mod MoveCalls
+pub mod StepsInPlace
 pub mod MoveWhole
 pub mod MoveLines
 pub mod ExampleLemmas

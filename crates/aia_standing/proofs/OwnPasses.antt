@@ -122,3 +122,9 @@ module _ (x : CoreState) (h : History) (g : Vcpu) (plan : Plan) (stands : CoreSt
       by_aim false e =
           let made : AimsAs aim None old new = subst (λ b. AimsAs aim (aim_if b (moving_of plan)) old new) (aims_alike ∙ e) done in
           rw e made
+
+  -- where it aims none, the history says so
+  pub none_aimed : aims (moving_of plan) ≡ false → aimed_by h (Stepped g) ≡ None
+  none_aimed none =
+      let still : is_aiming (passes_for h g) (home h g) ≡ false = sym aims_alike ∙ none in
+      rw still refl

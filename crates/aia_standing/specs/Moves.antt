@@ -16,7 +16,8 @@ use Rattle.aia_model.specs.declared.refusal.Refusal.TheVariants as refusals
 use Rattle.aia_model.specs.declared.line.Line.{Line}
 use Rattle.aia_model.specs.declared.line.Line.TheVariants as lines
 use Rattle.aia_model.specs.Event.{History, file_words}
-use Rattle.aia_model.specs.Event.Event.{Began}
+use Rattle.aia_model.specs.Event.Event.{Began, Stepped}
+use Rattle.aia_model.specs.Aim.{aimed_by}
 use Rattle.aia_model.specs.Move.{Move, wanted_move}
 use Rattle.aia_model.specs.Move.Move.{Arrives, Leaves, Shifts}
 use Rattle.aia_model.specs.ReachOf.{in_force_of}
@@ -36,7 +37,7 @@ use Rattle.aia_moving.specs.Move.{Moving, mover, width, MakesNext}
 use Rattle.aia_world.specs.World.{World}
 use Rattle.aia_model.specs.GuestFile.{guest_file}
 use Rattle.aia_model.specs.Notice.{a_look_saw}
-use Rattle.aia_move.specs.Plan.{moving_of, IsInPhase}
+use Rattle.aia_move.specs.Plan.{moving_of, IsInPhase, StepsInPlace}
 use Rattle.aia_move.specs.Knows.{Knows}
 use Rattle.aia_model.specs.declared.want.Want.{Want}
 use Rattle.aia_model.specs.declared.want.Want.TheVariants as wants
@@ -211,6 +212,13 @@ pub record KnowsIts (x : CoreState) (h : History) (g : Vcpu) (plan : Plan) : Typ
   pub same_home : (moving_of plan).home ≡ home h g
   pub knows : Knows x.world plan (in_force_of h g) (guest_file h g) (a_look_saw h g)
 
+-- What a step in place makes of where a virtual hart is, and of the world: what its plan makes;
+-- nothing, where it has none.
+abbrev pub StaysInPlace : Bool → World → Stay → World → Stay → Type 0
+StaysInPlace made w (stays.Moving plan) u new =
+    (later : Plan) × (new ≡ stays.Moving later) × StepsInPlace made w plan u later
+StaysInPlace made w stay u new = (made ≡ false) × (u ≡ w) × (new ≡ stay)
+
 -- What is so of a line that is not refused, and what of one that is.
 abbrev pub UnlessRefused : Option Answer → Type 0 → Type 0 → Type 0
 UnlessRefused None taken refused = taken
@@ -233,3 +241,9 @@ pub record MoveGoes (old new : CoreState) (g : Vcpu) (last : Bool) : Type 0 wher
   pub fewer : last ≡ false → left_in new g < left_in old g
   pub makes : (plan : Plan) → (record_of old g).stay ≡ stays.Moving plan
       → MakesOne old.world (moving_of plan) new.world
+
+-- Where one is made in place, it makes an access, and is not the last one; else nothing is changed.
+abbrev pub MoveInPlace : CoreState → CoreState → Vcpu → Bool → Type 0
+MoveInPlace old new g true = MoveGoes old new g false
+    × ((h : History) → CoreStands old h → aimed_by h (Stepped g) ≡ None)
+MoveInPlace old new g false = new ≡ old
