@@ -12,7 +12,7 @@ use Rattle.aia_model.specs.Flight.{Sending, flight, flying}
 use Rattle.std.specs.Option.{option_map_or}
 use Rattle.std.specs.List.{AllByRecursion, list_any}
 use Rattle.std.proofs.Common.{◌≡◌, ◌≢◌, ℕ, zero, suc, true, false, not, ◌⊎◌, nat_eq, List, [], ◌∷◌, Option, Some, None, inl, inr, refl, sym, ap, subst, ◌∙◌, Bool, ◌&&◌, ◌||◌, ◌+◌, length, cond, is_none}
-use Rattle.std.proofs.lemmas.Bool.{cond-false, not-true, eqb-false, ne_eqb, and_left, and_right, false≢true, eq-eqb, cases_Bool}
+use Rattle.std.proofs.lemmas.Bool.{cond-false, not-true, eqb-false, ne_eqb, and_left, and_right, false≢true, eq-eqb, cases_Bool, or_parts}
 use Rattle.aia_regs.specs.BitUpdate.{settle, names}
 use Rattle.aia_file.specs.InterruptFile.{InterruptFile}
 use Rattle.aia_home.specs.Vms.{Vcpu, vcpu, is_vcpu}
@@ -79,16 +79,12 @@ relay_same p h g other = rw other (refl, refl, refl)
 abbrev Still : History → ℕ → Vcpu → Type 0
 Still h vm g = AllByRecursion (λ s. is_vcpu g (sent_to vm s) ≡ false) (flight h vm)
 
-neither_of : (a b : Bool) → (a || b) ≡ false → (a ≡ false) × (b ≡ false)
-neither_of false b e = (refl, e)
-neither_of true b e = absurd (cc)
-
 still : (h : History) (vm : ℕ) (g : Vcpu) → flies_to h vm g ≡ false → Still h vm g
 still h vm g e = none_of (flight h vm) e
   where
     none_of : (xs : List Sending) → list_any (λ s. is_vcpu g (sent_to vm s)) xs ≡ false → AllByRecursion (λ s. is_vcpu g (sent_to vm s) ≡ false) xs
     none_of [] e = tt
-    none_of (x ∷ xs) e = let parts = neither_of (is_vcpu g (sent_to vm x)) (list_any (λ s. is_vcpu g (sent_to vm s)) xs) e in (parts.0, none_of xs parts.1)
+    none_of (x ∷ xs) e = let parts = or_parts (is_vcpu g (sent_to vm x)) (list_any (λ s. is_vcpu g (sent_to vm s)) xs) e in (parts.0, none_of xs parts.1)
 
 landing_same : (vm k : ℕ) (h : History) (g : Vcpu) → Still h vm g → IsSameGuest (Landed vm k ∷ h) h g
 unfolding select_by file_by majors_of

@@ -1,7 +1,7 @@
 -- What is kept tells what waits first.
 use Rattle.std.proofs.Common.{IsFalse, ◌||◌, ◌≡◌, ℕ, zero, suc, ◌<◌, ◌≤◌, Bool, true, false, ◌&&◌, ◌↔◌, length, slice_get, get_or, Option, Some, None, IfSome, ◌⊎◌, inl, inr, refl, sym, ap, subst, ◌∙◌, arith}
 use Rattle.std.specs.List.{Contains}
-use Rattle.std.proofs.lemmas.Bool.{cases_lt, and_parts, and_right}
+use Rattle.std.proofs.lemmas.Bool.{cases_lt, and_parts, and_right, or_parts}
 use Rattle.std.specs.Option.{option_map, option_map_or}
 use Rattle.std.proofs.lemmas.Option.{slice_get_past, slice_get-get_or}
 use Rattle.aia_domain.specs.InterruptSource.{InterruptSourceState, waits, waits_at}
@@ -144,11 +144,6 @@ none_is_first a past none stands = source_first a past None (none (ByGenMsi Root
 
 -- ---- whether any sender waits
 
-neither : (x y : Bool) → (x || y) ≡ false → (x ≡ false) × (y ≡ false)
-neither false false none = (refl, refl)
-neither false true none = absurd (cc none)
-neither true y none = absurd (cc none)
-
 none_of_both : (x y : Bool) → x ≡ false → y ≡ false → (x || y) ≡ false
 none_of_both x y first second = rw (first, second) refl
 
@@ -161,7 +156,7 @@ pub ready_does_wait : (a : AplicState) (r : Bool) → asks_by_genmsi a ≡ false
 ready_does_wait a r idle ready = ((λ no. none (ready.0 no)), (λ waits. ready.1 ((λ s. waits (BySource Root s)), (λ s. waits (BySource Child s)))))
   where
     quiet : (a.root.domain.genmsi_waits ≡ false) × (a.child.domain.genmsi_waits ≡ false)
-    quiet = neither a.root.domain.genmsi_waits a.child.domain.genmsi_waits idle
+    quiet = or_parts a.root.domain.genmsi_waits a.child.domain.genmsi_waits idle
 
     none : ((s : ℕ) → kept.is_ready a.root.domain s ≡ false) × ((s : ℕ) → kept.is_ready a.child.domain s ≡ false) → (sender : Sender) → does_wait a sender ≡ false
     none sources (ByGenMsi Root) = quiet.0
