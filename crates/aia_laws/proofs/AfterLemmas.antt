@@ -163,7 +163,7 @@ msis_same (msi ∷ later) h g all =
 
 none_of_any : (f : Msi → Bool) (xs : List Msi) → list_any f xs ≡ false → AllByRecursion (λ x. f x ≡ false) xs
 none_of_any f [] e = tt
-none_of_any f (x ∷ xs) e = let parts = neither_of (f x) (list_any f xs) e in (parts.0, none_of_any f xs parts.1)
+none_of_any f (x ∷ xs) e = let parts = or_parts (f x) (list_any f xs) e in (parts.0, none_of_any f xs parts.1)
 
 -- what is pending stays so while MSIs are delivered
 ask_stays : (b was : Bool) → was ≡ true → settle (cond b Ask Nothing) was ≡ true
