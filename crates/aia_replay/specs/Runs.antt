@@ -2,7 +2,7 @@
 use Rattle.std.specs.Prelude.{◌≡◌, ◌≢◌, ℕ, ◌+◌, ◌≤◌, ◌⊎◌, Bool, true, false, nat_eq, List, [], ◌∷◌, ◌++◌, length, map, All, Option, Some, None, IfSome}
 use Rattle.std.specs.Borrow.{Bor}
 use Rattle.std.specs.Io.KnownBytes.{Appends}
-use Rattle.aia_io.specs.Ends.{Supply, Gives, Rose, RoseBy}
+use Rattle.aia_io.specs.Ends.{Supply, Gives, Rose, RoseBy, Takes}
 use Rattle.aia_command.specs.declared.subcommand.Subcommand.{Subcommand}
 use Rattle.aia_command.specs.declared.subcommand.Subcommand.TheVariants.{Replay, Generate, Audit}
 use Rattle.aia_command.specs.CommandLine.{subcommand_of}
@@ -38,11 +38,7 @@ abbrev pub TakesAll : Supply → Supply → Type 0
 TakesAll left rest =
     Rose left.ends rest.ends × IfSome left.to_come (λ script. rest.to_come ≡ Some [])
 
--- Just so many bytes were taken: the source's count of them says so, whether it tells them or not.
-abbrev pub Takes : ℕ → Supply → Supply → Type 0
-Takes count left rest = (bytes : List ℕ) × Gives left rest bytes × (length bytes ≡ count)
-
--- At most so many bytes were taken, by the same count.
+-- At most so many bytes were taken, by the count of `Takes`.
 abbrev pub TakesAtMost : ℕ → Supply → Supply → Type 0
 TakesAtMost count left rest = (bytes : List ℕ) × Gives left rest bytes × (length bytes ≤ count)
 
