@@ -1,5 +1,6 @@
--- What one read and one write do to the bytes that are known, and the cause of a failure.
-use Rattle.std.specs.Prelude.{◌≡◌, ℕ, ◌+◌, ◌-◌, ◌^◌, ◌<◌, ◌≤◌, ◌⊎◌, min, List, ◌++◌, length, take, drop, Option}
+-- What one read and one write do to the bytes that are known, the cause of a failure, and what many
+-- reads and many writes do.
+use Rattle.std.specs.Prelude.{◌≡◌, ℕ, ◌+◌, ◌-◌, ◌^◌, ◌<◌, ◌≤◌, ◌⊎◌, min, List, [], ◌++◌, length, take, drop, Option, Some, IfSome}
 use Rattle.std.specs.Io.KnownBytes.{Appends, Consumes, IsAtEnd, Keeps}
 use Rattle.aia_io.specs.declared.source.Read.{Read}
 use Rattle.aia_io.specs.declared.source.Read.TheVariants as reads
@@ -39,6 +40,15 @@ Reads old new buffer reads.End =
     IsAtEnd old.to_come × GivesNone old new × Rose old.ends new.ends
 Reads old new buffer reads.Failed = GivesNone old new × (new.ends ≡ old.ends)
 
+-- the same of a read into the front of a buffer, of so many bytes at most, where that front is now
+-- in `piece`
+abbrev pub ReadsFront : ℕ → Supply → Supply → List ℕ → Read → Type 0
+ReadsFront most old new piece (reads.Got n) =
+    (0 < n) × (n ≤ most) × Gives old new (take n piece) × (new.ends ≡ old.ends)
+ReadsFront most old new piece reads.End =
+    IsAtEnd old.to_come × GivesNone old new × Rose old.ends new.ends
+ReadsFront most old new piece reads.Failed = GivesNone old new × (new.ends ≡ old.ends)
+
 -- the bytes that a read gave stand at the front of the buffer, and the rest of the buffer is as
 -- before
 abbrev pub Fills : List ℕ → List ℕ → List ℕ → Read → Type 0
@@ -62,3 +72,23 @@ Writes old new bytes writes.Failed = Keeps old new
 abbrev pub WriteHasCause : ℕ → ℕ → Write → Type 0
 WriteHasCause before now (writes.Took n) = before ≤ now
 WriteHasCause before now writes.Failed = (before ≤ now) × Rose before now
+
+-- just so many bytes were taken: the source's count of them says so, whether it tells them or not
+abbrev pub Takes : ℕ → Supply → Supply → Type 0
+Takes count left rest = (bytes : List ℕ) × Gives left rest bytes × (length bytes ≡ count)
+
+-- at most so many bytes were taken, by the same count
+abbrev pub TakesAtMost : ℕ → Supply → Supply → Type 0
+TakesAtMost count left rest = (bytes : List ℕ) × Gives left rest bytes × (length bytes ≤ count)
+
+-- all was taken: the source answered that none is left, and where it tells its bytes, none is
+abbrev pub TakesAll : Supply → Supply → Type 0
+TakesAll left rest =
+    Rose left.ends rest.ends × IfSome left.to_come (λ bytes. rest.to_come ≡ Some [])
+
+-- the sink took a front of some bytes
+pub record CutOff (before now : Option (List ℕ)) (bytes : List ℕ) : Type 0 where
+  pub part : List ℕ
+  pub lost : List ℕ
+  pub appended : Appends before now part
+  pub together : part ++ lost ≡ bytes

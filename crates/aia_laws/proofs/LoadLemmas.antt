@@ -19,7 +19,8 @@ use Rattle.aia_model.specs.Refusal.{refusal}
 use Rattle.aia_model.specs.Answer.{after, delivered, csr_shown, guest_csr_value}
 use Rattle.aia_model.proofs.AnswerLemmas.{after_by}
 use Rattle.aia_model.proofs.SentLemmas.{none_sent_by}
-use Rattle.aia_model.proofs.MoveLemmas.{same_vcpu, is_itself}
+use Rattle.aia_home.proofs.VmLemmas.{same_vcpu}
+use Rattle.aia_model.proofs.MoveLemmas.{is_itself}
 
 after_load : (h : History) (x : Vcpu) (part : Part) → refusal h (LoadPart x.vm x.number part) ≡ None → after h (LoadPart x.vm x.number part) ≡ Accepted (LoadPart x.vm x.number part) ∷ h
 after_load h x part e =

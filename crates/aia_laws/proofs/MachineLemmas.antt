@@ -6,6 +6,7 @@ use Rattle.std.proofs.lemmas.Bool.{cases_Bool, and_parts, le-ltb, false≢true}
 use Rattle.std.proofs.lemmas.Bool.Decides.{nat_tests}
 use Rattle.aia_regs.specs.declared.limits.TheConstants.{VCPUS}
 use Rattle.aia_file.specs.InterruptFile.{is_greatest_identity}
+use Rattle.aia_file.proofs.SizeLemmas.{enough_identities}
 use Rattle.aia_home.specs.Vms.{Vcpu, vcpus_in}
 use Rattle.aia_home.proofs.VmLemmas.{vcpus_more}
 use Rattle.aia_model.specs.declared.line.Line.TheVariants.{Machine}
@@ -55,9 +56,6 @@ few_vcpus (Delivered msi ∷ h) good = few_vcpus h good.1
 few_vcpus (Relayed p ∷ h) good = few_vcpus h good.1
 
 -- so there are more identities than virtual harts
-enough_identities : (n : ℕ) → is_greatest_identity n ≡ true → 63 ≤ n
-enough_identities n e = grind (arith, nat_tests)
-
 pub identities_for_all : (h : History) (g : Vcpu) → IsHistory h → has_vcpu h g ≡ true → vcpus_in (vms_of h) ≤ greatest_identity_of h
 identities_for_all h g good there =
     let enough = enough_identities (greatest_identity_of h) (greatest_of_machine h good (machine_of_vcpu h g good there)) in

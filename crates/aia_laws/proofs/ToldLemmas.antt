@@ -9,7 +9,7 @@ use Rattle.aia_regs.specs.BitUpdate.BitUpdate.{Ask, Clear, Nothing}
 use Rattle.aia_file.specs.InterruptFile.{InterruptFile}
 use Rattle.aia_home.specs.Vms.{Vcpu, vcpu}
 use Rattle.aia_home.specs.Home.Home.{Parked}
-use Rattle.aia_home.proofs.VmLemmas.{slot_below}
+use Rattle.aia_home.proofs.VmLemmas.{slot_below, same_vcpu}
 use Rattle.aia_model.specs.declared.line.Line.TheVariants.{Machine, Ipi, Send, Exit, LoadPart}
 use Rattle.aia_model.specs.declared.part.Part.TheVariants as parts
 use Rattle.aia_model.specs.declared.line.Line.TheVariants as lines
@@ -26,7 +26,6 @@ use Rattle.aia_model.proofs.HistoryLemmas.{flying_there}
 use Rattle.aia_model.specs.HomeOf.{home}
 use Rattle.aia_model.specs.Notice.{noticed, noticed_by_landing}
 use Rattle.aia_model.proofs.FileLemmas.{file_step, newest_word, is_file-itself}
-use Rattle.aia_model.proofs.MoveLemmas.{same_vcpu}
 use Rattle.aia_laws.specs.Told.{is_deliverable, notice_file, notice_number, is_ask, is_clear, guest_said, host_said, begins_leave, names_vcpu, noticed_since, told_since, cleared_since, cleared_since_notice}
 use Rattle.aia_model.proofs.GreatestLemmas.{made_with, not_making, host_made, host_greatest}
 use Rattle.aia_model.proofs.RefusalLemmas.{machine_allowed, device_allowed, peer_allowed, exit_allowed, load_allowed}

@@ -7,7 +7,7 @@ use Rattle.std.proofs.lemmas.Bool.{cases_Bool, cases_lt, ltb-true, and_parts, eq
 use Rattle.aia_home.specs.declared.place.Place.{Place}
 use Rattle.aia_home.specs.declared.vm.Vm.{Vm}
 use Rattle.aia_home.specs.Vms.{Vcpu, is_vcpu, vm_in, is_vcpu_in, slot_of, notice_hart}
-use Rattle.aia_home.proofs.VmLemmas.{vm_stays, slot_stays, vm_past}
+use Rattle.aia_home.proofs.VmLemmas.{vm_stays, slot_stays, vm_past, same_vcpu}
 use Rattle.aia_home.specs.Home.{Home}
 use Rattle.aia_home.specs.Routes.{is_at_fence, MayReach}
 use Rattle.aia_model.specs.declared.line.Line.TheVariants.{Send, Enter, Exit}
@@ -24,7 +24,7 @@ use Rattle.aia_model.specs.HomeOf.{home}
 use Rattle.aia_model.specs.ReachOf.{sent_into, NoneAtFence, MayFly, AllMayFly, IsForOne, AllAreForOne}
 use Rattle.aia_model.specs.Answer.{oldest_landed, landed_first, step_taken}
 use Rattle.aia_model.specs.Vms.{vms_of, has_vcpu}
-use Rattle.aia_model.proofs.MoveLemmas.{home_step, same_vcpu, is_itself}
+use Rattle.aia_model.proofs.MoveLemmas.{home_step, is_itself}
 use Rattle.aia_model.proofs.ReachLemmas.{in_force_may, begun_reach, enter_keeps, exit_keeps}
 
 -- ---- all of a list
@@ -101,7 +101,7 @@ none_flies vm = tt
 abbrev StaysThere : Event → History → Vcpu → Type 0
 StaysThere event past g = (has_vcpu (event ∷ past) g ≡ true) × (slot_of (vms_of (event ∷ past)) g ≡ slot_of (vms_of past) g) × (notice_hart (vms_of (event ∷ past)) g ≡ notice_hart (vms_of past) g)
 
-vm_within : (vms : List Vm) (g : Vcpu) → is_vcpu_in vms g ≡ true → g.vm < length vms
+pub vm_within : (vms : List Vm) (g : Vcpu) → is_vcpu_in vms g ≡ true → g.vm < length vms
 vm_within vms g there = elim (cases_lt g.vm (length vms)) [
   | inl within ↦ within
   | inr past ↦

@@ -1,9 +1,10 @@
 -- What one event more makes of the homes of virtual harts, and of what the looks of a leave saw.
 use Rattle.std.proofs.Common.{◌≡◌, ◌≢◌, ℕ, zero, suc, ◌+◌, ◌<◌, ◌≤◌, Bool, true, false, ◌&&◌, ◌||◌, nat_eq, is_some, ◌∷◌, inl, inr, refl, sym, ap, ◌∙◌, arith}
-use Rattle.std.proofs.lemmas.Bool.{cases_Bool, cases_eq, cond-true, eq-eqb, eqb-true, and_parts, or_right}
+use Rattle.std.proofs.lemmas.Bool.{cases_Bool, cases_eq, cond-true, eq-eqb, and_parts, or_right}
 use Rattle.std.proofs.lemmas.Bool.Decides.{nat_tests}
 use Rattle.aia_word.specs.Sets.{least_of}
-use Rattle.aia_home.specs.Vms.{Vcpu, vcpu, is_vcpu}
+use Rattle.aia_home.specs.Vms.{Vcpu, is_vcpu}
+use Rattle.aia_home.proofs.VmLemmas.{same_vcpu}
 use Rattle.aia_home.specs.Home.{Home}
 use Rattle.aia_home.specs.Home.Home.{Leaving}
 use Rattle.aia_home.specs.BySteps.{look_word, look_sees}
@@ -16,11 +17,6 @@ use Rattle.aia_file.specs.InterruptFile.{is_live}
 use Rattle.aia_model.specs.Notice.{looks_at, look_saw, look_saw_after, a_look_saw}
 
 -- ---- names of virtual harts
-
-pub same_vcpu : (a b : Vcpu) → is_vcpu a b ≡ true → a ≡ b
-same_vcpu a b e =
-    let p = and_parts (nat_eq a.vm b.vm) (nat_eq a.number b.number) e in
-    ap (λ vm. vcpu vm a.number) (eqb-true a.vm b.vm p.0) ∙ ap (λ number. vcpu b.vm number) (eqb-true a.number b.number p.1)
 
 pub is_itself : (g : Vcpu) → is_vcpu g g ≡ true
 is_itself g = ap (λ b. b && nat_eq g.number g.number) (eq-eqb g.vm g.vm refl) ∙ eq-eqb g.number g.number refl

@@ -37,7 +37,8 @@ use Rattle.aia_model.specs.Refusal.{refusal}
 use Rattle.aia_model.specs.Histories.{MayHappen, IsHistory}
 use Rattle.aia_model.specs.PassesStand.{PassStands, AllPassesStand}
 use Rattle.aia_model.proofs.RefusalLemmas.{machine_allowed, pass_allowed, store_allowed, PassAllowed}
-use Rattle.aia_model.proofs.MoveLemmas.{same_vcpu, is_itself}
+use Rattle.aia_home.proofs.VmLemmas.{same_vcpu}
+use Rattle.aia_model.proofs.MoveLemmas.{is_itself}
 use Rattle.aia_model.proofs.FlightLemmas.{stays_there}
 use Rattle.aia_model.proofs.PassLemmas.{none_passed, aimed_on, rank_below}
 use Rattle.aia_model.proofs.ReachLemmas.{enter_keeps, exit_keeps}

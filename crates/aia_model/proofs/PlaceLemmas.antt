@@ -9,6 +9,7 @@ use Rattle.std.proofs.lemmas.Bool.Decides.{nat_tests}
 use Rattle.aia_regs.specs.declared.limits.TheConstants.{HARTS, GUEST_FILES, IDENTITIES}
 use Rattle.aia_word.proofs.LeastLemmas.{least_of_is}
 use Rattle.aia_file.specs.InterruptFile.{is_greatest_identity}
+use Rattle.aia_file.proofs.SizeLemmas.{few_identities}
 use Rattle.aia_home.specs.declared.place.Place.{Place}
 use Rattle.aia_home.specs.declared.vm.Vm.{Vm}
 use Rattle.aia_home.specs.Vms.{Vcpu, vm_in, notice_hart, is_vcpu}
@@ -63,9 +64,6 @@ pub record IsSized (h : History) : Type 0 where
   pub guests : guests_of h ≤ GUEST_FILES
   pub identities : greatest_identity_of h ≤ IDENTITIES
 
-greatest_fits : (n : ℕ) → is_greatest_identity n ≡ true → n ≤ IDENTITIES
-greatest_fits n e = grind (arith, nat_tests)
-
 at_most : (low high x : ℕ) → is_in_range low high x ≡ true → x ≤ high
 at_most low high x e = grind (arith, nat_tests)
 
@@ -74,7 +72,7 @@ machine_sized h harts guests n sources e =
     let all = and_parts _ (is_in_range 1 _ sources) e in
     let files = and_parts _ (is_greatest_identity n) all.0 in
     let both = and_parts (is_in_range 1 HARTS harts) (is_in_range 0 GUEST_FILES guests) files.0 in
-    record { harts = at_most 1 HARTS harts both.0; guests = at_most 0 GUEST_FILES guests both.1; identities = greatest_fits n files.1 }
+    record { harts = at_most 1 HARTS harts both.0; guests = at_most 0 GUEST_FILES guests both.1; identities = few_identities n files.1 }
 
 pub sized : (h : History) → IsHistory h → IsSized h
 sized [] good = record { harts = omega arith; guests = omega arith; identities = omega arith }
@@ -155,7 +153,7 @@ one_more_holds : (q : Place) (there : Home) → holds q (one_more there) ≡ tru
 one_more_holds q (Leaving from at) e = e
 one_more_holds q there e = e
 
-ended_holds : (q : Place) (there : Home) → holds q (ended there) ≡ true → holds q there ≡ true
+pub ended_holds : (q : Place) (there : Home) → holds q (ended there) ≡ true → holds q there ≡ true
 ended_holds q (Leaving from at) e = absurd (false≢true e)
 ended_holds q (Shifting from to at) e = or_right (is_place q from) (is_place q to) e
 ended_holds q there e = e

@@ -1,8 +1,6 @@
 -- A store on a fabric keeps what a plan knows.
-use Rattle.std.proofs.Common.{◌≡◌, ◌≢◌, ℕ, ◌+◌, ◌/◌, Bool, true, ◌&&◌, ◌||◌, nat_lt, Option, Some, None, inl, inr, refl, sym, ap, ◌∙◌, subst, arith}
-use Rattle.std.specs.Int.{is_in_range}
+use Rattle.std.proofs.Common.{◌≡◌, ◌≢◌, ℕ, ◌+◌, ◌/◌, Bool, true, ◌||◌, Option, Some, None, inl, inr, refl, sym, ap, ◌∙◌, subst}
 use Rattle.std.proofs.lemmas.Bool.{cases_Bool, cond-true}
-use Rattle.std.proofs.lemmas.Bool.Decides.{nat_tests}
 use Rattle.aia_regs.specs.declared.limits.TheConstants.{IDENTITIES}
 use Rattle.aia_regs.specs.AddressMap.{supervisor_page}
 use Rattle.aia_regs.specs.Request.{requested}
@@ -31,12 +29,12 @@ use Rattle.aia_places.specs.Stores.{places_landed, AreApart}
 use Rattle.aia_places.proofs.StoreLemmas.{lands}
 use Rattle.aia_world.specs.World.{World, stage_of}
 use Rattle.aia_world.specs.Whole.{IsWhole}
-use Rattle.aia_world.specs.Stores.{StoresIn, StoresAt, NoticedBy, StoresInSlot, Reaches, ReachesBy, Relays, with_store, page_spot, named_spot}
+use Rattle.aia_world.specs.Stores.{StoresIn, StoresAt, NoticedBy, StoresInSlot, Reaches, ReachesBy, Relays, with_store, page_spot}
 use Rattle.aia_world.specs.Changes.{spot_of, file_in, places_of}
 use Rattle.aia_world.specs.Own.{TouchesOwn}
 use Rattle.aia_home.proofs.HomeLemmas.{same_place, landing_is_held}
 use Rattle.aia_world.proofs.OwnLemmas.{by_entry, guest_spot, touches_file, touches_slot, others_stay}
-use Rattle.aia_world.proofs.PlaceLemmas.{slot_found, host_page}
+use Rattle.aia_world.proofs.PlaceLemmas.{slot_found, host_page, named_guest}
 use Rattle.aia_world.proofs.StoreViews.{file_store-places, slot_store-places}
 use Rattle.aia_world.proofs.ViewLemmas.{posts-places, slot_low}
 use Rattle.aia_world.proofs.WholeLemmas.{notice_hart_there}
@@ -162,9 +160,6 @@ flight_knows w u plan reach place file saw offset value whole apart within knows
     (entry_lands w u plan reach file saw offset value whole apart within knows place land (by_entry place (slot_of w.vms (mover m)) (notice_hart w.vms (mover m)) w u offset value own))
 
 -- a peer's, where its G-stage record in force leads
-named_guest : (i : ImsicState) (p : Place) → IsThere i (spot_of p) → named_spot i p ≡ spot_of p
-named_guest i p inside = let named : (nat_lt p.hart i.harts && is_in_range 1 i.guests p.file) ≡ true = grind (arith, nat_tests, inside.0, inside.1, inside.2) in cond-true _ _ _ named
-
 pub peer_knows : (w u : World) (plan : Plan) (reach : Option Place) (file : InterruptFile) (saw : Bool) (value : ℕ) → IsWhole w → AreApart (moving_of plan).home → IsWithin w.n (width w) file → Knows w plan reach file saw
     → Relays (stage_of w (mover (moving_of plan))).in_force w u (mover (moving_of plan)) value → Knows u plan reach (landed 0 value file) saw
 peer_knows w u plan reach file saw value whole apart within knows relays =

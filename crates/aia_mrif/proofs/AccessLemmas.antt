@@ -11,7 +11,7 @@ use Rattle.std.proofs.lemmas.Nat.Bits.{bit_at_ones, bit_at_mask_inside, bit_at_m
 use Rattle.aia_word.specs.Sets.{has_bit, word_of}
 use Rattle.aia_word.proofs.BitLemmas.{has_bit-and, has_bit-or}
 use Rattle.aia_word.proofs.SetLemmas.{word_from_bits, has_bit-word_of}
-use Rattle.aia_regs.specs.declared.limits.TheConstants.{IDENTITIES, FILE_WORDS}
+use Rattle.aia_regs.specs.declared.limits.TheConstants.{FILE_WORDS}
 use Rattle.aia_regs.specs.declared.access.Op.{Op}
 use Rattle.aia_regs.specs.declared.access.Op.TheVariants as ops
 use Rattle.aia_regs.specs.declared.file_registers.FileReg.{FileReg}
@@ -29,9 +29,6 @@ use Rattle.aia_mrif.proofs.SlotLemmas as slots
 use Rattle.aia_mrif.proofs.SlotLemmas.{place_shows}
 
 -- ---- the identities of a file among those of a word
-
-pub few_identities : (n : ℕ) → is_greatest_identity n ≡ true → n ≤ IDENTITIES
-few_identities n greatest = grind (arith, nat_tests)
 
 pub all_but_zero : (n k : ℕ) → is_greatest_identity n ≡ true → k ≡ 0 → MasksIdentities 18446744073709551614 (32 * k) n
 all_but_zero n k greatest first b low = elim (cases_eq b 0) [

@@ -17,7 +17,8 @@ use Rattle.aia_mrif.specs.Words.{HasSlot, words_after_claim}
 use Rattle.aia_mrif.specs.SlotFile.{slot_file, KeepsAllElse}
 use Rattle.aia_mrif.proofs.SlotLemmas as slots
 use Rattle.aia_mrif.proofs.SlotLemmas.{place_shows}
-use Rattle.aia_mrif.proofs.AccessLemmas.{few_identities, set_apart, one_word_kept}
+use Rattle.aia_file.proofs.SizeLemmas.{few_identities}
+use Rattle.aia_mrif.proofs.AccessLemmas.{set_apart, one_word_kept}
 
 -- the identity on top is one of the file's
 pub top_here : (words : List ℕ) (q n threshold top : ℕ) → is_greatest_identity n ≡ true → top ≡ top_value (top_of (slot_file n threshold (mrif_in words q))) → top ≢ 0

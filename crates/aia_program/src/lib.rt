@@ -7,8 +7,8 @@ ghost use Rattle.std.specs.Process.{exit_status};
 ghost use Rattle.aia_command.specs.declared.subcommand.Subcommand.TheVariants.{Replay, Generate, Audit};
 ghost use Rattle.aia_plan.specs.declared.step.Kind.{Kind};
 ghost use Rattle.aia_command.specs.CommandLine.{subcommand_of};
-ghost use Rattle.aia_io.specs.Ends.{Rose};
-ghost use Rattle.aia_replay.specs.Runs.{Ends, FitsIn, IsDoneOrMemory, TakesAll, WritesAnswers, WritesVerdict, reads_source};
+ghost use Rattle.aia_io.specs.Ends.{Rose, TakesAll};
+ghost use Rattle.aia_replay.specs.Runs.{Ends, FitsIn, IsDoneOrMemory, WritesAnswers, WritesVerdict, reads_source};
 ghost use Rattle.aia_program.specs.Command.{AreNoText, AreRefused, asked_by, exit_number, exit_numbers, words_of};
 
 use aia_io::{Sink, Source, StdSink, StdSource};

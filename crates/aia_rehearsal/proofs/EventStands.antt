@@ -10,6 +10,7 @@ use Rattle.aia_entry.specs.declared.entry.Entry.TheVariants.{Basic, Mrif, NotVal
 use Rattle.aia_entry.specs.Tables.{table_of, entry_in_force, leads_by, route_of}
 use Rattle.aia_entry.specs.Translation.{is_msi_address, file_number}
 use Rattle.aia_home.specs.Vms.{Vcpu, vcpu, is_vcpu}
+use Rattle.aia_home.proofs.VmLemmas.{same_vcpu}
 use Rattle.aia_world.specs.World.{World, flight_of, stage_of}
 use Rattle.aia_world.specs.Whole.{IsWhole}
 use Rattle.aia_world.specs.Stores.{Relays}
@@ -38,9 +39,6 @@ one_or_none w r z is x own other = elim (cases_Bool is) [
   | inl mine ↦ subst (λ l. StandsFor w r (all_happened l z)) (sym (cond-true _ _ _ mine)) (own mine)
   | inr not ↦ subst (λ l. StandsFor w r (all_happened l z)) (sym (cond-false _ _ _ not)) (other not)
 ]
-
-same_vcpu : (a b : Vcpu) → is_vcpu a b ≡ true → a ≡ b
-same_vcpu a b e = let vm : a.vm ≡ b.vm = grind (arith, nat_tests) in let number : a.number ≡ b.number = grind (arith, nat_tests) in λ k. record { vm = vm k; number = number k }
 
 other_vcpu : (a b : Vcpu) → is_vcpu a b ≡ false → a ≢ b
 other_vcpu a b none e = let itself : is_vcpu b b ≡ true = grind (arith, nat_tests) in let no : true ≡ false = sym itself ∙ ap (λ (x : Vcpu). is_vcpu x b) (sym e) ∙ none in absurd (cc)

@@ -39,7 +39,7 @@ use Rattle.aia_rehearsal.specs.declared.place.Place as ends
 use Rattle.aia_rehearsal.specs.declared.place.Place.TheVariants.{File, Slot}
 use Rattle.aia_rehearsal.specs.Rehearsed.{Passage, moved, at_of, IsFileThere}
 use Rattle.aia_rehearsal.specs.Stands.{sets_at, routes_of, is_file_at, asked}
-use Rattle.aia_mrif.proofs.AccessLemmas.{few_identities}
+use Rattle.aia_file.proofs.SizeLemmas.{few_identities}
 
 -- ---- the identity for which a store asks
 

@@ -1,5 +1,5 @@
 -- What a line aims, in a machine that stands: the APLIC then has it.
-use Rattle.std.proofs.Common.{◌≡◌, ℕ, zero, suc, ◌<◌, Bool, true, false, cond, List, [], ◌∷◌, length, slice_index_or, Option, Some, None, inl, inr, refl, sym, ap, subst, ◌∙◌, arith, ◌&&◌}
+use Rattle.std.proofs.Common.{◌≡◌, ℕ, zero, suc, ◌<◌, Bool, true, false, cond, [], ◌∷◌, length, Option, Some, None, inl, inr, refl, sym, ap, subst, ◌∙◌, ◌&&◌}
 use Rattle.std.specs.List.{AllByRecursion}
 use Rattle.std.specs.Int.{is_in_range}
 use Rattle.std.proofs.lemmas.Bool.{cases_Bool, and_parts, and_from, ltb-true, true≢false}
@@ -40,6 +40,7 @@ use Rattle.aia_model.specs.Move.{wanted_move}
 use Rattle.aia_standing.specs.Moves.{UnlessRefused, WholeAims}
 use Rattle.aia_standing.specs.Passes.{AimsBy, StepsAim, TellsOf}
 use Rattle.aia_standing.specs.Stands.{CoreStands, CoreTakes, CorePasses, MayPass}
+use Rattle.aia_standing.proofs.ForwardLemmas.{each_at}
 use Rattle.aia_standing.proofs.MoveWhole.{one_step_more}
 use Rattle.aia_replay.specs.declared.machine.Machine.{Machine}
 use Rattle.aia_replay.specs.declared.wires.Wires.{Wires}
@@ -51,11 +52,6 @@ use Rattle.aia_source.specs.Registers.{is_by_msi, domaincfg_kept, same_bool}
 use Rattle.aia_model.specs.declared.domain_name.DomainName.TheVariants.{Child}
 
 -- ---- passed sources are there
-
-at_place : {A : Type 0} (P : A → Type 0) (xs : List A) (p : ℕ) (d : A) → p < length xs → AllByRecursion P xs → P (slice_index_or xs p d)
-at_place {A} P [] p d low all = absurd (omega (arith, low))
-at_place {A} P (x ∷ xs) zero d low all = all.0
-at_place {A} P (x ∷ xs) (suc p) d low all = at_place P xs p d (omega (arith, low)) all.1
 
 abbrev IsThere : History → Pass → Type 0
 IsThere h pass = is_in_range 1 (sources_of h) pass.source ≡ true
@@ -80,7 +76,7 @@ source_in h source there = ap (λ k. is_in_range 1 k source) (same_sources h) �
 
 passed_ready : (h : History) (p : ℕ) → IsHistory h → p < length (passes_of h) → is_passable_source (acts_of h) (nth_pass h p).source ≡ true
 passed_ready h p good low =
-    and_from _ _ (source_in h (nth_pass h p).source (at_place (IsThere h) (passes_of h) p no_pass low (sources_there h good))) ((passes_stand h good).pass p low).passable
+    and_from _ _ (source_in h (nth_pass h p).source (each_at (IsThere h) (passes_of h) p no_pass low (sources_there h good))) ((passes_stand h good).pass p low).passable
 
 -- ---- one aim
 

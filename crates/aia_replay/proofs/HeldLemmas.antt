@@ -13,7 +13,8 @@ use Rattle.aia_model.specs.Reading.{reading, parsed_of, line_at}
 use Rattle.aia_model.specs.Script.{answers, answers_from, printed, text_answer, after_text, after_texts}
 use Rattle.aia_replay.specs.declared.replayer.Replayer.{Replayer}
 use Rattle.aia_replay.specs.declared.buffered.Buffered.{Buffered}
-use Rattle.aia_replay.specs.Buffered.{Gathers, CutOff}
+use Rattle.aia_io.specs.Ends.{CutOff}
+use Rattle.aia_replay.specs.Buffered.{Gathers}
 use Rattle.aia_replay.specs.Stands.{EngineState, StandsFor, ReadsAsMachine}
 use Rattle.aia_replay.specs.Runs.{NoEnd, AsksMachine, CutsLines}
 use Rattle.aia_replay.specs.Streams.{WritesOut, WritesOutFront, HasAnswered, HasStopped, Begins, AnswersText, AnswersRead, LacksMemory}

@@ -5,7 +5,7 @@ use Rattle.std.proofs.KnownBytes.{Appends-nil}
 use Rattle.std.proofs.lemmas.List.{append-nil, length-append, length-take, nil_from_length, take_all}
 use Rattle.std.proofs.lemmas.List.Elements.{All-append, All-nil}
 use Rattle.std.proofs.lemmas.Bool.{cases_lt, lt-leb}
-use Rattle.aia_io.specs.Ends.{Supply, Gives, Rose}
+use Rattle.aia_io.specs.Ends.{Supply, Gives, Rose, CutOff, TakesAll, TakesAtMost}
 use Rattle.aia_io.specs.declared.source.Read.TheVariants as reads
 use Rattle.aia_io.proofs.SupplyLemmas.{gives_nothing}
 use Rattle.aia_model.specs.Text.{texts_of, is_skipped, words_of}
@@ -19,8 +19,7 @@ use Rattle.aia_replay.specs.declared.limits.TheConstants.{SCRIPT_BYTES}
 use Rattle.aia_replay.specs.declared.plan_reader.PlanReader.{PlanReader}
 use Rattle.aia_replay.specs.declared.program.Status.{Status}
 use Rattle.aia_replay.specs.declared.program.Status.TheVariants.{Done, ReadFault, WriteFault, Memory, TooLong}
-use Rattle.aia_replay.specs.Buffered.{CutOff}
-use Rattle.aia_replay.specs.Runs.{NoEnd, TakesAll, TakesAtMost, Ends}
+use Rattle.aia_replay.specs.Runs.{NoEnd, Ends}
 use Rattle.aia_replay.specs.Plans.{BeginsPlan, FeedsPlan, FinishesPlan, HoldsPlan, StreamsPlan, plan_read}
 use Rattle.aia_replay.specs.Streams.{ReadsOn}
 use Rattle.aia_replay.proofs.CutLemmas.{texts_front, take_again}

@@ -8,9 +8,8 @@ use Rattle.aia_model.specs.Script.{answers}
 use Rattle.aia_replay.specs.declared.program.Status.{Status}
 use Rattle.aia_replay.specs.declared.program.Status.TheVariants.{Done, Usage, ReadFault, WriteFault, Memory, TooLong}
 use Rattle.aia_replay.specs.declared.limits.TheConstants.{SCRIPT_BYTES}
-use Rattle.aia_replay.specs.Runs.{IsScript, TakesAtMost, AnswersWhole, WritesLines, CutsLines, StopsAtMachine, IsDoneOrMemory, Ends}
-use Rattle.aia_io.specs.Ends.{Supply, Gives, Rose}
-use Rattle.aia_replay.specs.Buffered.{CutOff}
+use Rattle.aia_replay.specs.Runs.{IsScript, AnswersWhole, WritesLines, CutsLines, StopsAtMachine, IsDoneOrMemory, Ends}
+use Rattle.aia_io.specs.Ends.{Supply, Gives, Rose, CutOff, TakesAtMost}
 use Rattle.aia_replay.specs.declared.replayer.Replayer.{Replayer}
 use Rattle.aia_replay.specs.Streams.{Streams, StreamsFront, StreamsStop, WrittenFor, GoesPast}
 use Rattle.aia_replay.proofs.HeldLemmas.{all_written, cut_after}

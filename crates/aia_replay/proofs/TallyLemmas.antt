@@ -1,7 +1,7 @@
 -- The engine after one line more, and the summary of the lines that it answered.
 use Rattle.std.proofs.Common.{◌≡◌, ℕ, ◌-◌, ◌^◌, ◌≤◌, min, List, [], ◌∷◌, ◌++◌, Option, Some, inl, inr, refl, sym, subst, ◌∙◌, arith}
 use Rattle.std.specs.Io.KnownBytes.{Appends}
-use Rattle.aia_io.specs.Ends.{Supply, Rose}
+use Rattle.aia_io.specs.Ends.{Supply, Rose, CutOff}
 use Rattle.aia_command.specs.declared.subcommand.Subcommand.TheVariants.{Generate}
 use Rattle.aia_model.specs.declared.answer.Answer.{Answer}
 use Rattle.aia_model.specs.declared.line.Line.{Line}
@@ -15,7 +15,6 @@ use Rattle.aia_generate.proofs.DrawLemmas.{generated-length}
 use Rattle.aia_generate.proofs.NoticeLemmas.{few_notices}
 use Rattle.aia_generate.proofs.TallyLemmas.{after_lines-append, generated_told}
 use Rattle.aia_replay.specs.declared.program.Status.TheVariants.{Done, WriteFault}
-use Rattle.aia_replay.specs.Buffered.{CutOff}
 use Rattle.aia_replay.specs.Runs.{Ends}
 use Rattle.aia_replay.specs.Stands.{EngineState, StandsFor, Serves}
 

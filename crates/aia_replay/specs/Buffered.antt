@@ -9,10 +9,3 @@ pub record Gathers (waiting still : List ℕ) (before now : Option (List ℕ)) (
   pub taken : List ℕ
   pub appended : Appends before now taken
   pub together : taken ++ still ≡ waiting ++ added
-
--- The sink failed, and took a front of some bytes.
-pub record CutOff (before now : Option (List ℕ)) (bytes : List ℕ) : Type 0 where
-  pub part : List ℕ
-  pub lost : List ℕ
-  pub appended : Appends before now part
-  pub together : part ++ lost ≡ bytes

@@ -2,7 +2,7 @@
 use Rattle.std.specs.Prelude.{◌≡◌, ◌≢◌, ℕ, ◌+◌, ◌≤◌, ◌⊎◌, Bool, true, false, nat_eq, List, [], ◌∷◌, ◌++◌, length, map, All, Option, Some, None, IfSome}
 use Rattle.std.specs.Borrow.{Bor}
 use Rattle.std.specs.Io.KnownBytes.{Appends}
-use Rattle.aia_io.specs.Ends.{Supply, Gives, Rose, RoseBy}
+use Rattle.aia_io.specs.Ends.{Supply, Gives, Rose, RoseBy, Takes, CutOff, TakesAll, TakesAtMost}
 use Rattle.aia_command.specs.declared.subcommand.Subcommand.{Subcommand}
 use Rattle.aia_command.specs.declared.subcommand.Subcommand.TheVariants.{Replay, Generate, Audit}
 use Rattle.aia_command.specs.CommandLine.{subcommand_of}
@@ -18,7 +18,6 @@ use Rattle.aia_audit.specs.PlanText.{audit_text}
 use Rattle.aia_replay.specs.declared.program.Status.{Status}
 use Rattle.aia_replay.specs.declared.program.Status.TheVariants.{Done, Usage, ReadFault, WriteFault, Memory, TooLong}
 use Rattle.aia_replay.specs.declared.limits.TheConstants.{SCRIPT_BYTES}
-use Rattle.aia_replay.specs.Buffered.{CutOff}
 
 -- What the words of the command line ask for, without the program's name; None where they are
 -- refused.
@@ -32,19 +31,6 @@ WritesAnswers left before now = IfSome left.to_come (λ script. Appends before n
 -- Nothing was taken of the source, and nothing was written.
 abbrev pub TouchesNothing : Supply → Supply → Option (List ℕ) → Option (List ℕ) → Type 0
 TouchesNothing left rest before now = Gives left rest [] × Appends before now []
-
--- All was taken: the source answered that none is left, and where it tells its bytes, none is.
-abbrev pub TakesAll : Supply → Supply → Type 0
-TakesAll left rest =
-    Rose left.ends rest.ends × IfSome left.to_come (λ script. rest.to_come ≡ Some [])
-
--- Just so many bytes were taken: the source's count of them says so, whether it tells them or not.
-abbrev pub Takes : ℕ → Supply → Supply → Type 0
-Takes count left rest = (bytes : List ℕ) × Gives left rest bytes × (length bytes ≡ count)
-
--- At most so many bytes were taken, by the same count.
-abbrev pub TakesAtMost : ℕ → Supply → Supply → Type 0
-TakesAtMost count left rest = (bytes : List ℕ) × Gives left rest bytes × (length bytes ≤ count)
 
 -- The source tells what it has left, and that is at most so many bytes.
 abbrev pub HasAtMost : ℕ → Option (List ℕ) → Type 0

@@ -1,7 +1,7 @@
 -- What a replayer has read, answered and written. Vocabulary.
 use Rattle.std.specs.Prelude.{◌≡◌, ◌≢◌, ℕ, ◌+◌, ◌<◌, ◌≤◌, ◌⊎◌, List, [], ◌∷◌, ◌++◌, length, take, Option}
-use Rattle.std.specs.Io.KnownBytes.{Appends, IsAtEnd}
-use Rattle.aia_io.specs.Ends.{Supply, Gives, GivesNone, Rose}
+use Rattle.std.specs.Io.KnownBytes.{Appends}
+use Rattle.aia_io.specs.Ends.{Supply, Gives, GivesNone, Rose, CutOff, TakesAtMost}
 use Rattle.aia_io.specs.declared.source.Read.{Read}
 use Rattle.aia_io.specs.declared.source.Read.TheVariants as reads
 use Rattle.aia_model.specs.Event.{History}
@@ -14,9 +14,9 @@ use Rattle.aia_replay.specs.declared.limits.TheConstants.{SCRIPT_BYTES}
 use Rattle.aia_replay.specs.declared.replayer.Replayer.{Replayer}
 use Rattle.aia_replay.specs.declared.program.Status.{Status}
 use Rattle.aia_replay.specs.declared.program.Status.TheVariants.{Done, ReadFault, TooLong}
-use Rattle.aia_replay.specs.Buffered.{Gathers, CutOff}
+use Rattle.aia_replay.specs.Buffered.{Gathers}
 use Rattle.aia_replay.specs.Stands.{StandsFor, ReadsAsMachine}
-use Rattle.aia_replay.specs.Runs.{NoEnd, IsWhole, AnswersWhole, IsScript, TakesAtMost, CutsLines, WritesFront, AsksMachine}
+use Rattle.aia_replay.specs.Runs.{NoEnd, IsWhole, AnswersWhole, IsScript, CutsLines, WritesFront, AsksMachine}
 
 -- The bytes read so far are whole lines, which are answered, and the tail of a line whose LF wasn't
 -- read; what was answered is written or waits in the buffer, and whatever follows is answered as
@@ -50,14 +50,6 @@ pub record HasStopped (r : Replayer) (before now : Option (List ℕ)) (bytes mor
   pub lines : IsWhole whole
   pub no_end : NoEnd text
   pub asks : AsksMachine (history_of whole) (reading text)
-
--- One read asked for `most` bytes at the front of a buffer.
-abbrev pub ReadsFront : ℕ → Supply → Supply → List ℕ → Read → Type 0
-ReadsFront most old new piece (reads.Got n) =
-    (0 < n) × (n ≤ most) × Gives old new (take n piece) × (new.ends ≡ old.ends)
-ReadsFront most old new piece reads.End =
-    IsAtEnd old.to_come × GivesNone old new × Rose old.ends new.ends
-ReadsFront most old new piece reads.Failed = GivesNone old new × (new.ends ≡ old.ends)
 
 -- Said of all that was taken of a source till now, whatever the source had left before.
 abbrev pub WhateverWasTaken : Supply → (Supply → List ℕ → Type 0) → Type 0

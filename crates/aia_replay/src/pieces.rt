@@ -2,8 +2,8 @@
 
 ghost use Rattle.std.specs.Prelude.{◌≡◌, ◌+◌, ◌<◌, ◌≤◌, ◌++◌, length, take, position, nat_eq};
 ghost use Rattle.arrayvec.specs.ArrayVec.{array_vec_len};
-ghost use Rattle.aia_io.specs.Ends.{ReadHasCause};
-ghost use Rattle.aia_replay.specs.Streams.{ReadsFront, ReadsOn};
+ghost use Rattle.aia_io.specs.Ends.{ReadHasCause, ReadsFront};
+ghost use Rattle.aia_replay.specs.Streams.{ReadsOn};
 
 use aia_io::{Read, Source};
 use aia_model::limits::LINE_BYTES;

@@ -1,6 +1,6 @@
 ghost use Rattle.std.specs.Prelude.{◌≡◌, ◌≢◌, ◌↔◌, ◌⊎◌, ◌+◌, ℕ, true, Some, None};
-ghost use Rattle.aia_io.specs.Ends.{Rose};
-ghost use Rattle.aia_replay.specs.Runs.{asked, reads_source, Ends, StopsAtMachine, WritesAnswers, WritesVerdict, TakesAll, FitsIn, IsDoneOrMemory};
+ghost use Rattle.aia_io.specs.Ends.{Rose, TakesAll};
+ghost use Rattle.aia_replay.specs.Runs.{asked, reads_source, Ends, StopsAtMachine, WritesAnswers, WritesVerdict, FitsIn, IsDoneOrMemory};
 ghost use Rattle.aia_replay.specs.Streams.{Begins};
 
 use crate::generator::summarize;

@@ -1,5 +1,5 @@
 ghost use Rattle.std.specs.Prelude.{◌≡◌, ◌≢◌, ℕ, ◌+◌, ◌*◌, ◌<◌, ◌≤◌, List, [], ◌∷◌, ◌++◌, take, Option, IfOk, OnOk, OnErr, Ok, Err};
-ghost use Rattle.aia_io.specs.Ends.{Rose};
+ghost use Rattle.aia_io.specs.Ends.{Rose, CutOff};
 ghost use Rattle.aia_model.specs.Forms.{IsListed};
 ghost use Rattle.aia_model.specs.declared.line.Line.{Line};
 
@@ -24,7 +24,6 @@ pub struct Replayer {
 }
 
 impl Replayer {
-    ghost use Rattle.aia_replay.specs.Buffered.{CutOff};
     ghost use Rattle.std.specs.Io.KnownBytes.{Appends};
     ghost use Rattle.aia_replay.specs.Streams.{Begins, AnswersRead, AnswersText, LacksMemory, LacksMemoryFor, WritesOut, WritesOutFront};
     ghost use Rattle.aia_replay.specs.Streams.{Feeds, FeedsFront, FeedsStop, Finishes, FinishesFront, FinishesStop, Streams, StreamsFront, StreamsStop};

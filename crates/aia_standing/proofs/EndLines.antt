@@ -1,6 +1,6 @@
 -- The last step of a move, in a core that stands for a history.
 use Rattle.std.proofs.Common.{◌≡◌, ℕ, ◌+◌, ◌*◌, ◌/◌, ◌%◌, Bool, true, false, ◌&&◌, ◌||◌, length, ◌∷◌, Option, Some, None, inl, inr, refl, sym, ap, subst, ◌∙◌, arith}
-use Rattle.std.proofs.lemmas.Bool.{or_right, cases_Bool, cond-true, false≢true, ne_eqb}
+use Rattle.std.proofs.lemmas.Bool.{cases_Bool, cond-true, false≢true, ne_eqb}
 use Rattle.std.proofs.lemmas.List.{length-set}
 use Rattle.aia_word.specs.Sets.{has_bit}
 use Rattle.aia_file.specs.InterruptFile.{InterruptFile, empty_file}
@@ -39,7 +39,9 @@ use Rattle.aia_model.specs.HomeOf.{home}
 use Rattle.aia_model.specs.Notice.{a_look_saw}
 use Rattle.aia_home.specs.Routes.{reach_stepped}
 use Rattle.aia_model.proofs.ReachLemmas.{reach_step}
-use Rattle.aia_model.proofs.MoveLemmas.{same_vcpu, is_itself}
+use Rattle.aia_model.proofs.PlaceLemmas.{ended_holds}
+use Rattle.aia_home.proofs.VmLemmas.{same_vcpu}
+use Rattle.aia_model.proofs.MoveLemmas.{is_itself}
 use Rattle.aia_standing.specs.declared.vcpu.VcpuRecord.{VcpuRecord}
 use Rattle.aia_standing.specs.Core.{CoreState, record_of, home_in, hand_in}
 use Rattle.aia_standing.specs.Moves.{stay_after, back_of, with_back}
@@ -70,11 +72,6 @@ ended_back (Shifted old new) (Shifting from to at) hand g = ap Some g.0
 ended_back o there hand g = absurd g
 
 -- what it holds then, and what it held
-ended_keeps : (q : Place) (there : Home) → holds q (ended there) ≡ true → holds q there ≡ true
-ended_keeps q (Leaving from at) e = absurd (false≢true e)
-ended_keeps q (Shifting from to at) e = or_right (is_place q from) (is_place q to) e
-ended_keeps q there e = e
-
 ended_left : (q : Place) (there : Home) → holds q there ≡ true → holds q (ended there) ≡ false → old_file there ≡ Some q
 ended_left q (Resident p) e n = absurd (false≢true (sym n ∙ e))
 ended_left q (Leaving from at) e n = ap Some (sym (same_place q from e))
@@ -299,7 +296,7 @@ module _ (x y : CoreState) (h : History) (g : Vcpu) (plan : Plan) (o : Outcome) 
   pub ends_stands : CoreStands y (Stepped g ∷ h)
   ends_stands = moved_on x y h (Stepped g) g (steps.step_changes x y h g plan r hand b.step_of (record {
     own = ends_own;
-    keeps = λ q holding. ended_keeps q (home h g) (ap (holds q) (sym at_end) ∙ holding);
+    keeps = λ q holding. ended_holds q (home h g) (ap (holds q) (sym at_end) ∙ holding);
     lease_harts = ap (λ (l : Leases). l.harts) b.leases ∙ harts_back (back_of o);
     lease_guests = ap (λ (l : Leases). l.guests) b.leases ∙ guests_back (back_of o);
     lease_count = ap (λ (l : Leases). length l.out) b.leases ∙ count_back (back_of o);

@@ -30,7 +30,7 @@ use Rattle.aia_home.specs.BySteps.{is_disabled, is_enabled_moved}
 use Rattle.aia_home.specs.Plans.{is_carried}
 use Rattle.aia_home.proofs.VmLemmas.{numbered, vm_past}
 use Rattle.aia_places.specs.Places.{Places, leads_to, entry_word, second_word}
-use Rattle.aia_places.specs.Holds.{Hand, Holds, HoldsSets, HoldsNumbers, HoldsRoutes}
+use Rattle.aia_places.specs.Holds.{Holds, HoldsSets, HoldsNumbers, HoldsRoutes}
 use Rattle.aia_places.specs.Stores.{AreApart}
 use Rattle.aia_pool.specs.Leases.{is_out}
 use Rattle.aia_world.specs.World.{no_stage}
@@ -58,6 +58,7 @@ use Rattle.aia_world.specs.declared.flying.Flying.{Flying}
 use Rattle.aia_home.specs.Aims.{AreAimed}
 use Rattle.aia_model.specs.Aim.{AllAreAimed}
 use Rattle.aia_model.specs.Passes.{passes_of, passes_to, passes_for}
+use Rattle.aia_standing.specs.Moves.{empty_hand}
 use Rattle.aia_standing.specs.Passes.{IsToOne, PassesKept, own_passes}
 use Rattle.aia_model.specs.HomeOf.{home, guest_place}
 use Rattle.aia_model.specs.Notice.{a_look_saw, notices_sent, look_saw}
@@ -337,9 +338,6 @@ no_stage_by (suc q) past = each_same no_stage (VCPUS - 1) q
 
 -- ---- the one that is resident
 
-abbrev no_hand : Hand
-no_hand = record { word = 0; delivery = 0; threshold = 0; seen = false }
-
 abbrev no_slot : Mrif
 no_slot = record { pending = λ i. false; enabled = λ i. false }
 
@@ -376,7 +374,7 @@ stayer_sets = record {
   past = λ i high. (refl, refl, refl, refl, refl);
 }
 
-stayer_numbers : HoldsNumbers 1 stayer_view (Resident stayer_file) no_hand (empty_file 63)
+stayer_numbers : HoldsNumbers 1 stayer_view (Resident stayer_file) empty_hand (empty_file 63)
 stayer_numbers = record {
   own_delivery = refl;
   next_delivery = refl;
@@ -389,7 +387,7 @@ stayer_numbers = record {
 stayer_routes : HoldsRoutes 0 0 (Some stayer_file) stayer_view (Resident stayer_file)
 stayer_routes = record { word0 = refl; word1 = refl; in_force = refl; may = inl (refl, refl); stage = refl; stage_in_force = refl }
 
-stayer_held : Holds 1 0 0 (Some stayer_file) stayer_view (Resident stayer_file) no_hand (empty_file 63) false
+stayer_held : Holds 1 0 0 (Some stayer_file) stayer_view (Resident stayer_file) empty_hand (empty_file 63) false
 stayer_held = record { sets = stayer_sets; numbers = stayer_numbers; routes = stayer_routes; looks = refl }
 
 stayer_stands : VcpuStands leaving_core leaving_history stayer
@@ -407,10 +405,10 @@ stayer_stands = record {
     reach = sym stayer_reach k;
     shows = places_of example_world stayer (sym stayer_home k);
     there = sym stayer_home k;
-    hand = no_hand;
+    hand = empty_hand;
     file = sym stayer_has k;
     saw = sym stayer_saw k;
-  }) (subst (λ v. Holds 1 0 0 (Some stayer_file) v (Resident stayer_file) no_hand (empty_file 63) false) (sym stayer_shows) stayer_held);
+  }) (subst (λ v. Holds 1 0 0 (Some stayer_file) v (Resident stayer_file) empty_hand (empty_file 63) false) (sym stayer_shows) stayer_held);
 }
 
 -- ---- the one that leaves

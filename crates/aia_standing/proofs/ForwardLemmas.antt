@@ -1,13 +1,12 @@
 -- The MSIs of passed sources: where they go, and that one is a store at the file to which its pass
 -- leads.
-use Rattle.std.proofs.Common.{◌≡◌, ℕ, zero, suc, ◌%◌, ◌<◌, ◌≤◌, true, false, cond, nat_eq, List, [], ◌∷◌, length, slice_index_or, Option, Some, None, refl, sym, ap, subst, ◌∙◌, arith}
+use Rattle.std.proofs.Common.{◌≡◌, ℕ, zero, suc, ◌%◌, ◌<◌, ◌≤◌, true, false, cond, List, [], ◌∷◌, length, slice_index_or, Option, Some, None, refl, sym, ap, subst, ◌∙◌, arith}
 use Rattle.std.specs.List.{AllByRecursion}
 use Rattle.std.specs.Prelude.{is_none}
 use Rattle.std.proofs.lemmas.Bool.{cond-true, cond-false, lt-ltb}
 use Rattle.aia_regs.specs.declared.limits.TheConstants.{HARTS, GUEST_FILES}
 use Rattle.aia_regs.specs.declared.address_map.TheConstants.{PAGE}
 use Rattle.aia_regs.specs.AddressMap.{supervisor_page, guest_page}
-use Rattle.aia_word.proofs.LeastLemmas.{least_of_is}
 use Rattle.aia_imsic.specs.declared.spot.Spot.{Spot}
 use Rattle.aia_imsic.specs.declared.spot.Spot.TheVariants as spots
 use Rattle.aia_imsic.specs.Imsic.{ImsicState, IsThere}
@@ -31,6 +30,7 @@ use Rattle.aia_model.specs.HomeOf.{home}
 use Rattle.aia_model.specs.FileAfter.FileDeed.{Rests}
 use Rattle.aia_model.specs.GuestFile.{goes_to_guest, passed_deed}
 use Rattle.aia_model.proofs.PassLemmas.{pass_may_land}
+use Rattle.aia_model.proofs.SentLemmas.{number_found}
 use Rattle.aia_standing.specs.Core.{CoreState}
 use Rattle.aia_standing.specs.HostFiles.{host_spot, is_host_spot}
 use Rattle.aia_standing.specs.Passes.{pass_in, IsToOne}
@@ -46,12 +46,7 @@ use Rattle.aia_standing.proofs.GuestStores.{file_changes}
 
 -- ---- the pass of an MSI
 
-pub pass_below : (h : History) (source : Option ℕ) (p : ℕ) → passed_by h source ≡ Some p → p < length (passes_of h)
-pass_below h None p is = absurd (cc)
-pass_below h (Some s) p is =
-    let least = least_of_is (λ q. nat_eq (nth_pass h q).source s) 0 (length (passes_of h)) p is in omega (arith, least.1)
-
-each_at : {A : Type 0} (P : A → Type 0) (xs : List A) (k : ℕ) (none : A) → k < length xs → AllByRecursion P xs → P (slice_index_or xs k none)
+pub each_at : {A : Type 0} (P : A → Type 0) (xs : List A) (k : ℕ) (none : A) → k < length xs → AllByRecursion P xs → P (slice_index_or xs k none)
 each_at P [] k none low all = absurd (omega (arith, low))
 each_at P (x ∷ xs) zero none low all = all.0
 each_at P (x ∷ xs) (suc k) none low all = each_at P xs k none (omega (arith, low)) all.1
@@ -105,7 +100,7 @@ of_pass x h p msi spot stands whole at pass may =
 
 module _ (x : CoreState) (h : History) (p : ℕ) (msi : Msi) (spot : Spot) (c : IsOfPass x h p msi spot) where
   low : p < length (passes_of h)
-  low = pass_below h msi.source p c.is
+  low = number_found h msi.source p c.is
 
   there_to : (reach : Option Place) → pass_reach h p ≡ reach → IsThere x.world.imsic (spot_to (pass_notice_hart h p) reach)
   there_to reach is = spot_there x h p c.stands c.whole low reach is
@@ -138,7 +133,7 @@ module _ (x y : CoreState) (h : History) (p : ℕ) (msi : Msi) (spot : Spot) (c 
   -- in a guest file it is a store for the virtual hart of the pass
   in_guest_file : (q : Place) → pass_reach h p ≡ Some q → Changes x y h (Delivered msi)
   in_guest_file q is =
-      let low = pass_below h msi.source p c.is in
+      let low = number_found h msi.source p c.is in
       let named : spot ≡ spot_of q = forward_spot x h p msi spot c (Some q) is in
       let page : goes_to_guest h msi ≡ true = forward_page x h p msi spot c (Some q) is in
       let start : msi.address % PAGE ≡ 0 = at_start (pass_notice_hart h p) (pass_reach h p) msi.address c.leads.page in
@@ -254,7 +249,7 @@ then_relays x y number msi spot c host m goes =
       happens = (m.may, m.happens);
       stands = goes h m.stands m.may;
       may = (
-        subst (λ (ps : List Pass). number < length ps) (sym (none_heard h msi)) (pass_below h msi.source number of.is),
+        subst (λ (ps : List Pass). number < length ps) (sym (none_heard h msi)) (number_found h msi.source number of.is),
         is_none_then (pass_reach (Delivered msi ∷ h) number) (reach_told x h number msi spot of ∙ host),
       );
     }
@@ -263,7 +258,7 @@ pub relayed_too : (x y z : CoreState) (number : ℕ) (msi : Msi) (spot : Spot) �
 relayed_too x y z number msi spot c host lands relays = λ h stands may.
     let of = of_pass x h number msi spot stands c.whole c.at c.pass may.1 in
     let memory = reach_told x h number msi spot of ∙ host in
-    let low = subst (λ (ps : List Pass). number < length ps) (sym (none_heard h msi)) (pass_below h msi.source number of.is) in
+    let low = subst (λ (ps : List Pass). number < length ps) (sym (none_heard h msi)) (number_found h msi.source number of.is) in
     subst (λ (o : Option ℕ). CoreStands z (given_on o (Delivered msi ∷ h))) (sym of.is)
     (subst (CoreStands z) (sym (cond-true _ _ _ memory)) (relays (Delivered msi ∷ h) (lands h stands may) (low, is_none_then (pass_reach (Delivered msi ∷ h) number) memory)))
 

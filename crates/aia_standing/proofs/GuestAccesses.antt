@@ -46,7 +46,8 @@ use Rattle.aia_model.specs.Notice.{a_look_saw}
 use Rattle.aia_model.specs.Refusal.{refusal, serves, raises_illegal, raises_virtual}
 use Rattle.aia_model.specs.Answer.{csr_shown, guest_csr_value}
 use Rattle.aia_model.proofs.AnswerLemmas.{guest_refusal}
-use Rattle.aia_model.proofs.MoveLemmas.{same_vcpu, is_itself, is_another}
+use Rattle.aia_home.proofs.VmLemmas.{same_vcpu}
+use Rattle.aia_model.proofs.MoveLemmas.{is_itself, is_another}
 use Rattle.aia_standing.specs.declared.vcpu.Stay.{Stay}
 use Rattle.aia_standing.specs.declared.vcpu.Stay.TheVariants as stays
 use Rattle.aia_standing.specs.declared.vcpu.VcpuRecord.{VcpuRecord}
@@ -80,6 +81,9 @@ resident_stay (stays.Moving plan) p e = let bad : ◌≡◌ {A = Option Place} N
 
 pub there_in : (x : CoreState) (h : History) (g : Vcpu) → CoreStands x h → is_vcpu_in x.world.vms g ≡ true → has_vcpu h g ≡ true
 there_in x h g stands there = subst (λ (vs : List Vm). is_vcpu_in vs g ≡ true) stands.vms there
+
+pub missing_in : (x : CoreState) (h : History) (g : Vcpu) → CoreStands x h → is_vcpu_in x.world.vms g ≡ false → has_vcpu h g ≡ false
+missing_in x h g stands none = subst (λ (vs : List Vm). is_vcpu_in vs g ≡ false) stands.vms none
 
 pub is_home_at : (x : CoreState) (h : History) (g : Vcpu) (p : Place) → CoreStands x h → has_vcpu h g ≡ true → resident_at (record_of x g).stay ≡ Some p → home h g ≡ Resident p
 is_home_at x h g p stands there at = sym (stands.vcpus g there).same_home ∙ resident_home (record_of x g).stay p at

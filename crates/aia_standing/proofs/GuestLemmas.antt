@@ -1,5 +1,5 @@
 -- The file of a virtual hart that a history gives, and stores that ask at it.
-use Rattle.std.proofs.Common.{◌≡◌, ◌≢◌, ℕ, ◌+◌, ◌/◌, ◌<◌, ◌≤◌, Bool, true, false, cond, Option, Some, None, inl, inr, refl, sym, ap, subst, ◌∙◌, arith}
+use Rattle.std.proofs.Common.{◌≡◌, ◌≢◌, ℕ, ◌≤◌, Bool, true, false, cond, Option, Some, None, inl, inr, refl, sym, ap, subst, ◌∙◌, arith}
 use Rattle.std.specs.Int.{is_in_range}
 use Rattle.std.proofs.lemmas.Bool.{cases_eq, ne_eqb, false≢true}
 use Rattle.std.proofs.lemmas.Bool.Decides.{nat_tests}
@@ -7,9 +7,6 @@ use Rattle.aia_regs.specs.BitUpdate.{names}
 use Rattle.aia_regs.specs.BitUpdate.BitUpdate.{Ask, Nothing}
 use Rattle.aia_regs.specs.Request.{number_written, implemented, request_said}
 use Rattle.aia_file.specs.InterruptFile.{is_greatest_identity}
-use Rattle.aia_mrif.specs.declared.slot.Stored.{Stored}
-use Rattle.aia_mrif.specs.declared.slot.Stored.TheVariants.{Discarded, Quiet, Notice}
-use Rattle.aia_mrif.specs.Mrif.{stored}
 use Rattle.aia_regs.specs.declared.limits.TheConstants.{IDENTITIES}
 
 -- ---- a store that asks of more identities says the same of those of the file
@@ -36,17 +33,6 @@ said_within_by (Some x) n i few low =
 
 pub said_within : (n offset value i : ℕ) → n ≤ IDENTITIES → i ≤ n → request_said IDENTITIES offset value i ≡ request_said n offset value i
 said_within n offset value i few low = said_within_by (number_written offset value) n i few low
-
--- ---- a notice of a slot is the model's
-
-abbrev pub is_notice : Stored → Bool
-is_notice Notice = true
-is_notice stored = false
-
-pub is_notice-true : (s : Stored) → is_notice s ≡ true → s ≡ Notice
-is_notice-true Notice e = refl
-is_notice-true Quiet e = absurd (cc)
-is_notice-true Discarded e = absurd (cc)
 
 -- what holds of each of the six greatest identities that there may be
 pub each_size : (P : ℕ → Type 0) → P 63 → P 127 → P 255 → P 511 → P 1023 → P 2047 → (n : ℕ) → is_greatest_identity n ≡ true → P n
@@ -76,6 +62,3 @@ each_size P p63 p127 p255 p511 p1023 p2047 n greatest =
                 ]
           ]
     ]
-
-pub few_identities : (n : ℕ) → is_greatest_identity n ≡ true → n ≤ IDENTITIES
-few_identities n greatest = each_size (λ n. n ≤ IDENTITIES) (omega arith) (omega arith) (omega arith) (omega arith) (omega arith) (omega arith) n greatest

@@ -26,7 +26,7 @@ use Rattle.aia_home.specs.Routes.{peers_reach, MayLand, is_noticed}
 use Rattle.aia_home.proofs.RouteLemmas.{reach_lands, peers_may}
 use Rattle.aia_model.proofs.ReachLemmas.{in_force_may}
 use Rattle.aia_home.specs.BySteps.{own_file, next_file}
-use Rattle.aia_home.proofs.VmLemmas.{slot_below, same_slot}
+use Rattle.aia_home.proofs.VmLemmas.{slot_below, same_slot, same_vcpu}
 use Rattle.aia_home.proofs.AllLemmas.{any_vcpu, of_none}
 use Rattle.aia_places.specs.Places.{Places}
 use Rattle.aia_places.specs.Holds.{Holds, IsWithin}
@@ -56,7 +56,7 @@ use Rattle.aia_model.specs.HomeOf.{home}
 use Rattle.aia_model.specs.Notice.{noticed, noticed_by_store, a_look_saw}
 use Rattle.aia_model.specs.FileOf.{FileName, SupervisorFile, deed_at, notice_deed}
 use Rattle.aia_model.proofs.FileLemmas.{same_or_other, is_file-itself, is_file-other}
-use Rattle.aia_model.proofs.MoveLemmas.{same_vcpu, is_itself, is_another}
+use Rattle.aia_model.proofs.MoveLemmas.{is_itself, is_another}
 use Rattle.aia_standing.specs.declared.vcpu.VcpuRecord.{VcpuRecord}
 use Rattle.aia_standing.specs.Core.{CoreState, no_record, record_of, hand_in}
 use Rattle.aia_standing.specs.HostFiles.{FileDone, host_spot, select_place}

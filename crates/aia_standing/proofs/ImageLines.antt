@@ -16,7 +16,6 @@ use Rattle.aia_major.specs.Kept.{majors_shown}
 use Rattle.aia_home.specs.Vms.{Vcpu, vcpu, is_vcpu_in, vcpus_in, slot_of, notice_hart, notice_identity}
 use Rattle.aia_home.specs.Home.{is_moving, is_resident, is_entered, rests_in_memory}
 use Rattle.aia_home.specs.Home.Home.{Parked}
-use Rattle.aia_home.specs.declared.vm.Vm.{Vm}
 use Rattle.aia_world.specs.World.{World}
 use Rattle.aia_world.specs.Whole.{IsWhole}
 use Rattle.aia_world.specs.Stores.{LandsIn, Posts, counted}
@@ -55,11 +54,11 @@ use Rattle.aia_world.specs.declared.found.Found.{Found}
 use Rattle.aia_world.specs.Found.{IsFound}
 use Rattle.aia_standing.specs.Stands.{PlanStands, CoreStands, StandsForSome, CoreTakes}
 use Rattle.aia_home.proofs.VmLemmas.{slot_below}
-use Rattle.aia_mrif.proofs.AccessLemmas.{few_identities}
+use Rattle.aia_file.proofs.SizeLemmas.{few_identities}
 use Rattle.aia_standing.proofs.VcpuLemmas.{quiet_line}
 use Rattle.aia_standing.proofs.EventLemmas.{Changes, accepted, refused, hosts_line, nothing_done, as_it_was}
 use Rattle.aia_standing.proofs.FilesInMemory.{file_is}
-use Rattle.aia_standing.proofs.GuestAccesses.{there_in}
+use Rattle.aia_standing.proofs.GuestAccesses.{there_in, missing_in}
 use Rattle.aia_standing.proofs.MajorLemmas.{IsOfMajors, HasMajors, majors_change}
 use Rattle.aia_standing.proofs.MemoryDeeds.{with_memory, but_memory, memory_deed}
 use Rattle.aia_standing.proofs.RunLines.{OnlyNotifies, nothing_told, one_told}
@@ -149,12 +148,9 @@ not_neither true true e f = refl
 not_neither true false e f = absurd (cc)
 not_neither false b e f = absurd (cc)
 
-missing : (x : CoreState) (h : History) (g : Vcpu) → CoreStands x h → is_vcpu_in x.world.vms g ≡ false → has_vcpu h g ≡ false
-missing x h g stands none = subst (λ (vs : List Vm). is_vcpu_in vs g ≡ false) stands.vms none
-
 pub no_vcpu_to_save : (x : CoreState) (vm number k : ℕ) → is_vcpu_in x.world.vms (vcpu vm number) ≡ false → CoreTakes x x (Save vm number k) (Refused words.Range)
 no_vcpu_to_save x vm number k none = refused x (Save vm number k) (Refused words.Range) (λ h stands.
-    save_refusal h vm number k stands.there ∙ cond-true _ _ _ (not_first (has_vcpu h (vcpu vm number)) (nat_lt k (parts_in (file_words h))) (missing x h (vcpu vm number) stands none)))
+    save_refusal h vm number k stands.there ∙ cond-true _ _ _ (not_first (has_vcpu h (vcpu vm number)) (nat_lt k (parts_in (file_words h))) (missing_in x h (vcpu vm number) stands none)))
 
 pub no_such_part : (x : CoreState) (vm number k : ℕ) → (x.world.n + 1) / 64 + 3 ≤ k → CoreTakes x x (Save vm number k) (Refused words.Range)
 no_such_part x vm number k past = refused x (Save vm number k) (Refused words.Range) (λ h stands.
@@ -173,7 +169,7 @@ not_parked_to_save x vm number k word inside low e = refused x (Save vm number k
 
 pub no_vcpu_to_load : (x : CoreState) (vm number : ℕ) (part : Part) → is_vcpu_in x.world.vms (vcpu vm number) ≡ false → CoreTakes x x (LoadPart vm number part) (Refused words.Range)
 no_vcpu_to_load x vm number part none = refused x (LoadPart vm number part) (Refused words.Range) (λ h stands.
-    load_part_refusal h vm number part stands.there ∙ cond-true _ _ _ (not_first (has_vcpu h (vcpu vm number)) (is_loadable (greatest_identity_of h) part) (missing x h (vcpu vm number) stands none)))
+    load_part_refusal h vm number part stands.there ∙ cond-true _ _ _ (not_first (has_vcpu h (vcpu vm number)) (is_loadable (greatest_identity_of h) part) (missing_in x h (vcpu vm number) stands none)))
 
 pub not_loadable : (x : CoreState) (vm number : ℕ) (part : Part) → is_loadable x.world.n part ≡ false → CoreTakes x x (LoadPart vm number part) (Refused words.Range)
 not_loadable x vm number part bad = refused x (LoadPart vm number part) (Refused words.Range) (λ h stands.

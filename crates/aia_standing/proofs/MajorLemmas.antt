@@ -43,7 +43,8 @@ use Rattle.aia_model.specs.Move.{line_deed}
 use Rattle.aia_model.specs.Move.LineDeed.{NoMove}
 use Rattle.aia_model.specs.Answer.{accepted_answer, guest_csr_value}
 use Rattle.aia_model.proofs.AnswerLemmas.{inject_refusal, hvictl_refusal, hviprio_refusal}
-use Rattle.aia_model.proofs.MoveLemmas.{same_vcpu, is_itself, is_another}
+use Rattle.aia_home.proofs.VmLemmas.{same_vcpu}
+use Rattle.aia_model.proofs.MoveLemmas.{is_itself, is_another}
 use Rattle.aia_standing.specs.declared.vcpu.VcpuRecord.{VcpuRecord}
 use Rattle.aia_standing.specs.Core.{CoreState, no_record, record_of, hand_in, resident_at, MajorsDone}
 use Rattle.aia_standing.specs.HostFiles.{FileDone, host_spot, select_place}

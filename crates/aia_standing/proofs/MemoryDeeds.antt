@@ -15,7 +15,7 @@ use Rattle.aia_home.specs.declared.place.Place.{Place}
 use Rattle.aia_home.specs.Vms.{Vcpu, is_vcpu, slot_of, notice_hart}
 use Rattle.aia_home.specs.Home.{Home, holds, rests_in_memory}
 use Rattle.aia_home.specs.Home.Home.{Resident, Leaving, Arriving, Shifting}
-use Rattle.aia_home.proofs.VmLemmas.{slot_below}
+use Rattle.aia_home.proofs.VmLemmas.{slot_below, same_vcpu}
 use Rattle.aia_image.proofs.WordLemmas.{shown_alone}
 use Rattle.aia_places.specs.Holds.{HasSets}
 use Rattle.aia_places.specs.Stores.{AreApart}
@@ -38,7 +38,7 @@ use Rattle.aia_model.specs.HomeOf.{home}
 use Rattle.aia_model.specs.Notice.{a_look_saw}
 use Rattle.aia_model.specs.Passes.{passes_of}
 use Rattle.aia_model.proofs.FileLemmas.{file_by_step}
-use Rattle.aia_model.proofs.MoveLemmas.{same_vcpu, is_itself, is_another}
+use Rattle.aia_model.proofs.MoveLemmas.{is_itself, is_another}
 use Rattle.aia_standing.specs.Core.{CoreState, record_of, home_in, hand_of, hand_in}
 use Rattle.aia_standing.specs.Memory.{file_in_memory}
 use Rattle.aia_standing.specs.Passes.{HasItsPasses}

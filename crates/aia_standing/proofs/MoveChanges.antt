@@ -13,7 +13,7 @@ use Rattle.aia_home.specs.declared.place.Place.{Place}
 use Rattle.aia_home.specs.declared.vm.Vm.{Vm}
 use Rattle.aia_home.specs.Vms.{Vcpu, is_vcpu, vcpus_in, is_vcpu_in, slot_of, notice_hart, all_vcpus}
 use Rattle.aia_home.specs.Home.{holds}
-use Rattle.aia_home.proofs.VmLemmas.{slot_below}
+use Rattle.aia_home.proofs.VmLemmas.{slot_below, same_vcpu}
 use Rattle.aia_places.specs.Stores.{AreApart}
 use Rattle.aia_pool.specs.Leases.{is_out}
 use Rattle.aia_world.specs.World.{World, no_stage}
@@ -33,7 +33,7 @@ use Rattle.aia_model.specs.Notice.{noticed, a_look_saw}
 use Rattle.aia_model.specs.FileOf.{FileName, deed_at, notice_deed}
 use Rattle.aia_model.proofs.FileLemmas.{file_by_step}
 use Rattle.aia_model.proofs.ReachLemmas.{reach_step}
-use Rattle.aia_model.proofs.MoveLemmas.{home_step, seen_stays, same_vcpu, is_another}
+use Rattle.aia_model.proofs.MoveLemmas.{home_step, seen_stays, is_another}
 use Rattle.aia_standing.specs.declared.vcpu.VcpuRecord.{VcpuRecord}
 use Rattle.aia_standing.specs.Core.{CoreState, record_of, home_in, hand_in}
 use Rattle.aia_standing.specs.HostFiles.{FileDone, host_spot}

@@ -31,7 +31,7 @@ use Rattle.aia_model.specs.ReachOf.{in_force_of}
 use Rattle.aia_model.specs.HomeOf.{home}
 use Rattle.aia_model.specs.Refusal.{refusal}
 use Rattle.aia_model.specs.Answer.{accepted_answer, msi_taken}
-use Rattle.aia_model.proofs.AnswerLemmas.{answered, step_refusal}
+use Rattle.aia_model.proofs.AnswerLemmas.{answered, step_refusal, begin_refusal}
 use Rattle.aia_model.specs.declared.want.Want.{Want}
 use Rattle.aia_model.specs.declared.want.Want.TheVariants as wants
 use Rattle.aia_standing.specs.declared.vcpu.Stay.{Stay}
@@ -45,11 +45,6 @@ use Rattle.aia_standing.proofs.VcpuLemmas.{IsHeld}
 use Rattle.aia_standing.proofs.EventLemmas.{by_refusal, refused}
 
 -- ---- a beginning
-
-same_refusal : (h : History) (vm number : ℕ) (want : Want) → refusal h (lines.Begin vm number want) ≡ refusal h (lines.Move vm number want)
-same_refusal h vm number wants.Leave = refl
-same_refusal h vm number (wants.Arrive hart) = refl
-same_refusal h vm number (wants.Shift hart) = refl
 
 okay : (h : History) (vm number : ℕ) (want : Want) → accepted_answer h (lines.Begin vm number want) ≡ accepted_answer h (lines.Move vm number want)
 okay h vm number wants.Leave = refl
@@ -65,9 +60,9 @@ served None h vm number (wants.Shift hart) = refl
 pub begin_taken : (x y : CoreState) (vm number : ℕ) (want : Want) (given : Answer) → MoveBegins x y vm number want given → CoreTakes x y (lines.Begin vm number want) given
 begin_taken x y vm number want given begins = record {
   answers = λ h stands. begins.answers h stands ∙ answered h (lines.Move vm number want) (refusal h (lines.Move vm number want)) refl
-      ∙ (λ k. unwrap_or (sym (same_refusal h vm number want) k) (sym (okay h vm number want) k)) ∙ sym (answered h (lines.Begin vm number want) (refusal h (lines.Begin vm number want)) refl);
-  stands = λ h stands. subst (CoreStands y) (sym (ap (λ r. line_served r h (lines.Begin vm number want)) (same_refusal h vm number want) ∙ served (refusal h (lines.Move vm number want)) h vm number want)) (begins.begins h stands);
-  unchanged = λ h word stands is. begins.unchanged h word stands (sym (same_refusal h vm number want) ∙ is);
+      ∙ (λ k. unwrap_or (sym (begin_refusal h vm number want) k) (sym (okay h vm number want) k)) ∙ sym (answered h (lines.Begin vm number want) (refusal h (lines.Begin vm number want)) refl);
+  stands = λ h stands. subst (CoreStands y) (sym (ap (λ r. line_served r h (lines.Begin vm number want)) (begin_refusal h vm number want) ∙ served (refusal h (lines.Move vm number want)) h vm number want)) (begins.begins h stands);
+  unchanged = λ h word stands is. begins.unchanged h word stands (sym (begin_refusal h vm number want) ∙ is);
 }
 
 -- ---- a step

@@ -34,6 +34,7 @@ use Rattle.aia_model.specs.Passes.{Pass, no_pass, passes_of, passes_for}
 use Rattle.aia_model.specs.Aim.{aimed_by}
 use Rattle.aia_model.specs.Refusal.{refusal}
 use Rattle.aia_model.proofs.AnswerLemmas.{answered, pass_refusal}
+use Rattle.aia_model.proofs.FlightLemmas.{all_append}
 use Rattle.aia_model.proofs.MoveLemmas.{is_another}
 use Rattle.aia_standing.specs.declared.passed.Passed.{Passed}
 use Rattle.aia_standing.specs.declared.vcpu.VcpuRecord.{VcpuRecord}
@@ -112,10 +113,6 @@ none_of_source passes source count all none = sym (least_of-none (λ p. nat_eq (
 other_own : (number : ℕ) (g : Vcpu) (x : Pass) (xs : List Pass) → is_vcpu x.to g ≡ false → own_passes number g (xs ++ x ∷ []) ≡ own_passes number g xs
 other_own number g x [] other = cond-false _ _ _ other
 other_own number g x (y ∷ ys) other = ap (λ (own : List plans.Pass). cond (is_vcpu y.to g) (record { source = y.source; identity = y.identity; number = number } ∷ own) own) (other_own (suc number) g x ys other)
-
-each_and_one : {A : Type 0} (P : A → Type 0) (xs : List A) (x : A) → AllByRecursion P xs → P x → AllByRecursion P (xs ++ x ∷ [])
-each_and_one P [] x all one = (one, tt)
-each_and_one P (y ∷ ys) x all one = (all.0, each_and_one P ys x all.1 one)
 
 -- a plan of a move is of one that is being moved
 pub plan_moves : (w : World) (g : Vcpu) (stay : Stay) → PlanStands w g stay → is_moving (home_in stay) ≡ has_plan stay
@@ -286,7 +283,7 @@ module _ (x : CoreState) (h : History) (source vm number identity : ℕ) (stands
       (record { first = tt; one = tt; flights = λ v. stands.flights v ∙ ap (map (flying_of v)) (sym (none_flies_off h source vm number identity v)) })
       (record {
         same = ap (λ (ps : List Pass). ps ++ pass ∷ []) stands.passes.same ∙ sym (one_passed h source vm number identity);
-        to_one = subst (AllByRecursion (IsToOne h)) (sym (one_passed h source vm number identity)) (each_and_one (IsToOne h) (passes_of h) pass stands.passes.to_one to_one);
+        to_one = subst (AllByRecursion (IsToOne h)) (sym (one_passed h source vm number identity)) (all_append (IsToOne h) (passes_of h) pass stands.passes.to_one to_one);
         rest = at_rest;
       }) stands
 

@@ -2,20 +2,17 @@
 use Rattle.aia_model.proofs.ReachLemmas.{stage_in_force_by}
 use Rattle.aia_model.specs.ReachOf.{stage_in_force_of}
 use Rattle.aia_home.proofs.RouteLemmas.{peers_may}
-use Rattle.std.proofs.Common.{◌≡◌, ℕ, ◌<◌, ◌≤◌, true, false, not, ◌&&◌, cond, nat_lt, List, Option, Some, None, refl, sym, ap, subst, ◌∙◌, arith}
-use Rattle.std.specs.Int.{is_in_range}
+use Rattle.std.proofs.Common.{◌≡◌, ℕ, true, false, not, cond, Option, Some, None, refl, sym, ap, subst, ◌∙◌}
 use Rattle.std.proofs.lemmas.Bool.{cond-true, cond-false}
-use Rattle.std.proofs.lemmas.Bool.Decides.{nat_tests}
 use Rattle.aia_imsic.specs.declared.spot.Spot.{Spot}
-use Rattle.aia_imsic.specs.Imsic.{ImsicState, IsThere}
+use Rattle.aia_imsic.specs.Imsic.{IsThere}
 use Rattle.aia_home.specs.declared.place.Place.{Place}
-use Rattle.aia_home.specs.declared.vm.Vm.{Vm}
 use Rattle.aia_home.specs.Vms.{Vcpu, vcpu, is_vcpu_in}
 use Rattle.aia_home.specs.Home.{Home, runs, is_moving}
 use Rattle.aia_home.specs.Home.Home.{Parked, Leaving, Arriving, Shifting}
 use Rattle.aia_home.specs.Routes.{peers_reach, MayLand}
 use Rattle.aia_world.specs.World.{World, stage_of}
-use Rattle.aia_world.specs.Stores.{StoresAt, Relays, named_spot}
+use Rattle.aia_world.specs.Stores.{StoresAt, Relays}
 use Rattle.aia_world.specs.Whole.{IsWhole}
 use Rattle.aia_world.specs.Changes.{spot_of}
 use Rattle.aia_model.specs.declared.answer.Answer.TheVariants.{Okay, Refused}
@@ -26,6 +23,7 @@ use Rattle.aia_model.specs.Event.Event.{Accepted}
 use Rattle.aia_model.specs.Vms.{has_vcpu}
 use Rattle.aia_model.specs.HomeOf.{home}
 use Rattle.aia_model.specs.Refusal.{refusal}
+use Rattle.aia_world.proofs.PlaceLemmas.{named_guest}
 use Rattle.aia_model.proofs.AnswerLemmas.{ipi_refusal}
 use Rattle.aia_move.specs.Plan.{moving_of}
 use Rattle.aia_standing.specs.declared.vcpu.Stay.{Stay}
@@ -34,6 +32,7 @@ use Rattle.aia_standing.specs.Core.{CoreState, record_of, home_in, runs_in}
 use Rattle.aia_standing.specs.Stands.{PlanStands, CoreStands, CoreTakes}
 use Rattle.aia_standing.proofs.VcpuLemmas.{quiet_line}
 use Rattle.aia_standing.proofs.EventLemmas.{accepted, refused}
+use Rattle.aia_standing.proofs.GuestAccesses.{there_in, missing_in}
 use Rattle.aia_standing.proofs.GuestStores.{GuestStored, IsStoredFor, peers_held, stored_for_guest}
 
 -- ---- who runs
@@ -52,12 +51,6 @@ away_as_kept w g (stays.Moving plan) p = on_the_move (moving_of plan).home p.3
     on_the_move Parked moving = refl
     on_the_move there moving = absurd (cc)
 
-vcpu_there : (x : CoreState) (h : History) (g : Vcpu) → CoreStands x h → is_vcpu_in x.world.vms g ≡ true → has_vcpu h g ≡ true
-vcpu_there x h g stands there = subst (λ (vs : List Vm). is_vcpu_in vs g ≡ true) stands.vms there
-
-vcpu_missing : (x : CoreState) (h : History) (g : Vcpu) → CoreStands x h → is_vcpu_in x.world.vms g ≡ false → has_vcpu h g ≡ false
-vcpu_missing x h g stands lacks = subst (λ (vs : List Vm). is_vcpu_in vs g ≡ false) stands.vms lacks
-
 home_away : (x : CoreState) (h : History) (g : Vcpu) → CoreStands x h → has_vcpu h g ≡ true → runs (home h g) ≡ runs_in (record_of x g).stay
 home_away x h g stands there =
     let p = stands.vcpus g there in
@@ -65,14 +58,8 @@ home_away x h g stands there =
 
 -- ---- where the store goes
 
-guest_named : (i : ImsicState) (p : Place) → IsThere i (spot_of p) → named_spot i p ≡ spot_of p
-guest_named i p there = cond-true _ _ _ (named i.harts i.guests p.hart p.file there.0 there.1 there.2)
-  where
-    named : (harts guests hart file : ℕ) → hart < harts → 1 ≤ file → file ≤ guests → (nat_lt hart harts && is_in_range 1 guests file) ≡ true
-    named harts guests hart file inside some few = grind (arith, nat_tests)
-
 relayed : (w u : World) (g : Vcpu) (value : ℕ) (reach : Option Place) → ((p : Place) → reach ≡ Some p → IsThere w.imsic (spot_of p)) → Relays reach w u g value → GuestStored w u g reach 0 value
-relayed w u g value (Some p) inside relays = subst (λ (s : Spot). StoresAt w u s 0 value) (guest_named w.imsic p (inside p refl)) relays
+relayed w u g value (Some p) inside relays = subst (λ (s : Spot). StoresAt w u s 0 value) (named_guest w.imsic p (inside p refl)) relays
 relayed w u g value None inside relays = relays
 
 -- ---- what is left, and the answer
@@ -88,20 +75,20 @@ sender_there h vm number to value machine sends =
 by_stay : (x : CoreState) (h : History) (vm number to value : ℕ) → CoreStands x h → is_vcpu_in x.world.vms (vcpu vm number) ≡ true
     → refusal h (Ipi vm number to value) ≡ cond (not (runs_in (record_of x (vcpu vm number)).stay)) (Some (Refused Away)) (cond (not (has_vcpu h (vcpu vm to))) (Some (Refused GFault)) None)
 by_stay x h vm number to value stands sender =
-    let sends = vcpu_there x h (vcpu vm number) stands sender in
+    let sends = there_in x h (vcpu vm number) stands sender in
     sender_there h vm number to value stands.there sends
     ∙ ap (λ b. cond (not b) (Some (Refused Away)) (cond (not (has_vcpu h (vcpu vm to))) (Some (Refused GFault)) None)) (home_away x h (vcpu vm number) stands sends)
 
 pub no_sender : (x : CoreState) (vm number to value : ℕ) → is_vcpu_in x.world.vms (vcpu vm number) ≡ false → CoreTakes x x (Ipi vm number to value) (Refused Range)
 no_sender x vm number to value lacks = refused x (Ipi vm number to value) (Refused Range) (λ h stands.
-    ipi_refusal h vm number to value stands.there ∙ cond-true _ _ _ (ap not (vcpu_missing x h (vcpu vm number) stands lacks)))
+    ipi_refusal h vm number to value stands.there ∙ cond-true _ _ _ (ap not (missing_in x h (vcpu vm number) stands lacks)))
 
 pub sender_away : (x : CoreState) (vm number to value : ℕ) → is_vcpu_in x.world.vms (vcpu vm number) ≡ true → runs_in (record_of x (vcpu vm number)).stay ≡ false → CoreTakes x x (Ipi vm number to value) (Refused Away)
 sender_away x vm number to value sender away = refused x (Ipi vm number to value) (Refused Away) (λ h stands. by_stay x h vm number to value stands sender ∙ cond-true _ _ _ (ap not away))
 
 pub no_peer : (x : CoreState) (vm number to value : ℕ) → is_vcpu_in x.world.vms (vcpu vm number) ≡ true → runs_in (record_of x (vcpu vm number)).stay ≡ true → is_vcpu_in x.world.vms (vcpu vm to) ≡ false → CoreTakes x x (Ipi vm number to value) (Refused GFault)
 no_peer x vm number to value sender resident lacks = refused x (Ipi vm number to value) (Refused GFault) (λ h stands.
-    by_stay x h vm number to value stands sender ∙ cond-false _ _ _ (ap not resident) ∙ cond-true _ _ _ (ap not (vcpu_missing x h (vcpu vm to) stands lacks)))
+    by_stay x h vm number to value stands sender ∙ cond-false _ _ _ (ap not resident) ∙ cond-true _ _ _ (ap not (missing_in x h (vcpu vm to) stands lacks)))
 
 pub ipi_taken : (x y : CoreState) (vm number to value : ℕ) → IsWhole x.world → is_vcpu_in x.world.vms (vcpu vm number) ≡ true → runs_in (record_of x (vcpu vm number)).stay ≡ true → is_vcpu_in x.world.vms (vcpu vm to) ≡ true
     → Relays (stage_of x.world (vcpu vm to)).in_force x.world y.world (vcpu vm to) value → y.leases ≡ x.leases → y.vcpus ≡ x.vcpus → y.selects ≡ x.selects → y.passes ≡ x.passes → CoreTakes x y (Ipi vm number to value) Okay
@@ -110,7 +97,7 @@ ipi_taken x y vm number to value whole sender resident there relays leases vcpus
     let event = Accepted (Ipi vm number to value) in
     let reach = stage_in_force_of h g in
     let by_home : peers_reach (home h g) ≡ stage_in_force_of h g = sym (stage_in_force_by h g) in
-    let inside = vcpu_there x h g stands there in
+    let inside = there_in x h g stands there in
     let in_force : (stage_of x.world g).in_force ≡ reach = (stands.vcpus g inside).holds.routes.stage_in_force ∙ by_home in
     let stored : IsStoredFor x y h event g reach 0 value = record {
       meant = record {

@@ -15,9 +15,10 @@ use Rattle.aia_regs.specs.Operations.{bit_said}
 use Rattle.aia_regs.specs.Request.{requested}
 use Rattle.aia_regs.specs.BitUpdate.{BitUpdate, settle, names}
 use Rattle.aia_regs.specs.BitUpdate.BitUpdate.{Ask, Nothing}
-use Rattle.aia_file.specs.InterruptFile.{InterruptFile, SameFile, is_greatest_identity, accessed, landed}
+use Rattle.aia_file.specs.InterruptFile.{InterruptFile, SameFile, accessed, landed}
 use Rattle.aia_file.specs.FileState.{FileState, shown}
 use Rattle.aia_file.proofs.FileLemmas.{same_file}
+use Rattle.aia_file.proofs.SizeLemmas.{enough_identities}
 use Rattle.aia_imsic.specs.declared.spot.Spot.{Spot}
 use Rattle.aia_imsic.specs.declared.spot.Spot.TheVariants as spots
 use Rattle.aia_imsic.specs.Imsic.{ImsicState, IsThere, file_at, with_file}
@@ -109,9 +110,6 @@ then_noticed p v file = record {
   delivery = refl;
 }
 
-wide_enough : (n : ℕ) → is_greatest_identity n ≡ true → 63 ≤ n
-wide_enough n is = grind (arith, nat_tests)
-
 -- ---- what the calls say of it
 
 -- the file where it is taken, and the world between
@@ -175,7 +173,7 @@ module _ (x y : CoreState) (h : History) (p : ℕ) (file : FileState) (c : IsRel
   -- the file at its notice hart once the identity is taken
   between_is : shown file ≡ file_after 0 (Relays (host_identity p) None) (shown (file_at x.world.imsic spot))
   between_is =
-      let wide : 63 ≤ (shown (file_at x.world.imsic spot)).n = subst (λ n. 63 ≤ n) (sym (width_at x.world spot c.whole here)) (wide_enough x.world.n c.whole.greatest) in
+      let wide : 63 ≤ (shown (file_at x.world.imsic spot)).n = subst (λ n. 63 ≤ n) (sym (width_at x.world spot c.whole here)) (enough_identities x.world.n c.whole.greatest) in
       same_file _ _ c.takes ∙ same_file _ _ (taken p (shown (file_at x.world.imsic spot)) c.few wide)
 
   -- the files of the host, by the one at its notice hart

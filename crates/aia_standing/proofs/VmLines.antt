@@ -60,6 +60,7 @@ use Rattle.aia_model.specs.Notice.{a_look_saw}
 use Rattle.aia_model.specs.Refusal.{is_vm_size, lacks_room}
 use Rattle.aia_model.proofs.AnswerLemmas.{vm_refusal}
 use Rattle.aia_model.proofs.FileLemmas.{file_by_step}
+use Rattle.aia_model.proofs.FlightLemmas.{vm_within}
 use Rattle.aia_model.proofs.MoveLemmas.{home_step, seen_stays}
 use Rattle.aia_model.specs.Passes.{passes_of}
 use Rattle.aia_standing.specs.Passes.{HasItsPasses}
@@ -108,13 +109,6 @@ not_there_before : (vms : List Vm) (vm : Vm) (g : Vcpu) → is_vcpu_in (vms ++ v
 not_there_before vms vm g outside = elim (cases_lt g.vm (length vms)) [
   | inl low ↦ ap (λ (v : Vm). nat_lt g.number v.vcpus) (sym (vm_stays vms vm g.vm low)) ∙ outside
   | inr past ↦ le-ltb g.number (vm_in vms g.vm).vcpus (let none = vm_past vms g.vm past in omega (arith, none))
-]
-
--- one that is there is of a VM that is there
-vm_low : (vms : List Vm) (g : Vcpu) → is_vcpu_in vms g ≡ true → g.vm < length vms
-vm_low vms g there = elim (cases_lt g.vm (length vms)) [
-  | inl low ↦ low
-  | inr past ↦ let low = numbered vms g.vm g.number there in let none = vm_past vms g.vm past in absurd (omega (arith, low, none))
 ]
 
 -- ---- the records of its virtual harts
@@ -350,7 +344,7 @@ held_grown x y h vm p c = elim (cases_Bool (is_held h p)) [
 ]
   where
     there_still : (g : Vcpu) → has_vcpu h g ≡ true → is_vcpu_in (vms_of h ++ vm ∷ []) g ≡ true
-    there_still g there = ap (λ (v : Vm). nat_lt g.number v.vcpus) (vm_stays (vms_of h) vm g.vm (vm_low (vms_of h) g there)) ∙ there
+    there_still g there = ap (λ (v : Vm). nat_lt g.number v.vcpus) (vm_stays (vms_of h) vm g.vm (vm_within (vms_of h) g there)) ∙ there
 
     by_age : (g : Vcpu) → (has_vcpu h g ≡ true) ⊎ (has_vcpu h g ≡ false) → is_held h p ≡ false → holds p (home h g) ≡ false
     by_age g (inl there) none = of_none (vms_of h) (λ g. holds p (home h g)) g none there

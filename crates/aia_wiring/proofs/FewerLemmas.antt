@@ -7,7 +7,7 @@ use Rattle.aia_source.specs.Wired.{rectified}
 use Rattle.aia_source.specs.Wired.SourceDeed.{Forwarded}
 use Rattle.aia_domain.specs.InterruptSource.{InterruptSourceState, EachSource, changed_at, with_deed, waits, waits_at}
 use Rattle.aia_domain.specs.Domain.{DomainState, with_sources, is_ready}
-use Rattle.aia_wiring.proofs.SentSteps.{forward_says}
+use Rattle.aia_model.proofs.WaitingLemmas.{is_forwarded}
 
 -- a change after which no more wait
 abbrev NoMore : (ℕ → InterruptSourceState → InterruptSourceState) → Type 0
@@ -61,7 +61,7 @@ one_less (x ∷ xs) (y ∷ ys) change (suc s) each less here falls =
 
 -- a source that is forwarded
 falls_now : (x : InterruptSourceState) → waits (with_deed true Forwarded x) ≡ false
-falls_now x = ap (λ (p : Bool). p && x.enabled) (forward_says x.source.mode true (rectified x.source.mode x.source.wire) x.source.pending)
+falls_now x = ap (λ (p : Bool). p && x.enabled) (is_forwarded x.source.mode true (rectified x.source.mode x.source.wire) x.source.pending)
 
 fewer_at : (b : Bool) (x : InterruptSourceState) → waits (cond b (with_deed true Forwarded x) x) ≡ true → waits x ≡ true
 fewer_at true x e = let bad : false ≡ true = sym (falls_now x) ∙ e in absurd (cc)

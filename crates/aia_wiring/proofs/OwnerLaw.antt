@@ -14,13 +14,14 @@ use Rattle.aia_model.specs.declared.domain_name.DomainName.TheVariants.{Root, Ch
 use Rattle.aia_model.specs.SourceOf.{is_source, is_register_of, wire_of, root_sourcecfg_of, is_delegated, child_told, sourcecfg_of, delivers_by_msis, is_active_in}
 use Rattle.aia_wiring.specs.Side.{source_of}
 use Rattle.aia_wiring.proofs.Steps.{stepped, source-step, source-idle, step-nothing, step-deed}
-use Rattle.aia_wiring.proofs.WriteSteps.{child-none, inactive-stays}
+use Rattle.aia_model.proofs.OwnerLemmas.{none_undelegated}
+use Rattle.aia_wiring.proofs.WriteSteps.{inactive-stays}
 
 -- the root domain's register of a delegated source gives no mode, and that of another source leaves the child domain's register 0
 pub one_owner : (past : Past) (s : ℕ) → (is_active_in past Root s && is_active_in past Child s) ≡ false
 one_owner past s = elim (cases_eq (root_sourcecfg_of past s) DELEGATED) [
   | inl e ↦ ap (λ c. is_active (mode_of c) && is_active_in past Child s) e
-  | inr ne ↦ ap (λ c. is_active_in past Root s && is_active (mode_of c)) (child-none past s (ne_eqb (root_sourcecfg_of past s) DELEGATED ne)) ∙ and_right (is_active_in past Root s) false refl
+  | inr ne ↦ ap (λ c. is_active_in past Root s && is_active (mode_of c)) (none_undelegated past s (ne_eqb (root_sourcecfg_of past s) DELEGATED ne)) ∙ and_right (is_active_in past Root s) false refl
 ]
 
 -- ---- a source that is delegated is delegated again

@@ -26,7 +26,7 @@ use Rattle.aia_model.specs.SourceOf.{sources_in, is_source, is_register_of, root
 use Rattle.aia_wiring.specs.Side.{source_of, DomainStands}
 use Rattle.aia_wiring.specs.Controls.{is_control}
 use Rattle.aia_wiring.proofs.Steps.{source-idle}
-use Rattle.aia_wiring.proofs.WriteSteps.{child-none}
+use Rattle.aia_model.proofs.OwnerLemmas.{none_undelegated}
 use Rattle.aia_word.proofs.SetLemmas.{same_sets}
 
 -- ---- no source has the number 0
@@ -39,7 +39,7 @@ root-zero (a ∷ past) = root-zero past
 
 pub mode-zero : (past : Past) (d : DomainName) → is_active (mode past d 0) ≡ false
 mode-zero past Root = ap (λ c. is_active (mode_of c)) (root-zero past)
-mode-zero past Child = ap (λ c. is_active (mode_of c)) (child-none past 0 (ap delegates (root-zero past)))
+mode-zero past Child = ap (λ c. is_active (mode_of c)) (none_undelegated past 0 (ap delegates (root-zero past)))
 
 -- what is at a place: what the past makes of it, or nothing past the sources
 pub place : (d : DomainState) (past : Past) (name : DomainName) (s : ℕ) → DomainStands d past name → ((s < suc (sources_in past)) × (slice_get d.sources s ≡ Some (source_of past name s))) ⊎ ((suc (sources_in past) ≤ s) × (slice_get d.sources s ≡ None))
@@ -173,7 +173,7 @@ numbered of past i x low none is = elim (cases_eq i 0) [
 
 config_zero : (past : Past) (name : DomainName) → sourcecfg_of past name 0 ≡ 0
 config_zero past Root = root-zero past
-config_zero past Child = child-none past 0 (ap delegates (root-zero past))
+config_zero past Child = none_undelegated past 0 (ap delegates (root-zero past))
 
 pub read-stands : (reg : DomainReg) (d : DomainState) (past : Past) (name : DomainName) → is_control reg ≡ false → DomainStands d past name → domain_read d reg ≡ own_read past name reg
 read-stands DomainCfg d past name plain stands = ap (λ (b : Bool). domaincfg_read b d.msi) stands.on ∙ ap (λ (b : Bool). domaincfg_read (is_on past name) b) stands.msi

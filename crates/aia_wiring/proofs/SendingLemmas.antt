@@ -15,9 +15,10 @@ use Rattle.aia_model.specs.Act.Act.{Made, Sent, Aimed}
 use Rattle.aia_model.specs.SourceOf.{harts_in, sources_in, mode, input, is_on, delivers_by_msis, is_active_in, target, pending, genmsi_of, genmsi_waits, wire_of, enabled}
 use Rattle.aia_model.specs.Sent.{forwards, all_senders, has_msi, senders, msi_by, msi_of, waiting_msis, sent_by, with_all_sent}
 use Rattle.aia_model.specs.AddressOf.{addresses_of}
+use Rattle.aia_model.proofs.WaitingLemmas.{is_forwarded, aimed_sources}
 use Rattle.aia_wiring.specs.Side.{source_of}
 use Rattle.aia_wiring.proofs.Steps.{source-idle, same_target, same_mode_says, same_enable}
-use Rattle.aia_wiring.proofs.SentSteps.{forward_says, forwarded, sent_elsewhere}
+use Rattle.aia_wiring.proofs.SentSteps.{forwarded, sent_elsewhere}
 use Rattle.aia_wiring.proofs.AddressSteps.{addresses_sent}
 use Rattle.aia_source.proofs.ListLemmas.{filter_none, filter_rest}
 use Rattle.aia_wiring.specs.Senders.{SendsBefore}
@@ -69,7 +70,7 @@ ready_held sender past d s y e =
 
 -- a source that is forwarded
 ready_one : (b msi on : Bool) (x : InterruptSourceState) → ready_with msi on (cond (b && msi) (with_deed msi Forwarded x) x) ≡ (not (true && b) && ready_with msi on x)
-ready_one true true on x = ap (λ (p : Bool). on && p && x.enabled) (forward_says x.source.mode true (rectified x.source.mode x.source.wire) x.source.pending) ∙ and_left (on && false) x.enabled (and_right on false refl)
+ready_one true true on x = ap (λ (p : Bool). on && p && x.enabled) (is_forwarded x.source.mode true (rectified x.source.mode x.source.wire) x.source.pending) ∙ and_left (on && false) x.enabled (and_right on false refl)
 ready_one true false on x = refl
 ready_one false msi on x = refl
 
@@ -108,7 +109,7 @@ another t past d s other =
 pub sent_falls : (past : Past) (d : DomainName) (s : ℕ) → delivers_by_msis past d ≡ true → pending (Sent (BySource d s) ∷ past) d s ≡ false
 sent_falls past d s by_msi =
     ap (λ (x : InterruptSourceState). x.source.pending) (forwarded s past d s) ∙ ap (λ b. (cond (b && delivers_by_msis past d) (with_deed (delivers_by_msis past d) Forwarded (source_of past d s)) (source_of past d s)).source.pending) (eq-eqb s s refl)
-    ∙ ap (λ b. (cond b (with_deed (delivers_by_msis past d) Forwarded (source_of past d s)) (source_of past d s)).source.pending) by_msi ∙ forward_says (mode past d s) (delivers_by_msis past d) (input past d s) (pending past d s)
+    ∙ ap (λ b. (cond b (with_deed (delivers_by_msis past d) Forwarded (source_of past d s)) (source_of past d s)).source.pending) by_msi ∙ is_forwarded (mode past d s) (delivers_by_msis past d) (input past d s) (pending past d s)
 
 pub sent_stays : (sender : Sender) (past : Past) (d : DomainName) (s : ℕ) → (sender ≡ BySource d s → ⊥) → pending (Sent sender ∷ past) d s ≡ pending past d s
 sent_stays (ByGenMsi e) past d s other = ap (λ (x : InterruptSourceState). x.source.pending) (sent_elsewhere (ByGenMsi e) past d s refl)
@@ -172,16 +173,12 @@ unfolding genmsi_waits
 aim_has t v past (ByGenMsi d) = refl
 aim_has t v past (BySource d s) = aim_ready t v past d s
 
-aim_sizes : (t v : ℕ) (past : Past) → sources_in (Aimed t v ∷ past) ≡ sources_in past
-unfolding newest
-aim_sizes t v past = refl
-
 same_filter : (f g : Sender → Bool) (xs : List Sender) → ((x : Sender) → f x ≡ g x) → filter f xs ≡ filter g xs
 same_filter f g [] same = refl
 same_filter f g (x ∷ xs) same = ap (λ b. cond b (x ∷ filter f xs) (filter f xs)) (same x) ∙ ap (λ ys. cond (g x) (x ∷ ys) ys) (same_filter f g xs same)
 
 pub aim_waits : (t v : ℕ) (past : Past) → senders (Aimed t v ∷ past) ≡ senders past
-aim_waits t v past = same_filter (has_msi (Aimed t v ∷ past)) (has_msi past) (all_senders (sources_in (Aimed t v ∷ past))) (aim_has t v past) ∙ ap (λ n. filter (has_msi past) (all_senders n)) (aim_sizes t v past)
+aim_waits t v past = same_filter (has_msi (Aimed t v ∷ past)) (has_msi past) (all_senders (sources_in (Aimed t v ∷ past))) (aim_has t v past) ∙ ap (λ n. filter (has_msi past) (all_senders n)) (aimed_sources t v past)
 
 -- the harts and the sources stay
 sizes_sent : (sender : Sender) (past : Past) → ◌≡◌ {A = ℕ × ℕ} (harts_in (Sent sender ∷ past), sources_in (Sent sender ∷ past)) (harts_in past, sources_in past)

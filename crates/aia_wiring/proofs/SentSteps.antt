@@ -1,9 +1,5 @@
 -- What the sending of an MSI makes of a source, and of the controls of harts.
 use Rattle.std.proofs.Common.{◌≡◌, ℕ, Bool, false, cond, ◌&&◌, nat_eq, ◌∷◌, refl, ◌∙◌}
-use Rattle.aia_regs.specs.BitUpdate.{settle}
-use Rattle.aia_source.specs.declared.mode.Mode.{Mode}
-use Rattle.aia_source.specs.declared.mode.Mode.TheVariants.{Inactive, Detached, RisingEdge, FallingEdge, LevelHigh, LevelLow}
-use Rattle.aia_source.specs.Wired.{says}
 use Rattle.aia_source.specs.Wired.SourceDeed.{Forwarded}
 use Rattle.aia_domain.specs.InterruptSource.{with_deed}
 use Rattle.aia_model.specs.declared.domain_name.DomainName.{DomainName}
@@ -15,14 +11,6 @@ use Rattle.aia_model.specs.Act.Act.{Sent}
 use Rattle.aia_model.specs.SourceOf.{harts_in, wire_of, delivers_by_msis}
 use Rattle.aia_wiring.specs.Side.{source_of, control}
 use Rattle.aia_wiring.proofs.Steps.{source-step, source-idle, step-nothing, done_if}
-
-pub forward_says : (m : Mode) (msi r was : Bool) → settle (says m msi r r Forwarded) was ≡ false
-forward_says Inactive msi r was = refl
-forward_says Detached msi r was = refl
-forward_says RisingEdge msi r was = refl
-forward_says FallingEdge msi r was = refl
-forward_says LevelHigh msi r was = refl
-forward_says LevelLow msi r was = refl
 
 -- a source of the domain is forwarded
 pub forwarded : (t : ℕ) (past : Past) (d : DomainName) (s : ℕ) → source_of (Sent (BySource d t) ∷ past) d s ≡ cond (nat_eq t s && delivers_by_msis past d) (with_deed (delivers_by_msis past d) Forwarded (source_of past d s)) (source_of past d s)

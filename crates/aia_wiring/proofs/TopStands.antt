@@ -1,5 +1,6 @@
 -- What a hart is shown by a domain that stands for the past.
-use Rattle.std.proofs.Common.{◌≡◌, ℕ, zero, suc, ◌+◌, ◌-◌, ◌<◌, ◌≤◌, Bool, true, false, cond, ◌&&◌, ◌||◌, nat_eq, nat_le, length, Option, None, refl, sym, ap, ◌∙◌, arith}
+use Rattle.std.proofs.Common.{◌≡◌, ℕ, zero, suc, ◌+◌, ◌-◌, ◌<◌, ◌≤◌, Bool, true, false, cond, ◌&&◌, ◌||◌, nat_eq, length, Option, None, refl, sym, ap, ◌∙◌, arith}
+use Rattle.std.proofs.Math.Bool.{or-false}
 use Rattle.std.proofs.lemmas.Bool.{lt-leb}
 use Rattle.std.proofs.lemmas.Option.{slice_get-get_or}
 use Rattle.aia_word.specs.Top.{lets_through}
@@ -37,13 +38,9 @@ same_pair threshold true true h false t s idle = absurd (cc (idle refl))
 same_pair threshold true false h false t s idle = refl
 same_pair threshold false e h false t s idle = refl
 
-not_away : (msi away : Bool) → away ≡ false → (msi || away) ≡ msi
-not_away true away here = refl
-not_away false away here = here
-
 pub top-stands : (c : IdcState) (d : DomainState) (past : Past) (name : DomainName) (hart : ℕ) → hart < harts_in past → DomainStands d past name → c.ithreshold ≡ ithreshold_of past name hart → top_shown c d hart ≡ top past name hart
 top-stands c d past name hart there stands limit =
-    ap (λ (b : Bool). cond b None (least_pair (through c.ithreshold (waiting_pair_at d.sources hart)) 1 (length d.sources - 1))) (not_away d.msi (nat_le d.harts hart) (lt-leb d.harts hart (omega (arith, there, stands.harts))) ∙ stands.msi) ∙ ap (cond (delivers_by_msis past name) None) least
+    ap (λ (b : Bool). cond b None (least_pair (through c.ithreshold (waiting_pair_at d.sources hart)) 1 (length d.sources - 1))) (ap (λ (away : Bool). d.msi || away) (lt-leb d.harts hart (omega (arith, there, stands.harts))) ∙ or-false d.msi ∙ stands.msi) ∙ ap (cond (delivers_by_msis past name) None) least
   where
     each : (s : ℕ) → 1 ≤ s → s < 1 + sources_in past → through c.ithreshold (waiting_pair_at d.sources hart) s ≡ pair_in (pending past name) past name hart s
     each s low high =

@@ -1,5 +1,5 @@
 -- What a store makes of a source in the domain that it is to.
-use Rattle.std.proofs.Common.{◌≡◌, ◌<◌, ℕ, suc, Bool, true, false, not, cond, ◌&&◌, nat_eq, nat_lt, [], ◌∷◌, Option, Some, None, unwrap_or, refl, sym, ap, ◌∙◌, arith}
+use Rattle.std.proofs.Common.{◌≡◌, ◌<◌, ℕ, suc, Bool, true, false, not, cond, ◌&&◌, nat_eq, nat_lt, ◌∷◌, Option, Some, None, unwrap_or, refl, sym, ap, ◌∙◌, arith}
 use Rattle.std.proofs.lemmas.Bool.Decides.{nat_tests}
 use Rattle.std.specs.Int.{is_in_range}
 use Rattle.aia_regs.specs.declared.domain_registers.DomainReg.{DomainReg}
@@ -20,6 +20,7 @@ use Rattle.aia_model.specs.Act.{Past, newest, when}
 use Rattle.aia_model.specs.declared.domain_name.DomainName.TheVariants.{Root, Child}
 use Rattle.aia_model.specs.Act.Act.{Written}
 use Rattle.aia_model.specs.SourceOf.{harts_in, sources_in, is_register_of, wire_of, root_sourcecfg_of, is_delegated, child_told, delivers_by_msis}
+use Rattle.aia_model.proofs.OwnerLemmas.{none_undelegated}
 use Rattle.aia_wiring.specs.Side.{source_of}
 use Rattle.aia_wiring.proofs.Steps.{stepped, target_after, source-step, source-idle, IsIdle, step-nothing, step-deed, step-enable, aimed_if, said_nothing, same_enable}
 
@@ -112,24 +113,6 @@ root_written reg v past s there = source-step (Written Root reg v) past Root s �
 
 -- ---- domain 1
 
--- a source that isn't delegated to domain 1 has no mode there
-pub child-none : (past : Past) (s : ℕ) → is_delegated past s ≡ false → newest (child_told s) past ≡ 0
-unfolding newest
-child-none [] s e = refl
-child-none (Written Root (SourceCfg i) v ∷ past) s e = at (is_register_of past i s) (is_delegated past s) (delegates (root_sourcecfg v)) (root_sourcecfg v) (root_sourcecfg_of past s) (newest (child_told s) past) refl refl (child-none past s) e
-  where
-    at : (this was is : Bool) (kept c old : ℕ) → is ≡ nat_eq kept DELEGATED → was ≡ nat_eq c DELEGATED → (was ≡ false → old ≡ 0) → nat_eq (unwrap_or (when this kept) c) DELEGATED ≡ false → unwrap_or (when (this && not (was && is)) 0) old ≡ 0
-    at false was is kept c old p q before e = before (q ∙ e)
-    at true true true kept c old p q before e = cc
-    at true true false kept c old p q before e = refl
-    at true false is kept c old p q before e = refl
-child-none (Written Child (SourceCfg i) v ∷ past) s e = ap (λ (o : Option ℕ). unwrap_or o (newest (child_told s) past)) (ap (λ (b : Bool). when (is_register_of past i s && b) (child_sourcecfg v)) e ∙ ap (λ (b : Bool). when b (child_sourcecfg v)) (none (is_register_of past i s))) ∙ child-none past s e
-  where
-    none : (b : Bool) → (b && false) ≡ false
-    none true = refl
-    none false = refl
-child-none (a ∷ past) s e = child-none past s e
-
 pub inactive-stays : (msi : Bool) (x : InterruptSourceState) → IsIdle x → is_active x.source.mode ≡ false → with_deed msi Configured x ≡ x
 inactive-stays msi x idle off = λ i. record {
   source = record { mode = x.source.mode; wire = x.source.wire; pending = (said_nothing x.source.mode msi (rectified x.source.mode x.source.wire) (rectified x.source.mode x.source.wire) Configured x.source.pending off ∙ sym (idle.pending off)) i };
@@ -157,7 +140,7 @@ unfolding newest wire_of
 child_written DomainCfg v past s there = source-step (Written Child DomainCfg v) past Child s ∙ touch-switch (delivers_by_msis past Child) (is_by_msi (domaincfg_kept v)) (source_of past Child s) (source-idle past Child s)
 child_written (SourceCfg i) v past s there =
     source-step (Written Child (SourceCfg i) v) past Child s
-    ∙ child-config (is_register_of past i s) (is_delegated past s) (delivers_by_msis past Child) v (newest (child_told s) past) (source_of past Child s) (source-idle past Child s) refl refl (child-none past s)
+    ∙ child-config (is_register_of past i s) (is_delegated past s) (delivers_by_msis past Child) v (newest (child_told s) past) (source_of past Child s) (source-idle past Child s) refl refl (none_undelegated past s)
     ∙ ap (λ (b : Bool). cond b (sourcecfg_written true (delivers_by_msis past Child) v (source_of past Child s)) (source_of past Child s)) (named_there past i s there)
 child_written (Target i) v past s there = source-step (Written Child (Target i) v) past Child s ∙ aimed_if (nat_eq i s) (delivers_by_msis past Child) (target_kept (harts_in past) (delivers_by_msis past Child) v) (source_of past Child s) (source-idle past Child s)
 child_written reg v past s there = source-step (Written Child reg v) past Child s ∙ touch-step (touch reg v s) (delivers_by_msis past Child) (source_of past Child s) (source-idle past Child s)
@@ -191,7 +174,7 @@ pub child_at_root_config : (i v : ℕ) (past : Past) (s : ℕ) → s < suc (sour
 unfolding newest wire_of
 child_at_root_config i v past s there =
     source-step (Written Root (SourceCfg i) v) past Child s
-    ∙ child-kept (is_register_of past i s) (delivers_by_msis past Child) (delegates (root_sourcecfg v)) (is_delegated past s) (root_sourcecfg v) (newest (child_told s) past) (root_sourcecfg_of past s) (source_of past Child s) (source-idle past Child s) refl refl refl refl (child-none past s)
+    ∙ child-kept (is_register_of past i s) (delivers_by_msis past Child) (delegates (root_sourcecfg v)) (is_delegated past s) (root_sourcecfg v) (newest (child_told s) past) (root_sourcecfg_of past s) (source_of past Child s) (source-idle past Child s) refl refl refl refl (none_undelegated past s)
     ∙ ap (λ (b : Bool). cond b (granted (delegates (root_sourcecfg v)) (delivers_by_msis past Child) (source_of past Child s)) (source_of past Child s)) (named_there past i s there)
 
 abbrev pub is_config : DomainReg → Bool

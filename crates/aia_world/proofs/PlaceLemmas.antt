@@ -1,7 +1,10 @@
--- Which slot an address names and which file a page names, and what a store to a slot leaves.
-use Rattle.std.proofs.Common.{◌≡◌, ◌≢◌, ℕ, ◌+◌, ◌-◌, ◌*◌, ◌/◌, ◌<◌, ◌≤◌, nat_eq, List, length, Option, Some, None, ◌⊎◌, inl, inr, refl, sym, ap, ◌∙◌, arith}
+-- Which slot an address names, which file a page or a record names, and what a store to a slot
+-- leaves.
+use Rattle.std.proofs.Common.{◌≡◌, ◌≢◌, ℕ, ◌+◌, ◌-◌, ◌*◌, ◌/◌, ◌<◌, ◌≤◌, true, ◌&&◌, nat_eq, nat_lt, List, length, Option, Some, None, ◌⊎◌, inl, inr, refl, sym, ap, ◌∙◌, arith}
+use Rattle.std.specs.Int.{is_in_range}
 use Rattle.std.proofs.lemmas.List.{length-set}
-use Rattle.std.proofs.lemmas.Bool.{eqb-true, eq-eqb, ne_eqb, cases_lt}
+use Rattle.std.proofs.lemmas.Bool.{eqb-true, eq-eqb, ne_eqb, cases_lt, cond-true}
+use Rattle.std.proofs.lemmas.Bool.Decides.{nat_tests}
 use Rattle.aia_word.proofs.LeastLemmas.{least_of-found, least_of-none, least_of_is}
 use Rattle.aia_regs.specs.declared.address_map.TheConstants.{SUPERVISOR_FILES, HART_STRIDE, PAGE}
 use Rattle.aia_regs.specs.declared.limits.TheConstants.{HARTS, GUEST_FILES, IDENTITIES, SLOTS}
@@ -9,12 +12,14 @@ use Rattle.aia_regs.specs.AddressMap.{supervisor_page, slot_address}
 use Rattle.aia_regs.specs.Request.{requested}
 use Rattle.aia_regs.proofs.RequestLemmas.{requested_in_range}
 use Rattle.aia_imsic.specs.declared.spot.Spot.TheVariants.{SupervisorFile, Nowhere}
-use Rattle.aia_imsic.specs.Imsic.{ImsicState}
+use Rattle.aia_imsic.specs.Imsic.{ImsicState, IsThere}
 use Rattle.aia_imsic.proofs.MapLemmas.{in_page, spot_of_host, past_hosts}
+use Rattle.aia_home.specs.declared.place.Place.{Place}
 use Rattle.aia_mrif.specs.Mrif.{mrif_in, pending_place, after_store}
 use Rattle.aia_mrif.specs.Words.{HasSlot, SameMrif, words_after_store}
 use Rattle.aia_mrif.proofs.SlotLemmas.{landed, other_words}
-use Rattle.aia_world.specs.Stores.{page_spot, slot_at}
+use Rattle.aia_world.specs.Stores.{page_spot, slot_at, named_spot}
+use Rattle.aia_world.specs.Changes.{spot_of}
 
 -- ---- slots by address
 
@@ -72,3 +77,8 @@ other_slot_stays words q r offset value other = by_request (requested IDENTITIES
 pub store_keeps_size : (words : List ℕ) (q : ℕ) (o : Option ℕ) → length (words_after_store words q o) ≡ length words
 store_keeps_size words q None = refl
 store_keeps_size words q (Some i) = length-set words (pending_place q (i / 64)) _
+
+-- ---- the guest file that a record names
+
+pub named_guest : (i : ImsicState) (p : Place) → IsThere i (spot_of p) → named_spot i p ≡ spot_of p
+named_guest i p inside = let named : (nat_lt p.hart i.harts && is_in_range 1 i.guests p.file) ≡ true = grind (arith, nat_tests, inside.0, inside.1, inside.2) in cond-true _ _ _ named

@@ -5,7 +5,7 @@ use Rattle.std.proofs.Math.Seq.{take-add}
 use Rattle.std.proofs.lemmas.Grind.{common_steps}
 use Rattle.std.specs.Io.KnownBytes.{Appends, Keeps, Consumes, IsAtEnd}
 use Rattle.std.proofs.KnownBytes.{Appends-nil, Appends-trans, Appends-kept, Consumes-whole}
-use Rattle.aia_io.specs.Ends.{Supply, Gives, GivesNone, Rose}
+use Rattle.aia_io.specs.Ends.{Supply, Gives, GivesNone, Rose, CutOff}
 use Rattle.aia_io.proofs.SupplyLemmas.{gives_nothing, gives_more, gives_no_more}
 use Rattle.plans_text.specs.PlanFile.{Read, answers}
 use Rattle.plans_program.specs.declared.limits.TheConstants.{FILE_BYTES}
@@ -16,7 +16,7 @@ use Rattle.plans_program.specs.declared.program.Status.TheVariants.{Done, ReadFa
 use Rattle.plans_text.specs.declared.plan_reader.PlanReader.{PlanReader}
 use Rattle.plans_text.specs.Streaming.{HasRead, NoneWaits, WhateverWasRead}
 use Rattle.plans_text.proofs.StreamLemmas.{answers_grow}
-use Rattle.plans_program.specs.Runs.{AnswersEnded, CutOff, CutsAnswers, EndsJudge, IsFront, Judged, WhateverWasJudged, WritesFront, stopped}
+use Rattle.plans_program.specs.Runs.{AnswersEnded, CutsAnswers, EndsJudge, IsFront, Judged, WhateverWasJudged, WritesFront, stopped}
 
 -- ---- writing
 

@@ -1,10 +1,8 @@
 -- What a run promises, by its status.
-use Rattle.std.specs.Prelude.{◌≡◌, ◌≢◌, ℕ, ◌+◌, ◌≤◌, ◌<◌, ◌⊎◌, List, [], ◌++◌, length, take, map, Option, Some, None, IfSome}
+use Rattle.std.specs.Prelude.{◌≡◌, ◌≢◌, ℕ, ◌+◌, ◌≤◌, ◌⊎◌, List, ◌++◌, length, map, Option, Some, None, IfSome}
 use Rattle.std.specs.Borrow.{Bor}
-use Rattle.std.specs.Io.KnownBytes.{Appends, IsAtEnd}
-use Rattle.aia_io.specs.Ends.{Supply, Gives, GivesNone, Rose}
-use Rattle.aia_io.specs.declared.source.Read.{Read}
-use Rattle.aia_io.specs.declared.source.Read.TheVariants as reads
+use Rattle.std.specs.Io.KnownBytes.{Appends}
+use Rattle.aia_io.specs.Ends.{Supply, Gives, Rose, Takes, TakesAtMost, TakesAll, CutOff}
 use Rattle.plans_text.specs.declared.plan_reader.PlanReader.{PlanReader}
 use Rattle.plans_text.specs.PlanFile.{answers}
 use Rattle.plans_text.specs.Streaming.{AreWhole, HasRead, NoEnd, NoneWaits, ended_answers}
@@ -24,38 +22,11 @@ asked words = subcommand_of (map (λ (w : Bor (List ℕ)). w.now) words)
 
 -- ---- what is taken
 
--- Just so many bytes were taken; at most so many.
-abbrev pub Takes : ℕ → Supply → Supply → Type 0
-Takes count left rest = (bytes : List ℕ) × Gives left rest bytes × (length bytes ≡ count)
-
-abbrev pub TakesAtMost : ℕ → Supply → Supply → Type 0
-TakesAtMost count left rest = (bytes : List ℕ) × Gives left rest bytes × (length bytes ≤ count)
-
 -- The bytes are all of the file, where the source tells it.
 abbrev pub IsFile : Supply → List ℕ → Type 0
 IsFile left bytes = IfSome left.to_come (λ file. file ≡ bytes)
 
--- All was taken: the source answered that none is left, and where it tells its bytes, none is.
-abbrev pub TakesAll : Supply → Supply → Type 0
-TakesAll left rest =
-    Rose left.ends rest.ends × IfSome left.to_come (λ file. rest.to_come ≡ Some [])
-
--- What one read did to the source and the front of a buffer.
-abbrev pub ReadsFront : ℕ → Supply → Supply → List ℕ → Read → Type 0
-ReadsFront most old new piece (reads.Got n) =
-    (0 < n) × (n ≤ most) × Gives old new (take n piece) × (new.ends ≡ old.ends)
-ReadsFront most old new piece reads.End =
-    IsAtEnd old.to_come × GivesNone old new × Rose old.ends new.ends
-ReadsFront most old new piece reads.Failed = GivesNone old new × (new.ends ≡ old.ends)
-
 -- ---- what is written
-
--- The sink took a front of some bytes.
-pub record CutOff (before now : Option (List ℕ)) (bytes : List ℕ) : Type 0 where
-  pub part : List ℕ
-  pub lost : List ℕ
-  pub appended : Appends before now part
-  pub together : part ++ lost ≡ bytes
 
 -- What the sink took is what is answered of all that the source had left, where it tells that; or a
 -- front of it.

@@ -2,8 +2,7 @@
 
 ghost use Rattle.std.specs.Prelude.{◌≡◌, ◌≤◌, OnOk, OnErr, length};
 ghost use Rattle.std.specs.Io.KnownBytes.{Appends};
-ghost use Rattle.aia_io.specs.Ends.{Rose};
-ghost use Rattle.plans_program.specs.Runs.{CutOff};
+ghost use Rattle.aia_io.specs.Ends.{Rose, CutOff};
 
 use aia_io::{Sink, Write};
 

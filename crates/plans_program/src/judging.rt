@@ -2,10 +2,10 @@
 
 ghost use Rattle.std.specs.Prelude.{◌≡◌, ◌≤◌, ◌<◌, ◌+◌, ◌-◌, ◌^◌, ◌++◌, OnOk, OnErr, Err, length};
 ghost use Rattle.std.specs.Io.KnownBytes.{Appends};
-ghost use Rattle.aia_io.specs.Ends.{Rose};
+ghost use Rattle.aia_io.specs.Ends.{Rose, CutOff};
 ghost use Rattle.plans_text.specs.PlanFile.{answers};
 ghost use Rattle.plans_text.specs.Streaming.{IsReady, lines_read};
-ghost use Rattle.plans_program.specs.Runs.{CutOff, EndsJudge, IsFront, Judged, WhateverWasJudged, stopped};
+ghost use Rattle.plans_program.specs.Runs.{EndsJudge, IsFront, Judged, WhateverWasJudged, stopped};
 
 use crate::give::give_all;
 use crate::limits::{FILE_BYTES, PIECE_BYTES};

@@ -1,8 +1,7 @@
 //! Pieces of a source's bytes.
 
 ghost use Rattle.std.specs.Prelude.{◌<◌, ◌≤◌, length};
-ghost use Rattle.aia_io.specs.Ends.{ReadHasCause};
-ghost use Rattle.plans_program.specs.Runs.{ReadsFront};
+ghost use Rattle.aia_io.specs.Ends.{ReadHasCause, ReadsFront};
 
 use aia_io::{Read, Source};
 

@@ -5,7 +5,8 @@ ghost use Rattle.std.specs.IoError.{error_kind};
 ghost use Rattle.std.specs.Process.{exit_status};
 ghost use Rattle.plans_program.specs.CommandLine.{subcommand_of};
 ghost use Rattle.plans_program.specs.Command.{AreRefused, asked_by, exit_number, exit_numbers, words_of};
-ghost use Rattle.plans_program.specs.Runs.{EndsAsAsked, TakesAll, WritesAnswers};
+ghost use Rattle.aia_io.specs.Ends.{TakesAll};
+ghost use Rattle.plans_program.specs.Runs.{EndsAsAsked, WritesAnswers};
 
 use crate::program::{Status, run};
 use aia_io::{Sink, Source, StdSink, StdSource};

@@ -1,7 +1,7 @@
 use Rattle.std.proofs.Common.{◌≡◌, ◌+◌, ◌/◌, ◌<◌, subst, arith}
 use Rattle.aia_mrif.specs.Mrif.{mrif_in}
 use Rattle.aia_mrif.specs.SlotFile.{slot_file}
-use Rattle.aia_mrif.proofs.AccessLemmas.{few_identities}
+use Rattle.aia_file.proofs.SizeLemmas.{few_identities}
 use Rattle.aia_mrif.proofs.SummaryLemmas.{SummarizesFirst, none_summarized, live_added, dead_added, all_summarized, file_identities}
 use Rattle.aia_mrif.proofs.view.summary.Goals as goal
 use Rattle.aia_mrif.proofs.view.summary.Goals.{then-pending-enabled-ne0, else-pending-enabled-ne0}

@@ -1,7 +1,7 @@
 use Rattle.std.proofs.Common.{subst}
 use Rattle.std.proofs.lemmas.Result.{on_ok_weaker, on_err_weaker}
 use Rattle.std.specs.Io.KnownBytes.{Appends}
-use Rattle.plans_program.specs.Runs.{CutOff}
+use Rattle.aia_io.specs.Ends.{CutOff}
 use Rattle.plans_program.proofs.PieceLemmas.{piece_written, piece_cut, piece_lacks}
 use Rattle.plans_program.proofs.judging.judge_piece.Goals as goal
 

@@ -12,7 +12,7 @@ use Rattle.aia_standing.specs.Core.{CoreState, no_record, record_of, home_in}
 use Rattle.aia_world.specs.Found.{IsFound}
 use Rattle.aia_standing.specs.Moves.{MoveGoes, is_finished}
 use Rattle.aia_standing.proofs.BeginCore.{at_stay}
-use Rattle.aia_standing.proofs.GuestLemmas.{few_identities}
+use Rattle.aia_file.proofs.SizeLemmas.{few_identities}
 use Rattle.aia_standing.proofs.OwnPasses.{are_passes, aims_so}
 use Rattle.aia_standing.proofs.MoveCalls.{StepCalls, plan_known, back_known, step_called, harts_still, told_harts, goes_still, who_still}
 use Rattle.aia_hyp.proofs.hypervisor_core.Core.step_out.Given.{Over}
