@@ -148,7 +148,7 @@ fn guest_at(words: &mut Words<'_>) -> Option<Line>
 }
 
 /// Reads the line that the words after `begin` spell; `None` where they spell none.
-#[inline(never)]
+#[inline(always)]
 fn begin_at(words: &mut Words<'_>) -> Option<Line>
     ensures { result ≡ line_by begin (left words.old) }
 {
@@ -169,7 +169,7 @@ fn load_part_of(vm: u64, number: u64, words: &mut Words<'_>) -> Option<Line>
 }
 
 /// Reads the line that the words after `load` spell; `None` where they spell none.
-#[inline(never)]
+#[inline(always)]
 fn load_part_at(words: &mut Words<'_>) -> Option<Line>
     ensures { result ≡ line_by load_part (left words.old) }
 {
@@ -180,7 +180,7 @@ fn load_part_at(words: &mut Words<'_>) -> Option<Line>
 
 /// Reads the line that the words after a keyword spell, of what a machine and the hypervisor set
 /// and show; `None` where they spell none.
-#[inline(never)]
+#[inline(always)]
 fn machine_line(keyword: &[u8], words: &mut Words<'_>) -> Option<Line>
     ensures { result ≡ line_among forms_of_machines keyword.now (left words.old) }
 {
@@ -190,7 +190,7 @@ fn machine_line(keyword: &[u8], words: &mut Words<'_>) -> Option<Line>
 
 /// Reads the line that the words after a keyword spell, of a virtual hart or as above; `None` where
 /// they spell none.
-#[inline(never)]
+#[inline(always)]
 fn virtual_hart_line(keyword: &[u8], words: &mut Words<'_>) -> Option<Line>
     ensures { result ≡ line_among forms_of_virtual_harts keyword.now (left words.old) }
 {
