@@ -52,11 +52,11 @@ impl<K: Kind> Move<K, Closing> {
             (λ next. MatchClosed next IsAtAims (IsInDrain (width fabric.new))) }
     {
         let _words = fabric.words();
-        let past = self.first_steps() + 2;
-        self.close(fabric);
-        match self.turn::<Drain>(past) {
-            Turn::Stay(state) => Turn::Stay(state),
-            Turn::On(state) => Turn::On(state.closed()),
+        if self.step_in_place(fabric) {
+            Turn::Stay(self)
+        } else {
+            self.close(fabric);
+            Turn::On(self.closed())
         }
     }
 
@@ -115,10 +115,12 @@ impl<K: Kind> Move<K, Drain> {
         ensures phase { MatchTurn result (IsInDrain (width fabric.new))
             (IsIn EnablePhase (width fabric.new)) }
     {
-        let words = fabric.words();
-        let past = self.first_steps() + 2 + 2 * words;
-        self.carry_pending(fabric);
-        self.turn(past)
+        if self.step_in_place(fabric) {
+            Turn::Stay(self)
+        } else {
+            self.carry_pending(fabric);
+            Turn::On(self.into_phase())
+        }
     }
 
     /// Makes such a step in place, where it is not the last one of the phase, and tells whether it
@@ -151,10 +153,12 @@ impl<K: Kind> Move<K, Enable> {
         ensures phase { MatchTurn result (IsIn EnablePhase (width fabric.new))
             (IsIn K.after (width fabric.new)) }
     {
-        let words = fabric.words();
-        let past = self.first_steps() + 2 + 4 * words;
-        self.carry_enables(fabric);
-        self.turn(past)
+        if self.step_in_place(fabric) {
+            Turn::Stay(self)
+        } else {
+            self.carry_enables(fabric);
+            Turn::On(self.into_phase())
+        }
     }
 
     /// Makes such a step in place, where it is not the last one of the phase, and tells whether it
@@ -252,19 +256,14 @@ impl<K: Kind, P> Move<K, P> {
         self.kind.new_place(self.carrier.slot())
     }
 
-    /// Stays in its phase while fewer than `past` steps are done, and else goes on to another.
-    pub(crate) fn turn<Q>(self, past: u32) -> Turn<Self, Move<K, Q>>
-        ensures { MatchTurn result (λ t. (t ≡ self) × (steps_done t.home < past))
-            (λ t. (t ≡ self) × (past ≤ steps_done t.home)) }
+    /// Comes to another phase.
+    pub(crate) fn into_phase<Q>(self) -> Move<K, Q>
+        ensures { result ≡ self }
     {
-        if self.carrier.done() < past {
-            Turn::Stay(self)
-        } else {
-            Turn::On(Move {
-                kind: self.kind,
-                carrier: self.carrier,
-                phase: PhantomData,
-            })
+        Move {
+            kind: self.kind,
+            carrier: self.carrier,
+            phase: PhantomData,
         }
     }
 
@@ -274,17 +273,9 @@ impl<K: Kind, P> Move<K, P> {
             (λ t. (t ≡ self) × (has_unaimed t ≡ false)) }
     {
         if self.carrier.has_unaimed() {
-            Closed::Aim(Move {
-                kind: self.kind,
-                carrier: self.carrier,
-                phase: PhantomData,
-            })
+            Closed::Aim(self.into_phase())
         } else {
-            Closed::Drain(Move {
-                kind: self.kind,
-                carrier: self.carrier,
-                phase: PhantomData,
-            })
+            Closed::Drain(self.into_phase())
         }
     }
 }
