@@ -1,4 +1,4 @@
-ghost use Rattle.std.specs.Prelude.{◌≡◌, ℕ, ◌<◌, ◌≤◌, true, false};
+ghost use Rattle.std.specs.Prelude.{◌≡◌, ℕ, ◌≤◌, true, false};
 ghost use Rattle.aia_home.specs.Home.{is_moving};
 ghost use Rattle.aia_home.specs.Plans.{steps_done, leave_step};
 ghost use Rattle.aia_home.specs.Plans.Access.{Map};
@@ -69,7 +69,7 @@ impl<K: Kind> Move<K, Closing> {
         ensures phase { IsIn ClosingPhase (width fabric.new) self.new }
     {
         let _words = fabric.words();
-        let stays = self.carrier.done() == self.first_steps();
+        let stays = self.done() == self.first_steps();
         if stays {
             self.close(fabric);
         }
@@ -133,7 +133,7 @@ impl<K: Kind> Move<K, Drain> {
     {
         let words = fabric.words();
         let last = self.first_steps() + 1 + 2 * words;
-        let stays = self.carrier.done() < last;
+        let stays = self.done() < last;
         if stays {
             self.carry_pending(fabric);
         }
@@ -171,7 +171,7 @@ impl<K: Kind> Move<K, Enable> {
     {
         let words = fabric.words();
         let last = self.first_steps() + 1 + 4 * words;
-        let stays = self.carrier.done() < last;
+        let stays = self.done() < last;
         if stays {
             self.carry_enables(fabric);
         }
@@ -242,6 +242,13 @@ impl<K: Kind, P> Move<K, P> {
         self.kind.first_steps()
     }
 
+    /// Tells how many of its steps are done.
+    fn done(&self) -> u32
+        ensures { result ≡ steps_done self.now.home }
+    {
+        self.carrier.done()
+    }
+
     /// Gives the place that the move leaves.
     fn old_place(&self) -> At
         ensures { result ≡ old_at self.now }
@@ -256,7 +263,7 @@ impl<K: Kind, P> Move<K, P> {
         self.kind.new_place(self.carrier.slot())
     }
 
-    /// Comes to another phase.
+    /// Comes to another phase, with all that it has.
     pub(crate) fn into_phase<Q>(self) -> Move<K, Q>
         ensures { result ≡ self }
     {
