@@ -11,15 +11,13 @@ use Rattle.aia_home.specs.Aims.{aims_done, is_aiming, aimed}
 use Rattle.aia_world.specs.World.{World}
 use Rattle.aia_move.specs.declared.plan.Plan.{Plan}
 use Rattle.aia_move.specs.declared.plan.Plan.TheVariants.{LeaveFirst, LeaveClosing, LeaveAim, LeaveDrain, LeaveEnable, LeaveLook, LeaveLast, ArriveFirst, ArriveClosing, ArriveAim, ArriveDrain, ArriveEnable, ArriveLast, ShiftFirst, ShiftClosing, ShiftAim, ShiftDrain, ShiftEnable, ShiftLast}
-use Rattle.aia_moving.specs.declared.turn.Turn.{Turn}
-use Rattle.aia_moving.specs.declared.turn.Turn.TheVariants.{Stay, On}
 use Rattle.aia_moving.specs.declared.turn.Closed.{Closed}
 use Rattle.aia_moving.specs.declared.turn.Closed.TheVariants as closed
 use Rattle.aia_moving.specs.Move.{Moving, width, MoveFits}
 use Rattle.aia_moving.specs.Targets.{aims, has_unaimed, one_aimed}
 use Rattle.aia_moving.specs.Carrier.{CarrierState, progress_of, moving, one_aim_done}
-use Rattle.aia_moving.specs.Turns.{IsIn, IsAtAims, IsInDrain, IsMove, GoesOn, AimsOn, MatchTurn, MatchClosed}
-use Rattle.aia_move.specs.Plan.{moving_of, is_in_aim, IsInPhase}
+use Rattle.aia_moving.specs.Turns.{IsIn, IsAtAims, IsInDrain, IsMove, GoesOn, AimsOn, MatchClosed}
+use Rattle.aia_move.specs.Plan.{moving_of, is_in_aim, IsInPhase, IsLastOf}
 use Rattle.aia_moving.proofs.PhaseSteps.{middle, begins_on}
 
 -- ---- when a step aims
@@ -114,6 +112,12 @@ move_aims there is w l now s seen fits done =
 
 -- ---- from the fence of the G-stage record on
 
+in_closing_moves : (words : ℕ) (there : Home) → steps_done there < begins words there DrainPhase → is_moving there ≡ true
+in_closing_moves words (Leaving from at) before = refl
+in_closing_moves words (Arriving to at) before = refl
+in_closing_moves words (Shifting from to at) before = refl
+in_closing_moves words there before = absurd (omega (arith, before))
+
 at_aims : (words : ℕ) (x : Moving) → is_moving x.home ≡ true → steps_done x.home ≡ begins words x.home DrainPhase → has_unaimed x ≡ true → IsAtAims x
 at_aims words x moves at left = aims_at words _ x.home moves at ∙ left
 
@@ -135,31 +139,22 @@ begins_still w u m t phase goes = ap (λ n. begins n t.home phase) goes.width �
 pub still_in : (phase : Phase) (w u : World) (m t : Moving) → IsIn phase (width w) m → GoesOn w m u t → steps_done m.home + 1 < begins (width w) m.home (following phase) → IsIn phase (width u) t
 still_in phase w u m t is goes more = (omega (arith, begins_still w u m t phase goes, goes.steps, is), omega (arith, begins_still w u m t (following phase) goes, goes.steps, more))
 
-pub closed_phase : (w u : World) (m t : Moving) (past : ℕ) (next : Closed Moving Moving) → is_moving m.home ≡ true → 1 ≤ width w → IsIn ClosingPhase (width w) m → GoesOn w m u t
-    → past ≡ begins (width w) m.home DrainPhase → past ≤ steps_done t.home → MatchClosed next (λ x. (x ≡ t) × (has_unaimed x ≡ true)) (λ x. (x ≡ t) × (has_unaimed x ≡ false))
+pub closed_phase : (w u : World) (m t : Moving) (next : Closed Moving Moving) → 1 ≤ width w → IsIn ClosingPhase (width w) m → GoesOn w m u t → IsLastOf ClosingPhase (width w) m
+    → MatchClosed next (λ x. (x ≡ t) × (has_unaimed x ≡ true)) (λ x. (x ≡ t) × (has_unaimed x ≡ false))
     → MatchClosed next IsAtAims (IsInDrain (width u))
-closed_phase w u m t past next moves some is goes ends late r = by_next next r
+closed_phase w u m t next some is goes last r = by_next next r
   where
     at : steps_done t.home ≡ begins (width u) t.home DrainPhase
-    at = omega (arith, begins_still w u m t DrainPhase goes, ends, late, goes.steps, is)
+    at = omega (arith, begins_still w u m t DrainPhase goes, goes.steps, last)
 
     here : is_moving t.home ≡ true
-    here = ap is_moving goes.goes.home ∙ still_moves m.home moves
+    here = ap is_moving goes.goes.home ∙ still_moves m.home (in_closing_moves (width w) m.home is.1)
 
     by_next : (next : Closed Moving Moving) → MatchClosed next (λ x. (x ≡ t) × (has_unaimed x ≡ true)) (λ x. (x ≡ t) × (has_unaimed x ≡ false)) → MatchClosed next IsAtAims (IsInDrain (width u))
     by_next (closed.Aim x) r = subst IsAtAims (sym r.0) (at_aims (width u) t here at (subst (λ y. has_unaimed y ≡ true) r.0 r.1))
     by_next (closed.Drain x) r = subst (λ y. IsInDrain (width u) y) (sym r.0) (in_drain (width u) t here (omega (arith, goes.width, some)) at (subst (λ y. has_unaimed y ≡ false) r.0 r.1))
 
 -- once a word is taken, none is aimed
-pub drain_turned : (w u : World) (m t : Moving) (past : ℕ) (turn : Turn Moving Moving) → IsIn DrainPhase (width w) m → GoesOn w m u t
-    → MatchTurn turn (λ x. (x ≡ t) × (steps_done x.home < past)) (λ x. (x ≡ t) × (past ≤ steps_done x.home)) → MatchTurn turn (IsIn DrainPhase (width u)) (IsIn EnablePhase (width u))
-    → MatchTurn turn (IsInDrain (width u)) (IsIn EnablePhase (width u))
-drain_turned w u m t past (Stay x) is goes r turned = record {
-  phase = turned;
-  aimed = subst (λ y. aims y ≡ false) (sym r.0) (none_aims (width u) _ t.home (λ moves e. omega (arith, e, begins_still w u m t DrainPhase goes, goes.steps, is)));
-}
-drain_turned w u m t past (On x) is goes r turned = turned
-
 pub still_drains : (w u : World) (m t : Moving) → IsIn DrainPhase (width w) m → GoesOn w m u t → steps_done m.home + 1 < begins (width w) m.home EnablePhase → IsInDrain (width u) t
 still_drains w u m t is goes more = record {
   phase = still_in DrainPhase w u m t is goes more;

@@ -52,9 +52,12 @@ impl Leave<First> {
         ensures phase { MatchTurn result (IsIn FirstPhase (width fabric.new))
             (IsIn ClosingPhase (width fabric.new)) }
     {
-        let past = self.first_steps();
-        self.begin(fabric);
-        self.turn(past)
+        if self.step_in_place(fabric) {
+            Turn::Stay(self)
+        } else {
+            self.begin(fabric);
+            Turn::On(self.into_phase())
+        }
     }
 
     /// Makes such a step in place, where it is not the last one of the phase, and tells whether it
@@ -84,9 +87,12 @@ impl Leave<Look> {
         ensures phase { MatchTurn result (IsIn LookPhase (width fabric.new))
             (IsIn LastPhase (width fabric.new)) }
     {
-        let words = fabric.words();
-        self.look(fabric);
-        self.turn(6 + 5 * words)
+        if self.step_in_place(fabric) {
+            Turn::Stay(self)
+        } else {
+            self.look(fabric);
+            Turn::On(self.into_phase())
+        }
     }
 
     /// Makes such a step in place, where it is not the last one of the phase, and tells whether it
@@ -117,9 +123,7 @@ impl Leave<Last> {
         ensures phase { MatchTurn result
             (IsIn LastPhase (width fabric.new)) (λ o. ⊤) }
     {
-        let words = fabric.words();
-        if self.carrier.done() < 7 + 5 * words {
-            self.take_threshold(fabric);
+        if self.step_in_place(fabric) {
             Turn::Stay(self)
         } else {
             self.post(fabric);

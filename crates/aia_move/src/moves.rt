@@ -1,4 +1,4 @@
-ghost use Rattle.std.specs.Prelude.{◌≡◌, ℕ, ◌<◌, ◌≤◌, true, false};
+ghost use Rattle.std.specs.Prelude.{◌≡◌, ℕ, ◌≤◌, true, false};
 ghost use Rattle.aia_home.specs.Home.{is_moving};
 ghost use Rattle.aia_home.specs.Plans.{steps_done, leave_step};
 ghost use Rattle.aia_home.specs.Plans.Access.{Map};
@@ -52,11 +52,11 @@ impl<K: Kind> Move<K, Closing> {
             (λ next. MatchClosed next IsAtAims (IsInDrain (width fabric.new))) }
     {
         let _words = fabric.words();
-        let past = self.first_steps() + 2;
-        self.close(fabric);
-        match self.turn::<Drain>(past) {
-            Turn::Stay(state) => Turn::Stay(state),
-            Turn::On(state) => Turn::On(state.closed()),
+        if self.step_in_place(fabric) {
+            Turn::Stay(self)
+        } else {
+            self.close(fabric);
+            Turn::On(self.closed())
         }
     }
 
@@ -69,7 +69,7 @@ impl<K: Kind> Move<K, Closing> {
         ensures phase { IsIn ClosingPhase (width fabric.new) self.new }
     {
         let _words = fabric.words();
-        let stays = self.carrier.done() == self.first_steps();
+        let stays = self.done() == self.first_steps();
         if stays {
             self.close(fabric);
         }
@@ -115,10 +115,12 @@ impl<K: Kind> Move<K, Drain> {
         ensures phase { MatchTurn result (IsInDrain (width fabric.new))
             (IsIn EnablePhase (width fabric.new)) }
     {
-        let words = fabric.words();
-        let past = self.first_steps() + 2 + 2 * words;
-        self.carry_pending(fabric);
-        self.turn(past)
+        if self.step_in_place(fabric) {
+            Turn::Stay(self)
+        } else {
+            self.carry_pending(fabric);
+            Turn::On(self.into_phase())
+        }
     }
 
     /// Makes such a step in place, where it is not the last one of the phase, and tells whether it
@@ -131,7 +133,7 @@ impl<K: Kind> Move<K, Drain> {
     {
         let words = fabric.words();
         let last = self.first_steps() + 1 + 2 * words;
-        let stays = self.carrier.done() < last;
+        let stays = self.done() < last;
         if stays {
             self.carry_pending(fabric);
         }
@@ -151,10 +153,12 @@ impl<K: Kind> Move<K, Enable> {
         ensures phase { MatchTurn result (IsIn EnablePhase (width fabric.new))
             (IsIn K.after (width fabric.new)) }
     {
-        let words = fabric.words();
-        let past = self.first_steps() + 2 + 4 * words;
-        self.carry_enables(fabric);
-        self.turn(past)
+        if self.step_in_place(fabric) {
+            Turn::Stay(self)
+        } else {
+            self.carry_enables(fabric);
+            Turn::On(self.into_phase())
+        }
     }
 
     /// Makes such a step in place, where it is not the last one of the phase, and tells whether it
@@ -167,7 +171,7 @@ impl<K: Kind> Move<K, Enable> {
     {
         let words = fabric.words();
         let last = self.first_steps() + 1 + 4 * words;
-        let stays = self.carrier.done() < last;
+        let stays = self.done() < last;
         if stays {
             self.carry_enables(fabric);
         }
@@ -238,6 +242,13 @@ impl<K: Kind, P> Move<K, P> {
         self.kind.first_steps()
     }
 
+    /// Tells how many of its steps are done.
+    fn done(&self) -> u32
+        ensures { result ≡ steps_done self.now.home }
+    {
+        self.carrier.done()
+    }
+
     /// Gives the place that the move leaves.
     fn old_place(&self) -> At
         ensures { result ≡ old_at self.now }
@@ -252,19 +263,14 @@ impl<K: Kind, P> Move<K, P> {
         self.kind.new_place(self.carrier.slot())
     }
 
-    /// Stays in its phase while fewer than `past` steps are done, and else goes on to another.
-    pub(crate) fn turn<Q>(self, past: u32) -> Turn<Self, Move<K, Q>>
-        ensures { MatchTurn result (λ t. (t ≡ self) × (steps_done t.home < past))
-            (λ t. (t ≡ self) × (past ≤ steps_done t.home)) }
+    /// Comes to another phase, with all that it has.
+    pub(crate) fn into_phase<Q>(self) -> Move<K, Q>
+        ensures { result ≡ self }
     {
-        if self.carrier.done() < past {
-            Turn::Stay(self)
-        } else {
-            Turn::On(Move {
-                kind: self.kind,
-                carrier: self.carrier,
-                phase: PhantomData,
-            })
+        Move {
+            kind: self.kind,
+            carrier: self.carrier,
+            phase: PhantomData,
         }
     }
 
@@ -274,17 +280,9 @@ impl<K: Kind, P> Move<K, P> {
             (λ t. (t ≡ self) × (has_unaimed t ≡ false)) }
     {
         if self.carrier.has_unaimed() {
-            Closed::Aim(Move {
-                kind: self.kind,
-                carrier: self.carrier,
-                phase: PhantomData,
-            })
+            Closed::Aim(self.into_phase())
         } else {
-            Closed::Drain(Move {
-                kind: self.kind,
-                carrier: self.carrier,
-                phase: PhantomData,
-            })
+            Closed::Drain(self.into_phase())
         }
     }
 }

@@ -51,9 +51,12 @@ impl Shift<First> {
         ensures phase { MatchTurn result (IsIn FirstPhase (width fabric.new))
             (IsIn ClosingPhase (width fabric.new)) }
     {
-        let past = self.first_steps();
-        self.begin(fabric);
-        self.turn(past)
+        if self.step_in_place(fabric) {
+            Turn::Stay(self)
+        } else {
+            self.begin(fabric);
+            Turn::On(self.into_phase())
+        }
     }
 
     /// Makes such a step in place, where it is not the last one of the phase, and tells whether it
@@ -83,9 +86,7 @@ impl Shift<Last> {
         ensures phase { MatchTurn result
             (IsIn LastPhase (width fabric.new)) (λ o. ⊤) }
     {
-        let words = fabric.words();
-        if self.carrier.done() < 7 + 4 * words {
-            self.carry_threshold(fabric);
+        if self.step_in_place(fabric) {
             Turn::Stay(self)
         } else {
             self.put_delivery(fabric);
