@@ -7,7 +7,7 @@ ghost use Rattle.aia_replay.specs.Buffered.{Gathers};
 use crate::limits::BUFFER_BYTES;
 use aia_io::{Sink, Write};
 use aia_model::limits::ANSWER_BYTES;
-use aia_script::{Answer, print_answer};
+use aia_script::{Answer, print_answer, push_answer};
 use arrayvec::ArrayVec;
 
 /// The sink failed, and its count of faults rose.
@@ -59,7 +59,7 @@ impl Buffered {
         if self.bytes.remaining_capacity() < ANSWER_BYTES {
             return self.add_last(sink, answer);
         }
-        print_answer(answer, &mut self.bytes);
+        push_answer(&mut self.bytes, answer);
         Ok(())
     }
 
@@ -74,7 +74,7 @@ impl Buffered {
             (CutOff (K.taken sink.old) (K.taken sink.new) self.old.bytes.items) }
         ensures later { K.faults sink.old ≤ K.faults sink.new }
     {
-        let mut text = ArrayVec::<u8, ANSWER_BYTES>::new();
+        let mut text = ArrayVec::new();
         print_answer(answer, &mut text);
         self.add(sink, text.as_slice())
     }

@@ -63,6 +63,7 @@ impl Engine {
         requires { IsListed line.now }
         ensures serves { OnOk result (Serves self.old self.new line.now answer.new) }
         ensures err { OnErr result (self.new ≡ self.old) }
+        ensures kept { OnErr result (answer.new ≡ answer.old) }
         ensures none { OnErr result (StandsFor self.new []) }
         ensures memory { OnErr result (WantsMachine self.old line.now) }
     {

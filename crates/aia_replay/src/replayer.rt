@@ -1,6 +1,7 @@
 ghost use Rattle.std.specs.Prelude.{◌≡◌, ◌≢◌, ℕ, ◌+◌, ◌*◌, ◌<◌, ◌≤◌, List, [], ◌∷◌, ◌++◌, take, Option, IfOk, OnOk, OnErr, Ok, Err};
 ghost use Rattle.aia_io.specs.Ends.{Rose, CutOff};
 ghost use Rattle.aia_model.specs.Forms.{IsListed};
+ghost use Rattle.aia_model.specs.Reading.{reading};
 ghost use Rattle.aia_model.specs.declared.line.Line.{Line};
 
 use crate::buffered::{Buffered, SinkFault};
@@ -73,28 +74,31 @@ impl Replayer {
         Ok(())
     }
 
-    /// Answers the line that was kept, and begins the next one.
-    #[cold]
-    #[inline(never)]
-    fn answer_kept<K: Sink>(&mut self, alloc: Global, sink: &mut K) -> Result<(), Stop>
-        ensures ok { OnOk result (AnswersText self.old self.new (K.taken sink.old)
-            (K.taken sink.new) self.old.line.items) }
-        ensures sink { result ≡ Err Stop.Sink → Rose (K.faults sink.old) (K.faults sink.new) }
-        ensures cut { result ≡ Err Stop.Sink
-            → CutOff (K.taken sink.old) (K.taken sink.new) self.old.out.bytes.items }
-        ensures memory { result ≡ Err Stop.Memory
-            → LacksMemory self.old self.new (K.taken sink.old) (K.taken sink.new)
-            self.old.line.items }
-        ensures later { K.faults sink.old ≤ K.faults sink.new }
+    /// Reads the line that ends with `part`, and begins the next one. A line that begins with it too
+    /// is read where it stands.
+    #[inline(always)]
+    fn read_line(&mut self, part: &[u8]) -> Parsed
+        ensures read { result ≡ reading (self.old.line.items ++ part.now) }
+        ensures listed { (line : Line) → result ≡ Parsed.Line line → IsListed line }
+        ensures empty { self.new.line.items ≡ [] }
+        ensures others { self.new ≡ record self.old { line = self.new.line } }
     {
-        let read = parse_line(self.line.as_slice());
-        self.answer(alloc, sink, &read)?;
-        self.line.clear();
-        Ok(())
+        let kept = !self.line.is_empty();
+        let text = if kept {
+            self.keep(part);
+            self.line.as_slice()
+        } else {
+            part
+        };
+        let read = parse_line(text);
+        if kept {
+            self.line.clear();
+        }
+        read
     }
 
-    /// Answers the line that ends with `part`, and begins the next one. A line that begins with it
-    /// too is read where it stands.
+    /// Answers the line that ends with `part`, and begins the next one.
+    #[inline(never)]
     fn answer_line<K: Sink>(&mut self, alloc: Global, sink: &mut K, part: &[u8]) -> Result<(), Stop>
         ensures ok { OnOk result (AnswersText self.old self.new (K.taken sink.old)
             (K.taken sink.new) (self.old.line.items ++ part.now)) }
@@ -106,11 +110,8 @@ impl Replayer {
             (self.old.line.items ++ part.now) }
         ensures later { K.faults sink.old ≤ K.faults sink.new }
     {
-        if !self.line.is_empty() {
-            self.keep(part);
-            return self.answer_kept(alloc, sink);
-        }
-        self.answer(alloc, sink, &parse_line(part))
+        let read = self.read_line(part);
+        self.answer(alloc, sink, &read)
     }
 
     /// Reads a piece of the script: answers each line that ends in it, and keeps what is left of
@@ -145,7 +146,7 @@ impl Replayer {
         ensures later { K.faults sink.old ≤ K.faults sink.new }
     {
         if !self.line.is_empty() {
-            self.answer_kept(alloc, sink)?;
+            self.answer_line(alloc, sink, &[])?;
         }
         self.write_out(sink)?;
         Ok(())

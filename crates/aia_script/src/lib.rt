@@ -20,5 +20,5 @@ pub use aia_plan::{Kind, Step};
 pub use aia_regs::{Csr, Op};
 pub use forms::print_line;
 pub use parse::{is_skipped, parse_line};
-pub use print::print_answer;
+pub use print::{print_answer, push_answer};
 pub use steps::parse_step;

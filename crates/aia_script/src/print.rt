@@ -1,6 +1,6 @@
 //! An answer is printed.
 
-ghost use Rattle.std.specs.Prelude.{◌≡◌, ◌+◌, ◌≤◌, ◌++◌};
+ghost use Rattle.std.specs.Prelude.{◌≡◌, ◌+◌, ◌≤◌, [], ◌++◌};
 ghost use Rattle.arrayvec.specs.ArrayVec.{array_vec_len};
 ghost use Rattle.aia_model.specs.declared.limits.TheConstants.{ANSWER_BYTES};
 ghost use Rattle.aia_model.specs.AnswerText.{level_text, entry_text, refusal_word, answer_word, answer_text};
@@ -96,13 +96,23 @@ fn push_refusal<const N: usize>(out: &mut ArrayVec<u8, N>, word: Refusal)
     }
 }
 
+/// Prints an answer into `out`, which is empty: its word and an LF, at most [`ANSWER_BYTES`] bytes in
+/// all.
+pub fn print_answer(answer: &Answer, out: &mut ArrayVec<u8, ANSWER_BYTES>)
+    requires { out.old.items ≡ [] }
+    ensures text { out.new.items ≡ answer_text answer.now }
+    ensures short { array_vec_len out.new ≤ ANSWER_BYTES }
+{
+    push_answer(out, answer);
+}
+
 /// Appends an answer: its word and an LF, at most [`ANSWER_BYTES`] bytes in all, for which there is
 /// room.
 #[tactic(auto, unfolding(aia_model::specs::AnswerText::answer_text))]
-pub fn print_answer<const N: usize>(answer: &Answer, out: &mut ArrayVec<u8, N>)
-    requires room { array_vec_len out.old + ANSWER_BYTES ≤ N }
+pub fn push_answer<const N: usize>(out: &mut ArrayVec<u8, N>, answer: &Answer)
+    requires { array_vec_len out.old + ANSWER_BYTES ≤ N }
     ensures text { out.new.items ≡ out.old.items ++ answer_text answer.now }
-    ensures short { array_vec_len out.new ≤ array_vec_len out.old + ANSWER_BYTES }
+    ensures length { array_vec_len out.new ≤ array_vec_len out.old + ANSWER_BYTES }
 {
     match answer {
         Answer::Okay => push_text(out, b"ok"),

@@ -2,7 +2,6 @@
 
 use crate::same;
 use aia_entry::Entry;
-use aia_model::limits::ANSWER_BYTES;
 use aia_script::{
     Answer, Csr, Line, Op, Parsed, Part, Refusal, parse_line, print_answer, print_line,
 };
@@ -284,7 +283,7 @@ const ANSWERS: [(Answer, &str); 29] = [
 
 /// Prints an answer.
 fn answers(rt: &impl Abort, answer: &Answer, want: &str) {
-    let mut out = ArrayVec::<u8, ANSWER_BYTES>::new();
+    let mut out = ArrayVec::new();
     print_answer(answer, &mut out);
     same!(rt; out.as_slice(), want.as_bytes());
 }
