@@ -40,6 +40,11 @@ fn signals(aplic: &Aplic, name: DomainName, hart: u32) -> bool {
     aplic.pin(name, hart)
 }
 
+/// Tells whether an MSI waits.
+fn waits(aplic: &Aplic) -> bool {
+    aplic.has_msi()
+}
+
 /// Sends what waits first.
 fn sends(aplic: &mut Aplic) -> Option<Msi> {
     aplic.next_msi()
@@ -204,14 +209,17 @@ fn msis_are_sent_until_none_waits(rt: HostRuntime) -> Result<(), Fail> {
             (0x1edc, 1),
         ],
     );
+    holds(&rt, !waits(&aplic));
     same!(rt; sends(&mut aplic), None);
     aplic.wire(1, true);
+    holds(&rt, waits(&aplic));
     let msi = Msi {
         address: 0x2400_0000,
         value: 5,
         source: Some(1),
     };
     same!(rt; sends(&mut aplic), Some(msi));
+    holds(&rt, !waits(&aplic));
     same!(rt; sends(&mut aplic), None);
     same!(rt; loads(&mut aplic, DomainName::Root, 0x1c00), 0);
     Ok(())
