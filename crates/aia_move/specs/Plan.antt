@@ -65,6 +65,28 @@ IsInPhase words (ShiftDrain m) = IsInDrain words m
 IsInPhase words (ShiftEnable m) = IsIn EnablePhase words m
 IsInPhase words (ShiftLast m) = IsIn LastPhase words m
 
+-- Which phase it is in, of those whose steps are accesses: in the phase of aims none of these.
+abbrev pub phase_of : Plan → Option Phase
+phase_of (LeaveFirst m) = Some FirstPhase
+phase_of (LeaveClosing m) = Some ClosingPhase
+phase_of (LeaveAim m) = None
+phase_of (LeaveDrain m) = Some DrainPhase
+phase_of (LeaveEnable m) = Some EnablePhase
+phase_of (LeaveLook m) = Some LookPhase
+phase_of (LeaveLast m) = Some LastPhase
+phase_of (ArriveFirst m) = Some FirstPhase
+phase_of (ArriveClosing m) = Some ClosingPhase
+phase_of (ArriveAim m) = None
+phase_of (ArriveDrain m) = Some DrainPhase
+phase_of (ArriveEnable m) = Some EnablePhase
+phase_of (ArriveLast m) = Some LastPhase
+phase_of (ShiftFirst m) = Some FirstPhase
+phase_of (ShiftClosing m) = Some ClosingPhase
+phase_of (ShiftAim m) = None
+phase_of (ShiftDrain m) = Some DrainPhase
+phase_of (ShiftEnable m) = Some EnablePhase
+phase_of (ShiftLast m) = Some LastPhase
+
 -- What is said of a plan that goes on, and of what one that is finished gives back.
 abbrev pub MatchNext : Next → (Plan → Type 0) → (Outcome → Type 0) → Type 0
 MatchNext (Again p) again finished = again p
@@ -85,12 +107,12 @@ StepsTo (Some aim) w m u next = MatchNext next (λ p. GoesAiming w m u (moving_o
 
 -- ---- a step in place
 
--- Its next step is the last one of a phase, of files of so many words.
+-- The next step of a move is the last one of this phase, in files of so many words.
 abbrev pub IsLastOf : Phase → ℕ → Moving → Type 0
 IsLastOf phase words m = steps_done m.home + 1 ≡ begins words m.home (following phase)
 
--- What is made of a move where a step in place is made; where none is, nothing is changed, and the
--- next step is the last one of the phase.
+-- Whether a step was made in place. If so, one step is done and the next can be; if not, nothing is
+-- changed, and the next step is the last of the phase.
 abbrev pub GoesInPlace : Phase → Bool → World → Moving → World → Moving → Type 0
 GoesInPlace phase true w m u t = GoesOn w m u t
 GoesInPlace phase false w m u t = (u ≡ w) × (t ≡ m) × IsLastOf phase (width w) m
@@ -100,33 +122,20 @@ abbrev pub LandsInPlace : Bool → World → Moving → World → Moving → Typ
 LandsInPlace true w m u t = OnceLanded w m (λ landed. GoesOn landed m u t)
 LandsInPlace false w m u t = (u ≡ w) × (t ≡ m) × IsLastOf FirstPhase (width w) m
 
--- The next step of a plan aims a passed source, or is the last one of its phase.
-abbrev pub EndsPhase : ℕ → Plan → Type 0
-EndsPhase words (LeaveFirst m) = IsLastOf FirstPhase words m
-EndsPhase words (LeaveClosing m) = IsLastOf ClosingPhase words m
-EndsPhase words (LeaveAim m) = IsAtAims m
-EndsPhase words (LeaveDrain m) = IsLastOf DrainPhase words m
-EndsPhase words (LeaveEnable m) = IsLastOf EnablePhase words m
-EndsPhase words (LeaveLook m) = IsLastOf LookPhase words m
-EndsPhase words (LeaveLast m) = IsLastOf LastPhase words m
-EndsPhase words (ArriveFirst m) = IsLastOf FirstPhase words m
-EndsPhase words (ArriveClosing m) = IsLastOf ClosingPhase words m
-EndsPhase words (ArriveAim m) = IsAtAims m
-EndsPhase words (ArriveDrain m) = IsLastOf DrainPhase words m
-EndsPhase words (ArriveEnable m) = IsLastOf EnablePhase words m
-EndsPhase words (ArriveLast m) = IsLastOf LastPhase words m
-EndsPhase words (ShiftFirst m) = IsLastOf FirstPhase words m
-EndsPhase words (ShiftClosing m) = IsLastOf ClosingPhase words m
-EndsPhase words (ShiftAim m) = IsAtAims m
-EndsPhase words (ShiftDrain m) = IsLastOf DrainPhase words m
-EndsPhase words (ShiftEnable m) = IsLastOf EnablePhase words m
-EndsPhase words (ShiftLast m) = IsLastOf LastPhase words m
+-- The next step of a move is the last one of this phase; where there is none, it aims a passed
+-- source.
+abbrev pub EndsPhase : Option Phase → ℕ → Moving → Type 0
+EndsPhase None words m = IsAtAims m
+EndsPhase (Some phase) words m = IsLastOf phase words m
 
--- Of a plan: where a step is made in place it is the next one, an access, and the one after it can
--- be made; where none is, nothing is changed.
+-- Whether a step of a plan was made in place. If so, it was the next one, an access, after which the
+-- plan is in the same phase, and the one after it can be made; if not, nothing is changed, and the
+-- next step aims or is the last of its phase.
 abbrev pub StepsInPlace : Bool → World → Plan → World → Plan → Type 0
 StepsInPlace true w plan u later = (next_aim (moving_of plan) ≡ None)
     × StepsTo None w (moving_of plan) u (Again later)
     × MoveFits u (moving_of later)
     × IsInPhase (width u) later
-StepsInPlace false w plan u later = (u ≡ w) × (later ≡ plan) × EndsPhase (width w) plan
+    × (phase_of later ≡ phase_of plan)
+StepsInPlace false w plan u later = (u ≡ w) × (later ≡ plan)
+    × EndsPhase (phase_of plan) (width w) (moving_of plan)

@@ -13,7 +13,7 @@ use Rattle.aia_moving.specs.Move.{Moving, width, MoveFits}
 use Rattle.aia_moving.specs.Targets.{Aim, aims, aim_if, next_aim}
 use Rattle.aia_move.specs.declared.plan.Plan.{Plan}
 use Rattle.aia_move.specs.declared.plan.Next.TheVariants.{Again}
-use Rattle.aia_move.specs.Plan.{moving_of, IsInPhase, StepsTo, EndsPhase}
+use Rattle.aia_move.specs.Plan.{moving_of, phase_of, IsInPhase, StepsTo, EndsPhase}
 use Rattle.aia_model.specs.Event.{History}
 use Rattle.aia_model.specs.Event.Event.{Stepped}
 use Rattle.aia_model.specs.Vms.{has_vcpu}
@@ -64,7 +64,7 @@ module _ (x y : CoreState) (who : Found) (new : Stay) (plan : Plan) (was : stays
   by_plan : (made : Bool) → InPlaceCalls x y who new made → MoveInPlace x y (vcpu who.vm who.number) made
   by_plan true c =
       let made = made_of true c in
-      let steps : (next_aim (moving_of plan) ≡ None) × StepsTo None x.world (moving_of plan) y.world (Again made.0) × MoveFits y.world (moving_of made.0) × IsInPhase (width y.world) made.0 = made.2 in (
+      let steps : (next_aim (moving_of plan) ≡ None) × StepsTo None x.world (moving_of plan) y.world (Again made.0) × MoveFits y.world (moving_of made.0) × IsInPhase (width y.world) made.0 × (phase_of made.0 ≡ phase_of plan) = made.2 in (
         step_called x y who plan (Again made.0) (record {
           is_who = c.is_who;
           some = c.some;
@@ -89,7 +89,7 @@ module _ (x y : CoreState) (who : Found) (new : Stay) (plan : Plan) (was : stays
       )
   by_plan false c =
       let made = made_of false c in
-      let same : (y.world ≡ x.world) × (made.0 ≡ plan) × EndsPhase (width x.world) plan = made.2 in
+      let same : (y.world ≡ x.world) × (made.0 ≡ plan) × EndsPhase (phase_of plan) (width x.world) (moving_of plan) = made.2 in
       same_core x y same.0 c.leases (c.back ∙ ap (λ s. set x.vcpus who.slot (at_stay (get_or x.vcpus who.slot no_record) s)) (made.1 ∙ ap (λ (p : Plan). stays.Moving p) same.1) ∙ same_records) c.selects c.passes
 
 pub made_in_place : (x y : CoreState) (who : Found) (new : Stay) (made : Bool) → InPlaceCalls x y who new made → MoveInPlace x y (vcpu who.vm who.number) made

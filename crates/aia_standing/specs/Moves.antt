@@ -242,7 +242,8 @@ pub record MoveGoes (old new : CoreState) (g : Vcpu) (last : Bool) : Type 0 wher
   pub makes : (plan : Plan) → (record_of old g).stay ≡ stays.Moving plan
       → MakesOne old.world (moving_of plan) new.world
 
--- Where one is made in place, it makes an access, and is not the last one; else nothing is changed.
+-- Where a step of a move was made in place, it was an access, aimed nothing, and was not the move's
+-- last; else nothing is changed.
 abbrev pub MoveInPlace : CoreState → CoreState → Vcpu → Bool → Type 0
 MoveInPlace old new g true = MoveGoes old new g false
     × ((h : History) → CoreStands old h → aimed_by h (Stepped g) ≡ None)

@@ -28,6 +28,8 @@ mod registers;
 #[cfg(test)]
 mod sets;
 #[cfg(test)]
+mod steps_in_place;
+#[cfg(test)]
 mod stores_in_flight;
 #[cfg(test)]
 mod tables;

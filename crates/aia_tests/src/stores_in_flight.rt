@@ -17,12 +17,12 @@ use aia_regs::limits::STORES_IN_FLIGHT;
 use std::test::Fail;
 
 /// The slot of virtual hart 1, and guest file 1 of hart 1, as entries name them.
-const IN_MEMORY: Route = Route::To(Entry::Mrif(0x8000_0200, 0x28020, 2));
+pub(crate) const IN_MEMORY: Route = Route::To(Entry::Mrif(0x8000_0200, 0x28020, 2));
 
-const IN_FILE: Route = Route::To(Entry::Basic(0x28021));
+pub(crate) const IN_FILE: Route = Route::To(Entry::Basic(0x28021));
 
 /// Tells how many stores of a VM are in flight, where it stands.
-fn flying(fabric: &Fabric, vm: u32) -> Option<usize> {
+pub(crate) fn flying(fabric: &Fabric, vm: u32) -> Option<usize> {
     if vm >= fabric.vms() {
         return None;
     }
@@ -30,7 +30,7 @@ fn flying(fabric: &Fabric, vm: u32) -> Option<usize> {
 }
 
 /// Sends a store of a device, where the VM stands and there is room for it.
-fn sends(fabric: &mut Fabric, vm: u32, addr: u64, value: u32) -> Option<Route> {
+pub(crate) fn sends(fabric: &mut Fabric, vm: u32, addr: u64, value: u32) -> Option<Route> {
     if vm >= fabric.vms() || fabric.flying(vm) >= STORES_IN_FLIGHT {
         return None;
     }
