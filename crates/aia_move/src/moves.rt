@@ -6,7 +6,7 @@ ghost use Rattle.aia_home.specs.Phases.{begins};
 ghost use Rattle.aia_home.specs.Phases.Phase.{ClosingPhase, DrainPhase, EnablePhase};
 ghost use Rattle.aia_moving.specs.Move.{MoveFits, old_at, new_at, width};
 ghost use Rattle.aia_moving.specs.Targets.{ArePasses, aim_of, has_unaimed};
-ghost use Rattle.aia_moving.specs.Turns.{IsIn, IsAtAims, IsInDrain, GoesOn, AimsOn, MatchTurn, MatchClosed, after_enable};
+ghost use Rattle.aia_moving.specs.Turns.{IsIn, IsAtAims, IsInDrain, GoesOn, AimsOn, MatchTurn, MatchClosed};
 ghost use Rattle.aia_move.specs.Plan.{GoesInPlace};
 
 use crate::carrier::Carrier;
@@ -236,7 +236,6 @@ impl<K: Kind, P> Move<K, P> {
     pub(crate) fn first_steps(&self) -> u32
         ensures few { result ≤ leave_step 0 Map }
         ensures moves { is_moving self.now.home ≡ true }
-        ensures after { K.after ≡ after_enable self.now.home }
         ensures value { (words : ℕ) → result ≡ begins words self.now.home ClosingPhase }
     {
         self.kind.first_steps()
