@@ -1,5 +1,5 @@
 -- What a replayer holds after a line and at the end, and what waits in its buffer.
-use Rattle.std.proofs.Common.{◌≡◌, ℕ, ◌<◌, false, ◌&&◌, cond, nat_eq, List, [], ◌∷◌, ◌++◌, length, take, Option, inl, inr, refl, sym, ap, subst, ◌∙◌, append_assoc, arith}
+use Rattle.std.proofs.Common.{◌≡◌, ◌⊎◌, ℕ, ◌<◌, false, ◌&&◌, cond, nat_eq, List, [], ◌∷◌, ◌++◌, length, take, Option, inl, inr, refl, sym, ap, subst, ◌∙◌, append_assoc, arith}
 use Rattle.std.specs.Io.KnownBytes.{Appends}
 use Rattle.std.proofs.KnownBytes.{Appends-nil, Appends-trans}
 use Rattle.std.proofs.lemmas.List.{append-nil, length-take, nil_from_length, take_all}
@@ -96,6 +96,11 @@ lacks_kept old new mid now part lacks = record {
   same = lacks.same;
   kept = lacks.kept;
 }
+
+-- a line that is kept, and not empty, reads as what was kept and the part behind it
+pub kept_reads : (line part mid text : List ℕ) → ((length line ≡ 0) × (mid ≡ line)) ⊎ (mid ≡ take 129 (line ++ part)) → 0 < length mid → (0 < length mid → text ≡ mid) → reading text ≡ reading (line ++ part)
+kept_reads line part mid text (inl (none, same)) some is = absurd (omega (arith, ap length same, none, some))
+kept_reads line part mid text (inr kept) some is = ap reading (is some ∙ kept) ∙ reading_take (line ++ part)
 
 -- a line was read, and answered then
 pub read_answered : (old mid new : Replayer) (before now : Option (List ℕ)) (text : List ℕ) (read : Parsed) → mid ≡ record old { line = mid.line } → read ≡ reading text → mid.line.items ≡ [] → new.line ≡ mid.line → AnswersRead mid new before now read → AnswersText old new before now text

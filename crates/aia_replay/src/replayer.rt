@@ -1,4 +1,4 @@
-ghost use Rattle.std.specs.Prelude.{◌≡◌, ◌≢◌, ℕ, ◌+◌, ◌*◌, ◌<◌, ◌≤◌, List, [], ◌∷◌, ◌++◌, take, Option, IfOk, OnOk, OnErr, Ok, Err};
+ghost use Rattle.std.specs.Prelude.{◌≡◌, ◌≢◌, ℕ, ◌+◌, ◌*◌, ◌<◌, ◌≤◌, List, [], ◌∷◌, ◌++◌, length, take, Option, IfOk, OnOk, OnErr, Ok, Err};
 ghost use Rattle.aia_io.specs.Ends.{Rose, CutOff};
 ghost use Rattle.aia_model.specs.Forms.{IsListed};
 ghost use Rattle.aia_model.specs.Reading.{reading};
@@ -83,15 +83,11 @@ impl Replayer {
         ensures empty { self.new.line.items ≡ [] }
         ensures others { self.new ≡ record self.old { line = self.new.line } }
     {
-        let kept = !self.line.is_empty();
-        let text = if kept {
+        if !self.line.is_empty() {
             self.keep(part);
-            self.line.as_slice()
-        } else {
-            part
-        };
-        let read = parse_line(text);
-        if kept {
+        }
+        let read = parse_line(kept_or(self.line.as_slice(), part));
+        if !self.line.is_empty() {
             self.line.clear();
         }
         read
@@ -210,4 +206,13 @@ impl Replayer {
     {
         self.out.write_out(sink)
     }
+}
+
+/// Gives what was kept, where that is some, and else the part.
+#[inline(always)]
+fn kept_or<'a>(kept: &'a [u8], part: &'a [u8]) -> &'a [u8]
+    ensures none { kept.now ≡ [] → result.now ≡ part.now }
+    ensures some { 0 < length kept.now → result.now ≡ kept.now }
+{
+    if kept.is_empty() { part } else { kept }
 }
