@@ -15,4 +15,4 @@ returns-then-not-is_empty-2-clause-read c =
     ] in
     c.parse_line-read.ensures.reading
     ∙ kept_reads old c.args.part.now mid c.kept_or.result.now way (not_empty _ c.if-not-is_empty-2.ensures)
-        (λ some. c.kept_or.ensures.some (subst (λ xs. 0 < length xs) (sym c.as_slice.ensures.value) some) ∙ c.as_slice.ensures.value)
+    (λ some. c.kept_or.ensures.some (subst (λ xs. 0 < length xs) (sym c.as_slice.ensures.value) some) ∙ c.as_slice.ensures.value)
