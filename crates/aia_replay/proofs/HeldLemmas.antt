@@ -1,5 +1,5 @@
 -- What a replayer holds after a line and at the end, and what waits in its buffer.
-use Rattle.std.proofs.Common.{◌≡◌, ◌⊎◌, ℕ, ◌<◌, false, ◌&&◌, cond, nat_eq, List, [], ◌∷◌, ◌++◌, length, take, Option, inl, inr, refl, sym, ap, subst, ◌∙◌, append_assoc, arith}
+use Rattle.std.proofs.Common.{◌≡◌, ℕ, ◌<◌, false, ◌&&◌, cond, nat_eq, List, [], ◌∷◌, ◌++◌, length, take, Option, inl, inr, refl, sym, ap, subst, ◌∙◌, append_assoc, arith}
 use Rattle.std.specs.Io.KnownBytes.{Appends}
 use Rattle.std.proofs.KnownBytes.{Appends-nil, Appends-trans}
 use Rattle.std.proofs.lemmas.List.{append-nil, length-take, nil_from_length, take_all}
@@ -17,7 +17,7 @@ use Rattle.aia_io.specs.Ends.{CutOff}
 use Rattle.aia_replay.specs.Buffered.{Gathers}
 use Rattle.aia_replay.specs.Stands.{EngineState, StandsFor, ReadsAsMachine}
 use Rattle.aia_replay.specs.Runs.{NoEnd, AsksMachine, CutsLines}
-use Rattle.aia_replay.specs.Streams.{WritesOut, WritesOutFront, HasAnswered, HasStopped, Begins, AnswersText, AnswersRead, LacksMemory, LacksMemoryFor}
+use Rattle.aia_replay.specs.Streams.{WritesOut, WritesOutFront, HasAnswered, HasStopped, Begins, AnswersText, AnswersRead, LacksMemory}
 use Rattle.aia_replay.proofs.CutLemmas.{texts_front, texts_last, take_again}
 
 -- ---- what waits in the buffer
@@ -97,31 +97,29 @@ lacks_kept old new mid now part lacks = record {
   kept = lacks.kept;
 }
 
--- a line that is kept, and not empty, reads as what was kept and the part behind it
-pub kept_reads : (line part mid text : List ℕ) → ((length line ≡ 0) × (mid ≡ line)) ⊎ (mid ≡ take 129 (line ++ part)) → 0 < length mid → (0 < length mid → text ≡ mid) → reading text ≡ reading (line ++ part)
-kept_reads line part mid text (inl (none, same)) some is = absurd (omega (arith, ap length same, none, some))
-kept_reads line part mid text (inr kept) some is = ap reading (is some ∙ kept) ∙ reading_take (line ++ part)
-
--- a line was read, and answered then
-pub read_answered : (old mid new : Replayer) (before now : Option (List ℕ)) (text : List ℕ) (read : Parsed) → mid ≡ record old { line = mid.line } → read ≡ reading text → mid.line.items ≡ [] → new.line ≡ mid.line → AnswersRead mid new before now read → AnswersText old new before now text
-read_answered old mid new before now text read others is empty same answered =
-    let engine : mid.engine ≡ old.engine = ap (λ (r : Replayer). r.engine) others in
-    let out : mid.out ≡ old.out = ap (λ (r : Replayer). r.out) others in
+-- a part was kept, and the line answered then
+pub kept_answered : (old kept new : Replayer) (mid now : Option (List ℕ)) (part : List ℕ) → kept.line.items ≡ take 129 (old.line.items ++ part) → kept ≡ record old { line = kept.line } → AnswersText kept new mid now kept.line.items → AnswersText old new mid now (old.line.items ++ part)
+kept_answered old kept new mid now part line others answered =
+    let same : reading kept.line.items ≡ reading (old.line.items ++ part) = ap reading line ∙ reading_take (old.line.items ++ part) in
+    let engine : kept.engine ≡ old.engine = ap (λ (r : Replayer). r.engine) others in
+    let out : kept.out ≡ old.out = ap (λ (r : Replayer). r.out) others in
     record {
       read = record {
-        answers = λ h stands. subst (λ (p : Parsed). Gathers old.out.bytes.items new.out.bytes.items before now (printed (text_answer h p))) is
-            (subst (λ (o : Buffered). Gathers o.bytes.items new.out.bytes.items before now (printed (text_answer h read))) out (answered.answers h (subst (λ (e : EngineState). StandsFor e h) (sym engine) stands)));
-        stands = λ h stands. subst (λ (p : Parsed). StandsFor new.engine (after_text h p)) is (answered.stands h (subst (λ (e : EngineState). StandsFor e h) (sym engine) stands));
+        answers = λ h stands. subst (λ (p : Parsed). Gathers old.out.bytes.items new.out.bytes.items mid now (printed (text_answer h p))) same
+            (subst (λ (o : Buffered). Gathers o.bytes.items new.out.bytes.items mid now (printed (text_answer h (reading kept.line.items)))) out (answered.read.answers h (subst (λ (e : EngineState). StandsFor e h) (sym engine) stands)));
+        stands = λ h stands. subst (λ (p : Parsed). StandsFor new.engine (after_text h p)) same (answered.read.stands h (subst (λ (e : EngineState). StandsFor e h) (sym engine) stands));
       };
-      empty = ap (λ l. l.items) same ∙ empty;
+      empty = answered.empty;
     }
 
-pub read_lacks : (old mid new : Replayer) (before now : Option (List ℕ)) (text : List ℕ) (read : Parsed) → mid ≡ record old { line = mid.line } → read ≡ reading text → LacksMemoryFor mid new before now read → LacksMemory old new before now text
-read_lacks old mid new before now text read others is lacks = record {
-  asks = subst (λ (e : EngineState). ReadsAsMachine e (reading text)) (ap (λ (r : Replayer). r.engine) others) (subst (ReadsAsMachine mid.engine) is lacks.asks);
-  same = lacks.same ∙ ap (λ (r : Replayer). r.out) others;
-  kept = lacks.kept;
-}
+pub kept_lacks : (old kept new : Replayer) (mid now : Option (List ℕ)) (part : List ℕ) → kept.line.items ≡ take 129 (old.line.items ++ part) → kept ≡ record old { line = kept.line } → LacksMemory kept new mid now kept.line.items → LacksMemory old new mid now (old.line.items ++ part)
+kept_lacks old kept new mid now part line others lacks =
+    let same : reading kept.line.items ≡ reading (old.line.items ++ part) = ap reading line ∙ reading_take (old.line.items ++ part) in
+    record {
+      asks = subst (λ (e : EngineState). ReadsAsMachine e (reading (old.line.items ++ part))) (ap (λ (r : Replayer). r.engine) others) (subst (ReadsAsMachine kept.engine) same lacks.asks);
+      same = lacks.same ∙ ap (λ (r : Replayer). r.out) others;
+      kept = lacks.kept;
+    }
 
 -- nothing was kept
 pub in_place : (line part : List ℕ) → length line ≡ 0 → line ++ part ≡ part

@@ -1,7 +1,6 @@
-ghost use Rattle.std.specs.Prelude.{◌≡◌, ◌≢◌, ℕ, ◌+◌, ◌*◌, ◌<◌, ◌≤◌, List, [], ◌∷◌, ◌++◌, length, take, Option, IfOk, OnOk, OnErr, Ok, Err};
+ghost use Rattle.std.specs.Prelude.{◌≡◌, ◌≢◌, ℕ, ◌+◌, ◌*◌, ◌<◌, ◌≤◌, List, [], ◌∷◌, ◌++◌, take, Option, IfOk, OnOk, OnErr, Ok, Err};
 ghost use Rattle.aia_io.specs.Ends.{Rose, CutOff};
 ghost use Rattle.aia_model.specs.Forms.{IsListed};
-ghost use Rattle.aia_model.specs.Reading.{reading};
 ghost use Rattle.aia_model.specs.declared.line.Line.{Line};
 
 use crate::buffered::{Buffered, SinkFault};
@@ -74,27 +73,28 @@ impl Replayer {
         Ok(())
     }
 
-    /// Reads the line that ends with `part`, and begins the next one. A line that begins with it too
-    /// is read where it stands.
-    #[inline(always)]
-    fn read_line(&mut self, part: &[u8]) -> Parsed
-        ensures read { result ≡ reading (self.old.line.items ++ part.now) }
-        ensures listed { (line : Line) → result ≡ Parsed.Line line → IsListed line }
-        ensures empty { self.new.line.items ≡ [] }
-        ensures others { self.new ≡ record self.old { line = self.new.line } }
+    /// Answers the line that was kept, and begins the next one.
+    #[cold]
+    #[inline(never)]
+    fn answer_kept<K: Sink>(&mut self, alloc: Global, sink: &mut K) -> Result<(), Stop>
+        ensures ok { OnOk result (AnswersText self.old self.new (K.taken sink.old)
+            (K.taken sink.new) self.old.line.items) }
+        ensures sink { result ≡ Err Stop.Sink → Rose (K.faults sink.old) (K.faults sink.new) }
+        ensures cut { result ≡ Err Stop.Sink
+            → CutOff (K.taken sink.old) (K.taken sink.new) self.old.out.bytes.items }
+        ensures memory { result ≡ Err Stop.Memory
+            → LacksMemory self.old self.new (K.taken sink.old) (K.taken sink.new)
+            self.old.line.items }
+        ensures later { K.faults sink.old ≤ K.faults sink.new }
     {
-        if !self.line.is_empty() {
-            self.keep(part);
-        }
-        let read = parse_line(kept_or(self.line.as_slice(), part));
-        if !self.line.is_empty() {
-            self.line.clear();
-        }
-        read
+        let read = parse_line(self.line.as_slice());
+        self.answer(alloc, sink, &read)?;
+        self.line.clear();
+        Ok(())
     }
 
-    /// Answers the line that ends with `part`, and begins the next one.
-    #[inline(never)]
+    /// Answers the line that ends with `part`, and begins the next one. A line that begins with it
+    /// too is read where it stands.
     fn answer_line<K: Sink>(&mut self, alloc: Global, sink: &mut K, part: &[u8]) -> Result<(), Stop>
         ensures ok { OnOk result (AnswersText self.old self.new (K.taken sink.old)
             (K.taken sink.new) (self.old.line.items ++ part.now)) }
@@ -106,8 +106,11 @@ impl Replayer {
             (self.old.line.items ++ part.now) }
         ensures later { K.faults sink.old ≤ K.faults sink.new }
     {
-        let read = self.read_line(part);
-        self.answer(alloc, sink, &read)
+        if !self.line.is_empty() {
+            self.keep(part);
+            return self.answer_kept(alloc, sink);
+        }
+        self.answer(alloc, sink, &parse_line(part))
     }
 
     /// Reads a piece of the script: answers each line that ends in it, and keeps what is left of
@@ -142,7 +145,7 @@ impl Replayer {
         ensures later { K.faults sink.old ≤ K.faults sink.new }
     {
         if !self.line.is_empty() {
-            self.answer_line(alloc, sink, &[])?;
+            self.answer_kept(alloc, sink)?;
         }
         self.write_out(sink)?;
         Ok(())
@@ -206,13 +209,4 @@ impl Replayer {
     {
         self.out.write_out(sink)
     }
-}
-
-/// Gives what was kept, where that is some, and else the part.
-#[inline(always)]
-fn kept_or<'a>(kept: &'a [u8], part: &'a [u8]) -> &'a [u8]
-    ensures none { kept.now ≡ [] → result.now ≡ part.now }
-    ensures some { 0 < length kept.now → result.now ≡ kept.now }
-{
-    if kept.is_empty() { part } else { kept }
 }
