@@ -4,7 +4,8 @@ use Rattle.std.proofs.lemmas.Bool.{and_parts, eqb-true, or_left, or_right}
 use Rattle.std.proofs.lemmas.Bool.Decides.{nat_tests}
 use Rattle.aia_home.specs.declared.place.Place.{Place}
 use Rattle.aia_home.specs.Home.{Home, is_place, holds, entering, exiting}
-use Rattle.aia_home.specs.Home.Home.{Parked, Entered, Resident, Leaving, Arriving, Shifting}
+use Rattle.aia_home.specs.declared.rest.Rest.TheVariants.{Parked, Entered}
+use Rattle.aia_home.specs.Home.Home.{InMemory, Resident, Leaving, Arriving, Shifting}
 use Rattle.aia_home.specs.BySteps.{own_file, next_file, new_file}
 use Rattle.aia_home.specs.Routes.{origin, MayLand}
 
@@ -52,14 +53,10 @@ landing_is_held words there reach p (inr m) e = new_is_held there p (sym m.0 ∙
 
 -- ---- it enters, or exits: what is so of the parked and the entered alike stays
 
-pub entering_keeps : (P : Home → Type 0) → (P Parked → P Entered) → (there : Home) → P there → P (entering there)
-entering_keeps P same Parked p = same p
+pub entering_keeps : (P : Home → Type 0) → (P (InMemory Parked) → P (InMemory Entered)) → (there : Home) → P there → P (entering there)
+entering_keeps P same (InMemory Parked) p = same p
 entering_keeps P same there p = p
 
-pub exiting_keeps : (P : Home → Type 0) → (P Entered → P Parked) → (there : Home) → P there → P (exiting there)
-exiting_keeps P same Parked p = p
-exiting_keeps P same Entered p = same p
-exiting_keeps P same (Resident q) p = p
-exiting_keeps P same (Leaving from at) p = p
-exiting_keeps P same (Arriving to at) p = p
-exiting_keeps P same (Shifting from to at) p = p
+pub exiting_keeps : (P : Home → Type 0) → (P (InMemory Entered) → P (InMemory Parked)) → (there : Home) → P there → P (exiting there)
+exiting_keeps P same (InMemory Entered) p = same p
+exiting_keeps P same there p = p

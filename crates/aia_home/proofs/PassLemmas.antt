@@ -4,7 +4,8 @@ use Rattle.std.proofs.lemmas.Bool.{cases_Bool, and_parts, and_from}
 use Rattle.std.proofs.lemmas.Bool.Decides.{nat_tests}
 use Rattle.aia_home.specs.declared.place.Place.{Place}
 use Rattle.aia_home.specs.Home.{Home, is_moving, ended, one_more, leaving, arriving, shifting}
-use Rattle.aia_home.specs.Home.Home.{Parked, Resident, Leaving, Arriving, Shifting}
+use Rattle.aia_home.specs.declared.rest.Rest.TheVariants.{Parked}
+use Rattle.aia_home.specs.Home.Home.{InMemory, Resident, Leaving, Arriving, Shifting}
 use Rattle.aia_home.specs.Plans.{is_at_last, stepped, leave_step, arrive_step, shift_step}
 use Rattle.aia_home.specs.Plans.Access.{TakePending}
 use Rattle.aia_home.specs.BySteps.{new_file, is_drained}
@@ -85,7 +86,7 @@ leaving_aimed passes (Resident p) a = record { late = λ e. absurd (cc); all = �
 leaving_aimed passes there a = a
 
 pub arriving_aimed : (passes : ℕ) (q : Place) (there : Home) → AreAimed passes there → AreAimed passes (arriving q there)
-arriving_aimed passes q Parked a = record { late = λ e. absurd (cc); all = λ e. absurd (cc) }
+arriving_aimed passes q (InMemory Parked) a = record { late = λ e. absurd (cc); all = λ e. absurd (cc) }
 arriving_aimed passes q there a = a
 
 pub shifting_aimed : (passes : ℕ) (q : Place) (there : Home) → AreAimed passes there → AreAimed passes (shifting q there)
@@ -117,7 +118,7 @@ count_aim passes t k a here = let at : nat_eq k t ≡ true = (and_parts _ _ here
 }
 
 ended_aimed : (passes : ℕ) (there : Home) → AreAimed passes there → AreAimed passes (ended there)
-ended_aimed passes (Leaving from at) a = rest_aimed passes Parked refl
+ended_aimed passes (Leaving from at) a = rest_aimed passes (InMemory Parked) refl
 ended_aimed passes (Arriving to at) a = rest_aimed passes (Resident to) refl
 ended_aimed passes (Shifting from to at) a = rest_aimed passes (Resident to) refl
 ended_aimed passes there a = a

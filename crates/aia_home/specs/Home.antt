@@ -1,6 +1,8 @@
 -- The home of a virtual hart: where its interrupts are kept, and what a move makes of it. Profile.
 use Rattle.std.specs.Prelude.{ℕ, ◌+◌, Bool, true, false, ◌&&◌, ◌||◌, nat_eq}
 use Rattle.aia_home.specs.declared.place.Place.{Place}
+use Rattle.aia_home.specs.declared.rest.Rest.{Rest}
+use Rattle.aia_home.specs.declared.rest.Rest.TheVariants.{Parked, Entered}
 
 -- Whether two guest files are the same.
 abbrev pub is_place : Place → Place → Bool
@@ -16,12 +18,10 @@ pub record Progress : Type 0 where
 abbrev pub at_first : Progress
 at_first = record { steps = 0; aims = 0 }
 
--- It is parked, its interrupts in memory; or entered: it runs, and its interrupts stay in memory;
--- or resident in a guest file; or it is moved, from a guest file to memory, from memory to a guest
--- file, or from one guest file to another.
+-- Its interrupts rest in memory; or it is resident in a guest file; or it is moved, from a guest
+-- file to memory, from memory to a guest file, or from one guest file to another.
 pub data Home : Type 0 where
-  Parked : Home
-  Entered : Home
+  InMemory : (rest : Rest) → Home
   Resident : (in_file : Place) → Home
   Leaving : (from : Place) (at : Progress) → Home
   Arriving : (to : Place) (at : Progress) → Home
@@ -30,11 +30,11 @@ pub data Home : Type 0 where
 -- ---- which it is
 
 abbrev pub is_parked : Home → Bool
-is_parked Parked = true
+is_parked (InMemory Parked) = true
 is_parked there = false
 
 abbrev pub is_entered : Home → Bool
-is_entered Entered = true
+is_entered (InMemory Entered) = true
 is_entered there = false
 
 abbrev pub is_resident : Home → Bool
@@ -53,12 +53,12 @@ runs there = is_resident there || is_entered there
 
 -- Whether its interrupts rest in memory, where no move carries them.
 abbrev pub rests_in_memory : Home → Bool
-rests_in_memory there = is_parked there || is_entered there
+rests_in_memory (InMemory rest) = true
+rests_in_memory there = false
 
 -- Whether it holds a guest file: a shift holds both of its files until its last step is done.
 abbrev pub holds : Place → Home → Bool
-holds p Parked = false
-holds p Entered = false
+holds p (InMemory rest) = false
 holds p (Resident q) = is_place p q
 holds p (Leaving from at) = is_place p from
 holds p (Arriving to at) = is_place p to
@@ -68,11 +68,11 @@ holds p (Shifting from to at) = is_place p from || is_place p to
 
 -- It begins to run from memory, and ceases to. Its interrupts stay where they are.
 abbrev pub entering : Home → Home
-entering Parked = Entered
+entering (InMemory rest) = InMemory Entered
 entering there = there
 
 abbrev pub exiting : Home → Home
-exiting Entered = Parked
+exiting (InMemory rest) = InMemory Parked
 exiting there = there
 
 -- ---- its moves
@@ -83,7 +83,7 @@ leaving (Resident p) = Leaving p at_first
 leaving there = there
 
 abbrev pub arriving : Place → Home → Home
-arriving to Parked = Arriving to at_first
+arriving to (InMemory Parked) = Arriving to at_first
 arriving to there = there
 
 abbrev pub shifting : Place → Home → Home
@@ -92,7 +92,7 @@ shifting to there = there
 
 -- Its move ends; one more step of it is done.
 abbrev pub ended : Home → Home
-ended (Leaving from at) = Parked
+ended (Leaving from at) = InMemory Parked
 ended (Arriving to at) = Resident to
 ended (Shifting from to at) = Resident to
 ended there = there
