@@ -37,13 +37,14 @@ csr_access levels.Guest csrs.Sie op select vti = if vti then reaches.Virtual els
 csr_access level csr op select vti = reaches.Illegal
 
 -- Whether a CSR is one of an interrupt file: the select number, the register that it selects, or
--- the identity on top; and that it is.
+-- the identity on top.
 abbrev pub is_file_csr : Csr → Bool
 is_file_csr csrs.Select = true
 is_file_csr csrs.Reg = true
 is_file_csr csrs.Topei = true
 is_file_csr csr = false
 
+-- That a CSR is one of those.
 abbrev pub IsFileCsr : Csr → Type 0
 IsFileCsr csr = T (is_file_csr csr)
 

@@ -12,7 +12,8 @@ ghost use Rattle.aia_model.specs.Event.{has_machine};
 ghost use Rattle.aia_model.specs.Image.{GuestState};
 ghost use Rattle.aia_model.specs.StateOf.{state_of};
 ghost use Rattle.aia_isolation.specs.Images.{loads_of, IsWholeImage};
-ghost use Rattle.aia_home.specs.Home.Home.{Parked};
+ghost use Rattle.aia_home.specs.declared.rest.Rest.TheVariants.{Parked};
+ghost use Rattle.aia_home.specs.Home.Home.{InMemory};
 ghost use Rattle.aia_model.specs.declared.answer.Answer.TheVariants.{Wide};
 ghost use Rattle.aia_model.specs.GuestFile.{guest_file};
 ghost use Rattle.aia_model.specs.HomeOf.{home};
@@ -403,7 +404,7 @@ pub fn the_host_is_told_of_what_is_pending()
     ensures cleared { newest (λ past event. guest_said past event (vcpu 0 0) 5)
         (history_of BUSY.now) ≡ Clear }
     ensures pending { (guest_file (history_of BUSY.now) (vcpu 0 0)).pending 6 ≡ true }
-    ensures parked { home (history_of BUSY.now) (vcpu 0 0) ≡ Parked }
+    ensures parked { home (history_of BUSY.now) (vcpu 0 0) ≡ InMemory Parked }
     ensures deliverable { is_deliverable (history_of BUSY.now) (vcpu 0 0) 6 ≡ true }
     ensures told { told_since (history_of BUSY.now) (notice_file (history_of BUSY.now) (vcpu 0 0))
         (notice_number (history_of BUSY.now) (vcpu 0 0)) (vcpu 0 0) 6 ≡ true }

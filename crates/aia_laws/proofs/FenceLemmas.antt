@@ -3,7 +3,8 @@ use Rattle.std.proofs.Common.{◌≡◌, ℕ, suc, ◌+◌, true, false, nat_lt,
 use Rattle.std.specs.Option.{option_map_or}
 use Rattle.std.proofs.lemmas.Bool.{eq-eqb, ne_eqb, and_left}
 use Rattle.aia_home.specs.Home.{Home, is_moving, is_resident, is_entered, rests_in_memory, leaving, arriving, shifting}
-use Rattle.aia_home.specs.Home.Home.{Parked, Entered, Resident, Leaving, Arriving, Shifting}
+use Rattle.aia_home.specs.declared.rest.Rest.TheVariants.{Parked}
+use Rattle.aia_home.specs.Home.Home.{InMemory, Resident, Leaving, Arriving, Shifting}
 use Rattle.aia_home.specs.Plans.{leave_step, arrive_step, shift_step, leave_steps, arrive_steps, shift_steps}
 use Rattle.aia_home.specs.Plans.Access.{Fence, GFence}
 use Rattle.aia_home.specs.Aims.{is_aiming, further}
@@ -51,19 +52,11 @@ leave_to_fence there idle kept = absurd (cc)
 pub arrive_to_fence : (hart : ℕ) (file : Option ℕ) (there : Home) → is_moving there ≡ false → is_resident there ≡ false → is_entered there ≡ false → is_none file ≡ false
     → FenceIn (arrive_step 0 Fence) (option_map_or (λ f. arriving (guest_place hart f) there) file there)
 arrive_to_fence hart None there idle away waits free = absurd (cc)
-arrive_to_fence hart (Some f) Parked idle away waits free = refl
-arrive_to_fence hart (Some f) Entered idle away waits free = absurd (cc)
-arrive_to_fence hart (Some f) (Resident p) idle away waits free = absurd (cc)
-arrive_to_fence hart (Some f) (Leaving from at) idle away waits free = absurd (cc)
-arrive_to_fence hart (Some f) (Arriving to at) idle away waits free = absurd (cc)
-arrive_to_fence hart (Some f) (Shifting from to at) idle away waits free = absurd (cc)
+arrive_to_fence hart (Some f) (InMemory Parked) idle away waits free = refl
+arrive_to_fence hart (Some f) there idle away waits free = absurd (cc)
 
 pub shift_to_fence : (hart : ℕ) (file : Option ℕ) (there : Home) → is_moving there ≡ false → rests_in_memory there ≡ false → is_none file ≡ false
     → FenceIn (shift_step 0 Fence) (option_map_or (λ f. shifting (guest_place hart f) there) file there)
 shift_to_fence hart None there idle kept free = absurd (cc)
 shift_to_fence hart (Some f) (Resident p) idle kept free = refl
-shift_to_fence hart (Some f) Parked idle kept free = absurd (cc)
-shift_to_fence hart (Some f) Entered idle kept free = absurd (cc)
-shift_to_fence hart (Some f) (Leaving from at) idle kept free = absurd (cc)
-shift_to_fence hart (Some f) (Arriving to at) idle kept free = absurd (cc)
-shift_to_fence hart (Some f) (Shifting from to at) idle kept free = absurd (cc)
+shift_to_fence hart (Some f) there idle kept free = absurd (cc)

@@ -25,7 +25,8 @@ use Rattle.aia_model.specs.Image.{GuestState, part_of, parts_in, is_loadable}
 use Rattle.aia_model.specs.StateOf.{state_of}
 use Rattle.aia_model.specs.Histories.{IsHistory}
 use Rattle.aia_model.specs.Vms.{has_vcpu}
-use Rattle.aia_home.specs.Home.Home.{Parked}
+use Rattle.aia_home.specs.declared.rest.Rest.TheVariants.{Parked}
+use Rattle.aia_home.specs.Home.Home.{InMemory}
 use Rattle.aia_model.specs.HomeOf.{home}
 use Rattle.aia_model.specs.Refusal.{refusal}
 use Rattle.aia_model.specs.Answer.{answer}
@@ -114,7 +115,7 @@ load_read x part vm number fits = ap reading (load_printed x part) ∙ printed_r
 -- ---- of one that is saved
 
 -- a part that may be loaded is loaded where a virtual hart is parked
-load_accepted : (h : History) (vm number : ℕ) (part : Part) → has_machine h ≡ true → has_vcpu h (vcpu vm number) ≡ true → home h (vcpu vm number) ≡ Parked → is_loadable (greatest_identity_of h) part ≡ true → refusal h (LoadPart vm number part) ≡ None
+load_accepted : (h : History) (vm number : ℕ) (part : Part) → has_machine h ≡ true → has_vcpu h (vcpu vm number) ≡ true → home h (vcpu vm number) ≡ InMemory Parked → is_loadable (greatest_identity_of h) part ≡ true → refusal h (LoadPart vm number part) ≡ None
 load_accepted h vm number part stands there parked may = rw (stands, there, may, parked) refl
 
 saved_low : (h : History) (vm number k : ℕ) → refusal h (Save vm number k) ≡ None → k < parts_of (state_of h (vcpu vm number))
@@ -132,7 +133,7 @@ saved_loadable h vm number k good e =
     subst (λ n. is_loadable n (part_of (state_of h (vcpu vm number)) k) ≡ true) (guest_greatest h (vcpu vm number))
     (part_loadable (state_of h (vcpu vm number)) k (saved_state h vm number k good e) (saved_low h vm number k e))
 
-pub saved_accepted : (h other : History) (vm number k : ℕ) (x : Vcpu) → IsHistory h → refusal h (Save vm number k) ≡ None → has_machine other ≡ true → has_vcpu other x ≡ true → home other x ≡ Parked
+pub saved_accepted : (h other : History) (vm number k : ℕ) (x : Vcpu) → IsHistory h → refusal h (Save vm number k) ≡ None → has_machine other ≡ true → has_vcpu other x ≡ true → home other x ≡ InMemory Parked
     → greatest_identity_of other ≡ greatest_identity_of h → refusal other (LoadPart x.vm x.number (part_of (state_of h (vcpu vm number)) k)) ≡ None
 saved_accepted h other vm number k x good e stands there parked same =
     load_accepted other x.vm x.number (part_of (state_of h (vcpu vm number)) k) stands there parked (ap (λ n. is_loadable n (part_of (state_of h (vcpu vm number)) k)) same ∙ saved_loadable h vm number k good e)

@@ -8,7 +8,8 @@ use Rattle.aia_regs.specs.BitUpdate.{BitUpdate, settle}
 use Rattle.aia_regs.specs.BitUpdate.BitUpdate.{Ask, Clear, Nothing}
 use Rattle.aia_file.specs.InterruptFile.{InterruptFile}
 use Rattle.aia_home.specs.Vms.{Vcpu, vcpu}
-use Rattle.aia_home.specs.Home.Home.{Parked}
+use Rattle.aia_home.specs.declared.rest.Rest.TheVariants.{Parked}
+use Rattle.aia_home.specs.Home.Home.{InMemory}
 use Rattle.aia_home.proofs.VmLemmas.{slot_below, same_vcpu}
 use Rattle.aia_model.specs.declared.line.Line.TheVariants.{Machine, Ipi, Send, Exit, LoadPart}
 use Rattle.aia_model.specs.declared.part.Part.TheVariants as parts
@@ -151,12 +152,12 @@ asked_since (event ∷ past) f n g i good its e = elim (or_cases (names_vcpu (no
     stays : has_vcpu past g ≡ true → (f ≡ notice_file past g) × (n ≡ notice_number past g)
     stays there = let kept = keeps_notices event past g there in let same = its kept.0 in (same.0 ∙ kept.1, same.1 ∙ kept.2)
 
-pub sent_while_parked : (h : History) (g : Vcpu) (i : ℕ) → IsHistory h → home h g ≡ Parked → is_deliverable h g i ≡ true → noticed_since h g i ≡ true
+pub sent_while_parked : (h : History) (g : Vcpu) (i : ℕ) → IsHistory h → home h g ≡ InMemory Parked → is_deliverable h g i ≡ true → noticed_since h g i ≡ true
 sent_while_parked h g i good parked live =
     let enabled = (and_parts ((guest_file h g).pending i) ((guest_file h g).enabled i) live).1 in
     noticed_while_parked h g i good (enabled_in_words h g i good enabled) parked live
 
-pub told_while_parked : (h : History) (g : Vcpu) (i : ℕ) → IsHistory h → home h g ≡ Parked → is_deliverable h g i ≡ true → told_since h (notice_file h g) (notice_number h g) g i ≡ true
+pub told_while_parked : (h : History) (g : Vcpu) (i : ℕ) → IsHistory h → home h g ≡ InMemory Parked → is_deliverable h g i ≡ true → told_since h (notice_file h g) (notice_number h g) g i ≡ true
 told_while_parked h g i good parked live =
     let enabled = (and_parts ((guest_file h g).pending i) ((guest_file h g).enabled i) live).1 in
     asked_since h (notice_file h g) (notice_number h g) g i good (λ there. (refl, refl)) (noticed_while_parked h g i good (enabled_in_words h g i good enabled) parked live)

@@ -17,7 +17,8 @@ ghost use Rattle.aia_model.specs.Reading.{reading};
 ghost use Rattle.aia_model.specs.Image.{GuestState, part_of, is_loadable, part_loaded};
 ghost use Rattle.aia_model.specs.StateOf.{state_of};
 ghost use Rattle.aia_model.specs.Vms.{has_vcpu};
-ghost use Rattle.aia_home.specs.Home.Home.{Parked};
+ghost use Rattle.aia_home.specs.declared.rest.Rest.TheVariants.{Parked};
+ghost use Rattle.aia_home.specs.Home.Home.{InMemory};
 ghost use Rattle.aia_model.specs.HomeOf.{home};
 ghost use Rattle.aia_model.specs.Refusal.{refusal};
 ghost use Rattle.aia_model.specs.Answer.{answer, after, guest_csr_value};
@@ -71,7 +72,7 @@ pub fn what_is_saved_may_be_loaded()
         → is_loadable (greatest_identity_of h) (part_of (state_of h (vcpu vm number)) k) ≡ true }
     ensures accepted { (h other : History) (vm number k : ℕ) (x : Vcpu) → IsHistory h
         → refusal h (Save vm number k) ≡ None → has_machine other ≡ true
-        → has_vcpu other x ≡ true → home other x ≡ Parked
+        → has_vcpu other x ≡ true → home other x ≡ InMemory Parked
         → greatest_identity_of other ≡ greatest_identity_of h
         → refusal other (LoadPart x.vm x.number (part_of (state_of h (vcpu vm number)) k)) ≡ None }
 {}

@@ -2,7 +2,8 @@
 
 ghost use Rattle.std.specs.Prelude.{◌≡◌, ℕ, true, false, Some};
 ghost use Rattle.aia_home.specs.Vms.{Vcpu};
-ghost use Rattle.aia_home.specs.Home.Home.{Parked};
+ghost use Rattle.aia_home.specs.declared.rest.Rest.TheVariants.{Parked};
+ghost use Rattle.aia_home.specs.Home.Home.{InMemory};
 ghost use Rattle.aia_model.specs.Event.{Event, History};
 ghost use Rattle.aia_model.specs.HomeOf.{home};
 ghost use Rattle.aia_model.specs.Notice.{noticed};
@@ -16,9 +17,9 @@ ghost use Rattle.aia_laws.specs.Told.{is_deliverable, notice_file, notice_number
 /// beginning of its newest leave; and so its notice identity was asked for at the supervisor file
 /// of its notice hart.
 pub fn no_notice_is_lost()
-    ensures sent { (h : History) (g : Vcpu) (i : ℕ) → IsHistory h → home h g ≡ Parked
+    ensures sent { (h : History) (g : Vcpu) (i : ℕ) → IsHistory h → home h g ≡ InMemory Parked
         → is_deliverable h g i ≡ true → noticed_since h g i ≡ true }
-    ensures told { (h : History) (g : Vcpu) (i : ℕ) → IsHistory h → home h g ≡ Parked
+    ensures told { (h : History) (g : Vcpu) (i : ℕ) → IsHistory h → home h g ≡ InMemory Parked
         → is_deliverable h g i ≡ true
         → told_since h (notice_file h g) (notice_number h g) g i ≡ true }
 {}
@@ -28,11 +29,11 @@ pub fn no_notice_is_lost()
 /// much, no earlier than the newest request at the virtual hart and the beginning of its newest
 /// leave.
 pub fn the_host_sees_a_notice_until_it_clears_it()
-    ensures newest { (h : History) (g : Vcpu) (i : ℕ) → IsHistory h → home h g ≡ Parked
+    ensures newest { (h : History) (g : Vcpu) (i : ℕ) → IsHistory h → home h g ≡ InMemory Parked
         → is_deliverable h g i ≡ true
         → cleared_since_notice h (notice_file h g) (notice_number h g) g ≡ false
         → (file_of h (notice_file h g)).pending (notice_number h g) ≡ true }
-    ensures since { (h : History) (g : Vcpu) (i : ℕ) → IsHistory h → home h g ≡ Parked
+    ensures since { (h : History) (g : Vcpu) (i : ℕ) → IsHistory h → home h g ≡ InMemory Parked
         → is_deliverable h g i ≡ true
         → cleared_since h (notice_file h g) (notice_number h g) g i ≡ false
         → (file_of h (notice_file h g)).pending (notice_number h g) ≡ true }

@@ -7,7 +7,8 @@ use Rattle.aia_home.specs.Home.{Home, is_moving, is_resident, is_entered, rests_
 use Rattle.aia_home.specs.Plans.{leave_steps, arrive_steps, shift_steps, leave_step, arrive_step, shift_step}
 use Rattle.aia_home.specs.Plans.Access.{TakePending}
 use Rattle.aia_home.specs.Aims.{AreAimed, further}
-use Rattle.aia_home.specs.Home.Home.{Parked, Entered, Resident, Leaving, Arriving, Shifting}
+use Rattle.aia_home.specs.declared.rest.Rest.TheVariants.{Parked}
+use Rattle.aia_home.specs.Home.Home.{InMemory, Resident, Leaving, Arriving, Shifting}
 use Rattle.aia_model.specs.declared.line.Line.{Line}
 use Rattle.aia_model.specs.declared.line.Line.TheVariants.{Machine, Step, Send, Land}
 use Rattle.aia_model.specs.declared.line.Line.TheVariants as lines
@@ -102,8 +103,7 @@ one_less passes words count (Shifting from to at) aimed e = elim (cases_Bool (na
     | inr more ↦ (refl, rw (on, more) (step_less (shift_step 0 (TakePending 0)) (shift_steps words) passes at.steps at.aims count (omega arith) aimed.all on e))
   ]
 ]
-one_less passes words count Parked aimed e = absurd (omega (arith, e))
-one_less passes words count Entered aimed e = absurd (omega (arith, e))
+one_less passes words count (InMemory rest) aimed e = absurd (omega (arith, e))
 one_less passes words count (Resident p) aimed e = absurd (omega (arith, e))
 
 -- landings may happen, as many as there are stores in flight
@@ -142,22 +142,14 @@ leave_left passes words there idle kept = absurd (cc)
 arrive_left : (passes words hart : ℕ) (file : Option ℕ) (there : Home) → is_moving there ≡ false → is_resident there ≡ false → is_entered there ≡ false → is_none file ≡ false
     → steps_left passes words (option_map_or (λ f. arriving (guest_place hart f) there) file there) ≡ arrive_steps words + passes
 arrive_left passes words hart None there idle away waits free = absurd (cc)
-arrive_left passes words hart (Some f) Parked idle away waits free = omega arith
-arrive_left passes words hart (Some f) Entered idle away waits free = absurd (cc)
-arrive_left passes words hart (Some f) (Resident p) idle away waits free = absurd (cc)
-arrive_left passes words hart (Some f) (Leaving from at) idle away waits free = absurd (cc)
-arrive_left passes words hart (Some f) (Arriving to at) idle away waits free = absurd (cc)
-arrive_left passes words hart (Some f) (Shifting from to at) idle away waits free = absurd (cc)
+arrive_left passes words hart (Some f) (InMemory Parked) idle away waits free = omega arith
+arrive_left passes words hart (Some f) there idle away waits free = absurd (cc)
 
 shift_left : (passes words hart : ℕ) (file : Option ℕ) (there : Home) → is_moving there ≡ false → rests_in_memory there ≡ false → is_none file ≡ false
     → steps_left passes words (option_map_or (λ f. shifting (guest_place hart f) there) file there) ≡ shift_steps words + passes
 shift_left passes words hart None there idle kept free = absurd (cc)
 shift_left passes words hart (Some f) (Resident p) idle kept free = omega arith
-shift_left passes words hart (Some f) Parked idle kept free = absurd (cc)
-shift_left passes words hart (Some f) Entered idle kept free = absurd (cc)
-shift_left passes words hart (Some f) (Leaving from at) idle kept free = absurd (cc)
-shift_left passes words hart (Some f) (Arriving to at) idle kept free = absurd (cc)
-shift_left passes words hart (Some f) (Shifting from to at) idle kept free = absurd (cc)
+shift_left passes words hart (Some f) there idle kept free = absurd (cc)
 
 arrive_happens : (h : History) (g : Vcpu) (hart : ℕ) → refusal h (lines.Move g.vm g.number (wants.Arrive hart)) ≡ None → IsHistory h → IsHistory (whole_move h (Arrives g hart))
 unfolding passes_of
@@ -294,8 +286,7 @@ flying_closed h vm k s good e closed = elim (all_at (MayFly h vm) k (flight h vm
 -- at rest each goes where it is
 rest_reach : (there : Home) (into : Option Place) → is_moving there ≡ false → MayReach there into → into ≡ origin there
 rest_reach there into rests (inl old) = old.0
-rest_reach Parked into rests (inr new) = absurd (cc)
-rest_reach Entered into rests (inr new) = absurd (cc)
+rest_reach (InMemory rest) into rests (inr new) = absurd (cc)
 rest_reach (Resident p) into rests (inr new) = absurd (cc)
 rest_reach (Leaving from at) into rests (inr new) = absurd (cc)
 rest_reach (Arriving to at) into rests (inr new) = absurd (cc)

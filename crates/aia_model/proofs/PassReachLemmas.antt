@@ -5,7 +5,8 @@ use Rattle.std.proofs.lemmas.Bool.{cases_Bool, or_right, cond-false}
 use Rattle.std.proofs.lemmas.Bool.Decides.{nat_tests}
 use Rattle.aia_home.specs.declared.place.Place.{Place}
 use Rattle.aia_home.specs.Home.{Home, is_place, holds, ended, one_more, leaving, arriving, shifting}
-use Rattle.aia_home.specs.Home.Home.{Parked, Entered, Resident, Leaving, Arriving, Shifting}
+use Rattle.aia_home.specs.declared.rest.Rest.TheVariants.{Parked}
+use Rattle.aia_home.specs.Home.Home.{InMemory, Resident, Leaving, Arriving, Shifting}
 use Rattle.aia_home.specs.Plans.{is_at_last, stepped}
 use Rattle.aia_home.specs.BySteps.{new_file}
 use Rattle.aia_home.specs.Routes.{origin}
@@ -23,7 +24,7 @@ leaving_passes r (Leaving from at) = refl
 leaving_passes r there = refl
 
 pub arriving_passes : (r : ℕ) (q : Place) (there : Home) → pass_reaches r (arriving q there) ≡ pass_reaches r there
-arriving_passes r q Parked = rw (none_below r) refl
+arriving_passes r q (InMemory Parked) = rw (none_below r) refl
 arriving_passes r q there = refl
 
 pub shifting_passes : (r : ℕ) (q : Place) (there : Home) → pass_reaches r (shifting q there) ≡ pass_reaches r there
@@ -85,10 +86,8 @@ reach_is_held r there q e = by_test (nat_lt r (aims_done there)) there e
     from_or from to false e = ap (λ b. b || is_place q to) (some_same from q e)
 
     by_test : (b : Bool) (there : Home) → (if b then new_file there else origin there) ≡ Some q → holds q there ≡ true
-    by_test true Parked e = absurd (cc)
-    by_test true Entered e = absurd (cc)
-    by_test false Parked e = absurd (cc)
-    by_test false Entered e = absurd (cc)
+    by_test true (InMemory rest) e = absurd (cc)
+    by_test false (InMemory rest) e = absurd (cc)
     by_test true (Resident p) e = absurd (cc)
     by_test false (Resident p) e = some_same p q e
     by_test true (Leaving from at) e = absurd (cc)

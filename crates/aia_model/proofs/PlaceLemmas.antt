@@ -14,7 +14,8 @@ use Rattle.aia_home.specs.declared.place.Place.{Place}
 use Rattle.aia_home.specs.declared.vm.Vm.{Vm}
 use Rattle.aia_home.specs.Vms.{Vcpu, vm_in, notice_hart, is_vcpu}
 use Rattle.aia_home.specs.Home.{Home, is_place, holds, ended, one_more, leaving, arriving, shifting}
-use Rattle.aia_home.specs.Home.Home.{Parked, Entered, Resident, Leaving, Arriving, Shifting}
+use Rattle.aia_home.specs.declared.rest.Rest.TheVariants.{Parked}
+use Rattle.aia_home.specs.Home.Home.{InMemory, Resident, Leaving, Arriving, Shifting}
 use Rattle.aia_home.specs.Plans.{is_at_last}
 use Rattle.aia_home.specs.Aims.{is_aiming, aimed, further}
 use Rattle.aia_home.proofs.HomeLemmas.{same_place}
@@ -127,19 +128,15 @@ leaving_held h (Leaving from at) m = m
 leaving_held h there m = m
 
 arriving_held : (h : History) (to : Place) (there : Home) → IsPlaceOf h to → AllHeld h there → AllHeld h (arriving to there)
-arriving_held h to Parked one m = λ q e. subst (IsPlaceOf h) (sym (same_place q to e)) one
+arriving_held h to (InMemory Parked) one m = λ q e. subst (IsPlaceOf h) (sym (same_place q to e)) one
 arriving_held h to there one m = m
 
 shifting_held : (h : History) (to : Place) (there : Home) → IsPlaceOf h to → AllHeld h there → AllHeld h (shifting to there)
-shifting_held h to Parked one m = m
-shifting_held h to Entered one m = m
 shifting_held h to (Resident p) one m = λ q e. elim (or_cases (is_place q p) (is_place q to) e) [
   | inl old ↦ m q old
   | inr new ↦ subst (IsPlaceOf h) (sym (same_place q to new)) one
 ]
-shifting_held h to (Leaving from at) one m = m
-shifting_held h to (Arriving p at) one m = m
-shifting_held h to (Shifting from p at) one m = m
+shifting_held h to there one m = m
 
 same_held : (event : Event) (h : History) (there : Home) → harts_of (event ∷ h) ≡ harts_of h → guests_of (event ∷ h) ≡ guests_of h → AllHeld h there → AllHeld (event ∷ h) there
 same_held event h there harts guests m = λ q e. let one = m q e in record { hart = subst (λ n. q.hart < n) (sym harts) one.hart; some = one.some; file = subst (λ n. q.file ≤ n) (sym guests) one.file }

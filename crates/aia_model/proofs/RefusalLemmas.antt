@@ -6,7 +6,8 @@ use Rattle.aia_regs.specs.declared.access.Csr.{Csr}
 use Rattle.aia_regs.specs.declared.access.Op.{Op}
 use Rattle.aia_major.specs.VsMajor.{is_major, is_hvictl}
 use Rattle.aia_home.specs.Vms.{Vcpu, vcpu, vcpus_in}
-use Rattle.aia_home.specs.Home.Home.{Parked}
+use Rattle.aia_home.specs.declared.rest.Rest.TheVariants.{Parked}
+use Rattle.aia_home.specs.Home.Home.{InMemory}
 use Rattle.aia_home.specs.Home.{Home, is_moving, is_resident, is_entered, runs, rests_in_memory}
 use Rattle.aia_model.specs.declared.line.Line.{Line}
 use Rattle.aia_model.specs.declared.line.Line.TheVariants.{Send, Land, Machine, GuestCsr, Ipi, Step, Enter, Exit, Save, LoadPart, Inject, Hvictl}
@@ -152,14 +153,14 @@ exit_allowed h vm number e =
     (not-false _ there.0, not-false _ (passed (not (is_entered (home h (vcpu vm number)))) _ _ there.1).0)
 
 -- a part of an image is saved of, and loaded into, a virtual hart that is parked, and is there
-only_parked : (there : Home) → is_moving there ≡ false → is_resident there ≡ false → is_entered there ≡ false → there ≡ Parked
-only_parked Parked moves away rests = refl
+only_parked : (there : Home) → is_moving there ≡ false → is_resident there ≡ false → is_entered there ≡ false → there ≡ InMemory Parked
+only_parked (InMemory Parked) moves away rests = refl
 only_parked there moves away rests = absurd (cc)
 
 pub record ImageAllowed (h : History) (g : Vcpu) (is_in_range : Bool) : Type 0 where
   pub there : has_vcpu h g ≡ true
   pub fits : is_in_range ≡ true
-  pub parked : home h g ≡ Parked
+  pub parked : home h g ≡ InMemory Parked
 
 pub save_allowed : (h : History) (vm number k : ℕ) → refusal h (Save vm number k) ≡ None → ImageAllowed h (vcpu vm number) (nat_lt k (parts_in (file_words h)))
 save_allowed h vm number k e =

@@ -114,7 +114,8 @@ abbrev pub FinishesStop : Replayer → Replayer → Option (List ℕ) → Option
 FinishesStop old new mid now =
     WhateverWasRead old mid (λ before bytes. HasStopped new before now bytes [])
 
--- What a text reads as asks for a machine, for which there is no memory, and nothing was answered.
+-- A text reads as a line that makes a machine, there is no memory for one, and nothing was
+-- answered.
 pub record LacksMemoryFor (old new : Replayer) (mid now : Option (List ℕ)) (read : Parsed)
     : Type 0 where
   pub asks : ReadsAsMachine old.engine read

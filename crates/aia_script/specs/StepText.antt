@@ -34,7 +34,7 @@ step_forms =
     ∷ (codes "wake", Alone Wake)
     ∷ []
 
--- The step that a number of a word spells, which the rest of the words is.
+-- The step with the number of a word, where the words left are that one number, below so many.
 unfoldable pub word_step : ℕ → (ℕ → Step) → Words → Option Step
 word_step count step words = do
   number ← number_at words

@@ -67,7 +67,7 @@ enabled_case word = record {
   producer = 2 ^ 64 - 1;
 }
 
--- The run that follows these, begins so, and has this between its steps.
+-- The run that follows a case, begins in this way, and has this extra event between its steps.
 abbrev pub run_of : Case → Begin → Extra → Run
 run_of case begin extra = record { case = case; begin = begin; extra = extra }
 

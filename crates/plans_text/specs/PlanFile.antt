@@ -260,7 +260,7 @@ untold_end_text true run =
 untold_end_text false run =
     codes "; in the end it is pending and enabled in the new place, and the host was not told"
 
--- How it begins.
+-- How the run shown for an untold host begins.
 abbrev pub untold_begin_text : UntoldRun → Text
 untold_begin_text run =
     (10 ∷ codes "  run: identity ")
