@@ -1,5 +1,5 @@
 -- The first word of a text, and whether it is a name.
-use Rattle.std.proofs.Common.{◌≡◌, ◌≢◌, ℕ, ◌+◌, ◌-◌, ◌<◌, ◌≤◌, Bool, true, false, cond, ◌&&◌, nat_eq, List, [], ◌∷◌, length, take, drop, get_or, Option, option_map, IfSome, IfNone, Some, None, sym, ap, ◌∙◌, refl, arith, length-drop}
+use Rattle.std.proofs.Common.{◌≡◌, ◌≢◌, ℕ, zero, suc, ◌+◌, ◌-◌, ◌<◌, ◌≤◌, Bool, true, false, cond, ◌&&◌, nat_eq, List, [], ◌∷◌, length, take, drop, get_or, Option, option_map, IfSome, IfNone, Some, None, sym, ap, ◌∙◌, refl, arith, length-drop}
 use Rattle.std.specs.Prelude.{count_by}
 use Rattle.std.specs.Borrow.{Bor}
 use Rattle.std.specs.List.{onto_first}
@@ -63,6 +63,22 @@ other_byte c n cs name other = either (nat_eq c 32)
     either : (b : Bool) → is_word (cond b [] (c ∷ first_word cs)) (n ∷ name) ≡ false
     either true = refl
     either false = ap (λ t. t && is_word (first_word cs) name) other
+
+-- another byte than the name's, at a place of the text
+pub other_at : (text name : List ℕ) (k : ℕ) → k < length name → get_or text k 0 ≢ get_or name k 0 → is_word (first_word text) name ≡ false
+unfolding first_word
+other_at text [] k there other = absurd (omega arith)
+other_at [] (n ∷ name) k there other = refl
+other_at (c ∷ cs) (n ∷ name) zero there other = other_byte c n cs name (grind (arith, nat_tests))
+other_at (c ∷ cs) (n ∷ name) (suc k) there other = either (nat_eq c 32) (other_at cs name k (omega arith) other)
+  where
+    both : (b : Bool) → (b && false) ≡ false
+    both true = refl
+    both false = refl
+
+    either : (b : Bool) → is_word (first_word cs) name ≡ false → is_word (cond b [] (c ∷ first_word cs)) (n ∷ name) ≡ false
+    either true more = refl
+    either false more = ap (λ t. nat_eq c n && t) more ∙ both (nat_eq c n)
 
 -- another byte stands there
 pub differs : (text name : List ℕ) (at : ℕ) → at < length text → at < length name → get_or text at 0 ≢ get_or name at 0 → is_word (first_word (drop at text)) (drop at name) ≡ false

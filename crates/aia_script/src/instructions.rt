@@ -14,7 +14,7 @@ ghost use Rattle.aia_script.specs.Cursor.{left, first_word, after_first};
 
 use crate::number::number_at;
 use crate::pieces::{push_hex, push_text};
-use crate::words::{Words, after_name, at_end};
+use crate::words::{Words, after_name, at_end, may_begin};
 use aia_model::limits::LINE_BYTES;
 use aia_regs::{Csr, Level, Op};
 use arrayvec::ArrayVec;
@@ -101,6 +101,10 @@ pub fn instruction_of(level: Level, text: &[u8]) -> Option<(Csr, Op)>
     ensures { result ≡ read (instruction level) (access level)
         (first_word text.now ∷ after_first text.now) }
 {
+    // The bytes that all mnemonics begin with are compared once.
+    if !may_begin(text, b"csrr") {
+        return None;
+    }
     if let Some(mut words) = after_name(text, b"csrr") {
         let csr = csr_at(level, &mut words)?;
         return at_end(&words, (csr, Op::Read));

@@ -1,6 +1,6 @@
 //! The words of a text.
 
-ghost use Rattle.std.specs.Prelude.{◌≡◌, true, false, IfSome, IfNone};
+ghost use Rattle.std.specs.Prelude.{◌≡◌, ℕ, List, ◌++◌, true, false, IfSome, IfNone};
 ghost use Rattle.std.specs.Option.{option_map};
 ghost use Rattle.aia_model.specs.Text.{words_of};
 ghost use Rattle.aia_model.specs.Grammar.{is_word};
@@ -67,6 +67,23 @@ pub fn after_name<'a>(text: &'a [u8], name: &[u8]) -> Option<Words<'a>>
         }
     }
     words_after(&text[name.len()..])
+}
+
+/// Tells whether the first word of a text may begin with `start`: the text does.
+#[inline(always)]
+pub fn may_begin(text: &[u8], start: &[u8]) -> bool
+    ensures { result ≡ false
+        → (more : List ℕ) → is_word (first_word text.now) (start.now ++ more) ≡ false }
+{
+    if text.len() < start.len() {
+        return false;
+    }
+    for at in 0..start.len() {
+        if text[at] != start[at] {
+            return false;
+        }
+    }
+    true
 }
 
 /// Gives `found` where no word is left; `None` where one is.
