@@ -1,10 +1,13 @@
 -- What forms end with, read by itself.
-use Rattle.std.proofs.Common.{◌≡◌, ℕ, List, Option, Some}
+use Rattle.std.proofs.Common.{◌≡◌, ℕ, List, [], ◌∷◌, ◌++◌, false, codes, Option, Some, None, ◌∙◌}
+use Rattle.std.proofs.lemmas.Bool.{cond-false}
 use Rattle.aia_regs.specs.declared.access.Csr.{Csr}
 use Rattle.aia_regs.specs.declared.access.Op.{Op}
+use Rattle.aia_regs.specs.declared.access.Level.{Level}
 use Rattle.aia_regs.specs.declared.access.Level.TheVariants as levels
 use Rattle.aia_model.specs.declared.line.Line.TheVariants as lines
 use Rattle.aia_model.specs.Text.{◌>>=◌}
+use Rattle.aia_model.specs.Grammar.{is_word}
 use Rattle.aia_model.specs.Forms.{instruction, access, part_shape, part}
 use Rattle.aia_model.specs.Reading.{Words, read}
 use Rattle.aia_model.proofs.Readers.{read_made}
@@ -20,3 +23,7 @@ guest_access vm number ws = read_made (λ (a : Csr × Op). lines.GuestCsr vm num
 
 pub loaded_part : (vm number : ℕ) (ws : Words) → read part_shape (λ v. lines.LoadPart vm number (part v)) ws ≡ (read part_shape part ws >>= λ x. Some (lines.LoadPart vm number x))
 loaded_part vm number ws = read_made (lines.LoadPart vm number) part_shape part ws
+
+-- each mnemonic begins with the same bytes
+pub no_instruction : (level : Level) (word : List ℕ) (ws : Words) → ((more : List ℕ) → is_word word (codes "csrr" ++ more) ≡ false) → read (instruction level) (access level) (word ∷ ws) ≡ None
+no_instruction level word ws other = cond-false _ _ _ (other []) ∙ cond-false _ _ _ (other (codes "w")) ∙ cond-false _ _ _ (other (codes "s")) ∙ cond-false _ _ _ (other (codes "c"))

@@ -17,3 +17,12 @@ left words = words_of_rest words.rest
 abbrev pub words_after : List ℕ → Option (List (List ℕ))
 words_after [] = Some []
 words_after (c ∷ cs) = if nat_eq c 32 then Some (words_of cs) else None
+
+-- The first word of a text, and the words after it.
+unfoldable pub first_word : List ℕ → List ℕ
+first_word [] = []
+first_word (c ∷ cs) = if nat_eq c 32 then [] else c ∷ first_word cs
+
+unfoldable pub after_first : List ℕ → List (List ℕ)
+after_first [] = []
+after_first (c ∷ cs) = if nat_eq c 32 then words_of cs else after_first cs

@@ -15,14 +15,14 @@ ghost use Rattle.aia_model.specs.Forms.{instruction, access_values, part_fields,
 ghost use Rattle.aia_model.specs.Printing.{line_text, FitsField, IsPrintable};
 ghost use Rattle.aia_model.specs.Reading.{line_by, line_among, line_after, line_at, read, reading};
 ghost use Rattle.aia_model.specs.declared.limits.TheConstants.{LINE_BYTES};
-ghost use Rattle.aia_script.specs.Cursor.{left};
+ghost use Rattle.aia_script.specs.Cursor.{left, first_word, after_first};
 
-use crate::instructions::{instruction_after, instruction_at, push_instruction};
+use crate::instructions::{instruction_at, instruction_of, push_instruction};
 use crate::number::{flag_at, n32_at, number_at};
 use crate::parts::{part_at, push_part};
 use crate::pieces::{push_decimal, push_decimal32, push_hex, push_text};
 use crate::rows::{print_by_row, print_field, read_by_row, read_field};
-use crate::words::{Words, at_end, is_word, word_at};
+use crate::words::{Words, after_name, at_end};
 use aia_model::limits::LINE_BYTES;
 use aia_model::{Line, Parsed, Part, Want};
 use aia_regs::{Csr, Level, Op};
@@ -108,11 +108,11 @@ fn host_at(words: &mut Words<'_>) -> Option<Line>
     ensures { result ≡ line_by host (left words.old) }
 {
     let hart = number_at(words)?;
-    let word = word_at(words)?;
-    if is_word(word, b"hgeip") {
-        return at_end(words, Line::Hgeip { hart });
+    let text = words.rest()?;
+    if let Some(words) = after_name(text, b"hgeip") {
+        return at_end(&words, Line::Hgeip { hart });
     }
-    let (csr, op) = instruction_after(Level::Host, word, words)?;
+    let (csr, op) = instruction_of(Level::Host, text)?;
     Some(Line::HostCsr { hart, csr, op })
 }
 
@@ -124,12 +124,12 @@ fn guest_at(words: &mut Words<'_>) -> Option<Line>
 {
     let vm = number_at(words)?;
     let number = number_at(words)?;
-    let word = word_at(words)?;
-    if is_word(word, b"ipi") {
-        let to = number_at(words)?;
-        let value = n32_at(words)?;
+    let text = words.rest()?;
+    if let Some(mut words) = after_name(text, b"ipi") {
+        let to = number_at(&mut words)?;
+        let value = n32_at(&mut words)?;
         return at_end(
-            words,
+            &words,
             Line::Ipi {
                 vm,
                 number,
@@ -138,7 +138,7 @@ fn guest_at(words: &mut Words<'_>) -> Option<Line>
             },
         );
     }
-    let (csr, op) = instruction_after(Level::Guest, word, words)?;
+    let (csr, op) = instruction_of(Level::Guest, text)?;
     Some(Line::GuestCsr {
         vm,
         number,
@@ -152,8 +152,8 @@ fn guest_at(words: &mut Words<'_>) -> Option<Line>
 fn begin_at(words: &mut Words<'_>) -> Option<Line>
     ensures { result ≡ line_by begin (left words.old) }
 {
-    let name = word_at(words)?;
-    moves!(read_by_row (name, words) Begin);
+    let text = words.rest()?;
+    moves!(read_by_row (text) Begin);
     None
 }
 
@@ -181,55 +181,55 @@ fn load_part_at(words: &mut Words<'_>) -> Option<Line>
 /// Reads the line that the words after a keyword spell, of what a machine and the hypervisor set
 /// and show; `None` where they spell none.
 #[inline(always)]
-fn machine_line(keyword: &[u8], words: &mut Words<'_>) -> Option<Line>
-    ensures { result ≡ line_among forms_of_machines keyword.now (left words.old) }
+fn machine_line(text: &[u8]) -> Option<Line>
+    ensures { result ≡ line_among forms_of_machines (first_word text.now) (after_first text.now) }
 {
-    machines!((read_by_row(keyword, words)));
+    machines!((read_by_row(text)));
     None
 }
 
 /// Reads the line that the words after a keyword spell, of a virtual hart or as above; `None` where
 /// they spell none.
 #[inline(always)]
-fn virtual_hart_line(keyword: &[u8], words: &mut Words<'_>) -> Option<Line>
-    ensures { result ≡ line_among forms_of_virtual_harts keyword.now (left words.old) }
+fn virtual_hart_line(text: &[u8]) -> Option<Line>
+    ensures { result ≡ line_among forms_of_virtual_harts (first_word text.now) (after_first text.now) }
 {
-    moves!(read_by_row (keyword, words) Move);
-    virtual_harts!((read_by_row(keyword, words)));
-    machine_line(keyword, words)
+    moves!(read_by_row (text) Move);
+    virtual_harts!((read_by_row(text)));
+    machine_line(text)
 }
 
 /// Reads the line that the words after a keyword spell, of a store, a load or a wire, or as above;
 /// `None` where they spell none.
 #[inline(always)]
-fn store_line(keyword: &[u8], words: &mut Words<'_>) -> Option<Line>
-    ensures { result ≡ line_among forms_of_stores keyword.now (left words.old) }
+fn store_line(text: &[u8]) -> Option<Line>
+    ensures { result ≡ line_among forms_of_stores (first_word text.now) (after_first text.now) }
 {
-    stores!((read_by_row(keyword, words)));
-    virtual_hart_line(keyword, words)
+    stores!((read_by_row(text)));
+    virtual_hart_line(text)
 }
 
 /// Reads the line that the words after a keyword spell; `None` where they spell none.
 #[inline(always)]
-fn line_after(keyword: &[u8], words: &mut Words<'_>) -> Option<Line>
-    ensures { result ≡ line_after keyword.now (left words.old) }
+fn line_of(text: &[u8]) -> Option<Line>
+    ensures { result ≡ line_after (first_word text.now) (after_first text.now) }
 {
-    if is_word(keyword, b"m") {
-        return machine_csr_at(words);
+    if let Some(mut words) = after_name(text, b"m") {
+        return machine_csr_at(&mut words);
     }
-    if is_word(keyword, b"h") {
-        return host_at(words);
+    if let Some(mut words) = after_name(text, b"h") {
+        return host_at(&mut words);
     }
-    if is_word(keyword, b"g") {
-        return guest_at(words);
+    if let Some(mut words) = after_name(text, b"g") {
+        return guest_at(&mut words);
     }
-    if is_word(keyword, b"begin") {
-        return begin_at(words);
+    if let Some(mut words) = after_name(text, b"begin") {
+        return begin_at(&mut words);
     }
-    if is_word(keyword, b"load") {
-        return load_part_at(words);
+    if let Some(mut words) = after_name(text, b"load") {
+        return load_part_at(&mut words);
     }
-    store_line(keyword, words)
+    store_line(text)
 }
 
 /// Reads the line that words spell; `None` where they spell none.
@@ -238,8 +238,7 @@ fn line_after(keyword: &[u8], words: &mut Words<'_>) -> Option<Line>
 pub fn line_at(words: &mut Words<'_>) -> Option<Line>
     ensures { result ≡ line_at (left words.old) }
 {
-    let keyword = word_at(words)?;
-    line_after(keyword, words)
+    line_of(words.rest()?)
 }
 
 /// Appends a keyword, a hart's number and a CSR instruction to `out`, which is empty.

@@ -1,6 +1,6 @@
 //! CSR instructions: the CSR's name at a level, and what follows each mnemonic; read and printed.
 
-ghost use Rattle.std.specs.Prelude.{◌≡◌, ◌+◌, ◌≤◌, ℕ, ◌∷◌, ◌++◌, length, map};
+ghost use Rattle.std.specs.Prelude.{◌≡◌, ◌+◌, ◌≤◌, ℕ, ◌∷◌, ◌++◌, length, map, IfSome};
 ghost use Rattle.std.specs.Option.{option_map};
 ghost use Rattle.std.specs.List.{join_with_byte};
 ghost use Rattle.arrayvec.specs.ArrayVec.{array_vec_len};
@@ -10,11 +10,11 @@ ghost use Rattle.aia_model.specs.Grammar.{csr_name, csr_names, fields, named};
 ghost use Rattle.aia_model.specs.Forms.{access, access_values, instruction};
 ghost use Rattle.aia_model.specs.Reading.{csr_at, read};
 ghost use Rattle.aia_model.specs.declared.limits.TheConstants.{LINE_BYTES};
-ghost use Rattle.aia_script.specs.Cursor.{left};
+ghost use Rattle.aia_script.specs.Cursor.{left, first_word, after_first};
 
 use crate::number::number_at;
 use crate::pieces::{push_hex, push_text};
-use crate::words::{Words, at_end, is_word, word_at};
+use crate::words::{Words, after_name, at_end, may_begin};
 use aia_model::limits::LINE_BYTES;
 use aia_regs::{Csr, Level, Op};
 use arrayvec::ArrayVec;
@@ -45,14 +45,16 @@ fn csr_names(level: Level) -> &'static [(&'static [u8], Csr)]
     }
 }
 
-/// Gives the CSR that a word names at a level; `None` where it names none.
+/// Gives the CSR that the first word of a text names at a level, and the words after it; `None`
+/// where it names none.
 #[inline(always)]
-fn named(level: Level, word: &[u8]) -> Option<Csr>
-    ensures { result ≡ named level word.now }
+fn named(level: Level, text: &[u8]) -> Option<(Csr, Words<'_>)>
+    ensures csr { option_map (λ found. found.0) result ≡ named level (first_word text.now) }
+    ensures rest { IfSome result (λ found. left found.1 ≡ after_first text.now) }
 {
     for (name, csr) in csr_names(level) {
-        if is_word(word, name) {
-            return Some(*csr);
+        if let Some(words) = after_name(text, name) {
+            return Some((*csr, words));
         }
     }
     None
@@ -78,35 +80,42 @@ fn csr_at(level: Level, words: &mut Words<'_>) -> Option<Csr>
     ensures { option_map (λ csr. (csr, left words.new)) result
         ≡ csr_at level (left words.old) }
 {
-    named(level, word_at(words)?)
+    let (csr, rest) = named(level, words.rest()?)?;
+    *words = rest;
+    Some(csr)
 }
 
 /// Reads a CSR and an operand with which the words end, and returns them as an operation.
 macro_rules! with_operand {
     ($op:ident $level:ident $words:ident) => {{
-        let csr = csr_at($level, $words)?;
-        let operand = number_at($words)?;
-        return at_end($words, (csr, Op::$op(operand)));
+        let csr = csr_at($level, &mut $words)?;
+        let operand = number_at(&mut $words)?;
+        return at_end(&$words, (csr, Op::$op(operand)));
     }};
 }
 
-/// Reads the CSR and the operation that a mnemonic and the words after it spell; `None` where they
-/// spell none.
+/// Reads the CSR and the operation that a text spells, by the level's names; `None` where it spells
+/// none.
 #[inline(always)]
-pub fn instruction_after(level: Level, mnemonic: &[u8], words: &mut Words<'_>) -> Option<(Csr, Op)>
-    ensures { result ≡ read (instruction level) (access level) (mnemonic.now ∷ left words.old) }
+pub fn instruction_of(level: Level, text: &[u8]) -> Option<(Csr, Op)>
+    ensures { result ≡ read (instruction level) (access level)
+        (first_word text.now ∷ after_first text.now) }
 {
-    if is_word(mnemonic, b"csrr") {
-        let csr = csr_at(level, words)?;
-        return at_end(words, (csr, Op::Read));
+    // The bytes that all mnemonics begin with are compared once.
+    if !may_begin(text, b"csrr") {
+        return None;
     }
-    if is_word(mnemonic, b"csrrw") {
+    if let Some(mut words) = after_name(text, b"csrr") {
+        let csr = csr_at(level, &mut words)?;
+        return at_end(&words, (csr, Op::Read));
+    }
+    if let Some(mut words) = after_name(text, b"csrrw") {
         with_operand!(Write level words)
     }
-    if is_word(mnemonic, b"csrrs") {
+    if let Some(mut words) = after_name(text, b"csrrs") {
         with_operand!(Set level words)
     }
-    if is_word(mnemonic, b"csrrc") {
+    if let Some(mut words) = after_name(text, b"csrrc") {
         with_operand!(Clear level words)
     }
     None
@@ -118,8 +127,7 @@ pub fn instruction_after(level: Level, mnemonic: &[u8], words: &mut Words<'_>) -
 pub fn instruction_at(level: Level, words: &mut Words<'_>) -> Option<(Csr, Op)>
     ensures { result ≡ read (instruction level) (access level) (left words.old) }
 {
-    let mnemonic = word_at(words)?;
-    instruction_after(level, mnemonic, words)
+    instruction_of(level, words.rest()?)
 }
 
 /// Appends a mnemonic, a CSR's name and an operand.

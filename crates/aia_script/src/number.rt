@@ -36,9 +36,13 @@ impl Radix {
         ensures value { result ≡ digit_in self character }
         ensures below { IfSome result (λ digit. digit < base self) }
     {
-        match (self, character) {
-            (_, b'0'..=b'9') => Some((character - b'0') as u64),
-            (Radix::Hexadecimal, b'a'..=b'f') => Some((character - b'a' + 10) as u64),
+        let digit = u64::from(character).wrapping_sub(u64::from(b'0'));
+        if digit < 10 {
+            return Some(digit);
+        }
+        let letter = u64::from(character).wrapping_sub(u64::from(b'a'));
+        match self {
+            Radix::Hexadecimal if letter < 6 => Some(letter + 10),
             _ => None,
         }
     }

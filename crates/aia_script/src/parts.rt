@@ -10,7 +10,7 @@ ghost use Rattle.aia_script.specs.Cursor.{left};
 use crate::number::{flag_at, n32_at, number_at};
 use crate::pieces::{push_decimal, push_decimal32, push_register, push_text};
 use crate::rows::{print_by_row, print_field, read_by_row, read_field};
-use crate::words::{Words, at_end, is_word, word_at};
+use crate::words::{Words, after_name, at_end};
 use aia_model::Part;
 use arrayvec::ArrayVec;
 
@@ -43,7 +43,7 @@ pub fn push_part<const N: usize>(out: &mut ArrayVec<u8, N>, part: Part)
 pub fn part_at(words: &mut Words<'_>) -> Option<Part>
     ensures { result ≡ read part_shape part (left words.old) }
 {
-    let name = word_at(words)?;
-    parts!(read_by_row(name, words));
+    let text = words.rest()?;
+    parts!(read_by_row(text));
     None
 }

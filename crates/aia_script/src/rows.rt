@@ -3,23 +3,23 @@
 
 /// Reads a field of a kind.
 macro_rules! read_field {
-    (Decimal $words:ident) => { number_at($words) };
-    (Decimal32 $words:ident) => { n32_at($words) };
-    (VmNumber $words:ident) => { number_at($words) };
-    (Hex $words:ident) => { number_at($words) };
-    (Hex32 $words:ident) => { n32_at($words) };
-    (Hex16 $words:ident) => { number_at($words) };
-    (Bit $words:ident) => { flag_at($words) };
+    (Decimal $words:ident) => { number_at(&mut $words) };
+    (Decimal32 $words:ident) => { n32_at(&mut $words) };
+    (VmNumber $words:ident) => { number_at(&mut $words) };
+    (Hex $words:ident) => { number_at(&mut $words) };
+    (Hex32 $words:ident) => { n32_at(&mut $words) };
+    (Hex16 $words:ident) => { number_at(&mut $words) };
+    (Bit $words:ident) => { flag_at(&mut $words) };
 }
 
-/// Reads what follows a word by the row of the word, and returns it.
+/// Reads what follows the first word of a text by the row of that word, and returns it.
 macro_rules! read_by_row {
-    (($word:ident, $words:ident)
+    (($text:ident)
         $($name:literal [$($field:ident: $kind:ident),*] ($($made:tt)*))*) => {
         $(
-            if is_word($word, $name) {
-                $(let $field = read_field!($kind $words)?;)*
-                return at_end($words, $($made)*);
+            if let Some(mut words) = after_name($text, $name) {
+                $(let $field = read_field!($kind words)?;)*
+                return at_end(&words, $($made)*);
             }
         )*
     };

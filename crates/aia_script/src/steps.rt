@@ -5,12 +5,12 @@ ghost use Rattle.std.specs.Option.{option_map};
 ghost use Rattle.aia_model.specs.Text.{below};
 ghost use Rattle.aia_model.specs.Grammar.{row_of};
 ghost use Rattle.aia_plan.specs.Plan.{IsInside};
-ghost use Rattle.aia_script.specs.Cursor.{left};
+ghost use Rattle.aia_script.specs.Cursor.{left, first_word, after_first};
 ghost use Rattle.aia_script.specs.StepForm.{form_of};
 ghost use Rattle.aia_script.specs.StepText.{step_forms, word_step, step_after, step_at, step_of};
 
 use crate::number::number_at;
-use crate::words::{Words, all_words, at_end, is_word, word_at};
+use crate::words::{Words, after_name, all_words, at_end};
 use aia_model::limits::LINE_BYTES;
 use aia_plan::Step;
 
@@ -40,14 +40,16 @@ fn step_names() -> &'static [(&'static [u8], Step)]
     ]
 }
 
-/// Gives the step that a word names, of word 0 where it has the number of a word; `None` where it
-/// names none.
-fn named(word: &[u8]) -> Option<Step>
-    ensures { option_map form_of result ≡ row_of step_forms word.now }
+/// Gives the step that the first word of a text names, of word 0 where it has the number of a word,
+/// and the words after it; `None` where it names none.
+fn named(text: &[u8]) -> Option<(Step, Words<'_>)>
+    ensures step { option_map (λ found. form_of found.0) result
+        ≡ row_of step_forms (first_word text.now) }
+    ensures rest { IfSome result (λ found. left found.1 ≡ after_first text.now) }
 {
     for (name, step) in step_names() {
-        if is_word(word, name) {
-            return Some(*step);
+        if let Some(words) = after_name(text, name) {
+            return Some((*step, words));
         }
     }
     None
@@ -90,9 +92,8 @@ fn step_at(words: &mut Words<'_>, count: u32) -> Option<Step>
     ensures step { result ≡ step_at count (left words.old) }
     ensures inside { IfSome result (λ step. IsInside count step) }
 {
-    let name = word_at(words)?;
-    let named = named(name)?;
-    step_after(named, words, count)
+    let (named, mut words) = named(words.rest()?)?;
+    step_after(named, &mut words, count)
 }
 
 /// Reads a step of a plan, of files whose sets have `words` words of 64 identities.

@@ -1,11 +1,11 @@
 //! The words of a text.
 
-ghost use Rattle.std.specs.Prelude.{◌≡◌, nat_eq, position};
+ghost use Rattle.std.specs.Prelude.{◌≡◌, ℕ, List, ◌++◌, true, false, IfSome, IfNone};
 ghost use Rattle.std.specs.Option.{option_map};
 ghost use Rattle.aia_model.specs.Text.{words_of};
 ghost use Rattle.aia_model.specs.Grammar.{is_word};
 ghost use Rattle.aia_model.specs.Reading.{word_at, whole};
-ghost use Rattle.aia_script.specs.Cursor.{left, words_after};
+ghost use Rattle.aia_script.specs.Cursor.{left, words_after, first_word, after_first};
 
 /// The words of a text that are still to be read: a single space stands between one word and the
 /// next.
@@ -24,9 +24,12 @@ pub fn all_words(text: &[u8]) -> Words<'_>
 
 impl<'a> Words<'a> {
     /// Gives the text from the next word on; `None` where no word is left.
+    #[tactic(auto, using(crate::proofs::WordLemmas::next_word))]
     #[inline(always)]
     pub fn rest(&self) -> Option<&'a [u8]>
-        ensures { result ≡ self.now.rest }
+        ensures rest { result ≡ self.now.rest }
+        ensures words { option_map (λ text. (first_word text.now, after_first text.now)) result
+            ≡ word_at (left self.now) }
     {
         self.rest
     }
@@ -44,29 +47,43 @@ pub fn words_after(rest: &[u8]) -> Option<Words<'_>>
     }
 }
 
-/// Finds the place of the first space of a text; `None` where it has none.
-fn first_space(text: &[u8]) -> Option<usize>
-    ensures { result ≡ position (λ byte. nat_eq byte 32) text.now }
-{
-    text.iter().position(|byte| *byte == b' ')
-}
-
-/// Reads the next word; `None` where no word is left.
+/// Gives the words after the first word of a text, where that is `name`; `None` where it is another.
+#[tactic(auto, using(crate::proofs::WordLemmas::too_short))]
 #[inline(always)]
-pub fn word_at<'a>(words: &mut Words<'a>) -> Option<&'a [u8]>
-    ensures { option_map (λ word. (word.now, left words.new)) result ≡ word_at (left words.old) }
+pub fn after_name<'a>(text: &'a [u8], name: &[u8]) -> Option<Words<'a>>
+    ensures found { IfSome result (λ words. (is_word (first_word text.now) name.now ≡ true)
+        × (left words ≡ after_first text.now)) }
+    ensures other { IfNone result (is_word (first_word text.now) name.now ≡ false) }
 {
-    let text = words.rest?;
-    match first_space(text) {
-        Some(space) => {
-            words.rest = Some(&text[space + 1..]);
-            Some(&text[..space])
+    if text.len() < name.len() {
+        return None;
+    }
+    for at in 0..name.len() {
+        if text[at] != name[at] {
+            return None;
         }
-        None => {
-            words.rest = None;
-            Some(text)
+        if name[at] == b' ' {
+            return None;
         }
     }
+    words_after(&text[name.len()..])
+}
+
+/// Tells whether the first word of a text may begin with `start`: the text does.
+#[inline(always)]
+pub fn may_begin(text: &[u8], start: &[u8]) -> bool
+    ensures { result ≡ false
+        → (more : List ℕ) → is_word (first_word text.now) (start.now ++ more) ≡ false }
+{
+    if text.len() < start.len() {
+        return false;
+    }
+    for at in 0..start.len() {
+        if text[at] != start[at] {
+            return false;
+        }
+    }
+    true
 }
 
 /// Gives `found` where no word is left; `None` where one is.
@@ -79,20 +96,4 @@ pub fn at_end<T: Copy>(words: &Words<'_>, found: T) -> Option<T>
         None => Some(found),
         Some(_) => None,
     }
-}
-
-/// Tells whether a word is the other.
-#[inline(always)]
-pub fn is_word(word: &[u8], name: &[u8]) -> bool
-    ensures { result ≡ is_word word.now name.now }
-{
-    if word.len() != name.len() {
-        return false;
-    }
-    for at in 0..name.len() {
-        if word[at] != name[at] {
-            return false;
-        }
-    }
-    true
 }

@@ -1,6 +1,0 @@
-use Rattle.std.proofs.Common.{◌≡◌, drop}
-use Rattle.std.specs.Str.{bytes_eq}
-use Rattle.aia_script.proofs.words.is_word.Given as goal
-
-abbrev pub invariant-loop-at : goal.invariant-loop-at
-invariant-loop-at l = bytes_eq (drop l.at l.word) (drop l.at l.name) ≡ bytes_eq l.word l.name
