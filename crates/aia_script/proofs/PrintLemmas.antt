@@ -13,7 +13,7 @@ use Rattle.aia_regs.specs.declared.access.Csr.{Csr}
 use Rattle.aia_regs.specs.Operations.{FitsOp}
 use Rattle.aia_model.specs.Grammar.{fields}
 use Rattle.aia_model.specs.Forms.{instruction, access_values, part_fields}
-use Rattle.aia_model.specs.AnswerText.{field_text, part_text, decimal_text}
+use Rattle.aia_model.specs.AnswerText.{field_text, part_text}
 use Rattle.aia_model.specs.declared.part.Part.{Part}
 use Rattle.aia_model.specs.declared.part.Part.TheVariants as parts
 use Rattle.aia_model.specs.Printing.{FitsField}

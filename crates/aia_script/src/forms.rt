@@ -178,8 +178,8 @@ fn load_part_at(words: &mut Words<'_>) -> Option<Line>
     load_part_of(vm, number, words)
 }
 
-/// Reads the line that the words after a keyword spell, of what a machine and the hypervisor set
-/// and show; `None` where they spell none.
+/// Reads the line that a text spells, of what a machine and the hypervisor set and show; `None`
+/// where it spells none.
 #[inline(always)]
 fn machine_line(text: &[u8]) -> Option<Line>
     ensures { result ≡ line_among forms_of_machines (first_word text.now) (after_first text.now) }
@@ -188,19 +188,19 @@ fn machine_line(text: &[u8]) -> Option<Line>
     None
 }
 
-/// Reads the line that the words after a keyword spell, of a virtual hart or as above; `None` where
-/// they spell none.
+/// Reads the line that a text spells, of a virtual hart or as above; `None` where it spells none.
 #[inline(always)]
 fn virtual_hart_line(text: &[u8]) -> Option<Line>
-    ensures { result ≡ line_among forms_of_virtual_harts (first_word text.now) (after_first text.now) }
+    ensures { result
+        ≡ line_among forms_of_virtual_harts (first_word text.now) (after_first text.now) }
 {
     moves!(read_by_row (text) Move);
     virtual_harts!((read_by_row(text)));
     machine_line(text)
 }
 
-/// Reads the line that the words after a keyword spell, of a store, a load or a wire, or as above;
-/// `None` where they spell none.
+/// Reads the line that a text spells, of a store, a load or a wire, or as above; `None` where it
+/// spells none.
 #[inline(always)]
 fn store_line(text: &[u8]) -> Option<Line>
     ensures { result ≡ line_among forms_of_stores (first_word text.now) (after_first text.now) }
@@ -209,7 +209,7 @@ fn store_line(text: &[u8]) -> Option<Line>
     virtual_hart_line(text)
 }
 
-/// Reads the line that the words after a keyword spell; `None` where they spell none.
+/// Reads the line that a text spells; `None` where it spells none.
 #[inline(always)]
 fn line_of(text: &[u8]) -> Option<Line>
     ensures { result ≡ line_after (first_word text.now) (after_first text.now) }

@@ -47,7 +47,9 @@ pub fn words_after(rest: &[u8]) -> Option<Words<'_>>
     }
 }
 
-/// Gives the words after the first word of a text, where that is `name`; `None` where it is another.
+/// Gives the words after the first word of a text where that is `name`; `None` where it is another.
+///
+/// The word is not cut off before it is known: its bytes are compared where they stand.
 #[tactic(auto, using(crate::proofs::WordLemmas::too_short))]
 #[inline(always)]
 pub fn after_name<'a>(text: &'a [u8], name: &[u8]) -> Option<Words<'a>>

@@ -1,4 +1,4 @@
-use Rattle.std.proofs.Common.{rules, ◌≡◌, Option, Some, sym, ap, ◌∙◌}
+use Rattle.std.proofs.Common.{rules, ◌≡◌, Some, sym, ap, ◌∙◌}
 use Rattle.aia_model.specs.declared.line.Line.TheVariants as lines
 use Rattle.aia_model.specs.Text.{◌>>=◌}
 use Rattle.aia_model.specs.Forms.{part, part_shape}

@@ -1,4 +1,4 @@
-use Rattle.std.proofs.Common.{◌≡◌, ◌<◌, ◌≤◌, ℕ, get_or, length, drop, subst, sym, ap, ◌∙◌, arith}
+use Rattle.std.proofs.Common.{◌≡◌, ◌<◌, length, drop, sym, ap, ◌∙◌, arith}
 use Rattle.aia_model.specs.Grammar.{is_word}
 use Rattle.aia_script.specs.Cursor.{words_after, first_word, after_first}
 use Rattle.aia_script.proofs.SpelledLemmas.{from_there}
