@@ -10,7 +10,7 @@ use Rattle.aia_imsic.specs.Imsic.{ImsicState, IsThere}
 use Rattle.aia_home.specs.declared.place.Place.{Place}
 use Rattle.aia_home.specs.Home.{Home, Progress, is_moving, one_more, one_further}
 use Rattle.aia_home.specs.Plans.{is_at_last, Access, steps_done, has_access, IsNext, first_take, pending_step, enables_step}
-use Rattle.aia_home.specs.Home.Home.{Parked, Entered, Resident, Leaving, Arriving, Shifting}
+use Rattle.aia_home.specs.Home.Home.{InMemory, Resident, Leaving, Arriving, Shifting}
 use Rattle.aia_home.specs.Plans.Access.{TakeDelivery, PutDelivery, WriteNotice, WriteEntry, Fence, Map, GFence, TakePending, PutPending, TakeEnables, PutEnables, Look, TakeThreshold, PutThreshold, Post}
 use Rattle.aia_home.specs.Phases.{begins}
 use Rattle.aia_home.specs.Aims.{aims_done}
@@ -185,8 +185,7 @@ record CarriesSets (words : ℕ) (there : Home) : Type 0 where
   pub put_enables : (w : ℕ) → w < words → steps_done there ≡ enables_step words there w + 1 → IsNext words there (PutEnables w)
 
 carries_sets : (words : ℕ) (there : Home) → is_moving there ≡ true → CarriesSets words there
-carries_sets words Parked moves = absurd (cc)
-carries_sets words Entered moves = absurd (cc)
+carries_sets words (InMemory rest) moves = absurd (cc)
 carries_sets words (Resident p) moves = absurd (cc)
 carries_sets words (Leaving from at) moves = record {
   take_pending = λ w low e. record { has = lt-ltb w words low; step = e };
@@ -234,8 +233,7 @@ enables_next words first there moves is from below =
 -- ---- a step of these phases, of a move by its home at each progress
 
 closing_next : (words first n : ℕ) (there : Home) → is_moving there ≡ true → n ≡ steps_done there → first ≡ begins words there ClosingPhase → first ≤ n → n < begins words there DrainPhase → IsNext words there (closing_access first n)
-closing_next words first n Parked moves at is from below = absurd (cc)
-closing_next words first n Entered moves at is from below = absurd (cc)
+closing_next words first n (InMemory rest) moves at is from below = absurd (cc)
 closing_next words first n (Resident p) moves at is from below = absurd (cc)
 closing_next words first n (Leaving p progress) moves at is from below = elim (cases_eq n first) [
   | inl e ↦ rw (eq-eqb n first e) (record { has = refl; step = omega (arith, at, is, e) })

@@ -6,7 +6,7 @@ use Rattle.aia_file.specs.InterruptFile.{InterruptFile}
 use Rattle.aia_home.specs.declared.place.Place.{Place}
 use Rattle.aia_home.proofs.HomeLemmas.{is_itself_place}
 use Rattle.aia_home.specs.Home.{Home, is_moving, is_place}
-use Rattle.aia_home.specs.Home.Home.{Parked, Entered, Resident, Leaving, Arriving, Shifting}
+use Rattle.aia_home.specs.Home.Home.{Leaving, Arriving, Shifting}
 use Rattle.aia_home.specs.Plans.{is_made, is_carried}
 use Rattle.aia_home.specs.Plans.Access.{TakePending, TakeThreshold}
 use Rattle.aia_home.specs.Phases.{has_come}
@@ -88,10 +88,6 @@ last_knows words q hart reach v there hand file saw p old come h = either there 
 
     either : (z : Home) → old_file z ≡ Some p → has_come words z LastPhase ≡ true → Holds words q hart reach v z hand file saw
         → IsEmpty (record v.own { threshold = 0 }) × (v.own.threshold ≡ (if is_made words z TakeThreshold then 0 else file.threshold))
-    either Parked old come h = absurd (cc)
-    either Entered old come h = absurd (cc)
-    either (Resident r) old come h = absurd (cc)
-    either (Arriving to at) old come h = absurd (cc)
     either (Leaving from at) old come h =
         let all = in_file (sets (Leaving from at) refl come h) (λ i g. ((h.sets.past i g).0, (h.sets.past i g).1)) in
         let quiet : delivery_in_own (Leaving from at) ≡ false = grind (arith, nat_tests) in (
@@ -104,3 +100,4 @@ last_knows words q hart reach v there hand file saw p old come h = either there 
           record { pending = λ i. (all i).0; enabled = λ i. (all i).1; delivery = h.numbers.own_delivery ∙ ap (λ b. if b then file.delivery else 0) quiet; threshold = refl },
           h.numbers.own_threshold ∙ turned (is_made words (Shifting from to at) TakeThreshold),
         )
+    either z old come h = absurd (cc)

@@ -9,7 +9,7 @@ use Rattle.aia_entry.specs.declared.entry.Entry.TheVariants as entries
 use Rattle.aia_entry.specs.Format.{basic_word, mrif_word, notice_word}
 use Rattle.aia_home.specs.declared.place.Place.{Place}
 use Rattle.aia_home.specs.Home.{Home}
-use Rattle.aia_home.specs.Home.Home.{Parked, Entered, Resident, Leaving, Arriving, Shifting}
+use Rattle.aia_home.specs.Home.Home.{Resident, Leaving, Arriving, Shifting}
 use Rattle.aia_home.specs.BySteps.{own_file, next_file}
 use Rattle.aia_regs.specs.declared.limits.TheConstants.{HARTS, GUEST_FILES}
 
@@ -44,12 +44,10 @@ no_sets = record { pending = λ i. false; enabled = λ i. false }
 
 -- The place where it is, or that a move leaves.
 abbrev pub old_place : Places → Home → TwoSets
-old_place v Parked = of_slot v.slot
-old_place v Entered = of_slot v.slot
 old_place v (Resident p) = of_file v.own
 old_place v (Leaving from at) = of_file v.own
-old_place v (Arriving to at) = of_slot v.slot
 old_place v (Shifting from to at) = of_file v.own
+old_place v there = of_slot v.slot
 
 -- The place to which a move leads.
 abbrev pub new_place : Places → Home → TwoSets

@@ -14,7 +14,8 @@ use Rattle.aia_entry.specs.Format.{decoded}
 use Rattle.aia_entry.specs.Tables.{table_of, route_of}
 use Rattle.aia_entry.proofs.TableLemmas.{fenced_elsewhere}
 use Rattle.aia_home.specs.declared.place.Place.{Place}
-use Rattle.aia_home.specs.Home.Home.{Parked}
+use Rattle.aia_home.specs.declared.rest.Rest.TheVariants.{Parked}
+use Rattle.aia_home.specs.Home.Home.{InMemory}
 use Rattle.aia_home.specs.Vms.{Vcpu, vcpu, is_vcpu_in, slot_of, notice_identity, notice_hart}
 use Rattle.aia_home.proofs.VmLemmas.{same_slot}
 use Rattle.aia_places.specs.Places.{Places}
@@ -200,8 +201,8 @@ read_alone w p vm file whole there alone = record {
   records = alone.records;
 }
   where
-    seen : places_of (with_fence w vm file) (vcpu vm file) Parked ≡ record (places_of w (vcpu vm file) Parked) { in_force = decoded (places_of w (vcpu vm file) Parked).word0 (places_of w (vcpu vm file) Parked).word1 }
-    seen = fence-places w (vcpu vm file) Parked whole there
+    seen : places_of (with_fence w vm file) (vcpu vm file) (InMemory Parked) ≡ record (places_of w (vcpu vm file) (InMemory Parked)) { in_force = decoded (places_of w (vcpu vm file) (InMemory Parked)).word0 (places_of w (vcpu vm file) (InMemory Parked)).word1 }
+    seen = fence-places w (vcpu vm file) (InMemory Parked) whole there
 
     in_force : (g : Vcpu) → g ≢ moved p → side_of (with_fence w vm file).imsic p (routes_of (with_fence w vm file) g).in_force ≡ None
     in_force g other = elim (cases_eq g.vm vm) [

@@ -17,7 +17,8 @@ use Rattle.aia_imsic.proofs.PlaceLemmas.{kept_elsewhere}
 use Rattle.aia_entry.specs.Format.{decoded}
 use Rattle.aia_home.specs.declared.place.Place.{Place}
 use Rattle.aia_home.specs.Home.{is_place}
-use Rattle.aia_home.specs.Home.Home.{Parked}
+use Rattle.aia_home.specs.declared.rest.Rest.TheVariants.{Parked}
+use Rattle.aia_home.specs.Home.Home.{InMemory}
 use Rattle.aia_home.specs.Vms.{slot_of}
 use Rattle.aia_places.specs.Places.{Places, TwoSets, of_file, of_slot, leads_to, entry_word, second_word, IsInMap}
 use Rattle.aia_places.proofs.EntryLemmas.{entry_back}
@@ -196,7 +197,7 @@ module _ (w : World) (r : Rehearsed) (z : Transit) (whole : IsWhole w) (s : Stan
   pub write_notice : StandsFor (with_entry_word w p.who.found.vm p.who.found.number 1 (second_word q p.who.found.notice)) r z
   write_notice =
       let u = with_entry_word w p.who.found.vm p.who.found.number 1 (second_word q p.who.found.notice) in
-      let seen = word1-places w (moved p) Parked whole s.of.who.there (second_word q p.who.found.notice) in
+      let seen = word1-places w (moved p) (InMemory Parked) whole s.of.who.there (second_word q p.who.found.notice) in
       let slot : mrif_in u.memory (slot_of u.vms (moved p)) ≡ mrif_in w.memory (slot_of w.vms (moved p)) = ap (λ (v : Places). v.slot) seen in
       stand_on w u r r.hand z z (record { n = refl; vms = refl; harts = refl; guests = refl }) refl refl
       (rw (table_kept u refl refl slot p.old, table_kept u refl refl slot p.new) s.sets)
@@ -205,7 +206,7 @@ module _ (w : World) (r : Rehearsed) (z : Transit) (whole : IsWhole w) (s : Stan
   pub write_entry : StandsFor (with_entry_word w p.who.found.vm p.who.found.number 0 (entry_word q (names_on New p))) r (stepped Word0 z)
   write_entry =
       let u = with_entry_word w p.who.found.vm p.who.found.number 0 (entry_word q (names_on New p)) in
-      let seen = word0-places w (moved p) Parked whole s.of.who.there (entry_word q (names_on New p)) in
+      let seen = word0-places w (moved p) (InMemory Parked) whole s.of.who.there (entry_word q (names_on New p)) in
       let slot : mrif_in u.memory (slot_of u.vms (moved p)) ≡ mrif_in w.memory (slot_of w.vms (moved p)) = ap (λ (v : Places). v.slot) seen in
       stand_on w u r r.hand z (stepped Word0 z) (record { n = refl; vms = refl; harts = refl; guests = refl }) refl refl
       (rw (table_kept u refl refl slot p.old, table_kept u refl refl slot p.new) (sets_kept (stepped Word0 z) refl refl refl refl refl refl))
@@ -214,7 +215,7 @@ module _ (w : World) (r : Rehearsed) (z : Transit) (whole : IsWhole w) (s : Stan
   pub write_record : StandsFor (with_map w (moved p) (names_on New p)) r (stepped Map z)
   write_record =
       let u = with_map w (moved p) (names_on New p) in
-      let seen = map-places w (moved p) Parked whole s.of.who.there (names_on New p) in
+      let seen = map-places w (moved p) (InMemory Parked) whole s.of.who.there (names_on New p) in
       stand_on w u r r.hand z (stepped Map z) (record { n = refl; vms = refl; harts = refl; guests = refl }) refl refl
       (rw (table_kept u refl refl refl p.old, table_kept u refl refl refl p.new) (sets_kept (stepped Map z) refl refl refl refl refl refl))
       (subst (λ x. RoutesStand p x (stepped Map z)) (sym (ap routes_in seen)) (record { entry_written = s.routes.entry_written; notice = s.routes.notice; entry_in_force = s.routes.entry_in_force; record_written = refl; record_in_force = s.routes.record_in_force })) s
@@ -222,7 +223,7 @@ module _ (w : World) (r : Rehearsed) (z : Transit) (whole : IsWhole w) (s : Stan
   pub fence_record : StandsFor (with_gfence w (moved p)) r (stepped GFence z)
   fence_record =
       let u = with_gfence w (moved p) in
-      let seen = gfence-places w (moved p) Parked whole s.of.who.there in
+      let seen = gfence-places w (moved p) (InMemory Parked) whole s.of.who.there in
       stand_on w u r r.hand z (stepped GFence z) (record { n = refl; vms = refl; harts = refl; guests = refl }) refl refl
       (rw (table_kept u refl refl refl p.old, table_kept u refl refl refl p.new) (sets_kept (stepped GFence z) refl refl refl refl refl refl))
       (subst (λ x. RoutesStand p x (stepped GFence z)) (sym (ap routes_in seen)) (record { entry_written = s.routes.entry_written; notice = s.routes.notice; entry_in_force = s.routes.entry_in_force; record_written = s.routes.record_written; record_in_force = s.routes.record_written })) s
@@ -243,7 +244,7 @@ module _ (w : World) (r : Rehearsed) (z : Transit) (whole : IsWhole w) (s : Stan
   refetched =
       let u = with_fence w p.who.found.vm p.who.found.number in
       let y : Transit = record z { entry_in_force = z.entry_written } in
-      let seen = fence-places w (moved p) Parked whole s.of.who.there in
+      let seen = fence-places w (moved p) (InMemory Parked) whole s.of.who.there in
       let small = small_who w p.who whole s.of.who in
       let in_force : decoded (routes_of w (moved p)).word0 (routes_of w (moved p)).word1 ≡ leads_to q p.who.found.notice (names_on z.entry_written p) =
       ap (λ x. decoded x (routes_of w (moved p)).word1) s.routes.entry_written ∙ ap (decoded (entry_word q (names_on z.entry_written p))) s.routes.notice

@@ -20,7 +20,6 @@ use Rattle.aia_mrif.specs.declared.slot.Stored.TheVariants.{Discarded, Quiet, No
 use Rattle.aia_mrif.specs.Mrif.{mrif_in, stored}
 use Rattle.aia_entry.specs.Tables.{table_of, entry_in_force}
 use Rattle.aia_home.specs.declared.place.Place.{Place}
-use Rattle.aia_home.specs.Home.Home.{Parked}
 use Rattle.aia_home.proofs.HomeLemmas.{same_place}
 use Rattle.aia_places.specs.Places.{TwoSets, of_file, of_slot}
 use Rattle.aia_world.specs.World.{World, OnlyStores, stage_of}
@@ -200,7 +199,7 @@ module _ (w u : World) (p : Passage) (offset value : ℕ) (whole : IsWhole w) wh
 
         kept : (get_or (with_store w s offset value).memory (entry_word_place (moved p).vm (moved p).number) 0 ≡ get_or w.memory (entry_word_place (moved p).vm (moved p).number) 0)
             × (get_or (with_store w s offset value).memory (entry_word_place (moved p).vm (moved p).number + 1) 0 ≡ get_or w.memory (entry_word_place (moved p).vm (moved p).number + 1) 0)
-        kept = entry_words_kept w (moved p) Parked s offset value whole low
+        kept = entry_words_kept w (moved p) s offset value whole low
 
         here : Adds (width w) (of_slot (mrif_in w.memory s)) (of_slot (mrif_in u.memory s)) (asked offset value)
         here =

@@ -24,7 +24,6 @@ use Rattle.aia_entry.specs.Translation.{is_msi_address, file_number}
 use Rattle.aia_home.specs.declared.place.Place.{Place}
 use Rattle.aia_home.specs.Vms.{Vcpu, vcpu, is_vcpu_in, slot_of, notice_identity, notice_hart}
 use Rattle.aia_home.specs.Home.{Home, holds}
-use Rattle.aia_home.specs.Home.Home.{Parked}
 use Rattle.aia_home.specs.BySteps.{own_file, next_file}
 use Rattle.aia_home.proofs.HomeLemmas.{own_is_held, next_is_held}
 use Rattle.aia_home.proofs.VmLemmas.{same_slot}
@@ -88,7 +87,7 @@ module _ (w u : World) (g : Vcpu) (offset value : ℕ) (whole : IsWhole w) (ther
 
   entries_kept : (words : List ℕ) → words ≡ between.memory → (x : Vcpu) → (get_or words (entry_word_place x.vm x.number) 0 ≡ get_or w.memory (entry_word_place x.vm x.number) 0) × (get_or words (entry_word_place x.vm x.number + 1) 0 ≡ get_or w.memory (entry_word_place x.vm x.number + 1) 0)
   entries_kept words is x =
-      let kept = entry_words_kept w x Parked (slot_of w.vms g) offset value whole low in
+      let kept = entry_words_kept w x (slot_of w.vms g) offset value whole low in
       (ap (λ (m : List ℕ). get_or m (entry_word_place x.vm x.number) 0) is ∙ kept.0, ap (λ (m : List ℕ). get_or m (entry_word_place x.vm x.number + 1) 0) is ∙ kept.1)
 
   -- with no notice

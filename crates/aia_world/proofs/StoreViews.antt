@@ -17,7 +17,7 @@ use Rattle.aia_home.specs.declared.place.Place.{Place}
 use Rattle.aia_home.specs.Vms.{Vcpu, slot_of}
 use Rattle.aia_home.proofs.HomeLemmas.{same_place}
 use Rattle.aia_home.specs.Home.{Home, is_place, holds}
-use Rattle.aia_home.specs.Home.Home.{Parked, Entered, Resident, Leaving, Arriving, Shifting}
+use Rattle.aia_home.specs.Home.Home.{InMemory, Resident, Leaving, Arriving, Shifting}
 use Rattle.aia_home.specs.BySteps.{own_file, next_file}
 use Rattle.aia_places.specs.Stores.{places_landed, AreApart}
 use Rattle.aia_world.specs.World.{World}
@@ -58,8 +58,7 @@ module _ (w u : World) (g : Vcpu) (p : Place) (offset value : ℕ) (whole : IsWh
   -- of the home that holds it
   pub file_store-places : (there : Home) → holds p there ≡ true → AreApart there → ((r : Place) → own_file there ≡ Some r → IsThere w.imsic (spot_of r)) → ((r : Place) → next_file there ≡ Some r → IsThere w.imsic (spot_of r))
       → places_of u g there ≡ places_landed (Some p) there offset value (places_of w g there)
-  file_store-places Parked held apart own next = absurd (cc)
-  file_store-places Entered held apart own next = absurd (cc)
+  file_store-places (InMemory rest) held apart own next = absurd (cc)
   file_store-places (Resident q) held apart own next = own-landed (Resident q) (ap Some (sym (same_place p q held))) no_next
   file_store-places (Leaving from at) held apart own next = own-landed (Leaving from at) (ap Some (sym (same_place p from held))) no_next
   file_store-places (Arriving to at) held apart own next = own-landed (Arriving to at) (ap Some (sym (same_place p to held))) no_next
@@ -94,7 +93,7 @@ entry_kept : (words : List ℕ) (q place : ℕ) (o : Option ℕ) → q < SLOTS �
 entry_kept words q place None low high small = refl
 entry_kept words q place (Some i) low high small = let few = small i refl in get_or-set_other words (pending_place q (i / 64)) place _ 0 (λ e. omega arith)
 
-module _ (w : World) (g : Vcpu) (there : Home) (q offset value : ℕ) (whole : IsWhole w) (low : q < VCPUS) where
+module _ (w : World) (g : Vcpu) (q offset value : ℕ) (whole : IsWhole w) (low : q < VCPUS) where
   pub entry_words_kept : (get_or (with_store w q offset value).memory (entry_word_place g.vm g.number) 0 ≡ get_or w.memory (entry_word_place g.vm g.number) 0)
       × (get_or (with_store w q offset value).memory (entry_word_place g.vm g.number + 1) 0 ≡ get_or w.memory (entry_word_place g.vm g.number + 1) 0)
   entry_words_kept =
@@ -103,10 +102,11 @@ module _ (w : World) (g : Vcpu) (there : Home) (q offset value : ℕ) (whole : I
         entry_kept w.memory q (entry_word_place g.vm g.number + 1) (requested IDENTITIES offset value) low (omega arith) small,
       )
 
+module _ (w : World) (g : Vcpu) (there : Home) (q offset value : ℕ) (whole : IsWhole w) (low : q < VCPUS) where
   -- of the virtual hart whose slot it is
   pub slot_store-places : q ≡ slot_of w.vms g → places_of (with_store w q offset value) g there ≡ places_landed None there offset value (places_of w g there)
   slot_store-places is =
-      let words = entry_words_kept in
+      let words = entry_words_kept w g q offset value whole low in
       let takes = slot_takes_store w.memory q offset value (has_slot w q whole low) in
       let taken : mrif_in (words_after_store w.memory q (requested IDENTITIES offset value)) q ≡ after_store offset value (mrif_in w.memory q) = λ k. record { pending = λ i. takes.pending i k; enabled = λ i. takes.enabled i k } in
       let slot : mrif_in (words_after_store w.memory q (requested IDENTITIES offset value)) (slot_of w.vms g) ≡ after_store offset value (mrif_in w.memory (slot_of w.vms g)) =
@@ -116,6 +116,6 @@ module _ (w : World) (g : Vcpu) (there : Home) (q offset value : ℕ) (whole : I
   -- of every other one
   pub slot_store-others : q ≢ slot_of w.vms g → places_of (with_store w q offset value) g there ≡ places_of w g there
   slot_store-others other =
-      let words = entry_words_kept in
+      let words = entry_words_kept w g q offset value whole low in
       let slot = other_slot_stays w.memory q (slot_of w.vms g) offset value other in
       λ k. record (places_of w g there) { slot = slot k; word0 = words.0 k; word1 = words.1 k }
