@@ -8,7 +8,7 @@ use Rattle.aia_imsic.specs.declared.spot.Spot.{Spot}
 use Rattle.aia_imsic.specs.Imsic.{IsThere}
 use Rattle.aia_home.specs.declared.place.Place.{Place}
 use Rattle.aia_home.specs.Vms.{Vcpu, vcpu, is_vcpu_in}
-use Rattle.aia_home.specs.Home.{Home, runs, is_moving}
+use Rattle.aia_home.specs.Home.{runs}
 use Rattle.aia_home.specs.Routes.{peers_reach, MayLand}
 use Rattle.aia_world.specs.World.{World, stage_of}
 use Rattle.aia_world.specs.Stores.{StoresAt, Relays}
@@ -24,11 +24,8 @@ use Rattle.aia_model.specs.HomeOf.{home}
 use Rattle.aia_model.specs.Refusal.{refusal}
 use Rattle.aia_world.proofs.PlaceLemmas.{named_guest}
 use Rattle.aia_model.proofs.AnswerLemmas.{ipi_refusal}
-use Rattle.aia_move.specs.Plan.{moving_of}
-use Rattle.aia_standing.specs.declared.vcpu.Stay.{Stay}
-use Rattle.aia_standing.specs.declared.vcpu.Stay.TheVariants as stays
-use Rattle.aia_standing.specs.Core.{CoreState, record_of, home_in, runs_in}
-use Rattle.aia_standing.specs.Stands.{PlanStands, CoreStands, CoreTakes}
+use Rattle.aia_standing.specs.Core.{CoreState, record_of, runs_in}
+use Rattle.aia_standing.specs.Stands.{CoreStands, CoreTakes}
 use Rattle.aia_standing.proofs.VcpuLemmas.{quiet_line}
 use Rattle.aia_standing.proofs.EventLemmas.{accepted, refused}
 use Rattle.aia_standing.proofs.RestLemmas.{runs_as_kept}

@@ -1,6 +1,6 @@
 -- What is kept of a virtual hart says whether it is parked, and whether it is entered: how it rests
 -- in memory is told apart here alone.
-use Rattle.std.proofs.Common.{◌≡◌, is_some, true, false, cond, Option, Some, None, refl, sym, ap, ◌∙◌}
+use Rattle.std.proofs.Common.{◌≡◌, is_some, true, false, cond, Option, Some, refl, ap, ◌∙◌}
 use Rattle.std.specs.Prelude.{Result, Ok, Err}
 use Rattle.std.proofs.lemmas.Bool.{cond-true}
 use Rattle.aia_home.specs.Vms.{Vcpu}

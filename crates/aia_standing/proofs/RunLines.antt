@@ -31,7 +31,6 @@ use Rattle.aia_world.specs.Making.{entry_word_place}
 use Rattle.aia_world.specs.Changes.{spot_of, places_of}
 use Rattle.aia_world.proofs.FrameLemmas.{posts_rest}
 use Rattle.aia_moving.specs.declared.who.KeptNumbers.{KeptNumbers}
-use Rattle.aia_move.specs.Plan.{moving_of}
 use Rattle.aia_moving.specs.Touches.{OnlyAccesses}
 use Rattle.aia_move.proofs.MachineLemmas.{no_accesses}
 use Rattle.aia_model.specs.declared.answer.Answer.{Answer}
