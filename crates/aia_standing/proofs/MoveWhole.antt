@@ -33,6 +33,7 @@ use Rattle.aia_model.specs.HomeOf.{home, guest_place, free_file}
 use Rattle.aia_model.specs.Refusal.{refusal}
 use Rattle.aia_model.proofs.FlightLemmas.{words_first, home_stepped, passes_stepped}
 use Rattle.aia_model.specs.Answer.{answer, steps_taken, steps_of, line_taken, step_taken}
+use Rattle.aia_model.proofs.RefusalLemmas.{only_parked}
 use Rattle.aia_model.proofs.AnswerLemmas.{answered, arrive_refusal, leave_refusal, shift_refusal}
 use Rattle.aia_model.proofs.MoveLemmas.{home_step, is_itself}
 use Rattle.aia_model.specs.declared.want.Want.{Want}
