@@ -21,6 +21,7 @@ ghost use Rattle.aia_standing.specs.Stands.{CoreTakes, answer_by};
 use crate::hypervisor_core::{Core, select_after};
 use aia_fabric::Found;
 use aia_image::{IMAGE_VERSION, is_live, is_loadable, load_word, save_word};
+use aia_home::Rest;
 use aia_model::{Part, Refusal};
 use aia_move::KeptNumbers;
 use aia_regs::Op;
@@ -114,7 +115,7 @@ impl Core {
         requires found { IsFound self.old.world found }
         requires whole { IsWhole self.old.world }
         requires parked { (record_of self.old (vcpu found.vm found.number)).stay
-            ≡ Stay.Parked kept }
+            ≡ Stay.InMemory Rest.Parked kept }
         requires loadable { is_loadable self.old.world.n part ≡ true }
         ensures { CoreTakes self.old self.new (LoadPart found.vm found.number part) Okay }
     {
@@ -153,7 +154,7 @@ fn load_numbers_in(vcpus: &mut Vec<VcpuRecord>, slot: u32, kept: KeptNumbers, se
     requires { slot < length vcpus.old.items }
     ensures after { vcpus.new.items ≡ slice_set vcpus.old.items slot
         (record (slice_index_or vcpus.old.items slot no_record) {
-          stay = Stay.Parked kept;
+          stay = Stay.InMemory Rest.Parked kept;
           select = select_written (ops.Write select)
               (slice_index_or vcpus.old.items slot no_record).select;
         }) }
@@ -161,7 +162,7 @@ fn load_numbers_in(vcpus: &mut Vec<VcpuRecord>, slot: u32, kept: KeptNumbers, se
 {
     let record = &mut vcpus[slot as usize];
     record.select = select_after(Op::Write(select), record.select);
-    record.stay = Stay::Parked(kept);
+    record.stay = Stay::InMemory(Rest::Parked, kept);
 }
 
 /// Writes `hvip` and `sie` of the virtual hart of a slot.

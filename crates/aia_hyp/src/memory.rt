@@ -22,6 +22,7 @@ use crate::guest::access_select_in;
 use crate::hypervisor_core::Core;
 use aia_csr::CsrAccess;
 use aia_fabric::{Fabric, Found};
+use aia_home::Rest;
 use aia_model::Refusal;
 use aia_move::KeptNumbers;
 use aia_regs::{Csr, FileReg, Op};
@@ -64,11 +65,11 @@ impl Core {
     fn park(&mut self, found: Found, kept: KeptNumbers)
         requires found { IsFound self.old.world found }
         requires entered { (record_of self.old (vcpu found.vm found.number)).stay
-            ≡ Stay.Entered kept }
+            ≡ Stay.InMemory Rest.Entered kept }
         ensures { CoreTakes self.old self.new (Exit found.vm found.number) Okay }
     {
         let _whole = self.fabric.words();
-        put_stay(&mut self.vcpus, found.slot, Stay::Parked(kept));
+        put_stay(&mut self.vcpus, found.slot, Stay::InMemory(Rest::Parked, kept));
         if slot_is_live(&mut self.fabric, found.slot) {
             self.fabric.notice(found.slot);
         }
@@ -101,7 +102,7 @@ impl Core {
         requires found { IsFound self.old.world found }
         requires whole { IsWhole self.old.world }
         requires entered { (record_of self.old (vcpu found.vm found.number)).stay
-            ≡ Stay.Entered kept }
+            ≡ Stay.InMemory Rest.Entered kept }
         requires listed { IsFileCsr csr }
         ensures { CoreTakes self.old self.new (GuestCsr found.vm found.number csr op)
             (answer_by Wide result) }
@@ -153,15 +154,9 @@ fn enter_in(vcpus: &mut Vec<VcpuRecord>, slot: u32) -> Result<(), Refusal>
     ensures room { vec_capacity vcpus.new ≡ vec_capacity vcpus.old }
 {
     let stay = &mut vcpus[slot as usize].stay;
-    match stay {
-        Stay::Parked(kept) => {
-            *stay = Stay::Entered(*kept);
-            Ok(())
-        }
-        Stay::Entered(_) => Err(Refusal::Entered),
-        Stay::Resident(_) => Err(Refusal::Home),
-        Stay::Moving(_) => Err(Refusal::Busy),
-    }
+    let kept = stay.parked()?;
+    *stay = Stay::InMemory(Rest::Entered, kept);
+    Ok(())
 }
 
 /// Puts a virtual hart elsewhere, in the record of its slot.
@@ -191,7 +186,7 @@ fn access_kept_in(
     ensures value { result ≡ kept_value kept reg }
     ensures after { vcpus.new.items ≡ slice_set vcpus.old.items slot
         (record (slice_index_or vcpus.old.items slot no_record) {
-          stay = Stay.Entered (kept_after modulus reg op kept);
+          stay = Stay.InMemory Rest.Entered (kept_after modulus reg op kept);
         }) }
     ensures room { vec_capacity vcpus.new ≡ vec_capacity vcpus.old }
 {
@@ -207,7 +202,7 @@ fn access_kept_in(
         }
         _ => 0,
     };
-    put_stay(vcpus, slot, Stay::Entered(now));
+    put_stay(vcpus, slot, Stay::InMemory(Rest::Entered, now));
     before
 }
 

@@ -21,6 +21,7 @@ ghost use Rattle.aia_standing.specs.Moves.{UnlessRefused, WholeAims, step_answer
 use crate::hypervisor_core::Core;
 use crate::passes::Passes;
 use aia_fabric::{Fabric, Found};
+use aia_home::Rest;
 use aia_model::{Refusal, Want};
 use aia_move::{KeptNumbers, Next, Outcome, Plan, Targets, Who};
 use aia_pool::Pool;
@@ -198,12 +199,15 @@ fn who_of(found: Found, passes: &Passes) -> Who
 
 /// Makes what stands in a record while the virtual hart's own is out.
 fn nowhere() -> Stay
-    ensures { result ≡ Stay.Parked no_kept }
+    ensures { result ≡ Stay.InMemory Rest.Parked no_kept }
 {
-    Stay::Parked(KeptNumbers {
-        delivery: 0,
-        threshold: 0,
-    })
+    Stay::InMemory(
+        Rest::Parked,
+        KeptNumbers {
+            delivery: 0,
+            threshold: 0,
+        },
+    )
 }
 
 /// Puts a virtual hart elsewhere, in its record, and gives where it was.
@@ -235,7 +239,7 @@ fn carry_on(vcpus: &mut Vec<VcpuRecord>, slot: u32, fabric: &mut Fabric) -> bool
 {
     match &mut vcpus[slot as usize].stay {
         Stay::Moving(plan) => plan.step_in_place(fabric),
-        Stay::Parked(_) | Stay::Entered(_) | Stay::Resident(_) => false,
+        Stay::InMemory(..) | Stay::Resident(_) => false,
     }
 }
 
@@ -265,8 +269,7 @@ fn leave(old: Stay, who: Who) -> (Stay, Result<(), Refusal>)
 {
     match old {
         Stay::Resident(from) => (Stay::Moving(Plan::leave(from, who)), Ok(())),
-        Stay::Parked(kept) => (Stay::Parked(kept), Err(Refusal::Parked)),
-        Stay::Entered(kept) => (Stay::Entered(kept), Err(Refusal::Parked)),
+        Stay::InMemory(rest, kept) => (Stay::InMemory(rest, kept), Err(Refusal::Parked)),
         Stay::Moving(plan) => (Stay::Moving(plan), Err(Refusal::Busy)),
     }
 }
@@ -277,14 +280,12 @@ fn arrive(old: Stay, who: Who, hart: u32, pool: &mut Pool) -> (Stay, Result<(), 
     ensures { ArriveBegins who hart old result.0 pool.old pool.new
         (answer_by (λ _. Okay) result.1) }
 {
-    match old {
-        Stay::Parked(kept) => match pool.take(hart) {
+    match old.parked() {
+        Ok(kept) => match pool.take(hart) {
             Some(to) => (Stay::Moving(Plan::arrive(to, who, kept)), Ok(())),
-            None => (Stay::Parked(kept), Err(Refusal::NoFile)),
+            None => (old, Err(Refusal::NoFile)),
         },
-        Stay::Resident(from) => (Stay::Resident(from), Err(Refusal::Home)),
-        Stay::Entered(kept) => (Stay::Entered(kept), Err(Refusal::Entered)),
-        Stay::Moving(plan) => (Stay::Moving(plan), Err(Refusal::Busy)),
+        Err(word) => (old, Err(word)),
     }
 }
 
@@ -299,8 +300,7 @@ fn shift(old: Stay, who: Who, hart: u32, pool: &mut Pool) -> (Stay, Result<(), R
             Some(to) => (Stay::Moving(Plan::shift(from, to, who)), Ok(())),
             None => (Stay::Resident(from), Err(Refusal::NoFile)),
         },
-        Stay::Parked(kept) => (Stay::Parked(kept), Err(Refusal::Parked)),
-        Stay::Entered(kept) => (Stay::Entered(kept), Err(Refusal::Parked)),
+        Stay::InMemory(rest, kept) => (Stay::InMemory(rest, kept), Err(Refusal::Parked)),
         Stay::Moving(plan) => (Stay::Moving(plan), Err(Refusal::Busy)),
     }
 }
@@ -317,7 +317,7 @@ fn rest_of(next: Next, pool: &mut Pool) -> (Stay, bool)
         Next::Again(plan) => (Stay::Moving(plan), false),
         Next::Finished(Outcome::Left(from, kept)) => {
             pool.give(from);
-            (Stay::Parked(kept), true)
+            (Stay::InMemory(Rest::Parked, kept), true)
         }
         Next::Finished(Outcome::Arrived(to)) => (Stay::Resident(to), true),
         Next::Finished(Outcome::Shifted(from, to)) => {

@@ -153,7 +153,7 @@ exit_allowed h vm number e =
     (not-false _ there.0, not-false _ (passed (not (is_entered (home h (vcpu vm number)))) _ _ there.1).0)
 
 -- a part of an image is saved of, and loaded into, a virtual hart that is parked, and is there
-only_parked : (there : Home) → is_moving there ≡ false → is_resident there ≡ false → is_entered there ≡ false → there ≡ InMemory Parked
+pub only_parked : (there : Home) → is_moving there ≡ false → is_resident there ≡ false → is_entered there ≡ false → there ≡ InMemory Parked
 only_parked (InMemory Parked) moves away rests = refl
 only_parked there moves away rests = absurd (cc)
 

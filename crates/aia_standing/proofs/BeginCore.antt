@@ -34,10 +34,13 @@ use Rattle.aia_model.specs.declared.want.Want.TheVariants as wants
 use Rattle.aia_standing.specs.declared.vcpu.Stay.{Stay}
 use Rattle.aia_standing.specs.declared.vcpu.Stay.TheVariants as stays
 use Rattle.aia_standing.specs.declared.vcpu.VcpuRecord.{VcpuRecord}
-use Rattle.aia_standing.specs.Core.{CoreState, no_record, record_of, home_in}
+use Rattle.aia_standing.specs.Core.{CoreState, no_record, record_of, home_in, parked_at}
 use Rattle.aia_model.specs.Move.{wanted_move}
-use Rattle.aia_standing.specs.Moves.{empty_hand, Refuses, BeginsIn, LeaveBegins, ArriveBegins, ShiftBegins, WantBegins, move_begun, MoveBegins}
+use Rattle.aia_standing.specs.Moves.{empty_hand, Refuses, BeginsIn, LeaveBegins, ArriveFrom, ArriveBegins, ShiftBegins, WantBegins, move_begun, MoveBegins}
 use Rattle.aia_standing.specs.Stands.{PlanStands, CoreStands, StandsForSome}
+use Rattle.std.specs.Prelude.{Result, Ok, Err}
+use Rattle.aia_home.specs.declared.rest.Rest.TheVariants.{Parked}
+use Rattle.aia_standing.proofs.RestLemmas.{parked_is, word_is}
 use Rattle.aia_standing.proofs.DeviceLemmas.{same_core}
 use Rattle.aia_standing.proofs.LeaseLemmas.{same_free, free_there}
 use Rattle.aia_standing.proofs.BeginLines.{Given, home_at, leave_begun, arrive_begun, shift_begun}
@@ -133,8 +136,7 @@ module _ (x y : CoreState) (who : Who) (given : Answer) (h : History) (stands : 
     leave_begun x y h g who plan (at_stay (record_of x g) (stays.Moving plan)) from (planned plan p b.1.1) b.2 was b.1.0,
     λ word e. absurd (none-some word e),
   )
-  leave_answered new (stays.Parked kept) p was b = refused wants.Leave words.Parked new (stays.Parked kept) p was b (leave_refused new (stays.Parked kept) p was)
-  leave_answered new (stays.Entered kept) p was b = refused wants.Leave words.Parked new (stays.Entered kept) p was b (leave_refused new (stays.Entered kept) p was)
+  leave_answered new (stays.InMemory rest kept) p was b = refused wants.Leave words.Parked new (stays.InMemory rest kept) p was b (leave_refused new (stays.InMemory rest kept) p was)
   leave_answered new (stays.Moving plan) p was b = refused wants.Leave words.Busy new (stays.Moving plan) p was b
       (leave_refused new (stays.Moving plan) p was ∙ ap (λ m. cond m (Some (Refused words.Busy)) (cond (rests_in_memory (moving_of plan).home) (Some (Refused words.Parked)) None)) (on_the_move new plan p was))
   leave_answered new (stays.Resident from) p was b = absurd b.1
@@ -161,14 +163,14 @@ module _ (x y : CoreState) (who : Who) (given : Answer) (h : History) (stands : 
   same_least : (hart : ℕ) → hart < x.leases.harts → free_file h (home h) hart ≡ least_free x.leases hart
   same_least hart low = sym (same_free x h hart stands (in_world hart low))
 
-  arrive_in : (new : Stay) (hart : ℕ) (kept : KeptNumbers) (o : Option ℕ) → Put x y who new → (record_of x (vcpu who.found.vm who.found.number)).stay ≡ stays.Parked kept → hart < x.leases.harts → least_free x.leases hart ≡ o
-      → BeginsIn o hart (λ to. record { who = who; home = Arriving to at_first; hand = record empty_hand { delivery = kept.delivery; threshold = kept.threshold } }) (stays.Parked kept) new x.leases y.leases given
+  arrive_in : (new : Stay) (hart : ℕ) (kept : KeptNumbers) (o : Option ℕ) → Put x y who new → (record_of x (vcpu who.found.vm who.found.number)).stay ≡ stays.InMemory Parked kept → hart < x.leases.harts → least_free x.leases hart ≡ o
+      → BeginsIn o hart (λ to. record { who = who; home = Arriving to at_first; hand = record empty_hand { delivery = kept.delivery; threshold = kept.threshold } }) (stays.InMemory Parked kept) new x.leases y.leases given
       → Answered x y h who.found.vm who.found.number (wants.Arrive hart) given
-  arrive_in new hart kept None p was low found b = refused (wants.Arrive hart) words.NoFile new (stays.Parked kept) p was b
-      (arrive_refused new (stays.Parked kept) hart true None p was (hart_low hart low) (same_least hart low ∙ found))
+  arrive_in new hart kept None p was low found b = refused (wants.Arrive hart) words.NoFile new (stays.InMemory Parked kept) p was b
+      (arrive_refused new (stays.InMemory Parked kept) hart true None p was (hart_low hart low) (same_least hart low ∙ found))
   arrive_in (stays.Moving plan) hart kept (Some file) p was low found b = (
     None,
-    arrive_refused (stays.Moving plan) (stays.Parked kept) hart true (Some file) p was (hart_low hart low) (same_least hart low ∙ found),
+    arrive_refused (stays.Moving plan) (stays.InMemory Parked kept) hart true (Some file) p was (hart_low hart low) (same_least hart low ∙ found),
     b.0,
     arrive_begun x y h g hart who plan (at_stay (record_of x g) (stays.Moving plan)) (guest_place hart file) kept (planned plan p b.1.1) (free_there x h hart (guest_place hart file) stands (in_world hart low) found refl) b.2 was b.1.0,
     λ word e. absurd (none-some word e),
@@ -176,14 +178,13 @@ module _ (x y : CoreState) (who : Who) (given : Answer) (h : History) (stands : 
   arrive_in new hart kept (Some file) p was low found b = absurd b.1
 
   arrive_answered : (new old : Stay) (hart : ℕ) → Put x y who new → (record_of x (vcpu who.found.vm who.found.number)).stay ≡ old → hart < x.leases.harts → ArriveBegins who hart old new x.leases y.leases given → Answered x y h who.found.vm who.found.number (wants.Arrive hart) given
-  arrive_answered new (stays.Parked kept) hart p was low b = arrive_in new hart kept (least_free x.leases hart) p was low refl b
-  arrive_answered new (stays.Resident from) hart p was low b = refused (wants.Arrive hart) words.Home new (stays.Resident from) p was b
-      (arrive_refused new (stays.Resident from) hart true (free_file h (home h) hart) p was (hart_low hart low) refl)
-  arrive_answered new (stays.Entered kept) hart p was low b = refused (wants.Arrive hart) words.Entered new (stays.Entered kept) p was b
-      (arrive_refused new (stays.Entered kept) hart true (free_file h (home h) hart) p was (hart_low hart low) refl)
-  arrive_answered new (stays.Moving plan) hart p was low b = refused (wants.Arrive hart) words.Busy new (stays.Moving plan) p was b
-      (arrive_refused new (stays.Moving plan) hart true (free_file h (home h) hart) p was (hart_low hart low) refl
-      ∙ ap (λ m. cond m (Some (Refused words.Busy)) (cond (is_resident (moving_of plan).home) (Some (Refused words.Home)) (cond (is_entered (moving_of plan).home) (Some (Refused words.Entered)) (cond (is_none (free_file h (home h) hart)) (Some (Refused words.NoFile)) None)))) (on_the_move new plan p was))
+  arrive_answered new old hart p was low b = by (parked_at old) refl b
+    where
+      by : (r : Result KeptNumbers Refusal) → parked_at old ≡ r → ArriveFrom r who hart old new x.leases y.leases given → Answered x y h who.found.vm who.found.number (wants.Arrive hart) given
+      by (Ok kept) is b = let same = parked_is old kept is in arrive_in new hart kept (least_free x.leases hart) p (was ∙ same) low refl (subst (λ s. ArriveFrom (Ok kept) who hart s new x.leases y.leases given) same b)
+      by (Err word) is b = refused (wants.Arrive hart) word new old p was b
+          (arrive_refused new old hart true (free_file h (home h) hart) p was (hart_low hart low) refl
+          ∙ word_is x.world g old word (cond (is_none (free_file h (home h) hart)) (Some (Refused words.NoFile)) None) (subst (PlanStands x.world g) was (stands.vcpus g (is_there new p)).plan) is)
 
   -- ---- a shift
 
@@ -211,10 +212,8 @@ module _ (x y : CoreState) (who : Who) (given : Answer) (h : History) (stands : 
 
   shift_answered : (new old : Stay) (hart : ℕ) → Put x y who new → (record_of x (vcpu who.found.vm who.found.number)).stay ≡ old → hart < x.leases.harts → ShiftBegins who hart old new x.leases y.leases given → Answered x y h who.found.vm who.found.number (wants.Shift hart) given
   shift_answered new (stays.Resident from) hart p was low b = shift_in new hart from (least_free x.leases hart) p was low refl b
-  shift_answered new (stays.Parked kept) hart p was low b = refused (wants.Shift hart) words.Parked new (stays.Parked kept) p was b
-      (shift_refused new (stays.Parked kept) hart true (free_file h (home h) hart) p was (hart_low hart low) refl)
-  shift_answered new (stays.Entered kept) hart p was low b = refused (wants.Shift hart) words.Parked new (stays.Entered kept) p was b
-      (shift_refused new (stays.Entered kept) hart true (free_file h (home h) hart) p was (hart_low hart low) refl)
+  shift_answered new (stays.InMemory rest kept) hart p was low b = refused (wants.Shift hart) words.Parked new (stays.InMemory rest kept) p was b
+      (shift_refused new (stays.InMemory rest kept) hart true (free_file h (home h) hart) p was (hart_low hart low) refl)
   shift_answered new (stays.Moving plan) hart p was low b = refused (wants.Shift hart) words.Busy new (stays.Moving plan) p was b
       (shift_refused new (stays.Moving plan) hart true (free_file h (home h) hart) p was (hart_low hart low) refl
       ∙ ap (λ m. cond m (Some (Refused words.Busy)) (cond (rests_in_memory (moving_of plan).home) (Some (Refused words.Parked)) (cond (is_none (free_file h (home h) hart)) (Some (Refused words.NoFile)) None))) (on_the_move new plan p was))

@@ -9,7 +9,8 @@ use Rattle.aia_imsic.specs.Imsic.{file_at}
 use Rattle.aia_home.specs.declared.place.Place.{Place}
 use Rattle.aia_home.specs.Vms.{Vcpu, vcpu, slot_of, notice_hart}
 use Rattle.aia_home.specs.Home.{Home, is_place, is_moving, holds, at_first, leaving, arriving, shifting}
-use Rattle.aia_home.specs.Home.Home.{Parked, Resident, Leaving, Arriving, Shifting}
+use Rattle.aia_home.specs.declared.rest.Rest.TheVariants.{Parked}
+use Rattle.aia_home.specs.Home.Home.{InMemory, Resident, Leaving, Arriving, Shifting}
 use Rattle.aia_home.specs.BySteps.{is_leaving}
 use Rattle.aia_home.specs.Plans.{steps_done}
 use Rattle.aia_home.proofs.AllLemmas.{of_none}
@@ -139,16 +140,16 @@ leave_begun x y h g who plan r from b leases was begins =
 -- ---- an arrival
 
 pub arrive_begun : (x y : CoreState) (h : History) (g : Vcpu) (hart : ℕ) (who : Who) (plan : Plan) (r : VcpuRecord) (to : Place) (kept : KeptNumbers) → Given x y h g who plan r → IsFreeAt x h hart to → y.leases ≡ with_out x.leases to true
-    → (record_of x g).stay ≡ stays.Parked kept → moving_of plan ≡ record { who = who; home = Arriving to at_first; hand = record { word = 0; delivery = kept.delivery; threshold = kept.threshold; seen = false } } → CoreStands y (Began (Arrives g hart) ∷ h)
+    → (record_of x g).stay ≡ stays.InMemory Parked kept → moving_of plan ≡ record { who = who; home = Arriving to at_first; hand = record { word = 0; delivery = kept.delivery; threshold = kept.threshold; seen = false } } → CoreStands y (Began (Arrives g hart) ∷ h)
 arrive_begun x y h g hart who plan r to kept b free leases was begins =
     let hand : Hand = record { word = 0; delivery = kept.delivery; threshold = kept.threshold; seen = false } in
-    let before : home h g ≡ Parked = home_at x h g (stays.Parked kept) b.stands b.there was in
+    let before : home h g ≡ InMemory Parked = home_at x h g (stays.InMemory Parked kept) b.stands b.there was in
     let after : home (Began (Arrives g hart) ∷ h) g ≡ Arriving to at_first =
     home_step (Began (Arrives g hart)) h g ∙ cond-true _ _ _ (is_itself g) ∙ ap (λ o. option_map_or (λ file. arriving (guest_place hart file) (home h g)) o (home h g)) free.found
     ∙ ap (arriving (guest_place hart to.file)) before ∙ ap (λ t. Arriving (guest_place t to.file) at_first) (sym free.hart_of) in
     let held : Holds (file_words h) (slot_of (vms_of h) g) (notice_hart (vms_of h) g) (in_force_of h g) (places_of x.world g (Arriving to at_first)) (Arriving to at_first) hand (guest_file h g) false =
-    arrive_begins (greatest_identity_of h) (file_words h) (slot_of (vms_of h) g) (notice_hart (vms_of h) g) (in_force_of h g) (places_of x.world g Parked) (hand_in (record_of x g).stay) hand (guest_file h g) (a_look_saw h g) to (places_of x.world g (Arriving to at_first)) refl
-    (free_is_empty x h hart to b.stands free) (ap (λ s. (hand_in s).delivery) (sym was)) (ap (λ s. (hand_in s).threshold) (sym was)) (held_at x h g Parked b.stands b.there before) in
+    arrive_begins (greatest_identity_of h) (file_words h) (slot_of (vms_of h) g) (notice_hart (vms_of h) g) (in_force_of h g) (places_of x.world g (InMemory Parked)) (hand_in (record_of x g).stay) hand (guest_file h g) (a_look_saw h g) to (places_of x.world g (Arriving to at_first)) refl
+    (free_is_empty x h hart to b.stands free) (ap (λ s. (hand_in s).delivery) (sym was)) (ap (λ s. (hand_in s).threshold) (sym was)) (held_at x h g (InMemory Parked) b.stands b.there before) in
     begun_stands x y h (Arrives g hart) plan r (Some to) (record {
       stands = b.stands;
       there = b.there;

@@ -11,7 +11,8 @@ use Rattle.aia_home.specs.declared.place.Place.{Place}
 use Rattle.aia_home.specs.Vms.{Vcpu, is_vcpu}
 use Rattle.aia_home.specs.Home.{Home, is_place, holds, ended}
 use Rattle.aia_home.specs.Plans.{is_at_last, steps_done, step_of, is_carried}
-use Rattle.aia_home.specs.Home.Home.{Parked, Resident, Leaving, Arriving, Shifting}
+use Rattle.aia_home.specs.declared.rest.Rest.TheVariants.{Parked}
+use Rattle.aia_home.specs.Home.Home.{InMemory, Resident, Leaving, Arriving, Shifting}
 use Rattle.aia_home.specs.BySteps.{old_file}
 use Rattle.aia_home.specs.Plans.Access.{TakePending, TakeEnables}
 use Rattle.aia_home.proofs.AllLemmas.{no_vcpu}
@@ -134,7 +135,7 @@ change_word words v there word now file first h = record {
 
 rested : (o : Outcome) (there : Home) (hand : Hand) (words slot hart : ℕ) (reach : Option Place) (v : Places) (file : InterruptFile) (saw : Bool) → GivesBack o there hand → Holds words slot hart reach v (ended there) hand file false → Holds words slot hart reach v (ended there) (hand_in (stay_after o)) file saw
 rested (Left place kept) (Leaving from at) hand words slot hart reach v file saw g h = record {
-  sets = change_word words v Parked hand.word 0 file refl h.sets;
+  sets = change_word words v (InMemory Parked) hand.word 0 file refl h.sets;
   numbers = record {
     own_delivery = h.numbers.own_delivery;
     next_delivery = h.numbers.next_delivery;

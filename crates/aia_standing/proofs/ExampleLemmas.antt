@@ -25,7 +25,8 @@ use Rattle.aia_entry.specs.Tables.{table_of, entry_in_force}
 use Rattle.aia_home.specs.declared.place.Place.{Place}
 use Rattle.aia_home.specs.Vms.{Vcpu, vcpu, is_vcpu, is_vcpu_in, vm_in}
 use Rattle.aia_home.specs.Home.{Home, is_place, holds}
-use Rattle.aia_home.specs.Home.Home.{Parked, Resident, Leaving}
+use Rattle.aia_home.specs.declared.rest.Rest.TheVariants.{Parked}
+use Rattle.aia_home.specs.Home.Home.{InMemory, Resident, Leaving}
 use Rattle.aia_home.specs.BySteps.{is_disabled, is_enabled_moved}
 use Rattle.aia_home.specs.Plans.{is_carried}
 use Rattle.aia_home.proofs.VmLemmas.{numbered, vm_past}
@@ -209,7 +210,7 @@ steps_of_another (suc count) x g h e = steps_of_another count x g (Stepped x ∷
 arrival_of_another : (aims : ℕ) (x g : Vcpu) (hart : ℕ) (h : History) → is_vcpu g x ≡ false → home (moved_whole aims h (Arrives x hart)) g ≡ home h g
 arrival_of_another aims x g hart h e = steps_of_another (steps_of (file_words h) (Arrives x hart) + aims) x g (Began (Arrives x hart) ∷ h) e ∙ home_step (Began (Arrives x hart)) h g ∙ cond-false _ _ _ e
 
-parked_as_made : (g : Vcpu) → home made_history g ≡ Parked
+parked_as_made : (g : Vcpu) → home made_history g ≡ InMemory Parked
 unfolding passes_of home
 parked_as_made g = refl
 
@@ -217,7 +218,7 @@ none_moved : (g : Vcpu) → home before_leaving g ≡ home both_arrived g
 unfolding passes_of home
 none_moved g = refl
 
-other_home : (g : Vcpu) → has_vcpu leaving_history g ≡ false → home leaving_history g ≡ Parked
+other_home : (g : Vcpu) → has_vcpu leaving_history g ≡ false → home leaving_history g ≡ InMemory Parked
 other_home g outside =
     let a = no_stayer g outside in
     let b = no_leaver g outside in

@@ -60,6 +60,7 @@ use Rattle.aia_moving.specs.Touches.{SameMachine}
 use Rattle.aia_home.proofs.HomeLemmas.{same_place, is_itself_place}
 use Rattle.aia_standing.proofs.VcpuLemmas.{IsHeld, quiet_line, MajorsRest, guest_rests, guest_done, files_alone}
 use Rattle.aia_world.proofs.FrameLemmas.{files_rest}
+use Rattle.aia_standing.proofs.RestLemmas.{entered_as_kept}
 use Rattle.aia_standing.proofs.EventLemmas.{Changes, as_it_was, accepted, refused}
 use Rattle.aia_standing.proofs.GuestStores.{not_out, slots_apart, resident_seen}
 use Rattle.aia_model.proofs.GreatestLemmas.{guest_greatest}
@@ -69,14 +70,12 @@ use Rattle.aia_standing.proofs.WithinLemmas.{guest_within, guest_sound, within_a
 
 resident_home : (stay : Stay) (p : Place) → resident_at stay ≡ Some p → home_in stay ≡ Resident p
 resident_home (stays.Resident q) p e = let same : q ≡ p = cc in ap Resident same
-resident_home (stays.Parked kept) p e = let bad : ◌≡◌ {A = Option Place} None (Some p) = e in absurd (cc)
-resident_home (stays.Entered kept) p e = let bad : ◌≡◌ {A = Option Place} None (Some p) = e in absurd (cc)
+resident_home (stays.InMemory rest kept) p e = let bad : ◌≡◌ {A = Option Place} None (Some p) = e in absurd (cc)
 resident_home (stays.Moving plan) p e = let bad : ◌≡◌ {A = Option Place} None (Some p) = e in absurd (cc)
 
 resident_stay : (stay : Stay) (p : Place) → resident_at stay ≡ Some p → stay ≡ stays.Resident p
 resident_stay (stays.Resident q) p e = let same : q ≡ p = cc in ap stays.Resident same
-resident_stay (stays.Parked kept) p e = let bad : ◌≡◌ {A = Option Place} None (Some p) = e in absurd (cc)
-resident_stay (stays.Entered kept) p e = let bad : ◌≡◌ {A = Option Place} None (Some p) = e in absurd (cc)
+resident_stay (stays.InMemory rest kept) p e = let bad : ◌≡◌ {A = Option Place} None (Some p) = e in absurd (cc)
 resident_stay (stays.Moving plan) p e = let bad : ◌≡◌ {A = Option Place} None (Some p) = e in absurd (cc)
 
 pub there_in : (x : CoreState) (h : History) (g : Vcpu) → CoreStands x h → is_vcpu_in x.world.vms g ≡ true → has_vcpu h g ≡ true
@@ -321,8 +320,7 @@ no_such_guest x vm number csr op outside = refused x (GuestCsr vm number csr op)
     guest_refusal h vm number csr op stands.there ∙ cond-true _ _ _ (ap not (subst (λ (vs : List Vm). is_vcpu_in vs (vcpu vm number) ≡ false) stands.vms outside)))
 
 pub away_stay : (w : World) (g : Vcpu) (stay : Stay) (csr : Csr) → PlanStands w g stay → resident_at stay ≡ None → (is_some (entered_at stay) && is_file_csr csr) ≡ false → serves (home_in stay) csr ≡ false
-away_stay w g (stays.Parked kept) csr plan e none = refl
-away_stay w g (stays.Entered kept) csr plan e none = none
+away_stay w g (stays.InMemory rest kept) csr plan e none = ap (λ b. b && is_file_csr csr) (entered_as_kept w g (stays.InMemory rest kept) plan) ∙ none
 away_stay w g (stays.Resident p) csr plan e none = let bad : ◌≡◌ {A = Option Place} (Some p) None = e in absurd (cc)
 away_stay w g (stays.Moving plan) csr stands e none = moving_away (moving_of plan).home stands.3
   where

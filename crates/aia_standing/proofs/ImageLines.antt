@@ -1,6 +1,6 @@
 -- A part of the image of a virtual hart that is parked is given, or loaded.
 use Rattle.std.proofs.Common.{◌≡◌, ℕ, ◌+◌, ◌/◌, ◌%◌, ◌^◌, ◌<◌, ◌≤◌, Bool, true, false, not, ◌&&◌, cond, nat_eq, nat_lt, nat_le, get_or, List, length, set, ◌∷◌, Some, None, refl, sym, ap, subst, ◌∙◌, arith}
-use Rattle.std.specs.Prelude.{Result, Ok, Err}
+use Rattle.std.specs.Prelude.{Err}
 use Rattle.std.proofs.Math.Nat.{mod-eq_of_lt}
 use Rattle.std.proofs.lemmas.Bool.{cond-true, cond-false, and_parts}
 use Rattle.std.proofs.lemmas.Bool.Decides.{nat_tests}
@@ -15,7 +15,8 @@ use Rattle.aia_imsic.specs.declared.spot.Spot.TheVariants as spots
 use Rattle.aia_major.specs.Kept.{majors_shown}
 use Rattle.aia_home.specs.Vms.{Vcpu, vcpu, is_vcpu_in, vcpus_in, slot_of, notice_hart, notice_identity}
 use Rattle.aia_home.specs.Home.{is_moving, is_resident, is_entered, rests_in_memory}
-use Rattle.aia_home.specs.Home.Home.{Parked}
+use Rattle.aia_home.specs.declared.rest.Rest.TheVariants.{Parked}
+use Rattle.aia_home.specs.Home.Home.{InMemory}
 use Rattle.aia_world.specs.World.{World}
 use Rattle.aia_world.specs.Whole.{IsWhole}
 use Rattle.aia_world.specs.Stores.{LandsIn, Posts, counted}
@@ -61,14 +62,15 @@ use Rattle.aia_standing.proofs.FilesInMemory.{file_is}
 use Rattle.aia_standing.proofs.GuestAccesses.{there_in, missing_in}
 use Rattle.aia_standing.proofs.MajorLemmas.{IsOfMajors, HasMajors, majors_change}
 use Rattle.aia_standing.proofs.MemoryDeeds.{with_memory, but_memory, memory_deed}
+use Rattle.aia_standing.proofs.RestLemmas.{word_is}
 use Rattle.aia_standing.proofs.RunLines.{OnlyNotifies, nothing_told, one_told}
 use Rattle.aia_model.proofs.GreatestLemmas.{guest_greatest}
 use Rattle.aia_standing.proofs.WithinLemmas.{guest_sound}
 
 -- ---- a virtual hart that is parked
 
-module _ (x : CoreState) (h : History) (g : Vcpu) (kept : KeptNumbers) (stands : CoreStands x h) (there : has_vcpu h g ≡ true) (at : (record_of x g).stay ≡ stays.Parked kept) where
-  pub parked_home : home h g ≡ Parked
+module _ (x : CoreState) (h : History) (g : Vcpu) (kept : KeptNumbers) (stands : CoreStands x h) (there : has_vcpu h g ≡ true) (at : (record_of x g).stay ≡ stays.InMemory Parked kept) where
+  pub parked_home : home h g ≡ InMemory Parked
   parked_home = sym (stands.vcpus g there).same_home ∙ ap home_in at
 
   pub is_not_refused : unless_parked h g ≡ None
@@ -81,7 +83,7 @@ module _ (x : CoreState) (h : History) (g : Vcpu) (kept : KeptNumbers) (stands :
   its_state whole = λ k. record { select = (stands.vcpus g there).select k; file = sym (its_file whole) k; majors = (stands.vcpus g there).majors k }
 
 -- the numbers that are kept of it are small
-pub small_threshold : (x : CoreState) (h : History) (g : Vcpu) (kept : KeptNumbers) → CoreStands x h → IsWhole x.world → has_vcpu h g ≡ true → (record_of x g).stay ≡ stays.Parked kept → kept.threshold ≤ x.world.n
+pub small_threshold : (x : CoreState) (h : History) (g : Vcpu) (kept : KeptNumbers) → CoreStands x h → IsWhole x.world → has_vcpu h g ≡ true → (record_of x g).stay ≡ stays.InMemory Parked kept → kept.threshold ≤ x.world.n
 small_threshold x h g kept stands whole there at =
     let file = its_file x h g kept stands there at whole in
     let sound = (guest_sound h g).threshold in
@@ -89,22 +91,13 @@ small_threshold x h g kept stands whole there at =
 
 -- one that is not is refused by the word for where it is
 pub not_parked : (x : CoreState) (h : History) (g : Vcpu) (stay : Stay) (word : Refusal) → CoreStands x h → has_vcpu h g ≡ true → (record_of x g).stay ≡ stay → parked_at stay ≡ Err word → unless_parked h g ≡ Some (Refused word)
-not_parked x h g stay word stands there was e = by_home ∙ by_stay stay word (subst (PlanStands x.world g) was (stands.vcpus g there).plan) e
+not_parked x h g stay word stands there was e = by_home ∙ word_is x.world g stay word None (subst (PlanStands x.world g) was (stands.vcpus g there).plan) e
   where
     at : home h g ≡ home_in stay
     at = sym (stands.vcpus g there).same_home ∙ ap home_in was
 
     by_home : unless_parked h g ≡ cond (is_moving (home_in stay)) (Some (Refused words.Busy)) (cond (is_resident (home_in stay)) (Some (Refused words.Home)) (cond (is_entered (home_in stay)) (Some (Refused words.Entered)) None))
     by_home = λ k. cond (is_moving (at k)) (Some (Refused words.Busy)) (cond (is_resident (at k)) (Some (Refused words.Home)) (cond (is_entered (at k)) (Some (Refused words.Entered)) None))
-
-    word_of_err : {A : Type 0} (a b : Refusal) → ◌≡◌ {A = Result A Refusal} (Err a) (Err b) → a ≡ b
-    word_of_err a b p = cc
-
-    by_stay : (stay : Stay) (word : Refusal) → PlanStands x.world g stay → parked_at stay ≡ Err word → cond (is_moving (home_in stay)) (Some (Refused words.Busy)) (cond (is_resident (home_in stay)) (Some (Refused words.Home)) (cond (is_entered (home_in stay)) (Some (Refused words.Entered)) None)) ≡ Some (Refused word)
-    by_stay (stays.Parked kept) word plan e = absurd (cc)
-    by_stay (stays.Entered kept) word plan e = ap (λ r. Some (Refused r)) (word_of_err words.Entered word e)
-    by_stay (stays.Resident lease) word plan e = ap (λ r. Some (Refused r)) (word_of_err words.Home word e)
-    by_stay (stays.Moving plan) word planned e = cond-true _ _ _ planned.3 ∙ ap (λ r. Some (Refused r)) (word_of_err words.Busy word e)
 
 -- where it is found
 pub found_below : (w : World) (found : Found) → IsFound w found → found.slot < vcpus_in w.vms
@@ -116,17 +109,8 @@ found_few w found whole is = let below = found_below w found is in omega (arith,
 pub found_stay : (x : CoreState) (found : Found) → IsFound x.world found → {A : Type 0} (r : A) (of : Stay → A) → r ≡ of (get_or x.vcpus found.slot no_record).stay → r ≡ of (record_of x (vcpu found.vm found.number)).stay
 found_stay x found is r of e = e ∙ ap (λ q. of (get_or x.vcpus q no_record).stay) is.slot
 
-pub parked_is : (stay : Stay) (kept : KeptNumbers) → parked_at stay ≡ Ok kept → stay ≡ stays.Parked kept
-parked_is (stays.Parked kept) other e = ap stays.Parked (of_ok kept other e)
-  where
-    of_ok : (a b : KeptNumbers) → ◌≡◌ {A = Result KeptNumbers Refusal} (Ok a) (Ok b) → a ≡ b
-    of_ok a b e = cc
-parked_is (stays.Entered kept) other e = absurd (cc)
-parked_is (stays.Resident lease) other e = absurd (cc)
-parked_is (stays.Moving plan) other e = absurd (cc)
-
 -- the threshold that is kept fits
-pub small_number : (x : CoreState) (g : Vcpu) (kept : KeptNumbers) → StandsForSome x → IsWhole x.world → is_vcpu_in x.world.vms g ≡ true → (record_of x g).stay ≡ stays.Parked kept → kept.threshold < 2 ^ 32
+pub small_number : (x : CoreState) (g : Vcpu) (kept : KeptNumbers) → StandsForSome x → IsWhole x.world → is_vcpu_in x.world.vms g ≡ true → (record_of x g).stay ≡ stays.InMemory Parked kept → kept.threshold < 2 ^ 32
 small_number x g kept some whole inside at =
     let small = small_threshold x some.past g kept some.stands whole (there_in x some.past g some.stands inside) at in
     let most = few_identities x.world.n whole.greatest in
@@ -184,7 +168,7 @@ not_parked_to_load x vm number part word inside good e = refused x (LoadPart vm 
 
 -- ---- a part is given
 
-pub saves : (x : CoreState) (vm number k : ℕ) (kept : KeptNumbers) (part : Part) → is_vcpu_in x.world.vms (vcpu vm number) ≡ true → IsWhole x.world → (record_of x (vcpu vm number)).stay ≡ stays.Parked kept → k < (x.world.n + 1) / 64 + 3
+pub saves : (x : CoreState) (vm number k : ℕ) (kept : KeptNumbers) (part : Part) → is_vcpu_in x.world.vms (vcpu vm number) ≡ true → IsWhole x.world → (record_of x (vcpu vm number)).stay ≡ stays.InMemory Parked kept → k < (x.world.n + 1) / 64 + 3
     → part ≡ part_of (state_in x (slot_of x.world.vms (vcpu vm number)) kept) k → CoreTakes x x (Save vm number k) (kinds.Part part)
 saves x vm number k kept part inside whole at low is = accepted x x (Save vm number k) (kinds.Part part) refl refl (λ h stands.
     let g = vcpu vm number in
@@ -196,7 +180,7 @@ saves x vm number k kept part inside whole at low is = accepted x x (Save vm num
 
 -- ---- a part is loaded
 
-loads : (x y : CoreState) (vm number : ℕ) (part : Part) (kept : KeptNumbers) → is_vcpu_in x.world.vms (vcpu vm number) ≡ true → (record_of x (vcpu vm number)).stay ≡ stays.Parked kept → is_loadable x.world.n part ≡ true
+loads : (x y : CoreState) (vm number : ℕ) (part : Part) (kept : KeptNumbers) → is_vcpu_in x.world.vms (vcpu vm number) ≡ true → (record_of x (vcpu vm number)).stay ≡ stays.InMemory Parked kept → is_loadable x.world.n part ≡ true
     → ((h : History) → CoreStands x h → has_vcpu h (vcpu vm number) ≡ true → Changes x y h (Accepted (LoadPart vm number part))) → CoreTakes x y (LoadPart vm number part) Okay
 loads x y vm number part kept inside at good changes = accepted x y (LoadPart vm number part) Okay refl refl (λ h stands.
     let g = vcpu vm number in
@@ -210,7 +194,7 @@ loads x y vm number part kept inside at good changes = accepted x y (LoadPart vm
 pub record IsLoad (x y : CoreState) (vm number : ℕ) (kept : KeptNumbers) (part : Part) : Type 0 where
   pub inside : is_vcpu_in x.world.vms (vcpu vm number) ≡ true
   pub whole : IsWhole x.world
-  pub at : (record_of x (vcpu vm number)).stay ≡ stays.Parked kept
+  pub at : (record_of x (vcpu vm number)).stay ≡ stays.InMemory Parked kept
   pub good : is_loadable x.world.n part ≡ true
   pub leases : y.leases ≡ x.leases
   pub selects : y.selects ≡ x.selects
@@ -272,7 +256,7 @@ pub record IsNumbersLoad (x y : CoreState) (vm number : ℕ) (kept now : KeptNum
   pub load : IsLoad x y vm number kept (parts.Image version n delivery threshold select)
   pub world : y.world ≡ x.world
   pub low : slot_of x.world.vms (vcpu vm number) < length x.vcpus
-  pub vcpus : y.vcpus ≡ set x.vcpus (slot_of x.world.vms (vcpu vm number)) (record (record_of x (vcpu vm number)) { stay = stays.Parked now; select = select_written (ops.Write select) (record_of x (vcpu vm number)).select })
+  pub vcpus : y.vcpus ≡ set x.vcpus (slot_of x.world.vms (vcpu vm number)) (record (record_of x (vcpu vm number)) { stay = stays.InMemory Parked now; select = select_written (ops.Write select) (record_of x (vcpu vm number)).select })
   pub is_delivery : now.delivery ≡ bit_number delivery
   pub is_threshold : now.threshold ≡ threshold
 
@@ -289,10 +273,10 @@ module _ (x y : CoreState) (vm number : ℕ) (kept now : KeptNumbers) (version n
   slot : (other : Vcpu) → slot_of y.world.vms other ≡ slot_of x.world.vms other
   slot other = ap (λ (w : World). slot_of w.vms other) c.world
 
-  own : record_of y image_g ≡ record (record_of x image_g) { stay = stays.Parked now; select = select_written (ops.Write select) (record_of x image_g).select }
+  own : record_of y image_g ≡ record (record_of x image_g) { stay = stays.InMemory Parked now; select = select_written (ops.Write select) (record_of x image_g).select }
   own = (λ k. get_or (c.vcpus k) (slot image_g k) no_record) ∙ get_or-set_same x.vcpus (slot_of x.world.vms image_g) _ no_record c.low
 
-  stay : (record_of y image_g).stay ≡ stays.Parked now
+  stay : (record_of y image_g).stay ≡ stays.InMemory Parked now
   stay = ap (λ (r : VcpuRecord). r.stay) own
 
   small : threshold ≤ x.world.n
@@ -303,7 +287,7 @@ module _ (x y : CoreState) (vm number : ℕ) (kept now : KeptNumbers) (version n
 
   pub numbers_are_loaded : CoreTakes x y (LoadPart vm number image) Okay
   numbers_are_loaded = loads x y vm number image kept c.load.inside c.load.at c.load.good (λ h stands there.
-      memory_deed x y h image_event image_g Parked kept now (Loads image) (record {
+      memory_deed x y h image_event image_g (InMemory Parked) kept now (Loads image) (record {
         stands = stands;
         whole = c.load.whole;
         inside = there;
@@ -363,7 +347,7 @@ module _ (x y : CoreState) (m : World) (vm number : ℕ) (kept : KeptNumbers) (w
       ∙ ap (λ f. is_live (file_loaded part f) w) (sym (its_file x h g kept stands there c.load.at c.load.whole))
 
   word_changes : (h : History) → CoreStands x h → has_vcpu h g ≡ true → y.world.n ≡ x.world.n → y.world.vms ≡ x.world.vms → OnlyNotifies x (but_memory x y) h event → Changes x y h event
-  word_changes h stands there n vms notifies = memory_deed x y h event g Parked kept kept (Loads part) (record {
+  word_changes h stands there n vms notifies = memory_deed x y h event g (InMemory Parked) kept kept (Loads part) (record {
     stands = stands;
     whole = c.load.whole;
     inside = there;
@@ -394,7 +378,7 @@ module _ (x y : CoreState) (m : World) (vm number : ℕ) (kept : KeptNumbers) (w
       same : (other : Vcpu) → record_of y other ≡ record_of x other
       same other k = get_or (c.vcpus k) (slot_of (vms k) other) no_record
 
-      stay : (record_of y g).stay ≡ stays.Parked kept
+      stay : (record_of y g).stay ≡ stays.InMemory Parked kept
       stay = ap (λ (r : VcpuRecord). r.stay) (same g) ∙ c.load.at
 
       now_is : file_in_memory m (slot_of x.world.vms g) kept ≡ file_in_memory y.world (slot_of x.world.vms g) kept

@@ -1,6 +1,7 @@
 pub mod VcpuLemmas
 pub mod NameLemmas
 pub mod StandsLemmas
+pub mod RestLemmas
 pub mod EventLemmas
 pub mod PageLemmas
 pub mod AccessLemmas

@@ -17,7 +17,8 @@ use Rattle.aia_mrif.specs.SlotFile.{IsOfSets}
 use Rattle.aia_major.specs.Kept.{majors_shown}
 use Rattle.aia_home.specs.Vms.{Vcpu, vcpu, is_vcpu_in, slot_of}
 use Rattle.aia_home.specs.Home.{rests_in_memory}
-use Rattle.aia_home.specs.Home.Home.{Entered}
+use Rattle.aia_home.specs.declared.rest.Rest.TheVariants.{Entered}
+use Rattle.aia_home.specs.Home.Home.{InMemory}
 use Rattle.aia_world.specs.World.{World}
 use Rattle.aia_world.specs.Whole.{IsWhole}
 use Rattle.aia_world.specs.SlotAccess.{file_of_slot, DoneInSlot}
@@ -59,7 +60,7 @@ pub record MemoryHasDone (x y : CoreState) (g : Vcpu) (kept now : KeptNumbers) (
   pub selects : y.selects ≡ x.selects
   pub passes : y.passes ≡ x.passes
   pub records : length y.vcpus ≡ length x.vcpus
-  pub stay : (record_of y g).stay ≡ stays.Entered now
+  pub stay : (record_of y g).stay ≡ stays.InMemory Entered now
   pub select : (record_of y g).select ≡ select_after deed (record_of x g).select
   pub majors : (record_of y g).majors ≡ (record_of x g).majors
   pub others : (other : Vcpu) → slot_of x.world.vms other ≢ slot_of x.world.vms g → record_of y other ≡ record_of x other
@@ -70,7 +71,7 @@ pub record IsMemoryAccess (x y : CoreState) (h : History) (vm number : ℕ) (csr
   pub stands : CoreStands x h
   pub whole : IsWhole x.world
   pub there : has_vcpu h (vcpu vm number) ≡ true
-  pub at : (record_of x (vcpu vm number)).stay ≡ stays.Entered kept
+  pub at : (record_of x (vcpu vm number)).stay ≡ stays.InMemory Entered kept
   pub done : MemoryHasDone x y (vcpu vm number) kept now (Accesses csr op)
   pub majors : (other : Vcpu) → MajorsRest other (Accepted (GuestCsr vm number csr op))
 
@@ -79,7 +80,7 @@ memory_changes x y h vm number csr op kept now c =
     let g = vcpu vm number in
     let event = Accepted (GuestCsr vm number csr op) in
     let rest = c.done.slot.rest in
-    memory_deed x y h event g Entered kept now (Accesses csr op) (record {
+    memory_deed x y h event g (InMemory Entered) kept now (Accesses csr op) (record {
       stands = c.stands;
       whole = c.whole;
       inside = c.there;
@@ -111,7 +112,7 @@ memory_changes x y h vm number csr op kept now c =
 
 -- its record alone is changed
 pub memory_record_done : (x y : CoreState) (g : Vcpu) (kept now : KeptNumbers) (deed : FileDeed) → y.world ≡ x.world → y.leases ≡ x.leases → y.selects ≡ x.selects → y.passes ≡ x.passes → slot_of x.world.vms g < length x.vcpus
-    → (after : VcpuRecord) → y.vcpus ≡ set x.vcpus (slot_of x.world.vms g) after → after.stay ≡ stays.Entered now → after.select ≡ select_after deed (record_of x g).select → after.majors ≡ (record_of x g).majors
+    → (after : VcpuRecord) → y.vcpus ≡ set x.vcpus (slot_of x.world.vms g) after → after.stay ≡ stays.InMemory Entered now → after.select ≡ select_after deed (record_of x g).select → after.majors ≡ (record_of x g).majors
     → SameFile (file_in_memory x.world (slot_of x.world.vms g) now) (file_after (record_of x g).select deed (file_in_memory x.world (slot_of x.world.vms g) kept)) → MemoryHasDone x y g kept now deed
 memory_record_done x y g kept now deed world leases selects passes low after vcpus stay select majors file =
     let slot : (other : Vcpu) → slot_of y.world.vms other ≡ slot_of x.world.vms other = λ other. ap (λ (w : World). slot_of w.vms other) world in
@@ -133,7 +134,7 @@ memory_record_done x y g kept now deed world leases selects passes low after vcp
 
 -- its slot alone is changed
 pub memory_slot_done : (x y : CoreState) (g : Vcpu) (kept : KeptNumbers) (deed : FileDeed) (threshold : ℕ) (slot_deed : InterruptFile → InterruptFile) → DoneInSlot x.world y.world (slot_of x.world.vms g) threshold slot_deed → y.leases ≡ x.leases → y.vcpus ≡ x.vcpus → y.selects ≡ x.selects → y.passes ≡ x.passes
-    → (record_of x g).stay ≡ stays.Entered kept → select_after deed (record_of x g).select ≡ (record_of x g).select
+    → (record_of x g).stay ≡ stays.InMemory Entered kept → select_after deed (record_of x g).select ≡ (record_of x g).select
     → SameFile (file_in_memory y.world (slot_of x.world.vms g) kept) (file_after (record_of x g).select deed (file_in_memory x.world (slot_of x.world.vms g) kept)) → MemoryHasDone x y g kept kept deed
 memory_slot_done x y g kept deed threshold slot_deed slot leases vcpus selects passes at select file =
     let same : (other : Vcpu) → record_of y other ≡ record_of x other = λ other k. get_or (vcpus k) (slot_of ((slot.rest k).vms) other) no_record in
@@ -213,10 +214,10 @@ file_csr csrs.Reg of_file = refl
 file_csr csrs.Topei of_file = refl
 file_csr csr of_file = absurd of_file
 
-served_there : (x : CoreState) (h : History) (g : Vcpu) (kept : KeptNumbers) (csr : Csr) → CoreStands x h → has_vcpu h g ≡ true → (record_of x g).stay ≡ stays.Entered kept → IsFileCsr csr → serves (home h g) csr ≡ true
+served_there : (x : CoreState) (h : History) (g : Vcpu) (kept : KeptNumbers) (csr : Csr) → CoreStands x h → has_vcpu h g ≡ true → (record_of x g).stay ≡ stays.InMemory Entered kept → IsFileCsr csr → serves (home h g) csr ≡ true
 served_there x h g kept csr stands there at of_file = ap (λ t. serves t csr) (sym (stands.vcpus g there).same_home ∙ ap home_in at) ∙ file_csr csr of_file
 
-pub memory_accessed : (x y : CoreState) (vm number : ℕ) (csr kind : Csr) (op : Op) (kept now : KeptNumbers) (access : CsrAccess) (value : ℕ) → IsWhole x.world → is_vcpu_in x.world.vms (vcpu vm number) ≡ true → (record_of x (vcpu vm number)).stay ≡ stays.Entered kept
+pub memory_accessed : (x y : CoreState) (vm number : ℕ) (csr kind : Csr) (op : Op) (kept now : KeptNumbers) (access : CsrAccess) (value : ℕ) → IsWhole x.world → is_vcpu_in x.world.vms (vcpu vm number) ≡ true → (record_of x (vcpu vm number)).stay ≡ stays.InMemory Entered kept
     → access ≡ access_by (record_of x (vcpu vm number)) csr op → raises_illegal access ≡ false → raises_virtual access ≡ false → csr ≡ kind
     → value ≡ csr_shown (record_of x (vcpu vm number)).select (file_in_memory x.world (slot_of x.world.vms (vcpu vm number)) kept) kind → MemoryHasDone x y (vcpu vm number) kept now (Accesses kind op) → IsFileCsr kind → CoreTakes x y (GuestCsr vm number csr op) (Wide value)
 memory_accessed x y vm number csr kind op kept now access value whole inside at table legal allowed named read done of_file =
@@ -224,7 +225,7 @@ memory_accessed x y vm number csr kind op kept now access value whole inside at 
     let listed = subst (λ (k : Csr). IsFileCsr k) (sym named) of_file in
     accepted x y (GuestCsr vm number csr op) (Wide value) refl refl (λ h stands.
     let there = there_in x h g stands inside in
-    let at_home : home h g ≡ Entered = sym (stands.vcpus g there).same_home ∙ ap home_in at in (
+    let at_home : home h g ≡ InMemory Entered = sym (stands.vcpus g there).same_home ∙ ap home_in at in (
       refusal_served x h vm number csr op access stands there (served_there x h g kept csr stands there at listed) table ∙ cond-false _ _ _ legal ∙ cond-false _ _ _ allowed,
       ap Wide (read ∙ ap (λ (k : Csr). csr_shown (record_of x g).select (file_in_memory x.world (slot_of x.world.vms g) kept) k) (sym named)
           ∙ (λ k. csr_shown ((stands.vcpus g there).select k) (sym (file_is x h g kept stands whole there (ap rests_in_memory at_home) (ap hand_in at)) k) csr)
@@ -232,7 +233,7 @@ memory_accessed x y vm number csr kind op kept now access value whole inside at 
       memory_changes x y h vm number csr op kept now (record { stands = stands; whole = whole; there = there; at = at; done = subst (λ (k : Csr). MemoryHasDone x y g kept now (Accesses k op)) (sym named) done; majors = λ other. file_access vm number csr op other listed }),
     ))
 
-pub memory_virtual : (x : CoreState) (vm number : ℕ) (csr : Csr) (op : Op) (kept : KeptNumbers) → is_vcpu_in x.world.vms (vcpu vm number) ≡ true → (record_of x (vcpu vm number)).stay ≡ stays.Entered kept → IsFileCsr csr
+pub memory_virtual : (x : CoreState) (vm number : ℕ) (csr : Csr) (op : Op) (kept : KeptNumbers) → is_vcpu_in x.world.vms (vcpu vm number) ≡ true → (record_of x (vcpu vm number)).stay ≡ stays.InMemory Entered kept → IsFileCsr csr
     → reaches.Virtual ≡ access_by (record_of x (vcpu vm number)) csr op → CoreTakes x x (GuestCsr vm number csr op) (Refused Virtual)
 memory_virtual x vm number csr op kept inside at listed table = refused x (GuestCsr vm number csr op) (Refused Virtual) (λ h stands.
     let there = there_in x h (vcpu vm number) stands inside in

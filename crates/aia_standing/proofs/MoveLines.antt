@@ -69,8 +69,7 @@ begin_taken x y vm number want given begins = record {
 
 -- whether it is being moved is kept as the history has it
 moved_as : (x : CoreState) (g : Vcpu) (stay : Stay) → PlanStands x.world g stay → is_moving (home_in stay) ≡ has_plan stay
-moved_as x g (stays.Parked kept) p = refl
-moved_as x g (stays.Entered kept) p = refl
+moved_as x g (stays.InMemory rest kept) p = refl
 moved_as x g (stays.Resident place) p = refl
 moved_as x g (stays.Moving plan) p = p.3
 

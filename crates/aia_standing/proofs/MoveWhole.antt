@@ -8,7 +8,8 @@ use Rattle.aia_home.specs.declared.vm.Vm.{Vm}
 use Rattle.aia_home.specs.Vms.{Vcpu, vcpu, is_vcpu_in}
 use Rattle.aia_home.specs.Home.{Home, is_entered, rests_in_memory, is_resident, is_moving, leaving, arriving, shifting, one_more}
 use Rattle.aia_home.specs.Plans.{is_at_last}
-use Rattle.aia_home.specs.Home.Home.{Parked, Entered, Resident, Leaving, Arriving, Shifting}
+use Rattle.aia_home.specs.declared.rest.Rest.TheVariants.{Parked}
+use Rattle.aia_home.specs.Home.Home.{InMemory, Resident, Leaving, Arriving, Shifting}
 use Rattle.aia_world.specs.declared.found.Found.{Found}
 use Rattle.aia_moving.specs.Move.{}
 use Rattle.aia_model.specs.declared.line.Line.TheVariants as lines
@@ -32,6 +33,7 @@ use Rattle.aia_model.specs.HomeOf.{home, guest_place, free_file}
 use Rattle.aia_model.specs.Refusal.{refusal}
 use Rattle.aia_model.proofs.FlightLemmas.{words_first, home_stepped, passes_stepped}
 use Rattle.aia_model.specs.Answer.{answer, steps_taken, steps_of, line_taken, step_taken}
+use Rattle.aia_model.proofs.RefusalLemmas.{only_parked}
 use Rattle.aia_model.proofs.AnswerLemmas.{answered, arrive_refusal, leave_refusal, shift_refusal}
 use Rattle.aia_model.proofs.MoveLemmas.{home_step, is_itself}
 use Rattle.aia_model.specs.declared.want.Want.{Want}
@@ -145,15 +147,10 @@ leave_begun_at h g (Arriving to at) e still home_is = absurd (true≢false still
 leave_begun_at h g (Shifting from to at) e still home_is = absurd (true≢false still)
 leave_begun_at h g there e still home_is = absurd (true≢false home_is)
 
-arrive_begun_at : (h : History) (g : Vcpu) (hart : ℕ) (there : Home) (o : Option ℕ) → home h g ≡ there → free_file h (home h) hart ≡ o → is_moving there ≡ false → is_resident there ≡ false → is_entered there ≡ false → is_none o ≡ false → IsAt (Arrives g hart) (passes_for h g) 0 (home (Began (Arrives g hart) ∷ h) g)
-arrive_begun_at h g hart Parked (Some file) e free still away waits some =
+arrive_begun_at : (h : History) (g : Vcpu) (hart : ℕ) (o : Option ℕ) → home h g ≡ InMemory Parked → free_file h (home h) hart ≡ o → is_none o ≡ false → IsAt (Arrives g hart) (passes_for h g) 0 (home (Began (Arrives g hart) ∷ h) g)
+arrive_begun_at h g hart (Some file) e free some =
     subst (IsAt (Arrives g hart) (passes_for h g) 0) (sym (home_step (Began (Arrives g hart)) h g ∙ cond-true _ _ _ (is_itself g) ∙ ap (λ o. option_map_or (λ file. arriving (guest_place hart file) (home h g)) o (home h g)) free ∙ ap (arriving (guest_place hart file)) e)) (record { on = tt; count = refl; few = omega arith })
-arrive_begun_at h g hart Parked None e free still away waits some = absurd (true≢false some)
-arrive_begun_at h g hart Entered o e free still away waits some = absurd (true≢false waits)
-arrive_begun_at h g hart (Resident p) o e free still away waits some = absurd (true≢false away)
-arrive_begun_at h g hart (Leaving from at) o e free still away waits some = absurd (true≢false still)
-arrive_begun_at h g hart (Arriving to at) o e free still away waits some = absurd (true≢false still)
-arrive_begun_at h g hart (Shifting from to at) o e free still away waits some = absurd (true≢false still)
+arrive_begun_at h g hart None e free some = absurd (true≢false some)
 
 shift_begun_at : (h : History) (g : Vcpu) (hart : ℕ) (there : Home) (o : Option ℕ) → home h g ≡ there → free_file h (home h) hart ≡ o → is_moving there ≡ false → rests_in_memory there ≡ false → is_none o ≡ false → IsAt (Shifts g hart) (passes_for h g) 0 (home (Began (Shifts g hart) ∷ h) g)
 shift_begun_at h g hart (Resident p) (Some file) e free still home_is some =
@@ -189,7 +186,7 @@ module _ (h : History) (vm number : ℕ) (machine : has_machine h ≡ true) wher
       let full = passed (is_none (free_file h (home h) hart)) words.NoFile None waits.1 in
       record {
         accepted = is ∙ cond-false _ _ _ range.0 ∙ cond-false _ _ _ busy.0 ∙ cond-false _ _ _ resident.0 ∙ cond-false _ _ _ waits.0 ∙ cond-false _ _ _ full.0;
-        begun = arrive_begun_at h (vcpu vm number) hart its (free_file h (home h) hart) refl refl busy.0 resident.0 waits.0 full.0;
+        begun = arrive_begun_at h (vcpu vm number) hart (free_file h (home h) hart) (only_parked its busy.0 resident.0 waits.0) refl full.0;
       }
 
   shift_accepts : (hart : ℕ) → Okay ≡ unwrap_or (refusal h (lines.Move vm number (wants.Shift hart))) Okay → Accepts h (refusal h (lines.Move vm number (wants.Shift hart))) (Shifts (vcpu vm number) hart) (vcpu vm number)

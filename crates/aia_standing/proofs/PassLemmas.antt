@@ -116,8 +116,7 @@ other_own number g x (y ∷ ys) other = ap (λ (own : List plans.Pass). cond (is
 
 -- a plan of a move is of one that is being moved
 pub plan_moves : (w : World) (g : Vcpu) (stay : Stay) → PlanStands w g stay → is_moving (home_in stay) ≡ has_plan stay
-plan_moves w g (stays.Parked kept) p = refl
-plan_moves w g (stays.Entered kept) p = refl
+plan_moves w g (stays.InMemory rest kept) p = refl
 plan_moves w g (stays.Resident lease) p = refl
 plan_moves w g (stays.Moving plan) p = p.3
 
@@ -126,8 +125,7 @@ moves_as_kept x h g stands there = let v = stands.vcpus g there in ap is_moving 
 
 -- at rest a pass leads to the guest file where its virtual hart is resident
 rest_reaches : (r : ℕ) (stay : Stay) → has_plan stay ≡ false → resident_at stay ≡ pass_reaches r (home_in stay)
-rest_reaches r (stays.Parked kept) e = sym (cond-false _ _ _ (le-ltb r 0 (omega arith)))
-rest_reaches r (stays.Entered kept) e = sym (cond-false _ _ _ (le-ltb r 0 (omega arith)))
+rest_reaches r (stays.InMemory rest kept) e = sym (cond-false _ _ _ (le-ltb r 0 (omega arith)))
 rest_reaches r (stays.Resident lease) e = sym (cond-false _ _ _ (le-ltb r 0 (omega arith)))
 rest_reaches r (stays.Moving plan) e = absurd (cc)
 
@@ -331,8 +329,7 @@ few_identities n identity greatest inside = grind (arith, nat_tests)
 
 resident_holds : (stay : Stay) (p : Place) → resident_at stay ≡ Some p → holds p (home_in stay) ≡ true
 resident_holds (stays.Resident lease) p e = some_same lease p e
-resident_holds (stays.Parked kept) p e = absurd (cc)
-resident_holds (stays.Entered kept) p e = absurd (cc)
+resident_holds (stays.InMemory rest kept) p e = absurd (cc)
 resident_holds (stays.Moving plan) p e = absurd (cc)
 
 -- where it is resident is a guest file that is there

@@ -8,8 +8,7 @@ use Rattle.aia_imsic.specs.declared.spot.Spot.{Spot}
 use Rattle.aia_imsic.specs.Imsic.{IsThere}
 use Rattle.aia_home.specs.declared.place.Place.{Place}
 use Rattle.aia_home.specs.Vms.{Vcpu, vcpu, is_vcpu_in}
-use Rattle.aia_home.specs.Home.{Home, runs, is_moving}
-use Rattle.aia_home.specs.Home.Home.{Parked, Leaving, Arriving, Shifting}
+use Rattle.aia_home.specs.Home.{runs}
 use Rattle.aia_home.specs.Routes.{peers_reach, MayLand}
 use Rattle.aia_world.specs.World.{World, stage_of}
 use Rattle.aia_world.specs.Stores.{StoresAt, Relays}
@@ -25,36 +24,20 @@ use Rattle.aia_model.specs.HomeOf.{home}
 use Rattle.aia_model.specs.Refusal.{refusal}
 use Rattle.aia_world.proofs.PlaceLemmas.{named_guest}
 use Rattle.aia_model.proofs.AnswerLemmas.{ipi_refusal}
-use Rattle.aia_move.specs.Plan.{moving_of}
-use Rattle.aia_standing.specs.declared.vcpu.Stay.{Stay}
-use Rattle.aia_standing.specs.declared.vcpu.Stay.TheVariants as stays
-use Rattle.aia_standing.specs.Core.{CoreState, record_of, home_in, runs_in}
-use Rattle.aia_standing.specs.Stands.{PlanStands, CoreStands, CoreTakes}
+use Rattle.aia_standing.specs.Core.{CoreState, record_of, runs_in}
+use Rattle.aia_standing.specs.Stands.{CoreStands, CoreTakes}
 use Rattle.aia_standing.proofs.VcpuLemmas.{quiet_line}
 use Rattle.aia_standing.proofs.EventLemmas.{accepted, refused}
+use Rattle.aia_standing.proofs.RestLemmas.{runs_as_kept}
 use Rattle.aia_standing.proofs.GuestAccesses.{there_in, missing_in}
 use Rattle.aia_standing.proofs.GuestStores.{GuestStored, IsStoredFor, peers_held, stored_for_guest}
 
 -- ---- who runs
 
--- what is kept of it says whether it does
-away_as_kept : (w : World) (g : Vcpu) (stay : Stay) → PlanStands w g stay → runs (home_in stay) ≡ runs_in stay
-away_as_kept w g (stays.Parked kept) p = refl
-away_as_kept w g (stays.Entered kept) p = refl
-away_as_kept w g (stays.Resident lease) p = refl
-away_as_kept w g (stays.Moving plan) p = on_the_move (moving_of plan).home p.3
-  where
-    on_the_move : (there : Home) → is_moving there ≡ true → runs there ≡ false
-    on_the_move (Leaving from at) moving = refl
-    on_the_move (Arriving to at) moving = refl
-    on_the_move (Shifting from to at) moving = refl
-    on_the_move Parked moving = refl
-    on_the_move there moving = absurd (cc)
-
 home_away : (x : CoreState) (h : History) (g : Vcpu) → CoreStands x h → has_vcpu h g ≡ true → runs (home h g) ≡ runs_in (record_of x g).stay
 home_away x h g stands there =
     let p = stands.vcpus g there in
-    ap runs (sym p.same_home) ∙ away_as_kept x.world g (record_of x g).stay p.plan
+    ap runs (sym p.same_home) ∙ runs_as_kept x.world g (record_of x g).stay p.plan
 
 -- ---- where the store goes
 

@@ -1,7 +1,7 @@
 -- A virtual hart runs from memory, and ceases to: its record says so, and its places hold what they
 -- held.
 use Rattle.std.proofs.Common.{◌≡◌, is_some, ℕ, ◌+◌, ◌<◌, Bool, true, false, not, cond, get_or, List, length, ◌∷◌, Option, Some, None, refl, sym, ap, subst, ◌∙◌, arith}
-use Rattle.std.specs.Prelude.{slice_index}
+use Rattle.std.specs.Prelude.{slice_index, Result, Ok, Err}
 use Rattle.std.proofs.lemmas.Bool.{cond-true, cond-false, false≢true}
 use Rattle.std.proofs.lemmas.List.{get_or-set_same, get_or-set_other, length-set}
 use Rattle.aia_file.specs.InterruptFile.{SameFile, top_of, InterruptFile}
@@ -15,12 +15,13 @@ use Rattle.aia_home.specs.declared.place.Place.{Place}
 use Rattle.aia_home.specs.declared.vm.Vm.{Vm}
 use Rattle.aia_home.specs.Vms.{Vcpu, vcpu, is_vcpu, is_vcpu_in, slot_of, notice_hart, notice_identity}
 use Rattle.aia_home.specs.Home.{Home, holds, is_moving, is_resident, is_entered, rests_in_memory, entering, exiting}
-use Rattle.aia_home.specs.Home.Home.{Parked, Entered, Resident, Leaving, Arriving, Shifting}
+use Rattle.aia_home.specs.declared.rest.Rest.TheVariants.{Parked, Entered}
+use Rattle.aia_home.specs.Home.Home.{InMemory}
 use Rattle.aia_home.proofs.VmLemmas.{slot_below}
 use Rattle.aia_places.specs.Places.{Places}
 use Rattle.aia_places.specs.Holds.{Holds}
 use Rattle.aia_places.specs.Stores.{AreApart}
-use Rattle.aia_places.proofs.MemoryKept.{enter-holds, exit-holds}
+use Rattle.aia_places.proofs.MemoryKept.{rest-holds}
 use Rattle.aia_pool.specs.Leases.{Leases, is_out}
 use Rattle.aia_world.specs.World.{World, OnlyStores, no_stage, stage_of}
 use Rattle.aia_world.specs.Stores.{Posts}
@@ -30,7 +31,6 @@ use Rattle.aia_world.specs.Making.{entry_word_place}
 use Rattle.aia_world.specs.Changes.{spot_of, places_of}
 use Rattle.aia_world.proofs.FrameLemmas.{posts_rest}
 use Rattle.aia_moving.specs.declared.who.KeptNumbers.{KeptNumbers}
-use Rattle.aia_move.specs.Plan.{moving_of}
 use Rattle.aia_moving.specs.Touches.{OnlyAccesses}
 use Rattle.aia_move.proofs.MachineLemmas.{no_accesses}
 use Rattle.aia_model.specs.declared.answer.Answer.{Answer}
@@ -55,13 +55,14 @@ use Rattle.aia_model.proofs.MoveLemmas.{home_step, seen_stays, is_itself}
 use Rattle.aia_standing.specs.declared.vcpu.Stay.{Stay}
 use Rattle.aia_standing.specs.declared.vcpu.Stay.TheVariants as stays
 use Rattle.aia_standing.specs.declared.vcpu.VcpuRecord.{VcpuRecord}
-use Rattle.aia_standing.specs.Core.{CoreState, no_record, record_of, home_in, entered_at, hand_of, hand_in}
+use Rattle.aia_standing.specs.Core.{CoreState, no_record, record_of, home_in, entered_at, parked_at, hand_of, hand_in}
 use Rattle.aia_standing.specs.HostFiles.{FileDone, host_spot, select_place}
 use Rattle.aia_standing.specs.Memory.{with_stay, EntersFrom}
 use Rattle.aia_standing.specs.Passes.{HasItsPasses}
 use Rattle.aia_standing.specs.Stands.{PlanStands, VcpuStands, is_held, CoreStands, CoreTakes}
 use Rattle.aia_standing.proofs.VcpuLemmas.{IsStill, IsHeld, SameFor, same_view, same_words, machine_kept, majors_rest}
 use Rattle.aia_standing.proofs.StandsLemmas.{count_after}
+use Rattle.aia_standing.proofs.RestLemmas.{parked_is, word_is, entered_as_kept}
 use Rattle.aia_standing.proofs.EventLemmas.{as_it_was, taken, refused}
 use Rattle.aia_standing.proofs.FilesInMemory.{live_is}
 use Rattle.aia_standing.proofs.GuestAccesses.{there_in}
@@ -286,13 +287,13 @@ enter_refused x y vm number stay given word c vcpus is refuses =
     subst (λ (z : CoreState). CoreTakes x z (lines.Enter vm number) given) (sym (same_core x y vm number c vcpus))
     (subst (λ a. CoreTakes x x (lines.Enter vm number) a) (sym is) (refused x (lines.Enter vm number) (Refused word) refuses))
 
-pub enters : (x y : CoreState) (vm number : ℕ) (stay : Stay) (given : Answer) → IsEnter x y vm number → (record_of x (vcpu vm number)).stay ≡ stay → EntersFrom stay x.vcpus y.vcpus (slot_of x.world.vms (vcpu vm number)) given → CoreTakes x y (lines.Enter vm number) given
-enters x y vm number (stays.Parked kept) given c was e = subst (λ a. CoreTakes x y (lines.Enter vm number) a) (sym e.0) (taken x y (lines.Enter vm number) Okay refl (λ h stands.
+parked_enters : (x y : CoreState) (vm number : ℕ) (kept : KeptNumbers) (given : Answer) → IsEnter x y vm number → (record_of x (vcpu vm number)).stay ≡ stays.InMemory Parked kept → EntersFrom (Ok kept) x.vcpus y.vcpus (slot_of x.world.vms (vcpu vm number)) given → CoreTakes x y (lines.Enter vm number) given
+parked_enters x y vm number kept given c was e = subst (λ a. CoreTakes x y (lines.Enter vm number) a) (sym e.0) (taken x y (lines.Enter vm number) Okay refl (λ h stands.
     let g = vcpu vm number in
     let event = Accepted (lines.Enter vm number) in
     let inside = there_in x h g stands c.there in
-    let at : home h g ≡ Parked = sym (stands.vcpus g inside).same_home ∙ ap home_in was in
-    let run : IsRun x y h event g (stays.Parked kept) (stays.Entered kept) = record {
+    let at : home h g ≡ InMemory Parked = sym (stands.vcpus g inside).same_home ∙ ap home_in was in
+    let run : IsRun x y h event g (stays.InMemory Parked kept) (stays.InMemory Entered kept) = record {
       stands = stands;
       there = inside;
       moves = enter_of h vm number;
@@ -311,19 +312,22 @@ enters x y vm number (stays.Parked kept) given c was e = subst (λ a. CoreTakes 
       plan = tt;
       has_passes = tt;
       same_shown = refl;
-      held = λ words q hart reach v file saw held. enter-holds words q hart reach v (hand_of kept) file saw held;
+      held = λ words q hart reach v file saw held. rest-holds words q hart reach v (hand_of kept) file saw Parked Entered held;
     } in (
-      enter_by x h vm number (stays.Parked kept) stands inside was,
+      enter_by x h vm number (stays.InMemory Parked kept) stands inside was,
       refl,
-      moved_on x y h event g (run_changes x y h event g (stays.Parked kept) (stays.Entered kept) run) stands,
+      moved_on x y h event g (run_changes x y h event g (stays.InMemory Parked kept) (stays.InMemory Entered kept) run) stands,
     )))
-enters x y vm number (stays.Entered kept) given c was e = enter_refused x y vm number (stays.Entered kept) given words.Entered c e.1 e.0 (λ h stands. enter_by x h vm number (stays.Entered kept) stands (there_in x h (vcpu vm number) stands c.there) was)
-enters x y vm number (stays.Resident lease) given c was e = enter_refused x y vm number (stays.Resident lease) given words.Home c e.1 e.0 (λ h stands. enter_by x h vm number (stays.Resident lease) stands (there_in x h (vcpu vm number) stands c.there) was)
-enters x y vm number (stays.Moving plan) given c was e = enter_refused x y vm number (stays.Moving plan) given words.Busy c e.1 e.0 (λ h stands.
-    let g = vcpu vm number in
-    let inside = there_in x h g stands c.there in
-    let planned : PlanStands x.world g (stays.Moving plan) = subst (PlanStands x.world g) was (stands.vcpus g inside).plan in
-    enter_by x h vm number (stays.Moving plan) stands inside was ∙ cond-true _ _ _ planned.3)
+
+pub enters : (x y : CoreState) (vm number : ℕ) (stay : Stay) (given : Answer) → IsEnter x y vm number → (record_of x (vcpu vm number)).stay ≡ stay → EntersFrom (parked_at stay) x.vcpus y.vcpus (slot_of x.world.vms (vcpu vm number)) given → CoreTakes x y (lines.Enter vm number) given
+enters x y vm number stay given c was e = by (parked_at stay) refl e
+  where
+    by : (r : Result KeptNumbers Refusal) → parked_at stay ≡ r → EntersFrom r x.vcpus y.vcpus (slot_of x.world.vms (vcpu vm number)) given → CoreTakes x y (lines.Enter vm number) given
+    by (Ok kept) is e = parked_enters x y vm number kept given c (was ∙ parked_is stay kept is) e
+    by (Err word) is e = enter_refused x y vm number stay given word c e.1 e.0 (λ h stands.
+        let g = vcpu vm number in
+        let inside = there_in x h g stands c.there in
+        enter_by x h vm number stay stands inside was ∙ word_is x.world g stay word None (subst (PlanStands x.world g) was (stands.vcpus g inside).plan) is)
 
 pub no_vcpu_to_enter : (x : CoreState) (vm number : ℕ) → is_vcpu_in x.world.vms (vcpu vm number) ≡ false → CoreTakes x x (lines.Enter vm number) (Refused words.Range)
 no_vcpu_to_enter x vm number none = refused x (lines.Enter vm number) (Refused words.Range) (λ h stands.
@@ -334,8 +338,8 @@ no_vcpu_to_enter x vm number none = refused x (lines.Enter vm number) (Refused w
 pub record IsExit (x y : CoreState) (vm number : ℕ) (kept : KeptNumbers) : Type 0 where
   pub whole : IsWhole x.world
   pub there : is_vcpu_in x.world.vms (vcpu vm number) ≡ true
-  pub was : (record_of x (vcpu vm number)).stay ≡ stays.Entered kept
-  pub vcpus : y.vcpus ≡ with_stay x.vcpus (slot_of x.world.vms (vcpu vm number)) (stays.Parked kept)
+  pub was : (record_of x (vcpu vm number)).stay ≡ stays.InMemory Entered kept
+  pub vcpus : y.vcpus ≡ with_stay x.vcpus (slot_of x.world.vms (vcpu vm number)) (stays.InMemory Parked kept)
   pub leases : y.leases ≡ x.leases
   pub selects : y.selects ≡ x.selects
   pub passes : y.passes ≡ x.passes
@@ -351,8 +355,8 @@ exits x y vm number kept c = taken x y (lines.Exit vm number) Okay refl (λ h st
     let g = vcpu vm number in
     let event = Accepted (lines.Exit vm number) in
     let inside = there_in x h g stands c.there in
-    let at : home h g ≡ Entered = sym (stands.vcpus g inside).same_home ∙ ap home_in c.was in
-    let run : IsRun x y h event g (stays.Entered kept) (stays.Parked kept) = record {
+    let at : home h g ≡ InMemory Entered = sym (stands.vcpus g inside).same_home ∙ ap home_in c.was in
+    let run : IsRun x y h event g (stays.InMemory Entered kept) (stays.InMemory Parked kept) = record {
       stands = stands;
       there = inside;
       moves = exit_of h vm number;
@@ -371,32 +375,18 @@ exits x y vm number kept c = taken x y (lines.Exit vm number) Okay refl (λ h st
       plan = tt;
       has_passes = tt;
       same_shown = refl;
-      held = λ words q hart reach v file saw held. exit-holds words q hart reach v (hand_of kept) file saw held;
+      held = λ words q hart reach v file saw held. rest-holds words q hart reach v (hand_of kept) file saw Entered Parked held;
     } in (
       exit_by x h vm number stands inside ∙ ap (λ stay. cond (not (is_entered (home_in stay))) (Some (Refused words.Idle)) None) c.was,
       refl,
-      moved_on x y h event g (run_changes x y h event g (stays.Entered kept) (stays.Parked kept) run) stands,
+      moved_on x y h event g (run_changes x y h event g (stays.InMemory Entered kept) (stays.InMemory Parked kept) run) stands,
     ))
 
 pub not_entered : (x : CoreState) (vm number : ℕ) → is_vcpu_in x.world.vms (vcpu vm number) ≡ true → entered_at (record_of x (vcpu vm number)).stay ≡ None → CoreTakes x x (lines.Exit vm number) (Refused words.Idle)
 not_entered x vm number there none = refused x (lines.Exit vm number) (Refused words.Idle) (λ h stands.
     let g = vcpu vm number in
     let inside = there_in x h g stands there in
-    exit_by x h vm number stands inside ∙ cond-true _ _ _ (ap not (no_run x.world g (record_of x g).stay (stands.vcpus g inside).plan none)))
-  where
-    on_the_move : (there : Home) → is_moving there ≡ true → is_entered there ≡ false
-    on_the_move (Leaving from at) moving = refl
-    on_the_move (Arriving to at) moving = refl
-    on_the_move (Shifting from to at) moving = refl
-    on_the_move Parked moving = refl
-    on_the_move (Resident p) moving = refl
-    on_the_move Entered moving = absurd (cc)
-
-    no_run : (w : World) (g : Vcpu) (stay : Stay) → PlanStands w g stay → entered_at stay ≡ None → is_entered (home_in stay) ≡ false
-    no_run w g (stays.Parked kept) p e = refl
-    no_run w g (stays.Entered kept) p e = let bad : ◌≡◌ {A = Option KeptNumbers} (Some kept) None = e in absurd (cc)
-    no_run w g (stays.Resident lease) p e = refl
-    no_run w g (stays.Moving plan) p e = on_the_move (moving_of plan).home p.3
+    exit_by x h vm number stands inside ∙ cond-true _ _ _ (ap not (entered_as_kept x.world g (record_of x g).stay (stands.vcpus g inside).plan ∙ ap is_some none)))
 
 pub no_vcpu_to_exit : (x : CoreState) (vm number : ℕ) → is_vcpu_in x.world.vms (vcpu vm number) ≡ false → CoreTakes x x (lines.Exit vm number) (Refused words.Range)
 no_vcpu_to_exit x vm number none = refused x (lines.Exit vm number) (Refused words.Range) (λ h stands.
@@ -404,11 +394,11 @@ no_vcpu_to_exit x vm number none = refused x (lines.Exit vm number) (Refused wor
 
 -- ---- its notice
 
-pub live_top : (x : CoreState) (h : History) (g : Vcpu) (kept : KeptNumbers) (q : ℕ) → CoreStands x h → IsWhole x.world → is_vcpu_in x.world.vms g ≡ true → (record_of x g).stay ≡ stays.Entered kept → q ≡ slot_of x.world.vms g
+pub live_top : (x : CoreState) (h : History) (g : Vcpu) (kept : KeptNumbers) (q : ℕ) → CoreStands x h → IsWhole x.world → is_vcpu_in x.world.vms g ≡ true → (record_of x g).stay ≡ stays.InMemory Entered kept → q ≡ slot_of x.world.vms g
     → a_word_is_live h g ≡ is_some (top_of (file_of_slot x.world q 0))
 live_top x h g kept q stands whole there was slot =
     let inside = there_in x h g stands there in
-    let at : home h g ≡ Entered = sym (stands.vcpus g inside).same_home ∙ ap home_in was in
+    let at : home h g ≡ InMemory Entered = sym (stands.vcpus g inside).same_home ∙ ap home_in was in
     live_is x h g kept stands whole inside (ap rests_in_memory at) (ap hand_in was) ∙ ap (λ q. is_some (top_of (file_of_slot x.world q 0))) (sym slot)
 
 pub exit_is_quiet : (x y : CoreState) (h : History) (vm number : ℕ) → y.world ≡ x.world → y.selects ≡ x.selects → a_word_is_live h (vcpu vm number) ≡ false → OnlyNotifies x y h (Accepted (lines.Exit vm number))

@@ -20,7 +20,8 @@ use Rattle.aia_home.specs.declared.vm.Vm.{Vm}
 use Rattle.aia_home.specs.declared.place.Place.{Place}
 use Rattle.aia_home.specs.Vms.{Vcpu, vcpus_in, is_vcpu_in}
 use Rattle.aia_home.specs.Home.{holds}
-use Rattle.aia_home.specs.Home.Home.{Parked}
+use Rattle.aia_home.specs.declared.rest.Rest.TheVariants.{Parked}
+use Rattle.aia_home.specs.Home.Home.{InMemory}
 use Rattle.aia_pool.specs.Leases.{Leases, is_out}
 use Rattle.aia_world.specs.declared.stage.Stage.{Stage}
 use Rattle.aia_world.specs.World.{World, no_stage}
@@ -156,8 +157,7 @@ with_flights x y h event flights b = record {
 }
   where
     plan_with : (w : World) (flights : List (List Flying)) (g : Vcpu) (stay : Stay) → PlanStands w g stay → PlanStands (record w { flights = flights }) g stay
-    plan_with w flights g (stays.Parked kept) p = tt
-    plan_with w flights g (stays.Entered kept) p = tt
+    plan_with w flights g (stays.InMemory rest kept) p = tt
     plan_with w flights g (stays.Resident lease) p = tt
     plan_with w flights g (stays.Moving plan) p = (fits_still w (record w { flights = flights }) (moving_of plan) (record { n = refl; vms = refl; harts = refl; guests = refl }) p.0, p.1, p.2, p.3)
 
@@ -275,14 +275,14 @@ no_stage_at zero p = refl
 no_stage_at (suc n) zero = refl
 no_stage_at (suc n) (suc p) = no_stage_at n p
 
-parked_at_first : (event : Event) (g : Vcpu) → moved [] (home []) event g ≡ Parked → home (event ∷ []) g ≡ Parked
+parked_at_first : (event : Event) (g : Vcpu) → moved [] (home []) event g ≡ InMemory Parked → home (event ∷ []) g ≡ InMemory Parked
 parked_at_first event g e = home_step event [] g ∙ e
 
 none_flying : (harts guests n sources v : ℕ) → flight (Accepted (Machine harts guests n sources) ∷ []) v ≡ []
 unfolding flight
 none_flying harts guests n sources v = refl
 
-home_nowhere : (g : Vcpu) → home [] g ≡ Parked
+home_nowhere : (g : Vcpu) → home [] g ≡ InMemory Parked
 unfolding home
 home_nowhere g = refl
 

@@ -49,8 +49,7 @@ no_aim false m e = refl
 -- one who is being moved has a plan
 plan_of : (s : Stay) → is_moving (home_in s) ≡ true → (plan : Plan) × (stays.Moving plan ≡ s)
 plan_of (stays.Moving plan) moves = (plan, refl)
-plan_of (stays.Parked kept) moves = absurd (cc)
-plan_of (stays.Entered kept) moves = absurd (cc)
+plan_of (stays.InMemory rest kept) moves = absurd (cc)
 plan_of (stays.Resident lease) moves = absurd (cc)
 
 module _ (x y : CoreState) (who : Found) (new : Stay) (plan : Plan) (was : stays.Moving plan ≡ (get_or x.vcpus who.slot no_record).stay) where

@@ -299,16 +299,14 @@ majors_rest h event g rest = majors_is event h g ∙ rest (majors_of h g)
 
 -- the plan of a move can go on where the machine's numbers and its VMs are the same
 pub plan_stays : (w u : World) (g : Vcpu) (stay : Stay) → SameMachine w u → PlanStands w g stay → PlanStands u g stay
-plan_stays w u g (stays.Parked kept) same p = tt
-plan_stays w u g (stays.Entered kept) same p = tt
+plan_stays w u g (stays.InMemory rest kept) same p = tt
 plan_stays w u g (stays.Resident lease) same p = tt
 plan_stays w u g (stays.Moving plan) same p = (fits_still w u (moving_of plan) same p.0, phase_still w u plan same p.1, p.2, p.3)
 
 -- and has its passes still
 pub passes_stay : (w : World) (h : History) (event : Event) (g : Vcpu) (stay : Stay) → home_in stay ≡ home h g → PlanStands w g stay → (is_moving (home h g) ≡ true → own_passes 0 g (passes_of (event ∷ h)) ≡ own_passes 0 g (passes_of h))
     → HasItsPasses (passes_of h) g stay → HasItsPasses (passes_of (event ∷ h)) g stay
-passes_stay w h event g (stays.Parked kept) at p same has = tt
-passes_stay w h event g (stays.Entered kept) at p same has = tt
+passes_stay w h event g (stays.InMemory rest kept) at p same has = tt
 passes_stay w h event g (stays.Resident lease) at p same has = tt
 passes_stay w h event g (stays.Moving plan) at p same has = has ∙ sym (same (ap is_moving (sym at) ∙ p.3))
 

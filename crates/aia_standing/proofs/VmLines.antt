@@ -30,7 +30,8 @@ use Rattle.aia_home.specs.declared.place.Place.{Place}
 use Rattle.aia_home.specs.declared.vm.Vm.{Vm}
 use Rattle.aia_home.specs.Vms.{Vcpu, vcpu, is_vcpu_in, vm_in, vcpus_in, slot_of, notice_hart}
 use Rattle.aia_home.specs.Home.{holds}
-use Rattle.aia_home.specs.Home.Home.{Parked}
+use Rattle.aia_home.specs.declared.rest.Rest.TheVariants.{Parked}
+use Rattle.aia_home.specs.Home.Home.{InMemory}
 use Rattle.aia_home.specs.Plans.{is_carried}
 use Rattle.aia_home.proofs.VmLemmas.{numbered, slot_below, vm_stays, slot_stays, vm_new, slot_new, vcpus_more, vm_past}
 use Rattle.aia_home.proofs.AllLemmas.{any_vcpu, some_vcpu, no_vcpu, of_none}
@@ -210,8 +211,7 @@ unfolding passes_of
 none_by_vm h vm = refl
 
 plan_grown : (x y : CoreState) (h : History) (vm : Vm) (g : Vcpu) (stay : Stay) → HasMade x y h vm → g.vm < length (vms_of h) → PlanStands x.world g stay → PlanStands y.world g stay
-plan_grown x y h vm g (stays.Parked kept) c low p = tt
-plan_grown x y h vm g (stays.Entered kept) c low p = tt
+plan_grown x y h vm g (stays.InMemory rest kept) c low p = tt
 plan_grown x y h vm g (stays.Resident lease) c low p = tt
 plan_grown x y h vm g (stays.Moving plan) c low p =
     (fits_grown x y h vm (moving_of plan) c (subst (λ (a : Vcpu). a.vm < length (vms_of h)) (sym p.2) low) p.0, subst (λ (w : World). IsInPhase ((w.n + 1) / 64) plan) (sym c.makes.rest) p.1, p.2, p.3)
@@ -252,17 +252,17 @@ never : (n : ℕ) → nat_eq 0 (n + 1) ≡ false
 never n = grind (arith, nat_tests)
 
 -- a parked virtual hart's entry in force leads to memory
-nowhere : (h : History) (g : Vcpu) → home h g ≡ Parked → in_force_of h g ≡ None
+nowhere : (h : History) (g : Vcpu) → home h g ≡ InMemory Parked → in_force_of h g ≡ None
 nowhere h g parked = in_memory (in_force_of h g) (subst (λ t. MayReach t (in_force_of h g)) parked (in_force_may h g))
   where
-    in_memory : (reach : Option Place) → MayReach Parked reach → reach ≡ None
+    in_memory : (reach : Option Place) → MayReach (InMemory Parked) reach → reach ≡ None
     in_memory reach (inl m) = m.0
     in_memory reach (inr m) = absurd (cc)
 
 -- a slot that is empty holds the file of a virtual hart that was asked for nothing
 empty_holds : (words q hart n : ℕ) (v : Places) (saw : Bool) → v.own ≡ empty_file n → v.next ≡ empty_file n → ((i : ℕ) → v.slot.pending i ≡ false) → ((i : ℕ) → v.slot.enabled i ≡ false)
     → v.word0 ≡ entry_word q None → v.word1 ≡ second_word q hart → v.in_force ≡ leads_to q hart None → v.stage ≡ None → v.stage_in_force ≡ None
-    → Holds words q hart None v Parked (hand_in (stays.Parked no_kept)) (empty_file n) saw
+    → Holds words q hart None v (InMemory Parked) (hand_in (stays.InMemory Parked no_kept)) (empty_file n) saw
 empty_holds words q hart n v saw own next pending enabled word0 word1 in_force stage stage_in_force = record {
   sets = record {
     union = λ i l. sym (ap (λ b. b || false) (pending i));
@@ -297,7 +297,7 @@ new_stands x y h vm g c last low lacks =
     let table = tables_as_vms x y h vm c in
     let place : entry_word_place g.vm g.number ≡ entry_word_place (length x.world.tables) g.number = ap (λ v. entry_word_place v g.number) (last ∙ sym table) in
     let before : vcpus_in x.world.vms ≡ vcpus_in (vms_of h) = ap vcpus_in c.stands.vms in
-    let parked : home (made_line vm ∷ h) g ≡ Parked = same_home h vm g ∙ none.2 in
+    let parked : home (made_line vm ∷ h) g ≡ InMemory Parked = same_home h vm g ∙ none.2 in
     let kept : record_of y g ≡ no_record = (λ k. get_or (c.vcpus k) (at k) no_record) ∙ past_all x.vcpus vm.vcpus (vcpus_in (vms_of h) + g.number) (omega (arith, c.stands.records)) in
     let stage : stage_of y.world g ≡ no_stage = (λ k. get_or ((c.makes.rest k).stages) (at k) no_stage) ∙ empty.2 in
     let file : guest_file (made_line vm ∷ h) g ≡ empty_file y.world.n = same_file h vm g ∙ none.0 ∙ ap empty_file (sym (ap (λ (w : World). w.n) c.makes.rest ∙ c.stands.greatest)) in
@@ -318,7 +318,7 @@ new_stands x y h vm g c last low lacks =
         hand = hand_in (sym kept k).stay;
         file = sym file k;
         saw = a_look_saw (made_line vm ∷ h) g;
-      }) (empty_holds (file_words h) (vcpus_in (vms_of h) + g.number) vm.notice_hart y.world.n (places_of y.world g Parked) (a_look_saw (made_line vm ∷ h) g) refl refl
+      }) (empty_holds (file_words h) (vcpus_in (vms_of h) + g.number) vm.notice_hart y.world.n (places_of y.world g (InMemory Parked)) (a_look_saw (made_line vm ∷ h) g) refl refl
           (λ i. ap (λ q. (mrif_in y.world.memory q).pending i) at ∙ pending_stays x.world y.world vm (vcpus_in (vms_of h) + g.number) i c.makes few ∙ empty.0 i)
           (λ i. ap (λ q. (mrif_in y.world.memory q).enabled i) at ∙ enabled_stays x.world y.world vm (vcpus_in (vms_of h) + g.number) i c.makes few ∙ empty.1 i)
           (ap (λ p. get_or y.world.memory p 0) place ∙ c.makes.word0 g.number low ∙ ap (λ q. mrif_word (slot_address (q + g.number))) before)

@@ -3,7 +3,8 @@ use Rattle.std.specs.Prelude.{◌≡◌, ℕ, Bool, true, false, List, Option, S
 use Rattle.aia_home.specs.declared.place.Place.{Place}
 use Rattle.aia_home.specs.Vms.{Vcpu, slot_of}
 use Rattle.aia_home.specs.Home.{Home}
-use Rattle.aia_home.specs.Home.Home.{Parked, Entered, Resident}
+use Rattle.aia_home.specs.declared.rest.Rest.TheVariants.{Parked, Entered}
+use Rattle.aia_home.specs.Home.Home.{InMemory, Resident}
 use Rattle.aia_major.specs.VsMajor.{VsMajorState}
 use Rattle.aia_major.specs.Kept.{majors_shown, kept_at_first}
 use Rattle.aia_places.specs.Holds.{Hand}
@@ -34,7 +35,7 @@ abbrev pub no_kept : KeptNumbers
 no_kept = record { delivery = 0; threshold = 0 }
 
 abbrev pub no_record : VcpuRecord
-no_record = record { stay = stays.Parked no_kept; select = 0; majors = kept_at_first }
+no_record = record { stay = stays.InMemory Parked no_kept; select = 0; majors = kept_at_first }
 
 -- The record of a virtual hart.
 abbrev pub record_of : CoreState → Vcpu → VcpuRecord
@@ -51,8 +52,7 @@ pub record MajorsDone (old new : List VcpuRecord) (slot : ℕ) (done : VsMajorSt
 
 -- The home of a virtual hart, as it is kept.
 abbrev pub home_in : Stay → Home
-home_in (stays.Parked kept) = Parked
-home_in (stays.Entered kept) = Entered
+home_in (stays.InMemory rest kept) = InMemory rest
 home_in (stays.Resident lease) = Resident lease
 home_in (stays.Moving plan) = (moving_of plan).home
 
@@ -63,20 +63,20 @@ resident_at stay = None
 
 -- The numbers that are kept of one that runs from memory.
 abbrev pub entered_at : Stay → Option KeptNumbers
-entered_at (stays.Entered kept) = Some kept
+entered_at (stays.InMemory Entered kept) = Some kept
 entered_at stay = None
 
 -- The numbers that are kept of one that is parked, or the word that refuses another.
 abbrev pub parked_at : Stay → Result KeptNumbers Refusal
-parked_at (stays.Parked kept) = Ok kept
-parked_at (stays.Entered kept) = Err refusals.Entered
+parked_at (stays.InMemory Parked kept) = Ok kept
+parked_at (stays.InMemory Entered kept) = Err refusals.Entered
 parked_at (stays.Resident lease) = Err refusals.Home
 parked_at (stays.Moving plan) = Err refusals.Busy
 
 -- Whether a virtual hart runs, as it is kept.
 abbrev pub runs_in : Stay → Bool
 runs_in (stays.Resident lease) = true
-runs_in (stays.Entered kept) = true
+runs_in (stays.InMemory Entered kept) = true
 runs_in stay = false
 
 -- Whether a virtual hart is being moved, as it is kept.
@@ -93,7 +93,6 @@ hand_of kept =
 -- What is carried or kept of the interrupt file of a virtual hart: of one whose interrupts rest in
 -- memory the two numbers, of a resident one nothing, on a move what the move carries.
 abbrev pub hand_in : Stay → Hand
-hand_in (stays.Parked kept) = hand_of kept
-hand_in (stays.Entered kept) = hand_of kept
+hand_in (stays.InMemory rest kept) = hand_of kept
 hand_in (stays.Resident lease) = record { word = 0; delivery = 0; threshold = 0; seen = false }
 hand_in (stays.Moving plan) = (moving_of plan).hand

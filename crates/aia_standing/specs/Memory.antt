@@ -1,5 +1,5 @@
 -- Virtual harts that run from memory, in the core: what the calls make of them.
-use Rattle.std.specs.Prelude.{◌≡◌, ℕ, ◌%◌, Bool, true, false, if◌then◌else◌, List, slice_index_or, slice_set}
+use Rattle.std.specs.Prelude.{◌≡◌, ℕ, ◌%◌, Bool, true, false, if◌then◌else◌, List, Result, Ok, Err, slice_index_or, slice_set}
 use Rattle.aia_regs.specs.declared.access.Op.{Op}
 use Rattle.aia_regs.specs.declared.file_registers.FileReg.{FileReg}
 use Rattle.aia_regs.specs.declared.file_registers.FileReg.TheVariants.{Delivery, Threshold, Pending, Enable}
@@ -11,11 +11,12 @@ use Rattle.aia_world.specs.SlotAccess.{file_of_slot, DoneInSlot}
 use Rattle.aia_moving.specs.declared.who.KeptNumbers.{KeptNumbers}
 use Rattle.aia_model.specs.declared.answer.Answer.{Answer}
 use Rattle.aia_model.specs.declared.answer.Answer.TheVariants.{Okay, Refused}
-use Rattle.aia_model.specs.declared.refusal.Refusal.TheVariants as refusals
+use Rattle.aia_model.specs.declared.refusal.Refusal.{Refusal}
+use Rattle.aia_home.specs.declared.rest.Rest.TheVariants.{Entered}
 use Rattle.aia_standing.specs.declared.vcpu.Stay.{Stay}
 use Rattle.aia_standing.specs.declared.vcpu.Stay.TheVariants as stays
 use Rattle.aia_standing.specs.declared.vcpu.VcpuRecord.{VcpuRecord}
-use Rattle.aia_standing.specs.Core.{no_record}
+use Rattle.aia_standing.specs.Core.{no_record, parked_at}
 
 -- ---- one enters
 
@@ -24,20 +25,17 @@ abbrev pub with_stay : List VcpuRecord → ℕ → Stay → List VcpuRecord
 with_stay records slot stay =
     slice_set records slot (record (slice_index_or records slot no_record) { stay = stay })
 
--- What becomes of the records as one is to run from memory, by where it is.
-abbrev pub EntersFrom : Stay → List VcpuRecord → List VcpuRecord → ℕ → Answer → Type 0
-EntersFrom (stays.Parked kept) old new slot given =
-    (given ≡ Okay) × (new ≡ with_stay old slot (stays.Entered kept))
-EntersFrom (stays.Entered kept) old new slot given =
-    (given ≡ Refused refusals.Entered) × (new ≡ old)
-EntersFrom (stays.Resident lease) old new slot given =
-    (given ≡ Refused refusals.Home) × (new ≡ old)
-EntersFrom (stays.Moving plan) old new slot given =
-    (given ≡ Refused refusals.Busy) × (new ≡ old)
+-- What becomes of the records as one is to run from memory, by what is kept of it where it is
+-- parked, or the word that refuses it.
+abbrev pub EntersFrom : Result KeptNumbers Refusal → List VcpuRecord → List VcpuRecord → ℕ → Answer
+    → Type 0
+EntersFrom (Ok kept) old new slot given =
+    (given ≡ Okay) × (new ≡ with_stay old slot (stays.InMemory Entered kept))
+EntersFrom (Err word) old new slot given = (given ≡ Refused word) × (new ≡ old)
 
 abbrev pub Enters : List VcpuRecord → List VcpuRecord → ℕ → Answer → Type 0
 Enters old new slot given =
-    EntersFrom (slice_index_or old slot no_record).stay old new slot given
+    EntersFrom (parked_at (slice_index_or old slot no_record).stay) old new slot given
 
 -- ---- its interrupt file
 

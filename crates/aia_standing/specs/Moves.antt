@@ -1,6 +1,7 @@
 -- The moves of virtual harts in the core: what is wanted, and what each call makes of it.
-use Rattle.std.specs.Prelude.{◌≡◌, ℕ, ◌+◌, ◌-◌, ◌<◌, ◌≤◌, Bool, true, false, if◌then◌else◌, ◌∷◌, Option, Some, None}
+use Rattle.std.specs.Prelude.{◌≡◌, ℕ, ◌+◌, ◌-◌, ◌<◌, ◌≤◌, Bool, true, false, if◌then◌else◌, ◌∷◌, Option, Some, None, Result, Ok, Err}
 use Rattle.aia_home.specs.declared.place.Place.{Place}
+use Rattle.aia_home.specs.declared.rest.Rest.TheVariants.{Parked}
 use Rattle.aia_home.specs.Vms.{Vcpu, vcpu}
 use Rattle.aia_home.specs.Aims.{aims_done}
 use Rattle.aia_home.specs.Home.{Home, at_first, is_moving}
@@ -26,6 +27,7 @@ use Rattle.aia_model.specs.Refusal.{refusal}
 use Rattle.aia_model.specs.Answer.{answer, steps_of, step_taken}
 use Rattle.aia_model.specs.Passes.{passes_to, passes_for}
 use Rattle.aia_moving.specs.Targets.{Aim, next_aim}
+use Rattle.aia_moving.specs.declared.who.KeptNumbers.{KeptNumbers}
 use Rattle.aia_moving.specs.declared.who.Who.{Who}
 use Rattle.aia_move.specs.declared.plan.Next.{Next}
 use Rattle.aia_move.specs.declared.plan.Next.TheVariants.{Again, Finished}
@@ -43,7 +45,7 @@ use Rattle.aia_model.specs.declared.want.Want.{Want}
 use Rattle.aia_model.specs.declared.want.Want.TheVariants as wants
 use Rattle.aia_standing.specs.declared.vcpu.Stay.{Stay}
 use Rattle.aia_standing.specs.declared.vcpu.Stay.TheVariants as stays
-use Rattle.aia_standing.specs.Core.{CoreState, record_of, home_in}
+use Rattle.aia_standing.specs.Core.{CoreState, record_of, home_in, parked_at}
 use Rattle.aia_standing.specs.Stands.{CoreStands}
 use Rattle.aia_standing.specs.Passes.{StepsAim}
 
@@ -80,26 +82,25 @@ abbrev pub LeaveBegins : Who → Stay → Stay → Leases → Leases → Answer 
 LeaveBegins who (stays.Resident from) new was now given = (given ≡ Okay)
     × IsBegun new (record { who = who; home = Leaving from at_first; hand = empty_hand })
     × (now ≡ was)
-LeaveBegins who (stays.Parked kept) new was now given =
-    Refuses refusals.Parked (stays.Parked kept) new was now given
-LeaveBegins who (stays.Entered kept) new was now given =
-    Refuses refusals.Parked (stays.Entered kept) new was now given
+LeaveBegins who (stays.InMemory rest kept) new was now given =
+    Refuses refusals.Parked (stays.InMemory rest kept) new was now given
 LeaveBegins who (stays.Moving plan) new was now given =
     Refuses refusals.Busy (stays.Moving plan) new was now given
 
-abbrev pub ArriveBegins : Who → ℕ → Stay → Stay → Leases → Leases → Answer → Type 0
-ArriveBegins who hart (stays.Parked kept) new was now given =
+-- An arrival begins by what is kept of one that is parked; any other is refused with its word.
+abbrev pub ArriveFrom : Result KeptNumbers Refusal → Who → ℕ → Stay → Stay → Leases → Leases → Answer
+    → Type 0
+ArriveFrom (Ok kept) who hart old new was now given =
     BeginsIn (least_free was hart) hart (λ to. record {
       who = who;
       home = Arriving to at_first;
       hand = record empty_hand { delivery = kept.delivery; threshold = kept.threshold };
-    }) (stays.Parked kept) new was now given
-ArriveBegins who hart (stays.Resident from) new was now given =
-    Refuses refusals.Home (stays.Resident from) new was now given
-ArriveBegins who hart (stays.Entered kept) new was now given =
-    Refuses refusals.Entered (stays.Entered kept) new was now given
-ArriveBegins who hart (stays.Moving plan) new was now given =
-    Refuses refusals.Busy (stays.Moving plan) new was now given
+    }) old new was now given
+ArriveFrom (Err word) who hart old new was now given = Refuses word old new was now given
+
+abbrev pub ArriveBegins : Who → ℕ → Stay → Stay → Leases → Leases → Answer → Type 0
+ArriveBegins who hart old new was now given =
+    ArriveFrom (parked_at old) who hart old new was now given
 
 abbrev pub ShiftBegins : Who → ℕ → Stay → Stay → Leases → Leases → Answer → Type 0
 ShiftBegins who hart (stays.Resident from) new was now given =
@@ -108,10 +109,8 @@ ShiftBegins who hart (stays.Resident from) new was now given =
       home = Shifting from to at_first;
       hand = empty_hand;
     }) (stays.Resident from) new was now given
-ShiftBegins who hart (stays.Parked kept) new was now given =
-    Refuses refusals.Parked (stays.Parked kept) new was now given
-ShiftBegins who hart (stays.Entered kept) new was now given =
-    Refuses refusals.Parked (stays.Entered kept) new was now given
+ShiftBegins who hart (stays.InMemory rest kept) new was now given =
+    Refuses refusals.Parked (stays.InMemory rest kept) new was now given
 ShiftBegins who hart (stays.Moving plan) new was now given =
     Refuses refusals.Busy (stays.Moving plan) new was now given
 
@@ -147,7 +146,7 @@ pub record MoveBegins (old new : CoreState) (vm number : ℕ) (want : Want) (giv
 
 -- Where a virtual hart is at the end of its move, and the guest file that it gives back.
 abbrev pub stay_after : Outcome → Stay
-stay_after (Left file kept) = stays.Parked kept
+stay_after (Left file kept) = stays.InMemory Parked kept
 stay_after (Arrived file) = stays.Resident file
 stay_after (Shifted old new) = stays.Resident new
 

@@ -19,7 +19,8 @@ use Rattle.aia_entry.specs.Tables.{table_of, entry_in_force}
 use Rattle.aia_home.specs.declared.place.Place.{Place}
 use Rattle.aia_home.specs.Vms.{Vcpu, vcpus_in, slot_of, notice_hart, all_vcpus}
 use Rattle.aia_home.specs.Home.{holds, is_moving}
-use Rattle.aia_home.specs.Home.Home.{Parked}
+use Rattle.aia_home.specs.declared.rest.Rest.TheVariants.{Parked}
+use Rattle.aia_home.specs.Home.Home.{InMemory}
 use Rattle.aia_places.specs.Places.{leads_to}
 use Rattle.aia_places.specs.Holds.{Holds}
 use Rattle.aia_places.specs.Stores.{AreApart}
@@ -135,7 +136,7 @@ pub record CoreStands (x : CoreState) (h : History) : Type 0 where
       → shown (file_at x.world.imsic (spot_of p)) ≡ empty_file (greatest_identity_of h)
   pub no_vcpu : (g : Vcpu) → has_vcpu h g ≡ false
       → (guest_file h g ≡ empty_file (greatest_identity_of h)) × (guest_select h g ≡ 0)
-      × (home h g ≡ Parked) × (majors_of h g ≡ new_majors)
+      × (home h g ≡ InMemory Parked) × (majors_of h g ≡ new_majors)
   pub no_entry : (g : Vcpu) → has_vm h g.vm ≡ true → has_vcpu h g ≡ false
       → entry_in_force (table_of x.world.tables g.vm) g.number ≡ NotValid
   pub no_slot : (q : ℕ) → vcpus_in (vms_of h) ≤ q → q < VCPUS

@@ -1,7 +1,7 @@
 ghost use Rattle.std.specs.Prelude.{◌≡◌};
 ghost use Rattle.aia_standing.specs.Core.{no_record, resident_at, entered_at, parked_at, runs_in, has_plan};
 
-use aia_home::Place;
+use aia_home::{Place, Rest};
 use aia_major::VsMajor;
 use aia_model::Refusal;
 use aia_move::{KeptNumbers, Plan};
@@ -10,11 +10,9 @@ use aia_pool::FileLease;
 /// Where a virtual hart is: what the hypervisor keeps of it there.
 #[derive(Drop)]
 pub enum Stay {
-    /// It is parked, its interrupts in its slot of memory.
-    Parked(KeptNumbers),
-    /// It runs from memory: its interrupts are in its slot, and its instructions on the CSRs of its
-    /// interrupt file are answered from there.
-    Entered(KeptNumbers),
+    /// Its interrupts rest in its slot of memory, with the numbers that are kept of it. Where it is
+    /// entered, its instructions on the CSRs of its interrupt file are answered from there.
+    InMemory(Rest, KeptNumbers),
     /// It is resident in the guest file of this lease.
     Resident(FileLease),
     /// It is being moved.
@@ -29,7 +27,7 @@ impl Stay {
     {
         match self {
             Stay::Resident(lease) => Some(lease.place()),
-            Stay::Parked(_) | Stay::Entered(_) | Stay::Moving(_) => None,
+            Stay::InMemory(..) | Stay::Moving(_) => None,
         }
     }
 
@@ -39,8 +37,8 @@ impl Stay {
         ensures { result ≡ entered_at self.now }
     {
         match self {
-            Stay::Entered(kept) => Some(*kept),
-            Stay::Parked(_) | Stay::Resident(_) | Stay::Moving(_) => None,
+            Stay::InMemory(Rest::Entered, kept) => Some(*kept),
+            Stay::InMemory(Rest::Parked, _) | Stay::Resident(_) | Stay::Moving(_) => None,
         }
     }
 
@@ -50,8 +48,8 @@ impl Stay {
         ensures { result ≡ parked_at self.now }
     {
         match self {
-            Stay::Parked(kept) => Ok(*kept),
-            Stay::Entered(_) => Err(Refusal::Entered),
+            Stay::InMemory(Rest::Parked, kept) => Ok(*kept),
+            Stay::InMemory(Rest::Entered, _) => Err(Refusal::Entered),
             Stay::Resident(_) => Err(Refusal::Home),
             Stay::Moving(_) => Err(Refusal::Busy),
         }
@@ -61,7 +59,7 @@ impl Stay {
     pub fn runs(&self) -> bool
         ensures { result ≡ runs_in self.now }
     {
-        matches!(self, Stay::Resident(_) | Stay::Entered(_))
+        matches!(self, Stay::Resident(_) | Stay::InMemory(Rest::Entered, _))
     }
 
     /// Tells whether it is being moved.
@@ -90,10 +88,13 @@ impl VcpuRecord {
         ensures { result ≡ no_record }
     {
         VcpuRecord {
-            stay: Stay::Parked(KeptNumbers {
-                delivery: 0,
-                threshold: 0,
-            }),
+            stay: Stay::InMemory(
+                Rest::Parked,
+                KeptNumbers {
+                    delivery: 0,
+                    threshold: 0,
+                },
+            ),
             select: 0,
             majors: VsMajor::new(),
         }

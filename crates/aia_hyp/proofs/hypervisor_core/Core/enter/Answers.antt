@@ -2,7 +2,7 @@ use Rattle.std.proofs.Common.{refl, subst, arith}
 use Rattle.std.specs.Prelude.{slice_index_or}
 use Rattle.aia_model.specs.declared.answer.Answer.TheVariants.{Okay}
 use Rattle.aia_model.specs.declared.line.Line.TheVariants.{Enter}
-use Rattle.aia_standing.specs.Core.{CoreState, no_record}
+use Rattle.aia_standing.specs.Core.{CoreState, no_record, parked_at}
 use Rattle.aia_standing.specs.Memory.{EntersFrom}
 use Rattle.aia_standing.specs.Stands.{CoreTakes, answer_by}
 use Rattle.aia_standing.proofs.EventLemmas.{still}
@@ -27,7 +27,7 @@ taken c =
     let named = c.in-Some.ensures.named in
     subst (λ vm. CoreTakes x y (Enter vm c.args.number) given) named.0 (subst (λ number. CoreTakes x y (Enter found.vm number) given) named.1
     (enters x y found.vm found.number _ given (record { there = is.there; world = refl; leases = refl; selects = refl; passes = refl }) refl
-    (subst (λ q. EntersFrom (slice_index_or x.vcpus q no_record).stay x.vcpus y.vcpus q given) is.slot c.enter_in.ensures.enters)))
+    (subst (λ q. EntersFrom (parked_at (slice_index_or x.vcpus q no_record).stay) x.vcpus y.vcpus q given) is.slot c.enter_in.ensures.enters)))
 
 pub invariant_of-self : goal.invariant_of-self
 invariant_of-self c = (still _ _ _ _ (taken c) c.self.invariant.0, (let room = c.enter_in.ensures.room in let before = c.self.invariant.1 in omega (arith, room, before)))

@@ -17,6 +17,7 @@ use Rattle.aia_model.specs.declared.part.Part.TheVariants as parts
 use Rattle.aia_model.specs.Image.{is_loadable, majors_loaded}
 use Rattle.aia_moving.specs.declared.who.KeptNumbers.{KeptNumbers}
 use Rattle.aia_world.specs.declared.found.Found.{Found}
+use Rattle.aia_home.specs.declared.rest.Rest.TheVariants.{Parked}
 use Rattle.aia_standing.specs.declared.vcpu.Stay.TheVariants as stays
 use Rattle.std.specs.Prelude.{slice_index_or, slice_set}
 use Rattle.aia_standing.specs.Core.{CoreState, no_record, record_of, MajorsDone}
@@ -30,7 +31,7 @@ use Rattle.aia_hyp.proofs.hypervisor_core.Core.load_into.Goals.{After-load_numbe
 use Rattle.aia_hyp.proofs.hypervisor_core.Core.load_into.Goals as goal
 
 -- what is known before the load
-module _ (x z : CoreState) (found : Found) (kept : KeptNumbers) (part : Part) (view : x ≡ z) (is_found : IsFound z.world found) (is_whole : IsWhole z.world) (parked : (record_of z (vcpu found.vm found.number)).stay ≡ stays.Parked kept) (loadable : is_loadable z.world.n part ≡ true) where
+module _ (x z : CoreState) (found : Found) (kept : KeptNumbers) (part : Part) (view : x ≡ z) (is_found : IsFound z.world found) (is_whole : IsWhole z.world) (parked : (record_of z (vcpu found.vm found.number)).stay ≡ stays.InMemory Parked kept) (loadable : is_loadable z.world.n part ≡ true) where
   is_of : IsFound x.world found
   is_of = subst (λ (s : CoreState). IsFound s.world found) (sym view) is_found
 
@@ -38,7 +39,7 @@ module _ (x z : CoreState) (found : Found) (kept : KeptNumbers) (part : Part) (v
   load_of y made is leases selects passes = record {
     inside = is_of.there;
     whole = subst (λ (s : CoreState). IsWhole s.world) (sym view) is_whole;
-    at = subst (λ (s : CoreState). (record_of s (vcpu found.vm found.number)).stay ≡ stays.Parked kept) (sym view) parked;
+    at = subst (λ (s : CoreState). (record_of s (vcpu found.vm found.number)).stay ≡ stays.InMemory Parked kept) (sym view) parked;
     good = subst (λ (p : Part). is_loadable x.world.n p ≡ true) is (subst (λ (s : CoreState). is_loadable s.world.n part ≡ true) (sym view) loadable);
     leases = leases;
     selects = selects;
@@ -60,7 +61,7 @@ numbers c =
       load = load_of x c.args.self.now found c.args.kept c.args.part c.self.view_is r.found r.whole r.parked r.loadable y _ i.is refl refl refl;
       world = refl;
       low = subst (λ q. q < length x.vcpus) is.slot low;
-      vcpus = subst (λ q. y.vcpus ≡ slice_set x.vcpus q (record (slice_index_or x.vcpus q no_record) { stay = stays.Parked now; select = select_written (ops.Write i.select) (slice_index_or x.vcpus q no_record).select })) is.slot c.load_numbers_in.ensures.after;
+      vcpus = subst (λ q. y.vcpus ≡ slice_set x.vcpus q (record (slice_index_or x.vcpus q no_record) { stay = stays.InMemory Parked now; select = select_written (ops.Write i.select) (slice_index_or x.vcpus q no_record).select })) is.slot c.load_numbers_in.ensures.after;
       is_delivery = c.from.ensures ∙ a_bit i.delivery;
       is_threshold = c.from-in-Image.ensures;
     }))

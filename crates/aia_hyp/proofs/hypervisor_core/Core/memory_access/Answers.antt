@@ -13,6 +13,7 @@ use Rattle.aia_moving.specs.declared.who.KeptNumbers.{KeptNumbers}
 use Rattle.aia_model.specs.declared.answer.Answer.TheVariants.{Wide}
 use Rattle.aia_model.specs.declared.line.Line.TheVariants.{GuestCsr}
 use Rattle.aia_model.specs.FileAfter.FileDeed.{Accesses}
+use Rattle.aia_home.specs.declared.rest.Rest.TheVariants.{Entered}
 use Rattle.aia_standing.specs.declared.vcpu.Stay.TheVariants as stays
 use Rattle.aia_standing.specs.Core.{CoreState, no_record, record_of}
 use Rattle.aia_standing.specs.Memory.{file_in_memory, kept_after}
@@ -27,7 +28,7 @@ use Rattle.aia_hyp.proofs.hypervisor_core.Core.memory_access.Goals as goal
 record IsAsked (x : CoreState) (g : Vcpu) (kept : KeptNumbers) : Type 0 where
   there : is_vcpu_in x.world.vms g ≡ true
   whole : IsWhole x.world
-  at : (record_of x g).stay ≡ stays.Entered kept
+  at : (record_of x g).stay ≡ stays.InMemory Entered kept
 
 asked : (x y : CoreState) (g : Vcpu) (kept : KeptNumbers) → x ≡ y → IsAsked y g kept → IsAsked x g kept
 asked x y g kept e a = subst (λ (z : CoreState). IsAsked z g kept) (sym e) a
@@ -66,11 +67,11 @@ number_taken c =
     let low = slot_low x c.args.self.now c.args.found c.self.view_is c.self.invariant.0 c.requires.found in
     let all : modulus ≡ x.world.n + 1 = ap (λ m. 64 * m) c.from-modulus.ensures ∙ c.words.ensures.all in
     let number = sym c.is_number.ensures ∙ c.if-is_number.true in
-    let after = record (record_of x g) { stay = stays.Entered now } in
+    let after = record (record_of x g) { stay = stays.InMemory Entered now } in
     memory_accessed x y c.args.found.vm c.args.found.number c.args.csr csrs.Reg op kept now (reaches.File reg) c.access_kept_in.result a.whole a.there a.at table refl refl named.0
     (c.access_kept_in.ensures.value ∙ number_value x.world (slot_of x.world.vms g) kept reg number ∙ ap (register_value (file_in_memory x.world (slot_of x.world.vms g) kept)) (sym named.1))
     (memory_record_done x y g kept now (Accesses csrs.Reg op) refl refl refl refl low after
-    (subst (λ q. y.vcpus ≡ set x.vcpus q (record (get_or x.vcpus q no_record) { stay = stays.Entered now })) slot c.access_kept_in.ensures.after)
+    (subst (λ q. y.vcpus ≡ set x.vcpus q (record (get_or x.vcpus q no_record) { stay = stays.InMemory Entered now })) slot c.access_kept_in.ensures.after)
     refl refl refl (subst (λ (r : FileReg). SameFile (file_in_memory x.world (slot_of x.world.vms g) now) (accessed r op (file_in_memory x.world (slot_of x.world.vms g) kept))) (sym named.1) (number_accessed x.world (slot_of x.world.vms g) modulus kept reg op number all))) tt
 
 sets_taken : (c : After-slot_reg) → CoreTakes (record { world = c.self.inside.fabric; leases = c.self.inside.pool; vcpus = c.self.inside.vcpus.items; selects = c.self.inside.selects; passes = c.self.inside.passes }) (record { world = c.slot_reg.new.self; leases = c.self.inside.pool; vcpus = c.self.inside.vcpus.items; selects = c.self.inside.selects; passes = c.self.inside.passes }) (GuestCsr c.args.found.vm c.args.found.number c.args.csr c.args.op) (Wide c.slot_reg.result)

@@ -5,6 +5,7 @@ use Rattle.aia_world.specs.World.{World}
 use Rattle.aia_world.specs.Stores.{Posts}
 use Rattle.aia_model.specs.declared.answer.Answer.TheVariants.{Okay}
 use Rattle.aia_model.specs.declared.line.Line.TheVariants.{Exit}
+use Rattle.aia_home.specs.declared.rest.Rest.TheVariants.{Parked, Entered}
 use Rattle.aia_standing.specs.declared.vcpu.Stay.TheVariants as stays
 use Rattle.aia_standing.specs.Core.{CoreState, record_of}
 use Rattle.aia_standing.specs.Memory.{with_stay}
@@ -22,7 +23,7 @@ told c =
     let found = c.args.found in
     let g = vcpu found.vm found.number in
     let is = subst (λ (z : CoreState). IsFound z.world found) (sym c.self.view_is) c.requires.found in
-    let was = subst (λ (z : CoreState). (record_of z g).stay ≡ stays.Entered c.args.kept) (sym c.self.view_is) c.requires.entered in
+    let was = subst (λ (z : CoreState). (record_of z g).stay ≡ stays.InMemory Entered c.args.kept) (sym c.self.view_is) c.requires.entered in
     let whole = c.words-whole.ensures.whole in
     let told : (w : World) → w ≡ x.world → ((g : Vcpu) → is_vcpu_in w.vms g ≡ true → slot_of w.vms g ≡ found.slot → Posts w y.world (spots.SupervisorFile (notice_hart w.vms g)) (found.slot + 1)) → Posts x.world y.world (spots.SupervisorFile (notice_hart x.world.vms g)) (notice_identity x.world.vms g) =
     λ w same by. subst (λ s. Posts x.world y.world (spots.SupervisorFile (notice_hart x.world.vms g)) (s + 1)) is.slot
@@ -31,7 +32,7 @@ told c =
       whole = whole;
       there = is.there;
       was = was;
-      vcpus = subst (λ q. y.vcpus ≡ with_stay x.vcpus q (stays.Parked c.args.kept)) is.slot c.put_stay.ensures.after;
+      vcpus = subst (λ q. y.vcpus ≡ with_stay x.vcpus q (stays.InMemory Parked c.args.kept)) is.slot c.put_stay.ensures.after;
       leases = refl;
       selects = refl;
       passes = refl;
@@ -47,13 +48,13 @@ untold c =
     let found = c.args.found in
     let g = vcpu found.vm found.number in
     let is = subst (λ (z : CoreState). IsFound z.world found) (sym c.self.view_is) c.requires.found in
-    let was = subst (λ (z : CoreState). (record_of z g).stay ≡ stays.Entered c.args.kept) (sym c.self.view_is) c.requires.entered in
+    let was = subst (λ (z : CoreState). (record_of z g).stay ≡ stays.InMemory Entered c.args.kept) (sym c.self.view_is) c.requires.entered in
     let whole = c.words-whole.ensures.whole in
     exits x y found.vm found.number c.args.kept (record {
       whole = whole;
       there = is.there;
       was = was;
-      vcpus = subst (λ q. y.vcpus ≡ with_stay x.vcpus q (stays.Parked c.args.kept)) is.slot c.put_stay.ensures.after;
+      vcpus = subst (λ q. y.vcpus ≡ with_stay x.vcpus q (stays.InMemory Parked c.args.kept)) is.slot c.put_stay.ensures.after;
       leases = refl;
       selects = refl;
       passes = refl;

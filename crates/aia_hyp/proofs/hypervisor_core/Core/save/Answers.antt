@@ -6,13 +6,15 @@ use Rattle.aia_model.specs.declared.answer.Answer.TheVariants as kinds
 use Rattle.aia_model.specs.declared.answer.Answer.TheVariants.{Refused}
 use Rattle.aia_model.specs.declared.line.Line.TheVariants.{Save}
 use Rattle.aia_model.specs.Image.{part_of}
+use Rattle.aia_home.specs.declared.rest.Rest.TheVariants.{Parked}
 use Rattle.aia_standing.specs.declared.vcpu.Stay.TheVariants as stays
 use Rattle.aia_standing.specs.Core.{CoreState, record_of, parked_at}
 use Rattle.aia_standing.specs.Images.{state_in}
 use Rattle.aia_world.specs.Found.{IsFound}
 use Rattle.aia_standing.specs.Stands.{StandsForSome, CoreTakes}
 use Rattle.aia_standing.proofs.MoveCalls.{who_low}
-use Rattle.aia_standing.proofs.ImageLines.{no_vcpu_to_save, no_such_part, not_parked_to_save, saves, found_few, found_stay, parked_is, small_number}
+use Rattle.aia_standing.proofs.ImageLines.{no_vcpu_to_save, no_such_part, not_parked_to_save, saves, found_few, found_stay, small_number}
+use Rattle.aia_standing.proofs.RestLemmas.{parked_is}
 use Rattle.aia_hyp.proofs.hypervisor_core.Core.save.Goals.{In_ok-kept}
 use Rattle.aia_hyp.proofs.hypervisor_core.Core.save.Goals as goal
 
@@ -49,7 +51,7 @@ pub part-requires-clause-there : goal.part-requires-clause-there
 part-requires-clause-there c =
     who_low c.args.self.now c.in-Some.found (subst StandsForSome c.self.view_is c.self.invariant.0) (subst (λ (z : CoreState). IsFound z.world c.in-Some.found) c.self.view_is c.in-Some.ensures.there)
 
-parked_there : (c : In_ok-kept) → (record_of c.args.self.now (vcpu c.in-Some.found.vm c.in-Some.found.number)).stay ≡ stays.Parked c.in_ok-kept.kept
+parked_there : (c : In_ok-kept) → (record_of c.args.self.now (vcpu c.in-Some.found.vm c.in-Some.found.number)).stay ≡ stays.InMemory Parked c.in_ok-kept.kept
 parked_there c =
     let is = subst (λ (z : CoreState). IsFound z.world c.in-Some.found) c.self.view_is c.in-Some.ensures.there in
     parked_is _ c.in_ok-kept.kept (sym (found_stay c.args.self.now c.in-Some.found is c.parked.result parked_at c.parked.ensures) ∙ c.in_ok-kept.was)
