@@ -49,11 +49,10 @@ pub leave_to_fence : (there : Home) → is_moving there ≡ false → rests_in_m
 leave_to_fence (Resident p) idle kept = refl
 leave_to_fence there idle kept = absurd (cc)
 
-pub arrive_to_fence : (hart : ℕ) (file : Option ℕ) (there : Home) → is_moving there ≡ false → is_resident there ≡ false → is_entered there ≡ false → is_none file ≡ false
+pub arrive_to_fence : (hart : ℕ) (file : Option ℕ) (there : Home) → there ≡ InMemory Parked → is_none file ≡ false
     → FenceIn (arrive_step 0 Fence) (option_map_or (λ f. arriving (guest_place hart f) there) file there)
-arrive_to_fence hart None there idle away waits free = absurd (cc)
-arrive_to_fence hart (Some f) (InMemory Parked) idle away waits free = refl
-arrive_to_fence hart (Some f) there idle away waits free = absurd (cc)
+arrive_to_fence hart None there parked free = absurd (cc)
+arrive_to_fence hart (Some f) there parked free = rw parked refl
 
 pub shift_to_fence : (hart : ℕ) (file : Option ℕ) (there : Home) → is_moving there ≡ false → rests_in_memory there ≡ false → is_none file ≡ false
     → FenceIn (shift_step 0 Fence) (option_map_or (λ f. shifting (guest_place hart f) there) file there)

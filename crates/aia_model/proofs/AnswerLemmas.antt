@@ -38,6 +38,7 @@ use Rattle.aia_model.specs.FileOf.{MachineFile, SupervisorFile, page_at, select_
 use Rattle.aia_model.specs.Refusal.{refusal, raises_illegal, raises_virtual, guest_access, faults, guards, is_machine_size, lacks_machine, is_vm_size, is_full, serves}
 use Rattle.aia_model.specs.Passable.{redirects, redirects_by, is_passable}
 use Rattle.aia_model.specs.Answer.{answer, after, accepted_answer, history_after}
+use Rattle.aia_model.proofs.RefusalLemmas.{unless_parked}
 
 pub answered : (h : History) (line : Line) (r : Option Answer) → refusal h line ≡ r → answer h line ≡ unwrap_or r (accepted_answer h line)
 unfolding answer
@@ -156,8 +157,7 @@ abbrev pub no_file_refusal : History → ℕ → Option Answer
 no_file_refusal h hart = cond (is_none (free_file h (home h) hart)) (Some (Refused NoFile)) None
 
 pub arrive_refusal : (h : History) (vm number hart : ℕ) → has_machine h ≡ true
-    → refusal h (lines.Move vm number (wants.Arrive hart)) ≡ cond (not (has_vcpu h (vcpu vm number) && has_hart h hart)) (Some (Refused Range)) (cond (is_moving (home h (vcpu vm number))) (Some (Refused Busy))
-    (cond (is_resident (home h (vcpu vm number))) (Some (Refused words.Home)) (cond (is_entered (home h (vcpu vm number))) (Some (Refused words.Entered)) (no_file_refusal h hart))))
+    → refusal h (lines.Move vm number (wants.Arrive hart)) ≡ cond (not (has_vcpu h (vcpu vm number) && has_hart h hart)) (Some (Refused Range)) (unless_parked (home h (vcpu vm number)) (no_file_refusal h hart))
 arrive_refusal h vm number hart there = past_machine h _ there
 
 pub leave_refusal : (h : History) (vm number : ℕ) → has_machine h ≡ true
@@ -179,24 +179,19 @@ pub step_refusal : (h : History) (vm number : ℕ) → has_machine h ≡ true
 step_refusal h vm number there = past_machine h _ there
 
 pub enter_refusal : (h : History) (vm number : ℕ) → has_machine h ≡ true
-    → refusal h (Enter vm number) ≡ cond (not (has_vcpu h (vcpu vm number))) (Some (Refused Range)) (cond (is_moving (home h (vcpu vm number))) (Some (Refused Busy))
-    (cond (is_resident (home h (vcpu vm number))) (Some (Refused words.Home)) (cond (is_entered (home h (vcpu vm number))) (Some (Refused words.Entered)) None)))
+    → refusal h (Enter vm number) ≡ cond (not (has_vcpu h (vcpu vm number))) (Some (Refused Range)) (unless_parked (home h (vcpu vm number)) None)
 enter_refusal h vm number there = past_machine h _ there
 
 pub exit_refusal : (h : History) (vm number : ℕ) → has_machine h ≡ true
     → refusal h (Exit vm number) ≡ cond (not (has_vcpu h (vcpu vm number))) (Some (Refused Range)) (cond (not (is_entered (home h (vcpu vm number)))) (Some (Refused Idle)) None)
 exit_refusal h vm number there = past_machine h _ there
 
--- of a line that wants a virtual hart parked, where what it names is in range
-abbrev pub unless_parked : History → Vcpu → Option Answer
-unless_parked h g = cond (is_moving (home h g)) (Some (Refused Busy)) (cond (is_resident (home h g)) (Some (Refused words.Home)) (cond (is_entered (home h g)) (Some (Refused words.Entered)) None))
-
 pub save_refusal : (h : History) (vm number k : ℕ) → has_machine h ≡ true
-    → refusal h (Save vm number k) ≡ cond (not (has_vcpu h (vcpu vm number) && nat_lt k (parts_in (file_words h)))) (Some (Refused Range)) (unless_parked h (vcpu vm number))
+    → refusal h (Save vm number k) ≡ cond (not (has_vcpu h (vcpu vm number) && nat_lt k (parts_in (file_words h)))) (Some (Refused Range)) (unless_parked (home h (vcpu vm number)) None)
 save_refusal h vm number k there = past_machine h _ there
 
 pub load_part_refusal : (h : History) (vm number : ℕ) (part : Part) → has_machine h ≡ true
-    → refusal h (LoadPart vm number part) ≡ cond (not (has_vcpu h (vcpu vm number) && is_loadable (greatest_identity_of h) part)) (Some (Refused Range)) (unless_parked h (vcpu vm number))
+    → refusal h (LoadPart vm number part) ≡ cond (not (has_vcpu h (vcpu vm number) && is_loadable (greatest_identity_of h) part)) (Some (Refused Range)) (unless_parked (home h (vcpu vm number)) None)
 load_part_refusal h vm number part there = past_machine h _ there
 
 pub guest_refusal : (h : History) (vm number : ℕ) (csr : Csr) (op : Op) → has_machine h ≡ true

@@ -139,11 +139,10 @@ leave_left : (passes words : ℕ) (there : Home) → is_moving there ≡ false �
 leave_left passes words (Resident p) idle kept = omega arith
 leave_left passes words there idle kept = absurd (cc)
 
-arrive_left : (passes words hart : ℕ) (file : Option ℕ) (there : Home) → is_moving there ≡ false → is_resident there ≡ false → is_entered there ≡ false → is_none file ≡ false
+arrive_left : (passes words hart : ℕ) (file : Option ℕ) (there : Home) → there ≡ InMemory Parked → is_none file ≡ false
     → steps_left passes words (option_map_or (λ f. arriving (guest_place hart f) there) file there) ≡ arrive_steps words + passes
-arrive_left passes words hart None there idle away waits free = absurd (cc)
-arrive_left passes words hart (Some f) (InMemory Parked) idle away waits free = omega arith
-arrive_left passes words hart (Some f) there idle away waits free = absurd (cc)
+arrive_left passes words hart None there parked free = absurd (cc)
+arrive_left passes words hart (Some f) there parked free = rw parked (omega arith)
 
 shift_left : (passes words hart : ℕ) (file : Option ℕ) (there : Home) → is_moving there ≡ false → rests_in_memory there ≡ false → is_none file ≡ false
     → steps_left passes words (option_map_or (λ f. shifting (guest_place hart f) there) file there) ≡ shift_steps words + passes
@@ -156,7 +155,7 @@ unfolding passes_of
 arrive_happens h g hart e good =
     let may = arrive_allowed h g.vm g.number hart e in
     steps_happen (arrive_steps (file_words h) + passes_for h g) g (Began (Arrives g hart) ∷ h) may.0
-    (ap (steps_left (passes_for h g) (file_words h)) (home_step (Began (Arrives g hart)) h g ∙ cond-true _ _ _ (is_itself g)) ∙ arrive_left (passes_for h g) (file_words h) hart (free_file h (home h) hart) (home h g) may.1 may.2 may.5 may.3)
+    (ap (steps_left (passes_for h g) (file_words h)) (home_step (Began (Arrives g hart)) h g ∙ cond-true _ _ _ (is_itself g)) ∙ arrive_left (passes_for h g) (file_words h) hart (free_file h (home h) hart) (home h g) may.2 may.3)
     ((may.0, may.1, may.4), good)
 
 leave_happens : (h : History) (g : Vcpu) → refusal h (lines.Move g.vm g.number wants.Leave) ≡ None → IsHistory h → IsHistory (whole_move h (Leaves g))

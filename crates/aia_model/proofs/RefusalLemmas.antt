@@ -1,5 +1,5 @@
 -- What holds where a line is not refused: no word's cell.
-use Rattle.std.proofs.Common.{length, nat_lt, nat_le, ◌||◌, ◌≡◌, ℕ, ◌+◌, ◌%◌, ◌<◌, ◌≤◌, Bool, true, false, not, ◌&&◌, cond, nat_eq, is_none, Option, Some, None, refl}
+use Rattle.std.proofs.Common.{length, nat_lt, nat_le, ◌||◌, ◌≡◌, ℕ, ◌+◌, ◌%◌, ◌<◌, ◌≤◌, Bool, true, false, not, ◌&&◌, cond, nat_eq, is_none, Option, Some, None, refl, ap}
 use Rattle.std.proofs.lemmas.Bool.{and_parts, or_parts, not-false, ltb-false, ltb-true, leb-false}
 use Rattle.aia_regs.specs.declared.limits.TheConstants.{VCPUS, PASSES}
 use Rattle.aia_regs.specs.declared.access.Csr.{Csr}
@@ -14,6 +14,8 @@ use Rattle.aia_model.specs.declared.line.Line.TheVariants.{Send, Land, Machine, 
 use Rattle.aia_model.specs.declared.line.Line.TheVariants as lines
 use Rattle.aia_model.specs.declared.want.Want.TheVariants as wants
 use Rattle.aia_model.specs.declared.answer.Answer.{Answer}
+use Rattle.aia_model.specs.declared.answer.Answer.TheVariants.{Refused}
+use Rattle.aia_model.specs.declared.refusal.Refusal.TheVariants as words
 use Rattle.aia_model.specs.declared.part.Part.{Part}
 use Rattle.aia_model.specs.Image.{parts_in, is_loadable}
 use Rattle.aia_model.specs.Event.{History, has_machine, has_hart, greatest_identity_of, file_words, sources_of}
@@ -92,17 +94,24 @@ store_allowed h addr value e =
     let free = passed (guards (page_at h addr) addr || redirects h addr value) _ _ sound.1 in
     (or_parts (guards (page_at h addr) addr) (redirects h addr value) free.0).1
 
+-- what refuses a line that wants a virtual hart parked, and then what else may: nothing of the
+-- first only where it is parked
+abbrev pub unless_parked : Home → Option Answer → Option Answer
+unless_parked there later = cond (is_moving there) (Some (Refused words.Busy)) (cond (is_resident there) (Some (Refused words.Home)) (cond (is_entered there) (Some (Refused words.Entered)) later))
+
+only_parked : (there : Home) (later : Option Answer) → unless_parked there later ≡ None → (there ≡ InMemory Parked) × (later ≡ None)
+only_parked (InMemory Parked) later e = (refl, e)
+only_parked there later e = absurd (cc)
+
 pub arrive_allowed : (h : History) (vm number hart : ℕ) → refusal h (lines.Move vm number (wants.Arrive hart)) ≡ None
-    → (has_vcpu h (vcpu vm number) ≡ true) × (is_moving (home h (vcpu vm number)) ≡ false) × (is_resident (home h (vcpu vm number)) ≡ false) × (is_none (free_file h (home h) hart) ≡ false) × (has_hart h hart ≡ true) × (is_entered (home h (vcpu vm number)) ≡ false)
+    → (has_vcpu h (vcpu vm number) ≡ true) × (is_moving (home h (vcpu vm number)) ≡ false) × (home h (vcpu vm number) ≡ InMemory Parked) × (is_none (free_file h (home h) hart) ≡ false) × (has_hart h hart ≡ true)
 arrive_allowed h vm number hart e =
     let stands = passed (not (has_machine h)) _ _ e in
     let there = passed (not (has_vcpu h (vcpu vm number) && has_hart h hart)) _ _ stands.1 in
-    let idle = passed (is_moving (home h (vcpu vm number))) _ _ there.1 in
-    let away = passed (is_resident (home h (vcpu vm number))) _ _ idle.1 in
-    let waits = passed (is_entered (home h (vcpu vm number))) _ _ away.1 in
-    let free = passed (is_none (free_file h (home h) hart)) _ _ waits.1 in
+    let parked = only_parked (home h (vcpu vm number)) _ there.1 in
+    let free = passed (is_none (free_file h (home h) hart)) _ _ parked.1 in
     let both = and_parts (has_vcpu h (vcpu vm number)) (has_hart h hart) (not-false _ there.0) in
-    (both.0, idle.0, away.0, free.0, both.1, waits.0)
+    (both.0, ap is_moving parked.0, parked.0, free.0, both.1)
 
 pub leave_allowed : (h : History) (vm number : ℕ) → refusal h (lines.Move vm number wants.Leave) ≡ None
     → (has_vcpu h (vcpu vm number) ≡ true) × (is_moving (home h (vcpu vm number)) ≡ false) × (rests_in_memory (home h (vcpu vm number)) ≡ false)
@@ -138,13 +147,11 @@ access_allowed h vm number csr op e =
 
 -- one that enters is parked, and one that exits has entered
 pub enter_allowed : (h : History) (vm number : ℕ) → refusal h (Enter vm number) ≡ None
-    → (has_vcpu h (vcpu vm number) ≡ true) × (is_moving (home h (vcpu vm number)) ≡ false) × (is_resident (home h (vcpu vm number)) ≡ false) × (is_entered (home h (vcpu vm number)) ≡ false)
+    → (has_vcpu h (vcpu vm number) ≡ true) × (home h (vcpu vm number) ≡ InMemory Parked)
 enter_allowed h vm number e =
     let stands = passed (not (has_machine h)) _ _ e in
     let there = passed (not (has_vcpu h (vcpu vm number))) _ _ stands.1 in
-    let idle = passed (is_moving (home h (vcpu vm number))) _ _ there.1 in
-    let away = passed (is_resident (home h (vcpu vm number))) _ _ idle.1 in
-    (not-false _ there.0, idle.0, away.0, (passed (is_entered (home h (vcpu vm number))) _ _ away.1).0)
+    (not-false _ there.0, (only_parked (home h (vcpu vm number)) _ there.1).0)
 
 pub exit_allowed : (h : History) (vm number : ℕ) → refusal h (Exit vm number) ≡ None → (has_vcpu h (vcpu vm number) ≡ true) × (is_entered (home h (vcpu vm number)) ≡ true)
 exit_allowed h vm number e =
@@ -153,10 +160,6 @@ exit_allowed h vm number e =
     (not-false _ there.0, not-false _ (passed (not (is_entered (home h (vcpu vm number)))) _ _ there.1).0)
 
 -- a part of an image is saved of, and loaded into, a virtual hart that is parked, and is there
-pub only_parked : (there : Home) → is_moving there ≡ false → is_resident there ≡ false → is_entered there ≡ false → there ≡ InMemory Parked
-only_parked (InMemory Parked) moves away rests = refl
-only_parked there moves away rests = absurd (cc)
-
 pub record ImageAllowed (h : History) (g : Vcpu) (is_in_range : Bool) : Type 0 where
   pub there : has_vcpu h g ≡ true
   pub fits : is_in_range ≡ true
@@ -166,21 +169,15 @@ pub save_allowed : (h : History) (vm number k : ℕ) → refusal h (Save vm numb
 save_allowed h vm number k e =
     let stands = passed (not (has_machine h)) _ _ e in
     let there = passed (not (has_vcpu h (vcpu vm number) && nat_lt k (parts_in (file_words h)))) _ _ stands.1 in
-    let idle = passed (is_moving (home h (vcpu vm number))) _ _ there.1 in
-    let away = passed (is_resident (home h (vcpu vm number))) _ _ idle.1 in
-    let rests = passed (is_entered (home h (vcpu vm number))) _ _ away.1 in
     let both = and_parts _ _ (not-false _ there.0) in
-    record { there = both.0; fits = both.1; parked = only_parked (home h (vcpu vm number)) idle.0 away.0 rests.0 }
+    record { there = both.0; fits = both.1; parked = (only_parked (home h (vcpu vm number)) _ there.1).0 }
 
 pub load_allowed : (h : History) (vm number : ℕ) (part : Part) → refusal h (LoadPart vm number part) ≡ None → ImageAllowed h (vcpu vm number) (is_loadable (greatest_identity_of h) part)
 load_allowed h vm number part e =
     let stands = passed (not (has_machine h)) _ _ e in
     let there = passed (not (has_vcpu h (vcpu vm number) && is_loadable (greatest_identity_of h) part)) _ _ stands.1 in
-    let idle = passed (is_moving (home h (vcpu vm number))) _ _ there.1 in
-    let away = passed (is_resident (home h (vcpu vm number))) _ _ idle.1 in
-    let rests = passed (is_entered (home h (vcpu vm number))) _ _ away.1 in
     let both = and_parts _ _ (not-false _ there.0) in
-    record { there = both.0; fits = both.1; parked = only_parked (home h (vcpu vm number)) idle.0 away.0 rests.0 }
+    record { there = both.0; fits = both.1; parked = (only_parked (home h (vcpu vm number)) _ there.1).0 }
 
 -- a major that is injected is one, and hvictl takes what is written to it
 pub inject_allowed : (h : History) (vm number bit : ℕ) (level : Bool) → refusal h (Inject vm number bit level) ≡ None → is_major bit ≡ true

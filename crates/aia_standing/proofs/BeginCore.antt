@@ -27,7 +27,7 @@ use Rattle.aia_model.specs.HomeOf.{home, guest_place, free_file}
 use Rattle.aia_model.specs.Refusal.{refusal}
 use Rattle.aia_model.specs.Answer.{accepted_answer}
 use Rattle.aia_model.proofs.AnswerLemmas.{answered, arrive_refusal, leave_refusal, shift_refusal}
-use Rattle.aia_model.proofs.RefusalLemmas.{leave_allowed, arrive_allowed, shift_allowed}
+use Rattle.aia_model.proofs.RefusalLemmas.{unless_parked, leave_allowed, arrive_allowed, shift_allowed}
 use Rattle.aia_standing.specs.Passes.{own_passes}
 use Rattle.aia_model.specs.declared.want.Want.{Want}
 use Rattle.aia_model.specs.declared.want.Want.TheVariants as wants
@@ -144,12 +144,12 @@ module _ (x y : CoreState) (who : Who) (given : Answer) (h : History) (stands : 
   -- ---- an arrival
 
   arrive_refused : (new old : Stay) (hart : ℕ) (b : Bool) (o : Option ℕ) → Put x y who new → (record_of x (vcpu who.found.vm who.found.number)).stay ≡ old → has_hart h hart ≡ b → free_file h (home h) hart ≡ o
-      → refusal h (lines.Move who.found.vm who.found.number (wants.Arrive hart)) ≡ cond (not b) (Some (Refused words.Range)) (cond (is_moving (home_in old)) (Some (Refused words.Busy)) (cond (is_resident (home_in old)) (Some (Refused words.Home)) (cond (is_entered (home_in old)) (Some (Refused words.Entered)) (cond (is_none o) (Some (Refused words.NoFile)) None))))
+      → refusal h (lines.Move who.found.vm who.found.number (wants.Arrive hart)) ≡ cond (not b) (Some (Refused words.Range)) (unless_parked (home_in old) (cond (is_none o) (Some (Refused words.NoFile)) None))
   arrive_refused new old hart b o p was on free =
       let inside = is_there new p in
       let there = home_at x h g old stands inside was in
       arrive_refusal h who.found.vm who.found.number hart stands.there
-      ∙ (λ k. cond (not (inside k && on k)) (Some (Refused words.Range)) (cond (is_moving (there k)) (Some (Refused words.Busy)) (cond (is_resident (there k)) (Some (Refused words.Home)) (cond (is_entered (there k)) (Some (Refused words.Entered)) (cond (is_none (free k)) (Some (Refused words.NoFile)) None)))))
+      ∙ (λ k. cond (not (inside k && on k)) (Some (Refused words.Range)) (unless_parked (there k) (cond (is_none (free k)) (Some (Refused words.NoFile)) None)))
 
   hart_low : (hart : ℕ) → hart < x.leases.harts → has_hart h hart ≡ true
   hart_low hart low = lt-ltb hart (harts_of h) (omega (arith, low, stands.lease_harts))

@@ -41,7 +41,8 @@ use Rattle.aia_model.specs.GuestFile.{guest_file}
 use Rattle.aia_model.specs.HomeOf.{home}
 use Rattle.aia_model.specs.Notice.{noticed}
 use Rattle.aia_model.specs.Passes.{passes_of}
-use Rattle.aia_model.proofs.AnswerLemmas.{unless_parked, save_refusal, load_part_refusal}
+use Rattle.aia_model.proofs.RefusalLemmas.{unless_parked}
+use Rattle.aia_model.proofs.AnswerLemmas.{save_refusal, load_part_refusal}
 use Rattle.aia_model.proofs.MoveLemmas.{is_itself}
 use Rattle.aia_standing.specs.declared.vcpu.Stay.{Stay}
 use Rattle.aia_standing.specs.declared.vcpu.Stay.TheVariants as stays
@@ -73,8 +74,8 @@ module _ (x : CoreState) (h : History) (g : Vcpu) (kept : KeptNumbers) (stands :
   pub parked_home : home h g ≡ InMemory Parked
   parked_home = sym (stands.vcpus g there).same_home ∙ ap home_in at
 
-  pub is_not_refused : unless_parked h g ≡ None
-  is_not_refused = λ k. cond (is_moving (parked_home k)) (Some (Refused words.Busy)) (cond (is_resident (parked_home k)) (Some (Refused words.Home)) (cond (is_entered (parked_home k)) (Some (Refused words.Entered)) None))
+  pub is_not_refused : unless_parked (home h g) None ≡ None
+  is_not_refused = ap (λ t. unless_parked t None) parked_home
 
   pub its_file : IsWhole x.world → guest_file h g ≡ file_in_memory x.world (slot_of x.world.vms g) kept
   its_file whole = file_is x h g kept stands whole there (ap rests_in_memory parked_home) (ap hand_in at)
@@ -90,14 +91,11 @@ small_threshold x h g kept stands whole there at =
     omega (arith, sound, ap (λ (f : InterruptFile). f.threshold) file, guest_greatest h g, stands.greatest)
 
 -- one that is not is refused by the word for where it is
-pub not_parked : (x : CoreState) (h : History) (g : Vcpu) (stay : Stay) (word : Refusal) → CoreStands x h → has_vcpu h g ≡ true → (record_of x g).stay ≡ stay → parked_at stay ≡ Err word → unless_parked h g ≡ Some (Refused word)
-not_parked x h g stay word stands there was e = by_home ∙ word_is x.world g stay word None (subst (PlanStands x.world g) was (stands.vcpus g there).plan) e
+pub not_parked : (x : CoreState) (h : History) (g : Vcpu) (stay : Stay) (word : Refusal) → CoreStands x h → has_vcpu h g ≡ true → (record_of x g).stay ≡ stay → parked_at stay ≡ Err word → unless_parked (home h g) None ≡ Some (Refused word)
+not_parked x h g stay word stands there was e = ap (λ t. unless_parked t None) at ∙ word_is x.world g stay word None (subst (PlanStands x.world g) was (stands.vcpus g there).plan) e
   where
     at : home h g ≡ home_in stay
     at = sym (stands.vcpus g there).same_home ∙ ap home_in was
-
-    by_home : unless_parked h g ≡ cond (is_moving (home_in stay)) (Some (Refused words.Busy)) (cond (is_resident (home_in stay)) (Some (Refused words.Home)) (cond (is_entered (home_in stay)) (Some (Refused words.Entered)) None))
-    by_home = λ k. cond (is_moving (at k)) (Some (Refused words.Busy)) (cond (is_resident (at k)) (Some (Refused words.Home)) (cond (is_entered (at k)) (Some (Refused words.Entered)) None))
 
 -- where it is found
 pub found_below : (w : World) (found : Found) → IsFound w found → found.slot < vcpus_in w.vms

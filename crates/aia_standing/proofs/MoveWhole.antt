@@ -33,7 +33,7 @@ use Rattle.aia_model.specs.HomeOf.{home, guest_place, free_file}
 use Rattle.aia_model.specs.Refusal.{refusal}
 use Rattle.aia_model.proofs.FlightLemmas.{words_first, home_stepped, passes_stepped}
 use Rattle.aia_model.specs.Answer.{answer, steps_taken, steps_of, line_taken, step_taken}
-use Rattle.aia_model.proofs.RefusalLemmas.{only_parked}
+use Rattle.aia_model.proofs.RefusalLemmas.{unless_parked}
 use Rattle.aia_model.proofs.AnswerLemmas.{answered, arrive_refusal, leave_refusal, shift_refusal}
 use Rattle.aia_model.proofs.MoveLemmas.{home_step, is_itself}
 use Rattle.aia_model.specs.declared.want.Want.{Want}
@@ -131,6 +131,10 @@ passed : (b : Bool) (word : Refusal) (later : Option Answer) → Okay ≡ unwrap
 passed true word later e = absurd (cc)
 passed false word later e = (refl, e)
 
+passed_parked : (there : Home) (later : Option Answer) → Okay ≡ unwrap_or (unless_parked there later) Okay → (there ≡ InMemory Parked) × (Okay ≡ unwrap_or later Okay)
+passed_parked (InMemory Parked) later e = (refl, e)
+passed_parked there later e = absurd (cc)
+
 of_not : (b : Bool) → not b ≡ false → b ≡ true
 of_not true e = refl
 of_not false e = absurd (cc)
@@ -180,13 +184,11 @@ module _ (h : History) (vm number : ℕ) (machine : has_machine h ≡ true) wher
   arrive_accepts hart e =
       let is = arrive_refusal h vm number hart machine in
       let range = passed (not (has_vcpu h (vcpu vm number) && has_hart h hart)) words.Range _ (e ∙ ap (λ o. unwrap_or o Okay) is) in
-      let busy = passed (is_moving its) words.Busy _ range.1 in
-      let resident = passed (is_resident its) words.Home _ busy.1 in
-      let waits = passed (is_entered its) words.Entered _ resident.1 in
-      let full = passed (is_none (free_file h (home h) hart)) words.NoFile None waits.1 in
+      let parked = passed_parked its _ range.1 in
+      let full = passed (is_none (free_file h (home h) hart)) words.NoFile None parked.1 in
       record {
-        accepted = is ∙ cond-false _ _ _ range.0 ∙ cond-false _ _ _ busy.0 ∙ cond-false _ _ _ resident.0 ∙ cond-false _ _ _ waits.0 ∙ cond-false _ _ _ full.0;
-        begun = arrive_begun_at h (vcpu vm number) hart (free_file h (home h) hart) (only_parked its busy.0 resident.0 waits.0) refl full.0;
+        accepted = is ∙ cond-false _ _ _ range.0 ∙ ap (λ t. unless_parked t (cond (is_none (free_file h (home h) hart)) (Some (Refused words.NoFile)) None)) parked.0 ∙ cond-false _ _ _ full.0;
+        begun = arrive_begun_at h (vcpu vm number) hart (free_file h (home h) hart) parked.0 refl full.0;
       }
 
   shift_accepts : (hart : ℕ) → Okay ≡ unwrap_or (refusal h (lines.Move vm number (wants.Shift hart))) Okay → Accepts h (refusal h (lines.Move vm number (wants.Shift hart))) (Shifts (vcpu vm number) hart) (vcpu vm number)

@@ -1,11 +1,11 @@
 -- What is kept of a virtual hart says whether it is parked, and whether it is entered: how it rests
 -- in memory is told apart here alone.
-use Rattle.std.proofs.Common.{◌≡◌, is_some, true, false, cond, Option, Some, refl, ap, ◌∙◌}
+use Rattle.std.proofs.Common.{◌≡◌, is_some, true, false, Option, Some, refl, ap, ◌∙◌}
 use Rattle.std.specs.Prelude.{Result, Ok, Err}
 use Rattle.std.proofs.lemmas.Bool.{cond-true}
 use Rattle.aia_home.specs.Vms.{Vcpu}
 use Rattle.aia_home.specs.declared.rest.Rest.TheVariants.{Parked, Entered}
-use Rattle.aia_home.specs.Home.{Home, is_moving, is_resident, is_entered, runs}
+use Rattle.aia_home.specs.Home.{Home, is_moving, is_entered, runs}
 use Rattle.aia_home.specs.Home.Home.{Leaving, Arriving, Shifting}
 use Rattle.aia_world.specs.World.{World}
 use Rattle.aia_moving.specs.declared.who.KeptNumbers.{KeptNumbers}
@@ -14,6 +14,7 @@ use Rattle.aia_model.specs.declared.answer.Answer.{Answer}
 use Rattle.aia_model.specs.declared.answer.Answer.TheVariants.{Refused}
 use Rattle.aia_model.specs.declared.refusal.Refusal.{Refusal}
 use Rattle.aia_model.specs.declared.refusal.Refusal.TheVariants as words
+use Rattle.aia_model.proofs.RefusalLemmas.{unless_parked}
 use Rattle.aia_standing.specs.declared.vcpu.Stay.{Stay}
 use Rattle.aia_standing.specs.declared.vcpu.Stay.TheVariants as stays
 use Rattle.aia_standing.specs.Core.{home_in, entered_at, parked_at, runs_in}
@@ -35,7 +36,7 @@ of_err a b e = cc
 
 -- whatever else may refuse it then
 pub word_is : (w : World) (g : Vcpu) (stay : Stay) (word : Refusal) (later : Option Answer) → PlanStands w g stay → parked_at stay ≡ Err word
-    → cond (is_moving (home_in stay)) (Some (Refused words.Busy)) (cond (is_resident (home_in stay)) (Some (Refused words.Home)) (cond (is_entered (home_in stay)) (Some (Refused words.Entered)) later)) ≡ Some (Refused word)
+    → unless_parked (home_in stay) later ≡ Some (Refused word)
 word_is w g (stays.InMemory Parked kept) word later plan e = absurd (cc)
 word_is w g (stays.InMemory Entered kept) word later plan e = ap (λ r. Some (Refused r)) (of_err words.Entered word e)
 word_is w g (stays.Resident lease) word later plan e = ap (λ r. Some (Refused r)) (of_err words.Home word e)

@@ -49,6 +49,7 @@ use Rattle.aia_model.specs.HomeOf.{home}
 use Rattle.aia_model.specs.Notice.{noticed, a_look_saw, a_word_is_live}
 use Rattle.aia_model.specs.FileOf.{FileName, deed_at, notice_deed}
 use Rattle.aia_model.specs.Refusal.{refusal}
+use Rattle.aia_model.proofs.RefusalLemmas.{unless_parked}
 use Rattle.aia_model.proofs.AnswerLemmas.{enter_refusal, exit_refusal}
 use Rattle.aia_model.proofs.ReachLemmas.{reach_step}
 use Rattle.aia_model.proofs.MoveLemmas.{home_step, seen_stays, is_itself}
@@ -273,11 +274,11 @@ pub record IsEnter (x y : CoreState) (vm number : ℕ) : Type 0 where
 
 -- the refusal of one that is there, by where it is
 enter_by : (x : CoreState) (h : History) (vm number : ℕ) (stay : Stay) → CoreStands x h → has_vcpu h (vcpu vm number) ≡ true → (record_of x (vcpu vm number)).stay ≡ stay
-    → refusal h (lines.Enter vm number) ≡ cond (is_moving (home_in stay)) (Some (Refused words.Busy)) (cond (is_resident (home_in stay)) (Some (Refused words.Home)) (cond (is_entered (home_in stay)) (Some (Refused words.Entered)) None))
+    → refusal h (lines.Enter vm number) ≡ unless_parked (home_in stay) None
 enter_by x h vm number stay stands inside was =
     let at : home h (vcpu vm number) ≡ home_in stay = sym (stands.vcpus (vcpu vm number) inside).same_home ∙ ap home_in was in
     enter_refusal h vm number stands.there
-    ∙ (λ k. cond (not (inside k)) (Some (Refused words.Range)) (cond (is_moving (at k)) (Some (Refused words.Busy)) (cond (is_resident (at k)) (Some (Refused words.Home)) (cond (is_entered (at k)) (Some (Refused words.Entered)) None))))
+    ∙ (λ k. cond (not (inside k)) (Some (Refused words.Range)) (unless_parked (at k) None))
 
 same_core : (x y : CoreState) (vm number : ℕ) → IsEnter x y vm number → y.vcpus ≡ x.vcpus → y ≡ x
 same_core x y vm number c vcpus = λ k. record { world = c.world k; leases = c.leases k; vcpus = vcpus k; selects = c.selects k; passes = c.passes k }
