@@ -13,7 +13,7 @@ ghost use Rattle.aia_imsic.specs.Imsic.{IsThere, file_at, with_file};
 ghost use Rattle.aia_mrif.specs.Mrif.{mrif_in, stored};
 ghost use Rattle.aia_entry.specs.Tables.{table_of, route_of};
 ghost use Rattle.aia_entry.specs.Translation.{IsMask};
-ghost use Rattle.aia_home.specs.Vms.{Vcpu, vcpu, vcpus_in, is_vcpu_in, slot_of, notice_hart};
+ghost use Rattle.aia_home.specs.Vms.{Vcpu, vcpu, vcpus_in, is_vcpu_in, slot_of, notice_hart, vm_in};
 ghost use Rattle.aia_world.specs.World.{no_stage};
 ghost use Rattle.aia_world.specs.Found.{IsFound};
 ghost use Rattle.aia_world.specs.Making.{IsNew, with_vm, with_entry};
@@ -213,7 +213,7 @@ impl Fabric {
             vm,
             number,
             slot: self.slot_of(vm, number),
-            notice: self.notice_hart(vm, number),
+            notice: self.notice_hart(vm),
         })
     }
 
@@ -234,13 +234,13 @@ impl Fabric {
         self.vms.slot_of(vm, number)
     }
 
-    /// Gives the hart whose supervisor file takes the notices of a virtual hart that is there.
-    pub fn notice_hart(&self, vm: u32, number: u32) -> u32
-        requires { is_vcpu_in self.now.vms (vcpu vm number) ≡ true }
-        ensures value { result ≡ notice_hart self.now.vms (vcpu vm number) }
+    /// Gives the hart whose supervisor file takes the notices of a VM that is there.
+    pub fn notice_hart(&self, vm: u32) -> u32
+        requires { vm < length self.now.vms }
+        ensures value { result ≡ (vm_in self.now.vms vm).notice_hart }
         ensures there { result < self.now.imsic.harts }
     {
-        self.vms.notice_hart(vm, number)
+        self.vms.notice_hart(vm)
     }
 
     // ---- files

@@ -1,6 +1,6 @@
 ghost use Rattle.std.specs.Prelude.{◌≡◌, ℕ, ◌<◌, ◌≤◌, true, [], ◌∷◌, ◌++◌, length, take, IfOk};
 ghost use Rattle.aia_regs.specs.declared.limits.TheConstants.{VMS, VCPUS};
-ghost use Rattle.aia_home.specs.Vms.{Vcpu, vcpu, vcpus_in, is_vcpu_in, slot_of, notice_hart};
+ghost use Rattle.aia_home.specs.Vms.{Vcpu, vcpu, vcpus_in, is_vcpu_in, slot_of, notice_hart, vm_in};
 
 use aia_home::{Vm, notice_hart_of, vcpus_in};
 use aia_regs::limits::VMS;
@@ -69,10 +69,10 @@ impl Vms {
         }
     }
 
-    /// Gives the hart that takes the notices of a virtual hart that is there.
-    pub fn notice_hart(&self, vm: u32, number: u32) -> u32
-        requires { is_vcpu_in self.now (vcpu vm number) ≡ true }
-        ensures { result ≡ notice_hart self.now (vcpu vm number) }
+    /// Gives the hart that takes the notices of a VM that is there.
+    pub fn notice_hart(&self, vm: u32) -> u32
+        requires { vm < length self.now }
+        ensures { result ≡ (vm_in self.now vm).notice_hart }
     {
         self.kept[vm as usize].notice_hart
     }

@@ -220,7 +220,7 @@ impl Core {
     {
         let (_whole, _few) = (self.fabric.words(), self.passes.count());
         let pass = self.passes.at(number);
-        let notice = self.fabric.notice_hart(pass.vm, pass.number);
+        let notice = self.fabric.notice_hart(pass.vm);
         let slot = self.fabric.slot_of(pass.vm, pass.number);
         let taken = Op::Clear(1 << (FIRST_PASS_IDENTITY + number));
         self.fabric
