@@ -20,8 +20,8 @@ ghost use Rattle.aia_standing.specs.Stands.{CoreTakes, answer_by};
 
 use crate::hypervisor_core::{Core, select_after};
 use aia_fabric::Found;
-use aia_image::{IMAGE_VERSION, is_live, is_loadable, load_word, save_word};
 use aia_home::Rest;
+use aia_image::{IMAGE_VERSION, is_live, is_loadable, load_word, save_word};
 use aia_model::{Part, Refusal};
 use aia_move::KeptNumbers;
 use aia_regs::Op;

@@ -69,7 +69,11 @@ impl Core {
         ensures { CoreTakes self.old self.new (Exit found.vm found.number) Okay }
     {
         let _whole = self.fabric.words();
-        put_stay(&mut self.vcpus, found.slot, Stay::InMemory(Rest::Parked, kept));
+        put_stay(
+            &mut self.vcpus,
+            found.slot,
+            Stay::InMemory(Rest::Parked, kept),
+        );
         if slot_is_live(&mut self.fabric, found.slot) {
             self.fabric.notice(found.slot);
         }

@@ -2,7 +2,7 @@
 use Rattle.std.proofs.Common.{◌≡◌, ℕ, suc, ◌+◌, true, false, nat_lt, is_none, Option, Some, None, refl, arith}
 use Rattle.std.specs.Option.{option_map_or}
 use Rattle.std.proofs.lemmas.Bool.{eq-eqb, ne_eqb, and_left}
-use Rattle.aia_home.specs.Home.{Home, is_moving, is_resident, is_entered, rests_in_memory, leaving, arriving, shifting}
+use Rattle.aia_home.specs.Home.{Home, is_moving, rests_in_memory, leaving, arriving, shifting}
 use Rattle.aia_home.specs.declared.rest.Rest.TheVariants.{Parked}
 use Rattle.aia_home.specs.Home.Home.{InMemory, Resident, Leaving, Arriving, Shifting}
 use Rattle.aia_home.specs.Plans.{leave_step, arrive_step, shift_step, leave_steps, arrive_steps, shift_steps}

@@ -26,8 +26,8 @@ use Rattle.aia_model.specs.Image.{parts_in, is_loadable}
 use Rattle.aia_entry.specs.Translation.{is_msi_address}
 use Rattle.aia_model.specs.Vms.{has_vm, has_vcpu, mask_of}
 use Rattle.aia_major.specs.VsMajor.{is_major, is_hvictl}
-use Rattle.aia_home.specs.Vms.{Vcpu, vcpu}
-use Rattle.aia_home.specs.Home.{is_moving, is_resident, is_entered, rests_in_memory, runs}
+use Rattle.aia_home.specs.Vms.{vcpu}
+use Rattle.aia_home.specs.Home.{is_moving, is_entered, rests_in_memory, runs}
 use Rattle.aia_regs.specs.declared.limits.TheConstants.{PASSES}
 use Rattle.aia_model.specs.Act.{domain_at, register_at}
 use Rattle.aia_model.specs.Sent.{acts_of}

@@ -7,7 +7,7 @@ use Rattle.std.proofs.lemmas.Option.{none-some}
 use Rattle.aia_home.specs.declared.place.Place.{Place}
 use Rattle.aia_home.specs.declared.vm.Vm.{Vm}
 use Rattle.aia_home.specs.Vms.{Vcpu, vcpu, is_vcpu_in, slot_of}
-use Rattle.aia_home.specs.Home.{at_first, is_entered, rests_in_memory, is_resident, is_moving}
+use Rattle.aia_home.specs.Home.{at_first, rests_in_memory, is_moving}
 use Rattle.aia_home.specs.Home.Home.{Arriving, Shifting}
 use Rattle.aia_pool.specs.Leases.{least_free}
 use Rattle.aia_moving.specs.declared.who.Who.{Who}

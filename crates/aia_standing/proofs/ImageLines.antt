@@ -14,7 +14,7 @@ use Rattle.aia_file.proofs.FileLemmas.{same_file}
 use Rattle.aia_imsic.specs.declared.spot.Spot.TheVariants as spots
 use Rattle.aia_major.specs.Kept.{majors_shown}
 use Rattle.aia_home.specs.Vms.{Vcpu, vcpu, is_vcpu_in, vcpus_in, slot_of, notice_hart, notice_identity}
-use Rattle.aia_home.specs.Home.{is_moving, is_resident, is_entered, rests_in_memory}
+use Rattle.aia_home.specs.Home.{rests_in_memory}
 use Rattle.aia_home.specs.declared.rest.Rest.TheVariants.{Parked}
 use Rattle.aia_home.specs.Home.Home.{InMemory}
 use Rattle.aia_world.specs.World.{World}

@@ -14,7 +14,7 @@ use Rattle.aia_entry.specs.Tables.{table_of, entry_in_force}
 use Rattle.aia_home.specs.declared.place.Place.{Place}
 use Rattle.aia_home.specs.declared.vm.Vm.{Vm}
 use Rattle.aia_home.specs.Vms.{Vcpu, vcpu, is_vcpu, is_vcpu_in, slot_of, notice_hart, notice_identity}
-use Rattle.aia_home.specs.Home.{Home, holds, is_moving, is_resident, is_entered, rests_in_memory, entering, exiting}
+use Rattle.aia_home.specs.Home.{Home, holds, is_entered, rests_in_memory, entering, exiting}
 use Rattle.aia_home.specs.declared.rest.Rest.TheVariants.{Parked, Entered}
 use Rattle.aia_home.specs.Home.Home.{InMemory}
 use Rattle.aia_home.proofs.VmLemmas.{slot_below}

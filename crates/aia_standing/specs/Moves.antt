@@ -88,8 +88,8 @@ LeaveBegins who (stays.Moving plan) new was now given =
     Refuses refusals.Busy (stays.Moving plan) new was now given
 
 -- An arrival begins by what is kept of one that is parked; any other is refused with its word.
-abbrev pub ArriveFrom : Result KeptNumbers Refusal → Who → ℕ → Stay → Stay → Leases → Leases → Answer
-    → Type 0
+abbrev pub ArriveFrom : Result KeptNumbers Refusal → Who → ℕ → Stay → Stay → Leases → Leases
+    → Answer → Type 0
 ArriveFrom (Ok kept) who hart old new was now given =
     BeginsIn (least_free was hart) hart (λ to. record {
       who = who;
