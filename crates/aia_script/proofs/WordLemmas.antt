@@ -40,20 +40,25 @@ words_left text found = more (words_of text) found (let e : length (words_of tex
 
 -- ---- whether the first word is a name, byte by byte
 
--- a text that is shorter than a name does not begin with it
-pub too_short : (text name : List ℕ) → length text < length name → is_word (first_word text) name ≡ false
+-- one byte further on they differ
+later_byte : (c n : ℕ) (cs name : List ℕ) → is_word (first_word cs) name ≡ false → is_word (first_word (c ∷ cs)) (n ∷ name) ≡ false
 unfolding first_word
-too_short text [] less = absurd (omega arith)
-too_short [] (n ∷ name) less = refl
-too_short (c ∷ cs) (n ∷ name) less = either (nat_eq c 32) (too_short cs name (omega arith))
+later_byte c n cs name more = either (nat_eq c 32)
   where
     both : (b : Bool) → (b && false) ≡ false
     both true = refl
     both false = refl
 
-    either : (b : Bool) → is_word (first_word cs) name ≡ false → is_word (cond b [] (c ∷ first_word cs)) (n ∷ name) ≡ false
-    either true more = refl
-    either false more = ap (λ t. nat_eq c n && t) more ∙ both (nat_eq c n)
+    either : (b : Bool) → is_word (cond b [] (c ∷ first_word cs)) (n ∷ name) ≡ false
+    either true = refl
+    either false = ap (λ t. nat_eq c n && t) more ∙ both (nat_eq c n)
+
+-- a text that is shorter than a name does not begin with it
+pub too_short : (text name : List ℕ) → length text < length name → is_word (first_word text) name ≡ false
+unfolding first_word
+too_short text [] less = absurd (omega arith)
+too_short [] (n ∷ name) less = refl
+too_short (c ∷ cs) (n ∷ name) less = later_byte c n cs name (too_short cs name (omega arith))
 
 other_byte : (c n : ℕ) (cs name : List ℕ) → nat_eq c n ≡ false → is_word (first_word (c ∷ cs)) (n ∷ name) ≡ false
 unfolding first_word
@@ -69,15 +74,7 @@ unfolding first_word
 other_at text [] k there other = absurd (omega arith)
 other_at [] (n ∷ name) k there other = refl
 other_at (c ∷ cs) (n ∷ name) zero there other = other_byte c n cs name (grind (arith, nat_tests))
-other_at (c ∷ cs) (n ∷ name) (suc k) there other = either (nat_eq c 32) (other_at cs name k (omega arith) other)
-  where
-    both : (b : Bool) → (b && false) ≡ false
-    both true = refl
-    both false = refl
-
-    either : (b : Bool) → is_word (first_word cs) name ≡ false → is_word (cond b [] (c ∷ first_word cs)) (n ∷ name) ≡ false
-    either true more = refl
-    either false more = ap (λ t. nat_eq c n && t) more ∙ both (nat_eq c n)
+other_at (c ∷ cs) (n ∷ name) (suc k) there other = later_byte c n cs name (other_at cs name k (omega arith) other)
 
 -- another byte stands there
 pub differs : (text name : List ℕ) (at : ℕ) → at < length text → at < length name → get_or text at 0 ≢ get_or name at 0 → is_word (first_word (drop at text)) (drop at name) ≡ false
