@@ -1,5 +1,5 @@
 -- What forms end with, read by itself.
-use Rattle.std.proofs.Common.{◌≡◌, ℕ, List, [], ◌∷◌, ◌++◌, false, codes, Some, None, ◌∙◌}
+use Rattle.std.proofs.Common.{◌≡◌, ℕ, List, [], ◌∷◌, ◌++◌, false, codes, Option, Some, None, refl, ap, ◌∙◌}
 use Rattle.std.proofs.lemmas.Bool.{cond-false}
 use Rattle.aia_regs.specs.declared.access.Csr.{Csr}
 use Rattle.aia_regs.specs.declared.access.Op.{Op}
@@ -10,6 +10,11 @@ use Rattle.aia_model.specs.Text.{◌>>=◌}
 use Rattle.aia_model.specs.Grammar.{is_word}
 use Rattle.aia_model.specs.Forms.{instruction, access, part_shape, part}
 use Rattle.aia_model.specs.Reading.{Words, read}
+use Rattle.aia_model.specs.Reading.{csr_at, number_at, whole}
+use Rattle.aia_regs.specs.declared.access.Op.TheVariants as ops
+use Rattle.aia_script.specs.declared.instructions.Mnemonic.{Mnemonic}
+use Rattle.aia_script.specs.declared.instructions.Mnemonic.TheVariants.{Read, Write, Set, Clear}
+use Rattle.aia_script.specs.Mnemonics.{mnemonic_name, operation_at}
 use Rattle.aia_model.proofs.Readers.{read_made}
 
 pub machine_access : (hart : ℕ) (ws : Words) → read (instruction levels.Machine) (λ v. lines.MachineCsr hart (access levels.Machine v).0 (access levels.Machine v).1) ws ≡ (read (instruction levels.Machine) (access levels.Machine) ws >>= λ a. Some (lines.MachineCsr hart a.0 a.1))
@@ -27,3 +32,25 @@ loaded_part vm number ws = read_made (lines.LoadPart vm number) part_shape part 
 -- each mnemonic begins with the same bytes
 pub no_instruction : (level : Level) (word : List ℕ) (ws : Words) → ((more : List ℕ) → is_word word (codes "csrr" ++ more) ≡ false) → read (instruction level) (access level) (word ∷ ws) ≡ None
 no_instruction level word ws other = cond-false _ _ _ (other []) ∙ cond-false _ _ _ (other (codes "w")) ∙ cond-false _ _ _ (other (codes "s")) ∙ cond-false _ _ _ (other (codes "c"))
+
+-- a mnemonic is followed by a CSR, and by its operand
+then_same : {A B : Type 0} (o : Option A) (f g : A → Option B) → ((x : A) → f x ≡ g x) → (o >>= f) ≡ (o >>= g)
+then_same None f g same = refl
+then_same (Some x) f g same = same x
+
+abbrev with_operand : (ℕ → Op) → ℕ × Words → Option (Op × Words)
+with_operand op n = Some (op n.0, n.1)
+
+operand : (csr : Csr) (op : ℕ → Op) (o : Option (ℕ × Words)) → (o >>= λ n. whole {A = Csr × Op} n.1 (csr, op n.0)) ≡ ((o >>= with_operand op) >>= λ d. whole {A = Csr × Op} d.1 (csr, d.0))
+operand csr op None = refl
+operand csr op (Some n) = refl
+
+named_so : (level : Level) (mnemonic : Mnemonic) (ws : Words) → read (instruction level) (access level) (mnemonic_name mnemonic ∷ ws) ≡ (csr_at level ws >>= λ c. operation_at mnemonic c.1 >>= λ d. whole {A = Csr × Op} d.1 (c.0, d.0))
+unfolding operation_at
+named_so level Read ws = refl
+named_so level Write ws = then_same (csr_at level ws) _ _ (λ c. operand c.0 ops.Write (number_at c.1))
+named_so level Set ws = then_same (csr_at level ws) _ _ (λ c. operand c.0 ops.Set (number_at c.1))
+named_so level Clear ws = then_same (csr_at level ws) _ _ (λ c. operand c.0 ops.Clear (number_at c.1))
+
+pub by_mnemonic : (level : Level) (mnemonic : Mnemonic) (word : List ℕ) (ws : Words) → word ≡ mnemonic_name mnemonic → read (instruction level) (access level) (word ∷ ws) ≡ (csr_at level ws >>= λ c. operation_at mnemonic c.1 >>= λ d. whole {A = Csr × Op} d.1 (c.0, d.0))
+by_mnemonic level mnemonic word ws is = ap (λ w. read (instruction level) (access level) (w ∷ ws)) is ∙ named_so level mnemonic ws

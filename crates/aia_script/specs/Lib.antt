@@ -2,3 +2,4 @@ pub mod Cursor
 pub mod Digits
 pub mod StepText
 pub mod StepForm
+pub mod Mnemonics

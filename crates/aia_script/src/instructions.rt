@@ -1,16 +1,18 @@
 //! CSR instructions: the CSR's name at a level, and what follows each mnemonic; read and printed.
 
-ghost use Rattle.std.specs.Prelude.{◌≡◌, ◌+◌, ◌≤◌, ℕ, ◌∷◌, ◌++◌, length, map, IfSome};
+ghost use Rattle.std.specs.Prelude.{◌≡◌, None, ◌+◌, ◌≤◌, ℕ, ◌∷◌, ◌++◌, length, map, IfSome, IfNone};
 ghost use Rattle.std.specs.Option.{option_map};
 ghost use Rattle.std.specs.List.{join_with_byte};
 ghost use Rattle.arrayvec.specs.ArrayVec.{array_vec_len};
 ghost use Rattle.aia_regs.specs.Operations.{FitsOp};
+ghost use Rattle.aia_regs.specs.declared.access.Level.{Level};
 ghost use Rattle.aia_model.specs.AnswerText.{field_text, hex_text, name_text};
 ghost use Rattle.aia_model.specs.Grammar.{csr_name, csr_names, fields, named};
 ghost use Rattle.aia_model.specs.Forms.{access, access_values, instruction};
 ghost use Rattle.aia_model.specs.Reading.{csr_at, read};
 ghost use Rattle.aia_model.specs.declared.limits.TheConstants.{LINE_BYTES};
 ghost use Rattle.aia_script.specs.Cursor.{left, first_word, after_first};
+ghost use Rattle.aia_script.specs.Mnemonics.{mnemonic_name, operation_at};
 
 use crate::number::number_at;
 use crate::pieces::{push_hex, push_text};
@@ -85,13 +87,61 @@ fn csr_at(level: Level, words: &mut Words<'_>) -> Option<Csr>
     Some(csr)
 }
 
-/// Reads a CSR and an operand with which the words end, and returns them as an operation.
-macro_rules! with_operand {
-    ($op:ident $level:ident $words:ident) => {{
-        let csr = csr_at($level, &mut $words)?;
-        let operand = number_at(&mut $words)?;
-        return at_end(&$words, (csr, Op::$op(operand)));
-    }};
+/// The mnemonics, by what they do to a CSR.
+#[derive(Clone, Copy)]
+enum Mnemonic {
+    Read,
+    Write,
+    Set,
+    Clear,
+}
+
+/// Gives the mnemonic that the first word of a text is, and the words after it; `None` where it is
+/// none.
+#[inline(always)]
+fn mnemonic_of(text: &[u8]) -> Option<(Mnemonic, Words<'_>)>
+    ensures name { IfSome result (λ found. first_word text.now ≡ mnemonic_name found.0) }
+    ensures rest { IfSome result (λ found. left found.1 ≡ after_first text.now) }
+    ensures none { IfNone result ((level : Level) → read (instruction level) (access level)
+        (first_word text.now ∷ after_first text.now) ≡ None) }
+{
+    // The bytes that all mnemonics begin with are compared once.
+    if !may_begin(text, b"csrr") {
+        return None;
+    }
+    if let Some(words) = after_name(text, b"csrr") {
+        return Some((Mnemonic::Read, words));
+    }
+    if let Some(words) = after_name(text, b"csrrw") {
+        return Some((Mnemonic::Write, words));
+    }
+    if let Some(words) = after_name(text, b"csrrs") {
+        return Some((Mnemonic::Set, words));
+    }
+    if let Some(words) = after_name(text, b"csrrc") {
+        return Some((Mnemonic::Clear, words));
+    }
+    None
+}
+
+/// Reads the operand of a mnemonic, where it has one, and gives its operation; `None` where the
+/// next word is no operand.
+#[tactic(auto, unfolding(crate::specs::Mnemonics::operation_at))]
+#[inline(always)]
+fn operation_at(mnemonic: Mnemonic, words: &mut Words<'_>) -> Option<Op>
+    ensures { option_map (λ op. (op, left words.new)) result
+        ≡ operation_at mnemonic (left words.old) }
+{
+    if let Mnemonic::Read = mnemonic {
+        return Some(Op::Read);
+    }
+    let operand = number_at(words)?;
+    match mnemonic {
+        Mnemonic::Read => Some(Op::Read),
+        Mnemonic::Write => Some(Op::Write(operand)),
+        Mnemonic::Set => Some(Op::Set(operand)),
+        Mnemonic::Clear => Some(Op::Clear(operand)),
+    }
 }
 
 /// Reads the CSR and the operation that a text spells, by the level's names; `None` where it spells
@@ -101,24 +151,10 @@ pub fn instruction_of(level: Level, text: &[u8]) -> Option<(Csr, Op)>
     ensures { result ≡ read (instruction level) (access level)
         (first_word text.now ∷ after_first text.now) }
 {
-    // The bytes that all mnemonics begin with are compared once.
-    if !may_begin(text, b"csrr") {
-        return None;
-    }
-    if let Some(mut words) = after_name(text, b"csrr") {
-        let csr = csr_at(level, &mut words)?;
-        return at_end(&words, (csr, Op::Read));
-    }
-    if let Some(mut words) = after_name(text, b"csrrw") {
-        with_operand!(Write level words)
-    }
-    if let Some(mut words) = after_name(text, b"csrrs") {
-        with_operand!(Set level words)
-    }
-    if let Some(mut words) = after_name(text, b"csrrc") {
-        with_operand!(Clear level words)
-    }
-    None
+    let (mnemonic, mut words) = mnemonic_of(text)?;
+    let csr = csr_at(level, &mut words)?;
+    let op = operation_at(mnemonic, &mut words)?;
+    at_end(&words, (csr, op))
 }
 
 /// Reads the CSR and the operation that words spell, by the level's names; `None` where they spell
