@@ -132,16 +132,16 @@ fn operation_at(mnemonic: Mnemonic, words: &mut Words<'_>) -> Option<Op>
     ensures { option_map (λ op. (op, left words.new)) result
         ≡ operation_at mnemonic (left words.old) }
 {
-    if let Mnemonic::Read = mnemonic {
-        return Some(Op::Read);
-    }
-    let operand = number_at(words)?;
-    match mnemonic {
-        Mnemonic::Read => Some(Op::Read),
-        Mnemonic::Write => Some(Op::Write(operand)),
-        Mnemonic::Set => Some(Op::Set(operand)),
-        Mnemonic::Clear => Some(Op::Clear(operand)),
-    }
+    let operand = match mnemonic {
+        Mnemonic::Read => 0,
+        Mnemonic::Write | Mnemonic::Set | Mnemonic::Clear => number_at(words)?,
+    };
+    Some(match mnemonic {
+        Mnemonic::Read => Op::Read,
+        Mnemonic::Write => Op::Write(operand),
+        Mnemonic::Set => Op::Set(operand),
+        Mnemonic::Clear => Op::Clear(operand),
+    })
 }
 
 /// Reads the CSR and the operation that a text spells, by the level's names; `None` where it spells
