@@ -18,8 +18,9 @@ pub record Progress : Type 0 where
 abbrev pub at_first : Progress
 at_first = record { steps = 0; aims = 0 }
 
--- Its interrupts rest in memory; or it is resident in a guest file; or it is moved, from a guest
--- file to memory, from memory to a guest file, or from one guest file to another.
+-- The interrupts of the virtual hart rest in memory, and it is parked or runs from there (`Rest`);
+-- or it is resident in a guest file; or it is moved, from a guest file to memory, from memory to a
+-- guest file, or from one guest file to another.
 pub data Home : Type 0 where
   InMemory : (rest : Rest) → Home
   Resident : (in_file : Place) → Home
@@ -28,10 +29,6 @@ pub data Home : Type 0 where
   Shifting : (from to : Place) (at : Progress) → Home
 
 -- ---- which it is
-
-abbrev pub is_parked : Home → Bool
-is_parked (InMemory Parked) = true
-is_parked there = false
 
 abbrev pub is_entered : Home → Bool
 is_entered (InMemory Entered) = true
@@ -68,11 +65,11 @@ holds p (Shifting from to at) = is_place p from || is_place p to
 
 -- It begins to run from memory, and ceases to. Its interrupts stay where they are.
 abbrev pub entering : Home → Home
-entering (InMemory rest) = InMemory Entered
+entering (InMemory Parked) = InMemory Entered
 entering there = there
 
 abbrev pub exiting : Home → Home
-exiting (InMemory rest) = InMemory Parked
+exiting (InMemory Entered) = InMemory Parked
 exiting there = there
 
 -- ---- its moves

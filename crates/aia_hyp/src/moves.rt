@@ -177,7 +177,7 @@ impl Core {
         };
         let next = plan.step(&mut self.fabric, targets);
         let _whole = self.fabric.words();
-        let (new, last) = rest_of(next, &mut self.pool);
+        let (new, last) = after_step(next, &mut self.pool);
         swap_stay(&mut self.vcpus, found.slot, new);
         last
     }
@@ -307,7 +307,7 @@ fn shift(old: Stay, who: Who, hart: u32, pool: &mut Pool) -> (Stay, Result<(), R
 
 /// Tells where a virtual hart is after a step of its plan, and whether its move is at its end; the
 /// guest file that it left then comes back.
-fn rest_of(next: Next, pool: &mut Pool) -> (Stay, bool)
+fn after_step(next: Next, pool: &mut Pool) -> (Stay, bool)
     requires { IsOutThere pool.old (back_then next) }
     ensures stay { result.0 ≡ stay_then next }
     ensures back { pool.new ≡ with_back (back_then next) pool.old }

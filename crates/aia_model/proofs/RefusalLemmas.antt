@@ -94,8 +94,8 @@ store_allowed h addr value e =
     let free = passed (guards (page_at h addr) addr || redirects h addr value) _ _ sound.1 in
     (or_parts (guards (page_at h addr) addr) (redirects h addr value) free.0).1
 
--- what refuses a line that wants a virtual hart parked, and then what else may: nothing of the
--- first only where it is parked
+-- what refuses a line that wants a virtual hart parked: the word for where it is, or, of one that is
+-- parked, what else may
 abbrev pub unless_parked : Home → Option Answer → Option Answer
 unless_parked there later = cond (is_moving there) (Some (Refused words.Busy)) (cond (is_resident there) (Some (Refused words.Home)) (cond (is_entered there) (Some (Refused words.Entered)) later))
 
@@ -145,14 +145,7 @@ access_allowed h vm number csr op e =
     let there = passed (not (has_vcpu h (vcpu vm number))) _ _ stands.1 in
     not-false _ (passed (not (serves (home h (vcpu vm number)) csr)) _ _ there.1).0
 
--- one that enters is parked, and one that exits has entered
-pub enter_allowed : (h : History) (vm number : ℕ) → refusal h (Enter vm number) ≡ None
-    → (has_vcpu h (vcpu vm number) ≡ true) × (home h (vcpu vm number) ≡ InMemory Parked)
-enter_allowed h vm number e =
-    let stands = passed (not (has_machine h)) _ _ e in
-    let there = passed (not (has_vcpu h (vcpu vm number))) _ _ stands.1 in
-    (not-false _ there.0, (only_parked (home h (vcpu vm number)) _ there.1).0)
-
+-- one that exits has entered
 pub exit_allowed : (h : History) (vm number : ℕ) → refusal h (Exit vm number) ≡ None → (has_vcpu h (vcpu vm number) ≡ true) × (is_entered (home h (vcpu vm number)) ≡ true)
 exit_allowed h vm number e =
     let stands = passed (not (has_machine h)) _ _ e in

@@ -304,7 +304,7 @@ first_vm (field ∷ fields) = None
 -- The VM that a line names: the one that it begins with, as its form says. It is that of the device
 -- or the virtual hart that does something, or of the virtual hart that something is done to. A pass
 -- begins with its source, so it has none here: the laws of isolation treat passes apart, since
--- those of all VMs are numbered in one order.
+-- passes of all VMs are numbered in one order.
 abbrev pub vm_of : Line → Option ℕ
 vm_of line = first_vm (fields_of line)
 
@@ -317,15 +317,15 @@ has_vm_number (kind & rest) = has_vm_number rest
 has_vm_number (Only word rest) = has_vm_number rest
 has_vm_number (Either word rest other) = has_vm_number rest || has_vm_number other
 
-abbrev pub begins_with_vm : Shape → Bool
-begins_with_vm (VmNumber & rest) = not (has_vm_number rest)
-begins_with_vm (Only word rest) = begins_with_vm rest
-begins_with_vm (Either word rest other) = begins_with_vm rest && begins_with_vm other
-begins_with_vm shape = false
+abbrev pub begins_with_one_vm : Shape → Bool
+begins_with_one_vm (VmNumber & rest) = not (has_vm_number rest)
+begins_with_one_vm (Only word rest) = begins_with_one_vm rest
+begins_with_one_vm (Either word rest other) = begins_with_one_vm rest && begins_with_one_vm other
+begins_with_one_vm shape = false
 
--- Whether the number of a VM, where a form has one, comes first, and alone.
+-- Whether the number of a VM, where a form has one, comes first and is its only one.
 abbrev pub has_vm_first : Form → Bool
-has_vm_first form = not (has_vm_number form.shape) || begins_with_vm form.shape
+has_vm_first form = not (has_vm_number form.shape) || begins_with_one_vm form.shape
 
 -- Whether a text spells a line: it has at most LINE_BYTES bytes, and its words spell the line's
 -- fields.

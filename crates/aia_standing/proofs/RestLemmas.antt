@@ -1,5 +1,5 @@
--- What is kept of a virtual hart says whether it is parked, and whether it is entered: how it rests
--- in memory is told apart here alone.
+-- What is kept of a virtual hart says whether it is parked, and whether it is entered: no other
+-- lemma of this crate goes by cases of how it rests.
 use Rattle.std.proofs.Common.{◌≡◌, is_some, true, false, Option, Some, refl, ap, ◌∙◌}
 use Rattle.std.specs.Prelude.{Result, Ok, Err}
 use Rattle.std.proofs.lemmas.Bool.{cond-true}

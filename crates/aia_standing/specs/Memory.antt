@@ -25,8 +25,8 @@ abbrev pub with_stay : List VcpuRecord → ℕ → Stay → List VcpuRecord
 with_stay records slot stay =
     slice_set records slot (record (slice_index_or records slot no_record) { stay = stay })
 
--- What becomes of the records as one is to run from memory, by what is kept of it where it is
--- parked, or the word that refuses it.
+-- What becomes of the records as one is to run from memory: where it is parked, it is entered with
+-- the numbers that are kept of it; else it is refused with its word.
 abbrev pub EntersFrom : Result KeptNumbers Refusal → List VcpuRecord → List VcpuRecord → ℕ → Answer
     → Type 0
 EntersFrom (Ok kept) old new slot given =

@@ -76,6 +76,18 @@ BeginsIn (Some file) hart moving old new was now given = (given ≡ Okay)
     × IsBegun new (moving (guest_place hart file))
     × (now ≡ with_out was (guest_place hart file) true)
 
+-- An arrival, by `parked_at` of where the virtual hart is: it begins with the numbers that are kept
+-- of one that is parked; any other is refused with its word.
+abbrev pub ArriveFrom : Result KeptNumbers Refusal → Who → ℕ → Stay → Stay → Leases → Leases
+    → Answer → Type 0
+ArriveFrom (Ok kept) who hart old new was now given =
+    BeginsIn (least_free was hart) hart (λ to. record {
+      who = who;
+      home = Arriving to at_first;
+      hand = record empty_hand { delivery = kept.delivery; threshold = kept.threshold };
+    }) old new was now given
+ArriveFrom (Err word) who hart old new was now given = Refuses word old new was now given
+
 -- What becomes of where a virtual hart is, as it is to leave its guest file, to arrive in one of a
 -- hart that is there, or to shift to one; and of the leases.
 abbrev pub LeaveBegins : Who → Stay → Stay → Leases → Leases → Answer → Type 0
@@ -86,17 +98,6 @@ LeaveBegins who (stays.InMemory rest kept) new was now given =
     Refuses refusals.Parked (stays.InMemory rest kept) new was now given
 LeaveBegins who (stays.Moving plan) new was now given =
     Refuses refusals.Busy (stays.Moving plan) new was now given
-
--- An arrival begins by what is kept of one that is parked; any other is refused with its word.
-abbrev pub ArriveFrom : Result KeptNumbers Refusal → Who → ℕ → Stay → Stay → Leases → Leases
-    → Answer → Type 0
-ArriveFrom (Ok kept) who hart old new was now given =
-    BeginsIn (least_free was hart) hart (λ to. record {
-      who = who;
-      home = Arriving to at_first;
-      hand = record empty_hand { delivery = kept.delivery; threshold = kept.threshold };
-    }) old new was now given
-ArriveFrom (Err word) who hart old new was now given = Refuses word old new was now given
 
 abbrev pub ArriveBegins : Who → ℕ → Stay → Stay → Leases → Leases → Answer → Type 0
 ArriveBegins who hart old new was now given =

@@ -37,12 +37,12 @@ step-next-requires-clause-passes g c =
     (sym (sym c.in-Moving.is ∙ c.swap_stay.ensures.before ∙ ap (λ q. (get_or c.self.inside.vcpus.items q no_record).stay) found.slot))
     (few_identities (greatest_identity_of some.past) greatest) (let value = c.count-few.ensures.value in let few = c.count-few.ensures.few in omega (arith, value, few))
 
-pub rest_of-new-requires : goal.rest_of-new-requires
-rest_of-new-requires g c =
+pub after_step-new-requires : goal.after_step-new-requires
+after_step-new-requires g c =
     back_known (record { world = c.self.inside.fabric; leases = c.self.inside.pool; vcpus = c.self.inside.vcpus.items; selects = c.self.inside.selects; passes = c.self.inside.passes }) c.step-next.new.fabric c.args.found c.in-Moving.plan c.step-next.result c.self.invariant.0 (subst (λ (x : CoreState). IsFound x.world c.args.found) (sym c.self.view_is) c.requires.found)
     (sym c.in-Moving.is ∙ c.swap_stay.ensures.before) c.step-next.ensures.goes
 
-calls : (g : Over) (c : After-swap_stay-2 g) → StepCalls (record { world = c.self.inside.fabric; leases = c.self.inside.pool; vcpus = c.self.inside.vcpus.items; selects = c.self.inside.selects; passes = c.self.inside.passes }) (record { world = c.step-next.new.fabric; leases = c.rest_of-new.new.pool; vcpus = c.swap_stay-2.new.vcpus.items; selects = c.self.inside.selects; passes = c.self.inside.passes }) c.args.found c.in-Moving.plan c.step-next.result
+calls : (g : Over) (c : After-swap_stay-2 g) → StepCalls (record { world = c.self.inside.fabric; leases = c.self.inside.pool; vcpus = c.self.inside.vcpus.items; selects = c.self.inside.selects; passes = c.self.inside.passes }) (record { world = c.step-next.new.fabric; leases = c.after_step-new.new.pool; vcpus = c.swap_stay-2.new.vcpus.items; selects = c.self.inside.selects; passes = c.self.inside.passes }) c.args.found c.in-Moving.plan c.step-next.result
 calls g c = record {
   is_who = subst (λ (x : CoreState). IsFound x.world c.args.found) (sym c.self.view_is) c.requires.found;
   some = c.self.invariant.0;
@@ -50,19 +50,19 @@ calls g c = record {
   between = c.swap_stay.new.vcpus.items;
   other = c.nowhere.result;
   out = c.swap_stay.ensures.after;
-  back = c.swap_stay-2.ensures.after ∙ ap (λ s. set c.swap_stay.new.vcpus.items c.args.found.slot (at_stay (get_or c.swap_stay.new.vcpus.items c.args.found.slot no_record) s)) c.rest_of-new.ensures.stay;
+  back = c.swap_stay-2.ensures.after ∙ ap (λ s. set c.swap_stay.new.vcpus.items c.args.found.slot (at_stay (get_or c.swap_stay.new.vcpus.items c.args.found.slot no_record) s)) c.after_step-new.ensures.stay;
   selects = refl;
   passes = refl;
   whole = c.words-whole.ensures.whole;
   whole_then = c.words-whole-2.ensures.whole;
   one = let some = c.words-whole.ensures.some in let value = c.words-whole.ensures.value in omega (arith, some, value);
-  leases = c.rest_of-new.ensures.back;
+  leases = c.after_step-new.ensures.back;
   goes = c.step-next.ensures.goes;
   fits = c.step-next.ensures.fits;
   phase = c.step-next.ensures.phase;
 }
 
-goes : (g : Over) (c : After-swap_stay-2 g) → MoveGoes (record { world = c.self.inside.fabric; leases = c.self.inside.pool; vcpus = c.self.inside.vcpus.items; selects = c.self.inside.selects; passes = c.self.inside.passes }) (record { world = c.step-next.new.fabric; leases = c.rest_of-new.new.pool; vcpus = c.swap_stay-2.new.vcpus.items; selects = c.self.inside.selects; passes = c.self.inside.passes }) (vcpu c.args.found.vm c.args.found.number) (is_finished c.step-next.result)
+goes : (g : Over) (c : After-swap_stay-2 g) → MoveGoes (record { world = c.self.inside.fabric; leases = c.self.inside.pool; vcpus = c.self.inside.vcpus.items; selects = c.self.inside.selects; passes = c.self.inside.passes }) (record { world = c.step-next.new.fabric; leases = c.after_step-new.new.pool; vcpus = c.swap_stay-2.new.vcpus.items; selects = c.self.inside.selects; passes = c.self.inside.passes }) (vcpu c.args.found.vm c.args.found.number) (is_finished c.step-next.result)
 goes g c = step_called _ _ c.args.found c.in-Moving.plan c.step-next.result (calls g c)
 
 pub invariant_of-self : goal.invariant_of-self
@@ -73,7 +73,7 @@ invariant_of-self g c = (
 )
 
 pub returns-clause-goes : goal.returns-clause-goes
-returns-clause-goes g c = rw (← c.self.view_is, c.rest_of-new.ensures.last) (goes g c)
+returns-clause-goes g c = rw (← c.self.view_is, c.after_step-new.ensures.last) (goes g c)
 
 pub returns-clause-aims : goal.returns-clause-aims
 returns-clause-aims g c = rw (← c.self.view_is) (λ h stands.
