@@ -10,7 +10,7 @@ use Rattle.aia_home.specs.Vms.{Vcpu, is_vcpu, vm_in, is_vcpu_in, slot_of, notice
 use Rattle.aia_home.proofs.VmLemmas.{vm_stays, slot_stays, vm_past, same_vcpu}
 use Rattle.aia_home.specs.Home.{Home}
 use Rattle.aia_home.specs.Routes.{is_at_fence, MayReach}
-use Rattle.aia_model.specs.declared.line.Line.TheVariants.{Send, Enter, Exit}
+use Rattle.aia_model.specs.declared.line.Line.TheVariants.{Send}
 use Rattle.aia_model.specs.declared.line.Line.TheVariants as lines
 use Rattle.aia_model.specs.Move.Move.{Arrives, Leaves, Shifts}
 use Rattle.aia_model.specs.Event.{Event, History, MachineSize, machine_of, file_words}
@@ -25,7 +25,7 @@ use Rattle.aia_model.specs.ReachOf.{sent_into, NoneAtFence, MayFly, AllMayFly, I
 use Rattle.aia_model.specs.Answer.{oldest_landed, landed_first, step_taken}
 use Rattle.aia_model.specs.Vms.{vms_of, has_vcpu}
 use Rattle.aia_model.proofs.MoveLemmas.{home_step, is_itself}
-use Rattle.aia_model.proofs.ReachLemmas.{in_force_may, begun_reach, enter_keeps, exit_keeps}
+use Rattle.aia_model.proofs.ReachLemmas.{in_force_may, begun_reach, rested_keeps}
 
 -- ---- all of a list
 
@@ -69,9 +69,7 @@ flights_on past (Accepted (Send v addr value)) first all vm = elim (cases_Bool (
   | inl own ↦ rw own (all_append (MayFly past vm) (flight past vm) (record { before = past; addr = addr; value = value }) (all vm) (in_force_may past (named_by past vm addr)))
   | inr other ↦ rw other (all vm)
 ]
-flights_on past (Accepted (Enter v number)) first all vm = all_on (MayFly past vm) (MayFly (Accepted (Enter v number) ∷ past) vm) (λ s m. enter_keeps (λ there. MayReach there (sent_into vm s)) (λ r. r) v number past (sent_to vm s) m) (flight past vm) (all vm)
-flights_on past (Accepted (Exit v number)) first all vm = all_on (MayFly past vm) (MayFly (Accepted (Exit v number) ∷ past) vm) (λ s m. exit_keeps (λ there. MayReach there (sent_into vm s)) (λ r. r) v number past (sent_to vm s) m) (flight past vm) (all vm)
-flights_on past (Accepted line) first all vm = all vm
+flights_on past (Accepted line) first all vm = all_on (MayFly past vm) (MayFly (Accepted line ∷ past) vm) (λ s m. rested_keeps (λ there. MayReach there (sent_into vm s)) (λ from to r. r) line (sent_to vm s) (home past (sent_to vm s)) m) (flight past vm) (all vm)
 flights_on past (Delivered msi) first all vm = all vm
 flights_on past (Relayed p) first all vm = all vm
 flights_on past (Landed v k) first all vm = elim (cases_Bool (nat_eq v vm)) [

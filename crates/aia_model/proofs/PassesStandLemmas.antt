@@ -17,7 +17,7 @@ use Rattle.aia_home.specs.BySteps.{new_file, is_drained}
 use Rattle.aia_home.proofs.PassLemmas.{pass_drained}
 use Rattle.aia_home.specs.Aims.{is_aiming, aims_done, aimed, further, pass_reaches, target_to}
 use Rattle.aia_model.specs.declared.line.Line.{Line}
-use Rattle.aia_model.specs.declared.line.Line.TheVariants.{Machine, Wire, Load, Store, Enter, Exit}
+use Rattle.aia_model.specs.declared.line.Line.TheVariants.{Machine, Wire, Load, Store}
 use Rattle.aia_model.specs.declared.line.Line.TheVariants as lines
 use Rattle.aia_model.specs.declared.domain_name.DomainName.{DomainName}
 use Rattle.aia_model.specs.declared.domain_name.DomainName.TheVariants.{Child}
@@ -31,7 +31,7 @@ use Rattle.aia_model.specs.SourceOf.{target}
 use Rattle.aia_model.specs.Sent.{with_act, with_all_sent, senders, acts_of}
 use Rattle.aia_model.specs.Passes.{Pass, no_pass, passes_of, nth_pass, pass_of, is_passed, passes_to, passes_for, own_pass, rank_of}
 use Rattle.aia_model.specs.Passable.{is_passable, redirects, KeepsItsWay}
-use Rattle.aia_model.specs.HomeOf.{home, free_file}
+use Rattle.aia_model.specs.HomeOf.{home, rested, free_file}
 use Rattle.aia_model.specs.Aim.{pass_reach, target_for, aim_of, aimed_by, PassAtRest, AllAreAimed}
 use Rattle.aia_model.specs.Refusal.{refusal}
 use Rattle.aia_model.specs.Histories.{MayHappen, IsHistory}
@@ -41,7 +41,7 @@ use Rattle.aia_home.proofs.VmLemmas.{same_vcpu}
 use Rattle.aia_model.proofs.MoveLemmas.{is_itself}
 use Rattle.aia_model.proofs.FlightLemmas.{stays_there}
 use Rattle.aia_model.proofs.PassLemmas.{none_passed, aimed_on, rank_below}
-use Rattle.aia_model.proofs.ReachLemmas.{enter_keeps, exit_keeps}
+use Rattle.aia_model.proofs.ReachLemmas.{rested_keeps}
 use Rattle.aia_model.proofs.PassReachLemmas.{leaving_passes, arrives_passes, shifts_passes, further_passes, aimed_other}
 use Rattle.aia_model.proofs.OwnPassLemmas.{own_is, rank_is}
 use Rattle.aia_model.proofs.TargetLemmas.{passed_stays, aim_gives, sent_stays, store_leaves, another}
@@ -238,13 +238,9 @@ same_aimed h line p past same notice homes a = record {
     IsTarget : List Pass → ℕ → Type 0
     IsTarget xs hart = target past Child (slice_index_or xs p no_pass).source ≡ target_to hart p (slice_index_or xs p no_pass).identity (pass_reaches (passes_to (slice_index_or xs p no_pass).to (take p xs)) (home (Accepted line ∷ h) (slice_index_or xs p no_pass).to))
 
--- one that enters or exits leaves where its passes lead
-ran_passes : (h : History) (vm number p : ℕ) → (pass_reach (Accepted (Enter vm number) ∷ h) p ≡ pass_reach h p) × (pass_reach (Accepted (Exit vm number) ∷ h) p ≡ pass_reach h p)
-unfolding passes_of
-ran_passes h vm number p = (
-  enter_keeps (λ there. pass_reaches (rank_of h p) there ≡ pass_reach h p) (λ e. e) vm number h (nth_pass h p).to refl,
-  exit_keeps (λ there. pass_reaches (rank_of h p) there ≡ pass_reach h p) (λ e. e) vm number h (nth_pass h p).to refl,
-)
+-- however one rests in memory, its passes lead there
+rested_passes : (h : History) (line : Line) (p : ℕ) → pass_reaches (rank_of h p) (rested line (nth_pass h p).to (home h (nth_pass h p).to)) ≡ pass_reach h p
+rested_passes h line p = rested_keeps (λ there. pass_reaches (rank_of h p) there ≡ pass_reach h p) (λ from to e. e) line (nth_pass h p).to (home h (nth_pass h p).to) refl
 
 pub line_aimed : (h : History) (line : Line) (p : ℕ) → refusal h line ≡ None → AllPassesStand h → p < length (passes_of (Accepted line ∷ h)) → IsAimedIn (Accepted line ∷ h) p (acts_by h line)
 unfolding passes_of home
@@ -254,9 +250,7 @@ line_aimed h (lines.Vm vcpus mask hart) p may all low = let s = all.pass p low i
 line_aimed h (Wire source level) p may all low = same_aimed h (Wire source level) p _ refl refl (λ g. refl) (aimed_left h p (acts_of h) (Driven source level) tt (aimed_of h p (all.pass p low)))
 line_aimed h (Load addr) p may all low = same_aimed h (Load addr) p _ refl refl (λ g. refl) (loaded_aimed h p (domain_at addr) addr (aimed_of h p (all.pass p low)))
 line_aimed h (Store addr value) p may all low = let s = all.pass p low in same_aimed h (Store addr value) p _ refl refl (λ g. refl) (stored_aimed h p addr value (domain_at addr) refl (store_allowed h addr value may) (passed_already h p s.known) (aimed_of h p s))
-line_aimed h (Enter vm number) p may all low = let a = aimed_of h p (all.pass p low) in record { passable = a.passable; target = a.target ∙ ap (target_for h p (nth_pass h p).to (nth_pass h p).identity) (sym (ran_passes h vm number p).0) }
-line_aimed h (Exit vm number) p may all low = let a = aimed_of h p (all.pass p low) in record { passable = a.passable; target = a.target ∙ ap (target_for h p (nth_pass h p).to (nth_pass h p).identity) (sym (ran_passes h vm number p).1) }
-line_aimed h line p may all low = same_aimed h line p (acts_of h) refl refl (λ g. refl) (aimed_of h p (all.pass p low))
+line_aimed h line p may all low = let a = aimed_of h p (all.pass p low) in record { passable = a.passable; target = a.target ∙ ap (target_for h p (nth_pass h p).to (nth_pass h p).identity) (sym (rested_passes h line p)) }
 
 -- ---- where it is aimed: by moves
 
