@@ -39,13 +39,6 @@ other_mnemonics text other Write = other_start text (codes "csrr") (codes "w") o
 other_mnemonics text other Set = other_start text (codes "csrr") (codes "s") other
 other_mnemonics text other Clear = other_start text (codes "csrr") (codes "c") other
 
--- each mnemonic is another word
-pub none_of_four : (word : List ℕ) → is_word word (codes "csrr") ≡ false → is_word word (codes "csrrw") ≡ false → is_word word (codes "csrrs") ≡ false → is_word word (codes "csrrc") ≡ false → (m : Mnemonic) → is_word word (mnemonic_name m) ≡ false
-none_of_four word r w s c Read = r
-none_of_four word r w s c Write = w
-none_of_four word r w s c Set = s
-none_of_four word r w s c Clear = c
-
 -- an instruction begins with a mnemonic
 pub no_instruction : (level : Level) (word : List ℕ) (ws : Words) → ((m : Mnemonic) → is_word word (mnemonic_name m) ≡ false) → read (instruction level) (access level) (word ∷ ws) ≡ None
 no_instruction level word ws other = cond-false _ _ _ (other Read) ∙ cond-false _ _ _ (other Write) ∙ cond-false _ _ _ (other Set) ∙ cond-false _ _ _ (other Clear)

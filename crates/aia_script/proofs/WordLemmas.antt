@@ -40,18 +40,18 @@ words_left text found = more (words_of text) found (let e : length (words_of tex
 
 -- ---- whether the first word is a name, byte by byte
 
+and_false : (b : Bool) → (b && false) ≡ false
+and_false true = refl
+and_false false = refl
+
 -- one byte further on they differ
 later_byte : (c n : ℕ) (cs name : List ℕ) → is_word (first_word cs) name ≡ false → is_word (first_word (c ∷ cs)) (n ∷ name) ≡ false
 unfolding first_word
 later_byte c n cs name more = either (nat_eq c 32)
   where
-    both : (b : Bool) → (b && false) ≡ false
-    both true = refl
-    both false = refl
-
     either : (b : Bool) → is_word (cond b [] (c ∷ first_word cs)) (n ∷ name) ≡ false
     either true = refl
-    either false = ap (λ t. nat_eq c n && t) more ∙ both (nat_eq c n)
+    either false = ap (λ t. nat_eq c n && t) more ∙ and_false (nat_eq c n)
 
 -- a text that is shorter than a name does not begin with it
 pub too_short : (text name : List ℕ) → length text < length name → is_word (first_word text) name ≡ false
@@ -162,11 +162,7 @@ name_goes_on text name None word is = sym word ∙ sym (no_more text name) ∙ g
 pub start_too_short : (text start : List ℕ) → length text < length start → starts_with nat_eq text start ≡ false
 start_too_short text [] less = absurd (omega arith)
 start_too_short [] (n ∷ start) less = refl
-start_too_short (c ∷ cs) (n ∷ start) less = ap (λ t. nat_eq n c && t) (start_too_short cs start (omega arith)) ∙ both (nat_eq n c)
-  where
-    both : (b : Bool) → (b && false) ≡ false
-    both true = refl
-    both false = refl
+start_too_short (c ∷ cs) (n ∷ start) less = ap (λ t. nat_eq n c && t) (start_too_short cs start (omega arith)) ∙ and_false (nat_eq n c)
 
 -- the bytes at a place decide, or those after it
 start_there : (text start : List ℕ) (at : ℕ) → at < length text → at < length start → starts_with nat_eq (drop at text) (drop at start) ≡ (nat_eq (get_or start at 0) (get_or text at 0) && starts_with nat_eq (drop (at + 1) text) (drop (at + 1) start))
