@@ -1,5 +1,6 @@
 -- What forms end with, read by itself.
-use Rattle.std.proofs.Common.{◌≡◌, ℕ, List, [], ◌∷◌, ◌++◌, false, codes, Option, Some, None, refl, ap, ◌∙◌}
+use Rattle.std.proofs.Common.{◌≡◌, ℕ, List, [], ◌∷◌, false, nat_eq, codes, Option, Some, None, refl, ap, ◌∙◌}
+use Rattle.std.specs.List.{starts_with}
 use Rattle.std.proofs.lemmas.Bool.{cond-false}
 use Rattle.aia_regs.specs.declared.access.Csr.{Csr}
 use Rattle.aia_regs.specs.declared.access.Op.{Op}
@@ -14,7 +15,9 @@ use Rattle.aia_model.specs.Reading.{csr_at, number_at, whole}
 use Rattle.aia_regs.specs.declared.access.Op.TheVariants as ops
 use Rattle.aia_script.specs.declared.instructions.Mnemonic.{Mnemonic}
 use Rattle.aia_script.specs.declared.instructions.Mnemonic.TheVariants.{Read, Write, Set, Clear}
+use Rattle.aia_script.specs.Cursor.{first_word}
 use Rattle.aia_script.specs.Mnemonics.{mnemonic_name, operation_at}
+use Rattle.aia_script.proofs.WordLemmas.{other_start}
 use Rattle.aia_model.proofs.Readers.{read_made}
 
 pub machine_access : (hart : ℕ) (ws : Words) → read (instruction levels.Machine) (λ v. lines.MachineCsr hart (access levels.Machine v).0 (access levels.Machine v).1) ws ≡ (read (instruction levels.Machine) (access levels.Machine) ws >>= λ a. Some (lines.MachineCsr hart a.0 a.1))
@@ -30,8 +33,15 @@ pub loaded_part : (vm number : ℕ) (ws : Words) → read part_shape (λ v. line
 loaded_part vm number ws = read_made (lines.LoadPart vm number) part_shape part ws
 
 -- each mnemonic begins with the same bytes
-pub no_instruction : (level : Level) (word : List ℕ) (ws : Words) → ((more : List ℕ) → is_word word (codes "csrr" ++ more) ≡ false) → read (instruction level) (access level) (word ∷ ws) ≡ None
-no_instruction level word ws other = cond-false _ _ _ (other []) ∙ cond-false _ _ _ (other (codes "w")) ∙ cond-false _ _ _ (other (codes "s")) ∙ cond-false _ _ _ (other (codes "c"))
+pub other_mnemonics : (text : List ℕ) → starts_with nat_eq text (codes "csrr") ≡ false → (m : Mnemonic) → is_word (first_word text) (mnemonic_name m) ≡ false
+other_mnemonics text other Read = other_start text (codes "csrr") [] other
+other_mnemonics text other Write = other_start text (codes "csrr") (codes "w") other
+other_mnemonics text other Set = other_start text (codes "csrr") (codes "s") other
+other_mnemonics text other Clear = other_start text (codes "csrr") (codes "c") other
+
+-- an instruction begins with a mnemonic
+pub no_instruction : (level : Level) (word : List ℕ) (ws : Words) → ((m : Mnemonic) → is_word word (mnemonic_name m) ≡ false) → read (instruction level) (access level) (word ∷ ws) ≡ None
+no_instruction level word ws other = cond-false _ _ _ (other Read) ∙ cond-false _ _ _ (other Write) ∙ cond-false _ _ _ (other Set) ∙ cond-false _ _ _ (other Clear)
 
 -- a mnemonic is followed by a CSR, and by its operand
 then_same : {A B : Type 0} (o : Option A) (f g : A → Option B) → ((x : A) → f x ≡ g x) → (o >>= f) ≡ (o >>= g)

@@ -1,8 +1,8 @@
 -- The first word of a text, and whether it is a name.
-use Rattle.std.proofs.Common.{◌≡◌, ◌≢◌, ℕ, zero, suc, ◌+◌, ◌<◌, Bool, true, false, cond, ◌&&◌, nat_eq, List, [], ◌∷◌, length, drop, get_or, Option, option_map, IfSome, IfNone, Some, None, sym, ap, ◌∙◌, refl, arith}
+use Rattle.std.proofs.Common.{◌≡◌, ◌≢◌, ℕ, ◌+◌, ◌<◌, Bool, true, false, cond, ◌&&◌, nat_eq, List, [], ◌∷◌, ◌++◌, length, drop, get_or, Option, option_map, IfSome, IfNone, Some, None, sym, ap, ◌∙◌, refl, true≢false, arith}
 use Rattle.std.specs.Prelude.{count_by}
 use Rattle.std.specs.Borrow.{Bor}
-use Rattle.std.specs.List.{onto_first}
+use Rattle.std.specs.List.{onto_first, starts_with}
 use Rattle.std.proofs.lemmas.Bool.Decides.{nat_tests}
 use Rattle.std.proofs.lemmas.Bool.{cond-true, cond-false}
 use Rattle.std.proofs.lemmas.List.{at_drop_more, at_drop_all}
@@ -40,18 +40,18 @@ words_left text found = more (words_of text) found (let e : length (words_of tex
 
 -- ---- whether the first word is a name, byte by byte
 
+and_false : (b : Bool) → (b && false) ≡ false
+and_false true = refl
+and_false false = refl
+
 -- one byte further on they differ
 later_byte : (c n : ℕ) (cs name : List ℕ) → is_word (first_word cs) name ≡ false → is_word (first_word (c ∷ cs)) (n ∷ name) ≡ false
 unfolding first_word
 later_byte c n cs name more = either (nat_eq c 32)
   where
-    both : (b : Bool) → (b && false) ≡ false
-    both true = refl
-    both false = refl
-
     either : (b : Bool) → is_word (cond b [] (c ∷ first_word cs)) (n ∷ name) ≡ false
     either true = refl
-    either false = ap (λ t. nat_eq c n && t) more ∙ both (nat_eq c n)
+    either false = ap (λ t. nat_eq c n && t) more ∙ and_false (nat_eq c n)
 
 -- a text that is shorter than a name does not begin with it
 pub too_short : (text name : List ℕ) → length text < length name → is_word (first_word text) name ≡ false
@@ -68,13 +68,16 @@ other_byte c n cs name other = either (nat_eq c 32)
     either true = refl
     either false = ap (λ t. t && is_word (first_word cs) name) other
 
--- another byte than the name's, at a place of the text
-pub other_at : (text name : List ℕ) (k : ℕ) → k < length name → get_or text k 0 ≢ get_or name k 0 → is_word (first_word text) name ≡ false
+-- where a text does not begin so, no name that begins so is its first word
+pub other_start : (text start more : List ℕ) → starts_with nat_eq text start ≡ false → is_word (first_word text) (start ++ more) ≡ false
 unfolding first_word
-other_at text [] k there other = absurd (omega arith)
-other_at [] (n ∷ name) k there other = refl
-other_at (c ∷ cs) (n ∷ name) zero there other = other_byte c n cs name (grind (arith, nat_tests))
-other_at (c ∷ cs) (n ∷ name) (suc k) there other = later_byte c n cs name (other_at cs name k (omega arith) other)
+other_start text [] more other = absurd (true≢false other)
+other_start [] (n ∷ start) more other = refl
+other_start (c ∷ cs) (n ∷ start) more other = either (other_start cs start more) (nat_eq n c) refl other
+  where
+    either : (starts_with nat_eq cs start ≡ false → is_word (first_word cs) (start ++ more) ≡ false) → (b : Bool) → nat_eq n c ≡ b → (b && starts_with nat_eq cs start) ≡ false → is_word (first_word (c ∷ cs)) (n ∷ start ++ more) ≡ false
+    either later true same other = later_byte c n cs (start ++ more) (later other)
+    either later false apart other = other_byte c n cs (start ++ more) (grind (arith, nat_tests))
 
 -- another byte stands there
 pub differs : (text name : List ℕ) (at : ℕ) → at < length text → at < length name → get_or text at 0 ≢ get_or name at 0 → is_word (first_word (drop at text)) (drop at name) ≡ false
@@ -152,3 +155,33 @@ name_found text name (Some words) word after is = let here = ends_here (drop (le
 pub name_goes_on : (text name : List ℕ) (found : Option Words) → is_word (first_word (drop (length name) text)) (drop (length name) name) ≡ is_word (first_word text) name → option_map left found ≡ words_after (drop (length name) text) → IfNone found (is_word (first_word text) name ≡ false)
 name_goes_on text name (Some words) word is = tt
 name_goes_on text name None word is = sym word ∙ sym (no_more text name) ∙ goes_on_here (drop (length name) text) None is
+
+-- ---- whether a text begins with some bytes, byte by byte
+
+-- a text that is shorter does not
+pub start_too_short : (text start : List ℕ) → length text < length start → starts_with nat_eq text start ≡ false
+start_too_short text [] less = absurd (omega arith)
+start_too_short [] (n ∷ start) less = refl
+start_too_short (c ∷ cs) (n ∷ start) less = ap (λ t. nat_eq n c && t) (start_too_short cs start (omega arith)) ∙ and_false (nat_eq n c)
+
+-- the bytes at a place decide, or those after it
+start_there : (text start : List ℕ) (at : ℕ) → at < length text → at < length start → starts_with nat_eq (drop at text) (drop at start) ≡ (nat_eq (get_or start at 0) (get_or text at 0) && starts_with nat_eq (drop (at + 1) text) (drop (at + 1) start))
+start_there text start at there named =
+    at_drop_more (λ cs. starts_with nat_eq cs (drop at start)) text at 0 there
+    ∙ at_drop_more (starts_with nat_eq (get_or text at 0 ∷ drop (at + 1) text)) start at 0 named
+
+-- another byte stands there
+pub start_differs : (text start : List ℕ) (at : ℕ) → at < length text → at < length start → get_or text at 0 ≢ get_or start at 0 → starts_with nat_eq (drop at text) (drop at start) ≡ false
+start_differs text start at there named other =
+    let apart : nat_eq (get_or start at 0) (get_or text at 0) ≡ false = grind (arith, nat_tests) in
+    start_there text start at there named ∙ ap (λ t. t && starts_with nat_eq (drop (at + 1) text) (drop (at + 1) start)) apart
+
+-- the same byte stands there
+pub start_one_more : (text start : List ℕ) (at : ℕ) → at < length text → at < length start → get_or text at 0 ≡ get_or start at 0 → starts_with nat_eq (drop (at + 1) text) (drop (at + 1) start) ≡ starts_with nat_eq (drop at text) (drop at start)
+start_one_more text start at there named same =
+    let equal : nat_eq (get_or start at 0) (get_or text at 0) ≡ true = grind (arith, nat_tests) in
+    sym (start_there text start at there named ∙ ap (λ t. t && starts_with nat_eq (drop (at + 1) text) (drop (at + 1) start)) equal)
+
+-- all bytes stand there
+pub start_whole : (text start : List ℕ) (at : ℕ) → at ≡ length start → starts_with nat_eq (drop at text) (drop at start) ≡ true
+start_whole text start at all = at_drop_all (starts_with nat_eq (drop at text)) start at (omega arith)

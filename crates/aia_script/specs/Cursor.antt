@@ -18,7 +18,7 @@ abbrev pub words_after : List ℕ → Option (List (List ℕ))
 words_after [] = Some []
 words_after (c ∷ cs) = if nat_eq c 32 then Some (words_of cs) else None
 
--- The first word of a text, and the words after it.
+-- The first word of a text, up to its first space; and the words after that space.
 unfoldable pub first_word : List ℕ → List ℕ
 first_word [] = []
 first_word (c ∷ cs) = if nat_eq c 32 then [] else c ∷ first_word cs

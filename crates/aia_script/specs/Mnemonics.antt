@@ -14,7 +14,8 @@ mnemonic_name Write = codes "csrrw"
 mnemonic_name Set = codes "csrrs"
 mnemonic_name Clear = codes "csrrc"
 
--- The operation of a mnemonic, with its operand, which the next word is where it has one.
+-- The operation of a mnemonic, with the next word as its operand where it has one, and the words
+-- after that.
 unfoldable pub operation_at : Mnemonic → Words → Option (Op × Words)
 operation_at Read words = Some (ops.Read, words)
 operation_at Write words = number_at words >>= λ operand. Some (ops.Write operand.0, operand.1)

@@ -34,7 +34,8 @@ step_forms =
     ∷ (codes "wake", Alone Wake)
     ∷ []
 
--- The step with the number of a word, where the words left are that one number, below so many.
+-- The step that the words left spell where they are the number of a word of a set alone, which is
+-- below `count`.
 unfoldable pub word_step : ℕ → (ℕ → Step) → Words → Option Step
 word_step count step words = do
   number ← number_at words

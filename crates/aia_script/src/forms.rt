@@ -149,8 +149,8 @@ fn guest_at(words: &mut Words<'_>) -> Option<Line>
 
 /// Reads the line that the words after `begin` spell; `None` where they spell none.
 #[inline(always)]
-fn begin_at(words: &mut Words<'_>) -> Option<Line>
-    ensures { result ≡ line_by begin (left words.old) }
+fn begin_at(words: &Words<'_>) -> Option<Line>
+    ensures { result ≡ line_by begin (left words.now) }
 {
     let text = words.rest()?;
     moves!(read_by_row (text) Begin);
@@ -160,9 +160,9 @@ fn begin_at(words: &mut Words<'_>) -> Option<Line>
 /// Reads the line that the words after `load` and the numbers of a virtual hart spell; `None` where
 /// they spell none.
 #[inline(always)]
-fn load_part_of(vm: u64, number: u64, words: &mut Words<'_>) -> Option<Line>
+fn load_part_of(vm: u64, number: u64, words: &Words<'_>) -> Option<Line>
     ensures { result
-        ≡ read part_shape (λ values. Line.LoadPart vm number (part values)) (left words.old) }
+        ≡ read part_shape (λ values. Line.LoadPart vm number (part values)) (left words.now) }
 {
     let part = part_at(words)?;
     Some(Line::LoadPart { vm, number, part })
@@ -223,8 +223,8 @@ fn line_of(text: &[u8]) -> Option<Line>
     if let Some(mut words) = after_name(text, b"g") {
         return guest_at(&mut words);
     }
-    if let Some(mut words) = after_name(text, b"begin") {
-        return begin_at(&mut words);
+    if let Some(words) = after_name(text, b"begin") {
+        return begin_at(&words);
     }
     if let Some(mut words) = after_name(text, b"load") {
         return load_part_at(&mut words);
@@ -235,8 +235,8 @@ fn line_of(text: &[u8]) -> Option<Line>
 /// Reads the line that words spell; `None` where they spell none.
 #[tactic(auto, unfolding(aia_model::specs::Reading::line_at))]
 #[inline(always)]
-pub fn line_at(words: &mut Words<'_>) -> Option<Line>
-    ensures { result ≡ line_at (left words.old) }
+pub fn line_at(words: &Words<'_>) -> Option<Line>
+    ensures { result ≡ line_at (left words.now) }
 {
     line_of(words.rest()?)
 }

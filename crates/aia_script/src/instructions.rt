@@ -1,13 +1,12 @@
 //! CSR instructions: the CSR's name at a level, and what follows each mnemonic; read and printed.
 
-ghost use Rattle.std.specs.Prelude.{◌≡◌, None, ◌+◌, ◌≤◌, ℕ, ◌∷◌, ◌++◌, length, map, IfSome, IfNone};
+ghost use Rattle.std.specs.Prelude.{◌≡◌, ◌+◌, ◌≤◌, ◌∷◌, ◌++◌, false, length, map, IfSome, IfNone};
 ghost use Rattle.std.specs.Option.{option_map};
 ghost use Rattle.std.specs.List.{join_with_byte};
 ghost use Rattle.arrayvec.specs.ArrayVec.{array_vec_len};
 ghost use Rattle.aia_regs.specs.Operations.{FitsOp};
-ghost use Rattle.aia_regs.specs.declared.access.Level.{Level};
 ghost use Rattle.aia_model.specs.AnswerText.{field_text, hex_text, name_text};
-ghost use Rattle.aia_model.specs.Grammar.{csr_name, csr_names, fields, named};
+ghost use Rattle.aia_model.specs.Grammar.{csr_name, csr_names, fields, is_word, named};
 ghost use Rattle.aia_model.specs.Forms.{access, access_values, instruction};
 ghost use Rattle.aia_model.specs.Reading.{csr_at, read};
 ghost use Rattle.aia_model.specs.declared.limits.TheConstants.{LINE_BYTES};
@@ -102,10 +101,10 @@ enum Mnemonic {
 fn mnemonic_of(text: &[u8]) -> Option<(Mnemonic, Words<'_>)>
     ensures name { IfSome result (λ found. first_word text.now ≡ mnemonic_name found.0) }
     ensures rest { IfSome result (λ found. left found.1 ≡ after_first text.now) }
-    ensures none { IfNone result ((level : Level) → read (instruction level) (access level)
-        (first_word text.now ∷ after_first text.now) ≡ None) }
+    ensures none { IfNone result
+        ((m : Mnemonic) → is_word (first_word text.now) (mnemonic_name m) ≡ false) }
 {
-    // The bytes that all mnemonics begin with are compared once.
+    // All mnemonics begin so: what does not is refused by one comparison.
     if !may_begin(text, b"csrr") {
         return None;
     }
@@ -132,6 +131,7 @@ fn operation_at(mnemonic: Mnemonic, words: &mut Words<'_>) -> Option<Op>
     ensures { option_map (λ op. (op, left words.new)) result
         ≡ operation_at mnemonic (left words.old) }
 {
+    // Read in one place, so that reading a number is compiled in once.
     let operand = match mnemonic {
         Mnemonic::Read => 0,
         Mnemonic::Write | Mnemonic::Set | Mnemonic::Clear => number_at(words)?,
@@ -160,8 +160,8 @@ pub fn instruction_of(level: Level, text: &[u8]) -> Option<(Csr, Op)>
 /// Reads the CSR and the operation that words spell, by the level's names; `None` where they spell
 /// none.
 #[inline(always)]
-pub fn instruction_at(level: Level, words: &mut Words<'_>) -> Option<(Csr, Op)>
-    ensures { result ≡ read (instruction level) (access level) (left words.old) }
+pub fn instruction_at(level: Level, words: &Words<'_>) -> Option<(Csr, Op)>
+    ensures { result ≡ read (instruction level) (access level) (left words.now) }
 {
     instruction_of(level, words.rest()?)
 }

@@ -36,6 +36,7 @@ impl Radix {
         ensures value { result ≡ digit_in self character }
         ensures below { IfSome result (λ digit. digit < base self) }
     {
+        // A character below the first one wraps to a great number, so one comparison decides.
         let digit = u64::from(character).wrapping_sub(u64::from(b'0'));
         if digit < 10 {
             return Some(digit);

@@ -50,7 +50,7 @@ fn read(text: &[u8]) -> Parsed
     if text.len() > LINE_BYTES {
         return Parsed::Bad;
     }
-    match line_at(&mut all_words(text)) {
+    match line_at(&all_words(text)) {
         Some(line) => Parsed::Line(line),
         None => Parsed::Bad,
     }

@@ -40,8 +40,8 @@ pub fn push_part<const N: usize>(out: &mut ArrayVec<u8, N>, part: Part)
 }
 
 /// Reads the part of an image that words spell; `None` where they spell none.
-pub fn part_at(words: &mut Words<'_>) -> Option<Part>
-    ensures { result ≡ read part_shape part (left words.old) }
+pub fn part_at(words: &Words<'_>) -> Option<Part>
+    ensures { result ≡ read part_shape part (left words.now) }
 {
     let text = words.rest()?;
     parts!(read_by_row(text));

@@ -88,12 +88,12 @@ fn step_after(named: Step, words: &mut Words<'_>, count: u32) -> Option<Step>
 
 /// Reads the step that words spell; `None` where they spell none.
 #[tactic(auto, unfolding(crate::specs::StepText::step_at))]
-fn step_at(words: &mut Words<'_>, count: u32) -> Option<Step>
-    ensures step { result ≡ step_at count (left words.old) }
+fn step_at(words: &Words<'_>, count: u32) -> Option<Step>
+    ensures step { result ≡ step_at count (left words.now) }
     ensures inside { IfSome result (λ step. IsInside count step) }
 {
-    let (named, mut words) = named(words.rest()?)?;
-    step_after(named, &mut words, count)
+    let (step, mut rest) = named(words.rest()?)?;
+    step_after(step, &mut rest, count)
 }
 
 /// Reads a step of a plan, of files whose sets have `words` words of 64 identities.
@@ -110,5 +110,5 @@ pub fn parse_step(text: &[u8], words: u32) -> Option<Step>
     if text.len() > LINE_BYTES {
         return None;
     }
-    step_at(&mut all_words(text), words)
+    step_at(&all_words(text), words)
 }

@@ -1,6 +1,7 @@
 //! The words of a text.
 
-ghost use Rattle.std.specs.Prelude.{◌≡◌, ℕ, List, ◌++◌, true, false, IfSome, IfNone};
+ghost use Rattle.std.specs.Prelude.{◌≡◌, nat_eq, true, false, IfSome, IfNone};
+ghost use Rattle.std.specs.List.{starts_with};
 ghost use Rattle.std.specs.Option.{option_map};
 ghost use Rattle.aia_model.specs.Text.{words_of};
 ghost use Rattle.aia_model.specs.Grammar.{is_word};
@@ -64,6 +65,7 @@ pub fn after_name<'a>(text: &'a [u8], name: &[u8]) -> Option<Words<'a>>
         if text[at] != name[at] {
             return None;
         }
+        // A word has no space, so a name with one is none.
         if name[at] == b' ' {
             return None;
         }
@@ -71,11 +73,10 @@ pub fn after_name<'a>(text: &'a [u8], name: &[u8]) -> Option<Words<'a>>
     words_after(&text[name.len()..])
 }
 
-/// Tells whether the first word of a text may begin with `start`: the text does.
+/// Tells whether a text begins with `start`; where it does not, neither does its first word.
 #[inline(always)]
 pub fn may_begin(text: &[u8], start: &[u8]) -> bool
-    ensures { result ≡ false
-        → (more : List ℕ) → is_word (first_word text.now) (start.now ++ more) ≡ false }
+    ensures { result ≡ starts_with nat_eq text.now start.now }
 {
     if text.len() < start.len() {
         return false;

@@ -1,12 +1,17 @@
-use Rattle.std.proofs.Common.{◌≡◌, sym, ◌∙◌, rules}
+use Rattle.std.proofs.Common.{◌≡◌, None, sym, ◌∙◌, rules}
 use Rattle.aia_regs.specs.declared.access.Csr.{Csr}
 use Rattle.aia_regs.specs.declared.access.Op.{Op}
 use Rattle.aia_model.specs.Text.{◌>>=◌}
 use Rattle.aia_model.specs.Reading.{csr_at, whole}
 use Rattle.aia_script.specs.Cursor.{first_word, after_first}
 use Rattle.aia_script.specs.Mnemonics.{operation_at}
-use Rattle.aia_script.proofs.FormLemmas.{by_mnemonic}
+use Rattle.aia_script.proofs.FormLemmas.{by_mnemonic, no_instruction}
 use Rattle.aia_script.proofs.instructions.instruction_of.Goals as goal
+
+pub returns-in_err-mnemonic : goal.returns-in_err-mnemonic
+returns-in_err-mnemonic c =
+    let nothing : c.from_residual.result ≡ None = search rules in
+    nothing ∙ sym (no_instruction c.args.level (first_word c.args.text.now) (after_first c.args.text.now) c.in_err-mnemonic.ensures.none)
 
 pub returns-in_err-op : goal.returns-in_err-op
 returns-in_err-op c =
