@@ -1,6 +1,6 @@
 -- Bytes that are cut at LF.
 use Rattle.std.proofs.Common.{◌≡◌, ℕ, suc, ◌+◌, ◌<◌, Bool, true, false, nat_eq, List, [], ◌∷◌, ◌++◌, length, take, drop, min, Option, Some, None, inl, inr, refl, sym, ap, ◌∙◌, arith}
-use Rattle.std.specs.Prelude.{position}
+use Rattle.std.specs.Prelude.{position, All}
 use Rattle.std.specs.List.{before_first, after_first, onto_first, position_or_len}
 use Rattle.std.proofs.lemmas.List.{take_all, get_or-take, length-take, length-append, take-append-le}
 use Rattle.std.proofs.Math.Seq.{take-length, take-append-add}
@@ -9,8 +9,23 @@ use Rattle.std.proofs.lemmas.List.Sums.{fails_before_first, passes_at_first, spl
 use Rattle.std.proofs.lemmas.Bool.{cases_lt, cond-true, cond-false, lt-ltb, le-ltb, false≢true}
 use Rattle.memchr.specs.Find.{IsFirstByte}
 use Rattle.aia_model.specs.Text.{texts_of}
-use Rattle.aia_script.proofs.WordLemmas.{position_some, none_found}
 use Rattle.aia_replay.specs.Runs.{NoEnd}
+
+-- ---- what a search finds
+
+position_some : (p : ℕ → Bool) (xs : List ℕ) (i : ℕ) → position p xs ≡ Some i → (position_or_len p xs < length xs) × (position_or_len p xs ≡ i)
+position_some p xs i e =
+    elim (cases_lt (position_or_len p xs) (length xs)) [
+      | inl h ↦ let e2 : Some (position_or_len p xs) ≡ Some i = sym (cond-true _ _ _ (lt-ltb _ _ h)) ∙ e in (h, cc)
+      | inr h ↦ let e2 : ◌≡◌ {A = Option ℕ} None (Some i) = sym (cond-false _ _ _ (le-ltb _ _ h)) ∙ e in absurd (cc)
+    ]
+
+none_found : (p : ℕ → Bool) (xs : List ℕ) → position p xs ≡ None → All (λ b. p b ≡ false) xs
+none_found p xs e =
+    elim (cases_lt (position_or_len p xs) (length xs)) [
+      | inl h ↦ let e2 : ◌≡◌ {A = Option ℕ} (Some (position_or_len p xs)) None = sym (cond-true _ _ _ (lt-ltb _ _ h)) ∙ e in absurd (cc)
+      | inr h ↦ All-from_get_or (λ b. p b ≡ false) xs 0 (λ i low. fails_before_first p xs i 0 (omega arith))
+    ]
 
 -- ---- where the first LF is
 

@@ -75,7 +75,7 @@ pub fn after_name<'a>(text: &'a [u8], name: &[u8]) -> Option<Words<'a>>
 
 /// Tells whether a text begins with `start`; where it does not, neither does its first word.
 #[inline(always)]
-pub fn may_begin(text: &[u8], start: &[u8]) -> bool
+pub fn begins_with(text: &[u8], start: &[u8]) -> bool
     ensures { result ≡ starts_with nat_eq text.now start.now }
 {
     if text.len() < start.len() {

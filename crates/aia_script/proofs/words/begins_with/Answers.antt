@@ -1,6 +1,6 @@
 use Rattle.std.proofs.Common.{◌≡◌, ◌<◌, length, sym, ◌∙◌, arith}
 use Rattle.aia_script.proofs.WordLemmas.{start_too_short, start_differs, start_one_more, start_whole}
-use Rattle.aia_script.proofs.words.may_begin.Goals as goal
+use Rattle.aia_script.proofs.words.begins_with.Goals as goal
 
 pub returns-then-text-start : goal.returns-then-text-start
 returns-then-text-start c = sym (start_too_short c.args.text.now c.args.start.now c.if-text-start.true)
