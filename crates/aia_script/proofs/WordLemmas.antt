@@ -155,33 +155,3 @@ name_found text name (Some words) word after is = let here = ends_here (drop (le
 pub name_goes_on : (text name : List ℕ) (found : Option Words) → is_word (first_word (drop (length name) text)) (drop (length name) name) ≡ is_word (first_word text) name → option_map left found ≡ words_after (drop (length name) text) → IfNone found (is_word (first_word text) name ≡ false)
 name_goes_on text name (Some words) word is = tt
 name_goes_on text name None word is = sym word ∙ sym (no_more text name) ∙ goes_on_here (drop (length name) text) None is
-
--- ---- whether a text begins with some bytes, byte by byte
-
--- a text that is shorter does not
-pub start_too_short : (text start : List ℕ) → length text < length start → starts_with nat_eq text start ≡ false
-start_too_short text [] less = absurd (omega arith)
-start_too_short [] (n ∷ start) less = refl
-start_too_short (c ∷ cs) (n ∷ start) less = ap (λ t. nat_eq n c && t) (start_too_short cs start (omega arith)) ∙ and_false (nat_eq n c)
-
--- the bytes at a place decide, or those after it
-start_there : (text start : List ℕ) (at : ℕ) → at < length text → at < length start → starts_with nat_eq (drop at text) (drop at start) ≡ (nat_eq (get_or start at 0) (get_or text at 0) && starts_with nat_eq (drop (at + 1) text) (drop (at + 1) start))
-start_there text start at there named =
-    at_drop_more (λ cs. starts_with nat_eq cs (drop at start)) text at 0 there
-    ∙ at_drop_more (starts_with nat_eq (get_or text at 0 ∷ drop (at + 1) text)) start at 0 named
-
--- another byte stands there
-pub start_differs : (text start : List ℕ) (at : ℕ) → at < length text → at < length start → get_or text at 0 ≢ get_or start at 0 → starts_with nat_eq (drop at text) (drop at start) ≡ false
-start_differs text start at there named other =
-    let apart : nat_eq (get_or start at 0) (get_or text at 0) ≡ false = grind (arith, nat_tests) in
-    start_there text start at there named ∙ ap (λ t. t && starts_with nat_eq (drop (at + 1) text) (drop (at + 1) start)) apart
-
--- the same byte stands there
-pub start_one_more : (text start : List ℕ) (at : ℕ) → at < length text → at < length start → get_or text at 0 ≡ get_or start at 0 → starts_with nat_eq (drop (at + 1) text) (drop (at + 1) start) ≡ starts_with nat_eq (drop at text) (drop at start)
-start_one_more text start at there named same =
-    let equal : nat_eq (get_or start at 0) (get_or text at 0) ≡ true = grind (arith, nat_tests) in
-    sym (start_there text start at there named ∙ ap (λ t. t && starts_with nat_eq (drop (at + 1) text) (drop (at + 1) start)) equal)
-
--- all bytes stand there
-pub start_whole : (text start : List ℕ) (at : ℕ) → at ≡ length start → starts_with nat_eq (drop at text) (drop at start) ≡ true
-start_whole text start at all = at_drop_all (starts_with nat_eq (drop at text)) start at (omega arith)

@@ -15,7 +15,7 @@ ghost use Rattle.aia_script.specs.Mnemonics.{mnemonic_name, operation_at};
 
 use crate::number::number_at;
 use crate::pieces::{push_hex, push_text};
-use crate::words::{Words, after_name, at_end, begins_with};
+use crate::words::{Words, after_name, at_end};
 use aia_model::limits::LINE_BYTES;
 use aia_regs::{Csr, Level, Op};
 use arrayvec::ArrayVec;
@@ -105,7 +105,7 @@ fn mnemonic_of(text: &[u8]) -> Option<(Mnemonic, Words<'_>)>
         ((m : Mnemonic) → is_word (first_word text.now) (mnemonic_name m) ≡ false) }
 {
     // All mnemonics begin so: what does not is refused by one comparison.
-    if !begins_with(text, b"csrr") {
+    if !text.starts_with(b"csrr") {
         return None;
     }
     if let Some(words) = after_name(text, b"csrr") {

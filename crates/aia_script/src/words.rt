@@ -1,7 +1,6 @@
 //! The words of a text.
 
 ghost use Rattle.std.specs.Prelude.{◌≡◌, nat_eq, true, false, IfSome, IfNone};
-ghost use Rattle.std.specs.List.{starts_with};
 ghost use Rattle.std.specs.Option.{option_map};
 ghost use Rattle.aia_model.specs.Text.{words_of};
 ghost use Rattle.aia_model.specs.Grammar.{is_word};
@@ -71,22 +70,6 @@ pub fn after_name<'a>(text: &'a [u8], name: &[u8]) -> Option<Words<'a>>
         }
     }
     words_after(&text[name.len()..])
-}
-
-/// Tells whether a text begins with `start`; where it does not, neither does its first word.
-#[inline(always)]
-pub fn begins_with(text: &[u8], start: &[u8]) -> bool
-    ensures { result ≡ starts_with nat_eq text.now start.now }
-{
-    if text.len() < start.len() {
-        return false;
-    }
-    for at in 0..start.len() {
-        if text[at] != start[at] {
-            return false;
-        }
-    }
-    true
 }
 
 /// Gives `found` where no word is left; `None` where one is.
