@@ -4,7 +4,7 @@ use Rattle.std.specs.Prelude.{count_by}
 use Rattle.std.specs.Borrow.{Bor}
 use Rattle.std.specs.List.{onto_first, starts_with}
 use Rattle.std.proofs.lemmas.Bool.Decides.{nat_tests}
-use Rattle.std.proofs.lemmas.Bool.{cond-true, cond-false}
+use Rattle.std.proofs.lemmas.Bool.{cond-true, cond-false, and_right}
 use Rattle.std.proofs.lemmas.List.{at_drop_more, at_drop_all}
 use Rattle.std.proofs.lemmas.List.Splits.{length-slice_split}
 use Rattle.aia_model.specs.Text.{words_of}
@@ -40,10 +40,6 @@ words_left text found = more (words_of text) found (let e : length (words_of tex
 
 -- ---- whether the first word is a name, byte by byte
 
-and_false : (b : Bool) → (b && false) ≡ false
-and_false true = refl
-and_false false = refl
-
 -- one byte further on they differ
 later_byte : (c n : ℕ) (cs name : List ℕ) → is_word (first_word cs) name ≡ false → is_word (first_word (c ∷ cs)) (n ∷ name) ≡ false
 unfolding first_word
@@ -51,7 +47,7 @@ later_byte c n cs name more = either (nat_eq c 32)
   where
     either : (b : Bool) → is_word (cond b [] (c ∷ first_word cs)) (n ∷ name) ≡ false
     either true = refl
-    either false = ap (λ t. nat_eq c n && t) more ∙ and_false (nat_eq c n)
+    either false = ap (λ t. nat_eq c n && t) more ∙ and_right (nat_eq c n) false refl
 
 -- a text that is shorter than a name does not begin with it
 pub too_short : (text name : List ℕ) → length text < length name → is_word (first_word text) name ≡ false
