@@ -3,8 +3,8 @@ use Rattle.std.proofs.Common.{◌≡◌, ℕ, true, nat_eq, Option, Some, inl, i
 use Rattle.std.proofs.lemmas.Bool.{and_parts, eqb-true, or_left, or_right}
 use Rattle.std.proofs.lemmas.Bool.Decides.{nat_tests}
 use Rattle.aia_home.specs.declared.place.Place.{Place}
-use Rattle.aia_home.specs.Home.{Home, is_place, holds, entering, exiting}
-use Rattle.aia_home.specs.declared.rest.Rest.TheVariants.{Parked, Entered}
+use Rattle.aia_home.specs.Home.{Home, is_place, holds, resting}
+use Rattle.aia_home.specs.declared.rest.Rest.{Rest}
 use Rattle.aia_home.specs.Home.Home.{InMemory, Resident, Leaving, Arriving, Shifting}
 use Rattle.aia_home.specs.BySteps.{own_file, next_file, new_file}
 use Rattle.aia_home.specs.Routes.{origin, MayLand}
@@ -51,12 +51,8 @@ pub landing_is_held : (words : ℕ) (there : Home) (reach : Option Place) (p : P
 landing_is_held words there reach p (inl m) e = origin_is_held there p (sym m.0 ∙ e)
 landing_is_held words there reach p (inr m) e = new_is_held there p (sym m.0 ∙ e)
 
--- ---- it enters, or exits: what is so of the parked and the entered alike stays
+-- ---- it rests in memory another way: what is so of every way to rest stays
 
-pub entering_keeps : (P : Home → Type 0) → (P (InMemory Parked) → P (InMemory Entered)) → (there : Home) → P there → P (entering there)
-entering_keeps P same (InMemory Parked) p = same p
-entering_keeps P same there p = p
-
-pub exiting_keeps : (P : Home → Type 0) → (P (InMemory Entered) → P (InMemory Parked)) → (there : Home) → P there → P (exiting there)
-exiting_keeps P same (InMemory Entered) p = same p
-exiting_keeps P same there p = p
+pub resting_keeps : (P : Home → Type 0) → ((from to : Rest) → P (InMemory from) → P (InMemory to)) → (rest : Rest) (there : Home) → P there → P (resting rest there)
+resting_keeps P same rest (InMemory before) p = same before rest p
+resting_keeps P same rest there p = p

@@ -61,16 +61,12 @@ holds p (Leaving from at) = is_place p from
 holds p (Arriving to at) = is_place p to
 holds p (Shifting from to at) = is_place p from || is_place p to
 
--- ---- it runs from memory
+-- ---- it rests in memory another way
 
--- It begins to run from memory, and ceases to. Its interrupts stay where they are.
-abbrev pub entering : Home → Home
-entering (InMemory Parked) = InMemory Entered
-entering there = there
-
-abbrev pub exiting : Home → Home
-exiting (InMemory Entered) = InMemory Parked
-exiting there = there
+-- It begins to run from memory, or ceases to. Its interrupts stay where they are.
+abbrev pub resting : Rest → Home → Home
+resting rest (InMemory before) = InMemory rest
+resting rest there = there
 
 -- ---- its moves
 

@@ -31,7 +31,7 @@ use Rattle.aia_model.specs.SourceOf.{target}
 use Rattle.aia_model.specs.Sent.{with_act, with_all_sent, senders, acts_of}
 use Rattle.aia_model.specs.Passes.{Pass, no_pass, passes_of, nth_pass, pass_of, is_passed, passes_to, passes_for, own_pass, rank_of}
 use Rattle.aia_model.specs.Passable.{is_passable, redirects, KeepsItsWay}
-use Rattle.aia_model.specs.HomeOf.{home, rested, free_file}
+use Rattle.aia_model.specs.HomeOf.{home, rest_after, rested, free_file}
 use Rattle.aia_model.specs.Aim.{pass_reach, target_for, aim_of, aimed_by, PassAtRest, AllAreAimed}
 use Rattle.aia_model.specs.Refusal.{refusal}
 use Rattle.aia_model.specs.Histories.{MayHappen, IsHistory}
@@ -41,7 +41,7 @@ use Rattle.aia_home.proofs.VmLemmas.{same_vcpu}
 use Rattle.aia_model.proofs.MoveLemmas.{is_itself}
 use Rattle.aia_model.proofs.FlightLemmas.{stays_there}
 use Rattle.aia_model.proofs.PassLemmas.{none_passed, aimed_on, rank_below}
-use Rattle.aia_model.proofs.ReachLemmas.{rested_keeps}
+use Rattle.aia_model.proofs.ReachLemmas.{rest_keeps}
 use Rattle.aia_model.proofs.PassReachLemmas.{leaving_passes, arrives_passes, shifts_passes, further_passes, aimed_other}
 use Rattle.aia_model.proofs.OwnPassLemmas.{own_is, rank_is}
 use Rattle.aia_model.proofs.TargetLemmas.{passed_stays, aim_gives, sent_stays, store_leaves, another}
@@ -239,8 +239,8 @@ same_aimed h line p past same notice homes a = record {
     IsTarget xs hart = target past Child (slice_index_or xs p no_pass).source ≡ target_to hart p (slice_index_or xs p no_pass).identity (pass_reaches (passes_to (slice_index_or xs p no_pass).to (take p xs)) (home (Accepted line ∷ h) (slice_index_or xs p no_pass).to))
 
 -- however one rests in memory, its passes lead there
-rested_passes : (h : History) (line : Line) (p : ℕ) → pass_reaches (rank_of h p) (rested line (nth_pass h p).to (home h (nth_pass h p).to)) ≡ pass_reach h p
-rested_passes h line p = rested_keeps (λ there. pass_reaches (rank_of h p) there ≡ pass_reach h p) (λ from to e. e) line (nth_pass h p).to (home h (nth_pass h p).to) refl
+rested_passes : (h : History) (line : Line) (p : ℕ) → pass_reaches (rank_of h p) (rested (rest_after line) (nth_pass h p).to (home h (nth_pass h p).to)) ≡ pass_reach h p
+rested_passes h line p = rest_keeps (λ there. pass_reaches (rank_of h p) there ≡ pass_reach h p) (λ from to e. e) (rest_after line) (nth_pass h p).to (home h (nth_pass h p).to) refl
 
 pub line_aimed : (h : History) (line : Line) (p : ℕ) → refusal h line ≡ None → AllPassesStand h → p < length (passes_of (Accepted line ∷ h)) → IsAimedIn (Accepted line ∷ h) p (acts_by h line)
 unfolding passes_of home

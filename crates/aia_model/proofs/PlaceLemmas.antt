@@ -28,10 +28,10 @@ use Rattle.aia_model.specs.Move.{mover}
 use Rattle.aia_model.specs.Flight.{flight}
 use Rattle.aia_model.specs.Vms.{vms_of, has_vcpu}
 use Rattle.aia_model.specs.Passes.{passes_of, passes_for}
-use Rattle.aia_model.specs.HomeOf.{home, free_file, guest_place}
+use Rattle.aia_model.specs.HomeOf.{home, rest_after, free_file, guest_place}
 use Rattle.aia_model.specs.Refusal.{is_machine_size}
 use Rattle.aia_model.specs.Histories.{IsHistory}
-use Rattle.aia_model.proofs.ReachLemmas.{rested_keeps}
+use Rattle.aia_model.proofs.ReachLemmas.{rest_keeps}
 use Rattle.aia_model.proofs.RefusalLemmas.{machine_stands, machine_allowed, notice_hart_allowed}
 use Rattle.aia_model.proofs.FlightLemmas.{all_append}
 
@@ -179,7 +179,7 @@ unfolding home
 all_held [] g good = λ q e. absurd (false≢true e)
 all_held (Accepted (Machine harts guests n sources) ∷ h) g good = λ q e.
     absurd (false≢true (sym (none_held g q) ∙ ap (λ x. holds q (home x g)) (sym (machine_first h good.1 (machine_allowed h harts guests n sources good.0).0)) ∙ e))
-all_held (Accepted line ∷ h) g good = same_held (Accepted line) h (home (Accepted line ∷ h) g) refl refl (rested_keeps (AllHeld h) (λ from to m. m) line g (home h g) (all_held h g good.1))
+all_held (Accepted line ∷ h) g good = same_held (Accepted line) h (home (Accepted line ∷ h) g) refl refl (rest_keeps (AllHeld h) (λ from to m. m) (rest_after line) g (home h g) (all_held h g good.1))
 all_held (Delivered msi ∷ h) g good = same_held (Delivered msi) h (home h g) refl refl (all_held h g good.1)
 all_held (Landed vm k ∷ h) g good = same_held (Landed vm k) h (home h g) refl refl (all_held h g good.1)
 all_held (Relayed p ∷ h) g good = same_held (Relayed p) h (home h g) refl refl (all_held h g good.1)

@@ -14,7 +14,7 @@ use Rattle.aia_entry.specs.Tables.{table_of, entry_in_force}
 use Rattle.aia_home.specs.declared.place.Place.{Place}
 use Rattle.aia_home.specs.declared.vm.Vm.{Vm}
 use Rattle.aia_home.specs.Vms.{Vcpu, vcpu, is_vcpu, is_vcpu_in, slot_of, notice_hart, notice_identity}
-use Rattle.aia_home.specs.Home.{Home, holds, is_entered, rests_in_memory, entering, exiting}
+use Rattle.aia_home.specs.Home.{Home, holds, is_entered, rests_in_memory, resting}
 use Rattle.aia_home.specs.declared.rest.Rest.TheVariants.{Parked, Entered}
 use Rattle.aia_home.specs.Home.Home.{InMemory}
 use Rattle.aia_home.proofs.VmLemmas.{slot_below}
@@ -304,7 +304,7 @@ parked_enters x y vm number kept given c was e = subst (λ a. CoreTakes x y (lin
       vcpus = e.1;
       leases = c.leases;
       passes = c.passes;
-      goes = home_step event h g ∙ cond-true _ _ _ (is_itself g) ∙ ap entering at;
+      goes = home_step event h g ∙ cond-true _ _ _ (is_itself g) ∙ ap (resting Entered) at;
       reach = reach_step event h g;
       seen = seen_stays event h g refl (λ w was. refl);
       none_before = λ p. refl;
@@ -367,7 +367,7 @@ exits x y vm number kept c = taken x y (lines.Exit vm number) Okay refl (λ h st
       vcpus = c.vcpus;
       leases = c.leases;
       passes = c.passes;
-      goes = home_step event h g ∙ cond-true _ _ _ (is_itself g) ∙ ap exiting at;
+      goes = home_step event h g ∙ cond-true _ _ _ (is_itself g) ∙ ap (resting Parked) at;
       reach = reach_step event h g;
       seen = seen_stays event h g refl (λ w was. refl);
       none_before = λ p. refl;

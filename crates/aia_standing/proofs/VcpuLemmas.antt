@@ -1,7 +1,8 @@
 -- What the places of a virtual hart show where nothing of them changed, and what of a core that
 -- stands for a history an event leaves which is nothing to any home.
 use Rattle.aia_model.specs.declared.line.Line.TheVariants.{Refetch}
-use Rattle.std.proofs.Common.{◌≡◌, ℕ, ◌+◌, ◌/◌, Bool, true, false, ◌∷◌, Option, Some, None, refl, sym, ap, subst, ◌∙◌}
+use Rattle.std.proofs.Common.{◌≡◌, ℕ, ◌+◌, ◌/◌, Bool, true, false, ◌∷◌, Option, Some, None, refl, sym, ap, subst, ◌∙◌, not, is_some}
+use Rattle.std.proofs.lemmas.Bool.{not-true}
 use Rattle.std.specs.Prelude.{slice_index}
 use Rattle.std.specs.List.{list_any}
 use Rattle.std.specs.Option.{option_map_or}
@@ -46,10 +47,10 @@ use Rattle.aia_model.specs.ReachOf.{in_force_of, in_force_after, NoneAtFence}
 use Rattle.aia_model.proofs.FlightLemmas.{SendsToOne}
 use Rattle.aia_model.specs.Flight.{flight}
 use Rattle.aia_model.specs.Move.{Move}
-use Rattle.aia_model.specs.HomeOf.{home, moved}
+use Rattle.aia_model.specs.HomeOf.{home, moved, rest_after}
 use Rattle.aia_model.specs.Notice.{a_look_saw}
 use Rattle.aia_model.proofs.FileLemmas.{file_by_step}
-use Rattle.aia_model.proofs.ReachLemmas.{reach_step}
+use Rattle.aia_model.proofs.ReachLemmas.{reach_step, none_rests}
 use Rattle.aia_model.proofs.MoveLemmas.{home_step, seen_stays}
 use Rattle.aia_standing.specs.declared.vcpu.VcpuRecord.{VcpuRecord}
 use Rattle.aia_standing.specs.Core.{CoreState, record_of, home_in, hand_in}
@@ -188,9 +189,7 @@ is_quiet_line (lines.Vm vcpus mask hart) = false
 is_quiet_line (lines.Send vm addr value) = false
 is_quiet_line (lines.Refetch vm number) = false
 is_quiet_line (lines.Pass source vm number identity) = false
-is_quiet_line (lines.Enter vm number) = false
-is_quiet_line (lines.Exit vm number) = false
-is_quiet_line line = true
+is_quiet_line line = not (is_some (rest_after line))
 
 pub quiet_line : (h : History) (line : Line) → is_quiet_line line ≡ true → IsQuiet h (Accepted line)
 unfolding passes_of
@@ -199,9 +198,7 @@ quiet_line h (lines.Vm vcpus mask hart) e = absurd (cc)
 quiet_line h (lines.Send vm addr value) e = absurd (cc)
 quiet_line h (lines.Refetch vm number) e = absurd (cc)
 quiet_line h (lines.Pass source vm number identity) e = absurd (cc)
-quiet_line h (lines.Enter vm number) e = absurd (cc)
-quiet_line h (lines.Exit vm number) e = absurd (cc)
-quiet_line h line e = record { stays = stays_line h line refl refl (λ g. refl) (λ g. refl) (λ g moves. refl); plain = refl }
+quiet_line h line e = record { stays = stays_line h line refl refl (λ g. none_rests (rest_after line) g (home h g) (not-true _ e)) (λ g. refl) (λ g moves. refl); plain = refl }
 
 pub quiet_send : (h : History) (vm addr value : ℕ) → IsQuiet h (Accepted (lines.Send vm addr value))
 unfolding passes_of
