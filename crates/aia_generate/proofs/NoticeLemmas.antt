@@ -387,7 +387,8 @@ deed-sends h line (Steps g) small few passes =
     omega arith
 deed-sends h line (Lands vm k) small few passes = let one : notices_sent (Landed vm k ∷ h) ≤ notices_sent h + 1 = event-sends (Landed vm k) h in omega arith
 
--- a line that may send MSIs is one event, which sends one notice at most, and the others send no MSI
+-- a line that may send MSIs is one event, which sends one notice at most, and the others send no
+-- MSI
 sending_line : (line : Line) → may_send line ≡ true → line_deed line ≡ NoMove
 sending_line (Machine harts guests n sources) e = refl
 sending_line (Wire source level) e = refl

@@ -63,7 +63,8 @@ holds p (Shifting from to at) = is_place p from || is_place p to
 
 -- ---- it rests in memory another way
 
--- It begins to run from memory, or ceases to. Its interrupts stay where they are.
+-- Where its interrupts rest in memory, they stay there, and it rests so from then on: it begins to
+-- run from there, or ceases to.
 abbrev pub resting : Rest → Home → Home
 resting rest (InMemory before) = InMemory rest
 resting rest there = there

@@ -27,7 +27,8 @@ replaced h spot file P there this others other here = elim (same_or_other h othe
   | inr ne ↦ subst (λ (f : FileState). P other f) (sym (kept_elsewhere h spot other file there here ne)) (others other here ne)
 ]
 
--- What is true of the file that was replaced as it is now, and of every other as it was, is true of each.
+-- What is true of the file that was replaced as it is now, and of every other as it was, is true of
+-- each.
 pub each_file : (h now : ImsicState) (spot : Spot) (file : FileState) (P : Spot → FileState → Type 0) → now ≡ with_file h spot file → IsThere h spot → P spot (file_at now spot)
     → ((other : Spot) → IsThere h other → other ≢ spot → P other (file_at h other)) → (other : Spot) → IsThere now other → P other (file_at now other)
 each_file h now spot file P is there this others other here =

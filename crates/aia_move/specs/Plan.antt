@@ -128,9 +128,9 @@ abbrev pub EndsPhase : Option Phase → ℕ → Moving → Type 0
 EndsPhase None words m = IsAtAims m
 EndsPhase (Some phase) words m = IsLastOf phase words m
 
--- Whether a step of a plan was made in place. If so, it was the next one, an access, after which the
--- plan is in the same phase, and the one after it can be made; if not, nothing is changed, and the
--- next step aims or is the last of its phase.
+-- Whether a step of a plan was made in place. If so, it was the next one, an access, after which
+-- the plan is in the same phase, and the one after it can be made; if not, nothing is changed, and
+-- the next step aims or is the last of its phase.
 abbrev pub StepsInPlace : Bool → World → Plan → World → Plan → Type 0
 StepsInPlace true w plan u later = (next_aim (moving_of plan) ≡ None)
     × StepsTo None w (moving_of plan) u (Again later)

@@ -17,8 +17,8 @@ before first second (x ∷ later) = not (second x && list_any first later) && be
 abbrev pub Before : (Step → Bool) → (Step → Bool) → Plan → Type 0
 Before first second rest = before first second rest ≡ true
 
--- The steps that are left keep the rule, as far as it speaks of what stands behind what; c and e are
--- the words that the step just before them took.
+-- The steps that are left keep the rule, as far as it speaks of what stands behind what; c and e
+-- are the words that the step just before them took.
 pub record Left (words : ℕ) (c e : Option ℕ) (rest : Plan) : Type 0 where
   pub one_word0 : Before (is_step Word0) (is_step Word0) rest
   pub one_fence : Before (is_step Fence) (is_step Fence) rest

@@ -16,8 +16,8 @@ pub or_together : (a b c : Bool) → ((a || b) || c) ≡ (a || (b || c))
 or_together true b c = refl
 or_together false b c = refl
 
--- In these `is` says that the number is an identity, `old` and `new` that it stands in the old and in
--- the new place, `here` that it is of the word in question, `bit` that its bit is carried.
+-- In these `is` says that the number is an identity, `old` and `new` that it stands in the old and
+-- in the new place, `here` that it is of the word in question, `bit` that its bit is carried.
 
 -- a store lands in the old place
 pub land_law : (is old bit new asked : Bool) → (((is && (old || bit)) || new) || (is && asked)) ≡ ((is && ((old || (is && asked)) || bit)) || new)

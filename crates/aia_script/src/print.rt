@@ -96,8 +96,8 @@ fn push_refusal<const N: usize>(out: &mut ArrayVec<u8, N>, word: Refusal)
     }
 }
 
-/// Prints an answer into `out`, which is empty: its word and an LF, at most [`ANSWER_BYTES`] bytes in
-/// all.
+/// Prints an answer into `out`, which is empty: its word and an LF, at most [`ANSWER_BYTES`] bytes
+/// in all.
 pub fn print_answer(answer: &Answer, out: &mut ArrayVec<u8, ANSWER_BYTES>)
     requires { out.old.items ≡ [] }
     ensures text { out.new.items ≡ answer_text answer.now }

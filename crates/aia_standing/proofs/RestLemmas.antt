@@ -1,5 +1,5 @@
 -- What is kept of a virtual hart says whether it is parked, and whether it is entered: no other
--- lemma of this crate goes by cases of how it rests.
+-- lemma of this crate tells a `Stay` apart by how it rests.
 use Rattle.std.proofs.Common.{◌≡◌, is_some, true, false, Option, Some, refl, ap, ◌∙◌}
 use Rattle.std.specs.Prelude.{Result, Ok, Err}
 use Rattle.std.proofs.lemmas.Bool.{cond-true}

@@ -10,8 +10,9 @@ use aia_pool::FileLease;
 /// Where a virtual hart is: what the hypervisor keeps of it there.
 #[derive(Drop)]
 pub enum Stay {
-    /// Its interrupts rest in its slot of memory; its two numbers are kept here. Where it is entered
-    /// it runs, and its instructions on the CSRs of its interrupt file are answered from there.
+    /// Its interrupts rest in its slot of memory; its two numbers are kept here. Where it is
+    /// entered it runs, and its instructions on the CSRs of its interrupt file are answered from
+    /// there.
     InMemory(Rest, KeptNumbers),
     /// It is resident in the guest file of this lease.
     Resident(FileLease),
