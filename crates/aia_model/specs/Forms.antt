@@ -228,21 +228,33 @@ pins = form (codes "pins") (Decimal & End) (λ (hart, end). lines.Pins hart)
 abbrev pub entry : Form
 entry = form (codes "entry") (Hex & Hex & End) (λ (w0, (w1, end)). lines.Entry w0 w1)
 
--- All forms: those that end with a CSR instruction, a move or a part of an image, and the others
--- by what they speak of.
-abbrev pub forms_of_machines : List Form
-forms_of_machines =
-    inject ∷ hvictl ∷ hviprio ∷ save ∷ pins ∷ entry ∷ pass ∷ vm ∷ machine ∷ []
+-- All forms, by what they speak of, where each list goes on with the one above it: what is made;
+-- what is shown; the majors of a virtual hart; a virtual hart; its moves; stores of devices; loads
+-- and stores of the host, and wires; and those that end with a CSR instruction, a move that begins
+-- or a part of an image.
+abbrev pub forms_from_makes : List Form
+forms_from_makes = pass ∷ vm ∷ machine ∷ []
 
-abbrev pub forms_of_virtual_harts : List Form
-forms_of_virtual_harts =
-    arrive ∷ leave ∷ shift ∷ step ∷ refetch ∷ enter ∷ exit ∷ forms_of_machines
+abbrev pub forms_from_shows : List Form
+forms_from_shows = save ∷ pins ∷ entry ∷ forms_from_makes
 
-abbrev pub forms_of_stores : List Form
-forms_of_stores = store ∷ load ∷ wire ∷ msi ∷ send ∷ land ∷ forms_of_virtual_harts
+abbrev pub forms_from_majors : List Form
+forms_from_majors = inject ∷ hvictl ∷ hviprio ∷ forms_from_shows
+
+abbrev pub forms_from_virtual_harts : List Form
+forms_from_virtual_harts = step ∷ refetch ∷ enter ∷ exit ∷ forms_from_majors
+
+abbrev pub forms_from_moves : List Form
+forms_from_moves = arrive ∷ leave ∷ shift ∷ forms_from_virtual_harts
+
+abbrev pub forms_from_devices : List Form
+forms_from_devices = msi ∷ send ∷ land ∷ forms_from_moves
+
+abbrev pub forms_from_stores : List Form
+forms_from_stores = store ∷ load ∷ wire ∷ forms_from_devices
 
 abbrev pub forms : List Form
-forms = machine_csr ∷ host ∷ guest ∷ begin ∷ load_part ∷ forms_of_stores
+forms = machine_csr ∷ host ∷ guest ∷ begin ∷ load_part ∷ forms_from_stores
 
 -- ---- a line by its form
 

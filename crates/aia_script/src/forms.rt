@@ -11,7 +11,7 @@ ghost use Rattle.aia_model.specs.AnswerText.{field_text};
 ghost use Rattle.aia_model.specs.Grammar.{fields};
 ghost use Rattle.aia_model.specs.Grammar.Field.{Keyword, Of};
 ghost use Rattle.aia_model.specs.Grammar.WordKind.{Decimal};
-ghost use Rattle.aia_model.specs.Forms.{instruction, access_values, part_fields, part, part_shape, machine_csr, host, guest, begin, load_part, forms_of_machines, forms_of_stores, forms_of_virtual_harts, Spells, IsListed};
+ghost use Rattle.aia_model.specs.Forms.{instruction, access_values, part_fields, part, part_shape, machine_csr, host, guest, begin, load_part, forms_from_makes, forms_from_shows, forms_from_majors, forms_from_virtual_harts, forms_from_moves, forms_from_devices, forms_from_stores, Spells, IsListed};
 ghost use Rattle.aia_model.specs.Printing.{line_text, FitsField, IsPrintable};
 ghost use Rattle.aia_model.specs.Reading.{line_by, line_among, line_after, line_at, read, reading};
 ghost use Rattle.aia_model.specs.declared.limits.TheConstants.{LINE_BYTES};
@@ -28,14 +28,22 @@ use aia_model::{Line, Parsed, Part, Want};
 use aia_regs::{Csr, Level, Op};
 use arrayvec::ArrayVec;
 
-/// Hands the rows of stores, loads and wires, after those that it is given, to a macro with its
-/// arguments.
+/// Hands the rows of loads and stores of the host and of wires, after those that it is given, to a
+/// macro with its arguments.
 macro_rules! stores {
     (($take:ident $args:tt) $($rows:tt)*) => {
         $take! { $args $($rows)*
             b"st" [addr: Hex, value: Hex32] (Line::Store { addr, value })
             b"ld" [addr: Hex] (Line::Load { addr })
             b"wire" [source: Decimal, level: Bit] (Line::Wire { source, level })
+        }
+    };
+}
+
+/// Hands the rows of stores of devices on, likewise.
+macro_rules! devices {
+    (($take:ident $args:tt) $($rows:tt)*) => {
+        $take! { $args $($rows)*
             b"msi" [vm: VmNumber, addr: Hex, value: Decimal32] (Line::Msi { vm, addr, value })
             b"send" [vm: VmNumber, addr: Hex, value: Decimal32] (Line::Send { vm, addr, value })
             b"land" [vm: VmNumber, k: Decimal] (Line::Land { vm, k })
@@ -43,7 +51,7 @@ macro_rules! stores {
     };
 }
 
-/// Hands the rows of virtual harts on, likewise.
+/// Hands the rows of a virtual hart on, likewise.
 macro_rules! virtual_harts {
     (($take:ident $args:tt) $($rows:tt)*) => {
         $take! { $args $($rows)*
@@ -55,8 +63,8 @@ macro_rules! virtual_harts {
     };
 }
 
-/// Hands the rows of what a machine and the hypervisor set and show on, likewise.
-macro_rules! machines {
+/// Hands the rows of the majors of a virtual hart on, likewise.
+macro_rules! majors {
     (($take:ident $args:tt) $($rows:tt)*) => {
         $take! { $args $($rows)*
             b"inject" [vm: VmNumber, number: Decimal, bit: Decimal, level: Bit]
@@ -65,9 +73,25 @@ macro_rules! machines {
                 (Line::Hvictl { vm, number, value })
             b"hviprio" [vm: VmNumber, number: Decimal, value: Hex]
                 (Line::Hviprio { vm, number, value })
+        }
+    };
+}
+
+/// Hands the rows of what is shown on, likewise.
+macro_rules! shows {
+    (($take:ident $args:tt) $($rows:tt)*) => {
+        $take! { $args $($rows)*
             b"save" [vm: VmNumber, number: Decimal, k: Decimal] (Line::Save { vm, number, k })
             b"pins" [hart: Decimal] (Line::Pins { hart })
             b"entry" [w0: Hex, w1: Hex] (Line::Entry { w0, w1 })
+        }
+    };
+}
+
+/// Hands the rows of what is made on, likewise.
+macro_rules! makes {
+    (($take:ident $args:tt) $($rows:tt)*) => {
+        $take! { $args $($rows)*
             b"pass" [source: Decimal, vm: VmNumber, number: Decimal, identity: Decimal]
                 (Line::Pass { source, vm, number, identity })
             b"vm" [vcpus: Decimal, mask: Hex, hart: Decimal] (Line::Vm { vcpus, mask, hart })
@@ -178,35 +202,71 @@ fn load_part_at(words: &mut Words<'_>) -> Option<Line>
     load_part_of(vm, number, words)
 }
 
-/// Reads the line that a text spells, of what a machine and the hypervisor set and show; `None`
-/// where it spells none.
+/// Reads the line that a text spells, of what is made; `None` where it spells none.
 #[inline(always)]
-fn machine_line(text: &[u8]) -> Option<Line>
-    ensures { result ≡ line_among forms_of_machines (first_word text.now) (after_first text.now) }
+fn make_line(text: &[u8]) -> Option<Line>
+    ensures { result ≡ line_among forms_from_makes (first_word text.now) (after_first text.now) }
 {
-    machines!((read_by_row(text)));
+    makes!((read_by_row(text)));
     None
+}
+
+/// Reads the line that a text spells, of what is shown or as above; `None` where it spells none.
+#[inline(always)]
+fn show_line(text: &[u8]) -> Option<Line>
+    ensures { result ≡ line_among forms_from_shows (first_word text.now) (after_first text.now) }
+{
+    shows!((read_by_row(text)));
+    make_line(text)
+}
+
+/// Reads the line that a text spells, of the majors of a virtual hart or as above; `None` where it
+/// spells none.
+#[inline(always)]
+fn major_line(text: &[u8]) -> Option<Line>
+    ensures { result ≡ line_among forms_from_majors (first_word text.now) (after_first text.now) }
+{
+    majors!((read_by_row(text)));
+    show_line(text)
 }
 
 /// Reads the line that a text spells, of a virtual hart or as above; `None` where it spells none.
 #[inline(always)]
 fn virtual_hart_line(text: &[u8]) -> Option<Line>
     ensures { result
-        ≡ line_among forms_of_virtual_harts (first_word text.now) (after_first text.now) }
+        ≡ line_among forms_from_virtual_harts (first_word text.now) (after_first text.now) }
 {
-    moves!(read_by_row (text) Move);
     virtual_harts!((read_by_row(text)));
-    machine_line(text)
+    major_line(text)
 }
 
-/// Reads the line that a text spells, of a store, a load or a wire, or as above; `None` where it
-/// spells none.
+/// Reads the line that a text spells, of a move or as above; `None` where it spells none.
+#[inline(always)]
+fn move_line(text: &[u8]) -> Option<Line>
+    ensures { result ≡ line_among forms_from_moves (first_word text.now) (after_first text.now) }
+{
+    moves!(read_by_row (text) Move);
+    virtual_hart_line(text)
+}
+
+/// Reads the line that a text spells, of a store of a device or as above; `None` where it spells
+/// none.
+#[inline(always)]
+fn device_line(text: &[u8]) -> Option<Line>
+    ensures { result ≡ line_among forms_from_devices (first_word text.now) (after_first text.now) }
+{
+    devices!((read_by_row(text)));
+    move_line(text)
+}
+
+/// Reads the line that a text spells, of a load or a store of the host or a wire, or as above;
+/// `None` where it spells none.
 #[inline(always)]
 fn store_line(text: &[u8]) -> Option<Line>
-    ensures { result ≡ line_among forms_of_stores (first_word text.now) (after_first text.now) }
+    ensures { result ≡ line_among forms_from_stores (first_word text.now) (after_first text.now) }
 {
     stores!((read_by_row(text)));
-    virtual_hart_line(text)
+    device_line(text)
 }
 
 /// Reads the line that a text spells; `None` where it spells none.
@@ -344,7 +404,7 @@ fn push_line(line: &Line, out: &mut ArrayVec<u8, LINE_BYTES>)
     ensures text { out.new.items ≡ line_text line.now }
     ensures range { IsPrintable line.now }
 {
-    stores!((virtual_harts (machines (print_by_row (*line, out,
+    stores!((devices (virtual_harts (majors (shows (makes (print_by_row (*line, out,
         Line::MachineCsr { hart, csr, op } => push_access(out, b"m", hart, Level::Machine, csr, op),
         Line::HostCsr { hart, csr, op } => push_access(out, b"h", hart, Level::Host, csr, op),
         Line::Hgeip { hart } => push_hgeip(out, hart),
@@ -353,7 +413,7 @@ fn push_line(line: &Line, out: &mut ArrayVec<u8, LINE_BYTES>)
         Line::Move { vm, number, want } => push_move(out, vm, number, want),
         Line::Begin { vm, number, want } => push_beginning(out, vm, number, want),
         Line::LoadPart { vm, number, part } => push_load(out, vm, number, part),
-    )))))
+    ))))))))
 }
 
 /// Appends the printing spelling of a line to `out`, which is empty. The line's CSR is one that
