@@ -1,6 +1,6 @@
 -- What the checker keeps of the steps behind a step, while it reads a plan from its end.
 -- Vocabulary.
-use Rattle.std.specs.Prelude.{ℕ, Bool, true, false, not, ◌&&◌, ◌||◌, List, [], ◌∷◌, Option, Some, None}
+use Rattle.std.specs.Prelude.{ℕ, Bool, true, false, not, ◌&&◌, List, [], ◌∷◌, Option, Some, None}
 use Rattle.std.specs.List.{list_any, list_all}
 use Rattle.aia_word.specs.Sets.{word_of}
 use Rattle.aia_plan.specs.Plan.{Plan}
@@ -19,8 +19,8 @@ use Rattle.aia_audit.specs.declared.takes.Takes.{Takes}
 abbrev pub has_record : Plan → Bool
 has_record plan = list_any is_record plan
 
--- The pairs of tests of which the second step must not have the first behind it: what stands once,
--- and what comes first.
+-- Pairs of tests: a step that passes the second must have none behind it that passes the first. So
+-- a step stands once, and one comes before another.
 abbrev pub orders : List ((Step → Bool) × (Step → Bool))
 orders =
     (is_step Word1, is_step Word1) ∷ (is_step Word1, is_step Word0)
@@ -56,17 +56,17 @@ routes_behind kind plan = record {
 
 -- ---- the steps that take and put words of a set
 
--- Whether a step takes word w.
+-- Whether a step of a plan takes word w.
 abbrev pub is_taken : (Step → Option ℕ) → ℕ → Plan → Bool
 is_taken takes w plan = list_any (λ x. names (takes x) w) plan
 
--- Whether a word that is taken may be taken before the steps behind it: by a test of them, and it
--- is not taken among them too.
+-- Whether a step may stand before those behind it, by the word that it takes, if it takes one: a
+-- test of them lets it, and none of them takes that word again.
 abbrev pub may_take : Option ℕ → Bool → (ℕ → Bool) → Bool
 may_take None may again = true
 may_take (Some w) may again = may && not (again w)
 
--- Whether each word that is taken may be.
+-- Whether each step of a plan that takes a word may stand before those behind it.
 abbrev pub all_may_take : (Step → Option ℕ) → (Plan → Bool) → Plan → Bool
 all_may_take takes may [] = true
 all_may_take takes may (x ∷ later) =

@@ -19,8 +19,8 @@ abbrev pub identity_shown : Answer → Option ℕ
 identity_shown (Wide v) = if nat_eq v 0 then None else Some (v % 65536)
 identity_shown answer = None
 
--- The identity that a line claimed, given its answer: the lines that claim are `csrrw stopei`, of a
--- virtual hart and of a hart at supervisor level.
+-- The identity that a line claimed, given its answer. Counted are the claims by `csrrw stopei`, of
+-- a virtual hart and of a hart at supervisor level: a generated script has no others.
 abbrev pub claim_of : Line → Answer → Option ℕ
 claim_of (GuestCsr vm number Topei (Write v)) given = identity_shown given
 claim_of (HostCsr hart Topei (Write v)) given = identity_shown given

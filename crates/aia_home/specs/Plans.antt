@@ -195,7 +195,7 @@ is_begun there = nat_lt 0 (steps_done there)
 abbrev pub is_made : ℕ → Home → Access → Bool
 is_made words there access = nat_lt (step_of words there access) (steps_done there)
 
--- Whether it is the last one made, so that what it took is carried still.
+-- Whether it is the last one made: what it took, if it took something, is carried still.
 abbrev pub is_carried : ℕ → Home → Access → Bool
 is_carried words there access = nat_eq (steps_done there) (step_of words there access + 1)
 

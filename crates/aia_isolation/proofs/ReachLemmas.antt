@@ -24,7 +24,7 @@ use Rattle.aia_model.specs.Refusal.{refusal}
 use Rattle.aia_model.proofs.FileLemmas.{is_file-same}
 use Rattle.aia_laws.specs.Told.{notice_file, notice_number}
 use Rattle.aia_model.proofs.RefusalLemmas.{device_allowed, peer_allowed}
-use Rattle.aia_isolation.specs.Reach.{is_doing_of, IsNoticeOf, with_deed, deeds_of, SupervisorFile, host_of, host_by}
+use Rattle.aia_isolation.specs.Reach.{is_doing_of, IsNoticeOf, with_deed, deeds_of, HostFile, host_of, host_by}
 
 abbrev RestsOrNotices : History → ℕ → FileName → FileDeed → Type 0
 RestsOrNotices past v f deed = ◌⊎◌ (deed ≡ Rests) (IsNoticeOf past v f deed)
@@ -83,7 +83,7 @@ own_number h g x here there e = same_slot (vms_of h) g x here there (omega (arit
 -- ---- a file of the host is what was done at it
 
 -- What a deed makes of a file with its select number.
-abbrev done_to : FileDeed → SupervisorFile → SupervisorFile
+abbrev done_to : FileDeed → HostFile → HostFile
 done_to deed s = record { select = select_after deed s.select; file = file_after s.select deed s.file }
 
 by_one : (deed : FileDeed) (earlier : List FileDeed) → host_by (with_deed deed earlier) ≡ done_to deed (host_by earlier)

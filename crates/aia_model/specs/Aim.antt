@@ -51,15 +51,15 @@ IsForwardIf h msi (Some p) = IsForward h p msi
 abbrev pub target_for : History → ℕ → Vcpu → ℕ → Option Place → ℕ
 target_for h p g identity place = target_to (notice_hart (vms_of h) g) p identity place
 
--- What the next step of a virtual hart's move aims: this pass, the next one of its own, where the
--- pass leads once it is aimed.
+-- What the next step of a virtual hart's move aims: the source of this pass, the next one of its
+-- own, at the place to which the pass leads once it is aimed.
 abbrev pub aim_of : History → Vcpu → ℕ → Act
 aim_of h g p =
     Aimed (nth_pass h p).source (target_for h p g (nth_pass h p).identity
     (pass_reaches (aims_done (home h g)) (aimed (home h g))))
 
--- What an event aims, if it aims a source: a pass the one that it passes, where its virtual hart
--- is; a step of a move the next one of its virtual hart's, where it is a step that aims.
+-- What an event aims, if it aims a source. A pass aims its source, at the place where its virtual
+-- hart is; a step of a move that aims takes the next pass of its virtual hart.
 abbrev pub aimed_by : History → Event → Option Act
 aimed_by past (Accepted (lines.Pass source vm number identity)) =
     Some (Aimed source (target_for past (length (passes_of past)) (vcpu vm number) identity

@@ -4,11 +4,10 @@ use Rattle.std.proofs.Common.{◌≡◌, ℕ, zero, suc, ◌/◌, ◌%◌, ◌<�
 use Rattle.std.specs.Prelude.{⊤, slice_get}
 use Rattle.std.specs.List.{list_any, AllByRecursion}
 use Rattle.std.proofs.lemmas.Bool.{false≢true}
-use Rattle.aia_plan.specs.declared.step.Step.{Step}
 use Rattle.aia_plan.specs.declared.step.Step.TheVariants.{Word0, Fence, GFence, TakeP, TakeE}
 use Rattle.aia_plan.specs.Plan.{Plan}
 use Rattle.aia_plan.specs.Rule.{is_record, names, stands}
-use Rattle.aia_plan.specs.Transit.{Side, Flight, Transit, Happening, is_identity, landed, all_landed, without, one_landed, happened}
+use Rattle.aia_plan.specs.Transit.{Side, Flight, Transit, Happening, is_identity, landed, all_landed, all_but, one_landed, happened}
 use Rattle.aia_plan.specs.Transit.Side.{Old, New}
 use Rattle.aia_plan.specs.Transit.Happening.{Does, Stores, Sends, Lands, Refetches, PeerStores}
 use Rattle.aia_plan.proofs.BoolLaws.{or_together, land_law}
@@ -109,7 +108,7 @@ all_with : (P : Side → Type 0) (fs : List Flight) (f : Flight) → AllByRecurs
 all_with P [] f all last = (last, tt)
 all_with P (g ∷ later) f all last = (all.0, all_with P later f all.1 last)
 
-all_without : (P : Side → Type 0) (k : ℕ) (fs : List Flight) → AllByRecursion (λ (f : Flight). P f.side) fs → AllByRecursion (λ (f : Flight). P f.side) (without k fs)
+all_without : (P : Side → Type 0) (k : ℕ) (fs : List Flight) → AllByRecursion (λ (f : Flight). P f.side) fs → AllByRecursion (λ (f : Flight). P f.side) (all_but k fs)
 all_without P k [] all = tt
 all_without P zero (f ∷ later) all = all.1
 all_without P (suc k) (f ∷ later) all = (all.0, all_without P k later all.1)

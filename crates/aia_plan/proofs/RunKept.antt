@@ -6,7 +6,7 @@ use Rattle.aia_plan.specs.declared.step.Step.{Step}
 use Rattle.aia_plan.specs.declared.step.Step.TheVariants.{Word0, Fence, GFence, TakeP, TakeE}
 use Rattle.aia_plan.specs.Plan.{Plan}
 use Rattle.aia_plan.specs.Rule.{stands, takes_pending, takes_enables, puts_enables, is_record}
-use Rattle.aia_plan.specs.Transit.{Side, Flight, Transit, Happening, is_identity, stepped, all_happened, steps_of}
+use Rattle.aia_plan.specs.Transit.{Side, Flight, Transit, Happening, is_identity, stepped, all_happened, steps_in}
 use Rattle.aia_plan.specs.Transit.Side.{Old, New}
 use Rattle.aia_plan.specs.Transit.Happening.{Does, Stores, Sends, Lands, Refetches, PeerStores}
 use Rattle.aia_plan.specs.Safe.{IsStart, IsMoved, IsSafe}
@@ -23,16 +23,16 @@ step_run words first c e x rest z left v = step_kept words first x rest z (guard
     (subst (λ k. Between words first k (puts_enables x) (x ∷ rest) z) (pending_carried words c e x rest left)
     (subst (λ k. Between words first c k (x ∷ rest) z) (enables_carried words c e x rest left) v))
 
-runs : (words : ℕ) (first : ℕ → Bool) (c e : Option ℕ) (run : List Happening) (z : Transit) → Left words c e (steps_of run) → Between words first c e (steps_of run) z → Between words first None None [] (all_happened run z)
+runs : (words : ℕ) (first : ℕ → Bool) (c e : Option ℕ) (run : List Happening) (z : Transit) → Left words c e (steps_in run) → Between words first c e (steps_in run) z → Between words first None None [] (all_happened run z)
 runs words first c e [] z left v =
     subst (λ k. Between words first k None [] z) (none_carried words c e left).0
     (subst (λ k. Between words first c k [] z) (none_carried words c e left).1 v)
-runs words first c e (Does x ∷ later) z left v = runs words first (takes_pending x) (takes_enables x) later (stepped x z) (left_after words c e x (steps_of later) left) (step_run words first c e x (steps_of later) z left v)
-runs words first c e (Stores x ∷ later) z left v = runs words first c e later _ left (kept words first c e (steps_of later) (Stores x) z tt v)
-runs words first c e (PeerStores x ∷ later) z left v = runs words first c e later _ left (kept words first c e (steps_of later) (PeerStores x) z tt v)
-runs words first c e (Sends x ∷ later) z left v = runs words first c e later _ left (kept words first c e (steps_of later) (Sends x) z tt v)
-runs words first c e (Lands k ∷ later) z left v = runs words first c e later _ left (kept words first c e (steps_of later) (Lands k) z tt v)
-runs words first c e (Refetches ∷ later) z left v = runs words first c e later _ left (kept words first c e (steps_of later) Refetches z tt v)
+runs words first c e (Does x ∷ later) z left v = runs words first (takes_pending x) (takes_enables x) later (stepped x z) (left_after words c e x (steps_in later) left) (step_run words first c e x (steps_in later) z left v)
+runs words first c e (Stores x ∷ later) z left v = runs words first c e later _ left (kept words first c e (steps_in later) (Stores x) z tt v)
+runs words first c e (PeerStores x ∷ later) z left v = runs words first c e later _ left (kept words first c e (steps_in later) (PeerStores x) z tt v)
+runs words first c e (Sends x ∷ later) z left v = runs words first c e later _ left (kept words first c e (steps_in later) (Sends x) z tt v)
+runs words first c e (Lands k ∷ later) z left v = runs words first c e later _ left (kept words first c e (steps_in later) (Lands k) z tt v)
+runs words first c e (Refetches ∷ later) z left v = runs words first c e later _ left (kept words first c e (steps_in later) Refetches z tt v)
 
 -- ---- how it begins
 

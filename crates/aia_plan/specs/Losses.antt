@@ -1,10 +1,11 @@
--- Runs after which an interrupt is lost, or was never asked for, or an enable is lost; and plans
--- that look right and have such runs. Vocabulary: the laws of this crate speak of them.
+-- Runs after which an interrupt is lost, or was never asked for, or an enable is lost; plans that
+-- look right and have such runs; and plans that the rule refuses though they are safe. Vocabulary:
+-- the laws of this crate speak of them.
 use Rattle.std.specs.Prelude.{◌≡◌, ℕ, ◌/◌, ◌<◌, Bool, true, false, not, ◌&&◌, nat_eq, List, [], ◌∷◌, ◌++◌, map}
 use Rattle.aia_plan.specs.Plan.{Plan}
 use Rattle.aia_plan.specs.Rule.{parts_kept}
 use Rattle.aia_plan.specs.declared.step.Kind.{Kind}
-use Rattle.aia_plan.specs.Transit.{Transit, Happening, is_identity, no_bits, all_happened, steps_of}
+use Rattle.aia_plan.specs.Transit.{Transit, Happening, is_identity, no_bits, all_happened, steps_in}
 use Rattle.aia_plan.specs.Transit.Side.{Old}
 use Rattle.aia_plan.specs.Transit.Happening.{Does, Stores, PeerStores}
 use Rattle.aia_plan.specs.Safe.{IsStart}
@@ -20,7 +21,7 @@ pub record RunOf (words : ℕ) (plan : Plan) (i : ℕ) : Type 0 where
   pub start : Transit
   pub run : List Happening
   pub begins : IsStart words start
-  pub steps : steps_of run ≡ plan
+  pub steps : steps_in run ≡ plan
   pub within : i / 64 < words
 
 abbrev pub end_of : {words : ℕ} {plan : Plan} {i : ℕ} → RunOf words plan i → Transit

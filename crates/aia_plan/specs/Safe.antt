@@ -2,7 +2,7 @@
 -- devices and other virtual harts do, and wherever between its steps. Profile.
 use Rattle.std.specs.Prelude.{◌≡◌, ℕ, ◌/◌, ◌<◌, false, ◌&&◌, List, All}
 use Rattle.aia_plan.specs.Plan.{Plan}
-use Rattle.aia_plan.specs.Transit.{Side, Flight, Transit, Happening, is_identity, all_happened, steps_of}
+use Rattle.aia_plan.specs.Transit.{Side, Flight, Transit, Happening, is_identity, all_happened, steps_in}
 use Rattle.aia_plan.specs.Transit.Side.{Old, New}
 
 -- All routes, written and in force, and all stores in flight lead to one place.
@@ -38,5 +38,5 @@ pub record IsMoved (words : ℕ) (start z : Transit) : Type 0 where
 -- ends so.
 abbrev pub IsSafe : ℕ → Plan → Type 0
 IsSafe words plan =
-    (start : Transit) (run : List Happening) → IsStart words start → steps_of run ≡ plan
+    (start : Transit) (run : List Happening) → IsStart words start → steps_in run ≡ plan
     → IsMoved words start (all_happened run start)

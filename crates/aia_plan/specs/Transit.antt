@@ -104,7 +104,7 @@ stepped step z = z
 
 -- A step of the plan, or what others do: a device stores, and its store lands at once or is in
 -- flight; the K-th store in flight lands, counted from 0, if there is one; the IOMMU reads the
--- entry again before the fence; another virtual hart stores.
+-- entry again, whenever it does; another virtual hart stores.
 pub data Happening : Type 0 where
   Does : (step : Step) → Happening
   Stores : (identity : ℕ) → Happening
@@ -114,10 +114,10 @@ pub data Happening : Type 0 where
   PeerStores : (identity : ℕ) → Happening
 
 -- A list without its K-th member.
-abbrev pub without : {A : Type 0} → ℕ → List A → List A
-without k [] = []
-without zero (x ∷ later) = later
-without (suc k) (x ∷ later) = x ∷ without k later
+abbrev pub all_but : {A : Type 0} → ℕ → List A → List A
+all_but k [] = []
+all_but zero (x ∷ later) = later
+all_but (suc k) (x ∷ later) = x ∷ all_but k later
 
 -- The store in flight that is there, if one is, lands.
 abbrev pub one_landed : Option Flight → Transit → Transit
@@ -132,7 +132,7 @@ happened (Sends x) z = record z {
   flights = z.flights ++ record { side = z.entry_in_force; identity = x } ∷ [];
 }
 happened (Lands k) z = record (one_landed (slice_get z.flights k) z) {
-  flights = without k z.flights;
+  flights = all_but k z.flights;
 }
 happened Refetches z = record z { entry_in_force = z.entry_written }
 happened (PeerStores x) z = landed z.record_in_force x z
@@ -143,7 +143,7 @@ all_happened [] z = z
 all_happened (x ∷ later) z = all_happened later (happened x z)
 
 -- The steps of a plan among what happens.
-abbrev pub steps_of : List Happening → List Step
-steps_of [] = []
-steps_of (Does step ∷ later) = step ∷ steps_of later
-steps_of (x ∷ later) = steps_of later
+abbrev pub steps_in : List Happening → List Step
+steps_in [] = []
+steps_in (Does step ∷ later) = step ∷ steps_in later
+steps_in (x ∷ later) = steps_in later

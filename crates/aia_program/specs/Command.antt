@@ -13,17 +13,17 @@ use Rattle.aia_replay.specs.declared.program.Status.TheVariants.{Done, Usage, Re
 abbrev pub words_of : List (String Global) → List (List ℕ)
 words_of arguments = drop 1 (map string_bytes arguments)
 
--- What they ask for; None where they are no text, or are refused.
+-- What they ask for; None where they are no text, are refused, or there is no memory for them.
 abbrev pub asked_by : Result (Vec (String Global) Global) Error → Option Subcommand
 asked_by (Ok arguments) = subcommand_of (words_of arguments.items)
 asked_by (Err error) = None
 
--- They are no text, and not without memory for them.
+-- They are no text: reading them failed, and not for want of memory.
 abbrev pub AreNoText : Result (Vec (String Global) Global) Error → Type 0
 AreNoText (Ok arguments) = ⊥
 AreNoText (Err error) = error_kind error ≢ OutOfMemory
 
--- They are refused: they are no text, or ask for nothing.
+-- They are refused: reading them failed, and not for want of memory; or they ask for nothing.
 abbrev pub AreRefused : Result (Vec (String Global) Global) Error → Type 0
 AreRefused (Ok arguments) = subcommand_of (words_of arguments.items) ≡ None
 AreRefused (Err error) = error_kind error ≢ OutOfMemory

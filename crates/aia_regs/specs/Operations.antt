@@ -23,8 +23,8 @@ written (ops.Write v) old = v
 written (ops.Set v) old = bit_or old v
 written (ops.Clear v) old = bit_and old (bit_not w64 v)
 
--- Whether bit b of a number is a one, b counted from 0 at the lowest: has_bit of aia_word, on which
--- the registers do not stand. Vocabulary.
+-- Whether bit b of a number is a one, b counted from 0 at the lowest. The same as has_bit of
+-- aia_word, which this crate does not use. Vocabulary.
 abbrev pub has_bit : ℕ → ℕ → Bool
 has_bit v b = nat_eq (bit_at v b) 1
 

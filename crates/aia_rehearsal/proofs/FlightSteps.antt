@@ -14,7 +14,7 @@ use Rattle.aia_world.proofs.FlightLemmas.{fence_leaves_none}
 use Rattle.aia_world.proofs.WholeLemmas.{vcpu_entry}
 use Rattle.aia_rehearsal.proofs.RouteSteps.{refetched}
 use Rattle.aia_plan.specs.declared.step.Step.TheVariants.{Fence}
-use Rattle.aia_plan.specs.Transit.{Side, Flight, Transit, landed, all_landed, one_landed, without, stepped, happened}
+use Rattle.aia_plan.specs.Transit.{Side, Flight, Transit, landed, all_landed, one_landed, all_but, stepped, happened}
 use Rattle.aia_plan.specs.Transit.Side.{Old, New}
 use Rattle.aia_plan.specs.Transit.Happening.{Lands as lands}
 use Rattle.aia_rehearsal.specs.declared.place.Place as ends
@@ -41,17 +41,17 @@ module _ (i : ImsicState) (p : Passage) where
   removed_none (y ∷ later) zero store is none = let same : y ≡ store = cc in sym (ap (λ (f : Flying). onto_flights (side_of i p f.entry) y (flights_in i p later)) same ∙ ap (λ o. onto_flights o y (flights_in i p later)) none)
   removed_none (y ∷ later) (suc k) store is none = ap (onto_flights (side_of i p y.entry) y) (removed_none later k store is none)
 
-  pub removed_one : (stores : List Flying) (k : ℕ) (store : Flying) (side : Side) → slice_get stores k ≡ Some store → side_of i p store.entry ≡ Some side → (flights_in i p (remove stores k) ≡ without (place_among stores k) (flights_in i p stores)) × (slice_get (flights_in i p stores) (place_among stores k) ≡ Some (record { side = side; identity = asked store.offset store.value }))
+  pub removed_one : (stores : List Flying) (k : ℕ) (store : Flying) (side : Side) → slice_get stores k ≡ Some store → side_of i p store.entry ≡ Some side → (flights_in i p (remove stores k) ≡ all_but (place_among stores k) (flights_in i p stores)) × (slice_get (flights_in i p stores) (place_among stores k) ≡ Some (record { side = side; identity = asked store.offset store.value }))
   removed_one [] k store side is led = absurd (cc)
   removed_one (y ∷ later) zero store side is led =
       let same : y ≡ store = cc in
       let first : flights_in i p (y ∷ later) ≡ record { side = side; identity = asked store.offset store.value } ∷ flights_in i p later =
       ap (λ (f : Flying). onto_flights (side_of i p f.entry) f (flights_in i p later)) same ∙ ap (λ o. onto_flights o store (flights_in i p later)) led in
-      (sym (ap (without 0) first), ap (λ l. slice_get l 0) first)
+      (sym (ap (all_but 0) first), ap (λ l. slice_get l 0) first)
   removed_one (y ∷ later) (suc k) store side is led = further (side_of i p y.entry) (removed_one later k store side is led)
     where
-      further : (o : Option Side) → (flights_in i p (remove later k) ≡ without (place_among later k) (flights_in i p later)) × (slice_get (flights_in i p later) (place_among later k) ≡ Some (record { side = side; identity = asked store.offset store.value }))
-          → (onto_flights o y (flights_in i p (remove later k)) ≡ without (length (onto_flights o y (flights_in i p (take k later)))) (onto_flights o y (flights_in i p later))) × (slice_get (onto_flights o y (flights_in i p later)) (length (onto_flights o y (flights_in i p (take k later)))) ≡ Some (record { side = side; identity = asked store.offset store.value }))
+      further : (o : Option Side) → (flights_in i p (remove later k) ≡ all_but (place_among later k) (flights_in i p later)) × (slice_get (flights_in i p later) (place_among later k) ≡ Some (record { side = side; identity = asked store.offset store.value }))
+          → (onto_flights o y (flights_in i p (remove later k)) ≡ all_but (length (onto_flights o y (flights_in i p (take k later)))) (onto_flights o y (flights_in i p later))) × (slice_get (onto_flights o y (flights_in i p later)) (length (onto_flights o y (flights_in i p (take k later)))) ≡ Some (record { side = side; identity = asked store.offset store.value }))
       further None so = so
       further (Some other) so = (ap (λ l. record { side = other; identity = asked y.offset y.value } ∷ l) so.0, so.1)
 
@@ -128,9 +128,9 @@ module _ (w u : World) (r : Rehearsed) (z : Transit) (vm k : ℕ) (whole : IsWho
       let at : ℕ = place_among w.imsic p (flight_of w p.who.found.vm) k in
       let one = removed_one w.imsic p (flight_of w p.who.found.vm) k l.store side (subst (λ v. slice_get (flight_of w v) k ≡ Some l.store) is l.is) led in
       let found : slice_get z.flights at ≡ Some (record { side = side; identity = asked l.store.offset l.store.value }) = ap (λ f. slice_get f at) s.flights.own ∙ one.1 in
-      let lands_there : happened (lands at) z ≡ record (landed side (asked l.store.offset l.store.value) z) { flights = without at z.flights } = ap (λ o. record (one_landed o z) { flights = without at z.flights }) found in
-      subst (λ y. StandsFor u r y) (sym lands_there) (with_others (landed side (asked l.store.offset l.store.value) z) (without at z.flights) t (record {
-        own = ap (without at) s.flights.own ∙ sym (same_leads (flight_of u p.who.found.vm) ∙ ap (λ v. flights_in w.imsic p (flight_of u v)) (sym is) ∙ ap (flights_in w.imsic p) left_here ∙ ap (λ v. flights_in w.imsic p (remove (flight_of w v) k)) is ∙ one.0);
+      let lands_there : happened (lands at) z ≡ record (landed side (asked l.store.offset l.store.value) z) { flights = all_but at z.flights } = ap (λ o. record (one_landed o z) { flights = all_but at z.flights }) found in
+      subst (λ y. StandsFor u r y) (sym lands_there) (with_others (landed side (asked l.store.offset l.store.value) z) (all_but at z.flights) t (record {
+        own = ap (all_but at) s.flights.own ∙ sym (same_leads (flight_of u p.who.found.vm) ∙ ap (λ v. flights_in w.imsic p (flight_of u v)) (sym is) ∙ ap (flights_in w.imsic p) left_here ∙ ap (λ v. flights_in w.imsic p (remove (flight_of w v) k)) is ∙ one.0);
         others = λ v other. same_leads (flight_of u v) ∙ ap (flights_in w.imsic p) (left_there v (λ e. other (e ∙ is))) ∙ s.flights.others v other;
       }))
 

@@ -11,7 +11,8 @@ use Rattle.aia_world.specs.Whole.{IsWhole}
 use Rattle.aia_moving.specs.Move.{width}
 use Rattle.aia_plan.specs.declared.step.Step.{Step}
 use Rattle.aia_plan.specs.declared.step.Step.TheVariants as steps
-use Rattle.aia_plan.specs.Transit.{Side, Flight, Transit, Happening, is_identity, landed, all_landed, one_landed, stepped, happened, all_happened, steps_of}
+use Rattle.aia_plan.specs.Transit.{Side, Flight, Transit, Happening, is_identity, landed, all_landed, one_landed, stepped, happened, all_happened}
+use Rattle.aia_plan.specs.Transit as transit
 use Rattle.aia_plan.specs.Transit.Side.{Old, New}
 use Rattle.aia_plan.specs.Transit.{Happening as happenings}
 use Rattle.aia_rehearsal.specs.Rehearsed.{Passage, Rehearsed, moved, IsOf}
@@ -54,20 +55,20 @@ run_stands (event ∷ later) w r u t (x, y, whole, happens, rest) z alone s =
 
 -- ---- its steps are those of the plan
 
-no_steps : (is : Bool) (x : Happening) (l : List Happening) → steps_of (x ∷ []) ≡ [] → steps_of (x ∷ l) ≡ steps_of l → steps_of (cond is (x ∷ []) [] ++ l) ≡ steps_of l
+no_steps : (is : Bool) (x : Happening) (l : List Happening) → transit.steps_in (x ∷ []) ≡ [] → transit.steps_in (x ∷ l) ≡ transit.steps_in l → transit.steps_in (cond is (x ∷ []) [] ++ l) ≡ transit.steps_in l
 no_steps true x l none same = same
 no_steps false x l none same = refl
 
-no_landing_step : (is : Bool) (w : World) (p : Passage) (k : ℕ) (o : Option Flying) (l : List Happening) → steps_of (cond is (landing_seen w p k o) [] ++ l) ≡ steps_of l
+no_landing_step : (is : Bool) (w : World) (p : Passage) (k : ℕ) (o : Option Flying) (l : List Happening) → transit.steps_in (cond is (landing_seen w p k o) [] ++ l) ≡ transit.steps_in l
 no_landing_step false w p k o l = refl
 no_landing_step true w p k None l = refl
 no_landing_step true w p k (Some store) l = by_side (side_of w.imsic p store.entry)
   where
-    by_side : (o : Option Side) → steps_of (landing_by o (length (flights_in w.imsic p (take k (flight_of w p.who.found.vm)))) ++ l) ≡ steps_of l
+    by_side : (o : Option Side) → transit.steps_in (landing_by o (length (flights_in w.imsic p (take k (flight_of w p.who.found.vm)))) ++ l) ≡ transit.steps_in l
     by_side None = refl
     by_side (Some side) = refl
 
-pub run_steps : (events : List Event) (w : World) (r : Rehearsed) (u : World) (t : Rehearsed) (run : Runs events w r u t) → steps_of (all_seen events w r u t run) ≡ steps_in events
+pub run_steps : (events : List Event) (w : World) (r : Rehearsed) (u : World) (t : Rehearsed) (run : Runs events w r u t) → transit.steps_in (all_seen events w r u t run) ≡ steps_in events
 run_steps [] w r u t run = refl
 run_steps (Steps step ∷ later) w r u t (x, y, whole, happens, rest) = ap (λ l. step ∷ l) (run_steps later x y u t rest)
 run_steps (DeviceStores vm addr value ∷ later) w r u t (x, y, whole, happens, rest) = no_steps (is_for_moved w r.passage vm addr) (happenings.Stores (asked (addr % PAGE) value)) (all_seen later x y u t rest) refl refl ∙ run_steps later x y u t rest

@@ -119,6 +119,7 @@ pub record FlightsStand (w : World) (p : Passage) (z : Transit) : Type 0 where
 
 -- ---- all of it
 
+-- All of the above: a rehearsal and its fabric stand for a state.
 pub record StandsFor (w : World) (r : Rehearsed) (z : Transit) : Type 0 where
   pub of : IsOf w r.passage
   pub two : AreTwo r.passage.old r.passage.new

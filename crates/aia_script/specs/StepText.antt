@@ -34,7 +34,7 @@ step_forms =
     ∷ (codes "wake", Alone Wake)
     ∷ []
 
--- The step that the words left spell where they are the number of a word of a set alone, which is
+-- The step that the words which are left spell, where they are one number: that of a word of a set,
 -- below `count`.
 unfoldable pub word_step : ℕ → (ℕ → Step) → Words → Option Step
 word_step count step words = do

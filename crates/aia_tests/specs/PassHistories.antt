@@ -1,6 +1,6 @@
 -- What has happened as tests pass a source: a machine of one hart with one guest file and two wired
 -- sources, of which MSIs to guests may be made of the first, and a VM of one virtual hart.
-use Rattle.std.specs.Prelude.{ℕ, nat_eq, if◌then◌else◌, [], ◌∷◌, ◌++◌}
+use Rattle.std.specs.Prelude.{ℕ, nat_eq, if◌then◌else◌, [], ◌∷◌}
 use Rattle.aia_moving.specs.Targets.{TargetMap}
 use Rattle.aia_model.specs.declared.line.Line.TheVariants as lines
 use Rattle.aia_model.specs.Event.{History}
@@ -14,10 +14,6 @@ stored = accepted (lines.Machine 1 1 63 2 ∷ passable_lines) []
 -- The VM is made, too.
 abbrev pub made : History
 made = Accepted (lines.Vm 1 8 0) ∷ stored
-
--- The first source is passed to the virtual hart, which is parked.
-abbrev pub passed : History
-passed = Accepted (lines.Pass 1 0 0 5) ∷ made
 
 -- The targets of its sources, as moves see them, by that of the first.
 abbrev pub one_ready : ℕ → TargetMap

@@ -185,8 +185,7 @@ word_at d done w = record {
 
 -- ---- a number
 
--- Where a number stands as it was at the start, of the old place, the hand and the new place:
--- before the first step in this spot.
+-- In which spots a number stands as it was at the start: before the first step in this one alone.
 abbrev pub standing_first : Spot → Standing
 standing_first from = record {
   old = same_spot from InOld;

@@ -174,7 +174,7 @@ stepped d Free z = record z { freed = true }
 
 -- ---- what may happen
 
--- By which of its producer's two routes a store goes.
+-- By which a store goes: its producer's route as it is written, or the one in force.
 pub data By : Type 0 where
   Written : By
   InForce : By

@@ -18,7 +18,7 @@ each steps w (suc count) = steps w ++ each steps (suc w) count
 
 -- ---- the core's plans: producer 0 is the devices, producer 1 the other virtual harts
 
--- Both have a route.
+-- Both are routed.
 abbrev pub core_producers : List Kind
 core_producers = Routed ∷ Routed ∷ []
 

@@ -37,7 +37,7 @@ LeaveUntold d [] = Unit {0}
 LeaveUntold d (plan ∷ plans) =
     (broken d plan ≡ Notice ∷ []) × (¬ IsTold d plan) × LeaveUntold d plans
 
--- ---- one producer with a route, one word
+-- ---- one producer, which is routed, one word
 
 -- To a new place that is fresh, or not, and with numbers that stay.
 abbrev pub plainly : Bool → Setting
@@ -79,7 +79,7 @@ lead = Route 0 ∷ Fence 0 ∷ []
 abbrev pub pending_moved : List Step
 pending_moved = Take Pending 0 ∷ Join Pending 0 ∷ []
 
--- The word of the enables is.
+-- The word of the enables is taken and joined.
 abbrev pub enables_moved : List Step
 enables_moved = Take Enabled 0 ∷ Join Enabled 0 ∷ []
 

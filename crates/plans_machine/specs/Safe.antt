@@ -15,14 +15,15 @@ use Rattle.plans_machine.specs.Setting.{Setting}
 use Rattle.plans_machine.specs.Machine.{Flight, Machine, stands_out, Happening, all_happened, steps_in}
 use Rattle.plans_machine.specs.Machine.Happening.{Stores, Sends, Refetches}
 
--- A number is that of a producer; of one with a route.
+-- A number is that of a producer; of one that is routed.
 abbrev pub IsProducer : Setting → ℕ → Type 0
 IsProducer d p = p < length d.producers
 
 abbrev pub IsRouted : Setting → ℕ → Type 0
 IsRouted d p = (p < length d.producers) × (slice_get d.producers p ≡ Some Routed)
 
--- Only producers store, and one that is switched has nothing in flight.
+-- Only producers store. One that is switched has nothing in flight, and its route comes in force
+-- by a step alone.
 abbrev pub CanHappen : Setting → Happening → Type 0
 CanHappen d (Stores p by x) = IsProducer d p
 CanHappen d (Sends p by x) = IsRouted d p
@@ -34,8 +35,9 @@ pub record IsRun (d : Setting) (plan : List Step) (run : List Happening) : Type 
   pub steps : steps_in run ≡ plan
   pub others : AllByRecursion (CanHappen d) run
 
--- How a run begins. All leads to the old place, in which is due what stands there. What stands in
--- the old place, in a new one that is not fresh, the numbers, and what is in flight, are free.
+-- How a run begins. All leads to the old place; what stands there is due; the hand is empty, and
+-- the old place is not given back. What stands in the old place, and in a new one that is not
+-- fresh, the numbers, what is in flight, and what was seen or told before, are free.
 pub record IsStart (d : Setting) (z : Machine) : Type 0 where
   pub written : (p : ℕ) → IsProducer d p → z.written p ≡ Old
   pub in_force : (p : ℕ) → IsProducer d p → z.in_force p ≡ Old
@@ -47,6 +49,7 @@ pub record IsStart (d : Setting) (z : Machine) : Type 0 where
   pub freed : z.freed ≡ false
   pub strayed : z.strayed ≡ false
 
+-- What a number is in a spot.
 abbrev pub number_in : Spot → Number → Machine → ℕ
 number_in spot n z = elim spot [
   | InOld ↦ z.old_number n
@@ -73,7 +76,8 @@ IsSafe d plan =
     (start : Machine) (run : List Happening) → IsStart d start → IsRun d plan run
     → IsMoved d start (all_happened d run start)
 
--- What stands out in the new place, the host was told.
+-- Where an identity stands out in the new place, the host was told, now or earlier: it is told that
+-- something stands out, and not which identity.
 abbrev pub HostKnows : Setting → Machine → Type 0
 HostKnows d z =
     (i : ℕ) → i / 64 < d.words → stands_out d z.new z.new_number i ≡ true → z.told ≡ true

@@ -22,10 +22,6 @@ asked words = subcommand_of (map (λ (w : Bor (List ℕ)). w.now) words)
 
 -- ---- what is taken
 
--- The bytes are all of the file, where the source tells it.
-abbrev pub IsFile : Supply → List ℕ → Type 0
-IsFile left bytes = IfSome left.to_come (λ file. file ≡ bytes)
-
 -- ---- what is written
 
 -- What the sink took is what is answered of all that the source had left, where it tells that; or a
@@ -119,9 +115,3 @@ abbrev pub EndsAsAsked : Option Subcommand → Status → Supply → Supply → 
 EndsAsAsked None status left rest before now a b c d = EndsUnasked status left rest before now
 EndsAsAsked (Some Judge) status left rest before now a b c d =
     EndsJudge status left rest before now a b c d ⊎ EndsUnasked status left rest before now
-
--- The run ended by a fault of an end, by want of memory, by a file that is too long, or by Done.
-abbrev pub Complete : Status → Supply → Supply → ℕ → ℕ → ℕ → ℕ → Type 0
-Complete status left rest a b c d =
-    (¬ Rose a b) → (¬ Rose c d) → (¬ Takes (FILE_BYTES + 1) left rest)
-    → (status ≡ Done) ⊎ (status ≡ Memory)

@@ -56,7 +56,7 @@ start_of d run = record {
 
 -- ---- what happens in it
 
--- By which route of the machine a store goes.
+-- That route, as the machine names it.
 abbrev pub by_of : Route → By
 by_of Written = AsWritten
 by_of InForce = AsInForce
@@ -95,24 +95,11 @@ pub record Loses (d : Setting) (plan : List Step) (run : Run) : Type 0 where
 
 -- ---- as the trace tells it
 
--- What is followed of the run, at the start.
+-- The same of a run, with the store in flight that it begins with.
 abbrev pub trace_begun : Run → Terms → Trace
-trace_begun run terms = record {
-  old = begins_old run.begin;
-  new = begins_new run.begin;
-  hand = false;
-  due = begins_old run.begin;
-  old_number = same_spot terms.number_from InOld;
-  new_number = same_spot terms.number_from InNew;
-  hand_number = same_spot terms.number_from InHand;
-  written = Old;
-  in_force = Old;
-  flight = first_flight run.extra;
-  freed = false;
-  strayed = false;
-}
+trace_begun run terms = record (trace_first run.begin terms) { flight = first_flight run.extra }
 
--- What it is once that came which comes after so many steps.
+-- What is followed, once that has come which the run has after so many steps.
 abbrev pub trace_extra : Run → ℕ → Trace → Trace
 trace_extra run k t = elim run.extra [
   | extras.Nothing ↦ t
@@ -178,12 +165,13 @@ is_bad_end run terms producers t =
     || (shows_route run producers t
     || (not (trace_number terms.number_to t) || (is_flying_old t.flight || t.strayed)))
 
--- Whether a producer is there, and has a route.
+-- Whether a producer is there, and is routed.
 abbrev pub is_routed : Option Kind → Bool
 is_routed (Some Routed) = true
 is_routed kind = false
 
--- Whether there can be such a run.
+-- Whether there can be such a run: the identity is one of the file's, it stands in the new place at
+-- the start only where that is not fresh, and its store, if it has one, is one that can happen.
 abbrev pub can_be : Run → Terms → List Kind → Bool
 can_be run terms producers =
     nat_lt (run.case.identity / 64) terms.words

@@ -99,7 +99,9 @@ unfoldable pub with_flight : List Kind → Terms → List Step → Case → ℕ 
 with_flight producers terms plan case before =
     tried producers terms plan (run_of case begins.Nowhere (extras.Lingers before))
 
--- The first of the runs with a store of a producer, between any steps or in flight to the end.
+-- The first of the runs that follow a producer: with a store of it before a step or after the last
+-- one; with one in flight from the start that lands at its fence alone, since no plan has so many
+-- steps; with one in flight to the end; and without a store, which shows where its route leads.
 unfoldable pub by_producer : List Kind → Terms → List Step → ℕ → ℕ → Option Run
 by_producer producers terms plan word producer =
     or_else
@@ -110,12 +112,13 @@ by_producer producers terms plan word producer =
     (first_of (with_flight producers terms plan (pending_case word producer)) 0 (length plan))
     (without_store producers terms plan (pending_case word producer)))))
 
--- The first of the runs with a store of any producer, for a word.
+-- The first of these runs for a word, of any producer.
 unfoldable pub stored_word : List Kind → Terms → List Step → ℕ → Option Run
 stored_word producers terms plan word =
     first_of (by_producer producers terms plan word) 0 (length producers)
 
--- The first run that loses something: of each word without a store, then of each with one.
+-- The first run that loses something: of each word those without a store and without a producer,
+-- then those that follow a producer.
 unfoldable pub losing_run_of : List Kind → Terms → List Step → Option Run
 losing_run_of producers terms plan =
     or_else (first_of (quiet_word producers terms plan) 0 terms.words)

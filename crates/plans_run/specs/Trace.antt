@@ -30,7 +30,7 @@ abbrev pub begins_new : Begin → Bool
 begins_new begins.InNew = true
 begins_new begin = false
 
--- What is followed, at the start.
+-- What is followed, at the start, with no store in flight.
 abbrev pub trace_first : Begin → Terms → Trace
 trace_first begin terms = record {
   old = begins_old begin;
@@ -63,7 +63,7 @@ trace_stored c InForce t = trace_landed c t.in_force t
 
 -- ---- a step, told whether it is about the word, the number or the producer that is followed
 
--- The route is written: the new place.
+-- The route is written, and leads to the new place.
 abbrev pub trace_turned : Bool → Trace → Trace
 trace_turned is_this t = elim is_this [ true ↦ record t { written = New } | false ↦ t ]
 
@@ -155,7 +155,7 @@ trace_after c step t = t
 
 -- ---- a trace follows the machine
 
--- A number by whether it stands in a spot as at the start: 1 there, and else 0.
+-- A number of which it is followed in which spots it is 1: 1 there, and else 0.
 abbrev pub worth : Bool → ℕ
 worth true = 1
 worth false = 0

@@ -71,7 +71,7 @@ enabled_bit identity producer = record {
   producer = producer;
 }
 
--- What comes between the steps is what comes in this run.
+-- A run in which the same comes between the steps. It begins otherwise: `untold_start` says how.
 abbrev pub run_in : UntoldRun → Run
 run_in u = record {
   case = pending_bit u.identity (producer_of u.store);
@@ -136,7 +136,7 @@ pub record LeavesUntold (d : Setting) (plan : List Step) (u : UntoldRun) : Type 
 -- ---- what is followed in it: both bits of the identity, both numbers, and what the host was told
 
 -- What is followed of one bit and one number, at the start: whether the bit stands in the old
--- place, and where the number stands.
+-- place, and in which spots the number is 1.
 abbrev pub trace_from : Bool → Bool → Bool → Bool → Trace
 trace_from is_there old_number hand_number new_number = record {
   old = is_there;

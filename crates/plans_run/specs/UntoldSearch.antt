@@ -62,7 +62,7 @@ stored_before producers terms plan word producer before =
       route = Written;
     })))
 
--- The first such run with a store of a producer, between any steps.
+-- The first such run with a store of a producer that comes before one of the steps.
 unfoldable pub stored_by : List Kind → Terms → List Step → ℕ → ℕ → Option UntoldRun
 stored_by producers terms plan word producer =
     first_of (stored_before producers terms plan word producer) 0 (length plan)

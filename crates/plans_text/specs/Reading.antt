@@ -35,10 +35,6 @@ None >>= f = None
 
 -- ---- words
 
--- Whether a byte is a space.
-abbrev pub is_space : ℕ → Bool
-is_space byte = nat_eq byte 32
-
 -- A text without its comment, which begins with `#`.
 abbrev pub before_comment : Text → Text
 before_comment text = elim (position (λ byte. nat_eq byte 35) text) [
