@@ -20,8 +20,6 @@ use Rattle.plans_program.specs.CommandLine.{subcommand_of}
 abbrev pub asked : List (Bor (List ℕ)) → Option Subcommand
 asked words = subcommand_of (map (λ (w : Bor (List ℕ)). w.now) words)
 
--- ---- what is taken
-
 -- ---- what is written
 
 -- What the sink took is what is answered of all that the source had left, where it tells that; or a
