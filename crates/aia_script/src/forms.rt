@@ -6,7 +6,6 @@
 
 ghost use Rattle.std.specs.Prelude.{◌≡◌, ◌≤◌, [], ◌∷◌, length, map};
 ghost use Rattle.std.specs.List.{join_with_byte, AllByRecursion};
-ghost use Rattle.aia_regs.specs.Operations.{FitsOp};
 ghost use Rattle.aia_model.specs.AnswerText.{field_text};
 ghost use Rattle.aia_model.specs.Grammar.{fields};
 ghost use Rattle.aia_model.specs.Grammar.Field.{Keyword, Of};
@@ -302,7 +301,7 @@ pub fn line_at(words: &Words<'_>) -> Option<Line>
 }
 
 /// Appends a keyword, a hart's number and a CSR instruction to `out`, which is empty.
-#[tactic(auto, using(crate::proofs::PrintLemmas::joined_instruction))]
+#[tactic(auto, using(crate::proofs::PrintLemmas::joined_instruction, crate::proofs::PrintLemmas::access_in_range))]
 fn push_access(
     out: &mut ArrayVec<u8, LINE_BYTES>,
     keyword: &[u8],
@@ -315,7 +314,8 @@ fn push_access(
     requires short { length keyword.now ≤ 8 }
     ensures text { out.new.items ≡ join_with_byte 32 (map field_text (Keyword keyword.now
         ∷ Of Decimal hart ∷ fields (instruction level) (access_values level csr op))) }
-    ensures range { FitsOp op }
+    ensures range { AllByRecursion FitsField
+        (fields (instruction level) (access_values level csr op)) }
 {
     push_text(out, keyword);
     push_decimal(out, hart);
@@ -323,11 +323,11 @@ fn push_access(
 }
 
 /// Appends `g` and a CSR instruction of a virtual hart to `out`, which is empty.
-#[tactic(auto, unfolding(aia_model::specs::Printing::line_text), using(crate::proofs::PrintLemmas::joined_instruction))]
+#[tactic(auto, unfolding(aia_model::specs::Printing::line_text), using(crate::proofs::PrintLemmas::joined_instruction, crate::proofs::PrintLemmas::access_in_range))]
 fn push_guest(out: &mut ArrayVec<u8, LINE_BYTES>, vm: u64, number: u64, csr: Csr, op: Op)
     requires empty { out.old.items ≡ [] }
     ensures text { out.new.items ≡ line_text (Line.GuestCsr vm number csr op) }
-    ensures range { FitsOp op }
+    ensures range { IsPrintable (Line.GuestCsr vm number csr op) }
 {
     push_text(out, b"g");
     push_decimal(out, vm);
@@ -398,7 +398,7 @@ fn push_beginning(out: &mut ArrayVec<u8, LINE_BYTES>, vm: u64, number: u64, want
 }
 
 /// Appends a line to `out`, which is empty. Its numbers are in range by their types.
-#[tactic(auto, unfolding(aia_model::specs::Printing::line_text), using(crate::proofs::PrintLemmas::joined_instruction, crate::proofs::PrintLemmas::access_in_range))]
+#[tactic(auto, unfolding(aia_model::specs::Printing::line_text))]
 fn push_line(line: &Line, out: &mut ArrayVec<u8, LINE_BYTES>)
     requires { out.old.items ≡ [] }
     ensures text { out.new.items ≡ line_text line.now }

@@ -13,12 +13,14 @@ macro_rules! read_field {
 }
 
 /// Reads what follows the first word of a text by the row of that word, and returns it.
+///
+/// A field is read by `let .. else`: each `?` would be two calls more, dear to the prover.
 macro_rules! read_by_row {
     (($text:ident)
         $($name:literal [$($field:ident: $kind:ident),*] ($($made:tt)*))*) => {
         $(
             if let Some(mut words) = after_name($text, $name) {
-                $(let $field = read_field!($kind words)?;)*
+                $(let Some($field) = read_field!($kind words) else { return None };)*
                 return at_end(&words, $($made)*);
             }
         )*
