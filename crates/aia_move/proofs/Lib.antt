@@ -2,5 +2,5 @@ pub mod AimLemmas
 pub mod MoveKept
 pub mod MachineLemmas
 pub mod KnowsLemmas
-pub mod InPlace
+pub mod ByPhase
 pub mod CarryLemmas

@@ -1,8 +1,7 @@
 use Rattle.std.proofs.Common.{sym, subst}
 use Rattle.aia_home.specs.Phases.Phase.{EnablePhase}
-use Rattle.aia_world.specs.World.{World}
-use Rattle.aia_moving.specs.Move.{Moving, width}
-use Rattle.aia_moving.specs.Turns.{IsIn, GoesOn}
+use Rattle.aia_moving.specs.Move.{width}
+use Rattle.aia_moving.specs.Turns.{IsIn}
 use Rattle.aia_move.specs.Plan.{IsLastOf}
 use Rattle.aia_move.proofs.AimLemmas.{ends_enables}
 use Rattle.aia_move.proofs.moves.Move+K+Enable.step.Goals as goal

@@ -6,7 +6,7 @@ use Rattle.aia_moving.specs.Carrier.{moving, progress_of}
 use Rattle.aia_moving.specs.Turns.{after_enable}
 use Rattle.aia_moving.proofs.PhaseSteps.{middle}
 use Rattle.aia_moving.proofs.WhoLemmas.{old_there, new_there}
-use Rattle.aia_moving.proofs.StepLemmas.{carrier_is, steps_are, move_carries_enables}
+use Rattle.aia_moving.proofs.StepLemmas.{carrier_is, move_carries_enables}
 use Rattle.aia_move.proofs.CarryLemmas.{carries_enables}
 use Rattle.aia_move.proofs.moves.Move.carry_enables.Goals as goal
 
