@@ -1,5 +1,5 @@
 -- The steps that aim passed sources: which phases they are in, and what they leave.
-use Rattle.std.proofs.Common.{◌≡◌, ◌≢◌, ℕ, ◌+◌, ◌<◌, ◌≤◌, true, false, ◌&&◌, nat_lt, refl, sym, ap, ◌∙◌, subst, arith}
+use Rattle.std.proofs.Common.{◌≡◌, ◌≢◌, ℕ, ◌+◌, ◌<◌, ◌≤◌, Bool, true, false, ◌&&◌, nat_lt, refl, sym, ap, ◌∙◌, subst, arith}
 use Rattle.std.proofs.lemmas.Bool.{eq-eqb, ne_eqb}
 use Rattle.aia_home.specs.Home.{Home, Progress, is_moving, one_more}
 use Rattle.aia_home.specs.Home.Home.{Leaving, Arriving, Shifting}
@@ -14,9 +14,9 @@ use Rattle.aia_move.specs.declared.plan.Plan.TheVariants.{LeaveFirst, LeaveClosi
 use Rattle.aia_moving.specs.declared.turn.Closed.{Closed}
 use Rattle.aia_moving.specs.declared.turn.Closed.TheVariants as closed
 use Rattle.aia_moving.specs.Move.{Moving, width, MoveFits}
-use Rattle.aia_moving.specs.Targets.{aims, has_unaimed, one_aimed}
+use Rattle.aia_moving.specs.Targets.{aims, passes_of, has_unaimed, one_aimed}
 use Rattle.aia_moving.specs.Carrier.{CarrierState, progress_of, moving, one_aim_done}
-use Rattle.aia_moving.specs.Turns.{IsIn, IsAtAims, IsInDrain, IsMove, GoesOn, AimsOn, MatchClosed}
+use Rattle.aia_moving.specs.Turns.{IsIn, IsAtAims, IsInDrain, IsMove, GoesOn, AimsOn, MatchClosed, after_enable}
 use Rattle.aia_move.specs.Plan.{moving_of, is_in_aim, IsInPhase, IsLastOf}
 use Rattle.aia_moving.proofs.PhaseSteps.{middle, begins_on}
 
@@ -160,3 +160,25 @@ still_drains w u m t is goes more = record {
   phase = still_in DrainPhase w u m t is goes more;
   aimed = none_aims (width u) _ t.home (λ moves e. omega (arith, e, begins_still w u m t DrainPhase goes, goes.steps, is));
 }
+
+-- ---- after the enabled set
+
+-- the phase that follows in a plan begins as the looks of a leave would, and has steps
+after_begins : (words : ℕ) (there : Home) → (begins words there EnablePhase ≤ steps_done there) × (steps_done there < begins words there LookPhase)
+    → (begins words there (after_enable there) ≡ begins words there LookPhase) × (begins words there LookPhase < begins words there (following (after_enable there)))
+after_begins words (Leaving from at) is = (refl, omega (arith, is.0, is.1))
+after_begins words (Arriving to at) is = (refl, omega arith)
+after_begins words (Shifting from to at) is = (refl, omega arith)
+after_begins words there is = absurd (omega (arith, is.0, is.1))
+
+pub ends_enables : (phase : Phase) (w u : World) (m t : Moving) → phase ≡ after_enable m.home → IsIn EnablePhase (width w) m → GoesOn w m u t → IsLastOf EnablePhase (width w) m → IsIn phase (width u) t
+ends_enables phase w u m t follows is goes last =
+    let next = after_enable m.home in
+    let begun = after_begins (width w) m.home is in
+    subst (λ p. IsIn p (width u) t) (sym follows)
+    (omega (arith, begins_still w u m t next goes, goes.steps, last, begun.0), omega (arith, begins_still w u m t (following next) goes, goes.steps, last, begun.1))
+
+-- ---- by its carrier
+
+pub unaimed : (there : Progress → Home) → IsMove there → (l : CarrierState) (s t : Moving) (more : Bool) → moving there l ≡ s → t ≡ s → nat_lt l.aims (passes_of l.who) ≡ more → has_unaimed t ≡ more
+unaimed there is l s t more seen same known = ap has_unaimed (same ∙ sym seen) ∙ ap (λ n. nat_lt n (passes_of l.who)) (is.aims (progress_of l)) ∙ known

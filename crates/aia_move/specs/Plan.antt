@@ -10,7 +10,7 @@ use Rattle.aia_move.specs.declared.plan.Next.TheVariants.{Again, Finished}
 use Rattle.aia_moving.specs.declared.turn.Outcome.{Outcome}
 use Rattle.aia_world.specs.World.{World}
 use Rattle.aia_moving.specs.Move.{Moving, width, MoveFits, Goes}
-use Rattle.aia_moving.specs.Targets.{Aim, next_aim, one_aimed}
+use Rattle.aia_moving.specs.Targets.{Aim, aim_of, next_aim, one_aimed}
 use Rattle.aia_moving.specs.Landings.{OnceLanded}
 use Rattle.aia_moving.specs.Turns.{IsIn, IsAtAims, IsInDrain, GoesOn, EndsAs}
 
@@ -97,13 +97,25 @@ pub record GoesAiming (w : World) (m : Moving) (u : World) (t : Moving) : Type 0
   pub world : u ≡ w
   pub moved : t ≡ one_aimed m
 
+-- The next access of a move is made: the move goes on, or is at its end.
+abbrev pub Advances : World → Moving → World → Next → Type 0
+Advances w m u next = MatchNext next (λ p. Goes w m u (moving_of p)) (λ o. EndsAs w m u o)
+
 -- What a step makes of the world and of a move: where it aims, a passed source is aimed, and the
 -- move goes on; elsewhere it makes the next access of the plan, once what lands before it has.
 abbrev pub StepsTo : Option Aim → World → Moving → World → Next → Type 0
-StepsTo None w m u next = OnceLanded w m (λ landed. MatchNext next
-    (λ p. Goes landed m u (moving_of p))
-    (λ o. EndsAs landed m u o))
+StepsTo None w m u next = OnceLanded w m (λ landed. Advances landed m u next)
 StepsTo (Some aim) w m u next = MatchNext next (λ p. GoesAiming w m u (moving_of p)) (λ o. ⊥)
+
+-- The same by the phase that the plan is in: stores in flight land in the first phase alone.
+abbrev pub StepsByPhase : Plan → World → World → Next → Type 0
+StepsByPhase (LeaveFirst m) w u next = StepsTo None w m u next
+StepsByPhase (ArriveFirst m) w u next = StepsTo None w m u next
+StepsByPhase (ShiftFirst m) w u next = StepsTo None w m u next
+StepsByPhase (LeaveAim m) w u next = StepsTo (Some (aim_of m)) w m u next
+StepsByPhase (ArriveAim m) w u next = StepsTo (Some (aim_of m)) w m u next
+StepsByPhase (ShiftAim m) w u next = StepsTo (Some (aim_of m)) w m u next
+StepsByPhase plan w u next = Advances w (moving_of plan) u next
 
 -- ---- a step in place
 

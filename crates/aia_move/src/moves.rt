@@ -6,7 +6,7 @@ ghost use Rattle.aia_home.specs.Phases.{begins};
 ghost use Rattle.aia_home.specs.Phases.Phase.{ClosingPhase, DrainPhase, EnablePhase};
 ghost use Rattle.aia_moving.specs.Move.{MoveFits, old_at, new_at, width};
 ghost use Rattle.aia_moving.specs.Targets.{ArePasses, aim_of, has_unaimed};
-ghost use Rattle.aia_moving.specs.Turns.{IsIn, IsAtAims, IsInDrain, GoesOn, AimsOn, MatchTurn, MatchClosed};
+ghost use Rattle.aia_moving.specs.Turns.{IsIn, IsAtAims, IsInDrain, GoesOn, AimsOn, MatchTurn, MatchClosed, after_enable};
 ghost use Rattle.aia_move.specs.Plan.{GoesInPlace};
 
 use crate::carrier::Carrier;
@@ -223,7 +223,8 @@ impl<K: Kind, P> Move<K, P> {
     fn carry_enables(&mut self, fabric: &mut Fabric)
         requires fits { MoveFits fabric.old self.old }
         requires phase { IsIn EnablePhase (width fabric.old) self.old }
-        ensures { GoesOn fabric.old self.old fabric.new self.new }
+        ensures goes { GoesOn fabric.old self.old fabric.new self.new }
+        ensures follows { K.after ≡ after_enable self.old.home }
     {
         let words = fabric.words();
         let first = self.first_steps() + 2 + 2 * words;

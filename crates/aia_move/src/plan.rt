@@ -8,7 +8,7 @@ ghost use Rattle.aia_world.specs.Changes.{spot_of};
 ghost use Rattle.aia_moving.specs.Move.{IsWho, MoveFits, width};
 ghost use Rattle.aia_moving.specs.Targets.{ArePasses, AimsAs, aim_if, next_aim};
 ghost use Rattle.aia_moving.specs.Turns.{LeavesEmpty};
-ghost use Rattle.aia_move.specs.Plan.{moving_of, is_in_aim, IsInPhase, MatchNext, StepsTo, StepsInPlace};
+ghost use Rattle.aia_move.specs.Plan.{moving_of, is_in_aim, IsInPhase, MatchNext, StepsTo, StepsByPhase, StepsInPlace};
 
 use crate::phase::{Aim, Closing, Drain, Enable, First, Last, Look};
 use crate::{Arrive, Closed, KeptNumbers, Leave, Outcome, Shift, Targets, Turn, Who};
@@ -192,8 +192,7 @@ impl Plan {
         requires phase { IsInPhase (width fabric.old) self }
         requires harts { fabric.old.imsic.harts ≡ (T.map targets.old).harts }
         requires passes { ArePasses (moving_of self).who }
-        ensures goes { StepsTo (aim_if (is_in_aim self) (moving_of self)) fabric.old
-            (moving_of self) fabric.new result }
+        ensures goes { StepsByPhase self fabric.old fabric.new result }
         ensures aims { AimsAs T.aimed (aim_if (is_in_aim self) (moving_of self)) targets.old
             targets.new }
         ensures fits { MatchNext result (λ p. MoveFits fabric.new (moving_of p)) (λ o. ⊤) }

@@ -1,31 +1,33 @@
-use Rattle.std.proofs.Common.{◌≡◌, ◌+◌, ◌*◌, sym, ap, ◌∙◌, subst, arith}
+use Rattle.std.proofs.Common.{◌≡◌, ◌+◌, ◌*◌, ◌≤◌, sym, ap, ◌∙◌, subst, arith}
+use Rattle.aia_regs.specs.declared.limits.TheConstants.{FILE_WORDS}
 use Rattle.aia_world.specs.Changes.{IsPlaceThere}
-use Rattle.aia_moving.specs.Move.{width, old_at, new_at}
-use Rattle.aia_moving.specs.Carrier.{moving}
+use Rattle.aia_moving.specs.Move.{Moving, width, old_at, new_at}
+use Rattle.aia_moving.specs.Carrier.{moving, progress_of}
+use Rattle.aia_moving.specs.Turns.{after_enable}
 use Rattle.aia_moving.proofs.PhaseSteps.{middle}
 use Rattle.aia_moving.proofs.WhoLemmas.{old_there, new_there}
-use Rattle.aia_moving.proofs.StepLemmas.{carrier_is, steps_are, move_carries_enables}
+use Rattle.aia_moving.proofs.StepLemmas.{carrier_is, move_carries_enables}
+use Rattle.aia_move.proofs.CarryLemmas.{carries_enables}
 use Rattle.aia_move.proofs.moves.Move.carry_enables.Goals as goal
 
-pub carry_enables-requires-clause-from : goal.carry_enables-requires-clause-from
-carry_enables-requires-clause-from g c =
-    let w = c.args.fabric.now in
-    subst (λ at. IsPlaceThere w at) (sym c.old_place-from.ensures) (old_there w c.args.self.now c.words-words.ensures.whole c.requires.fits c.first_steps.ensures.moves)
-
-pub carry_enables-requires-clause-to : goal.carry_enables-requires-clause-to
-carry_enables-requires-clause-to g c =
-    let w = c.args.fabric.now in
-    subst (λ at. IsPlaceThere w at) (sym c.new_place-to.ensures) (new_there w c.args.self.now c.words-words.ensures.whole c.requires.fits c.first_steps.ensures.moves)
-
-pub carry_enables-requires-clause-first : goal.carry_enables-requires-clause-first
-carry_enables-requires-clause-first g c =
+pub carry_enables-requires : goal.carry_enables-requires
+carry_enables-requires g c =
     let l = c.self.inside in
     let w = c.args.fabric.now in
-    let mid = middle (width w) c.args.self.now.home c.first_steps.ensures.moves in
-    omega (arith, steps_are (g.K.Kind.home l.kind) (g.met.K.Kind.is_move l.kind) l.carrier c.args.self.now c.self.view_is, c.first_steps.ensures.value (width w), c.words-words.ensures.value, c.requires.phase, mid.enable)
+    let begun = c.first_steps.ensures in
+    let narrow = subst (λ n. n ≤ FILE_WORDS) c.words-words.ensures.value c.words-words.ensures.few in
+    let carries = carries_enables (g.K.Kind.home l.kind) (g.met.K.Kind.is_move l.kind) w l.carrier c.args.self.now c.self.view_is c.requires.fits begun.moves c.first_steps.result begun.few (begun.value (width w)) narrow c.words-words.result c.words-words.ensures.value c.requires.phase in
+    record {
+      from = subst (λ at. IsPlaceThere w at) (sym c.old_place-from.ensures) (old_there w c.args.self.now c.words-words.ensures.whole c.requires.fits begun.moves);
+      to = subst (λ at. IsPlaceThere w at) (sym c.new_place-to.ensures) (new_there w c.args.self.now c.words-words.ensures.whole c.requires.fits begun.moves);
+      first = carries.first;
+      word = carries.word;
+      no_zero = carries.no_zero;
+      more = carries.more;
+    }
 
-pub returns : goal.returns
-returns g c =
+pub returns-clause-goes : goal.returns-clause-goes
+returns-clause-goes g c =
     let l = c.self.inside in
     let w = c.args.fabric.now in
     let there = g.K.Kind.home l.kind in
@@ -34,3 +36,8 @@ returns g c =
     move_carries_enables there is w c.carry_enables.new.fabric l.carrier c.carry_enables.new.self c.args.self.now (c.first_steps.result + 2 + 2 * c.words-words.result) c.self.view_is c.requires.fits c.requires.phase (omega (arith, words, c.words-words.ensures.some))
     (omega (arith, words, c.first_steps.ensures.value (width w), (middle (width w) c.args.self.now.home c.first_steps.ensures.moves).enable))
     (c.carry_enables.ensures.does (moving there l.carrier) (carrier_is there is l.carrier) (ap old_at c.self.view_is ∙ sym c.old_place-from.ensures) (ap new_at c.self.view_is ∙ sym c.new_place-to.ensures)) c.carry_enables.ensures.no_zero
+
+pub returns-clause-follows : goal.returns-clause-follows
+returns-clause-follows g c =
+    let l = c.self.inside in
+    g.met.K.Kind.follows l.kind (progress_of l.carrier) ∙ ap (λ (x : Moving). after_enable x.home) c.self.view_is
