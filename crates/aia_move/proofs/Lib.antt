@@ -1,6 +1,5 @@
-pub mod AimLemmas
+pub mod PhaseLemmas
 pub mod MoveKept
 pub mod MachineLemmas
 pub mod KnowsLemmas
-pub mod ByPhase
 pub mod CarryLemmas

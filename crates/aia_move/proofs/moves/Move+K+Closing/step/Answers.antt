@@ -2,7 +2,7 @@ use Rattle.std.proofs.Common.{◌≤◌, sym, subst, arith}
 use Rattle.aia_home.specs.Phases.Phase.{ClosingPhase}
 use Rattle.aia_moving.specs.Move.{width}
 use Rattle.aia_move.specs.Plan.{IsLastOf}
-use Rattle.aia_move.proofs.AimLemmas.{closed_phase}
+use Rattle.aia_move.proofs.PhaseLemmas.{closed_phase}
 use Rattle.aia_move.proofs.moves.Move+K+Closing.step.Goals as goal
 
 pub returns-else-step_in_place-clause-phase : goal.returns-else-step_in_place-clause-phase

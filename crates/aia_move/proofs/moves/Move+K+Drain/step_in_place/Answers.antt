@@ -1,7 +1,7 @@
 use Rattle.std.proofs.Common.{arith}
 use Rattle.aia_moving.specs.Move.{width}
 use Rattle.aia_moving.proofs.PhaseSteps.{middle}
-use Rattle.aia_move.proofs.AimLemmas.{still_drains}
+use Rattle.aia_move.proofs.PhaseLemmas.{still_drains}
 use Rattle.aia_move.proofs.moves.Move+K+Drain.step_in_place.Goals as goal
 
 pub returns-then-stays-clause-phase : goal.returns-then-stays-clause-phase

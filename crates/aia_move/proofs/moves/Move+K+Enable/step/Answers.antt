@@ -3,7 +3,7 @@ use Rattle.aia_home.specs.Phases.Phase.{EnablePhase}
 use Rattle.aia_moving.specs.Move.{width}
 use Rattle.aia_moving.specs.Turns.{IsIn}
 use Rattle.aia_move.specs.Plan.{IsLastOf}
-use Rattle.aia_move.proofs.AimLemmas.{ends_enables}
+use Rattle.aia_move.proofs.PhaseLemmas.{ends_enables}
 use Rattle.aia_move.proofs.moves.Move+K+Enable.step.Goals as goal
 
 pub returns-else-step_in_place-clause-phase : goal.returns-else-step_in_place-clause-phase

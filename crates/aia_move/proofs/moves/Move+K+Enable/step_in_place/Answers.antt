@@ -2,7 +2,7 @@ use Rattle.std.proofs.Common.{arith}
 use Rattle.aia_home.specs.Phases.Phase.{EnablePhase}
 use Rattle.aia_moving.specs.Move.{width}
 use Rattle.aia_moving.proofs.PhaseSteps.{middle}
-use Rattle.aia_move.proofs.AimLemmas.{still_in}
+use Rattle.aia_move.proofs.PhaseLemmas.{still_in}
 use Rattle.aia_move.proofs.moves.Move+K+Enable.step_in_place.Goals as goal
 
 pub returns-then-stays-clause-phase : goal.returns-then-stays-clause-phase

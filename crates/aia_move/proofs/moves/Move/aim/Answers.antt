@@ -1,4 +1,4 @@
-use Rattle.aia_move.proofs.AimLemmas.{move_aims}
+use Rattle.aia_move.proofs.PhaseLemmas.{move_aims}
 use Rattle.aia_move.proofs.moves.Move.aim.Goals as goal
 
 pub returns-clause-goes : goal.returns-clause-goes

@@ -1,5 +1,5 @@
 use Rattle.std.proofs.Common.{true, false, sym, ◌∙◌}
-use Rattle.aia_move.proofs.AimLemmas.{unaimed}
+use Rattle.aia_move.proofs.PhaseLemmas.{unaimed}
 use Rattle.aia_move.proofs.moves.Move.closed.Goals as goal
 
 pub returns-then-has_unaimed : goal.returns-then-has_unaimed

@@ -3,8 +3,7 @@ use Rattle.aia_moving.specs.Move.{width}
 use Rattle.aia_moving.specs.Targets.{AimsAs, aim_if}
 use Rattle.aia_move.specs.Plan.{moving_of, is_in_aim, StepsTo}
 use Rattle.aia_move.proofs.MoveKept.{gives_empty}
-use Rattle.aia_move.proofs.AimLemmas.{phase_aims}
-use Rattle.aia_move.proofs.ByPhase.{steps_by_phase}
+use Rattle.aia_move.proofs.PhaseLemmas.{phase_aims, steps_by_phase}
 use Rattle.aia_move.proofs.plan.Plan.step.Goals as goal
 
 pub returns-clause-goes : goal.returns-clause-goes

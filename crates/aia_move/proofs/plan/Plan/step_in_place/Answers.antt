@@ -1,7 +1,7 @@
 use Rattle.std.proofs.Common.{refl, ap}
 use Rattle.aia_home.specs.Phases.Phase.{FirstPhase, ClosingPhase, DrainPhase, EnablePhase, LookPhase, LastPhase}
 use Rattle.aia_move.specs.declared.plan.Plan.TheVariants.{LeaveFirst, LeaveClosing, LeaveDrain, LeaveEnable, LeaveLook, LeaveLast, ArriveFirst, ArriveClosing, ArriveDrain, ArriveEnable, ArriveLast, ShiftFirst, ShiftClosing, ShiftDrain, ShiftEnable, ShiftLast}
-use Rattle.aia_move.proofs.ByPhase.{lands_in_place, goes_in_place}
+use Rattle.aia_move.proofs.PhaseLemmas.{lands_in_place, goes_in_place}
 use Rattle.aia_move.proofs.plan.Plan.step_in_place.Goals as goal
 
 pub returns-in-LeaveFirst : goal.returns-in-LeaveFirst
