@@ -50,9 +50,8 @@ fn generate_command<'a>(alloc: Global) -> Result<Command<'a>, AllocError>
     ensures local { IfOk result (λ made. (out-Command made).has_globals ≡ false) }
 {
     let count = required_argument(alloc, "COUNT", up_to_most_lines());
-    let seed = required_argument(alloc, "SEED", value_parser!(u64));
-    let generate = Command::new(alloc, "gen").arg(count)?.arg(seed)?;
-    Ok(generate)
+    let counted = Command::new(alloc, "gen").arg(count)?;
+    counted.arg(required_argument(alloc, "SEED", value_parser!(u64)))
 }
 
 /// Makes the subcommand `audit`. `Err`: there is no memory for it.
@@ -61,9 +60,8 @@ fn audit_command<'a>(alloc: Global) -> Result<Command<'a>, AllocError>
     ensures local { IfOk result (λ made. (out-Command made).has_globals ≡ false) }
 {
     let kind = required_argument(alloc, "KIND", ValueParser::String);
-    let words = required_argument(alloc, "W", value_parser!(u64));
-    let audit = Command::new(alloc, "audit").arg(kind)?.arg(words)?;
-    Ok(audit)
+    let named = Command::new(alloc, "audit").arg(kind)?;
+    named.arg(required_argument(alloc, "W", value_parser!(u64)))
 }
 
 /// Makes an argument that must be there, with the words that `parser` takes.

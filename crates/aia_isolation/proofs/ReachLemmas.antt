@@ -1,6 +1,6 @@
 -- A VM reaches the host's files by its notices alone.
 use Rattle.std.proofs.Common.{◌≡◌, List, [], ◌∷◌, ℕ, Bool, true, false, if◌then◌else◌, Option, Some, None, inl, inr, ◌⊎◌, refl, arith, sym, ap, ◌∙◌}
-use Rattle.std.proofs.lemmas.Bool.{cases_Bool, cond-true, cond-false, eqb-true}
+use Rattle.std.proofs.lemmas.Bool.{cases_Bool, cond-true, cond-false, eqb-true, false≢true}
 use Rattle.aia_home.specs.Vms.{Vcpu, vcpu}
 use Rattle.aia_home.proofs.VmLemmas.{same_slot}
 use Rattle.aia_model.specs.declared.line.Line.{Line}
@@ -48,7 +48,7 @@ by_notices past (Ipi vm number to value) v f e its = either_notice _ past v f (v
 by_notices past (Send vm addr value) v f e its = inl refl
 by_notices past (Land vm k) v f e its = inl refl
 by_notices past (GuestCsr vm number csr op) v f e its = inl refl
-by_notices past line v f e its = absurd (cc)
+by_notices past line v f e its = absurd (false≢true its)
 
 pub steps_by_notices : (past : History) (g : Vcpu) (f : FileName) → has_vcpu past g ≡ true → (deed_at f past (Stepped g) ≡ Rests) ⊎ IsNoticeOf past g.vm f (deed_at f past (Stepped g))
 steps_by_notices past g f there = either_notice _ past g.vm f g refl there
@@ -75,7 +75,7 @@ no_act (Ipi vm number to value) v its = refl
 no_act (Send vm addr value) v its = refl
 no_act (Land vm k) v its = refl
 no_act (GuestCsr vm number csr op) v its = refl
-no_act line v its = absurd (cc)
+no_act line v its = absurd (false≢true its)
 
 pub own_number : (h : History) (g x : Vcpu) → has_vcpu h g ≡ true → has_vcpu h x ≡ true → notice_number h g ≡ notice_number h x → g ≡ x
 own_number h g x here there e = same_slot (vms_of h) g x here there (omega (arith, e))

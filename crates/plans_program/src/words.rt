@@ -20,8 +20,7 @@ pub enum Subcommand {
 fn command<'a>(alloc: Global) -> Result<Command<'a>, AllocError>
     ensures { IfOk result (λ made. app_of made ≡ the_command) }
 {
-    let whole = bare_command(alloc).subcommand(judge_command(alloc))?;
-    Ok(whole)
+    bare_command(alloc).subcommand(judge_command(alloc))
 }
 
 /// Makes the command with no subcommand yet: one is required, and it shows no help.

@@ -1,5 +1,5 @@
 use Rattle.std.proofs.Common.{arith, subst, ap, Err}
-use Rattle.plans_program.proofs.PieceLemmas.{SoFar, as_many, rose_since, ends_done, ends_failed, ends_past, so_far_more, stops_piece}
+use Rattle.plans_program.proofs.PieceLemmas.{SoFar, as_many, few_lines, rose_since, ends_done, ends_failed, ends_past, so_far_more, stops_last, stops_piece}
 use Rattle.plans_program.proofs.judging.judge_file.Goals as goal
 
 pub returns-in-Got : goal.returns-in-Got
@@ -37,4 +37,24 @@ returns-in-Ok g c = record {
 pub returns-in-Failed : goal.returns-in-Failed
 returns-in-Failed g c = record {
   ends = ends_failed c.loop-reader.reader _ _ _ _ _ _ _ _ _ _ c.loop-reader.invariant.so_far c.in-Failed.ensures.bytes.0 (rose_since _ _ _ c.loop-reader.invariant.source_later c.in-Failed.ensures.cause.1);
+}
+
+pub judge_piece-requires : goal.judge_piece-requires
+judge_piece-requires g c =
+    let so = c.loop-reader.invariant.so_far in
+    let n = c.in-Got.field-0 in
+    record {
+      ready = so.judged.read.inside;
+      room = omega (arith, few_lines c.loop-reader.reader _ _ _ _ _ so, as_many n _ c.read_front.new.piece c.in-Got.ensures.bytes.1 (omega (arith, c.clamp-asked.ensures, c.read_front.auto.piece)), c.in-Got.ensures.bytes.1, c.clamp-asked.ensures);
+    }
+
+pub judge_last-requires : goal.judge_last-requires
+judge_last-requires g c =
+    let so = c.loop-reader.invariant.so_far in
+    record { ready = so.judged.read.inside; room = omega (arith, few_lines c.loop-reader.reader _ _ _ _ _ so) }
+
+pub returns-in-Err-judge_last : goal.returns-in-Err-judge_last
+returns-in-Err-judge_last g c = record {
+  ends = stops_last c.stopped-in-Err-judge_last.result c.in-Err-judge_last.stop c.loop-reader.reader _ _ _ _ _ _ c.loop-reader.taken _ _ _ _ c.loop-reader.invariant.so_far c.in-End.ensures.bytes.0 c.in-End.ensures.bytes.1 c.in-Err-judge_last.ensures.cut
+      (λ e. rose_since _ _ _ c.loop-reader.invariant.sink_later (c.in-Err-judge_last.ensures.fault (ap Err e))) c.stopped-in-Err-judge_last.ensures;
 }
