@@ -187,19 +187,19 @@ fn fill(fabric: &mut Fabric)
     let _was = fabric.swap_enable(At::Slot(1), 0, 0x28);
 }
 
-/// Two guest files of hart 1.
-fn two_files(alloc: Global) -> Result<Option<(FileLease, FileLease)>, AllocError>
-    ensures { IfOk result (λ files. IfSome files (λ f. (f.0.hart < 2) × (1 ≤ f.0.file)
-        × (f.0.file ≤ 2) × (f.1.hart < 2) × (1 ≤ f.1.file) × (f.1.file ≤ 2))) }
+/// Takes two guest files of hart 1.
+fn two_files(alloc: Global) -> Result<(FileLease, FileLease), Fail>
+    ensures { IfOk result (λ f. (f.0.hart < 2) × (1 ≤ f.0.file) × (f.0.file ≤ 2)
+        × (f.1.hart < 2) × (1 ≤ f.1.file) × (f.1.file ≤ 2)) }
 {
     let mut pool = Pool::new(alloc, 2, 2)?;
     let Some(first) = pool.take(1) else {
-        return Ok(None);
+        return Err(Fail::new("no guest file is free"));
     };
     let Some(second) = pool.take(1) else {
-        return Ok(None);
+        return Err(Fail::new("no second guest file is free"));
     };
-    Ok(Some((first, second)))
+    Ok((first, second))
 }
 
 /// Fills the slot, moves virtual hart 1 from it to a file by a plan that arrives, with stores
@@ -224,7 +224,7 @@ fn arrives(
 
 /// An arrival, then a shift, then a leave, each with stores before its step of a number: all that
 /// was pending or asked for is pending at the end of each, and both enables are there.
-fn goes_round(rt: &impl Abort, fabric: &mut Fabric, files: (FileLease, FileLease), at: usize)
+fn goes_round(rt: &impl Abort, files: (FileLease, FileLease), fabric: &mut Fabric, at: usize)
     requires first { IsFileThere fabric.old (places.File files.0) }
     requires second { IsFileThere fabric.old (places.File files.1) }
     requires width { width fabric.old ≡ 1 }
@@ -246,12 +246,12 @@ fn goes_round(rt: &impl Abort, fabric: &mut Fabric, files: (FileLease, FileLease
 #[test]
 fn the_plans_of_the_core_keep_all(rt: HostRuntime) -> Result<(), Fail> {
     for at in 0..14 {
-        let mut fabric = machine(rt.alloc(), 63)?;
-        match two_files(rt.alloc())? {
-            Some(files) => goes_round(&rt, &mut fabric, files, at),
-            None => holds(&rt, false),
-        }
-        drop(fabric);
+        goes_round(
+            &rt,
+            two_files(rt.alloc())?,
+            &mut machine(rt.alloc(), 63)?,
+            at,
+        );
     }
     Ok(())
 }
@@ -372,7 +372,7 @@ const TWO_IN_HAND: [Step; 16] = [
 
 /// What refused plans lose: the enables; 9, which a device stores before the late fence; and 11,
 /// which another virtual hart stores before the late G fence. The lost ones stay in the old file.
-fn loses(rt: &impl Abort, fabric: &mut Fabric, files: (FileLease, FileLease))
+fn loses(rt: &impl Abort, files: (FileLease, FileLease), fabric: &mut Fabric)
     requires first { IsFileThere fabric.old (places.File files.0) }
     requires second { IsFileThere fabric.old (places.File files.1) }
     requires width { width fabric.old ≡ 1 }
@@ -390,7 +390,7 @@ fn loses(rt: &impl Abort, fabric: &mut Fabric, files: (FileLease, FileLease))
 }
 
 /// The same of the late G fence.
-fn loses_a_peer(rt: &impl Abort, fabric: &mut Fabric, files: (FileLease, FileLease))
+fn loses_a_peer(rt: &impl Abort, files: (FileLease, FileLease), fabric: &mut Fabric)
     requires first { IsFileThere fabric.old (places.File files.0) }
     requires second { IsFileThere fabric.old (places.File files.1) }
     requires width { width fabric.old ≡ 1 }
@@ -412,24 +412,14 @@ fn loses_a_peer(rt: &impl Abort, fabric: &mut Fabric, files: (FileLease, FileLea
 
 #[test]
 fn refused_plans_lose_what_they_are_said_to(rt: HostRuntime) -> Result<(), Fail> {
-    let mut fabric = machine(rt.alloc(), 63)?;
-    match two_files(rt.alloc())? {
-        Some(files) => loses(&rt, &mut fabric, files),
-        None => holds(&rt, false),
-    }
-    drop(fabric);
-    let mut fabric = machine(rt.alloc(), 63)?;
-    match two_files(rt.alloc())? {
-        Some(files) => loses_a_peer(&rt, &mut fabric, files),
-        None => holds(&rt, false),
-    }
-    drop(fabric);
+    loses(&rt, two_files(rt.alloc())?, &mut machine(rt.alloc(), 63)?);
+    loses_a_peer(&rt, two_files(rt.alloc())?, &mut machine(rt.alloc(), 63)?);
     Ok(())
 }
 
 /// An arrival whose fence comes first, with stores once the word was taken: 5, which a device
 /// stores, stays in the slot. Then a leave that writes no entry: 9 stays in the file.
-fn loses_by_the_entry(rt: &impl Abort, fabric: &mut Fabric, files: (FileLease, FileLease))
+fn loses_by_the_entry(rt: &impl Abort, files: (FileLease, FileLease), fabric: &mut Fabric)
     requires first { IsFileThere fabric.old (places.File files.0) }
     requires second { IsFileThere fabric.old (places.File files.1) }
     requires width { width fabric.old ≡ 1 }
@@ -451,8 +441,8 @@ fn loses_by_the_entry(rt: &impl Abort, fabric: &mut Fabric, files: (FileLease, F
 /// A leave that does not say where notices go loses nothing, wherever stores come.
 fn keeps_without_notice(
     rt: &impl Abort,
-    fabric: &mut Fabric,
     files: (FileLease, FileLease),
+    fabric: &mut Fabric,
     at: usize,
 )
     requires first { IsFileThere fabric.old (places.File files.0) }
@@ -469,7 +459,7 @@ fn keeps_without_notice(
 
 /// A shift with two words in hand, of a file in which 3 and 69 are pending: both are lost, and 5 is
 /// pending in the new one, for which nobody asked.
-fn loses_in_the_hand(rt: &impl Abort, fabric: &mut Fabric, files: (FileLease, FileLease))
+fn loses_in_the_hand(rt: &impl Abort, files: (FileLease, FileLease), fabric: &mut Fabric)
     requires first { IsFileThere fabric.old (places.File files.0) }
     requires second { IsFileThere fabric.old (places.File files.1) }
     requires width { width fabric.old ≡ 2 }
@@ -492,30 +482,20 @@ fn loses_in_the_hand(rt: &impl Abort, fabric: &mut Fabric, files: (FileLease, Fi
 
 #[test]
 fn refused_plans_lose_by_the_entry_and_in_the_hand(rt: HostRuntime) -> Result<(), Fail> {
-    let mut fabric = machine(rt.alloc(), 63)?;
-    match two_files(rt.alloc())? {
-        Some(files) => loses_by_the_entry(&rt, &mut fabric, files),
-        None => holds(&rt, false),
-    }
-    drop(fabric);
-    let mut fabric = machine(rt.alloc(), 127)?;
-    match two_files(rt.alloc())? {
-        Some(files) => loses_in_the_hand(&rt, &mut fabric, files),
-        None => holds(&rt, false),
-    }
-    drop(fabric);
+    loses_by_the_entry(&rt, two_files(rt.alloc())?, &mut machine(rt.alloc(), 63)?);
+    loses_in_the_hand(&rt, two_files(rt.alloc())?, &mut machine(rt.alloc(), 127)?);
     Ok(())
 }
 
 #[test]
 fn a_leave_without_notice_keeps_all(rt: HostRuntime) -> Result<(), Fail> {
     for at in 0..14 {
-        let mut fabric = machine(rt.alloc(), 63)?;
-        match two_files(rt.alloc())? {
-            Some(files) => keeps_without_notice(&rt, &mut fabric, files, at),
-            None => holds(&rt, false),
-        }
-        drop(fabric);
+        keeps_without_notice(
+            &rt,
+            two_files(rt.alloc())?,
+            &mut machine(rt.alloc(), 63)?,
+            at,
+        );
     }
     Ok(())
 }

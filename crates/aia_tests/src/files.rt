@@ -43,8 +43,8 @@ fn an_address_lies_in_one_page(rt: HostRuntime) -> Result<(), Fail> {
     let imsic = Imsic::new(rt.alloc(), 2, 1, 63)?;
     same!(rt; imsic.harts(), 2);
     same!(rt; imsic.guests(), 1);
-    for (addr, spot) in PLACES {
-        same!(rt; imsic.locate(addr), spot; addr);
+    for (addr, spot) in &PLACES {
+        same!(rt; imsic.locate(*addr), *spot; *addr);
     }
     Ok(())
 }
@@ -65,8 +65,8 @@ const LAST_PLACES: [(u64, Spot); 9] = [
 #[test]
 fn the_last_guest_file_of_a_hart_lies_before_the_next_hart(rt: HostRuntime) -> Result<(), Fail> {
     let mut imsic = Imsic::new(rt.alloc(), HARTS, GUEST_FILES, 63)?;
-    for (addr, spot) in LAST_PLACES {
-        same!(rt; imsic.locate(addr), spot; addr);
+    for (addr, spot) in &LAST_PLACES {
+        same!(rt; imsic.locate(*addr), *spot; *addr);
     }
     let last = Spot::GuestFile(HARTS - 1, GUEST_FILES);
     listens(imsic.file_mut(last));

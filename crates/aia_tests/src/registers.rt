@@ -134,11 +134,11 @@ const DELIVERY_CONTROLS: [(u32, DomainReg); 28] = [
 
 #[test]
 fn names_the_registers_of_a_domain(rt: HostRuntime) {
-    for (offset, register) in DOMAIN_REGISTERS {
-        same!(rt; domain_reg(offset), register; offset);
+    for (offset, register) in &DOMAIN_REGISTERS {
+        same!(rt; domain_reg(*offset), *register; *offset);
     }
-    for (offset, register) in DELIVERY_CONTROLS {
-        same!(rt; domain_reg(offset), register; offset);
+    for (offset, register) in &DELIVERY_CONTROLS {
+        same!(rt; domain_reg(*offset), *register; *offset);
     }
 }
 

@@ -47,8 +47,8 @@ const NONE: [&str; 12] = [
 
 #[test]
 fn steps_are_read(rt: HostRuntime) {
-    for (text, step) in ALONE {
-        reads(&rt, text, 1, Some(step));
+    for (text, step) in &ALONE {
+        reads(&rt, text, 1, Some(*step));
     }
     reads(&rt, "takep 0x0", 1, Some(Step::TakeP(0)));
     reads(&rt, "putp 1", 2, Some(Step::PutP(1)));
@@ -59,7 +59,7 @@ fn steps_are_read(rt: HostRuntime) {
 
 #[test]
 fn other_texts_are_no_steps(rt: HostRuntime) {
-    for text in NONE {
+    for text in &NONE {
         reads(&rt, text, 1, None);
     }
     reads(&rt, "look 32", 32, None);

@@ -73,7 +73,7 @@ fn reads(rt: &impl Abort, text: &str, want: Parsed) {
 
 #[test]
 fn texts_that_spell_no_line_are_bad(rt: HostRuntime) {
-    for text in BAD {
+    for text in &BAD {
         reads(&rt, text, Parsed::Bad);
     }
     reads(&rt, "# st 0 0", Parsed::Skip);
@@ -376,10 +376,10 @@ const SPELLED: [&str; 8] = [
 
 #[test]
 fn lines_are_printed_and_read_again(rt: HostRuntime) {
-    for (text, printed) in PRINTED {
+    for (text, printed) in &PRINTED {
         prints(&rt, text, printed);
     }
-    for text in SPELLED {
+    for text in &SPELLED {
         prints(&rt, text, text);
     }
 }

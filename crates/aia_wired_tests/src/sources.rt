@@ -141,10 +141,10 @@ const TARGETS: [(u32, u32, u32); 6] = [
 
 #[test]
 fn targets_keep_a_hart_that_is_there_and_a_priority_or_an_identity(rt: HostRuntime) {
-    for (value, direct, msi) in TARGETS {
-        same!(rt; target_kept(2, false, value), direct);
-        same!(rt; target_kept(2, true, value), msi);
-        same!(rt; genmsi_kept(2, value), msi);
+    for (value, direct, msi) in &TARGETS {
+        same!(rt; target_kept(2, false, *value), *direct);
+        same!(rt; target_kept(2, true, *value), *msi);
+        same!(rt; genmsi_kept(2, *value), *msi);
     }
     same!(rt; first_target(false), 1);
     same!(rt; first_target(true), 0);
