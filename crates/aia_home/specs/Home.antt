@@ -63,8 +63,8 @@ holds p (Shifting from to at) = is_place p from || is_place p to
 
 -- ---- it rests in memory another way
 
--- Where its interrupts rest in memory, they stay there, and it rests so from then on: it begins to
--- run from there, or ceases to.
+-- Where its interrupts rest in memory, they stay there, and it rests as `rest` says from then on:
+-- it begins to run from there, or ceases to.
 abbrev pub resting : Rest → Home → Home
 resting rest (InMemory before) = InMemory rest
 resting rest there = there

@@ -229,17 +229,17 @@ abbrev pub entry : Form
 entry = form (codes "entry") (Hex & Hex & End) (λ (w0, (w1, end)). lines.Entry w0 w1)
 
 -- All forms, by what they speak of, where each list goes on with the one above it: what is made;
--- what is shown; the majors of a virtual hart; a virtual hart; its moves; stores of devices; loads
--- and stores of the host, and wires; and those that end with a CSR instruction, a move that begins
--- or a part of an image.
-abbrev pub forms_from_makes : List Form
-forms_from_makes = pass ∷ vm ∷ machine ∷ []
+-- what is shown; the majors of a virtual hart; a virtual hart; its moves; stores of the devices of
+-- VMs; loads and stores of the host, and wires; and those that end with a CSR instruction, a move
+-- that begins or a part of an image.
+abbrev pub forms_from_making : List Form
+forms_from_making = pass ∷ vm ∷ machine ∷ []
 
-abbrev pub forms_from_shows : List Form
-forms_from_shows = save ∷ pins ∷ entry ∷ forms_from_makes
+abbrev pub forms_from_showing : List Form
+forms_from_showing = save ∷ pins ∷ entry ∷ forms_from_making
 
 abbrev pub forms_from_majors : List Form
-forms_from_majors = inject ∷ hvictl ∷ hviprio ∷ forms_from_shows
+forms_from_majors = inject ∷ hvictl ∷ hviprio ∷ forms_from_showing
 
 abbrev pub forms_from_virtual_harts : List Form
 forms_from_virtual_harts = step ∷ refetch ∷ enter ∷ exit ∷ forms_from_majors

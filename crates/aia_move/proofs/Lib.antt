@@ -2,4 +2,3 @@ pub mod PhaseLemmas
 pub mod MoveKept
 pub mod MachineLemmas
 pub mod KnowsLemmas
-pub mod CarryLemmas

@@ -1,11 +1,12 @@
 -- The phases of a plan: where its steps aim passed sources, and what they leave; what a step makes,
--- and one in place, by the phase that the plan is in.
-use Rattle.std.proofs.Common.{◌≡◌, ◌≢◌, ℕ, ◌+◌, ◌<◌, ◌≤◌, Bool, true, false, ◌&&◌, nat_lt, refl, sym, ap, ◌∙◌, subst, arith, Some}
+-- and one in place, by the phase that the plan is in; what the accesses that carry the sets need of
+-- a carrier.
+use Rattle.std.proofs.Common.{◌≡◌, ◌≢◌, ℕ, ◌+◌, ◌<◌, ◌≤◌, Bool, true, false, ◌&&◌, nat_lt, refl, sym, ap, ◌∙◌, subst, arith, Some, ◌-◌, ◌*◌, ◌/◌}
 use Rattle.std.proofs.lemmas.Bool.{eq-eqb, ne_eqb}
 use Rattle.aia_home.specs.Home.{Home, Progress, is_moving, one_more}
 use Rattle.aia_home.specs.Home.Home.{Leaving, Arriving, Shifting}
-use Rattle.aia_home.specs.Plans.{Access, steps_done, is_carried}
-use Rattle.aia_home.specs.Phases.{Phase, following, begins}
+use Rattle.aia_home.specs.Plans.{Access, steps_done, is_carried, leave_steps}
+use Rattle.aia_home.specs.Phases.{Phase, following, begins, after_enable}
 use Rattle.aia_home.specs.Phases.Phase.{FirstPhase, ClosingPhase, DrainPhase, EnablePhase, LookPhase, LastPhase}
 use Rattle.aia_home.specs.BySteps.{own_file, next_file}
 use Rattle.aia_home.specs.Aims.{aims_done, is_aiming, aimed}
@@ -17,13 +18,17 @@ use Rattle.aia_moving.specs.declared.turn.Closed.TheVariants as closed
 use Rattle.aia_moving.specs.Move.{Moving, width, MoveFits}
 use Rattle.aia_moving.specs.Targets.{aims, passes_of, has_unaimed, one_aimed, aim_if}
 use Rattle.aia_moving.specs.Carrier.{CarrierState, progress_of, moving, one_aim_done}
-use Rattle.aia_moving.specs.Turns.{IsIn, IsAtAims, IsInDrain, IsMove, GoesOn, AimsOn, MatchClosed, after_enable}
+use Rattle.aia_moving.specs.Turns.{IsIn, IsAtAims, IsInDrain, IsMove, GoesOn, AimsOn, MatchClosed}
 use Rattle.aia_move.specs.Plan.{moving_of, is_in_aim, IsInPhase, IsLastOf, phase_of, StepsTo, Advances, StepsByPhase, GoesInPlace, LandsInPlace, EndsPhase, StepsInPlace}
 use Rattle.aia_moving.proofs.PhaseSteps.{middle, begins_on}
 use Rattle.aia_home.specs.Routes.{is_at_fence}
 use Rattle.aia_move.specs.declared.plan.Next.{Next}
 use Rattle.aia_moving.specs.Landings.{OnceLanded}
 use Rattle.aia_moving.proofs.LandingLemmas.{past_fence, none_lands}
+use Rattle.aia_word.specs.Sets.{has_bit}
+use Rattle.aia_regs.specs.declared.limits.TheConstants.{FILE_WORDS}
+use Rattle.aia_home.specs.Plans.Access.{TakePending, TakeEnables}
+use Rattle.aia_moving.proofs.StepLemmas.{steps_are}
 
 -- ---- when a step aims
 
@@ -183,14 +188,14 @@ ends_enables phase w u m t follows is goes last =
     subst (λ p. IsIn p (width u) t) (sym follows)
     (omega (arith, begins_still w u m t next goes, goes.steps, last, begun.0), omega (arith, begins_still w u m t (following next) goes, goes.steps, last, begun.1))
 
--- ---- by its carrier
+-- ---- whether sources are left to aim, as the carrier tells it
 
 pub unaimed : (there : Progress → Home) → IsMove there → (l : CarrierState) (s t : Moving) (more : Bool) → moving there l ≡ s → t ≡ s → nat_lt l.aims (passes_of l.who) ≡ more → has_unaimed t ≡ more
 unaimed there is l s t more seen same known = ap has_unaimed (same ∙ sym seen) ∙ ap (λ n. nat_lt n (passes_of l.who)) (is.aims (progress_of l)) ∙ known
 
 -- ---- past the first phase
 
--- no other phase begins before that of the G-stage record
+-- no phase after the first begins before that of the G-stage record
 record Late (words : ℕ) (there : Home) : Type 0 where
   drain : begins words there ClosingPhase ≤ begins words there DrainPhase
   enable : begins words there ClosingPhase ≤ begins words there EnablePhase
@@ -288,3 +293,48 @@ module _ (w u : World) (was plan later : Plan) (phase : Phase) (one : InOnePhase
   pub goes_in_place : (done : Bool) → phase_of plan ≢ Some FirstPhase → GoesInPlace phase done w (moving_of plan) u (moving_of later) → StepsInPlace done w was u later
   goes_in_place true past goes = subst (λ p. StepsInPlace true w p u later) (sym is) (goes_landed (none_lands w (moving_of plan) (λ landed. GoesOn landed (moving_of plan) u (moving_of later)) (no_fence (width w) plan one.accesses past (subst (IsInPhase (width w)) is before)) goes))
   goes_in_place false past goes = subst (λ p. StepsInPlace false w p u later) (sym is) (stays_still goes.0 goes.1 goes.2)
+
+-- ---- the sets are carried
+
+pending_zero : (words : ℕ) (there : Home) → is_moving there ≡ true → steps_done there ≡ begins words there DrainPhase + 1 → is_carried words there (TakePending 0) ≡ true
+pending_zero words (Leaving from at) moves e = eq-eqb _ _ e
+pending_zero words (Arriving to at) moves e = eq-eqb _ _ e
+pending_zero words (Shifting from to at) moves e = eq-eqb _ _ e
+pending_zero words there moves e = absurd (cc)
+
+enables_zero : (words : ℕ) (there : Home) → is_moving there ≡ true → steps_done there ≡ begins words there EnablePhase + 1 → is_carried words there (TakeEnables 0) ≡ true
+enables_zero words (Leaving from at) moves e = eq-eqb _ _ e
+enables_zero words (Arriving to at) moves e = eq-eqb _ _ e
+enables_zero words (Shifting from to at) moves e = eq-eqb _ _ e
+enables_zero words there moves e = absurd (cc)
+
+-- The next access carries a word of a set, in the phase that began with step `start`.
+pub record Carries (words start : ℕ) (l : CarrierState) : Type 0 where
+  pub first : start ≤ l.steps
+  pub word : (l.steps - start) / 2 < words
+  pub no_zero : l.steps ≡ start + 1 → has_bit l.hand.word 0 ≡ false
+  pub more : l.steps < leave_steps FILE_WORDS
+
+module _ (there : Progress → Home) (is : IsMove there) (w : World) (l : CarrierState) (s : Moving) (seen : moving there l ≡ s) (fits : MoveFits w s) (moves : is_moving s.home ≡ true) (closing : ℕ)
+    (few : closing ≤ 4) (begun : closing ≡ begins (width w) s.home ClosingPhase) (narrow : width w ≤ FILE_WORDS) where
+  pub carries_pending : IsIn DrainPhase (width w) s → Carries (width w) (closing + 2) l
+  carries_pending phase =
+      let mid = middle (width w) s.home moves in
+      let steps = steps_are there is l s seen in
+      record {
+        first = omega (arith, steps, begun, phase.0, mid.drain);
+        word = omega (arith, steps, begun, phase.0, phase.1, mid.drain, mid.enable);
+        no_zero = λ e. subst (λ (x : Moving). has_bit x.hand.word 0 ≡ false) (sym seen) (fits.no_pending_zero (pending_zero (width w) s.home moves (omega (arith, e, steps, begun, mid.drain))));
+        more = omega (arith, steps, few, begun, narrow, phase.1, mid.enable);
+      }
+
+  pub carries_enables : (words : ℕ) → words ≡ width w → IsIn EnablePhase (width w) s → Carries (width w) (closing + 2 + 2 * words) l
+  carries_enables words wide phase =
+      let mid = middle (width w) s.home moves in
+      let steps = steps_are there is l s seen in
+      record {
+        first = omega (arith, steps, begun, wide, phase.0, mid.enable);
+        word = omega (arith, steps, begun, wide, phase.0, phase.1, mid.enable, mid.looks);
+        no_zero = λ e. subst (λ (x : Moving). has_bit x.hand.word 0 ≡ false) (sym seen) (fits.no_enabled_zero (enables_zero (width w) s.home moves (omega (arith, e, steps, begun, wide, mid.enable))));
+        more = omega (arith, steps, few, begun, narrow, phase.1, mid.looks);
+      }

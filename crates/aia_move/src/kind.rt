@@ -5,12 +5,12 @@ ghost use Rattle.aia_home.specs.Home.{Home, Progress};
 ghost use Rattle.aia_home.specs.Home.Home.{Leaving, Arriving, Shifting};
 ghost use Rattle.aia_home.specs.Plans.{leave_step};
 ghost use Rattle.aia_home.specs.Plans.Access.{Map};
-ghost use Rattle.aia_home.specs.Phases.{Phase, begins};
+ghost use Rattle.aia_home.specs.Phases.{Phase, begins, after_enable};
 ghost use Rattle.aia_home.specs.Phases.Phase.{ClosingPhase, LookPhase, LastPhase};
 ghost use Rattle.aia_home.specs.BySteps.{new_file};
 ghost use Rattle.aia_world.specs.Changes.{spot_of};
 ghost use Rattle.aia_moving.specs.Move.{old_by, new_by};
-ghost use Rattle.aia_moving.specs.Turns.{IsMove, after_enable};
+ghost use Rattle.aia_moving.specs.Turns.{IsMove};
 
 use crate::phase::{Last, Look};
 use aia_fabric::At;

@@ -2,11 +2,11 @@ ghost use Rattle.std.specs.Prelude.{◌≡◌, ℕ, ◌≤◌, true, false};
 ghost use Rattle.aia_home.specs.Home.{is_moving};
 ghost use Rattle.aia_home.specs.Plans.{steps_done, leave_step};
 ghost use Rattle.aia_home.specs.Plans.Access.{Map};
-ghost use Rattle.aia_home.specs.Phases.{begins};
+ghost use Rattle.aia_home.specs.Phases.{begins, after_enable};
 ghost use Rattle.aia_home.specs.Phases.Phase.{ClosingPhase, DrainPhase, EnablePhase};
 ghost use Rattle.aia_moving.specs.Move.{MoveFits, old_at, new_at, width};
 ghost use Rattle.aia_moving.specs.Targets.{ArePasses, aim_of, has_unaimed};
-ghost use Rattle.aia_moving.specs.Turns.{IsIn, IsAtAims, IsInDrain, GoesOn, AimsOn, MatchTurn, MatchClosed, after_enable};
+ghost use Rattle.aia_moving.specs.Turns.{IsIn, IsAtAims, IsInDrain, GoesOn, AimsOn, MatchTurn, MatchClosed};
 ghost use Rattle.aia_move.specs.Plan.{GoesInPlace};
 
 use crate::carrier::Carrier;

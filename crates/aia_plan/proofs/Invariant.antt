@@ -47,8 +47,8 @@ pub record Enabled (words : ℕ) (carried : Option ℕ) (later : ℕ → Bool) (
   pub gone : (w : ℕ) → names carried w ≡ true → later w ≡ false
   pub drained : (i : ℕ) → i / 64 < words → later (i / 64) ≡ false → old i ≡ false
 
--- All of it, before the steps of `rest`; c and e are the words of the pending set and of the enabled
--- set that are carried.
+-- All of it, before the steps of `rest`; c and e are the words of the pending set and of the
+-- enabled set that are carried.
 pub record Between (words : ℕ) (first : ℕ → Bool) (c e : Option ℕ) (rest : Plan) (z : Transit) : Type 0 where
   pub routed : Routed (stands Word0 rest) (stands Fence rest) (list_any is_record rest) (stands GFence rest) z.entry_written z.entry_in_force z.record_written z.record_in_force z.flights
   pub pended : Pended words c (λ w. stands (TakeP w) rest) (stands Fence rest) (stands GFence rest) z.due z.old_pending z.new_pending z.carried_pending

@@ -104,7 +104,7 @@ stepped step z = z
 
 -- A step of the plan, or what others do: a device stores, and its store lands at once or is in
 -- flight; the K-th store in flight lands, counted from 0, if there is one; the IOMMU reads the
--- entry again, whenever it does; another virtual hart stores.
+-- entry again, at any time; another virtual hart stores.
 pub data Happening : Type 0 where
   Does : (step : Step) → Happening
   Stores : (identity : ℕ) → Happening
@@ -113,7 +113,7 @@ pub data Happening : Type 0 where
   Refetches : Happening
   PeerStores : (identity : ℕ) → Happening
 
--- A list without its K-th member.
+-- A list without its k-th member, counted from 0.
 abbrev pub all_but : {A : Type 0} → ℕ → List A → List A
 all_but k [] = []
 all_but zero (x ∷ later) = later

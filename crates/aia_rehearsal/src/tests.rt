@@ -1,12 +1,12 @@
 //! The plans of the core, and plans that lose something, rehearsed with stores between their steps.
 
-ghost use Rattle.std.specs.Prelude.{◌≡◌, ◌≢◌, ◌<◌, ◌≤◌, ◌⊎◌, IfOk, IfSome};
+ghost use Rattle.std.specs.Prelude.{◌≡◌, ◌<◌, ◌≤◌, ◌⊎◌, IfOk, IfSome};
 ghost use Rattle.std.specs.List.{All};
 ghost use Rattle.aia_plan.specs.Plan.{IsInside};
 ghost use Rattle.aia_moving.specs.Move.{IsWho, width};
 ghost use Rattle.aia_moving.specs.Touches.{SameMachine};
 ghost use Rattle.aia_rehearsal.specs.declared.place.Place.TheVariants as places;
-ghost use Rattle.aia_rehearsal.specs.Rehearsed.{Passage, IsOf, IsFileThere, NotBothSlots};
+ghost use Rattle.aia_rehearsal.specs.Rehearsed.{IsOf, IsFileThere, NotBothSlots};
 
 use crate::{Place, Rehearsal, Step};
 use aia_fabric::{At, Fabric};

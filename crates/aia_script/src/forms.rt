@@ -10,7 +10,7 @@ ghost use Rattle.aia_model.specs.AnswerText.{field_text};
 ghost use Rattle.aia_model.specs.Grammar.{fields};
 ghost use Rattle.aia_model.specs.Grammar.Field.{Keyword, Of};
 ghost use Rattle.aia_model.specs.Grammar.WordKind.{Decimal};
-ghost use Rattle.aia_model.specs.Forms.{instruction, access_values, part_fields, part, part_shape, machine_csr, host, guest, begin, load_part, forms_from_makes, forms_from_shows, forms_from_majors, forms_from_virtual_harts, forms_from_moves, forms_from_devices, forms_from_stores, Spells, IsListed};
+ghost use Rattle.aia_model.specs.Forms.{instruction, access_values, part_fields, part, part_shape, machine_csr, host, guest, begin, load_part, forms_from_making, forms_from_showing, forms_from_majors, forms_from_virtual_harts, forms_from_moves, forms_from_devices, forms_from_stores, Spells, IsListed};
 ghost use Rattle.aia_model.specs.Printing.{line_text, FitsField, IsPrintable};
 ghost use Rattle.aia_model.specs.Reading.{line_by, line_among, line_after, line_at, read, reading};
 ghost use Rattle.aia_model.specs.declared.limits.TheConstants.{LINE_BYTES};
@@ -39,7 +39,7 @@ macro_rules! stores {
     };
 }
 
-/// Hands the rows of stores of devices on, likewise.
+/// Hands the rows of stores of the devices of VMs on, likewise.
 macro_rules! devices {
     (($take:ident $args:tt) $($rows:tt)*) => {
         $take! { $args $($rows)*
@@ -77,7 +77,7 @@ macro_rules! majors {
 }
 
 /// Hands the rows of what is shown on, likewise.
-macro_rules! shows {
+macro_rules! showing {
     (($take:ident $args:tt) $($rows:tt)*) => {
         $take! { $args $($rows)*
             b"save" [vm: VmNumber, number: Decimal, k: Decimal] (Line::Save { vm, number, k })
@@ -88,7 +88,7 @@ macro_rules! shows {
 }
 
 /// Hands the rows of what is made on, likewise.
-macro_rules! makes {
+macro_rules! making {
     (($take:ident $args:tt) $($rows:tt)*) => {
         $take! { $args $($rows)*
             b"pass" [source: Decimal, vm: VmNumber, number: Decimal, identity: Decimal]
@@ -203,20 +203,20 @@ fn load_part_at(words: &mut Words<'_>) -> Option<Line>
 
 /// Reads the line that a text spells, of what is made; `None` where it spells none.
 #[inline(always)]
-fn make_line(text: &[u8]) -> Option<Line>
-    ensures { result ≡ line_among forms_from_makes (first_word text.now) (after_first text.now) }
+fn made_line(text: &[u8]) -> Option<Line>
+    ensures { result ≡ line_among forms_from_making (first_word text.now) (after_first text.now) }
 {
-    makes!((read_by_row(text)));
+    making!((read_by_row(text)));
     None
 }
 
 /// Reads the line that a text spells, of what is shown or as above; `None` where it spells none.
 #[inline(always)]
-fn show_line(text: &[u8]) -> Option<Line>
-    ensures { result ≡ line_among forms_from_shows (first_word text.now) (after_first text.now) }
+fn shown_line(text: &[u8]) -> Option<Line>
+    ensures { result ≡ line_among forms_from_showing (first_word text.now) (after_first text.now) }
 {
-    shows!((read_by_row(text)));
-    make_line(text)
+    showing!((read_by_row(text)));
+    made_line(text)
 }
 
 /// Reads the line that a text spells, of the majors of a virtual hart or as above; `None` where it
@@ -226,7 +226,7 @@ fn major_line(text: &[u8]) -> Option<Line>
     ensures { result ≡ line_among forms_from_majors (first_word text.now) (after_first text.now) }
 {
     majors!((read_by_row(text)));
-    show_line(text)
+    shown_line(text)
 }
 
 /// Reads the line that a text spells, of a virtual hart or as above; `None` where it spells none.
@@ -248,8 +248,8 @@ fn move_line(text: &[u8]) -> Option<Line>
     virtual_hart_line(text)
 }
 
-/// Reads the line that a text spells, of a store of a device or as above; `None` where it spells
-/// none.
+/// Reads the line that a text spells, of a store of a VM's device or as above; `None` where it
+/// spells none.
 #[inline(always)]
 fn device_line(text: &[u8]) -> Option<Line>
     ensures { result ≡ line_among forms_from_devices (first_word text.now) (after_first text.now) }
@@ -404,7 +404,7 @@ fn push_line(line: &Line, out: &mut ArrayVec<u8, LINE_BYTES>)
     ensures text { out.new.items ≡ line_text line.now }
     ensures range { IsPrintable line.now }
 {
-    stores!((devices (virtual_harts (majors (shows (makes (print_by_row (*line, out,
+    stores!((devices (virtual_harts (majors (showing (making (print_by_row (*line, out,
         Line::MachineCsr { hart, csr, op } => push_access(out, b"m", hart, Level::Machine, csr, op),
         Line::HostCsr { hart, csr, op } => push_access(out, b"h", hart, Level::Host, csr, op),
         Line::Hgeip { hart } => push_hgeip(out, hart),

@@ -9,3 +9,4 @@ pub mod ViewLemmas
 pub mod StoreViews
 pub mod OwnLemmas
 pub mod SlotViews
+pub mod WrittenWhole

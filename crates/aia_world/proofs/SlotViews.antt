@@ -16,6 +16,7 @@ use Rattle.aia_world.specs.Whole.{IsWhole}
 use Rattle.aia_world.specs.Making.{entry_word_place}
 use Rattle.aia_world.specs.Changes.{places_of}
 use Rattle.aia_world.specs.SlotAccess.{file_of_slot, DoneInSlot}
+use Rattle.aia_world.proofs.WrittenWhole.{memory_whole}
 
 slots_apart : (q r place : ℕ) → r ≢ q → 64 * r ≤ place → place < 64 * (r + 1) → (place < 64 * q) ⊎ (64 * (q + 1) ≤ place)
 slots_apart q r place other low high = elim (cases_lt r q) [
@@ -26,28 +27,15 @@ slots_apart q r place other low high = elim (cases_lt r q) [
 -- ---- the world stays whole
 
 pub slot_whole : (w : World) (q : ℕ) (memory : List ℕ) → IsWhole w → KeepsAllElse w.memory memory q w.n → IsWhole (record w { memory = memory })
-slot_whole w q memory whole keeps = record {
-  harts = whole.harts;
-  guests = whole.guests;
-  files = whole.files;
-  greatest = whole.greatest;
-  width = whole.width;
-  memory = keeps.size ∙ whole.memory;
-  no_pending_zero = λ p low. elim (cases_eq p q) [
-    | inl e ↦ ap (λ x. has_bit (get_or memory (pending_place x 0) 0) 0) e ∙ (keeps.kept 0 refl).0 ∙ ap (λ x. has_bit (get_or w.memory (pending_place x 0) 0) 0) (sym e) ∙ whole.no_pending_zero p low
-    | inr ne ↦ ap (λ x. has_bit x 0) (keeps.elsewhere (pending_place p 0) (slots_apart q p (pending_place p 0) ne (omega arith) (omega arith))) ∙ whole.no_pending_zero p low
-  ];
-  no_enabled_zero = λ p low. elim (cases_eq p q) [
-    | inl e ↦ ap (λ x. has_bit (get_or memory (enable_place x 0) 0) 0) e ∙ (keeps.kept 0 refl).1 ∙ ap (λ x. has_bit (get_or w.memory (enable_place x 0) 0) 0) (sym e) ∙ whole.no_enabled_zero p low
-    | inr ne ↦ ap (λ x. has_bit x 0) (keeps.elsewhere (enable_place p 0) (slots_apart q p (enable_place p 0) ne (omega arith) (omega arith))) ∙ whole.no_enabled_zero p low
-  ];
-  few = whole.few;
-  tables = whole.tables;
-  flights = whole.flights;
-  vcpus = whole.vcpus;
-  vms = λ v low. let is = whole.vms v low in record { mask = is.mask; numbers = is.numbers; notice_hart = is.notice_hart; same_mask = is.same_mask; start = is.start; entries = is.entries };
-  stages = whole.stages;
-}
+slot_whole w q memory whole keeps = memory_whole w memory whole keeps.size
+    (λ p low. elim (cases_eq p q) [
+      | inl e ↦ ap (λ x. has_bit (get_or memory (pending_place x 0) 0) 0) e ∙ (keeps.kept 0 refl).0 ∙ ap (λ x. has_bit (get_or w.memory (pending_place x 0) 0) 0) (sym e) ∙ whole.no_pending_zero p low
+      | inr ne ↦ ap (λ x. has_bit x 0) (keeps.elsewhere (pending_place p 0) (slots_apart q p (pending_place p 0) ne (omega arith) (omega arith))) ∙ whole.no_pending_zero p low
+    ])
+    (λ p low. elim (cases_eq p q) [
+      | inl e ↦ ap (λ x. has_bit (get_or memory (enable_place x 0) 0) 0) e ∙ (keeps.kept 0 refl).1 ∙ ap (λ x. has_bit (get_or w.memory (enable_place x 0) 0) 0) (sym e) ∙ whole.no_enabled_zero p low
+      | inr ne ↦ ap (λ x. has_bit x 0) (keeps.elsewhere (enable_place p 0) (slots_apart q p (enable_place p 0) ne (omega arith) (omega arith))) ∙ whole.no_enabled_zero p low
+    ])
 
 -- ---- it is done
 

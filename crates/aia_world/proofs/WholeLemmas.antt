@@ -6,9 +6,8 @@ use Rattle.std.specs.Int.Bits.{or_zero_l}
 use Rattle.std.proofs.Math.ListN.{set}
 use Rattle.std.proofs.Math.ListN.{get_or-append}
 use Rattle.std.proofs.Math.Seq.{get_or-append_seam}
-use Rattle.std.proofs.lemmas.Bool.{cases_eq, cases_lt, ne_eqb}
-use Rattle.std.proofs.lemmas.Grind.{get_or-set_at}
-use Rattle.std.proofs.lemmas.List.{length-append, length-set, get_or-set_other, get_or-replicate, length-replicate}
+use Rattle.std.proofs.lemmas.Bool.{cases_lt, ne_eqb}
+use Rattle.std.proofs.lemmas.List.{length-append, get_or-replicate, length-replicate}
 use Rattle.std.proofs.lemmas.List.Elements.{All-get_or}
 use Rattle.aia_word.specs.Packed.{ones}
 use Rattle.aia_word.specs.Sets.{has_bit}
@@ -20,7 +19,7 @@ use Rattle.aia_file.specs.FileState.{FileState}
 use Rattle.aia_imsic.specs.declared.spot.Spot.{Spot}
 use Rattle.aia_imsic.specs.Imsic.{IsThere, place_of, file_at, no_file}
 use Rattle.aia_imsic.proofs.PlaceLemmas.{place_within}
-use Rattle.aia_mrif.specs.Mrif.{pending_place, enable_place}
+use Rattle.aia_mrif.specs.Mrif.{pending_place}
 use Rattle.aia_mrif.specs.Words.{words_after_store}
 use Rattle.aia_mrif.proofs.SlotLemmas.{one_bit}
 use Rattle.aia_ram.specs.Words.{HasWordAt}
@@ -35,6 +34,7 @@ use Rattle.aia_world.specs.World.{World}
 use Rattle.aia_world.specs.Whole.{IsWhole, IsVm}
 use Rattle.aia_world.specs.Making.{with_vm, table_place, entry_word_place}
 use Rattle.aia_world.specs.Stores.{with_store}
+use Rattle.aia_world.proofs.WrittenWhole.{pending_whole}
 
 pub width_at : (w : World) (spot : Spot) → IsWhole w → IsThere w.imsic spot → (file_at w.imsic spot).n ≡ w.n
 width_at w spot whole there =
@@ -151,25 +151,7 @@ vcpu_words w vm file whole there =
 -- word k of the pending set of a slot is joined with another
 pub joined_whole : (w : World) (q k v : ℕ) → IsWhole w → q < VCPUS → k < FILE_WORDS → (k ≡ 0 → has_bit v 0 ≡ false)
     → IsWhole (record w { memory = set w.memory (pending_place q k) (bit_or (get_or w.memory (pending_place q k) 0) v) })
-joined_whole w q k v whole there low zero = record {
-  harts = whole.harts;
-  guests = whole.guests;
-  files = whole.files;
-  greatest = whole.greatest;
-  width = whole.width;
-  memory = length-set w.memory (pending_place q k) _ ∙ whole.memory;
-  no_pending_zero = λ p lt. elim (cases_eq (pending_place p 0) (pending_place q k)) [
-    | inl e ↦ ap (λ x. has_bit x 0) (get_or-set_at w.memory (pending_place q k) (pending_place p 0) _ 0 e (omega (arith, whole.memory))) ∙ has_bit-or _ v 0 ∙ neither _ _ (ap (λ x. has_bit (get_or w.memory x 0) 0) (sym e) ∙ whole.no_pending_zero p lt) (zero (omega (arith, e)))
-    | inr ne ↦ ap (λ x. has_bit x 0) (get_or-set_other w.memory (pending_place q k) (pending_place p 0) _ 0 ne) ∙ whole.no_pending_zero p lt
-  ];
-  no_enabled_zero = λ p lt. ap (λ x. has_bit x 0) (get_or-set_other w.memory (pending_place q k) (enable_place p 0) _ 0 (λ e. omega (arith, e))) ∙ whole.no_enabled_zero p lt;
-  few = whole.few;
-  tables = whole.tables;
-  flights = whole.flights;
-  vcpus = whole.vcpus;
-  vms = λ v low. let is = whole.vms v low in record { mask = is.mask; numbers = is.numbers; notice_hart = is.notice_hart; same_mask = is.same_mask; start = is.start; entries = is.entries };
-  stages = whole.stages;
-}
+joined_whole w q k v whole there low zero = pending_whole w q k _ whole there low (λ e. has_bit-or _ v 0 ∙ neither _ _ (ap (λ j. has_bit (get_or w.memory (pending_place q j) 0) 0) e ∙ whole.no_pending_zero q there) (zero e))
   where
     neither : (a b : Bool) → a ≡ false → b ≡ false → (a || b) ≡ false
     neither true b p q = p

@@ -185,7 +185,7 @@ word_at d done w = record {
 
 -- ---- a number
 
--- In which spots a number stands as it was at the start: before the first step in this one alone.
+-- In which spots a number stands as it was at the start; before the first step in `from` alone.
 abbrev pub standing_first : Spot → Standing
 standing_first from = record {
   old = same_spot from InOld;

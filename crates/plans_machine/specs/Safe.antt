@@ -22,8 +22,8 @@ IsProducer d p = p < length d.producers
 abbrev pub IsRouted : Setting → ℕ → Type 0
 IsRouted d p = (p < length d.producers) × (slice_get d.producers p ≡ Some Routed)
 
--- Only producers store. One that is switched has nothing in flight, and its route comes in force
--- by a step alone.
+-- Only producers store. One that is switched has nothing in flight, and its route comes into
+-- force by a step alone.
 abbrev pub CanHappen : Setting → Happening → Type 0
 CanHappen d (Stores p by x) = IsProducer d p
 CanHappen d (Sends p by x) = IsRouted d p
@@ -35,9 +35,10 @@ pub record IsRun (d : Setting) (plan : List Step) (run : List Happening) : Type 
   pub steps : steps_in run ≡ plan
   pub others : AllByRecursion (CanHappen d) run
 
--- How a run begins. All leads to the old place; what stands there is due; the hand is empty, and
--- the old place is not given back. What stands in the old place, and in a new one that is not
--- fresh, the numbers, what is in flight, and what was seen or told before, are free.
+-- How a run begins. All leads to the old place, and so does what is in flight, of routed producers
+-- alone; what stands there is due; the hand is empty, and the old place is not given back. What
+-- stands in the old place, and in a new one that is not fresh, the numbers, what is in flight, and
+-- what was seen or told before, are free.
 pub record IsStart (d : Setting) (z : Machine) : Type 0 where
   pub written : (p : ℕ) → IsProducer d p → z.written p ≡ Old
   pub in_force : (p : ℕ) → IsProducer d p → z.in_force p ≡ Old

@@ -56,7 +56,7 @@ start_of d run = record {
 
 -- ---- what happens in it
 
--- That route, as the machine names it.
+-- A route of a store, as the machine names it.
 abbrev pub by_of : Route → By
 by_of Written = AsWritten
 by_of InForce = AsInForce
@@ -95,7 +95,8 @@ pub record Loses (d : Setting) (plan : List Step) (run : Run) : Type 0 where
 
 -- ---- as the trace tells it
 
--- The same of a run, with the store in flight that it begins with.
+-- What is followed of a run, at the start: `trace_first`, with the store in flight that the run
+-- begins with.
 abbrev pub trace_begun : Run → Terms → Trace
 trace_begun run terms = record (trace_first run.begin terms) { flight = first_flight run.extra }
 

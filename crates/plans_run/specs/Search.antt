@@ -100,8 +100,9 @@ with_flight producers terms plan case before =
     tried producers terms plan (run_of case begins.Nowhere (extras.Lingers before))
 
 -- The first of the runs that follow a producer: with a store of it before a step or after the last
--- one; with one in flight from the start that lands at its fence alone, since no plan has so many
--- steps; with one in flight to the end; and without a store, which shows where its route leads.
+-- one; with one in flight from the start that lands at its fence alone, as its number of steps,
+-- 2^64 - 1, is more than any plan has; with one in flight to the end; and without a store, which
+-- shows where its route leads.
 unfoldable pub by_producer : List Kind → Terms → List Step → ℕ → ℕ → Option Run
 by_producer producers terms plan word producer =
     or_else
@@ -117,8 +118,8 @@ unfoldable pub stored_word : List Kind → Terms → List Step → ℕ → Optio
 stored_word producers terms plan word =
     first_of (by_producer producers terms plan word) 0 (length producers)
 
--- The first run that loses something: of each word those without a store and without a producer,
--- then those that follow a producer.
+-- The first run that loses something: first, of each word, those without a store, which follow no
+-- producer; then, of each word, those that follow one.
 unfoldable pub losing_run_of : List Kind → Terms → List Step → Option Run
 losing_run_of producers terms plan =
     or_else (first_of (quiet_word producers terms plan) 0 terms.words)

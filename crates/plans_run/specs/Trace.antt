@@ -155,7 +155,7 @@ trace_after c step t = t
 
 -- ---- a trace follows the machine
 
--- A number of which it is followed in which spots it is 1: 1 there, and else 0.
+-- What a number is in a spot, by whether it is followed there: 1, and else 0.
 abbrev pub worth : Bool → ℕ
 worth true = 1
 worth false = 0

@@ -3,11 +3,11 @@ use Rattle.aia_regs.specs.declared.limits.TheConstants.{FILE_WORDS}
 use Rattle.aia_world.specs.Changes.{IsPlaceThere}
 use Rattle.aia_moving.specs.Move.{Moving, width, old_at, new_at}
 use Rattle.aia_moving.specs.Carrier.{moving, progress_of}
-use Rattle.aia_moving.specs.Turns.{after_enable}
+use Rattle.aia_home.specs.Phases.{after_enable}
 use Rattle.aia_moving.proofs.PhaseSteps.{middle}
 use Rattle.aia_moving.proofs.WhoLemmas.{old_there, new_there}
 use Rattle.aia_moving.proofs.StepLemmas.{carrier_is, move_carries_enables}
-use Rattle.aia_move.proofs.CarryLemmas.{carries_enables}
+use Rattle.aia_move.proofs.PhaseLemmas.{carries_enables}
 use Rattle.aia_move.proofs.moves.Move.carry_enables.Goals as goal
 
 pub carry_enables-requires : goal.carry_enables-requires

@@ -6,7 +6,7 @@ use Rattle.aia_moving.specs.Carrier.{moving}
 use Rattle.aia_moving.proofs.PhaseSteps.{middle}
 use Rattle.aia_moving.proofs.WhoLemmas.{old_there, new_there}
 use Rattle.aia_moving.proofs.StepLemmas.{carrier_is, move_carries_pending}
-use Rattle.aia_move.proofs.CarryLemmas.{carries_pending}
+use Rattle.aia_move.proofs.PhaseLemmas.{carries_pending}
 use Rattle.aia_move.proofs.moves.Move.carry_pending.Goals as goal
 
 pub carry_pending-requires : goal.carry_pending-requires

@@ -39,7 +39,7 @@ file_whole w spot file whole within same =
     }
 
 -- memory of as many words, without identity 0 in any slot
-memory_whole : (w : World) (words : List ℕ) → IsWhole w → length words ≡ length w.memory → ((q : ℕ) → q < VCPUS → has_bit (slice_index words (pending_place q 0)) 0 ≡ false)
+pub memory_whole : (w : World) (words : List ℕ) → IsWhole w → length words ≡ length w.memory → ((q : ℕ) → q < VCPUS → has_bit (slice_index words (pending_place q 0)) 0 ≡ false)
     → ((q : ℕ) → q < VCPUS → has_bit (slice_index words (enable_place q 0)) 0 ≡ false) → IsWhole (record w { memory = words })
 memory_whole w words whole size pending enabled = record {
   harts = whole.harts;
