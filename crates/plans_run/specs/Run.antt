@@ -21,7 +21,7 @@ use Rattle.plans_run.specs.declared.trace.Trace.{Trace}
 use Rattle.plans_run.specs.declared.run.Run.{Run}
 use Rattle.plans_run.specs.declared.run.Extra.{Extra}
 use Rattle.plans_run.specs.declared.run.Extra.TheVariants as extras
-use Rattle.plans_run.specs.Trace.{begins_old, begins_new, flights_by, trace_stored, flight_landed, worth}
+use Rattle.plans_run.specs.Trace.{trace_first, begins_old, begins_new, flights_by, trace_stored, flight_landed, worth}
 
 -- ---- how a run begins
 
