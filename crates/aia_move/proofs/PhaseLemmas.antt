@@ -1,7 +1,8 @@
 -- The phases of a plan: where its steps aim passed sources, and what they leave; what a step makes,
 -- and one in place, by the phase that the plan is in; what the accesses that carry the sets need of
 -- a carrier.
-use Rattle.std.proofs.Common.{◌≡◌, ◌≢◌, ℕ, ◌+◌, ◌<◌, ◌≤◌, Bool, true, false, ◌&&◌, nat_lt, refl, sym, ap, ◌∙◌, subst, arith, Some, ◌-◌, ◌*◌, ◌/◌}
+use Rattle.std.proofs.Common.{◌≡◌, ◌≢◌, ℕ, ◌+◌, ◌<◌, ◌≤◌, Bool, true, false, ◌&&◌, nat_lt, refl, sym, ap, ◌∙◌, subst, arith, Option, Some, None, ◌-◌, ◌*◌, ◌/◌}
+use Rattle.std.specs.Prelude.{is_none}
 use Rattle.std.proofs.lemmas.Bool.{eq-eqb, ne_eqb}
 use Rattle.aia_home.specs.Home.{Home, Progress, is_moving, one_more}
 use Rattle.aia_home.specs.Home.Home.{Leaving, Arriving, Shifting}
@@ -12,14 +13,13 @@ use Rattle.aia_home.specs.BySteps.{own_file, next_file}
 use Rattle.aia_home.specs.Aims.{aims_done, is_aiming, aimed}
 use Rattle.aia_world.specs.World.{World}
 use Rattle.aia_move.specs.declared.plan.Plan.{Plan}
-use Rattle.aia_move.specs.declared.plan.Plan.TheVariants.{LeaveFirst, LeaveClosing, LeaveAim, LeaveDrain, LeaveEnable, LeaveLook, LeaveLast, ArriveFirst, ArriveClosing, ArriveAim, ArriveDrain, ArriveEnable, ArriveLast, ShiftFirst, ShiftClosing, ShiftAim, ShiftDrain, ShiftEnable, ShiftLast}
 use Rattle.aia_moving.specs.declared.turn.Closed.{Closed}
 use Rattle.aia_moving.specs.declared.turn.Closed.TheVariants as closed
 use Rattle.aia_moving.specs.Move.{Moving, width, MoveFits}
 use Rattle.aia_moving.specs.Targets.{aims, passes_of, has_unaimed, one_aimed, aim_if}
 use Rattle.aia_moving.specs.Carrier.{CarrierState, progress_of, moving, one_aim_done}
 use Rattle.aia_moving.specs.Turns.{IsIn, IsAtAims, IsInDrain, IsMove, GoesOn, AimsOn, MatchClosed}
-use Rattle.aia_move.specs.Plan.{moving_of, is_in_aim, IsInPhase, IsLastOf, phase_of, StepsTo, Advances, StepsByPhase, GoesInPlace, LandsInPlace, EndsPhase, StepsInPlace}
+use Rattle.aia_move.specs.Plan.{moving_of, is_in_aim, IsStepOf, IsInPhase, IsLastOf, phase_of, StepsTo, Advances, StepsByPhase, InPlaceByPhase, EndsPhase, StepsInPlace}
 use Rattle.aia_moving.proofs.PhaseSteps.{middle, begins_on}
 use Rattle.aia_home.specs.Routes.{is_at_fence}
 use Rattle.aia_move.specs.declared.plan.Next.{Next}
@@ -69,26 +69,18 @@ last_late words there moves some = absurd (cc)
 in_last : (words : ℕ) (m : Moving) → 1 ≤ words → IsIn LastPhase words m → aims m ≡ false
 in_last words m some is = none_aims words _ m.home (λ moves e. omega (arith, e, is, last_late words m.home moves some))
 
+step_aims : (phase : Option Phase) (words : ℕ) (m : Moving) → 1 ≤ words → IsStepOf phase words m → aims m ≡ is_none phase
+step_aims None words m some is = is
+step_aims (Some FirstPhase) words m some is = in_first words m is
+step_aims (Some ClosingPhase) words m some is = in_closing words m is
+step_aims (Some DrainPhase) words m some is = is.aimed
+step_aims (Some EnablePhase) words m some is = in_enable words m some is
+step_aims (Some LookPhase) words m some is = in_look words m some is
+step_aims (Some LastPhase) words m some is = in_last words m some is
+step_aims (Some phase) words m some is = absurd (omega (arith, is.0, is.1))
+
 pub phase_aims : (words : ℕ) (plan : Plan) → 1 ≤ words → IsInPhase words plan → aims (moving_of plan) ≡ is_in_aim plan
-phase_aims words (LeaveFirst m) some is = in_first words m is
-phase_aims words (LeaveClosing m) some is = in_closing words m is
-phase_aims words (LeaveAim m) some is = is
-phase_aims words (LeaveDrain m) some is = is.aimed
-phase_aims words (LeaveEnable m) some is = in_enable words m some is
-phase_aims words (LeaveLook m) some is = in_look words m some is
-phase_aims words (LeaveLast m) some is = in_last words m some is
-phase_aims words (ArriveFirst m) some is = in_first words m is
-phase_aims words (ArriveClosing m) some is = in_closing words m is
-phase_aims words (ArriveAim m) some is = is
-phase_aims words (ArriveDrain m) some is = is.aimed
-phase_aims words (ArriveEnable m) some is = in_enable words m some is
-phase_aims words (ArriveLast m) some is = in_last words m some is
-phase_aims words (ShiftFirst m) some is = in_first words m is
-phase_aims words (ShiftClosing m) some is = in_closing words m is
-phase_aims words (ShiftAim m) some is = is
-phase_aims words (ShiftDrain m) some is = is.aimed
-phase_aims words (ShiftEnable m) some is = in_enable words m some is
-phase_aims words (ShiftLast m) some is = in_last words m some is
+phase_aims words plan = step_aims (phase_of plan) words (moving_of plan)
 
 -- ---- what an aim leaves
 
@@ -208,91 +200,65 @@ late words (Arriving to at) = record { drain = omega arith; enable = omega arith
 late words (Shifting from to at) = record { drain = omega arith; enable = omega arith; look = omega arith; last = omega arith }
 late words there = record { drain = omega arith; enable = omega arith; look = omega arith; last = omega arith }
 
-past_first : (words : ℕ) (m : Moving) (phase : Phase) → phase ≢ FirstPhase → IsIn phase words m → is_at_fence m.home ≡ false
-past_first words m FirstPhase other is = absurd (other refl)
-past_first words m ClosingPhase other is = past_fence words m.home is.0
-past_first words m DrainPhase other is = past_fence words m.home (omega (arith, is.0, (late words m.home).drain))
-past_first words m EnablePhase other is = past_fence words m.home (omega (arith, is.0, (late words m.home).enable))
-past_first words m LookPhase other is = past_fence words m.home (omega (arith, is.0, (late words m.home).look))
-past_first words m LastPhase other is = past_fence words m.home (omega (arith, is.0, (late words m.home).last))
-past_first words m phase other is = absurd (omega (arith, is.0, is.1))
-
-no_fence : (words : ℕ) (plan : Plan) → is_in_aim plan ≡ false → phase_of plan ≢ Some FirstPhase → IsInPhase words plan → is_at_fence (moving_of plan).home ≡ false
-no_fence words (LeaveFirst m) accesses past is = absurd (past refl)
-no_fence words (LeaveClosing m) accesses past is = past_first words m ClosingPhase (λ e. cc) is
-no_fence words (LeaveAim m) accesses past is = absurd (cc)
-no_fence words (LeaveDrain m) accesses past is = past_first words m DrainPhase (λ e. cc) is.phase
-no_fence words (LeaveEnable m) accesses past is = past_first words m EnablePhase (λ e. cc) is
-no_fence words (LeaveLook m) accesses past is = past_first words m LookPhase (λ e. cc) is
-no_fence words (LeaveLast m) accesses past is = past_first words m LastPhase (λ e. cc) is
-no_fence words (ArriveFirst m) accesses past is = absurd (past refl)
-no_fence words (ArriveClosing m) accesses past is = past_first words m ClosingPhase (λ e. cc) is
-no_fence words (ArriveAim m) accesses past is = absurd (cc)
-no_fence words (ArriveDrain m) accesses past is = past_first words m DrainPhase (λ e. cc) is.phase
-no_fence words (ArriveEnable m) accesses past is = past_first words m EnablePhase (λ e. cc) is
-no_fence words (ArriveLast m) accesses past is = past_first words m LastPhase (λ e. cc) is
-no_fence words (ShiftFirst m) accesses past is = absurd (past refl)
-no_fence words (ShiftClosing m) accesses past is = past_first words m ClosingPhase (λ e. cc) is
-no_fence words (ShiftAim m) accesses past is = absurd (cc)
-no_fence words (ShiftDrain m) accesses past is = past_first words m DrainPhase (λ e. cc) is.phase
-no_fence words (ShiftEnable m) accesses past is = past_first words m EnablePhase (λ e. cc) is
-no_fence words (ShiftLast m) accesses past is = past_first words m LastPhase (λ e. cc) is
+-- so stores in flight land in the first phase alone
+no_fence : (phase : Phase) (words : ℕ) (m : Moving) → phase ≢ FirstPhase → IsStepOf (Some phase) words m → is_at_fence m.home ≡ false
+no_fence FirstPhase words m other is = absurd (other refl)
+no_fence ClosingPhase words m other is = past_fence words m.home is.0
+no_fence DrainPhase words m other is = past_fence words m.home (omega (arith, is.phase.0, (late words m.home).drain))
+no_fence EnablePhase words m other is = past_fence words m.home (omega (arith, is.0, (late words m.home).enable))
+no_fence LookPhase words m other is = past_fence words m.home (omega (arith, is.0, (late words m.home).look))
+no_fence LastPhase words m other is = past_fence words m.home (omega (arith, is.0, (late words m.home).last))
+no_fence phase words m other is = absurd (omega (arith, is.0, is.1))
 
 -- ---- what a step makes
 
-pub steps_by_phase : (w u : World) (plan : Plan) (next : Next) → IsInPhase (width w) plan → StepsByPhase plan w u next → StepsTo (aim_if (is_in_aim plan) (moving_of plan)) w (moving_of plan) u next
-steps_by_phase w u (LeaveFirst m) next is goes = goes
-steps_by_phase w u (LeaveClosing m) next is goes = none_lands w m (λ landed. Advances landed m u next) (no_fence (width w) (LeaveClosing m) refl (λ e. cc) is) goes
-steps_by_phase w u (LeaveAim m) next is goes = goes
-steps_by_phase w u (LeaveDrain m) next is goes = none_lands w m (λ landed. Advances landed m u next) (no_fence (width w) (LeaveDrain m) refl (λ e. cc) is) goes
-steps_by_phase w u (LeaveEnable m) next is goes = none_lands w m (λ landed. Advances landed m u next) (no_fence (width w) (LeaveEnable m) refl (λ e. cc) is) goes
-steps_by_phase w u (LeaveLook m) next is goes = none_lands w m (λ landed. Advances landed m u next) (no_fence (width w) (LeaveLook m) refl (λ e. cc) is) goes
-steps_by_phase w u (LeaveLast m) next is goes = none_lands w m (λ landed. Advances landed m u next) (no_fence (width w) (LeaveLast m) refl (λ e. cc) is) goes
-steps_by_phase w u (ArriveFirst m) next is goes = goes
-steps_by_phase w u (ArriveClosing m) next is goes = none_lands w m (λ landed. Advances landed m u next) (no_fence (width w) (ArriveClosing m) refl (λ e. cc) is) goes
-steps_by_phase w u (ArriveAim m) next is goes = goes
-steps_by_phase w u (ArriveDrain m) next is goes = none_lands w m (λ landed. Advances landed m u next) (no_fence (width w) (ArriveDrain m) refl (λ e. cc) is) goes
-steps_by_phase w u (ArriveEnable m) next is goes = none_lands w m (λ landed. Advances landed m u next) (no_fence (width w) (ArriveEnable m) refl (λ e. cc) is) goes
-steps_by_phase w u (ArriveLast m) next is goes = none_lands w m (λ landed. Advances landed m u next) (no_fence (width w) (ArriveLast m) refl (λ e. cc) is) goes
-steps_by_phase w u (ShiftFirst m) next is goes = goes
-steps_by_phase w u (ShiftClosing m) next is goes = none_lands w m (λ landed. Advances landed m u next) (no_fence (width w) (ShiftClosing m) refl (λ e. cc) is) goes
-steps_by_phase w u (ShiftAim m) next is goes = goes
-steps_by_phase w u (ShiftDrain m) next is goes = none_lands w m (λ landed. Advances landed m u next) (no_fence (width w) (ShiftDrain m) refl (λ e. cc) is) goes
-steps_by_phase w u (ShiftEnable m) next is goes = none_lands w m (λ landed. Advances landed m u next) (no_fence (width w) (ShiftEnable m) refl (λ e. cc) is) goes
-steps_by_phase w u (ShiftLast m) next is goes = none_lands w m (λ landed. Advances landed m u next) (no_fence (width w) (ShiftLast m) refl (λ e. cc) is) goes
+module _ (w u : World) where
+  lands_none : (phase : Phase) (m : Moving) (made : World → Type 0) → phase ≢ FirstPhase → IsStepOf (Some phase) (width w) m → made w → OnceLanded w m made
+  lands_none phase m made other is = none_lands w m made (no_fence phase (width w) m other is)
+
+  steps_then : (phase : Option Phase) (m : Moving) (next : Next) → IsStepOf phase (width w) m → StepsByPhase phase w m u next → StepsTo (aim_if (is_none phase) m) w m u next
+  steps_then None m next is goes = goes
+  steps_then (Some FirstPhase) m next is goes = goes
+  steps_then (Some phase) m next is goes = lands_none phase m (λ landed. Advances landed m u next) (λ e. cc) is goes
+
+  pub steps_by_phase : (plan : Plan) (next : Next) → IsInPhase (width w) plan → StepsByPhase (phase_of plan) w (moving_of plan) u next
+      → StepsTo (aim_if (is_in_aim plan) (moving_of plan)) w (moving_of plan) u next
+  steps_by_phase plan next = steps_then (phase_of plan) (moving_of plan) next
 
 -- ---- a step in place
 
--- A plan and a later one of the same kind are in one phase, whose steps are accesses.
-pub record InOnePhase (phase : Phase) (plan later : Plan) : Type 0 where
-  pub before : phase_of plan ≡ Some phase
-  pub after : phase_of later ≡ Some phase
-  pub accesses : is_in_aim plan ≡ false
-  pub same : moving_of later ≡ moving_of plan → later ≡ plan
+module _ (w u : World) (plan later : Plan) (words : ℕ) (value : words ≡ width w) (some : 1 ≤ words) (before : IsInPhase (width w) plan) (after : IsInPhase (width u) later)
+    (same : phase_of later ≡ phase_of plan) (still : moving_of later ≡ moving_of plan → later ≡ plan) where
+  abbrev m : Moving
+  m = moving_of plan
 
-module _ (w u : World) (was plan later : Plan) (phase : Phase) (one : InOnePhase phase plan later) (words : ℕ) (value : words ≡ width w) (some : 1 ≤ words) (is : was ≡ plan)
-    (before : IsInPhase (width w) was) (after : IsInPhase (width u) later) where
-  goes_landed : OnceLanded w (moving_of plan) (λ landed. GoesOn landed (moving_of plan) u (moving_of later)) → StepsInPlace true w plan u later
-  goes_landed once = (
-    ap (λ b. aim_if b (moving_of plan)) (phase_aims (width w) plan (subst (λ n. 1 ≤ n) value some) (subst (IsInPhase (width w)) is before) ∙ one.accesses),
+  abbrev t : Moving
+  t = moving_of later
+
+  -- a step was made, once what lands before it had
+  made : is_in_aim plan ≡ false → OnceLanded w m (λ landed. GoesOn landed m u t) → StepsInPlace true w plan u later
+  made accesses once = (
+    ap (λ b. aim_if b m) (phase_aims (width w) plan (subst (λ n. 1 ≤ n) value some) before ∙ accesses),
     record { landed = once.landed; first = once.first; then = once.then.goes },
     once.then.fits,
     after,
-    one.after ∙ sym one.before,
+    same,
   )
 
-  stays_still : (u ≡ w) → moving_of later ≡ moving_of plan → EndsPhase (Some phase) (width w) (moving_of plan) → StepsInPlace false w plan u later
-  stays_still world moved ends = (world, one.same moved, subst (λ p. EndsPhase p (width w) (moving_of plan)) (sym one.before) ends)
+  -- and none was
+  stayed : (phase : Option Phase) → phase_of plan ≡ phase → (u ≡ w) → t ≡ m → EndsPhase phase (width w) m → StepsInPlace false w plan u later
+  stayed phase seen world moved ends = (world, still moved, subst (λ p. EndsPhase p (width w) m) (sym seen) ends)
 
-  -- where stores in flight may land before the step
-  pub lands_in_place : (done : Bool) → phase ≡ FirstPhase → LandsInPlace done w (moving_of plan) u (moving_of later) → StepsInPlace done w was u later
-  lands_in_place true first goes = subst (λ p. StepsInPlace true w p u later) (sym is) (goes_landed goes)
-  lands_in_place false first goes = subst (λ p. StepsInPlace false w p u later) (sym is) (stays_still goes.0 goes.1 (subst (λ p. EndsPhase (Some p) (width w) (moving_of plan)) (sym first) goes.2))
+  by_phase : (phase : Option Phase) → phase_of plan ≡ phase → (done : Bool) → InPlaceByPhase phase done w m u t → StepsInPlace done w plan u later
+  by_phase None seen done goes = subst (λ b. StepsInPlace b w plan u later) (sym goes.0) (stayed None seen goes.1 goes.2 (subst (λ p. IsStepOf p (width w) m) seen before))
+  by_phase (Some FirstPhase) seen true goes = made (ap is_none seen) goes
+  by_phase (Some FirstPhase) seen false goes = stayed _ seen goes.0 goes.1 goes.2
+  by_phase (Some phase) seen true goes =
+      made (ap is_none seen) (lands_none w u phase m (λ landed. GoesOn landed m u t) (λ e. cc) (subst (λ p. IsStepOf p (width w) m) seen before) goes)
+  by_phase (Some phase) seen false goes = stayed _ seen goes.0 goes.1 goes.2
 
-  -- and where none do
-  pub goes_in_place : (done : Bool) → phase_of plan ≢ Some FirstPhase → GoesInPlace phase done w (moving_of plan) u (moving_of later) → StepsInPlace done w was u later
-  goes_in_place true past goes = subst (λ p. StepsInPlace true w p u later) (sym is) (goes_landed (none_lands w (moving_of plan) (λ landed. GoesOn landed (moving_of plan) u (moving_of later)) (no_fence (width w) plan one.accesses past (subst (IsInPhase (width w)) is before)) goes))
-  goes_in_place false past goes = subst (λ p. StepsInPlace false w p u later) (sym is) (stays_still goes.0 goes.1 goes.2)
+  pub steps_in_place : (done : Bool) → InPlaceByPhase (phase_of plan) done w m u t → StepsInPlace done w plan u later
+  steps_in_place done = by_phase (phase_of plan) refl done
 
 -- ---- the sets are carried
 

@@ -1,5 +1,5 @@
 -- A move in any of its phases, and what a step makes of it.
-use Rattle.std.specs.Prelude.{◌≡◌, ℕ, ◌+◌, Bool, true, false, Option, Some, None}
+use Rattle.std.specs.Prelude.{◌≡◌, ℕ, ◌+◌, Bool, true, false, Option, Some, None, is_none}
 use Rattle.aia_home.specs.Plans.{steps_done}
 use Rattle.aia_home.specs.Phases.{Phase, following, begins}
 use Rattle.aia_home.specs.Phases.Phase.{FirstPhase, ClosingPhase, DrainPhase, EnablePhase, LookPhase, LastPhase}
@@ -36,35 +36,6 @@ moving_of (ShiftDrain m) = m
 moving_of (ShiftEnable m) = m
 moving_of (ShiftLast m) = m
 
--- Whether it is in the phase of aims.
-abbrev pub is_in_aim : Plan → Bool
-is_in_aim (LeaveAim m) = true
-is_in_aim (ArriveAim m) = true
-is_in_aim (ShiftAim m) = true
-is_in_aim plan = false
-
--- Its next step is a step of its phase, of files of so many words.
-abbrev pub IsInPhase : ℕ → Plan → Type 0
-IsInPhase words (LeaveFirst m) = IsIn FirstPhase words m
-IsInPhase words (LeaveClosing m) = IsIn ClosingPhase words m
-IsInPhase words (LeaveAim m) = IsAtAims m
-IsInPhase words (LeaveDrain m) = IsInDrain words m
-IsInPhase words (LeaveEnable m) = IsIn EnablePhase words m
-IsInPhase words (LeaveLook m) = IsIn LookPhase words m
-IsInPhase words (LeaveLast m) = IsIn LastPhase words m
-IsInPhase words (ArriveFirst m) = IsIn FirstPhase words m
-IsInPhase words (ArriveClosing m) = IsIn ClosingPhase words m
-IsInPhase words (ArriveAim m) = IsAtAims m
-IsInPhase words (ArriveDrain m) = IsInDrain words m
-IsInPhase words (ArriveEnable m) = IsIn EnablePhase words m
-IsInPhase words (ArriveLast m) = IsIn LastPhase words m
-IsInPhase words (ShiftFirst m) = IsIn FirstPhase words m
-IsInPhase words (ShiftClosing m) = IsIn ClosingPhase words m
-IsInPhase words (ShiftAim m) = IsAtAims m
-IsInPhase words (ShiftDrain m) = IsInDrain words m
-IsInPhase words (ShiftEnable m) = IsIn EnablePhase words m
-IsInPhase words (ShiftLast m) = IsIn LastPhase words m
-
 -- Which phase it is in, of those whose steps are accesses: in the phase of aims none of these.
 abbrev pub phase_of : Plan → Option Phase
 phase_of (LeaveFirst m) = Some FirstPhase
@@ -87,6 +58,21 @@ phase_of (ShiftDrain m) = Some DrainPhase
 phase_of (ShiftEnable m) = Some EnablePhase
 phase_of (ShiftLast m) = Some LastPhase
 
+-- Whether it is in the phase of aims.
+abbrev pub is_in_aim : Plan → Bool
+is_in_aim plan = is_none (phase_of plan)
+
+-- The next step of a move is a step of this phase, or aims where there is none, in files of so many
+-- words.
+abbrev pub IsStepOf : Option Phase → ℕ → Moving → Type 0
+IsStepOf None words m = IsAtAims m
+IsStepOf (Some DrainPhase) words m = IsInDrain words m
+IsStepOf (Some phase) words m = IsIn phase words m
+
+-- The next step of a plan is a step of the phase that it is in.
+abbrev pub IsInPhase : ℕ → Plan → Type 0
+IsInPhase words plan = IsStepOf (phase_of plan) words (moving_of plan)
+
 -- What is said of a plan that goes on, and of what one that is finished gives back.
 abbrev pub MatchNext : Next → (Plan → Type 0) → (Outcome → Type 0) → Type 0
 MatchNext (Again p) again finished = again p
@@ -108,14 +94,10 @@ StepsTo None w m u next = OnceLanded w m (λ landed. Advances landed m u next)
 StepsTo (Some aim) w m u next = MatchNext next (λ p. GoesAiming w m u (moving_of p)) (λ o. ⊥)
 
 -- The same by the phase that the plan is in: stores in flight land in the first phase alone.
-abbrev pub StepsByPhase : Plan → World → World → Next → Type 0
-StepsByPhase (LeaveFirst m) w u next = StepsTo None w m u next
-StepsByPhase (ArriveFirst m) w u next = StepsTo None w m u next
-StepsByPhase (ShiftFirst m) w u next = StepsTo None w m u next
-StepsByPhase (LeaveAim m) w u next = StepsTo (Some (aim_of m)) w m u next
-StepsByPhase (ArriveAim m) w u next = StepsTo (Some (aim_of m)) w m u next
-StepsByPhase (ShiftAim m) w u next = StepsTo (Some (aim_of m)) w m u next
-StepsByPhase plan w u next = Advances w (moving_of plan) u next
+abbrev pub StepsByPhase : Option Phase → World → Moving → World → Next → Type 0
+StepsByPhase None w m u next = StepsTo (Some (aim_of m)) w m u next
+StepsByPhase (Some FirstPhase) w m u next = StepsTo None w m u next
+StepsByPhase (Some phase) w m u next = Advances w m u next
 
 -- ---- a step in place
 
@@ -133,6 +115,12 @@ GoesInPlace phase false w m u t = (u ≡ w) × (t ≡ m) × IsLastOf phase (widt
 abbrev pub LandsInPlace : Bool → World → Moving → World → Moving → Type 0
 LandsInPlace true w m u t = OnceLanded w m (λ landed. GoesOn landed m u t)
 LandsInPlace false w m u t = (u ≡ w) × (t ≡ m) × IsLastOf FirstPhase (width w) m
+
+-- The same by the phase that the plan is in: a step that aims is not made in place.
+abbrev pub InPlaceByPhase : Option Phase → Bool → World → Moving → World → Moving → Type 0
+InPlaceByPhase None made w m u t = (made ≡ false) × (u ≡ w) × (t ≡ m)
+InPlaceByPhase (Some FirstPhase) made w m u t = LandsInPlace made w m u t
+InPlaceByPhase (Some phase) made w m u t = GoesInPlace phase made w m u t
 
 -- The next step of a move is the last one of this phase; where there is none, it aims a passed
 -- source.

@@ -8,7 +8,7 @@ ghost use Rattle.aia_world.specs.Changes.{spot_of};
 ghost use Rattle.aia_moving.specs.Move.{IsWho, MoveFits, width};
 ghost use Rattle.aia_moving.specs.Targets.{ArePasses, AimsAs, aim_if, next_aim};
 ghost use Rattle.aia_moving.specs.Turns.{LeavesEmpty};
-ghost use Rattle.aia_move.specs.Plan.{moving_of, is_in_aim, IsInPhase, MatchNext, StepsTo, StepsByPhase, StepsInPlace};
+ghost use Rattle.aia_move.specs.Plan.{moving_of, is_in_aim, IsInPhase, MatchNext, StepsTo, StepsByPhase, StepsInPlace, InPlaceByPhase, phase_of};
 
 use crate::phase::{Aim, Closing, Drain, Enable, First, Last, Look};
 use crate::{Arrive, Closed, KeptNumbers, Leave, Outcome, Shift, Targets, Turn, Who};
@@ -165,6 +165,19 @@ impl Plan {
         ensures { StepsInPlace result fabric.old self.old fabric.new self.new }
     {
         let _words = fabric.words();
+        self.next_in_place(fabric)
+    }
+
+    /// Makes it in place, by the phase that the move is in.
+    fn next_in_place(&mut self, fabric: &mut Fabric) -> bool
+        requires fits { MoveFits fabric.old (moving_of self.old) }
+        requires phase { IsInPhase (width fabric.old) self.old }
+        ensures goes { InPlaceByPhase (phase_of self.old) result fabric.old (moving_of self.old)
+            fabric.new (moving_of self.new) }
+        ensures phase { IsInPhase (width fabric.new) self.new }
+        ensures same { phase_of self.new ≡ phase_of self.old }
+        ensures still { moving_of self.new ≡ moving_of self.old → self.new ≡ self.old }
+    {
         match self {
             Plan::LeaveFirst(state) => state.step_in_place(fabric),
             Plan::LeaveClosing(state) => state.step_in_place(fabric),
@@ -192,7 +205,7 @@ impl Plan {
         requires phase { IsInPhase (width fabric.old) self }
         requires harts { fabric.old.imsic.harts ≡ (T.map targets.old).harts }
         requires passes { ArePasses (moving_of self).who }
-        ensures goes { StepsByPhase self fabric.old fabric.new result }
+        ensures goes { StepsByPhase (phase_of self) fabric.old (moving_of self) fabric.new result }
         ensures aims { AimsAs T.aimed (aim_if (is_in_aim self) (moving_of self)) targets.old
             targets.new }
         ensures fits { MatchNext result (λ p. MoveFits fabric.new (moving_of p)) (λ o. ⊤) }
