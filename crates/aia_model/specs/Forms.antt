@@ -228,30 +228,19 @@ pins = form (codes "pins") (Decimal & End) (λ (hart, end). lines.Pins hart)
 abbrev pub entry : Form
 entry = form (codes "entry") (Hex & Hex & End) (λ (w0, (w1, end)). lines.Entry w0 w1)
 
--- All forms, by what they speak of, where each list goes on with the one above it: what is made;
--- what is shown; the majors of a virtual hart; a virtual hart; its moves; stores of the devices of
--- VMs; loads and stores of the host, and wires; and those that end with a CSR instruction, a move
--- that begins or a part of an image.
-abbrev pub forms_from_making : List Form
-forms_from_making = pass ∷ vm ∷ machine ∷ []
-
-abbrev pub forms_from_showing : List Form
-forms_from_showing = save ∷ pins ∷ entry ∷ forms_from_making
-
-abbrev pub forms_from_majors : List Form
-forms_from_majors = inject ∷ hvictl ∷ hviprio ∷ forms_from_showing
+-- All forms, by what they speak of, where each list goes on with the one above it: what is made,
+-- set and shown; a virtual hart and its moves; loads, stores and wires; and those that end with a
+-- CSR instruction, a move that begins or a part of an image.
+abbrev pub forms_from_settings : List Form
+forms_from_settings =
+    inject ∷ hvictl ∷ hviprio ∷ save ∷ pins ∷ entry ∷ pass ∷ vm ∷ machine ∷ []
 
 abbrev pub forms_from_virtual_harts : List Form
-forms_from_virtual_harts = step ∷ refetch ∷ enter ∷ exit ∷ forms_from_majors
-
-abbrev pub forms_from_moves : List Form
-forms_from_moves = arrive ∷ leave ∷ shift ∷ forms_from_virtual_harts
-
-abbrev pub forms_from_devices : List Form
-forms_from_devices = msi ∷ send ∷ land ∷ forms_from_moves
+forms_from_virtual_harts =
+    arrive ∷ leave ∷ shift ∷ step ∷ refetch ∷ enter ∷ exit ∷ forms_from_settings
 
 abbrev pub forms_from_stores : List Form
-forms_from_stores = store ∷ load ∷ wire ∷ forms_from_devices
+forms_from_stores = store ∷ load ∷ wire ∷ msi ∷ send ∷ land ∷ forms_from_virtual_harts
 
 abbrev pub forms : List Form
 forms = machine_csr ∷ host ∷ guest ∷ begin ∷ load_part ∷ forms_from_stores

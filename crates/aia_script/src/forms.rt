@@ -10,7 +10,7 @@ ghost use Rattle.aia_model.specs.AnswerText.{field_text};
 ghost use Rattle.aia_model.specs.Grammar.{fields};
 ghost use Rattle.aia_model.specs.Grammar.Field.{Keyword, Of};
 ghost use Rattle.aia_model.specs.Grammar.WordKind.{Decimal};
-ghost use Rattle.aia_model.specs.Forms.{instruction, access_values, part_fields, part, part_shape, machine_csr, host, guest, begin, load_part, forms_from_making, forms_from_showing, forms_from_majors, forms_from_virtual_harts, forms_from_moves, forms_from_devices, forms_from_stores, Spells, IsListed};
+ghost use Rattle.aia_model.specs.Forms.{instruction, access_values, part_fields, part, part_shape, machine_csr, host, guest, begin, load_part, forms_from_settings, forms_from_virtual_harts, forms_from_stores, Spells, IsListed};
 ghost use Rattle.aia_model.specs.Printing.{line_text, FitsField, IsPrintable};
 ghost use Rattle.aia_model.specs.Reading.{line_by, line_among, line_after, line_at, read, reading};
 ghost use Rattle.aia_model.specs.declared.limits.TheConstants.{LINE_BYTES};
@@ -27,22 +27,14 @@ use aia_model::{Line, Parsed, Part, Want};
 use aia_regs::{Csr, Level, Op};
 use arrayvec::ArrayVec;
 
-/// Hands the rows of loads and stores of the host and of wires, after those that it is given, to a
-/// macro with its arguments.
+/// Hands the rows of loads, stores and wires, after those that it is given, to a macro with its
+/// arguments.
 macro_rules! stores {
     (($take:ident $args:tt) $($rows:tt)*) => {
         $take! { $args $($rows)*
             b"st" [addr: Hex, value: Hex32] (Line::Store { addr, value })
             b"ld" [addr: Hex] (Line::Load { addr })
             b"wire" [source: Decimal, level: Bit] (Line::Wire { source, level })
-        }
-    };
-}
-
-/// Hands the rows of stores of the devices of VMs on, likewise.
-macro_rules! devices {
-    (($take:ident $args:tt) $($rows:tt)*) => {
-        $take! { $args $($rows)*
             b"msi" [vm: VmNumber, addr: Hex, value: Decimal32] (Line::Msi { vm, addr, value })
             b"send" [vm: VmNumber, addr: Hex, value: Decimal32] (Line::Send { vm, addr, value })
             b"land" [vm: VmNumber, k: Decimal] (Line::Land { vm, k })
@@ -62,8 +54,8 @@ macro_rules! virtual_harts {
     };
 }
 
-/// Hands the rows of the majors of a virtual hart on, likewise.
-macro_rules! majors {
+/// Hands the rows of what is made, set and shown on, likewise.
+macro_rules! settings {
     (($take:ident $args:tt) $($rows:tt)*) => {
         $take! { $args $($rows)*
             b"inject" [vm: VmNumber, number: Decimal, bit: Decimal, level: Bit]
@@ -72,25 +64,9 @@ macro_rules! majors {
                 (Line::Hvictl { vm, number, value })
             b"hviprio" [vm: VmNumber, number: Decimal, value: Hex]
                 (Line::Hviprio { vm, number, value })
-        }
-    };
-}
-
-/// Hands the rows of what is shown on, likewise.
-macro_rules! showing {
-    (($take:ident $args:tt) $($rows:tt)*) => {
-        $take! { $args $($rows)*
             b"save" [vm: VmNumber, number: Decimal, k: Decimal] (Line::Save { vm, number, k })
             b"pins" [hart: Decimal] (Line::Pins { hart })
             b"entry" [w0: Hex, w1: Hex] (Line::Entry { w0, w1 })
-        }
-    };
-}
-
-/// Hands the rows of what is made on, likewise.
-macro_rules! making {
-    (($take:ident $args:tt) $($rows:tt)*) => {
-        $take! { $args $($rows)*
             b"pass" [source: Decimal, vm: VmNumber, number: Decimal, identity: Decimal]
                 (Line::Pass { source, vm, number, identity })
             b"vm" [vcpus: Decimal, mask: Hex, hart: Decimal] (Line::Vm { vcpus, mask, hart })
@@ -201,32 +177,13 @@ fn load_part_at(words: &mut Words<'_>) -> Option<Line>
     load_part_of(vm, number, words)
 }
 
-/// Reads the line that a text spells, of what is made; `None` where it spells none.
+/// Reads the line that a text spells, of what is made, set or shown; `None` where it spells none.
 #[inline(always)]
-fn made_line(text: &[u8]) -> Option<Line>
-    ensures { result ≡ line_among forms_from_making (first_word text.now) (after_first text.now) }
+fn setting_line(text: &[u8]) -> Option<Line>
+    ensures { result ≡ line_among forms_from_settings (first_word text.now) (after_first text.now) }
 {
-    making!((read_by_row(text)));
+    settings!((read_by_row(text)));
     None
-}
-
-/// Reads the line that a text spells, of what is shown or as above; `None` where it spells none.
-#[inline(always)]
-fn shown_line(text: &[u8]) -> Option<Line>
-    ensures { result ≡ line_among forms_from_showing (first_word text.now) (after_first text.now) }
-{
-    showing!((read_by_row(text)));
-    made_line(text)
-}
-
-/// Reads the line that a text spells, of the majors of a virtual hart or as above; `None` where it
-/// spells none.
-#[inline(always)]
-fn major_line(text: &[u8]) -> Option<Line>
-    ensures { result ≡ line_among forms_from_majors (first_word text.now) (after_first text.now) }
-{
-    majors!((read_by_row(text)));
-    shown_line(text)
 }
 
 /// Reads the line that a text spells, of a virtual hart or as above; `None` where it spells none.
@@ -235,37 +192,19 @@ fn virtual_hart_line(text: &[u8]) -> Option<Line>
     ensures { result
         ≡ line_among forms_from_virtual_harts (first_word text.now) (after_first text.now) }
 {
-    virtual_harts!((read_by_row(text)));
-    major_line(text)
-}
-
-/// Reads the line that a text spells, of a move or as above; `None` where it spells none.
-#[inline(always)]
-fn move_line(text: &[u8]) -> Option<Line>
-    ensures { result ≡ line_among forms_from_moves (first_word text.now) (after_first text.now) }
-{
     moves!(read_by_row (text) Move);
-    virtual_hart_line(text)
+    virtual_harts!((read_by_row(text)));
+    setting_line(text)
 }
 
-/// Reads the line that a text spells, of a store of a VM's device or as above; `None` where it
+/// Reads the line that a text spells, of a load, a store or a wire, or as above; `None` where it
 /// spells none.
-#[inline(always)]
-fn device_line(text: &[u8]) -> Option<Line>
-    ensures { result ≡ line_among forms_from_devices (first_word text.now) (after_first text.now) }
-{
-    devices!((read_by_row(text)));
-    move_line(text)
-}
-
-/// Reads the line that a text spells, of a load or a store of the host or a wire, or as above;
-/// `None` where it spells none.
 #[inline(always)]
 fn store_line(text: &[u8]) -> Option<Line>
     ensures { result ≡ line_among forms_from_stores (first_word text.now) (after_first text.now) }
 {
     stores!((read_by_row(text)));
-    device_line(text)
+    virtual_hart_line(text)
 }
 
 /// Reads the line that a text spells; `None` where it spells none.
@@ -404,7 +343,7 @@ fn push_line(line: &Line, out: &mut ArrayVec<u8, LINE_BYTES>)
     ensures text { out.new.items ≡ line_text line.now }
     ensures range { IsPrintable line.now }
 {
-    stores!((devices (virtual_harts (majors (showing (making (print_by_row (*line, out,
+    stores!((virtual_harts (settings (print_by_row (*line, out,
         Line::MachineCsr { hart, csr, op } => push_access(out, b"m", hart, Level::Machine, csr, op),
         Line::HostCsr { hart, csr, op } => push_access(out, b"h", hart, Level::Host, csr, op),
         Line::Hgeip { hart } => push_hgeip(out, hart),
@@ -413,7 +352,7 @@ fn push_line(line: &Line, out: &mut ArrayVec<u8, LINE_BYTES>)
         Line::Move { vm, number, want } => push_move(out, vm, number, want),
         Line::Begin { vm, number, want } => push_beginning(out, vm, number, want),
         Line::LoadPart { vm, number, part } => push_load(out, vm, number, part),
-    ))))))))
+    )))))
 }
 
 /// Appends the printing spelling of a line to `out`, which is empty. The line's CSR is one that
