@@ -228,16 +228,19 @@ pins = form (codes "pins") (Decimal & End) (λ (hart, end). lines.Pins hart)
 abbrev pub entry : Form
 entry = form (codes "entry") (Hex & Hex & End) (λ (w0, (w1, end)). lines.Entry w0 w1)
 
--- All forms, by what they speak of, where each list goes on with the one above it: what is made,
--- set and shown; a virtual hart and its moves; loads, stores and wires; and those that end with a
--- CSR instruction, a move that begins or a part of an image.
-abbrev pub forms_from_settings : List Form
-forms_from_settings =
-    inject ∷ hvictl ∷ hviprio ∷ save ∷ pins ∷ entry ∷ pass ∷ vm ∷ machine ∷ []
+-- All forms, by what they speak of, where each list goes on with the one above it: the machine, by
+-- what is made of it and what it shows; the majors of a virtual hart; a virtual hart and its moves;
+-- loads and stores of the host, wires, and stores of the devices of VMs; and those that end with a
+-- CSR instruction or a part of an image, begin a move, or have a word of their own behind a hart.
+abbrev pub forms_from_machine : List Form
+forms_from_machine = pins ∷ entry ∷ pass ∷ vm ∷ machine ∷ []
+
+abbrev pub forms_from_majors : List Form
+forms_from_majors = inject ∷ hvictl ∷ hviprio ∷ forms_from_machine
 
 abbrev pub forms_from_virtual_harts : List Form
 forms_from_virtual_harts =
-    arrive ∷ leave ∷ shift ∷ step ∷ refetch ∷ enter ∷ exit ∷ forms_from_settings
+    arrive ∷ leave ∷ shift ∷ step ∷ refetch ∷ enter ∷ exit ∷ save ∷ forms_from_majors
 
 abbrev pub forms_from_stores : List Form
 forms_from_stores = store ∷ load ∷ wire ∷ msi ∷ send ∷ land ∷ forms_from_virtual_harts

@@ -1,45 +1,45 @@
--- The phases of a plan: where its steps aim passed sources, and what they leave; what a step makes,
--- and one in place, by the phase that the plan is in; what the accesses that carry the sets need of
--- a carrier.
+-- The phases of a plan: where its steps aim passed sources, and what they leave; which phase comes
+-- after a step; what a step makes, and one in place, by the phase that the plan is in; what the
+-- accesses that carry the sets need of a carrier.
 use Rattle.std.proofs.Common.{◌≡◌, ◌≢◌, ℕ, ◌+◌, ◌<◌, ◌≤◌, Bool, true, false, ◌&&◌, nat_lt, refl, sym, ap, ◌∙◌, subst, arith, Option, Some, None, ◌-◌, ◌*◌, ◌/◌}
 use Rattle.std.specs.Prelude.{is_none}
 use Rattle.std.proofs.lemmas.Bool.{eq-eqb, ne_eqb}
+use Rattle.aia_word.specs.Sets.{has_bit}
+use Rattle.aia_regs.specs.declared.limits.TheConstants.{FILE_WORDS}
 use Rattle.aia_home.specs.Home.{Home, Progress, is_moving, one_more}
 use Rattle.aia_home.specs.Home.Home.{Leaving, Arriving, Shifting}
-use Rattle.aia_home.specs.Plans.{Access, steps_done, is_carried, leave_steps}
+use Rattle.aia_home.specs.Plans.{Access, steps_done, is_carried, leave_steps, leave_step}
+use Rattle.aia_home.specs.Plans.Access.{Map, TakePending, TakeEnables}
 use Rattle.aia_home.specs.Phases.{Phase, following, begins, after_enable}
 use Rattle.aia_home.specs.Phases.Phase.{FirstPhase, ClosingPhase, DrainPhase, EnablePhase, LookPhase, LastPhase}
 use Rattle.aia_home.specs.BySteps.{own_file, next_file}
 use Rattle.aia_home.specs.Aims.{aims_done, is_aiming, aimed}
+use Rattle.aia_home.specs.Routes.{is_at_fence}
 use Rattle.aia_world.specs.World.{World}
-use Rattle.aia_move.specs.declared.plan.Plan.{Plan}
 use Rattle.aia_moving.specs.declared.turn.Closed.{Closed}
 use Rattle.aia_moving.specs.declared.turn.Closed.TheVariants as closed
 use Rattle.aia_moving.specs.Move.{Moving, width, MoveFits}
 use Rattle.aia_moving.specs.Targets.{aims, passes_of, has_unaimed, one_aimed, aim_if}
 use Rattle.aia_moving.specs.Carrier.{CarrierState, progress_of, moving, one_aim_done}
 use Rattle.aia_moving.specs.Turns.{IsIn, IsAtAims, IsInDrain, IsMove, GoesOn, AimsOn, MatchClosed}
-use Rattle.aia_move.specs.Plan.{moving_of, is_in_aim, IsStepOf, IsInPhase, IsLastOf, phase_of, StepsTo, Advances, StepsByPhase, InPlaceByPhase, EndsPhase, StepsInPlace}
-use Rattle.aia_moving.proofs.PhaseSteps.{middle, begins_on}
-use Rattle.aia_home.specs.Routes.{is_at_fence}
-use Rattle.aia_move.specs.declared.plan.Next.{Next}
 use Rattle.aia_moving.specs.Landings.{OnceLanded}
+use Rattle.aia_moving.proofs.PhaseSteps.{middle, begins_on}
 use Rattle.aia_moving.proofs.LandingLemmas.{past_fence, none_lands}
-use Rattle.aia_word.specs.Sets.{has_bit}
-use Rattle.aia_regs.specs.declared.limits.TheConstants.{FILE_WORDS}
-use Rattle.aia_home.specs.Plans.Access.{TakePending, TakeEnables}
 use Rattle.aia_moving.proofs.StepLemmas.{steps_are}
+use Rattle.aia_move.specs.declared.plan.Plan.{Plan}
+use Rattle.aia_move.specs.declared.plan.Next.{Next}
+use Rattle.aia_move.specs.Plan.{moving_of, is_in_aim, NextStepIsOf, IsInPhase, IsLastOf, phase_of, StepsTo, Advances, StepsByPhase, InPlaceByPhase, EndsPhaseOrAims, StepsInPlace}
 
 -- ---- when a step aims
 
--- as many steps are done as before the first word is taken
+-- just before the first word is taken it aims while a source is left
 aims_at : (words passes : ℕ) (there : Home) → is_moving there ≡ true → steps_done there ≡ begins words there DrainPhase → is_aiming passes there ≡ nat_lt (aims_done there) passes
 aims_at words passes (Leaving from at) moves e = ap (λ b. b && nat_lt at.aims passes) (eq-eqb _ _ e)
 aims_at words passes (Arriving to at) moves e = ap (λ b. b && nat_lt at.aims passes) (eq-eqb _ _ e)
 aims_at words passes (Shifting from to at) moves e = ap (λ b. b && nat_lt at.aims passes) (eq-eqb _ _ e)
 aims_at words passes there moves e = absurd (cc)
 
--- else none does
+-- elsewhere none does
 none_aims : (words passes : ℕ) (there : Home) → (is_moving there ≡ true → steps_done there ≢ begins words there DrainPhase) → is_aiming passes there ≡ false
 none_aims words passes (Leaving from at) other = ap (λ b. b && nat_lt at.aims passes) (ne_eqb _ _ (other refl))
 none_aims words passes (Arriving to at) other = ap (λ b. b && nat_lt at.aims passes) (ne_eqb _ _ (other refl))
@@ -48,35 +48,35 @@ none_aims words passes there other = refl
 
 -- ---- a step aims in its phase alone
 
-in_first : (words : ℕ) (m : Moving) → IsIn FirstPhase words m → aims m ≡ false
-in_first words m is = none_aims words _ m.home (λ moves e. omega (arith, e, is, (middle words m.home moves).drain))
+no_aim_in_first : (words : ℕ) (m : Moving) → IsIn FirstPhase words m → aims m ≡ false
+no_aim_in_first words m is = none_aims words _ m.home (λ moves e. omega (arith, e, is, (middle words m.home moves).drain))
 
-in_closing : (words : ℕ) (m : Moving) → IsIn ClosingPhase words m → aims m ≡ false
-in_closing words m is = none_aims words _ m.home (λ moves e. omega (arith, e, is))
+no_aim_in_closing : (words : ℕ) (m : Moving) → IsIn ClosingPhase words m → aims m ≡ false
+no_aim_in_closing words m is = none_aims words _ m.home (λ moves e. omega (arith, e, is))
 
-in_enable : (words : ℕ) (m : Moving) → 1 ≤ words → IsIn EnablePhase words m → aims m ≡ false
-in_enable words m some is = none_aims words _ m.home (λ moves e. let mid = middle words m.home moves in omega (arith, e, is, some, mid.drain, mid.enable))
+no_aim_in_enable : (words : ℕ) (m : Moving) → 1 ≤ words → IsIn EnablePhase words m → aims m ≡ false
+no_aim_in_enable words m some is = none_aims words _ m.home (λ moves e. let mid = middle words m.home moves in omega (arith, e, is, some, mid.drain, mid.enable))
 
-in_look : (words : ℕ) (m : Moving) → 1 ≤ words → IsIn LookPhase words m → aims m ≡ false
-in_look words m some is = none_aims words _ m.home (λ moves e. let mid = middle words m.home moves in omega (arith, e, is, some, mid.drain, mid.looks))
+no_aim_in_look : (words : ℕ) (m : Moving) → 1 ≤ words → IsIn LookPhase words m → aims m ≡ false
+no_aim_in_look words m some is = none_aims words _ m.home (λ moves e. let mid = middle words m.home moves in omega (arith, e, is, some, mid.drain, mid.looks))
 
-last_late : (words : ℕ) (there : Home) → is_moving there ≡ true → 1 ≤ words → begins words there DrainPhase < begins words there LastPhase
-last_late words (Leaving from at) moves some = omega (arith, some)
-last_late words (Arriving to at) moves some = omega (arith, some)
-last_late words (Shifting from to at) moves some = omega (arith, some)
-last_late words there moves some = absurd (cc)
+-- what is last comes after the looks, which a leave alone has
+looks_before_last : (words : ℕ) (there : Home) → begins words there LookPhase ≤ begins words there LastPhase
+looks_before_last words (Leaving from at) = omega arith
+looks_before_last words there = omega arith
 
-in_last : (words : ℕ) (m : Moving) → 1 ≤ words → IsIn LastPhase words m → aims m ≡ false
-in_last words m some is = none_aims words _ m.home (λ moves e. omega (arith, e, is, last_late words m.home moves some))
+no_aim_in_last : (words : ℕ) (m : Moving) → 1 ≤ words → IsIn LastPhase words m → aims m ≡ false
+no_aim_in_last words m some is = none_aims words _ m.home (λ moves e. let mid = middle words m.home moves in omega (arith, e, is, some, mid.drain, mid.looks, looks_before_last words m.home))
 
-step_aims : (phase : Option Phase) (words : ℕ) (m : Moving) → 1 ≤ words → IsStepOf phase words m → aims m ≡ is_none phase
+-- so a step aims where it is a step of no phase (of AllDone none is)
+step_aims : (phase : Option Phase) (words : ℕ) (m : Moving) → 1 ≤ words → NextStepIsOf phase words m → aims m ≡ is_none phase
 step_aims None words m some is = is
-step_aims (Some FirstPhase) words m some is = in_first words m is
-step_aims (Some ClosingPhase) words m some is = in_closing words m is
+step_aims (Some FirstPhase) words m some is = no_aim_in_first words m is
+step_aims (Some ClosingPhase) words m some is = no_aim_in_closing words m is
 step_aims (Some DrainPhase) words m some is = is.aimed
-step_aims (Some EnablePhase) words m some is = in_enable words m some is
-step_aims (Some LookPhase) words m some is = in_look words m some is
-step_aims (Some LastPhase) words m some is = in_last words m some is
+step_aims (Some EnablePhase) words m some is = no_aim_in_enable words m some is
+step_aims (Some LookPhase) words m some is = no_aim_in_look words m some is
+step_aims (Some LastPhase) words m some is = no_aim_in_last words m some is
 step_aims (Some phase) words m some is = absurd (omega (arith, is.0, is.1))
 
 pub phase_aims : (words : ℕ) (plan : Plan) → 1 ≤ words → IsInPhase words plan → aims (moving_of plan) ≡ is_in_aim plan
@@ -114,17 +114,18 @@ move_aims there is w l now s seen fits done =
 
 -- ---- from the fence of the G-stage record on
 
-in_closing_moves : (words : ℕ) (there : Home) → steps_done there < begins words there DrainPhase → is_moving there ≡ true
-in_closing_moves words (Leaving from at) before = refl
-in_closing_moves words (Arriving to at) before = refl
-in_closing_moves words (Shifting from to at) before = refl
-in_closing_moves words there before = absurd (omega (arith, before))
+-- in each phase the home moves
+moves_in : (phase : Phase) (words : ℕ) (there : Home) → (begins words there phase ≤ steps_done there) × (steps_done there < begins words there (following phase)) → is_moving there ≡ true
+moves_in phase words (Leaving from at) is = refl
+moves_in phase words (Arriving to at) is = refl
+moves_in phase words (Shifting from to at) is = refl
+moves_in phase words there is = absurd (omega (arith, is.1))
 
 at_aims : (words : ℕ) (x : Moving) → is_moving x.home ≡ true → steps_done x.home ≡ begins words x.home DrainPhase → has_unaimed x ≡ true → IsAtAims x
 at_aims words x moves at left = aims_at words _ x.home moves at ∙ left
 
-in_drain : (words : ℕ) (x : Moving) → is_moving x.home ≡ true → 1 ≤ words → steps_done x.home ≡ begins words x.home DrainPhase → has_unaimed x ≡ false → IsInDrain words x
-in_drain words x moves some at none =
+drain_begins : (words : ℕ) (x : Moving) → is_moving x.home ≡ true → 1 ≤ words → steps_done x.home ≡ begins words x.home DrainPhase → has_unaimed x ≡ false → IsInDrain words x
+drain_begins words x moves some at none =
     let mid = middle words x.home moves in
     record { phase = (omega (arith, at), omega (arith, at, some, mid.drain, mid.enable)); aimed = aims_at words _ x.home moves at ∙ none }
 
@@ -141,6 +142,7 @@ begins_still w u m t phase goes = ap (λ n. begins n t.home phase) goes.width �
 pub still_in : (phase : Phase) (w u : World) (m t : Moving) → IsIn phase (width w) m → GoesOn w m u t → steps_done m.home + 1 < begins (width w) m.home (following phase) → IsIn phase (width u) t
 still_in phase w u m t is goes more = (omega (arith, begins_still w u m t phase goes, goes.steps, is), omega (arith, begins_still w u m t (following phase) goes, goes.steps, more))
 
+-- the phase after the last step of the G-stage record's
 pub closed_phase : (w u : World) (m t : Moving) (next : Closed Moving Moving) → 1 ≤ width w → IsIn ClosingPhase (width w) m → GoesOn w m u t → IsLastOf ClosingPhase (width w) m
     → MatchClosed next (λ x. (x ≡ t) × (has_unaimed x ≡ true)) (λ x. (x ≡ t) × (has_unaimed x ≡ false))
     → MatchClosed next IsAtAims (IsInDrain (width u))
@@ -150,11 +152,11 @@ closed_phase w u m t next some is goes last r = by_next next r
     at = omega (arith, begins_still w u m t DrainPhase goes, goes.steps, last)
 
     here : is_moving t.home ≡ true
-    here = ap is_moving goes.goes.home ∙ still_moves m.home (in_closing_moves (width w) m.home is.1)
+    here = ap is_moving goes.goes.home ∙ still_moves m.home (moves_in ClosingPhase (width w) m.home is)
 
     by_next : (next : Closed Moving Moving) → MatchClosed next (λ x. (x ≡ t) × (has_unaimed x ≡ true)) (λ x. (x ≡ t) × (has_unaimed x ≡ false)) → MatchClosed next IsAtAims (IsInDrain (width u))
     by_next (closed.Aim x) r = subst IsAtAims (sym r.0) (at_aims (width u) t here at (subst (λ y. has_unaimed y ≡ true) r.0 r.1))
-    by_next (closed.Drain x) r = subst (λ y. IsInDrain (width u) y) (sym r.0) (in_drain (width u) t here (omega (arith, goes.width, some)) at (subst (λ y. has_unaimed y ≡ false) r.0 r.1))
+    by_next (closed.Drain x) r = subst (λ y. IsInDrain (width u) y) (sym r.0) (drain_begins (width u) t here (omega (arith, goes.width, some)) at (subst (λ y. has_unaimed y ≡ false) r.0 r.1))
 
 -- once a word is taken, none is aimed
 pub still_drains : (w u : World) (m t : Moving) → IsIn DrainPhase (width w) m → GoesOn w m u t → steps_done m.home + 1 < begins (width w) m.home EnablePhase → IsInDrain (width u) t
@@ -165,7 +167,8 @@ still_drains w u m t is goes more = record {
 
 -- ---- after the enabled set
 
--- the phase that follows in a plan begins as the looks of a leave would, and has steps
+-- the phase that follows in a plan begins where that of the looks does, which has no steps in an
+-- arrival and in a shift
 after_begins : (words : ℕ) (there : Home) → (begins words there EnablePhase ≤ steps_done there) × (steps_done there < begins words there LookPhase)
     → (begins words there (after_enable there) ≡ begins words there LookPhase) × (begins words there LookPhase < begins words there (following (after_enable there)))
 after_begins words (Leaving from at) is = (refl, omega (arith, is.0, is.1))
@@ -187,43 +190,30 @@ unaimed there is l s t more seen same known = ap has_unaimed (same ∙ sym seen)
 
 -- ---- past the first phase
 
--- no phase after the first begins before that of the G-stage record
-record Late (words : ℕ) (there : Home) : Type 0 where
-  drain : begins words there ClosingPhase ≤ begins words there DrainPhase
-  enable : begins words there ClosingPhase ≤ begins words there EnablePhase
-  look : begins words there ClosingPhase ≤ begins words there LookPhase
-  last : begins words there ClosingPhase ≤ begins words there LastPhase
-
-late : (words : ℕ) (there : Home) → Late words there
-late words (Leaving from at) = record { drain = omega arith; enable = omega arith; look = omega arith; last = omega arith }
-late words (Arriving to at) = record { drain = omega arith; enable = omega arith; look = omega arith; last = omega arith }
-late words (Shifting from to at) = record { drain = omega arith; enable = omega arith; look = omega arith; last = omega arith }
-late words there = record { drain = omega arith; enable = omega arith; look = omega arith; last = omega arith }
-
--- so stores in flight land in the first phase alone
-no_fence : (phase : Phase) (words : ℕ) (m : Moving) → phase ≢ FirstPhase → IsStepOf (Some phase) words m → is_at_fence m.home ≡ false
+-- no store in flight lands there (AllDone has no steps)
+no_fence : (phase : Phase) (words : ℕ) (m : Moving) → phase ≢ FirstPhase → NextStepIsOf (Some phase) words m → is_at_fence m.home ≡ false
 no_fence FirstPhase words m other is = absurd (other refl)
 no_fence ClosingPhase words m other is = past_fence words m.home is.0
-no_fence DrainPhase words m other is = past_fence words m.home (omega (arith, is.phase.0, (late words m.home).drain))
-no_fence EnablePhase words m other is = past_fence words m.home (omega (arith, is.0, (late words m.home).enable))
-no_fence LookPhase words m other is = past_fence words m.home (omega (arith, is.0, (late words m.home).look))
-no_fence LastPhase words m other is = past_fence words m.home (omega (arith, is.0, (late words m.home).last))
+no_fence DrainPhase words m other is = let mid = middle words m.home (moves_in DrainPhase words m.home is.phase) in past_fence words m.home (omega (arith, is.phase.0, mid.drain))
+no_fence EnablePhase words m other is = let mid = middle words m.home (moves_in EnablePhase words m.home is) in past_fence words m.home (omega (arith, is.0, mid.enable))
+no_fence LookPhase words m other is = let mid = middle words m.home (moves_in LookPhase words m.home is) in past_fence words m.home (omega (arith, is.0, mid.looks))
+no_fence LastPhase words m other is = let mid = middle words m.home (moves_in LastPhase words m.home is) in past_fence words m.home (omega (arith, is.0, mid.looks, looks_before_last words m.home))
 no_fence phase words m other is = absurd (omega (arith, is.0, is.1))
 
 -- ---- what a step makes
 
 module _ (w u : World) where
-  lands_none : (phase : Phase) (m : Moving) (made : World → Type 0) → phase ≢ FirstPhase → IsStepOf (Some phase) (width w) m → made w → OnceLanded w m made
+  lands_none : (phase : Phase) (m : Moving) (made : World → Type 0) → phase ≢ FirstPhase → NextStepIsOf (Some phase) (width w) m → made w → OnceLanded w m made
   lands_none phase m made other is = none_lands w m made (no_fence phase (width w) m other is)
 
-  steps_then : (phase : Option Phase) (m : Moving) (next : Next) → IsStepOf phase (width w) m → StepsByPhase phase w m u next → StepsTo (aim_if (is_none phase) m) w m u next
-  steps_then None m next is goes = goes
-  steps_then (Some FirstPhase) m next is goes = goes
-  steps_then (Some phase) m next is goes = lands_none phase m (λ landed. Advances landed m u next) (λ e. cc) is goes
+  step_to : (phase : Option Phase) (m : Moving) (next : Next) → NextStepIsOf phase (width w) m → StepsByPhase phase w m u next → StepsTo (aim_if (is_none phase) m) w m u next
+  step_to None m next is goes = goes
+  step_to (Some FirstPhase) m next is goes = goes
+  step_to (Some phase) m next is goes = lands_none phase m (λ landed. Advances landed m u next) (λ e. cc) is goes
 
-  pub steps_by_phase : (plan : Plan) (next : Next) → IsInPhase (width w) plan → StepsByPhase (phase_of plan) w (moving_of plan) u next
+  pub steps_to : (plan : Plan) (next : Next) → IsInPhase (width w) plan → StepsByPhase (phase_of plan) w (moving_of plan) u next
       → StepsTo (aim_if (is_in_aim plan) (moving_of plan)) w (moving_of plan) u next
-  steps_by_phase plan next = steps_then (phase_of plan) (moving_of plan) next
+  steps_to plan next = step_to (phase_of plan) (moving_of plan) next
 
 -- ---- a step in place
 
@@ -246,15 +236,15 @@ module _ (w u : World) (plan later : Plan) (words : ℕ) (value : words ≡ widt
   )
 
   -- and none was
-  stayed : (phase : Option Phase) → phase_of plan ≡ phase → (u ≡ w) → t ≡ m → EndsPhase phase (width w) m → StepsInPlace false w plan u later
-  stayed phase seen world moved ends = (world, still moved, subst (λ p. EndsPhase p (width w) m) (sym seen) ends)
+  stayed : (phase : Option Phase) → phase_of plan ≡ phase → (u ≡ w) → t ≡ m → EndsPhaseOrAims phase (width w) m → StepsInPlace false w plan u later
+  stayed phase seen world moved ends = (world, still moved, subst (λ p. EndsPhaseOrAims p (width w) m) (sym seen) ends)
 
   by_phase : (phase : Option Phase) → phase_of plan ≡ phase → (done : Bool) → InPlaceByPhase phase done w m u t → StepsInPlace done w plan u later
-  by_phase None seen done goes = subst (λ b. StepsInPlace b w plan u later) (sym goes.0) (stayed None seen goes.1 goes.2 (subst (λ p. IsStepOf p (width w) m) seen before))
+  by_phase None seen done goes = subst (λ b. StepsInPlace b w plan u later) (sym goes.0) (stayed None seen goes.1 goes.2 (subst (λ p. NextStepIsOf p (width w) m) seen before))
   by_phase (Some FirstPhase) seen true goes = made (ap is_none seen) goes
   by_phase (Some FirstPhase) seen false goes = stayed _ seen goes.0 goes.1 goes.2
   by_phase (Some phase) seen true goes =
-      made (ap is_none seen) (lands_none w u phase m (λ landed. GoesOn landed m u t) (λ e. cc) (subst (λ p. IsStepOf p (width w) m) seen before) goes)
+      made (ap is_none seen) (lands_none w u phase m (λ landed. GoesOn landed m u t) (λ e. cc) (subst (λ p. NextStepIsOf p (width w) m) seen before) goes)
   by_phase (Some phase) seen false goes = stayed _ seen goes.0 goes.1 goes.2
 
   pub steps_in_place : (done : Bool) → InPlaceByPhase (phase_of plan) done w m u t → StepsInPlace done w plan u later
@@ -274,7 +264,7 @@ enables_zero words (Arriving to at) moves e = eq-eqb _ _ e
 enables_zero words (Shifting from to at) moves e = eq-eqb _ _ e
 enables_zero words there moves e = absurd (cc)
 
--- The next access carries a word of a set, in the phase that began with step `start`.
+-- the next access carries a word of a set, in the phase that began with step `start`
 pub record Carries (words start : ℕ) (l : CarrierState) : Type 0 where
   pub first : start ≤ l.steps
   pub word : (l.steps - start) / 2 < words
@@ -282,7 +272,7 @@ pub record Carries (words start : ℕ) (l : CarrierState) : Type 0 where
   pub more : l.steps < leave_steps FILE_WORDS
 
 module _ (there : Progress → Home) (is : IsMove there) (w : World) (l : CarrierState) (s : Moving) (seen : moving there l ≡ s) (fits : MoveFits w s) (moves : is_moving s.home ≡ true) (closing : ℕ)
-    (few : closing ≤ 4) (begun : closing ≡ begins (width w) s.home ClosingPhase) (narrow : width w ≤ FILE_WORDS) where
+    (few : closing ≤ leave_step 0 Map) (begun : closing ≡ begins (width w) s.home ClosingPhase) (narrow : width w ≤ FILE_WORDS) where
   pub carries_pending : IsIn DrainPhase (width w) s → Carries (width w) (closing + 2) l
   carries_pending phase =
       let mid = middle (width w) s.home moves in

@@ -14,6 +14,8 @@ use Rattle.aia_moving.specs.Targets.{Aim, aim_of, next_aim, one_aimed}
 use Rattle.aia_moving.specs.Landings.{OnceLanded}
 use Rattle.aia_moving.specs.Turns.{IsIn, IsAtAims, IsInDrain, GoesOn, EndsAs}
 
+-- ---- a plan and its phase
+
 -- The move.
 abbrev pub moving_of : Plan → Moving
 moving_of (LeaveFirst m) = m
@@ -36,7 +38,7 @@ moving_of (ShiftDrain m) = m
 moving_of (ShiftEnable m) = m
 moving_of (ShiftLast m) = m
 
--- Which phase it is in, of those whose steps are accesses: in the phase of aims none of these.
+-- The phase that it is in, of those whose steps are accesses; None: it is in the phase of aims.
 abbrev pub phase_of : Plan → Option Phase
 phase_of (LeaveFirst m) = Some FirstPhase
 phase_of (LeaveClosing m) = Some ClosingPhase
@@ -62,23 +64,25 @@ phase_of (ShiftLast m) = Some LastPhase
 abbrev pub is_in_aim : Plan → Bool
 is_in_aim plan = is_none (phase_of plan)
 
--- The next step of a move is a step of this phase, or aims where there is none, in files of so many
--- words.
-abbrev pub IsStepOf : Option Phase → ℕ → Moving → Type 0
-IsStepOf None words m = IsAtAims m
-IsStepOf (Some DrainPhase) words m = IsInDrain words m
-IsStepOf (Some phase) words m = IsIn phase words m
+-- The next step of a move, of files of so many words, is a step of this phase; None: it aims. The
+-- pending set is carried once all passed sources are aimed.
+abbrev pub NextStepIsOf : Option Phase → ℕ → Moving → Type 0
+NextStepIsOf None words m = IsAtAims m
+NextStepIsOf (Some DrainPhase) words m = IsInDrain words m
+NextStepIsOf (Some phase) words m = IsIn phase words m
 
--- The next step of a plan is a step of the phase that it is in.
+-- The next step of a plan, of files of so many words, is a step of the phase that it is in.
 abbrev pub IsInPhase : ℕ → Plan → Type 0
-IsInPhase words plan = IsStepOf (phase_of plan) words (moving_of plan)
+IsInPhase words plan = NextStepIsOf (phase_of plan) words (moving_of plan)
+
+-- ---- a step
 
 -- What is said of a plan that goes on, and of what one that is finished gives back.
 abbrev pub MatchNext : Next → (Plan → Type 0) → (Outcome → Type 0) → Type 0
 MatchNext (Again p) again finished = again p
 MatchNext (Finished o) again finished = finished o
 
--- A passed source is aimed: the world stays, and of the move all but how many are.
+-- A passed source is aimed: the world stays, and of the move all but how many are aimed.
 pub record GoesAiming (w : World) (m : Moving) (u : World) (t : Moving) : Type 0 where
   pub world : u ≡ w
   pub moved : t ≡ one_aimed m
@@ -93,7 +97,7 @@ abbrev pub StepsTo : Option Aim → World → Moving → World → Next → Type
 StepsTo None w m u next = OnceLanded w m (λ landed. Advances landed m u next)
 StepsTo (Some aim) w m u next = MatchNext next (λ p. GoesAiming w m u (moving_of p)) (λ o. ⊥)
 
--- The same by the phase that the plan is in: stores in flight land in the first phase alone.
+-- The same by the phase of the step; None: it aims. Stores in flight land in the first phase alone.
 abbrev pub StepsByPhase : Option Phase → World → Moving → World → Next → Type 0
 StepsByPhase None w m u next = StepsTo (Some (aim_of m)) w m u next
 StepsByPhase (Some FirstPhase) w m u next = StepsTo None w m u next
@@ -114,9 +118,10 @@ GoesInPlace phase false w m u t = (u ≡ w) × (t ≡ m) × IsLastOf phase (widt
 -- The same of the first phase, where stores in flight may land before the step.
 abbrev pub LandsInPlace : Bool → World → Moving → World → Moving → Type 0
 LandsInPlace true w m u t = OnceLanded w m (λ landed. GoesOn landed m u t)
-LandsInPlace false w m u t = (u ≡ w) × (t ≡ m) × IsLastOf FirstPhase (width w) m
+LandsInPlace false w m u t = GoesInPlace FirstPhase false w m u t
 
--- The same by the phase that the plan is in: a step that aims is not made in place.
+-- Whether a step was made in place, by the phase of the next step; None: it aims, and is not made
+-- in place.
 abbrev pub InPlaceByPhase : Option Phase → Bool → World → Moving → World → Moving → Type 0
 InPlaceByPhase None made w m u t = (made ≡ false) × (u ≡ w) × (t ≡ m)
 InPlaceByPhase (Some FirstPhase) made w m u t = LandsInPlace made w m u t
@@ -124,13 +129,13 @@ InPlaceByPhase (Some phase) made w m u t = GoesInPlace phase made w m u t
 
 -- The next step of a move is the last one of this phase; where there is none, it aims a passed
 -- source.
-abbrev pub EndsPhase : Option Phase → ℕ → Moving → Type 0
-EndsPhase None words m = IsAtAims m
-EndsPhase (Some phase) words m = IsLastOf phase words m
+abbrev pub EndsPhaseOrAims : Option Phase → ℕ → Moving → Type 0
+EndsPhaseOrAims None words m = IsAtAims m
+EndsPhaseOrAims (Some phase) words m = IsLastOf phase words m
 
 -- Whether a step of a plan was made in place. If so, it was the next one, an access, after which
 -- the plan is in the same phase, and the one after it can be made; if not, nothing is changed, and
--- the next step aims or is the last of its phase.
+-- the next step aims or is the last one of its phase.
 abbrev pub StepsInPlace : Bool → World → Plan → World → Plan → Type 0
 StepsInPlace true w plan u later = (next_aim (moving_of plan) ≡ None)
     × StepsTo None w (moving_of plan) u (Again later)
@@ -138,4 +143,4 @@ StepsInPlace true w plan u later = (next_aim (moving_of plan) ≡ None)
     × IsInPhase (width u) later
     × (phase_of later ≡ phase_of plan)
 StepsInPlace false w plan u later = (u ≡ w) × (later ≡ plan)
-    × EndsPhase (phase_of plan) (width w) (moving_of plan)
+    × EndsPhaseOrAims (phase_of plan) (width w) (moving_of plan)

@@ -6,7 +6,7 @@ pub struct First;
 #[derive(Drop)]
 pub struct Closing;
 
-/// The phase of the passed sources: each is aimed at the new place.
+/// The phase of aims: each passed source is aimed at the new place.
 #[derive(Drop)]
 pub struct Aim;
 

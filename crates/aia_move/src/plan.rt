@@ -8,7 +8,7 @@ ghost use Rattle.aia_world.specs.Changes.{spot_of};
 ghost use Rattle.aia_moving.specs.Move.{IsWho, MoveFits, width};
 ghost use Rattle.aia_moving.specs.Targets.{ArePasses, AimsAs, aim_if, next_aim};
 ghost use Rattle.aia_moving.specs.Turns.{LeavesEmpty};
-ghost use Rattle.aia_move.specs.Plan.{moving_of, is_in_aim, IsInPhase, MatchNext, StepsTo, StepsByPhase, StepsInPlace, InPlaceByPhase, phase_of};
+ghost use Rattle.aia_move.specs.Plan.{moving_of, phase_of, is_in_aim, IsInPhase, MatchNext, StepsTo, StepsByPhase, StepsInPlace, InPlaceByPhase};
 
 use crate::phase::{Aim, Closing, Drain, Enable, First, Last, Look};
 use crate::{Arrive, Closed, KeptNumbers, Leave, Outcome, Shift, Targets, Turn, Who};
@@ -48,7 +48,7 @@ pub enum Next {
     Finished(Outcome),
 }
 
-/// The plan after a step of one phase: it stays there, or goes on to the next.
+/// The plan after a step of one phase: the plan stays there, or goes on to the next.
 macro_rules! again {
     ($turn:expr, $stay:ident, $on:ident) => {
         match $turn {
@@ -58,8 +58,8 @@ macro_rules! again {
     };
 }
 
-/// The plan after a step of the phase of the G-stage record: it stays there, goes on to the aims,
-/// or to the pending set.
+/// The plan after a step of the phase of the G-stage record: the plan stays there, goes on to the
+/// aims, or to the pending set.
 macro_rules! close {
     ($turn:expr, $stay:ident, $aim:ident, $drain:ident) => {
         match $turn {
@@ -70,7 +70,7 @@ macro_rules! close {
     };
 }
 
-/// What a step of the last phase makes: it stays there, or the move is at its end.
+/// What a step of the last phase makes: the plan stays there, or the move is at its end.
 macro_rules! finish {
     ($turn:expr, $stay:ident) => {
         match $turn {
@@ -81,8 +81,8 @@ macro_rules! finish {
 }
 
 impl Plan {
-    /// Begins to move a virtual hart from a guest file to memory. Its steps can be made where both
-    /// are there.
+    /// Begins to move a virtual hart from a guest file to memory. Its steps can be made where the
+    /// virtual hart and the file are there.
     #[tactic(auto, using(aia_moving::proofs::WhoLemmas::leave_fits))]
     pub fn leave(file: FileLease, who: Who) -> Plan
         ensures begins { moving_of result ≡ record {
@@ -98,7 +98,7 @@ impl Plan {
     }
 
     /// Begins to move a virtual hart from memory to a guest file, with the numbers that were kept.
-    /// Its steps can be made where both are there.
+    /// Its steps can be made where the virtual hart and the file are there.
     #[tactic(auto, using(aia_moving::proofs::WhoLemmas::arrive_fits))]
     pub fn arrive(file: FileLease, who: Who, kept: KeptNumbers) -> Plan
         ensures begins { moving_of result ≡ record {
@@ -119,7 +119,7 @@ impl Plan {
     }
 
     /// Begins to move a virtual hart from guest file `old` to guest file `new`. Its steps can be
-    /// made where all three are there.
+    /// made where the virtual hart and both files are there.
     #[tactic(auto, using(aia_moving::proofs::WhoLemmas::shift_fits))]
     pub fn shift(old: FileLease, new: FileLease, who: Who) -> Plan
         ensures begins { moving_of result ≡ record {
@@ -153,54 +153,23 @@ impl Plan {
             (λ o. LeavesEmpty fabric.old (moving_of self) fabric.new) }
     {
         let _words = fabric.words();
-        self.next(fabric, targets)
+        self.step_by_phase(fabric, targets)
     }
 
-    /// Makes the next step of the plan in place, where it is an access after which the move is in
-    /// the same phase, and tells whether it made one; where it made none, nothing is changed. It is
-    /// as [`Plan::step`], and no plan is moved for it.
+    /// Makes the next step of the plan in place, where it is an access after which the plan is in
+    /// the same phase, and tells whether it made one; where it made none, nothing is changed. It
+    /// makes what [`Plan::step`] would, and the plan is not taken out and put back for it.
     pub fn step_in_place(&mut self, fabric: &mut Fabric) -> bool
         requires fits { MoveFits fabric.old (moving_of self.old) }
         requires phase { IsInPhase (width fabric.old) self.old }
         ensures { StepsInPlace result fabric.old self.old fabric.new self.new }
     {
         let _words = fabric.words();
-        self.next_in_place(fabric)
+        self.step_in_place_by_phase(fabric)
     }
 
-    /// Makes it in place, by the phase that the move is in.
-    fn next_in_place(&mut self, fabric: &mut Fabric) -> bool
-        requires fits { MoveFits fabric.old (moving_of self.old) }
-        requires phase { IsInPhase (width fabric.old) self.old }
-        ensures goes { InPlaceByPhase (phase_of self.old) result fabric.old (moving_of self.old)
-            fabric.new (moving_of self.new) }
-        ensures phase { IsInPhase (width fabric.new) self.new }
-        ensures same { phase_of self.new ≡ phase_of self.old }
-        ensures still { moving_of self.new ≡ moving_of self.old → self.new ≡ self.old }
-    {
-        match self {
-            Plan::LeaveFirst(state) => state.step_in_place(fabric),
-            Plan::LeaveClosing(state) => state.step_in_place(fabric),
-            Plan::LeaveDrain(state) => state.step_in_place(fabric),
-            Plan::LeaveEnable(state) => state.step_in_place(fabric),
-            Plan::LeaveLook(state) => state.step_in_place(fabric),
-            Plan::LeaveLast(state) => state.step_in_place(fabric),
-            Plan::ArriveFirst(state) => state.step_in_place(fabric),
-            Plan::ArriveClosing(state) => state.step_in_place(fabric),
-            Plan::ArriveDrain(state) => state.step_in_place(fabric),
-            Plan::ArriveEnable(state) => state.step_in_place(fabric),
-            Plan::ArriveLast(state) => state.step_in_place(fabric),
-            Plan::ShiftFirst(state) => state.step_in_place(fabric),
-            Plan::ShiftClosing(state) => state.step_in_place(fabric),
-            Plan::ShiftDrain(state) => state.step_in_place(fabric),
-            Plan::ShiftEnable(state) => state.step_in_place(fabric),
-            Plan::ShiftLast(state) => state.step_in_place(fabric),
-            Plan::LeaveAim(_) | Plan::ArriveAim(_) | Plan::ShiftAim(_) => false,
-        }
-    }
-
-    /// Makes it, by the phase that the move is in.
-    fn next<T: Targets>(self, fabric: &mut Fabric, targets: &mut T) -> Next
+    /// Makes the next step of the plan, by the phase that it is in.
+    fn step_by_phase<T: Targets>(self, fabric: &mut Fabric, targets: &mut T) -> Next
         requires fits { MoveFits fabric.old (moving_of self) }
         requires phase { IsInPhase (width fabric.old) self }
         requires harts { fabric.old.imsic.harts ≡ (T.map targets.old).harts }
@@ -237,6 +206,37 @@ impl Plan {
             Plan::ShiftDrain(state) => again!(state.step(fabric), ShiftDrain, ShiftEnable),
             Plan::ShiftEnable(state) => again!(state.step(fabric), ShiftEnable, ShiftLast),
             Plan::ShiftLast(state) => finish!(state.step(fabric), ShiftLast),
+        }
+    }
+
+    /// Makes the next step of the plan in place by its phase, and tells whether it made one.
+    fn step_in_place_by_phase(&mut self, fabric: &mut Fabric) -> bool
+        requires fits { MoveFits fabric.old (moving_of self.old) }
+        requires phase { IsInPhase (width fabric.old) self.old }
+        ensures goes { InPlaceByPhase (phase_of self.old) result fabric.old (moving_of self.old)
+            fabric.new (moving_of self.new) }
+        ensures phase { IsInPhase (width fabric.new) self.new }
+        ensures same { phase_of self.new ≡ phase_of self.old }
+        ensures still { moving_of self.new ≡ moving_of self.old → self.new ≡ self.old }
+    {
+        match self {
+            Plan::LeaveFirst(state) => state.step_in_place(fabric),
+            Plan::LeaveClosing(state) => state.step_in_place(fabric),
+            Plan::LeaveDrain(state) => state.step_in_place(fabric),
+            Plan::LeaveEnable(state) => state.step_in_place(fabric),
+            Plan::LeaveLook(state) => state.step_in_place(fabric),
+            Plan::LeaveLast(state) => state.step_in_place(fabric),
+            Plan::ArriveFirst(state) => state.step_in_place(fabric),
+            Plan::ArriveClosing(state) => state.step_in_place(fabric),
+            Plan::ArriveDrain(state) => state.step_in_place(fabric),
+            Plan::ArriveEnable(state) => state.step_in_place(fabric),
+            Plan::ArriveLast(state) => state.step_in_place(fabric),
+            Plan::ShiftFirst(state) => state.step_in_place(fabric),
+            Plan::ShiftClosing(state) => state.step_in_place(fabric),
+            Plan::ShiftDrain(state) => state.step_in_place(fabric),
+            Plan::ShiftEnable(state) => state.step_in_place(fabric),
+            Plan::ShiftLast(state) => state.step_in_place(fabric),
+            Plan::LeaveAim(_) | Plan::ArriveAim(_) | Plan::ShiftAim(_) => false,
         }
     }
 }

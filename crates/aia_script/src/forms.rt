@@ -1,8 +1,8 @@
-//! The forms of lines, as one table: the keyword, the kinds of the fields in their order, the line.
-//! Lines are read and printed by its rows.
+//! The forms of lines, as a table in parts: the keyword, the kinds of the fields in their order, the
+//! line. Lines are read and printed by its rows.
 //!
-//! Those that end with a CSR instruction, a part of an image or a move, and those that go on with a
-//! word of their own, have functions beside it.
+//! Those that end with a CSR instruction or a part of an image, `begin`, and those that have a word
+//! of their own behind a hart, have functions beside it.
 
 ghost use Rattle.std.specs.Prelude.{◌≡◌, ◌≤◌, [], ◌∷◌, length, map};
 ghost use Rattle.std.specs.List.{join_with_byte, AllByRecursion};
@@ -10,7 +10,7 @@ ghost use Rattle.aia_model.specs.AnswerText.{field_text};
 ghost use Rattle.aia_model.specs.Grammar.{fields};
 ghost use Rattle.aia_model.specs.Grammar.Field.{Keyword, Of};
 ghost use Rattle.aia_model.specs.Grammar.WordKind.{Decimal};
-ghost use Rattle.aia_model.specs.Forms.{instruction, access_values, part_fields, part, part_shape, machine_csr, host, guest, begin, load_part, forms_from_settings, forms_from_virtual_harts, forms_from_stores, Spells, IsListed};
+ghost use Rattle.aia_model.specs.Forms.{instruction, access_values, part_fields, part, part_shape, machine_csr, host, guest, begin, load_part, forms_from_machine, forms_from_majors, forms_from_virtual_harts, forms_from_stores, Spells, IsListed};
 ghost use Rattle.aia_model.specs.Printing.{line_text, FitsField, IsPrintable};
 ghost use Rattle.aia_model.specs.Reading.{line_by, line_among, line_after, line_at, read, reading};
 ghost use Rattle.aia_model.specs.declared.limits.TheConstants.{LINE_BYTES};
@@ -27,8 +27,8 @@ use aia_model::{Line, Parsed, Part, Want};
 use aia_regs::{Csr, Level, Op};
 use arrayvec::ArrayVec;
 
-/// Hands the rows of loads, stores and wires, after those that it is given, to a macro with its
-/// arguments.
+/// Hands the rows of loads and stores of the host, of wires and of stores of the devices of VMs,
+/// after those that it is given, to a macro with its arguments.
 macro_rules! stores {
     (($take:ident $args:tt) $($rows:tt)*) => {
         $take! { $args $($rows)*
@@ -42,7 +42,7 @@ macro_rules! stores {
     };
 }
 
-/// Hands the rows of a virtual hart on, likewise.
+/// Hands on the rows of a virtual hart, likewise.
 macro_rules! virtual_harts {
     (($take:ident $args:tt) $($rows:tt)*) => {
         $take! { $args $($rows)*
@@ -50,12 +50,13 @@ macro_rules! virtual_harts {
             b"refetch" [vm: VmNumber, number: Decimal] (Line::Refetch { vm, number })
             b"enter" [vm: VmNumber, number: Decimal] (Line::Enter { vm, number })
             b"exit" [vm: VmNumber, number: Decimal] (Line::Exit { vm, number })
+            b"save" [vm: VmNumber, number: Decimal, k: Decimal] (Line::Save { vm, number, k })
         }
     };
 }
 
-/// Hands the rows of what is made, set and shown on, likewise.
-macro_rules! settings {
+/// Hands on the rows of the majors of a virtual hart, likewise.
+macro_rules! majors {
     (($take:ident $args:tt) $($rows:tt)*) => {
         $take! { $args $($rows)*
             b"inject" [vm: VmNumber, number: Decimal, bit: Decimal, level: Bit]
@@ -64,7 +65,14 @@ macro_rules! settings {
                 (Line::Hvictl { vm, number, value })
             b"hviprio" [vm: VmNumber, number: Decimal, value: Hex]
                 (Line::Hviprio { vm, number, value })
-            b"save" [vm: VmNumber, number: Decimal, k: Decimal] (Line::Save { vm, number, k })
+        }
+    };
+}
+
+/// Hands on the rows of what is made of a machine and what it shows, likewise.
+macro_rules! machine {
+    (($take:ident $args:tt) $($rows:tt)*) => {
+        $take! { $args $($rows)*
             b"pins" [hart: Decimal] (Line::Pins { hart })
             b"entry" [w0: Hex, w1: Hex] (Line::Entry { w0, w1 })
             b"pass" [source: Decimal, vm: VmNumber, number: Decimal, identity: Decimal]
@@ -177,16 +185,28 @@ fn load_part_at(words: &mut Words<'_>) -> Option<Line>
     load_part_of(vm, number, words)
 }
 
-/// Reads the line that a text spells, of what is made, set or shown; `None` where it spells none.
+/// Reads the line that a text spells, of what is made of a machine or what it shows; `None` where
+/// it spells none.
 #[inline(always)]
-fn setting_line(text: &[u8]) -> Option<Line>
-    ensures { result ≡ line_among forms_from_settings (first_word text.now) (after_first text.now) }
+fn machine_line(text: &[u8]) -> Option<Line>
+    ensures { result ≡ line_among forms_from_machine (first_word text.now) (after_first text.now) }
 {
-    settings!((read_by_row(text)));
+    machine!((read_by_row(text)));
     None
 }
 
-/// Reads the line that a text spells, of a virtual hart or as above; `None` where it spells none.
+/// Reads the line that a text spells, of the majors of a virtual hart or as above; `None` where it
+/// spells none.
+#[inline(always)]
+fn major_line(text: &[u8]) -> Option<Line>
+    ensures { result ≡ line_among forms_from_majors (first_word text.now) (after_first text.now) }
+{
+    majors!((read_by_row(text)));
+    machine_line(text)
+}
+
+/// Reads the line that a text spells, of a virtual hart, of its move or as above; `None` where it
+/// spells none.
 #[inline(always)]
 fn virtual_hart_line(text: &[u8]) -> Option<Line>
     ensures { result
@@ -194,10 +214,10 @@ fn virtual_hart_line(text: &[u8]) -> Option<Line>
 {
     moves!(read_by_row (text) Move);
     virtual_harts!((read_by_row(text)));
-    setting_line(text)
+    major_line(text)
 }
 
-/// Reads the line that a text spells, of a load, a store or a wire, or as above; `None` where it
+/// Reads the line that a text spells, of a load or a store, of a wire or as above; `None` where it
 /// spells none.
 #[inline(always)]
 fn store_line(text: &[u8]) -> Option<Line>
@@ -343,7 +363,7 @@ fn push_line(line: &Line, out: &mut ArrayVec<u8, LINE_BYTES>)
     ensures text { out.new.items ≡ line_text line.now }
     ensures range { IsPrintable line.now }
 {
-    stores!((virtual_harts (settings (print_by_row (*line, out,
+    stores!((virtual_harts (majors (machine (print_by_row (*line, out,
         Line::MachineCsr { hart, csr, op } => push_access(out, b"m", hart, Level::Machine, csr, op),
         Line::HostCsr { hart, csr, op } => push_access(out, b"h", hart, Level::Host, csr, op),
         Line::Hgeip { hart } => push_hgeip(out, hart),
@@ -352,7 +372,7 @@ fn push_line(line: &Line, out: &mut ArrayVec<u8, LINE_BYTES>)
         Line::Move { vm, number, want } => push_move(out, vm, number, want),
         Line::Begin { vm, number, want } => push_beginning(out, vm, number, want),
         Line::LoadPart { vm, number, part } => push_load(out, vm, number, part),
-    )))))
+    ))))))
 }
 
 /// Appends the printing spelling of a line to `out`, which is empty. The line's CSR is one that

@@ -13,7 +13,7 @@ use Rattle.aia_moving.specs.Move.{Moving, width, MoveFits}
 use Rattle.aia_moving.specs.Targets.{Aim, aims, aim_if, next_aim}
 use Rattle.aia_move.specs.declared.plan.Plan.{Plan}
 use Rattle.aia_move.specs.declared.plan.Next.TheVariants.{Again}
-use Rattle.aia_move.specs.Plan.{moving_of, phase_of, IsInPhase, StepsTo, EndsPhase}
+use Rattle.aia_move.specs.Plan.{moving_of, phase_of, IsInPhase, StepsTo, EndsPhaseOrAims}
 use Rattle.aia_model.specs.Event.{History}
 use Rattle.aia_model.specs.Event.Event.{Stepped}
 use Rattle.aia_model.specs.Vms.{has_vcpu}
@@ -88,7 +88,7 @@ module _ (x y : CoreState) (who : Found) (new : Stay) (plan : Plan) (was : stays
       )
   by_plan false c =
       let made = made_of false c in
-      let same : (y.world ≡ x.world) × (made.0 ≡ plan) × EndsPhase (phase_of plan) (width x.world) (moving_of plan) = made.2 in
+      let same : (y.world ≡ x.world) × (made.0 ≡ plan) × EndsPhaseOrAims (phase_of plan) (width x.world) (moving_of plan) = made.2 in
       same_core x y same.0 c.leases (c.back ∙ ap (λ s. set x.vcpus who.slot (at_stay (get_or x.vcpus who.slot no_record) s)) (made.1 ∙ ap (λ (p : Plan). stays.Moving p) same.1) ∙ same_records) c.selects c.passes
 
 pub made_in_place : (x y : CoreState) (who : Found) (new : Stay) (made : Bool) → InPlaceCalls x y who new made → MoveInPlace x y (vcpu who.vm who.number) made

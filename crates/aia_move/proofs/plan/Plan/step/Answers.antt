@@ -3,7 +3,7 @@ use Rattle.aia_moving.specs.Move.{width}
 use Rattle.aia_moving.specs.Targets.{AimsAs, aim_if}
 use Rattle.aia_move.specs.Plan.{moving_of, is_in_aim, StepsTo}
 use Rattle.aia_move.proofs.MoveKept.{gives_empty}
-use Rattle.aia_move.proofs.PhaseLemmas.{phase_aims, steps_by_phase}
+use Rattle.aia_move.proofs.PhaseLemmas.{phase_aims, steps_to}
 use Rattle.aia_move.proofs.plan.Plan.step.Goals as goal
 
 pub returns-clause-goes : goal.returns-clause-goes
@@ -11,17 +11,17 @@ returns-clause-goes g c =
     let w = c.args.fabric.now in
     let m = moving_of c.args.self in
     let aims = phase_aims (width w) c.args.self (omega (arith, c.words-words.ensures.value, c.words-words.ensures.some)) c.requires.phase in
-    subst (λ b. StepsTo (aim_if b m) w m c.next.new.fabric c.next.result) (sym aims) (steps_by_phase w c.next.new.fabric c.args.self c.next.result c.requires.phase c.next.ensures.goes)
+    subst (λ b. StepsTo (aim_if b m) w m c.step_by_phase.new.fabric c.step_by_phase.result) (sym aims) (steps_to w c.step_by_phase.new.fabric c.args.self c.step_by_phase.result c.requires.phase c.step_by_phase.ensures.goes)
 
 pub returns-clause-aims : goal.returns-clause-aims
 returns-clause-aims g c =
     let w = c.args.fabric.now in
     let m = moving_of c.args.self in
     let aims = phase_aims (width w) c.args.self (omega (arith, c.words-words.ensures.value, c.words-words.ensures.some)) c.requires.phase in
-    subst (λ b. AimsAs g.T.Targets.aimed (aim_if b m) c.args.targets.now c.next.new.targets) (sym aims) c.next.ensures.aims
+    subst (λ b. AimsAs g.T.Targets.aimed (aim_if b m) c.args.targets.now c.step_by_phase.new.targets) (sym aims) c.step_by_phase.ensures.aims
 
 pub returns-clause-empty : goal.returns-clause-empty
 returns-clause-empty g c =
     let m = moving_of c.args.self in
-    λ apart. gives_empty (aim_if (is_in_aim c.args.self) m) c.args.fabric.now _ m c.next.result c.words-words.ensures.whole c.requires.fits apart
-    (steps_by_phase c.args.fabric.now c.next.new.fabric c.args.self c.next.result c.requires.phase c.next.ensures.goes)
+    λ apart. gives_empty (aim_if (is_in_aim c.args.self) m) c.args.fabric.now _ m c.step_by_phase.result c.words-words.ensures.whole c.requires.fits apart
+    (steps_to c.args.fabric.now c.step_by_phase.new.fabric c.args.self c.step_by_phase.result c.requires.phase c.step_by_phase.ensures.goes)
