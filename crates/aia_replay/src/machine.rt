@@ -160,41 +160,6 @@ impl Machine {
         }
     }
 
-    /// Makes the next VM, by the core.
-    fn vm(&mut self, vcpus: u64, mask: u64, hart: u64) -> Answer
-        ensures { MachineTakes self.old self.new (Line.Vm vcpus mask hart) result }
-    {
-        okay(self.core.vm(vcpus, mask, hart))
-    }
-
-    /// Takes a store of a device of a VM, by the core.
-    fn msi(&mut self, vm: u64, addr: u64, value: u32) -> Answer
-        ensures { MachineTakes self.old self.new (Line.Msi vm addr value) result }
-    {
-        okay(self.core.msi(vm, addr, value))
-    }
-
-    /// Sends a store of a device of a VM, by the core.
-    fn send(&mut self, vm: u64, addr: u64, value: u32) -> Answer
-        ensures { MachineTakes self.old self.new (Line.Send vm addr value) result }
-    {
-        okay(self.core.send(vm, addr, value))
-    }
-
-    /// Lands a store in flight, by the core.
-    fn land(&mut self, vm: u64, k: u64) -> Answer
-        ensures { MachineTakes self.old self.new (Line.Land vm k) result }
-    {
-        okay(self.core.land(vm, k))
-    }
-
-    /// Has the entry of a virtual hart read again, by the core.
-    fn refetch(&mut self, vm: u64, number: u64) -> Answer
-        ensures { MachineTakes self.old self.new (Line.Refetch vm number) result }
-    {
-        okay(self.core.refetch(vm, number))
-    }
-
     /// Passes a wired source to a virtual hart, by the core; `Range` where the source isn't there.
     fn pass(&mut self, source: u64, vm: u64, number: u64, identity: u64) -> Answer
         requires { StandsForSome self.old }
@@ -209,40 +174,12 @@ impl Machine {
         )
     }
 
-    /// Tells which guest files of a hart signal.
-    fn hgeip(&self, hart: u64) -> Answer
-        ensures { MachineTakes self.now self.now (Line.Hgeip hart) result }
-    {
-        wide(self.core.hgeip(hart))
-    }
-
-    /// Does a CSR instruction of a virtual hart.
-    fn guest(&mut self, vm: u64, number: u64, csr: Csr, op: Op) -> Answer
-        ensures { MachineTakes self.old self.new (Line.GuestCsr vm number csr op) result }
-    {
-        wide(self.core.guest(vm, number, csr, op))
-    }
-
-    /// Takes a store of a virtual hart for one of its VM, by the core.
-    fn ipi(&mut self, vm: u64, number: u64, to: u64, value: u32) -> Answer
-        ensures { MachineTakes self.old self.new (Line.Ipi vm number to value) result }
-    {
-        okay(self.core.ipi(vm, number, to, value))
-    }
-
     /// Moves a virtual hart, by all steps of its move.
     fn whole_move(&mut self, vm: u64, number: u64, want: Want) -> Answer
         requires { StandsForSome self.old }
         ensures { MachineTakes self.old self.new (Line.Move vm number want) result }
     {
         okay(self.core.whole(vm, number, want, &mut self.wires))
-    }
-
-    /// Begins to move a virtual hart.
-    fn begin_move(&mut self, vm: u64, number: u64, want: Want) -> Answer
-        ensures { MachineTakes self.old self.new (Line.Begin vm number want) result }
-    {
-        okay(self.core.begin(vm, number, want))
     }
 
     /// Does the next step of the move of a virtual hart.
@@ -255,55 +192,6 @@ impl Machine {
             Ok(false) => Answer::Moving,
             Err(word) => Answer::Refused(word),
         }
-    }
-
-    /// Has a virtual hart run from memory, by the core.
-    fn enter(&mut self, vm: u64, number: u64) -> Answer
-        ensures { MachineTakes self.old self.new (Line.Enter vm number) result }
-    {
-        okay(self.core.enter(vm, number))
-    }
-
-    /// Has a virtual hart cease to run from memory, by the core.
-    fn exit(&mut self, vm: u64, number: u64) -> Answer
-        ensures { MachineTakes self.old self.new (Line.Exit vm number) result }
-    {
-        okay(self.core.exit(vm, number))
-    }
-
-    /// Gives a part of the image of a virtual hart, by the core.
-    fn save(&self, vm: u64, number: u64, k: u64) -> Answer
-        ensures { MachineTakes self.now self.now (Line.Save vm number k) result }
-    {
-        part(self.core.save(vm, number, k))
-    }
-
-    /// Loads a part of an image into a virtual hart, by the core.
-    fn load_part(&mut self, vm: u64, number: u64, part: &Part) -> Answer
-        ensures { MachineTakes self.old self.new (Line.LoadPart vm number part.now) result }
-    {
-        okay(self.core.load_part(vm, number, part))
-    }
-
-    /// Gives a major interrupt of a virtual hart a level in `hvip`, by the core.
-    fn inject(&mut self, vm: u64, number: u64, bit: u64, level: bool) -> Answer
-        ensures { MachineTakes self.old self.new (Line.Inject vm number bit level) result }
-    {
-        okay(self.core.inject(vm, number, bit, level))
-    }
-
-    /// Writes `hvictl` of a virtual hart, by the core.
-    fn hvictl(&mut self, vm: u64, number: u64, value: u64) -> Answer
-        ensures { MachineTakes self.old self.new (Line.Hvictl vm number value) result }
-    {
-        okay(self.core.hvictl(vm, number, value))
-    }
-
-    /// Writes `hviprio1` of a virtual hart, by the core.
-    fn hviprio(&mut self, vm: u64, number: u64, value: u64) -> Answer
-        ensures { MachineTakes self.old self.new (Line.Hviprio vm number value) result }
-    {
-        okay(self.core.hviprio(vm, number, value))
     }
 
     /// Tells what an entry of an MSI page table says.
@@ -408,15 +296,6 @@ impl Machine {
         }
     }
 
-    /// Does a CSR instruction of a hart at a level of the host.
-    fn access(&mut self, level: Level, hart: u64, csr: Csr, op: Op) -> Answer
-        requires listed { IsInTable level csr }
-        requires host { IsHost level }
-        ensures { MachineTakes self.old self.new (csr_line level hart csr op) result }
-    {
-        wide(self.core.host(level, hart, csr, op))
-    }
-
     /// Tells the four signals of a hart; `Range` where the hart isn't there.
     fn pins(&self, hart: u64) -> Answer
         ensures { MachineTakes self.now self.now (Line.Pins hart) result }
@@ -430,6 +309,131 @@ impl Machine {
             ),
             Err(word) => Answer::Refused(word),
         }
+    }
+}
+
+// Lines of the core alone, which leave the APLIC as it is.
+#[tactic(auto, using(crate::proofs::MachineLemmas::core_line))]
+impl Machine {
+    /// Makes the next VM, by the core.
+    fn vm(&mut self, vcpus: u64, mask: u64, hart: u64) -> Answer
+        ensures { MachineTakes self.old self.new (Line.Vm vcpus mask hart) result }
+    {
+        okay(self.core.vm(vcpus, mask, hart))
+    }
+
+    /// Takes a store of a device of a VM, by the core.
+    fn msi(&mut self, vm: u64, addr: u64, value: u32) -> Answer
+        ensures { MachineTakes self.old self.new (Line.Msi vm addr value) result }
+    {
+        okay(self.core.msi(vm, addr, value))
+    }
+
+    /// Sends a store of a device of a VM, by the core.
+    fn send(&mut self, vm: u64, addr: u64, value: u32) -> Answer
+        ensures { MachineTakes self.old self.new (Line.Send vm addr value) result }
+    {
+        okay(self.core.send(vm, addr, value))
+    }
+
+    /// Lands a store in flight, by the core.
+    fn land(&mut self, vm: u64, k: u64) -> Answer
+        ensures { MachineTakes self.old self.new (Line.Land vm k) result }
+    {
+        okay(self.core.land(vm, k))
+    }
+
+    /// Has the entry of a virtual hart read again, by the core.
+    fn refetch(&mut self, vm: u64, number: u64) -> Answer
+        ensures { MachineTakes self.old self.new (Line.Refetch vm number) result }
+    {
+        okay(self.core.refetch(vm, number))
+    }
+
+    /// Tells which guest files of a hart signal.
+    fn hgeip(&self, hart: u64) -> Answer
+        ensures { MachineTakes self.now self.now (Line.Hgeip hart) result }
+    {
+        wide(self.core.hgeip(hart))
+    }
+
+    /// Does a CSR instruction of a virtual hart.
+    fn guest(&mut self, vm: u64, number: u64, csr: Csr, op: Op) -> Answer
+        ensures { MachineTakes self.old self.new (Line.GuestCsr vm number csr op) result }
+    {
+        wide(self.core.guest(vm, number, csr, op))
+    }
+
+    /// Takes a store of a virtual hart for one of its VM, by the core.
+    fn ipi(&mut self, vm: u64, number: u64, to: u64, value: u32) -> Answer
+        ensures { MachineTakes self.old self.new (Line.Ipi vm number to value) result }
+    {
+        okay(self.core.ipi(vm, number, to, value))
+    }
+
+    /// Begins to move a virtual hart.
+    fn begin_move(&mut self, vm: u64, number: u64, want: Want) -> Answer
+        ensures { MachineTakes self.old self.new (Line.Begin vm number want) result }
+    {
+        okay(self.core.begin(vm, number, want))
+    }
+
+    /// Has a virtual hart run from memory, by the core.
+    fn enter(&mut self, vm: u64, number: u64) -> Answer
+        ensures { MachineTakes self.old self.new (Line.Enter vm number) result }
+    {
+        okay(self.core.enter(vm, number))
+    }
+
+    /// Has a virtual hart cease to run from memory, by the core.
+    fn exit(&mut self, vm: u64, number: u64) -> Answer
+        ensures { MachineTakes self.old self.new (Line.Exit vm number) result }
+    {
+        okay(self.core.exit(vm, number))
+    }
+
+    /// Gives a part of the image of a virtual hart, by the core.
+    fn save(&self, vm: u64, number: u64, k: u64) -> Answer
+        ensures { MachineTakes self.now self.now (Line.Save vm number k) result }
+    {
+        part(self.core.save(vm, number, k))
+    }
+
+    /// Loads a part of an image into a virtual hart, by the core.
+    fn load_part(&mut self, vm: u64, number: u64, part: &Part) -> Answer
+        ensures { MachineTakes self.old self.new (Line.LoadPart vm number part.now) result }
+    {
+        okay(self.core.load_part(vm, number, part))
+    }
+
+    /// Gives a major interrupt of a virtual hart a level in `hvip`, by the core.
+    fn inject(&mut self, vm: u64, number: u64, bit: u64, level: bool) -> Answer
+        ensures { MachineTakes self.old self.new (Line.Inject vm number bit level) result }
+    {
+        okay(self.core.inject(vm, number, bit, level))
+    }
+
+    /// Writes `hvictl` of a virtual hart, by the core.
+    fn hvictl(&mut self, vm: u64, number: u64, value: u64) -> Answer
+        ensures { MachineTakes self.old self.new (Line.Hvictl vm number value) result }
+    {
+        okay(self.core.hvictl(vm, number, value))
+    }
+
+    /// Writes `hviprio1` of a virtual hart, by the core.
+    fn hviprio(&mut self, vm: u64, number: u64, value: u64) -> Answer
+        ensures { MachineTakes self.old self.new (Line.Hviprio vm number value) result }
+    {
+        okay(self.core.hviprio(vm, number, value))
+    }
+
+    /// Does a CSR instruction of a hart at a level of the host.
+    fn access(&mut self, level: Level, hart: u64, csr: Csr, op: Op) -> Answer
+        requires listed { IsInTable level csr }
+        requires host { IsHost level }
+        ensures { MachineTakes self.old self.new (csr_line level hart csr op) result }
+    {
+        wide(self.core.host(level, hart, csr, op))
     }
 }
 
