@@ -96,9 +96,9 @@ impl Core {
         requires width { IsTrue (is_greatest_identity n) }
         ensures { IfOk result (λ core. CoreBegins core harts guests n) }
     {
-        let fabric = Fabric::new(alloc, harts, guests, n)?;
-        let pool = Pool::new(alloc, harts, guests)?;
         let vcpus = Vec::with_capacity(alloc, VCPUS as usize)?;
+        let pool = Pool::new(alloc, harts, guests)?;
+        let fabric = Fabric::new(alloc, harts, guests, n)?;
         Ok(Core {
             fabric,
             pool,

@@ -96,7 +96,7 @@ impl Engine {
         let Some(machine) = Machine::of_size(alloc, harts, guests, n, sources)? else {
             return Ok(Answer::Refused(Refusal::Range));
         };
-        self.machine = Some(machine);
+        let _ = self.machine.insert(machine);
         Ok(Answer::Okay)
     }
 

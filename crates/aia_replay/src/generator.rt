@@ -23,7 +23,9 @@ pub fn summarize<K: Sink>(alloc: Global, count: u64, seed: u64, sink: &mut K) ->
         (K.faults sink.new) }
 {
     let mut engine = Engine::new();
-    summarize_by(&mut engine, alloc, count, seed, sink)
+    let status = summarize_by(&mut engine, alloc, count, seed, sink);
+    drop(engine);
+    status
 }
 
 /// Runs the script that two numbers generate by an engine with no machine, which is lent as in

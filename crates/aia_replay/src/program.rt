@@ -102,7 +102,9 @@ fn replay<S: Source, K: Sink>(alloc: Global, source: &mut S, sink: &mut K) -> St
         (S.faults source.new) (K.faults sink.old) (K.faults sink.new) }
 {
     let mut replayer = Replayer::new();
-    replay_by(&mut replayer, alloc, source, sink)
+    let status = replay_by(&mut replayer, alloc, source, sink);
+    drop(replayer);
+    status
 }
 
 /// Answers the script that the source gives, by a replayer that has read nothing. It is lent: a
