@@ -412,8 +412,19 @@ fn loses_a_peer(rt: &impl Abort, files: (FileLease, FileLease), fabric: &mut Fab
 
 #[test]
 fn refused_plans_lose_what_they_are_said_to(rt: HostRuntime) -> Result<(), Fail> {
-    loses(&rt, two_files(rt.alloc())?, &mut machine(rt.alloc(), 63)?);
-    loses_a_peer(&rt, two_files(rt.alloc())?, &mut machine(rt.alloc(), 63)?);
+    let files = two_files(rt.alloc())?;
+    let mut fabric = machine(rt.alloc(), 63)?;
+    loses(&rt, files, &mut fabric);
+    drop(fabric);
+    Ok(())
+}
+
+#[test]
+fn a_refused_plan_loses_what_a_peer_stores(rt: HostRuntime) -> Result<(), Fail> {
+    let files = two_files(rt.alloc())?;
+    let mut fabric = machine(rt.alloc(), 63)?;
+    loses_a_peer(&rt, files, &mut fabric);
+    drop(fabric);
     Ok(())
 }
 
@@ -481,9 +492,20 @@ fn loses_in_the_hand(rt: &impl Abort, files: (FileLease, FileLease), fabric: &mu
 }
 
 #[test]
-fn refused_plans_lose_by_the_entry_and_in_the_hand(rt: HostRuntime) -> Result<(), Fail> {
-    loses_by_the_entry(&rt, two_files(rt.alloc())?, &mut machine(rt.alloc(), 63)?);
-    loses_in_the_hand(&rt, two_files(rt.alloc())?, &mut machine(rt.alloc(), 127)?);
+fn refused_plans_lose_by_the_entry(rt: HostRuntime) -> Result<(), Fail> {
+    let files = two_files(rt.alloc())?;
+    let mut fabric = machine(rt.alloc(), 63)?;
+    loses_by_the_entry(&rt, files, &mut fabric);
+    drop(fabric);
+    Ok(())
+}
+
+#[test]
+fn a_refused_plan_loses_in_the_hand(rt: HostRuntime) -> Result<(), Fail> {
+    let files = two_files(rt.alloc())?;
+    let mut fabric = machine(rt.alloc(), 127)?;
+    loses_in_the_hand(&rt, files, &mut fabric);
+    drop(fabric);
     Ok(())
 }
 

@@ -47,14 +47,7 @@ impl<'a> Move<'a> {
         gap: u32,
     ) -> io::Result<bool> {
         let mut talk = Talk::new(rt.alloc());
-        say_pairs(&mut talk, &self.before)?;
-        self.say_steps(&mut talk, 0, gap)?;
-        let mut answers = between.answers.split(' ');
-        for line in between.lines.split(';') {
-            talk.say(line, answers.next().unwrap_or(""))?;
-        }
-        self.say_steps(&mut talk, gap, self.steps)?;
-        self.say_looks(&mut talk, between)?;
+        self.say_at(&mut talk, between, gap)?;
         let (name, lines) = (self.name, between.lines);
         let name = format!(in rt.alloc(); "{name}, after {gap} steps: {lines}")?;
         is_same(rt, name.as_str(), &talk.script, &talk.answers)
@@ -67,17 +60,34 @@ impl<'a> Move<'a> {
         between: Between<'a>,
     ) -> io::Result<bool> {
         let mut talk = Talk::new(rt.alloc());
-        say_pairs(&mut talk, &self.before)?;
+        self.say_everywhere(&mut talk, between)?;
+        let (name, lines) = (self.name, between.lines);
+        let name = format!(in rt.alloc(); "{name}, before each step: {lines}")?;
+        is_same(rt, name.as_str(), &talk.script, &talk.answers)
+    }
+
+    /// Puts the move at the end, with lines after so many steps.
+    fn say_at(&self, talk: &mut Talk, between: Between<'a>, gap: u32) -> Result<(), AllocError> {
+        say_pairs(talk, &self.before)?;
+        self.say_steps(talk, 0, gap)?;
+        let mut answers = between.answers.split(' ');
+        for line in between.lines.split(';') {
+            talk.say(line, answers.next().unwrap_or(""))?;
+        }
+        self.say_steps(talk, gap, self.steps)?;
+        self.say_looks(talk, between)
+    }
+
+    /// Puts the move at the end, with lines that all have the one answer before each step.
+    fn say_everywhere(&self, talk: &mut Talk, between: Between<'a>) -> Result<(), AllocError> {
+        say_pairs(talk, &self.before)?;
         for gap in 0..self.steps {
             for line in between.lines.split(';') {
                 talk.say(line, between.answers)?;
             }
-            self.say_steps(&mut talk, gap, gap.saturating_add(1))?;
+            self.say_steps(talk, gap, gap.saturating_add(1))?;
         }
-        say_pairs(&mut talk, &self.looks)?;
-        let (name, lines) = (self.name, between.lines);
-        let name = format!(in rt.alloc(); "{name}, before each step: {lines}")?;
-        is_same(rt, name.as_str(), &talk.script, &talk.answers)
+        say_pairs(talk, &self.looks)
     }
 
     /// Puts steps at the end, from one number up to another.

@@ -2,6 +2,7 @@
 
 use crate::moves::{Between, Move, Pair};
 use crate::replays::Tally;
+use std::alloc::Global;
 use std::io;
 
 /// A table, as far as it was read.
@@ -68,7 +69,7 @@ impl<'a> Table<'a> {
         match word {
             "everywhere" => self.rows.push(Row::Everywhere(between(rest)?))?,
             "anywhere" => self.rows.push(Row::Anywhere(between(rest)?))?,
-            "==" => self.current = Move::new(rt.alloc(), rest),
+            "==" => self.begin(rt.alloc(), rest),
             "steps" => self.current.steps = number(rest)?,
             "before" => push_pairs(&mut self.current.before, between(rest)?)?,
             "after" => push_pairs(&mut self.current.looks, between(rest)?)?,
@@ -77,6 +78,11 @@ impl<'a> Table<'a> {
             _ => return Err(no_line()),
         }
         Ok(())
+    }
+
+    /// Begins a move.
+    fn begin(&mut self, alloc: Global, name: &'a str) {
+        self.current = Move::new(alloc, name);
     }
 
     /// Replays the rows that stand for each move.

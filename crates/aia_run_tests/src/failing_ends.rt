@@ -24,6 +24,8 @@ fn refuses(rt: &impl Abort, alloc: Global, words: &[&str]) -> Result<(), AllocEr
     // So neither end was called.
     same!(rt; source.faults(), 0);
     same!(rt; sink.faults(), 0);
+    drop(source);
+    drop(sink);
     Ok(())
 }
 
@@ -118,6 +120,8 @@ fn is_cut_short(rt: &impl Abort, alloc: Global, cut: &CutShort) -> Result<(), Al
     same!(rt; sink.bytes(), cut.answers.as_bytes());
     same!(rt; source.faults() == 1, cut.status == Status::ReadFault);
     same!(rt; sink.faults() == 1, cut.status == Status::WriteFault);
+    drop(source);
+    drop(sink);
     Ok(())
 }
 
@@ -146,6 +150,8 @@ fn is_cut_off(rt: &impl Abort, alloc: Global, piece: usize, failing: u64) -> Res
     same!(rt; sink.bytes(), b"ok\nok\n".as_slice(); piece);
     same!(rt; source.faults(), 1; piece);
     same!(rt; sink.faults(), 0; piece);
+    drop(source);
+    drop(sink);
     Ok(())
 }
 
@@ -184,6 +190,9 @@ fn has_a_front(rt: &impl Abort, alloc: Global, piece: usize, taken: &str) -> Res
     holds(rt, all.starts_with(sink.bytes()));
     same!(rt; source.faults(), 0; piece);
     same!(rt; sink.faults(), 1; piece);
+    drop(source);
+    drop(sink);
+    drop(all);
     Ok(())
 }
 

@@ -45,15 +45,31 @@ pub(crate) fn outcome_of(
     script: &[u8],
     ends: Ends,
 ) -> Result<Outcome, AllocError> {
-    let script = Vec::from_slice(alloc, script)?;
-    let failing_read = vec![in alloc; ends.failing_read]?;
-    let mut source = MemSource::new(script, ends.piece.max(1), failing_read);
-    let mut sink = MemSink::new(alloc, ends.room, vec![in alloc; ends.failing_write]?)?;
+    let mut source = source_of(alloc, script, ends)?;
+    let mut sink = sink_of(alloc, ends)?;
     let status = replay(alloc, &mut source, &mut sink);
     same!(rt; source.faults() == 1, status == Status::ReadFault; ends);
     same!(rt; source.faults() > 1, false; ends);
     same!(rt; sink.faults() == 1, status == Status::WriteFault; ends);
     same!(rt; sink.faults() > 1, false; ends);
+    drop(source);
+    ending(alloc, status, sink)
+}
+
+/// Makes the source of a script.
+pub(crate) fn source_of(alloc: Global, script: &[u8], ends: Ends) -> Result<MemSource, AllocError> {
+    let failing = vec![in alloc; ends.failing_read]?;
+    let script = Vec::from_slice(alloc, script)?;
+    Ok(MemSource::new(script, ends.piece.max(1), failing))
+}
+
+/// Makes the sink of a run.
+pub(crate) fn sink_of(alloc: Global, ends: Ends) -> Result<MemSink, AllocError> {
+    MemSink::new(alloc, ends.room, vec![in alloc; ends.failing_write]?)
+}
+
+/// Gives how a run ended, and what it wrote to a sink.
+pub(crate) fn ending(alloc: Global, status: Status, sink: MemSink) -> Result<Outcome, AllocError> {
     let written = Vec::from_slice(alloc, sink.bytes())?;
     Ok(Outcome { status, written })
 }

@@ -1,6 +1,6 @@
 //! Runs of `audit`: plans that are judged, texts that are no steps, and ends that fail.
 
-use crate::outcomes::{Ends, Outcome};
+use crate::outcomes::{Ends, Outcome, ending, sink_of, source_of};
 use crate::runs::{LIMIT, ROOM};
 use crate::same;
 use aia_io::{MemSink, MemSource, Sink, Source};
@@ -91,13 +91,11 @@ fn outcome_of(
     plan: &[u8],
     ends: Ends,
 ) -> Result<Outcome, AllocError> {
-    let plan = Vec::from_slice(alloc, plan)?;
-    let failing_read = vec![in alloc; ends.failing_read]?;
-    let mut source = MemSource::new(plan, ends.piece.max(1), failing_read);
-    let mut sink = MemSink::new(alloc, ends.room, vec![in alloc; ends.failing_write]?)?;
+    let mut source = source_of(alloc, plan, ends)?;
+    let mut sink = sink_of(alloc, ends)?;
     let status = audits(alloc, words, &mut source, &mut sink);
-    let written = Vec::from_slice(alloc, sink.bytes())?;
-    Ok(Outcome { status, written })
+    drop(source);
+    ending(alloc, status, sink)
 }
 
 /// Judges a plan between such ends, and looks at how the run ends and at what it writes.

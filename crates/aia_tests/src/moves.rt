@@ -1,10 +1,10 @@
 //! Guest files that are handed out, what the steps of moves do to all that stores reach, and plans,
 //! called by themselves.
 
-ghost use Rattle.std.specs.Prelude.{◌≡◌, ◌<◌, false, [], IfSome, refl, ⊤};
+ghost use Rattle.std.specs.Prelude.{◌≡◌, ◌<◌, false, [], IfSome, refl};
 ghost use Rattle.aia_word.specs.Sets.{has_bit};
 ghost use Rattle.aia_moving.specs.Move.{IsWho, MoveFits, width};
-ghost use Rattle.aia_move.specs.Plan.{moving_of, IsInPhase, MatchNext};
+ghost use Rattle.aia_move.specs.Plan.{moving_of, IsInPhase};
 ghost use Rattle.std.proofs.Common.{ap};
 ghost use Rattle.std.proofs.lemmas.Bool.{false≢true};
 
@@ -36,10 +36,7 @@ pub(crate) fn one_vm(alloc: Global) -> Result<Fabric, AllocError> {
 #[tactic(auto, using(aia_pool::proofs::LeaseLemmas::out_here))]
 fn a_file_is_handed_out_and_comes_back(rt: HostRuntime) -> Result<(), Fail> {
     let mut pool = Pool::new(rt.alloc(), 2, 2)?;
-    let Some(lease) = pool.take(1) else {
-        holds(&rt, false);
-        return Ok(());
-    };
+    let lease = pool.take(1).expect(&rt, "a file of hart 1 is free");
     same!(rt; lease.place(), Place { hart: 1, file: 1 });
     same!(rt; (lease.hart(), lease.file()), (1, 1));
     pool.give(lease);
@@ -104,6 +101,7 @@ fn words_are_taken_and_put(rt: HostRuntime) -> Result<(), Fail> {
     same!(rt; fabric.swap_pending(slot, 0, 0), 0x68);
     same!(rt; fabric.look(1, 0), (0, 0));
     files_take_words(&rt, &mut fabric);
+    drop(fabric);
     Ok(())
 }
 
@@ -194,31 +192,41 @@ impl Targets for NoTargets {
     } };
 }
 
-/// Makes the next step of a plan of a virtual hart to which no source is passed.
-pub(crate) fn steps(plan: Plan, fabric: &mut Fabric) -> Next
+/// Makes the next step of a plan of a virtual hart to which no source is passed, and gives the plan
+/// where it goes on.
+pub(crate) fn steps(plan: Plan, fabric: &mut Fabric) -> Option<Plan>
     requires fits { MoveFits fabric.old (moving_of plan) }
     requires phase { IsInPhase (width fabric.old) plan }
     requires none_passed { (moving_of plan).who.passes.items ≡ [] }
-    ensures fits { MatchNext result (λ p. MoveFits fabric.new (moving_of p)) (λ o. ⊤) }
-    ensures phase { MatchNext result (λ p. IsInPhase (width fabric.new) p) (λ o. ⊤) }
-    ensures none_passed { MatchNext result (λ p. (moving_of p).who.passes.items ≡ []) (λ o. ⊤) }
+    ensures fits { IfSome result (λ p. MoveFits fabric.new (moving_of p)) }
+    ensures phase { IfSome result (λ p. IsInPhase (width fabric.new) p) }
+    ensures none_passed { IfSome result (λ p. (moving_of p).who.passes.items ≡ []) }
 {
     let mut targets = NoTargets {
         harts: fabric.harts(),
     };
-    plan.step(fabric, &mut targets)
+    match plan.step(fabric, &mut targets) {
+        Next::Again(plan) => Some(plan),
+        Next::Finished(_) => None,
+    }
+}
+
+/// Makes the next step likewise, and tells whether the plan goes on.
+pub(crate) fn goes_on(plan: Plan, fabric: &mut Fabric) -> bool
+    requires fits { MoveFits fabric.old (moving_of plan) }
+    requires phase { IsInPhase (width fabric.old) plan }
+    requires none_passed { (moving_of plan).who.passes.items ≡ [] }
+{
+    steps(plan, fabric).is_some()
 }
 
 /// Stores go by the entry and by the record in force, whatever is written.
 #[test]
 fn routes_change_when_they_are_put_in_force(rt: HostRuntime) -> Result<(), Fail> {
-    let mut fabric = one_vm(rt.alloc())?;
     let mut pool = Pool::new(rt.alloc(), 2, 1)?;
+    let mut fabric = one_vm(rt.alloc())?;
     same!(rt; fabric.words(), 1);
-    let Some(who) = who_is(&fabric, 0, 1) else {
-        holds(&rt, false);
-        return Ok(());
-    };
+    let who = who_is(&fabric, 0, 1).expect(&rt, "virtual hart 1 is there");
     same!(rt; (who.found.slot, who.found.notice), (1, 1));
     fabric.put_word(who.found, 0, 0x0a00_8407);
     let in_memory = Route::To(Entry::Mrif(0x8000_0200, 0x28020, 2));
@@ -230,6 +238,7 @@ fn routes_change_when_they_are_put_in_force(rt: HostRuntime) -> Result<(), Fail>
     peers_go_by_the_record(&mut fabric, pool.take(1));
     same!(rt; pending(&mut fabric, 0x2802_1000, Op::Read), Some(0x140));
     same!(rt; fabric.look(1, 0), (0xa0, 0));
+    drop(fabric);
     Ok(())
 }
 
@@ -254,18 +263,17 @@ fn peers_go_by_the_record(fabric: &mut Fabric, to: Option<FileLease>) {
 /// The first step of an arrival writes the entry, and puts nothing in force.
 #[test]
 fn a_plan_makes_one_access_a_step(rt: HostRuntime) -> Result<(), Fail> {
-    let mut fabric = one_vm(rt.alloc())?;
     let mut pool = Pool::new(rt.alloc(), 2, 1)?;
-    let (Some(who), Some(to)) = (who_is(&fabric, 0, 1), pool.take(1)) else {
-        holds(&rt, false);
-        return Ok(());
-    };
-    holds(&rt, goes_on(&mut fabric, who, to));
+    let mut fabric = one_vm(rt.alloc())?;
+    let who = who_is(&fabric, 0, 1).expect(&rt, "virtual hart 1 is there");
+    let to = pool.take(1).expect(&rt, "a file of hart 1 is free");
+    holds(&rt, arrives(&mut fabric, who, to));
     let in_memory = Route::To(Entry::Mrif(0x8000_0200, 0x28020, 2));
     same!(rt; stores(&mut fabric, 0, 0x2800_8000, 5), Some(in_memory));
     put_in_force(&mut fabric);
     let in_file = Route::To(Entry::Basic(0x28021));
     same!(rt; stores(&mut fabric, 0, 0x2800_8000, 6), Some(in_file));
+    drop(fabric);
     Ok(())
 }
 
@@ -281,19 +289,18 @@ fn enter(fabric: &mut Fabric, word: u64) {
 /// nothing in force.
 #[test]
 fn a_leave_writes_the_entry_in_its_third_step(rt: HostRuntime) -> Result<(), Fail> {
-    let mut fabric = one_vm(rt.alloc())?;
     let mut pool = Pool::new(rt.alloc(), 2, 1)?;
+    let mut fabric = one_vm(rt.alloc())?;
     enter(&mut fabric, 0x0a00_8407);
-    let (Some(who), Some(from)) = (who_is(&fabric, 0, 1), pool.take(1)) else {
-        holds(&rt, false);
-        return Ok(());
-    };
+    let who = who_is(&fabric, 0, 1).expect(&rt, "virtual hart 1 is there");
+    let from = pool.take(1).expect(&rt, "a file of hart 1 is free");
     holds(&rt, leaves(&mut fabric, who, from));
     let in_file = Route::To(Entry::Basic(0x28021));
     same!(rt; stores(&mut fabric, 0, 0x2800_8000, 5), Some(in_file));
     put_in_force(&mut fabric);
     let in_memory = Route::To(Entry::Mrif(0x8000_0200, 0x28020, 2));
     same!(rt; stores(&mut fabric, 0, 0x2800_8000, 6), Some(in_memory));
+    drop(fabric);
     Ok(())
 }
 
@@ -308,31 +315,29 @@ fn leaves(fabric: &mut Fabric, who: Who, from: FileLease) -> bool
     }
     let plan = Plan::leave(from, who);
     let _words = fabric.words();
-    let Next::Again(plan) = steps(plan, fabric) else {
+    let Some(plan) = steps(plan, fabric) else {
         return false;
     };
-    let Next::Again(plan) = steps(plan, fabric) else {
+    let Some(plan) = steps(plan, fabric) else {
         return false;
     };
-    matches!(steps(plan, fabric), Next::Again(_))
+    goes_on(plan, fabric)
 }
 
 /// The first two steps of a shift take eidelivery and write the entry, and put nothing in force.
 #[test]
 fn a_shift_writes_the_entry_in_its_second_step(rt: HostRuntime) -> Result<(), Fail> {
-    let mut fabric = one_vm(rt.alloc())?;
     let mut pool = Pool::new(rt.alloc(), 2, 1)?;
+    let mut fabric = one_vm(rt.alloc())?;
     enter(&mut fabric, 0x0a00_0407);
-    let Some(who) = who_is(&fabric, 0, 1) else {
-        holds(&rt, false);
-        return Ok(());
-    };
+    let who = who_is(&fabric, 0, 1).expect(&rt, "virtual hart 1 is there");
     holds(&rt, shifts(&mut fabric, who, pool.take(0), pool.take(1)));
     let in_old_file = Route::To(Entry::Basic(0x28001));
     same!(rt; stores(&mut fabric, 0, 0x2800_8000, 5), Some(in_old_file));
     put_in_force(&mut fabric);
     let in_new_file = Route::To(Entry::Basic(0x28021));
     same!(rt; stores(&mut fabric, 0, 0x2800_8000, 6), Some(in_new_file));
+    drop(fabric);
     Ok(())
 }
 
@@ -353,15 +358,15 @@ fn shifts(fabric: &mut Fabric, who: Who, old: Option<FileLease>, new: Option<Fil
     }
     let plan = Plan::shift(old, new, who);
     let _words = fabric.words();
-    let Next::Again(plan) = steps(plan, fabric) else {
+    let Some(plan) = steps(plan, fabric) else {
         return false;
     };
-    matches!(steps(plan, fabric), Next::Again(_))
+    goes_on(plan, fabric)
 }
 
 /// Begins to move a virtual hart to a guest file, and tells whether the move goes on after its
 /// first step.
-fn goes_on(fabric: &mut Fabric, who: Who, to: FileLease) -> bool
+fn arrives(fabric: &mut Fabric, who: Who, to: FileLease) -> bool
     requires who { IsWho fabric.old who }
     requires none_passed { who.passes.items ≡ [] }
 {
@@ -374,5 +379,5 @@ fn goes_on(fabric: &mut Fabric, who: Who, to: FileLease) -> bool
     };
     let plan = Plan::arrive(to, who, kept);
     let _words = fabric.words();
-    matches!(steps(plan, fabric), Next::Again(_))
+    goes_on(plan, fabric)
 }

@@ -6,12 +6,12 @@ ghost use Rattle.aia_move.specs.Plan.{moving_of, IsInPhase};
 
 use crate::fabric::{pending, stores};
 use crate::looks::holds;
-use crate::moves::{one_vm, steps, who_is};
+use crate::moves::{goes_on, one_vm, who_is};
 use crate::same;
 use crate::stores_in_flight::{IN_FILE, IN_MEMORY, flying, sends};
 use aia_fabric::Fabric;
 use aia_imsic::Spot;
-use aia_move::{Next, Plan, Who};
+use aia_move::{Plan, Who};
 use aia_pool::{FileLease, Pool};
 use aia_regs::{FileReg, Op};
 use std::process::Abort;
@@ -78,24 +78,20 @@ fn leaves_in_place(rt: &impl Abort, fabric: &mut Fabric, who: Who, from: FileLea
 /// the fence, is the last one of the phase. Until it is made, a store is in flight still.
 #[test]
 fn a_leave_is_made_in_place_up_to_its_fence(rt: HostRuntime) -> Result<(), Fail> {
-    let mut fabric = one_vm(rt.alloc())?;
     let mut pool = Pool::new(rt.alloc(), 2, 1)?;
+    let mut fabric = one_vm(rt.alloc())?;
     reside(&mut fabric);
     same!(rt; delivery(&fabric), Some(1));
     same!(rt; sends(&mut fabric, 0, 0x2800_8000, 5), Some(IN_FILE));
-    let (Some(who), Some(from)) = (who_is(&fabric, 0, 1), pool.take(1)) else {
-        holds(&rt, false);
-        return Ok(());
-    };
-    let Some(plan) = leaves_in_place(&rt, &mut fabric, who, from) else {
-        holds(&rt, false);
-        return Ok(());
-    };
+    let who = who_is(&fabric, 0, 1).expect(&rt, "virtual hart 1 is there");
+    let from = pool.take(1).expect(&rt, "a file of hart 1 is free");
+    let plan = leaves_in_place(&rt, &mut fabric, who, from).expect(&rt, "the file is there");
     same!(rt; flying(&fabric, 0), Some(1));
-    holds(&rt, matches!(steps(plan, &mut fabric), Next::Again(_)));
+    holds(&rt, goes_on(plan, &mut fabric));
     same!(rt; flying(&fabric, 0), Some(0));
     same!(rt; stores(&mut fabric, 0, 0x2800_8000, 6), Some(IN_MEMORY));
     same!(rt; pending(&mut fabric, 0x2802_1000, Op::Read), Some(0x20));
     same!(rt; fabric.look(1, 0), (0x40, 0));
+    drop(fabric);
     Ok(())
 }

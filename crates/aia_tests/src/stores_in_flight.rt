@@ -6,11 +6,11 @@ ghost use Rattle.aia_moving.specs.Move.{IsWho};
 
 use crate::fabric::{pending, stores};
 use crate::looks::holds;
-use crate::moves::{one_vm, put_in_force, steps, who_is};
+use crate::moves::{goes_on, one_vm, put_in_force, steps, who_is};
 use crate::same;
 use aia_entry::{Entry, Route};
 use aia_fabric::{At, Fabric};
-use aia_move::{KeptNumbers, Next, Plan, Who};
+use aia_move::{KeptNumbers, Plan, Who};
 use aia_pool::{FileLease, Pool};
 use aia_regs::Op;
 use aia_regs::limits::STORES_IN_FLIGHT;
@@ -88,6 +88,7 @@ fn a_store_lands_where_the_entry_led_as_it_was_sent(rt: HostRuntime) -> Result<(
     same!(rt; lands(&mut fabric, 0, 0), true);
     same!(rt; pending(&mut fabric, 0x2802_1000, Op::Read), Some(0x40));
     same!(rt; flying(&fabric, 0), Some(0));
+    drop(fabric);
     Ok(())
 }
 
@@ -103,6 +104,7 @@ fn a_fence_lands_what_is_in_flight(rt: HostRuntime) -> Result<(), Fail> {
     same!(rt; fabric.look(1, 0), (0x60, 0));
     same!(rt; fabric.look(0, 0), (0x80, 0));
     same!(rt; sends(&mut fabric, 0, 0x2800_8000, 8), Some(IN_FILE));
+    drop(fabric);
     Ok(())
 }
 
@@ -110,21 +112,20 @@ fn a_fence_lands_what_is_in_flight(rt: HostRuntime) -> Result<(), Fail> {
 /// notice, and the next one goes to the guest file.
 #[test]
 fn the_fence_of_a_plan_lands_what_is_in_flight(rt: HostRuntime) -> Result<(), Fail> {
-    let mut fabric = one_vm(rt.alloc())?;
     let mut pool = Pool::new(rt.alloc(), 2, 1)?;
+    let mut fabric = one_vm(rt.alloc())?;
     enable(&mut fabric, 0x20);
     same!(rt; sends(&mut fabric, 0, 0x2800_8000, 6), Some(IN_MEMORY));
     same!(rt; sends(&mut fabric, 0, 0x2800_8000, 5), Some(IN_MEMORY));
-    let (Some(who), Some(to)) = (who_is(&fabric, 0, 1), pool.take(1)) else {
-        holds(&rt, false);
-        return Ok(());
-    };
+    let who = who_is(&fabric, 0, 1).expect(&rt, "virtual hart 1 is there");
+    let to = pool.take(1).expect(&rt, "a file of hart 1 is free");
     holds(&rt, fences(&mut fabric, who, to));
     same!(rt; flying(&fabric, 0), Some(0));
     same!(rt; fabric.look(1, 0), (0x60, 0x20));
     same!(rt; fabric.notices(), 1);
     same!(rt; pending(&mut fabric, 0x2802_0000, Op::Read), Some(4));
     same!(rt; stores(&mut fabric, 0, 0x2800_8000, 7), Some(IN_FILE));
+    drop(fabric);
     Ok(())
 }
 
@@ -143,8 +144,8 @@ fn fences(fabric: &mut Fabric, who: Who, to: FileLease) -> bool
     };
     let plan = Plan::arrive(to, who, kept);
     let _words = fabric.words();
-    let Next::Again(plan) = steps(plan, fabric) else {
+    let Some(plan) = steps(plan, fabric) else {
         return false;
     };
-    matches!(steps(plan, fabric), Next::Again(_))
+    goes_on(plan, fabric)
 }

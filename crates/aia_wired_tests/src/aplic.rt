@@ -154,10 +154,13 @@ fn searches<L: Ledger>(
 
 #[test]
 fn the_least_source_of_two_domains_is_found(rt: HostRuntime) -> Result<(), Fail> {
+    let none = Domain::new(rt.alloc(), 8, 1, false)?;
     let of_70 = forwards(rt.alloc(), 70)?;
     let of_1023 = forwards(rt.alloc(), 1023)?;
-    let none = Domain::new(rt.alloc(), 8, 1, false)?;
     searches::<Brand>(&rt, &of_70, &of_1023, &none, Blank::new(1));
+    drop(of_1023);
+    drop(of_70);
+    drop(none);
     Ok(())
 }
 
