@@ -87,13 +87,7 @@ impl Code {
             Answer::Moving => Code::Moving,
             Answer::Bad => Code::Bad,
             Answer::Refused(word) => Code::Refused(*word),
-            Answer::Okay
-            | Answer::Narrow(_)
-            | Answer::Wide(_)
-            | Answer::Done
-            | Answer::Pins(..)
-            | Answer::Entry(_)
-            | Answer::Part(_) => Code::Done,
+            _ => Code::Done,
         }
     }
 }

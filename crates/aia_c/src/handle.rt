@@ -53,11 +53,11 @@ impl Handle {
         }
     }
 
-    /// Makes an open handle, which has an engine.
-    pub fn holding(engine: Box<Engine>) -> Handle
-        ensures { result.engine ≡ Some engine.value }
+    /// Puts an engine in, so the handle is open; one that was there is let go.
+    pub fn put(&mut self, engine: Box<Engine>)
+        ensures { self.new.engine ≡ Some engine.value }
     {
-        Handle::of(Block::of(engine))
+        *self = Handle::of(Block::of(engine));
     }
 
     /// Takes the engine out, and leaves the handle closed; `None` where it is closed already.

@@ -29,12 +29,12 @@ pub extern "C" fn aia_open(handle: &mut Handle, alloc: Global) -> i32
     ensures { Opens handle.old.engine handle.new.engine result }
 {
     if let Some(engine) = handle.take(alloc) {
-        *handle = Handle::holding(engine);
+        handle.put(engine);
         return Code::Open.number();
     }
     match Box::new(alloc, Engine::new()) {
         Ok(engine) => {
-            *handle = Handle::holding(engine);
+            handle.put(engine);
             Code::Done.number()
         }
         Err(_) => Code::NoMemory.number(),
@@ -65,7 +65,7 @@ pub extern "C" fn aia_line(
         return Code::Closed.number();
     };
     let given = engine.text(alloc, text);
-    *handle = Handle::holding(engine);
+    handle.put(engine);
     match given {
         Ok(None) => Code::Done.number(),
         Ok(Some(word)) => {
@@ -99,7 +99,7 @@ pub extern "C" fn aia_replay(
         return Code::Closed.number();
     };
     let front = answer_script(&mut engine, script, answers, alloc);
-    *handle = Handle::holding(engine);
+    handle.put(engine);
     *taken = front.taken;
     *written = front.written;
     front.code.number()

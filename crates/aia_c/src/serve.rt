@@ -21,7 +21,7 @@ pub fn serve(handle: &mut Handle, line: &Line, alloc: Global) -> Result<Answer, 
         return Err(Code::Closed);
     };
     let given = engine.line(alloc, line);
-    *handle = Handle::holding(engine);
+    handle.put(engine);
     match given {
         Ok(answer) => Ok(answer),
         Err(_) => Err(Code::NoMemory),
