@@ -41,8 +41,8 @@ head_lines = Machine 2 2 63 8 ∷ Vm 2 0x38 0 ∷ Vm 2 0x38 1 ∷ []
 
 -- ---- the body
 
--- The MSI address of virtual hart c of a VM, in the VM's own space: by the mask of the head, 8
--- pages lie between one and the next one, whatever lies between the files of the machine.
+-- The MSI address of virtual hart c of a VM, in the VM's own space: by the mask of the head the
+-- next one's is 8 pages on, whatever lies between the files of the machine.
 abbrev pub own_address : ℕ → ℕ
 own_address c = PATTERN * PAGE + c * OWN_STRIDE
 
@@ -73,7 +73,7 @@ body_lines (suc count) x = line_drawn (next_number x) ∷ body_lines count (next
 
 -- ---- all of it
 
--- The lines of the script, of so many lines after the head and a seed.
+-- The lines of the script, given how many follow the head, and a seed.
 unfoldable pub generated : ℕ → ℕ → List Line
 generated count seed = head_lines ++ body_lines count seed
 

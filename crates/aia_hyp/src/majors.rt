@@ -21,7 +21,7 @@ use aia_regs::Op;
 use aia_standing::VcpuRecord;
 
 impl Core {
-    /// Gives the major interrupt `bit` of a virtual hart, 1, 5, 9 or 13, a level in `hvip`. It may
+    /// Sets the level in `hvip` of major interrupt `bit`, 1, 5, 9 or 13, of a virtual hart. It may
     /// be done at any time, also while the virtual hart is moved. `Err` is `Range` where the
     /// virtual hart isn't there, or `bit` is no such number; nothing is changed then.
     ///

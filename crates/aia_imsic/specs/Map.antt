@@ -43,7 +43,7 @@ spot_at harts guests addr =
     (option_map_or SupervisorFile (supervisor_file_at harts addr)
     (guest_spot_at harts guests addr))
 
--- Whether an address lies in a file's page, and whether in a guest file's.
+-- Whether a spot is a file, in whose page an address may lie; and whether it is a guest file.
 abbrev pub is_page : Spot → Bool
 is_page Nowhere = false
 is_page spot = true

@@ -77,7 +77,8 @@ hviprio1_kept v =
 abbrev pub is_hvictl : ℕ → Bool
 is_hvictl v = not (vti_of v) || is_in_range 1 63 (iid_of v)
 
--- Whether hviprio1 may hold a number, and whether hvictl may: one that a write keeps whole.
+-- Whether hviprio1 may hold a number, and whether hvictl may: one that a write keeps whole, and of
+-- hvictl one that may be written.
 abbrev pub fits_hviprio1 : ℕ → Bool
 fits_hviprio1 v = nat_eq (hviprio1_kept v) v
 
@@ -149,14 +150,14 @@ sie_value m = majors_word m.enabled
 
 -- ---- the major on top
 
--- A major that may be on top: the lower its number, the higher its priority; of two with one number
--- that with the lower rank comes first.
+-- A major that may be on top: the lower its priority number, the higher its priority; of two with
+-- the same one that with the lower rank comes first.
 pub record Candidate : Type 0 where
   pub major : ℕ
   pub number : ℕ
   pub rank : ℕ
 
--- Whether a candidate comes before another, or is it: by number, then by rank.
+-- Whether a candidate comes before another, or is it: by priority number, then by rank.
 abbrev pub comes_first : Candidate → Candidate → Bool
 comes_first a b = nat_lt a.number b.number || nat_eq a.number b.number && nat_le a.rank b.rank
 

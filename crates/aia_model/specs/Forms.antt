@@ -228,10 +228,11 @@ pins = form (codes "pins") (Decimal & End) (λ (hart, end). lines.Pins hart)
 abbrev pub entry : Form
 entry = form (codes "entry") (Hex & Hex & End) (λ (w0, (w1, end)). lines.Entry w0 w1)
 
--- All forms, by what they speak of, where each list goes on with the one above it: the machine, by
--- what is made of it and what it shows; the majors of a virtual hart; a virtual hart and its moves;
--- loads and stores of the host, wires, and stores of the devices of VMs; and those that end with a
--- CSR instruction or a part of an image, begin a move, or have a word of their own behind a hart.
+-- All forms, by what they speak of, where each list goes on with the one above it: the machine,
+-- VMs, passes, pins and entries; the majors of a virtual hart; a virtual hart and its moves; loads
+-- and stores of the host, wires, and stores of the devices of VMs; and those that end with a CSR
+-- instruction or a part of an image, begin a move, or have a word of their own behind a hart or a
+-- virtual hart.
 abbrev pub forms_from_machine : List Form
 forms_from_machine = pins ∷ entry ∷ pass ∷ vm ∷ machine ∷ []
 

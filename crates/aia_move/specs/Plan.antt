@@ -97,13 +97,14 @@ abbrev pub StepsTo : Option Aim → World → Moving → World → Next → Type
 StepsTo None w m u next = OnceLanded w m (λ landed. Advances landed m u next)
 StepsTo (Some aim) w m u next = MatchNext next (λ p. GoesAiming w m u (moving_of p)) (λ o. ⊥)
 
--- The same by the phase of the step; None: it aims. Stores in flight land in the first phase alone.
+-- The same by the phase of the step; None: it aims. A step of the first phase alone lands stores
+-- that are in flight, before its access.
 abbrev pub StepsByPhase : Option Phase → World → Moving → World → Next → Type 0
 StepsByPhase None w m u next = StepsTo (Some (aim_of m)) w m u next
 StepsByPhase (Some FirstPhase) w m u next = StepsTo None w m u next
 StepsByPhase (Some phase) w m u next = Advances w m u next
 
--- ---- a step in place
+-- ---- a step in place: the plan stays in its phase, so it is changed where it lies
 
 -- The next step of a move is the last one of this phase, in files of so many words.
 abbrev pub IsLastOf : Phase → ℕ → Moving → Type 0

@@ -20,7 +20,7 @@ use aia_pool::FileLease;
 use std::marker::PhantomData;
 
 /// A virtual hart that arrives in a guest file: its interrupts go there from its slot of memory. A
-/// step is one access, and says which phase comes next.
+/// step is one access, or one aim in the phase of aims, and says which phase comes next.
 pub type Arrive<P> = Move<ToFile, P>;
 
 impl Arrive<First> {

@@ -21,7 +21,7 @@ use aia_pool::FileLease;
 use std::marker::PhantomData;
 
 /// A virtual hart that leaves its guest file: its interrupts go to its slot of memory. A step is
-/// one access, and says which phase comes next.
+/// one access, or one aim in the phase of aims, and says which phase comes next.
 pub type Leave<P> = Move<ToMemory, P>;
 
 impl Leave<First> {

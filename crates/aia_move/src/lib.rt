@@ -1,5 +1,5 @@
-//! The plans of moves, one access a step: a virtual hart leaves its guest file, arrives in one, or
-//! shifts to another one. Profile: all plans.
+//! The plans of moves, one access or one aim a step: a virtual hart leaves its guest file, arrives
+//! in one, or shifts to another one. Profile: all plans.
 #![tactic(auto)]
 
 mod arrive;

@@ -17,7 +17,7 @@ use aia_fabric::{At, Fabric};
 use std::marker::{Model, PhantomData};
 
 /// A virtual hart that is moved, by a plan of a kind, in one of its phases. A step is one access,
-/// and says which phase comes next.
+/// or one aim in the phase of aims, and says which phase comes next.
 #[derive(Drop)]
 pub struct Move<K: Kind, P> {
     /// What it leaves, and where it leads.

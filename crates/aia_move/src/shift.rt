@@ -20,7 +20,8 @@ use aia_pool::FileLease;
 use std::marker::PhantomData;
 
 /// A virtual hart that shifts from its guest file to another one, where its interrupts go; its slot
-/// of memory takes no part. A step is one access, and says which phase comes next.
+/// of memory takes no part. A step is one access, or one aim in the phase of aims, and says which
+/// phase comes next.
 pub type Shift<P> = Move<ToOtherFile, P>;
 
 impl Shift<First> {

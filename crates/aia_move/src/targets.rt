@@ -3,8 +3,8 @@ ghost use Rattle.aia_regs.specs.declared.limits.TheConstants.{IDENTITIES};
 ghost use Rattle.aia_home.specs.Aims.{target_of};
 ghost use Rattle.aia_moving.specs.Targets.{TargetMap, AimsOne};
 
-/// The wired sources of a machine, as moves see them: where each leads, and which of them has a
-/// target that can be written.
+/// The wired sources of a machine, as moves see them: where each leads, and which are ready, so
+/// that MSIs to guests may be made of them.
 ///
 /// AIA 1.0, APLIC, "Memory-mapped control region for an interrupt domain". Profile: passes.
 pub trait Targets {
@@ -29,7 +29,7 @@ pub trait Targets {
         requires identity { identity ≤ IDENTITIES }
         ensures { aimed self.old source (target_of hart guest identity) self.new };
 
-    /// An aim gives a source its target, and leaves all other targets.
+    /// An aim gives a source that is ready its target, and leaves all other targets.
     ghost aims_one: { (old new : Self) (source target : ℕ) → aimed old source target new
         → AimsOne (map old) source target (map new) };
 }

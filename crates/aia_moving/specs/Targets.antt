@@ -9,14 +9,15 @@ use Rattle.aia_moving.specs.Move.{Moving}
 
 -- ---- targets
 
--- How many harts there are; the target of each source, and whether it can be written.
+-- How many harts there are; the target of each source; and whether a source is ready: MSIs to
+-- guests may be made of it.
 pub record TargetMap : Type 0 where
   pub harts : ℕ
   pub target : ℕ → ℕ
   pub ready : ℕ → Bool
 
--- A source is aimed: where its target can be written it becomes the one given, and else it stays,
--- as those of all other sources do.
+-- A source is aimed: where it is ready its target becomes the one given, and else stays, as those
+-- of all other sources do.
 pub record AimsOne (old : TargetMap) (source target : ℕ) (new : TargetMap) : Type 0 where
   pub harts : new.harts ≡ old.harts
   pub ready : (s : ℕ) → new.ready s ≡ old.ready s

@@ -13,7 +13,7 @@ pub const MMSIADDRCFGH: u32 = 0x9f77_ffff;
 /// What a write of `smsiaddrcfgh` keeps: LHXS and the high half of the base page number.
 pub const SMSIADDRCFGH: u32 = 0x0070_0fff;
 
-/// L of `mmsiaddrcfgh`: whether all four registers are locked.
+/// The bit of `mmsiaddrcfgh` that is L: whether all four registers are locked.
 pub const L: u32 = 31;
 
 /// The registers of MSI addresses: `mmsiaddrcfg`, `mmsiaddrcfgh`, `smsiaddrcfg` and `smsiaddrcfgh`.

@@ -48,11 +48,11 @@ pub const TABLES: u64 = MEMORY + SLOTS as u64 * SLOT;
 /// The bytes from one VM's MSI page table to the next one's.
 pub const TABLE: u64 = 0x1000;
 
-/// The first byte after memory, which the tables of all VMs fill.
+/// The first byte after memory, right after the tables of all VMs.
 pub const MEMORY_END: u64 = TABLES + VMS as u64 * TABLE;
 
-/// The page of a VM's MSI addresses where its mask has a 0: the address pattern, the same for all
-/// VMs, which is the page of hart 0's supervisor file.
+/// The bits of the page number of a VM's MSI address where its mask has a 0: the address pattern,
+/// the same for all VMs, which is the number of the page of hart 0's supervisor file.
 pub const PATTERN: u64 = 0x28000;
 
 /// Gives the first address of the page of a hart's supervisor file, where its notices go.

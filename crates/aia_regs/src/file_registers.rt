@@ -6,7 +6,7 @@ ghost use Rattle.aia_regs.specs.FileRegisters.{register_of};
 /// AIA 1.0, IMSIC, "Indirectly accessed interrupt-file registers".
 #[derive(Clone, Copy, Debug, PartialEq, Eq)]
 pub enum FileReg {
-    /// `eidelivery`: whether the file signals, 0 or 1.
+    /// `eidelivery`: 1 where the file may signal its hart, 0 where it may not.
     Delivery,
     /// `eithreshold`: identities from it on are held back; 0 holds none back.
     Threshold,

@@ -33,10 +33,10 @@ pub const VCPUS: u32 = 32;
 /// The slots of memory: one for each virtual hart.
 pub const SLOTS: u32 = VCPUS;
 
-/// The most ones of a VM's mask, of at least 1.
+/// The most ones that a VM's mask has; it has at least 1.
 pub const MASK_ONES: u32 = 4;
 
-/// The bits of a VM's mask: its ones are all among them.
+/// How many bits a VM's mask has, the lowest: its ones are all among them.
 pub const MASK_BITS: u32 = 15;
 
 /// The entries of a VM's MSI page table: as many as [`MASK_ONES`] bits number.

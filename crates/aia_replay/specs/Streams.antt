@@ -167,14 +167,14 @@ pub record Streams (status : Status) (left rest : Supply) (before now : Option (
   pub whole : status ≡ Done → IsScript left bytes
   pub limit : status ≢ TooLong → length bytes ≤ SCRIPT_BYTES
 
--- A run took no more bytes of the source than a script has, and the sink failed after a front of
--- their answers.
+-- A run took no more bytes of the source than a script may have, and the sink failed after a front
+-- of their answers.
 pub record StreamsFront (left rest : Supply) (before now : Option (List ℕ)) : Type 0 where
   pub front : WritesFront left rest before now
   pub limit : TakesAtMost SCRIPT_BYTES left rest
 
--- A run took some bytes of the source, no more than a script has, and stopped at a line that asks
--- for a machine, for which there is no memory.
+-- A run took some bytes of the source, no more than a script may have, and stopped at a line that
+-- asks for a machine, for which there is no memory.
 pub record StreamsStop (r : Replayer) (left rest : Supply) (before now : Option (List ℕ))
     : Type 0 where
   pub bytes : List ℕ

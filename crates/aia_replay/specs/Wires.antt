@@ -5,8 +5,8 @@ use Rattle.aia_wiring.specs.Aplic.{AplicState, AplicStands}
 use Rattle.aia_wiring.specs.Passing.{with_aim, hart_count, target_in, is_passable_in}
 use Rattle.aia_moving.specs.Targets.{TargetMap, AimsOne}
 
--- Each source leads where the child domain keeps it, and is ready where MSIs to guests may be made
--- of it.
+-- The target of each source is the one that the child domain keeps; a source is ready where MSIs to
+-- guests may be made of it.
 abbrev pub targets_of : AplicState → TargetMap
 targets_of a = record { harts = hart_count a; target = target_in a; ready = is_passable_in a }
 

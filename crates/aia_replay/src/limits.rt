@@ -1,6 +1,6 @@
 //! How many bytes a run takes at most, and how many at a time. Profile.
 
-/// The most bytes that a script has.
+/// The most bytes that a script or a plan may have: one with more ends its run by `TooLong`.
 pub const SCRIPT_BYTES: usize = 16_777_216;
 
 /// The most bytes that one read asks for.

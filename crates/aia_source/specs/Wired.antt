@@ -98,6 +98,7 @@ done msi deed mode wire s = record {
   pending = settle (says mode msi (rectified s.mode s.wire) (rectified mode wire) deed) s.pending;
 }
 
--- In a level mode a source is pending exactly where its rectified input is high.
+-- In a level mode a source is pending exactly where its rectified input is high. A law says so of
+-- direct delivery; by MSIs a forward clears the bit while the input stays high.
 abbrev pub IsLawful : WiredState → Type 0
 IsLawful s = is_level s.mode ≡ true → s.pending ≡ rectified s.mode s.wire
